@@ -1,0 +1,6 @@
+pub mod Bounds
+pub mod Laws
+pub mod Poly
+pub mod Ring
+pub mod Signs
+pub mod Whole
