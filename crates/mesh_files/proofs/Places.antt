@@ -17,7 +17,7 @@ prefix-is p (x ∷ xs) zero h t f =
 prefix-is p (x ∷ xs) (suc i) h t f =
     let e : p x ≡ true = t 0 x (omega arith) (omega arith) in
     let r : prefix_len p xs ≡ i =
-      prefix-is p xs i (omega (arith, h)) (λ k d l m. t (suc k) d (omega arith) (omega (arith, m))) (λ k d l m. f (suc k) d (omega (arith, l)) (omega (arith, m))) in
+    prefix-is p xs i (omega (arith, h)) (λ k d l m. t (suc k) d (omega arith) (omega (arith, m))) (λ k d l m. f (suc k) d (omega (arith, l)) (omega (arith, m))) in
     rw e (omega (arith, r))
 
 -- an element at a place is a member

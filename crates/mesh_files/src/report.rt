@@ -1,14 +1,16 @@
 //! The report of a mesh: replies, points, cells, hull and order.
 
-ghost use Rattle.std.specs.Prelude.{◌≡◌, ◌<◌, List, ℕ, [], ◌∷◌, ◌++◌, codes, map, length, IfOk, OnOk, OnErr};
+ghost use Rattle.std.specs.Prelude.{◌≡◌, ◌≤◌, IsTrue, List, ℕ, [], ◌∷◌, ◌++◌, codes, map, length, IfOk, OnOk};
 ghost use Rattle.std.specs.List.{concat};
 ghost use Rattle.point_order.specs.Sets.{IsAscending};
+ghost use Rattle.std.specs.Io.KnownBytes.{Appends, Keeps};
+ghost use Rattle.byte_ends.specs.Ends.{AppendsFront, Rose};
 ghost use Rattle.mesh_files.specs.Lines.{block, numbers_line};
 ghost use Rattle.mesh_files.specs.Report.{parts_of};
 ghost use Rattle.mesh_files.specs.Text.{reply_line, reply_word, point_line, index_of, indices_line, full_corners, hull_corners, tag_line, order_block, report_text};
 
 use crate::lines::{put_four, put_number, put_three, put_title};
-use byte_ends::{Failed, Sink};
+use byte_ends::{Failed, Sink, write_all};
 use edit_history::Reply;
 use point_order::{Cell, Point, Quad, Tri};
 use std::alloc::{AllocError, Global};
@@ -201,4 +203,103 @@ pub fn mesh_text(alloc: Global, report: &Report) -> Result<Vec<u8>, AllocError>
     }
     text.extend_from_slice(b"end\n")?;
     Ok(text)
+}
+
+/// Makes the whole text of the report, and then writes it.
+///
+/// # Errors
+/// `Failed` where the sink failed, and then a front of the text was written; `Memory` where there was no memory for the
+/// text, and then nothing was written.
+pub fn put_report<O: Sink>(alloc: Global, out: &mut O, report: &Report) -> Result<(), Put>
+    requires { IsAscending report.now.points.items }
+    ensures whole { OnOk result (Appends (O.holds out.old) (O.holds out.new) (report_text (parts_of report.now))) }
+    ensures front { AppendsFront (O.holds out.old) (O.holds out.new) (report_text (parts_of report.now)) }
+    ensures later { O.faults out.old ≤ O.faults out.new }
+    ensures failed { result ≡ Err Put.Failed → Rose (O.faults out.old) (O.faults out.new) }
+    ensures nothing { result ≡ Err Put.Memory → Keeps (O.holds out.old) (O.holds out.new) }
+{
+    match mesh_text(alloc, report) {
+        Ok(text) => match write_all(out, &text) {
+            Ok(()) => Ok(()),
+            Err(Failed) => Err(Put::Failed),
+        },
+        Err(_) => Err(Put::Memory),
+    }
+}
+
+#[cfg(test)]
+mod tests {
+    use super::*;
+    use byte_ends::MemSink;
+    use std::process::Abort;
+    use std::test::Fail;
+
+    const TETRAHEDRON: &str =
+        "mesh3-out 1\nreplies 4\nInserted\nInserted\nInserted\nInserted\npoints 4\n0 0 0\n0 0 2\n0 2 0\n2 0 0\ncells 1\n0 1 2 3\nhull 4\n0 1 2\n0 1 3\n0 2 3\n1 2 3\nend\n";
+
+    const EVERY_WORD: &str =
+        "mesh3-out 1\nreplies 5\nInserted\nDuplicate\nRemoved\nMissing\nFlat\npoints 4\n0 0 0\n0 0 2\n0 2 0\n2 0 0\ncells 1\n0 1 2 3\nhull 4\n0 1 2\n0 1 3\n0 2 3\n1 2 3\norder 3\n10\n0\n4294967295\nend\n";
+
+    // The report of the tetrahedron with corners (0,0,0), (0,0,2), (0,2,0), (2,0,0).
+    fn tetrahedron(
+        rt: &impl Abort,
+        alloc: Global,
+        replies: &[Reply],
+        order: Option<Vec<u32>>,
+    ) -> Result<Report, Fail> {
+        let a = Point::new(0, 0, 0)?;
+        let b = Point::new(0, 0, 2)?;
+        let c = Point::new(0, 2, 0)?;
+        let d = Point::new(2, 0, 0)?;
+        assert!(rt; a < b && b < c && c < d && a < c && a < d && b < d);
+        let cells = [
+            Cell::full(a, b, c, d),
+            Cell::hull(a, b, c),
+            Cell::hull(a, b, d),
+            Cell::hull(a, c, d),
+            Cell::hull(b, c, d),
+        ];
+        Ok(Report {
+            replies: Vec::from_slice(alloc, replies)?,
+            points: Vec::from_slice(alloc, &[a, b, c, d])?,
+            cells: Vec::from_slice(alloc, &cells)?,
+            order,
+        })
+    }
+
+    fn is_ascending(points: &[Point]) -> bool
+        ensures { IsTrue result → IsAscending points.now }
+    {
+        match points {
+            [a, b, c, d] => a < b && b < c && c < d,
+            _ => false,
+        }
+    }
+
+    #[test]
+    fn texts(rt: HostRuntime) -> Result<(), Fail> {
+        let alloc = rt.alloc();
+        let inserted = [Reply::Inserted; 4];
+        let words = [
+            Reply::Inserted,
+            Reply::Duplicate,
+            Reply::Removed,
+            Reply::Missing,
+            Reply::Flat,
+        ];
+        let tags = Vec::from_slice(alloc, &[10u32, 0, u32::MAX])?;
+        let plain = tetrahedron(&rt, alloc, &inserted, None)?;
+        let ordered = tetrahedron(&rt, alloc, &words, Some(tags))?;
+        for (report, text) in [(&plain, TETRAHEDRON), (&ordered, EVERY_WORD)] {
+            assert!(rt; is_ascending(&report.points));
+            assert_eq!(rt; mesh_text(alloc, report)?.as_slice(), text.as_bytes());
+            let mut sink = MemSink::new(alloc, 1000, 7, &[])?;
+            assert_eq!(rt; put_report(alloc, &mut sink, report), Ok(()));
+            assert_eq!(rt; sink.bytes(), text.as_bytes());
+            let mut broken = MemSink::new(alloc, 1000, 10, &[3])?;
+            assert_eq!(rt; put_report(alloc, &mut broken, report), Err(Put::Failed));
+            assert_eq!(rt; broken.bytes(), &text.as_bytes()[..20]);
+        }
+        Ok(())
+    }
 }

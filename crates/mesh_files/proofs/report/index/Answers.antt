@@ -8,7 +8,7 @@ pub returns : goal.returns
 returns c =
     let below = λ (q : ℕ). nat_lt q c.key-key.result in
     let h =
-      IsPartitionPoint-from_clause below c.args.points.now c.partition_point.result c.partition_point.ensures.partitioned
-        (below-front c.args.points.now c.key-key.result c.requires) (λ x b f k. search rules) in
+    IsPartitionPoint-from_clause below c.args.points.now c.partition_point.result c.partition_point.ensures.partitioned
+    (below-front c.args.points.now c.key-key.result c.requires) (λ x b f k. search rules) in
     let same : c.key-key.result ≡ c.args.point = c.key-key.ensures.value in
     rw (← same) (sym (prefix-is below c.args.points.now c.partition_point.result c.partition_point.ensures.bound h.0 h.1))
