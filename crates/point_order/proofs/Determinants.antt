@@ -1,5 +1,5 @@
 -- How orientations change where points are exchanged, and the in-sphere polynomial by squares of distances.
-use Rattle.std.specs.Prelude.{ℕ, ℤ, pos, neg_ℤ, ◌≡◌, ◌+ℤ◌, ◌-ℤ◌, ◌*ℤ◌, [], ◌∷◌}
+use Rattle.std.specs.Prelude.{ℕ, pos, neg_ℤ, ◌≡◌, ◌+ℤ◌, ◌-ℤ◌, ◌*ℤ◌, [], ◌∷◌}
 use Rattle.whole_ring.specs.Poly.{lit, minus, ◌⊕◌, ◌⊖◌, ◌⊗◌}
 use Rattle.whole_ring.proofs.Ring.{ring}
 use Rattle.point_order.specs.Orientation.{x_from, y_from, z_from, minor, triple, orientation, square_of_step, distance}

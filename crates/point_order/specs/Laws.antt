@@ -1,11 +1,8 @@
 -- The laws of heights, orientations and lifted determinants that the crate proves, as the functions of `laws` promise them.
 -- They are about keys below 2^42: two numbers that differ by 2^42 would lie in one place.
-use Rattle.std.specs.Prelude.{ℕ, ℤ, pos, neg_ℤ, ◌≡◌, ◌≢◌, ◌<◌, ◌+◌, ◌*◌, ◌^◌, ◌<ℤ◌, ◌≤ℤ◌, false, ◌==◌, if◌then◌else◌}
-use Rattle.whole_ring.specs.Signs.{sgn}
+use Rattle.std.specs.Prelude.{ℕ, ℤ, pos, neg_ℤ, ◌≡◌, ◌≢◌, ◌<◌, ◌==◌, if◌then◌else◌}
 use Rattle.point_order.specs.Coordinates.{IsKey}
-use Rattle.point_order.specs.Orientation.{orientation, is_flat}
-use Rattle.point_order.specs.Heights.{base, top, square_of, height, sphere_polynomial, out}
-use Rattle.point_order.specs.Sets.{AreFive}
+use Rattle.point_order.specs.Orientation.{orientation}
 
 -- five numbers that are keys
 abbrev pub AreKeys : ℕ → ℕ → ℕ → ℕ → ℕ → Type 0
