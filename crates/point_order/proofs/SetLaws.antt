@@ -1,9 +1,8 @@
 -- Ascending lists as sets.
-use Rattle.std.proofs.Common.{◌≡◌, ◌≢◌, refl, sym, subst, ap, ◌∙◌, ℕ, ◌<◌, ◌≤◌, List, [], ◌∷◌, ◌⊎◌, inl, inr, ◌↔◌, Bool, true, false, arith}
-use Rattle.std.specs.Prelude.{nat_lt, ◌==◌, not, if◌then◌else◌}
+use Rattle.std.proofs.Common.{◌≡◌, refl, sym, subst, ℕ, ◌<◌, List, [], ◌∷◌, ◌⊎◌, inl, inr, Bool, true, false, arith}
+use Rattle.std.specs.Prelude.{nat_lt, ◌==◌}
 use Rattle.std.proofs.lemmas.Bool.Decides.{nat_tests}
-use Rattle.std.specs.List.{filter}
-use Rattle.point_order.specs.Sets.{IsIn, is_among, IsBelowFirst, IsAscending, with_point, without_point, ascending}
+use Rattle.point_order.specs.Sets.{IsIn, IsBelowFirst, IsAscending, with_point, ascending}
 
 -- ---- what below the first is, is below each
 

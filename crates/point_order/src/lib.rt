@@ -10,4 +10,4 @@ mod step;
 
 pub use cell::{Cell, Facet, Pair, Quad, Tri};
 pub use point::{OutOfRange, Point};
-pub use step::Step;
+pub use step::{Normal, Step};
