@@ -1,0 +1,4 @@
+pub mod Edits
+pub mod Histories
+pub mod Opening
+pub mod OneThread

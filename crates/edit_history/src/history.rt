@@ -1,0 +1,55 @@
+//! Edits, replies and entries of a history.
+
+ghost use Rattle.std.specs.Prelude.{◌≡◌};
+
+use point_order::Point;
+
+/// A change of a set of points.
+#[derive(Clone, Copy, Debug, PartialEq, Eq, Hash)]
+pub enum Edit {
+    /// The point is to be in the set.
+    Add(Point),
+    /// The point is not to be in the set.
+    Take(Point),
+}
+
+/// What an edit answered.
+#[derive(Clone, Copy, Debug, PartialEq, Eq, Hash)]
+pub enum Reply {
+    /// The point was added.
+    Inserted,
+    /// The point to be added was there already.
+    Duplicate,
+    /// The point was taken out.
+    Removed,
+    /// The point to be taken was not there.
+    Missing,
+    /// The set without the point would not be solid, so the point stays.
+    Flat,
+}
+
+/// An edit as a history keeps it.
+#[derive(Clone, Copy, Debug, PartialEq, Eq, Hash)]
+pub struct Entry {
+    /// Its place in the history, from 0.
+    pub number: u64,
+    /// Who made it: 0 where one thread makes all edits.
+    pub by: u32,
+    /// The caller's own word for the edit; for the edits of a file the place of its line, from 0.
+    pub tag: u32,
+    pub edit: Edit,
+    pub reply: Reply,
+}
+
+impl Edit {
+    ghost use Rattle.edit_history.specs.Edits.{point_of};
+
+    /// The point that is added or taken.
+    pub fn point(&self) -> Point
+        ensures { result ≡ point_of self.now }
+    {
+        match *self {
+            Edit::Add(p) | Edit::Take(p) => p,
+        }
+    }
+}

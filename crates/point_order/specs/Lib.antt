@@ -1,0 +1,11 @@
+pub mod Coordinates
+pub mod Orientation
+pub mod Heights
+pub mod Sets
+pub mod Subsets
+pub mod Solid
+pub mod Spheres
+pub mod Complex
+pub mod Facets
+pub mod CellOrder
+pub mod Conflicts

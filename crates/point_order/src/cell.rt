@@ -1,0 +1,235 @@
+//! Cells and facets, kept with their points in ascending order.
+
+ghost use Rattle.std.specs.Prelude.{◌≡◌, ◌≢◌, ◌<◌, ◌↔◌, ℕ, List, [], ◌∷◌, ◌⊎◌, length};
+ghost use Rattle.point_order.specs.Facets.{facets_of, points_of};
+ghost use Rattle.point_order.specs.Sets.{IsAscending, AreThree, AreFour, IsIn, is_among, ascending};
+ghost use Rattle.point_order.specs.declared.cell.Cell.{Cell};
+ghost use Rattle.point_order.specs.declared.cell.Cell.TheVariants.{Full, Open};
+
+use crate::point::Point;
+use std::marker::Model;
+
+/// Two points in ascending order.
+#[derive(Clone, Copy, Debug, PartialEq, Eq, PartialOrd, Ord, Hash)]
+pub struct Pair {
+    points: [Point; 2],
+}
+
+impl Model for Pair {
+    ghost use Rattle.std.specs.Prelude.{List, ℕ};
+    ghost use Rattle.point_order.specs.Sets.{IsAscending};
+
+    ghost Value = { List ℕ };
+
+    ghost view = { λ q. q.points };
+
+    ghost invariant = { λ q. IsAscending q.points };
+
+    ghost inverse = { λ l. record { points = l } };
+}
+
+/// Three points in ascending order.
+#[derive(Clone, Copy, Debug, PartialEq, Eq, PartialOrd, Ord, Hash)]
+pub struct Tri {
+    points: [Point; 3],
+}
+
+impl Model for Tri {
+    ghost use Rattle.std.specs.Prelude.{List, ℕ};
+    ghost use Rattle.point_order.specs.Sets.{IsAscending};
+
+    ghost Value = { List ℕ };
+
+    ghost view = { λ q. q.points };
+
+    ghost invariant = { λ q. IsAscending q.points };
+
+    ghost inverse = { λ l. record { points = l } };
+}
+
+/// Four points in ascending order.
+#[derive(Clone, Copy, Debug, PartialEq, Eq, PartialOrd, Ord, Hash)]
+pub struct Quad {
+    points: [Point; 4],
+}
+
+impl Model for Quad {
+    ghost use Rattle.std.specs.Prelude.{List, ℕ};
+    ghost use Rattle.point_order.specs.Sets.{IsAscending};
+
+    ghost Value = { List ℕ };
+
+    ghost view = { λ q. q.points };
+
+    ghost invariant = { λ q. IsAscending q.points };
+
+    ghost inverse = { λ l. record { points = l } };
+}
+
+/// A cell of a complex: four points, or three points and the infinite vertex.
+///
+/// Full cells come before Open ones, and each kind is in lexicographic order.
+#[derive(Clone, Copy, Debug, PartialEq, Eq, PartialOrd, Ord, Hash)]
+pub enum Cell {
+    /// A tetrahedron.
+    Full(Quad),
+    /// A triangle of the hull, with the infinite vertex.
+    Open(Tri),
+}
+
+/// A side that a cell shares with another: three points, or two points and the infinite vertex.
+#[derive(Clone, Copy, Debug, PartialEq, Eq, PartialOrd, Ord, Hash)]
+pub enum Facet {
+    Three(Tri),
+    Two(Pair),
+}
+
+impl Pair {
+    /// The two points, ascending.
+    pub fn points(&self) -> &[Point]
+        ensures points { result.now ≡ self.now }
+        ensures ascending { IsAscending result.now }
+    {
+        &self.points
+    }
+}
+
+impl Tri {
+    /// The three points, ascending.
+    pub fn points(&self) -> &[Point]
+        ensures points { result.now ≡ self.now }
+        ensures ascending { IsAscending result.now }
+    {
+        &self.points
+    }
+
+    /// The three points by themselves, ascending.
+    pub fn corners(self) -> (Point, Point, Point)
+        ensures points { self ≡ result.0 ∷ result.1 ∷ result.2 ∷ [] }
+        ensures first { result.0 < result.1 }
+        ensures second { result.1 < result.2 }
+    {
+        let [a, b, c] = self.points;
+        (a, b, c)
+    }
+}
+
+impl Quad {
+    /// The four points, ascending.
+    pub fn points(&self) -> &[Point]
+        ensures points { result.now ≡ self.now }
+        ensures ascending { IsAscending result.now }
+    {
+        &self.points
+    }
+
+    /// The four points by themselves, ascending.
+    pub fn corners(self) -> (Point, Point, Point, Point)
+        ensures points { self ≡ result.0 ∷ result.1 ∷ result.2 ∷ result.3 ∷ [] }
+        ensures first { result.0 < result.1 }
+        ensures second { result.1 < result.2 }
+        ensures third { result.2 < result.3 }
+    {
+        let [a, b, c, d] = self.points;
+        (a, b, c, d)
+    }
+}
+
+// The two in order.
+fn in_order(a: Point, b: Point) -> (Point, Point)
+    requires { a ≢ b }
+    ensures order { result.0 < result.1 }
+    ensures same { ((result.0 ≡ a) × (result.1 ≡ b)) ⊎ ((result.0 ≡ b) × (result.1 ≡ a)) }
+{
+    if a < b { (a, b) } else { (b, a) }
+}
+
+// Three points, put in order.
+fn ordered_three(a: Point, b: Point, c: Point) -> Tri
+    requires { AreThree a b c }
+    ensures order { IsAscending result }
+    ensures points { (p : ℕ) → IsIn p result ↔ IsIn p (a ∷ b ∷ c ∷ []) }
+{
+    let (a, b) = in_order(a, b);
+    let (b, c) = in_order(b, c);
+    let (a, b) = in_order(a, b);
+    Tri { points: [a, b, c] }
+}
+
+// Four points, put in order.
+fn ordered_four(a: Point, b: Point, c: Point, d: Point) -> Quad
+    requires { AreFour a b c d }
+    ensures order { IsAscending result }
+    ensures points { (p : ℕ) → IsIn p result ↔ IsIn p (a ∷ b ∷ c ∷ d ∷ []) }
+{
+    let (a, b) = in_order(a, b);
+    let (c, d) = in_order(c, d);
+    let (a, c) = in_order(a, c);
+    let (b, d) = in_order(b, d);
+    let (b, c) = in_order(b, c);
+    Quad {
+        points: [a, b, c, d],
+    }
+}
+
+impl Cell {
+    /// The Full cell of four distinct points, given in any order.
+    pub fn full(a: Point, b: Point, c: Point, d: Point) -> Cell
+        requires { AreFour a b c d }
+        ensures { result ≡ Full (ascending (a ∷ b ∷ c ∷ d ∷ [])) }
+    {
+        Cell::Full(ordered_four(a, b, c, d))
+    }
+
+    /// The Open cell of three distinct points, given in any order.
+    pub fn hull(a: Point, b: Point, c: Point) -> Cell
+        requires { AreThree a b c }
+        ensures { result ≡ Open (ascending (a ∷ b ∷ c ∷ [])) }
+    {
+        Cell::Open(ordered_three(a, b, c))
+    }
+
+    /// The four facets. Facet `i` of a Full cell lacks its point `i`; of an Open cell the facets 0 to 2 are the pairs
+    /// without a point, each with the infinite vertex, and facet 3 is the triple.
+    pub fn facets(&self) -> [Facet; 4]
+        ensures { result ≡ facets_of self.now }
+    {
+        match self {
+            Cell::Full(quad) => {
+                let [a, b, c, d] = quad.points;
+                [
+                    Facet::Three(Tri { points: [b, c, d] }),
+                    Facet::Three(Tri { points: [a, c, d] }),
+                    Facet::Three(Tri { points: [a, b, d] }),
+                    Facet::Three(Tri { points: [a, b, c] }),
+                ]
+            }
+            Cell::Open(tri) => {
+                let [a, b, c] = tri.points;
+                [
+                    Facet::Two(Pair { points: [b, c] }),
+                    Facet::Two(Pair { points: [a, c] }),
+                    Facet::Two(Pair { points: [a, b] }),
+                    Facet::Three(Tri { points: [a, b, c] }),
+                ]
+            }
+        }
+    }
+
+    /// Whether the point is one of the cell's.
+    pub fn has(&self, p: Point) -> bool
+        ensures { result ≡ is_among p (points_of self.now) }
+    {
+        self.points().contains(&p)
+    }
+
+    /// The finite points, ascending.
+    pub fn points(&self) -> &[Point]
+        ensures { result.now ≡ points_of self.now }
+    {
+        match self {
+            Cell::Full(quad) => &quad.points,
+            Cell::Open(tri) => &tri.points,
+        }
+    }
+}

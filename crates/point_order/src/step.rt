@@ -1,0 +1,89 @@
+//! The way from one point to another, in whole numbers.
+
+ghost use Rattle.std.specs.Prelude.{◌≡◌, ◌+ℤ◌, ◌*ℤ◌};
+ghost use Rattle.whole_ring.specs.Bounds.{IsWithin};
+ghost use Rattle.point_order.specs.Orientation.{minor, triple, square_of_step, x_from, y_from, z_from};
+
+use crate::Point;
+
+/// A difference of two points.
+#[derive(Clone, Copy, Debug, PartialEq, Eq)]
+pub struct Step {
+    pub x: i64,
+    pub y: i64,
+    pub z: i64,
+    ghost x_within: { IsWithin 16383 x },
+    ghost y_within: { IsWithin 16383 y },
+    ghost z_within: { IsWithin 16383 z },
+}
+
+impl Step {
+    /// The step from `a` to `b`.
+    pub fn between(a: Point, b: Point) -> Step
+        ensures x { result.x ≡ x_from a b }
+        ensures y { result.y ≡ y_from a b }
+        ensures z { result.z ≡ z_from a b }
+    {
+        Step {
+            x: b.x() - a.x(),
+            y: b.y() - a.y(),
+            z: b.z() - a.z(),
+        }
+    }
+
+    /// `self . (v x w)`
+    pub fn triple(self, v: Step, w: Step) -> i64
+        ensures value { result ≡ triple self.x self.y self.z v.x v.y v.z w.x w.y w.z }
+        ensures bound { IsWithin 26383447523322 result }
+    {
+        let x = minor_of(v.y, v.z, w.y, w.z);
+        let y = minor_of(v.z, v.x, w.z, w.x);
+        let z = minor_of(v.x, v.y, w.x, w.y);
+        dot(self.x, self.y, self.z, x, y, z)
+    }
+
+    /// The square of the step's length.
+    pub fn square(self) -> i64
+        ensures value { result ≡ square_of_step self.x self.y self.z }
+        ensures bound { IsWithin 805208067 result }
+    {
+        norm(self.x, self.y, self.z)
+    }
+}
+
+// x * x + y * y + z * z
+fn norm(x: i64, y: i64, z: i64) -> i64
+    requires x_bound { IsWithin 16383 x }
+    requires y_bound { IsWithin 16383 y }
+    requires z_bound { IsWithin 16383 z }
+    ensures value { result ≡ square_of_step x y z }
+    ensures bound { IsWithin 805208067 result }
+{
+    x * x + y * y + z * z
+}
+
+// p * s - q * r
+fn minor_of(p: i64, q: i64, r: i64, s: i64) -> i64
+    requires first { IsWithin 16383 p }
+    requires second { IsWithin 16383 q }
+    requires third { IsWithin 16383 r }
+    requires fourth { IsWithin 16383 s }
+    ensures value { result ≡ minor p q r s }
+    ensures bound { IsWithin 536805378 result }
+{
+    p * s - q * r
+}
+
+// u * x + v * y + w * z
+fn dot(u: i64, v: i64, w: i64, x: i64, y: i64, z: i64) -> i64
+    requires u_bound { IsWithin 16383 u }
+    requires v_bound { IsWithin 16383 v }
+    requires w_bound { IsWithin 16383 w }
+    requires x_bound { IsWithin 536805378 x }
+    requires y_bound { IsWithin 536805378 y }
+    requires z_bound { IsWithin 536805378 z }
+    ensures value { result ≡ u *ℤ x +ℤ v *ℤ y +ℤ w *ℤ z }
+    ensures bound { IsWithin 26383447523322 result }
+{
+    u * x + v * y + w * z
+}
