@@ -1,65 +1,60 @@
 -- The affine relation of five places, what it carries, and the relations of six places that follow from it.
-use Rattle.std.specs.Prelude.{ℤ, pos, ◌*ℤ◌, ◌≡◌, ℕ, ◌+◌, List, [], ◌∷◌}
+use Rattle.std.specs.Prelude.{ℤ, pos, ◌*ℤ◌, ◌≡◌, ℕ, List, [], ◌∷◌}
 use Rattle.std.proofs.Common.{sym}
 use Rattle.whole_ring.specs.Poly.{Expr, var, lit, ◌⊕◌, ◌⊗◌, minus, ◌⊖◌, nothing, given}
 use Rattle.whole_ring.proofs.Ring.{ring, ring_from}
 use Rattle.conv_laws.specs.Places.{Place, orient, lifted}
 use Rattle.conv_laws.specs.Affine.{weighted, WeightsAddUp, WeightsLocate, WeightsOfHeights, OrientCarried, LiftedCarried, ThreeTerms, Pencil, PencilInPlane, Crossing}
-use Rattle.conv_laws.proofs.Written.{Written, place, onto, orient_w, lift, lifted_w, all_of}
+use Rattle.conv_laws.proofs.Written.{Written, place, onto, all_of, o, weighted_w, raised}
 use Rattle.conv_laws.proofs.Alternation.{orient_swap23, lifted_swap23}
 
--- the orientation of places by their numbers
-abbrev o : ℕ → ℕ → ℕ → ℕ → Expr
-o i j k l = orient_w (place i) (place j) (place k) (place l)
-
--- the weighted sum at places 0 to 4
-abbrev sum_w : Expr → Expr → Expr → Expr → Expr
-sum_w p q r s = o 1 3 2 4 ⊗ p ⊕ o 0 2 3 4 ⊗ q ⊕ o 0 3 1 4 ⊗ r ⊕ o 0 1 2 4 ⊗ s
-
+-- the coordinates of five places
 abbrev five : Place → Place → Place → Place → Place → List ℤ
 five a b c d e = onto (a ∷ b ∷ c ∷ d ∷ e ∷ []) []
 
 -- ---- the relation
 
+-- the weights add up to the orientation of the four
 pub weights_add_up : WeightsAddUp
 unfolding orient
 weights_add_up a b c d e = ring (o 1 3 2 4 ⊕ o 0 2 3 4 ⊕ o 0 3 1 4 ⊕ o 0 1 2 4) (o 0 1 2 3) (five a b c d e) tt
 
 -- in one coordinate, which f takes out of each place
 abbrev located : (Written → Expr) → Expr
-located f = sum_w (f (place 0)) (f (place 1)) (f (place 2)) (f (place 3))
+located f = weighted_w (f (place 0)) (f (place 1)) (f (place 2)) (f (place 3))
 
 -- the weights give e in each coordinate
 pub weights_locate_x : (a b c d e : Place) → orient a b c d *ℤ e.x ≡ weighted a b c d e a.x b.x c.x d.x
 unfolding orient
 weights_locate_x a b c d e = ring (o 0 1 2 3 ⊗ var 12) (located (λ p. p.x)) (five a b c d e) tt
 
+-- the same in the second coordinate
 pub weights_locate_y : (a b c d e : Place) → orient a b c d *ℤ e.y ≡ weighted a b c d e a.y b.y c.y d.y
 unfolding orient
 weights_locate_y a b c d e = ring (o 0 1 2 3 ⊗ var 13) (located (λ p. p.y)) (five a b c d e) tt
 
+-- the same in the third coordinate
 pub weights_locate_z : (a b c d e : Place) → orient a b c d *ℤ e.z ≡ weighted a b c d e a.z b.z c.z d.z
 unfolding orient
 weights_locate_z a b c d e = ring (o 0 1 2 3 ⊗ var 14) (located (λ p. p.z)) (five a b c d e) tt
 
+-- the three together
 pub weights_locate : WeightsLocate
 weights_locate a b c d e = (weights_locate_x a b c d e, weights_locate_y a b c d e, weights_locate_z a b c d e)
 
--- the lifted determinant by numbers, the heights standing after fifteen coordinates
-abbrev w : ℕ → ℕ → ℕ → ℕ → ℕ → Expr
-w i j k l m = lifted_w (lift i (15 + i)) (lift j (15 + j)) (lift k (15 + k)) (lift l (15 + l)) (lift m (15 + m))
-
+-- the lifted determinant is what the weights leave over of the height
 pub weights_of_heights : WeightsOfHeights
 unfolding orient lifted
 weights_of_heights a b c d e =
-    ring (o 0 1 2 3 ⊗ var 19) (w 0 1 2 3 4 ⊕ sum_w (var 15) (var 16) (var 17) (var 18)) (all_of (a ∷ b ∷ c ∷ d ∷ e ∷ [])) tt
+    ring (o 0 1 2 3 ⊗ var 19) (raised 15 0 1 2 3 4 ⊕ weighted_w (var 15) (var 16) (var 17) (var 18)) (all_of (a ∷ b ∷ c ∷ d ∷ e ∷ [])) tt
 
 -- ---- what it carries
 
+-- orientations are carried
 pub orient_carried : OrientCarried
 unfolding orient
 orient_carried a b c d e k l m =
-    ring (o 0 1 2 3 ⊗ o 5 6 7 4) (sum_w (o 5 6 7 0) (o 5 6 7 1) (o 5 6 7 2) (o 5 6 7 3)) (onto (a ∷ b ∷ c ∷ d ∷ e ∷ k ∷ l ∷ m ∷ []) []) tt
+    ring (o 0 1 2 3 ⊗ o 5 6 7 4) (weighted_w (o 5 6 7 0) (o 5 6 7 1) (o 5 6 7 2) (o 5 6 7 3)) (onto (a ∷ b ∷ c ∷ d ∷ e ∷ k ∷ l ∷ m ∷ []) []) tt
 
 -- For the next law the orientations and the heights are the variables. First come those of a, b, c, d and e:
 -- 0 of the four, 1 to 4 the weights, 5 of a b d e, 6 of b c d e. Then 7 of k l m n, and for each three of these
@@ -74,6 +69,7 @@ seen h klm kln kmn lmn = var 7 ⊗ var h ⊖ var klm ⊗ var 36 ⊕ var kln ⊗ 
 abbrev spread : ℕ → ℕ → ℕ → ℕ → Expr
 spread a b c d = var 1 ⊗ var a ⊕ var 2 ⊗ var b ⊕ var 3 ⊗ var c ⊕ var 4 ⊗ var d
 
+-- lifted determinants are carried
 pub lifted_carried : LiftedCarried
 unfolding lifted
 lifted_carried a' b' c' d' e' k' l' m' n' =
@@ -109,20 +105,19 @@ lifted_carried a' b' c' d' e' k' l' m' n' =
 
 -- ---- relations of six places
 
+-- the three-term relation around a common pair
 pub three_terms : ThreeTerms
 unfolding orient
 three_terms a b c d x y =
     ring (o 0 1 2 3 ⊗ o 0 1 4 5 ⊖ o 0 1 2 4 ⊗ o 0 1 3 5 ⊕ o 0 1 2 5 ⊗ o 0 1 3 4) (lit (pos 0)) (onto (a ∷ b ∷ c ∷ d ∷ x ∷ y ∷ []) []) tt
 
--- the lifted determinant by numbers, the heights standing after eighteen coordinates
-abbrev v : ℕ → ℕ → ℕ → ℕ → ℕ → Expr
-v i j k l m = lifted_w (lift i (18 + i)) (lift j (18 + j)) (lift k (18 + k)) (lift l (18 + l)) (lift m (18 + m))
-
+-- the relation of the pencil of spheres through three places
 pub pencil : Pencil
 unfolding orient lifted
 pencil a b c x y z =
-    ring (o 0 1 2 3 ⊗ v 0 1 2 4 5 ⊖ o 0 1 2 4 ⊗ v 0 1 2 3 5 ⊕ o 0 1 2 5 ⊗ v 0 1 2 3 4) (lit (pos 0)) (all_of (a ∷ b ∷ c ∷ x ∷ y ∷ z ∷ [])) tt
+    ring (o 0 1 2 3 ⊗ raised 18 0 1 2 4 5 ⊖ o 0 1 2 4 ⊗ raised 18 0 1 2 3 5 ⊕ o 0 1 2 5 ⊗ raised 18 0 1 2 3 4) (lit (pos 0)) (all_of (a ∷ b ∷ c ∷ x ∷ y ∷ z ∷ [])) tt
 
+-- in the plane of the three all spheres of the pencil agree
 pub pencil_in_plane : PencilInPlane
 pencil_in_plane a b c f g e flat =
     ring_from (var 0 ⊗ var 3) (var 1 ⊗ var 4)
@@ -131,6 +126,7 @@ pencil_in_plane a b c f g e flat =
     ∷ lifted a b c g e ∷ lifted a b c f e ∷ lifted a b c f g ∷ [])
     (pencil a b c f g e, (flat, tt)) tt
 
+-- across a facet
 pub crossing : Crossing
 crossing a b c d f e =
     ring_from (var 7 ⊗ var 0 ⊖ var 4 ⊗ var 6) (var 2 ⊗ var 3)

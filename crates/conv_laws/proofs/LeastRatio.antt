@@ -39,9 +39,11 @@ ratio_chain_less n1 d1 n2 d2 n3 d3 p1 p2 p3 h k =
     in
     omega (arith, ints)
 
+-- a number is at most itself
 same_ratio : (a : ℤ) → a ≤ℤ a
 same_ratio a = omega (arith, ints)
 
+-- no number is positive and not
 not_both : (a : ℤ) → a ≤ℤ pos 0 → pos 0 <ℤ a → ⊥
 not_both a h k = omega (arith, ints)
 
@@ -80,5 +82,6 @@ pub find_least : {X : Type 0} (num den : X → ℤ) (s : List X) → Found num d
 find_least num den [] = inl (λ x m. absurd m)
 find_least num den (x ∷ xs) = with_head num den x xs (find_least num den xs)
 
+-- the law of specs/Lists
 pub least_ratio : (X : Type 0) → LeastRatio X
 least_ratio X num den s = find_least num den s

@@ -5,6 +5,7 @@ use Rattle.conv_laws.specs.Lists.{IsIn, xor, odd, AreDistinct, IsGraph, HasAnoth
 
 -- ---- exclusive or
 
+-- four tests may be taken in another order
 shuffle : (a b c d : Bool) → xor (xor a b) (xor c d) ≡ xor (xor a c) (xor b d)
 shuffle true true true d = refl
 shuffle true true false true = refl
@@ -16,6 +17,7 @@ shuffle false true true d = refl
 shuffle false true false d = refl
 shuffle false false c d = refl
 
+-- a test that is taken in twice falls away
 cancel : (a b : Bool) → xor (xor false a) (xor a b) ≡ b
 cancel true true = refl
 cancel true false = refl
@@ -26,13 +28,16 @@ pub tested : (b : Bool) → (b ≡ true) ⊎ (b ≡ false)
 tested true = inl refl
 tested false = inr refl
 
+-- a test is not both
 true≢false : true ≡ false → ⊥
 true≢false e = cc
 
+-- of two tests that are both true or both false, the second is true where the first is
 flip : (a b : Bool) → a ≡ true → xor a b ≡ false → b ≡ true
 flip a true e o = refl
 flip a false e o = absurd (true≢false (sym (ap (λ c. xor c false) e) ∙ o))
 
+-- and false where the first is
 skip : (a b : Bool) → a ≡ false → xor a b ≡ false → b ≡ false
 skip a b e o = sym (ap (λ c. xor c b) e) ∙ o
 
@@ -55,6 +60,7 @@ even_degrees m g (z ∷ xs) =
     ap₂ (λ a b. xor (xor a (odd (m z) xs)) b) (g.loose z) (odd-xor (λ x. m x z) (λ x. odd (m x) xs) xs ∙ ap₂ xor (odd-same (λ x. m x z) (m z) (λ x. g.both x z) xs) (even_degrees m g xs))
     ∙ cancel (odd (m z) xs) false
 
+-- the laws of specs/Lists
 pub handshake : (X : Type 0) → Handshake X
 handshake X m g xs = even_degrees m g xs
 
@@ -134,14 +140,18 @@ two_even {X} p x y (z ∷ xs) d m n k t v u = elim m [
     gone : {T : Type 0} → (w : X) → w ≡ z → IsIn w xs → T
     gone w g i = absurd (d.0 (subst (λ v. IsIn v xs) g i))
 
+-- an even number, and one of them: so another
 pub another_of_even : (X : Type 0) → AnotherOfEven X
 another_of_even X p x xs d m t o = another p x xs d m t o
 
+-- none
 pub none_is_even : (X : Type 0) → NoneIsEven X
 none_is_even X p xs n = none_even p xs n
 
+-- exactly one
 pub one_is_odd : (X : Type 0) → OneIsOdd X
 one_is_odd X p x xs d m t u = one_odd p x xs d m t u
 
+-- exactly two
 pub two_are_even : (X : Type 0) → TwoAreEven X
 two_are_even X p x y xs d m n k t v u = two_even p x y xs d m n k t v u

@@ -1,5 +1,5 @@
 -- Planes by their normals, and when all places lie in one plane or on one line.
-use Rattle.std.specs.Prelude.{ℤ, pos, negsuc, ◌+ℤ◌, ◌-ℤ◌, ◌*ℤ◌, ◌≡◌, ℕ, List, [], ◌∷◌}
+use Rattle.std.specs.Prelude.{ℤ, pos, negsuc, ◌+ℤ◌, ◌-ℤ◌, ◌*ℤ◌, ◌≡◌, List, [], ◌∷◌}
 use Rattle.std.proofs.Common.{arith, inl, inr, ◌∙◌}
 use Rattle.std.proofs.lemmas.Int.{ints}
 use Rattle.whole_ring.specs.Poly.{Expr, var, lit, ◌⊕◌, ◌⊗◌, minus, ◌⊖◌, nothing, given}
@@ -8,14 +8,11 @@ use Rattle.whole_ring.proofs.Signs.{sign, zero_factor}
 use Rattle.whole_ring.specs.Signs.{below, at_zero, above}
 use Rattle.conv_laws.specs.Places.{Vector, cross, IsZero, Place, step, normal, orient}
 use Rattle.conv_laws.specs.Solidity.{HeightOverPlane, CramersRule, NormalByHeights, OnePlane, OnlyOnLine, LineInPlane, ParallelVectors, OneLine}
-use Rattle.conv_laws.proofs.Written.{Written, place, onto, det_w, cross_w, dot_w, step_w, normal_w, orient_w}
-
--- the orientation of places by their numbers
-abbrev o : ℕ → ℕ → ℕ → ℕ → Expr
-o i j k l = orient_w (place i) (place j) (place k) (place l)
+use Rattle.conv_laws.proofs.Written.{Written, place, onto, det_w, cross_w, dot_w, step_w, normal_w, o}
 
 -- ---- normals
 
+-- the orientation is the height along the normal
 pub height_over_plane : HeightOverPlane
 unfolding orient
 height_over_plane a b c y =
@@ -33,9 +30,11 @@ told f =
     ⊕ dot_w (place 0) (place 2) ⊗ f (cross_w (place 3) (place 1))
     ⊕ dot_w (place 0) (place 3) ⊗ f (cross_w (place 1) (place 2))
 
+-- the determinant of the three rows
 abbrev rows : Expr
 rows = det_w (place 1) (place 2) (place 3)
 
+-- the rule in each coordinate
 pub cramers_rule : CramersRule
 cramers_rule n u v w =
     let xs = along (n ∷ u ∷ v ∷ w ∷ []) in
@@ -45,12 +44,14 @@ cramers_rule n u v w =
 abbrev normal_of : (Written → Expr) → Expr
 normal_of f = f (normal_w (place 0) (place 1) (place 2))
 
+-- the same coordinate by heights
 abbrev seen : (Written → Expr) → Expr
 seen f =
     (o 0 1 2 4 ⊖ o 0 1 2 3) ⊗ f (normal_w (place 3) (place 5) (place 6))
     ⊕ (o 0 1 2 5 ⊖ o 0 1 2 3) ⊗ f (normal_w (place 3) (place 6) (place 4))
     ⊕ (o 0 1 2 6 ⊖ o 0 1 2 3) ⊗ f (normal_w (place 3) (place 4) (place 5))
 
+-- the normal by heights, in each coordinate
 pub normal_by_heights : NormalByHeights
 unfolding orient
 normal_by_heights a b c k l m n =
@@ -77,6 +78,7 @@ other_factor p q k e = elim (zero_factor p q e) [ inl z ↦ absurd (k z) | inr z
 settled : (z : ℤ) → (¬ (z ≡ pos 0) → ⊥) → z ≡ pos 0
 settled z f = elim (sign z) [ below p ↦ absurd (f (λ e. omega (arith, ints, p, e))) | at_zero e ↦ e | above p ↦ absurd (f (λ e. omega (arith, ints, p, e))) ]
 
+-- four independent places in the plane of three: these are on one line
 pub only_on_line : OnlyOnLine
 only_on_line a b c k l m n t ek el em en =
     let h = normal_by_heights a b c k l m n in
@@ -87,6 +89,7 @@ only_on_line a b c k l m n t ek el em en =
       z = other_factor (orient k l m n) (normal a b c).z t (h.2 ∙ none (normal k m n).z (normal k n l).z (normal k l m).z);
     }
 
+-- the other way round
 pub one_plane : OnePlane
 one_plane a b c k l m n t ek el em en = settled (orient k l m n) (λ f. t (only_on_line a b c k l m n f ek el em en))
 
@@ -99,6 +102,7 @@ no_product p q r u v w e f g =
     (given (var 3) (var 0) (lit (pos 0)) (given (var 4) (var 1) (lit (pos 0)) (given (var 5) (var 2) (lit (pos 0)) nothing)))
     (p ∷ q ∷ r ∷ u ∷ v ∷ w ∷ []) (e, (f, (g, tt))) tt
 
+-- three places on one line have no height over their plane
 pub line_in_plane : LineInPlane
 line_in_plane a b c y l =
     height_over_plane a b c y
@@ -111,6 +115,7 @@ parallel_first p q r s t u e f =
     (given (var 2) (var 0 ⊗ var 5 ⊖ var 1 ⊗ var 4) (lit (pos 0)) (given (minus (var 4)) (var 0 ⊗ var 3 ⊖ var 1 ⊗ var 2) (lit (pos 0)) nothing))
     (p ∷ q ∷ r ∷ s ∷ t ∷ u ∷ []) (f, (e, tt)) tt
 
+-- and times q
 parallel_second : (p q r s t u : ℤ) → p *ℤ s -ℤ q *ℤ r ≡ pos 0 → p *ℤ u -ℤ q *ℤ t ≡ pos 0 → q *ℤ (r *ℤ u -ℤ s *ℤ t) ≡ pos 0
 parallel_second p q r s t u e f =
     ring_from (var 1 ⊗ (var 2 ⊗ var 5 ⊖ var 3 ⊗ var 4)) (lit (pos 0))
@@ -134,6 +139,7 @@ parallel_coordinate : (o p q x r s y t u : ℤ) → (o ≡ pos 0 → p ≡ pos 0
 parallel_coordinate o p q x r s y t u n e f g h =
     settled (r *ℤ u -ℤ s *ℤ t) (λ k. n (first_factor o (r *ℤ u -ℤ s *ℤ t) k (parallel_third o p q x r s y t u h f g)) (first_factor p (r *ℤ u -ℤ s *ℤ t) k (parallel_first p q r s t u e h)) (first_factor q (r *ℤ u -ℤ s *ℤ t) k (parallel_second p q r s t u e h)))
 
+-- each coordinate of the vector product of two vectors that are parallel to a third is 0
 pub parallel_vectors : ParallelVectors
 parallel_vectors u v w n e f =
     record {
@@ -159,6 +165,7 @@ along_line a b k l e f =
       z = between (b.x -ℤ a.x) (b.y -ℤ a.y) a.x a.y k.x k.y l.x l.y e.z f.z;
     }
 
+-- three places on the line of two
 pub one_line : OneLine
 one_line a b k l m n ek el em =
     parallel_vectors (step a b) (step k l) (step k m) n (along_line a b k l ek el) (along_line a b k m ek em)

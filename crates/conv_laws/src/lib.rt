@@ -1,7 +1,7 @@
 //! Identities of geometry over the whole numbers: orientations, lifted determinants and spheres; and three facts on lists.
 //!
 //! Each function here does nothing, and its contract is a law. The definitions are in `specs/`, and the lemmas that crates
-//! above cite are in `proofs/`, a file for each file of `specs/`. `docs/GEOMETRY.md` tells the laws in order.
+//! above cite are in `proofs/`. `docs/GEOMETRY.md` tells the laws in order.
 #![tactic(auto)]
 
 ghost use Rattle.conv_laws.specs.Affine.{WeightsAddUp, WeightsLocate, WeightsOfHeights, OrientCarried, LiftedCarried, ThreeTerms, Pencil, PencilInPlane, Crossing};
