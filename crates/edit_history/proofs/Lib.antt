@@ -1,1 +1,4 @@
 pub mod Planes
+pub mod Solidity
+pub mod Places
+pub mod OpeningLaws

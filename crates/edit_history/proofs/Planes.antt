@@ -218,3 +218,14 @@ flat_in_line a b p q r t h k n ep eq er =
     parts true true false ex ey ez = twice (z_from a b) (orientation p q r t) (zero-not (z_from a b) ez) (line-z a b p q r t lp lq lr)
     parts true false i ex ey ez = twice (y_from a b) (orientation p q r t) (zero-not (y_from a b) ey) (line-y a b p q r t lp lq lr)
     parts false g i ex ey ez = twice (x_from a b) (orientation p q r t) (zero-not (x_from a b) ex) (line-x a b p q r t lp lq lr)
+
+-- a and b are on their line
+pub collinear-first : (a b : ℕ) → is_collinear a b a ≡ true
+unfolding minor normal_x normal_y normal_z x_from y_from z_from
+collinear-first a b =
+    rw (is-zero (normal_x a b a) (ring (minor_w dy dz 0 1 0) nil (onto (a ∷ b ∷ [])) tt), is-zero (normal_y a b a) (ring (minor_w dz dx 0 1 0) nil (onto (a ∷ b ∷ [])) tt), is-zero (normal_z a b a) (ring (minor_w dx dy 0 1 0) nil (onto (a ∷ b ∷ [])) tt)) refl
+
+pub collinear-second : (a b : ℕ) → is_collinear a b b ≡ true
+unfolding minor normal_x normal_y normal_z x_from y_from z_from
+collinear-second a b =
+    rw (is-zero (normal_x a b b) (ring (minor_w dy dz 0 1 1) nil (onto (a ∷ b ∷ [])) tt), is-zero (normal_y a b b) (ring (minor_w dz dx 0 1 1) nil (onto (a ∷ b ∷ [])) tt), is-zero (normal_z a b b) (ring (minor_w dx dy 0 1 1) nil (onto (a ∷ b ∷ [])) tt)) refl
