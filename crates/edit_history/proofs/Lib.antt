@@ -2,3 +2,4 @@ pub mod Planes
 pub mod Solidity
 pub mod Places
 pub mod OpeningLaws
+pub mod OpeningSolid

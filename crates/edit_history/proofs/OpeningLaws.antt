@@ -1,14 +1,13 @@
 -- The opening four: none exactly where the points are not solid, else four independent points.
-use Rattle.std.specs.Prelude.{◌≡◌, ◌≢◌, ℕ, ◌+◌, ◌<◌, ◌≤◌, Bool, true, false, not, ◌==◌, ◌&&◌, List, [], ◌∷◌, ◌⊎◌, length, Option, None, Some, slice_index}
-use Rattle.std.specs.List.{position_from, filter}
-use Rattle.std.proofs.Common.{refl, sym, ◌∙◌, ap, subst, inl, inr, arith}
+use Rattle.std.specs.Prelude.{◌≡◌, ◌≢◌, ℕ, ◌+◌, ◌<◌, ◌≤◌, Bool, true, false, not, ◌==◌, ◌&&◌, List, ◌⊎◌, length, Option, slice_index}
+use Rattle.std.proofs.Common.{refl, sym, ◌∙◌, ap, inl, inr, arith}
 use Rattle.std.proofs.lemmas.Bool.Decides.{nat_tests}
 use Rattle.point_order.specs.Coordinates.{IsKey}
 use Rattle.point_order.specs.Sets.{IsIn}
-use Rattle.point_order.specs.Orientation.{orientation, is_zero, is_flat, is_collinear}
+use Rattle.point_order.specs.Orientation.{orientation, is_flat, is_collinear}
 use Rattle.point_order.specs.Solid.{is_solid}
 use Rattle.edit_history.specs.PassedOver.{is_kept, kept}
-use Rattle.edit_history.proofs.Planes.{is-zero, flat-first, flat-second, flat-third, collinear-first, collinear-second, flat_on_line, flat_in_plane, flat_in_line}
+use Rattle.edit_history.proofs.Planes.{is-zero, flat-first, flat-third, collinear-first, collinear-second, flat_on_line, flat_in_plane, flat_in_line}
 use Rattle.edit_history.proofs.Places.{IsFirst, IsNowhere, in-filter, filter-in}
 use Rattle.edit_history.proofs.Solidity.{solid-from, flat-from}
 
@@ -32,7 +31,7 @@ failed true true e f = refl
 failed true false e f = cc
 failed false found e f = cc
 
-passed : (kept found : Bool) → (kept && not found) ≡ true → (kept ≡ true) × (found ≡ false)
+pub passed : (kept found : Bool) → (kept && not found) ≡ true → (kept ≡ true) × (found ≡ false)
 passed true true e = cc
 passed true false e = (refl, refl)
 passed false found e = cc
@@ -40,7 +39,7 @@ passed false found e = cc
 is-one : (a b : ℕ) → (b == a) ≡ true → b ≡ a
 is-one a b e = grind (arith, nat_tests)
 
-is-other : (a b : ℕ) → (b == a) ≡ false → a ≢ b
+pub is-other : (a b : ℕ) → (b == a) ≡ false → a ≢ b
 is-other a b e f = grind (arith, nat_tests)
 
 -- the place is before another, at it, or after it

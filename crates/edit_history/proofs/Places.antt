@@ -1,12 +1,10 @@
 -- Searches by place.
-use Rattle.std.specs.Prelude.{◌≡◌, ◌≢◌, ℕ, ◌+◌, ◌-◌, zero, suc, ◌<◌, ◌≤◌, Bool, true, false, cond, List, [], ◌∷◌, ◌⊎◌, length, drop, Option, None, Some, slice_index, MatchOption}
+use Rattle.std.specs.Prelude.{◌≡◌, ℕ, ◌+◌, ◌-◌, zero, suc, ◌<◌, ◌≤◌, Bool, true, false, cond, List, [], ◌∷◌, length, drop, Option, None, Some, slice_index, MatchOption}
 use Rattle.std.specs.List.{position_from, filter}
 use Rattle.std.specs.Option.{option_map}
-use Rattle.std.proofs.Common.{refl, sym, ◌∙◌, ap, subst, inl, inr, arith, get_or, length-drop}
+use Rattle.std.proofs.Common.{refl, sym, ◌∙◌, ap, subst, inl, inr, arith, length-drop}
 use Rattle.std.proofs.lemmas.List.{get_or-drop}
-use Rattle.std.proofs.lemmas.Grind.{common_steps}
 use Rattle.point_order.specs.Sets.{IsIn}
-use Rattle.edit_history.specs.Opening.{next_place}
 
 -- what a search from place n on answers: the first place where the test holds, or none where no place passes
 pub record IsFirst (test : ℕ → Bool) (n : ℕ) (s : List ℕ) (i : ℕ) : Type 0 where
@@ -60,7 +58,7 @@ next-is test n s = by (position_from test n (drop n s)) (position-is test n (dro
           from = omega (arith, h.place);
           within = omega (arith, h.place, h.within, length-drop n s);
           passes = sym (ap test (moved h.k ∙ ap (slice_index s) (sym h.place))) ∙ h.passes;
-          before = λ m l j. sym (ap test (back m l)) ∙ h.before (m - n) (omega (arith, h.place))
+          before = λ m l j. sym (ap test (back m l)) ∙ h.before (m - n) (omega (arith, h.place));
         }
 
 -- a search moved to another first place

@@ -1,8 +1,11 @@
 -- Points of one plane and of one line: no four of them are independent.
-use Rattle.std.specs.Prelude.{ℤ, pos, Bool, true, false, not, T, ◌&&◌, ◌≡◌, ◌≢◌, ◌≤ℤ◌, ℕ, ◌+◌, ◌*◌, ◌+ℤ◌, ◌*ℤ◌, List, [], ◌∷◌, ◌⊎◌}
+use Rattle.std.specs.Prelude.{ℤ, pos, Bool, true, false, not, T, ◌&&◌, ◌≡◌, ◌≢◌, ◌≤ℤ◌, ℕ, ◌+◌, ◌*◌, ◌+ℤ◌, ◌*ℤ◌, List, [], ◌∷◌}
 use Rattle.std.specs.Int.Signed.{lt_z, lt_z_no}
-use Rattle.std.proofs.Common.{arith, subst, inl, inr, refl, sym, ◌∙◌, ap}
-use Rattle.std.proofs.lemmas.Int.{ints}
+use Rattle.std.proofs.Common.{arith, subst, lit<, w64, nat_eq, to_z, of_z, inl, inr, refl, sym, ◌∙◌, ap}
+use Rattle.std.proofs.lemmas.Int.{ints, to_z-of_z}
+use Rattle.std.proofs.lemmas.Bool.Decides.{nat_tests}
+use Rattle.whole_ring.specs.Bounds.{IsWithin}
+use Rattle.whole_ring.proofs.Bounds.{within-fits}
 use Rattle.whole_ring.specs.Poly.{Expr, Given, var, lit, ◌⊕◌, ◌⊖◌, ◌⊗◌, minus, given, nothing}
 use Rattle.whole_ring.proofs.Ring.{ring, ring_from}
 use Rattle.whole_ring.proofs.Signs.{zero_factor}
@@ -229,3 +232,56 @@ pub collinear-second : (a b : ℕ) → is_collinear a b b ≡ true
 unfolding minor normal_x normal_y normal_z x_from y_from z_from
 collinear-second a b =
     rw (is-zero (normal_x a b b) (ring (minor_w dy dz 0 1 1) nil (onto (a ∷ b ∷ [])) tt), is-zero (normal_y a b b) (ring (minor_w dz dx 0 1 1) nil (onto (a ∷ b ∷ [])) tt), is-zero (normal_z a b b) (ring (minor_w dx dy 0 1 1) nil (onto (a ∷ b ∷ [])) tt)) refl
+
+-- ---- orientation and the normal, from steps between the points
+
+-- a step from a to b, by its coordinates
+pub record IsStep (a b : ℕ) (x y z : ℤ) : Type 0 where
+  pub x_is : x ≡ x_from a b
+  pub y_is : y ≡ y_from a b
+  pub z_is : z ≡ z_from a b
+
+pub flat-steps : (a b c d : ℕ) (r ux uy uz vx vy vz wx wy wz : ℤ) → IsStep a b ux uy uz → IsStep a c vx vy vz → IsStep a d wx wy wz → r ≡ triple ux uy uz vx vy vz wx wy wz → is_zero r ≡ is_flat a b c d
+unfolding orientation
+flat-steps a b c d r ux uy uz vx vy vz wx wy wz u v w e =
+    let f : r ≡ triple (x_from a b) (y_from a b) (z_from a b) (x_from a c) (y_from a c) (z_from a c) (x_from a d) (y_from a d) (z_from a d) = e ∙ rw (u.x_is, u.y_is, u.z_is, v.x_is, v.y_is, v.z_is, w.x_is, w.y_is, w.z_is) refl in
+    ap is_zero f
+
+along-x : (m n o : ℤ) → pos 1 *ℤ m +ℤ pos 0 *ℤ n +ℤ pos 0 *ℤ o ≡ m
+along-x m n o = ring (lit (pos 1) ⊗ var 0 ⊕ lit (pos 0) ⊗ var 1 ⊕ lit (pos 0) ⊗ var 2) (var 0) (m ∷ n ∷ o ∷ []) tt
+
+along-y : (m n o : ℤ) → pos 0 *ℤ m +ℤ pos 1 *ℤ n +ℤ pos 0 *ℤ o ≡ n
+along-y m n o = ring (lit (pos 0) ⊗ var 0 ⊕ lit (pos 1) ⊗ var 1 ⊕ lit (pos 0) ⊗ var 2) (var 1) (m ∷ n ∷ o ∷ []) tt
+
+along-z : (m n o : ℤ) → pos 0 *ℤ m +ℤ pos 0 *ℤ n +ℤ pos 1 *ℤ o ≡ o
+along-z m n o = ring (lit (pos 0) ⊗ var 0 ⊕ lit (pos 0) ⊗ var 1 ⊕ lit (pos 1) ⊗ var 2) (var 2) (m ∷ n ∷ o ∷ []) tt
+
+pub normal-steps : (a b c : ℕ) (x y z ux uy uz vx vy vz : ℤ) → IsStep a b ux uy uz → IsStep a c vx vy vz
+    → x ≡ triple (pos 1) (pos 0) (pos 0) ux uy uz vx vy vz → y ≡ triple (pos 0) (pos 1) (pos 0) ux uy uz vx vy vz → z ≡ triple (pos 0) (pos 0) (pos 1) ux uy uz vx vy vz
+    → (is_zero x && is_zero y && is_zero z) ≡ is_collinear a b c
+unfolding triple normal_x normal_y normal_z
+normal-steps a b c x y z ux uy uz vx vy vz u v ex ey ez =
+    let fx : x ≡ normal_x a b c = ex ∙ along-x (minor uy uz vy vz) (minor uz ux vz vx) (minor ux uy vx vy) ∙ rw (u.y_is, u.z_is, v.y_is, v.z_is) refl in
+    let fy : y ≡ normal_y a b c = ey ∙ along-y (minor uy uz vy vz) (minor uz ux vz vx) (minor ux uy vx vy) ∙ rw (u.x_is, u.z_is, v.x_is, v.z_is) refl in
+    let fz : z ≡ normal_z a b c = ez ∙ along-z (minor uy uz vy vz) (minor uz ux vz vx) (minor ux uy vx vy) ∙ rw (u.x_is, u.y_is, v.x_is, v.y_is) refl in
+    rw (fx, fy, fz) refl
+
+-- ---- a determinant as a word of 64 bits
+
+pub read-back : (z : ℤ) → IsWithin 26383447523322 z → to_z w64 (of_z w64 z) ≡ z
+read-back z h = to_z-of_z w64 z (within-fits w64 h (lit< tt))
+
+-- the test of the word is the test of the number
+pub zero-test : (z : ℤ) → IsWithin 26383447523322 z → nat_eq (of_z w64 z) 0 ≡ is_zero z
+zero-test z h = by (nat_eq (of_z w64 z) 0) (is_zero z) refl refl
+  where
+    by : (f g : Bool) → nat_eq (of_z w64 z) 0 ≡ f → is_zero z ≡ g → f ≡ g
+    by true true e k = refl
+    by false false e k = refl
+    by true false e k =
+        let n : of_z w64 z ≡ 0 = grind (arith, nat_tests) in
+        let q : z ≡ pos 0 = sym (read-back z h) ∙ ap (to_z w64) n in
+        absurd (zero-not z k q)
+    by false true e k =
+        let q : of_z w64 z ≡ 0 = ap (of_z w64) (zero-is z k) in
+        absurd (grind (arith, nat_tests))

@@ -1,9 +1,9 @@
 -- Solid lists: what decides whether some four points are independent.
 use Rattle.std.specs.Prelude.{◌≡◌, ℕ, Bool, true, false, not, ◌||◌, List, [], ◌∷◌, ◌⊎◌}
 use Rattle.std.specs.List.{list_any}
-use Rattle.std.proofs.Common.{refl, sym, ◌∙◌, ap, subst, inl, inr}
+use Rattle.std.proofs.Common.{refl, ap, inl, inr}
 use Rattle.point_order.specs.Sets.{IsIn, ascending}
-use Rattle.point_order.specs.Orientation.{is_flat, is_collinear}
+use Rattle.point_order.specs.Orientation.{is_flat}
 use Rattle.point_order.specs.Solid.{is_solid}
 use Rattle.point_order.proofs.SetLaws.{in-ascending, in-ascending_from}
 
