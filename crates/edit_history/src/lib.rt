@@ -5,5 +5,8 @@
 #![tactic(auto)]
 
 mod history;
+pub mod laws;
+pub mod opening;
 
 pub use history::{Edit, Entry, Reply};
+pub use opening::{NotSolid, find_four};

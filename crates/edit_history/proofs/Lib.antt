@@ -1,0 +1,5 @@
+pub mod Planes
+pub mod Solidity
+pub mod Places
+pub mod OpeningLaws
+pub mod OpeningSolid
