@@ -1,5 +1,6 @@
 //! The program's top call: from the bytes of an edit file to the text of its mesh.
 #![tactic(auto)]
 
+mod replies;
 mod tests_of_cells;
-pub mod trial;
+mod trial;
