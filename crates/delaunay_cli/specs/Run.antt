@@ -1,6 +1,7 @@
 -- The promise of a run.
 use Rattle.std.specs.Prelude.{◌≡◌, ◌≢◌, ◌⊎◌, ◌↔◌, ◌+◌, ◌≤◌, ◌<◌, ℕ, List, [], ◌∷◌, ◌++◌, length, map, codes, true, false, Option, IfSome}
-use Rattle.std.specs.String.{string_bytes, String}
+use Rattle.std.specs.Prelude.{string_bytes}
+use Rattle.std.specs.Prelude.{String}
 use Rattle.std.specs.declared.alloc.Global.{Global}
 use Rattle.std.specs.Io.KnownBytes.{Appends, Consumes, Keeps, IsAtEnd}
 use Rattle.byte_ends.specs.Ends.{AppendsFront}
@@ -9,6 +10,8 @@ use Rattle.edit_history.specs.declared.history.Entry.{Entry}
 use Rattle.edit_history.specs.OneThread.{one_thread}
 use Rattle.edit_files.specs.Content.{Content}
 use Rattle.edit_files.specs.Grammar.{line_limit, IsFile}
+use Rattle.edit_files.specs.Faults.{IsFault}
+use Rattle.edit_files.specs.declared.fault.Fault.{Fault}
 use Rattle.delaunay_cli.specs.Report.{text_of}
 use Rattle.delaunay_cli.specs.Statuses.{IsEarly}
 
@@ -49,3 +52,11 @@ WritesFront bytes old new kept =
 abbrev pub IsSolidFile : List ℕ → Type 0
 IsSolidFile bytes =
     (length bytes ≤ input_limit) × ((file : Content) × IsFile line_limit bytes file × (is_solid file.points ≡ true))
+
+-- the bytes are no file, and have a fault
+abbrev pub HasFault : List ℕ → Type 0
+HasFault bytes = (fault : Fault) × IsFault line_limit bytes fault
+
+-- a status of a run that has read its input whole
+abbrev pub IsJudged : ℕ → Type 0
+IsJudged status = (status ≡ 0) ⊎ (status ≡ 1) ⊎ (status ≡ 4) ⊎ (status ≡ 5) ⊎ (status ≡ 6)
