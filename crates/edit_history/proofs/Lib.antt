@@ -3,3 +3,4 @@ pub mod Solidity
 pub mod Places
 pub mod OpeningLaws
 pub mod OpeningSolid
+pub mod SetEdits
