@@ -2,3 +2,5 @@ pub mod Apart
 pub mod Steps
 pub mod Lines
 pub mod CommandWords
+pub mod Pending
+pub mod Judging
