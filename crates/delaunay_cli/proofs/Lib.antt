@@ -2,5 +2,4 @@ pub mod Apart
 pub mod Steps
 pub mod Lines
 pub mod CommandWords
-pub mod Pending
 pub mod Judging

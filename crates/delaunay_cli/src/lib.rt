@@ -4,7 +4,6 @@
 mod mesh;
 mod outcome;
 mod replies;
-mod scaffold;
 mod telling;
 mod tests_of_cells;
 mod top;

@@ -16,8 +16,7 @@ use crate::replies::replies_by_tag;
 use crate::trial::complex_by_trial;
 use byte_ends::Sink;
 use edit_files::File;
-use crate::scaffold::{History, one_thread_history};
-use edit_history::find_four;
+use edit_history::{History, find_four};
 use mesh_files::{Put, Report, put_report};
 use std::alloc::{AllocError, Global};
 
@@ -54,7 +53,7 @@ pub fn mesh<O: Sink>(alloc: Global, file: &File, out: &mut O) -> Run
     if find_four(&file.points).is_err() {
         return Run::ended(alloc, 6);
     }
-    let Ok(history) = one_thread_history(alloc, &file.points, &file.edits) else {
+    let Ok(history) = History::of_one_thread(alloc, &file.points, &file.edits) else {
         return Run::ended(alloc, 1);
     };
     let Ok(report) = report(alloc, file.points.len() + file.edits.len(), &history) else {

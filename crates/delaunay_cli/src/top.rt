@@ -14,9 +14,8 @@ use crate::mesh::mesh;
 use crate::outcome::Run;
 use crate::telling::{fault_line, plain_line};
 use crate::words::are_mesh;
-use byte_ends::{ReadError, Reached, Sink, Source, read_to_limit, write_all};
-use crate::scaffold::read_file;
-use edit_files::ReadRefused;
+use byte_ends::{Reached, ReadError, Sink, Source, read_to_limit, write_all};
+use edit_files::{ReadRefused, read_file};
 use std::alloc::Global;
 
 // One more byte than an input may have.
@@ -27,18 +26,6 @@ const TOO_MANY: usize = 16_777_217;
 struct Ended {
     run: Run,
     bad_line: Option<Vec<u8>>,
-}
-
-impl Ended {
-    fn plain(run: Run) -> Ended
-        ensures run { result.run ≡ run }
-        ensures line { result.bad_line ≡ None }
-    {
-        Ended {
-            run,
-            bad_line: None,
-        }
-    }
 }
 
 // Judges the bytes of a file, and writes the report of its mesh.
@@ -59,14 +46,23 @@ fn judge<O: Sink>(alloc: Global, bytes: &[u8], out: &mut O) -> Ended
     ensures fault { result.run.status ≡ 4 → Rose (O.faults out.old) (O.faults out.new) }
 {
     match read_file(alloc, bytes) {
-        Ok(file) => Ended::plain(mesh(alloc, &file, out)),
-        Err(ReadRefused::Memory) => Ended::plain(Run::ended(alloc, 1)),
+        Ok(file) => Ended {
+            run: mesh(alloc, &file, out),
+            bad_line: None,
+        },
+        Err(ReadRefused::Memory) => Ended {
+            run: Run::ended(alloc, 1),
+            bad_line: None,
+        },
         Err(ReadRefused::Bad(fault)) => match fault_line(alloc, fault) {
             Ok(line) => Ended {
                 run: Run::ended(alloc, 5),
                 bad_line: Some(line),
             },
-            Err(_) => Ended::plain(Run::ended(alloc, 1)),
+            Err(_) => Ended {
+                run: Run::ended(alloc, 1),
+                bad_line: None,
+            },
         },
     }
 }
@@ -100,7 +96,10 @@ fn work<S: Source, O: Sink>(alloc: Global, words: &[String], src: &mut S, out: &
     ensures to_its_end { result.run.status ≡ 0 → IsAtEnd (S.left src.new) }
 {
     if !are_mesh(words) {
-        return Ended::plain(Run::ended(alloc, 2));
+        return Ended {
+            run: Run::ended(alloc, 2),
+            bad_line: None,
+        };
     }
     let mut bytes = Vec::new(alloc);
     let status = match read_to_limit(src, TOO_MANY, &mut bytes) {
@@ -109,7 +108,10 @@ fn work<S: Source, O: Sink>(alloc: Global, words: &[String], src: &mut S, out: &
         Err(ReadError::Fault) => 3,
         Err(ReadError::Memory) => 1,
     };
-    Ended::plain(Run::ended(alloc, status))
+    Ended {
+        run: Run::ended(alloc, status),
+        bad_line: None,
+    }
 }
 
 /// Reads an edit file from `src`, writes the report of its mesh to `out`, and tells in one line on `err` what went wrong.

@@ -1,10 +1,10 @@
-use Rattle.std.proofs.Common.{◌≡◌, ◌↔◌, refl, ℕ, arith, ◌<◌, ◌≤◌, false}
+use Rattle.std.proofs.Common.{◌≡◌, ◌↔◌, ◌∙◌, ap, Err, refl, ℕ, arith, ◌<◌, ◌≤◌, false}
 use Rattle.point_order.specs.Solid.{is_solid}
 use Rattle.edit_files.specs.Content.{Content, content}
 use Rattle.edit_files.specs.Grammar.{line_limit}
 use Rattle.delaunay_cli.specs.Run.{history_of}
 use Rattle.delaunay_cli.proofs.Judging.{file-small, no-fault, each-file}
-use Rattle.delaunay_cli.proofs.Pending.{file-no_fault}
+use Rattle.edit_files.proofs.Judged.{no_fault_of}
 use Rattle.delaunay_cli.proofs.top.judge.Goals as goal
 
 pub mesh-requires : goal.mesh-requires
@@ -29,3 +29,7 @@ returns-in-Ok-clause-written g c =
 pub returns-in-Ok-clause-front : goal.returns-in-Ok-clause-front
 returns-in-Ok-clause-front g c =
     λ s. (content c.in-Ok.file, c.in-Ok.ensures.accepted, c.mesh.ensures.front s)
+
+pub returns-in-Ok-fault_line-clause-not_solid : goal.returns-in-Ok-fault_line-clause-not_solid
+returns-in-Ok-fault_line-clause-not_solid g c =
+    λ n file h. absurd (no_fault_of line_limit c.args.bytes.now file c.in-Err-Bad.fault h (c.read_file.ensures.fault c.in-Err-Bad.fault (c.in-Err-Bad.is ∙ ap Err c.in-Err-Bad.field-0-is)))
