@@ -12,3 +12,6 @@ mod words;
 
 pub use outcome::Run;
 pub use top::run;
+
+#[cfg(test)]
+mod tests;

@@ -161,7 +161,8 @@ pub fn run<R, S: Source, O: Sink, E: Sink>(
 {
     let ended = work(alloc, words, src, out);
     tell(err, &ended);
-    ended.run
+    let Run { status, kept } = ended.run;
+    Run { status, kept }
 }
 
 // Writes the line of the end. A failed write changes nothing else.

@@ -18,6 +18,6 @@ pub returns-clause-complete : goal.returns-clause-complete
 returns-clause-complete g c =
     λ words.
     completes (AreMesh c.args.words.now) (g.S.Source.left c.args.src.now) c.work-ended.result.run.status
-      (Rose (g.S.Source.faults c.args.src.now) (g.S.Source.faults c.work-ended.new.src)) (Rose (g.O.Sink.faults c.args.out.now) (g.O.Sink.faults c.work-ended.new.out))
-      c.work-ended.ensures.statuses (c.work-ended.ensures.usage).0 c.work-ended.ensures.read_fault c.work-ended.ensures.write_fault
-      c.work-ended.ensures.too_long c.work-ended.ensures.bad_line c.work-ended.ensures.not_solid words
+    (Rose (g.S.Source.faults c.args.src.now) (g.S.Source.faults c.work-ended.new.src)) (Rose (g.O.Sink.faults c.args.out.now) (g.O.Sink.faults c.work-ended.new.out))
+    c.work-ended.ensures.statuses (c.work-ended.ensures.usage).0 c.work-ended.ensures.read_fault c.work-ended.ensures.write_fault
+    c.work-ended.ensures.too_long c.work-ended.ensures.bad_line c.work-ended.ensures.not_solid words
