@@ -1,2 +1,4 @@
 pub mod Apart
 pub mod Steps
+pub mod Lines
+pub mod CommandWords

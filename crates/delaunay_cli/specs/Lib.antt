@@ -1,1 +1,4 @@
 pub mod Trial
+pub mod Report
+pub mod Statuses
+pub mod Run

@@ -2,3 +2,5 @@ pub mod Edits
 pub mod Histories
 pub mod Opening
 pub mod OneThread
+pub mod PassedOver
+pub mod Laws

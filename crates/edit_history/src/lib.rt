@@ -5,5 +5,10 @@
 #![tactic(auto)]
 
 mod history;
+pub mod laws;
+pub mod opening;
+mod point_set;
 
 pub use history::{Edit, Entry, Reply};
+pub use opening::{NotSolid, find_four};
+pub use point_set::PointSet;
