@@ -13,9 +13,10 @@ mesh-words (a ∷ []) d r h k e f = absurd (omega (arith, h))
 mesh-words (a ∷ b ∷ c ∷ words) d r h k e f = absurd (omega (arith, k))
 mesh-words (a ∷ b ∷ []) d r h k e f =
     let decides = bytes_eq-Decides (string_bytes d) (codes "mesh") in
-    let same : string_bytes b ≡ string_bytes d = ap (λ (s : String Global). string_bytes s) (sym e) in
-    ((λ t. let m : string_bytes d ≡ codes "mesh" = decides.0 (sym f ∙ t) in (string_bytes a, ap (λ v. string_bytes a ∷ v ∷ []) (same ∙ m)))
-    , (λ m. let g : string_bytes b ≡ codes "mesh" = second m.1 in f ∙ decides.1 (sym same ∙ g)))
+    let same : string_bytes b ≡ string_bytes d = ap (λ (s : String Global). string_bytes s) (sym e) in (
+      (λ t. let m : string_bytes d ≡ codes "mesh" = decides.0 (sym f ∙ t) in (string_bytes a, ap (λ v. string_bytes a ∷ v ∷ []) (same ∙ m))),
+      (λ m. let g : string_bytes b ≡ codes "mesh" = second m.1 in f ∙ decides.1 (sym same ∙ g)),
+    )
   where
     second : {n : List ℕ} → string_bytes a ∷ string_bytes b ∷ [] ≡ n ∷ codes "mesh" ∷ [] → string_bytes b ≡ codes "mesh"
     second q = cc

@@ -2,3 +2,4 @@ pub mod Apart
 pub mod Steps
 pub mod Lines
 pub mod CommandWords
+pub mod Judging

@@ -9,5 +9,5 @@ told-by_place f d start [] h = refl
 told-by_place {X} f d start (x ∷ xs) h =
     let e : x ≡ f start = h 0 (omega arith) ∙ ap f (omega arith) in
     let r : xs ≡ map f (range_with_len (start + 1) (length xs)) =
-      told-by_place f d (start + 1) xs (λ k l. h (suc k) (omega (arith, l)) ∙ ap f (omega arith)) in
+    told-by_place f d (start + 1) xs (λ k l. h (suc k) (omega (arith, l)) ∙ ap f (omega arith)) in
     ap₂ (λ (a : X) (b : List X). a ∷ b) e r

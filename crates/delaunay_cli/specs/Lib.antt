@@ -2,3 +2,4 @@ pub mod Trial
 pub mod Report
 pub mod Statuses
 pub mod Run
+pub mod Endings

@@ -7,11 +7,7 @@ use edit_history::{Entry, Reply};
 use std::alloc::{AllocError, Global};
 
 /// The replies in the order of the lines, of which there are `count`. A line is known by the tag of its entry.
-pub fn replies_by_tag(
-    alloc: Global,
-    count: usize,
-    kept: &[Entry],
-) -> Result<Vec<Reply>, AllocError>
+pub fn replies_by_tag(alloc: Global, count: usize, kept: &[Entry]) -> Result<Vec<Reply>, AllocError>
     ensures { IfOk result (λ replies. replies.items ≡ replies_by_tag_of count kept.now) }
 {
     let mut replies = vec![in alloc; Reply::Missing; count]?;

@@ -72,16 +72,16 @@ edit-other [] len space = absurd (omega arith)
 edit-other (s ∷ []) len space = absurd (omega arith)
 edit-other (s ∷ b ∷ rest) len space = let e : eqb b 32 ≡ false = ne_eqb b 32 space in rw e refl
 
-coordinate-below : (p : ℕ) → (x_of p < 16384) × (y_of p < 16384) × (z_of p < 16384)
+pub coordinate-below : (p : ℕ) → (x_of p < 16384) × (y_of p < 16384) × (z_of p < 16384)
 unfolding x_of y_of z_of
 coordinate-below p = (omega arith, omega arith, omega arith)
 
-packed-is : (p : ℕ) → IsKey p → x_of p * 268435456 + y_of p * 16384 + z_of p ≡ p
+pub packed-is : (p : ℕ) → IsKey p → x_of p * 268435456 + y_of p * 16384 + z_of p ≡ p
 unfolding x_of y_of z_of
 packed-is p key = omega arith
 
 -- the point of its own coordinates
-point_at-own : (p : ℕ) → IsKey p → point_at (x_of p) (y_of p) (z_of p) ≡ Ok p
+pub point_at-own : (p : ℕ) → IsKey p → point_at (x_of p) (y_of p) (z_of p) ≡ Ok p
 point_at-own p key =
     let below = coordinate-below p in
     let a : ltb (x_of p) 16384 ≡ true = lt-ltb _ _ below.0 in

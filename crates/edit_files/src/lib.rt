@@ -6,6 +6,7 @@
 
 mod fault;
 mod file;
+pub mod laws;
 mod line;
 mod reader;
 mod scan;

@@ -6,6 +6,7 @@ ghost use Rattle.edit_files.specs.Content.{Content, content};
 ghost use Rattle.edit_files.specs.Grammar.{IsFile, line_limit};
 ghost use Rattle.edit_files.specs.Faults.{IsFault, is_word};
 ghost use Rattle.edit_files.specs.Judging.{State, state, step, step_at, move, listed, judged, ended, start, refused_at, Gives, Steps};
+ghost use Rattle.edit_files.specs.declared.fault.Fault.{Fault};
 ghost use Rattle.edit_files.specs.declared.fault.Why.{Why};
 ghost use Rattle.edit_files.specs.declared.fault.Why.TheVariants.{Section};
 ghost use Rattle.edit_files.specs.declared.fault.ReadRefused.TheVariants.{Bad};
@@ -232,7 +233,8 @@ fn judge(alloc: Global, bytes: &[u8]) -> Result<File, ReadRefused>
 /// # Errors
 /// Where it is none, its one fault; and where there is no memory for what it names, that.
 pub fn read_file(alloc: Global, bytes: &[u8]) -> Result<File, ReadRefused>
-    ensures judged { Gives content result (judged line_limit bytes.now) }
+    ensures accepted { IfOk result (λ f. IsFile line_limit bytes.now (content f)) }
+    ensures fault { (fault : Fault) → result ≡ Err (Bad fault) → IsFault line_limit bytes.now fault }
 {
     judge(alloc, bytes)
 }

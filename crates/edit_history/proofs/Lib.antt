@@ -4,3 +4,4 @@ pub mod Places
 pub mod OpeningLaws
 pub mod OpeningSolid
 pub mod SetEdits
+pub mod Lines

@@ -1,10 +1,9 @@
 -- Edits of an ascending list, by place.
-use Rattle.std.specs.Prelude.{◌≡◌, ◌≢◌, ℕ, zero, suc, ◌+◌, ◌<◌, ◌≤◌, Bool, true, false, cond, not, ◌==◌, List, [], ◌∷◌, ◌++◌, ◌⊎◌, length, take, drop, slice_index, Result, Ok, Err, MatchResult, IfOk, IfErr, is_ok}
-use Rattle.std.specs.List.{insert, remove, filter}
+use Rattle.std.specs.Prelude.{◌≡◌, ◌≢◌, ℕ, zero, suc, ◌<◌, ◌≤◌, Bool, true, false, cond, not, ◌==◌, List, [], ◌∷◌, ◌⊎◌, length, slice_index, Result, Ok, Err, MatchResult, IfOk, IfErr, is_ok}
+use Rattle.std.specs.List.{insert, remove}
 use Rattle.std.proofs.Common.{refl, sym, ◌∙◌, ap, subst, inl, inr, arith}
 use Rattle.std.proofs.lemmas.Bool.Decides.{nat_tests}
 use Rattle.point_order.specs.Sets.{IsIn, IsBelowFirst, IsAscending, is_among, with_point, without_point}
-use Rattle.point_order.specs.Solid.{is_solid}
 use Rattle.point_order.proofs.SetLaws.{below-each, with-cases, ascending-with}
 use Rattle.edit_history.proofs.Solidity.{any-in, any-none}
 
@@ -63,7 +62,7 @@ rest-gap : (x : ℕ) (s : List ℕ) (p i : ℕ) → IsGap p (suc i) (x ∷ s) �
 rest-gap x s p i g = record {
   within = omega (arith, g.within);
   below = λ k l. g.below (suc k) (omega arith);
-  above = λ k l m. g.above (suc k) (omega arith) (omega arith)
+  above = λ k l m. g.above (suc k) (omega arith) (omega arith);
 }
 
 pub insert-is : (s : List ℕ) (p i : ℕ) → IsGap p i s → insert s i p ≡ with_point p s

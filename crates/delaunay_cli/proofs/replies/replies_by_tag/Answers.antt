@@ -14,5 +14,5 @@ returns c =
     let start : c.loop-i.i ≡ 0 = omega arith in
     let count : length items ≡ c.args.count = c.loop-i.invariant.0 in
     let told : (k : ℕ) → k < length items → get_or items k Missing ≡ reply_at kept (0 + k) =
-      λ k l. c.loop-i.invariant.1 k (omega (arith, l, count)) ∙ ap (λ (i : ℕ). reply_at (drop i kept) k) start ∙ ap (λ (t : ℕ). reply_at kept t) (omega arith) in
+    λ k l. c.loop-i.invariant.1 k (omega (arith, l, count)) ∙ ap (λ (i : ℕ). reply_at (drop i kept) k) start ∙ ap (λ (t : ℕ). reply_at kept t) (omega arith) in
     told-by_place (reply_at kept) Missing 0 items told ∙ ap (λ (n : ℕ). map (reply_at kept) (range_with_len 0 n)) count

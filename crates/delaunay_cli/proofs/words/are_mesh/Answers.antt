@@ -7,4 +7,4 @@ use Rattle.delaunay_cli.proofs.words.are_mesh.Goals as goal
 pub returns-in-len2 : goal.returns-in-len2
 returns-in-len2 c =
     mesh-words c.args.words.now c.command-item.result c.eq.result c.in-len2.len_at_least c.in-len2.len_below c.command-item.is
-      (c.eq.ensures ∙ ap (λ v. bytes_eq v (codes "mesh")) c.as_str.ensures.value)
+    (c.eq.ensures ∙ ap (λ v. bytes_eq v (codes "mesh")) c.as_str.ensures.value)
