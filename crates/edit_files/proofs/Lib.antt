@@ -5,6 +5,7 @@ pub mod Turns
 pub mod Values
 pub mod Decided
 pub mod DecidedEdits
+pub mod Texts
 pub mod Words
 pub mod Completes
 pub mod Fronts

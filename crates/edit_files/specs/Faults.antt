@@ -9,11 +9,12 @@ use Rattle.edit_files.specs.Content.{Content}
 use Rattle.edit_files.specs.Lines.{lines_of}
 use Rattle.edit_files.specs.Numbers.{IsNumber}
 use Rattle.edit_files.specs.Forms.{HasPointForm, HasEditForm}
-use Rattle.edit_files.specs.Grammar.{AreFileLines, radius_limit}
+use Rattle.edit_files.specs.Grammar.{AreFileLines, IsFile, radius_limit}
 
--- the lines are the first lines of a file
+-- the lines are the first lines of the text of some file
 abbrev pub AreFirstLines : ℕ → List (List ℕ) → Type 0
-AreFirstLines limit front = (rest : List (List ℕ)) × (file : Content) × AreFileLines limit (front ++ rest) file
+AreFirstLines limit front =
+    (text : List ℕ) × (file : Content) × IsFile limit text file × (rest : List (List ℕ)) × (lines_of text ≡ front ++ rest)
 
 -- The line behind `front` is the first that no file has there.
 pub record IsBadLine (limit : ℕ) (lines front : List (List ℕ)) (line : List ℕ) : Type 0 where
