@@ -13,3 +13,4 @@ pub mod Taken
 pub mod Reasons
 pub mod Judged
 pub mod OneFault
+pub mod Written
