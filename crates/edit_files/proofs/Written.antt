@@ -18,6 +18,7 @@ use Rattle.edit_files.specs.Forms.{IsPointLine, IsEditLine, IsRadiusLine}
 use Rattle.edit_files.specs.Grammar.{IsFile}
 use Rattle.edit_files.specs.Writing.{point_text, edit_text, file_lines, file_text, IsWithin}
 use Rattle.edit_files.proofs.Points.{coordinate-below}
+use Rattle.edit_files.proofs.Completes.{length-zip}
 use Rattle.edit_files.proofs.Texts.{text-is_file}
 
 -- digits begin with no minus
@@ -73,6 +74,26 @@ written-is_file limit f w = text-is_file limit (file_lines f) f (record {
   line_count = omega (arith, w.line_count, length-map f.points point_text, length-map f.edits edit_text);
   radius_count = omega (arith, w.radius_count, length-map f.radii decimal);
 })
+
+-- what lines say is within what they can say
+zip-all : {A : Type 0} (Says : List ℕ → A → Type 0) (P : A → Type 0) → ((line : List ℕ) (a : A) → Says line a → P a) → (lines : List (List ℕ)) (vs : List A) → AllZip Says lines vs → AllByRecursion P vs
+zip-all Says P h [] [] z = tt
+zip-all Says P h [] (v ∷ vs) z = absurd z
+zip-all Says P h (l ∷ ls) [] z = absurd z
+zip-all Says P h (l ∷ ls) (v ∷ vs) z = (h l v z.0, zip-all Says P h ls vs z.1)
+
+edit-key : (line : List ℕ) (e : Edit) → IsEditLine line e → IsKey (point_of e)
+edit-key line (Add p) s = s.2.key
+edit-key line (Take p) s = s.2.key
+
+pub file-is_within : (limit : ℕ) (bytes : List ℕ) (f : Content) → IsFile limit bytes f → IsWithin limit f
+file-is_within limit bytes f k = record {
+  points = zip-all IsPointLine IsKey (λ line p s. s.key) k.points f.points k.point_lines;
+  edits = zip-all IsEditLine (λ e. IsKey (point_of e)) edit-key k.edits f.edits k.edit_lines;
+  radii = zip-all IsRadiusLine (λ r. r < 2 ^ 30) (λ line r s. s.1) k.radii f.radii k.radius_lines;
+  line_count = omega (arith, k.line_count, length-zip IsPointLine k.points f.points k.point_lines, length-zip IsEditLine k.edits f.edits k.edit_lines);
+  radius_count = omega (arith, k.radius_count, length-zip IsRadiusLine k.radii f.radii k.radius_lines);
+}
 
 -- ---- the text, list by list
 

@@ -31,3 +31,8 @@ pub fn one_fault()
 pub fn written_is_read()
     ensures { (limit : ℕ) (f : Content) → IsWithin limit f → IsFile limit (file_text f) f }
 {}
+
+/// What a text can be of is within what a text may hold.
+pub fn file_is_within()
+    ensures { (limit : ℕ) (bytes : List ℕ) (f : Content) → IsFile limit bytes f → IsWithin limit f }
+{}
