@@ -5,3 +5,4 @@ pub mod OpeningLaws
 pub mod OpeningSolid
 pub mod SetEdits
 pub mod Lines
+pub mod Numbers
