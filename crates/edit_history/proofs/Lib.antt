@@ -6,3 +6,4 @@ pub mod OpeningSolid
 pub mod SetEdits
 pub mod Lines
 pub mod Numbers
+pub mod HistoryLaws

@@ -1,6 +1,6 @@
 -- Numbers in order.
-use Rattle.std.specs.Prelude.{◌≡◌, ◌≢◌, ℕ, zero, suc, ◌+◌, ◌<◌, ◌≤◌, Bool, true, false, ◌==◌, nat_eq, List, [], ◌∷◌, ◌⊎◌, map, length}
-use Rattle.std.specs.List.{range_with_len, list_any, IsDistinct, AllByRecursion}
+use Rattle.std.specs.Prelude.{◌≡◌, ℕ, zero, suc, ◌+◌, ◌<◌, ◌≤◌, true, false, ◌==◌, nat_eq, List, [], ◌∷◌, length}
+use Rattle.std.specs.List.{range_with_len, IsDistinct, AllByRecursion}
 use Rattle.std.specs.List.Sorted.{IsPermutation, IsNonDecreasing, IsNonDecreasingBy}
 use Rattle.std.proofs.Common.{refl, sym, ◌∙◌, ap, subst, inl, inr, arith, get_or}
 use Rattle.std.proofs.lemmas.List.{length-map, get_or-map}
@@ -31,7 +31,7 @@ in-among s p i = any-in (λ q. q == p) s p i (same p)
     same : (p : ℕ) → (p == p) ≡ true
     same p = grind (arith, nat_tests)
 
-among-in : (s : List ℕ) (p : ℕ) → is_among p s ≡ true → IsIn p s
+pub among-in : (s : List ℕ) (p : ℕ) → is_among p s ≡ true → IsIn p s
 among-in s p e = let r = any-some (λ q. q == p) s e in subst (λ (q : ℕ). IsIn q s) (is r.0 r.2) r.1
   where
     is : (q : ℕ) → (q == p) ≡ true → q ≡ p

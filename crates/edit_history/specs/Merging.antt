@@ -1,5 +1,5 @@
 -- Entries that are kept in several lists, and put together by their numbers.
-use Rattle.std.specs.Prelude.{◌≡◌, ℕ, List, map, length}
+use Rattle.std.specs.Prelude.{ℕ, List, map, length}
 use Rattle.std.specs.List.{range_with_len}
 use Rattle.std.specs.List.Sorted.{IsPermutation}
 use Rattle.edit_history.specs.declared.history.Entry.{Entry}
