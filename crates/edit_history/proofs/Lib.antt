@@ -7,3 +7,4 @@ pub mod SetEdits
 pub mod Lines
 pub mod Numbers
 pub mod HistoryLaws
+pub mod KeepsLaw

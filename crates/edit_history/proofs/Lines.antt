@@ -77,7 +77,7 @@ in-append [] ys y i = inr i
 in-append (x ∷ xs) ys y (inl e) = inl (inl e)
 in-append (x ∷ xs) ys y (inr i) = elim (in-append xs ys y i) [ inl j ↦ inl (inr j) | inr j ↦ inr j ]
 
-at-in : {X : Type 0} (xs : List X) (k : ℕ) (d : X) → k < length xs → IsIn (get_or xs k d) xs
+pub at-in : {X : Type 0} (xs : List X) (k : ℕ) (d : X) → k < length xs → IsIn (get_or xs k d) xs
 at-in [] k d h = absurd (omega arith)
 at-in (x ∷ xs) zero d h = inl refl
 at-in (x ∷ xs) (suc k) d h = inr (at-in xs k d (omega arith))

@@ -25,7 +25,7 @@ range-ascending n (suc k) = (range-above (n + 1) k n (omega arith), range-ascend
 
 -- ---- membership by a test
 
-in-among : (s : List ℕ) (p : ℕ) → IsIn p s → is_among p s ≡ true
+pub in-among : (s : List ℕ) (p : ℕ) → IsIn p s → is_among p s ≡ true
 in-among s p i = any-in (λ q. q == p) s p i (same p)
   where
     same : (p : ℕ) → (p == p) ≡ true

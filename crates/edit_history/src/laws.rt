@@ -1,6 +1,6 @@
 //! Laws of the opening four and of histories. Each function does nothing, and its contract is a law.
 
-ghost use Rattle.edit_history.specs.Laws.{OpeningLaw, FourLaw, SetLaw, LeavesSet, LegalLaw, ReplayLaw};
+ghost use Rattle.edit_history.specs.Laws.{OpeningLaw, FourLaw, SetLaw, LeavesSet, LegalLaw, KeepsLaw, ReplayLaw};
 
 /// The points of a list have an opening four exactly where they are solid, and the four are independent points of the
 /// list, each at the first place of its point.
@@ -19,8 +19,9 @@ pub fn history_leaves_set()
     ensures { LeavesSet }
 {}
 
-/// The history of one thread is legal; of point lines alone it leaves the set of the points.
+/// The history of one thread is legal and keeps the file; of point lines alone it leaves the set of the points.
 pub fn one_thread_is_legal()
     ensures legal { LegalLaw }
+    ensures keeps { KeepsLaw }
     ensures replay { ReplayLaw }
 {}
