@@ -1,10 +1,10 @@
 -- Numbers in order.
-use Rattle.std.specs.Prelude.{◌≡◌, ℕ, zero, suc, ◌+◌, ◌<◌, ◌≤◌, true, false, ◌==◌, nat_eq, List, [], ◌∷◌, length}
+use Rattle.std.specs.Prelude.{◌≡◌, ℕ, zero, suc, ◌+◌, ◌<◌, ◌≤◌, true, false, ◌==◌, nat_eq, List, [], ◌∷◌, ◌++◌, length}
 use Rattle.std.specs.List.{range_with_len, IsDistinct, AllByRecursion}
 use Rattle.std.specs.List.Sorted.{IsPermutation, IsNonDecreasing, IsNonDecreasingBy}
 use Rattle.std.proofs.Common.{refl, sym, ◌∙◌, ap, subst, inl, inr, arith, get_or}
 use Rattle.std.proofs.lemmas.List.{length-map, get_or-map}
-use Rattle.std.proofs.lemmas.List.Sorted.{IsPermutation-map, IsPermutation-sym, IsPermutation-trans, list_any-IsPermutation, length_permutation}
+use Rattle.std.proofs.lemmas.List.Sorted.{IsPermutation-map, IsPermutation-sym, IsPermutation-trans, IsPermutation-swap, list_any-IsPermutation, length_permutation}
 use Rattle.std.proofs.lemmas.Map.Keys.{IsDistinct-IsPermutation}
 use Rattle.std.proofs.lemmas.Bool.Decides.{nat_tests}
 use Rattle.point_order.specs.Sets.{IsIn, IsBelowFirst, IsAscending, is_among}
@@ -89,3 +89,10 @@ merged-order entries merged a p h =
         let a : get_or (numbers (e ∷ es)) i d ≡ (get_or (e ∷ es) i e).number = get_or-map (λ (e : Entry). e.number) (e ∷ es) i e d (omega arith) in
         let b : get_or (numbers (e ∷ es)) j d ≡ (get_or (e ∷ es) j e).number = get_or-map (λ (e : Entry). e.number) (e ∷ es) j e d k in
         omega (arith, a, b, h i j e l k)
+
+-- two entries in the wrong order
+pub two-numbered : (xs ys : List Entry) (a b : Entry) → xs ≡ a ∷ [] → ys ≡ b ∷ [] → a.number ≡ 1 → b.number ≡ 0 → AreNumbered (xs ++ (ys ++ []))
+two-numbered xs ys a b ex ey ea eb = subst AreNumbered (sym both) (rw (ea, eb) (IsPermutation-swap (1 ∷ 0 ∷ []) (0 ∷ 1 ∷ []) 0 1 (omega arith) (omega arith) refl))
+  where
+    both : xs ++ (ys ++ []) ≡ a ∷ b ∷ []
+    both = rw (ex, ey) refl

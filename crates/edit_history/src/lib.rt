@@ -16,3 +16,6 @@ pub use merging::merge;
 pub use one_thread::History;
 pub use opening::{NotSolid, find_four};
 pub use point_set::PointSet;
+
+#[cfg(test)]
+mod tests;
