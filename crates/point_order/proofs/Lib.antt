@@ -1,2 +1,9 @@
 pub mod Keys
 pub mod SetLaws
+pub mod Written
+pub mod Determinants
+pub mod Leading
+pub mod Sizes
+pub mod Perturbation
+pub mod SignRule
+pub mod HeightLaws

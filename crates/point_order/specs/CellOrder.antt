@@ -1,7 +1,6 @@
 -- The order of cells: Full ones before Open ones, each kind in lexicographic order.
-use Rattle.std.specs.Prelude.{Bool}
 use Rattle.std.specs.Cmp.Lexicographic.{slice_cmp}
-use Rattle.std.specs.Ordering.{nat_cmp, is_lt}
+use Rattle.std.specs.Ordering.{nat_cmp}
 use Rattle.std.specs.declared.cmp.Ordering.{Ordering}
 use Rattle.std.specs.declared.cmp.Ordering.TheVariants.{Less, Greater}
 use Rattle.point_order.specs.declared.cell.Cell.{Cell}

@@ -9,3 +9,4 @@ pub mod Complex
 pub mod Facets
 pub mod CellOrder
 pub mod Conflicts
+pub mod Laws

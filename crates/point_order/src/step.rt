@@ -17,6 +17,17 @@ pub struct Step {
     ghost z_within: { IsWithin 16383 z },
 }
 
+/// The normal of a plane, the cross product of two steps in it.
+#[derive(Clone, Copy, Debug, PartialEq, Eq)]
+pub struct Normal {
+    pub x: i64,
+    pub y: i64,
+    pub z: i64,
+    ghost x_within: { IsWithin 536805378 x },
+    ghost y_within: { IsWithin 536805378 y },
+    ghost z_within: { IsWithin 536805378 z },
+}
+
 impl Step {
     /// The step from `a` to `b`.
     pub fn between(a: Point, b: Point) -> Step
@@ -40,6 +51,19 @@ impl Step {
         let y = minor_of(v.z, v.x, w.z, w.x);
         let z = minor_of(v.x, v.y, w.x, w.y);
         dot(self.x, self.y, self.z, x, y, z)
+    }
+
+    /// `self x v`, which is 0 where the two steps lie on one line.
+    pub fn cross(self, v: Step) -> Normal
+        ensures x { result.x ≡ minor self.y self.z v.y v.z }
+        ensures y { result.y ≡ minor self.z self.x v.z v.x }
+        ensures z { result.z ≡ minor self.x self.y v.x v.y }
+    {
+        Normal {
+            x: minor_of(self.y, self.z, v.y, v.z),
+            y: minor_of(self.z, self.x, v.z, v.x),
+            z: minor_of(self.x, self.y, v.x, v.y),
+        }
     }
 
     /// The square of the step's length.

@@ -1,0 +1,6 @@
+pub mod Affine
+pub mod Alternation
+pub mod Lists
+pub mod Places
+pub mod Solidity
+pub mod Spheres

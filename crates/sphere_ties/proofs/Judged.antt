@@ -1,0 +1,20 @@
+-- The five points of a question of conflict are distinct.
+use Rattle.std.proofs.Common.{◌≡◌, ◌≢◌, ◌<◌, ℕ, [], ◌∷◌, pos, sym, ◌∙◌, ap, arith, false}
+use Rattle.std.proofs.lemmas.Bool.Decides.{nat_tests}
+use Rattle.point_order.specs.Orientation.{orientation, is_flat}
+use Rattle.point_order.specs.Sets.{AreFive, is_among}
+use Rattle.point_order.proofs.Determinants.{last-first, last-second, last-third}
+use Rattle.point_order.proofs.SignRule.{not-zero}
+
+-- a point off the plane of three is none of them
+off-plane : (a b c m k : ℕ) → is_flat a b c m ≡ false → orientation a b c k ≡ pos 0 → k ≢ m
+off-plane a b c m k f z e =
+    not-zero (orientation a b c m) f (ap (λ v. orientation a b c v) (sym e) ∙ z)
+
+-- an Open cell, its mate off the plane and a point that is none of the four
+pub five-judged : (a b c m p : ℕ) → a < b → b < c → is_flat a b c m ≡ false → is_among p (a ∷ b ∷ c ∷ m ∷ []) ≡ false → AreFive a b c m p
+five-judged a b c m p h k f n =
+    let am : a ≢ m = off-plane a b c m a f (last-first a b c) in
+    let bm : b ≢ m = off-plane a b c m b f (last-second a b c) in
+    let cm : c ≢ m = off-plane a b c m c f (last-third a b c) in
+    grind (arith, nat_tests)
