@@ -5,3 +5,6 @@ pub mod OpeningLaws
 pub mod OpeningSolid
 pub mod SetEdits
 pub mod Lines
+pub mod Numbers
+pub mod HistoryLaws
+pub mod KeepsLaw

@@ -63,7 +63,7 @@ in-enumerate n [] line i = absurd i
 in-enumerate {X} n (x ∷ xs) line (inl e) = let f : n ≡ line.0 = ap (λ (p : ℕ × X). p.0) e in omega arith
 in-enumerate n (x ∷ xs) line (inr i) = omega (arith, in-enumerate (n + 1) xs line i)
 
-in-filtered : {X : Type 0} (t : X → Bool) (xs : List X) (y : X) → IsIn y (filter t xs) → IsIn y xs
+pub in-filtered : {X : Type 0} (t : X → Bool) (xs : List X) (y : X) → IsIn y (filter t xs) → IsIn y xs
 in-filtered t [] y i = i
 in-filtered {X} t (x ∷ xs) y i = by (t x) i (in-filtered t xs y)
   where
@@ -72,12 +72,12 @@ in-filtered {X} t (x ∷ xs) y i = by (t x) i (in-filtered t xs y)
     by true (inr j) r = inr (r j)
     by false j r = inr (r j)
 
-in-append : {X : Type 0} (xs ys : List X) (y : X) → IsIn y (xs ++ ys) → IsIn y xs ⊎ IsIn y ys
+pub in-append : {X : Type 0} (xs ys : List X) (y : X) → IsIn y (xs ++ ys) → IsIn y xs ⊎ IsIn y ys
 in-append [] ys y i = inr i
 in-append (x ∷ xs) ys y (inl e) = inl (inl e)
 in-append (x ∷ xs) ys y (inr i) = elim (in-append xs ys y i) [ inl j ↦ inl (inr j) | inr j ↦ inr j ]
 
-at-in : {X : Type 0} (xs : List X) (k : ℕ) (d : X) → k < length xs → IsIn (get_or xs k d) xs
+pub at-in : {X : Type 0} (xs : List X) (k : ℕ) (d : X) → k < length xs → IsIn (get_or xs k d) xs
 at-in [] k d h = absurd (omega arith)
 at-in (x ∷ xs) zero d h = inl refl
 at-in (x ∷ xs) (suc k) d h = inr (at-in xs k d (omega arith))

@@ -222,9 +222,6 @@ module _ (s : List ℕ) where
       apart : slice_index s i ≢ slice_index s j
       apart = is-other (slice_index s i) (slice_index s j) (passed true (slice_index s j == slice_index s i) g.passes).1
 
-      bent : is_collinear (slice_index s i) (slice_index s j) (slice_index s k) ≡ false
-      bent = (passed true (is_collinear (slice_index s i) (slice_index s j) (slice_index s k)) h.passes).1
-
       off : is_flat (slice_index s i) (slice_index s j) (slice_index s k) (slice_index s l) ≡ false
       off = (passed true (is_flat (slice_index s i) (slice_index s j) (slice_index s k) (slice_index s l)) e.passes).1
 

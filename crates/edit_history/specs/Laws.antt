@@ -1,9 +1,14 @@
 -- Laws of the opening four and of histories.
-use Rattle.std.specs.Prelude.{◌≡◌, ◌≢◌, ℕ, ◌<◌, false, List, length, IfSome, is_some, All, slice_index}
+use Rattle.std.specs.Prelude.{◌≡◌, ◌≢◌, ℕ, ◌<◌, false, List, [], length, IfSome, is_some, All, slice_index}
 use Rattle.point_order.specs.Coordinates.{IsKey}
 use Rattle.point_order.specs.Orientation.{is_flat}
 use Rattle.point_order.specs.Solid.{is_solid}
+use Rattle.point_order.specs.Sets.{IsAscending, ascending}
+use Rattle.edit_history.specs.declared.history.Edit.{Edit}
+use Rattle.edit_history.specs.declared.history.Entry.{Entry}
 use Rattle.edit_history.specs.Opening.{Four, opening_four}
+use Rattle.edit_history.specs.Histories.{IsLegal, replay}
+use Rattle.edit_history.specs.OneThread.{one_thread, Keeps}
 
 -- points have an opening four exactly where they are solid
 abbrev pub OpeningLaw : Type 0
@@ -23,3 +28,23 @@ pub record AreIndependent (points : List ℕ) (four : Four) : Type 0 where
 -- so is an opening four
 abbrev pub FourLaw : Type 0
 FourLaw = (points : List ℕ) → IfSome (opening_four points) (AreIndependent points)
+
+-- solidity is of the set: order and repetition do not matter
+abbrev pub SetLaw : Type 0
+SetLaw = (points : List ℕ) → is_solid (ascending points) ≡ is_solid points
+
+-- the history of one thread is legal
+abbrev pub LegalLaw : Type 0
+LegalLaw = (points : List ℕ) (edits : List Edit) → IsLegal (one_thread points edits)
+
+-- of point lines alone it leaves their set
+abbrev pub ReplayLaw : Type 0
+ReplayLaw = (points : List ℕ) → IfSome (opening_four points) (λ _. replay (one_thread points []) ≡ ascending points)
+
+-- it keeps the file, for one worker
+abbrev pub KeepsLaw : Type 0
+KeepsLaw = (points : List ℕ) (edits : List Edit) → IfSome (opening_four points) (λ _. Keeps points edits 1 (one_thread points edits))
+
+-- a history leaves an ascending list, so a set
+abbrev pub LeavesSet : Type 0
+LeavesSet = (h : List Entry) → IsAscending (replay h)

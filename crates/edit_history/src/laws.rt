@@ -1,10 +1,27 @@
 //! Laws of the opening four and of histories. Each function does nothing, and its contract is a law.
 
-ghost use Rattle.edit_history.specs.Laws.{OpeningLaw, FourLaw};
+ghost use Rattle.edit_history.specs.Laws.{OpeningLaw, FourLaw, SetLaw, LeavesSet, LegalLaw, KeepsLaw, ReplayLaw};
 
 /// The points of a list have an opening four exactly where they are solid, and the four are independent points of the
 /// list, each at the first place of its point.
 pub fn opening_four_shows_solid()
     ensures solid { OpeningLaw }
     ensures four { FourLaw }
+{}
+
+/// Whether a list of points is solid does not depend on their order, nor on how often each stands there.
+pub fn solidity_is_of_the_set()
+    ensures { SetLaw }
+{}
+
+/// A history leaves a set of points, as an ascending list.
+pub fn history_leaves_set()
+    ensures { LeavesSet }
+{}
+
+/// The history of one thread is legal and keeps the file; of point lines alone it leaves the set of the points.
+pub fn one_thread_is_legal()
+    ensures legal { LegalLaw }
+    ensures keeps { KeepsLaw }
+    ensures replay { ReplayLaw }
 {}

@@ -6,11 +6,16 @@
 
 mod history;
 pub mod laws;
+mod merging;
 mod one_thread;
 pub mod opening;
 mod point_set;
 
 pub use history::{Edit, Entry, Reply};
+pub use merging::merge;
 pub use one_thread::History;
 pub use opening::{NotSolid, find_four};
 pub use point_set::PointSet;
+
+#[cfg(test)]
+mod tests;

@@ -1,0 +1,244 @@
+-- The history of one thread keeps the file.
+use Rattle.std.specs.Prelude.{◌≡◌, ℕ, zero, suc, ◌+◌, ◌-◌, ◌<◌, ◌≤◌, Bool, true, false, cond, not, ◌==◌, List, [], ◌∷◌, ◌++◌, ◌⊎◌, map, length, take, slice_index, Option, None, Some, IfSome, AllPairs, IsPermutation}
+use Rattle.std.specs.List.{enumerate_from, filter}
+use Rattle.std.proofs.Common.{refl, sym, ◌∙◌, ap, subst, inl, inr, arith, get_or, length-append}
+use Rattle.std.proofs.lemmas.List.{take-map, take-append-le, length-map, take_all}
+use Rattle.std.proofs.lemmas.List.Sorted.{IsPermutation-filter_both}
+use Rattle.std.proofs.lemmas.Bool.Decides.{nat_tests}
+use Rattle.point_order.specs.Sets.{IsIn, IsAscending, is_among}
+use Rattle.point_order.proofs.SetLaws.{below-each}
+use Rattle.edit_history.specs.declared.history.Edit.{Edit}
+use Rattle.edit_history.specs.declared.history.Edit.TheVariants.{Add}
+use Rattle.edit_history.specs.declared.history.Entry.{Entry}
+use Rattle.edit_history.specs.Edits.{point_of, after}
+use Rattle.edit_history.specs.Histories.{entries_from}
+use Rattle.edit_history.specs.Opening.{Four, opening_four}
+use Rattle.edit_history.specs.OneThread.{places, is_opening, tagged_lines, lines_in_order, line_of, Keeps}
+use Rattle.edit_history.specs.Laws.{IsFirstPlace, AreIndependent, KeepsLaw}
+use Rattle.edit_history.proofs.Numbers.{among-in, in-among}
+use Rattle.edit_history.proofs.Lines.{in-filtered, in-append, at-in}
+use Rattle.edit_history.proofs.OpeningSolid.{four_law}
+
+abbrev tag_of : ℕ × Edit → ℕ
+tag_of line = line.0
+
+-- ---- entries and their lines
+
+entry-lines : (n : ℕ) (s : List ℕ) (lines : List (ℕ × Edit)) → map line_of (entries_from n s lines) ≡ lines
+entry-lines n s [] = refl
+entry-lines n s (line ∷ lines) = ap (λ (t : List (ℕ × Edit)). line ∷ t) (entry-lines (n + 1) (after s line.1) lines)
+
+entry-tags : (n : ℕ) (s : List ℕ) (lines : List (ℕ × Edit)) → map (λ (e : Entry). e.tag) (entries_from n s lines) ≡ map tag_of lines
+entry-tags n s [] = refl
+entry-tags n s (line ∷ lines) = ap (λ (t : List ℕ). line.0 ∷ t) (entry-tags (n + 1) (after s line.1) lines)
+
+entry-by : (n : ℕ) (s : List ℕ) (lines : List (ℕ × Edit)) (e : Entry) → IsIn e (entries_from n s lines) → e.by < 1
+entry-by n s [] e i = absurd i
+entry-by n s (line ∷ lines) e (inl q) = let f = ap (λ (e : Entry). e.by) q in omega arith
+entry-by n s (line ∷ lines) e (inr i) = entry-by (n + 1) (after s line.1) lines e i
+
+-- ---- each line before each later one
+
+abbrev EachLater : {X : Type 0} → (X → X → Type 0) → List X → Type 0
+EachLater R [] = Unit {0}
+EachLater {X} R (x ∷ xs) = ((y : X) → IsIn y xs → R x y) × EachLater R xs
+
+later-filter : {X : Type 0} (R : X → X → Type 0) (t : X → Bool) (xs : List X) → EachLater R xs → EachLater R (filter t xs)
+later-filter R t [] h = tt
+later-filter {X} R t (x ∷ xs) h = by (t x) (later-filter R t xs h.1)
+  where
+    by : (b : Bool) → EachLater R (filter t xs) → EachLater R (cond b (x ∷ filter t xs) (filter t xs))
+    by true r = (λ y i. h.0 y (in-filtered t xs y i), r)
+    by false r = r
+
+later-append : {X : Type 0} (R : X → X → Type 0) (xs ys : List X) → EachLater R xs → EachLater R ys → ((x y : X) → IsIn x xs → IsIn y ys → R x y) → EachLater R (xs ++ ys)
+later-append R [] ys h k f = k
+later-append R (x ∷ xs) ys h k f =
+    (λ y i. elim (in-append xs ys y i) [ inl j ↦ h.0 y j | inr j ↦ f x y (inl refl) j ], later-append R xs ys h.1 k (λ z y i j. f z y (inr i) j))
+
+-- of two entries with one point the earlier has the lower tag
+abbrev InOrder : ℕ × Edit → ℕ × Edit → Type 0
+InOrder x y = point_of x.1 ≡ point_of y.1 → x.0 < y.0
+
+later-entries : (n : ℕ) (s : List ℕ) (lines : List (ℕ × Edit)) → EachLater InOrder lines → EachLater (λ (d e : Entry). point_of d.edit ≡ point_of e.edit → d.tag < e.tag) (entries_from n s lines)
+later-entries n s [] h = tt
+later-entries n s (line ∷ lines) h = (first (n + 1) (after s line.1) lines h.0, later-entries (n + 1) (after s line.1) lines h.1)
+  where
+    first : (n : ℕ) (s : List ℕ) (ls : List (ℕ × Edit)) → ((y : ℕ × Edit) → IsIn y ls → InOrder line y) → (e : Entry) → IsIn e (entries_from n s ls) → point_of line.1 ≡ point_of e.edit → line.0 < e.tag
+    first n s [] f e i q = absurd i
+    first n s (l ∷ ls) f e (inl g) q =
+        let a : point_of line.1 ≡ point_of l.1 = q ∙ sym (ap (λ (e : Entry). point_of e.edit) g) in
+        let b : l.0 ≡ e.tag = ap (λ (e : Entry). e.tag) g in
+        subst (λ (m : ℕ). line.0 < m) b (f l (inl refl) a)
+    first n s (l ∷ ls) f e (inr i) q = first (n + 1) (after s l.1) ls (λ y j. f y (inr j)) e i q
+
+later-pairs : {X : Type 0} (R : X → X → Type 0) (xs : List X) → EachLater R xs → AllPairs R xs
+later-pairs R [] h i j d l m = absurd (omega arith)
+later-pairs R (x ∷ xs) h zero zero d l m = absurd (omega arith)
+later-pairs R (x ∷ xs) h zero (suc j) d l m = h.0 (get_or xs j d) (at-in xs j d (omega arith))
+later-pairs R (x ∷ xs) h (suc i) zero d l m = absurd (omega arith)
+later-pairs R (x ∷ xs) h (suc i) (suc j) d l m = later-pairs R xs h.1 i j d (omega arith) (omega arith)
+
+-- ---- numbered lines
+
+low : {X : Type 0} (n : ℕ) (xs : List X) (line : ℕ × X) → IsIn line (enumerate_from n xs) → n ≤ line.0
+low n [] line i = absurd i
+low {X} n (x ∷ xs) line (inl e) = let f : n ≡ line.0 = ap (λ (p : ℕ × X). p.0) e in omega arith
+low n (x ∷ xs) line (inr i) = omega (arith, low (n + 1) xs line i)
+
+numbered-later : (n : ℕ) (xs : List Edit) → EachLater InOrder (enumerate_from n xs)
+numbered-later n [] = tt
+numbered-later n (x ∷ xs) = (λ y i q. omega (arith, low (n + 1) xs y i), numbered-later (n + 1) xs)
+
+-- the point of a line among the first, which add
+line-at : (n : ℕ) (points : List ℕ) (edits : List Edit) (line : ℕ × Edit) → IsIn line (enumerate_from n (map Add points ++ edits)) → line.0 < n + length points → point_of line.1 ≡ slice_index points (line.0 - n)
+line-at n [] edits line i h = absurd (omega (arith, low n edits line i))
+line-at n (p ∷ points) edits line (inl e) h =
+    let f : n ≡ line.0 = ap (λ (l : ℕ × Edit). l.0) e in
+    let z : line.0 - n ≡ 0 = omega arith in
+    sym (ap (λ (l : ℕ × Edit). point_of l.1) e) ∙ ap (slice_index (p ∷ points)) (sym z)
+line-at n (p ∷ points) edits line (inr i) h =
+    let l : n + 1 ≤ line.0 = low (n + 1) (map Add points ++ edits) line i in
+    let z : suc (line.0 - (n + 1)) ≡ line.0 - n = omega arith in
+    line-at (n + 1) points edits line i (omega arith) ∙ ap (slice_index (p ∷ points)) z
+
+-- ---- the lines whose places are in an ascending list
+
+filter-same : {X : Type 0} (t u : X → Bool) (xs : List X) → ((y : X) → IsIn y xs → t y ≡ u y) → filter t xs ≡ filter u xs
+filter-same t u [] f = refl
+filter-same {X} t u (x ∷ xs) f = rw (f x (inl refl), filter-same t u xs (λ y i. f y (inr i))) refl
+
+filter-none : {X : Type 0} (t : X → Bool) (xs : List X) → ((y : X) → IsIn y xs → t y ≡ false) → filter t xs ≡ []
+filter-none t [] f = refl
+filter-none t (x ∷ xs) f = rw (f x (inl refl)) (filter-none t xs (λ y i. f y (inr i)))
+
+not-among : (p n : ℕ) (ps : List ℕ) → ((q : ℕ) → IsIn q (p ∷ ps) → n < q) → is_among n (p ∷ ps) ≡ false
+not-among p n ps f = by (is_among n (p ∷ ps)) refl
+  where
+    by : (b : Bool) → is_among n (p ∷ ps) ≡ b → b ≡ false
+    by true e = absurd (let l = f n (among-in (p ∷ ps) n e) in omega arith)
+    by false e = refl
+
+among-later : (p n : ℕ) (ps : List ℕ) → p < n → is_among n (p ∷ ps) ≡ is_among n ps
+among-later p n ps h = let e : (p == n) ≡ false = grind (arith, nat_tests) in rw e refl
+
+picked : (ps : List ℕ) (n : ℕ) (xs : List Edit) → IsAscending ps → ((p : ℕ) → IsIn p ps → (n ≤ p) × (p < n + length xs)) → map tag_of (filter (λ line. is_among line.0 ps) (enumerate_from n xs)) ≡ ps
+picked [] n xs a f = ap (map tag_of) (filter-none (λ line. is_among line.0 []) (enumerate_from n xs) (λ y i. refl))
+picked (p ∷ ps) n [] a f = let b = f p (inl refl) in absurd (omega (arith, b.0, b.1))
+picked (p ∷ ps) n (x ∷ xs) a f =
+    elim (side n p (f p (inl refl)).0) [
+      | inl e ↦ here e (picked ps (n + 1) xs a.1 (λ q i. let b = f q (inr i) in let l : p < q = below-each p ps a.0 a.1 q i in (omega arith, omega (arith, b.1))))
+      | inr l ↦ there l (picked (p ∷ ps) (n + 1) xs a (λ q i. let b = f q i in (above l q i, omega (arith, b.1))))
+    ]
+  where
+    side : (n p : ℕ) → n ≤ p → (n ≡ p) ⊎ (n < p)
+    side n p h = grind arith
+
+    above : n < p → (q : ℕ) → IsIn q (p ∷ ps) → n + 1 ≤ q
+    above l q (inl e) = omega arith
+    above l q (inr i) = let b : p < q = below-each p ps a.0 a.1 q i in omega arith
+
+    here : n ≡ p → map tag_of (filter (λ line. is_among line.0 ps) (enumerate_from (n + 1) xs)) ≡ ps → map tag_of (filter (λ line. is_among line.0 (p ∷ ps)) (enumerate_from n (x ∷ xs))) ≡ p ∷ ps
+    here e r =
+        let g : is_among n (p ∷ ps) ≡ true = in-among (p ∷ ps) n (inl (sym e)) in
+        let same = filter-same (λ line. is_among line.0 (p ∷ ps)) (λ line. is_among line.0 ps) (enumerate_from (n + 1) xs) (λ y i. let l = low (n + 1) xs y i in among-later p y.0 ps (omega arith)) in
+        rw g (ap (λ (t : List (ℕ × Edit)). n ∷ map tag_of t) same ∙ ap (λ (t : List ℕ). n ∷ t) r ∙ ap (λ (m : ℕ). m ∷ ps) e)
+
+    there : n < p → map tag_of (filter (λ line. is_among line.0 (p ∷ ps)) (enumerate_from (n + 1) xs)) ≡ p ∷ ps → map tag_of (filter (λ line. is_among line.0 (p ∷ ps)) (enumerate_from n (x ∷ xs))) ≡ p ∷ ps
+    there l r = rw (not-among p n ps (λ q i. let b = above l q i in omega arith)) r
+
+-- ---- the file
+
+module _ (points : List ℕ) (edits : List Edit) (four : Four) (w : AreIndependent points four) where
+  abbrev all : List (ℕ × Edit)
+  all = tagged_lines points edits
+
+  abbrev opens : ℕ × Edit → Bool
+  opens line = is_opening four line.0
+
+  -- a place of the four is the first of its point, and among those of the point lines
+  first-place : (p : ℕ) → IsIn p (places four) → IsFirstPlace points p × (p < length points)
+  first-place p (inl e) = (subst (IsFirstPlace points) e w.first_places.0, omega (arith, w.ascending.0, w.ascending.1, w.ascending.2, w.within, e))
+  first-place p (inr (inl e)) = (subst (IsFirstPlace points) e w.first_places.1, omega (arith, w.ascending.1, w.ascending.2, w.within, e))
+  first-place p (inr (inr (inl e))) = (subst (IsFirstPlace points) e w.first_places.2, omega (arith, w.ascending.2, w.within, e))
+  first-place p (inr (inr (inr (inl e)))) = (subst (IsFirstPlace points) e w.first_places.3, omega (arith, w.within, e))
+  first-place p (inr (inr (inr (inr i)))) = absurd i
+
+  places-ascending : IsAscending (places four)
+  places-ascending = (w.ascending.0, (w.ascending.1, (w.ascending.2, (tt, tt))))
+
+  in-range : (p : ℕ) → IsIn p (places four) → (0 ≤ p) × (p < 0 + length (map Add points ++ edits))
+  in-range p i = let f = first-place p i in (omega arith, omega (arith, f.1, length-append (map Add points) edits, length-map points Add))
+
+  opening-tags : map tag_of (filter opens all) ≡ places four
+  opening-tags = picked (places four) 0 (map Add points ++ edits) places-ascending in-range
+
+  -- a line of the four and another line of the same point
+  crossing : (x y : ℕ × Edit) → IsIn x (filter opens all) → IsIn y (filter (λ line. not (opens line)) all) → InOrder x y
+  crossing x y i j q = sides (x.0) (y.0) refl refl
+    where
+      passes : {X : Type 0} (t : X → Bool) (xs : List X) (z : X) → IsIn z (filter t xs) → t z ≡ true
+      passes t [] z i = absurd i
+      passes {X} t (v ∷ xs) z i = by (t v) refl i (passes t xs z)
+        where
+          by : (b : Bool) → t v ≡ b → IsIn z (cond b (v ∷ filter t xs) (filter t xs)) → (IsIn z (filter t xs) → t z ≡ true) → t z ≡ true
+          by true e (inl f) r = sym (ap t f) ∙ e
+          by true e (inr k) r = r k
+          by false e k r = r k
+
+      chosen : IsIn x.0 (places four)
+      chosen = among-in (places four) x.0 (passes opens all x i)
+
+      other : is_among y.0 (places four) ≡ false
+      other = flip (is_among y.0 (places four)) (passes (λ line. not (opens line)) all y j)
+        where
+          flip : (b : Bool) → not b ≡ true → b ≡ false
+          flip true e = cc
+          flip false e = refl
+
+      earlier : y.0 < x.0 → ⊥
+      earlier l =
+          let f = first-place x.0 chosen in
+          let a = line-at 0 points edits x (in-filtered opens all x i) (omega (arith, f.1)) in
+          let b = line-at 0 points edits y (in-filtered (λ line. not (opens line)) all y j) (omega (arith, f.1, l)) in
+          let za : x.0 - 0 ≡ x.0 = omega arith in
+          let zb : y.0 - 0 ≡ y.0 = omega arith in
+          f.0 y.0 l (sym (b ∙ ap (slice_index points) zb) ∙ sym q ∙ a ∙ ap (slice_index points) za)
+
+      same : x.0 ≡ y.0 → ⊥
+      same e = let g : is_among y.0 (places four) ≡ true = in-among (places four) y.0 (subst (λ (m : ℕ). IsIn m (places four)) e chosen) in let h = other in cc
+
+      sides : (m n : ℕ) → x.0 ≡ m → y.0 ≡ n → x.0 < y.0
+      sides m n e f = elim (compared x.0 y.0) [ inl l ↦ l | inr o ↦ elim o [ inl g ↦ absurd (same g) | inr g ↦ absurd (earlier g) ] ]
+        where
+          compared : (m n : ℕ) → (m < n) ⊎ (m ≡ n) ⊎ (n < m)
+          compared m n = grind arith
+
+  abbrev history : List Entry
+  history = entries_from 0 [] (filter opens all ++ filter (λ line. not (opens line)) all)
+
+  first-four : map (λ (e : Entry). e.tag) (take 4 history) ≡ places four
+  first-four =
+      let tags = entry-tags 0 [] (filter opens all ++ filter (λ line. not (opens line)) all) in
+      let count : length (filter opens all) ≡ 4 = sym (length-map (filter opens all) tag_of) ∙ ap length opening-tags in
+      sym (take-map (λ (e : Entry). e.tag) 4 history)
+      ∙ ap (take 4) tags
+      ∙ take-map tag_of 4 (filter opens all ++ filter (λ line. not (opens line)) all)
+      ∙ ap (map tag_of) (take-append-le 4 (filter opens all) (filter (λ line. not (opens line)) all) (omega arith) ∙ take_all 4 (filter opens all) (omega arith))
+      ∙ opening-tags
+
+  pub keeps : opening_four points ≡ Some four → Keeps points edits 1 history
+  keeps found =
+      record {
+        opening = subst (λ (o : Option Four). IfSome o (λ f. map (λ (e : Entry). e.tag) (take 4 history) ≡ places f)) (sym found) first-four;
+        lines = subst (IsPermutation all) (sym (entry-lines 0 [] (filter opens all ++ filter (λ line. not (opens line)) all))) (IsPermutation-filter_both opens (λ line. not (opens line)) (λ x. refl) all);
+        order = later-pairs (λ (d e : Entry). point_of d.edit ≡ point_of e.edit → d.tag < e.tag) history (later-entries 0 [] (filter opens all ++ filter (λ line. not (opens line)) all) (later-append InOrder (filter opens all) (filter (λ line. not (opens line)) all) (later-filter InOrder opens all (numbered-later 0 (map Add points ++ edits))) (later-filter InOrder (λ line. not (opens line)) all (numbered-later 0 (map Add points ++ edits))) crossing));
+        workers = λ k d h. entry-by 0 [] (filter opens all ++ filter (λ line. not (opens line)) all) (get_or history k d) (at-in history k d h);
+      }
+
+pub keeps_law : KeepsLaw
+keeps_law points edits = by (opening_four points) refl (four_law points)
+  where
+    by : (o : Option Four) → opening_four points ≡ o → IfSome o (AreIndependent points) → IfSome o (λ _. Keeps points edits 1 (entries_from 0 [] (lines_in_order o (tagged_lines points edits))))
+    by None e h = tt
+    by (Some four) e h = keeps points edits four h e
