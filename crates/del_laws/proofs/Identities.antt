@@ -1,6 +1,6 @@
 -- The identities of `conv_laws` at the places of points: how orientations and lifted determinants change with their order,
 -- and the relations among them. No other file of the crate unfolds a coordinate, but for Planes.
-use Rattle.std.specs.Prelude.{ℕ, ℤ, ◌+ℤ◌, ◌-ℤ◌, ◌*ℤ◌, ◌≡◌, neg_ℤ, pos}
+use Rattle.std.specs.Prelude.{ℕ, ◌+ℤ◌, ◌-ℤ◌, ◌*ℤ◌, ◌≡◌, neg_ℤ, pos}
 use Rattle.conv_laws.specs.Places.{Place, orient, Lifted, lifted as lifted_determinant}
 use Rattle.conv_laws.proofs.Alternation as places
 use Rattle.conv_laws.proofs.Affine as relations

@@ -1,1 +1,9 @@
+pub mod Across
+pub mod Decide
+pub mod Facets
 pub mod Identities
+pub mod Lists
+pub mod Numbers
+pub mod Orders
+pub mod Pairs
+pub mod Sides

@@ -1,6 +1,6 @@
 -- Cells of a set of points as predicates of four vertices, for any heights, and the two facts on heights that the laws use.
 -- The definitions here are the weak form: no "other than", and at least 0 for above 0. Where there are no ties it says the same.
-use Rattle.std.specs.Prelude.{ℕ, ℤ, pos, ◌≡◌, ◌≤ℤ◌, ◌<ℤ◌, List, [], ◌∷◌, ◌⊎◌}
+use Rattle.std.specs.Prelude.{ℕ, pos, ◌≡◌, ◌≤ℤ◌, ◌<ℤ◌, List, [], ◌∷◌, ◌⊎◌}
 use Rattle.point_order.specs.Orientation.{orientation}
 use Rattle.point_order.specs.Heights.{lifted}
 use Rattle.point_order.specs.Sets.{IsIn}
@@ -36,17 +36,17 @@ pub record IsSolid (s : List ℕ) : Type 0 where
 -- No ties: among the points of s, a fifth point does not lie on the sphere through four independent ones, unless it is one of them.
 pub record NoTies (h : ℕ → ℕ) (s : List ℕ) : Type 0 where
   pub one_of :
-    (a b c d e : ℕ) → IsIn a s → IsIn b s → IsIn c s → IsIn d s → IsIn e s →
-    ¬ (orientation a b c d ≡ pos 0) → lifted h a b c d e ≡ pos 0 → OneOf e a b c d
+      (a b c d e : ℕ) → IsIn a s → IsIn b s → IsIn c s → IsIn d s → IsIn e s →
+      ¬ (orientation a b c d ≡ pos 0) → lifted h a b c d e ≡ pos 0 → OneOf e a b c d
 
 -- Convex: among the points of s, a point in the tetrahedron of four others is inside their sphere.
 -- So if no weight of e is negative, and e is not inside, it is one of the four.
 pub record IsConvex (h : ℕ → ℕ) (s : List ℕ) : Type 0 where
   pub one_of :
-    (a b c d e : ℕ) → IsIn a s → IsIn b s → IsIn c s → IsIn d s → IsIn e s →
-    pos 0 <ℤ orientation a b c d →
-    pos 0 ≤ℤ orientation b d c e → pos 0 ≤ℤ orientation a c d e → pos 0 ≤ℤ orientation a d b e → pos 0 ≤ℤ orientation a b c e →
-    pos 0 ≤ℤ lifted h a b c d e → OneOf e a b c d
+      (a b c d e : ℕ) → IsIn a s → IsIn b s → IsIn c s → IsIn d s → IsIn e s →
+      pos 0 <ℤ orientation a b c d →
+      pos 0 ≤ℤ orientation b d c e → pos 0 ≤ℤ orientation a c d e → pos 0 ≤ℤ orientation a d b e → pos 0 ≤ℤ orientation a b c e →
+      pos 0 ≤ℤ lifted h a b c d e → OneOf e a b c d
 
 -- ---- cells
 
