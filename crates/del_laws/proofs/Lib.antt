@@ -1,9 +1,13 @@
 pub mod Across
+pub mod Conflict
 pub mod Decide
+pub mod Existence
 pub mod Facets
 pub mod Identities
 pub mod Lists
 pub mod Numbers
 pub mod Orders
 pub mod Pairs
+pub mod Regions
 pub mod Sides
+pub mod Walks

@@ -92,3 +92,14 @@ Held h s _ _ _ _ = ⊥
 -- four vertices are a cell of the complex of s
 pub record Cell (h : ℕ → ℕ) (s : List ℕ) (w x y z : Vertex) : Type 0 where
   pub held : Held h s w x y z
+
+-- s has a Full cell
+pub record HasFull (h : ℕ → ℕ) (s : List ℕ) : Type 0 where
+  pub f : Four
+  pub full : Full h s f.a f.b f.c f.d
+
+-- s has a Full cell with the vertex e
+pub record HasFullAt (h : ℕ → ℕ) (s : List ℕ) (e : ℕ) : Type 0 where
+  pub f : Four
+  pub full : Full h s f.a f.b f.c f.d
+  pub has : OneOf e f.a f.b f.c f.d
