@@ -8,6 +8,8 @@ pub mod Lists
 pub mod Numbers
 pub mod Orders
 pub mod Pairs
+pub mod Parts
 pub mod Regions
 pub mod Sides
+pub mod Stars
 pub mod Walks

@@ -103,3 +103,17 @@ pub record HasFullAt (h : ℕ → ℕ) (s : List ℕ) (e : ℕ) : Type 0 where
   pub f : Four
   pub full : Full h s f.a f.b f.c f.d
   pub has : OneOf e f.a f.b f.c f.d
+
+-- ---- statements of four vertices
+
+-- a statement of four vertices that does not depend on their order
+pub record IsSymmetric (r : Vertex → Vertex → Vertex → Vertex → Type 0) : Type 0 where
+  pub swap12 : (w x y z : Vertex) → r w x y z → r x w y z
+  pub swap23 : (w x y z : Vertex) → r w x y z → r w y x z
+  pub swap34 : (w x y z : Vertex) → r w x y z → r w x z y
+
+-- a set of cells of the complex of s
+pub record IsRegion (h : ℕ → ℕ) (s : List ℕ) (r : Vertex → Vertex → Vertex → Vertex → Type 0) : Type 0 where
+  pub decide : (w x y z : Vertex) → Dec (r w x y z)
+  pub even : IsSymmetric r
+  pub held : (w x y z : Vertex) → r w x y z → Held h s w x y z
