@@ -9,7 +9,10 @@ pub mod Numbers
 pub mod Orders
 pub mod Pairs
 pub mod Parts
+pub mod Planes
 pub mod Regions
 pub mod Sides
+pub mod Smaller
 pub mod Stars
+pub mod Strict
 pub mod Walks

@@ -117,3 +117,8 @@ pub record IsRegion (h : ℕ → ℕ) (s : List ℕ) (r : Vertex → Vertex → 
   pub decide : (w x y z : Vertex) → Dec (r w x y z)
   pub even : IsSymmetric r
   pub held : (w x y z : Vertex) → r w x y z → Held h s w x y z
+
+-- a vertex that a cell of t can have: the infinite one, or a point of t
+abbrev pub Inside : List ℕ → Vertex → Type 0
+Inside t (point a) = IsIn a t
+Inside t far = Unit {0}
