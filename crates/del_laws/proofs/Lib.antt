@@ -5,6 +5,7 @@ pub mod Existence
 pub mod Facets
 pub mod Identities
 pub mod Lists
+pub mod Nearness
 pub mod Numbers
 pub mod Orders
 pub mod Pairs
