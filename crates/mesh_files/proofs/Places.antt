@@ -5,8 +5,8 @@ use Rattle.std.specs.List.{prefix_len, AllWithin}
 use Rattle.std.specs.List.Sorted.{IsPartitionedBy}
 use Rattle.std.proofs.lemmas.Bool.{cases_lt}
 use Rattle.std.proofs.lemmas.Bool.Decides.{nat_tests}
-use Rattle.point_order.specs.Sets.{IsAscending, IsBelowFirst, IsIn}
-use Rattle.point_order.proofs.SetLaws.{below-each}
+use Rattle.point_order.specs.Sets.{IsAscending}
+use Rattle.point_order.proofs.SetLaws.{rises}
 
 -- where the first i pass and the others fail, the front that passes is i long
 pub prefix-is : {X : Type 0} (p : X → Bool) (xs : List X) (i : ℕ) → i ≤ length xs → AllWithin (λ y. p y ≡ true) xs 0 i → AllWithin (λ y. p y ≡ false) xs i (length xs) → prefix_len p xs ≡ i
@@ -19,20 +19,6 @@ prefix-is p (x ∷ xs) (suc i) h t f =
     let r : prefix_len p xs ≡ i =
     prefix-is p xs i (omega (arith, h)) (λ k d l m. t (suc k) d (omega arith) (omega (arith, m))) (λ k d l m. f (suc k) d (omega (arith, l)) (omega (arith, m))) in
     rw e (omega (arith, r))
-
--- an element at a place is a member
-in-place : (s : List ℕ) (i d : ℕ) → i < length s → IsIn (get_or s i d) s
-in-place [] i d h = absurd (omega (arith, h))
-in-place (x ∷ s) zero d h = inl refl
-in-place (x ∷ s) (suc i) d h = inr (in-place s i d (omega (arith, h)))
-
--- an ascending list rises from place to place
-pub rises : (s : List ℕ) (i j d : ℕ) → IsAscending s → i < j → j < length s → get_or s i d < get_or s j d
-rises [] i j d h l m = absurd (omega (arith, m))
-rises (x ∷ s) zero zero d h l m = absurd (omega (arith, l))
-rises (x ∷ s) zero (suc j) d h l m = below-each x s h.0 h.1 (get_or s j d) (in-place s j d (omega (arith, m)))
-rises (x ∷ s) (suc i) zero d h l m = absurd (omega (arith, l))
-rises (x ∷ s) (suc i) (suc j) d h l m = rises s i j d h.1 (omega (arith, l)) (omega (arith, m))
 
 -- the points below p are at the front
 pub below-front : (s : List ℕ) (p : ℕ) → IsAscending s → IsPartitionedBy (λ q. nat_lt q p) s

@@ -1,5 +1,5 @@
 -- Ascending lists as sets.
-use Rattle.std.proofs.Common.{◌≡◌, refl, sym, subst, ℕ, ◌<◌, List, [], ◌∷◌, ◌⊎◌, inl, inr, Bool, true, false, arith}
+use Rattle.std.proofs.Common.{◌≡◌, refl, sym, subst, ℕ, zero, suc, ◌<◌, List, [], ◌∷◌, ◌⊎◌, inl, inr, Bool, true, false, length, get_or, arith}
 use Rattle.std.specs.Prelude.{nat_lt, ◌==◌}
 use Rattle.std.proofs.lemmas.Bool.Decides.{nat_tests}
 use Rattle.point_order.specs.Sets.{IsIn, IsBelowFirst, IsAscending, with_point, ascending}
@@ -118,3 +118,19 @@ ascending-is xs ps h f g =
 
 pub ascending-self : (s : List ℕ) → IsAscending s → ascending s ≡ s
 ascending-self s h = sym (ascending-is s s h (λ p i. i) (λ p i. i))
+
+-- ---- places
+
+-- an element at a place is a member
+pub in-place : (s : List ℕ) (i d : ℕ) → i < length s → IsIn (get_or s i d) s
+in-place [] i d h = absurd (omega (arith, h))
+in-place (x ∷ s) zero d h = inl refl
+in-place (x ∷ s) (suc i) d h = inr (in-place s i d (omega (arith, h)))
+
+-- an ascending list rises from place to place
+pub rises : (s : List ℕ) (i j d : ℕ) → IsAscending s → i < j → j < length s → get_or s i d < get_or s j d
+rises [] i j d h l m = absurd (omega (arith, m))
+rises (x ∷ s) zero zero d h l m = absurd (omega (arith, l))
+rises (x ∷ s) zero (suc j) d h l m = below-each x s h.0 h.1 (get_or s j d) (in-place s j d (omega (arith, m)))
+rises (x ∷ s) (suc i) zero d h l m = absurd (omega (arith, l))
+rises (x ∷ s) (suc i) (suc j) d h l m = rises s i j d h.1 (omega (arith, l)) (omega (arith, m))
