@@ -1,4 +1,5 @@
 pub mod Across
+pub mod Bools
 pub mod Conflict
 pub mod Decide
 pub mod Existence
@@ -17,4 +18,5 @@ pub mod Sides
 pub mod Smaller
 pub mod Stars
 pub mod Strict
+pub mod Tests
 pub mod Walks

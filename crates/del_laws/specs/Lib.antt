@@ -1,4 +1,5 @@
 pub mod Cells
 pub mod Keys
+pub mod Vertices
 pub mod Walks
 pub mod Laws
