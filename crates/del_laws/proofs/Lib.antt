@@ -13,6 +13,7 @@ pub mod Pairs
 pub mod Parts
 pub mod Perturbed
 pub mod Planes
+pub mod PointSets
 pub mod Regions
 pub mod Sides
 pub mod Smaller

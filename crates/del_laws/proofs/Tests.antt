@@ -202,7 +202,7 @@ searched {X} p (x ∷ s) = by_test (p x) refl (searched p s)
     ]
 
 -- the first member is kept, or not
-filter_is : {X : Type 0} (p : X → Bool) (x : X) (s : List X) → ((p x ≡ true) × (filter p (x ∷ s) ≡ x ∷ filter p s)) ⊎ ((p x ≡ false) × (filter p (x ∷ s) ≡ filter p s))
+pub filter_is : {X : Type 0} (p : X → Bool) (x : X) (s : List X) → ((p x ≡ true) × (filter p (x ∷ s) ≡ x ∷ filter p s)) ⊎ ((p x ≡ false) × (filter p (x ∷ s) ≡ filter p s))
 filter_is {X} p x s = by_test (p x) refl
   where
     -- either way
