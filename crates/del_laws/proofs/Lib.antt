@@ -1,4 +1,5 @@
 pub mod Across
+pub mod Based
 pub mod Bools
 pub mod Conflict
 pub mod Decide
@@ -17,6 +18,7 @@ pub mod PointSets
 pub mod Regions
 pub mod Sides
 pub mod Smaller
+pub mod Starred
 pub mod Stars
 pub mod Strict
 pub mod Tests
