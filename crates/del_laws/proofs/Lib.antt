@@ -22,6 +22,7 @@ pub mod PointSets
 pub mod Regions
 pub mod Sides
 pub mod Smaller
+pub mod Sorting
 pub mod Starred
 pub mod Stars
 pub mod Strict
