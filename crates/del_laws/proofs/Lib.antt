@@ -11,6 +11,7 @@ pub mod Laws
 pub mod Listed
 pub mod Lists
 pub mod Nearness
+pub mod Neighbours
 pub mod Numbers
 pub mod Ordered
 pub mod Orders
