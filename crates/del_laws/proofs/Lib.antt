@@ -9,6 +9,7 @@ pub mod Facets
 pub mod Identities
 pub mod Laws
 pub mod Listed
+pub mod ListedParts
 pub mod Lists
 pub mod Nearness
 pub mod Neighbours

@@ -2,6 +2,7 @@ pub mod Cells
 pub mod Keys
 pub mod Laws
 pub mod Listed
+pub mod ListedParts
 pub mod Parts
 pub mod Vertices
 pub mod PointSets
