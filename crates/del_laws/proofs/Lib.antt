@@ -21,6 +21,7 @@ pub mod Parts
 pub mod Perturbed
 pub mod Planes
 pub mod PointSets
+pub mod Recognised
 pub mod Regions
 pub mod Sides
 pub mod Smaller

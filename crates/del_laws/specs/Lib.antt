@@ -1,5 +1,6 @@
 pub mod Cells
 pub mod Keys
+pub mod Kept
 pub mod Laws
 pub mod Listed
 pub mod ListedParts
