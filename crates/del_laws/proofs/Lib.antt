@@ -7,6 +7,7 @@ pub mod Decide
 pub mod Existence
 pub mod Facets
 pub mod Identities
+pub mod Kept
 pub mod Laws
 pub mod Listed
 pub mod ListedParts
