@@ -30,7 +30,7 @@ use Rattle.del_laws.proofs.Bools.{cell_true, cell_from, outside_above, outside_b
 -- ---- the set with the point
 
 -- its numbers are keys
-with_keys : (s : List ℕ) (p : ℕ) → AreKeys s → IsKey p → AreKeys (with_point p s)
+pub with_keys : (s : List ℕ) (p : ℕ) → AreKeys s → IsKey p → AreKeys (with_point p s)
 with_keys s p k j = record { below = λ q m. elim (in-with p q s m) [ inl e ↦ subst IsKey e j | inr r ↦ k.below q r ] }
 
 -- it has the points of the list with p in front

@@ -12,6 +12,7 @@ ghost use Rattle.del_laws.specs.Laws.{SwapFirst, SwapMiddle, SwapLast, FacetLaw,
 ghost use Rattle.del_laws.specs.Walks.{CloserAcross, FartherAcross, AwayFromAPoint, SolidHasCells, EveryPoint, SomeFacetBehind, CrossingTowards, FewerAreNearer};
 ghost use Rattle.del_laws.specs.Parts.{StarLaw, ClosedPart, CellsAtAVertex, EmptyCells};
 ghost use Rattle.del_laws.specs.Kept.{FullIsKept, OpenIsKept};
+ghost use Rattle.del_laws.specs.Nearness.{NearerAcross, NearerInside, SomeTripleTowards};
 ghost use Rattle.del_laws.specs.Listed.{ListedIsCell, CellIsListed, TestIsListed, ComplexIsSorted, SameMembers, ListedFacets};
 ghost use Rattle.del_laws.specs.ListedParts.{ListedStar, ListedPart, ListedAtAPoint, ListedEveryPoint, ListedMate, ClosedListIsComplex, ComplexIsClosedList};
 ghost use Rattle.del_laws.specs.PointSets.{PointSet, has, solid, cell, vertices, plus, minus};
@@ -169,4 +170,12 @@ pub fn closed_lists()
 pub fn kept_cells()
     ensures full { FullIsKept }
     ensures open { OpenIsKept }
+{}
+
+/// The steps of a walk towards a point that is not in the set, over cells of the complex: each leads to a nearer cell, and a Full
+/// cell that the point is outside of has a triple to cross. `fewer_are_nearer` says that such a walk ends.
+pub fn steps_of_a_walk()
+    ensures across { NearerAcross }
+    ensures inside { NearerInside }
+    ensures towards { SomeTripleTowards }
 {}
