@@ -1,5 +1,6 @@
 -- Laws of counts of faults and of text that arrived in part, for loops over sources and sinks.
 use Rattle.std.proofs.Common.{◌≡◌, ℕ, ◌+◌, ◌-◌, ◌≤◌, List, [], ◌++◌, length, arith, ap, refl, sym, ◌∙◌, append_assoc, append-nil, length-append}
+use Rattle.std.proofs.Common.{None, Some}
 use Rattle.std.specs.declared.option.Option.{Option}
 use Rattle.std.specs.Io.KnownBytes.{Appends, Keeps}
 use Rattle.std.proofs.KnownBytes.{Appends-trans, Appends-nil, Appends-kept, Consumes-trans, Consumes-kept, Consumes-nil}
@@ -14,6 +15,13 @@ Rose-later before now after rose later = omega arith
 -- a count that rose had risen since any earlier moment
 pub Rose-since : (start before now : ℕ) → start ≤ before → Rose before now → Rose start now
 Rose-since start before now earlier rose = omega arith
+
+-- nothing was written before these bytes
+pub Appends-from : (a b c : Option (List ℕ)) (bs : List ℕ) → Keeps a b → Appends b c bs → Appends a c bs
+Appends-from None b c bs kept more = tt
+Appends-from (Some x) None c bs kept more = absurd kept
+Appends-from (Some x) (Some y) None bs kept more = absurd more
+Appends-from (Some x) (Some y) (Some z) bs kept more = more ∙ ap (λ l. l ++ bs) kept
 
 -- the whole text is a front of it
 pub AppendsFront-whole : (a b : Option (List ℕ)) (text : List ℕ) → Appends a b text → AppendsFront a b text
@@ -74,3 +82,12 @@ written_more a b c text rest count before part =
     let whole : text ≡ (before.0 ++ take count rest) ++ take (length rest - count) (drop count rest) =
     before.1 ∙ ap (λ l. before.0 ++ l) split ∙ sym (append_assoc before.0 (take count rest) (take (length rest - count) (drop count rest))) in
     (before.0 ++ take count rest, whole, Appends-trans a b c before.0 (take count rest) before.2 part)
+
+-- nothing was written before a front arrived
+pub AppendsFront-from : (a b c : Option (List ℕ)) (text : List ℕ) → Keeps a b → AppendsFront b c text → AppendsFront a c text
+AppendsFront-from a b c text kept f = record {
+  front = f.front;
+  rest = f.rest;
+  parts = f.parts;
+  appended = Appends-from a b c f.front kept f.appended;
+}

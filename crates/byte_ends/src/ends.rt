@@ -14,7 +14,7 @@ pub trait Source {
     /// The bytes that are left, or `None` where the source does not tell them.
     ghost left: { Self → Option (List ℕ) };
 
-    /// How often the source failed. The count never falls, and stands still at its last value, 2^64 - 1.
+    /// How often the source failed. The count never falls, and stands still at 2^64 - 1.
     ghost faults: { Self → ℕ };
 
     /// Takes bytes that are left, puts them at the buffer's front and returns how many they are.
@@ -34,10 +34,11 @@ pub trait Sink {
     /// The bytes that the sink holds, or `None` where it does not tell them.
     ghost holds: { Self → Option (List ℕ) };
 
-    /// How often the sink failed. The count never falls, and stands still at its last value, 2^64 - 1.
+    /// How often the sink failed. The count never falls, and stands still at 2^64 - 1.
     ghost faults: { Self → ℕ };
 
-    /// Takes bytes from the front of the piece and returns how many they are, at least one of a nonempty piece.
+    /// Takes bytes from the front of the piece and returns how many they are.
+    /// Of a nonempty piece it takes at least one.
     ///
     /// # Errors
     ///

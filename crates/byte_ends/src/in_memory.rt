@@ -78,8 +78,8 @@ impl<'a> Model for MemSource<'a> {
 }
 
 impl<'a> MemSource<'a> {
-    /// A source that has these bytes left. It gives at most `step` of them a call, and fails the calls
-    /// whose numbers, counted from 1, are in `fails`.
+    /// A source that has these bytes left. It gives at most `step` of them a call, at least 1, and fails
+    /// the calls whose numbers, counted from 1, are in `fails`.
     pub fn new(bytes: &'a [u8], step: usize, fails: &'a [u64]) -> Self
         requires { 0 < step }
         ensures bytes { result.left ≡ bytes.now }
@@ -108,8 +108,10 @@ impl Source for MemSource<'_> {
         ensures fails { IsErr result ↔ NextFails self.old.calls }
         ensures count { IfOk result (λ count. count ≡ given_count self.old (length buf.old)) }
         ensures given { IfOk result (λ count. self.new ≡ after_read self.old count) }
-        ensures copied { IfOk result (λ count. buf.new ≡ take count self.old.left ++ drop count buf.old) }
-        ensures fault { OnErr result (self.new ≡ record self.old { calls = after_fault self.old.calls }) }
+        ensures copied { IfOk result
+            (λ count. buf.new ≡ take count self.old.left ++ drop count buf.old) }
+        ensures fault { OnErr result
+            (self.new ≡ record self.old { calls = after_fault self.old.calls }) }
         ensures untouched { OnErr result (buf.new ≡ buf.old) }
     {
         if self.calls.next_fails() {
@@ -139,14 +141,16 @@ impl<'a> Model for MemSink<'a> {
 
     ghost Value = { SinkState };
 
-    ghost view = { λ s. record { bytes = s.bytes.items; room = s.room; step = s.step; calls = s.calls } };
+    ghost view = { λ s.
+        record { bytes = s.bytes.items; room = s.room; step = s.step; calls = s.calls } };
 
-    ghost invariant = { λ s. (0 < s.step) × (vec_len s.bytes ≤ s.room) × (s.room ≤ vec_capacity s.bytes) };
+    ghost invariant = { λ s.
+        (0 < s.step) × (vec_len s.bytes ≤ s.room) × (s.room ≤ vec_capacity s.bytes) };
 }
 
 impl<'a> MemSink<'a> {
     /// An empty sink that takes the memory for `room` bytes now, and none later. It takes at most `step`
-    /// bytes a call, and fails the calls whose numbers, counted from 1, are in `fails`.
+    /// bytes a call, at least 1, and fails the calls whose numbers, counted from 1, are in `fails`.
     ///
     /// # Errors
     ///
@@ -161,7 +165,8 @@ impl<'a> MemSink<'a> {
         ensures bytes { IfOk result (λ sink. sink.bytes ≡ []) }
         ensures room { IfOk result (λ sink. sink.room ≡ room) }
         ensures step { IfOk result (λ sink. sink.step ≡ step) }
-        ensures calls { IfOk result (λ sink. sink.calls ≡ record { fails = fails.now; made = 0; faults = 0 }) }
+        ensures calls { IfOk result
+            (λ sink. sink.calls ≡ record { fails = fails.now; made = 0; faults = 0 }) }
     {
         Ok(MemSink {
             bytes: Vec::with_capacity(alloc, room)?,
@@ -192,10 +197,12 @@ impl Sink for MemSink<'_> {
         ensures cause { HasCause self.old.calls.faults self.new.calls.faults result }
 
         // What exactly it answers, and what it leaves.
-        ensures fails { IsErr result ↔ NextFails self.old.calls ⊎ (self.old.room ≤ length self.old.bytes) }
+        ensures fails { IsErr result
+            ↔ NextFails self.old.calls ⊎ (self.old.room ≤ length self.old.bytes) }
         ensures count { IfOk result (λ count. count ≡ taken_count self.old (length piece.now)) }
         ensures taken { IfOk result (λ count. self.new ≡ after_write self.old piece.now count) }
-        ensures fault { OnErr result (self.new ≡ record self.old { calls = after_fault self.old.calls }) }
+        ensures fault { OnErr result
+            (self.new ≡ record self.old { calls = after_fault self.old.calls }) }
     {
         let left = self.room - self.bytes.len();
         if left == 0 || self.calls.next_fails() {

@@ -1,5 +1,5 @@
 //! The outside of a program as traits: sources and sinks of bytes that count their faults.
-//! There are ends in memory, whose bytes a contract sees, and real ends, which tell nothing of bytes.
+//! The bytes of the ends in memory can be seen by a contract. The real ends tell nothing of bytes.
 #![tactic(auto)]
 
 mod ends;

@@ -62,7 +62,7 @@ pub fn write_all<O: Sink>(out: &mut O, text: &[u8]) -> Result<(), Failed>
     Ok(())
 }
 
-/// Reads to the source's end, or until `limit` bytes were read, and appends what it reads to `bytes`.
+/// Reads to the source's end or until `limit` bytes were read, and appends them to `bytes`.
 /// It asks the source for no byte beyond the limit.
 ///
 /// # Errors
@@ -74,13 +74,15 @@ pub fn read_to_limit<S: Source>(
     limit: usize,
     bytes: &mut Vec<u8>,
 ) -> Result<Reached, ReadError>
-    ensures taken { TakesInto (S.left source.old) (S.left source.new) bytes.old.items bytes.new.items limit }
+    ensures taken { TakesInto (S.left source.old) (S.left source.new)
+        bytes.old.items bytes.new.items limit }
     ensures limit { (result ≡ Ok Reached.Limit) ↔ (vec_len bytes.new ≡ vec_len bytes.old + limit) }
     ensures end { result ≡ Ok Reached.End → IsAtEnd (S.left source.new) }
     ensures whole { result ≡ Ok Reached.End
         → IfSome (S.left source.old) (λ told. bytes.new.items ≡ bytes.old.items ++ told) }
     ensures later { S.faults source.old ≤ S.faults source.new }
-    ensures fault { result ≡ Err ReadError.Fault → Rose (S.faults source.old) (S.faults source.new) }
+    ensures fault { result ≡ Err ReadError.Fault
+        → Rose (S.faults source.old) (S.faults source.new) }
 {
     let mut room = limit;
     while room > 0 {
@@ -100,13 +102,15 @@ fn read_once<S: Source>(
     bytes: &mut Vec<u8>,
 ) -> Result<usize, ReadError>
     requires { 0 < room }
-    ensures taken { TakesInto (S.left source.old) (S.left source.new) bytes.old.items bytes.new.items room }
+    ensures taken { TakesInto (S.left source.old) (S.left source.new)
+        bytes.old.items bytes.new.items room }
     ensures count { IfOk result (λ count. vec_len bytes.new ≡ vec_len bytes.old + count) }
     ensures bound { IfOk result (λ count. count ≤ room) }
     ensures err { OnErr result (vec_len bytes.new ≡ vec_len bytes.old) }
     ensures end { result ≡ Ok 0 → IsAtEnd (S.left source.new) }
     ensures later { S.faults source.old ≤ S.faults source.new }
-    ensures fault { result ≡ Err ReadError.Fault → Rose (S.faults source.old) (S.faults source.new) }
+    ensures fault { result ≡ Err ReadError.Fault
+        → Rose (S.faults source.old) (S.faults source.new) }
 {
     let mut buffer = [0u8; CHUNK];
     let part = room.min(CHUNK);

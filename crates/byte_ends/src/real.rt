@@ -1,13 +1,22 @@
 // Standard input, output and error, and any reader or writer of std, as ends that count their faults.
-ghost use Rattle.std.specs.Prelude.{◌≡◌, ◌<◌, length, None, IfOk};
+ghost use Rattle.std.specs.Prelude.{◌≡◌, ◌<◌, ◌≤◌, length, None, IfOk};
 ghost use Rattle.std.specs.Io.{ReadsAtMost, WritesAtMost};
 ghost use Rattle.std.specs.Io.KnownBytes.{ReadConsumes, WriteAppends};
-ghost use Rattle.byte_ends.specs.Ends.{HasCause};
+ghost use Rattle.byte_ends.specs.Ends.{HasCause, one_more};
 ghost use Rattle.byte_ends.specs.Real.{Counted, count_after};
 
 use crate::ends::{Failed, Sink, Source};
 use std::io::{self, Read, Stderr, Stdin, Stdout, Write};
 use std::marker::Model;
+
+// Counts a fault. The count stands still at its last value.
+fn note_fault(faults: &mut u64) -> Failed
+    ensures counted { faults.new ≡ one_more faults.old }
+    ensures later { faults.old ≤ faults.new }
+{
+    *faults = faults.saturating_add(1);
+    Failed
+}
 
 /// A reader of std with a count of its faults: each error is one, that of an interrupted call too.
 #[derive(Drop)]
@@ -46,10 +55,7 @@ impl<R: Read + Drop> Source for Reading<R> {
     {
         match self.inner.read(buf) {
             Ok(count) => Ok(count),
-            Err(_) => {
-                self.faults = self.faults.saturating_add(1);
-                Err(Failed)
-            }
+            Err(_) => Err(note_fault(&mut self.faults)),
         }
     }
 }
@@ -93,10 +99,7 @@ impl<W: Write + Drop> Sink for Writing<W> {
     {
         match self.inner.write(piece) {
             Ok(count) if count > 0 || piece.is_empty() => Ok(count),
-            _ => {
-                self.faults = self.faults.saturating_add(1);
-                Err(Failed)
-            }
+            _ => Err(note_fault(&mut self.faults)),
         }
     }
 }
