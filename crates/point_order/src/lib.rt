@@ -5,6 +5,7 @@
 #![tactic(auto)]
 
 pub mod cell;
+pub mod laws;
 mod point;
 mod step;
 

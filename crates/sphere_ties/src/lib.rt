@@ -58,3 +58,6 @@ pub fn conflict(cell: &Cell, mate: Point, p: Point) -> bool
         }
     }
 }
+
+#[cfg(test)]
+mod tests;

@@ -1,0 +1,94 @@
+-- The order of nearness to a point, and that a walk over cells that comes nearer at each step ends.
+-- This file opens the definition of a cell.
+use Rattle.std.specs.Prelude.{ℕ, ℤ, pos, ◌*ℤ◌, ◌≡◌, ◌≤ℤ◌, ◌<ℤ◌, ◌<◌, Bool, true, false, List, [], ◌∷◌, ◌⊎◌, count_by}
+use Rattle.std.proofs.Common.{arith, refl, inl, inr}
+use Rattle.std.proofs.lemmas.Int.{ints}
+use Rattle.std.specs.Int.Signed.{lt_z}
+use Rattle.conv_laws.specs.Lists.{IsIn as IsMember}
+use Rattle.conv_laws.proofs.Counts.{count_less}
+use Rattle.conv_laws.proofs.LeastRatio.{ratio_chain_less}
+use Rattle.point_order.specs.Orientation.{orientation}
+use Rattle.point_order.specs.Heights.{lifted}
+use Rattle.del_laws.specs.Cells.{Full, Open, NoTies, IsConvex, OneOf}
+use Rattle.del_laws.specs.Walks.{Rank, first, ratio, last, is_before}
+use Rattle.del_laws.proofs.Numbers.{below_or_not}
+use Rattle.del_laws.proofs.Orders.{full_left, full_right}
+use Rattle.del_laws.proofs.Across.{across_full}
+use Rattle.del_laws.proofs.Walks.{nearer}
+
+-- ---- the order
+
+-- a test of an order is the order
+less_true : (a b : ℤ) → lt_z a b ≡ true → a <ℤ b
+less_true a b e = grind (arith, ints)
+
+-- and the other way round
+true_less : (a b : ℤ) → a <ℤ b → lt_z a b ≡ true
+true_less a b l = grind (arith, ints)
+
+-- no rank is before itself
+pub before_not : (q : Rank) → is_before q q ≡ false
+before_not first = refl
+before_not (ratio n d k) = same (n *ℤ d)
+  where
+    -- no number is less than itself
+    same : (a : ℤ) → lt_z a a ≡ false
+    same a = grind (arith, ints)
+before_not last = refl
+
+-- what is before what is before a rank is before it
+pub before_chain : (q r t : Rank) → is_before q r ≡ true → is_before r t ≡ true → is_before q t ≡ true
+before_chain first first t a b = cc
+before_chain first (ratio m e l) first a b = cc
+before_chain first (ratio m e l) (ratio i j k) a b = refl
+before_chain first (ratio m e l) last a b = refl
+before_chain first last t a b = cc
+before_chain (ratio n d k) first t a b = cc
+before_chain (ratio n d k) (ratio m e l) first a b = cc
+before_chain (ratio n d k) (ratio m e l) (ratio i j u) a b = true_less (n *ℤ j) (i *ℤ d) (ratio_chain_less n d m e i j k l u (less_true (n *ℤ e) (m *ℤ d) a) (less_true (m *ℤ j) (i *ℤ e) b))
+before_chain (ratio n d k) (ratio m e l) last a b = refl
+before_chain (ratio n d k) last t a b = cc
+before_chain last r t a b = cc
+
+-- of the cells of a list, fewer are nearer than the nearer of two
+pub fewer_nearer : {X : Type 0} (rank : X → Rank) (x y : X) → is_before (rank y) (rank x) ≡ true → (xs : List X) → IsMember y xs → count_by (λ z. is_before (rank z) (rank y)) xs < count_by (λ z. is_before (rank z) (rank x)) xs
+fewer_nearer rank x y l xs m =
+    count_less (λ z. is_before (rank z) (rank y)) (λ z. is_before (rank z) (rank x)) xs
+    (λ z i q. before_chain (rank z) (rank y) (rank x) q l)
+    y m (before_not (rank y)) l
+
+-- ---- a step
+
+-- what lies across a facet that has p behind it: a nearer Full cell, or an Open cell in conflict with p
+pub data Crossed (h : ℕ → ℕ) (s : List ℕ) (a b c d p : ℕ) : Type 0 where
+  full : (f : ℕ) → Full h s a c b f → (lifted h a c b f p *ℤ orientation a b c d) <ℤ (lifted h a b c d p *ℤ orientation a c b f) → Crossed h s a b c d p
+  in_conflict : Open h s a b c → orientation a b c p <ℤ pos 0 → Crossed h s a b c d p
+
+-- crossing such a facet
+pub cross : {h : ℕ → ℕ} {s : List ℕ} {a b c d : ℕ} → NoTies h s → Full h s a b c d → (p : ℕ) → orientation a b c p <ℤ pos 0 → Crossed h s a b c d p
+cross n F p l = elim (across_full F) [ inl r ↦ full r.0 r.1 (nearer n F r.1 p l) | inr o ↦ in_conflict o l ]
+
+-- a Full cell, in one of its orders, with p behind the facet without its last point
+pub record IsBehind (h : ℕ → ℕ) (s : List ℕ) (p : ℕ) : Type 0 where
+  pub a : ℕ
+  pub b : ℕ
+  pub c : ℕ
+  pub d : ℕ
+  pub full : Full h s a b c d
+  pub low : orientation a b c p <ℤ pos 0
+
+-- a Full cell not in conflict with p has p behind one of its facets
+pub some_behind : {h : ℕ → ℕ} {s : List ℕ} {a b c d : ℕ} (p : ℕ) → IsConvex h (p ∷ s) → Full h s a b c d → pos 0 ≤ℤ lifted h a b c d p → ¬ (OneOf p a b c d) → IsBehind h s p
+some_behind {h} {s} {a} {b} {c} {d} p v F k o = elim (below_or_not (orientation b d c p)) [
+  | inl l ↦ record { a = b; b = d; c = c; d = a; full = full_right (full_right (full_left F)); low = l }
+  | inr ka ↦ elim (below_or_not (orientation a c d p)) [
+    | inl l ↦ record { a = a; b = c; c = d; d = b; full = full_right F; low = l }
+    | inr kb ↦ elim (below_or_not (orientation a d b p)) [
+      | inl l ↦ record { a = a; b = d; c = b; d = c; full = full_right (full_right F); low = l }
+      | inr kc ↦ elim (below_or_not (orientation a b c p)) [
+        | inl l ↦ record { a = a; b = b; c = c; d = d; full = F; low = l }
+        | inr kd ↦ absurd (o (v.one_of a b c d p (inr F.has_a) (inr F.has_b) (inr F.has_c) (inr F.has_d) (inl refl) F.turned ka kb kc kd k))
+      ]
+    ]
+  ]
+]
