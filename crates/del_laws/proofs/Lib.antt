@@ -10,6 +10,7 @@ pub mod Numbers
 pub mod Orders
 pub mod Pairs
 pub mod Parts
+pub mod Perturbed
 pub mod Planes
 pub mod Regions
 pub mod Sides
