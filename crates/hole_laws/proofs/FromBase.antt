@@ -1,0 +1,154 @@
+-- One insertion, from the few facts of geometry.
+use Rattle.std.specs.Prelude.{◌≡◌, Bool, true, false, ◌≢◌, ◌⊎◌}
+use Rattle.std.proofs.Common.{refl, sym, ap, ◌∙◌, inl, inr}
+use Rattle.std.proofs.lemmas.Bool.{false≢true}
+use Rattle.del_laws.specs.Cells.{Vertex, far}
+use Rattle.hole_laws.specs.Cells.{IsSymmetric, Insertion, Across, HasRim, HasFullAt, AreLinked, gone}
+use Rattle.hole_laws.specs.Points.{Points, has, IsWithin, IsVertexOf, IsAdd}
+use Rattle.hole_laws.specs.Base.{Base}
+use Rattle.hole_laws.proofs.Vertices.{cases_vertex, first_last, second_last}
+use Rattle.hole_laws.proofs.Rims.{last_apart, rim_makes_new, not_both, both, both_is, without_symmetric}
+use Rattle.hole_laws.proofs.Stars as stars
+use Rattle.hole_laws.proofs.Search.{HasPair, search_pair}
+
+module _ (solid : Points → Bool) (cell : Points → Vertex → Vertex → Vertex → Vertex → Bool) (base : Base solid cell) where
+  symm : (S : Points) → IsSymmetric (cell S)
+  symm S = (base.complex S).symmetric
+
+  pub larger : (S T : Points) (p : Vertex) → IsAdd S p T → IsWithin S T
+  larger S T p a q h = a.same q (λ e. false≢true (sym a.absent ∙ ap (has S) (sym e) ∙ h)) ∙ h
+
+  -- the last vertex of a cell of T that is not p
+  keeps : (S T : Points) (p : Vertex) → IsAdd S p T → (w x y z : Vertex) → cell T w x y z ≡ true → z ≢ p → IsVertexOf S z
+  keeps S T p a w x y z h n = go (cases_vertex z far)
+    where
+      go : (z ≡ far) ⊎ (z ≡ far → ⊥) → IsVertexOf S z
+      go (inl e) = inl e
+      go (inr m) = inr (sym (a.same z n) ∙ base.point T w x y z h m)
+
+  pub old : (S T : Points) (p : Vertex) → solid S ≡ true → IsAdd S p T → (w x y z : Vertex) → cell T w x y z ≡ true →
+      w ≢ p → x ≢ p → y ≢ p → z ≢ p → cell S w x y z ≡ true
+  old S T p s a w x y z h i j k l = base.smaller T S s (larger S T p a) w x y z h
+      (keeps S T p a x y z w (sym (first_last (cell T) (symm T) w x y z) ∙ h) i)
+      (keeps S T p a w y z x (sym (second_last (cell T) (symm T) w x y z) ∙ h) j)
+      (keeps S T p a w x z y (sym ((symm T).last w x y z) ∙ h) k)
+      (keeps S T p a w x y z h l)
+
+  pub solid_add : (S T : Points) (p : Vertex) → solid S ≡ true → IsAdd S p T → solid T ≡ true
+  solid_add S T p s a = base.more_solid S T s (larger S T p a)
+
+  pub meet : (R A B T : Points) (p q : Vertex) → solid R ≡ true → IsAdd R p A → IsAdd R q B → IsAdd A q T →
+      (w x y z : Vertex) → cell A w x y z ≡ true → cell B w x y z ≡ true → cell T w x y z ≡ true
+  meet R A B T p q s ra rb at = base.union R A B T s (larger R A p ra) (larger R B q rb) (larger A T q at) λ v h. go v h (cases_vertex v q)
+    where
+      go : (v : Vertex) → has T v ≡ true → (v ≡ q) ⊎ (v ≡ q → ⊥) → (has A v ≡ true) ⊎ (has B v ≡ true)
+      go v h (inl e) = inr (ap (has B) e ∙ rb.present)
+      go v h (inr n) = inl (sym (at.same v n) ∙ h)
+
+  absent : (S T : Points) (p : Vertex) → IsAdd S p T → (w x y : Vertex) → cell S w x y p ≡ false
+  absent S T p a w x y = not_both _ λ h. false≢true (sym a.absent ∙ base.point S w x y p h a.finite)
+
+  -- on a facet of a Full cell at p, against p, a cell goes and one stays
+  rim : (S T : Points) (p : Vertex) → solid S ≡ true → IsAdd S p T → HasRim (cell S) (cell T)
+  rim S T p s a = record {
+    t1 = k.t1;
+    t2 = k.t2;
+    t3 = k.t3;
+    rim = record {
+      kept = f.other;
+      lost = b.other;
+      kept_before = kept_before;
+      kept_after = f.cell;
+      lost_before = b.cell;
+      lost_after = not_both _ (λ h. goes (f.only b.other h));
+    };
+  }
+    where
+      k : HasFullAt (cell T) p
+      k = base.full_at T p (solid_add S T p s a) a.present
+
+      n : (p ≢ k.t3) × (p ≢ k.t2) × (p ≢ k.t1)
+      n = last_apart (cell T) (base.complex T) k.t1 k.t2 k.t3 p k.cell
+
+      f : Across (cell T) k.t1 k.t2 k.t3 p
+      f = (base.complex T).across k.t1 k.t2 k.t3 p k.cell
+
+      kept_before : cell S k.t1 k.t2 k.t3 f.other ≡ true
+      kept_before = old S T p s a k.t1 k.t2 k.t3 f.other f.cell (λ e. n.2 (sym e)) (λ e. n.1 (sym e)) (λ e. n.0 (sym e)) f.differs
+
+      b : Across (cell S) k.t1 k.t2 k.t3 f.other
+      b = (base.complex S).across k.t1 k.t2 k.t3 f.other kept_before
+
+      goes : (b.other ≡ p) ⊎ (b.other ≡ f.other) → ⊥
+      goes (inl e) = false≢true (sym (absent S T p a k.t1 k.t2 k.t3) ∙ ap (cell S k.t1 k.t2 k.t3) (sym e) ∙ b.cell)
+      goes (inr e) = b.differs e
+
+  pub insertion : (S T : Points) (p : Vertex) → solid S ≡ true → IsAdd S p T → Insertion (cell S) (cell T) p
+  insertion S T p s a = record {
+    before = base.complex S;
+    after = base.complex T;
+    whole = stars.closed_part (cell S) (base.complex S) (base.closed_full_part S);
+    star = stars.star_closed (cell T) (base.complex T) p a.finite (base.closed_full_star T p a.present);
+    absent = absent S T p a;
+    old = old S T p s a;
+    met = rim S T p s a;
+  }
+
+  -- every point of a cell that v takes away is in a cell with v: else all cells there would go, and some cell there is left
+  pub linked : (S T : Points) (v : Vertex) → solid S ≡ true → IsAdd S v T → (w x y z : Vertex) → gone (cell S) (cell T) w x y z ≡ true →
+      z ≢ far → AreLinked (cell T) v z
+  linked S T v s a w x y z g f = elim (search_pair (λ i j. cell T i j z v) (base.complex T).vertices (base.complex T).vertices) [
+      | inl r ↦ record { t1 = r.a; t2 = r.b; cell = r.holds }
+      | inr h ↦ absurd (none (λ i j. not_both _ λ e. false≢true (sym (h i j
+        ((base.complex T).listed j z v i (sym (first_last (cell T) (symm T) i j z v) ∙ e))
+        ((base.complex T).listed i z v j (sym (second_last (cell T) (symm T) i j z v) ∙ e))) ∙ e)))
+    ]
+    where
+
+      st : solid T ≡ true
+      st = solid_add S T v s a
+
+      c : cell S w x y z ≡ true
+      c = (both_is (cell S w x y z) (cell T w x y z) g).0
+
+      hz : has S z ≡ true
+      hz = base.point S w x y z c f
+
+      none : ((i j : Vertex) → cell T i j z v ≡ false) → ⊥
+      none h = at_corner (cases_vertex k.t1 v) (cases_vertex k.t2 v) (cases_vertex k.t3 v)
+        where
+          k : HasFullAt (cell T) z
+          k = base.full_at T z st (larger S T v a z hz)
+
+          sg : IsSymmetric (gone (cell S) (cell T))
+          sg = without_symmetric (cell S) (cell T) (symm S) (symm T)
+
+          step : (t1 t2 p q : Vertex) → cell S t1 t2 p z ≡ true → gone (cell S) (cell T) t1 t2 p z ≡ true → cell S t1 t2 q z ≡ true →
+              gone (cell S) (cell T) t1 t2 q z ≡ true
+          step t1 t2 p q hp gp hq = go (cell T t1 t2 q z) refl
+            where
+              go : (b : Bool) → cell T t1 t2 q z ≡ b → gone (cell S) (cell T) t1 t2 q z ≡ true
+              go false e = both (cell S t1 t2 q z) (cell T t1 t2 q z) hq e
+              go true e = absurd (false≢true (sym (h t1 t2) ∙ rim_makes_new (cell S) (cell T) v (insertion S T v s a) t1 t2 z
+                  record {
+                    kept = q;
+                    lost = p;
+                    kept_before = (symm S).last t1 t2 z q ∙ hq;
+                    kept_after = (symm T).last t1 t2 z q ∙ e;
+                    lost_before = (symm S).last t1 t2 z p ∙ hp;
+                    lost_after = (symm T).last t1 t2 z p ∙ (both_is (cell S t1 t2 p z) (cell T t1 t2 p z) gp).1;
+                  }))
+
+          all : (b1 b2 b3 : Vertex) → cell S b1 b2 b3 z ≡ true → gone (cell S) (cell T) b1 b2 b3 z ≡ true
+          all = stars.star_closed (cell S) (base.complex S) z f (base.closed_full_star S z hz) (λ b1 b2 b3. gone (cell S) (cell T) b1 b2 b3 z)
+              record { first = λ i j o. sg.first i j o z; last = λ i j o. sg.middle i j o z } w x y c g step
+
+          zv : z ≢ v
+          zv e = false≢true (sym (absent S T v a w x y) ∙ ap (cell S w x y) (sym e) ∙ c)
+
+          at_corner : (k.t1 ≡ v) ⊎ (k.t1 ≡ v → ⊥) → (k.t2 ≡ v) ⊎ (k.t2 ≡ v → ⊥) → (k.t3 ≡ v) ⊎ (k.t3 ≡ v → ⊥) → ⊥
+          at_corner (inl e) q r = false≢true (sym (h k.t2 k.t3) ∙ ap (cell T k.t2 k.t3 z) (sym e) ∙ sym (first_last (cell T) (symm T) k.t1 k.t2 k.t3 z) ∙ k.cell)
+          at_corner (inr i) (inl e) r = false≢true (sym (h k.t1 k.t3) ∙ ap (cell T k.t1 k.t3 z) (sym e) ∙ sym (second_last (cell T) (symm T) k.t1 k.t2 k.t3 z) ∙ k.cell)
+          at_corner (inr i) (inr j) (inl e) = false≢true (sym (h k.t1 k.t2) ∙ ap (cell T k.t1 k.t2 z) (sym e) ∙ sym ((symm T).last k.t1 k.t2 k.t3 z) ∙ k.cell)
+          at_corner (inr i) (inr j) (inr o) = false≢true (sym (both_is (cell S k.t1 k.t2 k.t3 z) (cell T k.t1 k.t2 k.t3 z)
+              (all k.t1 k.t2 k.t3 (old S T v s a k.t1 k.t2 k.t3 z k.cell i j o zv))).1 ∙ k.cell)

@@ -1,0 +1,2 @@
+//! The laws of insertion and removal.
+#![tactic(auto)]
