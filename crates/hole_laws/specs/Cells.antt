@@ -75,6 +75,16 @@ pub record AreLinked (c : Vertex → Vertex → Vertex → Vertex → Bool) (v q
   pub t2 : Vertex
   pub cell : c t1 t2 q v ≡ true
 
+-- q is opposite to v: the vertex, not the infinite one, across the facet of a cell at v against v
+pub record IsOpposite (c : Vertex → Vertex → Vertex → Vertex → Bool) (v q : Vertex) : Type 0 where
+  pub t1 : Vertex
+  pub t2 : Vertex
+  pub t3 : Vertex
+  pub here : c t1 t2 t3 v ≡ true
+  pub there : c t1 t2 t3 q ≡ true
+  pub other : q ≢ v
+  pub finite : q ≢ far
+
 -- ---- two complexes, of a set and of the set with one more point
 
 -- the cells of c that are none of c': those that the new point takes away
