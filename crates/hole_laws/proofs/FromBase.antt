@@ -9,7 +9,7 @@ use Rattle.hole_laws.specs.Base.{Base}
 use Rattle.hole_laws.proofs.Vertices.{cases_vertex, first_last, second_last}
 use Rattle.hole_laws.proofs.Rims.{last_apart, rim_makes_new, not_both, both, both_is, without_symmetric}
 use Rattle.hole_laws.proofs.Stars as stars
-use Rattle.hole_laws.proofs.Search.{HasPair, search_pair}
+use Rattle.hole_laws.proofs.Search.{search_pair}
 
 module _ (solid : Points → Bool) (cell : Points → Vertex → Vertex → Vertex → Vertex → Bool) (base : Base solid cell) where
   symm : (S : Points) → IsSymmetric (cell S)

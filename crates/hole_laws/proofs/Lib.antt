@@ -1,4 +1,5 @@
 pub mod FromBase
+pub mod Laws
 pub mod Locality
 pub mod Region
 pub mod Removal

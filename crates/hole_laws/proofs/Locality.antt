@@ -3,9 +3,10 @@ use Rattle.std.specs.Prelude.{◌≡◌, Bool, true, false, ◌||◌, ◌≢◌,
 use Rattle.std.proofs.Common.{refl, sym, ap, ◌∙◌, inl, inr, arith}
 use Rattle.std.proofs.lemmas.Bool.{false≢true}
 use Rattle.del_laws.specs.Cells.{Vertex, far}
-use Rattle.hole_laws.specs.Cells.{IsSymmetric, Complex, Insertion, AreLinked, HasFullAt, IsAtGone, gone}
-use Rattle.hole_laws.specs.Points.{Points, has, IsAdd}
+use Rattle.hole_laws.specs.Cells.{IsSymmetric, Complex, Insertion, AreLinked, IsAtGone, gone}
+use Rattle.hole_laws.specs.Points.{Points, IsAdd}
 use Rattle.hole_laws.specs.Base.{Base}
+use Rattle.hole_laws.specs.Laws.{has_held}
 use Rattle.hole_laws.proofs.Vertices.{cases_vertex, first_last, second_last}
 use Rattle.hole_laws.proofs.Rims.{last_apart, new_has_rim, both, both_is, without_symmetric}
 use Rattle.hole_laws.proofs.Region.{region}
@@ -20,9 +21,7 @@ facet_point c k t1 t2 t3 x h = pick t2 t3 (last_apart c k x t1 t2 t3 (first_last
     pick a b n (inl e) (inr m) = inr m
     pick a b n (inl e) (inl f) = absurd (n (e ∙ sym f))
 
--- cells with a vertex that is held
-abbrev pub has_held : (Vertex → Bool) → Vertex → Vertex → Vertex → Vertex → Bool
-has_held held w x y z = held w || held x || held y || held z
+
 
 -- the third is held
 held_third : (a b c d : Bool) → c ≡ true → (a || b || c || d) ≡ true

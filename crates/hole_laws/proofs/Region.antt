@@ -1,6 +1,6 @@
 -- The cells that a new point takes away are connected across facets, those with the infinite vertex among them.
 -- By parity: around a pair of vertices evenly many facets have just one of their two cells in a part of the region.
-use Rattle.std.specs.Prelude.{◌≡◌, Bool, true, false, not, ◌&&◌, List, ◌≢◌, ◌⊎◌}
+use Rattle.std.specs.Prelude.{◌≡◌, Bool, true, false, not, ◌&&◌, ◌≢◌, ◌⊎◌}
 use Rattle.std.proofs.Common.{refl, sym, ap, ◌∙◌, inl, inr}
 use Rattle.std.proofs.lemmas.Bool.{false≢true}
 use Rattle.conv_laws.specs.Lists.{odd, IsIn, HasAnother}

@@ -1,3 +1,4 @@
 pub mod Cells
 pub mod Points
 pub mod Base
+pub mod Laws
