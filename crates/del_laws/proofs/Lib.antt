@@ -1,4 +1,6 @@
 pub mod Across
+pub mod Based
+pub mod Bools
 pub mod Conflict
 pub mod Decide
 pub mod Existence
@@ -12,9 +14,12 @@ pub mod Pairs
 pub mod Parts
 pub mod Perturbed
 pub mod Planes
+pub mod PointSets
 pub mod Regions
 pub mod Sides
 pub mod Smaller
+pub mod Starred
 pub mod Stars
 pub mod Strict
+pub mod Tests
 pub mod Walks

@@ -43,7 +43,7 @@ five a b c d e n k =
     )
 
 -- the determinant at the perturbed heights, by its other name
-out_is : (a b c d e : ℕ) → out a b c d e ≡ lifted height a b c d e
+pub out_is : (a b c d e : ℕ) → out a b c d e ≡ lifted height a b c d e
 unfolding out
 out_is a b c d e = refl
 

@@ -52,7 +52,7 @@ weak_full {h} {s} {a} {b} {c} {d} F = record {
 }
 
 -- the three points of an Open cell lie on its circle
-flat_three : (h : ℕ → ℕ) (a b c f e : ℕ) → IsIn e (a ∷ b ∷ c ∷ []) → lifted h a b c f e ≡ pos 0
+pub flat_three : (h : ℕ → ℕ) (a b c f e : ℕ) → IsIn e (a ∷ b ∷ c ∷ []) → lifted h a b c f e ≡ pos 0
 flat_three h a b c f e m = of_three (λ x. lifted h a b c f x ≡ pos 0) m (lifted_at_a h a b c f) (lifted_at_b h a b c f) (lifted_at_c h a b c f)
 
 -- the weak form gives the strict one

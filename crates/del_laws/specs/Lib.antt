@@ -1,4 +1,7 @@
 pub mod Cells
 pub mod Keys
-pub mod Walks
 pub mod Laws
+pub mod Vertices
+pub mod PointSets
+pub mod Base
+pub mod Walks
