@@ -1,6 +1,8 @@
+pub mod CellVertices
 pub mod FromBase
 pub mod Laws
 pub mod Locality
+pub mod Order
 pub mod Region
 pub mod Removal
 pub mod Rims
