@@ -7,18 +7,13 @@ use Rattle.whole_ring.proofs.Signs.{sign}
 use Rattle.point_order.specs.Orientation.{orientation}
 use Rattle.point_order.specs.Heights.{lifted}
 use Rattle.point_order.specs.Sets.{IsIn}
-use Rattle.del_laws.specs.Cells.{Full, Open, Held, point, far}
+use Rattle.del_laws.specs.Cells.{Full, Open, Held, point, far, IsOutside}
 use Rattle.del_laws.proofs.Identities.{pencil_of, orientation_swap23}
 use Rattle.del_laws.proofs.Numbers.{weak, zero_weak, clash, against}
 use Rattle.del_laws.proofs.Across.{mate_sign}
 
--- p is not in conflict with an Open cell, as a mate sees it
-pub record Outside (h : ℕ → ℕ) (a b c m p : ℕ) : Type 0 where
-  pub side : pos 0 ≤ℤ orientation a b c p
-  pub tie : orientation a b c p ≡ pos 0 → pos 0 ≤ℤ lifted h a b c m p
-
 -- it does not matter which mate
-pub outside_any : (h : ℕ → ℕ) (a b c m k p : ℕ) → pos 0 <ℤ orientation a b c m → pos 0 <ℤ orientation a b c k → Outside h a b c m p → Outside h a b c k p
+pub outside_any : (h : ℕ → ℕ) (a b c m k p : ℕ) → pos 0 <ℤ orientation a b c m → pos 0 <ℤ orientation a b c k → IsOutside h a b c m p → IsOutside h a b c k p
 outside_any h a b c m k p lm lk t = record {
   side = t.side;
   tie = λ z. mate_sign (orientation a b c m) (orientation a b c k) (orientation a b c p) (lifted h a b c m k) (lifted h a b c m p) (lifted h a b c k p) (pencil_of h a b c m k p) lm (weak (orientation a b c k) lk) z (t.tie z);
@@ -42,7 +37,7 @@ pub full_kept : {h : ℕ → ℕ} {s : List ℕ} {a b c d p : ℕ} → Full h (p
 full_kept {h} {s} {a} {b} {c} {d} {p} F = F.empty p (inl refl)
 
 -- an Open cell not in conflict stays
-pub open_stays : {h : ℕ → ℕ} {s : List ℕ} {a b c p : ℕ} (F : Open h s a b c) → Outside h a b c F.mate p → Open h (p ∷ s) a b c
+pub open_stays : {h : ℕ → ℕ} {s : List ℕ} {a b c p : ℕ} (F : Open h s a b c) → IsOutside h a b c F.mate p → Open h (p ∷ s) a b c
 open_stays {h} {s} {a} {b} {c} {p} F k = record {
   has_a = inr F.has_a;
   has_b = inr F.has_b;
@@ -58,7 +53,7 @@ open_stays {h} {s} {a} {b} {c} {p} F k = record {
 }
 
 -- an Open cell that is there with p is not in conflict with it, for any mate
-pub open_kept : {h : ℕ → ℕ} {s : List ℕ} {a b c m p : ℕ} → Open h (p ∷ s) a b c → IsIn m s → pos 0 <ℤ orientation a b c m → Outside h a b c m p
+pub open_kept : {h : ℕ → ℕ} {s : List ℕ} {a b c m p : ℕ} → Open h (p ∷ s) a b c → IsIn m s → pos 0 <ℤ orientation a b c m → IsOutside h a b c m p
 open_kept {h} {s} {a} {b} {c} {m} {p} F k l = record { side = F.bounds p (inl refl); tie = λ z. F.ties m p (inr k) (inl refl) l z }
 
 -- ---- cells that go
@@ -75,9 +70,9 @@ pub gone_full : {h : ℕ → ℕ} {s : List ℕ} {a b c d p : ℕ} → Full h s 
 gone_full {h} {s} {a} {b} {c} {d} {p} F k = elim (sign (lifted h a b c d p)) [ below q ↦ q | at_zero q ↦ absurd (k (inl (full_stays F (zero_weak (lifted h a b c d p) q)))) | above q ↦ absurd (k (inl (full_stays F (weak (lifted h a b c d p) q)))) ]
 
 -- an Open cell in conflict goes
-pub open_gone : {h : ℕ → ℕ} {s : List ℕ} {a b c p : ℕ} (m : ℕ) → IsIn m s → pos 0 <ℤ orientation a b c m → ¬ (Outside h a b c m p) → ¬ (Held h (p ∷ s) (point a) (point b) (point c) far)
+pub open_gone : {h : ℕ → ℕ} {s : List ℕ} {a b c p : ℕ} (m : ℕ) → IsIn m s → pos 0 <ℤ orientation a b c m → ¬ (IsOutside h a b c m p) → ¬ (Held h (p ∷ s) (point a) (point b) (point c) far)
 open_gone {h} {s} {a} {b} {c} {p} m i l o k = elim k [ inl G ↦ against (orientation a b c m) (orientation a c b m) l (G.bounds m (inr i)) (orientation_swap23 a b c m) | inr G ↦ o (open_kept G i l) ]
 
 -- and only such
-pub gone_open : {h : ℕ → ℕ} {s : List ℕ} {a b c p : ℕ} (F : Open h s a b c) → ¬ (Held h (p ∷ s) (point a) (point b) (point c) far) → ¬ (Outside h a b c F.mate p)
+pub gone_open : {h : ℕ → ℕ} {s : List ℕ} {a b c p : ℕ} (F : Open h s a b c) → ¬ (Held h (p ∷ s) (point a) (point b) (point c) far) → ¬ (IsOutside h a b c F.mate p)
 gone_open F k t = k (inr (open_stays F t))

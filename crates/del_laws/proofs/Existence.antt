@@ -8,7 +8,7 @@ use Rattle.whole_ring.proofs.Whole.{neg_mul}
 use Rattle.point_order.specs.Orientation.{orientation}
 use Rattle.point_order.specs.Heights.{lifted}
 use Rattle.point_order.specs.Sets.{IsIn}
-use Rattle.del_laws.specs.Cells.{Full, Open, NoTies, OneOf, Four, IsSolid, IsSubset, HasFull}
+use Rattle.del_laws.specs.Cells.{Full, Open, NoTies, OneOf, Four, IsSolid, IsSubset, HasFull, Faces}
 use Rattle.del_laws.proofs.Identities.{orientation_swap23, orientation_bcad, orientation_acdb, lifted_bcad, lifted_acdb, weights_of}
 use Rattle.del_laws.proofs.Numbers.{weak, zero_weak, not_zero, not_back, one_above, turned_below}
 use Rattle.del_laws.proofs.Lists.{of_four}
@@ -22,14 +22,6 @@ pub fewer_ties : {h : ℕ → ℕ} {t s : List ℕ} → IsSubset t s → NoTies 
 fewer_ties u n = record { one_of = λ a b c d e ma mb mc md me. n.one_of a b c d e (u.inside a ma) (u.inside b mb) (u.inside c mc) (u.inside d md) (u.inside e me) }
 
 -- ---- away from a point
-
--- an Open cell whose plane has p strictly on the side of the set
-pub record Faces (h : ℕ → ℕ) (s : List ℕ) (p : ℕ) : Type 0 where
-  pub a : ℕ
-  pub b : ℕ
-  pub c : ℕ
-  pub open_cell : Open h s a b c
-  pub inside : pos 0 <ℤ orientation a b c p
 
 -- no Full cell is farther from e
 record Farthest (h : ℕ → ℕ) (s : List ℕ) (e a b c d : ℕ) : Type 0 where

@@ -1,11 +1,13 @@
 pub mod Across
 pub mod Based
 pub mod Bools
+pub mod Closed
 pub mod Conflict
 pub mod Decide
 pub mod Existence
 pub mod Facets
 pub mod Identities
+pub mod Laws
 pub mod Lists
 pub mod Nearness
 pub mod Numbers

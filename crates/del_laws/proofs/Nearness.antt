@@ -9,22 +9,15 @@ use Rattle.conv_laws.proofs.Counts.{count_less}
 use Rattle.conv_laws.proofs.LeastRatio.{ratio_chain_less}
 use Rattle.point_order.specs.Orientation.{orientation}
 use Rattle.point_order.specs.Heights.{lifted}
-use Rattle.del_laws.specs.Cells.{Full, Open, NoTies, IsConvex, OneOf}
+use Rattle.del_laws.specs.Cells.{Full, Open, NoTies, IsConvex, OneOf, IsBehind, Crossed, full, in_conflict}
 use Rattle.del_laws.specs.Walks.{Rank, first, ratio, last, is_before}
 use Rattle.del_laws.proofs.Numbers.{below_or_not}
+use Rattle.del_laws.proofs.Tests.{less_from, less_true}
 use Rattle.del_laws.proofs.Orders.{full_left, full_right}
 use Rattle.del_laws.proofs.Across.{across_full}
 use Rattle.del_laws.proofs.Walks.{nearer}
 
 -- ---- the order
-
--- a test of an order is the order
-less_true : (a b : ℤ) → lt_z a b ≡ true → a <ℤ b
-less_true a b e = grind (arith, ints)
-
--- and the other way round
-true_less : (a b : ℤ) → a <ℤ b → lt_z a b ≡ true
-true_less a b l = grind (arith, ints)
 
 -- no rank is before itself
 pub before_not : (q : Rank) → is_before q q ≡ false
@@ -45,7 +38,7 @@ before_chain first (ratio m e l) last a b = refl
 before_chain first last t a b = cc
 before_chain (ratio n d k) first t a b = cc
 before_chain (ratio n d k) (ratio m e l) first a b = cc
-before_chain (ratio n d k) (ratio m e l) (ratio i j u) a b = true_less (n *ℤ j) (i *ℤ d) (ratio_chain_less n d m e i j k l u (less_true (n *ℤ e) (m *ℤ d) a) (less_true (m *ℤ j) (i *ℤ e) b))
+before_chain (ratio n d k) (ratio m e l) (ratio i j u) a b = less_true (n *ℤ j) (i *ℤ d) (ratio_chain_less n d m e i j k l u (less_from (n *ℤ e) (m *ℤ d) a) (less_from (m *ℤ j) (i *ℤ e) b))
 before_chain (ratio n d k) (ratio m e l) last a b = refl
 before_chain (ratio n d k) last t a b = cc
 before_chain last r t a b = cc
@@ -59,23 +52,9 @@ fewer_nearer rank x y l xs m =
 
 -- ---- a step
 
--- what lies across a facet that has p behind it: a nearer Full cell, or an Open cell in conflict with p
-pub data Crossed (h : ℕ → ℕ) (s : List ℕ) (a b c d p : ℕ) : Type 0 where
-  full : (f : ℕ) → Full h s a c b f → (lifted h a c b f p *ℤ orientation a b c d) <ℤ (lifted h a b c d p *ℤ orientation a c b f) → Crossed h s a b c d p
-  in_conflict : Open h s a b c → orientation a b c p <ℤ pos 0 → Crossed h s a b c d p
-
 -- crossing such a facet
 pub cross : {h : ℕ → ℕ} {s : List ℕ} {a b c d : ℕ} → NoTies h s → Full h s a b c d → (p : ℕ) → orientation a b c p <ℤ pos 0 → Crossed h s a b c d p
 cross n F p l = elim (across_full F) [ inl r ↦ full r.0 r.1 (nearer n F r.1 p l) | inr o ↦ in_conflict o l ]
-
--- a Full cell, in one of its orders, with p behind the facet without its last point
-pub record IsBehind (h : ℕ → ℕ) (s : List ℕ) (p : ℕ) : Type 0 where
-  pub a : ℕ
-  pub b : ℕ
-  pub c : ℕ
-  pub d : ℕ
-  pub full : Full h s a b c d
-  pub low : orientation a b c p <ℤ pos 0
 
 -- a Full cell not in conflict with p has p behind one of its facets
 pub some_behind : {h : ℕ → ℕ} {s : List ℕ} {a b c d : ℕ} (p : ℕ) → IsConvex h (p ∷ s) → Full h s a b c d → pos 0 ≤ℤ lifted h a b c d p → ¬ (OneOf p a b c d) → IsBehind h s p

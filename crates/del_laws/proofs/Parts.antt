@@ -5,7 +5,7 @@ use Rattle.std.proofs.Common.{inl, inr, subst, sym, ap}
 use Rattle.point_order.specs.Orientation.{orientation}
 use Rattle.point_order.specs.Heights.{lifted}
 use Rattle.point_order.specs.Sets.{IsIn}
-use Rattle.del_laws.specs.Cells.{Full, Vertex, point, far, Held, NoTies, Four, IsSymmetric, IsRegion}
+use Rattle.del_laws.specs.Cells.{Full, Vertex, point, far, Held, NoTies, Four, IsSymmetric, IsRegion, HavePoints}
 use Rattle.del_laws.proofs.Orders.{full_left, full_right, swap12, swap23, swap34}
 use Rattle.del_laws.proofs.Across.{across_open}
 use Rattle.del_laws.proofs.Regions.{IsSetOf}
@@ -33,17 +33,13 @@ by_triples h s p q e f k g far (point b) (point c) far t = absurd (k far (point 
 by_triples h s p q e f k g far (point b) far z t = absurd (k far (point b) far z t)
 by_triples h s p q e f k g far far y z t = absurd (k far far y z t)
 
--- the four vertices have the points of k
-pub record Has (k : List ℕ) (w x y z : Vertex) : Type 0 where
-  pub one_of : (i : ℕ) → IsIn i k → IsIn (point i) (w ∷ x ∷ y ∷ z ∷ [])
-
 -- closed across the triples that have the points of k
 pub record IsPart (h : ℕ → ℕ) (s : List ℕ) (r : Vertex → Vertex → Vertex → Vertex → Type 0) (k : List ℕ) : Type 0 where
-  pub has : (w x y z : Vertex) → r w x y z → Has k w x y z
+  pub has : (w x y z : Vertex) → r w x y z → HavePoints k w x y z
   pub across : (a b c : ℕ) (x y : Vertex) → ((i : ℕ) → IsIn i k → IsIn i (a ∷ b ∷ c ∷ [])) → r (point a) (point b) (point c) x → Held h s (point a) (point b) (point c) y → r (point a) (point b) (point c) y
 
 -- a triple of an Open cell has the points that the cell has
-first_three : (k : List ℕ) (a b c : ℕ) → Has k (point a) (point b) (point c) far → (i : ℕ) → IsIn i k → IsIn i (a ∷ b ∷ c ∷ [])
+first_three : (k : List ℕ) (a b c : ℕ) → HavePoints k (point a) (point b) (point c) far → (i : ℕ) → IsIn i k → IsIn i (a ∷ b ∷ c ∷ [])
 first_three k a b c g i m = elim (g.one_of i m) [
   | inl e ↦ inl (same_point a i e)
   | inr r ↦ elim r [
@@ -53,7 +49,7 @@ first_three k a b c g i m = elim (g.one_of i m) [
 ]
 
 -- a triple of a Full cell that has all but one of its points has those that the cell has, but for that one
-but_last : (k : List ℕ) (a b c d : ℕ) → Has k (point a) (point b) (point c) (point d) → ¬ (IsIn d k) → (i : ℕ) → IsIn i k → IsIn i (a ∷ b ∷ c ∷ [])
+but_last : (k : List ℕ) (a b c d : ℕ) → HavePoints k (point a) (point b) (point c) (point d) → ¬ (IsIn d k) → (i : ℕ) → IsIn i k → IsIn i (a ∷ b ∷ c ∷ [])
 but_last k a b c d g n i m = elim (g.one_of i m) [
   | inl e ↦ inl (same_point a i e)
   | inr r ↦ elim r [
@@ -63,7 +59,7 @@ but_last k a b c d g n i m = elim (g.one_of i m) [
 ]
 
 -- of four points
-of_points : (k : List ℕ) (a b c d : ℕ) → Has k (point a) (point b) (point c) (point d) → Holds k a b c d
+of_points : (k : List ℕ) (a b c d : ℕ) → HavePoints k (point a) (point b) (point c) (point d) → Holds k a b c d
 of_points k a b c d g = record {
   one_of = λ i m. elim (g.one_of i m) [
     | inl e ↦ inl (same_point a i e)
@@ -75,7 +71,7 @@ of_points k a b c d g = record {
 }
 
 -- a triple with one more vertex
-with_last : (k : List ℕ) (a b c : ℕ) (z : Vertex) → ((i : ℕ) → IsIn i k → IsIn i (a ∷ b ∷ c ∷ [])) → Has k (point a) (point b) (point c) z
+with_last : (k : List ℕ) (a b c : ℕ) (z : Vertex) → ((i : ℕ) → IsIn i k → IsIn i (a ∷ b ∷ c ∷ [])) → HavePoints k (point a) (point b) (point c) z
 with_last k a b c z g = record {
   one_of = λ i m. elim (g i m) [
     | inl e ↦ inl (ap point e)
@@ -92,7 +88,7 @@ later : {X : Type 0} (i w : X) (l t : List X) → (IsIn i l → IsIn i t) → Is
 later i w l t f m = elim m [ inl e ↦ inl e | inr r ↦ inr (f r) ]
 
 -- in any order
-pub has_even : (k : List ℕ) → IsSymmetric (λ w x y z. Has k w x y z)
+pub has_even : (k : List ℕ) → IsSymmetric (λ w x y z. HavePoints k w x y z)
 has_even k = record {
   swap12 = λ w x y z g. record { one_of = λ i m. swap_first (point i) w x (y ∷ z ∷ []) (g.one_of i m) };
   swap23 = λ w x y z g. record { one_of = λ i m. later (point i) w (x ∷ y ∷ z ∷ []) (y ∷ x ∷ z ∷ []) (swap_first (point i) x y (z ∷ [])) (g.one_of i m) };
@@ -152,14 +148,14 @@ module _ (h : ℕ → ℕ) (s : List ℕ) (n : NoTies h s) (r : Vertex → Verte
   inner_all v a b c d F g = (star n inner_set inner_closed v.at F g).0
 
   -- in any order
-  points_all : HasInner h s r → (a b c d : ℕ) → Held h s (point a) (point b) (point c) (point d) → Has k (point a) (point b) (point c) (point d) → r (point a) (point b) (point c) (point d)
+  points_all : HasInner h s r → (a b c d : ℕ) → Held h s (point a) (point b) (point c) (point d) → HavePoints k (point a) (point b) (point c) (point d) → r (point a) (point b) (point c) (point d)
   points_all v a b c d t g = elim t [
     | inl F ↦ inner_all v a b c d F (of_points k a b c d g)
     | inr F ↦ u.even.swap23 (point a) (point c) (point b) (point d) (inner_all v a c b d F (of_points k a c b d ((has_even k).swap23 (point a) (point b) (point c) (point d) g)))
   ]
 
   -- and an Open cell is across its triple from one of them
-  triple_all : HasInner h s r → (a b c : ℕ) (y : Vertex) → Held h s (point a) (point b) (point c) y × Has k (point a) (point b) (point c) y → r (point a) (point b) (point c) y
+  triple_all : HasInner h s r → (a b c : ℕ) (y : Vertex) → Held h s (point a) (point b) (point c) y × HavePoints k (point a) (point b) (point c) y → r (point a) (point b) (point c) y
   triple_all v a b c (point d) t = points_all v a b c d t.0 t.1
   triple_all v a b c far t =
       let g = first_three k a b c t.1 in
@@ -169,9 +165,9 @@ module _ (h : ℕ → ℕ) (s : List ℕ) (n : NoTies h s) (r : Vertex → Verte
       ]
 
   -- so the region has all cells that have the points
-  pub part_all : (w x y z' : Vertex) → r w x y z' → (t v i j : Vertex) → Held h s t v i j → Has k t v i j → r t v i j
+  pub part_all : (w x y z' : Vertex) → r w x y z' → (t v i j : Vertex) → Held h s t v i j → HavePoints k t v i j → r t v i j
   part_all w x y z' m t v i j F g =
-      by_triples h s (λ w x y z. Held h s w x y z × Has k w x y z) r (and_even (held_even h s) (has_even k)) u.even (λ w x y z t. t.0) (triple_all (some w x y z' m)) t v i j (F, g)
+      by_triples h s (λ w x y z. Held h s w x y z × HavePoints k w x y z) r (and_even (held_even h s) (has_even k)) u.even (λ w x y z t. t.0) (triple_all (some w x y z' m)) t v i j (F, g)
     where
       -- from any cell of the region
       some : (w x y z : Vertex) → r w x y z → HasInner h s r

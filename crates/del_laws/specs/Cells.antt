@@ -1,6 +1,6 @@
 -- Cells of a set of points as predicates of four vertices, for any heights, and the two facts on heights that the laws use.
 -- The definitions here are the weak form: no "other than", and at least 0 for above 0. Where there are no ties it says the same.
-use Rattle.std.specs.Prelude.{ℕ, pos, ◌≡◌, ◌≤ℤ◌, ◌<ℤ◌, List, [], ◌∷◌, ◌⊎◌}
+use Rattle.std.specs.Prelude.{ℕ, pos, ◌*ℤ◌, ◌≡◌, ◌≤ℤ◌, ◌<ℤ◌, List, [], ◌∷◌, ◌⊎◌}
 use Rattle.point_order.specs.Orientation.{orientation}
 use Rattle.point_order.specs.Heights.{lifted}
 use Rattle.point_order.specs.Sets.{IsIn}
@@ -122,3 +122,36 @@ pub record IsRegion (h : ℕ → ℕ) (s : List ℕ) (r : Vertex → Vertex → 
 abbrev pub Inside : List ℕ → Vertex → Type 0
 Inside t (point a) = IsIn a t
 Inside t far = Unit {0}
+
+-- the four vertices have all the points of k
+pub record HavePoints (k : List ℕ) (w x y z : Vertex) : Type 0 where
+  pub one_of : (i : ℕ) → IsIn i k → IsIn (point i) (w ∷ x ∷ y ∷ z ∷ [])
+
+-- ---- cells and a point
+
+-- p is not in conflict with an Open cell, as a mate m sees it: it is above the plane, or in it and not inside the circle
+pub record IsOutside (h : ℕ → ℕ) (a b c m p : ℕ) : Type 0 where
+  pub side : pos 0 ≤ℤ orientation a b c p
+  pub tie : orientation a b c p ≡ pos 0 → pos 0 ≤ℤ lifted h a b c m p
+
+-- an Open cell whose plane has p strictly on the side of the set
+pub record Faces (h : ℕ → ℕ) (s : List ℕ) (p : ℕ) : Type 0 where
+  pub a : ℕ
+  pub b : ℕ
+  pub c : ℕ
+  pub open_cell : Open h s a b c
+  pub inside : pos 0 <ℤ orientation a b c p
+
+-- a Full cell, in one of its orders, with p strictly behind the facet without its last point
+pub record IsBehind (h : ℕ → ℕ) (s : List ℕ) (p : ℕ) : Type 0 where
+  pub a : ℕ
+  pub b : ℕ
+  pub c : ℕ
+  pub d : ℕ
+  pub full : Full h s a b c d
+  pub low : orientation a b c p <ℤ pos 0
+
+-- what lies across a facet that has p behind it: a Full cell of a lower ratio, or an Open cell in conflict with p
+pub data Crossed (h : ℕ → ℕ) (s : List ℕ) (a b c d p : ℕ) : Type 0 where
+  full : (f : ℕ) → Full h s a c b f → (lifted h a c b f p *ℤ orientation a b c d) <ℤ (lifted h a b c d p *ℤ orientation a c b f) → Crossed h s a b c d p
+  in_conflict : Open h s a b c → orientation a b c p <ℤ pos 0 → Crossed h s a b c d p
