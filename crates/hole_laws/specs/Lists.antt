@@ -1,9 +1,11 @@
 -- Cells of a list, seen as tests of four vertices.
 use Rattle.std.specs.Prelude.{◌≡◌, ℕ, ◌<◌, Bool, true, false, ◌&&◌, List, [], ◌∷◌}
 use Rattle.std.specs.List.{list_any}
-use Rattle.point_order.specs.Sets.{IsIn, is_among}
+use Rattle.point_order.specs.Sets.{IsIn, is_among, IsAscending, ascending}
 use Rattle.point_order.specs.declared.cell.Cell.{Cell}
 use Rattle.point_order.specs.declared.cell.Cell.TheVariants.{Full, Open}
+use Rattle.point_order.specs.declared.cell.Facet.{Facet}
+use Rattle.point_order.specs.declared.cell.Facet.TheVariants.{Three, Two}
 use Rattle.del_laws.specs.Cells.{Vertex, point, far}
 
 -- the vertex is one of the cell: one of its points, or the infinite one of an Open cell
@@ -44,3 +46,17 @@ pub record ListsCells (l : List Cell) (c : Vertex → Vertex → Vertex → Vert
   pub found : (w x y z : Vertex) → c w x y z ≡ true → HasListed l w x y z
   pub ordered : (q : Cell) → IsIn q l → IsOrdered q
   pub cell : (q : Cell) → IsIn q l → at_cell c q ≡ true
+
+-- ---- facets
+
+-- the vertex is one of the facet: one of its points, or the infinite one of a pair
+abbrev pub IsFacetVertex : Facet → Vertex → Type 0
+IsFacetVertex (Three t) (point a) = IsIn a t
+IsFacetVertex (Three t) far = ⊥
+IsFacetVertex (Two t) (point a) = IsIn a t
+IsFacetVertex (Two t) far = Unit {0}
+
+-- the cell of a facet and the point p
+abbrev pub cell_over : Facet → ℕ → Cell
+cell_over (Three t) p = Full (ascending (p ∷ t))
+cell_over (Two t) p = Open (ascending (p ∷ t))
