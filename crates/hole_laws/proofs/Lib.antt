@@ -2,6 +2,7 @@ pub mod CellVertices
 pub mod FacetVertices
 pub mod FromBase
 pub mod Laws
+pub mod Listed
 pub mod Locality
 pub mod Order
 pub mod Region
