@@ -1,14 +1,13 @@
 -- The facts of specs/Base hold for the complexes of sets of points: all but the star law.
 -- This file opens the definition of a cell.
-use Rattle.std.specs.Prelude.{◌≡◌, ◌≢◌, refl, ℕ, ℤ, pos, neg_ℤ, ◌<ℤ◌, Bool, true, false, List, [], ◌∷◌, ◌⊎◌, map}
-use Rattle.std.proofs.Common.{arith, inl, inr, ap, sym, subst, ◌∙◌}
+use Rattle.std.specs.Prelude.{◌≡◌, ◌≢◌, refl, ℕ, ℤ, pos, neg_ℤ, ◌<ℤ◌, true, List, ◌⊎◌}
+use Rattle.std.proofs.Common.{arith, inl, inr, sym, subst, ◌∙◌}
 use Rattle.std.proofs.lemmas.Int.{ints}
 use Rattle.conv_laws.specs.Lists.{IsIn as IsMember}
 use Rattle.point_order.specs.Orientation.{orientation}
 use Rattle.point_order.specs.Heights.{height}
 use Rattle.point_order.specs.Sets.{IsIn}
-use Rattle.del_laws.specs.Cells.{Full, Vertex, point, far, Held, Cell, OneOf, IsSolid, Inside}
-use Rattle.del_laws.specs.Vertices.{is_cell}
+use Rattle.del_laws.specs.Cells.{Full, Vertex, point, far, Held, OneOf, Inside}
 use Rattle.del_laws.specs.PointSets.{PointSet, has, solid, cell, vertices}
 use Rattle.del_laws.specs.Base.{Symmetric, Across, Complex, Corner, Within, IsVertexOf}
 use Rattle.del_laws.proofs.Identities.{orientation_swap23}

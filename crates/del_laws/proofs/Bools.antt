@@ -1,6 +1,6 @@
 -- The test of four vertices of specs/Vertices says that they are a cell, at the perturbed heights.
 -- This file opens the definition of a cell.
-use Rattle.std.specs.Prelude.{ℕ, ℤ, pos, neg_ℤ, ◌≡◌, ◌≤ℤ◌, ◌<ℤ◌, Bool, true, false, not, ◌&&◌, ◌||◌, List, [], ◌∷◌, ◌⊎◌, Option, None, Some}
+use Rattle.std.specs.Prelude.{ℕ, ℤ, pos, neg_ℤ, ◌≡◌, ◌≤ℤ◌, ◌<ℤ◌, Bool, true, not, ◌&&◌, ◌||◌, List, [], ◌∷◌, ◌⊎◌, Option, None}
 use Rattle.std.specs.List.{list_all, find}
 use Rattle.std.specs.Int.Signed.{lt_z, le_z}
 use Rattle.std.proofs.Common.{arith, refl, inl, inr, ap, sym, subst, ◌∙◌}
@@ -12,13 +12,13 @@ use Rattle.point_order.specs.Heights.{height, lifted, out}
 use Rattle.point_order.specs.Spheres.{is_outside}
 use Rattle.point_order.specs.Sets.{IsIn, is_among}
 use Rattle.point_order.specs.Complex.{is_full, is_open, is_open_from, is_empty_in_plane}
-use Rattle.del_laws.specs.Cells.{Full, Open, Vertex, point, far, On, Held, Cell, NoTies, OneOf}
+use Rattle.del_laws.specs.Cells.{Full, Open, Vertex, point, far, Held, OneOf}
 use Rattle.del_laws.specs.Keys.{AreKeys}
 use Rattle.del_laws.specs.Vertices.{are_among, is_full_cell, is_open_cell, is_cell}
 use Rattle.del_laws.proofs.Identities.{orientation_swap23, lifted_swap23}
-use Rattle.del_laws.proofs.Numbers.{weak, zero_weak, not_zero, turned_below}
+use Rattle.del_laws.proofs.Numbers.{weak, zero_weak, not_zero}
 use Rattle.del_laws.proofs.Decide.{is_in, is_at_zero}
-use Rattle.del_laws.proofs.Tests.{both_true, first_true, second_true, one_true, left_true, right_true, not_both, false_if, same_test, not_true, not_from, less_from, less_true, most_from, most_true, zero_from, zero_true, zero_false, not_zero_from, all_from, all_true, among_from, among_true, IsFound, found_from, searched}
+use Rattle.del_laws.proofs.Tests.{both_true, first_true, second_true, one_true, left_true, right_true, false_if, not_true, not_from, less_from, less_true, most_from, most_true, zero_from, zero_false, not_zero_from, all_from, all_true, among_from, among_true, IsFound, found_from, searched}
 use Rattle.del_laws.proofs.Planes.{IsLine, line_flat, open_by_mate, open_not_line}
 use Rattle.del_laws.proofs.Walks.{strict, on}
 use Rattle.del_laws.proofs.Strict.{strict_open, flat_three}
@@ -265,7 +265,6 @@ line_from a b c t =
         z = zero_from (normal_z a b c) (second_true (u && v) w t);
       };
     }
-
 
 -- the three are in the set, in a list
 all_three : (s : List ℕ) (a b c : ℕ) → IsIn a s → IsIn b s → IsIn c s → are_among (a ∷ b ∷ c ∷ []) s ≡ true

@@ -1,7 +1,6 @@
 -- Which cells a new point takes away, by signs. This file opens the definition of a cell.
-use Rattle.std.specs.Prelude.{ℕ, ℤ, pos, neg_ℤ, ◌≡◌, ◌≤ℤ◌, ◌<ℤ◌, List, ◌∷◌}
-use Rattle.std.proofs.Common.{arith, refl, inl, inr, subst, sym, ◌∙◌, ap}
-use Rattle.std.proofs.lemmas.Int.{ints}
+use Rattle.std.specs.Prelude.{ℕ, pos, ◌≤ℤ◌, ◌<ℤ◌, List, ◌∷◌}
+use Rattle.std.proofs.Common.{refl, inl, inr, subst, ◌∙◌, ap}
 use Rattle.whole_ring.specs.Signs.{below, at_zero, above}
 use Rattle.whole_ring.proofs.Signs.{sign}
 use Rattle.point_order.specs.Orientation.{orientation}

@@ -1,5 +1,5 @@
 -- From every point some Open cell looks away, and a solid set has cells. This file opens the definition of a cell.
-use Rattle.std.specs.Prelude.{ℕ, ℤ, pos, ◌*ℤ◌, neg_ℤ, ◌≡◌, ◌≤ℤ◌, ◌<ℤ◌, List, [], ◌∷◌, ◌++◌, ◌⊎◌}
+use Rattle.std.specs.Prelude.{ℕ, ℤ, pos, ◌*ℤ◌, neg_ℤ, ◌≤ℤ◌, ◌<ℤ◌, List, [], ◌∷◌, ◌++◌, ◌⊎◌}
 use Rattle.std.proofs.Common.{arith, refl, inl, inr}
 use Rattle.std.proofs.lemmas.Int.{ints}
 use Rattle.whole_ring.specs.Signs.{below, at_zero, above}
@@ -8,12 +8,12 @@ use Rattle.whole_ring.proofs.Whole.{neg_mul}
 use Rattle.point_order.specs.Orientation.{orientation}
 use Rattle.point_order.specs.Heights.{lifted}
 use Rattle.point_order.specs.Sets.{IsIn}
-use Rattle.del_laws.specs.Cells.{Full, Open, NoTies, OneOf, Four, IsSolid, IsSubset, HasFull, Faces}
+use Rattle.del_laws.specs.Cells.{Full, Open, NoTies, Four, IsSolid, IsSubset, HasFull, Faces}
 use Rattle.del_laws.proofs.Identities.{orientation_swap23, orientation_bcad, orientation_acdb, lifted_bcad, lifted_acdb, weights_of}
 use Rattle.del_laws.proofs.Numbers.{weak, zero_weak, not_zero, not_back, one_above, turned_below}
 use Rattle.del_laws.proofs.Lists.{of_four}
 use Rattle.del_laws.proofs.Across.{across_full, across_open}
-use Rattle.del_laws.proofs.Regions.{IsSetOf, choose}
+use Rattle.del_laws.proofs.Regions.{choose}
 use Rattle.del_laws.proofs.Walks.{on, farther, all_full}
 use Rattle.del_laws.proofs.Conflict.{open_stays}
 

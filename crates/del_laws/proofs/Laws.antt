@@ -1,9 +1,9 @@
 -- The laws of specs/Laws and specs/Walks, from the theorems of the other files. This file opens the definition of a cell.
-use Rattle.std.specs.Prelude.{ℕ, ℤ, pos, ◌≡◌, ◌≤ℤ◌, List, ◌∷◌}
-use Rattle.std.proofs.Common.{inl, inr, ap}
+use Rattle.std.specs.Prelude.{pos, ◌≤ℤ◌, ◌∷◌}
+use Rattle.std.proofs.Common.{inl, inr}
 use Rattle.point_order.specs.Orientation.{orientation}
 use Rattle.point_order.specs.Heights.{lifted}
-use Rattle.del_laws.specs.Cells.{Vertex, point, far, Full, Open, Held, Cell, IsOutside}
+use Rattle.del_laws.specs.Cells.{point, far, Cell, IsOutside}
 use Rattle.del_laws.specs.Laws.{SwapFirst, SwapMiddle, SwapLast, AcrossFull, AcrossOpen, OneFullOnASide, OneOpenOnASide, SmallerSet, BetweenSets, FullStays, OpenStays, KeysHaveNoTies, KeysAreConvex, TestOfCells}
 use Rattle.del_laws.specs.Walks.{CloserAcross, FartherAcross, AwayFromAPoint, SolidHasCells, EveryPoint, SomeFacetBehind, CrossingTowards, FewerAreNearer}
 use Rattle.del_laws.proofs.Numbers.{weak, against}

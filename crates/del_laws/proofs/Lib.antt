@@ -8,6 +8,7 @@ pub mod Existence
 pub mod Facets
 pub mod Identities
 pub mod Laws
+pub mod Listed
 pub mod Lists
 pub mod Nearness
 pub mod Numbers

@@ -1,6 +1,6 @@
 -- The order of nearness to a point, and that a walk over cells that comes nearer at each step ends.
 -- This file opens the definition of a cell.
-use Rattle.std.specs.Prelude.{ℕ, ℤ, pos, ◌*ℤ◌, ◌≡◌, ◌≤ℤ◌, ◌<ℤ◌, ◌<◌, Bool, true, false, List, [], ◌∷◌, ◌⊎◌, count_by}
+use Rattle.std.specs.Prelude.{ℕ, ℤ, pos, ◌*ℤ◌, ◌≡◌, ◌≤ℤ◌, ◌<ℤ◌, ◌<◌, true, false, List, ◌∷◌, count_by}
 use Rattle.std.proofs.Common.{arith, refl, inl, inr}
 use Rattle.std.proofs.lemmas.Int.{ints}
 use Rattle.std.specs.Int.Signed.{lt_z}
@@ -9,7 +9,7 @@ use Rattle.conv_laws.proofs.Counts.{count_less}
 use Rattle.conv_laws.proofs.LeastRatio.{ratio_chain_less}
 use Rattle.point_order.specs.Orientation.{orientation}
 use Rattle.point_order.specs.Heights.{lifted}
-use Rattle.del_laws.specs.Cells.{Full, Open, NoTies, IsConvex, OneOf, IsBehind, Crossed, full, in_conflict}
+use Rattle.del_laws.specs.Cells.{Full, NoTies, IsConvex, OneOf, IsBehind, Crossed, full, in_conflict}
 use Rattle.del_laws.specs.Walks.{Rank, first, ratio, last, is_before}
 use Rattle.del_laws.proofs.Numbers.{below_or_not}
 use Rattle.del_laws.proofs.Tests.{less_from, less_true}

@@ -1,9 +1,7 @@
 -- Closed parts: a set of cells that is closed across the triples around some points holds all cells around them.
 -- This file opens the definition of a cell.
-use Rattle.std.specs.Prelude.{ℕ, ℤ, ◌≡◌, List, [], ◌∷◌}
+use Rattle.std.specs.Prelude.{ℕ, List, [], ◌∷◌}
 use Rattle.std.proofs.Common.{inl, inr, subst, sym, ap}
-use Rattle.point_order.specs.Orientation.{orientation}
-use Rattle.point_order.specs.Heights.{lifted}
 use Rattle.point_order.specs.Sets.{IsIn}
 use Rattle.del_laws.specs.Cells.{Full, Vertex, point, far, Held, NoTies, Four, IsSymmetric, IsRegion, HavePoints}
 use Rattle.del_laws.proofs.Orders.{full_left, full_right, swap12, swap23, swap34}

@@ -1,6 +1,6 @@
 -- The two facts on heights hold for the perturbed heights of points with whole coordinates.
-use Rattle.std.specs.Prelude.{ℕ, ℤ, pos, ◌+ℤ◌, ◌-ℤ◌, ◌*ℤ◌, neg_ℤ, ◌≡◌, ◌≢◌, ◌≤ℤ◌, ◌<ℤ◌, ◌<◌, ◌^◌, false, List, [], ◌∷◌, ◌+◌, ◌*◌}
-use Rattle.std.proofs.Common.{arith, refl, inl, inr, ap, sym, subst, ◌∙◌}
+use Rattle.std.specs.Prelude.{ℕ, ℤ, pos, ◌+ℤ◌, ◌-ℤ◌, ◌*ℤ◌, neg_ℤ, ◌≡◌, ◌≤ℤ◌, ◌<ℤ◌, false, List, [], ◌∷◌, ◌+◌, ◌*◌}
+use Rattle.std.proofs.Common.{arith, refl, inl, inr, ap, subst, ◌∙◌}
 use Rattle.std.proofs.lemmas.Int.{ints}
 use Rattle.whole_ring.specs.Signs.{below, at_zero, above}
 use Rattle.whole_ring.proofs.Signs.{sign, mul_pos, mul_neg_neg, mul_nonneg, square_nonneg}
@@ -8,16 +8,16 @@ use Rattle.whole_ring.proofs.Whole.{mul_add, mul_neg}
 use Rattle.conv_laws.specs.Places.{orient, lifted as lifted_determinant, distance}
 use Rattle.conv_laws.proofs.Spheres.{paraboloid_is_convex}
 use Rattle.point_order.specs.Coordinates.{IsKey, x_of, y_of, z_of}
-use Rattle.point_order.specs.Orientation.{orientation, is_flat, is_zero, triple, minor, x_from, y_from, z_from}
+use Rattle.point_order.specs.Orientation.{orientation, is_zero, triple, minor, x_from, y_from, z_from}
 use Rattle.point_order.specs.Heights.{height, lifted, out, sphere_polynomial, square_of}
-use Rattle.point_order.specs.Sets.{IsIn, AreFive}
+use Rattle.point_order.specs.Sets.{AreFive}
 use Rattle.point_order.proofs.Keys.{key-is}
 use Rattle.point_order.proofs.Perturbation.{out-sign}
 use Rattle.point_order.proofs.HeightLaws.{never_zero_law}
 use Rattle.del_laws.specs.Cells.{NoTies, IsConvex, OneOf}
 use Rattle.del_laws.specs.Keys.{AreKeys}
 use Rattle.del_laws.proofs.Identities.{place, orientation_at_a, orientation_at_b, orientation_at_c, orientation_same12, orientation_same13, orientation_same23, weights_of}
-use Rattle.del_laws.proofs.Numbers.{clash, not_zero}
+use Rattle.del_laws.proofs.Numbers.{clash}
 use Rattle.del_laws.proofs.Decide.{is_in}
 
 -- ---- no ties
@@ -28,19 +28,18 @@ not_told z n = elim (sign z) [ below p ↦ grind (arith, ints) | at_zero e ↦ a
 
 -- independent points, and a fifth that is none of them, are five different points
 five : (a b c d e : ℕ) → ¬ (orientation a b c d ≡ pos 0) → ¬ (OneOf e a b c d) → AreFive a b c d e
-five a b c d e n k =
-    (
-      λ q. n (ap (λ x. orientation x b c d) q ∙ orientation_same12 b c d),
-      λ q. n (ap (λ x. orientation x b c d) q ∙ orientation_same13 c b d),
-      λ q. n (ap (λ x. orientation x b c d) q ∙ orientation_at_a d b c),
-      λ q. k (inl q),
-      λ q. n (ap (λ x. orientation a x c d) q ∙ orientation_same23 a c d),
-      λ q. n (ap (λ x. orientation a x c d) q ∙ orientation_at_b a d c),
-      λ q. k (inr (inl q)),
-      λ q. n (ap (λ x. orientation a b x d) q ∙ orientation_at_c a b d),
-      λ q. k (inr (inr (inl q))),
-      λ q. k (inr (inr (inr (inl q)))),
-    )
+five a b c d e n k = (
+  λ q. n (ap (λ x. orientation x b c d) q ∙ orientation_same12 b c d),
+  λ q. n (ap (λ x. orientation x b c d) q ∙ orientation_same13 c b d),
+  λ q. n (ap (λ x. orientation x b c d) q ∙ orientation_at_a d b c),
+  λ q. k (inl q),
+  λ q. n (ap (λ x. orientation a x c d) q ∙ orientation_same23 a c d),
+  λ q. n (ap (λ x. orientation a x c d) q ∙ orientation_at_b a d c),
+  λ q. k (inr (inl q)),
+  λ q. n (ap (λ x. orientation a b x d) q ∙ orientation_at_c a b d),
+  λ q. k (inr (inr (inl q))),
+  λ q. k (inr (inr (inr (inl q)))),
+)
 
 -- the determinant at the perturbed heights, by its other name
 pub out_is : (a b c d e : ℕ) → out a b c d e ≡ lifted height a b c d e

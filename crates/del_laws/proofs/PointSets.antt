@@ -1,5 +1,5 @@
 -- Sets of points: when two are one, the points of a set with and without a point, and solid sets.
-use Rattle.std.specs.Prelude.{◌≡◌, ◌≢◌, refl, ℕ, ◌<◌, ◌^◌, Bool, true, false, not, ◌&&◌, ◌||◌, ◌==◌, nat_lt, List, [], ◌∷◌, ◌⊎◌, map, pos}
+use Rattle.std.specs.Prelude.{◌≡◌, refl, ℕ, ◌<◌, ◌^◌, Bool, true, false, not, ◌&&◌, ◌||◌, ◌==◌, nat_lt, List, [], ◌∷◌, map}
 use Rattle.std.specs.List.{list_any, filter}
 use Rattle.std.proofs.Common.{arith, inl, inr, ap, sym, subst, ◌∙◌}
 use Rattle.std.proofs.lemmas.Bool.Decides.{nat_tests}
@@ -12,11 +12,10 @@ use Rattle.point_order.specs.Solid.{is_solid}
 use Rattle.point_order.proofs.SetLaws.{below-each, same-members, in-with, in-with_new, in-with_old, ascending-with}
 use Rattle.del_laws.specs.Cells.{Vertex, point, far, IsSolid, IsSubset}
 use Rattle.del_laws.specs.Keys.{AreKeys}
-use Rattle.del_laws.specs.PointSets.{is_below_first, is_point_set, PointSet, same_vertex, is_point, has, solid, set_or, plus, minus, vertices}
+use Rattle.del_laws.specs.PointSets.{is_below_first, is_point_set, PointSet, same_vertex, is_point, has, set_or, plus, minus, vertices}
 use Rattle.del_laws.specs.Base.{Within}
-use Rattle.del_laws.proofs.Lists.{from_member, to_member}
 use Rattle.del_laws.proofs.Pairs.{same_point, far_point}
-use Rattle.del_laws.proofs.Tests.{filter_is, both_true, first_true, second_true, one_true, left_true, right_true, not_both, false_if, same_test, not_true, not_from, zero_false, not_zero_from, any_from, any_true, among_from, among_true, filtered_from, filtered_true}
+use Rattle.del_laws.proofs.Tests.{filter_is, both_true, first_true, second_true, one_true, left_true, right_true, not_both, same_test, not_true, not_from, zero_false, not_zero_from, any_from, any_true, among_from, among_true, filtered_from, filtered_true}
 
 -- ---- numbers
 
@@ -148,14 +147,14 @@ has_plus s (point a) (point b) e =
     let i = plus_points s a (below_from a (2 ^ 42) e) in
     ap (λ l. is_among b l) i
     ∙ same_test (is_among b (with_point a s.points)) ((a == b) || is_among b s.points)
-      (λ t. elim (in-with a b s.points (among_from b (with_point a s.points) t)) [
-        | inl q ↦ left_true (a == b) (is_among b s.points) (same_true a b q)
-        | inr r ↦ right_true (a == b) (is_among b s.points) (among_true b s.points r)
-      ])
-      (λ t. among_true b (with_point a s.points) (elim (one_true (a == b) (is_among b s.points) t) [
-        | inl q ↦ subst (λ x. IsIn x (with_point a s.points)) (same_from a b q) (in-with_new a s.points)
-        | inr r ↦ in-with_old a b s.points (among_from b s.points r)
-      ]))
+    (λ t. elim (in-with a b s.points (among_from b (with_point a s.points) t)) [
+      | inl q ↦ left_true (a == b) (is_among b s.points) (same_true a b q)
+      | inr r ↦ right_true (a == b) (is_among b s.points) (among_true b s.points r)
+    ])
+    (λ t. among_true b (with_point a s.points) (elim (one_true (a == b) (is_among b s.points) t) [
+      | inl q ↦ subst (λ x. IsIn x (with_point a s.points)) (same_from a b q) (in-with_new a s.points)
+      | inr r ↦ in-with_old a b s.points (among_from b s.points r)
+    ]))
 
 -- which points the set without a point has
 pub has_minus : (s : PointSet) (p q : Vertex) → has (minus s p) q ≡ (not (same_vertex p q) && has s q)
@@ -171,10 +170,10 @@ has_minus s (point a) far = no_more (not false)
 has_minus s (point a) (point b) =
     ap (λ l. is_among b l) (minus_points s a)
     ∙ same_test (is_among b (without_point a s.points)) (not (a == b) && is_among b s.points)
-      (λ t. (
-        let k = filtered_from (λ q. not (q == a)) s.points b (among_from b (without_point a s.points) t) in
-        both_true (not (a == b)) (is_among b s.points) (turned b a k.1) (among_true b s.points k.0)))
-      (λ t. among_true b (without_point a s.points) (filtered_true (λ q. not (q == a)) s.points b (among_from b s.points (second_true (not (a == b)) (is_among b s.points) t)) (turned a b (first_true (not (a == b)) (is_among b s.points) t))))
+    (λ t. (
+    let k = filtered_from (λ q. not (q == a)) s.points b (among_from b (without_point a s.points) t) in
+    both_true (not (a == b)) (is_among b s.points) (turned b a k.1) (among_true b s.points k.0)))
+    (λ t. among_true b (without_point a s.points) (filtered_true (λ q. not (q == a)) s.points b (among_from b s.points (second_true (not (a == b)) (is_among b s.points) t)) (turned a b (first_true (not (a == b)) (is_among b s.points) t))))
   where
     -- two numbers that differ
     turned : (m n : ℕ) → not (m == n) ≡ true → not (n == m) ≡ true

@@ -1,6 +1,6 @@
 -- A cell of a set is a cell of each smaller solid set that has its points; and of each set between it and two sets of which it is a cell.
 -- This file opens the definition of a cell.
-use Rattle.std.specs.Prelude.{ℕ, ℤ, pos, ◌≡◌, ◌≤ℤ◌, ◌<ℤ◌, List, ◌⊎◌}
+use Rattle.std.specs.Prelude.{ℕ, List, ◌⊎◌}
 use Rattle.std.proofs.Common.{inl, inr}
 use Rattle.point_order.specs.Orientation.{orientation}
 use Rattle.point_order.specs.Sets.{IsIn}

@@ -1,6 +1,6 @@
 -- The star law over tests of vertices, and so all facts of specs/Base. This file opens the definition of a cell.
-use Rattle.std.specs.Prelude.{◌≡◌, ◌≢◌, refl, ℕ, Bool, true, false, List, [], ◌∷◌, ◌⊎◌}
-use Rattle.std.proofs.Common.{inl, inr, ap, sym, subst, ◌∙◌}
+use Rattle.std.specs.Prelude.{◌≡◌, ◌≢◌, refl, ℕ, Bool, true, false, [], ◌∷◌, ◌⊎◌}
+use Rattle.std.proofs.Common.{inl, inr, sym, subst, ◌∙◌}
 use Rattle.std.proofs.Math.Decide.{ℕ_discrete}
 use Rattle.point_order.specs.Heights.{height}
 use Rattle.point_order.specs.Sets.{IsIn}
@@ -13,7 +13,7 @@ use Rattle.del_laws.proofs.Walks.{IsClosed}
 use Rattle.del_laws.proofs.Stars.{star}
 use Rattle.del_laws.proofs.Decide.{decide_full, both, either}
 use Rattle.del_laws.proofs.Perturbed.{no_ties}
-use Rattle.del_laws.proofs.PointSets.{keys_of, has_from, extensional, has_plus, has_minus, finite}
+use Rattle.del_laws.proofs.PointSets.{keys_of, extensional, has_plus, has_minus, finite}
 use Rattle.del_laws.proofs.Based.{test_true, test_from, no_twice, test_symmetric, test_complex, test_point, test_smaller, test_union, point_finite, test_corner, test_full_solid, test_solid_more}
 
 -- whether a test passes
@@ -45,8 +45,11 @@ module _ (s : PointSet) (q : Vertex → Vertex → Vertex → Vertex → Bool) (
   -- closed across facets
   chosen_closed : IsClosed height s.points Chosen []
   chosen_closed = record {
-    across = λ a b c d f t o F. (F, sym (sq.middle (point a) (point b) (point c) (point f)) ∙ closed (point a) (point b) (point c) (point d) (point f) (all_finite a b c d) (point_finite f)
-        (test_true s (point a) (point b) (point c) (point d) (inl t.0)) t.1 (test_true s (point a) (point b) (point c) (point f) (inr F)));
+    across = λ a b c d f t o F. (
+      F,
+      sym (sq.middle (point a) (point b) (point c) (point f)) ∙ closed (point a) (point b) (point c) (point d) (point f) (all_finite a b c d) (point_finite f)
+          (test_true s (point a) (point b) (point c) (point d) (inl t.0)) t.1 (test_true s (point a) (point b) (point c) (point f) (inr F)),
+    );
   }
 
   -- so they are all

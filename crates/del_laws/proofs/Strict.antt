@@ -1,11 +1,7 @@
 -- The definitions with "every other point" and "strictly" say the same as the weak ones, where there are no ties.
 -- This file opens the definition of a cell.
-use Rattle.std.specs.Prelude.{ℕ, ℤ, pos, ◌*ℤ◌, neg_ℤ, ◌≡◌, ◌≤ℤ◌, ◌<ℤ◌, List, [], ◌∷◌, ◌⊎◌}
-use Rattle.std.proofs.Common.{refl, arith, inl, inr, sym, ◌∙◌, ap}
-use Rattle.std.proofs.lemmas.Int.{ints}
-use Rattle.whole_ring.proofs.Whole.{neg_mul, mul_neg}
-use Rattle.whole_ring.specs.Signs.{below, at_zero, above}
-use Rattle.whole_ring.proofs.Signs.{sign, mul_nonneg}
+use Rattle.std.specs.Prelude.{ℕ, pos, ◌≡◌, ◌≤ℤ◌, ◌<ℤ◌, List, [], ◌∷◌}
+use Rattle.std.proofs.Common.{refl, inl, inr}
 use Rattle.point_order.specs.Orientation.{orientation}
 use Rattle.point_order.specs.Heights.{lifted}
 use Rattle.point_order.specs.Sets.{IsIn}
@@ -66,8 +62,8 @@ strict_open {h} {s} {a} {b} {c} n F = record {
   above = F.above;
   bounds = F.bounds;
   ties = λ f e m k o l z. positive (lifted h a b c f e) (F.ties f e m k l z) (λ q. (
-    let one = n.one_of a b c f e F.has_a F.has_b F.has_c m k (not_zero (orientation a b c f) l) q in
-    of_four (λ x. orientation a b c x ≡ pos 0 → ¬ (IsIn x (a ∷ b ∷ c ∷ [])) → ⊥) one (λ y v. v (inl refl)) (λ y v. v (inr (inl refl))) (λ y v. v (inr (inr (inl refl)))) (λ y v. not_zero (orientation a b c f) l y) z o));
+      let one = n.one_of a b c f e F.has_a F.has_b F.has_c m k (not_zero (orientation a b c f) l) q in
+      of_four (λ x. orientation a b c x ≡ pos 0 → ¬ (IsIn x (a ∷ b ∷ c ∷ [])) → ⊥) one (λ y v. v (inl refl)) (λ y v. v (inr (inl refl))) (λ y v. v (inr (inr (inl refl)))) (λ y v. not_zero (orientation a b c f) l y) z o));
 }
 
 -- and the other way round
@@ -82,4 +78,3 @@ weak_open {h} {s} {a} {b} {c} F = record {
   bounds = F.bounds;
   ties = λ f e m k l z. elim (is_in e (a ∷ b ∷ c ∷ [])) [ yes q ↦ zero_weak (lifted h a b c f e) (flat_three h a b c f e q) | no q ↦ weak (lifted h a b c f e) (F.ties f e m k q l z) ];
 }
-

@@ -1,8 +1,8 @@
 -- Tests and what they say: of numbers, of members, and of all members of a list.
-use Rattle.std.specs.Prelude.{ℕ, ℤ, pos, ◌≡◌, ◌≤ℤ◌, ◌<ℤ◌, Bool, true, false, not, ◌&&◌, ◌||◌, ◌==◌, List, [], ◌∷◌, ◌⊎◌, Option, None, Some, cond}
+use Rattle.std.specs.Prelude.{ℕ, ℤ, pos, ◌≡◌, ◌≤ℤ◌, ◌<ℤ◌, Bool, true, false, not, ◌&&◌, ◌||◌, ◌==◌, List, [], ◌∷◌, ◌⊎◌, None, Some}
 use Rattle.std.specs.List.{list_all, list_any, find, filter}
 use Rattle.std.specs.Int.Signed.{lt_z, le_z}
-use Rattle.std.proofs.Common.{arith, refl, inl, inr, ap, sym, subst, ◌∙◌}
+use Rattle.std.proofs.Common.{arith, refl, inl, inr, sym, subst}
 use Rattle.std.proofs.lemmas.Int.{ints}
 use Rattle.std.proofs.lemmas.Bool.Decides.{nat_tests}
 use Rattle.whole_ring.specs.Signs.{below, at_zero, above}

@@ -1,13 +1,13 @@
 -- Crossing a facet leads nearer to a point; the closest cell of a set; every point is in a Full cell, where there is one.
 -- This file opens the definition of a cell.
-use Rattle.std.specs.Prelude.{ℕ, ℤ, pos, ◌-ℤ◌, ◌*ℤ◌, neg_ℤ, ◌≡◌, ◌≤ℤ◌, ◌<ℤ◌, List, [], ◌∷◌, ◌⊎◌}
-use Rattle.std.proofs.Common.{arith, inl, inr, subst, sym, ◌∙◌, ap}
+use Rattle.std.specs.Prelude.{ℕ, ℤ, pos, ◌-ℤ◌, ◌*ℤ◌, neg_ℤ, ◌≡◌, ◌≤ℤ◌, ◌<ℤ◌, List, []}
+use Rattle.std.proofs.Common.{arith, inl, inr, subst, ◌∙◌, ap}
 use Rattle.std.proofs.lemmas.Int.{ints}
 use Rattle.whole_ring.proofs.Signs.{mul_pos, mul_neg_pos}
 use Rattle.point_order.specs.Orientation.{orientation}
 use Rattle.point_order.specs.Heights.{lifted}
 use Rattle.point_order.specs.Sets.{IsIn}
-use Rattle.del_laws.specs.Cells.{Full, Open, NoTies, IsConvex, OneOf, HasFullAt}
+use Rattle.del_laws.specs.Cells.{Full, NoTies, IsConvex, OneOf, HasFullAt}
 use Rattle.del_laws.proofs.Identities.{orientation_swap23, lifted_at_a, lifted_at_b, lifted_at_c, lifted_at_d, crossing_of}
 use Rattle.del_laws.proofs.Numbers.{positive, not_zero, clash, not_below, not_back, weak, against}
 use Rattle.del_laws.proofs.Lists.{of_four}
@@ -102,4 +102,3 @@ every_point {h} {s} {a} {b} {c} {d} n v F e m =
           (weight n g (all_closed h s) t m (λ x. x))
           (t.at.empty e m);
     }
-

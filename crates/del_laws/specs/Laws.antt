@@ -1,6 +1,6 @@
 -- The laws of facets, of other sets and of conflict, as the functions of the crate promise them.
 -- Each is for any heights, and those that need it say that there are no ties.
-use Rattle.std.specs.Prelude.{ℕ, ℤ, pos, true, ◌≡◌, ◌≤ℤ◌, ◌<ℤ◌, List, ◌∷◌, ◌⊎◌, ◌↔◌}
+use Rattle.std.specs.Prelude.{ℕ, pos, true, ◌≡◌, ◌≤ℤ◌, ◌<ℤ◌, List, ◌∷◌, ◌⊎◌, ◌↔◌}
 use Rattle.point_order.specs.Orientation.{orientation}
 use Rattle.point_order.specs.Heights.{height, lifted}
 use Rattle.point_order.specs.Sets.{IsIn}

@@ -1,6 +1,7 @@
 pub mod Cells
 pub mod Keys
 pub mod Laws
+pub mod Listed
 pub mod Parts
 pub mod Vertices
 pub mod PointSets

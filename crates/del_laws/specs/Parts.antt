@@ -1,7 +1,6 @@
 -- The laws of stars and closed parts, as the functions of the crate promise them.
 -- A set of cells is a test of four vertices, of which the laws ask only at cells.
 use Rattle.std.specs.Prelude.{ℕ, ◌≡◌, Bool, true, List, [], ◌∷◌}
-use Rattle.point_order.specs.Sets.{IsIn}
 use Rattle.del_laws.specs.Cells.{Vertex, point, Cell, NoTies, IsSubset, HavePoints}
 use Rattle.del_laws.specs.Base.{Symmetric}
 

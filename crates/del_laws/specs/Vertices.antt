@@ -1,5 +1,5 @@
 -- The complex of a set of points as a test of four vertices, which may stand in any order.
-use Rattle.std.specs.Prelude.{ℕ, Bool, true, false, ◌&&◌, ◌==◌, List, [], ◌∷◌}
+use Rattle.std.specs.Prelude.{ℕ, Bool, false, ◌&&◌, List, [], ◌∷◌}
 use Rattle.std.specs.List.{list_all}
 use Rattle.point_order.specs.Sets.{is_among}
 use Rattle.point_order.specs.Complex.{is_full, is_open}
