@@ -1,13 +1,13 @@
 -- Cells with their points in order: by any four of its vertices such a cell is told.
-use Rattle.std.specs.Prelude.{◌≡◌, ◌≢◌, ℕ, ◌<◌, ◌≤◌, Bool, true, false, ◌&&◌, List, [], ◌∷◌, ◌⊎◌}
+use Rattle.std.specs.Prelude.{◌≡◌, ℕ, ◌<◌, ◌≤◌, Bool, true, false, ◌&&◌, List, [], ◌∷◌}
 use Rattle.std.proofs.Common.{refl, sym, ap, ◌∙◌, inl, inr, arith}
 use Rattle.std.proofs.lemmas.Bool.{false≢true}
 use Rattle.point_order.specs.Sets.{IsIn, is_among}
 use Rattle.point_order.specs.declared.cell.Cell.{Cell}
 use Rattle.point_order.specs.declared.cell.Cell.TheVariants.{Full, Open}
 use Rattle.del_laws.specs.Cells.{Vertex, point, far}
-use Rattle.del_laws.proofs.Tests.{among_from, among_true}
-use Rattle.hole_laws.specs.Cells.{IsSymmetric}
+use Rattle.del_laws.proofs.Tests.{among_from}
+use Rattle.del_laws.specs.Base.{Symmetric}
 use Rattle.hole_laws.specs.Lists.{has_vertex, has_vertices, IsOrdered, at_cell}
 use Rattle.hole_laws.proofs.Order.{IsBefore, AreFourVertices, in_any_order}
 
@@ -34,7 +34,7 @@ pub and_last : (a b c d : Bool) → (a && b && c && d) ≡ (a && b && d && c)
 and_last a b c d = grind arith
 
 -- the test of four vertices does not depend on their order
-pub vertices_symmetric : (q : Cell) → IsSymmetric (has_vertices q)
+pub vertices_symmetric : (q : Cell) → Symmetric (has_vertices q)
 vertices_symmetric q = record {
   first = λ w x y z. and_first (has_vertex q w) (has_vertex q x) (has_vertex q y) (has_vertex q z);
   middle = λ w x y z. and_middle (has_vertex q w) (has_vertex q x) (has_vertex q y) (has_vertex q z);
@@ -130,7 +130,7 @@ at_four : (c : Vertex → Vertex → Vertex → Vertex → Bool) (w x y z i j k 
 at_four c w x y z i j k l e f g h = cc
 
 -- a symmetric test at the four is the test at the cell
-pub at_vertices : (c : Vertex → Vertex → Vertex → Vertex → Bool) → IsSymmetric c → (q : Cell) → IsOrdered q → (w x y z : Vertex) → AreFourVertices w x y z → has_vertices q w x y z ≡ true → c w x y z ≡ at_cell c q
+pub at_vertices : (c : Vertex → Vertex → Vertex → Vertex → Bool) → Symmetric c → (q : Cell) → IsOrdered q → (w x y z : Vertex) → AreFourVertices w x y z → has_vertices q w x y z ≡ true → c w x y z ≡ at_cell c q
 at_vertices c s q o w x y z d h = in_any_order (λ w x y z. has_vertices q w x y z ≡ true → c w x y z ≡ at_cell c q) (record {
   swap12 = λ w x y z f m. sym (s.first w x y z) ∙ f ((vertices_symmetric q).first w x y z ∙ m);
   swap23 = λ w x y z f m. sym (s.middle w x y z) ∙ f ((vertices_symmetric q).middle w x y z ∙ m);

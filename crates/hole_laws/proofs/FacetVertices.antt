@@ -1,5 +1,5 @@
 -- The facets of a cell with its points in order: one against each vertex, which the other three vertices tell.
-use Rattle.std.specs.Prelude.{◌≡◌, ◌≢◌, ℕ, ◌<◌, Bool, true, false, List, [], ◌∷◌, ◌⊎◌}
+use Rattle.std.specs.Prelude.{◌≡◌, ◌≢◌, ℕ, ◌<◌, true, List, [], ◌∷◌, ◌⊎◌}
 use Rattle.std.proofs.Common.{refl, sym, ap, subst, inl, inr, arith}
 use Rattle.std.proofs.lemmas.Bool.{false≢true, cases_eq}
 use Rattle.point_order.specs.Sets.{IsIn, IsAscending, is_among, ascending}

@@ -1,25 +1,24 @@
 -- The laws of an insertion over lists of cells.
-use Rattle.std.specs.Prelude.{◌≡◌, ◌≢◌, ℕ, Bool, true, false, not, ◌&&◌, ◌||◌, List, [], ◌∷◌, ◌⊎◌}
-use Rattle.std.specs.List.{list_any}
-use Rattle.std.proofs.Common.{refl, sym, ap, ap₂, ◌∙◌, subst, inl, inr, arith}
+use Rattle.std.specs.Prelude.{◌≡◌, ℕ, Bool, true, ◌&&◌, ◌||◌, List, [], ◌∷◌, ◌⊎◌}
+use Rattle.std.proofs.Common.{refl, sym, ap₂, ◌∙◌, subst, inl, inr, arith}
 use Rattle.std.proofs.lemmas.Bool.{false≢true}
-use Rattle.point_order.specs.Sets.{IsIn, is_among, ascending}
-use Rattle.point_order.specs.Facets.{facets_of, points_of}
+use Rattle.point_order.specs.Sets.{IsIn}
+use Rattle.point_order.specs.Facets.{facets_of}
 use Rattle.point_order.specs.declared.cell.Cell.{Cell}
 use Rattle.point_order.specs.declared.cell.Cell.TheVariants.{Full, Open}
 use Rattle.point_order.specs.declared.cell.Facet.{Facet}
 use Rattle.point_order.specs.declared.cell.Facet.TheVariants.{Three, Two}
-use Rattle.point_order.proofs.SetLaws.{in-ascending}
-use Rattle.del_laws.specs.Cells.{Vertex, point, far}
-use Rattle.del_laws.proofs.Tests.{among_from, among_true, any_from, any_true, true_or_false}
-use Rattle.hole_laws.specs.Cells.{IsSymmetric, Complex, Insertion, IsRim, gone}
-use Rattle.hole_laws.specs.Lists.{has_vertex, has_vertices, is_listed, IsOrdered, at_cell, HasListed, ListsCells, IsFacetVertex, cell_over, Goes, Stays, IsRimFacet, IsOverRim}
+use Rattle.del_laws.specs.Cells.{Vertex, point}
+use Rattle.del_laws.proofs.Tests.{any_from, any_true, true_or_false}
+use Rattle.del_laws.specs.Base.{Symmetric}
+use Rattle.hole_laws.specs.Cells.{IsComplex, Insertion, gone}
+use Rattle.hole_laws.specs.Lists.{has_vertex, has_vertices, is_listed, IsOrdered, HasListed, ListsCells, Goes}
 use Rattle.hole_laws.proofs.Order.{AreFourVertices}
-use Rattle.hole_laws.proofs.Vertices.{cases_vertex, first_last, second_last}
-use Rattle.hole_laws.proofs.Rims.{last_apart, new_has_rim, rim_makes_new, not_both, both, both_is, without_symmetric}
+use Rattle.hole_laws.proofs.Vertices.{first_last, second_last}
+use Rattle.hole_laws.proofs.Rims.{last_apart, not_both, both, both_is, without_symmetric}
 use Rattle.hole_laws.proofs.Region.{region}
-use Rattle.hole_laws.proofs.CellVertices.{four_true, four_is, and_first, and_middle, and_last, vertices_symmetric, at_vertices, same_cell}
-use Rattle.hole_laws.proofs.FacetVertices.{IsAgainst, HasAgainst, AgainstSome, facet_against, against_of, shared_facet, over_facet}
+use Rattle.hole_laws.proofs.CellVertices.{four_is, vertices_symmetric, at_vertices, same_cell}
+use Rattle.hole_laws.proofs.FacetVertices.{facet_against, against_of, shared_facet}
 
 -- ---- one list
 
@@ -32,15 +31,15 @@ second_of : (a b : Bool) → (a && b) ≡ true → b ≡ true
 second_of a b h = grind arith
 
 -- the four vertices of a cell are different
-pub four_of : (c : Vertex → Vertex → Vertex → Vertex → Bool) → Complex c → (w x y z : Vertex) → c w x y z ≡ true → AreFourVertices w x y z
+pub four_of : (c : Vertex → Vertex → Vertex → Vertex → Bool) → IsComplex c → (w x y z : Vertex) → c w x y z ≡ true → AreFourVertices w x y z
 four_of c k w x y z h =
     let a = last_apart c k w x y z h in
-    let b = last_apart c k x y z w (sym (first_last c k.symmetric w x y z) ∙ h) in
-    let d = last_apart c k w y z x (sym (second_last c k.symmetric w x y z) ∙ h) in
+    let b = last_apart c k x y z w (sym (first_last c k.laws.symmetric w x y z) ∙ h) in
+    let d = last_apart c k w y z x (sym (second_last c k.laws.symmetric w x y z) ∙ h) in
     record { wx = b.2; wy = b.1; wz = b.0; xy = d.1; xz = d.0; yz = λ e. a.0 (sym e) }
 
 -- a list's test does not depend on the order of the vertices
-listed_symmetric : (l : List Cell) → IsSymmetric (is_listed l)
+listed_symmetric : (l : List Cell) → Symmetric (is_listed l)
 unfolding is_listed
 listed_symmetric l = record { first = first l; middle = middle l; last = last l }
   where
@@ -88,10 +87,10 @@ corners q o =
     let k = (against_of q o f.0 f.1) in
     record { w = k.against.t1; x = k.against.t2; y = k.against.t3; z = k.z; four = k.against.four; vertices = k.against.vertices }
 
-module _ (c : Vertex → Vertex → Vertex → Vertex → Bool) (k : Complex c) (l : List Cell) (t : ListsCells l c) where
+module _ (c : Vertex → Vertex → Vertex → Vertex → Bool) (k : IsComplex c) (l : List Cell) (t : ListsCells l c) where
   -- four vertices of a listed cell pass the test
   pub cell_of : (q : Cell) → IsIn q l → (w x y z : Vertex) → AreFourVertices w x y z → has_vertices q w x y z ≡ true → c w x y z ≡ true
-  cell_of q m w x y z d h = at_vertices c k.symmetric q (t.ordered q m) w x y z d h ∙ t.cell q m
+  cell_of q m w x y z d h = at_vertices c k.laws.symmetric q (t.ordered q m) w x y z d h ∙ t.cell q m
 
   -- an ordered cell whose vertices pass the test is listed
   pub listed_of : (q : Cell) → IsOrdered q → (w x y z : Vertex) → AreFourVertices w x y z → has_vertices q w x y z ≡ true → c w x y z ≡ true → IsIn q l
@@ -138,13 +137,13 @@ module _ (c c' : Vertex → Vertex → Vertex → Vertex → Bool) (p : ℕ) (k 
       test : Vertex → Vertex → Vertex → Vertex → Bool
       test w x y z = gone c c' w x y z && is_listed part w x y z
 
-      gs : IsSymmetric (gone c c')
-      gs = without_symmetric c c' k.before.symmetric k.after.symmetric
+      gs : Symmetric (gone c c')
+      gs = without_symmetric c c' k.before.laws.symmetric k.after.laws.symmetric
 
-      ls : IsSymmetric (is_listed part)
+      ls : Symmetric (is_listed part)
       ls = listed_symmetric part
 
-      symmetric : IsSymmetric test
+      symmetric : Symmetric test
       symmetric = record {
         first = λ w x y z. ap₂ (λ a b. a && b) (gs.first w x y z) (ls.first w x y z);
         middle = λ w x y z. ap₂ (λ a b. a && b) (gs.middle w x y z) (ls.middle w x y z);

@@ -1,24 +1,21 @@
 -- The new cells of an insertion over lists: those of the new point and a rim facet; what changes is near by.
-use Rattle.std.specs.Prelude.{◌≡◌, ◌≢◌, ℕ, Bool, true, false, List, [], ◌∷◌, ◌⊎◌, ◌↔◌}
+use Rattle.std.specs.Prelude.{◌≡◌, ◌≢◌, ℕ, Bool, true, false, List, [], ◌∷◌}
 use Rattle.std.proofs.Common.{refl, sym, ap, ◌∙◌, subst, inl, inr}
 use Rattle.std.proofs.lemmas.Bool.{false≢true}
-use Rattle.point_order.specs.Sets.{IsIn, is_among, ascending}
+use Rattle.point_order.specs.Sets.{IsIn}
 use Rattle.point_order.specs.Facets.{facets_of, points_of}
 use Rattle.point_order.specs.declared.cell.Cell.{Cell}
 use Rattle.point_order.specs.declared.cell.Cell.TheVariants.{Full, Open}
 use Rattle.point_order.specs.declared.cell.Facet.{Facet}
-use Rattle.point_order.specs.declared.cell.Facet.TheVariants.{Three, Two}
-use Rattle.point_order.proofs.SetLaws.{in-ascending}
-use Rattle.del_laws.specs.Cells.{Vertex, point, far}
+use Rattle.del_laws.specs.Cells.{Vertex, point}
 use Rattle.del_laws.proofs.Tests.{among_from, among_true, true_or_false}
-use Rattle.hole_laws.specs.Cells.{Insertion, IsRim, gone}
-use Rattle.hole_laws.specs.Lists.{has_vertex, has_vertices, IsOrdered, HasListed, ListsCells, IsFacetVertex, cell_over, Goes, Stays, IsRimFacet, IsOverRim}
+use Rattle.hole_laws.specs.Cells.{Insertion, IsRim}
+use Rattle.hole_laws.specs.Lists.{has_vertex, has_vertices, IsOrdered, HasListed, ListsCells, IsFacetVertex, cell_over, Goes, IsRimFacet, IsOverRim}
 use Rattle.hole_laws.proofs.Order.{AreFourVertices}
-use Rattle.hole_laws.proofs.Vertices.{cases_vertex}
-use Rattle.hole_laws.proofs.Rims.{last_apart, new_has_rim, rim_makes_new, both, both_is}
+use Rattle.hole_laws.proofs.Rims.{new_has_rim, rim_makes_new, both, both_is}
 use Rattle.hole_laws.proofs.CellVertices.{four_true, four_is}
 use Rattle.hole_laws.proofs.FacetVertices.{IsAgainst, HasAgainst, AgainstSome, facet_against, against_of, facet_from, shared_facet, over_facet}
-use Rattle.hole_laws.proofs.Listed.{four_of, HasCorners, corners, cell_of, listed_of, decide_listed, goes_test, test_goes}
+use Rattle.hole_laws.proofs.Listed.{four_of, corners, cell_of, listed_of, goes_test, test_goes}
 
 -- the points of a cell are its vertices
 pub point_vertex : (q : Cell) (e : ℕ) → IsIn e (points_of q) → has_vertex q (point e) ≡ true

@@ -6,12 +6,13 @@ use Rattle.std.proofs.lemmas.Bool.{false≢true}
 use Rattle.conv_laws.specs.Lists.{odd, IsIn, HasAnother}
 use Rattle.conv_laws.proofs.Parity.{even_degrees, HasSome, odd_some, another, one_odd, two_even, odd-same}
 use Rattle.del_laws.specs.Cells.{Vertex}
-use Rattle.hole_laws.specs.Cells.{IsSymmetric, IsSymmetric3, Across, Insertion, gone}
+use Rattle.del_laws.specs.Base.{Symmetric, Symmetric3, Across}
+use Rattle.hole_laws.specs.Cells.{Insertion, gone}
 use Rattle.hole_laws.proofs.Vertices.{cases_vertex}
 use Rattle.hole_laws.proofs.Rims.{across_one, rim_makes_new, not_both, both, both_is, kept_is, without_symmetric}
 
 module _ (c c' : Vertex → Vertex → Vertex → Vertex → Bool) (p : Vertex) (k : Insertion c c' p)
-    (part : Vertex → Vertex → Vertex → Vertex → Bool) (symmetric : IsSymmetric part)
+    (part : Vertex → Vertex → Vertex → Vertex → Bool) (symmetric : Symmetric part)
     (goes : (w x y z : Vertex) → part w x y z ≡ true → gone c c' w x y z ≡ true)
     (closed : (t1 t2 t3 x y : Vertex) → part t1 t2 t3 x ≡ true → gone c c' t1 t2 t3 y ≡ true → part t1 t2 t3 y ≡ true) where
   part_cell : (w x y z : Vertex) → part w x y z ≡ true → c w x y z ≡ true
@@ -24,7 +25,7 @@ module _ (c c' : Vertex → Vertex → Vertex → Vertex → Bool) (p : Vertex) 
   abbrev rim : Vertex → Vertex → Vertex → Bool
   rim t1 t2 t3 = odd (part t1 t2 t3) k.before.vertices
 
-  rim_symmetric : IsSymmetric3 rim
+  rim_symmetric : Symmetric3 rim
   rim_symmetric = record {
     first = λ x y z. odd-same (part x y z) (part y x z) (λ w. symmetric.first x y z w) k.before.vertices;
     last = λ x y z. odd-same (part x y z) (part x z y) (λ w. symmetric.middle x y z w) k.before.vertices;
@@ -34,8 +35,8 @@ module _ (c c' : Vertex → Vertex → Vertex → Vertex → Bool) (p : Vertex) 
   only_gone : (t1 t2 t3 z y : Vertex) → rim t1 t2 t3 ≡ true → part t1 t2 t3 z ≡ true → c t1 t2 t3 y ≡ true → y ≢ z → gone c c' t1 t2 t3 y ≡ false
   only_gone t1 t2 t3 z y h hz hy n = not_both _ λ g.
       let hy' = closed t1 t2 t3 z y hz g in
-      let a = k.before.across t1 t2 t3 z (part_cell t1 t2 t3 z hz) in
-      false≢true (sym (two_even (part t1 t2 t3) y z k.before.vertices k.before.once (k.before.listed t1 t2 t3 y hy) (k.before.listed t1 t2 t3 z (part_cell t1 t2 t3 z hz)) n hy' hz
+      let a = k.before.laws.across t1 t2 t3 z (part_cell t1 t2 t3 z hz) in
+      false≢true (sym (two_even (part t1 t2 t3) y z k.before.vertices k.before.laws.distinct (k.before.laws.listed t1 t2 t3 y hy) (k.before.laws.listed t1 t2 t3 z (part_cell t1 t2 t3 z hz)) n hy' hz
       (λ w i hw. two w (cases_vertex w z) hw)) ∙ h)
     where
       two : (w : Vertex) → (w ≡ z) ⊎ (w ≡ z → ⊥) → part t1 t2 t3 w ≡ true → (w ≡ y) ⊎ (w ≡ z)
@@ -45,10 +46,10 @@ module _ (c c' : Vertex → Vertex → Vertex → Vertex → Bool) (p : Vertex) 
   rim_new : (t1 t2 t3 : Vertex) → rim t1 t2 t3 ≡ true → c' t1 t2 t3 p ≡ true
   rim_new t1 t2 t3 h =
       rim_makes_new c c' p k t1 t2 t3 record {
-        kept = a.other;
+        kept = a.beyond;
         lost = z.at;
         kept_before = a.cell;
-        kept_after = kept_is _ _ a.cell (only_gone t1 t2 t3 z.at a.other h z.holds a.cell a.differs);
+        kept_after = kept_is _ _ a.cell (only_gone t1 t2 t3 z.at a.beyond h z.holds a.cell a.other);
         lost_before = part_cell t1 t2 t3 z.at z.holds;
         lost_after = part_new t1 t2 t3 z.at z.holds;
       }
@@ -57,11 +58,11 @@ module _ (c c' : Vertex → Vertex → Vertex → Vertex → Bool) (p : Vertex) 
       z = odd_some (part t1 t2 t3) k.before.vertices h
 
       a : Across c t1 t2 t3 z.at
-      a = k.before.across t1 t2 t3 z.at (part_cell t1 t2 t3 z.at z.holds)
+      a = k.before.laws.across t1 t2 t3 z.at (part_cell t1 t2 t3 z.at z.holds)
 
   rim_here : (t1 t2 t3 z y : Vertex) → part t1 t2 t3 z ≡ true → c t1 t2 t3 y ≡ true → y ≢ z → part t1 t2 t3 y ≡ false → rim t1 t2 t3 ≡ true
   rim_here t1 t2 t3 z y hz hy n ny =
-      one_odd (part t1 t2 t3) z k.before.vertices k.before.once (k.before.listed t1 t2 t3 z hc) hz (λ w i hw.
+      one_odd (part t1 t2 t3) z k.before.vertices k.before.laws.distinct (k.before.laws.listed t1 t2 t3 z hc) hz (λ w i hw.
       across_one c k.before t1 t2 t3 w z y (part_cell t1 t2 t3 w hw) hc hy
       (λ e. false≢true (sym ny ∙ ap (part t1 t2 t3) (sym e) ∙ hw)) (λ e. n (sym e)))
     where
@@ -70,21 +71,21 @@ module _ (c c' : Vertex → Vertex → Vertex → Vertex → Bool) (p : Vertex) 
 
   -- two vertices have an even number of odd facets
   other_rim : (a b x : Vertex) → rim a b x ≡ true → HasAnother (rim a b) x k.before.vertices
-  other_rim a b x h = another (rim a b) x k.before.vertices k.before.once listed h (even_degrees (part a b) record { loose = none; both = λ y z. symmetric.last a b y z } k.before.vertices)
+  other_rim a b x h = another (rim a b) x k.before.vertices k.before.laws.distinct listed h (even_degrees (part a b) record { loose = none; both = λ y z. symmetric.last a b y z } k.before.vertices)
     where
       listed : IsIn x k.before.vertices
       listed =
           let z = odd_some (part a b x) k.before.vertices h in
-          k.before.listed a b z.at x (sym (k.before.symmetric.last a b x z.at) ∙ part_cell a b x z.at z.holds)
+          k.before.laws.listed a b z.at x (sym (k.before.laws.symmetric.last a b x z.at) ∙ part_cell a b x z.at z.holds)
 
       none : (y : Vertex) → part a b y y ≡ false
-      none y = not_both _ λ e. false≢true (sym (k.before.apart a b y) ∙ part_cell a b y y e)
+      none y = not_both _ λ e. false≢true (sym (k.before.laws.apart a b y) ∙ part_cell a b y y e)
 
   star_step : (a b x y : Vertex) → c' a b x p ≡ true → rim a b x ≡ true → c' a b y p ≡ true → rim a b y ≡ true
   star_step a b x y hx h hy = same (cases_vertex y x)
     where
-      s : IsSymmetric c'
-      s = k.after.symmetric
+      s : Symmetric c'
+      s = k.after.laws.symmetric
 
       same : (y ≡ x) ⊎ (y ≡ x → ⊥) → rim a b y ≡ true
       same (inl e) = ap (rim a b) e ∙ h
@@ -150,7 +151,7 @@ module _ (c c' : Vertex → Vertex → Vertex → Vertex → Bool) (p : Vertex) 
       go true e = e
       go false e = absurd (some_rim a1 a2 a3 a4 ha λ r1 r2 r3 h.
           let q = k.whole (λ w x y z. gone c c' w x y z && not (part w x y z))
-          (without_symmetric (gone c c') part (without_symmetric c c' k.before.symmetric k.after.symmetric) symmetric)
+          (without_symmetric (gone c c') part (without_symmetric c c' k.before.laws.symmetric k.after.laws.symmetric) symmetric)
           b1 b2 b3 b4 (both_is (c b1 b2 b3 b4) (c' b1 b2 b3 b4) hb).0 (both (gone c c' b1 b2 b3 b4) (part b1 b2 b3 b4) hb e)
           (λ t1 t2 t3 x y hc hx hy. rest_step r1 r2 r3 h t1 t2 t3 x y hx hy)
           a1 a2 a3 a4 (part_cell a1 a2 a3 a4 ha) in

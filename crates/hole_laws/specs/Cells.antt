@@ -1,47 +1,19 @@
 -- A complex seen from outside: a test of four vertices, which says whether they make a cell.
 -- Nothing here opens the definition of a cell.
-use Rattle.std.specs.Prelude.{◌≡◌, ◌≢◌, Bool, true, false, not, ◌&&◌, List, ◌⊎◌}
-use Rattle.conv_laws.specs.Lists.{AreDistinct, IsIn}
+use Rattle.std.specs.Prelude.{◌≡◌, ◌≢◌, Bool, true, false, not, ◌&&◌, List}
 use Rattle.del_laws.specs.Cells.{Vertex, far}
+use Rattle.del_laws.specs.Base.{Symmetric, Symmetric3, Complex}
+use Rattle.del_laws.specs.PointSets.{PointSet, has}
 
--- a test of four vertices, and one of three
-abbrev pub Four : Type 0
-Four = Vertex → Vertex → Vertex → Vertex → Bool
-
-abbrev pub Three : Type 0
-Three = Vertex → Vertex → Vertex → Bool
-
--- the answer does not depend on the order of the vertices
-pub record IsSymmetric (c : Vertex → Vertex → Vertex → Vertex → Bool) : Type 0 where
-  pub first : (w x y z : Vertex) → c w x y z ≡ c x w y z
-  pub middle : (w x y z : Vertex) → c w x y z ≡ c w y x z
-  pub last : (w x y z : Vertex) → c w x y z ≡ c w x z y
-
-pub record IsSymmetric3 (t : Vertex → Vertex → Vertex → Bool) : Type 0 where
-  pub first : (x y z : Vertex) → t x y z ≡ t y x z
-  pub last : (x y z : Vertex) → t x y z ≡ t x z y
-
--- the other cell on the facet t1, t2, t3 of the cell with x: its vertex, and there is no third
-pub record Across (c : Vertex → Vertex → Vertex → Vertex → Bool) (t1 t2 t3 x : Vertex) : Type 0 where
-  pub other : Vertex
-  pub differs : other ≢ x
-  pub cell : c t1 t2 t3 other ≡ true
-  pub only : (z : Vertex) → c t1 t2 t3 z ≡ true → (z ≡ x) ⊎ (z ≡ other)
-
--- What the laws see of a complex: its cells have four different vertices, each from one list,
--- and every facet of every cell lies in exactly two cells.
-pub record Complex (c : Vertex → Vertex → Vertex → Vertex → Bool) : Type 0 where
-  pub symmetric : IsSymmetric c
-  pub apart : (w x y : Vertex) → c w x y y ≡ false
+-- a complex, with a list of all vertices that its cells can have
+pub record IsComplex (c : Vertex → Vertex → Vertex → Vertex → Bool) : Type 0 where
   pub vertices : List Vertex
-  pub once : AreDistinct vertices
-  pub listed : (w x y z : Vertex) → c w x y z ≡ true → IsIn z vertices
-  pub across : (t1 t2 t3 x : Vertex) → c t1 t2 t3 x ≡ true → Across c t1 t2 t3 x
+  pub laws : Complex c vertices
 
 -- a part of the complex that has a cell, and with each cell those across its facets, is all of it
 abbrev pub ClosedPart : (Vertex → Vertex → Vertex → Vertex → Bool) → Type 0
 ClosedPart c =
-    (part : Vertex → Vertex → Vertex → Vertex → Bool) → IsSymmetric part →
+    (part : Vertex → Vertex → Vertex → Vertex → Bool) → Symmetric part →
     (a1 a2 a3 a4 : Vertex) → c a1 a2 a3 a4 ≡ true → part a1 a2 a3 a4 ≡ true →
     ((t1 t2 t3 x y : Vertex) → c t1 t2 t3 x ≡ true → part t1 t2 t3 x ≡ true → c t1 t2 t3 y ≡ true → part t1 t2 t3 y ≡ true) →
     (b1 b2 b3 b4 : Vertex) → c b1 b2 b3 b4 ≡ true → part b1 b2 b3 b4 ≡ true
@@ -49,25 +21,10 @@ ClosedPart c =
 -- the same of the cells at p, each named by its facet without p, and closed across the facets with p
 abbrev pub ClosedStar : (Vertex → Vertex → Vertex → Vertex → Bool) → Vertex → Type 0
 ClosedStar c p =
-    (part : Vertex → Vertex → Vertex → Bool) → IsSymmetric3 part →
+    (part : Vertex → Vertex → Vertex → Bool) → Symmetric3 part →
     (a1 a2 a3 : Vertex) → c a1 a2 a3 p ≡ true → part a1 a2 a3 ≡ true →
     ((t1 t2 x y : Vertex) → c t1 t2 x p ≡ true → part t1 t2 x ≡ true → c t1 t2 y p ≡ true → part t1 t2 y ≡ true) →
     (b1 b2 b3 : Vertex) → c b1 b2 b3 p ≡ true → part b1 b2 b3 ≡ true
-
--- no vertex is the infinite one: a Full cell
-pub record ArePoints (w x y z : Vertex) : Type 0 where
-  pub first : w ≢ far
-  pub second : x ≢ far
-  pub third : y ≢ far
-  pub fourth : z ≢ far
-
--- v is in a Full cell
-pub record HasFullAt (c : Vertex → Vertex → Vertex → Vertex → Bool) (v : Vertex) : Type 0 where
-  pub t1 : Vertex
-  pub t2 : Vertex
-  pub t3 : Vertex
-  pub cell : c t1 t2 t3 v ≡ true
-  pub points : ArePoints t1 t2 t3 v
 
 -- some cell has both v and q
 pub record AreLinked (c : Vertex → Vertex → Vertex → Vertex → Bool) (v q : Vertex) : Type 0 where
@@ -84,6 +41,15 @@ pub record IsOpposite (c : Vertex → Vertex → Vertex → Vertex → Bool) (v 
   pub there : c t1 t2 t3 q ≡ true
   pub other : q ≢ v
   pub finite : q ≢ far
+
+-- ---- sets
+
+-- the set s with the new point p
+pub record IsAdd (s : PointSet) (p : Vertex) (more : PointSet) : Type 0 where
+  pub finite : p ≢ far
+  pub absent : has s p ≡ false
+  pub present : has more p ≡ true
+  pub same : (q : Vertex) → q ≢ p → has more q ≡ has s q
 
 -- ---- two complexes, of a set and of the set with one more point
 
@@ -117,8 +83,8 @@ pub record HasRim (c c' : Vertex → Vertex → Vertex → Vertex → Bool) : Ty
 
 -- what an insertion of p is, seen from outside: c is the complex of a solid set, c' that of the set with p
 pub record Insertion (c c' : Vertex → Vertex → Vertex → Vertex → Bool) (p : Vertex) : Type 0 where
-  pub before : Complex c
-  pub after : Complex c'
+  pub before : IsComplex c
+  pub after : IsComplex c'
   pub whole : ClosedPart c
   pub star : ClosedStar c' p
   pub absent : (w x y : Vertex) → c w x y p ≡ false

@@ -1,7 +1,7 @@
 -- Cells of a list, seen as tests of four vertices.
 use Rattle.std.specs.Prelude.{◌≡◌, ℕ, ◌<◌, Bool, true, false, ◌&&◌, List, [], ◌∷◌}
 use Rattle.std.specs.List.{list_any}
-use Rattle.point_order.specs.Sets.{IsIn, is_among, IsAscending, ascending}
+use Rattle.point_order.specs.Sets.{IsIn, is_among, ascending}
 use Rattle.point_order.specs.Facets.{facets_of}
 use Rattle.point_order.specs.declared.cell.Cell.{Cell}
 use Rattle.point_order.specs.declared.cell.Cell.TheVariants.{Full, Open}
