@@ -12,6 +12,7 @@ pub mod Listed
 pub mod Lists
 pub mod Nearness
 pub mod Numbers
+pub mod Ordered
 pub mod Orders
 pub mod Pairs
 pub mod Parts

@@ -1,4 +1,4 @@
--- Which cells the sorted list of a complex has, and its order.
+-- Which cells the sorted list of a complex has.
 use Rattle.std.specs.Prelude.{◌≡◌, refl, ℕ, zero, suc, ◌<◌, Bool, true, false, not, ◌&&◌, List, [], ◌∷◌, ◌++◌, ◌⊎◌, map, length}
 use Rattle.std.specs.List.{filter, list_all}
 use Rattle.std.specs.Ordering.{nat_cmp}
@@ -16,40 +16,40 @@ use Rattle.point_order.specs.Complex.{complex, is_full, is_open}
 use Rattle.point_order.proofs.SetLaws.{below-each}
 use Rattle.del_laws.specs.Cells.{Vertex, point, far}
 use Rattle.del_laws.specs.Vertices.{are_among, is_full_cell, is_open_cell, is_cell}
-use Rattle.del_laws.specs.Listed.{IsListedFull, IsListedOpen, IsListed, ListedIsCell, CellIsListed, AreAscending, ComplexIsAscending, SameMembers}
+use Rattle.del_laws.specs.Listed.{IsListedFull, IsListedOpen, IsListed, ListedIsCell, CellIsListed}
 use Rattle.del_laws.proofs.Tests.{both_true, first_true, second_true, all_true, all_from, among_true, among_from, filtered_from, filtered_true}
 
 -- ---- lists
 
 -- a member of the first of two lists
-in_left : {X : Type 0} (e : X) (l m : List X) → IsIn e l → IsIn e (l ++ m)
+pub in_left : {X : Type 0} (e : X) (l m : List X) → IsIn e l → IsIn e (l ++ m)
 in_left e [] m i = absurd i
 in_left e (x ∷ l) m i = elim i [ inl q ↦ inl q | inr r ↦ inr (in_left e l m r) ]
 
 -- of the second
-in_right : {X : Type 0} (e : X) (l m : List X) → IsIn e m → IsIn e (l ++ m)
+pub in_right : {X : Type 0} (e : X) (l m : List X) → IsIn e m → IsIn e (l ++ m)
 in_right e [] m i = i
 in_right e (x ∷ l) m i = inr (in_right e l m i)
 
 -- a member of both together
-from_append : {X : Type 0} (e : X) (l m : List X) → IsIn e (l ++ m) → IsIn e l ⊎ IsIn e m
+pub from_append : {X : Type 0} (e : X) (l m : List X) → IsIn e (l ++ m) → IsIn e l ⊎ IsIn e m
 from_append e [] m i = inr i
 from_append e (x ∷ l) m i = elim i [ inl q ↦ inl (inl q) | inr r ↦ elim (from_append e l m r) [ inl k ↦ inl (inr k) | inr k ↦ inr k ] ]
 
 -- f of a member
-mapped_true : {X Y : Type 0} (f : X → Y) (e : X) (l : List X) → IsIn e l → IsIn (f e) (map f l)
+pub mapped_true : {X Y : Type 0} (f : X → Y) (e : X) (l : List X) → IsIn e l → IsIn (f e) (map f l)
 mapped_true f e [] i = absurd i
 mapped_true f e (x ∷ l) i = elim i [ inl q ↦ inl (ap f q) | inr r ↦ inr (mapped_true f e l r) ]
 
 -- and back
-mapped_from : {X Y : Type 0} (f : X → Y) (e : Y) (l : List X) → IsIn e (map f l) → (x : X) × IsIn x l × (f x ≡ e)
+pub mapped_from : {X Y : Type 0} (f : X → Y) (e : Y) (l : List X) → IsIn e (map f l) → (x : X) × IsIn x l × (f x ≡ e)
 mapped_from f e [] i = absurd i
 mapped_from f e (x ∷ l) i = elim i [ inl q ↦ (x, inl refl, q) | inr r ↦ (let k = mapped_from f e l r in (k.0, inr k.1, k.2)) ]
 
 -- ---- parts of a list
 
 -- a part has members of the list
-part_inside : (k : ℕ) (s q : List ℕ) → IsIn q (subsets k s) → (p : ℕ) → IsIn p q → IsIn p s
+pub part_inside : (k : ℕ) (s q : List ℕ) → IsIn q (subsets k s) → (p : ℕ) → IsIn p q → IsIn p s
 part_inside zero s q m p i = elim m [ inl e ↦ absurd (subst (λ (l : List ℕ). IsIn p l) (sym e) i) | inr none ↦ absurd none ]
 part_inside (suc k) [] q m p i = absurd m
 part_inside (suc k) (x ∷ s) q m p i = elim (from_append q (map (λ r. x ∷ r) (subsets k s)) (subsets (suc k) s) m) [
@@ -144,15 +144,15 @@ of_three s (a ∷ b ∷ c ∷ []) l f t = record {
 of_three s (a ∷ b ∷ c ∷ d ∷ t) l f e = cc
 
 -- a cell of its kind
-same_full : (q r : List ℕ) → Full q ≡ Full r → q ≡ r
+pub same_full : (q r : List ℕ) → Full q ≡ Full r → q ≡ r
 same_full q r e = cc
 
 -- a cell of its kind
-same_open : (q r : List ℕ) → Open q ≡ Open r → q ≡ r
+pub same_open : (q r : List ℕ) → Open q ≡ Open r → q ≡ r
 same_open q r e = cc
 
 -- no cell is of both kinds
-not_both_kinds : (q r : List ℕ) → Full q ≡ Open r → ⊥
+pub not_both_kinds : (q r : List ℕ) → Full q ≡ Open r → ⊥
 not_both_kinds q r e = cc
 
 -- what is listed
@@ -205,10 +205,3 @@ three_listed s a b c l f g t =
 pub cell_is_listed : CellIsListed
 cell_is_listed s (Full q) a l = subst (λ (v : List ℕ). IsIn (Full v) (complex s)) (sym l.is) (four_listed s l.a l.b l.c l.d a l.first l.second l.third l.test)
 cell_is_listed s (Open q) a l = subst (λ (v : List ℕ). IsIn (Open v) (complex s)) (sym l.is) (three_listed s l.a l.b l.c a l.first l.second l.test)
-
--- ---- order
-
--- each list comes before all later ones
-AreSorted : List (List ℕ) → Type 0
-AreSorted [] = Unit {0}
-AreSorted (q ∷ l) = ((r : List ℕ) → IsIn r l → slice_cmp nat_cmp q r ≡ Less) × AreSorted l

@@ -1,7 +1,7 @@
 -- The complex of a set as its sorted list of cells: what is listed, in which order, and the facets of listed cells.
 -- The set is an ascending list of keys.
 use Rattle.std.specs.Prelude.{◌≡◌, ℕ, ◌<◌, Bool, true, List, [], ◌∷◌, ◌⊎◌}
-use Rattle.std.specs.declared.cmp.Ordering.TheVariants.{Less}
+use Rattle.std.specs.List.Sorted.{IsStrictlySortedBy}
 use Rattle.point_order.specs.declared.cell.Cell.{Cell}
 use Rattle.point_order.specs.declared.cell.Cell.TheVariants.{Full, Open}
 use Rattle.point_order.specs.declared.cell.Facet.{Facet}
@@ -52,19 +52,14 @@ CellIsListed = (s : List ℕ) (c : Cell) → IsAscending s → IsListed s c → 
 
 -- ---- order
 
--- each cell comes before all later ones
-abbrev pub AreAscending : List Cell → Type 0
-AreAscending [] = Unit {0}
-AreAscending (c ∷ l) = ((d : Cell) → IsIn d l → cell_cmp c d ≡ Less) × AreAscending l
+-- the list of a complex is in the order of cells, each cell once
+abbrev pub ComplexIsSorted : Type 0
+ComplexIsSorted = (s : List ℕ) → IsAscending s → IsStrictlySortedBy cell_cmp (complex s)
 
--- the complex is in order
-abbrev pub ComplexIsAscending : Type 0
-ComplexIsAscending = (s : List ℕ) → IsAscending s → AreAscending (complex s)
-
--- lists in order that have the same members are one
+-- lists of cells in order that have the same members are one
 abbrev pub SameMembers : Type 0
 SameMembers =
-    (l m : List Cell) → AreAscending l → AreAscending m →
+    (l m : List Cell) → IsStrictlySortedBy cell_cmp l → IsStrictlySortedBy cell_cmp m →
     ((c : Cell) → IsIn c l → IsIn c m) → ((c : Cell) → IsIn c m → IsIn c l) → l ≡ m
 
 -- ---- facets
