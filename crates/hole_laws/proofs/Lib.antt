@@ -4,6 +4,7 @@ pub mod FromBase
 pub mod Listed
 pub mod Locality
 pub mod NewCells
+pub mod OfSets
 pub mod Order
 pub mod Region
 pub mod Removal
