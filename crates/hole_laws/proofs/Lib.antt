@@ -3,6 +3,7 @@ pub mod FacetVertices
 pub mod FromBase
 pub mod Listed
 pub mod Locality
+pub mod Near
 pub mod NewCells
 pub mod OfSets
 pub mod Order

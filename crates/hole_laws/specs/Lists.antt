@@ -2,7 +2,7 @@
 use Rattle.std.specs.Prelude.{◌≡◌, ℕ, ◌<◌, Bool, true, false, ◌&&◌, List, [], ◌∷◌}
 use Rattle.std.specs.List.{list_any}
 use Rattle.point_order.specs.Sets.{IsIn, is_among, ascending}
-use Rattle.point_order.specs.Facets.{facets_of}
+use Rattle.point_order.specs.Facets.{facets_of, points_of}
 use Rattle.point_order.specs.declared.cell.Cell.{Cell}
 use Rattle.point_order.specs.declared.cell.Cell.TheVariants.{Full, Open}
 use Rattle.point_order.specs.declared.cell.Facet.{Facet}
@@ -88,3 +88,24 @@ pub record IsOverRim (l l' : List Cell) (p : ℕ) (q : Cell) : Type 0 where
   pub f : Facet
   pub rim : IsRimFacet l l' f
   pub is : q ≡ cell_over f p
+
+-- ---- near the new point
+
+-- e is a point of a cell that goes
+pub record IsAtGoing (l l' : List Cell) (e : ℕ) : Type 0 where
+  pub q : Cell
+  pub goes : Goes l l' q
+  pub has : IsIn e (points_of q)
+
+-- some cell of the list has both points
+pub record AreJoined (l : List Cell) (p e : ℕ) : Type 0 where
+  pub q : Cell
+  pub listed : IsIn q l
+  pub has_p : IsIn p (points_of q)
+  pub has_e : IsIn e (points_of q)
+
+-- the cell has a point that is held
+pub record HasHeld (held : ℕ → Bool) (q : Cell) : Type 0 where
+  pub e : ℕ
+  pub has : IsIn e (points_of q)
+  pub is_held : held e ≡ true
