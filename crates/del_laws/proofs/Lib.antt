@@ -11,6 +11,7 @@ pub mod Laws
 pub mod Listed
 pub mod Lists
 pub mod Nearness
+pub mod Neighbours
 pub mod Numbers
 pub mod Ordered
 pub mod Orders
@@ -22,6 +23,7 @@ pub mod PointSets
 pub mod Regions
 pub mod Sides
 pub mod Smaller
+pub mod Sorting
 pub mod Starred
 pub mod Stars
 pub mod Strict
