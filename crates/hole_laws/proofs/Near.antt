@@ -1,8 +1,7 @@
 -- What an insertion changes is near the new point, and is found from the cells near by; over lists of cells.
-use Rattle.std.specs.Prelude.{◌≡◌, ◌≢◌, ℕ, Bool, true, false, List, [], ◌∷◌, ◌⊎◌, ◌↔◌}
-use Rattle.std.proofs.Common.{refl, sym, ap, ◌∙◌, subst, inl, inr}
-use Rattle.std.proofs.lemmas.Bool.{cases_eq}
-use Rattle.point_order.specs.Sets.{IsIn, ascending}
+use Rattle.std.specs.Prelude.{◌≡◌, ◌≢◌, ℕ, Bool, true, List, ◌∷◌, ◌⊎◌}
+use Rattle.std.proofs.Common.{refl, sym, subst, inl, inr}
+use Rattle.point_order.specs.Sets.{IsIn}
 use Rattle.point_order.specs.Facets.{facets_of, points_of}
 use Rattle.point_order.specs.declared.cell.Cell.{Cell}
 use Rattle.point_order.specs.declared.cell.Facet.{Facet}
@@ -10,11 +9,11 @@ use Rattle.point_order.specs.declared.cell.Facet.TheVariants.{Three, Two}
 use Rattle.point_order.proofs.SetLaws.{in-ascending}
 use Rattle.del_laws.specs.Cells.{Vertex, point, far}
 use Rattle.hole_laws.specs.Cells.{Insertion, IsAtGone, AreLinked}
-use Rattle.hole_laws.specs.Lists.{has_vertex, has_vertices, IsOrdered, HasListed, ListsCells, IsFacetVertex, cell_over, Goes, Stays, IsRimFacet, IsOverRim, IsAtGoing, AreJoined, HasHeld}
-use Rattle.hole_laws.proofs.FacetVertices.{IsAgainst, HasAgainst, AgainstSome, facet_against, against_of, facet_into}
+use Rattle.hole_laws.specs.Lists.{has_vertex, IsOrdered, ListsCells, IsFacetVertex, cell_over, Goes, IsOverRim, IsAtGoing, AreJoined, HasHeld}
+use Rattle.hole_laws.proofs.FacetVertices.{IsAgainst, facet_against, against_of}
 use Rattle.hole_laws.proofs.CellVertices.{four_is}
 use Rattle.hole_laws.proofs.Listed.{region_listed, goes_test}
-use Rattle.hole_laws.proofs.NewCells.{point_vertex, vertex_point, new_has_point, new_over_rim, over_rim_new, without_new}
+use Rattle.hole_laws.proofs.NewCells.{point_vertex, vertex_point, new_over_rim, without_new}
 
 -- a facet has a point
 pub facet_point : (q : Cell) → IsOrdered q → (f : Facet) → IsIn f (facets_of q) → (e : ℕ) × IsFacetVertex f (point e)

@@ -7,6 +7,8 @@ use Rattle.point_order.specs.Facets.{facets_of, points_of}
 use Rattle.point_order.specs.declared.cell.Cell.{Cell}
 use Rattle.point_order.specs.declared.cell.Cell.TheVariants.{Full, Open}
 use Rattle.point_order.specs.declared.cell.Facet.{Facet}
+use Rattle.point_order.specs.declared.cell.Facet.TheVariants.{Three, Two}
+use Rattle.point_order.proofs.SetLaws.{in-ascending_from}
 use Rattle.del_laws.specs.Cells.{Vertex, point}
 use Rattle.del_laws.proofs.Tests.{among_from, among_true, true_or_false}
 use Rattle.hole_laws.specs.Cells.{Insertion, IsRim}
@@ -30,6 +32,11 @@ vertex_point (Open l) e h = among_from e l h
 -- a vertex that a cell has is another than one that it has not
 not_it : (q : Cell) (v u : Vertex) → has_vertex q v ≡ true → has_vertex q u ≡ false → v ≢ u
 not_it q v u h n e = false≢true (sym n ∙ ap (has_vertex q) (sym e) ∙ h)
+
+-- the cell over a facet has the point
+pub over_has_point : (f : Facet) (p : ℕ) → IsIn p (points_of (cell_over f p))
+over_has_point (Three t) p = in-ascending_from (p ∷ t) p (inl refl)
+over_has_point (Two t) p = in-ascending_from (p ∷ t) p (inl refl)
 
 module _ (c c' : Vertex → Vertex → Vertex → Vertex → Bool) (p : ℕ) (k : Insertion c c' (point p)) (l l' : List Cell) (t : ListsCells l c) (t' : ListsCells l' c') where
   -- a listed cell of the set has not the new point
@@ -169,3 +176,38 @@ module _ (c c' : Vertex → Vertex → Vertex → Vertex → Bool) (p : ℕ) (k 
 
       same : f ≡ g.f
       same = shared_facet r.gone q.q (t.ordered r.gone r.goes.before) (t'.ordered q.q q.listed) t1 t2 t3 a.z (point p) a.against.four (four_of c' k.after t1 t2 t3 (point p) new) a.against.vertices q.vertices f g.f a.against g.against
+
+  -- a rim of tests is one of lists
+  pub rim_listed : (t1 t2 t3 : Vertex) → IsRim c c' t1 t2 t3 → (f : Facet) × IsRimFacet l l' f
+  rim_listed t1 t2 t3 r = (
+    lost_facet.f,
+    record {
+      gone = lost.0;
+      goes = lost.1;
+      of_gone = lost_facet.against.listed;
+      kept = kept.q;
+      stays = record { before = kept.listed; after = listed_of c' k.after l' t' kept.q (t.ordered kept.q kept.listed) t1 t2 t3 r.kept kept_four kept.vertices r.kept_after };
+      of_kept =
+          subst (λ v. IsIn v (facets_of kept.q))
+          (sym (shared_facet lost.0 kept.q (t.ordered lost.0 lost.1.before) (t.ordered kept.q kept.listed) t1 t2 t3 r.lost r.kept lost_four kept_four lost.2 kept.vertices lost_facet.f kept_facet.f lost_facet.against kept_facet.against))
+          kept_facet.against.listed;
+    },
+  )
+    where
+      lost : (q : Cell) × Goes l l' q × (has_vertices q t1 t2 t3 r.lost ≡ true)
+      lost = test_goes c c' p k l l' t t' t1 t2 t3 r.lost (both (c t1 t2 t3 r.lost) (c' t1 t2 t3 r.lost) r.lost_before r.lost_after)
+
+      lost_four : AreFourVertices t1 t2 t3 r.lost
+      lost_four = four_of c k.before t1 t2 t3 r.lost r.lost_before
+
+      lost_facet : HasAgainst lost.0 r.lost
+      lost_facet = facet_against lost.0 (t.ordered lost.0 lost.1.before) r.lost (four_is (has_vertex lost.0 t1) (has_vertex lost.0 t2) (has_vertex lost.0 t3) (has_vertex lost.0 r.lost) lost.2).3
+
+      kept : HasListed l t1 t2 t3 r.kept
+      kept = t.found t1 t2 t3 r.kept r.kept_before
+
+      kept_four : AreFourVertices t1 t2 t3 r.kept
+      kept_four = four_of c k.before t1 t2 t3 r.kept r.kept_before
+
+      kept_facet : HasAgainst kept.q r.kept
+      kept_facet = facet_against kept.q (t.ordered kept.q kept.listed) r.kept (four_is (has_vertex kept.q t1) (has_vertex kept.q t2) (has_vertex kept.q t3) (has_vertex kept.q r.kept) kept.vertices).3

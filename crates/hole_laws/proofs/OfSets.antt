@@ -1,26 +1,25 @@
 -- The complexes of sets, as tests of four vertices and as lists; an insertion into a solid set.
-use Rattle.std.specs.Prelude.{◌≡◌, ◌≢◌, ℕ, ◌<◌, Bool, true, false, ◌||◌, List, [], ◌∷◌, ◌⊎◌}
-use Rattle.std.proofs.Common.{refl, sym, ap, ◌∙◌, subst, inl, inr, arith}
-use Rattle.std.proofs.lemmas.Bool.{false≢true}
+use Rattle.std.specs.Prelude.{◌≡◌, ◌≢◌, ℕ, true, List, [], ◌∷◌}
+use Rattle.std.proofs.Common.{refl, sym, ap, ◌∙◌, subst, inl, inr}
 use Rattle.point_order.specs.Coordinates.{IsKey}
-use Rattle.point_order.specs.Sets.{IsIn, IsAscending, with_point}
+use Rattle.point_order.specs.Sets.{IsIn, with_point}
 use Rattle.point_order.specs.Complex.{complex}
 use Rattle.point_order.specs.declared.cell.Cell.{Cell}
 use Rattle.point_order.specs.declared.cell.Cell.TheVariants.{Full, Open}
 use Rattle.point_order.specs.Solid.{is_solid}
 use Rattle.point_order.proofs.SetLaws.{in-with, in-with_new, in-with_old, ascending-with}
 use Rattle.del_laws.specs.Cells.{Vertex, point, far}
-use Rattle.del_laws.specs.PointSets.{PointSet, has, solid, cell, plus, same_vertex}
-use Rattle.del_laws.specs.Listed.{IsListedFull, IsListedOpen, IsListed}
+use Rattle.del_laws.specs.PointSets.{PointSet, has, solid, cell}
+use Rattle.del_laws.specs.Listed.{IsListed}
 use Rattle.del_laws.specs.Vertices.{is_cell}
-use Rattle.del_laws.proofs.PointSets.{set_true, plus_points, ascending_of, has_from, has_true}
+use Rattle.del_laws.proofs.PointSets.{set_true, ascending_of}
 use Rattle.del_laws.proofs.Listed.{listed_is_cell, cell_is_listed}
 use Rattle.del_laws.proofs.Starred.{base}
 use Rattle.del_laws.proofs.Tests.{same_test, among_true, among_from, false_if}
 use Rattle.hole_laws.specs.Cells.{IsAdd, Insertion}
 use Rattle.hole_laws.specs.Lists.{has_vertices, HasListed, ListsCells, IsOrdered, at_cell}
 use Rattle.hole_laws.specs.Edits.{IsSet, IsSolidSet, IsNew}
-use Rattle.hole_laws.proofs.Order.{IsBefore, AreFourVertices, in_any_order}
+use Rattle.hole_laws.proofs.Order.{IsBefore, in_any_order}
 use Rattle.hole_laws.proofs.CellVertices.{four_true, vertices_symmetric}
 use Rattle.hole_laws.proofs.Listed.{four_of}
 use Rattle.hole_laws.proofs.FromBase.{complex_of, insertion}

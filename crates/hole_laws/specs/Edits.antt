@@ -1,5 +1,5 @@
 -- Solid sets of points as ascending lists of keys, and a point that comes to one.
-use Rattle.std.specs.Prelude.{◌≡◌, ℕ, true, List, ◌⊎◌}
+use Rattle.std.specs.Prelude.{◌≡◌, ℕ, true, List}
 use Rattle.point_order.specs.Coordinates.{IsKey}
 use Rattle.point_order.specs.Sets.{IsIn, IsAscending, with_point}
 use Rattle.point_order.specs.Solid.{is_solid}

@@ -1,3 +1,4 @@
 pub mod Cells
 pub mod Edits
+pub mod Laws
 pub mod Lists

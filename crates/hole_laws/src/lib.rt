@@ -1,2 +1,36 @@
-//! The laws of insertion and removal of points.
+//! What an insertion or a removal changes in the perturbed Delaunay complex.
+//!
+//! Each function here does nothing, and its contract is a law about the complexes of a solid set of points and of the
+//! set with one more point. A set is an ascending list of keys, and a complex is its sorted list of cells. The laws
+//! never open the definition of a cell: they rest on the few facts that `del_laws` proves in `base_of_edits`.
+//! `docs/GEOMETRY.md` tells them in order, with their proofs in short.
 #![tactic(auto)]
+
+ghost use Rattle.hole_laws.specs.Laws.{SomeRim, CellsAfter, FreshHavePoint, OldLackPoint, RegionConnected, FoundFromHeld, FreshAreNear, JoinedAreReached};
+
+/// The complex of the set with a new point `p` has the cells that stay, and the cells of `p` and a rim facet.
+///
+/// A facet is a rim facet where one of its two cells goes and the other stays. Facets of two points and the infinite
+/// vertex are among them, so that `p` may lie outside the hull.
+pub fn insertion_law()
+    ensures after { CellsAfter }
+    ensures fresh { FreshHavePoint }
+    ensures old { OldLackPoint }
+    ensures rim { SomeRim }
+{}
+
+/// The cells that a new point takes away are one region, connected across facets, the pair facets among them.
+///
+/// So a search over facets that begins in the region finds all of it. It needs to know only the cells that have a point
+/// in some set of held points, if all points of the cells that it finds are held.
+pub fn conflict_region_is_connected()
+    ensures connected { RegionConnected }
+    ensures held { FoundFromHeld }
+{}
+
+/// An insertion changes only cells whose points are the new one and points of the cells that go; and these are the
+/// points that the new one is joined to.
+pub fn insertion_is_local()
+    ensures near { FreshAreNear }
+    ensures joined { JoinedAreReached }
+{}

@@ -1,0 +1,76 @@
+-- The laws of insertion and removal, as the functions of the crate promise them. A set is an ascending list of keys.
+use Rattle.std.specs.Prelude.{◌≡◌, ◌≢◌, ℕ, Bool, true, List, ◌⊎◌, ◌↔◌}
+use Rattle.point_order.specs.Sets.{IsIn, with_point}
+use Rattle.point_order.specs.Complex.{complex}
+use Rattle.point_order.specs.Facets.{facets_of, points_of}
+use Rattle.point_order.specs.declared.cell.Cell.{Cell}
+use Rattle.point_order.specs.declared.cell.Facet.{Facet}
+use Rattle.hole_laws.specs.Lists.{HasHeld, IsAtGoing, AreJoined}
+use Rattle.hole_laws.specs.Edits.{IsSolidSet, IsNew, GoesFrom, StaysFrom, IsRimOf, IsFresh}
+
+-- ---- insertion
+
+-- some facet is a rim facet: so some cell goes, and some stays
+abbrev pub SomeRim : Type 0
+SomeRim = (s : List ℕ) (p : ℕ) → IsSolidSet s → IsNew s p → (f : Facet) × IsRimOf s p f
+
+-- the complex of the set with p has the cells that stay, and the cells of p and a rim facet
+abbrev pub CellsAfter : Type 0
+CellsAfter =
+    (s : List ℕ) (p : ℕ) → IsSolidSet s → IsNew s p →
+    (q : Cell) → IsIn q (complex (with_point p s)) ↔ (StaysFrom s p q ⊎ IsFresh s p q)
+
+-- the cells of p and a rim facet have p, and no cell of the set had it
+abbrev pub FreshHavePoint : Type 0
+FreshHavePoint =
+    (s : List ℕ) (p : ℕ) → IsSolidSet s → IsNew s p →
+    (q : Cell) → IsIn q (complex (with_point p s)) → IsFresh s p q ↔ IsIn p (points_of q)
+
+abbrev pub OldLackPoint : Type 0
+OldLackPoint = (s : List ℕ) (p : ℕ) → IsSolidSet s → IsNew s p → (q : Cell) → IsIn q (complex s) → ¬ (IsIn p (points_of q))
+
+-- ---- the region
+
+-- a part of the cells that go, with each of them those that share a facet with it
+pub record IsClosedPart (s : List ℕ) (p : ℕ) (part : List Cell) : Type 0 where
+  pub goes : (q : Cell) → IsIn q part → GoesFrom s p q
+  pub across : (q r : Cell) (f : Facet) → IsIn q part → GoesFrom s p r → IsIn f (facets_of q) → IsIn f (facets_of r) → IsIn r part
+
+-- the region of the cells that go is connected across facets: a closed part that has one of them has them all
+abbrev pub RegionConnected : Type 0
+RegionConnected =
+    (s : List ℕ) (p : ℕ) → IsSolidSet s → IsNew s p →
+    (part : List Cell) → IsClosedPart s p part → (a : Cell) → IsIn a part → (b : Cell) → GoesFrom s p b → IsIn b part
+
+-- a part of the cells that go, whose points are all held, with each of them those that share a facet with it
+-- and have some point that is held
+pub record IsHeldPart (s : List ℕ) (p : ℕ) (held : ℕ → Bool) (part : List Cell) : Type 0 where
+  pub goes : (q : Cell) → IsIn q part → GoesFrom s p q
+  pub all_held : (q : Cell) (e : ℕ) → IsIn q part → IsIn e (points_of q) → held e ≡ true
+  pub across :
+      (q r : Cell) (f : Facet) → IsIn q part → GoesFrom s p r → HasHeld held r →
+      IsIn f (facets_of q) → IsIn f (facets_of r) → IsIn r part
+
+-- so the region is found from what is held alone, where all its points are held
+abbrev pub FoundFromHeld : Type 0
+FoundFromHeld =
+    (s : List ℕ) (p : ℕ) → IsSolidSet s → IsNew s p →
+    (held : ℕ → Bool) (part : List Cell) → IsHeldPart s p held part → (a : Cell) → IsIn a part → (b : Cell) → GoesFrom s p b → IsIn b part
+
+-- ---- locality
+
+-- e is a point of a cell that p takes away
+abbrev pub IsReached : List ℕ → ℕ → ℕ → Type 0
+IsReached s p e = IsAtGoing (complex s) (complex (with_point p s)) e
+
+-- each point of a new cell is the new one, or a point of a cell that goes
+abbrev pub FreshAreNear : Type 0
+FreshAreNear =
+    (s : List ℕ) (p : ℕ) → IsSolidSet s → IsNew s p →
+    (q : Cell) → IsFresh s p q → (e : ℕ) → IsIn e (points_of q) → (e ≡ p) ⊎ IsReached s p e
+
+-- the points that are joined to the new one are those of the cells that go
+abbrev pub JoinedAreReached : Type 0
+JoinedAreReached =
+    (s : List ℕ) (p : ℕ) → IsSolidSet s → IsNew s p →
+    (e : ℕ) → e ≢ p → AreJoined (complex (with_point p s)) p e ↔ IsReached s p e
