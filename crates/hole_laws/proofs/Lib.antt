@@ -1,4 +1,5 @@
 pub mod CellVertices
+pub mod Conflicts
 pub mod FacetVertices
 pub mod FromBase
 pub mod Laws
