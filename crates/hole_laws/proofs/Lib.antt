@@ -2,6 +2,7 @@ pub mod CellVertices
 pub mod Conflicts
 pub mod FacetVertices
 pub mod FromBase
+pub mod Judged
 pub mod Laws
 pub mod Listed
 pub mod Locality

@@ -1,12 +1,37 @@
 -- The laws of insertion and removal, as the functions of the crate promise them. A set is an ascending list of keys.
-use Rattle.std.specs.Prelude.{◌≡◌, ◌≢◌, ℕ, Bool, true, List, ◌⊎◌, ◌↔◌}
+use Rattle.std.specs.Prelude.{◌≡◌, ◌≢◌, ℕ, Bool, true, false, List, ◌⊎◌, ◌↔◌}
 use Rattle.point_order.specs.Sets.{IsIn, with_point}
 use Rattle.point_order.specs.Complex.{complex}
+use Rattle.point_order.specs.Conflicts.{is_in_conflict, CanJudge}
 use Rattle.point_order.specs.Facets.{facets_of, points_of}
 use Rattle.point_order.specs.declared.cell.Cell.{Cell}
 use Rattle.point_order.specs.declared.cell.Facet.{Facet}
 use Rattle.hole_laws.specs.Lists.{HasHeld, IsAtGoing, AreJoined}
-use Rattle.hole_laws.specs.Edits.{IsSolidSet, IsNew, GoesFrom, StaysFrom, IsRimOf, IsFresh}
+use Rattle.hole_laws.specs.Edits.{IsSet, IsSolidSet, IsNew, IsMate, GoesFrom, StaysFrom, IsRimOf, IsFresh}
+
+-- ---- conflict
+
+-- a cell of s is one of s with p exactly where it is not in conflict with p, for any mate
+abbrev pub StaysWithoutConflict : Type 0
+StaysWithoutConflict =
+    (s : List ℕ) (p : ℕ) → IsSolidSet s → IsNew s p →
+    (q : Cell) (m : ℕ) → IsIn q (complex s) → IsMate s q m → (is_in_conflict q m p ≡ false) ↔ StaysFrom s p q
+
+-- and goes where it is
+abbrev pub GoesInConflict : Type 0
+GoesInConflict =
+    (s : List ℕ) (p : ℕ) → IsSolidSet s → IsNew s p →
+    (q : Cell) (m : ℕ) → IsIn q (complex s) → IsMate s q m → (is_in_conflict q m p ≡ true) ↔ GoesFrom s p q
+
+-- every cell has a mate
+abbrev pub SomeMate : Type 0
+SomeMate = (s : List ℕ) → IsSet s → (q : Cell) → IsIn q (complex s) → (m : ℕ) × IsMate s q m
+
+-- and for each mate it can be judged
+abbrev pub MatesJudge : Type 0
+MatesJudge =
+    (s : List ℕ) (p : ℕ) → IsSet s → IsNew s p →
+    (q : Cell) (m : ℕ) → IsIn q (complex s) → IsMate s q m → CanJudge q m p
 
 -- ---- insertion
 
