@@ -1,16 +1,16 @@
 -- The cells that a new point takes away are those in conflict with it, by the sides of spheres and planes.
 -- This file opens the definition of a cell; no other of the crate does.
-use Rattle.std.specs.Prelude.{◌≡◌, ◌≢◌, ℕ, ℤ, pos, neg_ℤ, ◌≤ℤ◌, ◌<ℤ◌, Bool, true, false, not, ◌&&◌, ◌||◌, List, [], ◌∷◌, ◌⊎◌, ◌↔◌}
+use Rattle.std.specs.Prelude.{◌≡◌, ℕ, ℤ, pos, neg_ℤ, ◌≤ℤ◌, ◌<ℤ◌, Bool, true, false, not, ◌&&◌, ◌||◌, List, [], ◌∷◌, ◌⊎◌, ◌↔◌}
 use Rattle.std.specs.Int.Signed.{lt_z}
-use Rattle.std.proofs.Common.{arith, refl, sym, ap, ◌∙◌, subst, inl, inr}
+use Rattle.std.proofs.Common.{arith, refl, sym, ◌∙◌, subst, inl, inr}
 use Rattle.std.proofs.lemmas.Int.{ints}
 use Rattle.std.proofs.lemmas.Bool.{false≢true}
-use Rattle.point_order.specs.Orientation.{orientation, is_flat, is_zero}
+use Rattle.point_order.specs.Orientation.{orientation, is_flat}
 use Rattle.point_order.specs.Heights.{height, lifted}
 use Rattle.point_order.specs.Spheres.{is_outside}
-use Rattle.point_order.specs.Conflicts.{are_opposite, is_full_conflict, is_open_conflict}
+use Rattle.point_order.specs.Conflicts.{are_opposite, is_open_conflict}
 use Rattle.point_order.specs.Sets.{IsIn}
-use Rattle.del_laws.specs.Cells.{Vertex, point, far, Full, Open, Held, NoTies, OneOf, IsOutside}
+use Rattle.del_laws.specs.Cells.{point, far, Full, Open, Held, NoTies, OneOf, IsOutside}
 use Rattle.del_laws.specs.Keys.{AreKeys}
 use Rattle.del_laws.proofs.Identities.{orientation_swap23, lifted_swap23}
 use Rattle.del_laws.proofs.Numbers.{weak, not_zero, positive, clash, below_or_not}
@@ -18,7 +18,7 @@ use Rattle.del_laws.proofs.Orders.{swap23}
 use Rattle.del_laws.proofs.Perturbed.{no_ties}
 use Rattle.del_laws.proofs.Bools.{outside_above, outside_below, above_from, below_from}
 use Rattle.del_laws.proofs.Conflict.{full_stays, full_kept, open_stays, open_kept, outside_any}
-use Rattle.del_laws.proofs.Tests.{zero_from, zero_true, zero_false, not_zero_from, less_from, less_true, true_or_false, false_if, same_test}
+use Rattle.del_laws.proofs.Tests.{zero_from, zero_true, zero_false, not_zero_from, less_from, less_true, same_test}
 
 -- ---- tests in the other orientation
 
@@ -195,9 +195,18 @@ module _ (s : List ℕ) (p : ℕ) (k : AreKeys (p ∷ s)) (n : ¬ (IsIn p s)) wh
         ))
   ]
 
-  -- an Open cell has a mate
-  pub has_mate : (a b c : ℕ) → Held height s (point a) (point b) (point c) far → (m : ℕ) × IsIn m s × (is_flat a b c m ≡ false)
-  has_mate a b c h = elim h [
-    | inr F ↦ (F.mate, F.has_mate, zero_false (orientation a b c F.mate) (not_zero (orientation a b c F.mate) F.above))
-    | inl F ↦ (F.mate, F.has_mate, zero_false (orientation a b c F.mate) (λ e. not_zero (orientation a c b F.mate) F.above (turned_zero (orientation a b c F.mate) (orientation a c b F.mate) (orientation_swap23 a b c F.mate) e)))
-  ]
+-- ---- what can be judged
+
+-- an Open cell has a mate
+pub has_mate : (s : List ℕ) (a b c : ℕ) → Held height s (point a) (point b) (point c) far → (m : ℕ) × IsIn m s × (is_flat a b c m ≡ false)
+has_mate s a b c h = elim h [
+  | inr F ↦ (F.mate, F.has_mate, zero_false (orientation a b c F.mate) (not_zero (orientation a b c F.mate) F.above))
+  | inl F ↦ (F.mate, F.has_mate, zero_false (orientation a b c F.mate) (λ e. not_zero (orientation a c b F.mate) F.above (turned_zero (orientation a b c F.mate) (orientation a c b F.mate) (orientation_swap23 a b c F.mate) e)))
+]
+
+-- the points of a Full cell are independent
+pub not_flat : (s : List ℕ) (a b c d : ℕ) → Held height s (point a) (point b) (point c) (point d) → is_flat a b c d ≡ false
+not_flat s a b c d h = elim h [
+  | inl F ↦ zero_false (orientation a b c d) (not_zero (orientation a b c d) F.turned)
+  | inr F ↦ zero_false (orientation a b c d) (λ e. not_zero (orientation a c b d) F.turned (turned_zero (orientation a b c d) (orientation a c b d) (orientation_swap23 a b c d) e))
+]

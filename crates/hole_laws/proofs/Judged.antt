@@ -1,29 +1,29 @@
 -- Conflict of the listed cells of a complex decides which of them stay.
-use Rattle.std.specs.Prelude.{◌≡◌, ◌≢◌, ℕ, ◌<◌, Bool, true, false, not, List, [], ◌∷◌, ◌⊎◌, ◌↔◌}
-use Rattle.std.proofs.Common.{arith, refl, sym, ap, ◌∙◌, subst, inl, inr}
+use Rattle.std.specs.Prelude.{◌≡◌, ℕ, ◌<◌, Bool, true, false, not, List, [], ◌∷◌, ◌↔◌}
+use Rattle.std.proofs.Common.{arith, refl, sym, ◌∙◌, subst, inl, inr}
 use Rattle.std.proofs.lemmas.Bool.{false≢true}
 use Rattle.point_order.specs.Coordinates.{IsKey}
-use Rattle.point_order.specs.Orientation.{orientation, is_flat}
+use Rattle.point_order.specs.Orientation.{is_flat}
 use Rattle.point_order.specs.Heights.{height}
 use Rattle.point_order.specs.Spheres.{is_outside}
-use Rattle.point_order.specs.Sets.{IsIn, IsAscending, with_point, is_among}
+use Rattle.point_order.specs.Sets.{IsIn, with_point, is_among}
 use Rattle.point_order.specs.Complex.{complex}
-use Rattle.point_order.specs.Conflicts.{is_in_conflict, is_open_conflict, CanJudge}
+use Rattle.point_order.specs.Conflicts.{is_in_conflict, CanJudge}
 use Rattle.point_order.specs.declared.cell.Cell.{Cell}
 use Rattle.point_order.specs.declared.cell.Cell.TheVariants.{Full, Open}
-use Rattle.point_order.proofs.SetLaws.{in-with, in-with_new, in-with_old, ascending-with}
+use Rattle.point_order.proofs.SetLaws.{in-with, in-with_new, in-with_old}
 use Rattle.del_laws.specs.Cells.{Vertex, point, far, Held, IsSubset, IsSolid, Inside}
 use Rattle.del_laws.specs.Keys.{AreKeys}
 use Rattle.del_laws.specs.Listed.{IsListedFull, IsListedOpen}
 use Rattle.del_laws.specs.Vertices.{is_cell}
 use Rattle.del_laws.proofs.PointSets.{solid_from}
 use Rattle.del_laws.proofs.Bools.{cell_true, cell_from}
-use Rattle.del_laws.proofs.Smaller.{AllInside, smaller, held_inside}
+use Rattle.del_laws.proofs.Smaller.{smaller, held_inside}
 use Rattle.del_laws.proofs.Listed.{listed_is_cell, cell_is_listed}
 use Rattle.del_laws.proofs.Tests.{false_if, true_or_false, among_from}
-use Rattle.hole_laws.specs.Edits.{IsSet, IsSolidSet, IsNew, IsMate, GoesFrom, StaysFrom}
+use Rattle.hole_laws.specs.Edits.{IsSet, IsSolidSet, IsNew, IsMate}
 use Rattle.hole_laws.specs.Laws.{StaysWithoutConflict, GoesInConflict, SomeMate, MatesJudge}
-use Rattle.hole_laws.proofs.Conflicts.{full_decides, open_decides, has_mate}
+use Rattle.hole_laws.proofs.Conflicts.{full_decides, open_decides, has_mate, not_flat}
 use Rattle.hole_laws.proofs.OfSets.{more_set}
 
 -- ---- the set with p, and p before the list
@@ -148,3 +148,36 @@ goes_in_conflict s p i n q m h k =
       λ e. record { before = h; after = λ r. false≢true (sym (d.1 r) ∙ e) },
       λ g. elim (true_or_false (is_in_conflict q m p)) [ inl e ↦ e | inr e ↦ absurd (g.after (d.0 e)) ],
     )
+
+pub some_mate : SomeMate
+some_mate s i (Full l) h = (0, tt)
+some_mate s i (Open l) h =
+    let r = listed_is_cell s (Open l) i.ascending h in
+    let m = has_mate s r.a r.b r.c (cell_from s (point r.a) (point r.b) (point r.c) far r.test) in
+    (m.0, subst (λ (v : List ℕ). IsMate s (Open v) m.0) (sym r.is) (m.1, m.2))
+
+-- p is none of a list of points of s
+not_among : (s l : List ℕ) (p : ℕ) → IsNew s p → ((e : ℕ) → IsIn e l → IsIn e s) → is_among p l ≡ false
+not_among s l p n f = false_if (is_among p l) (λ h. n.absent (f p (among_from p l h)))
+
+-- the members of a list of four are in s
+four_in : (s : List ℕ) (a b c d : ℕ) → IsIn a s → IsIn b s → IsIn c s → IsIn d s → (e : ℕ) → IsIn e (a ∷ b ∷ c ∷ d ∷ []) → IsIn e s
+four_in s a b c d ma mb mc md e m = elim m [
+  | inl q ↦ subst (λ v. IsIn v s) q ma
+  | inr r ↦ elim r [ inl q ↦ subst (λ v. IsIn v s) q mb | inr u ↦ elim u [ inl q ↦ subst (λ v. IsIn v s) q mc | inr v ↦ elim v [ inl q ↦ subst (λ v. IsIn v s) q md | inr none ↦ absurd none ] ] ]
+]
+
+pub mates_judge : MatesJudge
+mates_judge s p i n (Full l) m h k =
+    let r = listed_is_cell s (Full l) i.ascending h in
+    let t = cell_from s (point r.a) (point r.b) (point r.c) (point r.d) r.test in
+    let v = held_inside height s (point r.a) (point r.b) (point r.c) (point r.d) t in
+    subst (λ (v : List ℕ). CanJudge (Full v) m p) (sym r.is)
+    (not_flat s r.a r.b r.c r.d t, not_among s (r.a ∷ r.b ∷ r.c ∷ r.d ∷ []) p n (four_in s r.a r.b r.c r.d v.first v.second v.third v.fourth))
+mates_judge s p i n (Open l) m h k =
+    let r = listed_is_cell s (Open l) i.ascending h in
+    let t = cell_from s (point r.a) (point r.b) (point r.c) far r.test in
+    let v = held_inside height s (point r.a) (point r.b) (point r.c) far t in
+    let k' : IsMate s (Open (r.a ∷ r.b ∷ r.c ∷ [])) m = subst (λ (v : List ℕ). IsMate s (Open v) m) r.is k in
+    subst (λ (v : List ℕ). CanJudge (Open v) m p) (sym r.is)
+    (k'.1, not_among s (r.a ∷ r.b ∷ r.c ∷ m ∷ []) p n (four_in s r.a r.b r.c m v.first v.second v.third k'.0))

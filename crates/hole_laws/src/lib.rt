@@ -6,7 +6,18 @@
 //! `docs/GEOMETRY.md` tells them in order, with their proofs in short.
 #![tactic(auto)]
 
-ghost use Rattle.hole_laws.specs.Laws.{SomeRim, CellsAfter, FreshHavePoint, OldLackPoint, RegionConnected, FoundFromHeld, FreshAreNear, JoinedAreReached};
+ghost use Rattle.hole_laws.specs.Laws.{StaysWithoutConflict, GoesInConflict, SomeMate, MatesJudge, SomeRim, CellsAfter, FreshHavePoint, OldLackPoint, RegionConnected, FoundFromHeld, FreshAreNear, JoinedAreReached};
+
+/// A cell of the set is one of the set with a new point `p` exactly where it is not in conflict with `p`.
+///
+/// Of an Open cell this does not depend on the mate, which may be any point of the set off the cell's plane. Every cell
+/// has one, and for each mate the predicates can judge.
+pub fn conflict_law()
+    ensures stays { StaysWithoutConflict }
+    ensures goes { GoesInConflict }
+    ensures mate { SomeMate }
+    ensures judged { MatesJudge }
+{}
 
 /// The complex of the set with a new point `p` has the cells that stay, and the cells of `p` and a rim facet.
 ///
