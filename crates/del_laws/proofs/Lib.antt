@@ -7,8 +7,10 @@ pub mod Decide
 pub mod Existence
 pub mod Facets
 pub mod Identities
+pub mod Kept
 pub mod Laws
 pub mod Listed
+pub mod ListedParts
 pub mod Lists
 pub mod Nearness
 pub mod Neighbours
@@ -20,6 +22,7 @@ pub mod Parts
 pub mod Perturbed
 pub mod Planes
 pub mod PointSets
+pub mod Recognised
 pub mod Regions
 pub mod Sides
 pub mod Smaller

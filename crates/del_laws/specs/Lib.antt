@@ -1,7 +1,9 @@
 pub mod Cells
 pub mod Keys
+pub mod Kept
 pub mod Laws
 pub mod Listed
+pub mod ListedParts
 pub mod Parts
 pub mod Vertices
 pub mod PointSets
