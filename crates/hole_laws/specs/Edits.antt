@@ -1,15 +1,16 @@
 -- Solid sets of points as ascending lists of keys, and a point that comes to one.
-use Rattle.std.specs.Prelude.{◌≡◌, ℕ, true, false, List, [], ◌∷◌}
+use Rattle.std.specs.Prelude.{◌≡◌, ◌≢◌, ℕ, true, false, List, [], ◌∷◌}
 use Rattle.point_order.specs.Coordinates.{IsKey}
-use Rattle.point_order.specs.Sets.{IsIn, IsAscending, with_point}
+use Rattle.point_order.specs.Sets.{IsIn, IsAscending, with_point, without_point}
 use Rattle.point_order.specs.Orientation.{is_flat}
 use Rattle.point_order.specs.Solid.{is_solid}
 use Rattle.point_order.specs.Complex.{complex}
+use Rattle.point_order.specs.Facets.{facets_of, points_of}
 use Rattle.point_order.specs.declared.cell.Cell.{Cell}
 use Rattle.point_order.specs.declared.cell.Cell.TheVariants.{Full, Open}
 use Rattle.point_order.specs.declared.cell.Facet.{Facet}
 use Rattle.del_laws.specs.Keys.{AreKeys}
-use Rattle.hole_laws.specs.Lists.{Goes, Stays, IsRimFacet, IsOverRim}
+use Rattle.hole_laws.specs.Lists.{Goes, Stays, IsRimFacet, IsOverRim, AreJoined}
 
 -- a set of points: each once, in ascending order
 pub record IsSet (s : List ℕ) : Type 0 where
@@ -47,3 +48,28 @@ abbrev pub IsMate : List ℕ → Cell → ℕ → Type 0
 IsMate s (Full q) m = Unit {0}
 IsMate s (Open (a ∷ b ∷ c ∷ [])) m = IsIn m s × (is_flat a b c m ≡ false)
 IsMate s (Open t) m = ⊥
+
+-- ---- removal
+
+-- a cell that comes when v is taken: one of the rest that is none of s
+abbrev pub ComesWithout : List ℕ → ℕ → Cell → Type 0
+ComesWithout s v q = Goes (complex (without_point v s)) (complex s) q
+
+-- t is solid, it has the points that are joined to v in s, and no others than those of the rest
+pub record IsLinkSet (s : List ℕ) (v : ℕ) (t : List ℕ) : Type 0 where
+  pub solid : IsSolidSet t
+  pub inside : (e : ℕ) → IsIn e t → IsIn e (without_point v s)
+  pub link : (e : ℕ) → e ≢ v → AreJoined (complex s) v e → IsIn e t
+
+-- e is a point of the cell across a facet of a cell at v, against v
+pub record IsAcross (s : List ℕ) (v e : ℕ) : Type 0 where
+  pub f : Facet
+  pub here : Cell
+  pub here_listed : IsIn here (complex s)
+  pub here_has : IsIn v (points_of here)
+  pub of_here : IsIn f (facets_of here)
+  pub there : Cell
+  pub there_listed : IsIn there (complex s)
+  pub there_lacks : ¬ (IsIn v (points_of there))
+  pub of_there : IsIn f (facets_of there)
+  pub has : IsIn e (points_of there)

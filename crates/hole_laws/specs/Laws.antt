@@ -1,13 +1,16 @@
 -- The laws of insertion and removal, as the functions of the crate promise them. A set is an ascending list of keys.
 use Rattle.std.specs.Prelude.{◌≡◌, ◌≢◌, ℕ, Bool, true, false, List, ◌⊎◌, ◌↔◌}
-use Rattle.point_order.specs.Sets.{IsIn, with_point}
+use Rattle.std.specs.List.Sorted.{IsStrictlySortedBy}
+use Rattle.point_order.specs.CellOrder.{cell_cmp}
+use Rattle.point_order.specs.Solid.{is_solid}
+use Rattle.point_order.specs.Sets.{IsIn, with_point, without_point}
 use Rattle.point_order.specs.Complex.{complex}
 use Rattle.point_order.specs.Conflicts.{is_in_conflict, CanJudge}
 use Rattle.point_order.specs.Facets.{facets_of, points_of}
 use Rattle.point_order.specs.declared.cell.Cell.{Cell}
 use Rattle.point_order.specs.declared.cell.Facet.{Facet}
 use Rattle.hole_laws.specs.Lists.{HasHeld, IsAtGoing, AreJoined}
-use Rattle.hole_laws.specs.Edits.{IsSet, IsSolidSet, IsNew, IsMate, GoesFrom, StaysFrom, IsRimOf, IsFresh}
+use Rattle.hole_laws.specs.Edits.{IsSet, IsSolidSet, IsNew, IsMate, GoesFrom, StaysFrom, IsRimOf, IsFresh, ComesWithout, IsLinkSet, IsAcross}
 
 -- ---- conflict
 
@@ -99,3 +102,56 @@ abbrev pub JoinedAreReached : Type 0
 JoinedAreReached =
     (s : List ℕ) (p : ℕ) → IsSolidSet s → IsNew s p →
     (e : ℕ) → e ≢ p → AreJoined (complex (with_point p s)) p e ↔ IsReached s p e
+
+-- ---- lists
+
+-- the list m is l without the cells of gone, and with those of fresh, in the order of cells
+pub record IsExchanged (l gone fresh m : List Cell) : Type 0 where
+  pub sorted : IsStrictlySortedBy cell_cmp m
+  pub members : (q : Cell) → IsIn q m ↔ ((IsIn q l × ¬ (IsIn q gone)) ⊎ IsIn q fresh)
+
+-- so the complex of the set with p is made from that of the set, the list of cells that go and the list of new ones
+abbrev pub MadeByInsertion : Type 0
+MadeByInsertion =
+    (s : List ℕ) (p : ℕ) → IsSolidSet s → IsNew s p →
+    (gone fresh m : List Cell) → ((q : Cell) → IsIn q gone ↔ GoesFrom s p q) → ((q : Cell) → IsIn q fresh ↔ IsFresh s p q) →
+    IsExchanged (complex s) gone fresh m → m ≡ complex (with_point p s)
+
+-- ---- removal
+
+-- the complex of the rest has the cells that do not have v, and those that come
+abbrev pub CellsOfRest : Type 0
+CellsOfRest =
+    (s : List ℕ) (v : ℕ) → IsSet s → IsIn v s → is_solid (without_point v s) ≡ true →
+    (q : Cell) → IsIn q (complex (without_point v s)) ↔ ((IsIn q (complex s) × ¬ (IsIn v (points_of q))) ⊎ ComesWithout s v q)
+
+-- and it is made from that of the set, the list of the cells at v and the list of those that come
+abbrev pub MadeByRemoval : Type 0
+MadeByRemoval =
+    (s : List ℕ) (v : ℕ) → IsSet s → IsIn v s → is_solid (without_point v s) ≡ true →
+    (gone fresh m : List Cell) → ((q : Cell) → IsIn q gone ↔ (IsIn q (complex s) × IsIn v (points_of q))) → ((q : Cell) → IsIn q fresh ↔ ComesWithout s v q) →
+    IsExchanged (complex s) gone fresh m → m ≡ complex (without_point v s)
+
+-- The cells that come are those that v takes away from the complex of any solid set between its link and the rest.
+abbrev pub RefilledFromLink : Type 0
+RefilledFromLink =
+    (s : List ℕ) (v : ℕ) (t : List ℕ) → IsSet s → IsIn v s → IsLinkSet s v t →
+    (q : Cell) → ComesWithout s v q ↔ GoesFrom t v q
+
+-- all their points are joined to v
+abbrev pub ComingAreNear : Type 0
+ComingAreNear =
+    (s : List ℕ) (v : ℕ) → IsSet s → IsIn v s → is_solid (without_point v s) ≡ true →
+    (q : Cell) → ComesWithout s v q → (e : ℕ) → IsIn e (points_of q) → AreJoined (complex s) v e
+
+-- whether the rest is solid shows in the points joined to v and those across from it
+abbrev pub SolidNear : Type 0
+SolidNear =
+    (s : List ℕ) (v : ℕ) (t : List ℕ) → IsSet s → IsIn v s → IsSet t → is_solid (without_point v s) ≡ true →
+    ((e : ℕ) → e ≢ v → AreJoined (complex s) v e → IsIn e t) → ((e : ℕ) → IsAcross s v e → IsIn e t) → is_solid t ≡ true
+
+-- a flat rest is joined to v as a whole
+abbrev pub FlatRestJoined : Type 0
+FlatRestJoined =
+    (s : List ℕ) (v : ℕ) → IsSolidSet s → IsIn v s → is_solid (without_point v s) ≡ false →
+    (e : ℕ) → IsIn e (without_point v s) → AreJoined (complex s) v e
