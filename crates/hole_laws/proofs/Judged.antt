@@ -41,7 +41,7 @@ inside_with : (s : List ℕ) (p : ℕ) → IsSubset (p ∷ s) (with_point p s)
 inside_with s p = record { inside = λ e m. elim m [ inl q ↦ subst (λ v. IsIn v (with_point p s)) q (in-with_new p s) | inr r ↦ in-with_old p e s r ] }
 
 -- a solid set is solid in a greater one
-more_solid : (s t : List ℕ) → ((e : ℕ) → IsIn e s → IsIn e t) → IsSolid s → IsSolid t
+pub more_solid : (s t : List ℕ) → ((e : ℕ) → IsIn e s → IsIn e t) → IsSolid s → IsSolid t
 more_solid s t f i = record { f = i.f; has_a = f i.f.a i.has_a; has_b = f i.f.b i.has_b; has_c = f i.f.c i.has_c; has_d = f i.f.d i.has_d; apart = i.apart }
 
 -- a vertex of a greater set

@@ -6,11 +6,13 @@ pub mod Judged
 pub mod Laws
 pub mod Listed
 pub mod Locality
+pub mod Made
 pub mod Near
 pub mod NewCells
 pub mod OfSets
 pub mod Order
 pub mod Region
+pub mod Rest
 pub mod Removal
 pub mod Rims
 pub mod Search
