@@ -14,6 +14,7 @@ pub mod Order
 pub mod Region
 pub mod Rest
 pub mod Removal
+pub mod RemovalLaws
 pub mod Rims
 pub mod Search
 pub mod Stars

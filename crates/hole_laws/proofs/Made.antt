@@ -1,15 +1,14 @@
 -- The list of the complex after an edit is made from the one before, the list of cells that go and that of new cells.
-use Rattle.std.specs.Prelude.{◌≡◌, ◌≢◌, ℕ, List, ◌⊎◌, ◌↔◌}
+use Rattle.std.specs.Prelude.{◌≡◌, ℕ, List, ◌⊎◌, ◌↔◌}
 use Rattle.std.proofs.Common.{inl, inr}
 use Rattle.point_order.specs.Sets.{IsIn, with_point}
 use Rattle.point_order.specs.CellOrder.{cell_cmp}
 use Rattle.point_order.specs.Complex.{complex}
 use Rattle.point_order.specs.declared.cell.Cell.{Cell}
 use Rattle.std.specs.List.Sorted.{IsStrictlySortedBy}
-use Rattle.del_laws.specs.Cells.{Vertex}
 use Rattle.del_laws.specs.PointSets.{cell}
 use Rattle.del_laws.proofs.Ordered.{complex_is_sorted, same_members}
-use Rattle.hole_laws.specs.Lists.{ListsCells, Goes, Stays}
+use Rattle.hole_laws.specs.Lists.{Goes}
 use Rattle.hole_laws.specs.Edits.{IsSet, IsSolidSet, IsNew, IsFresh}
 use Rattle.hole_laws.specs.Laws.{IsExchanged, MadeByInsertion}
 use Rattle.hole_laws.proofs.Listed.{decide_listed}

@@ -1,5 +1,5 @@
 -- A set without one of its points: the rest, and the set again.
-use Rattle.std.specs.Prelude.{◌≡◌, ◌≢◌, ℕ, Bool, true, false, not, ◌==◌, List}
+use Rattle.std.specs.Prelude.{◌≡◌, ◌≢◌, ℕ, true, not, ◌==◌, List}
 use Rattle.std.proofs.Common.{refl, sym, subst, inl, inr}
 use Rattle.std.proofs.lemmas.Bool.{cases_eq}
 use Rattle.point_order.specs.Sets.{IsIn, with_point, without_point}
@@ -7,7 +7,7 @@ use Rattle.point_order.specs.Solid.{is_solid}
 use Rattle.point_order.proofs.SetLaws.{same-members, in-with, in-with_new, in-with_old, ascending-with}
 use Rattle.del_laws.proofs.PointSets.{same_from, same_true, filtered_ascending, solid_from, solid_true}
 use Rattle.del_laws.proofs.Tests.{filtered_from, filtered_true, not_true, not_from, false_if, not_both}
-use Rattle.hole_laws.specs.Edits.{IsSet, IsSolidSet, IsNew}
+use Rattle.hole_laws.specs.Edits.{IsSet, IsNew}
 use Rattle.hole_laws.proofs.Judged.{more_solid}
 
 -- a point of the rest
