@@ -8,7 +8,7 @@ use Rattle.point_order.specs.declared.cell.Cell.TheVariants.{Full, Open}
 use Rattle.del_laws.specs.Cells.{Vertex, point, far}
 use Rattle.del_laws.proofs.Tests.{among_from}
 use Rattle.del_laws.specs.Base.{Symmetric}
-use Rattle.hole_laws.specs.Lists.{has_vertex, has_vertices, IsOrdered, at_cell}
+use Rattle.hole_laws.proofs.Vertex.{has_vertex, has_vertices, IsOrdered, at_cell}
 use Rattle.hole_laws.proofs.Order.{IsBefore, AreFourVertices, in_any_order}
 
 -- ---- tests of four

@@ -172,8 +172,7 @@ module _ (s : List ℕ) (p : ℕ) (k : AreKeys (p ∷ s)) (n : ¬ (IsIn p s)) wh
   -- an Open cell in its order
   open_ordered : (a b c m : ℕ) → Open height s a b c → IsIn m s → ¬ (orientation a b c m ≡ pos 0) → (is_open_conflict (a ∷ b ∷ c ∷ []) m p ≡ false) ↔ Held height (p ∷ s) (point a) (point b) (point c) far
   open_ordered a b c m F mm z =
-      let o = positive (orientation a b c m) (F.bounds m mm) z in
-      (
+      let o = positive (orientation a b c m) (F.bounds m mm) z in (
         λ h. inr (open_stays F (outside_any height a b c m F.mate p o F.above (outside_of a b c m o h))),
         λ h. free_of a b c m F.has_a F.has_b F.has_c mm o (elim h [
           | inl G ↦ absurd (clash (orientation a c b m) (turned (orientation a b c m) (orientation a c b m) (orientation_swap23 a b c m) o) (G.bounds m (inr mm)))
@@ -188,8 +187,7 @@ module _ (s : List ℕ) (p : ℕ) (k : AreKeys (p ∷ s)) (n : ¬ (IsIn p s)) wh
     | inl F ↦ (
         let z : ¬ (orientation a c b m ≡ pos 0) = λ e. not_zero_from (orientation a b c m) f (turned_zero (orientation a c b m) (orientation a b c m) (orientation_swap23 a c b m) e) in
         let d = open_ordered a c b m F mm z in
-        let same = conflict_turned a c b m p (positive (orientation a c b m) (F.bounds m mm) z) in
-        (
+        let same = conflict_turned a c b m p (positive (orientation a c b m) (F.bounds m mm) z) in (
           λ h. swap23 height (p ∷ s) (point a) (point c) (point b) far (d.0 (sym same ∙ h)),
           λ h. same ∙ d.1 (swap23 height (p ∷ s) (point a) (point b) (point c) far h),
         ))

@@ -4,9 +4,9 @@ use Rattle.std.proofs.Common.{refl, sym, ap, ◌∙◌, inl, inr}
 use Rattle.std.proofs.lemmas.Bool.{false≢true}
 use Rattle.del_laws.specs.Cells.{Vertex, far}
 use Rattle.del_laws.specs.Base.{Symmetric, Across, Corner, Within, IsVertexOf}
-use Rattle.hole_laws.specs.Cells.{IsComplex, Insertion, HasRim, AreLinked, gone}
+use Rattle.hole_laws.proofs.Tests.{IsComplex, Insertion, HasRim, AreLinked, gone}
 use Rattle.del_laws.specs.PointSets.{PointSet, has, solid, cell, vertices}
-use Rattle.hole_laws.specs.Cells.{IsAdd}
+use Rattle.hole_laws.proofs.Tests.{IsAdd}
 use Rattle.del_laws.proofs.Starred.{base}
 use Rattle.hole_laws.proofs.Vertices.{cases_vertex, first_last, second_last}
 use Rattle.hole_laws.proofs.Rims.{last_apart, rim_makes_new, not_both, both, both_is, without_symmetric}
@@ -104,13 +104,12 @@ insertion S T p s a = record {
 pub linked : (S T : PointSet) (v : Vertex) → solid S ≡ true → IsAdd S v T → (w x y z : Vertex) → gone (cell S) (cell T) w x y z ≡ true →
     z ≢ far → AreLinked (cell T) v z
 linked S T v s a w x y z g f = elim (search_pair (λ i j. cell T i j z v) (complex_of T).vertices (complex_of T).vertices) [
-    | inl r ↦ record { t1 = r.a; t2 = r.b; cell = r.holds }
-    | inr h ↦ absurd (none (λ i j. not_both _ λ e. false≢true (sym (h i j
+  | inl r ↦ record { t1 = r.a; t2 = r.b; cell = r.holds }
+  | inr h ↦ absurd (none (λ i j. not_both _ λ e. false≢true (sym (h i j
       ((complex_of T).laws.listed j z v i (sym (first_last (cell T) (symm T) i j z v) ∙ e))
       ((complex_of T).laws.listed i z v j (sym (second_last (cell T) (symm T) i j z v) ∙ e))) ∙ e)))
-  ]
+]
   where
-
     st : solid T ≡ true
     st = solid_add S T v s a
 

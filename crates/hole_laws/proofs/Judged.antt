@@ -84,8 +84,7 @@ module _ (s : List ℕ) (p : ℕ) (i : IsSolidSet s) (n : IsNew s p) where
   full_listed : (a b c d : ℕ) → a < b → b < c → c < d → is_cell s (point a) (point b) (point c) (point d) ≡ true → (is_in_conflict (Full (a ∷ b ∷ c ∷ d ∷ [])) p p ≡ false) ↔ IsIn (Full (a ∷ b ∷ c ∷ d ∷ [])) (complex (with_point p s))
   full_listed a b c d ab bc cd t =
       let k = full_decides s p keys n.absent a b c d (cell_from s (point a) (point b) (point c) (point d) t) in
-      let j = tested (point a) (point b) (point c) (point d) in
-      (
+      let j = tested (point a) (point b) (point c) (point d) in (
         λ h. cell_is_listed (with_point p s) (Full (a ∷ b ∷ c ∷ d ∷ [])) more.ascending (record { a = a; b = b; c = c; d = d; is = refl; first = ab; second = bc; third = cd; test = j.0 (k.0 (not_false (is_outside a b c d p) h)) }),
         λ h. not_true (is_outside a b c d p) (k.1 (j.1 (full_test (with_point p s) a b c d (listed_is_cell (with_point p s) (Full (a ∷ b ∷ c ∷ d ∷ [])) more.ascending h)))),
       )
@@ -109,8 +108,7 @@ module _ (s : List ℕ) (p : ℕ) (i : IsSolidSet s) (n : IsNew s p) where
   open_listed : (a b c m : ℕ) → a < b → b < c → is_cell s (point a) (point b) (point c) far ≡ true → IsIn m s → is_flat a b c m ≡ false → (is_in_conflict (Open (a ∷ b ∷ c ∷ [])) m p ≡ false) ↔ IsIn (Open (a ∷ b ∷ c ∷ [])) (complex (with_point p s))
   open_listed a b c m ab bc t mm f =
       let k = open_decides s p keys n.absent a b c m (cell_from s (point a) (point b) (point c) far t) mm f in
-      let j = tested (point a) (point b) (point c) far in
-      (
+      let j = tested (point a) (point b) (point c) far in (
         λ h. cell_is_listed (with_point p s) (Open (a ∷ b ∷ c ∷ [])) more.ascending (record { a = a; b = b; c = c; is = refl; first = ab; second = bc; test = j.0 (k.0 h) }),
         λ h. k.1 (j.1 (open_test (with_point p s) a b c (listed_is_cell (with_point p s) (Open (a ∷ b ∷ c ∷ [])) more.ascending h))),
       )
@@ -143,8 +141,7 @@ stays_without_conflict s p i n q m h k =
 
 pub goes_in_conflict : GoesInConflict
 goes_in_conflict s p i n q m h k =
-    let d = decides s p i n q m h k in
-    (
+    let d = decides s p i n q m h k in (
       λ e. record { before = h; after = λ r. false≢true (sym (d.1 r) ∙ e) },
       λ g. elim (true_or_false (is_in_conflict q m p)) [ inl e ↦ e | inr e ↦ absurd (g.after (d.0 e)) ],
     )

@@ -8,8 +8,9 @@ use Rattle.point_order.specs.declared.cell.Cell.{Cell}
 use Rattle.point_order.specs.declared.cell.Facet.{Facet}
 use Rattle.del_laws.specs.Cells.{Vertex, point}
 use Rattle.del_laws.specs.PointSets.{cell}
-use Rattle.hole_laws.specs.Cells.{Insertion}
-use Rattle.hole_laws.specs.Lists.{ListsCells, AreJoined}
+use Rattle.hole_laws.proofs.Tests.{Insertion}
+use Rattle.hole_laws.specs.Lists.{AreJoined}
+use Rattle.hole_laws.proofs.Vertex.{ListsCells}
 use Rattle.hole_laws.specs.Edits.{IsSolidSet, IsNew, GoesFrom, StaysFrom, IsRimOf, IsFresh}
 use Rattle.hole_laws.specs.Laws.{SomeRim, CellsAfter, FreshHavePoint, OldLackPoint, IsClosedPart, RegionConnected, IsHeldPart, FoundFromHeld, IsReached, FreshAreNear, JoinedAreReached}
 use Rattle.hole_laws.proofs.Listed.{decide_listed, region_listed}

@@ -18,4 +18,6 @@ pub mod RemovalLaws
 pub mod Rims
 pub mod Search
 pub mod Stars
+pub mod Tests
+pub mod Vertex
 pub mod Vertices

@@ -11,8 +11,9 @@ use Rattle.point_order.specs.declared.cell.Facet.TheVariants.{Three, Two}
 use Rattle.del_laws.specs.Cells.{Vertex, point}
 use Rattle.del_laws.proofs.Tests.{any_from, any_true, true_or_false}
 use Rattle.del_laws.specs.Base.{Symmetric}
-use Rattle.hole_laws.specs.Cells.{IsComplex, Insertion, gone}
-use Rattle.hole_laws.specs.Lists.{has_vertex, has_vertices, is_listed, IsOrdered, HasListed, ListsCells, Goes}
+use Rattle.hole_laws.proofs.Tests.{IsComplex, Insertion, gone}
+use Rattle.hole_laws.specs.Lists.{Goes}
+use Rattle.hole_laws.proofs.Vertex.{has_vertex, has_vertices, is_listed, IsOrdered, HasListed, ListsCells}
 use Rattle.hole_laws.proofs.Order.{AreFourVertices}
 use Rattle.hole_laws.proofs.Vertices.{first_last, second_last}
 use Rattle.hole_laws.proofs.Rims.{last_apart, not_both, both, both_is, without_symmetric}

@@ -4,9 +4,9 @@ use Rattle.std.proofs.Common.{refl, sym, ap, ◌∙◌, inl, inr}
 use Rattle.std.proofs.lemmas.Bool.{false≢true}
 use Rattle.del_laws.specs.Cells.{Vertex, far}
 use Rattle.del_laws.specs.Base.{Symmetric}
-use Rattle.hole_laws.specs.Cells.{AreLinked, IsAtGone}
+use Rattle.hole_laws.proofs.Tests.{AreLinked, IsAtGone}
 use Rattle.del_laws.specs.PointSets.{PointSet, solid, cell}
-use Rattle.hole_laws.specs.Cells.{IsAdd}
+use Rattle.hole_laws.proofs.Tests.{IsAdd}
 use Rattle.hole_laws.proofs.Vertices.{cases_vertex, first_last, second_last}
 use Rattle.hole_laws.proofs.Rims.{new_has_rim, both, without_symmetric}
 use Rattle.hole_laws.proofs.FromBase.{complex_of}

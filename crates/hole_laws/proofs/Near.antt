@@ -8,8 +8,9 @@ use Rattle.point_order.specs.declared.cell.Facet.{Facet}
 use Rattle.point_order.specs.declared.cell.Facet.TheVariants.{Three, Two}
 use Rattle.point_order.proofs.SetLaws.{in-ascending}
 use Rattle.del_laws.specs.Cells.{Vertex, point, far}
-use Rattle.hole_laws.specs.Cells.{Insertion, IsAtGone, AreLinked}
-use Rattle.hole_laws.specs.Lists.{has_vertex, IsOrdered, ListsCells, IsFacetVertex, cell_over, Goes, IsOverRim, IsAtGoing, AreJoined, HasHeld}
+use Rattle.hole_laws.proofs.Tests.{Insertion, IsAtGone, AreLinked}
+use Rattle.hole_laws.specs.Lists.{cell_over, Goes, IsOverRim, IsAtGoing, AreJoined, HasHeld}
+use Rattle.hole_laws.proofs.Vertex.{has_vertex, IsOrdered, ListsCells, IsFacetVertex}
 use Rattle.hole_laws.proofs.FacetVertices.{IsAgainst, facet_against, against_of}
 use Rattle.hole_laws.proofs.CellVertices.{four_is}
 use Rattle.hole_laws.proofs.Listed.{region_listed, goes_test}

@@ -11,8 +11,9 @@ use Rattle.point_order.specs.declared.cell.Facet.TheVariants.{Three, Two}
 use Rattle.point_order.proofs.SetLaws.{in-ascending_from}
 use Rattle.del_laws.specs.Cells.{Vertex, point}
 use Rattle.del_laws.proofs.Tests.{among_from, among_true, true_or_false}
-use Rattle.hole_laws.specs.Cells.{Insertion, IsRim}
-use Rattle.hole_laws.specs.Lists.{has_vertex, has_vertices, IsOrdered, HasListed, ListsCells, IsFacetVertex, cell_over, Goes, IsRimFacet, IsOverRim}
+use Rattle.hole_laws.proofs.Tests.{Insertion, IsRim}
+use Rattle.hole_laws.specs.Lists.{cell_over, Goes, IsRimFacet, IsOverRim}
+use Rattle.hole_laws.proofs.Vertex.{has_vertex, has_vertices, IsOrdered, HasListed, ListsCells, IsFacetVertex}
 use Rattle.hole_laws.proofs.Order.{AreFourVertices}
 use Rattle.hole_laws.proofs.Rims.{new_has_rim, rim_makes_new, both, both_is}
 use Rattle.hole_laws.proofs.CellVertices.{four_true, four_is}

@@ -16,8 +16,8 @@ use Rattle.del_laws.proofs.PointSets.{set_true, ascending_of}
 use Rattle.del_laws.proofs.Listed.{listed_is_cell, cell_is_listed}
 use Rattle.del_laws.proofs.Starred.{base}
 use Rattle.del_laws.proofs.Tests.{same_test, among_true, among_from, false_if}
-use Rattle.hole_laws.specs.Cells.{IsAdd, Insertion}
-use Rattle.hole_laws.specs.Lists.{has_vertices, HasListed, ListsCells, IsOrdered, at_cell}
+use Rattle.hole_laws.proofs.Tests.{IsAdd, Insertion}
+use Rattle.hole_laws.proofs.Vertex.{has_vertices, HasListed, ListsCells, IsOrdered, at_cell}
 use Rattle.hole_laws.specs.Edits.{IsSet, IsSolidSet, IsNew}
 use Rattle.hole_laws.proofs.Order.{IsBefore, in_any_order}
 use Rattle.hole_laws.proofs.CellVertices.{four_true, vertices_symmetric}

@@ -7,7 +7,7 @@ use Rattle.conv_laws.specs.Lists.{odd, IsIn, HasAnother}
 use Rattle.conv_laws.proofs.Parity.{even_degrees, HasSome, odd_some, another, one_odd, two_even, odd-same}
 use Rattle.del_laws.specs.Cells.{Vertex}
 use Rattle.del_laws.specs.Base.{Symmetric, Symmetric3, Across}
-use Rattle.hole_laws.specs.Cells.{Insertion, gone}
+use Rattle.hole_laws.proofs.Tests.{Insertion, gone}
 use Rattle.hole_laws.proofs.Vertices.{cases_vertex}
 use Rattle.hole_laws.proofs.Rims.{across_one, rim_makes_new, not_both, both, both_is, kept_is, without_symmetric}
 

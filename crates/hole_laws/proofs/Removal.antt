@@ -4,9 +4,9 @@ use Rattle.std.proofs.Common.{refl, sym, ap, ◌∙◌, inl, inr, arith}
 use Rattle.std.proofs.lemmas.Bool.{false≢true}
 use Rattle.del_laws.specs.Cells.{Vertex, far}
 use Rattle.del_laws.specs.Base.{Symmetric, Across, Corner, Within, IsVertexOf}
-use Rattle.hole_laws.specs.Cells.{Insertion, HasRim, AreLinked, IsOpposite, gone}
+use Rattle.hole_laws.proofs.Tests.{Insertion, HasRim, AreLinked, IsOpposite, gone}
 use Rattle.del_laws.specs.PointSets.{PointSet, has, solid, cell}
-use Rattle.hole_laws.specs.Cells.{IsAdd}
+use Rattle.hole_laws.proofs.Tests.{IsAdd}
 use Rattle.del_laws.proofs.Starred.{base}
 use Rattle.hole_laws.proofs.Vertices.{cases_vertex, first_last, second_last}
 use Rattle.hole_laws.proofs.Rims.{last_apart, across_one, rim_makes_new, new_has_rim, not_both, both, both_is, without_symmetric}

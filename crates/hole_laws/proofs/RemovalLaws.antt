@@ -12,8 +12,9 @@ use Rattle.del_laws.specs.PointSets.{has, cell}
 use Rattle.del_laws.proofs.Decide.{is_in}
 use Rattle.del_laws.proofs.Ordered.{complex_is_sorted}
 use Rattle.del_laws.proofs.Tests.{false_if, not_both}
-use Rattle.hole_laws.specs.Cells.{IsComplex, AreLinked, IsOpposite, gone}
-use Rattle.hole_laws.specs.Lists.{has_vertex, ListsCells, Goes, AreJoined}
+use Rattle.hole_laws.proofs.Tests.{IsComplex, AreLinked, IsOpposite, gone}
+use Rattle.hole_laws.specs.Lists.{Goes, AreJoined}
+use Rattle.hole_laws.proofs.Vertex.{has_vertex, ListsCells}
 use Rattle.hole_laws.specs.Edits.{IsSet, IsSolidSet, IsNew, GoesFrom, IsAcross}
 use Rattle.hole_laws.specs.Laws.{CellsOfRest, MadeByRemoval, RefilledFromLink, ComingAreNear, SolidNear, FlatRestJoined}
 use Rattle.hole_laws.proofs.CellVertices.{four_is, same_cell, all_vertices}

@@ -4,7 +4,7 @@ use Rattle.std.proofs.Common.{refl, sym, ap, ap₂, ◌∙◌, inl, inr, arith}
 use Rattle.std.proofs.lemmas.Bool.{false≢true}
 use Rattle.del_laws.specs.Cells.{Vertex}
 use Rattle.del_laws.specs.Base.{Symmetric, Across}
-use Rattle.hole_laws.specs.Cells.{IsComplex, Insertion, IsRim}
+use Rattle.hole_laws.proofs.Tests.{IsComplex, Insertion, IsRim}
 use Rattle.hole_laws.proofs.Vertices.{cases_vertex}
 
 -- ---- tests with two answers

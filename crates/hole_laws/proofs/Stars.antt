@@ -3,7 +3,7 @@ use Rattle.std.specs.Prelude.{◌≡◌, Bool, true, ◌≢◌, ◌⊎◌}
 use Rattle.std.proofs.Common.{sym, ap, ◌∙◌, inl, inr}
 use Rattle.del_laws.specs.Cells.{Vertex, far}
 use Rattle.del_laws.specs.Base.{Symmetric, Symmetric3, AreFinite, ClosedFull, StarFull}
-use Rattle.hole_laws.specs.Cells.{IsComplex, ClosedPart, ClosedStar}
+use Rattle.hole_laws.proofs.Tests.{IsComplex, ClosedPart, ClosedStar}
 use Rattle.hole_laws.proofs.Vertices.{cases_vertex, first_last, second_last}
 use Rattle.hole_laws.proofs.Rims.{last_apart}
 

@@ -1,4 +1,3 @@
-pub mod Cells
+pub mod Lists
 pub mod Edits
 pub mod Laws
-pub mod Lists
