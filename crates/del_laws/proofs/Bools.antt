@@ -18,7 +18,7 @@ use Rattle.del_laws.specs.Vertices.{are_among, is_full_cell, is_open_cell, is_ce
 use Rattle.del_laws.proofs.Identities.{orientation_swap23, lifted_swap23}
 use Rattle.del_laws.proofs.Numbers.{weak, zero_weak, not_zero}
 use Rattle.del_laws.proofs.Decide.{is_in, is_at_zero}
-use Rattle.del_laws.proofs.Tests.{both_true, first_true, second_true, one_true, left_true, right_true, false_if, not_true, not_from, less_from, less_true, most_from, most_true, zero_from, zero_false, not_zero_from, all_from, all_true, among_from, among_true, IsFound, found_from, searched}
+use Rattle.del_laws.proofs.Tests.{both_true, first_true, second_true, one_true, left_true, right_true, false_if, not_true, not_from, less_from, less_true, most_from, most_true, zero_from, zero_true, zero_false, not_zero_from, all_from, all_true, among_from, among_true, IsFound, found_from, searched}
 use Rattle.del_laws.proofs.Planes.{IsLine, line_flat, open_by_mate, open_not_line}
 use Rattle.del_laws.proofs.Walks.{strict, on}
 use Rattle.del_laws.proofs.Strict.{strict_open, flat_three}
@@ -265,6 +265,15 @@ line_from a b c t =
         z = zero_from (normal_z a b c) (second_true (u && v) w t);
       };
     }
+
+-- and back
+pub line_true : (a b c : ℕ) → IsLine a b c → is_collinear a b c ≡ true
+unfolding normal_x normal_y normal_z minor x_from y_from z_from
+line_true a b c l =
+    let u = is_zero (normal_x a b c) in
+    let v = is_zero (normal_y a b c) in
+    let w = is_zero (normal_z a b c) in
+    both_true (u && v) w (both_true u v (zero_true (normal_x a b c) l.flat.x) (zero_true (normal_y a b c) l.flat.y)) (zero_true (normal_z a b c) l.flat.z)
 
 -- the three are in the set, in a list
 all_three : (s : List ℕ) (a b c : ℕ) → IsIn a s → IsIn b s → IsIn c s → are_among (a ∷ b ∷ c ∷ []) s ≡ true

@@ -18,6 +18,11 @@ raised h p = record { foot = place p; height = pos (h p) }
 
 -- ---- orders of an orientation
 
+-- the first two are exchanged
+pub orientation_swap12 : (a b c d : ℕ) → orientation b a c d ≡ neg_ℤ (orientation a b c d)
+unfolding orientation orient triple minor x_from y_from z_from
+orientation_swap12 a b c d = places.orient_swap12 (place a) (place b) (place c) (place d)
+
 -- the second and the third are exchanged
 pub orientation_swap23 : (a b c d : ℕ) → orientation a c b d ≡ neg_ℤ (orientation a b c d)
 unfolding orientation orient triple minor x_from y_from z_from
@@ -71,6 +76,16 @@ unfolding orientation orient triple minor x_from y_from z_from
 orientation_same23 a b d = places.orient_same23 (place b) (place a) (place d)
 
 -- ---- orders of a lifted determinant
+
+-- the first two are exchanged
+pub lifted_swap12 : (h : ℕ → ℕ) (a b c d e : ℕ) → lifted h b a c d e ≡ neg_ℤ (lifted h a b c d e)
+unfolding lifted lifted_determinant orientation orient triple minor x_from y_from z_from
+lifted_swap12 h a b c d e = places.lifted_swap12 (raised h a) (raised h b) (raised h c) (raised h d) (raised h e)
+
+-- the third and the fourth are exchanged
+pub lifted_swap34 : (h : ℕ → ℕ) (a b c d e : ℕ) → lifted h a b d c e ≡ neg_ℤ (lifted h a b c d e)
+unfolding lifted lifted_determinant orientation orient triple minor x_from y_from z_from
+lifted_swap34 h a b c d e = places.lifted_swap34 (raised h a) (raised h b) (raised h c) (raised h d) (raised h e)
 
 -- the second and the third are exchanged
 pub lifted_swap23 : (h : ℕ → ℕ) (a b c d e : ℕ) → lifted h a c b d e ≡ neg_ℤ (lifted h a b c d e)

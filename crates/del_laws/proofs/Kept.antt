@@ -1,13 +1,12 @@
 -- Which cells stay when a point is added, by the tests of conflict. This file opens the definition of a cell.
-use Rattle.std.specs.Prelude.{◌≡◌, refl, ℕ, ℤ, pos, neg_ℤ, ◌≤ℤ◌, ◌<ℤ◌, Bool, true, false, not, ◌&&◌, ◌||◌, List, [], ◌∷◌, ◌⊎◌}
+use Rattle.std.specs.Prelude.{◌≡◌, refl, ℕ, ℤ, pos, neg_ℤ, ◌≤ℤ◌, ◌<ℤ◌, Bool, true, false, not, ◌&&◌, ◌||◌, List, [], ◌∷◌}
 use Rattle.std.specs.Int.Signed.{lt_z}
-use Rattle.std.proofs.Common.{arith, inl, inr, ap, sym, subst, ◌∙◌}
+use Rattle.std.proofs.Common.{arith, inl, inr, sym, subst}
 use Rattle.std.proofs.lemmas.Int.{ints}
 use Rattle.whole_ring.specs.Signs.{Sign, below, at_zero, above}
 use Rattle.whole_ring.proofs.Signs.{sign}
-use Rattle.point_order.specs.declared.cell.Cell.TheVariants.{Full, Open}
 use Rattle.point_order.specs.Coordinates.{IsKey}
-use Rattle.point_order.specs.Orientation.{orientation, is_zero, is_flat}
+use Rattle.point_order.specs.Orientation.{orientation, is_zero}
 use Rattle.point_order.specs.Heights.{height, lifted, out}
 use Rattle.point_order.specs.Spheres.{is_outside}
 use Rattle.point_order.specs.Sets.{IsIn, with_point}
@@ -23,15 +22,15 @@ use Rattle.del_laws.proofs.Numbers.{weak, zero_weak, positive, not_zero, against
 use Rattle.del_laws.proofs.Lists.{of_four}
 use Rattle.del_laws.proofs.Walks.{strict}
 use Rattle.del_laws.proofs.Existence.{full_same}
-use Rattle.del_laws.proofs.Conflict.{full_stays, open_stays, open_kept, outside_any}
+use Rattle.del_laws.proofs.Conflict.{full_stays, open_stays, outside_any}
 use Rattle.del_laws.proofs.Perturbed.{no_ties, out_is}
-use Rattle.del_laws.proofs.Tests.{same_test, not_zero_from, zero_false, not_true, not_from, true_or_false, not_both}
+use Rattle.del_laws.proofs.Tests.{same_test, not_zero_from, not_true, not_from, not_both}
 use Rattle.del_laws.proofs.Bools.{cell_true, cell_from, outside_above, outside_below, above_from, below_from}
 
 -- ---- the set with the point
 
 -- its numbers are keys
-with_keys : (s : List ℕ) (p : ℕ) → AreKeys s → IsKey p → AreKeys (with_point p s)
+pub with_keys : (s : List ℕ) (p : ℕ) → AreKeys s → IsKey p → AreKeys (with_point p s)
 with_keys s p k j = record { below = λ q m. elim (in-with p q s m) [ inl e ↦ subst IsKey e j | inr r ↦ k.below q r ] }
 
 -- it has the points of the list with p in front
@@ -95,11 +94,11 @@ module _ (s : List ℕ) (p : ℕ) (k : AreKeys s) (j : IsKey p) (o : IsIn p s �
   -- four points in an order of positive orientation
   full_above : (a b c d : ℕ) → cells.Full height s a b c d → is_full_cell (with_point p s) a b c d ≡ not (not (is_outside a b c d p))
   full_above a b c d F = same_test (is_full_cell (with_point p s) a b c d) (not (not (is_outside a b c d p)))
-    (λ t. denied_twice (is_outside a b c d p) (elim (cell_from (with_point p s) (point a) (point b) (point c) (point d) t) [
-      | inl G ↦ outside_above a b c d p F.turned (kept_full (no_vertex F) G)
-      | inr G ↦ absurd (against (orientation a b c d) (orientation a c b d) F.turned (weak (orientation a c b d) G.turned) (orientation_swap23 a b c d))
-    ]))
-    (λ t. cell_true (with_point p s) (with_keys s p k j) (point a) (point b) (point c) (point d) (inl (stays_full F (above_from a b c d p (twice_from (is_outside a b c d p) t) F.turned))))
+      (λ t. denied_twice (is_outside a b c d p) (elim (cell_from (with_point p s) (point a) (point b) (point c) (point d) t) [
+        | inl G ↦ outside_above a b c d p F.turned (kept_full (no_vertex F) G)
+        | inr G ↦ absurd (against (orientation a b c d) (orientation a c b d) F.turned (weak (orientation a c b d) G.turned) (orientation_swap23 a b c d))
+      ]))
+      (λ t. cell_true (with_point p s) (with_keys s p k j) (point a) (point b) (point c) (point d) (inl (stays_full F (above_from a b c d p (twice_from (is_outside a b c d p) t) F.turned))))
 
   -- in an order of negative orientation
   full_below : (a b c d : ℕ) → cells.Full height s a c b d → is_full_cell (with_point p s) a b c d ≡ not (not (is_outside a b c d p))
@@ -172,11 +171,11 @@ module _ (s : List ℕ) (p : ℕ) (k : AreKeys s) (j : IsKey p) (o : IsIn p s �
   -- three points in the order in which the set is above them
   open_above : (a b c m : ℕ) → cells.Open height s a b c → IsIn m s → pos 0 <ℤ orientation a b c m → is_open_cell (with_point p s) a b c ≡ not (is_open_conflict (a ∷ b ∷ c ∷ []) m p)
   open_above a b c m F mm l = same_test (is_open_cell (with_point p s) a b c) (not (is_open_conflict (a ∷ b ∷ c ∷ []) m p))
-    (λ t. not_true (is_open_conflict (a ∷ b ∷ c ∷ []) m p) (elim (cell_from (with_point p s) (point a) (point b) (point c) far t) [
-      | inl G ↦ absurd (against (orientation a b c m) (orientation a c b m) l (G.bounds m (in-with_old p m s mm)) (orientation_swap23 a b c m))
-      | inr G ↦ passes G
-    ]))
-    (λ t. cell_true (with_point p s) (with_keys s p k j) (point a) (point b) (point c) far (inr (stays_open a b c m F l (outside (not_from (is_open_conflict (a ∷ b ∷ c ∷ []) m p) t)))))
+      (λ t. not_true (is_open_conflict (a ∷ b ∷ c ∷ []) m p) (elim (cell_from (with_point p s) (point a) (point b) (point c) far t) [
+        | inl G ↦ absurd (against (orientation a b c m) (orientation a c b m) l (G.bounds m (in-with_old p m s mm)) (orientation_swap23 a b c m))
+        | inr G ↦ passes G
+      ]))
+      (λ t. cell_true (with_point p s) (with_keys s p k j) (point a) (point b) (point c) far (inr (stays_open a b c m F l (outside (not_from (is_open_conflict (a ∷ b ∷ c ∷ []) m p) t)))))
     where
       -- a cell of the set with p is not in conflict
       passes : cells.Open height (with_point p s) a b c → is_open_conflict (a ∷ b ∷ c ∷ []) m p ≡ false
@@ -239,7 +238,7 @@ module _ (s : List ℕ) (p : ℕ) (k : AreKeys s) (j : IsKey p) (o : IsIn p s �
           -- in the plane
           plane : orientation a c b p ≡ pos 0 → Sign (lifted height a c b m p) → pos 0 ≤ℤ lifted height a c b m p
           plane q (below r) = absurd (not_both (is_open_conflict (a ∷ b ∷ c ∷ []) m p) (inside_plane_below (orientation a b c m) (orientation a b c p) (out a b c m p) low (zero_of (orientation a c b p) (orientation a b c p) (orientation_swap23 a c b p) q)
-            (weak (out a b c m p) (subst (λ z. pos 0 <ℤ z) (sym (out_is a b c m p)) (high_of (lifted height a c b m p) (lifted height a b c m p) r (lifted_swap23 height a c b m p))))) t)
+              (weak (out a b c m p) (subst (λ z. pos 0 <ℤ z) (sym (out_is a b c m p)) (high_of (lifted height a c b m p) (lifted height a b c m p) r (lifted_swap23 height a c b m p))))) t)
           plane q (at_zero r) = zero_weak (lifted height a c b m p) r
           plane q (above r) = weak (lifted height a c b m p) r
 

@@ -22,6 +22,7 @@ pub mod Parts
 pub mod Perturbed
 pub mod Planes
 pub mod PointSets
+pub mod Ranks
 pub mod Recognised
 pub mod Regions
 pub mod Sides

@@ -1,22 +1,14 @@
 -- Which cells the sorted list of a complex has.
-use Rattle.std.specs.Prelude.{◌≡◌, refl, ℕ, zero, suc, ◌<◌, Bool, true, false, not, ◌&&◌, List, [], ◌∷◌, ◌++◌, ◌⊎◌, map, length}
-use Rattle.std.specs.List.{filter, list_all}
-use Rattle.std.specs.Ordering.{nat_cmp}
-use Rattle.std.specs.Cmp.Lexicographic.{slice_cmp}
-use Rattle.std.specs.declared.cmp.Ordering.{Ordering}
-use Rattle.std.specs.declared.cmp.Ordering.TheVariants.{Less, Equal, Greater}
-use Rattle.std.proofs.Common.{arith, inl, inr, ap, sym, subst, ◌∙◌}
-use Rattle.std.proofs.lemmas.Cmp.{nat_list_cmp_total}
-use Rattle.point_order.specs.declared.cell.Cell.{Cell}
+use Rattle.std.specs.Prelude.{◌≡◌, refl, ℕ, zero, suc, ◌<◌, Bool, true, ◌&&◌, List, [], ◌∷◌, ◌++◌, ◌⊎◌, map, length}
+use Rattle.std.specs.List.{filter}
+use Rattle.std.proofs.Common.{arith, inl, inr, ap, sym, subst}
 use Rattle.point_order.specs.declared.cell.Cell.TheVariants.{Full, Open}
-use Rattle.point_order.specs.Sets.{IsIn, IsAscending, IsBelowFirst, is_among, ascending}
+use Rattle.point_order.specs.Sets.{IsIn, IsAscending, IsBelowFirst, is_among}
 use Rattle.point_order.specs.Subsets.{subsets}
-use Rattle.point_order.specs.CellOrder.{cell_cmp}
 use Rattle.point_order.specs.Complex.{complex, is_full, is_open}
 use Rattle.point_order.proofs.SetLaws.{below-each}
-use Rattle.del_laws.specs.Cells.{Vertex, point, far}
-use Rattle.del_laws.specs.Vertices.{are_among, is_full_cell, is_open_cell, is_cell}
-use Rattle.del_laws.specs.Listed.{IsListedFull, IsListedOpen, IsListed, ListedIsCell, CellIsListed}
+use Rattle.del_laws.specs.Vertices.{are_among, is_full_cell, is_open_cell}
+use Rattle.del_laws.specs.Listed.{IsListedFull, IsListedOpen, ListedIsCell, CellIsListed}
 use Rattle.del_laws.proofs.Tests.{both_true, first_true, second_true, all_true, all_from, among_true, among_from, filtered_from, filtered_true}
 
 -- ---- lists

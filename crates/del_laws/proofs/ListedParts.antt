@@ -1,43 +1,34 @@
 -- Parts of the sorted list of a complex. This file opens the definition of a cell.
-use Rattle.std.specs.Prelude.{◌≡◌, refl, ℕ, pos, neg_ℤ, ◌<◌, Bool, true, false, List, [], ◌∷◌, ◌⊎◌}
+use Rattle.std.specs.Prelude.{◌≡◌, refl, ℕ, pos, neg_ℤ, ◌<◌, Bool, true, List, [], ◌∷◌}
 use Rattle.std.proofs.Common.{inl, inr, ap, sym, subst, ◌∙◌}
-use Rattle.std.proofs.Math.Decide.{ℕ_discrete}
 use Rattle.point_order.specs.declared.cell.Cell.{Cell}
 use Rattle.point_order.specs.declared.cell.Cell.TheVariants.{Full, Open}
-use Rattle.point_order.specs.declared.cell.Facet.{Facet}
-use Rattle.point_order.specs.declared.cell.Facet.TheVariants.{Three, Two}
-use Rattle.point_order.specs.Orientation.{orientation, is_flat}
+use Rattle.point_order.specs.declared.cell.Facet.TheVariants.{Three}
+use Rattle.point_order.specs.Orientation.{orientation}
 use Rattle.point_order.specs.Heights.{height}
 use Rattle.point_order.specs.Sets.{IsIn, IsAscending, ascending}
-use Rattle.point_order.specs.Complex.{complex}
-use Rattle.point_order.specs.Facets.{facets_of, points_of}
-use Rattle.point_order.specs.Solid.{is_solid}
+use Rattle.point_order.specs.Facets.{points_of}
 use Rattle.point_order.proofs.SetLaws.{ascending-self, in-ascending_from}
-use Rattle.del_laws.specs.Cells.{Vertex, point, far, Cell as CellOf, Held, IsSubset, IsRegion, HavePoints, OneOf, IsSolid}
+use Rattle.del_laws.specs.Cells.{Vertex, point, far, Held, HavePoints}
 use Rattle.del_laws.specs.Keys.{AreKeys}
 use Rattle.del_laws.specs.Vertices.{is_cell}
 use Rattle.del_laws.specs.Base.{Symmetric}
 use Rattle.del_laws.specs.Listed.{IsListed, cell_of}
-use Rattle.del_laws.specs.ListedParts.{IsClosedListed, ListedStar, ListedPart, ListedAtAPoint, HasListedAt, ListedEveryPoint, HasMate, ListedMate, HasSecondCell, IsClosedList, ClosedListIsComplex, ComplexIsClosedList}
+use Rattle.del_laws.specs.ListedParts.{IsClosedListed, ListedStar, ListedPart, ListedAtAPoint, ListedEveryPoint, HasMate, ListedMate}
 use Rattle.del_laws.proofs.Identities.{orientation_swap23}
 use Rattle.del_laws.proofs.Numbers.{not_zero}
 use Rattle.del_laws.proofs.Lists.{of_three, of_four}
-use Rattle.del_laws.proofs.Orders.{swap12, swap23, swap34}
 use Rattle.del_laws.proofs.Across.{across_open}
-use Rattle.del_laws.proofs.Decide.{moved, both, either, is_held}
 use Rattle.del_laws.proofs.Walks.{every_point}
 use Rattle.del_laws.proofs.Existence.{exists_full}
-use Rattle.del_laws.proofs.Parts.{IsPart, part_all}
-use Rattle.del_laws.proofs.Smaller.{held_inside}
 use Rattle.del_laws.proofs.Perturbed.{no_ties, is_convex}
 use Rattle.del_laws.proofs.Tests.{zero_false}
 use Rattle.del_laws.proofs.Bools.{cell_true, cell_from}
-use Rattle.del_laws.proofs.PointSets.{solid_from, solid_true}
+use Rattle.del_laws.proofs.PointSets.{solid_from}
 use Rattle.del_laws.proofs.Closed.{star_law}
-use Rattle.del_laws.proofs.Listed.{listed_is_cell, cell_is_listed}
-use Rattle.del_laws.proofs.Ordered.{complex_is_sorted, same_members}
-use Rattle.del_laws.proofs.Sorting.{turn12, turn23, apart12, apart23, cell_of-swap12, cell_of-swap23, cell_of-swap34, test_is_listed, Compared, less, more, compared}
-use Rattle.del_laws.proofs.Neighbours.{over, has_facet, across, listed_facets}
+use Rattle.del_laws.proofs.Listed.{listed_is_cell}
+use Rattle.del_laws.proofs.Sorting.{turn12, turn23, apart12, apart23, cell_of-swap12, cell_of-swap23, cell_of-swap34, test_is_listed, less, more, compared}
+use Rattle.del_laws.proofs.Neighbours.{has_facet}
 
 -- ---- listed cells by their vertices
 
@@ -103,14 +94,14 @@ module _ (s : List ℕ) (k : List ℕ) (q : Cell → Bool) (a : IsAscending s) (
   crosses12 e f g h i t u j =
       ap q (cell_of-swap12 (point e) (point f) (point g) y)
       ∙ h (λ p m. of_three (λ v. IsIn v (f ∷ e ∷ g ∷ [])) (i p m) (inr (inl refl)) (inl refl) (inr (inr (inl refl))))
-        (turn12 s keys (point e) (point f) (point g) x t) (turn12 s keys (point e) (point f) (point g) y u) (sym (ap q (cell_of-swap12 (point e) (point f) (point g) x)) ∙ j)
+      (turn12 s keys (point e) (point f) (point g) x t) (turn12 s keys (point e) (point f) (point g) y u) (sym (ap q (cell_of-swap12 (point e) (point f) (point g) x)) ∙ j)
 
   -- the last two exchanged
   crosses23 : (e f g : ℕ) → Crosses e g f → Crosses e f g
   crosses23 e f g h i t u j =
       ap q (cell_of-swap23 (point e) (point f) (point g) y)
       ∙ h (λ p m. of_three (λ v. IsIn v (e ∷ g ∷ f ∷ [])) (i p m) (inl refl) (inr (inr (inl refl))) (inr (inl refl)))
-        (turn23 s keys (point e) (point f) (point g) x t) (turn23 s keys (point e) (point f) (point g) y u) (sym (ap q (cell_of-swap23 (point e) (point f) (point g) x)) ∙ j)
+      (turn23 s keys (point e) (point f) (point g) x t) (turn23 s keys (point e) (point f) (point g) y u) (sym (ap q (cell_of-swap23 (point e) (point f) (point g) x)) ∙ j)
 
   -- the first put among two in order
   crosses_put : (e f g : ℕ) → f < g → Crosses e f g
@@ -140,9 +131,9 @@ listed_star s k q a keys closed c mc fc hc d md fd =
     let r = of_listed s d (listed_is_cell s d a md) in
     ap q r.is
     ∙ star_law height s k (of_vertices q) (no_ties s keys) (of_vertices-symmetric q)
-      (λ e f g x y i C t D. crosses s k q a keys closed x y e f g i.inside (cell_true s keys (point e) (point f) (point g) x C.held) (cell_true s keys (point e) (point f) (point g) y D.held) t)
-      o.v1 o.v2 o.v3 o.v4 (record { held = cell_from s o.v1 o.v2 o.v3 o.v4 o.test }) (have_of s k c o fc) (sym (ap q o.is) ∙ hc)
-      r.v1 r.v2 r.v3 r.v4 (record { held = cell_from s r.v1 r.v2 r.v3 r.v4 r.test }) (have_of s k d r fd)
+    (λ e f g x y i C t D. crosses s k q a keys closed x y e f g i.inside (cell_true s keys (point e) (point f) (point g) x C.held) (cell_true s keys (point e) (point f) (point g) y D.held) t)
+    o.v1 o.v2 o.v3 o.v4 (record { held = cell_from s o.v1 o.v2 o.v3 o.v4 o.test }) (have_of s k c o fc) (sym (ap q o.is) ∙ hc)
+    r.v1 r.v2 r.v3 r.v4 (record { held = cell_from s r.v1 r.v2 r.v3 r.v4 r.test }) (have_of s k d r fd)
 
 -- a closed part
 pub listed_part : ListedPart

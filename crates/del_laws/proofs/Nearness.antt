@@ -1,6 +1,6 @@
 -- The order of nearness to a point, and that a walk over cells that comes nearer at each step ends.
 -- This file opens the definition of a cell.
-use Rattle.std.specs.Prelude.{ℕ, ℤ, pos, ◌*ℤ◌, ◌≡◌, ◌≤ℤ◌, ◌<ℤ◌, ◌<◌, true, false, List, ◌∷◌, count_by}
+use Rattle.std.specs.Prelude.{ℕ, suc, ℤ, pos, ◌*ℤ◌, ◌≡◌, ◌≤ℤ◌, ◌<ℤ◌, ◌<◌, true, false, List, ◌∷◌, count_by}
 use Rattle.std.proofs.Common.{arith, refl, inl, inr}
 use Rattle.std.proofs.lemmas.Int.{ints}
 use Rattle.std.specs.Int.Signed.{lt_z}
@@ -22,25 +22,31 @@ use Rattle.del_laws.proofs.Walks.{nearer}
 -- no rank is before itself
 pub before_not : (q : Rank) → is_before q q ≡ false
 before_not first = refl
-before_not (ratio n d k) = same (n *ℤ d)
+before_not (ratio n d) = same (n *ℤ pos (suc d))
   where
     -- no number is less than itself
     same : (a : ℤ) → lt_z a a ≡ false
     same a = grind (arith, ints)
 before_not last = refl
 
+-- a denominator is positive
+above_zero : (d : ℕ) → pos 0 <ℤ pos (suc d)
+above_zero d = omega (arith, ints)
+
 -- what is before what is before a rank is before it
 pub before_chain : (q r t : Rank) → is_before q r ≡ true → is_before r t ≡ true → is_before q t ≡ true
 before_chain first first t a b = cc
-before_chain first (ratio m e l) first a b = cc
-before_chain first (ratio m e l) (ratio i j k) a b = refl
-before_chain first (ratio m e l) last a b = refl
+before_chain first (ratio m e) first a b = cc
+before_chain first (ratio m e) (ratio i j) a b = refl
+before_chain first (ratio m e) last a b = refl
 before_chain first last t a b = cc
-before_chain (ratio n d k) first t a b = cc
-before_chain (ratio n d k) (ratio m e l) first a b = cc
-before_chain (ratio n d k) (ratio m e l) (ratio i j u) a b = less_true (n *ℤ j) (i *ℤ d) (ratio_chain_less n d m e i j k l u (less_from (n *ℤ e) (m *ℤ d) a) (less_from (m *ℤ j) (i *ℤ e) b))
-before_chain (ratio n d k) (ratio m e l) last a b = refl
-before_chain (ratio n d k) last t a b = cc
+before_chain (ratio n d) first t a b = cc
+before_chain (ratio n d) (ratio m e) first a b = cc
+before_chain (ratio n d) (ratio m e) (ratio i j) a b =
+    less_true (n *ℤ pos (suc j)) (i *ℤ pos (suc d))
+    (ratio_chain_less n (pos (suc d)) m (pos (suc e)) i (pos (suc j)) (above_zero d) (above_zero e) (above_zero j) (less_from (n *ℤ pos (suc e)) (m *ℤ pos (suc d)) a) (less_from (m *ℤ pos (suc j)) (i *ℤ pos (suc e)) b))
+before_chain (ratio n d) (ratio m e) last a b = refl
+before_chain (ratio n d) last t a b = cc
 before_chain last r t a b = cc
 
 -- of the cells of a list, fewer are nearer than the nearer of two

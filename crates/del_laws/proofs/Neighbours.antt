@@ -8,18 +8,17 @@ use Rattle.point_order.specs.declared.cell.Facet.TheVariants.{Three, Two}
 use Rattle.point_order.specs.Heights.{height}
 use Rattle.point_order.specs.Sets.{IsIn, IsAscending, ascending}
 use Rattle.point_order.specs.Complex.{complex}
-use Rattle.point_order.specs.Facets.{facets_of, points_of}
-use Rattle.point_order.proofs.SetLaws.{in-ascending, in-ascending_from, ascending-is, ascending-self}
+use Rattle.point_order.specs.Facets.{facets_of}
+use Rattle.point_order.proofs.SetLaws.{in-ascending, in-ascending_from, ascending-self}
 use Rattle.del_laws.specs.Cells.{Vertex, point, far}
 use Rattle.del_laws.specs.Keys.{AreKeys}
 use Rattle.del_laws.specs.Vertices.{is_cell}
-use Rattle.del_laws.specs.Listed.{IsListed, cell_of, HasOtherCell, ListedFacets}
+use Rattle.del_laws.specs.Listed.{IsListed, cell_of, ListedFacets}
 use Rattle.del_laws.proofs.Facets.{facing}
-use Rattle.del_laws.proofs.Sides.{Facing}
 use Rattle.del_laws.proofs.Perturbed.{no_ties}
 use Rattle.del_laws.proofs.Bools.{cell_true, cell_from}
 use Rattle.del_laws.proofs.Listed.{listed_is_cell, same_full, same_open, not_both_kinds}
-use Rattle.del_laws.proofs.Sorting.{turn34, rotate1, rotate2, apart34, apart24, apart14, cell_of-swap12, cell_of-swap23, cell_of-swap34, test_is_listed, Compared, less, more, compared}
+use Rattle.del_laws.proofs.Sorting.{turn34, rotate1, rotate2, apart34, apart24, apart14, cell_of-swap12, cell_of-swap23, cell_of-swap34, test_is_listed, less, more, compared}
 
 -- ---- a facet and one more vertex
 

@@ -1,5 +1,5 @@
 -- The sorted list of a complex is in the order of cells; lists in order with the same members are one.
-use Rattle.std.specs.Prelude.{◌≡◌, refl, ℕ, zero, suc, ◌<◌, Bool, true, false, cond, List, [], ◌∷◌, ◌++◌, ◌⊎◌, map, ◌==◌, nat_lt}
+use Rattle.std.specs.Prelude.{◌≡◌, refl, ℕ, zero, suc, ◌<◌, List, [], ◌∷◌, ◌++◌, map}
 use Rattle.std.specs.List.{filter, AllByRecursion}
 use Rattle.std.specs.List.Sorted.{IsStrictlySortedBy}
 use Rattle.std.specs.Ordering.{nat_cmp, ordering_then, ordering_reverse}
@@ -7,7 +7,7 @@ use Rattle.std.specs.Cmp.{nat_cmp_is}
 use Rattle.std.specs.Cmp.Lexicographic.{slice_cmp}
 use Rattle.std.specs.declared.cmp.Ordering.{Ordering}
 use Rattle.std.specs.declared.cmp.Ordering.TheVariants.{Less, Equal, Greater}
-use Rattle.std.proofs.Common.{arith, inl, inr, ap, sym, subst, ◌∙◌}
+use Rattle.std.proofs.Common.{inl, inr, ap, sym, subst, ◌∙◌}
 use Rattle.std.proofs.lemmas.Cmp.{nat_list_cmp_total}
 use Rattle.std.proofs.lemmas.List.Kept.{IsStrictlySortedBy-filter}
 use Rattle.point_order.specs.declared.cell.Cell.{Cell}
@@ -18,7 +18,7 @@ use Rattle.point_order.specs.CellOrder.{cell_cmp}
 use Rattle.point_order.specs.Complex.{complex, is_full, is_open}
 use Rattle.point_order.proofs.SetLaws.{below-each}
 use Rattle.del_laws.specs.Listed.{ComplexIsSorted, SameMembers}
-use Rattle.del_laws.proofs.Listed.{in_left, in_right, from_append, mapped_true, mapped_from, part_inside, not_both_kinds}
+use Rattle.del_laws.proofs.Listed.{from_append, mapped_from, part_inside, not_both_kinds}
 
 -- ---- what holds of all members
 
@@ -36,9 +36,10 @@ each_by P (x ∷ l) a y m = elim m [ inl q ↦ subst P q a.0 | inr r ↦ each_by
 sorted_append : {X : Type 0} (c : X → X → Ordering) (l m : List X) → IsStrictlySortedBy c l → IsStrictlySortedBy c m → ((x y : X) → IsIn x l → IsIn y m → c x y ≡ Less) → IsStrictlySortedBy c (l ++ m)
 unfolding IsStrictlySortedBy
 sorted_append c [] m a b f = b
-sorted_append c (x ∷ l) m a b f =
-    (all_by (λ y. c x y ≡ Less) (l ++ m) (λ y i. elim (from_append y l m i) [ inl j ↦ each_by (λ y. c x y ≡ Less) l a.0 y j | inr j ↦ f x y (inl refl) j ]),
-    sorted_append c l m a.1 b (λ x y i j. f x y (inr i) j))
+sorted_append c (x ∷ l) m a b f = (
+  all_by (λ y. c x y ≡ Less) (l ++ m) (λ y i. elim (from_append y l m i) [ inl j ↦ each_by (λ y. c x y ≡ Less) l a.0 y j | inr j ↦ f x y (inl refl) j ]),
+  sorted_append c l m a.1 b (λ x y i j. f x y (inr i) j),
+)
 
 -- a list in order, put through a function that keeps the order
 sorted_map : {X Y : Type 0} (c : X → X → Ordering) (d : Y → Y → Ordering) (f : X → Y) (l : List X) → IsStrictlySortedBy c l → ((x y : X) → c x y ≡ Less → d (f x) (f y) ≡ Less) → IsStrictlySortedBy d (map f l)

@@ -1,5 +1,5 @@
 -- A list of empty cells in which every facet lies in a second one is the complex. This file opens the definition of a cell.
-use Rattle.std.specs.Prelude.{◌≡◌, refl, ℕ, pos, ◌<◌, Bool, true, false, List, [], ◌∷◌, ◌⊎◌}
+use Rattle.std.specs.Prelude.{◌≡◌, refl, ℕ, Bool, true, List, [], ◌∷◌}
 use Rattle.std.proofs.Common.{inl, inr, ap, sym, subst, ◌∙◌}
 use Rattle.std.proofs.Math.Decide.{ℕ_discrete}
 use Rattle.point_order.specs.declared.cell.Cell.{Cell}
@@ -9,12 +9,10 @@ use Rattle.point_order.specs.Orientation.{orientation}
 use Rattle.point_order.specs.Heights.{height}
 use Rattle.point_order.specs.Sets.{IsIn, IsAscending}
 use Rattle.point_order.specs.Complex.{complex}
-use Rattle.point_order.specs.Facets.{facets_of}
 use Rattle.point_order.specs.Solid.{is_solid}
 use Rattle.del_laws.specs.Cells as cells
 use Rattle.del_laws.specs.Cells.{point, far, Held, IsSolid}
 use Rattle.del_laws.specs.Keys.{AreKeys}
-use Rattle.del_laws.specs.Vertices.{is_cell}
 use Rattle.del_laws.specs.Listed.{IsListed, cell_of}
 use Rattle.del_laws.specs.ListedParts.{IsClosedListed, IsClosedList, ClosedListIsComplex, ComplexIsClosedList}
 use Rattle.del_laws.proofs.Numbers.{not_zero}
@@ -96,11 +94,12 @@ members_closed s l a k r c d t i mc md fc fd h =
 
 -- such a list is the complex
 pub closed_list_is_complex : ClosedListIsComplex
-closed_list_is_complex s l a k r =
-    (same_members l (complex s) r.sorted (complex_is_sorted s a)
+closed_list_is_complex s l a k r = (
+  same_members l (complex s) r.sorted (complex_is_sorted s a)
       (λ c m. cell_is_listed s c a (r.empty c m))
       (λ c m. holds-true (in_cells c l) (listed_part s (is_listed l) a k (members_closed s l a k r) r.some (cell_is_listed s r.some a (r.empty r.some r.has_some)) (true_if-yes (in_cells r.some l) r.has_some) c m)),
-    solid_listed s r.some (r.empty r.some r.has_some))
+  solid_listed s r.some (r.empty r.some r.has_some),
+)
 
 -- and the complex of a solid set is such a list
 pub complex_is_closed_list : ComplexIsClosedList

@@ -1,5 +1,5 @@
 -- The cell of four vertices, with its points put in order, is listed. This file opens the definition of a cell.
-use Rattle.std.specs.Prelude.{◌≡◌, refl, ℕ, ◌<◌, Bool, true, false, List, [], ◌∷◌, ◌⊎◌}
+use Rattle.std.specs.Prelude.{◌≡◌, refl, ℕ, ◌<◌, true, List, [], ◌∷◌, ◌⊎◌}
 use Rattle.std.proofs.Common.{arith, inl, inr, ap, sym, subst, ◌∙◌}
 use Rattle.point_order.specs.declared.cell.Cell.{Cell}
 use Rattle.point_order.specs.declared.cell.Cell.TheVariants.{Full, Open}
@@ -155,48 +155,75 @@ compared m n d = by_order (cases m n)
     by_order : (m < n) ⊎ ((m ≡ n) ⊎ (n < m)) → Compared m n
     by_order t = elim t [ inl l ↦ less l | inr r ↦ elim r [ inl e ↦ absurd (d e) | inr l ↦ more l ] ]
 
-module _ (s : List ℕ) (a : IsAscending s) (k : AreKeys s) (c : Cell) where
-  -- four points that pass, and of which c is the cell
+-- four points in order that are a cell, and of which E holds
+pub record IsSorted4 (s : List ℕ) (E : ℕ → ℕ → ℕ → ℕ → Type 0) : Type 0 where
+  pub a : ℕ
+  pub b : ℕ
+  pub c : ℕ
+  pub d : ℕ
+  pub first : a < b
+  pub second : b < c
+  pub third : c < d
+  pub test : is_cell s (point a) (point b) (point c) (point d) ≡ true
+  pub holds : E a b c d
+
+-- three points in order that are a cell, and of which E holds
+pub record IsSorted3 (s : List ℕ) (E : ℕ → ℕ → ℕ → Type 0) : Type 0 where
+  pub a : ℕ
+  pub b : ℕ
+  pub c : ℕ
+  pub first : a < b
+  pub second : b < c
+  pub test : is_cell s (point a) (point b) (point c) far ≡ true
+  pub holds : E a b c
+
+-- whether four points are a cell
+abbrev full_test : List ℕ → ℕ → ℕ → ℕ → ℕ → Type 0
+full_test s w x y z = is_cell s (point w) (point x) (point y) (point z) ≡ true
+
+module _ (s : List ℕ) (k : AreKeys s) (E : ℕ → ℕ → ℕ → ℕ → Type 0)
+    (e12 : (w x y z : ℕ) → full_test s w x y z → E w x y z → E x w y z)
+    (e23 : (w x y z : ℕ) → full_test s w x y z → E w x y z → E w y x z)
+    (e34 : (w x y z : ℕ) → full_test s w x y z → E w x y z → E w x z y) where
+  -- four points that pass, and of which E holds
   abbrev Of : ℕ → ℕ → ℕ → ℕ → Type 0
-  Of w x y z = (is_cell s (point w) (point x) (point y) (point z) ≡ true) × (c ≡ cell_of (point w) (point x) (point y) (point z))
+  Of w x y z = (is_cell s (point w) (point x) (point y) (point z) ≡ true) × E w x y z
 
   -- the first two exchanged
   of12 : (w x y z : ℕ) → Of w x y z → Of x w y z
-  of12 w x y z t = (turn12 s k (point w) (point x) (point y) (point z) t.0, t.1 ∙ cell_of-swap12 (point w) (point x) (point y) (point z))
+  of12 w x y z t = (turn12 s k (point w) (point x) (point y) (point z) t.0, e12 w x y z t.0 t.1)
 
   -- the middle two
   of23 : (w x y z : ℕ) → Of w x y z → Of w y x z
-  of23 w x y z t = (turn23 s k (point w) (point x) (point y) (point z) t.0, t.1 ∙ cell_of-swap23 (point w) (point x) (point y) (point z))
+  of23 w x y z t = (turn23 s k (point w) (point x) (point y) (point z) t.0, e23 w x y z t.0 t.1)
 
   -- the last two
   of34 : (w x y z : ℕ) → Of w x y z → Of w x z y
-  of34 w x y z t = (turn34 s k (point w) (point x) (point y) (point z) t.0, t.1 ∙ cell_of-swap34 (point w) (point x) (point y) (point z))
+  of34 w x y z t = (turn34 s k (point w) (point x) (point y) (point z) t.0, e34 w x y z t.0 t.1)
 
-  -- in order it is listed
-  listed4 : (w x y z : ℕ) → w < x → x < y → y < z → Of w x y z → IsIn c (complex s)
-  listed4 w x y z l m n t =
-      subst (λ v. IsIn v (complex s)) (sym (t.1 ∙ ap Full (ascending-self (w ∷ x ∷ y ∷ z ∷ []) (l, (m, (n, (tt, tt)))))))
-      (cell_is_listed s (Full (w ∷ x ∷ y ∷ z ∷ [])) a (record { a = w; b = x; c = y; d = z; is = refl; first = l; second = m; third = n; test = t.0 }))
+  -- in order
+  sorted4 : (w x y z : ℕ) → w < x → x < y → y < z → Of w x y z → IsSorted4 s E
+  sorted4 w x y z l m n t = record { a = w; b = x; c = y; d = z; first = l; second = m; third = n; test = t.0; holds = t.1 }
 
   -- the first put among three in order
-  put3 : (w x y z : ℕ) → x < y → y < z → Of w x y z → IsIn c (complex s)
+  put3 : (w x y z : ℕ) → x < y → y < z → Of w x y z → IsSorted4 s E
   put3 w x y z l m t = elim (compared w x (λ e. apart12 s k (point w) (point x) (point y) (point z) t.0 (ap point e))) [
-    | less i ↦ listed4 w x y z i l m t
+    | less i ↦ sorted4 w x y z i l m t
     | more i ↦ (
         let t2 = of12 w x y z t in
         elim (compared w y (λ e. apart23 s k (point x) (point w) (point y) (point z) t2.0 (ap point e))) [
-          | less j ↦ listed4 x w y z i j m t2
+          | less j ↦ sorted4 x w y z i j m t2
           | more j ↦ (
               let t3 = of23 x w y z t2 in
               elim (compared w z (λ e. apart34 s (point x) (point y) (point w) (point z) t3.0 (ap point e))) [
-                | less n ↦ listed4 x y w z l j n t3
-                | more n ↦ listed4 x y z w l m n (of34 x y w z t3)
+                | less n ↦ sorted4 x y w z l j n t3
+                | more n ↦ sorted4 x y z w l m n (of34 x y w z t3)
               ])
         ])
   ]
 
   -- the second put among two in order
-  put2 : (w x y z : ℕ) → y < z → Of w x y z → IsIn c (complex s)
+  put2 : (w x y z : ℕ) → y < z → Of w x y z → IsSorted4 s E
   put2 w x y z m t = elim (compared x y (λ e. apart23 s k (point w) (point x) (point y) (point z) t.0 (ap point e))) [
     | less i ↦ put3 w x y z i m t
     | more i ↦ (
@@ -208,50 +235,83 @@ module _ (s : List ℕ) (a : IsAscending s) (k : AreKeys s) (c : Cell) where
   ]
 
   -- any four
-  any4 : (w x y z : ℕ) → Of w x y z → IsIn c (complex s)
-  any4 w x y z t = elim (compared y z (λ e. apart34 s (point w) (point x) (point y) (point z) t.0 (ap point e))) [ less i ↦ put2 w x y z i t | more i ↦ put2 w x z y i (of34 w x y z t) ]
+  pub sort4 : (w x y z : ℕ) → Of w x y z → IsSorted4 s E
+  sort4 w x y z t = elim (compared y z (λ e. apart34 s (point w) (point x) (point y) (point z) t.0 (ap point e))) [ less i ↦ put2 w x y z i t | more i ↦ put2 w x z y i (of34 w x y z t) ]
 
-  -- three points that pass, and of which c is the cell
+module _ (s : List ℕ) (k : AreKeys s) (E : ℕ → ℕ → ℕ → Type 0) (e12 : (x y z : ℕ) → E x y z → E y x z) (e23 : (x y z : ℕ) → E x y z → E x z y) where
+  -- three points that pass, and of which E holds
   abbrev Of3 : ℕ → ℕ → ℕ → Type 0
-  Of3 x y z = (is_cell s (point x) (point y) (point z) far ≡ true) × (c ≡ cell_of (point x) (point y) (point z) far)
+  Of3 x y z = (is_cell s (point x) (point y) (point z) far ≡ true) × E x y z
 
-  -- in order it is listed
-  listed3 : (x y z : ℕ) → x < y → y < z → Of3 x y z → IsIn c (complex s)
-  listed3 x y z l m t =
-      subst (λ v. IsIn v (complex s)) (sym (t.1 ∙ ap Open (ascending-self (x ∷ y ∷ z ∷ []) (l, (m, (tt, tt))))))
-      (cell_is_listed s (Open (x ∷ y ∷ z ∷ [])) a (record { a = x; b = y; c = z; is = refl; first = l; second = m; test = t.0 }))
+  -- in order
+  sorted3 : (x y z : ℕ) → x < y → y < z → Of3 x y z → IsSorted3 s E
+  sorted3 x y z l m t = record { a = x; b = y; c = z; first = l; second = m; test = t.0; holds = t.1 }
 
   -- the first two exchanged
   three12 : (x y z : ℕ) → Of3 x y z → Of3 y x z
-  three12 x y z t = (turn12 s k (point x) (point y) (point z) far t.0, t.1 ∙ cell_of-swap12 (point x) (point y) (point z) far)
+  three12 x y z t = (turn12 s k (point x) (point y) (point z) far t.0, e12 x y z t.1)
 
   -- the last two
   three23 : (x y z : ℕ) → Of3 x y z → Of3 x z y
-  three23 x y z t = (turn23 s k (point x) (point y) (point z) far t.0, t.1 ∙ cell_of-swap23 (point x) (point y) (point z) far)
+  three23 x y z t = (turn23 s k (point x) (point y) (point z) far t.0, e23 x y z t.1)
 
   -- the first put among two in order
-  put_first : (x y z : ℕ) → y < z → Of3 x y z → IsIn c (complex s)
+  put_first : (x y z : ℕ) → y < z → Of3 x y z → IsSorted3 s E
   put_first x y z m t = elim (compared x y (λ e. apart12 s k (point x) (point y) (point z) far t.0 (ap point e))) [
-    | less i ↦ listed3 x y z i m t
+    | less i ↦ sorted3 x y z i m t
     | more i ↦ (
         let t2 = three12 x y z t in
-        elim (compared x z (λ e. apart23 s k (point y) (point x) (point z) far t2.0 (ap point e))) [ less j ↦ listed3 y x z i j t2 | more j ↦ listed3 y z x m j (three23 y x z t2) ])
+        elim (compared x z (λ e. apart23 s k (point y) (point x) (point z) far t2.0 (ap point e))) [ less j ↦ sorted3 y x z i j t2 | more j ↦ sorted3 y z x m j (three23 y x z t2) ])
   ]
 
   -- any three
-  any3 : (x y z : ℕ) → Of3 x y z → IsIn c (complex s)
-  any3 x y z t = elim (compared y z (λ e. apart23 s k (point x) (point y) (point z) far t.0 (ap point e))) [ less i ↦ put_first x y z i t | more i ↦ put_first x z y i (three23 x y z t) ]
+  pub sort3 : (x y z : ℕ) → Of3 x y z → IsSorted3 s E
+  sort3 x y z t = elim (compared y z (λ e. apart23 s k (point x) (point y) (point z) far t.0 (ap point e))) [ less i ↦ put_first x y z i t | more i ↦ put_first x z y i (three23 x y z t) ]
+
+-- ---- the listed cell
+
+-- c is the cell of four points
+abbrev pub IsFullOf : Cell → ℕ → ℕ → ℕ → ℕ → Type 0
+IsFullOf c w x y z = c ≡ cell_of (point w) (point x) (point y) (point z)
+
+-- c is the cell of three points
+abbrev pub IsOpenOf : Cell → ℕ → ℕ → ℕ → Type 0
+IsOpenOf c x y z = c ≡ cell_of (point x) (point y) (point z) far
+
+-- in order it is listed
+listed4 : (s : List ℕ) (a : IsAscending s) (c : Cell) → IsSorted4 s (IsFullOf c) → IsIn c (complex s)
+listed4 s a c r =
+    subst (λ v. IsIn v (complex s)) (sym (r.holds ∙ ap Full (ascending-self (r.a ∷ r.b ∷ r.c ∷ r.d ∷ []) (r.first, (r.second, (r.third, (tt, tt)))))))
+    (cell_is_listed s (Full (r.a ∷ r.b ∷ r.c ∷ r.d ∷ [])) a (record { a = r.a; b = r.b; c = r.c; d = r.d; is = refl; first = r.first; second = r.second; third = r.third; test = r.test }))
+
+-- and of three
+listed3 : (s : List ℕ) (a : IsAscending s) (c : Cell) → IsSorted3 s (IsOpenOf c) → IsIn c (complex s)
+listed3 s a c r =
+    subst (λ v. IsIn v (complex s)) (sym (r.holds ∙ ap Open (ascending-self (r.a ∷ r.b ∷ r.c ∷ []) (r.first, (r.second, (tt, tt))))))
+    (cell_is_listed s (Open (r.a ∷ r.b ∷ r.c ∷ [])) a (record { a = r.a; b = r.b; c = r.c; is = refl; first = r.first; second = r.second; test = r.test }))
+
+-- four points
+any4 : (s : List ℕ) (a : IsAscending s) (k : AreKeys s) (c : Cell) (w x y z : ℕ) → is_cell s (point w) (point x) (point y) (point z) ≡ true → IsFullOf c w x y z → IsIn c (complex s)
+any4 s a k c w x y z t e =
+    listed4 s a c (sort4 s k (IsFullOf c)
+    (λ w x y z u i. i ∙ cell_of-swap12 (point w) (point x) (point y) (point z)) (λ w x y z u i. i ∙ cell_of-swap23 (point w) (point x) (point y) (point z)) (λ w x y z u i. i ∙ cell_of-swap34 (point w) (point x) (point y) (point z))
+    w x y z (t, e))
+
+-- three points
+any3 : (s : List ℕ) (a : IsAscending s) (k : AreKeys s) (c : Cell) (x y z : ℕ) → is_cell s (point x) (point y) (point z) far ≡ true → IsOpenOf c x y z → IsIn c (complex s)
+any3 s a k c x y z t e =
+    listed3 s a c (sort3 s k (IsOpenOf c) (λ x y z i. i ∙ cell_of-swap12 (point x) (point y) (point z) far) (λ x y z i. i ∙ cell_of-swap23 (point x) (point y) (point z) far) x y z (t, e))
 
 -- the cell of four vertices that pass is listed
 pub test_is_listed : TestIsListed
-test_is_listed s a k (point x) (point y) (point z) (point o) t = any4 s a k (cell_of (point x) (point y) (point z) (point o)) x y z o (t, refl)
-test_is_listed s a k (point x) (point y) (point z) far t = any3 s a k (cell_of (point x) (point y) (point z) far) x y z (t, refl)
-test_is_listed s a k (point x) (point y) far (point o) t = any3 s a k (cell_of (point x) (point y) far (point o)) x y o (t, refl)
+test_is_listed s a k (point x) (point y) (point z) (point o) t = any4 s a k (cell_of (point x) (point y) (point z) (point o)) x y z o t refl
+test_is_listed s a k (point x) (point y) (point z) far t = any3 s a k (cell_of (point x) (point y) (point z) far) x y z t refl
+test_is_listed s a k (point x) (point y) far (point o) t = any3 s a k (cell_of (point x) (point y) far (point o)) x y o t refl
 test_is_listed s a k (point x) (point y) far far t = cc
-test_is_listed s a k (point x) far (point z) (point o) t = any3 s a k (cell_of (point x) far (point z) (point o)) x z o (t, refl)
+test_is_listed s a k (point x) far (point z) (point o) t = any3 s a k (cell_of (point x) far (point z) (point o)) x z o t refl
 test_is_listed s a k (point x) far (point z) far t = cc
 test_is_listed s a k (point x) far far o t = cc
-test_is_listed s a k far (point y) (point z) (point o) t = any3 s a k (cell_of far (point y) (point z) (point o)) y z o (t, refl)
+test_is_listed s a k far (point y) (point z) (point o) t = any3 s a k (cell_of far (point y) (point z) (point o)) y z o t refl
 test_is_listed s a k far (point y) (point z) far t = cc
 test_is_listed s a k far (point y) far o t = cc
 test_is_listed s a k far far z o t = cc

@@ -1,12 +1,9 @@
 -- Which cells stay when a point is added, by the tests of conflict; and how near a cell is to a point.
-use Rattle.std.specs.Prelude.{◌≡◌, ℕ, ℤ, pos, neg_ℤ, Bool, true, false, not, List, [], ◌∷◌, if◌then◌else◌}
-use Rattle.std.specs.Int.Signed.{lt_z}
-use Rattle.point_order.specs.declared.cell.Cell.{Cell}
+use Rattle.std.specs.Prelude.{◌≡◌, ℕ, true, false, not, List, [], ◌∷◌}
 use Rattle.point_order.specs.declared.cell.Cell.TheVariants.{Full, Open}
 use Rattle.point_order.specs.Coordinates.{IsKey}
-use Rattle.point_order.specs.Orientation.{orientation, is_flat}
-use Rattle.point_order.specs.Heights.{out}
-use Rattle.point_order.specs.Sets.{IsIn, IsAscending, with_point}
+use Rattle.point_order.specs.Orientation.{is_flat}
+use Rattle.point_order.specs.Sets.{IsIn, with_point}
 use Rattle.point_order.specs.Conflicts.{is_in_conflict}
 use Rattle.del_laws.specs.Keys.{AreKeys}
 use Rattle.del_laws.specs.Vertices.{is_full_cell, is_open_cell}

@@ -1,7 +1,7 @@
 -- The laws of facets, of other sets and of conflict, as the functions of the crate promise them.
 -- Each is for any heights, and those that need it say that there are no ties.
-use Rattle.std.specs.Prelude.{ℕ, pos, true, ◌≡◌, ◌≤ℤ◌, ◌<ℤ◌, List, ◌∷◌, ◌⊎◌, ◌↔◌}
-use Rattle.point_order.specs.Orientation.{orientation}
+use Rattle.std.specs.Prelude.{false, ℕ, pos, true, ◌≡◌, ◌≤ℤ◌, ◌<ℤ◌, List, ◌∷◌, ◌⊎◌, ◌↔◌}
+use Rattle.point_order.specs.Orientation.{orientation, is_collinear}
 use Rattle.point_order.specs.Heights.{height, lifted}
 use Rattle.point_order.specs.Sets.{IsIn}
 use Rattle.del_laws.specs.Cells.{Vertex, point, far, Full, Open, Cell, NoTies, IsConvex, IsSubset, IsSolid, Inside, IsOutside}
@@ -65,6 +65,19 @@ BetweenSets =
     (h : ℕ → ℕ) (r s t u : List ℕ) → IsSolid r → IsSubset r s → IsSubset r t → IsSubset s u →
     ((e : ℕ) → IsIn e u → IsIn e s ⊎ IsIn e t) →
     (w x y z : Vertex) → Cell h s w x y z → Cell h t w x y z → Cell h u w x y z
+
+-- ---- planes
+
+-- a solid set has a point off the plane of any three points that are not on one line
+abbrev pub NoFlatTriple : Type 0
+NoFlatTriple =
+    (s : List ℕ) (a b c : ℕ) → IsSolid s → is_collinear a b c ≡ false → (f : ℕ) × IsIn f s × ¬ (orientation a b c f ≡ pos 0)
+
+-- in the plane of three points the side of the circle through them is the same as seen from every point above the plane
+abbrev pub AnyMate : Type 0
+AnyMate =
+    (h : ℕ → ℕ) (a b c m k p : ℕ) → pos 0 <ℤ orientation a b c m → pos 0 <ℤ orientation a b c k →
+    IsOutside h a b c m p → IsOutside h a b c k p
 
 -- ---- conflict
 

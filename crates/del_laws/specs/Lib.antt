@@ -9,3 +9,4 @@ pub mod Vertices
 pub mod PointSets
 pub mod Base
 pub mod Walks
+pub mod Nearness

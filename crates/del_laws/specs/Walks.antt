@@ -1,5 +1,5 @@
 -- The laws of walks over cells, as the functions of the crate promise them; and how near a cell is to a point.
-use Rattle.std.specs.Prelude.{ℕ, ℤ, pos, Bool, true, false, ◌*ℤ◌, ◌≡◌, ◌≤ℤ◌, ◌<ℤ◌, ◌<◌, List, ◌∷◌, count_by}
+use Rattle.std.specs.Prelude.{ℕ, suc, ℤ, pos, Bool, true, false, ◌*ℤ◌, ◌≡◌, ◌≤ℤ◌, ◌<ℤ◌, ◌<◌, List, ◌∷◌, count_by}
 use Rattle.std.specs.Int.Signed.{lt_z}
 use Rattle.conv_laws.specs.Lists.{IsIn as IsMember}
 use Rattle.point_order.specs.Orientation.{orientation}
@@ -49,21 +49,21 @@ CrossingTowards = (h : ℕ → ℕ) (s : List ℕ) (a b c d p : ℕ) → NoTies 
 
 -- ---- nearness
 
--- First the Open cells in conflict with the point, then the Full cells by the ratio of lifted determinant and orientation,
--- the denominator being positive, and last the other Open cells.
+-- First the Open cells in conflict with the point, then the Full cells by the ratio n / (d + 1) of lifted determinant and
+-- orientation, and last the other Open cells.
 pub data Rank : Type 0 where
   first : Rank
-  ratio : (n d : ℤ) → pos 0 <ℤ d → Rank
+  ratio : (n : ℤ) (d : ℕ) → Rank
   last : Rank
 
 -- the one rank comes before the other; ratios are compared by multiplying out
 abbrev pub is_before : Rank → Rank → Bool
 is_before first first = false
-is_before first (ratio m e l) = true
+is_before first (ratio m e) = true
 is_before first last = true
-is_before (ratio n d k) first = false
-is_before (ratio n d k) (ratio m e l) = lt_z (n *ℤ e) (m *ℤ d)
-is_before (ratio n d k) last = true
+is_before (ratio n d) first = false
+is_before (ratio n d) (ratio m e) = lt_z (n *ℤ pos (suc e)) (m *ℤ pos (suc d))
+is_before (ratio n d) last = true
 is_before last r = false
 
 -- Of the cells in a list, fewer are nearer than the nearer of two that is in the list. So a walk that comes nearer at each step,

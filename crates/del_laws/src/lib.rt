@@ -8,9 +8,13 @@
 //! the heights of the complex are such.
 #![tactic(auto)]
 
-ghost use Rattle.del_laws.specs.Laws.{SwapFirst, SwapMiddle, SwapLast, FacetLaw, AcrossFull, AcrossOpen, OneFullOnASide, OneOpenOnASide, SmallerSet, BetweenSets, FullStays, OpenStays, KeysHaveNoTies, KeysAreConvex, TestOfCells};
+ghost use Rattle.del_laws.specs.Laws.{SwapFirst, SwapMiddle, SwapLast, FacetLaw, NoFlatTriple, AnyMate, AcrossFull, AcrossOpen, OneFullOnASide, OneOpenOnASide, SmallerSet, BetweenSets, FullStays, OpenStays, KeysHaveNoTies, KeysAreConvex, TestOfCells};
 ghost use Rattle.del_laws.specs.Walks.{CloserAcross, FartherAcross, AwayFromAPoint, SolidHasCells, EveryPoint, SomeFacetBehind, CrossingTowards, FewerAreNearer};
 ghost use Rattle.del_laws.specs.Parts.{StarLaw, ClosedPart, CellsAtAVertex, EmptyCells};
+ghost use Rattle.del_laws.specs.Kept.{FullIsKept, OpenIsKept};
+ghost use Rattle.del_laws.specs.Nearness.{NearerAcross, NearerInside, SomeTripleTowards};
+ghost use Rattle.del_laws.specs.Listed.{ListedIsCell, CellIsListed, TestIsListed, ComplexIsSorted, SameMembers, ListedFacets};
+ghost use Rattle.del_laws.specs.ListedParts.{ListedStar, ListedPart, ListedAtAPoint, ListedEveryPoint, ListedMate, ClosedListIsComplex, ComplexIsClosedList};
 ghost use Rattle.del_laws.specs.PointSets.{PointSet, has, solid, cell, vertices, plus, minus};
 ghost use Rattle.del_laws.specs.Base.{Base};
 
@@ -32,6 +36,12 @@ pub fn across_a_triple()
     ensures open { AcrossOpen }
     ensures one_full { OneFullOnASide }
     ensures one_open { OneOpenOnASide }
+{}
+
+/// Planes of three points: a solid set is not in one, and in it the circle through the three does not depend on the fourth point.
+pub fn plane_of_a_triple()
+    ensures off { NoFlatTriple }
+    ensures any_mate { AnyMate }
 {}
 
 /// Cells of a smaller set, and of a set between two sets and their union.
@@ -112,4 +122,60 @@ pub fn test_of_four_vertices()
 /// The few facts of geometry from which all laws of insertion and removal follow.
 pub fn base_of_edits()
     ensures { Base PointSet has solid cell vertices plus minus }
+{}
+
+/// The complex of a set, as its list, has exactly the cells of the set, each with its points in order.
+pub fn listed_cells()
+    ensures listed { ListedIsCell }
+    ensures cell { CellIsListed }
+    ensures of_vertices { TestIsListed }
+{}
+
+/// The list of a complex is in the order of cells, and lists in this order are told by their members.
+pub fn order_of_cells()
+    ensures sorted { ComplexIsSorted }
+    ensures same_members { SameMembers }
+{}
+
+/// Every facet of every listed cell lies in exactly two listed cells.
+pub fn listed_facets()
+    ensures { ListedFacets }
+{}
+
+/// A listed Open cell has a mate: the fourth point of the Full cell on its triple.
+pub fn listed_mates()
+    ensures { ListedMate }
+{}
+
+/// Every point of a solid set is in a listed Full cell.
+pub fn listed_points()
+    ensures { ListedEveryPoint }
+{}
+
+/// Listed cells that are closed across triples: around some points, of the whole list, and at one point.
+pub fn listed_parts()
+    ensures star { ListedStar }
+    ensures part { ListedPart }
+    ensures at_a_point { ListedAtAPoint }
+{}
+
+/// A sorted list of empty cells, not none, in which every facet of a member lies in a second member, is the complex of the set, and
+/// the set is solid. The complex of a solid set is such a list; so each single flaw shows that a list is not the complex.
+pub fn closed_lists()
+    ensures complex { ClosedListIsComplex }
+    ensures closed { ComplexIsClosedList }
+{}
+
+/// A cell of a set is a cell of the set with one more point exactly where the test of conflict says that it is not in conflict.
+pub fn kept_cells()
+    ensures full { FullIsKept }
+    ensures open { OpenIsKept }
+{}
+
+/// The steps of a walk towards a point that is not in the set, over cells of the complex: each leads to a nearer cell, and a Full
+/// cell that the point is outside of has a triple to cross. `fewer_are_nearer` says that such a walk ends.
+pub fn steps_of_a_walk()
+    ensures across { NearerAcross }
+    ensures inside { NearerInside }
+    ensures towards { SomeTripleTowards }
 {}
