@@ -76,6 +76,7 @@ across_full {h} {s} {a} {b} {c} {d} F = elim (find_best (λ x. lifted h a b c d 
   )
 ]
   where
+    -- a point on the side of d
     other_side : (l : Least (λ x. lifted h a b c d x) (λ x. neg_ℤ (orientation a b c x)) s) (e : ℕ) → IsIn e s → pos 0 ≤ℤ orientation a b c e → pos 0 ≤ℤ neg_ℤ (lifted h a b c l.best e)
     other_side l e m p =
         beyond (orientation a b c d) (orientation a b c l.best) (orientation a b c e) (lifted h a b c d l.best) (lifted h a b c d e) (lifted h a b c l.best e) (pencil_of h a b c d l.best e) F.turned (weak_below (orientation a b c l.best) l.positive) p (F.empty l.best l.found) (F.empty e m)

@@ -1,5 +1,4 @@
 -- The laws of stars and closed parts over tests; a set of empty cells with no open facet is the complex.
--- This file opens the definition of a cell.
 use Rattle.std.specs.Prelude.{ℕ, ◌≡◌, Bool, true, false, List, [], ◌∷◌}
 use Rattle.std.proofs.Common.{refl, inl, inr, subst, sym, ◌∙◌, ap}
 use Rattle.point_order.specs.Sets.{IsIn}

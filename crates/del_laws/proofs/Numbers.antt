@@ -75,6 +75,7 @@ pub positive_factor : (a b : ℤ) → pos 0 <ℤ (a *ℤ b) → pos 0 ≤ℤ b �
 positive_factor a b h k =
     elim (sign b) [ below p ↦ absurd (omega (arith, ints, p)) | above p ↦ p | at_zero z ↦ absurd (stuck (ap (λ x. a *ℤ x) z ∙ *ℤ-zero a)) ]
   where
+    -- then its product is 0
     stuck : a *ℤ b ≡ pos 0 → ⊥
     stuck e = omega (arith, ints)
 

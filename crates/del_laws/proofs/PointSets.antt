@@ -4,7 +4,8 @@ use Rattle.std.specs.List.{list_any, filter}
 use Rattle.std.proofs.Common.{arith, inl, inr, ap, sym, subst, ◌∙◌}
 use Rattle.std.proofs.lemmas.Bool.Decides.{nat_tests}
 use Rattle.std.proofs.Math.Bool.{Bool-set}
-use Rattle.conv_laws.specs.Lists.{AreDistinct, IsIn as IsMember}
+use Rattle.conv_laws.specs.Lists.{AreDistinct, odd, IsIn as IsMember}
+use Rattle.conv_laws.proofs.Parity.{one_odd}
 use Rattle.point_order.specs.Coordinates.{IsKey}
 use Rattle.point_order.specs.Orientation.{orientation, is_flat}
 use Rattle.point_order.specs.Sets.{IsIn, IsAscending, IsBelowFirst, is_among, with_point, without_point}
@@ -243,3 +244,30 @@ distinct_map (x ∷ l) a = (λ m. not_less x (below-each x l a.0 a.1 x (from_map
 -- the vertices of a set are distinct
 pub distinct_vertices : (s : PointSet) → AreDistinct (vertices s)
 distinct_vertices s = (no_far s.points, distinct_map s.points (ascending_of s))
+
+-- a vertex of a set is in its list an odd number of times, as it is there once
+pub listed_odd : (s : PointSet) (z : Vertex) → IsMember z (vertices s) → odd (λ v. same_vertex z v) (vertices s) ≡ true
+listed_odd s z m = one_odd (λ v. same_vertex z v) z (vertices s) (distinct_vertices s) m (itself z) (λ y i e. sym (one z y e))
+  where
+    -- a vertex is itself
+    itself : (z : Vertex) → same_vertex z z ≡ true
+    itself (point a) = same_true a a refl
+    itself far = refl
+
+    -- vertices that pass are one
+    one : (z y : Vertex) → same_vertex z y ≡ true → z ≡ y
+    one (point a) (point b) e = ap point (same_from a b e)
+    one (point a) far e = cc
+    one far (point b) e = cc
+    one far far e = refl
+
+-- ---- a list as a set
+
+-- the set of an ascending list of keys
+pub point_set : (s : List ℕ) → IsAscending s → AreKeys s → PointSet
+point_set s a k = record { points = s; valid = set_true s a k.below }
+
+-- its points are the list
+pub point_set-points : (s : List ℕ) (a : IsAscending s) (k : AreKeys s) → (point_set s a k).points ≡ s
+unfolding point_set
+point_set-points s a k = refl

@@ -1,4 +1,4 @@
--- The cell of four vertices, with its points put in order, is listed. This file opens the definition of a cell.
+-- The cell of four vertices, with its points put in order, is listed.
 use Rattle.std.specs.Prelude.{◌≡◌, refl, ℕ, ◌<◌, true, List, [], ◌∷◌, ◌⊎◌}
 use Rattle.std.proofs.Common.{arith, inl, inr, ap, sym, subst, ◌∙◌}
 use Rattle.point_order.specs.declared.cell.Cell.{Cell}
