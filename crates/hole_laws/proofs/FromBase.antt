@@ -55,7 +55,7 @@ absent : (S T : PointSet) (p : Vertex) → IsAdd S p T → (w x y : Vertex) → 
 absent S T p a w x y = not_both _ λ h. false≢true (sym a.absent ∙ base.point S w x y p h a.finite)
 
 -- on a facet of a Full cell at p, against p, a cell goes and one stays
-rim : (S T : PointSet) (p : Vertex) → solid S ≡ true → IsAdd S p T → HasRim (cell S) (cell T)
+pub rim : (S T : PointSet) (p : Vertex) → solid S ≡ true → IsAdd S p T → HasRim (cell S) (cell T)
 rim S T p s a = record {
   t1 = k.t1;
   t2 = k.t2;

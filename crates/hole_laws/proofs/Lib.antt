@@ -17,6 +17,7 @@ pub mod Removal
 pub mod RemovalLaws
 pub mod Rims
 pub mod Search
+pub mod Squares
 pub mod Stars
 pub mod Tests
 pub mod Vertex
