@@ -1,5 +1,7 @@
 pub mod CellVertices
 pub mod Conflicts
+pub mod Corners
+pub mod Ends
 pub mod FacetVertices
 pub mod FromBase
 pub mod Judged
