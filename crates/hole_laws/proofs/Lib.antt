@@ -2,6 +2,7 @@ pub mod CellVertices
 pub mod Commute
 pub mod Conflicts
 pub mod Corners
+pub mod EditLaws
 pub mod Ends
 pub mod FacetVertices
 pub mod FromBase

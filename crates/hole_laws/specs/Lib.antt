@@ -1,3 +1,4 @@
-pub mod Lists
+pub mod Commuting
 pub mod Edits
 pub mod Laws
+pub mod Lists
