@@ -17,6 +17,22 @@ use Rattle.del_laws.specs.Cells.{Vertex, point, far}
 use Rattle.del_laws.specs.PointSets.{PointSet, has, solid, cell, plus, minus, is_point}
 use Rattle.del_laws.proofs.PointSets.{plus_points, minus_points, below_true, ascending_of, keys_of, has_from, has_true}
 use Rattle.del_laws.proofs.Tests.{true_or_false}
+use Rattle.del_laws.specs.Base.{Symmetric}
+use Rattle.del_laws.proofs.Tests.{false_if}
+use Rattle.hole_laws.specs.Lists.{Goes, AreJoined}
+use Rattle.hole_laws.specs.Edits.{IsSet, IsSolidSet}
+use Rattle.hole_laws.specs.Laws.{IsReached}
+use Rattle.hole_laws.specs.Commuting.{Reaches, StaysSolid, ChangesReached, DoCommute, EditsCommute, after_all, replies_to, SomeReaches, HaveKeys, AllCommute, BatchCommutes}
+use Rattle.hole_laws.proofs.Tests.{IsComplex, Insertion, AreLinked, IsAtGone}
+use Rattle.hole_laws.proofs.Vertex.{has_vertex, IsOrdered, ListsCells}
+use Rattle.hole_laws.proofs.CellVertices.{four_is, all_vertices}
+use Rattle.hole_laws.proofs.FacetVertices.{IsAgainst, facet_against}
+use Rattle.hole_laws.proofs.Listed.{cell_of, test_goes}
+use Rattle.hole_laws.proofs.NewCells.{point_vertex, vertex_point}
+use Rattle.hole_laws.proofs.Near.{at_gone, joined_of}
+use Rattle.hole_laws.proofs.FromBase.{complex_of, insertion}
+use Rattle.hole_laws.proofs.Corners.{plus_adds}
+use Rattle.hole_laws.proofs.OfSets.{set_of, set_of-points, solid_of, lists_cells}
 use Rattle.hole_laws.proofs.Commute as sets
 use Rattle.hole_laws.proofs.Commute.{Step, add, take}
 
@@ -74,3 +90,75 @@ reply_same s (Take p) = by_test (is_among p s.points) (is_solid (without_point p
     by_test false c e f = rw e refl
     by_test true false e f = rw (e, solid_rest, f) refl
     by_test true true e f = rw (e, solid_rest, f) refl
+
+-- ---- what edits reach
+
+-- points are told by their vertices
+same_key : (e p : ℕ) → point e ≡ point p → e ≡ p
+same_key e p q = cc
+
+-- two points of a cell are linked
+linked_of : (c : Vertex → Vertex → Vertex → Vertex → Bool) (k : IsComplex c) (l : List Cell) (t : ListsCells l c) (v e : ℕ) → e ≢ v → AreJoined l v e → AreLinked c (point v) (point e)
+linked_of c k l t v e n j =
+    elim (all_vertices j.q o a.t1 a.t2 a.t3 (point v) a.four a.vertices (point e) (point_vertex j.q e j.has_e)) [
+      | inl q ↦ record { t1 = a.t2; t2 = a.t3; cell = ap (λ z. c a.t2 a.t3 z (point v)) (sym q) ∙ sym (s.middle a.t2 a.t1 a.t3 (point v)) ∙ sym (s.first a.t1 a.t2 a.t3 (point v)) ∙ h }
+      | inr r ↦ elim r [
+        | inl q ↦ record { t1 = a.t1; t2 = a.t3; cell = ap (λ z. c a.t1 a.t3 z (point v)) (sym q) ∙ sym (s.middle a.t1 a.t2 a.t3 (point v)) ∙ h }
+        | inr u ↦ elim u [
+          | inl q ↦ record { t1 = a.t1; t2 = a.t2; cell = ap (λ z. c a.t1 a.t2 z (point v)) (sym q) ∙ h }
+          | inr w ↦ elim w [ inl q ↦ absurd (n (same_key e v (sym q))) | inr none ↦ absurd none ]
+        ]
+      ]
+    ]
+  where
+    o : IsOrdered j.q
+    o = t.ordered j.q j.listed
+
+    a : IsAgainst j.q (point v) (facet_against j.q o (point v) (point_vertex j.q v j.has_p)).f
+    a = (facet_against j.q o (point v) (point_vertex j.q v j.has_p)).against
+
+    s : Symmetric c
+    s = k.laws.symmetric
+
+    h : c a.t1 a.t2 a.t3 (point v) ≡ true
+    h = cell_of c k l t j.q j.listed a.t1 a.t2 a.t3 (point v) a.four a.vertices
+
+-- the list of the set with a key
+lists_plus : (s : PointSet) (p : ℕ) → IsKey p → ListsCells (complex (with_point p s.points)) (cell (plus s (point p)))
+lists_plus s p k = subst (λ (v : List ℕ). ListsCells (complex v) (cell (plus s (point p)))) (plus_points s p k) (lists_cells (plus s (point p)))
+
+-- an added point reaches the points of cells that go
+reached_same : (s : PointSet) → solid s ≡ true → (p : ℕ) → IsKey p → has s (point p) ≡ false → (e : ℕ) → IsAtGone (cell s) (cell (plus s (point p))) (point e) ↔ IsReached s.points p e
+reached_same s h p k f e = (
+  λ g. (
+      let r = test_goes (cell s) (cell (plus s (point p))) p ins (complex s.points) (complex (with_point p s.points)) (lists_cells s) (lists_plus s p k) g.t1 g.t2 g.t3 (point e) g.cell in
+      record { q = r.0; goes = r.1; has = vertex_point r.0 e (four_is (has_vertex r.0 g.t1) (has_vertex r.0 g.t2) (has_vertex r.0 g.t3) (has_vertex r.0 (point e)) r.2).3 }),
+  λ r. at_gone (cell s) (cell (plus s (point p))) p ins (complex s.points) (complex (with_point p s.points)) (lists_cells s) (lists_plus s p k) e r,
+)
+  where
+    ins : Insertion (cell s) (cell (plus s (point p))) (point p)
+    ins = insertion s (plus s (point p)) (point p) h (plus_adds s (point p) (key_point p k) f)
+
+-- the points that an edit reaches
+reach_same : (s : PointSet) → solid s ≡ true → (a : Edit) → IsKey (point_of a) → (e : ℕ) → sets.Reach s (step_of a) (point e) ↔ Reaches s.points a e
+unfolding step_of
+reach_same s h (Add p) k e = (
+  λ r. elim r [ inl q ↦ inl (same_key e p q) | inr g ↦ inr ((λ m. false≢true (sym g.0 ∙ has_true s p m)), (reached_same s h p k g.0 e).0 g.1) ],
+  λ r. elim r [
+    | inl q ↦ inl (ap point q)
+    | inr g ↦ (let f = false_if (has s (point p)) (λ m. g.0 (has_from s p m)) in inr (f, (reached_same s h p k f e).1 g.1))
+  ],
+)
+reach_same s h (Take v) k e = (
+  λ r. elim r [ inl q ↦ inl (same_key e v q) | inr g ↦ inr (has_from s v g.0, joined_of (cell s) (complex s.points) (lists_cells s) v e g.2) ],
+  λ r. elim r [
+    | inl q ↦ inl (ap point q)
+    | inr g ↦ elim (cases_eq e v) [ inl q ↦ inl (ap point q) | inr n ↦ inr (has_true s v g.0, (λ q. (cc)), linked_of (cell s) (complex_of s) (complex s.points) (lists_cells s) v e n g.1) ]
+  ],
+)
+
+-- no edit reaches the infinite vertex
+reach_finite : (s : PointSet) (a : Edit) → sets.Reach s (step_of a) far → ⊥
+unfolding step_of
+reach_finite s (Add p) r = elim r [ inl q ↦ cc | inr g ↦ g.1.finite refl ]
+reach_finite s (Take v) r = elim r [ inl q ↦ cc | inr g ↦ g.1 refl ]
