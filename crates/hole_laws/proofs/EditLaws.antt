@@ -1,5 +1,5 @@
 -- The laws of commuting edits, of specs/Commuting.
-use Rattle.std.specs.Prelude.{◌≡◌, ◌≢◌, ℕ, ◌<◌, ◌^◌, Bool, true, false, cond, if◌then◌else◌, List, [], ◌∷◌, ◌⊎◌, ◌↔◌}
+use Rattle.std.specs.Prelude.{◌≡◌, ◌≢◌, ℕ, ◌^◌, Bool, true, false, cond, if◌then◌else◌, List, [], ◌∷◌, ◌⊎◌, ◌↔◌}
 use Rattle.std.proofs.Common.{refl, sym, ap, ap₂, ◌∙◌, subst, inl, inr}
 use Rattle.std.proofs.lemmas.Bool.{false≢true, cases_eq}
 use Rattle.point_order.specs.Coordinates.{IsKey}
@@ -10,24 +10,22 @@ use Rattle.point_order.specs.Facets.{points_of}
 use Rattle.point_order.specs.declared.cell.Cell.{Cell}
 use Rattle.edit_history.specs.declared.history.Edit.{Edit}
 use Rattle.edit_history.specs.declared.history.Edit.TheVariants.{Add, Take}
-use Rattle.edit_history.specs.declared.history.Reply.{Reply}
 use Rattle.edit_history.specs.declared.history.Reply.TheVariants.{Inserted, Duplicate, Removed, Missing, Flat}
 use Rattle.edit_history.specs.Edits.{point_of, reply_to, after, changed}
 use Rattle.del_laws.specs.Cells.{Vertex, point, far}
 use Rattle.del_laws.specs.PointSets.{PointSet, has, solid, cell, plus, minus, is_point}
 use Rattle.del_laws.proofs.PointSets.{plus_points, minus_points, below_true, ascending_of, keys_of, has_from, has_true}
-use Rattle.del_laws.proofs.Tests.{true_or_false}
 use Rattle.del_laws.specs.Base.{Symmetric}
 use Rattle.del_laws.proofs.Tests.{false_if}
 use Rattle.hole_laws.specs.Lists.{Goes, AreJoined}
-use Rattle.hole_laws.specs.Edits.{IsSet, IsSolidSet}
+use Rattle.hole_laws.specs.Edits.{IsSolidSet}
 use Rattle.hole_laws.specs.Laws.{IsReached}
-use Rattle.hole_laws.specs.Commuting.{Reaches, StaysSolid, ChangesReached, DoCommute, EditsCommute, after_all, replies_to, SomeReaches, HaveKeys, AllCommute, BatchCommutes}
+use Rattle.hole_laws.specs.Commuting.{Reaches, StaysSolid, ChangesReached, DoCommute, EditsCommute, after_all, replies_to, SomeReaches, AllCommute, BatchCommutes}
 use Rattle.hole_laws.proofs.Tests.{IsComplex, Insertion, AreLinked, IsAtGone}
 use Rattle.hole_laws.proofs.Vertex.{has_vertex, IsOrdered, ListsCells}
 use Rattle.hole_laws.proofs.CellVertices.{four_is, all_vertices}
 use Rattle.hole_laws.proofs.FacetVertices.{IsAgainst, facet_against}
-use Rattle.hole_laws.proofs.Listed.{cell_of, test_goes}
+use Rattle.hole_laws.proofs.Listed.{cell_of, listed_of, test_goes}
 use Rattle.hole_laws.proofs.NewCells.{point_vertex, vertex_point}
 use Rattle.hole_laws.proofs.Near.{at_gone, joined_of}
 use Rattle.hole_laws.proofs.FromBase.{complex_of, insertion}
@@ -162,3 +160,113 @@ reach_finite : (s : PointSet) (a : Edit) → sets.Reach s (step_of a) far → �
 unfolding step_of
 reach_finite s (Add p) r = elim r [ inl q ↦ cc | inr g ↦ g.1.finite refl ]
 reach_finite s (Take v) r = elim r [ inl q ↦ cc | inr g ↦ g.1 refl ]
+
+-- ---- one set
+
+-- a cell of one set and none of another, as the tests see it
+record Differs (s t : PointSet) (z : Vertex) : Type 0 where
+  t1 : Vertex
+  t2 : Vertex
+  t3 : Vertex
+  here : cell s t1 t2 t3 z ≡ true
+  there : cell t t1 t2 t3 z ≡ false
+
+-- at each of its points
+differs_at : (s t : PointSet) (q : Cell) → Goes (complex s.points) (complex t.points) q → (e : ℕ) → IsIn e (points_of q) → Differs s t (point e)
+differs_at s t q g e m =
+    let o = (lists_cells s).ordered q g.before in
+    let a = (facet_against q o (point e) (point_vertex q e m)).against in
+    record {
+      t1 = a.t1;
+      t2 = a.t2;
+      t3 = a.t3;
+      here = cell_of (cell s) (complex_of s) (complex s.points) (lists_cells s) q g.before a.t1 a.t2 a.t3 (point e) a.four a.vertices;
+      there = false_if (cell t a.t1 a.t2 a.t3 (point e)) (λ h. g.after (listed_of (cell t) (complex_of t) (complex t.points) (lists_cells t) q o a.t1 a.t2 a.t3 (point e) a.four a.vertices h));
+    }
+
+module _ (s : PointSet) (h : solid s ≡ true) (a : Edit) (ka : IsKey (point_of a)) where
+  -- the set after the edit
+  abbrev next : PointSet
+  next = sets.after s (step_of a)
+
+  -- it is solid
+  next_solid : solid next ≡ true
+  next_solid = sets.solid_after s (step_of a) h (step_point a ka)
+
+  -- so is the list
+  list_solid : IsSolidSet (after s.points a)
+  list_solid = subst IsSolidSet (points_after s a ka) (record { set = record { ascending = ascending_of next; keys = keys_of next }; solid = next_solid })
+
+  -- what it reaches there, of the list
+  reach_next : (b : Edit) → IsKey (point_of b) → (e : ℕ) → sets.Reach next (step_of b) (point e) ↔ Reaches (after s.points a) b e
+  reach_next b kb e = subst (λ (v : List ℕ). sets.Reach next (step_of b) (point e) ↔ Reaches v b e) (points_after s a ka) (reach_same next next_solid b kb e)
+
+  -- a point at which the two sets differ is reached
+  differ_reached : (e : ℕ) → Differs s next (point e) ⊎ Differs next s (point e) → Reaches s.points a e
+  differ_reached e d = (reach_same s h a ka e).0 (elim d [
+    | inl k ↦ sets.locality s (step_of a) k.t1 k.t2 k.t3 (point e) h (step_point a ka) (λ q. false≢true (sym k.there ∙ sym q ∙ k.here)) (λ q. (cc))
+    | inr k ↦ sets.locality s (step_of a) k.t1 k.t2 k.t3 (point e) h (step_point a ka) (λ q. false≢true (sym k.there ∙ q ∙ k.here)) (λ q. (cc))
+  ])
+
+  -- so each point of a cell that changes is
+  changed_reached : (q : Cell) → Goes (complex s.points) (complex (after s.points a)) q ⊎ Goes (complex (after s.points a)) (complex s.points) q → (e : ℕ) → IsIn e (points_of q) → Reaches s.points a e
+  changed_reached q g e m = differ_reached e (elim g [
+    | inl k ↦ inl (differs_at s next q (subst (λ (v : List ℕ). Goes (complex s.points) (complex v) q) (sym (points_after s a ka)) k) e m)
+    | inr k ↦ inr (differs_at next s q (subst (λ (v : List ℕ). Goes (complex v) (complex s.points) q) (sym (points_after s a ka)) k) e m)
+  ])
+
+-- edits whose reaches are apart commute
+commute_at : (s : PointSet) → solid s ≡ true → (a b : Edit) → IsKey (point_of a) → IsKey (point_of b) → ((e : ℕ) → Reaches s.points a e → ¬ (Reaches (after s.points a) b e)) → DoCommute s.points a b
+commute_at s h a b ka kb apart = record {
+  same = sym (points_after (next s h b kb) a ka ∙ ap (λ v. after v a) (points_after s b kb)) ∙ ap (λ (v : PointSet). v.points) c.same ∙ points_after (next s h a ka) b kb ∙ ap (λ v. after v b) (points_after s a ka);
+  reply_a = sym (reply_same (next s h b kb) a ∙ ap (λ v. reply_to v a) (points_after s b kb)) ∙ c.reply_e ∙ reply_same s a;
+  reply_b = sym (reply_same s b) ∙ c.reply_d ∙ reply_same (next s h a ka) b ∙ ap (λ v. reply_to v b) (points_after s a ka);
+  reach_a = λ e. (
+    λ r. (reach_same s h a ka e).0 ((c.reach_e (point e)).0 ((reach_next s h b kb a ka e).1 r)),
+    λ r. (reach_next s h b kb a ka e).0 ((c.reach_e (point e)).1 ((reach_same s h a ka e).1 r)),
+  );
+  reach_b = λ e. (
+    λ r. (reach_next s h a ka b kb e).0 ((c.reach_d (point e)).0 ((reach_same s h b kb e).1 r)),
+    λ r. (reach_same s h b kb e).0 ((c.reach_d (point e)).1 ((reach_next s h a ka b kb e).1 r)),
+  );
+}
+  where
+    far_apart : (q : Vertex) → sets.Reach s (step_of a) q → sets.Reach (sets.after s (step_of a)) (step_of b) q → ⊥
+    far_apart (point e) r t = apart e ((reach_same s h a ka e).0 r) ((reach_next s h a ka b kb e).0 t)
+    far_apart far r t = reach_finite s a r
+
+    c : sets.Commutes s (step_of a) (step_of b)
+    c = sets.commute s (step_of a) (step_of b) h (step_point a ka) (step_point b kb) far_apart
+
+-- ---- the laws
+
+pub stays_solid : StaysSolid
+stays_solid s a i k = subst (λ (v : List ℕ). IsSolidSet (after v a)) (set_of-points s i.set) (list_solid (set_of s i.set) (solid_of s i.set i.solid) a k)
+
+pub changes_reached : ChangesReached
+changes_reached s a i k =
+    subst (λ (v : List ℕ). (q : Cell) → Goes (complex v) (complex (after v a)) q ⊎ Goes (complex (after v a)) (complex v) q → (e : ℕ) → IsIn e (points_of q) → Reaches v a e)
+    (set_of-points s i.set) (changed_reached (set_of s i.set) (solid_of s i.set i.solid) a k)
+
+pub edits_commute : EditsCommute
+edits_commute s a b i ka kb =
+    subst (λ (v : List ℕ). ((e : ℕ) → Reaches v a e → ¬ (Reaches (after v a) b e)) → DoCommute v a b)
+    (set_of-points s i.set) (commute_at (set_of s i.set) (solid_of s i.set i.solid) a b ka kb)
+
+pub batch_commutes : BatchCommutes
+batch_commutes s [] b i ks kb apart = record { same = refl; replies = refl; reply_b = refl; reach = λ e. (λ r. r, λ r. r); reach_b = λ e. (λ r. r, λ r. r) }
+batch_commutes s (a ∷ edits) b i ks kb apart = both (batch_commutes (after s a) edits b (stays_solid s a i ks.0) ks.1 kb (λ e r t. apart e (inr r) t))
+  where
+    both : AllCommute (after s a) edits b → AllCommute s (a ∷ edits) b
+    both r =
+        let c = edits_commute s a b i ks.0 kb (λ e x y. apart e (inl x) ((r.reach_b e).0 y)) in
+        record {
+          same = ap (λ v. after_all v edits) c.same ∙ r.same;
+          replies = ap₂ (λ x xs. x ∷ xs) c.reply_a (ap (λ v. replies_to v edits) c.same ∙ r.replies);
+          reply_b = c.reply_b ∙ r.reply_b;
+          reach = λ e. (
+            λ x. elim x [ inl y ↦ inl ((c.reach_a e).0 y) | inr y ↦ inr ((r.reach e).0 (subst (λ (v : List ℕ). SomeReaches v edits e) c.same y)) ],
+            λ x. elim x [ inl y ↦ inl ((c.reach_a e).1 y) | inr y ↦ inr (subst (λ (v : List ℕ). SomeReaches v edits e) (sym c.same) ((r.reach e).1 y)) ],
+          );
+          reach_b = λ e. (λ x. (r.reach_b e).0 ((c.reach_b e).0 x), λ x. (c.reach_b e).1 ((r.reach_b e).1 x));
+        }

@@ -1,8 +1,8 @@
 -- A point taken from the one corner of a square of sets and added at the other: the fourth corner is solid, and reached alike.
-use Rattle.std.specs.Prelude.{◌≡◌, Bool, true, false, ◌≢◌, ◌⊎◌, ◌↔◌}
+use Rattle.std.specs.Prelude.{◌≡◌, Bool, true, false, ◌≢◌, ◌↔◌}
 use Rattle.std.proofs.Common.{refl, sym, ap, ◌∙◌, subst, inl, inr, ⊎_elim}
 use Rattle.std.proofs.lemmas.Bool.{false≢true}
-use Rattle.del_laws.specs.Cells.{Vertex, far}
+use Rattle.del_laws.specs.Cells.{Vertex}
 use Rattle.del_laws.specs.PointSets.{PointSet, has, solid, cell}
 use Rattle.del_laws.proofs.Starred.{base}
 use Rattle.hole_laws.proofs.Tests.{AreLinked}
