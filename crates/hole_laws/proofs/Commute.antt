@@ -35,9 +35,11 @@ is_add : Step → Bool
 is_add (add p) = true
 is_add (take p) = false
 
+-- a choice where the test passes
 cond_true : {A : Type 0} (b : Bool) (x y : A) → b ≡ true → cond b x y ≡ x
 cond_true b x y e = ap (λ b. cond b x y) e
 
+-- and where it does not
 cond_false : {A : Type 0} (b : Bool) (x y : A) → b ≡ false → cond b x y ≡ y
 cond_false b x y e = ap (λ b. cond b x y) e
 
@@ -46,6 +48,7 @@ abbrev pub after : PointSet → Step → PointSet
 after S (add p) = cond (has S p) S (plus S p)
 after S (take p) = cond (has S p) (cond (solid (minus S p)) (minus S p) S) S
 
+-- and the reply
 abbrev pub reply : PointSet → Step → Reply
 reply S (add p) = cond (has S p) Duplicate Inserted
 reply S (take p) = cond (has S p) (cond (solid (minus S p)) Removed Flat) Missing
@@ -77,28 +80,34 @@ abbrev Along : PointSet → Step → PointSet → Vertex → Type 0
 Along S (add p) T q = Rho S T p q
 Along S (take p) T q = Rho T S p q
 
+-- it would take the last point that makes the set solid
 abbrev IsFlat : PointSet → Step → Type 0
 IsFlat S (add p) = ⊥
 IsFlat S (take p) = (has S p ≡ true) × (solid (minus S p) ≡ false)
 
+-- the reply of an edit that changes the set
 abbrev made : Step → Reply
 made (add p) = Inserted
 made (take p) = Removed
 
+-- and of one that is idle
 abbrev left : Step → Reply
 left (add p) = Duplicate
 left (take p) = Missing
 
+-- an idle edit leaves the set
 idle_after : (S : PointSet) (e : Step) → Idle S e → after S e ≡ S
 unfolding is_add
 idle_after S (add p) h = cond_true (has S p) S (plus S p) h
 idle_after S (take p) h = cond_false (has S p) (cond (solid (minus S p)) (minus S p) S) S h
 
+-- its reply
 idle_reply : (S : PointSet) (e : Step) → Idle S e → reply S e ≡ left e
 unfolding is_add
 idle_reply S (add p) h = cond_true (has S p) Duplicate Inserted h
 idle_reply S (take p) h = cond_false (has S p) (cond (solid (minus S p)) Removed Flat) Missing h
 
+-- it reaches its own point alone
 idle_reach : (S : PointSet) (e : Step) (q : Vertex) → Idle S e → Reach S e q → q ≡ point_of e
 unfolding is_add
 idle_reach S (add p) q h (inl e) = e
@@ -106,10 +115,12 @@ idle_reach S (add p) q h (inr a) = absurd (false≢true (sym a.0 ∙ h))
 idle_reach S (take p) q h (inl e) = e
 idle_reach S (take p) q h (inr a) = absurd (false≢true (sym h ∙ a.0))
 
+-- every edit reaches its own point
 own_reach : (S : PointSet) (e : Step) (q : Vertex) → q ≡ point_of e → Reach S e q
 own_reach S (add p) q e = inl e
 own_reach S (take p) q e = inl e
 
+-- a flat edit leaves the set
 flat_after : (S : PointSet) (e : Step) → IsFlat S e → after S e ≡ S
 flat_after S (add p) h = absurd h
 flat_after S (take p) h = cond_true (has S p) (cond (solid (minus S p)) (minus S p) S) S h.0 ∙ cond_false (solid (minus S p)) (minus S p) S h.1
@@ -140,6 +151,7 @@ makes_after S (take p) T m = cond_true (has S p) (cond (solid (minus S p)) (minu
     e : minus S p ≡ T
     e = corners.takes_same (minus S p) T S p (corners.minus_adds S p m.0.present) m.0
 
+-- what it answers
 makes_reply : (S : PointSet) (e : Step) (T : PointSet) → Makes S e T → reply S e ≡ made e
 makes_reply S (add p) T m = cond_false (has S p) Duplicate Inserted m.absent
 makes_reply S (take p) T m = cond_true (has S p) (cond (solid (minus S p)) Removed Flat) Missing m.0.present
@@ -148,6 +160,7 @@ makes_reply S (take p) T m = cond_true (has S p) (cond (solid (minus S p)) Remov
     e : minus S p ≡ T
     e = corners.takes_same (minus S p) T S p (corners.minus_adds S p m.0.present) m.0
 
+-- and what it reaches, from the end without its point
 makes_reach : (S : PointSet) (e : Step) (T : PointSet) → Makes S e T → (q : Vertex) → Reach S e q ↔ Along S e T q
 makes_reach S (add p) T m q = (there, back)
   where
@@ -171,15 +184,18 @@ makes_reach S (take p) T m q = (there, back)
     back (inl f) = inl f
     back (inr a) = inr (m.0.present, a.finite, at_linked T S p m.1 m.0 q a)
 
+-- and the set stays solid
 makes_solid : (S : PointSet) (e : Step) (T : PointSet) → solid S ≡ true → Makes S e T → solid T ≡ true
 makes_solid S (add p) T s m = from.solid_add S T p s m
 makes_solid S (take p) T s m = m.1
 
+-- an edit is idle, or flat, or changes the set
 data Kind (S : PointSet) (e : Step) : Type 0 where
   idle : Idle S e → Kind S e
   flat : IsFlat S e → Kind S e
   real : Makes S e (after S e) → Kind S e
 
+-- of which kind an edit is
 kind : (S : PointSet) (e : Step) → is_point (point_of e) ≡ true → Kind S e
 unfolding is_add
 kind S (add p) n = go (has S p) refl
@@ -263,6 +279,7 @@ record Turned (S : PointSet) (e d : Step) (S1 S2 : PointSet) : Type 0 where
   reach_d : (q : Vertex) → Along S d by q ↔ Along S1 d S2 q
   reach_e : (q : Vertex) → Along by e S2 q ↔ Along S e S1 q
 
+-- so they commute
 from_turned : (S : PointSet) (e d : Step) (S1 S2 : PointSet) → Makes S e S1 → Makes S1 d S2 → after S e ≡ S1 → Turned S e d S1 S2 → Commutes S e d
 from_turned S e d S1 S2 m n q t = record {
   same = ap (λ (U : PointSet). after U e) p ∙ makes_after t.by e S2 t.second ∙ sym (ap (λ (U : PointSet). after U d) q ∙ makes_after S1 d S2 n);
@@ -281,12 +298,15 @@ from_turned S e d S1 S2 m n q t = record {
     p : after S d ≡ t.by
     p = makes_after S d t.by t.first
 
+-- what is reached along opposite sides
 rho_both : (S T U V : PointSet) (x q : Vertex) → At S T q ↔ At U V q → Rho S T x q ↔ Rho U V x q
 rho_both S T U V x q f = (corners.rho_along S T U V x q f.0, corners.rho_along U V S T x q f.1)
 
+-- the other way round
 flip : {A B : Type 0} → A ↔ B → B ↔ A
 flip f = (f.1, f.0)
 
+-- the other order of the two, for each way around the square
 turn : (S : PointSet) (e d : Step) (S1 S2 : PointSet) → solid S ≡ true → point_of e ≢ point_of d → Makes S e S1 → Makes S1 d S2 →
     Disjoint (Along S e S1) (Along S1 d S2) → Turned S e d S1 S2
 turn R (add x) (add y) A T s n ra at d =
@@ -363,6 +383,7 @@ idle_first S e d nd n i = record {
     j : Idle (after S d) e
     j = others S d (point_of e) nd n ∙ i
 
+-- where d is idle
 idle_second : (S : PointSet) (e d : Step) → is_point (point_of e) ≡ true → point_of e ≢ point_of d → Idle (after S e) d → Commutes S e d
 idle_second S e d ne n i = record {
   same = ap (λ (U : PointSet). after U e) p ∙ sym (idle_after (after S e) d i);
@@ -378,6 +399,7 @@ idle_second S e d ne n i = record {
     p : after S d ≡ S
     p = idle_after S d j
 
+-- edits whose reaches are apart commute
 pub commute : (S : PointSet) (e d : Step) → solid S ≡ true → is_point (point_of e) ≡ true → is_point (point_of d) ≡ true →
     Disjoint (Reach S e) (Reach (after S e) d) → Commutes S e d
 commute S e d s ne nd apart = go (kind S e ne) (kind (after S e) d nd)
@@ -410,6 +432,7 @@ commute S e d s ne nd apart = go (kind S e ne) (kind (after S e) d nd)
         (turn S e d (after S e) (after (after S e) d) s n m k
         λ q a b. apart q ((makes_reach S e (after S e) m q).1 a) ((makes_reach (after S e) d (after (after S e) d) k q).1 b))
 
+-- a solid set stays solid
 pub solid_after : (S : PointSet) (e : Step) → solid S ≡ true → is_point (point_of e) ≡ true → solid (after S e) ≡ true
 solid_after S e s n = go (kind S e n)
   where

@@ -36,14 +36,17 @@ point_finite far h e = false≢true h
 at_along : (S T U V : PointSet) → ((v1 v2 v3 v4 : Vertex) → gone (cell S) (cell T) v1 v2 v3 v4 ≡ gone (cell U) (cell V) v1 v2 v3 v4) → (q : Vertex) → At S T q → At U V q
 at_along S T U V h q a = record { t1 = a.t1; t2 = a.t2; t3 = a.t3; cell = sym (h a.t1 a.t2 a.t3 q) ∙ a.cell; finite = a.finite }
 
+-- in both directions
 at_both : (S T U V : PointSet) → ((v1 v2 v3 v4 : Vertex) → gone (cell S) (cell T) v1 v2 v3 v4 ≡ gone (cell U) (cell V) v1 v2 v3 v4) → (q : Vertex) → At S T q ↔ At U V q
 at_both S T U V h q = (at_along S T U V h q, at_along U V S T (λ v1 v2 v3 v4. sym (h v1 v2 v3 v4)) q)
 
+-- the first corner is solid, and opposite sides reach the same
 pub record Agree (R A B T : PointSet) : Type 0 where
   pub smaller : solid R ≡ true
   pub by_x : (q : Vertex) → At R A q ↔ At B T q
   pub by_y : (q : Vertex) → At R B q ↔ At A T q
 
+-- the new point with them
 pub rho_along : (S T U V : PointSet) (x q : Vertex) → (At S T q → At U V q) → Rho S T x q → Rho U V x q
 rho_along S T U V x q f (inl e) = inl e
 rho_along S T U V x q f (inr a) = inr (f a)
@@ -62,6 +65,7 @@ pub agree_up : (R A B T : PointSet) (x y : Vertex) → Square R A B T x y → so
 agree_up R A B T x y q s d = agree_low R A B T x y q s λ e a b.
     d e a (rho_along R B A T y e (at_along R B A T (sq.same_near R A B T x y q s d) e) b)
 
+-- the square with its sides exchanged
 pub agree_turned : (R A B T : PointSet) → Agree R B A T → Agree R A B T
 agree_turned R A B T a = record { smaller = a.smaller; by_x = a.by_y; by_y = a.by_x }
 
@@ -84,6 +88,7 @@ plus_adds S p n f = record {
     other true b h = absurd (h refl)
     other false b h = refl
 
+-- a set has one more point than the set without it
 pub minus_adds : (S : PointSet) (p : Vertex) → has S p ≡ true → IsAdd (minus S p) p S
 minus_adds S p h = record {
   finite = λ e. false≢true (ap (has S) (sym e) ∙ h);
@@ -96,6 +101,7 @@ minus_adds S p h = record {
     other true b h = absurd (h refl)
     other false b h = refl
 
+-- a set with a point is one
 pub adds_same : (S T U : PointSet) (p : Vertex) → IsAdd S p T → IsAdd S p U → T ≡ U
 adds_same S T U p a b = extensional T U λ q. go q (cases_vertex q p)
   where
@@ -103,6 +109,7 @@ adds_same S T U p a b = extensional T U λ q. go q (cases_vertex q p)
     go q (inl e) = ap (has T) e ∙ a.present ∙ sym b.present ∙ ap (has U) (sym e)
     go q (inr n) = a.same q n ∙ sym (b.same q n)
 
+-- and so is a set without one
 pub takes_same : (S T U : PointSet) (p : Vertex) → IsAdd S p U → IsAdd T p U → S ≡ T
 takes_same S T U p a b = extensional S T λ q. go q (cases_vertex q p)
   where
@@ -110,6 +117,7 @@ takes_same S T U p a b = extensional S T λ q. go q (cases_vertex q p)
     go q (inl e) = ap (has S) e ∙ a.absent ∙ sym b.absent ∙ ap (has T) (sym e)
     go q (inr n) = sym (a.same q n) ∙ b.same q n
 
+-- the fourth corner from the first three
 pub upper : (R A B T : PointSet) (x y : Vertex) → x ≢ y → IsAdd R x A → IsAdd R y B → IsAdd A y T → IsAdd B x T
 upper R A B T x y n ra rb at = record {
   finite = ra.finite;
@@ -122,6 +130,7 @@ upper R A B T x y n ra rb at = record {
     go q m (inl e) = ap (has T) e ∙ at.present ∙ sym rb.present ∙ ap (has B) (sym e)
     go q m (inr k) = at.same q k ∙ ra.same q m ∙ sym (rb.same q k)
 
+-- the second corner from the others
 pub lower : (R A B T : PointSet) (x y : Vertex) → x ≢ y → IsAdd R y B → IsAdd B x T → IsAdd A y T → IsAdd R x A
 lower R A B T x y n rb bt at = record {
   finite = bt.finite;

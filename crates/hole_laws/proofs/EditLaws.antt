@@ -240,19 +240,23 @@ commute_at s h a b ka kb apart = record {
 
 -- ---- the laws
 
+-- a solid set stays solid
 pub stays_solid : StaysSolid
 stays_solid s a i k = subst (λ (v : List ℕ). IsSolidSet (after v a)) (set_of-points s i.set) (list_solid (set_of s i.set) (solid_of s i.set i.solid) a k)
 
+-- what changes is reached
 pub changes_reached : ChangesReached
 changes_reached s a i k =
     subst (λ (v : List ℕ). (q : Cell) → Goes (complex v) (complex (after v a)) q ⊎ Goes (complex (after v a)) (complex v) q → (e : ℕ) → IsIn e (points_of q) → Reaches v a e)
     (set_of-points s i.set) (changed_reached (set_of s i.set) (solid_of s i.set i.solid) a k)
 
+-- edits whose reaches are apart commute
 pub edits_commute : EditsCommute
 edits_commute s a b i ka kb =
     subst (λ (v : List ℕ). ((e : ℕ) → Reaches v a e → ¬ (Reaches (after v a) b e)) → DoCommute v a b)
     (set_of-points s i.set) (commute_at (set_of s i.set) (solid_of s i.set i.solid) a b ka kb)
 
+-- and so do some edits and one more
 pub batch_commutes : BatchCommutes
 batch_commutes s [] b i ks kb apart = record { same = refl; replies = refl; reply_b = refl; reach = λ e. (λ r. r, λ r. r); reach_b = λ e. (λ r. r, λ r. r) }
 batch_commutes s (a ∷ edits) b i ks kb apart = both (batch_commutes (after s a) edits b (stays_solid s a i ks.0) ks.1 kb (λ e r t. apart e (inr r) t))

@@ -138,23 +138,27 @@ module _ (a b c d : ℕ) (ab : a < b) (bc : b < c) (cd : c < d) where
   abbrev four : List ℕ
   four = a ∷ b ∷ c ∷ d ∷ []
 
+  -- against the first point
   full_first : IsAgainst (Full four) (point a) (Three (b ∷ c ∷ d ∷ []))
   full_first = full_against four (b ∷ c ∷ d ∷ []) a (inl refl) (bc, (cd, (tt, tt))) b c d (last_first (four_points a b c d ab bc cd))
       (inr (inl refl)) (inr (inr (inl refl))) (inr (inr (inr (inl refl)))) (inl refl)
       (λ e m. m) (λ e m. inr m) (λ m. omega arith)
 
+  -- against the second
   full_second : IsAgainst (Full four) (point b) (Three (a ∷ c ∷ d ∷ []))
   full_second = full_against four (a ∷ c ∷ d ∷ []) b (inr (inl refl)) (omega arith, (cd, (tt, tt))) a c d (last_second (four_points a b c d ab bc cd))
       (inl refl) (inr (inr (inl refl))) (inr (inr (inr (inl refl)))) (inr (inl refl))
       (λ e m. elim m [ inl q ↦ inr (inl q) | inr r ↦ elim r [ inl q ↦ inl q | inr u ↦ inr (inr u) ] ])
       (λ e m. elim m [ inl q ↦ inl q | inr r ↦ inr (inr r) ]) (λ m. omega arith)
 
+  -- against the third
   full_third : IsAgainst (Full four) (point c) (Three (a ∷ b ∷ d ∷ []))
   full_third = full_against four (a ∷ b ∷ d ∷ []) c (inr (inr (inl refl))) (ab, (omega arith, (tt, tt))) a b d (last_third (four_points a b c d ab bc cd))
       (inl refl) (inr (inl refl)) (inr (inr (inr (inl refl)))) (inr (inr (inl refl)))
       (λ e m. elim m [ inl q ↦ inr (inl q) | inr r ↦ elim r [ inl q ↦ inr (inr (inl q)) | inr u ↦ elim u [ inl q ↦ inl q | inr v ↦ inr (inr (inr v)) ] ] ])
       (λ e m. elim m [ inl q ↦ inl q | inr r ↦ elim r [ inl q ↦ inr (inl q) | inr u ↦ inr (inr (inr u)) ] ]) (λ m. omega arith)
 
+  -- against the fourth
   full_fourth : IsAgainst (Full four) (point d) (Three (a ∷ b ∷ c ∷ []))
   full_fourth = full_against four (a ∷ b ∷ c ∷ []) d (inr (inr (inr (inl refl)))) (ab, (bc, (tt, tt))) a b c (four_points a b c d ab bc cd)
       (inl refl) (inr (inl refl)) (inr (inr (inl refl))) (inr (inr (inr (inl refl))))
@@ -166,23 +170,27 @@ module _ (a b c : ℕ) (ab : a < b) (bc : b < c) where
   abbrev three : List ℕ
   three = a ∷ b ∷ c ∷ []
 
+  -- against the first point
   open_first : IsAgainst (Open three) (point a) (Two (b ∷ c ∷ []))
   open_first = pair_against three (b ∷ c ∷ []) a (inl refl) (bc, (tt, tt)) b c (last_first (three_points a b c ab bc))
       (inr (inl refl)) (inr (inr (inl refl))) (inl refl)
       (λ e m. m) (λ e m. inr m) (λ m. omega arith)
 
+  -- against the second
   open_second : IsAgainst (Open three) (point b) (Two (a ∷ c ∷ []))
   open_second = pair_against three (a ∷ c ∷ []) b (inr (inl refl)) (omega arith, (tt, tt)) a c (last_second (three_points a b c ab bc))
       (inl refl) (inr (inr (inl refl))) (inr (inl refl))
       (λ e m. elim m [ inl q ↦ inr (inl q) | inr r ↦ elim r [ inl q ↦ inl q | inr u ↦ inr (inr u) ] ])
       (λ e m. elim m [ inl q ↦ inl q | inr r ↦ inr (inr r) ]) (λ m. omega arith)
 
+  -- against the third
   open_third : IsAgainst (Open three) (point c) (Two (a ∷ b ∷ []))
   open_third = pair_against three (a ∷ b ∷ []) c (inr (inr (inl refl))) (ab, (tt, tt)) a b (last_third (three_points a b c ab bc))
       (inl refl) (inr (inl refl)) (inr (inr (inl refl)))
       (λ e m. elim m [ inl q ↦ inr (inl q) | inr r ↦ elim r [ inl q ↦ inr (inr (inl q)) | inr u ↦ elim u [ inl q ↦ inl q | inr none ↦ absurd none ] ] ])
       (λ e m. elim m [ inl q ↦ inl q | inr r ↦ elim r [ inl q ↦ inr (inl q) | inr none ↦ absurd none ] ]) (λ m. omega arith)
 
+  -- against the infinite vertex
   open_far : IsAgainst (Open three) far (Three three)
   open_far = record {
     listed = inr (inr (inr (inl refl)));

@@ -4,12 +4,13 @@ use Rattle.std.proofs.Common.{refl, sym, ap, ◌∙◌, inl, inr}
 use Rattle.std.proofs.lemmas.Bool.{false≢true}
 use Rattle.del_laws.specs.Cells.{Vertex, far}
 use Rattle.del_laws.specs.Base.{Symmetric, Across, Corner, Within, IsVertexOf}
+use Rattle.del_laws.proofs.Tests.{false_if}
 use Rattle.hole_laws.proofs.Tests.{IsComplex, Insertion, HasRim, AreLinked, gone}
 use Rattle.del_laws.specs.PointSets.{PointSet, has, solid, cell, vertices}
 use Rattle.hole_laws.proofs.Tests.{IsAdd}
 use Rattle.del_laws.proofs.Starred.{base}
 use Rattle.hole_laws.proofs.Vertices.{cases_vertex, first_last, second_last}
-use Rattle.hole_laws.proofs.Rims.{last_apart, rim_makes_new, not_both, both, both_is, without_symmetric}
+use Rattle.hole_laws.proofs.Rims.{last_apart, rim_makes_new, both, both_is, without_symmetric}
 use Rattle.hole_laws.proofs.Stars as stars
 use Rattle.hole_laws.proofs.Search.{search_pair}
 
@@ -21,6 +22,7 @@ complex_of S = record { vertices = vertices S; laws = base.complex S }
 symm : (S : PointSet) → Symmetric (cell S)
 symm S = (complex_of S).laws.symmetric
 
+-- the set is within the set with p
 pub larger : (S T : PointSet) (p : Vertex) → IsAdd S p T → Within PointSet has S T
 larger S T p a q h = a.same q (λ e. false≢true (sym a.absent ∙ ap (has S) (sym e) ∙ h)) ∙ h
 
@@ -32,6 +34,7 @@ keeps S T p a w x y z h n = go (cases_vertex z far)
     go (inl e) = inl e
     go (inr m) = inr (sym (a.same z n) ∙ base.point T w x y z h m)
 
+-- a cell without p is one of the set
 pub old : (S T : PointSet) (p : Vertex) → solid S ≡ true → IsAdd S p T → (w x y z : Vertex) → cell T w x y z ≡ true →
     w ≢ p → x ≢ p → y ≢ p → z ≢ p → cell S w x y z ≡ true
 old S T p s a w x y z h i j k l = base.smaller T S s (larger S T p a) w x y z h
@@ -40,9 +43,11 @@ old S T p s a w x y z h i j k l = base.smaller T S s (larger S T p a) w x y z h
     (keeps S T p a w x z y (sym ((symm T).last w x y z) ∙ h) k)
     (keeps S T p a w x y z h l)
 
+-- with a point a solid set is solid
 pub solid_add : (S T : PointSet) (p : Vertex) → solid S ≡ true → IsAdd S p T → solid T ≡ true
 solid_add S T p s a = base.solid_more S T s (larger S T p a)
 
+-- a cell of R with p and of R with q is one of R with both
 pub meet : (R A B T : PointSet) (p q : Vertex) → solid R ≡ true → IsAdd R p A → IsAdd R q B → IsAdd A q T →
     (w x y z : Vertex) → cell A w x y z ≡ true → cell B w x y z ≡ true → cell T w x y z ≡ true
 meet R A B T p q s ra rb at = base.union R A B T s (larger R A p ra) (larger R B q rb) (larger A T q at) λ v h. go v h (cases_vertex v q)
@@ -51,8 +56,9 @@ meet R A B T p q s ra rb at = base.union R A B T s (larger R A p ra) (larger R B
     go v h (inl e) = inr (ap (has B) e ∙ rb.present)
     go v h (inr n) = inl (sym (at.same v n) ∙ h)
 
+-- no cell of the set has p
 absent : (S T : PointSet) (p : Vertex) → IsAdd S p T → (w x y : Vertex) → cell S w x y p ≡ false
-absent S T p a w x y = not_both _ λ h. false≢true (sym a.absent ∙ base.point S w x y p h a.finite)
+absent S T p a w x y = false_if _ λ h. false≢true (sym a.absent ∙ base.point S w x y p h a.finite)
 
 -- on a facet of a Full cell at p, against p, a cell goes and one stays
 pub rim : (S T : PointSet) (p : Vertex) → solid S ≡ true → IsAdd S p T → HasRim (cell S) (cell T)
@@ -66,7 +72,7 @@ rim S T p s a = record {
     kept_before = kept_before;
     kept_after = f.cell;
     lost_before = b.cell;
-    lost_after = not_both _ (λ h. goes (f.only b.beyond h));
+    lost_after = false_if _ (λ h. goes (f.only b.beyond h));
   };
 }
   where
@@ -89,6 +95,7 @@ rim S T p s a = record {
     goes (inl e) = false≢true (sym (absent S T p a k.t1 k.t2 k.t3) ∙ ap (cell S k.t1 k.t2 k.t3) (sym e) ∙ b.cell)
     goes (inr e) = b.other e
 
+-- all that an insertion is seen to be
 pub insertion : (S T : PointSet) (p : Vertex) → solid S ≡ true → IsAdd S p T → Insertion (cell S) (cell T) p
 insertion S T p s a = record {
   before = complex_of S;
@@ -105,7 +112,7 @@ pub linked : (S T : PointSet) (v : Vertex) → solid S ≡ true → IsAdd S v T 
     z ≢ far → AreLinked (cell T) v z
 linked S T v s a w x y z g f = elim (search_pair (λ i j. cell T i j z v) (complex_of T).vertices (complex_of T).vertices) [
   | inl r ↦ record { t1 = r.a; t2 = r.b; cell = r.holds }
-  | inr h ↦ absurd (none (λ i j. not_both _ λ e. false≢true (sym (h i j
+  | inr h ↦ absurd (none (λ i j. false_if _ λ e. false≢true (sym (h i j
       ((complex_of T).laws.listed j z v i (sym (first_last (cell T) (symm T) i j z v) ∙ e))
       ((complex_of T).laws.listed i z v j (sym (second_last (cell T) (symm T) i j z v) ∙ e))) ∙ e)))
 ]

@@ -134,11 +134,13 @@ module _ (s : List ℕ) (p : ℕ) (i : IsSolidSet s) (n : IsNew s p) where
 
 -- ---- the laws
 
+-- what is not in conflict stays
 pub stays_without_conflict : StaysWithoutConflict
 stays_without_conflict s p i n q m h k =
     let d = decides s p i n q m h k in
     (λ e. record { before = h; after = d.0 e }, λ r. d.1 r.after)
 
+-- and what is goes
 pub goes_in_conflict : GoesInConflict
 goes_in_conflict s p i n q m h k =
     let d = decides s p i n q m h k in (
@@ -146,6 +148,7 @@ goes_in_conflict s p i n q m h k =
       λ g. elim (true_or_false (is_in_conflict q m p)) [ inl e ↦ e | inr e ↦ absurd (g.after (d.0 e)) ],
     )
 
+-- a cell has a mate
 pub some_mate : SomeMate
 some_mate s i (Full l) h = (0, tt)
 some_mate s i (Open l) h =
@@ -164,6 +167,7 @@ four_in s a b c d ma mb mc md e m = elim m [
   | inr r ↦ elim r [ inl q ↦ subst (λ v. IsIn v s) q mb | inr u ↦ elim u [ inl q ↦ subst (λ v. IsIn v s) q mc | inr v ↦ elim v [ inl q ↦ subst (λ v. IsIn v s) q md | inr none ↦ absurd none ] ] ]
 ]
 
+-- and can be judged by it
 pub mates_judge : MatesJudge
 mates_judge s p i n (Full l) m h k =
     let r = listed_is_cell s (Full l) i.ascending h in

@@ -24,6 +24,7 @@ module _ (s : List ℕ) (p : ℕ) (i : IsSolidSet s) (n : IsNew s p) where
   abbrev before : Vertex → Vertex → Vertex → Vertex → Bool
   before = cell (set_of s i.set)
 
+  -- and those of s with p
   abbrev after : Vertex → Vertex → Vertex → Vertex → Bool
   after = cell (set_of (with_point p s) (more_set s p i.set n.key))
 
@@ -35,6 +36,7 @@ module _ (s : List ℕ) (p : ℕ) (i : IsSolidSet s) (n : IsNew s p) where
   old : ListsCells (complex s) before
   old = lists_of s i.set
 
+  -- and after
   new : ListsCells (complex (with_point p s)) after
   new = lists_of (with_point p s) (more_set s p i.set n.key)
 
@@ -90,26 +92,34 @@ module _ (s : List ℕ) (p : ℕ) (i : IsSolidSet s) (n : IsNew s p) where
 
 -- ---- the laws
 
+-- there is a rim facet
 pub some_rim : SomeRim
 some_rim s p i n = rim s p i n
 
+-- the cells of the set with p
 pub cells_after : CellsAfter
 cells_after s p i n q = (cells_cases s p i n q, λ m. elim m [ inl k ↦ k.after | inr r ↦ fresh_listed s p i n q r ])
 
+-- the new ones are those with p
 pub fresh_have_point : FreshHavePoint
 fresh_have_point s p i n q m = (fresh_has s p i n q, has_fresh s p i n q m)
 
+-- no old one has p
 pub old_lack_point : OldLackPoint
 old_lack_point s p i n q m = lacks s p i n q m
 
+-- the region is connected
 pub region_connected : RegionConnected
 region_connected s p i n part k a m b g = connected s p i n part k a m b g
 
+-- and found from what is held
 pub found_from_held : FoundFromHeld
 found_from_held s p i n held part k a m b g = found s p i n held part k a m b g
 
+-- new cells are near
 pub fresh_are_near : FreshAreNear
 fresh_are_near s p i n q r e m = near s p i n q r e m
 
+-- what is joined to p is what is reached
 pub joined_are_reached : JoinedAreReached
 joined_are_reached s p i n e d = (joined s p i n e d, reached s p i n e)

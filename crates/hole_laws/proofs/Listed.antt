@@ -1,6 +1,6 @@
 -- The laws of an insertion over lists of cells.
 use Rattle.std.specs.Prelude.{◌≡◌, ℕ, Bool, true, ◌&&◌, ◌||◌, List, [], ◌∷◌, ◌⊎◌}
-use Rattle.std.proofs.Common.{refl, sym, ap₂, ◌∙◌, subst, inl, inr, arith}
+use Rattle.std.proofs.Common.{refl, sym, ap₂, ◌∙◌, subst, inl, inr}
 use Rattle.std.proofs.lemmas.Bool.{false≢true}
 use Rattle.point_order.specs.Sets.{IsIn}
 use Rattle.point_order.specs.Facets.{facets_of}
@@ -9,27 +9,19 @@ use Rattle.point_order.specs.declared.cell.Cell.TheVariants.{Full, Open}
 use Rattle.point_order.specs.declared.cell.Facet.{Facet}
 use Rattle.point_order.specs.declared.cell.Facet.TheVariants.{Three, Two}
 use Rattle.del_laws.specs.Cells.{Vertex, point}
-use Rattle.del_laws.proofs.Tests.{any_from, any_true, true_or_false}
+use Rattle.del_laws.proofs.Tests.{any_from, any_true, true_or_false, false_if, first_true, second_true}
 use Rattle.del_laws.specs.Base.{Symmetric}
 use Rattle.hole_laws.proofs.Tests.{IsComplex, Insertion, gone}
 use Rattle.hole_laws.specs.Lists.{Goes}
 use Rattle.hole_laws.proofs.Vertex.{has_vertex, has_vertices, is_listed, IsOrdered, HasListed, ListsCells}
 use Rattle.hole_laws.proofs.Order.{AreFourVertices}
 use Rattle.hole_laws.proofs.Vertices.{first_last, second_last}
-use Rattle.hole_laws.proofs.Rims.{last_apart, not_both, both, both_is, without_symmetric}
+use Rattle.hole_laws.proofs.Rims.{last_apart, both, both_is, without_symmetric}
 use Rattle.hole_laws.proofs.Region.{region}
 use Rattle.hole_laws.proofs.CellVertices.{four_is, vertices_symmetric, at_vertices, same_cell}
 use Rattle.hole_laws.proofs.FacetVertices.{facet_against, against_of, shared_facet}
 
 -- ---- one list
-
--- two tests that pass together
-first_of : (a b : Bool) → (a && b) ≡ true → a ≡ true
-first_of a b h = grind arith
-
--- the second
-second_of : (a b : Bool) → (a && b) ≡ true → b ≡ true
-second_of a b h = grind arith
 
 -- the four vertices of a cell are different
 pub four_of : (c : Vertex → Vertex → Vertex → Vertex → Bool) → IsComplex c → (w x y z : Vertex) → c w x y z ≡ true → AreFourVertices w x y z
@@ -112,7 +104,7 @@ module _ (c c' : Vertex → Vertex → Vertex → Vertex → Bool) (p : ℕ) (k 
   pub goes_test : (q : Cell) → Goes l l' q → (w x y z : Vertex) → AreFourVertices w x y z → has_vertices q w x y z ≡ true → gone c c' w x y z ≡ true
   goes_test q g w x y z d h =
       both (c w x y z) (c' w x y z) (cell_of c k.before l t q g.before w x y z d h)
-      (not_both (c' w x y z) (λ e. g.after (listed_of c' k.after l' t' q (t.ordered q g.before) w x y z d h e)))
+      (false_if (c' w x y z) (λ e. g.after (listed_of c' k.after l' t' q (t.ordered q g.before) w x y z d h e)))
 
   -- and four that pass it are the vertices of one
   pub test_goes : (w x y z : Vertex) → gone c c' w x y z ≡ true → (q : Cell) × Goes l l' q × (has_vertices q w x y z ≡ true)
@@ -129,8 +121,8 @@ module _ (c c' : Vertex → Vertex → Vertex → Vertex → Bool) (p : ℕ) (k 
   region_listed part goes closed a ma b gb =
       let va = corners a (t.ordered a (goes a ma).before) in
       let vb = corners b (t.ordered b gb.before) in
-      let r = listed_from part vb.w vb.x vb.y vb.z (second_of (gone c c' vb.w vb.x vb.y vb.z) (is_listed part vb.w vb.x vb.y vb.z) (region c c' (point p) k test symmetric
-      (λ w x y z h. first_of (gone c c' w x y z) (is_listed part w x y z) h) step va.w va.x va.y va.z
+      let r = listed_from part vb.w vb.x vb.y vb.z (second_true (gone c c' vb.w vb.x vb.y vb.z) (is_listed part vb.w vb.x vb.y vb.z) (region c c' (point p) k test symmetric
+      (λ w x y z h. first_true (gone c c' w x y z) (is_listed part w x y z) h) step va.w va.x va.y va.z
       (ap₂ (λ a b. a && b) (goes_test a (goes a ma) va.w va.x va.y va.z va.four va.vertices) (listed_true part va.w va.x va.y va.z a ma va.vertices))
       vb.w vb.x vb.y vb.z (goes_test b gb vb.w vb.x vb.y vb.z vb.four vb.vertices))) in
       subst (λ v. IsIn v part) (same_cell r.q b (t.ordered r.q (goes r.q r.listed).before) (t.ordered b gb.before) vb.w vb.x vb.y vb.z vb.four r.vertices vb.vertices) r.listed
@@ -154,8 +146,8 @@ module _ (c c' : Vertex → Vertex → Vertex → Vertex → Bool) (p : ℕ) (k 
       -- from a cell of the part over the facet t1, t2, t3 to the other that goes
       step : (t1 t2 t3 x y : Vertex) → test t1 t2 t3 x ≡ true → gone c c' t1 t2 t3 y ≡ true → test t1 t2 t3 y ≡ true
       step t1 t2 t3 x y hx hy =
-          let gx = first_of (gone c c' t1 t2 t3 x) (is_listed part t1 t2 t3 x) hx in
-          let q = listed_from part t1 t2 t3 x (second_of (gone c c' t1 t2 t3 x) (is_listed part t1 t2 t3 x) hx) in
+          let gx = first_true (gone c c' t1 t2 t3 x) (is_listed part t1 t2 t3 x) hx in
+          let q = listed_from part t1 t2 t3 x (second_true (gone c c' t1 t2 t3 x) (is_listed part t1 t2 t3 x) hx) in
           let r = test_goes t1 t2 t3 y hy in
           let oq = t.ordered q.q (goes q.q q.listed).before in
           let or = t.ordered r.0 r.1.before in

@@ -32,6 +32,7 @@ made l l' gone fresh m d e s g f x = same_members m l' x.sorted s
 pub decided : (s t : List ℕ) (i : IsSet s) (j : IsSet t) (q : Cell) → IsIn q (complex s) → IsIn q (complex t) ⊎ (IsIn q (complex t) → ⊥)
 decided s t i j q m = decide_listed (cell (set_of t j)) (complex_of (set_of t j)) (complex t) (lists_of t j) q ((lists_of s i).ordered q m)
 
+-- of an insertion
 pub made_by_insertion : MadeByInsertion
 made_by_insertion s p i n gone fresh m g f x =
     let j = more_set s p i.set n.key in

@@ -7,17 +7,20 @@ use Rattle.conv_laws.specs.Lists.{odd, IsIn, HasAnother}
 use Rattle.conv_laws.proofs.Parity.{even_degrees, HasSome, odd_some, another, one_odd, two_even, odd-same}
 use Rattle.del_laws.specs.Cells.{Vertex}
 use Rattle.del_laws.specs.Base.{Symmetric, Symmetric3, Across}
+use Rattle.del_laws.proofs.Tests.{false_if}
 use Rattle.hole_laws.proofs.Tests.{Insertion, gone}
 use Rattle.hole_laws.proofs.Vertices.{cases_vertex}
-use Rattle.hole_laws.proofs.Rims.{across_one, rim_makes_new, not_both, both, both_is, kept_is, without_symmetric}
+use Rattle.hole_laws.proofs.Rims.{across_one, rim_makes_new, both, both_is, kept_is, without_symmetric}
 
 module _ (c c' : Vertex → Vertex → Vertex → Vertex → Bool) (p : Vertex) (k : Insertion c c' p)
     (part : Vertex → Vertex → Vertex → Vertex → Bool) (symmetric : Symmetric part)
     (goes : (w x y z : Vertex) → part w x y z ≡ true → gone c c' w x y z ≡ true)
     (closed : (t1 t2 t3 x y : Vertex) → part t1 t2 t3 x ≡ true → gone c c' t1 t2 t3 y ≡ true → part t1 t2 t3 y ≡ true) where
+  -- the part has cells of the set
   part_cell : (w x y z : Vertex) → part w x y z ≡ true → c w x y z ≡ true
   part_cell w x y z h = (both_is (c w x y z) (c' w x y z) (goes w x y z h)).0
 
+  -- and none of the set with p
   part_new : (w x y z : Vertex) → part w x y z ≡ true → c' w x y z ≡ false
   part_new w x y z h = (both_is (c w x y z) (c' w x y z) (goes w x y z h)).1
 
@@ -25,6 +28,7 @@ module _ (c c' : Vertex → Vertex → Vertex → Vertex → Bool) (p : Vertex) 
   abbrev rim : Vertex → Vertex → Vertex → Bool
   rim t1 t2 t3 = odd (part t1 t2 t3) k.before.vertices
 
+  -- in any order
   rim_symmetric : Symmetric3 rim
   rim_symmetric = record {
     first = λ x y z. odd-same (part x y z) (part y x z) (λ w. symmetric.first x y z w) k.before.vertices;
@@ -33,7 +37,7 @@ module _ (c c' : Vertex → Vertex → Vertex → Vertex → Bool) (p : Vertex) 
 
   -- the only cell of the part on the facet, beside one that stays
   only_gone : (t1 t2 t3 z y : Vertex) → rim t1 t2 t3 ≡ true → part t1 t2 t3 z ≡ true → c t1 t2 t3 y ≡ true → y ≢ z → gone c c' t1 t2 t3 y ≡ false
-  only_gone t1 t2 t3 z y h hz hy n = not_both _ λ g.
+  only_gone t1 t2 t3 z y h hz hy n = false_if _ λ g.
       let hy' = closed t1 t2 t3 z y hz g in
       let a = k.before.laws.across t1 t2 t3 z (part_cell t1 t2 t3 z hz) in
       false≢true (sym (two_even (part t1 t2 t3) y z k.before.vertices k.before.laws.distinct (k.before.laws.listed t1 t2 t3 y hy) (k.before.laws.listed t1 t2 t3 z (part_cell t1 t2 t3 z hz)) n hy' hz
@@ -43,6 +47,7 @@ module _ (c c' : Vertex → Vertex → Vertex → Vertex → Bool) (p : Vertex) 
       two w (inl e) hw = inr e
       two w (inr m) hw = inl (across_one c k.before t1 t2 t3 w y z (part_cell t1 t2 t3 w hw) hy (part_cell t1 t2 t3 z hz) m n)
 
+  -- over an odd facet there is a new cell
   rim_new : (t1 t2 t3 : Vertex) → rim t1 t2 t3 ≡ true → c' t1 t2 t3 p ≡ true
   rim_new t1 t2 t3 h =
       rim_makes_new c c' p k t1 t2 t3 record {
@@ -60,6 +65,7 @@ module _ (c c' : Vertex → Vertex → Vertex → Vertex → Bool) (p : Vertex) 
       a : Across c t1 t2 t3 z.at
       a = k.before.laws.across t1 t2 t3 z.at (part_cell t1 t2 t3 z.at z.holds)
 
+  -- a facet with one cell in the part and one outside is odd
   rim_here : (t1 t2 t3 z y : Vertex) → part t1 t2 t3 z ≡ true → c t1 t2 t3 y ≡ true → y ≢ z → part t1 t2 t3 y ≡ false → rim t1 t2 t3 ≡ true
   rim_here t1 t2 t3 z y hz hy n ny =
       one_odd (part t1 t2 t3) z k.before.vertices k.before.laws.distinct (k.before.laws.listed t1 t2 t3 z hc) hz (λ w i hw.
@@ -79,8 +85,9 @@ module _ (c c' : Vertex → Vertex → Vertex → Vertex → Bool) (p : Vertex) 
           k.before.laws.listed a b z.at x (sym (k.before.laws.symmetric.last a b x z.at) ∙ part_cell a b x z.at z.holds)
 
       none : (y : Vertex) → part a b y y ≡ false
-      none y = not_both _ λ e. false≢true (sym (k.before.laws.apart a b y) ∙ part_cell a b y y e)
+      none y = false_if _ λ e. false≢true (sym (k.before.laws.apart a b y) ∙ part_cell a b y y e)
 
+  -- so the new cells over odd facets are closed across the facets with p
   star_step : (a b x y : Vertex) → c' a b x p ≡ true → rim a b x ≡ true → c' a b y p ≡ true → rim a b y ≡ true
   star_step a b x y hx h hy = same (cases_vertex y x)
     where
@@ -93,6 +100,7 @@ module _ (c c' : Vertex → Vertex → Vertex → Vertex → Bool) (p : Vertex) 
           let o = other_rim a b x h in
           ap (rim a b) (across_one c' k.after a b p y o.at x (s.last a b p y ∙ hy) (s.last a b p o.at ∙ rim_new a b o.at o.holds) (s.last a b p x ∙ hx) n o.differs) ∙ o.holds
 
+  -- so they are all cells at p
   all_rims : (a1 a2 a3 : Vertex) → rim a1 a2 a3 ≡ true → (t1 t2 t3 : Vertex) → c' t1 t2 t3 p ≡ true → rim t1 t2 t3 ≡ true
   all_rims a1 a2 a3 h = k.star rim rim_symmetric a1 a2 a3 (rim_new a1 a2 a3 h) h star_step
 
@@ -144,6 +152,7 @@ module _ (c c' : Vertex → Vertex → Vertex → Vertex → Bool) (p : Vertex) 
           let e = across_one c k.before t1 t2 t3 y z.at x hy (part_cell t1 t2 t3 z.at z.holds) x_cell.0 differs apart in
           absurd (false≢true (sym eb ∙ ap (part t1 t2 t3) e ∙ z.holds))
 
+  -- a closed part that has a cell is all of the region
   pub region : (a1 a2 a3 a4 : Vertex) → part a1 a2 a3 a4 ≡ true → (b1 b2 b3 b4 : Vertex) → gone c c' b1 b2 b3 b4 ≡ true → part b1 b2 b3 b4 ≡ true
   region a1 a2 a3 a4 ha b1 b2 b3 b4 hb = go (part b1 b2 b3 b4) refl
     where

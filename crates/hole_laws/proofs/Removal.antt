@@ -1,45 +1,49 @@
 -- The cells that a removal makes are seen from the points beside the removed one: any solid set between these and the rest will do.
 use Rattle.std.specs.Prelude.{◌≡◌, Bool, true, false, ◌≢◌, ◌⊎◌}
-use Rattle.std.proofs.Common.{refl, sym, ap, ◌∙◌, inl, inr, arith}
+use Rattle.std.proofs.Common.{refl, sym, ap, ◌∙◌, inl, inr}
 use Rattle.std.proofs.lemmas.Bool.{false≢true}
 use Rattle.del_laws.specs.Cells.{Vertex, far}
 use Rattle.del_laws.specs.Base.{Symmetric, Across, Corner, Within, IsVertexOf}
+use Rattle.del_laws.proofs.Tests.{false_if, same_test}
 use Rattle.hole_laws.proofs.Tests.{Insertion, HasRim, AreLinked, IsOpposite, gone}
 use Rattle.del_laws.specs.PointSets.{PointSet, has, solid, cell}
 use Rattle.hole_laws.proofs.Tests.{IsAdd}
 use Rattle.del_laws.proofs.Starred.{base}
 use Rattle.hole_laws.proofs.Vertices.{cases_vertex, first_last, second_last}
-use Rattle.hole_laws.proofs.Rims.{last_apart, across_one, rim_makes_new, new_has_rim, not_both, both, both_is, without_symmetric}
+use Rattle.hole_laws.proofs.Rims.{last_apart, across_one, rim_makes_new, new_has_rim, both, both_is, without_symmetric}
 use Rattle.hole_laws.proofs.Region.{region}
 use Rattle.hole_laws.proofs.Stars as stars
 use Rattle.hole_laws.proofs.FromBase.{complex_of}
 use Rattle.hole_laws.proofs.FromBase as from
 
--- tests that are true together are one
-pub same_tests : (a b : Bool) → (a ≡ true → b ≡ true) → (b ≡ true → a ≡ true) → a ≡ b
-same_tests a b f g = grind arith
-
+-- a cell is symmetric
 symm : (S : PointSet) → Symmetric (cell S)
 symm S = (complex_of S).laws.symmetric
 
 -- S is R with v; T is a solid part of R with all points beside v; U is T with v
 module _ (R S T U : PointSet) (v : Vertex) (a : IsAdd R v S) (b : IsAdd T v U) (st : solid T ≡ true) (within : Within PointSet has T R)
     (beside : (q : Vertex) → q ≢ far → AreLinked (cell S) v q → has T q ≡ true) where
+  -- all four sets are solid
   sr : solid R ≡ true
   sr = base.solid_more T R st within
 
+  -- the set
   ss : solid S ≡ true
   ss = from.solid_add R S v sr a
 
+  -- the small set with v
   su : solid U ≡ true
   su = from.solid_add T U v st b
 
+  -- v comes to the rest
   ins : Insertion (cell R) (cell S) v
   ins = from.insertion R S v sr a
 
+  -- and to the small set
   ins' : Insertion (cell T) (cell U) v
   ins' = from.insertion T U v st b
 
+  -- the small set with v is within the set
   u_in_s : Within PointSet has U S
   u_in_s q h = go (cases_vertex q v)
     where
@@ -47,9 +51,11 @@ module _ (R S T U : PointSet) (v : Vertex) (a : IsAdd R v S) (b : IsAdd T v U) (
       go (inl e) = ap (has S) e ∙ a.present
       go (inr n) = a.same q n ∙ within q (sym (b.same q n) ∙ h)
 
+  -- and has the small set
   t_in_u : Within PointSet has T U
   t_in_u = from.larger T U v b
 
+  -- a vertex beside v is one of the small set
   vertex_t : (q : Vertex) → AreLinked (cell S) v q → IsVertexOf PointSet has T q
   vertex_t q l = go (cases_vertex q far)
     where
@@ -57,10 +63,12 @@ module _ (R S T U : PointSet) (v : Vertex) (a : IsAdd R v S) (b : IsAdd T v U) (
       go (inl e) = inl e
       go (inr n) = inr (beside q n l)
 
+  -- and of the small set with v
   vertex_u : (q : Vertex) → IsVertexOf PointSet has T q → IsVertexOf PointSet has U q
   vertex_u q (inl e) = inl e
   vertex_u q (inr h) = inr (t_in_u q h)
 
+  -- a cell at v in the set is one in the small set with v
   star_down : (t1 t2 t3 : Vertex) → cell S t1 t2 t3 v ≡ true → cell U t1 t2 t3 v ≡ true
   star_down t1 t2 t3 h = base.smaller S U su u_in_s t1 t2 t3 v h
       (vertex_u t1 (vertex_t t1 record { t1 = t2; t2 = t3; cell = sym ((symm S).middle t2 t1 t3 v) ∙ sym ((symm S).first t1 t2 t3 v) ∙ h }))
@@ -68,6 +76,7 @@ module _ (R S T U : PointSet) (v : Vertex) (a : IsAdd R v S) (b : IsAdd T v U) (
       (vertex_u t3 (vertex_t t3 record { t1 = t1; t2 = t2; cell = h }))
       (inr b.present)
 
+  -- and there are no others there
   star_up : (t1 t2 t3 : Vertex) → cell U t1 t2 t3 v ≡ true → cell S t1 t2 t3 v ≡ true
   star_up = stars.star_closed (cell U) (complex_of U) v b.finite (base.star_full U v b.present) (λ t1 t2 t3. cell S t1 t2 t3 v)
       record { first = λ x y z. (symm S).first x y z v; last = λ x y z. (symm S).middle x y z v }
@@ -90,6 +99,7 @@ module _ (R S T U : PointSet) (v : Vertex) (a : IsAdd R v S) (b : IsAdd T v U) (
           go (inr n) = ap (λ q. cell S t1 t2 q v) (across_one (cell U) (complex_of U) t1 t2 v y w.beyond x
               ((symm U).last t1 t2 v y ∙ uy) ((symm U).last t1 t2 v w.beyond ∙ star_down t1 t2 w.beyond hw) ((symm U).last t1 t2 v x ∙ ux) n w.other) ∙ hw
 
+  -- the vertices of a cell that goes are beside v
   vertex_gone : (w x y z : Vertex) → gone (cell R) (cell S) w x y z ≡ true → IsVertexOf PointSet has T z
   vertex_gone w x y z h = go (cases_vertex z far)
     where
@@ -97,9 +107,11 @@ module _ (R S T U : PointSet) (v : Vertex) (a : IsAdd R v S) (b : IsAdd T v U) (
       go (inl e) = inl e
       go (inr n) = inr (beside z n (from.linked R S v sr a w x y z h n))
 
+  -- in any order
   sg : Symmetric (gone (cell R) (cell S))
   sg = without_symmetric (cell R) (cell S) (symm R) (symm S)
 
+  -- a cell that v takes from the rest it takes from the small set
   gone_down : (w x y z : Vertex) → gone (cell R) (cell S) w x y z ≡ true → gone (cell T) (cell U) w x y z ≡ true
   gone_down w x y z h =
       both (cell T w x y z) (cell U w x y z)
@@ -108,7 +120,7 @@ module _ (R S T U : PointSet) (v : Vertex) (a : IsAdd R v S) (b : IsAdd T v U) (
       (vertex_gone w y z x (sym (second_last (gone (cell R) (cell S)) sg w x y z) ∙ h))
       (vertex_gone w x z y (sym (sg.last w x y z) ∙ h))
       (vertex_gone w x y z h))
-      (not_both _ λ u. false≢true (sym g.1 ∙ base.union T U R S st t_in_u within u_in_s cover w x y z u g.0))
+      (false_if _ λ u. false≢true (sym g.1 ∙ base.union T U R S st t_in_u within u_in_s cover w x y z u g.0))
     where
       g : (cell R w x y z ≡ true) × (cell S w x y z ≡ false)
       g = both_is (cell R w x y z) (cell S w x y z) h
@@ -120,6 +132,7 @@ module _ (R S T U : PointSet) (v : Vertex) (a : IsAdd R v S) (b : IsAdd T v U) (
           go (inl e) = inl (ap (has U) e ∙ b.present)
           go (inr n) = inr (sym (a.same q n) ∙ k)
 
+  -- and these are closed among those that it takes there
   gone_closed : (t1 t2 t3 x y : Vertex) → gone (cell R) (cell S) t1 t2 t3 x ≡ true → gone (cell T) (cell U) t1 t2 t3 y ≡ true →
       gone (cell R) (cell S) t1 t2 t3 y ≡ true
   gone_closed t1 t2 t3 x y hx hy = go (cases_vertex y x) (cell S t1 t2 t3 w.beyond) refl
@@ -154,7 +167,7 @@ module _ (R S T U : PointSet) (v : Vertex) (a : IsAdd R v S) (b : IsAdd T v U) (
   pub removal : (w x y z : Vertex) → gone (cell T) (cell U) w x y z ≡ gone (cell R) (cell S) w x y z
   removal w x y z =
       let m = ins.met in
-      same_tests (gone (cell T) (cell U) w x y z) (gone (cell R) (cell S) w x y z)
+      same_test (gone (cell T) (cell U) w x y z) (gone (cell R) (cell S) w x y z)
       (region (cell T) (cell U) v ins' (gone (cell R) (cell S)) sg gone_down gone_closed
       m.t1 m.t2 m.t3 m.rim.lost (both (cell R m.t1 m.t2 m.t3 m.rim.lost) (cell S m.t1 m.t2 m.t3 m.rim.lost) m.rim.lost_before m.rim.lost_after) w x y z)
       (gone_down w x y z)

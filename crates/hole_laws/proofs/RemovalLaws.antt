@@ -156,32 +156,38 @@ module _ (s : List ℕ) (v : ℕ) (i : IsSet s) (m : IsIn v s) where
   back : (law : List ℕ → Type 0) → law s → law (with_point v (without_point v s))
   back law h = subst law (sym (restored v s i m)) h
 
+-- the cells of the rest
 pub cells_of_rest : CellsOfRest
 cells_of_rest s v i m h q =
     moved s v i m (λ x. IsIn q (complex (without_point v s)) ↔ ((IsIn q (complex x) × ¬ (IsIn v (points_of q))) ⊎ Goes (complex (without_point v s)) (complex x) q))
     (rest_cells (without_point v s) v (rest_set v s i) (rest_new v s i m) h q)
 
+-- the cells that come, from the link
 pub refilled_from_link : RefilledFromLink
 refilled_from_link s v t i m k q =
     moved s v i m (λ x. Goes (complex (without_point v s)) (complex x) q ↔ GoesFrom t v q)
     (refilled (without_point v s) v (rest_set v s i) (rest_new v s i m) t k.solid k.inside (back s v i m (λ x. (e : ℕ) → e ≢ v → AreJoined (complex x) v e → IsIn e t) k.link) q)
 
+-- their points are in the link
 pub coming_are_near : ComingAreNear
 coming_are_near s v i m h =
     moved s v i m (λ x. (q : Cell) → Goes (complex (without_point v s)) (complex x) q → (e : ℕ) → IsIn e (points_of q) → AreJoined (complex x) v e)
     (coming_near (without_point v s) v (rest_set v s i) (rest_new v s i m) h)
 
+-- a solid rest shows near by
 pub solid_near : SolidNear
 solid_near s v t i m j h link across =
     solid_shows (without_point v s) v (rest_set v s i) (rest_new v s i m) t j h
     (back s v i m (λ x. (e : ℕ) → e ≢ v → AreJoined (complex x) v e → IsIn e t) link)
     (back s v i m (λ x. (e : ℕ) → IsAcross x v e → IsIn e t) across)
 
+-- a flat rest is in the link
 pub flat_rest_joined : FlatRestJoined
 flat_rest_joined s v i m f =
     moved s v i.set m (λ x. (e : ℕ) → IsIn e (without_point v s) → AreJoined (complex x) v e)
     (flat_joined (without_point v s) v (rest_set v s i.set) (rest_new v s i.set m) (back s v i.set m (λ x. is_solid x ≡ true) i.solid) f)
 
+-- the list of the rest, from that of the set
 pub made_by_removal : MadeByRemoval
 made_by_removal s v i m h gone fresh l g f x =
     let j = rest_set v s i in

@@ -9,10 +9,6 @@ use Rattle.hole_laws.proofs.Vertices.{cases_vertex}
 
 -- ---- tests with two answers
 
--- a test that is not true is false
-pub not_both : (b : Bool) → (b ≡ true → ⊥) → b ≡ false
-not_both b h = grind arith
-
 -- the one and not the other
 pub both : (a b : Bool) → a ≡ true → b ≡ false → (a && not b) ≡ true
 both a b h k = grind arith

@@ -5,10 +5,10 @@ use Rattle.std.proofs.lemmas.Bool.{false≢true}
 use Rattle.del_laws.specs.Cells.{Vertex, far}
 use Rattle.del_laws.specs.Base.{Symmetric}
 use Rattle.del_laws.specs.PointSets.{PointSet, solid, cell}
-use Rattle.del_laws.proofs.Tests.{same_test}
+use Rattle.del_laws.proofs.Tests.{same_test, false_if}
 use Rattle.hole_laws.proofs.Tests.{IsAdd, IsAtGone, gone}
 use Rattle.hole_laws.proofs.Vertices.{cases_vertex, first_last, second_last}
-use Rattle.hole_laws.proofs.Rims.{last_apart, absent_all, new_has_rim, not_both, both, both_is, without_symmetric}
+use Rattle.hole_laws.proofs.Rims.{last_apart, absent_all, new_has_rim, both, both_is, without_symmetric}
 use Rattle.hole_laws.proofs.Region.{region}
 use Rattle.hole_laws.proofs.FromBase.{complex_of}
 use Rattle.hole_laws.proofs.FromBase as from
@@ -31,7 +31,7 @@ goes_is S T w x y z h = both_is (cell S w x y z) (cell T w x y z) h
 
 -- and back
 pub to_goes : (S T : PointSet) (w x y z : Vertex) → cell S w x y z ≡ true → (cell T w x y z ≡ true → ⊥) → goes S T w x y z ≡ true
-to_goes S T w x y z h n = both (cell S w x y z) (cell T w x y z) h (not_both _ n)
+to_goes S T w x y z h n = both (cell S w x y z) (cell T w x y z) h (false_if _ n)
 
 -- a facet has a point
 pub facet_point : (S : PointSet) (t1 t2 t3 x : Vertex) → cell S t1 t2 t3 x ≡ true → (t3 ≢ far) ⊎ (t2 ≢ far)

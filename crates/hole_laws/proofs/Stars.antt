@@ -8,6 +8,7 @@ use Rattle.hole_laws.proofs.Vertices.{cases_vertex, first_last, second_last}
 use Rattle.hole_laws.proofs.Rims.{last_apart}
 
 module _ (c : Vertex → Vertex → Vertex → Vertex → Bool) (k : IsComplex c) where
+  -- the cell across the triple of an Open cell is Full
   open_full : (x y z w : Vertex) → c x y z far ≡ true → w ≢ far → AreFinite x y z w
   open_full x y z w h n = let a = last_apart c k x y z far h in
       record { finite1 = λ e. a.2 (sym e); finite2 = λ e. a.1 (sym e); finite3 = λ e. a.0 (sym e); finite4 = n }

@@ -48,12 +48,13 @@ CellsAfter =
     (s : List ℕ) (p : ℕ) → IsSolidSet s → IsNew s p →
     (q : Cell) → IsIn q (complex (with_point p s)) ↔ (StaysFrom s p q ⊎ IsFresh s p q)
 
--- the cells of p and a rim facet have p, and no cell of the set had it
+-- the latter are its cells that have p
 abbrev pub FreshHavePoint : Type 0
 FreshHavePoint =
     (s : List ℕ) (p : ℕ) → IsSolidSet s → IsNew s p →
     (q : Cell) → IsIn q (complex (with_point p s)) → IsFresh s p q ↔ IsIn p (points_of q)
 
+-- no cell of the set has it
 abbrev pub OldLackPoint : Type 0
 OldLackPoint = (s : List ℕ) (p : ℕ) → IsSolidSet s → IsNew s p → (q : Cell) → IsIn q (complex s) → ¬ (IsIn p (points_of q))
 
