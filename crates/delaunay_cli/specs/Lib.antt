@@ -1,1 +1,5 @@
 pub mod Trial
+pub mod Report
+pub mod Statuses
+pub mod Run
+pub mod Endings

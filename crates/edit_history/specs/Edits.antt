@@ -1,5 +1,5 @@
 -- What an edit answers, and the set that it leaves. A set of points is an ascending list of keys.
-use Rattle.std.specs.Prelude.{ℕ, Bool, List, if◌then◌else◌}
+use Rattle.std.specs.Prelude.{ℕ, List, if◌then◌else◌}
 use Rattle.point_order.specs.Sets.{is_among, with_point, without_point}
 use Rattle.point_order.specs.Solid.{is_solid}
 use Rattle.edit_history.specs.declared.history.Edit.{Edit}

@@ -5,5 +5,12 @@
 #![tactic(auto)]
 
 mod history;
+pub mod laws;
+mod one_thread;
+pub mod opening;
+mod point_set;
 
 pub use history::{Edit, Entry, Reply};
+pub use one_thread::History;
+pub use opening::{NotSolid, find_four};
+pub use point_set::PointSet;

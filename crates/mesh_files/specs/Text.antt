@@ -58,7 +58,7 @@ order_block None = []
 order_block (Some tags) = block (codes "order") (map tag_line tags)
 
 -- the text of a report, version 1
-abbrev pub report_text : ReportParts → List ℕ
+unfoldable pub report_text : ReportParts → List ℕ
 report_text r =
     codes "mesh3-out 1\n"
     ++ block (codes "replies") (map reply_line r.replies)

@@ -4,4 +4,4 @@
 mod lines;
 pub mod report;
 
-pub use report::{Put, Report};
+pub use report::{Put, Report, mesh_text, put_report};

@@ -1,10 +1,28 @@
--- Where an orientation is 0 by a repeated point, and the in-sphere polynomial by squares of distances.
-use Rattle.std.specs.Prelude.{ℕ, pos, ◌≡◌, ◌+ℤ◌, ◌-ℤ◌, ◌*ℤ◌, [], ◌∷◌}
-use Rattle.whole_ring.specs.Poly.{lit, ◌⊕◌, ◌⊖◌, ◌⊗◌}
+-- How orientations change where points are exchanged or repeated, and the in-sphere polynomial by squares of distances.
+use Rattle.std.specs.Prelude.{ℕ, pos, neg_ℤ, ◌≡◌, ◌+ℤ◌, ◌-ℤ◌, ◌*ℤ◌, [], ◌∷◌}
+use Rattle.whole_ring.specs.Poly.{lit, minus, ◌⊕◌, ◌⊖◌, ◌⊗◌}
 use Rattle.whole_ring.proofs.Ring.{ring}
 use Rattle.point_order.specs.Orientation.{x_from, y_from, z_from, minor, triple, orientation, square_of_step, distance}
 use Rattle.point_order.specs.Heights.{square_of, lifted, sphere_polynomial}
 use Rattle.point_order.proofs.Written.{coordinates, orientation_w, distance_w, sphere_w}
+
+-- an exchange of the first two points turns the sign of an orientation
+pub swap-first : (a b c d : ℕ) → orientation b a c d ≡ neg_ℤ (orientation a b c d)
+unfolding orientation triple minor x_from y_from z_from
+swap-first a b c d =
+    ring (orientation_w 1 0 2 3) (minus (orientation_w 0 1 2 3)) (coordinates (a ∷ b ∷ c ∷ d ∷ [])) tt
+
+-- an exchange of the middle two turns it
+pub swap-middle : (a b c d : ℕ) → orientation a c b d ≡ neg_ℤ (orientation a b c d)
+unfolding orientation triple minor x_from y_from z_from
+swap-middle a b c d =
+    ring (orientation_w 0 2 1 3) (minus (orientation_w 0 1 2 3)) (coordinates (a ∷ b ∷ c ∷ d ∷ [])) tt
+
+-- an exchange of the last two turns it
+pub swap-last : (a b c d : ℕ) → orientation a b d c ≡ neg_ℤ (orientation a b c d)
+unfolding orientation triple minor x_from y_from z_from
+swap-last a b c d =
+    ring (orientation_w 0 1 3 2) (minus (orientation_w 0 1 2 3)) (coordinates (a ∷ b ∷ c ∷ d ∷ [])) tt
 
 -- the orientation is 0 where the last point is the first
 pub last-first : (a b c : ℕ) → orientation a b c a ≡ pos 0

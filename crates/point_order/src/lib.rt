@@ -12,3 +12,6 @@ mod step;
 pub use cell::{Cell, Facet, Pair, Quad, Tri};
 pub use point::{OutOfRange, Point};
 pub use step::{Normal, Step};
+
+#[cfg(test)]
+mod tests;

@@ -1,0 +1,23 @@
+use Rattle.std.proofs.Common.{◌≡◌, ◌∙◌, ap, refl}
+use Rattle.delaunay_cli.proofs.Judging.{completes, told-line}
+use Rattle.delaunay_cli.specs.Endings.{line_of}
+use Rattle.delaunay_cli.specs.Run.{AreMesh}
+use Rattle.byte_ends.specs.Ends.{Rose}
+use Rattle.delaunay_cli.proofs.top.run.Goals as goal
+
+pub returns-clause-told : goal.returns-clause-told
+returns-clause-told g c =
+    record {
+      line = line_of c.work-ended.result;
+      is_line = told-line (g.S.Source.left c.args.src.now) c.work-ended.result c.work-ended.ensures.named c.work-ended.ensures.unnamed;
+      front = c.tell.ensures.front;
+      whole = c.tell.ensures.whole;
+    }
+
+pub returns-clause-complete : goal.returns-clause-complete
+returns-clause-complete g c =
+    λ words.
+    completes (AreMesh c.args.words.now) (g.S.Source.left c.args.src.now) c.work-ended.result.run.status
+    (Rose (g.S.Source.faults c.args.src.now) (g.S.Source.faults c.work-ended.new.src)) (Rose (g.O.Sink.faults c.args.out.now) (g.O.Sink.faults c.work-ended.new.out))
+    c.work-ended.ensures.statuses (c.work-ended.ensures.usage).0 c.work-ended.ensures.read_fault c.work-ended.ensures.write_fault
+    c.work-ended.ensures.too_long c.work-ended.ensures.bad_line c.work-ended.ensures.not_solid words

@@ -1,0 +1,62 @@
+-- The promise of a run.
+use Rattle.std.specs.Prelude.{◌≡◌, ◌≢◌, ◌⊎◌, ◌↔◌, ◌+◌, ◌≤◌, ◌<◌, ℕ, List, [], ◌∷◌, ◌++◌, length, map, codes, true, false, Option, IfSome}
+use Rattle.std.specs.Prelude.{string_bytes}
+use Rattle.std.specs.Prelude.{String}
+use Rattle.std.specs.declared.alloc.Global.{Global}
+use Rattle.std.specs.Io.KnownBytes.{Appends, Consumes, Keeps, IsAtEnd}
+use Rattle.byte_ends.specs.Ends.{AppendsFront}
+use Rattle.point_order.specs.Solid.{is_solid}
+use Rattle.edit_history.specs.declared.history.Entry.{Entry}
+use Rattle.edit_history.specs.OneThread.{one_thread}
+use Rattle.edit_files.specs.Content.{Content}
+use Rattle.edit_files.specs.Grammar.{line_limit, IsFile}
+use Rattle.edit_files.specs.Faults.{IsFault}
+use Rattle.edit_files.specs.declared.fault.Fault.{Fault}
+use Rattle.delaunay_cli.specs.Report.{text_of}
+use Rattle.delaunay_cli.specs.Statuses.{IsEarly}
+
+-- how many bytes an input may have: 16,777,216
+abbrev pub input_limit : ℕ
+input_limit = 16777216
+
+-- the words are the program's name and `mesh`
+abbrev pub AreMesh : List (String Global) → Type 0
+AreMesh words = (name : List ℕ) × (map string_bytes words ≡ name ∷ codes "mesh" ∷ [])
+
+-- how many point and edit lines a file has
+abbrev pub line_count : Content → ℕ
+line_count file = length file.points + length file.edits
+
+-- the history of one thread that makes the file's lines its edits
+abbrev pub history_of : Content → List Entry
+history_of file = one_thread file.points file.edits
+
+-- Bytes that were taken of a source, one more than the limit at most; all that it told, unless it was left early.
+pub record Reads (left_old left_new : Option (List ℕ)) (status : ℕ) : Type 0 where
+  pub taken : List ℕ
+  pub consumed : Consumes left_old left_new taken
+  pub within : length taken ≤ input_limit + 1
+  pub whole : (IsEarly status → ⊥) → IsAtEnd left_new ⊎ (length taken ≡ input_limit + 1)
+
+-- the output gained the text of the file that the bytes are, and of the history
+abbrev pub Writes : List ℕ → Option (List ℕ) → Option (List ℕ) → List Entry → Type 0
+Writes bytes old new kept =
+    (file : Content) × IsFile line_limit bytes file × Appends old new (text_of (line_count file) kept)
+
+-- the output gained a front of it
+abbrev pub WritesFront : List ℕ → Option (List ℕ) → Option (List ℕ) → List Entry → Type 0
+WritesFront bytes old new kept =
+    (file : Content) × IsFile line_limit bytes file × AppendsFront old new (text_of (line_count file) kept)
+
+-- the bytes are a solid file within the limit
+abbrev pub IsSolidFile : List ℕ → Type 0
+IsSolidFile bytes =
+    (length bytes ≤ input_limit) × ((file : Content) × IsFile line_limit bytes file × (is_solid file.points ≡ true))
+
+-- the bytes are no file, and have a fault
+abbrev pub HasFault : List ℕ → Type 0
+HasFault bytes = (fault : Fault) × IsFault line_limit bytes fault
+
+-- a status of a run that has read its input whole
+abbrev pub IsJudged : ℕ → Type 0
+IsJudged status = (status ≡ 0) ⊎ (status ≡ 1) ⊎ (status ≡ 4) ⊎ (status ≡ 5) ⊎ (status ≡ 6)

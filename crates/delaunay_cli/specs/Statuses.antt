@@ -1,0 +1,57 @@
+-- The statuses of a run, and the line that each has on standard error.
+use Rattle.std.specs.Prelude.{◌≡◌, ◌≢◌, ◌⊎◌, ℕ, ◌==◌, List, [], ◌++◌, codes, decimal, Option, IfSome, if◌then◌else◌}
+use Rattle.edit_files.specs.declared.fault.Why.{Why}
+use Rattle.edit_files.specs.declared.fault.Why.TheVariants.{Section, Field, Range, TooMany, Truncated}
+use Rattle.edit_files.specs.declared.fault.Fault.{Fault}
+use Rattle.std.specs.Io.KnownBytes.{Appends}
+use Rattle.byte_ends.specs.Ends.{AppendsFront, Rose}
+use Rattle.edit_files.specs.Grammar.{line_limit}
+use Rattle.edit_files.specs.Faults.{IsFault}
+
+-- the run ended before the input was read to its end or its limit: for want of memory, for its words, or by a fault of the source
+abbrev pub IsEarly : ℕ → Type 0
+IsEarly status = (status ≡ 1) ⊎ (status ≡ 2) ⊎ (status ≡ 3)
+
+-- the line of a status other than 5
+abbrev pub plain_line : ℕ → List ℕ
+plain_line status =
+    if status == 1 then codes "delaunay: out of memory\n"
+    else (if status == 2 then codes "delaunay: usage\n"
+    else (if status == 3 then codes "delaunay: read fault\n"
+    else (if status == 4 then codes "delaunay: write fault\n"
+    else (if status == 6 then codes "delaunay: no four independent points\n"
+    else (if status == 7 then codes "delaunay: input too long\n"
+    else [])))))
+
+abbrev pub why_word : Why → List ℕ
+why_word Section = codes "Section"
+why_word Field = codes "Field"
+why_word Range = codes "Range"
+why_word TooMany = codes "TooMany"
+why_word Truncated = codes "Truncated"
+
+-- the line of status 5: the number of the bad line, from 1, and why it is bad
+abbrev pub fault_line : Fault → List ℕ
+fault_line fault = codes "delaunay: line " ++ decimal fault.line ++ codes ": " ++ why_word fault.why ++ codes "\n"
+
+-- it is the line of the fault of these bytes
+abbrev pub TellsFault : List ℕ → List ℕ → Type 0
+TellsFault bytes line = (fault : Fault) × (line ≡ fault_line fault) × IsFault line_limit bytes fault
+
+-- the line of a fault, and where the source told its bytes, of their fault
+pub record IsFaultLine (left : Option (List ℕ)) (line : List ℕ) : Type 0 where
+  pub fault : Fault
+  pub line_is : line ≡ fault_line fault
+  pub cause : IfSome left (λ bytes. IsFault line_limit bytes fault)
+
+-- The line that a run tells at its end, where the source had these bytes left, if it tells them.
+pub record IsToldLine (left : Option (List ℕ)) (status : ℕ) (line : List ℕ) : Type 0 where
+  pub plain : status ≢ 5 → line ≡ plain_line status
+  pub bad : status ≡ 5 → IsFaultLine left line
+
+-- a front of that line was told, and all of it where the count of faults did not rise
+pub record Tells (left old new : Option (List ℕ)) (faults_old faults_new status : ℕ) : Type 0 where
+  pub line : List ℕ
+  pub is_line : IsToldLine left status line
+  pub front : AppendsFront old new line
+  pub whole : (Rose faults_old faults_new → ⊥) → Appends old new line

@@ -1,0 +1,178 @@
+//! The top call.
+
+ghost use Rattle.std.specs.Prelude.{◌≡◌, ◌≢◌, ◌⊎◌, ◌↔◌, ◌≤◌, ◌<◌, ℕ, List, [], ◌++◌, false, length, None, IfSome, IsSomeAnd};
+ghost use Rattle.std.specs.Io.KnownBytes.{Appends, Keeps, IsAtEnd};
+ghost use Rattle.byte_ends.specs.Ends.{AppendsFront, Rose};
+ghost use Rattle.point_order.specs.Solid.{is_solid};
+ghost use Rattle.edit_files.specs.Content.{Content};
+ghost use Rattle.edit_files.specs.Grammar.{line_limit, IsFile};
+ghost use Rattle.delaunay_cli.specs.Statuses.{IsEarly, IsFaultLine, Tells, TellsFault};
+ghost use Rattle.delaunay_cli.specs.Run.{AreMesh, HasFault, IsJudged, Reads, Writes, WritesFront, IsSolidFile, history_of, input_limit};
+ghost use Rattle.delaunay_cli.specs.Endings.{line_of};
+
+use crate::mesh::mesh;
+use crate::outcome::Run;
+use crate::telling::{fault_line, plain_line};
+use crate::words::are_mesh;
+use byte_ends::{Reached, ReadError, Sink, Source, read_to_limit, write_all};
+use edit_files::{ReadRefused, read_file};
+use std::alloc::Global;
+
+// One more byte than an input may have.
+const TOO_MANY: usize = 16_777_217;
+
+// How a run ended, and the line to be told on status 5.
+#[derive(Drop)]
+struct Ended {
+    run: Run,
+    bad_line: Option<Vec<u8>>,
+}
+
+// Judges the bytes of a file, and writes the report of its mesh.
+fn judge<O: Sink>(alloc: Global, bytes: &[u8], out: &mut O) -> Ended
+    ensures statuses { IsJudged result.run.status }
+    ensures bad { result.run.status ≢ 1 → (result.run.status ≡ 5 ↔ HasFault bytes.now) }
+    ensures named { result.run.status ≡ 5 → IsSomeAnd result.bad_line (λ line. TellsFault bytes.now line.items) }
+    ensures unnamed { result.run.status ≢ 5 → result.bad_line ≡ None }
+    ensures not_solid { result.run.status ≢ 1 → (file : Content) → IsFile line_limit bytes.now file
+        → (result.run.status ≡ 6 ↔ (is_solid file.points ≡ false)) }
+    ensures kept { (result.run.status ≡ 0) ⊎ (result.run.status ≡ 4) → (file : Content) → IsFile line_limit bytes.now file
+        → result.run.kept.items ≡ history_of file }
+    ensures none_kept { result.run.status ≢ 0 → result.run.status ≢ 4 → result.run.kept.items ≡ [] }
+    ensures written { result.run.status ≡ 0 → Writes bytes.now (O.holds out.old) (O.holds out.new) result.run.kept.items }
+    ensures front { result.run.status ≡ 4 → WritesFront bytes.now (O.holds out.old) (O.holds out.new) result.run.kept.items }
+    ensures nothing { result.run.status ≢ 0 → result.run.status ≢ 4 → Keeps (O.holds out.old) (O.holds out.new) }
+    ensures later { O.faults out.old ≤ O.faults out.new }
+    ensures fault { result.run.status ≡ 4 → Rose (O.faults out.old) (O.faults out.new) }
+{
+    match read_file(alloc, bytes) {
+        Ok(file) => Ended {
+            run: mesh(alloc, &file, out),
+            bad_line: None,
+        },
+        Err(ReadRefused::Memory) => Ended {
+            run: Run::ended(alloc, 1),
+            bad_line: None,
+        },
+        Err(ReadRefused::Bad(fault)) => match fault_line(alloc, fault) {
+            Ok(line) => Ended {
+                run: Run::ended(alloc, 5),
+                bad_line: Some(line),
+            },
+            Err(_) => Ended {
+                run: Run::ended(alloc, 1),
+                bad_line: None,
+            },
+        },
+    }
+}
+
+// Reads the source, and does what the words ask for.
+fn work<S: Source, O: Sink>(alloc: Global, words: &[String], src: &mut S, out: &mut O) -> Ended
+    ensures statuses { result.run.status ≤ 7 }
+    ensures usage { result.run.status ≡ 2 ↔ (AreMesh words.now → ⊥) }
+    ensures read_fault { result.run.status ≡ 3 → Rose (S.faults src.old) (S.faults src.new) }
+    ensures write_fault { result.run.status ≡ 4 → Rose (O.faults out.old) (O.faults out.new) }
+    ensures too_long { (IsEarly result.run.status → ⊥)
+        → IfSome (S.left src.old) (λ bytes. result.run.status ≡ 7 ↔ (input_limit < length bytes)) }
+    ensures bad_line { (IsEarly result.run.status → ⊥) → result.run.status ≢ 7
+        → IfSome (S.left src.old) (λ bytes. result.run.status ≡ 5 ↔ HasFault bytes) }
+    ensures named { result.run.status ≡ 5
+        → IsSomeAnd result.bad_line (λ line. IsFaultLine (S.left src.old) line.items) }
+    ensures unnamed { result.run.status ≢ 5 → result.bad_line ≡ None }
+    ensures not_solid { (IsEarly result.run.status → ⊥) → result.run.status ≢ 7
+        → IfSome (S.left src.old) (λ bytes. (file : Content) → IsFile line_limit bytes file
+        → (result.run.status ≡ 6 ↔ (is_solid file.points ≡ false))) }
+    ensures kept { (result.run.status ≡ 0) ⊎ (result.run.status ≡ 4)
+        → IfSome (S.left src.old) (λ bytes. (file : Content) → IsFile line_limit bytes file
+        → result.run.kept.items ≡ history_of file) }
+    ensures none_kept { result.run.status ≢ 0 → result.run.status ≢ 4 → result.run.kept.items ≡ [] }
+    ensures written { result.run.status ≡ 0
+        → IfSome (S.left src.old) (λ bytes. Writes bytes (O.holds out.old) (O.holds out.new) result.run.kept.items) }
+    ensures front { result.run.status ≡ 4
+        → IfSome (S.left src.old) (λ bytes. WritesFront bytes (O.holds out.old) (O.holds out.new) result.run.kept.items) }
+    ensures nothing { result.run.status ≢ 0 → result.run.status ≢ 4 → Keeps (O.holds out.old) (O.holds out.new) }
+    ensures reads { Reads (S.left src.old) (S.left src.new) result.run.status }
+    ensures to_its_end { result.run.status ≡ 0 → IsAtEnd (S.left src.new) }
+{
+    if !are_mesh(words) {
+        return Ended {
+            run: Run::ended(alloc, 2),
+            bad_line: None,
+        };
+    }
+    let mut bytes = Vec::new(alloc);
+    let status = match read_to_limit(src, TOO_MANY, &mut bytes) {
+        Ok(Reached::End) => return judge(alloc, &bytes, out),
+        Ok(Reached::Limit) => 7,
+        Err(ReadError::Fault) => 3,
+        Err(ReadError::Memory) => 1,
+    };
+    Ended {
+        run: Run::ended(alloc, status),
+        bad_line: None,
+    }
+}
+
+/// Reads an edit file from `src`, writes the report of its mesh to `out`, and tells in one line on `err` what went wrong.
+///
+/// `rt` is the runtime, and `words` are those of the command line: the program's name and `mesh`.
+pub fn run<R, S: Source, O: Sink, E: Sink>(
+    _rt: &R,
+    alloc: Global,
+    words: &[String],
+    src: &mut S,
+    out: &mut O,
+    err: &mut E,
+) -> Run
+    ensures statuses { result.status ≤ 7 }
+
+    // Each status comes exactly with its cause; want of memory (1) alone is free.
+    ensures usage { result.status ≡ 2 ↔ (AreMesh words.now → ⊥) }
+    ensures read_fault { result.status ≡ 3 → Rose (S.faults src.old) (S.faults src.new) }
+    ensures write_fault { result.status ≡ 4 → Rose (O.faults out.old) (O.faults out.new) }
+    ensures too_long { (IsEarly result.status → ⊥)
+        → IfSome (S.left src.old) (λ bytes. result.status ≡ 7 ↔ (input_limit < length bytes)) }
+    ensures bad_line { (IsEarly result.status → ⊥) → result.status ≢ 7
+        → IfSome (S.left src.old) (λ bytes. result.status ≡ 5 ↔ HasFault bytes) }
+    ensures not_solid { (IsEarly result.status → ⊥) → result.status ≢ 7
+        → IfSome (S.left src.old) (λ bytes. (file : Content) → IsFile line_limit bytes file
+        → (result.status ≡ 6 ↔ (is_solid file.points ≡ false))) }
+
+    // What is kept, read, written and told.
+    ensures kept { (result.status ≡ 0) ⊎ (result.status ≡ 4)
+        → IfSome (S.left src.old) (λ bytes. (file : Content) → IsFile line_limit bytes file
+        → result.kept.items ≡ history_of file) }
+    ensures none_kept { result.status ≢ 0 → result.status ≢ 4 → result.kept.items ≡ [] }
+    ensures written { result.status ≡ 0
+        → IfSome (S.left src.old) (λ bytes. Writes bytes (O.holds out.old) (O.holds out.new) result.kept.items) }
+    ensures front { result.status ≡ 4
+        → IfSome (S.left src.old) (λ bytes. WritesFront bytes (O.holds out.old) (O.holds out.new) result.kept.items) }
+    ensures nothing { result.status ≢ 0 → result.status ≢ 4 → Keeps (O.holds out.old) (O.holds out.new) }
+    ensures reads { Reads (S.left src.old) (S.left src.new) result.status }
+    ensures to_its_end { result.status ≡ 0 → IsAtEnd (S.left src.new) }
+    ensures told { Tells (S.left src.old) (E.holds err.old) (E.holds err.new) (E.faults err.old) (E.faults err.new) result.status }
+
+    // A solid file within the limit is meshed, unless memory is wanting or the source or the output fails.
+    ensures complete { AreMesh words.now
+        → IfSome (S.left src.old) (λ bytes. IsSolidFile bytes
+        → (Rose (S.faults src.old) (S.faults src.new) → ⊥) → (Rose (O.faults out.old) (O.faults out.new) → ⊥)
+        → (result.status ≡ 0) ⊎ (result.status ≡ 1)) }
+{
+    let ended = work(alloc, words, src, out);
+    tell(err, &ended);
+    let Run { status, kept } = ended.run;
+    Run { status, kept }
+}
+
+// Writes the line of the end. A failed write changes nothing else.
+fn tell<E: Sink>(err: &mut E, ended: &Ended)
+    ensures front { AppendsFront (E.holds err.old) (E.holds err.new) (line_of ended.now) }
+    ensures whole { (Rose (E.faults err.old) (E.faults err.new) → ⊥)
+        → Appends (E.holds err.old) (E.holds err.new) (line_of ended.now) }
+{
+    let _ = match &ended.bad_line {
+        Some(line) => write_all(err, line),
+        None => write_all(err, plain_line(ended.run.status).as_bytes()),
+    };
+}

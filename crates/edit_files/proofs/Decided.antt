@@ -1,0 +1,233 @@
+-- What is read of a line is what the line says, and a line that is not read is not of its form or out of range.
+use Rattle.std.proofs.Common.{◌≡◌, ℕ, ◌+◌, ◌*◌, ◌<◌, Bool, true, false, cond, eqb, ltb, ◌⊎◌, List, [], ◌∷◌, ◌++◌, Option, Some, None, Result, Ok, Err, refl, sym, ap, subst, ◌∙◌, arith, inl, inr, append_assoc}
+use Rattle.std.specs.List.{AllByRecursion, join_with_byte}
+use Rattle.std.specs.Str.Parse.{AllDigits}
+use Rattle.std.proofs.lemmas.Bool.{cases_lt, ne_eqb, eqb-true, lt-ltb, le-ltb}
+use Rattle.std.proofs.lemmas.Str.Parse.{digit_from_value}
+use Rattle.std.proofs.lemmas.List.Splits.{join_with_byte-slice_split}
+use Rattle.point_order.specs.Coordinates.{x_of, y_of, z_of}
+use Rattle.edit_files.specs.declared.fault.Why.{Why}
+use Rattle.edit_files.specs.declared.fault.Why.TheVariants.{Field, Range}
+use Rattle.edit_files.specs.Numbers.{IsNumber}
+use Rattle.edit_files.specs.Forms.{spaced, HasPointForm, IsPointLine}
+use Rattle.edit_files.specs.Judging.{number, point, point_at, point_from, point_from_fields, fields_of}
+use Rattle.edit_files.proofs.Values.{number-read, number-some, number-of, of-number, reading}
+use Rattle.edit_files.proofs.Points.{point_at-own, coordinate-below}
+
+-- A function reads the lines of a list, and says where one is not of its form or out of range.
+pub record Decides {A : Type 0} (read : List ℕ → Result A Why) (Says : List ℕ → A → Type 0) (Form : List ℕ → Type 0) : Type 0 where
+  pub sound : (line : List ℕ) (a : A) → read line ≡ Ok a → Says line a
+  pub complete : (line : List ℕ) (a : A) → Says line a → read line ≡ Ok a
+  pub field : (line : List ℕ) → read line ≡ Err Field → Form line → ⊥
+  pub range : (line : List ℕ) → read line ≡ Err Range → Form line
+  pub only : (line : List ℕ) (why : Why) → read line ≡ Err why → (why ≡ Field) ⊎ (why ≡ Range)
+
+-- ---- fields
+
+abbrev pub HasNoSpace : List ℕ → Type 0
+HasNoSpace bs = AllByRecursion (λ b. eqb b 32 ≡ false) bs
+
+fields-front : (x rest : List ℕ) → HasNoSpace x → fields_of (x ++ 32 ∷ rest) ≡ x ∷ fields_of rest
+fields-front [] rest h = refl
+fields-front (b ∷ bs) rest h = let e = fields-front bs rest h.1 in let f : eqb b 32 ≡ false = h.0 in rw (f, e) refl
+
+fields-last : (x : List ℕ) → HasNoSpace x → fields_of x ≡ x ∷ []
+fields-last [] h = refl
+fields-last (b ∷ bs) h = let e = fields-last bs h.1 in let f : eqb b 32 ≡ false = h.0 in rw (f, e) refl
+
+digits-no_space : (ds : List ℕ) → AllDigits 10 ds → HasNoSpace ds
+digits-no_space [] h = tt
+digits-no_space (c ∷ cs) h = (let w = digit_from_value c h.0 in ne_eqb c 32 (λ e. absurd (omega (arith, w.0))), digits-no_space cs h.1)
+
+signed-no_space : (t : Bool) (b : ℕ) (bs : List ℕ) → (t ≡ true → b ≡ 45) → AllDigits 10 (cond t bs (b ∷ bs)) → HasNoSpace (b ∷ bs)
+signed-no_space true b bs h all = (ne_eqb b 32 (λ e. absurd (omega (arith, h refl))), digits-no_space bs all)
+signed-no_space false b bs h all = digits-no_space (b ∷ bs) all
+
+number-no_space : (bs : List ℕ) → IsNumber bs → HasNoSpace bs
+number-no_space [] h = tt
+number-no_space (b ∷ bs) h = signed-no_space (eqb b 45) b bs (eqb-true b 45) h.1
+
+three_fields : (x y z : List ℕ) → IsNumber x → IsNumber y → IsNumber z → fields_of (spaced x y z) ≡ x ∷ y ∷ z ∷ []
+three_fields x y z a b c =
+    let whole : spaced x y z ≡ x ++ (32 ∷ (y ++ 32 ∷ z)) = append_assoc x (32 ∷ y) (32 ∷ z) in
+    let first : fields_of (x ++ (32 ∷ (y ++ 32 ∷ z))) ≡ x ∷ fields_of (y ++ 32 ∷ z) = fields-front x (y ++ 32 ∷ z) (number-no_space x a) in
+    let second : fields_of (y ++ 32 ∷ z) ≡ y ∷ fields_of z = fields-front y z (number-no_space y b) in
+    let third : fields_of z ≡ z ∷ [] = fields-last z (number-no_space z c) in
+    ap fields_of whole ∙ first ∙ ap (λ (fs : List (List ℕ)). x ∷ fs) (second ∙ ap (λ (fs : List (List ℕ)). y ∷ fs) third)
+
+from_fields : (line x y z : List ℕ) → fields_of line ≡ x ∷ y ∷ z ∷ [] → line ≡ spaced x y z
+from_fields line x y z e =
+    let back : line ≡ join_with_byte 32 (x ∷ y ∷ z ∷ []) = sym (join_with_byte-slice_split 32 line) ∙ ap (join_with_byte 32) e in
+    back ∙ sym (append_assoc x (32 ∷ y) (32 ∷ z))
+
+-- ---- points
+
+point_at-cases : (a b c : ℕ) → ((a < 16384) × (b < 16384) × (c < 16384) × (point_at a b c ≡ Ok (a * 268435456 + b * 16384 + c))) ⊎ (point_at a b c ≡ Err Range)
+point_at-cases a b c =
+    elim (cases_lt a 16384) [
+      | inr le ↦ let e : ltb a 16384 ≡ false = le-ltb _ _ le in inr (rw e refl)
+      | inl p ↦ elim (cases_lt b 16384) [
+        | inr le ↦ let d : ltb a 16384 ≡ true = lt-ltb _ _ p in let e : ltb b 16384 ≡ false = le-ltb _ _ le in inr (rw (d, e) refl)
+        | inl q ↦ elim (cases_lt c 16384) [
+          | inr le ↦ let d : ltb a 16384 ≡ true = lt-ltb _ _ p in let e : ltb b 16384 ≡ true = lt-ltb _ _ q in let f : ltb c 16384 ≡ false = le-ltb _ _ le in inr (rw (d, e, f) refl)
+          | inl r ↦ let d : ltb a 16384 ≡ true = lt-ltb _ _ p in let e : ltb b 16384 ≡ true = lt-ltb _ _ q in let f : ltb c 16384 ≡ true = lt-ltb _ _ r in inl (p, q, r, rw (d, e, f) refl)
+        ]
+      ]
+    ]
+
+abbrev done : ℕ → Result ℕ Why
+done n = Ok n
+
+ok_same : (m n : ℕ) → done m ≡ done n → m ≡ n
+ok_same m n h = cc
+
+abbrev pub failed : Why → Result ℕ Why
+failed why = Err why
+
+pub err_same : (v w : Why) → failed v ≡ failed w → v ≡ w
+err_same v w h = cc
+
+-- a line of the form, with what is read of its numbers
+record Three (line : List ℕ) : Type 0 where
+  x : List ℕ
+  y : List ℕ
+  z : List ℕ
+  a : ℕ
+  b : ℕ
+  c : ℕ
+  fields : line ≡ spaced x y z
+  x_read : number x ≡ Some a
+  y_read : number y ≡ Some b
+  z_read : number z ≡ Some c
+  point_read : point line ≡ point_at a b c
+
+point-fields : (line : List ℕ) (fs : List (List ℕ)) → fields_of line ≡ fs → point line ≡ point_from_fields fs
+unfolding point
+point-fields line fs e = ap point_from_fields e
+
+form-fields : (line : List ℕ) (f : HasPointForm line) → fields_of line ≡ f.x ∷ f.y ∷ f.z ∷ []
+form-fields line f = ap fields_of f.fields ∙ three_fields f.x f.y f.z f.x_number f.y_number f.z_number
+
+form-three : (line : List ℕ) → HasPointForm line → Three line
+form-three line f = record {
+  x = f.x;
+  y = f.y;
+  z = f.z;
+  a = reading f.x;
+  b = reading f.y;
+  c = reading f.z;
+  fields = f.fields;
+  x_read = number-read f.x f.x_number;
+  y_read = number-read f.y f.y_number;
+  z_read = number-read f.z f.z_number;
+  point_read = point-fields line (f.x ∷ f.y ∷ f.z ∷ []) (form-fields line f)
+      ∙ ap (λ (o : Option ℕ). point_from o (number f.y) (number f.z)) (number-read f.x f.x_number)
+      ∙ ap (λ (o : Option ℕ). point_from (Some (reading f.x)) o (number f.z)) (number-read f.y f.y_number)
+      ∙ ap (λ (o : Option ℕ). point_from (Some (reading f.x)) (Some (reading f.y)) o) (number-read f.z f.z_number);
+}
+
+three-form : (line : List ℕ) → Three line → HasPointForm line
+three-form line t = record {
+  x = t.x;
+  y = t.y;
+  z = t.z;
+  fields = t.fields;
+  x_number = number-some t.x t.a t.x_read;
+  y_number = number-some t.y t.b t.y_read;
+  z_number = number-some t.z t.c t.z_read;
+}
+
+-- what is read of three fields
+numbers-view : (line x y z : List ℕ) (i j k : Option ℕ) → fields_of line ≡ x ∷ y ∷ z ∷ [] → number x ≡ i → number y ≡ j → number z ≡ k → (point line ≡ Err Field) ⊎ Three line
+numbers-view line x y z None j k e p q r = inl (point-fields line (x ∷ y ∷ z ∷ []) e ∙ ap (λ (o : Option ℕ). point_from o (number y) (number z)) p)
+numbers-view line x y z (Some a) None k e p q r =
+    inl (point-fields line (x ∷ y ∷ z ∷ []) e ∙ ap (λ (o : Option ℕ). point_from o (number y) (number z)) p ∙ ap (λ (o : Option ℕ). point_from (Some a) o (number z)) q)
+numbers-view line x y z (Some a) (Some b) None e p q r =
+    inl (point-fields line (x ∷ y ∷ z ∷ []) e ∙ ap (λ (o : Option ℕ). point_from o (number y) (number z)) p ∙ ap (λ (o : Option ℕ). point_from (Some a) o (number z)) q ∙ ap (λ (o : Option ℕ). point_from (Some a) (Some b) o) r)
+numbers-view line x y z (Some a) (Some b) (Some c) e p q r = inr (record {
+  x = x;
+  y = y;
+  z = z;
+  a = a;
+  b = b;
+  c = c;
+  fields = from_fields line x y z e;
+  x_read = p;
+  y_read = q;
+  z_read = r;
+  point_read = point-fields line (x ∷ y ∷ z ∷ []) e ∙ ap (λ (o : Option ℕ). point_from o (number y) (number z)) p ∙ ap (λ (o : Option ℕ). point_from (Some a) o (number z)) q ∙ ap (λ (o : Option ℕ). point_from (Some a) (Some b) o) r;
+})
+
+fields-view : (line : List ℕ) (fs : List (List ℕ)) → fields_of line ≡ fs → (point line ≡ Err Field) ⊎ Three line
+fields-view line [] e = inl (point-fields line [] e)
+fields-view line (x ∷ []) e = inl (point-fields line (x ∷ []) e)
+fields-view line (x ∷ y ∷ []) e = inl (point-fields line (x ∷ y ∷ []) e)
+fields-view line (x ∷ y ∷ z ∷ []) e = numbers-view line x y z (number x) (number y) (number z) e refl refl refl
+fields-view line (x ∷ y ∷ z ∷ w ∷ fs) e = inl (point-fields line (x ∷ y ∷ z ∷ w ∷ fs) e)
+
+point-view : (line : List ℕ) → (point line ≡ Err Field) ⊎ Three line
+point-view line = fields-view line (fields_of line) refl
+
+-- the coordinates of a packed point
+packed-coordinates : (a b c : ℕ) → a < 16384 → b < 16384 → c < 16384 → (x_of (a * 268435456 + b * 16384 + c) ≡ a) × (y_of (a * 268435456 + b * 16384 + c) ≡ b) × (z_of (a * 268435456 + b * 16384 + c) ≡ c)
+unfolding x_of y_of z_of
+packed-coordinates a b c p q r = (omega arith, omega arith, omega arith)
+
+three-says : (line : List ℕ) (t : Three line) (p : ℕ) → point_at t.a t.b t.c ≡ Ok p → IsPointLine line p
+three-says line t p h =
+    elim (point_at-cases t.a t.b t.c) [
+      | inr e ↦ absurd cc
+      | inl k ↦
+          let packed : ℕ = t.a * 268435456 + t.b * 16384 + t.c in
+          let same : packed ≡ p = ok_same packed p (sym k.3 ∙ h) in
+          let at = packed-coordinates t.a t.b t.c k.0 k.1 k.2 in
+          subst (λ (q : ℕ). IsPointLine line q) same (record {
+            x = t.x;
+            y = t.y;
+            z = t.z;
+            fields = t.fields;
+            x_value = of-number t.x (x_of packed) (t.x_read ∙ ap (λ (n : ℕ). Some n) (sym at.0)) (omega (arith, at.0, k.0));
+            y_value = of-number t.y (y_of packed) (t.y_read ∙ ap (λ (n : ℕ). Some n) (sym at.1)) (omega (arith, at.1, k.1));
+            z_value = of-number t.z (z_of packed) (t.z_read ∙ ap (λ (n : ℕ). Some n) (sym at.2)) (omega (arith, at.2, k.2));
+            key = omega (arith, k.0, k.1, k.2);
+          })
+    ]
+
+pub point-sound : (line : List ℕ) (p : ℕ) → point line ≡ Ok p → IsPointLine line p
+point-sound line p h =
+    elim (point-view line) [
+      | inl e ↦ absurd cc
+      | inr t ↦ three-says line t p (sym t.point_read ∙ h)
+    ]
+
+pub point-complete : (line : List ℕ) (p : ℕ) → IsPointLine line p → point line ≡ Ok p
+point-complete line p s =
+    let below = coordinate-below p in
+    let f : HasPointForm line = record { x = s.x; y = s.y; z = s.z; fields = s.fields; x_number = s.x_value.number; y_number = s.y_value.number; z_number = s.z_value.number } in
+    point-fields line (s.x ∷ s.y ∷ s.z ∷ []) (form-fields line f)
+    ∙ ap (λ (o : Option ℕ). point_from o (number s.y) (number s.z)) (number-of s.x (x_of p) s.x_value (omega (arith, below.0)))
+    ∙ ap (λ (o : Option ℕ). point_from (Some (x_of p)) o (number s.z)) (number-of s.y (y_of p) s.y_value (omega (arith, below.1)))
+    ∙ ap (λ (o : Option ℕ). point_from (Some (x_of p)) (Some (y_of p)) o) (number-of s.z (z_of p) s.z_value (omega (arith, below.2)))
+    ∙ point_at-own p s.key
+
+point_at-field : (a b c : ℕ) → point_at a b c ≡ Err Field → ⊥
+point_at-field a b c h = elim (point_at-cases a b c) [ inl k ↦ (let e = k.3 in absurd cc) | inr e ↦ absurd cc ]
+
+pub point-field : (line : List ℕ) → point line ≡ Err Field → HasPointForm line → ⊥
+point-field line h f = let t = form-three line f in point_at-field t.a t.b t.c (sym t.point_read ∙ h)
+
+pub point-range : (line : List ℕ) → point line ≡ Err Range → HasPointForm line
+point-range line h = elim (point-view line) [ inl e ↦ absurd cc | inr t ↦ three-form line t ]
+
+pub point-only : (line : List ℕ) (why : Why) → point line ≡ Err why → (why ≡ Field) ⊎ (why ≡ Range)
+point-only line why h =
+    elim (point-view line) [
+      | inl e ↦ inl (err_same why Field (sym h ∙ e))
+      | inr t ↦ elim (point_at-cases t.a t.b t.c) [
+        | inl k ↦ let e = t.point_read in let f = k.3 in absurd cc
+        | inr e ↦ inr (err_same why Range (sym h ∙ t.point_read ∙ e))
+      ]
+    ]
+
+pub points_decided : Decides point IsPointLine HasPointForm
+points_decided = record { sound = point-sound; complete = point-complete; field = point-field; range = point-range; only = point-only }

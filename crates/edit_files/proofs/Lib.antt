@@ -1,0 +1,14 @@
+pub mod Cuts
+pub mod Numerals
+pub mod Points
+pub mod Turns
+pub mod Values
+pub mod Decided
+pub mod DecidedEdits
+pub mod Words
+pub mod Completes
+pub mod Fronts
+pub mod Taken
+pub mod Reasons
+pub mod Judged
+pub mod OneFault

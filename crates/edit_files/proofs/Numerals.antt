@@ -1,0 +1,36 @@
+-- Numbers, points and edits as they are read.
+use Rattle.std.proofs.Common.{◌≡◌, ℕ, ◌+◌, ◌*◌, ◌-◌, ◌<◌, min, true, false, cond, ltb, ◌&&◌, ap, List, [], ◌∷◌, length, Some, None, refl, arith}
+use Rattle.std.specs.Char.{is_ascii_digit}
+use Rattle.std.specs.Str.Parse.{starts_with_minus}
+use Rattle.edit_files.specs.Numbers.{after_minus}
+use Rattle.edit_files.specs.Judging.{far, digits, digits_from, signed, number}
+
+pub digits-is : (ds : List ℕ) → 0 < length ds → digits ds ≡ digits_from 0 ds
+unfolding digits
+digits-is [] lt = absurd (omega arith)
+digits-is (c ∷ cs) lt = refl
+
+pub digits_from-nil : (n : ℕ) → digits_from n [] ≡ Some n
+unfolding digits_from
+digits_from-nil n = refl
+
+pub digits_from-digit : (n c : ℕ) (cs : List ℕ) → is_ascii_digit c ≡ true → digits_from n (c ∷ cs) ≡ digits_from (min (n * 10 + (c - 48)) far) cs
+unfolding digits_from
+digits_from-digit n c cs h = rw h refl
+
+pub digits_from-other : (n c : ℕ) (cs : List ℕ) → is_ascii_digit c ≡ false → digits_from n (c ∷ cs) ≡ None
+unfolding digits_from
+digits_from-other n c cs h = rw h refl
+
+pub digits-nil : digits [] ≡ None
+unfolding digits
+digits-nil = refl
+
+-- a number is read from its digits and its minus
+pub number-is : (bs : List ℕ) (n : ℕ) → digits (after_minus bs) ≡ Some n → number bs ≡ Some (cond (starts_with_minus bs && ltb 0 n) far n)
+unfolding number
+number-is bs n h = ap (signed (starts_with_minus bs)) h
+
+pub number-none : (bs : List ℕ) → digits (after_minus bs) ≡ None → number bs ≡ None
+unfolding number
+number-none bs h = ap (signed (starts_with_minus bs)) h

@@ -1,0 +1,5 @@
+use Rattle.edit_files.proofs.OneFault.{one_fault_of}
+use Rattle.edit_files.proofs.laws.one_fault.Goals as goal
+
+pub returns : goal.returns
+returns c = one_fault_of

@@ -1,0 +1,188 @@
+-- Judging a text line by line, as the reader does. That this decides the grammar and finds its fault is proved.
+use Rattle.std.specs.Prelude.{◌≡◌, ℕ, Bool, List, [], ◌∷◌, ◌++◌, ◌+◌, ◌*◌, ◌-◌, ◌^◌, ◌&&◌, length, codes, min, nat_lt, nat_le, ◌==◌, if◌then◌else◌, Option, Some, None, Result, Ok, Err}
+use Rattle.std.specs.List.{slice_split}
+use Rattle.std.specs.Char.{is_ascii_digit}
+use Rattle.std.specs.Str.{bytes_eq}
+use Rattle.std.specs.Str.Parse.{starts_with_minus}
+use Rattle.edit_history.specs.declared.history.Edit.{Edit}
+use Rattle.edit_history.specs.declared.history.Edit.TheVariants.{Add, Take}
+use Rattle.edit_files.specs.declared.fault.Why.{Why}
+use Rattle.edit_files.specs.declared.fault.Why.TheVariants.{Section, Field, Range, TooMany, Truncated}
+use Rattle.edit_files.specs.declared.fault.Fault.{Fault}
+use Rattle.edit_files.specs.declared.fault.ReadRefused.{ReadRefused}
+use Rattle.edit_files.specs.declared.fault.ReadRefused.TheVariants as refusals
+use Rattle.edit_files.specs.declared.reader.LineRefused.{LineRefused}
+use Rattle.edit_files.specs.declared.reader.LineRefused.TheVariants as line_refusals
+use Rattle.edit_files.specs.declared.reader.Place.{Place}
+use Rattle.edit_files.specs.declared.reader.Place.TheVariants as places
+use Rattle.edit_files.specs.declared.reader.Reader.{Reader}
+use Rattle.edit_files.specs.Content.{Content, content}
+use Rattle.edit_files.specs.Lines.{lines_of}
+use Rattle.edit_files.specs.Numbers.{after_minus}
+use Rattle.edit_files.specs.Faults.{is_word}
+use Rattle.edit_files.specs.Grammar.{radius_limit}
+
+-- beyond every range
+abbrev pub far : ℕ
+far = 2 ^ 40
+
+-- digits behind others whose value is n: their value, or `far` where it is more; nothing where another byte stands
+unfoldable pub digits_from : ℕ → List ℕ → Option ℕ
+digits_from n [] = Some n
+digits_from n (c ∷ cs) = if is_ascii_digit c then digits_from (min (n * 10 + (c - 48)) far) cs else None
+
+-- one digit or more
+unfoldable pub digits : List ℕ → Option ℕ
+digits [] = None
+digits (c ∷ cs) = digits_from 0 (c ∷ cs)
+
+-- behind a minus a value above 0 is kept as `far` too
+abbrev pub signed : Bool → Option ℕ → Option ℕ
+signed minus None = None
+signed minus (Some n) = Some (if minus && nat_lt 0 n then far else n)
+
+unfoldable pub number : List ℕ → Option ℕ
+number bs = signed (starts_with_minus bs) (digits (after_minus bs))
+
+-- the point with these coordinates
+abbrev pub point_at : ℕ → ℕ → ℕ → Result ℕ Why
+point_at x y z =
+    if nat_lt x 16384 && nat_lt y 16384 && nat_lt z 16384 then Ok (x * 268435456 + y * 16384 + z) else Err Range
+
+-- a point from its three numbers
+abbrev pub point_from : Option ℕ → Option ℕ → Option ℕ → Result ℕ Why
+point_from None y z = Err Field
+point_from (Some x) None z = Err Field
+point_from (Some x) (Some y) None = Err Field
+point_from (Some x) (Some y) (Some z) = point_at x y z
+
+abbrev pub point_from_fields : List (List ℕ) → Result ℕ Why
+point_from_fields [] = Err Field
+point_from_fields (x ∷ []) = Err Field
+point_from_fields (x ∷ y ∷ []) = Err Field
+point_from_fields (x ∷ y ∷ z ∷ []) = point_from (number x) (number y) (number z)
+point_from_fields (x ∷ y ∷ z ∷ more ∷ rest) = Err Field
+
+-- the parts of a line between its spaces
+abbrev pub fields_of : List ℕ → List (List ℕ)
+fields_of line = slice_split (λ b. b == 32) line
+
+unfoldable pub point : List ℕ → Result ℕ Why
+point line = point_from_fields (fields_of line)
+
+abbrev pub edit_from : (ℕ → Edit) → Result ℕ Why → Result Edit Why
+edit_from kind (Ok p) = Ok (kind p)
+edit_from kind (Err why) = Err why
+
+-- what a sign does with a point line
+abbrev pub edit_at : ℕ → List ℕ → Result Edit Why
+edit_at sign rest =
+    if sign == 43 then edit_from Add (point rest) else (if sign == 45 then edit_from Take (point rest) else Err Field)
+
+unfoldable pub edit : List ℕ → Result Edit Why
+edit [] = Err Field
+edit (sign ∷ []) = Err Field
+edit (sign ∷ space ∷ rest) = if space == 32 then edit_at sign rest else Err Field
+
+abbrev pub radius_from : Option ℕ → Result ℕ Why
+radius_from None = Err Field
+radius_from (Some n) = if nat_lt n (2 ^ 30) then Ok n else Err Range
+
+unfoldable pub radius : List ℕ → Result ℕ Why
+radius line = radius_from (number line)
+
+-- where the reader is, and what it took so far
+pub record State : Type 0 where
+  pub place : Place
+  pub taken : Content
+
+abbrev pub state : Reader → State
+state r = record { place = r.place; taken = content r.file }
+
+abbrev pub move : Place → Content → Result State Why
+move place taken = Ok (record { place = place; taken = taken })
+
+abbrev pub with_point : Content → Result ℕ Why → Result State Why
+with_point taken (Err why) = Err why
+with_point taken (Ok p) = move places.Points (record taken { points = taken.points ++ p ∷ [] })
+
+abbrev pub with_edit : Content → Result Edit Why → Result State Why
+with_edit taken (Err why) = Err why
+with_edit taken (Ok e) = move places.Edits (record taken { edits = taken.edits ++ e ∷ [] })
+
+abbrev pub with_radius : Content → Result ℕ Why → Result State Why
+with_radius taken (Err why) = Err why
+with_radius taken (Ok r) = move places.Radii (record taken { radii = taken.radii ++ r ∷ [] })
+
+-- a line of a list: it may be no word, and the list may not be full
+abbrev pub listed : List ℕ → Bool → Result State Why → Result State Why
+listed line full taken = if is_word line then Err Section else (if full then Err TooMany else taken)
+
+abbrev pub step_at : ℕ → Place → Content → List ℕ → Result State Why
+step_at limit places.Title taken line = if bytes_eq line (codes "mesh3 1") then move places.Heading taken else Err Section
+step_at limit places.Heading taken line = if bytes_eq line (codes "points") then move places.Points taken else Err Section
+step_at limit places.Points taken line =
+    if bytes_eq line (codes "edits") then move places.Edits taken
+    else listed line (nat_le limit (length taken.points + length taken.edits)) (with_point taken (point line))
+step_at limit places.Edits taken line =
+    if bytes_eq line (codes "radii") then move places.Radii taken
+    else listed line (nat_le limit (length taken.points + length taken.edits)) (with_edit taken (edit line))
+step_at limit places.Radii taken line =
+    if bytes_eq line (codes "end") then move places.End taken
+    else listed line (nat_le radius_limit (length taken.radii)) (with_radius taken (radius line))
+step_at limit places.End taken line = Err Section
+
+unfoldable pub step : ℕ → State → List ℕ → Result State Why
+step limit s line = step_at limit s.place s.taken line
+
+-- the end of the lines; n is the number of the line that is missing
+abbrev pub ended : ℕ → Place → Content → Result Content Fault
+ended n places.Title taken = Err (record { line = n; why = Truncated })
+ended n places.Heading taken = Err (record { line = n; why = Truncated })
+ended n places.Points taken = Err (record { line = n; why = Truncated })
+ended n places.Edits taken = Err (record { line = n; why = Truncated })
+ended n places.Radii taken = Err (record { line = n; why = Truncated })
+ended n places.End taken = Ok taken
+
+-- what follows a line: the rest is judged, or the line was bad
+abbrev pub go_on : ℕ → Result State Why → (State → Result Content Fault) → Result Content Fault
+go_on n (Err why) rest = Err (record { line = n; why = why })
+go_on n (Ok s) rest = rest s
+
+-- the lines from line n on
+unfoldable pub judge : ℕ → ℕ → State → List (List ℕ) → Result Content Fault
+judge limit n s [] = ended n s.place s.taken
+judge limit n s (line ∷ lines) = go_on n (step limit s line) (λ t. judge limit (n + 1) t lines)
+
+abbrev pub nothing : Content
+nothing = record { points = []; edits = []; radii = [] }
+
+abbrev pub start : State
+start = record { place = places.Title; taken = nothing }
+
+-- all lines
+abbrev pub judged : ℕ → List ℕ → Result Content Fault
+judged limit bytes = judge limit 1 start (lines_of bytes)
+
+-- What a function returned, seen by view, is what judging gives, unless memory ran out.
+abbrev pub Fails : {Y : Type 0} → ReadRefused → Result Y Fault → Type 0
+Fails refusals.Memory judged = Unit {0}
+Fails (refusals.Bad fault) judged = judged ≡ Err fault
+
+abbrev pub Gives : {X Y : Type 0} → (X → Y) → Result X ReadRefused → Result Y Fault → Type 0
+Gives view (Ok x) judged = judged ≡ Ok (view x)
+Gives view (Err e) judged = Fails e judged
+
+-- the same of one line, whose number is not known yet
+abbrev pub Refuses : {Y : Type 0} → LineRefused → Result Y Why → Type 0
+Refuses line_refusals.Memory judged = Unit {0}
+Refuses (line_refusals.Bad why) judged = judged ≡ Err why
+
+abbrev pub refused_at : ℕ → LineRefused → ReadRefused
+refused_at n line_refusals.Memory = refusals.Memory
+refused_at n (line_refusals.Bad why) = refusals.Bad (record { line = n; why = why })
+
+-- what a step left, or why it stopped
+abbrev pub Steps : Result Unit LineRefused → State → Result State Why → Type 0
+Steps (Ok u) now judged = judged ≡ Ok now
+Steps (Err e) now judged = Refuses e judged

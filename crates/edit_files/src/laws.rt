@@ -1,0 +1,27 @@
+//! Laws of edit files. They take part in no run: each is the contract of a function with nothing in it.
+
+ghost use Rattle.std.specs.Prelude.{◌≡◌, ◌⊎◌, ℕ, List};
+ghost use Rattle.edit_files.specs.Content.{Content};
+ghost use Rattle.edit_files.specs.Grammar.{IsFile};
+ghost use Rattle.edit_files.specs.Faults.{IsFault};
+ghost use Rattle.edit_files.specs.declared.fault.Fault.{Fault};
+
+/// A text is of at most one file.
+pub fn one_file()
+    ensures { (limit : ℕ) (bytes : List ℕ) (f g : Content) → IsFile limit bytes f → IsFile limit bytes g → f ≡ g }
+{}
+
+/// A text that is of a file has no fault.
+pub fn file_has_no_fault()
+    ensures { (limit : ℕ) (bytes : List ℕ) (f : Content) (fault : Fault) → IsFile limit bytes f → IsFault limit bytes fault → ⊥ }
+{}
+
+/// A text is of a file, or it has a fault.
+pub fn file_or_fault()
+    ensures { (limit : ℕ) (bytes : List ℕ) → ((f : Content) × IsFile limit bytes f) ⊎ ((fault : Fault) × IsFault limit bytes fault) }
+{}
+
+/// A text has at most one fault.
+pub fn one_fault()
+    ensures { (limit : ℕ) (bytes : List ℕ) (a b : Fault) → IsFault limit bytes a → IsFault limit bytes b → a ≡ b }
+{}

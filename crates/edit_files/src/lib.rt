@@ -1,0 +1,19 @@
+//! Edit files: the points, edits and radii that a text names, and the one fault of a text that names none.
+//!
+//! A text is lines: `mesh3 1`, `points`, point lines `X Y Z`, `edits`, edit lines `+ X Y Z` and `- X Y Z`, `radii`,
+//! radius lines `R`, and `end`. The grammar stands in `specs/Grammar.antt`, and the faults in `specs/Faults.antt`.
+#![tactic(auto)]
+
+mod fault;
+mod file;
+pub mod laws;
+mod line;
+mod reader;
+mod scan;
+
+pub use fault::{Fault, ReadRefused, Why};
+pub use file::{File, Lines};
+pub use reader::{LINE_LIMIT, RADIUS_LIMIT, read_file};
+
+#[cfg(test)]
+mod tests;

@@ -1,0 +1,7 @@
+pub mod Planes
+pub mod Solidity
+pub mod Places
+pub mod OpeningLaws
+pub mod OpeningSolid
+pub mod SetEdits
+pub mod Lines

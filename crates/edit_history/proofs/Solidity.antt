@@ -1,0 +1,83 @@
+-- Solid lists: what decides whether some four points are independent.
+use Rattle.std.specs.Prelude.{◌≡◌, ℕ, Bool, true, false, not, ◌||◌, List, [], ◌∷◌, ◌⊎◌}
+use Rattle.std.specs.List.{list_any}
+use Rattle.std.proofs.Common.{refl, ap, inl, inr}
+use Rattle.point_order.specs.Sets.{IsIn, ascending}
+use Rattle.point_order.specs.Orientation.{is_flat}
+use Rattle.point_order.specs.Solid.{is_solid}
+use Rattle.point_order.proofs.SetLaws.{in-ascending, in-ascending_from}
+
+-- a test that some element passes
+pub any-in : (t : ℕ → Bool) (s : List ℕ) (x : ℕ) → IsIn x s → t x ≡ true → list_any t s ≡ true
+any-in t [] x i e = absurd i
+any-in t (y ∷ s) x i e = by (t y) refl i (λ j. any-in t s x j e)
+  where
+    by : (b : Bool) → t y ≡ b → (y ≡ x) ⊎ IsIn x s → (IsIn x s → list_any t s ≡ true) → (b || list_any t s) ≡ true
+    by true f i r = refl
+    by false f (inl g) r = let h = ap t g in cc
+    by false f (inr j) r = r j
+
+-- a test that no element passes
+pub any-none : (t : ℕ → Bool) (s : List ℕ) → ((x : ℕ) → IsIn x s → t x ≡ false) → list_any t s ≡ false
+any-none t [] f = refl
+any-none t (y ∷ s) f = rw (f y (inl refl)) (any-none t s (λ x i. f x (inr i)))
+
+-- the element that passes
+pub any-some : (t : ℕ → Bool) (s : List ℕ) → list_any t s ≡ true → (x : ℕ) × IsIn x s × (t x ≡ true)
+any-some t [] e = cc
+any-some t (y ∷ s) e = by (t y) refl e (any-some t s)
+  where
+    by : (b : Bool) → t y ≡ b → (b || list_any t s) ≡ true → (list_any t s ≡ true → (x : ℕ) × IsIn x s × (t x ≡ true)) → (x : ℕ) × IsIn x (y ∷ s) × (t x ≡ true)
+    by true f e r = (y, inl refl, f)
+    by false f e r = let q = r e in (q.0, inr q.1, q.2)
+
+-- four independent points make a list solid
+pub solid-from : (s : List ℕ) (a b c d : ℕ) → IsIn a s → IsIn b s → IsIn c s → IsIn d s → is_flat a b c d ≡ false → is_solid s ≡ true
+solid-from s a b c d ia ib ic id e =
+    any-in _ s a ia (any-in _ s b ib (any-in _ s c ic (any-in (λ d. not (is_flat a b c d)) s d id (rw e refl))))
+
+-- a list whose points lie four by four in a plane is not solid
+pub flat-from : (s : List ℕ) → ((a b c d : ℕ) → IsIn a s → IsIn b s → IsIn c s → IsIn d s → is_flat a b c d ≡ true) → is_solid s ≡ false
+flat-from s f =
+    any-none _ s (λ a ia. any-none _ s (λ b ib. any-none _ s (λ c ic. any-none _ s (λ d id. rw (f a b c d ia ib ic id) refl))))
+
+pub record HasFour (s : List ℕ) : Type 0 where
+  pub a : ℕ
+  pub b : ℕ
+  pub c : ℕ
+  pub d : ℕ
+  pub in_a : IsIn a s
+  pub in_b : IsIn b s
+  pub in_c : IsIn c s
+  pub in_d : IsIn d s
+  pub independent : is_flat a b c d ≡ false
+
+-- the four of a solid list
+pub solid-some : (s : List ℕ) → is_solid s ≡ true → HasFour s
+solid-some s e =
+    let a = any-some (λ a. list_any (λ b. list_any (λ c. list_any (λ d. not (is_flat a b c d)) s) s) s) s e in
+    let b = any-some (λ b. list_any (λ c. list_any (λ d. not (is_flat a.0 b c d)) s) s) s a.2 in
+    let c = any-some (λ c. list_any (λ d. not (is_flat a.0 b.0 c d)) s) s b.2 in
+    let d = any-some (λ d. not (is_flat a.0 b.0 c.0 d)) s c.2 in
+    record { a = a.0; b = b.0; c = c.0; d = d.0; in_a = a.1; in_b = b.1; in_c = c.1; in_d = d.1; independent = opposite (is_flat a.0 b.0 c.0 d.0) d.2 }
+  where
+    opposite : (b : Bool) → not b ≡ true → b ≡ false
+    opposite true e = cc
+    opposite false e = refl
+
+-- lists with the same points are solid alike
+pub solid-same : (s t : List ℕ) → ((p : ℕ) → IsIn p s → IsIn p t) → ((p : ℕ) → IsIn p t → IsIn p s) → is_solid s ≡ is_solid t
+solid-same s t f g = by (is_solid s) (is_solid t) refl refl
+  where
+    over : (s t : List ℕ) → ((p : ℕ) → IsIn p s → IsIn p t) → is_solid s ≡ true → is_solid t ≡ true
+    over s t f e = let h = solid-some s e in solid-from t h.a h.b h.c h.d (f h.a h.in_a) (f h.b h.in_b) (f h.c h.in_c) (f h.d h.in_d) h.independent
+
+    by : (x y : Bool) → is_solid s ≡ x → is_solid t ≡ y → x ≡ y
+    by true true d e = refl
+    by true false d e = let h = over s t f d in cc
+    by false true d e = let h = over t s g e in cc
+    by false false d e = refl
+
+-- solidity is of the set
+pub solid-ascending : (s : List ℕ) → is_solid (ascending s) ≡ is_solid s
+solid-ascending s = solid-same (ascending s) s (λ p i. in-ascending s p i) (λ p i. in-ascending_from s p i)
