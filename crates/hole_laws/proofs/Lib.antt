@@ -14,6 +14,7 @@ pub mod Made
 pub mod Near
 pub mod NewCells
 pub mod OfSets
+pub mod Once
 pub mod Order
 pub mod Region
 pub mod Rest

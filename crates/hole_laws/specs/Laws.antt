@@ -9,7 +9,7 @@ use Rattle.point_order.specs.Conflicts.{is_in_conflict, CanJudge}
 use Rattle.point_order.specs.Facets.{facets_of, points_of}
 use Rattle.point_order.specs.declared.cell.Cell.{Cell}
 use Rattle.point_order.specs.declared.cell.Facet.{Facet}
-use Rattle.hole_laws.specs.Lists.{HasHeld, IsAtGoing, AreJoined}
+use Rattle.hole_laws.specs.Lists.{cell_over, HasHeld, IsAtGoing, AreJoined}
 use Rattle.hole_laws.specs.Edits.{IsSet, IsSolidSet, IsNew, IsMate, GoesFrom, StaysFrom, IsRimOf, IsFresh, ComesWithout, IsLinkSet, IsAcross}
 
 -- ---- conflict
@@ -57,6 +57,18 @@ FreshHavePoint =
 -- no cell of the set has it
 abbrev pub OldLackPoint : Type 0
 OldLackPoint = (s : List ℕ) (p : ℕ) → IsSolidSet s → IsNew s p → (q : Cell) → IsIn q (complex s) → ¬ (IsIn p (points_of q))
+
+-- only one of the cells on a rim facet goes
+abbrev pub OneGoneEach : Type 0
+OneGoneEach =
+    (s : List ℕ) (p : ℕ) → IsSolidSet s → IsNew s p →
+    (f : Facet) → IsRimOf s p f → (q r : Cell) → GoesFrom s p q → GoesFrom s p r → IsIn f (facets_of q) → IsIn f (facets_of r) → q ≡ r
+
+-- and each rim facet has a new cell of its own
+abbrev pub OneFreshEach : Type 0
+OneFreshEach =
+    (s : List ℕ) (p : ℕ) → IsSolidSet s → IsNew s p →
+    (f g : Facet) → IsRimOf s p f → IsRimOf s p g → cell_over f p ≡ cell_over g p → f ≡ g
 
 -- ---- the region
 

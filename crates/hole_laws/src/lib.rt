@@ -7,7 +7,7 @@
 #![tactic(auto)]
 
 ghost use Rattle.hole_laws.specs.Commuting.{StaysSolid, ChangesReached, EditsCommute, BatchCommutes};
-ghost use Rattle.hole_laws.specs.Laws.{StaysWithoutConflict, GoesInConflict, SomeMate, MatesJudge, SomeRim, CellsAfter, FreshHavePoint, OldLackPoint, RegionConnected, FoundFromHeld, FreshAreNear, JoinedAreReached, MadeByInsertion, CellsOfRest, MadeByRemoval, RefilledFromLink, ComingAreNear, SolidNear, FlatRestJoined};
+ghost use Rattle.hole_laws.specs.Laws.{StaysWithoutConflict, GoesInConflict, SomeMate, MatesJudge, SomeRim, CellsAfter, FreshHavePoint, OldLackPoint, OneGoneEach, OneFreshEach, RegionConnected, FoundFromHeld, FreshAreNear, JoinedAreReached, MadeByInsertion, CellsOfRest, MadeByRemoval, RefilledFromLink, ComingAreNear, SolidNear, FlatRestJoined};
 
 /// A cell of the set is one of the set with a new point `p` exactly where it is not in conflict with `p`.
 ///
@@ -29,6 +29,12 @@ pub fn insertion_law()
     ensures fresh { FreshHavePoint }
     ensures old { OldLackPoint }
     ensures rim { SomeRim }
+{}
+
+/// A search over the facets of the cells that go meets each rim facet once, and so each new cell once.
+pub fn new_cells_are_met_once()
+    ensures gone { OneGoneEach }
+    ensures fresh { OneFreshEach }
 {}
 
 /// The cells that a new point takes away are one region, connected across facets, the pair facets among them.
