@@ -1,0 +1,4 @@
+pub mod Commuting
+pub mod Edits
+pub mod Laws
+pub mod Lists
