@@ -24,8 +24,11 @@ pub record Decides {A : Type 0} (read : List ℕ → Result A Why) (Says : List 
 
 -- ---- fields
 
+abbrev pub HasNo : ℕ → List ℕ → Type 0
+HasNo c bs = AllByRecursion (λ b. eqb b c ≡ false) bs
+
 abbrev pub HasNoSpace : List ℕ → Type 0
-HasNoSpace bs = AllByRecursion (λ b. eqb b 32 ≡ false) bs
+HasNoSpace bs = HasNo 32 bs
 
 fields-front : (x rest : List ℕ) → HasNoSpace x → fields_of (x ++ 32 ∷ rest) ≡ x ∷ fields_of rest
 fields-front [] rest h = refl
@@ -35,17 +38,21 @@ fields-last : (x : List ℕ) → HasNoSpace x → fields_of x ≡ x ∷ []
 fields-last [] h = refl
 fields-last (b ∷ bs) h = let e = fields-last bs h.1 in let f : eqb b 32 ≡ false = h.0 in rw (f, e) refl
 
-digits-no_space : (ds : List ℕ) → AllDigits 10 ds → HasNoSpace ds
-digits-no_space [] h = tt
-digits-no_space (c ∷ cs) h = (let w = digit_from_value c h.0 in ne_eqb c 32 (λ e. absurd (omega (arith, w.0))), digits-no_space cs h.1)
+digits-without : (low : ℕ) (ds : List ℕ) → low < 45 → AllDigits 10 ds → HasNo low ds
+digits-without low [] lt h = tt
+digits-without low (c ∷ cs) lt h = (let w = digit_from_value c h.0 in ne_eqb c low (λ e. absurd (omega (arith, w.0))), digits-without low cs lt h.1)
 
-signed-no_space : (t : Bool) (b : ℕ) (bs : List ℕ) → (t ≡ true → b ≡ 45) → AllDigits 10 (cond t bs (b ∷ bs)) → HasNoSpace (b ∷ bs)
-signed-no_space true b bs h all = (ne_eqb b 32 (λ e. absurd (omega (arith, h refl))), digits-no_space bs all)
-signed-no_space false b bs h all = digits-no_space (b ∷ bs) all
+signed-without : (low : ℕ) (t : Bool) (b : ℕ) (bs : List ℕ) → low < 45 → (t ≡ true → b ≡ 45) → AllDigits 10 (cond t bs (b ∷ bs)) → HasNo low (b ∷ bs)
+signed-without low true b bs lt h all = (ne_eqb b low (λ e. absurd (omega (arith, h refl))), digits-without low bs lt all)
+signed-without low false b bs lt h all = digits-without low (b ∷ bs) lt all
+
+-- no space or line feed stands in a number
+pub number-without : (low : ℕ) (bs : List ℕ) → low < 45 → IsNumber bs → HasNo low bs
+number-without low [] lt h = tt
+number-without low (b ∷ bs) lt h = signed-without low (eqb b 45) b bs lt (eqb-true b 45) h.1
 
 number-no_space : (bs : List ℕ) → IsNumber bs → HasNoSpace bs
-number-no_space [] h = tt
-number-no_space (b ∷ bs) h = signed-no_space (eqb b 45) b bs (eqb-true b 45) h.1
+number-no_space bs h = number-without 32 bs (omega arith) h
 
 three_fields : (x y z : List ℕ) → IsNumber x → IsNumber y → IsNumber z → fields_of (spaced x y z) ≡ x ∷ y ∷ z ∷ []
 three_fields x y z a b c =

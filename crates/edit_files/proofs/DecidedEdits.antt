@@ -57,9 +57,9 @@ edit-unsigned : (s b : ℕ) (rest : List ℕ) → b ≡ 32 → eqb s 43 ≡ fals
 unfolding edit
 edit-unsigned s b rest space plus minus = rw (space, plus, minus) refl
 
-edit-short : (line : List ℕ) → edit [] ≡ Err Field
+edit-short : edit [] ≡ Err Field
 unfolding edit
-edit-short line = refl
+edit-short = refl
 
 edit-one : (s : ℕ) → edit (s ∷ []) ≡ Err Field
 unfolding edit
@@ -71,7 +71,7 @@ begins line sign kind s b rest e se be reads =
     record { rest = rest; is = is; reads = ap edit is ∙ reads }
 
 edit-view : (line : List ℕ) → (edit line ≡ Err Field) ⊎ (Begins line 43 Add ⊎ Begins line 45 Take)
-edit-view [] = inl (edit-short [])
+edit-view [] = inl edit-short
 edit-view (s ∷ []) = inl (edit-one s)
 edit-view (s ∷ b ∷ rest) =
     elim (eqb_tells b 32) [

@@ -10,6 +10,7 @@ use Rattle.edit_files.specs.Forms.{IsPointLine, IsEditLine, IsRadiusLine}
 use Rattle.edit_files.specs.Grammar.{AreFileLines, radius_limit}
 use Rattle.edit_files.specs.Faults.{AreFirstLines}
 use Rattle.edit_files.specs.Judging.{nothing}
+use Rattle.edit_files.proofs.Texts.{first_lines_of}
 
 -- the lines that lead to a place
 abbrev pub front_at : Place → List (List ℕ) → List (List ℕ) → List (List ℕ) → List (List ℕ)
@@ -67,21 +68,18 @@ whole-is places.End pls els rls h = append-nil _
 
 -- lines that lead to a place are the first of a file
 pub first_lines : (limit : ℕ) (front : List (List ℕ)) (place : Place) (t : Content) → Leads limit front place t → AreFirstLines limit front
-first_lines limit front place t k = (
-  words_from place,
-  t,
-  record {
-    points = k.points;
-    edits = k.edits;
-    radii = k.radii;
-    order = ap (λ (ls : List (List ℕ)). ls ++ words_from place) k.order ∙ whole-is place k.points k.edits k.radii k.unmet;
-    point_lines = k.point_lines;
-    edit_lines = k.edit_lines;
-    radius_lines = k.radius_lines;
-    line_count = k.line_count;
-    radius_count = k.radius_count;
-  },
-)
+first_lines limit front place t k =
+    first_lines_of limit front (words_from place) t (record {
+      points = k.points;
+      edits = k.edits;
+      radii = k.radii;
+      order = ap (λ (ls : List (List ℕ)). ls ++ words_from place) k.order ∙ whole-is place k.points k.edits k.radii k.unmet;
+      point_lines = k.point_lines;
+      edit_lines = k.edit_lines;
+      radius_lines = k.radius_lines;
+      line_count = k.line_count;
+      radius_count = k.radius_count;
+    })
 
 -- at the end they are all lines of a file
 pub all_lines : (limit : ℕ) (front : List (List ℕ)) (t : Content) → Leads limit front places.End t → AreFileLines limit front t

@@ -15,6 +15,7 @@ use Rattle.edit_files.specs.Lines.{lines_of}
 use Rattle.edit_files.specs.Grammar.{AreFileLines, IsFile}
 use Rattle.edit_files.specs.Faults.{AreFirstLines, IsBadLine, IsFaultOfLine, IsFaultOfEnd, IsFault}
 use Rattle.edit_files.specs.Judging.{State, step, judge, judged, ended, start, Gives, Fails}
+use Rattle.edit_files.proofs.Texts.{file_from_first}
 use Rattle.edit_files.proofs.Turns.{judge_on, judge_bad, judge_end}
 use Rattle.edit_files.proofs.Completes.{judged-file}
 use Rattle.edit_files.proofs.Fronts.{Leads, first_lines, all_lines, at_start}
@@ -26,7 +27,7 @@ use Rattle.edit_files.proofs.Reasons.{reason-is}
 -- what begins the first lines of a file does so itself
 pub shorter : (limit : ℕ) (front more : List (List ℕ)) → AreFirstLines limit (front ++ more) → AreFirstLines limit front
 shorter limit front more h =
-    (more ++ h.0, h.1, subst (λ (ls : List (List ℕ)). AreFileLines limit ls h.1) (append_assoc front more h.0) h.2)
+    (h.0, h.1, h.2, more ++ h.3, h.4 ∙ append_assoc front more h.3)
 
 -- no line among the first of a file is bad
 none_bad : (limit : ℕ) (lines : List (List ℕ)) → AreFirstLines limit lines → (front : List (List ℕ)) (line : List ℕ) → IsBadLine limit lines front line → ⊥
@@ -104,11 +105,11 @@ bad_line limit front s line rest why r h =
           rest = rest;
           place = refl;
           good_so_far = first_lines limit front s.place s.taken r.leads;
-          no_more = λ first. (let tail : List (List ℕ) = line ∷ first.0 in
-              let are : AreFileLines limit (front ++ tail) first.1 = subst (λ (ls : List (List ℕ)). AreFileLines limit ls first.1) (append_assoc front (line ∷ []) first.0) first.2 in
+          no_more = λ first. (let tail : List (List ℕ) = line ∷ first.3 in
+              let are : AreFileLines limit (front ++ tail) first.1 = subst (λ (ls : List (List ℕ)). AreFileLines limit ls first.1) (append_assoc front (line ∷ []) first.3) (file_from_first limit (front ++ line ∷ []) first) in
               let good : judge limit 1 start (front ++ tail) ≡ Ok first.1 = judged-file limit 1 (front ++ tail) first.1 are in
               let on : judge limit 1 start (front ++ tail) ≡ judge limit n s tail = r.on tail in
-              let bad : judge limit n s tail ≡ Err (record { line = n; why = why }) = judge_bad limit n s why tail line first.0 refl h in
+              let bad : judge limit n s tail ≡ Err (record { line = n; why = why }) = judge_bad limit n s why tail line first.3 refl h in
               absurd cc);
         },
         refl,
@@ -205,13 +206,13 @@ given-is_fault limit bytes (Err d) fault h e = failed-is_fault limit bytes d fau
 pub one_file_of : (limit : ℕ) (bytes : List ℕ) (f g : Content) → IsFile limit bytes f → IsFile limit bytes g → f ≡ g
 one_file_of limit bytes f g p q = took_same f g (sym (judged-file limit 1 (lines_of bytes) f p) ∙ judged-file limit 1 (lines_of bytes) g q)
 
-first_of_file : (limit : ℕ) (lines : List (List ℕ)) (f : Content) → AreFileLines limit lines f → AreFirstLines limit lines
-first_of_file limit lines f are = ([], f, subst (λ (ls : List (List ℕ)). AreFileLines limit ls f) (sym (append-nil lines)) are)
+first_of_file : (limit : ℕ) (bytes : List ℕ) (f : Content) → IsFile limit bytes f → AreFirstLines limit (lines_of bytes)
+first_of_file limit bytes f is = (bytes, f, is, [], sym (append-nil (lines_of bytes)))
 
 pub no_fault_of : (limit : ℕ) (bytes : List ℕ) (f : Content) (fault : Fault) → IsFile limit bytes f → IsFault limit bytes fault → ⊥
 no_fault_of limit bytes f fault p q =
     elim q [
-      | inl l ↦ none_bad limit (lines_of bytes) (first_of_file limit (lines_of bytes) f p) l.0 l.1 l.2
+      | inl l ↦ none_bad limit (lines_of bytes) (first_of_file limit bytes f p) l.0 l.1 l.2
       | inr e ↦ e.no_file f p
     ]
 

@@ -5,6 +5,7 @@ pub mod Turns
 pub mod Values
 pub mod Decided
 pub mod DecidedEdits
+pub mod Texts
 pub mod Words
 pub mod Completes
 pub mod Fronts
@@ -12,3 +13,4 @@ pub mod Taken
 pub mod Reasons
 pub mod Judged
 pub mod OneFault
+pub mod Written

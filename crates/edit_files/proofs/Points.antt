@@ -38,12 +38,6 @@ pub point-is : (line x r y q z : List ℕ) → fields_of line ≡ x ∷ fields_o
 unfolding point
 point-is line x r y q z a b c = ap point_from_fields (joined line x r y q z [] a b c)
 
-pub from-first : (y z : Option ℕ) → point_from None y z ≡ Err Field
-from-first y z = refl
-
-pub from-second : (x : ℕ) (z : Option ℕ) → point_from (Some x) None z ≡ Err Field
-from-second x z = refl
-
 -- what follows the third field, as it was found
 pub third_more : (o : Option (Bor (List ℕ))) (q z : List ℕ) → MatchOption o (fields_of q ≡ z ∷ []) (λ s. fields_of q ≡ z ∷ fields_of s.now) → is_some o ≡ true → (s : List ℕ) × (fields_of q ≡ z ∷ fields_of s)
 third_more None q z h t = absurd cc

@@ -110,20 +110,14 @@ count-both : (pls els : List (List ℕ)) → HaveNoWord pls → HaveNoWord els �
 count-both pls els p q = sum_by-append counts (codes "points" ∷ pls) (codes "edits" ∷ els) ∙ omega (arith, count-points pls p, count-edits els q)
 
 -- which form a line is to have
-abbrev AsRadius : List (List ℕ) → List ℕ → Type 0
-AsRadius front line = IsNumber line
-
 form-points : (front : List (List ℕ)) (line : List ℕ) → has (codes "radii") front ≡ false → has (codes "edits") front ≡ false → (HasForm front line → HasPointForm line) × (HasPointForm line → HasForm front line)
-form-points front line r e =
-    (λ h. h.2 (rw r refl) (rw e refl), λ f. (λ t. absurd (both_ways _ r t), λ _ t. absurd (both_ways _ e t), λ _ _. f))
+form-points front line r e = (λ h. rw (r, e) at h, λ f. rw (r, e) f)
 
 form-edits : (front : List (List ℕ)) (line : List ℕ) → has (codes "radii") front ≡ false → has (codes "edits") front ≡ true → (HasForm front line → HasEditForm line) × (HasEditForm line → HasForm front line)
-form-edits front line r e =
-    (λ h. h.1 (rw r refl) e, λ f. (λ t. absurd (both_ways _ r t), λ _ _. f, λ _ t. absurd (both_ways _ (rw e refl) t)))
+form-edits front line r e = (λ h. rw (r, e) at h, λ f. rw (r, e) f)
 
 form-radii : (front : List (List ℕ)) (line : List ℕ) → has (codes "radii") front ≡ true → (HasForm front line → IsNumber line) × (IsNumber line → HasForm front line)
-form-radii front line r =
-    (λ h. h.0 r, λ f. (λ _. f, λ t _. absurd (both_ways _ (rw r refl) t), λ t _. absurd (both_ways _ (rw r refl) t)))
+form-radii front line r = (λ h. rw r at h, λ f. rw r f)
 
 in_points : (limit : ℕ) (front : List (List ℕ)) (t : Content) (line : List ℕ) → Leads limit front places.Points t → InList limit front line (leb limit (length t.points + length t.edits)) (HasPointForm line)
 in_points limit front t line k =

@@ -1,5 +1,5 @@
 -- The one fault of a text that is of no file.
-use Rattle.std.specs.Prelude.{◌≡◌, ℕ, Bool, List, [], ◌∷◌, ◌++◌, ◌+◌, ◌<◌, ◌⊎◌, length, codes, drop, not, ◌||◌, nat_le, IsTrue, if◌then◌else◌}
+use Rattle.std.specs.Prelude.{◌≡◌, ℕ, Bool, true, false, List, [], ◌∷◌, ◌++◌, ◌+◌, ◌<◌, ◌⊎◌, length, codes, drop, not, ◌||◌, nat_le, IsTrue, if◌then◌else◌}
 use Rattle.std.specs.List.{list_any, count_by}
 use Rattle.std.specs.Str.{bytes_eq}
 use Rattle.edit_files.specs.declared.fault.Why.{Why}
@@ -9,11 +9,12 @@ use Rattle.edit_files.specs.Content.{Content}
 use Rattle.edit_files.specs.Lines.{lines_of}
 use Rattle.edit_files.specs.Numbers.{IsNumber}
 use Rattle.edit_files.specs.Forms.{HasPointForm, HasEditForm}
-use Rattle.edit_files.specs.Grammar.{AreFileLines, radius_limit}
+use Rattle.edit_files.specs.Grammar.{AreFileLines, IsFile, radius_limit}
 
--- the lines are the first lines of a file
+-- the lines are the first lines of the text of some file
 abbrev pub AreFirstLines : ℕ → List (List ℕ) → Type 0
-AreFirstLines limit front = (rest : List (List ℕ)) × (file : Content) × AreFileLines limit (front ++ rest) file
+AreFirstLines limit front =
+    (text : List ℕ) × (file : Content) × IsFile limit text file × (rest : List (List ℕ)) × (lines_of text ≡ front ++ rest)
 
 -- The line behind `front` is the first that no file has there.
 pub record IsBadLine (limit : ℕ) (lines front : List (List ℕ)) (line : List ℕ) : Type 0 where
@@ -46,12 +47,16 @@ is_full limit front =
     then nat_le radius_limit (length (lines_after (codes "radii") front))
     else nat_le limit (count_by (λ line. not (is_word line)) (drop 1 front))
 
--- the form that a line behind `front` is to have: that of a radius line, of an edit line or of a point line
+-- the form that lines have: that of radius lines, where their word is there; else that of edit lines, where theirs is; else
+-- that of point lines
+abbrev pub HasFormIn : Bool → Bool → List ℕ → Type 0
+HasFormIn true edits line = IsNumber line
+HasFormIn false true line = HasEditForm line
+HasFormIn false false line = HasPointForm line
+
+-- a line behind `front` has the form of its list
 abbrev pub HasForm : List (List ℕ) → List ℕ → Type 0
-HasForm front line =
-    (IsTrue (has (codes "radii") front) → IsNumber line)
-    × (IsTrue (not (has (codes "radii") front)) → IsTrue (has (codes "edits") front) → HasEditForm line)
-    × (IsTrue (not (has (codes "radii") front)) → IsTrue (not (has (codes "edits") front)) → HasPointForm line)
+HasForm front line = HasFormIn (has (codes "radii") front) (has (codes "edits") front) line
 
 -- why a line behind `front` is bad: the first of the reasons that holds
 abbrev pub IsReason : ℕ → List (List ℕ) → List ℕ → Why → Type 0

@@ -6,3 +6,4 @@ pub mod Forms
 pub mod Grammar
 pub mod Faults
 pub mod Judging
+pub mod Writing

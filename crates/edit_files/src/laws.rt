@@ -4,6 +4,7 @@ ghost use Rattle.std.specs.Prelude.{◌≡◌, ◌⊎◌, ℕ, List};
 ghost use Rattle.edit_files.specs.Content.{Content};
 ghost use Rattle.edit_files.specs.Grammar.{IsFile};
 ghost use Rattle.edit_files.specs.Faults.{IsFault};
+ghost use Rattle.edit_files.specs.Writing.{IsWithin, file_text};
 ghost use Rattle.edit_files.specs.declared.fault.Fault.{Fault};
 
 /// A text is of at most one file.
@@ -24,4 +25,14 @@ pub fn file_or_fault()
 /// A text has at most one fault.
 pub fn one_fault()
     ensures { (limit : ℕ) (bytes : List ℕ) (a b : Fault) → IsFault limit bytes a → IsFault limit bytes b → a ≡ b }
+{}
+
+/// The text that is written of a file is of that file, where the file is within what a text may hold.
+pub fn written_is_read()
+    ensures { (limit : ℕ) (f : Content) → IsWithin limit f → IsFile limit (file_text f) f }
+{}
+
+/// What a text can be of is within what a text may hold.
+pub fn file_is_within()
+    ensures { (limit : ℕ) (bytes : List ℕ) (f : Content) → IsFile limit bytes f → IsWithin limit f }
 {}

@@ -10,10 +10,12 @@ pub mod laws;
 mod line;
 mod reader;
 mod scan;
+mod writing;
 
 pub use fault::{Fault, ReadRefused, Why};
 pub use file::{File, Lines};
 pub use reader::{LINE_LIMIT, RADIUS_LIMIT, read_file};
+pub use writing::file_text;
 
 #[cfg(test)]
 mod tests;

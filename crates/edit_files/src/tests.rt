@@ -107,3 +107,19 @@ fn file(rt: HostRuntime) -> Result<(), Fail> {
     assert_eq!(rt; file.radii.as_slice(), [3, 1_073_741_823].as_slice());
     Ok(())
 }
+
+// A file is written in its one form, and what was written is read again.
+#[test]
+fn written(rt: HostRuntime) -> Result<(), Fail> {
+    let alloc = rt.alloc();
+    let bytes =
+        b"mesh3 1\npoints\n0 0 0\n007 2 16383\nedits\n+ 1 1 1\n- 1 1 -0\nradii\n3\n1073741823\nend";
+    let wanted =
+        b"mesh3 1\npoints\n0 0 0\n7 2 16383\nedits\n+ 1 1 1\n- 1 1 0\nradii\n3\n1073741823\nend\n";
+    let Ok(file) = read_file(alloc, bytes) else {
+        panic!(rt; "the file is not read");
+    };
+    let text = file_text(alloc, &file)?;
+    assert_eq!(rt; text.as_slice(), wanted.as_slice());
+    Ok(())
+}

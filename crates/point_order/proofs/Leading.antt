@@ -9,10 +9,12 @@ use Rattle.whole_ring.specs.Signs.{HasSignOf}
 
 -- ---- a multiple of p, and less than p
 
+-- a positive multiple of p, and less than p, is positive
 lead-pos : (n p : ℕ) (t : ℤ) → 0 < n → unsigned_abs t < p → pos 0 <ℤ (pos n *ℤ pos p +ℤ t)
 lead-pos n p t h k =
     let e : p ≤ n * p = grind arith in omega (arith, ints)
 
+-- a negative multiple of p, and less than p, is negative
 lead-neg : (n p : ℕ) (t : ℤ) → unsigned_abs t < p → (negsuc n *ℤ pos p +ℤ t) <ℤ pos 0
 lead-neg n p t k =
     let e : p ≤ suc n * p = grind arith in omega (arith, ints)
@@ -26,6 +28,7 @@ lead_sign (negsuc n) p t k =
 
 -- ---- a term of a lower power is small
 
+-- a tenth of b, times q, is at most a tenth of r, where q * b is at most r
 scaled : (m b q r : ℕ) → m * 10 ≤ b → q * b ≤ r → m * q * 10 ≤ r
 scaled m b q r h k = let e : m * 10 * q ≤ b * q = mul-le-mul_right q h in omega arith
 
@@ -51,6 +54,7 @@ four_low u v w x p z b c d e = omega (arith, ints)
 
 -- ---- heights n * p + q, split by p
 
+-- a height that is multiplied
 mul_split : (s : ℤ) (n p q : ℕ) → s *ℤ pos (n * p + q) ≡ s *ℤ pos n *ℤ pos p +ℤ s *ℤ pos q
 mul_split s n p q = mul_add s (pos (n * p)) (pos q) ∙ ap (λ (v : ℤ). v +ℤ s *ℤ pos q) (sym (mul_assoc s (pos n) (pos p)))
 
@@ -58,6 +62,7 @@ mul_split s n p q = mul_add s (pos (n * p)) (pos q) ∙ ap (λ (v : ℤ). v +ℤ
 gather : (p : ℤ) (s t u v w : ℤ) → (s -ℤ t +ℤ u -ℤ v +ℤ w) *ℤ p ≡ s *ℤ p -ℤ t *ℤ p +ℤ u *ℤ p -ℤ v *ℤ p +ℤ w *ℤ p
 gather p s t u v w = simp (add_mul, neg_mul)
 
+-- five sums, their first parts before their second ones
 regroup : (a b c d e f g h i j : ℤ) → (a +ℤ b) -ℤ (c +ℤ d) +ℤ (e +ℤ f) -ℤ (g +ℤ h) +ℤ (i +ℤ j) ≡ (a -ℤ c +ℤ e -ℤ g +ℤ i) +ℤ (b +ℤ neg_ℤ d +ℤ f +ℤ neg_ℤ h +ℤ j)
 regroup a b c d e f g h i j = omega (arith, ints)
 

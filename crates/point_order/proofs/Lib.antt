@@ -4,5 +4,6 @@ pub mod Written
 pub mod Determinants
 pub mod Leading
 pub mod Sizes
-pub mod SideRule
+pub mod Perturbation
 pub mod SignRule
+pub mod HeightLaws

@@ -1,29 +1,36 @@
 -- The sign of the lifted determinant at the perturbed heights, by the coefficient that decides a tie.
-use Rattle.std.proofs.Common.{◌≡◌, ◌≢◌, ◌<◌, ◌⊎◌, inl, inr, ℕ, ℤ, pos, subst, sym, ap, ◌∙◌, arith}
+use Rattle.std.proofs.Common.{◌≡◌, ◌≢◌, ◌<◌, ◌≤◌, ◌+◌, ◌⊎◌, inl, inr, ℕ, zero, suc, ℤ, pos, subst, sym, ap, ◌∙◌, arith, false}
 use Rattle.std.proofs.lemmas.Int.{ints}
 use Rattle.std.proofs.lemmas.Bool.Decides.{nat_tests}
 use Rattle.std.proofs.Math.IntN.{neg_ℤ}
 use Rattle.whole_ring.specs.Signs.{HasSignOf}
-use Rattle.point_order.specs.Orientation.{orientation}
+use Rattle.whole_ring.specs.Signs.{below, at_zero, above}
+use Rattle.whole_ring.proofs.Signs.{sign}
+use Rattle.point_order.specs.Orientation.{orientation, is_zero, is_flat}
 use Rattle.point_order.specs.Heights.{sphere_polynomial, out}
 use Rattle.point_order.specs.Sets.{AreFive}
 use Rattle.point_order.specs.Laws.{coefficient, IsDeciding}
-use Rattle.point_order.proofs.SideRule.{Yields, tie-a, tie-b, tie-c, tie-d, tie-e}
+use Rattle.point_order.proofs.Perturbation.{Yields, tie-a, tie-b, tie-c, tie-d, tie-e}
 
 -- ---- the coefficients of five points
 
+-- the coefficient of the fifth
 pub coefficient-e : (a b c d e : ℕ) → AreFive a b c d e → coefficient a b c d e e ≡ orientation a b c d
 coefficient-e a b c d e h = grind (arith, nat_tests)
 
+-- of the fourth
 pub coefficient-d : (a b c d e : ℕ) → AreFive a b c d e → coefficient a b c d e d ≡ neg_ℤ (orientation a b c e)
 coefficient-d a b c d e h = grind (arith, nat_tests)
 
+-- of the third
 pub coefficient-c : (a b c d e : ℕ) → AreFive a b c d e → coefficient a b c d e c ≡ orientation a b d e
 coefficient-c a b c d e h = grind (arith, nat_tests)
 
+-- of the second
 pub coefficient-b : (a b c d e : ℕ) → AreFive a b c d e → coefficient a b c d e b ≡ neg_ℤ (orientation a c d e)
 coefficient-b a b c d e h = grind (arith, nat_tests)
 
+-- of the first
 pub coefficient-a : (a b c d e : ℕ) → AreFive a b c d e → coefficient a b c d e a ≡ orientation b c d e
 coefficient-a a b c d e h = grind (arith, nat_tests)
 
@@ -46,6 +53,7 @@ yields : (a b c d e p q : ℕ) (z : ℤ) → IsPast a b c d e p → coefficient 
 yields a b c d e p q z h is n =
     record { either = grind (arith, h q) }
 
+-- the same where the coefficient is a negated number
 yields-neg : (a b c d e p q : ℕ) (z : ℤ) → IsPast a b c d e p → coefficient a b c d e q ≡ neg_ℤ z → q ≢ p → Yields z q p
 yields-neg a b c d e p q z h is n =
     record { either = elim (let y = yields a b c d e p q (neg_ℤ z) h is n in y.either) [ inl e ↦ inl (zero z e) | inr l ↦ inr l ] }
@@ -53,22 +61,27 @@ yields-neg a b c d e p q z h is n =
     zero : (z : ℤ) → neg_ℤ z ≡ pos 0 → z ≡ pos 0
     zero z e = omega (arith, ints)
 
+-- at a tie where e is past every other with a coefficient, it gives the sign
 decides-e : (a b c d e : ℕ) → AreFive a b c d e → sphere_polynomial a b c d e ≡ pos 0 → IsPast a b c d e e → HasSignOf (orientation a b c d) (out a b c d e)
 decides-e a b c d e n t h =
     tie-e a b c d e t (yields-neg a b c d e e d (orientation a b c e) h (coefficient-d a b c d e n) n.9) (yields a b c d e e c (orientation a b d e) h (coefficient-c a b c d e n) n.8) (yields-neg a b c d e e b (orientation a c d e) h (coefficient-b a b c d e n) n.6) (yields a b c d e e a (orientation b c d e) h (coefficient-a a b c d e n) n.3)
 
+-- where d is
 decides-d : (a b c d e : ℕ) → AreFive a b c d e → sphere_polynomial a b c d e ≡ pos 0 → IsPast a b c d e d → HasSignOf (neg_ℤ (orientation a b c e)) (out a b c d e)
 decides-d a b c d e n t h =
     tie-d a b c d e t (yields a b c d e d e (orientation a b c d) h (coefficient-e a b c d e n) (λ w. n.9 (sym w))) (yields a b c d e d c (orientation a b d e) h (coefficient-c a b c d e n) n.7) (yields-neg a b c d e d b (orientation a c d e) h (coefficient-b a b c d e n) n.5) (yields a b c d e d a (orientation b c d e) h (coefficient-a a b c d e n) n.2)
 
+-- where c is
 decides-c : (a b c d e : ℕ) → AreFive a b c d e → sphere_polynomial a b c d e ≡ pos 0 → IsPast a b c d e c → HasSignOf (orientation a b d e) (out a b c d e)
 decides-c a b c d e n t h =
     tie-c a b c d e t (yields a b c d e c e (orientation a b c d) h (coefficient-e a b c d e n) (λ w. n.8 (sym w))) (yields-neg a b c d e c d (orientation a b c e) h (coefficient-d a b c d e n) (λ w. n.7 (sym w))) (yields-neg a b c d e c b (orientation a c d e) h (coefficient-b a b c d e n) n.4) (yields a b c d e c a (orientation b c d e) h (coefficient-a a b c d e n) n.1)
 
+-- where b is
 decides-b : (a b c d e : ℕ) → AreFive a b c d e → sphere_polynomial a b c d e ≡ pos 0 → IsPast a b c d e b → HasSignOf (neg_ℤ (orientation a c d e)) (out a b c d e)
 decides-b a b c d e n t h =
     tie-b a b c d e t (yields a b c d e b e (orientation a b c d) h (coefficient-e a b c d e n) (λ w. n.6 (sym w))) (yields-neg a b c d e b d (orientation a b c e) h (coefficient-d a b c d e n) (λ w. n.5 (sym w))) (yields a b c d e b c (orientation a b d e) h (coefficient-c a b c d e n) (λ w. n.4 (sym w))) (yields a b c d e b a (orientation b c d e) h (coefficient-a a b c d e n) n.0)
 
+-- where a is
 decides-a : (a b c d e : ℕ) → AreFive a b c d e → sphere_polynomial a b c d e ≡ pos 0 → IsPast a b c d e a → HasSignOf (orientation b c d e) (out a b c d e)
 decides-a a b c d e n t h =
     tie-a a b c d e t (yields a b c d e a e (orientation a b c d) h (coefficient-e a b c d e n) (λ w. n.3 (sym w))) (yields-neg a b c d e a d (orientation a b c e) h (coefficient-d a b c d e n) (λ w. n.2 (sym w))) (yields a b c d e a c (orientation a b d e) h (coefficient-c a b c d e n) (λ w. n.1 (sym w))) (yields-neg a b c d e a b (orientation a c d e) h (coefficient-b a b c d e n) (λ w. n.0 (sym w)))
@@ -97,3 +110,35 @@ sign-of_tie a b c d e p n t h =
         ]
       ]
     ]
+
+-- ---- some point decides
+
+-- a number that is not told to be 0 is not 0
+pub not-zero : (z : ℤ) → is_zero z ≡ false → z ≢ pos 0
+not-zero z h = grind (arith, ints)
+
+-- a number past the sum of the five is none of them
+none-past : (a b c d e q : ℕ) → a + b + c + d + e < q → coefficient a b c d e q ≡ pos 0
+none-past a b c d e q l =
+    coefficient-none a b c d e q (λ x. absurd (omega arith)) (λ x. absurd (omega arith)) (λ x. absurd (omega arith)) (λ x. absurd (omega arith)) (λ x. absurd (omega arith))
+
+-- from n down to the greatest that has a coefficient
+find : (a b c d e n : ℕ) → coefficient a b c d e e ≢ pos 0 → ((q : ℕ) → n ≤ q → coefficient a b c d e q ≡ pos 0) → (p : ℕ) × IsDeciding a b c d e p
+find a b c d e zero k h = absurd (k (h e (omega arith)))
+find a b c d e (suc n) k h =
+    elim (sign (coefficient a b c d e n)) [
+      | below m ↦ (n, ((λ z. absurd (omega (arith, ints, m, z))), λ q l. h q (omega arith)))
+      | at_zero z ↦ find a b c d e n k (λ q l. step a b c d e n q z h l)
+      | above m ↦ (n, ((λ z. absurd (omega (arith, ints, m, z))), λ q l. h q (omega arith)))
+    ]
+  where
+    or-past : (n q : ℕ) → n ≤ q → (q ≡ n) ⊎ (suc n ≤ q)
+    or-past n q l = grind arith
+
+    step : (a b c d e n q : ℕ) → coefficient a b c d e n ≡ pos 0 → ((q : ℕ) → suc n ≤ q → coefficient a b c d e q ≡ pos 0) → n ≤ q → coefficient a b c d e q ≡ pos 0
+    step a b c d e n q z h l = elim (or-past n q l) [ inl i ↦ ap (λ v. coefficient a b c d e v) i ∙ z | inr m ↦ h q m ]
+
+-- of five points of which the first four are independent, one decides
+pub decided : (a b c d e : ℕ) → AreFive a b c d e → is_flat a b c d ≡ false → (p : ℕ) × IsDeciding a b c d e p
+decided a b c d e n f =
+    find a b c d e (suc (a + b + c + d + e)) (λ z. not-zero (orientation a b c d) f (sym (coefficient-e a b c d e n) ∙ z)) (λ q l. none-past a b c d e q (omega arith))

@@ -11,28 +11,33 @@ use Rattle.point_order.proofs.Keys.{x_of-below, y_of-below, z_of-below}
 apart : (m n : ℕ) → m < 16384 → n < 16384 → IsWithin 16383 (pos n -ℤ pos m)
 apart m n h k = record { size = omega (arith, ints) }
 
+-- so a coordinate of a step is at most 16383
 pub x_from-within : (a b : ℕ) → IsWithin 16383 (x_from a b)
 unfolding x_from
 x_from-within a b = apart (x_of a) (x_of b) (x_of-below a) (x_of-below b)
 
+-- the second coordinate
 pub y_from-within : (a b : ℕ) → IsWithin 16383 (y_from a b)
 unfolding y_from
 y_from-within a b = apart (y_of a) (y_of b) (y_of-below a) (y_of-below b)
 
+-- the third
 pub z_from-within : (a b : ℕ) → IsWithin 16383 (z_from a b)
 unfolding z_from
 z_from-within a b = apart (z_of a) (z_of b) (z_of-below a) (z_of-below b)
 
+-- a minor of small numbers is at most 2 times 16383^2
 pub minor-within : {p q r s : ℤ} → IsWithin 16383 p → IsWithin 16383 q → IsWithin 16383 r → IsWithin 16383 s → IsWithin 536805378 (minor p q r s)
 unfolding minor
 minor-within h i j k = within-sub (within-mul h k) (within-mul i j)
 
+-- a determinant of them is at most 6 times 16383^3
 pub triple-within : {a b c d e f g h i : ℤ} → IsWithin 16383 a → IsWithin 16383 b → IsWithin 16383 c → IsWithin 16383 d → IsWithin 16383 e → IsWithin 16383 f → IsWithin 16383 g → IsWithin 16383 h → IsWithin 16383 i → IsWithin 26383447523322 (triple a b c d e f g h i)
 unfolding triple
 triple-within a b c d e f g h i =
     within-add (within-add (within-mul a (minor-within e f h i)) (within-mul b (minor-within f d i g))) (within-mul c (minor-within d e g h))
 
--- an orientation is at most 6 times 16383^3
+-- and so is an orientation
 pub orientation-within : (a b c d : ℕ) → IsWithin 26383447523322 (orientation a b c d)
 unfolding orientation
 orientation-within a b c d =

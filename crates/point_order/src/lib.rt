@@ -5,9 +5,13 @@
 #![tactic(auto)]
 
 pub mod cell;
+pub mod laws;
 mod point;
 mod step;
 
 pub use cell::{Cell, Facet, Pair, Quad, Tri};
 pub use point::{OutOfRange, Point};
 pub use step::{Normal, Step};
+
+#[cfg(test)]
+mod tests;

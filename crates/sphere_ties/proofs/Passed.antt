@@ -1,16 +1,12 @@
 -- What one look at a tie shows: the greatest point below the limit, where all from the limit on have the coefficient 0.
-use Rattle.std.proofs.Common.{◌≡◌, ◌≢◌, ◌<◌, ◌≤◌, ◌⊎◌, inl, inr, ℕ, [], ◌∷◌, ℤ, pos, sym, ◌∙◌, ap, arith, false, ◌<ℤ◌}
+use Rattle.std.proofs.Common.{◌≡◌, ◌≢◌, ◌<◌, ◌≤◌, ◌⊎◌, inl, inr, ℕ, [], ◌∷◌, pos, sym, ◌∙◌, ap, arith, false, ◌<ℤ◌}
 use Rattle.std.proofs.lemmas.Int.{ints}
 use Rattle.whole_ring.specs.Signs.{below, at_zero, above}
 use Rattle.whole_ring.proofs.Signs.{sign}
-use Rattle.point_order.specs.Orientation.{orientation, is_zero, is_flat}
+use Rattle.point_order.specs.Orientation.{orientation, is_flat}
 use Rattle.point_order.specs.Sets.{AreFive, IsIn}
 use Rattle.point_order.specs.Laws.{coefficient}
-use Rattle.point_order.proofs.SignRule.{coefficient-e, one-of_five}
-
--- a number that is not told to be 0 is not 0
-pub not-zero : (z : ℤ) → is_zero z ≡ false → z ≢ pos 0
-not-zero z h = grind (arith, ints)
+use Rattle.point_order.proofs.SignRule.{coefficient-e, not-zero, one-of_five}
 
 -- the last point keeps its coefficient, so it is below the limit
 pub last-below : (a b c d e limit : ℕ) → AreFive a b c d e → is_flat a b c d ≡ false → ((q : ℕ) → limit ≤ q → coefficient a b c d e q ≡ pos 0) → e < limit

@@ -25,7 +25,7 @@ fn greater_below(best: Point, next: Point, limit: u64) -> Point
     }
 }
 
-// A point below the limit, than which none of the five that is below it is greater.
+// A point below the limit. None of the five below the limit is greater.
 fn highest(a: Point, b: Point, c: Point, d: Point, e: Point, limit: u64) -> Point
     requires { e < limit }
     ensures below { result < limit }
@@ -56,7 +56,7 @@ fn coefficient_of(a: Point, b: Point, c: Point, d: Point, e: Point, at: Point) -
     }
 }
 
-/// The coefficient of the greatest point that has one.
+/// The coefficient of the greatest point whose coefficient is not 0.
 pub fn first_coefficient(a: Point, b: Point, c: Point, d: Point, e: Point) -> i64
     requires independent { is_flat a b c d ≡ false }
     requires distinct { AreFive a b c d e }

@@ -1,0 +1,10 @@
+-- what is put so far and the lines that are left are all of them
+use Rattle.std.proofs.Common.{◌≡◌, ◌++◌, drop}
+use Rattle.std.specs.Prelude.{map}
+use Rattle.edit_files.specs.Lines.{text_of}
+use Rattle.edit_files.specs.Writing.{point_text}
+use Rattle.edit_files.proofs.writing.put_points.Given as goal
+
+abbrev pub invariant-loop-point : goal.invariant-loop-point
+invariant-loop-point l =
+    l.text.items ++ text_of (map point_text (drop l.point-index l.points)) ≡ l.fn.text.items ++ text_of (map point_text l.points)

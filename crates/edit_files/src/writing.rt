@@ -1,0 +1,108 @@
+//! Writing an edit file.
+
+ghost use Rattle.std.specs.Prelude.{◌≡◌, List, ℕ, [], ◌∷◌, ◌++◌, codes, decimal, map, IfOk, OnOk};
+ghost use Rattle.edit_files.specs.Content.{content};
+ghost use Rattle.edit_files.specs.Lines.{text_of};
+ghost use Rattle.edit_files.specs.Writing.{point_text, edit_text, file_text};
+
+use crate::file::File;
+use edit_history::Edit;
+use itoa::Buffer;
+use point_order::Point;
+use std::alloc::{AllocError, Global};
+
+// Puts a number in decimal behind the text.
+fn put_number(text: &mut Vec<u8>, number: u64) -> Result<(), AllocError>
+    ensures { OnOk result (text.new.items ≡ text.old.items ++ decimal number) }
+{
+    let mut buffer = Buffer::new();
+    text.extend_from_slice(buffer.format(number).as_bytes())?;
+    Ok(())
+}
+
+// Puts a section word behind the text, as a line.
+fn put_word(text: &mut Vec<u8>, word: &[u8]) -> Result<(), AllocError>
+    ensures { OnOk result (text.new.items ≡ text.old.items ++ text_of (word.now ∷ [])) }
+{
+    text.extend_from_slice(word)?;
+    text.push(b'\n')?;
+    Ok(())
+}
+
+// Puts a point behind the text, as a point line.
+fn put_point(text: &mut Vec<u8>, point: Point) -> Result<(), AllocError>
+    ensures { OnOk result (text.new.items ≡ text.old.items ++ text_of (point_text point ∷ [])) }
+{
+    put_number(text, point.x() as u64)?;
+    text.push(b' ')?;
+    put_number(text, point.y() as u64)?;
+    text.push(b' ')?;
+    put_number(text, point.z() as u64)?;
+    text.push(b'\n')?;
+    Ok(())
+}
+
+// Puts an edit behind the text, as an edit line.
+fn put_edit(text: &mut Vec<u8>, edit: Edit) -> Result<(), AllocError>
+    ensures { OnOk result (text.new.items ≡ text.old.items ++ text_of (edit_text edit ∷ [])) }
+{
+    match edit {
+        Edit::Add(point) => {
+            text.extend_from_slice(b"+ ")?;
+            put_point(text, point)
+        }
+        Edit::Take(point) => {
+            text.extend_from_slice(b"- ")?;
+            put_point(text, point)
+        }
+    }
+}
+
+fn put_points(text: &mut Vec<u8>, points: &[Point]) -> Result<(), AllocError>
+    ensures { OnOk result (text.new.items ≡ text.old.items ++ text_of (map point_text points.now)) }
+{
+    for point in points {
+        put_point(text, *point)?;
+    }
+    Ok(())
+}
+
+fn put_edits(text: &mut Vec<u8>, edits: &[Edit]) -> Result<(), AllocError>
+    ensures { OnOk result (text.new.items ≡ text.old.items ++ text_of (map edit_text edits.now)) }
+{
+    for edit in edits {
+        put_edit(text, *edit)?;
+    }
+    Ok(())
+}
+
+fn put_radii(text: &mut Vec<u8>, radii: &[u64]) -> Result<(), AllocError>
+    ensures { OnOk result (text.new.items ≡ text.old.items ++ text_of (map decimal radii.now)) }
+{
+    for radius in radii {
+        put_number(text, *radius)?;
+        text.push(b'\n')?;
+    }
+    Ok(())
+}
+
+/// The text of a file: numbers with no leading zeros, and each line with its line feed.
+///
+/// `read_file` reads it again as this file, where the file is within what a text may hold.
+///
+/// # Errors
+/// Where there is no memory for the text.
+pub fn file_text(alloc: Global, file: &File) -> Result<Vec<u8>, AllocError>
+    ensures { IfOk result (λ text. text.items ≡ file_text (content file.now)) }
+{
+    let mut text = Vec::new(alloc);
+    put_word(&mut text, b"mesh3 1")?;
+    put_word(&mut text, b"points")?;
+    put_points(&mut text, &file.points)?;
+    put_word(&mut text, b"edits")?;
+    put_edits(&mut text, &file.edits)?;
+    put_word(&mut text, b"radii")?;
+    put_radii(&mut text, &file.radii)?;
+    put_word(&mut text, b"end")?;
+    Ok(text)
+}
