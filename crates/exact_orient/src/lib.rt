@@ -1,4 +1,5 @@
 //! The orientation of four points, exactly.
+#![tactic(auto)]
 
 ghost use Rattle.std.specs.Prelude.{◌≡◌, ◌&&◌, ◌<◌, ◌^◌, unsigned_abs};
 ghost use Rattle.point_order.specs.Orientation.{orientation, is_collinear, is_zero};
@@ -30,3 +31,6 @@ fn are_zero(x: i64, y: i64, z: i64) -> bool
 {
     x == 0 && y == 0 && z == 0
 }
+
+#[cfg(test)]
+mod tests;

@@ -4,7 +4,7 @@ use Rattle.whole_ring.specs.Bounds.{IsWithin}
 use Rattle.std.specs.Int.{w128}
 use Rattle.std.specs.Int.RustNames.{FitsSigned}
 use Rattle.whole_ring.proofs.Bounds.{within-add, within-sub, within-fits}
-use Rattle.sphere_ties.proofs.exact_sphere.alternating.Goals as goal
+use Rattle.exact_sphere.proofs.alternating.Goals as goal
 
 pub overflow_sub-result : goal.overflow_sub-result
 overflow_sub-result c =

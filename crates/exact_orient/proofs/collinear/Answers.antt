@@ -1,7 +1,7 @@
 use Rattle.std.proofs.Common.{arith}
 use Rattle.std.proofs.lemmas.Int.{to_z-of_z}
 use Rattle.point_order.specs.Orientation.{normal_x, normal_y, normal_z}
-use Rattle.sphere_ties.proofs.exact_orient.collinear.Goals as goal
+use Rattle.exact_orient.proofs.collinear.Goals as goal
 
 pub returns : goal.returns
 unfolding normal_x normal_y normal_z

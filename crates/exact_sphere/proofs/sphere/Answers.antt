@@ -2,7 +2,7 @@ use Rattle.std.proofs.Common.{arith}
 use Rattle.std.proofs.lemmas.Int.{to_z-of_z}
 use Rattle.point_order.specs.Orientation.{orientation, distance}
 use Rattle.point_order.proofs.Determinants.{sphere-from_first}
-use Rattle.sphere_ties.proofs.exact_sphere.sphere.Goals as goal
+use Rattle.exact_sphere.proofs.sphere.Goals as goal
 
 pub returns-clause-value : goal.returns-clause-value
 unfolding orientation distance

@@ -1,4 +1,5 @@
 //! The in-sphere polynomial of five points, exactly.
+#![tactic(auto)]
 
 ghost use Rattle.std.specs.Prelude.{◌≡◌, ◌<◌, ◌^◌, ◌*ℤ◌, ◌+ℤ◌, ◌-ℤ◌, unsigned_abs};
 ghost use Rattle.whole_ring.specs.Bounds.{IsWithin};
@@ -50,3 +51,6 @@ pub fn sphere(a: Point, b: Point, c: Point, d: Point, e: Point) -> i128
         term(v.triple(w, t), u.square()),
     )
 }
+
+#[cfg(test)]
+mod tests;
