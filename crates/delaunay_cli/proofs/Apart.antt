@@ -2,7 +2,7 @@
 use Rattle.std.proofs.Common.{◌≡◌, ◌≢◌, refl, sym, ap, ◌∙◌, ℕ, ℤ, pos, ◌<ℤ◌, arith}
 use Rattle.std.proofs.Math.IntN.{neg_ℤ}
 use Rattle.std.proofs.lemmas.Int.{ints}
-use Rattle.std.specs.Prelude.{Bool, true, false, List, [], ◌∷◌, Option, Some}
+use Rattle.std.specs.Prelude.{Bool, true, false, List, [], ◌∷◌, Some}
 use Rattle.std.specs.List.{find}
 use Rattle.std.specs.Int.Signed.{lt_z}
 use Rattle.std.proofs.lemmas.Bool.Decides.{nat_tests}

@@ -1,19 +1,15 @@
 -- What the judging of a file says of its bytes.
-use Rattle.std.proofs.Common.{◌≡◌, ◌≢◌, ◌⊎◌, ◌↔◌, inl, inr, refl, sym, subst, ap, ◌∙◌, ℕ, ◌+◌, ◌<◌, ◌≤◌, List, [], ◌∷◌, ◌++◌, Bool, false, true, length, arith}
+use Rattle.std.proofs.Common.{◌≡◌, ◌≢◌, ◌⊎◌, ◌↔◌, inl, inr, refl, subst, ap, ◌∙◌, ℕ, ◌+◌, ◌<◌, ◌≤◌, List, [], ◌∷◌, ◌++◌, false, length, arith}
 use Rattle.std.specs.Prelude.{Option, None, Some, IfSome, IsSomeAnd, Vec}
 use Rattle.std.specs.declared.alloc.Global.{Global}
 use Rattle.std.specs.List.{AllZip}
-use Rattle.std.specs.Io.KnownBytes.{Appends}
-use Rattle.byte_ends.specs.Ends.{AppendsFront, Rose}
 use Rattle.point_order.specs.Solid.{is_solid}
-use Rattle.edit_history.specs.declared.history.Entry.{Entry}
 use Rattle.edit_files.specs.Content.{Content}
 use Rattle.edit_files.specs.Grammar.{line_limit, IsFile}
 use Rattle.edit_files.specs.Forms.{IsPointLine, IsEditLine}
 use Rattle.edit_files.specs.Faults.{IsFault}
-use Rattle.edit_files.specs.declared.fault.Fault.{Fault}
-use Rattle.delaunay_cli.specs.Run.{AreMesh, HasFault, IsSolidFile, input_limit, history_of}
-use Rattle.delaunay_cli.specs.Statuses.{IsEarly, plain_line, IsToldLine, IsFaultLine, TellsFault}
+use Rattle.delaunay_cli.specs.Run.{HasFault, IsSolidFile, input_limit}
+use Rattle.delaunay_cli.specs.Statuses.{IsEarly, IsToldLine, IsFaultLine, TellsFault}
 use Rattle.std.proofs.lemmas.Bool.{cases_eq}
 use Rattle.delaunay_cli.specs.Endings.{line_or, line_of}
 use Rattle.delaunay_cli.specs.declared.top.Ended.{Ended}

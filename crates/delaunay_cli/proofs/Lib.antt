@@ -1,5 +1,5 @@
 pub mod Apart
 pub mod Steps
 pub mod Lines
-pub mod CommandWords
+pub mod CommandLine
 pub mod Judging

@@ -1,5 +1,6 @@
 pub mod Trial
 pub mod Report
 pub mod Statuses
+pub mod Words
 pub mod Run
 pub mod Endings

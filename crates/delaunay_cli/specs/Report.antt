@@ -1,5 +1,5 @@
 -- What is written of a history.
-use Rattle.std.specs.Prelude.{ℕ, ◌==◌, List, [], ◌∷◌, map, None, if◌then◌else◌}
+use Rattle.std.specs.Prelude.{ℕ, Bool, ◌==◌, List, [], ◌∷◌, map, Option, None, Some, if◌then◌else◌}
 use Rattle.std.specs.List.{range_with_len}
 use Rattle.point_order.specs.Complex.{complex}
 use Rattle.edit_history.specs.declared.history.Entry.{Entry}
@@ -17,11 +17,20 @@ reply_at (e ∷ h) tag = if e.tag == tag then e.reply else reply_at h tag
 abbrev pub replies_by_tag : ℕ → List Entry → List Reply
 replies_by_tag count h = map (reply_at h) (range_with_len 0 count)
 
--- the report of a history of so many lines: its replies, the points that it leaves, and the complex of these
-abbrev pub report_of : ℕ → List Entry → ReportParts
-report_of count h =
-    record { replies = replies_by_tag count h; points = replay h; cells = complex (replay h); order = None }
+-- the tags of a history, in its order
+abbrev pub tags_of : List Entry → List ℕ
+tags_of h = map (λ e. e.tag) h
+
+-- the tags, where they are asked for
+abbrev pub order_of : Bool → List Entry → Option (List ℕ)
+order_of order h = if order then Some (tags_of h) else None
+
+-- the report of a history of so many lines, with its order block or not: its replies, the points that it leaves, and the
+-- complex of these
+abbrev pub report_of : Bool → ℕ → List Entry → ReportParts
+report_of order count h =
+    record { replies = replies_by_tag count h; points = replay h; cells = complex (replay h); order = order_of order h }
 
 -- its text
-abbrev pub text_of : ℕ → List Entry → List ℕ
-text_of count h = report_text (report_of count h)
+abbrev pub text_of : Bool → ℕ → List Entry → List ℕ
+text_of order count h = report_text (report_of order count h)

@@ -1,9 +1,6 @@
 -- The promise of a run.
-use Rattle.std.specs.Prelude.{◌≡◌, ◌≢◌, ◌⊎◌, ◌↔◌, ◌+◌, ◌≤◌, ◌<◌, ℕ, List, [], ◌∷◌, ◌++◌, length, map, codes, true, false, Option, IfSome}
-use Rattle.std.specs.Prelude.{string_bytes}
-use Rattle.std.specs.Prelude.{String}
-use Rattle.std.specs.declared.alloc.Global.{Global}
-use Rattle.std.specs.Io.KnownBytes.{Appends, Consumes, Keeps, IsAtEnd}
+use Rattle.std.specs.Prelude.{◌≡◌, ◌⊎◌, ◌+◌, ◌≤◌, ℕ, List, length, Bool, true, Option}
+use Rattle.std.specs.Io.KnownBytes.{Appends, Consumes, IsAtEnd}
 use Rattle.byte_ends.specs.Ends.{AppendsFront}
 use Rattle.point_order.specs.Solid.{is_solid}
 use Rattle.edit_history.specs.declared.history.Entry.{Entry}
@@ -18,10 +15,6 @@ use Rattle.delaunay_cli.specs.Statuses.{IsEarly}
 -- how many bytes an input may have: 16,777,216
 abbrev pub input_limit : ℕ
 input_limit = 16777216
-
--- the words are the program's name and `mesh`
-abbrev pub AreMesh : List (String Global) → Type 0
-AreMesh words = (name : List ℕ) × (map string_bytes words ≡ name ∷ codes "mesh" ∷ [])
 
 -- how many point and edit lines a file has
 abbrev pub line_count : Content → ℕ
@@ -38,15 +31,15 @@ pub record Reads (left_old left_new : Option (List ℕ)) (status : ℕ) : Type 0
   pub within : length taken ≤ input_limit + 1
   pub whole : (IsEarly status → ⊥) → IsAtEnd left_new ⊎ (length taken ≡ input_limit + 1)
 
--- the output gained the text of the file that the bytes are, and of the history
-abbrev pub Writes : List ℕ → Option (List ℕ) → Option (List ℕ) → List Entry → Type 0
-Writes bytes old new kept =
-    (file : Content) × IsFile line_limit bytes file × Appends old new (text_of (line_count file) kept)
+-- the output gained the text of the file that the bytes are, and of the history, with its order block or not
+abbrev pub Writes : Bool → List ℕ → Option (List ℕ) → Option (List ℕ) → List Entry → Type 0
+Writes order bytes old new kept =
+    (file : Content) × IsFile line_limit bytes file × Appends old new (text_of order (line_count file) kept)
 
 -- the output gained a front of it
-abbrev pub WritesFront : List ℕ → Option (List ℕ) → Option (List ℕ) → List Entry → Type 0
-WritesFront bytes old new kept =
-    (file : Content) × IsFile line_limit bytes file × AppendsFront old new (text_of (line_count file) kept)
+abbrev pub WritesFront : Bool → List ℕ → Option (List ℕ) → Option (List ℕ) → List Entry → Type 0
+WritesFront order bytes old new kept =
+    (file : Content) × IsFile line_limit bytes file × AppendsFront old new (text_of order (line_count file) kept)
 
 -- the bytes are a solid file within the limit
 abbrev pub IsSolidFile : List ℕ → Type 0

@@ -1,6 +1,7 @@
 //! From an accepted file to the report of its mesh.
 
-ghost use Rattle.std.specs.Prelude.{◌≡◌, ◌≢◌, ◌⊎◌, ◌↔◌, ◌≤◌, ◌<◌, ◌+◌, ◌^◌, [], false, length, IfOk, OnOk, OnErr, IsErr};
+ghost use Rattle.std.specs.Prelude.{◌≡◌, ◌≢◌, ◌⊎◌, ◌↔◌, ◌≤◌, ◌<◌, ◌+◌, ◌^◌, [], false, length, IfOk, OnOk, OnErr, IsErr, option_map, Vec, ℕ};
+ghost use Rattle.std.specs.declared.alloc.Global.{Global};
 ghost use Rattle.std.specs.Io.KnownBytes.{Appends, Keeps};
 ghost use Rattle.byte_ends.specs.Ends.{AppendsFront, Rose};
 ghost use Rattle.point_order.specs.Sets.{IsAscending};
@@ -8,7 +9,7 @@ ghost use Rattle.point_order.specs.Solid.{is_solid};
 ghost use Rattle.edit_files.specs.Content.{content};
 ghost use Rattle.edit_history.specs.Histories.{replay};
 ghost use Rattle.mesh_files.specs.Report.{parts_of};
-ghost use Rattle.delaunay_cli.specs.Report.{report_of, text_of};
+ghost use Rattle.delaunay_cli.specs.Report.{order_of as order_of_it, report_of, tags_of, text_of};
 ghost use Rattle.delaunay_cli.specs.Run.{history_of, line_count};
 
 use crate::outcome::Run;
@@ -16,14 +17,32 @@ use crate::replies::replies_by_tag;
 use crate::trial::complex_by_trial;
 use byte_ends::Sink;
 use edit_files::File;
-use edit_history::{History, find_four};
+use edit_history::{Entry, History, find_four};
 use mesh_files::{Put, Report, put_report};
 use std::alloc::{AllocError, Global};
 
+// The tags of a history, in its order.
+fn tags(alloc: Global, entries: &[Entry]) -> Result<Vec<u32>, AllocError>
+    ensures { IfOk result (λ tags. tags.items ≡ tags_of entries.now) }
+{
+    entries.iter().map(|entry| entry.tag).collect(alloc)
+}
+
+// The tags, where they are asked for.
+fn order_of(alloc: Global, order: bool, entries: &[Entry]) -> Result<Option<Vec<u32>>, AllocError>
+    ensures { IfOk result (λ tags. option_map (λ (tags : Vec ℕ Global). tags.items) tags ≡ order_of_it order entries.now) }
+{
+    if order {
+        Ok(Some(tags(alloc, entries)?))
+    } else {
+        Ok(None)
+    }
+}
+
 // The report of a history and of the points that it leaves.
-fn report(alloc: Global, count: usize, history: &History) -> Result<Report, AllocError>
+fn report(alloc: Global, order: bool, count: usize, history: &History) -> Result<Report, AllocError>
     requires { history.now.points ≡ replay history.now.entries.items }
-    ensures report { IfOk result (λ report. parts_of report ≡ report_of count history.now.entries.items) }
+    ensures report { IfOk result (λ report. parts_of report ≡ report_of order count history.now.entries.items) }
     ensures order { IfOk result (λ report. IsAscending report.points.items) }
 {
     let points = history.points.points();
@@ -31,21 +50,22 @@ fn report(alloc: Global, count: usize, history: &History) -> Result<Report, Allo
         replies: replies_by_tag(alloc, count, &history.entries)?,
         points: Vec::from_slice(alloc, points)?,
         cells: complex_by_trial(alloc, points)?,
-        order: None,
+        order: order_of(alloc, order, &history.entries)?,
     })
 }
 
-/// Makes the history of one thread of the file's lines, and writes the report of what it leaves.
-pub fn mesh<O: Sink>(alloc: Global, file: &File, out: &mut O) -> Run
+/// Makes the history of one thread of the file's lines, and writes the report of what it leaves, with the tags of the history
+/// where `order` asks for them.
+pub fn mesh<O: Sink>(alloc: Global, file: &File, order: bool, out: &mut O) -> Run
     requires { length file.now.points.items + length file.now.edits.items < 2 ^ 32 }
     ensures statuses { (result.status ≡ 0) ⊎ (result.status ≡ 1) ⊎ (result.status ≡ 4) ⊎ (result.status ≡ 6) }
     ensures not_solid { result.status ≢ 1 → (result.status ≡ 6 ↔ (is_solid (content file.now).points ≡ false)) }
     ensures kept { (result.status ≡ 0) ⊎ (result.status ≡ 4) → result.kept.items ≡ history_of (content file.now) }
     ensures none_kept { result.status ≢ 0 → result.status ≢ 4 → result.kept.items ≡ [] }
     ensures written { result.status ≡ 0
-        → Appends (O.holds out.old) (O.holds out.new) (text_of (line_count (content file.now)) result.kept.items) }
+        → Appends (O.holds out.old) (O.holds out.new) (text_of order (line_count (content file.now)) result.kept.items) }
     ensures front { result.status ≡ 4
-        → AppendsFront (O.holds out.old) (O.holds out.new) (text_of (line_count (content file.now)) result.kept.items) }
+        → AppendsFront (O.holds out.old) (O.holds out.new) (text_of order (line_count (content file.now)) result.kept.items) }
     ensures nothing { result.status ≢ 0 → result.status ≢ 4 → Keeps (O.holds out.old) (O.holds out.new) }
     ensures later { O.faults out.old ≤ O.faults out.new }
     ensures fault { result.status ≡ 4 → Rose (O.faults out.old) (O.faults out.new) }
@@ -56,7 +76,7 @@ pub fn mesh<O: Sink>(alloc: Global, file: &File, out: &mut O) -> Run
     let Ok(history) = History::of_one_thread(alloc, &file.points, &file.edits) else {
         return Run::ended(alloc, 1);
     };
-    let Ok(report) = report(alloc, file.points.len() + file.edits.len(), &history) else {
+    let Ok(report) = report(alloc, order, file.points.len() + file.edits.len(), &history) else {
         return Run::ended(alloc, 1);
     };
     let kept = history.entries;

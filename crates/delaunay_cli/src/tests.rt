@@ -89,6 +89,28 @@ const MESHES: [Case; 12] = [
     },
 ];
 
+// Files with the report that is wanted of them where the order is asked for.
+const ORDERED: [Case; 3] = [
+    // a point added and taken
+    Case {
+        input: "mesh3 1\npoints\n0 0 0\n2 0 0\n0 2 0\n0 0 2\nedits\n+ 1 1 1\n- 1 1 1\nradii\nend\n",
+        text: "mesh3-out 1\nreplies 6\nInserted\nInserted\nInserted\nInserted\nInserted\nRemoved\npoints 4\n0 0 0\n0 0 2\n0 2 0\n2 0 0\ncells 1\n0 1 2 3\nhull 4\n0 1 2\n0 1 3\n0 2 3\n1 2 3\norder 6\n0\n1\n2\n3\n4\n5\nend\n",
+        tags: &[0, 1, 2, 3, 4, 5],
+    },
+    // a flat rest, and then not
+    Case {
+        input: "mesh3 1\npoints\n0 0 0\n2 0 0\n0 2 0\n2 2 0\n1 1 2\nedits\n- 1 1 2\n- 0 0 0\nradii\nend\n",
+        text: "mesh3-out 1\nreplies 7\nInserted\nInserted\nInserted\nInserted\nInserted\nFlat\nRemoved\npoints 4\n0 2 0\n1 1 2\n2 0 0\n2 2 0\ncells 1\n0 1 2 3\nhull 4\n0 1 2\n0 1 3\n0 2 3\n1 2 3\norder 7\n0\n1\n2\n4\n3\n5\n6\nend\n",
+        tags: &[0, 1, 2, 4, 3, 5, 6],
+    },
+    // a duplicate, and three points on a line
+    Case {
+        input: "mesh3 1\npoints\n0 0 0\n0 0 0\n2 0 0\n4 0 0\n0 2 0\n0 0 2\nedits\nradii\nend\n",
+        text: "mesh3-out 1\nreplies 6\nInserted\nDuplicate\nInserted\nInserted\nInserted\nInserted\npoints 5\n0 0 0\n0 0 2\n0 2 0\n2 0 0\n4 0 0\ncells 2\n0 1 2 3\n1 2 3 4\nhull 6\n0 1 2\n0 1 3\n0 2 3\n1 2 4\n1 3 4\n2 3 4\norder 6\n0\n2\n4\n5\n1\n3\nend\n",
+        tags: &[0, 2, 4, 5, 1, 3],
+    },
+];
+
 const TETRAHEDRON: &str = "mesh3 1\npoints\n0 0 0\n2 0 0\n0 2 0\n0 0 2\nedits\nradii\nend\n";
 
 // What a run did.
@@ -237,23 +259,90 @@ fn refuses_files(rt: HostRuntime) -> Result<(), Fail> {
 }
 
 #[test]
+fn meshes_with_their_order(rt: HostRuntime) -> Result<(), Fail> {
+    let alloc = rt.alloc();
+    for case in &ORDERED {
+        let words = ["delaunay", "mesh", "--order"];
+        let did = run_over(alloc, &words, case.input.as_bytes(), NONE)?;
+        assert_eq!(rt; did.run.status, 0);
+        assert_eq!(rt; did.out.bytes(), case.text.as_bytes());
+        assert!(rt; did.err.bytes().is_empty());
+        let tags = tags_of(alloc, &did.run.kept)?;
+        assert_eq!(rt; tags.as_slice(), case.tags);
+    }
+    Ok(())
+}
+
+// Words that are taken, and whether they ask for the order.
+const TAKEN: [(&[&str], bool); 9] = [
+    (&["delaunay", "mesh"], false),
+    (&["", "mesh"], false),
+    (&["delaunay", "mesh", "--order"], true),
+    (&["delaunay", "mesh", "--workers", "1"], false),
+    (&["delaunay", "mesh", "--workers=1"], false),
+    (&["delaunay", "mesh", "--workers", "01"], false),
+    (&["delaunay", "mesh", "--workers", "+1"], false),
+    (&["delaunay", "mesh", "--workers", "1", "--order"], true),
+    (&["delaunay", "mesh", "--order", "--workers=1"], true),
+];
+
+#[test]
+fn takes_words(rt: HostRuntime) -> Result<(), Fail> {
+    let alloc = rt.alloc();
+    for (words, order) in TAKEN {
+        let did = run_over(alloc, words, TETRAHEDRON.as_bytes(), NONE)?;
+        assert_eq!(rt; did.run.status, 0);
+        let end: &[u8] = if order {
+            b"1 2 3\norder 4\n0\n1\n2\n3\nend\n"
+        } else {
+            b"0 2 3\n1 2 3\nend\n"
+        };
+        assert!(rt; did.out.bytes().ends_with(end));
+    }
+    Ok(())
+}
+
+// Words that are refused.
+const USAGE: [&[&str]; 28] = [
+    &[],
+    &["delaunay"],
+    &["delaunay", "draw"],
+    &["delaunay", ""],
+    &["delaunay", "Mesh"],
+    &["delaunay", "mes"],
+    &["delaunay", "mesh", "mesh"],
+    &["delaunay", "--help"],
+    &["delaunay", "-h"],
+    &["delaunay", "help"],
+    &["delaunay", "help", "mesh"],
+    &["delaunay", "mesh", "--help"],
+    &["delaunay", "--version"],
+    &["delaunay", "--order", "mesh"],
+    &["delaunay", "mesh", "--order", "--order"],
+    &["delaunay", "mesh", "--order=true"],
+    &["delaunay", "mesh", "--orders"],
+    &["delaunay", "mesh", "order"],
+    &["delaunay", "mesh", "-o"],
+    &["delaunay", "mesh", "--workers"],
+    &["delaunay", "mesh", "--workers="],
+    &["delaunay", "mesh", "--workers", "one"],
+    &["delaunay", "mesh", "--workers", "0"],
+    &["delaunay", "mesh", "--workers", "2"],
+    &["delaunay", "mesh", "--workers", "-1"],
+    &["delaunay", "mesh", "--workers", "1", "--workers", "1"],
+    &["delaunay", "mesh", "--grid", "3"],
+    &["delaunay", "gen", "--count", "1"],
+];
+
+#[test]
 fn refuses_words(rt: HostRuntime) -> Result<(), Fail> {
     let alloc = rt.alloc();
-    let refused: [&[&str]; 8] = [
-        &[],
-        &["delaunay"],
-        &["delaunay", "draw"],
-        &["delaunay", ""],
-        &["delaunay", "Mesh"],
-        &["delaunay", "mesh", "mesh"],
-        &["delaunay", "--help"],
-        &["delaunay", "mesh", "--workers", "0"],
-    ];
-    for words in refused {
+    for words in USAGE {
         let did = run_over(alloc, words, TETRAHEDRON.as_bytes(), NONE)?;
         assert_eq!(rt; did.run.status, 2);
         assert_eq!(rt; did.err.bytes(), b"delaunay: usage\n".as_slice());
         assert!(rt; did.out.bytes().is_empty());
+        assert!(rt; did.run.kept.is_empty());
     }
     Ok(())
 }

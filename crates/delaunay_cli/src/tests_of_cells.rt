@@ -9,8 +9,8 @@ ghost use Rattle.point_order.specs.Sets.{AreThree, AreFour, is_among};
 ghost use Rattle.point_order.specs.Spheres.{is_outside};
 ghost use Rattle.point_order.specs.Complex.{is_full, is_open, is_open_from, is_empty_in_plane};
 
+use exact_orient::{collinear, orient};
 use point_order::Point;
-use sphere_ties::exact_orient::{collinear, orient};
 use sphere_ties::outside;
 
 // e is one of the four, or outside their perturbed sphere.

@@ -1,19 +1,20 @@
 //! The top call.
 
-ghost use Rattle.std.specs.Prelude.{◌≡◌, ◌≢◌, ◌⊎◌, ◌↔◌, ◌≤◌, ◌<◌, ℕ, List, [], ◌++◌, false, length, None, IfSome, IsSomeAnd};
+ghost use Rattle.std.specs.Prelude.{◌≡◌, ◌≢◌, ◌⊎◌, ◌↔◌, ◌≤◌, ◌<◌, ℕ, List, [], ◌++◌, false, true, length, None, IfSome, IsSomeAnd};
 ghost use Rattle.std.specs.Io.KnownBytes.{Appends, Keeps, IsAtEnd};
 ghost use Rattle.byte_ends.specs.Ends.{AppendsFront, Rose};
 ghost use Rattle.point_order.specs.Solid.{is_solid};
 ghost use Rattle.edit_files.specs.Content.{Content};
 ghost use Rattle.edit_files.specs.Grammar.{line_limit, IsFile};
 ghost use Rattle.delaunay_cli.specs.Statuses.{IsEarly, IsFaultLine, Tells, TellsFault};
-ghost use Rattle.delaunay_cli.specs.Run.{AreMesh, HasFault, IsJudged, Reads, Writes, WritesFront, IsSolidFile, history_of, input_limit};
-ghost use Rattle.delaunay_cli.specs.Endings.{line_of};
+ghost use Rattle.delaunay_cli.specs.Run.{HasFault, IsJudged, Reads, Writes, WritesFront, IsSolidFile, history_of, input_limit};
+ghost use Rattle.delaunay_cli.specs.Endings.{line_of, status_of_words};
+ghost use Rattle.delaunay_cli.specs.Words.{AreMesh, AreMeshOrder, AreTaken, asks_order};
 
 use crate::mesh::mesh;
 use crate::outcome::Run;
 use crate::telling::{fault_line, plain_line};
-use crate::words::are_mesh;
+use crate::words::{WordsRefused, read_words};
 use byte_ends::{Reached, ReadError, Sink, Source, read_to_limit, write_all};
 use edit_files::{ReadRefused, read_file};
 use std::alloc::Global;
@@ -29,7 +30,7 @@ struct Ended {
 }
 
 // Judges the bytes of a file, and writes the report of its mesh.
-fn judge<O: Sink>(alloc: Global, bytes: &[u8], out: &mut O) -> Ended
+fn judge<O: Sink>(alloc: Global, bytes: &[u8], order: bool, out: &mut O) -> Ended
     ensures statuses { IsJudged result.run.status }
     ensures bad { result.run.status ≢ 1 → (result.run.status ≡ 5 ↔ HasFault bytes.now) }
     ensures named { result.run.status ≡ 5 → IsSomeAnd result.bad_line (λ line. TellsFault bytes.now line.items) }
@@ -39,15 +40,15 @@ fn judge<O: Sink>(alloc: Global, bytes: &[u8], out: &mut O) -> Ended
     ensures kept { (result.run.status ≡ 0) ⊎ (result.run.status ≡ 4) → (file : Content) → IsFile line_limit bytes.now file
         → result.run.kept.items ≡ history_of file }
     ensures none_kept { result.run.status ≢ 0 → result.run.status ≢ 4 → result.run.kept.items ≡ [] }
-    ensures written { result.run.status ≡ 0 → Writes bytes.now (O.holds out.old) (O.holds out.new) result.run.kept.items }
-    ensures front { result.run.status ≡ 4 → WritesFront bytes.now (O.holds out.old) (O.holds out.new) result.run.kept.items }
+    ensures written { result.run.status ≡ 0 → Writes order bytes.now (O.holds out.old) (O.holds out.new) result.run.kept.items }
+    ensures front { result.run.status ≡ 4 → WritesFront order bytes.now (O.holds out.old) (O.holds out.new) result.run.kept.items }
     ensures nothing { result.run.status ≢ 0 → result.run.status ≢ 4 → Keeps (O.holds out.old) (O.holds out.new) }
     ensures later { O.faults out.old ≤ O.faults out.new }
     ensures fault { result.run.status ≡ 4 → Rose (O.faults out.old) (O.faults out.new) }
 {
     match read_file(alloc, bytes) {
         Ok(file) => Ended {
-            run: mesh(alloc, &file, out),
+            run: mesh(alloc, &file, order, out),
             bad_line: None,
         },
         Err(ReadRefused::Memory) => Ended {
@@ -67,10 +68,20 @@ fn judge<O: Sink>(alloc: Global, bytes: &[u8], out: &mut O) -> Ended
     }
 }
 
+// The status of words that are not read.
+fn status_of(why: WordsRefused) -> u8
+    ensures { result ≡ status_of_words why }
+{
+    match why {
+        WordsRefused::Memory => 1,
+        WordsRefused::Usage => 2,
+    }
+}
+
 // Reads the source, and does what the words ask for.
 fn work<S: Source, O: Sink>(alloc: Global, words: &[String], src: &mut S, out: &mut O) -> Ended
     ensures statuses { result.run.status ≤ 7 }
-    ensures usage { result.run.status ≡ 2 ↔ (AreMesh words.now → ⊥) }
+    ensures usage { result.run.status ≢ 1 → (result.run.status ≡ 2 ↔ (AreTaken words.now → ⊥)) }
     ensures read_fault { result.run.status ≡ 3 → Rose (S.faults src.old) (S.faults src.new) }
     ensures write_fault { result.run.status ≡ 4 → Rose (O.faults out.old) (O.faults out.new) }
     ensures too_long { (IsEarly result.run.status → ⊥)
@@ -88,22 +99,25 @@ fn work<S: Source, O: Sink>(alloc: Global, words: &[String], src: &mut S, out: &
         → result.run.kept.items ≡ history_of file) }
     ensures none_kept { result.run.status ≢ 0 → result.run.status ≢ 4 → result.run.kept.items ≡ [] }
     ensures written { result.run.status ≡ 0
-        → IfSome (S.left src.old) (λ bytes. Writes bytes (O.holds out.old) (O.holds out.new) result.run.kept.items) }
+        → IfSome (S.left src.old) (λ bytes. Writes (asks_order words.now) bytes (O.holds out.old) (O.holds out.new) result.run.kept.items) }
     ensures front { result.run.status ≡ 4
-        → IfSome (S.left src.old) (λ bytes. WritesFront bytes (O.holds out.old) (O.holds out.new) result.run.kept.items) }
+        → IfSome (S.left src.old) (λ bytes. WritesFront (asks_order words.now) bytes (O.holds out.old) (O.holds out.new) result.run.kept.items) }
     ensures nothing { result.run.status ≢ 0 → result.run.status ≢ 4 → Keeps (O.holds out.old) (O.holds out.new) }
     ensures reads { Reads (S.left src.old) (S.left src.new) result.run.status }
     ensures to_its_end { result.run.status ≡ 0 → IsAtEnd (S.left src.new) }
 {
-    if !are_mesh(words) {
-        return Ended {
-            run: Run::ended(alloc, 2),
-            bad_line: None,
-        };
-    }
+    let asked = match read_words(alloc, words) {
+        Ok(asked) => asked,
+        Err(why) => {
+            return Ended {
+                run: Run::ended(alloc, status_of(why)),
+                bad_line: None,
+            };
+        }
+    };
     let mut bytes = Vec::new(alloc);
     let status = match read_to_limit(src, TOO_MANY, &mut bytes) {
-        Ok(Reached::End) => return judge(alloc, &bytes, out),
+        Ok(Reached::End) => return judge(alloc, &bytes, asked.order, out),
         Ok(Reached::Limit) => 7,
         Err(ReadError::Fault) => 3,
         Err(ReadError::Memory) => 1,
@@ -116,7 +130,8 @@ fn work<S: Source, O: Sink>(alloc: Global, words: &[String], src: &mut S, out: &
 
 /// Reads an edit file from `src`, writes the report of its mesh to `out`, and tells in one line on `err` what went wrong.
 ///
-/// `rt` is the runtime, and `words` are those of the command line: the program's name and `mesh`.
+/// `rt` is the runtime, and `words` are those of the command line: the program's name, and what `clap` takes for the one
+/// command `mesh` with `--workers 1` and `--order`.
 pub fn run<R, S: Source, O: Sink, E: Sink>(
     _rt: &R,
     alloc: Global,
@@ -128,7 +143,7 @@ pub fn run<R, S: Source, O: Sink, E: Sink>(
     ensures statuses { result.status ≤ 7 }
 
     // Each status comes exactly with its cause; want of memory (1) alone is free.
-    ensures usage { result.status ≡ 2 ↔ (AreMesh words.now → ⊥) }
+    ensures usage { result.status ≢ 1 → (result.status ≡ 2 ↔ (AreTaken words.now → ⊥)) }
     ensures read_fault { result.status ≡ 3 → Rose (S.faults src.old) (S.faults src.new) }
     ensures write_fault { result.status ≡ 4 → Rose (O.faults out.old) (O.faults out.new) }
     ensures too_long { (IsEarly result.status → ⊥)
@@ -139,22 +154,26 @@ pub fn run<R, S: Source, O: Sink, E: Sink>(
         → IfSome (S.left src.old) (λ bytes. (file : Content) → IsFile line_limit bytes file
         → (result.status ≡ 6 ↔ (is_solid file.points ≡ false))) }
 
+    // The words `mesh` alone are taken, and ask for no order block; with `--order` they ask for it.
+    ensures mesh { AreMesh words.now → AreTaken words.now × (asks_order words.now ≡ false) }
+    ensures mesh_order { AreMeshOrder words.now → AreTaken words.now × (asks_order words.now ≡ true) }
+
     // What is kept, read, written and told.
     ensures kept { (result.status ≡ 0) ⊎ (result.status ≡ 4)
         → IfSome (S.left src.old) (λ bytes. (file : Content) → IsFile line_limit bytes file
         → result.kept.items ≡ history_of file) }
     ensures none_kept { result.status ≢ 0 → result.status ≢ 4 → result.kept.items ≡ [] }
     ensures written { result.status ≡ 0
-        → IfSome (S.left src.old) (λ bytes. Writes bytes (O.holds out.old) (O.holds out.new) result.kept.items) }
+        → IfSome (S.left src.old) (λ bytes. Writes (asks_order words.now) bytes (O.holds out.old) (O.holds out.new) result.kept.items) }
     ensures front { result.status ≡ 4
-        → IfSome (S.left src.old) (λ bytes. WritesFront bytes (O.holds out.old) (O.holds out.new) result.kept.items) }
+        → IfSome (S.left src.old) (λ bytes. WritesFront (asks_order words.now) bytes (O.holds out.old) (O.holds out.new) result.kept.items) }
     ensures nothing { result.status ≢ 0 → result.status ≢ 4 → Keeps (O.holds out.old) (O.holds out.new) }
     ensures reads { Reads (S.left src.old) (S.left src.new) result.status }
     ensures to_its_end { result.status ≡ 0 → IsAtEnd (S.left src.new) }
     ensures told { Tells (S.left src.old) (E.holds err.old) (E.holds err.new) (E.faults err.old) (E.faults err.new) result.status }
 
     // A solid file within the limit is meshed, unless memory is wanting or the source or the output fails.
-    ensures complete { AreMesh words.now
+    ensures complete { AreTaken words.now
         → IfSome (S.left src.old) (λ bytes. IsSolidFile bytes
         → (Rose (S.faults src.old) (S.faults src.new) → ⊥) → (Rose (O.faults out.old) (O.faults out.new) → ⊥)
         → (result.status ≡ 0) ⊎ (result.status ≡ 1)) }

@@ -6,9 +6,9 @@
 
 ghost use Rattle.std.specs.Prelude.{◌≤◌, pos, ◌≤ℤ◌, ◌<ℤ◌};
 
+use exact_orient::orient;
+use exact_sphere::sphere;
 use point_order::Point;
-use sphere_ties::exact_orient::orient;
-use sphere_ties::exact_sphere::sphere;
 use std::{env, io};
 
 /// How many points are drawn: a call takes up to five in a row, the first of them one of 1024.

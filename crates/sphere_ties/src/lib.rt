@@ -7,8 +7,6 @@ ghost use Rattle.point_order.specs.Sets.{AreFive};
 ghost use Rattle.point_order.specs.Spheres.{is_outside};
 ghost use Rattle.point_order.specs.Conflicts.{CanJudge, is_in_conflict};
 
-pub mod exact_orient;
-pub mod exact_sphere;
 mod looks;
 
 use exact_orient::orient;

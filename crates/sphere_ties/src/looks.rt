@@ -5,7 +5,7 @@ ghost use Rattle.point_order.specs.Orientation.{is_flat};
 ghost use Rattle.point_order.specs.Sets.{AreFive, IsIn};
 ghost use Rattle.point_order.specs.Laws.{coefficient, IsDeciding};
 
-use crate::exact_orient::orient;
+use exact_orient::orient;
 use point_order::Point;
 
 // Above the key of every point: 2^42.

@@ -1,8 +1,7 @@
-//! Values that were computed elsewhere: by hand, or as determinants of five rows by a separate program.
+//! Values that were computed elsewhere: by hand, or by a separate program.
 
-use crate::exact_orient::{collinear, orient};
-use crate::exact_sphere::sphere;
 use crate::{conflict, outside};
+use exact_orient::orient;
 use point_order::{Cell, Point};
 use std::process::Abort;
 use std::test::Fail;
@@ -18,92 +17,6 @@ fn four(places: [[i64; 3]; 4]) -> Result<(Point, Point, Point, Point), Fail> {
         at(places[2])?,
         at(places[3])?,
     ))
-}
-
-#[test]
-fn orientations(rt: HostRuntime) -> Result<(), Fail> {
-    let rows = [
-        ([[0, 0, 0], [1, 0, 0], [0, 1, 0], [0, 0, 1]], 1),
-        ([[0, 0, 0], [0, 1, 0], [1, 0, 0], [0, 0, 1]], -1),
-        ([[0, 0, 0], [2, 0, 0], [0, 2, 0], [2, 2, 0]], 0),
-        (
-            [
-                [0, 0, 0],
-                [16383, 0, 16383],
-                [16383, 16383, 0],
-                [0, 16383, 16383],
-            ],
-            8794482507774,
-        ),
-        (
-            [
-                [0, 0, 0],
-                [16383, 16383, 0],
-                [16383, 0, 16383],
-                [0, 16383, 16383],
-            ],
-            -8794482507774,
-        ),
-    ];
-    for (places, want) in rows {
-        let (a, b, c, d) = four(places)?;
-        assert_eq!(rt; orient(a, b, c, d), want, "at {places:?}");
-    }
-    Ok(())
-}
-
-#[test]
-fn lines(rt: HostRuntime) -> Result<(), Fail> {
-    let rows = [
-        ([[0, 0, 0], [1, 2, 3], [2, 4, 6]], true),
-        ([[5, 5, 5], [5, 5, 5], [1, 2, 3]], true),
-        ([[0, 0, 0], [8191, 8191, 8191], [16383, 16383, 16383]], true),
-        ([[0, 0, 0], [0, 1, 0], [0, 0, 1]], false),
-        ([[0, 0, 0], [1, 0, 0], [0, 0, 1]], false),
-        ([[0, 0, 0], [1, 0, 0], [0, 1, 0]], false),
-        (
-            [[0, 0, 0], [8191, 8191, 8190], [16383, 16383, 16383]],
-            false,
-        ),
-    ];
-    for (places, want) in rows {
-        let (a, b, c) = (at(places[0])?, at(places[1])?, at(places[2])?);
-        assert_eq!(rt; collinear(a, b, c), want, "at {places:?}");
-    }
-    Ok(())
-}
-
-#[test]
-fn spheres(rt: HostRuntime) -> Result<(), Fail> {
-    let corner = [[0, 0, 0], [0, 0, 2], [0, 2, 0], [2, 0, 0]];
-    let wide = [
-        [0, 0, 0],
-        [0, 16383, 16383],
-        [8191, 8191, 8191],
-        [16383, 0, 16383],
-    ];
-    let turned = [
-        [0, 0, 16383],
-        [0, 16383, 0],
-        [8191, 8191, 8191],
-        [16383, 0, 0],
-    ];
-    let rows = [
-        (corner, [2, 2, 2], 0),
-        (corner, [1, 1, 1], 24),
-        (corner, [3, 3, 3], -72),
-        (wide, [16383, 16383, 0], -1770347058491641872384),
-        (turned, [16383, 16383, 16383], 1770347058491641872384),
-    ];
-    for (places, last, want) in rows {
-        let (a, b, c, d) = four(places)?;
-        assert_eq!(rt;
-            sphere(a, b, c, d, at(last)?),
-            want,
-            "of {places:?} at {last:?}"
-        );
-    }
-    Ok(())
 }
 
 fn ask(rt: &impl Abort, (a, b, c, d): (Point, Point, Point, Point), e: Point) -> bool {

@@ -1,4 +1,4 @@
-use Rattle.std.proofs.Common.{◌≡◌, ◌∙◌, sym, pos}
+use Rattle.std.proofs.Common.{◌∙◌, sym, pos}
 use Rattle.std.specs.Int.Signed.{lt_z}
 use Rattle.point_order.specs.Orientation.{orientation}
 use Rattle.delaunay_cli.proofs.Apart.{found-passes, above-is}

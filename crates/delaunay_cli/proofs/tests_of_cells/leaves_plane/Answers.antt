@@ -1,4 +1,4 @@
-use Rattle.std.proofs.Common.{◌≡◌, ◌∙◌, sym, false, true}
+use Rattle.std.proofs.Common.{◌∙◌, sym}
 use Rattle.delaunay_cli.proofs.Apart.{five-off}
 use Rattle.delaunay_cli.proofs.tests_of_cells.leaves_plane.Goals as goal
 

@@ -1,7 +1,8 @@
-use Rattle.std.proofs.Common.{◌≡◌, ◌∙◌, ap, refl}
+use Rattle.std.proofs.Common.{arith}
 use Rattle.delaunay_cli.proofs.Judging.{completes, told-line}
 use Rattle.delaunay_cli.specs.Endings.{line_of}
-use Rattle.delaunay_cli.specs.Run.{AreMesh}
+use Rattle.delaunay_cli.specs.Words.{AreTaken}
+use Rattle.delaunay_cli.proofs.CommandLine.{mesh-words, mesh_order-words}
 use Rattle.byte_ends.specs.Ends.{Rose}
 use Rattle.delaunay_cli.proofs.top.run.Goals as goal
 
@@ -17,7 +18,13 @@ returns-clause-told g c =
 pub returns-clause-complete : goal.returns-clause-complete
 returns-clause-complete g c =
     λ words.
-    completes (AreMesh c.args.words.now) (g.S.Source.left c.args.src.now) c.work-ended.result.run.status
+    completes (AreTaken c.args.words.now) (g.S.Source.left c.args.src.now) c.work-ended.result.run.status
     (Rose (g.S.Source.faults c.args.src.now) (g.S.Source.faults c.work-ended.new.src)) (Rose (g.O.Sink.faults c.args.out.now) (g.O.Sink.faults c.work-ended.new.out))
-    c.work-ended.ensures.statuses (c.work-ended.ensures.usage).0 c.work-ended.ensures.read_fault c.work-ended.ensures.write_fault
+    c.work-ended.ensures.statuses (λ e. (c.work-ended.ensures.usage (λ k. absurd (omega (arith, e, k)))).0 e) c.work-ended.ensures.read_fault c.work-ended.ensures.write_fault
     c.work-ended.ensures.too_long c.work-ended.ensures.bad_line c.work-ended.ensures.not_solid words
+
+pub returns-clause-mesh : goal.returns-clause-mesh
+returns-clause-mesh g c = mesh-words c.args.words.now
+
+pub returns-clause-mesh_order : goal.returns-clause-mesh_order
+returns-clause-mesh_order g c = mesh_order-words c.args.words.now

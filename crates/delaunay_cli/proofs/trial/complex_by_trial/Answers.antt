@@ -1,5 +1,3 @@
-use Rattle.std.proofs.Common.{◌≡◌, ap, ap₂, ◌∙◌, [], ◌++◌}
-use Rattle.point_order.specs.Complex.{complex}
 use Rattle.delaunay_cli.proofs.Steps.{whole-complex}
 use Rattle.delaunay_cli.proofs.trial.complex_by_trial.Goals as goal
 

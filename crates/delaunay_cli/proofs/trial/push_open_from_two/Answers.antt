@@ -1,4 +1,4 @@
-use Rattle.std.proofs.Common.{◌≡◌, refl, ap, sym, [], ◌∷◌, ◌++◌, ◌∙◌, ◌<◌, ◌+◌, List, ℕ, get_or, drop, length, arith}
+use Rattle.std.proofs.Common.{◌≡◌, ap, [], ◌∷◌, ◌++◌, ◌∙◌, ◌+◌, List, ℕ, get_or, drop, arith}
 use Rattle.point_order.specs.Complex.{is_open}
 use Rattle.point_order.specs.declared.cell.Cell.TheVariants.{Open}
 use Rattle.delaunay_cli.specs.Trial.{found_from}
