@@ -8,7 +8,7 @@ use Rattle.point_order.specs.Subsets.{subsets}
 use Rattle.point_order.specs.Complex.{complex, is_full, is_open}
 use Rattle.point_order.proofs.SetLaws.{below-each}
 use Rattle.del_laws.specs.Vertices.{are_among, is_full_cell, is_open_cell}
-use Rattle.del_laws.specs.Listed.{IsListedFull, IsListedOpen, ListedIsCell, CellIsListed}
+use Rattle.del_laws.specs.Listed.{IsListedFull, IsListedOpen, DefinitionIsCell, ListedIsCell, CellIsListed}
 use Rattle.del_laws.proofs.Tests.{both_true, first_true, second_true, all_true, all_from, among_true, among_from, filtered_from, filtered_true}
 
 -- ---- lists
@@ -134,6 +134,11 @@ of_three s (a ∷ b ∷ c ∷ []) l f t = record {
   test = both_true (are_among (a ∷ b ∷ c ∷ []) s) (is_open s (a ∷ b ∷ c ∷ [])) (all_true (λ p. is_among p s) (a ∷ b ∷ c ∷ []) (λ e m. among_true e s (f e m))) t;
 }
 of_three s (a ∷ b ∷ c ∷ d ∷ t) l f e = cc
+
+-- what passes the definition of its kind is a cell
+pub definition_is_cell : DefinitionIsCell
+definition_is_cell s (Full q) a f t = of_four s q a f t
+definition_is_cell s (Open q) a f t = of_three s q a f t
 
 -- a cell of its kind
 pub same_full : (q r : List ℕ) → Full q ≡ Full r → q ≡ r

@@ -1,14 +1,14 @@
 -- The complex of a set as its sorted list of cells: what is listed, in which order, and the facets of listed cells.
 -- The set is an ascending list of keys.
-use Rattle.std.specs.Prelude.{◌≡◌, ℕ, ◌<◌, true, List, [], ◌∷◌, ◌⊎◌}
+use Rattle.std.specs.Prelude.{◌≡◌, ℕ, Bool, ◌<◌, true, List, [], ◌∷◌, ◌⊎◌}
 use Rattle.std.specs.List.Sorted.{IsStrictlySortedBy}
 use Rattle.point_order.specs.declared.cell.Cell.{Cell}
 use Rattle.point_order.specs.declared.cell.Cell.TheVariants.{Full, Open}
 use Rattle.point_order.specs.declared.cell.Facet.{Facet}
 use Rattle.point_order.specs.Sets.{IsIn, IsAscending, ascending}
 use Rattle.point_order.specs.CellOrder.{cell_cmp}
-use Rattle.point_order.specs.Complex.{complex}
-use Rattle.point_order.specs.Facets.{facets_of}
+use Rattle.point_order.specs.Complex.{complex, is_full, is_open}
+use Rattle.point_order.specs.Facets.{facets_of, points_of}
 use Rattle.del_laws.specs.Cells.{Vertex, point, far}
 use Rattle.del_laws.specs.Keys.{AreKeys}
 use Rattle.del_laws.specs.Vertices.{is_cell}
@@ -41,6 +41,17 @@ pub record IsListedOpen (s : List ℕ) (t : List ℕ) : Type 0 where
 abbrev pub IsListed : List ℕ → Cell → Type 0
 IsListed s (Full q) = IsListedFull s q
 IsListed s (Open t) = IsListedOpen s t
+
+-- whether the points of a cell pass the definition of its kind
+abbrev pub passes_definition : List ℕ → Cell → Bool
+passes_definition s (Full q) = is_full s q
+passes_definition s (Open t) = is_open s t
+
+-- points of the set, ascending, that pass the definition are a cell; the set need not be known to be solid
+abbrev pub DefinitionIsCell : Type 0
+DefinitionIsCell =
+    (s : List ℕ) (c : Cell) → IsAscending (points_of c) → ((p : ℕ) → IsIn p (points_of c) → IsIn p s) →
+    passes_definition s c ≡ true → IsListed s c
 
 -- what is listed in the complex is a cell of it
 abbrev pub ListedIsCell : Type 0

@@ -13,7 +13,7 @@ ghost use Rattle.del_laws.specs.Walks.{CloserAcross, FartherAcross, AwayFromAPoi
 ghost use Rattle.del_laws.specs.Parts.{StarLaw, ClosedPart, CellsAtAVertex, EmptyCells};
 ghost use Rattle.del_laws.specs.Kept.{FullIsKept, OpenIsKept};
 ghost use Rattle.del_laws.specs.Nearness.{NearerAcross, NearerInside, SomeTripleTowards};
-ghost use Rattle.del_laws.specs.Listed.{ListedIsCell, CellIsListed, TestIsListed, ComplexIsSorted, SameMembers, ListedFacets};
+ghost use Rattle.del_laws.specs.Listed.{DefinitionIsCell, ListedIsCell, CellIsListed, TestIsListed, ComplexIsSorted, SameMembers, ListedFacets};
 ghost use Rattle.del_laws.specs.ListedParts.{ListedStar, ListedPart, ListedAtAPoint, ListedEveryPoint, ListedMate, ClosedListIsComplex, ComplexIsClosedList};
 ghost use Rattle.del_laws.specs.PointSets.{PointSet, has, solid, cell, vertices, plus, minus};
 ghost use Rattle.del_laws.specs.Base.{Base};
@@ -126,6 +126,7 @@ pub fn base_of_edits()
 
 /// The complex of a set, as its list, has exactly the cells of the set, each with its points in order.
 pub fn listed_cells()
+    ensures definition { DefinitionIsCell }
     ensures listed { ListedIsCell }
     ensures cell { CellIsListed }
     ensures of_vertices { TestIsListed }

@@ -1,6 +1,9 @@
-use Rattle.del_laws.proofs.Listed.{listed_is_cell, cell_is_listed}
+use Rattle.del_laws.proofs.Listed.{definition_is_cell, listed_is_cell, cell_is_listed}
 use Rattle.del_laws.proofs.Sorting.{test_is_listed}
 use Rattle.del_laws.proofs.listed_cells.Goals as goal
+
+pub returns-clause-definition : goal.returns-clause-definition
+returns-clause-definition c = definition_is_cell
 
 pub returns-clause-listed : goal.returns-clause-listed
 returns-clause-listed c = listed_is_cell
