@@ -21,7 +21,7 @@ use Rattle.del_laws.proofs.Smaller.{smaller, held_inside, union}
 use Rattle.del_laws.proofs.Perturbed.{no_ties, is_convex}
 use Rattle.del_laws.proofs.Tests.{same_test, false_if}
 use Rattle.del_laws.proofs.Bools.{cell_true, cell_from}
-use Rattle.del_laws.proofs.PointSets.{keys_of, has_from, has_true, within, solid_from, solid_true, in_map, distinct_vertices}
+use Rattle.del_laws.proofs.PointSets.{keys_of, has_from, has_true, within, solid_from, solid_true, solid_more, in_map, distinct_vertices}
 
 -- a cell passes the test
 pub test_true : (s : PointSet) (w x y z : Vertex) → Held height s.points w x y z → cell s w x y z ≡ true
@@ -151,7 +151,4 @@ test_full_solid s t (point a) (point b) (point c) far e i j k l = cc
 
 -- a larger set than a solid one is solid
 pub test_solid_more : (s t : PointSet) → solid s ≡ true → Within PointSet has s t → solid t ≡ true
-test_solid_more s t i f =
-    let g = solid_from s.points i in
-    let u = within t s f in
-    solid_true t.points (record { f = g.f; has_a = u.inside g.f.a g.has_a; has_b = u.inside g.f.b g.has_b; has_c = u.inside g.f.c g.has_c; has_d = u.inside g.f.d g.has_d; apart = g.apart })
+test_solid_more s t i f = solid_more s.points t.points (within t s f).inside i
