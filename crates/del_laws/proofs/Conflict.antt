@@ -51,6 +51,10 @@ open_stays {h} {s} {a} {b} {c} {p} F k = record {
   ]);
 }
 
+-- as any mate sees it
+pub open_stays_by : {h : ℕ → ℕ} {s : List ℕ} {a b c p : ℕ} → Open h s a b c → (m : ℕ) → pos 0 <ℤ orientation a b c m → IsOutside h a b c m p → Open h (p ∷ s) a b c
+open_stays_by {h} {s} {a} {b} {c} {p} F m l t = open_stays F (outside_any h a b c m F.mate p l F.above t)
+
 -- an Open cell that is there with p is not in conflict with it, for any mate
 pub open_kept : {h : ℕ → ℕ} {s : List ℕ} {a b c m p : ℕ} → Open h (p ∷ s) a b c → IsIn m s → pos 0 <ℤ orientation a b c m → IsOutside h a b c m p
 open_kept {h} {s} {a} {b} {c} {m} {p} F k l = record { side = F.bounds p (inl refl); tie = λ z. F.ties m p (inr k) (inl refl) l z }

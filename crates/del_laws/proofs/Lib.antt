@@ -1,6 +1,7 @@
 pub mod Across
 pub mod Based
 pub mod Bools
+pub mod CellFacts
 pub mod Closed
 pub mod Conflict
 pub mod Decide

@@ -7,7 +7,7 @@ use Rattle.conv_laws.proofs.Solidity.{only_on_line, line_in_plane}
 use Rattle.point_order.specs.Orientation.{orientation, triple, minor, x_from, y_from, z_from}
 use Rattle.point_order.specs.Heights.{lifted}
 use Rattle.point_order.specs.Sets.{IsIn}
-use Rattle.del_laws.specs.Cells.{Open, IsSolid}
+use Rattle.del_laws.specs.Cells.{Open, IsSolid, IsSubset}
 use Rattle.del_laws.proofs.Identities.{place, pencil_of, orientation_carried}
 use Rattle.del_laws.proofs.Numbers.{weak, not_zero, positive, settled, zero_terms}
 use Rattle.del_laws.proofs.Across.{mate_sign}
@@ -43,7 +43,7 @@ off_plane s a b c i n = elim (some_in (λ f. ¬ (orientation a b c f ≡ pos 0))
 ]
 
 -- a solid set, none of it below the plane of a, b, c, where some point is above: it has a point above too
-pub mate_in : (a b c e : ℕ) (t : List ℕ) → IsSolid t → ((x : ℕ) → IsIn x t → pos 0 ≤ℤ orientation a b c x) → pos 0 <ℤ orientation a b c e → (f : ℕ) × IsIn f t × (pos 0 <ℤ orientation a b c f)
+mate_in : (a b c e : ℕ) (t : List ℕ) → IsSolid t → ((x : ℕ) → IsIn x t → pos 0 ≤ℤ orientation a b c x) → pos 0 <ℤ orientation a b c e → (f : ℕ) × IsIn f t × (pos 0 <ℤ orientation a b c f)
 mate_in a b c e t i bounds l = elim (some_in (λ f. pos 0 <ℤ orientation a b c f) (λ f. is_positive (orientation a b c f)) t) [
   | yes p ↦ p
   | no p ↦ (
@@ -77,6 +77,10 @@ open_from {h} {s} {a} {b} {c} i ma mb mc n f g =
     let t = off_plane s a b c i n in
     let l = positive (orientation a b c t.0) (f t.0 t.1) t.2 in
     open_by_mate ma mb mc t.0 t.1 l f (g t.0 t.1 l)
+
+-- an Open cell has a mate in each solid part of the set
+pub mate_within : {h : ℕ → ℕ} {t s : List ℕ} {a b c : ℕ} → IsSubset t s → IsSolid t → Open h s a b c → (f : ℕ) × IsIn f t × (pos 0 <ℤ orientation a b c f)
+mate_within {h} {t} {s} {a} {b} {c} u i F = mate_in a b c F.mate t i (λ x m. F.bounds x (u.inside x m)) F.above
 
 -- the points of an Open cell are not on one line
 pub open_not_line : {h : ℕ → ℕ} {s : List ℕ} {a b c : ℕ} → Open h s a b c → ¬ (IsLine a b c)
