@@ -1,13 +1,14 @@
 -- What a cell shows, each fact stated once: its points, its orientation, what keeps out of it, and its mates; and cells of other lists.
--- This file opens the definition of a cell.
+-- This file opens the definition of a cell; no other does.
 use Rattle.std.specs.Prelude.{ℕ, pos, ◌≡◌, ◌≤ℤ◌, ◌<ℤ◌, List}
 use Rattle.point_order.specs.Orientation.{orientation}
 use Rattle.point_order.specs.Heights.{lifted}
 use Rattle.point_order.specs.Sets.{IsIn}
 use Rattle.del_laws.specs.Cells.{Full, Open, OneOf, IsSolid}
-use Rattle.del_laws.proofs.Identities.{orientation_swap23}
+use Rattle.del_laws.proofs.Identities.{orientation_swap23, pencil_of}
 use Rattle.del_laws.proofs.Numbers.{weak, not_zero, against, opposite}
 use Rattle.del_laws.proofs.Lists.{of_four}
+use Rattle.del_laws.proofs.Pencils.{mate_sign}
 
 -- ---- Full cells
 
@@ -60,6 +61,19 @@ pub full_same : {h : ℕ → ℕ} {s t : List ℕ} {a b c d : ℕ} → ((e : ℕ
 full_same {h} {s} {t} {a} {b} {c} {d} f g F = record { has_a = f a F.has_a; has_b = f b F.has_b; has_c = f c F.has_c; has_d = f d F.has_d; turned = F.turned; empty = λ e m. F.empty e (g e m) }
 
 -- ---- Open cells
+
+-- Three points of the set with a mate, no point below their plane, and the tie rule for this mate: it is the same for all.
+pub open_by_mate : {h : ℕ → ℕ} {s : List ℕ} {a b c : ℕ} → IsIn a s → IsIn b s → IsIn c s → (m : ℕ) → IsIn m s → pos 0 <ℤ orientation a b c m → ((e : ℕ) → IsIn e s → pos 0 ≤ℤ orientation a b c e) → ((e : ℕ) → IsIn e s → orientation a b c e ≡ pos 0 → pos 0 ≤ℤ lifted h a b c m e) → Open h s a b c
+open_by_mate {h} {s} {a} {b} {c} ma mb mc m mm l f g = record {
+  has_a = ma;
+  has_b = mb;
+  has_c = mc;
+  mate = m;
+  has_mate = mm;
+  above = l;
+  bounds = f;
+  ties = λ k e i j p z. mate_sign (orientation a b c m) (orientation a b c k) (orientation a b c e) (lifted h a b c m k) (lifted h a b c m e) (lifted h a b c k e) (pencil_of h a b c m k e) l (weak (orientation a b c k) p) z (g e j z);
+}
 
 -- its first point is in the set
 pub open_a : {h : ℕ → ℕ} {s : List ℕ} {a b c : ℕ} → Open h s a b c → IsIn a s

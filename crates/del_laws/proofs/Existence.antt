@@ -16,7 +16,7 @@ use Rattle.del_laws.proofs.CellFacts.{full_cell, full_turned, full_same}
 use Rattle.del_laws.proofs.Across.{across_full, across_open}
 use Rattle.del_laws.proofs.Regions.{choose}
 use Rattle.del_laws.proofs.Walks.{on, farther, all_full}
-use Rattle.del_laws.proofs.Conflict.{open_stays_by}
+use Rattle.del_laws.proofs.Conflict.{open_stays}
 
 -- a part of a set has no ties where the set has none
 pub fewer_ties : {h : ℕ → ℕ} {t s : List ℕ} → IsSubset t s → NoTies h s → NoTies h t
@@ -72,7 +72,7 @@ away {h} {s} {a} {b} {c} {d} n F p = away_from n (farthest p a b c d F).1
 
 -- that Open cell stays when p is added, with p as a mate
 with_point : {h : ℕ → ℕ} {s : List ℕ} {p : ℕ} (t : Faces h s p) → Open h (p ∷ s) t.a t.b t.c
-with_point {h} {s} {p} t = open_stays_by t.open_cell p t.inside (record { side = weak (orientation t.a t.b t.c p) t.inside; tie = λ z. absurd (not_zero (orientation t.a t.b t.c p) t.inside z) })
+with_point {h} {s} {p} t = open_stays t.open_cell p t.inside (record { side = weak (orientation t.a t.b t.c p) t.inside; tie = λ z. absurd (not_zero (orientation t.a t.b t.c p) t.inside z) })
 
 -- so a set with one more point has a Full cell
 one_more : {h : ℕ → ℕ} {s : List ℕ} (p : ℕ) → NoTies h s → HasFull h s → HasFull h (p ∷ s)

@@ -22,7 +22,7 @@ use Rattle.del_laws.proofs.Numbers.{weak, zero_weak, positive, not_zero}
 use Rattle.del_laws.proofs.Lists.{of_four}
 use Rattle.del_laws.proofs.CellFacts.{full_point, full_turned, full_against, full_same, open_a, open_b, open_c, open_bounds, open_ties, open_under, open_same}
 use Rattle.del_laws.proofs.Walks.{strict}
-use Rattle.del_laws.proofs.Conflict.{full_stays, open_stays_by}
+use Rattle.del_laws.proofs.Conflict.{full_stays, open_stays}
 use Rattle.del_laws.proofs.Perturbed.{no_ties, out_is}
 use Rattle.del_laws.proofs.Tests.{same_test, not_zero_from, not_true, not_from, not_both}
 use Rattle.del_laws.proofs.Bools.{cell_true, cell_from, outside_above, outside_below, above_from, below_from}
@@ -153,7 +153,7 @@ module _ (s : List ℕ) (p : ℕ) (k : AreKeys s) (j : IsKey p) (o : IsIn p s �
 
   -- an Open cell that p is outside of stays
   stays_open : (a b c m : ℕ) → cells.Open height s a b c → pos 0 <ℤ orientation a b c m → IsOutside height a b c m p → cells.Open height (with_point p s) a b c
-  stays_open a b c m F l i = open_same (to_with s p) (from_with s p) (open_stays_by F m l i)
+  stays_open a b c m F l i = open_same (to_with s p) (from_with s p) (open_stays F m l i)
 
   -- three points in the order in which the set is above them
   open_above : (a b c m : ℕ) → cells.Open height s a b c → IsIn m s → pos 0 <ℤ orientation a b c m → is_open_cell (with_point p s) a b c ≡ not (is_open_conflict (a ∷ b ∷ c ∷ []) m p)

@@ -14,7 +14,7 @@ use Rattle.del_laws.proofs.Pairs.{same_point}
 use Rattle.del_laws.proofs.Tests.{not_both}
 use Rattle.del_laws.proofs.Planes.{off_plane}
 use Rattle.del_laws.proofs.Smaller.{smaller, union}
-use Rattle.del_laws.proofs.Conflict.{full_stays, full_kept, open_stays_by, open_kept, outside_any}
+use Rattle.del_laws.proofs.Conflict.{full_stays, full_kept, open_stays, open_kept, outside_any}
 use Rattle.del_laws.proofs.Walks.{nearer, farther, every_point}
 use Rattle.del_laws.proofs.Existence.{away, exists_full}
 use Rattle.del_laws.proofs.Nearness.{some_behind, cross, fewer_nearer}
@@ -75,7 +75,7 @@ full_stays_law h s a b c d p F = (to, λ k. record { held = inl (full_stays F k)
 
 -- the law OpenStays
 pub open_stays_law : OpenStays
-open_stays_law h s a b c m p F mm l = (to, λ k. record { held = inr (open_stays_by F m l k) })
+open_stays_law h s a b c m p F mm l = (to, λ k. record { held = inr (open_stays F m l k) })
   where
     -- in the order of F, since the mate tells it
     to : Cell h (p ∷ s) (point a) (point b) (point c) far → IsOutside h a b c m p

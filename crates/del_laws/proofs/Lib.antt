@@ -20,6 +20,7 @@ pub mod Ordered
 pub mod Orders
 pub mod Pairs
 pub mod Parts
+pub mod Pencils
 pub mod Perturbed
 pub mod Planes
 pub mod PointSets
