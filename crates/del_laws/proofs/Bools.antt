@@ -1,10 +1,9 @@
 -- The test of four vertices of specs/Vertices says that they are a cell, at the perturbed heights.
 --
-use Rattle.std.specs.Prelude.{ℕ, ℤ, pos, neg_ℤ, ◌≡◌, ◌≤ℤ◌, ◌<ℤ◌, Bool, true, not, ◌&&◌, ◌||◌, List, [], ◌∷◌, ◌⊎◌, Option, None}
+use Rattle.std.specs.Prelude.{ℕ, pos, neg_ℤ, ◌≡◌, ◌≤ℤ◌, ◌<ℤ◌, Bool, true, not, ◌&&◌, ◌||◌, List, [], ◌∷◌, ◌⊎◌, Option, None}
 use Rattle.std.specs.List.{list_all, find}
 use Rattle.std.specs.Int.Signed.{lt_z, le_z}
-use Rattle.std.proofs.Common.{arith, refl, inl, inr, ap, sym, subst, ◌∙◌}
-use Rattle.std.proofs.lemmas.Int.{ints}
+use Rattle.std.proofs.Common.{refl, inl, inr, ap, sym, subst, ◌∙◌}
 use Rattle.whole_ring.specs.Signs.{below, at_zero, above}
 use Rattle.whole_ring.proofs.Signs.{sign}
 use Rattle.point_order.specs.Orientation.{orientation, is_flat, is_zero, is_collinear, normal_x, normal_y, normal_z, minor, x_from, y_from, z_from}
@@ -16,7 +15,7 @@ use Rattle.del_laws.specs.Cells.{Full, Open, Vertex, point, far, Held, OneOf}
 use Rattle.del_laws.specs.Keys.{AreKeys}
 use Rattle.del_laws.specs.Vertices.{are_among, is_full_cell, is_open_cell, is_cell}
 use Rattle.del_laws.proofs.Identities.{orientation_swap23, lifted_swap23}
-use Rattle.del_laws.proofs.Numbers.{weak, zero_weak, not_zero}
+use Rattle.del_laws.proofs.Numbers.{weak, zero_weak, not_zero, low_of, high_of, two_signs}
 use Rattle.del_laws.proofs.CellFacts.{full_cell, full_a, full_b, full_c, full_d, full_turned, open_by_mate, open_a, open_b, open_c, open_mate, open_bounds}
 use Rattle.del_laws.proofs.Decide.{is_in, is_at_zero}
 use Rattle.del_laws.proofs.Tests.{both_true, first_true, second_true, one_true, left_true, right_true, false_if, not_true, not_from, less_from, less_true, most_from, most_true, zero_from, zero_true, zero_false, not_zero_from, all_from, all_true, among_from, among_true, IsFound, found_from, searched}
@@ -26,18 +25,6 @@ use Rattle.del_laws.proofs.Strict.{strict_open, flat_three}
 use Rattle.del_laws.proofs.Perturbed.{no_ties, out_is}
 
 -- ---- spheres
-
--- the opposite of a positive number
-turned_above : (a b : ℤ) → pos 0 <ℤ b → b ≡ neg_ℤ a → a <ℤ pos 0
-turned_above a b l e = omega (arith, ints)
-
--- the opposite of a negative number
-turned_low : (a b : ℤ) → a <ℤ pos 0 → b ≡ neg_ℤ a → pos 0 <ℤ b
-turned_low a b l e = omega (arith, ints)
-
--- no number is positive and negative
-two_signs : (a : ℤ) → pos 0 <ℤ a → a <ℤ pos 0 → ⊥
-two_signs a l m = omega (arith, ints)
 
 -- outside a sphere whose points have a positive orientation
 pub outside_above : (a b c d e : ℕ) → pos 0 <ℤ orientation a b c d → pos 0 <ℤ lifted height a b c d e → is_outside a b c d e ≡ true
@@ -105,7 +92,7 @@ full_true_turned s a b c d k F =
   where
     -- the orientation is negative
     low : orientation a b c d <ℤ pos 0
-    low = turned_above (orientation a b c d) (orientation a c b d) (full_turned F) (orientation_swap23 a b c d)
+    low = low_of (orientation a b c d) (orientation a c b d) (full_turned F) (orientation_swap23 a b c d)
 
     -- and not 0
     low_not : orientation a b c d ≡ pos 0 → ⊥
@@ -115,16 +102,16 @@ full_true_turned s a b c d k F =
     each : (e : ℕ) → IsIn e s → passes a b c d e ≡ true
     each e m = elim (is_in e (a ∷ b ∷ c ∷ d ∷ [])) [
       | yes i ↦ left_true (is_among e (a ∷ b ∷ c ∷ d ∷ [])) (is_outside a b c d e) (among_true e (a ∷ b ∷ c ∷ d ∷ []) i)
-      | no i ↦ right_true (is_among e (a ∷ b ∷ c ∷ d ∷ [])) (is_outside a b c d e) (outside_below a b c d e low (turned_above (lifted height a b c d e) (lifted height a c b d e) (strict (no_ties s k) F e m (λ j. i (four_turned e a b c d j))) (lifted_swap23 height a b c d e)))
+      | no i ↦ right_true (is_among e (a ∷ b ∷ c ∷ d ∷ [])) (is_outside a b c d e) (outside_below a b c d e low (low_of (lifted height a b c d e) (lifted height a c b d e) (strict (no_ties s k) F e m (λ j. i (four_turned e a b c d j))) (lifted_swap23 height a b c d e)))
     ]
 
 -- four points that pass are a Full cell in one order
 full_from : (s : List ℕ) (a b c d : ℕ) → is_full_cell s a b c d ≡ true → Full height s a b c d ⊎ Full height s a c b d
 full_from s a b c d t = elim (sign (orientation a b c d)) [
-  | below l ↦ inr (full_cell (among_from a s first_in) (among_from c s third_in) (among_from b s second_in) (among_from d s fourth_in) (turned_low (orientation a b c d) (orientation a c b d) l (orientation_swap23 a b c d))
+  | below l ↦ inr (full_cell (among_from a s first_in) (among_from c s third_in) (among_from b s second_in) (among_from d s fourth_in) (high_of (orientation a b c d) (orientation a c b d) l (orientation_swap23 a b c d))
       (λ e m. elim (one_true (is_among e (a ∷ b ∷ c ∷ d ∷ [])) (is_outside a b c d e) (each e m)) [
         | inl i ↦ zero_weak (lifted height a c b d e) (on height a c b d e (four_turned e a c b d (among_from e (a ∷ b ∷ c ∷ d ∷ []) i)))
-        | inr i ↦ weak (lifted height a c b d e) (turned_low (lifted height a b c d e) (lifted height a c b d e) (below_from a b c d e i l) (lifted_swap23 height a b c d e))
+        | inr i ↦ weak (lifted height a c b d e) (high_of (lifted height a b c d e) (lifted height a c b d e) (below_from a b c d e i l) (lifted_swap23 height a b c d e))
       ]))
   | at_zero z ↦ absurd (not_zero_from (orientation a b c d) (not_from (is_flat a b c d) (first_true (not (is_flat a b c d)) (list_all (passes a b c d) s) full)) z)
   | above l ↦ inl (full_cell (among_from a s first_in) (among_from b s second_in) (among_from c s third_in) (among_from d s fourth_in) l

@@ -1,5 +1,5 @@
 -- From every point some Open cell looks away, and a solid set has cells.
-use Rattle.std.specs.Prelude.{ℕ, ℤ, pos, ◌*ℤ◌, neg_ℤ, ◌≤ℤ◌, ◌<ℤ◌, List, [], ◌∷◌, ◌++◌, ◌⊎◌}
+use Rattle.std.specs.Prelude.{ℕ, ℤ, pos, ◌*ℤ◌, neg_ℤ, ◌≤ℤ◌, ◌<ℤ◌, List, [], ◌∷◌, ◌++◌}
 use Rattle.std.proofs.Common.{arith, refl, inl, inr}
 use Rattle.std.proofs.lemmas.Int.{ints}
 use Rattle.whole_ring.specs.Signs.{below, at_zero, above}
@@ -9,6 +9,7 @@ use Rattle.point_order.specs.Orientation.{orientation}
 use Rattle.point_order.specs.Heights.{lifted}
 use Rattle.point_order.specs.Sets.{IsIn}
 use Rattle.del_laws.specs.Cells.{Full, Open, NoTies, Four, IsSolid, IsSubset, HasFull, Faces}
+use Rattle.del_laws.proofs.Listed.{in_left, from_append}
 use Rattle.del_laws.proofs.Identities.{orientation_swap23, orientation_bcad, orientation_acdb, lifted_bcad, lifted_acdb, weights_of}
 use Rattle.del_laws.proofs.Numbers.{weak, zero_weak, not_zero, not_back, one_above, turned_below}
 use Rattle.del_laws.proofs.Lists.{of_four}
@@ -94,16 +95,6 @@ many_more [] t n F = F
 many_more (p ∷ s) t n F =
     let k = fewer_ties (record { inside = λ e m. inr m }) n in
     one_more p k (many_more s t k F)
-
--- a member of the first list
-in_left : (e : ℕ) (s t : List ℕ) → IsIn e s → IsIn e (s ++ t)
-in_left e [] t m = absurd m
-in_left e (x ∷ xs) t m = elim m [ inl q ↦ inl q | inr r ↦ inr (in_left e xs t r) ]
-
--- a member of both lists together
-from_append : (e : ℕ) (s t : List ℕ) → IsIn e (s ++ t) → IsIn e s ⊎ IsIn e t
-from_append e [] t m = inr m
-from_append e (x ∷ xs) t m = elim m [ inl q ↦ inl (inl q) | inr r ↦ elim (from_append e xs t r) [ inl i ↦ inl (inr i) | inr i ↦ inr i ] ]
 
 -- from four independent points of the set
 exists_from : {h : ℕ → ℕ} {s : List ℕ} (a b c d : ℕ) → NoTies h s → IsIn a s → IsIn b s → IsIn c s → IsIn d s → pos 0 <ℤ orientation a b c d → HasFull h s

@@ -18,7 +18,7 @@ use Rattle.del_laws.specs.Keys.{AreKeys}
 use Rattle.del_laws.specs.Vertices.{is_full_cell, is_open_cell}
 use Rattle.del_laws.specs.Kept.{FullIsKept, OpenIsKept}
 use Rattle.del_laws.proofs.Identities.{orientation_swap23, lifted_swap23}
-use Rattle.del_laws.proofs.Numbers.{weak, zero_weak, positive, not_zero}
+use Rattle.del_laws.proofs.Numbers.{weak, zero_weak, positive, not_zero, clash, low_of, high_of}
 use Rattle.del_laws.proofs.Lists.{of_four}
 use Rattle.del_laws.proofs.CellFacts.{full_point, full_turned, full_against, full_same, open_a, open_b, open_c, open_bounds, open_ties, open_under, open_same}
 use Rattle.del_laws.proofs.Walks.{strict}
@@ -54,14 +54,6 @@ denied_twice false e = cc
 twice_from : (b : Bool) → not (not b) ≡ true → b ≡ true
 twice_from true e = refl
 twice_from false e = cc
-
--- the opposite of a positive number
-low_of : (a b : ℤ) → pos 0 <ℤ b → b ≡ neg_ℤ a → a <ℤ pos 0
-low_of a b l e = omega (arith, ints)
-
--- the opposite of a negative number
-high_of : (a b : ℤ) → a <ℤ pos 0 → b ≡ neg_ℤ a → pos 0 <ℤ b
-high_of a b l e = omega (arith, ints)
 
 -- ---- Full cells
 
@@ -167,14 +159,10 @@ module _ (s : List ℕ) (p : ℕ) (k : AreKeys s) (j : IsKey p) (o : IsIn p s �
       -- a cell of the set with p is not in conflict
       passes : cells.Open height (with_point p s) a b c → is_open_conflict (a ∷ b ∷ c ∷ []) m p ≡ false
       passes G = elim (sign (orientation a b c p)) [
-        | below q ↦ absurd (under (orientation a b c p) q (open_bounds G p (in-with_new p s)))
+        | below q ↦ absurd (clash (orientation a b c p) q (open_bounds G p (in-with_new p s)))
         | at_zero q ↦ outside_plane_above (orientation a b c m) (orientation a b c p) (out a b c m p) l q (subst (λ z. pos 0 <ℤ z) (sym (out_is a b c m p)) (kept_open a b c m (open_a F) (open_b F) (open_c F) mm l G q))
         | above q ↦ before_above (orientation a b c m) (orientation a b c p) (out a b c m p) l q
       ]
-        where
-          -- no number is negative and not
-          under : (z : ℤ) → z <ℤ pos 0 → pos 0 ≤ℤ z → ⊥
-          under z e f = omega (arith, ints)
 
       -- and where it is not in conflict p is outside
       outside : is_open_conflict (a ∷ b ∷ c ∷ []) m p ≡ false → IsOutside height a b c m p
@@ -204,15 +192,11 @@ module _ (s : List ℕ) (p : ℕ) (k : AreKeys s) (j : IsKey p) (o : IsIn p s �
       -- a cell of the set with p is not in conflict
       passes : orientation a b c m <ℤ pos 0 → cells.Open height (with_point p s) a c b → is_open_conflict (a ∷ b ∷ c ∷ []) m p ≡ false
       passes low G = elim (sign (orientation a c b p)) [
-        | below q ↦ absurd (under (orientation a c b p) q (open_bounds G p (in-with_new p s)))
+        | below q ↦ absurd (clash (orientation a c b p) q (open_bounds G p (in-with_new p s)))
         | at_zero q ↦ outside_plane_below (orientation a b c m) (orientation a b c p) (out a b c m p) low (zero_of (orientation a c b p) (orientation a b c p) (orientation_swap23 a c b p) q)
             (subst (λ z. z <ℤ pos 0) (sym (out_is a b c m p)) (low_of (lifted height a b c m p) (lifted height a c b m p) (kept_open a c b m (open_a F) (open_b F) (open_c F) mm l G q) (lifted_swap23 height a b c m p)))
         | above q ↦ before_below (orientation a b c m) (orientation a b c p) (out a b c m p) low (low_of (orientation a b c p) (orientation a c b p) q (orientation_swap23 a b c p))
       ]
-        where
-          -- no number is negative and not
-          under : (z : ℤ) → z <ℤ pos 0 → pos 0 ≤ℤ z → ⊥
-          under z e f = omega (arith, ints)
 
       -- and where it is not in conflict p is outside
       outside : orientation a b c m <ℤ pos 0 → is_open_conflict (a ∷ b ∷ c ∷ []) m p ≡ false → IsOutside height a c b m p

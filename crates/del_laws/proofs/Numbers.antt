@@ -30,9 +30,25 @@ clash_above a h k = omega (arith, ints)
 pub opposite : (a b : ℤ) → pos 0 ≤ℤ a → pos 0 ≤ℤ b → b ≡ neg_ℤ a → a ≡ pos 0
 opposite a b h k e = omega (arith, ints)
 
--- the opposite of a positive number is negative
+-- a positive number has no opposite that is not negative
 pub against : (a b : ℤ) → pos 0 <ℤ a → pos 0 ≤ℤ b → b ≡ neg_ℤ a → ⊥
 against a b h k e = omega (arith, ints)
+
+-- a number whose opposite is positive is negative
+pub low_of : (a b : ℤ) → pos 0 <ℤ b → b ≡ neg_ℤ a → a <ℤ pos 0
+low_of a b h e = omega (arith, ints)
+
+-- the opposite of a positive number is negative
+pub low_turned : (a b : ℤ) → pos 0 <ℤ a → b ≡ neg_ℤ a → b <ℤ pos 0
+low_turned a b h e = omega (arith, ints)
+
+-- the opposite of a negative number is positive
+pub high_of : (a b : ℤ) → a <ℤ pos 0 → b ≡ neg_ℤ a → pos 0 <ℤ b
+high_of a b h e = omega (arith, ints)
+
+-- no number is positive and negative
+pub two_signs : (a : ℤ) → pos 0 <ℤ a → a <ℤ pos 0 → ⊥
+two_signs a h k = omega (arith, ints)
 
 -- a number whose opposite is positive is not positive
 pub weak_below : (a : ℤ) → pos 0 <ℤ neg_ℤ a → a ≤ℤ pos 0

@@ -21,8 +21,7 @@ use Rattle.del_laws.specs.Listed.{cell_of}
 use Rattle.del_laws.specs.Walks.{Rank, ratio, is_before}
 use Rattle.del_laws.specs.Nearness.{one_less, ratio_by, open_rank, rank, NearerAcross, SomeTripleTowards, NearerInside}
 use Rattle.del_laws.proofs.Identities.{orientation_bcad, orientation_acdb, orientation_swap12, orientation_swap23, orientation_swap34, lifted_swap12, lifted_swap23, lifted_swap34}
-use Rattle.del_laws.proofs.Numbers.{weak, clash}
-use Rattle.del_laws.proofs.Numbers.{below_or_not}
+use Rattle.del_laws.proofs.Numbers.{weak, clash, below_or_not, low_of, low_turned, high_of, two_signs}
 use Rattle.del_laws.proofs.CellFacts.{full_a, full_b, full_c, full_d, full_point, full_turned, full_apart, open_bounds, open_under}
 use Rattle.del_laws.proofs.Kept.{with_keys}
 use Rattle.del_laws.proofs.Sides.{unique}
@@ -144,10 +143,6 @@ low_from m q h t = elim (one_true (lt_z (pos 0) m && lt_z q (pos 0)) (lt_z m (po
   | inl e ↦ less_from q (pos 0) (second_true (lt_z (pos 0) m) (lt_z q (pos 0)) e)
   | inr e ↦ absurd (two_signs m h (less_from m (pos 0) (first_true (lt_z m (pos 0)) (lt_z (pos 0) q) e)))
 ]
-  where
-    -- no number is positive and negative
-    two_signs : (m : ℤ) → pos 0 <ℤ m → m <ℤ pos 0 → ⊥
-    two_signs m a b = omega (arith, ints)
 
 -- opposite to what is below is above
 high_from : (m q : ℤ) → m <ℤ pos 0 → opposite_by m q ≡ true → pos 0 <ℤ q
@@ -155,10 +150,6 @@ high_from m q h t = elim (one_true (lt_z (pos 0) m && lt_z q (pos 0)) (lt_z m (p
   | inl e ↦ absurd (two_signs m (less_from (pos 0) m (first_true (lt_z (pos 0) m) (lt_z q (pos 0)) e)) h)
   | inr e ↦ less_from (pos 0) q (second_true (lt_z m (pos 0)) (lt_z (pos 0) q) e)
 ]
-  where
-    -- no number is positive and negative
-    two_signs : (m : ℤ) → pos 0 <ℤ m → m <ℤ pos 0 → ⊥
-    two_signs m a b = omega (arith, ints)
 
 -- ---- across
 
@@ -200,10 +191,6 @@ module _ (s : List ℕ) (p : ℕ) (k : AreKeys s) (j : IsKey p) (o : IsIn p s �
         (sym (out_is a c b f p) ∙ out_swap23 a b c f p)
         (subst (λ z. (lifted height a c b f p *ℤ orientation a b c x) <ℤ (z *ℤ orientation a c b f)) (sym (out_is a b c x p)) (nearer (no_ties s k) F G p l)))
   ]
-    where
-      -- the opposite of a positive number
-      low_of : (z v : ℤ) → pos 0 <ℤ v → v ≡ neg_ℤ z → z <ℤ pos 0
-      low_of z v h e = omega (arith, ints)
   across_above a b c x far F t u n l = elim (cell_from s (point a) (point b) (point c) far u) [
     | inl G ↦ absurd (open_under _ (full_d F) (full_turned F) G)
     | inr G ↦ before_by (open_rank_is s p k (with_keys s p k j) a b c u ∙ ap open_rank (false_if (is_open_cell (with_point p s) a b c) (gone a b c x F l))) (full_rank s p k a b c x t) refl
@@ -222,16 +209,8 @@ nearer_across s p a b c x y k j o t u n e = elim (cell_from s (point a) (point b
   | inl F ↦ across_above s p k j o a b c x y F t u n (low_from (orientation a b c x) (orientation a b c p) (full_turned F) e)
   | inr F ↦ before_by (ap (rank s p) (cell_of-swap23 (point a) (point b) (point c) y)) (ap (rank s p) (cell_of-swap23 (point a) (point b) (point c) (point x)))
       (across_above s p k j o a c b x y F (turn23 s k (point a) (point b) (point c) (point x) t) (turn23 s k (point a) (point b) (point c) y u) n
-      (turned_high (orientation a b c p) (orientation a c b p) (high_from (orientation a b c x) (orientation a b c p) (turned_low (orientation a b c x) (orientation a c b x) (full_turned F) (orientation_swap23 a b c x)) e) (orientation_swap23 a b c p)))
+      (low_turned (orientation a b c p) (orientation a c b p) (high_from (orientation a b c x) (orientation a b c p) (low_of (orientation a b c x) (orientation a c b x) (full_turned F) (orientation_swap23 a b c x)) e) (orientation_swap23 a b c p)))
 ]
-  where
-    -- the opposite of a positive number
-    turned_low : (z v : ℤ) → pos 0 <ℤ v → v ≡ neg_ℤ z → z <ℤ pos 0
-    turned_low z v h e = omega (arith, ints)
-
-    -- the opposite of a positive number, named
-    turned_high : (z v : ℤ) → pos 0 <ℤ z → v ≡ neg_ℤ z → v <ℤ pos 0
-    turned_high z v h e = omega (arith, ints)
 
 -- from an Open cell that stays
 pub nearer_inside : NearerInside
@@ -256,14 +235,6 @@ towards s p a b c d k j o F l = elim (below_or_not (orientation b d c p)) [
   ]
 ]
 
--- the opposite of a negative number
-turned_up : (z v : ℤ) → z <ℤ pos 0 → v ≡ neg_ℤ z → pos 0 <ℤ v
-turned_up z v h e = omega (arith, ints)
-
--- the opposite of a positive number
-turned_down : (z v : ℤ) → pos 0 <ℤ z → v ≡ neg_ℤ z → v <ℤ pos 0
-turned_down z v h e = omega (arith, ints)
-
 -- an equal number
 same_up : (z v : ℤ) → pos 0 <ℤ z → v ≡ z → pos 0 <ℤ v
 same_up z v h e = omega (arith, ints)
@@ -285,24 +256,24 @@ some_triple_towards s p a b c d k j o t e =
     let td = are_opposite a b c d p in
     elim (cell_from s (point a) (point b) (point c) (point d) t) [
       | inl F ↦ elim (towards s p a b c d k j o F (weak (lifted height a b c d p) (above_from a b c d p e (full_turned F)))) [
-        | inl q ↦ left_true (ta || tb || tc) td (left_true (ta || tb) tc (left_true ta tb (opposite_below (orientation b c d a) (orientation b c d p) (turned_down (orientation a b c d) (orientation b c d a) (full_turned F) (rotation_a a b c d)) (turned_up (orientation b d c p) (orientation b c d p) q (orientation_swap23 b d c p)))))
+        | inl q ↦ left_true (ta || tb || tc) td (left_true (ta || tb) tc (left_true ta tb (opposite_below (orientation b c d a) (orientation b c d p) (low_turned (orientation a b c d) (orientation b c d a) (full_turned F) (rotation_a a b c d)) (high_of (orientation b d c p) (orientation b c d p) q (orientation_swap23 b d c p)))))
         | inr r ↦ elim r [
           | inl q ↦ left_true (ta || tb || tc) td (left_true (ta || tb) tc (right_true ta tb (opposite_above (orientation a c d b) (orientation a c d p) (same_up (orientation a b c d) (orientation a c d b) (full_turned F) (orientation_acdb a b c d)) q)))
           | inr u ↦ elim u [
-            | inl q ↦ left_true (ta || tb || tc) td (right_true (ta || tb) tc (opposite_below (orientation a b d c) (orientation a b d p) (turned_down (orientation a b c d) (orientation a b d c) (full_turned F) (orientation_swap34 a b c d)) (turned_up (orientation a d b p) (orientation a b d p) q (orientation_swap23 a d b p))))
+            | inl q ↦ left_true (ta || tb || tc) td (right_true (ta || tb) tc (opposite_below (orientation a b d c) (orientation a b d p) (low_turned (orientation a b c d) (orientation a b d c) (full_turned F) (orientation_swap34 a b c d)) (high_of (orientation a d b p) (orientation a b d p) q (orientation_swap23 a d b p))))
             | inr q ↦ right_true (ta || tb || tc) td (opposite_above (orientation a b c d) (orientation a b c p) (full_turned F) q)
           ]
         ]
       ]
       | inr F ↦ (
-          let low : orientation a b c d <ℤ pos 0 = turned_down (orientation a c b d) (orientation a b c d) (full_turned F) (orientation_swap23 a c b d) in
-          elim (towards s p a c b d k j o F (weak (lifted height a c b d p) (turned_up (lifted height a b c d p) (lifted height a c b d p) (below_from a b c d p e low) (lifted_swap23 height a b c d p)))) [
-            | inl q ↦ left_true (ta || tb || tc) td (left_true (ta || tb) tc (left_true ta tb (opposite_above (orientation b c d a) (orientation b c d p) (turned_up (orientation a b c d) (orientation b c d a) low (rotation_a a b c d)) (same_down (orientation c d b p) (orientation b c d p) q (sym (orientation_bcad b c d p))))))
+          let low : orientation a b c d <ℤ pos 0 = low_turned (orientation a c b d) (orientation a b c d) (full_turned F) (orientation_swap23 a c b d) in
+          elim (towards s p a c b d k j o F (weak (lifted height a c b d p) (high_of (lifted height a b c d p) (lifted height a c b d p) (below_from a b c d p e low) (lifted_swap23 height a b c d p)))) [
+            | inl q ↦ left_true (ta || tb || tc) td (left_true (ta || tb) tc (left_true ta tb (opposite_above (orientation b c d a) (orientation b c d p) (high_of (orientation a b c d) (orientation b c d a) low (rotation_a a b c d)) (same_down (orientation c d b p) (orientation b c d p) q (sym (orientation_bcad b c d p))))))
             | inr r ↦ elim r [
-              | inl q ↦ left_true (ta || tb || tc) td (right_true (ta || tb) tc (opposite_above (orientation a b d c) (orientation a b d p) (turned_up (orientation a b c d) (orientation a b d c) low (orientation_swap34 a b c d)) q))
+              | inl q ↦ left_true (ta || tb || tc) td (right_true (ta || tb) tc (opposite_above (orientation a b d c) (orientation a b d p) (high_of (orientation a b c d) (orientation a b d c) low (orientation_swap34 a b c d)) q))
               | inr u ↦ elim u [
-                | inl q ↦ left_true (ta || tb || tc) td (left_true (ta || tb) tc (right_true ta tb (opposite_below (orientation a c d b) (orientation a c d p) (same_down (orientation a b c d) (orientation a c d b) low (orientation_acdb a b c d)) (turned_up (orientation a d c p) (orientation a c d p) q (orientation_swap23 a d c p)))))
-                | inr q ↦ right_true (ta || tb || tc) td (opposite_below (orientation a b c d) (orientation a b c p) low (turned_up (orientation a c b p) (orientation a b c p) q (orientation_swap23 a c b p)))
+                | inl q ↦ left_true (ta || tb || tc) td (left_true (ta || tb) tc (right_true ta tb (opposite_below (orientation a c d b) (orientation a c d p) (same_down (orientation a b c d) (orientation a c d b) low (orientation_acdb a b c d)) (high_of (orientation a d c p) (orientation a c d p) q (orientation_swap23 a d c p)))))
+                | inr q ↦ right_true (ta || tb || tc) td (opposite_below (orientation a b c d) (orientation a b c p) low (high_of (orientation a c b p) (orientation a b c p) q (orientation_swap23 a c b p)))
               ]
             ]
           ])

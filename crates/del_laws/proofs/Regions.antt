@@ -1,4 +1,4 @@
--- Sets of Full cells; the closest of them to a point; crossing_of.
+-- Sets of Full cells, and the closest of them to a point.
 use Rattle.std.specs.Prelude.{ℕ, ℤ, pos, ◌*ℤ◌, ◌≡◌, ◌≤ℤ◌, ◌<ℤ◌, List, [], ◌∷◌}
 use Rattle.std.proofs.Common.{refl, inl, inr, subst, ap}
 use Rattle.point_order.specs.Orientation.{orientation}

@@ -57,9 +57,9 @@ strict_open {h} {s} {a} {b} {c} n F = (let o = open_mate F in record {
   has_mate = o.1;
   above = o.2;
   bounds = open_bounds F;
-  ties = λ f e m k n3 l z. positive (lifted h a b c f e) (open_ties F f e m k l z) (λ q. (
+  ties = λ f e m k other l z. positive (lifted h a b c f e) (open_ties F f e m k l z) (λ q. (
       let one = n.one_of a b c f e (open_a F) (open_b F) (open_c F) m k (not_zero (orientation a b c f) l) q in
-      of_four (λ x. orientation a b c x ≡ pos 0 → ¬ (IsIn x (a ∷ b ∷ c ∷ [])) → ⊥) one (λ y v. v (inl refl)) (λ y v. v (inr (inl refl))) (λ y v. v (inr (inr (inl refl)))) (λ y v. not_zero (orientation a b c f) l y) z n3));
+      of_four (λ x. orientation a b c x ≡ pos 0 → ¬ (IsIn x (a ∷ b ∷ c ∷ [])) → ⊥) one (λ y v. v (inl refl)) (λ y v. v (inr (inl refl))) (λ y v. v (inr (inr (inl refl)))) (λ y v. not_zero (orientation a b c f) l y) z other));
 })
 
 -- and the other way round

@@ -75,7 +75,7 @@ descent {h} {s} {q} {e} {a} {b} {c} {d} n g t m l = elim (across_full F) [
 pub record IsClosed (h : ℕ → ℕ) (s : List ℕ) (q : ℕ → ℕ → ℕ → ℕ → Type 0) (k : List ℕ) : Type 0 where
   pub across : (a b c d f : ℕ) → q a b c d → ¬ (IsIn d k) → Full h s a c b f → q a c b f
 
--- so at the closest cell of a closed set the weights_of of all other vertices are not below 0
+-- so at the closest cell of a closed set the weights of all other vertices are not below 0
 pub weight : {h : ℕ → ℕ} {s : List ℕ} {q : ℕ → ℕ → ℕ → ℕ → Type 0} {k : List ℕ} {e a b c d : ℕ} → NoTies h s → IsSetOf h s q → IsClosed h s q k → Closest h q e a b c d → IsIn e s → ¬ (IsIn d k) → pos 0 ≤ℤ orientation a b c e
 weight {h} {s} {q} {k} {e} {a} {b} {c} {d} n g z t m o = not_below (orientation a b c e) (λ l. (let r = descent n g t m l in r.outside (z.across a b c d r.f t.at o r.full)))
 

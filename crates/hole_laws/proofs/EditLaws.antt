@@ -14,6 +14,7 @@ use Rattle.edit_history.specs.declared.history.Reply.TheVariants.{Inserted, Dupl
 use Rattle.edit_history.specs.Edits.{point_of, reply_to, after, changed}
 use Rattle.del_laws.specs.Cells.{Vertex, point, far}
 use Rattle.del_laws.specs.PointSets.{PointSet, has, solid, cell, plus, minus, is_point}
+use Rattle.del_laws.proofs.Pairs.{same_point}
 use Rattle.del_laws.proofs.PointSets.{plus_points, minus_points, below_true, ascending_of, keys_of, has_from, has_true}
 use Rattle.del_laws.specs.Base.{Symmetric}
 use Rattle.del_laws.proofs.Tests.{false_if}
@@ -91,10 +92,6 @@ reply_same s (Take p) = by_test (is_among p s.points) (is_solid (without_point p
 
 -- ---- what edits reach
 
--- points are told by their vertices
-same_key : (e p : ℕ) → point e ≡ point p → e ≡ p
-same_key e p q = cc
-
 -- two points of a cell are linked
 linked_of : (c : Vertex → Vertex → Vertex → Vertex → Bool) (k : IsComplex c) (l : List Cell) (t : ListsCells l c) (v e : ℕ) → e ≢ v → AreJoined l v e → AreLinked c (point v) (point e)
 linked_of c k l t v e n j =
@@ -104,7 +101,7 @@ linked_of c k l t v e n j =
         | inl q ↦ record { t1 = a.t1; t2 = a.t3; cell = ap (λ z. c a.t1 a.t3 z (point v)) (sym q) ∙ sym (s.middle a.t1 a.t2 a.t3 (point v)) ∙ h }
         | inr u ↦ elim u [
           | inl q ↦ record { t1 = a.t1; t2 = a.t2; cell = ap (λ z. c a.t1 a.t2 z (point v)) (sym q) ∙ h }
-          | inr w ↦ elim w [ inl q ↦ absurd (n (same_key e v (sym q))) | inr none ↦ absurd none ]
+          | inr w ↦ elim w [ inl q ↦ absurd (n (same_point e v (sym q))) | inr none ↦ absurd none ]
         ]
       ]
     ]
@@ -141,14 +138,14 @@ reached_same s h p k f e = (
 reach_same : (s : PointSet) → solid s ≡ true → (a : Edit) → IsKey (point_of a) → (e : ℕ) → sets.Reach s (step_of a) (point e) ↔ Reaches s.points a e
 unfolding step_of
 reach_same s h (Add p) k e = (
-  λ r. elim r [ inl q ↦ inl (same_key e p q) | inr g ↦ inr ((λ m. false≢true (sym g.0 ∙ has_true s p m)), (reached_same s h p k g.0 e).0 g.1) ],
+  λ r. elim r [ inl q ↦ inl (same_point e p q) | inr g ↦ inr ((λ m. false≢true (sym g.0 ∙ has_true s p m)), (reached_same s h p k g.0 e).0 g.1) ],
   λ r. elim r [
     | inl q ↦ inl (ap point q)
     | inr g ↦ (let f = false_if (has s (point p)) (λ m. g.0 (has_from s p m)) in inr (f, (reached_same s h p k f e).1 g.1))
   ],
 )
 reach_same s h (Take v) k e = (
-  λ r. elim r [ inl q ↦ inl (same_key e v q) | inr g ↦ inr (has_from s v g.0, joined_of (cell s) (complex s.points) (lists_cells s) v e g.2) ],
+  λ r. elim r [ inl q ↦ inl (same_point e v q) | inr g ↦ inr (has_from s v g.0, joined_of (cell s) (complex s.points) (lists_cells s) v e g.2) ],
   λ r. elim r [
     | inl q ↦ inl (ap point q)
     | inr g ↦ elim (cases_eq e v) [ inl q ↦ inl (ap point q) | inr n ↦ inr (has_true s v g.0, (λ q. (cc)), linked_of (cell s) (complex_of s) (complex s.points) (lists_cells s) v e n g.1) ]

@@ -10,6 +10,8 @@ use Rattle.point_order.specs.declared.cell.Facet.{Facet}
 use Rattle.point_order.specs.declared.cell.Facet.TheVariants.{Three, Two}
 use Rattle.point_order.proofs.SetLaws.{same-members, ascending-is}
 use Rattle.del_laws.specs.Cells.{Vertex, point, far}
+use Rattle.del_laws.proofs.Pairs.{same_point}
+use Rattle.del_laws.proofs.Based.{point_finite}
 use Rattle.del_laws.proofs.Tests.{among_from, among_true}
 use Rattle.hole_laws.specs.Lists.{cell_over}
 use Rattle.hole_laws.proofs.Vertex.{has_vertex, has_vertices, IsOrdered, IsFacetVertex}
@@ -38,18 +40,11 @@ pub record IsAgainst (q : Cell) (z : Vertex) (f : Facet) : Type 0 where
 
 -- points with different keys
 differ : (a b : ℕ) → a < b → point a ≢ point b
-differ a b l e = omega (arith, inside e)
-  where
-    inside : point a ≡ point b → a ≡ b
-    inside e = cc
+differ a b l e = omega (arith, same_point a b e)
 
 -- the other way round
 differ' : (a b : ℕ) → a < b → point b ≢ point a
 differ' a b l e = differ a b l (sym e)
-
--- no point is the infinite vertex
-finite : (a : ℕ) → point a ≢ far
-finite a e = cc
 
 -- four points in order
 four_points : (a b c d : ℕ) → a < b → b < c → c < d → AreFourVertices (point a) (point b) (point c) (point d)
@@ -67,10 +62,10 @@ three_points : (a b c : ℕ) → a < b → b < c → AreFourVertices (point a) (
 three_points a b c ab bc = record {
   wx = differ a b ab;
   wy = differ a c (omega arith);
-  wz = finite a;
+  wz = point_finite a;
   xy = differ b c bc;
-  xz = finite b;
-  yz = finite c;
+  xz = point_finite b;
+  yz = point_finite c;
 }
 
 -- the last to the place of the first
@@ -339,15 +334,11 @@ open_ascending : (l : List ℕ) → IsOrdered (Open l) → IsAscending l
 open_ascending (a ∷ b ∷ c ∷ []) o = (o.0, (o.1, (tt, tt)))
 open_ascending l o = absurd o
 
--- points are told by their vertices
-same_key : (e p : ℕ) → point e ≡ point p → e ≡ p
-same_key e p q = cc
-
 -- a cell with the point p is the cell of p and the facet against it
 pub over_facet : (q : Cell) → IsOrdered q → (p : ℕ) → has_vertex q (point p) ≡ true → (f : Facet) → IsAgainst q (point p) f → q ≡ cell_over f p
 over_facet (Full l) o p h (Three t) k =
-    ap Full (in_place l t p (full_ascending l o) (among_from p l h) (λ e m. among_from e l (k.into (point e) m)) (λ e m n. k.rest (point e) (among_true e l m) (λ q. n (same_key e p q))))
+    ap Full (in_place l t p (full_ascending l o) (among_from p l h) (λ e m. among_from e l (k.into (point e) m)) (λ e m n. k.rest (point e) (among_true e l m) (λ q. n (same_point e p q))))
 over_facet (Open l) o p h (Two t) k =
-    ap Open (in_place l t p (open_ascending l o) (among_from p l h) (λ e m. among_from e l (k.into (point e) m)) (λ e m n. k.rest (point e) (among_true e l m) (λ q. n (same_key e p q))))
+    ap Open (in_place l t p (open_ascending l o) (among_from p l h) (λ e m. among_from e l (k.into (point e) m)) (λ e m n. k.rest (point e) (among_true e l m) (λ q. n (same_point e p q))))
 over_facet (Full l) o p h (Two t) k = absurd (false≢true (k.into far tt))
-over_facet (Open l) o p h (Three t) k = absurd (k.rest far refl (λ e. finite p (sym e)))
+over_facet (Open l) o p h (Three t) k = absurd (k.rest far refl (λ e. point_finite p (sym e)))
