@@ -1,17 +1,14 @@
 -- The facts of specs/Base hold for the complexes of sets of points: all but the star law.
--- This file opens the definition of a cell.
-use Rattle.std.specs.Prelude.{◌≡◌, ◌≢◌, refl, ℕ, ℤ, pos, neg_ℤ, ◌<ℤ◌, true, List, ◌⊎◌}
-use Rattle.std.proofs.Common.{arith, inl, inr, sym, subst, ◌∙◌}
-use Rattle.std.proofs.lemmas.Int.{ints}
+--
+use Rattle.std.specs.Prelude.{◌≡◌, ◌≢◌, refl, ℕ, true, List, ◌⊎◌}
+use Rattle.std.proofs.Common.{inl, inr, sym, subst, ◌∙◌}
 use Rattle.conv_laws.specs.Lists.{IsIn as IsMember}
-use Rattle.point_order.specs.Orientation.{orientation}
 use Rattle.point_order.specs.Heights.{height}
 use Rattle.point_order.specs.Sets.{IsIn}
 use Rattle.del_laws.specs.Cells.{Full, Vertex, point, far, Held, OneOf, Inside}
 use Rattle.del_laws.specs.PointSets.{PointSet, has, solid, cell, vertices}
 use Rattle.del_laws.specs.Base.{Symmetric, Across, Complex, Corner, Within, IsVertexOf}
-use Rattle.del_laws.proofs.Identities.{orientation_swap23}
-use Rattle.del_laws.proofs.Numbers.{not_zero}
+use Rattle.del_laws.proofs.CellFacts.{full_apart, open_not_twice}
 use Rattle.del_laws.proofs.Orders.{swap12, swap23, swap34}
 use Rattle.del_laws.proofs.Pairs.{not_twice, far_point}
 use Rattle.del_laws.proofs.Facets.{facing}
@@ -21,7 +18,7 @@ use Rattle.del_laws.proofs.Smaller.{smaller, held_inside, union}
 use Rattle.del_laws.proofs.Perturbed.{no_ties, is_convex}
 use Rattle.del_laws.proofs.Tests.{same_test, false_if}
 use Rattle.del_laws.proofs.Bools.{cell_true, cell_from}
-use Rattle.del_laws.proofs.PointSets.{keys_of, has_from, has_true, within, solid_from, solid_true, in_map, distinct_vertices}
+use Rattle.del_laws.proofs.PointSets.{keys_of, has_from, has_true, within, solid_from, solid_true, solid_more, in_map, distinct_vertices}
 
 -- a cell passes the test
 pub test_true : (s : PointSet) (w x y z : Vertex) → Held height s.points w x y z → cell s w x y z ≡ true
@@ -33,20 +30,12 @@ pub test_from : (s : PointSet) (w x y z : Vertex) → cell s w x y z ≡ true �
 unfolding cell
 test_from s w x y z e = cell_from s.points w x y z e
 
--- a number that is its opposite is 0
-self_opposite : (a : ℤ) → a ≡ neg_ℤ a → a ≡ pos 0
-self_opposite a e = omega (arith, ints)
-
--- no plane has a point twice
-no_plane : (a b m : ℕ) → pos 0 <ℤ orientation a b b m → ⊥
-no_plane a b m l = not_zero (orientation a b b m) l (self_opposite (orientation a b b m) (orientation_swap23 a b b m))
-
 -- no cell has a vertex twice
 pub no_twice : (s : List ℕ) (w x y : Vertex) → Held height s w x y y → ⊥
 no_twice s (point a) (point b) y m = not_twice height s a b y m
-no_twice s (point a) far (point b) m = elim m [ inl F ↦ no_plane a b F.mate F.above | inr F ↦ no_plane a b F.mate F.above ]
+no_twice s (point a) far (point b) m = elim m [ inl F ↦ open_not_twice F | inr F ↦ open_not_twice F ]
 no_twice s (point a) far far m = m
-no_twice s far (point a) (point b) m = elim m [ inl F ↦ no_plane a b F.mate F.above | inr F ↦ no_plane a b F.mate F.above ]
+no_twice s far (point a) (point b) m = elim m [ inl F ↦ open_not_twice F | inr F ↦ open_not_twice F ]
 no_twice s far (point a) far m = m
 no_twice s far far y m = m
 
@@ -143,7 +132,7 @@ test_full_solid s t (point a) (point b) (point c) (point d) e i j k l = elim (te
   where
     -- in an order of positive orientation
     of_full : (a b c d : ℕ) → Full height s.points a b c d → IsIn a t.points → IsIn b t.points → IsIn c t.points → IsIn d t.points → solid t ≡ true
-    of_full a b c d F i j k l = solid_true t.points (record { f = record { a = a; b = b; c = c; d = d }; has_a = i; has_b = j; has_c = k; has_d = l; apart = not_zero (orientation a b c d) F.turned })
+    of_full a b c d F i j k l = solid_true t.points (record { f = record { a = a; b = b; c = c; d = d }; has_a = i; has_b = j; has_c = k; has_d = l; apart = full_apart F })
 test_full_solid s t far x y z e i j k l = cc
 test_full_solid s t (point a) far y z e i j k l = cc
 test_full_solid s t (point a) (point b) far z e i j k l = cc
@@ -151,7 +140,4 @@ test_full_solid s t (point a) (point b) (point c) far e i j k l = cc
 
 -- a larger set than a solid one is solid
 pub test_solid_more : (s t : PointSet) → solid s ≡ true → Within PointSet has s t → solid t ≡ true
-test_solid_more s t i f =
-    let g = solid_from s.points i in
-    let u = within t s f in
-    solid_true t.points (record { f = g.f; has_a = u.inside g.f.a g.has_a; has_b = u.inside g.f.b g.has_b; has_c = u.inside g.f.c g.has_c; has_d = u.inside g.f.d g.has_d; apart = g.apart })
+test_solid_more s t i f = solid_more s.points t.points (within t s f).inside i

@@ -1,5 +1,5 @@
 -- The test of four vertices of specs/Vertices says that they are a cell, at the perturbed heights.
--- This file opens the definition of a cell.
+--
 use Rattle.std.specs.Prelude.{ℕ, ℤ, pos, neg_ℤ, ◌≡◌, ◌≤ℤ◌, ◌<ℤ◌, Bool, true, not, ◌&&◌, ◌||◌, List, [], ◌∷◌, ◌⊎◌, Option, None}
 use Rattle.std.specs.List.{list_all, find}
 use Rattle.std.specs.Int.Signed.{lt_z, le_z}
@@ -17,9 +17,10 @@ use Rattle.del_laws.specs.Keys.{AreKeys}
 use Rattle.del_laws.specs.Vertices.{are_among, is_full_cell, is_open_cell, is_cell}
 use Rattle.del_laws.proofs.Identities.{orientation_swap23, lifted_swap23}
 use Rattle.del_laws.proofs.Numbers.{weak, zero_weak, not_zero}
+use Rattle.del_laws.proofs.CellFacts.{full_cell, full_a, full_b, full_c, full_d, full_turned, open_by_mate, open_a, open_b, open_c, open_mate, open_bounds}
 use Rattle.del_laws.proofs.Decide.{is_in, is_at_zero}
 use Rattle.del_laws.proofs.Tests.{both_true, first_true, second_true, one_true, left_true, right_true, false_if, not_true, not_from, less_from, less_true, most_from, most_true, zero_from, zero_true, zero_false, not_zero_from, all_from, all_true, among_from, among_true, IsFound, found_from, searched}
-use Rattle.del_laws.proofs.Planes.{IsLine, line_flat, open_by_mate, open_not_line}
+use Rattle.del_laws.proofs.Planes.{IsLine, line_flat, open_not_line}
 use Rattle.del_laws.proofs.Walks.{strict, on}
 use Rattle.del_laws.proofs.Strict.{strict_open, flat_three}
 use Rattle.del_laws.proofs.Perturbed.{no_ties, out_is}
@@ -80,15 +81,15 @@ all_four s a b c d ma mb mc md =
 -- an order of the four in which they are a Full cell passes the test
 full_true : (s : List ℕ) (a b c d : ℕ) → AreKeys s → Full height s a b c d → is_full_cell s a b c d ≡ true
 full_true s a b c d k F =
-    both_true (are_among (a ∷ b ∷ c ∷ d ∷ []) s) (is_full s (a ∷ b ∷ c ∷ d ∷ [])) (all_four s a b c d F.has_a F.has_b F.has_c F.has_d)
-    (both_true (not (is_flat a b c d)) (list_all (passes a b c d) s) (not_true (is_flat a b c d) (zero_false (orientation a b c d) (not_zero (orientation a b c d) F.turned)))
+    both_true (are_among (a ∷ b ∷ c ∷ d ∷ []) s) (is_full s (a ∷ b ∷ c ∷ d ∷ [])) (all_four s a b c d (full_a F) (full_b F) (full_c F) (full_d F))
+    (both_true (not (is_flat a b c d)) (list_all (passes a b c d) s) (not_true (is_flat a b c d) (zero_false (orientation a b c d) (not_zero (orientation a b c d) (full_turned F))))
     (all_true (passes a b c d) s each))
   where
     -- each point
     each : (e : ℕ) → IsIn e s → passes a b c d e ≡ true
     each e m = elim (is_in e (a ∷ b ∷ c ∷ d ∷ [])) [
       | yes i ↦ left_true (is_among e (a ∷ b ∷ c ∷ d ∷ [])) (is_outside a b c d e) (among_true e (a ∷ b ∷ c ∷ d ∷ []) i)
-      | no i ↦ right_true (is_among e (a ∷ b ∷ c ∷ d ∷ [])) (is_outside a b c d e) (outside_above a b c d e F.turned (strict (no_ties s k) F e m i))
+      | no i ↦ right_true (is_among e (a ∷ b ∷ c ∷ d ∷ [])) (is_outside a b c d e) (outside_above a b c d e (full_turned F) (strict (no_ties s k) F e m i))
     ]
 
 -- the middle two are exchanged
@@ -98,17 +99,17 @@ four_turned e a b c d m = elim m [ inl q ↦ inl q | inr r ↦ elim r [ inl q �
 -- so does the other order
 full_true_turned : (s : List ℕ) (a b c d : ℕ) → AreKeys s → Full height s a c b d → is_full_cell s a b c d ≡ true
 full_true_turned s a b c d k F =
-    both_true (are_among (a ∷ b ∷ c ∷ d ∷ []) s) (is_full s (a ∷ b ∷ c ∷ d ∷ [])) (all_four s a b c d F.has_a F.has_c F.has_b F.has_d)
+    both_true (are_among (a ∷ b ∷ c ∷ d ∷ []) s) (is_full s (a ∷ b ∷ c ∷ d ∷ [])) (all_four s a b c d (full_a F) (full_c F) (full_b F) (full_d F))
     (both_true (not (is_flat a b c d)) (list_all (passes a b c d) s) (not_true (is_flat a b c d) (zero_false (orientation a b c d) low_not))
     (all_true (passes a b c d) s each))
   where
     -- the orientation is negative
     low : orientation a b c d <ℤ pos 0
-    low = turned_above (orientation a b c d) (orientation a c b d) F.turned (orientation_swap23 a b c d)
+    low = turned_above (orientation a b c d) (orientation a c b d) (full_turned F) (orientation_swap23 a b c d)
 
     -- and not 0
     low_not : orientation a b c d ≡ pos 0 → ⊥
-    low_not z = not_zero (orientation a c b d) F.turned (orientation_swap23 a b c d ∙ ap neg_ℤ z)
+    low_not z = not_zero (orientation a c b d) (full_turned F) (orientation_swap23 a b c d ∙ ap neg_ℤ z)
 
     -- each point
     each : (e : ℕ) → IsIn e s → passes a b c d e ≡ true
@@ -120,29 +121,17 @@ full_true_turned s a b c d k F =
 -- four points that pass are a Full cell in one order
 full_from : (s : List ℕ) (a b c d : ℕ) → is_full_cell s a b c d ≡ true → Full height s a b c d ⊎ Full height s a c b d
 full_from s a b c d t = elim (sign (orientation a b c d)) [
-  | below l ↦ inr (record {
-    has_a = among_from a s first_in;
-    has_b = among_from c s third_in;
-    has_c = among_from b s second_in;
-    has_d = among_from d s fourth_in;
-    turned = turned_low (orientation a b c d) (orientation a c b d) l (orientation_swap23 a b c d);
-    empty = λ e m. elim (one_true (is_among e (a ∷ b ∷ c ∷ d ∷ [])) (is_outside a b c d e) (each e m)) [
-      | inl i ↦ zero_weak (lifted height a c b d e) (on height a c b d e (four_turned e a c b d (among_from e (a ∷ b ∷ c ∷ d ∷ []) i)))
-      | inr i ↦ weak (lifted height a c b d e) (turned_low (lifted height a b c d e) (lifted height a c b d e) (below_from a b c d e i l) (lifted_swap23 height a b c d e))
-    ];
-  })
+  | below l ↦ inr (full_cell (among_from a s first_in) (among_from c s third_in) (among_from b s second_in) (among_from d s fourth_in) (turned_low (orientation a b c d) (orientation a c b d) l (orientation_swap23 a b c d))
+      (λ e m. elim (one_true (is_among e (a ∷ b ∷ c ∷ d ∷ [])) (is_outside a b c d e) (each e m)) [
+        | inl i ↦ zero_weak (lifted height a c b d e) (on height a c b d e (four_turned e a c b d (among_from e (a ∷ b ∷ c ∷ d ∷ []) i)))
+        | inr i ↦ weak (lifted height a c b d e) (turned_low (lifted height a b c d e) (lifted height a c b d e) (below_from a b c d e i l) (lifted_swap23 height a b c d e))
+      ]))
   | at_zero z ↦ absurd (not_zero_from (orientation a b c d) (not_from (is_flat a b c d) (first_true (not (is_flat a b c d)) (list_all (passes a b c d) s) full)) z)
-  | above l ↦ inl (record {
-    has_a = among_from a s first_in;
-    has_b = among_from b s second_in;
-    has_c = among_from c s third_in;
-    has_d = among_from d s fourth_in;
-    turned = l;
-    empty = λ e m. elim (one_true (is_among e (a ∷ b ∷ c ∷ d ∷ [])) (is_outside a b c d e) (each e m)) [
-      | inl i ↦ zero_weak (lifted height a b c d e) (on height a b c d e (among_from e (a ∷ b ∷ c ∷ d ∷ []) i))
-      | inr i ↦ weak (lifted height a b c d e) (above_from a b c d e i l)
-    ];
-  })
+  | above l ↦ inl (full_cell (among_from a s first_in) (among_from b s second_in) (among_from c s third_in) (among_from d s fourth_in) l
+      (λ e m. elim (one_true (is_among e (a ∷ b ∷ c ∷ d ∷ [])) (is_outside a b c d e) (each e m)) [
+        | inl i ↦ zero_weak (lifted height a b c d e) (on height a b c d e (among_from e (a ∷ b ∷ c ∷ d ∷ []) i))
+        | inr i ↦ weak (lifted height a b c d e) (above_from a b c d e i l)
+      ]))
 ]
   where
     -- the four are in the set
@@ -195,8 +184,8 @@ not_under a b c e = le_z (pos 0) (orientation a b c e)
 open_from_true : (s : List ℕ) (a b c : ℕ) → AreKeys s → Open height s a b c → is_open_from s a b c ≡ true
 open_from_true s a b c k F =
     both_true (list_all (not_under a b c) s) (is_empty_in_plane s a b c (find (is_mate a b c) s))
-    (all_true (not_under a b c) s (λ e m. most_true (pos 0) (orientation a b c e) (F.bounds e m)))
-    (by_mate (found_from (is_mate a b c) s F.mate F.has_mate (less_true (pos 0) (orientation a b c F.mate) F.above)))
+    (all_true (not_under a b c) s (λ e m. most_true (pos 0) (orientation a b c e) (open_bounds F e m)))
+    (by_mate (let k = open_mate F in found_from (is_mate a b c) s k.0 k.1 (less_true (pos 0) (orientation a b c k.0) k.2)))
   where
     -- each point, for the mate that is found
     each : (f : IsFound (is_mate a b c) s) (e : ℕ) → IsIn e s → keeps_out a b c f.at e ≡ true
@@ -284,10 +273,10 @@ all_three s a b c ma mb mc =
 -- an Open cell passes the test, in either order
 open_true : (s : List ℕ) (a b c : ℕ) → AreKeys s → Open height s a c b ⊎ Open height s a b c → is_open_cell s a b c ≡ true
 open_true s a b c k m = elim m [
-  | inl F ↦ both_true (are_among (a ∷ b ∷ c ∷ []) s) (is_open s (a ∷ b ∷ c ∷ [])) (all_three s a b c F.has_a F.has_c F.has_b)
-      (both_true (not (is_collinear a b c)) (is_open_from s a b c || is_open_from s a c b) (not_true (is_collinear a b c) (false_if (is_collinear a b c) (λ t. not_zero (orientation a c b F.mate) F.above (orientation_swap23 a b c F.mate ∙ ap neg_ℤ (line_flat a b c F.mate (line_from a b c t))))))
+  | inl F ↦ both_true (are_among (a ∷ b ∷ c ∷ []) s) (is_open s (a ∷ b ∷ c ∷ [])) (all_three s a b c (open_a F) (open_c F) (open_b F))
+      (both_true (not (is_collinear a b c)) (is_open_from s a b c || is_open_from s a c b) (not_true (is_collinear a b c) (false_if (is_collinear a b c) (λ t. (let k = open_mate F in not_zero (orientation a c b k.0) k.2 (orientation_swap23 a b c k.0 ∙ ap neg_ℤ (line_flat a b c k.0 (line_from a b c t)))))))
       (right_true (is_open_from s a b c) (is_open_from s a c b) (open_from_true s a c b k F)))
-  | inr F ↦ both_true (are_among (a ∷ b ∷ c ∷ []) s) (is_open s (a ∷ b ∷ c ∷ [])) (all_three s a b c F.has_a F.has_b F.has_c)
+  | inr F ↦ both_true (are_among (a ∷ b ∷ c ∷ []) s) (is_open s (a ∷ b ∷ c ∷ [])) (all_three s a b c (open_a F) (open_b F) (open_c F))
       (both_true (not (is_collinear a b c)) (is_open_from s a b c || is_open_from s a c b) (not_true (is_collinear a b c) (false_if (is_collinear a b c) (λ t. open_not_line F (line_from a b c t))))
       (left_true (is_open_from s a b c) (is_open_from s a c b) (open_from_true s a b c k F)))
 ]

@@ -1,4 +1,4 @@
--- Whether four vertices are a cell can be decided. This file opens the definition of a cell.
+-- Whether four vertices are a cell can be decided.
 use Rattle.std.specs.Prelude.{ℕ, ℤ, pos, ◌≡◌, ◌≤ℤ◌, ◌<ℤ◌, Bool, true, false, List, [], ◌∷◌, ◌⊎◌}
 use Rattle.std.proofs.Common.{arith, refl, ap, inl, inr, subst, sym}
 use Rattle.std.proofs.lemmas.Int.{ints}
@@ -9,6 +9,7 @@ use Rattle.point_order.specs.Orientation.{orientation}
 use Rattle.point_order.specs.Heights.{lifted}
 use Rattle.point_order.specs.Sets.{IsIn}
 use Rattle.del_laws.specs.Cells.{Full, Open, Vertex, point, far, On, Held}
+use Rattle.del_laws.proofs.CellFacts.{full_cell, full_a, full_b, full_c, full_d, full_turned, full_empty, open_by_mate, open_a, open_b, open_c, open_mate, open_bounds, open_ties}
 
 -- ---- decisions in general
 
@@ -85,8 +86,8 @@ is_at_zero z = elim (sign z) [ below p ↦ no (λ q. omega (arith, ints, p, q)) 
 -- whether four points are a Full cell in this order
 pub decide_full : (h : ℕ → ℕ) (s : List ℕ) (a b c d : ℕ) → Dec (Full h s a b c d)
 decide_full h s a b c d =
-    moved (λ t. record { has_a = t.0.0.0; has_b = t.0.0.1; has_c = t.0.1.0; has_d = t.0.1.1; turned = t.1.0; empty = t.1.1 })
-    (λ f. (((f.has_a, f.has_b), (f.has_c, f.has_d)), (f.turned, f.empty)))
+    moved (λ t. full_cell t.0.0.0 t.0.0.1 t.0.1.0 t.0.1.1 t.1.0 t.1.1)
+    (λ f. (((full_a f, full_b f), (full_c f, full_d f)), (full_turned f, full_empty f)))
     (both (both (both (is_in a s) (is_in b s)) (both (is_in c s) (is_in d s)))
     (both (is_positive (orientation a b c d)) (all_in (λ e. pos 0 ≤ℤ lifted h a b c d e) (λ e. is_not_below (lifted h a b c d e)) s)))
 
@@ -97,8 +98,8 @@ Ties h s a b c f = (e : ℕ) → IsIn e s → pos 0 <ℤ orientation a b c f →
 -- whether three points are an Open cell in this order
 pub decide_open : (h : ℕ → ℕ) (s : List ℕ) (a b c : ℕ) → Dec (Open h s a b c)
 decide_open h s a b c =
-    moved (λ t. record { has_a = t.0.0.0; has_b = t.0.0.1; has_c = t.0.1.0; mate = t.0.1.1.0; has_mate = t.0.1.1.1; above = t.0.1.1.2; bounds = t.1.0; ties = λ f e m k. t.1.1 f m e k })
-    (λ f. (((f.has_a, f.has_b), (f.has_c, (f.mate, f.has_mate, f.above))), (f.bounds, λ g m e k. f.ties g e m k)))
+    moved (λ t. open_by_mate t.0.0.0 t.0.0.1 t.0.1.0 t.0.1.1.0 t.0.1.1.1 t.0.1.1.2 t.1.0 (λ e m z. t.1.1 t.0.1.1.0 t.0.1.1.1 e m t.0.1.1.2 z))
+    (λ f. (((open_a f, open_b f), (open_c f, open_mate f)), (open_bounds f, λ g m e k. open_ties f g e m k)))
     (both (both (both (is_in a s) (is_in b s)) (both (is_in c s) (some_in (λ f. pos 0 <ℤ orientation a b c f) (λ f. is_positive (orientation a b c f)) s)))
     (both (all_in (λ e. pos 0 ≤ℤ orientation a b c e) (λ e. is_not_below (orientation a b c e)) s)
     (all_in (λ f. Ties h s a b c f) (λ f. all_in (λ e. pos 0 <ℤ orientation a b c f → orientation a b c e ≡ pos 0 → pos 0 ≤ℤ lifted h a b c f e)

@@ -1,4 +1,4 @@
--- From every point some Open cell looks away, and a solid set has cells. This file opens the definition of a cell.
+-- From every point some Open cell looks away, and a solid set has cells.
 use Rattle.std.specs.Prelude.{ℕ, ℤ, pos, ◌*ℤ◌, neg_ℤ, ◌≤ℤ◌, ◌<ℤ◌, List, [], ◌∷◌, ◌++◌, ◌⊎◌}
 use Rattle.std.proofs.Common.{arith, refl, inl, inr}
 use Rattle.std.proofs.lemmas.Int.{ints}
@@ -12,6 +12,7 @@ use Rattle.del_laws.specs.Cells.{Full, Open, NoTies, Four, IsSolid, IsSubset, Ha
 use Rattle.del_laws.proofs.Identities.{orientation_swap23, orientation_bcad, orientation_acdb, lifted_bcad, lifted_acdb, weights_of}
 use Rattle.del_laws.proofs.Numbers.{weak, zero_weak, not_zero, not_back, one_above, turned_below}
 use Rattle.del_laws.proofs.Lists.{of_four}
+use Rattle.del_laws.proofs.CellFacts.{full_cell, full_turned, full_same}
 use Rattle.del_laws.proofs.Across.{across_full, across_open}
 use Rattle.del_laws.proofs.Regions.{choose}
 use Rattle.del_laws.proofs.Walks.{on, farther, all_full}
@@ -55,7 +56,7 @@ at_hull {h} {s} {p} {a} {b} {c} {d} n t w = elim (across_full t.at) [
 
 -- and some weight is positive
 away_from : {h : ℕ → ℕ} {s : List ℕ} {p a b c d : ℕ} → NoTies h s → Farthest h s p a b c d → Faces h s p
-away_from {h} {s} {p} {a} {b} {c} {d} n t = elim (one_above (orientation b d c p) (orientation a c d p) (orientation a d b p) (orientation a b c p) (rw (weights_of a b c d p) t.at.turned)) [
+away_from {h} {s} {p} {a} {b} {c} {d} n t = elim (one_above (orientation b d c p) (orientation a c d p) (orientation a d b p) (orientation a b c p) (rw (weights_of a b c d p) (full_turned t.at))) [
   | inl w ↦ at_hull n (farthest_right (farthest_right (farthest_left t))) w
   | inr x ↦ elim x [
     | inl w ↦ at_hull n (farthest_right t) w
@@ -71,7 +72,7 @@ away {h} {s} {a} {b} {c} {d} n F p = away_from n (farthest p a b c d F).1
 
 -- that Open cell stays when p is added, with p as a mate
 with_point : {h : ℕ → ℕ} {s : List ℕ} {p : ℕ} (t : Faces h s p) → Open h (p ∷ s) t.a t.b t.c
-with_point {h} {s} {p} t = open_stays t.open_cell (record { side = weak (orientation t.a t.b t.c p) t.inside; tie = λ z. absurd (not_zero (orientation t.a t.b t.c p) t.inside z) })
+with_point {h} {s} {p} t = open_stays t.open_cell p t.inside (record { side = weak (orientation t.a t.b t.c p) t.inside; tie = λ z. absurd (not_zero (orientation t.a t.b t.c p) t.inside z) })
 
 -- so a set with one more point has a Full cell
 one_more : {h : ℕ → ℕ} {s : List ℕ} (p : ℕ) → NoTies h s → HasFull h s → HasFull h (p ∷ s)
@@ -84,7 +85,7 @@ one_more {h} {s} p n F =
 four_points : (h : ℕ → ℕ) (a b c d : ℕ) → pos 0 <ℤ orientation a b c d → HasFull h (a ∷ b ∷ c ∷ d ∷ [])
 four_points h a b c d o = record {
   f = record { a = a; b = b; c = c; d = d };
-  full = record { has_a = inl refl; has_b = inr (inl refl); has_c = inr (inr (inl refl)); has_d = inr (inr (inr (inl refl))); turned = o; empty = λ e m. zero_weak (lifted h a b c d e) (on h a b c d e m) };
+  full = full_cell (inl refl) (inr (inl refl)) (inr (inr (inl refl))) (inr (inr (inr (inl refl)))) o (λ e m. zero_weak (lifted h a b c d e) (on h a b c d e m));
 }
 
 -- and more and more points
@@ -103,10 +104,6 @@ in_left e (x ∷ xs) t m = elim m [ inl q ↦ inl q | inr r ↦ inr (in_left e x
 from_append : (e : ℕ) (s t : List ℕ) → IsIn e (s ++ t) → IsIn e s ⊎ IsIn e t
 from_append e [] t m = inr m
 from_append e (x ∷ xs) t m = elim m [ inl q ↦ inl (inl q) | inr r ↦ elim (from_append e xs t r) [ inl i ↦ inl (inr i) | inr i ↦ inr i ] ]
-
--- a Full cell of a list with the same points
-pub full_same : {h : ℕ → ℕ} {s t : List ℕ} {a b c d : ℕ} → ((e : ℕ) → IsIn e s → IsIn e t) → ((e : ℕ) → IsIn e t → IsIn e s) → Full h s a b c d → Full h t a b c d
-full_same {h} {s} {t} {a} {b} {c} {d} f g F = record { has_a = f a F.has_a; has_b = f b F.has_b; has_c = f c F.has_c; has_d = f d F.has_d; turned = F.turned; empty = λ e m. F.empty e (g e m) }
 
 -- from four independent points of the set
 exists_from : {h : ℕ → ℕ} {s : List ℕ} (a b c d : ℕ) → NoTies h s → IsIn a s → IsIn b s → IsIn c s → IsIn d s → pos 0 <ℤ orientation a b c d → HasFull h s

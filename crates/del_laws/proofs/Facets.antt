@@ -1,4 +1,4 @@
--- Every facet of a cell lies in exactly two cells. This file opens the definition of a cell.
+-- Every facet of a cell lies in exactly two cells.
 use Rattle.std.specs.Prelude.{ℕ, List}
 use Rattle.del_laws.specs.Cells.{Vertex, point, far, Held, NoTies}
 use Rattle.del_laws.specs.Laws.{FacetLaw}

@@ -1,4 +1,4 @@
--- Which cells stay when a point is added, by the tests of conflict. This file opens the definition of a cell.
+-- Which cells stay when a point is added, by the tests of conflict.
 use Rattle.std.specs.Prelude.{◌≡◌, refl, ℕ, ℤ, pos, neg_ℤ, ◌≤ℤ◌, ◌<ℤ◌, Bool, true, false, not, ◌&&◌, ◌||◌, List, [], ◌∷◌}
 use Rattle.std.specs.Int.Signed.{lt_z}
 use Rattle.std.proofs.Common.{arith, inl, inr, sym, subst}
@@ -18,11 +18,11 @@ use Rattle.del_laws.specs.Keys.{AreKeys}
 use Rattle.del_laws.specs.Vertices.{is_full_cell, is_open_cell}
 use Rattle.del_laws.specs.Kept.{FullIsKept, OpenIsKept}
 use Rattle.del_laws.proofs.Identities.{orientation_swap23, lifted_swap23}
-use Rattle.del_laws.proofs.Numbers.{weak, zero_weak, positive, not_zero, against}
+use Rattle.del_laws.proofs.Numbers.{weak, zero_weak, positive, not_zero}
 use Rattle.del_laws.proofs.Lists.{of_four}
+use Rattle.del_laws.proofs.CellFacts.{full_point, full_turned, full_against, full_same, open_a, open_b, open_c, open_bounds, open_ties, open_under, open_same}
 use Rattle.del_laws.proofs.Walks.{strict}
-use Rattle.del_laws.proofs.Existence.{full_same}
-use Rattle.del_laws.proofs.Conflict.{full_stays, open_stays, outside_any}
+use Rattle.del_laws.proofs.Conflict.{full_stays, open_stays}
 use Rattle.del_laws.proofs.Perturbed.{no_ties, out_is}
 use Rattle.del_laws.proofs.Tests.{same_test, not_zero_from, not_true, not_from, not_both}
 use Rattle.del_laws.proofs.Bools.{cell_true, cell_from, outside_above, outside_below, above_from, below_from}
@@ -40,19 +40,6 @@ to_with s p e m = elim m [ inl q ↦ subst (λ v. IsIn v (with_point p s)) q (in
 -- and no others
 from_with : (s : List ℕ) (p e : ℕ) → IsIn e (with_point p s) → IsIn e (p ∷ s)
 from_with s p e m = in-with p e s m
-
--- an Open cell of a list with the same points
-open_same : {h : ℕ → ℕ} {s t : List ℕ} {a b c : ℕ} → ((e : ℕ) → IsIn e s → IsIn e t) → ((e : ℕ) → IsIn e t → IsIn e s) → cells.Open h s a b c → cells.Open h t a b c
-open_same {h} {s} {t} {a} {b} {c} f g F = record {
-  has_a = f a F.has_a;
-  has_b = f b F.has_b;
-  has_c = f c F.has_c;
-  mate = F.mate;
-  has_mate = f F.mate F.has_mate;
-  above = F.above;
-  bounds = λ e m. F.bounds e (g e m);
-  ties = λ m e i j. F.ties m e (g m i) (g e j);
-}
 
 -- a negative number is not positive
 low_most : (z : ℤ) → z <ℤ pos 0 → z ≤ℤ pos 0
@@ -81,7 +68,7 @@ high_of a b l e = omega (arith, ints)
 module _ (s : List ℕ) (p : ℕ) (k : AreKeys s) (j : IsKey p) (o : IsIn p s → ⊥) where
   -- p is no vertex of a cell
   no_vertex : {a b c d : ℕ} → cells.Full height s a b c d → ¬ (OneOf p a b c d)
-  no_vertex {a} {b} {c} {d} F m = o (of_four (λ x. IsIn x s) m F.has_a F.has_b F.has_c F.has_d)
+  no_vertex {a} {b} {c} {d} F m = o (full_point F m)
 
   -- a Full cell of the set with p does not have p inside
   kept_full : {a b c d : ℕ} → ¬ (OneOf p a b c d) → cells.Full height (with_point p s) a b c d → pos 0 <ℤ lifted height a b c d p
@@ -95,18 +82,18 @@ module _ (s : List ℕ) (p : ℕ) (k : AreKeys s) (j : IsKey p) (o : IsIn p s �
   full_above : (a b c d : ℕ) → cells.Full height s a b c d → is_full_cell (with_point p s) a b c d ≡ not (not (is_outside a b c d p))
   full_above a b c d F = same_test (is_full_cell (with_point p s) a b c d) (not (not (is_outside a b c d p)))
       (λ t. denied_twice (is_outside a b c d p) (elim (cell_from (with_point p s) (point a) (point b) (point c) (point d) t) [
-        | inl G ↦ outside_above a b c d p F.turned (kept_full (no_vertex F) G)
-        | inr G ↦ absurd (against (orientation a b c d) (orientation a c b d) F.turned (weak (orientation a c b d) G.turned) (orientation_swap23 a b c d))
+        | inl G ↦ outside_above a b c d p (full_turned F) (kept_full (no_vertex F) G)
+        | inr G ↦ absurd (full_against F G)
       ]))
-      (λ t. cell_true (with_point p s) (with_keys s p k j) (point a) (point b) (point c) (point d) (inl (stays_full F (above_from a b c d p (twice_from (is_outside a b c d p) t) F.turned))))
+      (λ t. cell_true (with_point p s) (with_keys s p k j) (point a) (point b) (point c) (point d) (inl (stays_full F (above_from a b c d p (twice_from (is_outside a b c d p) t) (full_turned F)))))
 
   -- in an order of negative orientation
   full_below : (a b c d : ℕ) → cells.Full height s a c b d → is_full_cell (with_point p s) a b c d ≡ not (not (is_outside a b c d p))
   full_below a b c d F =
-      let low : orientation a b c d <ℤ pos 0 = low_of (orientation a b c d) (orientation a c b d) F.turned (orientation_swap23 a b c d) in
+      let low : orientation a b c d <ℤ pos 0 = low_of (orientation a b c d) (orientation a c b d) (full_turned F) (orientation_swap23 a b c d) in
       same_test (is_full_cell (with_point p s) a b c d) (not (not (is_outside a b c d p)))
       (λ t. denied_twice (is_outside a b c d p) (elim (cell_from (with_point p s) (point a) (point b) (point c) (point d) t) [
-        | inl G ↦ absurd (against (orientation a c b d) (orientation a b c d) F.turned (weak (orientation a b c d) G.turned) (orientation_swap23 a c b d))
+        | inl G ↦ absurd (full_against F G)
         | inr G ↦ outside_below a b c d p low (low_of (lifted height a b c d p) (lifted height a c b d p) (kept_full (no_vertex F) G) (lifted_swap23 height a b c d p))
       ]))
       (λ t. cell_true (with_point p s) (with_keys s p k j) (point a) (point b) (point c) (point d) (inr (stays_full F (high_of (lifted height a b c d p) (lifted height a c b d p) (below_from a b c d p (twice_from (is_outside a b c d p) t) low) (lifted_swap23 height a b c d p)))))
@@ -161,18 +148,18 @@ module _ (s : List ℕ) (p : ℕ) (k : AreKeys s) (j : IsKey p) (o : IsIn p s �
   -- an Open cell of the set with p, seen from a mate of the set: p is above its plane, or in it and strictly outside
   kept_open : (a b c m : ℕ) → IsIn a s → IsIn b s → IsIn c s → IsIn m s → pos 0 <ℤ orientation a b c m → cells.Open height (with_point p s) a b c → orientation a b c p ≡ pos 0 → pos 0 <ℤ lifted height a b c m p
   kept_open a b c m ma mb mc mm l G z =
-      positive (lifted height a b c m p) (G.ties m p (in-with_old p m s mm) (in-with_new p s) l z)
+      positive (lifted height a b c m p) (open_ties G m p (in-with_old p m s mm) (in-with_new p s) l z)
       (λ e. o (of_four (λ x. IsIn x s) ((no_ties (with_point p s) (with_keys s p k j)).one_of a b c m p (in-with_old p a s ma) (in-with_old p b s mb) (in-with_old p c s mc) (in-with_old p m s mm) (in-with_new p s) (not_zero (orientation a b c m) l) e) ma mb mc mm))
 
   -- an Open cell that p is outside of stays
   stays_open : (a b c m : ℕ) → cells.Open height s a b c → pos 0 <ℤ orientation a b c m → IsOutside height a b c m p → cells.Open height (with_point p s) a b c
-  stays_open a b c m F l i = open_same (to_with s p) (from_with s p) (open_stays F (outside_any height a b c m F.mate p l F.above i))
+  stays_open a b c m F l i = open_same (to_with s p) (from_with s p) (open_stays F m l i)
 
   -- three points in the order in which the set is above them
   open_above : (a b c m : ℕ) → cells.Open height s a b c → IsIn m s → pos 0 <ℤ orientation a b c m → is_open_cell (with_point p s) a b c ≡ not (is_open_conflict (a ∷ b ∷ c ∷ []) m p)
   open_above a b c m F mm l = same_test (is_open_cell (with_point p s) a b c) (not (is_open_conflict (a ∷ b ∷ c ∷ []) m p))
       (λ t. not_true (is_open_conflict (a ∷ b ∷ c ∷ []) m p) (elim (cell_from (with_point p s) (point a) (point b) (point c) far t) [
-        | inl G ↦ absurd (against (orientation a b c m) (orientation a c b m) l (G.bounds m (in-with_old p m s mm)) (orientation_swap23 a b c m))
+        | inl G ↦ absurd (open_under _ (in-with_old p m s mm) l G)
         | inr G ↦ passes G
       ]))
       (λ t. cell_true (with_point p s) (with_keys s p k j) (point a) (point b) (point c) far (inr (stays_open a b c m F l (outside (not_from (is_open_conflict (a ∷ b ∷ c ∷ []) m p) t)))))
@@ -180,8 +167,8 @@ module _ (s : List ℕ) (p : ℕ) (k : AreKeys s) (j : IsKey p) (o : IsIn p s �
       -- a cell of the set with p is not in conflict
       passes : cells.Open height (with_point p s) a b c → is_open_conflict (a ∷ b ∷ c ∷ []) m p ≡ false
       passes G = elim (sign (orientation a b c p)) [
-        | below q ↦ absurd (under (orientation a b c p) q (G.bounds p (in-with_new p s)))
-        | at_zero q ↦ outside_plane_above (orientation a b c m) (orientation a b c p) (out a b c m p) l q (subst (λ z. pos 0 <ℤ z) (sym (out_is a b c m p)) (kept_open a b c m F.has_a F.has_b F.has_c mm l G q))
+        | below q ↦ absurd (under (orientation a b c p) q (open_bounds G p (in-with_new p s)))
+        | at_zero q ↦ outside_plane_above (orientation a b c m) (orientation a b c p) (out a b c m p) l q (subst (λ z. pos 0 <ℤ z) (sym (out_is a b c m p)) (kept_open a b c m (open_a F) (open_b F) (open_c F) mm l G q))
         | above q ↦ before_above (orientation a b c m) (orientation a b c p) (out a b c m p) l q
       ]
         where
@@ -209,7 +196,7 @@ module _ (s : List ℕ) (p : ℕ) (k : AreKeys s) (j : IsKey p) (o : IsIn p s �
       let low : orientation a b c m <ℤ pos 0 = low_of (orientation a b c m) (orientation a c b m) l (orientation_swap23 a b c m) in
       same_test (is_open_cell (with_point p s) a b c) (not (is_open_conflict (a ∷ b ∷ c ∷ []) m p))
       (λ t. not_true (is_open_conflict (a ∷ b ∷ c ∷ []) m p) (elim (cell_from (with_point p s) (point a) (point b) (point c) far t) [
-        | inr G ↦ absurd (against (orientation a c b m) (orientation a b c m) l (G.bounds m (in-with_old p m s mm)) (orientation_swap23 a c b m))
+        | inr G ↦ absurd (open_under _ (in-with_old p m s mm) l G)
         | inl G ↦ passes low G
       ]))
       (λ t. cell_true (with_point p s) (with_keys s p k j) (point a) (point b) (point c) far (inl (stays_open a c b m F l (outside low (not_from (is_open_conflict (a ∷ b ∷ c ∷ []) m p) t)))))
@@ -217,9 +204,9 @@ module _ (s : List ℕ) (p : ℕ) (k : AreKeys s) (j : IsKey p) (o : IsIn p s �
       -- a cell of the set with p is not in conflict
       passes : orientation a b c m <ℤ pos 0 → cells.Open height (with_point p s) a c b → is_open_conflict (a ∷ b ∷ c ∷ []) m p ≡ false
       passes low G = elim (sign (orientation a c b p)) [
-        | below q ↦ absurd (under (orientation a c b p) q (G.bounds p (in-with_new p s)))
+        | below q ↦ absurd (under (orientation a c b p) q (open_bounds G p (in-with_new p s)))
         | at_zero q ↦ outside_plane_below (orientation a b c m) (orientation a b c p) (out a b c m p) low (zero_of (orientation a c b p) (orientation a b c p) (orientation_swap23 a c b p) q)
-            (subst (λ z. z <ℤ pos 0) (sym (out_is a b c m p)) (low_of (lifted height a b c m p) (lifted height a c b m p) (kept_open a c b m F.has_a F.has_b F.has_c mm l G q) (lifted_swap23 height a b c m p)))
+            (subst (λ z. z <ℤ pos 0) (sym (out_is a b c m p)) (low_of (lifted height a b c m p) (lifted height a c b m p) (kept_open a c b m (open_a F) (open_b F) (open_c F) mm l G q) (lifted_swap23 height a b c m p)))
         | above q ↦ before_below (orientation a b c m) (orientation a b c p) (out a b c m p) low (low_of (orientation a b c p) (orientation a c b p) q (orientation_swap23 a b c p))
       ]
         where
@@ -245,6 +232,6 @@ module _ (s : List ℕ) (p : ℕ) (k : AreKeys s) (j : IsKey p) (o : IsIn p s �
 -- an Open cell is kept where it is not in conflict
 pub open_is_kept : OpenIsKept
 open_is_kept s a b c m p k j o t mm n = elim (cell_from s (point a) (point b) (point c) far t) [
-  | inl F ↦ open_below s p k j o a b c m F mm (positive (orientation a c b m) (F.bounds m mm) (λ z. not_zero_from (orientation a b c m) n (zero_of (orientation a c b m) (orientation a b c m) (orientation_swap23 a c b m) z)))
-  | inr F ↦ open_above s p k j o a b c m F mm (positive (orientation a b c m) (F.bounds m mm) (not_zero_from (orientation a b c m) n))
+  | inl F ↦ open_below s p k j o a b c m F mm (positive (orientation a c b m) (open_bounds F m mm) (λ z. not_zero_from (orientation a b c m) n (zero_of (orientation a c b m) (orientation a b c m) (orientation_swap23 a c b m) z)))
+  | inr F ↦ open_above s p k j o a b c m F mm (positive (orientation a b c m) (open_bounds F m mm) (not_zero_from (orientation a b c m) n))
 ]

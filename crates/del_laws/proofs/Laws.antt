@@ -1,13 +1,12 @@
--- The laws of specs/Laws and specs/Walks, from the theorems of the other files. This file opens the definition of a cell.
+-- The laws of specs/Laws and specs/Walks, from the theorems of the other files.
 use Rattle.std.specs.Prelude.{pos, ◌≤ℤ◌, ◌∷◌}
 use Rattle.std.proofs.Common.{inl, inr}
-use Rattle.point_order.specs.Orientation.{orientation, is_collinear}
+use Rattle.point_order.specs.Orientation.{is_collinear}
 use Rattle.point_order.specs.Heights.{lifted}
 use Rattle.del_laws.specs.Cells.{point, far, Cell, IsOutside}
 use Rattle.del_laws.specs.Laws.{SwapFirst, SwapMiddle, SwapLast, AcrossFull, AcrossOpen, OneFullOnASide, OneOpenOnASide, SmallerSet, BetweenSets, NoFlatTriple, AnyMate, FullStays, OpenStays, KeysHaveNoTies, KeysAreConvex, TestOfCells}
 use Rattle.del_laws.specs.Walks.{CloserAcross, FartherAcross, AwayFromAPoint, SolidHasCells, EveryPoint, SomeFacetBehind, CrossingTowards, FewerAreNearer}
-use Rattle.del_laws.proofs.Numbers.{weak, against}
-use Rattle.del_laws.proofs.Identities.{orientation_swap23}
+use Rattle.del_laws.proofs.CellFacts.{full_against, open_under}
 use Rattle.del_laws.proofs.Orders.{cell_12, cell_23, cell_34}
 use Rattle.del_laws.proofs.Across.{across_full, across_open}
 use Rattle.del_laws.proofs.Sides.{unique, one_open}
@@ -72,15 +71,15 @@ full_stays_law h s a b c d p F = (to, λ k. record { held = inl (full_stays F k)
   where
     -- in the order of F, since the orientation tells it
     to : Cell h (p ∷ s) (point a) (point b) (point c) (point d) → pos 0 ≤ℤ lifted h a b c d p
-    to C = elim C.held [ inl G ↦ full_kept G | inr G ↦ absurd (against (orientation a b c d) (orientation a c b d) F.turned (weak (orientation a c b d) G.turned) (orientation_swap23 a b c d)) ]
+    to C = elim C.held [ inl G ↦ full_kept G | inr G ↦ absurd (full_against F G) ]
 
 -- the law OpenStays
 pub open_stays_law : OpenStays
-open_stays_law h s a b c m p F mm l = (to, λ k. record { held = inr (open_stays F (outside_any h a b c m F.mate p l F.above k)) })
+open_stays_law h s a b c m p F mm l = (to, λ k. record { held = inr (open_stays F m l k) })
   where
     -- in the order of F, since the mate tells it
     to : Cell h (p ∷ s) (point a) (point b) (point c) far → IsOutside h a b c m p
-    to C = elim C.held [ inl G ↦ absurd (against (orientation a b c m) (orientation a c b m) l (G.bounds m (inr mm)) (orientation_swap23 a b c m)) | inr G ↦ open_kept G mm l ]
+    to C = elim C.held [ inl G ↦ absurd (open_under _ (inr mm) l G) | inr G ↦ open_kept G mm l ]
 
 -- the law KeysHaveNoTies
 pub keys_have_no_ties : KeysHaveNoTies

@@ -1,6 +1,7 @@
 pub mod Across
 pub mod Based
 pub mod Bools
+pub mod CellFacts
 pub mod Closed
 pub mod Conflict
 pub mod Decide
@@ -19,6 +20,7 @@ pub mod Ordered
 pub mod Orders
 pub mod Pairs
 pub mod Parts
+pub mod Pencils
 pub mod Perturbed
 pub mod Planes
 pub mod PointSets

@@ -1,15 +1,19 @@
 -- Which cells the sorted list of a complex has.
-use Rattle.std.specs.Prelude.{◌≡◌, refl, ℕ, zero, suc, ◌<◌, Bool, true, ◌&&◌, List, [], ◌∷◌, ◌++◌, ◌⊎◌, map, length}
-use Rattle.std.specs.List.{filter}
+use Rattle.std.specs.Prelude.{◌≡◌, refl, ℕ, zero, suc, ◌<◌, Bool, true, false, not, ◌&&◌, ◌||◌, List, [], ◌∷◌, ◌++◌, ◌⊎◌, map, length}
+use Rattle.std.specs.List.{filter, list_all}
 use Rattle.std.proofs.Common.{arith, inl, inr, ap, sym, subst}
+use Rattle.point_order.specs.declared.cell.Cell.{Cell}
 use Rattle.point_order.specs.declared.cell.Cell.TheVariants.{Full, Open}
+use Rattle.point_order.specs.Orientation.{is_flat}
+use Rattle.point_order.specs.Spheres.{is_outside}
+use Rattle.point_order.specs.Facets.{points_of}
 use Rattle.point_order.specs.Sets.{IsIn, IsAscending, IsBelowFirst, is_among}
 use Rattle.point_order.specs.Subsets.{subsets}
 use Rattle.point_order.specs.Complex.{complex, is_full, is_open}
 use Rattle.point_order.proofs.SetLaws.{below-each}
 use Rattle.del_laws.specs.Vertices.{are_among, is_full_cell, is_open_cell}
-use Rattle.del_laws.specs.Listed.{IsListedFull, IsListedOpen, DefinitionIsCell, ListedIsCell, CellIsListed}
-use Rattle.del_laws.proofs.Tests.{both_true, first_true, second_true, all_true, all_from, among_true, among_from, filtered_from, filtered_true}
+use Rattle.del_laws.specs.Listed.{IsListedFull, IsListedOpen, IsListed, DefinitionIsCell, ListedIsCell, CellIsListed}
+use Rattle.del_laws.proofs.Tests.{both_true, first_true, second_true, all_true, all_from, among_true, among_from, filtered_from, filtered_true, not_from}
 
 -- ---- lists
 
@@ -202,3 +206,34 @@ three_listed s a b c l f g t =
 pub cell_is_listed : CellIsListed
 cell_is_listed s (Full q) a l = subst (λ (v : List ℕ). IsIn (Full v) (complex s)) (sym l.is) (four_listed s l.a l.b l.c l.d a l.first l.second l.third l.test)
 cell_is_listed s (Open q) a l = subst (λ (v : List ℕ). IsIn (Open v) (complex s)) (sym l.is) (three_listed s l.a l.b l.c a l.first l.second l.test)
+
+-- ---- what a listed cell shows
+
+-- its points are in the set
+pub listed_inside : (s : List ℕ) (c : Cell) → IsListed s c → (p : ℕ) → IsIn p (points_of c) → IsIn p s
+listed_inside s (Full q) l p m = points_in s (l.a ∷ l.b ∷ l.c ∷ l.d ∷ []) (is_full s (l.a ∷ l.b ∷ l.c ∷ l.d ∷ [])) l.test p (subst (λ (v : List ℕ). IsIn p v) l.is m)
+listed_inside s (Open q) l p m = points_in s (l.a ∷ l.b ∷ l.c ∷ []) (is_open s (l.a ∷ l.b ∷ l.c ∷ [])) l.test p (subst (λ (v : List ℕ). IsIn p v) l.is m)
+
+-- the points of a Full cell are independent
+pub full_not_flat : (s : List ℕ) (a b c d : ℕ) → is_full_cell s a b c d ≡ true → is_flat a b c d ≡ false
+full_not_flat s a b c d t =
+    let each = list_all (λ e. is_among e (a ∷ b ∷ c ∷ d ∷ []) || is_outside a b c d e) s in
+    not_from (is_flat a b c d) (first_true (not (is_flat a b c d)) each (second_true (are_among (a ∷ b ∷ c ∷ d ∷ []) s) (is_full s (a ∷ b ∷ c ∷ d ∷ [])) t))
+
+-- whether four points in a list are a Full cell
+abbrev four_pass : List ℕ → List ℕ → Bool
+four_pass s (a ∷ b ∷ c ∷ d ∷ []) = is_full_cell s a b c d
+four_pass s _ = false
+
+-- four points that are listed pass the test
+pub listed_full : (s : List ℕ) (a b c d : ℕ) → IsListedFull s (a ∷ b ∷ c ∷ d ∷ []) → is_full_cell s a b c d ≡ true
+listed_full s a b c d l = subst (λ (v : List ℕ). four_pass s v ≡ true) (sym l.is) l.test
+
+-- whether three points in a list are an Open cell
+abbrev three_pass : List ℕ → List ℕ → Bool
+three_pass s (a ∷ b ∷ c ∷ []) = is_open_cell s a b c
+three_pass s _ = false
+
+-- three points that are listed pass the test
+pub listed_open : (s : List ℕ) (a b c : ℕ) → IsListedOpen s (a ∷ b ∷ c ∷ []) → is_open_cell s a b c ≡ true
+listed_open s a b c l = subst (λ (v : List ℕ). three_pass s v ≡ true) (sym l.is) l.test

@@ -1,4 +1,4 @@
--- Parts of the sorted list of a complex. This file opens the definition of a cell.
+-- Parts of the sorted list of a complex.
 use Rattle.std.specs.Prelude.{◌≡◌, refl, ℕ, pos, neg_ℤ, ◌<◌, Bool, true, List, [], ◌∷◌}
 use Rattle.std.proofs.Common.{inl, inr, ap, sym, subst, ◌∙◌}
 use Rattle.point_order.specs.declared.cell.Cell.{Cell}
@@ -16,8 +16,8 @@ use Rattle.del_laws.specs.Base.{Symmetric}
 use Rattle.del_laws.specs.Listed.{IsListed, cell_of}
 use Rattle.del_laws.specs.ListedParts.{IsClosedListed, ListedStar, ListedPart, ListedAtAPoint, ListedEveryPoint, HasMate, ListedMate}
 use Rattle.del_laws.proofs.Identities.{orientation_swap23}
-use Rattle.del_laws.proofs.Numbers.{not_zero}
 use Rattle.del_laws.proofs.Lists.{of_three, of_four}
+use Rattle.del_laws.proofs.CellFacts.{full_d, full_apart}
 use Rattle.del_laws.proofs.Across.{across_open}
 use Rattle.del_laws.proofs.Walks.{every_point}
 use Rattle.del_laws.proofs.Existence.{exists_full}
@@ -205,6 +205,6 @@ listed_mate s a b c asc keys m = (
     -- on whichever side it is
     by_side : (a < b) × (b < c) → Held height s (point a) (point b) (point c) far → HasMate s a b c
     by_side o H = elim H [
-      | inl F ↦ (let d = across_open F in made d.0 o (inr d.1) d.1.has_d (λ z. not_zero (orientation a c b d.0) d.1.turned (turned a b c d.0 z)))
-      | inr F ↦ (let d = across_open F in made d.0 o (inl d.1) d.1.has_d (not_zero (orientation a b c d.0) d.1.turned))
+      | inl F ↦ (let d = across_open F in made d.0 o (inr d.1) (full_d d.1) (λ z. full_apart d.1 (turned a b c d.0 z)))
+      | inr F ↦ (let d = across_open F in made d.0 o (inl d.1) (full_d d.1) (full_apart d.1))
     ]

@@ -1,5 +1,5 @@
 -- The order of nearness to a point, and that a walk over cells that comes nearer at each step ends.
--- This file opens the definition of a cell.
+--
 use Rattle.std.specs.Prelude.{ℕ, suc, ℤ, pos, ◌*ℤ◌, ◌≡◌, ◌≤ℤ◌, ◌<ℤ◌, ◌<◌, true, false, List, ◌∷◌, count_by}
 use Rattle.std.proofs.Common.{arith, refl, inl, inr}
 use Rattle.std.proofs.lemmas.Int.{ints}
@@ -12,6 +12,7 @@ use Rattle.point_order.specs.Heights.{lifted}
 use Rattle.del_laws.specs.Cells.{Full, NoTies, IsConvex, OneOf, IsBehind, Crossed, full, in_conflict}
 use Rattle.del_laws.specs.Walks.{Rank, first, ratio, last, is_before}
 use Rattle.del_laws.proofs.Numbers.{below_or_not}
+use Rattle.del_laws.proofs.CellFacts.{full_a, full_b, full_c, full_d, full_turned}
 use Rattle.del_laws.proofs.Tests.{less_from, less_true}
 use Rattle.del_laws.proofs.Orders.{full_left, full_right}
 use Rattle.del_laws.proofs.Across.{across_full}
@@ -72,7 +73,7 @@ some_behind {h} {s} {a} {b} {c} {d} p v F k o = elim (below_or_not (orientation 
       | inl l ↦ record { a = a; b = d; c = b; d = c; full = full_right (full_right F); low = l }
       | inr kc ↦ elim (below_or_not (orientation a b c p)) [
         | inl l ↦ record { a = a; b = b; c = c; d = d; full = F; low = l }
-        | inr kd ↦ absurd (o (v.one_of a b c d p (inr F.has_a) (inr F.has_b) (inr F.has_c) (inr F.has_d) (inl refl) F.turned ka kb kc kd k))
+        | inr kd ↦ absurd (o (v.one_of a b c d p (inr (full_a F)) (inr (full_b F)) (inr (full_c F)) (inr (full_d F)) (inl refl) (full_turned F) ka kb kc kd k))
       ]
     ]
   ]

@@ -1,44 +1,26 @@
 -- Orders of a cell's points: even exchanges keep Full and Open, and a cell is symmetric in its vertices.
--- This file opens the definition of a cell.
+--
 use Rattle.std.specs.Prelude.{ℕ, List}
 use Rattle.std.proofs.Common.{sym, ◌∙◌, inl, inr}
 use Rattle.del_laws.specs.Cells.{Full, Open, Vertex, point, far, Held, Cell}
 use Rattle.del_laws.proofs.Identities.{orientation_bcad, orientation_acdb, lifted_bcad, lifted_acdb}
+use Rattle.del_laws.proofs.CellFacts.{full_cell, full_a, full_b, full_c, full_d, full_turned, full_empty, open_by_mate, open_a, open_b, open_c, open_mate, open_bounds, open_ties}
 
 -- the first three points of a Full cell are turned
 pub full_left : {h : ℕ → ℕ} {s : List ℕ} {a b c d : ℕ} → Full h s a b c d → Full h s b c a d
-full_left {h} {s} {a} {b} {c} {d} f = record {
-  has_a = f.has_b;
-  has_b = f.has_c;
-  has_c = f.has_a;
-  has_d = f.has_d;
-  turned = rw orientation_bcad f.turned;
-  empty = λ e m. rw lifted_bcad (f.empty e m);
-}
+full_left {h} {s} {a} {b} {c} {d} f = full_cell (full_b f) (full_c f) (full_a f) (full_d f) (rw orientation_bcad (full_turned f)) (λ e m. rw lifted_bcad (full_empty f e m))
 
 -- the last three are turned
 pub full_right : {h : ℕ → ℕ} {s : List ℕ} {a b c d : ℕ} → Full h s a b c d → Full h s a c d b
-full_right {h} {s} {a} {b} {c} {d} f = record {
-  has_a = f.has_a;
-  has_b = f.has_c;
-  has_c = f.has_d;
-  has_d = f.has_b;
-  turned = rw orientation_acdb f.turned;
-  empty = λ e m. rw lifted_acdb (f.empty e m);
-}
+full_right {h} {s} {a} {b} {c} {d} f = full_cell (full_a f) (full_c f) (full_d f) (full_b f) (rw orientation_acdb (full_turned f)) (λ e m. rw lifted_acdb (full_empty f e m))
 
 -- the three points of an Open cell are turned
 pub open_left : {h : ℕ → ℕ} {s : List ℕ} {a b c : ℕ} → Open h s a b c → Open h s b c a
-open_left {h} {s} {a} {b} {c} f = record {
-  has_a = f.has_b;
-  has_b = f.has_c;
-  has_c = f.has_a;
-  mate = f.mate;
-  has_mate = f.has_mate;
-  above = rw orientation_bcad f.above;
-  bounds = λ e m. rw orientation_bcad (f.bounds e m);
-  ties = λ g e m n p z. rw lifted_bcad (f.ties g e m n (rw (← orientation_bcad a b c g) p) (sym (orientation_bcad a b c e) ∙ z));
-}
+open_left {h} {s} {a} {b} {c} f =
+    let k = open_mate f in
+    open_by_mate (open_b f) (open_c f) (open_a f) k.0 k.1 (rw orientation_bcad k.2)
+    (λ e m. rw orientation_bcad (open_bounds f e m))
+    (λ e m z. rw lifted_bcad (open_ties f k.0 e k.1 m k.2 (sym (orientation_bcad a b c e) ∙ z)))
 
 -- the first two vertices are exchanged
 pub swap12 : (h : ℕ → ℕ) (s : List ℕ) (w x y z : Vertex) → Held h s w x y z → Held h s x w y z

@@ -1,15 +1,14 @@
 -- A pair of an Open cell lies in exactly two Open cells: by the handshake lemma, as each of its triples lies in none or two cells.
--- This file opens the definition of a cell.
+--
 use Rattle.std.specs.Prelude.{ℕ, ◌≡◌, Bool, true, false, List, [], ◌∷◌, ◌⊎◌}
 use Rattle.std.proofs.Common.{refl, inl, inr, subst, sym, ap}
 use Rattle.conv_laws.specs.Lists.{odd, AreDistinct, IsGraph, IsIn as IsMember}
 use Rattle.conv_laws.proofs.Parity.{even_degrees, HasSome, look, another, none_even, two_even}
-use Rattle.point_order.specs.Orientation.{orientation}
 use Rattle.point_order.specs.Sets.{IsIn}
 use Rattle.del_laws.specs.Cells.{Open, Vertex, point, far, Held, NoTies}
 use Rattle.del_laws.proofs.Identities.{orientation_at_b, orientation_at_c}
-use Rattle.del_laws.proofs.Numbers.{not_zero}
 use Rattle.del_laws.proofs.Lists.{to_member, from_member}
+use Rattle.del_laws.proofs.CellFacts.{full_d, full_apart, open_b, open_c}
 use Rattle.del_laws.proofs.Orders.{open_left, swap34}
 use Rattle.del_laws.proofs.Sides.{Facing, facing_triple, one_open}
 use Rattle.del_laws.proofs.Decide.{is_in, is_held, true_if, true_if-yes, true_if-no, true_if-same, holds-true}
@@ -115,8 +114,8 @@ in_nodes s (point k) m = inr (in_vertices k (once s) (to_member k (once s) (in_o
 
 -- a point of a cell is in the set
 pub last_in : (h : ℕ → ℕ) (s : List ℕ) (a b : ℕ) (y : Vertex) (k : ℕ) → Held h s (point a) (point b) y (point k) → IsIn k s
-last_in h s a b (point c) k m = elim m [ inl F ↦ F.has_d | inr F ↦ F.has_d ]
-last_in h s a b far k m = elim m [ inl F ↦ F.has_b | inr F ↦ F.has_c ]
+last_in h s a b (point c) k m = elim m [ inl F ↦ full_d F | inr F ↦ full_d F ]
+last_in h s a b far k m = elim m [ inl F ↦ open_b F | inr F ↦ open_c F ]
 
 -- a vertex of a cell is a node
 held_in_nodes : (h : ℕ → ℕ) (s : List ℕ) (a b : ℕ) (y z : Vertex) → Held h s (point a) (point b) y z → IsMember z (nodes s)
@@ -128,7 +127,7 @@ linked h s a b y z = true_if (is_held h s (point a) (point b) y z)
 
 -- no cell has a vertex twice
 pub not_twice : (h : ℕ → ℕ) (s : List ℕ) (a b : ℕ) (y : Vertex) → Held h s (point a) (point b) y y → ⊥
-not_twice h s a b (point c) m = elim m [ inl F ↦ not_zero (orientation a b c c) F.turned (orientation_at_c a b c) | inr F ↦ not_zero (orientation a c b c) F.turned (orientation_at_b a c b) ]
+not_twice h s a b (point c) m = elim m [ inl F ↦ full_apart F (orientation_at_c a b c) | inr F ↦ full_apart F (orientation_at_b a c b) ]
 not_twice h s a b far m = m
 
 -- it is a graph

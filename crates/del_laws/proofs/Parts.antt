@@ -1,5 +1,5 @@
 -- Closed parts: a set of cells that is closed across the triples around some points holds all cells around them.
--- This file opens the definition of a cell.
+--
 use Rattle.std.specs.Prelude.{ℕ, List, [], ◌∷◌}
 use Rattle.std.proofs.Common.{inl, inr, subst, sym, ap}
 use Rattle.point_order.specs.Sets.{IsIn}

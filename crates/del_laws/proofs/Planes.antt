@@ -1,16 +1,15 @@
--- Solid sets and the planes of three points; Open cells by the tie rule for one mate. This file opens the definition of a cell.
+-- Solid sets and the planes of three points; mates of Open cells.
 use Rattle.std.specs.Prelude.{ℕ, ℤ, pos, ◌*ℤ◌, ◌≡◌, ◌≤ℤ◌, ◌<ℤ◌, List}
 use Rattle.std.proofs.Common.{inl, inr, ◌∙◌}
 use Rattle.whole_ring.proofs.Signs.{zero_factor}
 use Rattle.conv_laws.specs.Places.{IsZero, normal, orient}
 use Rattle.conv_laws.proofs.Solidity.{only_on_line, line_in_plane}
 use Rattle.point_order.specs.Orientation.{orientation, triple, minor, x_from, y_from, z_from}
-use Rattle.point_order.specs.Heights.{lifted}
 use Rattle.point_order.specs.Sets.{IsIn}
-use Rattle.del_laws.specs.Cells.{Open, IsSolid}
-use Rattle.del_laws.proofs.Identities.{place, pencil_of, orientation_carried}
-use Rattle.del_laws.proofs.Numbers.{weak, not_zero, positive, settled, zero_terms}
-use Rattle.del_laws.proofs.Across.{mate_sign}
+use Rattle.del_laws.specs.Cells.{Open, IsSolid, IsSubset}
+use Rattle.del_laws.proofs.Identities.{place, orientation_carried}
+use Rattle.del_laws.proofs.Numbers.{not_zero, settled, zero_terms}
+use Rattle.del_laws.proofs.CellFacts.{open_mate, open_bounds}
 use Rattle.del_laws.proofs.Decide.{some_in, is_positive, is_at_zero, denied}
 
 -- ---- lines and planes
@@ -43,7 +42,7 @@ off_plane s a b c i n = elim (some_in (λ f. ¬ (orientation a b c f ≡ pos 0))
 ]
 
 -- a solid set, none of it below the plane of a, b, c, where some point is above: it has a point above too
-pub mate_in : (a b c e : ℕ) (t : List ℕ) → IsSolid t → ((x : ℕ) → IsIn x t → pos 0 ≤ℤ orientation a b c x) → pos 0 <ℤ orientation a b c e → (f : ℕ) × IsIn f t × (pos 0 <ℤ orientation a b c f)
+mate_in : (a b c e : ℕ) (t : List ℕ) → IsSolid t → ((x : ℕ) → IsIn x t → pos 0 ≤ℤ orientation a b c x) → pos 0 <ℤ orientation a b c e → (f : ℕ) × IsIn f t × (pos 0 <ℤ orientation a b c f)
 mate_in a b c e t i bounds l = elim (some_in (λ f. pos 0 <ℤ orientation a b c f) (λ f. is_positive (orientation a b c f)) t) [
   | yes p ↦ p
   | no p ↦ (
@@ -58,26 +57,10 @@ mate_in a b c e t i bounds l = elim (some_in (λ f. pos 0 <ℤ orientation a b c
 
 -- ---- Open cells
 
--- the tie rule for one mate is that for all
-pub open_by_mate : {h : ℕ → ℕ} {s : List ℕ} {a b c : ℕ} → IsIn a s → IsIn b s → IsIn c s → (m : ℕ) → IsIn m s → pos 0 <ℤ orientation a b c m → ((e : ℕ) → IsIn e s → pos 0 ≤ℤ orientation a b c e) → ((e : ℕ) → IsIn e s → orientation a b c e ≡ pos 0 → pos 0 ≤ℤ lifted h a b c m e) → Open h s a b c
-open_by_mate {h} {s} {a} {b} {c} ma mb mc m mm l f g = record {
-  has_a = ma;
-  has_b = mb;
-  has_c = mc;
-  mate = m;
-  has_mate = mm;
-  above = l;
-  bounds = f;
-  ties = λ k e i j p z. mate_sign (orientation a b c m) (orientation a b c k) (orientation a b c e) (lifted h a b c m k) (lifted h a b c m e) (lifted h a b c k e) (pencil_of h a b c m k e) l (weak (orientation a b c k) p) z (g e j z);
-}
-
--- three points of a solid set that are not on one line, with no point below them, and the tie rule for every mate
-pub open_from : {h : ℕ → ℕ} {s : List ℕ} {a b c : ℕ} → IsSolid s → IsIn a s → IsIn b s → IsIn c s → ¬ (IsLine a b c) → ((e : ℕ) → IsIn e s → pos 0 ≤ℤ orientation a b c e) → ((m : ℕ) → IsIn m s → pos 0 <ℤ orientation a b c m → (e : ℕ) → IsIn e s → orientation a b c e ≡ pos 0 → pos 0 ≤ℤ lifted h a b c m e) → Open h s a b c
-open_from {h} {s} {a} {b} {c} i ma mb mc n f g =
-    let t = off_plane s a b c i n in
-    let l = positive (orientation a b c t.0) (f t.0 t.1) t.2 in
-    open_by_mate ma mb mc t.0 t.1 l f (g t.0 t.1 l)
+-- an Open cell has a mate in each solid part of the set
+pub mate_within : {h : ℕ → ℕ} {t s : List ℕ} {a b c : ℕ} → IsSubset t s → IsSolid t → Open h s a b c → (f : ℕ) × IsIn f t × (pos 0 <ℤ orientation a b c f)
+mate_within {h} {t} {s} {a} {b} {c} u i F = (let k = open_mate F in mate_in a b c k.0 t i (λ x m. open_bounds F x (u.inside x m)) k.2)
 
 -- the points of an Open cell are not on one line
 pub open_not_line : {h : ℕ → ℕ} {s : List ℕ} {a b c : ℕ} → Open h s a b c → ¬ (IsLine a b c)
-open_not_line {h} {s} {a} {b} {c} F l = not_zero (orientation a b c F.mate) F.above (line_flat a b c F.mate l)
+open_not_line {h} {s} {a} {b} {c} F l = (let k = open_mate F in not_zero (orientation a b c k.0) k.2 (line_flat a b c k.0 l))

@@ -215,6 +215,12 @@ solid_true s i =
     (any_true (λ c. list_any (λ d. not (is_flat a b c d)) s) s c i.has_c
     (any_true (λ d. not (is_flat a b c d)) s d i.has_d (not_true (is_flat a b c d) (zero_false (orientation a b c d) i.apart)))))
 
+-- a list with the points of a solid one is solid
+pub solid_more : (s t : List ℕ) → ((e : ℕ) → IsIn e s → IsIn e t) → is_solid s ≡ true → is_solid t ≡ true
+solid_more s t f e =
+    let i = solid_from s e in
+    solid_true t (record { f = i.f; has_a = f i.f.a i.has_a; has_b = f i.f.b i.has_b; has_c = f i.f.c i.has_c; has_d = f i.f.d i.has_d; apart = i.apart })
+
 -- ---- vertices
 
 -- a point of the list is a vertex of it

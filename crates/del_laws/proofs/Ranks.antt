@@ -1,4 +1,4 @@
--- The order of nearness over listed cells. This file opens the definition of a cell.
+-- The order of nearness over listed cells.
 use Rattle.std.specs.Prelude.{◌≡◌, refl, ℕ, zero, suc, ℤ, pos, negsuc, neg_ℤ, ◌*ℤ◌, ◌≤ℤ◌, ◌<ℤ◌, Bool, true, false, ◌&&◌, ◌||◌, List, [], ◌∷◌, ◌⊎◌, if◌then◌else◌}
 use Rattle.std.specs.Int.RustNames.{unsigned_abs}
 use Rattle.std.specs.Int.Signed.{lt_z}
@@ -21,9 +21,9 @@ use Rattle.del_laws.specs.Listed.{cell_of}
 use Rattle.del_laws.specs.Walks.{Rank, ratio, is_before}
 use Rattle.del_laws.specs.Nearness.{one_less, ratio_by, open_rank, rank, NearerAcross, SomeTripleTowards, NearerInside}
 use Rattle.del_laws.proofs.Identities.{orientation_bcad, orientation_acdb, orientation_swap12, orientation_swap23, orientation_swap34, lifted_swap12, lifted_swap23, lifted_swap34}
-use Rattle.del_laws.proofs.Numbers.{weak, not_zero, against, clash}
+use Rattle.del_laws.proofs.Numbers.{weak, clash}
 use Rattle.del_laws.proofs.Numbers.{below_or_not}
-use Rattle.del_laws.proofs.Lists.{of_four}
+use Rattle.del_laws.proofs.CellFacts.{full_a, full_b, full_c, full_d, full_point, full_turned, full_apart, open_bounds, open_under}
 use Rattle.del_laws.proofs.Kept.{with_keys}
 use Rattle.del_laws.proofs.Sides.{unique}
 use Rattle.del_laws.proofs.Walks.{nearer}
@@ -93,8 +93,8 @@ at_numbers o o2 l l2 e f n = ap (λ v. ratio_by v l2) e ∙ ap (λ v. ratio_by (
 -- a cell is not flat
 not_flat : (s : List ℕ) (a b c d : ℕ) → is_cell s (point a) (point b) (point c) (point d) ≡ true → ¬ (orientation a b c d ≡ pos 0)
 not_flat s a b c d t z = elim (cell_from s (point a) (point b) (point c) (point d) t) [
-  | inl F ↦ not_zero (orientation a b c d) F.turned z
-  | inr F ↦ not_zero (orientation a c b d) F.turned (orientation_swap23 a b c d ∙ ap neg_ℤ z)
+  | inl F ↦ full_apart F z
+  | inr F ↦ full_apart F (orientation_swap23 a b c d ∙ ap neg_ℤ z)
 ]
 
 -- the rank of a Full cell is the ratio in any order
@@ -196,7 +196,7 @@ module _ (s : List ℕ) (p : ℕ) (k : AreKeys s) (j : IsKey p) (o : IsIn p s �
   across_above a b c x (point f) F t u n l = elim (cell_from s (point a) (point b) (point c) (point f) u) [
     | inl G ↦ absurd (n (unique height s a b c (no_ties s k) (point f) (point x) G F))
     | inr G ↦ before_by (full_rank s p k a b c f u) (full_rank s p k a b c x t)
-        (ratio_before (orientation a b c f) (out a b c f p) (orientation a b c x) (out a b c x p) (orientation a c b f) (lifted height a c b f p) (low_of (orientation a b c f) (orientation a c b f) G.turned (orientation_swap23 a b c f)) F.turned (orientation_swap23 a b c f)
+        (ratio_before (orientation a b c f) (out a b c f p) (orientation a b c x) (out a b c x p) (orientation a c b f) (lifted height a c b f p) (low_of (orientation a b c f) (orientation a c b f) (full_turned G) (orientation_swap23 a b c f)) (full_turned F) (orientation_swap23 a b c f)
         (sym (out_is a c b f p) ∙ out_swap23 a b c f p)
         (subst (λ z. (lifted height a c b f p *ℤ orientation a b c x) <ℤ (z *ℤ orientation a c b f)) (sym (out_is a b c x p)) (nearer (no_ties s k) F G p l)))
   ]
@@ -205,24 +205,24 @@ module _ (s : List ℕ) (p : ℕ) (k : AreKeys s) (j : IsKey p) (o : IsIn p s �
       low_of : (z v : ℤ) → pos 0 <ℤ v → v ≡ neg_ℤ z → z <ℤ pos 0
       low_of z v h e = omega (arith, ints)
   across_above a b c x far F t u n l = elim (cell_from s (point a) (point b) (point c) far u) [
-    | inl G ↦ absurd (against (orientation a b c x) (orientation a c b x) F.turned (G.bounds x F.has_d) (orientation_swap23 a b c x))
+    | inl G ↦ absurd (open_under _ (full_d F) (full_turned F) G)
     | inr G ↦ before_by (open_rank_is s p k (with_keys s p k j) a b c u ∙ ap open_rank (false_if (is_open_cell (with_point p s) a b c) (gone a b c x F l))) (full_rank s p k a b c x t) refl
   ]
     where
       -- p takes the Open cell away
       gone : (a b c x : ℕ) → cells.Full height s a b c x → orientation a b c p <ℤ pos 0 → is_open_cell (with_point p s) a b c ≡ true → ⊥
       gone a b c x F l e = elim (cell_from (with_point p s) (point a) (point b) (point c) far e) [
-        | inl G ↦ against (orientation a b c x) (orientation a c b x) F.turned (G.bounds x (in-with_old p x s F.has_d)) (orientation_swap23 a b c x)
-        | inr G ↦ clash (orientation a b c p) l (G.bounds p (in-with_new p s))
+        | inl G ↦ open_under _ (in-with_old p x s (full_d F)) (full_turned F) G
+        | inr G ↦ clash (orientation a b c p) l (open_bounds G p (in-with_new p s))
       ]
 
 -- across a triple towards p
 pub nearer_across : NearerAcross
 nearer_across s p a b c x y k j o t u n e = elim (cell_from s (point a) (point b) (point c) (point x) t) [
-  | inl F ↦ across_above s p k j o a b c x y F t u n (low_from (orientation a b c x) (orientation a b c p) F.turned e)
+  | inl F ↦ across_above s p k j o a b c x y F t u n (low_from (orientation a b c x) (orientation a b c p) (full_turned F) e)
   | inr F ↦ before_by (ap (rank s p) (cell_of-swap23 (point a) (point b) (point c) y)) (ap (rank s p) (cell_of-swap23 (point a) (point b) (point c) (point x)))
       (across_above s p k j o a c b x y F (turn23 s k (point a) (point b) (point c) (point x) t) (turn23 s k (point a) (point b) (point c) y u) n
-      (turned_high (orientation a b c p) (orientation a c b p) (high_from (orientation a b c x) (orientation a b c p) (turned_low (orientation a b c x) (orientation a c b x) F.turned (orientation_swap23 a b c x)) e) (orientation_swap23 a b c p)))
+      (turned_high (orientation a b c p) (orientation a c b p) (high_from (orientation a b c x) (orientation a b c p) (turned_low (orientation a b c x) (orientation a c b x) (full_turned F) (orientation_swap23 a b c x)) e) (orientation_swap23 a b c p)))
 ]
   where
     -- the opposite of a positive number
@@ -250,7 +250,7 @@ towards s p a b c d k j o F l = elim (below_or_not (orientation b d c p)) [
       | inl q ↦ inr (inr (inl q))
       | inr kc ↦ elim (below_or_not (orientation a b c p)) [
         | inl q ↦ inr (inr (inr q))
-        | inr kd ↦ absurd (o (of_four (λ x. IsIn x s) ((is_convex (with_point p s) (with_keys s p k j)).one_of a b c d p (in-with_old p a s F.has_a) (in-with_old p b s F.has_b) (in-with_old p c s F.has_c) (in-with_old p d s F.has_d) (in-with_new p s) F.turned ka kb kc kd l) F.has_a F.has_b F.has_c F.has_d))
+        | inr kd ↦ absurd (o (full_point F ((is_convex (with_point p s) (with_keys s p k j)).one_of a b c d p (in-with_old p a s (full_a F)) (in-with_old p b s (full_b F)) (in-with_old p c s (full_c F)) (in-with_old p d s (full_d F)) (in-with_new p s) (full_turned F) ka kb kc kd l)))
       ]
     ]
   ]
@@ -284,18 +284,18 @@ some_triple_towards s p a b c d k j o t e =
     let tc = are_opposite a b d c p in
     let td = are_opposite a b c d p in
     elim (cell_from s (point a) (point b) (point c) (point d) t) [
-      | inl F ↦ elim (towards s p a b c d k j o F (weak (lifted height a b c d p) (above_from a b c d p e F.turned))) [
-        | inl q ↦ left_true (ta || tb || tc) td (left_true (ta || tb) tc (left_true ta tb (opposite_below (orientation b c d a) (orientation b c d p) (turned_down (orientation a b c d) (orientation b c d a) F.turned (rotation_a a b c d)) (turned_up (orientation b d c p) (orientation b c d p) q (orientation_swap23 b d c p)))))
+      | inl F ↦ elim (towards s p a b c d k j o F (weak (lifted height a b c d p) (above_from a b c d p e (full_turned F)))) [
+        | inl q ↦ left_true (ta || tb || tc) td (left_true (ta || tb) tc (left_true ta tb (opposite_below (orientation b c d a) (orientation b c d p) (turned_down (orientation a b c d) (orientation b c d a) (full_turned F) (rotation_a a b c d)) (turned_up (orientation b d c p) (orientation b c d p) q (orientation_swap23 b d c p)))))
         | inr r ↦ elim r [
-          | inl q ↦ left_true (ta || tb || tc) td (left_true (ta || tb) tc (right_true ta tb (opposite_above (orientation a c d b) (orientation a c d p) (same_up (orientation a b c d) (orientation a c d b) F.turned (orientation_acdb a b c d)) q)))
+          | inl q ↦ left_true (ta || tb || tc) td (left_true (ta || tb) tc (right_true ta tb (opposite_above (orientation a c d b) (orientation a c d p) (same_up (orientation a b c d) (orientation a c d b) (full_turned F) (orientation_acdb a b c d)) q)))
           | inr u ↦ elim u [
-            | inl q ↦ left_true (ta || tb || tc) td (right_true (ta || tb) tc (opposite_below (orientation a b d c) (orientation a b d p) (turned_down (orientation a b c d) (orientation a b d c) F.turned (orientation_swap34 a b c d)) (turned_up (orientation a d b p) (orientation a b d p) q (orientation_swap23 a d b p))))
-            | inr q ↦ right_true (ta || tb || tc) td (opposite_above (orientation a b c d) (orientation a b c p) F.turned q)
+            | inl q ↦ left_true (ta || tb || tc) td (right_true (ta || tb) tc (opposite_below (orientation a b d c) (orientation a b d p) (turned_down (orientation a b c d) (orientation a b d c) (full_turned F) (orientation_swap34 a b c d)) (turned_up (orientation a d b p) (orientation a b d p) q (orientation_swap23 a d b p))))
+            | inr q ↦ right_true (ta || tb || tc) td (opposite_above (orientation a b c d) (orientation a b c p) (full_turned F) q)
           ]
         ]
       ]
       | inr F ↦ (
-          let low : orientation a b c d <ℤ pos 0 = turned_down (orientation a c b d) (orientation a b c d) F.turned (orientation_swap23 a c b d) in
+          let low : orientation a b c d <ℤ pos 0 = turned_down (orientation a c b d) (orientation a b c d) (full_turned F) (orientation_swap23 a c b d) in
           elim (towards s p a c b d k j o F (weak (lifted height a c b d p) (turned_up (lifted height a b c d p) (lifted height a c b d p) (below_from a b c d p e low) (lifted_swap23 height a b c d p)))) [
             | inl q ↦ left_true (ta || tb || tc) td (left_true (ta || tb) tc (left_true ta tb (opposite_above (orientation b c d a) (orientation b c d p) (turned_up (orientation a b c d) (orientation b c d a) low (rotation_a a b c d)) (same_down (orientation c d b p) (orientation b c d p) q (sym (orientation_bcad b c d p))))))
             | inr r ↦ elim r [

@@ -1,21 +1,18 @@
--- A list of empty cells in which every facet lies in a second one is the complex. This file opens the definition of a cell.
+-- A list of empty cells in which every facet lies in a second one is the complex.
 use Rattle.std.specs.Prelude.{◌≡◌, refl, ℕ, Bool, true, List, [], ◌∷◌}
 use Rattle.std.proofs.Common.{inl, inr, ap, sym, subst, ◌∙◌}
 use Rattle.std.proofs.Math.Decide.{ℕ_discrete}
 use Rattle.point_order.specs.declared.cell.Cell.{Cell}
 use Rattle.point_order.specs.declared.cell.Cell.TheVariants.{Full, Open}
 use Rattle.point_order.specs.declared.cell.Facet.TheVariants.{Three}
-use Rattle.point_order.specs.Orientation.{orientation}
-use Rattle.point_order.specs.Heights.{height}
 use Rattle.point_order.specs.Sets.{IsIn, IsAscending}
 use Rattle.point_order.specs.Complex.{complex}
 use Rattle.point_order.specs.Solid.{is_solid}
-use Rattle.del_laws.specs.Cells as cells
-use Rattle.del_laws.specs.Cells.{point, far, Held, IsSolid}
+use Rattle.del_laws.specs.Cells.{point, far}
 use Rattle.del_laws.specs.Keys.{AreKeys}
 use Rattle.del_laws.specs.Listed.{IsListed, cell_of}
 use Rattle.del_laws.specs.ListedParts.{IsClosedListed, IsClosedList, ClosedListIsComplex, ComplexIsClosedList}
-use Rattle.del_laws.proofs.Numbers.{not_zero}
+use Rattle.del_laws.proofs.CellFacts.{full_solid}
 use Rattle.del_laws.proofs.Across.{across_open}
 use Rattle.del_laws.proofs.Decide.{moved, both, either, true_if, true_if-yes, holds-true}
 use Rattle.del_laws.proofs.Existence.{exists_full}
@@ -63,14 +60,10 @@ in_cells c (x ∷ l) = either (cells_discrete x c) (in_cells c l)
 
 -- ---- solid
 
--- four points of a cell are independent
-solid_by : {s : List ℕ} {a b c d : ℕ} → cells.Full height s a b c d → is_solid s ≡ true
-solid_by {s} {a} {b} {c} {d} F = solid_true s (record { f = record { a = a; b = b; c = c; d = d }; has_a = F.has_a; has_b = F.has_b; has_c = F.has_c; has_d = F.has_d; apart = not_zero (orientation a b c d) F.turned })
-
 -- a set with a cell is solid
 solid_listed : (s : List ℕ) (c : Cell) → IsListed s c → is_solid s ≡ true
-solid_listed s (Full q) l = elim (cell_from s (point l.a) (point l.b) (point l.c) (point l.d) l.test) [ inl F ↦ solid_by F | inr F ↦ solid_by F ]
-solid_listed s (Open q) l = elim (cell_from s (point l.a) (point l.b) (point l.c) far l.test) [ inl F ↦ solid_by (across_open F).1 | inr F ↦ solid_by (across_open F).1 ]
+solid_listed s (Full q) l = elim (cell_from s (point l.a) (point l.b) (point l.c) (point l.d) l.test) [ inl F ↦ solid_true s (full_solid F) | inr F ↦ solid_true s (full_solid F) ]
+solid_listed s (Open q) l = elim (cell_from s (point l.a) (point l.b) (point l.c) far l.test) [ inl F ↦ solid_true s (full_solid (across_open F).1) | inr F ↦ solid_true s (full_solid (across_open F).1) ]
 
 -- ---- the law
 

@@ -8,6 +8,7 @@ use Rattle.del_laws.specs.Cells.{Full, Four}
 use Rattle.del_laws.proofs.Identities.{orientation_bcad, orientation_acdb, lifted_bcad, lifted_acdb}
 use Rattle.del_laws.proofs.Numbers.{clash_above}
 use Rattle.del_laws.proofs.Lists.{find_best}
+use Rattle.del_laws.proofs.CellFacts.{full_a, full_b, full_c, full_d, full_turned}
 
 -- a set of Full cells, with each cell in all its even orders
 pub record IsSetOf (h : ℕ → ℕ) (s : List ℕ) (q : ℕ → ℕ → ℕ → ℕ → Type 0) : Type 0 where
@@ -128,11 +129,11 @@ choose {h} {s} {q} g num a b c d t = elim (find_best number size (quads s)) [
 
     -- a cell of the set is among the fours
     there : (a b c d : ℕ) → q a b c d → IsIn (record { a = a; b = b; c = c; d = d }) (quads s)
-    there a b c d t = let f = g.full a b c d t in in_quads s a b c d f.has_a f.has_b f.has_c f.has_d
+    there a b c d t = let f = g.full a b c d t in in_quads s a b c d (full_a f) (full_b f) (full_c f) (full_d f)
 
     -- and its denominator is positive
     large : (a b c d : ℕ) (t : q a b c d) → pos 0 <ℤ size_if (g.decide a b c d) (orientation a b c d)
-    large a b c d t = rw (size_if-yes (g.decide a b c d) (orientation a b c d) t) (g.full a b c d t).turned
+    large a b c d t = rw (size_if-yes (g.decide a b c d) (orientation a b c d) t) (full_turned (g.full a b c d t))
 
 -- the closest cell of a set that is not empty
 pub closest : {h : ℕ → ℕ} {s : List ℕ} {q : ℕ → ℕ → ℕ → ℕ → Type 0} → IsSetOf h s q → (e a b c d : ℕ) → q a b c d → (f : Four) × Closest h q e f.a f.b f.c f.d

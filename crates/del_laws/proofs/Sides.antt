@@ -1,4 +1,4 @@
--- The two sides of a triple, and the two sides of a pair on the hull. This file opens the definition of a cell.
+-- The two sides of a triple, and the two sides of a pair on the hull.
 use Rattle.std.specs.Prelude.{ℕ, ℤ, pos, ◌+ℤ◌, ◌-ℤ◌, ◌*ℤ◌, ◌≡◌, ◌<ℤ◌, List, ◌⊎◌}
 use Rattle.std.proofs.Common.{arith, refl, inl, inr, subst, sym, ◌∙◌, ap}
 use Rattle.std.proofs.lemmas.Int.{ints}
@@ -6,9 +6,10 @@ use Rattle.whole_ring.proofs.Signs.{mul_pos}
 use Rattle.point_order.specs.Orientation.{orientation}
 use Rattle.point_order.specs.Heights.{lifted}
 use Rattle.del_laws.specs.Cells.{Open, Vertex, point, far, On, Held, NoTies, OneOf}
-use Rattle.del_laws.proofs.Identities.{orientation_swap23, orientation_swap34, orientation_at_a, orientation_at_b, orientation_at_c, orientation_same13, orientation_same23, lifted_swap45, lifted_swap35, three_terms_of}
-use Rattle.del_laws.proofs.Numbers.{opposite, against, weak, not_zero, positive_factor}
+use Rattle.del_laws.proofs.Identities.{orientation_swap34, orientation_at_a, orientation_at_b, orientation_at_c, orientation_same13, orientation_same23, lifted_swap45, lifted_swap35, three_terms_of}
+use Rattle.del_laws.proofs.Numbers.{opposite, not_zero, positive_factor}
 use Rattle.del_laws.proofs.Lists.{of_four}
+use Rattle.del_laws.proofs.CellFacts.{full_a, full_b, full_c, full_d, full_turned, full_empty, full_against, open_a, open_b, open_c, open_mate, open_bounds, open_ties, open_under}
 use Rattle.del_laws.proofs.Across.{across}
 
 -- one of four points, off the plane of the first three: it is the fourth
@@ -18,31 +19,33 @@ fourth a b c d e m n =
 
 -- no vertex is on both sides of a triple
 pub disjoint : (h : ℕ → ℕ) (s : List ℕ) (a b c : ℕ) (z : Vertex) → On h s a b c z → On h s a c b z → ⊥
-disjoint h s a b c (point d) F G = against (orientation a b c d) (orientation a c b d) F.turned (weak (orientation a c b d) G.turned) (orientation_swap23 a b c d)
-disjoint h s a b c far F G = against (orientation a c b F.mate) (orientation a b c F.mate) F.above (G.bounds F.mate F.has_mate) (orientation_swap23 a c b F.mate)
+disjoint h s a b c (point d) F G = full_against F G
+disjoint h s a b c far F G = let m = open_mate F in open_under _ m.1 m.2 G
 
 -- on each side of a triple there is at most one cell
 pub unique : (h : ℕ → ℕ) (s : List ℕ) (a b c : ℕ) → NoTies h s → (z y : Vertex) → On h s a b c z → On h s a b c y → z ≡ y
 unique h s a b c n (point d) (point e) F G =
-    let z : lifted h a b c d e ≡ pos 0 = opposite (lifted h a b c d e) (lifted h a b c e d) (F.empty e G.has_d) (G.empty d F.has_d) (lifted_swap45 h a b c d e) in
-    ap point (sym (fourth a b c d e (n.one_of a b c d e F.has_a F.has_b F.has_c F.has_d G.has_d (not_zero (orientation a b c d) F.turned) z) (not_zero (orientation a b c e) G.turned)))
-unique h s a b c n (point d) far F G = absurd (against (orientation a b c d) (orientation a c b d) F.turned (G.bounds d F.has_d) (orientation_swap23 a b c d))
-unique h s a b c n far (point d) F G = absurd (against (orientation a b c d) (orientation a c b d) G.turned (F.bounds d G.has_d) (orientation_swap23 a b c d))
+    let z : lifted h a b c d e ≡ pos 0 = opposite (lifted h a b c d e) (lifted h a b c e d) (full_empty F e (full_d G)) (full_empty G d (full_d F)) (lifted_swap45 h a b c d e) in
+    ap point (sym (fourth a b c d e (n.one_of a b c d e (full_a F) (full_b F) (full_c F) (full_d F) (full_d G) (not_zero (orientation a b c d) (full_turned F)) z) (not_zero (orientation a b c e) (full_turned G))))
+unique h s a b c n (point d) far F G = absurd (open_under _ (full_d F) (full_turned F) G)
+unique h s a b c n far (point d) F G = absurd (open_under _ (full_d G) (full_turned G) F)
 unique h s a b c n far far F G = refl
 
 -- on each side of a pair there is at most one Open cell
 pub one_open : {h : ℕ → ℕ} {s : List ℕ} {a b x y : ℕ} → NoTies h s → Open h s a b x → Open h s a b y → x ≡ y
 one_open {h} {s} {a} {b} {x} {y} n F G =
-    let f = F.mate in
-    let g = G.mate in
-    let flat : orientation a b x y ≡ pos 0 = opposite (orientation a b x y) (orientation a b y x) (F.bounds y G.has_c) (G.bounds x F.has_c) (orientation_swap34 a b x y) in
-    let flat' : orientation a b y x ≡ pos 0 = opposite (orientation a b y x) (orientation a b x y) (G.bounds x F.has_c) (F.bounds y G.has_c) (orientation_swap34 a b y x) in
-    let p : pos 0 <ℤ (orientation a b x f *ℤ orientation a b y g) = mul_pos (orientation a b x f) (orientation a b y g) F.above G.above in
+    let i = open_mate F in
+    let j = open_mate G in
+    let f = i.0 in
+    let g = j.0 in
+    let flat : orientation a b x y ≡ pos 0 = opposite (orientation a b x y) (orientation a b y x) (open_bounds F y (open_c G)) (open_bounds G x (open_c F)) (orientation_swap34 a b x y) in
+    let flat' : orientation a b y x ≡ pos 0 = opposite (orientation a b y x) (orientation a b x y) (open_bounds G x (open_c F)) (open_bounds F y (open_c G)) (orientation_swap34 a b y x) in
+    let p : pos 0 <ℤ (orientation a b x f *ℤ orientation a b y g) = mul_pos (orientation a b x f) (orientation a b y g) i.2 j.2 in
     let t : orientation a b x y *ℤ orientation a b f g -ℤ orientation a b x f *ℤ orientation a b y g +ℤ orientation a b x g *ℤ orientation a b y f ≡ pos 0 = three_terms_of a b x y f g in
     let q : pos 0 <ℤ (orientation a b x g *ℤ orientation a b y f) = moved (orientation a b x y) (orientation a b f g) (orientation a b x f *ℤ orientation a b y g) (orientation a b x g *ℤ orientation a b y f) t flat p in
-    let yf : pos 0 <ℤ orientation a b y f = positive_factor (orientation a b x g) (orientation a b y f) q (G.bounds f F.has_mate) in
-    let z : lifted h a b x f y ≡ pos 0 = opposite (lifted h a b x f y) (lifted h a b y f x) (F.ties f y F.has_mate G.has_c F.above flat) (G.ties f x F.has_mate F.has_c yf flat') (lifted_swap35 h a b x f y) in
-    among f yf G.mate G.above (n.one_of a b x f y F.has_a F.has_b F.has_c F.has_mate G.has_c (not_zero (orientation a b x f) F.above) z)
+    let yf : pos 0 <ℤ orientation a b y f = positive_factor (orientation a b x g) (orientation a b y f) q (open_bounds G f i.1) in
+    let z : lifted h a b x f y ≡ pos 0 = opposite (lifted h a b x f y) (lifted h a b y f x) (open_ties F f y i.1 (open_c G) i.2 flat) (open_ties G f x i.1 (open_c F) yf flat') (lifted_swap35 h a b x f y) in
+    among f yf g j.2 (n.one_of a b x f y (open_a F) (open_b F) (open_c F) i.1 (open_c G) (not_zero (orientation a b x f) i.2) z)
   where
     -- a sum without its first term
     moved : (k l m r : ℤ) → k *ℤ l -ℤ m +ℤ r ≡ pos 0 → k ≡ pos 0 → pos 0 <ℤ m → pos 0 <ℤ r

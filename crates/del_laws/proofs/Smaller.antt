@@ -1,33 +1,22 @@
 -- A cell of a set is a cell of each smaller solid set that has its points; and of each set between it and two sets of which it is a cell.
--- This file opens the definition of a cell.
+--
 use Rattle.std.specs.Prelude.{ℕ, List, ◌⊎◌}
 use Rattle.std.proofs.Common.{inl, inr}
-use Rattle.point_order.specs.Orientation.{orientation}
 use Rattle.point_order.specs.Sets.{IsIn}
 use Rattle.del_laws.specs.Cells.{Full, Open, Vertex, point, far, Held, IsSolid, IsSubset, IsSymmetric, Inside}
-use Rattle.del_laws.proofs.Identities.{orientation_swap23}
-use Rattle.del_laws.proofs.Numbers.{weak, against}
-use Rattle.del_laws.proofs.Planes.{mate_in, open_by_mate}
+use Rattle.del_laws.proofs.CellFacts.{full_cell, full_a, full_b, full_c, full_d, full_turned, full_empty, full_against, open_a, open_b, open_c, open_bounds, open_ties, open_under, open_by_mate}
+use Rattle.del_laws.proofs.Planes.{mate_within}
 use Rattle.del_laws.proofs.Parts.{by_triples, held_even, and_even}
 
 -- a Full cell of a smaller set
 pub full_smaller : {h : ℕ → ℕ} {t s : List ℕ} {a b c d : ℕ} → IsSubset t s → IsIn a t → IsIn b t → IsIn c t → IsIn d t → Full h s a b c d → Full h t a b c d
-full_smaller u ma mb mc md F = record { has_a = ma; has_b = mb; has_c = mc; has_d = md; turned = F.turned; empty = λ e m. F.empty e (u.inside e m) }
+full_smaller u ma mb mc md F = full_cell ma mb mc md (full_turned F) (λ e m. full_empty F e (u.inside e m))
 
 -- an Open cell of a smaller solid set
 pub open_smaller : {h : ℕ → ℕ} {t s : List ℕ} {a b c : ℕ} → IsSubset t s → IsSolid t → IsIn a t → IsIn b t → IsIn c t → Open h s a b c → Open h t a b c
 open_smaller {h} {t} {s} {a} {b} {c} u i ma mb mc F =
-    let f = mate_in a b c F.mate t i (λ x m. F.bounds x (u.inside x m)) F.above in
-    record {
-      has_a = ma;
-      has_b = mb;
-      has_c = mc;
-      mate = f.0;
-      has_mate = f.1;
-      above = f.2;
-      bounds = λ e m. F.bounds e (u.inside e m);
-      ties = λ g e m k p z. F.ties g e (u.inside g m) (u.inside e k) p z;
-    }
+    let f = mate_within u i F in
+    open_by_mate ma mb mc f.0 f.1 f.2 (λ e m. open_bounds F e (u.inside e m)) (λ e m z. open_ties F f.0 e (u.inside f.0 f.1) (u.inside e m) f.2 z)
 
 -- all four vertices are of the set
 pub record AllInside (t : List ℕ) (w x y z : Vertex) : Type 0 where
@@ -67,44 +56,35 @@ held_inside h s w x y z F = by_triples h s (λ w x y z. Held h s w x y z) (λ w 
     -- of three points and a vertex
     triples : (a b c : ℕ) (z : Vertex) → Held h s (point a) (point b) (point c) z → AllInside s (point a) (point b) (point c) z
     triples a b c (point d) k = elim k [
-      | inl F ↦ record { first = F.has_a; second = F.has_b; third = F.has_c; fourth = F.has_d }
-      | inr F ↦ record { first = F.has_a; second = F.has_c; third = F.has_b; fourth = F.has_d }
+      | inl F ↦ record { first = full_a F; second = full_b F; third = full_c F; fourth = full_d F }
+      | inr F ↦ record { first = full_a F; second = full_c F; third = full_b F; fourth = full_d F }
     ]
     triples a b c far k = elim k [
-      | inl F ↦ record { first = F.has_a; second = F.has_c; third = F.has_b; fourth = tt }
-      | inr F ↦ record { first = F.has_a; second = F.has_b; third = F.has_c; fourth = tt }
+      | inl F ↦ record { first = open_a F; second = open_c F; third = open_b F; fourth = tt }
+      | inr F ↦ record { first = open_a F; second = open_b F; third = open_c F; fourth = tt }
     ]
 
 -- ---- two sets
 
 -- Full in two sets, so in a set between them
 full_union : {h : ℕ → ℕ} {s t u : List ℕ} {a b c d : ℕ} → IsSubset s u → ((e : ℕ) → IsIn e u → IsIn e s ⊎ IsIn e t) → Full h s a b c d → Full h t a b c d → Full h u a b c d
-full_union k g F G = record {
-  has_a = k.inside _ F.has_a;
-  has_b = k.inside _ F.has_b;
-  has_c = k.inside _ F.has_c;
-  has_d = k.inside _ F.has_d;
-  turned = F.turned;
-  empty = λ e m. elim (g e m) [ inl i ↦ F.empty e i | inr i ↦ G.empty e i ];
-}
+full_union k g F G =
+    full_cell (k.inside _ (full_a F)) (k.inside _ (full_b F)) (k.inside _ (full_c F)) (k.inside _ (full_d F)) (full_turned F)
+    (λ e m. elim (g e m) [ inl i ↦ full_empty F e i | inr i ↦ full_empty G e i ])
 
 -- Open in two sets that have a solid part in common
 open_union : {h : ℕ → ℕ} {r s t u : List ℕ} {a b c : ℕ} → IsSolid r → IsSubset r s → IsSubset r t → IsSubset s u → ((e : ℕ) → IsIn e u → IsIn e s ⊎ IsIn e t) → Open h s a b c → Open h t a b c → Open h u a b c
 open_union {h} {r} {s} {t} {u} {a} {b} {c} i p q k g F G =
-    let f = mate_in a b c F.mate r i (λ x m. F.bounds x (p.inside x m)) F.above in
-    open_by_mate (k.inside a F.has_a) (k.inside b F.has_b) (k.inside c F.has_c) f.0 (k.inside f.0 (p.inside f.0 f.1)) f.2
-    (λ e m. elim (g e m) [ inl j ↦ F.bounds e j | inr j ↦ G.bounds e j ])
-    (λ e m z. elim (g e m) [ inl j ↦ F.ties f.0 e (p.inside f.0 f.1) j f.2 z | inr j ↦ G.ties f.0 e (q.inside f.0 f.1) j f.2 z ])
+    let f = mate_within p i F in
+    open_by_mate (k.inside a (open_a F)) (k.inside b (open_b F)) (k.inside c (open_c F)) f.0 (k.inside f.0 (p.inside f.0 f.1)) f.2
+    (λ e m. elim (g e m) [ inl j ↦ open_bounds F e j | inr j ↦ open_bounds G e j ])
+    (λ e m z. elim (g e m) [ inl j ↦ open_ties F f.0 e (p.inside f.0 f.1) j f.2 z | inr j ↦ open_ties G f.0 e (q.inside f.0 f.1) j f.2 z ])
 
 -- no triple is Open in two orders of opposite sign
 open_against : {h : ℕ → ℕ} {r s t : List ℕ} {a b c : ℕ} → IsSolid r → IsSubset r s → IsSubset r t → Open h s a b c → Open h t a c b → ⊥
 open_against {h} {r} {s} {t} {a} {b} {c} i p q F G =
-    let f = mate_in a b c F.mate r i (λ x m. F.bounds x (p.inside x m)) F.above in
-    against (orientation a b c f.0) (orientation a c b f.0) f.2 (G.bounds f.0 (q.inside f.0 f.1)) (orientation_swap23 a b c f.0)
-
--- no four points are Full in two orders of opposite sign
-full_against : {h : ℕ → ℕ} {s t : List ℕ} {a b c d : ℕ} → Full h s a b c d → Full h t a c b d → ⊥
-full_against {h} {s} {t} {a} {b} {c} {d} F G = against (orientation a b c d) (orientation a c b d) F.turned (weak (orientation a c b d) G.turned) (orientation_swap23 a b c d)
+    let f = mate_within p i F in
+    open_under _ (q.inside f.0 f.1) f.2 G
 
 -- A cell of two sets that have a solid part in common is a cell of each set between the first and both together.
 pub union : (h : ℕ → ℕ) (r s t u : List ℕ) → IsSolid r → IsSubset r s → IsSubset r t → IsSubset s u → ((e : ℕ) → IsIn e u → IsIn e s ⊎ IsIn e t) → (w x y z : Vertex) → Held h s w x y z → Held h t w x y z → Held h u w x y z

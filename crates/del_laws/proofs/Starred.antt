@@ -1,4 +1,4 @@
--- The star law over tests of vertices, and so all facts of specs/Base. This file opens the definition of a cell.
+-- The star law over tests of vertices, and so all facts of specs/Base.
 use Rattle.std.specs.Prelude.{◌≡◌, ◌≢◌, refl, ℕ, Bool, true, false, [], ◌∷◌, ◌⊎◌}
 use Rattle.std.proofs.Common.{inl, inr, sym, subst, ◌∙◌}
 use Rattle.std.proofs.Math.Decide.{ℕ_discrete}

@@ -1,5 +1,5 @@
 -- The star law: a set of Full cells that have some points, closed across the facets that keep these, holds all Full cells that have them.
--- This file opens the definition of a cell.
+--
 use Rattle.std.specs.Prelude.{ℕ, ℤ, pos, ◌+ℤ◌, ◌*ℤ◌, neg_ℤ, ◌≡◌, ◌≤ℤ◌, ◌<ℤ◌, List, [], ◌∷◌}
 use Rattle.std.proofs.Common.{arith, refl, inl, inr, subst, sym, ◌∙◌, ap}
 use Rattle.std.proofs.lemmas.Int.{ints}
@@ -12,6 +12,7 @@ use Rattle.del_laws.specs.Cells.{Full, NoTies, OneOf, Four}
 use Rattle.del_laws.proofs.Identities.{orientation_swap34, orientation_same12, orientation_at_a, orientation_at_b, orientation_at_c, orientation_same13, orientation_same23, lifted_carried_of}
 use Rattle.del_laws.proofs.Numbers.{not_zero}
 use Rattle.del_laws.proofs.Lists.{of_four}
+use Rattle.del_laws.proofs.CellFacts.{full_a, full_b, full_c, full_d, full_point, full_turned, full_empty}
 use Rattle.del_laws.proofs.Regions.{IsSetOf, Closest, closest_left, closest_right, closest}
 use Rattle.del_laws.proofs.Walks.{IsClosed, weight, strict, on}
 use Rattle.del_laws.proofs.Decide.{is_in, both}
@@ -41,11 +42,11 @@ at_closest : {h : ℕ → ℕ} {s : List ℕ} {q : ℕ → ℕ → ℕ → ℕ �
 at_closest {h} {s} {q} {k} {g} {a} {b} {c} {d} {i} {j} {l} {m} n u z G r o in_s t = elim (is_in g (a ∷ b ∷ c ∷ d ∷ [])) [
   | yes p ↦ p
   | no p ↦ absurd (no_sum (orientation a b c d) (lifted h i j l m g) (orientation i j l m) (lifted h a b c d g) (orientation b d c g *ℤ lifted h i j l m a) (orientation a c d g *ℤ lifted h i j l m b) (orientation a d b g *ℤ lifted h i j l m c) (orientation a b c g *ℤ lifted h i j l m d)
-      (lifted_carried_of h a b c d g i j l m) (on h i j l m g o) G.turned (strict n F g in_s p)
-      (term b d c a (closest_right u (closest_right u (closest_left u t))) F.has_a)
-      (term a c d b (closest_right u t) F.has_b)
-      (term a d b c (closest_right u (closest_right u t)) F.has_c)
-      (term a b c d t F.has_d))
+      (lifted_carried_of h a b c d g i j l m) (on h i j l m g o) (full_turned G) (strict n F g in_s p)
+      (term b d c a (closest_right u (closest_right u (closest_left u t))) (full_a F))
+      (term a c d b (closest_right u t) (full_b F))
+      (term a d b c (closest_right u (closest_right u t)) (full_c F))
+      (term a b c d t (full_d F)))
 ]
   where
     -- the closest cell
@@ -56,18 +57,14 @@ at_closest {h} {s} {q} {k} {g} {a} {b} {c} {d} {i} {j} {l} {m} n u z G r o in_s 
     term : (a b c d : ℕ) → Closest h q g a b c d → IsIn d s → pos 0 ≤ℤ (orientation a b c g *ℤ lifted h i j l m d)
     term a b c d t x = elim (is_in d k) [
       | yes y ↦ zero_term (orientation a b c g) (lifted h i j l m d) (on h i j l m d (r.one_of d y))
-      | no y ↦ mul_nonneg (orientation a b c g) (lifted h i j l m d) (weight n u z t in_s y) (G.empty d x)
+      | no y ↦ mul_nonneg (orientation a b c g) (lifted h i j l m d) (weight n u z t in_s y) (full_empty G d x)
     ]
-
--- a vertex of a cell is in the set
-vertex_in : {h : ℕ → ℕ} {s : List ℕ} {i j l m g : ℕ} → Full h s i j l m → OneOf g i j l m → IsIn g s
-vertex_in {h} {s} G o = of_four (λ x. IsIn x s) o G.has_a G.has_b G.has_c G.has_d
 
 -- so each vertex of a cell that has the points is in some cell of the set
 pub step : {h : ℕ → ℕ} {s : List ℕ} {q : ℕ → ℕ → ℕ → ℕ → Type 0} {k : List ℕ} {g a b c d i j l m : ℕ} → NoTies h s → IsSetOf h s q → IsClosed h s q k → Full h s i j l m → Holds k i j l m → OneOf g i j l m → q a b c d → HasWith q g
 step {h} {s} {q} {k} {g} {a} {b} {c} {d} n u z G r o t =
     let v = closest u g a b c d t in
-    record { f = v.0; at = v.1.at; has = at_closest n u z G r o (vertex_in G o) v.1 }
+    record { f = v.0; at = v.1.at; has = at_closest n u z G r o (full_point G o) v.1 }
 
 -- the cells of q at g
 abbrev pub AtPoint : (ℕ → ℕ → ℕ → ℕ → Type 0) → ℕ → ℕ → ℕ → ℕ → ℕ → Type 0
@@ -174,4 +171,4 @@ star {h} {s} {q} {k} {a} {b} {c} {d} {i} {j} {l} {m} n u z t G r =
     let z3 = closed_at z2 l in
     let r3 = more l r2 ol in
     let t4 = step {g = m} n u3 z3 G r3 om (t3.at, t3.has) in
-    same_cell q (λ a b c d v. (u.full a b c d v).turned) (record { left = u.left; right = u.right }) t4.f.a t4.f.b t4.f.c t4.f.d i j l m t4.at.0.0.0 G.turned t4.at.0.0.1 t4.at.0.1 t4.at.1 t4.has
+    same_cell q (λ a b c d v. full_turned (u.full a b c d v)) (record { left = u.left; right = u.right }) t4.f.a t4.f.b t4.f.c t4.f.d i j l m t4.at.0.0.0 (full_turned G) t4.at.0.0.1 t4.at.0.1 t4.at.1 t4.has

@@ -1,5 +1,5 @@
 -- The definitions with "every other point" and "strictly" say the same as the weak ones, where there are no ties.
--- This file opens the definition of a cell.
+--
 use Rattle.std.specs.Prelude.{ℕ, pos, ◌≡◌, ◌≤ℤ◌, ◌<ℤ◌, List, [], ◌∷◌}
 use Rattle.std.proofs.Common.{refl, inl, inr}
 use Rattle.point_order.specs.Orientation.{orientation}
@@ -9,6 +9,7 @@ use Rattle.del_laws.specs.Cells.{Full, Open, NoTies, OneOf}
 use Rattle.del_laws.proofs.Identities.{lifted_at_a, lifted_at_b, lifted_at_c}
 use Rattle.del_laws.proofs.Numbers.{weak, zero_weak, not_zero, positive}
 use Rattle.del_laws.proofs.Lists.{of_three, of_four}
+use Rattle.del_laws.proofs.CellFacts.{full_cell, full_a, full_b, full_c, full_d, full_turned, open_by_mate, open_a, open_b, open_c, open_mate, open_bounds, open_ties}
 use Rattle.del_laws.proofs.Walks.{strict, on}
 use Rattle.del_laws.proofs.Decide.{is_in}
 
@@ -34,18 +35,13 @@ pub record StrictOpen (h : ℕ → ℕ) (s : List ℕ) (a b c : ℕ) : Type 0 wh
 
 -- the weak form gives the strict one
 pub strict_full : {h : ℕ → ℕ} {s : List ℕ} {a b c d : ℕ} → NoTies h s → Full h s a b c d → StrictFull h s a b c d
-strict_full n F = record { has_a = F.has_a; has_b = F.has_b; has_c = F.has_c; has_d = F.has_d; turned = F.turned; empty = λ e m k. strict n F e m k }
+strict_full n F = record { has_a = full_a F; has_b = full_b F; has_c = full_c F; has_d = full_d F; turned = full_turned F; empty = λ e m k. strict n F e m k }
 
 -- and the other way round
 pub weak_full : {h : ℕ → ℕ} {s : List ℕ} {a b c d : ℕ} → StrictFull h s a b c d → Full h s a b c d
-weak_full {h} {s} {a} {b} {c} {d} F = record {
-  has_a = F.has_a;
-  has_b = F.has_b;
-  has_c = F.has_c;
-  has_d = F.has_d;
-  turned = F.turned;
-  empty = λ e m. elim (is_in e (a ∷ b ∷ c ∷ d ∷ [])) [ yes k ↦ zero_weak (lifted h a b c d e) (on h a b c d e k) | no k ↦ weak (lifted h a b c d e) (F.empty e m k) ];
-}
+weak_full {h} {s} {a} {b} {c} {d} F =
+    full_cell F.has_a F.has_b F.has_c F.has_d F.turned
+    (λ e m. elim (is_in e (a ∷ b ∷ c ∷ d ∷ [])) [ yes k ↦ zero_weak (lifted h a b c d e) (on h a b c d e k) | no k ↦ weak (lifted h a b c d e) (F.empty e m k) ])
 
 -- the three points of an Open cell lie on its circle
 pub flat_three : (h : ℕ → ℕ) (a b c f e : ℕ) → IsIn e (a ∷ b ∷ c ∷ []) → lifted h a b c f e ≡ pos 0
@@ -53,28 +49,21 @@ flat_three h a b c f e m = of_three (λ x. lifted h a b c f x ≡ pos 0) m (lift
 
 -- the weak form gives the strict one
 pub strict_open : {h : ℕ → ℕ} {s : List ℕ} {a b c : ℕ} → NoTies h s → Open h s a b c → StrictOpen h s a b c
-strict_open {h} {s} {a} {b} {c} n F = record {
-  has_a = F.has_a;
-  has_b = F.has_b;
-  has_c = F.has_c;
-  mate = F.mate;
-  has_mate = F.has_mate;
-  above = F.above;
-  bounds = F.bounds;
-  ties = λ f e m k o l z. positive (lifted h a b c f e) (F.ties f e m k l z) (λ q. (
-      let one = n.one_of a b c f e F.has_a F.has_b F.has_c m k (not_zero (orientation a b c f) l) q in
-      of_four (λ x. orientation a b c x ≡ pos 0 → ¬ (IsIn x (a ∷ b ∷ c ∷ [])) → ⊥) one (λ y v. v (inl refl)) (λ y v. v (inr (inl refl))) (λ y v. v (inr (inr (inl refl)))) (λ y v. not_zero (orientation a b c f) l y) z o));
-}
+strict_open {h} {s} {a} {b} {c} n F = (let o = open_mate F in record {
+  has_a = open_a F;
+  has_b = open_b F;
+  has_c = open_c F;
+  mate = o.0;
+  has_mate = o.1;
+  above = o.2;
+  bounds = open_bounds F;
+  ties = λ f e m k n3 l z. positive (lifted h a b c f e) (open_ties F f e m k l z) (λ q. (
+      let one = n.one_of a b c f e (open_a F) (open_b F) (open_c F) m k (not_zero (orientation a b c f) l) q in
+      of_four (λ x. orientation a b c x ≡ pos 0 → ¬ (IsIn x (a ∷ b ∷ c ∷ [])) → ⊥) one (λ y v. v (inl refl)) (λ y v. v (inr (inl refl))) (λ y v. v (inr (inr (inl refl)))) (λ y v. not_zero (orientation a b c f) l y) z n3));
+})
 
 -- and the other way round
 pub weak_open : {h : ℕ → ℕ} {s : List ℕ} {a b c : ℕ} → StrictOpen h s a b c → Open h s a b c
-weak_open {h} {s} {a} {b} {c} F = record {
-  has_a = F.has_a;
-  has_b = F.has_b;
-  has_c = F.has_c;
-  mate = F.mate;
-  has_mate = F.has_mate;
-  above = F.above;
-  bounds = F.bounds;
-  ties = λ f e m k l z. elim (is_in e (a ∷ b ∷ c ∷ [])) [ yes q ↦ zero_weak (lifted h a b c f e) (flat_three h a b c f e q) | no q ↦ weak (lifted h a b c f e) (F.ties f e m k q l z) ];
-}
+weak_open {h} {s} {a} {b} {c} F =
+    open_by_mate F.has_a F.has_b F.has_c F.mate F.has_mate F.above F.bounds
+    (λ e m z. elim (is_in e (a ∷ b ∷ c ∷ [])) [ yes q ↦ zero_weak (lifted h a b c F.mate e) (flat_three h a b c F.mate e q) | no q ↦ weak (lifted h a b c F.mate e) (F.ties F.mate e F.has_mate m q F.above z) ])

@@ -1,5 +1,5 @@
 -- Crossing a facet leads nearer to a point; the closest cell of a set; every point is in a Full cell, where there is one.
--- This file opens the definition of a cell.
+--
 use Rattle.std.specs.Prelude.{ℕ, ℤ, pos, ◌-ℤ◌, ◌*ℤ◌, neg_ℤ, ◌≡◌, ◌≤ℤ◌, ◌<ℤ◌, List, []}
 use Rattle.std.proofs.Common.{arith, inl, inr, subst, ◌∙◌, ap}
 use Rattle.std.proofs.lemmas.Int.{ints}
@@ -9,8 +9,9 @@ use Rattle.point_order.specs.Heights.{lifted}
 use Rattle.point_order.specs.Sets.{IsIn}
 use Rattle.del_laws.specs.Cells.{Full, NoTies, IsConvex, OneOf, HasFullAt}
 use Rattle.del_laws.proofs.Identities.{orientation_swap23, lifted_at_a, lifted_at_b, lifted_at_c, lifted_at_d, crossing_of}
-use Rattle.del_laws.proofs.Numbers.{positive, not_zero, clash, not_below, not_back, weak, against}
+use Rattle.del_laws.proofs.Numbers.{positive, not_zero, clash, not_below, not_back}
 use Rattle.del_laws.proofs.Lists.{of_four}
+use Rattle.del_laws.proofs.CellFacts.{full_a, full_b, full_c, full_d, full_turned, full_apart, full_empty, full_against, open_bounds}
 use Rattle.del_laws.proofs.Orders.{full_left, full_right}
 use Rattle.del_laws.proofs.Across.{across_full}
 use Rattle.del_laws.proofs.Sides.{fourth}
@@ -19,7 +20,7 @@ use Rattle.del_laws.proofs.Decide.{decide_full}
 
 -- another point of the set is strictly outside
 pub strict : {h : ℕ → ℕ} {s : List ℕ} {a b c d : ℕ} → NoTies h s → Full h s a b c d → (e : ℕ) → IsIn e s → ¬ (OneOf e a b c d) → pos 0 <ℤ lifted h a b c d e
-strict {h} {s} {a} {b} {c} {d} n F e m k = positive (lifted h a b c d e) (F.empty e m) (λ z. k (n.one_of a b c d e F.has_a F.has_b F.has_c F.has_d m (not_zero (orientation a b c d) F.turned) z))
+strict {h} {s} {a} {b} {c} {d} n F e m k = positive (lifted h a b c d e) (full_empty F e m) (λ z. k (n.one_of a b c d e (full_a F) (full_b F) (full_c F) (full_d F) m (not_zero (orientation a b c d) (full_turned F)) z))
 
 -- a vertex lies on its cell's sphere
 pub on : (h : ℕ → ℕ) (a b c d e : ℕ) → OneOf e a b c d → lifted h a b c d e ≡ pos 0
@@ -27,15 +28,15 @@ on h a b c d e m = of_four (λ x. lifted h a b c d x ≡ pos 0) m (lifted_at_a h
 
 -- the two cells on a triple: the fourth point of the one is strictly outside the other
 pub beyond : {h : ℕ → ℕ} {s : List ℕ} {a b c d f : ℕ} → NoTies h s → Full h s a b c d → Full h s a c b f → pos 0 <ℤ lifted h a b c d f
-beyond {h} {s} {a} {b} {c} {d} {f} n F G = strict n F f G.has_d (λ m. same (fourth a b c d f m off))
+beyond {h} {s} {a} {b} {c} {d} {f} n F G = strict n F f (full_d G) (λ m. same (fourth a b c d f m off))
   where
     -- f is off the plane
     off : orientation a b c f ≡ pos 0 → ⊥
-    off e = not_zero (orientation a c b f) G.turned (orientation_swap23 a b c f ∙ ap neg_ℤ e)
+    off e = full_apart G (orientation_swap23 a b c f ∙ ap neg_ℤ e)
 
     -- and not on the side of d
     same : f ≡ d → ⊥
-    same p = against (orientation a b c d) (orientation a c b d) F.turned (weak (orientation a c b d) (subst (λ x. pos 0 <ℤ orientation a c b x) p G.turned)) (orientation_swap23 a b c d)
+    same p = full_against F (subst (λ x. Full h s a c b x) p G)
 
 -- the sign of a difference that is a product
 below_from : (p q w o : ℤ) → p -ℤ q ≡ w *ℤ o → w <ℤ pos 0 → pos 0 <ℤ o → p <ℤ q
@@ -63,7 +64,7 @@ pub record Left (h : ℕ → ℕ) (s : List ℕ) (q : ℕ → ℕ → ℕ → �
 pub descent : {h : ℕ → ℕ} {s : List ℕ} {q : ℕ → ℕ → ℕ → ℕ → Type 0} {e a b c d : ℕ} → NoTies h s → IsSetOf h s q → Closest h q e a b c d → IsIn e s → orientation a b c e <ℤ pos 0 → Left h s q a b c
 descent {h} {s} {q} {e} {a} {b} {c} {d} n g t m l = elim (across_full F) [
   | inl r ↦ record { f = r.0; full = r.1; outside = λ i. not_back (lifted h a b c d e *ℤ orientation a c b r.0) (lifted h a c b r.0 e *ℤ orientation a b c d) (t.least a c b r.0 i) (nearer n F r.1 e l) }
-  | inr o ↦ absurd (clash (orientation a b c e) l (o.bounds e m))
+  | inr o ↦ absurd (clash (orientation a b c e) l (open_bounds o e m))
 ]
   where
     -- the closest cell
@@ -95,10 +96,10 @@ every_point {h} {s} {a} {b} {c} {d} n v F e m =
     record {
       f = q.0;
       full = t.at;
-      has = v.one_of q.0.a q.0.b q.0.c q.0.d e t.at.has_a t.at.has_b t.at.has_c t.at.has_d m t.at.turned
+      has = v.one_of q.0.a q.0.b q.0.c q.0.d e (full_a t.at) (full_b t.at) (full_c t.at) (full_d t.at) m (full_turned t.at)
           (weight n g (all_closed h s) (closest_right g (closest_right g (closest_left g t))) m (λ x. x))
           (weight n g (all_closed h s) (closest_right g t) m (λ x. x))
           (weight n g (all_closed h s) (closest_right g (closest_right g t)) m (λ x. x))
           (weight n g (all_closed h s) t m (λ x. x))
-          (t.at.empty e m);
+          (full_empty t.at e m);
     }

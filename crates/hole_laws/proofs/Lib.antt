@@ -1,6 +1,5 @@
 pub mod CellVertices
 pub mod Commute
-pub mod Conflicts
 pub mod Corners
 pub mod EditLaws
 pub mod Ends

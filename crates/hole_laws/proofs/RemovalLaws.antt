@@ -11,6 +11,7 @@ use Rattle.del_laws.specs.Cells.{Vertex, point, far}
 use Rattle.del_laws.specs.PointSets.{has, cell}
 use Rattle.del_laws.proofs.Decide.{is_in}
 use Rattle.del_laws.proofs.Ordered.{complex_is_sorted}
+use Rattle.del_laws.proofs.PointSets.{solid_more}
 use Rattle.del_laws.proofs.Tests.{false_if, not_both}
 use Rattle.hole_laws.proofs.Tests.{IsComplex, AreLinked, IsOpposite, gone}
 use Rattle.hole_laws.specs.Lists.{Goes, AreJoined}
@@ -25,7 +26,7 @@ use Rattle.hole_laws.proofs.Near.{joined_of}
 use Rattle.hole_laws.proofs.FromBase.{complex_of}
 use Rattle.hole_laws.proofs.Removal as removal
 use Rattle.hole_laws.proofs.OfSets.{set_of, lists_of, more_set, adds, solid_of, of_solid, inserts, has_of, of_has}
-use Rattle.hole_laws.proofs.Rest.{rest_set, rest_new, restored, solid_more}
+use Rattle.hole_laws.proofs.Rest.{rest_set, rest_new, restored}
 use Rattle.hole_laws.proofs.Made.{made, decided}
 use Rattle.hole_laws.proofs.Laws.{cells_after, fresh_have_point, old_lack_point, joined_are_reached}
 

@@ -1,14 +1,12 @@
 -- A set without one of its points: the rest, and the set again.
-use Rattle.std.specs.Prelude.{◌≡◌, ◌≢◌, ℕ, true, not, ◌==◌, List}
+use Rattle.std.specs.Prelude.{◌≡◌, ◌≢◌, ℕ, not, ◌==◌, List}
 use Rattle.std.proofs.Common.{refl, sym, subst, inl, inr}
 use Rattle.std.proofs.lemmas.Bool.{cases_eq}
 use Rattle.point_order.specs.Sets.{IsIn, with_point, without_point}
-use Rattle.point_order.specs.Solid.{is_solid}
 use Rattle.point_order.proofs.SetLaws.{same-members, in-with, in-with_new, in-with_old, ascending-with}
-use Rattle.del_laws.proofs.PointSets.{same_from, same_true, filtered_ascending, solid_from, solid_true}
+use Rattle.del_laws.proofs.PointSets.{same_from, same_true, filtered_ascending}
 use Rattle.del_laws.proofs.Tests.{filtered_from, filtered_true, not_true, not_from, false_if, not_both}
 use Rattle.hole_laws.specs.Edits.{IsSet, IsNew}
-use Rattle.hole_laws.proofs.Judged.{more_solid}
 
 -- a point of the rest
 pub without_from : (v : ℕ) (s : List ℕ) (e : ℕ) → IsIn e (without_point v s) → IsIn e s × (e ≢ v)
@@ -41,7 +39,3 @@ restored v s i m =
     same-members (with_point v (without_point v s)) s (ascending-with v (without_point v s) (rest_set v s i).ascending) i.ascending
     (λ e h. elim (in-with v e (without_point v s) h) [ inl q ↦ subst (λ x. IsIn x s) q m | inr r ↦ (without_from v s e r).0 ])
     (λ e h. elim (cases_eq e v) [ inl q ↦ subst (λ x. IsIn x (with_point v (without_point v s))) (sym q) (in-with_new v (without_point v s)) | inr n ↦ in-with_old v e (without_point v s) (without_true v s e h n) ])
-
--- a solid list in a greater one
-pub solid_more : (s t : List ℕ) → ((e : ℕ) → IsIn e s → IsIn e t) → is_solid s ≡ true → is_solid t ≡ true
-solid_more s t f h = solid_true t (more_solid s t f (solid_from s h))
