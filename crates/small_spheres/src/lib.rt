@@ -1,0 +1,75 @@
+//! The smallest circumscribing spheres of edges, triangles and cells: whether a point lies strictly inside,
+//! and whether the squared radius is at most alpha.
+//!
+//! These are the two questions of an alpha complex (Edelsbrunner and Mücke, Three-dimensional alpha shapes;
+//! `Alpha_shape_3` of CGAL): a face is Gabriel where no point lies strictly inside its smallest circumscribing sphere,
+//! and alpha is a squared radius. All of it is whole numbers: fractions are compared by multiplying out.
+#![tactic(auto)]
+
+ghost use Rattle.std.specs.Prelude.{◌≡◌, ◌<◌, ◌^◌};
+ghost use Rattle.small_spheres.specs.Inside.{is_inside_edge, is_inside_triangle};
+ghost use Rattle.small_spheres.specs.Within.{is_edge_within, is_triangle_within, is_cell_within};
+
+mod powers;
+mod products;
+mod radii;
+
+use point_order::{Point, Step};
+use powers::{power_of_edge, power_of_triangle};
+use products::{
+    four_times_alpha, four_times_normal, four_times_orientation, square_of_orientation,
+};
+use radii::{centre_square, normal_square, product_of_sides};
+
+/// Whether `e` lies strictly inside the smallest circumscribing sphere of the edge `a`, `b`, which has it as a diameter:
+/// `(a - e) . (b - e)` is negative.
+pub fn inside_edge(a: Point, b: Point, e: Point) -> bool
+    ensures { result ≡ is_inside_edge a b e }
+{
+    power_of_edge(a, b, e) < 0
+}
+
+/// Whether `e` lies strictly inside the smallest circumscribing sphere of the triangle `a`, `b`, `c`, whose centre is
+/// that of the circle through the three.
+///
+/// With `n = (b - a) x (c - a)` and `V = |c - a|^2 (n x (b - a)) + |b - a|^2 ((c - a) x n)` it is the test
+/// `|e - a|^2 |n|^2 < (e - a) . V`. No point is inside where the three lie on one line.
+pub fn inside_triangle(a: Point, b: Point, c: Point, e: Point) -> bool
+    ensures { result ≡ is_inside_triangle a b c e }
+{
+    power_of_triangle(a, b, c, e) < 0
+}
+
+/// Whether the squared radius of the smallest circumscribing sphere of the edge is at most `alpha`:
+/// `|a - b|^2 <= 4 alpha`.
+pub fn edge_within(a: Point, b: Point, alpha: u64) -> bool
+    ensures { result ≡ is_edge_within a b alpha }
+{
+    Step::between(a, b).square() as i128 <= four_times_alpha(alpha)
+}
+
+/// Whether the squared radius of the smallest circumscribing sphere of the triangle is at most `alpha`:
+/// `|a - b|^2 |a - c|^2 |b - c|^2 <= 4 |n|^2 alpha`, with `n = (b - a) x (c - a)`.
+pub fn triangle_within(a: Point, b: Point, c: Point, alpha: u64) -> bool
+    ensures { result ≡ is_triangle_within a b c alpha }
+{
+    product_of_sides(a, b, c) <= four_times_normal(normal_square(a, b, c), alpha)
+}
+
+/// Whether the squared radius of the circumscribing sphere of the cell is at most `alpha`, which is below 2^30.
+///
+/// With `u`, `v`, `w` the steps from `a`, `O = u . (v x w)` and `N = |u|^2 (v x w) + |v|^2 (w x u) + |w|^2 (u x v)`
+/// it is the test `|N|^2 <= 4 O^2 alpha`.
+pub fn cell_within(a: Point, b: Point, c: Point, d: Point, alpha: u64) -> bool
+    requires { alpha < 2 ^ 30 }
+    ensures { result ≡ is_cell_within a b c d alpha }
+{
+    let u = Step::between(a, b);
+    let v = Step::between(a, c);
+    let w = Step::between(a, d);
+    let square = square_of_orientation(u.triple(v, w));
+    centre_square(a, b, c, d) <= four_times_orientation(square, alpha)
+}
+
+#[cfg(test)]
+mod tests;
