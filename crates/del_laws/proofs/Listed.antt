@@ -1,0 +1,199 @@
+-- Which cells the sorted list of a complex has.
+use Rattle.std.specs.Prelude.{◌≡◌, refl, ℕ, zero, suc, ◌<◌, Bool, true, ◌&&◌, List, [], ◌∷◌, ◌++◌, ◌⊎◌, map, length}
+use Rattle.std.specs.List.{filter}
+use Rattle.std.proofs.Common.{arith, inl, inr, ap, sym, subst}
+use Rattle.point_order.specs.declared.cell.Cell.TheVariants.{Full, Open}
+use Rattle.point_order.specs.Sets.{IsIn, IsAscending, IsBelowFirst, is_among}
+use Rattle.point_order.specs.Subsets.{subsets}
+use Rattle.point_order.specs.Complex.{complex, is_full, is_open}
+use Rattle.point_order.proofs.SetLaws.{below-each}
+use Rattle.del_laws.specs.Vertices.{are_among, is_full_cell, is_open_cell}
+use Rattle.del_laws.specs.Listed.{IsListedFull, IsListedOpen, ListedIsCell, CellIsListed}
+use Rattle.del_laws.proofs.Tests.{both_true, first_true, second_true, all_true, all_from, among_true, among_from, filtered_from, filtered_true}
+
+-- ---- lists
+
+-- a member of the first of two lists
+pub in_left : {X : Type 0} (e : X) (l m : List X) → IsIn e l → IsIn e (l ++ m)
+in_left e [] m i = absurd i
+in_left e (x ∷ l) m i = elim i [ inl q ↦ inl q | inr r ↦ inr (in_left e l m r) ]
+
+-- of the second
+pub in_right : {X : Type 0} (e : X) (l m : List X) → IsIn e m → IsIn e (l ++ m)
+in_right e [] m i = i
+in_right e (x ∷ l) m i = inr (in_right e l m i)
+
+-- a member of both together
+pub from_append : {X : Type 0} (e : X) (l m : List X) → IsIn e (l ++ m) → IsIn e l ⊎ IsIn e m
+from_append e [] m i = inr i
+from_append e (x ∷ l) m i = elim i [ inl q ↦ inl (inl q) | inr r ↦ elim (from_append e l m r) [ inl k ↦ inl (inr k) | inr k ↦ inr k ] ]
+
+-- f of a member
+pub mapped_true : {X Y : Type 0} (f : X → Y) (e : X) (l : List X) → IsIn e l → IsIn (f e) (map f l)
+mapped_true f e [] i = absurd i
+mapped_true f e (x ∷ l) i = elim i [ inl q ↦ inl (ap f q) | inr r ↦ inr (mapped_true f e l r) ]
+
+-- and back
+pub mapped_from : {X Y : Type 0} (f : X → Y) (e : Y) (l : List X) → IsIn e (map f l) → (x : X) × IsIn x l × (f x ≡ e)
+mapped_from f e [] i = absurd i
+mapped_from f e (x ∷ l) i = elim i [ inl q ↦ (x, inl refl, q) | inr r ↦ (let k = mapped_from f e l r in (k.0, inr k.1, k.2)) ]
+
+-- ---- parts of a list
+
+-- a part has members of the list
+pub part_inside : (k : ℕ) (s q : List ℕ) → IsIn q (subsets k s) → (p : ℕ) → IsIn p q → IsIn p s
+part_inside zero s q m p i = elim m [ inl e ↦ absurd (subst (λ (l : List ℕ). IsIn p l) (sym e) i) | inr none ↦ absurd none ]
+part_inside (suc k) [] q m p i = absurd m
+part_inside (suc k) (x ∷ s) q m p i = elim (from_append q (map (λ r. x ∷ r) (subsets k s)) (subsets (suc k) s) m) [
+  | inl l ↦ (
+      let r = mapped_from (λ r. x ∷ r) q (subsets k s) l in
+      elim (first_or_later r.0 r.2) [ inl e ↦ inl e | inr j ↦ inr (part_inside k s r.0 r.1 p j) ])
+  | inr l ↦ inr (part_inside (suc k) s q l p i)
+]
+  where
+    -- it is the first, or later
+    first_or_later : (r : List ℕ) → x ∷ r ≡ q → (x ≡ p) ⊎ IsIn p r
+    first_or_later r e = subst (λ (l : List ℕ). IsIn p l) (sym e) i
+
+-- what is below each member is below the first
+first_below : (x : ℕ) (l : List ℕ) → ((y : ℕ) → IsIn y l → x < y) → IsBelowFirst x l
+first_below x [] f = tt
+first_below x (y ∷ l) f = f y (inl refl)
+
+-- a part of an ascending list is ascending
+part_ascending : (k : ℕ) (s q : List ℕ) → IsAscending s → IsIn q (subsets k s) → IsAscending q
+part_ascending zero s q a m = elim m [ inl e ↦ subst IsAscending e tt | inr none ↦ absurd none ]
+part_ascending (suc k) [] q a m = absurd m
+part_ascending (suc k) (x ∷ s) q a m = elim (from_append q (map (λ r. x ∷ r) (subsets k s)) (subsets (suc k) s) m) [
+  | inl l ↦ (
+      let r = mapped_from (λ r. x ∷ r) q (subsets k s) l in
+      subst IsAscending r.2 (first_below x r.0 (λ y i. below-each x s a.0 a.1 y (part_inside k s r.0 r.1 y i)), part_ascending k s r.0 a.1 r.1))
+  | inr l ↦ part_ascending (suc k) s q a.1 l
+]
+
+-- no number is below itself
+not_less : (n : ℕ) → n < n → ⊥
+not_less n e = omega arith
+
+-- one after the other
+less_chain : (a b c : ℕ) → a < b → b < c → a < c
+less_chain a b c e f = omega arith
+
+-- an ascending list of members is a part
+pub part_true : (s q : List ℕ) → IsAscending s → IsAscending q → ((p : ℕ) → IsIn p q → IsIn p s) → IsIn q (subsets (length q) s)
+part_true s [] a b f = inl refl
+part_true [] (x ∷ q) a b f = absurd (f x (inl refl))
+part_true (y ∷ s) (x ∷ q) a b f = elim (f x (inl refl)) [
+  | inl e ↦ in_left (x ∷ q) (map (λ r. y ∷ r) (subsets (length q) s)) (subsets (suc (length q)) s)
+      (subst (λ v. IsIn (v ∷ q) (map (λ r. y ∷ r) (subsets (length q) s))) e (mapped_true (λ r. y ∷ r) q (subsets (length q) s) (part_true s q a.1 b.1 (λ p i. later p (less_at e (below-each x q b.0 b.1 p i)) (f p (inr i))))))
+  | inr r ↦ in_right (x ∷ q) (map (λ r. y ∷ r) (subsets (length q) s)) (subsets (suc (length q)) s)
+      (part_true s (x ∷ q) a.1 b (λ p i. later p (elim i [ inl e ↦ subst (λ v. y < v) e (below-each y s a.0 a.1 x r) | inr j ↦ less_chain y x p (below-each y s a.0 a.1 x r) (below-each x q b.0 b.1 p j) ]) (f p i)))
+]
+  where
+    -- above the first, so later
+    later : (p : ℕ) → y < p → IsIn p (y ∷ s) → IsIn p s
+    later p l m = elim m [ inl e ↦ absurd (not_less y (subst (λ v. y < v) (sym e) l)) | inr r ↦ r ]
+
+    -- of equal numbers
+    less_at : {p : ℕ} → y ≡ x → x < p → y < p
+    less_at {p} e l = subst (λ v. v < p) (sym e) l
+
+-- ---- members
+
+-- four points, ascending, that pass the definition
+of_four : (s q : List ℕ) → IsAscending q → ((p : ℕ) → IsIn p q → IsIn p s) → is_full s q ≡ true → IsListedFull s q
+of_four s [] a f t = cc
+of_four s (x ∷ []) a f t = cc
+of_four s (x ∷ y ∷ []) a f t = cc
+of_four s (x ∷ y ∷ z ∷ []) a f t = cc
+of_four s (a ∷ b ∷ c ∷ d ∷ []) l f t = record {
+  a = a;
+  b = b;
+  c = c;
+  d = d;
+  is = refl;
+  first = l.0;
+  second = l.1.0;
+  third = l.1.1.0;
+  test = both_true (are_among (a ∷ b ∷ c ∷ d ∷ []) s) (is_full s (a ∷ b ∷ c ∷ d ∷ [])) (all_true (λ p. is_among p s) (a ∷ b ∷ c ∷ d ∷ []) (λ e m. among_true e s (f e m))) t;
+}
+of_four s (a ∷ b ∷ c ∷ d ∷ e ∷ q) l f t = cc
+
+-- three points, ascending, that pass the definition
+of_three : (s t : List ℕ) → IsAscending t → ((p : ℕ) → IsIn p t → IsIn p s) → is_open s t ≡ true → IsListedOpen s t
+of_three s [] a f t = cc
+of_three s (x ∷ []) a f t = cc
+of_three s (x ∷ y ∷ []) a f t = cc
+of_three s (a ∷ b ∷ c ∷ []) l f t = record {
+  a = a;
+  b = b;
+  c = c;
+  is = refl;
+  first = l.0;
+  second = l.1.0;
+  test = both_true (are_among (a ∷ b ∷ c ∷ []) s) (is_open s (a ∷ b ∷ c ∷ [])) (all_true (λ p. is_among p s) (a ∷ b ∷ c ∷ []) (λ e m. among_true e s (f e m))) t;
+}
+of_three s (a ∷ b ∷ c ∷ d ∷ t) l f e = cc
+
+-- a cell of its kind
+pub same_full : (q r : List ℕ) → Full q ≡ Full r → q ≡ r
+same_full q r e = cc
+
+-- a cell of its kind
+pub same_open : (q r : List ℕ) → Open q ≡ Open r → q ≡ r
+same_open q r e = cc
+
+-- no cell is of both kinds
+pub not_both_kinds : (q r : List ℕ) → Full q ≡ Open r → ⊥
+not_both_kinds q r e = cc
+
+-- what is listed
+pub listed_is_cell : ListedIsCell
+unfolding complex
+listed_is_cell s (Full q) a m = elim (from_append (Full q) (map Full (filter (is_full s) (subsets 4 s))) (map Open (filter (is_open s) (subsets 3 s))) m) [
+  | inl l ↦ (
+      let r = mapped_from Full (Full q) (filter (is_full s) (subsets 4 s)) l in
+      let i = filtered_from (is_full s) (subsets 4 s) r.0 r.1 in
+      subst (λ (v : List ℕ). IsListedFull s v) (same_full r.0 q r.2) (of_four s r.0 (part_ascending 4 s r.0 a i.0) (part_inside 4 s r.0 i.0) i.1))
+  | inr l ↦ (
+      let r = mapped_from Open (Full q) (filter (is_open s) (subsets 3 s)) l in
+      absurd (not_both_kinds q r.0 (sym r.2)))
+]
+listed_is_cell s (Open q) a m = elim (from_append (Open q) (map Full (filter (is_full s) (subsets 4 s))) (map Open (filter (is_open s) (subsets 3 s))) m) [
+  | inl l ↦ (
+      let r = mapped_from Full (Open q) (filter (is_full s) (subsets 4 s)) l in
+      absurd (not_both_kinds r.0 q r.2))
+  | inr l ↦ (
+      let r = mapped_from Open (Open q) (filter (is_open s) (subsets 3 s)) l in
+      let i = filtered_from (is_open s) (subsets 3 s) r.0 r.1 in
+      subst (λ (v : List ℕ). IsListedOpen s v) (same_open r.0 q r.2) (of_three s r.0 (part_ascending 3 s r.0 a i.0) (part_inside 3 s r.0 i.0) i.1))
+]
+
+-- the points of a cell that passes are in the set
+points_in : (s q : List ℕ) (b : Bool) → (are_among q s && b) ≡ true → (p : ℕ) → IsIn p q → IsIn p s
+points_in s q b t p m = among_from p s (all_from (λ p. is_among p s) q (first_true (are_among q s) b t) p m)
+
+-- four points that pass are listed
+four_listed : (s : List ℕ) (a b c d : ℕ) → IsAscending s → a < b → b < c → c < d → is_full_cell s a b c d ≡ true → IsIn (Full (a ∷ b ∷ c ∷ d ∷ [])) (complex s)
+unfolding complex
+four_listed s a b c d l f g h t =
+    in_left (Full (a ∷ b ∷ c ∷ d ∷ [])) (map Full (filter (is_full s) (subsets 4 s))) (map Open (filter (is_open s) (subsets 3 s)))
+    (mapped_true Full (a ∷ b ∷ c ∷ d ∷ []) (filter (is_full s) (subsets 4 s))
+    (filtered_true (is_full s) (subsets 4 s) (a ∷ b ∷ c ∷ d ∷ [])
+    (part_true s (a ∷ b ∷ c ∷ d ∷ []) l (f, (g, (h, (tt, tt)))) (points_in s (a ∷ b ∷ c ∷ d ∷ []) (is_full s (a ∷ b ∷ c ∷ d ∷ [])) t))
+    (second_true (are_among (a ∷ b ∷ c ∷ d ∷ []) s) (is_full s (a ∷ b ∷ c ∷ d ∷ [])) t)))
+
+-- three points that pass are listed
+three_listed : (s : List ℕ) (a b c : ℕ) → IsAscending s → a < b → b < c → is_open_cell s a b c ≡ true → IsIn (Open (a ∷ b ∷ c ∷ [])) (complex s)
+unfolding complex
+three_listed s a b c l f g t =
+    in_right (Open (a ∷ b ∷ c ∷ [])) (map Full (filter (is_full s) (subsets 4 s))) (map Open (filter (is_open s) (subsets 3 s)))
+    (mapped_true Open (a ∷ b ∷ c ∷ []) (filter (is_open s) (subsets 3 s))
+    (filtered_true (is_open s) (subsets 3 s) (a ∷ b ∷ c ∷ [])
+    (part_true s (a ∷ b ∷ c ∷ []) l (f, (g, (tt, tt))) (points_in s (a ∷ b ∷ c ∷ []) (is_open s (a ∷ b ∷ c ∷ [])) t))
+    (second_true (are_among (a ∷ b ∷ c ∷ []) s) (is_open s (a ∷ b ∷ c ∷ [])) t)))
+
+-- each cell is listed
+pub cell_is_listed : CellIsListed
+cell_is_listed s (Full q) a l = subst (λ (v : List ℕ). IsIn (Full v) (complex s)) (sym l.is) (four_listed s l.a l.b l.c l.d a l.first l.second l.third l.test)
+cell_is_listed s (Open q) a l = subst (λ (v : List ℕ). IsIn (Open v) (complex s)) (sym l.is) (three_listed s l.a l.b l.c a l.first l.second l.test)

@@ -1,0 +1,83 @@
+-- Solid sets and the planes of three points; Open cells by the tie rule for one mate. This file opens the definition of a cell.
+use Rattle.std.specs.Prelude.{ℕ, ℤ, pos, ◌*ℤ◌, ◌≡◌, ◌≤ℤ◌, ◌<ℤ◌, List}
+use Rattle.std.proofs.Common.{inl, inr, ◌∙◌}
+use Rattle.whole_ring.proofs.Signs.{zero_factor}
+use Rattle.conv_laws.specs.Places.{IsZero, normal, orient}
+use Rattle.conv_laws.proofs.Solidity.{only_on_line, line_in_plane}
+use Rattle.point_order.specs.Orientation.{orientation, triple, minor, x_from, y_from, z_from}
+use Rattle.point_order.specs.Heights.{lifted}
+use Rattle.point_order.specs.Sets.{IsIn}
+use Rattle.del_laws.specs.Cells.{Open, IsSolid}
+use Rattle.del_laws.proofs.Identities.{place, pencil_of, orientation_carried}
+use Rattle.del_laws.proofs.Numbers.{weak, not_zero, positive, settled, zero_terms}
+use Rattle.del_laws.proofs.Across.{mate_sign}
+use Rattle.del_laws.proofs.Decide.{some_in, is_positive, is_at_zero, denied}
+
+-- ---- lines and planes
+
+-- three points on one line
+pub record IsLine (a b c : ℕ) : Type 0 where
+  pub flat : IsZero (normal (place a) (place b) (place c))
+
+-- the points of a plane that has four independent ones are on no such plane: at keys
+on_line : (a b c k l m n : ℕ) → ¬ (orientation k l m n ≡ pos 0) → orientation a b c k ≡ pos 0 → orientation a b c l ≡ pos 0 → orientation a b c m ≡ pos 0 → orientation a b c n ≡ pos 0 → IsLine a b c
+unfolding orientation orient triple minor x_from y_from z_from
+on_line a b c k l m n d ek el em en = record { flat = only_on_line (place a) (place b) (place c) (place k) (place l) (place m) (place n) d ek el em en }
+
+-- three points on one line lie in one plane with any fourth
+pub line_flat : (a b c y : ℕ) → IsLine a b c → orientation a b c y ≡ pos 0
+unfolding orientation orient triple minor x_from y_from z_from
+line_flat a b c y l = line_in_plane (place a) (place b) (place c) (place y) l.flat
+
+-- a number that is not other than 0 is 0
+not_other : (z : ℤ) → (¬ (z ≡ pos 0) → ⊥) → z ≡ pos 0
+not_other z f = elim (is_at_zero z) [ yes e ↦ e | no k ↦ absurd (f k) ]
+
+-- a solid set has a point off the plane of any three points that are not on one line
+pub off_plane : (s : List ℕ) (a b c : ℕ) → IsSolid s → ¬ (IsLine a b c) → (f : ℕ) × IsIn f s × ¬ (orientation a b c f ≡ pos 0)
+off_plane s a b c i n = elim (some_in (λ f. ¬ (orientation a b c f ≡ pos 0)) (λ f. denied (is_at_zero (orientation a b c f))) s) [
+  | yes t ↦ t
+  | no k ↦ (
+      let zero = λ (e : ℕ) (m : IsIn e s). not_other (orientation a b c e) (λ q. k (e, m, q)) in
+      absurd (n (on_line a b c i.f.a i.f.b i.f.c i.f.d i.apart (zero i.f.a i.has_a) (zero i.f.b i.has_b) (zero i.f.c i.has_c) (zero i.f.d i.has_d))))
+]
+
+-- a solid set, none of it below the plane of a, b, c, where some point is above: it has a point above too
+pub mate_in : (a b c e : ℕ) (t : List ℕ) → IsSolid t → ((x : ℕ) → IsIn x t → pos 0 ≤ℤ orientation a b c x) → pos 0 <ℤ orientation a b c e → (f : ℕ) × IsIn f t × (pos 0 <ℤ orientation a b c f)
+mate_in a b c e t i bounds l = elim (some_in (λ f. pos 0 <ℤ orientation a b c f) (λ f. is_positive (orientation a b c f)) t) [
+  | yes p ↦ p
+  | no p ↦ (
+      let flat = λ (x : ℕ) (m : IsIn x t). settled (orientation a b c x) (bounds x m) (λ q. p (x, m, q)) in
+      let k = i.f.a in
+      let l' = i.f.b in
+      let m = i.f.c in
+      let n = i.f.d in
+      let e0 : orientation k l' m n *ℤ orientation a b c e ≡ pos 0 = orientation_carried k l' m n e a b c ∙ zero_terms (orientation l' n m e) (orientation k m n e) (orientation k n l' e) (orientation k l' m e) (orientation a b c k) (orientation a b c l') (orientation a b c m) (orientation a b c n) (flat k i.has_a) (flat l' i.has_b) (flat m i.has_c) (flat n i.has_d) in
+      elim (zero_factor (orientation k l' m n) (orientation a b c e) e0) [ inl z ↦ absurd (i.apart z) | inr z ↦ absurd (not_zero (orientation a b c e) l z) ])
+]
+
+-- ---- Open cells
+
+-- the tie rule for one mate is that for all
+pub open_by_mate : {h : ℕ → ℕ} {s : List ℕ} {a b c : ℕ} → IsIn a s → IsIn b s → IsIn c s → (m : ℕ) → IsIn m s → pos 0 <ℤ orientation a b c m → ((e : ℕ) → IsIn e s → pos 0 ≤ℤ orientation a b c e) → ((e : ℕ) → IsIn e s → orientation a b c e ≡ pos 0 → pos 0 ≤ℤ lifted h a b c m e) → Open h s a b c
+open_by_mate {h} {s} {a} {b} {c} ma mb mc m mm l f g = record {
+  has_a = ma;
+  has_b = mb;
+  has_c = mc;
+  mate = m;
+  has_mate = mm;
+  above = l;
+  bounds = f;
+  ties = λ k e i j p z. mate_sign (orientation a b c m) (orientation a b c k) (orientation a b c e) (lifted h a b c m k) (lifted h a b c m e) (lifted h a b c k e) (pencil_of h a b c m k e) l (weak (orientation a b c k) p) z (g e j z);
+}
+
+-- three points of a solid set that are not on one line, with no point below them, and the tie rule for every mate
+pub open_from : {h : ℕ → ℕ} {s : List ℕ} {a b c : ℕ} → IsSolid s → IsIn a s → IsIn b s → IsIn c s → ¬ (IsLine a b c) → ((e : ℕ) → IsIn e s → pos 0 ≤ℤ orientation a b c e) → ((m : ℕ) → IsIn m s → pos 0 <ℤ orientation a b c m → (e : ℕ) → IsIn e s → orientation a b c e ≡ pos 0 → pos 0 ≤ℤ lifted h a b c m e) → Open h s a b c
+open_from {h} {s} {a} {b} {c} i ma mb mc n f g =
+    let t = off_plane s a b c i n in
+    let l = positive (orientation a b c t.0) (f t.0 t.1) t.2 in
+    open_by_mate ma mb mc t.0 t.1 l f (g t.0 t.1 l)
+
+-- the points of an Open cell are not on one line
+pub open_not_line : {h : ℕ → ℕ} {s : List ℕ} {a b c : ℕ} → Open h s a b c → ¬ (IsLine a b c)
+open_not_line {h} {s} {a} {b} {c} F l = not_zero (orientation a b c F.mate) F.above (line_flat a b c F.mate l)

@@ -1,0 +1,5 @@
+use Rattle.del_laws.proofs.Starred.{base}
+use Rattle.del_laws.proofs.base_of_edits.Goals as goal
+
+pub returns : goal.returns
+returns c = base

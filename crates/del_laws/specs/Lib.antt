@@ -1,0 +1,12 @@
+pub mod Cells
+pub mod Keys
+pub mod Kept
+pub mod Laws
+pub mod Listed
+pub mod ListedParts
+pub mod Parts
+pub mod Vertices
+pub mod PointSets
+pub mod Base
+pub mod Walks
+pub mod Nearness
