@@ -1,2 +1,3 @@
 pub mod GridLaws
 pub mod Members
+pub mod ShareLaws

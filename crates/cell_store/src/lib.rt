@@ -9,9 +9,7 @@ mod grid;
 mod hold;
 mod star;
 
-
 pub use bucket::{Bucket, BucketCells};
 pub use grid::{BadGrid, Grid};
 pub use hold::Hold;
 pub use star::{Across, Star};
-
