@@ -1,3 +1,4 @@
 pub mod GridLaws
 pub mod Members
 pub mod ShareLaws
+pub mod CellLaws

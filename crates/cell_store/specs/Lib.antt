@@ -4,3 +4,4 @@ pub mod Swaps
 pub mod Shares
 pub mod Stars
 pub mod Others
+pub mod Changes
