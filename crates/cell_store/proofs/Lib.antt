@@ -2,3 +2,4 @@ pub mod GridLaws
 pub mod Members
 pub mod ShareLaws
 pub mod CellLaws
+pub mod NextLaws

@@ -5,3 +5,4 @@ pub mod Shares
 pub mod Stars
 pub mod Others
 pub mod Changes
+pub mod Meshes

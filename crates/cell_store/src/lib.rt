@@ -7,9 +7,12 @@
 mod bucket;
 mod grid;
 mod hold;
+pub mod laws;
+mod mesh;
 mod star;
 
 pub use bucket::{Bucket, BucketCells};
 pub use grid::{BadGrid, Grid};
 pub use hold::Hold;
+pub use mesh::Mesh;
 pub use star::{Across, Star};
