@@ -1,0 +1,5 @@
+pub mod GridLaws
+pub mod Members
+pub mod ShareLaws
+pub mod CellLaws
+pub mod NextLaws

@@ -1,0 +1,11 @@
+use Rattle.cell_store.proofs.Members.{at-place}
+use Rattle.cell_store.proofs.ShareLaws.{in_hand_for, none_more_in_hand}
+use Rattle.cell_store.proofs.hold.Hold.bucket_among.Goals as goal
+
+pub returns-then-has : goal.returns-then-has
+returns-then-has c =
+    in_hand_for c.args.self.now c.args.points.now c.grid-grid.result c.p-item.result c.bucket_of-b.result c.has.result c.grid-grid.ensures.grid c.bucket_of-b.ensures.number (at-place c.args.points.now c.loop-p.p-index c.p-item.result c.loop-p-test.true c.p-item.is) c.has.ensures c.if-has.true
+
+pub loop-p-preserved : goal.loop-p-preserved
+loop-p-preserved c =
+    none_more_in_hand c.args.self.now c.args.points.now c.loop-p.p-index c.grid-grid.result c.p-item.result c.bucket_of-b.result c.has.result c.loop-p-test.true c.p-item.is c.grid-grid.ensures.grid c.bucket_of-b.ensures.number c.has.ensures c.if-has.false c.loop-p.invariant

@@ -1,0 +1,49 @@
+-- What a bucket and a hold show: their lists, without the layout of the code.
+use Rattle.std.specs.Prelude.{◌≡◌, ℕ, List, [], Option, None, Some, ◌⊎◌, slice_index_or}
+use Rattle.std.specs.Option.{option_map_or}
+use Rattle.point_order.specs.declared.cell.Cell.{Cell}
+use Rattle.edit_history.specs.declared.history.Entry.{Entry}
+
+-- A bucket: its points, the cells with a vertex in it, and the entries whose point lies in it. Its place is none for a new
+-- bucket, else the size of the grid in which it last stood, or from which it was copied, and its number there.
+pub record Content : Type 0 where
+  pub points : List ℕ
+  pub cells : List Cell
+  pub entries : List Entry
+  pub place : Option (ℕ × ℕ)
+
+-- The room of a hold: the cells that go and come in the exchange for which there is room, and the point of the entry for
+-- which there is.
+pub record Room : Type 0 where
+  pub swap : Option (List Cell × List Cell)
+  pub push : Option ℕ
+
+-- A hold: the size of its grid, for each number the bucket in hand, if it is, and its room.
+pub record InHand : Type 0 where
+  pub grid : ℕ
+  pub places : List (Option Content)
+  pub room : Room
+
+-- no room
+abbrev pub no_room : Room
+no_room = record { swap = None; push = None }
+
+-- the bucket with a number, if it is in hand
+abbrev pub bucket_at : List (Option Content) → ℕ → Option Content
+bucket_at places b = slice_index_or places b None
+
+-- the points of the bucket with a number, none where it is not in hand
+abbrev pub points_in : List (Option Content) → ℕ → List ℕ
+points_in places b = option_map_or (λ c. c.points) (bucket_at places b) []
+
+-- and its cells
+abbrev pub cells_in : List (Option Content) → ℕ → List Cell
+cells_in places b = option_map_or (λ c. c.cells) (bucket_at places b) []
+
+-- the bucket, standing in a grid at a number
+abbrev pub at_place : ℕ → ℕ → Content → Content
+at_place g b c = record c { place = Some (g, b) }
+
+-- the bucket is new, or last stood in this grid at this number
+abbrev pub FitsPlace : ℕ → ℕ → Content → Type 0
+FitsPlace g b c = (c.place ≡ None) ⊎ (c.place ≡ Some (g, b))

@@ -1,0 +1,72 @@
+-- What a bucket has of a history, and when a hold stands for one.
+use Rattle.std.specs.Prelude.{◌≡◌, ℕ, true, None, Some, List, ◌==◌}
+use Rattle.std.specs.List.{filter}
+use Rattle.point_order.specs.declared.cell.Cell.{Cell}
+use Rattle.point_order.specs.declared.cell.Facet.{Facet}
+use Rattle.point_order.specs.declared.cell.Facet.TheVariants.{Three, Two}
+use Rattle.point_order.specs.Complex.{complex}
+use Rattle.point_order.specs.Sets.{IsIn}
+use Rattle.point_order.specs.Solid.{is_solid}
+use Rattle.edit_history.specs.declared.history.Entry.{Entry}
+use Rattle.edit_history.specs.Edits.{point_of}
+use Rattle.edit_history.specs.Histories.{replay, IsLegal}
+use Rattle.del_laws.specs.Keys.{AreKeys}
+use Rattle.cell_store.specs.Grids.{bucket_of}
+use Rattle.cell_store.specs.Others.{IsOtherOf}
+use Rattle.cell_store.specs.Swaps.{touches}
+use Rattle.cell_store.specs.Buckets.{Content, InHand, bucket_at}
+
+-- the points that a history leaves in bucket b
+abbrev pub points_share : ℕ → ℕ → List Entry → List ℕ
+points_share g b h = filter (λ p. bucket_of g p == b) (replay h)
+
+-- the cells of the complex that it leaves with a finite vertex in b
+abbrev pub cells_share : ℕ → ℕ → List Entry → List Cell
+cells_share g b h = filter (touches g b) (complex (replay h))
+
+-- its entries whose point lies in b
+abbrev pub entries_share : ℕ → ℕ → List Entry → List Entry
+entries_share g b h = filter (λ e. bucket_of g (point_of e.edit) == b) h
+
+-- the share of bucket b in a history: these three lists
+pub record IsShare (g b : ℕ) (h : List Entry) (c : Content) : Type 0 where
+  pub points : c.points ≡ points_share g b h
+  pub cells : c.cells ≡ cells_share g b h
+  pub entries : c.entries ≡ entries_share g b h
+
+-- every bucket in hand is its share of the history
+abbrev pub AreShares : InHand → List Entry → Type 0
+AreShares hold h = (b : ℕ) (c : Content) → bucket_at hold.places b ≡ Some c → IsShare hold.grid b h c
+
+-- The hold stands for a history: the history is legal, its points are keys of points and solid, and every bucket in hand is
+-- its share of it.
+pub record Stands (hold : InHand) (h : List Entry) : Type 0 where
+  pub legal : IsLegal h
+  pub keys : AreKeys (replay h)
+  pub solid : is_solid (replay h) ≡ true
+  pub shares : AreShares hold h
+
+-- the finite points of a facet, ascending
+abbrev pub points_on : Facet → List ℕ
+points_on (Three t) = t
+points_on (Two p) = p
+
+-- the other cell of the complex that the history leaves, on a facet of one of its cells
+abbrev pub IsAcross : List Entry → Cell → Facet → Cell → Type 0
+IsAcross h cell facet other = IsOtherOf (complex (replay h)) cell facet other
+
+-- the hold stands for a history of whose complex the cell is one
+abbrev pub StandsWith : InHand → Cell → Type 0
+StandsWith hold cell = (h : List Entry) × Stands hold h × IsIn cell (complex (replay h))
+
+-- no bucket of a point of the list is in hand
+abbrev pub NoneInHand : InHand → List ℕ → Type 0
+NoneInHand hold ps = (p : ℕ) → IsIn p ps → bucket_at hold.places (bucket_of hold.grid p) ≡ None
+
+-- bucket b is that of a point of the list, and is in hand
+pub record IsInHandFor (hold : InHand) (ps : List ℕ) (b : ℕ) : Type 0 where
+  pub point : ℕ
+  pub among : IsIn point ps
+  pub number : b ≡ bucket_of hold.grid point
+  pub content : Content
+  pub held : bucket_at hold.places b ≡ Some content

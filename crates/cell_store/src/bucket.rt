@@ -1,0 +1,112 @@
+//! Buckets.
+
+ghost use Rattle.std.specs.Prelude.{◌≡◌, [], None, IsPermutation, IfOk};
+ghost use Rattle.cell_store.specs.Buckets.{at_place};
+ghost use Rattle.std.specs.Slice.Iter.{iter_rest};
+ghost use Rattle.point_order.specs.Sets.{IsAscending, is_among};
+
+use crate::grid::Grid;
+use edit_history::Entry;
+use point_order::{Cell, Point};
+use std::alloc::{AllocError, Global};
+use std::marker::Model;
+use std::slice;
+
+/// The points in one cube of the grid, the cells with a vertex there, and the entries whose point lies there.
+///
+/// A cell stands in the bucket of each of its finite vertices.
+#[derive(Debug, Drop)]
+pub struct Bucket {
+    points: Vec<Point>,
+    cells: Vec<Cell>,
+    entries: Vec<Entry>,
+    place: Option<(Grid, u32)>,
+}
+
+impl Model for Bucket {
+    ghost use Rattle.std.specs.List.Sorted.{IsStrictlySortedBy};
+    ghost use Rattle.point_order.specs.Sets.{IsAscending};
+    ghost use Rattle.point_order.specs.CellOrder.{cell_cmp};
+    ghost use Rattle.cell_store.specs.Buckets.{Content};
+
+    ghost Value = { Content };
+
+    ghost view = { λ b. record { points = b.points.items; cells = b.cells.items; entries = b.entries.items; place = b.place } };
+
+    ghost invariant = { λ b. IsAscending b.points.items × IsStrictlySortedBy cell_cmp b.cells.items };
+}
+
+/// The cells of a bucket, each once, in any order.
+pub type BucketCells<'a> = slice::Iter<'a, Cell>;
+
+impl Bucket {
+    /// A bucket with nothing in it, which has not stood anywhere. It takes no memory.
+    pub fn new(alloc: Global) -> Bucket
+        ensures { result ≡ record { points = []; cells = []; entries = []; place = None } }
+    {
+        Bucket {
+            points: Vec::new(alloc),
+            cells: Vec::new(alloc),
+            entries: Vec::new(alloc),
+            place: None,
+        }
+    }
+
+    /// The points, ascending.
+    pub fn points(&self) -> &[Point]
+        ensures points { result.now ≡ self.now.points }
+        ensures ascending { IsAscending self.now.points }
+    {
+        &self.points
+    }
+
+    /// The entries, by number.
+    pub fn entries(&self) -> &[Entry]
+        ensures { result.now ≡ self.now.entries }
+    {
+        &self.entries
+    }
+
+    /// The cells, each once, in any order.
+    pub fn cells(&self) -> BucketCells<'_>
+        ensures { IsPermutation self.now.cells (iter_rest result) }
+    {
+        self.cells.iter()
+    }
+
+    // The cells, in order.
+    pub(crate) fn cell_list(&self) -> &[Cell]
+        ensures { result.now ≡ self.now.cells }
+    {
+        &self.cells
+    }
+
+    // Whether the point is one of the bucket's.
+    pub(crate) fn has_point(&self, p: Point) -> bool
+        ensures { result ≡ is_among p self.now.points }
+    {
+        self.points().binary_search(&p).is_ok()
+    }
+
+    // The bucket, which stands in the grid at the number from now on.
+    pub(crate) fn placed(self, grid: Grid, number: u32) -> Bucket
+        ensures { result ≡ at_place grid number self }
+    {
+        Bucket {
+            place: Some((grid, number)),
+            ..self
+        }
+    }
+
+    // A bucket with the same lists and the same place.
+    pub(crate) fn copied(&self, alloc: Global) -> Result<Bucket, AllocError>
+        ensures { IfOk result (λ copy. copy ≡ self.now) }
+    {
+        Ok(Bucket {
+            points: Vec::from_slice(alloc, &self.points)?,
+            cells: Vec::from_slice(alloc, &self.cells)?,
+            entries: Vec::from_slice(alloc, &self.entries)?,
+            place: self.place,
+        })
+    }
+}

@@ -1,0 +1,176 @@
+//! Holds: the buckets in hand.
+
+ghost use Rattle.std.specs.Prelude.{◌≡◌, ℕ, ◌*◌, ◌<◌, true, None, Some, IsSome, is_some, IfOk, length, replicate, slice_set, List, MatchOption};
+ghost use Rattle.std.specs.List.{filter};
+ghost use Rattle.point_order.specs.Sets.{IsIn, is_among};
+ghost use Rattle.point_order.specs.Facets.{points_of, facets_of};
+ghost use Rattle.point_order.specs.Complex.{complex};
+ghost use Rattle.edit_history.specs.declared.history.Entry.{Entry};
+ghost use Rattle.edit_history.specs.Histories.{replay};
+ghost use Rattle.cell_store.specs.Grids.{is_grid_size, bucket_of as number_of};
+ghost use Rattle.cell_store.specs.Buckets.{no_room, bucket_at, points_in, cells_in, at_place, FitsPlace};
+ghost use Rattle.cell_store.specs.Shares.{Stands, StandsWith, NoneInHand, IsInHandFor};
+ghost use Rattle.cell_store.specs.Stars.{cells_left, AcrossGives};
+
+use crate::bucket::Bucket;
+use crate::grid::Grid;
+use crate::star::{Across, Star, facet_points, other_on};
+use point_order::{Cell, Facet, Point};
+use std::alloc::{AllocError, Global};
+use std::marker::Model;
+
+/// The buckets in hand, over which every geometric step works.
+///
+/// It has a place for every bucket of its grid.
+#[derive(Debug, Drop)]
+pub struct Hold {
+    grid: Grid,
+    places: Vec<Option<Bucket>>,
+}
+
+impl Model for Hold {
+    ghost use Rattle.std.specs.Prelude.{◌≡◌, ◌*◌, length};
+    ghost use Rattle.cell_store.specs.Buckets.{InHand, no_room};
+
+    ghost Value = { InHand };
+
+    ghost view = { λ h. record { grid = h.grid; places = h.places.items; room = no_room } };
+
+    ghost invariant = { λ h. length h.places.items ≡ h.grid * h.grid * h.grid };
+}
+
+impl Hold {
+    /// The hold with no bucket in hand, and a place for each of the grid.
+    ///
+    /// # Errors
+    /// Want of memory.
+    pub fn empty(alloc: Global, grid: Grid) -> Result<Hold, AllocError>
+        ensures { IfOk result (λ hold. hold ≡ record { grid = grid; places = replicate (grid * grid * grid) None; room = no_room }) }
+    {
+        let count = grid.count();
+        let mut places = Vec::with_capacity(alloc, count as usize)?;
+        for _ in 0..count {
+            places.push(None)?;
+        }
+        Ok(Hold { grid, places })
+    }
+
+    /// The grid whose buckets these are.
+    pub fn grid(&self) -> Grid
+        ensures grid { result ≡ self.now.grid }
+        ensures size { is_grid_size self.now.grid ≡ true }
+        ensures places { length self.now.places ≡ self.now.grid * self.now.grid * self.now.grid }
+    {
+        let _ = self.grid.size();
+        self.grid
+    }
+
+    /// Whether the bucket with the number is in hand.
+    pub fn has(&self, b: u32) -> bool
+        ensures { result ≡ is_some (bucket_at self.now.places b) }
+    {
+        matches!(self.places.get(b as usize), Some(Some(_)))
+    }
+
+    /// The bucket with the number, which is to be in hand.
+    pub fn bucket(&self, b: u32) -> &Bucket
+        requires { IsSome (bucket_at self.now.places b) }
+        ensures { bucket_at self.now.places b ≡ Some result.now }
+    {
+        match self.places.get(b as usize) {
+            Some(Some(bucket)) => bucket,
+            _ => unreachable!(),
+        }
+    }
+
+    /// Takes a bucket in hand. It is to be new, or to have stood at this number of this grid last. It takes no memory.
+    pub fn put(&mut self, b: u32, bucket: Bucket)
+        requires below { b < length self.old.places }
+        requires absent { bucket_at self.old.places b ≡ None }
+        requires place { FitsPlace self.old.grid b bucket }
+        ensures { self.new ≡ record self.old { places = slice_set self.old.places b (Some (at_place self.old.grid b bucket)) } }
+    {
+        self.places[b as usize] = Some(bucket.placed(self.grid, b));
+    }
+
+    /// Gives a bucket in hand away.
+    pub fn take(&mut self, b: u32) -> Bucket
+        requires { IsSome (bucket_at self.old.places b) }
+        ensures bucket { bucket_at self.old.places b ≡ Some result }
+        ensures after { self.new ≡ record self.old { places = slice_set self.old.places b None; room = no_room } }
+    {
+        match self.places[b as usize].take() {
+            Some(bucket) => bucket,
+            None => unreachable!(),
+        }
+    }
+
+    /// Whether the point is there. Its bucket is to be in hand.
+    pub fn holds_point(&self, p: Point) -> bool
+        requires { IsSome (bucket_at self.now.places (number_of self.now.grid p)) }
+        ensures { result ≡ is_among p (points_in self.now.places (number_of self.now.grid p)) }
+    {
+        let b = self.grid().bucket_of(p);
+        self.bucket(b).has_point(p)
+    }
+
+    /// A copy of a bucket in hand, as it stands.
+    ///
+    /// # Errors
+    /// Want of memory.
+    pub fn copy_of(&self, alloc: Global, b: u32) -> Result<Bucket, AllocError>
+        requires { IsSome (bucket_at self.now.places b) }
+        ensures { IfOk result (λ copy. bucket_at self.now.places b ≡ Some copy) }
+    {
+        self.bucket(b).copied(alloc)
+    }
+
+    /// The cells at a point, in ascending order. The point's bucket is to be in hand.
+    ///
+    /// They are all cells of the complex that have the point, for every history for which the hold stands.
+    pub fn cells_at(&self, p: Point) -> Star<'_>
+        requires { IsSome (bucket_at self.now.places (number_of self.now.grid p)) }
+        ensures in_bucket { cells_left result ≡ filter (λ c. is_among p (points_of c)) (cells_in self.now.places (number_of self.now.grid p)) }
+        ensures in_complex { (h : List Entry) → Stands self.now h → cells_left result ≡ filter (λ c. is_among p (points_of c)) (complex (replay h)) }
+    {
+        let b = self.grid().bucket_of(p);
+        Star {
+            cells: self.bucket(b).cell_list(),
+            point: p,
+        }
+    }
+
+    // The bucket of one of the points that is in hand, if there is one.
+    fn bucket_among(&self, points: &[Point]) -> Option<u32>
+        ensures { MatchOption result (NoneInHand self.now points.now) (λ b. IsInHandFor self.now points.now b) }
+    {
+        let grid = self.grid();
+        for p in points {
+            let b = grid.bucket_of(*p);
+            if self.has(b) {
+                return Some(b);
+            }
+        }
+        None
+    }
+
+    /// What lies across a facet of a cell of the complex for which the hold stands: the other cell on the facet, or the bucket
+    /// of its least point where the bucket of none of its points is in hand.
+    pub fn across(&self, cell: &Cell, facet: &Facet) -> Across<'_>
+        requires stands { StandsWith self.now cell.now }
+        requires facet { IsIn facet.now (facets_of cell.now) }
+        ensures { AcrossGives self.now cell.now facet.now result }
+    {
+        let points = facet_points(facet);
+        match self.bucket_among(points) {
+            Some(b) => match other_on(self.bucket(b).cell_list(), cell, facet) {
+                Some(other) => Across::Cell(other),
+                None => unreachable!(),
+            },
+            None => match points {
+                [first, ..] => Across::Need(self.grid().bucket_of(*first)),
+                [] => unreachable!(),
+            },
+        }
+    }
+}

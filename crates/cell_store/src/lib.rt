@@ -1,0 +1,21 @@
+//! The mesh as buckets of a grid, and holds of the buckets in hand.
+//!
+//! The definitions stand in `specs/`: the bucket of a point, the share that a bucket has of a history, and when a hold stands
+//! for a history.
+#![tactic(auto)]
+
+mod bucket;
+mod grid;
+mod hold;
+pub mod laws;
+mod mesh;
+mod star;
+
+pub use bucket::{Bucket, BucketCells};
+pub use grid::{BadGrid, Grid};
+pub use hold::Hold;
+pub use mesh::Mesh;
+pub use star::{Across, Star};
+
+#[cfg(test)]
+mod tests;

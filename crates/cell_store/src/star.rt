@@ -1,0 +1,93 @@
+//! The cells at a point, and the cell across a facet.
+
+ghost use Rattle.std.specs.Prelude.{◌≡◌, ◌↔◌, IsTrue, MatchOption};
+ghost use Rattle.point_order.specs.Sets.{IsIn};
+ghost use Rattle.point_order.specs.Facets.{facets_of};
+ghost use Rattle.cell_store.specs.Shares.{points_on};
+ghost use Rattle.cell_store.specs.Others.{IsOtherOf, HaveNoOther};
+
+use point_order::{Cell, Facet, Point};
+
+/// The cells at a point, in ascending order.
+#[derive(Clone, Copy, Debug)]
+pub struct Star<'a> {
+    pub(crate) cells: &'a [Cell],
+    pub(crate) point: Point,
+}
+
+impl<'a> Iterator for Star<'a> {
+    type Item = &'a Cell;
+
+    ghost use Rattle.std.specs.Iterator.{YieldsFirstRef, item_count};
+    ghost use Rattle.cell_store.specs.Stars.{cells_left};
+
+    ghost next_gives = { YieldsFirstRef cells_left };
+
+    ghost remaining = { item_count cells_left };
+
+    fn next(&mut self) -> Option<&'a Cell> {
+        while let Some((first, others)) = self.cells.split_first() {
+            self.cells = others;
+            if first.has(self.point) {
+                return Some(first);
+            }
+        }
+        None
+    }
+}
+
+/// What lies across a facet.
+#[derive(Clone, Copy, Debug)]
+pub enum Across<'a> {
+    /// The other cell on the facet.
+    Cell(&'a Cell),
+    /// No bucket of the facet's finite points is in hand. This is the number of the bucket of the least.
+    Need(u32),
+}
+
+// The finite points of the facet, ascending.
+pub(crate) fn facet_points(facet: &Facet) -> &[Point]
+    ensures { result.now ≡ points_on facet.now }
+{
+    match facet {
+        Facet::Three(tri) => tri.points(),
+        Facet::Two(pair) => pair.points(),
+    }
+}
+
+// Whether the cell is on the facet.
+fn is_on(cell: &Cell, facet: &Facet) -> bool
+    ensures { IsTrue result ↔ IsIn facet.now (facets_of cell.now) }
+{
+    cell.facets().contains(facet)
+}
+
+// Whether the two lists are one.
+fn same_points(a: &[Point], b: &[Point]) -> bool
+    ensures { IsTrue result ↔ (a.now ≡ b.now) }
+{
+    a == b
+}
+
+// Whether the two are one cell.
+fn are_same(a: &Cell, b: &Cell) -> bool
+    ensures { IsTrue result ↔ (a.now ≡ b.now) }
+{
+    match (a, b) {
+        (Cell::Full(p), Cell::Full(q)) => same_points(p.points(), q.points()),
+        (Cell::Open(p), Cell::Open(q)) => same_points(p.points(), q.points()),
+        _ => false,
+    }
+}
+
+// A cell on the facet other than the given one, if there is one among these.
+pub(crate) fn other_on<'a>(cells: &'a [Cell], cell: &Cell, facet: &Facet) -> Option<&'a Cell>
+    ensures { MatchOption result (HaveNoOther cells.now cell.now facet.now) (λ c. IsOtherOf cells.now cell.now facet.now c.now) }
+{
+    for c in cells {
+        if is_on(c, facet) && !are_same(c, cell) {
+            return Some(c);
+        }
+    }
+    None
+}
