@@ -15,11 +15,12 @@ use Rattle.std.proofs.lemmas.Map.{NonePasses, none_passes_from_lookup}
 use Rattle.std.proofs.lemmas.Map.Keys.{IsDistinct-from_sorted}
 use Rattle.std.proofs.lemmas.Map.Entries.{none_past_head}
 use Rattle.std.proofs.lemmas.List.{map-append}
+use Rattle.std.proofs.lemmas.Grind.{flat_map-append}
 use Rattle.std.proofs.lemmas.List.Elements.{filter-append}
 use Rattle.std.proofs.lemmas.List.Sums.{fold-append}
 use Rattle.point_order.specs.declared.cell.Cell.{Cell}
 use Rattle.point_order.specs.declared.cell.Cell.TheVariants.{Full, Open}
-use Rattle.face_list.specs.Gather.{is_full, cells_at, full_keys, seen, with_cell}
+use Rattle.face_list.specs.Gather.{is_full, items_of, cells_at, full_keys, seen, with_cell}
 
 -- ---- one cell more
 
@@ -118,3 +119,9 @@ pub lists_more :
     with_cell cmp k c (map (λ x. (x, cells_at cmp items x)) ks) ≡ map (λ x. (x, cells_at cmp (items ++ (k, c) ∷ []) x)) ks
 lists_more cmp items k c [] = refl
 lists_more cmp items k c (x ∷ ks) = ap (λ u. (x, u) ∷ with_cell cmp k c (map (λ x. (x, cells_at cmp items x)) ks)) (sym (cells_more cmp items k c x)) ∙ ap (λ u. (x, cells_at cmp (items ++ (k, c) ∷ []) x) ∷ u) (lists_more cmp items k c ks)
+
+-- ---- the cells so far
+
+-- the items of a cell more
+pub items_more : {K : Type 0} (parts : Cell → List K) (cells : List Cell) (c : Cell) → items_of parts (cells ++ c ∷ []) ≡ items_of parts cells ++ map (λ p. (p, c)) (parts c)
+items_more parts cells c = simp (flat_map-append, append-nil)

@@ -1,11 +1,13 @@
 -- Cells that are gathered under keys, as `gather` promises them.
 use Rattle.std.specs.Prelude.{ℕ, Bool, true, false, List, [], ◌∷◌, ◌++◌, map, if◌then◌else◌}
-use Rattle.std.specs.List.{filter}
+use Rattle.std.specs.List.{filter, flat_map}
 use Rattle.std.specs.Ordering.{is_eq}
 use Rattle.std.specs.declared.cmp.Ordering.{Ordering}
 use Rattle.std.specs.Global.{Vec}
 use Rattle.point_order.specs.declared.cell.Cell.{Cell}
 use Rattle.point_order.specs.declared.cell.Cell.TheVariants.{Full, Open}
+use Rattle.point_order.specs.declared.cell.Facet.{Facet}
+use Rattle.point_order.specs.declared.cell.Facet.TheVariants.{Three, Two}
 use Rattle.face_list.specs.Faces.{each_once}
 
 -- the cell is Full
@@ -28,3 +30,17 @@ seen es = map (λ e. (e.0, e.1.items)) es
 -- the lists, each with one cell more whose key is that of the cell
 abbrev pub with_cell : {K : Type 0} → (K → K → Ordering) → K → Cell → List (K × List Cell) → List (K × List Cell)
 with_cell cmp k c es = map (λ e. (e.0, (if is_eq (cmp k e.0) then e.1 ++ c ∷ [] else e.1))) es
+
+-- each cell under each of its parts, cell by cell
+abbrev pub items_of : {K : Type 0} → (Cell → List K) → List Cell → List (K × Cell)
+items_of parts cells = flat_map (λ c. map (λ p. (p, c)) (parts c)) cells
+
+-- the facet is a pair with the infinite vertex
+abbrev pub IsTwo : Facet → Type 0
+IsTwo (Two p) = Unit {0}
+IsTwo (Three t) = ⊥
+
+-- the facet is a triple
+abbrev pub IsThree : Facet → Type 0
+IsThree (Two p) = ⊥
+IsThree (Three t) = Unit {0}
