@@ -32,3 +32,11 @@ parts_in k cells = each_once (slice_cmp nat_cmp) (flat_map (subsets k) (full_cel
 -- the cells that have all of some points, Open ones too, in the order of the list
 abbrev pub cells_with : List ℕ → List Cell → List Cell
 cells_with ps cells = filter (λ c. list_all (λ p. is_among p (points_of c)) ps) cells
+
+-- faces, each with the cells that have its points
+abbrev pub with_cells : List (List ℕ) → List Cell → List (List ℕ × List Cell)
+with_cells faces cells = map (λ p. (p, cells_with p cells)) faces
+
+-- points, each with the cells that have it
+abbrev pub points_with_cells : List ℕ → List Cell → List (ℕ × List Cell)
+points_with_cells points cells = map (λ p. (p, cells_with (p ∷ []) cells)) points

@@ -8,6 +8,8 @@ use Rattle.point_order.specs.declared.cell.Cell.{Cell}
 use Rattle.point_order.specs.declared.cell.Cell.TheVariants.{Full, Open}
 use Rattle.point_order.specs.declared.cell.Facet.{Facet}
 use Rattle.point_order.specs.declared.cell.Facet.TheVariants.{Three, Two}
+use Rattle.point_order.specs.Facets.{points_of}
+use Rattle.point_order.specs.Sets.{IsAscending}
 use Rattle.face_list.specs.Faces.{each_once}
 
 -- the cell is Full
@@ -44,3 +46,8 @@ IsTwo (Three t) = ⊥
 abbrev pub IsThree : Facet → Type 0
 IsThree (Two p) = ⊥
 IsThree (Three t) = Unit {0}
+
+-- the points of each cell ascend
+abbrev pub AreAscending : List Cell → Type 0
+AreAscending [] = Unit {0}
+AreAscending (c ∷ cells) = IsAscending (points_of c) × AreAscending cells
