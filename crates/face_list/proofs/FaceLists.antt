@@ -1,6 +1,6 @@
 -- The lists of faces: what is gathered under the parts of cells are the faces, each with its cells.
-use Rattle.std.proofs.Common.{◌≡◌, refl, sym, ap, ◌∙◌, ℕ, zero, suc, ◌⊎◌, inl, inr, Bool, true, false, cond, List, [], ◌∷◌, ◌++◌, map, length, arith, append-nil, append_assoc}
-use Rattle.std.specs.Prelude.{◌==◌, ◌&&◌, ◌||◌, ◌<◌}
+use Rattle.std.proofs.Common.{◌≡◌, refl, ap, ◌∙◌, ℕ, zero, suc, ◌⊎◌, inl, inr, Bool, true, false, cond, List, [], ◌∷◌, ◌++◌, map, length, arith}
+use Rattle.std.specs.Prelude.{◌==◌, ◌<◌}
 use Rattle.std.specs.List.{filter, list_all, flat_map, fold, AllByRecursion}
 use Rattle.std.specs.Ordering.{nat_cmp, is_eq, match_ordering}
 use Rattle.std.specs.BTreeSet.{insert_key}
@@ -17,7 +17,7 @@ use Rattle.point_order.specs.Sets.{IsBelowFirst, IsAscending, is_among}
 use Rattle.point_order.specs.Subsets.{subsets}
 use Rattle.face_list.specs.Faces.{full_cells, each_once, points_in, parts_in, cells_with}
 use Rattle.face_list.specs.Gather.{is_full, cells_at, full_keys, items_of, AreAscending}
-use Rattle.face_list.proofs.OnePart.{holds, is_part, one_part, ordered, none_among}
+use Rattle.face_list.proofs.OnePart.{one_part, ordered, none_among}
 
 -- ---- the cells of a face
 

@@ -1,18 +1,16 @@
 -- Lists of cells under keys: what a cell more and a key more change in them.
-use Rattle.std.proofs.Common.{◌≡◌, refl, sym, ap, ◌∙◌, Bool, true, false, cond, List, [], ◌∷◌, ◌++◌, map, Some, None, ℕ, append-nil}
+use Rattle.std.proofs.Common.{◌≡◌, refl, sym, ap, ◌∙◌, Bool, true, false, cond, List, [], ◌∷◌, ◌++◌, map, Some, ℕ, append-nil}
 use Rattle.std.specs.Global.{Vec}
-use Rattle.std.specs.List.{filter, IsDistinct}
-use Rattle.std.specs.List.Sorted.{IsStrictlySortedBy}
+use Rattle.std.specs.List.{IsDistinct}
 use Rattle.std.specs.Cmp.{IsTotalOrder}
 use Rattle.std.specs.Map.{lookup, set_value, keys_of}
 use Rattle.std.specs.BTreeMap.{is_at, insert_entry}
 use Rattle.std.specs.BTreeSet.{insert_key}
-use Rattle.std.specs.Ordering.{is_eq, eq_by_cmp, match_ordering}
+use Rattle.std.specs.Ordering.{is_eq, eq_by_cmp}
 use Rattle.std.specs.declared.cmp.Ordering.{Ordering}
 use Rattle.std.specs.declared.cmp.Ordering.TheVariants.{Less, Equal, Greater}
 use Rattle.std.proofs.lemmas.Cmp.{eq_by_cmp_equiv}
-use Rattle.std.proofs.lemmas.Map.{NonePasses, none_passes_from_lookup}
-use Rattle.std.proofs.lemmas.Map.Keys.{IsDistinct-from_sorted}
+use Rattle.std.proofs.lemmas.Map.{NonePasses}
 use Rattle.std.proofs.lemmas.Map.Entries.{none_past_head}
 use Rattle.std.proofs.lemmas.List.{map-append}
 use Rattle.std.proofs.lemmas.Grind.{flat_map-append}
@@ -20,7 +18,9 @@ use Rattle.std.proofs.lemmas.List.Elements.{filter-append}
 use Rattle.std.proofs.lemmas.List.Sums.{fold-append}
 use Rattle.point_order.specs.declared.cell.Cell.{Cell}
 use Rattle.point_order.specs.declared.cell.Cell.TheVariants.{Full, Open}
-use Rattle.face_list.specs.Gather.{is_full, items_of, cells_at, full_keys, seen, with_cell}
+use Rattle.point_order.specs.Facets.{points_of}
+use Rattle.point_order.specs.Sets.{IsAscending}
+use Rattle.face_list.specs.Gather.{is_full, items_of, AreAscending, cells_at, full_keys, seen, with_cell}
 
 -- ---- one cell more
 
@@ -125,3 +125,8 @@ lists_more cmp items k c (x ∷ ks) = ap (λ u. (x, u) ∷ with_cell cmp k c (ma
 -- the items of a cell more
 pub items_more : {K : Type 0} (parts : Cell → List K) (cells : List Cell) (c : Cell) → items_of parts (cells ++ c ∷ []) ≡ items_of parts cells ++ map (λ p. (p, c)) (parts c)
 items_more parts cells c = simp (flat_map-append, append-nil)
+
+-- the points of one cell more
+pub ascending_more : (cells : List Cell) (c : Cell) → AreAscending cells → IsAscending (points_of c) → AreAscending (cells ++ c ∷ [])
+ascending_more [] c a b = (b, tt)
+ascending_more (d ∷ cells) c a b = (a.0, ascending_more cells c a.1 b)

@@ -1,45 +1,40 @@
 //! The faces of a complex: its points, pairs, triples and Full cells, each with the cells that contain it.
+//!
+//! The definitions stand in `specs/Faces.antt`: the points, pairs and triples inside Full cells, each once and in order,
+//! and the cells that have all points of a face.
 #![tactic(auto)]
 
+ghost use Rattle.std.specs.Prelude.{◌≡◌, IfOk};
+ghost use Rattle.face_list.specs.Faces.{full_cells, points_in, parts_in, points_with_cells, with_cells};
+ghost use Rattle.face_list.specs.Seen.{points_seen, pairs_seen, triples_seen};
+
+pub mod face;
 mod gather;
+mod lists;
 mod parts;
 
-ghost use Rattle.std.specs.Prelude.{◌≡◌, map, IfOk};
-ghost use Rattle.face_list.specs.Faces.{full_cells as full_cells_of, points_in, parts_in, points_with_cells, with_cells};
-ghost use Rattle.face_list.specs.Gather.{AreAscending, seen};
-
-use point_order::{Cell, Pair, Point, Quad, Tri};
+pub use face::{Faces, PairFace, PointFace, TriFace};
+use point_order::Cell;
 use std::alloc::{AllocError, Global};
-use std::collections::BTreeMap;
 
-/// A pair inside a Full cell, with the cells that have both points.
-#[derive(Debug, Drop)]
-pub struct PairFace {
-    pub pair: Pair,
-    /// In the order of the list of cells, Open ones too.
-    pub cells: Vec<Cell>,
-}
-
-// The entries of the map as faces.
-fn listed_pairs(
-    alloc: Global,
-    lists: BTreeMap<Pair, Vec<Cell>>,
-) -> Result<Vec<PairFace>, AllocError>
-    ensures { IfOk result (λ v. map (λ f. (f.pair, f.cells.items)) v.items ≡ seen lists.entries) }
+/// The faces of the cells: the points, pairs and triples inside Full cells, each with the cells that contain it, and the
+/// Full cells themselves.
+///
+/// A face is a part of a Full cell, and Open cells count among those that contain it. For the sorted cells of a complex the
+/// Full cells come sorted too. The work is that of sorting: it grows as n log n in the number of cells.
+///
+/// # Errors
+/// Want of memory.
+pub fn faces<R>(_rt: &R, alloc: Global, cells: &[Cell]) -> Result<Faces, AllocError>
+    ensures points { IfOk result (λ f. points_seen f.points.items ≡ points_with_cells (points_in cells.now) cells.now) }
+    ensures pairs { IfOk result (λ f. pairs_seen f.pairs.items ≡ with_cells (parts_in 2 cells.now) cells.now) }
+    ensures triples { IfOk result (λ f. triples_seen f.triples.items ≡ with_cells (parts_in 3 cells.now) cells.now) }
+    ensures cells { IfOk result (λ f. f.cells.items ≡ full_cells cells.now) }
 {
-    let mut faces = Vec::new(alloc);
-    for (pair, cells) in lists {
-        faces.push(PairFace { pair, cells })?;
-    }
-    Ok(faces)
-}
-
-/// The pairs inside Full cells, with the cells that have them.
-pub fn pair_faces(alloc: Global, cells: &[Cell]) -> Result<Vec<PairFace>, AllocError>
-    requires { AreAscending cells.now }
-    ensures { IfOk result (λ v. map (λ f. (f.pair, f.cells.items)) v.items ≡ with_cells (parts_in 2 cells.now) cells.now) }
-{
-    let items = parts::pair_items(alloc, cells)?;
-    let lists = gather::gather(alloc, &items)?;
-    listed_pairs(alloc, lists)
+    Ok(Faces {
+        points: lists::point_faces(alloc, cells)?,
+        pairs: lists::pair_faces(alloc, cells)?,
+        triples: lists::triple_faces(alloc, cells)?,
+        cells: lists::full_cells(alloc, cells)?,
+    })
 }

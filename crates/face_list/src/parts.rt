@@ -4,7 +4,8 @@ ghost use Rattle.std.specs.Prelude.{◌≡◌, ℕ, ◌++◌, map, IfOk, OnOk};
 ghost use Rattle.point_order.specs.Facets.{points_of};
 ghost use Rattle.point_order.specs.Subsets.{subsets};
 ghost use Rattle.point_order.specs.declared.cell.Facet.TheVariants.{Three, Two};
-ghost use Rattle.face_list.specs.Gather.{items_of, IsTwo, IsThree};
+ghost use Rattle.point_order.specs.Sets.{IsAscending};
+ghost use Rattle.face_list.specs.Gather.{items_of, AreAscending, IsTwo, IsThree};
 
 use point_order::{Cell, Facet, Pair, Point, Quad, Tri};
 use std::alloc::{AllocError, Global};
@@ -81,13 +82,25 @@ fn put<K: Copy>(items: &mut Vec<(K, Cell)>, parts: &[K], cell: &Cell) -> Result<
     Ok(())
 }
 
-/// Each cell under each of its points.
+// The points of a cell, which ascend.
+fn points_in_order(cell: &Cell) -> &[Point]
+    ensures points { result.now ≡ points_of cell.now }
+    ensures ascending { IsAscending (points_of cell.now) }
+{
+    match cell {
+        Cell::Full(quad) => quad.points(),
+        Cell::Open(tri) => tri.points(),
+    }
+}
+
+/// Each cell under each of its points, which ascend in each cell.
 pub fn point_items(alloc: Global, cells: &[Cell]) -> Result<Vec<(Point, Cell)>, AllocError>
-    ensures { IfOk result (λ v. v.items ≡ items_of points_of cells.now) }
+    ensures items { IfOk result (λ v. v.items ≡ items_of points_of cells.now) }
+    ensures ascending { OnOk result (AreAscending cells.now) }
 {
     let mut items = Vec::new(alloc);
     for cell in cells {
-        put(&mut items, cell.points(), cell)?;
+        put(&mut items, points_in_order(cell), cell)?;
     }
     Ok(items)
 }

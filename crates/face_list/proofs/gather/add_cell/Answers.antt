@@ -5,7 +5,6 @@ use Rattle.std.specs.Map.{lookup}
 use Rattle.std.proofs.lemmas.Map.{none_passes_from_lookup}
 use Rattle.std.proofs.lemmas.Map.Keys.{IsDistinct-from_sorted}
 use Rattle.face_list.proofs.Gathered.{one_with, none_with}
-use Rattle.face_list.specs.Gather.{seen, with_cell}
 use Rattle.face_list.proofs.gather.add_cell.Goals as goal
 
 pub returns-in_ok-push : goal.returns-in_ok-push

@@ -1,7 +1,7 @@
-use Rattle.std.proofs.Common.{◌≡◌, refl, sym, ap, subst, ◌∙◌, ◌++◌, [], ◌∷◌, take, get_or, arith}
+use Rattle.std.proofs.Common.{take, arith}
 use Rattle.std.proofs.lemmas.List.{take_more, take_all}
 use Rattle.face_list.proofs.Gathered.{lists_more}
-use Rattle.face_list.specs.Gather.{cells_at, full_keys, seen}
+use Rattle.face_list.specs.Gather.{full_keys}
 use Rattle.face_list.proofs.gather.gather.Goals as goal
 
 pub loop-key-preserved : goal.loop-key-preserved

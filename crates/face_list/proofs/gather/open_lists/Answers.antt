@@ -1,7 +1,7 @@
-use Rattle.std.proofs.Common.{◌≡◌, refl, sym, ap, subst, ◌∙◌, ◌++◌, [], ◌∷◌, take, get_or}
+use Rattle.std.proofs.Common.{take}
 use Rattle.std.proofs.lemmas.List.{take_more}
 use Rattle.face_list.proofs.Gathered.{one_open, keys_full, keys_open}
-use Rattle.face_list.specs.Gather.{full_keys, seen}
+use Rattle.face_list.specs.Gather.{full_keys}
 use Rattle.face_list.proofs.gather.open_lists.Goals as goal
 use Rattle.face_list.proofs.gather.open_lists.Goals.{in-Full+in_ok-insert+in-Some-1, in-Full+in_ok-insert+in-None-1, in_default}
 

@@ -1,4 +1,4 @@
-use Rattle.std.proofs.Common.{◌≡◌, sym, ap, ◌∙◌, ◌++◌, ◌∷◌, [], take, map, List, ℕ}
+use Rattle.std.proofs.Common.{sym, ap, ◌∙◌, ◌++◌, take, map, List, ℕ}
 use Rattle.std.proofs.lemmas.List.{take_more}
 use Rattle.point_order.specs.declared.cell.Cell.{Cell}
 use Rattle.point_order.specs.Facets.{points_of}

@@ -1,4 +1,4 @@
-use Rattle.std.proofs.Common.{◌≡◌, refl, ap, sym, ◌∙◌, ℕ, length, List, [], ◌∷◌, get_or, arith, rules}
+use Rattle.std.proofs.Common.{◌≡◌, refl, ap, ℕ, length, List, [], ◌∷◌, get_or, arith, rules}
 use Rattle.point_order.specs.declared.cell.Facet.{Facet}
 use Rattle.point_order.specs.declared.cell.Facet.TheVariants.{Three}
 use Rattle.point_order.specs.Facets.{full_facets}

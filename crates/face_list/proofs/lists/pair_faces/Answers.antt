@@ -1,10 +1,10 @@
-use Rattle.std.proofs.Common.{◌≡◌, ◌∙◌, map, List, ℕ}
+use Rattle.std.proofs.Common.{◌≡◌, ◌∙◌}
 use Rattle.std.proofs.lemmas.Result.{IfOk-weaker}
-use Rattle.face_list.specs.Gather.{seen, items_of}
 use Rattle.point_order.specs.Facets.{points_of}
 use Rattle.point_order.specs.Subsets.{subsets}
+use Rattle.face_list.specs.Gather.{items_of}
 use Rattle.face_list.proofs.FaceLists.{parts_gathered}
-use Rattle.face_list.proofs.pair_faces.Goals as goal
+use Rattle.face_list.proofs.lists.pair_faces.Goals as goal
 
 pub returns : goal.returns
 returns c =
