@@ -10,6 +10,7 @@ ghost use Rattle.face_list.specs.Seen.{points_seen, pairs_seen, triples_seen};
 
 pub mod face;
 mod gather;
+pub mod laws;
 mod lists;
 mod parts;
 
