@@ -125,7 +125,7 @@ all_append P [] m a b = b
 all_append P (x ∷ l) m a b = (a.0, all_append P l m a.1 b)
 
 -- with one more in its place
-all_insert : {X : Type 0} (P : X → Type 0) (cmp : X → X → Ordering) (l : List X) (x : X) → AllByRecursion P l → P x → AllByRecursion P (insert_key cmp l x)
+pub all_insert : {X : Type 0} (P : X → Type 0) (cmp : X → X → Ordering) (l : List X) (x : X) → AllByRecursion P l → P x → AllByRecursion P (insert_key cmp l x)
 all_insert P cmp [] x a p = (p, tt)
 all_insert {X} P cmp (y ∷ l) x a p = by_order (all_insert P cmp l x a.1 p) (cmp x y)
   where

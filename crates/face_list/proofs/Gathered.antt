@@ -111,7 +111,7 @@ cells_more {K} cmp items k c x = by_test (is_eq (cmp k x)) refl
     -- the item has the key or not
     by_test : (b : Bool) → is_eq (cmp k x) ≡ b → cells_at cmp (items ++ (k, c) ∷ []) x ≡ cond (is_eq (cmp k x)) (cells_at cmp items x ++ c ∷ []) (cells_at cmp items x)
     by_test true t = simp (filter-append, t, map-append)
-    by_test false t = simp (filter-append, map-append, t, append-nil)
+    by_test false t = simp (filter-append, t, append-nil)
 
 -- the lists of all keys, with an item more
 pub lists_more :

@@ -1,3 +1,4 @@
 pub mod Gathered
 pub mod OnePart
 pub mod FaceLists
+pub mod FaceLaws

@@ -1,3 +1,4 @@
 pub mod Faces
 pub mod Gather
 pub mod Seen
+pub mod Laws

@@ -10,6 +10,7 @@ ghost use Rattle.face_list.specs.Seen.{points_seen, pairs_seen, triples_seen};
 
 pub mod face;
 mod gather;
+pub mod laws;
 mod lists;
 mod parts;
 
@@ -20,8 +21,11 @@ use std::alloc::{AllocError, Global};
 /// The faces of the cells: the points, pairs and triples inside Full cells, each with the cells that contain it, and the
 /// Full cells themselves.
 ///
-/// A face is a part of a Full cell, and Open cells count among those that contain it. For the sorted cells of a complex the
-/// Full cells come sorted too. The work is that of sorting: it grows as n log n in the number of cells.
+/// A face is a part of a Full cell, and Open cells count among those that contain it. The list of cells may be any; for the
+/// sorted cells of a complex the Full cells come sorted too. `laws` says what the definitions come to: the lists of faces are
+/// strictly sorted and have exactly the parts of Full cells, and the points of a complex are all points of its set.
+///
+/// The cells are gathered under their parts by ordered maps, with no pass over all pairs of cells and faces.
 ///
 /// # Errors
 /// Want of memory.
