@@ -1,8 +1,9 @@
 -- The order of cells, and exchanges of cells in sorted lists.
-use Rattle.std.specs.Prelude.{◌≡◌, ℕ, Bool, true, false, not, ◌||◌, List, [], ◌∷◌, ◌⊎◌}
+use Rattle.std.specs.Prelude.{◌≡◌, ℕ, Bool, true, false, cond, not, ◌&&◌, ◌||◌, List, [], ◌∷◌, ◌⊎◌}
 use Rattle.std.specs.List.{filter, list_any, AllByRecursion}
 use Rattle.std.specs.List.Sorted.{IsStrictlySortedBy}
 use Rattle.std.specs.Ordering.{nat_cmp, is_eq, match_ordering, ordering_reverse}
+use Rattle.std.specs.Cmp.{both_ways}
 use Rattle.std.specs.Cmp.Lexicographic.{slice_cmp}
 use Rattle.std.specs.declared.cmp.Ordering.{Ordering}
 use Rattle.std.specs.declared.cmp.Ordering.TheVariants.{Less, Equal, Greater}
@@ -154,23 +155,23 @@ with_sorted c (d ∷ l) s = by (cell_cmp c d) refl (with_sorted c l s.1)
 
 in_withs : (cs l : List Cell) (x : Cell) → IsIn x (with_cells cs l) → IsIn x cs ⊎ IsIn x l
 in_withs [] l x m = inr m
-in_withs (c ∷ cs) l x m = elim (in_with c x (with_cells cs l) m) [
-  | inl e ↦ inl (inl e)
-  | inr k ↦ elim (in_withs cs l x k) [ inl i ↦ inl (inr i) | inr i ↦ inr i ]
+in_withs (c ∷ cs) l x m = elim (in_withs cs (with_cell c l) x m) [
+  | inl i ↦ inl (inr i)
+  | inr k ↦ elim (in_with c x l k) [ inl e ↦ inl (inl e) | inr i ↦ inr i ]
 ]
-
-withs_new : (cs l : List Cell) (x : Cell) → IsIn x cs → IsIn x (with_cells cs l)
-withs_new [] l x m = absurd m
-withs_new (c ∷ cs) l x (inl e) = subst (λ (y : Cell). IsIn y (with_cell c (with_cells cs l))) e (with_new c (with_cells cs l))
-withs_new (c ∷ cs) l x (inr m) = with_old c x (with_cells cs l) (withs_new cs l x m)
 
 withs_old : (cs l : List Cell) (x : Cell) → IsIn x l → IsIn x (with_cells cs l)
 withs_old [] l x m = m
-withs_old (c ∷ cs) l x m = with_old c x (with_cells cs l) (withs_old cs l x m)
+withs_old (c ∷ cs) l x m = withs_old cs (with_cell c l) x (with_old c x l m)
+
+withs_new : (cs l : List Cell) (x : Cell) → IsIn x cs → IsIn x (with_cells cs l)
+withs_new [] l x m = absurd m
+withs_new (c ∷ cs) l x (inl e) = withs_old cs (with_cell c l) x (subst (λ (y : Cell). IsIn y (with_cell c l)) e (with_new c l))
+withs_new (c ∷ cs) l x (inr m) = withs_new cs (with_cell c l) x m
 
 withs_sorted : (cs l : List Cell) → IsStrictlySortedBy cell_cmp l → IsStrictlySortedBy cell_cmp (with_cells cs l)
 withs_sorted [] l s = s
-withs_sorted (c ∷ cs) l s = with_sorted c (with_cells cs l) (withs_sorted cs l s)
+withs_sorted (c ∷ cs) l s = withs_sorted cs (with_cell c l) (with_sorted c l s)
 
 -- ---- exchanges
 
@@ -224,3 +225,33 @@ swapped_none g b gone fresh l f h = rw (none fresh h) (rw (none gone f) (all l))
     all : (l : List Cell) → without_cells [] l ≡ l
     all [] = refl
     all (c ∷ l) = ap (λ (t : List Cell). c ∷ t) (all l)
+
+-- the cells that stay, by one test
+pub kept_is : (t : Cell → Bool) (gone l : List Cell) → filter (λ c. not (t c && is_cell_among c gone)) l ≡ without_cells (filter t gone) l
+kept_is t gone [] = refl
+kept_is t gone (c ∷ l) = ap (λ b. cond (not b) (c ∷ filter (λ c. not (t c && is_cell_among c gone)) l) (filter (λ c. not (t c && is_cell_among c gone)) l)) (sym (both gone)) ∙ ap (λ m. cond (not (is_cell_among c (filter t gone))) (c ∷ m) m) (kept_is t gone l)
+  where
+    both : (gone : List Cell) → is_cell_among c (filter t gone) ≡ (t c && is_cell_among c gone)
+    both gone = by_test (t c) refl
+      where
+        yes : t c ≡ true → is_cell_among c (filter t gone) ≡ is_cell_among c gone
+        yes e = both_ways (is_cell_among c (filter t gone)) (is_cell_among c gone) (λ k. among_true c gone (filtered_from t gone c (among_from c (filter t gone) k)).0) (λ k. among_true c (filter t gone) (filtered_true t gone c (among_from c gone k) e))
+
+        no : t c ≡ false → is_cell_among c (filter t gone) ≡ false
+        no e = none (is_cell_among c (filter t gone)) refl
+          where
+            none : (b : Bool) → is_cell_among c (filter t gone) ≡ b → b ≡ false
+            none true k = (let m : t c ≡ true = (filtered_from t gone c (among_from c (filter t gone) k)).1 in absurd (cc (m, e)))
+            none false k = refl
+
+        by_test : (b : Bool) → t c ≡ b → is_cell_among c (filter t gone) ≡ (b && is_cell_among c gone)
+        by_test true e = yes e
+        by_test false e = no e
+
+-- one more fresh cell, put in where it touches the bucket
+pub withs_step : (t : Cell → Bool) (c : Cell) (cs l m : List Cell) → m ≡ cond (t c) (with_cell c l) l → with_cells (filter t cs) m ≡ with_cells (filter t (c ∷ cs)) l
+withs_step t c cs l m e = by (t c) e
+  where
+    by : (b : Bool) → m ≡ cond b (with_cell c l) l → with_cells (filter t cs) m ≡ with_cells (cond b (c ∷ filter t cs) (filter t cs)) l
+    by true e = ap (with_cells (filter t cs)) e
+    by false e = ap (with_cells (filter t cs)) e

@@ -23,7 +23,7 @@ with_cell c (d ∷ l) = match_ordering (cell_cmp c d) (c ∷ d ∷ l) (d ∷ l) 
 -- with each cell of a list, which may be in any order
 abbrev pub with_cells : List Cell → List Cell → List Cell
 with_cells [] l = l
-with_cells (c ∷ cs) l = with_cell c (with_cells cs l)
+with_cells (c ∷ cs) l = with_cells cs (with_cell c l)
 
 -- the cells that are not in a list
 abbrev pub without_cells : List Cell → List Cell → List Cell

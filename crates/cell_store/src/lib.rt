@@ -10,6 +10,7 @@ mod hold;
 pub mod laws;
 mod mesh;
 mod star;
+mod swap;
 
 pub use bucket::{Bucket, BucketCells};
 pub use grid::{BadGrid, Grid};
