@@ -147,7 +147,7 @@ entries_stay g b h e t = sym (filter-append (λ e. lies g b (point_of e.edit)) h
 -- ---- the laws
 
 pub share_after_entry : ShareAfterEntry
-share_after_entry g b h e gone fresh c keys next sh = by (lies g b (point_of e.edit)) refl
+share_after_entry g b h e gone fresh c next sh = by (lies g b (point_of e.edit)) refl
   where
     k : List Entry
     k = h ++ e ∷ []
@@ -168,7 +168,7 @@ share_after_entry g b h e gone fresh c keys next sh = by (lies g b (point_of e.e
     }
 
 pub share_elsewhere : ShareElsewhere
-share_elsewhere g b h e gone fresh c keys next t f1 f2 sh = record {
+share_elsewhere g b h e gone fresh c next t f1 f2 sh = record {
   points = sh.points ∙ points_stay (lies g b) (point_of e.edit) e.reply (replay h) (ascending_replay h) t ∙ ap (filter (lies g b)) (sym (replay_next h e next.legal));
   cells = sym (swapped_none g b gone fresh c.cells f1 f2) ∙ ap (swapped g b gone fresh) sh.cells ∙ cells_after g b h (h ++ e ∷ []) gone fresh next.change;
   entries = sh.entries ∙ entries_stay g b h e t;
@@ -189,6 +189,6 @@ entry_keeps_hold h e gone fresh old between new st next sw nd = record { legal =
     each b c q =
         let r = mapped_some (noted_in between.grid b e) (bucket_at between.places b) c (sym (nd.places b) ∙ q) in
         let u = mapped_some (swapped_in old.grid b gone fresh) (bucket_at old.places b) r.0 (sym (sw.places b) ∙ r.1) in
-        let s = share_after_entry old.grid b h e gone fresh u.0 st.keys next (st.shares b u.0 u.1) in
+        let s = share_after_entry old.grid b h e gone fresh u.0 next (st.shares b u.0 u.1) in
         let v : noted_in old.grid b e (swapped_in old.grid b gone fresh u.0) ≡ c = ap (noted_in old.grid b e) u.2 ∙ ap (λ g. noted_in g b e r.0) (sym sw.grid) ∙ r.2 in
         subst (λ g. IsShare g b (h ++ e ∷ []) c) (sym (nd.grid ∙ sw.grid)) (subst (IsShare old.grid b (h ++ e ∷ [])) v s)

@@ -61,7 +61,7 @@ EntryKeepsHold =
 abbrev pub ShareAfterEntry : Type 0
 ShareAfterEntry =
     (g b : ℕ) (h : List Entry) (e : Entry) (gone fresh : List Cell) (c : Content) →
-    AreKeys (replay h) → IsNext h e gone fresh → IsShare g b h c → IsShare g b (h ++ e ∷ []) (noted_in g b e (swapped_in g b gone fresh c))
+    IsNext h e gone fresh → IsShare g b h c → IsShare g b (h ++ e ∷ []) (noted_in g b e (swapped_in g b gone fresh c))
 
 -- No finite vertex of these cells lies in the bucket.
 abbrev pub NoneTouches : ℕ → ℕ → List Cell → Type 0
@@ -71,5 +71,5 @@ NoneTouches g b l = (c : Cell) → IsIn c l → touches g b c ≡ false
 abbrev pub ShareElsewhere : Type 0
 ShareElsewhere =
     (g b : ℕ) (h : List Entry) (e : Entry) (gone fresh : List Cell) (c : Content) →
-    AreKeys (replay h) → IsNext h e gone fresh → (bucket_of g (point_of e.edit) == b) ≡ false → NoneTouches g b gone → NoneTouches g b fresh →
+    IsNext h e gone fresh → (bucket_of g (point_of e.edit) == b) ≡ false → NoneTouches g b gone → NoneTouches g b fresh →
     IsShare g b h c → IsShare g b (h ++ e ∷ []) c

@@ -17,3 +17,6 @@ pub use grid::{BadGrid, Grid};
 pub use hold::Hold;
 pub use mesh::Mesh;
 pub use star::{Across, Star};
+
+#[cfg(test)]
+mod tests;
