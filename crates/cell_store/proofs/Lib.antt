@@ -3,3 +3,4 @@ pub mod Members
 pub mod ShareLaws
 pub mod CellLaws
 pub mod NextLaws
+pub mod InsertLaws

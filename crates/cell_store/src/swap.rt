@@ -1,9 +1,9 @@
 //! Exchanges of cells in sorted lists.
 
-ghost use Rattle.std.specs.Prelude.{◌≡◌, IfOk, OnOk, not, ◌&&◌};
-ghost use Rattle.std.specs.List.{filter, list_any};
+ghost use Rattle.std.specs.Prelude.{◌≡◌, ◌≤◌, length, IfOk, OnOk, IfErr, not, ◌&&◌};
+ghost use Rattle.std.specs.List.{filter, list_any, insert};
 ghost use Rattle.point_order.specs.CellOrder.{cell_cmp};
-ghost use Rattle.cell_store.specs.Swaps.{touches as touches_of, is_cell_among, with_cell, without_cells, swapped};
+ghost use Rattle.cell_store.specs.Swaps.{touches as touches_of, is_cell_among, with_cell, swapped};
 
 use crate::grid::Grid;
 use point_order::Cell;
@@ -55,17 +55,27 @@ fn kept_cells(
         .collect(alloc)
 }
 
+// The place of the cell, or else that at which it belongs.
+fn place_among(list: &[Cell], cell: &Cell) -> Result<usize, usize>
+    ensures there { OnOk result (with_cell cell.now list.now ≡ list.now) }
+    ensures absent { IfErr result (λ i. (i ≤ length list.now) × (insert list.now i cell.now ≡ with_cell cell.now list.now)) }
+{
+    for (i, other) in list.iter().enumerate() {
+        match compare(cell, other) {
+            Ordering::Less => return Err(i),
+            Ordering::Equal => return Ok(i),
+            Ordering::Greater => {}
+        }
+    }
+    Err(list.len())
+}
+
 // Puts the cell into the list, where it is not there.
 fn place(list: &mut Vec<Cell>, cell: Cell) -> Result<(), AllocError>
     ensures { OnOk result (list.new.items ≡ with_cell cell list.old.items) }
 {
-    match list.iter().position(|d| !compare(&cell, d).is_gt()) {
-        None => list.push(cell)?,
-        Some(i) => {
-            if compare(&cell, &list[i]).is_lt() {
-                list.insert(i, cell)?;
-            }
-        }
+    if let Err(i) = place_among(list, &cell) {
+        list.insert(i, cell)?;
     }
     Ok(())
 }
