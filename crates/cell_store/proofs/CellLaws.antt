@@ -262,3 +262,13 @@ drop_all [] zero h = refl
 drop_all [] (suc n) h = refl
 drop_all (c ∷ l) zero h = absurd (omega arith)
 drop_all (c ∷ l) (suc n) h = drop_all l n (omega arith)
+
+-- where none of a list passes a test, each fails it
+pub none_pass : (t : Cell → Bool) (l : List Cell) → list_any t l ≡ false → (c : Cell) → IsIn c l → t c ≡ false
+none_pass t [] e c m = absurd m
+none_pass t (d ∷ l) e c m = by (t d) refl e m (λ f k. none_pass t l f c k)
+  where
+    by : (b : Bool) → t d ≡ b → (b || list_any t l) ≡ false → (d ≡ c) ⊎ IsIn c l → (list_any t l ≡ false → IsIn c l → t c ≡ false) → t c ≡ false
+    by true f e m r = cc
+    by false f e (inl q) r = sym (ap t q) ∙ f
+    by false f e (inr k) r = r e k

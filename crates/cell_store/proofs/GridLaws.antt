@@ -1,5 +1,5 @@
 -- Numbers of buckets.
-use Rattle.std.specs.Prelude.{◌≡◌, ℕ, ◌+◌, ◌*◌, ◌/◌, ◌<◌, Bool, true, ◌⊎◌, ◌==◌, ◌||◌}
+use Rattle.std.specs.Prelude.{◌≡◌, ℕ, ◌+◌, ◌*◌, ◌/◌, ◌<◌, true, ◌⊎◌}
 use Rattle.std.proofs.Common.{arith, refl, inl, inr, subst, sym, ◌%◌}
 use Rattle.std.proofs.lemmas.Bool.Decides.{nat_tests}
 use Rattle.point_order.specs.Coordinates.{x_of, y_of, z_of}

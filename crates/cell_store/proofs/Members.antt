@@ -1,11 +1,11 @@
 -- Members of lists of cells.
 use Rattle.std.specs.Prelude.{◌≡◌, ℕ, ◌+◌, zero, suc, ◌<◌, Bool, true, false, List, [], ◌∷◌, ◌⊎◌, length, slice_index_or}
-use Rattle.std.proofs.Common.{refl, sym, ◌∙◌, ap, subst, inl, inr, arith, take, add-one}
+use Rattle.std.proofs.Common.{sym, ◌∙◌, subst, inl, inr, arith, take, add-one}
 use Rattle.point_order.specs.declared.cell.Cell.{Cell}
 use Rattle.point_order.specs.declared.cell.Facet.{Facet}
 use Rattle.point_order.specs.Facets.{facets_of}
 use Rattle.point_order.specs.Sets.{IsIn}
-use Rattle.cell_store.specs.Others.{IsOtherOf, HaveNoOther}
+use Rattle.cell_store.specs.Others.{HaveNoOther}
 
 -- an element by its place is a member
 pub at-place : {X : Type 0} (l : List X) (i : ℕ) (x : X) → i < length l → x ≡ slice_index_or l i x → IsIn x l

@@ -1,10 +1,9 @@
 -- What an entry makes of the shares of a history.
-use Rattle.std.specs.Prelude.{◌≡◌, ℕ, ◌+◌, Bool, true, false, cond, not, ◌==◌, List, [], ◌∷◌, ◌++◌, ◌⊎◌, Option, None, Some}
+use Rattle.std.specs.Prelude.{◌≡◌, ℕ, ◌+◌, Bool, true, false, cond, not, ◌==◌, List, [], ◌∷◌, ◌++◌, Option, None, Some}
 use Rattle.std.specs.List.{filter}
 use Rattle.std.specs.Option.{option_map}
-use Rattle.std.proofs.Common.{refl, sym, ◌∙◌, ap, subst, inl, inr, arith}
+use Rattle.std.proofs.Common.{refl, sym, ◌∙◌, ap, subst, inl, inr}
 use Rattle.std.proofs.lemmas.Bool.{eqb-true}
-use Rattle.std.proofs.lemmas.Bool.Decides.{nat_tests}
 use Rattle.std.proofs.lemmas.List.Elements.{filter-append}
 use Rattle.std.proofs.lemmas.List.Kept.{IsStrictlySortedBy-filter}
 use Rattle.point_order.specs.declared.cell.Cell.{Cell}
@@ -15,17 +14,16 @@ use Rattle.point_order.proofs.SetLaws.{same-members, in-with, in-with_new, in-wi
 use Rattle.edit_history.specs.declared.history.Entry.{Entry}
 use Rattle.edit_history.specs.declared.history.Reply.{Reply}
 use Rattle.edit_history.specs.declared.history.Reply.TheVariants.{Inserted, Duplicate, Removed, Missing, Flat}
-use Rattle.edit_history.specs.Edits.{point_of, reply_to, changed, after}
+use Rattle.edit_history.specs.Edits.{point_of, changed, after}
 use Rattle.edit_history.specs.Histories.{replay, replay_from, IsLegal, IsLegalFrom}
-use Rattle.edit_history.proofs.SetEdits.{ascending-without}
 use Rattle.del_laws.proofs.Tests.{filtered_from, filtered_true}
 use Rattle.del_laws.proofs.PointSets.{filtered_ascending}
 use Rattle.del_laws.proofs.Ordered.{complex_is_sorted, same_members}
 use Rattle.cell_store.specs.Grids.{bucket_of}
-use Rattle.cell_store.specs.Buckets.{Content, InHand, bucket_at}
+use Rattle.cell_store.specs.Buckets.{Content, bucket_at}
 use Rattle.cell_store.specs.Swaps.{touches, swapped}
-use Rattle.cell_store.specs.Shares.{Stands, IsShare, points_share, cells_share, entries_share}
-use Rattle.cell_store.specs.Changes.{swapped_in, noted_in, IsSwapped, IsNoted, IsChange, IsNext, NoneTouches, EntryKeepsHold, ShareAfterEntry, ShareElsewhere}
+use Rattle.cell_store.specs.Shares.{IsShare, cells_share, entries_share}
+use Rattle.cell_store.specs.Changes.{swapped_in, noted_in, IsChange, EntryKeepsHold, ShareAfterEntry, ShareElsewhere}
 use Rattle.cell_store.proofs.CellLaws.{in_or_not, swapped_sorted, swapped_from, swapped_new, swapped_old, swapped_none}
 use Rattle.cell_store.proofs.ShareLaws.{ascending_replay}
 

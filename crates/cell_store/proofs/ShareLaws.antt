@@ -1,5 +1,5 @@
 -- What the buckets of a hold have of the complex for which the hold stands.
-use Rattle.std.specs.Prelude.{◌≡◌, ℕ, ◌+◌, suc, ◌<◌, Bool, true, false, cond, ◌==◌, List, [], ◌∷◌, ◌⊎◌, Option, None, Some, is_some, length, slice_index_or}
+use Rattle.std.specs.Prelude.{◌≡◌, ℕ, ◌+◌, ◌<◌, Bool, true, false, cond, ◌==◌, List, [], ◌∷◌, Option, None, Some, is_some, length, slice_index_or}
 use Rattle.std.specs.List.{filter}
 use Rattle.std.proofs.Common.{refl, sym, ◌∙◌, ap, subst, inl, inr, arith, take, add-one}
 use Rattle.std.proofs.lemmas.Bool.{eqb-true}
@@ -10,7 +10,7 @@ use Rattle.point_order.specs.declared.cell.Facet.{Facet}
 use Rattle.point_order.specs.declared.cell.Facet.TheVariants.{Three, Two}
 use Rattle.point_order.specs.Complex.{complex}
 use Rattle.point_order.specs.Facets.{points_of, facets_of, full_facets, open_facets}
-use Rattle.point_order.specs.Sets.{IsIn, IsAscending, is_among, with_point, without_point}
+use Rattle.point_order.specs.Sets.{IsIn, IsAscending, is_among}
 use Rattle.point_order.proofs.SetLaws.{ascending-with}
 use Rattle.edit_history.specs.declared.history.Entry.{Entry}
 use Rattle.edit_history.specs.declared.history.Reply.{Reply}
@@ -25,7 +25,7 @@ use Rattle.cell_store.specs.Grids.{bucket_of}
 use Rattle.cell_store.specs.Buckets.{Content, InHand, bucket_at}
 use Rattle.cell_store.specs.Swaps.{touches}
 use Rattle.cell_store.specs.Others.{IsOtherOf, HaveNoOther}
-use Rattle.cell_store.specs.Shares.{Stands, StandsWith, NoneInHand, IsInHandFor, IsAcross, cells_share, points_on}
+use Rattle.cell_store.specs.Shares.{Stands, StandsWith, NoneInHand, IsInHandFor, IsAcross, points_on}
 use Rattle.cell_store.proofs.Members.{in-take_more}
 
 -- ---- filters

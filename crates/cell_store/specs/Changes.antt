@@ -12,7 +12,7 @@ use Rattle.del_laws.specs.Keys.{AreKeys}
 use Rattle.cell_store.specs.Grids.{bucket_of}
 use Rattle.cell_store.specs.Swaps.{touches, swapped}
 use Rattle.cell_store.specs.Buckets.{Content, InHand, bucket_at}
-use Rattle.cell_store.specs.Shares.{Stands, IsShare, points_share, cells_share, entries_share}
+use Rattle.cell_store.specs.Shares.{Stands, IsShare}
 
 -- the bucket b after an exchange of cells
 abbrev pub swapped_in : ℕ → ℕ → List Cell → List Cell → Content → Content

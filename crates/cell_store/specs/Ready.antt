@@ -1,0 +1,26 @@
+-- What a hold keeps ready for an exchange of cells.
+use Rattle.std.specs.Prelude.{◌≡◌, ℕ, ◌<◌, List, Option, None, Some, length, slice_index_or}
+use Rattle.point_order.specs.declared.cell.Cell.{Cell}
+use Rattle.cell_store.specs.Buckets.{Content, bucket_at}
+use Rattle.cell_store.specs.Swaps.{swapped}
+use Rattle.cell_store.specs.Changes.{NoneTouches}
+
+-- no cell of the exchange touches the bucket
+abbrev pub IsUntouched : ℕ → ℕ → List Cell → List Cell → Type 0
+IsUntouched g b gone fresh = NoneTouches g b gone × NoneTouches g b fresh
+
+-- A bucket that the exchange touches is in hand, and the list of its cells after the exchange is ready; for another no list is.
+abbrev pub IsReadyAt : ℕ → ℕ → List Cell → List Cell → Option Content → Option (List Cell) → Type 0
+IsReadyAt g b gone fresh o None = IsUntouched g b gone fresh
+IsReadyAt g b gone fresh None (Some l) = ⊥
+IsReadyAt g b gone fresh (Some c) (Some l) = l ≡ swapped g b gone fresh c.cells
+
+-- a bucket that is not in hand is not touched
+abbrev pub IsHeldIfTouched : ℕ → ℕ → List Cell → List Cell → Option Content → Type 0
+IsHeldIfTouched g b gone fresh None = IsUntouched g b gone fresh
+IsHeldIfTouched g b gone fresh (Some c) = Unit {0}
+
+-- so at each number
+abbrev pub AreReady : ℕ → List Cell → List Cell → List (Option Content) → List (Option (List Cell)) → Type 0
+AreReady g gone fresh places lists =
+    (b : ℕ) → b < length places → IsReadyAt g b gone fresh (bucket_at places b) (slice_index_or lists b None)
