@@ -1,6 +1,8 @@
 -- What a hold keeps ready for an exchange of cells.
 use Rattle.std.specs.Prelude.{◌≡◌, ℕ, ◌<◌, List, Option, None, Some, length, slice_index_or}
+use Rattle.std.specs.List.Sorted.{IsStrictlySortedBy}
 use Rattle.point_order.specs.declared.cell.Cell.{Cell}
+use Rattle.point_order.specs.CellOrder.{cell_cmp}
 use Rattle.cell_store.specs.Buckets.{Content, bucket_at}
 use Rattle.cell_store.specs.Swaps.{swapped}
 use Rattle.cell_store.specs.Changes.{NoneTouches}
@@ -24,3 +26,13 @@ IsHeldIfTouched g b gone fresh (Some c) = Unit {0}
 abbrev pub AreReady : ℕ → List Cell → List Cell → List (Option Content) → List (Option (List Cell)) → Type 0
 AreReady g gone fresh places lists =
     (b : ℕ) → b < length places → IsReadyAt g b gone fresh (bucket_at places b) (slice_index_or lists b None)
+
+-- the bucket with its new list, where it has one
+abbrev pub with_list : Option Content → Option (List Cell) → Option Content
+with_list o None = o
+with_list None (Some l) = None
+with_list (Some c) (Some l) = Some (record c { cells = l })
+
+-- every list that is ready is in order
+abbrev pub AreInOrder : List (Option (List Cell)) → Type 0
+AreInOrder lists = (b : ℕ) (l : List Cell) → slice_index_or lists b None ≡ Some l → IsStrictlySortedBy cell_cmp l

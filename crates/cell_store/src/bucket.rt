@@ -2,7 +2,9 @@
 
 ghost use Rattle.std.specs.Prelude.{◌≡◌, [], None, IsPermutation, IfOk};
 ghost use Rattle.cell_store.specs.Buckets.{at_place};
+ghost use Rattle.std.specs.List.Sorted.{IsStrictlySortedBy};
 ghost use Rattle.std.specs.Slice.Iter.{iter_rest};
+ghost use Rattle.point_order.specs.CellOrder.{cell_cmp};
 ghost use Rattle.point_order.specs.Sets.{IsAscending, is_among};
 
 use crate::grid::Grid;
@@ -79,6 +81,14 @@ impl Bucket {
         ensures { result.now ≡ self.now.cells }
     {
         &self.cells
+    }
+
+    // Gives the bucket other cells, which are to be in order.
+    pub(crate) fn set_cells(&mut self, cells: Vec<Cell>)
+        requires { IsStrictlySortedBy cell_cmp cells.items }
+        ensures { self.new ≡ record self.old { cells = cells.items } }
+    {
+        self.cells = cells;
     }
 
     // Whether the point is one of the bucket's.

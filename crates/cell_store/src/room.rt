@@ -1,8 +1,10 @@
 //! What a hold keeps ready, so that an exchange of cells takes no memory.
 
-ghost use Rattle.std.specs.Prelude.{◌≡◌, ℕ, ◌*◌, ◌<◌, IfOk, length};
+ghost use Rattle.std.specs.Prelude.{◌≡◌, ℕ, ◌*◌, ◌<◌, IfOk, IfSome, None, length, slice_index_or};
+ghost use Rattle.std.specs.List.Sorted.{IsStrictlySortedBy};
+ghost use Rattle.point_order.specs.CellOrder.{cell_cmp};
 ghost use Rattle.cell_store.specs.Buckets.{bucket_at};
-ghost use Rattle.cell_store.specs.Ready.{IsReadyAt, IsHeldIfTouched, AreReady};
+ghost use Rattle.cell_store.specs.Ready.{IsReadyAt, IsHeldIfTouched, AreReady, AreInOrder, with_list};
 
 use crate::bucket::Bucket;
 use crate::grid::Grid;
@@ -24,6 +26,15 @@ impl Model for CellList {
     ghost Value = { List Cell };
 
     ghost view = { λ l. l.cells.items };
+}
+
+impl CellList {
+    // The list.
+    fn into_cells(self) -> Vec<Cell>
+        ensures { result.items ≡ self }
+    {
+        self.cells
+    }
 }
 
 // The list that the bucket at a number needs for an exchange, if the exchange touches it.
@@ -69,4 +80,26 @@ pub(crate) fn lists_for(
         lists.push(list)?;
     }
     Ok(lists)
+}
+
+// Gives the bucket its new list, where there is one.
+fn put_list(place: &mut Option<Bucket>, list: Option<CellList>)
+    requires { IfSome list (λ l. IsStrictlySortedBy cell_cmp l) }
+    ensures { place.new ≡ with_list place.old list }
+{
+    if let (Some(bucket), Some(list)) = (place, list) {
+        bucket.set_cells(list.into_cells());
+    }
+}
+
+// Gives every bucket its new list, where there is one.
+pub(crate) fn put_lists(places: &mut [Option<Bucket>], mut lists: Vec<Option<CellList>>)
+    requires len { length lists.items ≡ length places.old }
+    requires sorted { AreInOrder lists.items }
+    ensures { (b : ℕ) → bucket_at places.new b ≡ with_list (bucket_at places.old b) (slice_index_or lists.items b None) }
+{
+    for b in 0..lists.len() {
+        let list = lists[b].take();
+        put_list(&mut places[b], list);
+    }
 }
