@@ -4,3 +4,4 @@ pub mod ShareLaws
 pub mod CellLaws
 pub mod NextLaws
 pub mod InsertLaws
+pub mod RoomLaws

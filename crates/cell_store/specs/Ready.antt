@@ -1,8 +1,6 @@
 -- What a hold keeps ready for an exchange of cells.
 use Rattle.std.specs.Prelude.{◌≡◌, ℕ, ◌<◌, List, Option, None, Some, length, slice_index_or}
-use Rattle.std.specs.List.Sorted.{IsStrictlySortedBy}
 use Rattle.point_order.specs.declared.cell.Cell.{Cell}
-use Rattle.point_order.specs.CellOrder.{cell_cmp}
 use Rattle.cell_store.specs.Buckets.{Content, bucket_at}
 use Rattle.cell_store.specs.Swaps.{swapped}
 use Rattle.cell_store.specs.Changes.{NoneTouches}
@@ -33,6 +31,7 @@ with_list o None = o
 with_list None (Some l) = None
 with_list (Some c) (Some l) = Some (record c { cells = l })
 
--- every list that is ready is in order
-abbrev pub AreInOrder : List (Option (List Cell)) → Type 0
-AreInOrder lists = (b : ℕ) (l : List Cell) → slice_index_or lists b None ≡ Some l → IsStrictlySortedBy cell_cmp l
+-- the lists for an exchange, one for each place
+pub record IsReady (g : ℕ) (gone fresh : List Cell) (places : List (Option Content)) (lists : List (Option (List Cell))) : Type 0 where
+  pub count : length lists ≡ length places
+  pub ready : AreReady g gone fresh places lists

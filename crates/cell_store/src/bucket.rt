@@ -78,7 +78,8 @@ impl Bucket {
 
     // The cells, in order.
     pub(crate) fn cell_list(&self) -> &[Cell]
-        ensures { result.now ≡ self.now.cells }
+        ensures list { result.now ≡ self.now.cells }
+        ensures order { IsStrictlySortedBy cell_cmp self.now.cells }
     {
         &self.cells
     }

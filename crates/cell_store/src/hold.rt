@@ -10,10 +10,12 @@ ghost use Rattle.edit_history.specs.Histories.{replay};
 ghost use Rattle.cell_store.specs.Grids.{is_grid_size, bucket_of as number_of};
 ghost use Rattle.cell_store.specs.Buckets.{no_room, bucket_at, points_in, cells_in, at_place, FitsPlace};
 ghost use Rattle.cell_store.specs.Shares.{Stands, StandsWith, NoneInHand, IsInHandFor};
+ghost use Rattle.cell_store.specs.Changes.{IsSwapped};
 ghost use Rattle.cell_store.specs.Stars.{cells_left, AcrossGives};
 
 use crate::bucket::Bucket;
 use crate::grid::Grid;
+use crate::room::{Exchange, put_lists};
 use crate::star::{Across, Star, facet_points, other_on};
 use point_order::{Cell, Facet, Point};
 use std::alloc::{AllocError, Global};
@@ -26,17 +28,20 @@ use std::marker::Model;
 pub struct Hold {
     grid: Grid,
     places: Vec<Option<Bucket>>,
+    exchange: Option<Exchange>,
 }
 
 impl Model for Hold {
-    ghost use Rattle.std.specs.Prelude.{◌≡◌, ◌*◌, length};
-    ghost use Rattle.cell_store.specs.Buckets.{InHand, no_room};
+    ghost use Rattle.std.specs.Prelude.{◌≡◌, ◌*◌, length, IfSome, None};
+    ghost use Rattle.std.specs.Option.{option_map};
+    ghost use Rattle.cell_store.specs.Buckets.{InHand};
+    ghost use Rattle.cell_store.specs.Ready.{IsReady};
 
     ghost Value = { InHand };
 
-    ghost view = { λ h. record { grid = h.grid; places = h.places.items; room = no_room } };
+    ghost view = { λ h. record { grid = h.grid; places = h.places.items; room = record { swap = option_map (λ e. (e.gone.items, e.fresh.items)) h.exchange; push = None } } };
 
-    ghost invariant = { λ h. length h.places.items ≡ h.grid * h.grid * h.grid };
+    ghost invariant = { λ h. (length h.places.items ≡ h.grid * h.grid * h.grid) × IfSome h.exchange (λ e. IsReady h.grid e.gone.items e.fresh.items h.places.items e.lists.items) };
 }
 
 impl Hold {
@@ -52,7 +57,11 @@ impl Hold {
         for _ in 0..count {
             places.push(None)?;
         }
-        Ok(Hold { grid, places })
+        Ok(Hold {
+            grid,
+            places,
+            exchange: None,
+        })
     }
 
     /// The grid whose buckets these are.
@@ -99,6 +108,7 @@ impl Hold {
         ensures bucket { bucket_at self.old.places b ≡ Some result }
         ensures after { self.new ≡ record self.old { places = slice_set self.old.places b None; room = no_room } }
     {
+        self.exchange = None;
         match self.places[b as usize].take() {
             Some(bucket) => bucket,
             None => unreachable!(),
@@ -171,6 +181,18 @@ impl Hold {
                 [first, ..] => Across::Need(self.grid().bucket_of(*first)),
                 [] => unreachable!(),
             },
+        }
+    }
+
+    /// Takes the gone cells out of the buckets of their finite vertices, and puts the fresh ones in. There is to be room for this
+    /// exchange, which it uses up. It takes no memory.
+    pub fn swap_cells(&mut self, gone: &[Cell], fresh: &[Cell])
+        requires { self.old.room.swap ≡ Some (gone.now, fresh.now) }
+        ensures swapped { IsSwapped gone.now fresh.now self.old self.new }
+        ensures room { self.new.room ≡ record self.old.room { swap = None } }
+    {
+        if let Some(exchange) = self.exchange.take() {
+            put_lists(&mut self.places, exchange.lists);
         }
     }
 }

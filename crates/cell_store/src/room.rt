@@ -1,10 +1,10 @@
 //! What a hold keeps ready, so that an exchange of cells takes no memory.
 
-ghost use Rattle.std.specs.Prelude.{◌≡◌, ℕ, ◌*◌, ◌<◌, IfOk, IfSome, None, length, slice_index_or};
+ghost use Rattle.std.specs.Prelude.{◌≡◌, ℕ, ◌*◌, ◌<◌, IfOk, None, length, slice_index_or};
 ghost use Rattle.std.specs.List.Sorted.{IsStrictlySortedBy};
 ghost use Rattle.point_order.specs.CellOrder.{cell_cmp};
 ghost use Rattle.cell_store.specs.Buckets.{bucket_at};
-ghost use Rattle.cell_store.specs.Ready.{IsReadyAt, IsHeldIfTouched, AreReady, AreInOrder, with_list};
+ghost use Rattle.cell_store.specs.Ready.{IsReadyAt, IsHeldIfTouched, AreReady, with_list};
 
 use crate::bucket::Bucket;
 use crate::grid::Grid;
@@ -13,7 +13,15 @@ use point_order::Cell;
 use std::alloc::{AllocError, Global};
 use std::marker::Model;
 
-// A list of cells. Contracts see it as the list.
+// The cells that go and come in an exchange, and for each number the list that the bucket has after it, if it is touched.
+#[derive(Debug, Drop)]
+pub(crate) struct Exchange {
+    pub(crate) gone: Vec<Cell>,
+    pub(crate) fresh: Vec<Cell>,
+    pub(crate) lists: Vec<Option<CellList>>,
+}
+
+// A list of cells in order. Contracts see it as the list.
 #[derive(Debug, Drop)]
 pub(crate) struct CellList {
     cells: Vec<Cell>,
@@ -21,17 +29,22 @@ pub(crate) struct CellList {
 
 impl Model for CellList {
     ghost use Rattle.std.specs.Prelude.{List};
+    ghost use Rattle.std.specs.List.Sorted.{IsStrictlySortedBy};
     ghost use Rattle.point_order.specs.declared.cell.Cell.{Cell};
+    ghost use Rattle.point_order.specs.CellOrder.{cell_cmp};
 
     ghost Value = { List Cell };
 
     ghost view = { λ l. l.cells.items };
+
+    ghost invariant = { λ l. IsStrictlySortedBy cell_cmp l.cells.items };
 }
 
 impl CellList {
     // The list.
     fn into_cells(self) -> Vec<Cell>
-        ensures { result.items ≡ self }
+        ensures list { result.items ≡ self }
+        ensures order { IsStrictlySortedBy cell_cmp result.items }
     {
         self.cells
     }
@@ -84,7 +97,6 @@ pub(crate) fn lists_for(
 
 // Gives the bucket its new list, where there is one.
 fn put_list(place: &mut Option<Bucket>, list: Option<CellList>)
-    requires { IfSome list (λ l. IsStrictlySortedBy cell_cmp l) }
     ensures { place.new ≡ with_list place.old list }
 {
     if let (Some(bucket), Some(list)) = (place, list) {
@@ -94,8 +106,7 @@ fn put_list(place: &mut Option<Bucket>, list: Option<CellList>)
 
 // Gives every bucket its new list, where there is one.
 pub(crate) fn put_lists(places: &mut [Option<Bucket>], mut lists: Vec<Option<CellList>>)
-    requires len { length lists.items ≡ length places.old }
-    requires sorted { AreInOrder lists.items }
+    requires { length lists.items ≡ length places.old }
     ensures { (b : ℕ) → bucket_at places.new b ≡ with_list (bucket_at places.old b) (slice_index_or lists.items b None) }
 {
     for b in 0..lists.len() {

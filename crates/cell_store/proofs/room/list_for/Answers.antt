@@ -1,7 +1,7 @@
 use Rattle.std.proofs.Common.{sym, ◌∙◌}
 use Rattle.cell_store.specs.Swaps.{touches}
 use Rattle.cell_store.proofs.Members.{not_true}
-use Rattle.cell_store.proofs.CellLaws.{none_pass}
+use Rattle.cell_store.proofs.CellLaws.{none_pass, swapped_sorted}
 use Rattle.cell_store.proofs.room.list_for.Goals as goal
 use Rattle.cell_store.proofs.room.list_for.Goals.{then-any_touches, else-any_touches}
 
@@ -15,3 +15,7 @@ returns-else-any_touches-2 c =
         none_pass t c.args.fresh.now (sym w.any_touches-else-any_touches.ensures ∙ sym w.value-is ∙ c.if-any_touches-2.false),
       )
     ]
+
+pub invariant_of-result : goal.invariant_of-result
+invariant_of-result c =
+    rw c.in_ok-cells.ensures (swapped_sorted c.args.grid c.args.b c.args.gone.now c.args.fresh.now c.cell_list.result.now (rw c.cell_list.ensures.list c.cell_list.ensures.order))
