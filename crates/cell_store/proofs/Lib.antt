@@ -5,3 +5,4 @@ pub mod CellLaws
 pub mod NextLaws
 pub mod InsertLaws
 pub mod RoomLaws
+pub mod NoteLaws

@@ -4,7 +4,6 @@ use Rattle.std.specs.Option.{option_map}
 use Rattle.std.proofs.Common.{refl, sym, ◌∙◌, ap, subst, inl, inr, arith, take}
 use Rattle.point_order.specs.declared.cell.Cell.{Cell}
 use Rattle.cell_store.specs.Buckets.{Content, InHand, bucket_at}
-use Rattle.cell_store.specs.Swaps.{swapped}
 use Rattle.cell_store.specs.Changes.{swapped_in, IsSwapped}
 use Rattle.cell_store.specs.Ready.{IsReadyAt, IsReady, with_list}
 use Rattle.cell_store.proofs.CellLaws.{swapped_none}

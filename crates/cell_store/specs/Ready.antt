@@ -1,7 +1,11 @@
--- What a hold keeps ready for an exchange of cells.
-use Rattle.std.specs.Prelude.{◌≡◌, ℕ, ◌<◌, List, Option, None, Some, length, slice_index_or}
+-- What a hold keeps ready for an exchange of cells and for an entry.
+use Rattle.std.specs.Prelude.{◌≡◌, ℕ, ◌<◌, List, Option, None, Some, IsSome, IsSomeAnd, length, slice_index_or}
 use Rattle.point_order.specs.declared.cell.Cell.{Cell}
-use Rattle.cell_store.specs.Buckets.{Content, bucket_at}
+use Rattle.point_order.specs.Facets.{points_of}
+use Rattle.point_order.specs.Sets.{IsIn, with_point}
+use Rattle.edit_history.specs.declared.history.Entry.{Entry}
+use Rattle.cell_store.specs.Grids.{bucket_of}
+use Rattle.cell_store.specs.Buckets.{Content, InHand, bucket_at}
 use Rattle.cell_store.specs.Swaps.{swapped}
 use Rattle.cell_store.specs.Changes.{NoneTouches}
 
@@ -35,3 +39,22 @@ with_list (Some c) (Some l) = Some (record c { cells = l })
 pub record IsReady (g : ℕ) (gone fresh : List Cell) (places : List (Option Content)) (lists : List (Option (List Cell))) : Type 0 where
   pub count : length lists ≡ length places
   pub ready : AreReady g gone fresh places lists
+
+-- the buckets of all finite vertices of the cells are in hand
+abbrev pub AreHeld : InHand → List Cell → Type 0
+AreHeld hold l = (c : Cell) → IsIn c l → (p : ℕ) → IsIn p (points_of c) → IsSome (bucket_at hold.places (bucket_of hold.grid p))
+
+-- The lists for an entry of a point: its bucket's points with that point, and its bucket's entries.
+pub record NoteLists : Type 0 where
+  pub point : ℕ
+  pub points : List ℕ
+  pub entries : List Entry
+
+-- they are those of the bucket
+pub record HasLists (p : ℕ) (c : Content) (n : NoteLists) : Type 0 where
+  pub points : n.points ≡ with_point p c.points
+  pub entries : n.entries ≡ c.entries
+
+-- the bucket of the note's point is in hand, and the note has its lists
+abbrev pub IsNoteReady : ℕ → List (Option Content) → NoteLists → Type 0
+IsNoteReady g places n = IsSomeAnd (bucket_at places (bucket_of g n.point)) (λ c. HasLists n.point c n)

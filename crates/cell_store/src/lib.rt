@@ -9,6 +9,7 @@ mod grid;
 mod hold;
 pub mod laws;
 mod mesh;
+mod note;
 mod room;
 mod star;
 mod swap;

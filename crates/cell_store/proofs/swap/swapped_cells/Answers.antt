@@ -1,4 +1,4 @@
-use Rattle.std.proofs.Common.{◌≡◌, ◌∙◌, ap, sym}
+use Rattle.std.proofs.Common.{◌∙◌, ap, sym}
 use Rattle.std.specs.List.{filter}
 use Rattle.cell_store.specs.Swaps.{touches, with_cells, swapped}
 use Rattle.cell_store.proofs.CellLaws.{kept_is, drop_all}
