@@ -71,13 +71,12 @@ fn entries(rt: HostRuntime) -> Result<(), Fail> {
     let p = Point::new(0, 0, 0)?;
     let none: [Cell; 0] = [];
     let rows = [
-        (Edit::Add(p), Reply::Inserted, 1),
-        (Edit::Add(p), Reply::Duplicate, 1),
-        (Edit::Take(p), Reply::Removed, 0),
-        (Edit::Take(p), Reply::Missing, 0),
+        (0, Edit::Add(p), Reply::Inserted, 1, 1),
+        (1, Edit::Add(p), Reply::Duplicate, 1, 2),
+        (2, Edit::Take(p), Reply::Removed, 0, 3),
+        (3, Edit::Take(p), Reply::Missing, 0, 4),
     ];
-    let mut number = 0;
-    for (edit, reply, points) in rows {
+    for (number, edit, reply, points, entries) in rows {
         assert!(rt; hold.has(hold.grid().bucket_of(edit.point())));
         hold.reserve(rt.alloc(), &none, &none, edit.point())?;
         hold.swap_cells(&none, &none);
@@ -88,12 +87,11 @@ fn entries(rt: HostRuntime) -> Result<(), Fail> {
             edit,
             reply,
         });
-        number += 1;
         assert!(rt; hold.has(0));
         let copy = hold.copy_of(rt.alloc(), 0)?;
         assert_eq!(rt; copy.points().len(), points);
         assert_eq!(rt; copy.cells().count(), 0);
-        assert_eq!(rt; copy.entries().len() as u64, number);
+        assert_eq!(rt; copy.entries().len(), entries);
     }
     Ok(())
 }
