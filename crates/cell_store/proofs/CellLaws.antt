@@ -1,13 +1,13 @@
 -- The order of cells, and exchanges of cells in sorted lists.
-use Rattle.std.specs.Prelude.{◌≡◌, ℕ, Bool, true, false, cond, not, ◌&&◌, ◌||◌, List, [], ◌∷◌, ◌⊎◌}
-use Rattle.std.specs.List.{filter, AllByRecursion}
+use Rattle.std.specs.Prelude.{◌≡◌, ℕ, zero, suc, ◌≤◌, length, Bool, true, false, cond, not, ◌&&◌, ◌||◌, List, [], ◌∷◌, ◌⊎◌}
+use Rattle.std.specs.List.{filter, list_any, AllByRecursion}
 use Rattle.std.specs.List.Sorted.{IsStrictlySortedBy}
 use Rattle.std.specs.Ordering.{nat_cmp, is_eq, match_ordering, ordering_reverse}
 use Rattle.std.specs.Cmp.{both_ways}
 use Rattle.std.specs.Cmp.Lexicographic.{slice_cmp}
 use Rattle.std.specs.declared.cmp.Ordering.{Ordering}
 use Rattle.std.specs.declared.cmp.Ordering.TheVariants.{Less, Equal, Greater}
-use Rattle.std.proofs.Common.{refl, sym, ◌∙◌, ap, subst, inl, inr}
+use Rattle.std.proofs.Common.{refl, sym, ◌∙◌, ap, subst, inl, inr, arith, drop}
 use Rattle.std.proofs.lemmas.Cmp.{nat_list_cmp_total}
 use Rattle.std.proofs.lemmas.List.Kept.{IsStrictlySortedBy-filter}
 use Rattle.std.proofs.lemmas.Map.Text.{is_eq-slice_cmp}
@@ -255,3 +255,20 @@ withs_step t c cs l m e = by (t c) e
     by : (b : Bool) → m ≡ cond b (with_cell c l) l → with_cells (filter t cs) m ≡ with_cells (cond b (c ∷ filter t cs) (filter t cs)) l
     by true e = ap (with_cells (filter t cs)) e
     by false e = ap (with_cells (filter t cs)) e
+
+-- nothing is left of a list past its end
+pub drop_all : (l : List Cell) (n : ℕ) → length l ≤ n → drop n l ≡ []
+drop_all [] zero h = refl
+drop_all [] (suc n) h = refl
+drop_all (c ∷ l) zero h = absurd (omega arith)
+drop_all (c ∷ l) (suc n) h = drop_all l n (omega arith)
+
+-- where none of a list passes a test, each fails it
+pub none_pass : (t : Cell → Bool) (l : List Cell) → list_any t l ≡ false → (c : Cell) → IsIn c l → t c ≡ false
+none_pass t [] e c m = absurd m
+none_pass t (d ∷ l) e c m = by (t d) refl e m (λ f k. none_pass t l f c k)
+  where
+    by : (b : Bool) → t d ≡ b → (b || list_any t l) ≡ false → (d ≡ c) ⊎ IsIn c l → (list_any t l ≡ false → IsIn c l → t c ≡ false) → t c ≡ false
+    by true f e m r = cc
+    by false f e (inl q) r = sym (ap t q) ∙ f
+    by false f e (inr k) r = r e k

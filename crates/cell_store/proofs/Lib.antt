@@ -3,3 +3,6 @@ pub mod Members
 pub mod ShareLaws
 pub mod CellLaws
 pub mod NextLaws
+pub mod InsertLaws
+pub mod RoomLaws
+pub mod NoteLaws

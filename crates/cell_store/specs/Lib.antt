@@ -6,3 +6,4 @@ pub mod Stars
 pub mod Others
 pub mod Changes
 pub mod Meshes
+pub mod Ready

@@ -1,11 +1,16 @@
 //! Buckets.
 
-ghost use Rattle.std.specs.Prelude.{◌≡◌, [], None, IsPermutation, IfOk};
+ghost use Rattle.std.specs.Prelude.{◌≡◌, ◌∷◌, [], ◌++◌, None, IsPermutation, IfOk};
+ghost use Rattle.edit_history.specs.Edits.{point_of, changed};
 ghost use Rattle.cell_store.specs.Buckets.{at_place};
+ghost use Rattle.cell_store.specs.Ready.{HasLists};
+ghost use Rattle.std.specs.List.Sorted.{IsStrictlySortedBy};
 ghost use Rattle.std.specs.Slice.Iter.{iter_rest};
+ghost use Rattle.point_order.specs.CellOrder.{cell_cmp};
 ghost use Rattle.point_order.specs.Sets.{IsAscending, is_among};
 
 use crate::grid::Grid;
+use crate::note::{Note, points_after};
 use edit_history::Entry;
 use point_order::{Cell, Point};
 use std::alloc::{AllocError, Global};
@@ -76,9 +81,34 @@ impl Bucket {
 
     // The cells, in order.
     pub(crate) fn cell_list(&self) -> &[Cell]
-        ensures { result.now ≡ self.now.cells }
+        ensures list { result.now ≡ self.now.cells }
+        ensures order { IsStrictlySortedBy cell_cmp self.now.cells }
     {
         &self.cells
+    }
+
+    // Gives the bucket other cells, which are to be in order.
+    pub(crate) fn set_cells(&mut self, cells: Vec<Cell>)
+        requires { IsStrictlySortedBy cell_cmp cells.items }
+        ensures { self.new ≡ record self.old { cells = cells.items } }
+    {
+        self.cells = cells;
+    }
+
+    // Puts the entry last, and its point in or out as its reply says. The note is to be ready for it.
+    pub(crate) fn noted(self, note: Note, entry: Entry) -> Bucket
+        requires { HasLists (point_of entry.edit) self note }
+        ensures { result ≡ record self { points = changed self.points (point_of entry.edit) entry.reply; entries = self.entries ++ entry ∷ [] } }
+    {
+        let (ready, entries) = note.into_lists(entry);
+        let points = points_after(self.points, ready, entry.edit.point(), entry.reply);
+        let place = self.place;
+        Bucket {
+            points,
+            cells: self.cells,
+            entries,
+            place,
+        }
     }
 
     // Whether the point is one of the bucket's.

@@ -1,20 +1,26 @@
 //! Holds: the buckets in hand.
 
-ghost use Rattle.std.specs.Prelude.{◌≡◌, ℕ, ◌*◌, ◌<◌, true, None, Some, IsSome, is_some, IfOk, length, replicate, slice_set, List, MatchOption};
+ghost use Rattle.std.specs.Prelude.{◌≡◌, ℕ, ◌*◌, ◌<◌, true, None, Some, IsSome, is_some, IfOk, OnOk, OnErr, length, replicate, slice_set, List, MatchOption};
 ghost use Rattle.std.specs.List.{filter};
 ghost use Rattle.point_order.specs.Sets.{IsIn, is_among};
 ghost use Rattle.point_order.specs.Facets.{points_of, facets_of};
 ghost use Rattle.point_order.specs.Complex.{complex};
 ghost use Rattle.edit_history.specs.declared.history.Entry.{Entry};
+ghost use Rattle.edit_history.specs.Edits.{point_of};
 ghost use Rattle.edit_history.specs.Histories.{replay};
 ghost use Rattle.cell_store.specs.Grids.{is_grid_size, bucket_of as number_of};
 ghost use Rattle.cell_store.specs.Buckets.{no_room, bucket_at, points_in, cells_in, at_place, FitsPlace};
 ghost use Rattle.cell_store.specs.Shares.{Stands, StandsWith, NoneInHand, IsInHandFor};
+ghost use Rattle.cell_store.specs.Changes.{IsSwapped, IsNoted};
+ghost use Rattle.cell_store.specs.Ready.{AreHeld, IsReady};
 ghost use Rattle.cell_store.specs.Stars.{cells_left, AcrossGives};
 
 use crate::bucket::Bucket;
 use crate::grid::Grid;
+use crate::note::Note;
+use crate::room::{Exchange, lists_for, put_lists};
 use crate::star::{Across, Star, facet_points, other_on};
+use edit_history::Entry;
 use point_order::{Cell, Facet, Point};
 use std::alloc::{AllocError, Global};
 use std::marker::Model;
@@ -26,17 +32,21 @@ use std::marker::Model;
 pub struct Hold {
     grid: Grid,
     places: Vec<Option<Bucket>>,
+    exchange: Option<Exchange>,
+    note: Option<Note>,
 }
 
 impl Model for Hold {
-    ghost use Rattle.std.specs.Prelude.{◌≡◌, ◌*◌, length};
-    ghost use Rattle.cell_store.specs.Buckets.{InHand, no_room};
+    ghost use Rattle.std.specs.Prelude.{◌≡◌, ◌*◌, length, IfSome};
+    ghost use Rattle.std.specs.Option.{option_map};
+    ghost use Rattle.cell_store.specs.Buckets.{InHand};
+    ghost use Rattle.cell_store.specs.Ready.{IsReady, IsNoteReady};
 
     ghost Value = { InHand };
 
-    ghost view = { λ h. record { grid = h.grid; places = h.places.items; room = no_room } };
+    ghost view = { λ h. record { grid = h.grid; places = h.places.items; room = record { swap = option_map (λ e. (e.gone.items, e.fresh.items)) h.exchange; push = option_map (λ n. n.point) h.note } } };
 
-    ghost invariant = { λ h. length h.places.items ≡ h.grid * h.grid * h.grid };
+    ghost invariant = { λ h. (length h.places.items ≡ h.grid * h.grid * h.grid) × IfSome h.exchange (λ e. IsReady h.grid e.gone.items e.fresh.items h.places.items e.lists.items) × IfSome h.note (λ n. IsNoteReady h.grid h.places.items n) };
 }
 
 impl Hold {
@@ -52,7 +62,12 @@ impl Hold {
         for _ in 0..count {
             places.push(None)?;
         }
-        Ok(Hold { grid, places })
+        Ok(Hold {
+            grid,
+            places,
+            exchange: None,
+            note: None,
+        })
     }
 
     /// The grid whose buckets these are.
@@ -99,6 +114,8 @@ impl Hold {
         ensures bucket { bucket_at self.old.places b ≡ Some result }
         ensures after { self.new ≡ record self.old { places = slice_set self.old.places b None; room = no_room } }
     {
+        self.exchange = None;
+        self.note = None;
         match self.places[b as usize].take() {
             Some(bucket) => bucket,
             None => unreachable!(),
@@ -171,6 +188,77 @@ impl Hold {
                 [first, ..] => Across::Need(self.grid().bucket_of(*first)),
                 [] => unreachable!(),
             },
+        }
+    }
+
+    /// Makes room for one exchange of the gone for the fresh cells and for one entry of the point, which then take no memory. The
+    /// buckets of all finite vertices of the cells, and of the point, are to be in hand.
+    ///
+    /// # Errors
+    /// Want of memory. The room is then as before.
+    pub fn reserve(
+        &mut self,
+        alloc: Global,
+        gone: &[Cell],
+        fresh: &[Cell],
+        p: Point,
+    ) -> Result<(), AllocError>
+        requires gone { AreHeld self.old gone.now }
+        requires fresh { AreHeld self.old fresh.now }
+        requires point { IsSome (bucket_at self.old.places (number_of self.old.grid p)) }
+        ensures ok { OnOk result (self.new ≡ record self.old { room = record { swap = Some (gone.now, fresh.now); push = Some p } }) }
+        ensures err { OnErr result (self.new ≡ self.old) }
+    {
+        let exchange = self.exchange_for(alloc, gone, fresh)?;
+        let note = Note::new(alloc, self.bucket(self.grid().bucket_of(p)), p)?;
+        self.exchange = Some(exchange);
+        self.note = Some(note);
+        Ok(())
+    }
+
+    // The lists of all buckets for an exchange.
+    fn exchange_for(
+        &self,
+        alloc: Global,
+        gone: &[Cell],
+        fresh: &[Cell],
+    ) -> Result<Exchange, AllocError>
+        requires gone { AreHeld self.now gone.now }
+        requires fresh { AreHeld self.now fresh.now }
+        ensures gone { IfOk result (λ e. e.gone.items ≡ gone.now) }
+        ensures fresh { IfOk result (λ e. e.fresh.items ≡ fresh.now) }
+        ensures ready { IfOk result (λ e. IsReady self.now.grid gone.now fresh.now self.now.places e.lists.items) }
+    {
+        let lists = lists_for(alloc, self.grid(), &self.places, gone, fresh)?;
+        Ok(Exchange {
+            gone: Vec::from_slice(alloc, gone)?,
+            fresh: Vec::from_slice(alloc, fresh)?,
+            lists,
+        })
+    }
+
+    /// Takes the gone cells out of the buckets of their finite vertices, and puts the fresh ones in. There is to be room for this
+    /// exchange, which it uses up. It takes no memory.
+    pub fn swap_cells(&mut self, gone: &[Cell], fresh: &[Cell])
+        requires { self.old.room.swap ≡ Some (gone.now, fresh.now) }
+        ensures swapped { IsSwapped gone.now fresh.now self.old self.new }
+        ensures room { self.new.room ≡ record self.old.room { swap = None } }
+    {
+        if let Some(exchange) = self.exchange.take() {
+            put_lists(&mut self.places, exchange.lists);
+        }
+    }
+
+    /// Puts the entry last in the bucket of its point, and the point in or out as its reply says. There is to be room for an entry
+    /// of this point, which it uses up. It takes no memory.
+    pub fn push_entry(&mut self, entry: Entry)
+        requires { self.old.room.push ≡ Some (point_of entry.edit) }
+        ensures noted { IsNoted entry self.old self.new }
+        ensures room { self.new.room ≡ record self.old.room { push = None } }
+    {
+        let b = self.grid().bucket_of(entry.edit.point()) as usize;
+        if let (Some(note), Some(bucket)) = (self.note.take(), self.places[b].take()) {
+            self.places[b] = Some(bucket.noted(note, entry));
         }
     }
 }

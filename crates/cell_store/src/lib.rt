@@ -9,7 +9,10 @@ mod grid;
 mod hold;
 pub mod laws;
 mod mesh;
+mod note;
+mod room;
 mod star;
+mod swap;
 
 pub use bucket::{Bucket, BucketCells};
 pub use grid::{BadGrid, Grid};

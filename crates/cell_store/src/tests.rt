@@ -1,7 +1,8 @@
 //! The sizes of grids, the numbers of buckets, and that the calls that want memory succeed where there is enough.
 
 use crate::{BadGrid, Bucket, Grid, Hold};
-use point_order::Point;
+use edit_history::{Edit, Entry, Reply};
+use point_order::{Cell, Point};
 use std::test::Fail;
 
 #[test]
@@ -60,5 +61,37 @@ fn places(rt: HostRuntime) -> Result<(), Fail> {
     let bucket = hold.take(b);
     assert!(rt; !hold.has(b));
     assert_eq!(rt; bucket.entries().len(), 0);
+    Ok(())
+}
+
+#[test]
+fn entries(rt: HostRuntime) -> Result<(), Fail> {
+    let mut hold = Hold::empty(rt.alloc(), Grid::new(2)?)?;
+    hold.put(0, Bucket::new(rt.alloc()));
+    let p = Point::new(0, 0, 0)?;
+    let none: [Cell; 0] = [];
+    let rows = [
+        (0, Edit::Add(p), Reply::Inserted, 1, 1),
+        (1, Edit::Add(p), Reply::Duplicate, 1, 2),
+        (2, Edit::Take(p), Reply::Removed, 0, 3),
+        (3, Edit::Take(p), Reply::Missing, 0, 4),
+    ];
+    for (number, edit, reply, points, entries) in rows {
+        assert!(rt; hold.has(hold.grid().bucket_of(edit.point())));
+        hold.reserve(rt.alloc(), &none, &none, edit.point())?;
+        hold.swap_cells(&none, &none);
+        hold.push_entry(Entry {
+            number,
+            by: 0,
+            tag: 0,
+            edit,
+            reply,
+        });
+        assert!(rt; hold.has(0));
+        let copy = hold.copy_of(rt.alloc(), 0)?;
+        assert_eq!(rt; copy.points().len(), points);
+        assert_eq!(rt; copy.cells().count(), 0);
+        assert_eq!(rt; copy.entries().len(), entries);
+    }
     Ok(())
 }

@@ -3,4 +3,4 @@ use Rattle.cell_store.proofs.hold.Hold.cells_at.Goals as goal
 
 pub returns-clause-in_complex : goal.returns-clause-in_complex
 returns-clause-in_complex c h st =
-    star_is c.args.self.now h c.args.p c.grid.result c.bucket_of-b.result c.bucket.result.now c.cell_list.result.now st c.grid.ensures.grid c.bucket_of-b.ensures.number c.bucket.ensures c.cell_list.ensures
+    star_is c.args.self.now h c.args.p c.grid.result c.bucket_of-b.result c.bucket.result.now c.cell_list.result.now st c.grid.ensures.grid c.bucket_of-b.ensures.number c.bucket.ensures c.cell_list.ensures.list
