@@ -1,0 +1,5 @@
+pub mod Digs
+pub mod Turns
+pub mod Fills
+pub mod Judging
+pub mod Exploring

@@ -1,0 +1,38 @@
+-- What a turn of a dig answers, for a hold of buckets.
+use Rattle.std.specs.Prelude.{◌≡◌, ℕ, List, None}
+use Rattle.point_order.specs.declared.cell.Cell.{Cell}
+use Rattle.point_order.specs.Facets.{points_of}
+use Rattle.point_order.specs.Sets.{IsIn}
+use Rattle.edit_history.specs.declared.history.Entry.{Entry}
+use Rattle.edit_history.specs.Histories.{replay}
+use Rattle.hole_laws.specs.Edits.{GoesFrom}
+use Rattle.cell_store.specs.Grids.{bucket_of}
+use Rattle.cell_store.specs.Buckets.{InHand, bucket_at}
+use Rattle.cell_store.specs.Shares.{Stands}
+use Rattle.cell_store.specs.Ready.{AreHeld}
+use Rattle.cavity.specs.declared.dig.DigTurn.{DigTurn}
+use Rattle.cavity.specs.declared.dig.DigTurn.TheVariants.{Done, Need}
+use Rattle.cavity.specs.Digs.{Digging, IsDigIn, IsDoneIn}
+
+-- The hold stands for a history in whose complex the dig is one.
+abbrev pub StandsForDig : InHand → Digging → Type 0
+StandsForDig hold d = (h : List Entry) × Stands hold h × IsDigIn (replay h) d
+
+-- bucket b is not in hand, and has a finite point of a cell that p takes away
+pub record IsNeeded (hold : InHand) (s : List ℕ) (p b : ℕ) : Type 0 where
+  pub absent : bucket_at hold.places b ≡ None
+  pub cell : Cell
+  pub goes : GoesFrom s p cell
+  pub point : ℕ
+  pub has : IsIn point (points_of cell)
+  pub number : b ≡ bucket_of hold.grid point
+
+-- there is no such bucket
+abbrev pub NoneIsNeeded : InHand → List ℕ → ℕ → Type 0
+NoneIsNeeded hold s p = (b : ℕ) → IsNeeded hold s p b → ⊥
+
+-- Done where no bucket is needed, and then the dig is done, and the buckets of all points of its cells are in hand; else a bucket
+-- that is needed.
+abbrev pub TurnGives : InHand → List ℕ → Digging → DigTurn → Type 0
+TurnGives hold s d Done = NoneIsNeeded hold s d.point × IsDoneIn s d × AreHeld hold d.found
+TurnGives hold s d (Need b) = IsNeeded hold s d.point b

@@ -1,0 +1,114 @@
+//! Digs.
+
+ghost use Rattle.std.specs.Prelude.{◌≡◌, [], ◌∷◌, IfOk, OnOk, List};
+ghost use Rattle.edit_history.specs.declared.history.Entry.{Entry};
+ghost use Rattle.edit_history.specs.Histories.{replay};
+ghost use Rattle.cell_store.specs.Shares.{Stands};
+ghost use Rattle.cell_store.specs.Meshes.{AllInHand};
+ghost use Rattle.cavity.specs.Digs.{CanDig, IsDigIn};
+ghost use Rattle.cavity.specs.Turns.{StandsForDig, TurnGives};
+
+use crate::explore::{explore, missing_bucket, missing_point};
+use cell_store::Hold;
+use point_order::{Cell, Facet, Point};
+use std::alloc::{AllocError, Global};
+use std::marker::Model;
+
+/// The search for the cells that a new point takes away.
+///
+/// Contracts see it as a plain record: its point, the cells found, how many of them were explored, and the facets of these behind
+/// which a cell stays.
+#[derive(Debug, Drop)]
+pub struct Dig {
+    point: Point,
+    found: Vec<Cell>,
+    explored: usize,
+    rim: Vec<Facet>,
+}
+
+impl Model for Dig {
+    ghost use Rattle.cavity.specs.Digs.{Digging};
+
+    ghost Value = { Digging };
+
+    ghost view = { λ d. record { point = d.point; found = d.found.items; explored = d.explored; rim = d.rim.items } };
+}
+
+/// What a turn of a dig comes to.
+#[derive(Clone, Copy, Debug, PartialEq, Eq)]
+pub enum DigTurn {
+    /// All cells are found, and all buckets of their finite points are in hand.
+    Done,
+    /// The bucket with this number is not in hand, and has a finite point of a cell that the new point takes away.
+    Need(u32),
+}
+
+impl Dig {
+    /// The dig for a new point that begins in a cell that the point takes away.
+    ///
+    /// # Errors
+    /// Want of memory.
+    pub fn start(alloc: Global, p: Point, cell: Cell) -> Result<Dig, AllocError>
+        ensures begun { IfOk result (λ dig. dig ≡ record { point = p; found = cell ∷ []; explored = 0; rim = [] }) }
+        ensures digs { IfOk result (λ dig. (s : List ℕ) → CanDig s p cell → IsDigIn s dig) }
+    {
+        let _ = p.key();
+        let mut found = Vec::new(alloc);
+        found.push(cell)?;
+        Ok(Dig {
+            point: p,
+            found,
+            explored: 0,
+            rim: Vec::new(alloc),
+        })
+    }
+
+    /// Looks on over the buckets in hand, until all cells are found or a bucket is needed.
+    ///
+    /// The hold is to stand for some history in whose complex this is a dig; the answer is right for each such history. Between two
+    /// turns buckets may come to the hold.
+    ///
+    /// # Errors
+    /// Want of memory. The dig may then only be dropped.
+    pub fn advance(&mut self, _alloc: Global, hold: &Hold) -> Result<DigTurn, AllocError>
+        requires { StandsForDig hold.now self.old }
+        ensures point { OnOk result (self.new.point ≡ self.old.point) }
+        ensures digs { OnOk result ((h : List Entry) → Stands hold.now h → IsDigIn (replay h) self.old → IsDigIn (replay h) self.new) }
+        ensures turn { IfOk result (λ turn. (h : List Entry) → Stands hold.now h → IsDigIn (replay h) self.old → TurnGives hold.now (replay h) self.new turn) }
+        ensures all { IfOk result (λ turn. AllInHand hold.now → turn ≡ Done) }
+    {
+        if let Some(b) = missing_bucket(hold, &self.found) {
+            return Ok(DigTurn::Need(b));
+        }
+        while self.explored < self.found.len() {
+            let cell = self.found[self.explored];
+            if let Some(b) = missing_point(hold, cell.points()) {
+                return Ok(DigTurn::Need(b));
+            }
+            explore(self.point, hold, &cell, &mut self.found, &mut self.rim)?;
+            self.explored += 1;
+        }
+        Ok(DigTurn::Done)
+    }
+
+    // The point of the dig.
+    pub(crate) fn point(&self) -> Point
+        ensures { result ≡ self.now.point }
+    {
+        self.point
+    }
+
+    // The cells that were found.
+    pub(crate) fn found(&self) -> &[Cell]
+        ensures { result.now ≡ self.now.found }
+    {
+        &self.found
+    }
+
+    // The rim facets of those explored.
+    pub(crate) fn rim(&self) -> &[Facet]
+        ensures { result.now ≡ self.now.rim }
+    {
+        &self.rim
+    }
+}

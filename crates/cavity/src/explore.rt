@@ -1,0 +1,96 @@
+//! The steps of a dig, over the lists that it keeps.
+
+ghost use Rattle.std.specs.Prelude.{◌≡◌, ◌↔◌, ◌++◌, List, MatchOption, OnOk, IsTrue};
+ghost use Rattle.point_order.specs.Facets.{facets_of};
+ghost use Rattle.point_order.specs.Sets.{IsIn};
+ghost use Rattle.point_order.specs.declared.cell.Cell.{Cell};
+ghost use Rattle.point_order.specs.declared.cell.Facet.{Facet};
+ghost use Rattle.edit_history.specs.declared.history.Entry.{Entry};
+ghost use Rattle.edit_history.specs.Histories.{replay};
+ghost use Rattle.cell_store.specs.Shares.{Stands, NoneInHand, points_on};
+ghost use Rattle.cell_store.specs.Ready.{AreHeld};
+ghost use Rattle.cavity.specs.Exploring.{ArePointsHeld, IsBucketMissing, IsCellMissing, StandsForFound, Crosses, Explores};
+
+use crate::judge::{cell_across, goes};
+use cell_store::Hold;
+use point_order::{Cell, Facet, Point};
+use std::alloc::AllocError;
+
+// The bucket of one of the points that is not in hand, if there is one.
+pub(crate) fn missing_point(hold: &Hold, points: &[Point]) -> Option<u32>
+    ensures { MatchOption result (ArePointsHeld hold.now points.now) (λ b. IsBucketMissing hold.now points.now b) }
+{
+    let grid = hold.grid();
+    for p in points {
+        let b = grid.bucket_of(*p);
+        if !hold.has(b) {
+            return Some(b);
+        }
+    }
+    None
+}
+
+// The bucket of a finite point of one of the cells that is not in hand, if there is one.
+pub(crate) fn missing_bucket(hold: &Hold, cells: &[Cell]) -> Option<u32>
+    ensures { MatchOption result (AreHeld hold.now cells.now) (λ b. IsCellMissing hold.now cells.now b) }
+{
+    for cell in cells {
+        if let Some(b) = missing_point(hold, cell.points()) {
+            return Some(b);
+        }
+    }
+    None
+}
+
+// Whether the cell is among those found.
+fn is_found(found: &[Cell], cell: &Cell) -> bool
+    ensures { IsTrue result ↔ IsIn cell.now found.now }
+{
+    found.contains(cell)
+}
+
+// Crosses a facet of a found cell. The cell behind it goes, and is found, or it stays, and the facet is one of the rim.
+fn cross(
+    point: Point,
+    hold: &Hold,
+    cell: &Cell,
+    facet: &Facet,
+    found: &mut Vec<Cell>,
+    rim: &mut Vec<Facet>,
+) -> Result<(), AllocError>
+    requires stands { StandsForFound hold.now point found.old.items cell.now }
+    requires facet { IsIn facet.now (facets_of cell.now) }
+    requires held { ¬ (NoneInHand hold.now (points_on facet.now)) }
+    ensures more { OnOk result ((more : List Cell) × (found.new.items ≡ found.old.items ++ more)) }
+    ensures crossed { OnOk result ((h : List Entry) → Stands hold.now h → Crosses (replay h) point cell.now facet.now found.old.items rim.old.items found.new.items rim.new.items) }
+{
+    let other = cell_across(hold, cell, facet);
+    if !is_found(found, other) {
+        if goes(hold, other, point) {
+            found.push(*other)?;
+        } else {
+            rim.push(*facet)?;
+        }
+    }
+    Ok(())
+}
+
+// Crosses the four facets of a found cell, the buckets of whose points are all in hand.
+pub(crate) fn explore(
+    point: Point,
+    hold: &Hold,
+    cell: &Cell,
+    found: &mut Vec<Cell>,
+    rim: &mut Vec<Facet>,
+) -> Result<(), AllocError>
+    requires stands { StandsForFound hold.now point found.old.items cell.now }
+    requires held { ArePointsHeld hold.now (points_of cell.now) }
+    ensures more { OnOk result ((more : List Cell) × (found.new.items ≡ found.old.items ++ more)) }
+    ensures explored { OnOk result ((h : List Entry) → Stands hold.now h → Explores (replay h) point cell.now found.old.items rim.old.items found.new.items rim.new.items) }
+{
+    let facets = cell.facets();
+    for facet in &facets {
+        cross(point, hold, cell, facet, found, rim)?;
+    }
+    Ok(())
+}

@@ -1,0 +1,53 @@
+//! The cells that fill the hole.
+
+ghost use Rattle.std.specs.Prelude.{◌≡◌, ℕ, List, map, IfOk};
+ghost use Rattle.hole_laws.specs.Lists.{cell_over};
+ghost use Rattle.cavity.specs.Digs.{IsDone, IsDoneIn};
+ghost use Rattle.cavity.specs.Fills.{IsFilled, IsFacetApart};
+
+use crate::dig::Dig;
+use point_order::{Cell, Facet, Point};
+use std::alloc::{AllocError, Global};
+
+/// The cells that a new point takes away, and the cells that it brings.
+#[derive(Debug, Drop)]
+pub struct Fresh {
+    pub gone: Vec<Cell>,
+    pub fresh: Vec<Cell>,
+}
+
+// The cell of a facet and a point that is none of the facet's.
+fn cell_of(facet: &Facet, p: Point) -> Cell
+    requires { IsFacetApart facet.now p }
+    ensures { result ≡ cell_over facet.now p }
+{
+    match facet {
+        Facet::Three(tri) => {
+            let (a, b, c) = tri.corners();
+            Cell::full(p, a, b, c)
+        }
+        Facet::Two(pair) => match pair.points() {
+            [a, b] => Cell::hull(p, *a, *b),
+            _ => unreachable!(),
+        },
+    }
+}
+
+/// All cells that the dig's point takes away, and all that it brings, each once. The dig is to be done.
+///
+/// # Errors
+/// Want of memory.
+pub fn fill(alloc: Global, dig: &Dig) -> Result<Fresh, AllocError>
+    requires { IsDone dig.now }
+    ensures gone { IfOk result (λ f. f.gone.items ≡ dig.now.found) }
+    ensures filled { IfOk result (λ f. (s : List ℕ) → IsDoneIn s dig.now → IsFilled s dig.now.point f.gone.items f.fresh.items) }
+{
+    let gone = Vec::from_slice(alloc, dig.found())?;
+    let point = dig.point();
+    let rim = dig.rim();
+    let mut fresh = Vec::with_capacity(alloc, rim.len())?;
+    for facet in rim {
+        fresh.push(cell_of(facet, point))?;
+    }
+    Ok(Fresh { gone, fresh })
+}

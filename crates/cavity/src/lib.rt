@@ -1,0 +1,15 @@
+//! Insertion by cavities: the cells that a new point takes away, and those that it brings.
+//!
+//! The cells that a point takes away are one region, connected across facets. A `Dig` begins in one of them and looks across the
+//! facets of each that it finds, over the buckets in hand, until it needs another bucket or is done. `fill` then gives the cells.
+//! The definitions stand in `specs/`.
+#![tactic(auto)]
+
+mod dig;
+mod explore;
+mod fill_hole;
+mod judge;
+pub mod laws;
+
+pub use dig::{Dig, DigTurn};
+pub use fill_hole::{Fresh, fill};
