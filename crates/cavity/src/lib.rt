@@ -5,11 +5,13 @@
 //! The definitions stand in `specs/`.
 #![tactic(auto)]
 
+mod conflict_cell;
 mod dig;
 mod explore;
 mod fill_hole;
 mod judge;
 pub mod laws;
 
+pub use conflict_cell::cell_in_conflict;
 pub use dig::{Dig, DigTurn};
 pub use fill_hole::{Fresh, fill};
