@@ -1,6 +1,6 @@
 -- Crossing a facet of a found cell: the cell behind it is found, or the facet is one of the rim.
 use Rattle.std.specs.Prelude.{◌≡◌, ℕ, List, [], ◌∷◌, ◌++◌, ◌⊎◌}
-use Rattle.std.proofs.Common.{refl, sym, ◌∙◌, subst, inl, inr}
+use Rattle.std.proofs.Common.{refl, sym, subst, inl, inr}
 use Rattle.conv_laws.specs.Lists.{AreDistinct}
 use Rattle.point_order.specs.declared.cell.Cell.{Cell}
 use Rattle.point_order.specs.declared.cell.Facet.{Facet}

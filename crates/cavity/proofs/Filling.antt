@@ -1,24 +1,22 @@
 -- The cells that fill the hole of a dig that is done.
-use Rattle.std.specs.Prelude.{◌≡◌, ℕ, ◌≤◌, List, [], ◌∷◌, ◌⊎◌, length, take, map, IsSome}
+use Rattle.std.specs.Prelude.{ℕ, List, map, IsSome}
 use Rattle.std.specs.List.{flat_map}
-use Rattle.std.proofs.Common.{refl, sym, ◌∙◌, ap, subst, inl, inr}
+use Rattle.std.proofs.Common.{sym, subst, inl, inr}
 use Rattle.std.proofs.lemmas.List.{take_all}
 use Rattle.point_order.specs.declared.cell.Cell.{Cell}
 use Rattle.point_order.specs.declared.cell.Facet.{Facet}
-use Rattle.point_order.specs.Complex.{complex}
-use Rattle.point_order.specs.Facets.{facets_of, points_of}
-use Rattle.point_order.specs.Sets.{IsIn, with_point}
+use Rattle.point_order.specs.Facets.{facets_of}
+use Rattle.point_order.specs.Sets.{IsIn}
 use Rattle.del_laws.proofs.Listed.{listed_is_cell, listed_inside, mapped_true, mapped_from}
 use Rattle.hole_laws.specs.Lists.{cell_over}
 use Rattle.hole_laws.specs.Edits.{GoesFrom, IsRimOf, IsFresh}
 use Rattle.hole_laws.proofs.Laws.{cells_after, fresh_have_point, old_lack_point, region_connected, fresh_are_near}
 use Rattle.hole_laws.proofs.Once.{one_fresh_each}
 use Rattle.cell_store.specs.Grids.{bucket_of}
-use Rattle.cell_store.specs.Buckets.{InHand, bucket_at}
-use Rattle.cell_store.specs.Shares.{points_on}
-use Rattle.cavity.specs.Digs.{Digging, AreCrossed, IsDigIn, IsDoneIn, facets_of_first}
+use Rattle.cell_store.specs.Buckets.{bucket_at}
+use Rattle.cavity.specs.Digs.{Digging, AreCrossed, IsDoneIn}
 use Rattle.cavity.specs.Fills.{IsFilled, IsFacetApart, FreshAreHeld}
-use Rattle.cavity.proofs.Lists.{in_flat, flat_from, distinct_map}
+use Rattle.cavity.proofs.Lists.{in_flat, distinct_map}
 use Rattle.cavity.proofs.Standing.{on_cell}
 
 module _ (s : List ℕ) (d : Digging) (k : IsDoneIn s d) where

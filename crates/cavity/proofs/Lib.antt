@@ -6,3 +6,4 @@ pub mod Crossing
 pub mod Held
 pub mod Filling
 pub mod Exploration
+pub mod Advancing

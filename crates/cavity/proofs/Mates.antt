@@ -1,13 +1,13 @@
 -- The mate of an Open cell: the point against its triple in the cell behind it. What goes is judged by it.
-use Rattle.std.specs.Prelude.{◌≡◌, ℕ, ◌≤◌, ◌<◌, Bool, true, false, List, [], ◌∷◌, ◌⊎◌, length, MatchBool, not, Some, None}
+use Rattle.std.specs.Prelude.{◌≡◌, ℕ, Bool, true, false, List, [], ◌∷◌, ◌⊎◌, MatchBool, not, Some, None}
 use Rattle.std.specs.List.{find}
-use Rattle.std.proofs.Common.{refl, sym, ◌∙◌, ap, subst, inl, inr, arith}
+use Rattle.std.proofs.Common.{sym, subst, inl, inr, arith}
 use Rattle.point_order.specs.declared.cell.Cell.{Cell}
 use Rattle.point_order.specs.declared.cell.Cell.TheVariants.{Full, Open}
 use Rattle.point_order.specs.declared.cell.Facet.TheVariants.{Three}
 use Rattle.point_order.specs.Complex.{complex}
 use Rattle.point_order.specs.Conflicts.{is_in_conflict}
-use Rattle.point_order.specs.Facets.{facets_of, points_of}
+use Rattle.point_order.specs.Facets.{points_of}
 use Rattle.point_order.specs.Sets.{IsIn, ascending, is_among}
 use Rattle.point_order.proofs.SetLaws.{in-ascending}
 use Rattle.del_laws.specs.Listed.{IsListedFull}

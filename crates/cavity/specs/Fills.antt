@@ -3,7 +3,6 @@ use Rattle.std.specs.Prelude.{ℕ, List, IsSome}
 use Rattle.conv_laws.specs.Lists.{AreDistinct}
 use Rattle.point_order.specs.declared.cell.Cell.{Cell}
 use Rattle.point_order.specs.declared.cell.Facet.{Facet}
-use Rattle.point_order.specs.declared.cell.Facet.TheVariants.{Three, Two}
 use Rattle.point_order.specs.Complex.{complex}
 use Rattle.point_order.specs.Facets.{facets_of}
 use Rattle.point_order.specs.Sets.{IsIn, with_point}

@@ -1,11 +1,10 @@
-use Rattle.std.proofs.Common.{◌≡◌, sym, ◌∙◌, ap, subst, List, ℕ, ◌+◌, ◌++◌, take, length, [], ◌∷◌, slice_index_or, arith}
+use Rattle.std.proofs.Common.{sym, ◌∙◌, ap, subst, List, ◌++◌, take, length, [], ◌∷◌, arith}
 use Rattle.std.proofs.lemmas.List.{take_all}
 use Rattle.point_order.specs.declared.cell.Facet.{Facet}
-use Rattle.point_order.specs.Facets.{facets_of}
 use Rattle.edit_history.specs.Histories.{replay}
 use Rattle.cell_store.specs.Shares.{NoneInHand, points_on}
 use Rattle.cavity.specs.Digs.{AreCrossed}
-use Rattle.cavity.specs.Exploring.{IsAt, AreUncrossed}
+use Rattle.cavity.specs.Exploring.{AreUncrossed}
 use Rattle.cavity.proofs.Standing.{solid_set}
 use Rattle.cavity.proofs.Exploration.{facet_held, next_facet, next_uncrossed, still_at, one_more, more_twice, facets_few}
 use Rattle.cavity.proofs.explore.explore.Goals as goal

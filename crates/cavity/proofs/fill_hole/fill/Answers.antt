@@ -1,7 +1,3 @@
-use Rattle.std.proofs.Common.{sym, subst, List, ℕ}
-use Rattle.point_order.specs.declared.cell.Cell.{Cell}
-use Rattle.point_order.specs.declared.cell.Facet.{Facet}
-use Rattle.cavity.specs.Fills.{IsFilled, AreFacetsApart}
 use Rattle.cavity.proofs.Filling.{filled, rim_apart}
 use Rattle.cavity.proofs.fill_hole.fill.Goals as goal
 
