@@ -1,12 +1,12 @@
 -- The steps of a dig: the facets of found cells that are crossed.
-use Rattle.std.specs.Prelude.{◌≡◌, ℕ, ◌++◌, List, [], ◌∷◌, None, IsSome}
+use Rattle.std.specs.Prelude.{◌≡◌, ℕ, ◌<◌, ◌++◌, length, List, [], ◌∷◌, None, IsSome}
 use Rattle.point_order.specs.declared.cell.Cell.{Cell}
 use Rattle.point_order.specs.declared.cell.Facet.{Facet}
 use Rattle.point_order.specs.Facets.{facets_of, points_of}
 use Rattle.point_order.specs.Sets.{IsIn}
 use Rattle.edit_history.specs.declared.history.Entry.{Entry}
 use Rattle.edit_history.specs.Histories.{replay}
-use Rattle.hole_laws.specs.Edits.{IsNew, GoesFrom, IsRimOf}
+use Rattle.hole_laws.specs.Edits.{IsNew, IsRimOf}
 use Rattle.cell_store.specs.Grids.{bucket_of}
 use Rattle.cell_store.specs.Buckets.{InHand, bucket_at}
 use Rattle.cell_store.specs.Shares.{Stands}
@@ -21,6 +21,7 @@ pub record IsBucketMissing (hold : InHand) (ps : List ℕ) (b : ℕ) : Type 0 wh
   pub point : ℕ
   pub among : IsIn point ps
   pub number : b ≡ bucket_of hold.grid point
+  pub below : b < length hold.places
   pub absent : bucket_at hold.places b ≡ None
 
 -- bucket b is that of a finite point of one of the cells, and is not in hand
@@ -29,24 +30,34 @@ pub record IsCellMissing (hold : InHand) (cells : List Cell) (b : ℕ) : Type 0 
   pub among : IsIn cell cells
   pub missing : IsBucketMissing hold (points_of cell) b
 
--- the hold stands for a history in whose complex all found cells go, and the cell is one of them
-abbrev pub StandsForFound : InHand → ℕ → List Cell → Cell → Type 0
-StandsForFound hold p found cell =
-    (h : List Entry) × Stands hold h × IsNew (replay h) p × ((q : Cell) → IsIn q found → GoesFrom (replay h) p q) × IsIn cell found
+-- some facets of found cells were crossed, and the cell is one that was found
+pub record IsAt (s : List ℕ) (p : ℕ) (crossed : List Facet) (cell : Cell) (found : List Cell) (rim : List Facet) : Type 0 where
+  pub new : IsNew s p
+  pub so_far : AreCrossed s p crossed found rim
+  pub among : IsIn cell found
 
--- a rim facet of the cell was not crossed before
-abbrev pub IsUncrossed : List ℕ → ℕ → List Facet → Facet → Type 0
-IsUncrossed s p crossed f = IsRimOf s p f → ¬ (IsIn f crossed)
+-- a rim facet among these was not crossed before
+abbrev pub AreUncrossed : List ℕ → ℕ → List Facet → List Facet → Type 0
+AreUncrossed s p crossed fs = (f : Facet) → IsIn f fs → IsRimOf s p f → ¬ (IsIn f crossed)
+
+-- the hold stands for a history in which that is so
+abbrev pub StandsAt : InHand → ℕ → Cell → List Cell → List Facet → Type 0
+StandsAt hold p cell found rim = (h : List Entry) × Stands hold h × (crossed : List Facet) × IsAt (replay h) p crossed cell found rim
+
+-- and no rim facet of the cell was crossed
+abbrev pub StandsNewAt : InHand → ℕ → Cell → List Cell → List Facet → Type 0
+StandsNewAt hold p cell found rim =
+    (h : List Entry) × Stands hold h × (crossed : List Facet) × IsAt (replay h) p crossed cell found rim
+    × AreUncrossed (replay h) p crossed (facets_of cell)
 
 -- after the facet of the found cell was crossed, it is one of those crossed
 abbrev pub Crosses : List ℕ → ℕ → Cell → Facet → List Cell → List Facet → List Cell → List Facet → Type 0
 Crosses s p cell f found rim found' rim' =
-    (crossed : List Facet) → IsNew s p → AreCrossed s p crossed found rim → IsIn cell found → IsUncrossed s p crossed f →
+    (crossed : List Facet) → IsAt s p crossed cell found rim → AreUncrossed s p crossed (f ∷ []) →
     AreCrossed s p (crossed ++ f ∷ []) found' rim'
 
 -- after the found cell was explored, its facets are
 abbrev pub Explores : List ℕ → ℕ → Cell → List Cell → List Facet → List Cell → List Facet → Type 0
 Explores s p cell found rim found' rim' =
-    (crossed : List Facet) → IsNew s p → AreCrossed s p crossed found rim → IsIn cell found →
-    ((f : Facet) → IsIn f (facets_of cell) → IsUncrossed s p crossed f) →
+    (crossed : List Facet) → IsAt s p crossed cell found rim → AreUncrossed s p crossed (facets_of cell) →
     AreCrossed s p (crossed ++ facets_of cell) found' rim'

@@ -12,12 +12,3 @@ use Rattle.cell_store.specs.Shares.{Stands}
 -- the hold stands for a history of whose complex the cell is one, and p is a new point
 abbrev pub StandsWithNew : InHand → Cell → ℕ → Type 0
 StandsWithNew hold cell p = (h : List Entry) × Stands hold h × IsIn cell (complex (replay h)) × IsNew (replay h) p
-
--- all of l are in m
-abbrev pub AllAmong : List ℕ → List ℕ → Type 0
-AllAmong l m = (p : ℕ) → IsIn p l → IsIn p m
-
--- p is in l and not in m
-pub record IsAgainst (l m : List ℕ) (p : ℕ) : Type 0 where
-  pub here : IsIn p l
-  pub apart : ¬ (IsIn p m)

@@ -1,5 +1,5 @@
 -- What a turn of a dig answers, for a hold of buckets.
-use Rattle.std.specs.Prelude.{◌≡◌, ℕ, List, None}
+use Rattle.std.specs.Prelude.{◌≡◌, ℕ, ◌<◌, List, None}
 use Rattle.point_order.specs.declared.cell.Cell.{Cell}
 use Rattle.point_order.specs.Facets.{points_of}
 use Rattle.point_order.specs.Sets.{IsIn}
@@ -36,3 +36,8 @@ NoneIsNeeded hold s p = (b : ℕ) → IsNeeded hold s p b → ⊥
 abbrev pub TurnGives : InHand → List ℕ → Digging → DigTurn → Type 0
 TurnGives hold s d Done = NoneIsNeeded hold s d.point × IsDoneIn s d × AreHeld hold d.found
 TurnGives hold s d (Need b) = IsNeeded hold s d.point b
+
+-- the number that is asked for is one of n buckets
+abbrev pub AsksBelow : ℕ → DigTurn → Type 0
+AsksBelow n Done = Unit {0}
+AsksBelow n (Need b) = b < n

@@ -1,12 +1,12 @@
 //! Digs.
 
-ghost use Rattle.std.specs.Prelude.{◌≡◌, [], ◌∷◌, IfOk, OnOk, List};
+ghost use Rattle.std.specs.Prelude.{◌≡◌, ℕ, [], ◌∷◌, IfOk, OnOk, List, length};
 ghost use Rattle.edit_history.specs.declared.history.Entry.{Entry};
 ghost use Rattle.edit_history.specs.Histories.{replay};
 ghost use Rattle.cell_store.specs.Shares.{Stands};
 ghost use Rattle.cell_store.specs.Meshes.{AllInHand};
 ghost use Rattle.cavity.specs.Digs.{CanDig, IsDigIn};
-ghost use Rattle.cavity.specs.Turns.{StandsForDig, TurnGives};
+ghost use Rattle.cavity.specs.Turns.{StandsForDig, TurnGives, AsksBelow};
 
 use crate::explore::{explore, missing_bucket, missing_point};
 use cell_store::Hold;
@@ -75,7 +75,8 @@ impl Dig {
         ensures point { OnOk result (self.new.point ≡ self.old.point) }
         ensures digs { OnOk result ((h : List Entry) → Stands hold.now h → IsDigIn (replay h) self.old → IsDigIn (replay h) self.new) }
         ensures turn { IfOk result (λ turn. (h : List Entry) → Stands hold.now h → IsDigIn (replay h) self.old → TurnGives hold.now (replay h) self.new turn) }
-        ensures all { IfOk result (λ turn. AllInHand hold.now → turn ≡ Done) }
+        ensures below { IfOk result (λ turn. AsksBelow (length hold.now.places) turn) }
+        ensures all { IfOk result (λ turn. AllInHand hold.now → turn ≡ DigTurn.Done) }
     {
         if let Some(b) = missing_bucket(hold, &self.found) {
             return Ok(DigTurn::Need(b));

@@ -1,15 +1,14 @@
 //! The steps of a dig, over the lists that it keeps.
 
 ghost use Rattle.std.specs.Prelude.{◌≡◌, ◌↔◌, ◌++◌, List, MatchOption, OnOk, IsTrue};
-ghost use Rattle.point_order.specs.Facets.{facets_of};
+ghost use Rattle.point_order.specs.Facets.{facets_of, points_of};
 ghost use Rattle.point_order.specs.Sets.{IsIn};
 ghost use Rattle.point_order.specs.declared.cell.Cell.{Cell};
-ghost use Rattle.point_order.specs.declared.cell.Facet.{Facet};
 ghost use Rattle.edit_history.specs.declared.history.Entry.{Entry};
 ghost use Rattle.edit_history.specs.Histories.{replay};
 ghost use Rattle.cell_store.specs.Shares.{Stands, NoneInHand, points_on};
 ghost use Rattle.cell_store.specs.Ready.{AreHeld};
-ghost use Rattle.cavity.specs.Exploring.{ArePointsHeld, IsBucketMissing, IsCellMissing, StandsForFound, Crosses, Explores};
+ghost use Rattle.cavity.specs.Exploring.{ArePointsHeld, IsBucketMissing, IsCellMissing, StandsAt, StandsNewAt, Crosses, Explores};
 
 use crate::judge::{cell_across, goes};
 use cell_store::Hold;
@@ -58,7 +57,7 @@ fn cross(
     found: &mut Vec<Cell>,
     rim: &mut Vec<Facet>,
 ) -> Result<(), AllocError>
-    requires stands { StandsForFound hold.now point found.old.items cell.now }
+    requires stands { StandsAt hold.now point cell.now found.old.items rim.old.items }
     requires facet { IsIn facet.now (facets_of cell.now) }
     requires held { ¬ (NoneInHand hold.now (points_on facet.now)) }
     ensures more { OnOk result ((more : List Cell) × (found.new.items ≡ found.old.items ++ more)) }
@@ -83,7 +82,7 @@ pub(crate) fn explore(
     found: &mut Vec<Cell>,
     rim: &mut Vec<Facet>,
 ) -> Result<(), AllocError>
-    requires stands { StandsForFound hold.now point found.old.items cell.now }
+    requires stands { StandsNewAt hold.now point cell.now found.old.items rim.old.items }
     requires held { ArePointsHeld hold.now (points_of cell.now) }
     ensures more { OnOk result ((more : List Cell) × (found.new.items ≡ found.old.items ++ more)) }
     ensures explored { OnOk result ((h : List Entry) → Stands hold.now h → Explores (replay h) point cell.now found.old.items rim.old.items found.new.items rim.new.items) }

@@ -3,7 +3,7 @@
 ghost use Rattle.std.specs.Prelude.{◌≡◌, ℕ, List, map, IfOk};
 ghost use Rattle.hole_laws.specs.Lists.{cell_over};
 ghost use Rattle.cavity.specs.Digs.{IsDone, IsDoneIn};
-ghost use Rattle.cavity.specs.Fills.{IsFilled, IsFacetApart};
+ghost use Rattle.cavity.specs.Fills.{IsFilled, IsFacetApart, AreFacetsApart};
 
 use crate::dig::Dig;
 use point_order::{Cell, Facet, Point};
@@ -33,6 +33,18 @@ fn cell_of(facet: &Facet, p: Point) -> Cell
     }
 }
 
+// The cells of facets and a point that is none of theirs.
+fn cells_of(alloc: Global, facets: &[Facet], p: Point) -> Result<Vec<Cell>, AllocError>
+    requires { AreFacetsApart facets.now p }
+    ensures { IfOk result (λ cells. cells.items ≡ map (λ f. cell_over f p) facets.now) }
+{
+    let mut cells = Vec::with_capacity(alloc, facets.len())?;
+    for facet in facets {
+        cells.push(cell_of(facet, p))?;
+    }
+    Ok(cells)
+}
+
 /// All cells that the dig's point takes away, and all that it brings, each once. The dig is to be done.
 ///
 /// # Errors
@@ -43,11 +55,6 @@ pub fn fill(alloc: Global, dig: &Dig) -> Result<Fresh, AllocError>
     ensures filled { IfOk result (λ f. (s : List ℕ) → IsDoneIn s dig.now → IsFilled s dig.now.point f.gone.items f.fresh.items) }
 {
     let gone = Vec::from_slice(alloc, dig.found())?;
-    let point = dig.point();
-    let rim = dig.rim();
-    let mut fresh = Vec::with_capacity(alloc, rim.len())?;
-    for facet in rim {
-        fresh.push(cell_of(facet, point))?;
-    }
+    let fresh = cells_of(alloc, dig.rim(), dig.point())?;
     Ok(Fresh { gone, fresh })
 }

@@ -1,15 +1,16 @@
 //! Which cells of a complex a new point takes away, judged from the buckets in hand.
 
-ghost use Rattle.std.specs.Prelude.{List, MatchBool, MatchOption};
+ghost use Rattle.std.specs.Prelude.{◌≡◌, List, MatchBool, not};
+ghost use Rattle.std.specs.List.{find};
 ghost use Rattle.point_order.specs.Complex.{complex};
 ghost use Rattle.point_order.specs.Facets.{facets_of, points_of};
-ghost use Rattle.point_order.specs.Sets.{IsIn};
+ghost use Rattle.point_order.specs.Sets.{IsIn, is_among};
 ghost use Rattle.point_order.specs.declared.cell.Cell.TheVariants.{Open};
 ghost use Rattle.edit_history.specs.declared.history.Entry.{Entry};
 ghost use Rattle.edit_history.specs.Histories.{replay};
 ghost use Rattle.hole_laws.specs.Edits.{IsNew, IsMate, GoesFrom, StaysFrom};
 ghost use Rattle.cell_store.specs.Shares.{Stands, StandsWith, NoneInHand, IsAcross, points_on};
-ghost use Rattle.cavity.specs.Judging.{StandsWithNew, IsAgainst, AllAmong};
+ghost use Rattle.cavity.specs.Judging.{StandsWithNew};
 
 use cell_store::{Across, Hold};
 use point_order::{Cell, Facet, Point, Tri};
@@ -28,14 +29,11 @@ pub(crate) fn cell_across<'a>(hold: &'a Hold, cell: &Cell, facet: &Facet) -> &'a
     }
 }
 
-// A point of the cell that is none of the triple, if there is one.
-fn point_against(cell: &Cell, tri: &Tri) -> Option<Point>
-    ensures { MatchOption result (AllAmong (points_of cell.now) tri.now) (λ p. IsAgainst (points_of cell.now) tri.now p) }
+// The first point of a cell that another does not have, if there is one.
+fn point_against(cell: &Cell, other: &Cell) -> Option<Point>
+    ensures { result ≡ find (λ p. not (is_among p (points_of other.now))) (points_of cell.now) }
 {
-    cell.points()
-        .iter()
-        .find(|p| !tri.points().contains(p))
-        .copied()
+    cell.points().iter().copied().find(|p| !other.has(*p))
 }
 
 // The mate of an Open cell with a point in hand: the point against its triple in the Full cell behind it.
@@ -46,7 +44,7 @@ fn mate_of_triple(hold: &Hold, tri: &Tri) -> Point
 {
     let cell = Cell::Open(*tri);
     let facet = Facet::Three(*tri);
-    match point_against(cell_across(hold, &cell, &facet), tri) {
+    match point_against(cell_across(hold, &cell, &facet), &cell) {
         Some(mate) => mate,
         None => unreachable!(),
     }
