@@ -6,3 +6,4 @@ pub mod NextLaws
 pub mod InsertLaws
 pub mod RoomLaws
 pub mod NoteLaws
+pub mod MeshLaws

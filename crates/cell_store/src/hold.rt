@@ -1,7 +1,7 @@
 //! Holds: the buckets in hand.
 
-ghost use Rattle.std.specs.Prelude.{◌≡◌, ℕ, ◌*◌, ◌<◌, true, None, Some, IsSome, is_some, IfOk, OnOk, OnErr, length, replicate, slice_set, List, MatchOption};
-ghost use Rattle.std.specs.List.{filter};
+ghost use Rattle.std.specs.Prelude.{◌≡◌, ◌↔◌, IsTrue, ℕ, ◌*◌, ◌<◌, true, None, Some, IsSome, is_some, IfOk, OnOk, OnErr, length, replicate, slice_set, List, MatchOption};
+ghost use Rattle.std.specs.List.{filter, list_all};
 ghost use Rattle.point_order.specs.Sets.{IsIn, is_among};
 ghost use Rattle.point_order.specs.Facets.{points_of, facets_of};
 ghost use Rattle.point_order.specs.Complex.{complex};
@@ -189,6 +189,21 @@ impl Hold {
                 [] => unreachable!(),
             },
         }
+    }
+
+    /// Whether the buckets of all finite vertices of the cells are in hand.
+    pub fn holds_cells(&self, cells: &[Cell]) -> bool
+        ensures { IsTrue result ↔ AreHeld self.now cells.now }
+    {
+        cells.iter().all(|c| self.has_buckets_of(c.points()))
+    }
+
+    // Whether the buckets of all these points are in hand.
+    fn has_buckets_of(&self, points: &[Point]) -> bool
+        ensures { result ≡ list_all (λ p. is_some (bucket_at self.now.places (number_of self.now.grid p))) points.now }
+    {
+        let grid = self.grid();
+        points.iter().all(|p| self.has(grid.bucket_of(*p)))
     }
 
     /// Makes room for one exchange of the gone for the fresh cells and for one entry of the point, which then take no memory. The

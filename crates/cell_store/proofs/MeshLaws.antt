@@ -1,0 +1,292 @@
+-- Meshes, their histories, and buckets in hand.
+use Rattle.std.specs.Prelude.{◌≡◌, ℕ, ◌+◌, ◌-◌, ◌*◌, ◌^◌, zero, suc, ◌<◌, ◌≤◌, ◌==◌, min, nat_lt, Bool, true, false, cond, not, ◌&&◌, List, [], ◌∷◌, ◌++◌, Option, None, Some, IsSome, is_some, length, slice_index_or}
+use Rattle.std.specs.List.{filter, flat_map, range_with_len, list_all, All}
+use Rattle.std.specs.List.Sorted.{IsPermutation}
+use Rattle.std.specs.Option.{option_map, option_map_or}
+use Rattle.std.proofs.Common.{refl, sym, ◌∙◌, ap, subst, inl, inr, arith, take, length-append, add-one}
+use Rattle.std.proofs.Math.Seq.{take-length}
+use Rattle.std.proofs.lemmas.Bool.Decides.{nat_tests}
+use Rattle.std.proofs.lemmas.Grind.{flat_map-append}
+use Rattle.std.proofs.lemmas.List.{append-nil}
+use Rattle.std.proofs.lemmas.List.Sorted.{All-permutation, IsPermutation-append, IsPermutation-filter_both, IsPermutation-map, IsPermutation-refl, IsPermutation-sym, IsPermutation-trans, length_permutation}
+use Rattle.point_order.specs.declared.cell.Cell.{Cell}
+use Rattle.point_order.specs.Facets.{points_of}
+use Rattle.point_order.specs.Sets.{IsIn}
+use Rattle.edit_history.specs.declared.history.Entry.{Entry}
+use Rattle.edit_history.specs.Edits.{point_of, after}
+use Rattle.edit_history.specs.Histories.{IsLegalFrom}
+use Rattle.edit_history.specs.Merging.{numbers}
+use Rattle.edit_history.proofs.Lines.{at-in}
+use Rattle.del_laws.proofs.Tests.{all_from, all_true}
+use Rattle.cell_store.specs.Grids.{bucket_of}
+use Rattle.cell_store.specs.Buckets.{Content, InHand, bucket_at}
+use Rattle.cell_store.specs.Shares.{Stands, IsShare, entries_share}
+use Rattle.cell_store.specs.Changes.{IsSwapped, IsNoted, swapped_in, noted_in}
+use Rattle.cell_store.specs.Ready.{AreHeld}
+use Rattle.cell_store.specs.Meshes.{AllInHand, HasPlaces, IsMesh, Continues, IsChanged, IsCountOf, all_entries, OneHistory, MeshGathersHistory, AllAreHeld, FewerStand, MoreAreHeld}
+use Rattle.cell_store.proofs.GridLaws.{bucket-below}
+use Rattle.cell_store.proofs.NextLaws.{entry_keeps_hold}
+
+-- ---- options
+
+pub some_of : {X : Type 0} (o : Option X) → IsSome o → (x : X) × (o ≡ Some x)
+some_of None s = absurd (cc s)
+some_of (Some x) s = (x, refl)
+
+known_some : {X : Type 0} (o : Option X) (x : X) → o ≡ Some x → IsSome o
+known_some o x e = rw e refl
+
+some_mapped : {X Y : Type 0} (f : X → Y) (o : Option X) → IsSome o → IsSome (option_map f o)
+some_mapped f None s = s
+some_mapped f (Some x) s = refl
+
+mapped_twice : {X : Type 0} (f g : X → X) (o : Option X) → option_map g (option_map f o) ≡ option_map (λ x. g (f x)) o
+mapped_twice f g None = refl
+mapped_twice f g (Some x) = refl
+
+-- ---- what is in hand
+
+pub point_held : (hold : InHand) (p : ℕ) → HasPlaces hold → AllInHand hold → IsSome (bucket_at hold.places (bucket_of hold.grid p))
+point_held hold p has all = all (bucket_of hold.grid p) (subst (λ n. bucket_of hold.grid p < n) (sym has.places) (bucket-below hold.grid p has.size))
+
+pub all_are_held : AllAreHeld
+all_are_held hold l has all c k p i = point_held hold p has all
+
+pub fewer_stand : FewerStand
+fewer_stand few many h am st = record {
+  legal = st.legal;
+  keys = st.keys;
+  solid = st.solid;
+  shares = λ b c e. subst (λ g. IsShare g b h c) (sym am.grid) (st.shares b c (am.buckets b c e));
+}
+
+pub more_are_held : MoreAreHeld
+more_are_held few many l am held c k p i =
+    let s = some_of (bucket_at few.places (bucket_of few.grid p)) (held c k p i) in
+    subst (λ g. IsSome (bucket_at many.places (bucket_of g p))) am.grid (known_some (bucket_at many.places (bucket_of few.grid p)) s.0 (am.buckets (bucket_of few.grid p) s.0 s.1))
+
+-- the test whether cells are held
+pub held_test : (hold : InHand) (l : List Cell) (t : Bool) → t ≡ list_all (λ c. list_all (λ p. is_some (bucket_at hold.places (bucket_of hold.grid p))) (points_of c)) l → (t ≡ true → AreHeld hold l) × (AreHeld hold l → t ≡ true)
+held_test hold l t e = (
+  λ h c k p i. all_from (λ p. is_some (bucket_at hold.places (bucket_of hold.grid p))) (points_of c) (all_from (λ c. list_all (λ p. is_some (bucket_at hold.places (bucket_of hold.grid p))) (points_of c)) l (sym e ∙ h) c k) p i,
+  λ h. e ∙ all_true (λ c. list_all (λ p. is_some (bucket_at hold.places (bucket_of hold.grid p))) (points_of c)) l (λ c k. all_true (λ p. is_some (bucket_at hold.places (bucket_of hold.grid p))) (points_of c) (h c k)),
+)
+
+-- ---- filters
+
+-- two tests in turn are one that needs both
+filter_and : {X : Type 0} (p q r : X → Bool) (l : List X) → ((x : X) → (q x && p x) ≡ r x) → filter p (filter q l) ≡ filter r l
+filter_and p q r [] f = refl
+filter_and {X} p q r (x ∷ l) f = by (q x) (r x) (f x) (filter_and p q r l f)
+  where
+    by : (a c : Bool) → (a && p x) ≡ c → filter p (filter q l) ≡ filter r l → filter p (cond a (x ∷ filter q l) (filter q l)) ≡ cond c (x ∷ filter r l) (filter r l)
+    by true c e r' = ap (λ b. cond b (x ∷ filter p (filter q l)) (filter p (filter q l))) e ∙ ap (λ (m : List X). cond c (x ∷ m) m) r'
+    by false c e r' = r' ∙ ap (λ b. cond b (x ∷ filter r l) (filter r l)) e
+
+all_pass : {X : Type 0} (p : X → Bool) (l : List X) → ((x : X) → p x ≡ true) → filter p l ≡ l
+all_pass p [] f = refl
+all_pass {X} p (x ∷ l) f = rw (f x) (ap (λ (m : List X). x ∷ m) (all_pass p l f))
+
+none_pass : {X : Type 0} (p : X → Bool) (l : List X) → ((x : X) → p x ≡ false) → filter p l ≡ []
+none_pass p [] f = refl
+none_pass p (x ∷ l) f = rw (f x) (none_pass p l f)
+
+-- ---- the entries of the first buckets
+
+abbrev entries_of : Option Content → List Entry
+entries_of o = option_map_or (λ c. c.entries) o []
+
+-- the number of the entry's bucket is below n
+abbrev is_below : ℕ → ℕ → Entry → Bool
+is_below g n e = nat_lt (bucket_of g (point_of e.edit)) n
+
+-- it is n
+abbrev is_at : ℕ → ℕ → Entry → Bool
+is_at g n e = bucket_of g (point_of e.edit) == n
+
+-- the entries below one more number: those below, and those at it
+one_more : (g n : ℕ) (h : List Entry) → IsPermutation (filter (is_below g n) h ++ filter (is_at g n) h) (filter (is_below g (suc n)) h)
+one_more g n h =
+    let f = filter_and (is_below g n) (is_below g (suc n)) (is_below g n) h (λ e. lower (bucket_of g (point_of e.edit))) in
+    let k = filter_and (λ e. not (is_below g n e)) (is_below g (suc n)) (is_at g n) h (λ e. equal (bucket_of g (point_of e.edit))) in
+    let b = IsPermutation-filter_both (is_below g n) (λ e. not (is_below g n e)) (λ e. refl) (filter (is_below g (suc n)) h) in
+    IsPermutation-sym (filter (is_below g (suc n)) h) (filter (is_below g n) h ++ filter (is_at g n) h)
+    (subst (λ m. IsPermutation (filter (is_below g (suc n)) h) (filter (is_below g n) h ++ m)) k
+    (subst (λ m. IsPermutation (filter (is_below g (suc n)) h) (m ++ filter (λ e. not (is_below g n e)) (filter (is_below g (suc n)) h))) f b))
+  where
+    lower : (m : ℕ) → (nat_lt m (suc n) && nat_lt m n) ≡ nat_lt m n
+    lower m = grind (arith, nat_tests)
+
+    equal : (m : ℕ) → (nat_lt m (suc n) && not (nat_lt m n)) ≡ (m == n)
+    equal m = grind (arith, nat_tests)
+
+-- the first elements and one more
+take_next : {X : Type 0} (l : List X) (n : ℕ) (d : X) → n < length l → take (suc n) l ≡ take n l ++ slice_index_or l n d ∷ []
+take_next [] n d h = absurd (omega arith)
+take_next (x ∷ l) zero d h = refl
+take_next {X} (x ∷ l) (suc n) d h = ap (λ (m : List X). x ∷ m) (take_next l n d (omega arith))
+
+-- a bucket's entries are its share
+entries_are : (hold : InHand) (h : List Entry) (b : ℕ) → Stands hold h → IsSome (bucket_at hold.places b) → entries_of (bucket_at hold.places b) ≡ entries_share hold.grid b h
+entries_are hold h b st s =
+    let c = some_of (bucket_at hold.places b) s in
+    ap entries_of c.1 ∙ (st.shares b c.0 c.1).entries
+
+next_gathered : (l : List (Option Content)) (n : ℕ) → n < length l → flat_map entries_of (take (suc n) l) ≡ flat_map entries_of (take n l) ++ entries_of (bucket_at l n)
+next_gathered l n k = ap (flat_map entries_of) (take_next l n None k) ∙ flat_map-append entries_of (take n l) (bucket_at l n ∷ []) ∙ ap (λ (m : List Entry). flat_map entries_of (take n l) ++ m) (append-nil (entries_of (bucket_at l n)))
+
+gathered : (hold : InHand) (h : List Entry) → AllInHand hold → Stands hold h → (n : ℕ) → n ≤ length hold.places → IsPermutation (flat_map entries_of (take n hold.places)) (filter (is_below hold.grid n) h)
+gathered hold h all st zero k = rw (none_pass (is_below hold.grid 0) h (λ e. none (bucket_of hold.grid (point_of e.edit)))) (IsPermutation-refl [])
+  where
+    none : (m : ℕ) → nat_lt m 0 ≡ false
+    none m = grind (arith, nat_tests)
+gathered hold h all st (suc n) k =
+    let b : n < length hold.places = omega arith in
+    let e = next_gathered hold.places n b ∙ ap (λ (m : List Entry). flat_map entries_of (take n hold.places) ++ m) (entries_are hold h n st (all n b)) in
+    let p = IsPermutation-append (flat_map entries_of (take n hold.places)) (filter (is_below hold.grid n) h) (entries_share hold.grid n h) (entries_share hold.grid n h) (gathered hold h all st n (omega arith)) (IsPermutation-refl (entries_share hold.grid n h)) in
+    subst (λ m. IsPermutation m (filter (is_below hold.grid (suc n)) h)) (sym e)
+    (IsPermutation-trans (flat_map entries_of (take n hold.places) ++ entries_share hold.grid n h) (filter (is_below hold.grid n) h ++ entries_share hold.grid n h) (filter (is_below hold.grid (suc n)) h) p (one_more hold.grid n h))
+
+pub gathers : (hold : InHand) (h : List Entry) → HasPlaces hold → AllInHand hold → Stands hold h → IsPermutation (all_entries hold.places) h
+gathers hold h has all st =
+    let p = gathered hold h all st (length hold.places) (omega arith) in
+    let e = all_pass (is_below hold.grid (length hold.places)) h (λ e. below (bucket_of hold.grid (point_of e.edit)) (length hold.places) (subst (λ n. bucket_of hold.grid (point_of e.edit) < n) (sym has.places) (bucket-below hold.grid (point_of e.edit) has.size))) in
+    subst (λ m. IsPermutation (all_entries hold.places) m) e (subst (λ m. IsPermutation (flat_map entries_of m) (filter (is_below hold.grid (length hold.places)) h)) (take-length hold.places) p)
+  where
+    below : (m n : ℕ) → m < n → nat_lt m n ≡ true
+    below m n = grind (arith, nat_tests)
+
+-- ---- entries by number
+
+-- numbered from n on
+abbrev IsNumbered : ℕ → List Entry → Type 0
+IsNumbered n [] = Unit {0}
+IsNumbered n (e ∷ l) = (e.number ≡ n) × IsNumbered (n + 1) l
+
+legal_numbered : (n : ℕ) (s : List ℕ) (h : List Entry) → IsLegalFrom n s h → IsNumbered n h
+legal_numbered n s [] l = tt
+legal_numbered n s (e ∷ h) l = (l.0, legal_numbered (n + 1) (after s e.edit) h l.2)
+
+listed_numbered : (n : ℕ) (l : List Entry) → numbers l ≡ range_with_len n (length l) → IsNumbered n l
+listed_numbered n [] e = tt
+listed_numbered n (d ∷ l) e = (cc, listed_numbered (n + 1) l cc)
+
+numbers_are : (n : ℕ) (l : List Entry) → IsNumbered n l → numbers l ≡ range_with_len n (length l)
+numbers_are n [] k = refl
+numbers_are n (d ∷ l) k = rw k.0 (ap (λ (m : List ℕ). n ∷ m) (numbers_are (n + 1) l k.1))
+
+number_from : (n : ℕ) (l : List Entry) (e : Entry) → IsNumbered n l → IsIn e l → n ≤ e.number
+number_from n [] e k i = absurd i
+number_from n (d ∷ l) e k (inl q) = let s = ap (λ (x : Entry). x.number) q in omega (arith, s, k.0)
+number_from n (d ∷ l) e k (inr i) = let s = number_from (n + 1) l e k.1 i in omega arith
+
+-- numbered lists with the same entries are one
+same_numbered : (n : ℕ) (l h : List Entry) → IsNumbered n l → IsNumbered n h → ((e : Entry) → IsIn e l → IsIn e h) → ((e : Entry) → IsIn e h → IsIn e l) → l ≡ h
+same_numbered n [] [] k m f b = refl
+same_numbered n [] (e ∷ h) k m f b = absurd (b e (inl refl))
+same_numbered n (d ∷ l) [] k m f b = absurd (f d (inl refl))
+same_numbered n (d ∷ l) (e ∷ h) k m f b = rw first (ap (λ (t : List Entry). e ∷ t) (same_numbered (n + 1) l h k.1 m.1 forth back))
+  where
+    first : d ≡ e
+    first = elim (f d (inl refl)) [ inl q ↦ sym q | inr i ↦ (let s = number_from (n + 1) h d m.1 i in let t = k.0 in absurd (omega arith)) ]
+
+    forth : (x : Entry) → IsIn x l → IsIn x h
+    forth x i = elim (f x (inr i)) [ inl q ↦ (let s = number_from (n + 1) l x k.1 i in let t = ap (λ (y : Entry). y.number) q in let u = m.0 in absurd (omega arith)) | inr j ↦ j ]
+
+    back : (x : Entry) → IsIn x h → IsIn x l
+    back x i = elim (b x (inr i)) [ inl q ↦ (let s = number_from (n + 1) h x m.1 i in let t = ap (λ (y : Entry). y.number) q in let u = k.0 in absurd (omega arith)) | inr j ↦ j ]
+
+-- ---- members of a list in another order
+
+in_all : {X : Type 0} (P : X → Type 0) (l : List X) (x : X) → All P l → IsIn x l → P x
+in_all P [] x a i = absurd i
+in_all P (y ∷ l) x a (inl q) = subst P q (a 0 y (omega arith))
+in_all P (y ∷ l) x a (inr i) = in_all P l x (λ k d h. a (suc k) d (omega arith)) i
+
+in_moved : {X : Type 0} (xs ys : List X) (x : X) → IsPermutation xs ys → IsIn x ys → IsIn x xs
+in_moved xs ys x p i = in_all (λ y. IsIn y xs) ys x (All-permutation (λ y. IsIn y xs) xs ys p (λ k d h. at-in xs k d h)) i
+
+-- ---- the laws
+
+pub mesh_gathers : MeshGathersHistory
+mesh_gathers mesh h m st = record {
+  entries = p;
+  numbered = subst (λ n. IsPermutation (numbers (all_entries mesh.places)) (range_with_len 0 n)) (length_permutation (all_entries mesh.places) h p) (subst (IsPermutation (numbers (all_entries mesh.places))) (numbers_are 0 h k) (IsPermutation-map (λ (e : Entry). e.number) (all_entries mesh.places) h p));
+  ordered = λ l q e.
+      same_numbered 0 l h (listed_numbered 0 l e) k
+      (λ x i. in_moved h (all_entries mesh.places) x (IsPermutation-sym (all_entries mesh.places) h p) (in_moved (all_entries mesh.places) l x q i))
+      (λ x i. in_moved l (all_entries mesh.places) x (IsPermutation-sym (all_entries mesh.places) l q) (in_moved (all_entries mesh.places) h x p i));
+}
+  where
+    p : IsPermutation (all_entries mesh.places) h
+    p = gathers mesh h m.has m.all st
+
+    k : IsNumbered 0 h
+    k = legal_numbered 0 [] h st.legal
+
+pub one_history : OneHistory
+one_history mesh h k m s t =
+    (mesh_gathers mesh k m t).ordered h (gathers mesh h m.has m.all s) (numbers_are 0 h (legal_numbered 0 [] h s.legal))
+
+-- ---- the count
+
+-- what the loop over the buckets counts
+pub count_next : (l : List (Option Content)) (n count entries : ℕ) → n < length l → count ≡ min (length (flat_map entries_of (take n l))) (2 ^ 64 - 1) → entries ≡ length (entries_of (bucket_at l n)) → min (count + entries) (2 ^ 64 - 1) ≡ min (length (flat_map entries_of (take (n + 1) l))) (2 ^ 64 - 1)
+count_next l n count entries k e f =
+    let s = ap length (next_gathered l n k) ∙ length-append (flat_map entries_of (take n l)) (entries_of (bucket_at l n)) in
+    rw add-one (rw s (step _ _ _ _ e f))
+  where
+    step : (c n a b : ℕ) → c ≡ min a (2 ^ 64 - 1) → n ≡ b → min (c + n) (2 ^ 64 - 1) ≡ min (a + b) (2 ^ 64 - 1)
+    step c n a b = omega arith
+
+pub count_is : (hold : InHand) (n count : ℕ) → HasPlaces hold → AllInHand hold → length hold.places ≤ n → count ≡ min (length (flat_map entries_of (take n hold.places))) (2 ^ 64 - 1) → IsCountOf hold count
+count_is hold n count has all k e h st =
+    let p = length_permutation (all_entries hold.places) h (gathers hold h has all st) in
+    e ∙ ap (λ m. min (length (flat_map entries_of m)) (2 ^ 64 - 1)) (whole hold.places n k) ∙ ap (λ m. min m (2 ^ 64 - 1)) (sym p)
+  where
+    whole : {X : Type 0} (l : List X) (n : ℕ) → length l ≤ n → take n l ≡ l
+    whole [] zero k = refl
+    whole [] (suc n) k = refl
+    whole (x ∷ l) zero k = absurd (omega arith)
+    whole {X} (x ∷ l) (suc n) k = ap (λ (m : List X). x ∷ m) (whole l n (omega arith))
+
+-- ---- a mesh with other room, and after a change
+
+pub mesh_again : (old new : InHand) → new.grid ≡ old.grid → new.places ≡ old.places → IsMesh old → IsMesh new
+mesh_again old new e f m = record {
+  has = record { size = rw e m.has.size; places = ap length f ∙ m.has.places ∙ ap (λ g. g * g * g) (sym e) };
+  all = λ b k. subst (λ l. IsSome (bucket_at l b)) (sym f) (m.all b (subst (λ l. b < length l) f k));
+  history = m.history;
+  stands = stands_again new old m.history e f m.stands;
+}
+  where
+    stands_again : (new old : InHand) (h : List Entry) → new.grid ≡ old.grid → new.places ≡ old.places → Stands old h → Stands new h
+    stands_again new old h e f st = fewer_stand new old h (record { grid = e; buckets = λ b c k. sym (ap (λ l. bucket_at l b) f) ∙ k }) st
+
+pub count_again : (old new : InHand) (n : ℕ) → new.grid ≡ old.grid → new.places ≡ old.places → IsCountOf old n → IsCountOf new n
+count_again old new n e f k h st = k h (fewer_stand old new h (record { grid = sym e; buckets = λ b c q. ap (λ l. bucket_at l b) f ∙ q }) st)
+
+pub changed_is : (old between new : InHand) (gone fresh : List Cell) (e : Entry) → IsSwapped gone fresh old between → IsNoted e between new → IsChanged gone fresh e old new
+changed_is old between new gone fresh e sw nd = record {
+  grid = nd.grid ∙ sw.grid;
+  count = nd.count ∙ sw.count;
+  places = λ b. nd.places b ∙ ap (λ g. option_map (noted_in g b e) (bucket_at between.places b)) sw.grid ∙ ap (option_map (noted_in old.grid b e)) (sw.places b) ∙ mapped_twice (swapped_in old.grid b gone fresh) (noted_in old.grid b e) (bucket_at old.places b);
+}
+
+pub mesh_changed : (old between new : InHand) (gone fresh : List Cell) (e : Entry) → IsMesh old → Continues old e gone fresh → IsSwapped gone fresh old between → IsNoted e between new → IsMesh new
+mesh_changed old between new gone fresh e m next sw nd =
+    let ch = changed_is old between new gone fresh e sw nd in
+    record {
+      has = record { size = rw ch.grid m.has.size; places = ch.count ∙ m.has.places ∙ ap (λ g. g * g * g) (sym ch.grid) };
+      all = λ b k. subst IsSome (sym (ch.places b)) (some_mapped _ (bucket_at old.places b) (m.all b (subst (λ n. b < n) ch.count k)));
+      history = next.0 ++ e ∷ [];
+      stands = entry_keeps_hold next.0 e gone fresh old between new next.1 next.2 sw nd;
+    }
+
+pub count_changed : (old between new : InHand) (gone fresh : List Cell) (e : Entry) (n count : ℕ) → IsMesh old → Continues old e gone fresh → IsSwapped gone fresh old between → IsNoted e between new → IsCountOf old n → count ≡ min (n + 1) (2 ^ 64 - 1) → IsCountOf new count
+count_changed old between new gone fresh e n count m next sw nd k q h st =
+    let one = one_history new h (next.0 ++ e ∷ []) (mesh_changed old between new gone fresh e m next sw nd) st (entry_keeps_hold next.0 e gone fresh old between new next.1 next.2 sw nd) in
+    step count n (length next.0) (length h) q (k next.0 next.1) (ap length one ∙ length-append next.0 (e ∷ []))
+  where
+    step : (c n a b : ℕ) → c ≡ min (n + 1) (2 ^ 64 - 1) → n ≡ min a (2 ^ 64 - 1) → b ≡ a + 1 → c ≡ min b (2 ^ 64 - 1)
+    step c n a b = omega arith
