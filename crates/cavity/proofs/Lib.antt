@@ -7,3 +7,6 @@ pub mod Held
 pub mod Filling
 pub mod Exploration
 pub mod Advancing
+pub mod FourCells
+pub mod OpeningLaws
+pub mod Searching

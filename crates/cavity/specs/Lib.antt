@@ -4,3 +4,4 @@ pub mod Fills
 pub mod Judging
 pub mod Exploring
 pub mod Searching
+pub mod Opening

@@ -1,8 +1,14 @@
-//! What a filled hole needs. Each function here does nothing, and its contract is a law.
+//! What a filled hole needs, and the complex of four points. Each function here does nothing, and its contract is a law.
 
 ghost use Rattle.cavity.specs.Fills.{FreshAreHeld};
+ghost use Rattle.cavity.specs.Opening.{FourHaveFive};
 
 /// Where the buckets of all finite points of the gone cells are in hand, and that of the new point, those of the fresh cells are.
 pub fn fresh_cells_are_held()
     ensures { FreshAreHeld }
+{}
+
+/// The complex of four independent points has the Full cell of the four, and the Open cell on each of its facets.
+pub fn complex_of_four()
+    ensures { FourHaveFive }
 {}

@@ -10,8 +10,10 @@ mod dig;
 mod explore;
 mod fill_hole;
 mod judge;
+mod opening;
 pub mod laws;
 
 pub use conflict_cell::cell_in_conflict;
 pub use dig::{Dig, DigTurn};
+pub use opening::open_mesh;
 pub use fill_hole::{Fresh, fill};

@@ -203,7 +203,7 @@ in_all P [] x a i = absurd i
 in_all P (y ∷ l) x a (inl q) = subst P q (a 0 y (omega arith))
 in_all P (y ∷ l) x a (inr i) = in_all P l x (λ k d h. a (suc k) d (omega arith)) i
 
-in_moved : {X : Type 0} (xs ys : List X) (x : X) → IsPermutation xs ys → IsIn x ys → IsIn x xs
+pub in_moved : {X : Type 0} (xs ys : List X) (x : X) → IsPermutation xs ys → IsIn x ys → IsIn x xs
 in_moved xs ys x p i = in_all (λ y. IsIn y xs) ys x (All-permutation (λ y. IsIn y xs) xs ys p (λ k d h. at-in xs k d h)) i
 
 -- ---- the laws

@@ -132,10 +132,10 @@ replay_next h e l = from 0 [] h l
     from n s (d ∷ h) l = from (n + 1) (after s d.edit) h l.2
 
 -- the entries of a bucket with one more
-entries_after : (g b : ℕ) (h : List Entry) (e : Entry) → lies g b (point_of e.edit) ≡ true → entries_share g b h ++ e ∷ [] ≡ entries_share g b (h ++ e ∷ [])
+pub entries_after : (g b : ℕ) (h : List Entry) (e : Entry) → lies g b (point_of e.edit) ≡ true → entries_share g b h ++ e ∷ [] ≡ entries_share g b (h ++ e ∷ [])
 entries_after g b h e t = sym (filter-append (λ e. lies g b (point_of e.edit)) h (e ∷ []) ∙ ap (λ o. entries_share g b h ++ cond o (e ∷ []) []) t)
 
-entries_stay : (g b : ℕ) (h : List Entry) (e : Entry) → lies g b (point_of e.edit) ≡ false → entries_share g b h ≡ entries_share g b (h ++ e ∷ [])
+pub entries_stay : (g b : ℕ) (h : List Entry) (e : Entry) → lies g b (point_of e.edit) ≡ false → entries_share g b h ≡ entries_share g b (h ++ e ∷ [])
 entries_stay g b h e t = sym (filter-append (λ e. lies g b (point_of e.edit)) h (e ∷ []) ∙ ap (λ o. entries_share g b h ++ cond o (e ∷ []) []) t ∙ nil (entries_share g b h))
   where
     nil : (l : List Entry) → l ++ [] ≡ l
@@ -173,7 +173,7 @@ share_elsewhere g b h e gone fresh c next t f1 f2 sh = record {
 }
 
 -- the bucket before, where there is one after
-mapped_some : {X : Type 0} (f : X → X) (o : Option X) (y : X) → option_map f o ≡ Some y → (x : X) × (o ≡ Some x) × (f x ≡ y)
+pub mapped_some : {X : Type 0} (f : X → X) (o : Option X) (y : X) → option_map f o ≡ Some y → (x : X) × (o ≡ Some x) × (f x ≡ y)
 mapped_some {X} f None y e = absurd (cc e)
 mapped_some {X} f (Some x) y e = (x, refl, same (f x) y e)
   where

@@ -1,0 +1,62 @@
+-- The mesh of four independent points, with which every mesh begins.
+use Rattle.std.specs.Prelude.{◌≡◌, ℕ, ◌+◌, ◌*◌, ◌<◌, false, true, List, [], ◌∷◌, ◌↔◌, length, None, Some}
+use Rattle.point_order.specs.declared.cell.Cell.{Cell}
+use Rattle.point_order.specs.declared.cell.Cell.TheVariants.{Full, Open}
+use Rattle.point_order.specs.Complex.{complex}
+use Rattle.point_order.specs.Orientation.{is_flat}
+use Rattle.point_order.specs.Sets.{IsIn, IsAscending, ascending}
+use Rattle.point_order.specs.Solid.{is_solid}
+use Rattle.edit_history.specs.declared.history.Edit.TheVariants.{Add}
+use Rattle.edit_history.specs.declared.history.Entry.{Entry}
+use Rattle.edit_history.specs.declared.history.Reply.TheVariants.{Inserted}
+use Rattle.del_laws.specs.Keys.{AreKeys}
+use Rattle.cell_store.specs.Changes.{IsSwapped}
+use Rattle.cell_store.specs.Buckets.{Content, InHand, bucket_at, at_place}
+
+-- the Full cell of four ascending points, and the Open cell on each of its facets
+abbrev pub five_cells : ℕ → ℕ → ℕ → ℕ → List Cell
+five_cells a b c d =
+    Full (a ∷ b ∷ c ∷ d ∷ []) ∷ Open (a ∷ b ∷ c ∷ []) ∷ Open (a ∷ b ∷ d ∷ []) ∷ Open (a ∷ c ∷ d ∷ []) ∷ Open (b ∷ c ∷ d ∷ []) ∷ []
+
+-- The complex of four independent points has exactly these five cells.
+abbrev pub FourHaveFive : Type 0
+FourHaveFive =
+    (a b c d : ℕ) → IsAscending (a ∷ b ∷ c ∷ d ∷ []) → AreKeys (a ∷ b ∷ c ∷ d ∷ []) → is_solid (a ∷ b ∷ c ∷ d ∷ []) ≡ true →
+    (q : Cell) → IsIn q (complex (a ∷ b ∷ c ∷ d ∷ [])) ↔ IsIn q (five_cells a b c d)
+
+-- the entry of a point that one thread inserts, with its tag
+abbrev pub inserted : ℕ → ℕ × ℕ → Entry
+inserted number line = record { number = number; by = 0; tag = line.0; edit = Add line.1; reply = Inserted }
+
+-- the entries of points, numbered from n on, that one thread inserts
+abbrev pub inserted_from : ℕ → List (ℕ × ℕ) → List Entry
+inserted_from n [] = []
+inserted_from n (line ∷ lines) = inserted n line ∷ inserted_from (n + 1) lines
+
+-- the history that begins with these points, each with its tag
+abbrev pub opening_history : List (ℕ × ℕ) → List Entry
+opening_history four = inserted_from 0 four
+
+-- the points are four, and independent
+abbrev pub AreIndependent : List (ℕ × ℕ) → Type 0
+AreIndependent (a ∷ b ∷ c ∷ d ∷ []) = is_flat a.1 b.1 c.1 d.1 ≡ false
+AreIndependent _ = ⊥
+
+-- a bucket with nothing in it
+abbrev pub nothing : Content
+nothing = record { points = []; cells = []; entries = []; place = None }
+
+-- every bucket of the grid is in hand, with nothing in it
+pub record IsBare (g : ℕ) (hold : InHand) : Type 0 where
+  pub grid : hold.grid ≡ g
+  pub count : length hold.places ≡ g * g * g
+  pub bare : (b : ℕ) → b < length hold.places → bucket_at hold.places b ≡ Some (at_place g b nothing)
+
+-- the new hold has the five cells of the points besides, which are four
+pub record HasCellsOfFour (points : List ℕ) (old new : InHand) : Type 0 where
+  pub a : ℕ
+  pub b : ℕ
+  pub c : ℕ
+  pub d : ℕ
+  pub sorted : ascending points ≡ a ∷ b ∷ c ∷ d ∷ []
+  pub swapped : IsSwapped [] (five_cells a b c d) old new
