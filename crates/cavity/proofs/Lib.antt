@@ -10,3 +10,4 @@ pub mod Advancing
 pub mod FourCells
 pub mod OpeningLaws
 pub mod Searching
+pub mod Insertions

@@ -5,3 +5,4 @@ pub mod Judging
 pub mod Exploring
 pub mod Searching
 pub mod Opening
+pub mod Growing

@@ -9,11 +9,13 @@ mod conflict_cell;
 mod dig;
 mod explore;
 mod fill_hole;
+mod growth;
 mod judge;
 mod opening;
 pub mod laws;
 
 pub use conflict_cell::cell_in_conflict;
 pub use dig::{Dig, DigTurn};
+pub use growth::{insert, mesh_of_points};
 pub use opening::open_mesh;
 pub use fill_hole::{Fresh, fill};

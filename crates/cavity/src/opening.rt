@@ -41,7 +41,7 @@ fn bare_hold(alloc: Global, grid: Grid) -> Result<Hold, AllocError>
 }
 
 // The entry of a point that one thread inserts.
-fn entry_of(number: u64, tag: u32, point: Point) -> Entry
+pub(crate) fn entry_of(number: u64, tag: u32, point: Point) -> Entry
     ensures { result ≡ inserted number (tag, point) }
 {
     Entry {

@@ -1,0 +1,28 @@
+-- Meshes that grow point by point.
+use Rattle.std.specs.Prelude.{◌≡◌, ℕ, List, [], ◌∷◌, ◌++◌}
+use Rattle.point_order.specs.Sets.{IsIn}
+use Rattle.edit_history.specs.declared.history.Edit.TheVariants.{Add}
+use Rattle.edit_history.specs.declared.history.Entry.{Entry}
+use Rattle.edit_history.specs.declared.history.Reply.TheVariants.{Inserted}
+use Rattle.edit_history.specs.Edits.{point_of}
+use Rattle.edit_history.specs.Histories.{replay, IsLegal}
+use Rattle.cell_store.specs.Buckets.{InHand}
+use Rattle.cell_store.specs.Shares.{Stands}
+
+-- The entry inserts a point that is new after the history, and continues it.
+pub record IsInsertion (h : List Entry) (e : Entry) : Type 0 where
+  pub legal : IsLegal (h ++ e ∷ [])
+  pub edit : e.edit ≡ Add (point_of e.edit)
+  pub reply : e.reply ≡ Inserted
+
+-- the mesh stands for a history that the entry continues so
+abbrev pub CanInsert : InHand → Entry → Type 0
+CanInsert mesh e = (h : List Entry) × Stands mesh h × IsInsertion h e
+
+-- the mesh stands for a history that leaves exactly these points
+abbrev pub StandsForPoints : InHand → List ℕ → Type 0
+StandsForPoints mesh s = (h : List Entry) × Stands mesh h × (replay h ≡ s)
+
+-- the points of the tagged lines are all in the list
+abbrev pub AreAmong : List (ℕ × ℕ) → List ℕ → Type 0
+AreAmong lines s = (line : ℕ × ℕ) → IsIn line lines → IsIn line.1 s

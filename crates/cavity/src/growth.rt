@@ -1,0 +1,93 @@
+//! Meshes that grow point by point.
+
+ghost use Rattle.std.specs.Prelude.{◌≡◌, ◌++◌, ◌∷◌, [], true, List, IfOk, OnOk, OnErr};
+ghost use Rattle.point_order.specs.Sets.{IsAscending};
+ghost use Rattle.point_order.specs.Solid.{is_solid};
+ghost use Rattle.edit_history.specs.declared.history.Entry.{Entry};
+ghost use Rattle.edit_history.specs.Histories.{replay};
+ghost use Rattle.hole_laws.specs.Edits.{IsNew};
+ghost use Rattle.cell_store.specs.Shares.{Stands};
+ghost use Rattle.cavity.specs.Fills.{IsFilled};
+ghost use Rattle.cavity.specs.Growing.{IsInsertion, CanInsert, StandsForPoints, AreAmong};
+ghost use Rattle.cavity.specs.Opening.{AreIndependent};
+ghost use Rattle.cavity.specs.Searching.{StandsForNew};
+
+use crate::conflict_cell::cell_in_conflict;
+use crate::dig::{Dig, DigTurn};
+use crate::fill_hole::{Fresh, fill};
+use crate::opening::{entry_of, open_mesh};
+use cell_store::{Grid, Mesh};
+use edit_history::{Entry, find_four};
+use point_order::Point;
+use std::alloc::{AllocError, Global};
+
+// The cells that a new point takes away from a mesh, and those that it brings.
+fn change_by(alloc: Global, mesh: &Mesh, p: Point) -> Result<Fresh, AllocError>
+    requires { StandsForNew mesh.now p }
+    ensures { IfOk result (λ f. (h : List Entry) → Stands mesh.now h → IsNew (replay h) p → IsFilled (replay h) p f.gone.items f.fresh.items) }
+{
+    let hold = mesh.hold();
+    let cell = cell_in_conflict(hold, p);
+    let mut dig = Dig::start(alloc, p, cell)?;
+    match dig.advance(alloc, hold)? {
+        DigTurn::Done => fill(alloc, &dig),
+        DigTurn::Need(_) => unreachable!(),
+    }
+}
+
+/// Inserts a new point into a mesh. The entry is to continue the mesh's history with this insertion.
+///
+/// # Errors
+/// Want of memory. The mesh is then as before.
+pub fn insert(alloc: Global, mesh: &mut Mesh, entry: Entry) -> Result<(), AllocError>
+    requires { CanInsert mesh.old entry }
+    ensures grid { mesh.new.grid ≡ mesh.old.grid }
+    ensures stands { OnOk result ((h : List Entry) → Stands mesh.old h → IsInsertion h entry → Stands mesh.new (h ++ entry ∷ [])) }
+    ensures refused { OnErr result (mesh.new ≡ mesh.old) }
+{
+    let p = entry.edit.point();
+    let _ = p.key();
+    let Fresh { gone, fresh } = change_by(alloc, mesh, p)?;
+    mesh.reserve(alloc, &gone, &fresh, p)?;
+    mesh.change(&gone, &fresh, entry);
+    Ok(())
+}
+
+// Four independent points of a solid list, with 0 for their tags.
+fn four_of(points: &[Point]) -> [(u32, Point); 4]
+    requires { is_solid points.now ≡ true }
+    ensures independent { AreIndependent result }
+    ensures among { AreAmong result points.now }
+{
+    match find_four(points) {
+        Ok(four) => [
+            (0, points[four[0]]),
+            (0, points[four[1]]),
+            (0, points[four[2]]),
+            (0, points[four[3]]),
+        ],
+        Err(_) => unreachable!(),
+    }
+}
+
+/// A mesh of its own for a solid set of points, which ascend: the complex of these points, by insertions.
+///
+/// # Errors
+/// Want of memory.
+pub fn mesh_of_points(alloc: Global, grid: Grid, points: &[Point]) -> Result<Mesh, AllocError>
+    requires ascending { IsAscending points.now }
+    requires solid { is_solid points.now ≡ true }
+    ensures grid { IfOk result (λ mesh. mesh.grid ≡ grid) }
+    ensures stands { IfOk result (λ mesh. StandsForPoints mesh points.now) }
+{
+    let mut mesh = open_mesh(alloc, grid, four_of(points))?;
+    let mut number = 4;
+    for p in points {
+        let hold = mesh.hold();
+        if !hold.holds_point(*p) {
+            insert(alloc, &mut mesh, entry_of(number, 0, *p))?;
+            number += 1;
+        }
+    }
+    Ok(mesh)
+}
