@@ -7,3 +7,4 @@ pub mod Held
 pub mod Filling
 pub mod Exploration
 pub mod Advancing
+pub mod NextEntry
