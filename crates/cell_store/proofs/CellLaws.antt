@@ -1,13 +1,12 @@
 -- The order of cells, and exchanges of cells in sorted lists.
-use Rattle.std.specs.Prelude.{◌≡◌, ℕ, zero, suc, ◌≤◌, length, Bool, true, false, cond, not, ◌&&◌, ◌||◌, List, [], ◌∷◌, ◌⊎◌}
-use Rattle.std.specs.List.{filter, list_any, AllByRecursion}
+use Rattle.std.specs.Prelude.{◌≡◌, ℕ, Bool, true, false, not, ◌||◌, List, [], ◌∷◌, ◌⊎◌}
+use Rattle.std.specs.List.{filter, AllByRecursion}
 use Rattle.std.specs.List.Sorted.{IsStrictlySortedBy}
 use Rattle.std.specs.Ordering.{nat_cmp, is_eq, match_ordering, ordering_reverse}
-use Rattle.std.specs.Cmp.{both_ways}
 use Rattle.std.specs.Cmp.Lexicographic.{slice_cmp}
 use Rattle.std.specs.declared.cmp.Ordering.{Ordering}
 use Rattle.std.specs.declared.cmp.Ordering.TheVariants.{Less, Equal, Greater}
-use Rattle.std.proofs.Common.{refl, sym, ◌∙◌, ap, subst, inl, inr, arith, drop}
+use Rattle.std.proofs.Common.{refl, sym, ◌∙◌, ap, subst, inl, inr}
 use Rattle.std.proofs.lemmas.Cmp.{nat_list_cmp_total}
 use Rattle.std.proofs.lemmas.List.Kept.{IsStrictlySortedBy-filter}
 use Rattle.std.proofs.lemmas.Map.Text.{is_eq-slice_cmp}
@@ -68,7 +67,7 @@ all_by : {X : Type 0} (P : X → Type 0) (l : List X) → ((y : X) → IsIn y l 
 all_by P [] f = tt
 all_by P (x ∷ l) f = (f x (inl refl), all_by P l (λ y m. f y (inr m)))
 
-each_by : {X : Type 0} (P : X → Type 0) (l : List X) → AllByRecursion P l → (y : X) → IsIn y l → P y
+pub each_by : {X : Type 0} (P : X → Type 0) (l : List X) → AllByRecursion P l → (y : X) → IsIn y l → P y
 each_by P [] a y m = absurd m
 each_by P (x ∷ l) a y m = elim m [ inl q ↦ subst P q a.0 | inr r ↦ each_by P l a.1 y r ]
 
@@ -153,36 +152,36 @@ with_sorted c (d ∷ l) s = by (cell_cmp c d) refl (with_sorted c l s.1)
 
 -- ---- more cells
 
-in_withs : (cs l : List Cell) (x : Cell) → IsIn x (with_cells cs l) → IsIn x cs ⊎ IsIn x l
+pub in_withs : (cs l : List Cell) (x : Cell) → IsIn x (with_cells cs l) → IsIn x cs ⊎ IsIn x l
 in_withs [] l x m = inr m
 in_withs (c ∷ cs) l x m = elim (in_withs cs (with_cell c l) x m) [
   | inl i ↦ inl (inr i)
   | inr k ↦ elim (in_with c x l k) [ inl e ↦ inl (inl e) | inr i ↦ inr i ]
 ]
 
-withs_old : (cs l : List Cell) (x : Cell) → IsIn x l → IsIn x (with_cells cs l)
+pub withs_old : (cs l : List Cell) (x : Cell) → IsIn x l → IsIn x (with_cells cs l)
 withs_old [] l x m = m
 withs_old (c ∷ cs) l x m = withs_old cs (with_cell c l) x (with_old c x l m)
 
-withs_new : (cs l : List Cell) (x : Cell) → IsIn x cs → IsIn x (with_cells cs l)
+pub withs_new : (cs l : List Cell) (x : Cell) → IsIn x cs → IsIn x (with_cells cs l)
 withs_new [] l x m = absurd m
 withs_new (c ∷ cs) l x (inl e) = withs_old cs (with_cell c l) x (subst (λ (y : Cell). IsIn y (with_cell c l)) e (with_new c l))
 withs_new (c ∷ cs) l x (inr m) = withs_new cs (with_cell c l) x m
 
-withs_sorted : (cs l : List Cell) → IsStrictlySortedBy cell_cmp l → IsStrictlySortedBy cell_cmp (with_cells cs l)
+pub withs_sorted : (cs l : List Cell) → IsStrictlySortedBy cell_cmp l → IsStrictlySortedBy cell_cmp (with_cells cs l)
 withs_sorted [] l s = s
 withs_sorted (c ∷ cs) l s = withs_sorted cs (with_cell c l) (with_sorted c l s)
 
 -- ---- exchanges
 
-abbrev kept : List Cell → Cell → Bool
+abbrev pub kept : List Cell → Cell → Bool
 kept gone c = not (is_cell_among c gone)
 
 not_false : (b : Bool) → not b ≡ true → b ≡ true → ⊥
 not_false true e f = absurd (cc e)
 not_false false e f = absurd (cc f)
 
-kept_true : (gone : List Cell) (c : Cell) → (IsIn c gone → ⊥) → kept gone c ≡ true
+pub kept_true : (gone : List Cell) (c : Cell) → (IsIn c gone → ⊥) → kept gone c ≡ true
 kept_true gone c n = by (is_cell_among c gone) refl
   where
     by : (b : Bool) → is_cell_among c gone ≡ b → not b ≡ true
@@ -225,50 +224,3 @@ swapped_none g b gone fresh l f h = rw (none fresh h) (rw (none gone f) (all l))
     all : (l : List Cell) → without_cells [] l ≡ l
     all [] = refl
     all (c ∷ l) = ap (λ (t : List Cell). c ∷ t) (all l)
-
--- the cells that stay, by one test
-pub kept_is : (t : Cell → Bool) (gone l : List Cell) → filter (λ c. not (t c && is_cell_among c gone)) l ≡ without_cells (filter t gone) l
-kept_is t gone [] = refl
-kept_is t gone (c ∷ l) = ap (λ b. cond (not b) (c ∷ filter (λ c. not (t c && is_cell_among c gone)) l) (filter (λ c. not (t c && is_cell_among c gone)) l)) (sym (both gone)) ∙ ap (λ m. cond (not (is_cell_among c (filter t gone))) (c ∷ m) m) (kept_is t gone l)
-  where
-    both : (gone : List Cell) → is_cell_among c (filter t gone) ≡ (t c && is_cell_among c gone)
-    both gone = by_test (t c) refl
-      where
-        yes : t c ≡ true → is_cell_among c (filter t gone) ≡ is_cell_among c gone
-        yes e = both_ways (is_cell_among c (filter t gone)) (is_cell_among c gone) (λ k. among_true c gone (filtered_from t gone c (among_from c (filter t gone) k)).0) (λ k. among_true c (filter t gone) (filtered_true t gone c (among_from c gone k) e))
-
-        no : t c ≡ false → is_cell_among c (filter t gone) ≡ false
-        no e = none (is_cell_among c (filter t gone)) refl
-          where
-            none : (b : Bool) → is_cell_among c (filter t gone) ≡ b → b ≡ false
-            none true k = (let m : t c ≡ true = (filtered_from t gone c (among_from c (filter t gone) k)).1 in absurd (cc (m, e)))
-            none false k = refl
-
-        by_test : (b : Bool) → t c ≡ b → is_cell_among c (filter t gone) ≡ (b && is_cell_among c gone)
-        by_test true e = yes e
-        by_test false e = no e
-
--- one more fresh cell, put in where it touches the bucket
-pub withs_step : (t : Cell → Bool) (c : Cell) (cs l m : List Cell) → m ≡ cond (t c) (with_cell c l) l → with_cells (filter t cs) m ≡ with_cells (filter t (c ∷ cs)) l
-withs_step t c cs l m e = by (t c) e
-  where
-    by : (b : Bool) → m ≡ cond b (with_cell c l) l → with_cells (filter t cs) m ≡ with_cells (cond b (c ∷ filter t cs) (filter t cs)) l
-    by true e = ap (with_cells (filter t cs)) e
-    by false e = ap (with_cells (filter t cs)) e
-
--- nothing is left of a list past its end
-pub drop_all : (l : List Cell) (n : ℕ) → length l ≤ n → drop n l ≡ []
-drop_all [] zero h = refl
-drop_all [] (suc n) h = refl
-drop_all (c ∷ l) zero h = absurd (omega arith)
-drop_all (c ∷ l) (suc n) h = drop_all l n (omega arith)
-
--- where none of a list passes a test, each fails it
-pub none_pass : (t : Cell → Bool) (l : List Cell) → list_any t l ≡ false → (c : Cell) → IsIn c l → t c ≡ false
-none_pass t [] e c m = absurd m
-none_pass t (d ∷ l) e c m = by (t d) refl e m (λ f k. none_pass t l f c k)
-  where
-    by : (b : Bool) → t d ≡ b → (b || list_any t l) ≡ false → (d ≡ c) ⊎ IsIn c l → (list_any t l ≡ false → IsIn c l → t c ≡ false) → t c ≡ false
-    by true f e m r = cc
-    by false f e (inl q) r = sym (ap t q) ∙ f
-    by false f e (inr k) r = r e k

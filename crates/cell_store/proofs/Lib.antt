@@ -3,7 +3,7 @@ pub mod Members
 pub mod ShareLaws
 pub mod CellLaws
 pub mod NextLaws
-pub mod InsertLaws
+pub mod MergeLaws
 pub mod RoomLaws
 pub mod NoteLaws
 pub mod MeshLaws

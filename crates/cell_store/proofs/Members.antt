@@ -1,6 +1,6 @@
 -- Members of lists of cells.
-use Rattle.std.specs.Prelude.{◌≡◌, ℕ, ◌+◌, zero, suc, ◌<◌, Bool, true, false, List, [], ◌∷◌, ◌⊎◌, length, slice_index_or}
-use Rattle.std.proofs.Common.{sym, ◌∙◌, subst, inl, inr, arith, take, add-one}
+use Rattle.std.specs.Prelude.{◌≡◌, ℕ, ◌+◌, zero, suc, ◌<◌, Bool, true, false, List, [], ◌∷◌, ◌++◌, ◌⊎◌, length, slice_index_or}
+use Rattle.std.proofs.Common.{refl, sym, ◌∙◌, ap, subst, inl, inr, arith, take, add-one}
 use Rattle.point_order.specs.declared.cell.Cell.{Cell}
 use Rattle.point_order.specs.declared.cell.Facet.{Facet}
 use Rattle.point_order.specs.Facets.{facets_of}
@@ -32,3 +32,15 @@ none_more l i c cell facet h e same none other o =
 -- a test that is false is not true
 pub not_true : (b : Bool) → b ≡ false → b ≡ true → ⊥
 not_true b e t = absurd (cc (e, t))
+
+-- the first elements and one more
+pub take_next : {X : Type 0} (l : List X) (n : ℕ) (d : X) → n < length l → take (suc n) l ≡ take n l ++ slice_index_or l n d ∷ []
+take_next [] n d h = absurd (omega arith)
+take_next (x ∷ l) zero d h = refl
+take_next {X} (x ∷ l) (suc n) d h = ap (λ (m : List X). x ∷ m) (take_next l n d (omega arith))
+
+-- an element within a list does not depend on what stands for those past its end
+pub within : {X : Type 0} (l : List X) (i : ℕ) (d u : X) → i < length l → d ≡ slice_index_or l i d → slice_index_or l i u ≡ d
+within [] i d u h e = absurd (omega arith)
+within (y ∷ l) zero d u h e = sym e
+within (y ∷ l) (suc i) d u h e = within l i d u (omega arith) e

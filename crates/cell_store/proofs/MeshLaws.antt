@@ -1,5 +1,5 @@
 -- Meshes, their histories, and buckets in hand.
-use Rattle.std.specs.Prelude.{◌≡◌, ℕ, ◌+◌, ◌-◌, ◌*◌, ◌^◌, zero, suc, ◌<◌, ◌≤◌, ◌==◌, min, nat_lt, Bool, true, false, cond, not, ◌&&◌, List, [], ◌∷◌, ◌++◌, Option, None, Some, IsSome, is_some, length, slice_index_or}
+use Rattle.std.specs.Prelude.{◌≡◌, ℕ, ◌+◌, ◌-◌, ◌*◌, ◌^◌, zero, suc, ◌<◌, ◌≤◌, ◌==◌, min, nat_lt, Bool, true, false, cond, not, ◌&&◌, List, [], ◌∷◌, ◌++◌, Option, None, Some, IsSome, is_some, length}
 use Rattle.std.specs.List.{filter, flat_map, range_with_len, list_all, All}
 use Rattle.std.specs.List.Sorted.{IsPermutation}
 use Rattle.std.specs.Option.{option_map, option_map_or}
@@ -25,6 +25,7 @@ use Rattle.cell_store.specs.Changes.{IsSwapped, IsNoted, swapped_in, noted_in}
 use Rattle.cell_store.specs.Ready.{AreHeld}
 use Rattle.cell_store.specs.Meshes.{AllInHand, HasPlaces, IsMesh, Continues, IsChanged, IsCountOf, all_entries, OneHistory, MeshGathersHistory, AllAreHeld, FewerStand, MoreAreHeld}
 use Rattle.cell_store.proofs.GridLaws.{bucket-below}
+use Rattle.cell_store.proofs.Members.{take_next}
 use Rattle.cell_store.proofs.NextLaws.{entry_keeps_hold}
 
 -- ---- options
@@ -119,12 +120,6 @@ one_more g n h =
 
     equal : (m : ℕ) → (nat_lt m (suc n) && not (nat_lt m n)) ≡ (m == n)
     equal m = grind (arith, nat_tests)
-
--- the first elements and one more
-take_next : {X : Type 0} (l : List X) (n : ℕ) (d : X) → n < length l → take (suc n) l ≡ take n l ++ slice_index_or l n d ∷ []
-take_next [] n d h = absurd (omega arith)
-take_next (x ∷ l) zero d h = refl
-take_next {X} (x ∷ l) (suc n) d h = ap (λ (m : List X). x ∷ m) (take_next l n d (omega arith))
 
 -- a bucket's entries are its share
 entries_are : (hold : InHand) (h : List Entry) (b : ℕ) → Stands hold h → IsSome (bucket_at hold.places b) → entries_of (bucket_at hold.places b) ≡ entries_share hold.grid b h

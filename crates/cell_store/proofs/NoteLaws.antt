@@ -1,23 +1,23 @@
 -- What an entry makes of the points of its bucket, and of the buckets of a hold.
-use Rattle.std.specs.Prelude.{◌≡◌, ◌≢◌, ℕ, zero, suc, ◌<◌, ◌≤◌, ◌==◌, Bool, true, false, cond, not, ◌||◌, List, [], ◌∷◌, ◌++◌, ◌⊎◌, Option, None, Some, IfSome, IsSome, length, slice_index, slice_index_or, slice_set, Result, Ok, Err, MatchResult, OnOk, OnErr}
+use Rattle.std.specs.Prelude.{◌≡◌, ◌≢◌, ℕ, zero, suc, ◌<◌, ◌≤◌, ◌==◌, Bool, true, false, cond, not, ◌||◌, List, [], ◌∷◌, ◌++◌, ◌⊎◌, Option, None, Some, IfSome, IsSomeAnd, length, slice_index, slice_set, Result, Ok, Err, MatchResult, OnOk, OnErr}
 use Rattle.std.specs.Option.{option_map}
 use Rattle.std.proofs.Common.{refl, sym, ◌∙◌, ap, subst, inl, inr, arith}
 use Rattle.std.proofs.lemmas.Bool.Decides.{nat_tests}
 use Rattle.std.proofs.lemmas.List.{get_or-set_same, get_or-set_other}
 use Rattle.point_order.specs.declared.cell.Cell.{Cell}
-use Rattle.point_order.specs.Facets.{points_of}
 use Rattle.point_order.specs.Sets.{IsIn, IsAscending, is_among, with_point, without_point}
 use Rattle.point_order.proofs.SetLaws.{below-each, with-cases, ascending-with}
 use Rattle.edit_history.specs.declared.history.Entry.{Entry}
 use Rattle.edit_history.specs.declared.history.Reply.{Reply}
 use Rattle.edit_history.specs.declared.history.Reply.TheVariants.{Inserted, Duplicate, Removed, Missing, Flat}
 use Rattle.edit_history.specs.Edits.{point_of, changed}
-use Rattle.edit_history.proofs.Solidity.{any-none}
 use Rattle.edit_history.proofs.SetEdits.{in-place, among-gap, ascending-without}
 use Rattle.cell_store.specs.Grids.{bucket_of}
 use Rattle.cell_store.specs.Buckets.{Content, InHand, bucket_at}
-use Rattle.cell_store.specs.Changes.{NoneTouches, noted_in, IsNoted}
-use Rattle.cell_store.specs.Ready.{IsReadyAt, IsReady, IsHeldIfTouched, AreHeld}
+use Rattle.cell_store.specs.Changes.{noted_in, IsNoted}
+use Rattle.cell_store.specs.Ready.{CellsFor, IsReadyFor, IsReady}
+use Rattle.cell_store.specs.Swaps.{swapped}
+use Rattle.cell_store.proofs.RoomLaws.{of_some, to_some}
 
 -- a point that is there is put in already
 with_there : (p : ℕ) (s : List ℕ) → IsAscending s → IsIn p s → with_point p s ≡ s
@@ -55,25 +55,6 @@ ascending_changed s p Removed a = ascending-without p s a
 ascending_changed s p Missing a = a
 ascending_changed s p Flat a = a
 
--- ---- the condition of an exchange, bucket by bucket
-
-none_touch : (hold : InHand) (b : ℕ) (l : List Cell) → bucket_at hold.places b ≡ None → AreHeld hold l → NoneTouches hold.grid b l
-none_touch hold b l e h c k = any-none (λ p. bucket_of hold.grid p == b) (points_of c) (λ p i. by p (bucket_of hold.grid p == b) refl (h c k p i))
-  where
-    same : (n m : ℕ) → (n == m) ≡ true → n ≡ m
-    same n m = grind (arith, nat_tests)
-
-    by : (p : ℕ) (t : Bool) → (bucket_of hold.grid p == b) ≡ t → IsSome (bucket_at hold.places (bucket_of hold.grid p)) → (bucket_of hold.grid p == b) ≡ false
-    by p true t s = t ∙ sym (subst IsSome (ap (bucket_at hold.places) (same (bucket_of hold.grid p) b t) ∙ e) s)
-    by p false t s = t
-
-held_at : (hold : InHand) (b : ℕ) (gone fresh : List Cell) (o : Option Content) → bucket_at hold.places b ≡ o → AreHeld hold gone → AreHeld hold fresh → IsHeldIfTouched hold.grid b gone fresh o
-held_at hold b gone fresh None e h i = (none_touch hold b gone e h, none_touch hold b fresh e i)
-held_at hold b gone fresh (Some c) e h i = tt
-
-pub held_each : (hold : InHand) (g : ℕ) (places : List (Option Content)) (gone fresh : List Cell) → g ≡ hold.grid → places ≡ hold.places → AreHeld hold gone → AreHeld hold fresh → (b : ℕ) → b < length places → IsHeldIfTouched g b gone fresh (bucket_at places b)
-held_each hold g places gone fresh eg ep h i b l = rw eg (rw ep (held_at hold b gone fresh (bucket_at hold.places b) refl h i))
-
 -- ---- one bucket anew
 
 pub if_some : {X : Type 0} (P Q : X → Type 0) (o : Option X) → ((x : X) → P x → Q x) → IfSome o P → IfSome o Q
@@ -102,12 +83,6 @@ there places b x y h = get_or-set_same (slice_set places b x) b y None (let e = 
 elsewhere : (places : List (Option Content)) (b k : ℕ) (x y : Option Content) → k ≢ b → bucket_at (slice_set (slice_set places b x) b y) k ≡ bucket_at places k
 elsewhere places b k x y n = get_or-set_other (slice_set places b x) b k y None n ∙ get_or-set_other places b k x None n
 
--- an element within a list does not depend on what stands for those past its end
-pub within : {X : Type 0} (l : List X) (i : ℕ) (d u : X) → i < length l → d ≡ slice_index_or l i d → slice_index_or l i u ≡ d
-within [] i d u h e = absurd (omega arith)
-within (y ∷ l) zero d u h e = sym e
-within (y ∷ l) (suc i) d u h e = within l i d u (omega arith) e
-
 two : (k b : ℕ) → (k ≡ b) ⊎ (k ≢ b)
 two k b = by (k == b) refl
   where
@@ -122,20 +97,18 @@ two k b = by (k == b) refl
     by false e = inr (other k b e)
 
 -- what is ready for an exchange stays so where a bucket keeps its cells
-ready_some : (g b : ℕ) (gone fresh : List Cell) (c d : Content) (l : Option (List Cell)) → d.cells ≡ c.cells → IsReadyAt g b gone fresh (Some c) l → IsReadyAt g b gone fresh (Some d) l
-ready_some g b gone fresh c d None e r = r
-ready_some g b gone fresh c d (Some l) e r = rw e r
-
-pub ready_noted : (g b : ℕ) (gone fresh : List Cell) (places : List (Option Content)) (lists : List (Option (List Cell))) (x : Option Content) (c d : Content) → b < length places → bucket_at places b ≡ Some c → d.cells ≡ c.cells → IsReady g gone fresh places lists → IsReady g gone fresh (slice_set (slice_set places b x) b (Some d)) lists
-ready_noted g b gone fresh places lists x c d h e f r = record {
-  count = r.count ∙ sym (len_twice places b x (Some d));
-  ready = λ k l. by k (r.ready k (subst (λ n. k < n) (len_twice places b x (Some d)) l));
-}
+pub ready_noted : (g b : ℕ) (gone fresh : List Cell) (places : List (Option Content)) (lists : List CellsFor) (x : Option Content) (c d : Content) → b < length places → bucket_at places b ≡ Some c → d.cells ≡ c.cells → IsReady g gone fresh places lists → IsReady g gone fresh (slice_set (slice_set places b x) b (Some d)) lists
+ready_noted g b gone fresh places lists x c d h e f r = record { each = λ l i. by l (r.each l i); others = r.others }
   where
-    by : (k : ℕ) → IsReadyAt g k gone fresh (bucket_at places k) (slice_index_or lists k None) → IsReadyAt g k gone fresh (bucket_at (slice_set (slice_set places b x) b (Some d)) k) (slice_index_or lists k None)
-    by k q = elim (two k b) [
-      | inl w ↦ subst (λ o. IsReadyAt g k gone fresh o (slice_index_or lists k None)) (sym (ap (bucket_at (slice_set (slice_set places b x) b (Some d))) w ∙ there places b x (Some d) h)) (ready_some g k gone fresh c d (slice_index_or lists k None) f (subst (λ o. IsReadyAt g k gone fresh o (slice_index_or lists k None)) (ap (bucket_at places) w ∙ e) q))
-      | inr w ↦ subst (λ o. IsReadyAt g k gone fresh o (slice_index_or lists k None)) (sym (elsewhere places b k x (Some d) w)) q
+    here : (l : CellsFor) → l.number ≡ b → IsReadyFor g gone fresh places l → IsReadyFor g gone fresh (slice_set (slice_set places b x) b (Some d)) l
+    here l w q =
+        let k = of_some (λ y. l.cells ≡ swapped g l.number gone fresh y.cells) (bucket_at places l.number) c (ap (bucket_at places) w ∙ e) q in
+        to_some (λ y. l.cells ≡ swapped g l.number gone fresh y.cells) (bucket_at (slice_set (slice_set places b x) b (Some d)) l.number) d (ap (bucket_at (slice_set (slice_set places b x) b (Some d))) w ∙ there places b x (Some d) h) (k ∙ ap (swapped g l.number gone fresh) (sym f))
+
+    by : (l : CellsFor) → IsReadyFor g gone fresh places l → IsReadyFor g gone fresh (slice_set (slice_set places b x) b (Some d)) l
+    by l q = elim (two l.number b) [
+      | inl w ↦ here l w q
+      | inr w ↦ subst (λ o. IsSomeAnd o (λ y. l.cells ≡ swapped g l.number gone fresh y.cells)) (sym (elsewhere places b l.number x (Some d) w)) q
     ]
 
 -- the bucket with the entry

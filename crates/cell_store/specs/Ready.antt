@@ -1,5 +1,7 @@
 -- What a hold keeps ready for an exchange of cells and for an entry.
-use Rattle.std.specs.Prelude.{◌≡◌, ℕ, ◌<◌, List, Option, None, Some, IsSome, IsSomeAnd, length, slice_index_or}
+use Rattle.std.specs.Prelude.{◌≡◌, ◌≢◌, ℕ, ◌==◌, List, [], ◌∷◌, Option, IsSome, IsSomeAnd, map, if◌then◌else◌}
+use Rattle.std.specs.List.{flat_map}
+use Rattle.std.specs.Option.{option_map}
 use Rattle.point_order.specs.declared.cell.Cell.{Cell}
 use Rattle.point_order.specs.Facets.{points_of}
 use Rattle.point_order.specs.Sets.{IsIn, with_point}
@@ -13,32 +15,36 @@ use Rattle.cell_store.specs.Changes.{NoneTouches}
 abbrev pub IsUntouched : ℕ → ℕ → List Cell → List Cell → Type 0
 IsUntouched g b gone fresh = NoneTouches g b gone × NoneTouches g b fresh
 
--- A bucket that the exchange touches is in hand, and the list of its cells after the exchange is ready; for another no list is.
-abbrev pub IsReadyAt : ℕ → ℕ → List Cell → List Cell → Option Content → Option (List Cell) → Type 0
-IsReadyAt g b gone fresh o None = IsUntouched g b gone fresh
-IsReadyAt g b gone fresh None (Some l) = ⊥
-IsReadyAt g b gone fresh (Some c) (Some l) = l ≡ swapped g b gone fresh c.cells
+-- a list of cells that the bucket with a number is to have
+pub record CellsFor : Type 0 where
+  pub number : ℕ
+  pub cells : List Cell
 
--- a bucket that is not in hand is not touched
-abbrev pub IsHeldIfTouched : ℕ → ℕ → List Cell → List Cell → Option Content → Type 0
-IsHeldIfTouched g b gone fresh None = IsUntouched g b gone fresh
-IsHeldIfTouched g b gone fresh (Some c) = Unit {0}
+-- the bucket with a number, with the list that is for it
+abbrev pub given : List CellsFor → ℕ → Option Content → Option Content
+given [] b o = o
+given (l ∷ ls) b o = given ls b (if l.number == b then option_map (λ (c : Content). record c { cells = l.cells }) o else o)
 
--- so at each number
-abbrev pub AreReady : ℕ → List Cell → List Cell → List (Option Content) → List (Option (List Cell)) → Type 0
-AreReady g gone fresh places lists =
-    (b : ℕ) → b < length places → IsReadyAt g b gone fresh (bucket_at places b) (slice_index_or lists b None)
+-- a list is for a bucket in hand, and is that of its cells after the exchange
+abbrev pub IsReadyFor : ℕ → List Cell → List Cell → List (Option Content) → CellsFor → Type 0
+IsReadyFor g gone fresh places l = IsSomeAnd (bucket_at places l.number) (λ c. l.cells ≡ swapped g l.number gone fresh c.cells)
 
--- the bucket with its new list, where it has one
-abbrev pub with_list : Option Content → Option (List Cell) → Option Content
-with_list o None = o
-with_list None (Some l) = None
-with_list (Some c) (Some l) = Some (record c { cells = l })
+-- none of the lists is for the bucket with the number
+abbrev pub NoneIsFor : ℕ → List CellsFor → Type 0
+NoneIsFor b lists = (l : CellsFor) → IsIn l lists → l.number ≢ b
 
--- the lists for an exchange, one for each place
-pub record IsReady (g : ℕ) (gone fresh : List Cell) (places : List (Option Content)) (lists : List (Option (List Cell))) : Type 0 where
-  pub count : length lists ≡ length places
-  pub ready : AreReady g gone fresh places lists
+-- what is ready for an exchange: lists for buckets in hand, for each that the exchange touches at least one
+pub record IsReady (g : ℕ) (gone fresh : List Cell) (places : List (Option Content)) (lists : List CellsFor) : Type 0 where
+  pub each : (l : CellsFor) → IsIn l lists → IsReadyFor g gone fresh places l
+  pub others : (b : ℕ) → NoneIsFor b lists → IsUntouched g b gone fresh
+
+-- the buckets with these numbers are in hand
+abbrev pub AreInHand : List (Option Content) → List ℕ → Type 0
+AreInHand places numbers = (b : ℕ) → IsIn b numbers → IsSome (bucket_at places b)
+
+-- the numbers of the buckets of all finite vertices of the cells
+abbrev pub numbers_of : ℕ → List Cell → List ℕ
+numbers_of g cells = flat_map (λ c. map (bucket_of g) (points_of c)) cells
 
 -- the buckets of all finite vertices of the cells are in hand
 abbrev pub AreHeld : InHand → List Cell → Type 0

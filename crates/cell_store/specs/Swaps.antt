@@ -5,6 +5,7 @@ use Rattle.std.specs.Ordering.{is_eq, match_ordering}
 use Rattle.point_order.specs.declared.cell.Cell.{Cell}
 use Rattle.point_order.specs.CellOrder.{cell_cmp}
 use Rattle.point_order.specs.Facets.{points_of}
+use Rattle.point_order.specs.Sets.{IsIn}
 use Rattle.cell_store.specs.Grids.{bucket_of}
 
 -- one of the finite vertices of the cell lies in the bucket
@@ -32,3 +33,7 @@ without_cells gone l = filter (λ c. not (is_cell_among c gone)) l
 -- the cells of bucket b without those of gone, and with those of fresh, that have a finite vertex in it, in order
 unfoldable pub swapped : ℕ → ℕ → List Cell → List Cell → List Cell → List Cell
 swapped g b gone fresh l = with_cells (filter (touches g b) fresh) (without_cells (filter (touches g b) gone) l)
+
+-- the two lists have the same cells
+abbrev pub AreSameCells : List Cell → List Cell → Type 0
+AreSameCells l m = ((c : Cell) → IsIn c l → IsIn c m) × ((c : Cell) → IsIn c m → IsIn c l)

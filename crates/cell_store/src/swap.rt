@@ -1,9 +1,10 @@
 //! Exchanges of cells in sorted lists.
 
-ghost use Rattle.std.specs.Prelude.{◌≡◌, ◌≤◌, length, IfOk, OnOk, IfErr, not, ◌&&◌};
-ghost use Rattle.std.specs.List.{filter, list_any, insert};
+ghost use Rattle.std.specs.Prelude.{◌≡◌, IfOk};
+ghost use Rattle.std.specs.List.{filter};
+ghost use Rattle.std.specs.List.Sorted.{IsStrictlySortedBy};
 ghost use Rattle.point_order.specs.CellOrder.{cell_cmp};
-ghost use Rattle.cell_store.specs.Swaps.{touches as touches_of, is_cell_among, with_cell, swapped};
+ghost use Rattle.cell_store.specs.Swaps.{touches as touches_of, with_cells, without_cells, swapped, AreSameCells};
 
 use crate::grid::Grid;
 use point_order::Cell;
@@ -17,13 +18,6 @@ fn touches(grid: Grid, b: u32, cell: &Cell) -> bool
     cell.points().iter().any(|p| grid.bucket_of(*p) == b)
 }
 
-// Whether a finite vertex of one of the cells does.
-pub(crate) fn any_touches(grid: Grid, b: u32, cells: &[Cell]) -> bool
-    ensures { result ≡ list_any (λ c. touches_of grid b c) cells.now }
-{
-    cells.iter().any(|c| touches(grid, b, c))
-}
-
 // How the two stand in the order of cells.
 fn compare(a: &Cell, b: &Cell) -> Ordering
     ensures { result ≡ cell_cmp a.now b.now }
@@ -31,56 +25,77 @@ fn compare(a: &Cell, b: &Cell) -> Ordering
     a.cmp(b)
 }
 
-// Whether the cell is one of the list.
-fn is_among(cell: &Cell, list: &[Cell]) -> bool
-    ensures { result ≡ is_cell_among cell.now list.now }
-{
-    list.iter().any(|d| compare(d, cell).is_eq())
-}
-
-// The cells of the bucket that are not among the gone that touch it.
-fn kept_cells(
-    alloc: Global,
-    grid: Grid,
-    b: u32,
-    cells: &[Cell],
-    gone: &[Cell],
-) -> Result<Vec<Cell>, AllocError>
-    ensures { IfOk result (λ kept. kept.items ≡ filter (λ c. not (touches_of grid b c && is_cell_among c gone.now)) cells.now) }
+// Those of the cells that touch the bucket.
+fn touching(alloc: Global, grid: Grid, b: u32, cells: &[Cell]) -> Result<Vec<Cell>, AllocError>
+    ensures { IfOk result (λ list. list.items ≡ filter (λ c. touches_of grid b c) cells.now) }
 {
     cells
         .iter()
-        .filter(|c| !(touches(grid, b, c) && is_among(c, gone)))
+        .filter(|c| touches(grid, b, c))
         .copied()
         .collect(alloc)
 }
 
-// The place of the cell, or else that at which it belongs.
-fn place_among(list: &[Cell], cell: &Cell) -> Result<usize, usize>
-    ensures there { OnOk result (with_cell cell.now list.now ≡ list.now) }
-    ensures absent { IfErr result (λ i. (i ≤ length list.now) × (insert list.now i cell.now ≡ with_cell cell.now list.now)) }
+// The cells in order, each once.
+fn in_order(mut list: Vec<Cell>) -> Vec<Cell>
+    ensures order { IsStrictlySortedBy cell_cmp result.items }
+    ensures cells { AreSameCells list.items result.items }
 {
-    for (i, other) in list.iter().enumerate() {
-        match compare(cell, other) {
-            Ordering::Less => return Err(i),
-            Ordering::Equal => return Ok(i),
-            Ordering::Greater => {}
+    list.sort_unstable();
+    list.dedup();
+    list
+}
+
+// The cells that are not among the gone. Both lists are to be in order.
+fn without(alloc: Global, mut cells: &[Cell], mut gone: &[Cell]) -> Result<Vec<Cell>, AllocError>
+    requires cells { IsStrictlySortedBy cell_cmp cells.now }
+    requires gone { IsStrictlySortedBy cell_cmp gone.now }
+    ensures { IfOk result (λ list. list.items ≡ without_cells gone.now cells.now) }
+{
+    let mut list = Vec::with_capacity(alloc, cells.len())?;
+    while let (Some((c, later)), Some((d, others))) = (cells.split_first(), gone.split_first()) {
+        match compare(c, d) {
+            Ordering::Less => {
+                list.push(*c)?;
+                cells = later;
+            }
+            Ordering::Equal => {
+                cells = later;
+                gone = others;
+            }
+            Ordering::Greater => gone = others,
         }
     }
-    Err(list.len())
+    list.extend_from_slice(cells)?;
+    Ok(list)
 }
 
-// Puts the cell into the list, where it is not there.
-fn place(list: &mut Vec<Cell>, cell: Cell) -> Result<(), AllocError>
-    ensures { OnOk result (list.new.items ≡ with_cell cell list.old.items) }
+// The cells with the fresh ones, each once. Both lists are to be in order.
+fn with(alloc: Global, mut cells: &[Cell], mut fresh: &[Cell]) -> Result<Vec<Cell>, AllocError>
+    requires cells { IsStrictlySortedBy cell_cmp cells.now }
+    requires fresh { IsStrictlySortedBy cell_cmp fresh.now }
+    ensures { IfOk result (λ list. list.items ≡ with_cells fresh.now cells.now) }
 {
-    if let Err(i) = place_among(list, &cell) {
-        list.insert(i, cell)?;
+    let mut list = Vec::with_capacity(alloc, cells.len())?;
+    while let (Some((c, later)), Some((d, others))) = (cells.split_first(), fresh.split_first()) {
+        match compare(c, d) {
+            Ordering::Less => {
+                list.push(*c)?;
+                cells = later;
+            }
+            Ordering::Equal => fresh = others,
+            Ordering::Greater => {
+                list.push(*d)?;
+                fresh = others;
+            }
+        }
     }
-    Ok(())
+    list.extend_from_slice(cells)?;
+    list.extend_from_slice(fresh)?;
+    Ok(list)
 }
 
-// The cells of the bucket after an exchange.
+// The cells of the bucket, which are to be in order, after an exchange.
 pub(crate) fn swapped_cells(
     alloc: Global,
     grid: Grid,
@@ -89,13 +104,11 @@ pub(crate) fn swapped_cells(
     gone: &[Cell],
     fresh: &[Cell],
 ) -> Result<Vec<Cell>, AllocError>
+    requires { IsStrictlySortedBy cell_cmp cells.now }
     ensures { IfOk result (λ list. list.items ≡ swapped grid b gone.now fresh.now cells.now) }
 {
-    let mut list = kept_cells(alloc, grid, b, cells, gone)?;
-    for c in fresh {
-        if touches(grid, b, c) {
-            place(&mut list, *c)?;
-        }
-    }
-    Ok(list)
+    let gone = in_order(touching(alloc, grid, b, gone)?);
+    let fresh = in_order(touching(alloc, grid, b, fresh)?);
+    let left = without(alloc, cells, &gone)?;
+    with(alloc, &left, &fresh)
 }

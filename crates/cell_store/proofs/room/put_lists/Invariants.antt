@@ -1,11 +1,14 @@
-use Rattle.std.proofs.Common.{◌≡◌, ℕ, ◌<◌, ◌≤◌, None, length, slice_index_or}
+use Rattle.std.proofs.Common.{ℕ, ◌≡◌, ◌<◌, length}
+use Rattle.std.specs.Vec.Iter.{into_iter_items}
+use Rattle.point_order.specs.Sets.{IsIn}
 use Rattle.cell_store.specs.Buckets.{bucket_at}
-use Rattle.cell_store.specs.Ready.{with_list}
+use Rattle.cell_store.specs.Ready.{CellsFor, given}
 use Rattle.cell_store.proofs.room.put_lists.Given as goal
 
-abbrev pub invariant-loop-b : goal.invariant-loop-b
-invariant-loop-b l =
-    (length l.lists.items ≡ length l.places)
-    × ((k : ℕ) → k < l.b → bucket_at l.places k ≡ with_list (bucket_at l.initial.places k) (slice_index_or l.initial.lists.items k None))
-    × ((k : ℕ) → l.b ≤ k → bucket_at l.places k ≡ bucket_at l.initial.places k)
-    × ((k : ℕ) → l.b ≤ k → slice_index_or l.lists.items k None ≡ slice_index_or l.initial.lists.items k None)
+abbrev pub invariant-loop-list : goal.invariant-loop-list
+invariant-loop-list l =
+    record {
+      count : length l.places ≡ length l.fn.places;
+      below : (k : CellsFor) → IsIn k (into_iter_items l.list-iterator) → k.number < length l.fn.places;
+      made : (b : ℕ) → given (into_iter_items l.list-iterator) b (bucket_at l.places b) ≡ given l.fn.lists.items b (bucket_at l.fn.places b);
+    }

@@ -2,7 +2,8 @@ use Rattle.std.proofs.Common.{refl, sym, ◌∙◌, ap, subst, ◌<◌, ◌*◌,
 use Rattle.edit_history.specs.Edits.{point_of}
 use Rattle.cell_store.specs.Grids.{bucket_of}
 use Rattle.cell_store.specs.Ready.{IsReady}
-use Rattle.cell_store.proofs.NoteLaws.{if_some, if_none, len_twice_is, within, ready_noted, noted_is}
+use Rattle.cell_store.proofs.Members.{within}
+use Rattle.cell_store.proofs.NoteLaws.{if_some, if_none, len_twice_is, ready_noted, noted_is}
 use Rattle.cell_store.proofs.hold.Hold.push_entry.Goals as goal
 
 pub invariant_of-self : goal.invariant_of-self
