@@ -10,5 +10,4 @@ pub mod Advancing
 pub mod FourCells
 pub mod OpeningLaws
 pub mod Searching
-pub mod Insertions
 pub mod NextEntry

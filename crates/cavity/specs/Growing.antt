@@ -1,18 +1,19 @@
 -- Meshes that grow point by point.
-use Rattle.std.specs.Prelude.{◌≡◌, ℕ, List, [], ◌∷◌, ◌++◌}
+use Rattle.std.specs.Prelude.{◌≡◌, ℕ, List, length}
 use Rattle.point_order.specs.Sets.{IsIn}
 use Rattle.edit_history.specs.declared.history.Edit.TheVariants.{Add}
 use Rattle.edit_history.specs.declared.history.Entry.{Entry}
 use Rattle.edit_history.specs.declared.history.Reply.TheVariants.{Inserted}
 use Rattle.edit_history.specs.Edits.{point_of}
-use Rattle.edit_history.specs.Histories.{replay, IsLegal}
+use Rattle.edit_history.specs.Histories.{replay}
 use Rattle.cell_store.specs.Buckets.{InHand}
 use Rattle.cell_store.specs.Shares.{Stands}
 
--- The entry inserts a point that is new after the history, and continues it.
+-- The entry is the insertion of a point that is new after the history, and continues it.
 pub record IsInsertion (h : List Entry) (e : Entry) : Type 0 where
-  pub legal : IsLegal (h ++ e ∷ [])
   pub edit : e.edit ≡ Add (point_of e.edit)
+  pub absent : ¬ (IsIn (point_of e.edit) (replay h))
+  pub number : e.number ≡ length h
   pub reply : e.reply ≡ Inserted
 
 -- the mesh stands for a history that the entry continues so

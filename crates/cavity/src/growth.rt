@@ -7,6 +7,7 @@ ghost use Rattle.edit_history.specs.declared.history.Entry.{Entry};
 ghost use Rattle.edit_history.specs.Histories.{replay};
 ghost use Rattle.hole_laws.specs.Edits.{IsNew};
 ghost use Rattle.cell_store.specs.Shares.{Stands};
+ghost use Rattle.cavity.specs.Digs.{IsDoneIn};
 ghost use Rattle.cavity.specs.Fills.{IsFilled};
 ghost use Rattle.cavity.specs.Growing.{IsInsertion, CanInsert, StandsForPoints, AreAmong};
 ghost use Rattle.cavity.specs.Opening.{AreIndependent};
@@ -21,18 +22,29 @@ use edit_history::{Entry, find_four};
 use point_order::Point;
 use std::alloc::{AllocError, Global};
 
-// The cells that a new point takes away from a mesh, and those that it brings.
-fn change_by(alloc: Global, mesh: &Mesh, p: Point) -> Result<Fresh, AllocError>
+// The dig for a new point in a mesh, which is done.
+fn dig_in(alloc: Global, mesh: &Mesh, p: Point) -> Result<Dig, AllocError>
     requires { StandsForNew mesh.now p }
-    ensures { IfOk result (λ f. (h : List Entry) → Stands mesh.now h → IsNew (replay h) p → IsFilled (replay h) p f.gone.items f.fresh.items) }
+    ensures point { IfOk result (λ dig. dig.point ≡ p) }
+    ensures done { IfOk result (λ dig. (h : List Entry) → Stands mesh.now h → IsNew (replay h) p → IsDoneIn (replay h) dig) }
 {
     let hold = mesh.hold();
     let cell = cell_in_conflict(hold, p);
     let mut dig = Dig::start(alloc, p, cell)?;
     match dig.advance(alloc, hold)? {
-        DigTurn::Done => fill(alloc, &dig),
+        DigTurn::Done => Ok(dig),
         DigTurn::Need(_) => unreachable!(),
     }
+}
+
+// The cells that a new point takes away from a mesh, and those that it brings.
+fn change_by(alloc: Global, mesh: &Mesh, p: Point) -> Result<Fresh, AllocError>
+    requires { StandsForNew mesh.now p }
+    ensures { IfOk result (λ f. (h : List Entry) → Stands mesh.now h → IsNew (replay h) p → IsFilled (replay h) p f.gone.items f.fresh.items) }
+{
+    let dig = dig_in(alloc, mesh, p)?;
+    let filled = fill(alloc, &dig)?;
+    Ok(filled)
 }
 
 /// Inserts a new point into a mesh. The entry is to continue the mesh's history with this insertion.
