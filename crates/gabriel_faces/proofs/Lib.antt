@@ -1,0 +1,5 @@
+pub mod Corners
+pub mod Links
+pub mod Powers
+pub mod JudgedByLink
+pub mod Opposite
