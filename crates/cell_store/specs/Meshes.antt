@@ -40,7 +40,7 @@ StandsForSome hold = (h : List Entry) × Stands hold h
 abbrev pub Continues : InHand → Entry → List Cell → List Cell → Type 0
 Continues mesh e gone fresh = (h : List Entry) × Stands mesh h × IsNext h e gone fresh
 
--- every bucket after an exchange of cells and an entry, and the room used up
+-- every bucket in hand after an exchange of cells and then an entry, and no other place changes
 pub record IsChanged (gone fresh : List Cell) (e : Entry) (old new : InHand) : Type 0 where
   pub grid : new.grid ≡ old.grid
   pub count : length new.places ≡ length old.places
