@@ -3,3 +3,4 @@ pub mod Turns
 pub mod Fills
 pub mod Judging
 pub mod Exploring
+pub mod Lists

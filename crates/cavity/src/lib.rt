@@ -5,6 +5,7 @@
 //! The definitions stand in `specs/`.
 #![tactic(auto)]
 
+mod cell_list;
 mod dig;
 mod explore;
 mod fill_hole;
