@@ -15,12 +15,12 @@ use Rattle.cell_store.specs.Changes.{IsChange}
 use Rattle.cavity.specs.Fills.{InsertionIsNext}
 
 -- what a history with one more entry leaves
-replay_more : (s : List ℕ) (h : List Entry) (e : Entry) → replay_from s (h ++ e ∷ []) ≡ after (replay_from s h) e.edit
+pub replay_more : (s : List ℕ) (h : List Entry) (e : Entry) → replay_from s (h ++ e ∷ []) ≡ after (replay_from s h) e.edit
 replay_more s [] e = refl
 replay_more s (d ∷ h) e = replay_more (after s d.edit) h e
 
 -- it is legal with the next number and the reply of what was left
-legal_more : (n : ℕ) (s : List ℕ) (h : List Entry) (e : Entry) → IsLegalFrom n s h → e.number ≡ n + length h → e.reply ≡ reply_to (replay_from s h) e.edit → IsLegalFrom n s (h ++ e ∷ [])
+pub legal_more : (n : ℕ) (s : List ℕ) (h : List Entry) (e : Entry) → IsLegalFrom n s h → e.number ≡ n + length h → e.reply ≡ reply_to (replay_from s h) e.edit → IsLegalFrom n s (h ++ e ∷ [])
 legal_more n s [] e l number reply = (omega (arith, number), reply, tt)
 legal_more n s (d ∷ h) e l number reply = (l.0, l.1, legal_more (n + 1) (after s d.edit) h e l.2 (omega (arith, number)) reply)
 
