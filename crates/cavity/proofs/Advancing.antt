@@ -10,6 +10,7 @@ use Rattle.point_order.specs.declared.cell.Cell.{Cell}
 use Rattle.point_order.specs.declared.cell.Cell.TheVariants.{Full, Open}
 use Rattle.point_order.specs.declared.cell.Facet.{Facet}
 use Rattle.point_order.specs.Complex.{complex}
+use Rattle.point_order.specs.Coordinates.{IsKey}
 use Rattle.point_order.specs.Facets.{facets_of, points_of}
 use Rattle.point_order.specs.Sets.{IsIn}
 use Rattle.edit_history.specs.declared.history.Entry.{Entry}
@@ -17,14 +18,14 @@ use Rattle.edit_history.specs.Histories.{replay}
 use Rattle.del_laws.specs.Listed.{IsListed}
 use Rattle.del_laws.proofs.Listed.{listed_is_cell, in_left}
 use Rattle.del_laws.proofs.Tests.{any_true, filtered_true}
-use Rattle.hole_laws.specs.Edits.{IsSolidSet}
+use Rattle.hole_laws.specs.Edits.{IsSolidSet, GoesFrom}
 use Rattle.hole_laws.proofs.Once.{one_gone_each}
 use Rattle.cell_store.specs.Grids.{bucket_of}
 use Rattle.cell_store.specs.Buckets.{Content, InHand, bucket_at}
 use Rattle.cell_store.specs.Ready.{AreHeld}
 use Rattle.cell_store.specs.Shares.{Stands}
 use Rattle.cell_store.specs.Swaps.{touches}
-use Rattle.cavity.specs.Digs.{Digging, AreCrossed, IsDigIn, IsDoneIn, facets_of_first}
+use Rattle.cavity.specs.Digs.{Digging, CanDig, AreCrossed, IsDigIn, IsDoneIn, facets_of_first}
 use Rattle.cavity.specs.Exploring.{IsCellMissing, IsAt, AreUncrossed, ArePointsHeld, Explores}
 use Rattle.cavity.specs.Turns.{IsNeeded, NoneIsNeeded}
 use Rattle.cavity.proofs.Lists.{at_place, apart_place, in_take, take_next, distinct_take, flat_from, in_flat, at_most}
@@ -104,6 +105,21 @@ module _ (s : List ℕ) (i : IsSolidSet s) (d : Digging) (k : IsDigIn s d) (cell
       }
 
 -- ---- turns
+
+-- a dig that begins
+pub begins : (s : List ℕ) (p : ℕ) (cell : Cell) → IsKey p → CanDig s p cell → IsDigIn s (record { point = p; found = cell ∷ []; explored = 0; rim = [] })
+begins s p cell key k = record {
+  new = record { key = key; absent = k.absent };
+  first = cell;
+  begun = inl refl;
+  crossed = record {
+    goes = λ q m. elim m [ inl e ↦ subst (λ (c : Cell). GoesFrom s p c) e k.goes | inr none ↦ absurd none ];
+    behind = λ f q m. absurd m;
+    rim_is = λ f. (λ m. absurd m, λ r. absurd r.0);
+    found_once = (λ m. m, tt);
+    rim_once = tt;
+  };
+}
 
 -- a dig that went on over a hold: its point is the same, it is a dig still, and the buckets of explored cells are in hand
 pub record GoesOn (hold : InHand) (old now : Digging) : Type 0 where

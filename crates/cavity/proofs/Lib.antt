@@ -11,3 +11,4 @@ pub mod FourCells
 pub mod OpeningLaws
 pub mod Searching
 pub mod NextEntry
+pub mod MeshGrowth

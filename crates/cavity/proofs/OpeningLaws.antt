@@ -99,7 +99,7 @@ four_new a b c d f =
   tt))))
 
 -- what the opening leaves: the four in order
-leaves_four : (a b c d : ℕ × ℕ) → is_flat a.1 b.1 c.1 d.1 ≡ false → replay (opening_history (a ∷ b ∷ c ∷ d ∷ [])) ≡ ascending (a.1 ∷ b.1 ∷ c.1 ∷ d.1 ∷ [])
+pub leaves_four : (a b c d : ℕ × ℕ) → is_flat a.1 b.1 c.1 d.1 ≡ false → replay (opening_history (a ∷ b ∷ c ∷ d ∷ [])) ≡ ascending (a.1 ∷ b.1 ∷ c.1 ∷ d.1 ∷ [])
 leaves_four a b c d f =
     replay_is 0 [] (a ∷ b ∷ c ∷ d ∷ []) (four_new a b c d f)
     ∙ ascending-is (with_all [] (a ∷ b ∷ c ∷ d ∷ [])) (a.1 ∷ b.1 ∷ c.1 ∷ d.1 ∷ [])

@@ -27,3 +27,11 @@ StandsForPoints mesh s = (h : List Entry) × Stands mesh h × (replay h ≡ s)
 -- the points of the tagged lines are all in the list
 abbrev pub AreAmong : List (ℕ × ℕ) → List ℕ → Type 0
 AreAmong lines s = (line : ℕ × ℕ) → IsIn line lines → IsIn line.1 s
+
+-- The mesh stands for a history of so many entries, which leaves some of the points, those of the front among them.
+pub record HasGrown (points front : List ℕ) (number : ℕ) (mesh : InHand) : Type 0 where
+  pub history : List Entry
+  pub stands : Stands mesh history
+  pub count : number ≡ length history
+  pub inside : (p : ℕ) → IsIn p (replay history) → IsIn p points
+  pub front_in : (p : ℕ) → IsIn p front → IsIn p (replay history)

@@ -6,3 +6,4 @@ pub mod Exploring
 pub mod Searching
 pub mod Opening
 pub mod Growing
+pub mod Lists

@@ -8,6 +8,7 @@ ghost use Rattle.cell_store.specs.Meshes.{AllInHand};
 ghost use Rattle.cavity.specs.Digs.{CanDig, IsDigIn};
 ghost use Rattle.cavity.specs.Turns.{StandsForDig, TurnGives, AsksBelow};
 
+use crate::cell_list::CellList;
 use crate::explore::{explore, missing_bucket, missing_point};
 use cell_store::Hold;
 use point_order::{Cell, Facet, Point};
@@ -21,7 +22,7 @@ use std::marker::Model;
 #[derive(Debug, Drop)]
 pub struct Dig {
     point: Point,
-    found: Vec<Cell>,
+    found: CellList,
     explored: usize,
     rim: Vec<Facet>,
 }
@@ -31,7 +32,7 @@ impl Model for Dig {
 
     ghost Value = { Digging };
 
-    ghost view = { λ d. record { point = d.point; found = d.found.items; explored = d.explored; rim = d.rim.items } };
+    ghost view = { λ d. record { point = d.point; found = d.found; explored = d.explored; rim = d.rim.items } };
 }
 
 /// What a turn of a dig comes to.
@@ -53,11 +54,9 @@ impl Dig {
         ensures digs { IfOk result (λ dig. (s : List ℕ) → CanDig s p cell → IsDigIn s dig) }
     {
         let _ = p.key();
-        let mut found = Vec::new(alloc);
-        found.push(cell)?;
         Ok(Dig {
             point: p,
-            found,
+            found: CellList::new(alloc, cell)?,
             explored: 0,
             rim: Vec::new(alloc),
         })
@@ -78,11 +77,10 @@ impl Dig {
         ensures below { IfOk result (λ turn. AsksBelow (length hold.now.places) turn) }
         ensures all { IfOk result (λ turn. AllInHand hold.now → turn ≡ DigTurn.Done) }
     {
-        if let Some(b) = missing_bucket(hold, &self.found) {
+        if let Some(b) = missing_bucket(hold, self.found.as_slice()) {
             return Ok(DigTurn::Need(b));
         }
-        while self.explored < self.found.len() {
-            let cell = self.found[self.explored];
+        while let Some(cell) = self.found.get(self.explored) {
             if let Some(b) = missing_point(hold, cell.points()) {
                 return Ok(DigTurn::Need(b));
             }
@@ -103,7 +101,7 @@ impl Dig {
     pub(crate) fn found(&self) -> &[Cell]
         ensures { result.now ≡ self.now.found }
     {
-        &self.found
+        self.found.as_slice()
     }
 
     // The rim facets of those explored.

@@ -1,6 +1,6 @@
 //! The steps of a dig, over the lists that it keeps.
 
-ghost use Rattle.std.specs.Prelude.{◌≡◌, ◌↔◌, ◌++◌, List, MatchOption, OnOk, IsTrue};
+ghost use Rattle.std.specs.Prelude.{◌≡◌, ◌++◌, List, MatchOption, OnOk};
 ghost use Rattle.point_order.specs.Facets.{facets_of, points_of};
 ghost use Rattle.point_order.specs.Sets.{IsIn};
 ghost use Rattle.point_order.specs.declared.cell.Cell.{Cell};
@@ -10,6 +10,7 @@ ghost use Rattle.cell_store.specs.Shares.{Stands, NoneInHand, points_on};
 ghost use Rattle.cell_store.specs.Ready.{AreHeld};
 ghost use Rattle.cavity.specs.Exploring.{ArePointsHeld, IsBucketMissing, IsCellMissing, StandsAt, StandsNewAt, Crosses, Explores};
 
+use crate::cell_list::CellList;
 use crate::judge::{cell_across, goes};
 use cell_store::Hold;
 use point_order::{Cell, Facet, Point};
@@ -41,32 +42,25 @@ pub fn missing_bucket(hold: &Hold, cells: &[Cell]) -> Option<u32>
     None
 }
 
-// Whether the cell is among those found.
-fn is_found(found: &[Cell], cell: &Cell) -> bool
-    ensures { IsTrue result ↔ IsIn cell.now found.now }
-{
-    found.contains(cell)
-}
-
 // Crosses a facet of a found cell. The cell behind it goes, and is found, or it stays, and the facet is one of the rim.
 fn cross(
     point: Point,
     hold: &Hold,
     cell: &Cell,
     facet: &Facet,
-    found: &mut Vec<Cell>,
+    found: &mut CellList,
     rim: &mut Vec<Facet>,
 ) -> Result<(), AllocError>
-    requires stands { StandsAt hold.now point cell.now found.old.items rim.old.items }
+    requires stands { StandsAt hold.now point cell.now found.old rim.old.items }
     requires facet { IsIn facet.now (facets_of cell.now) }
     requires held { ¬ (NoneInHand hold.now (points_on facet.now)) }
-    ensures more { OnOk result ((more : List Cell) × (found.new.items ≡ found.old.items ++ more)) }
-    ensures crossed { OnOk result ((h : List Entry) → Stands hold.now h → Crosses (replay h) point cell.now facet.now found.old.items rim.old.items found.new.items rim.new.items) }
+    ensures more { OnOk result ((more : List Cell) × (found.new ≡ found.old ++ more)) }
+    ensures crossed { OnOk result ((h : List Entry) → Stands hold.now h → Crosses (replay h) point cell.now facet.now found.old rim.old.items found.new rim.new.items) }
 {
     let other = cell_across(hold, cell, facet);
-    if !is_found(found, other) {
+    if !found.contains(other) {
         if goes(hold, other, point) {
-            found.push(*other)?;
+            found.push(other)?;
         } else {
             rim.push(*facet)?;
         }
@@ -79,13 +73,13 @@ pub(crate) fn explore(
     point: Point,
     hold: &Hold,
     cell: &Cell,
-    found: &mut Vec<Cell>,
+    found: &mut CellList,
     rim: &mut Vec<Facet>,
 ) -> Result<(), AllocError>
-    requires stands { StandsNewAt hold.now point cell.now found.old.items rim.old.items }
+    requires stands { StandsNewAt hold.now point cell.now found.old rim.old.items }
     requires held { ArePointsHeld hold.now (points_of cell.now) }
-    ensures more { OnOk result ((more : List Cell) × (found.new.items ≡ found.old.items ++ more)) }
-    ensures explored { OnOk result ((h : List Entry) → Stands hold.now h → Explores (replay h) point cell.now found.old.items rim.old.items found.new.items rim.new.items) }
+    ensures more { OnOk result ((more : List Cell) × (found.new ≡ found.old ++ more)) }
+    ensures explored { OnOk result ((h : List Entry) → Stands hold.now h → Explores (replay h) point cell.now found.old rim.old.items found.new rim.new.items) }
 {
     let facets = cell.facets();
     for facet in &facets {

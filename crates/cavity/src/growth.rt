@@ -1,6 +1,6 @@
 //! Meshes that grow point by point.
 
-ghost use Rattle.std.specs.Prelude.{◌≡◌, ◌++◌, ◌∷◌, [], true, List, IfOk, OnOk, OnErr};
+ghost use Rattle.std.specs.Prelude.{◌≡◌, ◌++◌, ◌∷◌, [], true, List, ◌<◌, length, slice_index, IfOk, OnOk, OnErr};
 ghost use Rattle.point_order.specs.Sets.{IsAscending};
 ghost use Rattle.point_order.specs.Solid.{is_solid};
 ghost use Rattle.edit_history.specs.declared.history.Entry.{Entry};
@@ -59,10 +59,18 @@ pub fn insert(alloc: Global, mesh: &mut Mesh, entry: Entry) -> Result<(), AllocE
 {
     let p = entry.edit.point();
     let _ = p.key();
-    let Fresh { gone, fresh } = change_by(alloc, mesh, p)?;
-    mesh.reserve(alloc, &gone, &fresh, p)?;
-    mesh.change(&gone, &fresh, entry);
+    let change = change_by(alloc, mesh, p)?;
+    mesh.reserve(alloc, &change.gone, &change.fresh, p)?;
+    mesh.change(&change.gone, &change.fresh, entry);
     Ok(())
+}
+
+// The point at a place, with 0 for a tag.
+fn line_at(points: &[Point], i: usize) -> (u32, Point)
+    requires { i < length points.now }
+    ensures { result ≡ (0, slice_index points.now i) }
+{
+    (0, points[i])
 }
 
 // Four independent points of a solid list, with 0 for their tags.
@@ -73,10 +81,10 @@ fn four_of(points: &[Point]) -> [(u32, Point); 4]
 {
     match find_four(points) {
         Ok(four) => [
-            (0, points[four[0]]),
-            (0, points[four[1]]),
-            (0, points[four[2]]),
-            (0, points[four[3]]),
+            line_at(points, four[0]),
+            line_at(points, four[1]),
+            line_at(points, four[2]),
+            line_at(points, four[3]),
         ],
         Err(_) => unreachable!(),
     }

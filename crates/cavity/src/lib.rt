@@ -6,6 +6,7 @@
 #![tactic(auto)]
 
 mod conflict_cell;
+mod cell_list;
 mod dig;
 mod explore;
 mod fill_hole;

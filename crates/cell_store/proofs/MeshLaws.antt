@@ -1,5 +1,5 @@
 -- Meshes, their histories, and buckets in hand.
-use Rattle.std.specs.Prelude.{◌≡◌, ℕ, ◌+◌, ◌-◌, ◌*◌, ◌^◌, zero, suc, ◌<◌, ◌≤◌, ◌==◌, min, nat_lt, Bool, true, false, cond, not, ◌&&◌, List, [], ◌∷◌, ◌++◌, Option, None, Some, IsSome, is_some, length}
+use Rattle.std.specs.Prelude.{◌≡◌, ℕ, ◌+◌, ◌-◌, ◌*◌, ◌^◌, zero, suc, ◌<◌, ◌≤◌, ◌==◌, min, nat_lt, Bool, true, false, cond, not, ◌&&◌, List, [], ◌∷◌, ◌++◌, Option, None, Some, IsSome, is_some, length, slice_index_or}
 use Rattle.std.specs.List.{filter, flat_map, range_with_len, list_all, All}
 use Rattle.std.specs.List.Sorted.{IsPermutation}
 use Rattle.std.specs.Option.{option_map, option_map_or}
@@ -10,23 +10,31 @@ use Rattle.std.proofs.lemmas.Grind.{flat_map-append}
 use Rattle.std.proofs.lemmas.List.{append-nil}
 use Rattle.std.proofs.lemmas.List.Sorted.{All-permutation, IsPermutation-append, IsPermutation-filter_both, IsPermutation-map, IsPermutation-refl, IsPermutation-sym, IsPermutation-trans, length_permutation}
 use Rattle.point_order.specs.declared.cell.Cell.{Cell}
+use Rattle.point_order.specs.declared.cell.Cell.TheVariants.{Full, Open}
+use Rattle.point_order.specs.Complex.{complex}
 use Rattle.point_order.specs.Facets.{points_of}
 use Rattle.point_order.specs.Sets.{IsIn}
 use Rattle.edit_history.specs.declared.history.Entry.{Entry}
 use Rattle.edit_history.specs.Edits.{point_of, after}
-use Rattle.edit_history.specs.Histories.{IsLegalFrom}
+use Rattle.edit_history.specs.Histories.{replay, IsLegalFrom}
 use Rattle.edit_history.specs.Merging.{numbers}
 use Rattle.edit_history.proofs.Lines.{at-in}
-use Rattle.del_laws.proofs.Tests.{all_from, all_true}
+use Rattle.del_laws.specs.Listed.{IsListed}
+use Rattle.del_laws.proofs.Listed.{listed_is_cell}
+use Rattle.del_laws.proofs.Ordered.{complex_is_sorted, same_members}
+use Rattle.del_laws.proofs.Tests.{all_from, all_true, filtered_from, filtered_true}
 use Rattle.cell_store.specs.Grids.{bucket_of}
 use Rattle.cell_store.specs.Buckets.{Content, InHand, bucket_at}
 use Rattle.cell_store.specs.Shares.{Stands, IsShare, entries_share}
 use Rattle.cell_store.specs.Changes.{IsSwapped, IsNoted, swapped_in, noted_in}
 use Rattle.cell_store.specs.Ready.{AreHeld}
-use Rattle.cell_store.specs.Meshes.{AllInHand, HasPlaces, IsMesh, Continues, IsChanged, IsCountOf, all_entries, OneHistory, MeshGathersHistory, AllAreHeld, FewerStand, MoreAreHeld}
+use Rattle.cell_store.specs.Swaps.{touches, AreSameCells}
+use Rattle.cell_store.specs.Meshes.{AllInHand, HasPlaces, IsMesh, Continues, IsChanged, IsCountOf, all_entries, all_cells, OneHistory, MeshGathersHistory, MeshGathersComplex, AllAreHeld, FewerStand, MoreAreHeld}
 use Rattle.cell_store.proofs.GridLaws.{bucket-below}
 use Rattle.cell_store.proofs.Members.{take_next}
 use Rattle.cell_store.proofs.NextLaws.{entry_keeps_hold}
+use Rattle.cell_store.proofs.RoomLaws.{in_front, in_back, in_either}
+use Rattle.cell_store.proofs.ShareLaws.{ascending_replay, touched}
 
 -- ---- options
 
@@ -222,6 +230,55 @@ mesh_gathers mesh h m st = record {
 pub one_history : OneHistory
 one_history mesh h k m s t =
     (mesh_gathers mesh k m t).ordered h (gathers mesh h m.has m.all s) (numbers_are 0 h (legal_numbered 0 [] h s.legal))
+
+-- ---- the cells of a mesh
+
+in_flat : {X Y : Type 0} (f : X → List Y) (l : List X) (i : ℕ) (d : X) (y : Y) → i < length l → IsIn y (f (slice_index_or l i d)) → IsIn y (flat_map f l)
+in_flat f [] i d y h k = absurd (omega arith)
+in_flat f (x ∷ l) zero d y h k = in_front (f x) (flat_map f l) y k
+in_flat f (x ∷ l) (suc i) d y h k = in_back (f x) (flat_map f l) y (in_flat f l i d y (omega arith) k)
+
+flat_from : {X Y : Type 0} (f : X → List Y) (l : List X) (d : X) (y : Y) → IsIn y (flat_map f l) → (i : ℕ) × IsIn y (f (slice_index_or l i d))
+flat_from f [] d y k = absurd k
+flat_from f (x ∷ l) d y k = elim (in_either (f x) (flat_map f l) y k) [
+  | inl j ↦ (0, j)
+  | inr j ↦ (let r = flat_from f l d y j in (suc r.0, r.1))
+]
+
+abbrev cells_of : Option Content → List Cell
+cells_of o = option_map_or (λ c. c.cells) o []
+
+-- a cell of a complex has a point
+has_point : (s : List ℕ) (c : Cell) → IsListed s c → (p : ℕ) × IsIn p (points_of c)
+has_point s (Full q) l = (l.a, subst (IsIn l.a) (sym l.is) (inl refl))
+has_point s (Open t) l = (l.a, subst (IsIn l.a) (sym l.is) (inl refl))
+
+cells_are : (mesh : InHand) (h : List Entry) → IsMesh mesh → Stands mesh h → AreSameCells (all_cells mesh.places) (complex (replay h))
+cells_are mesh h m st = (forth, back)
+  where
+    -- of a bucket in hand
+    known : (b : ℕ) (o : Option Content) → bucket_at mesh.places b ≡ o → (c : Cell) → IsIn c (cells_of o) → IsIn c (complex (replay h))
+    known b None e c i = absurd i
+    known b (Some x) e c i = (filtered_from (touches mesh.grid b) (complex (replay h)) c (subst (IsIn c) ((st.shares b x e).cells) i)).0
+
+    forth : (c : Cell) → IsIn c (all_cells mesh.places) → IsIn c (complex (replay h))
+    forth c i = let r = flat_from cells_of mesh.places None c i in known r.0 (bucket_at mesh.places r.0) refl c r.1
+
+    back : (c : Cell) → IsIn c (complex (replay h)) → IsIn c (all_cells mesh.places)
+    back c i =
+        let p = has_point (replay h) c (listed_is_cell (replay h) c (ascending_replay h) i) in
+        let x = some_of (bucket_at mesh.places (bucket_of mesh.grid p.0)) (point_held mesh p.0 m.has m.all) in
+        let k = filtered_true (touches mesh.grid (bucket_of mesh.grid p.0)) (complex (replay h)) c i (touched mesh.grid p.0 (bucket_of mesh.grid p.0) c refl p.1) in
+        in_flat cells_of mesh.places (bucket_of mesh.grid p.0) None c (subst (λ n. bucket_of mesh.grid p.0 < n) (sym m.has.places) (bucket-below mesh.grid p.0 m.has.size))
+        (subst (λ o. IsIn c (cells_of o)) (sym x.1) (subst (IsIn c) (sym (st.shares (bucket_of mesh.grid p.0) x.0 x.1).cells) k))
+
+pub mesh_gathers_cells : MeshGathersComplex
+mesh_gathers_cells mesh h m st = record {
+  cells = cells_are mesh h m st;
+  ordered = λ l s e.
+      let k = cells_are mesh h m st in
+      same_members l (complex (replay h)) s (complex_is_sorted (replay h) (ascending_replay h)) (λ c i. k.0 c (e.1 c i)) (λ c i. e.0 c (k.1 c i));
+}
 
 -- ---- the count
 

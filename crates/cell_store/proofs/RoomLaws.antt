@@ -38,16 +38,16 @@ differ_from n m = grind (arith, nat_tests)
 
 -- ---- the numbers of the touched buckets
 
-in_front : {X : Type 0} (l m : List X) (x : X) → IsIn x l → IsIn x (l ++ m)
+pub in_front : {X : Type 0} (l m : List X) (x : X) → IsIn x l → IsIn x (l ++ m)
 in_front [] m x i = absurd i
 in_front (y ∷ l) m x (inl e) = inl e
 in_front (y ∷ l) m x (inr i) = inr (in_front l m x i)
 
-in_back : {X : Type 0} (l m : List X) (x : X) → IsIn x m → IsIn x (l ++ m)
+pub in_back : {X : Type 0} (l m : List X) (x : X) → IsIn x m → IsIn x (l ++ m)
 in_back [] m x i = i
 in_back (y ∷ l) m x i = inr (in_back l m x i)
 
-in_either : {X : Type 0} (l m : List X) (x : X) → IsIn x (l ++ m) → IsIn x l ⊎ IsIn x m
+pub in_either : {X : Type 0} (l m : List X) (x : X) → IsIn x (l ++ m) → IsIn x l ⊎ IsIn x m
 in_either [] m x i = inr i
 in_either (y ∷ l) m x (inl e) = inl (inl e)
 in_either (y ∷ l) m x (inr i) = elim (in_either l m x i) [ inl j ↦ inl (inr j) | inr j ↦ inr j ]

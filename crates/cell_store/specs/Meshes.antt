@@ -2,11 +2,16 @@
 use Rattle.std.specs.Prelude.{◌≡◌, ℕ, ◌-◌, ◌*◌, ◌^◌, ◌<◌, min, true, List, [], length, Some, IsSome, IsPermutation, Option}
 use Rattle.std.specs.List.{flat_map}
 use Rattle.std.specs.Option.{option_map, option_map_or}
+use Rattle.std.specs.List.Sorted.{IsStrictlySortedBy}
 use Rattle.point_order.specs.declared.cell.Cell.{Cell}
+use Rattle.point_order.specs.CellOrder.{cell_cmp}
+use Rattle.point_order.specs.Complex.{complex}
 use Rattle.edit_history.specs.declared.history.Entry.{Entry}
+use Rattle.edit_history.specs.Histories.{replay}
 use Rattle.edit_history.specs.Merging.{AreNumbered, numbers, places_of}
 use Rattle.cell_store.specs.Grids.{is_grid_size}
 use Rattle.cell_store.specs.Buckets.{Content, InHand, bucket_at}
+use Rattle.cell_store.specs.Swaps.{AreSameCells}
 use Rattle.cell_store.specs.Shares.{Stands}
 use Rattle.cell_store.specs.Changes.{IsNext, swapped_in, noted_in}
 use Rattle.cell_store.specs.Ready.{AreHeld}
@@ -35,7 +40,7 @@ StandsForSome hold = (h : List Entry) × Stands hold h
 abbrev pub Continues : InHand → Entry → List Cell → List Cell → Type 0
 Continues mesh e gone fresh = (h : List Entry) × Stands mesh h × IsNext h e gone fresh
 
--- every bucket after an exchange of cells and an entry, and the room used up
+-- every bucket in hand after an exchange of cells and then an entry, and no other place changes
 pub record IsChanged (gone fresh : List Cell) (e : Entry) (old new : InHand) : Type 0 where
   pub grid : new.grid ≡ old.grid
   pub count : length new.places ≡ length old.places
@@ -49,6 +54,10 @@ IsCountOf mesh n = (h : List Entry) → Stands mesh h → n ≡ min (length h) (
 abbrev pub all_entries : List (Option Content) → List Entry
 all_entries places = flat_map (λ o. option_map_or (λ c. c.entries) o []) places
 
+-- and their cells
+abbrev pub all_cells : List (Option Content) → List Cell
+all_cells places = flat_map (λ o. option_map_or (λ c. c.cells) o []) places
+
 -- A mesh stands for one history.
 abbrev pub OneHistory : Type 0
 OneHistory = (mesh : InHand) (h k : List Entry) → IsMesh mesh → Stands mesh h → Stands mesh k → h ≡ k
@@ -61,6 +70,14 @@ pub record GathersHistory (mesh : InHand) (h : List Entry) : Type 0 where
 
 abbrev pub MeshGathersHistory : Type 0
 MeshGathersHistory = (mesh : InHand) (h : List Entry) → IsMesh mesh → Stands mesh h → GathersHistory mesh h
+
+-- The cells of all its buckets are those of the complex that its history leaves, and in order, each once, they are the complex.
+pub record GathersComplex (mesh : InHand) (h : List Entry) : Type 0 where
+  pub cells : AreSameCells (all_cells mesh.places) (complex (replay h))
+  pub ordered : (l : List Cell) → IsStrictlySortedBy cell_cmp l → AreSameCells (all_cells mesh.places) l → l ≡ complex (replay h)
+
+abbrev pub MeshGathersComplex : Type 0
+MeshGathersComplex = (mesh : InHand) (h : List Entry) → IsMesh mesh → Stands mesh h → GathersComplex mesh h
 
 -- With every bucket in hand, the cells of any list are held.
 abbrev pub AllAreHeld : Type 0

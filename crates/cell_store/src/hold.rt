@@ -158,7 +158,7 @@ impl Hold {
     }
 
     // The bucket of one of the points that is in hand, if there is one.
-    fn bucket_among(&self, points: &[Point]) -> Option<u32>
+    pub(crate) fn bucket_among(&self, points: &[Point]) -> Option<u32>
         ensures { MatchOption result (NoneInHand self.now points.now) (λ b. IsInHandFor self.now points.now b) }
     {
         let grid = self.grid();

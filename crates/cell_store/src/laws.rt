@@ -2,7 +2,7 @@
 //! contract is a law.
 
 ghost use Rattle.cell_store.specs.Changes.{EntryKeepsHold, ShareAfterEntry, ShareElsewhere};
-ghost use Rattle.cell_store.specs.Meshes.{OneHistory, MeshGathersHistory, AllAreHeld, FewerStand, MoreAreHeld};
+ghost use Rattle.cell_store.specs.Meshes.{OneHistory, MeshGathersHistory, MeshGathersComplex, AllAreHeld, FewerStand, MoreAreHeld};
 
 /// After an exchange of exactly the gone and the new cells, and after the entry, a hold that stood for a history stands for the
 /// history with the entry; each share is that exact function of the one before, and a bucket that the entry does not touch
@@ -21,6 +21,11 @@ pub fn mesh_has_one_history()
 /// The entries of all buckets of a mesh are those of its history, and in the order of their numbers they are the history.
 pub fn mesh_gathers_history()
     ensures { MeshGathersHistory }
+{}
+
+/// The cells of all buckets of a mesh are those of its complex, and in order, each once, they are the complex.
+pub fn mesh_gathers_complex()
+    ensures { MeshGathersComplex }
 {}
 
 /// With every bucket in hand the cells of any list are held.

@@ -1,6 +1,6 @@
 //! Meshes: all buckets of a grid.
 
-ghost use Rattle.std.specs.Prelude.{◌≡◌, ◌<◌, ◌∷◌, ◌++◌, [], true, Some, OnOk, OnErr, length, List};
+ghost use Rattle.std.specs.Prelude.{◌≡◌, ◌*◌, ◌<◌, ◌∷◌, ◌++◌, [], true, Some, OnOk, OnErr, length, List};
 ghost use Rattle.edit_history.specs.declared.history.Entry.{Entry};
 ghost use Rattle.edit_history.specs.Edits.{point_of};
 ghost use Rattle.cell_store.specs.Grids.{is_grid_size};
@@ -58,6 +58,7 @@ impl Mesh {
     pub fn grid(&self) -> Grid
         ensures grid { result ≡ self.now.grid }
         ensures size { is_grid_size self.now.grid ≡ true }
+        ensures places { length self.now.places ≡ self.now.grid * self.now.grid * self.now.grid }
     {
         self.hold.grid()
     }

@@ -1,8 +1,12 @@
-//! The sizes of grids, the numbers of buckets, and that the calls that want memory succeed where there is enough.
+//! The sizes of grids, the numbers of buckets, the buckets of a tetrahedron, and that the calls that want memory succeed where
+//! there is enough.
 
+use crate::star::{facet_points, other_on};
 use crate::{BadGrid, Bucket, Grid, Hold};
 use edit_history::{Edit, Entry, Reply};
 use point_order::{Cell, Point};
+use std::alloc::Global;
+use std::process::Abort;
 use std::test::Fail;
 
 #[test]
@@ -93,5 +97,120 @@ fn entries(rt: HostRuntime) -> Result<(), Fail> {
         assert_eq!(rt; copy.cells().count(), 0);
         assert_eq!(rt; copy.entries().len(), entries);
     }
+    Ok(())
+}
+
+// Puts a new bucket at the number of each point's, which are to differ.
+fn put_buckets(
+    rt: &impl Abort,
+    alloc: Global,
+    hold: &mut Hold,
+    points: &[Point],
+) -> Result<(), Fail> {
+    for p in points {
+        let b = hold.grid().bucket_of(*p);
+        assert!(rt; !hold.has(b));
+        hold.put(b, Bucket::new(alloc));
+    }
+    Ok(())
+}
+
+// Enters that the points are added, one after another.
+fn add_points(
+    rt: &impl Abort,
+    alloc: Global,
+    hold: &mut Hold,
+    points: &[Point],
+) -> Result<(), Fail> {
+    let none: [Cell; 0] = [];
+    let mut number = 0;
+    for p in points {
+        assert!(rt; hold.has(hold.grid().bucket_of(*p)));
+        assert!(rt; hold.holds_cells(&none));
+        hold.reserve(alloc, &none, &none, *p)?;
+        hold.push_entry(Entry {
+            number,
+            by: 0,
+            tag: 0,
+            edit: Edit::Add(*p),
+            reply: Reply::Inserted,
+        });
+        number = number.saturating_add(1);
+    }
+    Ok(())
+}
+
+// Puts the cells in.
+fn add_cells(
+    rt: &impl Abort,
+    alloc: Global,
+    hold: &mut Hold,
+    cells: &[Cell],
+    p: Point,
+) -> Result<(), Fail> {
+    let none: [Cell; 0] = [];
+    assert!(rt; hold.has(hold.grid().bucket_of(p)));
+    assert!(rt; hold.holds_cells(&none));
+    assert!(rt; hold.holds_cells(cells));
+    hold.reserve(alloc, &none, cells, p)?;
+    hold.swap_cells(&none, cells);
+    Ok(())
+}
+
+// Takes the bucket with the number out.
+fn take_bucket(rt: &impl Abort, hold: &mut Hold, b: u32) -> Result<(), Fail> {
+    assert!(rt; hold.has(b));
+    let bucket = hold.take(b);
+    assert_eq!(rt; bucket.points().len(), 1);
+    Ok(())
+}
+
+#[test]
+fn tetrahedron(rt: HostRuntime) -> Result<(), Fail> {
+    let a = Point::new(0, 0, 0)?;
+    let b = Point::new(0, 0, 9000)?;
+    let c = Point::new(0, 9000, 0)?;
+    let d = Point::new(9000, 0, 0)?;
+    assert!(rt; a != b && a != c && a != d && b != c && b != d && c != d);
+    let whole = Cell::full(a, b, c, d);
+    let abc = Cell::hull(a, b, c);
+    let abd = Cell::hull(a, b, d);
+    let acd = Cell::hull(a, c, d);
+    let bcd = Cell::hull(b, c, d);
+    let mut hold = Hold::empty(rt.alloc(), Grid::new(2)?)?;
+    assert!(rt; !hold.holds_cells(&[whole]));
+    put_buckets(&rt, rt.alloc(), &mut hold, &[a, b, c, d])?;
+    assert!(rt; hold.holds_cells(&[whole]));
+    add_points(&rt, rt.alloc(), &mut hold, &[a, b, c, d])?;
+    add_cells(
+        &rt,
+        rt.alloc(),
+        &mut hold,
+        &[bcd, whole, abd, abc, acd, abc],
+        d,
+    )?;
+    for number in [1, 2, 4] {
+        take_bucket(&rt, &mut hold, number)?;
+    }
+    assert!(rt; !hold.holds_cells(&[whole]));
+    assert!(rt; hold.has(0));
+    let copy = hold.copy_of(rt.alloc(), 0)?;
+    assert_eq!(rt; copy.points().len(), 1);
+    assert_eq!(rt; copy.cells().count(), 4);
+    assert_eq!(rt; copy.entries().len(), 1);
+    assert!(rt; hold.has(hold.grid().bucket_of(a)));
+    let mut star = hold.cells_at(a);
+    for cell in [whole, abc, abd, acd] {
+        assert_eq!(rt; star.next(), Some(&cell));
+    }
+    assert_eq!(rt; star.next(), None);
+    let facets = whole.facets();
+    assert_eq!(rt; hold.bucket_among(facet_points(&facets[3])), Some(0));
+    let cells = hold.bucket(0).cell_list();
+    assert_eq!(rt; other_on(cells, &whole, &facets[3]), Some(&abc));
+    let far = facet_points(&facets[0]);
+    assert_eq!(rt; hold.bucket_among(far), None);
+    let first = far.first().map(|p| hold.grid().bucket_of(*p));
+    assert_eq!(rt; first, Some(1));
     Ok(())
 }

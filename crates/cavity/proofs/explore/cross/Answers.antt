@@ -1,7 +1,4 @@
-use Rattle.std.proofs.Common.{subst, sym, List}
-use Rattle.point_order.specs.declared.cell.Cell.{Cell}
 use Rattle.edit_history.specs.Histories.{replay}
-use Rattle.point_order.specs.Sets.{IsIn}
 use Rattle.del_laws.proofs.Tests.{not_both}
 use Rattle.cavity.proofs.Standing.{solid_set, held_on}
 use Rattle.cavity.proofs.Crossing.{crossed_found, crossed_goes, crossed_stays}
@@ -24,16 +21,16 @@ goes-requires-clause-held c =
 pub returns-in_ok-push-clause-crossed : goal.returns-in_ok-push-clause-crossed
 returns-in_ok-push-clause-crossed c h st crossed t u =
     let o = c.cell_across-other.ensures h st (t.so_far.goes c.args.cell.now t.among).before in
-    rw c.in_ok-push.ensures.items
-    (crossed_goes (replay h) c.args.point (solid_set c.args.hold.now h st) crossed c.args.cell.now c.cell_across-other.result.now c.args.facet.now c.args.found.now.items c.args.rim.now.items t c.requires.facet o (λ k. not_both _ (c.is_found.ensures.1 (subst (λ (l : List Cell). IsIn c.cell_across-other.result.now l) (sym c.deref.ensures.value) k)) c.if-not-is_found.true) (c.if-goes.ensures h st t.new o.listed))
+    rw c.in_ok-push.ensures
+    (crossed_goes (replay h) c.args.point (solid_set c.args.hold.now h st) crossed c.args.cell.now c.cell_across-other.result.now c.args.facet.now c.args.found.now c.args.rim.now.items t c.requires.facet o (λ k. not_both _ (c.contains.ensures.1 k) c.if-not-contains.true) (c.if-goes.ensures h st t.new o.listed))
 
 pub returns-in_ok-push-2-clause-crossed : goal.returns-in_ok-push-2-clause-crossed
 returns-in_ok-push-2-clause-crossed c h st crossed t u =
     let o = c.cell_across-other.ensures h st (t.so_far.goes c.args.cell.now t.among).before in
     rw c.in_ok-push-2.ensures.items
-    (crossed_stays (replay h) c.args.point (solid_set c.args.hold.now h st) crossed c.args.cell.now c.cell_across-other.result.now c.args.facet.now c.args.found.now.items c.args.rim.now.items t c.requires.facet o u (c.if-goes.ensures h st t.new o.listed))
+    (crossed_stays (replay h) c.args.point (solid_set c.args.hold.now h st) crossed c.args.cell.now c.cell_across-other.result.now c.args.facet.now c.args.found.now c.args.rim.now.items t c.requires.facet o u (c.if-goes.ensures h st t.new o.listed))
 
-pub returns-else-not-is_found-clause-crossed : goal.returns-else-not-is_found-clause-crossed
-returns-else-not-is_found-clause-crossed c h st crossed t u =
+pub returns-else-not-contains-clause-crossed : goal.returns-else-not-contains-clause-crossed
+returns-else-not-contains-clause-crossed c h st crossed t u =
     let o = c.cell_across-other.ensures h st (t.so_far.goes c.args.cell.now t.among).before in
-    crossed_found (replay h) c.args.point (solid_set c.args.hold.now h st) crossed c.args.cell.now c.cell_across-other.result.now c.args.facet.now c.args.found.now.items c.args.rim.now.items t c.requires.facet o (subst (λ (l : List Cell). IsIn c.cell_across-other.result.now l) c.deref.ensures.value (c.is_found.ensures.0 c.if-not-is_found.false))
+    crossed_found (replay h) c.args.point (solid_set c.args.hold.now h st) crossed c.args.cell.now c.cell_across-other.result.now c.args.facet.now c.args.found.now c.args.rim.now.items t c.requires.facet o (c.contains.ensures.0 c.if-not-contains.false)

@@ -11,6 +11,6 @@ use Rattle.cavity.proofs.explore.explore.Given as goal
 
 abbrev pub invariant-loop-facet : goal.invariant-loop-facet
 invariant-loop-facet l =
-    ((more : List Cell) × (l.found.items ≡ l.initial.found.items ++ more))
-    × ((h : List Entry) → Stands l.hold h → (crossed : List Facet) → IsAt (replay h) l.point crossed l.cell l.initial.found.items l.initial.rim.items →
-    AreUncrossed (replay h) l.point crossed (facets_of l.cell) → AreCrossed (replay h) l.point (crossed ++ take l.facet-index l.facet-items) l.found.items l.rim.items)
+    ((more : List Cell) × (l.found ≡ l.initial.found ++ more))
+    × ((h : List Entry) → Stands l.hold h → (crossed : List Facet) → IsAt (replay h) l.point crossed l.cell l.initial.found l.initial.rim.items →
+    AreUncrossed (replay h) l.point crossed (facets_of l.cell) → AreCrossed (replay h) l.point (crossed ++ take l.facet-index l.facet-items) l.found l.rim.items)

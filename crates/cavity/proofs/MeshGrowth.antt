@@ -1,0 +1,198 @@
+-- Meshes that grow: the opening four of a list, and a history with insertions.
+use Rattle.std.specs.Prelude.{◌≡◌, refl, ℕ, suc, ◌+◌, ◌<◌, ◌≤◌, true, false, Bool, List, [], ◌∷◌, ◌++◌, ◌⊎◌, length, take, ◌==◌, Option, None, Some, IsSome, IfSome, slice_index, slice_index_or}
+use Rattle.std.specs.Option.{option_map}
+use Rattle.std.proofs.Common.{inl, inr, ap, sym, subst, ◌∙◌, arith}
+use Rattle.point_order.specs.Orientation.{is_flat}
+use Rattle.point_order.specs.Sets.{IsIn, IsAscending, is_among, with_point}
+use Rattle.edit_history.specs.Opening.{Four, opening_four}
+use Rattle.edit_history.specs.OneThread.{places}
+use Rattle.edit_history.specs.Laws.{AreIndependent as AreIndependentOf}
+use Rattle.edit_history.proofs.OpeningSolid.{four_law}
+use Rattle.point_order.proofs.SetLaws.{in-place, in-ascending, in-with, in-with_old, in-with_new, same-members}
+use Rattle.std.specs.List.{filter}
+use Rattle.std.proofs.lemmas.Bool.Decides.{nat_tests}
+use Rattle.std.proofs.lemmas.List.{take_all, length-append}
+use Rattle.del_laws.proofs.Tests.{among_true, among_from, filtered_true, filtered_from}
+use Rattle.edit_history.specs.Edits.{changed}
+use Rattle.cell_store.specs.Grids.{bucket_of}
+use Rattle.cell_store.specs.Buckets.{bucket_at, points_in}
+use Rattle.cell_store.specs.Meshes.{IsMesh}
+use Rattle.cell_store.proofs.MeshLaws.{some_of, point_held}
+use Rattle.cell_store.proofs.Members.{in-take_more, at-place}
+use Rattle.cell_store.proofs.ShareLaws.{ascending_replay}
+use Rattle.cell_store.proofs.NextLaws.{replay_next}
+use Rattle.cavity.specs.Opening.{inserted, opening_history}
+use Rattle.cavity.proofs.OpeningLaws.{leaves_four}
+use Rattle.cavity.specs.Opening.{AreIndependent}
+use Rattle.point_order.specs.declared.cell.Cell.{Cell}
+use Rattle.point_order.specs.Coordinates.{IsKey}
+use Rattle.edit_history.specs.declared.history.Edit.TheVariants.{Add}
+use Rattle.edit_history.specs.declared.history.Entry.{Entry}
+use Rattle.edit_history.specs.Edits.{point_of}
+use Rattle.edit_history.specs.Histories.{replay}
+use Rattle.hole_laws.specs.Edits.{IsNew}
+use Rattle.cell_store.specs.Buckets.{InHand, Room}
+use Rattle.cell_store.specs.Changes.{IsNext}
+use Rattle.cell_store.specs.Shares.{Stands}
+use Rattle.cavity.specs.Fills.{IsFilled}
+use Rattle.cavity.specs.Growing.{AreAmong, IsInsertion, HasGrown, StandsForPoints}
+use Rattle.cavity.proofs.Standing.{solid_set}
+use Rattle.cavity.proofs.NextEntry.{insertion_is_next}
+
+-- four places in a list, of independent points
+pub record AreFound (points four : List ℕ) : Type 0 where
+  pub first : slice_index_or four 0 0 < length points
+  pub second : slice_index_or four 1 0 < length points
+  pub third : slice_index_or four 2 0 < length points
+  pub fourth : slice_index_or four 3 0 < length points
+  pub independent :
+      is_flat (slice_index points (slice_index_or four 0 0)) (slice_index points (slice_index_or four 1 0)) (slice_index points (slice_index_or four 2 0)) (slice_index points (slice_index_or four 3 0)) ≡ false
+
+-- so are those of the opening four
+pub four_found : (points four : List ℕ) → option_map places (opening_four points) ≡ Some four → AreFound points four
+four_found points four e = by (opening_four points) (four_law points) e
+  where
+    same : (a b : List ℕ) → Some a ≡ Some b → a ≡ b
+    same a b e = cc
+    by : (o : Option Four) → IfSome o (AreIndependentOf points) → option_map places o ≡ Some four → AreFound points four
+    by None i e = absurd (cc e)
+    by (Some f) i e = subst (AreFound points) (same (places f) four e) (record {
+      first = omega (arith, i.within, i.ascending.0, i.ascending.1, i.ascending.2);
+      second = omega (arith, i.within, i.ascending.1, i.ascending.2);
+      third = omega (arith, i.within, i.ascending.2);
+      fourth = i.within;
+      independent = i.independent;
+    })
+
+-- a point at a place is one of the list
+at_place_in : (points : List ℕ) (i : ℕ) → i < length points → IsIn (slice_index points i) points
+at_place_in points i l = in-place points i 0 l
+
+pub found_among : (points four : List ℕ) → AreFound points four → AreAmong ((0, slice_index points (slice_index_or four 0 0)) ∷ (0, slice_index points (slice_index_or four 1 0)) ∷ (0, slice_index points (slice_index_or four 2 0)) ∷ (0, slice_index points (slice_index_or four 3 0)) ∷ []) points
+found_among points four f line i =
+    let to : (k : ℕ) → k < length points → (0, slice_index points k) ≡ line → IsIn line.1 points = λ k l e. subst (λ (m : ℕ × ℕ). IsIn m.1 points) e (at_place_in points k l) in
+    elim i [
+      | inl e ↦ to (slice_index_or four 0 0) f.first e
+      | inr i ↦ elim i [
+          | inl e ↦ to (slice_index_or four 1 0) f.second e
+          | inr i ↦ elim i [
+              | inl e ↦ to (slice_index_or four 2 0) f.third e
+              | inr i ↦ elim i [ inl e ↦ to (slice_index_or four 3 0) f.fourth e | inr none ↦ absurd none ]
+          ]
+      ]
+    ]
+
+-- ---- insertions
+
+-- room is nothing to a history
+pub stands_with_room : (m : InHand) (r : Room) (h : List Entry) → Stands m h → Stands (record m { room = r }) h
+stands_with_room m r h st = record { legal = st.legal; keys = st.keys; solid = st.solid; shares = st.shares }
+
+-- the point of an insertion is new
+pub new_of : (h : List Entry) (e : Entry) (p : ℕ) → IsKey p → p ≡ point_of e.edit → IsInsertion h e → IsNew (replay h) p
+new_of h e p k q i = record { key = k; absent = λ m. i.absent (subst (λ (x : ℕ). IsIn x (replay h)) q m) }
+
+-- the entry is the next, with what fills the hole
+pub next_of : (m : InHand) (h : List Entry) (e : Entry) (p : ℕ) (gone fresh : List Cell) → Stands m h → IsKey p → p ≡ point_of e.edit → IsInsertion h e → IsFilled (replay h) p gone fresh → IsNext h e gone fresh
+next_of m h e p gone fresh st k q i f =
+    insertion_is_next h e p gone fresh st.legal (solid_set m h st) (new_of h e p k q i) (i.edit ∙ ap Add (sym q)) i.number i.reply f
+
+-- ---- the points of a mesh
+
+same : (b : ℕ) → (b == b) ≡ true
+same b = grind (arith, nat_tests)
+
+-- the points of a bucket in hand are those of the set in it
+points_are : (hold : InHand) (h : List Entry) (p g b : ℕ) → g ≡ hold.grid → b ≡ bucket_of g p → Stands hold h → IsSome (bucket_at hold.places b) → points_in hold.places b ≡ filter (λ q. bucket_of hold.grid q == b) (replay h)
+points_are hold h p g b e k st o = let x = some_of (bucket_at hold.places b) o in rw x.1 ((st.shares b x.0 x.1).points)
+
+pub held : (hold : InHand) (h : List Entry) (p : ℕ) → Stands hold h → IsSome (bucket_at hold.places (bucket_of hold.grid p)) → is_among p (points_in hold.places (bucket_of hold.grid p)) ≡ true → IsIn p (replay h)
+held hold h p st o t =
+    let b = bucket_of hold.grid p in
+    let i = subst (λ (l : List ℕ). IsIn p l) (points_are hold h p hold.grid b refl refl st o) (among_from p (points_in hold.places b) t) in
+    (filtered_from' (replay h) i)
+  where
+    filtered_from' : (s : List ℕ) → IsIn p (filter (λ q. bucket_of hold.grid q == bucket_of hold.grid p) s) → IsIn p s
+    filtered_from' s i = (filtered_from (λ q. bucket_of hold.grid q == bucket_of hold.grid p) s p i).0
+
+pub not_held : (hold : InHand) (h : List Entry) (p : ℕ) → Stands hold h → IsSome (bucket_at hold.places (bucket_of hold.grid p)) → is_among p (points_in hold.places (bucket_of hold.grid p)) ≡ false → ¬ (IsIn p (replay h))
+not_held hold h p st o f m =
+    let b = bucket_of hold.grid p in
+    let i = filtered_true (λ q. bucket_of hold.grid q == b) (replay h) p m (same b) in
+    let t = among_true p (points_in hold.places b) (subst (λ (l : List ℕ). IsIn p l) (sym (points_are hold h p hold.grid b refl refl st o)) i) in
+    cc (t, f)
+
+-- with every bucket in hand that of a point is
+pub held_by : (hold m : InHand) (p : ℕ) → hold ≡ m → IsMesh m → IsSome (bucket_at hold.places (bucket_of hold.grid p))
+held_by hold m p e i = subst (λ (x : InHand). IsSome (bucket_at x.places (bucket_of x.grid p))) (sym e) (point_held m p i.has i.all)
+
+-- ---- a mesh grows
+
+-- the opening
+pub grown_first : (points : List ℕ) (four : List (ℕ × ℕ)) (m : InHand) → AreIndependent four → AreAmong four points → Stands m (opening_history four) → HasGrown points [] 4 m
+grown_first points (a ∷ b ∷ c ∷ d ∷ []) m f among st = record {
+  history = opening_history (a ∷ b ∷ c ∷ d ∷ []);
+  stands = st;
+  count = refl;
+  inside = λ p i. inside p (in-ascending (a.1 ∷ b.1 ∷ c.1 ∷ d.1 ∷ []) p (subst (λ (l : List ℕ). IsIn p l) (leaves_four a b c d f) i));
+  front_in = λ p i. absurd i;
+}
+  where
+    inside : (p : ℕ) → IsIn p (a.1 ∷ b.1 ∷ c.1 ∷ d.1 ∷ []) → IsIn p points
+    inside p i = elim i [
+      | inl e ↦ subst (λ (v : ℕ). IsIn v points) e (among a (inl refl))
+      | inr i ↦ elim i [
+          | inl e ↦ subst (λ (v : ℕ). IsIn v points) e (among b (inr (inl refl)))
+          | inr i ↦ elim i [
+              | inl e ↦ subst (λ (v : ℕ). IsIn v points) e (among c (inr (inr (inl refl))))
+              | inr i ↦ elim i [ inl e ↦ subst (λ (v : ℕ). IsIn v points) e (among d (inr (inr (inr (inl refl))))) | inr none ↦ absurd none ]
+          ]
+      ]
+    ]
+grown_first points [] m f among st = absurd f
+grown_first points (a ∷ []) m f among st = absurd f
+grown_first points (a ∷ b ∷ []) m f among st = absurd f
+grown_first points (a ∷ b ∷ c ∷ []) m f among st = absurd f
+grown_first points (a ∷ b ∷ c ∷ d ∷ e ∷ l) m f among st = absurd f
+
+-- the next place
+one_up : (i : ℕ) → i + 1 ≡ suc i
+one_up i = omega arith
+
+-- a point that is there
+pub grown_same : (points : List ℕ) (i n p : ℕ) (m : InHand) → i < length points → p ≡ slice_index_or points i p → (g : HasGrown points (take i points) n m) → IsIn p (replay g.history) → HasGrown points (take (i + 1) points) n m
+grown_same points i n p m l e g k = record {
+  history = g.history;
+  stands = g.stands;
+  count = g.count;
+  inside = g.inside;
+  front_in = λ q j. elim (in-take_more points i p q l e (subst (λ (t : ℕ). IsIn q (take t points)) (one_up i) j)) [ inl f ↦ g.front_in q f | inr f ↦ subst (λ (v : ℕ). IsIn v (replay g.history)) f k ];
+}
+
+-- a point that is inserted
+pub grown_more : (points : List ℕ) (i n p : ℕ) (m m' : InHand) (e : Entry) → i < length points → p ≡ slice_index_or points i p → (g : HasGrown points (take i points) n m) → p ≡ point_of e.edit → IsInsertion g.history e → Stands m' (g.history ++ e ∷ []) → HasGrown points (take (i + 1) points) (n + 1) m'
+grown_more points i n p m m' e l q g k ins st = record {
+  history = g.history ++ e ∷ [];
+  stands = st;
+  count = ap (λ (v : ℕ). v + 1) g.count ∙ sym (length-append g.history (e ∷ []));
+  inside = λ r j. elim (in-with p r (replay g.history) (subst (λ (s : List ℕ). IsIn r s) left j)) [
+    | inl f ↦ subst (λ (v : ℕ). IsIn v points) f (at-place points i p l q)
+    | inr f ↦ g.inside r f
+  ];
+  front_in = λ r j. subst (λ (s : List ℕ). IsIn r s) (sym left) (elim (in-take_more points i p r l q (subst (λ (t : ℕ). IsIn r (take t points)) (one_up i) j)) [
+    | inl f ↦ in-with_old p r (replay g.history) (g.front_in r f)
+    | inr f ↦ subst (λ (v : ℕ). IsIn v (with_point p (replay g.history))) f (in-with_new p (replay g.history))
+  ]);
+}
+  where
+    left : replay (g.history ++ e ∷ []) ≡ with_point p (replay g.history)
+    left = replay_next g.history e st.legal ∙ ap (changed (replay g.history) (point_of e.edit)) ins.reply ∙ ap (λ (v : ℕ). with_point v (replay g.history)) (sym k)
+
+-- the insertion of a point that is not there
+pub inserts : (h : List Entry) (n p : ℕ) (e : Entry) → n ≡ length h → ¬ (IsIn p (replay h)) → e ≡ inserted n (0, p) → IsInsertion h e
+inserts h n p e c a q = subst (IsInsertion h) (sym q) (record { edit = refl; absent = a; number = c; reply = refl })
+
+-- all points
+pub grown_all : (points : List ℕ) (i n : ℕ) (m : InHand) → IsAscending points → length points ≤ i → HasGrown points (take i points) n m → StandsForPoints m points
+grown_all points i n m a l g =
+    (g.history, g.stands, same-members (replay g.history) points (ascending_replay g.history) a g.inside (λ p k. g.front_in p (subst (λ (s : List ℕ). IsIn p s) (sym (take_all i points l)) k)))
