@@ -30,8 +30,8 @@ pub(crate) fn missing_point(hold: &Hold, points: &[Point]) -> Option<u32>
     None
 }
 
-// The bucket of a finite point of one of the cells that is not in hand, if there is one.
-pub(crate) fn missing_bucket(hold: &Hold, cells: &[Cell]) -> Option<u32>
+/// The bucket of a finite point of one of the cells that is not in hand, if there is one.
+pub fn missing_bucket(hold: &Hold, cells: &[Cell]) -> Option<u32>
     ensures { MatchOption result (AreHeld hold.now cells.now) (λ b. IsCellMissing hold.now cells.now b) }
 {
     for cell in cells {

@@ -16,8 +16,9 @@ use cell_store::{Across, Hold};
 use point_order::{Cell, Facet, Point, Tri};
 use sphere_ties::conflict;
 
-// The cell across a facet of which some point's bucket is in hand.
-pub(crate) fn cell_across<'a>(hold: &'a Hold, cell: &Cell, facet: &Facet) -> &'a Cell
+/// The cell across a facet of which some point's bucket is in hand. The hold is to stand for some history of whose complex the given
+/// cell is one; the answer is right for each such history.
+pub fn cell_across<'a>(hold: &'a Hold, cell: &Cell, facet: &Facet) -> &'a Cell
     requires stands { StandsWith hold.now cell.now }
     requires facet { IsIn facet.now (facets_of cell.now) }
     requires held { ¬ (NoneInHand hold.now (points_on facet.now)) }
@@ -62,8 +63,9 @@ fn mate_of(hold: &Hold, cell: &Cell, p: Point) -> Point
     }
 }
 
-// Whether the new point takes the cell away, of which some point's bucket is in hand.
-pub(crate) fn goes(hold: &Hold, cell: &Cell, p: Point) -> bool
+/// Whether the new point takes the cell away, of which some point's bucket is in hand. The hold is to stand for some history of whose
+/// complex the cell is one, and in which the point is new; the answer is right for each such history.
+pub fn goes(hold: &Hold, cell: &Cell, p: Point) -> bool
     requires stands { StandsWithNew hold.now cell.now p }
     requires held { ¬ (NoneInHand hold.now (points_of cell.now)) }
     ensures { (h : List Entry) → Stands hold.now h → IsNew (replay h) p → IsIn cell.now (complex (replay h)) → MatchBool result (GoesFrom (replay h) p cell.now) (StaysFrom (replay h) p cell.now) }

@@ -17,6 +17,8 @@ pub mod laws;
 
 pub use conflict_cell::cell_in_conflict;
 pub use dig::{Dig, DigTurn};
+pub use explore::missing_bucket;
 pub use growth::{insert, mesh_of_points};
+pub use judge::{cell_across, goes};
 pub use opening::open_mesh;
 pub use fill_hole::{Fresh, fill};

@@ -1,0 +1,73 @@
+-- The hole of a point that is taken, and what fills it.
+use Rattle.std.specs.Prelude.{◌≡◌, ◌≢◌, ℕ, true, List, ◌==◌, None, Some, IsSome}
+use Rattle.std.specs.List.{filter}
+use Rattle.std.proofs.Common.{refl, sym, subst, inl, inr, ◌∙◌}
+use Rattle.std.proofs.lemmas.Bool.{eq-eqb}
+use Rattle.point_order.specs.declared.cell.Cell.{Cell}
+use Rattle.point_order.specs.Complex.{complex}
+use Rattle.point_order.specs.Facets.{points_of}
+use Rattle.point_order.specs.Sets.{IsIn, is_among, without_point}
+use Rattle.point_order.specs.Solid.{is_solid}
+use Rattle.edit_history.specs.declared.history.Entry.{Entry}
+use Rattle.edit_history.specs.Histories.{replay}
+use Rattle.del_laws.proofs.Decide.{is_in}
+use Rattle.del_laws.proofs.PointSets.{solid_more}
+use Rattle.del_laws.proofs.Tests.{filtered_from, filtered_true}
+use Rattle.hole_laws.specs.Edits.{IsSet, IsSolidSet, IsLinkSet, IsNew}
+use Rattle.hole_laws.proofs.Laws.{old_lack_point}
+use Rattle.hole_laws.proofs.RemovalLaws.{cells_of_rest, refilled_from_link, coming_are_near}
+use Rattle.hole_laws.proofs.Rest.{rest_set, rest_new}
+use Rattle.cell_store.specs.Grids.{bucket_of}
+use Rattle.cell_store.specs.Buckets.{InHand, bucket_at}
+use Rattle.cell_store.specs.Ready.{AreHeld}
+use Rattle.cell_store.specs.Shares.{Stands}
+use Rattle.cell_store.proofs.MeshLaws.{some_of}
+use Rattle.vertex_removal.specs.Near.{IsStar, AreTaken}
+use Rattle.vertex_removal.specs.Refills.{IsRefilled}
+use Rattle.vertex_removal.proofs.Star.{star_list, star_once}
+
+-- a point whose bucket is in hand is there after each history for which the hold stands, or after none
+pub still_there : (hold : InHand) (h k : List Entry) (v : ℕ) → Stands hold h → Stands hold k → IsSome (bucket_at hold.places (bucket_of hold.grid v)) → IsIn v (replay h) → IsIn v (replay k)
+still_there hold h k v st sk o m =
+    let b = bucket_of hold.grid v in
+    let x = some_of (bucket_at hold.places b) o in
+    let i = filtered_true (λ p. bucket_of hold.grid p == b) (replay h) v m (eq-eqb b b refl) in
+    let e = sym (st.shares b x.0 x.1).points ∙ (sk.shares b x.0 x.1).points in
+    (filtered_from (λ p. bucket_of hold.grid p == b) (replay k) v (subst (λ (l : List ℕ). IsIn v l) e i)).0
+
+module _ (s : List ℕ) (v : ℕ) (i : IsSet s) (m : IsIn v s) (t : List ℕ) (l : IsLinkSet s v t) where
+  -- the rest is solid
+  pub rest_solid : is_solid (without_point v s) ≡ true
+  rest_solid = solid_more t (without_point v s) l.inside l.solid.solid
+
+  -- no cell of the rest has v
+  lacks : (q : Cell) → IsIn q (complex (without_point v s)) → ¬ (IsIn v (points_of q))
+  lacks q o = old_lack_point (without_point v s) v (record { set = rest_set v s i; solid = rest_solid }) (rest_new v s i m) q o
+
+  -- a cell of the set that is none of the rest has it
+  has : (q : Cell) → IsIn q (complex s) → (IsIn q (complex (without_point v s)) → ⊥) → IsIn v (points_of q)
+  has q k n = elim (is_in v (points_of q)) [ yes y ↦ y | no x ↦ absurd (n ((cells_of_rest s v i m rest_solid q).1 (inl (k, x)))) ]
+
+  -- the cells at v, and those that v takes away from the complex of the points near
+  pub hole_filled : (star fresh : List Cell) → star ≡ filter (λ c. is_among v (points_of c)) (complex s) → AreTaken t v fresh → IsRefilled s v star fresh
+  hole_filled star fresh e f =
+      let k = star_list s v star e in
+      record {
+        solid = rest_solid;
+        star = k;
+        change = record {
+          went = λ q j. (let r = (k q).0 j in (r.0, λ o. lacks q o r.1));
+          all_gone = λ q j n. (k q).1 (j, has q j n);
+          came = λ q j. (let r = (refilled_from_link s v t i m l q).1 ((f.goes q).0 j) in (r.before, r.after));
+          all_fresh = λ q j n. (f.goes q).1 ((refilled_from_link s v t i m l q).0 (record { before = j; after = n }));
+        };
+        gone_once = star_once s v star i.ascending e;
+        fresh_once = f.once;
+      }
+
+-- the buckets of the fresh cells are in hand with those of the cells at v
+pub fresh_held : (hold : InHand) (s : List ℕ) (v : ℕ) (gone fresh : List Cell) → IsSet s → IsIn v s → IsRefilled s v gone fresh → AreHeld hold gone → AreHeld hold fresh
+fresh_held hold s v gone fresh i m f held c j e k =
+    let r = f.change.came c j in
+    let q = coming_are_near s v i m f.solid c (record { before = r.0; after = r.1 }) e k in
+    held q.q ((f.star q.q).1 (q.listed, q.has_p)) e q.has_e

@@ -1,0 +1,26 @@
+-- The cells at a point, and the buckets that they need.
+use Rattle.std.specs.Prelude.{◌≡◌, ℕ, true, List, Some, None, IsSome}
+use Rattle.std.specs.List.{filter}
+use Rattle.std.proofs.Common.{sym, subst, ◌∙◌}
+use Rattle.std.proofs.lemmas.List.Kept.{IsStrictlySortedBy-filter}
+use Rattle.conv_laws.specs.Lists.{AreDistinct}
+use Rattle.point_order.specs.declared.cell.Cell.{Cell}
+use Rattle.point_order.specs.CellOrder.{cell_cmp}
+use Rattle.point_order.specs.Complex.{complex}
+use Rattle.point_order.specs.Facets.{points_of}
+use Rattle.point_order.specs.Sets.{IsIn, IsAscending, is_among}
+use Rattle.del_laws.proofs.Ordered.{complex_is_sorted}
+use Rattle.del_laws.proofs.Tests.{filtered_from, filtered_true, among_from, among_true}
+use Rattle.vertex_removal.specs.Near.{IsStar}
+use Rattle.vertex_removal.proofs.Once.{sorted_once}
+
+-- the list of the cells at v
+pub star_list : (s : List ℕ) (v : ℕ) (star : List Cell) → star ≡ filter (λ c. is_among v (points_of c)) (complex s) → IsStar s v star
+star_list s v star e c = (
+  λ i. (let m = filtered_from (λ c. is_among v (points_of c)) (complex s) c (subst (λ (l : List Cell). IsIn c l) e i) in (m.0, among_from v (points_of c) m.1)),
+  λ r. subst (λ (l : List Cell). IsIn c l) (sym e) (filtered_true (λ c. is_among v (points_of c)) (complex s) c r.0 (among_true v (points_of c) r.1)),
+)
+
+-- each stands once
+pub star_once : (s : List ℕ) (v : ℕ) (star : List Cell) → IsAscending s → star ≡ filter (λ c. is_among v (points_of c)) (complex s) → AreDistinct star
+star_once s v star a e = subst (λ (l : List Cell). AreDistinct l) (sym e) (sorted_once (filter (λ c. is_among v (points_of c)) (complex s)) (IsStrictlySortedBy-filter cell_cmp (λ c. is_among v (points_of c)) (complex s) (complex_is_sorted s a)))

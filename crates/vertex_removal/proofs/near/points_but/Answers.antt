@@ -1,0 +1,9 @@
+use Rattle.std.proofs.Common.{rules, not, ◌==◌}
+use Rattle.std.proofs.lemmas.Fn.{filter_same}
+use Rattle.vertex_removal.proofs.Points.{points_are}
+use Rattle.vertex_removal.proofs.near.points_but.Goals as goal
+
+pub returns : goal.returns
+returns c =
+    points_are c.args.cells.now c.args.v c.in_ok-points.points.items c.retain.new.self.items c.in_order.result.items c.in_ok-points.ensures
+    (filter_same _ (λ p. not (p == c.args.v)) _ (λ x b f' k. search rules) _ _ c.retain.ensures.filtered) c.in_order.ensures.points c.in_order.ensures.order

@@ -1,0 +1,3 @@
+pub mod Refills
+pub mod Turns
+pub mod Near

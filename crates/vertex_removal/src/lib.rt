@@ -1,0 +1,14 @@
+//! Removal by refilled holes: the cells that go when a point is taken, and those that come.
+//!
+//! The cells at the point go. Those that come have only points of its link, the points that some cell joins to it; and they are the
+//! cells that the point takes away from the complex of any solid set between its link and the rest. So a `Refill` makes the complex
+//! of the link, or where the link is flat, of the link and the points across from it, and keeps what the point takes away. Where
+//! these are flat too, the rest is. `docs/GEOMETRY.md` tells the laws. The definitions stand in `specs/`.
+#![tactic(auto)]
+
+pub mod laws;
+mod near;
+mod refill;
+mod small_mesh;
+
+pub use refill::{Refill, RefillTurn};

@@ -1,0 +1,133 @@
+//! What is near a point that is taken: the cells at it and around it, and their points.
+
+ghost use Rattle.std.specs.Prelude.{◌≡◌, false, ℕ, List, IfOk, OnOk, IsSome, MatchOption};
+ghost use Rattle.std.specs.List.{filter, flat_map};
+ghost use Rattle.point_order.specs.Complex.{complex};
+ghost use Rattle.point_order.specs.Facets.{facets_of, points_of};
+ghost use Rattle.point_order.specs.Sets.{IsIn, IsAscending, is_among, without_point};
+ghost use Rattle.point_order.specs.Solid.{is_solid as is_solid_of};
+ghost use Rattle.edit_history.specs.declared.history.Entry.{Entry};
+ghost use Rattle.edit_history.specs.Histories.{replay};
+ghost use Rattle.hole_laws.specs.Edits.{IsLinkSet};
+ghost use Rattle.cell_store.specs.Buckets.{bucket_at, cells_in};
+ghost use Rattle.cell_store.specs.Grids.{bucket_of};
+ghost use Rattle.cell_store.specs.Shares.{Stands, StandsWith};
+ghost use Rattle.cavity.specs.Exploring.{ArePointsHeld};
+ghost use Rattle.vertex_removal.specs.Near.{IsStar, StandsForStar, ArePointsBut, AreSamePoints, AreAdded, IsOneOf, IsOfOne};
+
+use cavity::cell_across;
+use cell_store::Hold;
+use edit_history::find_four;
+use point_order::{Cell, Point};
+use std::alloc::{AllocError, Global};
+
+// The cells at a point whose bucket is in hand, in ascending order.
+pub(crate) fn star_of(alloc: Global, hold: &Hold, v: Point) -> Result<Vec<Cell>, AllocError>
+    requires { IsSome (bucket_at hold.now.places (bucket_of hold.now.grid v)) }
+    ensures { IfOk result (λ star. (h : List Entry) → Stands hold.now h → star.items ≡ filter (λ c. is_among v (points_of c)) (complex (replay h))) }
+{
+    let mut star = Vec::new(alloc);
+    for cell in hold.cells_at(v) {
+        star.push(*cell)?;
+    }
+    Ok(star)
+}
+
+// The points of all these cells.
+fn all_points(alloc: Global, cells: &[Cell]) -> Result<Vec<Point>, AllocError>
+    ensures { IfOk result (λ points. points.items ≡ flat_map points_of cells.now) }
+{
+    let mut points = Vec::new(alloc);
+    for cell in cells {
+        points.extend_from_slice(cell.points())?;
+    }
+    Ok(points)
+}
+
+// The points, ascending, each once.
+fn in_order(mut points: Vec<Point>) -> Vec<Point>
+    ensures order { IsAscending result.items }
+    ensures points { AreSamePoints points.items result.items }
+{
+    points.sort_unstable();
+    points.dedup();
+    points
+}
+
+// The points of the cells other than v, ascending.
+fn points_but(alloc: Global, cells: &[Cell], v: Point) -> Result<Vec<Point>, AllocError>
+    ensures { IfOk result (λ points. ArePointsBut cells.now v points.items) }
+{
+    let mut points = all_points(alloc, cells)?;
+    points.retain(|p| *p != v);
+    Ok(in_order(points))
+}
+
+// Whether four of the points are independent.
+fn is_solid(points: &[Point]) -> bool
+    ensures { result ≡ is_solid_of points.now }
+{
+    find_four(points).is_ok()
+}
+
+// Adds the cells without v that lie across the facets of a cell, the buckets of whose points are in hand.
+fn add_across(
+    hold: &Hold,
+    cell: &Cell,
+    v: Point,
+    around: &mut Vec<Cell>,
+) -> Result<(), AllocError>
+    requires stands { StandsWith hold.now cell.now }
+    requires held { ArePointsHeld hold.now (points_of cell.now) }
+    ensures { OnOk result ((h : List Entry) → Stands hold.now h → IsIn cell.now (complex (replay h)) → AreAdded (replay h) v (IsOneOf cell.now (facets_of cell.now)) around.old.items around.new.items) }
+{
+    let facets = cell.facets();
+    for facet in &facets {
+        let other = cell_across(hold, cell, facet);
+        if !other.has(v) {
+            around.push(*other)?;
+        }
+    }
+    Ok(())
+}
+
+// The cells at v, and those without v that lie across a facet of one.
+fn cells_around(
+    alloc: Global,
+    hold: &Hold,
+    v: Point,
+    star: &[Cell],
+) -> Result<Vec<Cell>, AllocError>
+    requires { StandsForStar hold.now v star.now }
+    ensures { IfOk result (λ around. (h : List Entry) → Stands hold.now h → IsStar (replay h) v star.now → AreAdded (replay h) v (IsOfOne star.now) star.now around.items) }
+{
+    let mut around = Vec::from_slice(alloc, star)?;
+    for cell in star {
+        add_across(hold, cell, v, &mut around)?;
+    }
+    Ok(around)
+}
+
+// A solid set between the link of v and the rest, ascending: the link, or where it is flat, the link and the points across from it.
+// There is none where these are flat too, and then the rest is flat.
+pub(crate) fn near_set(
+    alloc: Global,
+    hold: &Hold,
+    v: Point,
+    star: &[Cell],
+) -> Result<Option<Vec<Point>>, AllocError>
+    requires { StandsForStar hold.now v star.now }
+    ensures { IfOk result (λ near. (h : List Entry) → Stands hold.now h → IsIn v (replay h) → IsStar (replay h) v star.now → MatchOption near (is_solid_of (without_point v (replay h)) ≡ false) (λ t. IsLinkSet (replay h) v t.items)) }
+{
+    let link = points_but(alloc, star, v)?;
+    if is_solid(&link) {
+        return Ok(Some(link));
+    }
+    let around = cells_around(alloc, hold, v, star)?;
+    let near = points_but(alloc, &around, v)?;
+    if is_solid(&near) {
+        Ok(Some(near))
+    } else {
+        Ok(None)
+    }
+}

@@ -1,0 +1,40 @@
+//! The mesh of the few points near a point that is taken.
+
+ghost use Rattle.std.specs.Prelude.{◌≡◌, true, IfOk};
+ghost use Rattle.point_order.specs.Sets.{IsIn, IsAscending};
+ghost use Rattle.point_order.specs.Solid.{is_solid};
+ghost use Rattle.vertex_removal.specs.Near.{AreTaken};
+
+use cavity::{goes, mesh_of_points};
+use cell_store::Grid;
+use point_order::{Cell, Point};
+use std::alloc::{AllocError, Global};
+
+// The grid of one bucket.
+fn one_bucket() -> Grid
+    ensures { result ≡ 1 }
+{
+    match Grid::new(1) {
+        Ok(grid) => grid,
+        Err(_) => unreachable!(),
+    }
+}
+
+// The cells that a new point takes away from the complex of a solid set, which ascends.
+pub(crate) fn cells_taken(alloc: Global, points: &[Point], v: Point) -> Result<Vec<Cell>, AllocError>
+    requires ascending { IsAscending points.now }
+    requires solid { is_solid points.now ≡ true }
+    requires absent { ¬ (IsIn v points.now) }
+    ensures { IfOk result (λ cells. AreTaken points.now v cells.items) }
+{
+    let _ = v.key();
+    let mesh = mesh_of_points(alloc, one_bucket(), points)?;
+    let hold = mesh.hold();
+    let mut cells = Vec::new(alloc);
+    for cell in hold.bucket(0).cells() {
+        if goes(hold, cell, v) {
+            cells.push(*cell)?;
+        }
+    }
+    Ok(cells)
+}
