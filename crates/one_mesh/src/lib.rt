@@ -7,5 +7,5 @@ mod edits;
 mod lists;
 
 pub use edit_history::{NotSolid, find_four};
-pub use edits::{Receipt, begin};
-pub use lists::{complex, history};
+pub use edits::{Receipt, apply, begin};
+pub use lists::{complex, history, points};

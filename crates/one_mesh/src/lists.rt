@@ -13,6 +13,7 @@ use cell_store::{Bucket, Mesh, cells_in_order};
 use edit_history::{Entry, merge};
 use point_order::{Cell, Point};
 use std::alloc::{AllocError, Global};
+use vertex_removal::points_in_order;
 
 
 // The entries of all buckets.
@@ -72,4 +73,28 @@ pub fn complex(alloc: Global, mesh: &Mesh) -> Result<Vec<Cell>, AllocError>
 {
     let cells = all_cells_of(alloc, mesh)?;
     Ok(cells_in_order(cells))
+}
+
+// The points of all buckets.
+fn all_points_of(alloc: Global, mesh: &Mesh) -> Result<Vec<Point>, AllocError>
+    ensures points { IfOk result (λ list. list.items ≡ all_points mesh.now.places) }
+    ensures mesh { IsMesh mesh.now }
+{
+    let hold = mesh.hold();
+    let mut list = Vec::new(alloc);
+    for b in 0..hold.grid().count() {
+        list.extend_from_slice(hold.bucket(b).points())?;
+    }
+    Ok(list)
+}
+
+/// The points that the mesh's history leaves, ascending.
+///
+/// # Errors
+/// Want of memory.
+pub fn points(alloc: Global, mesh: &Mesh) -> Result<Vec<Point>, AllocError>
+    ensures { IfOk result (λ points. (h : List Entry) → Stands mesh.now h → points.items ≡ replay h) }
+{
+    let points = all_points_of(alloc, mesh)?;
+    Ok(points_in_order(points))
 }
