@@ -25,7 +25,7 @@ legal_more n s [] e l number reply = (omega (arith, number), reply, tt)
 legal_more n s (d ∷ h) e l number reply = (l.0, l.1, legal_more (n + 1) (after s d.edit) h e l.2 (omega (arith, number)) reply)
 
 -- a point that is not there is inserted
-reply_new : (s : List ℕ) (p : ℕ) → is_among p s ≡ false → reply_to s (Add p) ≡ Inserted
+pub reply_new : (s : List ℕ) (p : ℕ) → is_among p s ≡ false → reply_to s (Add p) ≡ Inserted
 reply_new s p e = ap (λ b. cond b Duplicate Inserted) e
 
 pub insertion_is_next : InsertionIsNext
