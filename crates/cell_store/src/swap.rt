@@ -36,8 +36,8 @@ fn touching(alloc: Global, grid: Grid, b: u32, cells: &[Cell]) -> Result<Vec<Cel
         .collect(alloc)
 }
 
-// The cells in order, each once.
-fn in_order(mut list: Vec<Cell>) -> Vec<Cell>
+/// The cells in order, each once. It takes no memory.
+pub fn cells_in_order(mut list: Vec<Cell>) -> Vec<Cell>
     ensures order { IsStrictlySortedBy cell_cmp result.items }
     ensures cells { AreSameCells list.items result.items }
 {
@@ -107,8 +107,8 @@ pub(crate) fn swapped_cells(
     requires { IsStrictlySortedBy cell_cmp cells.now }
     ensures { IfOk result (λ list. list.items ≡ swapped grid b gone.now fresh.now cells.now) }
 {
-    let gone = in_order(touching(alloc, grid, b, gone)?);
-    let fresh = in_order(touching(alloc, grid, b, fresh)?);
+    let gone = cells_in_order(touching(alloc, grid, b, gone)?);
+    let fresh = cells_in_order(touching(alloc, grid, b, fresh)?);
     let left = without(alloc, cells, &gone)?;
     with(alloc, &left, &fresh)
 }

@@ -8,7 +8,9 @@
 
 pub mod laws;
 mod near;
+mod ordered;
 mod refill;
 mod small_mesh;
 
+pub use ordered::points_in_order;
 pub use refill::{Refill, RefillTurn};

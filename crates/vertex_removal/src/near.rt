@@ -15,6 +15,7 @@ ghost use Rattle.cell_store.specs.Shares.{Stands, StandsWith};
 ghost use Rattle.cavity.specs.Exploring.{ArePointsHeld};
 ghost use Rattle.vertex_removal.specs.Near.{IsStar, StandsForStar, ArePointsBut, AreSamePoints, AreAdded, IsOneOf, IsOfOne};
 
+use crate::ordered::points_in_order;
 use cavity::cell_across;
 use cell_store::Hold;
 use edit_history::find_four;
@@ -44,23 +45,13 @@ fn all_points(alloc: Global, cells: &[Cell]) -> Result<Vec<Point>, AllocError>
     Ok(points)
 }
 
-// The points, ascending, each once.
-fn in_order(mut points: Vec<Point>) -> Vec<Point>
-    ensures order { IsAscending result.items }
-    ensures points { AreSamePoints points.items result.items }
-{
-    points.sort_unstable();
-    points.dedup();
-    points
-}
-
 // The points of the cells other than v, ascending.
 fn points_but(alloc: Global, cells: &[Cell], v: Point) -> Result<Vec<Point>, AllocError>
     ensures { IfOk result (λ points. ArePointsBut cells.now v points.items) }
 {
     let mut points = all_points(alloc, cells)?;
     points.retain(|p| *p != v);
-    Ok(in_order(points))
+    Ok(points_in_order(points))
 }
 
 // Whether four of the points are independent.

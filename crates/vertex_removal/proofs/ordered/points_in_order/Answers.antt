@@ -1,6 +1,6 @@
 use Rattle.std.proofs.lemmas.List.Filters.{dedup_is}
 use Rattle.vertex_removal.proofs.Points.{ordered, same_points}
-use Rattle.vertex_removal.proofs.near.in_order.Goals as goal
+use Rattle.vertex_removal.proofs.ordered.points_in_order.Goals as goal
 
 pub returns-clause-order : goal.returns-clause-order
 returns-clause-order c = ordered c.sort_unstable.new.self.items c.dedup.new.self.items c.sort_unstable.ensures.sorted (dedup_is _ _ _ c.dedup.ensures.filtered)

@@ -9,7 +9,7 @@ use Rattle.point_order.specs.CellOrder.{cell_cmp}
 use Rattle.point_order.specs.contracts.cell.CellOrd.TheImpl as by_order
 use Rattle.point_order.specs.contracts.cell.CellPartialEq.TheImpl as by_equality
 use Rattle.cell_store.proofs.MergeLaws.{deduped_sorted, deduped_same}
-use Rattle.cell_store.proofs.swap.in_order.Goals as goal
+use Rattle.cell_store.proofs.swap.cells_in_order.Goals as goal
 
 cmp_is : (x y : Cell) → cell_cmp x y ≡ by_order.ghosts.cmp x y
 cmp_is (Full q) (Full r) = refl

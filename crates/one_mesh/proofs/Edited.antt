@@ -1,0 +1,93 @@
+-- What edits make of a mesh.
+use Rattle.std.specs.Prelude.{◌≡◌, refl, ℕ, ◌<◌, ◌^◌, min, ◌-◌, ◌+◌, true, false, Bool, cond, List, [], ◌∷◌, ◌++◌, length, IsSome}
+use Rattle.std.proofs.Common.{ap, sym, subst, ◌∙◌, arith}
+use Rattle.point_order.specs.Complex.{complex}
+use Rattle.point_order.specs.Sets.{IsIn, is_among, without_point}
+use Rattle.point_order.specs.Solid.{is_solid}
+use Rattle.edit_history.specs.declared.history.Edit.{Edit}
+use Rattle.edit_history.specs.declared.history.Edit.TheVariants.{Add, Take}
+use Rattle.edit_history.specs.declared.history.Entry.{Entry}
+use Rattle.edit_history.specs.declared.history.Reply.{Reply}
+use Rattle.edit_history.specs.declared.history.Reply.TheVariants.{Inserted, Duplicate, Removed, Missing, Flat}
+use Rattle.edit_history.specs.Edits.{reply_to, after, changed, point_of}
+use Rattle.edit_history.specs.Histories.{replay}
+use Rattle.del_laws.specs.Keys.{AreKeys}
+use Rattle.del_laws.proofs.Tests.{among_true, among_from}
+use Rattle.cell_store.specs.Buckets.{InHand, bucket_at, points_in}
+use Rattle.cell_store.specs.Grids.{bucket_of}
+use Rattle.cell_store.specs.Changes.{IsNext, IsChange}
+use Rattle.cell_store.specs.Meshes.{IsCountOf}
+use Rattle.cell_store.specs.Shares.{Stands}
+use Rattle.cavity.specs.Growing.{IsInsertion}
+use Rattle.cavity.proofs.MeshGrowth.{held, not_held}
+use Rattle.cavity.proofs.NextEntry.{legal_more, replay_more}
+use Rattle.one_mesh.specs.Applied.{HasFewEntries, IsNumbered, IsApplied, IsQuiet, next_entry}
+
+-- the count is the next number
+pub numbered : (m : InHand) (n : ℕ) → IsCountOf m n → HasFewEntries m → IsNumbered m n
+numbered m n c few h st = (let e = c h st in let k = few h st in omega (arith, e, k))
+
+-- an entry that changes nothing is the next
+pub quiet_next : (m : InHand) (h : List Entry) (e : Entry) → Stands m h → IsQuiet h e → IsNext h e [] []
+quiet_next m h e st q = record {
+  legal = legal_more 0 [] h e st.legal (let k = q.number in omega (arith, k)) q.reply;
+  keys = subst AreKeys (sym left) st.keys;
+  solid = ap is_solid left ∙ st.solid;
+  change = subst (λ (s : List ℕ). IsChange (complex (replay h)) (complex s) [] []) (sym left) (record {
+    went = λ c i. absurd i;
+    all_gone = λ c i n. absurd (n i);
+    came = λ c i. absurd i;
+    all_fresh = λ c i n. absurd (n i);
+  });
+}
+  where
+    left : replay (h ++ e ∷ []) ≡ replay h
+    left = replay_more [] h e ∙ q.same
+
+-- the test of a bucket is that of the set
+pub among_is : (hold : InHand) (h : List Entry) (p : ℕ) (b : Bool) → Stands hold h → IsSome (bucket_at hold.places (bucket_of hold.grid p)) → b ≡ is_among p (points_in hold.places (bucket_of hold.grid p)) → b ≡ is_among p (replay h)
+among_is hold h p b st o e = by (is_among p (points_in hold.places (bucket_of hold.grid p))) refl
+  where
+    by : (t : Bool) → is_among p (points_in hold.places (bucket_of hold.grid p)) ≡ t → b ≡ is_among p (replay h)
+    by true q = e ∙ q ∙ sym (among_true p (replay h) (held hold h p st o q))
+    by false q = e ∙ q ∙ sym (none (is_among p (replay h)) refl)
+      where
+        none : (t : Bool) → is_among p (replay h) ≡ t → is_among p (replay h) ≡ false
+        none true r = absurd (not_held hold h p st o q (among_from p (replay h) r))
+        none false r = r
+
+-- the edit is made
+pub applied : (h : List Entry) (tag : ℕ) (edit : Edit) (n : ℕ) (reply : Reply) (m : InHand) (e : Entry) → n ≡ length h → reply ≡ reply_to (replay h) edit → e ≡ record { number = n; by = 0; tag = tag; edit = edit; reply = reply } → Stands m (h ++ e ∷ []) → IsApplied h tag edit n reply m
+applied h tag edit n reply m e k r is st = record {
+  number_is = k;
+  reply_is = r;
+  stands = subst (λ (x : Entry). Stands m (h ++ x ∷ [])) (is ∙ ap (λ (i : ℕ). entry i reply) k ∙ ap (λ (y : Reply). entry (length h) y) r) st;
+}
+  where
+    entry : ℕ → Reply → Entry
+    entry i y = record { number = i; by = 0; tag = tag; edit = edit; reply = y }
+
+-- ---- the replies
+
+pub duplicate : (s : List ℕ) (p : ℕ) → is_among p s ≡ true → reply_to s (Add p) ≡ Duplicate
+duplicate s p e = ap (λ b. cond b Duplicate Inserted) e
+
+pub inserts : (s : List ℕ) (p : ℕ) → is_among p s ≡ false → reply_to s (Add p) ≡ Inserted
+inserts s p e = ap (λ b. cond b Duplicate Inserted) e
+
+pub missing : (s : List ℕ) (p : ℕ) → is_among p s ≡ false → reply_to s (Take p) ≡ Missing
+missing s p e = ap (λ b. cond b (cond (is_solid (without_point p s)) Removed Flat) Missing) e
+
+pub flat : (s : List ℕ) (p : ℕ) → is_among p s ≡ true → is_solid (without_point p s) ≡ false → reply_to s (Take p) ≡ Flat
+flat s p e f = ap (λ b. cond b (cond (is_solid (without_point p s)) Removed Flat) Missing) e ∙ ap (λ b. cond b Removed Flat) f
+
+pub removed : (s : List ℕ) (p : ℕ) → is_among p s ≡ true → is_solid (without_point p s) ≡ true → reply_to s (Take p) ≡ Removed
+removed s p e f = ap (λ b. cond b (cond (is_solid (without_point p s)) Removed Flat) Missing) e ∙ ap (λ b. cond b Removed Flat) f
+
+-- a reply that is no change leaves the set as it is
+pub quiet : (h : List Entry) (n tag : ℕ) (edit : Edit) (reply : Reply) (e : Entry) → n ≡ length h → reply_to (replay h) edit ≡ reply → changed (replay h) (point_of edit) reply ≡ replay h → e ≡ record { number = n; by = 0; tag = tag; edit = edit; reply = reply } → IsQuiet h e
+quiet h n tag edit reply e k r c is = subst (IsQuiet h) (sym is) (record { number = k; reply = sym r; same = ap (changed (replay h) (point_of edit)) r ∙ c })
+
+-- an insertion
+pub insertion : (h : List Entry) (n tag p : ℕ) (e : Entry) → n ≡ length h → is_among p (replay h) ≡ false → e ≡ record { number = n; by = 0; tag = tag; edit = Add p; reply = Inserted } → IsInsertion h e
+insertion h n tag p e k a is = subst (IsInsertion h) (sym is) (record { edit = refl; absent = λ i. (let t = among_true p (replay h) i in cc (t, a)); number = k; reply = refl })

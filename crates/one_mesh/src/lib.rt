@@ -1,0 +1,11 @@
+//! The mesh of one thread: it begins with four points, takes edits one by one, and gives its complex and its history.
+//!
+//! A mesh is seen as the history for which it stands; there is just one (`cell_store::laws::mesh_has_one_history`).
+#![tactic(auto)]
+
+mod edits;
+mod lists;
+
+pub use edit_history::{NotSolid, find_four};
+pub use edits::{Receipt, apply, begin};
+pub use lists::{complex, history, points};
