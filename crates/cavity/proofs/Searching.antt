@@ -68,7 +68,7 @@ none_in (x ∷ l) c e i = cc e
 -- ---- all buckets
 
 -- a cell of a complex has a point
-some_point : (s : List ℕ) → IsAscending s → (c : Cell) → IsIn c (complex s) → (p : ℕ) × IsIn p (points_of c)
+pub some_point : (s : List ℕ) → IsAscending s → (c : Cell) → IsIn c (complex s) → (p : ℕ) × IsIn p (points_of c)
 some_point s a (Full q) i = let l = listed_is_cell s (Full q) a i in (l.a, subst (λ (v : List ℕ). IsIn l.a v) (sym l.is) (inl refl))
 some_point s a (Open q) i = let l = listed_is_cell s (Open q) a i in (l.a, subst (λ (v : List ℕ). IsIn l.a v) (sym l.is) (inl refl))
 

@@ -1,7 +1,7 @@
 -- The hole of a point that is taken, and what fills it.
-use Rattle.std.specs.Prelude.{◌≡◌, ◌≢◌, ℕ, true, List, ◌==◌, None, Some, IsSome}
+use Rattle.std.specs.Prelude.{◌≡◌, ℕ, true, List, ◌==◌, IsSome}
 use Rattle.std.specs.List.{filter}
-use Rattle.std.proofs.Common.{refl, sym, subst, inl, inr, ◌∙◌}
+use Rattle.std.proofs.Common.{refl, sym, subst, inl, ◌∙◌}
 use Rattle.std.proofs.lemmas.Bool.{eq-eqb}
 use Rattle.point_order.specs.declared.cell.Cell.{Cell}
 use Rattle.point_order.specs.Complex.{complex}
@@ -13,7 +13,7 @@ use Rattle.edit_history.specs.Histories.{replay}
 use Rattle.del_laws.proofs.Decide.{is_in}
 use Rattle.del_laws.proofs.PointSets.{solid_more}
 use Rattle.del_laws.proofs.Tests.{filtered_from, filtered_true}
-use Rattle.hole_laws.specs.Edits.{IsSet, IsSolidSet, IsLinkSet, IsNew}
+use Rattle.hole_laws.specs.Edits.{IsSet, IsLinkSet}
 use Rattle.hole_laws.proofs.Laws.{old_lack_point}
 use Rattle.hole_laws.proofs.RemovalLaws.{cells_of_rest, refilled_from_link, coming_are_near}
 use Rattle.hole_laws.proofs.Rest.{rest_set, rest_new}
@@ -22,7 +22,7 @@ use Rattle.cell_store.specs.Buckets.{InHand, bucket_at}
 use Rattle.cell_store.specs.Ready.{AreHeld}
 use Rattle.cell_store.specs.Shares.{Stands}
 use Rattle.cell_store.proofs.MeshLaws.{some_of}
-use Rattle.vertex_removal.specs.Near.{IsStar, AreTaken}
+use Rattle.vertex_removal.specs.Near.{AreTaken}
 use Rattle.vertex_removal.specs.Refills.{IsRefilled}
 use Rattle.vertex_removal.proofs.Star.{star_list, star_once}
 

@@ -4,4 +4,6 @@ pub mod Points
 pub mod Star
 pub mod Around
 pub mod Linked
+pub mod Taken
 pub mod Holes
+pub mod Turning

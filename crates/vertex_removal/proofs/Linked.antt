@@ -1,5 +1,5 @@
 -- The set of the points near a point that is taken: it is solid, and then enough for the hole, or the rest is flat.
-use Rattle.std.specs.Prelude.{◌≡◌, ◌≢◌, ℕ, true, false, List, ◌⊎◌}
+use Rattle.std.specs.Prelude.{◌≡◌, ◌≢◌, ℕ, true, false, List}
 use Rattle.std.proofs.Common.{sym, subst, inl, inr}
 use Rattle.point_order.specs.declared.cell.Cell.{Cell}
 use Rattle.point_order.specs.Complex.{complex}
@@ -43,7 +43,7 @@ pub has_across : (s : List ℕ) (v : ℕ) (star around : List Cell) → IsStar s
 has_across s v star around k a e x = record {
   cell = x.there;
   among = a.across x.here x.f x.there ((k x.here).1 (x.here_listed, x.here_has), x.of_here)
-    (record { listed = x.there_listed; has = x.of_there; differs = λ q. x.there_lacks (subst (λ (c : Cell). IsIn v (points_of c)) (sym q) x.here_has) }) x.there_lacks;
+      (record { listed = x.there_listed; has = x.of_there; differs = λ q. x.there_lacks (subst (λ (c : Cell). IsIn v (points_of c)) (sym q) x.here_has) }) x.there_lacks;
   has = x.has;
 }
 

@@ -1,9 +1,9 @@
 -- The points of cells, ascending, each once.
-use Rattle.std.specs.Prelude.{◌≡◌, ◌≢◌, ℕ, suc, ◌+◌, ◌<◌, not, ◌==◌, List, [], ◌∷◌, length, slice_index, eqb}
+use Rattle.std.specs.Prelude.{◌≡◌, ℕ, suc, ◌+◌, ◌<◌, not, ◌==◌, List, [], ◌∷◌, length, slice_index, eqb}
 use Rattle.std.specs.List.{filter, flat_map, dedup}
 use Rattle.std.specs.List.Sorted.{IsSorted, IsPermutation, IsStrictlyIncreasing}
 use Rattle.std.specs.Ordering.{nat_cmp}
-use Rattle.std.proofs.Common.{refl, sym, subst, inl, inr, arith}
+use Rattle.std.proofs.Common.{sym, subst, arith}
 use Rattle.std.proofs.lemmas.List.Kept.{Contains-dedup_nat, Contains-from_dedup}
 use Rattle.std.proofs.lemmas.List.Sorted.{Contains-permutation, IsPermutation-sym}
 use Rattle.std.proofs.lemmas.Map.Keys.{IsStrictlyIncreasing-dedup}
@@ -14,7 +14,7 @@ use Rattle.cell_store.proofs.MergeLaws.{in_contained, contains_in}
 use Rattle.del_laws.proofs.Tests.{filtered_from, filtered_true, not_true, not_from, false_if, not_both}
 use Rattle.del_laws.proofs.PointSets.{same_from, same_true}
 use Rattle.cavity.proofs.Lists.{in_flat, flat_from}
-use Rattle.vertex_removal.specs.Near.{HasPoint, ArePointsBut, AreSamePoints}
+use Rattle.vertex_removal.specs.Near.{ArePointsBut, AreSamePoints}
 
 -- a list of which each is below the next ascends
 ascends : (l : List ℕ) → IsStrictlyIncreasing l → IsAscending l
@@ -42,10 +42,10 @@ points_are cells v all kept points a k same o = record {
   order = o;
   points_are = λ e. (
     λ i. (
-      let m = filtered_from (λ p. not (p == v)) all e (subst (λ (l : List ℕ). IsIn e l) k ((same e).1 i)) in
-      let r = flat_from points_of cells e (subst (λ (l : List ℕ). IsIn e l) a m.0) in
-      (record { cell = r.0; among = r.1; has = r.2 }, λ q. not_both (e == v) (same_true e v q) (not_from (e == v) m.1))),
+        let m = filtered_from (λ p. not (p == v)) all e (subst (λ (l : List ℕ). IsIn e l) k ((same e).1 i)) in
+        let r = flat_from points_of cells e (subst (λ (l : List ℕ). IsIn e l) a m.0) in
+        (record { cell = r.0; among = r.1; has = r.2 }, λ q. not_both (e == v) (same_true e v q) (not_from (e == v) m.1))),
     λ r. (same e).0 (subst (λ (l : List ℕ). IsIn e l) (sym k)
-      (filtered_true (λ p. not (p == v)) all e (subst (λ (l : List ℕ). IsIn e l) (sym a) (in_flat points_of cells r.0.cell e r.0.among r.0.has)) (not_true (e == v) (false_if (e == v) (λ h. r.1 (same_from e v h)))))),
+        (filtered_true (λ p. not (p == v)) all e (subst (λ (l : List ℕ). IsIn e l) (sym a) (in_flat points_of cells r.0.cell e r.0.among r.0.has)) (not_true (e == v) (false_if (e == v) (λ h. r.1 (same_from e v h)))))),
   );
 }

@@ -62,12 +62,7 @@ fn is_solid(points: &[Point]) -> bool
 }
 
 // Adds the cells without v that lie across the facets of a cell, the buckets of whose points are in hand.
-fn add_across(
-    hold: &Hold,
-    cell: &Cell,
-    v: Point,
-    around: &mut Vec<Cell>,
-) -> Result<(), AllocError>
+fn add_across(hold: &Hold, cell: &Cell, v: Point, around: &mut Vec<Cell>) -> Result<(), AllocError>
     requires stands { StandsWith hold.now cell.now }
     requires held { ArePointsHeld hold.now (points_of cell.now) }
     ensures { OnOk result ((h : List Entry) → Stands hold.now h → IsIn cell.now (complex (replay h)) → AreAdded (replay h) v (IsOneOf cell.now (facets_of cell.now)) around.old.items around.new.items) }

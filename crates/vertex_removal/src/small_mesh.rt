@@ -21,7 +21,11 @@ fn one_bucket() -> Grid
 }
 
 // The cells that a new point takes away from the complex of a solid set, which ascends.
-pub(crate) fn cells_taken(alloc: Global, points: &[Point], v: Point) -> Result<Vec<Cell>, AllocError>
+pub(crate) fn cells_taken(
+    alloc: Global,
+    points: &[Point],
+    v: Point,
+) -> Result<Vec<Cell>, AllocError>
     requires ascending { IsAscending points.now }
     requires solid { is_solid points.now ≡ true }
     requires absent { ¬ (IsIn v points.now) }

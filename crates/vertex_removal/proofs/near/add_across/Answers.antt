@@ -1,5 +1,4 @@
 use Rattle.std.proofs.Common.{sym, ◌∙◌, subst, List, arith}
-use Rattle.point_order.specs.declared.cell.Cell.{Cell}
 use Rattle.point_order.specs.declared.cell.Facet.{Facet}
 use Rattle.point_order.specs.Complex.{complex}
 use Rattle.point_order.specs.Facets.{points_of}
@@ -11,7 +10,7 @@ use Rattle.cell_store.specs.Shares.{NoneInHand, points_on}
 use Rattle.cavity.proofs.Exploration.{facet_held}
 use Rattle.cavity.proofs.Lists.{at_place}
 use Rattle.cavity.proofs.Standing.{solid_set}
-use Rattle.vertex_removal.proofs.Around.{none_crossed, one_added, one_passed}
+use Rattle.vertex_removal.proofs.Around.{one_added, one_passed}
 use Rattle.vertex_removal.proofs.near.add_across.Goals.{then-not-has+in_ok-push, else-not-has}
 use Rattle.vertex_removal.proofs.near.add_across.Goals as goal
 

@@ -1,4 +1,4 @@
-use Rattle.std.proofs.Common.{sym, subst, List, arith}
+use Rattle.std.proofs.Common.{subst, List, arith}
 use Rattle.std.proofs.lemmas.List.{take_all}
 use Rattle.point_order.specs.declared.cell.Cell.{Cell}
 use Rattle.edit_history.specs.Histories.{replay}

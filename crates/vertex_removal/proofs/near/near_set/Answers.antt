@@ -1,4 +1,4 @@
-use Rattle.std.proofs.Common.{sym, ◌∙◌, ap, subst, List, ℕ, true, false}
+use Rattle.std.proofs.Common.{sym, ◌∙◌, ap, subst}
 use Rattle.point_order.specs.Solid.{is_solid}
 use Rattle.edit_history.specs.Histories.{replay}
 use Rattle.cavity.proofs.Standing.{solid_set}

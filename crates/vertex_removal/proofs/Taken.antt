@@ -1,0 +1,182 @@
+-- The cells that a new point takes away from a mesh of one bucket, as they are judged one after another.
+use Rattle.std.specs.Prelude.{◌≡◌, ℕ, ◌*◌, ◌<◌, true, List, [], ◌∷◌, ◌++◌, ◌⊎◌, Some, length}
+use Rattle.std.specs.List.{filter}
+use Rattle.std.specs.List.Sorted.{IsStrictlySortedBy, IsPermutation}
+use Rattle.std.proofs.Common.{refl, sym, ◌∙◌, subst, inl, inr, arith}
+use Rattle.std.proofs.lemmas.List.Kept.{IsStrictlySortedBy-filter}
+use Rattle.std.proofs.lemmas.List.Sorted.{IsPermutation-sym}
+use Rattle.conv_laws.specs.Lists.{AreDistinct}
+use Rattle.point_order.specs.declared.cell.Cell.{Cell}
+use Rattle.point_order.specs.CellOrder.{cell_cmp}
+use Rattle.point_order.specs.Complex.{complex}
+use Rattle.point_order.specs.Coordinates.{IsKey}
+use Rattle.point_order.specs.Facets.{points_of}
+use Rattle.point_order.specs.Sets.{IsIn, with_point}
+use Rattle.edit_history.specs.declared.history.Entry.{Entry}
+use Rattle.edit_history.specs.Histories.{replay}
+use Rattle.del_laws.proofs.Listed.{in_left, in_right, from_append}
+use Rattle.del_laws.proofs.Ordered.{complex_is_sorted}
+use Rattle.del_laws.proofs.Tests.{filtered_from, filtered_true}
+use Rattle.hole_laws.specs.Edits.{IsNew, GoesFrom, StaysFrom}
+use Rattle.cell_store.specs.Buckets.{InHand, Content, bucket_at}
+use Rattle.cell_store.specs.Grids.{bucket_of, is_grid_size}
+use Rattle.cell_store.specs.Meshes.{IsMesh}
+use Rattle.cell_store.specs.Shares.{Stands, NoneInHand}
+use Rattle.cell_store.specs.Swaps.{touches}
+use Rattle.cell_store.proofs.GridLaws.{bucket-below}
+use Rattle.cell_store.proofs.MeshLaws.{in_moved, point_held}
+use Rattle.cell_store.proofs.ShareLaws.{touched}
+use Rattle.cavity.specs.Growing.{StandsForPoints}
+use Rattle.cavity.specs.Judging.{StandsWithNew}
+use Rattle.cavity.proofs.Held.{not_some}
+use Rattle.cavity.proofs.Lists.{distinct_push}
+use Rattle.cavity.proofs.Searching.{some_point, none_in}
+use Rattle.cavity.proofs.Standing.{solid_set}
+use Rattle.vertex_removal.specs.Near.{AreTaken}
+use Rattle.vertex_removal.proofs.Once.{moved_once}
+
+-- a mesh of one bucket for the points t, of which v is none
+pub record IsSmall (hold : InHand) (t : List ℕ) (v : ℕ) : Type 0 where
+  pub mesh : IsMesh hold
+  pub grid : hold.grid ≡ 1
+  pub new : IsNew t v
+  pub history : List Entry
+  pub stands : Stands hold history
+  pub same : replay history ≡ t
+
+pub small_of : (mesh hold : InHand) (g : ℕ) (t : List ℕ) (v : ℕ) → hold ≡ mesh → IsMesh mesh → mesh.grid ≡ g → g ≡ 1 → StandsForPoints mesh t → IsKey v → ¬ (IsIn v t) → IsSmall hold t v
+small_of mesh hold g t v e k at one st key absent = subst (λ (m : InHand). IsSmall m t v) (sym e) (record {
+  mesh = k;
+  grid = at ∙ one;
+  new = record { key = key; absent = absent };
+  history = st.0;
+  stands = st.1;
+  same = st.2;
+})
+
+module _ (hold : InHand) (t : List ℕ) (v : ℕ) (k : IsSmall hold t v) (c : Cell) (m : IsIn c (complex t)) where
+  -- its cells can be judged
+  listed : IsIn c (complex (replay k.history))
+  listed = subst (λ (s : List ℕ). IsIn c (complex s)) (sym k.same) m
+
+  new : IsNew (replay k.history) v
+  new = subst (λ (s : List ℕ). IsNew s v) (sym k.same) k.new
+
+  pub can_judge : StandsWithNew hold c v
+  can_judge = (k.history, k.stands, listed, new)
+
+  pub some_held : ¬ (NoneInHand hold (points_of c))
+  some_held none =
+      let e = some_point (replay k.history) (solid_set hold k.history k.stands).set.ascending c listed in
+      not_some (bucket_at hold.places (bucket_of hold.grid e.0)) (none e.0 e.1) (point_held hold e.0 k.mesh.has k.mesh.all)
+
+  -- what is said of each history is said of these points
+  pub said_of_points : (P : List ℕ → Type 0) → ((h : List Entry) → Stands hold h → IsNew (replay h) v → IsIn c (complex (replay h)) → P (replay h)) → P t
+  said_of_points P f = subst P k.same (f k.history k.stands new listed)
+
+-- cells that are taken away, and the rest, which are still to be judged
+pub record IsJudged (t : List ℕ) (v : ℕ) (rest taken : List Cell) : Type 0 where
+  pub rest_once : AreDistinct rest
+  pub rest_listed : (c : Cell) → IsIn c rest → IsIn c (complex t)
+  pub once : AreDistinct taken
+  pub goes : (c : Cell) → IsIn c taken → GoesFrom t v c
+  pub apart : (c : Cell) → IsIn c taken → ¬ (IsIn c rest)
+  pub whole : (c : Cell) → GoesFrom t v c → IsIn c rest ⊎ IsIn c taken
+
+-- every cell is in the one bucket
+in_bucket : (s : List ℕ) (g : ℕ) (c : Cell) → g ≡ 1 → ((c : Cell) → IsIn c (complex s) → (p : ℕ) × (touches g (bucket_of g p) c ≡ true) × (bucket_of g p < g * g * g)) → IsIn c (complex s) → touches g 0 c ≡ true
+in_bucket s g c e f m =
+    let r = f c m in
+    let k : bucket_of g r.0 < 1 * 1 * 1 = subst (λ n. bucket_of g r.0 < n * n * n) e r.2 in
+    let zero : bucket_of g r.0 ≡ 0 = omega (arith, k) in
+    subst (λ b. touches g b c ≡ true) zero r.1
+
+-- at first all are to be judged
+pub judged_first : (hold : InHand) (t : List ℕ) (v : ℕ) (x : Content) (rest : List Cell) → IsSmall hold t v → bucket_at hold.places 0 ≡ Some x → IsPermutation x.cells rest → IsJudged t v rest []
+judged_first hold t v x rest k at moved = subst (λ (s : List ℕ). IsJudged s v rest []) k.same first
+  where
+    h : List Entry
+    h = k.history
+
+    st : Stands hold h
+    st = k.stands
+
+    one : hold.grid ≡ 1
+    one = k.grid
+
+    share : x.cells ≡ filter (touches hold.grid 0) (complex (replay h))
+    share = (st.shares 0 x at).cells
+
+    sorted : IsStrictlySortedBy cell_cmp x.cells
+    sorted = subst (λ (l : List Cell). IsStrictlySortedBy cell_cmp l) (sym share) (IsStrictlySortedBy-filter cell_cmp (touches hold.grid 0) (complex (replay h)) (complex_is_sorted (replay h) (solid_set hold h st).set.ascending))
+
+    touch : (c : Cell) → IsIn c (complex (replay h)) → touches hold.grid 0 c ≡ true
+    touch c m = in_bucket (replay h) hold.grid c one (λ d n. (let e = some_point (replay h) (solid_set hold h st).set.ascending d n in (e.0, touched hold.grid e.0 (bucket_of hold.grid e.0) d refl e.1, bucket-below hold.grid e.0 (subst (λ g. is_grid_size g ≡ true) (sym one) refl)))) m
+
+    first : IsJudged (replay h) v rest []
+    first = record {
+      rest_once = moved_once x.cells rest sorted moved;
+      rest_listed = λ c i. (filtered_from (touches hold.grid 0) (complex (replay h)) c (subst (λ (l : List Cell). IsIn c l) share (in_moved x.cells rest c moved i))).0;
+      once = tt;
+      goes = λ c i. absurd i;
+      apart = λ c i k. i;
+      whole = λ c g. inl (in_moved rest x.cells c (IsPermutation-sym x.cells rest moved) (subst (λ (l : List Cell). IsIn c l) (sym share) (filtered_true (touches hold.grid 0) (complex (replay h)) c g.before (touch c g.before))));
+    }
+
+module _ (t : List ℕ) (v : ℕ) (rest left taken : List Cell) (c : Cell) (j : IsJudged t v rest taken) (steps : rest ≡ c ∷ left) where
+  -- the next one is one of the complex
+  pub next_listed : IsIn c (complex t)
+  next_listed = j.rest_listed c (subst (λ (l : List Cell). IsIn c l) (sym steps) (inl refl))
+
+  -- it stands once
+  next_once : AreDistinct (c ∷ left)
+  next_once = subst (λ (l : List Cell). AreDistinct l) steps j.rest_once
+
+  -- those after it are of the rest
+  of_rest : (d : Cell) → IsIn d left → IsIn d rest
+  of_rest d m = subst (λ (l : List Cell). IsIn d l) (sym steps) (inr m)
+
+  -- one of the rest is the next, or comes after it
+  next_or_left : (d : Cell) → IsIn d rest → (c ≡ d) ⊎ IsIn d left
+  next_or_left d m = subst (λ (l : List Cell). IsIn d l) steps m
+
+  -- it is taken away
+  pub judged_goes : GoesFrom t v c → IsJudged t v left (taken ++ c ∷ [])
+  judged_goes g = record {
+    rest_once = next_once.1;
+    rest_listed = λ d m. j.rest_listed d (of_rest d m);
+    once = distinct_push taken c j.once (λ m. j.apart c m (subst (λ (l : List Cell). IsIn c l) (sym steps) (inl refl)));
+    goes = λ d m. elim (from_append d taken (c ∷ []) m) [
+      | inl k ↦ j.goes d k
+      | inr k ↦ elim k [ inl e ↦ subst (λ (x : Cell). GoesFrom t v x) e g | inr none ↦ absurd none ]
+    ];
+    apart = λ d m k. elim (from_append d taken (c ∷ []) m) [
+      | inl n ↦ j.apart d n (of_rest d k)
+      | inr n ↦ elim n [ inl e ↦ next_once.0 (subst (λ (x : Cell). IsIn x left) (sym e) k) | inr none ↦ none ]
+    ];
+    whole = λ d g. elim (j.whole d g) [
+      | inl m ↦ elim (next_or_left d m) [ inl e ↦ inr (in_right d taken (c ∷ []) (inl e)) | inr k ↦ inl k ]
+      | inr m ↦ inr (in_left d taken (c ∷ []) m)
+    ];
+  }
+
+  -- or stays
+  pub judged_stays : StaysFrom t v c → IsJudged t v left taken
+  judged_stays k = record {
+    rest_once = next_once.1;
+    rest_listed = λ d m. j.rest_listed d (of_rest d m);
+    once = j.once;
+    goes = j.goes;
+    apart = λ d m n. j.apart d m (of_rest d n);
+    whole = λ d g. elim (j.whole d g) [
+      | inl m ↦ elim (next_or_left d m) [ inl e ↦ absurd (g.after (subst (λ (x : Cell). IsIn x (complex (with_point v t))) e k.after)) | inr n ↦ inl n ]
+      | inr m ↦ inr m
+    ];
+  }
+
+-- when all are judged
+pub judged_all : (t : List ℕ) (v : ℕ) (rest taken : List Cell) → IsJudged t v rest taken → length rest ≡ 0 → AreTaken t v taken
+judged_all t v rest taken j e = record {
+  goes = λ c. (j.goes c, λ g. elim (j.whole c g) [ inl m ↦ absurd (none_in rest c e m) | inr m ↦ m ]);
+  once = j.once;
+}
