@@ -1,0 +1,3 @@
+pub mod Gabriel
+pub mod Links
+pub mod Laws
