@@ -1,16 +1,14 @@
 -- The identities of `conv_laws` at the places of points: how orientations and lifted determinants change with their order,
 -- and the relations among them. No other file of the crate unfolds a coordinate, but for Planes.
 use Rattle.std.specs.Prelude.{ℕ, ◌+ℤ◌, ◌-ℤ◌, ◌*ℤ◌, ◌≡◌, neg_ℤ, pos}
-use Rattle.conv_laws.specs.Places.{Place, orient, Lifted, lifted as lifted_determinant}
+use Rattle.conv_laws.specs.Places.{square, normal, orient, Lifted, lifted as lifted_determinant}
+use Rattle.conv_laws.specs.Spheres.{edge_power, triangle_power}
 use Rattle.conv_laws.proofs.Alternation as places
 use Rattle.conv_laws.proofs.Affine as relations
-use Rattle.point_order.specs.Coordinates.{x_of, y_of, z_of}
+use Rattle.conv_laws.proofs.Spheres as spheres
 use Rattle.point_order.specs.Orientation.{orientation, triple, minor, x_from, y_from, z_from}
-use Rattle.point_order.specs.Heights.{lifted}
-
--- the place of a point
-abbrev pub place : ℕ → Place
-place p = record { x = pos (x_of p); y = pos (y_of p); z = pos (z_of p) }
+use Rattle.point_order.specs.Heights.{lifted, square_of, sphere_polynomial}
+use Rattle.del_laws.specs.EmptySpheres.{place}
 
 -- the place of a point, lifted to its height
 abbrev pub raised : (ℕ → ℕ) → ℕ → Lifted
@@ -166,3 +164,15 @@ lifted_carried_of h a b c d e k l m n =
 pub crossing_of : (h : ℕ → ℕ) (a b c d f e : ℕ) → lifted h a c b f e *ℤ orientation a b c d -ℤ lifted h a b c d e *ℤ orientation a c b f ≡ orientation a b c e *ℤ lifted h a b c d f
 unfolding lifted lifted_determinant orientation orient triple minor x_from y_from z_from
 crossing_of h a b c d f e = relations.crossing (raised h a) (raised h b) (raised h c) (raised h d) (raised h f) (raised h e)
+
+-- ---- smallest spheres
+
+-- the power of e to the smallest sphere of the edge a, b by those of the other two vertices
+pub edge_power_of : (a b c d e : ℕ) → orientation a b c d *ℤ edge_power (place a) (place b) (place e) ≡ sphere_polynomial a b c d e +ℤ (orientation a d b e *ℤ edge_power (place a) (place b) (place c) +ℤ orientation a b c e *ℤ edge_power (place a) (place b) (place d))
+unfolding sphere_polynomial square_of lifted lifted_determinant orientation orient triple minor x_from y_from z_from
+edge_power_of a b c d e = spheres.edge_power_carried (place a) (place b) (place c) (place d) (place e)
+
+-- the power to the smallest sphere of the triangle a, b, c by that of the fourth vertex
+pub triangle_power_of : (a b c d e : ℕ) → orientation a b c d *ℤ triangle_power (place a) (place b) (place c) (place e) ≡ sphere_polynomial a b c d e *ℤ square (normal (place a) (place b) (place c)) +ℤ orientation a b c e *ℤ triangle_power (place a) (place b) (place c) (place d)
+unfolding sphere_polynomial square_of lifted lifted_determinant orientation orient triple minor x_from y_from z_from
+triangle_power_of a b c d e = spheres.triangle_power_carried (place a) (place b) (place c) (place d) (place e)

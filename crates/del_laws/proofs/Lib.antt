@@ -5,6 +5,7 @@ pub mod CellFacts
 pub mod Closed
 pub mod Conflict
 pub mod Decide
+pub mod EmptySpheres
 pub mod Existence
 pub mod Facets
 pub mod Identities

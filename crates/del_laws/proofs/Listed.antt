@@ -65,7 +65,7 @@ first_below x [] f = tt
 first_below x (y ∷ l) f = f y (inl refl)
 
 -- a part of an ascending list is ascending
-part_ascending : (k : ℕ) (s q : List ℕ) → IsAscending s → IsIn q (subsets k s) → IsAscending q
+pub part_ascending : (k : ℕ) (s q : List ℕ) → IsAscending s → IsIn q (subsets k s) → IsAscending q
 part_ascending zero s q a m = elim m [ inl e ↦ subst IsAscending e tt | inr none ↦ absurd none ]
 part_ascending (suc k) [] q a m = absurd m
 part_ascending (suc k) (x ∷ s) q a m = elim (from_append q (map (λ r. x ∷ r) (subsets k s)) (subsets (suc k) s) m) [

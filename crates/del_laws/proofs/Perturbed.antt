@@ -14,9 +14,10 @@ use Rattle.point_order.specs.Sets.{AreFive}
 use Rattle.point_order.proofs.Keys.{key-is}
 use Rattle.point_order.proofs.Perturbation.{out-sign}
 use Rattle.point_order.proofs.HeightLaws.{never_zero_law}
+use Rattle.del_laws.specs.EmptySpheres.{place}
 use Rattle.del_laws.specs.Cells.{NoTies, IsConvex, OneOf}
 use Rattle.del_laws.specs.Keys.{AreKeys}
-use Rattle.del_laws.proofs.Identities.{place, orientation_at_a, orientation_at_b, orientation_at_c, orientation_same12, orientation_same13, orientation_same23, weights_of}
+use Rattle.del_laws.proofs.Identities.{orientation_at_a, orientation_at_b, orientation_at_c, orientation_same12, orientation_same13, orientation_same23, weights_of}
 use Rattle.del_laws.proofs.Numbers.{clash}
 use Rattle.del_laws.proofs.Decide.{is_in}
 

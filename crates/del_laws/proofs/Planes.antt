@@ -6,8 +6,9 @@ use Rattle.conv_laws.specs.Places.{IsZero, normal, orient}
 use Rattle.conv_laws.proofs.Solidity.{only_on_line, line_in_plane}
 use Rattle.point_order.specs.Orientation.{orientation, triple, minor, x_from, y_from, z_from}
 use Rattle.point_order.specs.Sets.{IsIn}
+use Rattle.del_laws.specs.EmptySpheres.{place}
 use Rattle.del_laws.specs.Cells.{Open, IsSolid, IsSubset}
-use Rattle.del_laws.proofs.Identities.{place, orientation_carried}
+use Rattle.del_laws.proofs.Identities.{orientation_carried}
 use Rattle.del_laws.proofs.Numbers.{not_zero, settled, zero_terms}
 use Rattle.del_laws.proofs.CellFacts.{open_mate, open_bounds}
 use Rattle.del_laws.proofs.Decide.{some_in, is_positive, is_at_zero, denied}

@@ -1,4 +1,5 @@
 pub mod Cells
+pub mod EmptySpheres
 pub mod Keys
 pub mod Kept
 pub mod Laws

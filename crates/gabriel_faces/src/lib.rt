@@ -24,7 +24,7 @@ pub fn gabriel_edge(a: Point, b: Point, link: &[Point]) -> bool
     ensures over_link { result ≡ is_empty_edge link.now a b }
     ensures over_set { (s : List ℕ) → IsAscending s → AreKeys s → IsFace s (a ∷ b ∷ []) → IsLink s (a ∷ b ∷ []) link.now → result ≡ is_gabriel s (a ∷ b ∷ []) }
 {
-    link.iter().all(|e| !inside_edge(a, b, *e))
+    is_edge_empty(a, b, link)
 }
 
 /// Whether no point of the link lies strictly inside the smallest circumscribing sphere of the triangle.
@@ -35,5 +35,19 @@ pub fn gabriel_triangle(a: Point, b: Point, c: Point, link: &[Point]) -> bool
     ensures over_link { result ≡ is_empty_triangle link.now a b c }
     ensures over_set { (s : List ℕ) → IsAscending s → AreKeys s → IsFace s (a ∷ b ∷ c ∷ []) → IsLink s (a ∷ b ∷ c ∷ []) link.now → result ≡ is_gabriel s (a ∷ b ∷ c ∷ []) }
 {
-    link.iter().all(|e| !inside_triangle(a, b, c, *e))
+    is_triangle_empty(a, b, c, link)
+}
+
+// Whether none of the points lies strictly inside the smallest circumscribing sphere of the edge.
+fn is_edge_empty(a: Point, b: Point, points: &[Point]) -> bool
+    ensures { result ≡ is_empty_edge points.now a b }
+{
+    points.iter().all(|e| !inside_edge(a, b, *e))
+}
+
+// Whether none of the points lies strictly inside the smallest circumscribing sphere of the triangle.
+fn is_triangle_empty(a: Point, b: Point, c: Point, points: &[Point]) -> bool
+    ensures { result ≡ is_empty_triangle points.now a b c }
+{
+    points.iter().all(|e| !inside_triangle(a, b, c, *e))
 }

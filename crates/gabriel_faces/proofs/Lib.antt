@@ -1,0 +1,4 @@
+pub mod Corners
+pub mod Links
+pub mod Powers
+pub mod JudgedByLink

@@ -1,0 +1,8 @@
+use Rattle.gabriel_faces.proofs.Links.{listed_is_face, link_is_link}
+use Rattle.gabriel_faces.proofs.laws.faces_and_links.Goals as goal
+
+pub returns-clause-face : goal.returns-clause-face
+returns-clause-face c = listed_is_face
+
+pub returns-clause-link : goal.returns-clause-link
+returns-clause-link c = link_is_link
