@@ -80,7 +80,9 @@ fn some_around(triples: &[Tri], pair: &Pair, facets: &[Facet]) -> bool
     requires { IsStrictlySortedBy (slice_cmp nat_cmp) triples.now }
     ensures { result ≡ list_any (is_listed_around_of triples.now pair.now) facets.now }
 {
-    facets.iter().any(|facet| is_listed_around(triples, pair, facet))
+    facets
+        .iter()
+        .any(|facet| is_listed_around(triples, pair, facet))
 }
 
 // Whether the cell is listed, or has a facet that is one of the triples and contains the pair.
