@@ -12,7 +12,7 @@ use Rattle.point_order.specs.Sets.{IsIn, IsAscending}
 use Rattle.point_order.specs.Solid.{is_solid}
 use Rattle.point_order.specs.Subsets.{subsets}
 use Rattle.del_laws.specs.Keys.{AreKeys}
-use Rattle.del_laws.proofs.Listed.{in_left, in_right, from_append, part_inside, part_true, listed_is_cell}
+use Rattle.del_laws.proofs.Listed.{in_left, in_right, from_append, part_inside, part_ascending, part_true, listed_is_cell}
 use Rattle.del_laws.proofs.ListedParts.{listed_every_point}
 use Rattle.del_laws.proofs.Tests.{any_from, any_true, both_true, first_true, second_true, left_true, right_true, one_true, same_test, filtered_from, filtered_true}
 use Rattle.face_list.specs.Faces.{full_cells, parts_in, cells_with, with_cells, points_with_cells}
@@ -21,7 +21,7 @@ use Rattle.gabriel_faces.specs.Gabriel.{is_gabriel}
 use Rattle.alpha_complex.specs.Admitted.{is_within, faces_inside, contains, is_small, is_admitted, is_admitted_cell, kind_by, kind}
 use Rattle.alpha_complex.specs.Judged.{is_listed, is_listed_cell, is_listed_around, covers, is_small_by, small_among, is_admitted_triple, is_admitted_pair, kinds_by}
 use Rattle.alpha_complex.specs.Shapes.{admitted_among}
-use Rattle.alpha_complex.proofs.Parts.{part_length, part_ascends, contained_true, contains_itself, contains_through, not_in_shorter, whole_only, same_face}
+use Rattle.alpha_complex.proofs.Parts.{part_length, contained_true, contains_itself, contains_through, not_in_shorter, whole_only, same_face}
 use Rattle.alpha_complex.proofs.SmallFaces.{listed_from, listed_true, from_full, full_true, all_same, any_same, small_are}
 
 -- ---- Full cells of a complex
@@ -108,11 +108,11 @@ too_few : (k n : ℕ) (q t p : List ℕ) → k < n → IsAscending q → IsIn t 
 too_few k n q t p l a i b e c = (
     let f : length t ≡ k = part_length k q t i in
     let m : length t < length p = omega arith in
-    not_in_shorter t p (part_ascends k q t a i) b c m)
+    not_in_shorter t p (part_ascending k q t a i) b c m)
 
 -- one with as many points that does is p
 as_many : (k : ℕ) (q t p : List ℕ) → IsAscending q → IsIn t (subsets k q) → IsAscending p → length p ≡ k → contains t p ≡ true → t ≡ p
-as_many k q t p a i b e c = same_face t p (part_ascends k q t a i) b c (part_length k q t i ∙ sym e)
+as_many k q t p a i b e c = same_face t p (part_ascending k q t a i) b c (part_length k q t i ∙ sym e)
 
 -- a list is a part of itself
 part_of_itself : (q : List ℕ) → IsAscending q → length q ≡ 4 → IsIn q (subsets 4 q)
@@ -260,7 +260,7 @@ admitted_triple_is s alpha p l i = same_test (is_admitted_triple (small_cells s 
     back t = (
         let b = admitted_from s alpha p t in
         let h = listed_is_part 3 (complex s) p i in
-        by_face (part_ascends 3 h.q p (four_points s h.q l.ascending h.listed).ascending h.part) (part_length 3 h.q p h.part) b (four_points s b.cell l.ascending b.listed).ascending (sized b.cell b.face b.inside))
+        by_face (part_ascending 3 h.q p (four_points s h.q l.ascending h.listed).ascending h.part) (part_length 3 h.q p h.part) b (four_points s b.cell l.ascending b.listed).ascending (sized b.cell b.face b.inside))
 
 -- ---- pairs
 
@@ -293,21 +293,21 @@ admitted_pair_is s alpha p l i = same_test (is_admitted_pair (small_cells s alph
 
     -- by a cell or a triple around it, or by itself
     there : is_admitted_pair (small_cells s alpha) (small_triples s alpha) alpha (p, cells_with p (complex s)) ≡ true → is_admitted s alpha p ≡ true
-    there t = elim (one_true (list_any (covers (small_cells s alpha) (small_triples s alpha) p) (cells_with p (complex s))) (is_small_by alpha (p, cells_with p (complex s))) t) [
-      | inl e ↦ (
+    there t = elim (one_true (is_small_by alpha (p, cells_with p (complex s))) (list_any (covers (small_cells s alpha) (small_triples s alpha) p) (cells_with p (complex s))) t) [
+      | inr e ↦ (
           let k = any_from (covers (small_cells s alpha) (small_triples s alpha) p) (cells_with p (complex s)) e in
           elim (one_true (is_listed_cell (small_cells s alpha) k.0) (list_any (is_listed_around (small_triples s alpha) p) (facets_of k.0)) k.2) [
             | inl f ↦ listed_cell_admits s alpha p k.0 l.ascending k.1 f
             | inr f ↦ (let m = any_from (is_listed_around (small_triples s alpha) p) (facets_of k.0) f in by_facet m.0 m.2)
           ])
-      | inr e ↦ (
+      | inl e ↦ (
           let k = listed_is_part 2 (complex s) p i in
           admitted_true s alpha p (record { cell = k.q; listed = k.listed; face = p; inside = inside_2 k.q p k.part; has = contains_itself p; small = sym (l.small 2 p i) ∙ e }))
     ]
 
     -- a cell that covers it
     covered : (q : List ℕ) → IsIn (Full q) (cells_with p (complex s)) → covers (small_cells s alpha) (small_triples s alpha) p (Full q) ≡ true → is_admitted_pair (small_cells s alpha) (small_triples s alpha) alpha (p, cells_with p (complex s)) ≡ true
-    covered q j c = left_true (list_any (covers (small_cells s alpha) (small_triples s alpha) p) (cells_with p (complex s))) (is_small_by alpha (p, cells_with p (complex s))) (any_true (covers (small_cells s alpha) (small_triples s alpha) p) (cells_with p (complex s)) (Full q) j c)
+    covered q j c = right_true (is_small_by alpha (p, cells_with p (complex s))) (list_any (covers (small_cells s alpha) (small_triples s alpha) p) (cells_with p (complex s))) (any_true (covers (small_cells s alpha) (small_triples s alpha) p) (cells_with p (complex s)) (Full q) j c)
 
     -- a small triple of a Full cell that contains it
     by_triple : (b : AdmittedBy s alpha p) → IsFour b.cell → IsIn b.face (subsets 3 b.cell) → is_admitted_pair (small_cells s alpha) (small_triples s alpha) alpha (p, cells_with p (complex s)) ≡ true
@@ -322,7 +322,7 @@ admitted_pair_is s alpha p l i = same_test (is_admitted_pair (small_cells s alph
     -- and so by what admits it
     by_face : IsAscending p → length p ≡ 2 → (b : AdmittedBy s alpha p) → IsFour b.cell → Sized b.cell b.face → is_admitted_pair (small_cells s alpha) (small_triples s alpha) alpha (p, cells_with p (complex s)) ≡ true
     by_face a e b f (one j) = absurd (too_few 1 2 b.cell b.face p (omega arith) f.ascending j a e b.has)
-    by_face a e b f (two j) = right_true (list_any (covers (small_cells s alpha) (small_triples s alpha) p) (cells_with p (complex s))) (is_small_by alpha (p, cells_with p (complex s)))
+    by_face a e b f (two j) = left_true (is_small_by alpha (p, cells_with p (complex s))) (list_any (covers (small_cells s alpha) (small_triples s alpha) p) (cells_with p (complex s)))
         (l.small 2 p i ∙ subst (λ v. is_small s alpha v ≡ true) (as_many 2 b.cell b.face p f.ascending j a e b.has) b.small)
     by_face a e b f (three j) = by_triple b f j
     by_face a e b f (four j) = (
@@ -334,7 +334,7 @@ admitted_pair_is s alpha p l i = same_test (is_admitted_pair (small_cells s alph
     back t = (
         let b = admitted_from s alpha p t in
         let h = listed_is_part 2 (complex s) p i in
-        by_face (part_ascends 2 h.q p (four_points s h.q l.ascending h.listed).ascending h.part) (part_length 2 h.q p h.part) b (four_points s b.cell l.ascending b.listed) (sized b.cell b.face b.inside))
+        by_face (part_ascending 2 h.q p (four_points s h.q l.ascending h.listed).ascending h.part) (part_length 2 h.q p h.part) b (four_points s b.cell l.ascending b.listed) (sized b.cell b.face b.inside))
 
 -- ---- kinds
 

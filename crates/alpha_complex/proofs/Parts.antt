@@ -1,9 +1,8 @@
 -- Parts of ascending lists of points: how long they are, and which parts contain which.
 use Rattle.std.proofs.Common.{◌≡◌, refl, sym, subst, ap, ◌∙◌, ℕ, zero, suc, ◌<◌, inl, inr, true, List, [], ◌∷◌, map, length, arith}
-use Rattle.point_order.specs.Sets.{IsIn, IsBelowFirst, IsAscending, is_among}
+use Rattle.point_order.specs.Sets.{IsIn, IsAscending, is_among}
 use Rattle.point_order.specs.Subsets.{subsets}
-use Rattle.point_order.proofs.SetLaws.{below-each}
-use Rattle.del_laws.proofs.Listed.{from_append, mapped_from, part_inside, part_true}
+use Rattle.del_laws.proofs.Listed.{from_append, mapped_from, part_true}
 use Rattle.del_laws.proofs.Tests.{all_from, all_true, among_from, among_true}
 use Rattle.alpha_complex.specs.Admitted.{contains}
 
@@ -17,22 +16,6 @@ part_length (suc k) (x ∷ s) q m = elim (from_append q (map (λ r. x ∷ r) (su
       subst (λ (v : List ℕ). length v ≡ suc k) r.2 (ap suc (part_length k s r.0 r.1)))
   | inr l ↦ part_length (suc k) s q l
 ]
-
--- a part of an ascending list ascends
-pub part_ascends : (k : ℕ) (s q : List ℕ) → IsAscending s → IsIn q (subsets k s) → IsAscending q
-part_ascends zero s q a m = elim m [ inl e ↦ subst IsAscending e tt | inr none ↦ absurd none ]
-part_ascends (suc k) [] q a m = absurd m
-part_ascends (suc k) (x ∷ s) q a m = elim (from_append q (map (λ r. x ∷ r) (subsets k s)) (subsets (suc k) s) m) [
-  | inl l ↦ (
-      let r = mapped_from (λ r. x ∷ r) q (subsets k s) l in
-      subst IsAscending r.2 (first_below x r.0 (λ y i. below-each x s a.0 a.1 y (part_inside k s r.0 r.1 y i)), part_ascends k s r.0 a.1 r.1))
-  | inr l ↦ part_ascends (suc k) s q a.1 l
-]
-  where
-    -- what is below each member is below the first
-    first_below : (x : ℕ) (l : List ℕ) → ((y : ℕ) → IsIn y l → x < y) → IsBelowFirst x l
-    first_below x [] f = tt
-    first_below x (y ∷ l) f = f y (inl refl)
 
 -- a list has no part that is longer
 no_longer : (k : ℕ) (t p : List ℕ) → length t < k → IsIn p (subsets k t) → ⊥

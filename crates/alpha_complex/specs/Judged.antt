@@ -52,6 +52,6 @@ kinds_by cells faces = map (λ f. (f.0, kind_by (is_listed_cell cells) f.1)) fac
 abbrev pub is_admitted_triple : List (List ℕ) → List (List ℕ) → List ℕ × List Cell → Bool
 is_admitted_triple cells small face = is_listed small face.0 || list_any (is_listed_cell cells) face.1
 
--- the pair is covered by a cell around it, or is itself Gabriel and within alpha
+-- the pair is itself Gabriel and within alpha, or is covered by a cell around it
 abbrev pub is_admitted_pair : List (List ℕ) → List (List ℕ) → ℕ → List ℕ × List Cell → Bool
-is_admitted_pair cells triples alpha face = list_any (covers cells triples face.0) face.1 || is_small_by alpha face
+is_admitted_pair cells triples alpha face = is_small_by alpha face || list_any (covers cells triples face.0) face.1

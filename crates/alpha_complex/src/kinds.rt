@@ -6,18 +6,19 @@ ghost use Rattle.std.specs.List.Sorted.{IsStrictlySortedBy};
 ghost use Rattle.std.specs.Ordering.{nat_cmp};
 ghost use Rattle.std.specs.Cmp.Lexicographic.{slice_cmp};
 ghost use Rattle.point_order.specs.Facets.{facets_of};
-ghost use Rattle.face_list.specs.Seen.{points_seen, triples_seen};
+ghost use Rattle.face_list.specs.Seen.{pairs_seen, points_seen, triples_seen};
 ghost use Rattle.alpha_complex.specs.Admitted.{contains as contains_all, kind_by};
-ghost use Rattle.alpha_complex.specs.Judged.{is_listed_cell as is_listed_cell_of, is_listed_around as is_listed_around_of, covers as covers_of, kinds_by, is_admitted_triple as is_admitted_triple_of};
+ghost use Rattle.alpha_complex.specs.Judged.{is_listed_cell as is_listed_cell_of, is_listed_around as is_listed_around_of, covers as covers_of, kinds_by, is_admitted_triple as is_admitted_triple_of, ArePairs, is_admitted_pair};
 
 use crate::search::has;
 use crate::shape::Kind;
-use face_list::{PointFace, TriFace};
+use crate::small::is_small_pair;
+use face_list::{PairFace, PointFace, TriFace};
 use point_order::{Cell, Facet, Pair, Point, Quad, Tri};
 use std::alloc::{AllocError, Global};
 
 // Whether the cell is Full and one of the list.
-pub fn is_listed_cell(cells: &[Quad], cell: &Cell) -> bool
+fn is_listed_cell(cells: &[Quad], cell: &Cell) -> bool
     requires { IsStrictlySortedBy (slice_cmp nat_cmp) cells.now }
     ensures { result ≡ is_listed_cell_of cells.now cell.now }
 {
@@ -36,7 +37,7 @@ fn all_listed(cells: &[Quad], around: &[Cell]) -> bool
 }
 
 // Whether some of the cells are listed.
-pub fn some_listed(cells: &[Quad], around: &[Cell]) -> bool
+fn some_listed(cells: &[Quad], around: &[Cell]) -> bool
     requires { IsStrictlySortedBy (slice_cmp nat_cmp) cells.now }
     ensures { result ≡ list_any (is_listed_cell_of cells.now) around.now }
 {
@@ -44,7 +45,7 @@ pub fn some_listed(cells: &[Quad], around: &[Cell]) -> bool
 }
 
 // The kind of a face, by the cells that contain it and the list of those that are admitted.
-pub fn kind(cells: &[Quad], around: &[Cell]) -> Kind
+fn kind(cells: &[Quad], around: &[Cell]) -> Kind
     requires { IsStrictlySortedBy (slice_cmp nat_cmp) cells.now }
     ensures { result ≡ kind_by (is_listed_cell_of cells.now) around.now }
 {
@@ -86,7 +87,7 @@ fn some_around(triples: &[Tri], pair: &Pair, facets: &[Facet]) -> bool
 }
 
 // Whether the cell is listed, or has a facet that is one of the triples and contains the pair.
-pub fn covers(cells: &[Quad], triples: &[Tri], pair: &Pair, cell: &Cell) -> bool
+fn covers(cells: &[Quad], triples: &[Tri], pair: &Pair, cell: &Cell) -> bool
     requires cells { IsStrictlySortedBy (slice_cmp nat_cmp) cells.now }
     requires triples { IsStrictlySortedBy (slice_cmp nat_cmp) triples.now }
     ensures { result ≡ covers_of cells.now triples.now pair.now cell.now }
@@ -134,6 +135,40 @@ pub fn triples_with_kinds(
     for face in triples {
         if is_admitted_triple(cells, small, face) {
             kinds.push((face.tri, kind(cells, &face.cells)))?;
+        }
+    }
+    Ok(kinds)
+}
+
+// Whether some cell around the pair is listed, or has a facet that is one of the triples and contains the pair.
+fn is_covered(cells: &[Quad], triples: &[Tri], face: &PairFace) -> bool
+    requires cells { IsStrictlySortedBy (slice_cmp nat_cmp) cells.now }
+    requires triples { IsStrictlySortedBy (slice_cmp nat_cmp) triples.now }
+    ensures { result ≡ list_any (covers_of cells.now triples.now face.now.pair) face.now.cells.items }
+{
+    face.cells
+        .iter()
+        .any(|cell| covers(cells, triples, &face.pair, cell))
+}
+
+/// The admitted pairs with their kinds, by the admitted cells and the triples that are Gabriel and within alpha.
+pub fn pairs_with_kinds(
+    alloc: Global,
+    cells: &[Quad],
+    triples: &[Tri],
+    pairs: &[PairFace],
+    alpha: u64,
+) -> Result<Vec<(Pair, Kind)>, AllocError>
+    requires cells { IsStrictlySortedBy (slice_cmp nat_cmp) cells.now }
+    requires triples { IsStrictlySortedBy (slice_cmp nat_cmp) triples.now }
+    requires pairs { ArePairs (pairs_seen pairs.now) }
+    ensures { IfOk result (λ v. v.items ≡ kinds_by cells.now (filter (is_admitted_pair cells.now triples.now alpha) (pairs_seen pairs.now))) }
+{
+    let mut kinds = Vec::new(alloc);
+    let mut link = Vec::new(alloc);
+    for face in pairs {
+        if is_small_pair(&mut link, face, alpha)? || is_covered(cells, triples, face) {
+            kinds.push((face.pair, kind(cells, &face.cells)))?;
         }
     }
     Ok(kinds)

@@ -41,7 +41,7 @@ pub fn alpha<R>(_rt: &R, alloc: Global, faces: &Faces, alpha: u64) -> Result<Sha
     let triples = small::small_triples(alloc, &faces.triples, alpha)?;
     Ok(Shape {
         points: kinds::points_with_kinds(alloc, &cells, &faces.points)?,
-        pairs: small::pairs_with_kinds(alloc, &cells, &triples, &faces.pairs, alpha)?,
+        pairs: kinds::pairs_with_kinds(alloc, &cells, &triples, &faces.pairs, alpha)?,
         triples: kinds::triples_with_kinds(alloc, &cells, &triples, &faces.triples)?,
         cells,
     })

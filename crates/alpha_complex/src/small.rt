@@ -1,18 +1,13 @@
 //! Which faces are Gabriel and within alpha, by the cells that contain them.
 
 ghost use Rattle.std.specs.Prelude.{◌≡◌, ◌∷◌, ◌++◌, [], ◌<◌, ◌^◌, not, length, IfOk, OnOk};
-ghost use Rattle.std.specs.List.{filter, list_any};
-ghost use Rattle.std.specs.List.Sorted.{IsStrictlySortedBy};
-ghost use Rattle.std.specs.Ordering.{nat_cmp};
-ghost use Rattle.std.specs.Cmp.Lexicographic.{slice_cmp};
+ghost use Rattle.std.specs.List.{filter};
 ghost use Rattle.point_order.specs.Sets.{is_among};
 ghost use Rattle.gabriel_faces.specs.Links.{link_of};
-ghost use Rattle.face_list.specs.Seen.{pairs_seen, triples_seen};
+ghost use Rattle.face_list.specs.Seen.{triples_seen};
 ghost use Rattle.alpha_complex.specs.Admitted.{is_within};
-ghost use Rattle.alpha_complex.specs.Judged.{ArePairs, is_small_by, small_among, covers as covers_of, is_admitted_pair, kinds_by};
+ghost use Rattle.alpha_complex.specs.Judged.{is_small_by, small_among};
 
-use crate::kinds::{covers, kind};
-use crate::shape::Kind;
 use face_list::{PairFace, TriFace};
 use gabriel_faces::{gabriel_edge, gabriel_triangle};
 use point_order::{Cell, Pair, Point, Quad, Tri};
@@ -120,38 +115,4 @@ pub fn small_triples(alloc: Global, triples: &[TriFace], alpha: u64) -> Result<V
         }
     }
     Ok(small)
-}
-
-// Whether some cell around the pair is listed, or has a facet that is one of the triples and contains the pair.
-fn is_covered(cells: &[Quad], triples: &[Tri], face: &PairFace) -> bool
-    requires cells { IsStrictlySortedBy (slice_cmp nat_cmp) cells.now }
-    requires triples { IsStrictlySortedBy (slice_cmp nat_cmp) triples.now }
-    ensures { result ≡ list_any (covers_of cells.now triples.now face.now.pair) face.now.cells.items }
-{
-    face.cells
-        .iter()
-        .any(|cell| covers(cells, triples, &face.pair, cell))
-}
-
-/// The admitted pairs with their kinds, by the admitted cells and the triples that are Gabriel and within alpha.
-pub fn pairs_with_kinds(
-    alloc: Global,
-    cells: &[Quad],
-    triples: &[Tri],
-    pairs: &[PairFace],
-    alpha: u64,
-) -> Result<Vec<(Pair, Kind)>, AllocError>
-    requires cells { IsStrictlySortedBy (slice_cmp nat_cmp) cells.now }
-    requires triples { IsStrictlySortedBy (slice_cmp nat_cmp) triples.now }
-    requires pairs { ArePairs (pairs_seen pairs.now) }
-    ensures { IfOk result (λ v. v.items ≡ kinds_by cells.now (filter (is_admitted_pair cells.now triples.now alpha) (pairs_seen pairs.now))) }
-{
-    let mut kinds = Vec::new(alloc);
-    let mut link = Vec::new(alloc);
-    for face in pairs {
-        if is_covered(cells, triples, face) || is_small_pair(&mut link, face, alpha)? {
-            kinds.push((face.pair, kind(cells, &face.cells)))?;
-        }
-    }
-    Ok(kinds)
 }

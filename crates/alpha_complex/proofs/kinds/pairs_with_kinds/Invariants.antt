@@ -3,7 +3,7 @@ use Rattle.std.proofs.Common.{◌≡◌, ◌++◌, drop}
 use Rattle.std.specs.List.{filter}
 use Rattle.face_list.specs.Seen.{pairs_seen}
 use Rattle.alpha_complex.specs.Judged.{kinds_by, is_admitted_pair}
-use Rattle.alpha_complex.proofs.small.pairs_with_kinds.Given as goal
+use Rattle.alpha_complex.proofs.kinds.pairs_with_kinds.Given as goal
 
 abbrev pub invariant-loop-face : goal.invariant-loop-face
 invariant-loop-face l =

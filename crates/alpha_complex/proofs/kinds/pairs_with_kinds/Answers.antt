@@ -2,7 +2,7 @@ use Rattle.std.proofs.Common.{ℕ, List}
 use Rattle.face_list.specs.declared.face.PairFace.{PairFace}
 use Rattle.point_order.specs.declared.cell.Cell.{Cell}
 use Rattle.alpha_complex.proofs.Searches.{mapped_at}
-use Rattle.alpha_complex.proofs.small.pairs_with_kinds.Goals as goal
+use Rattle.alpha_complex.proofs.kinds.pairs_with_kinds.Goals as goal
 
 pub is_small_pair-requires : goal.is_small_pair-requires
 is_small_pair-requires c =
