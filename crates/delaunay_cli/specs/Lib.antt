@@ -1,4 +1,3 @@
-pub mod Trial
 pub mod Report
 pub mod Statuses
 pub mod Words

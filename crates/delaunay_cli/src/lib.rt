@@ -5,9 +5,7 @@ mod mesh;
 mod outcome;
 mod replies;
 mod telling;
-mod tests_of_cells;
 mod top;
-mod trial;
 mod words;
 
 pub use outcome::Run;

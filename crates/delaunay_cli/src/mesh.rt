@@ -14,8 +14,8 @@ ghost use Rattle.delaunay_cli.specs.Run.{history_of, line_count};
 
 use crate::outcome::Run;
 use crate::replies::replies_by_tag;
-use crate::trial::complex_by_trial;
 use byte_ends::Sink;
+use complex_trial::complex_by_trial;
 use edit_files::File;
 use edit_history::{Entry, History, find_four};
 use mesh_files::{Put, Report, put_report};

@@ -1,8 +1,0 @@
-use Rattle.std.proofs.Common.{◌∙◌, sym}
-use Rattle.delaunay_cli.proofs.Apart.{five-off}
-use Rattle.delaunay_cli.proofs.tests_of_cells.leaves_plane.Goals as goal
-
-pub outside-requires-clause-distinct : goal.outside-requires-clause-distinct
-outside-requires-clause-distinct c =
-    five-off c.args.a c.args.b c.args.c c.args.mate c.args.e c.requires.distinct c.requires.above
-    (sym c.is_corner.ensures ∙ c.if-is_corner.false) (sym c.flat.ensures ∙ c.if-not-flat.false)
