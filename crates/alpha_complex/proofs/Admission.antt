@@ -16,13 +16,14 @@ use Rattle.del_laws.proofs.Listed.{in_left, in_right, from_append, part_inside, 
 use Rattle.del_laws.proofs.ListedParts.{listed_every_point}
 use Rattle.del_laws.proofs.Tests.{any_from, any_true, both_true, first_true, second_true, left_true, right_true, one_true, same_test, filtered_from, filtered_true}
 use Rattle.face_list.specs.Faces.{full_cells, parts_in, cells_with, with_cells, points_with_cells}
+use Rattle.face_list.proofs.FullCells.{full_cell_is_listed, listed_is_full_cell}
 use Rattle.face_list.proofs.FaceLaws.{listed_is_part, part_is_listed}
 use Rattle.gabriel_faces.specs.Gabriel.{is_gabriel}
 use Rattle.alpha_complex.specs.Admitted.{is_within, faces_inside, contains, is_small, is_admitted, is_admitted_cell, kind_by, kind}
 use Rattle.alpha_complex.specs.Judged.{is_listed, is_listed_cell, is_listed_around, covers, is_small_by, small_among, is_admitted_triple, is_admitted_pair, kinds_by}
 use Rattle.alpha_complex.specs.Shapes.{admitted_among}
 use Rattle.alpha_complex.proofs.Parts.{part_length, contained_true, contains_itself, contains_through, not_in_shorter, whole_only, same_face}
-use Rattle.alpha_complex.proofs.SmallFaces.{listed_from, listed_true, from_full, full_true, all_same, any_same, small_are}
+use Rattle.alpha_complex.proofs.SmallFaces.{listed_from, listed_true, all_same, any_same, small_are}
 
 -- ---- Full cells of a complex
 
@@ -54,7 +55,7 @@ admitted_from s alpha p t = (
     let f = any_from (λ face. contains face p && is_small s alpha face) (faces_inside q.0) q.2 in
     record {
       cell = q.0;
-      listed = from_full (complex s) q.0 q.1;
+      listed = listed_is_full_cell (complex s) q.0 q.1;
       face = f.0;
       inside = f.1;
       has = first_true (contains f.0 p) (is_small s alpha f.0) f.2;
@@ -65,7 +66,7 @@ admitted_from s alpha p t = (
 admitted_true : (s : List ℕ) (alpha : ℕ) (p : List ℕ) → AdmittedBy s alpha p → is_admitted s alpha p ≡ true
 unfolding is_admitted
 admitted_true s alpha p b =
-    any_true (λ q. list_any (λ face. contains face p && is_small s alpha face) (faces_inside q)) (full_cells (complex s)) b.cell (full_true (complex s) b.cell b.listed)
+    any_true (λ q. list_any (λ face. contains face p && is_small s alpha face) (faces_inside q)) (full_cells (complex s)) b.cell (full_cell_is_listed (complex s) b.cell b.listed)
     (any_true (λ face. contains face p && is_small s alpha face) (faces_inside b.cell) b.face b.inside
     (both_true (contains b.face p) (is_small s alpha b.face) b.has b.small))
 
@@ -202,7 +203,7 @@ around_of s alpha p a b i = (
     let t : is_within alpha b.cell ≡ true = subst (λ v. is_within alpha v ≡ true) (sym e) (second_true (is_gabriel s b.face) (is_within alpha b.face) b.small) in
     record {
       around = filtered_true (λ c. contains (points_of c) p) (complex s) (Full b.cell) b.listed c;
-      listed = listed_true (small_cells s alpha) b.cell (filtered_true (is_within alpha) (full_cells (complex s)) b.cell (full_true (complex s) b.cell b.listed) t);
+      listed = listed_true (small_cells s alpha) b.cell (filtered_true (is_within alpha) (full_cells (complex s)) b.cell (full_cell_is_listed (complex s) b.cell b.listed) t);
     })
 
 -- ---- what links give, as the laws of links have it
@@ -344,7 +345,7 @@ listed_cell_is s alpha (Open t) a i = refl
 listed_cell_is s alpha (Full q) a i =
     same_test (is_listed (small_cells s alpha) q) (is_admitted s alpha q)
     (λ e. let k = filtered_from (is_within alpha) (full_cells (complex s)) q (listed_from (small_cells s alpha) q e) in sym (admitted_cell_is s alpha q a i) ∙ k.1)
-    (λ e. listed_true (small_cells s alpha) q (filtered_true (is_within alpha) (full_cells (complex s)) q (full_true (complex s) q i) (admitted_cell_is s alpha q a i ∙ e)))
+    (λ e. listed_true (small_cells s alpha) q (filtered_true (is_within alpha) (full_cells (complex s)) q (full_cell_is_listed (complex s) q i) (admitted_cell_is s alpha q a i ∙ e)))
 
 -- the lists tell the kind of a face
 pub kind_is : (s : List ℕ) (alpha : ℕ) (p : List ℕ) → IsAscending s → kind_by (is_listed_cell (small_cells s alpha)) (cells_with p (complex s)) ≡ kind s alpha p

@@ -12,13 +12,14 @@ use Rattle.del_laws.proofs.Listed.{mapped_from}
 use Rattle.face_list.specs.declared.face.Faces.{Faces}
 use Rattle.face_list.specs.Faces.{full_cells, parts_in, cells_with, with_cells}
 use Rattle.face_list.specs.Seen.{points_seen, pairs_seen, triples_seen}
+use Rattle.face_list.proofs.FullCells.{listed_is_full_cell}
 use Rattle.face_list.proofs.FaceLaws.{listed_is_part, points_of_complex}
 use Rattle.alpha_complex.specs.Admitted.{is_within, is_admitted}
 use Rattle.alpha_complex.specs.Condition.{AreFaces, AreFacesOf}
 use Rattle.alpha_complex.specs.Judged.{ArePairs, small_among, is_admitted_triple, is_admitted_pair, kinds_by}
 use Rattle.alpha_complex.specs.Shapes.{shape_of}
 use Rattle.alpha_complex.proofs.Parts.{part_length}
-use Rattle.alpha_complex.proofs.SmallFaces.{filter_same, from_full, small_cells_in_order, small_in_order, small_by_link}
+use Rattle.alpha_complex.proofs.SmallFaces.{filter_same, small_cells_in_order, small_in_order, small_by_link}
 use Rattle.alpha_complex.proofs.Admission.{Linked, small_cells, small_triples, admitted_cell_is, admitted_pair_is, admitted_triple_is, kinds_are, point_kinds_are}
 
 -- ---- conditions
@@ -52,7 +53,7 @@ linked s alpha a keys = record { ascending = a; small = λ k p i. small_by_link 
 pub cells_are : (s : List ℕ) (faces : Faces) (alpha : ℕ) → AreFacesOf s faces → filter (is_within alpha) faces.cells.items ≡ (shape_of s alpha).cells
 cells_are s faces alpha h =
     ap (filter (is_within alpha)) h.cells
-    ∙ filter_same (is_within alpha) (is_admitted s alpha) (full_cells (complex s)) (λ q i. admitted_cell_is s alpha q h.ascending (from_full (complex s) q i))
+    ∙ filter_same (is_within alpha) (is_admitted s alpha) (full_cells (complex s)) (λ q i. admitted_cell_is s alpha q h.ascending (listed_is_full_cell (complex s) q i))
 
 -- the points
 pub points_are : (s : List ℕ) (faces : Faces) (alpha : ℕ) → AreFacesOf s faces → kinds_by (filter (is_within alpha) faces.cells.items) (points_seen faces.points.items) ≡ (shape_of s alpha).points

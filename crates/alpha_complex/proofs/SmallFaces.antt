@@ -19,6 +19,7 @@ use Rattle.del_laws.proofs.Ordered.{complex_is_sorted}
 use Rattle.del_laws.proofs.Tests.{any_from, any_true}
 use Rattle.face_list.specs.Faces.{full_cells, parts_in, cells_with, with_cells}
 use Rattle.face_list.proofs.FaceLaws.{parts_in_order}
+use Rattle.face_list.proofs.FullCells.{full_cells_of_complex}
 use Rattle.gabriel_faces.specs.Links.{link_of}
 use Rattle.gabriel_faces.proofs.JudgedByLink.{judged_by_link}
 use Rattle.gabriel_faces.proofs.Links.{listed_is_face, link_is_link}
@@ -78,34 +79,9 @@ listed_true list p i = any_true (λ q. is_eq (slice_cmp nat_cmp q p)) list p i (
 
 -- ---- Full cells
 
--- a listed Full cell is one of the list
-pub from_full : (cells : List Cell) (q : List ℕ) → IsIn q (full_cells cells) → IsIn (Full q) cells
-from_full [] q i = absurd i
-from_full (Full r ∷ cells) q i = elim i [ inl e ↦ inl (ap Full e) | inr j ↦ inr (from_full cells q j) ]
-from_full (Open t ∷ cells) q i = inr (from_full cells q i)
-
--- and back
-pub full_true : (cells : List Cell) (q : List ℕ) → IsIn (Full q) cells → IsIn q (full_cells cells)
-full_true [] q i = absurd i
-full_true (Full r ∷ cells) q i = elim i [ inl e ↦ (let s : r ≡ q = cc in inl s) | inr j ↦ inr (full_true cells q j) ]
-full_true (Open t ∷ cells) q i = elim i [ inl e ↦ cc | inr j ↦ full_true cells q j ]
-
--- the Full cells of cells in order are in order
-full_in_order : (cells : List Cell) → IsStrictlySortedBy cell_cmp cells → IsStrictlySortedBy (slice_cmp nat_cmp) (full_cells cells)
-unfolding IsStrictlySortedBy
-full_in_order [] s = tt
-full_in_order (Full q ∷ cells) s = (behind q cells s.0, full_in_order cells s.1)
-  where
-    -- what comes after a Full cell comes after it among them
-    behind : (q : List ℕ) (cells : List Cell) → AllByRecursion (λ c. cell_cmp (Full q) c ≡ Less) cells → AllByRecursion (λ r. slice_cmp nat_cmp q r ≡ Less) (full_cells cells)
-    behind q [] a = tt
-    behind q (Full r ∷ cells) a = (a.0, behind q cells a.1)
-    behind q (Open t ∷ cells) a = behind q cells a.1
-full_in_order (Open t ∷ cells) s = full_in_order cells s.1
-
 -- the cells within alpha are in order
 pub small_cells_in_order : (s : List ℕ) (alpha : ℕ) → IsAscending s → IsStrictlySortedBy (slice_cmp nat_cmp) (filter (is_within alpha) (full_cells (complex s)))
-small_cells_in_order s alpha a = IsStrictlySortedBy-filter (slice_cmp nat_cmp) (is_within alpha) (full_cells (complex s)) (full_in_order (complex s) (complex_is_sorted s a))
+small_cells_in_order s alpha a = IsStrictlySortedBy-filter (slice_cmp nat_cmp) (is_within alpha) (full_cells (complex s)) (full_cells_of_complex s a)
 
 -- ---- faces beside their cells
 

@@ -4,7 +4,7 @@ use Rattle.std.proofs.Common.{arith, refl, inl, inr, subst, sym, ◌∙◌, ap}
 use Rattle.std.proofs.lemmas.Int.{ints}
 use Rattle.whole_ring.specs.Signs.{HasSignOf}
 use Rattle.whole_ring.proofs.Signs.{mul_pos_neg, mul_nonneg, square_nonneg}
-use Rattle.whole_ring.proofs.Whole.{neg_mul}
+use Rattle.whole_ring.proofs.Whole.{mul_neg, neg_mul}
 use Rattle.conv_laws.specs.Places.{Vector, square, normal}
 use Rattle.conv_laws.specs.Spheres.{edge_power, triangle_power}
 use Rattle.point_order.specs.Orientation.{orientation}
@@ -14,9 +14,9 @@ use Rattle.point_order.proofs.Perturbation.{out-sign}
 use Rattle.del_laws.specs.Cells.{point, Full, Held, OneOf}
 use Rattle.del_laws.specs.Keys.{AreKeys}
 use Rattle.del_laws.specs.Vertices.{is_full_cell}
-use Rattle.del_laws.specs.EmptySpheres.{place, IsOffEdge, IsOffTriangle, EdgeByCells, TriangleByCells}
+use Rattle.del_laws.specs.EmptySpheres.{place, IsOffEdge, IsOffTriangle, CellsAreEmpty, EdgeByCells, TriangleByCells}
 use Rattle.del_laws.proofs.Identities.{orientation_at_a, orientation_at_b, orientation_same12, orientation_same13, orientation_same23, orientation_swap23, lifted_swap23, edge_power_of, triangle_power_of}
-use Rattle.del_laws.proofs.Numbers.{not_zero, not_below, clash, below_or_not}
+use Rattle.del_laws.proofs.Numbers.{weak, not_zero, not_below, clash, below_or_not}
 use Rattle.del_laws.proofs.CellFacts.{full_a, full_b, full_c, full_d, full_turned, full_empty, open_bounds}
 use Rattle.del_laws.proofs.Orders.{full_right}
 use Rattle.del_laws.proofs.Across.{across_full}
@@ -37,6 +37,27 @@ plain : {s : List ℕ} {a b c d : ℕ} → AreKeys s → Full height s a b c d �
 plain {s} {a} {b} {c} {d} k F e m =
     not_less (sphere_polynomial a b c d e) (out a b c d e) (out-sign a b c d e (k.below a (full_a F)) (k.below b (full_b F)) (k.below c (full_c F)) (k.below d (full_d F)) (k.below e m))
     (subst (λ z. pos 0 ≤ℤ z) (sym (out_is a b c d e)) (full_empty F e m))
+
+-- the in-sphere polynomial turns its sign
+swapped : (a b c d e : ℕ) → sphere_polynomial a c b d e ≡ neg_ℤ (sphere_polynomial a b c d e)
+unfolding sphere_polynomial
+swapped a b c d e = lifted_swap23 square_of a b c d e
+
+-- a product of two numbers that are not positive
+both_turned : (o p q r : ℤ) → p ≡ neg_ℤ o → r ≡ neg_ℤ q → pos 0 ≤ℤ (p *ℤ r) → pos 0 ≤ℤ (o *ℤ q)
+both_turned o p q r e f l =
+    let i : p *ℤ r ≡ neg_ℤ o *ℤ neg_ℤ q = rw (e, f) refl in
+    let j = neg_mul o (neg_ℤ q) in
+    let k = mul_neg o q in
+    omega (arith, ints, i, j, k, l)
+
+-- the law CellsAreEmpty
+pub cells_are_empty : CellsAreEmpty
+cells_are_empty s a b c d e k t m = elim (cell_from s (point a) (point b) (point c) (point d) t) [
+  | inl F ↦ mul_nonneg (orientation a b c d) (sphere_polynomial a b c d e) (weak (orientation a b c d) (full_turned F)) (plain k F e m)
+  | inr F ↦ both_turned (orientation a b c d) (orientation a c b d) (sphere_polynomial a b c d e) (sphere_polynomial a c b d e) (orientation_swap23 a b c d) (swapped a b c d e)
+      (mul_nonneg (orientation a c b d) (sphere_polynomial a c b d e) (weak (orientation a c b d) (full_turned F)) (plain k F e m))
+]
 
 -- ---- edges
 
@@ -167,11 +188,6 @@ carried_one q f n w c0 c1 e hq hf hn hw l =
 carried_turned : (q f n w c0 c1 : ℤ) → q *ℤ c0 ≡ f *ℤ n +ℤ w *ℤ c1 → pos 0 <ℤ neg_ℤ q → pos 0 ≤ℤ neg_ℤ f → pos 0 ≤ℤ n → pos 0 ≤ℤ neg_ℤ w → pos 0 ≤ℤ c1 → pos 0 ≤ℤ c0
 carried_turned q f n w c0 c1 e hq hf hn hw l =
     carried_one (neg_ℤ q) (neg_ℤ f) n (neg_ℤ w) c0 c1 (let i = neg_mul q c0 in let j = neg_mul f n in let o = neg_mul w c1 in omega (arith, ints, i, j, o, e)) hq hf hn hw l
-
--- the in-sphere polynomial turns its sign
-swapped : (a b c d e : ℕ) → sphere_polynomial a c b d e ≡ neg_ℤ (sphere_polynomial a b c d e)
-unfolding sphere_polynomial
-swapped a b c d e = lifted_swap23 square_of a b c d e
 
 module _ (s : List ℕ) (k : AreKeys s) (a b c : ℕ) where
   -- a point on the side of a Full cell of the triangle, where the opposite point is not inside

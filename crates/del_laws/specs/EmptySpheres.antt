@@ -1,8 +1,11 @@
--- Smallest circumscribing spheres of edges and triangles: the Full cells that have an edge or a triangle show whether its sphere is empty.
-use Rattle.std.specs.Prelude.{◌≡◌, ℕ, pos, true, ◌≤ℤ◌, List, ◌↔◌}
+-- Smallest circumscribing spheres: that of a Full cell is empty, and the Full cells that have an edge or a triangle show whether its
+-- sphere is.
+use Rattle.std.specs.Prelude.{◌≡◌, ℕ, pos, true, ◌*ℤ◌, ◌≤ℤ◌, List, ◌↔◌}
 use Rattle.conv_laws.specs.Places.{Place}
 use Rattle.conv_laws.specs.Spheres.{edge_power, triangle_power}
 use Rattle.point_order.specs.Coordinates.{x_of, y_of, z_of}
+use Rattle.point_order.specs.Orientation.{orientation}
+use Rattle.point_order.specs.Heights.{sphere_polynomial}
 use Rattle.point_order.specs.Sets.{IsIn}
 use Rattle.del_laws.specs.Keys.{AreKeys}
 use Rattle.del_laws.specs.Vertices.{is_full_cell}
@@ -30,3 +33,9 @@ abbrev pub TriangleByCells : Type 0
 TriangleByCells =
     (s : List ℕ) (a b c d : ℕ) → AreKeys s → is_full_cell s a b c d ≡ true →
     ((x : ℕ) → is_full_cell s a b c x ≡ true → IsOffTriangle a b c x) ↔ ((e : ℕ) → IsIn e s → IsOffTriangle a b c e)
+
+-- No point lies strictly inside the plain sphere of a Full cell, whose points may stand in either orientation.
+abbrev pub CellsAreEmpty : Type 0
+CellsAreEmpty =
+    (s : List ℕ) (a b c d e : ℕ) → AreKeys s → is_full_cell s a b c d ≡ true → IsIn e s →
+    pos 0 ≤ℤ (orientation a b c d *ℤ sphere_polynomial a b c d e)

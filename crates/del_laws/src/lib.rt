@@ -12,7 +12,7 @@ ghost use Rattle.del_laws.specs.Laws.{SwapFirst, SwapMiddle, SwapLast, FacetLaw,
 ghost use Rattle.del_laws.specs.Walks.{CloserAcross, FartherAcross, AwayFromAPoint, SolidHasCells, EveryPoint, SomeFacetBehind, CrossingTowards, FewerAreNearer};
 ghost use Rattle.del_laws.specs.Parts.{StarLaw, ClosedPart, CellsAtAVertex, EmptyCells};
 ghost use Rattle.del_laws.specs.Kept.{FullIsKept, OpenIsKept};
-ghost use Rattle.del_laws.specs.EmptySpheres.{EdgeByCells, TriangleByCells};
+ghost use Rattle.del_laws.specs.EmptySpheres.{CellsAreEmpty, EdgeByCells, TriangleByCells};
 ghost use Rattle.del_laws.specs.Nearness.{NearerAcross, NearerInside, SomeTripleTowards};
 ghost use Rattle.del_laws.specs.Listed.{DefinitionIsCell, ListedIsCell, CellIsListed, TestIsListed, ComplexIsSorted, SameMembers, ListedFacets};
 ghost use Rattle.del_laws.specs.ListedParts.{ListedStar, ListedPart, ListedAtAPoint, ListedEveryPoint, ListedMate, ClosedListIsComplex, ComplexIsClosedList};
@@ -182,9 +182,10 @@ pub fn steps_of_a_walk()
     ensures towards { SomeTripleTowards }
 {}
 
-/// The smallest circumscribing spheres of edges and triangles of Full cells: whether one is empty shows in the Full cells that have the
-/// edge or the triangle. It is the plain sphere, not the perturbed one.
+/// Smallest circumscribing spheres, the plain ones and not the perturbed: that of a Full cell has no point strictly inside, and whether
+/// that of an edge or a triangle of a Full cell has one shows in the Full cells that have the edge or the triangle.
 pub fn smallest_spheres()
+    ensures cell { CellsAreEmpty }
     ensures edge { EdgeByCells }
     ensures triangle { TriangleByCells }
 {}

@@ -2,3 +2,4 @@ pub mod Gathered
 pub mod OnePart
 pub mod FaceLists
 pub mod FaceLaws
+pub mod FullCells

@@ -1,6 +1,6 @@
 //! Laws of the lists of faces. The functions here do nothing: each contract is a law.
 
-ghost use Rattle.face_list.specs.Laws.{PointsInOrder, PointIsListed, ListedIsPoint, PartsInOrder, PartIsListed, ListedIsPart, PointsOfComplex};
+ghost use Rattle.face_list.specs.Laws.{PointsInOrder, PointIsListed, ListedIsPoint, PartsInOrder, PartIsListed, ListedIsPart, FullCellsInOrder, FullCellIsListed, ListedIsFullCell, FullCellsOfComplex, PointsOfComplex};
 
 /// The points of a list of cells ascend, none twice, and a point is among them exactly where a Full cell has it. The pairs and
 /// triples are in lexicographic order, none twice, and one is listed exactly where it is a part of a Full cell.
@@ -11,6 +11,15 @@ pub fn faces_in_order()
     ensures parts { PartsInOrder }
     ensures part { PartIsListed }
     ensures part_only { ListedIsPart }
+{}
+
+/// Of a list in the order of cells, as that of a complex is, the Full cells are in lexicographic order, none twice. In any list just the
+/// Full cells are listed.
+pub fn full_cells_in_order()
+    ensures order { FullCellsInOrder }
+    ensures of_complex { FullCellsOfComplex }
+    ensures cell { FullCellIsListed }
+    ensures cell_only { ListedIsFullCell }
 {}
 
 /// The points of the complex of a solid set are all points of the set.

@@ -23,9 +23,10 @@ pub record BeginsWithTwo (s q : List ℕ) (a b : ℕ) : Type 0 where
   pub all : (p : ℕ) → IsIn p q → (a ≡ p) ⊎ ((b ≡ p) ⊎ IsIn p (x ∷ y ∷ []))
 
 -- one that begins with a, b and c
-pub record BeginsWithThree (s : List ℕ) (a b c : ℕ) : Type 0 where
+pub record BeginsWithThree (s q : List ℕ) (a b c : ℕ) : Type 0 where
   pub x : ℕ
   pub test : is_full_cell s a b c x ≡ true
+  pub all : (p : ℕ) → IsIn p q → (a ≡ p) ⊎ ((b ≡ p) ⊎ ((c ≡ p) ⊎ (x ≡ p)))
 
 -- the first point of four may be any of them
 pub with_one : (s : List ℕ) (w x y z a : ℕ) → AreKeys s → is_full_cell s w x y z ≡ true → OneOf a w x y z → Begins s (w ∷ x ∷ y ∷ z ∷ []) a
@@ -96,17 +97,25 @@ with_two s q a b k B i n = elim (B.all b i) [
     third p j = elim j [ inl f ↦ inl f | inr o ↦ inr (elim o [ inl f ↦ inr (inl f) | inr v ↦ elim v [ inl f ↦ inr (inr (inl f)) | inr w ↦ elim w [ inl f ↦ inl f | inr none ↦ absurd none ] ] ]) ]
 
 -- the third may be either of the others
-pub with_three : (s q : List ℕ) (a b c : ℕ) → AreKeys s → BeginsWithTwo s q a b → IsIn c q → ¬ (a ≡ c) → ¬ (b ≡ c) → BeginsWithThree s a b c
+pub with_three : (s q : List ℕ) (a b c : ℕ) → AreKeys s → BeginsWithTwo s q a b → IsIn c q → ¬ (a ≡ c) → ¬ (b ≡ c) → BeginsWithThree s q a b c
 with_three s q a b c k B i n m = elim (B.all c i) [
   | inl e ↦ absurd (n e)
   | inr o ↦ elim o [
     | inl e ↦ absurd (m e)
     | inr r ↦ elim r [
-      | inl e ↦ subst (BeginsWithThree s a b) e (record { x = B.y; test = B.test })
+      | inl e ↦ subst (BeginsWithThree s q a b) e (record { x = B.y; test = B.test; all = λ p j. third p (B.all p j) })
       | inr u ↦ elim u [
-        | inl e ↦ subst (BeginsWithThree s a b) e (record { x = B.x; test = turn34 s k (point a) (point b) (point B.x) (point B.y) B.test })
+        | inl e ↦ subst (BeginsWithThree s q a b) e (record { x = B.x; test = turn34 s k (point a) (point b) (point B.x) (point B.y) B.test; all = λ p j. fourth p (B.all p j) })
         | inr none ↦ absurd none
       ]
     ]
   ]
 ]
+  where
+    -- in this order
+    third : (p : ℕ) → (a ≡ p) ⊎ ((b ≡ p) ⊎ IsIn p (B.x ∷ B.y ∷ [])) → (a ≡ p) ⊎ ((b ≡ p) ⊎ ((B.x ≡ p) ⊎ (B.y ≡ p)))
+    third p j = elim j [ inl f ↦ inl f | inr o ↦ inr (elim o [ inl f ↦ inl f | inr v ↦ inr (elim v [ inl f ↦ inl f | inr w ↦ elim w [ inl f ↦ inr f | inr none ↦ absurd none ] ]) ]) ]
+
+    -- the last two exchanged
+    fourth : (p : ℕ) → (a ≡ p) ⊎ ((b ≡ p) ⊎ IsIn p (B.x ∷ B.y ∷ [])) → (a ≡ p) ⊎ ((b ≡ p) ⊎ ((B.y ≡ p) ⊎ (B.x ≡ p)))
+    fourth p j = elim j [ inl f ↦ inl f | inr o ↦ inr (elim o [ inl f ↦ inl f | inr v ↦ inr (elim v [ inl f ↦ inr f | inr w ↦ elim w [ inl f ↦ inl f | inr none ↦ absurd none ] ]) ]) ]

@@ -1,23 +1,20 @@
 -- A face is Gabriel in its link exactly where it is in the whole set.
 use Rattle.std.specs.Prelude.{◌≡◌, refl, ℕ, true, not, List, [], ◌∷◌}
-use Rattle.std.proofs.Common.{inl, inr, sym, subst, ap}
+use Rattle.std.proofs.Common.{inl, inr, sym, subst}
 use Rattle.point_order.specs.declared.cell.Cell.TheVariants.{Full}
 use Rattle.point_order.specs.Sets.{IsIn, IsAscending}
 use Rattle.small_spheres.specs.Inside.{is_inside_edge, is_inside_triangle}
-use Rattle.del_laws.specs.Cells.{point}
 use Rattle.del_laws.specs.Keys.{AreKeys}
 use Rattle.del_laws.specs.Vertices.{is_full_cell}
 use Rattle.del_laws.specs.EmptySpheres.{IsOffEdge, IsOffTriangle}
 use Rattle.del_laws.proofs.EmptySpheres.{edge_by_cells, triangle_by_cells}
 use Rattle.del_laws.proofs.Listed.{listed_is_cell}
-use Rattle.del_laws.proofs.Lists.{of_three}
-use Rattle.del_laws.proofs.Sorting.{turn23, apart12, apart23, apart14, apart24, apart34}
 use Rattle.del_laws.proofs.Tests.{all_from, all_true, same_test}
 use Rattle.gabriel_faces.specs.Gabriel.{is_empty_edge, is_empty_triangle}
 use Rattle.gabriel_faces.specs.Links.{IsFace, IsLink}
 use Rattle.gabriel_faces.specs.Laws.{JudgedByLink}
 use Rattle.gabriel_faces.proofs.Corners.{Begins, with_one, with_two, with_three}
-use Rattle.gabriel_faces.proofs.Links.{in_link, link_inside}
+use Rattle.gabriel_faces.proofs.Links.{edge_in_link, triangle_in_link, link_inside}
 use Rattle.gabriel_faces.proofs.Powers.{edge_passes, edge_off, triangle_passes, triangle_off}
 
 -- the cell of a face, with a point of the face in front
@@ -38,13 +35,7 @@ module _ (s link : List ℕ) (i : IsAscending s) (k : AreKeys s) where
       -- the points of the Full cells with the edge are off the sphere
       off : (x y : ℕ) → is_full_cell s a b x y ≡ true → IsOffEdge a b x
       off x y u =
-          edge_off a b x (all_from (λ e. not (is_inside_edge a b e)) link t x (L.all x (in_link s (a ∷ b ∷ []) a b x y x i k u
-          (λ p m. elim m [ inl e ↦ inl e | inr r ↦ elim r [ inl e ↦ inr (inl e) | inr none ↦ absurd none ] ])
-          (inr (inr (inl refl)))
-          (λ m. elim m [
-            | inl e ↦ apart12 s k (point a) (point x) (point b) (point y) (turn23 s k (point a) (point b) (point x) (point y) u) (ap point e)
-            | inr r ↦ elim r [ inl e ↦ apart23 s k (point a) (point b) (point x) (point y) u (ap point e) | inr none ↦ none ]
-          ]))))
+          edge_off a b x (all_from (λ e. not (is_inside_edge a b e)) link t x (L.all x (edge_in_link s a b x y i k u)))
 
   -- and an edge that is empty over the set is empty over its link
   edge_to : (a b : ℕ) → IsLink s (a ∷ b ∷ []) link → is_empty_edge s a b ≡ true → is_empty_edge link a b ≡ true
@@ -63,16 +54,7 @@ module _ (s link : List ℕ) (i : IsAscending s) (k : AreKeys s) where
       -- the opposite points are off the sphere
       off : (x : ℕ) → is_full_cell s a b c x ≡ true → IsOffTriangle a b c x
       off x u =
-          triangle_off a b c x (all_from (λ e. not (is_inside_triangle a b c e)) link t x (L.all x (in_link s (a ∷ b ∷ c ∷ []) a b c x x i k u
-          (λ p m. of_three (λ v. IsIn v (a ∷ b ∷ c ∷ x ∷ [])) m (inl refl) (inr (inl refl)) (inr (inr (inl refl))))
-          (inr (inr (inr (inl refl))))
-          (λ m. elim m [
-            | inl e ↦ apart14 s k (point a) (point b) (point c) (point x) u (ap point e)
-            | inr r ↦ elim r [
-              | inl e ↦ apart24 s k (point a) (point b) (point c) (point x) u (ap point e)
-              | inr v ↦ elim v [ inl e ↦ apart34 s (point a) (point b) (point c) (point x) u (ap point e) | inr none ↦ none ]
-            ]
-          ]))))
+          triangle_off a b c x (all_from (λ e. not (is_inside_triangle a b c e)) link t x (L.all x (triangle_in_link s a b c x i k u)))
 
   -- and back
   triangle_to : (a b c : ℕ) → IsLink s (a ∷ b ∷ c ∷ []) link → is_empty_triangle s a b c ≡ true → is_empty_triangle link a b c ≡ true

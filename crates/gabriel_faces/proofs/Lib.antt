@@ -2,3 +2,4 @@ pub mod Corners
 pub mod Links
 pub mod Powers
 pub mod JudgedByLink
+pub mod Opposite

@@ -1,7 +1,7 @@
 -- Faces of a complex, and their links: what is in a link.
 use Rattle.std.specs.Prelude.{◌≡◌, refl, ℕ, ◌<◌, true, not, List, [], ◌∷◌}
 use Rattle.std.specs.List.{flat_map, list_all}
-use Rattle.std.proofs.Common.{inl, inr, sym, subst, arith}
+use Rattle.std.proofs.Common.{ap, inl, inr, sym, subst, arith}
 use Rattle.conv_laws.specs.Lists.{AreDistinct, IsIn as IsMember}
 use Rattle.point_order.specs.declared.cell.Cell.TheVariants.{Full}
 use Rattle.point_order.specs.Sets.{IsIn, IsAscending, is_among, ascending}
@@ -11,9 +11,9 @@ use Rattle.point_order.proofs.SetLaws.{below-each, in-ascending_from}
 use Rattle.del_laws.specs.Cells.{point, OneOf}
 use Rattle.del_laws.specs.Keys.{AreKeys}
 use Rattle.del_laws.specs.Vertices.{is_full_cell}
-use Rattle.del_laws.proofs.Lists.{from_member}
+use Rattle.del_laws.proofs.Lists.{of_three, from_member}
 use Rattle.del_laws.proofs.Listed.{in_left, in_right, from_append, part_ascending, part_inside, listed_is_cell, listed_inside}
-use Rattle.del_laws.proofs.Sorting.{test_is_listed}
+use Rattle.del_laws.proofs.Sorting.{turn23, apart12, apart14, apart23, apart24, apart34, test_is_listed}
 use Rattle.del_laws.proofs.Tests.{all_true, among_true, among_from, filtered_from, filtered_true, false_if, not_true}
 use Rattle.face_list.specs.Faces.{cells_with}
 use Rattle.face_list.proofs.FaceLaws.{listed_is_part}
@@ -61,7 +61,7 @@ in_flat f (z ∷ l) x y m i = elim m [
 ]
 
 -- and nothing else does
-from_flat : {X Y : Type 0} (f : X → List Y) (l : List X) (y : Y) → IsIn y (flat_map f l) → (x : X) × IsIn x l × IsIn y (f x)
+pub from_flat : {X Y : Type 0} (f : X → List Y) (l : List X) (y : Y) → IsIn y (flat_map f l) → (x : X) × IsIn x l × IsIn y (f x)
 from_flat f [] y m = absurd m
 from_flat f (z ∷ l) y m = elim (from_append y (f z) (flat_map f l) m) [
   | inl i ↦ (z, inl refl, i)
@@ -69,7 +69,7 @@ from_flat f (z ∷ l) y m = elim (from_append y (f z) (flat_map f l) m) [
 ]
 
 -- a point of a Full cell that has the face, and none of the face's, is in the link
-pub in_link : (s face : List ℕ) (w x y z e : ℕ) → IsAscending s → AreKeys s → is_full_cell s w x y z ≡ true → ((p : ℕ) → IsIn p face → OneOf p w x y z) → OneOf e w x y z → ¬ (IsIn e face) → IsIn e (link_of face (cells_with face (complex s)))
+in_link : (s face : List ℕ) (w x y z e : ℕ) → IsAscending s → AreKeys s → is_full_cell s w x y z ≡ true → ((p : ℕ) → IsIn p face → OneOf p w x y z) → OneOf e w x y z → ¬ (IsIn e face) → IsIn e (link_of face (cells_with face (complex s)))
 in_link s face w x y z e a k t f m n =
     let q = ascending (w ∷ x ∷ y ∷ z ∷ []) in
     filtered_true (λ p. not (is_among p face)) (flat_map points_of (cells_with face (complex s))) e
@@ -78,6 +78,31 @@ in_link s face w x y z e a k t f m n =
     (all_true (λ p. is_among p q) face (λ p i. among_true p q (in-ascending_from (w ∷ x ∷ y ∷ z ∷ []) p (f p i)))))
     (in-ascending_from (w ∷ x ∷ y ∷ z ∷ []) e m))
     (not_true (is_among e face) (false_if (is_among e face) (λ i. n (among_from e face i))))
+
+-- the third point of a Full cell that begins with an edge is in the link of the edge
+pub edge_in_link : (s : List ℕ) (a b x y : ℕ) → IsAscending s → AreKeys s → is_full_cell s a b x y ≡ true → IsIn x (link_of (a ∷ b ∷ []) (cells_with (a ∷ b ∷ []) (complex s)))
+edge_in_link s a b x y i k u =
+    in_link s (a ∷ b ∷ []) a b x y x i k u
+    (λ p m. elim m [ inl e ↦ inl e | inr r ↦ elim r [ inl e ↦ inr (inl e) | inr none ↦ absurd none ] ])
+    (inr (inr (inl refl)))
+    (λ m. elim m [
+      | inl e ↦ apart12 s k (point a) (point x) (point b) (point y) (turn23 s k (point a) (point b) (point x) (point y) u) (ap point e)
+      | inr r ↦ elim r [ inl e ↦ apart23 s k (point a) (point b) (point x) (point y) u (ap point e) | inr none ↦ none ]
+    ])
+
+-- the fourth point of one that begins with a triangle is in the link of the triangle
+pub triangle_in_link : (s : List ℕ) (a b c x : ℕ) → IsAscending s → AreKeys s → is_full_cell s a b c x ≡ true → IsIn x (link_of (a ∷ b ∷ c ∷ []) (cells_with (a ∷ b ∷ c ∷ []) (complex s)))
+triangle_in_link s a b c x i k u =
+    in_link s (a ∷ b ∷ c ∷ []) a b c x x i k u
+    (λ p m. of_three (λ v. IsIn v (a ∷ b ∷ c ∷ x ∷ [])) m (inl refl) (inr (inl refl)) (inr (inr (inl refl))))
+    (inr (inr (inr (inl refl))))
+    (λ m. elim m [
+      | inl e ↦ apart14 s k (point a) (point b) (point c) (point x) u (ap point e)
+      | inr r ↦ elim r [
+        | inl e ↦ apart24 s k (point a) (point b) (point c) (point x) u (ap point e)
+        | inr v ↦ elim v [ inl e ↦ apart34 s (point a) (point b) (point c) (point x) u (ap point e) | inr none ↦ none ]
+      ]
+    ])
 
 -- a point of a link is one of the set
 pub link_inside : (s face : List ℕ) (e : ℕ) → IsAscending s → IsIn e (link_of face (cells_with face (complex s))) → IsIn e s

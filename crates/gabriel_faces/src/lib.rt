@@ -22,7 +22,8 @@ use small_spheres::{inside_edge, inside_triangle};
 /// the edge, Open ones too, the answer is whether the edge is Gabriel: no point of the whole set lies inside.
 pub fn gabriel_edge(a: Point, b: Point, link: &[Point]) -> bool
     ensures over_link { result ≡ is_empty_edge link.now a b }
-    ensures over_set { (s : List ℕ) → IsAscending s → AreKeys s → IsFace s (a ∷ b ∷ []) → IsLink s (a ∷ b ∷ []) link.now → result ≡ is_gabriel s (a ∷ b ∷ []) }
+    ensures over_set { (s : List ℕ) → IsAscending s → AreKeys s → IsFace s (a ∷ b ∷ []) → IsLink s (a ∷ b ∷ []) link.now →
+        result ≡ is_gabriel s (a ∷ b ∷ []) }
 {
     is_edge_empty(a, b, link)
 }
@@ -33,7 +34,8 @@ pub fn gabriel_edge(a: Point, b: Point, link: &[Point]) -> bool
 /// cells, the answer is whether the triangle is Gabriel: no point of the whole set lies inside.
 pub fn gabriel_triangle(a: Point, b: Point, c: Point, link: &[Point]) -> bool
     ensures over_link { result ≡ is_empty_triangle link.now a b c }
-    ensures over_set { (s : List ℕ) → IsAscending s → AreKeys s → IsFace s (a ∷ b ∷ c ∷ []) → IsLink s (a ∷ b ∷ c ∷ []) link.now → result ≡ is_gabriel s (a ∷ b ∷ c ∷ []) }
+    ensures over_set { (s : List ℕ) → IsAscending s → AreKeys s → IsFace s (a ∷ b ∷ c ∷ []) → IsLink s (a ∷ b ∷ c ∷ []) link.now →
+        result ≡ is_gabriel s (a ∷ b ∷ c ∷ []) }
 {
     is_triangle_empty(a, b, c, link)
 }
@@ -51,3 +53,6 @@ fn is_triangle_empty(a: Point, b: Point, c: Point, points: &[Point]) -> bool
 {
     points.iter().all(|e| !inside_triangle(a, b, c, *e))
 }
+
+#[cfg(test)]
+mod tests;
