@@ -1,21 +1,17 @@
 -- The faces that are Gabriel and within alpha, as they are judged by their links and searched in lists.
 use Rattle.std.proofs.Common.{◌≡◌, refl, sym, subst, ap, ◌∙◌, ℕ, inl, inr, Bool, true, false, List, [], ◌∷◌, map}
 use Rattle.std.specs.Prelude.{◌&&◌}
-use Rattle.std.specs.List.{filter, list_all, list_any, AllByRecursion}
+use Rattle.std.specs.List.{filter, list_all, list_any}
 use Rattle.std.specs.List.Sorted.{IsStrictlySortedBy}
 use Rattle.std.specs.Ordering.{nat_cmp, is_eq}
 use Rattle.std.specs.Cmp.Lexicographic.{slice_cmp}
-use Rattle.std.specs.declared.cmp.Ordering.TheVariants.{Less}
 use Rattle.std.proofs.lemmas.List.Kept.{IsStrictlySortedBy-filter}
 use Rattle.std.proofs.lemmas.Map.Text.{is_eq-slice_cmp}
 use Rattle.std.proofs.lemmas.Slice.Eq.{bytes_eq-Decides}
 use Rattle.point_order.specs.declared.cell.Cell.{Cell}
-use Rattle.point_order.specs.declared.cell.Cell.TheVariants.{Full, Open}
-use Rattle.point_order.specs.CellOrder.{cell_cmp}
 use Rattle.point_order.specs.Complex.{complex}
 use Rattle.point_order.specs.Sets.{IsIn, IsAscending}
 use Rattle.del_laws.specs.Keys.{AreKeys}
-use Rattle.del_laws.proofs.Ordered.{complex_is_sorted}
 use Rattle.del_laws.proofs.Tests.{any_from, any_true}
 use Rattle.face_list.specs.Faces.{full_cells, parts_in, cells_with, with_cells}
 use Rattle.face_list.proofs.FaceLaws.{parts_in_order}
