@@ -1,5 +1,5 @@
 pub mod Lines
 pub mod CommandLine
 pub mod Judging
-pub mod SolidHistory
+pub mod OpeningLines
 pub mod ShapesOfSet
