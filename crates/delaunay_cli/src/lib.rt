@@ -2,6 +2,7 @@
 #![tactic(auto)]
 
 mod mesh;
+mod meshed;
 mod outcome;
 mod replies;
 mod shapes;

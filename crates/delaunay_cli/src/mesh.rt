@@ -4,25 +4,27 @@ ghost use Rattle.std.specs.Prelude.{◌≡◌, ◌≢◌, ◌⊎◌, ◌↔◌, 
 ghost use Rattle.std.specs.declared.alloc.Global.{Global};
 ghost use Rattle.std.specs.Io.KnownBytes.{Appends, Keeps};
 ghost use Rattle.byte_ends.specs.Ends.{AppendsFront, Rose};
-ghost use Rattle.point_order.specs.Complex.{complex};
+ghost use Rattle.point_order.specs.Complex.{complex as complex_of};
 ghost use Rattle.point_order.specs.Sets.{IsAscending};
 ghost use Rattle.point_order.specs.Solid.{is_solid};
 ghost use Rattle.edit_files.specs.Content.{content};
-ghost use Rattle.edit_history.specs.Histories.{replay};
+ghost use Rattle.cell_store.specs.Shares.{Stands};
 ghost use Rattle.mesh_files.specs.Report.{AreCounted, parts_of, shapes_seen};
 ghost use Rattle.delaunay_cli.specs.Report.{order_of as order_of_it, report_of, shapes_of as shapes_of_it, tags_of, text_of};
 ghost use Rattle.delaunay_cli.specs.Run.{history_of};
 
+use crate::meshed::meshed;
 use crate::outcome::Run;
 use crate::replies::replies_by_tag;
 use crate::shapes::shapes;
 use crate::words::Asked;
 use alpha_complex::Shape;
 use byte_ends::Sink;
-use complex_trial::complex_by_trial;
+use cell_store::Mesh;
 use edit_files::File;
-use edit_history::{Entry, History, find_four};
+use edit_history::Entry;
 use mesh_files::{Put, Report, put_report};
+use one_mesh::{complex, find_four, history, points};
 use point_order::{Cell, Point};
 use std::alloc::{AllocError, Global};
 
@@ -55,7 +57,7 @@ fn shapes_of<R>(
 ) -> Result<Vec<(u64, Shape)>, AllocError>
     requires ascending { IsAscending points.now }
     requires solid { is_solid points.now ≡ true }
-    requires cells { cells.now ≡ complex points.now }
+    requires cells { cells.now ≡ complex_of points.now }
     requires radii { All (λ radius. radius < 2 ^ 30) radii.now }
     ensures { IfOk result (λ shapes. shapes_seen shapes.items ≡ shapes_of_it shape radii.now points.now) }
 {
@@ -66,41 +68,37 @@ fn shapes_of<R>(
     }
 }
 
-// The report of a history of a file's lines and of the points that it leaves.
+// The report of the mesh of a file's lines, and of its history.
 fn report<R>(
     rt: &R,
     alloc: Global,
     asked: Asked,
     file: &File,
-    history: &History,
+    mesh: &Mesh,
+    kept: &[Entry],
 ) -> Result<Report, AllocError>
-    requires points { history.now.points ≡ replay history.now.entries.items }
-    requires solid { is_solid history.now.points ≡ true }
+    requires stands { Stands mesh.now kept.now }
     requires radii { All (λ radius. radius < 2 ^ 30) file.now.radii.items }
     requires lines { length file.now.points.items + length file.now.edits.items < 2 ^ 32 }
-    ensures report { IfOk result (λ report. parts_of report ≡ report_of asked.shape asked.order (content file.now) history.now.entries.items) }
+    ensures report { IfOk result (λ report. parts_of report ≡ report_of asked.shape asked.order (content file.now) kept.now) }
     ensures order { IfOk result (λ report. IsAscending report.points.items) }
     ensures counted { IfOk result (λ report. AreCounted (shapes_seen report.shapes.items)) }
 {
-    let points = history.points.points();
-    let cells = complex_by_trial(alloc, points)?;
+    let points = points(alloc, mesh)?;
+    let cells = complex(alloc, mesh)?;
     Ok(Report {
-        replies: replies_by_tag(
-            alloc,
-            file.points.len() + file.edits.len(),
-            &history.entries,
-        )?,
-        points: Vec::from_slice(alloc, points)?,
-        shapes: shapes_of(rt, alloc, asked.shape, points, &cells, &file.radii)?,
+        replies: replies_by_tag(alloc, file.points.len() + file.edits.len(), kept)?,
+        shapes: shapes_of(rt, alloc, asked.shape, &points, &cells, &file.radii)?,
+        points,
         cells,
-        order: order_of(alloc, asked.order, &history.entries)?,
+        order: order_of(alloc, asked.order, kept)?,
     })
 }
 
 /// Makes the history of one thread of the file's lines, and writes the report of what it leaves, with a shape for each radius and
 /// with the tags of the history, each where it is asked for.
 pub fn mesh<R, O: Sink>(rt: &R, alloc: Global, file: &File, asked: Asked, out: &mut O) -> Run
-    requires lines { length file.now.points.items + length file.now.edits.items < 2 ^ 32 }
+    requires lines { length file.now.points.items + length file.now.edits.items + 4 < 2 ^ 32 }
     requires radii { All (λ radius. radius < 2 ^ 30) file.now.radii.items }
     ensures statuses { (result.status ≡ 0) ⊎ (result.status ≡ 1) ⊎ (result.status ≡ 4) ⊎ (result.status ≡ 6) }
     ensures not_solid { result.status ≢ 1 → (result.status ≡ 6 ↔ (is_solid (content file.now).points ≡ false)) }
@@ -114,16 +112,18 @@ pub fn mesh<R, O: Sink>(rt: &R, alloc: Global, file: &File, asked: Asked, out: &
     ensures later { O.faults out.old ≤ O.faults out.new }
     ensures fault { result.status ≡ 4 → Rose (O.faults out.old) (O.faults out.new) }
 {
-    if find_four(&file.points).is_err() {
+    let Ok(four) = find_four(&file.points) else {
         return Run::ended(alloc, 6);
-    }
-    let Ok(history) = History::of_one_thread(alloc, &file.points, &file.edits) else {
+    };
+    let Ok(mesh) = meshed(alloc, &file.points, &file.edits, four) else {
         return Run::ended(alloc, 1);
     };
-    let Ok(report) = report(rt, alloc, asked, file, &history) else {
+    let Ok(kept) = history(alloc, &mesh) else {
         return Run::ended(alloc, 1);
     };
-    let kept = history.entries;
+    let Ok(report) = report(rt, alloc, asked, file, &mesh, &kept) else {
+        return Run::ended(alloc, 1);
+    };
     match put_report(alloc, out, &report) {
         Ok(()) => Run { status: 0, kept },
         Err(Put::Failed) => Run { status: 4, kept },

@@ -1,8 +1,9 @@
 //! The mesh of a file's lines, made in the order of one thread.
 
-ghost use Rattle.std.specs.Prelude.{◌≡◌, ◌<◌, ◌+◌, ◌^◌, ◌++◌, ℕ, List, Some, length, slice_index, option_map, IfOk, OnOk};
+ghost use Rattle.std.specs.Prelude.{map, ◌≡◌, ◌<◌, ◌+◌, ◌^◌, ◌++◌, ℕ, List, Some, length, slice_index, option_map, IfOk, OnOk};
 ghost use Rattle.std.specs.List.{enumerate_from};
 ghost use Rattle.edit_history.specs.declared.history.Edit.{Edit};
+ghost use Rattle.edit_history.specs.declared.history.Edit.TheVariants.{Add};
 ghost use Rattle.edit_history.specs.OneThread.{one_thread, places};
 ghost use Rattle.edit_history.specs.Opening.{opening_four};
 ghost use Rattle.cell_store.specs.Shares.{Stands};
@@ -10,7 +11,6 @@ ghost use Rattle.cavity.specs.Opening.{opening_history};
 ghost use Rattle.delaunay_cli.specs.Made.{tagged_points, StandsForLines, HasOpening, other_lines};
 
 use cell_store::{Grid, Mesh};
-use edit_files::File;
 use edit_history::Edit;
 use one_mesh::{apply, begin};
 use point_order::Point;
@@ -64,14 +64,28 @@ fn make_others(
     Ok(())
 }
 
-/// The mesh of a file's lines: the opening four of its points, and then all other lines in the order of the file.
-pub fn meshed(alloc: Global, file: &File, four: [usize; 4]) -> Result<Mesh, AllocError>
-    requires found { option_map places (opening_four file.now.points.items) ≡ Some four }
-    requires small { length file.now.points.items + length file.now.edits.items + 4 < 2 ^ 32 }
-    ensures { IfOk result (λ mesh. Stands mesh (one_thread file.now.points.items file.now.edits.items)) }
+// The point lines as adds, then the edit lines.
+fn all_lines(alloc: Global, points: &[Point], edits: &[Edit]) -> Result<Vec<Edit>, AllocError>
+    ensures { IfOk result (λ lines. lines.items ≡ map Add points.now ++ edits.now) }
 {
-    let mut mesh = opening(alloc, &file.points, four)?;
-    let lines: Vec<Edit> = file.lines().collect(alloc)?;
+    let points = points.iter().map(|p| Edit::Add(*p));
+    points.chain(edits.iter().copied()).collect(alloc)
+}
+
+/// The mesh of a file's lines: the opening four of its points, and then all other lines in the order of the file. `four` are the
+/// places of the opening four.
+pub fn meshed(
+    alloc: Global,
+    points: &[Point],
+    edits: &[Edit],
+    four: [usize; 4],
+) -> Result<Mesh, AllocError>
+    requires found { option_map places (opening_four points.now) ≡ Some four }
+    requires small { length points.now + length edits.now + 4 < 2 ^ 32 }
+    ensures { IfOk result (λ mesh. Stands mesh (one_thread points.now edits.now)) }
+{
+    let mut mesh = opening(alloc, points, four)?;
+    let lines = all_lines(alloc, points, edits)?;
     make_others(alloc, &mut mesh, &lines, four)?;
     Ok(mesh)
 }

@@ -7,7 +7,7 @@ use Rattle.edit_files.specs.Forms.{IsPointLine, IsEditLine, IsRadiusLine}
 
 -- how many point and edit lines a file may have together, and how many radius lines
 abbrev pub line_limit : ℕ
-line_limit = 64
+line_limit = 262144
 
 abbrev pub radius_limit : ℕ
 radius_limit = 16

@@ -19,7 +19,7 @@ use crate::scan::first_line;
 use std::alloc::{AllocFailed, Global};
 
 /// How many point and edit lines a file may have together.
-pub const LINE_LIMIT: u64 = 64;
+pub const LINE_LIMIT: u64 = 262_144;
 
 /// How many radius lines a file may have.
 pub const RADIUS_LIMIT: u64 = 16;

@@ -1,0 +1,27 @@
+use Rattle.std.proofs.Common.{arith, sym, subst, ap, List, ℕ, ◌≡◌, [], ◌∷◌}
+use Rattle.cell_store.specs.Shares.{Stands}
+use Rattle.cavity.specs.Opening.{opening_history}
+use Rattle.cavity.proofs.MeshGrowth.{four_found}
+use Rattle.delaunay_cli.specs.Made.{tagged_points}
+use Rattle.delaunay_cli.proofs.OpeningLines.{tagged_is}
+use Rattle.delaunay_cli.proofs.meshed.opening.Goals as goal
+
+pub tagged_point-requires-3-clause-place : goal.tagged_point-requires-3-clause-place
+tagged_point-requires-3-clause-place c = (four_found c.args.points.now c.args.four c.requires.found).third
+
+pub tagged_point-requires-3-clause-small : goal.tagged_point-requires-3-clause-small
+tagged_point-requires-3-clause-small c = (let f = (four_found c.args.points.now c.args.four c.requires.found).third in let s = c.requires.small in omega (arith, f, s))
+
+pub tagged_point-requires-4-clause-place : goal.tagged_point-requires-4-clause-place
+tagged_point-requires-4-clause-place c = (four_found c.args.points.now c.args.four c.requires.found).fourth
+
+pub tagged_point-requires-4-clause-small : goal.tagged_point-requires-4-clause-small
+tagged_point-requires-4-clause-small c = (let f = (four_found c.args.points.now c.args.four c.requires.found).fourth in let s = c.requires.small in omega (arith, f, s))
+
+pub begin-requires : goal.begin-requires
+begin-requires c = rw (c.tagged_point.ensures, c.tagged_point-2.ensures, c.tagged_point-3.ensures, c.tagged_point-4.ensures) (four_found c.args.points.now c.args.four c.requires.found).independent
+
+pub returns : goal.returns
+returns c =
+    let l : c.tagged_point.result ∷ c.tagged_point-2.result ∷ c.tagged_point-3.result ∷ c.tagged_point-4.result ∷ [] ≡ tagged_points c.args.points.now c.args.four = rw (c.tagged_point.ensures, c.tagged_point-2.ensures, c.tagged_point-3.ensures, c.tagged_point-4.ensures) (tagged_is c.args.points.now c.args.four c.requires.found) in
+    subst (λ (l : List (ℕ × ℕ)). Stands c.in_ok-mesh.mesh (opening_history l)) l c.in_ok-mesh.ensures.stands
