@@ -233,12 +233,12 @@ one_history mesh h k m s t =
 
 -- ---- the cells of a mesh
 
-in_flat : {X Y : Type 0} (f : X → List Y) (l : List X) (i : ℕ) (d : X) (y : Y) → i < length l → IsIn y (f (slice_index_or l i d)) → IsIn y (flat_map f l)
+pub in_flat : {X Y : Type 0} (f : X → List Y) (l : List X) (i : ℕ) (d : X) (y : Y) → i < length l → IsIn y (f (slice_index_or l i d)) → IsIn y (flat_map f l)
 in_flat f [] i d y h k = absurd (omega arith)
 in_flat f (x ∷ l) zero d y h k = in_front (f x) (flat_map f l) y k
 in_flat f (x ∷ l) (suc i) d y h k = in_back (f x) (flat_map f l) y (in_flat f l i d y (omega arith) k)
 
-flat_from : {X Y : Type 0} (f : X → List Y) (l : List X) (d : X) (y : Y) → IsIn y (flat_map f l) → (i : ℕ) × IsIn y (f (slice_index_or l i d))
+pub flat_from : {X Y : Type 0} (f : X → List Y) (l : List X) (d : X) (y : Y) → IsIn y (flat_map f l) → (i : ℕ) × IsIn y (f (slice_index_or l i d))
 flat_from f [] d y k = absurd k
 flat_from f (x ∷ l) d y k = elim (in_either (f x) (flat_map f l) y k) [
   | inl j ↦ (0, j)

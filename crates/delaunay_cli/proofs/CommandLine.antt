@@ -10,7 +10,7 @@ use Rattle.clap.specs.Words.{App, Text, Row, IsAmong, Kinds, fault_of, first_val
 use Rattle.clap.specs.declared.error.kind.ErrorKind.{ErrorKind}
 use Rattle.clap.specs.declared.error.kind.ErrorKind.TheVariants.{OutOfMemory}
 use Rattle.clap.proofs.OnLiterals.{clap_on_literals}
-use Rattle.delaunay_cli.specs.Words.{AreMesh, AreMeshOrder, AreTaken, asks_order, has_order, order_in, program, texts_of}
+use Rattle.delaunay_cli.specs.Words.{AreMesh, AreMeshOrder, AreShape, AreShapeOrder, AreTaken, asks_order, asks_shape, has_order, is_shape, order_in, program, texts_of}
 
 is-simple_and_free : is_simple_and_free program ≡ true
 unfolding clap_on_literals
@@ -28,6 +28,10 @@ mesh-order : (name : Text) → has_order (subcommand_of program (name ∷ codes 
 unfolding clap_on_literals
 mesh-order name = refl
 
+mesh-shape : (name : Text) → is_shape (subcommand_of program (name ∷ codes "mesh" ∷ [])) ≡ false
+unfolding clap_on_literals
+mesh-shape name = refl
+
 mesh_order-fault : (name : Text) → fault_of program (name ∷ codes "mesh" ∷ codes "--order" ∷ []) ≡ []
 unfolding clap_on_literals
 mesh_order-fault name = refl
@@ -36,17 +40,69 @@ mesh_order-order : (name : Text) → has_order (subcommand_of program (name ∷ 
 unfolding clap_on_literals
 mesh_order-order name = refl
 
--- the program's name and `mesh` are taken, and ask for no order block
-pub mesh-words : (words : List (String Global)) → AreMesh words → AreTaken words × (asks_order words ≡ false)
-unfolding AreTaken asks_order
-mesh-words words m =
-    (ap (fault_of program) m.1 ∙ mesh-fault m.0, ap (λ (w : List Text). has_order (subcommand_of program w)) m.1 ∙ mesh-order m.0)
+mesh_order-shape : (name : Text) → is_shape (subcommand_of program (name ∷ codes "mesh" ∷ codes "--order" ∷ [])) ≡ false
+unfolding clap_on_literals
+mesh_order-shape name = refl
 
--- with `--order` they are taken, and ask for it
-pub mesh_order-words : (words : List (String Global)) → AreMeshOrder words → AreTaken words × (asks_order words ≡ true)
-unfolding AreTaken asks_order
-mesh_order-words words m =
-    (ap (fault_of program) m.1 ∙ mesh_order-fault m.0, ap (λ (w : List Text). has_order (subcommand_of program w)) m.1 ∙ mesh_order-order m.0)
+shape-fault : (name : Text) → fault_of program (name ∷ codes "shape" ∷ []) ≡ []
+unfolding clap_on_literals
+shape-fault name = refl
+
+shape-order : (name : Text) → has_order (subcommand_of program (name ∷ codes "shape" ∷ [])) ≡ false
+unfolding clap_on_literals
+shape-order name = refl
+
+shape-shape : (name : Text) → is_shape (subcommand_of program (name ∷ codes "shape" ∷ [])) ≡ true
+unfolding clap_on_literals
+shape-shape name = refl
+
+shape_order-fault : (name : Text) → fault_of program (name ∷ codes "shape" ∷ codes "--order" ∷ []) ≡ []
+unfolding clap_on_literals
+shape_order-fault name = refl
+
+shape_order-order : (name : Text) → has_order (subcommand_of program (name ∷ codes "shape" ∷ codes "--order" ∷ [])) ≡ true
+unfolding clap_on_literals
+shape_order-order name = refl
+
+shape_order-shape : (name : Text) → is_shape (subcommand_of program (name ∷ codes "shape" ∷ codes "--order" ∷ [])) ≡ true
+unfolding clap_on_literals
+shape_order-shape name = refl
+
+-- the program's name and `mesh` are taken, and ask for no shapes and no order block
+pub mesh-words : (words : List (String Global)) → AreMesh words → AreTaken words × (asks_shape words ≡ false) × (asks_order words ≡ false)
+unfolding AreTaken asks_order asks_shape
+mesh-words words m = (
+  ap (fault_of program) m.1 ∙ mesh-fault m.0,
+  ap (λ (w : List Text). is_shape (subcommand_of program w)) m.1 ∙ mesh-shape m.0,
+  ap (λ (w : List Text). has_order (subcommand_of program w)) m.1 ∙ mesh-order m.0,
+)
+
+-- with `--order` they are taken, and ask for the order block
+pub mesh_order-words : (words : List (String Global)) → AreMeshOrder words → AreTaken words × (asks_shape words ≡ false) × (asks_order words ≡ true)
+unfolding AreTaken asks_order asks_shape
+mesh_order-words words m = (
+  ap (fault_of program) m.1 ∙ mesh_order-fault m.0,
+  ap (λ (w : List Text). is_shape (subcommand_of program w)) m.1 ∙ mesh_order-shape m.0,
+  ap (λ (w : List Text). has_order (subcommand_of program w)) m.1 ∙ mesh_order-order m.0,
+)
+
+-- the program's name and `shape` are taken, and ask for shapes
+pub shape-words : (words : List (String Global)) → AreShape words → AreTaken words × (asks_shape words ≡ true) × (asks_order words ≡ false)
+unfolding AreTaken asks_order asks_shape
+shape-words words m = (
+  ap (fault_of program) m.1 ∙ shape-fault m.0,
+  ap (λ (w : List Text). is_shape (subcommand_of program w)) m.1 ∙ shape-shape m.0,
+  ap (λ (w : List Text). has_order (subcommand_of program w)) m.1 ∙ shape-order m.0,
+)
+
+-- with `--order` they are taken, and ask for both
+pub shape_order-words : (words : List (String Global)) → AreShapeOrder words → AreTaken words × (asks_shape words ≡ true) × (asks_order words ≡ true)
+unfolding AreTaken asks_order asks_shape
+shape_order-words words m = (
+  ap (fault_of program) m.1 ∙ shape_order-fault m.0,
+  ap (λ (w : List Text). is_shape (subcommand_of program w)) m.1 ∙ shape_order-shape m.0,
+  ap (λ (w : List Text). has_order (subcommand_of program w)) m.1 ∙ shape_order-order m.0,
+)
 
 -- a parse that succeeds takes the words
 pub taken : (a : App) (words : List (String Global)) → a ≡ program → (is_simple_and_free a ≡ true → fault_of a (texts_of words) ≡ []) → AreTaken words
@@ -58,6 +114,12 @@ pub asked : (a : App) (words : List (String Global)) (met : Option (Text × List
     → (is_simple a ≡ true → met ≡ subcommand_of a (texts_of words)) → r ≡ asks_order words
 unfolding asks_order
 asked a words met r e q h = q ∙ ap has_order (h (ap is_simple e ∙ is-simple)) ∙ ap (λ (p : App). has_order (subcommand_of p (texts_of words))) e
+
+-- and which command it was
+pub asked-shape : (a : App) (words : List (String Global)) (met : Option (Text × List Row)) (r : Bool) → a ≡ program → r ≡ is_shape met
+    → (is_simple a ≡ true → met ≡ subcommand_of a (texts_of words)) → r ≡ asks_shape words
+unfolding asks_shape
+asked-shape a words met r e q h = q ∙ ap is_shape (h (ap is_simple e ∙ is-simple)) ∙ ap (λ (p : App). is_shape (subcommand_of p (texts_of words))) e
 
 none-among : (k : ErrorKind) (kinds : Kinds) → kinds ≡ [] → IsAmong k kinds → ⊥
 none-among k [] e h = h

@@ -1,16 +1,17 @@
 -- What the judging of a file says of its bytes.
-use Rattle.std.proofs.Common.{◌≡◌, ◌≢◌, ◌⊎◌, ◌↔◌, inl, inr, refl, subst, ap, ◌∙◌, ℕ, ◌+◌, ◌<◌, ◌≤◌, List, [], ◌∷◌, ◌++◌, false, length, arith}
-use Rattle.std.specs.Prelude.{Option, None, Some, IfSome, IsSomeAnd, Vec}
+use Rattle.std.proofs.Common.{◌≡◌, ◌≢◌, ◌⊎◌, ◌↔◌, inl, inr, refl, subst, ap, ◌∙◌, ℕ, ◌+◌, ◌<◌, ◌≤◌, ◌^◌, List, [], ◌∷◌, ◌++◌, false, length, arith}
+use Rattle.std.specs.Prelude.{Option, None, Some, IfSome, IsSomeAnd, Vec, All}
 use Rattle.std.specs.declared.alloc.Global.{Global}
 use Rattle.std.specs.List.{AllZip}
 use Rattle.point_order.specs.Solid.{is_solid}
 use Rattle.edit_files.specs.Content.{Content}
 use Rattle.edit_files.specs.Grammar.{line_limit, IsFile}
-use Rattle.edit_files.specs.Forms.{IsPointLine, IsEditLine}
+use Rattle.edit_files.specs.Forms.{IsPointLine, IsEditLine, IsRadiusLine}
 use Rattle.edit_files.specs.Faults.{IsFault}
 use Rattle.delaunay_cli.specs.Run.{HasFault, IsSolidFile, input_limit}
 use Rattle.delaunay_cli.specs.Statuses.{IsEarly, IsToldLine, IsFaultLine, TellsFault}
 use Rattle.std.proofs.lemmas.Bool.{cases_eq}
+use Rattle.std.proofs.lemmas.List.Elements.{All-cons}
 use Rattle.delaunay_cli.specs.Endings.{line_or, line_of}
 use Rattle.delaunay_cli.specs.declared.top.Ended.{Ended}
 use Rattle.edit_files.proofs.Judged.{one_file_of, no_fault_of}
@@ -25,6 +26,16 @@ zip-length R (x ∷ xs) (y ∷ ys) h = omega (arith, zip-length R xs ys h.1)
 pub file-small : (limit : ℕ) (bytes : List ℕ) (f : Content) → IsFile limit bytes f → length f.points + length f.edits ≤ limit
 file-small limit bytes f h =
     omega (arith, zip-length IsPointLine h.points f.points h.point_lines, zip-length IsEditLine h.edits f.edits h.edit_lines, h.line_count)
+
+-- the radii of a file are below 2^30
+pub radii-small : (limit : ℕ) (bytes : List ℕ) (f : Content) → IsFile limit bytes f → All (λ radius. radius < 2 ^ 30) f.radii
+radii-small limit bytes f h = of_lines h.radii f.radii h.radius_lines
+  where
+    of_lines : (lines : List (List ℕ)) (radii : List ℕ) → AllZip IsRadiusLine lines radii → All (λ radius. radius < 2 ^ 30) radii
+    of_lines [] [] z = λ k d l. absurd (omega arith)
+    of_lines [] (r ∷ radii) z = absurd z
+    of_lines (l ∷ lines) [] z = absurd z
+    of_lines (l ∷ lines) (r ∷ radii) z = All-cons (λ radius. radius < 2 ^ 30) r radii z.0.1 (of_lines lines radii z.1)
 
 -- of an accepted file, status 5 does not come and there is no fault
 pub no-fault : (bytes : List ℕ) (f : Content) (status : ℕ) → IsFile line_limit bytes f → (status ≡ 0) ⊎ (status ≡ 1) ⊎ (status ≡ 4) ⊎ (status ≡ 6) → (status ≡ 5) ↔ HasFault bytes

@@ -1,3 +1,5 @@
 pub mod Lines
 pub mod CommandLine
 pub mod Judging
+pub mod OpeningLines
+pub mod ShapesOfSet

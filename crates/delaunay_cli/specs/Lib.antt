@@ -1,4 +1,5 @@
 pub mod Report
+pub mod Made
 pub mod Statuses
 pub mod Words
 pub mod Run

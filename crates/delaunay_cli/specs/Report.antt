@@ -1,12 +1,18 @@
 -- What is written of a history.
-use Rattle.std.specs.Prelude.{ℕ, Bool, ◌==◌, List, [], ◌∷◌, map, Option, None, Some, if◌then◌else◌}
+use Rattle.std.specs.Prelude.{ℕ, ◌+◌, Bool, ◌==◌, length, List, [], ◌∷◌, map, Option, None, Some, if◌then◌else◌}
 use Rattle.std.specs.List.{range_with_len}
 use Rattle.point_order.specs.Complex.{complex}
 use Rattle.edit_history.specs.declared.history.Entry.{Entry}
 use Rattle.edit_history.specs.declared.history.Reply.{Reply}
 use Rattle.edit_history.specs.declared.history.Reply.TheVariants.{Missing}
 use Rattle.edit_history.specs.Histories.{replay}
+use Rattle.edit_files.specs.Content.{Content}
+use Rattle.alpha_complex.specs.Shapes.{ShapeParts, shape_of}
 use Rattle.mesh_files.specs.Text.{ReportParts, report_text}
+
+-- how many point and edit lines a file has
+abbrev pub line_count : Content → ℕ
+line_count file = length file.points + length file.edits
 
 -- the reply of the entry with a tag; a history that keeps its file has one for each line
 abbrev pub reply_at : List Entry → ℕ → Reply
@@ -25,12 +31,22 @@ tags_of h = map (λ e. e.tag) h
 abbrev pub order_of : Bool → List Entry → Option (List ℕ)
 order_of order h = if order then Some (tags_of h) else None
 
--- the report of a history of so many lines, with its order block or not: its replies, the points that it leaves, and the
--- complex of these
-abbrev pub report_of : Bool → ℕ → List Entry → ReportParts
-report_of order count h =
-    record { replies = replies_by_tag count h; points = replay h; cells = complex (replay h); order = order_of order h }
+-- the alpha complex of a set for each radius, in their order, where they are asked for
+abbrev pub shapes_of : Bool → List ℕ → List ℕ → List (ℕ × ShapeParts)
+shapes_of shape radii s = if shape then map (λ radius. (radius, shape_of s radius)) radii else []
+
+-- the report of a history of a file's lines, with a shape for each of the file's radii or none, and with its order block or not:
+-- its replies, the points that it leaves, and the complex of these
+abbrev pub report_of : Bool → Bool → Content → List Entry → ReportParts
+report_of shape order file h =
+    record {
+      replies = replies_by_tag (line_count file) h;
+      points = replay h;
+      cells = complex (replay h);
+      shapes = shapes_of shape file.radii (replay h);
+      order = order_of order h;
+    }
 
 -- its text
-abbrev pub text_of : Bool → ℕ → List Entry → List ℕ
-text_of order count h = report_text (report_of order count h)
+abbrev pub text_of : Bool → Bool → Content → List Entry → List ℕ
+text_of shape order file h = report_text (report_of shape order file h)

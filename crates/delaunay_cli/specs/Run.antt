@@ -16,10 +16,6 @@ use Rattle.delaunay_cli.specs.Statuses.{IsEarly}
 abbrev pub input_limit : ℕ
 input_limit = 16777216
 
--- how many point and edit lines a file has
-abbrev pub line_count : Content → ℕ
-line_count file = length file.points + length file.edits
-
 -- the history of one thread that makes the file's lines its edits
 abbrev pub history_of : Content → List Entry
 history_of file = one_thread file.points file.edits
@@ -31,15 +27,16 @@ pub record Reads (left_old left_new : Option (List ℕ)) (status : ℕ) : Type 0
   pub within : length taken ≤ input_limit + 1
   pub whole : (IsEarly status → ⊥) → IsAtEnd left_new ⊎ (length taken ≡ input_limit + 1)
 
--- the output gained the text of the file that the bytes are, and of the history, with its order block or not
-abbrev pub Writes : Bool → List ℕ → Option (List ℕ) → Option (List ℕ) → List Entry → Type 0
-Writes order bytes old new kept =
-    (file : Content) × IsFile line_limit bytes file × Appends old new (text_of order (line_count file) kept)
+-- the output gained the text of the file that the bytes are, and of the history, with shapes or without, and with its order block
+-- or not
+abbrev pub Writes : Bool → Bool → List ℕ → Option (List ℕ) → Option (List ℕ) → List Entry → Type 0
+Writes shape order bytes old new kept =
+    (file : Content) × IsFile line_limit bytes file × Appends old new (text_of shape order file kept)
 
 -- the output gained a front of it
-abbrev pub WritesFront : Bool → List ℕ → Option (List ℕ) → Option (List ℕ) → List Entry → Type 0
-WritesFront order bytes old new kept =
-    (file : Content) × IsFile line_limit bytes file × AppendsFront old new (text_of order (line_count file) kept)
+abbrev pub WritesFront : Bool → Bool → List ℕ → Option (List ℕ) → Option (List ℕ) → List Entry → Type 0
+WritesFront shape order bytes old new kept =
+    (file : Content) × IsFile line_limit bytes file × AppendsFront old new (text_of shape order file kept)
 
 -- the bytes are a solid file within the limit
 abbrev pub IsSolidFile : List ℕ → Type 0

@@ -20,13 +20,16 @@ workers_option = record (new_rule (codes "workers")) {
 abbrev pub order_flag : Rule
 order_flag = record (new_rule (codes "order")) { long = Some (codes "order"); action = Some SetTrue }
 
--- the command `mesh`, which takes both
-abbrev pub mesh_command : App
-mesh_command = with_rule (with_rule (new_app (codes "mesh")) workers_option) order_flag
+-- a command of this name, which takes both
+abbrev pub command_of : Text → App
+command_of name = with_rule (with_rule (new_app name) workers_option) order_flag
 
--- the program: it takes the word of a command, and has the one
+-- the program: it takes the word of a command, and has the two
 abbrev pub program : App
-program = with_subcommand (on_top (λ shape. record shape { subcommand_required = true }) (new_app (codes "delaunay"))) mesh_command.top
+program =
+    with_subcommand
+    (with_subcommand (on_top (λ top. record top { subcommand_required = true }) (new_app (codes "delaunay"))) (command_of (codes "mesh")).top)
+    (command_of (codes "shape")).top
 
 -- the words of a command line as texts
 abbrev pub texts_of : List (String Global) → List Text
@@ -44,6 +47,14 @@ AreMesh words = AreNameAnd (codes "mesh" ∷ []) words
 abbrev pub AreMeshOrder : List (String Global) → Type 0
 AreMeshOrder words = AreNameAnd (codes "mesh" ∷ codes "--order" ∷ []) words
 
+-- the words are the program's name and `shape`
+abbrev pub AreShape : List (String Global) → Type 0
+AreShape words = AreNameAnd (codes "shape" ∷ []) words
+
+-- the words are the program's name, `shape` and `--order`
+abbrev pub AreShapeOrder : List (String Global) → Type 0
+AreShapeOrder words = AreNameAnd (codes "shape" ∷ codes "--order" ∷ []) words
+
 -- the program takes the words: as `clap` reads them, nothing is at fault
 unfoldable pub AreTaken : List (String Global) → Type 0
 AreTaken words = fault_of program (texts_of words) ≡ []
@@ -59,3 +70,11 @@ has_order met = option_map_or (λ found. order_in found.1) met false
 -- the words ask for the order block
 unfoldable pub asks_order : List (String Global) → Bool
 asks_order words = has_order (subcommand_of program (texts_of words))
+
+-- the command that was met is `shape`
+abbrev pub is_shape : Option (Text × List Row) → Bool
+is_shape met = option_map_or (λ found. bytes_eq found.0 (codes "shape")) met false
+
+-- the words ask for the shapes
+unfoldable pub asks_shape : List (String Global) → Bool
+asks_shape words = is_shape (subcommand_of program (texts_of words))

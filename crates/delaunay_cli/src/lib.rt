@@ -1,9 +1,10 @@
-//! The program's top call: from the bytes of an edit file to the text of its mesh.
+//! The program's top call: from the bytes of an edit file to the text of its mesh and of its shapes.
 #![tactic(auto)]
 
 mod mesh;
 mod outcome;
 mod replies;
+mod shapes;
 mod telling;
 mod top;
 mod words;
@@ -11,5 +12,7 @@ mod words;
 pub use outcome::Run;
 pub use top::run;
 
+#[cfg(test)]
+mod shape_tests;
 #[cfg(test)]
 mod tests;

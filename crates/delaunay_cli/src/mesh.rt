@@ -1,24 +1,29 @@
-//! From an accepted file to the report of its mesh.
+//! From an accepted file to the report of its mesh and of its shapes.
 
-ghost use Rattle.std.specs.Prelude.{◌≡◌, ◌≢◌, ◌⊎◌, ◌↔◌, ◌≤◌, ◌<◌, ◌+◌, ◌^◌, [], false, length, IfOk, OnOk, OnErr, IsErr, option_map, Vec, ℕ};
+ghost use Rattle.std.specs.Prelude.{◌≡◌, ◌≢◌, ◌⊎◌, ◌↔◌, ◌≤◌, ◌<◌, ◌+◌, ◌^◌, [], false, true, length, All, IfOk, OnOk, OnErr, IsErr, option_map, Vec, ℕ};
 ghost use Rattle.std.specs.declared.alloc.Global.{Global};
 ghost use Rattle.std.specs.Io.KnownBytes.{Appends, Keeps};
 ghost use Rattle.byte_ends.specs.Ends.{AppendsFront, Rose};
+ghost use Rattle.point_order.specs.Complex.{complex};
 ghost use Rattle.point_order.specs.Sets.{IsAscending};
 ghost use Rattle.point_order.specs.Solid.{is_solid};
 ghost use Rattle.edit_files.specs.Content.{content};
 ghost use Rattle.edit_history.specs.Histories.{replay};
-ghost use Rattle.mesh_files.specs.Report.{parts_of};
-ghost use Rattle.delaunay_cli.specs.Report.{order_of as order_of_it, report_of, tags_of, text_of};
-ghost use Rattle.delaunay_cli.specs.Run.{history_of, line_count};
+ghost use Rattle.mesh_files.specs.Report.{AreCounted, parts_of, shapes_seen};
+ghost use Rattle.delaunay_cli.specs.Report.{order_of as order_of_it, report_of, shapes_of as shapes_of_it, tags_of, text_of};
+ghost use Rattle.delaunay_cli.specs.Run.{history_of};
 
 use crate::outcome::Run;
 use crate::replies::replies_by_tag;
+use crate::shapes::shapes;
+use crate::words::Asked;
+use alpha_complex::Shape;
 use byte_ends::Sink;
 use complex_trial::complex_by_trial;
 use edit_files::File;
 use edit_history::{Entry, History, find_four};
 use mesh_files::{Put, Report, put_report};
+use point_order::{Cell, Point};
 use std::alloc::{AllocError, Global};
 
 // The tags of a history, in its order.
@@ -39,33 +44,72 @@ fn order_of(alloc: Global, order: bool, entries: &[Entry]) -> Result<Option<Vec<
     }
 }
 
-// The report of a history and of the points that it leaves.
-fn report(alloc: Global, order: bool, count: usize, history: &History) -> Result<Report, AllocError>
-    requires { history.now.points ≡ replay history.now.entries.items }
-    ensures report { IfOk result (λ report. parts_of report ≡ report_of order count history.now.entries.items) }
+// The alpha complex for each radius, where they are asked for.
+fn shapes_of<R>(
+    rt: &R,
+    alloc: Global,
+    shape: bool,
+    points: &[Point],
+    cells: &[Cell],
+    radii: &[u64],
+) -> Result<Vec<(u64, Shape)>, AllocError>
+    requires ascending { IsAscending points.now }
+    requires solid { is_solid points.now ≡ true }
+    requires cells { cells.now ≡ complex points.now }
+    requires radii { All (λ radius. radius < 2 ^ 30) radii.now }
+    ensures { IfOk result (λ shapes. shapes_seen shapes.items ≡ shapes_of_it shape radii.now points.now) }
+{
+    if shape {
+        shapes(rt, alloc, points, cells, radii)
+    } else {
+        Ok(Vec::new(alloc))
+    }
+}
+
+// The report of a history of a file's lines and of the points that it leaves.
+fn report<R>(
+    rt: &R,
+    alloc: Global,
+    asked: Asked,
+    file: &File,
+    history: &History,
+) -> Result<Report, AllocError>
+    requires points { history.now.points ≡ replay history.now.entries.items }
+    requires solid { is_solid history.now.points ≡ true }
+    requires radii { All (λ radius. radius < 2 ^ 30) file.now.radii.items }
+    requires lines { length file.now.points.items + length file.now.edits.items < 2 ^ 32 }
+    ensures report { IfOk result (λ report. parts_of report ≡ report_of asked.shape asked.order (content file.now) history.now.entries.items) }
     ensures order { IfOk result (λ report. IsAscending report.points.items) }
+    ensures counted { IfOk result (λ report. AreCounted (shapes_seen report.shapes.items)) }
 {
     let points = history.points.points();
+    let cells = complex_by_trial(alloc, points)?;
     Ok(Report {
-        replies: replies_by_tag(alloc, count, &history.entries)?,
+        replies: replies_by_tag(
+            alloc,
+            file.points.len() + file.edits.len(),
+            &history.entries,
+        )?,
         points: Vec::from_slice(alloc, points)?,
-        cells: complex_by_trial(alloc, points)?,
-        order: order_of(alloc, order, &history.entries)?,
+        shapes: shapes_of(rt, alloc, asked.shape, points, &cells, &file.radii)?,
+        cells,
+        order: order_of(alloc, asked.order, &history.entries)?,
     })
 }
 
-/// Makes the history of one thread of the file's lines, and writes the report of what it leaves, with the tags of the history
-/// where `order` asks for them.
-pub fn mesh<O: Sink>(alloc: Global, file: &File, order: bool, out: &mut O) -> Run
-    requires { length file.now.points.items + length file.now.edits.items < 2 ^ 32 }
+/// Makes the history of one thread of the file's lines, and writes the report of what it leaves, with a shape for each radius and
+/// with the tags of the history, each where it is asked for.
+pub fn mesh<R, O: Sink>(rt: &R, alloc: Global, file: &File, asked: Asked, out: &mut O) -> Run
+    requires lines { length file.now.points.items + length file.now.edits.items < 2 ^ 32 }
+    requires radii { All (λ radius. radius < 2 ^ 30) file.now.radii.items }
     ensures statuses { (result.status ≡ 0) ⊎ (result.status ≡ 1) ⊎ (result.status ≡ 4) ⊎ (result.status ≡ 6) }
     ensures not_solid { result.status ≢ 1 → (result.status ≡ 6 ↔ (is_solid (content file.now).points ≡ false)) }
     ensures kept { (result.status ≡ 0) ⊎ (result.status ≡ 4) → result.kept.items ≡ history_of (content file.now) }
     ensures none_kept { result.status ≢ 0 → result.status ≢ 4 → result.kept.items ≡ [] }
     ensures written { result.status ≡ 0
-        → Appends (O.holds out.old) (O.holds out.new) (text_of order (line_count (content file.now)) result.kept.items) }
+        → Appends (O.holds out.old) (O.holds out.new) (text_of asked.shape asked.order (content file.now) result.kept.items) }
     ensures front { result.status ≡ 4
-        → AppendsFront (O.holds out.old) (O.holds out.new) (text_of order (line_count (content file.now)) result.kept.items) }
+        → AppendsFront (O.holds out.old) (O.holds out.new) (text_of asked.shape asked.order (content file.now) result.kept.items) }
     ensures nothing { result.status ≢ 0 → result.status ≢ 4 → Keeps (O.holds out.old) (O.holds out.new) }
     ensures later { O.faults out.old ≤ O.faults out.new }
     ensures fault { result.status ≡ 4 → Rose (O.faults out.old) (O.faults out.new) }
@@ -76,7 +120,7 @@ pub fn mesh<O: Sink>(alloc: Global, file: &File, order: bool, out: &mut O) -> Ru
     let Ok(history) = History::of_one_thread(alloc, &file.points, &file.edits) else {
         return Run::ended(alloc, 1);
     };
-    let Ok(report) = report(alloc, order, file.points.len() + file.edits.len(), &history) else {
+    let Ok(report) = report(rt, alloc, asked, file, &history) else {
         return Run::ended(alloc, 1);
     };
     let kept = history.entries;

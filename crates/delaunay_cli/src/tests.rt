@@ -115,21 +115,21 @@ const TETRAHEDRON: &str = "mesh3 1\npoints\n0 0 0\n2 0 0\n0 2 0\n0 0 2\nedits\nr
 
 // What a run did.
 #[derive(Drop)]
-struct Did<'a> {
-    run: Run,
-    out: MemSink<'a>,
-    err: MemSink<'a>,
+pub struct Did<'a> {
+    pub run: Run,
+    pub out: MemSink<'a>,
+    pub err: MemSink<'a>,
 }
 
 // The calls of each end that are to fail.
 #[derive(Clone, Copy)]
-struct Fails {
-    read: &'static [u64],
-    write: &'static [u64],
-    tell: &'static [u64],
+pub struct Fails {
+    pub read: &'static [u64],
+    pub write: &'static [u64],
+    pub tell: &'static [u64],
 }
 
-const NONE: Fails = Fails {
+pub const NONE: Fails = Fails {
     read: &[],
     write: &[],
     tell: &[],
@@ -144,7 +144,7 @@ fn words_of(alloc: Global, words: &[&str]) -> Result<Vec<String>, Fail> {
 }
 
 // A run over these words and bytes, ten bytes a call.
-fn run_over(
+pub fn run_over(
     alloc: Global,
     words: &[&str],
     input: &[u8],
@@ -274,7 +274,7 @@ fn meshes_with_their_order(rt: HostRuntime) -> Result<(), Fail> {
 }
 
 // Words that are taken, and whether they ask for the order.
-const TAKEN: [(&[&str], bool); 9] = [
+const TAKEN: [(&[&str], bool); 12] = [
     (&["delaunay", "mesh"], false),
     (&["", "mesh"], false),
     (&["delaunay", "mesh", "--order"], true),
@@ -284,6 +284,9 @@ const TAKEN: [(&[&str], bool); 9] = [
     (&["delaunay", "mesh", "--workers", "+1"], false),
     (&["delaunay", "mesh", "--workers", "1", "--order"], true),
     (&["delaunay", "mesh", "--order", "--workers=1"], true),
+    (&["delaunay", "shape"], false),
+    (&["delaunay", "shape", "--order"], true),
+    (&["delaunay", "shape", "--workers", "1"], false),
 ];
 
 #[test]
@@ -303,7 +306,7 @@ fn takes_words(rt: HostRuntime) -> Result<(), Fail> {
 }
 
 // Words that are refused.
-const USAGE: [&[&str]; 28] = [
+const USAGE: [&[&str]; 34] = [
     &[],
     &["delaunay"],
     &["delaunay", "draw"],
@@ -331,6 +334,12 @@ const USAGE: [&[&str]; 28] = [
     &["delaunay", "mesh", "--workers", "-1"],
     &["delaunay", "mesh", "--workers", "1", "--workers", "1"],
     &["delaunay", "mesh", "--grid", "3"],
+    &["delaunay", "mesh", "shape"],
+    &["delaunay", "shape", "mesh"],
+    &["delaunay", "shapes"],
+    &["delaunay", "shape", "--workers", "2"],
+    &["delaunay", "shape", "--grid", "4"],
+    &["delaunay", "shape", "--order", "--order"],
     &["delaunay", "gen", "--count", "1"],
 ];
 

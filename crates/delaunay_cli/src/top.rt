@@ -9,12 +9,12 @@ ghost use Rattle.edit_files.specs.Grammar.{line_limit, IsFile};
 ghost use Rattle.delaunay_cli.specs.Statuses.{IsEarly, IsFaultLine, Tells, TellsFault};
 ghost use Rattle.delaunay_cli.specs.Run.{HasFault, IsJudged, Reads, Writes, WritesFront, IsSolidFile, history_of, input_limit};
 ghost use Rattle.delaunay_cli.specs.Endings.{line_of, status_of_words};
-ghost use Rattle.delaunay_cli.specs.Words.{AreMesh, AreMeshOrder, AreTaken, asks_order};
+ghost use Rattle.delaunay_cli.specs.Words.{AreMesh, AreMeshOrder, AreShape, AreShapeOrder, AreTaken, asks_order, asks_shape};
 
 use crate::mesh::mesh;
 use crate::outcome::Run;
 use crate::telling::{fault_line, plain_line};
-use crate::words::{WordsRefused, read_words};
+use crate::words::{Asked, WordsRefused, read_words};
 use byte_ends::{Reached, ReadError, Sink, Source, read_to_limit, write_all};
 use edit_files::{ReadRefused, read_file};
 use std::alloc::Global;
@@ -30,7 +30,7 @@ struct Ended {
 }
 
 // Judges the bytes of a file, and writes the report of its mesh.
-fn judge<O: Sink>(alloc: Global, bytes: &[u8], order: bool, out: &mut O) -> Ended
+fn judge<R, O: Sink>(rt: &R, alloc: Global, bytes: &[u8], asked: Asked, out: &mut O) -> Ended
     ensures statuses { IsJudged result.run.status }
     ensures bad { result.run.status ≢ 1 → (result.run.status ≡ 5 ↔ HasFault bytes.now) }
     ensures named { result.run.status ≡ 5 → IsSomeAnd result.bad_line (λ line. TellsFault bytes.now line.items) }
@@ -40,15 +40,15 @@ fn judge<O: Sink>(alloc: Global, bytes: &[u8], order: bool, out: &mut O) -> Ende
     ensures kept { (result.run.status ≡ 0) ⊎ (result.run.status ≡ 4) → (file : Content) → IsFile line_limit bytes.now file
         → result.run.kept.items ≡ history_of file }
     ensures none_kept { result.run.status ≢ 0 → result.run.status ≢ 4 → result.run.kept.items ≡ [] }
-    ensures written { result.run.status ≡ 0 → Writes order bytes.now (O.holds out.old) (O.holds out.new) result.run.kept.items }
-    ensures front { result.run.status ≡ 4 → WritesFront order bytes.now (O.holds out.old) (O.holds out.new) result.run.kept.items }
+    ensures written { result.run.status ≡ 0 → Writes asked.shape asked.order bytes.now (O.holds out.old) (O.holds out.new) result.run.kept.items }
+    ensures front { result.run.status ≡ 4 → WritesFront asked.shape asked.order bytes.now (O.holds out.old) (O.holds out.new) result.run.kept.items }
     ensures nothing { result.run.status ≢ 0 → result.run.status ≢ 4 → Keeps (O.holds out.old) (O.holds out.new) }
     ensures later { O.faults out.old ≤ O.faults out.new }
     ensures fault { result.run.status ≡ 4 → Rose (O.faults out.old) (O.faults out.new) }
 {
     match read_file(alloc, bytes) {
         Ok(file) => Ended {
-            run: mesh(alloc, &file, order, out),
+            run: mesh(rt, alloc, &file, asked, out),
             bad_line: None,
         },
         Err(ReadRefused::Memory) => Ended {
@@ -79,7 +79,13 @@ fn status_of(why: WordsRefused) -> u8
 }
 
 // Reads the source, and does what the words ask for.
-fn work<S: Source, O: Sink>(alloc: Global, words: &[String], src: &mut S, out: &mut O) -> Ended
+fn work<R, S: Source, O: Sink>(
+    rt: &R,
+    alloc: Global,
+    words: &[String],
+    src: &mut S,
+    out: &mut O,
+) -> Ended
     ensures statuses { result.run.status ≤ 7 }
     ensures usage { result.run.status ≢ 1 → (result.run.status ≡ 2 ↔ (AreTaken words.now → ⊥)) }
     ensures read_fault { result.run.status ≡ 3 → Rose (S.faults src.old) (S.faults src.new) }
@@ -99,9 +105,9 @@ fn work<S: Source, O: Sink>(alloc: Global, words: &[String], src: &mut S, out: &
         → result.run.kept.items ≡ history_of file) }
     ensures none_kept { result.run.status ≢ 0 → result.run.status ≢ 4 → result.run.kept.items ≡ [] }
     ensures written { result.run.status ≡ 0
-        → IfSome (S.left src.old) (λ bytes. Writes (asks_order words.now) bytes (O.holds out.old) (O.holds out.new) result.run.kept.items) }
+        → IfSome (S.left src.old) (λ bytes. Writes (asks_shape words.now) (asks_order words.now) bytes (O.holds out.old) (O.holds out.new) result.run.kept.items) }
     ensures front { result.run.status ≡ 4
-        → IfSome (S.left src.old) (λ bytes. WritesFront (asks_order words.now) bytes (O.holds out.old) (O.holds out.new) result.run.kept.items) }
+        → IfSome (S.left src.old) (λ bytes. WritesFront (asks_shape words.now) (asks_order words.now) bytes (O.holds out.old) (O.holds out.new) result.run.kept.items) }
     ensures nothing { result.run.status ≢ 0 → result.run.status ≢ 4 → Keeps (O.holds out.old) (O.holds out.new) }
     ensures reads { Reads (S.left src.old) (S.left src.new) result.run.status }
     ensures to_its_end { result.run.status ≡ 0 → IsAtEnd (S.left src.new) }
@@ -117,7 +123,7 @@ fn work<S: Source, O: Sink>(alloc: Global, words: &[String], src: &mut S, out: &
     };
     let mut bytes = Vec::new(alloc);
     let status = match read_to_limit(src, TOO_MANY, &mut bytes) {
-        Ok(Reached::End) => return judge(alloc, &bytes, asked.order, out),
+        Ok(Reached::End) => return judge(rt, alloc, &bytes, asked, out),
         Ok(Reached::Limit) => 7,
         Err(ReadError::Fault) => 3,
         Err(ReadError::Memory) => 1,
@@ -130,10 +136,11 @@ fn work<S: Source, O: Sink>(alloc: Global, words: &[String], src: &mut S, out: &
 
 /// Reads an edit file from `src`, writes the report of its mesh to `out`, and tells in one line on `err` what went wrong.
 ///
-/// `rt` is the runtime, and `words` are those of the command line: the program's name, and what `clap` takes for the one
-/// command `mesh` with `--workers 1` and `--order`.
+/// `rt` is the runtime, and `words` are those of the command line: the program's name, and what `clap` takes for the two
+/// commands `mesh` and `shape`, each with `--workers 1` and `--order`. With `shape` the report has a block for each radius of the
+/// file, in its order.
 pub fn run<R, S: Source, O: Sink, E: Sink>(
-    _rt: &R,
+    rt: &R,
     alloc: Global,
     words: &[String],
     src: &mut S,
@@ -154,9 +161,11 @@ pub fn run<R, S: Source, O: Sink, E: Sink>(
         → IfSome (S.left src.old) (λ bytes. (file : Content) → IsFile line_limit bytes file
         → (result.status ≡ 6 ↔ (is_solid file.points ≡ false))) }
 
-    // The words `mesh` alone are taken, and ask for no order block; with `--order` they ask for it.
-    ensures mesh { AreMesh words.now → AreTaken words.now × (asks_order words.now ≡ false) }
-    ensures mesh_order { AreMeshOrder words.now → AreTaken words.now × (asks_order words.now ≡ true) }
+    // The words `mesh` and `shape` alone are taken, and ask for no order block; with `--order` they ask for it.
+    ensures mesh { AreMesh words.now → AreTaken words.now × (asks_shape words.now ≡ false) × (asks_order words.now ≡ false) }
+    ensures mesh_order { AreMeshOrder words.now → AreTaken words.now × (asks_shape words.now ≡ false) × (asks_order words.now ≡ true) }
+    ensures shape { AreShape words.now → AreTaken words.now × (asks_shape words.now ≡ true) × (asks_order words.now ≡ false) }
+    ensures shape_order { AreShapeOrder words.now → AreTaken words.now × (asks_shape words.now ≡ true) × (asks_order words.now ≡ true) }
 
     // What is kept, read, written and told.
     ensures kept { (result.status ≡ 0) ⊎ (result.status ≡ 4)
@@ -164,9 +173,9 @@ pub fn run<R, S: Source, O: Sink, E: Sink>(
         → result.kept.items ≡ history_of file) }
     ensures none_kept { result.status ≢ 0 → result.status ≢ 4 → result.kept.items ≡ [] }
     ensures written { result.status ≡ 0
-        → IfSome (S.left src.old) (λ bytes. Writes (asks_order words.now) bytes (O.holds out.old) (O.holds out.new) result.kept.items) }
+        → IfSome (S.left src.old) (λ bytes. Writes (asks_shape words.now) (asks_order words.now) bytes (O.holds out.old) (O.holds out.new) result.kept.items) }
     ensures front { result.status ≡ 4
-        → IfSome (S.left src.old) (λ bytes. WritesFront (asks_order words.now) bytes (O.holds out.old) (O.holds out.new) result.kept.items) }
+        → IfSome (S.left src.old) (λ bytes. WritesFront (asks_shape words.now) (asks_order words.now) bytes (O.holds out.old) (O.holds out.new) result.kept.items) }
     ensures nothing { result.status ≢ 0 → result.status ≢ 4 → Keeps (O.holds out.old) (O.holds out.new) }
     ensures reads { Reads (S.left src.old) (S.left src.new) result.status }
     ensures to_its_end { result.status ≡ 0 → IsAtEnd (S.left src.new) }
@@ -178,7 +187,7 @@ pub fn run<R, S: Source, O: Sink, E: Sink>(
         → (Rose (S.faults src.old) (S.faults src.new) → ⊥) → (Rose (O.faults out.old) (O.faults out.new) → ⊥)
         → (result.status ≡ 0) ⊎ (result.status ≡ 1)) }
 {
-    let ended = work(alloc, words, src, out);
+    let ended = work(rt, alloc, words, src, out);
     tell(err, &ended);
     let Run { status, kept } = ended.run;
     Run { status, kept }

@@ -1,9 +1,20 @@
 -- A report as its text sees it.
-use Rattle.std.specs.Prelude.{ℕ, List, map, Option, Vec}
+use Rattle.std.specs.Prelude.{ℕ, List, map, Vec}
 use Rattle.std.specs.Option.{option_map}
 use Rattle.std.specs.declared.alloc.Global.{Global}
 use Rattle.mesh_files.specs.declared.report.Report.{Report}
-use Rattle.mesh_files.specs.Text.{ReportParts}
+use Rattle.point_order.specs.Sets.{IsIn, IsAscending}
+use Rattle.alpha_complex.specs.declared.shape.Shape.{Shape}
+use Rattle.alpha_complex.specs.Shapes.{ShapeParts, shape_seen}
+use Rattle.mesh_files.specs.Text.{ReportParts, counted}
+
+-- shapes, each behind its radius
+abbrev pub shapes_seen : List (ℕ × Shape) → List (ℕ × ShapeParts)
+shapes_seen shapes = map (λ s. (s.0, shape_seen s.1)) shapes
+
+-- the points by which each of the shapes counts ascend
+pub record AreCounted (shapes : List (ℕ × ShapeParts)) : Type 0 where
+  pub ascending : (s : ℕ × ShapeParts) → IsIn s shapes → IsAscending (counted s.1)
 
 abbrev pub parts_of : Report → ReportParts
 parts_of r =
@@ -11,5 +22,6 @@ parts_of r =
       replies = r.replies.items;
       points = r.points.items;
       cells = r.cells.items;
+      shapes = shapes_seen r.shapes.items;
       order = option_map (λ (tags : Vec ℕ Global). tags.items) r.order;
     }

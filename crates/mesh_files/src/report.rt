@@ -1,4 +1,4 @@
-//! The report of a mesh: replies, points, cells, hull and order.
+//! The report of a mesh: replies, points, cells, hull, shapes and order.
 
 ghost use Rattle.std.specs.Prelude.{◌≡◌, ◌≤◌, IsTrue, List, ℕ, [], ◌∷◌, ◌++◌, codes, map, length, IfOk, OnOk};
 ghost use Rattle.std.specs.List.{concat};
@@ -6,13 +6,16 @@ ghost use Rattle.point_order.specs.Sets.{IsAscending};
 ghost use Rattle.std.specs.Io.KnownBytes.{Appends, Keeps};
 ghost use Rattle.byte_ends.specs.Ends.{AppendsFront, Rose};
 ghost use Rattle.mesh_files.specs.Lines.{block, numbers_line};
-ghost use Rattle.mesh_files.specs.Report.{parts_of};
-ghost use Rattle.mesh_files.specs.Text.{reply_line, reply_word, point_line, index_of, indices_line, full_corners, hull_corners, tag_line, order_block, report_text};
+ghost use Rattle.mesh_files.specs.Report.{AreCounted, parts_of, shapes_seen};
+ghost use Rattle.mesh_files.specs.Text.{reply_line, reply_word, point_line, indices_line, full_corners, hull_corners, tag_line, order_block, report_text};
 
-use crate::lines::{put_four, put_number, put_three, put_title};
+use crate::indices::{put_full_line, put_hull_line};
+use crate::lines::{put_number, put_three, put_title};
+use crate::shapes::put_shapes;
+use alpha_complex::Shape;
 use byte_ends::{Failed, Sink, write_all};
 use edit_history::Reply;
-use point_order::{Cell, Point, Quad, Tri};
+use point_order::{Cell, Point};
 use std::alloc::{AllocError, Global};
 
 /// What a report tells.
@@ -24,6 +27,8 @@ pub struct Report {
     pub points: Vec<Point>,
     /// The cells of the mesh in their order, Full cells first.
     pub cells: Vec<Cell>,
+    /// The radii in their order, each with its alpha complex.
+    pub shapes: Vec<(u64, Shape)>,
     /// The tags of the history, in its order, where they are asked for.
     pub order: Option<Vec<u32>>,
 }
@@ -81,37 +86,6 @@ fn put_points(text: &mut Vec<u8>, points: &[Point]) -> Result<(), AllocError>
         put_point(text, *point)?;
     }
     Ok(())
-}
-
-// The index of a point of an ascending list.
-fn index(points: &[Point], point: Point) -> u64
-    requires { IsAscending points.now }
-    ensures { result ≡ index_of points.now point }
-{
-    let key = point.key();
-    points.partition_point(|q| q.key() < key) as u64
-}
-
-fn put_full_line(text: &mut Vec<u8>, points: &[Point], quad: Quad) -> Result<(), AllocError>
-    requires { IsAscending points.now }
-    ensures { OnOk result (text.new.items ≡ text.old.items ++ indices_line points.now quad) }
-{
-    let (a, b, c, d) = quad.corners();
-    put_four(
-        text,
-        index(points, a),
-        index(points, b),
-        index(points, c),
-        index(points, d),
-    )
-}
-
-fn put_hull_line(text: &mut Vec<u8>, points: &[Point], tri: Tri) -> Result<(), AllocError>
-    requires { IsAscending points.now }
-    ensures { OnOk result (text.new.items ≡ text.old.items ++ indices_line points.now tri) }
-{
-    let (a, b, c) = tri.corners();
-    put_three(text, index(points, a), index(points, b), index(points, c))
 }
 
 // How many cells are Full.
@@ -184,13 +158,15 @@ fn put_tags(text: &mut Vec<u8>, tags: &[u32]) -> Result<(), AllocError>
     Ok(())
 }
 
-/// The text of the report: its replies, points, cells, hull and order, one block after another, each line with a line
-/// feed. Cells are written by the indices of their points, counted from 0 in the list of points.
+/// The text of the report: its replies, points, cells, hull, shapes and order, one block after another, each line with a
+/// line feed. Cells are written by the indices of their points, counted from 0 in the list of points, and the faces of a
+/// shape by those of its own points.
 ///
 /// # Errors
 /// `AllocError` where there is no memory for the text.
 pub fn mesh_text(alloc: Global, report: &Report) -> Result<Vec<u8>, AllocError>
-    requires { IsAscending report.now.points.items }
+    requires points { IsAscending report.now.points.items }
+    requires shapes { AreCounted (shapes_seen report.now.shapes.items) }
     ensures { IfOk result (λ text. text.items ≡ report_text (parts_of report.now)) }
 {
     let mut text = Vec::from_slice(alloc, b"mesh3-out 1\n")?;
@@ -198,6 +174,7 @@ pub fn mesh_text(alloc: Global, report: &Report) -> Result<Vec<u8>, AllocError>
     put_points(&mut text, &report.points)?;
     put_cells(&mut text, &report.points, &report.cells)?;
     put_hull(&mut text, &report.points, &report.cells)?;
+    put_shapes(alloc, &mut text, &report.shapes)?;
     if let Some(tags) = &report.order {
         put_tags(&mut text, tags)?;
     }
@@ -211,7 +188,8 @@ pub fn mesh_text(alloc: Global, report: &Report) -> Result<Vec<u8>, AllocError>
 /// `Failed` where the sink failed, and then a front of the text was written; `Memory` where there was no memory for the
 /// text, and then nothing was written.
 pub fn put_report<O: Sink>(alloc: Global, out: &mut O, report: &Report) -> Result<(), Put>
-    requires { IsAscending report.now.points.items }
+    requires points { IsAscending report.now.points.items }
+    requires shapes { AreCounted (shapes_seen report.now.shapes.items) }
     ensures whole { OnOk result (Appends (O.holds out.old) (O.holds out.new) (report_text (parts_of report.now))) }
     ensures front { AppendsFront (O.holds out.old) (O.holds out.new) (report_text (parts_of report.now)) }
     ensures later { O.faults out.old ≤ O.faults out.new }
@@ -263,6 +241,7 @@ mod tests {
             replies: Vec::from_slice(alloc, replies)?,
             points: Vec::from_slice(alloc, &[a, b, c, d])?,
             cells: Vec::from_slice(alloc, &cells)?,
+            shapes: Vec::new(alloc),
             order,
         })
     }
@@ -274,6 +253,12 @@ mod tests {
             [a, b, c, d] => a < b && b < c && c < d,
             _ => false,
         }
+    }
+
+    fn has_none(shapes: &[(u64, Shape)]) -> bool
+        ensures { IsTrue result → AreCounted (shapes_seen shapes.now) }
+    {
+        shapes.is_empty()
     }
 
     #[test]
@@ -292,6 +277,7 @@ mod tests {
         let ordered = tetrahedron(&rt, alloc, &words, Some(tags))?;
         for (report, text) in [(&plain, TETRAHEDRON), (&ordered, EVERY_WORD)] {
             assert!(rt; is_ascending(&report.points));
+            assert!(rt; has_none(&report.shapes));
             assert_eq!(rt; mesh_text(alloc, report)?.as_slice(), text.as_bytes());
             let mut sink = MemSink::new(alloc, 1000, 7, &[])?;
             assert_eq!(rt; put_report(alloc, &mut sink, report), Ok(()));

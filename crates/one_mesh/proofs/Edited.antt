@@ -1,5 +1,5 @@
 -- What edits make of a mesh.
-use Rattle.std.specs.Prelude.{◌≡◌, refl, ℕ, ◌<◌, ◌^◌, min, ◌-◌, ◌+◌, true, false, Bool, cond, List, [], ◌∷◌, ◌++◌, length, IsSome}
+use Rattle.std.specs.Prelude.{◌≡◌, refl, ℕ, true, false, Bool, cond, List, [], ◌∷◌, ◌++◌, length, Option, None, Some, IsSome, MatchOption}
 use Rattle.std.proofs.Common.{ap, sym, subst, ◌∙◌, arith}
 use Rattle.point_order.specs.Complex.{complex}
 use Rattle.point_order.specs.Sets.{IsIn, is_among, without_point}
@@ -9,7 +9,7 @@ use Rattle.edit_history.specs.declared.history.Edit.TheVariants.{Add, Take}
 use Rattle.edit_history.specs.declared.history.Entry.{Entry}
 use Rattle.edit_history.specs.declared.history.Reply.{Reply}
 use Rattle.edit_history.specs.declared.history.Reply.TheVariants.{Inserted, Duplicate, Removed, Missing, Flat}
-use Rattle.edit_history.specs.Edits.{reply_to, after, changed, point_of}
+use Rattle.edit_history.specs.Edits.{reply_to, changed, point_of}
 use Rattle.edit_history.specs.Histories.{replay}
 use Rattle.del_laws.specs.Keys.{AreKeys}
 use Rattle.del_laws.proofs.Tests.{among_true, among_from}
@@ -21,7 +21,12 @@ use Rattle.cell_store.specs.Shares.{Stands}
 use Rattle.cavity.specs.Growing.{IsInsertion}
 use Rattle.cavity.proofs.MeshGrowth.{held, not_held}
 use Rattle.cavity.proofs.NextEntry.{legal_more, replay_more}
-use Rattle.one_mesh.specs.Applied.{HasFewEntries, IsNumbered, IsApplied, IsQuiet, next_entry}
+use Rattle.point_order.specs.declared.cell.Cell.{Cell}
+use Rattle.cavity.proofs.Standing.{solid_set}
+use Rattle.cavity.specs.declared.fill_hole.Fresh.{Fresh}
+use Rattle.vertex_removal.specs.Refills.{IsRefilled}
+use Rattle.vertex_removal.proofs.NextEntry.{removal_is_next}
+use Rattle.one_mesh.specs.Applied.{HasFewEntries, IsNumbered, IsApplied, IsQuiet}
 
 -- the count is the next number
 pub numbered : (m : InHand) (n : ℕ) → IsCountOf m n → HasFewEntries m → IsNumbered m n
@@ -91,3 +96,15 @@ quiet h n tag edit reply e k r c is = subst (IsQuiet h) (sym is) (record { numbe
 -- an insertion
 pub insertion : (h : List Entry) (n tag p : ℕ) (e : Entry) → n ≡ length h → is_among p (replay h) ≡ false → e ≡ record { number = n; by = 0; tag = tag; edit = Add p; reply = Inserted } → IsInsertion h e
 insertion h n tag p e k a is = subst (IsInsertion h) (sym is) (record { edit = refl; absent = λ i. (let t = among_true p (replay h) i in cc (t, a)); number = k; reply = refl })
+
+-- a removal is the next entry
+pub removal_next : (m : InHand) (h : List Entry) (n tag v : ℕ) (e : Entry) (gone fresh : List Cell) → Stands m h → IsIn v (replay h) → n ≡ length h → e ≡ record { number = n; by = 0; tag = tag; edit = Take v; reply = Removed } → IsRefilled (replay h) v gone fresh → IsNext h e gone fresh
+removal_next m h n tag v e gone fresh st i k is f =
+    subst (λ (x : Entry). IsNext h x gone fresh) (sym is) (removal_is_next h (record { number = n; by = 0; tag = tag; edit = Take v; reply = Removed }) v gone fresh st.legal (solid_set m h st) i refl k refl f)
+
+-- what is found of a removal
+pub some_refilled : (s : List ℕ) (v : ℕ) (o : Option Fresh) (f : Fresh) → o ≡ Some f → MatchOption o (is_solid (without_point v s) ≡ false) (λ f. IsRefilled s v f.gone.items f.fresh.items) → IsRefilled s v f.gone.items f.fresh.items
+some_refilled s v o f e m = subst (λ (o : Option Fresh). MatchOption o (is_solid (without_point v s) ≡ false) (λ f. IsRefilled s v f.gone.items f.fresh.items)) e m
+
+pub none_refilled : (s : List ℕ) (v : ℕ) (o : Option Fresh) → o ≡ None → MatchOption o (is_solid (without_point v s) ≡ false) (λ f. IsRefilled s v f.gone.items f.fresh.items) → is_solid (without_point v s) ≡ false
+none_refilled s v o e m = subst (λ (o : Option Fresh). MatchOption o (is_solid (without_point v s) ≡ false) (λ f. IsRefilled s v f.gone.items f.fresh.items)) e m

@@ -1,17 +1,26 @@
 -- Lists that are gathered bucket by bucket.
-use Rattle.std.specs.Prelude.{◌≡◌, refl, ℕ, zero, suc, ◌+◌, ◌*◌, ◌<◌, ◌≤◌, List, [], ◌∷◌, ◌++◌, length, take, Option, None, Some, IsPermutation, slice_index_or}
+use Rattle.std.specs.Prelude.{◌≡◌, refl, ℕ, zero, suc, ◌+◌, ◌*◌, ◌<◌, ◌≤◌, ◌==◌, ◌↔◌, true, List, [], ◌∷◌, ◌++◌, length, take, Option, None, Some, slice_index_or}
 use Rattle.std.specs.List.{flat_map}
 use Rattle.std.specs.Option.{option_map_or}
 use Rattle.std.proofs.Common.{ap, sym, subst, ◌∙◌, arith, inl, inr}
 use Rattle.std.proofs.lemmas.List.{take_all}
 use Rattle.std.proofs.lemmas.List.Sorted.{IsPermutation-sym}
 use Rattle.point_order.specs.declared.cell.Cell.{Cell}
-use Rattle.point_order.specs.Sets.{IsIn}
+use Rattle.point_order.specs.Sets.{IsIn, IsAscending}
 use Rattle.del_laws.proofs.Listed.{in_left, in_right, from_append}
 use Rattle.cell_store.specs.Buckets.{Content, InHand, bucket_at}
 use Rattle.cell_store.specs.Meshes.{IsMesh}
 use Rattle.cell_store.specs.Swaps.{AreSameCells}
-use Rattle.cell_store.proofs.MeshLaws.{in_moved}
+use Rattle.std.proofs.lemmas.Bool.Decides.{nat_tests}
+use Rattle.point_order.proofs.SetLaws.{same-members}
+use Rattle.edit_history.specs.declared.history.Entry.{Entry}
+use Rattle.edit_history.specs.Histories.{replay}
+use Rattle.del_laws.proofs.Tests.{filtered_true, filtered_from}
+use Rattle.cell_store.specs.Grids.{bucket_of}
+use Rattle.cell_store.specs.Shares.{Stands}
+use Rattle.cell_store.proofs.GridLaws.{bucket-below}
+use Rattle.cell_store.proofs.ShareLaws.{ascending_replay}
+use Rattle.cell_store.proofs.MeshLaws.{in_moved, in_flat, flat_from, some_of, point_held}
 use Rattle.one_mesh.specs.Gathered.{HasMore}
 
 -- one more list
@@ -73,3 +82,34 @@ nothing_more (x ∷ a) = ap (λ m. x ∷ m) (nothing_more a)
 -- how many places there are
 pub places_of : (m hold : InHand) (g count : ℕ) → hold ≡ m → IsMesh m → g ≡ hold.grid → count ≡ g * g * g → length m.places ≡ count
 places_of m hold g count e i k c = i.has.places ∙ ap (λ (v : ℕ). v * v * v) (ap (λ (x : InHand). x.grid) (sym e) ∙ sym k) ∙ sym c
+
+-- the points of a bucket
+abbrev pub points_of_bucket : Option Content → List ℕ
+points_of_bucket o = option_map_or (λ c. c.points) o []
+
+-- the points of all buckets are those that the history leaves
+pub points_are : (m : InHand) (h : List Entry) → IsMesh m → Stands m h → (p : ℕ) → IsIn p (flat_map points_of_bucket m.places) ↔ IsIn p (replay h)
+points_are m h i st p = (forth, back)
+  where
+    known : (b : ℕ) (o : Option Content) → bucket_at m.places b ≡ o → IsIn p (points_of_bucket o) → IsIn p (replay h)
+    known b None e k = absurd k
+    known b (Some x) e k = (filtered_from (λ q. bucket_of m.grid q == b) (replay h) p (subst (λ (l : List ℕ). IsIn p l) ((st.shares b x e).points) k)).0
+
+    forth : IsIn p (flat_map points_of_bucket m.places) → IsIn p (replay h)
+    forth k = let r = flat_from points_of_bucket m.places None p k in known r.0 (bucket_at m.places r.0) refl r.1
+
+    back : IsIn p (replay h) → IsIn p (flat_map points_of_bucket m.places)
+    back k =
+        let b = bucket_of m.grid p in
+        let x = some_of (bucket_at m.places b) (point_held m p i.has i.all) in
+        let j = filtered_true (λ q. bucket_of m.grid q == b) (replay h) p k (same b) in
+        in_flat points_of_bucket m.places b None p (subst (λ n. b < n) (sym i.has.places) (bucket-below m.grid p i.has.size))
+        (subst (λ o. IsIn p (points_of_bucket o)) (sym x.1) (subst (λ (l : List ℕ). IsIn p l) (sym (st.shares b x.0 x.1).points) j))
+      where
+        same : (b : ℕ) → (b == b) ≡ true
+        same b = grind (arith, nat_tests)
+
+-- in order they are the set
+pub points_in : (m : InHand) (h : List Entry) (points : List ℕ) → IsMesh m → Stands m h → IsAscending points → ((p : ℕ) → IsIn p (flat_map points_of_bucket m.places) ↔ IsIn p points) → points ≡ replay h
+points_in m h points i st a s =
+    same-members points (replay h) a (ascending_replay h) (λ p k. (points_are m h i st p).0 ((s p).1 k)) (λ p k. (s p).0 ((points_are m h i st p).1 k))

@@ -79,7 +79,8 @@ fn note(alloc: Global, mesh: &mut Mesh, entry: Entry) -> Result<(), AllocError>
     ensures grid { mesh.new.grid ≡ mesh.old.grid }
 {
     let none: [Cell; 0] = [];
-    change(alloc, mesh, &none, &none, entry)
+    change(alloc, mesh, &none, &none, entry)?;
+    Ok(())
 }
 
 // Whether the point is one of those that the mesh's history leaves.
@@ -142,7 +143,8 @@ fn take_there(
 {
     match refilled(alloc, mesh, v)? {
         Some(f) => {
-            change(alloc, mesh, &f.gone, &f.fresh, entry_of(number, tag, Edit::Take(v), Reply::Removed))?;
+            let entry = entry_of(number, tag, Edit::Take(v), Reply::Removed);
+            change(alloc, mesh, &f.gone, &f.fresh, entry)?;
             Ok(Reply::Removed)
         }
         None => {
@@ -166,7 +168,8 @@ fn take(
     ensures grid { mesh.new.grid ≡ mesh.old.grid }
 {
     if has_point(mesh, v) {
-        take_there(alloc, mesh, number, tag, v)
+        let reply = take_there(alloc, mesh, number, tag, v)?;
+        Ok(reply)
     } else {
         note(alloc, mesh, entry_of(number, tag, Edit::Take(v), Reply::Missing))?;
         Ok(Reply::Missing)

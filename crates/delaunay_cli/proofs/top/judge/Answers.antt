@@ -3,12 +3,15 @@ use Rattle.point_order.specs.Solid.{is_solid}
 use Rattle.edit_files.specs.Content.{Content, content}
 use Rattle.edit_files.specs.Grammar.{line_limit}
 use Rattle.delaunay_cli.specs.Run.{history_of}
-use Rattle.delaunay_cli.proofs.Judging.{file-small, no-fault, each-file}
+use Rattle.delaunay_cli.proofs.Judging.{file-small, radii-small, no-fault, each-file}
 use Rattle.edit_files.proofs.Judged.{no_fault_of}
 use Rattle.delaunay_cli.proofs.top.judge.Goals as goal
 
-pub mesh-requires : goal.mesh-requires
-mesh-requires g c = omega (arith, file-small line_limit c.args.bytes.now (content c.in-Ok.file) c.in-Ok.ensures.accepted)
+pub mesh-requires-clause-lines : goal.mesh-requires-clause-lines
+mesh-requires-clause-lines g c = omega (arith, file-small line_limit c.args.bytes.now (content c.in-Ok.file) c.in-Ok.ensures.accepted)
+
+pub mesh-requires-clause-radii : goal.mesh-requires-clause-radii
+mesh-requires-clause-radii g c = radii-small line_limit c.args.bytes.now (content c.in-Ok.file) c.in-Ok.ensures.accepted
 
 pub returns-in-Ok-clause-bad : goal.returns-in-Ok-clause-bad
 returns-in-Ok-clause-bad g c =

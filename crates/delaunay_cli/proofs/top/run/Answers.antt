@@ -2,7 +2,7 @@ use Rattle.std.proofs.Common.{arith}
 use Rattle.delaunay_cli.proofs.Judging.{completes, told-line}
 use Rattle.delaunay_cli.specs.Endings.{line_of}
 use Rattle.delaunay_cli.specs.Words.{AreTaken}
-use Rattle.delaunay_cli.proofs.CommandLine.{mesh-words, mesh_order-words}
+use Rattle.delaunay_cli.proofs.CommandLine.{mesh-words, mesh_order-words, shape-words, shape_order-words}
 use Rattle.byte_ends.specs.Ends.{Rose}
 use Rattle.delaunay_cli.proofs.top.run.Goals as goal
 
@@ -28,3 +28,9 @@ returns-clause-mesh g c = mesh-words c.args.words.now
 
 pub returns-clause-mesh_order : goal.returns-clause-mesh_order
 returns-clause-mesh_order g c = mesh_order-words c.args.words.now
+
+pub returns-clause-shape : goal.returns-clause-shape
+returns-clause-shape g c = shape-words c.args.words.now
+
+pub returns-clause-shape_order : goal.returns-clause-shape_order
+returns-clause-shape_order g c = shape_order-words c.args.words.now

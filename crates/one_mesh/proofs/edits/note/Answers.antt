@@ -1,15 +1,8 @@
-use Rattle.std.proofs.Common.{subst, sym}
-use Rattle.cell_store.specs.Buckets.{InHand}
-use Rattle.cell_store.specs.Shares.{Stands}
-use Rattle.cavity.proofs.MeshGrowth.{stands_with_room}
 use Rattle.one_mesh.proofs.Edited.{quiet_next}
 use Rattle.one_mesh.proofs.edits.note.Goals as goal
 
-pub change-requires-clause-next : goal.change-requires-clause-next
-change-requires-clause-next c =
-    let r = c.requires in
-    (r.0, subst (λ (m : InHand). Stands m r.0) (sym c.in_ok-reserve.ensures.ok) (stands_with_room c.args.mesh.now _ r.0 r.1), quiet_next c.args.mesh.now r.0 c.args.entry r.1 r.2)
+pub change-requires : goal.change-requires
+change-requires c = let r = c.requires in (r.0, r.1, quiet_next c.args.mesh.now r.0 c.args.entry r.1 r.2)
 
 pub returns-clause-stands : goal.returns-clause-stands
-returns-clause-stands c h st q =
-    c.change.ensures.stands h (subst (λ (m : InHand). Stands m h) (sym c.in_ok-reserve.ensures.ok) (stands_with_room c.args.mesh.now _ h st)) (quiet_next c.args.mesh.now h c.args.entry st q)
+returns-clause-stands c h st q = c.in_ok-change.ensures.stands h st (quiet_next c.args.mesh.now h c.args.entry st q)

@@ -1,4 +1,4 @@
-use Rattle.std.proofs.Common.{subst, sym, ap, ◌∙◌, ℕ, length, ◌<◌, ◌≤◌}
+use Rattle.std.proofs.Common.{subst, sym, ap, ◌∙◌, ℕ, ◌<◌, ◌≤◌}
 use Rattle.cell_store.specs.Buckets.{InHand, bucket_at}
 use Rattle.one_mesh.proofs.Gathering.{same_next, same_all, places_of}
 use Rattle.one_mesh.proofs.lists.all_cells_of.Goals as goal

@@ -1,4 +1,4 @@
-use Rattle.std.proofs.Common.{◌≡◌, take, [], List}
+use Rattle.std.proofs.Common.{◌≡◌, take, []}
 use Rattle.std.specs.List.{flat_map}
 use Rattle.std.specs.Option.{option_map_or}
 use Rattle.one_mesh.proofs.lists.all_entries_of.Given as goal

@@ -1,4 +1,3 @@
-use Rattle.std.proofs.Common.{sym, ◌∙◌}
 use Rattle.cell_store.proofs.MeshLaws.{mesh_gathers_cells}
 use Rattle.one_mesh.proofs.lists.complex.Goals as goal
 

@@ -2,7 +2,7 @@ use Rattle.std.proofs.Common.{sym, ℕ, ◌≡◌, rules}
 use Rattle.std.specs.Prelude.{nat_lt}
 use Rattle.std.proofs.lemmas.List.Sorted.{IsPartitionPoint-from_clause}
 use Rattle.mesh_files.proofs.Places.{prefix-is, below-front}
-use Rattle.mesh_files.proofs.report.index.Goals as goal
+use Rattle.mesh_files.proofs.indices.index.Goals as goal
 
 pub returns : goal.returns
 returns c =

@@ -1,0 +1,98 @@
+-- The faces that are Gabriel and within alpha, as they are judged by their links and searched in lists.
+use Rattle.std.proofs.Common.{◌≡◌, refl, sym, subst, ap, ◌∙◌, ℕ, inl, inr, Bool, true, false, List, [], ◌∷◌, map}
+use Rattle.std.specs.Prelude.{◌&&◌}
+use Rattle.std.specs.List.{filter, list_all, list_any}
+use Rattle.std.specs.List.Sorted.{IsStrictlySortedBy}
+use Rattle.std.specs.Ordering.{nat_cmp, is_eq}
+use Rattle.std.specs.Cmp.Lexicographic.{slice_cmp}
+use Rattle.std.proofs.lemmas.List.Kept.{IsStrictlySortedBy-filter}
+use Rattle.std.proofs.lemmas.Map.Text.{is_eq-slice_cmp}
+use Rattle.std.proofs.lemmas.Slice.Eq.{bytes_eq-Decides}
+use Rattle.point_order.specs.declared.cell.Cell.{Cell}
+use Rattle.point_order.specs.Complex.{complex}
+use Rattle.point_order.specs.Sets.{IsIn, IsAscending}
+use Rattle.del_laws.specs.Keys.{AreKeys}
+use Rattle.del_laws.proofs.Tests.{any_from, any_true}
+use Rattle.face_list.specs.Faces.{full_cells, parts_in, cells_with, with_cells}
+use Rattle.face_list.proofs.FaceLaws.{parts_in_order}
+use Rattle.face_list.proofs.FullCells.{full_cells_of_complex}
+use Rattle.gabriel_faces.specs.Links.{link_of}
+use Rattle.gabriel_faces.proofs.JudgedByLink.{judged_by_link}
+use Rattle.gabriel_faces.proofs.Links.{listed_is_face, link_is_link}
+use Rattle.alpha_complex.specs.Admitted.{is_within, is_small}
+use Rattle.alpha_complex.specs.Judged.{is_listed, is_small_by, small_among}
+
+-- ---- lists
+
+-- tests that answer alike at the members of a list keep the same of them
+pub filter_same : {X : Type 0} (p q : X → Bool) (xs : List X) → ((x : X) → IsIn x xs → p x ≡ q x) → filter p xs ≡ filter q xs
+filter_same p q [] f = refl
+filter_same {X} p q (x ∷ xs) f = by_test (p x) refl (filter_same p q xs (λ y i. f y (inr i)))
+  where
+    -- kept or not
+    by_test : (b : Bool) → p x ≡ b → filter p xs ≡ filter q xs → filter p (x ∷ xs) ≡ filter q (x ∷ xs)
+    by_test true e r = (let g : q x ≡ true = sym (f x (inl refl)) ∙ e in rw (e, g) (ap (λ l. x ∷ l) r))
+    by_test false e r = (let g : q x ≡ false = sym (f x (inl refl)) ∙ e in rw (e, g) r)
+
+-- and pass all alike
+pub all_same : {X : Type 0} (p q : X → Bool) (xs : List X) → ((x : X) → IsIn x xs → p x ≡ q x) → list_all p xs ≡ list_all q xs
+all_same p q [] f = refl
+all_same p q (x ∷ xs) f = (
+    let e : p x ≡ q x = f x (inl refl) in
+    let r : list_all p xs ≡ list_all q xs = all_same p q xs (λ y i. f y (inr i)) in
+    rw (e, r) refl)
+
+-- and some
+pub any_same : {X : Type 0} (p q : X → Bool) (xs : List X) → ((x : X) → IsIn x xs → p x ≡ q x) → list_any p xs ≡ list_any q xs
+any_same p q [] f = refl
+any_same p q (x ∷ xs) f = (
+    let e : p x ≡ q x = f x (inl refl) in
+    let r : list_any p xs ≡ list_any q xs = any_same p q xs (λ y i. f y (inr i)) in
+    rw (e, r) refl)
+
+-- what is kept of a list is put beside its cells alike
+firsts_kept : (t : List ℕ × List Cell → Bool) (g : List ℕ → List Cell) (ps : List (List ℕ)) → map (λ f. f.0) (filter t (map (λ p. (p, g p)) ps)) ≡ filter (λ p. t (p, g p)) ps
+firsts_kept t g [] = refl
+firsts_kept t g (p ∷ ps) = by_test (t (p, g p)) refl (firsts_kept t g ps)
+  where
+    -- kept or not
+    by_test : (b : Bool) → t (p, g p) ≡ b → map (λ f. f.0) (filter t (map (λ p. (p, g p)) ps)) ≡ filter (λ p. t (p, g p)) ps → map (λ f. f.0) (filter t (map (λ p. (p, g p)) (p ∷ ps))) ≡ filter (λ p. t (p, g p)) (p ∷ ps)
+    by_test true e r = rw e (ap (λ l. p ∷ l) r)
+    by_test false e r = rw e r
+
+-- ---- searches
+
+-- points that are told to be listed are
+pub listed_from : (list : List (List ℕ)) (p : List ℕ) → is_listed list p ≡ true → IsIn p list
+listed_from list p t = (
+    let r = any_from (λ q. is_eq (slice_cmp nat_cmp q p)) list t in
+    let e : r.0 ≡ p = (bytes_eq-Decides r.0 p).0 (sym (is_eq-slice_cmp r.0 p) ∙ r.2) in
+    subst (λ (v : List ℕ). IsIn v list) e r.1)
+
+-- and back
+pub listed_true : (list : List (List ℕ)) (p : List ℕ) → IsIn p list → is_listed list p ≡ true
+listed_true list p i = any_true (λ q. is_eq (slice_cmp nat_cmp q p)) list p i (is_eq-slice_cmp p p ∙ (bytes_eq-Decides p p).1 refl)
+
+-- ---- Full cells
+
+-- the cells within alpha are in order
+pub small_cells_in_order : (s : List ℕ) (alpha : ℕ) → IsAscending s → IsStrictlySortedBy (slice_cmp nat_cmp) (filter (is_within alpha) (full_cells (complex s)))
+small_cells_in_order s alpha a = IsStrictlySortedBy-filter (slice_cmp nat_cmp) (is_within alpha) (full_cells (complex s)) (full_cells_of_complex s a)
+
+-- ---- faces beside their cells
+
+-- the small ones among faces beside their cells
+pub small_are : (alpha : ℕ) (faces : List (List ℕ)) (cells : List Cell) → small_among alpha (with_cells faces cells) ≡ filter (λ p. is_small_by alpha (p, cells_with p cells)) faces
+small_are alpha faces cells = firsts_kept (is_small_by alpha) (λ p. cells_with p cells) faces
+
+-- those of k points are in order
+pub small_in_order : (alpha k : ℕ) (cells : List Cell) → IsStrictlySortedBy (slice_cmp nat_cmp) (small_among alpha (with_cells (parts_in k cells) cells))
+small_in_order alpha k cells = (
+    let t = λ (p : List ℕ). is_small_by alpha (p, cells_with p cells) in
+    rw (small_are alpha (parts_in k cells) cells)
+    (IsStrictlySortedBy-filter (slice_cmp nat_cmp) t (parts_in k cells) (parts_in_order k cells)))
+
+-- a listed face is small by its link where it is in the set
+pub small_by_link : (s : List ℕ) (alpha k : ℕ) (p : List ℕ) → IsAscending s → AreKeys s → IsIn p (parts_in k (complex s)) → is_small_by alpha (p, cells_with p (complex s)) ≡ is_small s alpha p
+small_by_link s alpha k p a keys i =
+    ap (λ b. b && is_within alpha p) (judged_by_link s p (link_of p (cells_with p (complex s))) a keys (listed_is_face s k p a i) (link_is_link s p))

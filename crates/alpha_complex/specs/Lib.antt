@@ -1,0 +1,5 @@
+pub mod Admitted
+pub mod Shapes
+pub mod Condition
+pub mod Judged
+pub mod Laws

@@ -1,0 +1,118 @@
+//! Which faces are Gabriel and within alpha, by the cells that contain them.
+
+ghost use Rattle.std.specs.Prelude.{◌≡◌, ◌∷◌, ◌++◌, [], ◌<◌, ◌^◌, not, length, IfOk, OnOk};
+ghost use Rattle.std.specs.List.{filter};
+ghost use Rattle.point_order.specs.Sets.{is_among};
+ghost use Rattle.gabriel_faces.specs.Links.{link_of};
+ghost use Rattle.face_list.specs.Seen.{triples_seen};
+ghost use Rattle.alpha_complex.specs.Admitted.{is_within};
+ghost use Rattle.alpha_complex.specs.Judged.{is_small_by, small_among};
+
+use face_list::{PairFace, TriFace};
+use gabriel_faces::{gabriel_edge, gabriel_triangle};
+use point_order::{Cell, Pair, Point, Quad, Tri};
+use small_spheres::{cell_within, edge_within, triangle_within};
+use std::alloc::{AllocError, Global};
+
+// The two points of a pair.
+fn ends(pair: &Pair) -> (Point, Point)
+    requires { length pair.now ≡ 2 }
+    ensures { pair.now ≡ result.0 ∷ result.1 ∷ [] }
+{
+    match pair.points() {
+        [a, b] => (*a, *b),
+        _ => unreachable!(),
+    }
+}
+
+// Whether the point is one of the face's.
+fn is_one_of(face: &[Point], p: Point) -> bool
+    ensures { result ≡ is_among p face.now }
+{
+    face.contains(&p)
+}
+
+// Puts those of the points that are none of the face's into the link.
+fn put_others(link: &mut Vec<Point>, face: &[Point], points: &[Point]) -> Result<(), AllocError>
+    ensures { OnOk result (link.new.items ≡ link.old.items ++ filter (λ p. not (is_among p face.now)) points.now) }
+{
+    for p in points {
+        if !is_one_of(face, *p) {
+            link.push(*p)?;
+        }
+    }
+    Ok(())
+}
+
+// Makes the list the link of a face: the points of the cells that contain it, but for its own.
+fn fill_link(link: &mut Vec<Point>, face: &[Point], cells: &[Cell]) -> Result<(), AllocError>
+    ensures { OnOk result (link.new.items ≡ link_of face.now cells.now) }
+{
+    link.clear();
+    for cell in cells {
+        put_others(link, face, cell.points())?;
+    }
+    Ok(())
+}
+
+// Whether the cell's circumscribing sphere is within alpha.
+fn is_small_cell(quad: &Quad, alpha: u64) -> bool
+    requires { alpha < 2 ^ 30 }
+    ensures { result ≡ is_within alpha quad.now }
+{
+    let (a, b, c, d) = quad.corners();
+    cell_within(a, b, c, d, alpha)
+}
+
+/// Whether the pair is Gabriel and within alpha. The list is room for its link.
+pub fn is_small_pair(link: &mut Vec<Point>, face: &PairFace, alpha: u64) -> Result<bool, AllocError>
+    requires { length face.now.pair ≡ 2 }
+    ensures { IfOk result (λ small. small ≡ is_small_by alpha (face.now.pair, face.now.cells.items)) }
+{
+    let (a, b) = ends(&face.pair);
+    if !edge_within(a, b, alpha) {
+        return Ok(false);
+    }
+    fill_link(link, face.pair.points(), &face.cells)?;
+    Ok(gabriel_edge(a, b, link))
+}
+
+// Whether the triple is Gabriel and within alpha. The list is room for its link.
+fn is_small_triple(link: &mut Vec<Point>, face: &TriFace, alpha: u64) -> Result<bool, AllocError>
+    ensures { IfOk result (λ small. small ≡ is_small_by alpha (face.now.tri, face.now.cells.items)) }
+{
+    let (a, b, c) = face.tri.corners();
+    if !triangle_within(a, b, c, alpha) {
+        return Ok(false);
+    }
+    fill_link(link, face.tri.points(), &face.cells)?;
+    Ok(gabriel_triangle(a, b, c, link))
+}
+
+/// The cells that are within alpha.
+pub fn small_cells(alloc: Global, cells: &[Quad], alpha: u64) -> Result<Vec<Quad>, AllocError>
+    requires { alpha < 2 ^ 30 }
+    ensures { IfOk result (λ small. small.items ≡ filter (is_within alpha) cells.now) }
+{
+    let mut small = Vec::new(alloc);
+    for quad in cells {
+        if is_small_cell(quad, alpha) {
+            small.push(*quad)?;
+        }
+    }
+    Ok(small)
+}
+
+/// The triples that are Gabriel and within alpha.
+pub fn small_triples(alloc: Global, triples: &[TriFace], alpha: u64) -> Result<Vec<Tri>, AllocError>
+    ensures { IfOk result (λ small. small.items ≡ small_among alpha (triples_seen triples.now)) }
+{
+    let mut small = Vec::new(alloc);
+    let mut link = Vec::new(alloc);
+    for face in triples {
+        if is_small_triple(&mut link, face, alpha)? {
+            small.push(face.tri)?;
+        }
+    }
+    Ok(small)
+}

@@ -1,0 +1,192 @@
+-- The opening four lines of a file, and the lines that follow.
+use Rattle.std.specs.Prelude.{◌≡◌, ℕ, zero, suc, ◌+◌, ◌-◌, ◌<◌, ◌≤◌, ◌^◌, Bool, true, false, cond, not, List, [], ◌∷◌, ◌++◌, ◌⊎◌, map, length, take, slice_index, slice_index_or, Option, None, Some, IfSome, ◌==◌}
+use Rattle.std.specs.List.{enumerate_from, filter}
+use Rattle.std.specs.Option.{option_map}
+use Rattle.std.proofs.Common.{refl, sym, ◌∙◌, ap, subst, inl, inr, arith, length-append}
+use Rattle.std.proofs.lemmas.List.{length-map}
+use Rattle.std.proofs.lemmas.Bool.Decides.{nat_tests}
+use Rattle.std.proofs.lemmas.List.Elements.{filter-append}
+use Rattle.point_order.specs.Sets.{IsIn, IsAscending, is_among}
+use Rattle.point_order.proofs.SetLaws.{below-each}
+use Rattle.del_laws.proofs.Tests.{among_true, among_from}
+use Rattle.edit_history.specs.declared.history.Edit.{Edit}
+use Rattle.edit_history.specs.declared.history.Edit.TheVariants.{Add}
+use Rattle.edit_history.specs.declared.history.Entry.{Entry}
+use Rattle.edit_history.specs.declared.history.Reply.{Reply}
+use Rattle.edit_history.specs.Edits.{reply_to, after}
+use Rattle.edit_history.specs.Histories.{replay, replay_from, entries_from, IsLegalFrom}
+use Rattle.edit_history.specs.Making.{AreMadeOf, set_after}
+use Rattle.edit_history.specs.Opening.{Four, opening_four}
+use Rattle.edit_history.specs.OneThread.{places, is_opening, tagged_lines, lines_in_order, opening_first, one_thread, line_of, Keeps}
+use Rattle.edit_history.specs.Laws.{AreIndependent as AreIndependentPlaces}
+use Rattle.edit_history.proofs.Lines.{made-more, replay-is, first-lines, length-entries}
+use Rattle.edit_history.proofs.OpeningSolid.{four_law}
+use Rattle.cell_store.specs.Buckets.{InHand}
+use Rattle.cell_store.specs.Meshes.{IsMesh}
+use Rattle.cell_store.specs.Shares.{Stands}
+use Rattle.cell_store.proofs.MeshLaws.{one_history}
+use Rattle.cavity.specs.Opening.{inserted_from, opening_history}
+use Rattle.cavity.proofs.NextEntry.{replay_more}
+use Rattle.one_mesh.specs.Applied.{IsApplied, next_entry}
+use Rattle.delaunay_cli.specs.Made.{tagged_points, StandsForLines, other_lines}
+
+-- ---- a legal history by one thread is that of its lines
+
+AreBy0 : List Entry → Type 0
+AreBy0 [] = Unit {0}
+AreBy0 (e ∷ h) = (e.by ≡ 0) × AreBy0 h
+
+legal_is : (n : ℕ) (s : List ℕ) (h : List Entry) → IsLegalFrom n s h → AreBy0 h → h ≡ entries_from n s (map line_of h)
+unfolding AreBy0
+legal_is n s [] l b = refl
+legal_is n s (e ∷ h) l b = ap (λ (t : List Entry). e ∷ t) (legal_is (n + 1) (after s e.edit) h l.2 b.1) ∙ ap (λ (x : Entry). x ∷ entries_from (n + 1) (after s e.edit) (map line_of h)) (entry_is e l.0 l.1 b.0)
+  where
+    entry_is : (e : Entry) → e.number ≡ n → e.reply ≡ reply_to s e.edit → e.by ≡ 0 → e ≡ record { number = n; by = 0; tag = e.tag; edit = e.edit; reply = reply_to s e.edit }
+    entry_is e p q r = rw (sym p, sym q, sym r) refl
+
+-- the lines of points that are inserted
+inserted_lines : (n : ℕ) (lines : List (ℕ × ℕ)) → map line_of (inserted_from n lines) ≡ map (λ l. (l.0, Add l.1)) lines
+inserted_lines n [] = refl
+inserted_lines n (l ∷ lines) = ap (λ (t : List (ℕ × Edit)). (l.0, Add l.1) ∷ t) (inserted_lines (n + 1) lines)
+
+inserted_by : (n : ℕ) (lines : List (ℕ × ℕ)) → AreBy0 (inserted_from n lines)
+unfolding AreBy0
+inserted_by n [] = tt
+inserted_by n (l ∷ lines) = (refl, inserted_by (n + 1) lines)
+
+-- the opening is made of the adds of its points
+pub opening_made : (m : InHand) (lines : List (ℕ × ℕ)) → Stands m (opening_history lines) → StandsForLines m (map (λ l. (l.0, Add l.1)) lines)
+opening_made m lines st =
+    let e = legal_is 0 [] (opening_history lines) st.legal (inserted_by 0 lines) ∙ ap (entries_from 0 []) (inserted_lines 0 lines) in
+    (opening_history lines, st, record { entries_are = e; points_are = ap replay e ∙ replay-is 0 [] (map (λ l. (l.0, Add l.1)) lines) })
+
+-- ---- which lines the opening has
+
+low : {X : Type 0} (n : ℕ) (xs : List X) (line : ℕ × X) → IsIn line (enumerate_from n xs) → n ≤ line.0
+low n [] line i = absurd i
+low {X} n (x ∷ xs) line (inl e) = let f : n ≡ line.0 = ap (λ (p : ℕ × X). p.0) e in omega (arith, f)
+low n (x ∷ xs) line (inr i) = omega (arith, low (n + 1) xs line i)
+
+same_filter : {X : Type 0} (t u : X → Bool) (xs : List X) → ((y : X) → IsIn y xs → t y ≡ u y) → filter t xs ≡ filter u xs
+same_filter t u [] f = refl
+same_filter {X} t u (x ∷ xs) f = rw (f x (inl refl), same_filter t u xs (λ y i. f y (inr i))) refl
+
+none_pass : {X : Type 0} (t : X → Bool) (xs : List X) → ((y : X) → IsIn y xs → t y ≡ false) → filter t xs ≡ []
+none_pass t [] f = refl
+none_pass t (x ∷ xs) f = rw (f x (inl refl)) (none_pass t xs (λ y i. f y (inr i)))
+
+same_map : {X : Type 0} (f g : ℕ → X) (ps : List ℕ) → ((p : ℕ) → IsIn p ps → f p ≡ g p) → map f ps ≡ map g ps
+same_map f g [] h = refl
+same_map {X} f g (p ∷ ps) h = ap (λ (x : X). x ∷ map f ps) (h p (inl refl)) ∙ ap (λ (t : List X). g p ∷ t) (same_map f g ps (λ q i. h q (inr i)))
+
+not_among : (p n : ℕ) (ps : List ℕ) → ((q : ℕ) → IsIn q (p ∷ ps) → n < q) → is_among n (p ∷ ps) ≡ false
+not_among p n ps f = by (is_among n (p ∷ ps)) refl
+  where
+    by : (b : Bool) → is_among n (p ∷ ps) ≡ b → b ≡ false
+    by true e = absurd (let l = f n (among_from n (p ∷ ps) e) in omega (arith, l))
+    by false e = refl
+
+among_later : (p n : ℕ) (ps : List ℕ) → p < n → is_among n (p ∷ ps) ≡ is_among n ps
+among_later p n ps h = let e : (p == n) ≡ false = grind (arith, nat_tests) in rw e refl
+
+-- the line at a place, the first place being n
+abbrev line_at : ℕ → List Edit → Edit → ℕ → ℕ × Edit
+line_at n xs d p = (p, slice_index_or xs (p - n) d)
+
+-- the lines at ascending places
+picked : (ps : List ℕ) (n : ℕ) (xs : List Edit) (d : Edit) → IsAscending ps → ((p : ℕ) → IsIn p ps → (n ≤ p) × (p < n + length xs)) → filter (λ line. is_among line.0 ps) (enumerate_from n xs) ≡ map (line_at n xs d) ps
+picked [] n xs d a f = none_pass (λ line. is_among line.0 []) (enumerate_from n xs) (λ y i. refl)
+picked (p ∷ ps) n [] d a f = let b = f p (inl refl) in absurd (omega (arith, b.0, b.1))
+picked (p ∷ ps) n (x ∷ xs) d a f =
+    elim (side n p (f p (inl refl)).0) [
+      | inl e ↦ here e (picked ps (n + 1) xs d a.1 (λ q i. let b = f q (inr i) in let l : p < q = below-each p ps a.0 a.1 q i in (omega (arith, l, e), omega (arith, b.1))))
+      | inr l ↦ there l (picked (p ∷ ps) (n + 1) xs d a (λ q i. let b = f q i in (above l q i, omega (arith, b.1))))
+    ]
+  where
+    side : (n p : ℕ) → n ≤ p → (n ≡ p) ⊎ (n < p)
+    side n p h = grind arith
+
+    above : n < p → (q : ℕ) → IsIn q (p ∷ ps) → n + 1 ≤ q
+    above l q (inl e) = omega (arith, l, e)
+    above l q (inr i) = let b : p < q = below-each p ps a.0 a.1 q i in omega (arith, b, l)
+
+    -- one place on
+    on : (q : ℕ) → n + 1 ≤ q → line_at (n + 1) xs d q ≡ line_at n (x ∷ xs) d q
+    on q l = let z : suc (q - (n + 1)) ≡ q - n = omega (arith, l) in ap (λ (k : ℕ). (q, slice_index_or (x ∷ xs) k d)) z
+
+    here : n ≡ p → filter (λ line. is_among line.0 ps) (enumerate_from (n + 1) xs) ≡ map (line_at (n + 1) xs d) ps → filter (λ line. is_among line.0 (p ∷ ps)) (enumerate_from n (x ∷ xs)) ≡ map (line_at n (x ∷ xs) d) (p ∷ ps)
+    here e r =
+        let g : is_among n (p ∷ ps) ≡ true = among_true n (p ∷ ps) (inl (sym e)) in
+        let same = same_filter (λ line. is_among line.0 (p ∷ ps)) (λ line. is_among line.0 ps) (enumerate_from (n + 1) xs) (λ y i. let l = low (n + 1) xs y i in among_later p y.0 ps (omega (arith, l, e))) in
+        let z : p - n ≡ 0 = omega (arith, e) in
+        let first : (n, x) ≡ line_at n (x ∷ xs) d p = ap (λ (m : ℕ). (m, x)) e ∙ ap (λ (k : ℕ). (p, slice_index_or (x ∷ xs) k d)) (sym z) in
+        rw g (ap (λ (t : List (ℕ × Edit)). (n, x) ∷ t) (same ∙ r ∙ same_map (line_at (n + 1) xs d) (line_at n (x ∷ xs) d) ps (λ q i. on q (let b : p < q = below-each p ps a.0 a.1 q i in omega (arith, b, e)))) ∙ ap (λ (y : ℕ × Edit). y ∷ map (line_at n (x ∷ xs) d) ps) first)
+
+    there : n < p → filter (λ line. is_among line.0 (p ∷ ps)) (enumerate_from (n + 1) xs) ≡ map (line_at (n + 1) xs d) (p ∷ ps) → filter (λ line. is_among line.0 (p ∷ ps)) (enumerate_from n (x ∷ xs)) ≡ map (line_at n (x ∷ xs) d) (p ∷ ps)
+    there l r = rw (not_among p n ps (λ q i. let b = above l q i in omega (arith, b))) (r ∙ same_map (line_at (n + 1) xs d) (line_at n (x ∷ xs) d) (p ∷ ps) (λ q i. on q (above l q i)))
+
+-- a line among the first adds its point
+adds : (points : List ℕ) (edits : List Edit) (d : Edit) (p : ℕ) → p < length points → slice_index_or (map Add points ++ edits) p d ≡ Add (slice_index points p)
+adds [] edits d p l = absurd (omega (arith, l))
+adds (x ∷ points) edits d zero l = refl
+adds (x ∷ points) edits d (suc p) l = adds points edits d p (omega (arith, l))
+
+-- the opening lines are the adds of the points at the four places
+pub opening_lines : (points : List ℕ) (edits : List Edit) (four : List ℕ) → option_map places (opening_four points) ≡ Some four →
+    map (λ l. (l.0, Add l.1)) (tagged_points points four) ≡ filter (λ line. is_among line.0 four) (tagged_lines points edits)
+opening_lines points edits four e = by (opening_four points) (four_law points) e
+  where
+    same : (a b : List ℕ) → Some a ≡ Some b → a ≡ b
+    same a b e = cc
+    two_maps : (ps : List ℕ) → map (λ l. (l.0, Add l.1)) (tagged_points points ps) ≡ map (λ p. (p, Add (slice_index points p))) ps
+    two_maps [] = refl
+    two_maps (p ∷ ps) = ap (λ (t : List (ℕ × Edit)). (p, Add (slice_index points p)) ∷ t) (two_maps ps)
+    by : (o : Option Four) → IfSome o (AreIndependentPlaces points) → option_map places o ≡ Some four → map (λ l. (l.0, Add l.1)) (tagged_points points four) ≡ filter (λ line. is_among line.0 four) (tagged_lines points edits)
+    by None i e = absurd (cc e)
+    by (Some f) w e = subst (λ (v : List ℕ). map (λ l. (l.0, Add l.1)) (tagged_points points v) ≡ filter (λ line. is_among line.0 v) (tagged_lines points edits)) (same (places f) four e)
+        (two_maps (places f) ∙ sym (picked (places f) 0 (map Add points ++ edits) (Add 0) (w.ascending.0, (w.ascending.1, (w.ascending.2, (tt, tt)))) range ∙ same_map (line_at 0 (map Add points ++ edits) (Add 0)) (λ p. (p, Add (slice_index points p))) (places f) (λ p i. ap (λ (k : Edit). (p, k)) (ap (λ (k : ℕ). slice_index_or (map Add points ++ edits) k (Add 0)) (none p) ∙ adds points edits (Add 0) p (below p i)))))
+      where
+        none : (p : ℕ) → p - 0 ≡ p
+        none p = omega arith
+        below : (p : ℕ) → IsIn p (places f) → p < length points
+        below p (inl q) = omega (arith, w.ascending.0, w.ascending.1, w.ascending.2, w.within, q)
+        below p (inr (inl q)) = omega (arith, w.ascending.1, w.ascending.2, w.within, q)
+        below p (inr (inr (inl q))) = omega (arith, w.ascending.2, w.within, q)
+        below p (inr (inr (inr (inl q)))) = omega (arith, w.within, q)
+        below p (inr (inr (inr (inr i)))) = absurd i
+        range : (p : ℕ) → IsIn p (places f) → (0 ≤ p) × (p < 0 + length (map Add points ++ edits))
+        range p i = let b = below p i in (omega arith, omega (arith, b, length-append (map Add points) edits, length-map points Add))
+
+-- all lines in the order of one thread
+pub all_lines : (points : List ℕ) (edits : List Edit) (four : List ℕ) (m : InHand) → option_map places (opening_four points) ≡ Some four →
+    StandsForLines m (filter (λ line. is_among line.0 four) (tagged_lines points edits) ++ other_lines four (tagged_lines points edits)) → Stands m (one_thread points edits)
+all_lines points edits four m e s =
+    let q = first-lines (opening_four points) (tagged_lines points edits) _ four e refl in
+    subst (Stands m) (s.2.entries_are ∙ ap (entries_from 0 []) q) s.1
+
+-- ---- the other lines, one by one
+
+pub count_ok : (m : InHand) (first : List (ℕ × Edit)) (h : List Entry) (n : ℕ) → IsMesh m → StandsForLines m first → length first ≤ n → n < 2 ^ 32 → Stands m h → length h < 2 ^ 32
+count_ok m first h n i s l k st =
+    let e = one_history m h s.0 i st s.1 in
+    let c = ap length e ∙ ap length s.2.entries_are ∙ length-entries 0 [] first in
+    omega (arith, c, l, k)
+
+-- the lines in front of the next
+pub filter_next : (t : ℕ × Edit → Bool) (lines : List Edit) (n : ℕ) (d : Edit) → n < length lines → d ≡ slice_index_or lines n d → filter t (take (n + 1) (enumerate_from 0 lines)) ≡ filter t (take n (enumerate_from 0 lines)) ++ cond (t (n, d)) ((n, d) ∷ []) []
+filter_next t lines n d l e = ap (filter t) (one n ∙ next 0 lines n l e) ∙ filter-append t (take n (enumerate_from 0 lines)) ((0 + n, d) ∷ []) ∙ ap (λ (k : ℕ). filter t (take n (enumerate_from 0 lines)) ++ cond (t (k, d)) ((k, d) ∷ []) []) (omega arith)
+  where
+    one : (n : ℕ) → take (n + 1) (enumerate_from 0 lines) ≡ take (suc n) (enumerate_from 0 lines)
+    one n = ap (λ (k : ℕ). take k (enumerate_from 0 lines)) (omega arith)
+    next : (m : ℕ) (lines : List Edit) (n : ℕ) → n < length lines → d ≡ slice_index_or lines n d → take (suc n) (enumerate_from m lines) ≡ take n (enumerate_from m lines) ++ (m + n, d) ∷ []
+    next m [] n l e = absurd (omega (arith, l))
+    next m (x ∷ lines) zero l e = ap (λ (y : ℕ × Edit). y ∷ []) (ap (λ (k : ℕ). (k, x)) (omega arith) ∙ ap (λ (y : Edit). (m + 0, y)) (sym e))
+    next m (x ∷ lines) (suc n) l e = ap (λ (t : List (ℕ × Edit)). (m, x) ∷ t) (next (m + 1) lines n (omega (arith, l)) e ∙ ap (λ (k : ℕ). take n (enumerate_from (m + 1) lines) ++ (k, d) ∷ []) (omega arith))
+
+-- one more line
+pub made_one : (m m' : InHand) (lines : List (ℕ × Edit)) (tag number : ℕ) (edit : Edit) (reply : Reply) → StandsForLines m lines → ((h : List Entry) → Stands m h → IsApplied h tag edit number reply m') → StandsForLines m' (lines ++ (tag, edit) ∷ [])
+made_one m m' lines tag number edit reply s a =
+    let k = a s.0 s.1 in
+    let h' = s.0 ++ next_entry s.0 tag edit ∷ [] in
+    let p : replay h' ≡ after (replay s.0) edit = replay_more [] s.0 (next_entry s.0 tag edit) in
+    (h', k.stands, made-more s.0 h' (replay s.0) (replay h') lines tag edit (reply_to (replay s.0) edit) s.2 refl p refl)

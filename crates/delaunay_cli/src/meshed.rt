@@ -1,0 +1,77 @@
+//! The mesh of a file's lines, made in the order of one thread.
+
+ghost use Rattle.std.specs.Prelude.{◌≡◌, ◌<◌, ◌+◌, ◌^◌, ◌++◌, ℕ, List, Some, length, slice_index, option_map, IfOk, OnOk};
+ghost use Rattle.std.specs.List.{enumerate_from};
+ghost use Rattle.edit_history.specs.declared.history.Edit.{Edit};
+ghost use Rattle.edit_history.specs.OneThread.{one_thread, places};
+ghost use Rattle.edit_history.specs.Opening.{opening_four};
+ghost use Rattle.cell_store.specs.Shares.{Stands};
+ghost use Rattle.cavity.specs.Opening.{opening_history};
+ghost use Rattle.delaunay_cli.specs.Made.{tagged_points, StandsForLines, HasOpening, other_lines};
+
+use cell_store::{Grid, Mesh};
+use edit_files::File;
+use edit_history::Edit;
+use one_mesh::{apply, begin};
+use point_order::Point;
+use std::alloc::{AllocError, Global};
+
+// The point at a place, with the place for a tag.
+fn tagged_point(points: &[Point], i: usize) -> (u32, Point)
+    requires place { i < length points.now }
+    requires small { i < 2 ^ 32 }
+    ensures { result ≡ (i, slice_index points.now i) }
+{
+    (i as u32, points[i])
+}
+
+// The mesh of the opening four points.
+fn opening(alloc: Global, points: &[Point], four: [usize; 4]) -> Result<Mesh, AllocError>
+    requires found { option_map places (opening_four points.now) ≡ Some four }
+    requires small { length points.now < 2 ^ 32 }
+    ensures { IfOk result (λ mesh. Stands mesh (opening_history (tagged_points points.now four))) }
+{
+    let Ok(grid) = Grid::new(4) else {
+        unreachable!()
+    };
+    let opening = [
+        tagged_point(points, four[0]),
+        tagged_point(points, four[1]),
+        tagged_point(points, four[2]),
+        tagged_point(points, four[3]),
+    ];
+    let mesh = begin(alloc, grid, opening)?;
+    Ok(mesh)
+}
+
+// Makes the lines at other places than the four, in their order.
+fn make_others(
+    alloc: Global,
+    mesh: &mut Mesh,
+    lines: &[Edit],
+    four: [usize; 4],
+) -> Result<(), AllocError>
+    requires opening { HasOpening mesh.old }
+    requires small { length lines.now + 4 < 2 ^ 32 }
+    ensures { OnOk result ((first : List (ℕ × Edit)) → StandsForLines mesh.old first → StandsForLines mesh.new (first ++ other_lines four (enumerate_from 0 lines.now))) }
+{
+    for tag in 0..lines.len() {
+        if !four.contains(&tag) {
+            let _ = mesh.hold();
+            apply(alloc, mesh, tag as u32, lines[tag])?;
+        }
+    }
+    Ok(())
+}
+
+/// The mesh of a file's lines: the opening four of its points, and then all other lines in the order of the file.
+pub fn meshed(alloc: Global, file: &File, four: [usize; 4]) -> Result<Mesh, AllocError>
+    requires found { option_map places (opening_four file.now.points.items) ≡ Some four }
+    requires small { length file.now.points.items + length file.now.edits.items + 4 < 2 ^ 32 }
+    ensures { IfOk result (λ mesh. Stands mesh (one_thread file.now.points.items file.now.edits.items)) }
+{
+    let mut mesh = opening(alloc, &file.points, four)?;
+    let lines: Vec<Edit> = file.lines().collect(alloc)?;
+    make_others(alloc, &mut mesh, &lines, four)?;
+    Ok(mesh)
+}
