@@ -1,18 +1,17 @@
 -- The complex of four independent points.
-use Rattle.std.specs.Prelude.{◌≡◌, refl, ℕ, ◌<◌, true, List, [], ◌∷◌, length, ◌⊎◌}
+use Rattle.std.specs.Prelude.{◌≡◌, refl, ℕ, true, List, [], ◌∷◌}
 use Rattle.std.proofs.Common.{inl, inr, ap, sym, subst, ◌∙◌}
 use Rattle.point_order.specs.declared.cell.Cell.{Cell}
 use Rattle.point_order.specs.declared.cell.Cell.TheVariants.{Full, Open}
-use Rattle.point_order.specs.declared.cell.Facet.{Facet}
-use Rattle.point_order.specs.declared.cell.Facet.TheVariants.{Three, Two}
+use Rattle.point_order.specs.declared.cell.Facet.TheVariants.{Three}
 use Rattle.point_order.specs.Complex.{complex}
 use Rattle.point_order.specs.Facets.{facets_of}
 use Rattle.point_order.specs.Sets.{IsIn, IsAscending}
 use Rattle.point_order.specs.Solid.{is_solid}
 use Rattle.point_order.specs.Subsets.{subsets}
 use Rattle.del_laws.specs.Keys.{AreKeys}
-use Rattle.del_laws.specs.Listed.{IsListed, IsListedFull, IsListedOpen}
-use Rattle.del_laws.proofs.Listed.{listed_is_cell, listed_inside, part_true, same_full, same_open, not_both_kinds}
+use Rattle.del_laws.specs.Listed.{IsListedFull, IsListedOpen}
+use Rattle.del_laws.proofs.Listed.{listed_is_cell, listed_inside, part_true}
 use Rattle.del_laws.proofs.ListedParts.{listed_every_point}
 use Rattle.del_laws.proofs.Neighbours.{listed_facets}
 use Rattle.cavity.specs.Opening.{five_cells, FourHaveFive}
@@ -37,11 +36,11 @@ is_of_five a b c d l (Open t) i =
     elim (open_part (a ∷ b ∷ c ∷ d ∷ []) t l (listed_is_cell (a ∷ b ∷ c ∷ d ∷ []) (Open t) l i)) [
       | inl e ↦ inr (inl (ap Open e))
       | inr r ↦ elim r [
-          | inl e ↦ inr (inr (inl (ap Open e)))
-          | inr r ↦ elim r [
-              | inl e ↦ inr (inr (inr (inl (ap Open e))))
-              | inr r ↦ elim r [ inl e ↦ inr (inr (inr (inr (inl (ap Open e))))) | inr none ↦ absurd none ]
-          ]
+        | inl e ↦ inr (inr (inl (ap Open e)))
+        | inr r ↦ elim r [
+          | inl e ↦ inr (inr (inr (inl (ap Open e))))
+          | inr r ↦ elim r [ inl e ↦ inr (inr (inr (inr (inl (ap Open e))))) | inr none ↦ absurd none ]
+        ]
       ]
     ]
 
@@ -60,11 +59,11 @@ open_with : (x y z : ℕ) (t : List ℕ) → IsIn (Three t) (facets_of (Open (x 
 open_with x y z t i = elim i [
   | inl e ↦ cc
   | inr i ↦ elim i [
+    | inl e ↦ cc
+    | inr i ↦ elim i [
       | inl e ↦ cc
-      | inr i ↦ elim i [
-          | inl e ↦ cc
-          | inr i ↦ elim i [ inl e ↦ cc | inr none ↦ absurd none ]
-      ]
+      | inr i ↦ elim i [ inl e ↦ cc | inr none ↦ absurd none ]
+    ]
   ]
 ]
 
@@ -79,18 +78,18 @@ on_facet a b c d l k v t i =
     by q n m h i =
         let s = a ∷ b ∷ c ∷ d ∷ [] in
         let told : (x y z : ℕ) → Open (x ∷ y ∷ z ∷ []) ≡ q → IsIn (Open t) (complex s)
-              = λ x y z e. subst (λ (r : Cell). IsIn r (complex s)) (sym e ∙ open_with x y z t (subst (λ (r : Cell). IsIn (Three t) (facets_of r)) (sym e) h)) m in
+        = λ x y z e. subst (λ (r : Cell). IsIn r (complex s)) (sym e ∙ open_with x y z t (subst (λ (r : Cell). IsIn (Three t) (facets_of r)) (sym e) h)) m in
         elim i [
           | inl e ↦ absurd (n (sym e))
           | inr i ↦ elim i [
-              | inl e ↦ told a b c e
+            | inl e ↦ told a b c e
+            | inr i ↦ elim i [
+              | inl e ↦ told a b d e
               | inr i ↦ elim i [
-                  | inl e ↦ told a b d e
-                  | inr i ↦ elim i [
-                      | inl e ↦ told a c d e
-                      | inr i ↦ elim i [ inl e ↦ told b c d e | inr none ↦ absurd none ]
-                  ]
+                | inl e ↦ told a c d e
+                | inr i ↦ elim i [ inl e ↦ told b c d e | inr none ↦ absurd none ]
               ]
+            ]
           ]
         ]
 
@@ -102,14 +101,14 @@ five_listed a b c d l k v q i =
     elim i [
       | inl e ↦ to (Full s) (full_listed a b c d l k v) e
       | inr i ↦ elim i [
-          | inl e ↦ to (Open (a ∷ b ∷ c ∷ [])) (on_facet a b c d l k v (a ∷ b ∷ c ∷ []) (inr (inr (inr (inl refl))))) e
+        | inl e ↦ to (Open (a ∷ b ∷ c ∷ [])) (on_facet a b c d l k v (a ∷ b ∷ c ∷ []) (inr (inr (inr (inl refl))))) e
+        | inr i ↦ elim i [
+          | inl e ↦ to (Open (a ∷ b ∷ d ∷ [])) (on_facet a b c d l k v (a ∷ b ∷ d ∷ []) (inr (inr (inl refl)))) e
           | inr i ↦ elim i [
-              | inl e ↦ to (Open (a ∷ b ∷ d ∷ [])) (on_facet a b c d l k v (a ∷ b ∷ d ∷ []) (inr (inr (inl refl)))) e
-              | inr i ↦ elim i [
-                  | inl e ↦ to (Open (a ∷ c ∷ d ∷ [])) (on_facet a b c d l k v (a ∷ c ∷ d ∷ []) (inr (inl refl))) e
-                  | inr i ↦ elim i [ inl e ↦ to (Open (b ∷ c ∷ d ∷ [])) (on_facet a b c d l k v (b ∷ c ∷ d ∷ []) (inl refl)) e | inr none ↦ absurd none ]
-              ]
+            | inl e ↦ to (Open (a ∷ c ∷ d ∷ [])) (on_facet a b c d l k v (a ∷ c ∷ d ∷ []) (inr (inl refl))) e
+            | inr i ↦ elim i [ inl e ↦ to (Open (b ∷ c ∷ d ∷ [])) (on_facet a b c d l k v (b ∷ c ∷ d ∷ []) (inl refl)) e | inr none ↦ absurd none ]
           ]
+        ]
       ]
     ]
 

@@ -1,5 +1,5 @@
 -- Meshes that grow: the opening four of a list, and a history with insertions.
-use Rattle.std.specs.Prelude.{◌≡◌, refl, ℕ, suc, ◌+◌, ◌<◌, ◌≤◌, true, false, Bool, List, [], ◌∷◌, ◌++◌, ◌⊎◌, length, take, ◌==◌, Option, None, Some, IsSome, IfSome, slice_index, slice_index_or}
+use Rattle.std.specs.Prelude.{◌≡◌, refl, ℕ, suc, ◌+◌, ◌<◌, ◌≤◌, true, false, List, [], ◌∷◌, ◌++◌, length, take, ◌==◌, Option, None, Some, IsSome, IfSome, slice_index, slice_index_or}
 use Rattle.std.specs.Option.{option_map}
 use Rattle.std.proofs.Common.{inl, inr, ap, sym, subst, ◌∙◌, arith}
 use Rattle.point_order.specs.Orientation.{is_flat}
@@ -54,6 +54,7 @@ four_found points four e = by (opening_four points) (four_law points) e
   where
     same : (a b : List ℕ) → Some a ≡ Some b → a ≡ b
     same a b e = cc
+
     by : (o : Option Four) → IfSome o (AreIndependentOf points) → option_map places o ≡ Some four → AreFound points four
     by None i e = absurd (cc e)
     by (Some f) i e = subst (AreFound points) (same (places f) four e) (record {
@@ -74,11 +75,11 @@ found_among points four f line i =
     elim i [
       | inl e ↦ to (slice_index_or four 0 0) f.first e
       | inr i ↦ elim i [
-          | inl e ↦ to (slice_index_or four 1 0) f.second e
-          | inr i ↦ elim i [
-              | inl e ↦ to (slice_index_or four 2 0) f.third e
-              | inr i ↦ elim i [ inl e ↦ to (slice_index_or four 3 0) f.fourth e | inr none ↦ absurd none ]
-          ]
+        | inl e ↦ to (slice_index_or four 1 0) f.second e
+        | inr i ↦ elim i [
+          | inl e ↦ to (slice_index_or four 2 0) f.third e
+          | inr i ↦ elim i [ inl e ↦ to (slice_index_or four 3 0) f.fourth e | inr none ↦ absurd none ]
+        ]
       ]
     ]
 
@@ -142,11 +143,11 @@ grown_first points (a ∷ b ∷ c ∷ d ∷ []) m f among st = record {
     inside p i = elim i [
       | inl e ↦ subst (λ (v : ℕ). IsIn v points) e (among a (inl refl))
       | inr i ↦ elim i [
-          | inl e ↦ subst (λ (v : ℕ). IsIn v points) e (among b (inr (inl refl)))
-          | inr i ↦ elim i [
-              | inl e ↦ subst (λ (v : ℕ). IsIn v points) e (among c (inr (inr (inl refl))))
-              | inr i ↦ elim i [ inl e ↦ subst (λ (v : ℕ). IsIn v points) e (among d (inr (inr (inr (inl refl))))) | inr none ↦ absurd none ]
-          ]
+        | inl e ↦ subst (λ (v : ℕ). IsIn v points) e (among b (inr (inl refl)))
+        | inr i ↦ elim i [
+          | inl e ↦ subst (λ (v : ℕ). IsIn v points) e (among c (inr (inr (inl refl))))
+          | inr i ↦ elim i [ inl e ↦ subst (λ (v : ℕ). IsIn v points) e (among d (inr (inr (inr (inl refl))))) | inr none ↦ absurd none ]
+        ]
       ]
     ]
 grown_first points [] m f among st = absurd f

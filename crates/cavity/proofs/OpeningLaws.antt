@@ -1,7 +1,6 @@
 -- The mesh of four independent points stands for the history that begins with them.
-use Rattle.std.specs.Prelude.{◌≡◌, ◌≢◌, refl, ℕ, zero, suc, map, ◌+◌, ◌<◌, true, false, Bool, cond, List, [], ◌∷◌, ◌++◌, length, Option, None, Some, slice_index_or, ℤ, pos, neg_ℤ, ◌==◌, if◌then◌else◌}
+use Rattle.std.specs.Prelude.{◌≡◌, refl, ℕ, zero, suc, map, ◌+◌, ◌<◌, true, false, Bool, cond, List, [], ◌∷◌, ◌++◌, length, Option, Some, slice_index_or, ℤ, pos, neg_ℤ, ◌==◌}
 use Rattle.std.specs.List.{filter}
-use Rattle.std.specs.Option.{option_map}
 use Rattle.std.proofs.Common.{inl, inr, ap, sym, subst, ◌∙◌, arith}
 use Rattle.std.proofs.lemmas.Int.{ints}
 use Rattle.point_order.specs.declared.cell.Cell.{Cell}
@@ -14,7 +13,7 @@ use Rattle.point_order.proofs.Determinants.{swap-first, swap-middle, last-first,
 use Rattle.point_order.proofs.SetLaws.{in-with, in-with_old, in-with_new, ascending-with, ascending-is, ascending-ascending, in-ascending, in-ascending_from}
 use Rattle.edit_history.specs.declared.history.Entry.{Entry}
 use Rattle.edit_history.specs.declared.history.Reply.TheVariants.{Inserted}
-use Rattle.edit_history.specs.Edits.{point_of, reply_to, after, changed}
+use Rattle.edit_history.specs.Edits.{point_of, reply_to, changed}
 use Rattle.edit_history.specs.Histories.{replay, replay_from, IsLegal, IsLegalFrom}
 use Rattle.edit_history.proofs.Solidity.{solid-from}
 use Rattle.del_laws.specs.Keys.{AreKeys}
@@ -23,7 +22,7 @@ use Rattle.cell_store.specs.Grids.{bucket_of}
 use Rattle.cell_store.specs.Swaps.{swapped, touches}
 use Rattle.cell_store.specs.Buckets.{Content, InHand, bucket_at, at_place}
 use Rattle.cell_store.specs.Shares.{Stands, IsShare, points_share, cells_share, entries_share}
-use Rattle.cell_store.specs.Changes.{IsChange, IsSwapped, IsNoted, noted_in, swapped_in}
+use Rattle.cell_store.specs.Changes.{IsChange, IsNoted, noted_in, swapped_in}
 use Rattle.cell_store.proofs.NextLaws.{cells_after, points_after, points_stay, entries_after, entries_stay, mapped_some, replay_next}
 use Rattle.cell_store.proofs.ShareLaws.{ascending_replay}
 use Rattle.cavity.specs.Opening.{five_cells, inserted, inserted_from, opening_history, AreIndependent, nothing, IsBare, HasCellsOfFour}
@@ -45,11 +44,12 @@ four_apart a b c d f = (
   (λ e. no (subst (λ x. orientation a b c x ≡ pos 0) e (last-first a b c))),
   (λ e. no (subst (λ x. orientation a b x d ≡ pos 0) e (self_opposite _ (swap-middle a b b d)))),
   (λ e. no (subst (λ x. orientation a b c x ≡ pos 0) e (last-second a b c))),
-  (λ e. no (subst (λ x. orientation a b c x ≡ pos 0) e (last-third a b c)))
+  (λ e. no (subst (λ x. orientation a b c x ≡ pos 0) e (last-third a b c))),
 )
   where
     no : orientation a b c d ≡ pos 0 → ⊥
     no e = cc (zero_of (orientation a b c d) e, f)
+
     from_swap : (b d : ℕ) → orientation a b a d ≡ pos 0
     from_swap b d = let e = self_opposite _ (swap-first a a b d) in let s = swap-middle a b a d in omega (arith, ints, e, s)
 
@@ -89,14 +89,21 @@ replay_is n s (line ∷ lines) a =
 four_new : (a b c d : ℕ × ℕ) → is_flat a.1 b.1 c.1 d.1 ≡ false → AreNew [] (a ∷ b ∷ c ∷ d ∷ [])
 four_new a b c d f =
     let n = four_apart a.1 b.1 c.1 d.1 f in (
-  (λ i. i),
-  ((λ i. elim (in-with a.1 b.1 [] i) [ inl e ↦ n.0 e | inr j ↦ j ]),
-  ((λ i. elim (in-with b.1 c.1 (with_point a.1 []) i) [ inl e ↦ n.3 e | inr j ↦ elim (in-with a.1 c.1 [] j) [ inl e ↦ n.1 e | inr k ↦ k ] ]),
-  ((λ i. elim (in-with c.1 d.1 (with_point b.1 (with_point a.1 [])) i) [
-    | inl e ↦ n.5 e
-    | inr j ↦ elim (in-with b.1 d.1 (with_point a.1 []) j) [ inl e ↦ n.4 e | inr k ↦ elim (in-with a.1 d.1 [] k) [ inl e ↦ n.2 e | inr m ↦ m ] ]
-  ]),
-  tt))))
+      (λ i. i),
+      (
+        (λ i. elim (in-with a.1 b.1 [] i) [ inl e ↦ n.0 e | inr j ↦ j ]),
+        (
+          (λ i. elim (in-with b.1 c.1 (with_point a.1 []) i) [ inl e ↦ n.3 e | inr j ↦ elim (in-with a.1 c.1 [] j) [ inl e ↦ n.1 e | inr k ↦ k ] ]),
+          (
+            (λ i. elim (in-with c.1 d.1 (with_point b.1 (with_point a.1 [])) i) [
+              | inl e ↦ n.5 e
+              | inr j ↦ elim (in-with b.1 d.1 (with_point a.1 []) j) [ inl e ↦ n.4 e | inr k ↦ elim (in-with a.1 d.1 [] k) [ inl e ↦ n.2 e | inr m ↦ m ] ]
+            ]),
+            tt,
+          ),
+        ),
+      ),
+    )
 
 -- what the opening leaves: the four in order
 pub leaves_four : (a b c d : ℕ × ℕ) → is_flat a.1 b.1 c.1 d.1 ≡ false → replay (opening_history (a ∷ b ∷ c ∷ d ∷ [])) ≡ ascending (a.1 ∷ b.1 ∷ c.1 ∷ d.1 ∷ [])
@@ -107,25 +114,27 @@ leaves_four a b c d f =
     (λ p i. elim (in-with d.1 p three i) [
       | inl e ↦ inr (inr (inr (inl e)))
       | inr j ↦ elim (in-with c.1 p two j) [
-          | inl e ↦ inr (inr (inl e))
-          | inr k ↦ elim (in-with b.1 p one k) [ inl e ↦ inr (inl e) | inr m ↦ elim (in-with a.1 p [] m) [ inl e ↦ inl e | inr z ↦ absurd z ] ]
+        | inl e ↦ inr (inr (inl e))
+        | inr k ↦ elim (in-with b.1 p one k) [ inl e ↦ inr (inl e) | inr m ↦ elim (in-with a.1 p [] m) [ inl e ↦ inl e | inr z ↦ absurd z ] ]
       ]
     ])
     (λ p i. elim i [
       | inl e ↦ in-with_old d.1 p three (in-with_old c.1 p two (in-with_old b.1 p one (subst (λ (v : ℕ). IsIn v one) e (in-with_new a.1 []))))
       | inr i ↦ elim i [
-          | inl e ↦ in-with_old d.1 p three (in-with_old c.1 p two (subst (λ (v : ℕ). IsIn v two) e (in-with_new b.1 one)))
-          | inr i ↦ elim i [
-              | inl e ↦ in-with_old d.1 p three (subst (λ (v : ℕ). IsIn v three) e (in-with_new c.1 two))
-              | inr i ↦ elim i [ inl e ↦ subst (λ (v : ℕ). IsIn v (with_point d.1 three)) e (in-with_new d.1 three) | inr none ↦ absurd none ]
-          ]
+        | inl e ↦ in-with_old d.1 p three (in-with_old c.1 p two (subst (λ (v : ℕ). IsIn v two) e (in-with_new b.1 one)))
+        | inr i ↦ elim i [
+          | inl e ↦ in-with_old d.1 p three (subst (λ (v : ℕ). IsIn v three) e (in-with_new c.1 two))
+          | inr i ↦ elim i [ inl e ↦ subst (λ (v : ℕ). IsIn v (with_point d.1 three)) e (in-with_new d.1 three) | inr none ↦ absurd none ]
+        ]
       ]
     ])
   where
     one : List ℕ
     one = with_point a.1 []
+
     two : List ℕ
     two = with_point b.1 one
+
     three : List ℕ
     three = with_point c.1 two
 
@@ -141,16 +150,17 @@ noted_lines g b h e c l s = by (bucket_of g (point_of e.edit) == b) refl
   where
     test : ℕ → Bool
     test = λ p. bucket_of g p == b
+
     by : (o : Bool) → (bucket_of g (point_of e.edit) == b) ≡ o → HasLines g b (h ++ e ∷ []) (cond o (record c { points = changed c.points (point_of e.edit) e.reply; entries = c.entries ++ e ∷ [] }) c)
     by true t = (
       ap (λ m. changed m (point_of e.edit) e.reply) s.0 ∙ points_after test (point_of e.edit) e.reply (replay h) (ascending_replay h) t ∙ ap (filter test) (sym (replay_next h e l)),
       ap (λ m. m ++ e ∷ []) s.1 ∙ entries_after g b h e t,
-      s.2
+      s.2,
     )
     by false t = (
       s.0 ∙ points_stay test (point_of e.edit) e.reply (replay h) (ascending_replay h) t ∙ ap (filter test) (sym (replay_next h e l)),
       s.1 ∙ entries_stay g b h e t,
-      s.2
+      s.2,
     )
 
 -- the complex of no points has no cells
@@ -182,24 +192,34 @@ opening_share g n a b c d w x y z f e k v = record {
   where
     h : List Entry
     h = opening_history (a ∷ b ∷ c ∷ d ∷ [])
+
     new : AreNew [] (a ∷ b ∷ c ∷ d ∷ [])
     new = four_new a b c d f
+
     no_cells : cells_share g n [] ≡ []
     no_cells = ap (filter (touches g n)) none_listed
+
     e0 : Entry
     e0 = inserted 0 a
+
     e1 : Entry
     e1 = inserted 1 b
+
     e2 : Entry
     e2 = inserted 2 c
+
     bare : Content
     bare = at_place g n nothing
+
     one : HasLines g n (e0 ∷ []) (noted_in g n e0 bare)
     one = noted_lines g n [] e0 bare (legal_from 0 [] (a ∷ []) (new.0, tt)) (refl, refl, refl)
+
     two : HasLines g n (e0 ∷ e1 ∷ []) (noted_in g n e1 (noted_in g n e0 bare))
     two = noted_lines g n (e0 ∷ []) e1 (noted_in g n e0 bare) (legal_from 0 [] (a ∷ b ∷ []) (new.0, (new.1.0, tt))) one
+
     three : HasLines g n (e0 ∷ e1 ∷ e2 ∷ []) (noted_in g n e2 (noted_in g n e1 (noted_in g n e0 bare)))
     three = noted_lines g n (e0 ∷ e1 ∷ []) e2 (noted_in g n e1 (noted_in g n e0 bare)) (legal_from 0 [] (a ∷ b ∷ c ∷ []) (new.0, (new.1.0, (new.1.1.0, tt)))) two
+
     four : HasLines g n h (noted_in g n (inserted 3 d) (noted_in g n e2 (noted_in g n e1 (noted_in g n e0 bare))))
     four = noted_lines g n (e0 ∷ e1 ∷ e2 ∷ []) (inserted 3 d) (noted_in g n e2 (noted_in g n e1 (noted_in g n e0 bare))) (legal_from 0 [] (a ∷ b ∷ c ∷ d ∷ []) new) three
 
@@ -229,23 +249,30 @@ opening_stands g (a ∷ b ∷ c ∷ d ∷ []) bare n0 n1 n2 n3 mesh f k e n s = 
   where
     ps : List ℕ
     ps = a.1 ∷ b.1 ∷ c.1 ∷ d.1 ∷ []
+
     left : replay (opening_history (a ∷ b ∷ c ∷ d ∷ [])) ≡ s.a ∷ s.b ∷ s.c ∷ s.d ∷ []
     left = leaves_four a b c d f ∙ s.sorted
+
     keys : AreKeys (s.a ∷ s.b ∷ s.c ∷ s.d ∷ [])
-    keys = record { below = λ p i. elim (in-ascending ps p (subst (λ (m : List ℕ). IsIn p m) (sym s.sorted) i)) [
-      | inl e ↦ subst IsKey e (k a (inl refl))
-      | inr i ↦ elim i [
+    keys = record {
+      below = λ p i. elim (in-ascending ps p (subst (λ (m : List ℕ). IsIn p m) (sym s.sorted) i)) [
+        | inl e ↦ subst IsKey e (k a (inl refl))
+        | inr i ↦ elim i [
           | inl e ↦ subst IsKey e (k b (inr (inl refl)))
           | inr i ↦ elim i [
-              | inl e ↦ subst IsKey e (k c (inr (inr (inl refl))))
-              | inr i ↦ elim i [ inl e ↦ subst IsKey e (k d (inr (inr (inr (inl refl))))) | inr none ↦ absurd none ]
+            | inl e ↦ subst IsKey e (k c (inr (inr (inl refl))))
+            | inr i ↦ elim i [ inl e ↦ subst IsKey e (k d (inr (inr (inr (inl refl))))) | inr none ↦ absurd none ]
           ]
-      ]
-    ] }
+        ]
+      ];
+    }
+
     there : (p : ℕ) → IsIn p ps → IsIn p (s.a ∷ s.b ∷ s.c ∷ s.d ∷ [])
     there p i = subst (λ (m : List ℕ). IsIn p m) s.sorted (in-ascending_from ps p i)
+
     solid : is_solid (s.a ∷ s.b ∷ s.c ∷ s.d ∷ []) ≡ true
     solid = solid-from (s.a ∷ s.b ∷ s.c ∷ s.d ∷ []) a.1 b.1 c.1 d.1 (there a.1 (inl refl)) (there b.1 (inr (inl refl))) (there c.1 (inr (inr (inl refl)))) (there d.1 (inr (inr (inr (inl refl))))) f
+
     each : (m : ℕ) (x : Content) → bucket_at mesh.places m ≡ Some x → IsShare mesh.grid m (opening_history (a ∷ b ∷ c ∷ d ∷ [])) x
     each m x q =
         let five = five_cells s.a s.b s.c s.d in
@@ -305,11 +332,11 @@ stands_by g (a ∷ b ∷ c ∷ d ∷ []) s t u v w x y z bare n0 n1 n2 n3 mesh f
     keys p i = elim i [
       | inl q ↦ subst (λ (r : ℕ × ℕ). IsKey r.1) q k0
       | inr i ↦ elim i [
-          | inl q ↦ subst (λ (r : ℕ × ℕ). IsKey r.1) q k1
-          | inr i ↦ elim i [
-              | inl q ↦ subst (λ (r : ℕ × ℕ). IsKey r.1) q k2
-              | inr i ↦ elim i [ inl q ↦ subst (λ (r : ℕ × ℕ). IsKey r.1) q k3 | inr none ↦ absurd none ]
-          ]
+        | inl q ↦ subst (λ (r : ℕ × ℕ). IsKey r.1) q k1
+        | inr i ↦ elim i [
+          | inl q ↦ subst (λ (r : ℕ × ℕ). IsKey r.1) q k2
+          | inr i ↦ elim i [ inl q ↦ subst (λ (r : ℕ × ℕ). IsKey r.1) q k3 | inr none ↦ absurd none ]
+        ]
       ]
     ]
 stands_by g (a ∷ b ∷ c ∷ d ∷ q ∷ l) s t u v w x y z bare n0 n1 n2 n3 mesh f k0 k1 k2 k3 e i0 i1 i2 i3 h = absurd f

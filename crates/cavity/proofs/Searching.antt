@@ -1,5 +1,5 @@
 -- The search for a first cell that a new point takes away, bucket by bucket.
-use Rattle.std.specs.Prelude.{◌≡◌, refl, ℕ, zero, suc, ◌+◌, ◌-◌, ◌*◌, ◌%◌, ◌<◌, ◌≤◌, ◌⊎◌, Bool, true, false, List, [], ◌∷◌, Option, None, Some, IsSome, ◌==◌, length}
+use Rattle.std.specs.Prelude.{◌≡◌, refl, ℕ, zero, suc, ◌+◌, ◌-◌, ◌*◌, ◌%◌, ◌<◌, ◌≤◌, ◌⊎◌, true, List, [], ◌∷◌, None, Some, IsSome, ◌==◌, length}
 use Rattle.std.proofs.Common.{inl, inr, ap, sym, subst, ◌∙◌, arith}
 use Rattle.std.proofs.lemmas.Nat.{mod-mul-add}
 use Rattle.point_order.specs.declared.cell.Cell.{Cell}
@@ -21,7 +21,7 @@ use Rattle.del_laws.proofs.Tests.{filtered_from, filtered_true}
 use Rattle.del_laws.proofs.Listed.{listed_is_cell}
 use Rattle.hole_laws.proofs.Laws.{some_rim}
 use Rattle.cell_store.proofs.GridLaws.{bucket-below}
-use Rattle.hole_laws.specs.Edits.{IsSolidSet, IsNew, GoesFrom}
+use Rattle.hole_laws.specs.Edits.{IsNew, GoesFrom}
 use Rattle.std.proofs.lemmas.Bool.{eqb-true}
 use Rattle.std.proofs.lemmas.List.Sorted.{IsPermutation-sym}
 use Rattle.std.specs.List.Sorted.{IsPermutation}
@@ -81,10 +81,16 @@ some_goes hold h p has all st new =
     let rim = (some_rim (replay h) p s new).1 in
     let e = some_point (replay h) s.set.ascending rim.gone rim.goes.before in
     let b = bucket_of hold.grid e.0 in
-    let x = some_of (bucket_at hold.places b) (point_held hold e.0 has all) in
-    (rim.gone, rim.goes, (b, subst (λ n. b < n) (sym has.places) (bucket-below hold.grid e.0 has.size),
-      subst (λ (l : List Cell). IsIn rim.gone l) (sym (cells_are hold b x.0 x.1 ∙ (st.shares b x.0 x.1).cells))
-      (filtered_true (touches hold.grid b) (complex (replay h)) rim.gone rim.goes.before (touched hold.grid e.0 b rim.gone refl e.1))))
+    let x = some_of (bucket_at hold.places b) (point_held hold e.0 has all) in (
+      rim.gone,
+      rim.goes,
+      (
+        b,
+        subst (λ n. b < n) (sym has.places) (bucket-below hold.grid e.0 has.size),
+        subst (λ (l : List Cell). IsIn rim.gone l) (sym (cells_are hold b x.0 x.1 ∙ (st.shares b x.0 x.1).cells))
+            (filtered_true (touches hold.grid b) (complex (replay h)) rim.gone rim.goes.before (touched hold.grid e.0 b rim.gone refl e.1)),
+      ),
+    )
 
 -- two numbers in order
 le_or_lt : (a b : ℕ) → (a ≤ b) ⊎ (b < a)
@@ -98,7 +104,6 @@ round first b n f l = elim (le_or_lt first b) [
   | inl k ↦ (b - first, omega (arith, k, l), at 0 (b - first) (omega (arith, k)))
   | inr k ↦ (b + n - first, omega (arith, k, f), at 1 (b + n - first) (omega (arith, k, f)))
 ]
-
   where
     at : (a i : ℕ) → first + i ≡ a * n + b → (first + i) % n ≡ b
     at a i e = ap (λ m. m % n) e ∙ mod-mul-add a n b l

@@ -54,13 +54,7 @@ pub(crate) fn entry_of(number: u64, tag: u32, point: Point) -> Entry
 }
 
 // Notes a point of the four in a hold of all buckets.
-fn note(
-    alloc: Global,
-    hold: &mut Hold,
-    number: u64,
-    tag: u32,
-    p: Point,
-) -> Result<(), AllocError>
+fn note(alloc: Global, hold: &mut Hold, number: u64, tag: u32, p: Point) -> Result<(), AllocError>
     requires { AllInHand hold.old }
     ensures noted { OnOk result (IsNoted (inserted number (tag, p)) hold.old hold.new) }
     ensures key { OnOk result (IsKey p) }

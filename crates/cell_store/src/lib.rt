@@ -18,8 +18,8 @@ pub use bucket::{Bucket, BucketCells};
 pub use grid::{BadGrid, Grid};
 pub use hold::Hold;
 pub use mesh::Mesh;
-pub use swap::cells_in_order;
 pub use star::{Across, Star};
+pub use swap::cells_in_order;
 
 #[cfg(test)]
 mod tests;

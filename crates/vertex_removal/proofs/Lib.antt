@@ -7,3 +7,4 @@ pub mod Linked
 pub mod Taken
 pub mod Holes
 pub mod Turning
+pub mod Lent

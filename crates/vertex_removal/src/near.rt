@@ -55,7 +55,7 @@ fn points_but(alloc: Global, cells: &[Cell], v: Point) -> Result<Vec<Point>, All
 }
 
 // Whether four of the points are independent.
-fn is_solid(points: &[Point]) -> bool
+pub(crate) fn is_solid(points: &[Point]) -> bool
     ensures { result ≡ is_solid_of points.now }
 {
     find_four(points).is_ok()

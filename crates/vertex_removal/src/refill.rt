@@ -61,7 +61,7 @@ impl Refill {
     /// for which the hold stands. Between two turns buckets may come to the hold.
     ///
     /// # Errors
-    /// Want of memory. The refill may then only be dropped.
+    /// Want of memory. The refill is then as before.
     pub fn advance(&mut self, alloc: Global, hold: &Hold) -> Result<RefillTurn, AllocError>
         requires stands { StandsWithPoint hold.now self.old }
         requires held { IsSome (bucket_at hold.now.places (bucket_of hold.now.grid self.old)) }

@@ -1,5 +1,4 @@
-use Rattle.std.proofs.Common.{inl, inr, sym, subst, ◌∙◌, ◌+◌, ◌%◌, ap}
-use Rattle.point_order.specs.Sets.{IsIn}
+use Rattle.std.proofs.Common.{inl, inr, sym, subst, ◌+◌, ◌%◌}
 use Rattle.edit_history.specs.Histories.{replay}
 use Rattle.cell_store.specs.Buckets.{cells_in}
 use Rattle.cavity.specs.Searching.{NoneGoes}

@@ -1,4 +1,4 @@
-use Rattle.std.proofs.Common.{refl, inl, inr, sym, subst, ap, List, [], ◌∷◌}
+use Rattle.std.proofs.Common.{refl, inl, inr, sym, subst, List}
 use Rattle.point_order.specs.declared.cell.Cell.{Cell}
 use Rattle.point_order.specs.Complex.{complex}
 use Rattle.point_order.specs.Sets.{IsIn, with_point}
@@ -12,7 +12,7 @@ loop-cell-init c = (
   tt,
   tt,
   (λ x i. of_items c.args.hold.now c.args.b c.bucket.result.now (iter_rest c.into_iter-cell-iterator.result) x c.bucket.ensures (rw c.into_iter-cell-iterator.ensures.into_iter_gives c.cells-cell-items.ensures) i),
-  (λ x i. inl (in_items c.args.hold.now c.args.b c.bucket.result.now (iter_rest c.into_iter-cell-iterator.result) x c.bucket.ensures (rw c.into_iter-cell-iterator.ensures.into_iter_gives c.cells-cell-items.ensures) i))
+  (λ x i. inl (in_items c.args.hold.now c.args.b c.bucket.result.now (iter_rest c.into_iter-cell-iterator.result) x c.bucket.ensures (rw c.into_iter-cell-iterator.ensures.into_iter_gives c.cells-cell-items.ensures) i)),
 )
 
 pub goes-requires-clause-stands : goal.goes-requires-clause-stands
@@ -39,14 +39,14 @@ loop-cell-preserved c = (
   (λ x i. c.loop-cell.invariant.2 x (subst (λ (l : List Cell). IsIn x l) (sym c.in-Some.ensures.steps) (inr i))),
   (λ x i. elim (c.loop-cell.invariant.3 x i) [
     | inl k ↦ elim (subst (λ (l : List Cell). IsIn x l) c.in-Some.ensures.steps k) [
-        | inl e ↦ inr (λ h st new g.
-            let i = c.loop-cell.invariant.2 c.in-Some.cell.now (subst (λ (l : List Cell). IsIn c.in-Some.cell.now l) (sym c.in-Some.ensures.steps) (inl refl)) in
-            let s = c.if-goes.ensures h st new (in_complex c.args.hold.now h c.args.b c.in-Some.cell.now st c.requires.held i).0 in
-            g.after (subst (λ (y : Cell). IsIn y (complex (with_point c.args.p (replay h)))) e s.after))
-        | inr j ↦ inl j
-      ]
+      | inl e ↦ inr (λ h st new g.
+          let i = c.loop-cell.invariant.2 c.in-Some.cell.now (subst (λ (l : List Cell). IsIn c.in-Some.cell.now l) (sym c.in-Some.ensures.steps) (inl refl)) in
+          let s = c.if-goes.ensures h st new (in_complex c.args.hold.now h c.args.b c.in-Some.cell.now st c.requires.held i).0 in
+          g.after (subst (λ (y : Cell). IsIn y (complex (with_point c.args.p (replay h)))) e s.after))
+      | inr j ↦ inl j
+    ]
     | inr stays ↦ inr stays
-  ])
+  ]),
 )
 
 pub returns : goal.returns

@@ -1,7 +1,5 @@
-use Rattle.std.proofs.Common.{subst, sym, ap, ◌∙◌, refl, arith, ℕ, ◌+◌, take}
+use Rattle.std.proofs.Common.{subst, sym, ap, ◌∙◌, arith, ℕ, ◌+◌, take}
 use Rattle.edit_history.specs.Edits.{point_of}
-use Rattle.edit_history.specs.Histories.{replay}
-use Rattle.point_order.specs.Sets.{IsIn}
 use Rattle.cell_store.specs.Buckets.{InHand}
 use Rattle.cell_store.specs.Shares.{Stands}
 use Rattle.cavity.specs.Growing.{HasGrown}
@@ -30,17 +28,19 @@ loop-p-preserved c =
     elim c.if-not-holds_point.branch [
       | then-not-holds_point+in_ok-insert w ↦ (
           let e = inserts g.history c.loop-p.number c.p-item.result w.entry_of.result g.count (not_held c.hold-hold.result.now g.history c.p-item.result st o (sym c.holds_point.ensures ∙ w.if-not-holds_point.true)) w.entry_of.ensures in
-          let more = grown_more c.args.points.now c.loop-p.p-index c.loop-p.number c.p-item.result c.loop-p.mesh w.insert.new.mesh w.entry_of.result c.loop-p-test.true c.p-item.is g (ap (λ x. point_of x.edit) (sym w.entry_of.ensures)) e (w.in_ok-insert.ensures.stands g.history g.stands e) in
-          (ap (λ (x : InHand). x.grid) w.mesh-is ∙ w.in_ok-insert.ensures.grid ∙ c.loop-p.invariant.0,
-           (let k = c.loop-p.invariant.1 in let n = w.number-is in omega (arith, k, n)),
-           subst (λ (n : ℕ). HasGrown c.args.points.now (take (c.loop-p.p-index + 1) c.args.points.now) n c.if-not-holds_point.mesh) (sym w.number-is)
-           (subst (λ (x : InHand). HasGrown c.args.points.now (take (c.loop-p.p-index + 1) c.args.points.now) (c.loop-p.number + 1) x) (sym w.mesh-is) more)))
+          let more = grown_more c.args.points.now c.loop-p.p-index c.loop-p.number c.p-item.result c.loop-p.mesh w.insert.new.mesh w.entry_of.result c.loop-p-test.true c.p-item.is g (ap (λ x. point_of x.edit) (sym w.entry_of.ensures)) e (w.in_ok-insert.ensures.stands g.history g.stands e) in (
+            ap (λ (x : InHand). x.grid) w.mesh-is ∙ w.in_ok-insert.ensures.grid ∙ c.loop-p.invariant.0,
+            (let k = c.loop-p.invariant.1 in let n = w.number-is in omega (arith, k, n)),
+            subst (λ (n : ℕ). HasGrown c.args.points.now (take (c.loop-p.p-index + 1) c.args.points.now) n c.if-not-holds_point.mesh) (sym w.number-is)
+                (subst (λ (x : InHand). HasGrown c.args.points.now (take (c.loop-p.p-index + 1) c.args.points.now) (c.loop-p.number + 1) x) (sym w.mesh-is) more),
+          ))
       | else-not-holds_point w ↦ (
-          let same = grown_same c.args.points.now c.loop-p.p-index c.loop-p.number c.p-item.result c.loop-p.mesh c.loop-p-test.true c.p-item.is g (held c.hold-hold.result.now g.history c.p-item.result st o (sym c.holds_point.ensures ∙ w.if-not-holds_point.false)) in
-          (ap (λ (x : InHand). x.grid) w.mesh-is ∙ c.loop-p.invariant.0,
-           (let k = c.loop-p.invariant.1 in let n = w.number-is in omega (arith, k, n)),
-           subst (λ (n : ℕ). HasGrown c.args.points.now (take (c.loop-p.p-index + 1) c.args.points.now) n c.if-not-holds_point.mesh) (sym w.number-is)
-           (subst (λ (x : InHand). HasGrown c.args.points.now (take (c.loop-p.p-index + 1) c.args.points.now) c.loop-p.number x) (sym w.mesh-is) same)))
+          let same = grown_same c.args.points.now c.loop-p.p-index c.loop-p.number c.p-item.result c.loop-p.mesh c.loop-p-test.true c.p-item.is g (held c.hold-hold.result.now g.history c.p-item.result st o (sym c.holds_point.ensures ∙ w.if-not-holds_point.false)) in (
+            ap (λ (x : InHand). x.grid) w.mesh-is ∙ c.loop-p.invariant.0,
+            (let k = c.loop-p.invariant.1 in let n = w.number-is in omega (arith, k, n)),
+            subst (λ (n : ℕ). HasGrown c.args.points.now (take (c.loop-p.p-index + 1) c.args.points.now) n c.if-not-holds_point.mesh) (sym w.number-is)
+                (subst (λ (x : InHand). HasGrown c.args.points.now (take (c.loop-p.p-index + 1) c.args.points.now) c.loop-p.number x) (sym w.mesh-is) same),
+          ))
     ]
 
 pub returns-clause-stands : goal.returns-clause-stands
