@@ -11,4 +11,6 @@ pub use edits::{Receipt, apply, begin};
 pub use lists::{complex, history, points};
 
 #[cfg(test)]
+mod hold_tests;
+#[cfg(test)]
 mod tests;
