@@ -5,7 +5,7 @@ ghost use Rattle.edit_history.specs.declared.history.Entry.{Entry};
 ghost use Rattle.cell_store.specs.Shares.{Stands};
 ghost use Rattle.cell_store.specs.Meshes.{StandsForSome};
 
-use crate::tests::{mesh_of, points_of};
+use crate::tests::mesh_of;
 use cell_store::{Across, Grid, Hold};
 use point_order::{Cell, Point};
 use std::process::Abort;
@@ -37,19 +37,20 @@ fn across_first<'a>(rt: &impl Abort, hold: &'a Hold, p: Point) -> (Across<'a>, A
 
 #[test]
 fn one_bucket_in_hand(rt: HostRuntime) -> Result<(), Fail> {
-    let corners = [[0, 0, 0], [0, 0, 9000], [0, 9000, 0], [9000, 0, 0]];
-    let corners = points_of(rt.alloc(), &corners)?;
-    let mut hold = mesh_of(rt.alloc(), Grid::new(2)?, &corners)?.into_hold();
-    for b in 1..8 {
-        take_out(&rt, &mut hold, b)?;
+    let a = Point::new(0, 0, 0)?;
+    let b = Point::new(0, 0, 9000)?;
+    let c = Point::new(0, 9000, 0)?;
+    let d = Point::new(9000, 0, 0)?;
+    assert!(rt; a != b && a != c && a != d && b != c && b != d && c != d);
+    let mut hold = mesh_of(rt.alloc(), Grid::new(2)?, &[a, b, c, d])?.into_hold();
+    for number in 1..8 {
+        take_out(&rt, &mut hold, number)?;
     }
     assert!(rt; hold.has(0));
     let copy = hold.copy_of(rt.alloc(), 0)?;
     assert_eq!(rt; copy.points().len(), 1);
     assert_eq!(rt; copy.cells().count(), 4);
     assert_eq!(rt; copy.entries().len(), 1);
-    let [a, b, c, d] = [corners[0], corners[1], corners[2], corners[3]];
-    assert!(rt; a != b && a != c && a != d && b != c && b != d && c != d);
     let whole = Cell::full(a, b, c, d);
     let abc = Cell::hull(a, b, c);
     let abd = Cell::hull(a, b, d);

@@ -235,7 +235,7 @@ const ROWS: [Row; 10] = [
     },
 ];
 
-pub fn points_of(alloc: Global, rows: &[[i64; 3]]) -> Result<Vec<Point>, Fail> {
+fn points_of(alloc: Global, rows: &[[i64; 3]]) -> Result<Vec<Point>, Fail> {
     let mut list = Vec::new(alloc);
     for [x, y, z] in rows {
         list.push(Point::new(*x, *y, *z)?)?;
@@ -368,7 +368,7 @@ fn rows_on_three_grids(rt: HostRuntime) -> Result<(), Fail> {
 }
 
 #[test]
-pub fn points_of_a_plane_have_no_four(rt: HostRuntime) -> Result<(), Fail> {
+fn points_of_a_plane_have_no_four(rt: HostRuntime) -> Result<(), Fail> {
     let flat = [[0, 0, 0], [2, 0, 0], [0, 2, 0], [2, 2, 0], [1, 1, 0]];
     let flat = points_of(rt.alloc(), &flat)?;
     assert_eq!(rt; find_four(&flat), Err(NotSolid));
