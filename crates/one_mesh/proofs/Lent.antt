@@ -1,9 +1,7 @@
 -- What tests ask of a hold from which buckets were taken.
-use Rattle.std.specs.Prelude.{◌≡◌, ◌≢◌, ℕ, zero, suc, ◌<◌, List, [], ◌∷◌, ◌⊎◌, Option, None, Some, IsSome, slice_set, length, slice_index_or}
-use Rattle.std.specs.List.{filter}
+use Rattle.std.specs.Prelude.{◌≡◌, ◌≢◌, ℕ, zero, suc, ◌<◌, List, ◌⊎◌, None, Some, IsSome, slice_set, length}
 use Rattle.std.proofs.Common.{refl, sym, ◌∙◌, ap, subst, inl, inr, arith}
 use Rattle.std.proofs.lemmas.List.{get_or-set_same, get_or-set_other}
-use Rattle.point_order.specs.Sets.{IsIn}
 use Rattle.edit_history.specs.declared.history.Entry.{Entry}
 use Rattle.cell_store.specs.Buckets.{Content, InHand, bucket_at, no_room}
 use Rattle.cell_store.specs.Shares.{Stands}
@@ -23,14 +21,10 @@ stands_without old new b taken t e h st = fewer_stand new old h (record { grid =
   where
     below : b < length old.places
     below = in_hand_below old.places b (subst IsSome (sym t) refl)
+
     none_some : (c : Content) → None ≡ Some c → ⊥
     none_some c e = absurd (cc e)
+
     by : (k : ℕ) (c : Content) → bucket_at (slice_set old.places b None) k ≡ Some c → (k ≡ b) ⊎ (k ≢ b) → bucket_at old.places k ≡ Some c
     by k c q (inl w) = absurd (none_some c (sym (get_or-set_same old.places b None None below) ∙ sym (ap (bucket_at (slice_set old.places b None)) w) ∙ q))
     by k c q (inr n) = sym (get_or-set_other old.places b k None None n) ∙ q
-
--- the element at a place is one of the list
-pub in_or : {X : Type 0} (l : List X) (i : ℕ) (d : X) → i < length l → IsIn (slice_index_or l i d) l
-in_or [] i d h = absurd (omega (arith, h))
-in_or (y ∷ l) zero d h = inl refl
-in_or (y ∷ l) (suc i) d h = inr (in_or l i d (omega (arith, h)))

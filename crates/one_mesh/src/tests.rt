@@ -340,8 +340,14 @@ fn compare(rt: &impl Abort, alloc: Global, mesh: &Mesh, row: &Row) -> Result<(),
             hull.push(Some(*i))?;
         }
     }
-    assert_eq!(rt; places_of(alloc, &all, 4, &left)?.as_slice(), cells.as_slice());
-    assert_eq!(rt; places_of(alloc, &all, 3, &left)?.as_slice(), hull.as_slice());
+    assert_eq!(rt;
+        places_of(alloc, &all, 4, &left)?.as_slice(),
+        cells.as_slice()
+    );
+    assert_eq!(rt;
+        places_of(alloc, &all, 3, &left)?.as_slice(),
+        hull.as_slice()
+    );
     Ok(())
 }
 
