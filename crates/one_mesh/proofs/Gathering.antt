@@ -29,12 +29,15 @@ flat_next f l n d h = ap (λ k. flat_map f (take k l)) one ∙ next f l n d h
   where
     one : n + 1 ≡ suc n
     one = omega arith
+
     behind : {Y : Type 0} (a b c : List Y) → a ++ (b ++ c) ≡ (a ++ b) ++ c
     behind [] b c = refl
     behind (x ∷ a) b c = ap (λ m. x ∷ m) (behind a b c)
+
     nothing : {Y : Type 0} (a : List Y) → a ++ [] ≡ a
     nothing [] = refl
     nothing (x ∷ a) = ap (λ m. x ∷ m) (nothing a)
+
     next : {X Y : Type 0} (f : X → List Y) (l : List X) (n : ℕ) (d : X) → n < length l → flat_map f (take (suc n) l) ≡ flat_map f (take n l) ++ f (slice_index_or l n d)
     next f [] n d h = absurd (omega (arith, h))
     next f (x ∷ l) zero d h = nothing (f x)
@@ -54,11 +57,13 @@ same_next l n x old new h e s m = (there, back)
   where
     next : flat_map cells_of (take (n + 1) l) ≡ flat_map cells_of (take n l) ++ x.cells
     next = flat_next cells_of l n None h ∙ ap (λ o. flat_map cells_of (take n l) ++ cells_of o) e
+
     there : (c : Cell) → IsIn c (flat_map cells_of (take (n + 1) l)) → IsIn c new
     there c i = subst (λ (v : List Cell). IsIn c v) (sym m.2) (elim (from_append c (flat_map cells_of (take n l)) x.cells (subst (λ (v : List Cell). IsIn c v) next i)) [
       | inl j ↦ in_left c old m.0 (s.0 c j)
       | inr j ↦ in_right c old m.0 (in_moved m.0 x.cells c (IsPermutation-sym x.cells m.0 m.1) j)
     ])
+
     back : (c : Cell) → IsIn c new → IsIn c (flat_map cells_of (take (n + 1) l))
     back c i = subst (λ (v : List Cell). IsIn c v) (sym next) (elim (from_append c old m.0 (subst (λ (v : List Cell). IsIn c v) m.2 i)) [
       | inl j ↦ in_left c (flat_map cells_of (take n l)) x.cells (s.1 c j)

@@ -92,23 +92,25 @@ pub(crate) fn has_point(mesh: &Mesh, p: Point) -> bool
 }
 
 // Adds a point.
-fn add(
-    alloc: Global,
-    mesh: &mut Mesh,
-    number: u64,
-    tag: u32,
-    p: Point,
-) -> Result<Reply, AllocError>
+fn add(alloc: Global, mesh: &mut Mesh, number: u64, tag: u32, p: Point) -> Result<Reply, AllocError>
     requires { IsNumbered mesh.old number }
     ensures applied { IfOk result (λ reply. (h : List Entry) → Stands mesh.old h → IsApplied h tag (Add p) number reply mesh.new) }
     ensures refused { OnErr result (IsAsBefore mesh.old mesh.new) }
     ensures grid { mesh.new.grid ≡ mesh.old.grid }
 {
     if has_point(mesh, p) {
-        note(alloc, mesh, entry_of(number, tag, Edit::Add(p), Reply::Duplicate))?;
+        note(
+            alloc,
+            mesh,
+            entry_of(number, tag, Edit::Add(p), Reply::Duplicate),
+        )?;
         Ok(Reply::Duplicate)
     } else {
-        insert(alloc, mesh, entry_of(number, tag, Edit::Add(p), Reply::Inserted))?;
+        insert(
+            alloc,
+            mesh,
+            entry_of(number, tag, Edit::Add(p), Reply::Inserted),
+        )?;
         Ok(Reply::Inserted)
     }
 }
@@ -148,7 +150,11 @@ fn take_there(
             Ok(Reply::Removed)
         }
         None => {
-            note(alloc, mesh, entry_of(number, tag, Edit::Take(v), Reply::Flat))?;
+            note(
+                alloc,
+                mesh,
+                entry_of(number, tag, Edit::Take(v), Reply::Flat),
+            )?;
             Ok(Reply::Flat)
         }
     }
@@ -171,7 +177,11 @@ fn take(
         let reply = take_there(alloc, mesh, number, tag, v)?;
         Ok(reply)
     } else {
-        note(alloc, mesh, entry_of(number, tag, Edit::Take(v), Reply::Missing))?;
+        note(
+            alloc,
+            mesh,
+            entry_of(number, tag, Edit::Take(v), Reply::Missing),
+        )?;
         Ok(Reply::Missing)
     }
 }
@@ -183,12 +193,7 @@ fn take(
 ///
 /// # Errors
 /// Want of memory. The mesh is then as before.
-pub fn apply(
-    alloc: Global,
-    mesh: &mut Mesh,
-    tag: u32,
-    edit: Edit,
-) -> Result<Receipt, AllocError>
+pub fn apply(alloc: Global, mesh: &mut Mesh, tag: u32, edit: Edit) -> Result<Receipt, AllocError>
     requires { HasFewEntries mesh.old }
     ensures applied { IfOk result (λ r. (h : List Entry) → Stands mesh.old h → IsApplied h tag edit r.number r.reply mesh.new) }
     ensures refused { OnErr result (IsAsBefore mesh.old mesh.new) }

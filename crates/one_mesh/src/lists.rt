@@ -15,7 +15,6 @@ use point_order::{Cell, Point};
 use std::alloc::{AllocError, Global};
 use vertex_removal::points_in_order;
 
-
 // The entries of all buckets.
 fn all_entries_of(alloc: Global, mesh: &Mesh) -> Result<Vec<Entry>, AllocError>
     ensures entries { IfOk result (λ list. list.items ≡ all_entries mesh.now.places) }
