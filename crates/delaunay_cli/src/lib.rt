@@ -17,3 +17,5 @@ pub use top::run;
 mod shape_tests;
 #[cfg(test)]
 mod tests;
+#[cfg(test)]
+mod trial_tests;

@@ -8,13 +8,13 @@ use std::process::Abort;
 use std::test::Fail;
 
 // A file with the report that is wanted of it, and the tags of its history.
-struct Case {
-    input: &'static str,
+pub struct Case {
+    pub input: &'static str,
     text: &'static str,
     tags: &'static [u32],
 }
 
-const MESHES: [Case; 12] = [
+pub const MESHES: [Case; 12] = [
     // the tetrahedron
     Case {
         input: "mesh3 1\npoints\n0 0 0\n2 0 0\n0 2 0\n0 0 2\nedits\nradii\n1\nend\n",
