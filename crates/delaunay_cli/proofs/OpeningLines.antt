@@ -142,9 +142,11 @@ opening_lines points edits four e = by (opening_four points) (four_law points) e
   where
     same : (a b : List ℕ) → Some a ≡ Some b → a ≡ b
     same a b e = cc
+
     two_maps : (ps : List ℕ) → map added (tagged_points points ps) ≡ map (λ p. (p, Add (slice_index points p))) ps
     two_maps [] = refl
     two_maps (p ∷ ps) = ap (λ (t : List (ℕ × Edit)). (p, Add (slice_index points p)) ∷ t) (two_maps ps)
+
     by : (o : Option Four) → IfSome o (AreIndependentPlaces points) → option_map places o ≡ Some four → map added (tagged_points points four) ≡ filter (λ line. is_among line.0 four) (tagged_lines points edits)
     by None i e = absurd (cc e)
     by (Some f) w e = subst (λ (v : List ℕ). map added (tagged_points points v) ≡ filter (λ line. is_among line.0 v) (tagged_lines points edits)) (same (places f) four e)
@@ -152,12 +154,14 @@ opening_lines points edits four e = by (opening_four points) (four_law points) e
       where
         none : (p : ℕ) → p - 0 ≡ p
         none p = omega arith
+
         below : (p : ℕ) → IsIn p (places f) → p < length points
         below p (inl q) = omega (arith, w.ascending.0, w.ascending.1, w.ascending.2, w.within, q)
         below p (inr (inl q)) = omega (arith, w.ascending.1, w.ascending.2, w.within, q)
         below p (inr (inr (inl q))) = omega (arith, w.ascending.2, w.within, q)
         below p (inr (inr (inr (inl q)))) = omega (arith, w.within, q)
         below p (inr (inr (inr (inr i)))) = absurd i
+
         range : (p : ℕ) → IsIn p (places f) → (0 ≤ p) × (p < 0 + length (map Add points ++ edits))
         range p i = let b = below p i in (omega arith, omega (arith, b, length-append (map Add points) edits, length-map points Add))
 
@@ -182,14 +186,19 @@ filter_next t lines n d l e = ap (filter t) (one n ∙ next 0 lines n l e) ∙ f
   where
     up : (n : ℕ) → n + 1 ≡ suc n
     up n = omega arith
+
     one : (n : ℕ) → take (n + 1) (enumerate_from 0 lines) ≡ take (suc n) (enumerate_from 0 lines)
     one n = ap (λ (k : ℕ). take k (enumerate_from 0 lines)) (up n)
+
     from_0 : (n : ℕ) → 0 + n ≡ n
     from_0 n = omega arith
+
     more : (m n : ℕ) → m + 1 + n ≡ m + suc n
     more m n = omega arith
+
     none : (m : ℕ) → m ≡ m + 0
     none m = omega arith
+
     next : (m : ℕ) (lines : List Edit) (n : ℕ) → n < length lines → d ≡ slice_index_or lines n d → take (suc n) (enumerate_from m lines) ≡ take n (enumerate_from m lines) ++ (m + n, d) ∷ []
     next m [] n l e = absurd (omega (arith, l))
     next m (x ∷ lines) zero l e = ap (λ (y : ℕ × Edit). y ∷ []) (ap (λ (k : ℕ). (k, x)) (none m) ∙ ap (λ (y : Edit). (m + 0, y)) (sym e))
@@ -277,8 +286,10 @@ tagged_is points four e = by (opening_four points) e
   where
     at : List ℕ → ℕ → ℕ × ℕ
     at four k = (slice_index_or four k 0, slice_index points (slice_index_or four k 0))
+
     same : (a b : List ℕ) → Some a ≡ Some b → a ≡ b
     same a b e = cc
+
     by : (o : Option Four) → option_map places o ≡ Some four →
         (slice_index_or four 0 0, slice_index points (slice_index_or four 0 0)) ∷ (slice_index_or four 1 0, slice_index points (slice_index_or four 1 0)) ∷ (slice_index_or four 2 0, slice_index points (slice_index_or four 2 0)) ∷ (slice_index_or four 3 0, slice_index points (slice_index_or four 3 0)) ∷ [] ≡ tagged_points points four
     by None e = absurd (cc e)
@@ -290,6 +301,7 @@ four_many points four e = by (opening_four points) e
   where
     same : (a b : List ℕ) → Some a ≡ Some b → a ≡ b
     same a b e = cc
+
     by : (o : Option Four) → option_map places o ≡ Some four → length (tagged_points points four) ≤ 4
     by None e = absurd (cc e)
     by (Some f) e = rw (sym (same (places f) four e)) (omega arith)
