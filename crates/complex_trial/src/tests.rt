@@ -1,108 +1,37 @@
-//! Complexes that an independent program found.
+//! The tetrahedron. A test of the top crate runs the trial over worked files with ties.
 
 use crate::complex_by_trial;
 use point_order::{Cell, Point};
-use std::alloc::Global;
+use std::alloc::{AllocError, Global};
+use std::process::Abort;
 use std::test::Fail;
 
-// A set of points in ascending order, and its cells, by places among them: Full cells, then Open cells.
-#[derive(Clone, Copy)]
-struct Row {
-    points: &'static [[i64; 3]],
-    full: &'static [[usize; 4]],
-    hull: &'static [[usize; 3]],
-}
-
-const ROWS: [Row; 3] = [
-    // a tie, whose greatest point is outside
-    Row {
-        points: &[[0, 0, 0], [0, 0, 2], [0, 2, 0], [2, 0, 0], [2, 2, 2]],
-        full: &[[0, 1, 2, 3], [1, 2, 3, 4]],
-        hull: &[
-            [0, 1, 2],
-            [0, 1, 3],
-            [0, 2, 3],
-            [1, 2, 4],
-            [1, 3, 4],
-            [2, 3, 4],
-        ],
-    },
-    // a point beyond a facet, inside the sphere
-    Row {
-        points: &[[0, 0, 0], [0, 0, 2], [0, 2, 0], [1, 1, 1], [2, 0, 0]],
-        full: &[[0, 1, 2, 3], [0, 1, 3, 4], [0, 2, 3, 4]],
-        hull: &[
-            [0, 1, 2],
-            [0, 1, 4],
-            [0, 2, 4],
-            [1, 2, 3],
-            [1, 3, 4],
-            [2, 3, 4],
-        ],
-    },
-    // the cube, with five ties
-    Row {
-        points: &[
-            [0, 0, 0],
-            [0, 0, 2],
-            [0, 2, 0],
-            [0, 2, 2],
-            [2, 0, 0],
-            [2, 0, 2],
-            [2, 2, 0],
-            [2, 2, 2],
-        ],
-        full: &[
-            [0, 1, 2, 4],
-            [1, 2, 3, 4],
-            [1, 3, 4, 5],
-            [2, 3, 4, 6],
-            [3, 4, 5, 6],
-            [3, 5, 6, 7],
-        ],
-        hull: &[
-            [0, 1, 2],
-            [0, 1, 4],
-            [0, 2, 4],
-            [1, 2, 3],
-            [1, 3, 5],
-            [1, 4, 5],
-            [2, 3, 6],
-            [2, 4, 6],
-            [3, 5, 7],
-            [3, 6, 7],
-            [4, 5, 6],
-            [5, 6, 7],
-        ],
-    },
-];
-
-// Whether the cell has exactly the points at these places.
-fn is_at(cell: &Cell, points: &[Point], places: &[usize]) -> bool {
-    cell.points().len() == places.len()
-        && places.iter().all(|i| match points.get(*i) {
-            Some(p) => cell.has(*p),
-            None => false,
-        })
+// The complex of the points of a Full cell; nothing of an Open one.
+fn complex_of(alloc: Global, cell: &Cell) -> Result<Vec<Cell>, AllocError> {
+    match cell {
+        Cell::Full(quad) => complex_by_trial(alloc, quad.points()),
+        Cell::Open(_) => Ok(Vec::new(alloc)),
+    }
 }
 
 #[test]
-fn cells(rt: HostRuntime) -> Result<(), Fail> {
-    for row in ROWS {
-        let mut points = Vec::new(rt.alloc());
-        for [x, y, z] in row.points {
-            points.push(Point::new(*x, *y, *z)?)?;
-        }
-        let cells = complex_by_trial(rt.alloc(), &points)?;
-        let count = row.full.len();
-        assert_eq!(rt; cells.len(), count + row.hull.len());
-        for (i, cell) in cells.iter().enumerate() {
-            if i < count {
-                assert!(rt; is_at(cell, &points, &row.full[i]));
-            } else if i - count < row.hull.len() {
-                assert!(rt; is_at(cell, &points, &row.hull[i - count]));
-            }
-        }
-    }
+fn tetrahedron(rt: HostRuntime) -> Result<(), Fail> {
+    let a = Point::new(0, 0, 0)?;
+    let b = Point::new(0, 0, 2)?;
+    let c = Point::new(0, 2, 0)?;
+    let d = Point::new(2, 0, 0)?;
+    assert!(rt; a < b);
+    assert!(rt; b < c);
+    assert!(rt; c < d);
+    let full = Cell::full(a, b, c, d);
+    let want = [
+        full,
+        Cell::hull(a, b, c),
+        Cell::hull(a, b, d),
+        Cell::hull(a, c, d),
+        Cell::hull(b, c, d),
+    ];
+    let cells = complex_of(rt.alloc(), &full)?;
+    assert_eq!(rt; cells.as_slice(), want.as_slice());
     Ok(())
 }
