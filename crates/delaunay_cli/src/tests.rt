@@ -14,7 +14,7 @@ pub struct Case {
     tags: &'static [u32],
 }
 
-pub const MESHES: [Case; 13] = [
+pub const MESHES: [Case; 12] = [
     // the tetrahedron
     Case {
         input: "mesh3 1\npoints\n0 0 0\n2 0 0\n0 2 0\n0 0 2\nedits\nradii\n1\nend\n",
@@ -86,16 +86,6 @@ pub const MESHES: [Case; 13] = [
         input: "mesh3 1\npoints\n0 0 0\n2 0 0\n0 2 0\n0 0 2\nedits\n+ 5 5 5\n+ 5 5 5\n- 5 5 5\n- 5 5 5\nradii\nend\n",
         text: "mesh3-out 1\nreplies 8\nInserted\nInserted\nInserted\nInserted\nInserted\nDuplicate\nRemoved\nMissing\npoints 4\n0 0 0\n0 0 2\n0 2 0\n2 0 0\ncells 1\n0 1 2 3\nhull 4\n0 1 2\n0 1 3\n0 2 3\n1 2 3\nend\n",
         tags: &[0, 1, 2, 3, 4, 5, 6, 7],
-    },
-    // 63 points on a line, and two off it
-    Case {
-        input: "mesh3 1\npoints\n0 0 0\n1 0 0\n2 0 0\n3 0 0\n4 0 0\n5 0 0\n6 0 0\n7 0 0\n8 0 0\n9 0 0\n10 0 0\n11 0 0\n12 0 0\n13 0 0\n14 0 0\n15 0 0\n16 0 0\n17 0 0\n18 0 0\n19 0 0\n20 0 0\n21 0 0\n22 0 0\n23 0 0\n24 0 0\n25 0 0\n26 0 0\n27 0 0\n28 0 0\n29 0 0\n30 0 0\n31 0 0\n32 0 0\n33 0 0\n34 0 0\n35 0 0\n36 0 0\n37 0 0\n38 0 0\n39 0 0\n40 0 0\n41 0 0\n42 0 0\n43 0 0\n44 0 0\n45 0 0\n46 0 0\n47 0 0\n48 0 0\n49 0 0\n50 0 0\n51 0 0\n52 0 0\n53 0 0\n54 0 0\n55 0 0\n56 0 0\n57 0 0\n58 0 0\n59 0 0\n60 0 0\n61 0 0\n62 0 0\n0 1 0\n0 0 1\nedits\nradii\nend\n",
-        text: "mesh3-out 1\nreplies 65\nInserted\nInserted\nInserted\nInserted\nInserted\nInserted\nInserted\nInserted\nInserted\nInserted\nInserted\nInserted\nInserted\nInserted\nInserted\nInserted\nInserted\nInserted\nInserted\nInserted\nInserted\nInserted\nInserted\nInserted\nInserted\nInserted\nInserted\nInserted\nInserted\nInserted\nInserted\nInserted\nInserted\nInserted\nInserted\nInserted\nInserted\nInserted\nInserted\nInserted\nInserted\nInserted\nInserted\nInserted\nInserted\nInserted\nInserted\nInserted\nInserted\nInserted\nInserted\nInserted\nInserted\nInserted\nInserted\nInserted\nInserted\nInserted\nInserted\nInserted\nInserted\nInserted\nInserted\nInserted\nInserted\npoints 65\n0 0 0\n0 0 1\n0 1 0\n1 0 0\n2 0 0\n3 0 0\n4 0 0\n5 0 0\n6 0 0\n7 0 0\n8 0 0\n9 0 0\n10 0 0\n11 0 0\n12 0 0\n13 0 0\n14 0 0\n15 0 0\n16 0 0\n17 0 0\n18 0 0\n19 0 0\n20 0 0\n21 0 0\n22 0 0\n23 0 0\n24 0 0\n25 0 0\n26 0 0\n27 0 0\n28 0 0\n29 0 0\n30 0 0\n31 0 0\n32 0 0\n33 0 0\n34 0 0\n35 0 0\n36 0 0\n37 0 0\n38 0 0\n39 0 0\n40 0 0\n41 0 0\n42 0 0\n43 0 0\n44 0 0\n45 0 0\n46 0 0\n47 0 0\n48 0 0\n49 0 0\n50 0 0\n51 0 0\n52 0 0\n53 0 0\n54 0 0\n55 0 0\n56 0 0\n57 0 0\n58 0 0\n59 0 0\n60 0 0\n61 0 0\n62 0 0\ncells 62\n0 1 2 3\n1 2 3 4\n1 2 4 5\n1 2 5 6\n1 2 6 7\n1 2 7 8\n1 2 8 9\n1 2 9 10\n1 2 10 11\n1 2 11 12\n1 2 12 13\n1 2 13 14\n1 2 14 15\n1 2 15 16\n1 2 16 17\n1 2 17 18\n1 2 18 19\n1 2 19 20\n1 2 20 21\n1 2 21 22\n1 2 22 23\n1 2 23 24\n1 2 24 25\n1 2 25 26\n1 2 26 27\n1 2 27 28\n1 2 28 29\n1 2 29 30\n1 2 30 31\n1 2 31 32\n1 2 32 33\n1 2 33 34\n1 2 34 35\n1 2 35 36\n1 2 36 37\n1 2 37 38\n1 2 38 39\n1 2 39 40\n1 2 40 41\n1 2 41 42\n1 2 42 43\n1 2 43 44\n1 2 44 45\n1 2 45 46\n1 2 46 47\n1 2 47 48\n1 2 48 49\n1 2 49 50\n1 2 50 51\n1 2 51 52\n1 2 52 53\n1 2 53 54\n1 2 54 55\n1 2 55 56\n1 2 56 57\n1 2 57 58\n1 2 58 59\n1 2 59 60\n1 2 60 61\n1 2 61 62\n1 2 62 63\n1 2 63 64\nhull 126\n0 1 2\n0 1 3\n0 2 3\n1 2 64\n1 3 4\n1 4 5\n1 5 6\n1 6 7\n1 7 8\n1 8 9\n1 9 10\n1 10 11\n1 11 12\n1 12 13\n1 13 14\n1 14 15\n1 15 16\n1 16 17\n1 17 18\n1 18 19\n1 19 20\n1 20 21\n1 21 22\n1 22 23\n1 23 24\n1 24 25\n1 25 26\n1 26 27\n1 27 28\n1 28 29\n1 29 30\n1 30 31\n1 31 32\n1 32 33\n1 33 34\n1 34 35\n1 35 36\n1 36 37\n1 37 38\n1 38 39\n1 39 40\n1 40 41\n1 41 42\n1 42 43\n1 43 44\n1 44 45\n1 45 46\n1 46 47\n1 47 48\n1 48 49\n1 49 50\n1 50 51\n1 51 52\n1 52 53\n1 53 54\n1 54 55\n1 55 56\n1 56 57\n1 57 58\n1 58 59\n1 59 60\n1 60 61\n1 61 62\n1 62 63\n1 63 64\n2 3 4\n2 4 5\n2 5 6\n2 6 7\n2 7 8\n2 8 9\n2 9 10\n2 10 11\n2 11 12\n2 12 13\n2 13 14\n2 14 15\n2 15 16\n2 16 17\n2 17 18\n2 18 19\n2 19 20\n2 20 21\n2 21 22\n2 22 23\n2 23 24\n2 24 25\n2 25 26\n2 26 27\n2 27 28\n2 28 29\n2 29 30\n2 30 31\n2 31 32\n2 32 33\n2 33 34\n2 34 35\n2 35 36\n2 36 37\n2 37 38\n2 38 39\n2 39 40\n2 40 41\n2 41 42\n2 42 43\n2 43 44\n2 44 45\n2 45 46\n2 46 47\n2 47 48\n2 48 49\n2 49 50\n2 50 51\n2 51 52\n2 52 53\n2 53 54\n2 54 55\n2 55 56\n2 56 57\n2 57 58\n2 58 59\n2 59 60\n2 60 61\n2 61 62\n2 62 63\n2 63 64\nend\n",
-        tags: &[
-            0, 1, 63, 64, 2, 3, 4, 5, 6, 7, 8, 9, 10, 11, 12, 13, 14, 15, 16, 17, 18, 19, 20, 21,
-            22, 23, 24, 25, 26, 27, 28, 29, 30, 31, 32, 33, 34, 35, 36, 37, 38, 39, 40, 41, 42, 43,
-            44, 45, 46, 47, 48, 49, 50, 51, 52, 53, 54, 55, 56, 57, 58, 59, 60, 61, 62,
-        ],
     },
 ];
 
