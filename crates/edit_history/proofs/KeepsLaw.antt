@@ -1,12 +1,10 @@
 -- The history of one thread keeps the file.
-use Rattle.std.specs.Prelude.{◌≡◌, ℕ, zero, suc, ◌+◌, ◌-◌, ◌<◌, ◌≤◌, Bool, true, false, cond, not, ◌==◌, List, [], ◌∷◌, ◌++◌, ◌⊎◌, map, length, take, slice_index, Option, None, Some, IfSome, AllPairs, IsPermutation}
+use Rattle.std.specs.Prelude.{◌≡◌, ℕ, zero, suc, ◌+◌, ◌-◌, ◌<◌, ◌≤◌, Bool, true, false, cond, not, List, [], ◌∷◌, ◌++◌, ◌⊎◌, map, length, take, slice_index, Option, None, Some, IfSome, AllPairs, IsPermutation}
 use Rattle.std.specs.List.{enumerate_from, filter}
 use Rattle.std.proofs.Common.{refl, sym, ◌∙◌, ap, subst, inl, inr, arith, get_or, length-append}
 use Rattle.std.proofs.lemmas.List.{take-map, take-append-le, length-map, take_all}
 use Rattle.std.proofs.lemmas.List.Sorted.{IsPermutation-filter_both}
-use Rattle.std.proofs.lemmas.Bool.Decides.{nat_tests}
 use Rattle.point_order.specs.Sets.{IsIn, IsAscending, is_among}
-use Rattle.point_order.proofs.SetLaws.{below-each}
 use Rattle.edit_history.specs.declared.history.Edit.{Edit}
 use Rattle.edit_history.specs.declared.history.Edit.TheVariants.{Add}
 use Rattle.edit_history.specs.declared.history.Entry.{Entry}
@@ -17,6 +15,7 @@ use Rattle.edit_history.specs.OneThread.{places, is_opening, tagged_lines, lines
 use Rattle.edit_history.specs.Laws.{IsFirstPlace, AreIndependent, KeepsLaw}
 use Rattle.edit_history.proofs.Numbers.{among-in, in-among}
 use Rattle.edit_history.proofs.Lines.{in-filtered, in-append, at-in}
+use Rattle.edit_history.proofs.LinesAtPlaces.{low, line_at, picked}
 use Rattle.edit_history.proofs.OpeningSolid.{four_law}
 
 abbrev tag_of : ℕ × Edit → ℕ
@@ -81,11 +80,6 @@ later-pairs R (x ∷ xs) h (suc i) (suc j) d l m = later-pairs R xs h.1 i j d (o
 
 -- ---- numbered lines
 
-low : {X : Type 0} (n : ℕ) (xs : List X) (line : ℕ × X) → IsIn line (enumerate_from n xs) → n ≤ line.0
-low n [] line i = absurd i
-low {X} n (x ∷ xs) line (inl e) = let f : n ≡ line.0 = ap (λ (p : ℕ × X). p.0) e in omega arith
-low n (x ∷ xs) line (inr i) = omega (arith, low (n + 1) xs line i)
-
 numbered-later : (n : ℕ) (xs : List Edit) → EachLater InOrder (enumerate_from n xs)
 numbered-later n [] = tt
 numbered-later n (x ∷ xs) = (λ y i q. omega (arith, low (n + 1) xs y i), numbered-later (n + 1) xs)
@@ -101,51 +95,6 @@ line-at n (p ∷ points) edits line (inr i) h =
     let l : n + 1 ≤ line.0 = low (n + 1) (map Add points ++ edits) line i in
     let z : suc (line.0 - (n + 1)) ≡ line.0 - n = omega arith in
     line-at (n + 1) points edits line i (omega arith) ∙ ap (slice_index (p ∷ points)) z
-
--- ---- the lines whose places are in an ascending list
-
-filter-same : {X : Type 0} (t u : X → Bool) (xs : List X) → ((y : X) → IsIn y xs → t y ≡ u y) → filter t xs ≡ filter u xs
-filter-same t u [] f = refl
-filter-same {X} t u (x ∷ xs) f = rw (f x (inl refl), filter-same t u xs (λ y i. f y (inr i))) refl
-
-filter-none : {X : Type 0} (t : X → Bool) (xs : List X) → ((y : X) → IsIn y xs → t y ≡ false) → filter t xs ≡ []
-filter-none t [] f = refl
-filter-none t (x ∷ xs) f = rw (f x (inl refl)) (filter-none t xs (λ y i. f y (inr i)))
-
-not-among : (p n : ℕ) (ps : List ℕ) → ((q : ℕ) → IsIn q (p ∷ ps) → n < q) → is_among n (p ∷ ps) ≡ false
-not-among p n ps f = by (is_among n (p ∷ ps)) refl
-  where
-    by : (b : Bool) → is_among n (p ∷ ps) ≡ b → b ≡ false
-    by true e = absurd (let l = f n (among-in (p ∷ ps) n e) in omega arith)
-    by false e = refl
-
-among-later : (p n : ℕ) (ps : List ℕ) → p < n → is_among n (p ∷ ps) ≡ is_among n ps
-among-later p n ps h = let e : (p == n) ≡ false = grind (arith, nat_tests) in rw e refl
-
-picked : (ps : List ℕ) (n : ℕ) (xs : List Edit) → IsAscending ps → ((p : ℕ) → IsIn p ps → (n ≤ p) × (p < n + length xs)) → map tag_of (filter (λ line. is_among line.0 ps) (enumerate_from n xs)) ≡ ps
-picked [] n xs a f = ap (map tag_of) (filter-none (λ line. is_among line.0 []) (enumerate_from n xs) (λ y i. refl))
-picked (p ∷ ps) n [] a f = let b = f p (inl refl) in absurd (omega (arith, b.0, b.1))
-picked (p ∷ ps) n (x ∷ xs) a f =
-    elim (side n p (f p (inl refl)).0) [
-      | inl e ↦ here e (picked ps (n + 1) xs a.1 (λ q i. let b = f q (inr i) in let l : p < q = below-each p ps a.0 a.1 q i in (omega arith, omega (arith, b.1))))
-      | inr l ↦ there l (picked (p ∷ ps) (n + 1) xs a (λ q i. let b = f q i in (above l q i, omega (arith, b.1))))
-    ]
-  where
-    side : (n p : ℕ) → n ≤ p → (n ≡ p) ⊎ (n < p)
-    side n p h = grind arith
-
-    above : n < p → (q : ℕ) → IsIn q (p ∷ ps) → n + 1 ≤ q
-    above l q (inl e) = omega arith
-    above l q (inr i) = let b : p < q = below-each p ps a.0 a.1 q i in omega arith
-
-    here : n ≡ p → map tag_of (filter (λ line. is_among line.0 ps) (enumerate_from (n + 1) xs)) ≡ ps → map tag_of (filter (λ line. is_among line.0 (p ∷ ps)) (enumerate_from n (x ∷ xs))) ≡ p ∷ ps
-    here e r =
-        let g : is_among n (p ∷ ps) ≡ true = in-among (p ∷ ps) n (inl (sym e)) in
-        let same = filter-same (λ line. is_among line.0 (p ∷ ps)) (λ line. is_among line.0 ps) (enumerate_from (n + 1) xs) (λ y i. let l = low (n + 1) xs y i in among-later p y.0 ps (omega arith)) in
-        rw g (ap (λ (t : List (ℕ × Edit)). n ∷ map tag_of t) same ∙ ap (λ (t : List ℕ). n ∷ t) r ∙ ap (λ (m : ℕ). m ∷ ps) e)
-
-    there : n < p → map tag_of (filter (λ line. is_among line.0 (p ∷ ps)) (enumerate_from (n + 1) xs)) ≡ p ∷ ps → map tag_of (filter (λ line. is_among line.0 (p ∷ ps)) (enumerate_from n (x ∷ xs))) ≡ p ∷ ps
-    there l r = rw (not-among p n ps (λ q i. let b = above l q i in omega arith)) r
 
 -- ---- the file
 
@@ -171,7 +120,11 @@ module _ (points : List ℕ) (edits : List Edit) (four : Four) (w : AreIndepende
   in-range p i = let f = first-place p i in (omega arith, omega (arith, f.1, length-append (map Add points) edits, length-map points Add))
 
   opening-tags : map tag_of (filter opens all) ≡ places four
-  opening-tags = picked (places four) 0 (map Add points ++ edits) places-ascending in-range
+  opening-tags = ap (map tag_of) (picked (places four) 0 (map Add points ++ edits) (Add 0) places-ascending in-range) ∙ tags (places four)
+    where
+      tags : (ps : List ℕ) → map tag_of (map (line_at 0 (map Add points ++ edits) (Add 0)) ps) ≡ ps
+      tags [] = refl
+      tags (p ∷ ps) = ap (λ (t : List ℕ). p ∷ t) (tags ps)
 
   -- a line of the four and another line of the same point
   crossing : (x y : ℕ × Edit) → IsIn x (filter opens all) → IsIn y (filter (λ line. not (opens line)) all) → InOrder x y

@@ -7,4 +7,5 @@ pub mod SetEdits
 pub mod Lines
 pub mod Numbers
 pub mod HistoryLaws
+pub mod LinesAtPlaces
 pub mod KeepsLaw
