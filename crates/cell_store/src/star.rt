@@ -1,8 +1,9 @@
 //! The cells at a point, and the cell across a facet.
 
 ghost use Rattle.std.specs.Prelude.{◌≡◌, ◌↔◌, IsTrue, MatchOption};
-ghost use Rattle.point_order.specs.Sets.{IsIn};
-ghost use Rattle.point_order.specs.Facets.{facets_of};
+ghost use Rattle.std.specs.List.{list_all};
+ghost use Rattle.point_order.specs.Sets.{IsIn, is_among};
+ghost use Rattle.point_order.specs.Facets.{facets_of, points_of};
 ghost use Rattle.cell_store.specs.Shares.{points_on};
 ghost use Rattle.cell_store.specs.Others.{IsOtherOf, HaveNoOther};
 
@@ -55,11 +56,25 @@ pub(crate) fn facet_points(facet: &Facet) -> &[Point]
     }
 }
 
-// Whether the cell is on the facet.
-fn is_on(cell: &Cell, facet: &Facet) -> bool
+// Whether the cell has all these points.
+fn has_all(cell: &Cell, points: &[Point]) -> bool
+    ensures { result ≡ list_all (λ p. is_among p (points_of cell.now)) points.now }
+{
+    points.iter().all(|p| cell.has(*p))
+}
+
+// Whether the facet is one of the cell's.
+fn is_facet_of(cell: &Cell, facet: &Facet) -> bool
     ensures { IsTrue result ↔ IsIn facet.now (facets_of cell.now) }
 {
     cell.facets().contains(facet)
+}
+
+// Whether the cell is on the facet. Most cells lack one of its points, and their facets are not looked at.
+fn is_on(cell: &Cell, facet: &Facet) -> bool
+    ensures { IsTrue result ↔ IsIn facet.now (facets_of cell.now) }
+{
+    has_all(cell, facet_points(facet)) && is_facet_of(cell, facet)
 }
 
 // Whether the two lists are one.

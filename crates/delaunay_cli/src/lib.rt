@@ -14,6 +14,8 @@ pub use outcome::Run;
 pub use top::run;
 
 #[cfg(test)]
+mod line_tests;
+#[cfg(test)]
 mod shape_tests;
 #[cfg(test)]
 mod tests;
