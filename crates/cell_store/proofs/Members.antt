@@ -1,11 +1,11 @@
 -- Members of lists of cells.
-use Rattle.std.specs.Prelude.{◌≡◌, ℕ, ◌+◌, zero, suc, ◌<◌, Bool, true, false, List, [], ◌∷◌, ◌++◌, ◌⊎◌, length, slice_index_or}
-use Rattle.std.proofs.Common.{refl, sym, ◌∙◌, ap, subst, inl, inr, arith, take, add-one}
+use Rattle.std.specs.Prelude.{◌≡◌, ℕ, zero, suc, ◌<◌, Bool, true, false, List, [], ◌∷◌, ◌++◌, ◌⊎◌, length, slice_index_or, Option, None, Some, MatchOption}
+use Rattle.std.proofs.Common.{refl, sym, ◌∙◌, ap, subst, inl, inr, arith, take}
 use Rattle.point_order.specs.declared.cell.Cell.{Cell}
 use Rattle.point_order.specs.declared.cell.Facet.{Facet}
-use Rattle.point_order.specs.Facets.{facets_of}
 use Rattle.point_order.specs.Sets.{IsIn}
-use Rattle.cell_store.specs.Others.{HaveNoOther}
+use Rattle.del_laws.proofs.Listed.{in_left, in_right, from_append}
+use Rattle.cell_store.specs.Others.{IsOtherOf, HaveNoOther}
 
 -- an element by its place is a member
 pub at-place : {X : Type 0} (l : List X) (i : ℕ) (x : X) → i < length l → x ≡ slice_index_or l i x → IsIn x l
@@ -21,13 +21,26 @@ in-take_more (z ∷ l) zero x y h e (inr k) = absurd k
 in-take_more (z ∷ l) (suc i) x y h e (inl k) = inl (inl k)
 in-take_more (z ∷ l) (suc i) x y h e (inr k) = elim (in-take_more l i x y (omega arith) e k) [ inl m ↦ inl (inr m) | inr m ↦ inr m ]
 
--- where the next cell is no other cell on the facet, none is among the first and that one
-pub none_more : (l : List Cell) (i : ℕ) (c cell : Cell) (facet : Facet) → i < length l → c ≡ slice_index_or l i c → (IsIn facet (facets_of c) → c ≡ cell) → HaveNoOther (take i l) cell facet → HaveNoOther (take (i + 1) l) cell facet
-none_more l i c cell facet h e same none other o =
-    elim (in-take_more l i c other h e (subst (λ n. IsIn other (take n l)) (add-one i) o.listed)) [
-      | inl k ↦ none other (record { listed = k; has = o.has; differs = o.differs })
-      | inr k ↦ o.differs (sym k ∙ same (subst (λ (d : Cell). IsIn facet (facets_of d)) (sym k) o.has))
+-- ---- other cells on a facet, in a list that is cut in two
+
+pub other_in_front : (l a b : List Cell) (cell : Cell) (facet : Facet) (other : Cell) → l ≡ a ++ b → IsOtherOf a cell facet other → IsOtherOf l cell facet other
+other_in_front l a b cell facet other e o = record { listed = subst (IsIn other) (sym e) (in_left other a b o.listed); has = o.has; differs = o.differs }
+
+other_in_back : (l a b : List Cell) (cell : Cell) (facet : Facet) (other : Cell) → l ≡ a ++ b → IsOtherOf b cell facet other → IsOtherOf l cell facet other
+other_in_back l a b cell facet other e o = record { listed = subst (IsIn other) (sym e) (in_right other a b o.listed); has = o.has; differs = o.differs }
+
+no_other : (l a b : List Cell) (cell : Cell) (facet : Facet) → l ≡ a ++ b → HaveNoOther a cell facet → HaveNoOther b cell facet → HaveNoOther l cell facet
+no_other l a b cell facet e n m other o =
+    elim (from_append other a b (subst (IsIn other) e o.listed)) [
+      | inl i ↦ n other (record { listed = i; has = o.has; differs = o.differs })
+      | inr i ↦ m other (record { listed = i; has = o.has; differs = o.differs })
     ]
+
+-- where the front part has none, the answer for the back part is that for the list
+pub answer_of_back : {X : Type 0} (at : X → Cell) (l a b : List Cell) (cell : Cell) (facet : Facet) (o : Option X) → l ≡ a ++ b → HaveNoOther a cell facet →
+    MatchOption o (HaveNoOther b cell facet) (λ x. IsOtherOf b cell facet (at x)) → MatchOption o (HaveNoOther l cell facet) (λ x. IsOtherOf l cell facet (at x))
+answer_of_back at l a b cell facet None e n m = no_other l a b cell facet e n m
+answer_of_back at l a b cell facet (Some x) e n m = other_in_back l a b cell facet (at x) e m
 
 -- a test that is false is not true
 pub not_true : (b : Bool) → b ≡ false → b ≡ true → ⊥

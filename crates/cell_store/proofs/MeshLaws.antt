@@ -20,7 +20,7 @@ use Rattle.edit_history.specs.Histories.{replay, IsLegalFrom}
 use Rattle.edit_history.specs.Merging.{numbers}
 use Rattle.edit_history.proofs.Lines.{at-in}
 use Rattle.del_laws.specs.Listed.{IsListed}
-use Rattle.del_laws.proofs.Listed.{listed_is_cell}
+use Rattle.del_laws.proofs.Listed.{listed_is_cell, in_left, in_right, from_append}
 use Rattle.del_laws.proofs.Ordered.{complex_is_sorted, same_members}
 use Rattle.del_laws.proofs.Tests.{all_from, all_true, filtered_from, filtered_true}
 use Rattle.cell_store.specs.Grids.{bucket_of}
@@ -33,7 +33,6 @@ use Rattle.cell_store.specs.Meshes.{AllInHand, HasPlaces, IsMesh, Continues, IsC
 use Rattle.cell_store.proofs.GridLaws.{bucket-below}
 use Rattle.cell_store.proofs.Members.{take_next}
 use Rattle.cell_store.proofs.NextLaws.{entry_keeps_hold}
-use Rattle.cell_store.proofs.RoomLaws.{in_front, in_back, in_either}
 use Rattle.cell_store.proofs.ShareLaws.{ascending_replay, touched}
 
 -- ---- options
@@ -235,12 +234,12 @@ one_history mesh h k m s t =
 
 pub in_flat : {X Y : Type 0} (f : X → List Y) (l : List X) (i : ℕ) (d : X) (y : Y) → i < length l → IsIn y (f (slice_index_or l i d)) → IsIn y (flat_map f l)
 in_flat f [] i d y h k = absurd (omega arith)
-in_flat f (x ∷ l) zero d y h k = in_front (f x) (flat_map f l) y k
-in_flat f (x ∷ l) (suc i) d y h k = in_back (f x) (flat_map f l) y (in_flat f l i d y (omega arith) k)
+in_flat f (x ∷ l) zero d y h k = in_left y (f x) (flat_map f l) k
+in_flat f (x ∷ l) (suc i) d y h k = in_right y (f x) (flat_map f l) (in_flat f l i d y (omega arith) k)
 
 pub flat_from : {X Y : Type 0} (f : X → List Y) (l : List X) (d : X) (y : Y) → IsIn y (flat_map f l) → (i : ℕ) × IsIn y (f (slice_index_or l i d))
 flat_from f [] d y k = absurd k
-flat_from f (x ∷ l) d y k = elim (in_either (f x) (flat_map f l) y k) [
+flat_from f (x ∷ l) d y k = elim (from_append y (f x) (flat_map f l) k) [
   | inl j ↦ (0, j)
   | inr j ↦ (let r = flat_from f l d y j in (suc r.0, r.1))
 ]

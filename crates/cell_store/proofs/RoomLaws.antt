@@ -12,6 +12,7 @@ use Rattle.point_order.specs.declared.cell.Cell.{Cell}
 use Rattle.point_order.specs.Facets.{points_of}
 use Rattle.point_order.specs.Sets.{IsIn}
 use Rattle.edit_history.proofs.Solidity.{any-none}
+use Rattle.del_laws.proofs.Listed.{in_left, in_right, from_append}
 use Rattle.cell_store.specs.Grids.{bucket_of}
 use Rattle.cell_store.specs.Buckets.{Content, InHand, bucket_at}
 use Rattle.cell_store.specs.Changes.{NoneTouches, swapped_in, IsSwapped}
@@ -38,20 +39,6 @@ differ_from n m = grind (arith, nat_tests)
 
 -- ---- the numbers of the touched buckets
 
-pub in_front : {X : Type 0} (l m : List X) (x : X) → IsIn x l → IsIn x (l ++ m)
-in_front [] m x i = absurd i
-in_front (y ∷ l) m x (inl e) = inl e
-in_front (y ∷ l) m x (inr i) = inr (in_front l m x i)
-
-pub in_back : {X : Type 0} (l m : List X) (x : X) → IsIn x m → IsIn x (l ++ m)
-in_back [] m x i = i
-in_back (y ∷ l) m x i = inr (in_back l m x i)
-
-pub in_either : {X : Type 0} (l m : List X) (x : X) → IsIn x (l ++ m) → IsIn x l ⊎ IsIn x m
-in_either [] m x i = inr i
-in_either (y ∷ l) m x (inl e) = inl (inl e)
-in_either (y ∷ l) m x (inr i) = elim (in_either l m x i) [ inl j ↦ inl (inr j) | inr j ↦ inr j ]
-
 in_mapped : {X Y : Type 0} (f : X → Y) (l : List X) (x : X) → IsIn x l → IsIn (f x) (map f l)
 in_mapped f [] x i = absurd i
 in_mapped f (y ∷ l) x (inl e) = inl (ap f e)
@@ -64,8 +51,8 @@ mapped_from f (x ∷ l) y (inr i) = let r = mapped_from f l y i in (r.0, inr r.1
 
 in_numbers : (g : ℕ) (cells : List Cell) (c : Cell) (p : ℕ) → IsIn c cells → IsIn p (points_of c) → IsIn (bucket_of g p) (numbers_of g cells)
 in_numbers g [] c p i j = absurd i
-in_numbers g (d ∷ cells) c p (inl e) j = in_front (map (bucket_of g) (points_of d)) (numbers_of g cells) (bucket_of g p) (in_mapped (bucket_of g) (points_of d) p (subst (λ (x : Cell). IsIn p (points_of x)) (sym e) j))
-in_numbers g (d ∷ cells) c p (inr i) j = in_back (map (bucket_of g) (points_of d)) (numbers_of g cells) (bucket_of g p) (in_numbers g cells c p i j)
+in_numbers g (d ∷ cells) c p (inl e) j = in_left (bucket_of g p) (map (bucket_of g) (points_of d)) (numbers_of g cells) (in_mapped (bucket_of g) (points_of d) p (subst (λ (x : Cell). IsIn p (points_of x)) (sym e) j))
+in_numbers g (d ∷ cells) c p (inr i) j = in_right (bucket_of g p) (map (bucket_of g) (points_of d)) (numbers_of g cells) (in_numbers g cells c p i j)
 
 -- a vertex in the bucket
 record HasVertex (g b : ℕ) (cells : List Cell) : Type 0 where
@@ -77,7 +64,7 @@ record HasVertex (g b : ℕ) (cells : List Cell) : Type 0 where
 
 numbers_from : (g b : ℕ) (cells : List Cell) → IsIn b (numbers_of g cells) → HasVertex g b cells
 numbers_from g b [] i = absurd i
-numbers_from g b (c ∷ cells) i = elim (in_either (map (bucket_of g) (points_of c)) (numbers_of g cells) b i) [
+numbers_from g b (c ∷ cells) i = elim (from_append b (map (bucket_of g) (points_of c)) (numbers_of g cells) i) [
   | inl j ↦ (let r = mapped_from (bucket_of g) (points_of c) b j in record { cell = c; listed = inl refl; point = r.0; vertex = r.1; number = r.2 })
   | inr j ↦ (let r = numbers_from g b cells j in record { cell = r.cell; listed = inr r.listed; point = r.point; vertex = r.vertex; number = r.number })
 ]
@@ -99,8 +86,8 @@ not_touched g b cells n c i = any-none (λ p. bucket_of g p == b) (points_of c) 
 -- sorted, and each once, they are the same numbers
 pub numbers_are : (a b l sorted deduped : List ℕ) → l ≡ a ++ b → IsPermutation l sorted → deduped ≡ dedup eqb sorted → (n : ℕ) → (IsIn n deduped → IsIn n a ⊎ IsIn n b) × (IsIn n a ⊎ IsIn n b → IsIn n deduped)
 numbers_are a b l sorted deduped e p d n = (
-  λ i. in_either a b n (subst (IsIn n) e (in_contained l n (Contains-permutation sorted l n (IsPermutation-sym l sorted p) (Contains-from_dedup eqb sorted n (contains_in (dedup eqb sorted) n (subst (IsIn n) d i)))))),
-  λ i. subst (IsIn n) (sym d) (in_contained (dedup eqb sorted) n (Contains-dedup_nat sorted n (Contains-permutation l sorted n p (contains_in l n (subst (IsIn n) (sym e) (elim i [ inl j ↦ in_front a b n j | inr j ↦ in_back a b n j ])))))),
+  λ i. from_append n a b (subst (IsIn n) e (in_contained l n (Contains-permutation sorted l n (IsPermutation-sym l sorted p) (Contains-from_dedup eqb sorted n (contains_in (dedup eqb sorted) n (subst (IsIn n) d i)))))),
+  λ i. subst (IsIn n) (sym d) (in_contained (dedup eqb sorted) n (Contains-dedup_nat sorted n (Contains-permutation l sorted n p (contains_in l n (subst (IsIn n) (sym e) (elim i [ inl j ↦ in_left n a b j | inr j ↦ in_right n a b j ])))))),
 )
 
 -- ---- lists for buckets
@@ -226,7 +213,7 @@ numbers_more lists next l numbers i h e q m =
 
 -- and each is ready
 pub ready_more : (g : ℕ) (gone fresh : List Cell) (places : List (Option Content)) (lists next : List CellsFor) (l : CellsFor) → next ≡ lists ++ l ∷ [] → ((k : CellsFor) → IsIn k lists → IsReadyFor g gone fresh places k) → IsReadyFor g gone fresh places l → (k : CellsFor) → IsIn k next → IsReadyFor g gone fresh places k
-ready_more g gone fresh places lists next l e f this k i = elim (in_either lists (l ∷ []) k (subst (IsIn k) e i)) [
+ready_more g gone fresh places lists next l e f this k i = elim (from_append k lists (l ∷ []) (subst (IsIn k) e i)) [
   | inl j ↦ f k j
   | inr j ↦ elim j [ inl s ↦ subst (IsReadyFor g gone fresh places) s this | inr n ↦ absurd n ]
 ]

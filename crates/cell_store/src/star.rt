@@ -1,6 +1,6 @@
 //! The cells at a point, and the cell across a facet.
 
-ghost use Rattle.std.specs.Prelude.{◌≡◌, ◌↔◌, IsTrue, MatchOption};
+ghost use Rattle.std.specs.Prelude.{◌≡◌, ◌↔◌, ◌≤◌, length, IsTrue, MatchOption};
 ghost use Rattle.std.specs.List.{list_all};
 ghost use Rattle.point_order.specs.Sets.{IsIn, is_among};
 ghost use Rattle.point_order.specs.Facets.{facets_of, points_of};
@@ -95,14 +95,41 @@ fn are_same(a: &Cell, b: &Cell) -> bool
     }
 }
 
-// A cell on the facet other than the given one, if there is one among these.
-pub(crate) fn other_on<'a>(cells: &'a [Cell], cell: &Cell, facet: &Facet) -> Option<&'a Cell>
+// Where the search for a cell on the facet begins: behind the Full cells that begin with no greater point than the facet.
+fn start_of_search(cells: &[Cell], facet: &Facet) -> usize
+    ensures { result ≤ length cells.now }
+{
+    match facet_points(facet) {
+        [least, ..] => cells.partition_point(
+            |c| matches!(c, Cell::Full(quad) if quad.corners().0 <= *least),
+        ),
+        [] => 0,
+    }
+}
+
+// The last cell on the facet other than the given one, if there is one among these.
+fn last_other<'a>(cells: &'a [Cell], cell: &Cell, facet: &Facet) -> Option<&'a Cell>
     ensures { MatchOption result (HaveNoOther cells.now cell.now facet.now) (λ c. IsOtherOf cells.now cell.now facet.now c.now) }
 {
-    for c in cells {
+    for i in (0..cells.len()).rev() {
+        let c = &cells[i];
         if is_on(c, facet) && !are_same(c, cell) {
             return Some(c);
         }
     }
     None
+}
+
+// A cell on the facet other than the given one, if there is one among these.
+//
+// In a list in order it is a Full cell that begins with the facet's least point or a lesser one, mostly one that is near in space and
+// so not far in front, or else an Open cell, at the end. So both parts are looked through from behind.
+pub(crate) fn other_on<'a>(cells: &'a [Cell], cell: &Cell, facet: &Facet) -> Option<&'a Cell>
+    ensures { MatchOption result (HaveNoOther cells.now cell.now facet.now) (λ c. IsOtherOf cells.now cell.now facet.now c.now) }
+{
+    let (front, back) = cells.split_at(start_of_search(cells, facet));
+    match last_other(front, cell, facet) {
+        Some(other) => Some(other),
+        None => last_other(back, cell, facet),
+    }
 }
