@@ -1,20 +1,19 @@
 -- The opening four lines of a file, and the lines that follow.
-use Rattle.std.specs.Prelude.{◌≡◌, ℕ, zero, suc, ◌+◌, ◌-◌, ◌<◌, ◌≤◌, ◌^◌, Bool, true, false, cond, not, List, [], ◌∷◌, ◌++◌, ◌⊎◌, map, length, take, slice_index, slice_index_or, Option, None, Some, IfSome}
+use Rattle.std.specs.Prelude.{◌≡◌, ℕ, zero, suc, ◌+◌, ◌-◌, ◌<◌, ◌≤◌, ◌^◌, Bool, true, false, cond, not, List, [], ◌∷◌, ◌++◌, map, length, take, slice_index, slice_index_or, Option, None, Some, IfSome}
 use Rattle.std.specs.List.{enumerate_from, filter}
 use Rattle.std.specs.Option.{option_map}
 use Rattle.std.proofs.Common.{refl, sym, ◌∙◌, ap, subst, inl, inr, arith, length-append}
 use Rattle.std.proofs.lemmas.List.{length-map, take_all}
 use Rattle.std.proofs.lemmas.List.Elements.{filter-append}
-use Rattle.point_order.specs.Sets.{IsIn, IsAscending, is_among}
+use Rattle.point_order.specs.Sets.{IsIn, is_among}
 use Rattle.edit_history.specs.declared.history.Edit.{Edit}
 use Rattle.edit_history.specs.declared.history.Edit.TheVariants.{Add}
 use Rattle.edit_history.specs.declared.history.Entry.{Entry}
 use Rattle.edit_history.specs.declared.history.Reply.{Reply}
 use Rattle.edit_history.specs.Edits.{reply_to, after}
-use Rattle.edit_history.specs.Histories.{replay, replay_from, entries_from, IsLegalFrom}
-use Rattle.edit_history.specs.Making.{AreMadeOf, set_after}
+use Rattle.edit_history.specs.Histories.{replay, entries_from, IsLegalFrom}
 use Rattle.edit_history.specs.Opening.{Four, opening_four}
-use Rattle.edit_history.specs.OneThread.{places, is_opening, tagged_lines, lines_in_order, opening_first, one_thread, line_of, Keeps}
+use Rattle.edit_history.specs.OneThread.{places, tagged_lines, one_thread, line_of}
 use Rattle.edit_history.specs.Laws.{AreIndependent as AreIndependentPlaces}
 use Rattle.edit_history.proofs.Lines.{made-more, replay-is, first-lines, length-entries}
 use Rattle.edit_history.proofs.LinesAtPlaces.{line_at, picked, same-map}

@@ -1,6 +1,6 @@
 -- The mesh of a file's lines, made in the order of one thread.
-use Rattle.std.specs.Prelude.{◌≡◌, ℕ, ◌≤◌, ◌++◌, not, List, map, length, slice_index}
-use Rattle.std.specs.List.{enumerate_from, filter}
+use Rattle.std.specs.Prelude.{ℕ, ◌≤◌, not, List, map, length, slice_index}
+use Rattle.std.specs.List.{filter}
 use Rattle.point_order.specs.Sets.{is_among}
 use Rattle.edit_history.specs.declared.history.Edit.{Edit}
 use Rattle.edit_history.specs.declared.history.Entry.{Entry}

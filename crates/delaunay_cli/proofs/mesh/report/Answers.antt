@@ -1,8 +1,5 @@
-use Rattle.std.proofs.Common.{sym, subst, ◌∙◌, ap, List, ℕ, ◌≡◌, true}
+use Rattle.std.proofs.Common.{sym, subst, ◌∙◌}
 use Rattle.point_order.specs.Sets.{IsAscending}
-use Rattle.point_order.specs.Solid.{is_solid}
-use Rattle.point_order.specs.Complex.{complex}
-use Rattle.edit_history.specs.Histories.{replay}
 use Rattle.mesh_files.specs.Report.{AreCounted}
 use Rattle.cell_store.proofs.ShareLaws.{ascending_replay}
 use Rattle.delaunay_cli.proofs.ShapesOfSet.{shapes_counted}

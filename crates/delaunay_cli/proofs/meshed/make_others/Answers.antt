@@ -1,10 +1,8 @@
-use Rattle.std.proofs.Common.{◌≡◌, sym, ◌∙◌, ap, subst, arith, ℕ, ◌+◌, ◌++◌, [], ◌∷◌, List, take, length, cond, Bool, true, false, not}
+use Rattle.std.proofs.Common.{sym, ◌∙◌, subst, arith, ◌+◌, ◌++◌, take}
 use Rattle.std.specs.List.{enumerate_from}
-use Rattle.point_order.specs.Sets.{is_among}
-use Rattle.edit_history.specs.declared.history.Edit.{Edit}
 use Rattle.cell_store.specs.Buckets.{InHand}
 use Rattle.delaunay_cli.specs.Made.{StandsForLines, other_lines}
-use Rattle.delaunay_cli.proofs.OpeningLines.{count_ok, few_lines, lines_next, lines_same, lines_all, made_one, nothing_yet}
+use Rattle.delaunay_cli.proofs.OpeningLines.{count_ok, few_lines, lines_next, lines_same, lines_all, nothing_yet}
 use Rattle.delaunay_cli.proofs.meshed.make_others.Goals as goal
 use Rattle.delaunay_cli.proofs.meshed.make_others.Goals.{then-not-contains+in_ok-apply, else-not-contains}
 

@@ -1,4 +1,4 @@
-use Rattle.std.proofs.Common.{◌≡◌, sym, ◌∙◌, ap, subst, arith, ℕ, List, length, map, ◌++◌, length-append}
+use Rattle.std.proofs.Common.{◌∙◌, ap, subst, arith, ℕ, List, length, map, ◌++◌, length-append}
 use Rattle.std.proofs.lemmas.List.{length-map}
 use Rattle.std.specs.List.{enumerate_from}
 use Rattle.edit_history.specs.declared.history.Edit.{Edit}

@@ -1,4 +1,4 @@
-use Rattle.std.proofs.Common.{arith, sym, subst, ap, List, ℕ, ◌≡◌, [], ◌∷◌}
+use Rattle.std.proofs.Common.{arith, subst, List, ℕ, ◌≡◌, [], ◌∷◌}
 use Rattle.cell_store.specs.Shares.{Stands}
 use Rattle.cavity.specs.Opening.{opening_history}
 use Rattle.cavity.proofs.MeshGrowth.{four_found}
