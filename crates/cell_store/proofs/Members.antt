@@ -1,6 +1,6 @@
 -- Members of lists of cells.
-use Rattle.std.specs.Prelude.{◌≡◌, ℕ, zero, suc, ◌<◌, Bool, true, false, List, [], ◌∷◌, ◌++◌, ◌⊎◌, length, slice_index_or, Option, None, Some, MatchOption}
-use Rattle.std.proofs.Common.{refl, sym, ◌∙◌, ap, subst, inl, inr, arith, take}
+use Rattle.std.specs.Prelude.{◌≡◌, ℕ, zero, suc, ◌<◌, ◌≤◌, Bool, true, false, List, [], ◌∷◌, ◌++◌, ◌⊎◌, length, slice_index_or, Option, None, Some, MatchOption}
+use Rattle.std.proofs.Common.{refl, sym, ◌∙◌, ap, subst, inl, inr, arith, take, drop}
 use Rattle.point_order.specs.declared.cell.Cell.{Cell}
 use Rattle.point_order.specs.declared.cell.Facet.{Facet}
 use Rattle.point_order.specs.Sets.{IsIn}
@@ -57,3 +57,18 @@ pub within : {X : Type 0} (l : List X) (i : ℕ) (d u : X) → i < length l → 
 within [] i d u h e = absurd (omega arith)
 within (y ∷ l) zero d u h e = sym e
 within (y ∷ l) (suc i) d u h e = within l i d u (omega arith) e
+
+-- where a member of the first elements stands, and where one of the others
+pub taken_at : {X : Type 0} (l : List X) (i : ℕ) (x : X) → IsIn x (take i l) → (k : ℕ) × (k < i) × ((d : X) → slice_index_or l k d ≡ x)
+taken_at [] zero x h = absurd h
+taken_at [] (suc i) x h = absurd h
+taken_at (y ∷ l) zero x h = absurd h
+taken_at (y ∷ l) (suc i) x (inl e) = (0, omega arith, λ d. e)
+taken_at (y ∷ l) (suc i) x (inr h) = let t = taken_at l i x h in (suc t.0, omega (arith, t.1), t.2)
+
+pub dropped_at : {X : Type 0} (l : List X) (i : ℕ) (x : X) → IsIn x (drop i l) → (k : ℕ) × ((i ≤ k) × (k < length l)) × ((d : X) → slice_index_or l k d ≡ x)
+dropped_at [] zero x h = absurd h
+dropped_at [] (suc i) x h = absurd h
+dropped_at (y ∷ l) zero x (inl e) = (0, (omega arith, omega arith), λ d. e)
+dropped_at (y ∷ l) zero x (inr h) = let t = dropped_at l zero x h in (suc t.0, (omega arith, omega (arith, t.1.1)), t.2)
+dropped_at (y ∷ l) (suc i) x h = let t = dropped_at l i x h in (suc t.0, (omega (arith, t.1.0), omega (arith, t.1.1)), t.2)

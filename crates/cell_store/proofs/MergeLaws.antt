@@ -1,12 +1,12 @@
 -- Merging lists of cells in order.
-use Rattle.std.specs.Prelude.{◌≡◌, ℕ, suc, Bool, true, cond, not, List, [], ◌∷◌, ◌++◌, ◌⊎◌, length}
+use Rattle.std.specs.Prelude.{◌≡◌, ℕ, suc, Bool, true, cond, not, List, [], ◌∷◌, ◌++◌, length}
 use Rattle.std.specs.Cmp.{IsTotalOrder, IsEquivalence, both_ways}
 use Rattle.std.specs.List.{filter, dedup, Contains}
-use Rattle.std.specs.List.Sorted.{IsStrictlySortedBy, IsSorted, IsPermutation}
-use Rattle.std.specs.Ordering.{match_ordering, ordering_reverse, is_eq, eq_by_cmp}
+use Rattle.std.specs.List.Sorted.{IsStrictlySortedBy, IsSorted, IsPermutation, IsPartitionedBy, IsPartitionPoint}
+use Rattle.std.specs.Ordering.{match_ordering, ordering_reverse, is_eq, is_lt, eq_by_cmp}
 use Rattle.std.specs.declared.cmp.Ordering.{Ordering}
 use Rattle.std.specs.declared.cmp.Ordering.TheVariants.{Less, Equal, Greater}
-use Rattle.std.proofs.Common.{refl, sym, ◌∙◌, ap, subst, inl, inr, arith, append-nil}
+use Rattle.std.proofs.Common.{refl, sym, ◌∙◌, ap, subst, inl, inr, arith, zero, false, take, drop, get_or, append_assoc}
 use Rattle.std.proofs.lemmas.Cmp.{eq_by_cmp_equiv}
 use Rattle.std.proofs.lemmas.List.Kept.{Contains-dedup, Contains-from_dedup, IsStrictlySortedBy-dedup, IsStrictlySortedBy-filter}
 use Rattle.std.proofs.lemmas.List.Sorted.{Contains-permutation, IsPermutation-sym}
@@ -15,7 +15,8 @@ use Rattle.point_order.specs.CellOrder.{cell_cmp}
 use Rattle.point_order.specs.Sets.{IsIn}
 use Rattle.edit_history.proofs.Lines.{at-in}
 use Rattle.del_laws.proofs.Ordered.{same_members}
-use Rattle.cell_store.specs.Swaps.{is_cell_among, with_cell, with_cells, without_cells, touches, swapped, AreSameCells}
+use Rattle.cell_store.specs.Swaps.{is_cell_among, with_cell, with_cells, without_cells, cells_behind, AreBefore, NoneIsBefore, touches, swapped, AreSameCells}
+use Rattle.cell_store.proofs.Members.{taken_at, dropped_at}
 use Rattle.cell_store.proofs.CellLaws.{cell_same, cell_reverse, cell_self, cell_before, cell_after, each_by, among_true, among_from, kept, kept_true, in_withs, withs_old, withs_new, withs_sorted}
 
 pub cell_order : IsTotalOrder cell_cmp
@@ -49,6 +50,50 @@ joined : (l : List Cell) (c : Cell) (m : List Cell) → (l ++ c ∷ []) ++ m ≡
 joined [] c m = refl
 joined (d ∷ l) c m = ap (λ (k : List Cell). d ∷ k) (joined l c m)
 
+-- the back part of a list in order is in order
+pub back_sorted : (a b : List Cell) → IsStrictlySortedBy cell_cmp (a ++ b) → IsStrictlySortedBy cell_cmp b
+back_sorted [] b s = s
+back_sorted (c ∷ a) b s = back_sorted a b (tail_sorted c (a ++ b) s)
+
+-- so is a list without its first cell
+pub behind_sorted : (d : Cell) (l m : List Cell) → m ≡ cells_behind d l → IsStrictlySortedBy cell_cmp l → IsStrictlySortedBy cell_cmp m
+behind_sorted d l m e s = subst (IsStrictlySortedBy cell_cmp) (sym e) (rest l s)
+  where
+    rest : (l : List Cell) → IsStrictlySortedBy cell_cmp l → IsStrictlySortedBy cell_cmp (cells_behind d l)
+    rest [] s = s
+    rest (c ∷ l) s = by (cell_cmp c d)
+      where
+        by : (o : Ordering) → IsStrictlySortedBy cell_cmp (match_ordering o (c ∷ l) l (c ∷ l))
+        by Less = s
+        by Equal = tail_sorted c l s
+        by Greater = s
+
+-- ---- searches in a list in order
+
+lt_less : (o : Ordering) → is_lt o ≡ true → o ≡ Less
+lt_less Less e = refl
+lt_less Equal e = cc
+lt_less Greater e = cc
+
+not_less : (o : Ordering) → is_lt o ≡ false → o ≡ Less → ⊥
+not_less Less e f = absurd (cc e)
+not_less Equal e f = absurd (cc f)
+not_less Greater e f = absurd (cc f)
+
+-- the cells before another one come first
+pub parted : (d : Cell) (l : List Cell) → IsStrictlySortedBy cell_cmp l → IsPartitionedBy (λ c. is_lt (cell_cmp c d)) l
+parted d [] s i j e le lt h = absurd (omega arith)
+parted d (c ∷ l) s zero zero e le lt h = h
+parted d (c ∷ l) s zero (suc j) e le lt h = let x = get_or l j e in ap is_lt (cell_before c x d (head_first c l s x (at-in l j e (omega arith))) (lt_less (cell_cmp x d) h))
+parted d (c ∷ l) s (suc i) zero e le lt h = absurd (omega arith)
+parted d (c ∷ l) s (suc i) (suc j) e le lt h = parted d l (tail_sorted c l s) i j e (omega arith) (omega arith) h
+
+pub front_before : (d : Cell) (l a : List Cell) (i : ℕ) → a ≡ take i l → IsPartitionPoint (λ c. is_lt (cell_cmp c d) ≡ true) (λ c. is_lt (cell_cmp c d) ≡ false) l i → AreBefore d a
+front_before d l a i e p x k = let t = taken_at l i x (subst (IsIn x) e k) in lt_less (cell_cmp x d) (subst (λ y. is_lt (cell_cmp y d) ≡ true) (t.2 x) (p.0 t.0 x (omega arith) (omega (arith, t.1))))
+
+pub back_after : (d : Cell) (l b : List Cell) (i : ℕ) → b ≡ drop i l → IsPartitionPoint (λ c. is_lt (cell_cmp c d) ≡ true) (λ c. is_lt (cell_cmp c d) ≡ false) l i → NoneIsBefore d b
+back_after d l b i e p x k = let t = dropped_at l i x (subst (IsIn x) e k) in not_less (cell_cmp x d) (subst (λ y. is_lt (cell_cmp y d) ≡ false) (t.2 x) (p.1 t.0 x (t.1.0) (t.1.1)))
+
 -- ---- without the cells of a list
 
 -- a cell before all of them takes none of them
@@ -75,25 +120,33 @@ pub without_none : (l : List Cell) → without_cells [] l ≡ l
 without_none [] = refl
 without_none (c ∷ l) = ap (λ (m : List Cell). c ∷ m) (without_none l)
 
+-- the cells before the first of them stay
+without_front : (d : Cell) (g front back : List Cell) → IsStrictlySortedBy cell_cmp (d ∷ g) → AreBefore d front → without_cells (d ∷ g) (front ++ back) ≡ front ++ without_cells (d ∷ g) back
+without_front d g [] back s f = refl
+without_front d g (c ∷ front) back s f = without_less c d (front ++ back) g s (f c (inl refl)) ∙ ap (λ (l : List Cell). c ∷ l) (without_front d g front back s (λ x i. f x (inr i)))
+
+-- and behind these it is left out where it is the next
+without_behind : (d : Cell) (g back : List Cell) → IsStrictlySortedBy cell_cmp back → NoneIsBefore d back → without_cells (d ∷ g) back ≡ without_cells g (cells_behind d back)
+without_behind d g [] s n = refl
+without_behind d g (c ∷ l) s n = by (cell_cmp c d) refl
+  where
+    by : (o : Ordering) → cell_cmp c d ≡ o → without_cells (d ∷ g) (c ∷ l) ≡ without_cells g (match_ordering o (c ∷ l) l (c ∷ l))
+    by Less e = absurd (n c (inl refl) e)
+    by Equal e = without_equal c d l g s e
+    by Greater e = without_greater c d l g s e
+
 -- one turn of the loop that leaves out, over what is left of both lists
-pub without_turn-less : (cells later gone others done next target : List Cell) (c d : Cell) → cells ≡ c ∷ later → gone ≡ d ∷ others → IsStrictlySortedBy cell_cmp gone → next ≡ done ++ c ∷ [] → cell_cmp c d ≡ Less → done ++ without_cells gone cells ≡ target → next ++ without_cells gone later ≡ target
-without_turn-less cells later gone others done next target c d e f s n k t =
-    ap (λ (l : List Cell). l ++ without_cells gone later) n ∙ joined done c (without_cells gone later)
-    ∙ ap (λ (l : List Cell). done ++ l) (ap (λ g. c ∷ without_cells g later) f ∙ sym (without_less c d later others (subst (IsStrictlySortedBy cell_cmp) f s) k) ∙ ap (λ g. without_cells g (c ∷ later)) (sym f) ∙ ap (without_cells gone) (sym e))
-    ∙ t
+pub without_turn : (cells front back rest gone others done next target : List Cell) (d : Cell) → cells ≡ front ++ back → gone ≡ d ∷ others → IsStrictlySortedBy cell_cmp cells → IsStrictlySortedBy cell_cmp gone →
+    AreBefore d front → NoneIsBefore d back → rest ≡ cells_behind d back → next ≡ done ++ front → done ++ without_cells gone cells ≡ target → next ++ without_cells others rest ≡ target
+without_turn cells front back rest gone others done next target d e f s t before none r n made =
+    ap (λ (l : List Cell). l ++ without_cells others rest) n ∙ append_assoc done front (without_cells others rest)
+    ∙ ap (λ (l : List Cell). done ++ (front ++ l)) (ap (without_cells others) r ∙ sym (without_behind d others back (back_sorted front back (subst (IsStrictlySortedBy cell_cmp) e s)) none))
+    ∙ ap (λ (l : List Cell). done ++ l) (sym (without_front d others front back (subst (IsStrictlySortedBy cell_cmp) f t) before) ∙ ap (λ g. without_cells g (front ++ back)) (sym f) ∙ ap (without_cells gone) (sym e))
+    ∙ made
 
-pub without_turn-equal : (cells later gone others done target : List Cell) (c d : Cell) → cells ≡ c ∷ later → gone ≡ d ∷ others → IsStrictlySortedBy cell_cmp cells → cell_cmp c d ≡ Equal → done ++ without_cells gone cells ≡ target → done ++ without_cells others later ≡ target
-without_turn-equal cells later gone others done target c d e f s k t =
-    ap (λ (l : List Cell). done ++ l) (sym (without_equal c d later others (subst (IsStrictlySortedBy cell_cmp) e s) k) ∙ ap (λ g. without_cells g (c ∷ later)) (sym f) ∙ ap (without_cells gone) (sym e)) ∙ t
-
-pub without_turn-greater : (cells later gone others done target : List Cell) (c d : Cell) → cells ≡ c ∷ later → gone ≡ d ∷ others → IsStrictlySortedBy cell_cmp cells → cell_cmp c d ≡ Greater → done ++ without_cells gone cells ≡ target → done ++ without_cells others cells ≡ target
-without_turn-greater cells later gone others done target c d e f s k t =
-    ap (λ (l : List Cell). done ++ l) (ap (without_cells others) e ∙ sym (without_greater c d later others (subst (IsStrictlySortedBy cell_cmp) e s) k) ∙ ap (λ g. without_cells g (c ∷ later)) (sym f) ∙ ap (without_cells gone) (sym e)) ∙ t
-
--- where either list is at its end, the rest of the first is left
-pub without_end : (cells gone done target : List Cell) → (cells ≡ []) ⊎ (gone ≡ []) → done ++ without_cells gone cells ≡ target → done ++ cells ≡ target
-without_end cells gone done target (inl e) t = ap (λ (l : List Cell). done ++ l) (e ∙ sym (ap (without_cells gone) e)) ∙ t
-without_end cells gone done target (inr e) t = ap (λ (l : List Cell). done ++ l) (sym (without_none cells) ∙ ap (λ g. without_cells g cells) (sym e)) ∙ t
+-- where none is left to leave out, the rest stays
+pub without_end : (cells gone done target : List Cell) → gone ≡ [] → done ++ without_cells gone cells ≡ target → done ++ cells ≡ target
+without_end cells gone done target e t = ap (λ (l : List Cell). done ++ l) (sym (without_none cells) ∙ ap (λ g. without_cells g cells) (sym e)) ∙ t
 
 -- ---- with the cells of a list
 
@@ -111,33 +164,33 @@ with_equal c d l f e = ap (λ o. with_cells f (match_ordering o (d ∷ c ∷ l) 
 pub with_greater : (c d : Cell) (l f : List Cell) → IsStrictlySortedBy cell_cmp (d ∷ f) → cell_cmp c d ≡ Greater → with_cells (d ∷ f) (c ∷ l) ≡ d ∷ with_cells f (c ∷ l)
 with_greater c d l f s e = ap (λ o. with_cells f (match_ordering o (d ∷ c ∷ l) (c ∷ l) (c ∷ with_cell d l))) (cell_after c d e) ∙ with_behind d f (c ∷ l) (head_first d f s)
 
-pub with_all : (f : List Cell) → IsStrictlySortedBy cell_cmp f → with_cells f [] ≡ f
-with_all [] s = refl
-with_all (d ∷ f) s = with_behind d f [] (head_first d f s) ∙ ap (λ (m : List Cell). d ∷ m) (with_all f (tail_sorted d f s))
+-- the cells before the first of them come first
+with_front : (d : Cell) (f front back : List Cell) → IsStrictlySortedBy cell_cmp (d ∷ f) → AreBefore d front → with_cells (d ∷ f) (front ++ back) ≡ front ++ with_cells (d ∷ f) back
+with_front d f [] back s h = refl
+with_front d f (c ∷ front) back s h = with_less c d (front ++ back) f s (h c (inl refl)) ∙ ap (λ (l : List Cell). c ∷ l) (with_front d f front back s (λ x i. h x (inr i)))
+
+-- then it, and the others
+with_next : (d : Cell) (f back : List Cell) → IsStrictlySortedBy cell_cmp (d ∷ f) → NoneIsBefore d back → with_cells (d ∷ f) back ≡ d ∷ with_cells f (cells_behind d back)
+with_next d f [] s n = with_behind d f [] (head_first d f s)
+with_next d f (c ∷ l) s n = by (cell_cmp c d) refl
+  where
+    by : (o : Ordering) → cell_cmp c d ≡ o → with_cells (d ∷ f) (c ∷ l) ≡ d ∷ with_cells f (match_ordering o (c ∷ l) l (c ∷ l))
+    by Less e = absurd (n c (inl refl) e)
+    by Equal e = with_equal c d l f e ∙ ap (λ x. with_cells f (x ∷ l)) (cell_same c d e) ∙ with_behind d f l (head_first d f s)
+    by Greater e = with_greater c d l f s e
 
 -- one turn of the loop that puts in, over what is left of both lists
-pub with_turn-less : (cells later fresh others done next target : List Cell) (c d : Cell) → cells ≡ c ∷ later → fresh ≡ d ∷ others → IsStrictlySortedBy cell_cmp fresh → next ≡ done ++ c ∷ [] → cell_cmp c d ≡ Less → done ++ with_cells fresh cells ≡ target → next ++ with_cells fresh later ≡ target
-with_turn-less cells later fresh others done next target c d e f s n k t =
-    ap (λ (l : List Cell). l ++ with_cells fresh later) n ∙ joined done c (with_cells fresh later)
-    ∙ ap (λ (l : List Cell). done ++ l) (ap (λ g. c ∷ with_cells g later) f ∙ sym (with_less c d later others (subst (IsStrictlySortedBy cell_cmp) f s) k) ∙ ap (λ g. with_cells g (c ∷ later)) (sym f) ∙ ap (with_cells fresh) (sym e))
-    ∙ t
+pub with_turn : (cells front back rest fresh others done between next target : List Cell) (d : Cell) → cells ≡ front ++ back → fresh ≡ d ∷ others → IsStrictlySortedBy cell_cmp fresh →
+    AreBefore d front → NoneIsBefore d back → rest ≡ cells_behind d back → between ≡ done ++ front → next ≡ between ++ d ∷ [] → done ++ with_cells fresh cells ≡ target → next ++ with_cells others rest ≡ target
+with_turn cells front back rest fresh others done between next target d e f t before none r n m made =
+    ap (λ (l : List Cell). l ++ with_cells others rest) m ∙ joined between d (with_cells others rest) ∙ ap (λ (l : List Cell). l ++ d ∷ with_cells others rest) n ∙ append_assoc done front (d ∷ with_cells others rest)
+    ∙ ap (λ (l : List Cell). done ++ (front ++ l)) (ap (λ (l : List Cell). d ∷ with_cells others l) r ∙ sym (with_next d others back (subst (IsStrictlySortedBy cell_cmp) f t) none))
+    ∙ ap (λ (l : List Cell). done ++ l) (sym (with_front d others front back (subst (IsStrictlySortedBy cell_cmp) f t) before) ∙ ap (λ g. with_cells g (front ++ back)) (sym f) ∙ ap (with_cells fresh) (sym e))
+    ∙ made
 
-pub with_turn-equal : (cells later fresh others done target : List Cell) (c d : Cell) → cells ≡ c ∷ later → fresh ≡ d ∷ others → cell_cmp c d ≡ Equal → done ++ with_cells fresh cells ≡ target → done ++ with_cells others cells ≡ target
-with_turn-equal cells later fresh others done target c d e f k t =
-    ap (λ (l : List Cell). done ++ l) (ap (with_cells others) e ∙ sym (with_equal c d later others k) ∙ ap (λ g. with_cells g (c ∷ later)) (sym f) ∙ ap (with_cells fresh) (sym e)) ∙ t
-
-pub with_turn-greater : (cells later fresh others done next target : List Cell) (c d : Cell) → cells ≡ c ∷ later → fresh ≡ d ∷ others → IsStrictlySortedBy cell_cmp fresh → next ≡ done ++ d ∷ [] → cell_cmp c d ≡ Greater → done ++ with_cells fresh cells ≡ target → next ++ with_cells others cells ≡ target
-with_turn-greater cells later fresh others done next target c d e f s n k t =
-    ap (λ (l : List Cell). l ++ with_cells others cells) n ∙ joined done d (with_cells others cells)
-    ∙ ap (λ (l : List Cell). done ++ l) (ap (λ m. d ∷ with_cells others m) e ∙ sym (with_greater c d later others (subst (IsStrictlySortedBy cell_cmp) f s) k) ∙ ap (λ g. with_cells g (c ∷ later)) (sym f) ∙ ap (with_cells fresh) (sym e))
-    ∙ t
-
--- where either list is at its end, the rest of both is left
-pub with_end : (cells fresh done between target : List Cell) → (cells ≡ []) ⊎ (fresh ≡ []) → IsStrictlySortedBy cell_cmp fresh → between ≡ done ++ cells → done ++ with_cells fresh cells ≡ target → between ++ fresh ≡ target
-with_end cells fresh done between target (inl e) s n t =
-    ap (λ (l : List Cell). l ++ fresh) (n ∙ ap (λ (l : List Cell). done ++ l) e ∙ append-nil done) ∙ ap (λ (l : List Cell). done ++ l) (sym (with_all fresh s) ∙ ap (with_cells fresh) (sym e)) ∙ t
-with_end cells fresh done between target (inr e) s n t =
-    ap (λ (l : List Cell). between ++ l) e ∙ append-nil between ∙ n ∙ ap (λ (l : List Cell). done ++ l) (ap (λ g. with_cells g cells) (sym e)) ∙ t
+-- where none is left to put in, the rest follows
+pub with_end : (cells fresh done target : List Cell) → fresh ≡ [] → done ++ with_cells fresh cells ≡ target → done ++ cells ≡ target
+with_end cells fresh done target e t = ap (λ (l : List Cell). done ++ l) (ap (λ g. with_cells g cells) (sym e)) ∙ t
 
 -- ---- the exchange, by lists with the same cells
 

@@ -1,7 +1,8 @@
 -- Exchanges of cells in the buckets of their vertices.
-use Rattle.std.specs.Prelude.{ℕ, Bool, not, ◌==◌, List, [], ◌∷◌}
+use Rattle.std.specs.Prelude.{◌≡◌, ℕ, Bool, not, ◌==◌, List, [], ◌∷◌}
 use Rattle.std.specs.List.{list_any, filter}
 use Rattle.std.specs.Ordering.{is_eq, match_ordering}
+use Rattle.std.specs.declared.cmp.Ordering.TheVariants.{Less}
 use Rattle.point_order.specs.declared.cell.Cell.{Cell}
 use Rattle.point_order.specs.CellOrder.{cell_cmp}
 use Rattle.point_order.specs.Facets.{points_of}
@@ -29,6 +30,19 @@ with_cells (c ∷ cs) l = with_cells cs (with_cell c l)
 -- the cells that are not in a list
 abbrev pub without_cells : List Cell → List Cell → List Cell
 without_cells gone l = filter (λ c. not (is_cell_among c gone)) l
+
+-- each cell of the list is before c
+abbrev pub AreBefore : Cell → List Cell → Type 0
+AreBefore c l = (d : Cell) → IsIn d l → cell_cmp d c ≡ Less
+
+-- none is
+abbrev pub NoneIsBefore : Cell → List Cell → Type 0
+NoneIsBefore c l = (d : Cell) → IsIn d l → cell_cmp d c ≡ Less → ⊥
+
+-- the list without c, where c is its first cell
+abbrev pub cells_behind : Cell → List Cell → List Cell
+cells_behind c [] = []
+cells_behind c (d ∷ l) = match_ordering (cell_cmp d c) (d ∷ l) l (d ∷ l)
 
 -- the cells of bucket b without those of gone, and with those of fresh, that have a finite vertex in it, in order
 unfoldable pub swapped : ℕ → ℕ → List Cell → List Cell → List Cell → List Cell

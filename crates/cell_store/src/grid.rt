@@ -67,10 +67,9 @@ impl Grid {
         ensures number { result ≡ number_of self.now p }
         ensures below { number_of self.now p < self.now * self.now * self.now }
     {
-        let width = 16384 / self.size;
-        let x = (p.key() / 268435456 % 16384) as u32 / width;
-        let y = (p.key() / 16384 % 16384) as u32 / width;
-        let z = (p.key() % 16384) as u32 / width;
+        let x = (p.key() / 268435456 % 16384) as u32 * self.size / 16384;
+        let y = (p.key() / 16384 % 16384) as u32 * self.size / 16384;
+        let z = (p.key() % 16384) as u32 * self.size / 16384;
         x * self.size * self.size + y * self.size + z
     }
 }

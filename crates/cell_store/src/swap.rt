@@ -1,10 +1,10 @@
 //! Exchanges of cells in sorted lists.
 
-ghost use Rattle.std.specs.Prelude.{◌≡◌, IfOk};
+ghost use Rattle.std.specs.Prelude.{◌≡◌, ◌++◌, IfOk};
 ghost use Rattle.std.specs.List.{filter};
 ghost use Rattle.std.specs.List.Sorted.{IsStrictlySortedBy};
 ghost use Rattle.point_order.specs.CellOrder.{cell_cmp};
-ghost use Rattle.cell_store.specs.Swaps.{touches as touches_of, with_cells, without_cells, swapped, AreSameCells};
+ghost use Rattle.cell_store.specs.Swaps.{touches as touches_of, with_cells, without_cells, swapped, cells_behind, AreBefore, NoneIsBefore, AreSameCells};
 
 use crate::grid::Grid;
 use point_order::Cell;
@@ -46,6 +46,30 @@ pub fn cells_in_order(mut list: Vec<Cell>) -> Vec<Cell>
     list
 }
 
+// The cells before the given one, and the others. They are to be in order.
+fn split_before<'a>(cells: &'a [Cell], cell: &Cell) -> (&'a [Cell], &'a [Cell])
+    requires { IsStrictlySortedBy cell_cmp cells.now }
+    ensures parts { cells.now ≡ result.0.now ++ result.1.now }
+    ensures before { AreBefore cell.now result.0.now }
+    ensures others { NoneIsBefore cell.now result.1.now }
+{
+    let place = cells.partition_point(|c| compare(c, cell).is_lt());
+    cells.split_at(place)
+}
+
+// The cells without the given one, where it is the first.
+fn behind<'a>(cells: &'a [Cell], cell: &Cell) -> &'a [Cell]
+    ensures { result.now ≡ cells_behind cell.now cells.now }
+{
+    match cells.split_first() {
+        Some((first, later)) => match compare(first, cell) {
+            Ordering::Equal => later,
+            Ordering::Less | Ordering::Greater => cells,
+        },
+        None => cells,
+    }
+}
+
 // The cells that are not among the gone. Both lists are to be in order.
 fn without(alloc: Global, mut cells: &[Cell], mut gone: &[Cell]) -> Result<Vec<Cell>, AllocError>
     requires cells { IsStrictlySortedBy cell_cmp cells.now }
@@ -53,18 +77,11 @@ fn without(alloc: Global, mut cells: &[Cell], mut gone: &[Cell]) -> Result<Vec<C
     ensures { IfOk result (λ list. list.items ≡ without_cells gone.now cells.now) }
 {
     let mut list = Vec::with_capacity(alloc, cells.len())?;
-    while let (Some((c, later)), Some((d, others))) = (cells.split_first(), gone.split_first()) {
-        match compare(c, d) {
-            Ordering::Less => {
-                list.push(*c)?;
-                cells = later;
-            }
-            Ordering::Equal => {
-                cells = later;
-                gone = others;
-            }
-            Ordering::Greater => gone = others,
-        }
+    while let Some((d, others)) = gone.split_first() {
+        let (front, back) = split_before(cells, d);
+        list.extend_from_slice(front)?;
+        cells = behind(back, d);
+        gone = others;
     }
     list.extend_from_slice(cells)?;
     Ok(list)
@@ -76,22 +93,15 @@ fn with(alloc: Global, mut cells: &[Cell], mut fresh: &[Cell]) -> Result<Vec<Cel
     requires fresh { IsStrictlySortedBy cell_cmp fresh.now }
     ensures { IfOk result (λ list. list.items ≡ with_cells fresh.now cells.now) }
 {
-    let mut list = Vec::with_capacity(alloc, cells.len())?;
-    while let (Some((c, later)), Some((d, others))) = (cells.split_first(), fresh.split_first()) {
-        match compare(c, d) {
-            Ordering::Less => {
-                list.push(*c)?;
-                cells = later;
-            }
-            Ordering::Equal => fresh = others,
-            Ordering::Greater => {
-                list.push(*d)?;
-                fresh = others;
-            }
-        }
+    let mut list = Vec::with_capacity(alloc, cells.len().saturating_add(fresh.len()))?;
+    while let Some((d, others)) = fresh.split_first() {
+        let (front, back) = split_before(cells, d);
+        list.extend_from_slice(front)?;
+        list.push(*d)?;
+        cells = behind(back, d);
+        fresh = others;
     }
     list.extend_from_slice(cells)?;
-    list.extend_from_slice(fresh)?;
     Ok(list)
 }
 

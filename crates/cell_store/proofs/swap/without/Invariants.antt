@@ -1,16 +1,16 @@
-use Rattle.std.proofs.Common.{◌≡◌, ◌+◌, ◌++◌, length}
+use Rattle.std.proofs.Common.{◌≡◌, ◌++◌, length}
 use Rattle.std.specs.List.Sorted.{IsStrictlySortedBy}
 use Rattle.point_order.specs.CellOrder.{cell_cmp}
 use Rattle.cell_store.specs.Swaps.{without_cells}
 use Rattle.cell_store.proofs.swap.without.Given as goal
 
-abbrev pub invariant-loop-c : goal.invariant-loop-c
-invariant-loop-c l =
+abbrev pub invariant-loop-d : goal.invariant-loop-d
+invariant-loop-d l =
     record {
       cells : IsStrictlySortedBy cell_cmp l.cells;
       gone : IsStrictlySortedBy cell_cmp l.gone;
       made : l.list.items ++ without_cells l.gone l.cells ≡ without_cells l.fn.gone l.fn.cells;
     }
 
-abbrev pub decreases-loop-c : goal.decreases-loop-c
-decreases-loop-c l = length l.cells + length l.gone
+abbrev pub decreases-loop-d : goal.decreases-loop-d
+decreases-loop-d l = length l.gone
