@@ -6,7 +6,8 @@ use Rattle.point_order.specs.declared.cell.Cell.{Cell}
 use Rattle.point_order.specs.declared.cell.Cell.TheVariants.{Full, Open}
 use Rattle.point_order.specs.Complex.{complex}
 use Rattle.point_order.specs.Facets.{points_of}
-use Rattle.point_order.specs.Sets.{IsIn, IsAscending}
+use Rattle.point_order.specs.Sets.{IsIn, IsAscending, is_among}
+use Rattle.std.specs.List.{filter}
 use Rattle.edit_history.specs.declared.history.Entry.{Entry}
 use Rattle.edit_history.specs.Histories.{replay}
 use Rattle.edit_history.proofs.Solidity.{any-some}
@@ -17,7 +18,7 @@ use Rattle.cell_store.specs.Swaps.{touches}
 use Rattle.cell_store.proofs.MeshLaws.{some_of, in_moved, point_held}
 use Rattle.cell_store.proofs.ShareLaws.{touched}
 use Rattle.cell_store.specs.Meshes.{AllInHand, HasPlaces}
-use Rattle.del_laws.proofs.Tests.{filtered_from, filtered_true}
+use Rattle.del_laws.proofs.Tests.{among_from, filtered_from, filtered_true}
 use Rattle.del_laws.proofs.Listed.{listed_is_cell}
 use Rattle.hole_laws.proofs.Laws.{some_rim}
 use Rattle.cell_store.proofs.GridLaws.{bucket-below}
@@ -59,6 +60,16 @@ in_items hold b x rest c e p i = in_moved' x.cells rest c p (subst (λ (l : List
 
 pub of_items : (hold : InHand) (b : ℕ) (x : Content) (rest : List Cell) (c : Cell) → bucket_at hold.places b ≡ Some x → IsPermutation x.cells rest → IsIn c rest → IsIn c (cells_in hold.places b)
 of_items hold b x rest c e p i = subst (λ (l : List Cell). IsIn c l) (sym (cells_are hold b x e)) (in_moved x.cells rest c p i)
+
+-- a cell at a point in hand: it is one of the complex, and the bucket of one of its points is in hand
+pub at_point : (s : List ℕ) (q : ℕ) (star : List Cell) (c : Cell) → star ≡ filter (λ c. is_among q (points_of c)) (complex s) → IsIn c star → IsIn c (complex s) × (is_among q (points_of c) ≡ true)
+at_point s q star c e i = filtered_from (λ c. is_among q (points_of c)) (complex s) c (subst (λ (l : List Cell). IsIn c l) e i)
+
+pub point_in_hand : (hold : InHand) (q : ℕ) (c : Cell) → IsSome (bucket_at hold.places (bucket_of hold.grid q)) → is_among q (points_of c) ≡ true → NoneInHand hold (points_of c) → ⊥
+point_in_hand hold q c o e none = let x = some_of (bucket_at hold.places (bucket_of hold.grid q)) o in clash (sym (none q (among_from q (points_of c) e)) ∙ x.1)
+  where
+    clash : {y : Content} → None ≡ Some y → ⊥
+    clash e = cc e
 
 -- an empty list has no member
 pub none_in : (l : List Cell) (c : Cell) → length l ≡ 0 → IsIn c l → ⊥

@@ -1,6 +1,6 @@
 //! A first cell in conflict, by looking through the buckets.
 
-ghost use Rattle.std.specs.Prelude.{List, MatchOption, IsSome};
+ghost use Rattle.std.specs.Prelude.{List, MatchOption, IsSome, IfSome};
 ghost use Rattle.edit_history.specs.declared.history.Entry.{Entry};
 ghost use Rattle.edit_history.specs.Histories.{replay};
 ghost use Rattle.hole_laws.specs.Edits.{IsNew, GoesFrom};
@@ -11,7 +11,7 @@ ghost use Rattle.cavity.specs.Searching.{StandsForNew, NoneGoes};
 
 use crate::judge::goes;
 use cell_store::Hold;
-use point_order::{Cell, Point};
+use point_order::{Cell, Point, Step};
 
 // A cell of the bucket that the new point takes away, if there is one.
 fn conflict_among(hold: &Hold, b: u32, p: Point) -> Option<Cell>
@@ -27,10 +27,42 @@ fn conflict_among(hold: &Hold, b: u32, p: Point) -> Option<Cell>
     None
 }
 
-/// A cell that the new point takes away. Every bucket is to be in hand, and the hold to stand for a history in which the point is new.
-///
-/// The buckets are looked through in turn, from that of the point on and round.
-pub fn cell_in_conflict(hold: &Hold, p: Point) -> Cell
+// The point of the list that is nearest to the given one, if there is one. It only makes the search short, so nothing is promised.
+fn nearest(points: &[Point], p: Point) -> Option<Point> {
+    points
+        .iter()
+        .copied()
+        .min_by_key(|q| Step::between(p, *q).square())
+}
+
+// A cell at a point that the new point takes away, if there is one.
+fn conflict_at(hold: &Hold, q: Point, p: Point) -> Option<Cell>
+    requires all { AllInHand hold.now }
+    requires stands { StandsForNew hold.now p }
+    ensures { IfSome result (λ c. (h : List Entry) → Stands hold.now h → IsNew (replay h) p → GoesFrom (replay h) p c) }
+{
+    let _ = hold.grid();
+    for neighbour in hold.cells_at(q) {
+        if goes(hold, neighbour, p) {
+            return Some(*neighbour);
+        }
+    }
+    None
+}
+
+// A cell at the point of the new point's bucket that is nearest to it, which the new point takes away, if there is one.
+fn conflict_near(hold: &Hold, p: Point) -> Option<Cell>
+    requires all { AllInHand hold.now }
+    requires stands { StandsForNew hold.now p }
+    ensures { IfSome result (λ c. (h : List Entry) → Stands hold.now h → IsNew (replay h) p → GoesFrom (replay h) p c) }
+{
+    let home = hold.grid().bucket_of(p);
+    let q = nearest(hold.bucket(home).points(), p)?;
+    conflict_at(hold, q, p)
+}
+
+// A cell that the new point takes away: the buckets are looked through in turn, from that of the point on and round.
+fn conflict_in_turn(hold: &Hold, p: Point) -> Cell
     requires all { AllInHand hold.now }
     requires stands { StandsForNew hold.now p }
     ensures { (h : List Entry) → Stands hold.now h → IsNew (replay h) p → GoesFrom (replay h) p result }
@@ -44,4 +76,19 @@ pub fn cell_in_conflict(hold: &Hold, p: Point) -> Cell
         }
     }
     unreachable!()
+}
+
+/// A cell that the new point takes away. Every bucket is to be in hand, and the hold to stand for a history in which the point is new.
+///
+/// A new point takes away a cell at the nearest point of the set. That is mostly the nearest one of its bucket, whose cells are looked
+/// at first; then the buckets are looked through in turn.
+pub fn cell_in_conflict(hold: &Hold, p: Point) -> Cell
+    requires all { AllInHand hold.now }
+    requires stands { StandsForNew hold.now p }
+    ensures { (h : List Entry) → Stands hold.now h → IsNew (replay h) p → GoesFrom (replay h) p result }
+{
+    match conflict_near(hold, p) {
+        Some(cell) => cell,
+        None => conflict_in_turn(hold, p),
+    }
 }

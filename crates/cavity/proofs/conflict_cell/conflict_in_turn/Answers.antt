@@ -3,7 +3,7 @@ use Rattle.edit_history.specs.Histories.{replay}
 use Rattle.cell_store.specs.Buckets.{cells_in}
 use Rattle.cavity.specs.Searching.{NoneGoes}
 use Rattle.cavity.proofs.Searching.{one_more, unmet}
-use Rattle.cavity.proofs.conflict_cell.cell_in_conflict.Goals as goal
+use Rattle.cavity.proofs.conflict_cell.conflict_in_turn.Goals as goal
 
 pub loop-step-preserved : goal.loop-step-preserved
 loop-step-preserved c i k h st new = elim (one_more c.loop-step.step i k) [

@@ -5,7 +5,7 @@ use Rattle.hole_laws.specs.Edits.{IsNew}
 use Rattle.cell_store.specs.Buckets.{cells_in}
 use Rattle.cell_store.specs.Shares.{Stands}
 use Rattle.cavity.specs.Searching.{NoneGoes}
-use Rattle.cavity.proofs.conflict_cell.cell_in_conflict.Given as goal
+use Rattle.cavity.proofs.conflict_cell.conflict_in_turn.Given as goal
 
 abbrev pub invariant-loop-step : goal.invariant-loop-step
 invariant-loop-step l =
