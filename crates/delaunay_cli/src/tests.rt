@@ -8,13 +8,13 @@ use std::process::Abort;
 use std::test::Fail;
 
 // A file with the report that is wanted of it, and the tags of its history.
-pub struct Case {
-    pub input: &'static str,
+pub(crate) struct Case {
+    pub(crate) input: &'static str,
     text: &'static str,
     tags: &'static [u32],
 }
 
-pub const MESHES: [Case; 12] = [
+pub(crate) const MESHES: [Case; 12] = [
     // the tetrahedron
     Case {
         input: "mesh3 1\npoints\n0 0 0\n2 0 0\n0 2 0\n0 0 2\nedits\nradii\n1\nend\n",
@@ -115,21 +115,21 @@ const TETRAHEDRON: &str = "mesh3 1\npoints\n0 0 0\n2 0 0\n0 2 0\n0 0 2\nedits\nr
 
 // What a run did.
 #[derive(Drop)]
-pub struct Did<'a> {
-    pub run: Run,
-    pub out: MemSink<'a>,
-    pub err: MemSink<'a>,
+pub(crate) struct Did<'a> {
+    pub(crate) run: Run,
+    pub(crate) out: MemSink<'a>,
+    pub(crate) err: MemSink<'a>,
 }
 
 // The calls of each end that are to fail.
 #[derive(Clone, Copy)]
-pub struct Fails {
-    pub read: &'static [u64],
-    pub write: &'static [u64],
-    pub tell: &'static [u64],
+pub(crate) struct Fails {
+    pub(crate) read: &'static [u64],
+    pub(crate) write: &'static [u64],
+    pub(crate) tell: &'static [u64],
 }
 
-pub const NONE: Fails = Fails {
+pub(crate) const NONE: Fails = Fails {
     read: &[],
     write: &[],
     tell: &[],
@@ -144,7 +144,7 @@ fn words_of(alloc: Global, words: &[&str]) -> Result<Vec<String>, Fail> {
 }
 
 // A run over these words and bytes, ten bytes a call.
-pub fn run_over(
+pub(crate) fn run_over(
     alloc: Global,
     words: &[&str],
     input: &[u8],
