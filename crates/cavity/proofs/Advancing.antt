@@ -13,8 +13,6 @@ use Rattle.point_order.specs.Complex.{complex}
 use Rattle.point_order.specs.Coordinates.{IsKey}
 use Rattle.point_order.specs.Facets.{facets_of, points_of}
 use Rattle.point_order.specs.Sets.{IsIn}
-use Rattle.edit_history.specs.declared.history.Entry.{Entry}
-use Rattle.edit_history.specs.Histories.{replay}
 use Rattle.del_laws.specs.Listed.{IsListed}
 use Rattle.del_laws.proofs.Listed.{listed_is_cell, in_left}
 use Rattle.del_laws.proofs.Tests.{any_true, filtered_true}
@@ -23,7 +21,7 @@ use Rattle.hole_laws.proofs.Once.{one_gone_each}
 use Rattle.cell_store.specs.Grids.{bucket_of}
 use Rattle.cell_store.specs.Buckets.{Content, InHand, bucket_at}
 use Rattle.cell_store.specs.Ready.{AreHeld}
-use Rattle.cell_store.specs.Shares.{Stands}
+use Rattle.cell_store.specs.Shares.{Shows}
 use Rattle.cell_store.specs.Swaps.{touches}
 use Rattle.cavity.specs.Digs.{Digging, CanDig, AreCrossed, IsDigIn, IsDoneIn, facets_of_first}
 use Rattle.cavity.specs.Exploring.{IsCellMissing, IsAt, AreUncrossed, ArePointsHeld, Explores}
@@ -56,17 +54,17 @@ some_point s (Full q) r = (r.a, subst (λ (v : List ℕ). IsIn r.a v) (sym r.is)
 some_point s (Open q) r = (r.a, subst (λ (v : List ℕ). IsIn r.a v) (sym r.is) (inl refl))
 
 -- a cell of the complex whose buckets are in hand is in one of them
-cell_in_hand : (hold : InHand) (h : List Entry) → Stands hold h → (q : Cell) → IsIn q (complex (replay h)) → ((e : ℕ) → IsIn e (points_of q) → IsSome (bucket_at hold.places (bucket_of hold.grid e))) → IsIn q (cells_in_hand hold.places)
+cell_in_hand : (hold : InHand) (h : List ℕ) → Shows hold h → (q : Cell) → IsIn q (complex h) → ((e : ℕ) → IsIn e (points_of q) → IsSome (bucket_at hold.places (bucket_of hold.grid e))) → IsIn q (cells_in_hand hold.places)
 cell_in_hand hold h st q m held =
-    let e = some_point (replay h) q (listed_is_cell (replay h) q (solid_set hold h st).set.ascending m) in
+    let e = some_point h q (listed_is_cell h q (solid_set hold h st).set.ascending m) in
     let b = bucket_of hold.grid e.0 in
     let k = some_of (bucket_at hold.places b) (held e.0 e.1) in
     let t = any_true (λ p. bucket_of hold.grid p == b) (points_of q) e.0 e.1 (eq-eqb b b refl) in
-    let i = subst (λ (l : List Cell). IsIn q l) (sym (st.shares b k.0 k.1).cells) (filtered_true (touches hold.grid b) (complex (replay h)) q m t) in
+    let i = subst (λ (l : List Cell). IsIn q l) (sym (st.sights b k.0 k.1).cells) (filtered_true (touches hold.grid b) (complex h) q m t) in
     in_flat (λ o. option_map_or (λ c. c.cells) o []) hold.places (Some k.0) q (bucket_in hold.places b k.0 k.1) i
 
 -- so explored cells are at most as many as the cells in hand
-few_explored : (hold : InHand) (h : List Entry) (d : Digging) → Stands hold h → IsDigIn (replay h) d → d.explored < length d.found → AreHeld hold (take (d.explored + 1) d.found) → d.explored < length (cells_in_hand hold.places)
+few_explored : (hold : InHand) (h : List ℕ) (d : Digging) → Shows hold h → IsDigIn h d → d.explored < length d.found → AreHeld hold (take (d.explored + 1) d.found) → d.explored < length (cells_in_hand hold.places)
 few_explored hold h d st k less held =
     let most = at_most (take (d.explored + 1) d.found) (cells_in_hand hold.places) (distinct_take (d.explored + 1) d.found k.crossed.found_once) (λ q m. cell_in_hand hold h st q (k.crossed.goes q (in_take (d.explored + 1) d.found q m)).before (held q m)) in
     omega (arith, most, length-take (d.explored + 1) d.found)
@@ -124,7 +122,7 @@ begins s p cell key k = record {
 -- a dig that went on over a hold: its point is the same, it is a dig still, and the buckets of explored cells are in hand
 pub record GoesOn (hold : InHand) (old now : Digging) : Type 0 where
   pub point : now.point ≡ old.point
-  pub digs : (h : List Entry) → Stands hold h → IsDigIn (replay h) old → IsDigIn (replay h) now
+  pub digs : (h : List ℕ) → Shows hold h → IsDigIn h old → IsDigIn h now
   pub held : AreHeld hold (take now.explored now.found)
 
 -- when it begins
@@ -137,14 +135,14 @@ module _ (hold : InHand) (old d : Digging) (cell : Cell) (ps : List ℕ) (g : Go
   next_held = cells_more hold d.found d.explored cell ps less at e held g.held
 
   -- fewer were explored than there are cells in hand
-  pub goes_below : (h : List Entry) → Stands hold h → IsDigIn (replay h) old → d.explored < length (cells_in_hand hold.places)
+  pub goes_below : (h : List ℕ) → Shows hold h → IsDigIn h old → d.explored < length (cells_in_hand hold.places)
   goes_below h st k = few_explored hold h d st (g.digs h st k) less next_held
 
   -- when the next cell was explored
-  pub goes_further : (found' : List Cell) (rim' : List Facet) → ((more : List Cell) × (found' ≡ d.found ++ more)) → ((h : List Entry) → Stands hold h → Explores (replay h) d.point cell d.found d.rim found' rim') → GoesOn hold old (record { point = d.point; found = found'; explored = d.explored + 1; rim = rim' })
+  pub goes_further : (found' : List Cell) (rim' : List Facet) → ((more : List Cell) × (found' ≡ d.found ++ more)) → ((h : List ℕ) → Shows hold h → Explores h d.point cell d.found d.rim found' rim') → GoesOn hold old (record { point = d.point; found = found'; explored = d.explored + 1; rim = rim' })
   goes_further found' rim' m x = record {
     point = g.point;
-    digs = λ h st k. digs_on (replay h) (solid_set hold h st) d (g.digs h st k) cell less at found' rim' m (x h st);
+    digs = λ h st k. digs_on h (solid_set hold h st) d (g.digs h st k) cell less at found' rim' m (x h st);
     held = subst (λ (l : List Cell). AreHeld hold l) (sym (ap (take (d.explored + 1)) m.1 ∙ take-append-le (d.explored + 1) d.found m.0 (omega arith))) next_held;
   }
 

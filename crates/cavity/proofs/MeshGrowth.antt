@@ -12,15 +12,14 @@ use Rattle.point_order.proofs.SetLaws.{in-place, in-ascending, in-with, in-with_
 use Rattle.std.specs.List.{filter}
 use Rattle.std.proofs.lemmas.Bool.Decides.{nat_tests}
 use Rattle.std.proofs.lemmas.List.{take_all, length-append}
-use Rattle.del_laws.proofs.Tests.{among_true, among_from, filtered_true, filtered_from}
-use Rattle.edit_history.specs.Edits.{changed}
+use Rattle.del_laws.proofs.Tests.{among_true, among_from, false_if, filtered_true, filtered_from}
+use Rattle.edit_history.specs.Edits.{changed, after}
 use Rattle.cell_store.specs.Grids.{bucket_of}
 use Rattle.cell_store.specs.Buckets.{bucket_at, points_in}
-use Rattle.cell_store.specs.Meshes.{IsMesh}
+use Rattle.cell_store.specs.Meshes.{MeshView, IsHoldOf}
 use Rattle.cell_store.proofs.MeshLaws.{some_of, point_held}
 use Rattle.cell_store.proofs.Members.{in-take_more, at-place}
-use Rattle.cell_store.proofs.ShareLaws.{ascending_replay}
-use Rattle.cell_store.proofs.NextLaws.{replay_next}
+use Rattle.cell_store.proofs.ShareLaws.{ascending_replay, stands_shows}
 use Rattle.cavity.specs.Opening.{inserted, opening_history}
 use Rattle.cavity.proofs.OpeningLaws.{leaves_four}
 use Rattle.cavity.specs.Opening.{AreIndependent}
@@ -31,13 +30,13 @@ use Rattle.edit_history.specs.declared.history.Entry.{Entry}
 use Rattle.edit_history.specs.Edits.{point_of}
 use Rattle.edit_history.specs.Histories.{replay}
 use Rattle.hole_laws.specs.Edits.{IsNew}
-use Rattle.cell_store.specs.Buckets.{InHand, Room}
+use Rattle.cell_store.specs.Buckets.{InHand}
 use Rattle.cell_store.specs.Changes.{IsNext}
-use Rattle.cell_store.specs.Shares.{Stands}
+use Rattle.cell_store.specs.Shares.{Stands, Shows}
 use Rattle.cavity.specs.Fills.{IsFilled}
-use Rattle.cavity.specs.Growing.{AreAmong, IsInsertion, HasGrown, StandsForPoints}
+use Rattle.cavity.specs.Growing.{AreAmong, IsInsertion, HasGrown}
 use Rattle.cavity.proofs.Standing.{solid_set}
-use Rattle.cavity.proofs.NextEntry.{insertion_is_next}
+use Rattle.cavity.proofs.NextEntry.{insertion_is_next, replay_more, reply_new}
 
 -- four places in a list, of independent points
 pub record AreFound (points four : List ℕ) : Type 0 where
@@ -85,10 +84,6 @@ found_among points four f line i =
 
 -- ---- insertions
 
--- room is nothing to a history
-pub stands_with_room : (m : InHand) (r : Room) (h : List Entry) → Stands m h → Stands (record m { room = r }) h
-stands_with_room m r h st = record { legal = st.legal; keys = st.keys; solid = st.solid; shares = st.shares }
-
 -- the point of an insertion is new
 pub new_of : (h : List Entry) (e : Entry) (p : ℕ) → IsKey p → p ≡ point_of e.edit → IsInsertion h e → IsNew (replay h) p
 new_of h e p k q i = record { key = k; absent = λ m. i.absent (subst (λ (x : ℕ). IsIn x (replay h)) q m) }
@@ -96,7 +91,7 @@ new_of h e p k q i = record { key = k; absent = λ m. i.absent (subst (λ (x : �
 -- the entry is the next, with what fills the hole
 pub next_of : (m : InHand) (h : List Entry) (e : Entry) (p : ℕ) (gone fresh : List Cell) → Stands m h → IsKey p → p ≡ point_of e.edit → IsInsertion h e → IsFilled (replay h) p gone fresh → IsNext h e gone fresh
 next_of m h e p gone fresh st k q i f =
-    insertion_is_next h e p gone fresh st.legal (solid_set m h st) (new_of h e p k q i) (i.edit ∙ ap Add (sym q)) i.number i.reply f
+    insertion_is_next h e p gone fresh st.legal (solid_set m (replay h) (stands_shows m h st)) (new_of h e p k q i) (i.edit ∙ ap Add (sym q)) i.number i.reply f
 
 -- ---- the points of a mesh
 
@@ -104,36 +99,35 @@ same : (b : ℕ) → (b == b) ≡ true
 same b = grind (arith, nat_tests)
 
 -- the points of a bucket in hand are those of the set in it
-points_are : (hold : InHand) (h : List Entry) (p g b : ℕ) → g ≡ hold.grid → b ≡ bucket_of g p → Stands hold h → IsSome (bucket_at hold.places b) → points_in hold.places b ≡ filter (λ q. bucket_of hold.grid q == b) (replay h)
-points_are hold h p g b e k st o = let x = some_of (bucket_at hold.places b) o in rw x.1 ((st.shares b x.0 x.1).points)
+points_are : (hold : InHand) (s : List ℕ) (b : ℕ) → Shows hold s → IsSome (bucket_at hold.places b) → points_in hold.places b ≡ filter (λ q. bucket_of hold.grid q == b) s
+points_are hold s b sh o = let x = some_of (bucket_at hold.places b) o in rw x.1 ((sh.sights b x.0 x.1).points)
 
-pub held : (hold : InHand) (h : List Entry) (p : ℕ) → Stands hold h → IsSome (bucket_at hold.places (bucket_of hold.grid p)) → is_among p (points_in hold.places (bucket_of hold.grid p)) ≡ true → IsIn p (replay h)
-held hold h p st o t =
+pub held : (hold : InHand) (s : List ℕ) (p : ℕ) → Shows hold s → IsSome (bucket_at hold.places (bucket_of hold.grid p)) → is_among p (points_in hold.places (bucket_of hold.grid p)) ≡ true → IsIn p s
+held hold s p sh o t =
     let b = bucket_of hold.grid p in
-    let i = subst (λ (l : List ℕ). IsIn p l) (points_are hold h p hold.grid b refl refl st o) (among_from p (points_in hold.places b) t) in
-    (filtered_from' (replay h) i)
-  where
-    filtered_from' : (s : List ℕ) → IsIn p (filter (λ q. bucket_of hold.grid q == bucket_of hold.grid p) s) → IsIn p s
-    filtered_from' s i = (filtered_from (λ q. bucket_of hold.grid q == bucket_of hold.grid p) s p i).0
+    let i = subst (λ (l : List ℕ). IsIn p l) (points_are hold s b sh o) (among_from p (points_in hold.places b) t) in
+    (filtered_from (λ q. bucket_of hold.grid q == bucket_of hold.grid p) s p i).0
 
-pub not_held : (hold : InHand) (h : List Entry) (p : ℕ) → Stands hold h → IsSome (bucket_at hold.places (bucket_of hold.grid p)) → is_among p (points_in hold.places (bucket_of hold.grid p)) ≡ false → ¬ (IsIn p (replay h))
-not_held hold h p st o f m =
+pub not_held : (hold : InHand) (s : List ℕ) (p : ℕ) → Shows hold s → IsSome (bucket_at hold.places (bucket_of hold.grid p)) → is_among p (points_in hold.places (bucket_of hold.grid p)) ≡ false → ¬ (IsIn p s)
+not_held hold s p sh o f m =
     let b = bucket_of hold.grid p in
-    let i = filtered_true (λ q. bucket_of hold.grid q == b) (replay h) p m (same b) in
-    let t = among_true p (points_in hold.places b) (subst (λ (l : List ℕ). IsIn p l) (sym (points_are hold h p hold.grid b refl refl st o)) i) in
+    let i = filtered_true (λ q. bucket_of hold.grid q == b) s p m (same b) in
+    let t = among_true p (points_in hold.places b) (subst (λ (l : List ℕ). IsIn p l) (sym (points_are hold s b sh o)) i) in
     cc (t, f)
 
--- with every bucket in hand that of a point is
-pub held_by : (hold m : InHand) (p : ℕ) → hold ≡ m → IsMesh m → IsSome (bucket_at hold.places (bucket_of hold.grid p))
-held_by hold m p e i = subst (λ (x : InHand). IsSome (bucket_at x.places (bucket_of x.grid p))) (sym e) (point_held m p i.has i.all)
+-- with the hold of a mesh the bucket of each point is in hand
+pub held_by : (mesh : MeshView) (hold : InHand) (p : ℕ) → IsHoldOf mesh hold → IsSome (bucket_at hold.places (bucket_of hold.grid p))
+held_by mesh hold p i = point_held hold p i.whole.has i.whole.all
+
+-- and it shows the set that the history leaves
+pub shows_of : (mesh : MeshView) (hold : InHand) → IsHoldOf mesh hold → Shows hold (replay mesh.history)
+shows_of mesh hold i = stands_shows hold mesh.history i.stands
 
 -- ---- a mesh grows
 
 -- the opening
-pub grown_first : (points : List ℕ) (four : List (ℕ × ℕ)) (m : InHand) → AreIndependent four → AreAmong four points → Stands m (opening_history four) → HasGrown points [] 4 m
-grown_first points (a ∷ b ∷ c ∷ d ∷ []) m f among st = record {
-  history = opening_history (a ∷ b ∷ c ∷ d ∷ []);
-  stands = st;
+pub grown_first : (points : List ℕ) (four : List (ℕ × ℕ)) → AreIndependent four → AreAmong four points → HasGrown points [] 4 (opening_history four)
+grown_first points (a ∷ b ∷ c ∷ d ∷ []) f among = record {
   count = refl;
   inside = λ p i. inside p (in-ascending (a.1 ∷ b.1 ∷ c.1 ∷ d.1 ∷ []) p (subst (λ (l : List ℕ). IsIn p l) (leaves_four a b c d f) i));
   front_in = λ p i. absurd i;
@@ -150,50 +144,53 @@ grown_first points (a ∷ b ∷ c ∷ d ∷ []) m f among st = record {
         ]
       ]
     ]
-grown_first points [] m f among st = absurd f
-grown_first points (a ∷ []) m f among st = absurd f
-grown_first points (a ∷ b ∷ []) m f among st = absurd f
-grown_first points (a ∷ b ∷ c ∷ []) m f among st = absurd f
-grown_first points (a ∷ b ∷ c ∷ d ∷ e ∷ l) m f among st = absurd f
+grown_first points [] f among = absurd f
+grown_first points (a ∷ []) f among = absurd f
+grown_first points (a ∷ b ∷ []) f among = absurd f
+grown_first points (a ∷ b ∷ c ∷ []) f among = absurd f
+grown_first points (a ∷ b ∷ c ∷ d ∷ e ∷ l) f among = absurd f
 
 -- the next place
 one_up : (i : ℕ) → i + 1 ≡ suc i
 one_up i = omega arith
 
 -- a point that is there
-pub grown_same : (points : List ℕ) (i n p : ℕ) (m : InHand) → i < length points → p ≡ slice_index_or points i p → (g : HasGrown points (take i points) n m) → IsIn p (replay g.history) → HasGrown points (take (i + 1) points) n m
-grown_same points i n p m l e g k = record {
-  history = g.history;
-  stands = g.stands;
+pub grown_same : (points : List ℕ) (i n p : ℕ) (h : List Entry) → i < length points → p ≡ slice_index_or points i p → HasGrown points (take i points) n h → IsIn p (replay h) → HasGrown points (take (i + 1) points) n h
+grown_same points i n p h l e g k = record {
   count = g.count;
   inside = g.inside;
-  front_in = λ q j. elim (in-take_more points i p q l e (subst (λ (t : ℕ). IsIn q (take t points)) (one_up i) j)) [ inl f ↦ g.front_in q f | inr f ↦ subst (λ (v : ℕ). IsIn v (replay g.history)) f k ];
+  front_in = λ q j. elim (in-take_more points i p q l e (subst (λ (t : ℕ). IsIn q (take t points)) (one_up i) j)) [ inl f ↦ g.front_in q f | inr f ↦ subst (λ (v : ℕ). IsIn v (replay h)) f k ];
 }
 
+-- what an insertion leaves
+pub left_by : (h : List Entry) (p : ℕ) (e : Entry) → p ≡ point_of e.edit → IsInsertion h e → replay (h ++ e ∷ []) ≡ with_point p (replay h)
+left_by h p e k ins =
+    let s = replay h in
+    let new = reply_new s p (false_if (is_among p s) (λ t. ins.absent (subst (λ (x : ℕ). IsIn x s) k (among_from p s t)))) in
+    replay_more [] h e ∙ ap (after s) (ins.edit ∙ ap Add (sym k)) ∙ ap (changed s p) new
+
 -- a point that is inserted
-pub grown_more : (points : List ℕ) (i n p : ℕ) (m m' : InHand) (e : Entry) → i < length points → p ≡ slice_index_or points i p → (g : HasGrown points (take i points) n m) → p ≡ point_of e.edit → IsInsertion g.history e → Stands m' (g.history ++ e ∷ []) → HasGrown points (take (i + 1) points) (n + 1) m'
-grown_more points i n p m m' e l q g k ins st = record {
-  history = g.history ++ e ∷ [];
-  stands = st;
-  count = ap (λ (v : ℕ). v + 1) g.count ∙ sym (length-append g.history (e ∷ []));
-  inside = λ r j. elim (in-with p r (replay g.history) (subst (λ (s : List ℕ). IsIn r s) left j)) [
+pub grown_more : (points : List ℕ) (i n p : ℕ) (h : List Entry) (e : Entry) → i < length points → p ≡ slice_index_or points i p → HasGrown points (take i points) n h → p ≡ point_of e.edit → IsInsertion h e → HasGrown points (take (i + 1) points) (n + 1) (h ++ e ∷ [])
+grown_more points i n p h e l q g k ins = record {
+  count = ap (λ (v : ℕ). v + 1) g.count ∙ sym (length-append h (e ∷ []));
+  inside = λ r j. elim (in-with p r (replay h) (subst (λ (s : List ℕ). IsIn r s) left j)) [
     | inl f ↦ subst (λ (v : ℕ). IsIn v points) f (at-place points i p l q)
     | inr f ↦ g.inside r f
   ];
   front_in = λ r j. subst (λ (s : List ℕ). IsIn r s) (sym left) (elim (in-take_more points i p r l q (subst (λ (t : ℕ). IsIn r (take t points)) (one_up i) j)) [
-    | inl f ↦ in-with_old p r (replay g.history) (g.front_in r f)
-    | inr f ↦ subst (λ (v : ℕ). IsIn v (with_point p (replay g.history))) f (in-with_new p (replay g.history))
+    | inl f ↦ in-with_old p r (replay h) (g.front_in r f)
+    | inr f ↦ subst (λ (v : ℕ). IsIn v (with_point p (replay h))) f (in-with_new p (replay h))
   ]);
 }
   where
-    left : replay (g.history ++ e ∷ []) ≡ with_point p (replay g.history)
-    left = replay_next g.history e st.legal ∙ ap (changed (replay g.history) (point_of e.edit)) ins.reply ∙ ap (λ (v : ℕ). with_point v (replay g.history)) (sym k)
+    left : replay (h ++ e ∷ []) ≡ with_point p (replay h)
+    left = left_by h p e k ins
 
 -- the insertion of a point that is not there
 pub inserts : (h : List Entry) (n p : ℕ) (e : Entry) → n ≡ length h → ¬ (IsIn p (replay h)) → e ≡ inserted n (0, p) → IsInsertion h e
 inserts h n p e c a q = subst (IsInsertion h) (sym q) (record { edit = refl; absent = a; number = c; reply = refl })
 
 -- all points
-pub grown_all : (points : List ℕ) (i n : ℕ) (m : InHand) → IsAscending points → length points ≤ i → HasGrown points (take i points) n m → StandsForPoints m points
-grown_all points i n m a l g =
-    (g.history, g.stands, same-members (replay g.history) points (ascending_replay g.history) a g.inside (λ p k. g.front_in p (subst (λ (s : List ℕ). IsIn p s) (sym (take_all i points l)) k)))
+pub grown_all : (points : List ℕ) (i n : ℕ) (h : List Entry) → IsAscending points → length points ≤ i → HasGrown points (take i points) n h → replay h ≡ points
+grown_all points i n h a l g =
+    same-members (replay h) points (ascending_replay h) a g.inside (λ p k. g.front_in p (subst (λ (s : List ℕ). IsIn p s) (sym (take_all i points l)) k))

@@ -8,12 +8,10 @@ use Rattle.point_order.specs.Complex.{complex}
 use Rattle.point_order.specs.Facets.{points_of}
 use Rattle.point_order.specs.Sets.{IsIn, IsAscending, is_among}
 use Rattle.std.specs.List.{filter}
-use Rattle.edit_history.specs.declared.history.Entry.{Entry}
-use Rattle.edit_history.specs.Histories.{replay}
 use Rattle.edit_history.proofs.Solidity.{any-some}
 use Rattle.cell_store.specs.Buckets.{InHand, Content, bucket_at, cells_in}
 use Rattle.cell_store.specs.Grids.{bucket_of}
-use Rattle.cell_store.specs.Shares.{Stands, NoneInHand}
+use Rattle.cell_store.specs.Shares.{Shows, NoneInHand}
 use Rattle.cell_store.specs.Swaps.{touches}
 use Rattle.cell_store.proofs.MeshLaws.{some_of, in_moved, point_held}
 use Rattle.cell_store.proofs.ShareLaws.{touched}
@@ -34,14 +32,14 @@ cells_are : (hold : InHand) (b : ℕ) (x : Content) → bucket_at hold.places b 
 cells_are hold b x e = rw e refl
 
 -- a cell of a bucket in hand is one of the complex
-pub in_complex : (hold : InHand) (h : List Entry) (b : ℕ) (c : Cell) → Stands hold h → IsSome (bucket_at hold.places b) → IsIn c (cells_in hold.places b) → IsIn c (complex (replay h)) × (touches hold.grid b c ≡ true)
+pub in_complex : (hold : InHand) (h : List ℕ) (b : ℕ) (c : Cell) → Shows hold h → IsSome (bucket_at hold.places b) → IsIn c (cells_in hold.places b) → IsIn c (complex h) × (touches hold.grid b c ≡ true)
 in_complex hold h b c st o i =
     let x = some_of (bucket_at hold.places b) o in
-    let share = (st.shares b x.0 x.1).cells in
-    filtered_from (touches hold.grid b) (complex (replay h)) c (subst (λ (l : List Cell). IsIn c l) (cells_are hold b x.0 x.1 ∙ share) i)
+    let share = (st.sights b x.0 x.1).cells in
+    filtered_from (touches hold.grid b) (complex h) c (subst (λ (l : List Cell). IsIn c l) (cells_are hold b x.0 x.1 ∙ share) i)
 
 -- and the bucket of one of its points is in hand
-pub not_none : (hold : InHand) (h : List Entry) (b : ℕ) (c : Cell) → Stands hold h → IsSome (bucket_at hold.places b) → IsIn c (cells_in hold.places b) → NoneInHand hold (points_of c) → ⊥
+pub not_none : (hold : InHand) (h : List ℕ) (b : ℕ) (c : Cell) → Shows hold h → IsSome (bucket_at hold.places b) → IsIn c (cells_in hold.places b) → NoneInHand hold (points_of c) → ⊥
 not_none hold h b c st o i none =
     let x = some_of (bucket_at hold.places b) o in
     let r = any-some (λ p. bucket_of hold.grid p == b) (points_of c) (in_complex hold h b c st o i).1 in
@@ -85,12 +83,12 @@ some_point s a (Open q) i = let l = listed_is_cell s (Open q) a i in (l.a, subst
 
 -- some cell goes, and it is in the bucket of one of its points
 pub some_goes :
-    (hold : InHand) (h : List Entry) (p : ℕ) → HasPlaces hold → AllInHand hold → Stands hold h → IsNew (replay h) p →
-    (c : Cell) × GoesFrom (replay h) p c × ((b : ℕ) × (b < length hold.places) × IsIn c (cells_in hold.places b))
+    (hold : InHand) (h : List ℕ) (p : ℕ) → HasPlaces hold → AllInHand hold → Shows hold h → IsNew h p →
+    (c : Cell) × GoesFrom h p c × ((b : ℕ) × (b < length hold.places) × IsIn c (cells_in hold.places b))
 some_goes hold h p has all st new =
     let s = solid_set hold h st in
-    let rim = (some_rim (replay h) p s new).1 in
-    let e = some_point (replay h) s.set.ascending rim.gone rim.goes.before in
+    let rim = (some_rim h p s new).1 in
+    let e = some_point h s.set.ascending rim.gone rim.goes.before in
     let b = bucket_of hold.grid e.0 in
     let x = some_of (bucket_at hold.places b) (point_held hold e.0 has all) in (
       rim.gone,
@@ -98,8 +96,8 @@ some_goes hold h p has all st new =
       (
         b,
         subst (λ n. b < n) (sym has.places) (bucket-below hold.grid e.0 has.size),
-        subst (λ (l : List Cell). IsIn rim.gone l) (sym (cells_are hold b x.0 x.1 ∙ (st.shares b x.0 x.1).cells))
-            (filtered_true (touches hold.grid b) (complex (replay h)) rim.gone rim.goes.before (touched hold.grid e.0 b rim.gone refl e.1)),
+        subst (λ (l : List Cell). IsIn rim.gone l) (sym (cells_are hold b x.0 x.1 ∙ (st.sights b x.0 x.1).cells))
+            (filtered_true (touches hold.grid b) (complex h) rim.gone rim.goes.before (touched hold.grid e.0 b rim.gone refl e.1)),
       ),
     )
 
@@ -121,8 +119,8 @@ round first b n f l = elim (le_or_lt first b) [
 
 -- so the round finds the cell
 pub unmet :
-    (hold : InHand) (h : List Entry) (p g first count step : ℕ) → HasPlaces hold → AllInHand hold → Stands hold h → IsNew (replay h) p → g ≡ hold.grid → first ≡ bucket_of g p → bucket_of g p < g * g * g →
-    count ≡ g * g * g → count ≤ step → ((i : ℕ) → i < step → NoneGoes (replay h) p (cells_in hold.places ((first + i) % count))) → ⊥
+    (hold : InHand) (h : List ℕ) (p g first count step : ℕ) → HasPlaces hold → AllInHand hold → Shows hold h → IsNew h p → g ≡ hold.grid → first ≡ bucket_of g p → bucket_of g p < g * g * g →
+    count ≡ g * g * g → count ≤ step → ((i : ℕ) → i < step → NoneGoes h p (cells_in hold.places ((first + i) % count))) → ⊥
 unmet hold h p g first count step has all st new eg ef below ec k none =
     let c = some_goes hold h p has all st new in
     let places : count ≡ length hold.places = ec ∙ ap (λ v. v * v * v) eg ∙ sym has.places in

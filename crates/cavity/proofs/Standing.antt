@@ -8,20 +8,17 @@ use Rattle.point_order.specs.declared.cell.Facet.TheVariants.{Three, Two}
 use Rattle.point_order.specs.Complex.{complex}
 use Rattle.point_order.specs.Facets.{facets_of, points_of}
 use Rattle.point_order.specs.Sets.{IsIn}
-use Rattle.edit_history.specs.declared.history.Entry.{Entry}
-use Rattle.edit_history.specs.Histories.{replay}
-use Rattle.edit_history.proofs.HistoryLaws.{leaves_set}
 use Rattle.del_laws.proofs.Listed.{listed_is_cell}
 use Rattle.del_laws.proofs.Neighbours.{listed_facets}
 use Rattle.hole_laws.specs.Edits.{IsSet, IsSolidSet}
 use Rattle.hole_laws.proofs.Near.{facet_inside, facet_point}
 use Rattle.hole_laws.proofs.OfSets.{lists_of}
 use Rattle.cell_store.specs.Buckets.{InHand}
-use Rattle.cell_store.specs.Shares.{Stands, NoneInHand, points_on}
+use Rattle.cell_store.specs.Shares.{Shows, NoneInHand, points_on}
 
--- the points that the history leaves are a solid set
-pub solid_set : (hold : InHand) (h : List Entry) → Stands hold h → IsSolidSet (replay h)
-solid_set hold h st = record { set = record { ascending = leaves_set h; keys = st.keys }; solid = st.solid }
+-- a set that a hold shows is a solid set
+pub solid_set : (hold : InHand) (s : List ℕ) → Shows hold s → IsSolidSet s
+solid_set hold s sh = record { set = record { ascending = sh.ascending; keys = sh.keys }; solid = sh.solid }
 
 -- a facet of a cell is on two cells: a third is one of them
 pub one_of_two : (s : List ℕ) → IsSet s → (f : Facet) (c other q : Cell) → IsIn c (complex s) → IsIn f (facets_of c) → IsIn other (complex s) → IsIn f (facets_of other) → ¬ (other ≡ c) → IsIn q (complex s) → IsIn f (facets_of q) → (c ≡ q) ⊎ (other ≡ q)

@@ -4,12 +4,10 @@ use Rattle.point_order.specs.declared.cell.Cell.{Cell}
 use Rattle.point_order.specs.declared.cell.Facet.{Facet}
 use Rattle.point_order.specs.Facets.{facets_of, points_of}
 use Rattle.point_order.specs.Sets.{IsIn}
-use Rattle.edit_history.specs.declared.history.Entry.{Entry}
-use Rattle.edit_history.specs.Histories.{replay}
 use Rattle.hole_laws.specs.Edits.{IsNew, IsRimOf}
 use Rattle.cell_store.specs.Grids.{bucket_of}
 use Rattle.cell_store.specs.Buckets.{InHand, bucket_at}
-use Rattle.cell_store.specs.Shares.{Stands}
+use Rattle.cell_store.specs.Shares.{Shows}
 use Rattle.cavity.specs.Digs.{AreCrossed}
 
 -- the buckets of all points of the list are in hand
@@ -42,13 +40,13 @@ AreUncrossed s p crossed fs = (f : Facet) → IsIn f fs → IsRimOf s p f → ¬
 
 -- the hold stands for a history in which that is so
 abbrev pub StandsAt : InHand → ℕ → Cell → List Cell → List Facet → Type 0
-StandsAt hold p cell found rim = (h : List Entry) × Stands hold h × (crossed : List Facet) × IsAt (replay h) p crossed cell found rim
+StandsAt hold p cell found rim = (h : List ℕ) × Shows hold h × (crossed : List Facet) × IsAt h p crossed cell found rim
 
 -- and no rim facet of the cell was crossed
 abbrev pub StandsNewAt : InHand → ℕ → Cell → List Cell → List Facet → Type 0
 StandsNewAt hold p cell found rim =
-    (h : List Entry) × Stands hold h × (crossed : List Facet) × IsAt (replay h) p crossed cell found rim
-    × AreUncrossed (replay h) p crossed (facets_of cell)
+    (h : List ℕ) × Shows hold h × (crossed : List Facet) × IsAt h p crossed cell found rim
+    × AreUncrossed h p crossed (facets_of cell)
 
 -- after the facet of the found cell was crossed, it is one of those crossed
 abbrev pub Crosses : List ℕ → ℕ → Cell → Facet → List Cell → List Facet → List Cell → List Facet → Type 0

@@ -6,8 +6,6 @@ use Rattle.edit_history.specs.declared.history.Entry.{Entry}
 use Rattle.edit_history.specs.declared.history.Reply.TheVariants.{Inserted}
 use Rattle.edit_history.specs.Edits.{point_of}
 use Rattle.edit_history.specs.Histories.{replay}
-use Rattle.cell_store.specs.Buckets.{InHand}
-use Rattle.cell_store.specs.Shares.{Stands}
 
 -- The entry is the insertion of a point that is new after the history, and continues it.
 pub record IsInsertion (h : List Entry) (e : Entry) : Type 0 where
@@ -16,22 +14,12 @@ pub record IsInsertion (h : List Entry) (e : Entry) : Type 0 where
   pub number : e.number ≡ length h
   pub reply : e.reply ≡ Inserted
 
--- the mesh stands for a history that the entry continues so
-abbrev pub CanInsert : InHand → Entry → Type 0
-CanInsert mesh e = (h : List Entry) × Stands mesh h × IsInsertion h e
-
--- the mesh stands for a history that leaves exactly these points
-abbrev pub StandsForPoints : InHand → List ℕ → Type 0
-StandsForPoints mesh s = (h : List Entry) × Stands mesh h × (replay h ≡ s)
-
 -- the points of the tagged lines are all in the list
 abbrev pub AreAmong : List (ℕ × ℕ) → List ℕ → Type 0
 AreAmong lines s = (line : ℕ × ℕ) → IsIn line lines → IsIn line.1 s
 
--- The mesh stands for a history of so many entries, which leaves some of the points, those of the front among them.
-pub record HasGrown (points front : List ℕ) (number : ℕ) (mesh : InHand) : Type 0 where
-  pub history : List Entry
-  pub stands : Stands mesh history
+-- The history has so many entries, and leaves some of the points, those of the front among them.
+pub record HasGrown (points front : List ℕ) (number : ℕ) (history : List Entry) : Type 0 where
   pub count : number ≡ length history
   pub inside : (p : ℕ) → IsIn p (replay history) → IsIn p points
   pub front_in : (p : ℕ) → IsIn p front → IsIn p (replay history)

@@ -2,15 +2,13 @@
 use Rattle.std.specs.Prelude.{ℕ, List}
 use Rattle.point_order.specs.declared.cell.Cell.{Cell}
 use Rattle.point_order.specs.Sets.{IsIn}
-use Rattle.edit_history.specs.declared.history.Entry.{Entry}
-use Rattle.edit_history.specs.Histories.{replay}
 use Rattle.hole_laws.specs.Edits.{IsNew, GoesFrom}
 use Rattle.cell_store.specs.Buckets.{InHand}
-use Rattle.cell_store.specs.Shares.{Stands}
+use Rattle.cell_store.specs.Shares.{Shows}
 
 -- the hold stands for a history in which the point is new
 abbrev pub StandsForNew : InHand → ℕ → Type 0
-StandsForNew hold p = (h : List Entry) × Stands hold h × IsNew (replay h) p
+StandsForNew hold p = (h : List ℕ) × Shows hold h × IsNew h p
 
 -- the new point takes none of the cells away
 abbrev pub NoneGoes : List ℕ → ℕ → List Cell → Type 0

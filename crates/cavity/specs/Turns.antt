@@ -3,12 +3,10 @@ use Rattle.std.specs.Prelude.{◌≡◌, ℕ, ◌<◌, List, None}
 use Rattle.point_order.specs.declared.cell.Cell.{Cell}
 use Rattle.point_order.specs.Facets.{points_of}
 use Rattle.point_order.specs.Sets.{IsIn}
-use Rattle.edit_history.specs.declared.history.Entry.{Entry}
-use Rattle.edit_history.specs.Histories.{replay}
 use Rattle.hole_laws.specs.Edits.{GoesFrom}
 use Rattle.cell_store.specs.Grids.{bucket_of}
 use Rattle.cell_store.specs.Buckets.{InHand, bucket_at}
-use Rattle.cell_store.specs.Shares.{Stands}
+use Rattle.cell_store.specs.Shares.{Shows}
 use Rattle.cell_store.specs.Ready.{AreHeld}
 use Rattle.cavity.specs.declared.dig.DigTurn.{DigTurn}
 use Rattle.cavity.specs.declared.dig.DigTurn.TheVariants.{Done, Need}
@@ -16,7 +14,7 @@ use Rattle.cavity.specs.Digs.{Digging, IsDigIn, IsDoneIn}
 
 -- The hold stands for a history in whose complex the dig is one.
 abbrev pub StandsForDig : InHand → Digging → Type 0
-StandsForDig hold d = (h : List Entry) × Stands hold h × IsDigIn (replay h) d
+StandsForDig hold d = (h : List ℕ) × Shows hold h × IsDigIn h d
 
 -- bucket b is not in hand, and has a finite point of a cell that p takes away
 pub record IsNeeded (hold : InHand) (s : List ℕ) (p b : ℕ) : Type 0 where

@@ -1,11 +1,9 @@
 //! A first cell in conflict, by looking through the buckets.
 
-ghost use Rattle.std.specs.Prelude.{List, MatchOption, IsSome, IfSome};
-ghost use Rattle.edit_history.specs.declared.history.Entry.{Entry};
-ghost use Rattle.edit_history.specs.Histories.{replay};
+ghost use Rattle.std.specs.Prelude.{List, MatchOption, IsSome, IfSome, ℕ};
 ghost use Rattle.hole_laws.specs.Edits.{IsNew, GoesFrom};
 ghost use Rattle.cell_store.specs.Buckets.{bucket_at, cells_in};
-ghost use Rattle.cell_store.specs.Shares.{Stands};
+ghost use Rattle.cell_store.specs.Shares.{Shows};
 ghost use Rattle.cell_store.specs.Meshes.{AllInHand};
 ghost use Rattle.cavity.specs.Searching.{StandsForNew, NoneGoes};
 
@@ -17,7 +15,7 @@ use point_order::{Cell, Point, Step};
 fn conflict_among(hold: &Hold, b: u32, p: Point) -> Option<Cell>
     requires stands { StandsForNew hold.now p }
     requires held { IsSome (bucket_at hold.now.places b) }
-    ensures { (h : List Entry) → Stands hold.now h → IsNew (replay h) p → MatchOption result (NoneGoes (replay h) p (cells_in hold.now.places b)) (λ c. GoesFrom (replay h) p c) }
+    ensures { (h : List ℕ) → Shows hold.now h → IsNew h p → MatchOption result (NoneGoes h p (cells_in hold.now.places b)) (λ c. GoesFrom h p c) }
 {
     for cell in hold.bucket(b).cells() {
         if goes(hold, cell, p) {
@@ -39,7 +37,7 @@ fn nearest(points: &[Point], p: Point) -> Option<Point> {
 fn conflict_at(hold: &Hold, q: Point, p: Point) -> Option<Cell>
     requires all { AllInHand hold.now }
     requires stands { StandsForNew hold.now p }
-    ensures { IfSome result (λ c. (h : List Entry) → Stands hold.now h → IsNew (replay h) p → GoesFrom (replay h) p c) }
+    ensures { IfSome result (λ c. (h : List ℕ) → Shows hold.now h → IsNew h p → GoesFrom h p c) }
 {
     let _ = hold.grid();
     for neighbour in hold.cells_at(q) {
@@ -54,7 +52,7 @@ fn conflict_at(hold: &Hold, q: Point, p: Point) -> Option<Cell>
 fn conflict_near(hold: &Hold, p: Point) -> Option<Cell>
     requires all { AllInHand hold.now }
     requires stands { StandsForNew hold.now p }
-    ensures { IfSome result (λ c. (h : List Entry) → Stands hold.now h → IsNew (replay h) p → GoesFrom (replay h) p c) }
+    ensures { IfSome result (λ c. (h : List ℕ) → Shows hold.now h → IsNew h p → GoesFrom h p c) }
 {
     let home = hold.grid().bucket_of(p);
     let q = nearest(hold.bucket(home).points(), p)?;
@@ -65,7 +63,7 @@ fn conflict_near(hold: &Hold, p: Point) -> Option<Cell>
 fn conflict_in_turn(hold: &Hold, p: Point) -> Cell
     requires all { AllInHand hold.now }
     requires stands { StandsForNew hold.now p }
-    ensures { (h : List Entry) → Stands hold.now h → IsNew (replay h) p → GoesFrom (replay h) p result }
+    ensures { (h : List ℕ) → Shows hold.now h → IsNew h p → GoesFrom h p result }
 {
     let grid = hold.grid();
     let count = grid.count();
@@ -85,7 +83,7 @@ fn conflict_in_turn(hold: &Hold, p: Point) -> Cell
 pub fn cell_in_conflict(hold: &Hold, p: Point) -> Cell
     requires all { AllInHand hold.now }
     requires stands { StandsForNew hold.now p }
-    ensures { (h : List Entry) → Stands hold.now h → IsNew (replay h) p → GoesFrom (replay h) p result }
+    ensures { (h : List ℕ) → Shows hold.now h → IsNew h p → GoesFrom h p result }
 {
     match conflict_near(hold, p) {
         Some(cell) => cell,

@@ -1,9 +1,7 @@
 //! Digs.
 
 ghost use Rattle.std.specs.Prelude.{◌≡◌, ℕ, [], ◌∷◌, IfOk, OnOk, List, length};
-ghost use Rattle.edit_history.specs.declared.history.Entry.{Entry};
-ghost use Rattle.edit_history.specs.Histories.{replay};
-ghost use Rattle.cell_store.specs.Shares.{Stands};
+ghost use Rattle.cell_store.specs.Shares.{Shows};
 ghost use Rattle.cell_store.specs.Meshes.{AllInHand};
 ghost use Rattle.cavity.specs.Digs.{CanDig, IsDigIn};
 ghost use Rattle.cavity.specs.Turns.{StandsForDig, TurnGives, AsksBelow};
@@ -72,8 +70,8 @@ impl Dig {
     pub fn advance(&mut self, _alloc: Global, hold: &Hold) -> Result<DigTurn, AllocError>
         requires { StandsForDig hold.now self.old }
         ensures point { OnOk result (self.new.point ≡ self.old.point) }
-        ensures digs { OnOk result ((h : List Entry) → Stands hold.now h → IsDigIn (replay h) self.old → IsDigIn (replay h) self.new) }
-        ensures turn { IfOk result (λ turn. (h : List Entry) → Stands hold.now h → IsDigIn (replay h) self.old → TurnGives hold.now (replay h) self.new turn) }
+        ensures digs { OnOk result ((h : List ℕ) → Shows hold.now h → IsDigIn h self.old → IsDigIn h self.new) }
+        ensures turn { IfOk result (λ turn. (h : List ℕ) → Shows hold.now h → IsDigIn h self.old → TurnGives hold.now h self.new turn) }
         ensures below { IfOk result (λ turn. AsksBelow (length hold.now.places) turn) }
         ensures all { IfOk result (λ turn. AllInHand hold.now → turn ≡ DigTurn.Done) }
     {

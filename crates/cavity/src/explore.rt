@@ -1,12 +1,10 @@
 //! The steps of a dig, over the lists that it keeps.
 
-ghost use Rattle.std.specs.Prelude.{◌≡◌, ◌++◌, List, MatchOption, OnOk};
+ghost use Rattle.std.specs.Prelude.{◌≡◌, ◌++◌, List, MatchOption, OnOk, ℕ};
 ghost use Rattle.point_order.specs.Facets.{facets_of, points_of};
 ghost use Rattle.point_order.specs.Sets.{IsIn};
 ghost use Rattle.point_order.specs.declared.cell.Cell.{Cell};
-ghost use Rattle.edit_history.specs.declared.history.Entry.{Entry};
-ghost use Rattle.edit_history.specs.Histories.{replay};
-ghost use Rattle.cell_store.specs.Shares.{Stands, NoneInHand, points_on};
+ghost use Rattle.cell_store.specs.Shares.{Shows, NoneInHand, points_on};
 ghost use Rattle.cell_store.specs.Ready.{AreHeld};
 ghost use Rattle.cavity.specs.Exploring.{ArePointsHeld, IsBucketMissing, IsCellMissing, StandsAt, StandsNewAt, Crosses, Explores};
 
@@ -55,7 +53,7 @@ fn cross(
     requires facet { IsIn facet.now (facets_of cell.now) }
     requires held { ¬ (NoneInHand hold.now (points_on facet.now)) }
     ensures more { OnOk result ((more : List Cell) × (found.new ≡ found.old ++ more)) }
-    ensures crossed { OnOk result ((h : List Entry) → Stands hold.now h → Crosses (replay h) point cell.now facet.now found.old rim.old.items found.new rim.new.items) }
+    ensures crossed { OnOk result ((h : List ℕ) → Shows hold.now h → Crosses h point cell.now facet.now found.old rim.old.items found.new rim.new.items) }
 {
     let other = cell_across(hold, cell, facet);
     if !found.contains(other) {
@@ -79,7 +77,7 @@ pub(crate) fn explore(
     requires stands { StandsNewAt hold.now point cell.now found.old rim.old.items }
     requires held { ArePointsHeld hold.now (points_of cell.now) }
     ensures more { OnOk result ((more : List Cell) × (found.new ≡ found.old ++ more)) }
-    ensures explored { OnOk result ((h : List Entry) → Stands hold.now h → Explores (replay h) point cell.now found.old rim.old.items found.new rim.new.items) }
+    ensures explored { OnOk result ((h : List ℕ) → Shows hold.now h → Explores h point cell.now found.old rim.old.items found.new rim.new.items) }
 {
     let facets = cell.facets();
     for facet in &facets {

@@ -1,17 +1,14 @@
 //! Meshes that grow point by point.
 
-ghost use Rattle.std.specs.Prelude.{◌≡◌, ◌++◌, ◌∷◌, [], true, List, ◌<◌, length, slice_index, IfOk, OnOk, OnErr};
+ghost use Rattle.std.specs.Prelude.{◌≡◌, ◌++◌, ◌∷◌, [], true, ◌<◌, length, slice_index, IfOk, OnOk, OnErr};
 ghost use Rattle.point_order.specs.Sets.{IsAscending};
 ghost use Rattle.point_order.specs.Solid.{is_solid};
-ghost use Rattle.edit_history.specs.declared.history.Entry.{Entry};
 ghost use Rattle.edit_history.specs.Histories.{replay};
 ghost use Rattle.hole_laws.specs.Edits.{IsNew};
-ghost use Rattle.cell_store.specs.Shares.{Stands};
 ghost use Rattle.cavity.specs.Digs.{IsDoneIn};
 ghost use Rattle.cavity.specs.Fills.{IsFilled};
-ghost use Rattle.cavity.specs.Growing.{IsInsertion, CanInsert, StandsForPoints, AreAmong};
+ghost use Rattle.cavity.specs.Growing.{IsInsertion, AreAmong};
 ghost use Rattle.cavity.specs.Opening.{AreIndependent};
-ghost use Rattle.cavity.specs.Searching.{StandsForNew};
 
 use crate::conflict_cell::cell_in_conflict;
 use crate::dig::{Dig, DigTurn};
@@ -24,9 +21,9 @@ use std::alloc::{AllocError, Global};
 
 // The dig for a new point in a mesh, which is done.
 fn dig_in(alloc: Global, mesh: &Mesh, p: Point) -> Result<Dig, AllocError>
-    requires { StandsForNew mesh.now p }
+    requires { IsNew (replay mesh.now.history) p }
     ensures point { IfOk result (λ dig. dig.point ≡ p) }
-    ensures done { IfOk result (λ dig. (h : List Entry) → Stands mesh.now h → IsNew (replay h) p → IsDoneIn (replay h) dig) }
+    ensures done { IfOk result (λ dig. IsDoneIn (replay mesh.now.history) dig) }
 {
     let hold = mesh.hold();
     let cell = cell_in_conflict(hold, p);
@@ -39,8 +36,8 @@ fn dig_in(alloc: Global, mesh: &Mesh, p: Point) -> Result<Dig, AllocError>
 
 // The cells that a new point takes away from a mesh, and those that it brings.
 fn change_by(alloc: Global, mesh: &Mesh, p: Point) -> Result<Fresh, AllocError>
-    requires { StandsForNew mesh.now p }
-    ensures { IfOk result (λ f. (h : List Entry) → Stands mesh.now h → IsNew (replay h) p → IsFilled (replay h) p f.gone.items f.fresh.items) }
+    requires { IsNew (replay mesh.now.history) p }
+    ensures { IfOk result (λ f. IsFilled (replay mesh.now.history) p f.gone.items f.fresh.items) }
 {
     let dig = dig_in(alloc, mesh, p)?;
     let filled = fill(alloc, &dig)?;
@@ -52,16 +49,15 @@ fn change_by(alloc: Global, mesh: &Mesh, p: Point) -> Result<Fresh, AllocError>
 /// # Errors
 /// Want of memory. The mesh is then as before.
 pub fn insert(alloc: Global, mesh: &mut Mesh, entry: Entry) -> Result<(), AllocError>
-    requires { CanInsert mesh.old entry }
-    ensures grid { mesh.new.grid ≡ mesh.old.grid }
-    ensures stands { OnOk result ((h : List Entry) → Stands mesh.old h → IsInsertion h entry → Stands mesh.new (h ++ entry ∷ [])) }
+    requires { IsInsertion mesh.old.history entry }
+    ensures inserted { OnOk result (mesh.new ≡ record mesh.old { history = mesh.old.history ++ entry ∷ [] }) }
     ensures refused { OnErr result (mesh.new ≡ mesh.old) }
 {
     let p = entry.edit.point();
     let _ = p.key();
+    let _ = mesh.hold();
     let change = change_by(alloc, mesh, p)?;
-    mesh.reserve(alloc, &change.gone, &change.fresh, p)?;
-    mesh.change(&change.gone, &change.fresh, entry);
+    mesh.change(alloc, &change.gone, &change.fresh, entry)?;
     Ok(())
 }
 
@@ -98,7 +94,7 @@ pub fn mesh_of_points(alloc: Global, grid: Grid, points: &[Point]) -> Result<Mes
     requires ascending { IsAscending points.now }
     requires solid { is_solid points.now ≡ true }
     ensures grid { IfOk result (λ mesh. mesh.grid ≡ grid) }
-    ensures stands { IfOk result (λ mesh. StandsForPoints mesh points.now) }
+    ensures points { IfOk result (λ mesh. replay mesh.history ≡ points.now) }
 {
     let mut mesh = open_mesh(alloc, grid, four_of(points))?;
     let mut number = 4;

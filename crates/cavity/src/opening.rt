@@ -5,7 +5,6 @@ ghost use Rattle.point_order.specs.Coordinates.{IsKey};
 ghost use Rattle.point_order.specs.Sets.{AreFour, ascending};
 ghost use Rattle.cell_store.specs.Meshes.{AllInHand};
 ghost use Rattle.cell_store.specs.Changes.{IsNoted};
-ghost use Rattle.cell_store.specs.Shares.{Stands};
 ghost use Rattle.cavity.specs.Opening.{five_cells, inserted, opening_history, AreIndependent, IsBare, HasCellsOfFour};
 
 use cell_store::{Bucket, Grid, Hold, Mesh};
@@ -111,8 +110,7 @@ fn put_cells(
 /// Want of memory.
 pub fn open_mesh(alloc: Global, grid: Grid, four: [(u32, Point); 4]) -> Result<Mesh, AllocError>
     requires { AreIndependent four }
-    ensures grid { IfOk result (λ mesh. mesh.grid ≡ grid) }
-    ensures stands { IfOk result (λ mesh. Stands mesh (opening_history four)) }
+    ensures { IfOk result (λ mesh. mesh ≡ record { grid = grid; history = opening_history four }) }
 {
     let [(first, a), (second, b), (third, c), (fourth, d)] = four;
     let mut hold = bare_hold(alloc, grid)?;

@@ -1,14 +1,14 @@
 -- Meshes, their histories, and buckets in hand.
-use Rattle.std.specs.Prelude.{◌≡◌, ℕ, ◌+◌, ◌-◌, ◌*◌, ◌^◌, zero, suc, ◌<◌, ◌≤◌, ◌==◌, min, nat_lt, Bool, true, false, cond, not, ◌&&◌, List, [], ◌∷◌, ◌++◌, Option, None, Some, IsSome, is_some, length, slice_index_or}
+use Rattle.std.specs.Prelude.{◌≡◌, ◌⊎◌, ltb, ℕ, ◌+◌, ◌-◌, ◌*◌, ◌^◌, zero, suc, ◌<◌, ◌≤◌, ◌==◌, min, nat_lt, Bool, true, false, cond, not, ◌&&◌, List, [], ◌∷◌, ◌++◌, Option, None, Some, IsSome, is_some, length, slice_index_or}
 use Rattle.std.specs.List.{filter, flat_map, range_with_len, list_all, All}
-use Rattle.std.specs.List.Sorted.{IsPermutation}
+use Rattle.std.specs.List.Sorted.{IsPermutation, IsNonDecreasingBy}
 use Rattle.std.specs.Option.{option_map, option_map_or}
 use Rattle.std.proofs.Common.{refl, sym, ◌∙◌, ap, subst, inl, inr, arith, take, length-append, add-one}
 use Rattle.std.proofs.Math.Seq.{take-length}
 use Rattle.std.proofs.lemmas.Bool.Decides.{nat_tests}
 use Rattle.std.proofs.lemmas.Grind.{flat_map-append}
 use Rattle.std.proofs.lemmas.List.{append-nil}
-use Rattle.std.proofs.lemmas.List.Sorted.{All-permutation, IsPermutation-append, IsPermutation-filter_both, IsPermutation-map, IsPermutation-refl, IsPermutation-sym, IsPermutation-trans, length_permutation}
+use Rattle.std.proofs.lemmas.List.Sorted.{All-permutation, IsPermutation-append, IsPermutation-cons, IsPermutation-middle, IsPermutation-filter_both, IsPermutation-map, IsPermutation-refl, IsPermutation-sym, IsPermutation-trans, length_permutation}
 use Rattle.point_order.specs.declared.cell.Cell.{Cell}
 use Rattle.point_order.specs.declared.cell.Cell.TheVariants.{Full, Open}
 use Rattle.point_order.specs.Complex.{complex}
@@ -16,24 +16,25 @@ use Rattle.point_order.specs.Facets.{points_of}
 use Rattle.point_order.specs.Sets.{IsIn}
 use Rattle.edit_history.specs.declared.history.Entry.{Entry}
 use Rattle.edit_history.specs.Edits.{point_of, after}
-use Rattle.edit_history.specs.Histories.{replay, IsLegalFrom}
+use Rattle.edit_history.specs.Histories.{IsLegalFrom}
 use Rattle.edit_history.specs.Merging.{numbers}
 use Rattle.edit_history.proofs.Lines.{at-in}
+use Rattle.edit_history.proofs.Numbers.{merged-order}
 use Rattle.del_laws.specs.Listed.{IsListed}
 use Rattle.del_laws.proofs.Listed.{listed_is_cell, in_left, in_right, from_append}
 use Rattle.del_laws.proofs.Ordered.{complex_is_sorted, same_members}
 use Rattle.del_laws.proofs.Tests.{all_from, all_true, filtered_from, filtered_true}
 use Rattle.cell_store.specs.Grids.{bucket_of}
 use Rattle.cell_store.specs.Buckets.{Content, InHand, bucket_at}
-use Rattle.cell_store.specs.Shares.{Stands, IsShare, entries_share}
-use Rattle.cell_store.specs.Changes.{IsSwapped, IsNoted, swapped_in, noted_in}
+use Rattle.cell_store.specs.Shares.{Stands, Shows, IsShare, entries_share}
+use Rattle.cell_store.specs.Changes.{IsNext, IsSwapped, IsNoted, swapped_in, noted_in}
 use Rattle.cell_store.specs.Ready.{AreHeld}
 use Rattle.cell_store.specs.Swaps.{touches, AreSameCells}
-use Rattle.cell_store.specs.Meshes.{AllInHand, HasPlaces, IsMesh, Continues, IsChanged, IsCountOf, all_entries, all_cells, OneHistory, MeshGathersHistory, MeshGathersComplex, AllAreHeld, FewerStand, MoreAreHeld}
+use Rattle.cell_store.specs.Meshes.{AllInHand, HasPlaces, IsWhole, MeshView, IsHoldOf, with_entry, by_number, history_in, mesh_in, counted, all_entries, all_cells, HistoryIs, MeshIs, MeshGathersHistory, MeshGathersComplex, AllAreHeld, FewerStand, MoreAreHeld}
 use Rattle.cell_store.proofs.GridLaws.{bucket-below}
 use Rattle.cell_store.proofs.Members.{take_next}
 use Rattle.cell_store.proofs.NextLaws.{entry_keeps_hold}
-use Rattle.cell_store.proofs.ShareLaws.{ascending_replay, touched}
+use Rattle.cell_store.proofs.ShareLaws.{touched}
 
 -- ---- options
 
@@ -47,10 +48,6 @@ known_some o x e = rw e refl
 some_mapped : {X Y : Type 0} (f : X → Y) (o : Option X) → IsSome o → IsSome (option_map f o)
 some_mapped f None s = s
 some_mapped f (Some x) s = refl
-
-mapped_twice : {X : Type 0} (f g : X → X) (o : Option X) → option_map g (option_map f o) ≡ option_map (λ x. g (f x)) o
-mapped_twice f g None = refl
-mapped_twice f g (Some x) = refl
 
 -- ---- what is in hand
 
@@ -226,9 +223,89 @@ mesh_gathers mesh h m st = record {
     k : IsNumbered 0 h
     k = legal_numbered 0 [] h st.legal
 
-pub one_history : OneHistory
-one_history mesh h k m s t =
-    (mesh_gathers mesh k m t).ordered h (gathers mesh h m.has m.all s) (numbers_are 0 h (legal_numbered 0 [] h s.legal))
+-- ---- entries in order of number
+
+-- no later entry has a lesser number
+abbrev Rises : List Entry → Type 0
+Rises [] = Unit {0}
+Rises (e ∷ l) = ((d : Entry) → IsIn d l → e.number ≤ d.number) × Rises l
+
+from_put : (e d : Entry) (l : List Entry) → IsIn d (with_entry e l) → (e ≡ d) ⊎ IsIn d l
+from_put e d [] (inl q) = inl q
+from_put e d [] (inr i) = absurd i
+from_put e d (x ∷ l) i = by (ltb e.number x.number) i (from_put e d l)
+  where
+    by : (t : Bool) → IsIn d (cond t (e ∷ x ∷ l) (x ∷ with_entry e l)) → (IsIn d (with_entry e l) → (e ≡ d) ⊎ IsIn d l) → (e ≡ d) ⊎ IsIn d (x ∷ l)
+    by true (inl q) f = inl q
+    by true (inr j) f = inr j
+    by false (inl q) f = inr (inl q)
+    by false (inr j) f = elim (f j) [
+      | inl q ↦ inl q
+      | inr k ↦ inr (inr k)
+    ]
+
+put_rises : (e : Entry) (l : List Entry) → Rises l → Rises (with_entry e l)
+put_rises e [] r = ((λ d i. absurd i), tt)
+put_rises e (x ∷ l) r = by (ltb e.number x.number) refl (put_rises e l r.1)
+  where
+    by : (t : Bool) → ltb e.number x.number ≡ t → Rises (with_entry e l) → Rises (cond t (e ∷ x ∷ l) (x ∷ with_entry e l))
+    by true q s = (
+      (λ d i. elim i [
+        | inl p ↦ (let k : x.number ≡ d.number = ap (λ (y : Entry). y.number) p in let m : e.number < x.number = grind (arith, nat_tests) in omega arith)
+        | inr j ↦ (let k = r.0 d j in let m : e.number < x.number = grind (arith, nat_tests) in omega arith)
+      ]),
+      r,
+    )
+    by false q s = (
+      (λ d i. elim (from_put e d l i) [
+        | inl p ↦ (let k : e.number ≡ d.number = ap (λ (y : Entry). y.number) p in let m : x.number ≤ e.number = grind (arith, nat_tests) in omega arith)
+        | inr j ↦ r.0 d j
+      ]),
+      s,
+    )
+
+put_moves : (e : Entry) (l : List Entry) → IsPermutation (e ∷ l) (with_entry e l)
+put_moves e [] = IsPermutation-refl (e ∷ [])
+put_moves e (x ∷ l) = by (ltb e.number x.number) (put_moves e l)
+  where
+    by : (t : Bool) → IsPermutation (e ∷ l) (with_entry e l) → IsPermutation (e ∷ x ∷ l) (cond t (e ∷ x ∷ l) (x ∷ with_entry e l))
+    by true p = IsPermutation-refl (e ∷ x ∷ l)
+    by false p = IsPermutation-trans (e ∷ x ∷ l) (x ∷ e ∷ l) (x ∷ with_entry e l) (IsPermutation-sym (x ∷ e ∷ l) (e ∷ x ∷ l) (IsPermutation-middle (x ∷ []) e l)) (IsPermutation-cons x (e ∷ l) (with_entry e l) p)
+
+sorted_rises : (l : List Entry) → Rises (by_number l)
+unfolding by_number
+sorted_rises [] = tt
+sorted_rises (e ∷ l) = put_rises e (by_number l) (sorted_rises l)
+
+pub sorted_moves : (l : List Entry) → IsPermutation l (by_number l)
+unfolding by_number
+sorted_moves [] = IsPermutation-refl []
+sorted_moves (e ∷ l) = IsPermutation-trans (e ∷ l) (e ∷ by_number l) (with_entry e (by_number l)) (IsPermutation-cons e l (by_number l) (sorted_moves l)) (put_moves e (by_number l))
+
+in_at : (l : List Entry) (j : ℕ) (d : Entry) → j < length l → IsIn (slice_index_or l j d) l
+in_at [] j d h = absurd (omega arith)
+in_at (x ∷ l) zero d h = inl refl
+in_at (x ∷ l) (suc j) d h = inr (in_at l j d (omega arith))
+
+rises_all : (l : List Entry) → Rises l → IsNonDecreasingBy (λ e. e.number) l
+rises_all [] r i j d a b = absurd (omega arith)
+rises_all (x ∷ l) r zero zero d a b = omega arith
+rises_all (x ∷ l) r zero (suc j) d a b = r.0 (slice_index_or l j d) (in_at l j d (omega arith))
+rises_all (x ∷ l) r (suc i) zero d a b = absurd (omega arith)
+rises_all (x ∷ l) r (suc i) (suc j) d a b = rises_all l r.1 i j d (omega arith) (omega arith)
+
+pub history_is : HistoryIs
+history_is hold h w st =
+    let g = mesh_gathers hold h w st in
+    let l : List Entry = all_entries hold.places in
+    g.ordered (by_number l) (sorted_moves l) (merged-order l (by_number l) g.numbered (sorted_moves l) (rises_all (by_number l) (sorted_rises l)))
+
+pub mesh_is : MeshIs
+mesh_is mesh hold i = λ k. record { grid = i.grid k; history = history_is hold mesh.history i.whole i.stands k }
+
+-- the hold of a history is that of its mesh
+pub own_hold : (hold : InHand) (h : List Entry) → IsWhole hold → Stands hold h → IsHoldOf (mesh_in hold) hold
+own_hold hold h w st = record { grid = refl; whole = w; stands = subst (Stands hold) (sym (history_is hold h w st)) st }
 
 -- ---- the cells of a mesh
 
@@ -252,31 +329,31 @@ has_point : (s : List ℕ) (c : Cell) → IsListed s c → (p : ℕ) × IsIn p (
 has_point s (Full q) l = (l.a, subst (IsIn l.a) (sym l.is) (inl refl))
 has_point s (Open t) l = (l.a, subst (IsIn l.a) (sym l.is) (inl refl))
 
-cells_are : (mesh : InHand) (h : List Entry) → IsMesh mesh → Stands mesh h → AreSameCells (all_cells mesh.places) (complex (replay h))
-cells_are mesh h m st = (forth, back)
+cells_are : (mesh : InHand) (s : List ℕ) → IsWhole mesh → Shows mesh s → AreSameCells (all_cells mesh.places) (complex s)
+cells_are mesh s m sh = (forth, back)
   where
     -- of a bucket in hand
-    known : (b : ℕ) (o : Option Content) → bucket_at mesh.places b ≡ o → (c : Cell) → IsIn c (cells_of o) → IsIn c (complex (replay h))
+    known : (b : ℕ) (o : Option Content) → bucket_at mesh.places b ≡ o → (c : Cell) → IsIn c (cells_of o) → IsIn c (complex s)
     known b None e c i = absurd i
-    known b (Some x) e c i = (filtered_from (touches mesh.grid b) (complex (replay h)) c (subst (IsIn c) ((st.shares b x e).cells) i)).0
+    known b (Some x) e c i = (filtered_from (touches mesh.grid b) (complex s) c (subst (IsIn c) ((sh.sights b x e).cells) i)).0
 
-    forth : (c : Cell) → IsIn c (all_cells mesh.places) → IsIn c (complex (replay h))
+    forth : (c : Cell) → IsIn c (all_cells mesh.places) → IsIn c (complex s)
     forth c i = let r = flat_from cells_of mesh.places None c i in known r.0 (bucket_at mesh.places r.0) refl c r.1
 
-    back : (c : Cell) → IsIn c (complex (replay h)) → IsIn c (all_cells mesh.places)
+    back : (c : Cell) → IsIn c (complex s) → IsIn c (all_cells mesh.places)
     back c i =
-        let p = has_point (replay h) c (listed_is_cell (replay h) c (ascending_replay h) i) in
+        let p = has_point s c (listed_is_cell s c sh.ascending i) in
         let x = some_of (bucket_at mesh.places (bucket_of mesh.grid p.0)) (point_held mesh p.0 m.has m.all) in
-        let k = filtered_true (touches mesh.grid (bucket_of mesh.grid p.0)) (complex (replay h)) c i (touched mesh.grid p.0 (bucket_of mesh.grid p.0) c refl p.1) in
+        let k = filtered_true (touches mesh.grid (bucket_of mesh.grid p.0)) (complex s) c i (touched mesh.grid p.0 (bucket_of mesh.grid p.0) c refl p.1) in
         in_flat cells_of mesh.places (bucket_of mesh.grid p.0) None c (subst (λ n. bucket_of mesh.grid p.0 < n) (sym m.has.places) (bucket-below mesh.grid p.0 m.has.size))
-        (subst (λ o. IsIn c (cells_of o)) (sym x.1) (subst (IsIn c) (sym (st.shares (bucket_of mesh.grid p.0) x.0 x.1).cells) k))
+        (subst (λ o. IsIn c (cells_of o)) (sym x.1) (subst (IsIn c) (sym (sh.sights (bucket_of mesh.grid p.0) x.0 x.1).cells) k))
 
 pub mesh_gathers_cells : MeshGathersComplex
-mesh_gathers_cells mesh h m st = record {
-  cells = cells_are mesh h m st;
-  ordered = λ l s e.
-      let k = cells_are mesh h m st in
-      same_members l (complex (replay h)) s (complex_is_sorted (replay h) (ascending_replay h)) (λ c i. k.0 c (e.1 c i)) (λ c i. e.0 c (k.1 c i));
+mesh_gathers_cells mesh s m sh = record {
+  cells = cells_are mesh s m sh;
+  ordered = λ l o e.
+      let k = cells_are mesh s m sh in
+      same_members l (complex s) o (complex_is_sorted s sh.ascending) (λ c i. k.0 c (e.1 c i)) (λ c i. e.0 c (k.1 c i));
 }
 
 -- ---- the count
@@ -290,10 +367,10 @@ count_next l n count entries k e f =
     step : (c n a b : ℕ) → c ≡ min a (2 ^ 64 - 1) → n ≡ b → min (c + n) (2 ^ 64 - 1) ≡ min (a + b) (2 ^ 64 - 1)
     step c n a b = omega arith
 
-pub count_is : (hold : InHand) (n count : ℕ) → HasPlaces hold → AllInHand hold → length hold.places ≤ n → count ≡ min (length (flat_map entries_of (take n hold.places))) (2 ^ 64 - 1) → IsCountOf hold count
-count_is hold n count has all k e h st =
-    let p = length_permutation (all_entries hold.places) h (gathers hold h has all st) in
-    e ∙ ap (λ m. min (length (flat_map entries_of m)) (2 ^ 64 - 1)) (whole hold.places n k) ∙ ap (λ m. min m (2 ^ 64 - 1)) (sym p)
+pub count_is : (hold : InHand) (n count : ℕ) → length hold.places ≤ n → count ≡ min (length (flat_map entries_of (take n hold.places))) (2 ^ 64 - 1) → count ≡ counted (length (history_in hold.places))
+count_is hold n count k e =
+    e ∙ ap (λ m. min (length (flat_map entries_of m)) (2 ^ 64 - 1)) (whole hold.places n k)
+    ∙ ap counted (sym (length_permutation (all_entries hold.places) (history_in hold.places) (sorted_moves (all_entries hold.places))))
   where
     whole : {X : Type 0} (l : List X) (n : ℕ) → length l ≤ n → take n l ≡ l
     whole [] zero k = refl
@@ -301,43 +378,45 @@ count_is hold n count has all k e h st =
     whole (x ∷ l) zero k = absurd (omega arith)
     whole {X} (x ∷ l) (suc n) k = ap (λ (m : List X). x ∷ m) (whole l n (omega arith))
 
--- ---- a mesh with other room, and after a change
+-- ---- a mesh after a change
 
-pub mesh_again : (old new : InHand) → new.grid ≡ old.grid → new.places ≡ old.places → IsMesh old → IsMesh new
-mesh_again old new e f m = record {
-  has = record { size = rw e m.has.size; places = ap length f ∙ m.has.places ∙ ap (λ g. g * g * g) (sym e) };
-  all = λ b k. subst (λ l. IsSome (bucket_at l b)) (sym f) (m.all b (subst (λ l. b < length l) f k));
-  history = m.history;
-  stands = stands_again new old m.history e f m.stands;
-}
-  where
-    stands_again : (new old : InHand) (h : List Entry) → new.grid ≡ old.grid → new.places ≡ old.places → Stands old h → Stands new h
-    stands_again new old h e f st = fewer_stand new old h (record { grid = e; buckets = λ b c k. sym (ap (λ l. bucket_at l b) f) ∙ k }) st
-
-pub count_again : (old new : InHand) (n : ℕ) → new.grid ≡ old.grid → new.places ≡ old.places → IsCountOf old n → IsCountOf new n
-count_again old new n e f k h st = k h (fewer_stand old new h (record { grid = sym e; buckets = λ b c q. ap (λ l. bucket_at l b) f ∙ q }) st)
-
-pub changed_is : (old between new : InHand) (gone fresh : List Cell) (e : Entry) → IsSwapped gone fresh old between → IsNoted e between new → IsChanged gone fresh e old new
-changed_is old between new gone fresh e sw nd = record {
-  grid = nd.grid ∙ sw.grid;
-  count = nd.count ∙ sw.count;
-  places = λ b. nd.places b ∙ ap (λ g. option_map (noted_in g b e) (bucket_at between.places b)) sw.grid ∙ ap (option_map (noted_in old.grid b e)) (sw.places b) ∙ mapped_twice (swapped_in old.grid b gone fresh) (noted_in old.grid b e) (bucket_at old.places b);
+-- the hold with other room
+pub roomed : (mesh : MeshView) (old new : InHand) → new.grid ≡ old.grid → new.places ≡ old.places → IsHoldOf mesh old → IsHoldOf mesh new
+roomed mesh old new e f i = record {
+  grid = e ∙ i.grid;
+  whole = record {
+    has = record { size = rw e i.whole.has.size; places = ap length f ∙ i.whole.has.places ∙ ap (λ g. g * g * g) (sym e) };
+    all = λ b k. subst (λ l. IsSome (bucket_at l b)) (sym f) (i.whole.all b (subst (λ l. b < length l) f k));
+  };
+  stands = fewer_stand new old mesh.history (record { grid = e; buckets = λ b c k. sym (ap (λ l. bucket_at l b) f) ∙ k }) i.stands;
 }
 
-pub mesh_changed : (old between new : InHand) (gone fresh : List Cell) (e : Entry) → IsMesh old → Continues old e gone fresh → IsSwapped gone fresh old between → IsNoted e between new → IsMesh new
-mesh_changed old between new gone fresh e m next sw nd =
-    let ch = changed_is old between new gone fresh e sw nd in
-    record {
-      has = record { size = rw ch.grid m.has.size; places = ch.count ∙ m.has.places ∙ ap (λ g. g * g * g) (sym ch.grid) };
-      all = λ b k. subst IsSome (sym (ch.places b)) (some_mapped _ (bucket_at old.places b) (m.all b (subst (λ n. b < n) ch.count k)));
-      history = next.0 ++ e ∷ [];
-      stands = entry_keeps_hold next.0 e gone fresh old between new next.1 next.2 sw nd;
-    }
+-- the hold after the cells were exchanged and the entry noted
+pub changed_hold : (mesh : MeshView) (old between new : InHand) (gone fresh : List Cell) (e : Entry) → IsHoldOf mesh old → IsNext mesh.history e gone fresh → IsSwapped gone fresh old between → IsNoted e between new → IsHoldOf (record mesh { history = mesh.history ++ e ∷ [] }) new
+changed_hold mesh old between new gone fresh e i next sw nd = record {
+  grid = nd.grid ∙ sw.grid ∙ i.grid;
+  whole = record {
+    has = record { size = rw nd.grid (rw sw.grid i.whole.has.size); places = nd.count ∙ sw.count ∙ i.whole.has.places ∙ ap (λ g. g * g * g) (sym (nd.grid ∙ sw.grid)) };
+    all = λ b k.
+        subst IsSome (sym (nd.places b)) (some_mapped _ (bucket_at between.places b)
+        (subst IsSome (sym (sw.places b)) (some_mapped _ (bucket_at old.places b) (i.whole.all b (subst (λ n. b < n) (nd.count ∙ sw.count) k)))));
+  };
+  stands = entry_keeps_hold mesh.history e gone fresh old between new i.stands next sw nd;
+}
 
-pub count_changed : (old between new : InHand) (gone fresh : List Cell) (e : Entry) (n count : ℕ) → IsMesh old → Continues old e gone fresh → IsSwapped gone fresh old between → IsNoted e between new → IsCountOf old n → count ≡ min (n + 1) (2 ^ 64 - 1) → IsCountOf new count
-count_changed old between new gone fresh e n count m next sw nd k q h st =
-    let one = one_history new h (next.0 ++ e ∷ []) (mesh_changed old between new gone fresh e m next sw nd) st (entry_keeps_hold next.0 e gone fresh old between new next.1 next.2 sw nd) in
-    step count n (length next.0) (length h) q (k next.0 next.1) (ap length one ∙ length-append next.0 (e ∷ []))
+-- one more is counted
+pub count_more : (h : List Entry) (e : Entry) (n count : ℕ) → n ≡ counted (length h) → count ≡ min (n + 1) (2 ^ 64 - 1) → count ≡ counted (length (h ++ e ∷ []))
+count_more h e n count k q = step count n (length h) (length (h ++ e ∷ [])) q k (length-append h (e ∷ []))
   where
     step : (c n a b : ℕ) → c ≡ min (n + 1) (2 ^ 64 - 1) → n ≡ min a (2 ^ 64 - 1) → b ≡ a + 1 → c ≡ min b (2 ^ 64 - 1)
     step c n a b = omega arith
+
+-- what the change of a mesh makes of its hold and of its count: the mesh with the entry
+pub mesh_changed : (old ready between new : InHand) (mesh : MeshView) (gone fresh : List Cell) (e : Entry) (n count : ℕ) → mesh_in old ≡ mesh → IsHoldOf (mesh_in old) old × (n ≡ counted (length (history_in old.places))) → IsNext mesh.history e gone fresh → ready.grid ≡ old.grid → ready.places ≡ old.places → IsSwapped gone fresh ready between → IsNoted e between new → count ≡ min (n + 1) (2 ^ 64 - 1)
+    → (mesh_in new ≡ record mesh { history = mesh.history ++ e ∷ [] }) × (IsHoldOf (mesh_in new) new × (count ≡ counted (length (history_in new.places))))
+mesh_changed old ready between new mesh gone fresh e n count v i next g p sw nd q =
+    let own = subst (λ m. IsHoldOf m old) v i.0 in
+    let k = changed_hold mesh ready between new gone fresh e (roomed mesh old ready g p own) next sw nd in
+    let w = mesh_is (record mesh { history = mesh.history ++ e ∷ [] }) new k in
+    let h = ap (λ (m : MeshView). m.history) v in
+    (w, (subst (λ m. IsHoldOf m new) (sym w) k, count_more mesh.history e n count (i.1 ∙ ap (λ l. counted (length l)) h) q ∙ ap (λ (m : MeshView). counted (length m.history)) (sym w)))

@@ -1,5 +1,5 @@
 -- What an entry makes of the points of its bucket, and of the buckets of a hold.
-use Rattle.std.specs.Prelude.{◌≡◌, ◌≢◌, ℕ, zero, suc, ◌<◌, ◌≤◌, ◌==◌, Bool, true, false, cond, not, ◌||◌, List, [], ◌∷◌, ◌++◌, ◌⊎◌, Option, None, Some, IfSome, IsSomeAnd, length, slice_index, slice_set, Result, Ok, Err, MatchResult, OnOk, OnErr}
+use Rattle.std.specs.Prelude.{◌≡◌, ◌≢◌, ℕ, zero, suc, ◌<◌, ◌≤◌, ◌==◌, Bool, true, false, cond, not, ◌||◌, List, [], ◌∷◌, ◌++◌, ◌⊎◌, Option, None, Some, IfSome, IsSomeAnd, length, replicate, slice_index, slice_set, Result, Ok, Err, MatchResult, OnOk, OnErr}
 use Rattle.std.specs.Option.{option_map}
 use Rattle.std.proofs.Common.{refl, sym, ◌∙◌, ap, subst, inl, inr, arith}
 use Rattle.std.proofs.lemmas.Bool.Decides.{nat_tests}
@@ -13,9 +13,9 @@ use Rattle.edit_history.specs.declared.history.Reply.TheVariants.{Inserted, Dupl
 use Rattle.edit_history.specs.Edits.{point_of, changed}
 use Rattle.edit_history.proofs.SetEdits.{in-place, among-gap, ascending-without}
 use Rattle.cell_store.specs.Grids.{bucket_of}
-use Rattle.cell_store.specs.Buckets.{Content, InHand, bucket_at}
+use Rattle.cell_store.specs.Buckets.{Content, InHand, bucket_at, StandAtPlaces}
 use Rattle.cell_store.specs.Changes.{noted_in, IsNoted}
-use Rattle.cell_store.specs.Ready.{CellsFor, IsReadyFor, IsReady}
+use Rattle.cell_store.specs.Ready.{CellsFor, IsReadyFor, IsReady, given}
 use Rattle.cell_store.specs.Swaps.{swapped}
 use Rattle.cell_store.proofs.RoomLaws.{of_some, to_some}
 
@@ -146,3 +146,50 @@ noted_is old new g b places e x c d e1 e2 e3 e4 h l k f = record {
           ∙ sym (ap (option_map (noted_in g n e)) (ap (bucket_at places) w ∙ k))
       | inr w ↦ elsewhere places b n x (Some d) w ∙ sym (noted_elsewhere g n e (bucket_at places n) (λ q. w (q ∙ sym h)))
     ]
+
+-- ---- places
+
+same_content : (x y : Content) → ◌≡◌ {A = Option Content} (Some x) (Some y) → x ≡ y
+same_content x y e = cc
+
+pub stand_noted : (g b : ℕ) (places : List (Option Content)) (x : Option Content) (c d : Content) → b < length places → bucket_at places b ≡ Some c → d.place ≡ c.place → StandAtPlaces g places → StandAtPlaces g (slice_set (slice_set places b x) b (Some d))
+stand_noted g b places x c d h e p st k y q = elim (two k b) [
+  | inl w ↦ (
+      let u : d ≡ y = same_content d y (sym (there places b x (Some d) h) ∙ ap (bucket_at (slice_set (slice_set places b x) b (Some d))) (sym w) ∙ q) in
+      ap (λ z. z.place) (sym u) ∙ p ∙ st b c e ∙ ap (λ (n : ℕ). Some (g, n)) (sym w))
+  | inr n ↦ st k y (sym (elsewhere places b k x (Some d) n) ∙ q)
+]
+
+pub stand_put : (g b : ℕ) (places : List (Option Content)) (d : Content) → b < length places → d.place ≡ Some (g, b) → StandAtPlaces g places → StandAtPlaces g (slice_set places b (Some d))
+stand_put g b places d h p st k y q = elim (two k b) [
+  | inl w ↦ (
+      let u : d ≡ y = same_content d y (sym (get_or-set_same places b (Some d) None h) ∙ ap (bucket_at (slice_set places b (Some d))) (sym w) ∙ q) in
+      ap (λ z. z.place) (sym u) ∙ p ∙ ap (λ (n : ℕ). Some (g, n)) (sym w))
+  | inr n ↦ st k y (sym (get_or-set_other places b k (Some d) None n) ∙ q)
+]
+
+pub stand_take : (g b : ℕ) (places : List (Option Content)) → b < length places → StandAtPlaces g places → StandAtPlaces g (slice_set places b None)
+stand_take g b places h st k y q = elim (two k b) [
+  | inl w ↦ (let u = sym (get_or-set_same places b None None h) ∙ ap (bucket_at (slice_set places b None)) (sym w) ∙ q in absurd (cc u))
+  | inr n ↦ st k y (sym (get_or-set_other places b k None None n) ∙ q)
+]
+
+pub stand_empty : (g n : ℕ) → StandAtPlaces g (replicate n None)
+stand_empty g n k y q = absurd (none n k q)
+  where
+    none : (n k : ℕ) → bucket_at (replicate n None) k ≡ Some y → ⊥
+    none zero k q = cc q
+    none (suc n) zero q = cc q
+    none (suc n) (suc k) q = none n k q
+
+from_given : (lists : List CellsFor) (b : ℕ) (o : Option Content) (d : Content) → given lists b o ≡ Some d → (c : Content) × (o ≡ Some c) × (d.place ≡ c.place)
+from_given [] b o d e = (d, e, refl)
+from_given (l ∷ ls) b o d e = by (l.number == b) o e (λ u f. from_given ls b u d f)
+  where
+    by : (t : Bool) (o : Option Content) → given ls b (cond t (option_map (λ (c : Content). record c { cells = l.cells }) o) o) ≡ Some d → ((u : Option Content) → given ls b u ≡ Some d → (c : Content) × (u ≡ Some c) × (d.place ≡ c.place)) → (c : Content) × (o ≡ Some c) × (d.place ≡ c.place)
+    by true None e f = f None e
+    by true (Some c) e f = (let r = f (Some (record c { cells = l.cells })) e in (c, refl, r.2 ∙ ap (λ z. z.place) (sym (same_content (record c { cells = l.cells }) r.0 r.1))))
+    by false o e f = f o e
+
+pub stand_given : (g : ℕ) (places after : List (Option Content)) (lists : List CellsFor) → ((b : ℕ) → bucket_at after b ≡ given lists b (bucket_at places b)) → StandAtPlaces g places → StandAtPlaces g after
+stand_given g places after lists f st k y q = (let r = from_given lists k (bucket_at places k) y (sym (f k) ∙ q) in r.2 ∙ st k r.0 r.1)

@@ -25,7 +25,7 @@ use Rattle.cell_store.specs.Grids.{bucket_of}
 use Rattle.cell_store.specs.Buckets.{Content, InHand, bucket_at}
 use Rattle.cell_store.specs.Swaps.{touches}
 use Rattle.cell_store.specs.Others.{IsOtherOf, HaveNoOther}
-use Rattle.cell_store.specs.Shares.{Stands, StandsWith, NoneInHand, IsInHandFor, IsAcross, points_on}
+use Rattle.cell_store.specs.Shares.{Stands, StandsShows, ShareIsOne, Shows, ShowsWith, NoneInHand, IsInHandFor, IsAcross, points_on}
 use Rattle.cell_store.proofs.Members.{in-take_more}
 
 -- ---- filters
@@ -68,13 +68,26 @@ ascending_replay h = from [] h tt
     from s [] a = a
     from s (e ∷ h) a = from (changed s (point_of e.edit) (reply_to s e.edit)) h (step s (point_of e.edit) (reply_to s e.edit) a)
 
+-- ---- shares and shown sets
+
+pub share_is_one : ShareIsOne
+share_is_one g b h c s e = λ i. record { points = s.points i; cells = s.cells i; entries = s.entries i; place = e i }
+
+pub stands_shows : StandsShows
+stands_shows hold h st = record {
+  ascending = ascending_replay h;
+  keys = st.keys;
+  solid = st.solid;
+  sights = λ b c e. record { points = (st.shares b c e).points; cells = (st.shares b c e).cells };
+}
+
 -- ---- the cells at a point
 
 -- the cells of a bucket in hand that have a point of it are all cells of the complex that have the point
-pub star_is : (hold : InHand) (h : List Entry) (p g b : ℕ) (c : Content) (cells : List Cell) → Stands hold h → g ≡ hold.grid → b ≡ bucket_of g p → bucket_at hold.places b ≡ Some c → cells ≡ c.cells → filter (λ c. is_among p (points_of c)) cells ≡ filter (λ c. is_among p (points_of c)) (complex (replay h))
-star_is hold h p g b c cells st e1 e2 e3 e4 =
-    ap (filter (λ c. is_among p (points_of c))) (e4 ∙ (st.shares b c e3).cells)
-    ∙ filter_twice (λ c. is_among p (points_of c)) (touches hold.grid b) (complex (replay h)) (λ d t. touched hold.grid p b d (e2 ∙ ap (λ n. bucket_of n p) e1) (among_in p (points_of d) t))
+pub star_is : (hold : InHand) (s : List ℕ) (p g b : ℕ) (c : Content) (cells : List Cell) → Shows hold s → g ≡ hold.grid → b ≡ bucket_of g p → bucket_at hold.places b ≡ Some c → cells ≡ c.cells → filter (λ c. is_among p (points_of c)) cells ≡ filter (λ c. is_among p (points_of c)) (complex s)
+star_is hold s p g b c cells st e1 e2 e3 e4 =
+    ap (filter (λ c. is_among p (points_of c))) (e4 ∙ (st.sights b c e3).cells)
+    ∙ filter_twice (λ c. is_among p (points_of c)) (touches hold.grid b) (complex s) (λ d t. touched hold.grid p b d (e2 ∙ ap (λ n. bucket_of n p) e1) (among_in p (points_of d) t))
 
 -- ---- buckets in hand
 
@@ -165,16 +178,16 @@ facet_nonempty c f i e = by c i
     by (Open (a ∷ b ∷ c ∷ d ∷ q)) i = i
 
 -- where the bucket of a point of the facet is in hand, it has another cell on the facet
-pub across_there : (hold : InHand) (cell : Cell) (f : Facet) (b : ℕ) (c : Content) (cells : List Cell) → StandsWith hold cell → IsIn f (facets_of cell) → IsInHandFor hold (points_on f) b → bucket_at hold.places b ≡ Some c → cells ≡ c.cells → HaveNoOther cells cell f → ⊥
+pub across_there : (hold : InHand) (cell : Cell) (f : Facet) (b : ℕ) (c : Content) (cells : List Cell) → ShowsWith hold cell → IsIn f (facets_of cell) → IsInHandFor hold (points_on f) b → bucket_at hold.places b ≡ Some c → cells ≡ c.cells → HaveNoOther cells cell f → ⊥
 across_there hold cell f b c cells w i held e1 e2 none =
     let st = w.1 in
-    let o = listed_facets (replay w.0) cell f (ascending_replay w.0) st.keys w.2 i in
+    let o = listed_facets w.0 cell f st.ascending st.keys w.2 i in
     let t = touched hold.grid held.point b o.other held.number (facet_inside o.other f held.point o.has held.among) in
-    let k = filtered_true (touches hold.grid b) (complex (replay w.0)) o.other o.listed t in
-    none o.other (record { listed = subst (λ (l : List Cell). IsIn o.other l) (sym (e2 ∙ (st.shares b c e1).cells)) k; has = o.has; differs = o.differs })
+    let k = filtered_true (touches hold.grid b) (complex w.0) o.other o.listed t in
+    none o.other (record { listed = subst (λ (l : List Cell). IsIn o.other l) (sym (e2 ∙ (st.sights b c e1).cells)) k; has = o.has; differs = o.differs })
 
 -- another cell on the facet in a bucket in hand is the one of the complex
-pub across_is : (hold : InHand) (cell : Cell) (f : Facet) (b : ℕ) (c : Content) (cells : List Cell) (other : Cell) → bucket_at hold.places b ≡ Some c → cells ≡ c.cells → IsOtherOf cells cell f other → (h : List Entry) → Stands hold h → IsIn cell (complex (replay h)) → IsAcross h cell f other
-across_is hold cell f b c cells other e1 e2 o h st i =
-    let k = subst (λ (l : List Cell). IsIn other l) (e2 ∙ (st.shares b c e1).cells) o.listed in
-    record { listed = (filtered_from (touches hold.grid b) (complex (replay h)) other k).0; has = o.has; differs = o.differs }
+pub across_is : (hold : InHand) (cell : Cell) (f : Facet) (b : ℕ) (c : Content) (cells : List Cell) (other : Cell) → bucket_at hold.places b ≡ Some c → cells ≡ c.cells → IsOtherOf cells cell f other → (s : List ℕ) → Shows hold s → IsIn cell (complex s) → IsAcross s cell f other
+across_is hold cell f b c cells other e1 e2 o s st i =
+    let k = subst (λ (l : List Cell). IsIn other l) (e2 ∙ (st.sights b c e1).cells) o.listed in
+    record { listed = (filtered_from (touches hold.grid b) (complex s) other k).0; has = o.has; differs = o.differs }

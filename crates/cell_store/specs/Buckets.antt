@@ -12,6 +12,10 @@ pub record Content : Type 0 where
   pub entries : List Entry
   pub place : Option (ℕ × ℕ)
 
+-- what a bucket has, as clauses read it
+abbrev pub content_of : Content → Content
+content_of c = c
+
 -- The room of a hold: the cells that go and come in the exchange for which there is room, and the point of the entry for
 -- which there is.
 pub record Room : Type 0 where
@@ -47,3 +51,7 @@ at_place g b c = record c { place = Some (g, b) }
 -- the bucket is new, or last stood in this grid at this number
 abbrev pub FitsPlace : ℕ → ℕ → Content → Type 0
 FitsPlace g b c = (c.place ≡ None) ⊎ (c.place ≡ Some (g, b))
+
+-- every bucket in hand stands in the grid at its number
+abbrev pub StandAtPlaces : ℕ → List (Option Content) → Type 0
+StandAtPlaces g places = (b : ℕ) (c : Content) → bucket_at places b ≡ Some c → c.place ≡ Some (g, b)

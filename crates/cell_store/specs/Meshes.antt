@@ -1,5 +1,5 @@
--- When a hold is a mesh, and what it knows of its history.
-use Rattle.std.specs.Prelude.{◌≡◌, ℕ, ◌-◌, ◌*◌, ◌^◌, ◌<◌, min, true, List, [], length, Some, IsSome, IsPermutation, Option}
+-- Meshes, seen as their grid and their history, and the holds that are meshes.
+use Rattle.std.specs.Prelude.{◌≡◌, ℕ, ◌-◌, ◌*◌, ◌^◌, ◌<◌, ltb, if◌then◌else◌, min, true, List, [], ◌∷◌, length, Some, IsSome, IsPermutation, Option}
 use Rattle.std.specs.List.{flat_map}
 use Rattle.std.specs.Option.{option_map, option_map_or}
 use Rattle.std.specs.List.Sorted.{IsStrictlySortedBy}
@@ -7,13 +7,11 @@ use Rattle.point_order.specs.declared.cell.Cell.{Cell}
 use Rattle.point_order.specs.CellOrder.{cell_cmp}
 use Rattle.point_order.specs.Complex.{complex}
 use Rattle.edit_history.specs.declared.history.Entry.{Entry}
-use Rattle.edit_history.specs.Histories.{replay}
 use Rattle.edit_history.specs.Merging.{AreNumbered, numbers, places_of}
 use Rattle.cell_store.specs.Grids.{is_grid_size}
 use Rattle.cell_store.specs.Buckets.{Content, InHand, bucket_at}
 use Rattle.cell_store.specs.Swaps.{AreSameCells}
-use Rattle.cell_store.specs.Shares.{Stands}
-use Rattle.cell_store.specs.Changes.{IsNext, swapped_in, noted_in}
+use Rattle.cell_store.specs.Shares.{Stands, Shows}
 use Rattle.cell_store.specs.Ready.{AreHeld}
 
 -- every bucket of the grid is in hand
@@ -25,59 +23,80 @@ pub record HasPlaces (hold : InHand) : Type 0 where
   pub size : is_grid_size hold.grid ≡ true
   pub places : length hold.places ≡ hold.grid * hold.grid * hold.grid
 
--- every bucket is in hand, and they are the shares of some legal history of a solid set
-pub record IsMesh (hold : InHand) : Type 0 where
+-- and every bucket is in hand
+pub record IsWhole (hold : InHand) : Type 0 where
   pub has : HasPlaces hold
   pub all : AllInHand hold
-  pub history : List Entry
-  pub stands : Stands hold history
 
 -- the hold stands for some history
 abbrev pub StandsForSome : InHand → Type 0
 StandsForSome hold = (h : List Entry) × Stands hold h
 
--- the mesh stands for some history that the entry continues, with exactly this change of cells
-abbrev pub Continues : InHand → Entry → List Cell → List Cell → Type 0
-Continues mesh e gone fresh = (h : List Entry) × Stands mesh h × IsNext h e gone fresh
+-- A mesh: the size of its grid, and its history.
+pub record MeshView : Type 0 where
+  pub grid : ℕ
+  pub history : List Entry
 
--- every bucket in hand after an exchange of cells and then an entry, and no other place changes
-pub record IsChanged (gone fresh : List Cell) (e : Entry) (old new : InHand) : Type 0 where
-  pub grid : new.grid ≡ old.grid
-  pub count : length new.places ≡ length old.places
-  pub places : (b : ℕ) → bucket_at new.places b ≡ option_map (λ c. noted_in old.grid b e (swapped_in old.grid b gone fresh c)) (bucket_at old.places b)
+-- The buckets are those of the mesh: all of its grid, the shares of its history, which is legal and of a solid set.
+pub record IsHoldOf (mesh : MeshView) (hold : InHand) : Type 0 where
+  pub grid : hold.grid ≡ mesh.grid
+  pub whole : IsWhole hold
+  pub stands : Stands hold mesh.history
 
--- how many entries each history has for which the mesh stands, up to the greatest number of 64 bits
-abbrev pub IsCountOf : InHand → ℕ → Type 0
-IsCountOf mesh n = (h : List Entry) → Stands mesh h → n ≡ min (length h) (2 ^ 64 - 1)
+-- the list with one more entry, before the first with a greater number
+abbrev pub with_entry : Entry → List Entry → List Entry
+with_entry e [] = e ∷ []
+with_entry e (d ∷ l) = if ltb e.number d.number then e ∷ d ∷ l else d ∷ with_entry e l
+
+-- the entries of a list in order of number
+unfoldable pub by_number : List Entry → List Entry
+by_number [] = []
+by_number (e ∷ l) = with_entry e (by_number l)
 
 -- the entries of all buckets in hand, those of bucket 0 first
 abbrev pub all_entries : List (Option Content) → List Entry
 all_entries places = flat_map (λ o. option_map_or (λ c. c.entries) o []) places
 
+-- in order of number
+abbrev pub history_in : List (Option Content) → List Entry
+history_in places = by_number (all_entries places)
+
+-- the mesh of these buckets
+abbrev pub mesh_in : InHand → MeshView
+mesh_in hold = record { grid = hold.grid; history = history_in hold.places }
+
+-- how far 64 bits can count it
+abbrev pub counted : ℕ → ℕ
+counted n = min n (2 ^ 64 - 1)
+
 -- and their cells
 abbrev pub all_cells : List (Option Content) → List Cell
 all_cells places = flat_map (λ o. option_map_or (λ c. c.cells) o []) places
 
--- A mesh stands for one history.
-abbrev pub OneHistory : Type 0
-OneHistory = (mesh : InHand) (h k : List Entry) → IsMesh mesh → Stands mesh h → Stands mesh k → h ≡ k
+-- With every bucket in hand a hold stands for one history at most: the entries of its buckets, in order of number.
+abbrev pub HistoryIs : Type 0
+HistoryIs = (hold : InHand) (h : List Entry) → IsWhole hold → Stands hold h → history_in hold.places ≡ h
 
--- The entries of all its buckets are those of its history, and put in the order of their numbers they are the history.
-pub record GathersHistory (mesh : InHand) (h : List Entry) : Type 0 where
-  pub entries : IsPermutation (all_entries mesh.places) h
-  pub numbered : AreNumbered (all_entries mesh.places)
-  pub ordered : (l : List Entry) → IsPermutation (all_entries mesh.places) l → numbers l ≡ places_of l → l ≡ h
+-- So the buckets of a mesh tell which mesh it is.
+abbrev pub MeshIs : Type 0
+MeshIs = (mesh : MeshView) (hold : InHand) → IsHoldOf mesh hold → mesh_in hold ≡ mesh
+
+-- The entries of all buckets are those of the history, and put in the order of their numbers they are the history.
+pub record GathersHistory (hold : InHand) (h : List Entry) : Type 0 where
+  pub entries : IsPermutation (all_entries hold.places) h
+  pub numbered : AreNumbered (all_entries hold.places)
+  pub ordered : (l : List Entry) → IsPermutation (all_entries hold.places) l → numbers l ≡ places_of l → l ≡ h
 
 abbrev pub MeshGathersHistory : Type 0
-MeshGathersHistory = (mesh : InHand) (h : List Entry) → IsMesh mesh → Stands mesh h → GathersHistory mesh h
+MeshGathersHistory = (hold : InHand) (h : List Entry) → IsWhole hold → Stands hold h → GathersHistory hold h
 
--- The cells of all its buckets are those of the complex that its history leaves, and in order, each once, they are the complex.
-pub record GathersComplex (mesh : InHand) (h : List Entry) : Type 0 where
-  pub cells : AreSameCells (all_cells mesh.places) (complex (replay h))
-  pub ordered : (l : List Cell) → IsStrictlySortedBy cell_cmp l → AreSameCells (all_cells mesh.places) l → l ≡ complex (replay h)
+-- The cells of all buckets are those of the complex of the set that the hold shows, and in order, each once, they are the complex.
+pub record GathersComplex (hold : InHand) (s : List ℕ) : Type 0 where
+  pub cells : AreSameCells (all_cells hold.places) (complex s)
+  pub ordered : (l : List Cell) → IsStrictlySortedBy cell_cmp l → AreSameCells (all_cells hold.places) l → l ≡ complex s
 
 abbrev pub MeshGathersComplex : Type 0
-MeshGathersComplex = (mesh : InHand) (h : List Entry) → IsMesh mesh → Stands mesh h → GathersComplex mesh h
+MeshGathersComplex = (hold : InHand) (s : List ℕ) → IsWhole hold → Shows hold s → GathersComplex hold s
 
 -- With every bucket in hand, the cells of any list are held.
 abbrev pub AllAreHeld : Type 0

@@ -1,11 +1,11 @@
 -- What a bucket has of a history, and when a hold stands for one.
-use Rattle.std.specs.Prelude.{◌≡◌, ℕ, true, None, Some, List, ◌==◌}
+use Rattle.std.specs.Prelude.{◌≡◌, ◌*◌, ℕ, true, None, Some, List, ◌==◌}
 use Rattle.std.specs.List.{filter}
 use Rattle.point_order.specs.declared.cell.Cell.{Cell}
 use Rattle.point_order.specs.declared.cell.Facet.{Facet}
 use Rattle.point_order.specs.declared.cell.Facet.TheVariants.{Three, Two}
 use Rattle.point_order.specs.Complex.{complex}
-use Rattle.point_order.specs.Sets.{IsIn}
+use Rattle.point_order.specs.Sets.{IsIn, IsAscending}
 use Rattle.point_order.specs.Solid.{is_solid}
 use Rattle.edit_history.specs.declared.history.Entry.{Entry}
 use Rattle.edit_history.specs.Edits.{point_of}
@@ -34,6 +34,14 @@ pub record IsShare (g b : ℕ) (h : List Entry) (c : Content) : Type 0 where
   pub cells : c.cells ≡ cells_share g b h
   pub entries : c.entries ≡ entries_share g b h
 
+-- the share of bucket b as a bucket that stands in its place
+abbrev pub share_at : ℕ → ℕ → List Entry → Content
+share_at g b h = record { points = points_share g b h; cells = cells_share g b h; entries = entries_share g b h; place = Some (g, b) }
+
+-- A bucket in its place that is a share is that one.
+abbrev pub ShareIsOne : Type 0
+ShareIsOne = (g b : ℕ) (h : List Entry) (c : Content) → IsShare g b h c → c.place ≡ Some (g, b) → c ≡ share_at g b h
+
 -- every bucket in hand is its share of the history
 abbrev pub AreShares : InHand → List Entry → Type 0
 AreShares hold h = (b : ℕ) (c : Content) → bucket_at hold.places b ≡ Some c → IsShare hold.grid b h c
@@ -46,18 +54,34 @@ pub record Stands (hold : InHand) (h : List Entry) : Type 0 where
   pub solid : is_solid (replay h) ≡ true
   pub shares : AreShares hold h
 
+-- bucket b has exactly its points of the set s, and the cells of its complex with a finite vertex in b
+pub record IsSight (g b : ℕ) (s : List ℕ) (c : Content) : Type 0 where
+  pub points : c.points ≡ filter (λ p. bucket_of g p == b) s
+  pub cells : c.cells ≡ filter (touches g b) (complex s)
+
+-- The hold shows a set: its points are keys in order and solid, and every bucket in hand has what lies in it. Entries are nothing to it.
+pub record Shows (hold : InHand) (s : List ℕ) : Type 0 where
+  pub ascending : IsAscending s
+  pub keys : AreKeys s
+  pub solid : is_solid s ≡ true
+  pub sights : (b : ℕ) (c : Content) → bucket_at hold.places b ≡ Some c → IsSight hold.grid b s c
+
+-- A hold that stands for a history shows the set that it leaves.
+abbrev pub StandsShows : Type 0
+StandsShows = (hold : InHand) (h : List Entry) → Stands hold h → Shows hold (replay h)
+
 -- the finite points of a facet, ascending
 abbrev pub points_on : Facet → List ℕ
 points_on (Three t) = t
 points_on (Two p) = p
 
--- the other cell of the complex that the history leaves, on a facet of one of its cells
-abbrev pub IsAcross : List Entry → Cell → Facet → Cell → Type 0
-IsAcross h cell facet other = IsOtherOf (complex (replay h)) cell facet other
+-- the other cell of the complex of the set, on a facet of one of its cells
+abbrev pub IsAcross : List ℕ → Cell → Facet → Cell → Type 0
+IsAcross s cell facet other = IsOtherOf (complex s) cell facet other
 
--- the hold stands for a history of whose complex the cell is one
-abbrev pub StandsWith : InHand → Cell → Type 0
-StandsWith hold cell = (h : List Entry) × Stands hold h × IsIn cell (complex (replay h))
+-- the hold shows a set of whose complex the cell is one
+abbrev pub ShowsWith : InHand → Cell → Type 0
+ShowsWith hold cell = (s : List ℕ) × Shows hold s × IsIn cell (complex s)
 
 -- no bucket of a point of the list is in hand
 abbrev pub NoneInHand : InHand → List ℕ → Type 0

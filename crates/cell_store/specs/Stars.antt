@@ -6,11 +6,10 @@ use Rattle.point_order.specs.declared.cell.Facet.{Facet}
 use Rattle.point_order.specs.Complex.{complex}
 use Rattle.point_order.specs.Facets.{points_of}
 use Rattle.point_order.specs.Sets.{IsIn, is_among}
-use Rattle.edit_history.specs.declared.history.Entry.{Entry}
-use Rattle.edit_history.specs.Histories.{replay}
 use Rattle.cell_store.specs.Grids.{bucket_of}
 use Rattle.cell_store.specs.Buckets.{InHand}
-use Rattle.cell_store.specs.Shares.{Stands, IsAcross, IsInHandFor, NoneInHand, points_on}
+use Rattle.cell_store.specs.Shares.{Shows, IsAcross, IsInHandFor, NoneInHand, points_on}
+use Rattle.cell_store.specs.declared.bucket.BucketCells.{BucketCells}
 use Rattle.cell_store.specs.declared.star.Across.{Across}
 use Rattle.cell_store.specs.declared.star.Across.TheVariants.{Cell as Found, Need}
 use Rattle.cell_store.specs.declared.star.Star.{Star}
@@ -19,16 +18,20 @@ use Rattle.cell_store.specs.declared.star.Star.{Star}
 abbrev pub cells_left : Star → List Cell
 cells_left s = filter (λ c. is_among s.point (points_of c)) s.cells.now
 
+-- those of a bucket that are still to come
+abbrev pub cells_to_come : BucketCells → List Cell
+cells_to_come s = s.cells.now
+
 -- the bucket of the first point of a list
 abbrev pub bucket_of_first : ℕ → List ℕ → ℕ
 bucket_of_first g [] = 0
 bucket_of_first g (p ∷ ps) = bucket_of g p
 
 -- What the call across a facet of a cell gives. A cell, where the bucket of some point of the facet is in hand: the other cell
--- on the facet, for each history for which the hold stands. Else the number of the bucket of the facet's least point.
+-- on the facet, for each set that the hold shows. Else the number of the bucket of the facet's least point.
 abbrev pub AcrossGives : InHand → Cell → Facet → Across → Type 0
 AcrossGives hold cell facet (Found other) =
     ((b : ℕ) × IsInHandFor hold (points_on facet) b)
-    × ((h : List Entry) → Stands hold h → IsIn cell (complex (replay h)) → IsAcross h cell facet other.now)
+    × ((s : List ℕ) → Shows hold s → IsIn cell (complex s) → IsAcross s cell facet other.now)
 AcrossGives hold cell facet (Need b) =
     NoneInHand hold (points_on facet) × (b ≡ bucket_of_first hold.grid (points_on facet))

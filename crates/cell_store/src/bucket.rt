@@ -2,10 +2,10 @@
 
 ghost use Rattle.std.specs.Prelude.{◌≡◌, ◌∷◌, [], ◌++◌, None, IsPermutation, IfOk};
 ghost use Rattle.edit_history.specs.Edits.{point_of, changed};
-ghost use Rattle.cell_store.specs.Buckets.{at_place};
+ghost use Rattle.cell_store.specs.Buckets.{at_place, content_of};
 ghost use Rattle.cell_store.specs.Ready.{HasLists};
 ghost use Rattle.std.specs.List.Sorted.{IsStrictlySortedBy};
-ghost use Rattle.std.specs.Slice.Iter.{iter_rest};
+ghost use Rattle.cell_store.specs.Stars.{cells_to_come};
 ghost use Rattle.point_order.specs.CellOrder.{cell_cmp};
 ghost use Rattle.point_order.specs.Sets.{IsAscending, is_among};
 
@@ -15,7 +15,6 @@ use edit_history::Entry;
 use point_order::{Cell, Point};
 use std::alloc::{AllocError, Global};
 use std::marker::Model;
-use std::slice;
 
 /// The points in one cube of the grid, the cells with a vertex there, and the entries whose point lies there.
 ///
@@ -42,12 +41,32 @@ impl Model for Bucket {
 }
 
 /// The cells of a bucket, each once, in any order.
-pub type BucketCells<'a> = slice::Iter<'a, Cell>;
+#[derive(Clone, Copy, Debug)]
+pub struct BucketCells<'a> {
+    cells: &'a [Cell],
+}
+
+impl<'a> Iterator for BucketCells<'a> {
+    type Item = &'a Cell;
+
+    ghost use Rattle.std.specs.Iterator.{YieldsFirstRef, item_count};
+    ghost use Rattle.cell_store.specs.Stars.{cells_to_come};
+
+    ghost next_gives = { YieldsFirstRef cells_to_come };
+
+    ghost remaining = { item_count cells_to_come };
+
+    fn next(&mut self) -> Option<&'a Cell> {
+        let (first, others) = self.cells.split_first()?;
+        self.cells = others;
+        Some(first)
+    }
+}
 
 impl Bucket {
     /// A bucket with nothing in it, which has not stood anywhere. It takes no memory.
     pub fn new(alloc: Global) -> Bucket
-        ensures { result ≡ record { points = []; cells = []; entries = []; place = None } }
+        ensures { content_of result ≡ record { points = []; cells = []; entries = []; place = None } }
     {
         Bucket {
             points: Vec::new(alloc),
@@ -59,24 +78,24 @@ impl Bucket {
 
     /// The points, ascending.
     pub fn points(&self) -> &[Point]
-        ensures points { result.now ≡ self.now.points }
-        ensures ascending { IsAscending self.now.points }
+        ensures points { result.now ≡ (content_of self.now).points }
+        ensures ascending { IsAscending (content_of self.now).points }
     {
         &self.points
     }
 
     /// The entries, by number.
     pub fn entries(&self) -> &[Entry]
-        ensures { result.now ≡ self.now.entries }
+        ensures { result.now ≡ (content_of self.now).entries }
     {
         &self.entries
     }
 
     /// The cells, each once, in any order.
     pub fn cells(&self) -> BucketCells<'_>
-        ensures { IsPermutation self.now.cells (iter_rest result) }
+        ensures { IsPermutation (content_of self.now).cells (cells_to_come result) }
     {
-        self.cells.iter()
+        BucketCells { cells: &self.cells }
     }
 
     // The cells, in order.

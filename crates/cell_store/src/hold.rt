@@ -5,12 +5,10 @@ ghost use Rattle.std.specs.List.{filter, list_all};
 ghost use Rattle.point_order.specs.Sets.{IsIn, is_among};
 ghost use Rattle.point_order.specs.Facets.{points_of, facets_of};
 ghost use Rattle.point_order.specs.Complex.{complex};
-ghost use Rattle.edit_history.specs.declared.history.Entry.{Entry};
 ghost use Rattle.edit_history.specs.Edits.{point_of};
-ghost use Rattle.edit_history.specs.Histories.{replay};
 ghost use Rattle.cell_store.specs.Grids.{is_grid_size, bucket_of as number_of};
-ghost use Rattle.cell_store.specs.Buckets.{no_room, bucket_at, points_in, cells_in, at_place, FitsPlace};
-ghost use Rattle.cell_store.specs.Shares.{Stands, StandsWith, NoneInHand, IsInHandFor};
+ghost use Rattle.cell_store.specs.Buckets.{no_room, bucket_at, points_in, cells_in, at_place, content_of, FitsPlace, StandAtPlaces};
+ghost use Rattle.cell_store.specs.Shares.{Shows, ShowsWith, NoneInHand, IsInHandFor};
 ghost use Rattle.cell_store.specs.Changes.{IsSwapped, IsNoted};
 ghost use Rattle.cell_store.specs.Ready.{AreHeld, IsReady};
 ghost use Rattle.cell_store.specs.Stars.{cells_left, AcrossGives};
@@ -39,14 +37,14 @@ pub struct Hold {
 impl Model for Hold {
     ghost use Rattle.std.specs.Prelude.{◌≡◌, ◌*◌, length, IfSome};
     ghost use Rattle.std.specs.Option.{option_map};
-    ghost use Rattle.cell_store.specs.Buckets.{InHand};
+    ghost use Rattle.cell_store.specs.Buckets.{InHand, StandAtPlaces};
     ghost use Rattle.cell_store.specs.Ready.{IsReady, IsNoteReady};
 
     ghost Value = { InHand };
 
     ghost view = { λ h. record { grid = h.grid; places = h.places.items; room = record { swap = option_map (λ e. (e.gone.items, e.fresh.items)) h.exchange; push = option_map (λ n. n.point) h.note } } };
 
-    ghost invariant = { λ h. (length h.places.items ≡ h.grid * h.grid * h.grid) × IfSome h.exchange (λ e. IsReady h.grid e.gone.items e.fresh.items h.places.items e.lists.items) × IfSome h.note (λ n. IsNoteReady h.grid h.places.items n) };
+    ghost invariant = { λ h. (length h.places.items ≡ h.grid * h.grid * h.grid) × IfSome h.exchange (λ e. IsReady h.grid e.gone.items e.fresh.items h.places.items e.lists.items) × IfSome h.note (λ n. IsNoteReady h.grid h.places.items n) × StandAtPlaces h.grid h.places.items };
 }
 
 impl Hold {
@@ -75,6 +73,7 @@ impl Hold {
         ensures grid { result ≡ self.now.grid }
         ensures size { is_grid_size self.now.grid ≡ true }
         ensures places { length self.now.places ≡ self.now.grid * self.now.grid * self.now.grid }
+        ensures placed { StandAtPlaces self.now.grid self.now.places }
     {
         let _ = self.grid.size();
         self.grid
@@ -90,7 +89,8 @@ impl Hold {
     /// The bucket with the number, which is to be in hand.
     pub fn bucket(&self, b: u32) -> &Bucket
         requires { IsSome (bucket_at self.now.places b) }
-        ensures { bucket_at self.now.places b ≡ Some result.now }
+        ensures bucket { bucket_at self.now.places b ≡ Some (content_of result.now) }
+        ensures place { (content_of result.now).place ≡ Some (self.now.grid, b) }
     {
         match self.places.get(b as usize) {
             Some(Some(bucket)) => bucket,
@@ -102,8 +102,8 @@ impl Hold {
     pub fn put(&mut self, b: u32, bucket: Bucket)
         requires below { b < length self.old.places }
         requires absent { bucket_at self.old.places b ≡ None }
-        requires place { FitsPlace self.old.grid b bucket }
-        ensures { self.new ≡ record self.old { places = slice_set self.old.places b (Some (at_place self.old.grid b bucket)) } }
+        requires place { FitsPlace self.old.grid b (content_of bucket) }
+        ensures { self.new ≡ record self.old { places = slice_set self.old.places b (Some (at_place self.old.grid b (content_of bucket))) } }
     {
         self.places[b as usize] = Some(bucket.placed(self.grid, b));
     }
@@ -111,7 +111,8 @@ impl Hold {
     /// Gives a bucket in hand away.
     pub fn take(&mut self, b: u32) -> Bucket
         requires { IsSome (bucket_at self.old.places b) }
-        ensures bucket { bucket_at self.old.places b ≡ Some result }
+        ensures bucket { bucket_at self.old.places b ≡ Some (content_of result) }
+        ensures place { (content_of result).place ≡ Some (self.old.grid, b) }
         ensures after { self.new ≡ record self.old { places = slice_set self.old.places b None; room = no_room } }
     {
         self.exchange = None;
@@ -137,18 +138,18 @@ impl Hold {
     /// Want of memory.
     pub fn copy_of(&self, alloc: Global, b: u32) -> Result<Bucket, AllocError>
         requires { IsSome (bucket_at self.now.places b) }
-        ensures { IfOk result (λ copy. bucket_at self.now.places b ≡ Some copy) }
+        ensures { IfOk result (λ copy. bucket_at self.now.places b ≡ Some (content_of copy)) }
     {
         self.bucket(b).copied(alloc)
     }
 
     /// The cells at a point, in ascending order. The point's bucket is to be in hand.
     ///
-    /// They are all cells of the complex that have the point, for every history for which the hold stands.
+    /// They are all cells of the complex that have the point, for every set that the hold shows.
     pub fn cells_at(&self, p: Point) -> Star<'_>
         requires { IsSome (bucket_at self.now.places (number_of self.now.grid p)) }
         ensures in_bucket { cells_left result ≡ filter (λ c. is_among p (points_of c)) (cells_in self.now.places (number_of self.now.grid p)) }
-        ensures in_complex { (h : List Entry) → Stands self.now h → cells_left result ≡ filter (λ c. is_among p (points_of c)) (complex (replay h)) }
+        ensures in_complex { (s : List ℕ) → Shows self.now s → cells_left result ≡ filter (λ c. is_among p (points_of c)) (complex s) }
     {
         let b = self.grid().bucket_of(p);
         Star {
@@ -171,10 +172,10 @@ impl Hold {
         None
     }
 
-    /// What lies across a facet of a cell of the complex for which the hold stands: the other cell on the facet, or the bucket
+    /// What lies across a facet of a cell of the complex of a set that the hold shows: the other cell on the facet, or the bucket
     /// of its least point where the bucket of none of its points is in hand.
     pub fn across(&self, cell: &Cell, facet: &Facet) -> Across<'_>
-        requires stands { StandsWith self.now cell.now }
+        requires shown { ShowsWith self.now cell.now }
         requires facet { IsIn facet.now (facets_of cell.now) }
         ensures { AcrossGives self.now cell.now facet.now result }
     {

@@ -2,7 +2,8 @@
 //! contract is a law.
 
 ghost use Rattle.cell_store.specs.Changes.{EntryKeepsHold, ShareAfterEntry, ShareElsewhere};
-ghost use Rattle.cell_store.specs.Meshes.{OneHistory, MeshGathersHistory, MeshGathersComplex, AllAreHeld, FewerStand, MoreAreHeld};
+ghost use Rattle.cell_store.specs.Shares.{ShareIsOne, StandsShows};
+ghost use Rattle.cell_store.specs.Meshes.{HistoryIs, MeshIs, MeshGathersHistory, MeshGathersComplex, AllAreHeld, FewerStand, MoreAreHeld};
 
 /// After an exchange of exactly the gone and the new cells, and after the entry, a hold that stood for a history stands for the
 /// history with the entry; each share is that exact function of the one before, and a bucket that the entry does not touch
@@ -13,9 +14,17 @@ pub fn entry_keeps_hold()
     ensures elsewhere { ShareElsewhere }
 {}
 
-/// A mesh stands for one history.
-pub fn mesh_has_one_history()
-    ensures { OneHistory }
+/// With every bucket in hand a hold stands for one history at most: the entries of its buckets in order of number. So the buckets of
+/// a mesh tell which mesh it is.
+pub fn hold_has_one_history()
+    ensures history { HistoryIs }
+    ensures mesh { MeshIs }
+{}
+
+/// A bucket in its place that is a share is one content, and a hold that stands for a history shows the set that it leaves.
+pub fn shares_show()
+    ensures share { ShareIsOne }
+    ensures shown { StandsShows }
 {}
 
 /// The entries of all buckets of a mesh are those of its history, and in the order of their numbers they are the history.

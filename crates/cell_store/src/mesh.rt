@@ -1,25 +1,23 @@
 //! Meshes: all buckets of a grid.
 
-ghost use Rattle.std.specs.Prelude.{◌≡◌, ◌*◌, ◌<◌, ◌∷◌, ◌++◌, [], true, Some, OnOk, OnErr, length, List};
-ghost use Rattle.edit_history.specs.declared.history.Entry.{Entry};
-ghost use Rattle.edit_history.specs.Edits.{point_of};
+ghost use Rattle.std.specs.Prelude.{◌≡◌, ◌*◌, ◌<◌, ◌∷◌, ◌++◌, [], true, OnOk, OnErr, length};
 ghost use Rattle.cell_store.specs.Grids.{is_grid_size};
-ghost use Rattle.cell_store.specs.Buckets.{bucket_at, no_room};
-ghost use Rattle.cell_store.specs.Shares.{Stands};
+ghost use Rattle.cell_store.specs.Buckets.{content_of};
+ghost use Rattle.cell_store.specs.Shares.{share_at};
 ghost use Rattle.cell_store.specs.Changes.{IsNext};
-ghost use Rattle.cell_store.specs.Meshes.{AllInHand, HasPlaces, IsMesh, StandsForSome, Continues, IsChanged, IsCountOf};
+ghost use Rattle.cell_store.specs.Meshes.{AllInHand, HasPlaces, IsHoldOf, StandsForSome, counted, history_in, mesh_in};
 
 use crate::bucket::Bucket;
 use crate::grid::Grid;
 use crate::hold::Hold;
 use edit_history::Entry;
-use point_order::{Cell, Point};
+use point_order::Cell;
 use std::alloc::{AllocError, Global};
 use std::marker::Model;
 
 /// A grid with every bucket at home, whose buckets are the shares of one legal history of a solid set.
 ///
-/// Contracts see it as its hold.
+/// Contracts see it as its grid and its history.
 #[derive(Debug, Drop)]
 pub struct Mesh {
     hold: Hold,
@@ -27,29 +25,27 @@ pub struct Mesh {
 }
 
 impl Model for Mesh {
-    ghost use Rattle.cell_store.specs.Buckets.{InHand};
-    ghost use Rattle.cell_store.specs.Meshes.{IsMesh, IsCountOf};
+    ghost use Rattle.std.specs.Prelude.{◌≡◌, ◌*◌, length};
+    ghost use Rattle.cell_store.specs.Meshes.{MeshView, IsHoldOf, counted, history_in, mesh_in};
 
-    ghost Value = { InHand };
+    ghost Value = { MeshView };
 
-    ghost view = { λ m. m.hold };
+    ghost view = { λ m. mesh_in m.hold };
 
-    ghost invariant = { λ m. IsMesh m.hold × IsCountOf m.hold m.count };
+    ghost invariant = { λ m. IsHoldOf (mesh_in m.hold) m.hold × (m.count ≡ counted (length (history_in m.hold.places))) };
 }
 
 impl Mesh {
     /// The buckets, all in hand.
     pub fn into_hold(self) -> Hold
-        ensures hold { result ≡ self }
-        ensures mesh { IsMesh result }
+        ensures { IsHoldOf self result }
     {
         self.hold
     }
 
     /// The buckets, all in hand.
     pub fn hold(&self) -> &Hold
-        ensures hold { result.now ≡ self.now }
-        ensures mesh { IsMesh self.now }
+        ensures { IsHoldOf self.now result.now }
     {
         &self.hold
     }
@@ -58,59 +54,46 @@ impl Mesh {
     pub fn grid(&self) -> Grid
         ensures grid { result ≡ self.now.grid }
         ensures size { is_grid_size self.now.grid ≡ true }
-        ensures places { length self.now.places ≡ self.now.grid * self.now.grid * self.now.grid }
     {
         self.hold.grid()
     }
 
     /// The bucket with the number, which is to be below the grid's count.
     pub fn bucket(&self, b: u32) -> &Bucket
-        requires { b < length self.now.places }
-        ensures bucket { bucket_at self.now.places b ≡ Some result.now }
-        ensures mesh { IsMesh self.now }
+        requires { b < self.now.grid * self.now.grid * self.now.grid }
+        ensures { content_of result.now ≡ share_at self.now.grid b self.now.history }
     {
         self.hold.bucket(b)
     }
 
     /// How many entries there are so far. Where they are more than 64 bits can count, it is the greatest number of 64 bits.
     pub fn count(&self) -> u64
-        ensures { IsCountOf self.now result }
+        ensures { result ≡ counted (length self.now.history) }
     {
         self.count
     }
 
-    /// Makes room for one change: so many cells that go, so many that come, and an entry of the point.
+    /// Makes the change that an entry makes of the mesh: takes the gone cells out, puts the fresh ones in, and puts the entry last
+    /// and its point in or out as its reply says. The entry is to continue the history, with exactly this change of cells.
     ///
     /// # Errors
-    /// Want of memory. The mesh is then as before, its room included.
-    pub fn reserve(
+    /// Want of memory. The mesh is then as before.
+    pub fn change(
         &mut self,
         alloc: Global,
         gone: &[Cell],
         fresh: &[Cell],
-        p: Point,
+        entry: Entry,
     ) -> Result<(), AllocError>
-        ensures ok { OnOk result (self.new ≡ record self.old { room = record { swap = Some (gone.now, fresh.now); push = Some p } }) }
-        ensures err { OnErr result (self.new ≡ self.old) }
+        requires { IsNext self.old.history entry gone.now fresh.now }
+        ensures changed { OnOk result (self.new ≡ record self.old { history = self.old.history ++ entry ∷ [] }) }
+        ensures refused { OnErr result (self.new ≡ self.old) }
     {
-        self.hold.reserve(alloc, gone, fresh, p)?;
-        Ok(())
-    }
-
-    /// Makes the change that an entry makes of the mesh: takes the gone cells out, puts the fresh ones in, and puts the entry last
-    /// and its point in or out as its reply says. There is to be room for this change, which it uses up, and the entry is to
-    /// continue the history, with exactly this change of cells. It takes no memory.
-    pub fn change(&mut self, gone: &[Cell], fresh: &[Cell], entry: Entry)
-        requires swap { self.old.room.swap ≡ Some (gone.now, fresh.now) }
-        requires push { self.old.room.push ≡ Some (point_of entry.edit) }
-        requires next { Continues self.old entry gone.now fresh.now }
-        ensures changed { IsChanged gone.now fresh.now entry self.old self.new }
-        ensures room { self.new.room ≡ no_room }
-        ensures stands { (h : List Entry) → Stands self.old h → IsNext h entry gone.now fresh.now → Stands self.new (h ++ entry ∷ []) }
-    {
+        self.hold.reserve(alloc, gone, fresh, entry.edit.point())?;
         self.hold.swap_cells(gone, fresh);
         self.hold.push_entry(entry);
         self.count = self.count.saturating_add(1);
+        Ok(())
     }
 }
 
@@ -119,8 +102,8 @@ impl Hold {
     pub fn into_mesh(self) -> Mesh
         requires all { AllInHand self }
         requires stands { StandsForSome self }
-        ensures hold { result ≡ self }
-        ensures mesh { IsMesh result }
+        ensures mesh { result ≡ mesh_in self }
+        ensures hold { IsHoldOf result self }
     {
         let count = self.count_entries();
         Mesh { hold: self, count }
@@ -129,7 +112,7 @@ impl Hold {
     // How many entries all buckets have together, which are all to be in hand.
     fn count_entries(&self) -> u64
         requires { AllInHand self.now }
-        ensures count { IsCountOf self.now result }
+        ensures count { result ≡ counted (length (history_in self.now.places)) }
         ensures has { HasPlaces self.now }
     {
         let mut count: u64 = 0;

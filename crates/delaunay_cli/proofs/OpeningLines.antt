@@ -11,21 +11,17 @@ use Rattle.edit_history.specs.declared.history.Edit.TheVariants.{Add}
 use Rattle.edit_history.specs.declared.history.Entry.{Entry}
 use Rattle.edit_history.specs.declared.history.Reply.{Reply}
 use Rattle.edit_history.specs.Edits.{reply_to, after}
-use Rattle.edit_history.specs.Histories.{replay, entries_from, IsLegalFrom}
+use Rattle.edit_history.specs.Histories.{replay, entries_from, IsLegal, IsLegalFrom}
 use Rattle.edit_history.specs.Opening.{Four, opening_four}
 use Rattle.edit_history.specs.OneThread.{places, tagged_lines, one_thread, line_of}
 use Rattle.edit_history.specs.Laws.{AreIndependent as AreIndependentPlaces}
-use Rattle.edit_history.proofs.Lines.{made-more, replay-is, first-lines, length-entries}
+use Rattle.edit_history.proofs.Lines.{first-lines, length-entries}
 use Rattle.edit_history.proofs.LinesAtPlaces.{line_at, picked, same-map}
 use Rattle.edit_history.proofs.OpeningSolid.{four_law}
-use Rattle.cell_store.specs.Buckets.{InHand}
-use Rattle.cell_store.specs.Meshes.{IsMesh}
-use Rattle.cell_store.specs.Shares.{Stands}
-use Rattle.cell_store.proofs.MeshLaws.{one_history}
 use Rattle.cavity.specs.Opening.{inserted_from, opening_history}
 use Rattle.cavity.proofs.NextEntry.{replay_more}
-use Rattle.one_mesh.specs.Applied.{IsApplied, next_entry}
-use Rattle.delaunay_cli.specs.Made.{tagged_points, StandsForLines, other_lines}
+use Rattle.one_mesh.specs.Applied.{next_entry}
+use Rattle.delaunay_cli.specs.Made.{tagged_points, with_lines, other_lines}
 
 -- ---- a legal history by one thread is that of its lines
 
@@ -56,10 +52,8 @@ inserted_by n [] = tt
 inserted_by n (l ∷ lines) = (refl, inserted_by (n + 1) lines)
 
 -- the opening is made of the adds of its points
-pub opening_made : (m : InHand) (lines : List (ℕ × ℕ)) → Stands m (opening_history lines) → StandsForLines m (map added lines)
-opening_made m lines st =
-    let e = legal_is 0 [] (opening_history lines) st.legal (inserted_by 0 lines) ∙ ap (entries_from 0 []) (inserted_lines 0 lines) in
-    (opening_history lines, st, record { entries_are = e; points_are = ap replay e ∙ replay-is 0 [] (map added lines) })
+pub opening_made : (lines : List (ℕ × ℕ)) → IsLegal (opening_history lines) → opening_history lines ≡ entries_from 0 [] (map added lines)
+opening_made lines l = legal_is 0 [] (opening_history lines) l (inserted_by 0 lines) ∙ ap (entries_from 0 []) (inserted_lines 0 lines)
 
 -- ---- which lines the opening has
 
@@ -99,20 +93,49 @@ opening_lines points edits four e = by (opening_four points) (four_law points) e
         range : (p : ℕ) → IsIn p (places f) → (0 ≤ p) × (p < 0 + length (map Add points ++ edits))
         range p i = let b = below p i in (omega arith, omega (arith, b, length-append (map Add points) edits, length-map points Add))
 
+behind_all : {Y : Type 0} (a b c : List Y) → a ++ (b ++ c) ≡ (a ++ b) ++ c
+behind_all [] b c = refl
+behind_all (x ∷ a) b c = ap (λ m. x ∷ m) (behind_all a b c)
+
+nothing_behind : {Y : Type 0} (a : List Y) → a ++ [] ≡ a
+nothing_behind [] = refl
+nothing_behind (x ∷ a) = ap (λ m. x ∷ m) (nothing_behind a)
+
+-- ---- a history with lines
+
+-- the entries behind it
+pub with_lines_is : (h : List Entry) (lines : List (ℕ × Edit)) → with_lines h lines ≡ h ++ entries_from (length h) (replay h) lines
+with_lines_is h [] = sym (nothing_behind h)
+with_lines_is h (l ∷ lines) =
+    let e = next_entry h l.0 l.1 in
+    with_lines_is (h ++ e ∷ []) lines
+    ∙ ap (λ (n : ℕ). (h ++ e ∷ []) ++ entries_from n (replay (h ++ e ∷ [])) lines) (length-append h (e ∷ []))
+    ∙ ap (λ (s : List ℕ). (h ++ e ∷ []) ++ entries_from (length h + 1) s lines) (replay_more [] h e)
+    ∙ sym (behind_all h (e ∷ []) (entries_from (length h + 1) (after (replay h) l.1) lines))
+
+-- one line more
+pub with_lines_more : (h : List Entry) (lines : List (ℕ × Edit)) (l : ℕ × Edit) → with_lines h (lines ++ l ∷ []) ≡ with_lines h lines ++ next_entry (with_lines h lines) l.0 l.1 ∷ []
+with_lines_more h [] l = refl
+with_lines_more h (x ∷ lines) l = with_lines_more (h ++ next_entry h x.0 x.1 ∷ []) lines l
+
+-- lines behind lines
+with_both : (h : List Entry) (xs ys : List (ℕ × Edit)) → with_lines h (xs ++ ys) ≡ with_lines (with_lines h xs) ys
+with_both h [] ys = refl
+with_both h (x ∷ xs) ys = with_both (h ++ next_entry h x.0 x.1 ∷ []) xs ys
+
+length_with : (h : List Entry) (lines : List (ℕ × Edit)) → length (with_lines h lines) ≡ length h + length lines
+length_with h lines = ap length (with_lines_is h lines) ∙ length-append h (entries_from (length h) (replay h) lines) ∙ ap (λ (n : ℕ). length h + n) (length-entries (length h) (replay h) lines)
+
 -- all lines in the order of one thread
-pub all_lines : (points : List ℕ) (edits : List Edit) (four : List ℕ) (m : InHand) → option_map places (opening_four points) ≡ Some four →
-    StandsForLines m (filter (λ line. is_among line.0 four) (tagged_lines points edits) ++ other_lines four (tagged_lines points edits)) → Stands m (one_thread points edits)
-all_lines points edits four m e s =
+pub all_lines : (points : List ℕ) (edits : List Edit) (four : List ℕ) (first : List (ℕ × Edit)) (h : List Entry) → option_map places (opening_four points) ≡ Some four → h ≡ entries_from 0 [] first →
+    first ≡ filter (λ line. is_among line.0 four) (tagged_lines points edits) → with_lines h (other_lines four (tagged_lines points edits)) ≡ one_thread points edits
+all_lines points edits four first h e m f =
     let q = first-lines (opening_four points) (tagged_lines points edits) _ four e refl in
-    subst (Stands m) (s.2.entries_are ∙ ap (entries_from 0 []) q) s.1
+    let o : List (ℕ × Edit) = other_lines four (tagged_lines points edits) in
+    ap (λ (k : List Entry). with_lines k o) (m ∙ sym (with_lines_is [] first)) ∙ sym (with_both [] first o) ∙ with_lines_is [] (first ++ o)
+    ∙ ap (λ (k : List (ℕ × Edit)). entries_from 0 [] (k ++ o)) f ∙ ap (entries_from 0 []) q
 
 -- ---- the other lines, one by one
-
-pub count_ok : (m : InHand) (first : List (ℕ × Edit)) (h : List Entry) (n : ℕ) → IsMesh m → StandsForLines m first → length first ≤ n → n < 2 ^ 32 → Stands m h → length h < 2 ^ 32
-count_ok m first h n i s l k st =
-    let e = one_history m h s.0 i st s.1 in
-    let c = ap length e ∙ ap length s.2.entries_are ∙ length-entries 0 [] first in
-    omega (arith, c, l, k)
 
 -- the lines in front of the next
 pub filter_next : (t : ℕ × Edit → Bool) (lines : List Edit) (n : ℕ) (d : Edit) → n < length lines → d ≡ slice_index_or lines n d → filter t (take (n + 1) (enumerate_from 0 lines)) ≡ filter t (take n (enumerate_from 0 lines)) ++ cond (t (n, d)) ((n, d) ∷ []) []
@@ -138,22 +161,10 @@ filter_next t lines n d l e = ap (filter t) (one n ∙ next 0 lines n l e) ∙ f
     next m (x ∷ lines) zero l e = ap (λ (y : ℕ × Edit). y ∷ []) (ap (λ (k : ℕ). (k, x)) (none m) ∙ ap (λ (y : Edit). (m + 0, y)) (sym e))
     next m (x ∷ lines) (suc n) l e = ap (λ (t : List (ℕ × Edit)). (m, x) ∷ t) (next (m + 1) lines n (omega (arith, l)) e ∙ ap (λ (k : ℕ). take n (enumerate_from (m + 1) lines) ++ (k, d) ∷ []) (more m n))
 
--- one more line
-pub made_one : (m m' : InHand) (lines : List (ℕ × Edit)) (tag number : ℕ) (edit : Edit) (reply : Reply) → StandsForLines m lines → ((h : List Entry) → Stands m h → IsApplied h tag edit number reply m') → StandsForLines m' (lines ++ (tag, edit) ∷ [])
-made_one m m' lines tag number edit reply s a =
-    let k = a s.0 s.1 in
-    let h' = s.0 ++ next_entry s.0 tag edit ∷ [] in
-    let p : replay h' ≡ after (replay s.0) edit = replay_more [] s.0 (next_entry s.0 tag edit) in
-    (h', k.stands, made-more s.0 h' (replay s.0) (replay h') lines tag edit (reply_to (replay s.0) edit) s.2 refl p refl)
-
-nothing_behind : {Y : Type 0} (a : List Y) → a ++ [] ≡ a
-nothing_behind [] = refl
-nothing_behind (x ∷ a) = ap (λ m. x ∷ m) (nothing_behind a)
-
 -- no line yet
-pub nothing_yet : (m : InHand) (first : List (ℕ × Edit)) (four : List ℕ) (lines : List (ℕ × Edit)) → StandsForLines m first → StandsForLines m (first ++ other_lines four (take 0 lines))
-nothing_yet m first four [] s = subst (StandsForLines m) (sym (nothing_behind first)) s
-nothing_yet m first four (l ∷ lines) s = subst (StandsForLines m) (sym (nothing_behind first)) s
+pub nothing_yet : (h : List Entry) (four : List ℕ) (lines : List (ℕ × Edit)) → h ≡ with_lines h (other_lines four (take 0 lines))
+nothing_yet h four [] = refl
+nothing_yet h four (l ∷ lines) = refl
 
 -- at most as many as were looked at
 filter_few : {X : Type 0} (t : X → Bool) (xs : List X) → length (filter t xs) ≤ length xs
@@ -170,32 +181,27 @@ take_few zero (x ∷ xs) = omega arith
 take_few (suc n) [] = omega arith
 take_few (suc n) (x ∷ xs) = (let l = take_few n xs in omega (arith, l))
 
-pub few_lines : (first : List (ℕ × Edit)) (four : List ℕ) (lines : List Edit) (n : ℕ) → length first ≤ 4 → length (first ++ other_lines four (take n (enumerate_from 0 lines))) ≤ 4 + n
-few_lines first four lines n l =
-    let a = length-append first (other_lines four (take n (enumerate_from 0 lines))) in
+pub few_entries : (h now : List Entry) (four : List ℕ) (lines : List Edit) (n : ℕ) → now ≡ with_lines h (other_lines four (take n (enumerate_from 0 lines))) → length h ≤ 4 → n < length lines → length lines + 4 < 2 ^ 32 → length now < 2 ^ 32
+few_entries h now four lines n e k l m =
+    let a = ap length e ∙ length_with h (other_lines four (take n (enumerate_from 0 lines))) in
     let b = filter_few (λ (line : ℕ × Edit). not (is_among line.0 four)) (take n (enumerate_from 0 lines)) in
     let c = take_few n (enumerate_from 0 lines) in
-    omega (arith, a, b, c, l)
-
-behind_all : {Y : Type 0} (a b c : List Y) → a ++ (b ++ c) ≡ (a ++ b) ++ c
-behind_all [] b c = refl
-behind_all (x ∷ a) b c = ap (λ m. x ∷ m) (behind_all a b c)
+    omega (arith, a, b, c, k, l, m)
 
 -- the next line is made
-pub lines_next : (m m' : InHand) (first : List (ℕ × Edit)) (four : List ℕ) (lines : List Edit) (n number : ℕ) (edit : Edit) (reply : Reply) → n < length lines → edit ≡ slice_index_or lines n edit → is_among n four ≡ false →
-    StandsForLines m (first ++ other_lines four (take n (enumerate_from 0 lines))) → ((h : List Entry) → Stands m h → IsApplied h n edit number reply m') → StandsForLines m' (first ++ other_lines four (take (n + 1) (enumerate_from 0 lines)))
-lines_next m m' first four lines n number edit reply l e a s k =
+pub lines_next : (h now new : List Entry) (four : List ℕ) (lines : List Edit) (n : ℕ) (edit : Edit) → n < length lines → edit ≡ slice_index_or lines n edit → is_among n four ≡ false →
+    now ≡ with_lines h (other_lines four (take n (enumerate_from 0 lines))) → new ≡ now ++ next_entry now n edit ∷ [] → new ≡ with_lines h (other_lines four (take (n + 1) (enumerate_from 0 lines)))
+lines_next h now new four lines n edit l e a s k =
     let f = filter_next (λ (line : ℕ × Edit). not (is_among line.0 four)) lines n edit l e ∙ ap (λ (b : Bool). other_lines four (take n (enumerate_from 0 lines)) ++ cond (not b) ((n, edit) ∷ []) []) a in
-    subst (StandsForLines m') (sym (behind_all first (other_lines four (take n (enumerate_from 0 lines))) ((n, edit) ∷ [])) ∙ ap (λ (t : List (ℕ × Edit)). first ++ t) (sym f))
-    (made_one m m' (first ++ other_lines four (take n (enumerate_from 0 lines))) n number edit reply s k)
+    k ∙ ap (λ (t : List Entry). t ++ next_entry t n edit ∷ []) s ∙ sym (with_lines_more h (other_lines four (take n (enumerate_from 0 lines))) (n, edit)) ∙ ap (with_lines h) (sym f)
 
 -- a line of the four is passed over
-pub lines_same : (m m' : InHand) (first : List (ℕ × Edit)) (four : List ℕ) (lines : List Edit) (n : ℕ) → n < length lines → is_among n four ≡ true → m' ≡ m →
-    StandsForLines m (first ++ other_lines four (take n (enumerate_from 0 lines))) → StandsForLines m' (first ++ other_lines four (take (n + 1) (enumerate_from 0 lines)))
-lines_same m m' first four lines n l a q s =
+pub lines_same : (h now : List Entry) (four : List ℕ) (lines : List Edit) (n : ℕ) → n < length lines → is_among n four ≡ true →
+    now ≡ with_lines h (other_lines four (take n (enumerate_from 0 lines))) → now ≡ with_lines h (other_lines four (take (n + 1) (enumerate_from 0 lines)))
+lines_same h now four lines n l a s =
     let d = slice_index_or lines n (Add 0) in
     let f = filter_next (λ (line : ℕ × Edit). not (is_among line.0 four)) lines n d l (same_line lines n l) ∙ ap (λ (b : Bool). other_lines four (take n (enumerate_from 0 lines)) ++ cond (not b) ((n, d) ∷ []) []) a ∙ nothing_behind (other_lines four (take n (enumerate_from 0 lines))) in
-    subst (λ (x : InHand). StandsForLines x (first ++ other_lines four (take (n + 1) (enumerate_from 0 lines)))) (sym q) (subst (λ (t : List (ℕ × Edit)). StandsForLines m (first ++ t)) (sym f) s)
+    s ∙ ap (with_lines h) (sym f)
   where
     same_line : (lines : List Edit) (n : ℕ) → n < length lines → slice_index_or lines n (Add 0) ≡ slice_index_or lines n (slice_index_or lines n (Add 0))
     same_line [] n l = absurd (omega (arith, l))
@@ -203,8 +209,8 @@ lines_same m m' first four lines n l a q s =
     same_line (x ∷ lines) (suc n) l = same_line lines n (omega (arith, l))
 
 -- all lines are made
-pub lines_all : (m : InHand) (first : List (ℕ × Edit)) (four : List ℕ) (lines : List Edit) (n : ℕ) → length lines ≤ n → StandsForLines m (first ++ other_lines four (take n (enumerate_from 0 lines))) → StandsForLines m (first ++ other_lines four (enumerate_from 0 lines))
-lines_all m first four lines n l s = subst (λ (t : List (ℕ × Edit)). StandsForLines m (first ++ other_lines four t)) (take_all n (enumerate_from 0 lines) (many 0 lines l)) s
+pub lines_all : (h now : List Entry) (four : List ℕ) (lines : List Edit) (n : ℕ) → length lines ≤ n → now ≡ with_lines h (other_lines four (take n (enumerate_from 0 lines))) → now ≡ with_lines h (other_lines four (enumerate_from 0 lines))
+lines_all h now four lines n l s = s ∙ ap (λ (t : List (ℕ × Edit)). with_lines h (other_lines four t)) (take_all n (enumerate_from 0 lines) (many 0 lines l))
   where
     many : (k : ℕ) (xs : List Edit) → length xs ≤ n → length (enumerate_from k xs) ≤ n
     many k xs l = (let c = count k xs in omega (arith, c, l))

@@ -8,7 +8,6 @@ ghost use Rattle.point_order.specs.Complex.{complex as complex_of};
 ghost use Rattle.point_order.specs.Sets.{IsAscending};
 ghost use Rattle.point_order.specs.Solid.{is_solid};
 ghost use Rattle.edit_files.specs.Content.{content};
-ghost use Rattle.cell_store.specs.Shares.{Stands};
 ghost use Rattle.mesh_files.specs.Report.{AreCounted, parts_of, shapes_seen};
 ghost use Rattle.delaunay_cli.specs.Report.{order_of as order_of_it, report_of, shapes_of as shapes_of_it, tags_of, text_of};
 ghost use Rattle.delaunay_cli.specs.Run.{history_of};
@@ -77,13 +76,14 @@ fn report<R>(
     mesh: &Mesh,
     kept: &[Entry],
 ) -> Result<Report, AllocError>
-    requires stands { Stands mesh.now kept.now }
+    requires history { mesh.now.history ≡ kept.now }
     requires radii { All (λ radius. radius < 2 ^ 30) file.now.radii.items }
     requires lines { length file.now.points.items + length file.now.edits.items < 2 ^ 32 }
     ensures report { IfOk result (λ report. parts_of report ≡ report_of asked.shape asked.order (content file.now) kept.now) }
     ensures order { IfOk result (λ report. IsAscending report.points.items) }
     ensures counted { IfOk result (λ report. AreCounted (shapes_seen report.shapes.items)) }
 {
+    let _ = mesh.hold();
     let points = points(alloc, mesh)?;
     let cells = complex(alloc, mesh)?;
     Ok(Report {

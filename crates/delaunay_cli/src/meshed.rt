@@ -1,14 +1,12 @@
 //! The mesh of a file's lines, made in the order of one thread.
 
-ghost use Rattle.std.specs.Prelude.{map, ◌≡◌, ◌<◌, ◌+◌, ◌^◌, ◌++◌, ℕ, List, Some, length, slice_index, option_map, IfOk, OnOk};
+ghost use Rattle.std.specs.Prelude.{map, ◌≡◌, ◌<◌, ◌≤◌, ◌+◌, ◌^◌, ◌++◌, Some, length, slice_index, option_map, IfOk, OnOk};
 ghost use Rattle.std.specs.List.{enumerate_from};
-ghost use Rattle.edit_history.specs.declared.history.Edit.{Edit};
 ghost use Rattle.edit_history.specs.declared.history.Edit.TheVariants.{Add};
 ghost use Rattle.edit_history.specs.OneThread.{one_thread, places};
 ghost use Rattle.edit_history.specs.Opening.{opening_four};
-ghost use Rattle.cell_store.specs.Shares.{Stands};
 ghost use Rattle.cavity.specs.Opening.{opening_history};
-ghost use Rattle.delaunay_cli.specs.Made.{tagged_points, StandsForLines, HasOpening, other_lines};
+ghost use Rattle.delaunay_cli.specs.Made.{tagged_points, with_lines, other_lines};
 
 use cell_store::{Grid, Mesh};
 use edit_history::Edit;
@@ -29,7 +27,7 @@ fn tagged_point(points: &[Point], i: usize) -> (u32, Point)
 fn opening(alloc: Global, points: &[Point], four: [usize; 4]) -> Result<Mesh, AllocError>
     requires found { option_map places (opening_four points.now) ≡ Some four }
     requires small { length points.now < 2 ^ 32 }
-    ensures { IfOk result (λ mesh. Stands mesh (opening_history (tagged_points points.now four))) }
+    ensures { IfOk result (λ mesh. mesh.history ≡ opening_history (tagged_points points.now four)) }
 {
     let Ok(grid) = Grid::new(4) else {
         unreachable!()
@@ -51,13 +49,12 @@ fn make_others(
     lines: &[Edit],
     four: [usize; 4],
 ) -> Result<(), AllocError>
-    requires opening { HasOpening mesh.old }
+    requires opening { length mesh.old.history ≤ 4 }
     requires small { length lines.now + 4 < 2 ^ 32 }
-    ensures { OnOk result ((first : List (ℕ × Edit)) → StandsForLines mesh.old first → StandsForLines mesh.new (first ++ other_lines four (enumerate_from 0 lines.now))) }
+    ensures { OnOk result (mesh.new.history ≡ with_lines mesh.old.history (other_lines four (enumerate_from 0 lines.now))) }
 {
     for tag in 0..lines.len() {
         if !four.contains(&tag) {
-            let _ = mesh.hold();
             apply(alloc, mesh, tag as u32, lines[tag])?;
         }
     }
@@ -82,9 +79,10 @@ pub fn meshed(
 ) -> Result<Mesh, AllocError>
     requires found { option_map places (opening_four points.now) ≡ Some four }
     requires small { length points.now + length edits.now + 4 < 2 ^ 32 }
-    ensures { IfOk result (λ mesh. Stands mesh (one_thread points.now edits.now)) }
+    ensures { IfOk result (λ mesh. mesh.history ≡ one_thread points.now edits.now) }
 {
     let mut mesh = opening(alloc, points, four)?;
+    let _ = mesh.hold();
     let lines = all_lines(alloc, points, edits)?;
     make_others(alloc, &mut mesh, &lines, four)?;
     Ok(mesh)

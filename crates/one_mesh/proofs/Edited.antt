@@ -1,5 +1,5 @@
 -- What edits make of a mesh.
-use Rattle.std.specs.Prelude.{◌≡◌, refl, ℕ, true, false, Bool, cond, List, [], ◌∷◌, ◌++◌, length, Option, None, Some, IsSome, MatchOption}
+use Rattle.std.specs.Prelude.{◌≡◌, refl, ℕ, ◌<◌, ◌^◌, true, false, Bool, cond, List, [], ◌∷◌, ◌++◌, length, Option, None, Some, IsSome, MatchOption}
 use Rattle.std.proofs.Common.{ap, sym, subst, ◌∙◌, arith}
 use Rattle.point_order.specs.Complex.{complex}
 use Rattle.point_order.specs.Sets.{IsIn, is_among, without_point}
@@ -16,8 +16,9 @@ use Rattle.del_laws.proofs.Tests.{among_true, among_from}
 use Rattle.cell_store.specs.Buckets.{InHand, bucket_at, points_in}
 use Rattle.cell_store.specs.Grids.{bucket_of}
 use Rattle.cell_store.specs.Changes.{IsNext, IsChange}
-use Rattle.cell_store.specs.Meshes.{IsCountOf}
-use Rattle.cell_store.specs.Shares.{Stands}
+use Rattle.cell_store.specs.Meshes.{MeshView, counted}
+use Rattle.cell_store.specs.Shares.{Stands, Shows}
+use Rattle.cell_store.proofs.ShareLaws.{stands_shows}
 use Rattle.cavity.specs.Growing.{IsInsertion}
 use Rattle.cavity.proofs.MeshGrowth.{held, not_held}
 use Rattle.cavity.proofs.NextEntry.{legal_more, replay_more}
@@ -26,11 +27,11 @@ use Rattle.cavity.proofs.Standing.{solid_set}
 use Rattle.cavity.specs.declared.fill_hole.Fresh.{Fresh}
 use Rattle.vertex_removal.specs.Refills.{IsRefilled}
 use Rattle.vertex_removal.proofs.NextEntry.{removal_is_next}
-use Rattle.one_mesh.specs.Applied.{HasFewEntries, IsNumbered, IsApplied, IsQuiet}
+use Rattle.one_mesh.specs.Applied.{IsQuiet, edited}
 
 -- the count is the next number
-pub numbered : (m : InHand) (n : ℕ) → IsCountOf m n → HasFewEntries m → IsNumbered m n
-numbered m n c few h st = (let e = c h st in let k = few h st in omega (arith, e, k))
+pub numbered : (l n : ℕ) → n ≡ counted l → l < 2 ^ 32 → n ≡ l
+numbered l n e k = omega (arith, e, k)
 
 -- an entry that changes nothing is the next
 pub quiet_next : (m : InHand) (h : List Entry) (e : Entry) → Stands m h → IsQuiet h e → IsNext h e [] []
@@ -50,27 +51,21 @@ quiet_next m h e st q = record {
     left = replay_more [] h e ∙ q.same
 
 -- the test of a bucket is that of the set
-pub among_is : (hold : InHand) (h : List Entry) (p : ℕ) (b : Bool) → Stands hold h → IsSome (bucket_at hold.places (bucket_of hold.grid p)) → b ≡ is_among p (points_in hold.places (bucket_of hold.grid p)) → b ≡ is_among p (replay h)
-among_is hold h p b st o e = by (is_among p (points_in hold.places (bucket_of hold.grid p))) refl
+pub among_is : (hold : InHand) (s : List ℕ) (p : ℕ) (b : Bool) → Shows hold s → IsSome (bucket_at hold.places (bucket_of hold.grid p)) → b ≡ is_among p (points_in hold.places (bucket_of hold.grid p)) → b ≡ is_among p s
+among_is hold s p b st o e = by (is_among p (points_in hold.places (bucket_of hold.grid p))) refl
   where
-    by : (t : Bool) → is_among p (points_in hold.places (bucket_of hold.grid p)) ≡ t → b ≡ is_among p (replay h)
-    by true q = e ∙ q ∙ sym (among_true p (replay h) (held hold h p st o q))
-    by false q = e ∙ q ∙ sym (none (is_among p (replay h)) refl)
+    by : (t : Bool) → is_among p (points_in hold.places (bucket_of hold.grid p)) ≡ t → b ≡ is_among p s
+    by true q = e ∙ q ∙ sym (among_true p s (held hold s p st o q))
+    by false q = e ∙ q ∙ sym (none (is_among p s) refl)
       where
-        none : (t : Bool) → is_among p (replay h) ≡ t → is_among p (replay h) ≡ false
-        none true r = absurd (not_held hold h p st o q (among_from p (replay h) r))
+        none : (t : Bool) → is_among p s ≡ t → is_among p s ≡ false
+        none true r = absurd (not_held hold s p st o q (among_from p s r))
         none false r = r
 
 -- the edit is made
-pub applied : (h : List Entry) (tag : ℕ) (edit : Edit) (n : ℕ) (reply : Reply) (m : InHand) (e : Entry) → n ≡ length h → reply ≡ reply_to (replay h) edit → e ≡ record { number = n; by = 0; tag = tag; edit = edit; reply = reply } → Stands m (h ++ e ∷ []) → IsApplied h tag edit n reply m
-applied h tag edit n reply m e k r is st = record {
-  number_is = k;
-  reply_is = r;
-  stands = subst (λ (x : Entry). Stands m (h ++ x ∷ [])) (is ∙ ap (λ (i : ℕ). entry i reply) k ∙ ap (λ (y : Reply). entry (length h) y) r) st;
-}
-  where
-    entry : ℕ → Reply → Entry
-    entry i y = record { number = i; by = 0; tag = tag; edit = edit; reply = y }
+pub applied : (old new : MeshView) (tag : ℕ) (edit : Edit) (n : ℕ) (reply : Reply) (e : Entry) → n ≡ length old.history → reply ≡ reply_to (replay old.history) edit → e ≡ record { number = n; by = 0; tag = tag; edit = edit; reply = reply } → new ≡ record old { history = old.history ++ e ∷ [] } → new ≡ edited old tag edit
+applied old new tag edit n reply e k r is st =
+    st ∙ ap (λ (x : Entry). record old { history = old.history ++ x ∷ [] }) (is ∙ (λ i. record { number = k i; by = 0; tag = tag; edit = edit; reply = r i }))
 
 -- ---- the replies
 
@@ -100,7 +95,7 @@ insertion h n tag p e k a is = subst (IsInsertion h) (sym is) (record { edit = r
 -- a removal is the next entry
 pub removal_next : (m : InHand) (h : List Entry) (n tag v : ℕ) (e : Entry) (gone fresh : List Cell) → Stands m h → IsIn v (replay h) → n ≡ length h → e ≡ record { number = n; by = 0; tag = tag; edit = Take v; reply = Removed } → IsRefilled (replay h) v gone fresh → IsNext h e gone fresh
 removal_next m h n tag v e gone fresh st i k is f =
-    subst (λ (x : Entry). IsNext h x gone fresh) (sym is) (removal_is_next h (record { number = n; by = 0; tag = tag; edit = Take v; reply = Removed }) v gone fresh st.legal (solid_set m h st) i refl k refl f)
+    subst (λ (x : Entry). IsNext h x gone fresh) (sym is) (removal_is_next h (record { number = n; by = 0; tag = tag; edit = Take v; reply = Removed }) v gone fresh st.legal (solid_set m (replay h) (stands_shows m h st)) i refl k refl f)
 
 -- what is found of a removal
 pub some_refilled : (s : List ℕ) (v : ℕ) (o : Option Fresh) (f : Fresh) → o ≡ Some f → MatchOption o (is_solid (without_point v s) ≡ false) (λ f. IsRefilled s v f.gone.items f.fresh.items) → IsRefilled s v f.gone.items f.fresh.items

@@ -9,17 +9,14 @@ use Rattle.point_order.specs.declared.cell.Cell.{Cell}
 use Rattle.point_order.specs.Sets.{IsIn, IsAscending}
 use Rattle.del_laws.proofs.Listed.{in_left, in_right, from_append}
 use Rattle.cell_store.specs.Buckets.{Content, InHand, bucket_at}
-use Rattle.cell_store.specs.Meshes.{IsMesh}
+use Rattle.cell_store.specs.Meshes.{IsWhole}
 use Rattle.cell_store.specs.Swaps.{AreSameCells}
 use Rattle.std.proofs.lemmas.Bool.Decides.{nat_tests}
 use Rattle.point_order.proofs.SetLaws.{same-members}
-use Rattle.edit_history.specs.declared.history.Entry.{Entry}
-use Rattle.edit_history.specs.Histories.{replay}
 use Rattle.del_laws.proofs.Tests.{filtered_true, filtered_from}
 use Rattle.cell_store.specs.Grids.{bucket_of}
-use Rattle.cell_store.specs.Shares.{Stands}
+use Rattle.cell_store.specs.Shares.{Shows}
 use Rattle.cell_store.proofs.GridLaws.{bucket-below}
-use Rattle.cell_store.proofs.ShareLaws.{ascending_replay}
 use Rattle.cell_store.proofs.MeshLaws.{in_moved, in_flat, flat_from, some_of, point_held}
 use Rattle.one_mesh.specs.Gathered.{HasMore}
 
@@ -84,37 +81,33 @@ pub nothing_more : {Y : Type 0} (a : List Y) → a ++ [] ≡ a
 nothing_more [] = refl
 nothing_more (x ∷ a) = ap (λ m. x ∷ m) (nothing_more a)
 
--- how many places there are
-pub places_of : (m hold : InHand) (g count : ℕ) → hold ≡ m → IsMesh m → g ≡ hold.grid → count ≡ g * g * g → length m.places ≡ count
-places_of m hold g count e i k c = i.has.places ∙ ap (λ (v : ℕ). v * v * v) (ap (λ (x : InHand). x.grid) (sym e) ∙ sym k) ∙ sym c
-
 -- the points of a bucket
 abbrev pub points_of_bucket : Option Content → List ℕ
 points_of_bucket o = option_map_or (λ c. c.points) o []
 
--- the points of all buckets are those that the history leaves
-pub points_are : (m : InHand) (h : List Entry) → IsMesh m → Stands m h → (p : ℕ) → IsIn p (flat_map points_of_bucket m.places) ↔ IsIn p (replay h)
-points_are m h i st p = (forth, back)
+-- the points of all buckets are those of the set that is shown
+pub points_are : (hold : InHand) (s : List ℕ) → IsWhole hold → Shows hold s → (p : ℕ) → IsIn p (flat_map points_of_bucket hold.places) ↔ IsIn p s
+points_are hold s w sh p = (forth, back)
   where
-    known : (b : ℕ) (o : Option Content) → bucket_at m.places b ≡ o → IsIn p (points_of_bucket o) → IsIn p (replay h)
+    known : (b : ℕ) (o : Option Content) → bucket_at hold.places b ≡ o → IsIn p (points_of_bucket o) → IsIn p s
     known b None e k = absurd k
-    known b (Some x) e k = (filtered_from (λ q. bucket_of m.grid q == b) (replay h) p (subst (λ (l : List ℕ). IsIn p l) ((st.shares b x e).points) k)).0
+    known b (Some x) e k = (filtered_from (λ q. bucket_of hold.grid q == b) s p (subst (λ (l : List ℕ). IsIn p l) ((sh.sights b x e).points) k)).0
 
-    forth : IsIn p (flat_map points_of_bucket m.places) → IsIn p (replay h)
-    forth k = let r = flat_from points_of_bucket m.places None p k in known r.0 (bucket_at m.places r.0) refl r.1
+    forth : IsIn p (flat_map points_of_bucket hold.places) → IsIn p s
+    forth k = let r = flat_from points_of_bucket hold.places None p k in known r.0 (bucket_at hold.places r.0) refl r.1
 
-    back : IsIn p (replay h) → IsIn p (flat_map points_of_bucket m.places)
+    back : IsIn p s → IsIn p (flat_map points_of_bucket hold.places)
     back k =
-        let b = bucket_of m.grid p in
-        let x = some_of (bucket_at m.places b) (point_held m p i.has i.all) in
-        let j = filtered_true (λ q. bucket_of m.grid q == b) (replay h) p k (same b) in
-        in_flat points_of_bucket m.places b None p (subst (λ n. b < n) (sym i.has.places) (bucket-below m.grid p i.has.size))
-        (subst (λ o. IsIn p (points_of_bucket o)) (sym x.1) (subst (λ (l : List ℕ). IsIn p l) (sym (st.shares b x.0 x.1).points) j))
+        let b = bucket_of hold.grid p in
+        let x = some_of (bucket_at hold.places b) (point_held hold p w.has w.all) in
+        let j = filtered_true (λ q. bucket_of hold.grid q == b) s p k (same b) in
+        in_flat points_of_bucket hold.places b None p (subst (λ n. b < n) (sym w.has.places) (bucket-below hold.grid p w.has.size))
+        (subst (λ o. IsIn p (points_of_bucket o)) (sym x.1) (subst (λ (l : List ℕ). IsIn p l) (sym (sh.sights b x.0 x.1).points) j))
       where
         same : (b : ℕ) → (b == b) ≡ true
         same b = grind (arith, nat_tests)
 
 -- in order they are the set
-pub points_in : (m : InHand) (h : List Entry) (points : List ℕ) → IsMesh m → Stands m h → IsAscending points → ((p : ℕ) → IsIn p (flat_map points_of_bucket m.places) ↔ IsIn p points) → points ≡ replay h
-points_in m h points i st a s =
-    same-members points (replay h) a (ascending_replay h) (λ p k. (points_are m h i st p).0 ((s p).1 k)) (λ p k. (s p).0 ((points_are m h i st p).1 k))
+pub points_in : (hold : InHand) (s points : List ℕ) → IsWhole hold → Shows hold s → IsAscending points → ((p : ℕ) → IsIn p (flat_map points_of_bucket hold.places) ↔ IsIn p points) → points ≡ s
+points_in hold s points w sh a f =
+    same-members points s a sh.ascending (λ p k. (points_are hold s w sh p).0 ((f p).1 k)) (λ p k. (f p).0 ((points_are hold s w sh p).1 k))

@@ -1,18 +1,15 @@
 //! Edits of a mesh, one by one.
 
-ghost use Rattle.std.specs.Prelude.{◌≡◌, List, [], ◌∷◌, ◌++◌, false, MatchOption, IfOk, OnOk, OnErr};
+ghost use Rattle.std.specs.Prelude.{◌≡◌, ◌<◌, ◌^◌, [], ◌∷◌, ◌++◌, false, length, MatchOption, IfOk, OnOk, OnErr};
 ghost use Rattle.point_order.specs.Sets.{IsIn, is_among, without_point};
 ghost use Rattle.point_order.specs.Solid.{is_solid};
 ghost use Rattle.edit_history.specs.declared.history.Edit.TheVariants.{Add, Take};
+ghost use Rattle.edit_history.specs.Edits.{reply_to};
 ghost use Rattle.edit_history.specs.Histories.{replay};
-ghost use Rattle.edit_history.specs.declared.history.Entry.{Entry};
-ghost use Rattle.cell_store.specs.Changes.{IsNext};
-ghost use Rattle.cell_store.specs.Meshes.{IsMesh, Continues};
-ghost use Rattle.cell_store.specs.Shares.{Stands};
+ghost use Rattle.cell_store.specs.Meshes.{IsHoldOf};
 ghost use Rattle.cavity.specs.Opening.{opening_history, AreIndependent};
-ghost use Rattle.vertex_removal.specs.Turns.{StandsWithPoint};
 ghost use Rattle.vertex_removal.specs.Refills.{IsRefilled};
-ghost use Rattle.one_mesh.specs.Applied.{HasFewEntries, IsNumbered, IsApplied, IsAsBefore, IsQuiet, CanNote};
+ghost use Rattle.one_mesh.specs.Applied.{IsQuiet, edited};
 
 use cavity::{Fresh, insert, open_mesh};
 use cell_store::{Grid, Mesh};
@@ -34,8 +31,7 @@ pub struct Receipt {
 /// Want of memory.
 pub fn begin(alloc: Global, grid: Grid, four: [(u32, Point); 4]) -> Result<Mesh, AllocError>
     requires { AreIndependent four }
-    ensures grid { IfOk result (λ mesh. mesh.grid ≡ grid) }
-    ensures stands { IfOk result (λ mesh. Stands mesh (opening_history four)) }
+    ensures { IfOk result (λ mesh. mesh ≡ record { grid = grid; history = opening_history four }) }
 {
     open_mesh(alloc, grid, four)
 }
@@ -53,50 +49,31 @@ fn entry_of(number: u64, tag: u32, edit: Edit, reply: Reply) -> Entry
     }
 }
 
-// Makes the change of an entry, which is the next.
-fn change(
-    alloc: Global,
-    mesh: &mut Mesh,
-    gone: &[Cell],
-    fresh: &[Cell],
-    entry: Entry,
-) -> Result<(), AllocError>
-    requires { Continues mesh.old entry gone.now fresh.now }
-    ensures stands { OnOk result ((h : List Entry) → Stands mesh.old h → IsNext h entry gone.now fresh.now → Stands mesh.new (h ++ entry ∷ [])) }
-    ensures refused { OnErr result (IsAsBefore mesh.old mesh.new) }
-    ensures grid { mesh.new.grid ≡ mesh.old.grid }
-{
-    mesh.reserve(alloc, gone, fresh, entry.edit.point())?;
-    mesh.change(gone, fresh, entry);
-    Ok(())
-}
-
 // Notes an edit that changes nothing but the history.
 fn note(alloc: Global, mesh: &mut Mesh, entry: Entry) -> Result<(), AllocError>
-    requires { CanNote mesh.old entry }
-    ensures stands { OnOk result ((h : List Entry) → Stands mesh.old h → IsQuiet h entry → Stands mesh.new (h ++ entry ∷ [])) }
-    ensures refused { OnErr result (IsAsBefore mesh.old mesh.new) }
-    ensures grid { mesh.new.grid ≡ mesh.old.grid }
+    requires { IsQuiet mesh.old.history entry }
+    ensures noted { OnOk result (mesh.new ≡ record mesh.old { history = mesh.old.history ++ entry ∷ [] }) }
+    ensures refused { OnErr result (mesh.new ≡ mesh.old) }
 {
     let none: [Cell; 0] = [];
-    change(alloc, mesh, &none, &none, entry)?;
+    let _ = mesh.hold();
+    mesh.change(alloc, &none, &none, entry)?;
     Ok(())
 }
 
 // Whether the point is one of those that the mesh's history leaves.
 pub(crate) fn has_point(mesh: &Mesh, p: Point) -> bool
-    ensures mesh { IsMesh mesh.now }
-    ensures is { (h : List Entry) → Stands mesh.now h → result ≡ is_among p (replay h) }
+    ensures { result ≡ is_among p (replay mesh.now.history) }
 {
     mesh.hold().holds_point(p)
 }
 
 // Adds a point.
 fn add(alloc: Global, mesh: &mut Mesh, number: u64, tag: u32, p: Point) -> Result<Reply, AllocError>
-    requires { IsNumbered mesh.old number }
-    ensures applied { IfOk result (λ reply. (h : List Entry) → Stands mesh.old h → IsApplied h tag (Add p) number reply mesh.new) }
-    ensures refused { OnErr result (IsAsBefore mesh.old mesh.new) }
-    ensures grid { mesh.new.grid ≡ mesh.old.grid }
+    requires { number ≡ length mesh.old.history }
+    ensures applied { OnOk result (mesh.new ≡ edited mesh.old tag (Add p)) }
+    ensures reply { IfOk result (λ reply. reply ≡ reply_to (replay mesh.old.history) (Add p)) }
+    ensures refused { OnErr result (mesh.new ≡ mesh.old) }
 {
     if has_point(mesh, p) {
         note(
@@ -117,8 +94,8 @@ fn add(alloc: Global, mesh: &mut Mesh, number: u64, tag: u32, p: Point) -> Resul
 
 // What the removal of a point changes; none where the rest is flat.
 fn refilled(alloc: Global, mesh: &Mesh, v: Point) -> Result<Option<Fresh>, AllocError>
-    requires { StandsWithPoint mesh.now v }
-    ensures { IfOk result (λ found. (h : List Entry) → Stands mesh.now h → MatchOption found (is_solid (without_point v (replay h)) ≡ false) (λ f. IsRefilled (replay h) v f.gone.items f.fresh.items)) }
+    requires { IsIn v (replay mesh.now.history) }
+    ensures { IfOk result (λ found. MatchOption found (is_solid (without_point v (replay mesh.now.history)) ≡ false) (λ f. IsRefilled (replay mesh.now.history) v f.gone.items f.fresh.items)) }
 {
     let hold = mesh.hold();
     let mut refill = Refill::start(alloc, v)?;
@@ -137,16 +114,17 @@ fn take_there(
     tag: u32,
     v: Point,
 ) -> Result<Reply, AllocError>
-    requires number { IsNumbered mesh.old number }
-    requires there { StandsWithPoint mesh.old v }
-    ensures applied { IfOk result (λ reply. (h : List Entry) → Stands mesh.old h → IsIn v (replay h) → IsApplied h tag (Take v) number reply mesh.new) }
-    ensures refused { OnErr result (IsAsBefore mesh.old mesh.new) }
-    ensures grid { mesh.new.grid ≡ mesh.old.grid }
+    requires number { number ≡ length mesh.old.history }
+    requires there { IsIn v (replay mesh.old.history) }
+    ensures applied { OnOk result (mesh.new ≡ edited mesh.old tag (Take v)) }
+    ensures reply { IfOk result (λ reply. reply ≡ reply_to (replay mesh.old.history) (Take v)) }
+    ensures refused { OnErr result (mesh.new ≡ mesh.old) }
 {
     match refilled(alloc, mesh, v)? {
         Some(f) => {
             let entry = entry_of(number, tag, Edit::Take(v), Reply::Removed);
-            change(alloc, mesh, &f.gone, &f.fresh, entry)?;
+            let _ = mesh.hold();
+            mesh.change(alloc, &f.gone, &f.fresh, entry)?;
             Ok(Reply::Removed)
         }
         None => {
@@ -168,10 +146,10 @@ fn take(
     tag: u32,
     v: Point,
 ) -> Result<Reply, AllocError>
-    requires { IsNumbered mesh.old number }
-    ensures applied { IfOk result (λ reply. (h : List Entry) → Stands mesh.old h → IsApplied h tag (Take v) number reply mesh.new) }
-    ensures refused { OnErr result (IsAsBefore mesh.old mesh.new) }
-    ensures grid { mesh.new.grid ≡ mesh.old.grid }
+    requires { number ≡ length mesh.old.history }
+    ensures applied { OnOk result (mesh.new ≡ edited mesh.old tag (Take v)) }
+    ensures reply { IfOk result (λ reply. reply ≡ reply_to (replay mesh.old.history) (Take v)) }
+    ensures refused { OnErr result (mesh.new ≡ mesh.old) }
 {
     if has_point(mesh, v) {
         let reply = take_there(alloc, mesh, number, tag, v)?;
@@ -194,10 +172,11 @@ fn take(
 /// # Errors
 /// Want of memory. The mesh is then as before.
 pub fn apply(alloc: Global, mesh: &mut Mesh, tag: u32, edit: Edit) -> Result<Receipt, AllocError>
-    requires { HasFewEntries mesh.old }
-    ensures applied { IfOk result (λ r. (h : List Entry) → Stands mesh.old h → IsApplied h tag edit r.number r.reply mesh.new) }
-    ensures refused { OnErr result (IsAsBefore mesh.old mesh.new) }
-    ensures grid { mesh.new.grid ≡ mesh.old.grid }
+    requires { length mesh.old.history < 2 ^ 32 }
+    ensures applied { OnOk result (mesh.new ≡ edited mesh.old tag edit) }
+    ensures number { IfOk result (λ r. r.number ≡ length mesh.old.history) }
+    ensures reply { IfOk result (λ r. r.reply ≡ reply_to (replay mesh.old.history) edit) }
+    ensures refused { OnErr result (mesh.new ≡ mesh.old) }
 {
     let number = mesh.count();
     let reply = match edit {

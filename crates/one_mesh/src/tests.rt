@@ -1,7 +1,6 @@
 //! Worked rows: points and edits with the replies, the history and the complex that they are to give, on grids of three sizes.
 
 ghost use Rattle.std.specs.Prelude.{◌≡◌, ◌<◌, length, slice_index, IfOk};
-ghost use Rattle.cell_store.specs.Meshes.{StandsForSome};
 
 use crate::{NotSolid, apply, begin, complex, find_four, history, points};
 use cell_store::{Grid, Mesh};
@@ -281,7 +280,6 @@ fn line_at(points: &[Point], i: usize) -> Result<(u32, Point), Fail>
 
 // The mesh of the four points that the history of these begins with.
 pub fn mesh_of(alloc: Global, grid: Grid, points: &[Point]) -> Result<Mesh, Fail>
-    ensures { IfOk result StandsForSome }
 {
     let four = find_four(points)?;
     let a = line_at(points, four[0])?;

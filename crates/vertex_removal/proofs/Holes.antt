@@ -8,8 +8,6 @@ use Rattle.point_order.specs.Complex.{complex}
 use Rattle.point_order.specs.Facets.{points_of}
 use Rattle.point_order.specs.Sets.{IsIn, is_among, without_point}
 use Rattle.point_order.specs.Solid.{is_solid}
-use Rattle.edit_history.specs.declared.history.Entry.{Entry}
-use Rattle.edit_history.specs.Histories.{replay}
 use Rattle.del_laws.proofs.Decide.{is_in}
 use Rattle.del_laws.proofs.PointSets.{solid_more}
 use Rattle.del_laws.proofs.Tests.{filtered_from, filtered_true}
@@ -20,20 +18,20 @@ use Rattle.hole_laws.proofs.Rest.{rest_set, rest_new}
 use Rattle.cell_store.specs.Grids.{bucket_of}
 use Rattle.cell_store.specs.Buckets.{InHand, bucket_at}
 use Rattle.cell_store.specs.Ready.{AreHeld}
-use Rattle.cell_store.specs.Shares.{Stands}
+use Rattle.cell_store.specs.Shares.{Shows}
 use Rattle.cell_store.proofs.MeshLaws.{some_of}
 use Rattle.vertex_removal.specs.Near.{AreTaken}
 use Rattle.vertex_removal.specs.Refills.{IsRefilled}
 use Rattle.vertex_removal.proofs.Star.{star_list, star_once}
 
--- a point whose bucket is in hand is there after each history for which the hold stands, or after none
-pub still_there : (hold : InHand) (h k : List Entry) (v : ℕ) → Stands hold h → Stands hold k → IsSome (bucket_at hold.places (bucket_of hold.grid v)) → IsIn v (replay h) → IsIn v (replay k)
+-- a point whose bucket is in hand is in each set that the hold shows, or in none
+pub still_there : (hold : InHand) (h k : List ℕ) (v : ℕ) → Shows hold h → Shows hold k → IsSome (bucket_at hold.places (bucket_of hold.grid v)) → IsIn v h → IsIn v k
 still_there hold h k v st sk o m =
     let b = bucket_of hold.grid v in
     let x = some_of (bucket_at hold.places b) o in
-    let i = filtered_true (λ p. bucket_of hold.grid p == b) (replay h) v m (eq-eqb b b refl) in
-    let e = sym (st.shares b x.0 x.1).points ∙ (sk.shares b x.0 x.1).points in
-    (filtered_from (λ p. bucket_of hold.grid p == b) (replay k) v (subst (λ (l : List ℕ). IsIn v l) e i)).0
+    let i = filtered_true (λ p. bucket_of hold.grid p == b) h v m (eq-eqb b b refl) in
+    let e = sym (st.sights b x.0 x.1).points ∙ (sk.sights b x.0 x.1).points in
+    (filtered_from (λ p. bucket_of hold.grid p == b) k v (subst (λ (l : List ℕ). IsIn v l) e i)).0
 
 module _ (s : List ℕ) (v : ℕ) (i : IsSet s) (m : IsIn v s) (t : List ℕ) (l : IsLinkSet s v t) where
   -- the rest is solid

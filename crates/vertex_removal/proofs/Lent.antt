@@ -6,19 +6,15 @@ use Rattle.std.proofs.lemmas.List.{get_or-set_same, get_or-set_other}
 use Rattle.point_order.specs.Sets.{IsIn}
 use Rattle.cell_store.specs.Buckets.{InHand, Content, bucket_at, no_room}
 use Rattle.cell_store.specs.Grids.{bucket_of}
-use Rattle.cell_store.specs.Meshes.{IsMesh, AreAmong}
-use Rattle.cell_store.proofs.MeshLaws.{point_held, fewer_stand}
-use Rattle.cavity.specs.Growing.{StandsForPoints}
+use Rattle.cell_store.specs.Meshes.{MeshView, IsHoldOf, AreAmong}
+use Rattle.cell_store.specs.Shares.{Shows, IsSight}
+use Rattle.edit_history.specs.Histories.{replay}
+use Rattle.cavity.proofs.MeshGrowth.{shows_of}
 use Rattle.vertex_removal.specs.Turns.{StandsWithPoint}
 
--- the mesh stands for a history that leaves each of its points
-pub stands_with : (mesh hold : InHand) (t : List ℕ) (v r : ℕ) → hold ≡ mesh → StandsForPoints mesh t → IsIn v t → r ≡ v → StandsWithPoint hold r
-stands_with mesh hold t v r e k m same =
-    subst (λ (x : InHand). StandsWithPoint x r) (sym e) (k.0, k.1, subst (λ (s : List ℕ). IsIn r s) (sym k.2) (subst (λ (p : ℕ). IsIn p t) (sym same) m))
-
--- and each point's bucket is in hand
-pub held_with : (mesh hold : InHand) (r : ℕ) → hold ≡ mesh → IsMesh mesh → IsSome (bucket_at hold.places (bucket_of hold.grid r))
-held_with mesh hold r e k = subst (λ (x : InHand). IsSome (bucket_at x.places (bucket_of x.grid r))) (sym e) (point_held mesh r k.has k.all)
+-- the hold of the mesh shows a set with each of its points
+pub stands_with : (mesh : MeshView) (hold : InHand) (t : List ℕ) (v r : ℕ) → IsHoldOf mesh hold → replay mesh.history ≡ t → IsIn v t → r ≡ v → StandsWithPoint hold r
+stands_with mesh hold t v r i e m same = (t, subst (Shows hold) e (shows_of mesh hold i), subst (λ (p : ℕ). IsIn p t) (sym same) m)
 
 -- a bucket in hand is one of the places
 placed : (places : List (Option Content)) (b : ℕ) → IsSome (bucket_at places b) → b < length places
@@ -26,9 +22,12 @@ placed [] b s = cc
 placed (o ∷ places) zero s = omega arith
 placed (o ∷ places) (suc b) s = let k = placed places b s in omega (arith, k)
 
--- without a bucket it stands for the same
+fewer_show : (few many : InHand) (s : List ℕ) → AreAmong few many → Shows many s → Shows few s
+fewer_show few many s am sh = record { ascending = sh.ascending; keys = sh.keys; solid = sh.solid; sights = λ b c e. subst (λ g. IsSight g b s c) (sym am.grid) (sh.sights b c (am.buckets b c e)) }
+
+-- without a bucket it shows the same
 pub stands_without : (hold taken : InHand) (b r : ℕ) → IsSome (bucket_at hold.places b) → taken ≡ record hold { places = slice_set hold.places b None; room = no_room } → StandsWithPoint hold r → StandsWithPoint taken r
-stands_without hold taken b r s e k = (k.0, fewer_stand taken hold k.0 among k.1, k.2)
+stands_without hold taken b r s e k = (k.0, fewer_show taken hold k.0 among k.1, k.2)
   where
     places : taken.places ≡ slice_set hold.places b None
     places = ap (λ (x : InHand). x.places) e

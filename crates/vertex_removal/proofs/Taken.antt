@@ -12,7 +12,6 @@ use Rattle.point_order.specs.Complex.{complex}
 use Rattle.point_order.specs.Coordinates.{IsKey}
 use Rattle.point_order.specs.Facets.{points_of}
 use Rattle.point_order.specs.Sets.{IsIn, with_point}
-use Rattle.edit_history.specs.declared.history.Entry.{Entry}
 use Rattle.edit_history.specs.Histories.{replay}
 use Rattle.del_laws.proofs.Listed.{in_left, in_right, from_append}
 use Rattle.del_laws.proofs.Ordered.{complex_is_sorted}
@@ -20,59 +19,38 @@ use Rattle.del_laws.proofs.Tests.{filtered_from, filtered_true}
 use Rattle.hole_laws.specs.Edits.{IsNew, GoesFrom, StaysFrom}
 use Rattle.cell_store.specs.Buckets.{InHand, Content, bucket_at}
 use Rattle.cell_store.specs.Grids.{bucket_of, is_grid_size}
-use Rattle.cell_store.specs.Meshes.{IsMesh}
-use Rattle.cell_store.specs.Shares.{Stands, NoneInHand}
+use Rattle.cell_store.specs.Meshes.{IsWhole, MeshView, IsHoldOf}
+use Rattle.cell_store.specs.Shares.{Shows, NoneInHand}
 use Rattle.cell_store.specs.Swaps.{touches}
 use Rattle.cell_store.proofs.GridLaws.{bucket-below}
 use Rattle.cell_store.proofs.MeshLaws.{in_moved, point_held}
 use Rattle.cell_store.proofs.ShareLaws.{touched}
-use Rattle.cavity.specs.Growing.{StandsForPoints}
-use Rattle.cavity.specs.Judging.{StandsWithNew}
 use Rattle.cavity.proofs.Held.{not_some}
 use Rattle.cavity.proofs.Lists.{distinct_push}
 use Rattle.cavity.proofs.Searching.{some_point, none_in}
-use Rattle.cavity.proofs.Standing.{solid_set}
+use Rattle.cavity.proofs.MeshGrowth.{shows_of}
 use Rattle.vertex_removal.specs.Near.{AreTaken}
 use Rattle.vertex_removal.proofs.Once.{moved_once}
 
--- a mesh of one bucket for the points t, of which v is none
+-- a whole hold of one bucket that shows the points t, of which v is none
 pub record IsSmall (hold : InHand) (t : List ℕ) (v : ℕ) : Type 0 where
-  pub mesh : IsMesh hold
+  pub whole : IsWhole hold
   pub grid : hold.grid ≡ 1
   pub new : IsNew t v
-  pub history : List Entry
-  pub stands : Stands hold history
-  pub same : replay history ≡ t
+  pub shown : Shows hold t
 
-pub small_of : (mesh hold : InHand) (g : ℕ) (t : List ℕ) (v : ℕ) → hold ≡ mesh → IsMesh mesh → mesh.grid ≡ g → g ≡ 1 → StandsForPoints mesh t → IsKey v → ¬ (IsIn v t) → IsSmall hold t v
-small_of mesh hold g t v e k at one st key absent = subst (λ (m : InHand). IsSmall m t v) (sym e) (record {
-  mesh = k;
-  grid = at ∙ one;
+pub small_of : (mesh : MeshView) (hold : InHand) (g : ℕ) (t : List ℕ) (v : ℕ) → IsHoldOf mesh hold → mesh.grid ≡ g → g ≡ 1 → replay mesh.history ≡ t → IsKey v → ¬ (IsIn v t) → IsSmall hold t v
+small_of mesh hold g t v i at one e key absent = record {
+  whole = i.whole;
+  grid = i.grid ∙ at ∙ one;
   new = record { key = key; absent = absent };
-  history = st.0;
-  stands = st.1;
-  same = st.2;
-})
+  shown = subst (Shows hold) e (shows_of mesh hold i);
+}
 
-module _ (hold : InHand) (t : List ℕ) (v : ℕ) (k : IsSmall hold t v) (c : Cell) (m : IsIn c (complex t)) where
-  -- its cells can be judged
-  listed : IsIn c (complex (replay k.history))
-  listed = subst (λ (s : List ℕ). IsIn c (complex s)) (sym k.same) m
-
-  new : IsNew (replay k.history) v
-  new = subst (λ (s : List ℕ). IsNew s v) (sym k.same) k.new
-
-  pub can_judge : StandsWithNew hold c v
-  can_judge = (k.history, k.stands, listed, new)
-
-  pub some_held : ¬ (NoneInHand hold (points_of c))
-  some_held none =
-      let e = some_point (replay k.history) (solid_set hold k.history k.stands).set.ascending c listed in
-      not_some (bucket_at hold.places (bucket_of hold.grid e.0)) (none e.0 e.1) (point_held hold e.0 k.mesh.has k.mesh.all)
-
-  -- what is said of each history is said of these points
-  pub said_of_points : (P : List ℕ → Type 0) → ((h : List Entry) → Stands hold h → IsNew (replay h) v → IsIn c (complex (replay h)) → P (replay h)) → P t
-  said_of_points P f = subst P k.same (f k.history k.stands new listed)
+pub some_held : (hold : InHand) (t : List ℕ) (v : ℕ) → IsSmall hold t v → (c : Cell) → IsIn c (complex t) → ¬ (NoneInHand hold (points_of c))
+some_held hold t v k c m none =
+    let e = some_point t k.shown.ascending c m in
+    not_some (bucket_at hold.places (bucket_of hold.grid e.0)) (none e.0 e.1) (point_held hold e.0 k.whole.has k.whole.all)
 
 -- cells that are taken away, and the rest, which are still to be judged
 pub record IsJudged (t : List ℕ) (v : ℕ) (rest taken : List Cell) : Type 0 where
@@ -93,34 +71,28 @@ in_bucket s g c e f m =
 
 -- at first all are to be judged
 pub judged_first : (hold : InHand) (t : List ℕ) (v : ℕ) (x : Content) (rest : List Cell) → IsSmall hold t v → bucket_at hold.places 0 ≡ Some x → IsPermutation x.cells rest → IsJudged t v rest []
-judged_first hold t v x rest k at moved = subst (λ (s : List ℕ). IsJudged s v rest []) k.same first
+judged_first hold t v x rest k at moved = first
   where
-    h : List Entry
-    h = k.history
-
-    st : Stands hold h
-    st = k.stands
-
     one : hold.grid ≡ 1
     one = k.grid
 
-    share : x.cells ≡ filter (touches hold.grid 0) (complex (replay h))
-    share = (st.shares 0 x at).cells
+    share : x.cells ≡ filter (touches hold.grid 0) (complex t)
+    share = (k.shown.sights 0 x at).cells
 
     sorted : IsStrictlySortedBy cell_cmp x.cells
-    sorted = subst (λ (l : List Cell). IsStrictlySortedBy cell_cmp l) (sym share) (IsStrictlySortedBy-filter cell_cmp (touches hold.grid 0) (complex (replay h)) (complex_is_sorted (replay h) (solid_set hold h st).set.ascending))
+    sorted = subst (λ (l : List Cell). IsStrictlySortedBy cell_cmp l) (sym share) (IsStrictlySortedBy-filter cell_cmp (touches hold.grid 0) (complex t) (complex_is_sorted t k.shown.ascending))
 
-    touch : (c : Cell) → IsIn c (complex (replay h)) → touches hold.grid 0 c ≡ true
-    touch c m = in_bucket (replay h) hold.grid c one (λ d n. (let e = some_point (replay h) (solid_set hold h st).set.ascending d n in (e.0, touched hold.grid e.0 (bucket_of hold.grid e.0) d refl e.1, bucket-below hold.grid e.0 (subst (λ g. is_grid_size g ≡ true) (sym one) refl)))) m
+    touch : (c : Cell) → IsIn c (complex t) → touches hold.grid 0 c ≡ true
+    touch c m = in_bucket t hold.grid c one (λ d n. (let e = some_point t k.shown.ascending d n in (e.0, touched hold.grid e.0 (bucket_of hold.grid e.0) d refl e.1, bucket-below hold.grid e.0 (subst (λ g. is_grid_size g ≡ true) (sym one) refl)))) m
 
-    first : IsJudged (replay h) v rest []
+    first : IsJudged t v rest []
     first = record {
       rest_once = moved_once x.cells rest sorted moved;
-      rest_listed = λ c i. (filtered_from (touches hold.grid 0) (complex (replay h)) c (subst (λ (l : List Cell). IsIn c l) share (in_moved x.cells rest c moved i))).0;
+      rest_listed = λ c i. (filtered_from (touches hold.grid 0) (complex t) c (subst (λ (l : List Cell). IsIn c l) share (in_moved x.cells rest c moved i))).0;
       once = tt;
       goes = λ c i. absurd i;
       apart = λ c i k. i;
-      whole = λ c g. inl (in_moved rest x.cells c (IsPermutation-sym x.cells rest moved) (subst (λ (l : List Cell). IsIn c l) (sym share) (filtered_true (touches hold.grid 0) (complex (replay h)) c g.before (touch c g.before))));
+      whole = λ c g. inl (in_moved rest x.cells c (IsPermutation-sym x.cells rest moved) (subst (λ (l : List Cell). IsIn c l) (sym share) (filtered_true (touches hold.grid 0) (complex t) c g.before (touch c g.before))));
     }
 
 module _ (t : List ℕ) (v : ℕ) (rest left taken : List Cell) (c : Cell) (j : IsJudged t v rest taken) (steps : rest ≡ c ∷ left) where

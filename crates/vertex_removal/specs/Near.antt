@@ -6,13 +6,11 @@ use Rattle.point_order.specs.declared.cell.Facet.{Facet}
 use Rattle.point_order.specs.Complex.{complex}
 use Rattle.point_order.specs.Facets.{facets_of, points_of}
 use Rattle.point_order.specs.Sets.{IsIn, IsAscending}
-use Rattle.edit_history.specs.declared.history.Entry.{Entry}
-use Rattle.edit_history.specs.Histories.{replay}
 use Rattle.hole_laws.specs.Edits.{GoesFrom}
 use Rattle.cell_store.specs.Buckets.{InHand}
 use Rattle.cell_store.specs.Others.{IsOtherOf}
 use Rattle.cell_store.specs.Ready.{AreHeld}
-use Rattle.cell_store.specs.Shares.{Stands}
+use Rattle.cell_store.specs.Shares.{Shows}
 
 -- exactly the cells of the complex of s that have v
 abbrev pub IsStar : List ℕ → ℕ → List Cell → Type 0
@@ -21,9 +19,9 @@ IsStar s v cells = (c : Cell) → IsIn c cells ↔ (IsIn c (complex s) × IsIn v
 -- the hold stands for a history in which these are the cells at v, and the buckets of all their points are in hand
 pub record StandsForStar (hold : InHand) (v : ℕ) (star : List Cell) : Type 0 where
   pub held : AreHeld hold star
-  pub history : List Entry
-  pub stands : Stands hold history
-  pub star_is : IsStar (replay history) v star
+  pub history : List ℕ
+  pub stands : Shows hold history
+  pub star_is : IsStar history v star
 
 -- one of the cells has the point
 pub record HasPoint (cells : List Cell) (e : ℕ) : Type 0 where

@@ -5,11 +5,9 @@ use Rattle.point_order.specs.Complex.{complex}
 use Rattle.point_order.specs.Facets.{points_of}
 use Rattle.point_order.specs.Sets.{IsIn, without_point}
 use Rattle.point_order.specs.Solid.{is_solid}
-use Rattle.edit_history.specs.declared.history.Entry.{Entry}
-use Rattle.edit_history.specs.Histories.{replay}
 use Rattle.cell_store.specs.Grids.{bucket_of}
 use Rattle.cell_store.specs.Buckets.{InHand, bucket_at}
-use Rattle.cell_store.specs.Shares.{Stands}
+use Rattle.cell_store.specs.Shares.{Shows}
 use Rattle.cell_store.specs.Ready.{AreHeld}
 use Rattle.vertex_removal.specs.declared.refill.RefillTurn.{RefillTurn}
 use Rattle.vertex_removal.specs.declared.refill.RefillTurn.TheVariants.{Done, Flat, Need}
@@ -17,7 +15,7 @@ use Rattle.vertex_removal.specs.Refills.{IsRefilled}
 
 -- the hold stands for a history that leaves v
 abbrev pub StandsWithPoint : InHand → ℕ → Type 0
-StandsWithPoint hold v = (h : List Entry) × Stands hold h × IsIn v (replay h)
+StandsWithPoint hold v = (h : List ℕ) × Shows hold h × IsIn v h
 
 -- bucket b is not in hand, and has a finite point of a cell at v
 pub record IsNeeded (hold : InHand) (s : List ℕ) (v b : ℕ) : Type 0 where

@@ -6,12 +6,10 @@ ghost use Rattle.point_order.specs.Complex.{complex};
 ghost use Rattle.point_order.specs.Facets.{facets_of, points_of};
 ghost use Rattle.point_order.specs.Sets.{IsIn, IsAscending, is_among, without_point};
 ghost use Rattle.point_order.specs.Solid.{is_solid as is_solid_of};
-ghost use Rattle.edit_history.specs.declared.history.Entry.{Entry};
-ghost use Rattle.edit_history.specs.Histories.{replay};
 ghost use Rattle.hole_laws.specs.Edits.{IsLinkSet};
 ghost use Rattle.cell_store.specs.Buckets.{bucket_at, cells_in};
 ghost use Rattle.cell_store.specs.Grids.{bucket_of};
-ghost use Rattle.cell_store.specs.Shares.{Stands, StandsWith};
+ghost use Rattle.cell_store.specs.Shares.{Shows, ShowsWith};
 ghost use Rattle.cavity.specs.Exploring.{ArePointsHeld};
 ghost use Rattle.vertex_removal.specs.Near.{IsStar, StandsForStar, ArePointsBut, AreSamePoints, AreAdded, IsOneOf, IsOfOne};
 
@@ -25,7 +23,7 @@ use std::alloc::{AllocError, Global};
 // The cells at a point whose bucket is in hand, in ascending order.
 pub(crate) fn star_of(alloc: Global, hold: &Hold, v: Point) -> Result<Vec<Cell>, AllocError>
     requires { IsSome (bucket_at hold.now.places (bucket_of hold.now.grid v)) }
-    ensures { IfOk result (λ star. (h : List Entry) → Stands hold.now h → star.items ≡ filter (λ c. is_among v (points_of c)) (complex (replay h))) }
+    ensures { IfOk result (λ star. (h : List ℕ) → Shows hold.now h → star.items ≡ filter (λ c. is_among v (points_of c)) (complex h)) }
 {
     let mut star = Vec::new(alloc);
     for cell in hold.cells_at(v) {
@@ -63,9 +61,9 @@ pub(crate) fn is_solid(points: &[Point]) -> bool
 
 // Adds the cells without v that lie across the facets of a cell, the buckets of whose points are in hand.
 fn add_across(hold: &Hold, cell: &Cell, v: Point, around: &mut Vec<Cell>) -> Result<(), AllocError>
-    requires stands { StandsWith hold.now cell.now }
+    requires stands { ShowsWith hold.now cell.now }
     requires held { ArePointsHeld hold.now (points_of cell.now) }
-    ensures { OnOk result ((h : List Entry) → Stands hold.now h → IsIn cell.now (complex (replay h)) → AreAdded (replay h) v (IsOneOf cell.now (facets_of cell.now)) around.old.items around.new.items) }
+    ensures { OnOk result ((h : List ℕ) → Shows hold.now h → IsIn cell.now (complex h) → AreAdded h v (IsOneOf cell.now (facets_of cell.now)) around.old.items around.new.items) }
 {
     let facets = cell.facets();
     for facet in &facets {
@@ -85,7 +83,7 @@ fn cells_around(
     star: &[Cell],
 ) -> Result<Vec<Cell>, AllocError>
     requires { StandsForStar hold.now v star.now }
-    ensures { IfOk result (λ around. (h : List Entry) → Stands hold.now h → IsStar (replay h) v star.now → AreAdded (replay h) v (IsOfOne star.now) star.now around.items) }
+    ensures { IfOk result (λ around. (h : List ℕ) → Shows hold.now h → IsStar h v star.now → AreAdded h v (IsOfOne star.now) star.now around.items) }
 {
     let mut around = Vec::from_slice(alloc, star)?;
     for cell in star {
@@ -103,7 +101,7 @@ pub(crate) fn near_set(
     star: &[Cell],
 ) -> Result<Option<Vec<Point>>, AllocError>
     requires { StandsForStar hold.now v star.now }
-    ensures { IfOk result (λ near. (h : List Entry) → Stands hold.now h → IsIn v (replay h) → IsStar (replay h) v star.now → MatchOption near (is_solid_of (without_point v (replay h)) ≡ false) (λ t. IsLinkSet (replay h) v t.items)) }
+    ensures { IfOk result (λ near. (h : List ℕ) → Shows hold.now h → IsIn v h → IsStar h v star.now → MatchOption near (is_solid_of (without_point v h) ≡ false) (λ t. IsLinkSet h v t.items)) }
 {
     let link = points_but(alloc, star, v)?;
     if is_solid(&link) {

@@ -1,12 +1,10 @@
 //! Refills.
 
-ghost use Rattle.std.specs.Prelude.{◌≡◌, IfOk, IsSome, List, length};
-ghost use Rattle.edit_history.specs.declared.history.Entry.{Entry};
-ghost use Rattle.edit_history.specs.Histories.{replay};
+ghost use Rattle.std.specs.Prelude.{◌≡◌, IfOk, IsSome, List, length, ℕ};
 ghost use Rattle.cell_store.specs.Buckets.{bucket_at};
 ghost use Rattle.cell_store.specs.Grids.{bucket_of};
 ghost use Rattle.cell_store.specs.Meshes.{AllInHand};
-ghost use Rattle.cell_store.specs.Shares.{Stands};
+ghost use Rattle.cell_store.specs.Shares.{Shows};
 ghost use Rattle.vertex_removal.specs.Turns.{StandsWithPoint, RefillGives, AsksBelow, AsksNothing};
 
 use crate::near::{near_set, star_of};
@@ -66,7 +64,7 @@ impl Refill {
         requires stands { StandsWithPoint hold.now self.old }
         requires held { IsSome (bucket_at hold.now.places (bucket_of hold.now.grid self.old)) }
         ensures point { self.new ≡ self.old }
-        ensures turn { IfOk result (λ turn. (h : List Entry) → Stands hold.now h → RefillGives hold.now (replay h) self.old turn) }
+        ensures turn { IfOk result (λ turn. (h : List ℕ) → Shows hold.now h → RefillGives hold.now h self.old turn) }
         ensures below { IfOk result (λ turn. AsksBelow (length hold.now.places) turn) }
         ensures all { IfOk result (λ turn. AllInHand hold.now → AsksNothing turn) }
     {

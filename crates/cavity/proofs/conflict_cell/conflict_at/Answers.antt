@@ -1,7 +1,6 @@
 use Rattle.std.proofs.Common.{refl, inl, inr, sym, subst, ap, ◌∙◌, List}
 use Rattle.point_order.specs.declared.cell.Cell.{Cell}
 use Rattle.point_order.specs.Sets.{IsIn}
-use Rattle.edit_history.specs.Histories.{replay}
 use Rattle.cell_store.specs.Stars.{cells_left}
 use Rattle.cell_store.proofs.MeshLaws.{point_held}
 use Rattle.cavity.proofs.Searching.{at_point, point_in_hand}
@@ -15,7 +14,7 @@ goes-requires-clause-stands c =
     let r = c.requires.stands in
     let n = c.in-Some.neighbour.now in
     let m = c.loop-neighbour.invariant n (subst (λ (l : List Cell). IsIn n l) (sym c.in-Some.ensures.steps) (inl refl)) in
-    (r.0, r.1, (at_point (replay r.0) c.args.q (cells_left c.into_iter-neighbour-iterator.result) n (ap cells_left c.into_iter-neighbour-iterator.ensures.into_iter_gives ∙ c.cells_at-neighbour-items.ensures.in_complex r.0 r.1) m).0, r.2)
+    (r.0, r.1, (at_point r.0 c.args.q (cells_left c.into_iter-neighbour-iterator.result) n (ap cells_left c.into_iter-neighbour-iterator.ensures.into_iter_gives ∙ c.cells_at-neighbour-items.ensures.in_complex r.0 r.1) m).0, r.2)
 
 pub goes-requires-clause-held : goal.goes-requires-clause-held
 goes-requires-clause-held c none =
@@ -23,13 +22,13 @@ goes-requires-clause-held c none =
     let n = c.in-Some.neighbour.now in
     let m = c.loop-neighbour.invariant n (subst (λ (l : List Cell). IsIn n l) (sym c.in-Some.ensures.steps) (inl refl)) in
     let held = point_held c.args.hold.now c.args.q (record { size = c.grid.ensures.size; places = c.grid.ensures.places }) c.requires.all in
-    point_in_hand c.args.hold.now c.args.q n held (at_point (replay r.0) c.args.q (cells_left c.into_iter-neighbour-iterator.result) n (ap cells_left c.into_iter-neighbour-iterator.ensures.into_iter_gives ∙ c.cells_at-neighbour-items.ensures.in_complex r.0 r.1) m).1 none
+    point_in_hand c.args.hold.now c.args.q n held (at_point r.0 c.args.q (cells_left c.into_iter-neighbour-iterator.result) n (ap cells_left c.into_iter-neighbour-iterator.ensures.into_iter_gives ∙ c.cells_at-neighbour-items.ensures.in_complex r.0 r.1) m).1 none
 
 pub returns-then-goes : goal.returns-then-goes
 returns-then-goes c h st new =
     let n = c.in-Some.neighbour.now in
     let m = c.loop-neighbour.invariant n (subst (λ (l : List Cell). IsIn n l) (sym c.in-Some.ensures.steps) (inl refl)) in
-    c.if-goes.ensures h st new (at_point (replay h) c.args.q (cells_left c.into_iter-neighbour-iterator.result) n (ap cells_left c.into_iter-neighbour-iterator.ensures.into_iter_gives ∙ c.cells_at-neighbour-items.ensures.in_complex h st) m).0
+    c.if-goes.ensures h st new (at_point h c.args.q (cells_left c.into_iter-neighbour-iterator.result) n (ap cells_left c.into_iter-neighbour-iterator.ensures.into_iter_gives ∙ c.cells_at-neighbour-items.ensures.in_complex h st) m).0
 
 pub loop-neighbour-preserved : goal.loop-neighbour-preserved
 loop-neighbour-preserved c x i = c.loop-neighbour.invariant x (subst (λ (l : List Cell). IsIn x l) (sym c.in-Some.ensures.steps) (inr i))

@@ -1,5 +1,4 @@
 use Rattle.std.proofs.Common.{inl, inr, sym, subst, ◌+◌, ◌%◌}
-use Rattle.edit_history.specs.Histories.{replay}
 use Rattle.cell_store.specs.Buckets.{cells_in}
 use Rattle.cavity.specs.Searching.{NoneGoes}
 use Rattle.cavity.proofs.Searching.{one_more, unmet}
@@ -8,7 +7,7 @@ use Rattle.cavity.proofs.conflict_cell.conflict_in_turn.Goals as goal
 pub loop-step-preserved : goal.loop-step-preserved
 loop-step-preserved c i k h st new = elim (one_more c.loop-step.step i k) [
   | inl l ↦ c.loop-step.invariant i l h st new
-  | inr e ↦ subst (λ j. NoneGoes (replay h) c.args.p (cells_in c.args.hold.now.places ((c.bucket_of-first.result + j) % c.count-count.result))) (sym e) (c.in_default.ensures h st new)
+  | inr e ↦ subst (λ j. NoneGoes h c.args.p (cells_in c.args.hold.now.places ((c.bucket_of-first.result + j) % c.count-count.result))) (sym e) (c.in_default.ensures h st new)
 ]
 
 pub unreachable-requires : goal.unreachable-requires

@@ -1,10 +1,8 @@
-use Rattle.std.proofs.Common.{◌≡◌, List, ◌++◌, take}
+use Rattle.std.proofs.Common.{ℕ, ◌≡◌, List, ◌++◌, take}
 use Rattle.point_order.specs.declared.cell.Cell.{Cell}
 use Rattle.point_order.specs.declared.cell.Facet.{Facet}
 use Rattle.point_order.specs.Facets.{facets_of}
-use Rattle.edit_history.specs.declared.history.Entry.{Entry}
-use Rattle.edit_history.specs.Histories.{replay}
-use Rattle.cell_store.specs.Shares.{Stands}
+use Rattle.cell_store.specs.Shares.{Shows}
 use Rattle.cavity.specs.Digs.{AreCrossed}
 use Rattle.cavity.specs.Exploring.{IsAt, AreUncrossed}
 use Rattle.cavity.proofs.explore.explore.Given as goal
@@ -12,5 +10,5 @@ use Rattle.cavity.proofs.explore.explore.Given as goal
 abbrev pub invariant-loop-facet : goal.invariant-loop-facet
 invariant-loop-facet l =
     ((more : List Cell) × (l.found ≡ l.initial.found ++ more))
-    × ((h : List Entry) → Stands l.hold h → (crossed : List Facet) → IsAt (replay h) l.point crossed l.cell l.initial.found l.initial.rim.items →
-    AreUncrossed (replay h) l.point crossed (facets_of l.cell) → AreCrossed (replay h) l.point (crossed ++ take l.facet-index l.facet-items) l.found l.rim.items)
+    × ((h : List ℕ) → Shows l.hold h → (crossed : List Facet) → IsAt h l.point crossed l.cell l.initial.found l.initial.rim.items →
+    AreUncrossed h l.point crossed (facets_of l.cell) → AreCrossed h l.point (crossed ++ take l.facet-index l.facet-items) l.found l.rim.items)

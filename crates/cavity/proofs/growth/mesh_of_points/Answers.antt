@@ -1,47 +1,54 @@
-use Rattle.std.proofs.Common.{subst, sym, ap, ◌∙◌, arith, ℕ, ◌+◌, take}
+use Rattle.std.proofs.Common.{subst, sym, ap, ◌∙◌, arith, ℕ, ◌+◌, take, List}
+use Rattle.edit_history.specs.declared.history.Entry.{Entry}
 use Rattle.edit_history.specs.Edits.{point_of}
-use Rattle.cell_store.specs.Buckets.{InHand}
-use Rattle.cell_store.specs.Shares.{Stands}
+use Rattle.edit_history.specs.Histories.{replay}
+use Rattle.cell_store.specs.Meshes.{MeshView}
 use Rattle.cavity.specs.Growing.{HasGrown}
-use Rattle.cavity.proofs.MeshGrowth.{held_by, grown_first, grown_same, grown_more, grown_all, inserts, held, not_held}
+use Rattle.cavity.proofs.MeshGrowth.{held_by, shows_of, grown_first, grown_same, grown_more, grown_all, inserts, held, not_held}
 use Rattle.cavity.proofs.growth.mesh_of_points.Goals as goal
 use Rattle.cavity.proofs.growth.mesh_of_points.Goals.{then-not-holds_point+in_ok-insert, else-not-holds_point}
 
 pub loop-p-init : goal.loop-p-init
-loop-p-init c = (c.in_ok-mesh.ensures.grid, omega arith, grown_first c.args.points.now c.four_of.result c.in_ok-mesh.mesh c.four_of.ensures.independent c.four_of.ensures.among c.in_ok-mesh.ensures.stands)
+loop-p-init c = (
+  ap (λ (m : MeshView). m.grid) c.in_ok-mesh.ensures,
+  omega arith,
+  subst (λ (h : List Entry). HasGrown c.args.points.now _ 4 h) (sym (ap (λ (m : MeshView). m.history) c.in_ok-mesh.ensures)) (grown_first c.args.points.now c.four_of.result c.four_of.ensures.independent c.four_of.ensures.among),
+)
 
 pub holds_point-requires : goal.holds_point-requires
-holds_point-requires c = held_by c.hold-hold.result.now c.loop-p.mesh c.p-item.result c.hold-hold.ensures.hold c.hold-hold.ensures.mesh
+holds_point-requires c = held_by c.loop-p.mesh c.hold-hold.result.now c.p-item.result c.hold-hold.ensures
 
 pub insert-requires : goal.insert-requires
 insert-requires c =
-    let g = c.loop-p.invariant.2 in
-    let st : Stands c.hold-hold.result.now g.history = subst (λ (m : InHand). Stands m g.history) (sym c.hold-hold.ensures.hold) g.stands in
-    let o = held_by c.hold-hold.result.now c.loop-p.mesh c.p-item.result c.hold-hold.ensures.hold c.hold-hold.ensures.mesh in
-    (g.history, g.stands, inserts g.history c.loop-p.number c.p-item.result c.entry_of.result g.count (not_held c.hold-hold.result.now g.history c.p-item.result st o (sym c.holds_point.ensures ∙ c.if-not-holds_point.true)) c.entry_of.ensures)
+    let h = c.loop-p.mesh.history in
+    let sh = shows_of c.loop-p.mesh c.hold-hold.result.now c.hold-hold.ensures in
+    let o = held_by c.loop-p.mesh c.hold-hold.result.now c.p-item.result c.hold-hold.ensures in
+    inserts h c.loop-p.number c.p-item.result c.entry_of.result c.loop-p.invariant.2.count (not_held c.hold-hold.result.now (replay h) c.p-item.result sh o (sym c.holds_point.ensures ∙ c.if-not-holds_point.true)) c.entry_of.ensures
 
 pub loop-p-preserved : goal.loop-p-preserved
 loop-p-preserved c =
     let g = c.loop-p.invariant.2 in
-    let st : Stands c.hold-hold.result.now g.history = subst (λ (m : InHand). Stands m g.history) (sym c.hold-hold.ensures.hold) g.stands in
-    let o = held_by c.hold-hold.result.now c.loop-p.mesh c.p-item.result c.hold-hold.ensures.hold c.hold-hold.ensures.mesh in
+    let h = c.loop-p.mesh.history in
+    let sh = shows_of c.loop-p.mesh c.hold-hold.result.now c.hold-hold.ensures in
+    let o = held_by c.loop-p.mesh c.hold-hold.result.now c.p-item.result c.hold-hold.ensures in
     elim c.if-not-holds_point.branch [
       | then-not-holds_point+in_ok-insert w ↦ (
-          let e = inserts g.history c.loop-p.number c.p-item.result w.entry_of.result g.count (not_held c.hold-hold.result.now g.history c.p-item.result st o (sym c.holds_point.ensures ∙ w.if-not-holds_point.true)) w.entry_of.ensures in
-          let more = grown_more c.args.points.now c.loop-p.p-index c.loop-p.number c.p-item.result c.loop-p.mesh w.insert.new.mesh w.entry_of.result c.loop-p-test.true c.p-item.is g (ap (λ x. point_of x.edit) (sym w.entry_of.ensures)) e (w.in_ok-insert.ensures.stands g.history g.stands e) in (
-            ap (λ (x : InHand). x.grid) w.mesh-is ∙ w.in_ok-insert.ensures.grid ∙ c.loop-p.invariant.0,
+          let e = inserts h c.loop-p.number c.p-item.result w.entry_of.result g.count (not_held c.hold-hold.result.now (replay h) c.p-item.result sh o (sym c.holds_point.ensures ∙ w.if-not-holds_point.true)) w.entry_of.ensures in
+          let more = grown_more c.args.points.now c.loop-p.p-index c.loop-p.number c.p-item.result h w.entry_of.result c.loop-p-test.true c.p-item.is g (ap (λ x. point_of x.edit) (sym w.entry_of.ensures)) e in
+          let now = w.mesh-is ∙ w.in_ok-insert.ensures.inserted in (
+            ap (λ (x : MeshView). x.grid) now ∙ c.loop-p.invariant.0,
             (let k = c.loop-p.invariant.1 in let n = w.number-is in omega (arith, k, n)),
-            subst (λ (n : ℕ). HasGrown c.args.points.now (take (c.loop-p.p-index + 1) c.args.points.now) n c.if-not-holds_point.mesh) (sym w.number-is)
-                (subst (λ (x : InHand). HasGrown c.args.points.now (take (c.loop-p.p-index + 1) c.args.points.now) (c.loop-p.number + 1) x) (sym w.mesh-is) more),
+            subst (λ (n : ℕ). HasGrown c.args.points.now (take (c.loop-p.p-index + 1) c.args.points.now) n c.if-not-holds_point.mesh.history) (sym w.number-is)
+                (subst (λ (x : List Entry). HasGrown c.args.points.now (take (c.loop-p.p-index + 1) c.args.points.now) (c.loop-p.number + 1) x) (sym (ap (λ (x : MeshView). x.history) now)) more),
           ))
       | else-not-holds_point w ↦ (
-          let same = grown_same c.args.points.now c.loop-p.p-index c.loop-p.number c.p-item.result c.loop-p.mesh c.loop-p-test.true c.p-item.is g (held c.hold-hold.result.now g.history c.p-item.result st o (sym c.holds_point.ensures ∙ w.if-not-holds_point.false)) in (
-            ap (λ (x : InHand). x.grid) w.mesh-is ∙ c.loop-p.invariant.0,
+          let same = grown_same c.args.points.now c.loop-p.p-index c.loop-p.number c.p-item.result h c.loop-p-test.true c.p-item.is g (held c.hold-hold.result.now (replay h) c.p-item.result sh o (sym c.holds_point.ensures ∙ w.if-not-holds_point.false)) in (
+            ap (λ (x : MeshView). x.grid) w.mesh-is ∙ c.loop-p.invariant.0,
             (let k = c.loop-p.invariant.1 in let n = w.number-is in omega (arith, k, n)),
-            subst (λ (n : ℕ). HasGrown c.args.points.now (take (c.loop-p.p-index + 1) c.args.points.now) n c.if-not-holds_point.mesh) (sym w.number-is)
-                (subst (λ (x : InHand). HasGrown c.args.points.now (take (c.loop-p.p-index + 1) c.args.points.now) c.loop-p.number x) (sym w.mesh-is) same),
+            subst (λ (n : ℕ). HasGrown c.args.points.now (take (c.loop-p.p-index + 1) c.args.points.now) n c.if-not-holds_point.mesh.history) (sym w.number-is)
+                (subst (λ (x : MeshView). HasGrown c.args.points.now (take (c.loop-p.p-index + 1) c.args.points.now) c.loop-p.number x.history) (sym w.mesh-is) same),
           ))
     ]
 
-pub returns-clause-stands : goal.returns-clause-stands
-returns-clause-stands c = grown_all c.args.points.now c.loop-p.p-index c.loop-p.number c.loop-p.mesh c.requires.ascending c.loop-p-test.false c.loop-p.invariant.2
+pub returns-clause-points : goal.returns-clause-points
+returns-clause-points c = grown_all c.args.points.now c.loop-p.p-index c.loop-p.number c.loop-p.mesh.history c.requires.ascending c.loop-p-test.false c.loop-p.invariant.2

@@ -1,5 +1,4 @@
 use Rattle.hole_laws.proofs.Judged.{mates_judge}
-use Rattle.edit_history.specs.Histories.{replay}
 use Rattle.cavity.proofs.Standing.{solid_set}
 use Rattle.cavity.proofs.Mates.{judged}
 use Rattle.cavity.proofs.judge.goes.Goals as goal
@@ -7,8 +6,8 @@ use Rattle.cavity.proofs.judge.goes.Goals as goal
 pub conflict-requires : goal.conflict-requires
 conflict-requires c =
     let r = c.requires.stands in
-    mates_judge (replay r.0) c.args.p (solid_set c.args.hold.now r.0 r.1).set r.3 c.args.cell.now c.mate_of-mate.result r.2 (c.mate_of-mate.ensures r.0 r.1 r.2)
+    mates_judge r.0 c.args.p (solid_set c.args.hold.now r.0 r.1).set r.3 c.args.cell.now c.mate_of-mate.result r.2 (c.mate_of-mate.ensures r.0 r.1 r.2)
 
 pub returns : goal.returns
 returns c h st n k =
-    judged (replay h) c.args.p (solid_set c.args.hold.now h st) n c.args.cell.now c.mate_of-mate.result k (c.mate_of-mate.ensures h st k) c.conflict.result c.conflict.ensures
+    judged h c.args.p (solid_set c.args.hold.now h st) n c.args.cell.now c.mate_of-mate.result k (c.mate_of-mate.ensures h st k) c.conflict.result c.conflict.ensures

@@ -1,16 +1,23 @@
-use Rattle.std.proofs.Common.{◌∙◌, ap, subst, arith, ℕ, List, length, map, ◌++◌, length-append}
+use Rattle.std.proofs.Common.{◌∙◌, sym, ap, subst, arith, ℕ, List, length, map, ◌++◌, [], length-append}
 use Rattle.std.proofs.lemmas.List.{length-map}
 use Rattle.std.specs.List.{enumerate_from}
 use Rattle.edit_history.specs.declared.history.Edit.{Edit}
 use Rattle.edit_history.specs.declared.history.Edit.TheVariants.{Add}
-use Rattle.delaunay_cli.specs.Made.{tagged_points, StandsForLines, other_lines}
+use Rattle.edit_history.specs.declared.history.Entry.{Entry}
+use Rattle.edit_history.specs.Histories.{IsLegal}
+use Rattle.edit_history.proofs.Lines.{length-entries}
+use Rattle.delaunay_cli.specs.Made.{tagged_points, with_lines, other_lines}
 use Rattle.delaunay_cli.proofs.OpeningLines.{added, added_many, four_many, opening_made, opening_lines, all_lines}
 use Rattle.delaunay_cli.proofs.meshed.meshed.Goals as goal
 
 pub make_others-requires-clause-opening : goal.make_others-requires-clause-opening
 make_others-requires-clause-opening c =
     let t = tagged_points c.args.points.now c.args.four in
-    (map added t, opening_made c.in_ok-mesh.mesh t c.in_ok-mesh.ensures, (let a = added_many t in let b = four_many c.args.points.now c.args.four c.requires.found in omega (arith, a, b)))
+    let o = opening_made t (subst IsLegal c.in_ok-mesh.ensures c.hold.ensures.stands.legal) in
+    let n = ap length (c.in_ok-mesh.ensures ∙ o) ∙ length-entries 0 [] (map added t) in
+    let a = added_many t in
+    let b = four_many c.args.points.now c.args.four c.requires.found in
+    omega (arith, n, a, b)
 
 pub make_others-requires-clause-small : goal.make_others-requires-clause-small
 make_others-requires-clause-small c =
@@ -23,7 +30,7 @@ make_others-requires-clause-small c =
 pub returns : goal.returns
 returns c =
     let t = tagged_points c.args.points.now c.args.four in
-    let made = c.in_ok-make_others.ensures (map added t) (opening_made c.in_ok-mesh.mesh t c.in_ok-mesh.ensures) in
-    let lines : StandsForLines c.make_others.new.mesh (map added t ++ other_lines c.args.four (enumerate_from 0 (map Add c.args.points.now ++ c.args.edits.now))) = subst (λ (l : List Edit). StandsForLines c.make_others.new.mesh (map added t ++ other_lines c.args.four (enumerate_from 0 l))) (c.deref.ensures.value ∙ c.in_ok-lines.ensures) made in
-    all_lines c.args.points.now c.args.edits.now c.args.four c.make_others.new.mesh c.requires.found
-    (subst (λ (l : List (ℕ × Edit)). StandsForLines c.make_others.new.mesh (l ++ other_lines c.args.four (enumerate_from 0 (map Add c.args.points.now ++ c.args.edits.now)))) (opening_lines c.args.points.now c.args.edits.now c.args.four c.requires.found) lines)
+    let o = opening_made t (subst IsLegal c.in_ok-mesh.ensures c.hold.ensures.stands.legal) in
+    c.in_ok-make_others.ensures
+    ∙ ap (λ (l : List Edit). with_lines c.in_ok-mesh.mesh.history (other_lines c.args.four (enumerate_from 0 l))) (c.deref.ensures.value ∙ c.in_ok-lines.ensures)
+    ∙ all_lines c.args.points.now c.args.edits.now c.args.four (map added t) c.in_ok-mesh.mesh.history c.requires.found (c.in_ok-mesh.ensures ∙ o) (opening_lines c.args.points.now c.args.edits.now c.args.four c.requires.found)

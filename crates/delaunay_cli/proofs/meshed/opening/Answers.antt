@@ -1,5 +1,5 @@
-use Rattle.std.proofs.Common.{arith, subst, List, ℕ, ◌≡◌, [], ◌∷◌}
-use Rattle.cell_store.specs.Shares.{Stands}
+use Rattle.std.proofs.Common.{arith, ap, ◌∙◌, ◌≡◌, [], ◌∷◌}
+use Rattle.cell_store.specs.Meshes.{MeshView}
 use Rattle.cavity.specs.Opening.{opening_history}
 use Rattle.cavity.proofs.MeshGrowth.{four_found}
 use Rattle.delaunay_cli.specs.Made.{tagged_points}
@@ -24,4 +24,4 @@ begin-requires c = rw (c.tagged_point.ensures, c.tagged_point-2.ensures, c.tagge
 pub returns : goal.returns
 returns c =
     let l : c.tagged_point.result ∷ c.tagged_point-2.result ∷ c.tagged_point-3.result ∷ c.tagged_point-4.result ∷ [] ≡ tagged_points c.args.points.now c.args.four = rw (c.tagged_point.ensures, c.tagged_point-2.ensures, c.tagged_point-3.ensures, c.tagged_point-4.ensures) (tagged_is c.args.points.now c.args.four c.requires.found) in
-    subst (λ (l : List (ℕ × ℕ)). Stands c.in_ok-mesh.mesh (opening_history l)) l c.in_ok-mesh.ensures.stands
+    ap (λ (m : MeshView). m.history) c.in_ok-mesh.ensures ∙ ap opening_history l

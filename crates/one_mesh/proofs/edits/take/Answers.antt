@@ -7,21 +7,17 @@ use Rattle.one_mesh.proofs.Edited.{applied, missing, quiet}
 use Rattle.one_mesh.proofs.edits.take.Goals as goal
 
 pub take_there-requires-clause-there : goal.take_there-requires-clause-there
-take_there-requires-clause-there c =
-    let m = c.has_point.ensures.mesh in
-    (m.history, m.stands, among_from c.args.v (replay m.history) (sym (c.has_point.ensures.is m.history m.stands) ∙ c.if-has_point.true))
-
-pub returns-in_ok-reply-clause-applied : goal.returns-in_ok-reply-clause-applied
-returns-in_ok-reply-clause-applied c h st = c.in_ok-reply.ensures.applied h st (among_from c.args.v (replay h) (sym (c.has_point.ensures.is h st) ∙ c.if-has_point.true))
+take_there-requires-clause-there c = among_from c.args.v (replay c.args.mesh.now.history) (sym c.has_point.ensures ∙ c.if-has_point.true)
 
 pub note-requires : goal.note-requires
 note-requires c =
-    let m = c.has_point.ensures.mesh in
-    let f = sym (c.has_point.ensures.is m.history m.stands) ∙ c.if-has_point.false in
-    (m.history, m.stands, quiet m.history c.args.number c.args.tag (Take c.args.v) Missing c.entry_of.result (c.requires m.history m.stands) (missing (replay m.history) c.args.v f) refl c.entry_of.ensures)
+    let h = c.args.mesh.now.history in
+    quiet h c.args.number c.args.tag (Take c.args.v) Missing c.entry_of.result c.requires (missing (replay h) c.args.v (sym c.has_point.ensures ∙ c.if-has_point.false)) refl c.entry_of.ensures
 
 pub returns-in_ok-note-clause-applied : goal.returns-in_ok-note-clause-applied
-returns-in_ok-note-clause-applied c h st =
-    let r = missing (replay h) c.args.v (sym (c.has_point.ensures.is h st) ∙ c.if-has_point.false) in
-    applied h c.args.tag (Take c.args.v) c.args.number Missing c.note.new.mesh c.entry_of.result (c.requires h st) (sym r) c.entry_of.ensures
-    (c.in_ok-note.ensures.stands h st (quiet h c.args.number c.args.tag (Take c.args.v) Missing c.entry_of.result (c.requires h st) r refl c.entry_of.ensures))
+returns-in_ok-note-clause-applied c =
+    let r = missing (replay c.args.mesh.now.history) c.args.v (sym c.has_point.ensures ∙ c.if-has_point.false) in
+    applied c.args.mesh.now c.note.new.mesh c.args.tag (Take c.args.v) c.args.number Missing c.entry_of.result c.requires (sym r) c.entry_of.ensures c.in_ok-note.ensures.noted
+
+pub returns-in_ok-note-clause-reply : goal.returns-in_ok-note-clause-reply
+returns-in_ok-note-clause-reply c = sym (missing (replay c.args.mesh.now.history) c.args.v (sym c.has_point.ensures ∙ c.if-has_point.false))

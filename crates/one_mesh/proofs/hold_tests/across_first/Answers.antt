@@ -5,16 +5,17 @@ use Rattle.point_order.specs.Facets.{points_of}
 use Rattle.point_order.specs.Sets.{IsIn, is_among}
 use Rattle.edit_history.specs.Histories.{replay}
 use Rattle.del_laws.proofs.Tests.{filtered_from}
+use Rattle.cell_store.proofs.ShareLaws.{stands_shows}
 use Rattle.one_mesh.proofs.hold_tests.across_first.Goals as goal
 
-pub across-requires-clause-stands : goal.across-requires-clause-stands
-across-requires-clause-stands g c =
+pub across-requires-clause-shown : goal.across-requires-clause-shown
+across-requires-clause-shown g c =
     let r = c.requires in
-    let i = subst (λ (l : List Cell). IsIn c.in-Some.cell.now l) (sym c.in-Some.ensures.steps ∙ c.cells_at-star.ensures.in_complex r.0 r.1) (inl refl) in
-    (r.0, r.1, (filtered_from (λ q. is_among c.args.p (points_of q)) (complex (replay r.0)) c.in-Some.cell.now i).0)
+    let i = subst (λ (l : List Cell). IsIn c.in-Some.cell.now l) (sym c.in-Some.ensures.steps ∙ c.cells_at-star.ensures.in_complex (replay r.0) (stands_shows c.args.hold.now r.0 r.1)) (inl refl) in
+    (replay r.0, stands_shows c.args.hold.now r.0 r.1, (filtered_from (λ q. is_among c.args.p (points_of q)) (complex (replay r.0)) c.in-Some.cell.now i).0)
 
-pub across-requires-in-Some-clause-stands : goal.across-requires-in-Some-clause-stands
-across-requires-in-Some-clause-stands g c =
+pub across-requires-in-Some-clause-shown : goal.across-requires-in-Some-clause-shown
+across-requires-in-Some-clause-shown g c =
     let r = c.requires in
-    let i = subst (λ (l : List Cell). IsIn c.in-Some.cell.now l) (sym c.in-Some.ensures.steps ∙ c.cells_at-star.ensures.in_complex r.0 r.1) (inl refl) in
-    (r.0, r.1, (filtered_from (λ q. is_among c.args.p (points_of q)) (complex (replay r.0)) c.in-Some.cell.now i).0)
+    let i = subst (λ (l : List Cell). IsIn c.in-Some.cell.now l) (sym c.in-Some.ensures.steps ∙ c.cells_at-star.ensures.in_complex (replay r.0) (stands_shows c.args.hold.now r.0 r.1)) (inl refl) in
+    (replay r.0, stands_shows c.args.hold.now r.0 r.1, (filtered_from (λ q. is_among c.args.p (points_of q)) (complex (replay r.0)) c.in-Some.cell.now i).0)

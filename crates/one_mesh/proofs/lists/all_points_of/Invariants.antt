@@ -4,4 +4,4 @@ use Rattle.one_mesh.proofs.Gathering.{points_of_bucket}
 use Rattle.one_mesh.proofs.lists.all_points_of.Given as goal
 
 abbrev pub invariant-loop-b : goal.invariant-loop-b
-invariant-loop-b l = l.list.items ≡ flat_map points_of_bucket (take l.b l.fn.mesh.places)
+invariant-loop-b l = l.list.items ≡ flat_map points_of_bucket (take l.b l.fn.hold.places)

@@ -8,10 +8,11 @@ use Rattle.one_mesh.proofs.lists.history.Goals as goal
 
 pub merge-requires : goal.merge-requires
 merge-requires c =
-    let m = c.in_ok-all_entries_of.ensures.mesh in
-    subst AreNumbered (sym c.in_ok-all_entries_of.ensures.entries ∙ sym (nothing_more c.in_ok-all_entries_of.field-0.items)) (mesh_gathers c.args.mesh.now m.history m m.stands).numbered
+    let i = c.hold.ensures in
+    subst AreNumbered (sym c.in_ok-all_entries_of.ensures ∙ sym (nothing_more c.in_ok-all_entries_of.field-0.items)) (mesh_gathers c.hold.result.now c.args.mesh.now.history i.whole i.stands).numbered
 
 pub returns : goal.returns
-returns c h st =
-    (mesh_gathers c.args.mesh.now h c.in_ok-all_entries_of.ensures.mesh st).ordered c.in_ok-entries.entries.items
-    (subst (λ (l : List Entry). IsPermutation l c.in_ok-entries.entries.items) (nothing_more c.in_ok-all_entries_of.field-0.items ∙ c.in_ok-all_entries_of.ensures.entries) c.in_ok-entries.ensures.entries) c.in_ok-entries.ensures.order
+returns c =
+    let i = c.hold.ensures in
+    (mesh_gathers c.hold.result.now c.args.mesh.now.history i.whole i.stands).ordered c.in_ok-entries.entries.items
+    (subst (λ (l : List Entry). IsPermutation l c.in_ok-entries.entries.items) (nothing_more c.in_ok-all_entries_of.field-0.items ∙ c.in_ok-all_entries_of.ensures) c.in_ok-entries.ensures.entries) c.in_ok-entries.ensures.order

@@ -1,9 +1,11 @@
 use Rattle.std.proofs.Common.{subst, List, ℕ}
+use Rattle.edit_history.specs.Histories.{replay}
+use Rattle.cavity.proofs.MeshGrowth.{shows_of}
 use Rattle.one_mesh.proofs.Gathering.{points_in}
 use Rattle.vertex_removal.specs.Near.{AreSamePoints}
 use Rattle.one_mesh.proofs.lists.points.Goals as goal
 
 pub returns : goal.returns
-returns c h st =
-    points_in c.args.mesh.now h c.points_in_order.result.items c.in_ok-points.ensures.mesh st c.points_in_order.ensures.order
-    (subst (λ (l : List ℕ). AreSamePoints l c.points_in_order.result.items) c.in_ok-points.ensures.points c.points_in_order.ensures.points)
+returns c =
+    points_in c.hold.result.now (replay c.args.mesh.now.history) c.points_in_order.result.items c.hold.ensures.whole (shows_of c.args.mesh.now c.hold.result.now c.hold.ensures) c.points_in_order.ensures.order
+    (subst (λ (l : List ℕ). AreSamePoints l c.points_in_order.result.items) c.in_ok-points.ensures c.points_in_order.ensures.points)

@@ -1,14 +1,13 @@
 use Rattle.std.proofs.Common.{subst, List, arith}
 use Rattle.std.proofs.lemmas.List.{take_all}
 use Rattle.point_order.specs.declared.cell.Cell.{Cell}
-use Rattle.edit_history.specs.Histories.{replay}
 use Rattle.cavity.proofs.Lists.{at_place}
 use Rattle.vertex_removal.specs.Near.{AreAdded, IsOfOne}
 use Rattle.vertex_removal.proofs.Around.{none_met, one_met}
 use Rattle.vertex_removal.proofs.near.cells_around.Goals as goal
 
 pub loop-cell-init : goal.loop-cell-init
-loop-cell-init c h st k = rw c.in_ok-around.ensures.items (none_met (replay h) c.args.v c.args.star.now)
+loop-cell-init c h st k = rw c.in_ok-around.ensures.items (none_met h c.args.v c.args.star.now)
 
 pub add_across-requires-clause-stands : goal.add_across-requires-clause-stands
 add_across-requires-clause-stands c =
@@ -20,8 +19,8 @@ add_across-requires-clause-held c = c.requires.held c.cell-item.result (at_place
 pub loop-cell-preserved : goal.loop-cell-preserved
 loop-cell-preserved c h st k =
     let m = at_place c.args.star.now c.loop-cell.cell-index c.cell-item.result c.loop-cell-test.true c.cell-item.is in
-    one_met (replay h) c.args.v c.args.star.now c.loop-cell.cell-index c.cell-item.result c.args.star.now c.loop-cell.around.items c.add_across.new.around.items c.loop-cell-test.true c.cell-item.is (c.loop-cell.invariant h st k) (c.in_ok-add_across.ensures h st ((k c.cell-item.result).0 m).0)
+    one_met h c.args.v c.args.star.now c.loop-cell.cell-index c.cell-item.result c.args.star.now c.loop-cell.around.items c.add_across.new.around.items c.loop-cell-test.true c.cell-item.is (c.loop-cell.invariant h st k) (c.in_ok-add_across.ensures h st ((k c.cell-item.result).0 m).0)
 
 pub returns : goal.returns
 returns c h st k =
-    subst (λ (l : List Cell). AreAdded (replay h) c.args.v (IsOfOne l) c.args.star.now c.loop-cell.around.items) (take_all c.loop-cell.cell-index c.args.star.now (omega (arith, c.loop-cell-test.false))) (c.loop-cell.invariant h st k)
+    subst (λ (l : List Cell). AreAdded h c.args.v (IsOfOne l) c.args.star.now c.loop-cell.around.items) (take_all c.loop-cell.cell-index c.args.star.now (omega (arith, c.loop-cell-test.false))) (c.loop-cell.invariant h st k)

@@ -1,5 +1,4 @@
 use Rattle.std.proofs.Common.{refl, sym, ◌∙◌, ap, subst, ◌<◌, ◌≤◌, length, arith}
-use Rattle.edit_history.specs.Histories.{replay}
 use Rattle.cavity.specs.Digs.{Digging, IsDoneIn, facets_of_first}
 use Rattle.cavity.specs.Exploring.{ArePointsHeld, IsBucketMissing, IsCellMissing}
 use Rattle.cavity.specs.Lists.{IsPast, IsAtPlace}
@@ -10,7 +9,7 @@ use Rattle.cavity.proofs.Advancing.{GoesOn, goes_on_first, cell_needed, none_nee
 use Rattle.cavity.proofs.dig.Dig.advance.Goals as goal
 
 pub returns-in-Some-clause-turn : goal.returns-in-Some-clause-turn
-returns-in-Some-clause-turn c h st k = cell_needed c.args.hold.now (replay h) c.args.self.now c.as_slice.result.now c.in-Some.b (c.as_slice.ensures ∙ ap (λ d. d.found) c.self.view_is) k c.in-Some.ensures
+returns-in-Some-clause-turn c h st k = cell_needed c.args.hold.now h c.args.self.now c.as_slice.result.now c.in-Some.b (c.as_slice.ensures ∙ ap (λ d. d.found) c.self.view_is) k c.in-Some.ensures
 
 pub loop-cell-init : goal.loop-cell-init
 loop-cell-init c =
@@ -27,7 +26,7 @@ returns-in-Some-missing_point-clause-digs c = c.loop-cell.invariant.digs
 pub returns-in-Some-missing_point-clause-turn : goal.returns-in-Some-missing_point-clause-turn
 returns-in-Some-missing_point-clause-turn c h st k =
     let d : Digging = (record { point = c.loop-cell.self-inside.point; found = c.loop-cell.self-inside.found; explored = c.loop-cell.self-inside.explored; rim = c.loop-cell.self-inside.rim.items }) in
-    cell_needed c.args.hold.now (replay h) d d.found c.in-Some-missing_point.b refl (c.loop-cell.invariant.digs h st k)
+    cell_needed c.args.hold.now h d d.found c.in-Some-missing_point.b refl (c.loop-cell.invariant.digs h st k)
     (cell_missing c.args.hold.now d.found d.explored c.in-Some-get.cell c.points.result.now c.in-Some-missing_point.b c.in-Some-get.ensures.cell.below c.in-Some-get.ensures.cell.at c.points.ensures c.in-Some-missing_point.ensures)
 
 pub explore-requires-clause-stands : goal.explore-requires-clause-stands
@@ -37,7 +36,7 @@ explore-requires-clause-stands c =
     let k = c.loop-cell.invariant.digs r.0 r.1 r.2 in
     let i = solid_set c.args.hold.now r.0 r.1 in
     let less : d.explored < length d.found = c.in-Some-get.ensures.cell.below in
-    (r.0, r.1, facets_of_first d.explored d.found, next_at (replay r.0) i d k c.in-Some-get.cell less c.in-Some-get.ensures.cell.at, next_new (replay r.0) i d k c.in-Some-get.cell less c.in-Some-get.ensures.cell.at)
+    (r.0, r.1, facets_of_first d.explored d.found, next_at r.0 i d k c.in-Some-get.cell less c.in-Some-get.ensures.cell.at, next_new r.0 i d k c.in-Some-get.cell less c.in-Some-get.ensures.cell.at)
 
 pub loop-cell-smaller : goal.loop-cell-smaller
 loop-cell-smaller c =
@@ -63,6 +62,6 @@ pub returns-clause-turn : goal.returns-clause-turn
 returns-clause-turn c h st k =
     let d : Digging = (record { point = c.loop-cell.self-inside.point; found = c.loop-cell.self-inside.found; explored = c.loop-cell.self-inside.explored; rim = c.loop-cell.self-inside.rim.items }) in
     let most : length d.found ≤ d.explored = at_none c.get.result (IsPast d.found d.explored) (λ cell. IsAtPlace d.found d.explored cell) c.in_default-get.not-Some c.get.ensures.cell in
-    let done : IsDoneIn (replay h) d = record { solid = solid_set c.args.hold.now h st; dig = c.loop-cell.invariant.digs h st k; all = most } in
+    let done : IsDoneIn h d = record { solid = solid_set c.args.hold.now h st; dig = c.loop-cell.invariant.digs h st k; all = most } in
     let held = cells_all c.args.hold.now d.found d.explored most c.loop-cell.invariant.held in
-    (none_needed c.args.hold.now (replay h) d done held, done, held)
+    (none_needed c.args.hold.now h d done held, done, held)

@@ -3,7 +3,7 @@ use Rattle.edit_history.specs.Edits.{point_of}
 use Rattle.cell_store.specs.Grids.{bucket_of}
 use Rattle.cell_store.specs.Ready.{IsReady}
 use Rattle.cell_store.proofs.Members.{within}
-use Rattle.cell_store.proofs.NoteLaws.{if_some, if_none, len_twice_is, ready_noted, noted_is}
+use Rattle.cell_store.proofs.NoteLaws.{if_some, if_none, len_twice_is, ready_noted, noted_is, stand_noted}
 use Rattle.cell_store.proofs.hold.Hold.push_entry.Goals as goal
 
 pub invariant_of-self : goal.invariant_of-self
@@ -15,6 +15,7 @@ invariant_of-self c =
       len_twice_is i.places.items b _ _ _ c.self.invariant.0,
       if_some (λ e. IsReady i.grid e.gone.items e.fresh.items i.places.items e.lists.items) _ i.exchange (λ x r. ready_noted i.grid b x.gone.items x.fresh.items i.places.items x.lists.items _ c.in-Some-Some.bucket c.noted.result h e (ap (λ k. k.cells) c.noted.ensures) r) c.self.invariant.1,
       if_none _ _ c.take.ensures.after,
+      stand_noted i.grid b i.places.items _ c.in-Some-Some.bucket c.noted.result h e (ap (λ k. k.place) c.noted.ensures) c.self.invariant.3,
     )
 
 pub returns-in-Some-Some-clause-noted : goal.returns-in-Some-Some-clause-noted

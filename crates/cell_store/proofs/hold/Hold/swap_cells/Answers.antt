@@ -1,8 +1,8 @@
 use Rattle.std.proofs.Common.{◌≡◌, ◌*◌, ◌<◌, refl, sym, ◌∙◌, ap, subst, length, drop, IfSome}
 use Rattle.std.specs.Option.{option_map}
-use Rattle.cell_store.specs.Buckets.{bucket_at}
+use Rattle.cell_store.specs.Buckets.{bucket_at, StandAtPlaces}
 use Rattle.cell_store.specs.Ready.{IsReady, IsNoteReady, given}
-use Rattle.cell_store.proofs.NoteLaws.{if_some, if_none}
+use Rattle.cell_store.proofs.NoteLaws.{if_some, if_none, stand_given}
 use Rattle.cell_store.proofs.RoomLaws.{some_holds, same_pair, swap_is, front_is, ready_below, note_given}
 use Rattle.cell_store.proofs.hold.Hold.swap_cells.Goals as goal
 
@@ -18,10 +18,11 @@ invariant_of-self c =
     let i = c.self.inside in
     let after = c.put_lists.new.places in
     let e = front_is after (drop (length after) i.places.items) i.places.len (i.places.ok.0 ∙ sym (ap length c.deref_mut.ensures.value) ∙ sym c.put_lists.auto.places) in
-    subst (λ ps. (length ps ≡ i.grid * i.grid * i.grid) × IfSome c.take.new.self (λ x. IsReady i.grid x.gone.items x.fresh.items ps x.lists.items) × IfSome i.note (λ n. IsNoteReady i.grid ps n)) (sym e) (
+    subst (λ ps. (length ps ≡ i.grid * i.grid * i.grid) × IfSome c.take.new.self (λ x. IsReady i.grid x.gone.items x.fresh.items ps x.lists.items) × IfSome i.note (λ n. IsNoteReady i.grid ps n) × StandAtPlaces i.grid ps) (sym e) (
       c.put_lists.auto.places ∙ ap length c.deref_mut.ensures.value ∙ c.self.invariant.0,
       if_none _ _ c.take.ensures.after,
       if_some (λ n. IsNoteReady i.grid i.places.items n) (λ n. IsNoteReady i.grid after n) i.note (note_given i.grid i.places.items after c.in-Some.exchange.lists.items (λ b. c.put_lists.ensures b ∙ ap (λ l. given c.in-Some.exchange.lists.items b (bucket_at l b)) c.deref_mut.ensures.value)) c.self.invariant.2,
+      stand_given i.grid i.places.items after c.in-Some.exchange.lists.items (λ b. c.put_lists.ensures b ∙ ap (λ l. given c.in-Some.exchange.lists.items b (bucket_at l b)) c.deref_mut.ensures.value) c.self.invariant.3,
     )
 
 pub returns-in-Some-clause-swapped : goal.returns-in-Some-clause-swapped

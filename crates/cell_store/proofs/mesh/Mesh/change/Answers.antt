@@ -1,23 +1,25 @@
-use Rattle.std.proofs.Common.{sym, subst}
-use Rattle.cell_store.specs.Shares.{Stands}
-use Rattle.cell_store.specs.Meshes.{Continues, IsChanged}
-use Rattle.cell_store.proofs.NextLaws.{entry_keeps_hold}
-use Rattle.cell_store.proofs.MeshLaws.{mesh_changed, count_changed, changed_is}
+use Rattle.std.proofs.Common.{sym, ap, subst, ◌∙◌, ◌++◌, ◌∷◌, [], length}
+use Rattle.cell_store.specs.Buckets.{InHand}
+use Rattle.cell_store.specs.Changes.{IsNext}
+use Rattle.cell_store.specs.Meshes.{MeshView, IsHoldOf, mesh_in, counted}
+use Rattle.cell_store.proofs.MeshLaws.{all_are_held, point_held, mesh_changed}
 use Rattle.cell_store.proofs.mesh.Mesh.change.Goals as goal
 
-pub invariant_of-self : goal.invariant_of-self
-invariant_of-self c =
-    let i = c.self.inside in
-    let next = subst (λ m. Continues m c.args.entry c.args.gone.now c.args.fresh.now) (sym c.self.view_is) c.requires.next in (
-      mesh_changed i.hold c.swap_cells.new.self c.push_entry.new.self c.args.gone.now c.args.fresh.now c.args.entry c.self.invariant.0 next c.swap_cells.ensures.swapped c.push_entry.ensures.noted,
-      count_changed i.hold c.swap_cells.new.self c.push_entry.new.self c.args.gone.now c.args.fresh.now c.args.entry i.count _ c.self.invariant.0 next c.swap_cells.ensures.swapped c.push_entry.ensures.noted c.self.invariant.1 c.saturating_add-self-inside.ensures,
-    )
+pub reserve-requires-clause-gone : goal.reserve-requires-clause-gone
+reserve-requires-clause-gone c = all_are_held c.self.inside.hold c.args.gone.now c.self.invariant.0.whole.has c.self.invariant.0.whole.all
+
+pub reserve-requires-clause-fresh : goal.reserve-requires-clause-fresh
+reserve-requires-clause-fresh c = all_are_held c.self.inside.hold c.args.fresh.now c.self.invariant.0.whole.has c.self.invariant.0.whole.all
+
+pub reserve-requires-clause-point : goal.reserve-requires-clause-point
+reserve-requires-clause-point c = point_held c.self.inside.hold _ c.self.invariant.0.whole.has c.self.invariant.0.whole.all
+
+pub invariant_of-self-2 : goal.invariant_of-self-2
+invariant_of-self-2 c =
+    (mesh_changed c.self.inside.hold c.reserve.new.self c.swap_cells.new.self c.push_entry.new.self c.args.self.now c.args.gone.now c.args.fresh.now c.args.entry c.self.inside.count _ c.self.view_is c.self.invariant c.requires
+        (ap (λ (h : InHand). h.grid) c.in_ok-reserve.ensures.ok) (ap (λ (h : InHand). h.places) c.in_ok-reserve.ensures.ok) c.swap_cells.ensures.swapped c.push_entry.ensures.noted c.saturating_add-self-inside.ensures).1
 
 pub returns-clause-changed : goal.returns-clause-changed
 returns-clause-changed c =
-    subst (λ m. IsChanged c.args.gone.now c.args.fresh.now c.args.entry m c.push_entry.new.self) c.self.view_is
-    (changed_is c.self.inside.hold c.swap_cells.new.self c.push_entry.new.self c.args.gone.now c.args.fresh.now c.args.entry c.swap_cells.ensures.swapped c.push_entry.ensures.noted)
-
-pub returns-clause-stands : goal.returns-clause-stands
-returns-clause-stands c h st next =
-    entry_keeps_hold h c.args.entry c.args.gone.now c.args.fresh.now c.self.inside.hold c.swap_cells.new.self c.push_entry.new.self (subst (λ m. Stands m h) (sym c.self.view_is) st) next c.swap_cells.ensures.swapped c.push_entry.ensures.noted
+    (mesh_changed c.self.inside.hold c.reserve.new.self c.swap_cells.new.self c.push_entry.new.self c.args.self.now c.args.gone.now c.args.fresh.now c.args.entry c.self.inside.count _ c.self.view_is c.self.invariant c.requires
+        (ap (λ (h : InHand). h.grid) c.in_ok-reserve.ensures.ok) (ap (λ (h : InHand). h.places) c.in_ok-reserve.ensures.ok) c.swap_cells.ensures.swapped c.push_entry.ensures.noted c.saturating_add-self-inside.ensures).0

@@ -3,7 +3,6 @@ use Rattle.std.specs.Prelude.{MatchOption}
 use Rattle.point_order.specs.declared.cell.Cell.{Cell}
 use Rattle.point_order.specs.Sets.{IsIn, IsAscending, without_point}
 use Rattle.point_order.specs.Solid.{is_solid}
-use Rattle.edit_history.specs.Histories.{replay}
 use Rattle.hole_laws.specs.Edits.{IsLinkSet}
 use Rattle.hole_laws.proofs.Rest.{without_from}
 use Rattle.cell_store.specs.Ready.{AreHeld}
@@ -21,8 +20,8 @@ use Rattle.vertex_removal.proofs.refill.Refill.advance.Goals as goal
 
 pub returns-in-Some-clause-turn : goal.returns-in-Some-clause-turn
 returns-in-Some-clause-turn c h st =
-    subst (λ (v : ℕ). IsNeeded c.args.hold.now (replay h) v c.in-Some.b) c.self.view_is
-    (star_needs c.args.hold.now (replay h) c.self.inside.point c.deref.result.now c.in-Some.b (star_list (replay h) c.self.inside.point c.deref.result.now (c.deref.ensures.value ∙ c.in_ok-gone.ensures h st)) c.in-Some.ensures)
+    subst (λ (v : ℕ). IsNeeded c.args.hold.now h v c.in-Some.b) c.self.view_is
+    (star_needs c.args.hold.now h c.self.inside.point c.deref.result.now c.in-Some.b (star_list h c.self.inside.point c.deref.result.now (c.deref.ensures.value ∙ c.in_ok-gone.ensures h st)) c.in-Some.ensures)
 
 pub near_set-requires : goal.near_set-requires
 near_set-requires c =
@@ -31,29 +30,29 @@ near_set-requires c =
       held = subst (λ (l : List Cell). AreHeld c.args.hold.now l) (c.deref.ensures.value ∙ sym c.deref-2.ensures.value) (at_none c.missing_bucket.result (AreHeld c.args.hold.now c.deref.result.now) (λ b. IsCellMissing c.args.hold.now c.deref.result.now b) c.in_default.not-Some c.missing_bucket.ensures);
       history = r.0;
       stands = r.1;
-      star_is = star_list (replay r.0) c.self.inside.point c.deref-2.result.now (c.deref-2.ensures.value ∙ c.in_ok-gone.ensures r.0 r.1);
+      star_is = star_list r.0 c.self.inside.point c.deref-2.result.now (c.deref-2.ensures.value ∙ c.in_ok-gone.ensures r.0 r.1);
     }
 
 pub cells_taken-requires-clause-ascending : goal.cells_taken-requires-clause-ascending
 cells_taken-requires-clause-ascending c =
     let r = c.requires.stands in
-    let m = subst (λ (v : ℕ). IsIn v (replay r.0)) (sym c.self.view_is) r.2 in
-    let l = subst (λ o. MatchOption o (is_solid (without_point c.self.inside.point (replay r.0)) ≡ false) (λ t. IsLinkSet (replay r.0) c.self.inside.point t.items)) c.in-Some-2.is (c.in_ok-near.ensures r.0 r.1 m (star_list (replay r.0) c.self.inside.point c.deref-2.result.now (c.deref-2.ensures.value ∙ c.in_ok-gone.ensures r.0 r.1))) in
+    let m = subst (λ (v : ℕ). IsIn v r.0) (sym c.self.view_is) r.2 in
+    let l = subst (λ o. MatchOption o (is_solid (without_point c.self.inside.point r.0) ≡ false) (λ t. IsLinkSet r.0 c.self.inside.point t.items)) c.in-Some-2.is (c.in_ok-near.ensures r.0 r.1 m (star_list r.0 c.self.inside.point c.deref-2.result.now (c.deref-2.ensures.value ∙ c.in_ok-gone.ensures r.0 r.1))) in
     subst (λ (t : List ℕ). IsAscending t) (sym c.deref-in-Some-2.ensures.value) l.solid.set.ascending
 
 pub cells_taken-requires-clause-solid : goal.cells_taken-requires-clause-solid
 cells_taken-requires-clause-solid c =
     let r = c.requires.stands in
-    let m = subst (λ (v : ℕ). IsIn v (replay r.0)) (sym c.self.view_is) r.2 in
-    let l = subst (λ o. MatchOption o (is_solid (without_point c.self.inside.point (replay r.0)) ≡ false) (λ t. IsLinkSet (replay r.0) c.self.inside.point t.items)) c.in-Some-2.is (c.in_ok-near.ensures r.0 r.1 m (star_list (replay r.0) c.self.inside.point c.deref-2.result.now (c.deref-2.ensures.value ∙ c.in_ok-gone.ensures r.0 r.1))) in
+    let m = subst (λ (v : ℕ). IsIn v r.0) (sym c.self.view_is) r.2 in
+    let l = subst (λ o. MatchOption o (is_solid (without_point c.self.inside.point r.0) ≡ false) (λ t. IsLinkSet r.0 c.self.inside.point t.items)) c.in-Some-2.is (c.in_ok-near.ensures r.0 r.1 m (star_list r.0 c.self.inside.point c.deref-2.result.now (c.deref-2.ensures.value ∙ c.in_ok-gone.ensures r.0 r.1))) in
     subst (λ (t : List ℕ). is_solid t ≡ true) (sym c.deref-in-Some-2.ensures.value) l.solid.solid
 
 pub cells_taken-requires-clause-absent : goal.cells_taken-requires-clause-absent
 cells_taken-requires-clause-absent c i =
     let r = c.requires.stands in
-    let m = subst (λ (v : ℕ). IsIn v (replay r.0)) (sym c.self.view_is) r.2 in
-    let l = subst (λ o. MatchOption o (is_solid (without_point c.self.inside.point (replay r.0)) ≡ false) (λ t. IsLinkSet (replay r.0) c.self.inside.point t.items)) c.in-Some-2.is (c.in_ok-near.ensures r.0 r.1 m (star_list (replay r.0) c.self.inside.point c.deref-2.result.now (c.deref-2.ensures.value ∙ c.in_ok-gone.ensures r.0 r.1))) in
-    (without_from c.self.inside.point (replay r.0) c.self.inside.point (l.inside c.self.inside.point (subst (λ (t : List ℕ). IsIn c.self.inside.point t) c.deref-in-Some-2.ensures.value i))).1 refl
+    let m = subst (λ (v : ℕ). IsIn v r.0) (sym c.self.view_is) r.2 in
+    let l = subst (λ o. MatchOption o (is_solid (without_point c.self.inside.point r.0) ≡ false) (λ t. IsLinkSet r.0 c.self.inside.point t.items)) c.in-Some-2.is (c.in_ok-near.ensures r.0 r.1 m (star_list r.0 c.self.inside.point c.deref-2.result.now (c.deref-2.ensures.value ∙ c.in_ok-gone.ensures r.0 r.1))) in
+    (without_from c.self.inside.point r.0 c.self.inside.point (l.inside c.self.inside.point (subst (λ (t : List ℕ). IsIn c.self.inside.point t) c.deref-in-Some-2.ensures.value i))).1 refl
 
 pub returns-clause-turn : goal.returns-clause-turn
 returns-clause-turn c =
@@ -63,16 +62,16 @@ returns-clause-turn c =
       | in-Some-2+in_ok-fresh-in-Some-2 w ↦ rw w.result-is (λ h st. (
           let r = c.requires.stands in
           let m = still_there c.args.hold.now r.0 h c.args.self.now r.1 st c.requires.held r.2 in
-          let n = subst (λ (v : ℕ). IsIn v (replay h)) (sym c.self.view_is) m in
-          let l = subst (λ o. MatchOption o (is_solid (without_point c.self.inside.point (replay h)) ≡ false) (λ t. IsLinkSet (replay h) c.self.inside.point t.items)) w.in-Some-2.is (c.in_ok-near.ensures h st n (star_list (replay h) c.self.inside.point c.deref-2.result.now (c.deref-2.ensures.value ∙ c.in_ok-gone.ensures h st))) in
+          let n = subst (λ (v : ℕ). IsIn v h) (sym c.self.view_is) m in
+          let l = subst (λ o. MatchOption o (is_solid (without_point c.self.inside.point h) ≡ false) (λ t. IsLinkSet h c.self.inside.point t.items)) w.in-Some-2.is (c.in_ok-near.ensures h st n (star_list h c.self.inside.point c.deref-2.result.now (c.deref-2.ensures.value ∙ c.in_ok-gone.ensures h st))) in
           let f = subst (λ (t : List ℕ). AreTaken t c.self.inside.point w.in_ok-fresh-in-Some-2.fresh.items) w.deref-in-Some-2.ensures.value w.in_ok-fresh-in-Some-2.ensures in
-          subst (λ (v : ℕ). RefillGives c.args.hold.now (replay h) v (Done (record { gone = c.in_ok-gone.gone; fresh = w.in_ok-fresh-in-Some-2.fresh }))) c.self.view_is
-          (refill_done c.args.hold.now (replay h) c.self.inside.point w.in-Some-2.near.items c.in_ok-gone.gone.items w.in_ok-fresh-in-Some-2.fresh.items (solid_set c.args.hold.now h st).set n l (c.in_ok-gone.ensures h st) star f)))
+          subst (λ (v : ℕ). RefillGives c.args.hold.now h v (Done (record { gone = c.in_ok-gone.gone; fresh = w.in_ok-fresh-in-Some-2.fresh }))) c.self.view_is
+          (refill_done c.args.hold.now h c.self.inside.point w.in-Some-2.near.items c.in_ok-gone.gone.items w.in_ok-fresh-in-Some-2.fresh.items (solid_set c.args.hold.now h st).set n l (c.in_ok-gone.ensures h st) star f)))
       | in-None w ↦ rw w.result-is (λ h st. (
           let r = c.requires.stands in
           let m = still_there c.args.hold.now r.0 h c.args.self.now r.1 st c.requires.held r.2 in
-          let n = subst (λ (v : ℕ). IsIn v (replay h)) (sym c.self.view_is) m in
-          let l = subst (λ o. MatchOption o (is_solid (without_point c.self.inside.point (replay h)) ≡ false) (λ t. IsLinkSet (replay h) c.self.inside.point t.items)) w.in-None.is (c.in_ok-near.ensures h st n (star_list (replay h) c.self.inside.point c.deref-2.result.now (c.deref-2.ensures.value ∙ c.in_ok-gone.ensures h st))) in
-          subst (λ (v : ℕ). RefillGives c.args.hold.now (replay h) v Flat) c.self.view_is
-          (none_needed c.args.hold.now (replay h) c.self.inside.point c.in_ok-gone.gone.items (star_list (replay h) c.self.inside.point c.in_ok-gone.gone.items (c.in_ok-gone.ensures h st)) star, l)))
+          let n = subst (λ (v : ℕ). IsIn v h) (sym c.self.view_is) m in
+          let l = subst (λ o. MatchOption o (is_solid (without_point c.self.inside.point h) ≡ false) (λ t. IsLinkSet h c.self.inside.point t.items)) w.in-None.is (c.in_ok-near.ensures h st n (star_list h c.self.inside.point c.deref-2.result.now (c.deref-2.ensures.value ∙ c.in_ok-gone.ensures h st))) in
+          subst (λ (v : ℕ). RefillGives c.args.hold.now h v Flat) c.self.view_is
+          (none_needed c.args.hold.now h c.self.inside.point c.in_ok-gone.gone.items (star_list h c.self.inside.point c.in_ok-gone.gone.items (c.in_ok-gone.ensures h st)) star, l)))
     ]
