@@ -1,12 +1,14 @@
 //! Cells and facets, kept with their points in ascending order.
 
 ghost use Rattle.std.specs.Prelude.{◌≡◌, ◌≢◌, ◌<◌, ◌↔◌, ℕ, List, [], ◌∷◌, ◌⊎◌, length};
+ghost use Rattle.point_order.specs.CellOrder.{cell_cmp};
 ghost use Rattle.point_order.specs.Facets.{facets_of, points_of};
 ghost use Rattle.point_order.specs.Sets.{IsAscending, AreThree, AreFour, IsIn, is_among, ascending};
 ghost use Rattle.point_order.specs.declared.cell.Cell.{Cell};
 ghost use Rattle.point_order.specs.declared.cell.Cell.TheVariants.{Full, Open};
 
 use crate::point::Point;
+use std::cmp::Ordering;
 use std::marker::Model;
 
 /// Two points in ascending order.
@@ -214,6 +216,14 @@ impl Cell {
                 ]
             }
         }
+    }
+
+    /// How the cell stands to another in the order of cells: Full cells come before Open ones, and each kind is in
+    /// lexicographic order. It is what `cmp` answers, with the order told by name.
+    pub fn compare(&self, other: &Cell) -> Ordering
+        ensures { result ≡ cell_cmp self.now other.now }
+    {
+        self.cmp(other)
     }
 
     /// Whether the point is one of the cell's.
