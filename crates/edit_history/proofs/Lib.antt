@@ -6,6 +6,7 @@ pub mod OpeningSolid
 pub mod SetEdits
 pub mod Lines
 pub mod Numbers
+pub mod OneMore
 pub mod HistoryLaws
 pub mod LinesAtPlaces
 pub mod KeepsLaw

@@ -1,11 +1,12 @@
 -- Laws of the opening four and of histories.
-use Rattle.std.specs.Prelude.{◌≡◌, ◌≢◌, ℕ, ◌<◌, false, List, [], length, IfSome, is_some, All, slice_index}
+use Rattle.std.specs.Prelude.{◌≡◌, ◌≢◌, ℕ, ◌<◌, false, List, [], ◌∷◌, ◌++◌, length, IfSome, is_some, All, slice_index}
 use Rattle.point_order.specs.Coordinates.{IsKey}
 use Rattle.point_order.specs.Orientation.{is_flat}
 use Rattle.point_order.specs.Solid.{is_solid}
 use Rattle.point_order.specs.Sets.{IsAscending, ascending}
 use Rattle.edit_history.specs.declared.history.Edit.{Edit}
 use Rattle.edit_history.specs.declared.history.Entry.{Entry}
+use Rattle.edit_history.specs.Edits.{reply_to, after}
 use Rattle.edit_history.specs.Opening.{Four, opening_four}
 use Rattle.edit_history.specs.Histories.{IsLegal, replay}
 use Rattle.edit_history.specs.OneThread.{one_thread, Keeps}
@@ -32,6 +33,15 @@ FourLaw = (points : List ℕ) → IfSome (opening_four points) (AreIndependent p
 -- solidity is of the set: order and repetition do not matter
 abbrev pub SetLaw : Type 0
 SetLaw = (points : List ℕ) → is_solid (ascending points) ≡ is_solid points
+
+-- a history with one entry more leaves what its edit makes of the points before
+abbrev pub MoreLeaves : Type 0
+MoreLeaves = (h : List Entry) (e : Entry) → replay (h ++ e ∷ []) ≡ after (replay h) e.edit
+
+-- it is legal where the entry has the next number, and the reply of the points before
+abbrev pub MoreIsLegal : Type 0
+MoreIsLegal =
+    (h : List Entry) (e : Entry) → IsLegal h → e.number ≡ length h → e.reply ≡ reply_to (replay h) e.edit → IsLegal (h ++ e ∷ [])
 
 -- the history of one thread is legal
 abbrev pub LegalLaw : Type 0

@@ -1,6 +1,6 @@
 //! Laws of the opening four and of histories. Each function does nothing, and its contract is a law.
 
-ghost use Rattle.edit_history.specs.Laws.{OpeningLaw, FourLaw, SetLaw, LeavesSet, LegalLaw, KeepsLaw, ReplayLaw};
+ghost use Rattle.edit_history.specs.Laws.{OpeningLaw, FourLaw, SetLaw, LeavesSet, MoreLeaves, MoreIsLegal, LegalLaw, KeepsLaw, ReplayLaw};
 
 /// The points of a list have an opening four exactly where they are solid, and the four are independent points of the
 /// list, each at the first place of its point.
@@ -17,6 +17,13 @@ pub fn solidity_is_of_the_set()
 /// A history leaves a set of points, as an ascending list.
 pub fn history_leaves_set()
     ensures { LeavesSet }
+{}
+
+/// A history with one entry more leaves what that entry's edit makes of the points before, and is legal where the entry
+/// has the next number and the reply of those points.
+pub fn history_with_an_entry()
+    ensures leaves { MoreLeaves }
+    ensures legal { MoreIsLegal }
 {}
 
 /// The history of one thread is legal and keeps the file; of point lines alone it leaves the set of the points.
