@@ -13,12 +13,11 @@ use Rattle.edit_history.specs.Edits.{point_of, reply_to, changed, after}
 use Rattle.edit_history.specs.Histories.{replay_from, replay, entries_from, IsLegalFrom}
 use Rattle.edit_history.specs.Opening.{Four, opening_four}
 use Rattle.edit_history.specs.OneThread.{is_opening, tagged_lines, opening_first, lines_in_order}
-use Rattle.edit_history.specs.Making.{set_after}
 use Rattle.edit_history.specs.Laws.{SetLaw, LegalLaw, ReplayLaw, LeavesSet}
 use Rattle.edit_history.proofs.Solidity.{solid-ascending}
 use Rattle.edit_history.proofs.SetEdits.{ascending-without}
 use Rattle.edit_history.proofs.Numbers.{among-in}
-use Rattle.edit_history.proofs.Lines.{replay-is, in-filtered, in-append}
+use Rattle.edit_history.proofs.Lines.{set_after, replay-is, in-filtered, in-append}
 
 pub set_law : SetLaw
 set_law points = solid-ascending points

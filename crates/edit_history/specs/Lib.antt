@@ -2,7 +2,6 @@ pub mod Edits
 pub mod Histories
 pub mod Opening
 pub mod OneThread
-pub mod Making
 pub mod Merging
 pub mod PassedOver
 pub mod Laws

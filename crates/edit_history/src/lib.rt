@@ -7,13 +7,11 @@
 mod history;
 pub mod laws;
 mod merging;
-mod one_thread;
 pub mod opening;
 mod point_set;
 
 pub use history::{Edit, Entry, Reply};
 pub use merging::merge;
-pub use one_thread::History;
 pub use opening::{NotSolid, find_four};
 pub use point_set::PointSet;
 

@@ -2,7 +2,6 @@
 
 use crate::history::{Edit, Entry, Reply};
 use crate::merging::merge;
-use crate::one_thread::History;
 use crate::opening::{NotSolid, find_four};
 use crate::point_set::PointSet;
 use point_order::Point;
@@ -76,15 +75,6 @@ fn points_of(alloc: Global, rows: &[[i64; 3]]) -> Result<Vec<Point>, Fail> {
     Ok(points)
 }
 
-fn edits_of(alloc: Global, rows: &[(bool, [i64; 3])]) -> Result<Vec<Edit>, Fail> {
-    let mut edits = Vec::new(alloc);
-    for (takes, [x, y, z]) in rows {
-        let p = Point::new(*x, *y, *z)?;
-        edits.push(if *takes { Edit::Take(p) } else { Edit::Add(p) })?;
-    }
-    Ok(edits)
-}
-
 fn letter(reply: Reply) -> u8 {
     match reply {
         Reply::Inserted => b'I',
@@ -95,37 +85,35 @@ fn letter(reply: Reply) -> u8 {
     }
 }
 
-// The replies of the entries in the order of their tags.
-fn letters_by_tag(alloc: Global, entries: &[Entry], count: u32) -> Result<Vec<u8>, Fail> {
-    let mut letters = Vec::new(alloc);
-    for tag in 0..count {
-        for entry in entries {
-            if entry.tag == tag {
-                letters.push(letter(entry.reply))?;
-            }
-        }
+// The lines of a row, point lines as adds.
+fn lines_of(
+    alloc: Global,
+    points: &[[i64; 3]],
+    edits: &[(bool, [i64; 3])],
+) -> Result<Vec<Edit>, Fail> {
+    let mut lines = Vec::new(alloc);
+    for [x, y, z] in points {
+        lines.push(Edit::Add(Point::new(*x, *y, *z)?))?;
     }
-    Ok(letters)
+    for (takes, [x, y, z]) in edits {
+        let p = Point::new(*x, *y, *z)?;
+        lines.push(if *takes { Edit::Take(p) } else { Edit::Add(p) })?;
+    }
+    Ok(lines)
 }
 
 #[test]
-fn replies_and_order_of_the_rows(rt: HostRuntime) -> Result<(), Fail> {
+fn replies_of_the_rows(rt: HostRuntime) -> Result<(), Fail> {
     for (points, edits, replies, order) in ROWS {
-        let points = points_of(rt.alloc(), points)?;
-        let edits = edits_of(rt.alloc(), edits)?;
-        assert!(rt; points.len() < 100 && edits.len() < 100);
-        let history = History::of_one_thread(rt.alloc(), &points, &edits)?;
-        let letters = letters_by_tag(rt.alloc(), &history.entries, 8)?;
-        assert_eq!(rt; letters.as_slice(), replies);
-        let mut tags = Vec::new(rt.alloc());
+        let lines = lines_of(rt.alloc(), points, edits)?;
         let mut set = PointSet::new(rt.alloc());
-        for entry in &history.entries {
-            tags.push(entry.tag)?;
-            assert_eq!(rt; set.reply_of(entry.edit), entry.reply);
-            assert_eq!(rt; set.after(entry.edit)?, entry.reply);
+        for tag in order {
+            let place = *tag as usize;
+            assert!(rt; place < lines.len() && place < replies.len());
+            let reply = set.reply_of(lines[place]);
+            assert_eq!(rt; letter(reply), replies[place]);
+            assert_eq!(rt; set.after(lines[place])?, reply);
         }
-        assert_eq!(rt; tags.as_slice(), order);
-        assert_eq!(rt; set.points(), history.points.points());
     }
     Ok(())
 }
