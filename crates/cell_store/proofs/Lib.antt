@@ -6,4 +6,7 @@ pub mod NextLaws
 pub mod MergeLaws
 pub mod RoomLaws
 pub mod NoteLaws
+pub mod HandLaws
+pub mod TouchLaws
 pub mod MeshLaws
+pub mod Gathering

@@ -2,7 +2,7 @@
 use Rattle.std.specs.Prelude.{◌≡◌, ◌⊎◌, ltb, ℕ, ◌+◌, ◌-◌, ◌*◌, ◌^◌, zero, suc, ◌<◌, ◌≤◌, ◌==◌, min, nat_lt, Bool, true, false, cond, not, ◌&&◌, List, [], ◌∷◌, ◌++◌, Option, None, Some, IsSome, is_some, length, slice_index_or}
 use Rattle.std.specs.List.{filter, flat_map, range_with_len, list_all, All}
 use Rattle.std.specs.List.Sorted.{IsPermutation, IsNonDecreasingBy}
-use Rattle.std.specs.Option.{option_map, option_map_or}
+use Rattle.std.specs.Option.{option_map_or}
 use Rattle.std.proofs.Common.{refl, sym, ◌∙◌, ap, subst, inl, inr, arith, take, length-append, add-one}
 use Rattle.std.proofs.Math.Seq.{take-length}
 use Rattle.std.proofs.lemmas.Bool.Decides.{nat_tests}
@@ -12,11 +12,12 @@ use Rattle.std.proofs.lemmas.List.Sorted.{All-permutation, IsPermutation-append,
 use Rattle.point_order.specs.declared.cell.Cell.{Cell}
 use Rattle.point_order.specs.declared.cell.Cell.TheVariants.{Full, Open}
 use Rattle.point_order.specs.Complex.{complex}
+use Rattle.point_order.specs.Coordinates.{IsKey}
 use Rattle.point_order.specs.Facets.{points_of}
 use Rattle.point_order.specs.Sets.{IsIn}
 use Rattle.edit_history.specs.declared.history.Entry.{Entry}
 use Rattle.edit_history.specs.Edits.{point_of, after}
-use Rattle.edit_history.specs.Histories.{IsLegalFrom}
+use Rattle.edit_history.specs.Histories.{replay, IsLegalFrom}
 use Rattle.edit_history.specs.Merging.{numbers}
 use Rattle.edit_history.proofs.Lines.{at-in}
 use Rattle.edit_history.proofs.Numbers.{merged-order}
@@ -26,44 +27,32 @@ use Rattle.del_laws.proofs.Ordered.{complex_is_sorted, same_members}
 use Rattle.del_laws.proofs.Tests.{all_from, all_true, filtered_from, filtered_true}
 use Rattle.cell_store.specs.Grids.{bucket_of}
 use Rattle.cell_store.specs.Buckets.{Content, InHand, bucket_at}
-use Rattle.cell_store.specs.Shares.{Stands, Shows, IsShare, entries_share}
-use Rattle.cell_store.specs.Changes.{IsNext, IsSwapped, IsNoted, swapped_in, noted_in}
+use Rattle.cell_store.specs.Shares.{Stands, IsSound, Shows, entries_share}
+use Rattle.cell_store.specs.Changes.{Follows, IsNext, IsSwapped, IsNoted}
 use Rattle.cell_store.specs.Ready.{AreHeld}
 use Rattle.cell_store.specs.Swaps.{touches, AreSameCells}
-use Rattle.cell_store.specs.Meshes.{AllInHand, HasPlaces, IsWhole, MeshView, IsHoldOf, with_entry, by_number, history_in, mesh_in, counted, all_entries, all_cells, HistoryIs, MeshIs, MeshGathersHistory, MeshGathersComplex, AllAreHeld, FewerStand, MoreAreHeld}
+use Rattle.cell_store.specs.Meshes.{AllInHand, HasPlaces, IsWhole, MeshView, IsHoldOf, with_entry, by_number, history_in, mesh_in, counted, all_entries, all_cells, HistoryIs, MeshIs, MeshGathersHistory, MeshGathersComplex, AllAreHeld, MoreAreHeld}
 use Rattle.cell_store.proofs.GridLaws.{bucket-below}
+use Rattle.cell_store.proofs.HandLaws.{fewer_stand}
 use Rattle.cell_store.proofs.Members.{take_next}
-use Rattle.cell_store.proofs.NextLaws.{entry_keeps_hold}
-use Rattle.cell_store.proofs.ShareLaws.{touched}
-
--- ---- options
-
-pub some_of : {X : Type 0} (o : Option X) → IsSome o → (x : X) × (o ≡ Some x)
-some_of None s = absurd (cc s)
-some_of (Some x) s = (x, refl)
-
-known_some : {X : Type 0} (o : Option X) (x : X) → o ≡ Some x → IsSome o
-known_some o x e = rw e refl
-
-some_mapped : {X Y : Type 0} (f : X → Y) (o : Option X) → IsSome o → IsSome (option_map f o)
-some_mapped f None s = s
-some_mapped f (Some x) s = refl
+use Rattle.cell_store.proofs.NextLaws.{entry_keeps_hold, next_entry}
+use Rattle.cell_store.proofs.ShareLaws.{some_of, known_some, some_mapped, touched, sound_of, stands_shows}
 
 -- ---- what is in hand
 
 pub point_held : (hold : InHand) (p : ℕ) → HasPlaces hold → AllInHand hold → IsSome (bucket_at hold.places (bucket_of hold.grid p))
 point_held hold p has all = all (bucket_of hold.grid p) (subst (λ n. bucket_of hold.grid p < n) (sym has.places) (bucket-below hold.grid p has.size))
 
+-- so with the hold of a mesh
+pub held_by : (mesh : MeshView) (hold : InHand) (p : ℕ) → IsHoldOf mesh hold → IsSome (bucket_at hold.places (bucket_of hold.grid p))
+held_by mesh hold p i = point_held hold p i.whole.has i.whole.all
+
+-- which shows the set that the history leaves
+pub shows_of : (mesh : MeshView) (hold : InHand) → IsHoldOf mesh hold → Shows hold (replay mesh.history)
+shows_of mesh hold i = stands_shows hold mesh.history i.stands
+
 pub all_are_held : AllAreHeld
 all_are_held hold l has all c k p i = point_held hold p has all
-
-pub fewer_stand : FewerStand
-fewer_stand few many h am st = record {
-  legal = st.legal;
-  keys = st.keys;
-  solid = st.solid;
-  shares = λ b c e. subst (λ g. IsShare g b h c) (sym am.grid) (st.shares b c (am.buckets b c e));
-}
 
 pub more_are_held : MoreAreHeld
 more_are_held few many l am held c k p i =
@@ -98,7 +87,7 @@ none_pass p (x ∷ l) f = rw (f x) (none_pass p l f)
 
 -- ---- the entries of the first buckets
 
-abbrev entries_of : Option Content → List Entry
+abbrev pub entries_of : Option Content → List Entry
 entries_of o = option_map_or (λ c. c.entries) o []
 
 -- the number of the entry's bucket is below n
@@ -321,7 +310,7 @@ flat_from f (x ∷ l) d y k = elim (from_append y (f x) (flat_map f l) k) [
   | inr j ↦ (let r = flat_from f l d y j in (suc r.0, r.1))
 ]
 
-abbrev cells_of : Option Content → List Cell
+abbrev pub cells_of : Option Content → List Cell
 cells_of o = option_map_or (λ c. c.cells) o []
 
 -- a cell of a complex has a point
@@ -411,11 +400,16 @@ count_more h e n count k q = step count n (length h) (length (h ++ e ∷ [])) q 
     step : (c n a b : ℕ) → c ≡ min (n + 1) (2 ^ 64 - 1) → n ≡ min a (2 ^ 64 - 1) → b ≡ a + 1 → c ≡ min b (2 ^ 64 - 1)
     step c n a b = omega arith
 
+-- the history of a mesh is sound
+pub mesh_sound : (hold : InHand) (mesh : MeshView) → mesh_in hold ≡ mesh → IsHoldOf (mesh_in hold) hold → IsSound mesh.history
+mesh_sound hold mesh v i = subst (λ (m : MeshView). IsSound m.history) v (sound_of hold (history_in hold.places) i.stands)
+
 -- what the change of a mesh makes of its hold and of its count: the mesh with the entry
-pub mesh_changed : (old ready between new : InHand) (mesh : MeshView) (gone fresh : List Cell) (e : Entry) (n count : ℕ) → mesh_in old ≡ mesh → IsHoldOf (mesh_in old) old × (n ≡ counted (length (history_in old.places))) → IsNext mesh.history e gone fresh → ready.grid ≡ old.grid → ready.places ≡ old.places → IsSwapped gone fresh ready between → IsNoted e between new → count ≡ min (n + 1) (2 ^ 64 - 1)
+pub mesh_changed : (old ready between new : InHand) (mesh : MeshView) (gone fresh : List Cell) (e : Entry) (n count : ℕ) → mesh_in old ≡ mesh → IsHoldOf (mesh_in old) old × (n ≡ counted (length (history_in old.places))) → IsKey (point_of e.edit) → Follows mesh.history e gone fresh → ready.grid ≡ old.grid → ready.places ≡ old.places → IsSwapped gone fresh ready between → IsNoted e between new → count ≡ min (n + 1) (2 ^ 64 - 1)
     → (mesh_in new ≡ record mesh { history = mesh.history ++ e ∷ [] }) × (IsHoldOf (mesh_in new) new × (count ≡ counted (length (history_in new.places))))
-mesh_changed old ready between new mesh gone fresh e n count v i next g p sw nd q =
+mesh_changed old ready between new mesh gone fresh e n count v i key follows g p sw nd q =
     let own = subst (λ m. IsHoldOf m old) v i.0 in
+    let next = next_entry mesh.history e gone fresh (mesh_sound old mesh v i.0) key follows in
     let k = changed_hold mesh ready between new gone fresh e (roomed mesh old ready g p own) next sw nd in
     let w = mesh_is (record mesh { history = mesh.history ++ e ∷ [] }) new k in
     let h = ap (λ (m : MeshView). m.history) v in

@@ -1,8 +1,8 @@
 -- What an entry makes of the shares of a history.
-use Rattle.std.specs.Prelude.{◌≡◌, ℕ, ◌+◌, Bool, true, false, cond, not, ◌==◌, List, [], ◌∷◌, ◌++◌, Option, None, Some}
+use Rattle.std.specs.Prelude.{◌≡◌, ℕ, ◌+◌, Bool, true, false, cond, not, ◌==◌, List, [], ◌∷◌, ◌++◌, length, Option, None, Some}
 use Rattle.std.specs.List.{filter}
 use Rattle.std.specs.Option.{option_map}
-use Rattle.std.proofs.Common.{refl, sym, ◌∙◌, ap, subst, inl, inr}
+use Rattle.std.proofs.Common.{refl, sym, ◌∙◌, ap, subst, inl, inr, arith}
 use Rattle.std.proofs.lemmas.Bool.{eqb-true}
 use Rattle.std.proofs.lemmas.List.Elements.{filter-append}
 use Rattle.std.proofs.lemmas.List.Kept.{IsStrictlySortedBy-filter}
@@ -14,16 +14,18 @@ use Rattle.point_order.proofs.SetLaws.{same-members, in-with, in-with_new, in-wi
 use Rattle.edit_history.specs.declared.history.Entry.{Entry}
 use Rattle.edit_history.specs.declared.history.Reply.{Reply}
 use Rattle.edit_history.specs.declared.history.Reply.TheVariants.{Inserted, Duplicate, Removed, Missing, Flat}
-use Rattle.edit_history.specs.Edits.{point_of, changed, after}
+use Rattle.edit_history.specs.Edits.{point_of, reply_to, changed, after}
 use Rattle.edit_history.specs.Histories.{replay, replay_from, IsLegal, IsLegalFrom}
 use Rattle.del_laws.proofs.Tests.{filtered_from, filtered_true}
 use Rattle.del_laws.proofs.PointSets.{filtered_ascending}
 use Rattle.del_laws.proofs.Ordered.{complex_is_sorted, same_members}
+use Rattle.hole_laws.specs.Edits.{IsSolidSet}
+use Rattle.hole_laws.proofs.EditLaws.{stays_solid}
 use Rattle.cell_store.specs.Grids.{bucket_of}
 use Rattle.cell_store.specs.Buckets.{Content, bucket_at}
 use Rattle.cell_store.specs.Swaps.{touches, swapped}
 use Rattle.cell_store.specs.Shares.{IsShare, cells_share, entries_share}
-use Rattle.cell_store.specs.Changes.{swapped_in, noted_in, IsChange, EntryKeepsHold, ShareAfterEntry, ShareElsewhere}
+use Rattle.cell_store.specs.Changes.{swapped_in, noted_in, IsChange, NextEntry, EntryKeepsHold, ShareAfterEntry, ShareElsewhere}
 use Rattle.cell_store.proofs.CellLaws.{in_or_not, swapped_sorted, swapped_from, swapped_new, swapped_old, swapped_none}
 use Rattle.cell_store.proofs.ShareLaws.{ascending_replay}
 
@@ -131,6 +133,15 @@ replay_next h e l = from 0 [] h l
     from n s [] l = ap (changed s (point_of e.edit)) (sym l.1)
     from n s (d ∷ h) l = from (n + 1) (after s d.edit) h l.2
 
+pub replay_more : (s : List ℕ) (h : List Entry) (e : Entry) → replay_from s (h ++ e ∷ []) ≡ after (replay_from s h) e.edit
+replay_more s [] e = refl
+replay_more s (d ∷ h) e = replay_more (after s d.edit) h e
+
+-- it is legal with the next number and the reply of what was left
+pub legal_more : (n : ℕ) (s : List ℕ) (h : List Entry) (e : Entry) → IsLegalFrom n s h → e.number ≡ n + length h → e.reply ≡ reply_to (replay_from s h) e.edit → IsLegalFrom n s (h ++ e ∷ [])
+legal_more n s [] e l number reply = (omega (arith, number), reply, tt)
+legal_more n s (d ∷ h) e l number reply = (l.0, l.1, legal_more (n + 1) (after s d.edit) h e l.2 (omega (arith, number)) reply)
+
 -- the entries of a bucket with one more
 pub entries_after : (g b : ℕ) (h : List Entry) (e : Entry) → lies g b (point_of e.edit) ≡ true → entries_share g b h ++ e ∷ [] ≡ entries_share g b (h ++ e ∷ [])
 entries_after g b h e t = sym (filter-append (λ e. lies g b (point_of e.edit)) h (e ∷ []) ∙ ap (λ o. entries_share g b h ++ cond o (e ∷ []) []) t)
@@ -143,6 +154,17 @@ entries_stay g b h e t = sym (filter-append (λ e. lies g b (point_of e.edit)) h
     nil (x ∷ l) = ap (λ (m : List Entry). x ∷ m) (nil l)
 
 -- ---- the laws
+
+pub next_entry : NextEntry
+next_entry h e gone fresh sound key f =
+    let there : replay (h ++ e ∷ []) ≡ after (replay h) e.edit = replay_more [] h e in
+    let set : IsSolidSet (replay (h ++ e ∷ [])) = subst (λ (v : List ℕ). IsSolidSet v) (sym there) (stays_solid (replay h) e.edit sound.set key) in
+    record {
+      legal = legal_more 0 [] h e sound.legal (omega (arith, f.number)) f.reply;
+      keys = set.set.keys;
+      solid = set.solid;
+      change = subst (λ (v : List ℕ). IsChange (complex (replay h)) (complex v) gone fresh) (sym there) f.change;
+    }
 
 pub share_after_entry : ShareAfterEntry
 share_after_entry g b h e gone fresh c next sh = by (lies g b (point_of e.edit)) refl

@@ -1,6 +1,7 @@
--- What the buckets of a hold have of the complex for which the hold stands.
-use Rattle.std.specs.Prelude.{◌≡◌, ℕ, ◌+◌, ◌<◌, Bool, true, false, cond, ◌==◌, List, [], ◌∷◌, Option, None, Some, is_some, length, slice_index_or}
+-- What the buckets of a hold have of the set that it shows, and of its complex.
+use Rattle.std.specs.Prelude.{◌≡◌, ℕ, ◌+◌, ◌<◌, Bool, true, false, cond, ◌==◌, List, [], ◌∷◌, Option, None, Some, IsSome, is_some, length, slice_index_or}
 use Rattle.std.specs.List.{filter}
+use Rattle.std.specs.Option.{option_map}
 use Rattle.std.proofs.Common.{refl, sym, ◌∙◌, ap, subst, inl, inr, arith, take, add-one}
 use Rattle.std.proofs.lemmas.Bool.{eqb-true}
 use Rattle.std.proofs.lemmas.Bool.Decides.{nat_tests}
@@ -21,12 +22,26 @@ use Rattle.edit_history.proofs.SetEdits.{ascending-without}
 use Rattle.edit_history.proofs.Solidity.{any-in, any-some}
 use Rattle.del_laws.proofs.Tests.{filter_is, filtered_from, filtered_true}
 use Rattle.del_laws.proofs.Neighbours.{listed_facets}
+use Rattle.hole_laws.specs.Edits.{IsSolidSet}
 use Rattle.cell_store.specs.Grids.{bucket_of}
 use Rattle.cell_store.specs.Buckets.{Content, InHand, bucket_at}
 use Rattle.cell_store.specs.Swaps.{touches}
 use Rattle.cell_store.specs.Others.{IsOtherOf, HaveNoOther}
-use Rattle.cell_store.specs.Shares.{Stands, StandsShows, ShareIsOne, Shows, ShowsWith, NoneInHand, IsInHandFor, IsAcross, points_on}
+use Rattle.cell_store.specs.Shares.{Stands, IsSound, StandsShows, ShareIsOne, Shows, ShowsWith, NoneInHand, IsInHandFor, IsAcross, points_on}
 use Rattle.cell_store.proofs.Members.{in-take_more}
+
+-- ---- options
+
+pub some_of : {X : Type 0} (o : Option X) → IsSome o → (x : X) × (o ≡ Some x)
+some_of None s = absurd (cc s)
+some_of (Some x) s = (x, refl)
+
+pub known_some : {X : Type 0} (o : Option X) (x : X) → o ≡ Some x → IsSome o
+known_some o x e = rw e refl
+
+pub some_mapped : {X Y : Type 0} (f : X → Y) (o : Option X) → IsSome o → IsSome (option_map f o)
+some_mapped f None s = s
+some_mapped f (Some x) s = refl
 
 -- ---- filters
 
@@ -80,6 +95,14 @@ stands_shows hold h st = record {
   solid = st.solid;
   sights = λ b c e. record { points = (st.shares b c e).points; cells = (st.shares b c e).cells };
 }
+
+-- a set that a hold shows is solid
+pub solid_set : (hold : InHand) (s : List ℕ) → Shows hold s → IsSolidSet s
+solid_set hold s sh = record { set = record { ascending = sh.ascending; keys = sh.keys }; solid = sh.solid }
+
+-- a history for which a hold stands is sound
+pub sound_of : (hold : InHand) (h : List Entry) → Stands hold h → IsSound h
+sound_of hold h st = record { legal = st.legal; set = solid_set hold (replay h) (stands_shows hold h st) }
 
 -- ---- the cells at a point
 

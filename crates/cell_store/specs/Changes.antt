@@ -3,16 +3,17 @@ use Rattle.std.specs.Prelude.{◌≡◌, ℕ, true, false, List, [], ◌∷◌, 
 use Rattle.std.specs.Option.{option_map}
 use Rattle.point_order.specs.declared.cell.Cell.{Cell}
 use Rattle.point_order.specs.Complex.{complex}
+use Rattle.point_order.specs.Coordinates.{IsKey}
 use Rattle.point_order.specs.Sets.{IsIn}
 use Rattle.point_order.specs.Solid.{is_solid}
 use Rattle.edit_history.specs.declared.history.Entry.{Entry}
-use Rattle.edit_history.specs.Edits.{point_of, changed}
+use Rattle.edit_history.specs.Edits.{point_of, reply_to, changed, after}
 use Rattle.edit_history.specs.Histories.{replay, IsLegal}
 use Rattle.del_laws.specs.Keys.{AreKeys}
 use Rattle.cell_store.specs.Grids.{bucket_of}
 use Rattle.cell_store.specs.Swaps.{touches, swapped}
 use Rattle.cell_store.specs.Buckets.{Content, InHand, bucket_at}
-use Rattle.cell_store.specs.Shares.{Stands, IsShare}
+use Rattle.cell_store.specs.Shares.{Stands, IsSound, IsShare}
 
 -- the bucket b after an exchange of cells
 abbrev pub swapped_in : ℕ → ℕ → List Cell → List Cell → Content → Content
@@ -43,12 +44,24 @@ pub record IsChange (s t gone fresh : List Cell) : Type 0 where
   pub all_fresh : (c : Cell) → IsIn c t → (IsIn c s → ⊥) → IsIn c fresh
 
 -- The history with an entry is legal, the points that it leaves are keys and solid, and gone and fresh are exactly what the entry
--- takes from the complex and adds to it. The laws of insertion and removal supply the last.
+-- takes from the complex and adds to it.
 pub record IsNext (h : List Entry) (e : Entry) (gone fresh : List Cell) : Type 0 where
   pub legal : IsLegal (h ++ e ∷ [])
   pub keys : AreKeys (replay (h ++ e ∷ []))
   pub solid : is_solid (replay (h ++ e ∷ [])) ≡ true
   pub change : IsChange (complex (replay h)) (complex (replay (h ++ e ∷ []))) gone fresh
+
+-- The entry follows the history: it has the next number and the reply of the points that are left, and gone and fresh are exactly what
+-- its edit takes from their complex and adds to it, which may be nothing. The laws of insertion and removal supply the last.
+pub record Follows (h : List Entry) (e : Entry) (gone fresh : List Cell) : Type 0 where
+  pub number : e.number ≡ length h
+  pub reply : e.reply ≡ reply_to (replay h) e.edit
+  pub change : IsChange (complex (replay h)) (complex (after (replay h) e.edit)) gone fresh
+
+-- After a sound history such an entry is next.
+abbrev pub NextEntry : Type 0
+NextEntry =
+    (h : List Entry) (e : Entry) (gone fresh : List Cell) → IsSound h → IsKey (point_of e.edit) → Follows h e gone fresh → IsNext h e gone fresh
 
 -- A hold that stands for a history stands, after the exchange of the gone and the new cells and after the entry, for the history
 -- with the entry.

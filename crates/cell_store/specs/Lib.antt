@@ -7,3 +7,4 @@ pub mod Others
 pub mod Changes
 pub mod Meshes
 pub mod Ready
+pub mod Touches

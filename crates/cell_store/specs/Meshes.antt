@@ -1,7 +1,7 @@
 -- Meshes, seen as their grid and their history, and the holds that are meshes.
-use Rattle.std.specs.Prelude.{◌≡◌, ℕ, ◌-◌, ◌*◌, ◌^◌, ◌<◌, ltb, if◌then◌else◌, min, true, List, [], ◌∷◌, length, Some, IsSome, IsPermutation, Option}
+use Rattle.std.specs.Prelude.{◌≡◌, ℕ, ◌-◌, ◌*◌, ◌^◌, ◌<◌, ltb, if◌then◌else◌, min, true, List, [], ◌∷◌, ◌++◌, length, slice_set, Some, None, IsSome, IsPermutation, Option}
 use Rattle.std.specs.List.{flat_map}
-use Rattle.std.specs.Option.{option_map, option_map_or}
+use Rattle.std.specs.Option.{option_map_or}
 use Rattle.std.specs.List.Sorted.{IsStrictlySortedBy}
 use Rattle.point_order.specs.declared.cell.Cell.{Cell}
 use Rattle.point_order.specs.CellOrder.{cell_cmp}
@@ -9,9 +9,9 @@ use Rattle.point_order.specs.Complex.{complex}
 use Rattle.edit_history.specs.declared.history.Entry.{Entry}
 use Rattle.edit_history.specs.Merging.{AreNumbered, numbers, places_of}
 use Rattle.cell_store.specs.Grids.{is_grid_size}
-use Rattle.cell_store.specs.Buckets.{Content, InHand, bucket_at}
+use Rattle.cell_store.specs.Buckets.{Content, InHand, bucket_at, at_place, no_room}
 use Rattle.cell_store.specs.Swaps.{AreSameCells}
-use Rattle.cell_store.specs.Shares.{Stands, Shows}
+use Rattle.cell_store.specs.Shares.{Stands, Shows, IsShare, IsSight}
 use Rattle.cell_store.specs.Ready.{AreHeld}
 
 -- every bucket of the grid is in hand
@@ -73,6 +73,10 @@ counted n = min n (2 ^ 64 - 1)
 abbrev pub all_cells : List (Option Content) → List Cell
 all_cells places = flat_map (λ o. option_map_or (λ c. c.cells) o []) places
 
+-- the new list has some cells behind those of the old one, in any order
+abbrev pub HasMore : List Cell → List Cell → List Cell → Type 0
+HasMore cells old new = (more : List Cell) × IsPermutation cells more × (new ≡ old ++ more)
+
 -- With every bucket in hand a hold stands for one history at most: the entries of its buckets, in order of number.
 abbrev pub HistoryIs : Type 0
 HistoryIs = (hold : InHand) (h : List Entry) → IsWhole hold → Stands hold h → history_in hold.places ≡ h
@@ -107,10 +111,35 @@ pub record AreAmong (few many : InHand) : Type 0 where
   pub grid : few.grid ≡ many.grid
   pub buckets : (b : ℕ) (c : Content) → bucket_at few.places b ≡ Some c → bucket_at many.places b ≡ Some c
 
--- With fewer buckets in hand a hold stands for what it stood for.
+-- With fewer buckets in hand a hold stands for what it stood for, and shows what it showed.
 abbrev pub FewerStand : Type 0
 FewerStand = (few many : InHand) (h : List Entry) → AreAmong few many → Stands many h → Stands few h
+
+abbrev pub FewerShow : Type 0
+FewerShow = (few many : InHand) (s : List ℕ) → AreAmong few many → Shows many s → Shows few s
 
 -- With more buckets in hand the cells that were held are held.
 abbrev pub MoreAreHeld : Type 0
 MoreAreHeld = (few many : InHand) (l : List Cell) → AreAmong few many → AreHeld few l → AreHeld many l
+
+-- the hold with a bucket more, which then stands in its place
+abbrev pub with_bucket : ℕ → Content → InHand → InHand
+with_bucket b c hold = record hold { places = slice_set hold.places b (Some (at_place hold.grid b c)) }
+
+-- and with one less, and no room
+abbrev pub without_bucket : ℕ → InHand → InHand
+without_bucket b hold = record hold { places = slice_set hold.places b None; room = no_room }
+
+-- A hold that takes a share in hand stands for what it stood for, and one that takes a sight in hand shows what it showed.
+abbrev pub PutStands : Type 0
+PutStands = (hold : InHand) (b : ℕ) (c : Content) (h : List Entry) → Stands hold h → IsShare hold.grid b h c → Stands (with_bucket b c hold) h
+
+abbrev pub PutShows : Type 0
+PutShows = (hold : InHand) (b : ℕ) (c : Content) (s : List ℕ) → Shows hold s → IsSight hold.grid b s c → Shows (with_bucket b c hold) s
+
+-- Its buckets before are among those after, where the bucket was not in hand; and without a bucket they are among those before.
+abbrev pub PutIsMore : Type 0
+PutIsMore = (hold : InHand) (b : ℕ) (c : Content) → bucket_at hold.places b ≡ None → AreAmong hold (with_bucket b c hold)
+
+abbrev pub TakeIsFewer : Type 0
+TakeIsFewer = (hold : InHand) (b : ℕ) → AreAmong (without_bucket b hold) hold

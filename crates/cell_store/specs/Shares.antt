@@ -1,5 +1,5 @@
 -- What a bucket has of a history, and when a hold stands for one.
-use Rattle.std.specs.Prelude.{◌≡◌, ◌*◌, ℕ, true, None, Some, List, ◌==◌}
+use Rattle.std.specs.Prelude.{◌≡◌, ℕ, true, None, Some, List, ◌==◌}
 use Rattle.std.specs.List.{filter}
 use Rattle.point_order.specs.declared.cell.Cell.{Cell}
 use Rattle.point_order.specs.declared.cell.Facet.{Facet}
@@ -11,6 +11,7 @@ use Rattle.edit_history.specs.declared.history.Entry.{Entry}
 use Rattle.edit_history.specs.Edits.{point_of}
 use Rattle.edit_history.specs.Histories.{replay, IsLegal}
 use Rattle.del_laws.specs.Keys.{AreKeys}
+use Rattle.hole_laws.specs.Edits.{IsSolidSet}
 use Rattle.cell_store.specs.Grids.{bucket_of}
 use Rattle.cell_store.specs.Others.{IsOtherOf}
 use Rattle.cell_store.specs.Swaps.{touches}
@@ -41,6 +42,11 @@ share_at g b h = record { points = points_share g b h; cells = cells_share g b h
 -- A bucket in its place that is a share is that one.
 abbrev pub ShareIsOne : Type 0
 ShareIsOne = (g b : ℕ) (h : List Entry) (c : Content) → IsShare g b h c → c.place ≡ Some (g, b) → c ≡ share_at g b h
+
+-- the history is legal, and the points that it leaves are a solid set
+pub record IsSound (h : List Entry) : Type 0 where
+  pub legal : IsLegal h
+  pub set : IsSolidSet (replay h)
 
 -- every bucket in hand is its share of the history
 abbrev pub AreShares : InHand → List Entry → Type 0

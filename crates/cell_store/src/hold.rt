@@ -124,9 +124,12 @@ impl Hold {
     }
 
     /// Whether the point is there. Its bucket is to be in hand.
+    ///
+    /// It is exactly where it is one of the points of the set, for every set that the hold shows.
     pub fn holds_point(&self, p: Point) -> bool
         requires { IsSome (bucket_at self.now.places (number_of self.now.grid p)) }
-        ensures { result ≡ is_among p (points_in self.now.places (number_of self.now.grid p)) }
+        ensures in_bucket { result ≡ is_among p (points_in self.now.places (number_of self.now.grid p)) }
+        ensures in_set { (s : List ℕ) → Shows self.now s → result ≡ is_among p s }
     {
         let b = self.grid().bucket_of(p);
         self.bucket(b).has_point(p)

@@ -1,14 +1,17 @@
-//! What an entry makes of the buckets of a hold, and what buckets say of a history. Each function here does nothing, and its
-//! contract is a law.
+//! What an entry makes of the buckets of a hold, what buckets say of a history and of a set, and what edits touch. Each function here
+//! does nothing, and its contract is laws.
 
-ghost use Rattle.cell_store.specs.Changes.{EntryKeepsHold, ShareAfterEntry, ShareElsewhere};
+ghost use Rattle.cell_store.specs.Changes.{NextEntry, EntryKeepsHold, ShareAfterEntry, ShareElsewhere};
 ghost use Rattle.cell_store.specs.Shares.{ShareIsOne, StandsShows};
-ghost use Rattle.cell_store.specs.Meshes.{HistoryIs, MeshIs, MeshGathersHistory, MeshGathersComplex, AllAreHeld, FewerStand, MoreAreHeld};
+ghost use Rattle.cell_store.specs.Meshes.{HistoryIs, MeshIs, MeshGathersHistory, MeshGathersComplex, AllAreHeld, MoreAreHeld};
+ghost use Rattle.cell_store.specs.Meshes.{FewerStand, FewerShow, PutStands, PutShows, PutIsMore, TakeIsFewer};
+ghost use Rattle.cell_store.specs.Touches.{ShareOutsideTouch, ReachFromHeld, CommitsCommute};
 
-/// After an exchange of exactly the gone and the new cells, and after the entry, a hold that stood for a history stands for the
-/// history with the entry; each share is that exact function of the one before, and a bucket that the entry does not touch
-/// keeps its share.
+/// An entry that follows a sound history is next. After an exchange of exactly the gone and the new cells, and after the entry, a hold
+/// that stood for a history stands for the history with the entry; each share is that exact function of the one before, and a bucket
+/// that the entry does not touch keeps its share.
 pub fn entry_keeps_hold()
+    ensures next { NextEntry }
     ensures hold { EntryKeepsHold }
     ensures share { ShareAfterEntry }
     ensures elsewhere { ShareElsewhere }
@@ -27,27 +30,33 @@ pub fn shares_show()
     ensures shown { StandsShows }
 {}
 
-/// The entries of all buckets of a mesh are those of its history, and in the order of their numbers they are the history.
-pub fn mesh_gathers_history()
-    ensures { MeshGathersHistory }
+/// The entries of all buckets are those of the history, and in the order of their numbers they are the history; the cells of all
+/// buckets are those of the complex, and in order, each once, they are the complex.
+pub fn all_buckets_gather()
+    ensures history { MeshGathersHistory }
+    ensures complex { MeshGathersComplex }
 {}
 
-/// The cells of all buckets of a mesh are those of its complex, and in order, each once, they are the complex.
-pub fn mesh_gathers_complex()
-    ensures { MeshGathersComplex }
+/// With every bucket in hand the cells of any list are held, and with more buckets in hand those that were held are.
+pub fn cells_are_held()
+    ensures all { AllAreHeld }
+    ensures more { MoreAreHeld }
 {}
 
-/// With every bucket in hand the cells of any list are held.
-pub fn all_are_held()
-    ensures { AllAreHeld }
+/// With fewer buckets in hand a hold stands for what it stood for, and shows what it showed. So does one that takes a share in hand.
+pub fn buckets_come_and_go()
+    ensures fewer_stand { FewerStand }
+    ensures fewer_show { FewerShow }
+    ensures taken { TakeIsFewer }
+    ensures put_stands { PutStands }
+    ensures put_shows { PutShows }
+    ensures put { PutIsMore }
 {}
 
-/// With fewer buckets in hand a hold stands for what it stood for.
-pub fn fewer_buckets_stand()
-    ensures { FewerStand }
-{}
-
-/// With more buckets in hand the cells that were held are held.
-pub fn more_are_held()
-    ensures { MoreAreHeld }
+/// An edit changes the share of no bucket that it does not touch. What it touches and answers is found from the buckets in hand alone.
+/// Two edits of which the second touches, after the first, no bucket that the first touches, commute.
+pub fn edits_are_local()
+    ensures outside { ShareOutsideTouch }
+    ensures found { ReachFromHeld }
+    ensures commute { CommitsCommute }
 {}

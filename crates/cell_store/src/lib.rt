@@ -1,10 +1,11 @@
 //! The mesh as buckets of a grid, and holds of the buckets in hand.
 //!
-//! The definitions stand in `specs/`: the bucket of a point, the share that a bucket has of a history, and when a hold stands
-//! for a history.
+//! The definitions stand in `specs/`: the bucket of a point, the share that a bucket has of a history, when a hold stands for a
+//! history and when it shows a set, and which buckets an edit touches.
 #![tactic(auto)]
 
 mod bucket;
+mod gather;
 mod grid;
 mod hold;
 pub mod laws;

@@ -3,8 +3,8 @@
 ghost use Rattle.std.specs.Prelude.{◌≡◌, ◌*◌, ◌<◌, ◌∷◌, ◌++◌, [], true, OnOk, OnErr, length};
 ghost use Rattle.cell_store.specs.Grids.{is_grid_size};
 ghost use Rattle.cell_store.specs.Buckets.{content_of};
-ghost use Rattle.cell_store.specs.Shares.{share_at};
-ghost use Rattle.cell_store.specs.Changes.{IsNext};
+ghost use Rattle.cell_store.specs.Shares.{IsSound, share_at};
+ghost use Rattle.cell_store.specs.Changes.{Follows};
 ghost use Rattle.cell_store.specs.Meshes.{AllInHand, HasPlaces, IsHoldOf, StandsForSome, counted, history_in, mesh_in};
 
 use crate::bucket::Bucket;
@@ -68,13 +68,14 @@ impl Mesh {
 
     /// How many entries there are so far. Where they are more than 64 bits can count, it is the greatest number of 64 bits.
     pub fn count(&self) -> u64
-        ensures { result ≡ counted (length self.now.history) }
+        ensures count { result ≡ counted (length self.now.history) }
+        ensures sound { IsSound self.now.history }
     {
         self.count
     }
 
     /// Makes the change that an entry makes of the mesh: takes the gone cells out, puts the fresh ones in, and puts the entry last
-    /// and its point in or out as its reply says. The entry is to continue the history, with exactly this change of cells.
+    /// and its point in or out as its reply says. The entry is to follow the history, with exactly this change of cells.
     ///
     /// # Errors
     /// Want of memory. The mesh is then as before.
@@ -85,11 +86,13 @@ impl Mesh {
         fresh: &[Cell],
         entry: Entry,
     ) -> Result<(), AllocError>
-        requires { IsNext self.old.history entry gone.now fresh.now }
+        requires { Follows self.old.history entry gone.now fresh.now }
         ensures changed { OnOk result (self.new ≡ record self.old { history = self.old.history ++ entry ∷ [] }) }
         ensures refused { OnErr result (self.new ≡ self.old) }
     {
-        self.hold.reserve(alloc, gone, fresh, entry.edit.point())?;
+        let p = entry.edit.point();
+        let _ = p.key();
+        self.hold.reserve(alloc, gone, fresh, p)?;
         self.hold.swap_cells(gone, fresh);
         self.hold.push_entry(entry);
         self.count = self.count.saturating_add(1);

@@ -1,5 +1,5 @@
 use Rattle.std.proofs.Common.{rules, sym, ap, subst, ◌<◌, length}
-use Rattle.cell_store.proofs.NoteLaws.{len_set, stand_put}
+use Rattle.cell_store.proofs.NoteLaws.{stand_put}
 use Rattle.cell_store.proofs.hold.Hold.put.Goals as goal
 
 pub invariant_of-self : goal.invariant_of-self

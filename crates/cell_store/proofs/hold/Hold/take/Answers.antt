@@ -1,4 +1,4 @@
-use Rattle.std.proofs.Common.{rules, sym, ap, subst, ◌<◌, ◌∙◌, length, None, Some}
+use Rattle.std.proofs.Common.{sym, ap, subst, ◌<◌, ◌∙◌, length, None, Some}
 use Rattle.std.specs.Prelude.{slice_set}
 use Rattle.cell_store.specs.Buckets.{StandAtPlaces}
 use Rattle.cell_store.proofs.Members.{within}

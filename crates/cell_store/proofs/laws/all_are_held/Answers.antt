@@ -1,5 +1,0 @@
-use Rattle.cell_store.proofs.MeshLaws as laws
-use Rattle.cell_store.proofs.laws.all_are_held.Goals as goal
-
-pub returns : goal.returns
-returns c = laws.all_are_held
