@@ -28,7 +28,7 @@ use Rattle.cavity.specs.Exploring.{IsCellMissing, IsAt, AreUncrossed, ArePointsH
 use Rattle.cavity.specs.Turns.{IsNeeded, NoneIsNeeded}
 use Rattle.cavity.proofs.Lists.{at_place, apart_place, in_take, take_next, distinct_take, flat_from, in_flat, at_most}
 use Rattle.cavity.proofs.Held.{not_some, cells_more}
-use Rattle.cavity.proofs.Standing.{solid_set}
+use Rattle.cell_store.proofs.ShareLaws.{solid_set}
 use Rattle.cavity.proofs.Filling.{all_found}
 
 -- ---- the cells in hand

@@ -10,5 +10,5 @@ pub mod Advancing
 pub mod FourCells
 pub mod OpeningLaws
 pub mod Searching
-pub mod NextEntry
+pub mod Insertions
 pub mod MeshGrowth

@@ -17,7 +17,8 @@ use Rattle.edit_history.specs.Edits.{changed, after}
 use Rattle.cell_store.specs.Grids.{bucket_of}
 use Rattle.cell_store.specs.Buckets.{bucket_at, points_in}
 use Rattle.cell_store.specs.Meshes.{MeshView, IsHoldOf}
-use Rattle.cell_store.proofs.MeshLaws.{some_of, point_held}
+use Rattle.cell_store.proofs.ShareLaws.{some_of}
+use Rattle.cell_store.proofs.MeshLaws.{point_held}
 use Rattle.cell_store.proofs.Members.{in-take_more, at-place}
 use Rattle.cell_store.proofs.ShareLaws.{ascending_replay, stands_shows}
 use Rattle.cavity.specs.Opening.{inserted, opening_history}
@@ -35,8 +36,9 @@ use Rattle.cell_store.specs.Changes.{IsNext}
 use Rattle.cell_store.specs.Shares.{Stands, Shows}
 use Rattle.cavity.specs.Fills.{IsFilled}
 use Rattle.cavity.specs.Growing.{AreAmong, IsInsertion, HasGrown}
-use Rattle.cavity.proofs.Standing.{solid_set}
-use Rattle.cavity.proofs.NextEntry.{insertion_is_next, replay_more, reply_new}
+use Rattle.cell_store.proofs.ShareLaws.{solid_set}
+use Rattle.cell_store.proofs.NextLaws.{replay_more}
+use Rattle.cavity.proofs.Insertions.{left_by}
 
 -- four places in a list, of independent points
 pub record AreFound (points four : List ℕ) : Type 0 where
@@ -88,40 +90,9 @@ found_among points four f line i =
 pub new_of : (h : List Entry) (e : Entry) (p : ℕ) → IsKey p → p ≡ point_of e.edit → IsInsertion h e → IsNew (replay h) p
 new_of h e p k q i = record { key = k; absent = λ m. i.absent (subst (λ (x : ℕ). IsIn x (replay h)) q m) }
 
--- the entry is the next, with what fills the hole
-pub next_of : (m : InHand) (h : List Entry) (e : Entry) (p : ℕ) (gone fresh : List Cell) → Stands m h → IsKey p → p ≡ point_of e.edit → IsInsertion h e → IsFilled (replay h) p gone fresh → IsNext h e gone fresh
-next_of m h e p gone fresh st k q i f =
-    insertion_is_next h e p gone fresh st.legal (solid_set m (replay h) (stands_shows m h st)) (new_of h e p k q i) (i.edit ∙ ap Add (sym q)) i.number i.reply f
-
--- ---- the points of a mesh
-
-same : (b : ℕ) → (b == b) ≡ true
-same b = grind (arith, nat_tests)
-
--- the points of a bucket in hand are those of the set in it
-points_are : (hold : InHand) (s : List ℕ) (b : ℕ) → Shows hold s → IsSome (bucket_at hold.places b) → points_in hold.places b ≡ filter (λ q. bucket_of hold.grid q == b) s
-points_are hold s b sh o = let x = some_of (bucket_at hold.places b) o in rw x.1 ((sh.sights b x.0 x.1).points)
-
-pub held : (hold : InHand) (s : List ℕ) (p : ℕ) → Shows hold s → IsSome (bucket_at hold.places (bucket_of hold.grid p)) → is_among p (points_in hold.places (bucket_of hold.grid p)) ≡ true → IsIn p s
-held hold s p sh o t =
-    let b = bucket_of hold.grid p in
-    let i = subst (λ (l : List ℕ). IsIn p l) (points_are hold s b sh o) (among_from p (points_in hold.places b) t) in
-    (filtered_from (λ q. bucket_of hold.grid q == bucket_of hold.grid p) s p i).0
-
-pub not_held : (hold : InHand) (s : List ℕ) (p : ℕ) → Shows hold s → IsSome (bucket_at hold.places (bucket_of hold.grid p)) → is_among p (points_in hold.places (bucket_of hold.grid p)) ≡ false → ¬ (IsIn p s)
-not_held hold s p sh o f m =
-    let b = bucket_of hold.grid p in
-    let i = filtered_true (λ q. bucket_of hold.grid q == b) s p m (same b) in
-    let t = among_true p (points_in hold.places b) (subst (λ (l : List ℕ). IsIn p l) (sym (points_are hold s b sh o)) i) in
-    cc (t, f)
-
--- with the hold of a mesh the bucket of each point is in hand
-pub held_by : (mesh : MeshView) (hold : InHand) (p : ℕ) → IsHoldOf mesh hold → IsSome (bucket_at hold.places (bucket_of hold.grid p))
-held_by mesh hold p i = point_held hold p i.whole.has i.whole.all
-
--- and it shows the set that the history leaves
-pub shows_of : (mesh : MeshView) (hold : InHand) → IsHoldOf mesh hold → Shows hold (replay mesh.history)
-shows_of mesh hold i = stands_shows hold mesh.history i.stands
+-- a point whose test is false is none of the set
+pub not_among : (s : List ℕ) (p : ℕ) → is_among p s ≡ false → ¬ (IsIn p s)
+not_among s p f i = let t = among_true p s i in cc (t, f)
 
 -- ---- a mesh grows
 
@@ -162,13 +133,6 @@ grown_same points i n p h l e g k = record {
   front_in = λ q j. elim (in-take_more points i p q l e (subst (λ (t : ℕ). IsIn q (take t points)) (one_up i) j)) [ inl f ↦ g.front_in q f | inr f ↦ subst (λ (v : ℕ). IsIn v (replay h)) f k ];
 }
 
--- what an insertion leaves
-pub left_by : (h : List Entry) (p : ℕ) (e : Entry) → p ≡ point_of e.edit → IsInsertion h e → replay (h ++ e ∷ []) ≡ with_point p (replay h)
-left_by h p e k ins =
-    let s = replay h in
-    let new = reply_new s p (false_if (is_among p s) (λ t. ins.absent (subst (λ (x : ℕ). IsIn x s) k (among_from p s t)))) in
-    replay_more [] h e ∙ ap (after s) (ins.edit ∙ ap Add (sym k)) ∙ ap (changed s p) new
-
 -- a point that is inserted
 pub grown_more : (points : List ℕ) (i n p : ℕ) (h : List Entry) (e : Entry) → i < length points → p ≡ slice_index_or points i p → HasGrown points (take i points) n h → p ≡ point_of e.edit → IsInsertion h e → HasGrown points (take (i + 1) points) (n + 1) (h ++ e ∷ [])
 grown_more points i n p h e l q g k ins = record {
@@ -184,7 +148,7 @@ grown_more points i n p h e l q g k ins = record {
 }
   where
     left : replay (h ++ e ∷ []) ≡ with_point p (replay h)
-    left = left_by h p e k ins
+    left = replay_more [] h e ∙ left_by h e ins ∙ ap (λ (q : ℕ). with_point q (replay h)) (sym k)
 
 -- the insertion of a point that is not there
 pub inserts : (h : List Entry) (n p : ℕ) (e : Entry) → n ≡ length h → ¬ (IsIn p (replay h)) → e ≡ inserted n (0, p) → IsInsertion h e

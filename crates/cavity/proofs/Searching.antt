@@ -13,7 +13,8 @@ use Rattle.cell_store.specs.Buckets.{InHand, Content, bucket_at, cells_in}
 use Rattle.cell_store.specs.Grids.{bucket_of}
 use Rattle.cell_store.specs.Shares.{Shows, NoneInHand}
 use Rattle.cell_store.specs.Swaps.{touches}
-use Rattle.cell_store.proofs.MeshLaws.{some_of, in_moved, point_held}
+use Rattle.cell_store.proofs.ShareLaws.{some_of}
+use Rattle.cell_store.proofs.MeshLaws.{in_moved, point_held}
 use Rattle.cell_store.proofs.ShareLaws.{touched}
 use Rattle.cell_store.specs.Meshes.{AllInHand, HasPlaces}
 use Rattle.del_laws.proofs.Tests.{among_from, filtered_from, filtered_true}
@@ -25,7 +26,7 @@ use Rattle.std.proofs.lemmas.Bool.{eqb-true}
 use Rattle.std.proofs.lemmas.List.Sorted.{IsPermutation-sym}
 use Rattle.std.specs.List.Sorted.{IsPermutation}
 use Rattle.cavity.specs.Searching.{NoneGoes}
-use Rattle.cavity.proofs.Standing.{solid_set}
+use Rattle.cell_store.proofs.ShareLaws.{solid_set}
 
 -- the cells of a bucket in hand
 cells_are : (hold : InHand) (b : ℕ) (x : Content) → bucket_at hold.places b ≡ Some x → cells_in hold.places b ≡ x.cells

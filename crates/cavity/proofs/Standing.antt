@@ -1,4 +1,4 @@
--- What it is that a hold stands for a history: the set of points, its cells and its facets.
+-- The cells and facets of a solid set, and those that a hold shows.
 use Rattle.std.specs.Prelude.{◌≡◌, ℕ, List, ◌⊎◌}
 use Rattle.std.proofs.Common.{refl, sym, ◌∙◌, subst, inl, inr}
 use Rattle.point_order.specs.declared.cell.Cell.{Cell}
@@ -10,15 +10,11 @@ use Rattle.point_order.specs.Facets.{facets_of, points_of}
 use Rattle.point_order.specs.Sets.{IsIn}
 use Rattle.del_laws.proofs.Listed.{listed_is_cell}
 use Rattle.del_laws.proofs.Neighbours.{listed_facets}
-use Rattle.hole_laws.specs.Edits.{IsSet, IsSolidSet}
+use Rattle.hole_laws.specs.Edits.{IsSet}
 use Rattle.hole_laws.proofs.Near.{facet_inside, facet_point}
 use Rattle.hole_laws.proofs.OfSets.{lists_of}
 use Rattle.cell_store.specs.Buckets.{InHand}
-use Rattle.cell_store.specs.Shares.{Shows, NoneInHand, points_on}
-
--- a set that a hold shows is a solid set
-pub solid_set : (hold : InHand) (s : List ℕ) → Shows hold s → IsSolidSet s
-solid_set hold s sh = record { set = record { ascending = sh.ascending; keys = sh.keys }; solid = sh.solid }
+use Rattle.cell_store.specs.Shares.{NoneInHand, points_on}
 
 -- a facet of a cell is on two cells: a third is one of them
 pub one_of_two : (s : List ℕ) → IsSet s → (f : Facet) (c other q : Cell) → IsIn c (complex s) → IsIn f (facets_of c) → IsIn other (complex s) → IsIn f (facets_of other) → ¬ (other ≡ c) → IsIn q (complex s) → IsIn f (facets_of q) → (c ≡ q) ⊎ (other ≡ q)

@@ -38,15 +38,15 @@ pub record IsAt (s : List ℕ) (p : ℕ) (crossed : List Facet) (cell : Cell) (f
 abbrev pub AreUncrossed : List ℕ → ℕ → List Facet → List Facet → Type 0
 AreUncrossed s p crossed fs = (f : Facet) → IsIn f fs → IsRimOf s p f → ¬ (IsIn f crossed)
 
--- the hold stands for a history in which that is so
-abbrev pub StandsAt : InHand → ℕ → Cell → List Cell → List Facet → Type 0
-StandsAt hold p cell found rim = (h : List ℕ) × Shows hold h × (crossed : List Facet) × IsAt h p crossed cell found rim
+-- the hold shows a set in which that is so
+abbrev pub ShowsAt : InHand → ℕ → Cell → List Cell → List Facet → Type 0
+ShowsAt hold p cell found rim = (s : List ℕ) × Shows hold s × (crossed : List Facet) × IsAt s p crossed cell found rim
 
 -- and no rim facet of the cell was crossed
-abbrev pub StandsNewAt : InHand → ℕ → Cell → List Cell → List Facet → Type 0
-StandsNewAt hold p cell found rim =
-    (h : List ℕ) × Shows hold h × (crossed : List Facet) × IsAt h p crossed cell found rim
-    × AreUncrossed h p crossed (facets_of cell)
+abbrev pub ShowsNewAt : InHand → ℕ → Cell → List Cell → List Facet → Type 0
+ShowsNewAt hold p cell found rim =
+    (s : List ℕ) × Shows hold s × (crossed : List Facet) × IsAt s p crossed cell found rim
+    × AreUncrossed s p crossed (facets_of cell)
 
 -- after the facet of the found cell was crossed, it is one of those crossed
 abbrev pub Crosses : List ℕ → ℕ → Cell → Facet → List Cell → List Facet → List Cell → List Facet → Type 0

@@ -1,19 +1,15 @@
 -- The cells that a new point takes away, and those that it brings.
-use Rattle.std.specs.Prelude.{◌≡◌, ℕ, List, length, IsSome}
+use Rattle.std.specs.Prelude.{◌≡◌, ℕ, List, IsSome}
 use Rattle.conv_laws.specs.Lists.{AreDistinct}
 use Rattle.point_order.specs.declared.cell.Cell.{Cell}
 use Rattle.point_order.specs.declared.cell.Facet.{Facet}
 use Rattle.point_order.specs.Complex.{complex}
 use Rattle.point_order.specs.Facets.{facets_of}
 use Rattle.point_order.specs.Sets.{IsIn, with_point}
-use Rattle.edit_history.specs.declared.history.Edit.TheVariants.{Add}
-use Rattle.edit_history.specs.declared.history.Entry.{Entry}
-use Rattle.edit_history.specs.declared.history.Reply.TheVariants.{Inserted}
-use Rattle.edit_history.specs.Histories.{replay, IsLegal}
 use Rattle.hole_laws.specs.Edits.{IsSolidSet, IsNew}
 use Rattle.cell_store.specs.Grids.{bucket_of}
 use Rattle.cell_store.specs.Buckets.{InHand, bucket_at}
-use Rattle.cell_store.specs.Changes.{IsChange, IsNext}
+use Rattle.cell_store.specs.Changes.{IsChange}
 use Rattle.cell_store.specs.Ready.{AreHeld}
 use Rattle.cell_store.specs.Shares.{points_on}
 
@@ -37,10 +33,3 @@ abbrev pub FreshAreHeld : Type 0
 FreshAreHeld =
     (s : List ℕ) (p : ℕ) (gone fresh : List Cell) (hold : InHand) → IsSolidSet s → IsNew s p → IsFilled s p gone fresh →
     AreHeld hold gone → IsSome (bucket_at hold.places (bucket_of hold.grid p)) → AreHeld hold fresh
-
--- The entry of a new point, with its number and its reply, takes exactly the gone cells and brings exactly the fresh ones: after it the
--- history is legal, and its points are keys and solid.
-abbrev pub InsertionIsNext : Type 0
-InsertionIsNext =
-    (h : List Entry) (e : Entry) (p : ℕ) (gone fresh : List Cell) → IsLegal h → IsSolidSet (replay h) → IsNew (replay h) p →
-    e.edit ≡ Add p → e.number ≡ length h → e.reply ≡ Inserted → IsFilled (replay h) p gone fresh → IsNext h e gone fresh

@@ -7,6 +7,6 @@ use Rattle.hole_laws.specs.Edits.{IsNew}
 use Rattle.cell_store.specs.Buckets.{InHand}
 use Rattle.cell_store.specs.Shares.{Shows}
 
--- the hold stands for a history of whose complex the cell is one, and p is a new point
-abbrev pub StandsWithNew : InHand → Cell → ℕ → Type 0
-StandsWithNew hold cell p = (h : List ℕ) × Shows hold h × IsIn cell (complex h) × IsNew h p
+-- the hold shows a set of whose complex the cell is one, and for which p is a new point
+abbrev pub ShowsWithNew : InHand → Cell → ℕ → Type 0
+ShowsWithNew hold cell p = (s : List ℕ) × Shows hold s × IsIn cell (complex s) × IsNew s p

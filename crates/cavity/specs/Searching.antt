@@ -6,9 +6,9 @@ use Rattle.hole_laws.specs.Edits.{IsNew, GoesFrom}
 use Rattle.cell_store.specs.Buckets.{InHand}
 use Rattle.cell_store.specs.Shares.{Shows}
 
--- the hold stands for a history in which the point is new
-abbrev pub StandsForNew : InHand → ℕ → Type 0
-StandsForNew hold p = (h : List ℕ) × Shows hold h × IsNew h p
+-- the hold shows a set for which the point is new
+abbrev pub ShowsNew : InHand → ℕ → Type 0
+ShowsNew hold p = (s : List ℕ) × Shows hold s × IsNew s p
 
 -- the new point takes none of the cells away
 abbrev pub NoneGoes : List ℕ → ℕ → List Cell → Type 0

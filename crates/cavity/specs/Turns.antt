@@ -12,9 +12,9 @@ use Rattle.cavity.specs.declared.dig.DigTurn.{DigTurn}
 use Rattle.cavity.specs.declared.dig.DigTurn.TheVariants.{Done, Need}
 use Rattle.cavity.specs.Digs.{Digging, IsDigIn, IsDoneIn}
 
--- The hold stands for a history in whose complex the dig is one.
-abbrev pub StandsForDig : InHand → Digging → Type 0
-StandsForDig hold d = (h : List ℕ) × Shows hold h × IsDigIn h d
+-- The hold shows a set in which the dig is one.
+abbrev pub ShowsDig : InHand → Digging → Type 0
+ShowsDig hold d = (s : List ℕ) × Shows hold s × IsDigIn s d
 
 -- bucket b is not in hand, and has a finite point of a cell that p takes away
 pub record IsNeeded (hold : InHand) (s : List ℕ) (p b : ℕ) : Type 0 where

@@ -1,21 +1,24 @@
 //! A first cell in conflict, by looking through the buckets.
 
 ghost use Rattle.std.specs.Prelude.{List, MatchOption, IsSome, IfSome, ℕ};
+ghost use Rattle.point_order.specs.Sets.{IsIn};
 ghost use Rattle.hole_laws.specs.Edits.{IsNew, GoesFrom};
 ghost use Rattle.cell_store.specs.Buckets.{bucket_at, cells_in};
 ghost use Rattle.cell_store.specs.Shares.{Shows};
 ghost use Rattle.cell_store.specs.Meshes.{AllInHand};
-ghost use Rattle.cavity.specs.Searching.{StandsForNew, NoneGoes};
+ghost use Rattle.cavity.specs.Searching.{ShowsNew, NoneGoes};
 
 use crate::judge::goes;
 use cell_store::Hold;
 use point_order::{Cell, Point, Step};
 
-// A cell of the bucket that the new point takes away, if there is one.
-fn conflict_among(hold: &Hold, b: u32, p: Point) -> Option<Cell>
-    requires stands { StandsForNew hold.now p }
+/// A cell of the bucket with the number that the new point takes away, if there is one. The bucket is to be in hand, and the hold to
+/// show a set for which the point is new; the answer is right for each such set.
+pub fn conflict_among(hold: &Hold, b: u32, p: Point) -> Option<Cell>
+    requires shown { ShowsNew hold.now p }
     requires held { IsSome (bucket_at hold.now.places b) }
-    ensures { (h : List ℕ) → Shows hold.now h → IsNew h p → MatchOption result (NoneGoes h p (cells_in hold.now.places b)) (λ c. GoesFrom h p c) }
+    ensures among { IfSome result (λ c. IsIn c (cells_in hold.now.places b)) }
+    ensures goes { (s : List ℕ) → Shows hold.now s → IsNew s p → MatchOption result (NoneGoes s p (cells_in hold.now.places b)) (λ c. GoesFrom s p c) }
 {
     for cell in hold.bucket(b).cells() {
         if goes(hold, cell, p) {
@@ -36,8 +39,8 @@ fn nearest(points: &[Point], p: Point) -> Option<Point> {
 // A cell at a point that the new point takes away, if there is one.
 fn conflict_at(hold: &Hold, q: Point, p: Point) -> Option<Cell>
     requires all { AllInHand hold.now }
-    requires stands { StandsForNew hold.now p }
-    ensures { IfSome result (λ c. (h : List ℕ) → Shows hold.now h → IsNew h p → GoesFrom h p c) }
+    requires shown { ShowsNew hold.now p }
+    ensures { IfSome result (λ c. (s : List ℕ) → Shows hold.now s → IsNew s p → GoesFrom s p c) }
 {
     let _ = hold.grid();
     for neighbour in hold.cells_at(q) {
@@ -51,8 +54,8 @@ fn conflict_at(hold: &Hold, q: Point, p: Point) -> Option<Cell>
 // A cell at the point of the new point's bucket that is nearest to it, which the new point takes away, if there is one.
 fn conflict_near(hold: &Hold, p: Point) -> Option<Cell>
     requires all { AllInHand hold.now }
-    requires stands { StandsForNew hold.now p }
-    ensures { IfSome result (λ c. (h : List ℕ) → Shows hold.now h → IsNew h p → GoesFrom h p c) }
+    requires shown { ShowsNew hold.now p }
+    ensures { IfSome result (λ c. (s : List ℕ) → Shows hold.now s → IsNew s p → GoesFrom s p c) }
 {
     let home = hold.grid().bucket_of(p);
     let q = nearest(hold.bucket(home).points(), p)?;
@@ -62,8 +65,8 @@ fn conflict_near(hold: &Hold, p: Point) -> Option<Cell>
 // A cell that the new point takes away: the buckets are looked through in turn, from that of the point on and round.
 fn conflict_in_turn(hold: &Hold, p: Point) -> Cell
     requires all { AllInHand hold.now }
-    requires stands { StandsForNew hold.now p }
-    ensures { (h : List ℕ) → Shows hold.now h → IsNew h p → GoesFrom h p result }
+    requires shown { ShowsNew hold.now p }
+    ensures { (s : List ℕ) → Shows hold.now s → IsNew s p → GoesFrom s p result }
 {
     let grid = hold.grid();
     let count = grid.count();
@@ -76,14 +79,14 @@ fn conflict_in_turn(hold: &Hold, p: Point) -> Cell
     unreachable!()
 }
 
-/// A cell that the new point takes away. Every bucket is to be in hand, and the hold to stand for a history in which the point is new.
+/// A cell that the new point takes away. Every bucket is to be in hand, and the hold to show a set for which the point is new.
 ///
 /// A new point takes away a cell at the nearest point of the set. That is mostly the nearest one of its bucket, whose cells are looked
 /// at first; then the buckets are looked through in turn.
 pub fn cell_in_conflict(hold: &Hold, p: Point) -> Cell
     requires all { AllInHand hold.now }
-    requires stands { StandsForNew hold.now p }
-    ensures { (h : List ℕ) → Shows hold.now h → IsNew h p → GoesFrom h p result }
+    requires shown { ShowsNew hold.now p }
+    ensures { (s : List ℕ) → Shows hold.now s → IsNew s p → GoesFrom s p result }
 {
     match conflict_near(hold, p) {
         Some(cell) => cell,

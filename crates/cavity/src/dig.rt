@@ -4,7 +4,7 @@ ghost use Rattle.std.specs.Prelude.{◌≡◌, ℕ, [], ◌∷◌, IfOk, OnOk, L
 ghost use Rattle.cell_store.specs.Shares.{Shows};
 ghost use Rattle.cell_store.specs.Meshes.{AllInHand};
 ghost use Rattle.cavity.specs.Digs.{CanDig, IsDigIn};
-ghost use Rattle.cavity.specs.Turns.{StandsForDig, TurnGives, AsksBelow};
+ghost use Rattle.cavity.specs.Turns.{ShowsDig, TurnGives, AsksBelow};
 
 use crate::cell_list::CellList;
 use crate::explore::{explore, missing_bucket, missing_point};
@@ -62,16 +62,16 @@ impl Dig {
 
     /// Looks on over the buckets in hand, until all cells are found or a bucket is needed.
     ///
-    /// The hold is to stand for some history in whose complex this is a dig; the answer is right for each such history. Between two
-    /// turns buckets may come to the hold.
+    /// The hold is to show a set in which this is a dig; the answer is right for each such set. Between two turns buckets may come to the
+    /// hold.
     ///
     /// # Errors
     /// Want of memory. The dig may then only be dropped.
     pub fn advance(&mut self, _alloc: Global, hold: &Hold) -> Result<DigTurn, AllocError>
-        requires { StandsForDig hold.now self.old }
+        requires { ShowsDig hold.now self.old }
         ensures point { OnOk result (self.new.point ≡ self.old.point) }
-        ensures digs { OnOk result ((h : List ℕ) → Shows hold.now h → IsDigIn h self.old → IsDigIn h self.new) }
-        ensures turn { IfOk result (λ turn. (h : List ℕ) → Shows hold.now h → IsDigIn h self.old → TurnGives hold.now h self.new turn) }
+        ensures digs { OnOk result ((s : List ℕ) → Shows hold.now s → IsDigIn s self.old → IsDigIn s self.new) }
+        ensures turn { IfOk result (λ turn. (s : List ℕ) → Shows hold.now s → IsDigIn s self.old → TurnGives hold.now s self.new turn) }
         ensures below { IfOk result (λ turn. AsksBelow (length hold.now.places) turn) }
         ensures all { IfOk result (λ turn. AllInHand hold.now → turn ≡ DigTurn.Done) }
     {

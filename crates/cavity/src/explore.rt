@@ -6,7 +6,7 @@ ghost use Rattle.point_order.specs.Sets.{IsIn};
 ghost use Rattle.point_order.specs.declared.cell.Cell.{Cell};
 ghost use Rattle.cell_store.specs.Shares.{Shows, NoneInHand, points_on};
 ghost use Rattle.cell_store.specs.Ready.{AreHeld};
-ghost use Rattle.cavity.specs.Exploring.{ArePointsHeld, IsBucketMissing, IsCellMissing, StandsAt, StandsNewAt, Crosses, Explores};
+ghost use Rattle.cavity.specs.Exploring.{ArePointsHeld, IsBucketMissing, IsCellMissing, ShowsAt, ShowsNewAt, Crosses, Explores};
 
 use crate::cell_list::CellList;
 use crate::judge::{cell_across, goes};
@@ -49,11 +49,11 @@ fn cross(
     found: &mut CellList,
     rim: &mut Vec<Facet>,
 ) -> Result<(), AllocError>
-    requires stands { StandsAt hold.now point cell.now found.old rim.old.items }
+    requires shown { ShowsAt hold.now point cell.now found.old rim.old.items }
     requires facet { IsIn facet.now (facets_of cell.now) }
     requires held { ¬ (NoneInHand hold.now (points_on facet.now)) }
     ensures more { OnOk result ((more : List Cell) × (found.new ≡ found.old ++ more)) }
-    ensures crossed { OnOk result ((h : List ℕ) → Shows hold.now h → Crosses h point cell.now facet.now found.old rim.old.items found.new rim.new.items) }
+    ensures crossed { OnOk result ((s : List ℕ) → Shows hold.now s → Crosses s point cell.now facet.now found.old rim.old.items found.new rim.new.items) }
 {
     let other = cell_across(hold, cell, facet);
     if !found.contains(other) {
@@ -74,10 +74,10 @@ pub(crate) fn explore(
     found: &mut CellList,
     rim: &mut Vec<Facet>,
 ) -> Result<(), AllocError>
-    requires stands { StandsNewAt hold.now point cell.now found.old rim.old.items }
+    requires shown { ShowsNewAt hold.now point cell.now found.old rim.old.items }
     requires held { ArePointsHeld hold.now (points_of cell.now) }
     ensures more { OnOk result ((more : List Cell) × (found.new ≡ found.old ++ more)) }
-    ensures explored { OnOk result ((h : List ℕ) → Shows hold.now h → Explores h point cell.now found.old rim.old.items found.new rim.new.items) }
+    ensures explored { OnOk result ((s : List ℕ) → Shows hold.now s → Explores s point cell.now found.old rim.old.items found.new rim.new.items) }
 {
     let facets = cell.facets();
     for facet in &facets {

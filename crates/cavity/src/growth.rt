@@ -55,7 +55,6 @@ pub fn insert(alloc: Global, mesh: &mut Mesh, entry: Entry) -> Result<(), AllocE
 {
     let p = entry.edit.point();
     let _ = p.key();
-    let _ = mesh.hold();
     let change = change_by(alloc, mesh, p)?;
     mesh.change(alloc, &change.gone, &change.fresh, entry)?;
     Ok(())

@@ -8,19 +8,19 @@ ghost use Rattle.point_order.specs.Sets.{IsIn, is_among};
 ghost use Rattle.point_order.specs.declared.cell.Cell.TheVariants.{Open};
 ghost use Rattle.hole_laws.specs.Edits.{IsNew, IsMate, GoesFrom, StaysFrom};
 ghost use Rattle.cell_store.specs.Shares.{Shows, ShowsWith, NoneInHand, IsAcross, points_on};
-ghost use Rattle.cavity.specs.Judging.{StandsWithNew};
+ghost use Rattle.cavity.specs.Judging.{ShowsWithNew};
 
 use cell_store::{Across, Hold};
 use point_order::{Cell, Facet, Point, Tri};
 use sphere_ties::conflict;
 
-/// The cell across a facet of which some point's bucket is in hand. The hold is to stand for some history of whose complex the given
-/// cell is one; the answer is right for each such history.
+/// The cell across a facet of which some point's bucket is in hand. The hold is to show a set of whose complex the given cell is one; the
+/// answer is right for each such set.
 pub fn cell_across<'a>(hold: &'a Hold, cell: &Cell, facet: &Facet) -> &'a Cell
-    requires stands { ShowsWith hold.now cell.now }
+    requires shown { ShowsWith hold.now cell.now }
     requires facet { IsIn facet.now (facets_of cell.now) }
     requires held { ¬ (NoneInHand hold.now (points_on facet.now)) }
-    ensures { (h : List ℕ) → Shows hold.now h → IsIn cell.now (complex h) → IsAcross h cell.now facet.now result.now }
+    ensures { (s : List ℕ) → Shows hold.now s → IsIn cell.now (complex s) → IsAcross s cell.now facet.now result.now }
 {
     match hold.across(cell, facet) {
         Across::Cell(other) => other,
@@ -37,9 +37,9 @@ fn point_against(cell: &Cell, other: &Cell) -> Option<Point>
 
 // The mate of an Open cell with a point in hand: the point against its triple in the Full cell behind it.
 fn mate_of_triple(hold: &Hold, tri: &Tri) -> Point
-    requires stands { ShowsWith hold.now (Open tri.now) }
+    requires shown { ShowsWith hold.now (Open tri.now) }
     requires held { ¬ (NoneInHand hold.now tri.now) }
-    ensures { (h : List ℕ) → Shows hold.now h → IsIn (Open tri.now) (complex h) → IsMate h (Open tri.now) result }
+    ensures { (s : List ℕ) → Shows hold.now s → IsIn (Open tri.now) (complex s) → IsMate s (Open tri.now) result }
 {
     let cell = Cell::Open(*tri);
     let facet = Facet::Three(*tri);
@@ -51,9 +51,9 @@ fn mate_of_triple(hold: &Hold, tri: &Tri) -> Point
 
 // A mate of the cell. Of a Full cell it is not looked at.
 fn mate_of(hold: &Hold, cell: &Cell, p: Point) -> Point
-    requires stands { ShowsWith hold.now cell.now }
+    requires shown { ShowsWith hold.now cell.now }
     requires held { ¬ (NoneInHand hold.now (points_of cell.now)) }
-    ensures { (h : List ℕ) → Shows hold.now h → IsIn cell.now (complex h) → IsMate h cell.now result }
+    ensures { (s : List ℕ) → Shows hold.now s → IsIn cell.now (complex s) → IsMate s cell.now result }
 {
     match cell {
         Cell::Full(_) => p,
@@ -61,12 +61,12 @@ fn mate_of(hold: &Hold, cell: &Cell, p: Point) -> Point
     }
 }
 
-/// Whether the new point takes the cell away, of which some point's bucket is in hand. The hold is to stand for some history of whose
-/// complex the cell is one, and in which the point is new; the answer is right for each such history.
+/// Whether the new point takes the cell away, of which some point's bucket is in hand. The hold is to show a set of whose complex the
+/// cell is one, and for which the point is new; the answer is right for each such set.
 pub fn goes(hold: &Hold, cell: &Cell, p: Point) -> bool
-    requires stands { StandsWithNew hold.now cell.now p }
+    requires shown { ShowsWithNew hold.now cell.now p }
     requires held { ¬ (NoneInHand hold.now (points_of cell.now)) }
-    ensures { (h : List ℕ) → Shows hold.now h → IsNew h p → IsIn cell.now (complex h) → MatchBool result (GoesFrom h p cell.now) (StaysFrom h p cell.now) }
+    ensures { (s : List ℕ) → Shows hold.now s → IsNew s p → IsIn cell.now (complex s) → MatchBool result (GoesFrom s p cell.now) (StaysFrom s p cell.now) }
 {
     let mate = mate_of(hold, cell, p);
     conflict(cell, mate, p)

@@ -15,7 +15,7 @@ mod judge;
 pub mod laws;
 mod opening;
 
-pub use conflict_cell::cell_in_conflict;
+pub use conflict_cell::{cell_in_conflict, conflict_among};
 pub use dig::{Dig, DigTurn};
 pub use explore::missing_bucket;
 pub use fill_hole::{Fresh, fill};

@@ -20,10 +20,9 @@ use Rattle.cell_store.specs.Meshes.{MeshView, counted}
 use Rattle.cell_store.specs.Shares.{Stands, Shows}
 use Rattle.cell_store.proofs.ShareLaws.{stands_shows}
 use Rattle.cavity.specs.Growing.{IsInsertion}
-use Rattle.cavity.proofs.MeshGrowth.{held, not_held}
 use Rattle.cavity.proofs.NextEntry.{legal_more, replay_more}
 use Rattle.point_order.specs.declared.cell.Cell.{Cell}
-use Rattle.cavity.proofs.Standing.{solid_set}
+use Rattle.cell_store.proofs.ShareLaws.{solid_set}
 use Rattle.cavity.specs.declared.fill_hole.Fresh.{Fresh}
 use Rattle.vertex_removal.specs.Refills.{IsRefilled}
 use Rattle.vertex_removal.proofs.NextEntry.{removal_is_next}

@@ -17,7 +17,8 @@ use Rattle.del_laws.proofs.Tests.{filtered_true, filtered_from}
 use Rattle.cell_store.specs.Grids.{bucket_of}
 use Rattle.cell_store.specs.Shares.{Shows}
 use Rattle.cell_store.proofs.GridLaws.{bucket-below}
-use Rattle.cell_store.proofs.MeshLaws.{in_moved, in_flat, flat_from, some_of, point_held}
+use Rattle.cell_store.proofs.ShareLaws.{some_of}
+use Rattle.cell_store.proofs.MeshLaws.{in_moved, in_flat, flat_from, point_held}
 use Rattle.one_mesh.specs.Gathered.{HasMore}
 
 -- one more list

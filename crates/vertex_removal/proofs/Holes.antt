@@ -19,7 +19,7 @@ use Rattle.cell_store.specs.Grids.{bucket_of}
 use Rattle.cell_store.specs.Buckets.{InHand, bucket_at}
 use Rattle.cell_store.specs.Ready.{AreHeld}
 use Rattle.cell_store.specs.Shares.{Shows}
-use Rattle.cell_store.proofs.MeshLaws.{some_of}
+use Rattle.cell_store.proofs.ShareLaws.{some_of}
 use Rattle.vertex_removal.specs.Near.{AreTaken}
 use Rattle.vertex_removal.specs.Refills.{IsRefilled}
 use Rattle.vertex_removal.proofs.Star.{star_list, star_once}

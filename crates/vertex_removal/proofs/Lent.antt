@@ -9,11 +9,11 @@ use Rattle.cell_store.specs.Grids.{bucket_of}
 use Rattle.cell_store.specs.Meshes.{MeshView, IsHoldOf, AreAmong}
 use Rattle.cell_store.specs.Shares.{Shows, IsSight}
 use Rattle.edit_history.specs.Histories.{replay}
-use Rattle.cavity.proofs.MeshGrowth.{shows_of}
-use Rattle.vertex_removal.specs.Turns.{StandsWithPoint}
+use Rattle.cell_store.proofs.MeshLaws.{shows_of}
+use Rattle.vertex_removal.specs.Turns.{ShowsWithPoint}
 
 -- the hold of the mesh shows a set with each of its points
-pub stands_with : (mesh : MeshView) (hold : InHand) (t : List ℕ) (v r : ℕ) → IsHoldOf mesh hold → replay mesh.history ≡ t → IsIn v t → r ≡ v → StandsWithPoint hold r
+pub stands_with : (mesh : MeshView) (hold : InHand) (t : List ℕ) (v r : ℕ) → IsHoldOf mesh hold → replay mesh.history ≡ t → IsIn v t → r ≡ v → ShowsWithPoint hold r
 stands_with mesh hold t v r i e m same = (t, subst (Shows hold) e (shows_of mesh hold i), subst (λ (p : ℕ). IsIn p t) (sym same) m)
 
 -- a bucket in hand is one of the places
@@ -26,7 +26,7 @@ fewer_show : (few many : InHand) (s : List ℕ) → AreAmong few many → Shows 
 fewer_show few many s am sh = record { ascending = sh.ascending; keys = sh.keys; solid = sh.solid; sights = λ b c e. subst (λ g. IsSight g b s c) (sym am.grid) (sh.sights b c (am.buckets b c e)) }
 
 -- without a bucket it shows the same
-pub stands_without : (hold taken : InHand) (b r : ℕ) → IsSome (bucket_at hold.places b) → taken ≡ record hold { places = slice_set hold.places b None; room = no_room } → StandsWithPoint hold r → StandsWithPoint taken r
+pub stands_without : (hold taken : InHand) (b r : ℕ) → IsSome (bucket_at hold.places b) → taken ≡ record hold { places = slice_set hold.places b None; room = no_room } → ShowsWithPoint hold r → ShowsWithPoint taken r
 stands_without hold taken b r s e k = (k.0, fewer_show taken hold k.0 among k.1, k.2)
   where
     places : taken.places ≡ slice_set hold.places b None

@@ -28,7 +28,7 @@ use Rattle.cell_store.proofs.ShareLaws.{touched}
 use Rattle.cavity.proofs.Held.{not_some}
 use Rattle.cavity.proofs.Lists.{distinct_push}
 use Rattle.cavity.proofs.Searching.{some_point, none_in}
-use Rattle.cavity.proofs.MeshGrowth.{shows_of}
+use Rattle.cell_store.proofs.MeshLaws.{shows_of}
 use Rattle.vertex_removal.specs.Near.{AreTaken}
 use Rattle.vertex_removal.proofs.Once.{moved_once}
 

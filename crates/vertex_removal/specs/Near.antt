@@ -16,12 +16,12 @@ use Rattle.cell_store.specs.Shares.{Shows}
 abbrev pub IsStar : List ℕ → ℕ → List Cell → Type 0
 IsStar s v cells = (c : Cell) → IsIn c cells ↔ (IsIn c (complex s) × IsIn v (points_of c))
 
--- the hold stands for a history in which these are the cells at v, and the buckets of all their points are in hand
-pub record StandsForStar (hold : InHand) (v : ℕ) (star : List Cell) : Type 0 where
+-- the hold shows a set in which these are the cells at v, and the buckets of all their points are in hand
+pub record ShowsStar (hold : InHand) (v : ℕ) (star : List Cell) : Type 0 where
   pub held : AreHeld hold star
-  pub history : List ℕ
-  pub stands : Shows hold history
-  pub star_is : IsStar history v star
+  pub set : List ℕ
+  pub shown : Shows hold set
+  pub star_is : IsStar set v star
 
 -- one of the cells has the point
 pub record HasPoint (cells : List Cell) (e : ℕ) : Type 0 where

@@ -13,9 +13,9 @@ use Rattle.vertex_removal.specs.declared.refill.RefillTurn.{RefillTurn}
 use Rattle.vertex_removal.specs.declared.refill.RefillTurn.TheVariants.{Done, Flat, Need}
 use Rattle.vertex_removal.specs.Refills.{IsRefilled}
 
--- the hold stands for a history that leaves v
-abbrev pub StandsWithPoint : InHand → ℕ → Type 0
-StandsWithPoint hold v = (h : List ℕ) × Shows hold h × IsIn v h
+-- the hold shows a set of which v is a point
+abbrev pub ShowsWithPoint : InHand → ℕ → Type 0
+ShowsWithPoint hold v = (s : List ℕ) × Shows hold s × IsIn v s
 
 -- bucket b is not in hand, and has a finite point of a cell at v
 pub record IsNeeded (hold : InHand) (s : List ℕ) (v b : ℕ) : Type 0 where

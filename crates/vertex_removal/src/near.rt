@@ -11,7 +11,7 @@ ghost use Rattle.cell_store.specs.Buckets.{bucket_at, cells_in};
 ghost use Rattle.cell_store.specs.Grids.{bucket_of};
 ghost use Rattle.cell_store.specs.Shares.{Shows, ShowsWith};
 ghost use Rattle.cavity.specs.Exploring.{ArePointsHeld};
-ghost use Rattle.vertex_removal.specs.Near.{IsStar, StandsForStar, ArePointsBut, AreSamePoints, AreAdded, IsOneOf, IsOfOne};
+ghost use Rattle.vertex_removal.specs.Near.{IsStar, ShowsStar, ArePointsBut, AreSamePoints, AreAdded, IsOneOf, IsOfOne};
 
 use crate::ordered::points_in_order;
 use cavity::cell_across;
@@ -23,7 +23,7 @@ use std::alloc::{AllocError, Global};
 // The cells at a point whose bucket is in hand, in ascending order.
 pub(crate) fn star_of(alloc: Global, hold: &Hold, v: Point) -> Result<Vec<Cell>, AllocError>
     requires { IsSome (bucket_at hold.now.places (bucket_of hold.now.grid v)) }
-    ensures { IfOk result (λ star. (h : List ℕ) → Shows hold.now h → star.items ≡ filter (λ c. is_among v (points_of c)) (complex h)) }
+    ensures { IfOk result (λ star. (s : List ℕ) → Shows hold.now s → star.items ≡ filter (λ c. is_among v (points_of c)) (complex s)) }
 {
     let mut star = Vec::new(alloc);
     for cell in hold.cells_at(v) {
@@ -61,9 +61,9 @@ pub(crate) fn is_solid(points: &[Point]) -> bool
 
 // Adds the cells without v that lie across the facets of a cell, the buckets of whose points are in hand.
 fn add_across(hold: &Hold, cell: &Cell, v: Point, around: &mut Vec<Cell>) -> Result<(), AllocError>
-    requires stands { ShowsWith hold.now cell.now }
+    requires shown { ShowsWith hold.now cell.now }
     requires held { ArePointsHeld hold.now (points_of cell.now) }
-    ensures { OnOk result ((h : List ℕ) → Shows hold.now h → IsIn cell.now (complex h) → AreAdded h v (IsOneOf cell.now (facets_of cell.now)) around.old.items around.new.items) }
+    ensures { OnOk result ((s : List ℕ) → Shows hold.now s → IsIn cell.now (complex s) → AreAdded s v (IsOneOf cell.now (facets_of cell.now)) around.old.items around.new.items) }
 {
     let facets = cell.facets();
     for facet in &facets {
@@ -82,8 +82,8 @@ fn cells_around(
     v: Point,
     star: &[Cell],
 ) -> Result<Vec<Cell>, AllocError>
-    requires { StandsForStar hold.now v star.now }
-    ensures { IfOk result (λ around. (h : List ℕ) → Shows hold.now h → IsStar h v star.now → AreAdded h v (IsOfOne star.now) star.now around.items) }
+    requires { ShowsStar hold.now v star.now }
+    ensures { IfOk result (λ around. (s : List ℕ) → Shows hold.now s → IsStar s v star.now → AreAdded s v (IsOfOne star.now) star.now around.items) }
 {
     let mut around = Vec::from_slice(alloc, star)?;
     for cell in star {
@@ -100,8 +100,8 @@ pub(crate) fn near_set(
     v: Point,
     star: &[Cell],
 ) -> Result<Option<Vec<Point>>, AllocError>
-    requires { StandsForStar hold.now v star.now }
-    ensures { IfOk result (λ near. (h : List ℕ) → Shows hold.now h → IsIn v h → IsStar h v star.now → MatchOption near (is_solid_of (without_point v h) ≡ false) (λ t. IsLinkSet h v t.items)) }
+    requires { ShowsStar hold.now v star.now }
+    ensures { IfOk result (λ near. (s : List ℕ) → Shows hold.now s → IsIn v s → IsStar s v star.now → MatchOption near (is_solid_of (without_point v s) ≡ false) (λ t. IsLinkSet s v t.items)) }
 {
     let link = points_but(alloc, star, v)?;
     if is_solid(&link) {

@@ -5,7 +5,7 @@ ghost use Rattle.cell_store.specs.Buckets.{bucket_at};
 ghost use Rattle.cell_store.specs.Grids.{bucket_of};
 ghost use Rattle.cell_store.specs.Meshes.{AllInHand};
 ghost use Rattle.cell_store.specs.Shares.{Shows};
-ghost use Rattle.vertex_removal.specs.Turns.{StandsWithPoint, RefillGives, AsksBelow, AsksNothing};
+ghost use Rattle.vertex_removal.specs.Turns.{ShowsWithPoint, RefillGives, AsksBelow, AsksNothing};
 
 use crate::near::{near_set, star_of};
 use crate::small_mesh::cells_taken;
@@ -61,10 +61,10 @@ impl Refill {
     /// # Errors
     /// Want of memory. The refill is then as before.
     pub fn advance(&mut self, alloc: Global, hold: &Hold) -> Result<RefillTurn, AllocError>
-        requires stands { StandsWithPoint hold.now self.old }
+        requires shown { ShowsWithPoint hold.now self.old }
         requires held { IsSome (bucket_at hold.now.places (bucket_of hold.now.grid self.old)) }
         ensures point { self.new ≡ self.old }
-        ensures turn { IfOk result (λ turn. (h : List ℕ) → Shows hold.now h → RefillGives hold.now h self.old turn) }
+        ensures turn { IfOk result (λ turn. (s : List ℕ) → Shows hold.now s → RefillGives hold.now s self.old turn) }
         ensures below { IfOk result (λ turn. AsksBelow (length hold.now.places) turn) }
         ensures all { IfOk result (λ turn. AllInHand hold.now → AsksNothing turn) }
     {

@@ -12,20 +12,23 @@ loop-cell-init c = (
   (λ x i. inl (in_items c.args.hold.now c.args.b c.bucket.result.now (cells_to_come c.into_iter-cell-iterator.result) x c.bucket.ensures.bucket (rw c.into_iter-cell-iterator.ensures.into_iter_gives c.cells-cell-items.ensures) i)),
 )
 
-pub goes-requires-clause-stands : goal.goes-requires-clause-stands
-goes-requires-clause-stands c =
-    let r = c.requires.stands in
+pub goes-requires-clause-shown : goal.goes-requires-clause-shown
+goes-requires-clause-shown c =
+    let r = c.requires.shown in
     let i = c.loop-cell.invariant.0 c.in-Some.cell.now (subst (λ (l : List Cell). IsIn c.in-Some.cell.now l) (sym c.in-Some.ensures.steps) (inl refl)) in
     (r.0, r.1, (in_complex c.args.hold.now r.0 c.args.b c.in-Some.cell.now r.1 c.requires.held i).0, r.2)
 
 pub goes-requires-clause-held : goal.goes-requires-clause-held
 goes-requires-clause-held c none =
-    let r = c.requires.stands in
+    let r = c.requires.shown in
     let i = c.loop-cell.invariant.0 c.in-Some.cell.now (subst (λ (l : List Cell). IsIn c.in-Some.cell.now l) (sym c.in-Some.ensures.steps) (inl refl)) in
     not_none c.args.hold.now r.0 c.args.b c.in-Some.cell.now r.1 c.requires.held i none
 
-pub returns-then-goes : goal.returns-then-goes
-returns-then-goes c h st new =
+pub returns-then-goes-clause-among : goal.returns-then-goes-clause-among
+returns-then-goes-clause-among c = c.loop-cell.invariant.0 c.in-Some.cell.now (subst (λ (l : List Cell). IsIn c.in-Some.cell.now l) (sym c.in-Some.ensures.steps) (inl refl))
+
+pub returns-then-goes-clause-goes : goal.returns-then-goes-clause-goes
+returns-then-goes-clause-goes c h st new =
     let i = c.loop-cell.invariant.0 c.in-Some.cell.now (subst (λ (l : List Cell). IsIn c.in-Some.cell.now l) (sym c.in-Some.ensures.steps) (inl refl)) in
     c.if-goes.ensures h st new (in_complex c.args.hold.now h c.args.b c.in-Some.cell.now st c.requires.held i).0
 
@@ -44,8 +47,8 @@ loop-cell-preserved c = (
   ]),
 )
 
-pub returns : goal.returns
-returns c h st new x i g = elim (c.loop-cell.invariant.1 x i) [
+pub returns-clause-goes : goal.returns-clause-goes
+returns-clause-goes c h st new x i g = elim (c.loop-cell.invariant.1 x i) [
   | inl k ↦ absurd (none_in (cells_to_come c.loop-cell.cell-iterator) x (ap length c.in-None.ensures.steps.0) k)
   | inr stays ↦ stays h st new g
 ]

@@ -10,4 +10,4 @@ use Rattle.cavity.proofs.conflict_cell.conflict_among.Given as goal
 abbrev pub invariant-loop-cell : goal.invariant-loop-cell
 invariant-loop-cell l =
     ((c : Cell) → IsIn c (cells_to_come l.cell-iterator) → IsIn c (cells_in l.fn.hold.places l.fn.b)) ×
-    ((c : Cell) → IsIn c (cells_in l.fn.hold.places l.fn.b) → IsIn c (cells_to_come l.cell-iterator) ⊎ ((h : List ℕ) → Shows l.fn.hold h → IsNew h l.fn.p → GoesFrom h l.fn.p c → ⊥))
+    ((c : Cell) → IsIn c (cells_in l.fn.hold.places l.fn.b) → IsIn c (cells_to_come l.cell-iterator) ⊎ ((s : List ℕ) → Shows l.fn.hold s → IsNew s l.fn.p → GoesFrom s l.fn.p c → ⊥))

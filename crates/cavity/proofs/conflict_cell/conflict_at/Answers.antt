@@ -9,16 +9,16 @@ use Rattle.cavity.proofs.conflict_cell.conflict_at.Goals as goal
 pub cells_at-neighbour-items-requires : goal.cells_at-neighbour-items-requires
 cells_at-neighbour-items-requires c = point_held c.args.hold.now c.args.q (record { size = c.grid.ensures.size; places = c.grid.ensures.places }) c.requires.all
 
-pub goes-requires-clause-stands : goal.goes-requires-clause-stands
-goes-requires-clause-stands c =
-    let r = c.requires.stands in
+pub goes-requires-clause-shown : goal.goes-requires-clause-shown
+goes-requires-clause-shown c =
+    let r = c.requires.shown in
     let n = c.in-Some.neighbour.now in
     let m = c.loop-neighbour.invariant n (subst (λ (l : List Cell). IsIn n l) (sym c.in-Some.ensures.steps) (inl refl)) in
     (r.0, r.1, (at_point r.0 c.args.q (cells_left c.into_iter-neighbour-iterator.result) n (ap cells_left c.into_iter-neighbour-iterator.ensures.into_iter_gives ∙ c.cells_at-neighbour-items.ensures.in_complex r.0 r.1) m).0, r.2)
 
 pub goes-requires-clause-held : goal.goes-requires-clause-held
 goes-requires-clause-held c none =
-    let r = c.requires.stands in
+    let r = c.requires.shown in
     let n = c.in-Some.neighbour.now in
     let m = c.loop-neighbour.invariant n (subst (λ (l : List Cell). IsIn n l) (sym c.in-Some.ensures.steps) (inl refl)) in
     let held = point_held c.args.hold.now c.args.q (record { size = c.grid.ensures.size; places = c.grid.ensures.places }) c.requires.all in

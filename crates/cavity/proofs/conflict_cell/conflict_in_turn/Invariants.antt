@@ -7,4 +7,4 @@ use Rattle.cavity.proofs.conflict_cell.conflict_in_turn.Given as goal
 
 abbrev pub invariant-loop-step : goal.invariant-loop-step
 invariant-loop-step l =
-    (i : ℕ) → i < l.step → (h : List ℕ) → Shows l.fn.hold h → IsNew h l.fn.p → NoneGoes h l.fn.p (cells_in l.fn.hold.places ((l.first + i) % l.count))
+    (i : ℕ) → i < l.step → (s : List ℕ) → Shows l.fn.hold s → IsNew s l.fn.p → NoneGoes s l.fn.p (cells_in l.fn.hold.places ((l.first + i) % l.count))

@@ -1,19 +1,20 @@
 use Rattle.del_laws.proofs.Tests.{not_both}
-use Rattle.cavity.proofs.Standing.{solid_set, held_on}
+use Rattle.cell_store.proofs.ShareLaws.{solid_set}
+use Rattle.cavity.proofs.Standing.{held_on}
 use Rattle.cavity.proofs.Crossing.{crossed_found, crossed_goes, crossed_stays}
 use Rattle.cavity.proofs.explore.cross.Goals as goal
 
-pub cell_across-other-requires-clause-stands : goal.cell_across-other-requires-clause-stands
-cell_across-other-requires-clause-stands c = let r = c.requires.stands in (r.0, r.1, (r.3.so_far.goes c.args.cell.now r.3.among).before)
+pub cell_across-other-requires-clause-shown : goal.cell_across-other-requires-clause-shown
+cell_across-other-requires-clause-shown c = let r = c.requires.shown in (r.0, r.1, (r.3.so_far.goes c.args.cell.now r.3.among).before)
 
-pub goes-requires-clause-stands : goal.goes-requires-clause-stands
-goes-requires-clause-stands c =
-    let r = c.requires.stands in
+pub goes-requires-clause-shown : goal.goes-requires-clause-shown
+goes-requires-clause-shown c =
+    let r = c.requires.shown in
     (r.0, r.1, (c.cell_across-other.ensures r.0 r.1 (r.3.so_far.goes c.args.cell.now r.3.among).before).listed, r.3.new)
 
 pub goes-requires-clause-held : goal.goes-requires-clause-held
 goes-requires-clause-held c =
-    let r = c.requires.stands in
+    let r = c.requires.shown in
     let o = c.cell_across-other.ensures r.0 r.1 (r.3.so_far.goes c.args.cell.now r.3.among).before in
     held_on c.args.hold.now r.0 (solid_set c.args.hold.now r.0 r.1).set c.cell_across-other.result.now o.listed c.args.facet.now o.has c.requires.held
 

@@ -4,19 +4,19 @@ use Rattle.point_order.specs.declared.cell.Facet.{Facet}
 use Rattle.cell_store.specs.Shares.{NoneInHand, points_on}
 use Rattle.cavity.specs.Digs.{AreCrossed}
 use Rattle.cavity.specs.Exploring.{AreUncrossed}
-use Rattle.cavity.proofs.Standing.{solid_set}
+use Rattle.cell_store.proofs.ShareLaws.{solid_set}
 use Rattle.cavity.proofs.Exploration.{facet_held, next_facet, next_uncrossed, still_at, one_more, more_twice, facets_few}
 use Rattle.cavity.proofs.explore.explore.Goals as goal
 
-pub cross-requires-clause-stands : goal.cross-requires-clause-stands
-cross-requires-clause-stands c =
-    let r = c.requires.stands in
+pub cross-requires-clause-shown : goal.cross-requires-clause-shown
+cross-requires-clause-shown c =
+    let r = c.requires.shown in
     let now = r.2 ++ take c.loop-facet.facet-index c.facets-facets.result in
     (r.0, r.1, now, still_at r.0 c.args.point r.2 now c.args.cell.now c.args.found.now c.loop-facet.found c.args.rim.now.items c.loop-facet.rim.items r.3 c.loop-facet.invariant.0 (c.loop-facet.invariant.1 r.0 r.1 r.2 r.3 r.4))
 
 pub cross-requires-clause-held : goal.cross-requires-clause-held
 cross-requires-clause-held c =
-    let r = c.requires.stands in
+    let r = c.requires.shown in
     let i = (solid_set c.args.hold.now r.0 r.1).set in
     subst (λ (f : Facet). ¬ (NoneInHand c.args.hold.now (points_on f))) c.facet-item.is
     (facet_held c.args.hold.now r.0 i c.args.cell.now (r.3.so_far.goes c.args.cell.now r.3.among).before c.requires.held c.facet-item.result

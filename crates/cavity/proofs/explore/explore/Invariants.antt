@@ -10,5 +10,5 @@ use Rattle.cavity.proofs.explore.explore.Given as goal
 abbrev pub invariant-loop-facet : goal.invariant-loop-facet
 invariant-loop-facet l =
     ((more : List Cell) × (l.found ≡ l.initial.found ++ more))
-    × ((h : List ℕ) → Shows l.hold h → (crossed : List Facet) → IsAt h l.point crossed l.cell l.initial.found l.initial.rim.items →
-    AreUncrossed h l.point crossed (facets_of l.cell) → AreCrossed h l.point (crossed ++ take l.facet-index l.facet-items) l.found l.rim.items)
+    × ((s : List ℕ) → Shows l.hold s → (crossed : List Facet) → IsAt s l.point crossed l.cell l.initial.found l.initial.rim.items →
+    AreUncrossed s l.point crossed (facets_of l.cell) → AreCrossed s l.point (crossed ++ take l.facet-index l.facet-items) l.found l.rim.items)

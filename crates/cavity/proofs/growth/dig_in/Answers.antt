@@ -2,11 +2,11 @@ use Rattle.std.proofs.Common.{subst}
 use Rattle.edit_history.specs.Histories.{replay}
 use Rattle.cavity.specs.Turns.{TurnGives}
 use Rattle.cavity.specs.declared.dig.DigTurn.{DigTurn}
-use Rattle.cavity.proofs.MeshGrowth.{shows_of}
+use Rattle.cell_store.proofs.MeshLaws.{shows_of}
 use Rattle.cavity.proofs.growth.dig_in.Goals as goal
 
-pub cell_in_conflict-cell-requires-clause-stands : goal.cell_in_conflict-cell-requires-clause-stands
-cell_in_conflict-cell-requires-clause-stands c =
+pub cell_in_conflict-cell-requires-clause-shown : goal.cell_in_conflict-cell-requires-clause-shown
+cell_in_conflict-cell-requires-clause-shown c =
     (replay c.args.mesh.now.history, shows_of c.args.mesh.now c.hold-hold.result.now c.hold-hold.ensures, c.requires)
 
 pub returns-clause-done : goal.returns-clause-done

@@ -1,7 +1,8 @@
-use Rattle.std.proofs.Common.{subst, sym, List}
-use Rattle.point_order.specs.declared.cell.Cell.{Cell}
-use Rattle.cell_store.specs.Changes.{IsNext}
-use Rattle.cavity.proofs.MeshGrowth.{new_of, next_of}
+use Rattle.std.proofs.Common.{subst, ℕ}
+use Rattle.edit_history.specs.Histories.{replay}
+use Rattle.cavity.specs.Fills.{IsFilled}
+use Rattle.cavity.proofs.Insertions.{insertion_follows}
+use Rattle.cavity.proofs.MeshGrowth.{new_of}
 use Rattle.cavity.proofs.growth.insert.Goals as goal
 
 pub change_by-requires : goal.change_by-requires
@@ -10,5 +11,6 @@ change_by-requires c = new_of c.args.mesh.now.history c.args.entry c.point-p.res
 pub change-requires : goal.change-requires
 change-requires c =
     let h = c.args.mesh.now.history in
-    let n = next_of c.hold.result.now h c.args.entry c.point-p.result c.in_ok-change.change.gone.items c.in_ok-change.change.fresh.items c.hold.ensures.stands c.key.ensures.bound c.point-p.ensures c.requires c.in_ok-change.ensures in
-    subst (λ (l : List Cell). IsNext h c.args.entry l c.deref-2.result.now) (sym c.deref.ensures.value) (subst (λ (l : List Cell). IsNext h c.args.entry c.in_ok-change.change.gone.items l) (sym c.deref-2.ensures.value) n)
+    let f = c.in_ok-change.change in
+    rw (c.deref.ensures.value, c.deref-2.ensures.value)
+    (insertion_follows h c.args.entry f.gone.items f.fresh.items c.requires (subst (λ (p : ℕ). IsFilled (replay h) p f.gone.items f.fresh.items) c.point-p.ensures c.in_ok-change.ensures))

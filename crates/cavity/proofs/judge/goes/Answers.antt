@@ -1,11 +1,11 @@
 use Rattle.hole_laws.proofs.Judged.{mates_judge}
-use Rattle.cavity.proofs.Standing.{solid_set}
+use Rattle.cell_store.proofs.ShareLaws.{solid_set}
 use Rattle.cavity.proofs.Mates.{judged}
 use Rattle.cavity.proofs.judge.goes.Goals as goal
 
 pub conflict-requires : goal.conflict-requires
 conflict-requires c =
-    let r = c.requires.stands in
+    let r = c.requires.shown in
     mates_judge r.0 c.args.p (solid_set c.args.hold.now r.0 r.1).set r.3 c.args.cell.now c.mate_of-mate.result r.2 (c.mate_of-mate.ensures r.0 r.1 r.2)
 
 pub returns : goal.returns

@@ -1,13 +1,14 @@
-use Rattle.cavity.proofs.Standing.{solid_set, triple_on}
+use Rattle.cell_store.proofs.ShareLaws.{solid_set}
+use Rattle.cavity.proofs.Standing.{triple_on}
 use Rattle.cavity.proofs.Mates.{mate_against, some_against}
 use Rattle.cavity.proofs.judge.mate_of_triple.Goals as goal
 
 pub cell_across-requires-clause-facet : goal.cell_across-requires-clause-facet
-cell_across-requires-clause-facet c = let r = c.requires.stands in triple_on _ (solid_set c.args.hold.now r.0 r.1).set c.args.tri.now r.2
+cell_across-requires-clause-facet c = let r = c.requires.shown in triple_on _ (solid_set c.args.hold.now r.0 r.1).set c.args.tri.now r.2
 
 pub unreachable-requires : goal.unreachable-requires
 unreachable-requires c =
-    let r = c.requires.stands in
+    let r = c.requires.shown in
     some_against _ (solid_set c.args.hold.now r.0 r.1).set c.args.tri.now c.cell_across.result.now r.2 (c.cell_across.ensures r.0 r.1 r.2) c.in-None.ensures
 
 pub returns : goal.returns

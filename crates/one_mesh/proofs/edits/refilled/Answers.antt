@@ -2,14 +2,14 @@ use Rattle.std.proofs.Common.{sym, subst, ℕ, false, ◌≡◌}
 use Rattle.point_order.specs.Sets.{IsIn, without_point}
 use Rattle.point_order.specs.Solid.{is_solid}
 use Rattle.edit_history.specs.Histories.{replay}
-use Rattle.cavity.proofs.MeshGrowth.{held_by, shows_of}
+use Rattle.cell_store.proofs.MeshLaws.{held_by, shows_of}
 use Rattle.vertex_removal.specs.Refills.{IsRefilled}
 use Rattle.vertex_removal.specs.Turns.{RefillGives}
 use Rattle.vertex_removal.specs.declared.refill.RefillTurn.{RefillTurn}
 use Rattle.one_mesh.proofs.edits.refilled.Goals as goal
 
-pub advance-requires-clause-stands : goal.advance-requires-clause-stands
-advance-requires-clause-stands c =
+pub advance-requires-clause-shown : goal.advance-requires-clause-shown
+advance-requires-clause-shown c =
     let s = replay c.args.mesh.now.history in
     (s, shows_of c.args.mesh.now c.hold-hold.result.now c.hold-hold.ensures, subst (λ (v : ℕ). IsIn v s) (sym c.in_ok-refill.ensures) c.requires)
 

@@ -1,6 +1,6 @@
 use Rattle.edit_history.specs.Histories.{replay}
 use Rattle.cell_store.proofs.MeshLaws.{mesh_gathers_cells}
-use Rattle.cavity.proofs.MeshGrowth.{shows_of}
+use Rattle.cell_store.proofs.MeshLaws.{shows_of}
 use Rattle.one_mesh.proofs.lists.complex.Goals as goal
 
 pub returns : goal.returns

@@ -7,5 +7,5 @@ use Rattle.vertex_removal.proofs.near.add_across.Given as goal
 
 abbrev pub invariant-loop-facet : goal.invariant-loop-facet
 invariant-loop-facet l =
-    (h : List ℕ) → Shows l.hold h → IsIn l.cell (complex h) →
-    AreAdded h l.v (IsOneOf l.cell (take l.facet-index l.facet-items)) l.initial.around.items l.around.items
+    (s : List ℕ) → Shows l.hold s → IsIn l.cell (complex s) →
+    AreAdded s l.v (IsOneOf l.cell (take l.facet-index l.facet-items)) l.initial.around.items l.around.items

@@ -5,5 +5,5 @@ use Rattle.vertex_removal.proofs.near.cells_around.Given as goal
 
 abbrev pub invariant-loop-cell : goal.invariant-loop-cell
 invariant-loop-cell l =
-    (h : List ℕ) → Shows l.hold h → IsStar h l.v l.star →
-    AreAdded h l.v (IsOfOne (take l.cell-index l.star)) l.star l.around.items
+    (s : List ℕ) → Shows l.hold s → IsStar s l.v l.star →
+    AreAdded s l.v (IsOfOne (take l.cell-index l.star)) l.star l.around.items

@@ -10,8 +10,8 @@ loop-cell-init c =
       subst (λ (l : List Cell). IsJudged c.args.points.now c.args.v (cells_to_come c.into_iter-cell-iterator.result) l) (sym c.new-cells.ensures.items)
           (judged_first c.hold-hold.result.now c.args.points.now c.args.v c.bucket.result.now (cells_to_come c.into_iter-cell-iterator.result) k c.bucket.ensures.bucket (rw c.into_iter-cell-iterator.ensures.into_iter_gives c.cells-cell-items.ensures))
 
-pub goes-requires-clause-stands : goal.goes-requires-clause-stands
-goes-requires-clause-stands c =
+pub goes-requires-clause-shown : goal.goes-requires-clause-shown
+goes-requires-clause-shown c =
     let k = small_of c.in_ok-mesh.mesh c.hold-hold.result.now c.one_bucket.result c.args.points.now c.args.v c.hold-hold.ensures c.in_ok-mesh.ensures.grid c.one_bucket.ensures c.in_ok-mesh.ensures.points c.key.ensures.bound c.requires.absent in
     (c.args.points.now, k.shown, next_listed c.args.points.now c.args.v (cells_to_come c.loop-cell.cell-iterator) (cells_to_come c.next.new.self) c.loop-cell.cells.items c.in-Some.cell.now c.loop-cell.invariant c.in-Some.ensures.steps, k.new)
 

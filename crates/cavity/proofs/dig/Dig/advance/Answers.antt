@@ -4,7 +4,7 @@ use Rattle.cavity.specs.Exploring.{ArePointsHeld, IsBucketMissing, IsCellMissing
 use Rattle.cavity.specs.Lists.{IsPast, IsAtPlace}
 use Rattle.cell_store.specs.Ready.{AreHeld}
 use Rattle.cavity.proofs.Held.{at_none, cell_missing, cells_all}
-use Rattle.cavity.proofs.Standing.{solid_set}
+use Rattle.cell_store.proofs.ShareLaws.{solid_set}
 use Rattle.cavity.proofs.Advancing.{GoesOn, goes_on_first, cell_needed, none_needed, next_at, next_new, goes_further, goes_below, cells_in_hand}
 use Rattle.cavity.proofs.dig.Dig.advance.Goals as goal
 
@@ -29,8 +29,8 @@ returns-in-Some-missing_point-clause-turn c h st k =
     cell_needed c.args.hold.now h d d.found c.in-Some-missing_point.b refl (c.loop-cell.invariant.digs h st k)
     (cell_missing c.args.hold.now d.found d.explored c.in-Some-get.cell c.points.result.now c.in-Some-missing_point.b c.in-Some-get.ensures.cell.below c.in-Some-get.ensures.cell.at c.points.ensures c.in-Some-missing_point.ensures)
 
-pub explore-requires-clause-stands : goal.explore-requires-clause-stands
-explore-requires-clause-stands c =
+pub explore-requires-clause-shown : goal.explore-requires-clause-shown
+explore-requires-clause-shown c =
     let r = c.requires in
     let d : Digging = (record { point = c.loop-cell.self-inside.point; found = c.loop-cell.self-inside.found; explored = c.loop-cell.self-inside.explored; rim = c.loop-cell.self-inside.rim.items }) in
     let k = c.loop-cell.invariant.digs r.0 r.1 r.2 in

@@ -8,7 +8,7 @@ use Rattle.hole_laws.proofs.Rest.{without_from}
 use Rattle.cell_store.specs.Ready.{AreHeld}
 use Rattle.cavity.specs.Exploring.{IsCellMissing}
 use Rattle.cavity.proofs.Held.{at_none}
-use Rattle.cavity.proofs.Standing.{solid_set}
+use Rattle.cell_store.proofs.ShareLaws.{solid_set}
 use Rattle.vertex_removal.specs.Near.{AreTaken}
 use Rattle.vertex_removal.specs.Turns.{IsNeeded, RefillGives}
 use Rattle.vertex_removal.specs.declared.refill.RefillTurn.TheVariants.{Done, Flat}
@@ -25,7 +25,7 @@ returns-in-Some-clause-turn c h st =
 
 pub near_set-requires : goal.near_set-requires
 near_set-requires c =
-    let r = c.requires.stands in
+    let r = c.requires.shown in
     record {
       held = subst (λ (l : List Cell). AreHeld c.args.hold.now l) (c.deref.ensures.value ∙ sym c.deref-2.ensures.value) (at_none c.missing_bucket.result (AreHeld c.args.hold.now c.deref.result.now) (λ b. IsCellMissing c.args.hold.now c.deref.result.now b) c.in_default.not-Some c.missing_bucket.ensures);
       history = r.0;
@@ -35,21 +35,21 @@ near_set-requires c =
 
 pub cells_taken-requires-clause-ascending : goal.cells_taken-requires-clause-ascending
 cells_taken-requires-clause-ascending c =
-    let r = c.requires.stands in
+    let r = c.requires.shown in
     let m = subst (λ (v : ℕ). IsIn v r.0) (sym c.self.view_is) r.2 in
     let l = subst (λ o. MatchOption o (is_solid (without_point c.self.inside.point r.0) ≡ false) (λ t. IsLinkSet r.0 c.self.inside.point t.items)) c.in-Some-2.is (c.in_ok-near.ensures r.0 r.1 m (star_list r.0 c.self.inside.point c.deref-2.result.now (c.deref-2.ensures.value ∙ c.in_ok-gone.ensures r.0 r.1))) in
     subst (λ (t : List ℕ). IsAscending t) (sym c.deref-in-Some-2.ensures.value) l.solid.set.ascending
 
 pub cells_taken-requires-clause-solid : goal.cells_taken-requires-clause-solid
 cells_taken-requires-clause-solid c =
-    let r = c.requires.stands in
+    let r = c.requires.shown in
     let m = subst (λ (v : ℕ). IsIn v r.0) (sym c.self.view_is) r.2 in
     let l = subst (λ o. MatchOption o (is_solid (without_point c.self.inside.point r.0) ≡ false) (λ t. IsLinkSet r.0 c.self.inside.point t.items)) c.in-Some-2.is (c.in_ok-near.ensures r.0 r.1 m (star_list r.0 c.self.inside.point c.deref-2.result.now (c.deref-2.ensures.value ∙ c.in_ok-gone.ensures r.0 r.1))) in
     subst (λ (t : List ℕ). is_solid t ≡ true) (sym c.deref-in-Some-2.ensures.value) l.solid.solid
 
 pub cells_taken-requires-clause-absent : goal.cells_taken-requires-clause-absent
 cells_taken-requires-clause-absent c i =
-    let r = c.requires.stands in
+    let r = c.requires.shown in
     let m = subst (λ (v : ℕ). IsIn v r.0) (sym c.self.view_is) r.2 in
     let l = subst (λ o. MatchOption o (is_solid (without_point c.self.inside.point r.0) ≡ false) (λ t. IsLinkSet r.0 c.self.inside.point t.items)) c.in-Some-2.is (c.in_ok-near.ensures r.0 r.1 m (star_list r.0 c.self.inside.point c.deref-2.result.now (c.deref-2.ensures.value ∙ c.in_ok-gone.ensures r.0 r.1))) in
     (without_from c.self.inside.point r.0 c.self.inside.point (l.inside c.self.inside.point (subst (λ (t : List ℕ). IsIn c.self.inside.point t) c.deref-in-Some-2.ensures.value i))).1 refl
@@ -60,7 +60,7 @@ returns-clause-turn c =
     let star = subst (λ (l : List Cell). AreHeld c.args.hold.now l) c.deref.ensures.value held in
     elim c.match-branch-3.branch [
       | in-Some-2+in_ok-fresh-in-Some-2 w ↦ rw w.result-is (λ h st. (
-          let r = c.requires.stands in
+          let r = c.requires.shown in
           let m = still_there c.args.hold.now r.0 h c.args.self.now r.1 st c.requires.held r.2 in
           let n = subst (λ (v : ℕ). IsIn v h) (sym c.self.view_is) m in
           let l = subst (λ o. MatchOption o (is_solid (without_point c.self.inside.point h) ≡ false) (λ t. IsLinkSet h c.self.inside.point t.items)) w.in-Some-2.is (c.in_ok-near.ensures h st n (star_list h c.self.inside.point c.deref-2.result.now (c.deref-2.ensures.value ∙ c.in_ok-gone.ensures h st))) in
@@ -68,7 +68,7 @@ returns-clause-turn c =
           subst (λ (v : ℕ). RefillGives c.args.hold.now h v (Done (record { gone = c.in_ok-gone.gone; fresh = w.in_ok-fresh-in-Some-2.fresh }))) c.self.view_is
           (refill_done c.args.hold.now h c.self.inside.point w.in-Some-2.near.items c.in_ok-gone.gone.items w.in_ok-fresh-in-Some-2.fresh.items (solid_set c.args.hold.now h st).set n l (c.in_ok-gone.ensures h st) star f)))
       | in-None w ↦ rw w.result-is (λ h st. (
-          let r = c.requires.stands in
+          let r = c.requires.shown in
           let m = still_there c.args.hold.now r.0 h c.args.self.now r.1 st c.requires.held r.2 in
           let n = subst (λ (v : ℕ). IsIn v h) (sym c.self.view_is) m in
           let l = subst (λ o. MatchOption o (is_solid (without_point c.self.inside.point h) ≡ false) (λ t. IsLinkSet h c.self.inside.point t.items)) w.in-None.is (c.in_ok-near.ensures h st n (star_list h c.self.inside.point c.deref-2.result.now (c.deref-2.ensures.value ∙ c.in_ok-gone.ensures h st))) in
