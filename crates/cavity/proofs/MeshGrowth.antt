@@ -37,7 +37,7 @@ use Rattle.cell_store.specs.Shares.{Stands, Shows}
 use Rattle.cavity.specs.Fills.{IsFilled}
 use Rattle.cavity.specs.Growing.{AreAmong, IsInsertion, HasGrown}
 use Rattle.cell_store.proofs.ShareLaws.{solid_set}
-use Rattle.cell_store.proofs.NextLaws.{replay_more}
+use Rattle.edit_history.proofs.OneMore.{replay_more}
 use Rattle.cavity.proofs.Insertions.{left_by}
 
 -- four places in a list, of independent points

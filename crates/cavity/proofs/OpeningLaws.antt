@@ -105,6 +105,15 @@ four_new a b c d f =
       ),
     )
 
+-- so the history with which a mesh begins is legal
+pub opening_legal : (four : List (ℕ × ℕ)) → AreIndependent four → IsLegal (opening_history four)
+opening_legal (a ∷ b ∷ c ∷ d ∷ []) f = legal_from 0 [] (a ∷ b ∷ c ∷ d ∷ []) (four_new a b c d f)
+opening_legal [] f = absurd f
+opening_legal (a ∷ []) f = absurd f
+opening_legal (a ∷ b ∷ []) f = absurd f
+opening_legal (a ∷ b ∷ c ∷ []) f = absurd f
+opening_legal (a ∷ b ∷ c ∷ d ∷ e ∷ l) f = absurd f
+
 -- what the opening leaves: the four in order
 pub leaves_four : (a b c d : ℕ × ℕ) → is_flat a.1 b.1 c.1 d.1 ≡ false → replay (opening_history (a ∷ b ∷ c ∷ d ∷ [])) ≡ ascending (a.1 ∷ b.1 ∷ c.1 ∷ d.1 ∷ [])
 leaves_four a b c d f =

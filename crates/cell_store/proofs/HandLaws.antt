@@ -1,5 +1,5 @@
 -- Buckets that come in hand and go.
-use Rattle.std.specs.Prelude.{◌≡◌, ℕ, zero, suc, true, ◌==◌, List, [], ◌∷◌, ◌⊎◌, Option, None, Some, IsSome, slice_set}
+use Rattle.std.specs.Prelude.{◌≡◌, ℕ, zero, suc, true, ◌==◌, List, [], ◌∷◌, ◌⊎◌, Option, None, Some, IsSome, slice_set, ◌*◌, replicate}
 use Rattle.std.specs.List.{filter}
 use Rattle.std.proofs.Common.{refl, sym, ◌∙◌, ap, subst, inl, inr, arith}
 use Rattle.std.proofs.lemmas.Bool.{cases_eq}
@@ -10,7 +10,7 @@ use Rattle.del_laws.proofs.Tests.{among_from, among_true, same_test, filtered_fr
 use Rattle.cell_store.specs.Grids.{bucket_of}
 use Rattle.cell_store.specs.Buckets.{Content, InHand, bucket_at, points_in, at_place}
 use Rattle.cell_store.specs.Shares.{Shows, IsShare, IsSight}
-use Rattle.cell_store.specs.Meshes.{FewerStand, FewerShow, PutStands, PutShows, PutIsMore, TakeIsFewer, with_bucket}
+use Rattle.cell_store.specs.Meshes.{EmptyStands, EmptyShows, FewerStand, FewerShow, PutStands, PutShows, PutIsMore, TakeIsFewer, with_bucket}
 use Rattle.cell_store.proofs.ShareLaws.{some_of}
 
 -- ---- fewer buckets
@@ -29,6 +29,29 @@ fewer_show few many s am sh = record {
   keys = sh.keys;
   solid = sh.solid;
   sights = λ b c e. subst (λ g. IsSight g b s c) (sym am.grid) (sh.sights b c (am.buckets b c e));
+}
+
+-- ---- no bucket
+
+none_there : (n k : ℕ) (c : Content) → bucket_at (replicate n None) k ≡ Some c → ⊥
+none_there zero k c e = cc e
+none_there (suc n) zero c e = cc e
+none_there (suc n) (suc k) c e = none_there n k c e
+
+pub empty_stands : EmptyStands
+empty_stands g h sound = record {
+  legal = sound.legal;
+  keys = sound.set.set.keys;
+  solid = sound.set.solid;
+  shares = λ b c e. absurd (none_there (g * g * g) b c e);
+}
+
+pub empty_shows : EmptyShows
+empty_shows g s solid = record {
+  ascending = solid.set.ascending;
+  keys = solid.set.keys;
+  solid = solid.solid;
+  sights = λ b c e. absurd (none_there (g * g * g) b c e);
 }
 
 -- ---- one place that is set

@@ -16,6 +16,7 @@ use Rattle.edit_history.specs.declared.history.Reply.{Reply}
 use Rattle.edit_history.specs.declared.history.Reply.TheVariants.{Inserted, Duplicate, Removed, Missing, Flat}
 use Rattle.edit_history.specs.Edits.{point_of, reply_to, changed, after}
 use Rattle.edit_history.specs.Histories.{replay, replay_from, IsLegal, IsLegalFrom}
+use Rattle.edit_history.proofs.OneMore.{replay_more, legal_more}
 use Rattle.del_laws.proofs.Tests.{filtered_from, filtered_true}
 use Rattle.del_laws.proofs.PointSets.{filtered_ascending}
 use Rattle.del_laws.proofs.Ordered.{complex_is_sorted, same_members}
@@ -132,15 +133,6 @@ replay_next h e l = from 0 [] h l
     from : (n : ℕ) (s : List ℕ) (h : List Entry) → IsLegalFrom n s (h ++ e ∷ []) → replay_from s (h ++ e ∷ []) ≡ changed (replay_from s h) (point_of e.edit) e.reply
     from n s [] l = ap (changed s (point_of e.edit)) (sym l.1)
     from n s (d ∷ h) l = from (n + 1) (after s d.edit) h l.2
-
-pub replay_more : (s : List ℕ) (h : List Entry) (e : Entry) → replay_from s (h ++ e ∷ []) ≡ after (replay_from s h) e.edit
-replay_more s [] e = refl
-replay_more s (d ∷ h) e = replay_more (after s d.edit) h e
-
--- it is legal with the next number and the reply of what was left
-pub legal_more : (n : ℕ) (s : List ℕ) (h : List Entry) (e : Entry) → IsLegalFrom n s h → e.number ≡ n + length h → e.reply ≡ reply_to (replay_from s h) e.edit → IsLegalFrom n s (h ++ e ∷ [])
-legal_more n s [] e l number reply = (omega (arith, number), reply, tt)
-legal_more n s (d ∷ h) e l number reply = (l.0, l.1, legal_more (n + 1) (after s d.edit) h e l.2 (omega (arith, number)) reply)
 
 -- the entries of a bucket with one more
 pub entries_after : (g b : ℕ) (h : List Entry) (e : Entry) → lies g b (point_of e.edit) ≡ true → entries_share g b h ++ e ∷ [] ≡ entries_share g b (h ++ e ∷ [])

@@ -16,6 +16,7 @@ use Rattle.edit_history.specs.declared.history.Edit.TheVariants.{Add, Take}
 use Rattle.edit_history.specs.declared.history.Reply.TheVariants.{Inserted, Duplicate, Removed, Missing, Flat}
 use Rattle.edit_history.specs.Edits.{point_of, reply_to, after}
 use Rattle.edit_history.specs.Histories.{replay}
+use Rattle.edit_history.proofs.OneMore.{replay_more}
 use Rattle.del_laws.specs.Listed.{IsListedOpen}
 use Rattle.del_laws.proofs.Listed.{listed_is_cell, listed_inside}
 use Rattle.del_laws.proofs.ListedParts.{listed_mate}
@@ -37,7 +38,7 @@ use Rattle.cell_store.specs.Changes.{IsChange, NoneTouches}
 use Rattle.cell_store.specs.Touches.{IsTouched, ShareOutsideTouch, ReachFromHeld, CommitsCommute}
 use Rattle.cell_store.proofs.CellLaws.{among_true as cell_among, among_from as cell_from, swapped_none}
 use Rattle.cell_store.proofs.HandLaws.{held_point}
-use Rattle.cell_store.proofs.NextLaws.{replay_more, cells_after, points_stay, entries_stay}
+use Rattle.cell_store.proofs.NextLaws.{cells_after, points_stay, entries_stay}
 use Rattle.cell_store.proofs.ShareLaws.{some_of, ascending_replay, touched, facet_inside, facet_nonempty, solid_set}
 
 -- ---- what an edit leaves alone

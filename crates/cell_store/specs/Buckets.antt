@@ -1,5 +1,5 @@
 -- What a bucket and a hold show: their lists, without the layout of the code.
-use Rattle.std.specs.Prelude.{◌≡◌, ℕ, List, [], Option, None, Some, ◌⊎◌, slice_index_or}
+use Rattle.std.specs.Prelude.{◌≡◌, ℕ, ◌*◌, List, [], Option, None, Some, ◌⊎◌, replicate, slice_index_or}
 use Rattle.std.specs.Option.{option_map_or}
 use Rattle.point_order.specs.declared.cell.Cell.{Cell}
 use Rattle.edit_history.specs.declared.history.Entry.{Entry}
@@ -31,6 +31,10 @@ pub record InHand : Type 0 where
 -- no room
 abbrev pub no_room : Room
 no_room = record { swap = None; push = None }
+
+-- the hold with no bucket in hand
+abbrev pub empty_hold : ℕ → InHand
+empty_hold g = record { grid = g; places = replicate (g * g * g) None; room = no_room }
 
 -- the bucket with a number, if it is in hand
 abbrev pub bucket_at : List (Option Content) → ℕ → Option Content

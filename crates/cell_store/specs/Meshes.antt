@@ -8,10 +8,11 @@ use Rattle.point_order.specs.CellOrder.{cell_cmp}
 use Rattle.point_order.specs.Complex.{complex}
 use Rattle.edit_history.specs.declared.history.Entry.{Entry}
 use Rattle.edit_history.specs.Merging.{AreNumbered, numbers, places_of}
+use Rattle.hole_laws.specs.Edits.{IsSolidSet}
 use Rattle.cell_store.specs.Grids.{is_grid_size}
-use Rattle.cell_store.specs.Buckets.{Content, InHand, bucket_at, at_place, no_room}
+use Rattle.cell_store.specs.Buckets.{Content, InHand, empty_hold, bucket_at, at_place, no_room}
 use Rattle.cell_store.specs.Swaps.{AreSameCells}
-use Rattle.cell_store.specs.Shares.{Stands, Shows, IsShare, IsSight}
+use Rattle.cell_store.specs.Shares.{Stands, IsSound, Shows, IsShare, IsSight}
 use Rattle.cell_store.specs.Ready.{AreHeld}
 
 -- every bucket of the grid is in hand
@@ -129,6 +130,13 @@ with_bucket b c hold = record hold { places = slice_set hold.places b (Some (at_
 -- and with one less, and no room
 abbrev pub without_bucket : ℕ → InHand → InHand
 without_bucket b hold = record hold { places = slice_set hold.places b None; room = no_room }
+
+-- With no bucket in hand a hold stands for every sound history, and shows every solid set.
+abbrev pub EmptyStands : Type 0
+EmptyStands = (g : ℕ) (h : List Entry) → IsSound h → Stands (empty_hold g) h
+
+abbrev pub EmptyShows : Type 0
+EmptyShows = (g : ℕ) (s : List ℕ) → IsSolidSet s → Shows (empty_hold g) s
 
 -- A hold that takes a share in hand stands for what it stood for, and one that takes a sight in hand shows what it showed.
 abbrev pub PutStands : Type 0

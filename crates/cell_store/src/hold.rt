@@ -1,13 +1,13 @@
 //! Holds: the buckets in hand.
 
-ghost use Rattle.std.specs.Prelude.{◌≡◌, ◌↔◌, IsTrue, ℕ, ◌*◌, ◌<◌, true, None, Some, IsSome, is_some, IfOk, OnOk, OnErr, length, replicate, slice_set, List, MatchOption};
+ghost use Rattle.std.specs.Prelude.{◌≡◌, ◌↔◌, IsTrue, ℕ, ◌*◌, ◌<◌, true, None, Some, IsSome, is_some, IfOk, OnOk, OnErr, length, slice_set, List, MatchOption};
 ghost use Rattle.std.specs.List.{filter, list_all};
 ghost use Rattle.point_order.specs.Sets.{IsIn, is_among};
 ghost use Rattle.point_order.specs.Facets.{points_of, facets_of};
 ghost use Rattle.point_order.specs.Complex.{complex};
 ghost use Rattle.edit_history.specs.Edits.{point_of};
 ghost use Rattle.cell_store.specs.Grids.{is_grid_size, bucket_of as number_of};
-ghost use Rattle.cell_store.specs.Buckets.{no_room, bucket_at, points_in, cells_in, at_place, content_of, FitsPlace, StandAtPlaces};
+ghost use Rattle.cell_store.specs.Buckets.{no_room, empty_hold, bucket_at, points_in, cells_in, at_place, content_of, FitsPlace, StandAtPlaces};
 ghost use Rattle.cell_store.specs.Shares.{Shows, ShowsWith, NoneInHand, IsInHandFor};
 ghost use Rattle.cell_store.specs.Changes.{IsSwapped, IsNoted};
 ghost use Rattle.cell_store.specs.Ready.{AreHeld, IsReady};
@@ -53,7 +53,7 @@ impl Hold {
     /// # Errors
     /// Want of memory.
     pub fn empty(alloc: Global, grid: Grid) -> Result<Hold, AllocError>
-        ensures { IfOk result (λ hold. hold ≡ record { grid = grid; places = replicate (grid * grid * grid) None; room = no_room }) }
+        ensures { IfOk result (λ hold. hold ≡ empty_hold grid) }
     {
         let count = grid.count();
         let mut places = Vec::with_capacity(alloc, count as usize)?;

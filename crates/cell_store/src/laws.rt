@@ -4,7 +4,7 @@
 ghost use Rattle.cell_store.specs.Changes.{NextEntry, EntryKeepsHold, ShareAfterEntry, ShareElsewhere};
 ghost use Rattle.cell_store.specs.Shares.{ShareIsOne, StandsShows};
 ghost use Rattle.cell_store.specs.Meshes.{HistoryIs, MeshIs, MeshGathersHistory, MeshGathersComplex, AllAreHeld, MoreAreHeld};
-ghost use Rattle.cell_store.specs.Meshes.{FewerStand, FewerShow, PutStands, PutShows, PutIsMore, TakeIsFewer};
+ghost use Rattle.cell_store.specs.Meshes.{EmptyStands, EmptyShows, FewerStand, FewerShow, PutStands, PutShows, PutIsMore, TakeIsFewer};
 ghost use Rattle.cell_store.specs.Touches.{ShareOutsideTouch, ReachFromHeld, CommitsCommute};
 
 /// An entry that follows a sound history is next. After an exchange of exactly the gone and the new cells, and after the entry, a hold
@@ -43,8 +43,11 @@ pub fn cells_are_held()
     ensures more { MoreAreHeld }
 {}
 
-/// With fewer buckets in hand a hold stands for what it stood for, and shows what it showed. So does one that takes a share in hand.
+/// With fewer buckets in hand a hold stands for what it stood for, and shows what it showed, and so does one that takes a share in
+/// hand. With none it stands for every sound history, and shows every solid set.
 pub fn buckets_come_and_go()
+    ensures empty_stands { EmptyStands }
+    ensures empty_shows { EmptyShows }
     ensures fewer_stand { FewerStand }
     ensures fewer_show { FewerShow }
     ensures taken { TakeIsFewer }

@@ -18,13 +18,6 @@ fn touches(grid: Grid, b: u32, cell: &Cell) -> bool
     cell.points().iter().any(|p| grid.bucket_of(*p) == b)
 }
 
-// How the two stand in the order of cells.
-fn compare(a: &Cell, b: &Cell) -> Ordering
-    ensures { result ≡ cell_cmp a.now b.now }
-{
-    a.cmp(b)
-}
-
 // Those of the cells that touch the bucket.
 fn touching(alloc: Global, grid: Grid, b: u32, cells: &[Cell]) -> Result<Vec<Cell>, AllocError>
     ensures { IfOk result (λ list. list.items ≡ filter (λ c. touches_of grid b c) cells.now) }
@@ -53,7 +46,7 @@ fn split_before<'a>(cells: &'a [Cell], cell: &Cell) -> (&'a [Cell], &'a [Cell])
     ensures before { AreBefore cell.now result.0.now }
     ensures others { NoneIsBefore cell.now result.1.now }
 {
-    let place = cells.partition_point(|c| compare(c, cell).is_lt());
+    let place = cells.partition_point(|c| c.compare(cell).is_lt());
     cells.split_at(place)
 }
 
@@ -62,7 +55,7 @@ fn behind<'a>(cells: &'a [Cell], cell: &Cell) -> &'a [Cell]
     ensures { result.now ≡ cells_behind cell.now cells.now }
 {
     match cells.split_first() {
-        Some((first, later)) => match compare(first, cell) {
+        Some((first, later)) => match first.compare(cell) {
             Ordering::Equal => later,
             Ordering::Less | Ordering::Greater => cells,
         },

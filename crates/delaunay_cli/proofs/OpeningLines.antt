@@ -19,7 +19,7 @@ use Rattle.edit_history.proofs.Lines.{first-lines, length-entries}
 use Rattle.edit_history.proofs.LinesAtPlaces.{line_at, picked, same-map}
 use Rattle.edit_history.proofs.OpeningSolid.{four_law}
 use Rattle.cavity.specs.Opening.{inserted_from, opening_history}
-use Rattle.cavity.proofs.NextEntry.{replay_more}
+use Rattle.edit_history.proofs.OneMore.{replay_more}
 use Rattle.one_mesh.specs.Applied.{next_entry}
 use Rattle.delaunay_cli.specs.Made.{tagged_points, with_lines, other_lines}
 

@@ -11,55 +11,19 @@ use Rattle.edit_history.specs.declared.history.Reply.{Reply}
 use Rattle.edit_history.specs.declared.history.Reply.TheVariants.{Inserted, Duplicate, Removed, Missing, Flat}
 use Rattle.edit_history.specs.Edits.{reply_to, changed, point_of}
 use Rattle.edit_history.specs.Histories.{replay}
-use Rattle.del_laws.specs.Keys.{AreKeys}
-use Rattle.del_laws.proofs.Tests.{among_true, among_from}
-use Rattle.cell_store.specs.Buckets.{InHand, bucket_at, points_in}
-use Rattle.cell_store.specs.Grids.{bucket_of}
-use Rattle.cell_store.specs.Changes.{IsNext, IsChange}
+use Rattle.del_laws.proofs.Tests.{among_true}
+use Rattle.cell_store.specs.Changes.{Follows, IsChange}
 use Rattle.cell_store.specs.Meshes.{MeshView, counted}
-use Rattle.cell_store.specs.Shares.{Stands, Shows}
-use Rattle.cell_store.proofs.ShareLaws.{stands_shows}
 use Rattle.cavity.specs.Growing.{IsInsertion}
-use Rattle.cavity.proofs.NextEntry.{legal_more, replay_more}
 use Rattle.point_order.specs.declared.cell.Cell.{Cell}
-use Rattle.cell_store.proofs.ShareLaws.{solid_set}
 use Rattle.cavity.specs.declared.fill_hole.Fresh.{Fresh}
 use Rattle.vertex_removal.specs.Refills.{IsRefilled}
-use Rattle.vertex_removal.proofs.NextEntry.{removal_is_next}
+use Rattle.vertex_removal.proofs.Removals.{removal_follows}
 use Rattle.one_mesh.specs.Applied.{IsQuiet, edited}
 
 -- the count is the next number
 pub numbered : (l n : ℕ) → n ≡ counted l → l < 2 ^ 32 → n ≡ l
 numbered l n e k = omega (arith, e, k)
-
--- an entry that changes nothing is the next
-pub quiet_next : (m : InHand) (h : List Entry) (e : Entry) → Stands m h → IsQuiet h e → IsNext h e [] []
-quiet_next m h e st q = record {
-  legal = legal_more 0 [] h e st.legal (let k = q.number in omega (arith, k)) q.reply;
-  keys = subst AreKeys (sym left) st.keys;
-  solid = ap is_solid left ∙ st.solid;
-  change = subst (λ (s : List ℕ). IsChange (complex (replay h)) (complex s) [] []) (sym left) (record {
-    went = λ c i. absurd i;
-    all_gone = λ c i n. absurd (n i);
-    came = λ c i. absurd i;
-    all_fresh = λ c i n. absurd (n i);
-  });
-}
-  where
-    left : replay (h ++ e ∷ []) ≡ replay h
-    left = replay_more [] h e ∙ q.same
-
--- the test of a bucket is that of the set
-pub among_is : (hold : InHand) (s : List ℕ) (p : ℕ) (b : Bool) → Shows hold s → IsSome (bucket_at hold.places (bucket_of hold.grid p)) → b ≡ is_among p (points_in hold.places (bucket_of hold.grid p)) → b ≡ is_among p s
-among_is hold s p b st o e = by (is_among p (points_in hold.places (bucket_of hold.grid p))) refl
-  where
-    by : (t : Bool) → is_among p (points_in hold.places (bucket_of hold.grid p)) ≡ t → b ≡ is_among p s
-    by true q = e ∙ q ∙ sym (among_true p s (held hold s p st o q))
-    by false q = e ∙ q ∙ sym (none (is_among p s) refl)
-      where
-        none : (t : Bool) → is_among p s ≡ t → is_among p s ≡ false
-        none true r = absurd (not_held hold s p st o q (among_from p s r))
-        none false r = r
 
 -- the edit is made
 pub applied : (old new : MeshView) (tag : ℕ) (edit : Edit) (n : ℕ) (reply : Reply) (e : Entry) → n ≡ length old.history → reply ≡ reply_to (replay old.history) edit → e ≡ record { number = n; by = 0; tag = tag; edit = edit; reply = reply } → new ≡ record old { history = old.history ++ e ∷ [] } → new ≡ edited old tag edit
@@ -83,18 +47,27 @@ flat s p e f = ap (λ b. cond b (cond (is_solid (without_point p s)) Removed Fla
 pub removed : (s : List ℕ) (p : ℕ) → is_among p s ≡ true → is_solid (without_point p s) ≡ true → reply_to s (Take p) ≡ Removed
 removed s p e f = ap (λ b. cond b (cond (is_solid (without_point p s)) Removed Flat) Missing) e ∙ ap (λ b. cond b Removed Flat) f
 
--- a reply that is no change leaves the set as it is
-pub quiet : (h : List Entry) (n tag : ℕ) (edit : Edit) (reply : Reply) (e : Entry) → n ≡ length h → reply_to (replay h) edit ≡ reply → changed (replay h) (point_of edit) reply ≡ replay h → e ≡ record { number = n; by = 0; tag = tag; edit = edit; reply = reply } → IsQuiet h e
-quiet h n tag edit reply e k r c is = subst (IsQuiet h) (sym is) (record { number = k; reply = sym r; same = ap (changed (replay h) (point_of edit)) r ∙ c })
+-- an entry whose reply is no change follows, and changes no cell
+pub quiet : (h : List Entry) (n tag : ℕ) (edit : Edit) (reply : Reply) (e : Entry) → n ≡ length h → reply_to (replay h) edit ≡ reply → changed (replay h) (point_of edit) reply ≡ replay h → e ≡ record { number = n; by = 0; tag = tag; edit = edit; reply = reply } → Follows h e [] []
+quiet h n tag edit reply e k r c is = subst (λ (x : Entry). Follows h x [] []) (sym is) (record {
+  number = k;
+  reply = sym r;
+  change = subst (λ (s : List ℕ). IsChange (complex (replay h)) (complex s) [] []) (sym (ap (changed (replay h) (point_of edit)) r ∙ c)) (record {
+    went = λ c i. absurd i;
+    all_gone = λ c i n. absurd (n i);
+    came = λ c i. absurd i;
+    all_fresh = λ c i n. absurd (n i);
+  });
+})
 
 -- an insertion
 pub insertion : (h : List Entry) (n tag p : ℕ) (e : Entry) → n ≡ length h → is_among p (replay h) ≡ false → e ≡ record { number = n; by = 0; tag = tag; edit = Add p; reply = Inserted } → IsInsertion h e
 insertion h n tag p e k a is = subst (IsInsertion h) (sym is) (record { edit = refl; absent = λ i. (let t = among_true p (replay h) i in cc (t, a)); number = k; reply = refl })
 
--- a removal is the next entry
-pub removal_next : (m : InHand) (h : List Entry) (n tag v : ℕ) (e : Entry) (gone fresh : List Cell) → Stands m h → IsIn v (replay h) → n ≡ length h → e ≡ record { number = n; by = 0; tag = tag; edit = Take v; reply = Removed } → IsRefilled (replay h) v gone fresh → IsNext h e gone fresh
-removal_next m h n tag v e gone fresh st i k is f =
-    subst (λ (x : Entry). IsNext h x gone fresh) (sym is) (removal_is_next h (record { number = n; by = 0; tag = tag; edit = Take v; reply = Removed }) v gone fresh st.legal (solid_set m (replay h) (stands_shows m h st)) i refl k refl f)
+-- a removal
+pub removal : (h : List Entry) (n tag v : ℕ) (e : Entry) (gone fresh : List Cell) → IsIn v (replay h) → n ≡ length h → e ≡ record { number = n; by = 0; tag = tag; edit = Take v; reply = Removed } → IsRefilled (replay h) v gone fresh → Follows h e gone fresh
+removal h n tag v e gone fresh i k is f =
+    subst (λ (x : Entry). Follows h x gone fresh) (sym is) (removal_follows h (record { number = n; by = 0; tag = tag; edit = Take v; reply = Removed }) gone fresh (record { edit = refl; there = i; number = k; reply = refl }) f)
 
 -- what is found of a removal
 pub some_refilled : (s : List ℕ) (v : ℕ) (o : Option Fresh) (f : Fresh) → o ≡ Some f → MatchOption o (is_solid (without_point v s) ≡ false) (λ f. IsRefilled s v f.gone.items f.fresh.items) → IsRefilled s v f.gone.items f.fresh.items

@@ -1,9 +1,8 @@
 -- What an edit makes of a mesh.
-use Rattle.std.specs.Prelude.{◌≡◌, ℕ, List, [], ◌∷◌, ◌++◌, length}
+use Rattle.std.specs.Prelude.{ℕ, List, [], ◌∷◌, ◌++◌, length}
 use Rattle.edit_history.specs.declared.history.Edit.{Edit}
 use Rattle.edit_history.specs.declared.history.Entry.{Entry}
-use Rattle.edit_history.specs.declared.history.Reply.{Reply}
-use Rattle.edit_history.specs.Edits.{reply_to, after}
+use Rattle.edit_history.specs.Edits.{reply_to}
 use Rattle.edit_history.specs.Histories.{replay}
 use Rattle.cell_store.specs.Meshes.{MeshView}
 
@@ -14,9 +13,3 @@ next_entry h tag edit = record { number = length h; by = 0; tag = tag; edit = ed
 -- the mesh with the entry of the edit
 abbrev pub edited : MeshView → ℕ → Edit → MeshView
 edited mesh tag edit = record mesh { history = mesh.history ++ next_entry mesh.history tag edit ∷ [] }
-
--- The entry continues the history with the reply of the points that are left, and changes none of them.
-pub record IsQuiet (h : List Entry) (e : Entry) : Type 0 where
-  pub number : e.number ≡ length h
-  pub reply : e.reply ≡ reply_to (replay h) e.edit
-  pub same : after (replay h) e.edit ≡ replay h

@@ -6,10 +6,10 @@ ghost use Rattle.point_order.specs.Solid.{is_solid};
 ghost use Rattle.edit_history.specs.declared.history.Edit.TheVariants.{Add, Take};
 ghost use Rattle.edit_history.specs.Edits.{reply_to};
 ghost use Rattle.edit_history.specs.Histories.{replay};
-ghost use Rattle.cell_store.specs.Meshes.{IsHoldOf};
+ghost use Rattle.cell_store.specs.Changes.{Follows};
 ghost use Rattle.cavity.specs.Opening.{opening_history, AreIndependent};
 ghost use Rattle.vertex_removal.specs.Refills.{IsRefilled};
-ghost use Rattle.one_mesh.specs.Applied.{IsQuiet, edited};
+ghost use Rattle.one_mesh.specs.Applied.{edited};
 
 use cavity::{Fresh, insert, open_mesh};
 use cell_store::{Grid, Mesh};
@@ -51,12 +51,11 @@ fn entry_of(number: u64, tag: u32, edit: Edit, reply: Reply) -> Entry
 
 // Notes an edit that changes nothing but the history.
 fn note(alloc: Global, mesh: &mut Mesh, entry: Entry) -> Result<(), AllocError>
-    requires { IsQuiet mesh.old.history entry }
+    requires { Follows mesh.old.history entry [] [] }
     ensures noted { OnOk result (mesh.new ≡ record mesh.old { history = mesh.old.history ++ entry ∷ [] }) }
     ensures refused { OnErr result (mesh.new ≡ mesh.old) }
 {
     let none: [Cell; 0] = [];
-    let _ = mesh.hold();
     mesh.change(alloc, &none, &none, entry)?;
     Ok(())
 }
@@ -123,7 +122,6 @@ fn take_there(
     match refilled(alloc, mesh, v)? {
         Some(f) => {
             let entry = entry_of(number, tag, Edit::Take(v), Reply::Removed);
-            let _ = mesh.hold();
             mesh.change(alloc, &f.gone, &f.fresh, entry)?;
             Ok(Reply::Removed)
         }

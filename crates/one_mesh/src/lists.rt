@@ -1,30 +1,17 @@
 //! What a mesh gives: its history, its complex and its points.
 
-ghost use Rattle.std.specs.Prelude.{◌≡◌, IfOk, OnOk};
+ghost use Rattle.std.specs.Prelude.{◌≡◌, true, IfOk};
 ghost use Rattle.point_order.specs.Complex.{complex as complex_of};
+ghost use Rattle.point_order.specs.Solid.{is_solid};
 ghost use Rattle.edit_history.specs.Histories.{replay};
-ghost use Rattle.cell_store.specs.Meshes.{AllInHand, all_entries, all_cells};
-ghost use Rattle.cell_store.specs.Swaps.{AreSameCells};
-ghost use Rattle.cell_store.specs.Buckets.{content_of};
-ghost use Rattle.one_mesh.specs.Gathered.{all_points, HasMore};
+ghost use Rattle.cell_store.specs.Meshes.{AllInHand};
+ghost use Rattle.one_mesh.specs.Gathered.{all_points};
 
-use cell_store::{Bucket, Hold, Mesh, cells_in_order};
-use edit_history::{Entry, merge};
+use cell_store::{Hold, Mesh};
+use edit_history::Entry;
 use point_order::{Cell, Point};
 use std::alloc::{AllocError, Global};
 use vertex_removal::points_in_order;
-
-// The entries of all buckets.
-fn all_entries_of(alloc: Global, hold: &Hold) -> Result<Vec<Entry>, AllocError>
-    requires { AllInHand hold.now }
-    ensures { IfOk result (λ list. list.items ≡ all_entries hold.now.places) }
-{
-    let mut list = Vec::new(alloc);
-    for b in 0..hold.grid().count() {
-        list.extend_from_slice(hold.bucket(b).entries())?;
-    }
-    Ok(list)
-}
 
 /// The mesh's history.
 ///
@@ -33,31 +20,7 @@ fn all_entries_of(alloc: Global, hold: &Hold) -> Result<Vec<Entry>, AllocError>
 pub fn history(alloc: Global, mesh: &Mesh) -> Result<Vec<Entry>, AllocError>
     ensures { IfOk result (λ entries. entries.items ≡ mesh.now.history) }
 {
-    let lists = [all_entries_of(alloc, mesh.hold())?];
-    let entries = merge(alloc, &lists)?;
-    Ok(entries)
-}
-
-// Puts the cells of a bucket behind the cells, in any order.
-fn push_cells(list: &mut Vec<Cell>, bucket: &Bucket) -> Result<(), AllocError>
-    ensures { OnOk result (HasMore (content_of bucket.now).cells list.old.items list.new.items) }
-{
-    for cell in bucket.cells() {
-        list.push(*cell)?;
-    }
-    Ok(())
-}
-
-// The cells of all buckets.
-fn all_cells_of(alloc: Global, hold: &Hold) -> Result<Vec<Cell>, AllocError>
-    requires { AllInHand hold.now }
-    ensures { IfOk result (λ list. AreSameCells (all_cells hold.now.places) list.items) }
-{
-    let mut list = Vec::new(alloc);
-    for b in 0..hold.grid().count() {
-        push_cells(&mut list, hold.bucket(b))?;
-    }
-    Ok(list)
+    mesh.hold().history(alloc)
 }
 
 /// The complex of the points that the mesh's history leaves: its cells, sorted.
@@ -67,8 +30,7 @@ fn all_cells_of(alloc: Global, hold: &Hold) -> Result<Vec<Cell>, AllocError>
 pub fn complex(alloc: Global, mesh: &Mesh) -> Result<Vec<Cell>, AllocError>
     ensures { IfOk result (λ cells. cells.items ≡ complex_of (replay mesh.now.history)) }
 {
-    let cells = all_cells_of(alloc, mesh.hold())?;
-    Ok(cells_in_order(cells))
+    mesh.hold().complex(alloc)
 }
 
 // The points of all buckets.
@@ -83,12 +45,13 @@ fn all_points_of(alloc: Global, hold: &Hold) -> Result<Vec<Point>, AllocError>
     Ok(list)
 }
 
-/// The points that the mesh's history leaves, ascending.
+/// The points that the mesh's history leaves, ascending. Four of them are independent.
 ///
 /// # Errors
 /// Want of memory.
 pub fn points(alloc: Global, mesh: &Mesh) -> Result<Vec<Point>, AllocError>
-    ensures { IfOk result (λ points. points.items ≡ replay mesh.now.history) }
+    ensures points { IfOk result (λ points. points.items ≡ replay mesh.now.history) }
+    ensures solid { is_solid (replay mesh.now.history) ≡ true }
 {
     let points = all_points_of(alloc, mesh.hold())?;
     Ok(points_in_order(points))

@@ -1,4 +1,4 @@
-pub mod NextEntry
+pub mod Removals
 pub mod Once
 pub mod Points
 pub mod Star

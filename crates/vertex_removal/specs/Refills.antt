@@ -9,9 +9,9 @@ use Rattle.point_order.specs.Solid.{is_solid}
 use Rattle.edit_history.specs.declared.history.Edit.TheVariants.{Take}
 use Rattle.edit_history.specs.declared.history.Entry.{Entry}
 use Rattle.edit_history.specs.declared.history.Reply.TheVariants.{Removed}
-use Rattle.edit_history.specs.Histories.{replay, IsLegal}
-use Rattle.hole_laws.specs.Edits.{IsSolidSet}
-use Rattle.cell_store.specs.Changes.{IsChange, IsNext}
+use Rattle.edit_history.specs.Edits.{point_of}
+use Rattle.edit_history.specs.Histories.{replay}
+use Rattle.cell_store.specs.Changes.{IsChange, Follows}
 
 -- The set without v is solid. Gone are exactly the cells of the complex of s that have v, and these are those that are none of the
 -- complex of the set without v. Fresh are exactly the cells of the latter that are none of the former. Each stands once.
@@ -22,9 +22,14 @@ pub record IsRefilled (s : List ℕ) (v : ℕ) (gone fresh : List Cell) : Type 0
   pub gone_once : AreDistinct gone
   pub fresh_once : AreDistinct fresh
 
--- The entry of a point that is taken, with its number and its reply, takes exactly the gone cells and brings exactly the fresh ones:
--- after it the history is legal, and its points are keys and solid.
-abbrev pub RemovalIsNext : Type 0
-RemovalIsNext =
-    (h : List Entry) (e : Entry) (v : ℕ) (gone fresh : List Cell) → IsLegal h → IsSolidSet (replay h) → IsIn v (replay h) →
-    e.edit ≡ Take v → e.number ≡ length h → e.reply ≡ Removed → IsRefilled (replay h) v gone fresh → IsNext h e gone fresh
+-- The entry is the removal of a point that is there after the history, and continues it.
+pub record IsRemoval (h : List Entry) (e : Entry) : Type 0 where
+  pub edit : e.edit ≡ Take (point_of e.edit)
+  pub there : IsIn (point_of e.edit) (replay h)
+  pub number : e.number ≡ length h
+  pub reply : e.reply ≡ Removed
+
+-- Where the rest is solid such an entry follows the history, with exactly the cells that go and those that come.
+abbrev pub RemovalFollows : Type 0
+RemovalFollows =
+    (h : List Entry) (e : Entry) (gone fresh : List Cell) → IsRemoval h e → IsRefilled (replay h) (point_of e.edit) gone fresh → Follows h e gone fresh

@@ -1,9 +1,8 @@
 //! What a refilled hole comes to. Each function here does nothing, and its contract is a law.
 
-ghost use Rattle.vertex_removal.specs.Refills.{RemovalIsNext};
+ghost use Rattle.vertex_removal.specs.Refills.{RemovalFollows};
 
-/// After the exchange of the gone for the fresh cells, the entry of the point that is taken makes the next history: what the law of an
-/// entry of `cell_store` asks.
-pub fn removal_is_next()
-    ensures { RemovalIsNext }
+/// The entry of a removal follows the history, with exactly the cells that go and those that come: what a change of a mesh asks.
+pub fn removal_follows()
+    ensures { RemovalFollows }
 {}

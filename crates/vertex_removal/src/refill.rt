@@ -55,8 +55,8 @@ impl Refill {
 
     /// Looks over the buckets in hand, and answers what goes and comes, that the rest is flat, or which bucket is needed.
     ///
-    /// The hold is to stand for some history that leaves the point, whose bucket is to be in hand; the answer is right for each history
-    /// for which the hold stands. Between two turns buckets may come to the hold.
+    /// The hold is to show a set with the point, whose bucket is to be in hand; the answer is right for each set that the hold shows.
+    /// Between two turns buckets may come to the hold.
     ///
     /// # Errors
     /// Want of memory. The refill is then as before.

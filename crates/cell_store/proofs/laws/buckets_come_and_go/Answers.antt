@@ -1,6 +1,12 @@
 use Rattle.cell_store.proofs.HandLaws as laws
 use Rattle.cell_store.proofs.laws.buckets_come_and_go.Goals as goal
 
+pub returns-clause-empty_stands : goal.returns-clause-empty_stands
+returns-clause-empty_stands c = laws.empty_stands
+
+pub returns-clause-empty_shows : goal.returns-clause-empty_shows
+returns-clause-empty_shows c = laws.empty_shows
+
 pub returns-clause-fewer_stand : goal.returns-clause-fewer_stand
 returns-clause-fewer_stand c = laws.fewer_stand
 

@@ -1,19 +1,16 @@
-use Rattle.std.proofs.Common.{sym, refl, subst, List}
-use Rattle.point_order.specs.declared.cell.Cell.{Cell}
+use Rattle.std.proofs.Common.{sym, refl}
 use Rattle.edit_history.specs.declared.history.Edit.TheVariants.{Take}
 use Rattle.edit_history.specs.declared.history.Reply.TheVariants.{Removed, Flat}
 use Rattle.edit_history.specs.Histories.{replay}
 use Rattle.del_laws.proofs.Tests.{among_true}
-use Rattle.cell_store.specs.Changes.{IsNext}
-use Rattle.one_mesh.proofs.Edited.{applied, flat, removed, quiet, removal_next, some_refilled, none_refilled}
+use Rattle.one_mesh.proofs.Edited.{applied, flat, removed, quiet, removal, some_refilled, none_refilled}
 use Rattle.one_mesh.proofs.edits.take_there.Goals as goal
 
 pub change-requires : goal.change-requires
 change-requires c =
     let h = c.args.mesh.now.history in
     let f = some_refilled (replay h) c.args.v c.in_ok-f.field-0 c.in-Some.f c.in-Some.is c.in_ok-f.ensures in
-    let n = removal_next c.hold.result.now h c.args.number c.args.tag c.args.v c.entry_of-entry.result c.in-Some.f.gone.items c.in-Some.f.fresh.items c.hold.ensures.stands c.requires.there c.requires.number c.entry_of-entry.ensures f in
-    subst (λ (l : List Cell). IsNext h c.entry_of-entry.result l c.deref-in-Some.result.now) (sym c.deref.ensures.value) (subst (λ (l : List Cell). IsNext h c.entry_of-entry.result c.in-Some.f.gone.items l) (sym c.deref-in-Some.ensures.value) n)
+    rw (c.deref.ensures.value, c.deref-in-Some.ensures.value) (removal h c.args.number c.args.tag c.args.v c.entry_of-entry.result c.in-Some.f.gone.items c.in-Some.f.fresh.items c.requires.there c.requires.number c.entry_of-entry.ensures f)
 
 pub note-requires : goal.note-requires
 note-requires c =

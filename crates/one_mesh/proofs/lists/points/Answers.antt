@@ -5,7 +5,13 @@ use Rattle.one_mesh.proofs.Gathering.{points_in}
 use Rattle.vertex_removal.specs.Near.{AreSamePoints}
 use Rattle.one_mesh.proofs.lists.points.Goals as goal
 
-pub returns : goal.returns
-returns c =
+pub returns-clause-points : goal.returns-clause-points
+returns-clause-points c =
     points_in c.hold.result.now (replay c.args.mesh.now.history) c.points_in_order.result.items c.hold.ensures.whole (shows_of c.args.mesh.now c.hold.result.now c.hold.ensures) c.points_in_order.ensures.order
     (subst (λ (l : List ℕ). AreSamePoints l c.points_in_order.result.items) c.in_ok-points.ensures c.points_in_order.ensures.points)
+
+pub returns-clause-solid : goal.returns-clause-solid
+returns-clause-solid c = c.hold.ensures.stands.solid
+
+pub returns-in_err-all_points_of-clause-solid : goal.returns-in_err-all_points_of-clause-solid
+returns-in_err-all_points_of-clause-solid c = c.hold.ensures.stands.solid

@@ -11,7 +11,7 @@ loop-cell-init c h st k = rw c.in_ok-around.ensures.items (none_met h c.args.v c
 
 pub add_across-requires-clause-shown : goal.add_across-requires-clause-shown
 add_across-requires-clause-shown c =
-    (c.requires.history, c.requires.shown, ((c.requires.star_is c.cell-item.result).0 (at_place c.args.star.now c.loop-cell.cell-index c.cell-item.result c.loop-cell-test.true c.cell-item.is)).0)
+    (c.requires.set, c.requires.shown, ((c.requires.star_is c.cell-item.result).0 (at_place c.args.star.now c.loop-cell.cell-index c.cell-item.result c.loop-cell-test.true c.cell-item.is)).0)
 
 pub add_across-requires-clause-held : goal.add_across-requires-clause-held
 add_across-requires-clause-held c = c.requires.held c.cell-item.result (at_place c.args.star.now c.loop-cell.cell-index c.cell-item.result c.loop-cell-test.true c.cell-item.is)

@@ -28,8 +28,8 @@ near_set-requires c =
     let r = c.requires.shown in
     record {
       held = subst (λ (l : List Cell). AreHeld c.args.hold.now l) (c.deref.ensures.value ∙ sym c.deref-2.ensures.value) (at_none c.missing_bucket.result (AreHeld c.args.hold.now c.deref.result.now) (λ b. IsCellMissing c.args.hold.now c.deref.result.now b) c.in_default.not-Some c.missing_bucket.ensures);
-      history = r.0;
-      stands = r.1;
+      set = r.0;
+      shown = r.1;
       star_is = star_list r.0 c.self.inside.point c.deref-2.result.now (c.deref-2.ensures.value ∙ c.in_ok-gone.ensures r.0 r.1);
     }
 

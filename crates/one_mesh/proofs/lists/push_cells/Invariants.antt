@@ -1,7 +1,0 @@
-use Rattle.std.proofs.Common.{◌≡◌, ◌++◌}
-use Rattle.cell_store.specs.Stars.{cells_to_come}
-use Rattle.one_mesh.proofs.lists.push_cells.Given as goal
-
-abbrev pub invariant-loop-cell : goal.invariant-loop-cell
-invariant-loop-cell l =
-    l.list.items ++ cells_to_come l.cell-iterator ≡ l.initial.list.items ++ cells_to_come l.initial.cell-iterator
