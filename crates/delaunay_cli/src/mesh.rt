@@ -83,7 +83,6 @@ fn report<R>(
     ensures order { IfOk result (λ report. IsAscending report.points.items) }
     ensures counted { IfOk result (λ report. AreCounted (shapes_seen report.shapes.items)) }
 {
-    let _ = mesh.hold();
     let points = points(alloc, mesh)?;
     let cells = complex(alloc, mesh)?;
     Ok(Report {

@@ -5,6 +5,7 @@ ghost use Rattle.std.specs.List.{enumerate_from};
 ghost use Rattle.edit_history.specs.declared.history.Edit.TheVariants.{Add};
 ghost use Rattle.edit_history.specs.OneThread.{one_thread, places};
 ghost use Rattle.edit_history.specs.Opening.{opening_four};
+ghost use Rattle.edit_history.specs.Histories.{IsLegal};
 ghost use Rattle.cavity.specs.Opening.{opening_history};
 ghost use Rattle.delaunay_cli.specs.Made.{tagged_points, with_lines, other_lines};
 
@@ -27,7 +28,8 @@ fn tagged_point(points: &[Point], i: usize) -> (u32, Point)
 fn opening(alloc: Global, points: &[Point], four: [usize; 4]) -> Result<Mesh, AllocError>
     requires found { option_map places (opening_four points.now) ≡ Some four }
     requires small { length points.now < 2 ^ 32 }
-    ensures { IfOk result (λ mesh. mesh.history ≡ opening_history (tagged_points points.now four)) }
+    ensures history { IfOk result (λ mesh. mesh.history ≡ opening_history (tagged_points points.now four)) }
+    ensures legal { IfOk result (λ mesh. IsLegal mesh.history) }
 {
     let Ok(grid) = Grid::new(4) else {
         unreachable!()
@@ -82,7 +84,6 @@ pub fn meshed(
     ensures { IfOk result (λ mesh. mesh.history ≡ one_thread points.now edits.now) }
 {
     let mut mesh = opening(alloc, points, four)?;
-    let _ = mesh.hold();
     let lines = all_lines(alloc, points, edits)?;
     make_others(alloc, &mut mesh, &lines, four)?;
     Ok(mesh)

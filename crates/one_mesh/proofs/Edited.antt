@@ -1,5 +1,5 @@
 -- What edits make of a mesh.
-use Rattle.std.specs.Prelude.{◌≡◌, refl, ℕ, ◌<◌, ◌^◌, true, false, Bool, cond, List, [], ◌∷◌, ◌++◌, length, Option, None, Some, IsSome, MatchOption}
+use Rattle.std.specs.Prelude.{◌≡◌, refl, ℕ, ◌<◌, ◌^◌, true, false, cond, List, [], ◌∷◌, ◌++◌, length, Option, None, Some, MatchOption}
 use Rattle.std.proofs.Common.{ap, sym, subst, ◌∙◌, arith}
 use Rattle.point_order.specs.Complex.{complex}
 use Rattle.point_order.specs.Sets.{IsIn, is_among, without_point}
@@ -19,7 +19,7 @@ use Rattle.point_order.specs.declared.cell.Cell.{Cell}
 use Rattle.cavity.specs.declared.fill_hole.Fresh.{Fresh}
 use Rattle.vertex_removal.specs.Refills.{IsRefilled}
 use Rattle.vertex_removal.proofs.Removals.{removal_follows}
-use Rattle.one_mesh.specs.Applied.{IsQuiet, edited}
+use Rattle.one_mesh.specs.Applied.{edited}
 
 -- the count is the next number
 pub numbered : (l n : ℕ) → n ≡ counted l → l < 2 ^ 32 → n ≡ l

@@ -13,8 +13,8 @@ use Rattle.delaunay_cli.proofs.meshed.meshed.Goals as goal
 pub make_others-requires-clause-opening : goal.make_others-requires-clause-opening
 make_others-requires-clause-opening c =
     let t = tagged_points c.args.points.now c.args.four in
-    let o = opening_made t (subst IsLegal c.in_ok-mesh.ensures c.hold.ensures.stands.legal) in
-    let n = ap length (c.in_ok-mesh.ensures ∙ o) ∙ length-entries 0 [] (map added t) in
+    let o = opening_made t (subst IsLegal c.in_ok-mesh.ensures.history c.in_ok-mesh.ensures.legal) in
+    let n = ap length (c.in_ok-mesh.ensures.history ∙ o) ∙ length-entries 0 [] (map added t) in
     let a = added_many t in
     let b = four_many c.args.points.now c.args.four c.requires.found in
     omega (arith, n, a, b)
@@ -30,7 +30,7 @@ make_others-requires-clause-small c =
 pub returns : goal.returns
 returns c =
     let t = tagged_points c.args.points.now c.args.four in
-    let o = opening_made t (subst IsLegal c.in_ok-mesh.ensures c.hold.ensures.stands.legal) in
+    let o = opening_made t (subst IsLegal c.in_ok-mesh.ensures.history c.in_ok-mesh.ensures.legal) in
     c.in_ok-make_others.ensures
     ∙ ap (λ (l : List Edit). with_lines c.in_ok-mesh.mesh.history (other_lines c.args.four (enumerate_from 0 l))) (c.deref.ensures.value ∙ c.in_ok-lines.ensures)
-    ∙ all_lines c.args.points.now c.args.edits.now c.args.four (map added t) c.in_ok-mesh.mesh.history c.requires.found (c.in_ok-mesh.ensures ∙ o) (opening_lines c.args.points.now c.args.edits.now c.args.four c.requires.found)
+    ∙ all_lines c.args.points.now c.args.edits.now c.args.four (map added t) c.in_ok-mesh.mesh.history c.requires.found (c.in_ok-mesh.ensures.history ∙ o) (opening_lines c.args.points.now c.args.edits.now c.args.four c.requires.found)

@@ -1,7 +1,9 @@
-use Rattle.std.proofs.Common.{arith, ap, ◌∙◌, ◌≡◌, [], ◌∷◌}
+use Rattle.std.proofs.Common.{arith, ap, sym, subst, ◌∙◌, ◌≡◌, [], ◌∷◌}
+use Rattle.edit_history.specs.Histories.{IsLegal}
 use Rattle.cell_store.specs.Meshes.{MeshView}
 use Rattle.cavity.specs.Opening.{opening_history}
 use Rattle.cavity.proofs.MeshGrowth.{four_found}
+use Rattle.cavity.proofs.OpeningLaws.{opening_legal}
 use Rattle.delaunay_cli.specs.Made.{tagged_points}
 use Rattle.delaunay_cli.proofs.OpeningLines.{tagged_is}
 use Rattle.delaunay_cli.proofs.meshed.opening.Goals as goal
@@ -21,7 +23,13 @@ tagged_point-requires-4-clause-small c = (let f = (four_found c.args.points.now 
 pub begin-requires : goal.begin-requires
 begin-requires c = rw (c.tagged_point.ensures, c.tagged_point-2.ensures, c.tagged_point-3.ensures, c.tagged_point-4.ensures) (four_found c.args.points.now c.args.four c.requires.found).independent
 
-pub returns : goal.returns
-returns c =
+pub returns-clause-history : goal.returns-clause-history
+returns-clause-history c =
     let l : c.tagged_point.result ∷ c.tagged_point-2.result ∷ c.tagged_point-3.result ∷ c.tagged_point-4.result ∷ [] ≡ tagged_points c.args.points.now c.args.four = rw (c.tagged_point.ensures, c.tagged_point-2.ensures, c.tagged_point-3.ensures, c.tagged_point-4.ensures) (tagged_is c.args.points.now c.args.four c.requires.found) in
     ap (λ (m : MeshView). m.history) c.in_ok-mesh.ensures ∙ ap opening_history l
+
+pub returns-clause-legal : goal.returns-clause-legal
+returns-clause-legal c =
+    subst IsLegal (sym (ap (λ (m : MeshView). m.history) c.in_ok-mesh.ensures))
+    (opening_legal (c.tagged_point.result ∷ c.tagged_point-2.result ∷ c.tagged_point-3.result ∷ c.tagged_point-4.result ∷ [])
+    (rw (c.tagged_point.ensures, c.tagged_point-2.ensures, c.tagged_point-3.ensures, c.tagged_point-4.ensures) (four_found c.args.points.now c.args.four c.requires.found).independent))

@@ -13,5 +13,5 @@ returns-clause-points c =
 pub returns-clause-solid : goal.returns-clause-solid
 returns-clause-solid c = c.hold.ensures.stands.solid
 
-pub returns-in_err-all_points_of-clause-solid : goal.returns-in_err-all_points_of-clause-solid
-returns-in_err-all_points_of-clause-solid c = c.hold.ensures.stands.solid
+pub returns-in_err-points-clause-solid : goal.returns-in_err-points-clause-solid
+returns-in_err-points-clause-solid c = c.hold.ensures.stands.solid
