@@ -279,8 +279,7 @@ fn line_at(points: &[Point], i: usize) -> Result<(u32, Point), Fail>
 }
 
 // The mesh of the four points that the history of these begins with.
-pub fn mesh_of(alloc: Global, grid: Grid, points: &[Point]) -> Result<Mesh, Fail>
-{
+pub fn mesh_of(alloc: Global, grid: Grid, points: &[Point]) -> Result<Mesh, Fail> {
     let four = find_four(points)?;
     let a = line_at(points, four[0])?;
     let b = line_at(points, four[1])?;

@@ -2,14 +2,15 @@ use Rattle.std.proofs.Common.{refl, inl, inr, ap, sym, subst, List, length}
 use Rattle.point_order.specs.declared.cell.Cell.{Cell}
 use Rattle.point_order.specs.Complex.{complex}
 use Rattle.point_order.specs.Sets.{IsIn, with_point}
+use Rattle.cell_store.specs.Buckets.{content_of}
 use Rattle.cell_store.specs.Stars.{cells_to_come}
 use Rattle.cavity.proofs.Searching.{in_complex, not_none, in_items, of_items, none_in}
 use Rattle.cavity.proofs.conflict_cell.conflict_among.Goals as goal
 
 pub loop-cell-init : goal.loop-cell-init
 loop-cell-init c = (
-  (λ x i. of_items c.args.hold.now c.args.b c.bucket.result.now (cells_to_come c.into_iter-cell-iterator.result) x c.bucket.ensures.bucket (rw c.into_iter-cell-iterator.ensures.into_iter_gives c.cells-cell-items.ensures) i),
-  (λ x i. inl (in_items c.args.hold.now c.args.b c.bucket.result.now (cells_to_come c.into_iter-cell-iterator.result) x c.bucket.ensures.bucket (rw c.into_iter-cell-iterator.ensures.into_iter_gives c.cells-cell-items.ensures) i)),
+  (λ x i. of_items c.args.hold.now c.args.b (content_of c.bucket.result.now) (cells_to_come c.into_iter-cell-iterator.result) x c.bucket.ensures.bucket (rw c.into_iter-cell-iterator.ensures.into_iter_gives c.cells-cell-items.ensures) i),
+  (λ x i. inl (in_items c.args.hold.now c.args.b (content_of c.bucket.result.now) (cells_to_come c.into_iter-cell-iterator.result) x c.bucket.ensures.bucket (rw c.into_iter-cell-iterator.ensures.into_iter_gives c.cells-cell-items.ensures) i)),
 )
 
 pub goes-requires-clause-shown : goal.goes-requires-clause-shown

@@ -1,4 +1,5 @@
 use Rattle.std.proofs.Common.{sym, subst, ap, List, length}
+use Rattle.cell_store.specs.Buckets.{content_of}
 use Rattle.cell_store.specs.Stars.{cells_to_come}
 use Rattle.point_order.specs.declared.cell.Cell.{Cell}
 use Rattle.vertex_removal.proofs.Taken.{IsJudged, small_of, some_held, judged_first, next_listed, judged_goes, judged_stays, judged_all}
@@ -7,8 +8,8 @@ use Rattle.vertex_removal.proofs.small_mesh.cells_taken.Goals as goal
 pub loop-cell-init : goal.loop-cell-init
 loop-cell-init c =
     let k = small_of c.in_ok-mesh.mesh c.hold-hold.result.now c.one_bucket.result c.args.points.now c.args.v c.hold-hold.ensures c.in_ok-mesh.ensures.grid c.one_bucket.ensures c.in_ok-mesh.ensures.points c.key.ensures.bound c.requires.absent in
-      subst (λ (l : List Cell). IsJudged c.args.points.now c.args.v (cells_to_come c.into_iter-cell-iterator.result) l) (sym c.new-cells.ensures.items)
-          (judged_first c.hold-hold.result.now c.args.points.now c.args.v c.bucket.result.now (cells_to_come c.into_iter-cell-iterator.result) k c.bucket.ensures.bucket (rw c.into_iter-cell-iterator.ensures.into_iter_gives c.cells-cell-items.ensures))
+    subst (λ (l : List Cell). IsJudged c.args.points.now c.args.v (cells_to_come c.into_iter-cell-iterator.result) l) (sym c.new-cells.ensures.items)
+    (judged_first c.hold-hold.result.now c.args.points.now c.args.v (content_of c.bucket.result.now) (cells_to_come c.into_iter-cell-iterator.result) k c.bucket.ensures.bucket (rw c.into_iter-cell-iterator.ensures.into_iter_gives c.cells-cell-items.ensures))
 
 pub goes-requires-clause-shown : goal.goes-requires-clause-shown
 goes-requires-clause-shown c =
@@ -25,8 +26,8 @@ loop-cell-preserved-in-Continue-branch-2 c =
     let k = small_of c.in_ok-mesh.mesh c.hold-hold.result.now c.one_bucket.result c.args.points.now c.args.v c.hold-hold.ensures c.in_ok-mesh.ensures.grid c.one_bucket.ensures c.in_ok-mesh.ensures.points c.key.ensures.bound c.requires.absent in
     let m = next_listed c.args.points.now c.args.v (cells_to_come c.loop-cell.cell-iterator) (cells_to_come c.next.new.self) c.loop-cell.cells.items c.in-Some.cell.now c.loop-cell.invariant c.in-Some.ensures.steps in
     let g = c.if-goes.ensures c.args.points.now k.shown k.new m in
-      subst (λ (l : List Cell). IsJudged c.args.points.now c.args.v (cells_to_come c.next.new.self) l) (sym c.in_ok-push.ensures.items)
-          (judged_goes c.args.points.now c.args.v (cells_to_come c.loop-cell.cell-iterator) (cells_to_come c.next.new.self) c.loop-cell.cells.items c.in-Some.cell.now c.loop-cell.invariant c.in-Some.ensures.steps g)
+    subst (λ (l : List Cell). IsJudged c.args.points.now c.args.v (cells_to_come c.next.new.self) l) (sym c.in_ok-push.ensures.items)
+    (judged_goes c.args.points.now c.args.v (cells_to_come c.loop-cell.cell-iterator) (cells_to_come c.next.new.self) c.loop-cell.cells.items c.in-Some.cell.now c.loop-cell.invariant c.in-Some.ensures.steps g)
 
 pub loop-cell-preserved : goal.loop-cell-preserved
 loop-cell-preserved c =
