@@ -1,7 +1,7 @@
 -- Lists that are gathered bucket by bucket.
-use Rattle.std.specs.Prelude.{◌≡◌, refl, ℕ, zero, suc, ◌+◌, ◌<◌, ◌≤◌, List, [], ◌∷◌, ◌++◌, length, take, Option, None, Some, slice_index_or}
+use Rattle.std.specs.Prelude.{◌≡◌, ℕ, ◌+◌, ◌<◌, ◌≤◌, List, ◌++◌, length, take, Option, Some}
 use Rattle.std.specs.List.{flat_map}
-use Rattle.std.proofs.Common.{ap, sym, subst, ◌∙◌, arith, inl, inr}
+use Rattle.std.proofs.Common.{ap, sym, subst, ◌∙◌, add-one, inl, inr}
 use Rattle.std.proofs.lemmas.List.{take_all}
 use Rattle.std.proofs.lemmas.List.Sorted.{IsPermutation-sym}
 use Rattle.point_order.specs.declared.cell.Cell.{Cell}
@@ -10,38 +10,14 @@ use Rattle.del_laws.proofs.Listed.{in_left, in_right, from_append}
 use Rattle.cell_store.specs.Buckets.{Content, bucket_at}
 use Rattle.cell_store.specs.Meshes.{HasMore}
 use Rattle.cell_store.specs.Swaps.{AreSameCells}
-use Rattle.cell_store.proofs.MeshLaws.{in_moved, cells_of}
-
--- one more list
-pub flat_next : {X Y : Type 0} (f : X → List Y) (l : List X) (n : ℕ) (d : X) → n < length l → flat_map f (take (n + 1) l) ≡ flat_map f (take n l) ++ f (slice_index_or l n d)
-flat_next f l n d h = ap (λ k. flat_map f (take k l)) one ∙ next f l n d h
-  where
-    one : n + 1 ≡ suc n
-    one = omega arith
-
-    behind : {Y : Type 0} (a b c : List Y) → a ++ (b ++ c) ≡ (a ++ b) ++ c
-    behind [] b c = refl
-    behind (x ∷ a) b c = ap (λ m. x ∷ m) (behind a b c)
-
-    nothing : {Y : Type 0} (a : List Y) → a ++ [] ≡ a
-    nothing [] = refl
-    nothing (x ∷ a) = ap (λ m. x ∷ m) (nothing a)
-
-    next : {X Y : Type 0} (f : X → List Y) (l : List X) (n : ℕ) (d : X) → n < length l → flat_map f (take (suc n) l) ≡ flat_map f (take n l) ++ f (slice_index_or l n d)
-    next f [] n d h = absurd (omega (arith, h))
-    next f (x ∷ l) zero d h = nothing (f x)
-    next f (x ∷ l) (suc n) d h = ap (λ m. f x ++ m) (next f l n d (omega (arith, h))) ∙ behind (f x) (flat_map f (take n l)) (f (slice_index_or l n d))
-
--- all lists
-pub flat_all : {X Y : Type 0} (f : X → List Y) (l : List X) (n : ℕ) → length l ≤ n → flat_map f (take n l) ≡ flat_map f l
-flat_all f l n h = ap (flat_map f) (take_all n l h)
+use Rattle.cell_store.proofs.MeshLaws.{in_moved, cells_of, next_gathered}
 
 -- the same cells with those of one more bucket
 pub same_next : (l : List (Option Content)) (n : ℕ) (x : Content) (old new : List Cell) → n < length l → bucket_at l n ≡ Some x → AreSameCells (flat_map cells_of (take n l)) old → HasMore x.cells old new → AreSameCells (flat_map cells_of (take (n + 1) l)) new
 same_next l n x old new h e s m = (there, back)
   where
     next : flat_map cells_of (take (n + 1) l) ≡ flat_map cells_of (take n l) ++ x.cells
-    next = flat_next cells_of l n None h ∙ ap (λ o. flat_map cells_of (take n l) ++ cells_of o) e
+    next = rw add-one (next_gathered cells_of l n h) ∙ ap (λ o. flat_map cells_of (take n l) ++ cells_of o) e
 
     there : (c : Cell) → IsIn c (flat_map cells_of (take (n + 1) l)) → IsIn c new
     there c i = subst (λ (v : List Cell). IsIn c v) (sym m.2) (elim (from_append c (flat_map cells_of (take n l)) x.cells (subst (λ (v : List Cell). IsIn c v) next i)) [
@@ -58,13 +34,3 @@ same_next l n x old new h e s m = (there, back)
 -- the cells of all buckets
 pub same_all : (l : List (Option Content)) (n : ℕ) (cells : List Cell) → length l ≤ n → AreSameCells (flat_map cells_of (take n l)) cells → AreSameCells (flat_map cells_of l) cells
 same_all l n cells h s = subst (λ (m : List (Option Content)). AreSameCells (flat_map cells_of m) cells) (take_all n l h) s
-
--- no cell yet
-pub same_none : (l : List (Option Content)) → AreSameCells (flat_map cells_of (take 0 l)) []
-same_none [] = ((λ c i. i), (λ c i. i))
-same_none (x ∷ l) = ((λ c i. i), (λ c i. i))
-
--- nothing behind a list
-pub nothing_more : {Y : Type 0} (a : List Y) → a ++ [] ≡ a
-nothing_more [] = refl
-nothing_more (x ∷ a) = ap (λ m. x ∷ m) (nothing_more a)

@@ -188,10 +188,6 @@ with_turn cells front back rest fresh others done between next target d e f t be
     ∙ ap (λ (l : List Cell). done ++ l) (sym (with_front d others front back (subst (IsStrictlySortedBy cell_cmp) f t) before) ∙ ap (λ g. with_cells g (front ++ back)) (sym f) ∙ ap (with_cells fresh) (sym e))
     ∙ made
 
--- where none is left to put in, the rest follows
-pub with_end : (cells fresh done target : List Cell) → fresh ≡ [] → done ++ with_cells fresh cells ≡ target → done ++ cells ≡ target
-with_end cells fresh done target e t = ap (λ (l : List Cell). done ++ l) (ap (λ g. with_cells g cells) (sym e)) ∙ t
-
 -- ---- the exchange, by lists with the same cells
 
 -- without the same cells

@@ -120,8 +120,9 @@ entries_are hold h b st s =
     let c = some_of (bucket_at hold.places b) s in
     ap entries_of c.1 ∙ (st.shares b c.0 c.1).entries
 
-next_gathered : (l : List (Option Content)) (n : ℕ) → n < length l → flat_map entries_of (take (suc n) l) ≡ flat_map entries_of (take n l) ++ entries_of (bucket_at l n)
-next_gathered l n k = ap (flat_map entries_of) (take_next l n None k) ∙ flat_map-append entries_of (take n l) (bucket_at l n ∷ []) ∙ ap (λ (m : List Entry). flat_map entries_of (take n l) ++ m) (append-nil (entries_of (bucket_at l n)))
+-- what the first buckets have and the next
+pub next_gathered : {Y : Type 0} (f : Option Content → List Y) (l : List (Option Content)) (n : ℕ) → n < length l → flat_map f (take (suc n) l) ≡ flat_map f (take n l) ++ f (bucket_at l n)
+next_gathered f l n k = ap (flat_map f) (take_next l n None k) ∙ flat_map-append f (take n l) (bucket_at l n ∷ []) ∙ ap (λ m. flat_map f (take n l) ++ m) (append-nil (f (bucket_at l n)))
 
 gathered : (hold : InHand) (h : List Entry) → AllInHand hold → Stands hold h → (n : ℕ) → n ≤ length hold.places → IsPermutation (flat_map entries_of (take n hold.places)) (filter (is_below hold.grid n) h)
 gathered hold h all st zero k = rw (none_pass (is_below hold.grid 0) h (λ e. none (bucket_of hold.grid (point_of e.edit)))) (IsPermutation-refl [])
@@ -130,7 +131,7 @@ gathered hold h all st zero k = rw (none_pass (is_below hold.grid 0) h (λ e. no
     none m = grind (arith, nat_tests)
 gathered hold h all st (suc n) k =
     let b : n < length hold.places = omega arith in
-    let e = next_gathered hold.places n b ∙ ap (λ (m : List Entry). flat_map entries_of (take n hold.places) ++ m) (entries_are hold h n st (all n b)) in
+    let e = next_gathered entries_of hold.places n b ∙ ap (λ (m : List Entry). flat_map entries_of (take n hold.places) ++ m) (entries_are hold h n st (all n b)) in
     let p = IsPermutation-append (flat_map entries_of (take n hold.places)) (filter (is_below hold.grid n) h) (entries_share hold.grid n h) (entries_share hold.grid n h) (gathered hold h all st n (omega arith)) (IsPermutation-refl (entries_share hold.grid n h)) in
     subst (λ m. IsPermutation m (filter (is_below hold.grid (suc n)) h)) (sym e)
     (IsPermutation-trans (flat_map entries_of (take n hold.places) ++ entries_share hold.grid n h) (filter (is_below hold.grid n) h ++ entries_share hold.grid n h) (filter (is_below hold.grid (suc n)) h) p (one_more hold.grid n h))
@@ -350,7 +351,7 @@ mesh_gathers_cells mesh s m sh = record {
 -- what the loop over the buckets counts
 pub count_next : (l : List (Option Content)) (n count entries : ℕ) → n < length l → count ≡ min (length (flat_map entries_of (take n l))) (2 ^ 64 - 1) → entries ≡ length (entries_of (bucket_at l n)) → min (count + entries) (2 ^ 64 - 1) ≡ min (length (flat_map entries_of (take (n + 1) l))) (2 ^ 64 - 1)
 count_next l n count entries k e f =
-    let s = ap length (next_gathered l n k) ∙ length-append (flat_map entries_of (take n l)) (entries_of (bucket_at l n)) in
+    let s = ap length (next_gathered entries_of l n k) ∙ length-append (flat_map entries_of (take n l)) (entries_of (bucket_at l n)) in
     rw add-one (rw s (step _ _ _ _ e f))
   where
     step : (c n a b : ℕ) → c ≡ min a (2 ^ 64 - 1) → n ≡ b → min (c + n) (2 ^ 64 - 1) ≡ min (a + b) (2 ^ 64 - 1)

@@ -1,5 +1,5 @@
 -- What an entry makes of the points of its bucket, and of the buckets of a hold.
-use Rattle.std.specs.Prelude.{◌≡◌, ◌≢◌, ℕ, zero, suc, ◌<◌, ◌≤◌, ◌==◌, Bool, true, false, cond, not, ◌||◌, List, [], ◌∷◌, ◌++◌, ◌⊎◌, Option, None, Some, IfSome, IsSomeAnd, length, replicate, slice_index, slice_set, Result, Ok, Err, MatchResult, OnOk, OnErr}
+use Rattle.std.specs.Prelude.{◌≡◌, ◌≢◌, ℕ, zero, suc, ◌<◌, ◌≤◌, ◌==◌, Bool, true, false, cond, not, ◌||◌, List, [], ◌∷◌, ◌++◌, ◌⊎◌, Option, None, Some, IfSome, IsSomeAnd, length, slice_index, slice_set, Result, Ok, Err, MatchResult, OnOk, OnErr}
 use Rattle.std.specs.Option.{option_map}
 use Rattle.std.proofs.Common.{refl, sym, ◌∙◌, ap, subst, inl, inr, arith}
 use Rattle.std.proofs.lemmas.Bool.Decides.{nat_tests}
@@ -173,14 +173,6 @@ stand_take g b places h st k y q = elim (two k b) [
   | inl w ↦ (let u = sym (get_or-set_same places b None None h) ∙ ap (bucket_at (slice_set places b None)) (sym w) ∙ q in absurd (cc u))
   | inr n ↦ st k y (sym (get_or-set_other places b k None None n) ∙ q)
 ]
-
-pub stand_empty : (g n : ℕ) → StandAtPlaces g (replicate n None)
-stand_empty g n k y q = absurd (none n k q)
-  where
-    none : (n k : ℕ) → bucket_at (replicate n None) k ≡ Some y → ⊥
-    none zero k q = cc q
-    none (suc n) zero q = cc q
-    none (suc n) (suc k) q = none n k q
 
 from_given : (lists : List CellsFor) (b : ℕ) (o : Option Content) (d : Content) → given lists b o ≡ Some d → (c : Content) × (o ≡ Some c) × (d.place ≡ c.place)
 from_given [] b o d e = (d, e, refl)

@@ -70,7 +70,7 @@ mesh_in hold = record { grid = hold.grid; history = history_in hold.places }
 abbrev pub counted : ℕ → ℕ
 counted n = min n (2 ^ 64 - 1)
 
--- and their cells
+-- the cells of all buckets in hand, those of bucket 0 first
 abbrev pub all_cells : List (Option Content) → List Cell
 all_cells places = flat_map (λ o. option_map_or (λ c. c.cells) o []) places
 

@@ -1,6 +1,6 @@
 //! The mesh of one thread: it begins with four points, takes edits one by one, and gives its complex and its history.
 //!
-//! A mesh is seen as the history for which it stands; there is just one (`cell_store::laws::mesh_has_one_history`).
+//! A mesh is seen as its grid and its history.
 #![tactic(auto)]
 
 mod edits;
