@@ -26,7 +26,8 @@ use Rattle.cell_store.specs.Swaps.{touches}
 use Rattle.cavity.specs.Digs.{Digging, CanDig, AreCrossed, IsDigIn, IsDoneIn, facets_of_first}
 use Rattle.cavity.specs.Exploring.{IsCellMissing, IsAt, AreUncrossed, ArePointsHeld, Explores}
 use Rattle.cavity.specs.Turns.{IsNeeded, NoneIsNeeded}
-use Rattle.cavity.proofs.Lists.{at_place, apart_place, in_take, take_next, distinct_take, flat_from, in_flat, at_most}
+use Rattle.cell_conflict.proofs.Counting.{at_most}
+use Rattle.cavity.proofs.Lists.{at_place, apart_place, in_take, take_next, distinct_take, flat_from, in_flat}
 use Rattle.cavity.proofs.Held.{not_some, cells_more}
 use Rattle.cell_store.proofs.ShareLaws.{solid_set}
 use Rattle.cavity.proofs.Filling.{all_found}

@@ -13,7 +13,7 @@ use Rattle.cell_store.specs.Others.{IsOtherOf}
 use Rattle.cavity.specs.Digs.{AreCrossed}
 use Rattle.cavity.specs.Exploring.{IsAt, AreUncrossed}
 use Rattle.cavity.proofs.Lists.{distinct_push}
-use Rattle.cavity.proofs.Standing.{one_of_two}
+use Rattle.cell_conflict.proofs.Standing.{one_of_two}
 
 module _ (s : List ℕ) (p : ℕ) (i : IsSolidSet s) (crossed : List Facet) (cell other : Cell) (f : Facet) (found : List Cell) (rim : List Facet)
     (t : IsAt s p crossed cell found rim) (m : IsIn f (facets_of cell)) (o : IsOtherOf (complex s) cell f other) where

@@ -19,7 +19,7 @@ use Rattle.cavity.specs.Digs.{AreCrossed}
 use Rattle.cavity.specs.Exploring.{ArePointsHeld, IsAt, AreUncrossed}
 use Rattle.cavity.proofs.Lists.{apart_place, at_place, take_next}
 use Rattle.cavity.proofs.Held.{not_some}
-use Rattle.cavity.proofs.Standing.{some_on, on_cell}
+use Rattle.cell_conflict.proofs.Standing.{some_on, on_cell}
 
 -- four that are apart
 four_once : {X : Type 0} (w x y z : X) → ¬ (x ≡ w) → ¬ (y ≡ w) → ¬ (z ≡ w) → ¬ (y ≡ x) → ¬ (z ≡ x) → ¬ (z ≡ y) → AreDistinct (w ∷ x ∷ y ∷ z ∷ [])

@@ -17,7 +17,7 @@ use Rattle.cell_store.specs.Buckets.{bucket_at}
 use Rattle.cavity.specs.Digs.{Digging, AreCrossed, IsDoneIn}
 use Rattle.cavity.specs.Fills.{IsFilled, IsFacetApart, FreshAreHeld}
 use Rattle.cavity.proofs.Lists.{in_flat, distinct_map}
-use Rattle.cavity.proofs.Standing.{on_cell}
+use Rattle.cell_conflict.proofs.Standing.{on_cell}
 
 module _ (s : List ℕ) (d : Digging) (k : IsDoneIn s d) where
   -- the facets of all found cells were crossed

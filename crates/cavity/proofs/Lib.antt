@@ -1,7 +1,5 @@
 pub mod Lists
 pub mod SameCells
-pub mod Standing
-pub mod Mates
 pub mod Crossing
 pub mod Held
 pub mod Filling
@@ -9,6 +7,5 @@ pub mod Exploration
 pub mod Advancing
 pub mod FourCells
 pub mod OpeningLaws
-pub mod Searching
 pub mod Insertions
 pub mod MeshGrowth

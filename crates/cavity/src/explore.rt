@@ -9,7 +9,7 @@ ghost use Rattle.cell_store.specs.Ready.{AreHeld};
 ghost use Rattle.cavity.specs.Exploring.{ArePointsHeld, IsBucketMissing, IsCellMissing, ShowsAt, ShowsNewAt, Crosses, Explores};
 
 use crate::cell_list::CellList;
-use crate::judge::{cell_across, goes};
+use cell_conflict::{cell_across, is_in_conflict};
 use cell_store::Hold;
 use point_order::{Cell, Facet, Point};
 use std::alloc::AllocError;
@@ -57,7 +57,7 @@ fn cross(
 {
     let other = cell_across(hold, cell, facet);
     if !found.contains(other) {
-        if goes(hold, other, point) {
+        if is_in_conflict(hold, other, point) {
             found.push(other)?;
         } else {
             rim.push(*facet)?;

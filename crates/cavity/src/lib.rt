@@ -11,14 +11,12 @@ mod dig;
 mod explore;
 mod fill_hole;
 mod growth;
-mod judge;
 pub mod laws;
 mod opening;
 
-pub use conflict_cell::{cell_in_conflict, conflict_among};
+pub use conflict_cell::cell_in_conflict;
 pub use dig::{Dig, DigTurn};
 pub use explore::missing_bucket;
 pub use fill_hole::{Fresh, fill};
 pub use growth::{insert, mesh_of_points};
-pub use judge::{cell_across, goes};
 pub use opening::open_mesh;

@@ -10,7 +10,7 @@ use Rattle.del_laws.proofs.Listed.{in_left, in_right, from_append}
 use Rattle.hole_laws.specs.Edits.{IsSet}
 use Rattle.cell_store.specs.Others.{IsOtherOf}
 use Rattle.cavity.proofs.Lists.{at_place, in_take_more}
-use Rattle.cavity.proofs.Standing.{one_of_two}
+use Rattle.cell_conflict.proofs.Standing.{one_of_two}
 use Rattle.vertex_removal.specs.Near.{AreAdded, IsOneOf, IsOfOne}
 
 module _ (s : List ℕ) (v : ℕ) where

@@ -27,7 +27,7 @@ use Rattle.cell_store.proofs.MeshLaws.{in_moved, point_held}
 use Rattle.cell_store.proofs.ShareLaws.{touched}
 use Rattle.cavity.proofs.Held.{not_some}
 use Rattle.cavity.proofs.Lists.{distinct_push}
-use Rattle.cavity.proofs.Searching.{some_point, none_in}
+use Rattle.cell_conflict.proofs.Searching.{some_point, none_in}
 use Rattle.cell_store.proofs.MeshLaws.{shows_of}
 use Rattle.vertex_removal.specs.Near.{AreTaken}
 use Rattle.vertex_removal.proofs.Once.{moved_once}

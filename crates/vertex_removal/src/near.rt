@@ -14,7 +14,7 @@ ghost use Rattle.cavity.specs.Exploring.{ArePointsHeld};
 ghost use Rattle.vertex_removal.specs.Near.{IsStar, ShowsStar, ArePointsBut, AreSamePoints, AreAdded, IsOneOf, IsOfOne};
 
 use crate::ordered::points_in_order;
-use cavity::cell_across;
+use cell_conflict::cell_across;
 use cell_store::Hold;
 use edit_history::find_four;
 use point_order::{Cell, Point};

@@ -5,7 +5,8 @@ ghost use Rattle.point_order.specs.Sets.{IsIn, IsAscending};
 ghost use Rattle.point_order.specs.Solid.{is_solid};
 ghost use Rattle.vertex_removal.specs.Near.{AreTaken};
 
-use cavity::{goes, mesh_of_points};
+use cavity::mesh_of_points;
+use cell_conflict::is_in_conflict;
 use cell_store::Grid;
 use point_order::{Cell, Point};
 use std::alloc::{AllocError, Global};
@@ -36,7 +37,7 @@ pub(crate) fn cells_taken(
     let hold = mesh.hold();
     let mut cells = Vec::new(alloc);
     for cell in hold.bucket(0).cells() {
-        if goes(hold, cell, v) {
+        if is_in_conflict(hold, cell, v) {
             cells.push(*cell)?;
         }
     }

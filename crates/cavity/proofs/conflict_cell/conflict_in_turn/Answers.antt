@@ -1,7 +1,7 @@
 use Rattle.std.proofs.Common.{inl, inr, sym, subst, ◌+◌, ◌%◌}
 use Rattle.cell_store.specs.Buckets.{cells_in}
-use Rattle.cavity.specs.Searching.{NoneGoes}
-use Rattle.cavity.proofs.Searching.{one_more, unmet}
+use Rattle.cell_conflict.specs.Searching.{NoneGoes}
+use Rattle.cell_conflict.proofs.Searching.{one_more, unmet}
 use Rattle.cavity.proofs.conflict_cell.conflict_in_turn.Goals as goal
 
 pub loop-step-preserved : goal.loop-step-preserved

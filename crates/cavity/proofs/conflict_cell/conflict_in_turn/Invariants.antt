@@ -2,7 +2,7 @@ use Rattle.std.proofs.Common.{ℕ, ◌+◌, ◌%◌, ◌<◌, List}
 use Rattle.hole_laws.specs.Edits.{IsNew}
 use Rattle.cell_store.specs.Buckets.{cells_in}
 use Rattle.cell_store.specs.Shares.{Shows}
-use Rattle.cavity.specs.Searching.{NoneGoes}
+use Rattle.cell_conflict.specs.Searching.{NoneGoes}
 use Rattle.cavity.proofs.conflict_cell.conflict_in_turn.Given as goal
 
 abbrev pub invariant-loop-step : goal.invariant-loop-step

@@ -1,0 +1,74 @@
+//! Which cells of a complex a new point takes away, judged from the buckets in hand.
+
+ghost use Rattle.std.specs.Prelude.{◌≡◌, List, MatchBool, not, ℕ};
+ghost use Rattle.std.specs.List.{find};
+ghost use Rattle.point_order.specs.Complex.{complex};
+ghost use Rattle.point_order.specs.Facets.{facets_of, points_of};
+ghost use Rattle.point_order.specs.Sets.{IsIn, is_among};
+ghost use Rattle.point_order.specs.declared.cell.Cell.TheVariants.{Open};
+ghost use Rattle.hole_laws.specs.Edits.{IsNew, IsMate, GoesFrom, StaysFrom};
+ghost use Rattle.cell_store.specs.Shares.{Shows, ShowsWith, NoneInHand, IsAcross, points_on};
+ghost use Rattle.cell_conflict.specs.Judging.{ShowsWithNew};
+
+use cell_store::{Across, Hold};
+use point_order::{Cell, Facet, Point, Tri};
+use sphere_ties::conflict;
+
+/// The cell across a facet of which some point's bucket is in hand. The hold is to show a set of whose complex
+/// the given cell is one; the answer is right for each such set.
+pub fn cell_across<'a>(hold: &'a Hold, cell: &Cell, facet: &Facet) -> &'a Cell
+    requires shown { ShowsWith hold.now cell.now }
+    requires facet { IsIn facet.now (facets_of cell.now) }
+    requires held { ¬ (NoneInHand hold.now (points_on facet.now)) }
+    ensures { (s : List ℕ) → Shows hold.now s → IsIn cell.now (complex s) → IsAcross s cell.now facet.now result.now }
+{
+    match hold.across(cell, facet) {
+        Across::Cell(other) => other,
+        Across::Need(_) => unreachable!(),
+    }
+}
+
+// The first point of a cell that another does not have, if there is one.
+fn point_against(cell: &Cell, other: &Cell) -> Option<Point>
+    ensures { result ≡ find (λ p. not (is_among p (points_of other.now))) (points_of cell.now) }
+{
+    cell.points().iter().copied().find(|p| !other.has(*p))
+}
+
+// The mate of an Open cell with a point in hand: the point against its triple in the Full cell behind it.
+fn mate_of_triple(hold: &Hold, tri: &Tri) -> Point
+    requires shown { ShowsWith hold.now (Open tri.now) }
+    requires held { ¬ (NoneInHand hold.now tri.now) }
+    ensures { (s : List ℕ) → Shows hold.now s → IsIn (Open tri.now) (complex s) → IsMate s (Open tri.now) result }
+{
+    let cell = Cell::Open(*tri);
+    let facet = Facet::Three(*tri);
+    match point_against(cell_across(hold, &cell, &facet), &cell) {
+        Some(mate) => mate,
+        None => unreachable!(),
+    }
+}
+
+// A mate of the cell. Of a Full cell it is not looked at.
+fn mate_of(hold: &Hold, cell: &Cell, p: Point) -> Point
+    requires shown { ShowsWith hold.now cell.now }
+    requires held { ¬ (NoneInHand hold.now (points_of cell.now)) }
+    ensures { (s : List ℕ) → Shows hold.now s → IsIn cell.now (complex s) → IsMate s cell.now result }
+{
+    match cell {
+        Cell::Full(_) => p,
+        Cell::Open(tri) => mate_of_triple(hold, tri),
+    }
+}
+
+/// Whether the new point takes the cell away, of which some point's bucket is in hand. The hold is to show a set
+/// of whose complex the cell is one, and for which the point is new; the answer is right for each such set.
+pub fn is_in_conflict(hold: &Hold, cell: &Cell, p: Point) -> bool
+    requires shown { ShowsWithNew hold.now cell.now p }
+    requires held { ¬ (NoneInHand hold.now (points_of cell.now)) }
+    ensures { (s : List ℕ) → Shows hold.now s → IsNew s p → IsIn cell.now (complex s) →
+        MatchBool result (GoesFrom s p cell.now) (StaysFrom s p cell.now) }
+{
+    let mate = mate_of(hold, cell, p);
+    conflict(cell, mate, p)
+}

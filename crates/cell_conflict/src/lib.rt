@@ -1,0 +1,12 @@
+//! Cells in conflict with a new point, judged from the buckets in hand.
+//!
+//! A new point is in conflict with exactly the cells that it takes away. A Full cell is judged by its own
+//! points, an Open one by a mate, a point of the Full cell behind its triple. Walks and cavities stand on this.
+//! The definitions stand in `specs/`.
+#![tactic(auto)]
+
+mod among;
+mod judge;
+
+pub use among::conflict_among;
+pub use judge::{cell_across, is_in_conflict};

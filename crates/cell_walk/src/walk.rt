@@ -1,0 +1,134 @@
+//! Walks.
+
+ghost use Rattle.std.specs.Prelude.{◌≡◌, ◌&&◌, ◌||◌, ℕ, List, pos};
+ghost use Rattle.point_order.specs.Conflicts.{are_opposite as lie_opposite};
+ghost use Rattle.cell_store.specs.Shares.{Shows};
+ghost use Rattle.cell_walk.specs.Paths.{ShowsSome, ShowsWalk, IsWalkIn, facet_towards as towards};
+ghost use Rattle.cell_walk.specs.Turns.{StartGives, TurnGives};
+
+use crate::search::{first_missing, least_cell};
+use cell_conflict::is_in_conflict;
+use cell_store::{Across, Hold};
+use exact_orient::orient;
+use point_order::{Cell, Facet, Point};
+use std::marker::Model;
+
+/// A walk to a new point: where it stands.
+///
+/// Contracts see it as a plain record: its point and its cell.
+#[derive(Clone, Copy, Debug)]
+pub struct Walk {
+    point: Point,
+    cell: Cell,
+}
+
+impl Model for Walk {
+    ghost use Rattle.cell_walk.specs.Paths.{Walking};
+
+    ghost Value = { Walking };
+
+    ghost view = { λ w. record { point = w.point; cell = w.cell } };
+
+    ghost inverse = { λ v. record { point = v.point; cell = v.cell } };
+}
+
+/// What the start of a walk comes to.
+#[derive(Clone, Copy, Debug)]
+pub enum Start {
+    /// The walk, in its first cell.
+    At(Walk),
+    /// No bucket in hand has a cell, and the bucket with this number is not in hand.
+    Need(u32),
+}
+
+/// What a step of a walk comes to.
+#[derive(Clone, Copy, Debug)]
+pub enum WalkTurn {
+    /// The new point takes this cell away, where the walk stands.
+    Here(Cell),
+    /// The walk stands in a nearer cell.
+    Moved,
+    /// The bucket with this number is not in hand, and has a point of the facet that is to be crossed.
+    Need(u32),
+}
+
+// Whether the two points lie strictly on opposite sides of the plane of the first three.
+fn are_opposite(a: Point, b: Point, c: Point, m: Point, p: Point) -> bool
+    ensures { result ≡ lie_opposite a b c m p }
+{
+    let inner = orient(a, b, c, m);
+    let side = orient(a, b, c, p);
+    (inner > 0 && side < 0) || (inner < 0 && side > 0)
+}
+
+// The first facet of the cell behind which the point lies strictly; of an Open cell the triple.
+fn facet_towards(cell: &Cell, p: Point) -> Option<Facet>
+    ensures { result ≡ towards cell.now p }
+{
+    let [first, second, third, last] = cell.facets();
+    match cell {
+        Cell::Full(quad) => {
+            let (a, b, c, d) = quad.corners();
+            if are_opposite(b, c, d, a, p) {
+                Some(first)
+            } else if are_opposite(a, c, d, b, p) {
+                Some(second)
+            } else if are_opposite(a, b, d, c, p) {
+                Some(third)
+            } else if are_opposite(a, b, c, d, p) {
+                Some(last)
+            } else {
+                None
+            }
+        }
+        Cell::Open(tri) => {
+            let _ = tri.corners();
+            Some(last)
+        }
+    }
+}
+
+impl Walk {
+    /// The walk to the point from the least Full cell whose points all lie in buckets in hand, or where there is
+    /// none from the least cell of these buckets. Where they have no cell, the first bucket that is not in hand,
+    /// from that of the point on and round.
+    ///
+    /// The hold is to show some set. It takes no memory.
+    pub fn start(hold: &Hold, p: Point) -> Start
+        requires { ShowsSome hold.now }
+        ensures { StartGives hold.now p result }
+    {
+        if let Some(cell) = least_cell(hold, true) {
+            return Start::At(Walk { point: p, cell });
+        }
+        if let Some(cell) = least_cell(hold, false) {
+            return Start::At(Walk { point: p, cell });
+        }
+        Start::Need(first_missing(hold, p))
+    }
+
+    /// Goes on by one cell, where the new point does not take away the cell in which the walk stands.
+    ///
+    /// The hold is to show some set in whose complex this is a walk; the answer is right for each such set. It
+    /// takes no memory.
+    pub fn step(&mut self, hold: &Hold) -> WalkTurn
+        requires { ShowsWalk hold.now self.old }
+        ensures { (s : List ℕ) → Shows hold.now s → IsWalkIn hold.now s self.old →
+            TurnGives hold.now s self.old self.new result }
+    {
+        if is_in_conflict(hold, &self.cell, self.point) {
+            return WalkTurn::Here(self.cell);
+        }
+        let facet = match facet_towards(&self.cell, self.point) {
+            Some(facet) => facet,
+            None => unreachable!(),
+        };
+        match hold.across(&self.cell, &facet) {
+            Across::Cell(other) => {
+                self.cell = *other;
+                WalkTurn::Moved
+            }
+            Across::Need(b) => WalkTurn::Need(b),
+        }
+    }
+}
