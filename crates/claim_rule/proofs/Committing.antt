@@ -1,0 +1,147 @@
+-- A commit of a board that is kept in one hold with words: when its condition holds, and what it makes of the board.
+use Rattle.std.specs.Prelude.{◌≡◌, ◌⊎◌, ℕ, zero, suc, ◌+◌, ◌-◌, ◌*◌, ◌^◌, ◌<◌, ◌==◌, List, [], ◌∷◌, ◌++◌, All, Option, None, Some, IsSome, length, slice_index_or, slice_set}
+use Rattle.std.proofs.Common.{refl, sym, ◌∙◌, ap, subst, inl, inr, arith}
+use Rattle.std.proofs.lemmas.Bool.{eqb-true, eq-eqb}
+use Rattle.point_order.specs.declared.cell.Cell.{Cell}
+use Rattle.point_order.specs.Coordinates.{IsKey}
+use Rattle.point_order.specs.Facets.{points_of}
+use Rattle.point_order.specs.Sets.{IsIn}
+use Rattle.edit_history.specs.declared.history.Edit.{Edit}
+use Rattle.edit_history.specs.declared.history.Entry.{Entry}
+use Rattle.edit_history.specs.Edits.{point_of}
+use Rattle.edit_history.specs.Histories.{replay}
+use Rattle.cell_store.specs.Grids.{bucket_of}
+use Rattle.cell_store.specs.Buckets.{Content, InHand, bucket_at}
+use Rattle.cell_store.specs.Changes.{IsChange, IsNext, IsSwapped, IsNoted}
+use Rattle.claim_rule.specs.declared.board.Seat.{Seat}
+use Rattle.claim_rule.specs.declared.trial.Trial.{Trial}
+use Rattle.claim_rule.specs.declared.event.Event.TheVariants.{Commit}
+use Rattle.claim_rule.specs.declared.event.Played.TheVariants.{Done}
+use Rattle.cell_store.specs.Touches.{HoldTouched}
+use Rattle.claim_rule.specs.Boards.{BoardState, view_at}
+use Rattle.claim_rule.specs.Good.{IsGood, Good}
+use Rattle.claim_rule.specs.Events.{Next, CanCommit, entry_after}
+use Rattle.claim_rule.specs.Kept.{held_by, view_of, kept}
+use Rattle.claim_rule.specs.Trials.{IsNamed, IsOnSome, IsTrialOf}
+use Rattle.claim_rule.proofs.Places.{some_and, one_value, within_some, same_there}
+use Rattle.claim_rule.proofs.Nexts.{next_of}
+use Rattle.claim_rule.proofs.Kept.{if_so, whose_length, whose_at}
+use Rattle.claim_rule.proofs.Moves.{live_view}
+use Rattle.claim_rule.proofs.Renewals.{so_true, commit_next}
+use Rattle.claim_rule.proofs.Brought.{brought}
+use Rattle.claim_rule.proofs.Whole.{all_are_shares, all_in_hand}
+
+-- ---- all of a list
+
+all_in : {X : Type 0} (P : X → Type 0) (l : List X) → All P l → (x : X) → IsIn x l → P x
+all_in P [] a x i = absurd i
+all_in P (y ∷ l) a x (inl e) = subst P e (a 0 y (omega arith))
+all_in P (y ∷ l) a x (inr i) = all_in P l (λ k d h. a (suc k) d (omega arith)) x i
+
+from_in : {X : Type 0} (P : X → Type 0) (l : List X) → ((x : X) → IsIn x l → P x) → All P l
+from_in P [] f k d h = absurd (omega arith)
+from_in P (y ∷ l) f zero d h = f y (inl refl)
+from_in P (y ∷ l) f (suc k) d h = from_in P l (λ x i. f x (inr i)) k d (omega arith)
+
+-- ---- the condition
+
+-- a bucket whose word names the pass is held by it, where all buckets are in the hold
+named_held : (words : List ℕ) (places : List (Option Content)) (n b : ℕ) → IsSome (bucket_at places b) → IsNamed n words b → IsSome (bucket_at (held_by n words places) b)
+named_held words places n b there named =
+    same_there (bucket_at places b) (bucket_at (held_by n words places) b)
+    (sym (whose_at (λ w. w == n + 1) words places b named.0 ∙ ap (λ k. if_so k (bucket_at places b)) (eq-eqb (slice_index_or words b 0) (n + 1) named.1))) there
+
+held_named : (words : List ℕ) (places : List (Option Content)) (n b : ℕ) → IsSome (bucket_at (held_by n words places) b) → IsNamed n words b
+held_named words places n b s =
+    let below : b < length words = let l = within_some (held_by n words places) b s in let m = whose_length (λ w. w == n + 1) words places in omega (arith, l, m) in (
+      below,
+      eqb-true (slice_index_or words b 0) (n + 1) (so_true (slice_index_or words b 0 == n + 1) (bucket_at places b)
+          (same_there (bucket_at (held_by n words places) b) _ (whose_at (λ w. w == n + 1) words places b below) s)),
+    )
+
+-- the words of all buckets that are found name the pass: it holds all that is touched
+pub touched_held : (g n : ℕ) (s : List ℕ) (edit : Edit) (t : Trial) (words : List ℕ) (places : List (Option Content)) → ((b : ℕ) → b < length words → IsSome (bucket_at places b)) → IsTrialOf s edit t
+    → IsNamed n words (bucket_of g (point_of edit)) → All (λ c. All (λ p. IsNamed n words (bucket_of g p)) (points_of c)) t.near.items → HoldTouched g s edit (held_by n words places)
+touched_held g n s edit t words places all trial own near b touched =
+    let named : IsNamed n words b = subst (IsNamed n words) (sym touched.number) (elim ((trial.near touched.point).0 touched.reached) [
+      | inl e ↦ subst (λ (p : ℕ). IsNamed n words (bucket_of g p)) (sym e) own
+      | inr o ↦ all_in (λ p. IsNamed n words (bucket_of g p)) (points_of o.cell) (all_in (λ c. All (λ p. IsNamed n words (bucket_of g p)) (points_of c)) t.near.items near o.cell o.listed) touched.point o.has
+    ]) in
+    named_held words places n b (all b named.0) named
+
+-- and the other way round
+pub held_touched : (g n : ℕ) (s : List ℕ) (edit : Edit) (t : Trial) (words : List ℕ) (places : List (Option Content)) → IsTrialOf s edit t → HoldTouched g s edit (held_by n words places)
+    → IsNamed n words (bucket_of g (point_of edit)) × All (λ c. All (λ p. IsNamed n words (bucket_of g p)) (points_of c)) t.near.items
+held_touched g n s edit t words places trial touched =
+    let named : (p : ℕ) → (p ≡ point_of edit) ⊎ IsOnSome t.near.items p → IsNamed n words (bucket_of g p) = λ p k.
+    held_named words places n (bucket_of g p) (touched (bucket_of g p) (record { point = p; reached = (trial.near p).1 k; number = refl })) in (
+      named (point_of edit) (inl refl),
+      from_in (λ c. All (λ p. IsNamed n words (bucket_of g p)) (points_of c)) t.near.items (λ c i.
+          from_in (λ p. IsNamed n words (bucket_of g p)) (points_of c) (λ p j. named p (inr record { cell = c; listed = i; has = j }))),
+    )
+
+-- what the condition of a commit says of the seat and the words
+pub commit_facts : (g parts most : ℕ) (opening : List Entry) (ticket : ℕ) (words : List ℕ) (places : List (Option Content)) (seats : List (Option Seat)) (h : List Entry) (n : ℕ) (seat : Seat) (edit : Edit) →
+    IsGood (kept g parts most opening ticket words places seats) h → slice_index_or seats n None ≡ Some seat → CanCommit h (kept g parts most opening ticket words places seats) n edit →
+    (0 < seat.left) × HoldTouched g (replay h) edit (held_by n words places)
+commit_facts g parts most opening ticket words places seats h n seat edit good live can =
+    let s : BoardState = kept g parts most opening ticket words places seats in
+    let v = some_and (view_at s n) _ can in
+    let same : v.0 ≡ view_of words places seat = one_value v.0 (view_of words places seat) (sym v.1 ∙ live_view words places seats n seat live) in
+    let first : seat.first ≡ n = ap (λ (x : Rattle.claim_rule.specs.Boards.View). x.first) (sym same) ∙ good.shape.named n v.0 v.1 in (
+      subst (λ (x : Rattle.claim_rule.specs.Boards.View). 0 < x.left) same v.2.0,
+      subst (λ (j : ℕ). HoldTouched g (replay h) edit (held_by j words places)) first (subst (λ (x : Rattle.claim_rule.specs.Boards.View). HoldTouched g (replay h) edit x.held) same v.2.1),
+    )
+
+-- ---- the change
+
+-- The board after a commit, over all that the code made of its parts.
+pub committed_next : (old between new : InHand) (parts most : ℕ) (opening : List Entry) (ticket : ℕ) (words : List ℕ) (seats : List (Option Seat)) (h : List Entry) (n tag : ℕ) (edit : Edit) (seat : Seat) (t : Trial) →
+    IsGood (kept old.grid parts most opening ticket words old.places seats) h → length old.places ≡ length words → slice_index_or seats n None ≡ Some seat → IsKey (point_of edit) → 0 < seat.left →
+    IsTrialOf (replay h) edit t → HoldTouched old.grid (replay h) edit (held_by n words old.places) →
+    IsSwapped t.gone.items t.fresh.items old between → IsNoted (record { number = ticket; by = n; tag = tag; edit = edit; reply = t.reply }) between new →
+    Next h (kept old.grid parts most opening ticket words old.places seats) (Commit n tag edit) Done
+    (kept new.grid parts most opening (ticket + 1) words new.places (slice_set seats n (Some (record seat { left = seat.left - 1; seen = ticket + 1 }))))
+committed_next old between new parts most opening ticket words seats h n tag edit seat t good wide live key some trial touched swap note =
+    let g : ℕ = old.grid in
+    let s : BoardState = kept g parts most opening ticket words old.places seats in
+    let e : Entry = record { number = ticket; by = n; tag = tag; edit = edit; reply = t.reply } in
+    let same : e ≡ entry_after h ticket n tag edit = λ i. record { number = ticket; by = n; tag = tag; edit = edit; reply = trial.reply i } in
+    let next : IsNext h e t.gone.items t.fresh.items = subst (λ (x : Entry). IsNext h x t.gone.items t.fresh.items) (sym same) (next_of s h n tag edit t.gone.items t.fresh.items good key trial.change) in
+    let shares = all_are_shares g parts most opening ticket words old.places seats h good wide in
+    let is = brought g h e t.gone.items t.fresh.items old between new refl shares next swap note
+    ∙ ap (λ (x : Entry). Rattle.claim_rule.specs.Events.renewed_from g (h ++ x ∷ []) 0 old.places) same in
+    let grid : new.grid ≡ g = note.grid ∙ swap.grid in
+    subst (λ (k : ℕ). Next h s (Commit n tag edit) Done (kept k parts most opening (ticket + 1) words new.places (slice_set seats n (Some (record seat { left = seat.left - 1; seen = ticket + 1 }))))) (sym grid)
+    (commit_next g parts most opening ticket words old.places seats h n tag edit seat new.places good live key some touched is)
+
+-- one more entry can be counted
+pub ticket_small : (s : BoardState) (h : List Entry) → IsGood s h → s.ticket + 1 < 2 ^ 64
+ticket_small s h good = let t = good.ticket in let r = good.room in let m = good.shape.most in omega (arith, t, r, m)
+
+-- ---- as the code has it
+
+-- an exchange looks at the buckets alone
+pub swapped_same : (gone fresh gone' fresh' : List Cell) (old old' new : InHand) → gone ≡ gone' → fresh ≡ fresh' → old.grid ≡ old'.grid → old.places ≡ old'.places → IsSwapped gone fresh old new → IsSwapped gone' fresh' old' new
+swapped_same gone fresh gone' fresh' old old' new a b g p s = record {
+  grid = s.grid ∙ g;
+  count = s.count ∙ ap length p;
+  places = λ k. s.places k ∙ (λ i. Rattle.std.specs.Option.option_map (Rattle.cell_store.specs.Changes.swapped_in (g i) k (a i) (b i)) (bucket_at (p i) k));
+}
+
+-- the same of the names, over lists that are these
+pub named_same : (n : ℕ) (w w' : List ℕ) (b b' : ℕ) → w ≡ w' → b ≡ b' → IsNamed n w b → IsNamed n w' b'
+named_same n w w' b b' e f x = subst (λ (k : ℕ). IsNamed n w' k) f (subst (λ (l : List ℕ). IsNamed n l b) e x)
+
+abbrev pub AreNamed : ℕ → List ℕ → ℕ → List Cell → Type 0
+AreNamed n words g cells = All (λ c. All (λ p. IsNamed n words (bucket_of g p)) (points_of c)) cells
+
+pub are_named_same : (n : ℕ) (w w' : List ℕ) (g g' : ℕ) (l l' : List Cell) → w ≡ w' → g ≡ g' → l ≡ l' → AreNamed n w g l → AreNamed n w' g' l'
+are_named_same n w w' g g' l l' e f k x =
+    subst (λ (m : List Cell). AreNamed n w' g' m) k (subst (λ (d : ℕ). AreNamed n w' d l) f (subst (λ (v : List ℕ). AreNamed n v g l) e x))
+
+-- all buckets of a good board are in its hold
+pub hold_whole : (hold : InHand) (parts most : ℕ) (opening : List Entry) (ticket : ℕ) (words : List ℕ) (seats : List (Option Seat)) → Good (kept hold.grid parts most opening ticket words hold.places seats) →
+    length hold.places ≡ hold.grid * hold.grid * hold.grid → (length hold.places ≡ length words) × ((b : ℕ) → b < length words → IsSome (bucket_at hold.places b))
+hold_whole hold parts most opening ticket words seats good wide =
+    (wide ∙ sym good.1.shape.words, all_in_hand hold.grid parts most opening ticket words hold.places seats good.0 good.1)

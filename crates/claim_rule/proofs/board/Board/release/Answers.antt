@@ -1,0 +1,52 @@
+use Rattle.std.proofs.Common.{◌≡◌, ◌<◌, ◌+◌, None, IsSome, length, slice_index_or, slice_set, refl, sym, subst}
+use Rattle.claim_rule.specs.declared.event.Event.TheVariants.{Release}
+use Rattle.claim_rule.specs.declared.event.Played.TheVariants.{Done}
+use Rattle.claim_rule.specs.Boards.{BoardState}
+use Rattle.claim_rule.specs.Good.{IsGood}
+use Rattle.claim_rule.specs.Events.{CanRelease}
+use Rattle.claim_rule.specs.Kept.{kept}
+use Rattle.claim_rule.proofs.Places.{some_of}
+use Rattle.claim_rule.proofs.Moves.{good_by, seen_as, release_next, holds_named, no_release}
+use Rattle.claim_rule.proofs.board.Board.release.Goals as goal
+use Rattle.claim_rule.proofs.board.Board.release.Goals.{then-not-is_live-via-then-not-is_live, then-not-is_live-via-else-not-is_live+then-not-names}
+
+pub returns-then-not-is_live-clause-next : goal.returns-then-not-is_live-clause-next
+returns-then-not-is_live-clause-next c h good =
+    let i = c.self.inside in
+    let good' = subst (λ (s : BoardState). IsGood s h) (sym c.self.view_is) good in (
+      λ can.
+          let can' = subst (λ (s : BoardState). CanRelease s c.args.n c.args.b) (sym c.self.view_is) can in
+          elim c.then-not-is_live.branch [
+            | then-not-is_live-via-then-not-is_live w ↦
+                no_release i.words.items i.hold.places i.seats.items c.args.n c.args.b
+                (λ k. let y = c.is_live.ensures.1 (subst (λ l. IsSome (slice_index_or l c.args.n None)) (sym c.deref.ensures.value) k) in absurd (cc (y, w.if-not-is_live.true))) can'
+            | then-not-is_live-via-else-not-is_live+then-not-names w ↦
+                let r = holds_named i.hold.grid i.parts i.most i.begun.value.history i.ticket i.words.items i.hold.places i.seats.items c.args.n c.args.b h good' can' in
+                let d = sym w.deref-else-not-is_live.ensures.value in
+                let y = w.names.ensures.1 (subst (λ l. c.args.b < length l) d r.0, subst (λ l. slice_index_or l c.args.b 0 ≡ c.args.n + 1) d r.1) in
+                absurd (cc (y, w.if-not-names.true))
+          ],
+      refl,
+    )
+
+pub invariant_of-self : goal.invariant_of-self
+invariant_of-self c =
+    let i = c.self.inside in
+    let g = c.self.invariant in
+    let live = some_of _ (subst (λ l. IsSome (slice_index_or l c.args.n None)) c.deref.ensures.value (c.is_live.ensures.0 c.if-not-is_live.false)) in
+    let d = c.deref-else-not-is_live.ensures.value in
+    let name = c.names.ensures.0 c.if-not-names.false in
+    good_by g.0 _ (Release c.args.n c.args.b) Done _ g.1 _ (release_next i.hold.grid i.parts i.most i.begun.value.history i.ticket i.words.items i.hold.places i.seats.items c.args.n c.args.b live.0 g.0 g.1 live.1 (subst (λ l. c.args.b < length l) d name.0) (subst (λ l. slice_index_or l c.args.b 0 ≡ c.args.n + 1) d name.1))
+
+pub returns-clause-good : goal.returns-clause-good
+returns-clause-good c = invariant_of-self c
+
+pub returns-clause-next : goal.returns-clause-next
+returns-clause-next c h good =
+    let i = c.self.inside in
+    let good' = subst (λ (s : BoardState). IsGood s h) (sym c.self.view_is) good in
+    let live = some_of _ (subst (λ l. IsSome (slice_index_or l c.args.n None)) c.deref.ensures.value (c.is_live.ensures.0 c.if-not-is_live.false)) in
+    let d = c.deref-else-not-is_live.ensures.value in
+    let name = c.names.ensures.0 c.if-not-names.false in
+    seen_as h _ c.args.self.now (Release c.args.n c.args.b) Done (kept i.hold.grid i.parts i.most i.begun.value.history i.ticket (slice_set i.words.items c.args.b 0) i.hold.places i.seats.items) c.self.view_is
+    (release_next i.hold.grid i.parts i.most i.begun.value.history i.ticket i.words.items i.hold.places i.seats.items c.args.n c.args.b live.0 h good' live.1 (subst (λ l. c.args.b < length l) d name.0) (subst (λ l. slice_index_or l c.args.b 0 ≡ c.args.n + 1) d name.1))

@@ -1,0 +1,40 @@
+-- What an edit changes, found by trial: the cells that go and come, and the points that it reaches.
+use Rattle.std.specs.Prelude.{◌≡◌, ◌⊎◌, ◌↔◌, ℕ, ◌+◌, ◌<◌, List, length, slice_index_or}
+use Rattle.std.specs.List.{filter}
+use Rattle.point_order.specs.declared.cell.Cell.{Cell}
+use Rattle.point_order.specs.Complex.{complex}
+use Rattle.point_order.specs.Facets.{points_of}
+use Rattle.point_order.specs.Sets.{IsIn, is_among}
+use Rattle.edit_history.specs.declared.history.Edit.{Edit}
+use Rattle.edit_history.specs.declared.history.Edit.TheVariants.{Add, Take}
+use Rattle.edit_history.specs.Edits.{point_of, reply_to, after}
+use Rattle.hole_laws.specs.Commuting.{Reaches}
+use Rattle.cell_store.specs.Changes.{IsChange}
+use Rattle.claim_rule.specs.declared.trial.Trial.{Trial}
+
+-- the word of the bucket names the pass
+abbrev pub IsNamed : ℕ → List ℕ → ℕ → Type 0
+IsNamed n words b = (b < length words) × (slice_index_or words b 0 ≡ n + 1)
+
+-- the points of both lists, and no others
+abbrev pub HasBoth : List ℕ → List ℕ → List ℕ → Type 0
+HasBoth s l t = (p : ℕ) → IsIn p t ↔ (IsIn p s ⊎ IsIn p l)
+
+-- a cell of the list has the point
+pub record IsOnSome (cells : List Cell) (p : ℕ) : Type 0 where
+  pub cell : Cell
+  pub listed : IsIn cell cells
+  pub has : IsIn p (points_of cell)
+
+-- the cells near an edit, of all and of those that go: for an added point those that go, for a taken one those that have
+-- it
+abbrev pub near_cells : Edit → List Cell → List Cell → List Cell
+near_cells (Add p) all gone = gone
+near_cells (Take v) all gone = filter (λ c. is_among v (points_of c)) all
+
+-- The edit of s gets this reply, and takes away and brings exactly these cells. It reaches its own point, and the points of
+-- the cells near it.
+pub record IsTrialOf (s : List ℕ) (edit : Edit) (t : Trial) : Type 0 where
+  pub reply : t.reply ≡ reply_to s edit
+  pub change : IsChange (complex s) (complex (after s edit)) t.gone.items t.fresh.items
+  pub near : (p : ℕ) → Reaches s edit p ↔ ((p ≡ point_of edit) ⊎ IsOnSome t.near.items p)

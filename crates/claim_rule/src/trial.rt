@@ -1,0 +1,108 @@
+//! What an edit changes, found by trial of all quadruples and triples of points.
+
+ghost use Rattle.std.specs.Prelude.{◌≡◌, ◌⊎◌, ◌↔◌, ℕ, List, IfOk, OnOk};
+ghost use Rattle.std.specs.List.{filter};
+ghost use Rattle.point_order.specs.Facets.{points_of};
+ghost use Rattle.point_order.specs.Sets.{is_among};
+ghost use Rattle.cell_store.specs.Shares.{Shows};
+ghost use Rattle.cell_store.specs.Swaps.{is_cell_among, without_cells};
+ghost use Rattle.cell_store.specs.Meshes.{AllInHand};
+ghost use Rattle.claim_rule.specs.Trials.{HasBoth, IsTrialOf, near_cells};
+
+use cell_store::Hold;
+use complex_trial::complex_by_trial;
+use edit_history::{Edit, PointSet, Reply};
+use point_order::{Cell, Point};
+use std::alloc::{AllocError, Global};
+
+/// What an edit of a set changes: its reply, the cells that go and come, and the cells whose points it reaches beside its
+/// own.
+#[derive(Debug, Drop)]
+pub struct Trial {
+    pub reply: Reply,
+    pub gone: Vec<Cell>,
+    pub fresh: Vec<Cell>,
+    pub near: Vec<Cell>,
+}
+
+// Adds the points to the set.
+fn add_all(set: &mut PointSet, points: &[Point]) -> Result<(), AllocError>
+    ensures { OnOk result (HasBoth set.old points.now set.new) }
+{
+    for p in points {
+        set.after(Edit::Add(*p))?;
+    }
+    Ok(())
+}
+
+// The points of all buckets, which are all to be in hand.
+fn all_points(alloc: Global, hold: &Hold) -> Result<PointSet, AllocError>
+    requires { AllInHand hold.now }
+    ensures { IfOk result (λ set. (s : List ℕ) → Shows hold.now s → set ≡ s) }
+{
+    let mut set = PointSet::new(alloc);
+    for b in 0..hold.grid().count() {
+        add_all(&mut set, hold.bucket(b).points())?;
+    }
+    let _ = set.points();
+    Ok(set)
+}
+
+// Whether the cell is one of the list.
+fn is_one_of(cell: &Cell, cells: &[Cell]) -> bool
+    ensures { result ≡ is_cell_among cell.now cells.now }
+{
+    cells.iter().any(|d| d.compare(cell).is_eq())
+}
+
+// The cells that are none of the others.
+fn others(alloc: Global, cells: &[Cell], not_these: &[Cell]) -> Result<Vec<Cell>, AllocError>
+    ensures { IfOk result (λ list. list.items ≡ without_cells not_these.now cells.now) }
+{
+    cells
+        .iter()
+        .filter(|c| !is_one_of(c, not_these))
+        .copied()
+        .collect(alloc)
+}
+
+// The cells that have the point.
+fn cells_with(alloc: Global, cells: &[Cell], p: Point) -> Result<Vec<Cell>, AllocError>
+    ensures { IfOk result (λ list. list.items ≡ filter (λ c. is_among p (points_of c)) cells.now) }
+{
+    cells.iter().filter(|c| c.has(p)).copied().collect(alloc)
+}
+
+// The cells whose points the edit reaches beside its own.
+fn near(alloc: Global, edit: Edit, all: &[Cell], gone: &[Cell]) -> Result<Vec<Cell>, AllocError>
+    ensures { IfOk result (λ list. list.items ≡ near_cells edit all.now gone.now) }
+{
+    match edit {
+        Edit::Add(_) => Vec::from_slice(alloc, gone),
+        Edit::Take(v) => cells_with(alloc, all, v),
+    }
+}
+
+/// What the edit changes of the set that the hold shows, all of whose buckets are to be in hand.
+///
+/// # Errors
+/// Want of memory.
+pub fn trial_of(alloc: Global, hold: &Hold, edit: Edit) -> Result<Trial, AllocError>
+    requires { AllInHand hold.now }
+    ensures { IfOk result (λ t. (s : List ℕ) → Shows hold.now s → IsTrialOf s edit t) }
+{
+    let mut set = all_points(alloc, hold)?;
+    let before = complex_by_trial(alloc, set.points())?;
+    let again = edit;
+    let reply = set.after(again)?;
+    let after = complex_by_trial(alloc, set.points())?;
+    let gone = others(alloc, &before, &after)?;
+    let fresh = others(alloc, &after, &before)?;
+    let near = near(alloc, edit, &before, &gone)?;
+    Ok(Trial {
+        reply,
+        gone,
+        fresh,
+        near,
+    })
+}
