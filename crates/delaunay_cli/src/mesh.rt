@@ -18,11 +18,11 @@ use crate::replies::replies_by_tag;
 use crate::shapes::shapes;
 use crate::words::Asked;
 use alpha_complex::Shape;
-use byte_ends::Sink;
+use byte_ends::{Failed, Sink};
 use cell_store::Mesh;
 use edit_files::File;
 use edit_history::Entry;
-use mesh_files::{Put, Report, put_report};
+use mesh_files::{Report, put_report};
 use one_mesh::{complex, find_four, history, points};
 use point_order::{Cell, Point};
 use std::alloc::{AllocError, Global};
@@ -123,9 +123,8 @@ pub fn mesh<R, O: Sink>(rt: &R, alloc: Global, file: &File, asked: Asked, out: &
     let Ok(report) = report(rt, alloc, asked, file, &mesh, &kept) else {
         return Run::ended(alloc, 1);
     };
-    match put_report(alloc, out, &report) {
+    match put_report(out, &report) {
         Ok(()) => Run { status: 0, kept },
-        Err(Put::Failed) => Run { status: 4, kept },
-        Err(Put::Memory) => Run::ended(alloc, 1),
+        Err(Failed) => Run { status: 4, kept },
     }
 }

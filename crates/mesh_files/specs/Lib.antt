@@ -1,3 +1,4 @@
 pub mod Lines
 pub mod Text
 pub mod Report
+pub mod Pages

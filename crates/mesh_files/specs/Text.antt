@@ -63,9 +63,13 @@ abbrev pub face_line : List ℕ → List ℕ → Kind → List ℕ
 face_line points corners kind =
     concat (map (λ p. decimal (index_of points p) ++ codes " ") corners) ++ kind_word kind ++ codes "\n"
 
+-- the points of a list of points with their kinds
+abbrev pub points_in : List (ℕ × Kind) → List ℕ
+points_in faces = map (λ p. p.0) faces
+
 -- the points of a shape, by which its block counts
 abbrev pub counted : ShapeParts → List ℕ
-counted shape = map (λ p. p.0) shape.points
+counted shape = points_in shape.points
 
 -- the faces of a shape, kind by kind, as indices into a list of points
 unfoldable pub face_blocks : List ℕ → ShapeParts → List ℕ
@@ -91,14 +95,14 @@ abbrev pub order_block : Option (List ℕ) → List ℕ
 order_block None = []
 order_block (Some tags) = block (codes "order") (map tag_line tags)
 
--- the text of a report, version 1
-unfoldable pub report_text : ReportParts → List ℕ
-report_text r =
-    codes "mesh3-out 1\n"
-    ++ block (codes "replies") (map reply_line r.replies)
+-- the blocks of the mesh: replies, points, cells and hull
+unfoldable pub mesh_blocks : ReportParts → List ℕ
+mesh_blocks r =
+    block (codes "replies") (map reply_line r.replies)
     ++ block (codes "points") (map point_line r.points)
     ++ block (codes "cells") (map (indices_line r.points) (full_corners r.cells))
     ++ block (codes "hull") (map (indices_line r.points) (hull_corners r.cells))
-    ++ shape_blocks r.shapes
-    ++ order_block r.order
-    ++ codes "end\n"
+
+-- the text of a report, version 1
+unfoldable pub report_text : ReportParts → List ℕ
+report_text r = codes "mesh3-out 1\n" ++ mesh_blocks r ++ shape_blocks r.shapes ++ order_block r.order ++ codes "end\n"

@@ -3,8 +3,10 @@
 
 mod indices;
 mod lines;
+mod page;
 pub mod report;
 mod shapes;
+mod whole;
 
-pub use report::{Put, Report, mesh_text, put_report};
+pub use report::{Report, mesh_text, put_report};
 pub use shapes::shape_text;

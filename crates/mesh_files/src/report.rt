@@ -1,19 +1,22 @@
 //! The report of a mesh: replies, points, cells, hull, shapes and order.
 
-ghost use Rattle.std.specs.Prelude.{◌≡◌, ◌≤◌, IsTrue, List, ℕ, [], ◌∷◌, ◌++◌, codes, map, length, IfOk, OnOk};
-ghost use Rattle.std.specs.List.{concat};
+ghost use Rattle.std.specs.Prelude.{◌≡◌, ℕ, codes, length, map, option_map, Vec, IfOk, IsOk, IsTrue, OnOk, OnErr};
+ghost use Rattle.std.specs.declared.alloc.Global.{Global};
 ghost use Rattle.point_order.specs.Sets.{IsAscending};
-ghost use Rattle.std.specs.Io.KnownBytes.{Appends, Keeps};
-ghost use Rattle.byte_ends.specs.Ends.{AppendsFront, Rose};
-ghost use Rattle.mesh_files.specs.Lines.{block, numbers_line};
+ghost use Rattle.std.specs.Io.KnownBytes.{Appends};
+ghost use Rattle.byte_ends.specs.Ends.{AppendsFront, HasCause, Rose};
+ghost use Rattle.mesh_files.specs.Lines.{block};
+ghost use Rattle.mesh_files.specs.Pages.{Flows, FlowsInPart};
 ghost use Rattle.mesh_files.specs.Report.{AreCounted, parts_of, shapes_seen};
-ghost use Rattle.mesh_files.specs.Text.{reply_line, reply_word, point_line, indices_line, full_corners, hull_corners, tag_line, order_block, report_text};
+ghost use Rattle.mesh_files.specs.Text.{reply_line, reply_word, point_line, indices_line, full_corners, hull_corners, tag_line, order_block, mesh_blocks, report_text};
 
 use crate::indices::{put_full_line, put_hull_line};
-use crate::lines::{put_number, put_three, put_title};
+use crate::lines::{put_number_and, put_three, put_title};
+use crate::page::Page;
 use crate::shapes::put_shapes;
+use crate::whole::WholeText;
 use alpha_complex::Shape;
-use byte_ends::{Failed, Sink, write_all};
+use byte_ends::{Failed, Sink};
 use edit_history::Reply;
 use point_order::{Cell, Point};
 use std::alloc::{AllocError, Global};
@@ -33,31 +36,14 @@ pub struct Report {
     pub order: Option<Vec<u32>>,
 }
 
-/// Why a report was not put.
-#[derive(Clone, Copy, Debug, PartialEq, Eq)]
-pub enum Put {
-    /// The sink failed: its count of faults rose, and a front of the text was written.
-    Failed,
-    /// There was no memory for the text, and nothing was written.
-    Memory,
-}
-
-fn put_replies(text: &mut Vec<u8>, replies: &[Reply]) -> Result<(), AllocError>
-    ensures { OnOk result (text.new.items ≡ text.old.items ++ block (codes "replies") (map reply_line replies.now)) }
+// Puts the line of a reply.
+fn put_reply<O: Sink>(page: &mut Page, out: &mut O, reply: Reply) -> Result<(), Failed>
+    ensures flows { OnOk result (Flows (O.holds out.old) (O.holds out.new) page.old page.new (reply_line reply)) }
+    ensures front { OnErr result (FlowsInPart (O.holds out.old) (O.holds out.new) page.old (reply_line reply)) }
+    ensures cause { HasCause (O.faults out.old) (O.faults out.new) result }
 {
-    put_title(text, b"replies", replies.len())?;
-    for reply in replies {
-        put_reply(text, *reply)?;
-    }
-    Ok(())
-}
-
-fn put_reply(text: &mut Vec<u8>, reply: Reply) -> Result<(), AllocError>
-    ensures { OnOk result (text.new.items ≡ text.old.items ++ reply_line reply) }
-{
-    text.extend_from_slice(word_of(reply).as_bytes())?;
-    text.push(b'\n')?;
-    Ok(())
+    page.put(out, word_of(reply).as_bytes())?;
+    page.put(out, b"\n")
 }
 
 fn word_of(reply: Reply) -> &'static str
@@ -72,24 +58,53 @@ fn word_of(reply: Reply) -> &'static str
     }
 }
 
-fn put_point(text: &mut Vec<u8>, point: Point) -> Result<(), AllocError>
-    ensures { OnOk result (text.new.items ≡ text.old.items ++ point_line point) }
+// Puts the block of the replies.
+fn put_replies<O: Sink>(page: &mut Page, out: &mut O, replies: &[Reply]) -> Result<(), Failed>
+    ensures flows { OnOk result (Flows (O.holds out.old) (O.holds out.new) page.old page.new
+        (block (codes "replies") (map reply_line replies.now))) }
+    ensures front { OnErr result (FlowsInPart (O.holds out.old) (O.holds out.new) page.old
+        (block (codes "replies") (map reply_line replies.now))) }
+    ensures cause { HasCause (O.faults out.old) (O.faults out.new) result }
 {
-    put_three(text, point.x() as u64, point.y() as u64, point.z() as u64)
+    put_title(page, out, b"replies", replies.len())?;
+    for reply in replies {
+        put_reply(page, out, *reply)?;
+    }
+    Ok(())
 }
 
-fn put_points(text: &mut Vec<u8>, points: &[Point]) -> Result<(), AllocError>
-    ensures { OnOk result (text.new.items ≡ text.old.items ++ block (codes "points") (map point_line points.now)) }
+// Puts the line of a point.
+fn put_point<O: Sink>(page: &mut Page, out: &mut O, point: Point) -> Result<(), Failed>
+    ensures flows { OnOk result (Flows (O.holds out.old) (O.holds out.new) page.old page.new (point_line point)) }
+    ensures front { OnErr result (FlowsInPart (O.holds out.old) (O.holds out.new) page.old (point_line point)) }
+    ensures cause { HasCause (O.faults out.old) (O.faults out.new) result }
 {
-    put_title(text, b"points", points.len())?;
+    put_three(
+        page,
+        out,
+        point.x() as u64,
+        point.y() as u64,
+        point.z() as u64,
+    )
+}
+
+// Puts the block of the points.
+fn put_points<O: Sink>(page: &mut Page, out: &mut O, points: &[Point]) -> Result<(), Failed>
+    ensures flows { OnOk result (Flows (O.holds out.old) (O.holds out.new) page.old page.new
+        (block (codes "points") (map point_line points.now))) }
+    ensures front { OnErr result (FlowsInPart (O.holds out.old) (O.holds out.new) page.old
+        (block (codes "points") (map point_line points.now))) }
+    ensures cause { HasCause (O.faults out.old) (O.faults out.new) result }
+{
+    put_title(page, out, b"points", points.len())?;
     for point in points {
-        put_point(text, *point)?;
+        put_point(page, out, *point)?;
     }
     Ok(())
 }
 
 // How many cells are Full.
-fn full_count(cells: &[Cell]) -> usize
+pub(crate) fn full_count(cells: &[Cell]) -> usize
     ensures { result ≡ length (full_corners cells.now) }
 {
     let mut count: usize = 0;
@@ -102,7 +117,7 @@ fn full_count(cells: &[Cell]) -> usize
 }
 
 // How many cells are Open.
-fn hull_count(cells: &[Cell]) -> usize
+pub(crate) fn hull_count(cells: &[Cell]) -> usize
     ensures { result ≡ length (hull_corners cells.now) }
 {
     let mut count: usize = 0;
@@ -114,94 +129,158 @@ fn hull_count(cells: &[Cell]) -> usize
     count
 }
 
-fn put_cells(text: &mut Vec<u8>, points: &[Point], cells: &[Cell]) -> Result<(), AllocError>
+// Puts the block of the Full cells.
+fn put_cells<O: Sink>(
+    page: &mut Page,
+    out: &mut O,
+    points: &[Point],
+    cells: &[Cell],
+) -> Result<(), Failed>
     requires { IsAscending points.now }
-    ensures { OnOk result (text.new.items ≡ text.old.items ++ block (codes "cells") (map (indices_line points.now) (full_corners cells.now))) }
+    ensures flows { OnOk result (Flows (O.holds out.old) (O.holds out.new) page.old page.new
+        (block (codes "cells") (map (indices_line points.now) (full_corners cells.now)))) }
+    ensures front { OnErr result (FlowsInPart (O.holds out.old) (O.holds out.new) page.old
+        (block (codes "cells") (map (indices_line points.now) (full_corners cells.now)))) }
+    ensures cause { HasCause (O.faults out.old) (O.faults out.new) result }
 {
-    put_title(text, b"cells", full_count(cells))?;
+    put_title(page, out, b"cells", full_count(cells))?;
     for cell in cells {
-        if let Cell::Full(quad) = *cell {
-            put_full_line(text, points, quad)?;
+        match *cell {
+            Cell::Full(quad) => put_full_line(page, out, points, quad)?,
+            Cell::Open(_) => {}
         }
     }
     Ok(())
 }
 
-fn put_hull(text: &mut Vec<u8>, points: &[Point], cells: &[Cell]) -> Result<(), AllocError>
+// Puts the block of the Open cells.
+fn put_hull<O: Sink>(
+    page: &mut Page,
+    out: &mut O,
+    points: &[Point],
+    cells: &[Cell],
+) -> Result<(), Failed>
     requires { IsAscending points.now }
-    ensures { OnOk result (text.new.items ≡ text.old.items ++ block (codes "hull") (map (indices_line points.now) (hull_corners cells.now))) }
+    ensures flows { OnOk result (Flows (O.holds out.old) (O.holds out.new) page.old page.new
+        (block (codes "hull") (map (indices_line points.now) (hull_corners cells.now)))) }
+    ensures front { OnErr result (FlowsInPart (O.holds out.old) (O.holds out.new) page.old
+        (block (codes "hull") (map (indices_line points.now) (hull_corners cells.now)))) }
+    ensures cause { HasCause (O.faults out.old) (O.faults out.new) result }
 {
-    put_title(text, b"hull", hull_count(cells))?;
+    put_title(page, out, b"hull", hull_count(cells))?;
     for cell in cells {
-        if let Cell::Open(tri) = *cell {
-            put_hull_line(text, points, tri)?;
+        match *cell {
+            Cell::Open(tri) => put_hull_line(page, out, points, tri)?,
+            Cell::Full(_) => {}
         }
     }
     Ok(())
 }
 
-fn put_tag(text: &mut Vec<u8>, tag: u32) -> Result<(), AllocError>
-    ensures { OnOk result (text.new.items ≡ text.old.items ++ tag_line tag) }
+// Puts the line of a tag.
+fn put_tag<O: Sink>(page: &mut Page, out: &mut O, tag: u32) -> Result<(), Failed>
+    ensures flows { OnOk result (Flows (O.holds out.old) (O.holds out.new) page.old page.new (tag_line tag)) }
+    ensures front { OnErr result (FlowsInPart (O.holds out.old) (O.holds out.new) page.old (tag_line tag)) }
+    ensures cause { HasCause (O.faults out.old) (O.faults out.new) result }
 {
-    put_number(text, u64::from(tag))?;
-    text.push(b'\n')?;
-    Ok(())
+    put_number_and(page, out, u64::from(tag), b"\n")
 }
 
-fn put_tags(text: &mut Vec<u8>, tags: &[u32]) -> Result<(), AllocError>
-    ensures { OnOk result (text.new.items ≡ text.old.items ++ block (codes "order") (map tag_line tags.now)) }
+// Puts the block of the tags.
+fn put_tags<O: Sink>(page: &mut Page, out: &mut O, tags: &[u32]) -> Result<(), Failed>
+    ensures flows { OnOk result (Flows (O.holds out.old) (O.holds out.new) page.old page.new
+        (block (codes "order") (map tag_line tags.now))) }
+    ensures front { OnErr result (FlowsInPart (O.holds out.old) (O.holds out.new) page.old
+        (block (codes "order") (map tag_line tags.now))) }
+    ensures cause { HasCause (O.faults out.old) (O.faults out.new) result }
 {
-    put_title(text, b"order", tags.len())?;
+    put_title(page, out, b"order", tags.len())?;
     for tag in tags {
-        put_tag(text, *tag)?;
+        put_tag(page, out, *tag)?;
     }
     Ok(())
 }
 
-/// The text of the report: its replies, points, cells, hull, shapes and order, one block after another, each line with a
-/// line feed. Cells are written by the indices of their points, counted from 0 in the list of points, and the faces of a
-/// shape by those of its own points.
+// Puts the block of the tags, where there are any.
+fn put_order<O: Sink>(page: &mut Page, out: &mut O, order: &Option<Vec<u32>>) -> Result<(), Failed>
+    ensures flows { OnOk result (Flows (O.holds out.old) (O.holds out.new) page.old page.new
+        (order_block (option_map (λ (tags : Vec ℕ Global). tags.items) order.now))) }
+    ensures front { OnErr result (FlowsInPart (O.holds out.old) (O.holds out.new) page.old
+        (order_block (option_map (λ (tags : Vec ℕ Global). tags.items) order.now))) }
+    ensures cause { HasCause (O.faults out.old) (O.faults out.new) result }
+{
+    match order {
+        Some(tags) => put_tags(page, out, tags),
+        None => Ok(()),
+    }
+}
+
+// Puts what the report tells of the mesh: its replies, points, cells and hull.
+fn put_mesh<O: Sink>(page: &mut Page, out: &mut O, report: &Report) -> Result<(), Failed>
+    requires { IsAscending report.now.points.items }
+    ensures flows { OnOk result (Flows (O.holds out.old) (O.holds out.new) page.old page.new
+        (mesh_blocks (parts_of report.now))) }
+    ensures front { OnErr result (FlowsInPart (O.holds out.old) (O.holds out.new) page.old
+        (mesh_blocks (parts_of report.now))) }
+    ensures cause { HasCause (O.faults out.old) (O.faults out.new) result }
+{
+    put_replies(page, out, &report.replies)?;
+    put_points(page, out, &report.points)?;
+    put_cells(page, out, &report.points, &report.cells)?;
+    put_hull(page, out, &report.points, &report.cells)
+}
+
+// Puts the text of the report.
+fn put_all<O: Sink>(page: &mut Page, out: &mut O, report: &Report) -> Result<(), Failed>
+    requires points { IsAscending report.now.points.items }
+    requires shapes { AreCounted (shapes_seen report.now.shapes.items) }
+    ensures flows { OnOk result (Flows (O.holds out.old) (O.holds out.new) page.old page.new
+        (report_text (parts_of report.now))) }
+    ensures front { OnErr result (FlowsInPart (O.holds out.old) (O.holds out.new) page.old
+        (report_text (parts_of report.now))) }
+    ensures cause { HasCause (O.faults out.old) (O.faults out.new) result }
+{
+    page.put(out, b"mesh3-out 1\n")?;
+    put_mesh(page, out, report)?;
+    put_shapes(page, out, &report.shapes)?;
+    put_order(page, out, &report.order)?;
+    page.put(out, b"end\n")
+}
+
+/// Writes the report: its replies, points, cells, hull, shapes and order, one block after another, each line with a line feed.
+/// Cells are written by the indices of their points, counted from 0 in the list of points, and the faces of a shape by those of
+/// its own points. It takes no memory: the text goes to the sink a page of 4,096 bytes at a time.
 ///
 /// # Errors
+///
+/// `Failed` where the sink failed. Then it has taken a front of the text.
+pub fn put_report<O: Sink>(out: &mut O, report: &Report) -> Result<(), Failed>
+    requires points { IsAscending report.now.points.items }
+    requires shapes { AreCounted (shapes_seen report.now.shapes.items) }
+    ensures whole { OnOk result (Appends (O.holds out.old) (O.holds out.new) (report_text (parts_of report.now))) }
+    ensures front { AppendsFront (O.holds out.old) (O.holds out.new) (report_text (parts_of report.now)) }
+    ensures cause { HasCause (O.faults out.old) (O.faults out.new) result }
+    ensures done { (Rose (O.faults out.old) (O.faults out.new) → ⊥) → IsOk result }
+{
+    let mut page = Page::new();
+    put_all(&mut page, out, report)?;
+    page.flush(out)
+}
+
+/// The text that `put_report` writes of the report.
+///
+/// # Errors
+///
 /// `AllocError` where there is no memory for the text.
 pub fn mesh_text(alloc: Global, report: &Report) -> Result<Vec<u8>, AllocError>
     requires points { IsAscending report.now.points.items }
     requires shapes { AreCounted (shapes_seen report.now.shapes.items) }
     ensures { IfOk result (λ text. text.items ≡ report_text (parts_of report.now)) }
 {
-    let mut text = Vec::from_slice(alloc, b"mesh3-out 1\n")?;
-    put_replies(&mut text, &report.replies)?;
-    put_points(&mut text, &report.points)?;
-    put_cells(&mut text, &report.points, &report.cells)?;
-    put_hull(&mut text, &report.points, &report.cells)?;
-    put_shapes(alloc, &mut text, &report.shapes)?;
-    if let Some(tags) = &report.order {
-        put_tags(&mut text, tags)?;
-    }
-    text.extend_from_slice(b"end\n")?;
-    Ok(text)
-}
-
-/// Makes the whole text of the report, and then writes it.
-///
-/// # Errors
-/// `Failed` where the sink failed, and then a front of the text was written; `Memory` where there was no memory for the
-/// text, and then nothing was written.
-pub fn put_report<O: Sink>(alloc: Global, out: &mut O, report: &Report) -> Result<(), Put>
-    requires points { IsAscending report.now.points.items }
-    requires shapes { AreCounted (shapes_seen report.now.shapes.items) }
-    ensures whole { OnOk result (Appends (O.holds out.old) (O.holds out.new) (report_text (parts_of report.now))) }
-    ensures front { AppendsFront (O.holds out.old) (O.holds out.new) (report_text (parts_of report.now)) }
-    ensures later { O.faults out.old ≤ O.faults out.new }
-    ensures failed { result ≡ Err Put.Failed → Rose (O.faults out.old) (O.faults out.new) }
-    ensures nothing { result ≡ Err Put.Memory → Keeps (O.holds out.old) (O.holds out.new) }
-{
-    match mesh_text(alloc, report) {
-        Ok(text) => match write_all(out, &text) {
-            Ok(()) => Ok(()),
-            Err(Failed) => Err(Put::Failed),
-        },
-        Err(_) => Err(Put::Memory),
+    let mut text = WholeText::new(alloc);
+    match put_report(&mut text, report) {
+        Ok(()) => Ok(text.into_bytes()),
+        Err(Failed) => Err(AllocError),
     }
 }
 
@@ -280,10 +359,10 @@ mod tests {
             assert!(rt; has_none(&report.shapes));
             assert_eq!(rt; mesh_text(alloc, report)?.as_slice(), text.as_bytes());
             let mut sink = MemSink::new(alloc, 1000, 7, &[])?;
-            assert_eq!(rt; put_report(alloc, &mut sink, report), Ok(()));
+            assert_eq!(rt; put_report(&mut sink, report), Ok(()));
             assert_eq!(rt; sink.bytes(), text.as_bytes());
             let mut broken = MemSink::new(alloc, 1000, 10, &[3])?;
-            assert_eq!(rt; put_report(alloc, &mut broken, report), Err(Put::Failed));
+            assert_eq!(rt; put_report(&mut broken, report), Err(Failed));
             assert_eq!(rt; broken.bytes(), b"mesh3-out 1\nreplies ".as_slice());
         }
         Ok(())

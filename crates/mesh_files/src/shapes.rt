@@ -1,18 +1,32 @@
 //! The block of a radius: the faces of an alpha complex.
 
-ghost use Rattle.std.specs.Prelude.{◌≡◌, ◌++◌, [], ◌∷◌, codes, decimal, map, IsTrue, IfOk, OnOk};
+ghost use Rattle.std.specs.Prelude.{◌≡◌, ◌++◌, [], ◌∷◌, codes, decimal, map, IfOk, IsTrue, OnOk, OnErr};
 ghost use Rattle.std.specs.List.{concat};
 ghost use Rattle.point_order.specs.Sets.{IsAscending};
+ghost use Rattle.std.specs.Io.KnownBytes.{Appends};
+ghost use Rattle.byte_ends.specs.Ends.{HasCause};
 ghost use Rattle.alpha_complex.specs.Shapes.{shape_seen};
 ghost use Rattle.mesh_files.specs.Lines.{block};
+ghost use Rattle.mesh_files.specs.Pages.{Flows, FlowsInPart};
 ghost use Rattle.mesh_files.specs.Report.{AreCounted, shapes_seen};
-ghost use Rattle.mesh_files.specs.Text.{index_of, indices_line, kind_word, face_line, face_blocks, counted, shape_text as shape_text_of, shape_blocks};
+ghost use Rattle.mesh_files.specs.Text.{index_of, indices_line, kind_word, face_line, face_blocks, points_in, counted, shape_text as shape_text_of, shape_blocks};
 
-use crate::indices::{index, put_full_line};
-use crate::lines::{put_number, put_title};
+use crate::lines::{put_four, put_number_and, put_title};
+use crate::page::Page;
+use crate::whole::WholeText;
 use alpha_complex::{Kind, Shape};
+use byte_ends::{Failed, Sink};
 use point_order::{Pair, Point, Quad, Tri};
 use std::alloc::{AllocError, Global};
+
+// The index of a point of a shape's points.
+fn index(points: &[(Point, Kind)], point: Point) -> u64
+    requires { IsAscending (points_in points.now) }
+    ensures { result ≡ index_of (points_in points.now) point }
+{
+    let key = point.key();
+    points.partition_point(|seen| seen.0.key() < key) as u64
+}
 
 fn word_of(kind: Kind) -> &'static str
     ensures { result.now ≡ kind_word kind }
@@ -24,150 +38,228 @@ fn word_of(kind: Kind) -> &'static str
     }
 }
 
-// Puts the points of a face behind the text as indices, each with a space behind it.
-fn put_indices(text: &mut Vec<u8>, points: &[Point], corners: &[Point]) -> Result<(), AllocError>
-    requires { IsAscending points.now }
-    ensures { OnOk result (text.new.items ≡ text.old.items ++ concat (map (λ p. decimal (index_of points.now p) ++ codes " ") corners.now)) }
+// Puts the points of a face as indices, each with a space behind it.
+fn put_indices<O: Sink>(
+    page: &mut Page,
+    out: &mut O,
+    points: &[(Point, Kind)],
+    corners: &[Point],
+) -> Result<(), Failed>
+    requires { IsAscending (points_in points.now) }
+    ensures flows { OnOk result (Flows (O.holds out.old) (O.holds out.new) page.old page.new
+        (concat (map (λ p. decimal (index_of (points_in points.now) p) ++ codes " ") corners.now))) }
+    ensures front { OnErr result (FlowsInPart (O.holds out.old) (O.holds out.new) page.old
+        (concat (map (λ p. decimal (index_of (points_in points.now) p) ++ codes " ") corners.now))) }
+    ensures cause { HasCause (O.faults out.old) (O.faults out.new) result }
 {
     for corner in corners {
-        put_number(text, index(points, *corner))?;
-        text.push(b' ')?;
+        put_number_and(page, out, index(points, *corner), b" ")?;
     }
     Ok(())
 }
 
-// Puts the line of a face behind the text.
-fn put_face(
-    text: &mut Vec<u8>,
-    points: &[Point],
+// Puts the line of a face.
+fn put_face<O: Sink>(
+    page: &mut Page,
+    out: &mut O,
+    points: &[(Point, Kind)],
     corners: &[Point],
     kind: Kind,
-) -> Result<(), AllocError>
-    requires { IsAscending points.now }
-    ensures { OnOk result (text.new.items ≡ text.old.items ++ face_line points.now corners.now kind) }
+) -> Result<(), Failed>
+    requires { IsAscending (points_in points.now) }
+    ensures flows { OnOk result (Flows (O.holds out.old) (O.holds out.new) page.old page.new
+        (face_line (points_in points.now) corners.now kind)) }
+    ensures front { OnErr result (FlowsInPart (O.holds out.old) (O.holds out.new) page.old
+        (face_line (points_in points.now) corners.now kind)) }
+    ensures cause { HasCause (O.faults out.old) (O.faults out.new) result }
 {
-    put_indices(text, points, corners)?;
-    text.extend_from_slice(word_of(kind).as_bytes())?;
-    text.push(b'\n')?;
-    Ok(())
+    put_indices(page, out, points, corners)?;
+    page.put(out, word_of(kind).as_bytes())?;
+    page.put(out, b"\n")
 }
 
-fn put_points(
-    text: &mut Vec<u8>,
-    points: &[Point],
-    faces: &[(Point, Kind)],
-) -> Result<(), AllocError>
-    requires { IsAscending points.now }
-    ensures { OnOk result (text.new.items ≡ text.old.items ++ block (codes "points") (map (λ f. face_line points.now (f.0 ∷ []) f.1) faces.now)) }
+// Puts the line of an admitted cell.
+fn put_cell<O: Sink>(
+    page: &mut Page,
+    out: &mut O,
+    points: &[(Point, Kind)],
+    quad: Quad,
+) -> Result<(), Failed>
+    requires { IsAscending (points_in points.now) }
+    ensures flows { OnOk result (Flows (O.holds out.old) (O.holds out.new) page.old page.new
+        (indices_line (points_in points.now) quad)) }
+    ensures front { OnErr result (FlowsInPart (O.holds out.old) (O.holds out.new) page.old
+        (indices_line (points_in points.now) quad)) }
+    ensures cause { HasCause (O.faults out.old) (O.faults out.new) result }
 {
-    put_title(text, b"points", faces.len())?;
-    for (point, kind) in faces {
-        put_face(text, points, &[*point], *kind)?;
+    let (a, b, c, d) = quad.corners();
+    put_four(
+        page,
+        out,
+        index(points, a),
+        index(points, b),
+        index(points, c),
+        index(points, d),
+    )
+}
+
+// Puts the block of the points, which count themselves.
+fn put_points<O: Sink>(page: &mut Page, out: &mut O, points: &[(Point, Kind)]) -> Result<(), Failed>
+    requires { IsAscending (points_in points.now) }
+    ensures flows { OnOk result (Flows (O.holds out.old) (O.holds out.new) page.old page.new
+        (block (codes "points") (map (λ f. face_line (points_in points.now) (f.0 ∷ []) f.1) points.now))) }
+    ensures front { OnErr result (FlowsInPart (O.holds out.old) (O.holds out.new) page.old
+        (block (codes "points") (map (λ f. face_line (points_in points.now) (f.0 ∷ []) f.1) points.now))) }
+    ensures cause { HasCause (O.faults out.old) (O.faults out.new) result }
+{
+    put_title(page, out, b"points", points.len())?;
+    for (point, kind) in points {
+        put_face(page, out, points, &[*point], *kind)?;
     }
     Ok(())
 }
 
-fn put_pairs(text: &mut Vec<u8>, points: &[Point], faces: &[(Pair, Kind)]) -> Result<(), AllocError>
-    requires { IsAscending points.now }
-    ensures { OnOk result (text.new.items ≡ text.old.items ++ block (codes "edges") (map (λ f. face_line points.now f.0 f.1) faces.now)) }
+// Puts the block of the edges.
+fn put_pairs<O: Sink>(
+    page: &mut Page,
+    out: &mut O,
+    points: &[(Point, Kind)],
+    faces: &[(Pair, Kind)],
+) -> Result<(), Failed>
+    requires { IsAscending (points_in points.now) }
+    ensures flows { OnOk result (Flows (O.holds out.old) (O.holds out.new) page.old page.new
+        (block (codes "edges") (map (λ f. face_line (points_in points.now) f.0 f.1) faces.now))) }
+    ensures front { OnErr result (FlowsInPart (O.holds out.old) (O.holds out.new) page.old
+        (block (codes "edges") (map (λ f. face_line (points_in points.now) f.0 f.1) faces.now))) }
+    ensures cause { HasCause (O.faults out.old) (O.faults out.new) result }
 {
-    put_title(text, b"edges", faces.len())?;
+    put_title(page, out, b"edges", faces.len())?;
     for (pair, kind) in faces {
-        put_face(text, points, pair.points(), *kind)?;
+        put_face(page, out, points, pair.points(), *kind)?;
     }
     Ok(())
 }
 
-fn put_triples(
-    text: &mut Vec<u8>,
-    points: &[Point],
+// Puts the block of the triangles.
+fn put_triples<O: Sink>(
+    page: &mut Page,
+    out: &mut O,
+    points: &[(Point, Kind)],
     faces: &[(Tri, Kind)],
-) -> Result<(), AllocError>
-    requires { IsAscending points.now }
-    ensures { OnOk result (text.new.items ≡ text.old.items ++ block (codes "triangles") (map (λ f. face_line points.now f.0 f.1) faces.now)) }
+) -> Result<(), Failed>
+    requires { IsAscending (points_in points.now) }
+    ensures flows { OnOk result (Flows (O.holds out.old) (O.holds out.new) page.old page.new
+        (block (codes "triangles") (map (λ f. face_line (points_in points.now) f.0 f.1) faces.now))) }
+    ensures front { OnErr result (FlowsInPart (O.holds out.old) (O.holds out.new) page.old
+        (block (codes "triangles") (map (λ f. face_line (points_in points.now) f.0 f.1) faces.now))) }
+    ensures cause { HasCause (O.faults out.old) (O.faults out.new) result }
 {
-    put_title(text, b"triangles", faces.len())?;
+    put_title(page, out, b"triangles", faces.len())?;
     for (tri, kind) in faces {
-        put_face(text, points, tri.points(), *kind)?;
+        put_face(page, out, points, tri.points(), *kind)?;
     }
     Ok(())
 }
 
-fn put_cells(text: &mut Vec<u8>, points: &[Point], cells: &[Quad]) -> Result<(), AllocError>
-    requires { IsAscending points.now }
-    ensures { OnOk result (text.new.items ≡ text.old.items ++ block (codes "cells") (map (indices_line points.now) cells.now)) }
+// Puts the block of the cells.
+fn put_cells<O: Sink>(
+    page: &mut Page,
+    out: &mut O,
+    points: &[(Point, Kind)],
+    cells: &[Quad],
+) -> Result<(), Failed>
+    requires { IsAscending (points_in points.now) }
+    ensures flows { OnOk result (Flows (O.holds out.old) (O.holds out.new) page.old page.new
+        (block (codes "cells") (map (indices_line (points_in points.now)) cells.now))) }
+    ensures front { OnErr result (FlowsInPart (O.holds out.old) (O.holds out.new) page.old
+        (block (codes "cells") (map (indices_line (points_in points.now)) cells.now))) }
+    ensures cause { HasCause (O.faults out.old) (O.faults out.new) result }
 {
-    put_title(text, b"cells", cells.len())?;
+    put_title(page, out, b"cells", cells.len())?;
     for quad in cells {
-        put_full_line(text, points, *quad)?;
+        put_cell(page, out, points, *quad)?;
     }
     Ok(())
 }
 
-// The points of a shape without their kinds.
-fn points_of(alloc: Global, faces: &[(Point, Kind)]) -> Result<Vec<Point>, AllocError>
-    ensures { IfOk result (λ points. points.items ≡ map (λ f. f.0) faces.now) }
+// Puts the faces of a shape, kind by kind.
+fn put_faces<O: Sink>(page: &mut Page, out: &mut O, shape: &Shape) -> Result<(), Failed>
+    requires { IsAscending (counted (shape_seen shape.now)) }
+    ensures flows { OnOk result (Flows (O.holds out.old) (O.holds out.new) page.old page.new
+        (face_blocks (counted (shape_seen shape.now)) (shape_seen shape.now))) }
+    ensures front { OnErr result (FlowsInPart (O.holds out.old) (O.holds out.new) page.old
+        (face_blocks (counted (shape_seen shape.now)) (shape_seen shape.now))) }
+    ensures cause { HasCause (O.faults out.old) (O.faults out.new) result }
 {
-    faces.iter().map(|face| face.0).collect(alloc)
+    put_points(page, out, &shape.points)?;
+    put_pairs(page, out, &shape.points, &shape.pairs)?;
+    put_triples(page, out, &shape.points, &shape.triples)?;
+    put_cells(page, out, &shape.points, &shape.cells)
 }
 
-// Puts the faces of a shape behind the text, by indices into the points.
-fn put_faces(text: &mut Vec<u8>, points: &[Point], shape: &Shape) -> Result<(), AllocError>
-    requires { IsAscending points.now }
-    ensures { OnOk result (text.new.items ≡ text.old.items ++ face_blocks points.now (shape_seen shape.now)) }
-{
-    put_points(text, points, &shape.points)?;
-    put_pairs(text, points, &shape.pairs)?;
-    put_triples(text, points, &shape.triples)?;
-    put_cells(text, points, &shape.cells)?;
-    Ok(())
-}
-
-// Puts the block of a radius behind the text.
-fn put_shape(
-    alloc: Global,
-    text: &mut Vec<u8>,
+// Puts the block of a radius.
+fn put_shape<O: Sink>(
+    page: &mut Page,
+    out: &mut O,
     radius: u64,
     shape: &Shape,
-) -> Result<(), AllocError>
+) -> Result<(), Failed>
     requires { IsAscending (counted (shape_seen shape.now)) }
-    ensures { OnOk result (text.new.items ≡ text.old.items ++ shape_text_of radius (shape_seen shape.now)) }
+    ensures flows { OnOk result (Flows (O.holds out.old) (O.holds out.new) page.old page.new
+        (shape_text_of radius (shape_seen shape.now))) }
+    ensures front { OnErr result (FlowsInPart (O.holds out.old) (O.holds out.new) page.old
+        (shape_text_of radius (shape_seen shape.now))) }
+    ensures cause { HasCause (O.faults out.old) (O.faults out.new) result }
 {
-    let points = points_of(alloc, &shape.points)?;
-    text.extend_from_slice(b"shape ")?;
-    put_number(text, radius)?;
-    text.push(b'\n')?;
-    put_faces(text, &points, shape)?;
+    page.put(out, b"shape ")?;
+    put_number_and(page, out, radius, b"\n")?;
+    put_faces(page, out, shape)
+}
+
+// Puts one block for each radius.
+pub fn put_shapes<O: Sink>(
+    page: &mut Page,
+    out: &mut O,
+    shapes: &[(u64, Shape)],
+) -> Result<(), Failed>
+    requires { AreCounted (shapes_seen shapes.now) }
+    ensures flows { OnOk result (Flows (O.holds out.old) (O.holds out.new) page.old page.new
+        (shape_blocks (shapes_seen shapes.now))) }
+    ensures front { OnErr result (FlowsInPart (O.holds out.old) (O.holds out.new) page.old
+        (shape_blocks (shapes_seen shapes.now))) }
+    ensures cause { HasCause (O.faults out.old) (O.faults out.new) result }
+{
+    for (radius, shape) in shapes {
+        put_shape(page, out, *radius, shape)?;
+    }
     Ok(())
 }
 
-/// Puts one block for each radius behind the text.
-pub fn put_shapes(
-    alloc: Global,
-    text: &mut Vec<u8>,
-    shapes: &[(u64, Shape)],
-) -> Result<(), AllocError>
-    requires { AreCounted (shapes_seen shapes.now) }
-    ensures { OnOk result (text.new.items ≡ text.old.items ++ shape_blocks (shapes_seen shapes.now)) }
+// Writes the block of a radius.
+fn put_block<O: Sink>(out: &mut O, radius: u64, shape: &Shape) -> Result<(), Failed>
+    requires { IsAscending (counted (shape_seen shape.now)) }
+    ensures { OnOk result (Appends (O.holds out.old) (O.holds out.new) (shape_text_of radius (shape_seen shape.now))) }
 {
-    for (radius, shape) in shapes {
-        put_shape(alloc, text, *radius, shape)?;
-    }
-    Ok(())
+    let mut page = Page::new();
+    put_shape(&mut page, out, radius, shape)?;
+    page.flush(out)
 }
 
 /// The block of a radius: the points of its alpha complex, and the admitted edges, triangles and cells, by the indices of
 /// their points, which count the shape's own points from 0.
 ///
 /// # Errors
+///
 /// `AllocError` where there is no memory for the text.
 pub fn shape_text(alloc: Global, radius: u64, shape: &Shape) -> Result<Vec<u8>, AllocError>
     requires { IsAscending (counted (shape_seen shape.now)) }
     ensures { IfOk result (λ text. text.items ≡ shape_text_of radius (shape_seen shape.now)) }
 {
-    let mut text = Vec::new(alloc);
-    put_shape(alloc, &mut text, radius, shape)?;
-    Ok(text)
+    let mut text = WholeText::new(alloc);
+    match put_block(&mut text, radius, shape) {
+        Ok(()) => Ok(text.into_bytes()),
+        Err(Failed) => Err(AllocError),
+    }
 }
 
 #[cfg(test)]

@@ -1,12 +1,15 @@
--- what is put so far and the lines that are left are the whole block
-use Rattle.std.proofs.Common.{◌≡◌, ◌++◌, drop}
+-- a front of the block was put, and the lines that are left are not yet
+use Rattle.std.proofs.Common.{◌≤◌, drop}
 use Rattle.std.specs.Prelude.{map, codes}
 use Rattle.std.specs.List.{concat}
 use Rattle.mesh_files.specs.Lines.{block}
 use Rattle.mesh_files.specs.Text.{indices_line, full_corners}
+use Rattle.mesh_files.proofs.Flowing.{FlowsBut}
 use Rattle.mesh_files.proofs.report.put_cells.Given as goal
 
 abbrev pub invariant-loop-cell : goal.invariant-loop-cell
-invariant-loop-cell l =
-    l.text.items ++ concat (map (indices_line l.points) (full_corners (drop l.cell-index l.cells)))
-    ≡ l.fn.text.items ++ block (codes "cells") (map (indices_line l.points) (full_corners l.cells))
+invariant-loop-cell g l =
+    FlowsBut (g.O.Sink.holds l.fn.out) (g.O.Sink.holds l.out) l.fn.page l.page
+    (concat (map (indices_line l.points) (full_corners (drop l.cell-index l.cells))))
+    (block (codes "cells") (map (indices_line l.points) (full_corners l.cells)))
+    × (g.O.Sink.faults l.fn.out ≤ g.O.Sink.faults l.out)

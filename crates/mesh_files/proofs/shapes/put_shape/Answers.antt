@@ -1,15 +1,19 @@
-use Rattle.std.proofs.Common.{◌≡◌, ◌∙◌, ap, codes, map, ℕ}
-use Rattle.std.specs.Prelude.{decimal}
-use Rattle.alpha_complex.specs.Shapes.{shape_seen}
-use Rattle.alpha_complex.specs.declared.shape.Kind.{Kind}
-use Rattle.mesh_files.specs.Text.{counted, face_blocks, shape_text}
-use Rattle.mesh_files.proofs.Joined.{grown}
+use Rattle.mesh_files.specs.Text.{shape_text}
+use Rattle.mesh_files.proofs.Flowing.{fails, fails_err, more, more_two, on_err, then, then_ok}
 use Rattle.mesh_files.proofs.shapes.put_shape.Goals as goal
 
-pub returns : goal.returns
+pub returns-in_err-put-clause-front : goal.returns-in_err-put-clause-front
 unfolding shape_text
-returns c =
-    let shape = shape_seen c.args.shape.now in
-    let k : c.deref-2.result.now ≡ counted shape = c.deref-2.ensures.value ∙ c.in_ok-points.ensures ∙ ap (map (λ (f : ℕ × Kind). f.0)) c.deref.ensures.value in
-    let h = rw k at c.in_ok-put_faces.ensures in
-    grown _ _ _ _ _ (codes "shape ") (decimal c.args.radius) (codes "\n") (face_blocks (counted shape) shape) c.in_ok-extend_from_slice.ensures.items c.in_ok-put_number.ensures c.in_ok-push.ensures.items h
+returns-in_err-put-clause-front g c = search (on_err, more_two, c.in_err-put.ensures.front)
+
+pub returns-in_err-put_number_and-clause-front : goal.returns-in_err-put_number_and-clause-front
+unfolding shape_text
+returns-in_err-put_number_and-clause-front g c = search (on_err, more, fails c.in_ok-put.ensures.flows c.in_err-put_number_and.ensures.front)
+
+pub returns-clause-flows : goal.returns-clause-flows
+unfolding shape_text
+returns-clause-flows g c = then_ok _ _ _ _ (then c.in_ok-put.ensures.flows c.in_ok-put_number_and.ensures.flows) c.put_faces.ensures.flows
+
+pub returns-clause-front : goal.returns-clause-front
+unfolding shape_text
+returns-clause-front g c = fails_err _ _ _ (then c.in_ok-put.ensures.flows c.in_ok-put_number_and.ensures.flows) c.put_faces.ensures.front

@@ -1,0 +1,151 @@
+-- Text on its way into a sink, a piece after another.
+use Rattle.std.proofs.Common.{◌≡◌, ◌++◌, List, [], ◌∷◌, ℕ, zero, suc, ◌+◌, ◌<◌, length, get_or, drop, arith, sym, ap, subst, ◌∙◌, append_assoc, append-nil}
+use Rattle.std.specs.Prelude.{Result, Ok, Err, OnOk, OnErr, Option, codes, decimal}
+use Rattle.std.specs.Io.KnownBytes.{Appends}
+use Rattle.std.proofs.KnownBytes.{Appends-trans, Appends-nil}
+use Rattle.byte_ends.specs.Ends.{AppendsFront}
+use Rattle.byte_ends.proofs.Told.{AppendsFront-after}
+use Rattle.std.specs.List.{concat}
+use Rattle.mesh_files.specs.Lines.{block}
+use Rattle.mesh_files.specs.Pages.{Flows, FlowsInPart}
+
+-- ---- a piece and what waits before it
+
+-- what waits is written, and then the piece
+pub passed_ok : {T E : Type 0} (a b c : Option (List ℕ)) (p q x : List ℕ) (o : Result T E) → Appends a b p → q ≡ [] → OnOk o (Appends b c x) → OnOk o (Flows a c p q x)
+passed_ok a b c p q x (Ok v) w n g = record {
+  written = p ++ x;
+  parts = sym (append-nil (p ++ x)) ∙ ap (λ (l : List ℕ). (p ++ x) ++ l) (sym n);
+  appended = Appends-trans a b c p x w g;
+}
+passed_ok a b c p q x (Err e) w n g = tt
+
+-- what waits is written, and then a front of the piece
+pub passed_err : {T E : Type 0} (a b c : Option (List ℕ)) (p x : List ℕ) (o : Result T E) → Appends a b p → AppendsFront b c x → OnErr o (FlowsInPart a c p x)
+passed_err a b c p x (Ok v) w g = tt
+passed_err a b c p x (Err e) w g = record {
+  written = p ++ g.front;
+  rest = g.rest;
+  parts = ap (λ (l : List ℕ). p ++ l) g.parts ∙ sym (append_assoc p g.front g.rest);
+  appended = Appends-trans a b c p g.front w g.appended;
+}
+
+-- a front of what waits is written
+pub stopped : (a b : Option (List ℕ)) (p x : List ℕ) → AppendsFront a b p → FlowsInPart a b p x
+stopped a b p x f = record {
+  written = f.front;
+  rest = f.rest ++ x;
+  parts = ap (λ (l : List ℕ). l ++ x) f.parts ∙ append_assoc f.front f.rest x;
+  appended = f.appended;
+}
+
+-- ---- pieces, one after another
+
+-- nothing is put
+pub nothing : (a : Option (List ℕ)) (p : List ℕ) → Flows a a p p []
+nothing a p = record { written = []; parts = append-nil p; appended = Appends-nil a }
+
+-- a piece, and then another
+pub then : {a b c : Option (List ℕ)} {p q r x y : List ℕ} → Flows a b p q x → Flows b c q r y → Flows a c p r (x ++ y)
+then {a} {b} {c} {p} {q} {r} {x} {y} f g = record {
+  written = f.written ++ g.written;
+  parts = sym (append_assoc p x y) ∙ ap (λ (l : List ℕ). l ++ y) f.parts ∙ append_assoc f.written q y ∙ ap (λ (l : List ℕ). f.written ++ l) g.parts ∙ sym (append_assoc f.written g.written r);
+  appended = Appends-trans a b c f.written g.written f.appended g.appended;
+}
+
+-- a piece, and then a front of another
+pub fails : {a b c : Option (List ℕ)} {p q x y : List ℕ} → Flows a b p q x → FlowsInPart b c q y → FlowsInPart a c p (x ++ y)
+fails {a} {b} {c} {p} {q} {x} {y} f g = record {
+  written = f.written ++ g.written;
+  rest = g.rest;
+  parts = sym (append_assoc p x y) ∙ ap (λ (l : List ℕ). l ++ y) f.parts ∙ append_assoc f.written q y ∙ ap (λ (l : List ℕ). f.written ++ l) g.parts ∙ sym (append_assoc f.written g.written g.rest);
+  appended = Appends-trans a b c f.written g.written f.appended g.appended;
+}
+
+-- a front of a text is one of a longer text
+pub more : {a b : Option (List ℕ)} {p x : List ℕ} (y : List ℕ) → FlowsInPart a b p x → FlowsInPart a b p (x ++ y)
+more {a} {b} {p} {x} y f = record {
+  written = f.written;
+  rest = f.rest ++ y;
+  parts = sym (append_assoc p x y) ∙ ap (λ (l : List ℕ). l ++ y) f.parts ∙ append_assoc f.written f.rest y;
+  appended = f.appended;
+}
+
+pub more_two : {a b : Option (List ℕ)} {p x : List ℕ} (y z : List ℕ) → FlowsInPart a b p x → FlowsInPart a b p (x ++ y ++ z)
+more_two y z f = more z (more y f)
+
+pub more_three : {a b : Option (List ℕ)} {p x : List ℕ} (y z w : List ℕ) → FlowsInPart a b p x → FlowsInPart a b p (x ++ y ++ z ++ w)
+more_three y z w f = more w (more_two y z f)
+
+pub more_four : {a b : Option (List ℕ)} {p x : List ℕ} (y z w v : List ℕ) → FlowsInPart a b p x → FlowsInPart a b p (x ++ y ++ z ++ w ++ v)
+more_four y z w v f = more v (more_three y z w f)
+
+-- the first line of a block, in part
+pub title_fails : {a b : Option (List ℕ)} {p : List ℕ} (title : List ℕ) (lines : List (List ℕ)) (n : ℕ) → n ≡ length lines →
+    FlowsInPart a b p (title ++ codes " " ++ decimal n ++ codes "\n") → FlowsInPart a b p (block title lines)
+title_fails {a} {b} {p} title lines n e f = more (concat lines) (subst (λ (k : ℕ). FlowsInPart a b p (title ++ codes " " ++ decimal k ++ codes "\n")) e f)
+
+-- ---- what a call answers
+
+pub then_ok : {T E : Type 0} {a b : Option (List ℕ)} {p q x : List ℕ} (c : Option (List ℕ)) (r y : List ℕ) (o : Result T E) → Flows a b p q x → OnOk o (Flows b c q r y) → OnOk o (Flows a c p r (x ++ y))
+then_ok c r y (Ok v) f g = then f g
+then_ok c r y (Err e) f g = tt
+
+pub fails_err : {T E : Type 0} {a b : Option (List ℕ)} {p q x : List ℕ} (c : Option (List ℕ)) (y : List ℕ) (o : Result T E) → Flows a b p q x → OnErr o (FlowsInPart b c q y) → OnErr o (FlowsInPart a c p (x ++ y))
+fails_err c y (Ok v) f g = tt
+fails_err c y (Err e) f g = fails f g
+
+pub on_err : {T E P : Type 0} (r : Result T E) → P → OnErr r P
+on_err (Ok x) p = tt
+on_err (Err e) p = p
+
+-- ---- a text that is put item by item
+
+-- a front of the whole was put, and the rest is not yet
+pub record FlowsBut (old new : Option (List ℕ)) (before after rest whole : List ℕ) : Type 0 where
+  pub written : List ℕ
+  pub parts : before ++ whole ≡ written ++ (after ++ rest)
+  pub appended : Appends old new written
+
+-- a text of items: what it is of an item and those behind it
+abbrev pub IsOfItems : {X : Type 0} → (List X → List ℕ) → (X → List ℕ) → Type 0
+IsOfItems {X} text piece = (x : X) (xs : List X) → text (x ∷ xs) ≡ piece x ++ text xs
+
+-- the rest is the next item, and what is behind it
+rest_is : {X : Type 0} (text : List X → List ℕ) (piece : X → List ℕ) → IsOfItems text piece → (xs : List X) (i : ℕ) (x : X) → i < length xs → x ≡ get_or xs i x →
+    text (drop i xs) ≡ piece x ++ text (drop (i + 1) xs)
+rest_is text piece of [] i x l e = absurd (omega (arith, l))
+rest_is text piece of (y ∷ xs) zero x l e = of y xs ∙ ap (λ v. piece v ++ text xs) (sym e)
+rest_is {X} text piece of (y ∷ xs) (suc i) x l e = rest_is text piece of xs i x (omega (arith, l)) e ∙ ap (λ (k : ℕ). piece x ++ text (drop k (y ∷ xs))) (up i)
+  where
+    up : (i : ℕ) → suc (i + 1) ≡ suc i + 1
+    up i = omega arith
+
+-- one item more
+pub goes_on : {X : Type 0} {a b c : Option (List ℕ)} {p q r whole : List ℕ} (text : List X → List ℕ) (piece : X → List ℕ) → IsOfItems text piece → (xs : List X) (i : ℕ) (x : X) → i < length xs → x ≡ get_or xs i x →
+    FlowsBut a b p q (text (drop i xs)) whole → Flows b c q r (piece x) → FlowsBut a c p r (text (drop (i + 1) xs)) whole
+goes_on {X} {a} {b} {c} {p} {q} {r} {whole} text piece of xs i x l e f g =
+    let rest = text (drop (i + 1) xs) in
+    record {
+      written = f.written ++ g.written;
+      parts = f.parts ∙ ap (λ (t : List ℕ). f.written ++ (q ++ t)) (rest_is text piece of xs i x l e) ∙ ap (λ (t : List ℕ). f.written ++ t) (sym (append_assoc q (piece x) rest) ∙ ap (λ (t : List ℕ). t ++ rest) g.parts ∙ append_assoc g.written r rest) ∙ sym (append_assoc f.written g.written (r ++ rest));
+      appended = Appends-trans a b c f.written g.written f.appended g.appended;
+    }
+
+-- a front of one item more
+pub breaks : {X : Type 0} {a b c : Option (List ℕ)} {p q whole : List ℕ} (text : List X → List ℕ) (piece : X → List ℕ) → IsOfItems text piece → (xs : List X) (i : ℕ) (x : X) → i < length xs → x ≡ get_or xs i x →
+    FlowsBut a b p q (text (drop i xs)) whole → FlowsInPart b c q (piece x) → FlowsInPart a c p whole
+breaks {X} {a} {b} {c} {p} {q} {whole} text piece of xs i x l e f g =
+    let rest = text (drop (i + 1) xs) in
+    record {
+      written = f.written ++ g.written;
+      rest = g.rest ++ rest;
+      parts = f.parts ∙ ap (λ (t : List ℕ). f.written ++ (q ++ t)) (rest_is text piece of xs i x l e) ∙ ap (λ (t : List ℕ). f.written ++ t) (sym (append_assoc q (piece x) rest) ∙ ap (λ (t : List ℕ). t ++ rest) g.parts ∙ append_assoc g.written g.rest rest) ∙ sym (append_assoc f.written g.written (g.rest ++ rest));
+      appended = Appends-trans a b c f.written g.written f.appended g.appended;
+    }
+
+-- ---- the last page
+
+-- what was put is written, or a front of it
+pub flushed_in_part : {a b : Option (List ℕ)} {q x : List ℕ} (c : Option (List ℕ)) → Flows a b [] q x → AppendsFront b c q → AppendsFront a c x
+flushed_in_part {a} {b} {q} {x} c f w = subst (λ (t : List ℕ). AppendsFront a c t) (sym f.parts) (AppendsFront-after a b c f.written q f.appended w)

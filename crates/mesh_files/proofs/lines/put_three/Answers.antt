@@ -1,0 +1,11 @@
+use Rattle.mesh_files.proofs.Flowing.{fails_err, more, on_err, then_ok}
+use Rattle.mesh_files.proofs.lines.put_three.Goals as goal
+
+pub returns-in_err-put_spaced-clause-front : goal.returns-in_err-put_spaced-clause-front
+returns-in_err-put_spaced-clause-front g c = search (on_err, more, c.in_err-put_spaced.ensures.front)
+
+pub returns-clause-flows : goal.returns-clause-flows
+returns-clause-flows g c = then_ok _ _ _ _ c.in_ok-put_spaced.ensures.flows c.put.ensures.flows
+
+pub returns-clause-front : goal.returns-clause-front
+returns-clause-front g c = fails_err _ _ _ c.in_ok-put_spaced.ensures.flows c.put.ensures.front
