@@ -2,3 +2,4 @@ pub mod Lines
 pub mod Text
 pub mod Report
 pub mod Pages
+pub mod Summary

@@ -46,7 +46,7 @@ fn put_reply<O: Sink>(page: &mut Page, out: &mut O, reply: Reply) -> Result<(), 
     page.put(out, b"\n")
 }
 
-fn word_of(reply: Reply) -> &'static str
+pub(crate) fn word_of(reply: Reply) -> &'static str
     ensures { result.now ≡ reply_word reply }
 {
     match reply {
@@ -287,6 +287,7 @@ pub fn mesh_text(alloc: Global, report: &Report) -> Result<Vec<u8>, AllocError>
 #[cfg(test)]
 mod tests {
     use super::*;
+    use crate::summary::summary_text;
     use byte_ends::MemSink;
     use std::process::Abort;
     use std::test::Fail;
@@ -296,6 +297,12 @@ mod tests {
 
     const EVERY_WORD: &str =
         "mesh3-out 1\nreplies 5\nInserted\nDuplicate\nRemoved\nMissing\nFlat\npoints 4\n0 0 0\n0 0 2\n0 2 0\n2 0 0\ncells 1\n0 1 2 3\nhull 4\n0 1 2\n0 1 3\n0 2 3\n1 2 3\norder 3\n10\n0\n4294967295\nend\n";
+
+    const INSERTED_COUNTS: &str =
+        "lines 4\nInserted 4\nDuplicate 0\nRemoved 0\nMissing 0\nFlat 0\npoints 4\ncells 1\nhull 4\n";
+
+    const EVERY_COUNT: &str =
+        "lines 5\nInserted 1\nDuplicate 1\nRemoved 1\nMissing 1\nFlat 1\npoints 4\ncells 1\nhull 4\n";
 
     // The report of the tetrahedron with corners (0,0,0), (0,0,2), (0,2,0), (2,0,0).
     fn tetrahedron(
@@ -354,6 +361,9 @@ mod tests {
         let tags = Vec::from_slice(alloc, &[10u32, 0, u32::MAX])?;
         let plain = tetrahedron(&rt, alloc, &inserted, None)?;
         let ordered = tetrahedron(&rt, alloc, &words, Some(tags))?;
+        for (report, counts) in [(&plain, INSERTED_COUNTS), (&ordered, EVERY_COUNT)] {
+            assert_eq!(rt; summary_text(alloc, report)?.as_slice(), counts.as_bytes());
+        }
         for (report, text) in [(&plain, TETRAHEDRON), (&ordered, EVERY_WORD)] {
             assert!(rt; is_ascending(&report.points));
             assert!(rt; has_none(&report.shapes));

@@ -1,0 +1,167 @@
+//! The summary of a report: what it has, counted.
+
+ghost use Rattle.std.specs.Prelude.{◌≡◌, map, IfOk, OnOk, OnErr};
+ghost use Rattle.std.specs.List.{concat};
+ghost use Rattle.std.specs.Io.KnownBytes.{Appends};
+ghost use Rattle.byte_ends.specs.Ends.{HasCause};
+ghost use Rattle.alpha_complex.specs.Shapes.{shape_seen};
+ghost use Rattle.mesh_files.specs.Pages.{Flows, FlowsInPart};
+ghost use Rattle.mesh_files.specs.Report.{parts_of, shapes_seen};
+ghost use Rattle.mesh_files.specs.Summary.{count_of as count_of_word, reply_count_line, mesh_counts, shape_line, summary_text as summary_text_of};
+
+use crate::lines::{put_four, put_title};
+use crate::page::Page;
+use crate::report::{Report, full_count, hull_count, word_of};
+use crate::whole::WholeText;
+use alpha_complex::Shape;
+use byte_ends::{Failed, Sink};
+use edit_history::Reply;
+use std::alloc::{AllocError, Global};
+
+const ALL_REPLIES: [Reply; 5] = [
+    Reply::Inserted,
+    Reply::Duplicate,
+    Reply::Removed,
+    Reply::Missing,
+    Reply::Flat,
+];
+
+// How many of the replies have this word.
+fn count_of(replies: &[Reply], word: &str) -> usize
+    ensures { result ≡ count_of_word replies.now word.now }
+{
+    replies
+        .iter()
+        .filter(|reply| word_of(**reply) == word)
+        .count()
+}
+
+// Puts the word of a reply, and how many of the replies have it.
+fn put_reply_count<O: Sink>(
+    page: &mut Page,
+    out: &mut O,
+    replies: &[Reply],
+    reply: Reply,
+) -> Result<(), Failed>
+    ensures flows { OnOk result (Flows (O.holds out.old) (O.holds out.new) page.old page.new
+        (reply_count_line replies.now reply)) }
+    ensures front { OnErr result (FlowsInPart (O.holds out.old) (O.holds out.new) page.old
+        (reply_count_line replies.now reply)) }
+    ensures cause { HasCause (O.faults out.old) (O.faults out.new) result }
+{
+    let word = word_of(reply);
+    put_title(page, out, word.as_bytes(), count_of(replies, word))
+}
+
+// Puts a line for each of some kinds of reply.
+fn put_reply_counts<O: Sink>(
+    page: &mut Page,
+    out: &mut O,
+    replies: &[Reply],
+    kinds: &[Reply],
+) -> Result<(), Failed>
+    ensures flows { OnOk result (Flows (O.holds out.old) (O.holds out.new) page.old page.new
+        (concat (map (reply_count_line replies.now) kinds.now))) }
+    ensures front { OnErr result (FlowsInPart (O.holds out.old) (O.holds out.new) page.old
+        (concat (map (reply_count_line replies.now) kinds.now))) }
+    ensures cause { HasCause (O.faults out.old) (O.faults out.new) result }
+{
+    for kind in kinds {
+        put_reply_count(page, out, replies, *kind)?;
+    }
+    Ok(())
+}
+
+// Puts how many points, Full cells and Open cells there are.
+fn put_mesh_counts<O: Sink>(page: &mut Page, out: &mut O, report: &Report) -> Result<(), Failed>
+    ensures flows { OnOk result (Flows (O.holds out.old) (O.holds out.new) page.old page.new
+        (mesh_counts (parts_of report.now))) }
+    ensures front { OnErr result (FlowsInPart (O.holds out.old) (O.holds out.new) page.old
+        (mesh_counts (parts_of report.now))) }
+    ensures cause { HasCause (O.faults out.old) (O.faults out.new) result }
+{
+    put_title(page, out, b"points", report.points.len())?;
+    put_title(page, out, b"cells", full_count(&report.cells))?;
+    put_title(page, out, b"hull", hull_count(&report.cells))
+}
+
+// Puts a radius, and how many edges, triangles and cells its shape has.
+fn put_shape_line<O: Sink>(
+    page: &mut Page,
+    out: &mut O,
+    radius: u64,
+    shape: &Shape,
+) -> Result<(), Failed>
+    ensures flows { OnOk result (Flows (O.holds out.old) (O.holds out.new) page.old page.new
+        (shape_line (radius, shape_seen shape.now))) }
+    ensures front { OnErr result (FlowsInPart (O.holds out.old) (O.holds out.new) page.old
+        (shape_line (radius, shape_seen shape.now))) }
+    ensures cause { HasCause (O.faults out.old) (O.faults out.new) result }
+{
+    page.put(out, b"shape ")?;
+    put_four(
+        page,
+        out,
+        radius,
+        shape.pairs.len() as u64,
+        shape.triples.len() as u64,
+        shape.cells.len() as u64,
+    )
+}
+
+// Puts a line for each radius.
+fn put_shape_lines<O: Sink>(
+    page: &mut Page,
+    out: &mut O,
+    shapes: &[(u64, Shape)],
+) -> Result<(), Failed>
+    ensures flows { OnOk result (Flows (O.holds out.old) (O.holds out.new) page.old page.new
+        (concat (map shape_line (shapes_seen shapes.now)))) }
+    ensures front { OnErr result (FlowsInPart (O.holds out.old) (O.holds out.new) page.old
+        (concat (map shape_line (shapes_seen shapes.now)))) }
+    ensures cause { HasCause (O.faults out.old) (O.faults out.new) result }
+{
+    for (radius, shape) in shapes {
+        put_shape_line(page, out, *radius, shape)?;
+    }
+    Ok(())
+}
+
+// Puts the summary of a report.
+fn put_summary<O: Sink>(page: &mut Page, out: &mut O, report: &Report) -> Result<(), Failed>
+    ensures flows { OnOk result (Flows (O.holds out.old) (O.holds out.new) page.old page.new
+        (summary_text_of (parts_of report.now))) }
+    ensures front { OnErr result (FlowsInPart (O.holds out.old) (O.holds out.new) page.old
+        (summary_text_of (parts_of report.now))) }
+    ensures cause { HasCause (O.faults out.old) (O.faults out.new) result }
+{
+    put_title(page, out, b"lines", report.replies.len())?;
+    put_reply_counts(page, out, &report.replies, &ALL_REPLIES)?;
+    put_mesh_counts(page, out, report)?;
+    put_shape_lines(page, out, &report.shapes)
+}
+
+// Writes the summary of a report.
+fn put_whole<O: Sink>(out: &mut O, report: &Report) -> Result<(), Failed>
+    ensures { OnOk result (Appends (O.holds out.old) (O.holds out.new) (summary_text_of (parts_of report.now))) }
+{
+    let mut page = Page::new();
+    put_summary(&mut page, out, report)?;
+    page.flush(out)
+}
+
+/// The summary of a report, a line for each count: its lines, the replies of each word, its points, cells and hull, and for
+/// each radius the edges, triangles and cells of its shape.
+///
+/// # Errors
+///
+/// `AllocError` where there is no memory for the text.
+pub fn summary_text(alloc: Global, report: &Report) -> Result<Vec<u8>, AllocError>
+    ensures { IfOk result (λ text. text.items ≡ summary_text_of (parts_of report.now)) }
+{
+    let mut text = WholeText::new(alloc);
+    match put_whole(&mut text, report) {
+        Ok(()) => Ok(text.into_bytes()),
+        Err(Failed) => Err(AllocError),
+    }
+}
