@@ -14,3 +14,4 @@ pub mod Reasons
 pub mod Judged
 pub mod OneFault
 pub mod Written
+pub mod Generated

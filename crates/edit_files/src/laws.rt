@@ -1,8 +1,11 @@
 //! Laws of edit files. They take part in no run: each is the contract of a function with nothing in it.
 
-ghost use Rattle.std.specs.Prelude.{◌≡◌, ◌⊎◌, ℕ, List};
+ghost use Rattle.std.specs.Prelude.{◌≡◌, ◌≤◌, ◌⊎◌, ℕ, List, true};
+ghost use Rattle.point_order.specs.Solid.{is_solid};
+ghost use Rattle.plain_laws.specs.Plain.{IsAnchored};
 ghost use Rattle.edit_files.specs.Content.{Content};
-ghost use Rattle.edit_files.specs.Grammar.{IsFile};
+ghost use Rattle.edit_files.specs.Grammar.{line_limit, IsFile};
+ghost use Rattle.edit_files.specs.Generator.{generated};
 ghost use Rattle.edit_files.specs.Faults.{IsFault};
 ghost use Rattle.edit_files.specs.Writing.{IsWithin, file_text};
 ghost use Rattle.edit_files.specs.declared.fault.Fault.{Fault};
@@ -35,4 +38,19 @@ pub fn written_is_read()
 /// What a text can be of is within what a text may hold.
 pub fn file_is_within()
     ensures { (limit : ℕ) (bytes : List ℕ) (f : Content) → IsFile limit bytes f → IsWithin limit f }
+{}
+
+/// The file of a count and a start has independent points, and no edit takes one of its opening four.
+pub fn generated_is_anchored()
+    ensures { (count start : ℕ) → IsAnchored (generated count start).points (generated count start).edits }
+{}
+
+/// Its points are solid.
+pub fn generated_is_solid()
+    ensures { (count start : ℕ) → is_solid (generated count start).points ≡ true }
+{}
+
+/// With at most 262,140 edits it is within what a text may hold.
+pub fn generated_is_within()
+    ensures { (count start : ℕ) → count ≤ 262140 → IsWithin line_limit (generated count start) }
 {}

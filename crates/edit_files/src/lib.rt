@@ -6,6 +6,7 @@
 
 mod fault;
 mod file;
+mod generator;
 pub mod laws;
 mod line;
 mod reader;
@@ -14,6 +15,7 @@ mod writing;
 
 pub use fault::{Fault, ReadRefused, Why};
 pub use file::{File, Lines};
+pub use generator::generate;
 pub use reader::{LINE_LIMIT, RADIUS_LIMIT, read_file};
 pub use writing::file_text;
 

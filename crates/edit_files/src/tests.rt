@@ -129,3 +129,29 @@ fn written(rt: HostRuntime) -> Result<(), Fail> {
     assert_eq!(rt; text.as_slice(), wanted.as_slice());
     Ok(())
 }
+
+// How many edits and the start, and the edit lines, by a program of its own.
+const GENERATED: [(u32, u32, &str); 3] = [
+    (0, 0, ""),
+    (1, 1, "+ 8419 2879 5056\n"),
+    (
+        4,
+        7,
+        "+ 9782 4903 5434\n+ 11337 16265 1682\n+ 16017 15895 3992\n- 11337 16265 1682\n",
+    ),
+];
+
+#[test]
+fn generates_drawn_files(rt: HostRuntime) -> Result<(), Fail> {
+    let alloc = rt.alloc();
+    for (count, start, edits) in GENERATED {
+        assert!(rt; count <= 262_140 && start < 1 << 31);
+        let file = generate(alloc, count, start)?;
+        let text = file_text(alloc, &file)?;
+        let wanted = format!(in alloc;
+            "mesh3 1\npoints\n0 0 0\n16383 0 0\n0 16383 0\n0 0 16383\nedits\n{edits}radii\n16384\n262144\n4194304\nend\n"
+        )?;
+        assert_eq!(rt; text.as_slice(), wanted.as_bytes());
+    }
+    Ok(())
+}

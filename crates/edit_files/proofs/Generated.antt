@@ -1,0 +1,165 @@
+-- The lines of a generated file, one after another, and its laws.
+use Rattle.std.proofs.Common.{◌≡◌, ◌≢◌, ◌∙◌, refl, sym, ap, subst, ℕ, suc, ◌+◌, ◌-◌, ◌*◌, ◌/◌, ◌%◌, ◌<◌, ◌≤◌, Bool, true, false, cond, eqb, List, [], ◌∷◌, ◌++◌, map, get_or, length, arith, eq-eqb, inl, inr, Some, lit<, lit≤, slice_index}
+use Rattle.std.specs.List.{range_with_len, AllByRecursion}
+use Rattle.std.proofs.lemmas.Bool.{ne_eqb}
+use Rattle.std.proofs.lemmas.List.FromFn.{map-range_with_len_more, get_or-map-range_with_len, length-map-range_with_len}
+use Rattle.point_order.specs.Coordinates.{x_of, y_of, z_of, IsKey}
+use Rattle.point_order.specs.Orientation.{x_from, y_from, z_from, minor, triple, orientation, normal_x, normal_y, normal_z}
+use Rattle.point_order.specs.Sets.{is_among, IsIn}
+use Rattle.point_order.specs.Solid.{is_solid}
+use Rattle.edit_history.specs.declared.history.Edit.{Edit}
+use Rattle.edit_history.specs.declared.history.Edit.TheVariants.{Add, Take}
+use Rattle.edit_history.specs.Edits.{point_of}
+use Rattle.edit_history.specs.Opening.{opening_four}
+use Rattle.plain_laws.specs.Plain.{IsAnchored}
+use Rattle.edit_files.specs.Grammar.{line_limit}
+use Rattle.edit_files.specs.Writing.{IsWithin}
+use Rattle.edit_files.specs.Generator.{next_state, state_after, draw, drawn_point, draws_before, drawn_by, corners, back_to, edit_line, generated}
+
+-- ---- draws
+
+one : (m : ℕ) → m + 1 ≡ suc m
+one m = omega arith
+
+two : (m : ℕ) → m + 2 ≡ suc (suc m)
+two m = omega arith
+
+three : (m : ℕ) → m + 3 ≡ suc (suc (suc m))
+three m = omega arith
+
+-- the point of the three draws behind a state
+abbrev point_behind : ℕ → ℕ
+point_behind s =
+    next_state s / 131072 * 268435456 + next_state (next_state s) / 131072 * 16384 + next_state (next_state (next_state s)) / 131072
+
+drawn-behind : (start m : ℕ) → drawn_point start m ≡ point_behind (state_after start m)
+drawn-behind start m =
+    ap (λ (k : ℕ). state_after start k / 131072 * 268435456 + draw start (m + 2) * 16384 + draw start (m + 3)) (one m)
+    ∙ ap (λ (k : ℕ). draw start (suc m) * 268435456 + state_after start k / 131072 * 16384 + draw start (m + 3)) (two m)
+    ∙ ap (λ (k : ℕ). draw start (suc m) * 268435456 + draw start (suc (suc m)) * 16384 + state_after start k / 131072) (three m)
+
+-- ---- one line more
+
+-- all lines and the next are the first lines, one more
+pub more_lines : (start n : ℕ) (edits new : List Edit) (edit : Edit) → edits ≡ map (edit_line start) (range_with_len 1 n) → edit ≡ edit_line start (n + 1) → new ≡ edits ++ edit ∷ [] → new ≡ map (edit_line start) (range_with_len 1 (n + 1))
+more_lines start n edits new edit lines e k =
+    let at : 1 + n ≡ n + 1 = omega arith in
+    k ∙ ap (λ (es : List Edit). es ++ edit ∷ []) lines ∙ ap (λ (x : Edit). map (edit_line start) (range_with_len 1 n) ++ x ∷ []) e ∙ sym (map-range_with_len_more (edit_line start) 1 n (n + 1) at)
+
+pub count_lines : (start n : ℕ) (edits : List Edit) → edits ≡ map (edit_line start) (range_with_len 1 n) → length edits ≡ n
+count_lines start n edits lines = ap length lines ∙ length-map-range_with_len (edit_line start) 1 n
+
+-- a line that goes back
+pub goes_back : (start n : ℕ) (edits : List Edit) (older edit : Edit) (p : ℕ) → edits ≡ map (edit_line start) (range_with_len 1 n) → n % 4 ≡ 3 →
+    older ≡ get_or edits (n - 2) older → p ≡ point_of older → edit ≡ back_to p → edit ≡ edit_line start (n + 1)
+goes_back start n edits older edit p lines m o q e =
+    let at : 1 + (n - 2) ≡ n + 1 - 2 = omega arith in
+    let below : n - 2 < n = omega arith in
+    let drew : eqb ((n + 1 - 2) % 4) 0 ≡ false = ne_eqb ((n + 1 - 2) % 4) 0 (λ z. absurd (omega (arith, z))) in
+    let back : eqb ((n + 1) % 4) 0 ≡ true = eq-eqb ((n + 1) % 4) 0 (omega arith) in
+    let line : older ≡ edit_line start (n + 1 - 2) = o ∙ ap (λ (es : List Edit). get_or es (n - 2) older) lines ∙ get_or-map-range_with_len (edit_line start) 1 n (n - 2) (n + 1 - 2) older below at in
+    let adds : older ≡ Add (drawn_by start (n + 1 - 2)) = line ∙ ap (λ (b : Bool). cond b (back_to (drawn_by start (n + 1 - 2 - 2))) (Add (drawn_by start (n + 1 - 2)))) drew in
+    e ∙ ap back_to (q ∙ ap point_of adds) ∙ sym (ap (λ (b : Bool). cond b (back_to (drawn_by start (n + 1 - 2))) (Add (drawn_by start (n + 1)))) back)
+
+-- a line that draws
+pub draws_line : (start n s p : ℕ) (edit : Edit) → s ≡ state_after start (3 * (n - n / 4)) → n % 4 ≢ 3 → p ≡ point_behind s → edit ≡ Add p → edit ≡ edit_line start (n + 1)
+draws_line start n s p edit state m q e =
+    let adds : eqb ((n + 1) % 4) 0 ≡ false = ne_eqb ((n + 1) % 4) 0 (λ z. m (omega (arith, z))) in
+    let behind : 3 * (n - n / 4) ≡ draws_before (n + 1) = omega arith in
+    let drawn : p ≡ drawn_by start (n + 1) = q ∙ ap point_behind state ∙ sym (drawn-behind start (3 * (n - n / 4))) ∙ ap (drawn_point start) behind in
+    e ∙ ap Add drawn ∙ sym (ap (λ (b : Bool). cond b (back_to (drawn_by start (n + 1 - 2))) (Add (drawn_by start (n + 1)))) adds)
+
+-- the state behind a line that goes back
+pub same_state : (start n s : ℕ) → s ≡ state_after start (3 * (n - n / 4)) → n % 4 ≡ 3 → s ≡ state_after start (3 * (n + 1 - (n + 1) / 4))
+same_state start n s state m = let e : 3 * (n - n / 4) ≡ 3 * (n + 1 - (n + 1) / 4) = omega arith in state ∙ ap (state_after start) e
+
+-- the state behind a line that draws
+pub third_state : (start n s t : ℕ) → s ≡ state_after start (3 * (n - n / 4)) → n % 4 ≢ 3 → t ≡ next_state (next_state (next_state s)) → t ≡ state_after start (3 * (n + 1 - (n + 1) / 4))
+third_state start n s t state m k =
+    let e : suc (suc (suc (3 * (n - n / 4)))) ≡ 3 * (n + 1 - (n + 1) / 4) = omega arith in
+    k ∙ ap (λ (u : ℕ). next_state (next_state (next_state u))) state ∙ ap (state_after start) e
+
+-- ---- laws
+
+-- the first four points are the opening four
+corners_open : opening_four corners ≡ Some (record { first = 0; second = 1; third = 2; fourth = 3 })
+unfolding x_of y_of z_of x_from y_from z_from minor triple orientation normal_x normal_y normal_z
+corners_open = refl
+
+-- a line that goes back takes no corner
+back_takes : (p q : ℕ) → is_among q corners ≡ true → Take q ≡ back_to p → ⊥
+back_takes p q a e = by (is_among p corners) refl
+  where
+    by : (b : Bool) → is_among p corners ≡ b → ⊥
+    by true m = let k : Take q ≡ Add p = e ∙ ap (λ (b : Bool). cond b (Add p) (Take p)) m in absurd cc
+    by false m = let k : Take q ≡ Take p = e ∙ ap (λ (b : Bool). cond b (Add p) (Take p)) m in
+        let s : q ≡ p = cc in
+        let n : is_among q corners ≡ false = ap (λ (r : ℕ). is_among r corners) s ∙ m in absurd cc
+
+-- no line takes a corner
+line_takes : (start i q : ℕ) → is_among q corners ≡ true → Take q ≡ edit_line start i → ⊥
+line_takes start i q a e = by (eqb (i % 4) 0) refl
+  where
+    by : (b : Bool) → eqb (i % 4) 0 ≡ b → ⊥
+    by true m = back_takes (drawn_by start (i - 2)) q a (e ∙ ap (λ (b : Bool). cond b (back_to (drawn_by start (i - 2))) (Add (drawn_by start i))) m)
+    by false m = let k : Take q ≡ Add (drawn_by start i) = e ∙ ap (λ (b : Bool). cond b (back_to (drawn_by start (i - 2))) (Add (drawn_by start i))) m in absurd cc
+
+none_takes : (start q : ℕ) → is_among q corners ≡ true → (is : List ℕ) → IsIn (Take q) (map (edit_line start) is) → ⊥
+none_takes start q a [] i = absurd i
+none_takes start q a (k ∷ is) (inl e) = line_takes start k q a (sym e)
+none_takes start q a (k ∷ is) (inr i) = none_takes start q a is i
+
+pub generated-anchored : (count start : ℕ) → IsAnchored (generated count start).points (generated count start).edits
+generated-anchored count start = record {
+  four = record { first = 0; second = 1; third = 2; fourth = 3 };
+  opening = corners_open;
+  untaken = λ i at. none_takes start (slice_index corners i) (corner i at) (range_with_len 1 count);
+}
+  where
+    corner : (i : ℕ) → IsIn i (0 ∷ 1 ∷ 2 ∷ 3 ∷ []) → is_among (slice_index corners i) corners ≡ true
+    corner i (inl e) = ap (λ (k : ℕ). is_among (slice_index corners k) corners) (sym e)
+    corner i (inr (inl e)) = ap (λ (k : ℕ). is_among (slice_index corners k) corners) (sym e)
+    corner i (inr (inr (inl e))) = ap (λ (k : ℕ). is_among (slice_index corners k) corners) (sym e)
+    corner i (inr (inr (inr (inl e)))) = ap (λ (k : ℕ). is_among (slice_index corners k) corners) (sym e)
+    corner i (inr (inr (inr (inr n)))) = absurd n
+
+pub generated-solid : (count start : ℕ) → is_solid (generated count start).points ≡ true
+unfolding x_of y_of z_of x_from y_from z_from minor triple orientation normal_x normal_y normal_z
+generated-solid count start = refl
+
+-- a state behind a draw is below 2^31
+draw-below : (s : ℕ) → next_state s / 131072 < 16384
+draw-below s = omega arith
+
+drawn-key : (start m : ℕ) → IsKey (drawn_point start m)
+drawn-key start m =
+    let s = state_after start m in
+    let a = draw-below s in
+    let b = draw-below (next_state s) in
+    let d = draw-below (next_state (next_state s)) in
+    let k : IsKey (point_behind s) = omega (arith, a, b, d) in
+    subst IsKey (sym (drawn-behind start m)) k
+
+line-key : (start i : ℕ) → IsKey (point_of (edit_line start i))
+line-key start i = by (eqb (i % 4) 0)
+  where
+    back : (p : ℕ) (b : Bool) → IsKey p → IsKey (point_of (cond b (Add p) (Take p)))
+    back p true k = k
+    back p false k = k
+
+    by : (b : Bool) → IsKey (point_of (cond b (back_to (drawn_by start (i - 2))) (Add (drawn_by start i))))
+    by true = back (drawn_by start (i - 2)) (is_among (drawn_by start (i - 2)) corners) (drawn-key start (draws_before (i - 2)))
+    by false = drawn-key start (draws_before i)
+
+lines-keys : (start : ℕ) (is : List ℕ) → AllByRecursion (λ e. IsKey (point_of e)) (map (edit_line start) is)
+lines-keys start [] = tt
+lines-keys start (i ∷ is) = (line-key start i, lines-keys start is)
+
+pub generated-within : (count start : ℕ) → count ≤ 262140 → IsWithin line_limit (generated count start)
+generated-within count start few = record {
+  points = (lit< tt, (lit< tt, (lit< tt, (lit< tt, tt))));
+  edits = lines-keys start (range_with_len 1 count);
+  radii = (lit< tt, (lit< tt, (lit< tt, tt)));
+  line_count = omega (arith, few, length-map-range_with_len (edit_line start) 1 count);
+  radius_count = lit≤ tt;
+}

@@ -1,0 +1,5 @@
+use Rattle.edit_files.proofs.Generated.{generated-within}
+use Rattle.edit_files.proofs.laws.generated_is_within.Goals as goal
+
+pub returns : goal.returns
+returns c = generated-within

@@ -1,0 +1,49 @@
+-- The file that is made of two numbers: how many edits it has, and where its draws start.
+use Rattle.std.specs.Prelude.{ℕ, zero, suc, ◌+◌, ◌-◌, ◌*◌, ◌/◌, ◌%◌, ◌==◌, List, [], ◌∷◌, map, if◌then◌else◌}
+use Rattle.std.specs.List.{range_with_len}
+use Rattle.point_order.specs.Sets.{is_among}
+use Rattle.edit_history.specs.declared.history.Edit.{Edit}
+use Rattle.edit_history.specs.declared.history.Edit.TheVariants.{Add, Take}
+use Rattle.edit_files.specs.Content.{Content}
+
+-- the state that a draw makes of a state: below 2^31
+abbrev pub next_state : ℕ → ℕ
+next_state state = (state * 1103515245 + 12345) % 2147483648
+
+-- the state behind so many draws from a start
+abbrev pub state_after : ℕ → ℕ → ℕ
+state_after start zero = start
+state_after start (suc n) = next_state (state_after start n)
+
+-- what draw n gives, the first being 1: 0 to 16383
+abbrev pub draw : ℕ → ℕ → ℕ
+draw start n = state_after start n / 131072
+
+-- the point whose x, y and z are the three draws behind so many
+abbrev pub drawn_point : ℕ → ℕ → ℕ
+drawn_point start n = draw start (n + 1) * 268435456 + draw start (n + 2) * 16384 + draw start (n + 3)
+
+-- how many draws there were before edit line i, the first being 1: each line before it made three, but every fourth made none
+abbrev pub draws_before : ℕ → ℕ
+draws_before i = 3 * (i - 1 - (i - 1) / 4)
+
+-- the point that edit line i draws
+abbrev pub drawn_by : ℕ → ℕ → ℕ
+drawn_by start i = drawn_point start (draws_before i)
+
+-- the points: (0,0,0), (16383,0,0), (0,16383,0) and (0,0,16383)
+abbrev pub corners : List ℕ
+corners = 0 ∷ 16383 * 268435456 ∷ 16383 * 16384 ∷ 16383 ∷ []
+
+-- the edit that goes back to a drawn point: it takes it, but where it is a corner it adds it again
+abbrev pub back_to : ℕ → Edit
+back_to p = if is_among p corners then Add p else Take p
+
+-- edit line i: every fourth goes back to the point of the line before the last, and all others add the point that they draw
+abbrev pub edit_line : ℕ → ℕ → Edit
+edit_line start i = if i % 4 == 0 then back_to (drawn_by start (i - 2)) else Add (drawn_by start i)
+
+-- the file of a count and a start
+abbrev pub generated : ℕ → ℕ → Content
+generated count start =
+    record { points = corners; edits = map (edit_line start) (range_with_len 1 count); radii = 16384 ∷ 262144 ∷ 4194304 ∷ [] }
