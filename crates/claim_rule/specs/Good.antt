@@ -6,12 +6,8 @@ use Rattle.edit_history.specs.Histories.{replay, IsLegal}
 use Rattle.del_laws.specs.Keys.{AreKeys}
 use Rattle.cell_store.specs.Grids.{is_grid_size}
 use Rattle.cell_store.specs.Buckets.{Content, bucket_at}
-use Rattle.cell_store.specs.Shares.{points_share, cells_share, entries_share}
+use Rattle.cell_store.specs.Shares.{share_at}
 use Rattle.claim_rule.specs.Boards.{View, BoardState, word_of, view_at, IsLive, Owns, left_in, made_by}
-
--- the share of bucket b in a history, standing in its place
-abbrev pub share_at : ℕ → ℕ → List Entry → Content
-share_at g b h = record { points = points_share g b h; cells = cells_share g b h; entries = entries_share g b h; place = Some (g, b) }
 
 -- each of these buckets is its share of the history
 abbrev pub AreSharesOf : ℕ → List Entry → List (Option Content) → Type 0
