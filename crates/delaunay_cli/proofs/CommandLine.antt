@@ -1,16 +1,25 @@
 -- What `clap` makes of the program's words.
-use Rattle.std.proofs.Common.{◌≡◌, ◌≢◌, ◌⊎◌, inl, inr, refl, ap, ◌∙◌, subst, List, [], ◌∷◌, Bool, true, false, codes}
+use Rattle.std.proofs.Common.{◌≡◌, ◌≢◌, ◌⊎◌, inl, inr, refl, sym, ap, ◌∙◌, subst, ℕ, ◌<◌, ◌≤◌, ◌^◌, arith, List, [], ◌∷◌, Bool, true, false, cond, codes}
 use Rattle.std.specs.Prelude.{String, Option, Some, None}
 use Rattle.std.specs.declared.alloc.Global.{Global}
 use Rattle.std.specs.Option.{option_map_or}
 use Rattle.std.specs.Str.{bytes_eq}
+use Rattle.std.specs.Str.Parse.{IsNumeral, digits_value, without_leading_plus}
+use Rattle.clap.specs.ValueTests.{is_unsigned_in}
+use Rattle.clap.proofs.ValueTestLemmas.{accepts-Accepts, Accepts-accepts}
+use Rattle.clap.specs.declared.builder.value_parser.ValueParser.TheVariants.{Unsigned}
 use Rattle.clap.specs.declared.parser.matches.Found.{Found}
 use Rattle.clap.proofs.WalkLemmas.{first_value-rows}
 use Rattle.clap.specs.Words.{App, Text, Row, IsAmong, Kinds, fault_of, first_value, rows_of, is_simple, is_simple_and_free, subcommand_of}
 use Rattle.clap.specs.declared.error.kind.ErrorKind.{ErrorKind}
 use Rattle.clap.specs.declared.error.kind.ErrorKind.TheVariants.{OutOfMemory}
 use Rattle.clap.proofs.OnLiterals.{clap_on_literals}
-use Rattle.delaunay_cli.specs.Words.{AreMesh, AreMeshOrder, AreShape, AreShapeOrder, AreTaken, asks_order, asks_shape, has_order, is_shape, order_in, program, texts_of}
+use Rattle.delaunay_cli.specs.Words.{AreMesh, AreMeshOrder, AreShape, AreShapeOrder, AreTaken, DrawsFile, ReadsFile, asks_text, drawn_count, drawn_start, asks_drawn, asks_order, asks_shape, flag_in, has_flag, is_command, number_in, number_up_to, program, texts_of}
+use Rattle.delaunay_cli.specs.Tasks.{IsTask, IsTaskOf}
+use Rattle.delaunay_cli.specs.declared.task.Asked.{Asked}
+use Rattle.delaunay_cli.specs.declared.task.Drawn.{Drawn}
+use Rattle.delaunay_cli.specs.declared.task.Task.{Task}
+use Rattle.delaunay_cli.specs.declared.task.Task.TheVariants.{Report, Draw}
 
 is-simple_and_free : is_simple_and_free program ≡ true
 unfolding clap_on_literals
@@ -24,11 +33,11 @@ mesh-fault : (name : Text) → fault_of program (name ∷ codes "mesh" ∷ []) �
 unfolding clap_on_literals
 mesh-fault name = refl
 
-mesh-order : (name : Text) → has_order (subcommand_of program (name ∷ codes "mesh" ∷ [])) ≡ false
+mesh-order : (name : Text) → has_flag (codes "order") (subcommand_of program (name ∷ codes "mesh" ∷ [])) ≡ false
 unfolding clap_on_literals
 mesh-order name = refl
 
-mesh-shape : (name : Text) → is_shape (subcommand_of program (name ∷ codes "mesh" ∷ [])) ≡ false
+mesh-shape : (name : Text) → is_command (codes "shape") (subcommand_of program (name ∷ codes "mesh" ∷ [])) ≡ false
 unfolding clap_on_literals
 mesh-shape name = refl
 
@@ -36,11 +45,11 @@ mesh_order-fault : (name : Text) → fault_of program (name ∷ codes "mesh" ∷
 unfolding clap_on_literals
 mesh_order-fault name = refl
 
-mesh_order-order : (name : Text) → has_order (subcommand_of program (name ∷ codes "mesh" ∷ codes "--order" ∷ [])) ≡ true
+mesh_order-order : (name : Text) → has_flag (codes "order") (subcommand_of program (name ∷ codes "mesh" ∷ codes "--order" ∷ [])) ≡ true
 unfolding clap_on_literals
 mesh_order-order name = refl
 
-mesh_order-shape : (name : Text) → is_shape (subcommand_of program (name ∷ codes "mesh" ∷ codes "--order" ∷ [])) ≡ false
+mesh_order-shape : (name : Text) → is_command (codes "shape") (subcommand_of program (name ∷ codes "mesh" ∷ codes "--order" ∷ [])) ≡ false
 unfolding clap_on_literals
 mesh_order-shape name = refl
 
@@ -48,11 +57,11 @@ shape-fault : (name : Text) → fault_of program (name ∷ codes "shape" ∷ [])
 unfolding clap_on_literals
 shape-fault name = refl
 
-shape-order : (name : Text) → has_order (subcommand_of program (name ∷ codes "shape" ∷ [])) ≡ false
+shape-order : (name : Text) → has_flag (codes "order") (subcommand_of program (name ∷ codes "shape" ∷ [])) ≡ false
 unfolding clap_on_literals
 shape-order name = refl
 
-shape-shape : (name : Text) → is_shape (subcommand_of program (name ∷ codes "shape" ∷ [])) ≡ true
+shape-shape : (name : Text) → is_command (codes "shape") (subcommand_of program (name ∷ codes "shape" ∷ [])) ≡ true
 unfolding clap_on_literals
 shape-shape name = refl
 
@@ -60,11 +69,11 @@ shape_order-fault : (name : Text) → fault_of program (name ∷ codes "shape" �
 unfolding clap_on_literals
 shape_order-fault name = refl
 
-shape_order-order : (name : Text) → has_order (subcommand_of program (name ∷ codes "shape" ∷ codes "--order" ∷ [])) ≡ true
+shape_order-order : (name : Text) → has_flag (codes "order") (subcommand_of program (name ∷ codes "shape" ∷ codes "--order" ∷ [])) ≡ true
 unfolding clap_on_literals
 shape_order-order name = refl
 
-shape_order-shape : (name : Text) → is_shape (subcommand_of program (name ∷ codes "shape" ∷ codes "--order" ∷ [])) ≡ true
+shape_order-shape : (name : Text) → is_command (codes "shape") (subcommand_of program (name ∷ codes "shape" ∷ codes "--order" ∷ [])) ≡ true
 unfolding clap_on_literals
 shape_order-shape name = refl
 
@@ -73,8 +82,8 @@ pub mesh-words : (words : List (String Global)) → AreMesh words → AreTaken w
 unfolding AreTaken asks_order asks_shape
 mesh-words words m = (
   ap (fault_of program) m.1 ∙ mesh-fault m.0,
-  ap (λ (w : List Text). is_shape (subcommand_of program w)) m.1 ∙ mesh-shape m.0,
-  ap (λ (w : List Text). has_order (subcommand_of program w)) m.1 ∙ mesh-order m.0,
+  ap (λ (w : List Text). is_command (codes "shape") (subcommand_of program w)) m.1 ∙ mesh-shape m.0,
+  ap (λ (w : List Text). has_flag (codes "order") (subcommand_of program w)) m.1 ∙ mesh-order m.0,
 )
 
 -- with `--order` they are taken, and ask for the order block
@@ -82,8 +91,8 @@ pub mesh_order-words : (words : List (String Global)) → AreMeshOrder words →
 unfolding AreTaken asks_order asks_shape
 mesh_order-words words m = (
   ap (fault_of program) m.1 ∙ mesh_order-fault m.0,
-  ap (λ (w : List Text). is_shape (subcommand_of program w)) m.1 ∙ mesh_order-shape m.0,
-  ap (λ (w : List Text). has_order (subcommand_of program w)) m.1 ∙ mesh_order-order m.0,
+  ap (λ (w : List Text). is_command (codes "shape") (subcommand_of program w)) m.1 ∙ mesh_order-shape m.0,
+  ap (λ (w : List Text). has_flag (codes "order") (subcommand_of program w)) m.1 ∙ mesh_order-order m.0,
 )
 
 -- the program's name and `shape` are taken, and ask for shapes
@@ -91,8 +100,8 @@ pub shape-words : (words : List (String Global)) → AreShape words → AreTaken
 unfolding AreTaken asks_order asks_shape
 shape-words words m = (
   ap (fault_of program) m.1 ∙ shape-fault m.0,
-  ap (λ (w : List Text). is_shape (subcommand_of program w)) m.1 ∙ shape-shape m.0,
-  ap (λ (w : List Text). has_order (subcommand_of program w)) m.1 ∙ shape-order m.0,
+  ap (λ (w : List Text). is_command (codes "shape") (subcommand_of program w)) m.1 ∙ shape-shape m.0,
+  ap (λ (w : List Text). has_flag (codes "order") (subcommand_of program w)) m.1 ∙ shape-order m.0,
 )
 
 -- with `--order` they are taken, and ask for both
@@ -100,8 +109,8 @@ pub shape_order-words : (words : List (String Global)) → AreShapeOrder words �
 unfolding AreTaken asks_order asks_shape
 shape_order-words words m = (
   ap (fault_of program) m.1 ∙ shape_order-fault m.0,
-  ap (λ (w : List Text). is_shape (subcommand_of program w)) m.1 ∙ shape_order-shape m.0,
-  ap (λ (w : List Text). has_order (subcommand_of program w)) m.1 ∙ shape_order-order m.0,
+  ap (λ (w : List Text). is_command (codes "shape") (subcommand_of program w)) m.1 ∙ shape_order-shape m.0,
+  ap (λ (w : List Text). has_flag (codes "order") (subcommand_of program w)) m.1 ∙ shape_order-order m.0,
 )
 
 -- a parse that succeeds takes the words
@@ -109,17 +118,11 @@ pub taken : (a : App) (words : List (String Global)) → a ≡ program → (is_s
 unfolding AreTaken
 taken a words e h = subst (λ (p : App). fault_of p (texts_of words) ≡ []) e (h (ap is_simple_and_free e ∙ is-simple_and_free))
 
--- and its matches tell whether the order was asked for
-pub asked : (a : App) (words : List (String Global)) (met : Option (Text × List Row)) (r : Bool) → a ≡ program → r ≡ has_order met
-    → (is_simple a ≡ true → met ≡ subcommand_of a (texts_of words)) → r ≡ asks_order words
-unfolding asks_order
-asked a words met r e q h = q ∙ ap has_order (h (ap is_simple e ∙ is-simple)) ∙ ap (λ (p : App). has_order (subcommand_of p (texts_of words))) e
-
--- and which command it was
-pub asked-shape : (a : App) (words : List (String Global)) (met : Option (Text × List Row)) (r : Bool) → a ≡ program → r ≡ is_shape met
-    → (is_simple a ≡ true → met ≡ subcommand_of a (texts_of words)) → r ≡ asks_shape words
-unfolding asks_shape
-asked-shape a words met r e q h = q ∙ ap is_shape (h (ap is_simple e ∙ is-simple)) ∙ ap (λ (p : App). is_shape (subcommand_of p (texts_of words))) e
+-- and its matches tell the task
+pub task-is : (a : App) (words : List (String Global)) (met : Option (Text × List Row)) (task : Task) → a ≡ program → IsTaskOf met task
+    → (is_simple a ≡ true → met ≡ subcommand_of a (texts_of words)) → IsTask words task
+task-is a words met task e k h =
+    subst (λ (m : Option (Text × List Row)). IsTaskOf m task) (h (ap is_simple e ∙ is-simple) ∙ ap (λ (p : App). subcommand_of p (texts_of words)) e) k
 
 none-among : (k : ErrorKind) (kinds : Kinds) → kinds ≡ [] → IsAmong k kinds → ⊥
 none-among k [] e h = h
@@ -135,10 +138,68 @@ refused a words k e h n t =
       | inr m ↦ none-among k (fault_of a (texts_of words)) (ap (λ (p : App). fault_of p (texts_of words)) e ∙ t) m
     ]
 
--- the flag, where its text is there and where it is not
-pub order-some : (f : Found) (t : Text) (r : Bool) → Some t ≡ first_value f (codes "order") → r ≡ bytes_eq t (codes "true") → r ≡ order_in (rows_of f)
-order-some f t r e q =
-    q ∙ ap (λ (o : Option Text). option_map_or (λ text. bytes_eq text (codes "true")) o false) (e ∙ first_value-rows f (codes "order"))
+-- a flag, where its text is there and where it is not
+pub flag-some : (f : Found) (flag t : Text) (r : Bool) → Some t ≡ first_value f flag → r ≡ bytes_eq t (codes "true") → r ≡ flag_in flag (rows_of f)
+flag-some f flag t r e q = q ∙ ap (λ (o : Option Text). option_map_or (λ text. bytes_eq text (codes "true")) o false) (e ∙ first_value-rows f flag)
 
-pub order-none : (f : Found) → None ≡ first_value f (codes "order") → false ≡ order_in (rows_of f)
-order-none f e = ap (λ (o : Option Text). option_map_or (λ text. bytes_eq text (codes "true")) o false) (e ∙ first_value-rows f (codes "order"))
+pub flag-none : (f : Found) (flag : Text) → None ≡ first_value f flag → false ≡ flag_in flag (rows_of f)
+flag-none f flag e = ap (λ (o : Option Text). option_map_or (λ text. bytes_eq text (codes "true")) o false) (e ∙ first_value-rows f flag)
+
+-- a number, where its text is there and where it is not
+pub number-some : (f : Found) (option t : Text) (most n : ℕ) → Some t ≡ first_value f option → n ≡ number_up_to most t → n ≡ number_in option most (rows_of f)
+number-some f option t most n e q = q ∙ ap (λ (o : Option Text). option_map_or (number_up_to most) o 0) (e ∙ first_value-rows f option)
+
+pub number-none : (f : Found) (option : Text) (most : ℕ) → None ≡ first_value f option → 0 ≡ number_in option most (rows_of f)
+number-none f option most e = ap (λ (o : Option Text). option_map_or (number_up_to most) o 0) (e ∙ first_value-rows f option)
+
+-- ---- the number of a text
+
+-- a text that is read as a number of at most `most` names it
+pub number-read : (text : Text) (most n : ℕ) → IsNumeral 10 (without_leading_plus text) → digits_value 10 (without_leading_plus text) < 2 ^ 32 → n ≡ digits_value 10 (without_leading_plus text) → n ≤ most → n ≡ number_up_to most text
+number-read text most n numeral small e within =
+    let taken : is_unsigned_in 0 most text ≡ true = Accepts-accepts false (Unsigned 0 most) text (numeral, omega arith, omega arith, omega arith) in
+    e ∙ sym (ap (λ (b : Bool). cond b (digits_value 10 (without_leading_plus text)) 0) taken)
+
+-- any other names none, where the most is below 2^32
+pub number-not_read : (text : Text) (most : ℕ) → most < 2 ^ 32 → (IsNumeral 10 (without_leading_plus text) → digits_value 10 (without_leading_plus text) < 2 ^ 32 → digits_value 10 (without_leading_plus text) ≤ most → ⊥) → 0 ≡ number_up_to most text
+number-not_read text most small none = by (is_unsigned_in 0 most text) refl
+  where
+    by : (b : Bool) → is_unsigned_in 0 most text ≡ b → 0 ≡ number_up_to most text
+    by true t = let a = accepts-Accepts false (Unsigned 0 most) text t in absurd (none a.0 (omega (arith, a.3)) a.3)
+    by false t = sym (ap (λ (b : Bool). cond b (digits_value 10 (without_leading_plus text)) 0) t)
+
+-- ---- which words read a file
+
+mesh-read : (name : Text) → is_command (codes "gen") (subcommand_of program (name ∷ codes "mesh" ∷ [])) ≡ false
+unfolding clap_on_literals
+mesh-read name = refl
+
+mesh_order-read : (name : Text) → is_command (codes "gen") (subcommand_of program (name ∷ codes "mesh" ∷ codes "--order" ∷ [])) ≡ false
+unfolding clap_on_literals
+mesh_order-read name = refl
+
+shape-read : (name : Text) → is_command (codes "gen") (subcommand_of program (name ∷ codes "shape" ∷ [])) ≡ false
+unfolding clap_on_literals
+shape-read name = refl
+
+shape_order-read : (name : Text) → is_command (codes "gen") (subcommand_of program (name ∷ codes "shape" ∷ codes "--order" ∷ [])) ≡ false
+unfolding clap_on_literals
+shape_order-read name = refl
+
+-- the commands `mesh` and `shape` do
+pub read-words : (words : List (String Global)) → AreMesh words ⊎ AreMeshOrder words ⊎ AreShape words ⊎ AreShapeOrder words → ReadsFile words
+unfolding asks_drawn
+read-words words (inl m) = ap (λ (w : List Text). is_command (codes "gen") (subcommand_of program w)) m.1 ∙ mesh-read m.0
+read-words words (inr (inl m)) = ap (λ (w : List Text). is_command (codes "gen") (subcommand_of program w)) m.1 ∙ mesh_order-read m.0
+read-words words (inr (inr (inl m))) = ap (λ (w : List Text). is_command (codes "gen") (subcommand_of program w)) m.1 ∙ shape-read m.0
+read-words words (inr (inr (inr m))) = ap (λ (w : List Text). is_command (codes "gen") (subcommand_of program w)) m.1 ∙ shape_order-read m.0
+
+-- ---- the task and the words
+
+pub reads-file : (words : List (String Global)) (asked : Asked) → IsTask words (Report asked) → ReadsFile words × (asked.shape ≡ asks_shape words) × (asked.order ≡ asks_order words)
+unfolding asks_drawn asks_shape asks_order
+reads-file words asked k = k
+
+pub draws-file : (words : List (String Global)) (drawn : Drawn) → IsTask words (Draw drawn) → DrawsFile words × (drawn.count ≡ drawn_count words) × (drawn.start ≡ drawn_start words) × (drawn.text ≡ asks_text words)
+unfolding asks_drawn drawn_count drawn_start asks_text
+draws-file words drawn k = k

@@ -93,3 +93,10 @@ told-line left ended h k =
     chosen : (o : Option (Vec ℕ Global)) → IsSomeAnd o (λ v. IsFaultLine left v.items) → IsFaultLine left (line_or o ended.run.status)
     chosen None t = absurd t
     chosen (Some v) t = t
+
+-- a run that draws a file ends with status 0 or 1 where the output did not fail
+pub drawn-completes : (words : Type 0) (status : ℕ) (rose : Type 0) → status ≤ 2 ⊎ (status ≡ 4) → (status ≡ 2 → words → ⊥) → (status ≡ 4 → rose) → words → (rose → ⊥) → (status ≡ 0) ⊎ (status ≡ 1)
+drawn-completes words status rose (inl le) usage write w nr =
+    let ne2 : status ≢ 2 = λ e. usage e w in
+    elim (cases_eq status 1) [ inl e ↦ inr e | inr ne1 ↦ inl (omega (arith, le, ne1, ne2)) ]
+drawn-completes words status rose (inr e) usage write w nr = absurd (nr (write e))

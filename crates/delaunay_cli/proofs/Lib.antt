@@ -3,3 +3,4 @@ pub mod CommandLine
 pub mod Judging
 pub mod OpeningLines
 pub mod ShapesOfSet
+pub mod DrawnFiles

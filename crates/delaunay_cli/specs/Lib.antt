@@ -4,3 +4,5 @@ pub mod Statuses
 pub mod Words
 pub mod Run
 pub mod Endings
+pub mod Tasks
+pub mod Drawn

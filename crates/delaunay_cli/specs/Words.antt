@@ -1,10 +1,12 @@
 -- The command line, as `clap` reads it.
-use Rattle.std.specs.Prelude.{◌≡◌, List, [], ◌∷◌, Bool, true, false, pos, Option, Some, codes, map, string_bytes, String}
+use Rattle.std.specs.Prelude.{◌≡◌, ℕ, List, [], ◌∷◌, Bool, true, false, pos, Option, Some, codes, map, string_bytes, String, if◌then◌else◌}
 use Rattle.std.specs.Option.{option_map_or}
 use Rattle.std.specs.Str.{bytes_eq}
+use Rattle.std.specs.Str.Parse.{digits_value, without_leading_plus}
 use Rattle.std.specs.declared.alloc.Global.{Global}
 use Rattle.clap.specs.Words.{App, Row, Rule, Text, fault_of, first_of, new_app, new_rule, subcommand_of, with_rule, with_subcommand}
 use Rattle.clap.specs.Simple.{on_top}
+use Rattle.clap.specs.ValueTests.{is_unsigned_in}
 use Rattle.clap.specs.declared.builder.action.ArgAction.TheVariants.{SetTrue}
 use Rattle.clap.specs.declared.builder.value_parser.ValueParser.TheVariants.{Signed}
 
@@ -16,20 +18,46 @@ workers_option = record (new_rule (codes "workers")) {
   parser = Some (Signed (pos 1) (pos 1));
 }
 
--- the flag `--order`
-abbrev pub order_flag : Rule
-order_flag = record (new_rule (codes "order")) { long = Some (codes "order"); action = Some SetTrue }
+-- a flag of this name
+abbrev pub flag_of : Text → Rule
+flag_of name = record (new_rule name) { long = Some name; action = Some SetTrue }
 
--- a command of this name, which takes both
+-- a command of this name, which takes `--workers` and the flag `--order`
 abbrev pub command_of : Text → App
-command_of name = with_rule (with_rule (new_app name) workers_option) order_flag
+command_of name = with_rule (with_rule (new_app name) workers_option) (flag_of (codes "order"))
 
--- the program: it takes the word of a command, and has the two
+-- an option of this name that is required, and takes a number from 0 to the most
+abbrev pub number_option : Text → ℕ → Rule
+number_option name most = record (new_rule name) {
+  long = Some name;
+  required = true;
+  parser = Some (Signed (pos 0) (pos most));
+}
+
+-- the most that `--count` takes, and the most that `--start` takes
+abbrev pub most_count : ℕ
+most_count = 262140
+
+abbrev pub most_start : ℕ
+most_start = 2147483647
+
+-- the command `gen`
+abbrev pub gen_command : App
+gen_command =
+    with_rule
+    (with_rule
+    (with_rule (with_rule (new_app (codes "gen")) workers_option) (number_option (codes "count") most_count))
+    (number_option (codes "start") most_start))
+    (flag_of (codes "text"))
+
+-- the program: it takes the word of a command, and has the three
 abbrev pub program : App
 program =
     with_subcommand
+    (with_subcommand
     (with_subcommand (on_top (λ top. record top { subcommand_required = true }) (new_app (codes "delaunay"))) (command_of (codes "mesh")).top)
-    (command_of (codes "shape")).top
+    (command_of (codes "shape")).top)
+    gen_command.top
 
 -- the words of a command line as texts
 abbrev pub texts_of : List (String Global) → List Text
@@ -59,22 +87,57 @@ AreShapeOrder words = AreNameAnd (codes "shape" ∷ codes "--order" ∷ []) word
 unfoldable pub AreTaken : List (String Global) → Type 0
 AreTaken words = fault_of program (texts_of words) ≡ []
 
--- the flag `order` was given, by the matches of the command
-abbrev pub order_in : List Row → Bool
-order_in rows = option_map_or (λ text. bytes_eq text (codes "true")) (first_of (codes "order") rows) false
+-- a flag was given, by the matches of the command
+abbrev pub flag_in : Text → List Row → Bool
+flag_in flag rows = option_map_or (λ text. bytes_eq text (codes "true")) (first_of flag rows) false
 
--- the flag `order` was given, by the name and the matches of the command that was met
-abbrev pub has_order : Option (Text × List Row) → Bool
-has_order met = option_map_or (λ found. order_in found.1) met false
+-- a flag was given, by the name and the matches of the command that was met
+abbrev pub has_flag : Text → Option (Text × List Row) → Bool
+has_flag flag met = option_map_or (λ found. flag_in flag found.1) met false
 
 -- the words ask for the order block
 unfoldable pub asks_order : List (String Global) → Bool
-asks_order words = has_order (subcommand_of program (texts_of words))
+asks_order words = has_flag (codes "order") (subcommand_of program (texts_of words))
 
--- the command that was met is `shape`
-abbrev pub is_shape : Option (Text × List Row) → Bool
-is_shape met = option_map_or (λ found. bytes_eq found.0 (codes "shape")) met false
+-- the command that was met has this name
+abbrev pub is_command : Text → Option (Text × List Row) → Bool
+is_command name met = option_map_or (λ found. bytes_eq found.0 name) met false
 
 -- the words ask for the shapes
 unfoldable pub asks_shape : List (String Global) → Bool
-asks_shape words = is_shape (subcommand_of program (texts_of words))
+asks_shape words = is_command (codes "shape") (subcommand_of program (texts_of words))
+
+-- the words ask for a file that is drawn, and not for one that is read
+unfoldable pub asks_drawn : List (String Global) → Bool
+asks_drawn words = is_command (codes "gen") (subcommand_of program (texts_of words))
+
+-- they ask for its text
+unfoldable pub asks_text : List (String Global) → Bool
+asks_text words = has_flag (codes "text") (subcommand_of program (texts_of words))
+
+-- the number that a text names, where `clap` takes it for one from 0 to the most; a minus may stand before a 0 alone
+abbrev pub number_up_to : ℕ → Text → ℕ
+number_up_to most text = if is_unsigned_in 0 most text then digits_value 10 (without_leading_plus text) else 0
+
+-- the number of an option, by the matches of the command
+abbrev pub number_in : Text → ℕ → List Row → ℕ
+number_in option most rows = option_map_or (number_up_to most) (first_of option rows) 0
+
+-- the number of an option, by the name and the matches of the command that was met
+abbrev pub number_of : Text → ℕ → Option (Text × List Row) → ℕ
+number_of option most met = option_map_or (λ found. number_in option most found.1) met 0
+
+-- how many edits the words ask for, and the start of the draws
+unfoldable pub drawn_count : List (String Global) → ℕ
+drawn_count words = number_of (codes "count") most_count (subcommand_of program (texts_of words))
+
+unfoldable pub drawn_start : List (String Global) → ℕ
+drawn_start words = number_of (codes "start") most_start (subcommand_of program (texts_of words))
+
+-- a file is read
+abbrev pub ReadsFile : List (String Global) → Type 0
+ReadsFile words = asks_drawn words ≡ false
+
+-- a file is drawn, and none is read
+abbrev pub DrawsFile : List (String Global) → Type 0
+DrawsFile words = asks_drawn words ≡ true

@@ -1,11 +1,14 @@
-//! The program's top call: from the bytes of an edit file to the text of its mesh and of its shapes.
+//! The program's top call: from the bytes of an edit file to the text of its mesh and of its shapes, and from two numbers to the
+//! text of a drawn file or the summary of its mesh.
 #![tactic(auto)]
 
+mod drawn;
 mod mesh;
 mod meshed;
 mod outcome;
 mod replies;
 mod shapes;
+mod task;
 mod telling;
 mod top;
 mod words;
@@ -13,6 +16,8 @@ mod words;
 pub use outcome::Run;
 pub use top::run;
 
+#[cfg(test)]
+mod drawn_tests;
 #[cfg(test)]
 mod line_tests;
 #[cfg(test)]

@@ -1,6 +1,6 @@
 //! From an accepted file to the report of its mesh and of its shapes.
 
-ghost use Rattle.std.specs.Prelude.{◌≡◌, ◌≢◌, ◌⊎◌, ◌↔◌, ◌≤◌, ◌<◌, ◌+◌, ◌^◌, [], false, true, length, All, IfOk, OnOk, OnErr, IsErr, option_map, Vec, ℕ};
+ghost use Rattle.std.specs.Prelude.{◌≡◌, ◌≢◌, ◌⊎◌, ◌↔◌, ◌≤◌, ◌<◌, ◌+◌, ◌^◌, [], false, true, length, All, IfOk, IsOk, OnOk, OnErr, option_map, Vec, ℕ};
 ghost use Rattle.std.specs.declared.alloc.Global.{Global};
 ghost use Rattle.std.specs.Io.KnownBytes.{Appends, Keeps};
 ghost use Rattle.byte_ends.specs.Ends.{AppendsFront, Rose};
@@ -16,7 +16,7 @@ use crate::meshed::meshed;
 use crate::outcome::Run;
 use crate::replies::replies_by_tag;
 use crate::shapes::shapes;
-use crate::words::Asked;
+use crate::task::Asked;
 use alpha_complex::Shape;
 use byte_ends::{Failed, Sink};
 use cell_store::Mesh;
@@ -94,6 +94,51 @@ fn report<R>(
     })
 }
 
+/// Why a file has no report.
+#[derive(Clone, Copy, Debug, PartialEq, Eq)]
+pub enum NoReport {
+    /// Its point lines lie in one plane.
+    Flat,
+    /// There was no memory for it.
+    Memory,
+}
+
+/// Makes the history of one thread of the file's lines, and the report of what it leaves, with a shape for each radius and with the
+/// tags of the history, each where it is asked for.
+///
+/// # Errors
+///
+/// `Flat` where the points of the file have no four independent ones among them, and `Memory`.
+pub fn history_and_report<R>(
+    rt: &R,
+    alloc: Global,
+    file: &File,
+    asked: Asked,
+) -> Result<(Vec<Entry>, Report), NoReport>
+    requires lines { length file.now.points.items + length file.now.edits.items + 4 < 2 ^ 32 }
+    requires radii { All (λ radius. radius < 2 ^ 30) file.now.radii.items }
+    ensures kept { IfOk result (λ made. made.0.items ≡ history_of (content file.now)) }
+    ensures report { IfOk result (λ made. parts_of made.1 ≡ report_of asked.shape asked.order (content file.now) made.0.items) }
+    ensures order { IfOk result (λ made. IsAscending made.1.points.items) }
+    ensures counted { IfOk result (λ made. AreCounted (shapes_seen made.1.shapes.items)) }
+    ensures solid { IsOk result → is_solid (content file.now).points ≡ true }
+    ensures flat { result ≡ Err NoReport.Flat → is_solid (content file.now).points ≡ false }
+{
+    let Ok(four) = find_four(&file.points) else {
+        return Err(NoReport::Flat);
+    };
+    let Ok(mesh) = meshed(alloc, &file.points, &file.edits, four) else {
+        return Err(NoReport::Memory);
+    };
+    let Ok(kept) = history(alloc, &mesh) else {
+        return Err(NoReport::Memory);
+    };
+    let Ok(report) = report(rt, alloc, asked, file, &mesh, &kept) else {
+        return Err(NoReport::Memory);
+    };
+    Ok((kept, report))
+}
+
 /// Makes the history of one thread of the file's lines, and writes the report of what it leaves, with a shape for each radius and
 /// with the tags of the history, each where it is asked for.
 pub fn mesh<R, O: Sink>(rt: &R, alloc: Global, file: &File, asked: Asked, out: &mut O) -> Run
@@ -111,17 +156,10 @@ pub fn mesh<R, O: Sink>(rt: &R, alloc: Global, file: &File, asked: Asked, out: &
     ensures later { O.faults out.old ≤ O.faults out.new }
     ensures fault { result.status ≡ 4 → Rose (O.faults out.old) (O.faults out.new) }
 {
-    let Ok(four) = find_four(&file.points) else {
-        return Run::ended(alloc, 6);
-    };
-    let Ok(mesh) = meshed(alloc, &file.points, &file.edits, four) else {
-        return Run::ended(alloc, 1);
-    };
-    let Ok(kept) = history(alloc, &mesh) else {
-        return Run::ended(alloc, 1);
-    };
-    let Ok(report) = report(rt, alloc, asked, file, &mesh, &kept) else {
-        return Run::ended(alloc, 1);
+    let (kept, report) = match history_and_report(rt, alloc, file, asked) {
+        Ok(made) => made,
+        Err(NoReport::Flat) => return Run::ended(alloc, 6),
+        Err(NoReport::Memory) => return Run::ended(alloc, 1),
     };
     match put_report(out, &report) {
         Ok(()) => Run { status: 0, kept },

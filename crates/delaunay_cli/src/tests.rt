@@ -306,7 +306,7 @@ fn takes_words(rt: HostRuntime) -> Result<(), Fail> {
 }
 
 // Words that are refused.
-const USAGE: [&[&str]; 34] = [
+const USAGE: [&[&str]; 39] = [
     &[],
     &["delaunay"],
     &["delaunay", "draw"],
@@ -341,6 +341,11 @@ const USAGE: [&[&str]; 34] = [
     &["delaunay", "shape", "--grid", "4"],
     &["delaunay", "shape", "--order", "--order"],
     &["delaunay", "gen", "--count", "1"],
+    &["delaunay", "gen", "--start", "1"],
+    &["delaunay", "gen", "--count", "262141", "--start", "0"],
+    &["delaunay", "gen", "--count", "0", "--start", "2147483648"],
+    &["delaunay", "gen", "--count", "-1", "--start", "0"],
+    &["delaunay", "gen", "--count=1", "--start=1", "--order"],
 ];
 
 #[test]

@@ -9,12 +9,17 @@ ghost use Rattle.edit_files.specs.Grammar.{line_limit, IsFile};
 ghost use Rattle.delaunay_cli.specs.Statuses.{IsEarly, IsFaultLine, Tells, TellsFault};
 ghost use Rattle.delaunay_cli.specs.Run.{HasFault, IsJudged, Reads, Writes, WritesFront, IsSolidFile, history_of, input_limit};
 ghost use Rattle.delaunay_cli.specs.Endings.{line_of, status_of_words};
-ghost use Rattle.delaunay_cli.specs.Words.{AreMesh, AreMeshOrder, AreShape, AreShapeOrder, AreTaken, asks_order, asks_shape};
+ghost use Rattle.edit_history.specs.Histories.{IsLegal};
+ghost use Rattle.edit_history.specs.OneThread.{Keeps as FileKeeps};
+ghost use Rattle.delaunay_cli.specs.Drawn.{drawn_file, drawn_text, kept_of_drawn};
+ghost use Rattle.delaunay_cli.specs.Words.{AreMesh, AreMeshOrder, AreShape, AreShapeOrder, AreTaken, DrawsFile, ReadsFile, asks_order, asks_shape, asks_text};
 
+use crate::drawn::draw;
 use crate::mesh::mesh;
 use crate::outcome::Run;
+use crate::task::{Asked, Task};
 use crate::telling::{fault_line, plain_line};
-use crate::words::{Asked, WordsRefused, read_words};
+use crate::words::{WordsRefused, read_words};
 use byte_ends::{Reached, ReadError, Sink, Source, read_to_limit, write_all};
 use edit_files::{ReadRefused, read_file};
 use std::alloc::Global;
@@ -78,16 +83,16 @@ fn status_of(why: WordsRefused) -> u8
     }
 }
 
-// Reads the source, and does what the words ask for.
-fn work<R, S: Source, O: Sink>(
+// Reads a file from the source, and writes the report of its mesh.
+fn report<R, S: Source, O: Sink>(
     rt: &R,
     alloc: Global,
-    words: &[String],
+    asked: Asked,
     src: &mut S,
     out: &mut O,
 ) -> Ended
     ensures statuses { result.run.status ≤ 7 }
-    ensures usage { result.run.status ≢ 1 → (result.run.status ≡ 2 ↔ (AreTaken words.now → ⊥)) }
+    ensures no_usage { result.run.status ≢ 2 }
     ensures read_fault { result.run.status ≡ 3 → Rose (S.faults src.old) (S.faults src.new) }
     ensures write_fault { result.run.status ≡ 4 → Rose (O.faults out.old) (O.faults out.new) }
     ensures too_long { (IsEarly result.run.status → ⊥)
@@ -105,22 +110,13 @@ fn work<R, S: Source, O: Sink>(
         → result.run.kept.items ≡ history_of file) }
     ensures none_kept { result.run.status ≢ 0 → result.run.status ≢ 4 → result.run.kept.items ≡ [] }
     ensures written { result.run.status ≡ 0
-        → IfSome (S.left src.old) (λ bytes. Writes (asks_shape words.now) (asks_order words.now) bytes (O.holds out.old) (O.holds out.new) result.run.kept.items) }
+        → IfSome (S.left src.old) (λ bytes. Writes asked.shape asked.order bytes (O.holds out.old) (O.holds out.new) result.run.kept.items) }
     ensures front { result.run.status ≡ 4
-        → IfSome (S.left src.old) (λ bytes. WritesFront (asks_shape words.now) (asks_order words.now) bytes (O.holds out.old) (O.holds out.new) result.run.kept.items) }
+        → IfSome (S.left src.old) (λ bytes. WritesFront asked.shape asked.order bytes (O.holds out.old) (O.holds out.new) result.run.kept.items) }
     ensures nothing { result.run.status ≢ 0 → result.run.status ≢ 4 → Keeps (O.holds out.old) (O.holds out.new) }
     ensures reads { Reads (S.left src.old) (S.left src.new) result.run.status }
     ensures to_its_end { result.run.status ≡ 0 → IsAtEnd (S.left src.new) }
 {
-    let asked = match read_words(alloc, words) {
-        Ok(asked) => asked,
-        Err(why) => {
-            return Ended {
-                run: Run::ended(alloc, status_of(why)),
-                bad_line: None,
-            };
-        }
-    };
     let mut bytes = Vec::new(alloc);
     let status = match read_to_limit(src, TOO_MANY, &mut bytes) {
         Ok(Reached::End) => return judge(rt, alloc, &bytes, asked, out),
@@ -134,11 +130,72 @@ fn work<R, S: Source, O: Sink>(
     }
 }
 
-/// Reads an edit file from `src`, writes the report of its mesh to `out`, and tells in one line on `err` what went wrong.
+// Does what the words ask for.
+fn work<R, S: Source, O: Sink>(
+    rt: &R,
+    alloc: Global,
+    words: &[String],
+    src: &mut S,
+    out: &mut O,
+) -> Ended
+    ensures statuses { result.run.status ≤ 7 }
+    ensures usage { result.run.status ≢ 1 → (result.run.status ≡ 2 ↔ (AreTaken words.now → ⊥)) }
+    ensures read_fault { result.run.status ≡ 3 → Rose (S.faults src.old) (S.faults src.new) }
+    ensures write_fault { result.run.status ≡ 4 → Rose (O.faults out.old) (O.faults out.new) }
+    ensures too_long { ReadsFile words.now → (IsEarly result.run.status → ⊥)
+        → IfSome (S.left src.old) (λ bytes. result.run.status ≡ 7 ↔ (input_limit < length bytes)) }
+    ensures bad_line { ReadsFile words.now → (IsEarly result.run.status → ⊥) → result.run.status ≢ 7
+        → IfSome (S.left src.old) (λ bytes. result.run.status ≡ 5 ↔ HasFault bytes) }
+    ensures named { result.run.status ≡ 5
+        → IsSomeAnd result.bad_line (λ line. IsFaultLine (S.left src.old) line.items) }
+    ensures unnamed { result.run.status ≢ 5 → result.bad_line ≡ None }
+    ensures not_solid { ReadsFile words.now → (IsEarly result.run.status → ⊥) → result.run.status ≢ 7
+        → IfSome (S.left src.old) (λ bytes. (file : Content) → IsFile line_limit bytes file
+        → (result.run.status ≡ 6 ↔ (is_solid file.points ≡ false))) }
+    ensures kept { ReadsFile words.now → (result.run.status ≡ 0) ⊎ (result.run.status ≡ 4)
+        → IfSome (S.left src.old) (λ bytes. (file : Content) → IsFile line_limit bytes file
+        → result.run.kept.items ≡ history_of file) }
+    ensures none_kept { result.run.status ≢ 0 → result.run.status ≢ 4 → result.run.kept.items ≡ [] }
+    ensures written { ReadsFile words.now → result.run.status ≡ 0
+        → IfSome (S.left src.old) (λ bytes. Writes (asks_shape words.now) (asks_order words.now) bytes (O.holds out.old) (O.holds out.new) result.run.kept.items) }
+    ensures front { ReadsFile words.now → result.run.status ≡ 4
+        → IfSome (S.left src.old) (λ bytes. WritesFront (asks_shape words.now) (asks_order words.now) bytes (O.holds out.old) (O.holds out.new) result.run.kept.items) }
+    ensures nothing { result.run.status ≢ 0 → result.run.status ≢ 4 → Keeps (O.holds out.old) (O.holds out.new) }
+    ensures reads { ReadsFile words.now → Reads (S.left src.old) (S.left src.new) result.run.status }
+    ensures to_its_end { ReadsFile words.now → result.run.status ≡ 0 → IsAtEnd (S.left src.new) }
+    ensures source { DrawsFile words.now → src.new ≡ src.old }
+    ensures drawn_statuses { DrawsFile words.now → result.run.status ≤ 2 ⊎ (result.run.status ≡ 4) }
+    ensures drawn_kept { DrawsFile words.now → (result.run.status ≡ 0) ⊎ (result.run.status ≡ 4)
+        → result.run.kept.items ≡ kept_of_drawn (asks_text words.now) (drawn_file words.now) }
+    ensures drawn_written { DrawsFile words.now → result.run.status ≡ 0
+        → Appends (O.holds out.old) (O.holds out.new) (drawn_text words.now result.run.kept.items) }
+    ensures drawn_front { DrawsFile words.now → result.run.status ≡ 4
+        → AppendsFront (O.holds out.old) (O.holds out.new) (drawn_text words.now result.run.kept.items) }
+{
+    let task = match read_words(alloc, words) {
+        Ok(task) => task,
+        Err(why) => {
+            return Ended {
+                run: Run::ended(alloc, status_of(why)),
+                bad_line: None,
+            };
+        }
+    };
+    match task {
+        Task::Report(asked) => report(rt, alloc, asked, src, out),
+        Task::Draw(drawn) => Ended {
+            run: draw(rt, alloc, drawn, out),
+            bad_line: None,
+        },
+    }
+}
+
+/// Does what the words ask for, and tells in one line on `err` what went wrong.
 ///
-/// `rt` is the runtime, and `words` are those of the command line: the program's name, and what `clap` takes for the two
-/// commands `mesh` and `shape`, each with `--workers 1` and `--order`. With `shape` the report has a block for each radius of the
-/// file, in its order.
+/// `rt` is the runtime, and `words` are those of the command line: the program's name, and what `clap` takes for the three
+/// commands. `mesh` and `shape`, each with `--workers 1` and `--order`, read an edit file from `src` and write the report of its
+/// mesh to `out`; with `shape` the report has a block for each radius of the file, in its order. `gen`, with `--count`, `--start`,
+/// `--workers 1` and `--text`, reads nothing: it draws an edit file, and writes the summary of its mesh or the file's text.
 pub fn run<R, S: Source, O: Sink, E: Sink>(
     rt: &R,
     alloc: Global,
@@ -153,39 +210,54 @@ pub fn run<R, S: Source, O: Sink, E: Sink>(
     ensures usage { result.status ≢ 1 → (result.status ≡ 2 ↔ (AreTaken words.now → ⊥)) }
     ensures read_fault { result.status ≡ 3 → Rose (S.faults src.old) (S.faults src.new) }
     ensures write_fault { result.status ≡ 4 → Rose (O.faults out.old) (O.faults out.new) }
-    ensures too_long { (IsEarly result.status → ⊥)
+    ensures too_long { ReadsFile words.now → (IsEarly result.status → ⊥)
         → IfSome (S.left src.old) (λ bytes. result.status ≡ 7 ↔ (input_limit < length bytes)) }
-    ensures bad_line { (IsEarly result.status → ⊥) → result.status ≢ 7
+    ensures bad_line { ReadsFile words.now → (IsEarly result.status → ⊥) → result.status ≢ 7
         → IfSome (S.left src.old) (λ bytes. result.status ≡ 5 ↔ HasFault bytes) }
-    ensures not_solid { (IsEarly result.status → ⊥) → result.status ≢ 7
+    ensures not_solid { ReadsFile words.now → (IsEarly result.status → ⊥) → result.status ≢ 7
         → IfSome (S.left src.old) (λ bytes. (file : Content) → IsFile line_limit bytes file
         → (result.status ≡ 6 ↔ (is_solid file.points ≡ false))) }
 
-    // The words `mesh` and `shape` alone are taken, and ask for no order block; with `--order` they ask for it.
+    // The words `mesh` and `shape` alone are taken, and ask for no order block; with `--order` they ask for it. Both read a file.
     ensures mesh { AreMesh words.now → AreTaken words.now × (asks_shape words.now ≡ false) × (asks_order words.now ≡ false) }
     ensures mesh_order { AreMeshOrder words.now → AreTaken words.now × (asks_shape words.now ≡ false) × (asks_order words.now ≡ true) }
     ensures shape { AreShape words.now → AreTaken words.now × (asks_shape words.now ≡ true) × (asks_order words.now ≡ false) }
     ensures shape_order { AreShapeOrder words.now → AreTaken words.now × (asks_shape words.now ≡ true) × (asks_order words.now ≡ true) }
+    ensures read { AreMesh words.now ⊎ AreMeshOrder words.now ⊎ AreShape words.now ⊎ AreShapeOrder words.now → ReadsFile words.now }
 
-    // What is kept, read, written and told.
-    ensures kept { (result.status ≡ 0) ⊎ (result.status ≡ 4)
+    // What is kept, read, written and told, where a file is read.
+    ensures kept { ReadsFile words.now → (result.status ≡ 0) ⊎ (result.status ≡ 4)
         → IfSome (S.left src.old) (λ bytes. (file : Content) → IsFile line_limit bytes file
         → result.kept.items ≡ history_of file) }
     ensures none_kept { result.status ≢ 0 → result.status ≢ 4 → result.kept.items ≡ [] }
-    ensures written { result.status ≡ 0
+    ensures written { ReadsFile words.now → result.status ≡ 0
         → IfSome (S.left src.old) (λ bytes. Writes (asks_shape words.now) (asks_order words.now) bytes (O.holds out.old) (O.holds out.new) result.kept.items) }
-    ensures front { result.status ≡ 4
+    ensures front { ReadsFile words.now → result.status ≡ 4
         → IfSome (S.left src.old) (λ bytes. WritesFront (asks_shape words.now) (asks_order words.now) bytes (O.holds out.old) (O.holds out.new) result.kept.items) }
     ensures nothing { result.status ≢ 0 → result.status ≢ 4 → Keeps (O.holds out.old) (O.holds out.new) }
-    ensures reads { Reads (S.left src.old) (S.left src.new) result.status }
-    ensures to_its_end { result.status ≡ 0 → IsAtEnd (S.left src.new) }
+    ensures reads { ReadsFile words.now → Reads (S.left src.old) (S.left src.new) result.status }
+    ensures to_its_end { ReadsFile words.now → result.status ≡ 0 → IsAtEnd (S.left src.new) }
     ensures told { Tells (S.left src.old) (E.holds err.old) (E.holds err.new) (E.faults err.old) (E.faults err.new) result.status }
 
     // A solid file within the limit is meshed, unless memory is wanting or the source or the output fails.
-    ensures complete { AreTaken words.now
+    ensures complete { AreTaken words.now → ReadsFile words.now
         → IfSome (S.left src.old) (λ bytes. IsSolidFile bytes
         → (Rose (S.faults src.old) (S.faults src.new) → ⊥) → (Rose (O.faults out.old) (O.faults out.new) → ⊥)
         → (result.status ≡ 0) ⊎ (result.status ≡ 1)) }
+
+    // Where a file is drawn, the source is as before, and what is kept and written goes by the words alone.
+    ensures source { DrawsFile words.now → src.new ≡ src.old }
+    ensures drawn_statuses { DrawsFile words.now → result.status ≤ 2 ⊎ (result.status ≡ 4) }
+    ensures drawn_kept { DrawsFile words.now → (result.status ≡ 0) ⊎ (result.status ≡ 4)
+        → result.kept.items ≡ kept_of_drawn (asks_text words.now) (drawn_file words.now) }
+    ensures drawn_history { DrawsFile words.now → asks_text words.now ≡ false → (result.status ≡ 0) ⊎ (result.status ≡ 4)
+        → IsLegal result.kept.items × FileKeeps (drawn_file words.now).points (drawn_file words.now).edits 1 result.kept.items }
+    ensures drawn_written { DrawsFile words.now → result.status ≡ 0
+        → Appends (O.holds out.old) (O.holds out.new) (drawn_text words.now result.kept.items) }
+    ensures drawn_front { DrawsFile words.now → result.status ≡ 4
+        → AppendsFront (O.holds out.old) (O.holds out.new) (drawn_text words.now result.kept.items) }
+    ensures drawn_complete { AreTaken words.now → DrawsFile words.now → (Rose (O.faults out.old) (O.faults out.new) → ⊥)
+        → (result.status ≡ 0) ⊎ (result.status ≡ 1) }
 {
     let ended = work(rt, alloc, words, src, out);
     tell(err, &ended);

@@ -1,8 +1,9 @@
 use Rattle.std.proofs.Common.{arith}
-use Rattle.delaunay_cli.proofs.Judging.{completes, told-line}
+use Rattle.delaunay_cli.proofs.Judging.{completes, drawn-completes, told-line}
 use Rattle.delaunay_cli.specs.Endings.{line_of}
 use Rattle.delaunay_cli.specs.Words.{AreTaken}
-use Rattle.delaunay_cli.proofs.CommandLine.{mesh-words, mesh_order-words, shape-words, shape_order-words}
+use Rattle.delaunay_cli.proofs.CommandLine.{mesh-words, mesh_order-words, read-words, shape-words, shape_order-words}
+use Rattle.delaunay_cli.proofs.DrawnFiles.{drawn-history}
 use Rattle.byte_ends.specs.Ends.{Rose}
 use Rattle.delaunay_cli.proofs.top.run.Goals as goal
 
@@ -17,11 +18,11 @@ returns-clause-told g c =
 
 pub returns-clause-complete : goal.returns-clause-complete
 returns-clause-complete g c =
-    λ words.
+    λ words r.
     completes (AreTaken c.args.words.now) (g.S.Source.left c.args.src.now) c.work-ended.result.run.status
     (Rose (g.S.Source.faults c.args.src.now) (g.S.Source.faults c.work-ended.new.src)) (Rose (g.O.Sink.faults c.args.out.now) (g.O.Sink.faults c.work-ended.new.out))
     c.work-ended.ensures.statuses (λ e. (c.work-ended.ensures.usage (λ k. absurd (omega (arith, e, k)))).0 e) c.work-ended.ensures.read_fault c.work-ended.ensures.write_fault
-    c.work-ended.ensures.too_long c.work-ended.ensures.bad_line c.work-ended.ensures.not_solid words
+    (c.work-ended.ensures.too_long r) (c.work-ended.ensures.bad_line r) (c.work-ended.ensures.not_solid r) words
 
 pub returns-clause-mesh : goal.returns-clause-mesh
 returns-clause-mesh g c = mesh-words c.args.words.now
@@ -34,3 +35,16 @@ returns-clause-shape g c = shape-words c.args.words.now
 
 pub returns-clause-shape_order : goal.returns-clause-shape_order
 returns-clause-shape_order g c = shape_order-words c.args.words.now
+
+pub returns-clause-read : goal.returns-clause-read
+returns-clause-read g c = read-words c.args.words.now
+
+pub returns-clause-drawn_history : goal.returns-clause-drawn_history
+returns-clause-drawn_history g c =
+    λ d t s. drawn-history c.args.words.now c.work-ended.result.run.kept.items t (c.work-ended.ensures.drawn_kept d s)
+
+pub returns-clause-drawn_complete : goal.returns-clause-drawn_complete
+returns-clause-drawn_complete g c =
+    λ words d nr.
+    drawn-completes (AreTaken c.args.words.now) c.work-ended.result.run.status (Rose (g.O.Sink.faults c.args.out.now) (g.O.Sink.faults c.work-ended.new.out))
+    (c.work-ended.ensures.drawn_statuses d) (λ e. (c.work-ended.ensures.usage (λ k. absurd (omega (arith, e, k)))).0 e) c.work-ended.ensures.write_fault words nr

@@ -1,0 +1,31 @@
+-- What is written of a file that is drawn.
+use Rattle.std.specs.Prelude.{ℕ, Bool, true, false, List, [], String, if◌then◌else◌}
+use Rattle.std.specs.declared.alloc.Global.{Global}
+use Rattle.edit_history.specs.declared.history.Entry.{Entry}
+use Rattle.edit_files.specs.Content.{Content}
+use Rattle.edit_files.specs.Generator.{generated}
+use Rattle.edit_files.specs.Writing.{file_text}
+use Rattle.mesh_files.specs.Summary.{summary_text}
+use Rattle.delaunay_cli.specs.Report.{report_of}
+use Rattle.delaunay_cli.specs.Run.{history_of}
+use Rattle.delaunay_cli.specs.Words.{asks_text, drawn_count, drawn_start}
+
+-- the summary of a history of a file's lines, with a shape for each of its radii
+abbrev pub summary_of : Content → List Entry → List ℕ
+summary_of file h = summary_text (report_of true false file h)
+
+-- what is written of a drawn file: its text where that is asked for, and else the summary of what a history of its lines leaves
+abbrev pub text_of_drawn : Bool → Content → List Entry → List ℕ
+text_of_drawn text file h = if text then file_text file else summary_of file h
+
+-- what is kept of it: no history where its text is asked for, and else that of one thread
+abbrev pub kept_of_drawn : Bool → Content → List Entry
+kept_of_drawn text file = if text then [] else history_of file
+
+-- the file that the words ask for
+abbrev pub drawn_file : List (String Global) → Content
+drawn_file words = generated (drawn_count words) (drawn_start words)
+
+-- what is written of it
+abbrev pub drawn_text : List (String Global) → List Entry → List ℕ
+drawn_text words h = text_of_drawn (asks_text words) (drawn_file words) h

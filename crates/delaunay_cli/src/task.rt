@@ -1,0 +1,34 @@
+//! What a run is asked to do.
+
+ghost use Rattle.std.specs.Prelude.{◌<◌, ◌≤◌};
+
+/// What a report is to have.
+#[derive(Clone, Copy, Debug)]
+pub struct Asked {
+    /// Whether the report is to have a shape for each radius.
+    pub shape: bool,
+    /// Whether the report is to tell the tags of the history, in its order.
+    pub order: bool,
+}
+
+/// What file is to be drawn, and what is to be written of it.
+#[derive(Clone, Copy, Debug)]
+pub struct Drawn {
+    /// How many edits it has, at most 262,140.
+    pub count: u32,
+    /// Where its draws start, below 2^31.
+    pub start: u32,
+    /// Whether its text is to be written, and not the summary of its mesh.
+    pub text: bool,
+    pub ghost few: { count ≤ 262140 },
+    pub ghost small: { start < 2147483648 },
+}
+
+/// What the words of a run ask for.
+#[derive(Clone, Copy, Debug)]
+pub enum Task {
+    /// The report of a file that is read.
+    Report(Asked),
+    /// A file that is drawn.
+    Draw(Drawn),
+}
