@@ -1,0 +1,4 @@
+use Rattle.cell_stars.proofs.steps.place_of.Given as goal
+
+abbrev pub ghosts-place_in : goal.ghosts-place_in
+ghosts-place_in a = record { name = a.blank.name; parts = a.blank.parts }

@@ -1,0 +1,6 @@
+pub mod Grids
+pub mod Swaps
+pub mod Places
+pub mod Stars
+pub mod Plans
+pub mod Moves

@@ -1,0 +1,83 @@
+-- What goes and comes in an exchange, and where.
+use Rattle.std.specs.Prelude.{◌≡◌, ◌⊎◌, ℕ, true, List, Option, Some, map}
+use Rattle.std.specs.List.Sorted.{IsStrictlySortedBy}
+use Rattle.point_order.specs.declared.cell.Cell.{Cell}
+use Rattle.point_order.specs.CellOrder.{cell_cmp}
+use Rattle.point_order.specs.Facets.{points_of}
+use Rattle.point_order.specs.Sets.{IsIn, IsAscending}
+use Rattle.cell_stars.specs.Places.{Placed, IsStarred, at, lies_in, touches_in, star_at}
+use Rattle.cell_stars.specs.Plans.{IsPutAt, StarsAfter}
+
+-- a list is the star of some vertex of the cell in the bucket
+pub record IsStarFor (b : Placed) (c : Cell) (star : List ℕ) : Type 0 where
+  pub vertex : ℕ
+  pub has : IsIn vertex (points_of c)
+  pub inside : lies_in b.place vertex ≡ true
+  pub places : (i : ℕ) → (IsIn i star → IsStarred b.keys b.stars vertex i) × (IsStarred b.keys b.stars vertex i → IsIn i star)
+
+-- a place that is freed has a gone cell that touches the bucket
+pub record IsFreed (b : Placed) (gone : List Cell) (i : ℕ) : Type 0 where
+  pub cell : Cell
+  pub there : at b.slots i ≡ Some cell
+  pub goes : IsIn cell gone
+  pub touches : touches_in b.place cell ≡ true
+
+-- the places of all gone cells
+pub record AreFreed (b : Placed) (gone : List Cell) (freed : List ℕ) : Type 0 where
+  pub each : (i : ℕ) → IsIn i freed → IsFreed b gone i
+  pub all : (i : ℕ) (c : Cell) → at b.slots i ≡ Some c → IsIn c gone → touches_in b.place c ≡ true → IsIn i freed
+
+-- the cell stands at a place that is not freed
+pub record Stays (b : Placed) (freed : List ℕ) (c : Cell) : Type 0 where
+  pub place : ℕ
+  pub there : at b.slots place ≡ Some c
+  pub kept : IsIn place freed → ⊥
+
+-- a fresh cell that touches the bucket and does not stay there
+pub record IsComing (b : Placed) (freed : List ℕ) (fresh : List Cell) (c : Cell) : Type 0 where
+  pub comes : IsIn c fresh
+  pub touches : touches_in b.place c ≡ true
+  pub new : (i : ℕ) → at b.slots i ≡ Some c → IsIn i freed
+
+-- all of them
+pub record AreComing (b : Placed) (freed : List ℕ) (fresh coming : List Cell) : Type 0 where
+  pub each : (c : Cell) → IsIn c coming → IsComing b freed fresh c
+  pub all : (c : Cell) → IsIn c fresh → touches_in b.place c ≡ true → IsIn c coming ⊎ Stays b freed c
+
+-- a place for a cell: one that is freed, or has none
+abbrev pub IsVacant : List (Option Cell) → List ℕ → ℕ → Type 0
+IsVacant slots freed i = (c : Cell) → at slots i ≡ Some c → IsIn i freed
+
+-- a vertex in the bucket of a cell that goes or comes
+pub record AreTouched (b : Placed) (freed : List ℕ) (placed : List (ℕ × Cell)) (vertices : List ℕ) : Type 0 where
+  pub inside : (p : ℕ) → IsIn p vertices → lies_in b.place p ≡ true
+  pub gone : (i p : ℕ) (c : Cell) → IsIn i freed → at b.slots i ≡ Some c → IsIn p (points_of c) → lies_in b.place p ≡ true → IsIn p vertices
+  pub fresh : (i p : ℕ) (c : Cell) → IsIn (i, c) placed → IsIn p (points_of c) → lies_in b.place p ≡ true → IsIn p vertices
+
+-- The numbers of the stars of these vertices after an exchange: one for each, which had its star or none.
+pub record AreNumbered (b : Placed) (vertices : List ℕ) (turns : List (ℕ × ℕ)) : Type 0 where
+  pub each : (n p : ℕ) → IsIn (n, p) turns → IsIn p vertices
+  pub all : (p : ℕ) → IsIn p vertices → (n : ℕ) × IsIn (n, p) turns
+  pub apart : (n p q : ℕ) → IsIn (n, p) turns → IsIn (n, q) turns → p ≡ q
+  pub single : (n m p : ℕ) → IsIn (n, p) turns → IsIn (m, p) turns → n ≡ m
+  pub vacant : (n p q i : ℕ) → IsIn (n, p) turns → IsStarred b.keys b.stars q i → (star_at b.stars n).0 ≡ q → IsIn i (star_at b.stars n).1 → q ≡ p
+
+-- the stars of the vertices after an exchange, at their numbers
+pub record AreStarsAfter (b : Placed) (freed : List ℕ) (placed : List (ℕ × Cell)) (turns : List (ℕ × ℕ)) (writes : List (ℕ × (ℕ × List ℕ))) : Type 0 where
+  pub each : (n : ℕ) (s : ℕ × List ℕ) → IsIn (n, s) writes → IsIn (n, s.0) turns
+  pub all : (n p : ℕ) → IsIn (n, p) turns → (s : List ℕ) × IsIn (n, (p, s)) writes
+  pub places : (n i : ℕ) (s : ℕ × List ℕ) → IsIn (n, s) writes → (IsIn i s.1 → StarsAfter freed placed b s.0 i) × (StarsAfter freed placed b s.0 i → IsIn i s.1)
+
+-- the star that was written for the vertex has a place
+pub record IsWritten (writes : List (ℕ × (ℕ × List ℕ))) (p n : ℕ) : Type 0 where
+  pub places : List ℕ
+  pub listed : IsIn (n, (p, places)) writes
+  pub place : ℕ
+  pub filled : IsIn place places
+
+-- the vertices with stars after them
+pub record AreKeysAfter (old : List (ℕ × ℕ)) (writes : List (ℕ × (ℕ × List ℕ))) (new : List (ℕ × ℕ)) : Type 0 where
+  pub order : IsAscending (map (λ k. k.0) new)
+  pub from : (p n : ℕ) → IsIn (p, n) new → IsWritten writes p n ⊎ (IsIn (p, n) old × ((m : ℕ) (s : List ℕ) → IsIn (m, (p, s)) writes → ⊥))
+  pub kept : (p n : ℕ) → IsIn (p, n) old → ((m : ℕ) (s : List ℕ) → IsIn (m, (p, s)) writes → ⊥) → IsIn (p, n) new
+  pub written : (p n : ℕ) → IsWritten writes p n → IsIn (p, n) new

@@ -1,0 +1,89 @@
+-- Exchanges that are planned, and then carried out without memory.
+use Rattle.std.specs.Prelude.{◌≡◌, ◌<◌, ◌↔◌, ◌⊎◌, ℕ, true, List, [], ◌∷◌, length, map, Option, None, Some, slice_set}
+use Rattle.point_order.specs.declared.cell.Cell.{Cell}
+use Rattle.point_order.specs.Facets.{points_of}
+use Rattle.point_order.specs.Sets.{IsIn, IsAscending}
+use Rattle.cell_stars.specs.Places.{Placed, AreStars, IsMoved, IsStarred, at, cells_of, lies_in, touches_in, star_at, swapped_at}
+
+-- A plan: the places and the stars in longer lists, where there are too few; for each place that changes what stands there after,
+-- for each star that changes the star after it; the keys where they change.
+pub record PlanView : Type 0 where
+  pub grown : Option (List (Option Cell))
+  pub slots : List (ℕ × Option Cell)
+  pub more : Option (List (ℕ × List ℕ))
+  pub stars : List (ℕ × (ℕ × List ℕ))
+  pub keys : Option (List (ℕ × ℕ))
+
+-- the longer list, where there is one
+abbrev pub or_else : {X : Type 0} → Option X → X → X
+or_else None x = x
+or_else (Some y) x = y
+
+-- the list with other elements at some places
+abbrev pub set_all : {X : Type 0} → List (ℕ × X) → List X → List X
+set_all [] l = l
+set_all (s ∷ ss) l = set_all ss (slice_set l s.0 s.1)
+
+-- the numbers of the changes are below n
+abbrev pub AreBelow : {X : Type 0} → ℕ → List (ℕ × X) → Type 0
+AreBelow n [] = Unit {0}
+AreBelow n (s ∷ ss) = (s.0 < n) × AreBelow n ss
+
+-- the bucket after a plan
+abbrev pub done : PlanView → Placed → Placed
+done p b = record b { slots = set_all p.slots (or_else p.grown b.slots); stars = set_all p.stars (or_else p.more b.stars); keys = or_else p.keys b.keys }
+
+-- the plan can be carried out in the bucket
+pub record Allows (p : PlanView) (b : Placed) : Type 0 where
+  pub slots : AreBelow (length (or_else p.grown b.slots)) p.slots
+  pub stars : AreBelow (length (or_else p.more b.stars)) p.stars
+  pub after : AreStars (done p b)
+
+-- the plan makes the exchange in the bucket
+pub record IsPlanFor (gone fresh : List Cell) (b : Placed) (p : PlanView) : Type 0 where
+  pub allows : Allows p b
+  pub cells : cells_of (done p b).slots ≡ swapped_at b.place gone fresh (cells_of b.slots)
+
+-- ---- what the planner finds
+
+-- some cell of the list is put at the place, and has the point, which lies in the bucket
+pub record IsPutAt (place : Option (ℕ × ℕ)) (placed : List (ℕ × Cell)) (p i : ℕ) : Type 0 where
+  pub cell : Cell
+  pub put : IsIn (i, cell) placed
+  pub has : IsIn p (points_of cell)
+  pub inside : lies_in place p ≡ true
+
+-- The freed places are those of the gone cells that touch the bucket. The cells put are the fresh ones that touch it and do not stay
+-- there, each at one place of its own, which is freed or has no cell.
+pub record AreFor (gone fresh : List Cell) (freed : List ℕ) (placed : List (ℕ × Cell)) (old : Placed) : Type 0 where
+  pub freed_gone : (i : ℕ) (c : Cell) → IsIn i freed → at old.slots i ≡ Some c → IsIn c gone × (touches_in old.place c ≡ true)
+  pub gone_freed : (i : ℕ) (c : Cell) → at old.slots i ≡ Some c → IsIn c gone → touches_in old.place c ≡ true → IsIn i freed
+  pub placed_fresh : (i : ℕ) (c : Cell) → IsIn (i, c) placed → IsIn c fresh × (touches_in old.place c ≡ true)
+  pub fresh_placed : (c : Cell) → IsIn c fresh → touches_in old.place c ≡ true → ((i : ℕ) × IsIn (i, c) placed) ⊎ ((i : ℕ) × (at old.slots i ≡ Some c) × (IsIn i freed → ⊥))
+  pub new : (i j : ℕ) (c : Cell) → IsIn (i, c) placed → at old.slots j ≡ Some c → IsIn j freed
+  pub vacant : (i : ℕ) (c d : Cell) → IsIn (i, c) placed → at old.slots i ≡ Some d → IsIn i freed
+  pub apart : (i : ℕ) (c d : Cell) → IsIn (i, c) placed → IsIn (i, d) placed → c ≡ d
+  pub single : (i j : ℕ) (c : Cell) → IsIn (i, c) placed → IsIn (j, c) placed → i ≡ j
+
+-- What stands at a place after is what was put there, or else what stood there, where the place was not freed.
+pub record ArePut (freed : List ℕ) (placed : List (ℕ × Cell)) (old new : List (Option Cell)) : Type 0 where
+  pub put : (i : ℕ) (c : Cell) → IsIn (i, c) placed → at new i ≡ Some c
+  pub kept : (i : ℕ) (c : Cell) → at old i ≡ Some c → (IsIn i freed → ⊥) → at new i ≡ Some c
+  pub only : (i : ℕ) (c : Cell) → at new i ≡ Some c → IsIn (i, c) placed ⊎ ((at old i ≡ Some c) × (IsIn i freed → ⊥))
+
+-- A star has after what it had but for freed places, and the places of the cells put that have its vertex.
+abbrev pub StarsAfter : List ℕ → List (ℕ × Cell) → Placed → ℕ → ℕ → Type 0
+StarsAfter freed placed old p i = (IsStarred old.keys old.stars p i × (IsIn i freed → ⊥)) ⊎ IsPutAt old.place placed p i
+
+-- all stars do, and none is empty
+pub record AreRewritten (freed : List ℕ) (placed : List (ℕ × Cell)) (old : Placed) (keys : List (ℕ × ℕ)) (stars : List (ℕ × List ℕ)) : Type 0 where
+  pub order : IsAscending (map (λ k. k.0) keys)
+  pub starred : (p i : ℕ) → IsStarred keys stars p i ↔ StarsAfter freed placed old p i
+  pub filled : (k : ℕ × ℕ) → IsIn k keys → (i : ℕ) × IsStarred keys stars k.0 i
+
+-- Then the stars are those of the cells, and the exchange is made.
+abbrev pub RewrittenIsMoved : Type 0
+RewrittenIsMoved =
+    (gone fresh : List Cell) (freed : List ℕ) (placed : List (ℕ × Cell)) (old new : Placed) → new.place ≡ old.place →
+    AreStars old → AreFor gone fresh freed placed old → ArePut freed placed old.slots new.slots → AreRewritten freed placed old new.keys new.stars →
+    AreStars new × IsMoved gone fresh old new

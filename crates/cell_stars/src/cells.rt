@@ -1,0 +1,183 @@
+//! The cells of a bucket.
+
+ghost use Rattle.std.specs.Prelude.{◌≡◌, ◌↔◌, ◌⊎◌, ◌+◌, ◌*◌, ◌-◌, ◌≤◌, ◌^◌, ℕ, None, Some, IsSome, true, [], length, MatchOption, IsPermutation, IfOk, if◌then◌else◌, ◌==◌};
+ghost use Rattle.std.specs.List.{filter};
+ghost use Rattle.point_order.specs.Facets.{points_of};
+ghost use Rattle.point_order.specs.Sets.{IsIn, is_among};
+ghost use Rattle.cell_stars.specs.Places.{at, cells_of, lies_in, touches_in, star_at, IsStarred, AreStars};
+ghost use Rattle.cell_stars.specs.Plans.{done, Allows, IsPlanFor};
+ghost use Rattle.cell_stars.specs.Stars.{cells_left, cells_around, cells_to_come};
+
+use crate::grid::Grid;
+use crate::plan::{Around, Plan, put_all, put_list};
+use crate::star::{BucketCells, Star, StarCells, cell_at};
+use crate::steps::{Steps, place_counted, place_of};
+use point_order::{Cell, Point};
+use smallvec::SmallVec;
+use std::alloc::{AllocError, Global};
+use std::marker::Model;
+use std::sync::ledger::Ledger;
+
+/// The cells of a bucket at numbered places, each once, and for each of their vertices in the bucket its star.
+#[derive(Debug, Drop)]
+pub struct Cells {
+    place: Option<(Grid, u32)>,
+    pub(crate) slots: Vec<Option<Cell>>,
+    pub(crate) keys: Vec<(Point, u32)>,
+    pub(crate) stars: Vec<Around>,
+    // Places and stars that are likely to be free.
+    pub(crate) free: Vec<u32>,
+    pub(crate) spare: Vec<u32>,
+}
+
+impl Model for Cells {
+    ghost use Rattle.cell_stars.specs.Places.{Placed, AreStars};
+
+    ghost Value = { Placed };
+
+    ghost view = { λ b. record { place = b.place; slots = b.slots.items; keys = b.keys.items; stars = b.stars.items } };
+
+    ghost invariant = { λ b. AreStars (record { place = b.place; slots = b.slots.items; keys = b.keys.items; stars = b.stars.items }) };
+}
+
+// The places in a star, where it is the vertex's own.
+fn places_in(stars: &[Around], number: u32, p: Point) -> &[u32]
+    ensures { result.now ≡ (if (star_at stars.now number).0 == p then (star_at stars.now number).1 else []) }
+{
+    match stars.get(number as usize) {
+        Some(around) => own_places(around, p),
+        None => &[],
+    }
+}
+
+// The places, where they are the vertex's.
+fn own_places(around: &Around, p: Point) -> &[u32]
+    ensures { result.now ≡ (if around.now.0 == p then around.now.1 else []) }
+{
+    if around.vertex == p { &around.places } else { &[] }
+}
+
+impl Cells {
+    /// No cells, in a bucket that has not stood anywhere. It takes no memory.
+    pub fn new(alloc: Global) -> Cells
+        ensures { result ≡ record { place = None; slots = []; keys = []; stars = [] } }
+    {
+        Cells {
+            place: None,
+            slots: Vec::new(alloc),
+            keys: Vec::new(alloc),
+            stars: Vec::new(alloc),
+            free: Vec::new(alloc),
+            spare: Vec::new(alloc),
+        }
+    }
+
+    /// Where the bucket stands.
+    pub fn place(&self) -> Option<(Grid, u32)>
+        ensures { result ≡ self.now.place }
+    {
+        self.place
+    }
+
+    /// The cells, in a bucket that stands in the grid at the number from now on. It is to be new, or to have stood there.
+    pub fn placed(self, grid: Grid, number: u32) -> Cells
+        requires { (self.place ≡ None) ⊎ (self.place ≡ Some (grid, number)) }
+        ensures { result ≡ record self { place = Some (grid, number) } }
+    {
+        Cells {
+            place: Some((grid, number)),
+            ..self
+        }
+    }
+
+    /// The cells, each once, in any order.
+    pub fn cells(&self) -> BucketCells<'_>
+        ensures { IsPermutation (cells_of self.now.slots) (cells_to_come result) }
+    {
+        BucketCells { slots: &self.slots }
+    }
+
+    // The places of the cells at a vertex, by comparisons that are counted.
+    fn star<L: Ledger>(&self, p: Point, steps: &mut Steps<L>) -> &[u32]
+        ensures places { (i : ℕ) → IsIn i result.now ↔ IsStarred self.now.keys self.now.stars p i }
+        ensures stars { AreStars self.now }
+        ensures rises { steps.old ≤ steps.new }
+        ensures cost { 2 ^ (steps.new - steps.old) ≤ 2 * length self.now.keys + 1 }
+    {
+        match place_counted(&self.keys, p, steps) {
+            Ok(i) => places_in(&self.stars, self.keys[i].1, p),
+            Err(_) => &[],
+        }
+    }
+
+    // The places of the cells at a vertex.
+    pub(crate) fn star_of(&self, p: Point) -> &[u32]
+        ensures places { (i : ℕ) → IsIn i result.now ↔ IsStarred self.now.keys self.now.stars p i }
+        ensures stars { AreStars self.now }
+    {
+        match place_of(&self.keys, p) {
+            Ok(i) => places_in(&self.stars, self.keys[i].1, p),
+            Err(_) => &[],
+        }
+    }
+
+    /// The cells at a point of the bucket, in ascending order, by comparisons of keys that are counted.
+    pub fn star_counted<L: Ledger>(&self, p: Point, steps: &mut Steps<L>) -> Star<'_>
+        requires { lies_in self.now.place p ≡ true }
+        ensures cells { cells_left result ≡ filter (λ c. is_among p (points_of c)) (cells_of self.now.slots) }
+        ensures rises { steps.old ≤ steps.new }
+        ensures cost { 2 ^ (steps.new - steps.old) ≤ 2 * length self.now.keys + 1 }
+    {
+        Star {
+            slots: &self.slots,
+            star: self.star(p, steps),
+            bound: None,
+        }
+    }
+
+    /// The cells at a point of the bucket, in ascending order.
+    pub fn cells_at(&self, p: Point) -> Star<'_>
+        requires { lies_in self.now.place p ≡ true }
+        ensures { cells_left result ≡ filter (λ c. is_among p (points_of c)) (cells_of self.now.slots) }
+    {
+        Star {
+            slots: &self.slots,
+            star: self.star_of(p),
+            bound: None,
+        }
+    }
+
+    /// The cells at a point of the bucket, in any order.
+    pub fn cells_around(&self, p: Point) -> StarCells<'_>
+        requires { lies_in self.now.place p ≡ true }
+        ensures { (c : Cell) → IsIn c (cells_around result) ↔ IsIn c (filter (λ c. is_among p (points_of c)) (cells_of self.now.slots)) }
+    {
+        StarCells {
+            slots: &self.slots,
+            star: self.star_of(p),
+        }
+    }
+
+    /// Carries a plan out, without memory.
+    pub fn carry_out(&mut self, plan: Plan)
+        requires { Allows plan self.old }
+        ensures { self.new ≡ done plan self.old }
+    {
+        let Plan {
+            grown,
+            slots,
+            more,
+            stars,
+            keys,
+            free,
+            spare,
+        } = plan;
+        put_list(&mut self.slots, grown);
+        put_all(&mut self.slots, slots);
+        put_list(&mut self.stars, more);
+        put_all(&mut self.stars, stars);
+        put_list(&mut self.keys, keys);
+        self.free = free;
+        self.spare = spare;
+    }
+}

@@ -1,0 +1,262 @@
+//! What goes and comes in an exchange, by places.
+
+ghost use Rattle.std.specs.Prelude.{◌≡◌, ◌↔◌, ◌⊎◌, ◌≤◌, ◌<◌, ℕ, true, None, Some, IfOk, OnOk, length, MatchOption, MatchBool, IsTrue};
+ghost use Rattle.std.specs.List.{zip};
+ghost use Rattle.std.specs.List.Sorted.{IsStrictlySortedBy};
+ghost use Rattle.point_order.specs.declared.cell.Cell.{Cell};
+ghost use Rattle.point_order.specs.CellOrder.{cell_cmp};
+ghost use Rattle.point_order.specs.Facets.{points_of};
+ghost use Rattle.point_order.specs.Sets.{IsIn, IsAscending, is_among};
+ghost use Rattle.cell_stars.specs.Places.{at, lies_in, touches_in, AreStars};
+ghost use Rattle.cell_stars.specs.Plans.{AreFor};
+ghost use Rattle.cell_stars.specs.Moves.{IsStarFor, AreFreed, AreComing, IsVacant, Stays};
+
+use crate::cells::Cells;
+use crate::order::{cells_in_order, compare, numbers_in_order};
+use crate::star::cell_at;
+use point_order::{Cell, Point};
+use std::alloc::{AllocError, Global};
+
+// What goes and comes in an exchange: the places that are freed, ascending, and the cells that are put at places.
+#[derive(Debug, Drop)]
+pub(crate) struct Moves {
+    pub(crate) freed: Vec<u32>,
+    pub(crate) placed: Vec<(u32, Cell)>,
+}
+
+// Whether the two are one.
+fn are_same(a: &Cell, b: &Cell) -> bool
+    ensures { IsTrue result ↔ (a.now ≡ b.now) }
+{
+    compare(a, b).is_eq()
+}
+
+// Whether the number is one of these.
+pub(crate) fn has_number(list: &[u32], i: u32) -> bool
+    requires { IsAscending list.now }
+    ensures { result ≡ is_among i list.now }
+{
+    list.binary_search(&i).is_ok()
+}
+
+// The place of the cell among these, if it stands at one of them.
+fn place_among(slots: &[Option<Cell>], star: &[u32], cell: &Cell) -> Option<u32>
+    ensures { MatchOption result ((i : ℕ) → IsIn i star.now → at slots.now i ≡ Some cell.now → ⊥) (λ i. at slots.now i ≡ Some cell.now) }
+{
+    for i in star {
+        if let Some(other) = cell_at(slots, *i) {
+            if are_same(other, cell) {
+                return Some(*i);
+            }
+        }
+    }
+    None
+}
+
+// Whether no cell stands at the place.
+fn is_open(slots: &[Option<Cell>], i: u32) -> bool
+    ensures open { IsTrue result → at slots.now i ≡ None }
+    ensures behind { length slots.now ≤ i → result ≡ true }
+{
+    match slots.get(i as usize) {
+        Some(slot) => slot.is_none(),
+        None => true,
+    }
+}
+
+// Adds open places from a number on, until there are so many places. All that are there are to be before it.
+fn add_open(
+    list: &mut Vec<u32>,
+    slots: &[Option<Cell>],
+    count: usize,
+    first: u32,
+) -> Result<(), AllocError>
+    requires order { IsAscending list.old.items }
+    requires before { (i : ℕ) → IsIn i list.old.items → i < first }
+    requires few { length list.old.items ≤ count }
+    ensures order { OnOk result (IsAscending list.new.items) }
+    ensures count { OnOk result (length list.new.items ≡ count) }
+    ensures open { OnOk result ((i : ℕ) → IsIn i list.new.items → IsIn i list.old.items ⊎ (at slots.now i ≡ None)) }
+{
+    let mut next = first;
+    while list.len() < count {
+        if is_open(slots, next) {
+            list.push(next)?;
+        }
+        match next.checked_add(1) {
+            Some(after) => next = after,
+            None => return Err(AllocError),
+        }
+    }
+    Ok(())
+}
+
+// Places that are likely to be open, and those that are freed, as far as so many are wanted.
+fn likely_places(
+    alloc: Global,
+    slots: &[Option<Cell>],
+    free: &[u32],
+    freed: &[u32],
+    count: usize,
+) -> Result<Vec<u32>, AllocError>
+    ensures { IfOk result (λ list. (i : ℕ) → IsIn i list.items → IsIn i freed.now ⊎ (at slots.now i ≡ None)) }
+{
+    let mut list = Vec::from_slice(alloc, freed)?;
+    for i in free {
+        if list.len() < count && is_open(slots, *i) {
+            list.push(*i)?;
+        }
+    }
+    Ok(list)
+}
+
+// So many places, ascending, each freed or open.
+pub(crate) fn places_for(
+    alloc: Global,
+    slots: &[Option<Cell>],
+    free: &[u32],
+    freed: &[u32],
+    count: usize,
+) -> Result<Vec<u32>, AllocError>
+    ensures order { IfOk result (λ list. IsAscending list.items) }
+    ensures count { IfOk result (λ list. length list.items ≡ count) }
+    ensures vacant { IfOk result (λ list. (i : ℕ) → IsIn i list.items → IsVacant slots.now freed.now i) }
+{
+    let mut list = numbers_in_order(likely_places(alloc, slots, free, freed, count)?);
+    list.truncate(count);
+    let first = match list.last() {
+        Some(last) => last.checked_add(1).ok_or(AllocError)?,
+        None => 0,
+    };
+    add_open(&mut list, slots, count, first)?;
+    Ok(list)
+}
+
+// Each place beside its cell.
+fn pairs(
+    alloc: Global,
+    places: &[u32],
+    cells: &[Cell],
+) -> Result<Vec<(u32, Cell)>, AllocError>
+    ensures { IfOk result (λ list. list.items ≡ zip places.now cells.now) }
+{
+    places
+        .iter()
+        .zip(cells)
+        .map(|(i, c)| (*i, *c))
+        .collect(alloc)
+}
+
+impl Cells {
+    // Whether the point lies in the bucket.
+    pub(crate) fn has_here(&self, p: Point) -> bool
+        ensures { result ≡ lies_in self.now.place p }
+    {
+        match self.place() {
+            Some((grid, number)) => grid.bucket_of(p) == number,
+            None => false,
+        }
+    }
+
+    // Whether a finite vertex of the cell lies in the bucket.
+    pub(crate) fn is_touched_by(&self, cell: &Cell) -> bool
+        ensures { result ≡ touches_in self.now.place cell.now }
+    {
+        cell.points().iter().any(|p| self.has_here(*p))
+    }
+
+    // The shortest star of a vertex of the cell.
+    fn shortest_star(&self, cell: &Cell) -> Option<&[u32]>
+        ensures stars { AreStars self.now }
+        ensures star { MatchOption result ((p : ℕ) → IsIn p (points_of cell.now) → lies_in self.now.place p ≡ true → ⊥) (λ star. IsStarFor self.now cell.now star.now) }
+    {
+        let mut shortest: Option<&[u32]> = None;
+        for p in cell.points() {
+            if self.has_here(*p) {
+                shortest = Some(shorter(shortest, self.star_of(*p)));
+            }
+        }
+        shortest
+    }
+
+    // The place of the cell, if it stands at one.
+    fn place_of_cell(&self, cell: &Cell) -> Option<u32>
+        ensures { MatchOption result ((i : ℕ) → at self.now.slots i ≡ Some cell.now → touches_in self.now.place cell.now ≡ true → ⊥) (λ i. at self.now.slots i ≡ Some cell.now) }
+    {
+        place_among(&self.slots, self.shortest_star(cell)?, cell)
+    }
+
+    // The places of the gone cells, ascending.
+    fn freed_by(&self, alloc: Global, gone: &[Cell]) -> Result<Vec<u32>, AllocError>
+        ensures order { IfOk result (λ freed. IsAscending freed.items) }
+        ensures freed { IfOk result (λ freed. AreFreed self.now gone.now freed.items) }
+    {
+        let mut freed = Vec::new(alloc);
+        for c in gone {
+            if self.is_touched_by(c) {
+                if let Some(i) = self.place_of_cell(c) {
+                    freed.push(i)?;
+                }
+            }
+        }
+        Ok(numbers_in_order(freed))
+    }
+
+    // Whether the cell stands at a place that is not freed.
+    fn stays(&self, cell: &Cell, freed: &[u32]) -> bool
+        requires { IsAscending freed.now }
+        ensures { MatchBool result (Stays self.now freed.now cell.now) (touches_in self.now.place cell.now ≡ true → (i : ℕ) → at self.now.slots i ≡ Some cell.now → IsIn i freed.now) }
+    {
+        match self.place_of_cell(cell) {
+            Some(i) => !has_number(freed, i),
+            None => false,
+        }
+    }
+
+    // The fresh cells that touch the bucket and do not stay there, in order.
+    fn coming_by(
+        &self,
+        alloc: Global,
+        fresh: &[Cell],
+        freed: &[u32],
+    ) -> Result<Vec<Cell>, AllocError>
+        requires { IsAscending freed.now }
+        ensures order { IfOk result (λ coming. IsStrictlySortedBy cell_cmp coming.items) }
+        ensures coming { IfOk result (λ coming. AreComing self.now freed.now fresh.now coming.items) }
+    {
+        let mut coming = Vec::new(alloc);
+        for c in fresh {
+            if self.is_touched_by(c) && !self.stays(c, freed) {
+                coming.push(*c)?;
+            }
+        }
+        Ok(cells_in_order(coming))
+    }
+
+    // What goes and comes.
+    pub(crate) fn moves(
+        &self,
+        alloc: Global,
+        gone: &[Cell],
+        fresh: &[Cell],
+    ) -> Result<Moves, AllocError>
+        ensures order { IfOk result (λ moves. IsAscending moves.freed.items) }
+        ensures made { IfOk result (λ moves. AreFor gone.now fresh.now moves.freed.items moves.placed.items self.now) }
+    {
+        let freed = self.freed_by(alloc, gone)?;
+        let coming = self.coming_by(alloc, fresh, &freed)?;
+        let places = places_for(alloc, &self.slots, &self.free, &freed, coming.len())?;
+        let placed = pairs(alloc, &places, &coming)?;
+        Ok(Moves { freed, placed })
+    }
+}
+
+// The shorter of two stars.
+fn shorter<'a>(shortest: Option<&'a [u32]>, star: &'a [u32]) -> &'a [u32]
+    ensures { MatchOption shortest.entry (result.now ≡ star.now) (λ other. (result.now ≡ star.now) ⊎ (result.now ≡ other.now)) }
+{
+    match shortest {
+        Some(other) if other.len() <= star.len() => other,
+        _ => star,
+    }
+}

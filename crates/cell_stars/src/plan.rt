@@ -1,0 +1,66 @@
+//! Plans of exchanges, which are carried out without memory and without a search.
+
+ghost use Rattle.std.specs.Prelude.{◌≡◌, length};
+ghost use Rattle.std.specs.Option.{option_map};
+ghost use Rattle.cell_stars.specs.Plans.{set_all, or_else, AreBelow};
+
+use point_order::{Cell, Point};
+use smallvec::SmallVec;
+use std::marker::Model;
+
+/// The places of the cells of a vertex.
+///
+/// Contracts see it as the vertex and the numbers of the places.
+#[derive(Debug, Drop)]
+pub(crate) struct Around {
+    pub(crate) vertex: Point,
+    pub(crate) places: SmallVec<u32, 32>,
+}
+
+impl Model for Around {
+    ghost use Rattle.std.specs.Prelude.{List, ℕ};
+
+    ghost Value = { ℕ × List ℕ };
+
+    ghost view = { λ a. (a.vertex, a.places.items) };
+}
+
+/// What an exchange makes of the cells of a bucket: what stands at some places after it, and what some stars are then.
+#[derive(Debug, Drop)]
+pub struct Plan {
+    pub(crate) grown: Option<Vec<Option<Cell>>>,
+    pub(crate) slots: Vec<(u32, Option<Cell>)>,
+    pub(crate) more: Option<Vec<Around>>,
+    pub(crate) stars: Vec<(u32, Around)>,
+    pub(crate) keys: Option<Vec<(Point, u32)>>,
+    pub(crate) free: Vec<u32>,
+    pub(crate) spare: Vec<u32>,
+}
+
+impl Model for Plan {
+    ghost use Rattle.std.specs.Option.{option_map};
+    ghost use Rattle.cell_stars.specs.Plans.{PlanView};
+
+    ghost Value = { PlanView };
+
+    ghost view = { λ p. record { grown = option_map (λ v. v.items) p.grown; slots = p.slots.items; more = option_map (λ v. v.items) p.more; stars = p.stars.items; keys = option_map (λ v. v.items) p.keys } };
+}
+
+// Puts the other list in place, if there is one.
+pub(crate) fn put_list<T: Drop>(list: &mut Vec<T>, other: Option<Vec<T>>)
+    ensures { list.new.items ≡ or_else (option_map (λ v. v.items) other) list.old.items }
+{
+    if let Some(other) = other {
+        *list = other;
+    }
+}
+
+// Puts elements at their places.
+pub(crate) fn put_all<T: Drop>(list: &mut Vec<T>, changes: Vec<(u32, T)>)
+    requires { AreBelow (length list.old.items) changes.items }
+    ensures { list.new.items ≡ set_all changes.items list.old.items }
+{
+    for (i, x) in changes {
+        list[i as usize] = x;
+    }
+}
