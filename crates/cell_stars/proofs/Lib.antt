@@ -1,8 +1,12 @@
 pub mod CellLaws
+pub mod Gathering
 pub mod GridLaws
 pub mod Least
 pub mod KeyLaws
 pub mod Placing
+pub mod Members
+pub mod MoveLaws
 pub mod Moved
 pub mod Orders
 pub mod Search
+pub mod WriteLaws

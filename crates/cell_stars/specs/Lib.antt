@@ -4,3 +4,4 @@ pub mod Places
 pub mod Stars
 pub mod Plans
 pub mod Moves
+pub mod Gathering

@@ -60,7 +60,7 @@ pub record AreNumbered (b : Placed) (vertices : List ℕ) (turns : List (ℕ × 
   pub all : (p : ℕ) → IsIn p vertices → (n : ℕ) × IsIn (n, p) turns
   pub apart : (n p q : ℕ) → IsIn (n, p) turns → IsIn (n, q) turns → p ≡ q
   pub single : (n m p : ℕ) → IsIn (n, p) turns → IsIn (m, p) turns → n ≡ m
-  pub vacant : (n p q i : ℕ) → IsIn (n, p) turns → IsStarred b.keys b.stars q i → (star_at b.stars n).0 ≡ q → IsIn i (star_at b.stars n).1 → q ≡ p
+  pub vacant : (n p q i : ℕ) → IsIn (n, p) turns → (star_at b.stars n).0 ≡ q → IsIn i (star_at b.stars n).1 → q ≡ p
 
 -- the stars of the vertices after an exchange, at their numbers
 pub record AreStarsAfter (b : Placed) (freed : List ℕ) (placed : List (ℕ × Cell)) (turns : List (ℕ × ℕ)) (writes : List (ℕ × (ℕ × List ℕ))) : Type 0 where
@@ -81,3 +81,37 @@ pub record AreKeysAfter (old : List (ℕ × ℕ)) (writes : List (ℕ × (ℕ ×
   pub from : (p n : ℕ) → IsIn (p, n) new → IsWritten writes p n ⊎ (IsIn (p, n) old × ((m : ℕ) (s : List ℕ) → IsIn (m, (p, s)) writes → ⊥))
   pub kept : (p n : ℕ) → IsIn (p, n) old → ((m : ℕ) (s : List ℕ) → IsIn (m, (p, s)) writes → ⊥) → IsIn (p, n) new
   pub written : (p n : ℕ) → IsWritten writes p n → IsIn (p, n) new
+
+-- the number stands beside the vertex, and the star with it is the vertex's own and has a place
+pub record IsOwnNumber (b : Placed) (p n : ℕ) : Type 0 where
+  pub key : IsIn (p, n) b.keys
+  pub owned : (star_at b.stars n).0 ≡ p
+  pub place : ℕ
+  pub filled : IsIn place (star_at b.stars n).1
+
+-- no place is in the star with the number
+abbrev pub IsSpare : List (ℕ × List ℕ) → ℕ → Type 0
+IsSpare stars n = (i : ℕ) → IsIn i (star_at stars n).1 → ⊥
+
+-- the stars of all vertices of an exchange after it, at their numbers
+pub record IsRewriting (b : Placed) (freed : List ℕ) (placed : List (ℕ × Cell)) (writes : List (ℕ × (ℕ × List ℕ))) : Type 0 where
+  pub vertices : List ℕ
+  pub turns : List (ℕ × ℕ)
+  pub touched : AreTouched b freed placed vertices
+  pub numbered : AreNumbered b vertices turns
+  pub after : AreStarsAfter b freed placed turns writes
+
+-- two stars that were written for one vertex have one number, and if one has a place, so has the other
+abbrev pub AreAgreed : List (ℕ × (ℕ × List ℕ)) → Type 0
+AreAgreed writes =
+    (n m p : ℕ) (s t : List ℕ) → IsIn (n, (p, s)) writes → IsIn (m, (p, t)) writes → (n ≡ m) × ((i : ℕ) → IsIn i s → IsIn i t)
+
+-- the star has a place, and its number stands beside its vertex
+pub record IsKeyed (keys : List (ℕ × ℕ)) (n : ℕ) (s : ℕ × List ℕ) : Type 0 where
+  pub key : IsIn (s.0, n) keys
+  pub place : ℕ
+  pub filled : IsIn place s.1
+
+-- the vertex of the star, which has a place, with its number; or another vertex that was there
+abbrev pub IsKeyAfter : List (ℕ × ℕ) → ℕ → ℕ × List ℕ → ℕ × ℕ → Type 0
+IsKeyAfter old n s k = (((s.0, n) ≡ k) × ((i : ℕ) × IsIn i s.1)) ⊎ (IsIn k old × ¬ (k.0 ≡ s.0))

@@ -25,9 +25,11 @@ pub struct Cells {
     pub(crate) slots: Vec<Option<Cell>>,
     pub(crate) keys: Vec<(Point, u32)>,
     pub(crate) stars: Vec<Around>,
-    // Places and stars that are likely to be free.
+    // Places and stars that are likely to be free, and the first number of either from which on all are.
     pub(crate) free: Vec<u32>,
     pub(crate) spare: Vec<u32>,
+    pub(crate) used: u32,
+    pub(crate) used_stars: u32,
 }
 
 impl Model for Cells {
@@ -41,7 +43,7 @@ impl Model for Cells {
 }
 
 // The places in a star, where it is the vertex's own.
-fn places_in(stars: &[Around], number: u32, p: Point) -> &[u32]
+pub(crate) fn places_in(stars: &[Around], number: u32, p: Point) -> &[u32]
     ensures { result.now ≡ (if (star_at stars.now number).0 == p then (star_at stars.now number).1 else []) }
 {
     match stars.get(number as usize) {
@@ -69,6 +71,8 @@ impl Cells {
             stars: Vec::new(alloc),
             free: Vec::new(alloc),
             spare: Vec::new(alloc),
+            used: 0,
+            used_stars: 0,
         }
     }
 
@@ -171,6 +175,8 @@ impl Cells {
             keys,
             free,
             spare,
+            used,
+            used_stars,
         } = plan;
         put_list(&mut self.slots, grown);
         put_all(&mut self.slots, slots);
@@ -179,5 +185,7 @@ impl Cells {
         put_list(&mut self.keys, keys);
         self.free = free;
         self.spare = spare;
+        self.used = used;
+        self.used_stars = used_stars;
     }
 }

@@ -6,11 +6,13 @@
 
 mod cells;
 mod grid;
+mod keys;
 mod moves;
 mod order;
 mod plan;
 mod star;
 mod steps;
+mod writes;
 
 pub use cells::Cells;
 pub use grid::{BadGrid, Grid};

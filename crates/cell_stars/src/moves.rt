@@ -7,12 +7,12 @@ ghost use Rattle.point_order.specs.declared.cell.Cell.{Cell};
 ghost use Rattle.point_order.specs.CellOrder.{cell_cmp};
 ghost use Rattle.point_order.specs.Facets.{points_of};
 ghost use Rattle.point_order.specs.Sets.{IsIn, IsAscending, is_among};
-ghost use Rattle.cell_stars.specs.Places.{at, lies_in, touches_in, AreStars};
+ghost use Rattle.cell_stars.specs.Places.{at, lies_in, touches_in};
 ghost use Rattle.cell_stars.specs.Plans.{AreFor};
 ghost use Rattle.cell_stars.specs.Moves.{IsStarFor, AreFreed, AreComing, IsVacant, Stays};
 
 use crate::cells::Cells;
-use crate::order::{cells_in_order, compare, numbers_in_order};
+use crate::order::{cells_in_order, compare, numbers_in_order, touches};
 use crate::star::cell_at;
 use point_order::{Cell, Point};
 use std::alloc::{AllocError, Global};
@@ -103,20 +103,38 @@ fn likely_places(
 {
     let mut list = Vec::from_slice(alloc, freed)?;
     for i in free {
-        if list.len() < count && is_open(slots, *i) {
+        if list.len() >= count {
+            break;
+        }
+        if is_open(slots, *i) {
             list.push(*i)?;
         }
     }
     Ok(list)
 }
 
-// So many places, ascending, each freed or open.
+// The number behind the last of these.
+pub(crate) fn behind_last(list: &[u32]) -> Result<u32, AllocError>
+    requires { IsAscending list.now }
+    ensures { IfOk result (λ n. (i : ℕ) → IsIn i list.now → i < n) }
+{
+    match list.split_last() {
+        Some((last, _)) => match last.checked_add(1) {
+            Some(n) => Ok(n),
+            None => Err(AllocError),
+        },
+        None => Ok(0),
+    }
+}
+
+// So many places, ascending, each freed or open. New ones begin at the first number or behind it.
 pub(crate) fn places_for(
     alloc: Global,
     slots: &[Option<Cell>],
     free: &[u32],
     freed: &[u32],
     count: usize,
+    first: u32,
 ) -> Result<Vec<u32>, AllocError>
     ensures order { IfOk result (λ list. IsAscending list.items) }
     ensures count { IfOk result (λ list. length list.items ≡ count) }
@@ -124,11 +142,8 @@ pub(crate) fn places_for(
 {
     let mut list = numbers_in_order(likely_places(alloc, slots, free, freed, count)?);
     list.truncate(count);
-    let first = match list.last() {
-        Some(last) => last.checked_add(1).ok_or(AllocError)?,
-        None => 0,
-    };
-    add_open(&mut list, slots, count, first)?;
+    let last = behind_last(&list)?;
+    add_open(&mut list, slots, count, last.max(first))?;
     Ok(list)
 }
 
@@ -162,13 +177,15 @@ impl Cells {
     pub(crate) fn is_touched_by(&self, cell: &Cell) -> bool
         ensures { result ≡ touches_in self.now.place cell.now }
     {
-        cell.points().iter().any(|p| self.has_here(*p))
+        match self.place() {
+            Some((grid, number)) => touches(grid, number, cell),
+            None => false,
+        }
     }
 
     // The shortest star of a vertex of the cell.
     fn shortest_star(&self, cell: &Cell) -> Option<&[u32]>
-        ensures stars { AreStars self.now }
-        ensures star { MatchOption result ((p : ℕ) → IsIn p (points_of cell.now) → lies_in self.now.place p ≡ true → ⊥) (λ star. IsStarFor self.now cell.now star.now) }
+        ensures { MatchOption result ((p : ℕ) → IsIn p (points_of cell.now) → lies_in self.now.place p ≡ true → ⊥) (λ star. IsStarFor self.now cell.now star.now) }
     {
         let mut shortest: Option<&[u32]> = None;
         for p in cell.points() {
@@ -183,7 +200,10 @@ impl Cells {
     fn place_of_cell(&self, cell: &Cell) -> Option<u32>
         ensures { MatchOption result ((i : ℕ) → at self.now.slots i ≡ Some cell.now → touches_in self.now.place cell.now ≡ true → ⊥) (λ i. at self.now.slots i ≡ Some cell.now) }
     {
-        place_among(&self.slots, self.shortest_star(cell)?, cell)
+        match self.shortest_star(cell) {
+            Some(star) => place_among(&self.slots, star, cell),
+            None => None,
+        }
     }
 
     // The places of the gone cells, ascending.
@@ -191,12 +211,11 @@ impl Cells {
         ensures order { IfOk result (λ freed. IsAscending freed.items) }
         ensures freed { IfOk result (λ freed. AreFreed self.now gone.now freed.items) }
     {
+        let _ = &self.slots;
         let mut freed = Vec::new(alloc);
         for c in gone {
-            if self.is_touched_by(c) {
-                if let Some(i) = self.place_of_cell(c) {
-                    freed.push(i)?;
-                }
+            if let Some(i) = self.place_of_cell(c) {
+                freed.push(i)?;
             }
         }
         Ok(numbers_in_order(freed))
@@ -207,10 +226,19 @@ impl Cells {
         requires { IsAscending freed.now }
         ensures { MatchBool result (Stays self.now freed.now cell.now) (touches_in self.now.place cell.now ≡ true → (i : ℕ) → at self.now.slots i ≡ Some cell.now → IsIn i freed.now) }
     {
+        let _ = &self.slots;
         match self.place_of_cell(cell) {
             Some(i) => !has_number(freed, i),
             None => false,
         }
+    }
+
+    // Whether the cell touches the bucket and does not stay there.
+    fn comes(&self, cell: &Cell, freed: &[u32]) -> bool
+        requires { IsAscending freed.now }
+        ensures { MatchBool result ((touches_in self.now.place cell.now ≡ true) × ((i : ℕ) → at self.now.slots i ≡ Some cell.now → IsIn i freed.now)) (touches_in self.now.place cell.now ≡ true → Stays self.now freed.now cell.now) }
+    {
+        self.is_touched_by(cell) && !self.stays(cell, freed)
     }
 
     // The fresh cells that touch the bucket and do not stay there, in order.
@@ -226,7 +254,7 @@ impl Cells {
     {
         let mut coming = Vec::new(alloc);
         for c in fresh {
-            if self.is_touched_by(c) && !self.stays(c, freed) {
+            if self.comes(c, freed) {
                 coming.push(*c)?;
             }
         }
@@ -245,7 +273,14 @@ impl Cells {
     {
         let freed = self.freed_by(alloc, gone)?;
         let coming = self.coming_by(alloc, fresh, &freed)?;
-        let places = places_for(alloc, &self.slots, &self.free, &freed, coming.len())?;
+        let places = places_for(
+            alloc,
+            &self.slots,
+            &self.free,
+            &freed,
+            coming.len(),
+            self.used,
+        )?;
         let placed = pairs(alloc, &places, &coming)?;
         Ok(Moves { freed, placed })
     }

@@ -35,6 +35,8 @@ pub struct Plan {
     pub(crate) keys: Option<Vec<(Point, u32)>>,
     pub(crate) free: Vec<u32>,
     pub(crate) spare: Vec<u32>,
+    pub(crate) used: u32,
+    pub(crate) used_stars: u32,
 }
 
 impl Model for Plan {

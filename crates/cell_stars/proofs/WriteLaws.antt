@@ -1,0 +1,229 @@
+-- The stars after an exchange.
+use Rattle.std.specs.Prelude.{◌≡◌, ℕ, ◌+◌, ◌<◌, ◌≤◌, Bool, true, false, not, List, [], ◌∷◌, ◌++◌, ◌⊎◌, length, slice_index, slice_index_or, Option, None, Some, MatchBool, MatchOption, IsTrue, zero, suc, ◌==◌}
+use Rattle.std.specs.List.{zip}
+use Rattle.std.proofs.Common.{refl, sym, ◌∙◌, ap, subst, inl, inr, arith, take}
+use Rattle.point_order.specs.declared.cell.Cell.{Cell}
+use Rattle.point_order.specs.Facets.{points_of}
+use Rattle.point_order.specs.Sets.{IsIn, IsAscending, is_among}
+use Rattle.point_order.proofs.SetLaws.{below-each}
+use Rattle.std.proofs.lemmas.Bool.Decides.{nat_tests}
+use Rattle.del_laws.proofs.Tests.{among_from, among_true}
+use Rattle.cell_stars.specs.Places.{Placed, AreStars, IsStarred, at, lies_in, touches_in, star_at}
+use Rattle.cell_stars.specs.Plans.{StarsAfter, IsPutAt}
+use Rattle.cell_stars.specs.Moves.{AreTouched, AreNumbered, AreStarsAfter, IsOwnNumber, IsSpare}
+use Rattle.cell_stars.specs.Gathering.{Gathers, FromPoints, FromPlace, FromPut}
+use Rattle.cell_stars.proofs.KeyLaws.{owned_by, in_owned, owned_in, Keys, vertices, BelongsAt, one_key, at_key, no_key, star_here}
+use Rattle.cell_stars.proofs.Gathering.{Gathered, gather_all, gather_push, gather_skip, gather_step, Made, made_all}
+
+-- ---- vertices that are touched
+
+abbrev pub AddsPoints : Option (ℕ × ℕ) → Cell → List ℕ → List ℕ → Type 0
+AddsPoints place c old new = (p : ℕ) → (IsIn p new → IsIn p old ⊎ (IsIn p (points_of c) × (lies_in place p ≡ true))) × (IsIn p old ⊎ (IsIn p (points_of c) × (lies_in place p ≡ true)) → IsIn p new)
+
+pub point_in : (place : Option (ℕ × ℕ)) (ps : List ℕ) (n : ℕ) (old list new : List ℕ) (x : ℕ) (r : Bool) → n < length ps → x ≡ slice_index_or ps n x → r ≡ lies_in place x → r ≡ true → new ≡ list ++ x ∷ [] → Gathered (FromPoints place) ps n old list → Gathered (FromPoints place) ps (n + 1) old new
+point_in place ps n old list new x r h e a b p s = gather_push (FromPoints place) ps n old list new x x x h e (refl, sym a ∙ b) (λ z t. t.0) p s
+
+pub point_out : (place : Option (ℕ × ℕ)) (ps : List ℕ) (n : ℕ) (old list : List ℕ) (x : ℕ) (r : Bool) → n < length ps → x ≡ slice_index_or ps n x → r ≡ lies_in place x → r ≡ false → Gathered (FromPoints place) ps n old list → Gathered (FromPoints place) ps (n + 1) old list
+point_out place ps n old list x r h e a b s = gather_skip (FromPoints place) ps n old list x x h e (λ z t. (let u = ap (lies_in place) t.0 ∙ t.1 in absurd (cc (a, b, u)))) s
+
+pub points_added : (place : Option (ℕ × ℕ)) (c : Cell) (ps : List ℕ) (n : ℕ) (old new : List ℕ) → ps ≡ points_of c → length ps ≤ n → Gathered (FromPoints place) ps n old new → AddsPoints place c old new
+points_added place c ps n old new e h g p = (
+  λ m. elim (g.each p m) [ inl k ↦ inl k | inr r ↦ inr (subst (λ (l : List ℕ). IsIn p l) e (subst (λ q. IsIn q ps) r.2.0 r.1), r.2.1) ],
+  λ m. elim m [ inl k ↦ g.kept p k | inr r ↦ gather_all (FromPoints place) ps n old new h g p (subst (λ (l : List ℕ). IsIn p l) (sym e) r.0) p (refl, r.1) ],
+)
+
+one_cell : (slots : List (Option Cell)) (i : ℕ) (c d : Cell) → at slots i ≡ Some c → at slots i ≡ Some d → c ≡ d
+one_cell slots i c d e f = (let t : Some c ≡ Some d = sym e ∙ f in cc t)
+
+pub freed_step : (b : Placed) (slots : List (Option Cell)) (freed : List ℕ) (n : ℕ) (old list new : List ℕ) (x : ℕ) (c : Cell) → slots ≡ b.slots → n < length freed → x ≡ slice_index_or freed n 0 → at slots x ≡ Some c → AddsPoints b.place c list new → Gathered (FromPlace b) freed n old list → Gathered (FromPlace b) freed (n + 1) old new
+freed_step b slots freed n old list new x c es h e f g s =
+    let t : at b.slots x ≡ Some c = ap (λ l. at l x) (sym es) ∙ f in
+    gather_step (FromPlace b) freed n old list new x 0 h e
+    (λ p m. elim ((g p).0 m) [ inl k ↦ inl k | inr r ↦ inr (record { cell = c; there = t; has = r.0; inside = r.1 }) ])
+    (λ p m. (g p).1 (inl m)) (λ p r. (g p).1 (inr (subst (λ d. IsIn p (points_of d)) (one_cell b.slots x r.cell c r.there t) r.has, r.inside))) s
+
+pub freed_skip : (b : Placed) (slots : List (Option Cell)) (freed : List ℕ) (n : ℕ) (old list : List ℕ) (x : ℕ) → slots ≡ b.slots → n < length freed → x ≡ slice_index_or freed n 0 → at slots x ≡ None → Gathered (FromPlace b) freed n old list → Gathered (FromPlace b) freed (n + 1) old list
+freed_skip b slots freed n old list x es h e f s =
+    gather_skip (FromPlace b) freed n old list x 0 h e (λ p r. (let t = sym f ∙ ap (λ l. at l x) es ∙ r.there in absurd (cc t))) s
+
+pub placed_step : (b : Placed) (placed : List (ℕ × Cell)) (n : ℕ) (old list new : List ℕ) (x d : ℕ × Cell) → n < length placed → x ≡ slice_index_or placed n d → AddsPoints b.place x.1 list new → Gathered (FromPut b) placed n old list → Gathered (FromPut b) placed (n + 1) old new
+placed_step b placed n old list new x d h e g s = gather_step (FromPut b) placed n old list new x d h e (λ p m. (g p).0 m) (λ p m. (g p).1 (inl m)) (λ p r. (g p).1 (inr r)) s
+
+-- all of them
+pub are_touched : (b : Placed) (freed : List ℕ) (placed : List (ℕ × Cell)) (none first second all : List ℕ) → none ≡ [] → Gathers (FromPlace b) freed none first → Gathers (FromPut b) placed first second → ((p : ℕ) → (IsIn p all → IsIn p second) × (IsIn p second → IsIn p all)) → AreTouched b freed placed all
+are_touched b freed placed none first second all e f g o = record {
+  inside = λ p i. elim (g.each p ((o p).0 i)) [
+    | inl j ↦ elim (f.each p j) [ inl q ↦ absurd (subst (λ (l : List ℕ). IsIn p l) e q) | inr r ↦ r.2.inside ]
+    | inr r ↦ r.2.1
+  ];
+  gone = λ i p c j t q l. (o p).1 (g.kept p (f.all i j p (record { cell = c; there = t; has = q; inside = l })));
+  fresh = λ i p c j q l. (o p).1 (g.all (i, c) j p (q, l));
+}
+
+-- ---- the places of a star
+
+-- a place that is not freed
+abbrev pub NotFreed : List ℕ → ℕ → ℕ → Type 0
+NotFreed freed i j = (i ≡ j) × (IsIn j freed → ⊥)
+
+pub stay_step : (freed items : List ℕ) (n : ℕ) (old list new : List ℕ) (x : ℕ) (r : Bool) → n < length items → x ≡ slice_index_or items n 0 → r ≡ is_among x freed → r ≡ false → new ≡ list ++ x ∷ [] → Gathered (NotFreed freed) items n old list → Gathered (NotFreed freed) items (n + 1) old new
+stay_step freed items n old list new x r h e a b p s = gather_push (NotFreed freed) items n old list new x 0 x h e (refl, λ m. (let t = among_true x freed m in absurd (cc (a, b, t)))) (λ z q. q.0) p s
+
+pub stay_skip : (freed items : List ℕ) (n : ℕ) (old list : List ℕ) (x : ℕ) (r : Bool) → n < length items → x ≡ slice_index_or items n 0 → r ≡ is_among x freed → r ≡ true → Gathered (NotFreed freed) items n old list → Gathered (NotFreed freed) items (n + 1) old list
+stay_skip freed items n old list x r h e a b s = gather_skip (NotFreed freed) items n old list x 0 h e (λ z q. q.1 (subst (λ (y : ℕ). IsIn y freed) q.0 (among_from x freed (sym a ∙ b)))) s
+
+pub stayed : (b : Placed) (freed items : List ℕ) (p n : ℕ) (none list : List ℕ) → none ≡ [] → length items ≤ n → ((i : ℕ) → (IsIn i items → IsStarred b.keys b.stars p i) × (IsStarred b.keys b.stars p i → IsIn i items)) → Gathered (NotFreed freed) items n none list →
+    (i : ℕ) → (IsIn i list → IsStarred b.keys b.stars p i × (IsIn i freed → ⊥)) × (IsStarred b.keys b.stars p i × (IsIn i freed → ⊥) → IsIn i list)
+stayed b freed items p n none list e h f g i = (
+  λ m. elim (g.each i m) [ inl q ↦ absurd (subst (λ (l : List ℕ). IsIn i l) e q) | inr r ↦ ((f i).0 (subst (λ j. IsIn j items) r.2.0 r.1), r.2.1) ],
+  λ m. gather_all (NotFreed freed) items n none list h g i ((f i).1 m.0) i (refl, m.1),
+)
+
+-- the place of a cell with the vertex
+abbrev pub PutWith : ℕ → ℕ × Cell → ℕ → Type 0
+PutWith p x j = (x.0 ≡ j) × IsIn p (points_of x.1)
+
+pub put_step : (p : ℕ) (placed : List (ℕ × Cell)) (n : ℕ) (old list new : List ℕ) (x d : ℕ × Cell) (r : Bool) → n < length placed → x ≡ slice_index_or placed n d → r ≡ is_among p (points_of x.1) → r ≡ true → new ≡ list ++ x.0 ∷ [] → Gathered (PutWith p) placed n old list → Gathered (PutWith p) placed (n + 1) old new
+put_step p placed n old list new x d r h e a b q s = gather_push (PutWith p) placed n old list new x d x.0 h e (refl, among_from p (points_of x.1) (sym a ∙ b)) (λ z t. t.0) q s
+
+pub put_skip : (p : ℕ) (placed : List (ℕ × Cell)) (n : ℕ) (old list : List ℕ) (x d : ℕ × Cell) (r : Bool) → n < length placed → x ≡ slice_index_or placed n d → r ≡ is_among p (points_of x.1) → r ≡ false → Gathered (PutWith p) placed n old list → Gathered (PutWith p) placed (n + 1) old list
+put_skip p placed n old list x d r h e a b s = gather_skip (PutWith p) placed n old list x d h e (λ z t. (let u = among_true p (points_of x.1) t.1 in absurd (cc (a, b, u)))) s
+
+pub places_are : (b : Placed) (freed : List ℕ) (placed : List (ℕ × Cell)) (p n : ℕ) (first list : List ℕ) → lies_in b.place p ≡ true → length placed ≤ n →
+    ((i : ℕ) → (IsIn i first → IsStarred b.keys b.stars p i × (IsIn i freed → ⊥)) × (IsStarred b.keys b.stars p i × (IsIn i freed → ⊥) → IsIn i first)) → Gathered (PutWith p) placed n first list →
+    (i : ℕ) → (IsIn i list → StarsAfter freed placed b p i) × (StarsAfter freed placed b p i → IsIn i list)
+places_are b freed placed p n first list l h f g i = (
+  λ m. elim (g.each i m) [
+    | inl k ↦ inl ((f i).0 k)
+    | inr r ↦ inr (record { cell = r.0.1; put = subst (λ j. IsIn (j, r.0.1) placed) r.2.0 r.1; has = r.2.1; inside = l })
+  ],
+  λ m. elim m [
+    | inl k ↦ g.kept i ((f i).1 k)
+    | inr r ↦ gather_all (PutWith p) placed n first list h g (i, r.cell) r.put i (refl, r.has)
+  ],
+)
+
+-- ---- the numbers of stars
+
+zero_of : (n : ℕ) → (n == 0) ≡ true → n ≡ 0
+zero_of n = grind (arith, nat_tests)
+
+pub full_by : (s : ℕ × List ℕ) (p : ℕ) (l : List ℕ) (r : Bool) → l ≡ owned_by p s → r ≡ (length l == 0) → MatchBool (not r) ((s.0 ≡ p) × ((i : ℕ) × IsIn i s.1)) (s.0 ≡ p → (i : ℕ) → IsIn i s.1 → ⊥)
+full_by s p [] true e f = λ q i m. subst (λ (k : List ℕ). IsIn i k) (sym e) (owned_in p i s q m)
+full_by s p (x ∷ l) true e f = (let t = zero_of (length (x ∷ l)) (sym f) in absurd (omega (arith, t)))
+full_by s p [] false e f = absurd (yes f)
+  where
+    yes : false ≡ true → ⊥
+    yes g = cc g
+full_by s p (x ∷ l) false e f = (let r = in_owned p x s (subst (λ (k : List ℕ). IsIn x k) e (inl refl)) in (r.0, (x, r.1)))
+
+pub own_number : (b : Placed) (ks : Keys) (stars : List (ℕ × List ℕ)) (p i : ℕ) (k : ℕ × ℕ) → ks ≡ b.keys → stars ≡ b.stars → (i < length ks) × (slice_index (vertices ks) i ≡ p) → k ≡ slice_index_or ks i k → ((star_at stars k.1).0 ≡ p) × ((j : ℕ) × IsIn j (star_at stars k.1).1) → IsOwnNumber b p k.1
+own_number b ks stars p i k ek es f e o =
+    let t = at_key ks i k f.0 e in
+    let same : k.0 ≡ p = sym t.1 ∙ f.1 in
+    record {
+      key = subst (λ (l : Keys). IsIn (p, k.1) l) ek (subst (λ (q : ℕ). IsIn (q, k.1) ks) same t.0);
+      owned = ap (λ l. (star_at l k.1).0) (sym es) ∙ o.0;
+      place = o.1.0;
+      filled = subst (λ l. IsIn o.1.0 (star_at l k.1).1) es o.1.1;
+    }
+
+pub no_own : (b : Placed) (ks : Keys) (stars : List (ℕ × List ℕ)) (p i : ℕ) (k : ℕ × ℕ) → ks ≡ b.keys → stars ≡ b.stars → IsAscending (vertices ks) → (i < length ks) × (slice_index (vertices ks) i ≡ p) → k ≡ slice_index_or ks i k → ((star_at stars k.1).0 ≡ p → (j : ℕ) → IsIn j (star_at stars k.1).1 → ⊥) → (j : ℕ) → IsStarred b.keys b.stars p j → ⊥
+no_own b ks stars p i k ek es a f e n j s =
+    let t = at_key ks i k f.0 e in
+    let same : k.0 ≡ p = sym t.1 ∙ f.1 in
+    let q : (p, s.number) ≡ k = one_key ks (p, s.number) k a (subst (λ (l : Keys). IsIn (p, s.number) l) (sym ek) s.key) t.0 (sym same) in
+    let m : s.number ≡ k.1 = ap (λ y. y.1) q in
+    n (ap (λ l. (star_at l k.1).0) es ∙ ap (λ y. (star_at b.stars y).0) (sym m) ∙ s.owned) j (subst (λ l. IsIn j (star_at l k.1).1) (sym es) (subst (λ y. IsIn j (star_at b.stars y).1) m s.listed))
+
+pub no_own_at : (b : Placed) (ks : Keys) (p i : ℕ) → ks ≡ b.keys → BelongsAt ks p i → (j : ℕ) → IsStarred b.keys b.stars p j → ⊥
+no_own_at b ks p i e f j s = no_key ks p i f (p, s.number) (subst (λ (l : Keys). IsIn (p, s.number) l) (sym e) s.key) refl
+
+-- the number that a vertex gets
+abbrev pub HasNumber : Placed → ℕ × ℕ → ℕ × ℕ → Type 0
+HasNumber b x y = (x.1 ≡ y.1) × (IsOwnNumber b y.1 y.0 ⊎ ((y.0 ≡ x.0) × ((i : ℕ) → IsStarred b.keys b.stars y.1 i → ⊥)))
+
+in_zip : (us ps : List ℕ) (u p : ℕ) → IsIn (u, p) (zip us ps) → IsIn u us × IsIn p ps
+in_zip [] ps u p m = absurd m
+in_zip (x ∷ us) [] u p m = absurd m
+in_zip (x ∷ us) (y ∷ ps) u p (inl e) = (inl (ap (λ z. z.0) e), inl (ap (λ z. z.1) e))
+in_zip (x ∷ us) (y ∷ ps) u p (inr m) = (let r = in_zip us ps u p m in (inr r.0, inr r.1))
+
+zip_all : (us ps : List ℕ) (p : ℕ) → length ps ≤ length us → IsIn p ps → (u : ℕ) × IsIn (u, p) (zip us ps)
+zip_all us [] p h m = absurd m
+zip_all [] (y ∷ ps) p h m = absurd (omega arith)
+zip_all (x ∷ us) (y ∷ ps) p h (inl e) = (x, inl (ap (λ (z : ℕ). (x, z)) e))
+zip_all (x ∷ us) (y ∷ ps) p h (inr m) = (let r = zip_all us ps p (omega arith) m in (r.0, inr r.1))
+
+zip_apart : (us ps : List ℕ) (u p q : ℕ) → IsAscending us → IsIn (u, p) (zip us ps) → IsIn (u, q) (zip us ps) → p ≡ q
+zip_apart [] ps u p q a m n = absurd m
+zip_apart (x ∷ us) [] u p q a m n = absurd m
+zip_apart (x ∷ us) (y ∷ ps) u p q a (inl e) (inl f) = sym (ap (λ z. z.1) e) ∙ ap (λ z. z.1) f
+zip_apart (x ∷ us) (y ∷ ps) u p q a (inl e) (inr n) = (let b = below-each x us a.0 a.1 u (in_zip us ps u q n).0 in let f = ap (λ z. z.0) e in absurd (omega (arith, b, f)))
+zip_apart (x ∷ us) (y ∷ ps) u p q a (inr m) (inl f) = (let b = below-each x us a.0 a.1 u (in_zip us ps u p m).0 in let e = ap (λ z. z.0) f in absurd (omega (arith, b, e)))
+zip_apart (x ∷ us) (y ∷ ps) u p q a (inr m) (inr n) = zip_apart us ps u p q a.1 m n
+
+zip_single : (us ps : List ℕ) (u v p : ℕ) → IsAscending ps → IsIn (u, p) (zip us ps) → IsIn (v, p) (zip us ps) → u ≡ v
+zip_single [] ps u v p a m n = absurd m
+zip_single (x ∷ us) [] u v p a m n = absurd m
+zip_single (x ∷ us) (y ∷ ps) u v p a (inl e) (inl f) = sym (ap (λ z. z.0) e) ∙ ap (λ z. z.0) f
+zip_single (x ∷ us) (y ∷ ps) u v p a (inl e) (inr n) = (let b = below-each y ps a.0 a.1 p (in_zip us ps v p n).1 in let f = ap (λ z. z.1) e in absurd (omega (arith, b, f)))
+zip_single (x ∷ us) (y ∷ ps) u v p a (inr m) (inl f) = (let b = below-each y ps a.0 a.1 p (in_zip us ps u p m).1 in let e = ap (λ z. z.1) f in absurd (omega (arith, b, e)))
+zip_single (x ∷ us) (y ∷ ps) u v p a (inr m) (inr n) = zip_single us ps u v p a.1 m n
+
+own_starred : (b : Placed) (p n : ℕ) (o : IsOwnNumber b p n) → IsStarred b.keys b.stars p o.place
+own_starred b p n o = record { number = n; key = o.key; owned = o.owned; listed = o.filled }
+
+pub are_numbered : (b : Placed) (stars : List (ℕ × List ℕ)) (us ps : List ℕ) (pairs turns : List (ℕ × ℕ)) (n : ℕ) → stars ≡ b.stars → IsAscending (vertices b.keys) → IsAscending us → IsAscending ps → length us ≡ length ps → ((u : ℕ) → IsIn u us → IsSpare stars u) → pairs ≡ zip us ps → length pairs ≤ n → Made (HasNumber b) pairs n turns → AreNumbered b ps turns
+are_numbered b stars us ps pairs turns n es ak au ap' l sp e h m = record {
+  each = λ k p i. (let r = from k p i in (in_zip us ps r.0 p r.1).1);
+  all = λ p i. (
+      let z = zip_all us ps p (omega (arith, l)) i in
+      let r = made_all (HasNumber b) pairs n turns h m (z.0, p) (subst (λ (w : List (ℕ × ℕ)). IsIn (z.0, p) w) (sym e) z.1) in
+      (r.0.0, subst (λ (q : ℕ). IsIn (r.0.0, q) turns) (sym r.2.0) r.1));
+  apart = λ k p q i j. (let r = from k p i in let s = from k q j in together k p q r s);
+  single = λ k j p i o. (let r = from k p i in let s = from j p o in alone k j p r s);
+  vacant = λ k p q x i f g. (let r = from k p i in own_of k p q x r f g);
+}
+  where
+    From : ℕ → ℕ → Type 0
+    From k p = (u : ℕ) × IsIn (u, p) (zip us ps) × (IsOwnNumber b p k ⊎ ((k ≡ u) × ((i : ℕ) → IsStarred b.keys b.stars p i → ⊥)))
+
+    from : (k p : ℕ) → IsIn (k, p) turns → From k p
+    from k p i = (let r = m.each (k, p) i in (r.0.0, subst (λ (w : List (ℕ × ℕ)). IsIn (r.0.0, p) w) e (subst (λ (q : ℕ). IsIn (r.0.0, q) pairs) r.2.0 r.1), r.2.1))
+
+    empty : (u : ℕ) → IsIn u us → (x : ℕ) → IsIn x (star_at b.stars u).1 → ⊥
+    empty u i x j = sp u i x (subst (λ (l : List (ℕ × List ℕ)). IsIn x (star_at l u).1) (sym es) j)
+
+    together : (k p q : ℕ) → From k p → From k q → p ≡ q
+    together k p q (u, i, inl o) (v, j, inl s) = sym o.owned ∙ s.owned
+    together k p q (u, i, inl o) (v, j, inr s) = absurd (empty v (in_zip us ps v q j).0 o.place (subst (λ y. IsIn o.place (star_at b.stars y).1) s.0 o.filled))
+    together k p q (u, i, inr o) (v, j, inl s) = absurd (empty u (in_zip us ps u p i).0 s.place (subst (λ y. IsIn s.place (star_at b.stars y).1) o.0 s.filled))
+    together k p q (u, i, inr o) (v, j, inr s) = zip_apart us ps u p q au i (subst (λ (y : ℕ). IsIn (y, q) (zip us ps)) (sym s.0 ∙ o.0) j)
+
+    alone : (k j p : ℕ) → From k p → From j p → k ≡ j
+    alone k j p (u, i, inl o) (v, i', inl s) = ap (λ y. y.1) (one_key b.keys (p, k) (p, j) ak o.key s.key refl)
+    alone k j p (u, i, inl o) (v, i', inr s) = absurd (s.1 o.place (own_starred b p k o))
+    alone k j p (u, i, inr o) (v, i', inl s) = absurd (o.1 s.place (own_starred b p j s))
+    alone k j p (u, i, inr o) (v, i', inr s) = o.0 ∙ zip_single us ps u v p ap' i i' ∙ sym s.0
+
+    own_of : (k p q x : ℕ) → From k p → (star_at b.stars k).0 ≡ q → IsIn x (star_at b.stars k).1 → q ≡ p
+    own_of k p q x (u, i, inl o) f g = sym f ∙ o.owned
+    own_of k p q x (u, i, inr o) f g = absurd (empty u (in_zip us ps u p i).0 x (subst (λ y. IsIn x (star_at b.stars y).1) o.0 g))
+
+-- ---- the stars that are written
+
+abbrev pub HasStar : Placed → List ℕ → List (ℕ × Cell) → ℕ × ℕ → ℕ × (ℕ × List ℕ) → Type 0
+HasStar b freed placed x y = (x.0 ≡ y.0) × (x.1 ≡ y.1.0) × ((i : ℕ) → (IsIn i y.1.1 → StarsAfter freed placed b y.1.0 i) × (StarsAfter freed placed b y.1.0 i → IsIn i y.1.1))
+
+pub has_star : (b : Placed) (freed : List ℕ) (placed : List (ℕ × Cell)) (x : ℕ × ℕ) (s : ℕ × List ℕ) → s.0 ≡ x.1 → ((i : ℕ) → (IsIn i s.1 → StarsAfter freed placed b x.1 i) × (StarsAfter freed placed b x.1 i → IsIn i s.1)) → HasStar b freed placed x (x.0, s)
+has_star b freed placed x s e f = (refl, sym e, subst (λ p. (i : ℕ) → (IsIn i s.1 → StarsAfter freed placed b p i) × (StarsAfter freed placed b p i → IsIn i s.1)) (sym e) f)
+
+pub are_after : (b : Placed) (freed : List ℕ) (placed : List (ℕ × Cell)) (turns : List (ℕ × ℕ)) (n : ℕ) (writes : List (ℕ × (ℕ × List ℕ))) → length turns ≤ n → Made (HasStar b freed placed) turns n writes → AreStarsAfter b freed placed turns writes
+are_after b freed placed turns n writes h m = record {
+  each = λ k s i. (let r = m.each (k, s) i in subst (λ (q : ℕ × ℕ). IsIn q turns) (ap (λ (a : ℕ). (a, r.0.1)) r.2.0 ∙ ap (λ (a : ℕ). (k, a)) r.2.1) r.1);
+  all = λ k p i. (
+      let r = made_all (HasStar b freed placed) turns n writes h m (k, p) i in
+      (r.0.1.1, subst (λ (y : ℕ × (ℕ × List ℕ)). IsIn y writes) (ap (λ (a : ℕ). (a, r.0.1)) (sym r.2.0) ∙ ap (λ (a : ℕ). (k, (a, r.0.1.1))) (sym r.2.1)) r.1));
+  places = λ k i s j. (m.each (k, s) j).2.2 i;
+}

@@ -1,0 +1,19 @@
+use Rattle.std.proofs.Common.{sym, subst}
+use Rattle.std.specs.Prelude.{ℕ, List}
+use Rattle.point_order.specs.Sets.{IsIn}
+use Rattle.cell_stars.proofs.Members.{at_place}
+use Rattle.cell_stars.proofs.MoveLaws.{shorter_is, star_for, vertex_passed}
+use Rattle.cell_stars.proofs.cells.Cells.shortest_star.Goals as goal
+use Rattle.cell_stars.proofs.cells.Cells.shortest_star.Goals.{then-has_here, else-has_here}
+
+pub loop-p-preserved : goal.loop-p-preserved
+loop-p-preserved c =
+    let b = c.args.self.now in
+    let cell = c.args.cell.now in
+    let ps = c.points-p-items.result.now in
+    let p = c.p-item.result in
+    elim c.if-has_here.branch [
+      | then-has_here w ↦ rw w.shortest-is (shorter_is (λ s. s.now) b cell _ c.loop-p.shortest w.star_of.result.now w.shorter.result.now c.loop-p.invariant
+          (star_for b cell p w.star_of.result.now c.has_here.result (subst (λ (l : List ℕ). IsIn p l) c.points-p-items.ensures (at_place ps c.loop-p.p-index p p c.loop-p-test.true c.p-item.is)) c.has_here.ensures w.if-has_here.true w.star_of.ensures.places) w.shorter.ensures)
+      | else-has_here w ↦ rw w.shortest-is (vertex_passed (λ s. s.now) b cell ps c.loop-p.p-index p p c.loop-p.shortest c.has_here.result c.loop-p-test.true c.p-item.is c.has_here.ensures w.if-has_here.false c.loop-p.invariant)
+    ]

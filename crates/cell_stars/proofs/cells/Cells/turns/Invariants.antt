@@ -1,0 +1,6 @@
+use Rattle.cell_stars.proofs.Gathering.{Made}
+use Rattle.cell_stars.proofs.WriteLaws.{HasNumber}
+use Rattle.cell_stars.proofs.cells.Cells.turns.Given as goal
+
+abbrev pub invariant-loop-n : goal.invariant-loop-n
+invariant-loop-n l = Made (HasNumber l.self) l.n-items l.n-index l.turns.items

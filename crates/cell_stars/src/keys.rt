@@ -1,0 +1,117 @@
+//! The vertices with a star after an exchange.
+
+ghost use Rattle.std.specs.Prelude.{◌≡◌, ◌↔◌, ◌⊎◌, ℕ, List, IfOk, OnOk, map, IsTrue};
+ghost use Rattle.std.specs.Option.{option_map};
+ghost use Rattle.point_order.specs.Sets.{IsIn, IsAscending};
+ghost use Rattle.cell_stars.specs.Plans.{or_else};
+ghost use Rattle.cell_stars.specs.Moves.{AreKeysAfter, AreAgreed, IsKeyed, IsKeyAfter};
+
+use crate::plan::Around;
+use crate::steps::place_of;
+use point_order::Point;
+use std::alloc::{AllocError, Global};
+
+// Whether the number stands beside the vertex.
+fn has_key(keys: &[(Point, u32)], p: Point, n: u32) -> bool
+    requires { IsAscending (map (λ k. k.0) keys.now) }
+    ensures { IsTrue result → IsIn (p, n) keys.now }
+{
+    match place_of(keys, p) {
+        Ok(i) => keys[i].1 == n,
+        Err(_) => false,
+    }
+}
+
+// Whether the star has a place and its number stands beside its vertex.
+fn is_keyed(keys: &[(Point, u32)], n: u32, around: &Around) -> bool
+    requires { IsAscending (map (λ k. k.0) keys.now) }
+    ensures { IsTrue result → IsKeyed keys.now n around.now }
+{
+    !around.places.is_empty() && has_key(keys, around.vertex, n)
+}
+
+// Whether that is so of all.
+fn are_keyed(keys: &[(Point, u32)], writes: &[(u32, Around)]) -> bool
+    requires { IsAscending (map (λ k. k.0) keys.now) }
+    ensures { IsTrue result → (n : ℕ) (s : ℕ × List ℕ) → IsIn (n, s) writes.now → IsKeyed keys.now n s }
+{
+    for (n, around) in writes {
+        if !is_keyed(keys, *n, around) {
+            return false;
+        }
+    }
+    true
+}
+
+// Takes the vertex out.
+fn drop_key(keys: &mut Vec<(Point, u32)>, p: Point)
+    requires { IsAscending (map (λ k. k.0) keys.old.items) }
+    ensures order { IsAscending (map (λ k. k.0) keys.new.items) }
+    ensures keys { (k : ℕ × ℕ) → IsIn k keys.new.items ↔ (IsIn k keys.old.items × ¬ (k.0 ≡ p)) }
+{
+    if let Ok(i) = place_of(keys, p) {
+        keys.remove(i);
+    }
+}
+
+// Puts the vertex in, with the number.
+fn put_key(keys: &mut Vec<(Point, u32)>, p: Point, n: u32) -> Result<(), AllocError>
+    requires { IsAscending (map (λ k. k.0) keys.old.items) }
+    ensures order { OnOk result (IsAscending (map (λ k. k.0) keys.new.items)) }
+    ensures keys { OnOk result ((k : ℕ × ℕ) → IsIn k keys.new.items ↔ (((p, n) ≡ k) ⊎ (IsIn k keys.old.items × ¬ (k.0 ≡ p)))) }
+{
+    drop_key(keys, p);
+    match place_of(keys, p) {
+        Ok(_) => unreachable!(),
+        Err(i) => keys.insert(i, (p, n))?,
+    }
+    Ok(())
+}
+
+// Puts the vertex of a star in, or takes it out where the star has no place.
+fn write_key(keys: &mut Vec<(Point, u32)>, n: u32, around: &Around) -> Result<(), AllocError>
+    requires { IsAscending (map (λ k. k.0) keys.old.items) }
+    ensures order { OnOk result (IsAscending (map (λ k. k.0) keys.new.items)) }
+    ensures keys { OnOk result ((k : ℕ × ℕ) → IsIn k keys.new.items ↔ IsKeyAfter keys.old.items n around.now k) }
+{
+    if around.places.is_empty() {
+        drop_key(keys, around.vertex);
+        return Ok(());
+    }
+    put_key(keys, around.vertex, n)
+}
+
+// The vertices with a star after the stars were written.
+fn changed_keys(
+    alloc: Global,
+    keys: &[(Point, u32)],
+    writes: &[(u32, Around)],
+) -> Result<Vec<(Point, u32)>, AllocError>
+    requires order { IsAscending (map (λ k. k.0) keys.now) }
+    requires agreed { AreAgreed writes.now }
+    ensures { IfOk result (λ list. AreKeysAfter keys.now writes.now list.items) }
+{
+    let mut list = Vec::from_slice(alloc, keys)?;
+    for (n, around) in writes {
+        if !is_keyed(&list, *n, around) {
+            write_key(&mut list, *n, around)?;
+        }
+    }
+    Ok(list)
+}
+
+// The same, or none where they stay.
+pub(crate) fn keys_after(
+    alloc: Global,
+    keys: &[(Point, u32)],
+    writes: &[(u32, Around)],
+) -> Result<Option<Vec<(Point, u32)>>, AllocError>
+    requires order { IsAscending (map (λ k. k.0) keys.now) }
+    requires agreed { AreAgreed writes.now }
+    ensures { IfOk result (λ list. AreKeysAfter keys.now writes.now (or_else (option_map (λ v. v.items) list) keys.now)) }
+{
+    if are_keyed(keys, writes) {
+        return Ok(None);
+    }
+    Ok(Some(changed_keys(alloc, keys, writes)?))
+}

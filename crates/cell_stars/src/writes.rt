@@ -1,0 +1,306 @@
+//! The stars after an exchange.
+
+ghost use Rattle.std.specs.Prelude.{◌≡◌, ◌↔◌, ◌⊎◌, ◌<◌, ◌≤◌, ◌++◌, ℕ, true, Some, IfOk, OnOk, length, MatchBool, MatchOption, IsTrue};
+ghost use Rattle.std.specs.List.{zip};
+ghost use Rattle.point_order.specs.declared.cell.Cell.{Cell};
+ghost use Rattle.point_order.specs.Facets.{points_of};
+ghost use Rattle.point_order.specs.Sets.{IsIn, IsAscending};
+ghost use Rattle.cell_stars.specs.Places.{at, lies_in, star_at, IsStarred};
+ghost use Rattle.cell_stars.specs.Plans.{StarsAfter};
+ghost use Rattle.cell_stars.specs.Gathering.{Gathers, FromPlace, FromPut};
+ghost use Rattle.cell_stars.specs.Moves.{AreTouched, AreNumbered, AreStarsAfter, IsOwnNumber, IsSpare, IsRewriting};
+
+use crate::cells::{Cells, places_in};
+use crate::moves::{Moves, behind_last, has_number};
+use crate::order::{numbers_in_order, points_in_order};
+use crate::plan::Around;
+use crate::star::cell_at;
+use crate::steps::place_of;
+use point_order::{Cell, Point};
+use smallvec::SmallVec;
+use std::alloc::{AllocError, Global};
+
+// Whether no place is in the star with the number.
+fn is_spare(stars: &[Around], n: u32) -> bool
+    ensures spare { IsTrue result → IsSpare stars.now n }
+    ensures behind { length stars.now ≤ n → result ≡ true }
+{
+    match stars.get(n as usize) {
+        Some(around) => has_no_places(around),
+        None => true,
+    }
+}
+
+// Whether there is no place.
+fn has_no_places(around: &Around) -> bool
+    ensures { IsTrue result → (i : ℕ) → IsIn i around.now.1 → ⊥ }
+{
+    around.places.is_empty()
+}
+
+// Whether the star with the number is the vertex's and has a place.
+fn is_own(stars: &[Around], n: u32, p: Point) -> bool
+    ensures { MatchBool result (((star_at stars.now n).0 ≡ p) × ((i : ℕ) × IsIn i (star_at stars.now n).1)) ((star_at stars.now n).0 ≡ p → (i : ℕ) → IsIn i (star_at stars.now n).1 → ⊥) }
+{
+    !places_in(stars, n, p).is_empty()
+}
+
+// Adds spare numbers from one on, until there are so many. All that are there are to be before it.
+fn add_spare(
+    list: &mut Vec<u32>,
+    stars: &[Around],
+    count: usize,
+    first: u32,
+) -> Result<(), AllocError>
+    requires order { IsAscending list.old.items }
+    requires before { (i : ℕ) → IsIn i list.old.items → i < first }
+    requires few { length list.old.items ≤ count }
+    ensures order { OnOk result (IsAscending list.new.items) }
+    ensures count { OnOk result (length list.new.items ≡ count) }
+    ensures spare { OnOk result ((n : ℕ) → IsIn n list.new.items → IsIn n list.old.items ⊎ IsSpare stars.now n) }
+{
+    let mut next = first;
+    while list.len() < count {
+        if is_spare(stars, next) {
+            list.push(next)?;
+        }
+        match next.checked_add(1) {
+            Some(after) => next = after,
+            None => return Err(AllocError),
+        }
+    }
+    Ok(())
+}
+
+// Numbers that are likely to be spare, as far as so many are wanted.
+fn likely_numbers(
+    alloc: Global,
+    stars: &[Around],
+    spare: &[u32],
+    count: usize,
+) -> Result<Vec<u32>, AllocError>
+    ensures { IfOk result (λ list. (n : ℕ) → IsIn n list.items → IsSpare stars.now n) }
+{
+    let mut list = Vec::new(alloc);
+    for n in spare {
+        if list.len() >= count {
+            break;
+        }
+        if is_spare(stars, *n) {
+            list.push(*n)?;
+        }
+    }
+    Ok(list)
+}
+
+// So many spare numbers, ascending. New ones begin at the first number or behind it.
+fn numbers_for(
+    alloc: Global,
+    stars: &[Around],
+    spare: &[u32],
+    count: usize,
+    first: u32,
+) -> Result<Vec<u32>, AllocError>
+    ensures order { IfOk result (λ list. IsAscending list.items) }
+    ensures count { IfOk result (λ list. length list.items ≡ count) }
+    ensures spare { IfOk result (λ list. (n : ℕ) → IsIn n list.items → IsSpare stars.now n) }
+{
+    let mut list = numbers_in_order(likely_numbers(alloc, stars, spare, count)?);
+    list.truncate(count);
+    let last = behind_last(&list)?;
+    add_spare(&mut list, stars, count, last.max(first))?;
+    Ok(list)
+}
+
+// Each number beside its vertex.
+fn pairs(
+    alloc: Global,
+    numbers: &[u32],
+    vertices: &[Point],
+) -> Result<Vec<(u32, Point)>, AllocError>
+    ensures { IfOk result (λ list. list.items ≡ zip numbers.now vertices.now) }
+{
+    numbers
+        .iter()
+        .zip(vertices)
+        .map(|(n, p)| (*n, *p))
+        .collect(alloc)
+}
+
+impl Cells {
+    // Adds the vertices of the cell that lie in the bucket.
+    fn add_points(&self, list: &mut Vec<Point>, cell: &Cell) -> Result<(), AllocError>
+        ensures { OnOk result ((p : ℕ) → IsIn p list.new.items ↔ (IsIn p list.old.items ⊎ (IsIn p (points_of cell.now) × (lies_in self.now.place p ≡ true)))) }
+    {
+        for p in cell.points() {
+            if self.has_here(*p) {
+                list.push(*p)?;
+            }
+        }
+        Ok(())
+    }
+
+    // Adds those of the cells at freed places.
+    fn add_freed(&self, list: &mut Vec<Point>, freed: &[u32]) -> Result<(), AllocError>
+        ensures { OnOk result (Gathers (FromPlace self.now) freed.now list.old.items list.new.items) }
+    {
+        for i in freed {
+            if let Some(cell) = cell_at(&self.slots, *i) {
+                self.add_points(list, cell)?;
+            }
+        }
+        Ok(())
+    }
+
+    // Adds those of the cells that are put at places.
+    fn add_placed(&self, list: &mut Vec<Point>, placed: &[(u32, Cell)]) -> Result<(), AllocError>
+        ensures { OnOk result (Gathers (FromPut self.now) placed.now list.old.items list.new.items) }
+    {
+        for (_, cell) in placed {
+            self.add_points(list, cell)?;
+        }
+        Ok(())
+    }
+
+    // The vertices in the bucket of the cells that go and come, ascending.
+    fn vertices_of(&self, alloc: Global, moves: &Moves) -> Result<Vec<Point>, AllocError>
+        ensures order { IfOk result (λ list. IsAscending list.items) }
+        ensures touched { IfOk result (λ list. AreTouched self.now moves.now.freed.items moves.now.placed.items list.items) }
+    {
+        let mut list: Vec<Point> = Vec::new(alloc);
+        self.add_freed(&mut list, &moves.freed)?;
+        self.add_placed(&mut list, &moves.placed)?;
+        Ok(points_in_order(list))
+    }
+
+    // The number of the vertex's star, if it has one with places.
+    fn number_of(&self, p: Point) -> Option<u32>
+        ensures { MatchOption result ((i : ℕ) → IsStarred self.now.keys self.now.stars p i → ⊥) (λ n. IsOwnNumber self.now p n) }
+    {
+        match place_of(&self.keys, p) {
+            Ok(i) => {
+                let number = self.keys[i].1;
+                if is_own(&self.stars, number, p) {
+                    Some(number)
+                } else {
+                    None
+                }
+            }
+            Err(_) => None,
+        }
+    }
+
+    // The number that the vertex's star has after an exchange: its own, or else the one that is for it.
+    fn number_for(&self, p: Point, spare: u32) -> u32
+        ensures { IsOwnNumber self.now p result ⊎ ((result ≡ spare) × ((i : ℕ) → IsStarred self.now.keys self.now.stars p i → ⊥)) }
+    {
+        match self.number_of(p) {
+            Some(n) => n,
+            None => spare,
+        }
+    }
+
+    // The numbers that the stars of the vertices have after an exchange.
+    fn turns(&self, alloc: Global, vertices: &[Point]) -> Result<Vec<(u32, Point)>, AllocError>
+        requires { IsAscending vertices.now }
+        ensures { IfOk result (λ turns. AreNumbered self.now vertices.now turns.items) }
+    {
+        let numbers = numbers_for(
+            alloc,
+            &self.stars,
+            &self.spare,
+            vertices.len(),
+            self.used_stars,
+        )?;
+        let pairs = pairs(alloc, &numbers, vertices)?;
+        let mut turns = Vec::with_capacity(alloc, pairs.len())?;
+        for (n, p) in &pairs {
+            turns.push((self.number_for(*p, *n), *p))?;
+        }
+        Ok(turns)
+    }
+
+    // The places that stay in the star of a vertex.
+    fn staying(
+        &self,
+        alloc: Global,
+        p: Point,
+        freed: &[u32],
+    ) -> Result<SmallVec<u32, 32>, AllocError>
+        requires { IsAscending freed.now }
+        ensures { IfOk result (λ list. (i : ℕ) → IsIn i list.items ↔ (IsStarred self.now.keys self.now.stars p i × (IsIn i freed.now → ⊥))) }
+    {
+        let mut list = SmallVec::new(alloc);
+        for i in self.star_of(p) {
+            if !has_number(freed, *i) {
+                list.push(*i)?;
+            }
+        }
+        Ok(list)
+    }
+
+    // The places of the star of a vertex after an exchange.
+    fn places_after(
+        &self,
+        alloc: Global,
+        p: Point,
+        moves: &Moves,
+    ) -> Result<SmallVec<u32, 32>, AllocError>
+        requires order { IsAscending moves.now.freed.items }
+        requires inside { lies_in self.now.place p ≡ true }
+        ensures { IfOk result (λ list. (i : ℕ) → IsIn i list.items ↔ StarsAfter moves.now.freed.items moves.now.placed.items self.now p i) }
+    {
+        let mut list = self.staying(alloc, p, &moves.freed)?;
+        for (i, c) in &moves.placed {
+            if c.has(p) {
+                list.push(*i)?;
+            }
+        }
+        Ok(list)
+    }
+
+    // The star of a vertex after an exchange.
+    fn star_after(&self, alloc: Global, p: Point, moves: &Moves) -> Result<Around, AllocError>
+        requires order { IsAscending moves.now.freed.items }
+        requires inside { lies_in self.now.place p ≡ true }
+        ensures vertex { IfOk result (λ star. star.0 ≡ p) }
+        ensures places { IfOk result (λ star. (i : ℕ) → IsIn i star.1 ↔ StarsAfter moves.now.freed.items moves.now.placed.items self.now p i) }
+    {
+        Ok(Around {
+            vertex: p,
+            places: self.places_after(alloc, p, moves)?,
+        })
+    }
+
+    // The stars after an exchange of the vertices with these numbers.
+    fn stars_after(
+        &self,
+        alloc: Global,
+        turns: &[(u32, Point)],
+        moves: &Moves,
+    ) -> Result<Vec<(u32, Around)>, AllocError>
+        requires order { IsAscending moves.now.freed.items }
+        requires inside { (n p : ℕ) → IsIn (n, p) turns.now → lies_in self.now.place p ≡ true }
+        ensures { IfOk result (λ writes. AreStarsAfter self.now moves.now.freed.items moves.now.placed.items turns.now writes.items) }
+    {
+        let mut writes = Vec::with_capacity(alloc, turns.len())?;
+        for (n, p) in turns {
+            writes.push((*n, self.star_after(alloc, *p, moves)?))?;
+        }
+        Ok(writes)
+    }
+
+    // The stars that change in an exchange.
+    pub(crate) fn writes(
+        &self,
+        alloc: Global,
+        moves: &Moves,
+    ) -> Result<Vec<(u32, Around)>, AllocError>
+        requires { IsAscending moves.now.freed.items }
+        ensures { IfOk result (λ writes. IsRewriting self.now moves.now.freed.items moves.now.placed.items writes.items) }
+    {
+        let vertices = self.vertices_of(alloc, moves)?;
+        let turns = self.turns(alloc, &vertices)?;
+        self.stars_after(alloc, &turns, moves)
+    }
+}
