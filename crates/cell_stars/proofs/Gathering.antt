@@ -1,6 +1,6 @@
 -- What loops gather from the elements of a list.
 use Rattle.std.specs.Prelude.{◌≡◌, ℕ, ◌+◌, ◌<◌, ◌≤◌, List, [], ◌∷◌, ◌++◌, ◌⊎◌, length, slice_index_or}
-use Rattle.std.proofs.Common.{refl, sym, ◌∙◌, ap, subst, inl, inr, take}
+use Rattle.std.proofs.Common.{subst, inl, inr, take}
 use Rattle.point_order.specs.Sets.{IsIn}
 use Rattle.cell_stars.specs.Gathering.{Gathers}
 use Rattle.cell_stars.proofs.Members.{each_more, each_taken, each_none, at_place, in_pushed, pushed_old, pushed_new}

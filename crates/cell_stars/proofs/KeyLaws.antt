@@ -1,11 +1,13 @@
 -- Vertices with their stars.
-use Rattle.std.specs.Prelude.{◌≡◌, ℕ, zero, suc, ◌<◌, ◌≤◌, ◌==◌, Bool, true, false, List, [], ◌∷◌, ◌⊎◌, length, map, slice_index, slice_index_or, if◌then◌else◌}
-use Rattle.std.proofs.Common.{refl, sym, ◌∙◌, ap, subst, inl, inr, arith}
+use Rattle.std.specs.Prelude.{◌≡◌, ℕ, zero, suc, ◌<◌, ◌≤◌, ◌==◌, Bool, true, false, List, [], ◌∷◌, ◌⊎◌, length, map, slice_index, slice_index_or, if◌then◌else◌, not, MatchBool, IsTrue}
+use Rattle.std.proofs.Common.{◌+◌, take, refl, sym, ◌∙◌, ap, subst, inl, inr, arith}
 use Rattle.std.proofs.lemmas.Bool.Decides.{nat_tests, leb_tells}
 use Rattle.std.specs.List.{insert, remove}
 use Rattle.point_order.specs.Sets.{IsIn, IsAscending, IsBelowFirst}
 use Rattle.point_order.proofs.SetLaws.{below-each}
 use Rattle.cell_stars.specs.Places.{IsStarred, star_at}
+use Rattle.cell_stars.specs.Moves.{IsWritten, AreKeysAfter, AreAgreed, IsKeyed, IsKeyAfter}
+use Rattle.cell_stars.proofs.Members.{in_more, in_taken, at_place}
 
 abbrev pub Keys : Type 0
 Keys = List (ℕ × ℕ)
@@ -97,6 +99,26 @@ star_here ks stars p i k star a h e f x = (there, back)
 pub no_star : (ks : Keys) (stars : List (ℕ × List ℕ)) (p i : ℕ) (star : List ℕ) → BelongsAt ks p i → star ≡ [] → (x : ℕ) → (IsIn x star → IsStarred ks stars p x) × (IsStarred ks stars p x → IsIn x star)
 no_star ks stars p i star b e x = (λ m. absurd (subst (λ (l : List ℕ). IsIn x l) e m), λ s. absurd (no_key ks p i b (p, s.number) s.key refl))
 
+zero_of : (n : ℕ) → (n == 0) ≡ true → n ≡ 0
+zero_of n = grind (arith, nat_tests)
+
+-- whether a star has a place
+pub has_any : (s : ℕ × List ℕ) (l : List ℕ) (r : Bool) → l ≡ s.1 → r ≡ (length l == 0) → MatchBool (not r) ((i : ℕ) × IsIn i s.1) ((i : ℕ) → IsIn i s.1 → ⊥)
+has_any s [] true e f = λ i m. subst (λ (k : List ℕ). IsIn i k) (sym e) m
+has_any s (x ∷ l) true e f = (let t = zero_of (length (x ∷ l)) (sym f) in absurd (omega (arith, t)))
+has_any s [] false e f = absurd (yes f)
+  where
+    yes : false ≡ true → ⊥
+    yes g = cc g
+has_any s (x ∷ l) false e f = (x, subst (λ (k : List ℕ). IsIn x k) e (inl refl))
+
+pub none_there : (s : ℕ × List ℕ) (r : Bool) → IsTrue (not r) → MatchBool r ((i : ℕ) × IsIn i s.1) ((i : ℕ) → IsIn i s.1 → ⊥) → (i : ℕ) → IsIn i s.1 → ⊥
+none_there s true t m = absurd (yes t)
+  where
+    yes : false ≡ true → ⊥
+    yes g = cc g
+none_there s false t m = m
+
 -- ---- a key put in or taken out
 
 in_vertices : (ks : Keys) (i : ℕ) → i < length ks → IsIn (slice_index (vertices ks) i) (vertices ks)
@@ -170,3 +192,179 @@ with_key ks new p n i a b e = (subst (λ l. IsAscending (vertices l)) (sym e) (o
     back (x ∷ ks) (suc i) k h (inl f) = inr (back ks i k (omega (arith, h)) (inl f))
     back (x ∷ ks) (suc i) k h (inr (inl f)) = inl f
     back (x ∷ ks) (suc i) k h (inr (inr m)) = inr (back ks i k (omega (arith, h)) (inr m))
+
+-- one more key, where the vertex was taken out before
+pub key_put : (old mid new : Keys) (p n : ℕ) → ((k : ℕ × ℕ) → (IsIn k mid → IsIn k old × (k.0 ≡ p → ⊥)) × (IsIn k old × (k.0 ≡ p → ⊥) → IsIn k mid)) → ((k : ℕ × ℕ) → (IsIn k new → ((p, n) ≡ k) ⊎ IsIn k mid) × (((p, n) ≡ k) ⊎ IsIn k mid → IsIn k new)) →
+    (k : ℕ × ℕ) → (IsIn k new → ((p, n) ≡ k) ⊎ (IsIn k old × (k.0 ≡ p → ⊥))) × (((p, n) ≡ k) ⊎ (IsIn k old × (k.0 ≡ p → ⊥)) → IsIn k new)
+key_put old mid new p n f g k = (
+  λ m. elim ((g k).0 m) [ inl e ↦ inl e | inr i ↦ inr ((f k).0 i) ],
+  λ m. (g k).1 (elim m [ inl e ↦ inl e | inr i ↦ inr ((f k).1 i) ]),
+)
+
+-- no key is that of a vertex that was taken out
+pub taken_out : (old mid ks : Keys) (p i : ℕ) → ((k : ℕ × ℕ) → (IsIn k mid → IsIn k old × (k.0 ≡ p → ⊥)) × (IsIn k old × (k.0 ≡ p → ⊥) → IsIn k mid)) → ks ≡ mid → (i < length ks) × (slice_index (vertices ks) i ≡ p) → ⊥
+taken_out old mid ks p i f e h = by (at_vertex ks i h.0) h.1
+  where
+    at_vertex : (ks : Keys) (i : ℕ) → i < length ks → (k : ℕ × ℕ) × IsIn k ks × (slice_index (vertices ks) i ≡ k.0)
+    at_vertex [] i h = absurd (omega arith)
+    at_vertex (x ∷ ks) zero h = (x, inl refl, refl)
+    at_vertex (x ∷ ks) (suc i) h = (let r = at_vertex ks i (omega arith) in (r.0, inr r.1, r.2))
+
+    by : (k : ℕ × ℕ) × IsIn k ks × (slice_index (vertices ks) i ≡ k.0) → slice_index (vertices ks) i ≡ p → ⊥
+    by (k, m, q) g = ((f k).0 (subst (λ (l : Keys). IsIn k l) e m)).1 (sym q ∙ g)
+
+-- ---- the keys after stars were written
+
+pub same_or_not : (x y : ℕ) → (x ≡ y) ⊎ (x ≡ y → ⊥)
+same_or_not x y = by (x == y) refl
+  where
+    by : (b : Bool) → (x == y) ≡ b → (x ≡ y) ⊎ (x ≡ y → ⊥)
+    by true e = inl (test_same x y e)
+    by false e = inr (λ q. (let t = same_test x y q in absurd (cc (e, t))))
+
+-- where the star's key is there, nothing changes
+pub keyed_same : (ks : Keys) (n : ℕ) (s : ℕ × List ℕ) → IsAscending (vertices ks) → IsKeyed ks n s → (k : ℕ × ℕ) → (IsIn k ks → IsKeyAfter ks n s k) × (IsKeyAfter ks n s k → IsIn k ks)
+keyed_same ks n s a h k = (
+  λ m. elim (same_or_not k.0 s.0) [ inl e ↦ inl (one_key ks (s.0, n) k a h.key m (sym e), (h.place, h.filled)) | inr d ↦ inr (m, d) ],
+  λ m. elim m [ inl e ↦ subst (λ (x : ℕ × ℕ). IsIn x ks) e.0 h.key | inr i ↦ i.0 ],
+)
+
+-- where it has no place, its vertex goes
+pub unkeyed : (old new : Keys) (n p : ℕ) (s : ℕ × List ℕ) → p ≡ s.0 → ((i : ℕ) → IsIn i s.1 → ⊥) → ((k : ℕ × ℕ) → (IsIn k new → IsIn k old × (k.0 ≡ p → ⊥)) × (IsIn k old × (k.0 ≡ p → ⊥) → IsIn k new)) → (k : ℕ × ℕ) → (IsIn k new → IsKeyAfter old n s k) × (IsKeyAfter old n s k → IsIn k new)
+unkeyed old new n p s e f g k = (
+  λ m. (let r = (g k).0 m in inr (r.0, λ q. r.1 (q ∙ sym e))),
+  λ m. elim m [ inl q ↦ absurd (f q.1.0 q.1.1) | inr i ↦ (g k).1 (i.0, λ q. i.1 (q ∙ e)) ],
+)
+
+-- where it has one, its vertex comes
+pub rekeyed : (old new : Keys) (n p : ℕ) (s : ℕ × List ℕ) → p ≡ s.0 → (i : ℕ) × IsIn i s.1 → ((k : ℕ × ℕ) → (IsIn k new → ((p, n) ≡ k) ⊎ (IsIn k old × (k.0 ≡ p → ⊥))) × (((p, n) ≡ k) ⊎ (IsIn k old × (k.0 ≡ p → ⊥)) → IsIn k new)) → (k : ℕ × ℕ) → (IsIn k new → IsKeyAfter old n s k) × (IsKeyAfter old n s k → IsIn k new)
+rekeyed old new n p s e f g k = (
+  λ m. elim ((g k).0 m) [ inl q ↦ inl (ap (λ (x : ℕ). (x, n)) (sym e) ∙ q, f) | inr r ↦ inr (r.0, λ q. r.1 (q ∙ sym e)) ],
+  λ m. (g k).1 (elim m [ inl q ↦ inl (ap (λ (x : ℕ). (x, n)) e ∙ q.0) | inr i ↦ inr (i.0, λ q. i.1 (q ∙ e)) ]),
+)
+
+-- the star that a written star's key has
+abbrev Writes : Type 0
+Writes = List (ℕ × (ℕ × List ℕ))
+
+-- the same for the first writes
+pub record KeysSoFar (old : Keys) (writes : Writes) (n : ℕ) (new : Keys) : Type 0 where
+  pub order : IsAscending (vertices new)
+  pub from : (p m : ℕ) → IsIn (p, m) new → IsWritten (take n writes) p m ⊎ (IsIn (p, m) old × ((j : ℕ) (s : List ℕ) → IsIn (j, (p, s)) (take n writes) → ⊥))
+  pub kept : (p m : ℕ) → IsIn (p, m) old → ((j : ℕ) (s : List ℕ) → IsIn (j, (p, s)) (take n writes) → ⊥) → IsIn (p, m) new
+  pub written : (p m : ℕ) → IsWritten (take n writes) p m → IsIn (p, m) new
+
+none_yet : (writes : Writes) (x : ℕ × (ℕ × List ℕ)) → IsIn x (take 0 writes) → ⊥
+none_yet [] x m = m
+none_yet (y ∷ writes) x m = m
+
+pub keys_begin : (old new : Keys) (writes : Writes) → new ≡ old → IsAscending (vertices old) → KeysSoFar old writes 0 new
+keys_begin old new writes e a = rw e (record {
+  order = a;
+  from = λ p m i. inr (i, λ j s k. none_yet writes (j, (p, s)) k);
+  kept = λ p m i f. i;
+  written = λ p m q. absurd (none_yet writes (m, (p, q.places)) q.listed);
+})
+
+widen : (writes : Writes) (n : ℕ) (y : ℕ × (ℕ × List ℕ)) → IsIn y (take n writes) → IsIn y (take (n + 1) writes)
+widen writes n y m = subst (λ k. IsIn y (take k writes)) (one n) (more writes n y m)
+  where
+    one : (n : ℕ) → suc n ≡ n + 1
+    one n = omega arith
+
+    more : (writes : Writes) (n : ℕ) (y : ℕ × (ℕ × List ℕ)) → IsIn y (take n writes) → IsIn y (take (suc n) writes)
+    more [] zero y m = absurd m
+    more [] (suc n) y m = absurd m
+    more (x ∷ l) zero y m = absurd m
+    more (x ∷ l) (suc n) y (inl e) = inl e
+    more (x ∷ l) (suc n) y (inr m) = inr (more l n y m)
+
+last_in : (writes : Writes) (n : ℕ) (x d : ℕ × (ℕ × List ℕ)) → n < length writes → x ≡ slice_index_or writes n d → IsIn x (take (n + 1) writes)
+last_in writes n x d h e = subst (λ k. IsIn x (take k writes)) (one n) (last writes n h e)
+  where
+    one : (n : ℕ) → suc n ≡ n + 1
+    one n = omega arith
+
+    last : (writes : Writes) (n : ℕ) → n < length writes → x ≡ slice_index_or writes n d → IsIn x (take (suc n) writes)
+    last [] n h e = absurd (omega arith)
+    last (y ∷ l) zero h e = inl (sym e)
+    last (y ∷ l) (suc n) h e = inr (last l n (omega arith) e)
+
+one_or : (writes : Writes) (n : ℕ) (x d y : ℕ × (ℕ × List ℕ)) → n < length writes → x ≡ slice_index_or writes n d → IsIn y (take (n + 1) writes) → IsIn y (take n writes) ⊎ (x ≡ y)
+one_or writes n x d y h e m = in_more writes n x d y h e (subst (λ k. IsIn y (take k writes)) (one n) m)
+  where
+    one : (n : ℕ) → n + 1 ≡ suc n
+    one n = omega arith
+
+pub keys_step : (old list new : Keys) (writes : Writes) (n : ℕ) (x d : ℕ × (ℕ × List ℕ)) → AreAgreed writes → n < length writes → x ≡ slice_index_or writes n d → IsAscending (vertices new) → ((k : ℕ × ℕ) → (IsIn k new → IsKeyAfter list x.0 x.1 k) × (IsKeyAfter list x.0 x.1 k → IsIn k new)) → KeysSoFar old writes n list → KeysSoFar old writes (n + 1) new
+keys_step old list new writes n x d g h e a f s = record { order = a; from = from; kept = kept; written = written }
+  where
+    here : IsIn x writes
+    here = at_place writes n x d h e
+
+    from : (p m : ℕ) → IsIn (p, m) new → IsWritten (take (n + 1) writes) p m ⊎ (IsIn (p, m) old × ((j : ℕ) (s : List ℕ) → IsIn (j, (p, s)) (take (n + 1) writes) → ⊥))
+    from p m i = elim ((f (p, m)).0 i) [
+      | inl q ↦ inl (record { places = x.1.1; listed = subst (λ (k : ℕ × ℕ). IsIn (k.1, (k.0, x.1.1)) (take (n + 1) writes)) q.0 (last_in writes n x d h e); place = q.1.0; filled = q.1.1 })
+      | inr r ↦ elim (s.from p m r.0) [
+        | inl w ↦ inl (record { places = w.places; listed = widen writes n (m, (p, w.places)) w.listed; place = w.place; filled = w.filled })
+        | inr o ↦ inr (o.0, λ j t k. elim (one_or writes n x d (j, (p, t)) h e k) [ inl u ↦ o.1 j t u | inr q ↦ r.1 (sym (ap (λ y. y.1.0) q)) ])
+      ]
+    ]
+
+    kept : (p m : ℕ) → IsIn (p, m) old → ((j : ℕ) (s : List ℕ) → IsIn (j, (p, s)) (take (n + 1) writes) → ⊥) → IsIn (p, m) new
+    kept p m i none = (f (p, m)).1 (inr (s.kept p m i (λ j t k. none j t (widen writes n (j, (p, t)) k)), λ q. none x.0 x.1.1 (subst (λ (v : ℕ). IsIn (x.0, (v, x.1.1)) (take (n + 1) writes)) (sym q) (last_in writes n x d h e))))
+
+    written : (p m : ℕ) → IsWritten (take (n + 1) writes) p m → IsIn (p, m) new
+    written p m w = elim (one_or writes n x d (m, (p, w.places)) h e w.listed) [
+      | inl u ↦ elim (same_or_not p x.1.0) [
+        | inl q ↦ (
+            let r = g m x.0 p w.places x.1.1 (in_taken writes n (m, (p, w.places)) u) (subst (λ (v : ℕ). IsIn (x.0, (v, x.1.1)) writes) (sym q) here) in
+            (f (p, m)).1 (inl (ap (λ (v : ℕ). (v, x.0)) (sym q) ∙ ap (λ (v : ℕ). (p, v)) (sym r.0), (w.place, r.1 w.place w.filled))))
+        | inr q ↦ (f (p, m)).1 (inr (s.written p m (record { places = w.places; listed = u; place = w.place; filled = w.filled }), q))
+      ]
+      | inr q ↦ (f (p, m)).1 (inl (ap (λ (y : ℕ × (ℕ × List ℕ)). (y.1.0, y.0)) q, (w.place, subst (λ (y : ℕ × (ℕ × List ℕ)). IsIn w.place y.1.1) (sym q) w.filled)))
+    ]
+
+pub keys_end : (old new : Keys) (writes : Writes) (n : ℕ) → length writes ≤ n → KeysSoFar old writes n new → AreKeysAfter old writes new
+keys_end old new writes n h s = subst (λ w. All w) (taken writes n h) (record { order = s.order; from = s.from; kept = s.kept; written = s.written })
+  where
+    All : Writes → Type 0
+    All w = AreKeysAfter old w new
+
+    taken : (w : Writes) (n : ℕ) → length w ≤ n → take n w ≡ w
+    taken [] zero h = refl
+    taken [] (suc n) h = refl
+    taken (x ∷ w) zero h = absurd (omega arith)
+    taken (x ∷ w) (suc n) h = ap (λ (l : Writes). x ∷ l) (taken w n (omega arith))
+
+-- a vertex has a star that is written, or not
+written_or_not : (writes : Writes) (p : ℕ) → ((j : ℕ) × (s : List ℕ) × IsIn (j, (p, s)) writes) ⊎ ((j : ℕ) (s : List ℕ) → IsIn (j, (p, s)) writes → ⊥)
+written_or_not [] p = inr (λ j s m. m)
+written_or_not (x ∷ w) p = elim (same_or_not x.1.0 p) [
+  | inl e ↦ inl (x.0, x.1.1, inl (ap (λ (v : ℕ). (x.0, (v, x.1.1))) e))
+  | inr d ↦ elim (written_or_not w p) [
+    | inl r ↦ inl (r.0, r.1, inr r.2)
+    | inr n ↦ inr (λ j s m. elim m [ inl q ↦ d (ap (λ y. y.1.0) q) | inr k ↦ n j s k ])
+  ]
+]
+
+-- where all keys are there, they stay
+pub keys_stay : (old : Keys) (writes : Writes) → IsAscending (vertices old) → ((n : ℕ) (s : ℕ × List ℕ) → IsIn (n, s) writes → IsKeyed old n s) → AreKeysAfter old writes old
+keys_stay old writes a f = record { order = a; from = from; kept = λ p m i none. i; written = λ p m w. (f m (p, w.places) w.listed).key }
+  where
+    from : (p n : ℕ) → IsIn (p, n) old → IsWritten writes p n ⊎ (IsIn (p, n) old × ((m : ℕ) (s : List ℕ) → IsIn (m, (p, s)) writes → ⊥))
+    from p n i = elim (written_or_not writes p) [
+      | inl r ↦ (
+          let k = f r.0 (p, r.1) r.2 in
+          let e : n ≡ r.0 = ap (λ y. y.1) (one_key old (p, n) (p, r.0) a i k.key refl) in
+          inl (record { places = r.1; listed = subst (λ (m : ℕ). IsIn (m, (p, r.1)) writes) (sym e) r.2; place = k.place; filled = k.filled }))
+      | inr n ↦ inr (i, n)
+    ]
+
+-- a key that was found with its number
+pub key_there : (ks : Keys) (p n i : ℕ) (k : ℕ × ℕ) → (i < length ks) × (slice_index (vertices ks) i ≡ p) → k ≡ slice_index_or ks i k → ((slice_index_or ks i k).1 == n) ≡ true → IsIn (p, n) ks
+key_there ks p n i k h e t =
+    let r = at_key ks i k h.0 e in
+    let a : k.0 ≡ p = sym r.1 ∙ h.1 in
+    let b : k.1 ≡ n = ap (λ y. y.1) e ∙ test_same (slice_index_or ks i k).1 n t in
+    subst (λ (x : ℕ × ℕ). IsIn x ks) (ap (λ (v : ℕ). (v, k.1)) a ∙ ap (λ (v : ℕ). (p, v)) b) r.0

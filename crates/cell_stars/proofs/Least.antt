@@ -13,7 +13,6 @@ use Rattle.point_order.specs.Facets.{points_of}
 use Rattle.point_order.specs.Sets.{IsIn, is_among}
 use Rattle.del_laws.proofs.Ordered.{same_members}
 use Rattle.del_laws.proofs.Tests.{filtered_from, filtered_true, among_from, among_true}
-use Rattle.cell_stars.specs.Grids.{bucket_of}
 use Rattle.cell_stars.specs.Swaps.{with_cells}
 use Rattle.cell_stars.specs.Places.{Placed, AreStars, IsStarred, live, at, named, cells_of, lies_in, is_after, IsOneOf, HaveNone, IsLeastOf}
 use Rattle.cell_stars.proofs.CellLaws.{cell_same, cell_self, cell_before, cell_after, in_withs, withs_new, withs_sorted}
@@ -176,8 +175,8 @@ not_less slots star bound i x c cell h e a lt l = record { one = widened slots s
     least d k m = elim (one_more star i x k.place h e k.listed) [
       | inl n ↦ l.least d (record { place = k.place; listed = n; there = k.there; behind = k.behind }) m
       | inr q ↦ (let same : cell ≡ d = one_cell cell d (sym a ∙ ap (at slots) q ∙ k.there) in
-                 let t = cell_before c cell c lt (subst (λ y. cell_cmp y c ≡ Less) (sym same) m) in
-                 let s = cell_self c in absurd (cc (s, t)))
+          let t = cell_before c cell c lt (subst (λ y. cell_cmp y c ≡ Less) (sym same) m) in
+          let s = cell_self c in absurd (cc (s, t)))
     ]
 
 -- a cell that is
@@ -197,7 +196,7 @@ lesser {X} f slots star bound i x o cell h e a b none_so found = record { one = 
     least d k m = elim (one_more star i x k.place h e k.listed) [
       | inl n ↦ older o none_so found d (record { place = k.place; listed = n; there = k.there; behind = k.behind }) m
       | inr q ↦ (let same : cell ≡ d = one_cell cell d (sym a ∙ ap (at slots) q ∙ k.there) in
-                 let s = cell_self cell in let t = subst (λ y. cell_cmp y cell ≡ Less) (sym same) m in absurd (cc (s, t)))
+          let s = cell_self cell in let t = subst (λ y. cell_cmp y cell ≡ Less) (sym same) m in absurd (cc (s, t)))
     ]
 
 pub all_taken : (l : List ℕ) (i : ℕ) → (i < length l → ⊥) → take i l ≡ l

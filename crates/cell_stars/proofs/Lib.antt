@@ -10,3 +10,5 @@ pub mod Moved
 pub mod Orders
 pub mod Search
 pub mod WriteLaws
+pub mod Planned
+pub mod Rewritten

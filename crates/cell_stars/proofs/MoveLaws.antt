@@ -11,7 +11,7 @@ use Rattle.point_order.specs.CellOrder.{cell_cmp}
 use Rattle.point_order.specs.Facets.{points_of}
 use Rattle.point_order.specs.Sets.{IsIn, IsAscending, IsBelowFirst}
 use Rattle.point_order.proofs.SetLaws.{below-each}
-use Rattle.del_laws.proofs.Listed.{in_left, in_right, from_append}
+use Rattle.del_laws.proofs.Listed.{in_right, from_append}
 use Rattle.cell_stars.specs.Places.{Placed, AreStars, IsStarred, at, lies_in, touches_in}
 use Rattle.cell_stars.specs.Moves.{IsStarFor, AreFreed, IsFreed, AreComing, IsComing, Stays, IsVacant}
 use Rattle.del_laws.proofs.Tests.{any_from, any_true, among_from, among_true}
@@ -20,7 +20,7 @@ use Rattle.cell_stars.specs.Grids.{bucket_of}
 use Rattle.cell_stars.specs.Plans.{AreFor}
 use Rattle.cell_stars.specs.Swaps.{AreSameCells}
 use Rattle.cell_stars.proofs.CellLaws.{cell_same, cell_self, each_by}
-use Rattle.cell_stars.proofs.Members.{each_more, each_taken, each_none, at_place, in_pushed, in_taken, pushed_old, pushed_new}
+use Rattle.cell_stars.proofs.Members.{each_more, each_taken, each_none, at_place, in_pushed, pushed_old, pushed_new}
 
 not_itself : (c d : Cell) → c ≡ d → cell_cmp c d ≡ Less → ⊥
 not_itself c d q e = (let s = cell_self c in let t = ap (cell_cmp c) q ∙ e in absurd (cc (s, t)))
@@ -209,6 +209,7 @@ zip_single (u ∷ us) (e ∷ cs) i j c a (inr m) (inr n) = zip_single us cs i j 
 -- the places and the cells together are what goes and comes
 pub are_for : (b : Placed) (slots : List (Option Cell)) (gone fresh coming : List Cell) (freed us : List ℕ) (placed : List (ℕ × Cell)) → AreStars b → slots ≡ b.slots → AreFreed b gone freed → IsStrictlySortedBy cell_cmp coming → AreComing b freed fresh coming → IsAscending us → length us ≡ length coming → ((i : ℕ) → IsIn i us → IsVacant slots freed i) → placed ≡ zip us coming → AreFor gone fresh freed placed b
 are_for b slots gone fresh coming freed us placed a es f o k au n v p = rw p (record {
+  there = λ i m. (let r = f.each i m in (r.cell, r.there));
   freed_gone = λ i c m e. (let r = f.each i m in let q : r.cell ≡ c = (let t : Some r.cell ≡ Some c = sym r.there ∙ e in cc t) in (subst (λ x. IsIn x gone) q r.goes, ap (touches_in b.place) (sym q) ∙ r.touches));
   gone_freed = f.all;
   placed_fresh = λ i c m. (let r = k.each c (in_zip us coming i c m).1 in (r.comes, r.touches));

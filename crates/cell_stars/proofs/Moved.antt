@@ -1,5 +1,5 @@
 -- Exchanges by places.
-use Rattle.std.specs.Prelude.{◌≡◌, ℕ, true, List, [], Option, Some}
+use Rattle.std.specs.Prelude.{◌≡◌, ℕ, List, [], Option, Some}
 use Rattle.std.specs.List.Sorted.{IsStrictlySortedBy}
 use Rattle.std.proofs.Common.{inl, inr, sym, ◌∙◌, ap}
 use Rattle.point_order.specs.declared.cell.Cell.{Cell}

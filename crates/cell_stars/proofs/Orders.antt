@@ -1,22 +1,22 @@
 -- Lists in order, each element once.
-use Rattle.std.specs.Prelude.{◌≡◌, ℕ, suc, ◌<◌, ◌+◌, slice_index, Bool, true, cond, not, List, [], ◌∷◌, length, nat_eq}
+use Rattle.std.specs.Prelude.{◌≡◌, ℕ, suc, ◌<◌, ◌+◌, slice_index, Bool, true, List, [], ◌∷◌}
 use Rattle.std.specs.Cmp.{IsTotalOrder, IsEquivalence}
-use Rattle.std.specs.List.{dedup, Contains, AllByRecursion}
+use Rattle.std.specs.List.{dedup, Contains}
 use Rattle.std.specs.List.Sorted.{IsStrictlySortedBy, IsStrictlyIncreasing, IsSorted, IsPermutation}
 use Rattle.std.specs.Ordering.{nat_cmp, is_eq, eq_by_cmp}
 use Rattle.std.specs.declared.cmp.Ordering.{Ordering}
 use Rattle.std.specs.declared.cmp.Ordering.TheVariants.{Less, Equal, Greater}
 use Rattle.std.proofs.Common.{refl, sym, ◌∙◌, ap, subst, inl, inr, arith, eqb}
-use Rattle.std.proofs.lemmas.Cmp.{eq_by_cmp_equiv, nat_cmp_total}
+use Rattle.std.proofs.lemmas.Cmp.{eq_by_cmp_equiv}
 use Rattle.std.proofs.lemmas.List.Kept.{Contains-dedup, Contains-dedup_nat, Contains-from_dedup, IsStrictlySortedBy-dedup}
 use Rattle.std.proofs.lemmas.Map.Keys.{IsStrictlyIncreasing-dedup}
 use Rattle.std.proofs.lemmas.List.Sorted.{Contains-permutation, IsPermutation-sym}
 use Rattle.point_order.specs.declared.cell.Cell.{Cell}
 use Rattle.point_order.specs.CellOrder.{cell_cmp}
-use Rattle.point_order.specs.Sets.{IsIn, IsAscending, IsBelowFirst}
+use Rattle.point_order.specs.Sets.{IsIn, IsAscending}
 use Rattle.edit_history.proofs.Lines.{at-in}
 use Rattle.cell_stars.specs.Swaps.{AreSameCells}
-use Rattle.cell_stars.proofs.CellLaws.{cell_same, cell_reverse, cell_before, each_by}
+use Rattle.cell_stars.proofs.CellLaws.{cell_same, cell_reverse, cell_before}
 
 pub cell_order : IsTotalOrder cell_cmp
 cell_order = record { antisymm = cell_reverse; trans = cell_before; congr = λ c d e h. ap (λ x. cell_cmp x e) (cell_same c d h) }

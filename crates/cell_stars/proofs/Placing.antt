@@ -1,17 +1,17 @@
 -- Where a bucket stands, and the list of its cells.
-use Rattle.std.specs.Prelude.{◌≡◌, ℕ, zero, suc, Bool, true, false, List, [], ◌∷◌, ◌++◌, ◌⊎◌, Option, None, Some, IsPermutation}
+use Rattle.std.specs.Prelude.{◌≡◌, ℕ, suc, List, [], ◌∷◌, ◌++◌, ◌⊎◌, Option, None, Some, IsPermutation}
 use Rattle.std.specs.Ordering.{match_ordering}
 use Rattle.std.specs.declared.cmp.Ordering.{Ordering}
 use Rattle.std.specs.declared.cmp.Ordering.TheVariants.{Less, Equal, Greater}
 use Rattle.std.proofs.Common.{refl, sym, ◌∙◌, ap, subst, inl, inr, arith}
-use Rattle.std.proofs.lemmas.List.Sorted.{IsPermutation-refl, IsPermutation-sym, IsPermutation-cons, IsPermutation-trans, IsPermutation-middle, IsPermutation-append_right, IsPermutation-swap}
+use Rattle.std.proofs.lemmas.List.Sorted.{IsPermutation-refl, IsPermutation-cons, IsPermutation-trans, IsPermutation-middle, IsPermutation-append_right}
 use Rattle.point_order.specs.declared.cell.Cell.{Cell}
 use Rattle.point_order.specs.CellOrder.{cell_cmp}
 use Rattle.point_order.specs.Sets.{IsIn}
 use Rattle.cell_stars.specs.Swaps.{with_cell, with_cells}
-use Rattle.cell_stars.specs.Places.{Placed, AreStars, IsStarred, IsNamed, at, live, cells_of, lies_in, touches_in}
+use Rattle.cell_stars.specs.Places.{Placed, AreStars, IsNamed, at, live, cells_of, lies_in, touches_in}
 use Rattle.cell_stars.proofs.CellLaws.{cell_same, in_with}
-use Rattle.cell_stars.proofs.Least.{live_at, at_live}
+use Rattle.cell_stars.proofs.Least.{at_live}
 
 -- a bucket that has not stood anywhere has no cells
 pub stands_new : (w : ℕ × ℕ) (b : Placed) → b.place ≡ None → AreStars b → AreStars (record b { place = Some w })

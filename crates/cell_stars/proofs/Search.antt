@@ -5,8 +5,8 @@ use Rattle.std.proofs.Common.{refl, sym, ◌∙◌, ap, subst, inl, inr, arith}
 use Rattle.std.proofs.Math.ListN.{get_or-map}
 use Rattle.std.proofs.lemmas.List.{length-map}
 use Rattle.std.proofs.Math.Nat.{pow-succ', mul-le-mul_left, mul_assoc, mul_left_comm}
-use Rattle.std.proofs.lemmas.Bool.Decides.{eqb_tells, leb_tells}
-use Rattle.point_order.specs.Sets.{IsIn, IsAscending}
+use Rattle.std.proofs.lemmas.Bool.Decides.{eqb_tells}
+use Rattle.point_order.specs.Sets.{IsAscending}
 use Rattle.point_order.proofs.SetLaws.{rises}
 
 -- The keys before low are less, those from high on are greater, and each step halved what is left. There are n.

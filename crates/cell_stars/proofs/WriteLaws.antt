@@ -1,18 +1,18 @@
 -- The stars after an exchange.
-use Rattle.std.specs.Prelude.{◌≡◌, ℕ, ◌+◌, ◌<◌, ◌≤◌, Bool, true, false, not, List, [], ◌∷◌, ◌++◌, ◌⊎◌, length, slice_index, slice_index_or, Option, None, Some, MatchBool, MatchOption, IsTrue, zero, suc, ◌==◌}
+use Rattle.std.specs.Prelude.{◌≡◌, ℕ, ◌+◌, ◌<◌, ◌≤◌, Bool, true, false, not, List, [], ◌∷◌, ◌++◌, ◌⊎◌, length, slice_index, slice_index_or, Option, None, Some, MatchBool, ◌==◌}
 use Rattle.std.specs.List.{zip}
-use Rattle.std.proofs.Common.{refl, sym, ◌∙◌, ap, subst, inl, inr, arith, take}
+use Rattle.std.proofs.Common.{refl, sym, ◌∙◌, ap, subst, inl, inr, arith}
 use Rattle.point_order.specs.declared.cell.Cell.{Cell}
 use Rattle.point_order.specs.Facets.{points_of}
 use Rattle.point_order.specs.Sets.{IsIn, IsAscending, is_among}
 use Rattle.point_order.proofs.SetLaws.{below-each}
 use Rattle.std.proofs.lemmas.Bool.Decides.{nat_tests}
 use Rattle.del_laws.proofs.Tests.{among_from, among_true}
-use Rattle.cell_stars.specs.Places.{Placed, AreStars, IsStarred, at, lies_in, touches_in, star_at}
-use Rattle.cell_stars.specs.Plans.{StarsAfter, IsPutAt}
+use Rattle.cell_stars.specs.Places.{Placed, IsStarred, at, lies_in, star_at}
+use Rattle.cell_stars.specs.Plans.{StarsAfter}
 use Rattle.cell_stars.specs.Moves.{AreTouched, AreNumbered, AreStarsAfter, IsOwnNumber, IsSpare}
 use Rattle.cell_stars.specs.Gathering.{Gathers, FromPoints, FromPlace, FromPut}
-use Rattle.cell_stars.proofs.KeyLaws.{owned_by, in_owned, owned_in, Keys, vertices, BelongsAt, one_key, at_key, no_key, star_here}
+use Rattle.cell_stars.proofs.KeyLaws.{owned_by, in_owned, owned_in, Keys, vertices, BelongsAt, one_key, at_key, no_key}
 use Rattle.cell_stars.proofs.Gathering.{Gathered, gather_all, gather_push, gather_skip, gather_step, Made, made_all}
 
 -- ---- vertices that are touched

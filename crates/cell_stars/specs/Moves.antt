@@ -1,12 +1,10 @@
 -- What goes and comes in an exchange, and where.
 use Rattle.std.specs.Prelude.{◌≡◌, ◌⊎◌, ℕ, true, List, Option, Some, map}
-use Rattle.std.specs.List.Sorted.{IsStrictlySortedBy}
 use Rattle.point_order.specs.declared.cell.Cell.{Cell}
-use Rattle.point_order.specs.CellOrder.{cell_cmp}
 use Rattle.point_order.specs.Facets.{points_of}
 use Rattle.point_order.specs.Sets.{IsIn, IsAscending}
 use Rattle.cell_stars.specs.Places.{Placed, IsStarred, at, lies_in, touches_in, star_at}
-use Rattle.cell_stars.specs.Plans.{IsPutAt, StarsAfter}
+use Rattle.cell_stars.specs.Plans.{StarsAfter}
 
 -- a list is the star of some vertex of the cell in the bucket
 pub record IsStarFor (b : Placed) (c : Cell) (star : List ℕ) : Type 0 where
@@ -115,3 +113,12 @@ pub record IsKeyed (keys : List (ℕ × ℕ)) (n : ℕ) (s : ℕ × List ℕ) : 
 -- the vertex of the star, which has a place, with its number; or another vertex that was there
 abbrev pub IsKeyAfter : List (ℕ × ℕ) → ℕ → ℕ × List ℕ → ℕ × ℕ → Type 0
 IsKeyAfter old n s k = (((s.0, n) ≡ k) × ((i : ℕ) × IsIn i s.1)) ⊎ (IsIn k old × ¬ (k.0 ≡ s.0))
+
+-- the same cells stand at the same places
+abbrev pub HasSameCells : List (Option Cell) → List (Option Cell) → Type 0
+HasSameCells old new = (i : ℕ) → at new i ≡ at old i
+
+-- the same places are in the stars of the same vertices
+pub record HasSameStars (old new : List (ℕ × List ℕ)) : Type 0 where
+  pub there : (n i : ℕ) → IsIn i (star_at old n).1 → star_at new n ≡ star_at old n
+  pub back : (n i : ℕ) → IsIn i (star_at new n).1 → star_at new n ≡ star_at old n

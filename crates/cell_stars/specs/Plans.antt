@@ -3,7 +3,7 @@ use Rattle.std.specs.Prelude.{◌≡◌, ◌<◌, ◌↔◌, ◌⊎◌, ℕ, tru
 use Rattle.point_order.specs.declared.cell.Cell.{Cell}
 use Rattle.point_order.specs.Facets.{points_of}
 use Rattle.point_order.specs.Sets.{IsIn, IsAscending}
-use Rattle.cell_stars.specs.Places.{Placed, AreStars, IsMoved, IsStarred, at, cells_of, lies_in, touches_in, star_at, swapped_at}
+use Rattle.cell_stars.specs.Places.{Placed, AreStars, IsMoved, IsStarred, at, cells_of, lies_in, touches_in, swapped_at}
 
 -- A plan: the places and the stars in longer lists, where there are too few; for each place that changes what stands there after,
 -- for each star that changes the star after it; the keys where they change.
@@ -56,6 +56,7 @@ pub record IsPutAt (place : Option (ℕ × ℕ)) (placed : List (ℕ × Cell)) (
 -- The freed places are those of the gone cells that touch the bucket. The cells put are the fresh ones that touch it and do not stay
 -- there, each at one place of its own, which is freed or has no cell.
 pub record AreFor (gone fresh : List Cell) (freed : List ℕ) (placed : List (ℕ × Cell)) (old : Placed) : Type 0 where
+  pub there : (i : ℕ) → IsIn i freed → (c : Cell) × (at old.slots i ≡ Some c)
   pub freed_gone : (i : ℕ) (c : Cell) → IsIn i freed → at old.slots i ≡ Some c → IsIn c gone × (touches_in old.place c ≡ true)
   pub gone_freed : (i : ℕ) (c : Cell) → at old.slots i ≡ Some c → IsIn c gone → touches_in old.place c ≡ true → IsIn i freed
   pub placed_fresh : (i : ℕ) (c : Cell) → IsIn (i, c) placed → IsIn c fresh × (touches_in old.place c ≡ true)

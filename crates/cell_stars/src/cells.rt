@@ -10,6 +10,7 @@ ghost use Rattle.cell_stars.specs.Stars.{cells_left, cells_around, cells_to_come
 
 use crate::grid::Grid;
 use crate::plan::{Around, Plan, put_all, put_list};
+use crate::planner::copied_stars;
 use crate::star::{BucketCells, Star, StarCells, cell_at};
 use crate::steps::{Steps, place_counted, place_of};
 use point_order::{Cell, Point};
@@ -56,7 +57,11 @@ pub(crate) fn places_in(stars: &[Around], number: u32, p: Point) -> &[u32]
 fn own_places(around: &Around, p: Point) -> &[u32]
     ensures { result.now ≡ (if around.now.0 == p then around.now.1 else []) }
 {
-    if around.vertex == p { &around.places } else { &[] }
+    if around.vertex == p {
+        &around.places
+    } else {
+        &[]
+    }
 }
 
 impl Cells {
@@ -160,6 +165,25 @@ impl Cells {
             slots: &self.slots,
             star: self.star_of(p),
         }
+    }
+
+    /// A copy.
+    ///
+    /// # Errors
+    /// Want of memory.
+    pub fn copied(&self, alloc: Global) -> Result<Cells, AllocError>
+        ensures { IfOk result (λ copy. copy ≡ self.now) }
+    {
+        Ok(Cells {
+            place: self.place,
+            slots: Vec::from_slice(alloc, &self.slots)?,
+            keys: Vec::from_slice(alloc, &self.keys)?,
+            stars: copied_stars(alloc, &self.stars, self.stars.len())?,
+            free: Vec::from_slice(alloc, &self.free)?,
+            spare: Vec::from_slice(alloc, &self.spare)?,
+            used: self.used,
+            used_stars: self.used_stars,
+        })
     }
 
     /// Carries a plan out, without memory.

@@ -27,7 +27,7 @@ fn is_keyed(keys: &[(Point, u32)], n: u32, around: &Around) -> bool
     requires { IsAscending (map (λ k. k.0) keys.now) }
     ensures { IsTrue result → IsKeyed keys.now n around.now }
 {
-    !around.places.is_empty() && has_key(keys, around.vertex, n)
+    around.has_places() && has_key(keys, around.vertex(), n)
 }
 
 // Whether that is so of all.
@@ -49,8 +49,11 @@ fn drop_key(keys: &mut Vec<(Point, u32)>, p: Point)
     ensures order { IsAscending (map (λ k. k.0) keys.new.items) }
     ensures keys { (k : ℕ × ℕ) → IsIn k keys.new.items ↔ (IsIn k keys.old.items × ¬ (k.0 ≡ p)) }
 {
-    if let Ok(i) = place_of(keys, p) {
-        keys.remove(i);
+    match place_of(keys, p) {
+        Ok(i) => {
+            keys.remove(i);
+        }
+        Err(_) => {}
     }
 }
 
@@ -74,11 +77,15 @@ fn write_key(keys: &mut Vec<(Point, u32)>, n: u32, around: &Around) -> Result<()
     ensures order { OnOk result (IsAscending (map (λ k. k.0) keys.new.items)) }
     ensures keys { OnOk result ((k : ℕ × ℕ) → IsIn k keys.new.items ↔ IsKeyAfter keys.old.items n around.now k) }
 {
-    if around.places.is_empty() {
-        drop_key(keys, around.vertex);
+    if is_keyed(keys, n, around) {
         return Ok(());
     }
-    put_key(keys, around.vertex, n)
+    if !around.has_places() {
+        drop_key(keys, around.vertex());
+        return Ok(());
+    }
+    put_key(keys, around.vertex(), n)?;
+    Ok(())
 }
 
 // The vertices with a star after the stars were written.
@@ -93,9 +100,7 @@ fn changed_keys(
 {
     let mut list = Vec::from_slice(alloc, keys)?;
     for (n, around) in writes {
-        if !is_keyed(&list, *n, around) {
-            write_key(&mut list, *n, around)?;
-        }
+        write_key(&mut list, *n, around)?;
     }
     Ok(list)
 }

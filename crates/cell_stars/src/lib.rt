@@ -10,6 +10,7 @@ mod keys;
 mod moves;
 mod order;
 mod plan;
+mod planner;
 mod star;
 mod steps;
 mod writes;

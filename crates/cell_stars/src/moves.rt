@@ -148,11 +148,7 @@ pub(crate) fn places_for(
 }
 
 // Each place beside its cell.
-fn pairs(
-    alloc: Global,
-    places: &[u32],
-    cells: &[Cell],
-) -> Result<Vec<(u32, Cell)>, AllocError>
+fn pairs(alloc: Global, places: &[u32], cells: &[Cell]) -> Result<Vec<(u32, Cell)>, AllocError>
     ensures { IfOk result (λ list. list.items ≡ zip places.now cells.now) }
 {
     places

@@ -1,7 +1,8 @@
 //! Plans of exchanges, which are carried out without memory and without a search.
 
-ghost use Rattle.std.specs.Prelude.{◌≡◌, length};
+ghost use Rattle.std.specs.Prelude.{◌≡◌, ℕ, length, MatchBool};
 ghost use Rattle.std.specs.Option.{option_map};
+ghost use Rattle.point_order.specs.Sets.{IsIn};
 ghost use Rattle.cell_stars.specs.Plans.{set_all, or_else, AreBelow};
 
 use point_order::{Cell, Point};
@@ -23,6 +24,22 @@ impl Model for Around {
     ghost Value = { ℕ × List ℕ };
 
     ghost view = { λ a. (a.vertex, a.places.items) };
+}
+
+impl Around {
+    // The vertex.
+    pub(crate) fn vertex(&self) -> Point
+        ensures { result ≡ self.now.0 }
+    {
+        self.vertex
+    }
+
+    // Whether there is a place.
+    pub(crate) fn has_places(&self) -> bool
+        ensures { MatchBool result ((i : ℕ) × IsIn i self.now.1) ((i : ℕ) → IsIn i self.now.1 → ⊥) }
+    {
+        !self.places.is_empty()
+    }
 }
 
 /// What an exchange makes of the cells of a bucket: what stands at some places after it, and what some stars are then.

@@ -26,16 +26,9 @@ fn is_spare(stars: &[Around], n: u32) -> bool
     ensures behind { length stars.now ≤ n → result ≡ true }
 {
     match stars.get(n as usize) {
-        Some(around) => has_no_places(around),
+        Some(around) => !around.has_places(),
         None => true,
     }
-}
-
-// Whether there is no place.
-fn has_no_places(around: &Around) -> bool
-    ensures { IsTrue result → (i : ℕ) → IsIn i around.now.1 → ⊥ }
-{
-    around.places.is_empty()
 }
 
 // Whether the star with the number is the vertex's and has a place.

@@ -1,4 +1,4 @@
-use Rattle.std.proofs.Common.{◌≡◌, ℕ, Some, refl, get_or}
+use Rattle.std.proofs.Common.{◌≡◌, Some, refl, get_or}
 use Rattle.cell_stars.specs.Places.{at}
 use Rattle.cell_stars.proofs.Members.{each_more}
 use Rattle.cell_stars.proofs.MoveLaws.{another, no_cell, not_true}

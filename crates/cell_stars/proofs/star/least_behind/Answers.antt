@@ -13,9 +13,9 @@ loop-i-preserved c =
     elim c.match-cell_at.branch [
       | in-Some+then-is_behind+then-not-is_before w ↦ rw w.least-is (lesser_one (λ y. y.now) slots star bound i x c.loop-i.least w.in-Some.cell.now c.loop-i-test.true refl w.in-Some.ensures (sym w.if-is_behind.ensures) (test_false (λ y. y.now) c.loop-i.least w.in-Some.cell.now w.is_before.result w.if-not-is_before.true w.is_before.ensures) c.loop-i.invariant)
       | in-Some+else-is_behind w ↦ rw w.least-is (elim w.else-is_behind.branch [
-          | else-is_behind-via-then-is_behind+else-not-is_before v ↦ not_less_one (λ y. y.now) slots star bound i x c.loop-i.least w.in-Some.cell.now v.is_before.result c.loop-i-test.true refl w.in-Some.ensures v.if-not-is_before.false v.is_before.ensures c.loop-i.invariant
-          | else-is_behind-via-else-is_behind v ↦ passed_one (λ y. y.now) slots star bound i x c.loop-i.least c.loop-i-test.true refl (not_behind slots x bound w.in-Some.cell.now w.in-Some.ensures (sym w.is_behind.ensures ∙ v.if-is_behind.false)) c.loop-i.invariant
-        ])
+        | else-is_behind-via-then-is_behind+else-not-is_before v ↦ not_less_one (λ y. y.now) slots star bound i x c.loop-i.least w.in-Some.cell.now v.is_before.result c.loop-i-test.true refl w.in-Some.ensures v.if-not-is_before.false v.is_before.ensures c.loop-i.invariant
+        | else-is_behind-via-else-is_behind v ↦ passed_one (λ y. y.now) slots star bound i x c.loop-i.least c.loop-i-test.true refl (not_behind slots x bound w.in-Some.cell.now w.in-Some.ensures (sym w.is_behind.ensures ∙ v.if-is_behind.false)) c.loop-i.invariant
+      ])
       | in_default w ↦ rw w.least-is (passed_one (λ y. y.now) slots star bound i x c.loop-i.least c.loop-i-test.true refl (free_place slots x bound w.in_default.ensures) c.loop-i.invariant)
     ]
 

@@ -1,4 +1,4 @@
-use Rattle.std.proofs.Common.{length, map, arith, ℕ}
+use Rattle.std.proofs.Common.{length, map, ℕ}
 use Rattle.std.proofs.lemmas.List.{length-map}
 use Rattle.cell_stars.proofs.steps.place_counted.Goals as goal
 use Rattle.cell_stars.proofs.Search.{step_less, step_greater, paid_at, begun, inside_at, belongs, vertex_at, found_at}

@@ -1,4 +1,4 @@
-use Rattle.std.proofs.Common.{arith, inl, inr, subst, sym, ◌∙◌, take, List, ℕ}
+use Rattle.std.proofs.Common.{arith, inl, inr, subst, sym, ◌∙◌, List, ℕ}
 use Rattle.point_order.specs.Sets.{IsIn, IsAscending}
 use Rattle.cell_stars.proofs.Members.{in_taken}
 use Rattle.cell_stars.proofs.MoveLaws.{ascend_first}

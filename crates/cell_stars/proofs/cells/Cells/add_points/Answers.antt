@@ -1,6 +1,5 @@
-use Rattle.std.proofs.Common.{refl, sym, ◌∙◌}
 use Rattle.cell_stars.specs.Gathering.{FromPoints}
-use Rattle.cell_stars.proofs.Gathering.{gather_none, gather_push, gather_skip}
+use Rattle.cell_stars.proofs.Gathering.{gather_none}
 use Rattle.cell_stars.proofs.WriteLaws.{points_added, point_in, point_out}
 use Rattle.cell_stars.proofs.cells.Cells.add_points.Goals as goal
 use Rattle.cell_stars.proofs.cells.Cells.add_points.Goals.{then-has_here+in_ok-push, else-has_here}

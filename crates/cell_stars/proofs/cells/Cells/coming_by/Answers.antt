@@ -1,9 +1,4 @@
 use Rattle.cell_stars.proofs.MoveLaws.{coming_none, coming_more, coming_same, coming_all}
-use Rattle.std.specs.Prelude.{MatchBool, ◌≡◌, true, ℕ, Some}
-use Rattle.std.proofs.Common.{subst}
-use Rattle.point_order.specs.Sets.{IsIn}
-use Rattle.cell_stars.specs.Places.{at, touches_in}
-use Rattle.cell_stars.specs.Moves.{Stays}
 use Rattle.cell_stars.proofs.cells.Cells.coming_by.Goals as goal
 use Rattle.cell_stars.proofs.cells.Cells.coming_by.Goals.{then-comes+in_ok-push, else-comes}
 

@@ -1,4 +1,4 @@
-use Rattle.std.proofs.Common.{subst, sym, ap, ◌∙◌, ◌≡◌, length, List, ℕ}
+use Rattle.std.proofs.Common.{subst, ap, ◌∙◌, List, ℕ}
 use Rattle.std.specs.List.{zip}
 use Rattle.point_order.specs.declared.cell.Cell.{Cell}
 use Rattle.point_order.specs.Sets.{IsIn}

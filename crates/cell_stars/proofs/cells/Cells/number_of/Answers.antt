@@ -1,4 +1,4 @@
-use Rattle.std.proofs.Common.{subst, ap, ◌∙◌, ◌≡◌, ◌<◌, ℕ, true, false, length, slice_index}
+use Rattle.std.proofs.Common.{subst, ap, ◌∙◌, ◌≡◌, ◌<◌, length, slice_index}
 use Rattle.cell_stars.proofs.KeyLaws.{Keys, vertices, BelongsAt}
 use Rattle.cell_stars.proofs.WriteLaws.{own_number, no_own, no_own_at}
 use Rattle.cell_stars.proofs.cells.Cells.number_of.Goals as goal

@@ -1,5 +1,4 @@
-use Rattle.std.proofs.Common.{subst, sym, ap, ◌⊎◌, ◌≡◌, Some, None}
-use Rattle.cell_stars.specs.Places.{AreStars}
+use Rattle.std.proofs.Common.{subst, sym, ◌⊎◌, ◌≡◌, Some, None}
 use Rattle.cell_stars.proofs.Placing.{stands_at}
 use Rattle.cell_stars.proofs.cells.Cells.placed.Goals as goal
 

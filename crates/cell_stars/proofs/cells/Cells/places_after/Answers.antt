@@ -1,4 +1,4 @@
-use Rattle.std.proofs.Common.{subst, ◌≡◌, List, ℕ, length}
+use Rattle.std.proofs.Common.{subst, List, ℕ}
 use Rattle.point_order.specs.declared.cell.Cell.{Cell}
 use Rattle.point_order.specs.Sets.{IsIn}
 use Rattle.cell_stars.specs.Places.{IsStarred}
@@ -31,4 +31,4 @@ returns c =
     let list = c.loop-i.list.items in
     subst (λ (placed : List (ℕ × Cell)). (i : ℕ) → (IsIn i list → StarsAfter freed placed b c.args.p i) × (StarsAfter freed placed b c.args.p i → IsIn i list)) c.deref-i-items.ensures.value
     (places_are b freed c.deref-i-items.result.now c.args.p c.loop-i.i-index first list c.requires.inside c.loop-i-test.false
-      (subst (λ (l : List ℕ). (i : ℕ) → (IsIn i first → IsStarred b.keys b.stars c.args.p i × (IsIn i l → ⊥)) × (IsStarred b.keys b.stars c.args.p i × (IsIn i l → ⊥) → IsIn i first)) c.deref.ensures.value c.in_ok-list.ensures) c.loop-i.invariant)
+    (subst (λ (l : List ℕ). (i : ℕ) → (IsIn i first → IsStarred b.keys b.stars c.args.p i × (IsIn i l → ⊥)) × (IsStarred b.keys b.stars c.args.p i × (IsIn i l → ⊥) → IsIn i first)) c.deref.ensures.value c.in_ok-list.ensures) c.loop-i.invariant)

@@ -1,4 +1,4 @@
-use Rattle.std.proofs.Common.{sym, subst}
+use Rattle.std.proofs.Common.{subst}
 use Rattle.std.specs.Prelude.{ℕ, List}
 use Rattle.point_order.specs.Sets.{IsIn}
 use Rattle.cell_stars.proofs.Members.{at_place}

@@ -1,4 +1,4 @@
-use Rattle.std.proofs.Common.{◌∙◌, ap, ℕ, List, Option, None}
+use Rattle.std.proofs.Common.{◌∙◌, ap, List, Option, None}
 use Rattle.point_order.specs.declared.cell.Cell.{Cell}
 use Rattle.cell_stars.proofs.Least.{star_filters, behind}
 use Rattle.cell_stars.proofs.cells.Cells.star_counted.Goals as goal

@@ -1,4 +1,4 @@
-use Rattle.std.proofs.Common.{refl, sym, ap, ◌∙◌, List, ℕ, subst}
+use Rattle.std.proofs.Common.{refl, ap, ◌∙◌, List, ℕ, subst}
 use Rattle.std.specs.List.{zip}
 use Rattle.cell_stars.proofs.Gathering.{made_none, made_more}
 use Rattle.cell_stars.proofs.KeyLaws.{vertices}

@@ -1,6 +1,5 @@
 use Rattle.std.proofs.Common.{subst, List, ℕ}
 use Rattle.point_order.specs.Sets.{IsIn}
-use Rattle.cell_stars.specs.Moves.{AreNumbered, AreStarsAfter}
 use Rattle.cell_stars.proofs.cells.Cells.writes.Goals as goal
 
 pub stars_after-requires-clause-inside : goal.stars_after-requires-clause-inside
