@@ -1,12 +1,14 @@
-pub mod GridLaws
 pub mod Members
 pub mod ShareLaws
-pub mod CellLaws
 pub mod NextLaws
-pub mod MergeLaws
+pub mod Layouts
 pub mod RoomLaws
 pub mod NoteLaws
 pub mod HandLaws
 pub mod TouchLaws
 pub mod MeshLaws
 pub mod Gathering
+pub mod StarLaws
+pub mod GridLaws
+pub mod CellLaws
+pub mod Orders

@@ -32,7 +32,7 @@ use Rattle.cell_store.specs.Changes.{Follows, IsNext, IsSwapped, IsNoted}
 use Rattle.cell_store.specs.Ready.{AreHeld}
 use Rattle.cell_store.specs.Swaps.{touches, AreSameCells}
 use Rattle.cell_store.specs.Meshes.{AllInHand, HasPlaces, IsWhole, MeshView, IsHoldOf, with_entry, by_number, history_in, mesh_in, counted, all_entries, all_cells, HistoryIs, MeshIs, MeshGathersHistory, MeshGathersComplex, AllAreHeld, MoreAreHeld}
-use Rattle.cell_store.proofs.GridLaws.{bucket-below}
+use Rattle.cell_stars.proofs.GridLaws.{bucket-below}
 use Rattle.cell_store.proofs.HandLaws.{fewer_stand}
 use Rattle.cell_store.proofs.Members.{take_next}
 use Rattle.cell_store.proofs.NextLaws.{entry_keeps_hold, next_entry}

@@ -27,7 +27,7 @@ use Rattle.cell_store.specs.Buckets.{Content, bucket_at}
 use Rattle.cell_store.specs.Swaps.{touches, swapped}
 use Rattle.cell_store.specs.Shares.{IsShare, cells_share, entries_share}
 use Rattle.cell_store.specs.Changes.{swapped_in, noted_in, IsChange, NextEntry, EntryKeepsHold, ShareAfterEntry, ShareElsewhere}
-use Rattle.cell_store.proofs.CellLaws.{in_or_not, swapped_sorted, swapped_from, swapped_new, swapped_old, swapped_none}
+use Rattle.cell_stars.proofs.CellLaws.{in_or_not, swapped_sorted, swapped_from, swapped_new, swapped_old, swapped_none}
 use Rattle.cell_store.proofs.ShareLaws.{ascending_replay}
 
 -- ---- the cells

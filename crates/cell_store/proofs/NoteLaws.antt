@@ -13,9 +13,11 @@ use Rattle.edit_history.specs.declared.history.Reply.TheVariants.{Inserted, Dupl
 use Rattle.edit_history.specs.Edits.{point_of, changed}
 use Rattle.edit_history.proofs.SetEdits.{in-place, among-gap, ascending-without}
 use Rattle.cell_store.specs.Grids.{bucket_of}
-use Rattle.cell_store.specs.Buckets.{Content, InHand, bucket_at, StandAtPlaces}
+use Rattle.cell_stars.specs.Plans.{IsPlanFor}
+use Rattle.cell_store.specs.Buckets.{Content, Layout, InHand, Room, bucket_at, layout_at, StandAtPlaces}
+use Rattle.cell_store.specs.declared.room.PlanFor.{PlanFor}
 use Rattle.cell_store.specs.Changes.{noted_in, IsNoted}
-use Rattle.cell_store.specs.Ready.{CellsFor, IsReadyFor, IsReady, given}
+use Rattle.cell_store.specs.Ready.{HasLists, IsNoteReady, IsReady, IsReadyFor, NoteLists}
 use Rattle.cell_store.specs.Swaps.{swapped}
 use Rattle.cell_store.proofs.RoomLaws.{of_some, to_some}
 
@@ -97,18 +99,24 @@ two k b = by (k == b) refl
     by false e = inr (other k b e)
 
 -- what is ready for an exchange stays so where a bucket keeps its cells
-pub ready_noted : (g b : ℕ) (gone fresh : List Cell) (places : List (Option Content)) (lists : List CellsFor) (x : Option Content) (c d : Content) → b < length places → bucket_at places b ≡ Some c → d.cells ≡ c.cells → IsReady g gone fresh places lists → IsReady g gone fresh (slice_set (slice_set places b x) b (Some d)) lists
-ready_noted g b gone fresh places lists x c d h e f r = record { each = λ l i. by l (r.each l i); others = r.others }
+pub ready_noted : (g b : ℕ) (gone fresh : List Cell) (places : List (Option Layout)) (plans : List PlanFor) (x : Option Layout) (c d : Layout) → b < length places → layout_at places b ≡ Some c → d.cells ≡ c.cells → IsReady g gone fresh places plans → IsReady g gone fresh (slice_set (slice_set places b x) b (Some d)) plans
+ready_noted g b gone fresh places plans x c d h e f r = record { each = λ l i. by l (r.each l i); apart = r.apart; others = r.others }
   where
-    here : (l : CellsFor) → l.number ≡ b → IsReadyFor g gone fresh places l → IsReadyFor g gone fresh (slice_set (slice_set places b x) b (Some d)) l
-    here l w q =
-        let k = of_some (λ y. l.cells ≡ swapped g l.number gone fresh y.cells) (bucket_at places l.number) c (ap (bucket_at places) w ∙ e) q in
-        to_some (λ y. l.cells ≡ swapped g l.number gone fresh y.cells) (bucket_at (slice_set (slice_set places b x) b (Some d)) l.number) d (ap (bucket_at (slice_set (slice_set places b x) b (Some d))) w ∙ there places b x (Some d) h) (k ∙ ap (swapped g l.number gone fresh) (sym f))
+    after : List (Option Layout)
+    after = slice_set (slice_set places b x) b (Some d)
 
-    by : (l : CellsFor) → IsReadyFor g gone fresh places l → IsReadyFor g gone fresh (slice_set (slice_set places b x) b (Some d)) l
+    at_b : layout_at after b ≡ Some d
+    at_b = get_or-set_same (slice_set places b x) b (Some d) None (let e = len_set places b x in omega (arith, e, h))
+
+    here : (l : PlanFor) → l.number ≡ b → IsReadyFor gone fresh places l → IsReadyFor gone fresh after l
+    here l w q =
+        let k = of_some (λ y. IsPlanFor gone fresh y.cells l.plan) (layout_at places l.number) c (ap (layout_at places) w ∙ e) q in
+        to_some (λ y. IsPlanFor gone fresh y.cells l.plan) (layout_at after l.number) d (ap (layout_at after) w ∙ at_b) (subst (λ y. IsPlanFor gone fresh y l.plan) (sym f) k)
+
+    by : (l : PlanFor) → IsReadyFor gone fresh places l → IsReadyFor gone fresh after l
     by l q = elim (two l.number b) [
       | inl w ↦ here l w q
-      | inr w ↦ subst (λ o. IsSomeAnd o (λ y. l.cells ≡ swapped g l.number gone fresh y.cells)) (sym (elsewhere places b l.number x (Some d) w)) q
+      | inr w ↦ subst (λ o. IsSomeAnd o (λ y. IsPlanFor gone fresh y.cells l.plan)) (sym (get_or-set_other (slice_set places b x) b l.number (Some d) None w ∙ get_or-set_other places b l.number x None w)) q
     ]
 
 -- the bucket with the entry
@@ -174,14 +182,26 @@ stand_take g b places h st k y q = elim (two k b) [
   | inr n ↦ st k y (sym (get_or-set_other places b k None None n) ∙ q)
 ]
 
-from_given : (lists : List CellsFor) (b : ℕ) (o : Option Content) (d : Content) → given lists b o ≡ Some d → (c : Content) × (o ≡ Some c) × (d.place ≡ c.place)
-from_given [] b o d e = (d, e, refl)
-from_given (l ∷ ls) b o d e = by (l.number == b) o e (λ u f. from_given ls b u d f)
-  where
-    by : (t : Bool) (o : Option Content) → given ls b (cond t (option_map (λ (c : Content). record c { cells = l.cells }) o) o) ≡ Some d → ((u : Option Content) → given ls b u ≡ Some d → (c : Content) × (u ≡ Some c) × (d.place ≡ c.place)) → (c : Content) × (o ≡ Some c) × (d.place ≡ c.place)
-    by true None e f = f None e
-    by true (Some c) e f = (let r = f (Some (record c { cells = l.cells })) e in (c, refl, r.2 ∙ ap (λ z. z.place) (sym (same_content (record c { cells = l.cells }) r.0 r.1))))
-    by false o e f = f o e
+-- ---- a bucket that is put where none was
 
-pub stand_given : (g : ℕ) (places after : List (Option Content)) (lists : List CellsFor) → ((b : ℕ) → bucket_at after b ≡ given lists b (bucket_at places b)) → StandAtPlaces g places → StandAtPlaces g after
-stand_given g places after lists f st k y q = (let r = from_given lists k (bucket_at places k) y (sym (f k) ∙ q) in r.2 ∙ st k r.0 r.1)
+pub ready_put : (g b : ℕ) (gone fresh : List Cell) (places : List (Option Layout)) (plans : List PlanFor) (x : Option Layout) → layout_at places b ≡ None → IsReady g gone fresh places plans → IsReady g gone fresh (slice_set places b x) plans
+ready_put g b gone fresh places plans x e r = record { each = λ l i. by l (r.each l i); apart = r.apart; others = r.others }
+  where
+    by : (l : PlanFor) → IsReadyFor gone fresh places l → IsReadyFor gone fresh (slice_set places b x) l
+    by l q = elim (two l.number b) [
+      | inl w ↦ absurd (subst (λ o. IsSomeAnd o (λ y. IsPlanFor gone fresh y.cells l.plan)) (ap (layout_at places) w ∙ e) q)
+      | inr w ↦ subst (λ o. IsSomeAnd o (λ y. IsPlanFor gone fresh y.cells l.plan)) (sym (get_or-set_other places b l.number x None w)) q
+    ]
+
+pub note_put : (g b : ℕ) (places : List (Option Content)) (n : NoteLists) (x : Option Content) → bucket_at places b ≡ None → IsNoteReady g places n → IsNoteReady g (slice_set places b x) n
+note_put g b places n x e q = elim (two (bucket_of g n.point) b) [
+  | inl w ↦ absurd (subst (λ o. IsSomeAnd o (λ y. HasLists n.point y n)) (ap (bucket_at places) w ∙ e) q)
+  | inr w ↦ subst (λ o. IsSomeAnd o (λ y. HasLists n.point y n)) (sym (get_or-set_other places b (bucket_of g n.point) x None w)) q
+]
+
+-- the hold with other places
+pub hold_with : (h : InHand) (g : ℕ) (ps qs xs : List (Option Content)) (r s : Room) → record { grid = g; places = ps; room = r } ≡ h → qs ≡ xs → record { grid = g; places = qs; room = s } ≡ record h { places = xs; room = s }
+hold_with h g ps qs xs r s e q = ap (λ (l : List (Option Content)). record { grid = g; places = l; room = s }) q ∙ ap (λ (k : InHand). record k { places = xs; room = s }) e
+
+pub hold_keeps : (h : InHand) (g : ℕ) (ps qs xs : List (Option Content)) (r : Room) → record { grid = g; places = ps; room = r } ≡ h → qs ≡ xs → record { grid = g; places = qs; room = r } ≡ record h { places = xs }
+hold_keeps h g ps qs xs r e q = ap (λ (l : List (Option Content)). record { grid = g; places = l; room = r }) q ∙ ap (λ (k : InHand). record k { places = xs }) e

@@ -14,13 +14,19 @@ use Rattle.point_order.specs.Sets.{IsIn}
 use Rattle.edit_history.proofs.Solidity.{any-none}
 use Rattle.del_laws.proofs.Listed.{in_left, in_right, from_append}
 use Rattle.cell_store.specs.Grids.{bucket_of}
-use Rattle.cell_store.specs.Buckets.{Content, InHand, bucket_at}
+use Rattle.point_order.specs.Sets.{IsAscending}
+use Rattle.point_order.proofs.SetLaws.{below-each}
+use Rattle.cell_stars.specs.Places.{cells_of, swapped_at}
+use Rattle.cell_stars.specs.Plans.{Allows, IsPlanFor, done}
+use Rattle.cell_store.specs.Buckets.{Content, Layout, InHand, StandAtPlaces, bucket_at, content_of, layout_at, shown}
 use Rattle.cell_store.specs.Changes.{NoneTouches, swapped_in, IsSwapped}
-use Rattle.cell_store.specs.Ready.{CellsFor, given, IsReadyFor, NoneIsFor, IsReady, AreHeld, AreInHand, numbers_of, NoteLists, HasLists, IsNoteReady}
+use Rattle.cell_store.specs.Ready.{AreApart, AreHeld, AreInHand, HasLists, IsAllowed, IsNoteReady, IsReady, IsReadyFor, NoneIsFor, NoteLists, carried, given, numbers_of}
+use Rattle.cell_store.specs.declared.room.PlanFor.{PlanFor}
+use Rattle.cell_store.proofs.Layouts.{shown_at, shown_is, shown_some}
 use Rattle.cell_store.specs.Swaps.{swapped}
-use Rattle.cell_store.proofs.CellLaws.{swapped_none}
+use Rattle.cell_stars.proofs.CellLaws.{swapped_none}
 use Rattle.cell_store.proofs.Members.{take_next, within}
-use Rattle.cell_store.proofs.MergeLaws.{in_contained, contains_in}
+use Rattle.cell_stars.proofs.Orders.{in_contained, contains_in}
 
 -- what holds of the value, where there is one
 pub some_holds : {X : Type 0} (P : X → Type 0) (o : Option X) (x : X) → Some x ≡ o → IfSome o P → P x
@@ -70,10 +76,10 @@ numbers_from g b (c ∷ cells) i = elim (from_append b (map (bucket_of g) (point
 ]
 
 -- the buckets of held cells are in hand
-pub held_in_hand : (hold : InHand) (g : ℕ) (places : List (Option Content)) (cells : List Cell) → g ≡ hold.grid → places ≡ hold.places → AreHeld hold cells → AreInHand places (numbers_of g cells)
+pub held_in_hand : (hold : InHand) (g : ℕ) (places : List (Option Layout)) (cells : List Cell) → g ≡ hold.grid → shown places ≡ hold.places → AreHeld hold cells → AreInHand places (numbers_of g cells)
 held_in_hand hold g places cells eg ep h b i =
     let r = numbers_from g b cells i in
-    subst (λ l. IsSome (bucket_at l b)) (sym ep) (subst (λ n. IsSome (bucket_at hold.places n)) (ap (λ n. bucket_of n r.point) (sym eg) ∙ r.number) (h r.cell r.listed r.point r.vertex))
+    sym (shown_some places b) ∙ subst (λ l. IsSome (bucket_at l b)) (sym ep) (subst (λ n. IsSome (bucket_at hold.places n)) (ap (λ n. bucket_of n r.point) (sym eg) ∙ r.number) (h r.cell r.listed r.point r.vertex))
 
 -- a bucket whose number is not among them is not touched
 pub not_touched : (g b : ℕ) (cells : List Cell) → (IsIn b (numbers_of g cells) → ⊥) → NoneTouches g b cells
@@ -90,56 +96,69 @@ numbers_are a b l sorted deduped e p d n = (
   λ i. subst (IsIn n) (sym d) (in_contained (dedup eqb sorted) n (Contains-dedup_nat sorted n (Contains-permutation l sorted n p (contains_in l n (subst (IsIn n) (sym e) (elim i [ inl j ↦ in_left n a b j | inr j ↦ in_right n a b j ])))))),
 )
 
--- ---- lists for buckets
+-- ---- plans for buckets
 
--- no list makes a bucket
-given_none : (lists : List CellsFor) (b : ℕ) → given lists b None ≡ None
+-- no plan makes a bucket
+given_none : (plans : List PlanFor) (b : ℕ) → given plans b None ≡ None
 given_none [] b = refl
-given_none (l ∷ lists) b = by (l.number == b) (given_none lists b)
+given_none (l ∷ plans) b = by (l.number == b) (given_none plans b)
   where
-    by : (t : Bool) → given lists b None ≡ None → given lists b (cond t (option_map (λ (c : Content). record c { cells = l.cells }) None) None) ≡ None
+    by : (t : Bool) → given plans b None ≡ None → given plans b (cond t (option_map (carried l.plan) None) None) ≡ None
     by true e = e
     by false e = e
 
--- all lists for the bucket are this one
-abbrev AreOne : ℕ → List CellsFor → List Cell → Type 0
-AreOne b lists m = (l : CellsFor) → IsIn l lists → l.number ≡ b → l.cells ≡ m
-
--- a bucket that has its list keeps it
-given_done : (lists : List CellsFor) (b : ℕ) (c : Content) → AreOne b lists c.cells → given lists b (Some c) ≡ Some c
-given_done [] b c f = refl
-given_done (l ∷ lists) b c f = by (l.number == b) refl (given_done lists b c (λ k i. f k (inr i)))
+-- a bucket for which there is no plan stays
+given_same : (plans : List PlanFor) (b : ℕ) (o : Option Layout) → NoneIsFor b plans → given plans b o ≡ o
+given_same [] b o n = refl
+given_same (l ∷ plans) b o n = by (l.number == b) refl (given_same plans b o (λ k i. n k (inr i)))
   where
-    by : (t : Bool) → (l.number == b) ≡ t → given lists b (Some c) ≡ Some c → given lists b (cond t (Some (record c { cells = l.cells })) (Some c)) ≡ Some c
-    by true e r = ap (λ (m : List Cell). given lists b (Some (record c { cells = m }))) (f l (inl refl) (equal_from l.number b e)) ∙ r
+    by : (t : Bool) → (l.number == b) ≡ t → given plans b o ≡ o → given plans b (cond t (option_map (carried l.plan) o) o) ≡ o
+    by true e r = absurd (n l (inl refl) (equal_from l.number b e))
     by false e r = r
 
--- a bucket gets its list, if there is one
-given_some : (lists : List CellsFor) (b : ℕ) (c : Content) (m : List Cell) → AreOne b lists m → (given lists b (Some c) ≡ Some (record c { cells = m })) ⊎ (NoneIsFor b lists × (given lists b (Some c) ≡ Some c))
-given_some [] b c m f = inr (λ l i. absurd i, refl)
-given_some (l ∷ lists) b c m f = by (l.number == b) refl (given_some lists b c m (λ k i. f k (inr i)))
+-- the plan for a bucket, if there is one
+record HasPlan (plans : List PlanFor) (b : ℕ) (c : Layout) : Type 0 where
+  pub plan : PlanFor
+  pub listed : IsIn plan plans
+  pub number : plan.number ≡ b
+  pub made : given plans b (Some c) ≡ Some (carried plan.plan c)
+
+given_some : (plans : List PlanFor) (b : ℕ) (c : Layout) → AreApart plans → HasPlan plans b c ⊎ NoneIsFor b plans
+given_some [] b c a = inr (λ l i. absurd i)
+given_some (l ∷ plans) b c a = by (l.number == b) refl (given_some plans b c a.1)
   where
-    with_m : Content
-    with_m = record c { cells = m }
+    by : (t : Bool) → (l.number == b) ≡ t → HasPlan plans b c ⊎ NoneIsFor b plans → HasPlan (l ∷ plans) b c ⊎ NoneIsFor b (l ∷ plans)
+    by true e r = inl (record {
+      plan = l;
+      listed = inl refl;
+      number = equal_from l.number b e;
+      made = ap (λ t. given plans b (cond t (Some (carried l.plan c)) (Some c))) e ∙ given_same plans b (Some (carried l.plan c)) (subst (λ n. NoneIsFor n plans) (equal_from l.number b e) a.0);
+    })
+    by false e (inl h) = inl (record { plan = h.plan; listed = inr h.listed; number = h.number; made = ap (λ t. given plans b (cond t (Some (carried l.plan c)) (Some c))) e ∙ h.made })
+    by false e (inr n) = inr (λ k i. elim i [ inl s ↦ subst (λ (x : PlanFor). x.number ≢ b) s (differ_from l.number b e) | inr j ↦ n k j ])
 
-    by : (t : Bool) → (l.number == b) ≡ t → (given lists b (Some c) ≡ Some with_m) ⊎ (NoneIsFor b lists × (given lists b (Some c) ≡ Some c)) → (given lists b (cond t (Some (record c { cells = l.cells })) (Some c)) ≡ Some with_m) ⊎ (NoneIsFor b (l ∷ lists) × (given lists b (cond t (Some (record c { cells = l.cells })) (Some c)) ≡ Some c))
-    by true e r = inl (ap (λ (k : List Cell). given lists b (Some (record c { cells = k }))) (f l (inl refl) (equal_from l.number b e)) ∙ given_done lists b with_m (λ k i. f k (inr i)))
-    by false e (inl q) = inl q
-    by false e (inr q) = inr (λ k i. elim i [ inl s ↦ subst (λ (x : CellsFor). x.number ≢ b) s (differ_from l.number b e) | inr j ↦ q.0 k j ], q.1)
-
--- one list is given, and the others are left
-pub given_next : (items rest : List CellsFor) (l : CellsFor) (places : List (Option Content)) (n : ℕ) (x y : Option Content) → items ≡ l ∷ rest → n ≡ l.number → n < length places → x ≡ slice_index_or places n x → y ≡ option_map (λ (c : Content). record c { cells = l.cells }) (slice_index_or places n x) → (b : ℕ) → given rest b (bucket_at (slice_set places n y) b) ≡ given items b (bucket_at places b)
-given_next items rest l places n x y e q h f g b = by (l.number == b) refl ∙ sym (ap (λ ls. given ls b (bucket_at places b)) e)
+-- one plan is carried out, and the others are left
+pub given_next : (items rest : List PlanFor) (l : PlanFor) (places : List (Option Layout)) (n : ℕ) (x y : Option Layout) → items ≡ l ∷ rest → n ≡ l.number → n < length places → x ≡ slice_index_or places n x → y ≡ option_map (carried l.plan) (slice_index_or places n x) → (b : ℕ) → given rest b (layout_at (slice_set places n y) b) ≡ given items b (layout_at places b)
+given_next items rest l places n x y e q h f g b = by (l.number == b) refl ∙ sym (ap (λ ls. given ls b (layout_at places b)) e)
   where
-    new : Option Content → Option Content
-    new o = option_map (λ (c : Content). record c { cells = l.cells }) o
+    new : Option Layout → Option Layout
+    new o = option_map (carried l.plan) o
 
-    by : (t : Bool) → (l.number == b) ≡ t → given rest b (bucket_at (slice_set places n y) b) ≡ given rest b (cond (l.number == b) (new (bucket_at places b)) (bucket_at places b))
+    by : (t : Bool) → (l.number == b) ≡ t → given rest b (layout_at (slice_set places n y) b) ≡ given rest b (cond (l.number == b) (new (layout_at places b)) (layout_at places b))
     by true w =
         let k = q ∙ equal_from l.number b w in
-        ap (given rest b) (ap (bucket_at (slice_set places n y)) (sym k) ∙ get_or-set_same places n y None h ∙ g ∙ ap new (sym f ∙ sym (within places n x None h f) ∙ ap (bucket_at places) k) ∙ ap (λ t. cond t (new (bucket_at places b)) (bucket_at places b)) (sym w))
+        ap (given rest b) (ap (layout_at (slice_set places n y)) (sym k) ∙ get_or-set_same places n y None h ∙ g ∙ ap new (sym f ∙ sym (within places n x None h f) ∙ ap (layout_at places) k) ∙ ap (λ t. cond t (new (layout_at places b)) (layout_at places b)) (sym w))
     by false w =
-        ap (given rest b) (get_or-set_other places n b y None (λ k. differ_from l.number b w (sym q ∙ sym k)) ∙ ap (λ t. cond t (new (bucket_at places b)) (bucket_at places b)) (sym w))
+        ap (given rest b) (get_or-set_other places n b y None (λ k. differ_from l.number b w (sym q ∙ sym k)) ∙ ap (λ t. cond t (new (layout_at places b)) (layout_at places b)) (sym w))
+
+-- the others can be carried out then
+pub allowed_next : (items rest : List PlanFor) (l : PlanFor) (places : List (Option Layout)) (n : ℕ) (y : Option Layout) → items ≡ l ∷ rest → n ≡ l.number → AreApart items → ((k : PlanFor) → IsIn k items → IsAllowed places k) → (k : PlanFor) → IsIn k rest → IsAllowed (slice_set places n y) k
+allowed_next items rest l places n y e q a f k i =
+    let d : k.number ≢ l.number = (subst AreApart e a).0 k i in
+    subst (λ o. IsSomeAnd o (λ c. Allows k.plan c.cells)) (sym (get_or-set_other places n k.number y None (λ s. d (s ∙ q)))) (f k (subst (IsIn k) (sym e) (inr i)))
+
+pub apart_next : (items rest : List PlanFor) (l : PlanFor) → items ≡ l ∷ rest → AreApart items → AreApart rest
+apart_next items rest l e a = (subst AreApart e a).1
 
 -- what is known of the value of a known option
 pub of_some : {X : Type 0} (P : X → Type 0) (o : Option X) (x : X) → o ≡ Some x → IsSomeAnd o P → P x
@@ -148,46 +167,55 @@ of_some P o x e h = subst (λ o. IsSomeAnd o P) e h
 pub to_some : {X : Type 0} (P : X → Type 0) (o : Option X) (x : X) → o ≡ Some x → P x → IsSomeAnd o P
 to_some P o x e h = subst (λ o. IsSomeAnd o P) (sym e) h
 
--- every bucket that gets its lists is the bucket after the exchange
-place_given : (g : ℕ) (gone fresh : List Cell) (places : List (Option Content)) (lists : List CellsFor) → IsReady g gone fresh places lists → (b : ℕ) → given lists b (bucket_at places b) ≡ option_map (swapped_in g b gone fresh) (bucket_at places b)
-place_given g gone fresh places lists r b = by (bucket_at places b) refl
+-- every bucket for which there is a plan shows what it has after the exchange
+place_given : (g : ℕ) (gone fresh : List Cell) (places : List (Option Layout)) (plans : List PlanFor) → IsReady g gone fresh places plans → StandAtPlaces g (shown places) → (b : ℕ) → option_map content_of (given plans b (layout_at places b)) ≡ option_map (swapped_in g b gone fresh) (option_map content_of (layout_at places b))
+place_given g gone fresh places plans r st b = by (layout_at places b) refl
   where
-    of_bucket : (c : Content) → bucket_at places b ≡ Some c → AreOne b lists (swapped g b gone fresh c.cells)
-    of_bucket c e l i q = of_some (λ d. l.cells ≡ swapped g b gone fresh d.cells) (bucket_at places b) c e (subst (λ n. IsSomeAnd (bucket_at places n) (λ d. l.cells ≡ swapped g n gone fresh d.cells)) q (r.each l i))
+    by_plan : (c : Layout) (l : PlanFor) → layout_at places b ≡ Some c → IsIn l plans → l.number ≡ b → cells_of (done l.plan c.cells).slots ≡ swapped g b gone fresh (cells_of c.cells.slots)
+    by_plan c l e i q =
+        let p = of_some (λ d. IsPlanFor gone fresh d.cells l.plan) (layout_at places b) c e (subst (λ n. IsSomeAnd (layout_at places n) (λ d. IsPlanFor gone fresh d.cells l.plan)) q (r.each l i)) in
+        let home : c.cells.place ≡ Some (g, b) = st b (content_of c) (shown_is places b c e) in
+        p.cells ∙ ap (λ o. swapped_at o gone fresh (cells_of c.cells.slots)) home
 
-    by : (o : Option Content) → bucket_at places b ≡ o → given lists b o ≡ option_map (swapped_in g b gone fresh) o
-    by None e = given_none lists b
-    by (Some c) e = elim (given_some lists b c (swapped g b gone fresh c.cells) (of_bucket c e)) [
-      | inl q ↦ q
-      | inr q ↦ (let u = r.others b q.0 in q.1 ∙ ap (λ (m : List Cell). Some (record c { cells = m })) (sym (swapped_none g b gone fresh c.cells u.0 u.1)))
+    by : (o : Option Layout) → layout_at places b ≡ o → option_map content_of (given plans b o) ≡ option_map (swapped_in g b gone fresh) (option_map content_of o)
+    by None e = ap (option_map content_of) (given_none plans b)
+    by (Some c) e = elim (given_some plans b c r.apart) [
+      | inl h ↦ ap (option_map content_of) h.made ∙ ap (λ (m : List Cell). Some (record (content_of c) { cells = m })) (by_plan c h.plan e h.listed h.number)
+      | inr n ↦ (let u = r.others b n in ap (option_map content_of) (given_same plans b (Some c) n) ∙ ap (λ (m : List Cell). Some (record (content_of c) { cells = m })) (sym (swapped_none g b gone fresh (cells_of c.cells.slots) u.0 u.1)))
     ]
 
-pub swap_is : (old new : InHand) (g : ℕ) (places between after : List (Option Content)) (gone fresh eg ef : List Cell) (lists : List CellsFor) → g ≡ old.grid → places ≡ old.places → new.grid ≡ g → new.places ≡ after → between ≡ places → length after ≡ length between → eg ≡ gone → ef ≡ fresh → IsReady g eg ef places lists → ((b : ℕ) → bucket_at after b ≡ given lists b (bucket_at between b)) → IsSwapped gone fresh old new
-swap_is old new g places between after gone fresh eg ef lists e1 e2 e3 e4 e5 e6 e7 e8 r f = record {
+-- all places after the plans
+pub swapped_places : (g : ℕ) (gone fresh : List Cell) (places after : List (Option Layout)) (plans : List PlanFor) → IsReady g gone fresh places plans → StandAtPlaces g (shown places) → ((b : ℕ) → layout_at after b ≡ given plans b (layout_at places b)) → (b : ℕ) → bucket_at (shown after) b ≡ option_map (swapped_in g b gone fresh) (bucket_at (shown places) b)
+swapped_places g gone fresh places after plans r st f b =
+    shown_at after b ∙ ap (option_map content_of) (f b) ∙ place_given g gone fresh places plans r st b ∙ ap (option_map (swapped_in g b gone fresh)) (sym (shown_at places b))
+
+pub swap_is : (old new : InHand) (g : ℕ) (places after : List (Option Content)) (gone fresh eg ef : List Cell) → g ≡ old.grid → places ≡ old.places → new.grid ≡ g → new.places ≡ after → length after ≡ length places → eg ≡ gone → ef ≡ fresh → ((b : ℕ) → bucket_at after b ≡ option_map (swapped_in g b eg ef) (bucket_at places b)) → IsSwapped gone fresh old new
+swap_is old new g places after gone fresh eg ef e1 e2 e3 e4 e6 e7 e8 f = record {
   grid = e3 ∙ e1;
-  count = ap length e4 ∙ e6 ∙ ap length (e5 ∙ e2);
+  count = ap length e4 ∙ e6 ∙ ap length e2;
   places = λ b.
-      ap (λ l. bucket_at l b) e4 ∙ f b ∙ ap (λ l. given lists b (bucket_at l b)) e5
-      ∙ place_given g eg ef places lists r b
+      ap (λ l. bucket_at l b) e4 ∙ f b
       ∙ ap (λ n. option_map (swapped_in n b eg ef) (bucket_at places b)) e1
       ∙ ap (λ l. option_map (swapped_in old.grid b l ef) (bucket_at places b)) e7
       ∙ ap (λ l. option_map (swapped_in old.grid b gone l) (bucket_at places b)) e8
       ∙ ap (λ l. option_map (swapped_in old.grid b gone fresh) (bucket_at l b)) e2;
 }
 
--- a bucket that gets lists keeps its points and its entries
-given_lists : (lists : List CellsFor) (b p : ℕ) (n : NoteLists) (o : Option Content) → IsSomeAnd o (λ c. HasLists p c n) → IsSomeAnd (given lists b o) (λ c. HasLists p c n)
-given_lists [] b p n o h = h
-given_lists (l ∷ lists) b p n None h = absurd h
-given_lists (l ∷ lists) b p n (Some c) h = by (l.number == b) (λ d k. given_lists lists b p n (Some d) k)
+-- a bucket keeps its points and its entries in an exchange
+pub note_swapped : (g : ℕ) (gone fresh : List Cell) (places after : List (Option Content)) (n : NoteLists) → ((b : ℕ) → bucket_at after b ≡ option_map (swapped_in g b gone fresh) (bucket_at places b)) → IsNoteReady g places n → IsNoteReady g after n
+note_swapped g gone fresh places after n f h = subst (λ o. IsSomeAnd o (λ c. HasLists n.point c n)) (sym (f (bucket_of g n.point))) (by (bucket_at places (bucket_of g n.point)) h)
   where
-    by : (t : Bool) → ((d : Content) → HasLists p d n → IsSomeAnd (given lists b (Some d)) (λ c. HasLists p c n)) → IsSomeAnd (given lists b (cond t (Some (record c { cells = l.cells })) (Some c))) (λ c. HasLists p c n)
-    by true r = r (record c { cells = l.cells }) (record { points = h.points; entries = h.entries })
-    by false r = r c h
+    by : (o : Option Content) → IsSomeAnd o (λ c. HasLists n.point c n) → IsSomeAnd (option_map (swapped_in g (bucket_of g n.point) gone fresh) o) (λ c. HasLists n.point c n)
+    by None k = k
+    by (Some c) k = record { points = k.points; entries = k.entries }
 
-pub note_given : (g : ℕ) (places after : List (Option Content)) (lists : List CellsFor) → ((b : ℕ) → bucket_at after b ≡ given lists b (bucket_at places b)) → (n : NoteLists) → IsNoteReady g places n → IsNoteReady g after n
-note_given g places after lists f n h =
-    subst (λ o. IsSomeAnd o (λ c. HasLists n.point c n)) (sym (f (bucket_of g n.point))) (given_lists lists (bucket_of g n.point) n.point n (bucket_at places (bucket_of g n.point)) h)
+-- and its place
+pub stand_swapped : (g : ℕ) (gone fresh : List Cell) (places after : List (Option Content)) → ((b : ℕ) → bucket_at after b ≡ option_map (swapped_in g b gone fresh) (bucket_at places b)) → StandAtPlaces g places → StandAtPlaces g after
+stand_swapped g gone fresh places after f st b d e = by (bucket_at places b) refl (sym (f b) ∙ e)
+  where
+    by : (o : Option Content) → bucket_at places b ≡ o → option_map (swapped_in g b gone fresh) o ≡ Some d → d.place ≡ Some (g, b)
+    by None q k = absurd (cc k)
+    by (Some c) q k = (let t : Some (swapped_in g b gone fresh c) ≡ Some d = k in let u : swapped_in g b gone fresh c ≡ d = cc t in ap (λ z. z.place) (sym u) ∙ st b c q)
 
 -- a bucket in hand has its number below that of the places
 pub in_hand_below : (places : List (Option Content)) (b : ℕ) → IsSome (bucket_at places b) → b < length places
@@ -195,41 +223,64 @@ in_hand_below [] b s = absurd (cc s)
 in_hand_below (o ∷ places) zero s = omega arith
 in_hand_below (o ∷ places) (suc b) s = let h = in_hand_below places b s in omega arith
 
+pub layout_below : (places : List (Option Layout)) (b : ℕ) → IsSome (layout_at places b) → b < length places
+layout_below [] b s = absurd (cc s)
+layout_below (o ∷ places) zero s = omega arith
+layout_below (o ∷ places) (suc b) s = let h = layout_below places b s in omega arith
+
 known_some : {X : Type 0} (P : X → Type 0) (o : Option X) → IsSomeAnd o P → IsSome o
 known_some P None h = absurd h
 known_some P (Some x) h = refl
 
-pub ready_below : (g : ℕ) (gone fresh : List Cell) (places : List (Option Content)) (lists : List CellsFor) → IsReady g gone fresh places lists → (l : CellsFor) → IsIn l lists → l.number < length places
-ready_below g gone fresh places lists r l i = in_hand_below places l.number (known_some _ (bucket_at places l.number) (r.each l i))
+pub allowed_below : (places : List (Option Layout)) (l : PlanFor) → IsAllowed places l → l.number < length places
+allowed_below places l a = layout_below places l.number (known_some (λ c. Allows l.plan c.cells) (layout_at places l.number) a)
 
--- while more lists are made, they are for the first numbers
-pub numbers_more : (lists next : List CellsFor) (l : CellsFor) (numbers : List ℕ) (i : ℕ) → i < length numbers → next ≡ lists ++ l ∷ [] → l.number ≡ slice_index_or numbers i 0 → map (λ k. k.number) lists ≡ take i numbers → map (λ k. k.number) next ≡ take (i + 1) numbers
-numbers_more lists next l numbers i h e q m =
-    ap (map (λ (k : CellsFor). k.number)) e ∙ last lists ∙ ap (λ (k : List ℕ). k ++ l.number ∷ []) m ∙ ap (λ n. take i numbers ++ n ∷ []) q ∙ sym (take_next numbers i 0 h) ∙ ap (λ n. take n numbers) (sym (add-one i))
+-- the bucket in which it can
+pub allowed_there : (places : List (Option Layout)) (l : PlanFor) (x : Option Layout) → IsAllowed places l → x ≡ slice_index_or places l.number x → IsSomeAnd (slice_index_or places l.number x) (λ c. Allows l.plan c.cells)
+allowed_there places l x a e = subst (λ o. IsSomeAnd o (λ c. Allows l.plan c.cells)) (within places l.number x None (allowed_below places l a) e ∙ e) a
+
+-- a plan that makes the exchange can be carried out
+pub ready_allowed : (g : ℕ) (gone fresh : List Cell) (places : List (Option Layout)) (plans : List PlanFor) → IsReady g gone fresh places plans → (l : PlanFor) → IsIn l plans → IsAllowed places l
+ready_allowed g gone fresh places plans r l i = by (layout_at places l.number) (r.each l i)
   where
-    last : (ls : List CellsFor) → map (λ (k : CellsFor). k.number) (ls ++ l ∷ []) ≡ map (λ k. k.number) ls ++ l.number ∷ []
+    by : (o : Option Layout) → IsSomeAnd o (λ c. IsPlanFor gone fresh c.cells l.plan) → IsSomeAnd o (λ c. Allows l.plan c.cells)
+    by None h = h
+    by (Some c) h = h.allows
+
+-- while more plans are made, they are for the first numbers
+pub numbers_more : (plans next : List PlanFor) (l : PlanFor) (numbers : List ℕ) (i : ℕ) → i < length numbers → next ≡ plans ++ l ∷ [] → l.number ≡ slice_index_or numbers i 0 → map (λ k. k.number) plans ≡ take i numbers → map (λ k. k.number) next ≡ take (i + 1) numbers
+numbers_more plans next l numbers i h e q m =
+    ap (map (λ (k : PlanFor). k.number)) e ∙ last plans ∙ ap (λ (k : List ℕ). k ++ l.number ∷ []) m ∙ ap (λ n. take i numbers ++ n ∷ []) q ∙ sym (take_next numbers i 0 h) ∙ ap (λ n. take n numbers) (sym (add-one i))
+  where
+    last : (ls : List PlanFor) → map (λ (k : PlanFor). k.number) (ls ++ l ∷ []) ≡ map (λ k. k.number) ls ++ l.number ∷ []
     last [] = refl
     last (k ∷ ls) = ap (λ (n : List ℕ). k.number ∷ n) (last ls)
 
 -- and each is ready
-pub ready_more : (g : ℕ) (gone fresh : List Cell) (places : List (Option Content)) (lists next : List CellsFor) (l : CellsFor) → next ≡ lists ++ l ∷ [] → ((k : CellsFor) → IsIn k lists → IsReadyFor g gone fresh places k) → IsReadyFor g gone fresh places l → (k : CellsFor) → IsIn k next → IsReadyFor g gone fresh places k
-ready_more g gone fresh places lists next l e f this k i = elim (from_append k lists (l ∷ []) (subst (IsIn k) e i)) [
+pub ready_more : (gone fresh : List Cell) (places : List (Option Layout)) (plans next : List PlanFor) (l : PlanFor) → next ≡ plans ++ l ∷ [] → ((k : PlanFor) → IsIn k plans → IsReadyFor gone fresh places k) → IsReadyFor gone fresh places l → (k : PlanFor) → IsIn k next → IsReadyFor gone fresh places k
+ready_more gone fresh places plans next l e f this k i = elim (from_append k plans (l ∷ []) (subst (IsIn k) e i)) [
   | inl j ↦ f k j
-  | inr j ↦ elim j [ inl s ↦ subst (IsReadyFor g gone fresh places) s this | inr n ↦ absurd n ]
+  | inr j ↦ elim j [ inl s ↦ subst (IsReadyFor gone fresh places) s this | inr n ↦ absurd n ]
 ]
 
--- with lists for all the numbers of touched buckets
-pub ready_all : (g : ℕ) (gone fresh : List Cell) (places : List (Option Content)) (lists : List CellsFor) (numbers : List ℕ) → ((k : CellsFor) → IsIn k lists → IsReadyFor g gone fresh places k) → map (λ l. l.number) lists ≡ numbers → ((b : ℕ) → (IsIn b (numbers_of g gone) ⊎ IsIn b (numbers_of g fresh)) → IsIn b numbers) → IsReady g gone fresh places lists
-ready_all g gone fresh places lists numbers f e all = record {
+-- plans for numbers that ascend are apart
+apart_from : (plans : List PlanFor) → IsAscending (map (λ l. l.number) plans) → AreApart plans
+apart_from [] a = tt
+apart_from (l ∷ plans) a = (λ k i e. (let b = below-each l.number (map (λ (k : PlanFor). k.number) plans) a.0 a.1 k.number (in_mapped (λ (k : PlanFor). k.number) plans k i) in omega (arith, b, e)), apart_from plans a.1)
+
+-- with plans for all the numbers of touched buckets
+pub ready_all : (g : ℕ) (gone fresh : List Cell) (places : List (Option Layout)) (plans : List PlanFor) (numbers : List ℕ) → ((k : PlanFor) → IsIn k plans → IsReadyFor gone fresh places k) → map (λ l. l.number) plans ≡ numbers → IsAscending numbers → ((b : ℕ) → (IsIn b (numbers_of g gone) ⊎ IsIn b (numbers_of g fresh)) → IsIn b numbers) → IsReady g gone fresh places plans
+ready_all g gone fresh places plans numbers f e a all = record {
   each = f;
+  apart = apart_from plans (subst IsAscending (sym e) a);
   others = λ b n. (
     not_touched g b gone (λ i. none b n (all b (inl i))),
     not_touched g b fresh (λ i. none b n (all b (inr i))),
   );
 }
   where
-    none : (b : ℕ) → NoneIsFor b lists → IsIn b numbers → ⊥
-    none b n i = let r = mapped_from (λ (l : CellsFor). l.number) lists b (subst (IsIn b) (sym e) i) in n r.0 r.1 r.2
+    none : (b : ℕ) → NoneIsFor b plans → IsIn b numbers → ⊥
+    none b n i = let r = mapped_from (λ (l : PlanFor). l.number) plans b (subst (IsIn b) (sym e) i) in n r.0 r.1 r.2
 
 -- the front of a list, by its length
 pub front_is : {X : Type 0} (ws m : List X) (n : ℕ) → n ≡ length ws → take n (ws ++ m) ≡ ws

@@ -36,7 +36,7 @@ use Rattle.cell_store.specs.Swaps.{touches, without_cells, is_cell_among}
 use Rattle.cell_store.specs.Shares.{Shows, cells_share, points_on}
 use Rattle.cell_store.specs.Changes.{IsChange, NoneTouches}
 use Rattle.cell_store.specs.Touches.{IsTouched, ShareOutsideTouch, ReachFromHeld, CommitsCommute}
-use Rattle.cell_store.proofs.CellLaws.{among_true as cell_among, among_from as cell_from, swapped_none}
+use Rattle.cell_stars.proofs.CellLaws.{among_true as cell_among, among_from as cell_from, swapped_none}
 use Rattle.cell_store.proofs.HandLaws.{held_point}
 use Rattle.cell_store.proofs.NextLaws.{cells_after, points_stay, entries_stay}
 use Rattle.cell_store.proofs.ShareLaws.{some_of, ascending_replay, touched, facet_inside, facet_nonempty, solid_set}

@@ -1,8 +1,9 @@
 -- What a bucket and a hold show: their lists, without the layout of the code.
-use Rattle.std.specs.Prelude.{◌≡◌, ℕ, ◌*◌, List, [], Option, None, Some, ◌⊎◌, replicate, slice_index_or}
-use Rattle.std.specs.Option.{option_map_or}
+use Rattle.std.specs.Prelude.{◌≡◌, ℕ, ◌*◌, List, [], Option, None, Some, ◌⊎◌, map, replicate, slice_index_or}
+use Rattle.std.specs.Option.{option_map, option_map_or}
 use Rattle.point_order.specs.declared.cell.Cell.{Cell}
 use Rattle.edit_history.specs.declared.history.Entry.{Entry}
+use Rattle.cell_stars.specs.Places.{Placed, cells_of}
 
 -- A bucket: its points, the cells with a vertex in it, and the entries whose point lies in it. Its place is none for a new
 -- bucket, else the size of the grid in which it last stood, or from which it was copied, and its number there.
@@ -12,9 +13,23 @@ pub record Content : Type 0 where
   pub entries : List Entry
   pub place : Option (ℕ × ℕ)
 
+-- A bucket as it is kept: its points, its cells at numbered places with their stars, and its entries.
+pub record Layout : Type 0 where
+  pub points : List ℕ
+  pub cells : Placed
+  pub entries : List Entry
+
 -- what a bucket has, as clauses read it
-abbrev pub content_of : Content → Content
-content_of c = c
+abbrev pub content_of : Layout → Content
+content_of c = record { points = c.points; cells = cells_of c.cells.slots; entries = c.entries; place = c.cells.place }
+
+-- what the buckets in hand have
+abbrev pub shown : List (Option Layout) → List (Option Content)
+shown places = map (option_map content_of) places
+
+-- the bucket with a number as it is kept, if it is in hand
+abbrev pub layout_at : List (Option Layout) → ℕ → Option Layout
+layout_at places b = slice_index_or places b None
 
 -- The room of a hold: the cells that go and come in the exchange for which there is room, and the point of the entry for
 -- which there is.

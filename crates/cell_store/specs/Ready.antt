@@ -7,40 +7,50 @@ use Rattle.point_order.specs.Facets.{points_of}
 use Rattle.point_order.specs.Sets.{IsIn, with_point}
 use Rattle.edit_history.specs.declared.history.Entry.{Entry}
 use Rattle.cell_store.specs.Grids.{bucket_of}
-use Rattle.cell_store.specs.Buckets.{Content, InHand, bucket_at}
-use Rattle.cell_store.specs.Swaps.{swapped}
+use Rattle.cell_stars.specs.Plans.{PlanView, Allows, IsPlanFor, done}
+use Rattle.cell_store.specs.Buckets.{Content, Layout, InHand, bucket_at, layout_at}
 use Rattle.cell_store.specs.Changes.{NoneTouches}
+use Rattle.cell_store.specs.declared.room.PlanFor.{PlanFor}
 
 -- no cell of the exchange touches the bucket
 abbrev pub IsUntouched : ℕ → ℕ → List Cell → List Cell → Type 0
 IsUntouched g b gone fresh = NoneTouches g b gone × NoneTouches g b fresh
 
--- a list of cells that the bucket with a number is to have
-pub record CellsFor : Type 0 where
-  pub number : ℕ
-  pub cells : List Cell
+-- the bucket after a plan
+abbrev pub carried : PlanView → Layout → Layout
+carried p c = record c { cells = done p c.cells }
 
--- the bucket with a number, with the list that is for it
-abbrev pub given : List CellsFor → ℕ → Option Content → Option Content
+-- the bucket with a number, after the plan that is for it
+abbrev pub given : List PlanFor → ℕ → Option Layout → Option Layout
 given [] b o = o
-given (l ∷ ls) b o = given ls b (if l.number == b then option_map (λ (c : Content). record c { cells = l.cells }) o else o)
+given (l ∷ ls) b o = given ls b (if l.number == b then option_map (carried l.plan) o else o)
 
--- a list is for a bucket in hand, and is that of its cells after the exchange
-abbrev pub IsReadyFor : ℕ → List Cell → List Cell → List (Option Content) → CellsFor → Type 0
-IsReadyFor g gone fresh places l = IsSomeAnd (bucket_at places l.number) (λ c. l.cells ≡ swapped g l.number gone fresh c.cells)
+-- a plan is for a bucket in hand, and makes the exchange in it
+abbrev pub IsReadyFor : List Cell → List Cell → List (Option Layout) → PlanFor → Type 0
+IsReadyFor gone fresh places l = IsSomeAnd (layout_at places l.number) (λ c. IsPlanFor gone fresh c.cells l.plan)
 
--- none of the lists is for the bucket with the number
-abbrev pub NoneIsFor : ℕ → List CellsFor → Type 0
-NoneIsFor b lists = (l : CellsFor) → IsIn l lists → l.number ≢ b
+-- a plan can be carried out in its bucket, which is in hand
+abbrev pub IsAllowed : List (Option Layout) → PlanFor → Type 0
+IsAllowed places l = IsSomeAnd (layout_at places l.number) (λ c. Allows l.plan c.cells)
 
--- what is ready for an exchange: lists for buckets in hand, for each that the exchange touches at least one
-pub record IsReady (g : ℕ) (gone fresh : List Cell) (places : List (Option Content)) (lists : List CellsFor) : Type 0 where
-  pub each : (l : CellsFor) → IsIn l lists → IsReadyFor g gone fresh places l
-  pub others : (b : ℕ) → NoneIsFor b lists → IsUntouched g b gone fresh
+-- none of the plans is for the bucket with the number
+abbrev pub NoneIsFor : ℕ → List PlanFor → Type 0
+NoneIsFor b plans = (l : PlanFor) → IsIn l plans → l.number ≢ b
+
+-- no two are for one bucket
+abbrev pub AreApart : List PlanFor → Type 0
+AreApart [] = Unit {0}
+AreApart (l ∷ ls) = NoneIsFor l.number ls × AreApart ls
+
+-- what is ready for an exchange: plans for buckets in hand, one for each that the exchange touches
+pub record IsReady (g : ℕ) (gone fresh : List Cell) (places : List (Option Layout)) (plans : List PlanFor) : Type 0 where
+  pub each : (l : PlanFor) → IsIn l plans → IsReadyFor gone fresh places l
+  pub apart : AreApart plans
+  pub others : (b : ℕ) → NoneIsFor b plans → IsUntouched g b gone fresh
 
 -- the buckets with these numbers are in hand
-abbrev pub AreInHand : List (Option Content) → List ℕ → Type 0
-AreInHand places numbers = (b : ℕ) → IsIn b numbers → IsSome (bucket_at places b)
+abbrev pub AreInHand : List (Option Layout) → List ℕ → Type 0
+AreInHand places numbers = (b : ℕ) → IsIn b numbers → IsSome (layout_at places b)
 
 -- the numbers of the buckets of all finite vertices of the cells
 abbrev pub numbers_of : ℕ → List Cell → List ℕ

@@ -1,26 +1,15 @@
 -- The cells at a point, and what lies across a facet.
 use Rattle.std.specs.Prelude.{◌≡◌, ℕ, List, [], ◌∷◌}
-use Rattle.std.specs.List.{filter}
 use Rattle.point_order.specs.declared.cell.Cell.{Cell}
 use Rattle.point_order.specs.declared.cell.Facet.{Facet}
 use Rattle.point_order.specs.Complex.{complex}
-use Rattle.point_order.specs.Facets.{points_of}
-use Rattle.point_order.specs.Sets.{IsIn, is_among}
+use Rattle.point_order.specs.Sets.{IsIn}
 use Rattle.cell_store.specs.Grids.{bucket_of}
 use Rattle.cell_store.specs.Buckets.{InHand}
 use Rattle.cell_store.specs.Shares.{Shows, IsAcross, IsInHandFor, NoneInHand, points_on}
-use Rattle.cell_store.specs.declared.bucket.BucketCells.{BucketCells}
 use Rattle.cell_store.specs.declared.star.Across.{Across}
 use Rattle.cell_store.specs.declared.star.Across.TheVariants.{Cell as Found, Need}
-use Rattle.cell_store.specs.declared.star.Star.{Star}
-
--- those that are still to come
-abbrev pub cells_left : Star → List Cell
-cells_left s = filter (λ c. is_among s.point (points_of c)) s.cells.now
-
--- those of a bucket that are still to come
-abbrev pub cells_to_come : BucketCells → List Cell
-cells_to_come s = s.cells.now
+pub use Rattle.cell_stars.specs.Stars.{cells_left, cells_around, cells_to_come}
 
 -- the bucket of the first point of a list
 abbrev pub bucket_of_first : ℕ → List ℕ → ℕ

@@ -1,18 +1,23 @@
 //! Buckets.
 
-ghost use Rattle.std.specs.Prelude.{◌≡◌, ◌∷◌, [], ◌++◌, None, IsPermutation, IfOk};
+ghost use Rattle.std.specs.Prelude.{◌≡◌, ◌∷◌, [], ◌++◌, true, None, Some, IsPermutation, IfOk, MatchOption};
+ghost use Rattle.std.specs.List.{filter};
+ghost use Rattle.point_order.specs.Facets.{points_of};
+ghost use Rattle.point_order.specs.Sets.{IsIn, IsAscending, is_among};
 ghost use Rattle.edit_history.specs.Edits.{point_of, changed};
-ghost use Rattle.cell_store.specs.Buckets.{at_place, content_of};
-ghost use Rattle.cell_store.specs.Ready.{HasLists};
-ghost use Rattle.std.specs.List.Sorted.{IsStrictlySortedBy};
-ghost use Rattle.cell_store.specs.Stars.{cells_to_come};
-ghost use Rattle.point_order.specs.CellOrder.{cell_cmp};
-ghost use Rattle.point_order.specs.Sets.{IsAscending, is_among};
+ghost use Rattle.cell_stars.specs.Places.{lies_in};
+ghost use Rattle.cell_stars.specs.Plans.{Allows, IsPlanFor};
+ghost use Rattle.cell_store.specs.Buckets.{FitsPlace, content_of};
+ghost use Rattle.cell_store.specs.Others.{HaveNoOther, IsOtherOf};
+ghost use Rattle.cell_store.specs.Ready.{HasLists, carried};
+ghost use Rattle.cell_store.specs.Shares.{points_on};
+ghost use Rattle.cell_store.specs.Stars.{cells_left, cells_to_come};
 
-use crate::grid::Grid;
 use crate::note::{Note, points_after};
+use crate::star::other_among;
+use cell_stars::{BucketCells, Cells, Grid, Plan, Star};
 use edit_history::Entry;
-use point_order::{Cell, Point};
+use point_order::{Cell, Facet, Point};
 use std::alloc::{AllocError, Global};
 use std::marker::Model;
 
@@ -22,45 +27,19 @@ use std::marker::Model;
 #[derive(Debug, Drop)]
 pub struct Bucket {
     points: Vec<Point>,
-    cells: Vec<Cell>,
+    cells: Cells,
     entries: Vec<Entry>,
-    place: Option<(Grid, u32)>,
 }
 
 impl Model for Bucket {
-    ghost use Rattle.std.specs.List.Sorted.{IsStrictlySortedBy};
     ghost use Rattle.point_order.specs.Sets.{IsAscending};
-    ghost use Rattle.point_order.specs.CellOrder.{cell_cmp};
-    ghost use Rattle.cell_store.specs.Buckets.{Content};
+    ghost use Rattle.cell_store.specs.Buckets.{Layout};
 
-    ghost Value = { Content };
+    ghost Value = { Layout };
 
-    ghost view = { λ b. record { points = b.points.items; cells = b.cells.items; entries = b.entries.items; place = b.place } };
+    ghost view = { λ b. record { points = b.points.items; cells = b.cells; entries = b.entries.items } };
 
-    ghost invariant = { λ b. IsAscending b.points.items × IsStrictlySortedBy cell_cmp b.cells.items };
-}
-
-/// The cells of a bucket, each once, in any order.
-#[derive(Clone, Copy, Debug)]
-pub struct BucketCells<'a> {
-    cells: &'a [Cell],
-}
-
-impl<'a> Iterator for BucketCells<'a> {
-    type Item = &'a Cell;
-
-    ghost use Rattle.std.specs.Iterator.{YieldsFirstRef, item_count};
-    ghost use Rattle.cell_store.specs.Stars.{cells_to_come};
-
-    ghost next_gives = { YieldsFirstRef cells_to_come };
-
-    ghost remaining = { item_count cells_to_come };
-
-    fn next(&mut self) -> Option<&'a Cell> {
-        let (first, others) = self.cells.split_first()?;
-        self.cells = others;
-        Some(first)
-    }
+    ghost invariant = { λ b. IsAscending b.points.items };
 }
 
 impl Bucket {
@@ -70,9 +49,8 @@ impl Bucket {
     {
         Bucket {
             points: Vec::new(alloc),
-            cells: Vec::new(alloc),
+            cells: Cells::new(alloc),
             entries: Vec::new(alloc),
-            place: None,
         }
     }
 
@@ -95,38 +73,57 @@ impl Bucket {
     pub fn cells(&self) -> BucketCells<'_>
         ensures { IsPermutation (content_of self.now).cells (cells_to_come result) }
     {
-        BucketCells { cells: &self.cells }
+        self.cells.cells()
     }
 
-    // The cells, in order.
-    pub(crate) fn cell_list(&self) -> &[Cell]
-        ensures list { result.now ≡ self.now.cells }
-        ensures order { IsStrictlySortedBy cell_cmp self.now.cells }
+    // The cells at a point of the bucket, in ascending order.
+    pub(crate) fn cells_at(&self, p: Point) -> Star<'_>
+        requires { lies_in self.now.cells.place p ≡ true }
+        ensures { cells_left result ≡ filter (λ c. is_among p (points_of c)) (content_of self.now).cells }
     {
-        &self.cells
+        self.cells.cells_at(p)
     }
 
-    // Gives the bucket other cells, which are to be in order.
-    pub(crate) fn set_cells(&mut self, cells: Vec<Cell>)
-        requires { IsStrictlySortedBy cell_cmp cells.items }
-        ensures { self.new ≡ record self.old { cells = cells.items } }
+    // A cell on the facet other than the given one, if there is one. The facet is to have the point, which is to lie in the bucket.
+    pub(crate) fn other_at(&self, p: Point, cell: &Cell, facet: &Facet) -> Option<&Cell>
+        requires inside { lies_in self.now.cells.place p ≡ true }
+        requires among { IsIn p (points_on facet.now) }
+        ensures { MatchOption result (HaveNoOther (content_of self.now).cells cell.now facet.now) (λ c. IsOtherOf (content_of self.now).cells cell.now facet.now c.now) }
     {
-        self.cells = cells;
+        other_among(self.cells.cells_around(p), cell, facet)
+    }
+
+    // Plans an exchange of cells, as far as they touch the bucket.
+    pub(crate) fn plan(
+        &self,
+        alloc: Global,
+        gone: &[Cell],
+        fresh: &[Cell],
+    ) -> Result<Plan, AllocError>
+        ensures { IfOk result (λ plan. IsPlanFor gone.now fresh.now self.now.cells plan) }
+    {
+        self.cells.plan(alloc, gone, fresh)
+    }
+
+    // Carries a plan out. It takes no memory.
+    pub(crate) fn carry_out(&mut self, plan: Plan)
+        requires { Allows plan self.old.cells }
+        ensures { self.new ≡ carried plan self.old }
+    {
+        self.cells.carry_out(plan);
     }
 
     // Puts the entry last, and its point in or out as its reply says. The note is to be ready for it.
     pub(crate) fn noted(self, note: Note, entry: Entry) -> Bucket
-        requires { HasLists (point_of entry.edit) self note }
+        requires { HasLists (point_of entry.edit) (content_of self) note }
         ensures { result ≡ record self { points = changed self.points (point_of entry.edit) entry.reply; entries = self.entries ++ entry ∷ [] } }
     {
         let (ready, entries) = note.into_lists(entry);
         let points = points_after(self.points, ready, entry.edit.point(), entry.reply);
-        let place = self.place;
         Bucket {
             points,
             cells: self.cells,
             entries,
-            place,
         }
     }
 
@@ -137,13 +134,16 @@ impl Bucket {
         self.points().binary_search(&p).is_ok()
     }
 
-    // The bucket, which stands in the grid at the number from now on.
+    // The bucket, which stands in the grid at the number from now on. It is to be new, or to have stood there.
     pub(crate) fn placed(self, grid: Grid, number: u32) -> Bucket
-        ensures { result ≡ at_place grid number self }
+        requires { FitsPlace grid number (content_of self) }
+        ensures { result ≡ record self { cells = record self.cells { place = Some (grid, number) } } }
     {
+        let cells = self.cells.placed(grid, number);
         Bucket {
-            place: Some((grid, number)),
-            ..self
+            points: self.points,
+            cells,
+            entries: self.entries,
         }
     }
 
@@ -153,9 +153,8 @@ impl Bucket {
     {
         Ok(Bucket {
             points: Vec::from_slice(alloc, &self.points)?,
-            cells: Vec::from_slice(alloc, &self.cells)?,
+            cells: self.cells.copied(alloc)?,
             entries: Vec::from_slice(alloc, &self.entries)?,
-            place: self.place,
         })
     }
 }

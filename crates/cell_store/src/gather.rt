@@ -10,7 +10,7 @@ ghost use Rattle.cell_store.specs.Swaps.{AreSameCells};
 
 use crate::bucket::Bucket;
 use crate::hold::Hold;
-use crate::swap::cells_in_order;
+use cell_stars::cells_in_order;
 use edit_history::{Entry, merge};
 use point_order::Cell;
 use std::alloc::{AllocError, Global};

@@ -10,14 +10,14 @@ ghost use Rattle.cell_store.specs.Grids.{is_grid_size, bucket_of as number_of};
 ghost use Rattle.cell_store.specs.Buckets.{no_room, empty_hold, bucket_at, points_in, cells_in, at_place, content_of, FitsPlace, StandAtPlaces};
 ghost use Rattle.cell_store.specs.Shares.{Shows, ShowsWith, NoneInHand, IsInHandFor};
 ghost use Rattle.cell_store.specs.Changes.{IsSwapped, IsNoted};
-ghost use Rattle.cell_store.specs.Ready.{AreHeld, IsReady};
+ghost use Rattle.cell_store.specs.Ready.{AreHeld};
 ghost use Rattle.cell_store.specs.Stars.{cells_left, AcrossGives};
 
 use crate::bucket::Bucket;
-use crate::grid::Grid;
 use crate::note::Note;
-use crate::room::{Exchange, lists_for, put_lists};
-use crate::star::{Across, Star, facet_points, other_on};
+use crate::room::{Exchange, carry_all};
+use crate::star::{Across, facet_points};
+use cell_stars::{Grid, Star};
 use edit_history::Entry;
 use point_order::{Cell, Facet, Point};
 use std::alloc::{AllocError, Global};
@@ -37,14 +37,14 @@ pub struct Hold {
 impl Model for Hold {
     ghost use Rattle.std.specs.Prelude.{◌≡◌, ◌*◌, length, IfSome};
     ghost use Rattle.std.specs.Option.{option_map};
-    ghost use Rattle.cell_store.specs.Buckets.{InHand, StandAtPlaces};
+    ghost use Rattle.cell_store.specs.Buckets.{InHand, StandAtPlaces, shown};
     ghost use Rattle.cell_store.specs.Ready.{IsReady, IsNoteReady};
 
     ghost Value = { InHand };
 
-    ghost view = { λ h. record { grid = h.grid; places = h.places.items; room = record { swap = option_map (λ e. (e.gone.items, e.fresh.items)) h.exchange; push = option_map (λ n. n.point) h.note } } };
+    ghost view = { λ h. record { grid = h.grid; places = shown h.places.items; room = record { swap = option_map (λ e. (e.gone.items, e.fresh.items)) h.exchange; push = option_map (λ n. n.point) h.note } } };
 
-    ghost invariant = { λ h. (length h.places.items ≡ h.grid * h.grid * h.grid) × IfSome h.exchange (λ e. IsReady h.grid e.gone.items e.fresh.items h.places.items e.lists.items) × IfSome h.note (λ n. IsNoteReady h.grid h.places.items n) × StandAtPlaces h.grid h.places.items };
+    ghost invariant = { λ h. (length h.places.items ≡ h.grid * h.grid * h.grid) × IfSome h.exchange (λ e. IsReady h.grid e.gone.items e.fresh.items h.places.items e.plans.items) × IfSome h.note (λ n. IsNoteReady h.grid (shown h.places.items) n) × StandAtPlaces h.grid (shown h.places.items) };
 }
 
 impl Hold {
@@ -155,21 +155,18 @@ impl Hold {
         ensures in_complex { (s : List ℕ) → Shows self.now s → cells_left result ≡ filter (λ c. is_among p (points_of c)) (complex s) }
     {
         let b = self.grid().bucket_of(p);
-        Star {
-            cells: self.bucket(b).cell_list(),
-            point: p,
-        }
+        self.bucket(b).cells_at(p)
     }
 
-    // The bucket of one of the points that is in hand, if there is one.
-    pub(crate) fn bucket_among(&self, points: &[Point]) -> Option<u32>
-        ensures { MatchOption result (NoneInHand self.now points.now) (λ b. IsInHandFor self.now points.now b) }
+    // One of the points whose bucket is in hand, if there is one.
+    pub(crate) fn point_among(&self, points: &[Point]) -> Option<Point>
+        ensures { MatchOption result (NoneInHand self.now points.now) (λ p. IsIn p points.now × IsInHandFor self.now points.now (number_of self.now.grid p)) }
     {
         let grid = self.grid();
         for p in points {
             let b = grid.bucket_of(*p);
             if self.has(b) {
-                return Some(b);
+                return Some(*p);
             }
         }
         None
@@ -183,8 +180,11 @@ impl Hold {
         ensures { AcrossGives self.now cell.now facet.now result }
     {
         let points = facet_points(facet);
-        match self.bucket_among(points) {
-            Some(b) => match other_on(self.bucket(b).cell_list(), cell, facet) {
+        match self.point_among(points) {
+            Some(p) => match self
+                .bucket(self.grid().bucket_of(p))
+                .other_at(p, cell, facet)
+            {
                 Some(other) => Across::Cell(other),
                 None => unreachable!(),
             },
@@ -228,32 +228,11 @@ impl Hold {
         ensures ok { OnOk result (self.new ≡ record self.old { room = record { swap = Some (gone.now, fresh.now); push = Some p } }) }
         ensures err { OnErr result (self.new ≡ self.old) }
     {
-        let exchange = self.exchange_for(alloc, gone, fresh)?;
+        let exchange = Exchange::new(alloc, self.grid(), &self.places, gone, fresh)?;
         let note = Note::new(alloc, self.bucket(self.grid().bucket_of(p)), p)?;
         self.exchange = Some(exchange);
         self.note = Some(note);
         Ok(())
-    }
-
-    // The lists of all buckets for an exchange.
-    fn exchange_for(
-        &self,
-        alloc: Global,
-        gone: &[Cell],
-        fresh: &[Cell],
-    ) -> Result<Exchange, AllocError>
-        requires gone { AreHeld self.now gone.now }
-        requires fresh { AreHeld self.now fresh.now }
-        ensures gone { IfOk result (λ e. e.gone.items ≡ gone.now) }
-        ensures fresh { IfOk result (λ e. e.fresh.items ≡ fresh.now) }
-        ensures ready { IfOk result (λ e. IsReady self.now.grid gone.now fresh.now self.now.places e.lists.items) }
-    {
-        let lists = lists_for(alloc, self.grid(), &self.places, gone, fresh)?;
-        Ok(Exchange {
-            gone: Vec::from_slice(alloc, gone)?,
-            fresh: Vec::from_slice(alloc, fresh)?,
-            lists,
-        })
     }
 
     /// Takes the gone cells out of the buckets of their finite vertices, and puts the fresh ones in. There is to be room for this
@@ -264,7 +243,7 @@ impl Hold {
         ensures room { self.new.room ≡ record self.old.room { swap = None } }
     {
         if let Some(exchange) = self.exchange.take() {
-            put_lists(&mut self.places, exchange.lists);
+            carry_all(&mut self.places, exchange.plans);
         }
     }
 

@@ -6,21 +6,18 @@
 
 mod bucket;
 mod gather;
-mod grid;
 mod hold;
 pub mod laws;
 mod mesh;
 mod note;
 mod room;
 mod star;
-mod swap;
 
-pub use bucket::{Bucket, BucketCells};
-pub use grid::{BadGrid, Grid};
+pub use bucket::Bucket;
+pub use cell_stars::{BadGrid, BucketCells, Grid, Star, cells_in_order};
 pub use hold::Hold;
 pub use mesh::Mesh;
-pub use star::{Across, Star};
-pub use swap::cells_in_order;
+pub use star::Across;
 
 #[cfg(test)]
 mod tests;

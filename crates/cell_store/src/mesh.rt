@@ -8,8 +8,8 @@ ghost use Rattle.cell_store.specs.Changes.{Follows};
 ghost use Rattle.cell_store.specs.Meshes.{AllInHand, HasPlaces, IsHoldOf, StandsForSome, counted, history_in, mesh_in};
 
 use crate::bucket::Bucket;
-use crate::grid::Grid;
 use crate::hold::Hold;
+use cell_stars::Grid;
 use edit_history::Entry;
 use point_order::Cell;
 use std::alloc::{AllocError, Global};

@@ -4,6 +4,7 @@ ghost use Rattle.std.specs.Prelude.{◌≡◌, ◌<◌, ◌≤◌, ◌∷◌, []
 ghost use Rattle.std.specs.List.{insert, remove};
 ghost use Rattle.point_order.specs.Sets.{IsAscending, with_point as with, without_point};
 ghost use Rattle.edit_history.specs.Edits.{changed};
+ghost use Rattle.cell_store.specs.Buckets.{content_of};
 ghost use Rattle.cell_store.specs.Ready.{HasLists};
 
 use crate::bucket::Bucket;
@@ -36,7 +37,7 @@ impl Note {
     // For an entry of the point, which is one of the bucket's.
     pub(crate) fn new(alloc: Global, bucket: &Bucket, p: Point) -> Result<Note, AllocError>
         ensures point { IfOk result (λ note. note.point ≡ p) }
-        ensures lists { IfOk result (λ note. HasLists p bucket.now note) }
+        ensures lists { IfOk result (λ note. HasLists p (content_of bucket.now) note) }
     {
         let points = points_with(alloc, bucket.points(), p)?;
         let mut entries = Vec::from_slice(alloc, bucket.entries())?;

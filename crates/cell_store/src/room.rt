@@ -1,62 +1,31 @@
 //! What a hold keeps ready, so that an exchange of cells takes no memory.
 
-ghost use Rattle.std.specs.Prelude.{◌≡◌, ◌↔◌, ◌⊎◌, ◌++◌, ℕ, ◌*◌, ◌<◌, IfOk, IsSome, OnOk, length};
-ghost use Rattle.std.specs.List.Sorted.{IsStrictlySortedBy};
+ghost use Rattle.std.specs.Prelude.{◌≡◌, ◌↔◌, ◌⊎◌, ◌++◌, ℕ, ◌*◌, ◌<◌, IfOk, IsSome, IsSomeAnd, OnOk};
 ghost use Rattle.std.specs.Option.{option_map};
-ghost use Rattle.point_order.specs.CellOrder.{cell_cmp};
-ghost use Rattle.point_order.specs.Sets.{IsIn};
-ghost use Rattle.cell_store.specs.Buckets.{Content, bucket_at};
-ghost use Rattle.cell_store.specs.Ready.{CellsFor, given, IsReady, IsReadyFor, numbers_of, AreInHand};
+ghost use Rattle.point_order.specs.Sets.{IsIn, IsAscending};
+ghost use Rattle.cell_stars.specs.Plans.{Allows};
+ghost use Rattle.cell_store.specs.Buckets.{layout_at};
+ghost use Rattle.cell_store.specs.Ready.{AreApart, AreInHand, IsAllowed, IsReady, IsReadyFor, carried, given, numbers_of};
+ghost use Rattle.cell_store.specs.declared.room.PlanFor.{PlanFor};
 
 use crate::bucket::Bucket;
-use crate::grid::Grid;
-use crate::swap::swapped_cells;
+use cell_stars::{Grid, Plan};
 use point_order::Cell;
 use std::alloc::{AllocError, Global};
-use std::marker::Model;
 
-// The cells that go and come in an exchange, and the list that each bucket has after it that is touched.
+// The cells that go and come in an exchange, and the plan for each bucket that is touched.
 #[derive(Debug, Drop)]
 pub(crate) struct Exchange {
     pub(crate) gone: Vec<Cell>,
     pub(crate) fresh: Vec<Cell>,
-    pub(crate) lists: Vec<CellList>,
+    pub(crate) plans: Vec<PlanFor>,
 }
 
-// A list of cells in order, and the number of the bucket that is to have it.
+// A plan, and the number of the bucket for which it is.
 #[derive(Debug, Drop)]
-pub(crate) struct CellList {
-    number: u32,
-    cells: Vec<Cell>,
-}
-
-impl Model for CellList {
-    ghost use Rattle.std.specs.List.Sorted.{IsStrictlySortedBy};
-    ghost use Rattle.point_order.specs.CellOrder.{cell_cmp};
-    ghost use Rattle.cell_store.specs.Ready.{CellsFor};
-
-    ghost Value = { CellsFor };
-
-    ghost view = { λ l. record { number = l.number; cells = l.cells.items } };
-
-    ghost invariant = { λ l. IsStrictlySortedBy cell_cmp l.cells.items };
-}
-
-impl CellList {
-    // The number of the bucket.
-    fn number(&self) -> u32
-        ensures { result ≡ self.now.number }
-    {
-        self.number
-    }
-
-    // The list.
-    fn into_cells(self) -> Vec<Cell>
-        ensures list { result.items ≡ self.cells }
-        ensures order { IsStrictlySortedBy cell_cmp result.items }
-    {
-        self.cells
-    }
+pub(crate) struct PlanFor {
+    pub(crate) number: u32,
+    pub(crate) plan: Plan,
 }
 
 // Adds the numbers of the buckets of all finite vertices of the cells.
@@ -71,9 +40,10 @@ fn add_numbers(numbers: &mut Vec<u32>, grid: Grid, cells: &[Cell]) -> Result<(),
     Ok(())
 }
 
-// The numbers of the buckets that an exchange touches, each once.
+// The numbers of the buckets that an exchange touches, ascending.
 fn touched(alloc: Global, grid: Grid, gone: &[Cell], fresh: &[Cell]) -> Result<Vec<u32>, AllocError>
-    ensures { IfOk result (λ numbers. (b : ℕ) → IsIn b numbers.items ↔ (IsIn b (numbers_of grid gone.now) ⊎ IsIn b (numbers_of grid fresh.now))) }
+    ensures order { IfOk result (λ numbers. IsAscending numbers.items) }
+    ensures numbers { IfOk result (λ numbers. (b : ℕ) → IsIn b numbers.items ↔ (IsIn b (numbers_of grid gone.now) ⊎ IsIn b (numbers_of grid fresh.now))) }
 {
     let mut numbers = Vec::new(alloc);
     add_numbers(&mut numbers, grid, gone)?;
@@ -83,62 +53,87 @@ fn touched(alloc: Global, grid: Grid, gone: &[Cell], fresh: &[Cell]) -> Result<V
     Ok(numbers)
 }
 
-// The list that the bucket with the number, which is to be in hand, has after an exchange.
-fn list_for(
+// The plan of an exchange for the bucket with the number, which is to be in hand.
+fn plan_for(
     alloc: Global,
-    grid: Grid,
     b: u32,
     places: &[Option<Bucket>],
     gone: &[Cell],
     fresh: &[Cell],
-) -> Result<CellList, AllocError>
-    requires { IsSome (bucket_at places.now b) }
-    ensures number { IfOk result (λ list. list.number ≡ b) }
-    ensures ready { IfOk result (λ list. IsReadyFor grid gone.now fresh.now places.now list) }
+) -> Result<PlanFor, AllocError>
+    requires { IsSome (layout_at places.now b) }
+    ensures number { IfOk result (λ plan. plan.number ≡ b) }
+    ensures ready { IfOk result (λ plan. IsReadyFor gone.now fresh.now places.now plan) }
 {
     let Some(Some(bucket)) = places.get(b as usize) else {
         unreachable!()
     };
-    let cells = swapped_cells(alloc, grid, b, bucket.cell_list(), gone, fresh)?;
-    Ok(CellList { number: b, cells })
+    let plan = bucket.plan(alloc, gone, fresh)?;
+    Ok(PlanFor { number: b, plan })
 }
 
-// The lists of all buckets that an exchange touches.
-pub(crate) fn lists_for(
+// The plans for all buckets that an exchange touches.
+fn plans_for(
     alloc: Global,
     grid: Grid,
     places: &[Option<Bucket>],
     gone: &[Cell],
     fresh: &[Cell],
-) -> Result<Vec<CellList>, AllocError>
+) -> Result<Vec<PlanFor>, AllocError>
     requires gone { AreInHand places.now (numbers_of grid gone.now) }
     requires fresh { AreInHand places.now (numbers_of grid fresh.now) }
-    ensures { IfOk result (λ lists. IsReady grid gone.now fresh.now places.now lists.items) }
+    ensures { IfOk result (λ plans. IsReady grid gone.now fresh.now places.now plans.items) }
 {
     let numbers = touched(alloc, grid, gone, fresh)?;
-    let mut lists = Vec::with_capacity(alloc, numbers.len())?;
+    let mut plans = Vec::with_capacity(alloc, numbers.len())?;
     for b in &numbers {
-        lists.push(list_for(alloc, grid, *b, places, gone, fresh)?)?;
+        plans.push(plan_for(alloc, *b, places, gone, fresh)?)?;
     }
-    Ok(lists)
+    Ok(plans)
 }
 
-// Gives the bucket, if it is there, its new list.
-fn put_list(place: &mut Option<Bucket>, list: CellList)
-    ensures { place.new ≡ option_map (λ (c : Content). record c { cells = list.cells }) place.old }
+impl Exchange {
+    // The plans of an exchange. The buckets that it touches are to be in hand.
+    pub(crate) fn new(
+        alloc: Global,
+        grid: Grid,
+        places: &[Option<Bucket>],
+        gone: &[Cell],
+        fresh: &[Cell],
+    ) -> Result<Exchange, AllocError>
+        requires gone { AreInHand places.now (numbers_of grid gone.now) }
+        requires fresh { AreInHand places.now (numbers_of grid fresh.now) }
+        ensures gone { IfOk result (λ e. e.gone.items ≡ gone.now) }
+        ensures fresh { IfOk result (λ e. e.fresh.items ≡ fresh.now) }
+        ensures ready { IfOk result (λ e. IsReady grid gone.now fresh.now places.now e.plans.items) }
+    {
+        let plans = plans_for(alloc, grid, places, gone, fresh)?;
+        Ok(Exchange {
+            gone: Vec::from_slice(alloc, gone)?,
+            fresh: Vec::from_slice(alloc, fresh)?,
+            plans,
+        })
+    }
+}
+
+// Carries the plan out in the bucket, if it is there.
+fn carry(place: &mut Option<Bucket>, plan: Plan)
+    requires { IsSomeAnd place.old (λ c. Allows plan c.cells) }
+    ensures { place.new ≡ option_map (carried plan) place.old }
 {
     if let Some(bucket) = place {
-        bucket.set_cells(list.into_cells());
+        bucket.carry_out(plan);
     }
 }
 
-// Gives each bucket the list that is for it.
-pub(crate) fn put_lists(places: &mut [Option<Bucket>], lists: Vec<CellList>)
-    requires { (l : CellsFor) → IsIn l lists.items → l.number < length places.old }
-    ensures { (b : ℕ) → bucket_at places.new b ≡ given lists.items b (bucket_at places.old b) }
+// Carries each plan out in the bucket for which it is. There is to be one at most for each bucket.
+pub(crate) fn carry_all(places: &mut [Option<Bucket>], plans: Vec<PlanFor>)
+    requires allowed { (l : PlanFor) → IsIn l plans.items → IsAllowed places.old l }
+    requires apart { AreApart plans.items }
+    ensures { (b : ℕ) → layout_at places.new b ≡ given plans.items b (layout_at places.old b) }
 {
-    for list in lists {
-        let b = list.number() as usize;
-        put_list(&mut places[b], list);
+    for item in plans {
+        let b = item.number as usize;
+        carry(&mut places[b], item.plan);
     }
 }

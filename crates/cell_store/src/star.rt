@@ -1,41 +1,15 @@
-//! The cells at a point, and the cell across a facet.
+//! The cell across a facet.
 
-ghost use Rattle.std.specs.Prelude.{◌≡◌, ◌↔◌, ◌≤◌, length, IsTrue, MatchOption};
+ghost use Rattle.std.specs.Prelude.{◌≡◌, ◌↔◌, IsTrue, MatchOption};
 ghost use Rattle.std.specs.List.{list_all};
 ghost use Rattle.point_order.specs.Sets.{IsIn, is_among};
 ghost use Rattle.point_order.specs.Facets.{facets_of, points_of};
 ghost use Rattle.cell_store.specs.Shares.{points_on};
+ghost use Rattle.cell_stars.specs.Stars.{cells_around};
 ghost use Rattle.cell_store.specs.Others.{IsOtherOf, HaveNoOther};
 
+use cell_stars::StarCells;
 use point_order::{Cell, Facet, Point};
-
-/// The cells at a point, in ascending order.
-#[derive(Clone, Copy, Debug)]
-pub struct Star<'a> {
-    pub(crate) cells: &'a [Cell],
-    pub(crate) point: Point,
-}
-
-impl<'a> Iterator for Star<'a> {
-    type Item = &'a Cell;
-
-    ghost use Rattle.std.specs.Iterator.{YieldsFirstRef, item_count};
-    ghost use Rattle.cell_store.specs.Stars.{cells_left};
-
-    ghost next_gives = { YieldsFirstRef cells_left };
-
-    ghost remaining = { item_count cells_left };
-
-    fn next(&mut self) -> Option<&'a Cell> {
-        while let Some((first, others)) = self.cells.split_first() {
-            self.cells = others;
-            if first.has(self.point) {
-                return Some(first);
-            }
-        }
-        None
-    }
-}
 
 /// What lies across a facet.
 #[derive(Clone, Copy, Debug)]
@@ -95,41 +69,14 @@ fn are_same(a: &Cell, b: &Cell) -> bool
     }
 }
 
-// Where the search for a cell on the facet begins: behind the Full cells that begin with no greater point than the facet.
-fn start_of_search(cells: &[Cell], facet: &Facet) -> usize
-    ensures { result ≤ length cells.now }
+// A cell on the facet other than the given one, if there is one among these.
+pub(crate) fn other_among<'a>(around: StarCells<'a>, cell: &Cell, facet: &Facet) -> Option<&'a Cell>
+    ensures { MatchOption result (HaveNoOther (cells_around around.entry) cell.now facet.now) (λ c. IsOtherOf (cells_around around.entry) cell.now facet.now c.now) }
 {
-    match facet_points(facet) {
-        [least, ..] => cells.partition_point(
-            |c| matches!(c, Cell::Full(quad) if quad.corners().0 <= *least),
-        ),
-        [] => 0,
-    }
-}
-
-// The last cell on the facet other than the given one, if there is one among these.
-fn last_other<'a>(cells: &'a [Cell], cell: &Cell, facet: &Facet) -> Option<&'a Cell>
-    ensures { MatchOption result (HaveNoOther cells.now cell.now facet.now) (λ c. IsOtherOf cells.now cell.now facet.now c.now) }
-{
-    for i in (0..cells.len()).rev() {
-        let c = &cells[i];
+    for c in around {
         if is_on(c, facet) && !are_same(c, cell) {
             return Some(c);
         }
     }
     None
-}
-
-// A cell on the facet other than the given one, if there is one among these.
-//
-// In a list in order it is a Full cell that begins with the facet's least point or a lesser one, mostly one that is near in space and
-// so not far in front, or else an Open cell, at the end. So both parts are looked through from behind.
-pub(crate) fn other_on<'a>(cells: &'a [Cell], cell: &Cell, facet: &Facet) -> Option<&'a Cell>
-    ensures { MatchOption result (HaveNoOther cells.now cell.now facet.now) (λ c. IsOtherOf cells.now cell.now facet.now c.now) }
-{
-    let (front, back) = cells.split_at(start_of_search(cells, facet));
-    match last_other(front, cell, facet) {
-        Some(other) => Some(other),
-        None => last_other(back, cell, facet),
-    }
 }

@@ -1,7 +1,7 @@
 //! The sizes of grids, the numbers of buckets, the buckets of a tetrahedron, and that the calls that want memory succeed where
 //! there is enough.
 
-use crate::star::{facet_points, other_on};
+use crate::star::facet_points;
 use crate::{BadGrid, Bucket, Grid, Hold};
 use edit_history::{Edit, Entry, Reply};
 use point_order::{Cell, Point};
@@ -205,11 +205,9 @@ fn tetrahedron(rt: HostRuntime) -> Result<(), Fail> {
     }
     assert_eq!(rt; star.next(), None);
     let facets = whole.facets();
-    assert_eq!(rt; hold.bucket_among(facet_points(&facets[3])), Some(0));
-    let cells = hold.bucket(0).cell_list();
-    assert_eq!(rt; other_on(cells, &whole, &facets[3]), Some(&abc));
+    assert_eq!(rt; hold.point_among(facet_points(&facets[3])), Some(a));
     let far = facet_points(&facets[0]);
-    assert_eq!(rt; hold.bucket_among(far), None);
+    assert_eq!(rt; hold.point_among(far), None);
     let first = far.first().map(|p| hold.grid().bucket_of(*p));
     assert_eq!(rt; first, Some(1));
     Ok(())

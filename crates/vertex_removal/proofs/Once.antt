@@ -11,7 +11,7 @@ use Rattle.point_order.specs.declared.cell.Cell.{Cell}
 use Rattle.point_order.specs.CellOrder.{cell_cmp}
 use Rattle.point_order.specs.Sets.{IsIn}
 use Rattle.del_laws.proofs.Tests.{not_both}
-use Rattle.cell_store.proofs.MergeLaws.{cell_order}
+use Rattle.cell_store.proofs.Orders.{cell_order}
 
 -- a list whose members a test tells apart has each once
 apart_once : (e : Cell → Cell → Bool) → ((x : Cell) → e x x ≡ true) → (xs : List Cell) → IsDistinct e xs → AreDistinct xs

@@ -10,7 +10,7 @@ use Rattle.std.proofs.lemmas.Map.Keys.{IsStrictlyIncreasing-dedup}
 use Rattle.point_order.specs.declared.cell.Cell.{Cell}
 use Rattle.point_order.specs.Facets.{points_of}
 use Rattle.point_order.specs.Sets.{IsIn, IsAscending, IsBelowFirst}
-use Rattle.cell_store.proofs.MergeLaws.{in_contained, contains_in}
+use Rattle.cell_store.proofs.Orders.{in_contained, contains_in}
 use Rattle.del_laws.proofs.Tests.{filtered_from, filtered_true, not_true, not_from, false_if, not_both}
 use Rattle.del_laws.proofs.PointSets.{same_from, same_true}
 use Rattle.cavity.proofs.Lists.{in_flat, flat_from}

@@ -1,5 +1,5 @@
 use Rattle.std.proofs.Common.{ap, length}
-use Rattle.cell_store.specs.Buckets.{cells_in}
+use Rattle.cell_store.specs.Buckets.{cells_in, content_of}
 use Rattle.cell_store.specs.Stars.{cells_to_come}
 use Rattle.cell_conflict.proofs.Searching.{in_items, of_items, none_in}
 use Rattle.cell_walk.proofs.Searching.{at_first, one_fits, one_not, at_last}
@@ -8,8 +8,8 @@ use Rattle.cell_walk.proofs.search.least_in.Goals as goal
 pub loop-cell-init : goal.loop-cell-init
 loop-cell-init c =
     at_first c.args.hold.now c.args.inside (cells_in c.args.hold.now.places c.args.b) (cells_to_come c.into_iter-cell-iterator.result) c.args.least
-    (λ x i. of_items c.args.hold.now c.args.b c.bucket.result.now (cells_to_come c.into_iter-cell-iterator.result) x c.bucket.ensures.bucket (rw c.into_iter-cell-iterator.ensures.into_iter_gives c.cells-cell-items.ensures) i)
-    (λ x i. in_items c.args.hold.now c.args.b c.bucket.result.now (cells_to_come c.into_iter-cell-iterator.result) x c.bucket.ensures.bucket (rw c.into_iter-cell-iterator.ensures.into_iter_gives c.cells-cell-items.ensures) i)
+    (λ x i. of_items c.args.hold.now c.args.b (content_of c.bucket.result.now) (cells_to_come c.into_iter-cell-iterator.result) x c.bucket.ensures.bucket (rw c.into_iter-cell-iterator.ensures.into_iter_gives c.cells-cell-items.ensures) i)
+    (λ x i. in_items c.args.hold.now c.args.b (content_of c.bucket.result.now) (cells_to_come c.into_iter-cell-iterator.result) x c.bucket.ensures.bucket (rw c.into_iter-cell-iterator.ensures.into_iter_gives c.cells-cell-items.ensures) i)
 
 pub loop-cell-preserved-then-fits : goal.loop-cell-preserved-then-fits
 loop-cell-preserved-then-fits c =

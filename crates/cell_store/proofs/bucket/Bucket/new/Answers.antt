@@ -1,6 +1,7 @@
-use Rattle.std.specs.List.Sorted.{IsStrictlySortedBy}
+use Rattle.std.proofs.Common.{refl}
+use Rattle.cell_stars.specs.Places.{cells_of}
 use Rattle.cell_store.proofs.bucket.Bucket.new.Goals as goal
 
-pub invariant_of-result : goal.invariant_of-result
-unfolding IsStrictlySortedBy
-invariant_of-result c = rw c.new.ensures.items (rw c.new-2.ensures.items (tt, tt))
+pub returns : goal.returns
+unfolding cells_of
+returns c = rw (c.new.ensures.items, c.new-2.ensures, c.new-3.ensures.items) refl

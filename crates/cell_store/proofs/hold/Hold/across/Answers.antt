@@ -1,14 +1,22 @@
-use Rattle.std.proofs.Common.{subst, ℕ, List}
-use Rattle.cell_store.specs.Shares.{IsInHandFor}
+use Rattle.std.proofs.Common.{subst, sym, ◌∙◌, ap, refl, ℕ, List}
+use Rattle.point_order.specs.Sets.{IsIn}
+use Rattle.cell_store.specs.Buckets.{content_of}
+use Rattle.cell_store.specs.Grids.{bucket_of}
+use Rattle.cell_store.specs.Shares.{IsInHandFor, points_on}
 use Rattle.cell_store.proofs.ShareLaws.{across_there, across_is}
+use Rattle.cell_store.proofs.StarLaws.{lies_at}
 use Rattle.cell_store.proofs.hold.Hold.across.Goals as goal
+
+pub other_at-requires-clause-inside : goal.other_at-requires-clause-inside
+other_at-requires-clause-inside c = lies_at c.bucket.result.now.cells.place c.args.self.now.grid c.grid.result c.bucket_of.result c.in-Some.p c.bucket.ensures.place c.grid.ensures.grid c.bucket_of.ensures.number
 
 pub unreachable-requires : goal.unreachable-requires
 unreachable-requires c =
-    across_there c.args.self.now c.args.cell.now c.args.facet.now c.in-Some.b c.bucket.result.now c.cell_list.result.now c.requires.shown c.requires.facet (subst (λ (l : List ℕ). IsInHandFor c.args.self.now l c.in-Some.b) c.facet_points-points.ensures c.in-Some.ensures) c.bucket.ensures.bucket c.cell_list.ensures.list c.in-None-other_on.ensures
+    let held = subst (IsInHandFor c.args.self.now (points_on c.args.facet.now)) (ap (λ g. bucket_of g c.in-Some.p) (sym c.grid.ensures.grid) ∙ sym c.bucket_of.ensures.number) (subst (λ (l : List ℕ). IsInHandFor c.args.self.now l (bucket_of c.args.self.now.grid c.in-Some.p)) c.facet_points-points.ensures c.in-Some.ensures.1) in
+    across_there c.args.self.now c.args.cell.now c.args.facet.now c.bucket_of.result (content_of c.bucket.result.now) (content_of c.bucket.result.now).cells c.requires.shown c.requires.facet held c.bucket.ensures.bucket refl c.in-None-other_at.ensures
 
-pub returns-in-Some-other_on : goal.returns-in-Some-other_on
-returns-in-Some-other_on c = (
-  (c.in-Some.b, subst (λ (l : List ℕ). IsInHandFor c.args.self.now l c.in-Some.b) c.facet_points-points.ensures c.in-Some.ensures),
-  across_is c.args.self.now c.args.cell.now c.args.facet.now c.in-Some.b c.bucket.result.now c.cell_list.result.now c.in-Some-other_on.other.now c.bucket.ensures.bucket c.cell_list.ensures.list c.in-Some-other_on.ensures,
+pub returns-in-Some-other_at : goal.returns-in-Some-other_at
+returns-in-Some-other_at c = (
+  (bucket_of c.args.self.now.grid c.in-Some.p, subst (λ (l : List ℕ). IsInHandFor c.args.self.now l (bucket_of c.args.self.now.grid c.in-Some.p)) c.facet_points-points.ensures c.in-Some.ensures.1),
+  across_is c.args.self.now c.args.cell.now c.args.facet.now c.bucket_of.result (content_of c.bucket.result.now) (content_of c.bucket.result.now).cells c.in-Some-other_at.other.now c.bucket.ensures.bucket refl c.in-Some-other_at.ensures,
 )

@@ -1,13 +1,36 @@
-use Rattle.std.proofs.Common.{rules, sym, ap, subst, ◌<◌, length}
-use Rattle.cell_store.proofs.NoteLaws.{stand_put}
+use Rattle.std.proofs.Common.{refl, sym, ◌∙◌, ap, subst, ◌<◌, ◌≡◌, ℕ, List, Option, length, Some, None}
+use Rattle.std.specs.Prelude.{slice_set}
+use Rattle.cell_store.specs.Buckets.{Content, FitsPlace, StandAtPlaces, at_place, bucket_at, content_of, layout_at, shown}
+use Rattle.cell_store.specs.Ready.{IsNoteReady, IsReady}
+use Rattle.cell_store.proofs.Layouts.{map_none, shown_at, shown_len, shown_set}
+use Rattle.cell_store.proofs.NoteLaws.{hold_keeps, if_some, len_set, note_put, ready_put, stand_put}
 use Rattle.cell_store.proofs.hold.Hold.put.Goals as goal
+
+pub placed-requires : goal.placed-requires
+placed-requires c = subst (λ g. FitsPlace g c.args.b (content_of c.args.bucket)) (sym (ap (λ h. h.grid) c.self.view_is)) c.requires.place
 
 pub invariant_of-self : goal.invariant_of-self
 invariant_of-self c =
     let i = c.self.inside in
-    let h = subst (λ n. c.args.b < n) (sym (ap (λ h. length h.places) c.self.view_is)) c.requires.below in (
-      search rules,
-      search rules,
-      search rules,
-      stand_put i.grid c.args.b i.places.items c.placed.result h (ap (λ z. z.place) c.placed.ensures) c.self.invariant.3,
+    let b = c.args.b in
+    let places = i.places.items in
+    let now = ap (λ h. h.places) c.self.view_is in
+    let free : bucket_at (shown places) b ≡ None = ap (λ l. bucket_at l b) now ∙ c.requires.absent in
+    let absent : layout_at places b ≡ None = map_none (layout_at places b) (sym (shown_at places b) ∙ free) in
+    let x = Some c.placed.result in
+    let h : b < length (shown places) = subst (λ (l : List (Option Content)). b < length l) (sym now) c.requires.below in
+    let set = shown_set places b x in (
+      len_set places b x ∙ c.self.invariant.0,
+      if_some (λ e. IsReady i.grid e.gone.items e.fresh.items places e.plans.items) _ i.exchange (λ e r. ready_put i.grid b e.gone.items e.fresh.items places e.plans.items x absent r) c.self.invariant.1,
+      if_some (λ n. IsNoteReady i.grid (shown places) n) _ i.note (λ n r. subst (λ l. IsNoteReady i.grid l n) (sym set) (note_put i.grid b (shown places) n (Some (content_of c.placed.result)) free r)) c.self.invariant.2,
+      subst (StandAtPlaces i.grid) (sym set) (stand_put i.grid b (shown places) (content_of c.placed.result) h (ap (λ z. z.cells.place) c.placed.ensures) c.self.invariant.3),
     )
+
+pub returns : goal.returns
+returns c =
+    let i = c.self.inside in
+    let b = c.args.b in
+    let now = ap (λ h. h.places) c.self.view_is in
+    let grid = ap (λ h. h.grid) c.self.view_is in
+    hold_keeps c.args.self.now i.grid (shown i.places.items) _ _ _ c.self.view_is
+    (shown_set i.places.items b (Some c.placed.result) ∙ ap (λ (l : List (Option Content)). slice_set l b (Some (content_of c.placed.result))) now ∙ ap (λ (x : Content). slice_set c.args.self.now.places b (Some x)) (ap content_of c.placed.ensures ∙ ap (λ g. at_place g b (content_of c.args.bucket)) grid))

@@ -1,0 +1,25 @@
+use Rattle.std.proofs.Common.{◌∙◌, inl, inr, subst}
+use Rattle.std.proofs.lemmas.List.{take_all}
+use Rattle.edit_history.proofs.Lines.{at-in}
+use Rattle.point_order.specs.Sets.{IsIn}
+use Rattle.cell_store.proofs.RoomLaws.{numbers_more, ready_more, ready_all}
+use Rattle.cell_store.proofs.room.plans_for.Goals as goal
+
+pub plan_for-requires : goal.plan_for-requires
+plan_for-requires c =
+    let i = at-in c.deref-b-items.result.now c.loop-b.b-index 0 c.loop-b-test.true in
+    elim ((c.in_ok-numbers.ensures.numbers _).0 (subst (IsIn _) c.deref-b-items.ensures.value i)) [ inl j ↦ c.requires.gone _ j | inr j ↦ c.requires.fresh _ j ]
+
+pub loop-b-preserved : goal.loop-b-preserved
+loop-b-preserved c =
+    let e = c.in_ok-push.ensures.items in
+    record {
+      numbers = numbers_more c.loop-b.plans.items c.push.new.self.items c.in_ok-plan_for.field-0 c.deref-b-items.result.now c.loop-b.b-index c.loop-b-test.true e c.in_ok-plan_for.ensures.number c.loop-b.invariant.numbers;
+      each = ready_more c.args.gone.now c.args.fresh.now c.args.places.now c.loop-b.plans.items c.push.new.self.items c.in_ok-plan_for.field-0 e c.loop-b.invariant.each c.in_ok-plan_for.ensures.ready;
+    }
+
+pub returns : goal.returns
+returns c =
+    ready_all c.args.grid c.args.gone.now c.args.fresh.now c.args.places.now c.loop-b.plans.items c.in_ok-numbers.numbers.items c.loop-b.invariant.each
+    (c.loop-b.invariant.numbers ∙ take_all c.loop-b.b-index c.deref-b-items.result.now c.loop-b-test.false ∙ c.deref-b-items.ensures.value) c.in_ok-numbers.ensures.order
+    (λ b. (c.in_ok-numbers.ensures.numbers b).1)
