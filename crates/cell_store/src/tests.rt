@@ -9,6 +9,15 @@ use std::alloc::Global;
 use std::process::Abort;
 use std::test::Fail;
 
+// How many cells the bucket has.
+fn count_of(bucket: &Bucket) -> u64 {
+    let mut count: u64 = 0;
+    for _ in bucket.cells() {
+        count = count.saturating_add(1);
+    }
+    count
+}
+
 #[test]
 fn sizes(rt: HostRuntime) -> Result<(), Fail> {
     for (size, count) in [(1, 1), (2, 8), (4, 64), (8, 512), (16, 4096)] {
@@ -60,7 +69,7 @@ fn places(rt: HostRuntime) -> Result<(), Fail> {
     assert_eq!(rt; hold.cells_at(p).count(), 0);
     let copy = hold.copy_of(rt.alloc(), b)?;
     assert_eq!(rt; copy.points().len(), 0);
-    assert_eq!(rt; copy.cells().count(), 0);
+    assert_eq!(rt; count_of(&copy), 0);
     assert_eq!(rt; copy.entries().len(), 0);
     let bucket = hold.take(b);
     assert!(rt; !hold.has(b));
@@ -94,7 +103,7 @@ fn entries(rt: HostRuntime) -> Result<(), Fail> {
         assert!(rt; hold.has(0));
         let copy = hold.copy_of(rt.alloc(), 0)?;
         assert_eq!(rt; copy.points().len(), points);
-        assert_eq!(rt; copy.cells().count(), 0);
+        assert_eq!(rt; count_of(&copy), 0);
         assert_eq!(rt; copy.entries().len(), entries);
     }
     Ok(())
@@ -196,7 +205,7 @@ fn tetrahedron(rt: HostRuntime) -> Result<(), Fail> {
     assert!(rt; hold.has(0));
     let copy = hold.copy_of(rt.alloc(), 0)?;
     assert_eq!(rt; copy.points().len(), 1);
-    assert_eq!(rt; copy.cells().count(), 4);
+    assert_eq!(rt; count_of(&copy), 4);
     assert_eq!(rt; copy.entries().len(), 1);
     assert!(rt; hold.has(hold.grid().bucket_of(a)));
     let mut star = hold.cells_at(a);
