@@ -1,0 +1,133 @@
+-- A whole try, as contracts see it.
+use Rattle.std.specs.Prelude.{◌≡◌, ℕ, ◌+◌, ◌-◌, ◌<◌, List, [], ◌∷◌, ◌++◌, map, reverse, length, None, Result, Ok, Err, IfOk, IfErr}
+use Rattle.std.proofs.Common.{refl, sym, ◌∙◌, ap, subst}
+use Rattle.std.proofs.lemmas.List.{append_assoc, append-nil}
+use Rattle.std.proofs.lemmas.List.Sorted.{IsPermutation-reverse}
+use Rattle.conv_laws.specs.Lists.{AreDistinct}
+use Rattle.atomic_table.specs.Seated.{TableId}
+use Rattle.edit_history.specs.declared.history.Edit.{Edit}
+use Rattle.edit_history.specs.declared.history.Entry.{Entry}
+use Rattle.edit_history.specs.declared.history.Reply.{Reply}
+use Rattle.edit_history.specs.Histories.{replay}
+use Rattle.claim_rule.specs.Good.{StartsWith}
+use Rattle.cell_store.specs.Buckets.{bucket_at}
+use Rattle.grid_claims.specs.declared.hands.Hands.{Hands}
+use Rattle.grid_claims.specs.declared.table.Receipt.{Receipt}
+use Rattle.grid_claims.specs.declared.table.Refused.{Refused}
+use Rattle.grid_claims.specs.declared.table.Refused.TheVariants.{Spent, Busy, Memory}
+use Rattle.grid_claims.specs.declared.view.Act.{Act}
+use Rattle.grid_claims.specs.declared.view.Act.TheVariants.{Claim, Miss, Commit}
+use Rattle.grid_claims.specs.declared.view.View.{View}
+use Rattle.grid_claims.specs.Trails.{AreTouched}
+use Rattle.grid_claims.specs.Passes.{Standing, standing}
+use Rattle.grid_claims.specs.Plays.{entry_of}
+use Rattle.grid_claims.specs.Tries.{AreClaimsAround, IsEdited, IsAsBefore, IsRefused, IsStill}
+use Rattle.grid_claims.specs.Claiming.{AreHands, HasRest, HasClaimed, HasStopped, HasGivenBack, IsFinished, releases_of}
+use Rattle.grid_claims.proofs.MoreHands.{all_empty}
+
+pub rested_hands : (id : TableId) (n : ℕ) (w : Hands) → HasRest w → w.place.table_id ≡ id → id.words ≡ n + 1 → length w.hold.places ≡ n → AreHands id n w
+rested_hands id n w r table words places =
+    let nothing : (b : ℕ) → bucket_at w.hold.places b ≡ None = λ b. ap (λ l. bucket_at l b) r.places ∙ r.rest.nothing b in
+    let empty = all_empty w.hold.places nothing in
+    record {
+      table = table;
+      words = words;
+      places = places;
+      some_part = r.rest.some_part;
+      no_child = r.rest.no_child;
+      first = r.first;
+      grid = r.grid;
+      carries = record {
+        places_are = sym r.places;
+        order_is = r.rest.none_in_hand ∙ sym r.order;
+        slots = r.rest.no_slot ∙ ap Rattle.grid_claims.specs.Passes.emptied (sym r.order);
+        holds = λ b. (
+          (λ s. absurd (Rattle.claim_rule.proofs.Places.none_there (bucket_at w.hold.places b) (nothing b) s)),
+          (λ i. absurd (subst (λ (l : List ℕ). Rattle.point_order.specs.Sets.IsIn b l) r.order i)),
+        );
+        once = subst (λ (l : List ℕ). AreDistinct l) (sym r.order) tt;
+      };
+      count = (let l : length w.order.items ≡ 0 = ap length r.order in omega (Rattle.std.proofs.Common.arith, l, empty));
+      room = r.room;
+    }
+
+claimed_all : (w mid : Hands) (steps : List Act) → w.order.items ≡ [] → (c : HasClaimed w mid steps) → mid.order.items ≡ c.more
+claimed_all w mid steps none c = c.order ∙ ap (λ (l : List ℕ). l ++ c.more) none
+
+abbrev around : (id : TableId) (n : ℕ) (w mid : Hands) (done : List Act) (middle : List Act) → AreHands id n mid → w.order.items ≡ [] → (c : HasClaimed w mid done) → AreClaimsAround middle (map Claim c.more ++ middle ++ releases_of c.more)
+around id n w mid done middle a none c = record {
+  claims = c.more;
+  releases = reverse c.more;
+  once = subst (λ (l : List ℕ). AreDistinct l) (claimed_all w mid done none c) a.carries.once;
+  same = IsPermutation-reverse c.more;
+  steps_are = refl;
+}
+
+pub tried_edited : (id : TableId) (n tag number : ℕ) (edit : Edit) (reply : Reply) (w mid u : Hands) → 0 < w.place.me.0.left → AreHands id n w → AreHands id n mid → AreHands id n u → w.order.items ≡ [] → HasClaimed w mid [] → IsFinished tag edit reply number mid u
+    → IsEdited tag edit number reply (standing w.place.table_id w.place.me.0) (standing u.place.table_id u.place.me.0)
+tried_edited id n tag number edit reply w mid u some a b d none c f =
+    let v : View = w.place.me.0 in
+    let same : mid.order.items ≡ c.more = claimed_all w mid [] none c in
+    let tail : (v.trail ++ (map Claim c.more ++ [])) ++ Commit number ∷ releases_of mid.order.items ≡ v.trail ++ (map Claim c.more ++ (Commit number ∷ []) ++ releases_of c.more) =
+    append_assoc v.trail (map Claim c.more ++ []) (Commit number ∷ releases_of mid.order.items)
+    ∙ ap (λ (l : List Act). v.trail ++ (l ++ Commit number ∷ releases_of mid.order.items)) (append-nil (map Claim c.more))
+    ∙ ap (λ (l : List ℕ). v.trail ++ (map Claim c.more ++ Commit number ∷ releases_of l)) same
+    ∙ ap (λ (l : List Act). v.trail ++ l) (sym (append_assoc (map Claim c.more) (Commit number ∷ []) (releases_of c.more))) in
+    let table : u.place.table_id ≡ w.place.table_id = d.table ∙ sym a.table in
+    let view : u.place.me.0 ≡ record v { held = u.hold.places; left = v.left - 1; seen = number + 1; made = v.made ++ entry_of number v.first tag edit reply ∷ []; trail = v.trail ++ (map Claim c.more ++ (Commit number ∷ []) ++ releases_of c.more) } =
+    f.view
+    ∙ (λ i. record (c.view i) { held = u.hold.places; left = (c.view i).left - 1; seen = number + 1; made = (c.view i).made ++ entry_of number (c.view i).first tag edit reply ∷ []; trail = (c.view i).trail ++ Commit number ∷ releases_of mid.order.items })
+    ∙ (λ i. record v { held = u.hold.places; left = v.left - 1; seen = number + 1; made = v.made ++ entry_of number v.first tag edit reply ∷ []; trail = tail i }) in
+    record {
+      some_left = some;
+      later = subst (λ (x : ℕ). Prim.Native.Nat.◌≤◌ x number) (ap (λ (x : View). x.seen) c.view) f.later;
+      few = f.few;
+      steps = map Claim c.more ++ (Commit number ∷ []) ++ releases_of c.more;
+      around = around id n w mid [] (Commit number ∷ []) b none c;
+      history = f.history;
+      after = record {
+        legal = f.legal;
+        knows = subst (λ (l : List Entry). StartsWith f.history l) (ap (λ (x : View). x.known) c.view) f.knows;
+        count = f.count;
+        right = f.right;
+        exact = λ x. subst (λ (t : ℕ × List ℕ). AreTouched t.0 (replay f.history) edit t.1) (λ i. ((c.view i).grid, same i)) (f.exact x);
+      };
+      new_is = λ i. standing (table i) (view i);
+    }
+
+back_as_before : (id : TableId) (n : ℕ) (w mid u : Hands) (middle : List Act) → AreHands id n w → AreHands id n mid → AreHands id n u → w.order.items ≡ [] → HasClaimed w mid middle → HasGivenBack mid u → IsAsBefore middle (standing w.place.table_id w.place.me.0) (standing u.place.table_id u.place.me.0)
+back_as_before id n w mid u middle a b d none c back =
+    let v : View = w.place.me.0 in
+    let same : mid.order.items ≡ c.more = claimed_all w mid middle none c in
+    let tail : (v.trail ++ (map Claim c.more ++ middle)) ++ releases_of mid.order.items ≡ v.trail ++ (map Claim c.more ++ middle ++ releases_of c.more) =
+    append_assoc v.trail (map Claim c.more ++ middle) (releases_of mid.order.items)
+    ∙ ap (λ (l : List ℕ). v.trail ++ (map Claim c.more ++ middle ++ releases_of l)) same in
+    let table : u.place.table_id ≡ w.place.table_id = d.table ∙ sym a.table in
+    let view : u.place.me.0 ≡ record v { held = u.hold.places; trail = v.trail ++ (map Claim c.more ++ middle ++ releases_of c.more) } =
+    back.view
+    ∙ (λ i. record (c.view i) { held = u.hold.places; trail = (c.view i).trail ++ releases_of mid.order.items })
+    ∙ (λ i. record v { held = u.hold.places; trail = tail i }) in
+    (map Claim c.more ++ middle ++ releases_of c.more, around id n w mid middle middle b none c, (λ i. standing (table i) (view i)))
+
+pub tried_refused : (id : TableId) (n : ℕ) (w mid u : Hands) (why : Refused) → 0 < w.place.me.0.left → AreHands id n w → AreHands id n mid → AreHands id n u → w.order.items ≡ [] → HasStopped w mid why → HasGivenBack mid u
+    → IsRefused (standing w.place.table_id w.place.me.0) why (standing u.place.table_id u.place.me.0)
+tried_refused id n w mid u Spent some a b d none s back = absurd s.others
+tried_refused id n w mid u (Busy bucket word) some a b d none s back =
+    let o = s.others in
+    (some, record { some_pass = o.0; of_parts = o.2; others = o.1 }, back_as_before id n w mid u (Miss bucket word ∷ []) a b d none s.claimed back)
+tried_refused id n w mid u Memory some a b d none s back = (some, back_as_before id n w mid u [] a b d none s.claimed back)
+
+-- ---- whatever the answer is
+
+still_as : (old new : Standing) (middle : List Act) → IsAsBefore middle old new → IsStill old new
+still_as old new middle k = (ap (λ (s : Standing). s.table) k.2, ap (λ (s : Standing). s.first) k.2, ap (λ (s : Standing). s.parts) k.2)
+
+still_why : (old new : Standing) (why : Refused) → IsRefused old why new → IsStill old new
+still_why old new Spent k = (ap (λ (s : Standing). s.table) k.1, ap (λ (s : Standing). s.first) k.1, ap (λ (s : Standing). s.parts) k.1)
+still_why old new (Busy bucket word) k = still_as old new (Miss bucket word ∷ []) k.2
+still_why old new Memory k = still_as old new [] k.1
+
+-- the pass is of the same table, and owns the same parts
+pub still : (old new : Standing) (tag : ℕ) (edit : Edit) (r : Result Receipt Refused) → IfOk r (λ x. IsEdited tag edit x.number x.reply old new) → IfErr r (λ why. IsRefused old why new) → IsStill old new
+still old new tag edit (Ok x) k n = (ap (λ (s : Standing). s.table) k.new_is, ap (λ (s : Standing). s.first) k.new_is, ap (λ (s : Standing). s.parts) k.new_is)
+still old new tag edit (Err why) k n = still_why old new why n

@@ -1,0 +1,25 @@
+use Rattle.std.proofs.Common.{◌≡◌, ◌∷◌, None, Some, ℕ, slice_set, refl, sym, ◌∙◌, ap}
+use Rattle.atomic_table.specs.Table.{rest}
+use Rattle.cell_store.specs.Buckets.{Content, at_place}
+use Rattle.grid_claims.specs.Plays.{claims}
+use Rattle.grid_claims.proofs.Carrying.{carries_more, same_some, first_slot}
+use Rattle.grid_claims.proofs.hands.take_in.Goals as goal
+
+pub exchange-requires : goal.exchange-requires
+exchange-requires c =
+    let t = (c.claim_at-found.ensures.claimed c.args.b refl).0 c.if-found-ne0.false in
+    (c.claim_at-found.ensures.seat.0 ∙ c.requires.table, (Some t.0, t.2 ∙ ap (λ cs. (c.args.b, Some t.0) ∷ rest cs) (sym t.2)))
+
+pub returns-clause-carries : goal.returns-clause-carries
+returns-clause-carries c =
+    let t = (c.claim_at-found.ensures.claimed c.args.b refl).0 c.if-found-ne0.false in
+    let u : Content = t.0 in
+    let bucket : Content = c.in-Some.slot in
+    let was = c.exchange.ensures.2 in
+    let now = c.exchange.ensures.3 in
+    let same : u ≡ bucket = same_some u bucket (first_slot c.args.b (Some u) c.exchange.result c.args.place.now.me.1 (rest c.claim_at-found.new.place.me.1) (sym t.2 ∙ was) ∙ c.in-Some.is) in
+    carries_more c.args.place.now.me c.exchange.new.seat.me c.args.hold.now.places c.put.new.self.places c.args.order.now.items c.push_reserved.new.self.items c.args.hold.now.grid c.args.b bucket c.requires.carries
+    (ap (λ y. y.0) now ∙ t.1 ∙ ap (λ (y : Content). claims c.args.place.now.me.0 c.args.b y) same)
+    (ap (λ y. y.1) now ∙ ap (λ l. (c.args.b, None) ∷ rest l) t.2)
+    (ap (λ (y : Content). y.place) (sym same) ∙ t.4 ∙ ap (λ (g : ℕ). Some (g, c.args.b)) (sym c.requires.grid))
+    (ap (λ h. h.places) c.put.ensures ∙ ap (λ (y : Content). slice_set c.args.hold.now.places c.args.b (Some (at_place c.args.hold.now.grid c.args.b y))) c.into_bucket.ensures) c.push_reserved.ensures.items c.requires.below c.requires.absent

@@ -1,0 +1,54 @@
+use Rattle.std.proofs.Common.{◌≡◌, ◌≤◌, ◌^◌, ◌-◌, ◌+◌, ◌*◌, ◌∷◌, ℕ, true, List, [], length, replicate, refl, sym, ◌∙◌, ap, subst, arith}
+use Rattle.edit_history.specs.declared.history.Entry.{Entry}
+use Rattle.cell_store.specs.Grids.{is_grid_size}
+use Rattle.cell_store.specs.Buckets.{InHand}
+use Rattle.cell_store.specs.Meshes.{MeshView}
+use Rattle.atomic_table.specs.Table.{opening}
+use Rattle.claim_rule.specs.Opening.{shares_from}
+use Rattle.claim_rule.proofs.Began.{as_counted, mesh_shares}
+use Rattle.grid_claims.specs.declared.hands.Hands.{Hands}
+use Rattle.grid_claims.specs.declared.view.Key.{Key}
+use Rattle.grid_claims.specs.Faces.{buckets_of, opening_of}
+use Rattle.grid_claims.specs.Rule.{IsRule, opening_view}
+use Rattle.grid_claims.specs.Plays.{Seated}
+use Rattle.grid_claims.proofs.Opening.{starts}
+use Rattle.grid_claims.proofs.Resting.{rests_first}
+use Rattle.grid_claims.proofs.table.MeshTable.open.Goals as goal
+
+pub new-requires : goal.new-requires
+new-requires c =
+    let mesh = c.args.mesh in
+    let h : List Entry = mesh.history in
+    let k : Key = record { grid = c.grid-grid.result; parts = c.args.parts; most = c.count-ticket.result + c.args.allowance; mesh = c.of.result } in
+    let t : c.count-ticket.result ≡ length h = as_counted c.count-ticket.result (length h) c.args.allowance c.count-ticket.ensures.count c.requires.room in
+    let g : k.grid ≡ mesh.grid = c.grid-grid.ensures.grid in
+    let is : opening_of k ≡ h = ap (λ (m : MeshView). m.history) c.of.ensures in
+    let size = subst (λ (n : ℕ). is_grid_size n ≡ true) (sym g) c.grid-grid.ensures.size in
+    let st = c.into_hold-home.ensures.stands in
+    let slots = c.in_ok-slots.ensures ∙ mesh_shares mesh c.into_hold-home.result c.into_hold-home.ensures c.grid.ensures.placed ∙ ap (λ (n : ℕ). shares_from n h 0 (n * n * n)) (sym g) in
+    let words : length h ∷ replicate (buckets_of k) 0 ≡ c.deref.result.now =
+    (λ i. sym t i ∷ replicate (sym c.count-count.ensures.value i) 0) ∙ sym c.in_ok-words.ensures ∙ sym c.deref.ensures.value in (
+      h,
+      subst (λ (l : List ℕ). IsRule k (opening l c.in_ok-slots.slots.items (opening_view k)) h) words
+          (starts k h c.args.allowance c.in_ok-slots.slots.items is (ap (λ (n : ℕ). n + c.args.allowance) t) size c.requires.parts.0 c.requires.parts.1 c.requires.room st.legal st.keys st.solid slots),
+    )
+
+pub invariant_of-pass : goal.invariant_of-pass
+invariant_of-pass c =
+    let mesh = c.args.mesh in
+    let h : List Entry = mesh.history in
+    let k : Key = record { grid = c.grid-grid.result; parts = c.args.parts; most = c.count-ticket.result + c.args.allowance; mesh = c.of.result } in
+    let t : c.count-ticket.result ≡ length h = as_counted c.count-ticket.result (length h) c.args.allowance c.count-ticket.ensures.count c.requires.room in
+    let is : length (opening_of k) ≡ length h = ap (λ (m : MeshView). length m.history) c.of.ensures in
+    let left : k.most - length (opening_of k) ≡ c.args.allowance = omega (arith, t, is) in
+    let few : c.args.allowance ≤ 2 ^ 32 = omega (arith, c.requires.room) in
+    let me : ◌≡◌ {A = Seated} c.in-Ok.place.me (opening_view k, []) = c.in-Ok.ensures.ok.4 in
+    let w : Hands = record { place = c.in-Ok.place; hold = c.in_ok-hands.hands; order = c.in_ok-order.order; first = 0 } in
+    let hold = c.in_ok-hands.ensures in
+    let count : c.count-count.result ≡ buckets_of k = c.count-count.ensures.value in
+    let capacity = c.in_ok-order.ensures.capacity in (
+      rests_first k w c.args.allowance me refl (ap (λ (x : InHand). x.grid) hold) (ap (λ (x : InHand). x.places) hold) c.in_ok-order.ensures.items (omega (arith, count, capacity)) c.requires.parts.0 c.requires.parts.1 left few,
+      sym (ap (λ (m : Seated). m.0.parts) me),
+      sym (ap (λ (m : Seated). m.0.left) me ∙ left),
+      sym (ap (λ (m : Seated). m.0.seen) me ∙ is ∙ sym t),
+    )

@@ -1,0 +1,105 @@
+//! What a pass has in its hands: its seat's slots, its hold, and the order of its claims.
+
+ghost use Rattle.std.specs.Prelude.{◌≡◌, ℕ, ◌+◌, ◌<◌, ◌++◌, ◌∷◌, [], None, List, length, OnOk, OnErr, IfErr, vec_capacity};
+ghost use Rattle.edit_history.specs.declared.history.Entry.{Entry};
+ghost use Rattle.cell_store.specs.Buckets.{Content, bucket_at};
+ghost use Rattle.grid_claims.specs.Faces.{buckets_of};
+ghost use Rattle.grid_claims.specs.Claiming.{releases_of};
+ghost use Rattle.grid_claims.specs.Passes.{Carries};
+ghost use Rattle.grid_claims.specs.Plays.{claims, fails, releases, HandStands, IsOthers};
+
+use crate::slot::Slot;
+use crate::steps::{claim_at, release_at};
+use crate::view::{Board, Place};
+use cell_store::Hold;
+
+/// The hands of a pass: its seat, the buckets that it holds, their numbers in the order of its claims, and its first
+/// part.
+#[derive(Drop)]
+pub(crate) struct Hands {
+    pub(crate) place: Place,
+    pub(crate) hold: Hold,
+    pub(crate) order: Vec<u32>,
+    pub(crate) first: u32,
+}
+
+// Claims a bucket and takes it in hand; else the word that was found.
+pub(crate) fn take_in(
+    board: &Board,
+    place: &mut Place,
+    hold: &mut Hold,
+    order: &mut Vec<u32>,
+    first: u32,
+    b: u32,
+) -> Result<(), u64>
+    requires table { place.old.table_id ≡ board.now.shared.table_id }
+    requires words { (board.now.shared.table_id.words ≡ buckets_of board.now.shared.key + 1) × (b < buckets_of board.now.shared.key) }
+    requires alone { (0 < place.old.me.0.parts) × (place.old.me.0.child ≡ None) }
+    requires first { first ≡ place.old.me.0.first }
+    requires carries { Carries place.old.me hold.old.places order.old.items }
+    requires grid { hold.old.grid ≡ place.old.me.0.grid }
+    requires below { b < length hold.old.places }
+    requires absent { bucket_at hold.old.places b ≡ None }
+    requires room { length order.old.items < vec_capacity order.old }
+    ensures seat { (place.new.table_id ≡ place.old.table_id) × (place.new.id ≡ place.old.id) }
+    ensures view { OnOk result ((c : Content) × (place.new.me.0 ≡ claims place.old.me.0 b c)) }
+    ensures stands { OnOk result ((h : List Entry) × HandStands place.new.me.0 h) }
+    ensures order { OnOk result (order.new.items ≡ order.old.items ++ b ∷ []) }
+    ensures carries { OnOk result (Carries place.new.me hold.new.places order.new.items) }
+    ensures missed { IfErr result (λ word. (place.new.me ≡ (fails place.old.me.0 b word, place.old.me.1)) × IsOthers place.old.me.0 word) }
+    ensures hands { OnErr result ((hold.new ≡ hold.old) × (order.new.items ≡ order.old.items)) }
+    ensures grid { hold.new.grid ≡ hold.old.grid }
+    ensures capacity { vec_capacity order.new ≡ vec_capacity order.old }
+{
+    let found = claim_at(board, place, b, first);
+    if found != 0 {
+        return Err(found);
+    }
+    match board.shared.exchange(place, b as usize, None) {
+        Some(slot) => {
+            hold.put(b, slot.into_bucket());
+            order.push_reserved(b);
+            Ok(())
+        }
+        None => unreachable!(),
+    }
+}
+
+// Gives the bucket back that was claimed last.
+pub(crate) fn give_back(board: &Board, place: &mut Place, hold: &mut Hold, order: &mut Vec<u32>)
+    requires table { place.old.table_id ≡ board.now.shared.table_id }
+    requires words { length hold.old.places + 1 ≡ board.now.shared.table_id.words }
+    requires alone { (0 < place.old.me.0.parts) × (place.old.me.0.child ≡ None) }
+    requires carries { Carries place.old.me hold.old.places order.old.items }
+    requires some { 0 < length order.old.items }
+    ensures seat { (place.new.table_id ≡ place.old.table_id) × (place.new.id ≡ place.old.id) }
+    ensures released { (b : ℕ) × (order.old.items ≡ order.new.items ++ b ∷ []) × (place.new.me.0 ≡ releases place.old.me.0 b) }
+    ensures carries { Carries place.new.me hold.new.places order.new.items }
+    ensures grid { (hold.new.grid ≡ hold.old.grid) × (length hold.new.places ≡ length hold.old.places) }
+    ensures capacity { vec_capacity order.new ≡ vec_capacity order.old }
+{
+    let b = order.pop().unwrap();
+    let bucket = hold.take(b);
+    board
+        .shared
+        .exchange(place, b as usize, Some(Slot::of(bucket)));
+    release_at(board, place, b);
+}
+
+// Gives all buckets back, the last one first.
+pub(crate) fn release_all(board: &Board, place: &mut Place, hold: &mut Hold, order: &mut Vec<u32>)
+    requires table { place.old.table_id ≡ board.now.shared.table_id }
+    requires words { length hold.old.places + 1 ≡ board.now.shared.table_id.words }
+    requires alone { (0 < place.old.me.0.parts) × (place.old.me.0.child ≡ None) }
+    requires carries { Carries place.old.me hold.old.places order.old.items }
+    ensures seat { (place.new.table_id ≡ place.old.table_id) × (place.new.id ≡ place.old.id) }
+    ensures view { place.new.me.0 ≡ record place.old.me.0 { held = hold.new.places; trail = place.old.me.0.trail ++ releases_of order.old.items } }
+    ensures carries { Carries place.new.me hold.new.places [] }
+    ensures order { order.new.items ≡ [] }
+    ensures grid { (hold.new.grid ≡ hold.old.grid) × (length hold.new.places ≡ length hold.old.places) }
+    ensures capacity { vec_capacity order.new ≡ vec_capacity order.old }
+{
+    while !order.is_empty() {
+        give_back(board, place, hold, order);
+    }
+}
