@@ -18,6 +18,3 @@ pub use cell_stars::{BadGrid, BucketCells, Grid, Star, cells_in_order};
 pub use hold::Hold;
 pub use mesh::Mesh;
 pub use star::Across;
-
-#[cfg(test)]
-mod tests;

@@ -18,6 +18,3 @@ pub use file::{File, Lines};
 pub use generator::generate;
 pub use reader::{LINE_LIMIT, RADIUS_LIMIT, read_file};
 pub use writing::file_text;
-
-#[cfg(test)]
-mod tests;

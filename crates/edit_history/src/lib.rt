@@ -14,6 +14,3 @@ pub use history::{Edit, Entry, Reply};
 pub use merging::merge;
 pub use opening::{NotSolid, find_four};
 pub use point_set::PointSet;
-
-#[cfg(test)]
-mod tests;

@@ -42,6 +42,3 @@ pub fn faces<R>(_rt: &R, alloc: Global, cells: &[Cell]) -> Result<Faces, AllocEr
         cells: lists::full_cells(alloc, cells)?,
     })
 }
-
-#[cfg(test)]
-mod tests;

@@ -1,3 +1,2 @@
 pub mod Edited
 pub mod Gathering
-pub mod Lent

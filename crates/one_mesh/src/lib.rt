@@ -9,8 +9,3 @@ mod lists;
 pub use edit_history::{NotSolid, find_four};
 pub use edits::{Receipt, apply, begin};
 pub use lists::{complex, history, points};
-
-#[cfg(test)]
-mod hold_tests;
-#[cfg(test)]
-mod tests;

@@ -7,4 +7,3 @@ pub mod Linked
 pub mod Taken
 pub mod Holes
 pub mod Turning
-pub mod Lent

@@ -11,8 +11,6 @@ mod near;
 mod ordered;
 mod refill;
 mod small_mesh;
-#[cfg(test)]
-mod tests;
 
 pub use ordered::points_in_order;
 pub use refill::{Refill, RefillTurn};

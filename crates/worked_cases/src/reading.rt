@@ -1,5 +1,6 @@
-//! Points and numbers in the lines of cases.
+//! Points, edits and numbers in the lines of cases.
 
+use edit_history::Edit;
 use point_order::Point;
 use std::alloc::{AllocError, Global};
 
@@ -23,6 +24,25 @@ pub(crate) fn points_of(alloc: Global, words: &str) -> Result<Vec<Point>, AllocE
     Ok(points)
 }
 
+// The edit that is written as a point behind `+` or `-`.
+fn edit_of(word: &str) -> Option<Edit> {
+    match word.strip_prefix('+') {
+        Some(added) => point_of(added).map(Edit::Add),
+        None => point_of(word.strip_prefix('-')?).map(Edit::Take),
+    }
+}
+
+// The edits of a list of words; what is no edit is left out.
+pub(crate) fn edits_of(alloc: Global, words: &str) -> Result<Vec<Edit>, AllocError> {
+    let mut edits = Vec::new(alloc);
+    for word in words.split_whitespace() {
+        if let Some(edit) = edit_of(word) {
+            edits.push(edit)?;
+        }
+    }
+    Ok(edits)
+}
+
 // The numbers of a list of words; what is no number is left out.
 pub(crate) fn numbers_of(alloc: Global, words: &str) -> Result<Vec<u32>, AllocError> {
     let mut numbers = Vec::new(alloc);
@@ -32,4 +52,9 @@ pub(crate) fn numbers_of(alloc: Global, words: &str) -> Result<Vec<u32>, AllocEr
         }
     }
     Ok(numbers)
+}
+
+// The list at a place of lists behind semicolons; an empty one where there are fewer.
+pub(crate) fn list_at(lists: &str, place: usize) -> &str {
+    lists.split(';').nth(place).unwrap_or("")
 }

@@ -6,7 +6,7 @@ use Rattle.point_order.specs.Sets.{IsIn, is_among}
 use Rattle.edit_history.specs.Histories.{replay}
 use Rattle.del_laws.proofs.Tests.{filtered_from}
 use Rattle.cell_store.proofs.ShareLaws.{stands_shows}
-use Rattle.one_mesh.proofs.hold_tests.across_first.Goals as goal
+use Rattle.worked_cases.proofs.buckets.put_first.Goals as goal
 
 pub across-requires-clause-shown : goal.across-requires-clause-shown
 across-requires-clause-shown g c =

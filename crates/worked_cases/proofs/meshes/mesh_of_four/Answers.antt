@@ -1,5 +1,5 @@
 use Rattle.cavity.proofs.MeshGrowth.{four_found}
-use Rattle.worked_cases.proofs.walks.mesh_of.Goals as goal
+use Rattle.worked_cases.proofs.meshes.mesh_of_four.Goals as goal
 
 pub line_at-b-requires : goal.line_at-b-requires
 line_at-b-requires c = (four_found c.args.points.now c.in-Ok.four c.in-Ok.ensures.found).second

@@ -6,7 +6,7 @@ use Rattle.cell_store.specs.Shares.{Stands, IsShare, share_at}
 use Rattle.cell_store.specs.Meshes.{with_bucket}
 use Rattle.cell_store.proofs.HandLaws.{empty_stands, put_stands}
 use Rattle.cell_store.proofs.ShareLaws.{share_is_one, sound_of}
-use Rattle.one_mesh.proofs.hold_tests.moved.Goals as goal
+use Rattle.worked_cases.proofs.buckets.moved.Goals as goal
 
 pub returns-clause-stands : goal.returns-clause-stands
 returns-clause-stands c =

@@ -1,0 +1,123 @@
+//! Grids, and a bucket of a mesh in a hold of its own.
+
+ghost use Rattle.std.specs.Prelude.{◌≡◌, ◌*◌, ◌<◌, Some, IfOk};
+ghost use Rattle.cell_store.specs.Buckets.{bucket_at};
+ghost use Rattle.cell_store.specs.Shares.{Stands, share_at};
+ghost use Rattle.cell_store.specs.Meshes.{StandsForSome};
+
+use crate::cells::put_cell;
+use crate::meshes::mesh_of;
+use crate::reading::{list_at, points_of};
+use cell_store::{Across, Bucket, Grid, Hold, Mesh};
+use point_order::Point;
+use std::alloc::{AllocError, Global};
+
+/// The answer to a case of a grid.
+///
+/// # Errors
+/// Want of memory.
+pub(crate) fn numbers(alloc: Global, grid: Grid, lists: &str) -> Result<String, AllocError> {
+    let mut text = format!(in alloc; "size {} count {} at", grid.size(), grid.count())?;
+    for p in &points_of(alloc, list_at(lists, 0))? {
+        write!(text, " {}", grid.bucket_of(*p))?;
+    }
+    Ok(text)
+}
+
+// Takes the bucket with the number out of a mesh, and puts it into an empty hold of the grid.
+fn moved(alloc: Global, mesh: Mesh, b: u32) -> Result<Hold, AllocError>
+    requires { b < mesh.grid * mesh.grid * mesh.grid }
+    ensures grid { IfOk result (λ pass. pass.grid ≡ mesh.grid) }
+    ensures stands { IfOk result (λ pass. Stands pass mesh.history) }
+    ensures bucket { IfOk result (λ pass. bucket_at pass.places b ≡ Some (share_at mesh.grid b mesh.history)) }
+{
+    let mut home = mesh.into_hold();
+    let bucket = home.take(b);
+    let mut pass = Hold::empty(alloc, home.grid())?;
+    pass.put(b, bucket);
+    Ok(pass)
+}
+
+// How many cells the bucket has.
+fn count_of(bucket: &Bucket) -> u64 {
+    let mut count: u64 = 0;
+    for _ in bucket.cells() {
+        count = count.saturating_add(1);
+    }
+    count
+}
+
+// What lies across a facet.
+fn put_across(text: &mut String, across: Across<'_>) -> Result<(), AllocError> {
+    match across {
+        Across::Cell(other) => put_cell(text, other),
+        Across::Need(b) => write!(text, " needs {b}"),
+    }
+}
+
+// What lies across the facets of the first cell at a point.
+fn put_first(text: &mut String, hold: &Hold, p: Point) -> Result<(), AllocError>
+    requires { StandsForSome hold.now }
+{
+    if hold.has(hold.grid().bucket_of(p)) {
+        let mut star = hold.cells_at(p);
+        if let Some(cell) = star.next() {
+            let [first, second, third, fourth] = cell.facets();
+            put_across(text, hold.across(cell, &first))?;
+            put_across(text, hold.across(cell, &second))?;
+            put_across(text, hold.across(cell, &third))?;
+            put_across(text, hold.across(cell, &fourth))?;
+        }
+    }
+    Ok(())
+}
+
+// The cells at a point, in their order.
+fn put_star(text: &mut String, hold: &Hold, p: Point) -> Result<(), AllocError> {
+    if hold.has(hold.grid().bucket_of(p)) {
+        for cell in hold.cells_at(p) {
+            put_cell(text, cell)?;
+        }
+    }
+    Ok(())
+}
+
+// What the bucket with the number shows, alone in hand.
+fn put_bucket(alloc: Global, text: &mut String, hold: &Hold, b: u32) -> Result<(), AllocError>
+    requires { StandsForSome hold.now }
+{
+    if hold.has(b) {
+        let copy = hold.copy_of(alloc, b)?;
+        let counts = (copy.points().len(), count_of(&copy), copy.entries().len());
+        write!(
+            text,
+            "{} points {} cells {} entries",
+            counts.0, counts.1, counts.2
+        )?;
+        for p in copy.points() {
+            text.push_str("; at")?;
+            put_star(text, hold, *p)?;
+            text.push_str(" across")?;
+            put_first(text, hold, *p)?;
+        }
+    }
+    Ok(())
+}
+
+/// The answer to a case of a bucket.
+///
+/// # Errors
+/// Want of memory.
+pub(crate) fn answer(alloc: Global, grid: Grid, lists: &str) -> Result<String, AllocError> {
+    let lines = points_of(alloc, list_at(lists, 0))?;
+    let number = list_at(lists, 1).trim().parse::<u32>().unwrap_or(0);
+    let Some(mesh) = mesh_of(alloc, grid, &lines, &[])? else {
+        return String::from_str(alloc, "no four independent points");
+    };
+    let mut text = String::new(alloc);
+    if number < mesh.grid().count() {
+        let hold = moved(alloc, mesh, number)?;
+        put_bucket(alloc, &mut text, &hold, number)?;
+    }
+    Ok(text)
+}

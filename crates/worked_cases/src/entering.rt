@@ -1,0 +1,63 @@
+//! Entries in buckets.
+
+use crate::reading::{edits_of, list_at};
+use cell_store::{Bucket, Grid, Hold};
+use edit_history::{Edit, Entry, Reply};
+use point_order::Cell;
+use std::alloc::{AllocError, Global};
+
+// Enters an edit as done, with a number that is its place.
+fn enter(alloc: Global, hold: &mut Hold, number: u64, edit: Edit) -> Result<(), AllocError> {
+    let none: [Cell; 0] = [];
+    let b = hold.grid().bucket_of(edit.point());
+    if !hold.has(b) {
+        hold.put(b, Bucket::new(alloc));
+    }
+    let there = hold.holds_point(edit.point());
+    let reply = match edit {
+        Edit::Add(_) if there => Reply::Duplicate,
+        Edit::Add(_) => Reply::Inserted,
+        Edit::Take(_) if there => Reply::Removed,
+        Edit::Take(_) => Reply::Missing,
+    };
+    hold.reserve(alloc, &none, &none, edit.point())?;
+    hold.swap_cells(&none, &none);
+    hold.push_entry(Entry {
+        number,
+        by: 0,
+        tag: 0,
+        edit,
+        reply,
+    });
+    Ok(())
+}
+
+// How much the bucket of an edit has.
+fn put_counts(alloc: Global, text: &mut String, hold: &Hold, edit: Edit) -> Result<(), AllocError> {
+    let b = hold.grid().bucket_of(edit.point());
+    if hold.has(b) {
+        let copy = hold.copy_of(alloc, b)?;
+        write!(
+            text,
+            " {}:{}/{}",
+            b,
+            copy.points().len(),
+            copy.entries().len()
+        )?;
+    }
+    Ok(())
+}
+
+/// The answer to a case of entries.
+///
+/// # Errors
+/// Want of memory.
+pub(crate) fn answer(alloc: Global, grid: Grid, lists: &str) -> Result<String, AllocError> {
+    let mut hold = Hold::empty(alloc, grid)?;
+    let mut text = String::from_str(alloc, "entered")?;
+    for (number, edit) in edits_of(alloc, list_at(lists, 0))?.iter().enumerate() {
+        enter(alloc, &mut hold, number as u64, *edit)?;
+        put_counts(alloc, &mut text, &hold, *edit)?;
+    }
+    Ok(text)
+}

@@ -1,0 +1,63 @@
+//! What goes and what comes when a point is taken.
+
+ghost use Rattle.cell_walk.specs.Paths.{ShowsSome};
+
+use crate::cells::put_cells;
+use crate::meshes::{keep_only, mesh_of};
+use crate::reading::{list_at, point_of, points_of};
+use cell_store::{Grid, Hold};
+use point_order::{Cell, Point};
+use std::alloc::{AllocError, Global};
+use vertex_removal::{Refill, RefillTurn, points_in_order};
+
+// Cells in order, by the places of their points.
+fn put_sorted(text: &mut String, points: &[Point], mut cells: Vec<Cell>) -> Result<(), AllocError> {
+    cells.sort_unstable();
+    put_cells(text, points, &cells)
+}
+
+// What is answered for a point over the buckets in hand.
+fn put_turn(
+    alloc: Global,
+    text: &mut String,
+    hold: &Hold,
+    points: &[Point],
+    v: Point,
+) -> Result<(), AllocError>
+    requires { ShowsSome hold.now }
+{
+    if !hold.has(hold.grid().bucket_of(v)) || !hold.holds_point(v) {
+        return text.push_str("no point in hand");
+    }
+    let mut refill = Refill::start(alloc, v)?;
+    match refill.advance(alloc, hold)? {
+        RefillTurn::Done(change) => {
+            text.push_str("gone")?;
+            put_sorted(text, points, change.gone)?;
+            text.push_str("; fresh")?;
+            put_sorted(text, points, change.fresh)
+        }
+        RefillTurn::Flat => text.push_str("flat"),
+        RefillTurn::Need(b) => write!(text, "needs {b}"),
+    }
+}
+
+/// The answer to a case of a refill.
+///
+/// # Errors
+/// Want of memory.
+pub(crate) fn answer(alloc: Global, grid: Grid, lists: &str) -> Result<String, AllocError> {
+    let lines = points_of(alloc, list_at(lists, 0))?;
+    let Some(mesh) = mesh_of(alloc, grid, &lines, &[])? else {
+        return String::from_str(alloc, "no four independent points");
+    };
+    let Some(v) = point_of(list_at(lists, 2).trim()) else {
+        return String::from_str(alloc, "no point");
+    };
+    let mut hold = mesh.into_hold();
+    keep_only(alloc, &mut hold, list_at(lists, 1))?;
+    let points = points_in_order(lines);
+    let mut text = String::new(alloc);
+    put_turn(alloc, &mut text, &hold, &points, v)?;
+    Ok(text)
+}
