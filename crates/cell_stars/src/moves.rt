@@ -12,10 +12,13 @@ ghost use Rattle.cell_stars.specs.Plans.{AreFor};
 ghost use Rattle.cell_stars.specs.Moves.{IsStarFor, AreFreed, AreComing, IsVacant, Stays};
 
 use crate::cells::Cells;
-use crate::order::{cells_in_order, compare, numbers_in_order, touches};
+use crate::order::{are_same, cells_in_order, has_vertex, numbers_in_order, touches};
 use crate::star::cell_at;
 use point_order::{Cell, Point};
 use std::alloc::{AllocError, Global};
+
+// Up to so many numbers are looked through in turn, and stars with so many places are short.
+const FEW: usize = 32;
 
 // What goes and comes in an exchange: the places that are freed, ascending, and the cells that are put at places.
 #[derive(Debug, Drop)]
@@ -24,19 +27,16 @@ pub(crate) struct Moves {
     pub(crate) placed: Vec<(u32, Cell)>,
 }
 
-// Whether the two are one.
-fn are_same(a: &Cell, b: &Cell) -> bool
-    ensures { IsTrue result ↔ (a.now ≡ b.now) }
-{
-    compare(a, b).is_eq()
-}
-
 // Whether the number is one of these.
 pub(crate) fn has_number(list: &[u32], i: u32) -> bool
     requires { IsAscending list.now }
     ensures { result ≡ is_among i list.now }
 {
-    list.binary_search(&i).is_ok()
+    if list.len() <= FEW {
+        list.contains(&i)
+    } else {
+        list.binary_search(&i).is_ok()
+    }
 }
 
 // The place of the cell among these, if it stands at one of them.
@@ -179,14 +179,18 @@ impl Cells {
         }
     }
 
-    // The shortest star of a vertex of the cell.
+    // The shortest star of a vertex of the cell, or the first that is short.
     fn shortest_star(&self, cell: &Cell) -> Option<&[u32]>
         ensures { MatchOption result ((p : ℕ) → IsIn p (points_of cell.now) → lies_in self.now.place p ≡ true → ⊥) (λ star. IsStarFor self.now cell.now star.now) }
     {
         let mut shortest: Option<&[u32]> = None;
         for p in cell.points() {
             if self.has_here(*p) {
-                shortest = Some(shorter(shortest, self.star_of(*p)));
+                let star = shorter(shortest, self.star_of(*p));
+                if star.len() <= FEW {
+                    return Some(star);
+                }
+                shortest = Some(star);
             }
         }
         shortest

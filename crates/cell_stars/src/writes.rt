@@ -12,7 +12,7 @@ ghost use Rattle.cell_stars.specs.Moves.{AreTouched, AreNumbered, AreStarsAfter,
 
 use crate::cells::{Cells, places_in};
 use crate::moves::{Moves, behind_last, has_number};
-use crate::order::{numbers_in_order, points_in_order};
+use crate::order::{has_vertex, numbers_in_order, points_in_order};
 use crate::plan::Around;
 use crate::star::cell_at;
 use crate::steps::place_of;
@@ -245,7 +245,7 @@ impl Cells {
     {
         let mut list = self.staying(alloc, p, &moves.freed)?;
         for (i, c) in &moves.placed {
-            if c.has(p) {
+            if has_vertex(c, p) {
                 list.push(*i)?;
             }
         }
