@@ -20,6 +20,9 @@ use point_order::{Cell, Point};
 use smallvec::SmallVec;
 use std::alloc::{AllocError, Global};
 
+// A vertex is added once, as long as there are no more than so many.
+const EARLY: usize = 24;
+
 // Whether no place is in the star with the number.
 fn is_spare(stars: &[Around], n: u32) -> bool
     ensures spare { IsTrue result → IsSpare stars.now n }
@@ -120,6 +123,23 @@ fn pairs(
         .collect(alloc)
 }
 
+// Whether the point is one of the first ones.
+fn is_early(list: &[Point], p: Point) -> bool
+    ensures { IsTrue result → IsIn p list.now }
+{
+    list[..list.len().min(EARLY)].contains(&p)
+}
+
+// Adds the point, where it is not one of the first ones.
+fn add_point(list: &mut Vec<Point>, p: Point) -> Result<(), AllocError>
+    ensures { OnOk result ((q : ℕ) → IsIn q list.new.items ↔ (IsIn q list.old.items ⊎ (p ≡ q))) }
+{
+    if !is_early(list, p) {
+        list.push(p)?;
+    }
+    Ok(())
+}
+
 impl Cells {
     // Adds the vertices of the cell that lie in the bucket.
     fn add_points(&self, list: &mut Vec<Point>, cell: &Cell) -> Result<(), AllocError>
@@ -127,7 +147,7 @@ impl Cells {
     {
         for p in cell.points() {
             if self.has_here(*p) {
-                list.push(*p)?;
+                add_point(list, *p)?;
             }
         }
         Ok(())
