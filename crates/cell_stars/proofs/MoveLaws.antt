@@ -13,7 +13,8 @@ use Rattle.point_order.specs.Sets.{IsIn, IsAscending, IsBelowFirst}
 use Rattle.point_order.proofs.SetLaws.{below-each}
 use Rattle.del_laws.proofs.Listed.{in_right, from_append}
 use Rattle.cell_stars.specs.Places.{Placed, AreStars, IsStarred, at, lies_in, touches_in}
-use Rattle.cell_stars.specs.Moves.{IsStarFor, AreFreed, IsFreed, AreComing, IsComing, Stays, IsVacant}
+use Rattle.cell_stars.specs.Moves.{IsStarFor, AreFreed, IsFreed, AreComing, IsComing, Stays, IsVacant, IsBare}
+use Rattle.std.proofs.lemmas.Bool.Decides.{nat_tests}
 use Rattle.del_laws.proofs.Tests.{any_from, any_true, among_from, among_true}
 use Rattle.point_order.specs.Sets.{is_among}
 use Rattle.cell_stars.specs.Grids.{bucket_of}
@@ -76,6 +77,9 @@ ascend_first (x ∷ l) (suc n) a = (first-below x (take n l) (λ y i. below-each
     in_first (x ∷ l) (suc n) y (inl e) = inl e
     in_first (x ∷ l) (suc n) y (inr i) = inr (in_first l n y i)
 
+zero_of : (n : ℕ) → (n == 0) ≡ true → n ≡ 0
+zero_of n = grind (arith, nat_tests)
+
 -- ---- the place of a cell
 
 -- a cell that touches the bucket has a vertex there
@@ -114,6 +118,16 @@ untouched place c f t = (let v = touched_vertex place c t in f v.0 v.1 v.2)
 pub stays_is : (b : Placed) (freed : List ℕ) (c : Cell) (i : ℕ) (r : Bool) → AreStars b → at b.slots i ≡ Some c → r ≡ is_among i freed → MatchBool (not r) (Stays b freed c) (touches_in b.place c ≡ true → (j : ℕ) → at b.slots j ≡ Some c → IsIn j freed)
 stays_is b freed c i true a e f = λ t j g. subst (λ k. IsIn k freed) (a.once i j c e g) (among_from i freed (sym f))
 stays_is b freed c i false a e f = record { place = i; there = e; kept = λ m. (let t = among_true i freed m in absurd (cc (f, t))) }
+
+-- ---- vertices with no star
+
+pub bare_by : (b : Placed) (p : ℕ) (star : List ℕ) → lies_in b.place p ≡ true → (length star == 0) ≡ true → ((i : ℕ) → (IsIn i star → IsStarred b.keys b.stars p i) × (IsStarred b.keys b.stars p i → IsIn i star)) → IsBare b p
+bare_by b p [] l e f = record { inside = l; none = λ i s. (f i).1 s }
+bare_by b p (x ∷ star) l e f = (let t = zero_of (length (x ∷ star)) e in absurd (omega (arith, t)))
+
+-- a cell with such a vertex stands nowhere
+pub bare_nowhere : (b : Placed) (p i : ℕ) (c : Cell) → AreStars b → IsBare b p → is_among p (points_of c) ≡ true → at b.slots i ≡ Some c → ⊥
+bare_nowhere b p i c a f h e = f.none i (a.listed p i c e (among_from p (points_of c) h) f.inside)
 
 -- ---- what is freed
 

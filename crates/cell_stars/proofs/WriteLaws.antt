@@ -20,8 +20,11 @@ use Rattle.cell_stars.proofs.Gathering.{Gathered, gather_all, gather_push, gathe
 abbrev pub AddsPoints : Option (ℕ × ℕ) → Cell → List ℕ → List ℕ → Type 0
 AddsPoints place c old new = (p : ℕ) → (IsIn p new → IsIn p old ⊎ (IsIn p (points_of c) × (lies_in place p ≡ true))) × (IsIn p old ⊎ (IsIn p (points_of c) × (lies_in place p ≡ true)) → IsIn p new)
 
-pub point_in : (place : Option (ℕ × ℕ)) (ps : List ℕ) (n : ℕ) (old list new : List ℕ) (x : ℕ) (r : Bool) → n < length ps → x ≡ slice_index_or ps n x → r ≡ lies_in place x → r ≡ true → new ≡ list ++ x ∷ [] → Gathered (FromPoints place) ps n old list → Gathered (FromPoints place) ps (n + 1) old new
-point_in place ps n old list new x r h e a b p s = gather_push (FromPoints place) ps n old list new x x x h e (refl, sym a ∙ b) (λ z t. t.0) p s
+pub point_in : (place : Option (ℕ × ℕ)) (ps : List ℕ) (n : ℕ) (old list new : List ℕ) (x : ℕ) (r : Bool) → n < length ps → x ≡ slice_index_or ps n x → r ≡ lies_in place x → r ≡ true → ((p : ℕ) → (IsIn p new → IsIn p list ⊎ (x ≡ p)) × (IsIn p list ⊎ (x ≡ p) → IsIn p new)) → Gathered (FromPoints place) ps n old list → Gathered (FromPoints place) ps (n + 1) old new
+point_in place ps n old list new x r h e a b f s =
+    gather_step (FromPoints place) ps n old list new x x h e
+    (λ p m. elim ((f p).0 m) [ inl k ↦ inl k | inr q ↦ inr (q, ap (lies_in place) (sym q) ∙ sym a ∙ b) ])
+    (λ p m. (f p).1 (inl m)) (λ p t. (f p).1 (inr t.0)) s
 
 pub point_out : (place : Option (ℕ × ℕ)) (ps : List ℕ) (n : ℕ) (old list : List ℕ) (x : ℕ) (r : Bool) → n < length ps → x ≡ slice_index_or ps n x → r ≡ lies_in place x → r ≡ false → Gathered (FromPoints place) ps n old list → Gathered (FromPoints place) ps (n + 1) old list
 point_out place ps n old list x r h e a b s = gather_skip (FromPoints place) ps n old list x x h e (λ z t. (let u = ap (lies_in place) t.0 ∙ t.1 in absurd (cc (a, b, u)))) s

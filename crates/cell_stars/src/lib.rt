@@ -17,7 +17,7 @@ mod writes;
 
 pub use cells::Cells;
 pub use grid::{BadGrid, Grid};
-pub use order::cells_in_order;
+pub use order::{are_same, cells_in_order};
 pub use plan::Plan;
 pub use star::{BucketCells, Star, StarCells};
 pub use steps::Steps;

@@ -1,6 +1,6 @@
 //! What goes and comes in an exchange, by places.
 
-ghost use Rattle.std.specs.Prelude.{◌≡◌, ◌↔◌, ◌⊎◌, ◌≤◌, ◌<◌, ℕ, true, None, Some, IfOk, OnOk, length, MatchOption, MatchBool, IsTrue};
+ghost use Rattle.std.specs.Prelude.{◌≡◌, ◌↔◌, ◌⊎◌, ◌≤◌, ◌<◌, ℕ, true, None, Some, IfOk, IfSome, OnOk, length, MatchOption, MatchBool, IsTrue};
 ghost use Rattle.std.specs.List.{zip};
 ghost use Rattle.std.specs.List.Sorted.{IsStrictlySortedBy};
 ghost use Rattle.point_order.specs.declared.cell.Cell.{Cell};
@@ -9,13 +9,16 @@ ghost use Rattle.point_order.specs.Facets.{points_of};
 ghost use Rattle.point_order.specs.Sets.{IsIn, IsAscending, is_among};
 ghost use Rattle.cell_stars.specs.Places.{at, lies_in, touches_in};
 ghost use Rattle.cell_stars.specs.Plans.{AreFor};
-ghost use Rattle.cell_stars.specs.Moves.{IsStarFor, AreFreed, AreComing, IsVacant, Stays};
+ghost use Rattle.cell_stars.specs.Moves.{IsStarFor, AreFreed, AreComing, IsVacant, IsBare, Stays};
 
 use crate::cells::Cells;
-use crate::order::{cells_in_order, compare, numbers_in_order, touches};
+use crate::order::{are_same, cells_in_order, has_vertex, numbers_in_order, touches};
 use crate::star::cell_at;
 use point_order::{Cell, Point};
 use std::alloc::{AllocError, Global};
+
+// Up to so many numbers are looked through in turn, and stars with so many places are short.
+const FEW: usize = 32;
 
 // What goes and comes in an exchange: the places that are freed, ascending, and the cells that are put at places.
 #[derive(Debug, Drop)]
@@ -24,19 +27,16 @@ pub(crate) struct Moves {
     pub(crate) placed: Vec<(u32, Cell)>,
 }
 
-// Whether the two are one.
-fn are_same(a: &Cell, b: &Cell) -> bool
-    ensures { IsTrue result ↔ (a.now ≡ b.now) }
-{
-    compare(a, b).is_eq()
-}
-
 // Whether the number is one of these.
 pub(crate) fn has_number(list: &[u32], i: u32) -> bool
     requires { IsAscending list.now }
     ensures { result ≡ is_among i list.now }
 {
-    list.binary_search(&i).is_ok()
+    if list.len() <= FEW {
+        list.contains(&i)
+    } else {
+        list.binary_search(&i).is_ok()
+    }
 }
 
 // The place of the cell among these, if it stands at one of them.
@@ -179,14 +179,18 @@ impl Cells {
         }
     }
 
-    // The shortest star of a vertex of the cell.
+    // The shortest star of a vertex of the cell, or the first that is short.
     fn shortest_star(&self, cell: &Cell) -> Option<&[u32]>
         ensures { MatchOption result ((p : ℕ) → IsIn p (points_of cell.now) → lies_in self.now.place p ≡ true → ⊥) (λ star. IsStarFor self.now cell.now star.now) }
     {
         let mut shortest: Option<&[u32]> = None;
         for p in cell.points() {
             if self.has_here(*p) {
-                shortest = Some(shorter(shortest, self.star_of(*p)));
+                let star = shorter(shortest, self.star_of(*p));
+                if star.len() <= FEW {
+                    return Some(star);
+                }
+                shortest = Some(star);
             }
         }
         shortest
@@ -217,12 +221,37 @@ impl Cells {
         Ok(numbers_in_order(freed))
     }
 
-    // Whether the cell stands at a place that is not freed.
-    fn stays(&self, cell: &Cell, freed: &[u32]) -> bool
-        requires { IsAscending freed.now }
+    // Whether the point lies in the bucket and has no star.
+    fn is_bare(&self, p: Point) -> bool
+        ensures { IsTrue result → IsBare self.now p }
+    {
+        self.has_here(p) && self.star_of(p).is_empty()
+    }
+
+    // A vertex of the first of the cells that lies in the bucket and has no star, if there is one. A new point is such.
+    fn bare_vertex(&self, cells: &[Cell]) -> Option<Point>
+        ensures { IfSome result (λ p. IsBare self.now p) }
+    {
+        for p in cells.first()?.points() {
+            if self.is_bare(*p) {
+                return Some(*p);
+            }
+        }
+        None
+    }
+
+    // Whether the cell stands at a place that is not freed. A cell with a bare vertex stands nowhere.
+    fn stays(&self, cell: &Cell, freed: &[u32], bare: &Option<Point>) -> bool
+        requires order { IsAscending freed.now }
+        requires bare { IfSome bare.now (λ p. IsBare self.now p) }
         ensures { MatchBool result (Stays self.now freed.now cell.now) (touches_in self.now.place cell.now ≡ true → (i : ℕ) → at self.now.slots i ≡ Some cell.now → IsIn i freed.now) }
     {
         let _ = &self.slots;
+        if let Some(p) = bare {
+            if has_vertex(cell, *p) {
+                return false;
+            }
+        }
         match self.place_of_cell(cell) {
             Some(i) => !has_number(freed, i),
             None => false,
@@ -230,11 +259,12 @@ impl Cells {
     }
 
     // Whether the cell touches the bucket and does not stay there.
-    fn comes(&self, cell: &Cell, freed: &[u32]) -> bool
-        requires { IsAscending freed.now }
+    fn comes(&self, cell: &Cell, freed: &[u32], bare: &Option<Point>) -> bool
+        requires order { IsAscending freed.now }
+        requires bare { IfSome bare.now (λ p. IsBare self.now p) }
         ensures { MatchBool result ((touches_in self.now.place cell.now ≡ true) × ((i : ℕ) → at self.now.slots i ≡ Some cell.now → IsIn i freed.now)) (touches_in self.now.place cell.now ≡ true → Stays self.now freed.now cell.now) }
     {
-        self.is_touched_by(cell) && !self.stays(cell, freed)
+        self.is_touched_by(cell) && !self.stays(cell, freed, bare)
     }
 
     // The fresh cells that touch the bucket and do not stay there, in order.
@@ -243,14 +273,16 @@ impl Cells {
         alloc: Global,
         fresh: &[Cell],
         freed: &[u32],
+        bare: &Option<Point>,
     ) -> Result<Vec<Cell>, AllocError>
-        requires { IsAscending freed.now }
+        requires order { IsAscending freed.now }
+        requires bare { IfSome bare.now (λ p. IsBare self.now p) }
         ensures order { IfOk result (λ coming. IsStrictlySortedBy cell_cmp coming.items) }
         ensures coming { IfOk result (λ coming. AreComing self.now freed.now fresh.now coming.items) }
     {
-        let mut coming = Vec::new(alloc);
+        let mut coming = Vec::with_capacity(alloc, fresh.len())?;
         for c in fresh {
-            if self.comes(c, freed) {
+            if self.comes(c, freed, bare) {
                 coming.push(*c)?;
             }
         }
@@ -268,7 +300,8 @@ impl Cells {
         ensures made { IfOk result (λ moves. AreFor gone.now fresh.now moves.freed.items moves.placed.items self.now) }
     {
         let freed = self.freed_by(alloc, gone)?;
-        let coming = self.coming_by(alloc, fresh, &freed)?;
+        let bare = self.bare_vertex(fresh);
+        let coming = self.coming_by(alloc, fresh, &freed, &bare)?;
         let places = places_for(
             alloc,
             &self.slots,

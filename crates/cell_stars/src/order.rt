@@ -1,13 +1,14 @@
 //! Lists in order, each element once.
 
-ghost use Rattle.std.specs.Prelude.{◌≡◌, ◌↔◌, ℕ};
+ghost use Rattle.std.specs.Prelude.{◌≡◌, ◌↔◌, ℕ, IsTrue};
 ghost use Rattle.std.specs.List.Sorted.{IsStrictlySortedBy};
 ghost use Rattle.point_order.specs.CellOrder.{cell_cmp};
-ghost use Rattle.point_order.specs.Sets.{IsIn, IsAscending};
+ghost use Rattle.point_order.specs.Facets.{points_of};
+ghost use Rattle.point_order.specs.Sets.{IsIn, IsAscending, is_among};
 ghost use Rattle.cell_stars.specs.Swaps.{touches as touches_of, AreSameCells};
 
 use crate::grid::Grid;
-use point_order::{Cell, Point};
+use point_order::{Cell, Point, Quad, Tri};
 use std::cmp::Ordering;
 
 // Whether a finite vertex of the cell lies in the bucket.
@@ -22,6 +23,51 @@ pub(crate) fn compare(a: &Cell, b: &Cell) -> Ordering
     ensures { result ≡ cell_cmp a.now b.now }
 {
     a.cmp(b)
+}
+
+// Whether the four points are the same.
+fn are_same_four(q: &Quad, r: &Quad) -> bool
+    ensures { IsTrue result ↔ (q.now ≡ r.now) }
+{
+    let (a, b, c, d) = q.corners();
+    let (x, y, z, w) = r.corners();
+    b == y && c == z && a == x && d == w
+}
+
+// Whether the three points are.
+fn are_same_three(q: &Tri, r: &Tri) -> bool
+    ensures { IsTrue result ↔ (q.now ≡ r.now) }
+{
+    let (a, b, c) = q.corners();
+    let (x, y, z) = r.corners();
+    b == y && a == x && c == z
+}
+
+/// Whether the two are one cell. Cells that differ mostly do in the point that is compared first.
+pub fn are_same(a: &Cell, b: &Cell) -> bool
+    ensures { IsTrue result ↔ (a.now ≡ b.now) }
+{
+    match (a, b) {
+        (Cell::Full(q), Cell::Full(r)) => are_same_four(q, r),
+        (Cell::Open(q), Cell::Open(r)) => are_same_three(q, r),
+        _ => false,
+    }
+}
+
+// Whether the point is one of the cell's.
+pub(crate) fn has_vertex(cell: &Cell, p: Point) -> bool
+    ensures { result ≡ is_among p (points_of cell.now) }
+{
+    match cell {
+        Cell::Full(quad) => {
+            let (a, b, c, d) = quad.corners();
+            a == p || b == p || c == p || d == p
+        }
+        Cell::Open(tri) => {
+            let (a, b, c) = tri.corners();
+            a == p || b == p || c == p
+        }
+    }
 }
 
 /// The cells in order, each once. It takes no memory.

@@ -12,13 +12,16 @@ ghost use Rattle.cell_stars.specs.Moves.{AreTouched, AreNumbered, AreStarsAfter,
 
 use crate::cells::{Cells, places_in};
 use crate::moves::{Moves, behind_last, has_number};
-use crate::order::{numbers_in_order, points_in_order};
+use crate::order::{has_vertex, numbers_in_order, points_in_order};
 use crate::plan::Around;
 use crate::star::cell_at;
 use crate::steps::place_of;
 use point_order::{Cell, Point};
 use smallvec::SmallVec;
 use std::alloc::{AllocError, Global};
+
+// A vertex is added once, as long as there are no more than so many.
+const EARLY: usize = 24;
 
 // Whether no place is in the star with the number.
 fn is_spare(stars: &[Around], n: u32) -> bool
@@ -120,6 +123,23 @@ fn pairs(
         .collect(alloc)
 }
 
+// Whether the point is one of the first ones.
+fn is_early(list: &[Point], p: Point) -> bool
+    ensures { IsTrue result → IsIn p list.now }
+{
+    list[..list.len().min(EARLY)].contains(&p)
+}
+
+// Adds the point, where it is not one of the first ones.
+fn add_point(list: &mut Vec<Point>, p: Point) -> Result<(), AllocError>
+    ensures { OnOk result ((q : ℕ) → IsIn q list.new.items ↔ (IsIn q list.old.items ⊎ (p ≡ q))) }
+{
+    if !is_early(list, p) {
+        list.push(p)?;
+    }
+    Ok(())
+}
+
 impl Cells {
     // Adds the vertices of the cell that lie in the bucket.
     fn add_points(&self, list: &mut Vec<Point>, cell: &Cell) -> Result<(), AllocError>
@@ -127,7 +147,7 @@ impl Cells {
     {
         for p in cell.points() {
             if self.has_here(*p) {
-                list.push(*p)?;
+                add_point(list, *p)?;
             }
         }
         Ok(())
@@ -245,7 +265,7 @@ impl Cells {
     {
         let mut list = self.staying(alloc, p, &moves.freed)?;
         for (i, c) in &moves.placed {
-            if c.has(p) {
+            if has_vertex(c, p) {
                 list.push(*i)?;
             }
         }

@@ -17,10 +17,11 @@ use Rattle.cell_store.specs.Grids.{bucket_of}
 use Rattle.point_order.specs.Sets.{IsAscending}
 use Rattle.point_order.proofs.SetLaws.{below-each}
 use Rattle.cell_stars.specs.Places.{cells_of, swapped_at}
+use Rattle.cell_stars.specs.Gathering.{Gathers}
 use Rattle.cell_stars.specs.Plans.{Allows, IsPlanFor, done}
 use Rattle.cell_store.specs.Buckets.{Content, Layout, InHand, StandAtPlaces, bucket_at, content_of, layout_at, shown}
 use Rattle.cell_store.specs.Changes.{NoneTouches, swapped_in, IsSwapped}
-use Rattle.cell_store.specs.Ready.{AreApart, AreHeld, AreInHand, HasLists, IsAllowed, IsNoteReady, IsReady, IsReadyFor, NoneIsFor, NoteLists, carried, given, numbers_of}
+use Rattle.cell_store.specs.Ready.{AreApart, AreHeld, AreInHand, HasLists, HasNumber, IsNumberOf, IsAllowed, IsNoteReady, IsReady, IsReadyFor, NoneIsFor, NoteLists, carried, given, numbers_of}
 use Rattle.cell_store.specs.declared.room.PlanFor.{PlanFor}
 use Rattle.cell_store.proofs.Layouts.{shown_at, shown_is, shown_some}
 use Rattle.cell_store.specs.Swaps.{swapped}
@@ -89,12 +90,46 @@ not_touched g b cells n c i = any-none (λ p. bucket_of g p == b) (points_of c) 
     by p true e j = absurd (n (subst (λ m. IsIn m (numbers_of g cells)) (equal_from (bucket_of g p) b e) (in_numbers g cells c p i j)))
     by p false e j = e
 
--- sorted, and each once, they are the same numbers
-pub numbers_are : (a b l sorted deduped : List ℕ) → l ≡ a ++ b → IsPermutation l sorted → deduped ≡ dedup eqb sorted → (n : ℕ) → (IsIn n deduped → IsIn n a ⊎ IsIn n b) × (IsIn n a ⊎ IsIn n b → IsIn n deduped)
-numbers_are a b l sorted deduped e p d n = (
-  λ i. from_append n a b (subst (IsIn n) e (in_contained l n (Contains-permutation sorted l n (IsPermutation-sym l sorted p) (Contains-from_dedup eqb sorted n (contains_in (dedup eqb sorted) n (subst (IsIn n) d i)))))),
-  λ i. subst (IsIn n) (sym d) (in_contained (dedup eqb sorted) n (Contains-dedup_nat sorted n (Contains-permutation l sorted n p (contains_in l n (subst (IsIn n) (sym e) (elim i [ inl j ↦ in_left n a b j | inr j ↦ in_right n a b j ])))))),
+-- the numbers of the points of a cell
+pub numbers_step : (g : ℕ) (c : Cell) (ps list new : List ℕ) → ps ≡ points_of c → Gathers (IsNumberOf g) ps list new →
+    ((n : ℕ) → IsIn n new → IsIn n list ⊎ HasNumber g c n) × ((n : ℕ) → IsIn n list → IsIn n new) × ((n : ℕ) → HasNumber g c n → IsIn n new)
+numbers_step g c ps list new e s = (
+  λ n m. elim (s.each n m) [ inl k ↦ inl k | inr r ↦ inr (subst (λ (l : List ℕ). IsIn n (map (bucket_of g) l)) e (subst (λ k. IsIn k (map (bucket_of g) ps)) r.2 (in_mapped (bucket_of g) ps r.0 r.1))) ],
+  s.kept,
+  λ n h. (let r = mapped_from (bucket_of g) ps n (subst (λ (l : List ℕ). IsIn n (map (bucket_of g) l)) (sym e) h) in s.all r.0 r.1 n r.2),
 )
+
+number_in : (g n : ℕ) (cells : List Cell) (c : Cell) → IsIn c cells → HasNumber g c n → IsIn n (numbers_of g cells)
+number_in g n cells c i h = (let r = mapped_from (bucket_of g) (points_of c) n h in subst (λ m. IsIn m (numbers_of g cells)) r.2 (in_numbers g cells c r.0 i r.1))
+
+gathered_are : (g : ℕ) (cells : List Cell) (old list : List ℕ) (n : ℕ) → Gathers (HasNumber g) cells old list → (IsIn n list → IsIn n old ⊎ IsIn n (numbers_of g cells)) × (IsIn n old ⊎ IsIn n (numbers_of g cells) → IsIn n list)
+gathered_are g cells old list n s = (
+  λ i. elim (s.each n i) [ inl j ↦ inl j | inr r ↦ inr (number_in g n cells r.0 r.1 r.2) ],
+  λ i. elim i [
+    | inl j ↦ s.kept n j
+    | inr j ↦ (let r = numbers_from g n cells j in s.all r.cell r.listed n (subst (λ m. IsIn m (map (bucket_of g) (points_of r.cell))) r.number (in_mapped (bucket_of g) (points_of r.cell) r.point r.vertex)))
+  ],
+)
+
+-- sorted, and each once, they are the same numbers
+sorted_are : (l sorted deduped : List ℕ) (n : ℕ) → IsPermutation l sorted → deduped ≡ dedup eqb sorted → (IsIn n deduped → IsIn n l) × (IsIn n l → IsIn n deduped)
+sorted_are l sorted deduped n p d = (
+  λ i. in_contained l n (Contains-permutation sorted l n (IsPermutation-sym l sorted p) (Contains-from_dedup eqb sorted n (contains_in (dedup eqb sorted) n (subst (IsIn n) d i)))),
+  λ i. subst (IsIn n) (sym d) (in_contained (dedup eqb sorted) n (Contains-dedup_nat sorted n (Contains-permutation l sorted n p (contains_in l n i)))),
+)
+
+pub numbers_are : (g : ℕ) (gone fresh : List Cell) (none first second sorted deduped : List ℕ) → none ≡ [] → Gathers (HasNumber g) gone none first → Gathers (HasNumber g) fresh first second → IsPermutation second sorted → deduped ≡ dedup eqb sorted →
+    (n : ℕ) → (IsIn n deduped → IsIn n (numbers_of g gone) ⊎ IsIn n (numbers_of g fresh)) × (IsIn n (numbers_of g gone) ⊎ IsIn n (numbers_of g fresh) → IsIn n deduped)
+numbers_are g gone fresh none first second sorted deduped e s t p d n =
+    let f = gathered_are g gone none first n s in
+    let h = gathered_are g fresh first second n t in
+    let k = sorted_are second sorted deduped n p d in (
+      λ i. elim (h.0 (k.0 i)) [
+        | inl j ↦ elim (f.0 j) [ inl m ↦ absurd (subst (IsIn n) e m) | inr m ↦ inl m ]
+        | inr j ↦ inr j
+      ],
+      λ i. k.1 (elim i [ inl j ↦ h.1 (inl (f.1 (inr j))) | inr j ↦ h.1 (inr j) ]),
+    )
 
 -- ---- plans for buckets
 

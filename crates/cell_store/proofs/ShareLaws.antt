@@ -1,7 +1,7 @@
 -- What the buckets of a hold have of the set that it shows, and of its complex.
 use Rattle.std.specs.Prelude.{◌≡◌, ℕ, ◌+◌, ◌<◌, Bool, true, false, cond, ◌==◌, List, [], ◌∷◌, Option, None, Some, IsSome, is_some, length, slice_index_or}
 use Rattle.std.specs.List.{filter}
-use Rattle.std.specs.Option.{option_map}
+use Rattle.std.specs.Option.{option_map, option_map_or}
 use Rattle.std.proofs.Common.{refl, sym, ◌∙◌, ap, subst, inl, inr, arith, take, add-one}
 use Rattle.std.proofs.lemmas.Bool.{eqb-true}
 use Rattle.std.proofs.lemmas.Bool.Decides.{nat_tests}
@@ -24,7 +24,7 @@ use Rattle.del_laws.proofs.Tests.{filter_is, filtered_from, filtered_true}
 use Rattle.del_laws.proofs.Neighbours.{listed_facets}
 use Rattle.hole_laws.specs.Edits.{IsSolidSet}
 use Rattle.cell_store.specs.Grids.{bucket_of}
-use Rattle.cell_store.specs.Buckets.{Content, InHand, bucket_at}
+use Rattle.cell_store.specs.Buckets.{Content, InHand, bucket_at, cells_in}
 use Rattle.cell_store.specs.Swaps.{touches}
 use Rattle.cell_store.specs.Others.{IsOtherOf, HaveNoOther}
 use Rattle.cell_store.specs.Shares.{Stands, IsSound, StandsShows, ShareIsOne, Shows, ShowsWith, NoneInHand, IsInHandFor, IsAcross, points_on}
@@ -111,6 +111,13 @@ pub star_is : (hold : InHand) (s : List ℕ) (p g b : ℕ) (c : Content) (cells 
 star_is hold s p g b c cells st e1 e2 e3 e4 =
     ap (filter (λ c. is_among p (points_of c))) (e4 ∙ (st.sights b c e3).cells)
     ∙ filter_twice (λ c. is_among p (points_of c)) (touches hold.grid b) (complex s) (λ d t. touched hold.grid p b d (e2 ∙ ap (λ n. bucket_of n p) e1) (among_in p (points_of d) t))
+
+-- they are those of the bucket with the point's number
+pub around_in : (hold : InHand) (p g b : ℕ) (c : Content) → g ≡ hold.grid → b ≡ bucket_of g p → bucket_at hold.places b ≡ Some c →
+    filter (λ d. is_among p (points_of d)) c.cells ≡ filter (λ d. is_among p (points_of d)) (cells_in hold.places (bucket_of hold.grid p))
+around_in hold p g b c e f h =
+    ap (λ (o : Option Content). filter (λ d. is_among p (points_of d)) (option_map_or (λ x. x.cells) o [])) (sym h)
+    ∙ ap (λ n. filter (λ d. is_among p (points_of d)) (cells_in hold.places n)) (f ∙ ap (λ n. bucket_of n p) e)
 
 -- ---- buckets in hand
 

@@ -1,8 +1,9 @@
 //! Buckets.
 
-ghost use Rattle.std.specs.Prelude.{◌≡◌, ◌∷◌, [], ◌++◌, true, None, Some, IsPermutation, IfOk, MatchOption};
+ghost use Rattle.std.specs.Prelude.{◌≡◌, ◌↔◌, ◌∷◌, [], ◌++◌, true, None, Some, IsPermutation, IfOk, MatchOption};
 ghost use Rattle.std.specs.List.{filter};
 ghost use Rattle.point_order.specs.Facets.{points_of};
+ghost use Rattle.point_order.specs.declared.cell.Cell.{Cell};
 ghost use Rattle.point_order.specs.Sets.{IsIn, IsAscending, is_among};
 ghost use Rattle.edit_history.specs.Edits.{point_of, changed};
 ghost use Rattle.cell_stars.specs.Places.{lies_in};
@@ -11,11 +12,11 @@ ghost use Rattle.cell_store.specs.Buckets.{FitsPlace, content_of};
 ghost use Rattle.cell_store.specs.Others.{HaveNoOther, IsOtherOf};
 ghost use Rattle.cell_store.specs.Ready.{HasLists, carried};
 ghost use Rattle.cell_store.specs.Shares.{points_on};
-ghost use Rattle.cell_store.specs.Stars.{cells_left, cells_to_come};
+ghost use Rattle.cell_store.specs.Stars.{cells_around, cells_left, cells_to_come};
 
 use crate::note::{Note, points_after};
 use crate::star::other_among;
-use cell_stars::{BucketCells, Cells, Grid, Plan, Star};
+use cell_stars::{BucketCells, Cells, Grid, Plan, Star, StarCells};
 use edit_history::Entry;
 use point_order::{Cell, Facet, Point};
 use std::alloc::{AllocError, Global};
@@ -82,6 +83,14 @@ impl Bucket {
         ensures { cells_left result ≡ filter (λ c. is_among p (points_of c)) (content_of self.now).cells }
     {
         self.cells.cells_at(p)
+    }
+
+    // The cells at a point of the bucket, in any order.
+    pub(crate) fn cells_around(&self, p: Point) -> StarCells<'_>
+        requires { lies_in self.now.cells.place p ≡ true }
+        ensures { (c : Cell) → IsIn c (cells_around result) ↔ IsIn c (filter (λ c. is_among p (points_of c)) (content_of self.now).cells) }
+    {
+        self.cells.cells_around(p)
     }
 
     // A cell on the facet other than the given one, if there is one. The facet is to have the point, which is to lie in the bucket.

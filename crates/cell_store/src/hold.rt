@@ -4,6 +4,7 @@ ghost use Rattle.std.specs.Prelude.{◌≡◌, ◌↔◌, IsTrue, ℕ, ◌*◌, 
 ghost use Rattle.std.specs.List.{filter, list_all};
 ghost use Rattle.point_order.specs.Sets.{IsIn, is_among};
 ghost use Rattle.point_order.specs.Facets.{points_of, facets_of};
+ghost use Rattle.point_order.specs.declared.cell.Cell.{Cell};
 ghost use Rattle.point_order.specs.Complex.{complex};
 ghost use Rattle.edit_history.specs.Edits.{point_of};
 ghost use Rattle.cell_store.specs.Grids.{is_grid_size, bucket_of as number_of};
@@ -11,13 +12,13 @@ ghost use Rattle.cell_store.specs.Buckets.{no_room, empty_hold, bucket_at, point
 ghost use Rattle.cell_store.specs.Shares.{Shows, ShowsWith, NoneInHand, IsInHandFor};
 ghost use Rattle.cell_store.specs.Changes.{IsSwapped, IsNoted};
 ghost use Rattle.cell_store.specs.Ready.{AreHeld};
-ghost use Rattle.cell_store.specs.Stars.{cells_left, AcrossGives};
+ghost use Rattle.cell_store.specs.Stars.{cells_around, cells_left, AcrossGives};
 
 use crate::bucket::Bucket;
 use crate::note::Note;
 use crate::room::{Exchange, carry_all};
 use crate::star::{Across, facet_points};
-use cell_stars::{Grid, Star};
+use cell_stars::{Grid, Star, StarCells};
 use edit_history::Entry;
 use point_order::{Cell, Facet, Point};
 use std::alloc::{AllocError, Global};
@@ -156,6 +157,18 @@ impl Hold {
     {
         let b = self.grid().bucket_of(p);
         self.bucket(b).cells_at(p)
+    }
+
+    /// The cells at a point, in any order, for those who need none: each is given at once. The point's bucket is to be in hand.
+    ///
+    /// They are all cells of the complex that have the point, for every set that the hold shows.
+    pub fn cells_around(&self, p: Point) -> StarCells<'_>
+        requires { IsSome (bucket_at self.now.places (number_of self.now.grid p)) }
+        ensures in_bucket { (c : Cell) → IsIn c (cells_around result) ↔ IsIn c (filter (λ c. is_among p (points_of c)) (cells_in self.now.places (number_of self.now.grid p))) }
+        ensures in_complex { (s : List ℕ) → Shows self.now s → (c : Cell) → IsIn c (cells_around result) ↔ IsIn c (filter (λ c. is_among p (points_of c)) (complex s)) }
+    {
+        let b = self.grid().bucket_of(p);
+        self.bucket(b).cells_around(p)
     }
 
     // One of the points whose bucket is in hand, if there is one.

@@ -1,16 +1,17 @@
 //! What a hold keeps ready, so that an exchange of cells takes no memory.
 
-ghost use Rattle.std.specs.Prelude.{◌≡◌, ◌↔◌, ◌⊎◌, ◌++◌, ℕ, ◌*◌, ◌<◌, IfOk, IsSome, IsSomeAnd, OnOk};
+ghost use Rattle.std.specs.Prelude.{◌≡◌, ◌↔◌, ◌⊎◌, ℕ, ◌*◌, ◌<◌, IfOk, IsSome, IsSomeAnd, IsTrue, OnOk};
 ghost use Rattle.std.specs.Option.{option_map};
 ghost use Rattle.point_order.specs.Sets.{IsIn, IsAscending};
+ghost use Rattle.cell_stars.specs.Gathering.{Gathers};
 ghost use Rattle.cell_stars.specs.Plans.{Allows};
 ghost use Rattle.cell_store.specs.Buckets.{layout_at};
-ghost use Rattle.cell_store.specs.Ready.{AreApart, AreInHand, IsAllowed, IsReady, IsReadyFor, carried, given, numbers_of};
+ghost use Rattle.cell_store.specs.Ready.{AreApart, AreInHand, HasNumber, IsAllowed, IsNumberOf, IsReady, IsReadyFor, carried, given, numbers_of};
 ghost use Rattle.cell_store.specs.declared.room.PlanFor.{PlanFor};
 
 use crate::bucket::Bucket;
 use cell_stars::{Grid, Plan};
-use point_order::Cell;
+use point_order::{Cell, Point};
 use std::alloc::{AllocError, Global};
 
 // The cells that go and come in an exchange, and the plan for each bucket that is touched.
@@ -28,14 +29,46 @@ pub(crate) struct PlanFor {
     pub(crate) plan: Plan,
 }
 
+// A number is added once, as long as there are no more than so many.
+const EARLY: usize = 8;
+
+// Whether the number is one of the first ones.
+fn is_early(numbers: &[u32], b: u32) -> bool
+    ensures { IsTrue result → IsIn b numbers.now }
+{
+    numbers[..numbers.len().min(EARLY)].contains(&b)
+}
+
+// Adds the number, where it is not one of the first ones.
+fn add_number(numbers: &mut Vec<u32>, b: u32) -> Result<(), AllocError>
+    ensures { OnOk result ((n : ℕ) → IsIn n numbers.new.items ↔ (IsIn n numbers.old.items ⊎ (b ≡ n))) }
+{
+    if !is_early(numbers, b) {
+        numbers.push(b)?;
+    }
+    Ok(())
+}
+
+// Adds the numbers of the buckets of the points.
+fn add_numbers_at(
+    numbers: &mut Vec<u32>,
+    grid: Grid,
+    points: &[Point],
+) -> Result<(), AllocError>
+    ensures { OnOk result (Gathers (IsNumberOf grid) points.now numbers.old.items numbers.new.items) }
+{
+    for p in points {
+        add_number(numbers, grid.bucket_of(*p))?;
+    }
+    Ok(())
+}
+
 // Adds the numbers of the buckets of all finite vertices of the cells.
 fn add_numbers(numbers: &mut Vec<u32>, grid: Grid, cells: &[Cell]) -> Result<(), AllocError>
-    ensures { OnOk result (numbers.new.items ≡ numbers.old.items ++ numbers_of grid cells.now) }
+    ensures { OnOk result (Gathers (HasNumber grid) cells.now numbers.old.items numbers.new.items) }
 {
     for c in cells {
-        for p in c.points() {
-            numbers.push(grid.bucket_of(*p))?;
-        }
+        add_numbers_at(numbers, grid, c.points())?;
     }
     Ok(())
 }

@@ -1,15 +1,16 @@
 //! The cell across a facet.
 
 ghost use Rattle.std.specs.Prelude.{◌≡◌, ◌↔◌, IsTrue, MatchOption};
-ghost use Rattle.std.specs.List.{list_all};
-ghost use Rattle.point_order.specs.Sets.{IsIn, is_among};
-ghost use Rattle.point_order.specs.Facets.{facets_of, points_of};
+ghost use Rattle.point_order.specs.Sets.{IsIn};
+ghost use Rattle.point_order.specs.Facets.{facets_of};
+ghost use Rattle.point_order.specs.declared.cell.Cell.TheVariants.{Full};
+ghost use Rattle.point_order.specs.declared.cell.Facet.TheVariants.{Three};
 ghost use Rattle.cell_store.specs.Shares.{points_on};
 ghost use Rattle.cell_stars.specs.Stars.{cells_around};
 ghost use Rattle.cell_store.specs.Others.{IsOtherOf, HaveNoOther};
 
-use cell_stars::StarCells;
-use point_order::{Cell, Facet, Point};
+use cell_stars::{StarCells, are_same};
+use point_order::{Cell, Facet, Point, Quad, Tri};
 
 /// What lies across a facet.
 #[derive(Clone, Copy, Debug)]
@@ -30,42 +31,38 @@ pub(crate) fn facet_points(facet: &Facet) -> &[Point]
     }
 }
 
-// Whether the cell has all these points.
-fn has_all(cell: &Cell, points: &[Point]) -> bool
-    ensures { result ≡ list_all (λ p. is_among p (points_of cell.now)) points.now }
+// Whether the triple is one of a Full cell's four.
+fn has_triple(quad: &Quad, tri: &Tri) -> bool
+    ensures { IsTrue result ↔ IsIn (Three tri.now) (facets_of (Full quad.now)) }
 {
-    points.iter().all(|p| cell.has(*p))
+    let (a, b, c, d) = quad.corners();
+    let (x, y, z) = tri.corners();
+    if a == x {
+        if b == y {
+            c == z || d == z
+        } else {
+            c == y && d == z
+        }
+    } else {
+        b == x && c == y && d == z
+    }
 }
 
-// Whether the facet is one of the cell's.
+// Whether the facet is one of the cell's, by a look at each of them.
 fn is_facet_of(cell: &Cell, facet: &Facet) -> bool
     ensures { IsTrue result ↔ IsIn facet.now (facets_of cell.now) }
 {
     cell.facets().contains(facet)
 }
 
-// Whether the cell is on the facet. Most cells lack one of its points, and their facets are not looked at.
+// Whether the cell is on the facet.
 fn is_on(cell: &Cell, facet: &Facet) -> bool
     ensures { IsTrue result ↔ IsIn facet.now (facets_of cell.now) }
 {
-    has_all(cell, facet_points(facet)) && is_facet_of(cell, facet)
-}
-
-// Whether the two lists are one.
-fn same_points(a: &[Point], b: &[Point]) -> bool
-    ensures { IsTrue result ↔ (a.now ≡ b.now) }
-{
-    a == b
-}
-
-// Whether the two are one cell.
-fn are_same(a: &Cell, b: &Cell) -> bool
-    ensures { IsTrue result ↔ (a.now ≡ b.now) }
-{
-    match (a, b) {
-        (Cell::Full(p), Cell::Full(q)) => same_points(p.points(), q.points()),
-        (Cell::Open(p), Cell::Open(q)) => same_points(p.points(), q.points()),
-        _ => false,
+    match (cell, facet) {
+        (Cell::Full(quad), Facet::Three(tri)) => has_triple(quad, tri),
+        (Cell::Full(_), Facet::Two(_)) => false,
+        _ => is_facet_of(cell, facet),
     }
 }
 

@@ -3,7 +3,7 @@ use Rattle.cell_stars.proofs.cells.Cells.coming_by.Goals as goal
 use Rattle.cell_stars.proofs.cells.Cells.coming_by.Goals.{then-comes+in_ok-push, else-comes}
 
 pub loop-c-init : goal.loop-c-init
-loop-c-init c = coming_none c.args.self.now c.args.freed.now c.args.fresh.now c.new-coming.result.items c.new-coming.ensures.items
+loop-c-init c = coming_none c.args.self.now c.args.freed.now c.args.fresh.now c.in_ok-coming.coming.items c.in_ok-coming.ensures.items
 
 pub loop-c-preserved : goal.loop-c-preserved
 loop-c-preserved c =

@@ -6,7 +6,7 @@ use Rattle.cell_stars.specs.Plans.{StarsAfter}
 use Rattle.cell_stars.proofs.Gathering.{gather_none}
 use Rattle.cell_stars.proofs.WriteLaws.{PutWith, put_step, put_skip, places_are}
 use Rattle.cell_stars.proofs.cells.Cells.places_after.Goals as goal
-use Rattle.cell_stars.proofs.cells.Cells.places_after.Goals.{then-has+in_ok-push, else-has}
+use Rattle.cell_stars.proofs.cells.Cells.places_after.Goals.{then-has_vertex+in_ok-push, else-has_vertex}
 
 pub loop-i-init : goal.loop-i-init
 loop-i-init c = gather_none (PutWith c.args.p) c.deref-i-items.result.now c.in_ok-list.list.items
@@ -18,9 +18,9 @@ loop-i-preserved c =
     let n = c.loop-i.i-index in
     let x = c.loop-i-item.result in
     let old = c.in_ok-list.list.items in
-    elim c.if-has.branch [
-      | then-has+in_ok-push w ↦ rw w.list-is (put_step p items n old c.loop-i.list.items w.push.new.self.items x x c.has.result c.loop-i-test.true c.loop-i-item.is c.has.ensures w.if-has.true w.in_ok-push.ensures.ok c.loop-i.invariant)
-      | else-has w ↦ rw w.list-is (put_skip p items n old c.loop-i.list.items x x c.has.result c.loop-i-test.true c.loop-i-item.is c.has.ensures w.if-has.false c.loop-i.invariant)
+    elim c.if-has_vertex.branch [
+      | then-has_vertex+in_ok-push w ↦ rw w.list-is (put_step p items n old c.loop-i.list.items w.push.new.self.items x x c.has_vertex.result c.loop-i-test.true c.loop-i-item.is c.has_vertex.ensures w.if-has_vertex.true w.in_ok-push.ensures.ok c.loop-i.invariant)
+      | else-has_vertex w ↦ rw w.list-is (put_skip p items n old c.loop-i.list.items x x c.has_vertex.result c.loop-i-test.true c.loop-i-item.is c.has_vertex.ensures w.if-has_vertex.false c.loop-i.invariant)
     ]
 
 pub returns : goal.returns
