@@ -5,3 +5,4 @@ pub mod Exploring
 pub mod Opening
 pub mod Growing
 pub mod Lists
+pub mod Walking

@@ -1,4 +1,4 @@
-//! A first cell in conflict, by looking through the buckets.
+//! A first cell in conflict, by a walk from a point that lies near.
 
 ghost use Rattle.std.specs.Prelude.{List, MatchOption, IsSome, IfSome, ℕ};
 ghost use Rattle.point_order.specs.Sets.{IsIn};
@@ -7,43 +7,70 @@ ghost use Rattle.cell_store.specs.Buckets.{bucket_at, cells_in};
 ghost use Rattle.cell_store.specs.Shares.{Shows};
 ghost use Rattle.cell_store.specs.Meshes.{AllInHand};
 ghost use Rattle.cell_conflict.specs.Searching.{ShowsNew, NoneGoes};
+ghost use Rattle.cavity.specs.Walking.{WalksFrom};
 
-use cell_conflict::{conflict_among, is_in_conflict};
+use cell_conflict::conflict_among;
 use cell_store::Hold;
+use cell_walk::{Walk, WalkTurn};
 use point_order::{Cell, Point, Step};
 
-// The point of the list that is nearest to the given one, if there is one. It only makes the search short, so nothing is promised.
-fn nearest(points: &[Point], p: Point) -> Option<Point> {
+// How many points of a bucket are looked at for one that is near.
+const LOOKS: usize = 128;
+
+// After how many steps a walk is given up, and the buckets are looked through. No cell is met twice, so it ends before on every mesh
+// that memory can hold.
+const STEPS: u64 = 1 << 40;
+
+// The nearest of some points of the list, if it has any. It only makes the walk short, so nothing is promised.
+fn near(points: &[Point], p: Point) -> Option<Point> {
     points
         .iter()
         .copied()
+        .step_by(points.len() / LOOKS + 1)
         .min_by_key(|q| Step::between(p, *q).square())
 }
 
-// A cell at a point that the new point takes away, if there is one.
-fn conflict_at(hold: &Hold, q: Point, p: Point) -> Option<Cell>
+// A point near p: of the first bucket that has any, from that of p on and round.
+fn near_point(hold: &Hold, p: Point) -> Option<Point>
     requires all { AllInHand hold.now }
-    requires shown { ShowsNew hold.now p }
-    ensures { IfSome result (λ c. (s : List ℕ) → Shows hold.now s → IsNew s p → GoesFrom s p c) }
 {
-    let _ = hold.grid();
-    for neighbour in hold.cells_at(q) {
-        if is_in_conflict(hold, neighbour, p) {
-            return Some(*neighbour);
+    let grid = hold.grid();
+    let count = grid.count();
+    let first = grid.bucket_of(p);
+    for step in 0..count {
+        if let Some(q) = near(hold.bucket((first + step) % count).points(), p) {
+            return Some(q);
         }
     }
     None
 }
 
-// A cell at the point of the new point's bucket that is nearest to it, which the new point takes away, if there is one.
-fn conflict_near(hold: &Hold, p: Point) -> Option<Cell>
+// The cell that the new point takes away at the end of a walk from a cell, if it comes to an end.
+fn walked_to(hold: &Hold, start: &Cell, p: Point) -> Option<Cell>
+    requires shown { ShowsNew hold.now p }
+    requires walks { WalksFrom hold.now p start.now }
+    ensures { IfSome result (λ c. (s : List ℕ) → Shows hold.now s → IsNew s p → GoesFrom s p c) }
+{
+    let mut walk = Walk::from_cell(start, p);
+    for _ in 0..STEPS {
+        match walk.step(hold) {
+            WalkTurn::Here(cell) => return Some(cell),
+            WalkTurn::Moved => {}
+            WalkTurn::Need(_) => return None,
+        }
+    }
+    None
+}
+
+// The cell that the new point takes away at the end of a walk from a cell at a point, if there is one.
+fn conflict_from(hold: &Hold, q: Point, p: Point) -> Option<Cell>
     requires all { AllInHand hold.now }
     requires shown { ShowsNew hold.now p }
     ensures { IfSome result (λ c. (s : List ℕ) → Shows hold.now s → IsNew s p → GoesFrom s p c) }
 {
-    let home = hold.grid().bucket_of(p);
-    let q = nearest(hold.bucket(home).points(), p)?;
-    conflict_at(hold, q, p)
+    let _ = hold.grid();
+    let start = hold.cells_around(q).next()?;
+    walked_to(hold, start, p)
 }
 
 // A cell that the new point takes away: the buckets are looked through in turn, from that of the point on and round.
@@ -65,15 +92,16 @@ fn conflict_in_turn(hold: &Hold, p: Point) -> Cell
 
 /// A cell that the new point takes away. Every bucket is to be in hand, and the hold to show a set for which the point is new.
 ///
-/// A new point takes away a cell at the nearest point of the set. That is mostly the nearest one of its bucket, whose cells are looked
-/// at first; then the buckets are looked through in turn.
+/// A walk finds it, from a cell at a point that lies near. Where there is none the buckets are looked through in turn.
 pub fn cell_in_conflict(hold: &Hold, p: Point) -> Cell
     requires all { AllInHand hold.now }
     requires shown { ShowsNew hold.now p }
     ensures { (s : List ℕ) → Shows hold.now s → IsNew s p → GoesFrom s p result }
 {
-    match conflict_near(hold, p) {
-        Some(cell) => cell,
-        None => conflict_in_turn(hold, p),
+    if let Some(q) = near_point(hold, p)
+        && let Some(cell) = conflict_from(hold, q, p)
+    {
+        return cell;
     }
+    conflict_in_turn(hold, p)
 }

@@ -1,6 +1,6 @@
 -- A step of a walk.
 use Rattle.std.specs.Prelude.{◌≡◌, ℕ, List, Option, None, Some}
-use Rattle.std.proofs.Common.{sym, subst, ◌∙◌}
+use Rattle.std.proofs.Common.{refl, sym, subst, ◌∙◌}
 use Rattle.point_order.specs.declared.cell.Cell.{Cell}
 use Rattle.point_order.specs.declared.cell.Facet.{Facet}
 use Rattle.point_order.specs.Facets.{facets_of}
@@ -40,6 +40,7 @@ moved hold s p c other f b st n on o held = record {
   facet = f;
   onward = on;
   other = o;
+  point = refl;
   walk = record { new = n; listed = o.listed; held = held_across hold s f other b st o.listed o.has held };
   nearer = nearer_towards s p c other f (solid_set hold s st).set n on.stays on.towards o;
   fewer = fewer_across hold s p c other f b st n on.stays on.towards o held;

@@ -51,6 +51,10 @@ ShowsSome hold = (s : List ℕ) × Shows hold s
 abbrev pub ShowsWalk : InHand → Walking → Type 0
 ShowsWalk hold w = (s : List ℕ) × Shows hold s × IsWalkIn hold s w
 
+-- in every set that the hold shows and for which p is new it is a walk
+abbrev pub WalksFor : InHand → ℕ → Walking → Type 0
+WalksFor hold p w = (s : List ℕ) → Shows hold s → IsNew s p → IsWalkIn hold s w
+
 -- each cell of the list is nearer than the one that stands before it, as on a walk
 abbrev pub ComesNearer : List ℕ → ℕ → List Cell → Type 0
 ComesNearer s p [] = Unit {0}

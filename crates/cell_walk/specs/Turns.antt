@@ -75,6 +75,7 @@ pub record HasMoved (hold : InHand) (s : List ℕ) (old new : Walking) : Type 0 
   pub onward : IsOnward s old facet
   pub other : IsOtherOf (complex s) old.cell facet new.cell
   pub walk : IsWalkIn hold s new
+  pub point : new.point ≡ old.point
   pub nearer : is_before (rank s old.point new.cell) (rank s old.point old.cell) ≡ true
   pub fewer : nearer_held s old.point hold.places new.cell < nearer_held s old.point hold.places old.cell
 

@@ -9,8 +9,20 @@ ghost use Rattle.cell_walk.specs.Paths.{ShowsSome};
 ghost use Rattle.cell_walk.specs.Turns.{HasNoCell, IsFirstMissing};
 
 use cell_store::Hold;
-use point_order::{Cell, Point};
+use point_order::{Cell, Point, Step};
 use std::cmp::Ordering;
+
+// How many points of a bucket are looked at for one that is near.
+const LOOKS: usize = 128;
+
+// The nearest of some points of the list, if it has any. It only makes the walk short, so nothing is promised.
+pub(crate) fn near_point(points: &[Point], p: Point) -> Option<Point> {
+    points
+        .iter()
+        .copied()
+        .step_by(points.len() / LOOKS + 1)
+        .min_by_key(|q| Step::between(p, *q).square())
+}
 
 // Whether the cell is Full, and the buckets of all its points are in hand.
 fn is_inside(hold: &Hold, cell: &Cell) -> bool

@@ -1,12 +1,13 @@
 //! Walks.
 
-ghost use Rattle.std.specs.Prelude.{◌≡◌, ◌&&◌, ◌||◌, ℕ, List, pos};
+ghost use Rattle.std.specs.Prelude.{◌≡◌, ◌&&◌, ◌||◌, ℕ, List, IsSome, IfSome, pos};
 ghost use Rattle.point_order.specs.Conflicts.{are_opposite as lie_opposite};
 ghost use Rattle.cell_store.specs.Shares.{Shows};
-ghost use Rattle.cell_walk.specs.Paths.{ShowsSome, ShowsWalk, IsWalkIn, facet_towards as towards};
+ghost use Rattle.cell_store.specs.Buckets.{bucket_at};
+ghost use Rattle.cell_walk.specs.Paths.{ShowsSome, ShowsWalk, IsWalkIn, WalksFor, facet_towards as towards};
 ghost use Rattle.cell_walk.specs.Turns.{StartGives, TurnGives};
 
-use crate::search::{first_missing, least_cell};
+use crate::search::{first_missing, least_cell, near_point};
 use cell_conflict::is_in_conflict;
 use cell_store::{Across, Hold};
 use exact_orient::orient;
@@ -105,6 +106,26 @@ impl Walk {
             return Start::At(Walk { point: p, cell });
         }
         Start::Need(first_missing(hold, p))
+    }
+
+    /// A walk to a new point from a cell at a point of the bucket with the number that lies near; none where the bucket shows no such
+    /// point. The bucket is to be in hand.
+    ///
+    /// Which points are looked at is not promised. It takes no memory.
+    pub fn near(hold: &Hold, b: u32, p: Point) -> Option<Walk>
+        requires { IsSome (bucket_at hold.now.places b) }
+        ensures point { IfSome result (λ w. w.point ≡ p) }
+        ensures walks { IfSome result (WalksFor hold.now p) }
+    {
+        let q = near_point(hold.bucket(b).points(), p)?;
+        if !hold.has(hold.grid().bucket_of(q)) {
+            return None;
+        }
+        let cell = hold.cells_around(q).next()?;
+        Some(Walk {
+            point: p,
+            cell: *cell,
+        })
     }
 
     /// Goes on by one cell, where the new point does not take away the cell in which the walk stands.

@@ -2,14 +2,14 @@
 
 ghost use Rattle.std.specs.Prelude.{◌≡◌, ◌*◌, ◌<◌, Some, IfOk};
 ghost use Rattle.cell_store.specs.Buckets.{bucket_at};
-ghost use Rattle.cell_store.specs.Shares.{Stands, share_at};
+ghost use Rattle.cell_store.specs.Shares.{ShowsWith, Stands, share_at};
 ghost use Rattle.cell_store.specs.Meshes.{StandsForSome};
 
-use crate::cells::put_cell;
+use crate::cells::{put_cell, put_number};
 use crate::meshes::mesh_of;
 use crate::reading::{list_at, points_of};
 use cell_store::{Across, Bucket, Grid, Hold, Mesh};
-use point_order::Point;
+use point_order::{Cell, Point};
 use std::alloc::{AllocError, Global};
 
 /// The answer to a case of a grid.
@@ -17,9 +17,13 @@ use std::alloc::{AllocError, Global};
 /// # Errors
 /// Want of memory.
 pub(crate) fn numbers(alloc: Global, grid: Grid, lists: &str) -> Result<String, AllocError> {
-    let mut text = format!(in alloc; "size {} count {} at", grid.size(), grid.count())?;
+    let mut text = String::from_str(alloc, "size")?;
+    put_number(&mut text, u64::from(grid.size()))?;
+    text.push_str(" count")?;
+    put_number(&mut text, u64::from(grid.count()))?;
+    text.push_str(" at")?;
     for p in &points_of(alloc, list_at(lists, 0))? {
-        write!(text, " {}", grid.bucket_of(*p))?;
+        put_number(&mut text, u64::from(grid.bucket_of(*p)))?;
     }
     Ok(text)
 }
@@ -51,8 +55,22 @@ fn count_of(bucket: &Bucket) -> u64 {
 fn put_across(text: &mut String, across: Across<'_>) -> Result<(), AllocError> {
     match across {
         Across::Cell(other) => put_cell(text, other),
-        Across::Need(b) => write!(text, " needs {b}"),
+        Across::Need(b) => {
+            text.push_str(" needs")?;
+            put_number(text, u64::from(b))
+        }
     }
+}
+
+// What lies across the facets of a cell.
+fn put_beyond(text: &mut String, hold: &Hold, cell: &Cell) -> Result<(), AllocError>
+    requires { ShowsWith hold.now cell.now }
+{
+    let [first, second, third, fourth] = cell.facets();
+    put_across(text, hold.across(cell, &first))?;
+    put_across(text, hold.across(cell, &second))?;
+    put_across(text, hold.across(cell, &third))?;
+    put_across(text, hold.across(cell, &fourth))
 }
 
 // What lies across the facets of the first cell at a point.
@@ -62,11 +80,7 @@ fn put_first(text: &mut String, hold: &Hold, p: Point) -> Result<(), AllocError>
     if hold.has(hold.grid().bucket_of(p)) {
         let mut star = hold.cells_at(p);
         if let Some(cell) = star.next() {
-            let [first, second, third, fourth] = cell.facets();
-            put_across(text, hold.across(cell, &first))?;
-            put_across(text, hold.across(cell, &second))?;
-            put_across(text, hold.across(cell, &third))?;
-            put_across(text, hold.across(cell, &fourth))?;
+            put_beyond(text, hold, cell)?;
         }
     }
     Ok(())
@@ -88,12 +102,12 @@ fn put_bucket(alloc: Global, text: &mut String, hold: &Hold, b: u32) -> Result<(
 {
     if hold.has(b) {
         let copy = hold.copy_of(alloc, b)?;
-        let counts = (copy.points().len(), count_of(&copy), copy.entries().len());
-        write!(
-            text,
-            "{} points {} cells {} entries",
-            counts.0, counts.1, counts.2
-        )?;
+        put_number(text, copy.points().len() as u64)?;
+        text.push_str(" points")?;
+        put_number(text, count_of(&copy))?;
+        text.push_str(" cells")?;
+        put_number(text, copy.entries().len() as u64)?;
+        text.push_str(" entries")?;
         for p in copy.points() {
             text.push_str("; at")?;
             put_star(text, hold, *p)?;

@@ -8,6 +8,11 @@ use one_mesh::{complex, points};
 use point_order::{Cell, Point};
 use std::alloc::{AllocError, Global};
 
+// A number, behind a space.
+pub(crate) fn put_number(text: &mut String, number: u64) -> Result<(), AllocError> {
+    write!(text, " {number}")
+}
+
 // A point, behind a space.
 pub(crate) fn put_point(text: &mut String, p: Point) -> Result<(), AllocError> {
     write!(text, " {},{},{}", p.x(), p.y(), p.z())

@@ -1,5 +1,6 @@
 //! The texts of edit files. In a case a bar stands for a line feed, and a tilde for a carriage return.
 
+use crate::cells::put_number;
 use crate::reading::list_at;
 use edit_files::{File, ReadRefused, Why, file_text, generate, read_file};
 use std::alloc::{AllocError, Global};
@@ -44,13 +45,14 @@ fn put_file(alloc: Global, text: &mut String, file: &File) -> Result<(), AllocEr
     for _ in file.lines() {
         lines = lines.saturating_add(1);
     }
-    write!(
-        text,
-        "{lines} lines {} points {} edits {} radii",
-        file.points.len(),
-        file.edits.len(),
-        file.radii.len()
-    )?;
+    put_number(text, lines)?;
+    text.push_str(" lines")?;
+    put_number(text, file.points.len() as u64)?;
+    text.push_str(" points")?;
+    put_number(text, file.edits.len() as u64)?;
+    text.push_str(" edits")?;
+    put_number(text, file.radii.len() as u64)?;
+    text.push_str(" radii")?;
     if lines < 100 {
         text.push_str(" in ")?;
         put_text(text, &file_text(alloc, file)?)?;
@@ -72,7 +74,12 @@ pub(crate) fn read(alloc: Global, times: u32, lists: &str) -> Result<String, All
     let mut text = String::new(alloc);
     match read_file(alloc, &bytes) {
         Ok(file) => put_file(alloc, &mut text, &file)?,
-        Err(ReadRefused::Bad(fault)) => write!(text, "line {}: {}", fault.line, name(fault.why))?,
+        Err(ReadRefused::Bad(fault)) => {
+            text.push_str("line")?;
+            put_number(&mut text, fault.line)?;
+            text.push_str(": ")?;
+            text.push_str(name(fault.why))?;
+        }
         Err(ReadRefused::Memory) => return Err(AllocError),
     }
     Ok(text)

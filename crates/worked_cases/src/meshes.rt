@@ -3,7 +3,7 @@
 ghost use Rattle.std.specs.Prelude.{◌≡◌, ◌<◌, ℕ, List, length, slice_index};
 ghost use Rattle.cell_store.specs.Shares.{Shows};
 
-use crate::cells::{put_cells, put_point};
+use crate::cells::{put_cells, put_number, put_point};
 use crate::reading::{edits_of, list_at, numbers_of, points_of};
 use cell_store::{Grid, Hold, Mesh};
 use edit_history::{Edit, PointSet, Reply, find_four};
@@ -20,11 +20,7 @@ fn line_at(points: &[Point], i: usize) -> (u32, Point)
 }
 
 // The mesh of the first four independent points, if there are four.
-fn mesh_of_four(
-    alloc: Global,
-    grid: Grid,
-    points: &[Point],
-) -> Result<Option<(Mesh, [usize; 4])>, AllocError> {
+fn mesh_of_four(alloc: Global, grid: Grid, points: &[Point]) -> Result<Option<Mesh>, AllocError> {
     match find_four(points) {
         Ok(four) => {
             let a = line_at(points, four[0]);
@@ -32,7 +28,7 @@ fn mesh_of_four(
             let c = line_at(points, four[2]);
             let d = line_at(points, four[3]);
             let mesh = begin(alloc, grid, [a, b, c, d])?;
-            Ok(Some((mesh, four)))
+            Ok(Some(mesh))
         }
         Err(_) => Ok(None),
     }
@@ -53,7 +49,10 @@ pub(crate) fn mesh_of(
     points: &[Point],
     edits: &[Edit],
 ) -> Result<Option<Mesh>, AllocError> {
-    let Some((mut mesh, four)) = mesh_of_four(alloc, grid, points)? else {
+    let Some(mut mesh) = mesh_of_four(alloc, grid, points)? else {
+        return Ok(None);
+    };
+    let Ok(four) = find_four(points) else {
         return Ok(None);
     };
     let mut tag: u32 = 0;
@@ -85,12 +84,14 @@ fn put_history(alloc: Global, text: &mut String, mesh: &Mesh) -> Result<(), Allo
     let mut set = PointSet::new(alloc);
     let mut replies = String::new(alloc);
     for entry in &history(alloc, mesh)? {
-        write!(text, "{}{} ", entry.tag, letter(entry.reply))?;
+        put_number(text, u64::from(entry.tag))?;
+        text.push(letter(entry.reply))?;
         let reply = set.reply_of(entry.edit);
         replies.push(letter(reply))?;
         set.after(entry.edit)?;
     }
-    write!(text, "by sets {}", replies.as_str())
+    text.push_str(" by sets ")?;
+    text.push_str(&replies)
 }
 
 /// The answer to a case of a mesh.

@@ -1,8 +1,13 @@
 //! What goes and what comes when a point is taken.
 
+ghost use Rattle.std.specs.Prelude.{◌≡◌, ℕ, true, List, IsSome};
+ghost use Rattle.point_order.specs.Sets.{IsIn};
+ghost use Rattle.cell_store.specs.Buckets.{bucket_at};
+ghost use Rattle.cell_store.specs.Grids.{bucket_of};
+ghost use Rattle.cell_store.specs.Shares.{Shows};
 ghost use Rattle.cell_walk.specs.Paths.{ShowsSome};
 
-use crate::cells::put_cells;
+use crate::cells::{put_cells, put_number};
 use crate::meshes::{keep_only, mesh_of};
 use crate::reading::{list_at, point_of, points_of};
 use cell_store::{Grid, Hold};
@@ -16,6 +21,14 @@ fn put_sorted(text: &mut String, points: &[Point], mut cells: Vec<Cell>) -> Resu
     put_cells(text, points, &cells)
 }
 
+// Whether the point's bucket is in hand, and the point is there.
+fn is_there(hold: &Hold, v: Point) -> bool
+    ensures held { result ≡ true → IsSome (bucket_at hold.now.places (bucket_of hold.now.grid v)) }
+    ensures there { result ≡ true → (s : List ℕ) → Shows hold.now s → IsIn v s }
+{
+    hold.has(hold.grid().bucket_of(v)) && hold.holds_point(v)
+}
+
 // What is answered for a point over the buckets in hand.
 fn put_turn(
     alloc: Global,
@@ -26,7 +39,7 @@ fn put_turn(
 ) -> Result<(), AllocError>
     requires { ShowsSome hold.now }
 {
-    if !hold.has(hold.grid().bucket_of(v)) || !hold.holds_point(v) {
+    if !is_there(hold, v) {
         return text.push_str("no point in hand");
     }
     let mut refill = Refill::start(alloc, v)?;
@@ -38,7 +51,10 @@ fn put_turn(
             put_sorted(text, points, change.fresh)
         }
         RefillTurn::Flat => text.push_str("flat"),
-        RefillTurn::Need(b) => write!(text, "needs {b}"),
+        RefillTurn::Need(b) => {
+            text.push_str("needs")?;
+            put_number(text, u64::from(b))
+        }
     }
 }
 
