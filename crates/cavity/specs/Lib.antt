@@ -5,4 +5,3 @@ pub mod Exploring
 pub mod Opening
 pub mod Growing
 pub mod Lists
-pub mod Walking

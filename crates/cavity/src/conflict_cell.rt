@@ -1,57 +1,48 @@
 //! A first cell in conflict, by a walk from a point that lies near.
 
-ghost use Rattle.std.specs.Prelude.{List, MatchOption, IsSome, IfSome, ℕ};
+ghost use Rattle.std.specs.Prelude.{◌≡◌, List, MatchOption, IsSome, IfSome, ℕ};
 ghost use Rattle.point_order.specs.Sets.{IsIn};
 ghost use Rattle.hole_laws.specs.Edits.{IsNew, GoesFrom};
 ghost use Rattle.cell_store.specs.Buckets.{bucket_at, cells_in};
 ghost use Rattle.cell_store.specs.Shares.{Shows};
 ghost use Rattle.cell_store.specs.Meshes.{AllInHand};
 ghost use Rattle.cell_conflict.specs.Searching.{ShowsNew, NoneGoes};
-ghost use Rattle.cavity.specs.Walking.{WalksFrom};
+ghost use Rattle.cell_walk.specs.Paths.{WalksFor};
 
 use cell_conflict::conflict_among;
 use cell_store::Hold;
 use cell_walk::{Walk, WalkTurn};
-use point_order::{Cell, Point, Step};
-
-// How many points of a bucket are looked at for one that is near.
-const LOOKS: usize = 128;
+use point_order::{Cell, Point};
 
 // After how many steps a walk is given up, and the buckets are looked through. No cell is met twice, so it ends before on every mesh
 // that memory can hold.
 const STEPS: u64 = 1 << 40;
 
-// The nearest of some points of the list, if it has any. It only makes the walk short, so nothing is promised.
-fn near(points: &[Point], p: Point) -> Option<Point> {
-    points
-        .iter()
-        .copied()
-        .step_by(points.len() / LOOKS + 1)
-        .min_by_key(|q| Step::between(p, *q).square())
-}
-
-// A point near p: of the first bucket that has any, from that of p on and round.
-fn near_point(hold: &Hold, p: Point) -> Option<Point>
+// A walk to p from a point that lies near: of the first bucket that has any, from that of p on and round.
+fn near_walk(hold: &Hold, p: Point) -> Option<Walk>
     requires all { AllInHand hold.now }
+    ensures point { IfSome result (λ w. w.point ≡ p) }
+    ensures walks { IfSome result (WalksFor hold.now p) }
 {
     let grid = hold.grid();
     let count = grid.count();
     let first = grid.bucket_of(p);
     for step in 0..count {
-        if let Some(q) = near(hold.bucket((first + step) % count).points(), p) {
-            return Some(q);
+        if let Some(walk) = Walk::near(hold, (first + step) % count, p) {
+            return Some(walk);
         }
     }
     None
 }
 
-// The cell that the new point takes away at the end of a walk from a cell, if it comes to an end.
-fn walked_to(hold: &Hold, start: &Cell, p: Point) -> Option<Cell>
+// The cell that the new point takes away at the end of a walk, if it comes to an end.
+fn walked(hold: &Hold, start: Walk, p: Point) -> Option<Cell>
     requires shown { ShowsNew hold.now p }
-    requires walks { WalksFrom hold.now p start.now }
+    requires point { start.point ≡ p }
+    requires walks { WalksFor hold.now p start }
     ensures { IfSome result (λ c. (s : List ℕ) → Shows hold.now s → IsNew s p → GoesFrom s p c) }
 {
-    let mut walk = Walk::from_cell(start, p);
+    let mut walk = start;
     for _ in 0..STEPS {
         match walk.step(hold) {
             WalkTurn::Here(cell) => return Some(cell),
@@ -60,17 +51,6 @@ fn walked_to(hold: &Hold, start: &Cell, p: Point) -> Option<Cell>
         }
     }
     None
-}
-
-// The cell that the new point takes away at the end of a walk from a cell at a point, if there is one.
-fn conflict_from(hold: &Hold, q: Point, p: Point) -> Option<Cell>
-    requires all { AllInHand hold.now }
-    requires shown { ShowsNew hold.now p }
-    ensures { IfSome result (λ c. (s : List ℕ) → Shows hold.now s → IsNew s p → GoesFrom s p c) }
-{
-    let _ = hold.grid();
-    let start = hold.cells_around(q).next()?;
-    walked_to(hold, start, p)
 }
 
 // A cell that the new point takes away: the buckets are looked through in turn, from that of the point on and round.
@@ -98,8 +78,8 @@ pub fn cell_in_conflict(hold: &Hold, p: Point) -> Cell
     requires shown { ShowsNew hold.now p }
     ensures { (s : List ℕ) → Shows hold.now s → IsNew s p → GoesFrom s p result }
 {
-    if let Some(q) = near_point(hold, p)
-        && let Some(cell) = conflict_from(hold, q, p)
+    if let Some(walk) = near_walk(hold, p)
+        && let Some(cell) = walked(hold, walk, p)
     {
         return cell;
     }
