@@ -1,0 +1,4 @@
+pub mod Counts
+pub mod Halves
+pub mod Marks
+pub mod Partly
