@@ -1,0 +1,8 @@
+//! Workers: the lines of a file are dealt to them by their points, and each makes its own on one table.
+#![tactic(auto)]
+
+mod dealing;
+mod lists;
+
+pub use dealing::deal;
+pub use lists::{Left, List, Lists};
