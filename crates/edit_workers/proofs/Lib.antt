@@ -1,1 +1,3 @@
 pub mod Deals
+pub mod FirstOnes
+pub mod Worked

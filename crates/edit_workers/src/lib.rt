@@ -3,6 +3,8 @@
 
 mod dealing;
 mod lists;
+mod working;
 
 pub use dealing::deal;
 pub use lists::{Left, List, Lists};
+pub use working::work;
