@@ -37,14 +37,15 @@ pub record AreEntriesOf (old : Standing) (pairs : List Pair) (entries : List Ent
   pub ascending : AllPairs (λ d e. d.number < e.number) entries
   pub later : All (λ e. old.seen ≤ e.number) entries
 
--- The pass made these entries, took these steps, and saw what it saw.
+-- The pass made these entries, took these steps, and saw what it saw; else it is as before.
 pub record HasMade (old new : Standing) (entries : List Entry) (steps : List Act) : Type 0 where
   pub new_is : new ≡ record old { left = old.left - length entries; seen = new.seen; made = old.made ++ entries; trail = old.trail ++ steps }
   pub later : old.seen ≤ new.seen
   pub seen_all : All (λ e. e.number < new.seen) entries
 
--- The work is done: each pair of the list was made or is left over, once; what follows one left over of its point is left over; and for each that
--- is the first one left over of its point, 64 claims failed. A pass that owns all parts leaves nothing over.
+-- The work is done: each pair of the list was made or is left over, once; what follows one left over of its point is
+-- left over; and for each that is the first one left over of its point 64 claims failed. A pass that owns all parts
+-- leaves nothing over.
 pub record IsWorked (list left : List Pair) (old new : Standing) : Type 0 where
   pub marked : List Marked
   pub parted : map (λ x. x.1) marked ≡ list
