@@ -1,0 +1,263 @@
+-- Lists that the parts of a pass do, and a pass that is split, worked with and joined.
+use Rattle.std.specs.Prelude.{◌≡◌, ℕ, ◌+◌, ◌-◌, ◌<◌, ◌≤◌, Bool, true, false, not, cond, List, [], ◌∷◌, ◌++◌, map, length, All, IsPermutation}
+use Rattle.std.specs.List.{filter}
+use Rattle.std.proofs.Common.{refl, sym, ◌∙◌, ap, ap₂, subst, inl, inr, arith, get_or, length-append}
+use Rattle.std.proofs.lemmas.List.{append-nil, map-append, length-map}
+use Rattle.std.proofs.lemmas.List.Sorted.{IsPermutation-sym}
+use Rattle.point_order.specs.Sets.{IsIn}
+use Rattle.edit_history.specs.declared.history.Entry.{Entry}
+use Rattle.edit_history.specs.Edits.{point_of}
+use Rattle.edit_history.specs.OneThread.{line_of}
+use Rattle.edit_history.proofs.Lines.{in-append}
+use Rattle.cell_store.specs.Meshes.{by_number}
+use Rattle.cell_store.proofs.MeshLaws.{sorted_moves}
+use Rattle.grid_claims.specs.Passes.{Opened, Standing}
+use Rattle.grid_claims.specs.Lists.{entries_by}
+use Rattle.grid_claims.specs.Tries.{opening_pass, IsSplit, joined}
+use Rattle.plain_laws.specs.Running.{Pair}
+use Rattle.plain_laws.proofs.Members.{in-map, in-permutation, all-in, in-all, EachLater, later-pairs, pairs-later, later-weaken, later-unmap}
+use Rattle.edit_workers.specs.Dealing.{AreAscending, AreApart, count_of}
+use Rattle.edit_workers.specs.Working.{Marked, left_over, done, IsWorked}
+use Rattle.edit_workers.specs.declared.lists.List as lists
+use Rattle.edit_workers.specs.Running.{pairs_in, CanRun, ArePartly, AreWorked, AreRunBut}
+use Rattle.edit_workers.proofs.Marks.{in-order, both-later, marks-part, Below, done-tags, left-tags, done-first}
+use Rattle.edit_workers.proofs.Partly.{count-both, all-low, all-high, apart-low, apart-high, partly-both, InTags}
+
+-- ---- one list
+
+-- where nothing is left over all is done
+none-left : (l : List Marked) → left_over l ≡ [] → done l ≡ map (λ x. x.1) l
+none-left [] e = refl
+none-left (x ∷ l) e = by x.0 (none-left l) e
+  where
+    by : (b : Bool) → (left_over l ≡ [] → done l ≡ map (λ x. x.1) l) → map (λ (x : Marked). x.1) (cond b (x ∷ filter (λ x. x.0) l) (filter (λ x. x.0) l)) ≡ []
+        → map (λ (x : Marked). x.1) (cond (not b) (x ∷ filter (λ x. not x.0) l) (filter (λ x. not x.0) l)) ≡ x.1 ∷ map (λ (x : Marked). x.1) l
+    by true h e = absurd (omega (arith, ap length e))
+    by false h e = ap (λ (t : List Pair). x.1 ∷ t) (h e)
+
+first-list : List (List Pair) → List Pair
+first-list [] = []
+first-list (l ∷ ls) = l
+
+only-list : (l m : List Pair) → l ∷ [] ≡ m ∷ [] → l ≡ m
+unfolding first-list
+only-list l m e = ap first-list e
+
+module _ (list left : List Pair) (old new : Standing) (tags : AreAscending list) (fresh : old.made ≡ []) (one : old.parts ≡ 1) (w : IsWorked list left old new) where
+  abbrev marked : List Marked
+  marked = w.marked
+
+  abbrev es : List Entry
+  es = w.entries
+
+  made-is : new.made ≡ es
+  made-is = ap (λ (s : Standing). s.made) w.pass.new_is ∙ ap (λ (l : List Entry). l ++ es) fresh
+
+  ascending : EachLater Below (map (λ x. x.1) marked)
+  ascending = subst (EachLater Below) (sym w.parted) (pairs-later Below list tags)
+
+  lines : IsPermutation (list ++ []) (map line_of es ++ left)
+  lines =
+      subst (λ (l : List Pair). IsPermutation l (map line_of es ++ left)) (w.parted ∙ sym (append-nil list))
+      (subst (IsPermutation (map (λ (x : Marked). x.1) marked)) (ap₂ (λ (a b : List Pair). a ++ b) (sym w.made.pairs_are) (sym w.left_is)) (marks-part marked))
+
+  abbrev Climbs : Entry → Entry → Type 0
+  Climbs d e = d.number < e.number × d.tag < e.tag
+
+  climbs : EachLater Climbs es
+  climbs =
+      both-later (λ (d e : Entry). d.number < e.number) (λ (d e : Entry). d.tag < e.tag) es (pairs-later (λ (d e : Entry). d.number < e.number) es w.made.ascending)
+      (later-unmap line_of Below es (subst (EachLater Below) (sym w.made.pairs_are) (done-tags marked ascending)))
+
+  order : (d e : Entry) → IsIn d es → IsIn e es → point_of d.edit ≡ point_of e.edit → d.number < e.number → d.tag < e.tag
+  order d e i j same n =
+      elim (in-order Climbs es d e climbs i j) [
+        | inl q ↦ let m : d.number ≡ e.number = ap (λ (e : Entry). e.number) q in absurd (omega (arith, m, n))
+        | inr (inl r) ↦ r.1
+        | inr (inr r) ↦ let m = r.0 in absurd (omega (arith, m, n))
+      ]
+
+  behind : (d : Entry) (p : Pair) → IsIn d es → IsIn p left → point_of d.edit ≡ point_of p.1 → d.tag < p.0
+  behind d p i j same =
+      done-first marked ascending (pairs-later (λ (x y : Marked). x.0 ≡ true → point_of x.1.1 ≡ point_of y.1.1 → y.0 ≡ true) marked w.later)
+      (line_of d) p (subst (IsIn (line_of d)) w.made.pairs_are (in-map line_of es d i)) (subst (IsIn p) w.left_is j) same
+
+  partly : ArePartly (list ∷ []) left es
+  partly = record {
+    lines = lines;
+    order = order;
+    behind = behind;
+    later = later-pairs InTags left (later-weaken Below InTags left (λ p q i j l same. l) (subst (EachLater Below) (sym w.left_is) (left-tags marked ascending)));
+  }
+
+  pub worked-one : AreWorked (list ∷ []) left old new
+  worked-one = record {
+    still = (ap (λ (s : Standing). s.table) w.pass.new_is, ap (λ (s : Standing). s.first) w.pass.new_is, ap (λ (s : Standing). s.parts) w.pass.new_is);
+    partly = subst (ArePartly (list ∷ []) left) (sym made-is) partly;
+    workers =
+        subst (All (λ (e : Entry). (old.first ≤ e.by) × (e.by < old.first + old.parts))) (sym made-is)
+        (in-all (λ (e : Entry). (old.first ≤ e.by) × (e.by < old.first + old.parts)) es (λ e i. let b = all-in (λ (e : Entry). e.by ≡ old.first) es w.made.by_pass e i in (omega (arith, b), omega (arith, b, one))));
+    alone = λ l e zero all.
+        let none : left ≡ [] = w.alone zero all in
+        (none, ap (map line_of) made-is ∙ w.made.pairs_are ∙ none-left marked (sym w.left_is ∙ none) ∙ w.parted ∙ only-list list l e);
+  }
+
+-- a slice of one list
+one-of : {X : Type 0} (xs : List X) (x : X) → length xs ≡ 1 → x ≡ get_or xs 0 x → xs ≡ x ∷ []
+one-of [] x l e = absurd (omega (arith, l))
+one-of {X} (y ∷ []) x l e = ap (λ (z : X). z ∷ []) (sym e)
+one-of (y ∷ z ∷ xs) x l e = absurd (omega (arith, l))
+
+pub slice-worked : (ls : List lists.List) (x : lists.List) (left : List Pair) (table : Opened) (old new : Standing) → length ls ≡ 1 → x ≡ get_or ls 0 x → CanRun table (pairs_in ls) old → IsWorked x.pairs.items left old new → AreWorked (pairs_in ls) left old new
+slice-worked ls x left table old new l e can w =
+    let f : pairs_in ls ≡ x.pairs.items ∷ [] = ap pairs_in (one-of ls x l e) in
+    let g : CanRun table (x.pairs.items ∷ []) old = subst (λ (t : List (List Pair)). CanRun table t old) f can in
+    subst (λ (t : List (List Pair)). AreWorked t left old new) (sym f) (worked-one x.pairs.items left old new (g.tags 0 x.pairs.items (omega arith)) g.fresh g.parts w)
+
+pub slice-allowance : (ls : List lists.List) (x : lists.List) (table : Opened) (old : Standing) → length ls ≡ 1 → x ≡ get_or ls 0 x → CanRun table (pairs_in ls) old → length x.pairs.items ≤ old.left
+slice-allowance ls x table old l e can =
+    let f : pairs_in ls ≡ x.pairs.items ∷ [] = ap pairs_in (one-of ls x l e) in
+    let g : CanRun table (x.pairs.items ∷ []) old = subst (λ (t : List (List Pair)). CanRun table t old) f can in
+    let h = g.left in
+    omega (arith, h, length-append x.pairs.items [])
+
+-- ---- two halves
+
+no-entries : (first parts : ℕ) (l : List Entry) → l ≡ [] → entries_by first parts l ≡ []
+unfolding entries_by
+no-entries first parts l e = ap (entries_by first parts) e
+
+module _ (lows highs : List (List Pair)) (old mid other : Standing) (some-low : 0 < length lows) (some-high : 0 < length highs) (split : IsSplit (length highs) (count_of highs) old mid other) where
+  module _ (table : Opened) (can : CanRun table (lows ++ highs) old) where
+    pub can-low : CanRun table lows mid
+    can-low = record {
+      some = some-low;
+      short = let s = can.short in omega (arith, s, length-append lows highs);
+      table_is = ap (λ (s : Standing). s.table) split.new_is ∙ can.table_is;
+      parts = let e : mid.parts ≡ old.parts - length highs = ap (λ (s : Standing). s.parts) split.new_is in let f = can.parts in omega (arith, e, f, length-append lows highs);
+      left = let e : mid.left ≡ old.left - count_of highs = ap (λ (s : Standing). s.left) split.new_is in let f = can.left in let g = count-both lows highs in omega (arith, e, f, g);
+      few = let e : mid.left ≡ old.left - count_of highs = ap (λ (s : Standing). s.left) split.new_is in let f = can.few in omega (arith, e, f);
+      fresh = ap (λ (s : Standing). s.made) split.new_is ∙ no-entries old.first (old.parts - length highs) old.made can.fresh;
+      tags = all-low AreAscending lows highs can.tags;
+      apart = apart-low lows highs can.apart;
+    }
+
+    pub can-high : CanRun table highs other
+    can-high = record {
+      some = some-high;
+      short = let s = can.short in omega (arith, s, length-append lows highs);
+      table_is = ap (λ (s : Standing). s.table) split.other_is ∙ can.table_is;
+      parts = ap (λ (s : Standing). s.parts) split.other_is;
+      left = let e : other.left ≡ count_of highs = ap (λ (s : Standing). s.left) split.other_is in omega (arith, e);
+      few = let e : other.left ≡ count_of highs = ap (λ (s : Standing). s.left) split.other_is in let f = can.left in let g = can.few in omega (arith, e, f, g, count-both lows highs);
+      fresh = ap (λ (s : Standing). s.made) split.other_is ∙ no-entries (old.first + (old.parts - length highs)) (length highs) old.made can.fresh;
+      tags = all-high AreAscending lows highs can.tags;
+      apart = apart-high lows highs can.apart;
+    }
+
+  module _ (a b : List Pair) (p q : Standing) (fits : length highs < old.parts) (apart : AreApart (lows ++ highs)) (low : AreWorked lows a mid p) (high : AreWorked highs b other q) where
+    first-p : p.first ≡ old.first
+    first-p = low.still.1 ∙ ap (λ (s : Standing). s.first) split.new_is
+
+    parts-p : p.parts ≡ old.parts - length highs
+    parts-p = low.still.2 ∙ ap (λ (s : Standing). s.parts) split.new_is
+
+    parts-q : q.parts ≡ length highs
+    parts-q = high.still.2 ∙ ap (λ (s : Standing). s.parts) split.other_is
+
+    pub table-low : p.table ≡ old.table
+    table-low = low.still.0 ∙ ap (λ (s : Standing). s.table) split.new_is
+
+    pub table-high : q.table ≡ old.table
+    table-high = high.still.0 ∙ ap (λ (s : Standing). s.table) split.other_is
+
+    pub next : q.first ≡ p.first + p.parts
+    next = high.still.1 ∙ ap (λ (s : Standing). s.first) split.other_is ∙ ap₂ (λ (m n : ℕ). m + n) (sym first-p) (sym parts-p)
+
+    abbrev IsOurs : Entry → Type 0
+    IsOurs e = (old.first ≤ e.by) × (e.by < old.first + old.parts)
+
+    ours : (e : Entry) → IsIn e (by_number (p.made ++ q.made)) → IsOurs e
+    ours e i =
+        elim (in-append p.made q.made e (in-permutation (by_number (p.made ++ q.made)) (p.made ++ q.made) e (IsPermutation-sym (p.made ++ q.made) (by_number (p.made ++ q.made)) (sorted_moves (p.made ++ q.made))) i)) [
+          | inl j ↦
+              let b = all-in (λ (e : Entry). (mid.first ≤ e.by) × (e.by < mid.first + mid.parts)) p.made low.workers e j in
+              let f : mid.first ≡ old.first = ap (λ (s : Standing). s.first) split.new_is in
+              let g : mid.parts ≡ old.parts - length highs = ap (λ (s : Standing). s.parts) split.new_is in
+              let l = b.0 in
+              let m = b.1 in
+              (omega (arith, l, f), omega (arith, m, f, g, fits))
+          | inr j ↦
+              let b = all-in (λ (e : Entry). (other.first ≤ e.by) × (e.by < other.first + other.parts)) q.made high.workers e j in
+              let f : other.first ≡ old.first + (old.parts - length highs) = ap (λ (s : Standing). s.first) split.other_is in
+              let g : other.parts ≡ length highs = ap (λ (s : Standing). s.parts) split.other_is in
+              let l = b.0 in
+              let m = b.1 in
+              (omega (arith, l, f), omega (arith, m, f, g, fits))
+        ]
+
+    pub worked-both : AreWorked (lows ++ highs) (a ++ b) old (joined p q)
+    worked-both = record {
+      still = (table-low, first-p, omega (arith, parts-p, parts-q, fits));
+      partly = partly-both lows highs a b p.made q.made (by_number (p.made ++ q.made)) apart low.partly high.partly (sorted_moves (p.made ++ q.made));
+      workers = in-all IsOurs (by_number (p.made ++ q.made)) ours;
+      alone = λ l e zero all. let n : length (lows ++ highs) ≡ 1 = ap length e in absurd (omega (arith, n, length-append lows highs, some-low, some-high));
+    }
+
+-- ---- halves of a slice
+
+module _ (ls lows highs : List lists.List) (parts allowance : ℕ) (table : Opened) (old mid other : Standing) (cut : ls ≡ lows ++ highs) (many : parts ≡ length highs) (all : allowance ≡ count_of (pairs_in highs))
+    (some-low : 0 < length lows) (some-high : 0 < length highs) (can : CanRun table (pairs_in ls) old) (split : IsSplit parts allowance old mid other) where
+  pairs-cut : pairs_in ls ≡ pairs_in lows ++ pairs_in highs
+  pairs-cut = ap pairs_in cut ∙ map-append (λ (l : lists.List). l.pairs.items) lows highs
+
+  some-low' : 0 < length (pairs_in lows)
+  some-low' = omega (arith, length-map lows (λ (l : lists.List). l.pairs.items), some-low)
+
+  some-high' : 0 < length (pairs_in highs)
+  some-high' = omega (arith, length-map highs (λ (l : lists.List). l.pairs.items), some-high)
+
+  parts-are : parts ≡ length (pairs_in highs)
+  parts-are = many ∙ sym (length-map highs (λ (l : lists.List). l.pairs.items))
+
+  can-cut : CanRun table (pairs_in lows ++ pairs_in highs) old
+  can-cut = subst (λ (l : List (List Pair)). CanRun table l old) pairs-cut can
+
+  split-cut : IsSplit (length (pairs_in highs)) (count_of (pairs_in highs)) old mid other
+  split-cut = subst (λ (n : ℕ). IsSplit n (count_of (pairs_in highs)) old mid other) parts-are (subst (λ (n : ℕ). IsSplit parts n old mid other) all split)
+
+  pub slice-low : CanRun table (pairs_in lows) mid
+  slice-low = can-low (pairs_in lows) (pairs_in highs) old mid other some-low' some-high' split-cut table can-cut
+
+  pub slice-high : CanRun table (pairs_in highs) other
+  slice-high = can-high (pairs_in lows) (pairs_in highs) old mid other some-low' some-high' split-cut table can-cut
+
+  module _ (a b : List Pair) (p q : Standing) (low : AreWorked (pairs_in lows) a mid p) (high : AreWorked (pairs_in highs) b other q) where
+    fits : length (pairs_in highs) < old.parts
+    fits = let e = can-cut.parts in omega (arith, e, length-append (pairs_in lows) (pairs_in highs), some-low')
+
+    pub slice-tables : (p.table ≡ table) × (q.table ≡ table) × (q.first ≡ p.first + p.parts)
+    slice-tables = (
+      table-low (pairs_in lows) (pairs_in highs) old mid other some-low' some-high' split-cut a b p q fits can-cut.apart low high ∙ can-cut.table_is,
+      table-high (pairs_in lows) (pairs_in highs) old mid other some-low' some-high' split-cut a b p q fits can-cut.apart low high ∙ can-cut.table_is,
+      next (pairs_in lows) (pairs_in highs) old mid other some-low' some-high' split-cut a b p q fits can-cut.apart low high,
+    )
+
+    pub slice-both : AreWorked (pairs_in ls) (a ++ b) old (joined p q)
+    slice-both = subst (λ (l : List (List Pair)). AreWorked l (a ++ b) old (joined p q)) (sym pairs-cut) (worked-both (pairs_in lows) (pairs_in highs) old mid other some-low' some-high' split-cut a b p q fits can-cut.apart low high)
+
+-- ---- all lists
+
+pub all-worked : (lists : List (List Pair)) (left : List Pair) (t : Opened) (allowance : ℕ) (new : Standing) → t.parts ≡ length lists → AreWorked lists left (opening_pass t allowance) new → AreRunBut lists left t.opening (t.opening ++ new.made)
+all-worked lists left t allowance new parts w = record {
+  more = new.made;
+  history = refl;
+  partly = w.partly;
+  workers = in-all (λ (e : Entry). e.by < length lists) new.made (λ e i. let b = all-in (λ (e : Entry). (0 ≤ e.by) × (e.by < 0 + t.parts)) new.made w.workers e i in let m = b.1 in omega (arith, m, parts));
+  alone = λ l e. w.alone l e refl refl;
+}
+
+pub mesh-run : (lists : List (List Pair)) (left : List Pair) (t : Opened) (allowance : ℕ) (old new : Standing) (h k : List Entry) → old ≡ opening_pass t allowance → t.parts ≡ length lists → t.opening ≡ h → AreWorked lists left old new → k ≡ t.opening ++ new.made → AreRunBut lists left h k
+mesh-run lists left t allowance old new h k e parts f w g =
+    subst (λ (l : List Entry). AreRunBut lists left l k) f
+    (subst (AreRunBut lists left t.opening) (sym g) (all-worked lists left t allowance new parts (subst (λ (s : Standing). AreWorked lists left s new) e w)))

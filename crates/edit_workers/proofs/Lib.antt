@@ -1,0 +1,7 @@
+pub mod Counts
+pub mod Deals
+pub mod FirstOnes
+pub mod Halves
+pub mod Marks
+pub mod Partly
+pub mod Worked

@@ -1,0 +1,236 @@
+-- Lists that were done in parts.
+use Rattle.std.specs.Prelude.{◌≡◌, ◌≢◌, ℕ, ◌+◌, ◌<◌, ◌≤◌, Bool, false, ◌&&◌, ◌==◌, List, [], ◌∷◌, ◌++◌, map, length, All, AllPairs, IsPermutation}
+use Rattle.std.specs.List.{flat_map}
+use Rattle.std.specs.List.Sorted.{IsNonDecreasingBy}
+use Rattle.std.proofs.Common.{refl, sym, ◌∙◌, ap, subst, inl, inr, arith, get_or, length-append}
+use Rattle.std.proofs.lemmas.Bool.Decides.{nat_tests}
+use Rattle.std.proofs.lemmas.Grind.{flat_map-append}
+use Rattle.std.proofs.lemmas.List.{map-append, append_assoc, append-nil, length-map}
+use Rattle.std.proofs.lemmas.List.Sorted.{IsPermutation-sym, IsPermutation-trans, IsPermutation-map, IsPermutation-append, IsPermutation-append_left, IsPermutation-append_right, IsPermutation-append_comm, length_permutation}
+use Rattle.std.proofs.lemmas.Map.Keys.{IsDistinct-from_apart, IsDistinct-IsPermutation, apart_from_distinct}
+use Rattle.point_order.specs.Sets.{IsIn}
+use Rattle.edit_history.specs.declared.history.Entry.{Entry}
+use Rattle.edit_history.specs.Edits.{point_of, after}
+use Rattle.edit_history.specs.Histories.{IsLegalFrom, IsLegal}
+use Rattle.edit_history.specs.OneThread.{line_of}
+use Rattle.edit_history.proofs.Lines.{in-append}
+use Rattle.plain_laws.specs.Running.{Pair}
+use Rattle.plain_laws.proofs.Members.{in-left, in-right, in-map, in-permutation, all-in, in-all, EachLater, later-pairs, pairs-later, later-append, later-across, later-left, later-right, later-weaken, later-unmap}
+use Rattle.edit_workers.specs.Dealing.{HaveNoPoint, AreApart, count_of}
+use Rattle.edit_workers.specs.Running.{AreRun, ArePartly, AreRunBut, AreApplied, AreByTag}
+use Rattle.edit_workers.proofs.Marks.{in-flat}
+
+-- ---- two parts of the lists
+
+pub count-both : (low high : List (List Pair)) → count_of (low ++ high) ≡ count_of low + count_of high
+count-both low high = ap length (flat_map-append (λ (l : List Pair). l) low high) ∙ length-append (flat_map (λ l. l) low) (flat_map (λ l. l) high)
+
+pub all-low : {X : Type 0} (P : X → Type 0) (low high : List X) → All P (low ++ high) → All P low
+all-low {X} P low high h = in-all P low (λ (x : X) i. all-in P (low ++ high) h x (in-left low high x i))
+
+pub all-high : {X : Type 0} (P : X → Type 0) (low high : List X) → All P (low ++ high) → All P high
+all-high {X} P low high h = in-all P high (λ (x : X) i. all-in P (low ++ high) h x (in-right low high x i))
+
+module _ (low high : List (List Pair)) (apart : AreApart (low ++ high)) where
+  later : EachLater HaveNoPoint (low ++ high)
+  later = pairs-later HaveNoPoint (low ++ high) apart
+
+  pub apart-low : AreApart low
+  apart-low = later-pairs HaveNoPoint low (later-left HaveNoPoint low high later)
+
+  pub apart-high : AreApart high
+  apart-high = later-pairs HaveNoPoint high (later-right HaveNoPoint low high later)
+
+  pub apart-across : (p q : Pair) → IsIn p (flat_map (λ l. l) low) → IsIn q (flat_map (λ l. l) high) → point_of p.1 ≢ point_of q.1
+  apart-across p q i j =
+      let l = in-flat low p i in
+      let m = in-flat high q j in
+      later-across HaveNoPoint low high later l.0 m.0 l.1 m.1 p q l.2 m.2
+
+-- exchanged in the middle
+exchanged : {X : Type 0} (a b c d : List X) → IsPermutation ((a ++ b) ++ (c ++ d)) ((a ++ c) ++ (b ++ d))
+exchanged {X} a b c d =
+    let e : (a ++ b) ++ (c ++ d) ≡ a ++ ((b ++ c) ++ d) = append_assoc a b (c ++ d) ∙ ap (λ (l : List X). a ++ l) (sym (append_assoc b c d)) in
+    let f : a ++ ((c ++ b) ++ d) ≡ (a ++ c) ++ (b ++ d) = ap (λ (l : List X). a ++ l) (append_assoc c b d) ∙ sym (append_assoc a c (b ++ d)) in
+    subst (λ (l : List X). IsPermutation l ((a ++ c) ++ (b ++ d))) (sym e)
+    (subst (IsPermutation (a ++ ((b ++ c) ++ d))) f (IsPermutation-append_right a ((b ++ c) ++ d) ((c ++ b) ++ d) (IsPermutation-append_left d (b ++ c) (c ++ b) (IsPermutation-append_comm b c))))
+
+module _ (lists : List (List Pair)) (left : List Pair) (entries : List Entry) (part : ArePartly lists left entries) where
+  -- what was made or left over is of the lists
+  pub made-in : (d : Entry) → IsIn d entries → IsIn (line_of d) (flat_map (λ l. l) lists)
+  made-in d i = in-permutation (map line_of entries ++ left) (flat_map (λ l. l) lists) (line_of d) (IsPermutation-sym (flat_map (λ l. l) lists) (map line_of entries ++ left) part.lines) (in-left (map line_of entries) left (line_of d) (in-map line_of entries d i))
+
+  pub left-in : (p : Pair) → IsIn p left → IsIn p (flat_map (λ l. l) lists)
+  left-in p i = in-permutation (map line_of entries ++ left) (flat_map (λ l. l) lists) p (IsPermutation-sym (flat_map (λ l. l) lists) (map line_of entries ++ left) part.lines) (in-right (map line_of entries) left p i)
+
+module _ (low high : List (List Pair)) (a b : List Pair) (es fs made : List Entry) (apart : AreApart (low ++ high)) (first : ArePartly low a es) (second : ArePartly high b fs) (moved : IsPermutation (es ++ fs) made) where
+  from-made : (d : Entry) → IsIn d made → IsIn d (es ++ fs)
+  from-made d i = in-permutation made (es ++ fs) d (IsPermutation-sym (es ++ fs) made moved) i
+
+  never : (p q : Pair) → IsIn p (flat_map (λ l. l) low) → IsIn q (flat_map (λ l. l) high) → point_of p.1 ≡ point_of q.1 → ⊥
+  never p q i j e = apart-across low high apart p q i j e
+
+  lines : IsPermutation (flat_map (λ l. l) (low ++ high)) (map line_of made ++ (a ++ b))
+  lines =
+      let e = flat_map-append (λ (l : List Pair). l) low high in
+      let both = IsPermutation-append (flat_map (λ l. l) low) (map line_of es ++ a) (flat_map (λ l. l) high) (map line_of fs ++ b) first.lines second.lines in
+      let middle = exchanged (map line_of es) a (map line_of fs) b in
+      let kept = IsPermutation-append_left (a ++ b) (map line_of es ++ map line_of fs) (map line_of made) (subst (λ (l : List Pair). IsPermutation l (map line_of made)) (map-append line_of es fs) (IsPermutation-map line_of (es ++ fs) made moved)) in
+      subst (λ (l : List Pair). IsPermutation l (map line_of made ++ (a ++ b))) (sym e)
+      (IsPermutation-trans (flat_map (λ l. l) low ++ flat_map (λ l. l) high) ((map line_of es ++ a) ++ (map line_of fs ++ b)) (map line_of made ++ (a ++ b)) both
+      (IsPermutation-trans ((map line_of es ++ a) ++ (map line_of fs ++ b)) ((map line_of es ++ map line_of fs) ++ (a ++ b)) (map line_of made ++ (a ++ b)) middle kept))
+
+  order : (d e : Entry) → IsIn d made → IsIn e made → point_of d.edit ≡ point_of e.edit → d.number < e.number → d.tag < e.tag
+  order d e i j same number =
+      elim (in-append es fs d (from-made d i)) [
+        | inl k ↦ elim (in-append es fs e (from-made e j)) [
+          | inl m ↦ first.order d e k m same number
+          | inr m ↦ absurd (never (line_of d) (line_of e) (made-in low a es first d k) (made-in high b fs second e m) same)
+        ]
+        | inr k ↦ elim (in-append es fs e (from-made e j)) [
+          | inl m ↦ absurd (never (line_of e) (line_of d) (made-in low a es first e m) (made-in high b fs second d k) (sym same))
+          | inr m ↦ second.order d e k m same number
+        ]
+      ]
+
+  behind : (d : Entry) (p : Pair) → IsIn d made → IsIn p (a ++ b) → point_of d.edit ≡ point_of p.1 → d.tag < p.0
+  behind d p i j same =
+      elim (in-append es fs d (from-made d i)) [
+        | inl k ↦ elim (in-append a b p j) [
+          | inl m ↦ first.behind d p k m same
+          | inr m ↦ absurd (never (line_of d) p (made-in low a es first d k) (left-in high b fs second p m) same)
+        ]
+        | inr k ↦ elim (in-append a b p j) [
+          | inl m ↦ absurd (never p (line_of d) (left-in low a es first p m) (made-in high b fs second d k) (sym same))
+          | inr m ↦ second.behind d p k m same
+        ]
+      ]
+
+  abbrev InOrder : Pair → Pair → Type 0
+  InOrder p q = point_of p.1 ≡ point_of q.1 → p.0 < q.0
+
+  left-later : EachLater InOrder (a ++ b)
+  left-later = later-append InOrder a b (pairs-later InOrder a first.later) (pairs-later InOrder b second.later) (λ p q i j same. absurd (never p q (left-in low a es first p i) (left-in high b fs second q j) same))
+
+  pub partly-both : ArePartly (low ++ high) (a ++ b) made
+  partly-both = record {
+    lines = lines;
+    order = order;
+    behind = behind;
+    later = later-pairs InOrder (a ++ b) left-later;
+  }
+
+-- ---- numbers of a legal history
+
+low-numbers : (n : ℕ) (s : List ℕ) (h : List Entry) → IsLegalFrom n s h → (e : Entry) → IsIn e h → n ≤ e.number
+low-numbers n s [] l e i = absurd i
+low-numbers n s (d ∷ h) l e (inl q) = let m : n ≡ e.number = sym l.0 ∙ ap (λ (e : Entry). e.number) q in omega (arith, m)
+low-numbers n s (d ∷ h) l e (inr i) = let m = low-numbers (n + 1) (after s d.edit) h l.2 e i in omega (arith, m)
+
+numbers-rise : (n : ℕ) (s : List ℕ) (h : List Entry) → IsLegalFrom n s h → EachLater (λ (d e : Entry). d.number < e.number) h
+numbers-rise n s [] l = tt
+numbers-rise n s (d ∷ h) l = (λ e i. let m = low-numbers (n + 1) (after s d.edit) h l.2 e i in let z = l.0 in omega (arith, m, z), numbers-rise (n + 1) (after s d.edit) h l.2)
+
+-- ---- pairs by their tags
+
+pub tags-in-order : (l : List Pair) → IsNonDecreasingBy (λ p. p.0) l → AllPairs (λ p q. p.0 ≤ q.0) l
+tags-in-order l h i j d m n = h i j d (omega arith) n
+
+abbrev is_same : Pair → Pair → Bool
+is_same p q = (point_of p.1 == point_of q.1) && (p.0 == q.0)
+
+same-flips : (p q : Pair) → is_same p q ≡ is_same q p
+same-flips p q = flips (point_of p.1) (point_of q.1) p.0 q.0
+  where
+    flips : (a b c d : ℕ) → ((a == b) && (c == d)) ≡ ((b == a) && (d == c))
+    flips a b c d = grind (arith, nat_tests)
+
+abbrev pub InTags : Pair → Pair → Type 0
+InTags p q = point_of p.1 ≡ point_of q.1 → p.0 < q.0
+
+pub by-tags : (left sorted : List Pair) → AllPairs InTags left → AreByTag left sorted → AllPairs InTags sorted
+by-tags left sorted h s i j d l m same =
+    let differ = IsDistinct-IsPermutation is_same same-flips left sorted s.same (IsDistinct-from_apart is_same left (λ i j d l m. none (get_or left i d) (get_or left j d) (h i j d l m))) in
+    strict (get_or sorted i d) (get_or sorted j d) (apart_from_distinct is_same sorted i j d differ l m) (s.order i j d l m) same
+  where
+    none : (p q : Pair) → InTags p q → is_same p q ≡ false
+    none p q f = by (point_of p.1) (point_of q.1) p.0 q.0 f
+      where
+        by : (a b c d : ℕ) → (a ≡ b → c < d) → ((a == b) && (c == d)) ≡ false
+        by a b c d f = grind (arith, nat_tests)
+
+    strict : (p q : Pair) → is_same p q ≡ false → p.0 ≤ q.0 → point_of p.1 ≡ point_of q.1 → p.0 < q.0
+    strict p q e f same = by (point_of p.1) (point_of q.1) p.0 q.0 e f same
+      where
+        by : (a b c d : ℕ) → ((a == b) && (c == d)) ≡ false → c ≤ d → a ≡ b → c < d
+        by a b c d e f same = grind (arith, nat_tests)
+
+-- ---- the whole run
+
+-- the entries that were made and the pairs that are left over are as many as the pairs of the lists
+pub room-left : (lists : List (List Pair)) (left sorted : List Pair) (h k : List Entry) → AreRunBut lists left h k → AreByTag left sorted → length k + length sorted ≡ length h + count_of lists
+room-left lists left sorted h k but tags =
+    let a : length k ≡ length h + length but.more = ap length but.history ∙ length-append h but.more in
+    let b : length (map line_of but.more ++ left) ≡ count_of lists = length_permutation (flat_map (λ l. l) lists) (map line_of but.more ++ left) but.partly.lines in
+    omega (arith, a, b, length-append (map line_of but.more) left, length-map but.more line_of, length_permutation left sorted tags.same)
+
+module _ (lists : List (List Pair)) (left sorted : List Pair) (h k m : List Entry) (some : 0 < length lists) (but : AreRunBut lists left h k) (tags : AreByTag left sorted) (applied : AreApplied sorted k m) (legal : IsLegal k) where
+  abbrev es : List Entry
+  es = but.more
+
+  abbrev fs : List Entry
+  fs = applied.more
+
+  abbrev SamePoint : Entry → Entry → Type 0
+  SamePoint d e = point_of d.edit ≡ point_of e.edit → d.tag < e.tag
+
+  rising : EachLater (λ (d e : Entry). d.number < e.number) es
+  rising = later-right (λ (d e : Entry). d.number < e.number) h es (numbers-rise 0 [] (h ++ es) (subst IsLegal but.history legal))
+
+  first-part : EachLater SamePoint es
+  first-part = later-weaken (λ (d e : Entry). d.number < e.number) SamePoint es (λ d e i j n same. but.partly.order d e i j same n) rising
+
+  second-part : EachLater SamePoint fs
+  second-part = later-unmap line_of InTags fs (subst (EachLater InTags) (sym applied.pairs_are) (pairs-later InTags sorted (by-tags left sorted but.partly.later tags)))
+
+  from-left : (e : Entry) → IsIn e fs → IsIn (line_of e) left
+  from-left e i = in-permutation sorted left (line_of e) (IsPermutation-sym left sorted tags.same) (subst (IsIn (line_of e)) applied.pairs_are (in-map line_of fs e i))
+
+  both-parts : EachLater SamePoint (es ++ fs)
+  both-parts = later-append SamePoint es fs first-part second-part (λ d e i j same. but.partly.behind d (line_of e) i (from-left e j) same)
+
+  all-lines : IsPermutation (flat_map (λ l. l) lists) (map line_of (es ++ fs))
+  all-lines =
+      let e : map line_of es ++ sorted ≡ map line_of (es ++ fs) = ap (λ (l : List Pair). map line_of es ++ l) (sym applied.pairs_are) ∙ sym (map-append line_of es fs) in
+      subst (IsPermutation (flat_map (λ l. l) lists)) e
+      (IsPermutation-trans (flat_map (λ l. l) lists) (map line_of es ++ left) (map line_of es ++ sorted) but.partly.lines (IsPermutation-append_right (map line_of es) left sorted tags.same))
+
+  by-workers : All (λ e. e.by < length lists) (es ++ fs)
+  by-workers =
+      in-all (λ (e : Entry). e.by < length lists) (es ++ fs)
+      (λ e i. elim (in-append es fs e i) [
+        | inl j ↦ all-in (λ (e : Entry). e.by < length lists) es but.workers e j
+        | inr j ↦ let z = all-in (λ (e : Entry). e.by ≡ 0) fs applied.by_none e j in omega (arith, z, some)
+      ])
+
+  nothing-left : (l : List Pair) → lists ≡ l ∷ [] → map line_of (es ++ fs) ≡ l
+  nothing-left l e =
+      let a = but.alone l e in
+      let none : sorted ≡ [] = no-length sorted (length_permutation left sorted tags.same ∙ ap length a.0) in
+      map-append line_of es fs ∙ ap (λ (t : List Pair). map line_of es ++ t) (applied.pairs_are ∙ none) ∙ append-nil (map line_of es) ∙ a.1
+    where
+      no-length : (l : List Pair) → length l ≡ 0 → l ≡ []
+      no-length [] e = refl
+      no-length (x ∷ l) e = absurd (omega (arith, e))
+
+  pub whole-run : AreRun lists h m
+  whole-run = record {
+    more = es ++ fs;
+    history = applied.history ∙ ap (λ (l : List Entry). l ++ fs) but.history ∙ append_assoc h es fs;
+    run = record {
+      lines = all-lines;
+      order = later-pairs SamePoint (es ++ fs) both-parts;
+      workers = by-workers;
+      alone = nothing-left;
+    };
+  }

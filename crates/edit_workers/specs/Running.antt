@@ -1,0 +1,73 @@
+-- What all workers together make of a mesh.
+use Rattle.std.specs.Prelude.{◌≡◌, ◌+◌, ◌^◌, ◌<◌, ◌≤◌, List, [], ◌∷◌, ◌++◌, map, length, All, AllPairs, IsPermutation}
+use Rattle.std.specs.List.{flat_map}
+use Rattle.point_order.specs.Sets.{IsIn}
+use Rattle.edit_history.specs.declared.history.Entry.{Entry}
+use Rattle.edit_history.specs.Edits.{point_of}
+use Rattle.edit_history.specs.OneThread.{line_of}
+use Rattle.grid_claims.specs.Passes.{Opened, Standing}
+use Rattle.grid_claims.specs.Tries.{IsStill}
+use Rattle.plain_laws.specs.Running.{Pair, IsRun}
+use Rattle.edit_workers.specs.declared.lists.List as lists
+use Rattle.edit_workers.specs.Dealing.{AreAscending, AreApart, count_of}
+
+-- The history k is h, gone on with a run of the lists.
+pub record AreRun (lists : List (List Pair)) (h k : List Entry) : Type 0 where
+  pub more : List Entry
+  pub history : k ≡ h ++ more
+  pub run : IsRun lists more
+
+-- ---- workers side by side
+
+-- lists, as lists of pairs
+abbrev pub pairs_in : List lists.List → List (List Pair)
+pairs_in l = map (λ list. list.pairs.items) l
+
+-- The pass can do these lists: there are 1 to 64, it has a part for each and allowance for all their pairs, and has made no entry yet.
+pub record CanRun (table : Opened) (lists : List (List Pair)) (pass : Standing) : Type 0 where
+  pub some : 0 < length lists
+  pub short : length lists ≤ 64
+  pub table_is : pass.table ≡ table
+  pub parts : pass.parts ≡ length lists
+  pub left : count_of lists ≤ pass.left
+  pub few : pass.left ≤ 2 ^ 32
+  pub fresh : pass.made ≡ []
+  pub tags : All AreAscending lists
+  pub apart : AreApart lists
+
+-- Each pair of the lists was made or is left over, once. Of the pairs of one point those made come by their tags, also by number,
+-- then come those left over, by their tags.
+pub record ArePartly (lists : List (List Pair)) (left : List Pair) (entries : List Entry) : Type 0 where
+  pub lines : IsPermutation (flat_map (λ l. l) lists) (map line_of entries ++ left)
+  pub order : (d e : Entry) → IsIn d entries → IsIn e entries → point_of d.edit ≡ point_of e.edit → d.number < e.number → d.tag < e.tag
+  pub behind : (d : Entry) (p : Pair) → IsIn d entries → IsIn p left → point_of d.edit ≡ point_of p.1 → d.tag < p.0
+  pub later : AllPairs (λ p q. point_of p.1 ≡ point_of q.1 → p.0 < q.0) left
+
+-- The lists were worked on by the parts of a pass. Where that pass owns all parts and there is one list, it was done in its order.
+pub record AreWorked (lists : List (List Pair)) (left : List Pair) (old new : Standing) : Type 0 where
+  pub still : IsStill old new
+  pub partly : ArePartly lists left new.made
+  pub workers : All (λ e. (old.first ≤ e.by) × (e.by < old.first + old.parts)) new.made
+  pub alone : (l : List Pair) → lists ≡ l ∷ [] → old.first ≡ 0 → old.parts ≡ old.table.parts → (left ≡ []) × (map line_of new.made ≡ l)
+
+-- The history k is h, gone on with a run of the lists but for the pairs left over.
+pub record AreRunBut (lists : List (List Pair)) (left : List Pair) (h k : List Entry) : Type 0 where
+  pub more : List Entry
+  pub history : k ≡ h ++ more
+  pub partly : ArePartly lists left more
+  pub workers : All (λ e. e.by < length lists) more
+  pub alone : (l : List Pair) → lists ≡ l ∷ [] → (left ≡ []) × (map line_of more ≡ l)
+
+-- ---- pairs left over
+
+-- The history k is h, gone on with entries of these pairs in their order, by 0.
+pub record AreApplied (pairs : List Pair) (h k : List Entry) : Type 0 where
+  pub more : List Entry
+  pub history : k ≡ h ++ more
+  pub pairs_are : map line_of more ≡ pairs
+  pub by_none : All (λ e. e.by ≡ 0) more
+
+-- the pairs, by their tags
+pub record AreByTag (pairs sorted : List Pair) : Type 0 where
+  pub same : IsPermutation pairs sorted
+  pub order : AllPairs (λ p q. p.0 ≤ q.0) sorted

@@ -1,0 +1,69 @@
+-- The tries of one edit, and what they make of the pairs that are left over.
+use Rattle.std.specs.Prelude.{◌≡◌, ◌⊎◌, ℕ, ◌+◌, ◌-◌, ◌<◌, ◌≤◌, ◌==◌, Bool, true, false, List, [], ◌∷◌, ◌++◌}
+use Rattle.std.specs.List.{list_any}
+use Rattle.edit_history.specs.declared.history.Edit.{Edit}
+use Rattle.edit_history.specs.declared.history.Reply.{Reply}
+use Rattle.edit_history.specs.Edits.{point_of}
+use Rattle.grid_claims.specs.declared.view.Act.{Act}
+use Rattle.grid_claims.specs.Trails.{misses}
+use Rattle.grid_claims.specs.Passes.{Standing}
+use Rattle.grid_claims.specs.Plays.{entry_of}
+use Rattle.plain_laws.specs.Running.{Pair}
+use Rattle.edit_workers.specs.declared.working.Tried.{Tried}
+use Rattle.edit_workers.specs.declared.working.Tried.TheVariants.{Made, LeftOver}
+
+-- the pass owns all parts of its table
+abbrev pub OwnsAll : Standing → Type 0
+OwnsAll p = (p.first ≡ 0) × (p.parts ≡ p.table.parts)
+
+-- The pass made the edit: it has one entry more, whose number it had not seen, and one edit less to make.
+pub record HasMadeOne (tag : ℕ) (edit : Edit) (old new : Standing) : Type 0 where
+  pub number : ℕ
+  pub reply : Reply
+  pub later : old.seen ≤ number
+  pub steps : List Act
+  pub new_is : new ≡ record old {
+    left = old.left - 1;
+    seen = number + 1;
+    made = old.made ++ entry_of number old.first tag edit reply ∷ [];
+    trail = old.trail ++ steps;
+  }
+
+-- So many claims failed, at least, and the pass is as before, but for its trail. Where one failed, some part is of
+-- another pass.
+pub record HasMissed (count : ℕ) (old new : Standing) : Type 0 where
+  pub steps : List Act
+  pub missed : count ≤ misses steps
+  pub new_is : new ≡ record old { trail = old.trail ++ steps }
+  pub others : 0 < count → ¬ (OwnsAll old)
+
+-- what came of so many tries of an edit
+abbrev pub IsTried : ℕ → ℕ → Edit → Tried → Standing → Standing → Type 0
+IsTried count tag edit Made old new = HasMadeOne tag edit old new
+IsTried count tag edit LeftOver old new = HasMissed count old new
+
+-- some pair of the list has this point
+abbrev pub has_point : ℕ → List Pair → Bool
+has_point p l = list_any (λ x. point_of x.1 == p) l
+
+-- A pair that shares its point with one left over was put behind them, and not tried.
+pub record FollowsLeft (pair : Pair) (before left : List Pair) (old new : Standing) : Type 0 where
+  pub shared : has_point (point_of pair.1) before ≡ true
+  pub behind : left ≡ before ++ pair ∷ []
+  pub as_before : new ≡ old
+
+-- One that shares it with none was tried to the end.
+pub record IsLeftOver (pair : Pair) (before left : List Pair) (old new : Standing) : Type 0 where
+  pub first : has_point (point_of pair.1) before ≡ false
+  pub behind : left ≡ before ++ pair ∷ []
+  pub missed : HasMissed 64 old new
+
+-- Or it was made.
+pub record IsDone (pair : Pair) (before left : List Pair) (old new : Standing) : Type 0 where
+  pub first : has_point (point_of pair.1) before ≡ false
+  pub none : left ≡ before
+  pub made : HasMadeOne pair.0 pair.1 old new
+
+-- one of the three
+abbrev pub IsWorkedOn : Pair → List Pair → List Pair → Standing → Standing → Type 0
+IsWorkedOn pair before left old new = FollowsLeft pair before left old new ⊎ (IsLeftOver pair before left old new ⊎ IsDone pair before left old new)

@@ -1,0 +1,68 @@
+-- What the work on a list leaves.
+use Rattle.std.specs.Prelude.{◌≡◌, ℕ, ◌+◌, ◌-◌, ◌*◌, ◌<◌, ◌≤◌, Bool, true, not, List, [], ◌∷◌, ◌++◌, map, length, All, AllPairs, if◌then◌else◌}
+use Rattle.std.specs.List.{filter}
+use Rattle.point_order.specs.Sets.{is_among}
+use Rattle.edit_history.specs.declared.history.Entry.{Entry}
+use Rattle.edit_history.specs.Edits.{point_of}
+use Rattle.edit_history.specs.OneThread.{line_of}
+use Rattle.grid_claims.specs.declared.view.Act.{Act}
+use Rattle.grid_claims.specs.Trails.{misses}
+use Rattle.grid_claims.specs.Passes.{Standing}
+use Rattle.plain_laws.specs.Running.{Pair}
+
+-- a pair, and whether it is left over
+abbrev pub Marked : Type 0
+Marked = Bool × Pair
+
+-- the pairs that are left over, and the others, each in their order
+abbrev pub left_over : List Marked → List Pair
+left_over l = map (λ x. x.1) (filter (λ x. x.0) l)
+
+abbrev pub done : List Marked → List Pair
+done l = map (λ x. x.1) (filter (λ x. not x.0) l)
+
+-- what shares a point with an earlier pair that is left over is left over too
+abbrev pub LeavesLater : List Marked → Type 0
+LeavesLater l = AllPairs (λ x y. x.0 ≡ true → point_of x.1.1 ≡ point_of y.1.1 → y.0 ≡ true) l
+
+-- how many pairs of a list share no point with an earlier one, nor with these points
+abbrev pub first_ones : List ℕ → List Pair → ℕ
+first_ones seen [] = 0
+first_ones seen (p ∷ l) = if is_among (point_of p.1) seen then first_ones seen l else first_ones (point_of p.1 ∷ seen) l + 1
+
+-- Entries of these pairs, in this order: by the pass, with ascending numbers, none below what it had seen.
+pub record AreEntriesOf (old : Standing) (pairs : List Pair) (entries : List Entry) : Type 0 where
+  pub pairs_are : map line_of entries ≡ pairs
+  pub by_pass : All (λ e. e.by ≡ old.first) entries
+  pub ascending : AllPairs (λ d e. d.number < e.number) entries
+  pub later : All (λ e. old.seen ≤ e.number) entries
+
+-- The pass made these entries, took these steps, and saw what it saw; else it is as before.
+pub record HasMade (old new : Standing) (entries : List Entry) (steps : List Act) : Type 0 where
+  pub new_is : new ≡ record old { left = old.left - length entries; seen = new.seen; made = old.made ++ entries; trail = old.trail ++ steps }
+  pub later : old.seen ≤ new.seen
+  pub seen_all : All (λ e. e.number < new.seen) entries
+
+-- The work is done: each pair of the list was made or is left over, once; what follows one left over of its point is
+-- left over; and for each that is the first one left over of its point 64 claims failed. A pass that owns all parts
+-- leaves nothing over.
+pub record IsWorked (list left : List Pair) (old new : Standing) : Type 0 where
+  pub marked : List Marked
+  pub parted : map (λ x. x.1) marked ≡ list
+  pub left_is : left ≡ left_over marked
+  pub later : LeavesLater marked
+  pub entries : List Entry
+  pub made : AreEntriesOf old (done marked) entries
+  pub steps : List Act
+  pub pass : HasMade old new entries steps
+  pub tries : 64 * first_ones [] left ≤ misses steps
+  pub alone : old.first ≡ 0 → old.parts ≡ old.table.parts → left ≡ []
+
+-- The work broke off: some pairs of the list were made, each once, in their order.
+pub record IsBroken (list : List Pair) (old new : Standing) : Type 0 where
+  pub marked : List Marked
+  pub parted : map (λ x. x.1) marked ≡ list
+  pub entries : List Entry
+  pub made : AreEntriesOf old (done marked) entries
+  pub steps : List Act
+  pub pass : HasMade old new entries steps

@@ -1,0 +1,148 @@
+//! Work on a list.
+
+ghost use Rattle.std.specs.Prelude.{◌≡◌, ◌<◌, ◌≤◌, IfOk, OnOk, OnErr, length};
+ghost use Rattle.edit_history.specs.Edits.{point_of};
+ghost use Rattle.edit_workers.specs.Trying.{IsTried, HasMissed, IsWorkedOn, has_point as has_point_of};
+ghost use Rattle.edit_workers.specs.Working.{IsWorked, IsBroken};
+
+use crate::lists::{Left, List};
+use edit_history::Edit;
+use grid_claims::{Gate, MeshTable, Pass, Refused};
+use point_order::Point;
+use std::alloc::{AllocError, Global};
+use std::hint::spin_loop;
+
+// How often an edit is tried.
+const TRIES: u32 = 64;
+
+// How many turns the first pause between two tries has, and the longest one.
+const FIRST_PAUSE: u32 = 64;
+
+const LONGEST_PAUSE: u32 = 4096;
+
+// What came of one try of an edit, or of all.
+#[derive(Clone, Copy, Debug, PartialEq, Eq)]
+enum Tried {
+    Made,
+    LeftOver,
+}
+
+// Tries an edit once. Nothing else is asked of the answer than whether it was made.
+fn try_once<G: Gate>(
+    alloc: Global,
+    table: &MeshTable,
+    pass: &mut Pass,
+    tag: u32,
+    edit: Edit,
+    gate: &G,
+) -> Result<Tried, AllocError>
+    requires table { pass.old.table ≡ table.now }
+    requires left { 0 < pass.old.left }
+    ensures tried { IfOk result (λ tried. IsTried 1 tag edit tried pass.old pass.new) }
+    ensures broken { OnErr result (HasMissed 0 pass.old pass.new) }
+{
+    match table.try_edit(alloc, pass, tag, edit, gate) {
+        Ok(_) => Ok(Tried::Made),
+        Err(Refused::Busy { .. }) => Ok(Tried::LeftOver),
+        Err(Refused::Memory) => Err(AllocError),
+        Err(Refused::Spent) => unreachable!(),
+    }
+}
+
+// Lets so many turns go by.
+fn pause(turns: u32) {
+    for _turn in 0..turns {
+        spin_loop();
+    }
+}
+
+// Tries an edit until it is made, 64 times at most; the pauses between the tries grow.
+fn try_often<G: Gate>(
+    alloc: Global,
+    table: &MeshTable,
+    pass: &mut Pass,
+    tag: u32,
+    edit: Edit,
+    gate: &G,
+) -> Result<Tried, AllocError>
+    requires table { pass.old.table ≡ table.now }
+    requires left { 0 < pass.old.left }
+    ensures tried { IfOk result (λ tried. IsTried 64 tag edit tried pass.old pass.new) }
+    ensures broken { OnErr result (HasMissed 0 pass.old pass.new) }
+{
+    let mut turns = FIRST_PAUSE;
+    for _tries in 0..TRIES {
+        let again = edit;
+        match try_once(alloc, table, pass, tag, again, gate)? {
+            Tried::Made => return Ok(Tried::Made),
+            Tried::LeftOver => pause(turns),
+        }
+        if turns < LONGEST_PAUSE {
+            turns *= 2;
+        }
+    }
+    Ok(Tried::LeftOver)
+}
+
+impl Left {
+    // Whether one of the pairs has this point.
+    fn has_point(&self, p: Point) -> bool
+        ensures { result ≡ has_point_of p self.now.pairs.items }
+    {
+        self.pairs.iter().any(|pair| pair.1.point() == p)
+    }
+}
+
+// Tries an edit, unless an earlier one of its point is left over. Then it is left over too, as where it was not made.
+fn work_on<G: Gate>(
+    alloc: Global,
+    table: &MeshTable,
+    pass: &mut Pass,
+    left: &mut Left,
+    pair: (u32, Edit),
+    gate: &G,
+) -> Result<(), AllocError>
+    requires table { pass.old.table ≡ table.now }
+    requires left { 0 < pass.old.left }
+    ensures done { OnOk result (IsWorkedOn pair left.old.pairs.items left.new.pairs.items pass.old pass.new) }
+    ensures broken { OnErr result (HasMissed 0 pass.old pass.new) }
+{
+    let (tag, edit) = pair;
+    if left.has_point(edit.point()) {
+        left.pairs.push(pair)?;
+        return Ok(());
+    }
+    match try_often(alloc, table, pass, tag, edit, gate)? {
+        Tried::Made => Ok(()),
+        Tried::LeftOver => {
+            left.pairs.push(pair)?;
+            Ok(())
+        }
+    }
+}
+
+/// Makes the edits of a list in their order, each tried up to 64 times. What was busy each time is left over, and so is each
+/// later one of its point. The pass is to be one of this table that may make so many edits.
+///
+/// # Errors
+/// Want of memory. Some edits were made then, each at most once.
+pub fn work<G: Gate>(
+    alloc: Global,
+    table: &MeshTable,
+    pass: &mut Pass,
+    list: &List,
+    gate: &G,
+) -> Result<Left, AllocError>
+    requires table { pass.old.table ≡ table.now }
+    requires left { length list.now.pairs.items ≤ pass.old.left }
+    ensures worked { IfOk result (λ left. IsWorked list.now.pairs.items left.pairs.items pass.old pass.new) }
+    ensures broken { OnErr result (IsBroken list.now.pairs.items pass.old pass.new) }
+{
+    let mut left = Left {
+        pairs: Vec::new(alloc),
+    };
+    for pair in &list.pairs {
+        work_on(alloc, table, pass, &mut left, *pair, gate)?;
+    }
+    Ok(left)
+}
