@@ -19,9 +19,9 @@ use Rattle.plain_laws.proofs.Members.{in-map, in-permutation, all-in, in-all, Ea
 use Rattle.edit_workers.specs.Dealing.{AreAscending, AreApart, count_of}
 use Rattle.edit_workers.specs.Working.{Marked, left_over, done, IsWorked}
 use Rattle.edit_workers.specs.declared.lists.List as lists
-use Rattle.edit_workers.specs.Running.{pairs_in, CanRun, ArePartly, AreWorked, AreRunBut}
+use Rattle.edit_workers.specs.Running.{pairs_in, CanRun, AscendAtPoint, ArePartly, AreWorked, AreRunBut}
 use Rattle.edit_workers.proofs.Marks.{in-order, both-later, marks-part, Below, done-tags, left-tags, done-first}
-use Rattle.edit_workers.proofs.Partly.{count-both, all-low, all-high, apart-low, apart-high, partly-both, InTags}
+use Rattle.edit_workers.proofs.Partly.{count-both, all-low, all-high, apart-low, apart-high, partly-both}
 
 -- ---- one list
 
@@ -69,15 +69,15 @@ module _ (list left : List Pair) (old new : Standing) (tags : AreAscending list)
       both-later (λ (d e : Entry). d.number < e.number) (λ (d e : Entry). d.tag < e.tag) es (pairs-later (λ (d e : Entry). d.number < e.number) es w.made.ascending)
       (later-unmap line_of Below es (subst (EachLater Below) (sym w.made.pairs_are) (done-tags marked ascending)))
 
-  order : (d e : Entry) → IsIn d es → IsIn e es → point_of d.edit ≡ point_of e.edit → d.number < e.number → d.tag < e.tag
-  order d e i j same n =
+  order : (d e : Entry) → IsIn d es → IsIn e es → d.number < e.number → AscendAtPoint (line_of d) (line_of e)
+  order d e i j n same =
       elim (in-order Climbs es d e climbs i j) [
         | inl q ↦ let m : d.number ≡ e.number = ap (λ (e : Entry). e.number) q in absurd (omega (arith, m, n))
         | inr (inl r) ↦ r.1
         | inr (inr r) ↦ let m = r.0 in absurd (omega (arith, m, n))
       ]
 
-  behind : (d : Entry) (p : Pair) → IsIn d es → IsIn p left → point_of d.edit ≡ point_of p.1 → d.tag < p.0
+  behind : (d : Entry) (p : Pair) → IsIn d es → IsIn p left → AscendAtPoint (line_of d) p
   behind d p i j same =
       done-first marked ascending (pairs-later (λ (x y : Marked). x.0 ≡ true → point_of x.1.1 ≡ point_of y.1.1 → y.0 ≡ true) marked w.later)
       (line_of d) p (subst (IsIn (line_of d)) w.made.pairs_are (in-map line_of es d i)) (subst (IsIn p) w.left_is j) same
@@ -87,7 +87,7 @@ module _ (list left : List Pair) (old new : Standing) (tags : AreAscending list)
     lines = lines;
     order = order;
     behind = behind;
-    later = later-pairs InTags left (later-weaken Below InTags left (λ p q i j l same. l) (subst (EachLater Below) (sym w.left_is) (left-tags marked ascending)));
+    later = later-pairs AscendAtPoint left (later-weaken Below AscendAtPoint left (λ p q i j l same. l) (subst (EachLater Below) (sym w.left_is) (left-tags marked ascending)));
   }
 
   pub worked-one : AreWorked (list ∷ []) left old new

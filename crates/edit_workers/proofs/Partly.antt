@@ -17,7 +17,7 @@ use Rattle.edit_history.proofs.Lines.{in-append}
 use Rattle.plain_laws.specs.Running.{Pair}
 use Rattle.plain_laws.proofs.Members.{in-left, in-right, in-map, in-permutation, all-in, in-all, EachLater, later-pairs, pairs-later, later-append, later-across, later-left, later-right, later-weaken, later-unmap}
 use Rattle.edit_workers.specs.Dealing.{HaveNoPoint, AreApart, count_of}
-use Rattle.edit_workers.specs.Running.{AreRun, ArePartly, AreRunBut, AreApplied, AreByTag}
+use Rattle.edit_workers.specs.Running.{AreRun, AscendAtPoint, ArePartly, AreRunBut, AreApplied, AreByTag}
 use Rattle.edit_workers.proofs.Marks.{in-flat}
 
 -- ---- two parts of the lists
@@ -80,20 +80,20 @@ module _ (low high : List (List Pair)) (a b : List Pair) (es fs made : List Entr
       (IsPermutation-trans (flat_map (λ l. l) low ++ flat_map (λ l. l) high) ((map line_of es ++ a) ++ (map line_of fs ++ b)) (map line_of made ++ (a ++ b)) both
       (IsPermutation-trans ((map line_of es ++ a) ++ (map line_of fs ++ b)) ((map line_of es ++ map line_of fs) ++ (a ++ b)) (map line_of made ++ (a ++ b)) middle kept))
 
-  order : (d e : Entry) → IsIn d made → IsIn e made → point_of d.edit ≡ point_of e.edit → d.number < e.number → d.tag < e.tag
-  order d e i j same number =
+  order : (d e : Entry) → IsIn d made → IsIn e made → d.number < e.number → AscendAtPoint (line_of d) (line_of e)
+  order d e i j number same =
       elim (in-append es fs d (from-made d i)) [
         | inl k ↦ elim (in-append es fs e (from-made e j)) [
-          | inl m ↦ first.order d e k m same number
+          | inl m ↦ first.order d e k m number same
           | inr m ↦ absurd (never (line_of d) (line_of e) (made-in low a es first d k) (made-in high b fs second e m) same)
         ]
         | inr k ↦ elim (in-append es fs e (from-made e j)) [
           | inl m ↦ absurd (never (line_of e) (line_of d) (made-in low a es first e m) (made-in high b fs second d k) (sym same))
-          | inr m ↦ second.order d e k m same number
+          | inr m ↦ second.order d e k m number same
         ]
       ]
 
-  behind : (d : Entry) (p : Pair) → IsIn d made → IsIn p (a ++ b) → point_of d.edit ≡ point_of p.1 → d.tag < p.0
+  behind : (d : Entry) (p : Pair) → IsIn d made → IsIn p (a ++ b) → AscendAtPoint (line_of d) p
   behind d p i j same =
       elim (in-append es fs d (from-made d i)) [
         | inl k ↦ elim (in-append a b p j) [
@@ -106,18 +106,15 @@ module _ (low high : List (List Pair)) (a b : List Pair) (es fs made : List Entr
         ]
       ]
 
-  abbrev InOrder : Pair → Pair → Type 0
-  InOrder p q = point_of p.1 ≡ point_of q.1 → p.0 < q.0
-
-  left-later : EachLater InOrder (a ++ b)
-  left-later = later-append InOrder a b (pairs-later InOrder a first.later) (pairs-later InOrder b second.later) (λ p q i j same. absurd (never p q (left-in low a es first p i) (left-in high b fs second q j) same))
+  left-later : EachLater AscendAtPoint (a ++ b)
+  left-later = later-append AscendAtPoint a b (pairs-later AscendAtPoint a first.later) (pairs-later AscendAtPoint b second.later) (λ p q i j same. absurd (never p q (left-in low a es first p i) (left-in high b fs second q j) same))
 
   pub partly-both : ArePartly (low ++ high) (a ++ b) made
   partly-both = record {
     lines = lines;
     order = order;
     behind = behind;
-    later = later-pairs InOrder (a ++ b) left-later;
+    later = later-pairs AscendAtPoint (a ++ b) left-later;
   }
 
 -- ---- numbers of a legal history
@@ -145,15 +142,12 @@ same-flips p q = flips (point_of p.1) (point_of q.1) p.0 q.0
     flips : (a b c d : ℕ) → ((a == b) && (c == d)) ≡ ((b == a) && (d == c))
     flips a b c d = grind (arith, nat_tests)
 
-abbrev pub InTags : Pair → Pair → Type 0
-InTags p q = point_of p.1 ≡ point_of q.1 → p.0 < q.0
-
-pub by-tags : (left sorted : List Pair) → AllPairs InTags left → AreByTag left sorted → AllPairs InTags sorted
+pub by-tags : (left sorted : List Pair) → AllPairs AscendAtPoint left → AreByTag left sorted → AllPairs AscendAtPoint sorted
 by-tags left sorted h s i j d l m same =
     let differ = IsDistinct-IsPermutation is_same same-flips left sorted s.same (IsDistinct-from_apart is_same left (λ i j d l m. none (get_or left i d) (get_or left j d) (h i j d l m))) in
     strict (get_or sorted i d) (get_or sorted j d) (apart_from_distinct is_same sorted i j d differ l m) (s.order i j d l m) same
   where
-    none : (p q : Pair) → InTags p q → is_same p q ≡ false
+    none : (p q : Pair) → AscendAtPoint p q → is_same p q ≡ false
     none p q f = by (point_of p.1) (point_of q.1) p.0 q.0 f
       where
         by : (a b c d : ℕ) → (a ≡ b → c < d) → ((a == b) && (c == d)) ≡ false
@@ -188,10 +182,10 @@ module _ (lists : List (List Pair)) (left sorted : List Pair) (h k m : List Entr
   rising = later-right (λ (d e : Entry). d.number < e.number) h es (numbers-rise 0 [] (h ++ es) (subst IsLegal but.history legal))
 
   first-part : EachLater SamePoint es
-  first-part = later-weaken (λ (d e : Entry). d.number < e.number) SamePoint es (λ d e i j n same. but.partly.order d e i j same n) rising
+  first-part = later-weaken (λ (d e : Entry). d.number < e.number) SamePoint es (λ d e i j n same. but.partly.order d e i j n same) rising
 
   second-part : EachLater SamePoint fs
-  second-part = later-unmap line_of InTags fs (subst (EachLater InTags) (sym applied.pairs_are) (pairs-later InTags sorted (by-tags left sorted but.partly.later tags)))
+  second-part = later-unmap line_of AscendAtPoint fs (subst (EachLater AscendAtPoint) (sym applied.pairs_are) (pairs-later AscendAtPoint sorted (by-tags left sorted but.partly.later tags)))
 
   from-left : (e : Entry) → IsIn e fs → IsIn (line_of e) left
   from-left e i = in-permutation sorted left (line_of e) (IsPermutation-sym left sorted tags.same) (subst (IsIn (line_of e)) applied.pairs_are (in-map line_of fs e i))

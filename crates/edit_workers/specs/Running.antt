@@ -23,7 +23,8 @@ pub record AreRun (lists : List (List Pair)) (h k : List Entry) : Type 0 where
 abbrev pub pairs_in : List lists.List → List (List Pair)
 pairs_in l = map (λ list. list.pairs.items) l
 
--- The pass can do these lists: there are 1 to 64, it has a part for each and allowance for all their pairs, and has made no entry yet.
+-- The pass can do these lists: there are 1 to 64, it has a part for each and allowance for all their pairs, and has
+-- made no entry yet.
 pub record CanRun (table : Opened) (lists : List (List Pair)) (pass : Standing) : Type 0 where
   pub some : 0 < length lists
   pub short : length lists ≤ 64
@@ -35,20 +36,29 @@ pub record CanRun (table : Opened) (lists : List (List Pair)) (pass : Standing) 
   pub tags : All AreAscending lists
   pub apart : AreApart lists
 
--- Each pair of the lists was made or is left over, once. Of the pairs of one point those made come by their tags, also by number,
--- then come those left over, by their tags.
+-- where they are of one point, their tags ascend
+abbrev pub AscendAtPoint : Pair → Pair → Type 0
+AscendAtPoint p q = point_of p.1 ≡ point_of q.1 → p.0 < q.0
+
+-- Each pair of the lists was made or is left over, once. Of the pairs of one point those made come by their tags, also
+-- by number, then come those left over, by their tags.
 pub record ArePartly (lists : List (List Pair)) (left : List Pair) (entries : List Entry) : Type 0 where
   pub lines : IsPermutation (flat_map (λ l. l) lists) (map line_of entries ++ left)
-  pub order : (d e : Entry) → IsIn d entries → IsIn e entries → point_of d.edit ≡ point_of e.edit → d.number < e.number → d.tag < e.tag
-  pub behind : (d : Entry) (p : Pair) → IsIn d entries → IsIn p left → point_of d.edit ≡ point_of p.1 → d.tag < p.0
-  pub later : AllPairs (λ p q. point_of p.1 ≡ point_of q.1 → p.0 < q.0) left
+  pub order : (d e : Entry) → IsIn d entries → IsIn e entries → d.number < e.number → AscendAtPoint (line_of d) (line_of e)
+  pub behind : (d : Entry) (p : Pair) → IsIn d entries → IsIn p left → AscendAtPoint (line_of d) p
+  pub later : AllPairs AscendAtPoint left
 
--- The lists were worked on by the parts of a pass. Where that pass owns all parts and there is one list, it was done in its order.
+-- the list was done whole: nothing is left over, and the entries are of its pairs, in its order
+abbrev pub IsWhole : List Pair → List Pair → List Entry → Type 0
+IsWhole list left entries = (left ≡ []) × (map line_of entries ≡ list)
+
+-- The lists were worked on by the parts of a pass. Where that pass owns all parts and there is one list, it was done
+-- whole, in its order.
 pub record AreWorked (lists : List (List Pair)) (left : List Pair) (old new : Standing) : Type 0 where
   pub still : IsStill old new
   pub partly : ArePartly lists left new.made
   pub workers : All (λ e. (old.first ≤ e.by) × (e.by < old.first + old.parts)) new.made
-  pub alone : (l : List Pair) → lists ≡ l ∷ [] → old.first ≡ 0 → old.parts ≡ old.table.parts → (left ≡ []) × (map line_of new.made ≡ l)
+  pub alone : (l : List Pair) → lists ≡ l ∷ [] → old.first ≡ 0 → old.parts ≡ old.table.parts → IsWhole l left new.made
 
 -- The history k is h, gone on with a run of the lists but for the pairs left over.
 pub record AreRunBut (lists : List (List Pair)) (left : List Pair) (h k : List Entry) : Type 0 where
@@ -56,7 +66,7 @@ pub record AreRunBut (lists : List (List Pair)) (left : List Pair) (h k : List E
   pub history : k ≡ h ++ more
   pub partly : ArePartly lists left more
   pub workers : All (λ e. e.by < length lists) more
-  pub alone : (l : List Pair) → lists ≡ l ∷ [] → (left ≡ []) × (map line_of more ≡ l)
+  pub alone : (l : List Pair) → lists ≡ l ∷ [] → IsWhole l left more
 
 -- ---- pairs left over
 

@@ -101,11 +101,14 @@ fn apply_all(alloc: Global, mut mesh: Mesh, pairs: &[(u32, Edit)]) -> Result<Mes
     Ok(mesh)
 }
 
-/// Makes the edits of all lists on the mesh: each list by a worker of its own, side by side, and then what they leave over, in the
-/// order of its tags.
+/// Makes the edits of all lists on the mesh: each list by a worker of its own, side by side, and then what they leave
+/// over, in the order of its tags.
 ///
-/// There are to be 1 to 64 lists, with ascending tags in each and no point in two of them, and at most 2^32 entries with all
-/// that may come. The entries of list i that its worker makes are by i, and those of pairs left over by 0.
+/// The history goes on with each pair of the lists once, those of one point by their tags, and each entry by a number
+/// below the number of lists; with one list just its pairs in their order. The grid stays.
+///
+/// There are to be 1 to 64 lists, with ascending tags in each and no point in two of them, and at most 2^32 entries with
+/// all that may come.
 ///
 /// # Errors
 /// Want of memory. The mesh is then dropped.
