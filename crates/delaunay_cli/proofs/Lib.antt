@@ -4,3 +4,5 @@ pub mod Judging
 pub mod OpeningLines
 pub mod ShapesOfSet
 pub mod DrawnFiles
+pub mod PlainTexts
+pub mod NumberWords

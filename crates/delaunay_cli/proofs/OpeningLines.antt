@@ -9,7 +9,6 @@ use Rattle.point_order.specs.Sets.{IsIn, is_among}
 use Rattle.edit_history.specs.declared.history.Edit.{Edit}
 use Rattle.edit_history.specs.declared.history.Edit.TheVariants.{Add}
 use Rattle.edit_history.specs.declared.history.Entry.{Entry}
-use Rattle.edit_history.specs.declared.history.Reply.{Reply}
 use Rattle.edit_history.specs.Edits.{reply_to, after}
 use Rattle.edit_history.specs.Histories.{replay, entries_from, IsLegal, IsLegalFrom}
 use Rattle.edit_history.specs.Opening.{Four, opening_four}

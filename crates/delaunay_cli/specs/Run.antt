@@ -20,12 +20,14 @@ input_limit = 16777216
 abbrev pub history_of : Content → List Entry
 history_of file = one_thread file.points file.edits
 
--- Bytes that were taken of a source, one more than the limit at most; all that it told, unless it was left early.
+-- Bytes that were taken of a source, one more than the limit at most; all that it told, unless it was left early. Where it was one
+-- more, the input is too long, or memory is wanting.
 pub record Reads (left_old left_new : Option (List ℕ)) (status : ℕ) : Type 0 where
   pub taken : List ℕ
   pub consumed : Consumes left_old left_new taken
   pub within : length taken ≤ input_limit + 1
   pub whole : (IsEarly status → ⊥) → IsAtEnd left_new ⊎ (length taken ≡ input_limit + 1)
+  pub past : length taken ≡ input_limit + 1 → (status ≡ 7) ⊎ (status ≡ 1)
 
 -- the output gained the text of the file that the bytes are, and of the history, with shapes or without, and with its order block
 -- or not

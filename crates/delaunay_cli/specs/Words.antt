@@ -1,5 +1,5 @@
 -- The command line, as `clap` reads it.
-use Rattle.std.specs.Prelude.{◌≡◌, ℕ, List, [], ◌∷◌, Bool, true, false, pos, Option, Some, codes, map, string_bytes, String, if◌then◌else◌}
+use Rattle.std.specs.Prelude.{◌≡◌, ℕ, List, [], ◌∷◌, ◌++◌, Bool, true, false, pos, Option, Some, codes, decimal, map, string_bytes, String, if◌then◌else◌}
 use Rattle.std.specs.Option.{option_map_or}
 use Rattle.std.specs.Str.{bytes_eq}
 use Rattle.std.specs.Str.Parse.{digits_value, without_leading_plus}
@@ -82,6 +82,16 @@ AreShape words = AreNameAnd (codes "shape" ∷ []) words
 -- the words are the program's name, `shape` and `--order`
 abbrev pub AreShapeOrder : List (String Global) → Type 0
 AreShapeOrder words = AreNameAnd (codes "shape" ∷ codes "--order" ∷ []) words
+
+-- the words are the program's name, `gen`, `--count=` with a number and `--start=` with a number
+abbrev pub AreGen : ℕ → ℕ → List (String Global) → Type 0
+AreGen count start words =
+    AreNameAnd (codes "gen" ∷ (codes "--count=" ++ decimal count) ∷ (codes "--start=" ++ decimal start) ∷ []) words
+
+-- the words are these and `--text`
+abbrev pub AreGenText : ℕ → ℕ → List (String Global) → Type 0
+AreGenText count start words =
+    AreNameAnd (codes "gen" ∷ (codes "--count=" ++ decimal count) ∷ (codes "--start=" ++ decimal start) ∷ codes "--text" ∷ []) words
 
 -- the program takes the words: as `clap` reads them, nothing is at fault
 unfoldable pub AreTaken : List (String Global) → Type 0

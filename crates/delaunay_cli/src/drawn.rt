@@ -3,6 +3,7 @@
 ghost use Rattle.std.specs.Prelude.{◌≡◌, ◌≢◌, ◌⊎◌, ◌≤◌, ℕ, []};
 ghost use Rattle.std.specs.Io.KnownBytes.{Appends, Keeps};
 ghost use Rattle.byte_ends.specs.Ends.{AppendsFront, Rose};
+ghost use Rattle.edit_history.specs.Histories.{IsLegal};
 ghost use Rattle.edit_files.specs.Content.{content};
 ghost use Rattle.edit_files.specs.Generator.{generated};
 ghost use Rattle.edit_files.specs.Writing.{file_text as file_text_of};
@@ -42,6 +43,7 @@ fn put_summary<R, O: Sink>(rt: &R, alloc: Global, file: &File, out: &mut O) -> R
     ensures statuses { (result.status ≡ 0) ⊎ (result.status ≡ 1) ⊎ (result.status ≡ 4) }
     ensures kept { (result.status ≡ 0) ⊎ (result.status ≡ 4) → result.kept.items ≡ history_of (content file.now) }
     ensures none_kept { result.status ≢ 0 → result.status ≢ 4 → result.kept.items ≡ [] }
+    ensures legal { IsLegal result.kept.items }
     ensures written { result.status ≡ 0
         → Appends (O.holds out.old) (O.holds out.new) (summary_of (content file.now) result.kept.items) }
     ensures front { result.status ≡ 4
@@ -74,6 +76,7 @@ pub fn draw<R, O: Sink>(rt: &R, alloc: Global, drawn: Drawn, out: &mut O) -> Run
     ensures kept { (result.status ≡ 0) ⊎ (result.status ≡ 4)
         → result.kept.items ≡ kept_of_drawn drawn.text (generated drawn.count drawn.start) }
     ensures none_kept { result.status ≢ 0 → result.status ≢ 4 → result.kept.items ≡ [] }
+    ensures legal { IsLegal result.kept.items }
     ensures written { result.status ≡ 0 → Appends (O.holds out.old) (O.holds out.new)
         (text_of_drawn drawn.text (generated drawn.count drawn.start) result.kept.items) }
     ensures front { result.status ≡ 4 → AppendsFront (O.holds out.old) (O.holds out.new)

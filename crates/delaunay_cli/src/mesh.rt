@@ -7,6 +7,7 @@ ghost use Rattle.byte_ends.specs.Ends.{AppendsFront, Rose};
 ghost use Rattle.point_order.specs.Complex.{complex as complex_of};
 ghost use Rattle.point_order.specs.Sets.{IsAscending};
 ghost use Rattle.point_order.specs.Solid.{is_solid};
+ghost use Rattle.edit_history.specs.Histories.{IsLegal};
 ghost use Rattle.edit_files.specs.Content.{content};
 ghost use Rattle.mesh_files.specs.Report.{AreCounted, parts_of, shapes_seen};
 ghost use Rattle.delaunay_cli.specs.Report.{order_of as order_of_it, report_of, shapes_of as shapes_of_it, tags_of, text_of};
@@ -118,6 +119,7 @@ pub fn history_and_report<R>(
     requires lines { length file.now.points.items + length file.now.edits.items + 4 < 2 ^ 32 }
     requires radii { All (λ radius. radius < 2 ^ 30) file.now.radii.items }
     ensures kept { IfOk result (λ made. made.0.items ≡ history_of (content file.now)) }
+    ensures legal { IfOk result (λ made. IsLegal made.0.items) }
     ensures report { IfOk result (λ made. parts_of made.1 ≡ report_of asked.shape asked.order (content file.now) made.0.items) }
     ensures order { IfOk result (λ made. IsAscending made.1.points.items) }
     ensures counted { IfOk result (λ made. AreCounted (shapes_seen made.1.shapes.items)) }
@@ -148,6 +150,7 @@ pub fn mesh<R, O: Sink>(rt: &R, alloc: Global, file: &File, asked: Asked, out: &
     ensures not_solid { result.status ≢ 1 → (result.status ≡ 6 ↔ (is_solid (content file.now).points ≡ false)) }
     ensures kept { (result.status ≡ 0) ⊎ (result.status ≡ 4) → result.kept.items ≡ history_of (content file.now) }
     ensures none_kept { result.status ≢ 0 → result.status ≢ 4 → result.kept.items ≡ [] }
+    ensures legal { IsLegal result.kept.items }
     ensures written { result.status ≡ 0
         → Appends (O.holds out.old) (O.holds out.new) (text_of asked.shape asked.order (content file.now) result.kept.items) }
     ensures front { result.status ≡ 4

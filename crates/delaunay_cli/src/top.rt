@@ -11,8 +11,10 @@ ghost use Rattle.delaunay_cli.specs.Run.{HasFault, IsJudged, Reads, Writes, Writ
 ghost use Rattle.delaunay_cli.specs.Endings.{line_of, status_of_words};
 ghost use Rattle.edit_history.specs.Histories.{IsLegal};
 ghost use Rattle.edit_history.specs.OneThread.{Keeps as FileKeeps};
+ghost use Rattle.plain_laws.specs.Plain.{IsAnchored};
+ghost use Rattle.delaunay_cli.specs.PlainText.{plain_drawn, plain_text};
 ghost use Rattle.delaunay_cli.specs.Drawn.{drawn_file, drawn_text, kept_of_drawn};
-ghost use Rattle.delaunay_cli.specs.Words.{AreMesh, AreMeshOrder, AreShape, AreShapeOrder, AreTaken, DrawsFile, ReadsFile, asks_order, asks_shape, asks_text};
+ghost use Rattle.delaunay_cli.specs.Words.{AreGen, AreGenText, AreMesh, AreMeshOrder, AreShape, AreShapeOrder, AreTaken, DrawsFile, ReadsFile, asks_order, asks_shape, asks_text, drawn_count, drawn_start, most_count, most_start};
 
 use crate::drawn::draw;
 use crate::mesh::mesh;
@@ -45,6 +47,7 @@ fn judge<R, O: Sink>(rt: &R, alloc: Global, bytes: &[u8], asked: Asked, out: &mu
     ensures kept { (result.run.status ≡ 0) ⊎ (result.run.status ≡ 4) → (file : Content) → IsFile line_limit bytes.now file
         → result.run.kept.items ≡ history_of file }
     ensures none_kept { result.run.status ≢ 0 → result.run.status ≢ 4 → result.run.kept.items ≡ [] }
+    ensures legal { IsLegal result.run.kept.items }
     ensures written { result.run.status ≡ 0 → Writes asked.shape asked.order bytes.now (O.holds out.old) (O.holds out.new) result.run.kept.items }
     ensures front { result.run.status ≡ 4 → WritesFront asked.shape asked.order bytes.now (O.holds out.old) (O.holds out.new) result.run.kept.items }
     ensures nothing { result.run.status ≢ 0 → result.run.status ≢ 4 → Keeps (O.holds out.old) (O.holds out.new) }
@@ -109,6 +112,7 @@ fn report<R, S: Source, O: Sink>(
         → IfSome (S.left src.old) (λ bytes. (file : Content) → IsFile line_limit bytes file
         → result.run.kept.items ≡ history_of file) }
     ensures none_kept { result.run.status ≢ 0 → result.run.status ≢ 4 → result.run.kept.items ≡ [] }
+    ensures legal { IsLegal result.run.kept.items }
     ensures written { result.run.status ≡ 0
         → IfSome (S.left src.old) (λ bytes. Writes asked.shape asked.order bytes (O.holds out.old) (O.holds out.new) result.run.kept.items) }
     ensures front { result.run.status ≡ 4
@@ -116,6 +120,8 @@ fn report<R, S: Source, O: Sink>(
     ensures nothing { result.run.status ≢ 0 → result.run.status ≢ 4 → Keeps (O.holds out.old) (O.holds out.new) }
     ensures reads { Reads (S.left src.old) (S.left src.new) result.run.status }
     ensures to_its_end { result.run.status ≡ 0 → IsAtEnd (S.left src.new) }
+    ensures later_source { S.faults src.old ≤ S.faults src.new }
+    ensures later_output { O.faults out.old ≤ O.faults out.new }
 {
     let mut bytes = Vec::new(alloc);
     let status = match read_to_limit(src, TOO_MANY, &mut bytes) {
@@ -156,6 +162,7 @@ fn work<R, S: Source, O: Sink>(
         → IfSome (S.left src.old) (λ bytes. (file : Content) → IsFile line_limit bytes file
         → result.run.kept.items ≡ history_of file) }
     ensures none_kept { result.run.status ≢ 0 → result.run.status ≢ 4 → result.run.kept.items ≡ [] }
+    ensures legal { IsLegal result.run.kept.items }
     ensures written { ReadsFile words.now → result.run.status ≡ 0
         → IfSome (S.left src.old) (λ bytes. Writes (asks_shape words.now) (asks_order words.now) bytes (O.holds out.old) (O.holds out.new) result.run.kept.items) }
     ensures front { ReadsFile words.now → result.run.status ≡ 4
@@ -163,6 +170,9 @@ fn work<R, S: Source, O: Sink>(
     ensures nothing { result.run.status ≢ 0 → result.run.status ≢ 4 → Keeps (O.holds out.old) (O.holds out.new) }
     ensures reads { ReadsFile words.now → Reads (S.left src.old) (S.left src.new) result.run.status }
     ensures to_its_end { ReadsFile words.now → result.run.status ≡ 0 → IsAtEnd (S.left src.new) }
+    ensures unread { result.run.status ≡ 2 → src.new ≡ src.old }
+    ensures later_source { S.faults src.old ≤ S.faults src.new }
+    ensures later_output { O.faults out.old ≤ O.faults out.new }
     ensures source { DrawsFile words.now → src.new ≡ src.old }
     ensures drawn_statuses { DrawsFile words.now → result.run.status ≤ 2 ⊎ (result.run.status ≡ 4) }
     ensures drawn_kept { DrawsFile words.now → (result.run.status ≡ 0) ⊎ (result.run.status ≡ 4)
@@ -225,11 +235,20 @@ pub fn run<R, S: Source, O: Sink, E: Sink>(
     ensures shape_order { AreShapeOrder words.now → AreTaken words.now × (asks_shape words.now ≡ true) × (asks_order words.now ≡ true) }
     ensures read { AreMesh words.now ⊎ AreMeshOrder words.now ⊎ AreShape words.now ⊎ AreShapeOrder words.now → ReadsFile words.now }
 
+    // The words `gen`, `--count=N` and `--start=M` are taken for every count and start, and with `--text` ask for the file's text.
+    ensures generator { (count start : ℕ) → count ≤ most_count → start ≤ most_start → AreGen count start words.now
+        → AreTaken words.now × DrawsFile words.now × (drawn_count words.now ≡ count) × (drawn_start words.now ≡ start)
+        × (asks_text words.now ≡ false) }
+    ensures generator_text { (count start : ℕ) → count ≤ most_count → start ≤ most_start → AreGenText count start words.now
+        → AreTaken words.now × DrawsFile words.now × (drawn_count words.now ≡ count) × (drawn_start words.now ≡ start)
+        × (asks_text words.now ≡ true) }
+
     // What is kept, read, written and told, where a file is read.
     ensures kept { ReadsFile words.now → (result.status ≡ 0) ⊎ (result.status ≡ 4)
         → IfSome (S.left src.old) (λ bytes. (file : Content) → IsFile line_limit bytes file
         → result.kept.items ≡ history_of file) }
     ensures none_kept { result.status ≢ 0 → result.status ≢ 4 → result.kept.items ≡ [] }
+    ensures legal { IsLegal result.kept.items }
     ensures written { ReadsFile words.now → result.status ≡ 0
         → IfSome (S.left src.old) (λ bytes. Writes (asks_shape words.now) (asks_order words.now) bytes (O.holds out.old) (O.holds out.new) result.kept.items) }
     ensures front { ReadsFile words.now → result.status ≡ 4
@@ -237,7 +256,21 @@ pub fn run<R, S: Source, O: Sink, E: Sink>(
     ensures nothing { result.status ≢ 0 → result.status ≢ 4 → Keeps (O.holds out.old) (O.holds out.new) }
     ensures reads { ReadsFile words.now → Reads (S.left src.old) (S.left src.new) result.status }
     ensures to_its_end { ReadsFile words.now → result.status ≡ 0 → IsAtEnd (S.left src.new) }
+    ensures unread { result.status ≡ 2 → src.new ≡ src.old }
     ensures told { Tells (S.left src.old) (E.holds err.old) (E.holds err.new) (E.faults err.old) (E.faults err.new) result.status }
+
+    // Counts of faults never fall.
+    ensures later_source { S.faults src.old ≤ S.faults src.new }
+    ensures later_output { O.faults out.old ≤ O.faults out.new }
+    ensures later_error { E.faults err.old ≤ E.faults err.new }
+
+    // Where no edit takes one of the opening four and no order block is asked for, what is written goes by the file and the command.
+    ensures plain { ReadsFile words.now → asks_order words.now ≡ false → result.status ≡ 0
+        → IfSome (S.left src.old) (λ bytes. (file : Content) → IsFile line_limit bytes file → IsAnchored file.points file.edits
+        → Appends (O.holds out.old) (O.holds out.new) (plain_text (asks_shape words.now) file)) }
+    ensures plain_front { ReadsFile words.now → asks_order words.now ≡ false → result.status ≡ 4
+        → IfSome (S.left src.old) (λ bytes. (file : Content) → IsFile line_limit bytes file → IsAnchored file.points file.edits
+        → AppendsFront (O.holds out.old) (O.holds out.new) (plain_text (asks_shape words.now) file)) }
 
     // A solid file within the limit is meshed, unless memory is wanting or the source or the output fails.
     ensures complete { AreTaken words.now → ReadsFile words.now
@@ -256,6 +289,10 @@ pub fn run<R, S: Source, O: Sink, E: Sink>(
         → Appends (O.holds out.old) (O.holds out.new) (drawn_text words.now result.kept.items) }
     ensures drawn_front { DrawsFile words.now → result.status ≡ 4
         → AppendsFront (O.holds out.old) (O.holds out.new) (drawn_text words.now result.kept.items) }
+    ensures drawn_plain { DrawsFile words.now → result.status ≡ 0
+        → Appends (O.holds out.old) (O.holds out.new) (plain_drawn words.now) }
+    ensures drawn_plain_front { DrawsFile words.now → result.status ≡ 4
+        → AppendsFront (O.holds out.old) (O.holds out.new) (plain_drawn words.now) }
     ensures drawn_complete { AreTaken words.now → DrawsFile words.now → (Rose (O.faults out.old) (O.faults out.new) → ⊥)
         → (result.status ≡ 0) ⊎ (result.status ≡ 1) }
 {
@@ -270,6 +307,7 @@ fn tell<E: Sink>(err: &mut E, ended: &Ended)
     ensures front { AppendsFront (E.holds err.old) (E.holds err.new) (line_of ended.now) }
     ensures whole { (Rose (E.faults err.old) (E.faults err.new) → ⊥)
         → Appends (E.holds err.old) (E.holds err.new) (line_of ended.now) }
+    ensures later { E.faults err.old ≤ E.faults err.new }
 {
     let _ = match &ended.bad_line {
         Some(line) => write_all(err, line),

@@ -1,9 +1,8 @@
-use Rattle.std.proofs.Common.{◌∙◌, sym, ap, subst, arith, ℕ, List, length, map, ◌++◌, [], length-append}
+use Rattle.std.proofs.Common.{◌∙◌, ap, subst, arith, List, length, map, [], length-append}
 use Rattle.std.proofs.lemmas.List.{length-map}
 use Rattle.std.specs.List.{enumerate_from}
 use Rattle.edit_history.specs.declared.history.Edit.{Edit}
 use Rattle.edit_history.specs.declared.history.Edit.TheVariants.{Add}
-use Rattle.edit_history.specs.declared.history.Entry.{Entry}
 use Rattle.edit_history.specs.Histories.{IsLegal}
 use Rattle.edit_history.proofs.Lines.{length-entries}
 use Rattle.delaunay_cli.specs.Made.{tagged_points, with_lines, other_lines}
