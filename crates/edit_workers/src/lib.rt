@@ -1,0 +1,10 @@
+//! Workers: the lines of a file are dealt to them by their points, and each makes its own on one table.
+#![tactic(auto)]
+
+mod dealing;
+mod lists;
+mod running;
+
+pub use dealing::deal;
+pub use lists::{Left, List, Lists};
+pub use running::run_edits;
