@@ -6,3 +6,4 @@ pub mod ShapesOfSet
 pub mod DrawnFiles
 pub mod PlainTexts
 pub mod NumberWords
+pub mod DealtLines

@@ -6,11 +6,8 @@ use Rattle.std.specs.Io.KnownBytes.{Appends}
 use Rattle.byte_ends.specs.Ends.{AppendsFront}
 use Rattle.point_order.specs.Complex.{complex}
 use Rattle.edit_history.specs.declared.history.Entry.{Entry}
-use Rattle.edit_history.specs.Opening.{Four}
 use Rattle.edit_history.specs.Histories.{IsLegal}
-use Rattle.edit_history.specs.OneThread.{Keeps, one_thread}
-use Rattle.edit_history.proofs.HistoryLaws.{legal_law}
-use Rattle.edit_history.proofs.KeepsLaw.{keeps_law}
+use Rattle.edit_history.specs.OneThread.{Keeps}
 use Rattle.edit_files.specs.Content.{Content}
 use Rattle.edit_files.specs.Grammar.{line_limit, IsFile}
 use Rattle.edit_files.proofs.Generated.{generated-anchored}
@@ -20,10 +17,10 @@ use Rattle.mesh_files.specs.Summary.{summary_text}
 use Rattle.mesh_files.specs.Text.{report_text}
 use Rattle.plain_laws.specs.Plain.{IsAnchored, IsPlain}
 use Rattle.plain_laws.proofs.PlainLaw.{anchored_is_plain}
-use Rattle.delaunay_cli.specs.Drawn.{drawn_file, drawn_text, kept_of_drawn}
+use Rattle.delaunay_cli.specs.Drawn.{IsKeptOfDrawn, drawn_file, drawn_text}
 use Rattle.delaunay_cli.specs.PlainText.{plain_drawn, plain_report, plain_text}
 use Rattle.delaunay_cli.specs.Report.{report_of, shapes_of, text_of}
-use Rattle.delaunay_cli.specs.Run.{Writes, WritesFront, history_of}
+use Rattle.delaunay_cli.specs.Run.{IsKept, Writes, WritesFront}
 use Rattle.delaunay_cli.specs.Words.{asks_text, drawn_count, drawn_start}
 
 -- the report of a plain history is that of the lines
@@ -36,41 +33,31 @@ pub kept_is_plain : (shape : Bool) (file : Content) (workers : ℕ) (h : List En
     report_of shape false file h ≡ plain_report shape file
 kept_is_plain shape file workers h anchored keeps legal = report_is shape file h (anchored_is_plain file.points file.edits workers h anchored keeps legal)
 
--- the history of one thread keeps an anchored file
-pub one_thread_keeps : (file : Content) → IsAnchored file.points file.edits → Keeps file.points file.edits 1 (history_of file)
-one_thread_keeps file anchored =
-    subst (λ (o : Option Four). IfSome o (λ _. Keeps file.points file.edits 1 (one_thread file.points file.edits))) anchored.opening (keeps_law file.points file.edits)
-
-pub one_thread_is_plain : (shape : Bool) (file : Content) → IsAnchored file.points file.edits → report_of shape false file (history_of file) ≡ plain_report shape file
-one_thread_is_plain shape file anchored = kept_is_plain shape file 1 (history_of file) anchored (one_thread_keeps file anchored) (legal_law file.points file.edits)
-
--- what is written of a file whose report is plain
-module _ (P : Content → Type 0) (shape order : Bool) (old new : Option (List ℕ)) (kept : List Entry)
-    (plain : (file : Content) → IsAnchored file.points file.edits → P file → report_of shape false file kept ≡ plain_report shape file) where
-  same : (f file : Content) → f ≡ file → order ≡ false → IsAnchored file.points file.edits → P file → text_of shape order f kept ≡ plain_text shape file
-  same f file e o anchored p =
-      ap (λ (g : Content). text_of shape order g kept) e ∙ ap (λ (b : Bool). text_of shape b file kept) o ∙ ap report_text (plain file anchored p)
+-- what is written of an anchored file that a legal history keeps
+module _ (workers : ℕ) (shape order : Bool) (old new : Option (List ℕ)) (kept : List Entry) (legal : IsLegal kept) where
+  same : (f file : Content) → f ≡ file → order ≡ false → IsAnchored file.points file.edits → IsKept file workers kept → text_of shape order f kept ≡ plain_text shape file
+  same f file e o anchored k =
+      ap (λ (g : Content). text_of shape order g kept) e ∙ ap (λ (b : Bool). text_of shape b file kept) o ∙ ap report_text (kept_is_plain shape file workers kept anchored k.keeps legal)
 
   pub plain_written : (left : Option (List ℕ)) → order ≡ false → IfSome left (λ bytes. Writes shape order bytes old new kept)
-      → IfSome left (λ bytes. (file : Content) → IsFile line_limit bytes file → P file)
+      → IfSome left (λ bytes. (file : Content) → IsFile line_limit bytes file → IsKept file workers kept)
       → IfSome left (λ bytes. (file : Content) → IsFile line_limit bytes file → IsAnchored file.points file.edits → Appends old new (plain_text shape file))
   plain_written None o w k = tt
   plain_written (Some bytes) o w k =
       λ file is anchored. subst (λ (t : List ℕ). Appends old new t) (same w.0 file (one_file_of line_limit bytes w.0 file w.1 is) o anchored (k file is)) w.2
 
   pub plain_front : (left : Option (List ℕ)) → order ≡ false → IfSome left (λ bytes. WritesFront shape order bytes old new kept)
-      → IfSome left (λ bytes. (file : Content) → IsFile line_limit bytes file → P file)
+      → IfSome left (λ bytes. (file : Content) → IsFile line_limit bytes file → IsKept file workers kept)
       → IfSome left (λ bytes. (file : Content) → IsFile line_limit bytes file → IsAnchored file.points file.edits → AppendsFront old new (plain_text shape file))
   plain_front None o w k = tt
   plain_front (Some bytes) o w k =
       λ file is anchored. subst (λ (t : List ℕ). AppendsFront old new t) (same w.0 file (one_file_of line_limit bytes w.0 file w.1 is) o anchored (k file is)) w.2
 
 -- what is written of a drawn file
-pub drawn_is_plain : (words : List (String Global)) (kept : List Entry) → kept ≡ kept_of_drawn (asks_text words) (drawn_file words) → drawn_text words kept ≡ plain_drawn words
-drawn_is_plain words kept e = by (asks_text words) e
+pub drawn_is_plain : (words : List (String Global)) (workers : ℕ) (kept : List Entry) → IsLegal kept → IsKeptOfDrawn (asks_text words) (drawn_file words) workers kept → drawn_text words kept ≡ plain_drawn words
+drawn_is_plain words workers kept legal e = by (asks_text words) e
   where
-    by : (text : Bool) → kept ≡ kept_of_drawn text (drawn_file words) →
+    by : (text : Bool) → IsKeptOfDrawn text (drawn_file words) workers kept →
         cond text (file_text (drawn_file words)) (summary_text (report_of true false (drawn_file words) kept)) ≡ cond text (file_text (drawn_file words)) (summary_text (plain_report true (drawn_file words)))
     by true k = refl
-    by false k =
-        ap summary_text (ap (report_of true false (drawn_file words)) k ∙ one_thread_is_plain true (drawn_file words) (generated-anchored (drawn_count words) (drawn_start words)))
+    by false k = ap summary_text (kept_is_plain true (drawn_file words) workers kept (generated-anchored (drawn_count words) (drawn_start words)) k.keeps legal)

@@ -4,7 +4,7 @@ use Rattle.std.specs.Io.KnownBytes.{Appends, Consumes, IsAtEnd}
 use Rattle.byte_ends.specs.Ends.{AppendsFront}
 use Rattle.point_order.specs.Solid.{is_solid}
 use Rattle.edit_history.specs.declared.history.Entry.{Entry}
-use Rattle.edit_history.specs.OneThread.{one_thread}
+use Rattle.edit_history.specs.OneThread.{Keeps, one_thread}
 use Rattle.edit_files.specs.Content.{Content}
 use Rattle.edit_files.specs.Grammar.{line_limit, IsFile}
 use Rattle.edit_files.specs.Faults.{IsFault}
@@ -19,6 +19,11 @@ input_limit = 16777216
 -- the history of one thread that makes the file's lines its edits
 abbrev pub history_of : Content → List Entry
 history_of file = one_thread file.points file.edits
+
+-- The history keeps the file for a number of workers; for one it is the history of one thread.
+pub record IsKept (file : Content) (workers : ℕ) (h : List Entry) : Type 0 where
+  pub keeps : Keeps file.points file.edits workers h
+  pub alone : workers ≡ 1 → h ≡ history_of file
 
 -- Bytes that were taken of a source, one more than the limit at most; all that it told, unless it was left early. Where it was one
 -- more, the input is too long, or memory is wanting.
