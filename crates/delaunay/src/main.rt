@@ -2,6 +2,7 @@
 #![tactic(auto)]
 
 use byte_ends::{StdSink, StdSource};
+use grid_claims::OpenGate;
 use std::alloc::{AllocError, Global};
 use std::env;
 use std::process::ExitCode;
@@ -22,6 +23,14 @@ fn main(rt: HostRuntime) -> ExitCode {
     let mut input = StdSource::input(&rt);
     let mut output = StdSink::output(&rt);
     let mut error = StdSink::error(&rt);
-    let run = delaunay_cli::run(&rt, alloc, &words, &mut input, &mut output, &mut error);
+    let run = delaunay_cli::run(
+        &rt,
+        alloc,
+        &words,
+        &mut input,
+        &mut output,
+        &mut error,
+        &OpenGate,
+    );
     ExitCode::from(run.status)
 }

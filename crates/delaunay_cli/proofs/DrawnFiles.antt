@@ -1,24 +1,19 @@
 -- What holds of a drawn file.
 use Rattle.std.proofs.Common.{◌≡◌, ◌∙◌, ap, sym, subst, ℕ, ◌+◌, ◌<◌, ◌≤◌, ◌^◌, Bool, true, false, List, [], ◌∷◌, length, arith, lit<}
-use Rattle.std.specs.Prelude.{All, IfSome, Option, None, Some, String}
+use Rattle.std.specs.Prelude.{All, String}
 use Rattle.std.specs.declared.alloc.Global.{Global}
 use Rattle.std.proofs.lemmas.List.Elements.{All-cons, All-nil}
 use Rattle.std.proofs.lemmas.List.FromFn.{length-map-range_with_len}
 use Rattle.point_order.specs.Solid.{is_solid}
 use Rattle.edit_files.specs.Content.{Content}
 use Rattle.edit_files.specs.Generator.{edit_line, generated}
-use Rattle.edit_files.proofs.Generated.{generated-anchored, generated-solid}
-use Rattle.edit_history.specs.declared.history.Edit.{Edit}
+use Rattle.edit_files.proofs.Generated.{generated-solid}
 use Rattle.edit_history.specs.declared.history.Entry.{Entry}
-use Rattle.edit_history.proofs.HistoryLaws.{legal_law}
-use Rattle.edit_history.proofs.KeepsLaw.{keeps_law}
-use Rattle.edit_history.specs.Histories.{IsLegal}
-use Rattle.edit_history.specs.OneThread.{Keeps, one_thread}
-use Rattle.edit_history.specs.Opening.{Four, opening_four}
-use Rattle.plain_laws.specs.Plain.{IsAnchored}
 use Rattle.delaunay_cli.specs.declared.task.Drawn.{Drawn}
-use Rattle.delaunay_cli.specs.Drawn.{drawn_file, drawn_text, kept_of_drawn, text_of_drawn}
-use Rattle.delaunay_cli.specs.Words.{DrawsFile, asks_text, drawn_count, drawn_start}
+use Rattle.delaunay_cli.specs.declared.task.Making.{Making}
+use Rattle.delaunay_cli.specs.Drawn.{IsKeptOfDrawn, drawn_file, drawn_text, text_of_drawn}
+use Rattle.delaunay_cli.specs.Run.{IsKept}
+use Rattle.delaunay_cli.specs.Words.{DrawsFile, asks_text, drawn_count, drawn_start, worker_count}
 
 pub drawn-lines : (f : Content) (count start : ℕ) → count ≤ 262140 → f ≡ generated count start → length f.points + length f.edits + 4 < 2 ^ 32
 drawn-lines f count start few e =
@@ -41,32 +36,25 @@ pub not_both : (b : Bool) → b ≡ false → b ≡ true → ⊥
 not_both b e k = cc
 
 -- what the words ask for is what was read of them
-pub kept-drawn : (drawn : Drawn) (words : List (String Global)) → DrawsFile words × (drawn.count ≡ drawn_count words) × (drawn.start ≡ drawn_start words) × (drawn.text ≡ asks_text words) →
-    kept_of_drawn drawn.text (generated drawn.count drawn.start) ≡ kept_of_drawn (asks_text words) (drawn_file words)
-kept-drawn drawn words k =
-    ap (λ (b : Bool). kept_of_drawn b (generated drawn.count drawn.start)) k.3
-    ∙ ap (λ (n : ℕ). kept_of_drawn (asks_text words) (generated n drawn.start)) k.1
-    ∙ ap (λ (n : ℕ). kept_of_drawn (asks_text words) (generated (drawn_count words) n)) k.2
+pub kept-drawn : (making : Making) (drawn : Drawn) (words : List (String Global)) (h : List Entry) →
+    DrawsFile words × (drawn.count ≡ drawn_count words) × (drawn.start ≡ drawn_start words) × (drawn.text ≡ asks_text words) × (making.workers ≡ worker_count words) →
+    IsKeptOfDrawn drawn.text (generated drawn.count drawn.start) making.workers h → IsKeptOfDrawn (asks_text words) (drawn_file words) (worker_count words) h
+kept-drawn making drawn words h k x =
+    subst (λ (n : ℕ). IsKeptOfDrawn (asks_text words) (drawn_file words) n h) k.4
+    (subst (λ (n : ℕ). IsKeptOfDrawn (asks_text words) (generated (drawn_count words) n) making.workers h) k.2
+    (subst (λ (n : ℕ). IsKeptOfDrawn (asks_text words) (generated n drawn.start) making.workers h) k.1
+    (subst (λ (b : Bool). IsKeptOfDrawn b (generated drawn.count drawn.start) making.workers h) k.3 x)))
 
-pub text-drawn : (drawn : Drawn) (words : List (String Global)) (h : List Entry) → DrawsFile words × (drawn.count ≡ drawn_count words) × (drawn.start ≡ drawn_start words) × (drawn.text ≡ asks_text words) →
+pub text-drawn : (drawn : Drawn) (words : List (String Global)) (h : List Entry) → drawn.count ≡ drawn_count words → drawn.start ≡ drawn_start words → drawn.text ≡ asks_text words →
     text_of_drawn drawn.text (generated drawn.count drawn.start) h ≡ drawn_text words h
-text-drawn drawn words h k =
-    ap (λ (b : Bool). text_of_drawn b (generated drawn.count drawn.start) h) k.3
-    ∙ ap (λ (n : ℕ). text_of_drawn (asks_text words) (generated n drawn.start) h) k.1
-    ∙ ap (λ (n : ℕ). text_of_drawn (asks_text words) (generated (drawn_count words) n) h) k.2
+text-drawn drawn words h count start text =
+    ap (λ (b : Bool). text_of_drawn b (generated drawn.count drawn.start) h) text
+    ∙ ap (λ (n : ℕ). text_of_drawn (asks_text words) (generated n drawn.start) h) count
+    ∙ ap (λ (n : ℕ). text_of_drawn (asks_text words) (generated (drawn_count words) n) h) start
 
--- the history of a drawn file is legal, and keeps it for one worker
-pub drawn-history : (words : List (String Global)) (h : List Entry) → asks_text words ≡ false → h ≡ kept_of_drawn (asks_text words) (drawn_file words) →
-    IsLegal h × Keeps (drawn_file words).points (drawn_file words).edits 1 h
-drawn-history words h t e =
-    let points = (drawn_file words).points in
-    let edits = (drawn_file words).edits in
-    let k : h ≡ one_thread points edits = e ∙ ap (λ (b : Bool). kept_of_drawn b (drawn_file words)) t in
-    subst (λ (l : List Entry). IsLegal l × Keeps points edits 1 l) (sym k) (legal_law points edits, keeps-opened points edits (generated-anchored (drawn_count words) (drawn_start words)))
-  where
-    keeps-opened : (points : List ℕ) (edits : List Edit) → IsAnchored points edits → Keeps points edits 1 (one_thread points edits)
-    keeps-opened points edits a = by (opening_four points) a.opening (keeps_law points edits)
-      where
-        by : (o : Option Four) → o ≡ Some a.four → IfSome o (λ _. Keeps points edits 1 (one_thread points edits)) → Keeps points edits 1 (one_thread points edits)
-        by None e h = absurd (cc e)
-        by (Some f) e h = h
+-- what is kept of a drawn file whose text is not asked for, and of one whose text is
+pub kept-meshed : (text : Bool) (file : Content) (workers : ℕ) (h : List Entry) → text ≡ false → IsKeptOfDrawn text file workers h → IsKept file workers h
+kept-meshed text file workers h t k = subst (λ (b : Bool). IsKeptOfDrawn b file workers h) t k
+
+pub kept-text : (text : Bool) (file : Content) (workers : ℕ) (h : List Entry) → text ≡ true → IsKeptOfDrawn text file workers h → h ≡ []
+kept-text text file workers h t k = subst (λ (b : Bool). IsKeptOfDrawn b file workers h) t k

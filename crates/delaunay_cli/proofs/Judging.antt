@@ -100,3 +100,14 @@ drawn-completes words status rose (inl le) usage write w nr =
     let ne2 : status ≢ 2 = λ e. usage e w in
     elim (cases_eq status 1) [ inl e ↦ inr e | inr ne1 ↦ inl (omega (arith, le, ne1, ne2)) ]
 drawn-completes words status rose (inr e) usage write w nr = absurd (nr (write e))
+
+-- what holds of what is kept for each file that was read
+pub each-kept : (P Q : Content → Type 0) → ((f : Content) → P f → Q f) → (left : Option (List ℕ)) → IfSome left (λ bytes. (file : Content) → IsFile line_limit bytes file → P file)
+    → IfSome left (λ bytes. (file : Content) → IsFile line_limit bytes file → Q file)
+each-kept P Q w None k = tt
+each-kept P Q w (Some bytes) k = λ file is. w file (k file is)
+
+-- what holds on 0 and 4, and on every other status
+pub by_status : (status : ℕ) (P : Type 0) → ((status ≡ 0) ⊎ (status ≡ 4) → P) → (status ≢ 0 → status ≢ 4 → P) → P
+by_status status P done other =
+    elim (cases_eq status 0) [ inl e ↦ done (inl e) | inr n ↦ elim (cases_eq status 4) [ inl e ↦ done (inr e) | inr m ↦ other n m ] ]

@@ -4,3 +4,6 @@ pub mod Judging
 pub mod OpeningLines
 pub mod ShapesOfSet
 pub mod DrawnFiles
+pub mod PlainTexts
+pub mod NumberWords
+pub mod DealtLines

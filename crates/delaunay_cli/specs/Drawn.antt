@@ -1,5 +1,5 @@
 -- What is written of a file that is drawn.
-use Rattle.std.specs.Prelude.{ℕ, Bool, true, false, List, [], String, if◌then◌else◌}
+use Rattle.std.specs.Prelude.{◌≡◌, ℕ, Bool, true, false, List, [], String, if◌then◌else◌}
 use Rattle.std.specs.declared.alloc.Global.{Global}
 use Rattle.edit_history.specs.declared.history.Entry.{Entry}
 use Rattle.edit_files.specs.Content.{Content}
@@ -7,7 +7,7 @@ use Rattle.edit_files.specs.Generator.{generated}
 use Rattle.edit_files.specs.Writing.{file_text}
 use Rattle.mesh_files.specs.Summary.{summary_text}
 use Rattle.delaunay_cli.specs.Report.{report_of}
-use Rattle.delaunay_cli.specs.Run.{history_of}
+use Rattle.delaunay_cli.specs.Run.{IsKept}
 use Rattle.delaunay_cli.specs.Words.{asks_text, drawn_count, drawn_start}
 
 -- the summary of a history of a file's lines, with a shape for each of its radii
@@ -18,9 +18,10 @@ summary_of file h = summary_text (report_of true false file h)
 abbrev pub text_of_drawn : Bool → Content → List Entry → List ℕ
 text_of_drawn text file h = if text then file_text file else summary_of file h
 
--- what is kept of it: no history where its text is asked for, and else that of one thread
-abbrev pub kept_of_drawn : Bool → Content → List Entry
-kept_of_drawn text file = if text then [] else history_of file
+-- what is kept of it for a number of workers: no history where its text is asked for, and else one that keeps it
+abbrev pub IsKeptOfDrawn : Bool → Content → ℕ → List Entry → Type 0
+IsKeptOfDrawn true file workers h = h ≡ []
+IsKeptOfDrawn false file workers h = IsKept file workers h
 
 -- the file that the words ask for
 abbrev pub drawn_file : List (String Global) → Content

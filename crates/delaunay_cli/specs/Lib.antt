@@ -6,3 +6,4 @@ pub mod Run
 pub mod Endings
 pub mod Tasks
 pub mod Drawn
+pub mod PlainText

@@ -1,11 +1,9 @@
 -- What is written of a history.
-use Rattle.std.specs.Prelude.{ℕ, ◌+◌, Bool, ◌==◌, length, List, [], ◌∷◌, map, Option, None, Some, if◌then◌else◌}
-use Rattle.std.specs.List.{range_with_len}
+use Rattle.std.specs.Prelude.{ℕ, ◌+◌, Bool, length, List, [], map, Option, None, Some, if◌then◌else◌}
 use Rattle.point_order.specs.Complex.{complex}
 use Rattle.edit_history.specs.declared.history.Entry.{Entry}
-use Rattle.edit_history.specs.declared.history.Reply.{Reply}
-use Rattle.edit_history.specs.declared.history.Reply.TheVariants.{Missing}
 use Rattle.edit_history.specs.Histories.{replay}
+use Rattle.plain_laws.specs.Plain.{replies_by_tag}
 use Rattle.edit_files.specs.Content.{Content}
 use Rattle.alpha_complex.specs.Shapes.{ShapeParts, shape_of}
 use Rattle.mesh_files.specs.Text.{ReportParts, report_text}
@@ -13,15 +11,6 @@ use Rattle.mesh_files.specs.Text.{ReportParts, report_text}
 -- how many point and edit lines a file has
 abbrev pub line_count : Content → ℕ
 line_count file = length file.points + length file.edits
-
--- the reply of the entry with a tag; a history that keeps its file has one for each line
-abbrev pub reply_at : List Entry → ℕ → Reply
-reply_at [] tag = Missing
-reply_at (e ∷ h) tag = if e.tag == tag then e.reply else reply_at h tag
-
--- the replies in the order of the lines, of which there are so many
-abbrev pub replies_by_tag : ℕ → List Entry → List Reply
-replies_by_tag count h = map (reply_at h) (range_with_len 0 count)
 
 -- the tags of a history, in its order
 abbrev pub tags_of : List Entry → List ℕ

@@ -4,7 +4,7 @@ use Rattle.std.specs.Io.KnownBytes.{Appends, Consumes, IsAtEnd}
 use Rattle.byte_ends.specs.Ends.{AppendsFront}
 use Rattle.point_order.specs.Solid.{is_solid}
 use Rattle.edit_history.specs.declared.history.Entry.{Entry}
-use Rattle.edit_history.specs.OneThread.{one_thread}
+use Rattle.edit_history.specs.OneThread.{Keeps, one_thread}
 use Rattle.edit_files.specs.Content.{Content}
 use Rattle.edit_files.specs.Grammar.{line_limit, IsFile}
 use Rattle.edit_files.specs.Faults.{IsFault}
@@ -20,12 +20,19 @@ input_limit = 16777216
 abbrev pub history_of : Content → List Entry
 history_of file = one_thread file.points file.edits
 
--- Bytes that were taken of a source, one more than the limit at most; all that it told, unless it was left early.
+-- The history keeps the file for a number of workers; for one it is the history of one thread.
+pub record IsKept (file : Content) (workers : ℕ) (h : List Entry) : Type 0 where
+  pub keeps : Keeps file.points file.edits workers h
+  pub alone : workers ≡ 1 → h ≡ history_of file
+
+-- Bytes that were taken of a source, one more than the limit at most; all that it told, unless it was left early. Where it was one
+-- more, the input is too long, or memory is wanting.
 pub record Reads (left_old left_new : Option (List ℕ)) (status : ℕ) : Type 0 where
   pub taken : List ℕ
   pub consumed : Consumes left_old left_new taken
   pub within : length taken ≤ input_limit + 1
   pub whole : (IsEarly status → ⊥) → IsAtEnd left_new ⊎ (length taken ≡ input_limit + 1)
+  pub past : length taken ≡ input_limit + 1 → (status ≡ 7) ⊎ (status ≡ 1)
 
 -- the output gained the text of the file that the bytes are, and of the history, with shapes or without, and with its order block
 -- or not

@@ -1,5 +1,5 @@
 -- The command line, as `clap` reads it.
-use Rattle.std.specs.Prelude.{◌≡◌, ℕ, List, [], ◌∷◌, Bool, true, false, pos, Option, Some, codes, map, string_bytes, String, if◌then◌else◌}
+use Rattle.std.specs.Prelude.{◌≡◌, ℕ, List, [], ◌∷◌, ◌++◌, Bool, true, false, pos, Option, Some, codes, decimal, map, string_bytes, String, if◌then◌else◌}
 use Rattle.std.specs.Option.{option_map_or}
 use Rattle.std.specs.Str.{bytes_eq}
 use Rattle.std.specs.Str.Parse.{digits_value, without_leading_plus}
@@ -9,22 +9,42 @@ use Rattle.clap.specs.Simple.{on_top}
 use Rattle.clap.specs.ValueTests.{is_unsigned_in}
 use Rattle.clap.specs.declared.builder.action.ArgAction.TheVariants.{SetTrue}
 use Rattle.clap.specs.declared.builder.value_parser.ValueParser.TheVariants.{Signed}
+use Rattle.cell_store.specs.Grids.{is_grid_size}
 
--- the option `--workers`, which takes a number from 1 to 1, and is 1 where it is left out
-abbrev pub workers_option : Rule
-workers_option = record (new_rule (codes "workers")) {
-  long = Some (codes "workers");
-  defaults = codes "1" ∷ [];
-  parser = Some (Signed (pos 1) (pos 1));
+-- the most workers that there may be, and the greatest size of a grid
+abbrev pub most_workers : ℕ
+most_workers = 64
+
+abbrev pub most_grid : ℕ
+most_grid = 16
+
+-- an option of this name that takes a number from 1 to the most, and has a default where it is left out
+abbrev pub counting_option : Text → ℕ → Text → Rule
+counting_option name most default = record (new_rule name) {
+  long = Some name;
+  defaults = default ∷ [];
+  parser = Some (Signed (pos 1) (pos most));
 }
+
+-- the option `--workers`, which is 1 where it is left out
+abbrev pub workers_option : Rule
+workers_option = counting_option (codes "workers") most_workers (codes "1")
+
+-- the option `--grid`, which is 4 where it is left out
+abbrev pub grid_option : Rule
+grid_option = counting_option (codes "grid") most_grid (codes "4")
 
 -- a flag of this name
 abbrev pub flag_of : Text → Rule
 flag_of name = record (new_rule name) { long = Some name; action = Some SetTrue }
 
--- a command of this name, which takes `--workers` and the flag `--order`
+-- a command of this name that makes a mesh: it takes `--workers` and `--grid`
+abbrev pub meshing_command : Text → App
+meshing_command name = with_rule (with_rule (new_app name) workers_option) grid_option
+
+-- a command of this name that reads a file: it takes the flag `--order` besides
 abbrev pub command_of : Text → App
-command_of name = with_rule (with_rule (new_app name) workers_option) (flag_of (codes "order"))
+command_of name = with_rule (meshing_command name) (flag_of (codes "order"))
 
 -- an option of this name that is required, and takes a number from 0 to the most
 abbrev pub number_option : Text → ℕ → Rule
@@ -46,7 +66,7 @@ abbrev pub gen_command : App
 gen_command =
     with_rule
     (with_rule
-    (with_rule (with_rule (new_app (codes "gen")) workers_option) (number_option (codes "count") most_count))
+    (with_rule (meshing_command (codes "gen")) (number_option (codes "count") most_count))
     (number_option (codes "start") most_start))
     (flag_of (codes "text"))
 
@@ -83,9 +103,20 @@ AreShape words = AreNameAnd (codes "shape" ∷ []) words
 abbrev pub AreShapeOrder : List (String Global) → Type 0
 AreShapeOrder words = AreNameAnd (codes "shape" ∷ codes "--order" ∷ []) words
 
--- the program takes the words: as `clap` reads them, nothing is at fault
-unfoldable pub AreTaken : List (String Global) → Type 0
-AreTaken words = fault_of program (texts_of words) ≡ []
+-- the words are the program's name, the name of a command, `--workers=` with a number and `--grid=` with a number
+abbrev pub AreMeshing : Text → ℕ → ℕ → List (String Global) → Type 0
+AreMeshing command workers grid words =
+    AreNameAnd (command ∷ (codes "--workers=" ++ decimal workers) ∷ (codes "--grid=" ++ decimal grid) ∷ []) words
+
+-- the words are the program's name, `gen`, `--count=` with a number and `--start=` with a number
+abbrev pub AreGen : ℕ → ℕ → List (String Global) → Type 0
+AreGen count start words =
+    AreNameAnd (codes "gen" ∷ (codes "--count=" ++ decimal count) ∷ (codes "--start=" ++ decimal start) ∷ []) words
+
+-- the words are these and `--text`
+abbrev pub AreGenText : ℕ → ℕ → List (String Global) → Type 0
+AreGenText count start words =
+    AreNameAnd (codes "gen" ∷ (codes "--count=" ++ decimal count) ∷ (codes "--start=" ++ decimal start) ∷ codes "--text" ∷ []) words
 
 -- a flag was given, by the matches of the command
 abbrev pub flag_in : Text → List Row → Bool
@@ -115,24 +146,36 @@ asks_drawn words = is_command (codes "gen") (subcommand_of program (texts_of wor
 unfoldable pub asks_text : List (String Global) → Bool
 asks_text words = has_flag (codes "text") (subcommand_of program (texts_of words))
 
--- the number that a text names, where `clap` takes it for one from 0 to the most; a minus may stand before a 0 alone
-abbrev pub number_up_to : ℕ → Text → ℕ
-number_up_to most text = if is_unsigned_in 0 most text then digits_value 10 (without_leading_plus text) else 0
+-- the number that a text names, where `clap` takes it for one from the least to the most, and else the least; a minus may stand
+-- before a 0 alone
+abbrev pub number_between : ℕ → ℕ → Text → ℕ
+number_between least most text = if is_unsigned_in least most text then digits_value 10 (without_leading_plus text) else least
 
 -- the number of an option, by the matches of the command
-abbrev pub number_in : Text → ℕ → List Row → ℕ
-number_in option most rows = option_map_or (number_up_to most) (first_of option rows) 0
+abbrev pub number_in : Text → ℕ → ℕ → List Row → ℕ
+number_in option least most rows = option_map_or (number_between least most) (first_of option rows) least
 
 -- the number of an option, by the name and the matches of the command that was met
-abbrev pub number_of : Text → ℕ → Option (Text × List Row) → ℕ
-number_of option most met = option_map_or (λ found. number_in option most found.1) met 0
+abbrev pub number_of : Text → ℕ → ℕ → Option (Text × List Row) → ℕ
+number_of option least most met = option_map_or (λ found. number_in option least most found.1) met least
 
 -- how many edits the words ask for, and the start of the draws
 unfoldable pub drawn_count : List (String Global) → ℕ
-drawn_count words = number_of (codes "count") most_count (subcommand_of program (texts_of words))
+drawn_count words = number_of (codes "count") 0 most_count (subcommand_of program (texts_of words))
 
 unfoldable pub drawn_start : List (String Global) → ℕ
-drawn_start words = number_of (codes "start") most_start (subcommand_of program (texts_of words))
+drawn_start words = number_of (codes "start") 0 most_start (subcommand_of program (texts_of words))
+
+-- how many workers the words ask for, and the size of the grid
+unfoldable pub worker_count : List (String Global) → ℕ
+worker_count words = number_of (codes "workers") 1 most_workers (subcommand_of program (texts_of words))
+
+unfoldable pub grid_size : List (String Global) → ℕ
+grid_size words = number_of (codes "grid") 1 most_grid (subcommand_of program (texts_of words))
+
+-- the program takes the words: as `clap` reads them, nothing is at fault, and there is a grid of the size
+unfoldable pub AreTaken : List (String Global) → Type 0
+AreTaken words = (fault_of program (texts_of words) ≡ []) × (is_grid_size (grid_size words) ≡ true)
 
 -- a file is read
 abbrev pub ReadsFile : List (String Global) → Type 0

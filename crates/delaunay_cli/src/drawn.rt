@@ -3,19 +3,22 @@
 ghost use Rattle.std.specs.Prelude.{◌≡◌, ◌≢◌, ◌⊎◌, ◌≤◌, ℕ, []};
 ghost use Rattle.std.specs.Io.KnownBytes.{Appends, Keeps};
 ghost use Rattle.byte_ends.specs.Ends.{AppendsFront, Rose};
+ghost use Rattle.edit_history.specs.Histories.{IsLegal};
 ghost use Rattle.edit_files.specs.Content.{content};
 ghost use Rattle.edit_files.specs.Generator.{generated};
 ghost use Rattle.edit_files.specs.Writing.{file_text as file_text_of};
-ghost use Rattle.delaunay_cli.specs.Drawn.{kept_of_drawn, summary_of, text_of_drawn};
-ghost use Rattle.delaunay_cli.specs.Run.{history_of};
+ghost use Rattle.delaunay_cli.specs.Drawn.{IsKeptOfDrawn, summary_of, text_of_drawn};
+ghost use Rattle.delaunay_cli.specs.Run.{IsKept};
 
 use crate::mesh::{NoReport, history_and_report};
 use crate::outcome::Run;
-use crate::task::{Asked, Drawn};
+use crate::task::{Asked, Drawn, Making};
 use byte_ends::{Failed, Sink, write_all};
 use edit_files::{File, file_text, generate};
+use grid_claims::Gate;
 use mesh_files::summary_text;
 use std::alloc::Global;
+use std::thread::Threads;
 
 // Writes the text of the file.
 fn put_text<O: Sink>(alloc: Global, file: &File, out: &mut O) -> Run
@@ -36,12 +39,20 @@ fn put_text<O: Sink>(alloc: Global, file: &File, out: &mut O) -> Run
     }
 }
 
-// Makes the history of one thread of the file's lines, and writes the summary of what it leaves, with a shape for each radius.
-fn put_summary<R, O: Sink>(rt: &R, alloc: Global, file: &File, out: &mut O) -> Run
+// Makes the mesh of the file's lines by workers, and writes the summary of what its history leaves, with a shape for each radius.
+fn put_summary<R: Threads + Sync, O: Sink, G: Gate + Sync>(
+    rt: &R,
+    alloc: Global,
+    file: &File,
+    making: Making,
+    out: &mut O,
+    gate: &G,
+) -> Run
     requires drawn { (count : ℕ) × (start : ℕ) × (count ≤ 262140) × (content file.now ≡ generated count start) }
     ensures statuses { (result.status ≡ 0) ⊎ (result.status ≡ 1) ⊎ (result.status ≡ 4) }
-    ensures kept { (result.status ≡ 0) ⊎ (result.status ≡ 4) → result.kept.items ≡ history_of (content file.now) }
+    ensures kept { (result.status ≡ 0) ⊎ (result.status ≡ 4) → IsKept (content file.now) making.workers result.kept.items }
     ensures none_kept { result.status ≢ 0 → result.status ≢ 4 → result.kept.items ≡ [] }
+    ensures legal { IsLegal result.kept.items }
     ensures written { result.status ≡ 0
         → Appends (O.holds out.old) (O.holds out.new) (summary_of (content file.now) result.kept.items) }
     ensures front { result.status ≡ 4
@@ -54,7 +65,7 @@ fn put_summary<R, O: Sink>(rt: &R, alloc: Global, file: &File, out: &mut O) -> R
         shape: true,
         order: false,
     };
-    let (kept, report) = match history_and_report(rt, alloc, file, asked) {
+    let (kept, report) = match history_and_report(rt, alloc, file, making, asked, gate) {
         Ok(made) => made,
         Err(NoReport::Flat) => unreachable!(),
         Err(NoReport::Memory) => return Run::ended(alloc, 1),
@@ -69,11 +80,19 @@ fn put_summary<R, O: Sink>(rt: &R, alloc: Global, file: &File, out: &mut O) -> R
 }
 
 /// Draws a file, and writes its text or the summary of its mesh. Each is made whole before the first write.
-pub fn draw<R, O: Sink>(rt: &R, alloc: Global, drawn: Drawn, out: &mut O) -> Run
+pub fn draw<R: Threads + Sync, O: Sink, G: Gate + Sync>(
+    rt: &R,
+    alloc: Global,
+    making: Making,
+    drawn: Drawn,
+    out: &mut O,
+    gate: &G,
+) -> Run
     ensures statuses { (result.status ≡ 0) ⊎ (result.status ≡ 1) ⊎ (result.status ≡ 4) }
     ensures kept { (result.status ≡ 0) ⊎ (result.status ≡ 4)
-        → result.kept.items ≡ kept_of_drawn drawn.text (generated drawn.count drawn.start) }
+        → IsKeptOfDrawn drawn.text (generated drawn.count drawn.start) making.workers result.kept.items }
     ensures none_kept { result.status ≢ 0 → result.status ≢ 4 → result.kept.items ≡ [] }
+    ensures legal { IsLegal result.kept.items }
     ensures written { result.status ≡ 0 → Appends (O.holds out.old) (O.holds out.new)
         (text_of_drawn drawn.text (generated drawn.count drawn.start) result.kept.items) }
     ensures front { result.status ≡ 4 → AppendsFront (O.holds out.old) (O.holds out.new)
@@ -88,6 +107,6 @@ pub fn draw<R, O: Sink>(rt: &R, alloc: Global, drawn: Drawn, out: &mut O) -> Run
     if drawn.text {
         put_text(alloc, &file, out)
     } else {
-        put_summary(rt, alloc, &file, out)
+        put_summary(rt, alloc, &file, making, out, gate)
     }
 }

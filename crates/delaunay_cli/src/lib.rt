@@ -17,12 +17,4 @@ pub use outcome::Run;
 pub use top::run;
 
 #[cfg(test)]
-mod drawn_tests;
-#[cfg(test)]
-mod line_tests;
-#[cfg(test)]
-mod shape_tests;
-#[cfg(test)]
 mod tests;
-#[cfg(test)]
-mod trial_tests;

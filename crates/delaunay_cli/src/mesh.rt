@@ -7,25 +7,28 @@ ghost use Rattle.byte_ends.specs.Ends.{AppendsFront, Rose};
 ghost use Rattle.point_order.specs.Complex.{complex as complex_of};
 ghost use Rattle.point_order.specs.Sets.{IsAscending};
 ghost use Rattle.point_order.specs.Solid.{is_solid};
+ghost use Rattle.edit_history.specs.Histories.{IsLegal};
 ghost use Rattle.edit_files.specs.Content.{content};
 ghost use Rattle.mesh_files.specs.Report.{AreCounted, parts_of, shapes_seen};
 ghost use Rattle.delaunay_cli.specs.Report.{order_of as order_of_it, report_of, shapes_of as shapes_of_it, tags_of, text_of};
-ghost use Rattle.delaunay_cli.specs.Run.{history_of};
+ghost use Rattle.delaunay_cli.specs.Run.{IsKept};
 
 use crate::meshed::meshed;
 use crate::outcome::Run;
 use crate::replies::replies_by_tag;
 use crate::shapes::shapes;
-use crate::task::Asked;
+use crate::task::{Asked, Making};
 use alpha_complex::Shape;
 use byte_ends::{Failed, Sink};
 use cell_store::Mesh;
 use edit_files::File;
 use edit_history::Entry;
+use grid_claims::Gate;
 use mesh_files::{Report, put_report};
 use one_mesh::{complex, find_four, history, points};
 use point_order::{Cell, Point};
 use std::alloc::{AllocError, Global};
+use std::thread::Threads;
 
 // The tags of a history, in its order.
 fn tags(alloc: Global, entries: &[Entry]) -> Result<Vec<u32>, AllocError>
@@ -103,21 +106,24 @@ pub enum NoReport {
     Memory,
 }
 
-/// Makes the history of one thread of the file's lines, and the report of what it leaves, with a shape for each radius and with the
-/// tags of the history, each where it is asked for.
+/// Makes the mesh of the file's lines by workers, its history, and the report of what that leaves, with a shape for each radius and
+/// with the tags of the history, each where it is asked for.
 ///
 /// # Errors
 ///
 /// `Flat` where the points of the file have no four independent ones among them, and `Memory`.
-pub fn history_and_report<R>(
+pub fn history_and_report<R: Threads + Sync, G: Gate + Sync>(
     rt: &R,
     alloc: Global,
     file: &File,
+    making: Making,
     asked: Asked,
+    gate: &G,
 ) -> Result<(Vec<Entry>, Report), NoReport>
     requires lines { length file.now.points.items + length file.now.edits.items + 4 < 2 ^ 32 }
     requires radii { All (λ radius. radius < 2 ^ 30) file.now.radii.items }
-    ensures kept { IfOk result (λ made. made.0.items ≡ history_of (content file.now)) }
+    ensures kept { IfOk result (λ made. IsKept (content file.now) making.workers made.0.items) }
+    ensures legal { IfOk result (λ made. IsLegal made.0.items) }
     ensures report { IfOk result (λ made. parts_of made.1 ≡ report_of asked.shape asked.order (content file.now) made.0.items) }
     ensures order { IfOk result (λ made. IsAscending made.1.points.items) }
     ensures counted { IfOk result (λ made. AreCounted (shapes_seen made.1.shapes.items)) }
@@ -127,7 +133,7 @@ pub fn history_and_report<R>(
     let Ok(four) = find_four(&file.points) else {
         return Err(NoReport::Flat);
     };
-    let Ok(mesh) = meshed(alloc, &file.points, &file.edits, four) else {
+    let Ok(mesh) = meshed(rt, alloc, file, four, making, gate) else {
         return Err(NoReport::Memory);
     };
     let Ok(kept) = history(alloc, &mesh) else {
@@ -139,15 +145,24 @@ pub fn history_and_report<R>(
     Ok((kept, report))
 }
 
-/// Makes the history of one thread of the file's lines, and writes the report of what it leaves, with a shape for each radius and
+/// Makes the mesh of the file's lines by workers, and writes the report of what its history leaves, with a shape for each radius and
 /// with the tags of the history, each where it is asked for.
-pub fn mesh<R, O: Sink>(rt: &R, alloc: Global, file: &File, asked: Asked, out: &mut O) -> Run
+pub fn mesh<R: Threads + Sync, O: Sink, G: Gate + Sync>(
+    rt: &R,
+    alloc: Global,
+    file: &File,
+    making: Making,
+    asked: Asked,
+    out: &mut O,
+    gate: &G,
+) -> Run
     requires lines { length file.now.points.items + length file.now.edits.items + 4 < 2 ^ 32 }
     requires radii { All (λ radius. radius < 2 ^ 30) file.now.radii.items }
     ensures statuses { (result.status ≡ 0) ⊎ (result.status ≡ 1) ⊎ (result.status ≡ 4) ⊎ (result.status ≡ 6) }
     ensures not_solid { result.status ≢ 1 → (result.status ≡ 6 ↔ (is_solid (content file.now).points ≡ false)) }
-    ensures kept { (result.status ≡ 0) ⊎ (result.status ≡ 4) → result.kept.items ≡ history_of (content file.now) }
+    ensures kept { (result.status ≡ 0) ⊎ (result.status ≡ 4) → IsKept (content file.now) making.workers result.kept.items }
     ensures none_kept { result.status ≢ 0 → result.status ≢ 4 → result.kept.items ≡ [] }
+    ensures legal { IsLegal result.kept.items }
     ensures written { result.status ≡ 0
         → Appends (O.holds out.old) (O.holds out.new) (text_of asked.shape asked.order (content file.now) result.kept.items) }
     ensures front { result.status ≡ 4
@@ -156,7 +171,7 @@ pub fn mesh<R, O: Sink>(rt: &R, alloc: Global, file: &File, asked: Asked, out: &
     ensures later { O.faults out.old ≤ O.faults out.new }
     ensures fault { result.status ≡ 4 → Rose (O.faults out.old) (O.faults out.new) }
 {
-    let (kept, report) = match history_and_report(rt, alloc, file, asked) {
+    let (kept, report) = match history_and_report(rt, alloc, file, making, asked, gate) {
         Ok(made) => made,
         Err(NoReport::Flat) => return Run::ended(alloc, 6),
         Err(NoReport::Memory) => return Run::ended(alloc, 1),

@@ -1,7 +1,7 @@
 //! The replies of a history, by the lines that they answer.
 
 ghost use Rattle.std.specs.Prelude.{◌≡◌, IfOk};
-ghost use Rattle.delaunay_cli.specs.Report.{replies_by_tag as replies_by_tag_of};
+ghost use Rattle.plain_laws.specs.Plain.{replies_by_tag as replies_by_tag_of};
 
 use edit_history::{Entry, Reply};
 use std::alloc::{AllocError, Global};

@@ -2,6 +2,19 @@
 
 ghost use Rattle.std.specs.Prelude.{◌<◌, ◌≤◌};
 
+use cell_store::Grid;
+
+/// How a mesh is made.
+#[derive(Clone, Copy, Debug)]
+pub struct Making {
+    /// How many workers make it, 1 to 64.
+    pub workers: u32,
+    /// The grid by which its buckets divide space.
+    pub grid: Grid,
+    pub ghost some: { 0 < workers },
+    pub ghost few: { workers ≤ 64 },
+}
+
 /// What a report is to have.
 #[derive(Clone, Copy, Debug)]
 pub struct Asked {
@@ -28,7 +41,7 @@ pub struct Drawn {
 #[derive(Clone, Copy, Debug)]
 pub enum Task {
     /// The report of a file that is read.
-    Report(Asked),
+    Report(Making, Asked),
     /// A file that is drawn.
-    Draw(Drawn),
+    Draw(Making, Drawn),
 }

@@ -1,28 +1,33 @@
 //! The top call.
 
-ghost use Rattle.std.specs.Prelude.{◌≡◌, ◌≢◌, ◌⊎◌, ◌↔◌, ◌≤◌, ◌<◌, ℕ, List, [], ◌++◌, false, true, length, None, IfSome, IsSomeAnd};
+ghost use Rattle.std.specs.Prelude.{◌≡◌, ◌≢◌, ◌⊎◌, ◌↔◌, ◌≤◌, ◌<◌, ℕ, List, [], ◌++◌, false, true, length, codes, None, IfSome, IsSomeAnd};
 ghost use Rattle.std.specs.Io.KnownBytes.{Appends, Keeps, IsAtEnd};
 ghost use Rattle.byte_ends.specs.Ends.{AppendsFront, Rose};
 ghost use Rattle.point_order.specs.Solid.{is_solid};
+ghost use Rattle.cell_store.specs.Grids.{is_grid_size};
 ghost use Rattle.edit_files.specs.Content.{Content};
 ghost use Rattle.edit_files.specs.Grammar.{line_limit, IsFile};
 ghost use Rattle.delaunay_cli.specs.Statuses.{IsEarly, IsFaultLine, Tells, TellsFault};
-ghost use Rattle.delaunay_cli.specs.Run.{HasFault, IsJudged, Reads, Writes, WritesFront, IsSolidFile, history_of, input_limit};
+ghost use Rattle.delaunay_cli.specs.Run.{HasFault, IsJudged, Reads, Writes, WritesFront, IsKept, IsSolidFile, history_of, input_limit};
 ghost use Rattle.delaunay_cli.specs.Endings.{line_of, status_of_words};
 ghost use Rattle.edit_history.specs.Histories.{IsLegal};
 ghost use Rattle.edit_history.specs.OneThread.{Keeps as FileKeeps};
-ghost use Rattle.delaunay_cli.specs.Drawn.{drawn_file, drawn_text, kept_of_drawn};
-ghost use Rattle.delaunay_cli.specs.Words.{AreMesh, AreMeshOrder, AreShape, AreShapeOrder, AreTaken, DrawsFile, ReadsFile, asks_order, asks_shape, asks_text};
+ghost use Rattle.plain_laws.specs.Plain.{IsAnchored};
+ghost use Rattle.delaunay_cli.specs.PlainText.{plain_drawn, plain_text};
+ghost use Rattle.delaunay_cli.specs.Drawn.{IsKeptOfDrawn, drawn_file, drawn_text};
+ghost use Rattle.delaunay_cli.specs.Words.{AreGen, AreGenText, AreMesh, AreMeshOrder, AreMeshing, AreShape, AreShapeOrder, AreTaken, DrawsFile, ReadsFile, asks_order, asks_shape, asks_text, drawn_count, drawn_start, grid_size, most_count, most_start, most_workers, worker_count};
 
 use crate::drawn::draw;
 use crate::mesh::mesh;
 use crate::outcome::Run;
-use crate::task::{Asked, Task};
+use crate::task::{Asked, Making, Task};
 use crate::telling::{fault_line, plain_line};
 use crate::words::{WordsRefused, read_words};
 use byte_ends::{Reached, ReadError, Sink, Source, read_to_limit, write_all};
 use edit_files::{ReadRefused, read_file};
+use grid_claims::Gate;
 use std::alloc::Global;
+use std::thread::Threads;
 
 // One more byte than an input may have.
 const TOO_MANY: usize = 16_777_217;
@@ -35,7 +40,15 @@ struct Ended {
 }
 
 // Judges the bytes of a file, and writes the report of its mesh.
-fn judge<R, O: Sink>(rt: &R, alloc: Global, bytes: &[u8], asked: Asked, out: &mut O) -> Ended
+fn judge<R: Threads + Sync, O: Sink, G: Gate + Sync>(
+    rt: &R,
+    alloc: Global,
+    bytes: &[u8],
+    making: Making,
+    asked: Asked,
+    out: &mut O,
+    gate: &G,
+) -> Ended
     ensures statuses { IsJudged result.run.status }
     ensures bad { result.run.status ≢ 1 → (result.run.status ≡ 5 ↔ HasFault bytes.now) }
     ensures named { result.run.status ≡ 5 → IsSomeAnd result.bad_line (λ line. TellsFault bytes.now line.items) }
@@ -43,8 +56,9 @@ fn judge<R, O: Sink>(rt: &R, alloc: Global, bytes: &[u8], asked: Asked, out: &mu
     ensures not_solid { result.run.status ≢ 1 → (file : Content) → IsFile line_limit bytes.now file
         → (result.run.status ≡ 6 ↔ (is_solid file.points ≡ false)) }
     ensures kept { (result.run.status ≡ 0) ⊎ (result.run.status ≡ 4) → (file : Content) → IsFile line_limit bytes.now file
-        → result.run.kept.items ≡ history_of file }
+        → IsKept file making.workers result.run.kept.items }
     ensures none_kept { result.run.status ≢ 0 → result.run.status ≢ 4 → result.run.kept.items ≡ [] }
+    ensures legal { IsLegal result.run.kept.items }
     ensures written { result.run.status ≡ 0 → Writes asked.shape asked.order bytes.now (O.holds out.old) (O.holds out.new) result.run.kept.items }
     ensures front { result.run.status ≡ 4 → WritesFront asked.shape asked.order bytes.now (O.holds out.old) (O.holds out.new) result.run.kept.items }
     ensures nothing { result.run.status ≢ 0 → result.run.status ≢ 4 → Keeps (O.holds out.old) (O.holds out.new) }
@@ -53,7 +67,7 @@ fn judge<R, O: Sink>(rt: &R, alloc: Global, bytes: &[u8], asked: Asked, out: &mu
 {
     match read_file(alloc, bytes) {
         Ok(file) => Ended {
-            run: mesh(rt, alloc, &file, asked, out),
+            run: mesh(rt, alloc, &file, making, asked, out, gate),
             bad_line: None,
         },
         Err(ReadRefused::Memory) => Ended {
@@ -84,12 +98,14 @@ fn status_of(why: WordsRefused) -> u8
 }
 
 // Reads a file from the source, and writes the report of its mesh.
-fn report<R, S: Source, O: Sink>(
+fn report<R: Threads + Sync, S: Source, O: Sink, G: Gate + Sync>(
     rt: &R,
     alloc: Global,
+    making: Making,
     asked: Asked,
     src: &mut S,
     out: &mut O,
+    gate: &G,
 ) -> Ended
     ensures statuses { result.run.status ≤ 7 }
     ensures no_usage { result.run.status ≢ 2 }
@@ -107,8 +123,9 @@ fn report<R, S: Source, O: Sink>(
         → (result.run.status ≡ 6 ↔ (is_solid file.points ≡ false))) }
     ensures kept { (result.run.status ≡ 0) ⊎ (result.run.status ≡ 4)
         → IfSome (S.left src.old) (λ bytes. (file : Content) → IsFile line_limit bytes file
-        → result.run.kept.items ≡ history_of file) }
+        → IsKept file making.workers result.run.kept.items) }
     ensures none_kept { result.run.status ≢ 0 → result.run.status ≢ 4 → result.run.kept.items ≡ [] }
+    ensures legal { IsLegal result.run.kept.items }
     ensures written { result.run.status ≡ 0
         → IfSome (S.left src.old) (λ bytes. Writes asked.shape asked.order bytes (O.holds out.old) (O.holds out.new) result.run.kept.items) }
     ensures front { result.run.status ≡ 4
@@ -116,10 +133,12 @@ fn report<R, S: Source, O: Sink>(
     ensures nothing { result.run.status ≢ 0 → result.run.status ≢ 4 → Keeps (O.holds out.old) (O.holds out.new) }
     ensures reads { Reads (S.left src.old) (S.left src.new) result.run.status }
     ensures to_its_end { result.run.status ≡ 0 → IsAtEnd (S.left src.new) }
+    ensures later_source { S.faults src.old ≤ S.faults src.new }
+    ensures later_output { O.faults out.old ≤ O.faults out.new }
 {
     let mut bytes = Vec::new(alloc);
     let status = match read_to_limit(src, TOO_MANY, &mut bytes) {
-        Ok(Reached::End) => return judge(rt, alloc, &bytes, asked, out),
+        Ok(Reached::End) => return judge(rt, alloc, &bytes, making, asked, out, gate),
         Ok(Reached::Limit) => 7,
         Err(ReadError::Fault) => 3,
         Err(ReadError::Memory) => 1,
@@ -131,12 +150,13 @@ fn report<R, S: Source, O: Sink>(
 }
 
 // Does what the words ask for.
-fn work<R, S: Source, O: Sink>(
+fn work<R: Threads + Sync, S: Source, O: Sink, G: Gate + Sync>(
     rt: &R,
     alloc: Global,
     words: &[String],
     src: &mut S,
     out: &mut O,
+    gate: &G,
 ) -> Ended
     ensures statuses { result.run.status ≤ 7 }
     ensures usage { result.run.status ≢ 1 → (result.run.status ≡ 2 ↔ (AreTaken words.now → ⊥)) }
@@ -154,8 +174,9 @@ fn work<R, S: Source, O: Sink>(
         → (result.run.status ≡ 6 ↔ (is_solid file.points ≡ false))) }
     ensures kept { ReadsFile words.now → (result.run.status ≡ 0) ⊎ (result.run.status ≡ 4)
         → IfSome (S.left src.old) (λ bytes. (file : Content) → IsFile line_limit bytes file
-        → result.run.kept.items ≡ history_of file) }
+        → IsKept file (worker_count words.now) result.run.kept.items) }
     ensures none_kept { result.run.status ≢ 0 → result.run.status ≢ 4 → result.run.kept.items ≡ [] }
+    ensures legal { IsLegal result.run.kept.items }
     ensures written { ReadsFile words.now → result.run.status ≡ 0
         → IfSome (S.left src.old) (λ bytes. Writes (asks_shape words.now) (asks_order words.now) bytes (O.holds out.old) (O.holds out.new) result.run.kept.items) }
     ensures front { ReadsFile words.now → result.run.status ≡ 4
@@ -163,10 +184,13 @@ fn work<R, S: Source, O: Sink>(
     ensures nothing { result.run.status ≢ 0 → result.run.status ≢ 4 → Keeps (O.holds out.old) (O.holds out.new) }
     ensures reads { ReadsFile words.now → Reads (S.left src.old) (S.left src.new) result.run.status }
     ensures to_its_end { ReadsFile words.now → result.run.status ≡ 0 → IsAtEnd (S.left src.new) }
+    ensures unread { result.run.status ≡ 2 → src.new ≡ src.old }
+    ensures later_source { S.faults src.old ≤ S.faults src.new }
+    ensures later_output { O.faults out.old ≤ O.faults out.new }
     ensures source { DrawsFile words.now → src.new ≡ src.old }
     ensures drawn_statuses { DrawsFile words.now → result.run.status ≤ 2 ⊎ (result.run.status ≡ 4) }
     ensures drawn_kept { DrawsFile words.now → (result.run.status ≡ 0) ⊎ (result.run.status ≡ 4)
-        → result.run.kept.items ≡ kept_of_drawn (asks_text words.now) (drawn_file words.now) }
+        → IsKeptOfDrawn (asks_text words.now) (drawn_file words.now) (worker_count words.now) result.run.kept.items }
     ensures drawn_written { DrawsFile words.now → result.run.status ≡ 0
         → Appends (O.holds out.old) (O.holds out.new) (drawn_text words.now result.run.kept.items) }
     ensures drawn_front { DrawsFile words.now → result.run.status ≡ 4
@@ -182,9 +206,9 @@ fn work<R, S: Source, O: Sink>(
         }
     };
     match task {
-        Task::Report(asked) => report(rt, alloc, asked, src, out),
-        Task::Draw(drawn) => Ended {
-            run: draw(rt, alloc, drawn, out),
+        Task::Report(making, asked) => report(rt, alloc, making, asked, src, out, gate),
+        Task::Draw(making, drawn) => Ended {
+            run: draw(rt, alloc, making, drawn, out, gate),
             bad_line: None,
         },
     }
@@ -193,16 +217,19 @@ fn work<R, S: Source, O: Sink>(
 /// Does what the words ask for, and tells in one line on `err` what went wrong.
 ///
 /// `rt` is the runtime, and `words` are those of the command line: the program's name, and what `clap` takes for the three
-/// commands. `mesh` and `shape`, each with `--workers 1` and `--order`, read an edit file from `src` and write the report of its
-/// mesh to `out`; with `shape` the report has a block for each radius of the file, in its order. `gen`, with `--count`, `--start`,
-/// `--workers 1` and `--text`, reads nothing: it draws an edit file, and writes the summary of its mesh or the file's text.
-pub fn run<R, S: Source, O: Sink, E: Sink>(
+/// commands. `mesh` and `shape`, each with `--order`, read an edit file from `src` and write the report of its mesh to `out`; with
+/// `shape` the report has a block for each radius of the file, in its order. `gen`, with `--count`, `--start` and `--text`, reads
+/// nothing: it draws an edit file, and writes the summary of its mesh or the file's text. Each takes `--workers`, 1 to 64, and
+/// `--grid`, 1, 2, 4, 8 or 16: so many workers make the edits side by side, over buckets of this grid. `gate` is told of the
+/// moments of their edits.
+pub fn run<R: Threads + Sync, S: Source, O: Sink, E: Sink, G: Gate + Sync>(
     rt: &R,
     alloc: Global,
     words: &[String],
     src: &mut S,
     out: &mut O,
     err: &mut E,
+    gate: &G,
 ) -> Run
     ensures statuses { result.status ≤ 7 }
 
@@ -223,13 +250,35 @@ pub fn run<R, S: Source, O: Sink, E: Sink>(
     ensures mesh_order { AreMeshOrder words.now → AreTaken words.now × (asks_shape words.now ≡ false) × (asks_order words.now ≡ true) }
     ensures shape { AreShape words.now → AreTaken words.now × (asks_shape words.now ≡ true) × (asks_order words.now ≡ false) }
     ensures shape_order { AreShapeOrder words.now → AreTaken words.now × (asks_shape words.now ≡ true) × (asks_order words.now ≡ true) }
+    ensures one_worker { AreMesh words.now ⊎ AreMeshOrder words.now ⊎ AreShape words.now ⊎ AreShapeOrder words.now
+        → (worker_count words.now ≡ 1) × (grid_size words.now ≡ 4) }
     ensures read { AreMesh words.now ⊎ AreMeshOrder words.now ⊎ AreShape words.now ⊎ AreShapeOrder words.now → ReadsFile words.now }
+
+    // So are `mesh` and `shape` with `--workers=N` and `--grid=M`, for every count of workers and every size of a grid.
+    ensures mesh_workers { (workers grid : ℕ) → 0 < workers → workers ≤ most_workers → is_grid_size grid ≡ true
+        → AreMeshing (codes "mesh") workers grid words.now → AreTaken words.now × ReadsFile words.now
+        × (worker_count words.now ≡ workers) × (grid_size words.now ≡ grid) × (asks_shape words.now ≡ false) }
+    ensures shape_workers { (workers grid : ℕ) → 0 < workers → workers ≤ most_workers → is_grid_size grid ≡ true
+        → AreMeshing (codes "shape") workers grid words.now → AreTaken words.now × ReadsFile words.now
+        × (worker_count words.now ≡ workers) × (grid_size words.now ≡ grid) × (asks_shape words.now ≡ true) }
+
+    // The words `gen`, `--count=N` and `--start=M` are taken for every count and start, and with `--text` ask for the file's text.
+    ensures generator { (count start : ℕ) → count ≤ most_count → start ≤ most_start → AreGen count start words.now
+        → AreTaken words.now × DrawsFile words.now × (drawn_count words.now ≡ count) × (drawn_start words.now ≡ start)
+        × (asks_text words.now ≡ false) }
+    ensures generator_text { (count start : ℕ) → count ≤ most_count → start ≤ most_start → AreGenText count start words.now
+        → AreTaken words.now × DrawsFile words.now × (drawn_count words.now ≡ count) × (drawn_start words.now ≡ start)
+        × (asks_text words.now ≡ true) }
 
     // What is kept, read, written and told, where a file is read.
     ensures kept { ReadsFile words.now → (result.status ≡ 0) ⊎ (result.status ≡ 4)
         → IfSome (S.left src.old) (λ bytes. (file : Content) → IsFile line_limit bytes file
+        → FileKeeps file.points file.edits (worker_count words.now) result.kept.items) }
+    ensures one_thread { ReadsFile words.now → worker_count words.now ≡ 1 → (result.status ≡ 0) ⊎ (result.status ≡ 4)
+        → IfSome (S.left src.old) (λ bytes. (file : Content) → IsFile line_limit bytes file
         → result.kept.items ≡ history_of file) }
     ensures none_kept { result.status ≢ 0 → result.status ≢ 4 → result.kept.items ≡ [] }
+    ensures legal { IsLegal result.kept.items }
     ensures written { ReadsFile words.now → result.status ≡ 0
         → IfSome (S.left src.old) (λ bytes. Writes (asks_shape words.now) (asks_order words.now) bytes (O.holds out.old) (O.holds out.new) result.kept.items) }
     ensures front { ReadsFile words.now → result.status ≡ 4
@@ -237,7 +286,21 @@ pub fn run<R, S: Source, O: Sink, E: Sink>(
     ensures nothing { result.status ≢ 0 → result.status ≢ 4 → Keeps (O.holds out.old) (O.holds out.new) }
     ensures reads { ReadsFile words.now → Reads (S.left src.old) (S.left src.new) result.status }
     ensures to_its_end { ReadsFile words.now → result.status ≡ 0 → IsAtEnd (S.left src.new) }
+    ensures unread { result.status ≡ 2 → src.new ≡ src.old }
     ensures told { Tells (S.left src.old) (E.holds err.old) (E.holds err.new) (E.faults err.old) (E.faults err.new) result.status }
+
+    // Counts of faults never fall.
+    ensures later_source { S.faults src.old ≤ S.faults src.new }
+    ensures later_output { O.faults out.old ≤ O.faults out.new }
+    ensures later_error { E.faults err.old ≤ E.faults err.new }
+
+    // Where no edit takes one of the opening four and no order block is asked for, what is written goes by the file and the command.
+    ensures plain { ReadsFile words.now → asks_order words.now ≡ false → result.status ≡ 0
+        → IfSome (S.left src.old) (λ bytes. (file : Content) → IsFile line_limit bytes file → IsAnchored file.points file.edits
+        → Appends (O.holds out.old) (O.holds out.new) (plain_text (asks_shape words.now) file)) }
+    ensures plain_front { ReadsFile words.now → asks_order words.now ≡ false → result.status ≡ 4
+        → IfSome (S.left src.old) (λ bytes. (file : Content) → IsFile line_limit bytes file → IsAnchored file.points file.edits
+        → AppendsFront (O.holds out.old) (O.holds out.new) (plain_text (asks_shape words.now) file)) }
 
     // A solid file within the limit is meshed, unless memory is wanting or the source or the output fails.
     ensures complete { AreTaken words.now → ReadsFile words.now
@@ -248,18 +311,23 @@ pub fn run<R, S: Source, O: Sink, E: Sink>(
     // Where a file is drawn, the source is as before, and what is kept and written goes by the words alone.
     ensures source { DrawsFile words.now → src.new ≡ src.old }
     ensures drawn_statuses { DrawsFile words.now → result.status ≤ 2 ⊎ (result.status ≡ 4) }
-    ensures drawn_kept { DrawsFile words.now → (result.status ≡ 0) ⊎ (result.status ≡ 4)
-        → result.kept.items ≡ kept_of_drawn (asks_text words.now) (drawn_file words.now) }
-    ensures drawn_history { DrawsFile words.now → asks_text words.now ≡ false → (result.status ≡ 0) ⊎ (result.status ≡ 4)
-        → IsLegal result.kept.items × FileKeeps (drawn_file words.now).points (drawn_file words.now).edits 1 result.kept.items }
+    ensures drawn_kept { DrawsFile words.now → asks_text words.now ≡ false → (result.status ≡ 0) ⊎ (result.status ≡ 4)
+        → FileKeeps (drawn_file words.now).points (drawn_file words.now).edits (worker_count words.now) result.kept.items }
+    ensures drawn_one_thread { DrawsFile words.now → asks_text words.now ≡ false → worker_count words.now ≡ 1
+        → (result.status ≡ 0) ⊎ (result.status ≡ 4) → result.kept.items ≡ history_of (drawn_file words.now) }
+    ensures drawn_text_kept { DrawsFile words.now → asks_text words.now ≡ true → result.kept.items ≡ [] }
     ensures drawn_written { DrawsFile words.now → result.status ≡ 0
         → Appends (O.holds out.old) (O.holds out.new) (drawn_text words.now result.kept.items) }
     ensures drawn_front { DrawsFile words.now → result.status ≡ 4
         → AppendsFront (O.holds out.old) (O.holds out.new) (drawn_text words.now result.kept.items) }
+    ensures drawn_plain { DrawsFile words.now → result.status ≡ 0
+        → Appends (O.holds out.old) (O.holds out.new) (plain_drawn words.now) }
+    ensures drawn_plain_front { DrawsFile words.now → result.status ≡ 4
+        → AppendsFront (O.holds out.old) (O.holds out.new) (plain_drawn words.now) }
     ensures drawn_complete { AreTaken words.now → DrawsFile words.now → (Rose (O.faults out.old) (O.faults out.new) → ⊥)
         → (result.status ≡ 0) ⊎ (result.status ≡ 1) }
 {
-    let ended = work(rt, alloc, words, src, out);
+    let ended = work(rt, alloc, words, src, out, gate);
     tell(err, &ended);
     let Run { status, kept } = ended.run;
     Run { status, kept }
@@ -270,6 +338,7 @@ fn tell<E: Sink>(err: &mut E, ended: &Ended)
     ensures front { AppendsFront (E.holds err.old) (E.holds err.new) (line_of ended.now) }
     ensures whole { (Rose (E.faults err.old) (E.faults err.new) → ⊥)
         → Appends (E.holds err.old) (E.holds err.new) (line_of ended.now) }
+    ensures later { E.faults err.old ≤ E.faults err.new }
 {
     let _ = match &ended.bad_line {
         Some(line) => write_all(err, line),

@@ -1,13 +1,15 @@
 //! The words of the command line, read by `clap`.
 
-ghost use Rattle.std.specs.Prelude.{◌≡◌, ◌≤◌, IfOk, IfErr, false, codes};
+ghost use Rattle.std.specs.Prelude.{◌≡◌, ◌≤◌, IfOk, IfErr, IfSome, is_some, false, codes};
 ghost use Rattle.clap.specs.Words.{app_of, found_of, rows_of, rule_of, subcommand_rows_of};
 ghost use Rattle.clap.specs.declared.builder.command.Command.TheViews.{out-Command};
+ghost use Rattle.cell_store.specs.Grids.{is_grid_size};
 ghost use Rattle.delaunay_cli.specs.Words.{AreTaken, command_of, gen_command as gen_command_of, program as program_of};
-ghost use Rattle.delaunay_cli.specs.Tasks.{IsTask, IsTaskOf};
-ghost use Rattle.delaunay_cli.specs.Words.{flag_in as flag_in_of, flag_of, most_count, most_start, number_option, number_in as number_in_of, number_up_to as number_up_to_of, workers_option};
+ghost use Rattle.delaunay_cli.specs.Tasks.{IsMakingOf, IsTask, IsTaskOf};
+ghost use Rattle.delaunay_cli.specs.Words.{flag_in as flag_in_of, flag_of, grid_option, most_count, most_grid, most_start, meshing_command, number_option, number_between as number_between_of, number_in as number_in_of, number_of as number_of_it, workers_option};
 
-use crate::task::{Asked, Drawn, Task};
+use crate::task::{Asked, Drawn, Making, Task};
+use cell_store::Grid;
 use clap::error::ErrorKind;
 use clap::{Arg, ArgAction, ArgMatches, Command};
 use std::alloc::{AllocError, Global};
@@ -29,7 +31,28 @@ fn workers<'a>(alloc: Global) -> Arg<'a>
     Arg::new(alloc, "workers")
         .long("workers")
         .default_value("1")
-        .value_parser(clap::value_parser!(u8).range(1..=1))
+        .value_parser(clap::value_parser!(u32).range(1..=64))
+}
+
+// The option `--grid`.
+fn grid<'a>(alloc: Global) -> Arg<'a>
+    ensures rule { rule_of result ≡ grid_option }
+    ensures local { result.global ≡ false }
+{
+    Arg::new(alloc, "grid")
+        .long("grid")
+        .default_value("4")
+        .value_parser(clap::value_parser!(u32).range(1..=16))
+}
+
+// A command of this name that makes a mesh.
+fn meshing<'a>(alloc: Global, name: &'a str) -> Result<Command<'a>, AllocError>
+    ensures app { IfOk result (λ command. app_of command ≡ meshing_command name.now) }
+    ensures locals { IfOk result (λ command. (out-Command command).has_globals ≡ false) }
+{
+    Command::new(alloc, name)
+        .arg(workers(alloc))?
+        .arg(grid(alloc))
 }
 
 // The command of this name that writes a report.
@@ -37,9 +60,7 @@ fn command<'a>(alloc: Global, name: &'a str) -> Result<Command<'a>, AllocError>
     ensures app { IfOk result (λ command. app_of command ≡ command_of name.now) }
     ensures locals { IfOk result (λ command. (out-Command command).has_globals ≡ false) }
 {
-    Command::new(alloc, name)
-        .arg(workers(alloc))?
-        .arg(flag(alloc, "order"))
+    meshing(alloc, name)?.arg(flag(alloc, "order"))
 }
 
 // The option `--count`, how many edits a drawn file has.
@@ -77,8 +98,7 @@ fn gen_command<'a>(alloc: Global) -> Result<Command<'a>, AllocError>
     ensures app { IfOk result (λ command. app_of command ≡ gen_command_of) }
     ensures locals { IfOk result (λ command. (out-Command command).has_globals ≡ false) }
 {
-    Command::new(alloc, "gen")
-        .arg(workers(alloc))?
+    meshing(alloc, "gen")?
         .arg(count(alloc))?
         .arg(start(alloc))?
         .arg(flag(alloc, "text"))
@@ -108,51 +128,87 @@ fn flag_in(command: &ArgMatches, flag: &str) -> bool
     }
 }
 
-// The number that a text names, if it names one of at most `most`, and else 0.
-fn number_up_to(text: &str, most: u32) -> u32
-    ensures value { result ≡ number_up_to_of most text.now }
+// The number that a text names, if it names one from `least` to `most`, and else `least`.
+fn number_between(text: &str, least: u32, most: u32) -> u32
+    requires { least ≤ most }
+    ensures value { result ≡ number_between_of least most text.now }
+    ensures from { least ≤ result }
     ensures within { result ≤ most }
 {
     match text.parse::<u32>() {
-        Ok(number) if number <= most => number,
-        _ => 0,
+        Ok(number) if least <= number && number <= most => number,
+        _ => least,
     }
 }
 
-// The number that was given to an option of the command. `clap` takes none above `most`.
-fn number_in(command: &ArgMatches, option: &str, most: u32) -> u32
-    ensures value { result ≡ number_in_of option.now most (rows_of (found_of command.now)) }
+// The number that was given to an option of the command. `clap` takes none below `least` or above `most`.
+fn number_in(command: &ArgMatches, option: &str, least: u32, most: u32) -> u32
+    requires { least ≤ most }
+    ensures value { result ≡ number_in_of option.now least most (rows_of (found_of command.now)) }
+    ensures from { least ≤ result }
     ensures within { result ≤ most }
 {
     match command.get_str(option) {
-        Some(text) => number_up_to(text, most),
-        None => 0,
+        Some(text) => number_between(text, least, most),
+        None => least,
     }
 }
 
-// The task of the command that was met.
-fn task_of(matches: &ArgMatches) -> Task
+// The number that was given to an option of the command that was met.
+fn number_of(matches: &ArgMatches, option: &str, least: u32, most: u32) -> u32
+    requires { least ≤ most }
+    ensures value { result ≡ number_of_it option.now least most (subcommand_rows_of matches.now) }
+    ensures from { least ≤ result }
+    ensures within { result ≤ most }
+{
+    match matches.subcommand() {
+        Some((_name, command)) => number_in(command, option, least, most),
+        None => least,
+    }
+}
+
+// The workers and the grid of the command that was met; none where there is no grid of the size.
+fn making_of(matches: &ArgMatches) -> Option<Making>
+    ensures making { IfSome result (IsMakingOf (subcommand_rows_of matches.now)) }
+    ensures size { is_some result ≡ is_grid_size (number_of_it (codes "grid") 1 most_grid (subcommand_rows_of matches.now)) }
+{
+    let workers = number_of(matches, "workers", 1, 64);
+    let size = number_of(matches, "grid", 1, 16);
+    match Grid::new(size) {
+        Ok(grid) => Some(Making { workers, grid }),
+        Err(_) => None,
+    }
+}
+
+// The task of the command that was met, to be done with these workers and this grid.
+fn task_of(matches: &ArgMatches, making: Making) -> Task
+    requires { IsMakingOf (subcommand_rows_of matches.now) making }
     ensures { IsTaskOf (subcommand_rows_of matches.now) result }
 {
     match matches.subcommand() {
         Some((name, command)) => {
             if name == "gen" {
-                Task::Draw(Drawn {
-                    count: number_in(command, "count", 262_140),
-                    start: number_in(command, "start", 2_147_483_647),
+                let drawn = Drawn {
+                    count: number_in(command, "count", 0, 262_140),
+                    start: number_in(command, "start", 0, 2_147_483_647),
                     text: flag_in(command, "text"),
-                })
+                };
+                Task::Draw(making, drawn)
             } else {
-                Task::Report(Asked {
+                let asked = Asked {
                     shape: name == "shape",
                     order: flag_in(command, "order"),
-                })
+                };
+                Task::Report(making, asked)
             }
         }
-        None => Task::Report(Asked {
-            shape: false,
-            order: false,
-        }),
+        None => {
+            let asked = Asked {
+                shape: false,
+                order: false,
+            };
+            Task::Report(making, asked)
+        }
     }
 }
 
@@ -160,7 +216,7 @@ fn task_of(matches: &ArgMatches) -> Task
 ///
 /// # Errors
 ///
-/// `Usage` for words that the program does not take, a call for help included, and `Memory`.
+/// `Usage` for words that the program does not take, a call for help and a grid of another size included, and `Memory`.
 pub fn read_words(alloc: Global, words: &[String]) -> Result<Task, WordsRefused>
     ensures taken { IfOk result (λ task. AreTaken words.now) }
     ensures task { IfOk result (λ task. IsTask words.now task) }
@@ -170,7 +226,12 @@ pub fn read_words(alloc: Global, words: &[String]) -> Result<Task, WordsRefused>
         return Err(WordsRefused::Memory);
     };
     match program.try_get_matches_from(words) {
-        Ok(matches) => Ok(task_of(&matches)),
+        Ok(matches) => {
+            let Some(making) = making_of(&matches) else {
+                return Err(WordsRefused::Usage);
+            };
+            Ok(task_of(&matches, making))
+        }
         Err(error) => Err(match error.kind() {
             ErrorKind::OutOfMemory => WordsRefused::Memory,
             _ => WordsRefused::Usage,

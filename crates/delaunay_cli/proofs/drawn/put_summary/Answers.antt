@@ -5,10 +5,10 @@ use Rattle.delaunay_cli.proofs.DrawnFiles.{drawn-lines, drawn-radii, drawn-solid
 use Rattle.delaunay_cli.proofs.drawn.put_summary.Goals as goal
 
 pub history_and_report-requires-clause-lines : goal.history_and_report-requires-clause-lines
-history_and_report-requires-clause-lines g c = let d = c.requires.drawn in drawn-lines (content c.args.file.now) d.0 d.1 d.2 d.3
+history_and_report-requires-clause-lines g c = let d = c.requires.drawn in λ k l. drawn-lines (content c.args.file.now) d.0 d.1 d.2 d.3
 
 pub history_and_report-requires-clause-radii : goal.history_and_report-requires-clause-radii
-history_and_report-requires-clause-radii g c = let d = c.requires.drawn in drawn-radii (content c.args.file.now) d.0 d.1 d.3
+history_and_report-requires-clause-radii g c = let d = c.requires.drawn in λ k l. drawn-radii (content c.args.file.now) d.0 d.1 d.3
 
 pub unreachable-requires : goal.unreachable-requires
 unreachable-requires g c =

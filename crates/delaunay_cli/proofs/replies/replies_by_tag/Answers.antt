@@ -2,7 +2,7 @@ use Rattle.std.proofs.Common.{◌≡◌, ◌∙◌, ap, ℕ, ◌<◌, ◌+◌, a
 use Rattle.std.specs.Prelude.{map}
 use Rattle.std.specs.List.{range_with_len}
 use Rattle.edit_history.specs.declared.history.Reply.TheVariants.{Missing}
-use Rattle.delaunay_cli.specs.Report.{reply_at}
+use Rattle.plain_laws.specs.Plain.{reply_at}
 use Rattle.delaunay_cli.proofs.Lines.{told-by_place}
 use Rattle.delaunay_cli.proofs.replies.replies_by_tag.Goals as goal
 

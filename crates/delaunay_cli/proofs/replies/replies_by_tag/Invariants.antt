@@ -1,7 +1,7 @@
 -- each line has the reply of the first entry with its tag among those that were looked at, the last ones
 use Rattle.std.proofs.Common.{◌≡◌, ◌<◌, ℕ, length, drop, get_or}
 use Rattle.edit_history.specs.declared.history.Reply.TheVariants.{Missing}
-use Rattle.delaunay_cli.specs.Report.{reply_at}
+use Rattle.plain_laws.specs.Plain.{reply_at}
 use Rattle.delaunay_cli.proofs.replies.replies_by_tag.Given as goal
 
 abbrev pub invariant-loop-i : goal.invariant-loop-i

@@ -2,7 +2,7 @@ use Rattle.std.proofs.Common.{◌≡◌, ◌↔◌, ◌∙◌, ap, Err, arith, f
 use Rattle.point_order.specs.Solid.{is_solid}
 use Rattle.edit_files.specs.Content.{Content, content}
 use Rattle.edit_files.specs.Grammar.{line_limit}
-use Rattle.delaunay_cli.specs.Run.{history_of}
+use Rattle.delaunay_cli.specs.Run.{IsKept}
 use Rattle.delaunay_cli.proofs.Judging.{file-small, radii-small, no-fault, each-file}
 use Rattle.edit_files.proofs.Judged.{no_fault_of}
 use Rattle.delaunay_cli.proofs.top.judge.Goals as goal
@@ -11,7 +11,7 @@ pub mesh-requires-clause-lines : goal.mesh-requires-clause-lines
 mesh-requires-clause-lines g c = omega (arith, file-small line_limit c.args.bytes.now (content c.in-Ok.file) c.in-Ok.ensures.accepted)
 
 pub mesh-requires-clause-radii : goal.mesh-requires-clause-radii
-mesh-requires-clause-radii g c = radii-small line_limit c.args.bytes.now (content c.in-Ok.file) c.in-Ok.ensures.accepted
+mesh-requires-clause-radii g c = λ k l. radii-small line_limit c.args.bytes.now (content c.in-Ok.file) c.in-Ok.ensures.accepted
 
 pub returns-in-Ok-clause-bad : goal.returns-in-Ok-clause-bad
 returns-in-Ok-clause-bad g c =
@@ -23,7 +23,7 @@ returns-in-Ok-clause-not_solid g c =
 
 pub returns-in-Ok-clause-kept : goal.returns-in-Ok-clause-kept
 returns-in-Ok-clause-kept g c =
-    λ s. each-file (λ (f : Content). c.mesh.result.kept.items ≡ history_of f) c.args.bytes.now (content c.in-Ok.file) c.in-Ok.ensures.accepted (c.mesh.ensures.kept s)
+    λ s. each-file (λ (f : Content). IsKept f c.args.making.workers c.mesh.result.kept.items) c.args.bytes.now (content c.in-Ok.file) c.in-Ok.ensures.accepted (c.mesh.ensures.kept s)
 
 pub returns-in-Ok-clause-written : goal.returns-in-Ok-clause-written
 returns-in-Ok-clause-written g c =

@@ -1,17 +1,21 @@
-use Rattle.std.proofs.Common.{◌∙◌}
+use Rattle.std.proofs.Common.{◌∙◌, sym, ap}
+use Rattle.std.specs.Prelude.{Option, is_some}
 use Rattle.clap.specs.Words.{app_of, kind_of, subcommand_rows_of}
-use Rattle.delaunay_cli.proofs.CommandLine.{refused, taken, task-is}
+use Rattle.delaunay_cli.specs.declared.task.Making.{Making}
+use Rattle.delaunay_cli.proofs.CommandLine.{grid-refused, refused, taken}
 use Rattle.delaunay_cli.proofs.words.read_words.Goals as goal
 use Rattle.delaunay_cli.proofs.words.read_words.Goals.{in-OutOfMemory, in_default-kind}
 
-pub returns-in-Ok-try_get_matches_from-clause-taken : goal.returns-in-Ok-try_get_matches_from-clause-taken
-returns-in-Ok-try_get_matches_from-clause-taken c =
-    taken (app_of c.in-Ok.program) c.args.words.now c.in-Ok.ensures c.in-Ok-try_get_matches_from.ensures.kinds
+pub returns-in_default-making_of-clause-refused : goal.returns-in_default-making_of-clause-refused
+returns-in_default-making_of-clause-refused c =
+    λ e.
+    grid-refused (app_of c.in-Ok.program) c.args.words.now (subcommand_rows_of c.in-Ok-try_get_matches_from.matches) c.in-Ok.ensures (λ s. (c.in-Ok-try_get_matches_from.ensures.matches s).1)
+    (sym (ap (λ (o : Option Making). is_some o) c.in_default-making_of.is) ∙ c.making_of.ensures.size)
 
-pub returns-in-Ok-try_get_matches_from-clause-task : goal.returns-in-Ok-try_get_matches_from-clause-task
-returns-in-Ok-try_get_matches_from-clause-task c =
-    task-is (app_of c.in-Ok.program) c.args.words.now (subcommand_rows_of c.in-Ok-try_get_matches_from.matches) c.task_of.result c.in-Ok.ensures c.task_of.ensures
-    (λ s. (c.in-Ok-try_get_matches_from.ensures.matches s).1)
+pub returns-in-Some-clause-taken : goal.returns-in-Some-clause-taken
+returns-in-Some-clause-taken c =
+    taken (app_of c.in-Ok.program) c.args.words.now (subcommand_rows_of c.in-Ok-try_get_matches_from.matches) c.in-Ok.ensures c.in-Ok-try_get_matches_from.ensures.kinds
+    (λ s. (c.in-Ok-try_get_matches_from.ensures.matches s).1) (sym c.making_of.ensures.size ∙ ap (λ (o : Option Making). is_some o) c.in-Some.is)
 
 pub returns-after-kind-clause-refused : goal.returns-after-kind-clause-refused
 returns-after-kind-clause-refused c =
