@@ -8,3 +8,6 @@ mod working;
 pub use dealing::deal;
 pub use lists::{Left, List, Lists};
 pub use working::work;
+
+#[cfg(test)]
+mod dealing_tests;
