@@ -11,7 +11,11 @@ use Rattle.point_order.specs.Sets.{is_among}
 use Rattle.edit_history.specs.declared.history.Edit.{Edit}
 use Rattle.edit_history.specs.Edits.{point_of}
 use Rattle.plain_laws.specs.Running.{Pair, dealt_to, dealt}
-use Rattle.edit_workers.specs.Dealing.{with_pair}
+use Rattle.std.specs.Prelude.{Option, None}
+use Rattle.std.specs.Option.{option_map}
+use Rattle.edit_history.specs.Opening.{Four, opening_four}
+use Rattle.edit_history.specs.OneThread.{places}
+use Rattle.edit_workers.specs.Dealing.{with_pair, AreOpening}
 
 -- ---- a pair put last
 
@@ -160,3 +164,15 @@ next_is_passed n four lines tag now l a e =
     one [] k l = absurd (omega (arith, l))
     one (x ∷ lines) zero l = (x, refl)
     one (x ∷ lines) (suc k) l = one lines k (omega (arith, l))
+
+-- ---- the opening four, as they are found
+
+pub opening_is : (points four : List ℕ) → option_map places (opening_four points) ≡ Some four → AreOpening points four
+opening_is points four e = by (opening_four points) refl e
+  where
+    same : (a b : List ℕ) → Some a ≡ Some b → a ≡ b
+    same a b e = cc
+
+    by : (o : Option Four) → opening_four points ≡ o → option_map places o ≡ Some four → AreOpening points four
+    by None q e = absurd (cc e)
+    by (Some f) q e = (f, q, sym (same (places f) four e))

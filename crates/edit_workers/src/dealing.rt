@@ -1,6 +1,7 @@
 //! Dealing a file's lines.
 
-ghost use Rattle.std.specs.Prelude.{◌≡◌, ◌+◌, ◌^◌, ◌<◌, ◌≤◌, ◌∷◌, ◌++◌, [], map, replicate, Some, IfOk, OnOk, length, slice_get};
+ghost use Rattle.std.specs.Prelude.{◌≡◌, ◌+◌, ◌^◌, ◌<◌, ◌≤◌, ◌∷◌, ◌++◌, [], map, replicate, length, slice_get};
+ghost use Rattle.std.specs.Prelude.{Some, IfOk, OnOk};
 ghost use Rattle.edit_history.specs.declared.history.Edit.TheVariants.{Add};
 ghost use Rattle.edit_history.specs.OneThread.{tagged_lines};
 ghost use Rattle.plain_laws.specs.Running.{dealt};
@@ -55,8 +56,8 @@ fn line_at(file: &File, place: usize) -> Edit
     }
 }
 
-/// The lines of a file but for the opening four, each in the list of the worker whose number is the key of its point modulo
-/// the number of workers; in each list the lines stand in the order of the file, each with its place for a tag.
+/// The lines of a file but for the opening four, each in the list of the worker whose number is the key of its point
+/// modulo the number of workers. In each list the lines stand in the order of the file, each with its place for a tag.
 ///
 /// There are to be 1 to 64 workers, at most 2^32 lines, and `four` is to be what `find_four` gives.
 ///

@@ -1,7 +1,6 @@
 //! Work on a list.
 
 ghost use Rattle.std.specs.Prelude.{◌≡◌, ◌<◌, ◌≤◌, IfOk, OnOk, OnErr, length};
-ghost use Rattle.edit_history.specs.Edits.{point_of};
 ghost use Rattle.edit_workers.specs.Trying.{IsTried, HasMissed, IsWorkedOn, has_point as has_point_of};
 ghost use Rattle.edit_workers.specs.Working.{IsWorked, IsBroken};
 
@@ -121,8 +120,8 @@ fn work_on<G: Gate>(
     }
 }
 
-/// Makes the edits of a list in their order, each tried up to 64 times. What was busy each time is left over, and so is each
-/// later one of its point. The pass is to be one of this table that may make so many edits.
+/// Makes the edits of a list in their order, each tried up to 64 times. What was busy each time is left over, and so
+/// is each later one of its point. The pass is to be one of this table that may make so many edits.
 ///
 /// # Errors
 /// Want of memory. Some edits were made then, each at most once.
