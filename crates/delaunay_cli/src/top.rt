@@ -308,7 +308,7 @@ pub fn run<R: Threads + Sync, S: Source, O: Sink, E: Sink, G: Gate + Sync>(
         → (Rose (S.faults src.old) (S.faults src.new) → ⊥) → (Rose (O.faults out.old) (O.faults out.new) → ⊥)
         → (result.status ≡ 0) ⊎ (result.status ≡ 1)) }
 
-    // Where a file is drawn, the source is as before, and what is kept and written goes by the words alone.
+    // Where a file is drawn, the source is as before, and what is written goes by the words alone.
     ensures source { DrawsFile words.now → src.new ≡ src.old }
     ensures drawn_statuses { DrawsFile words.now → result.status ≤ 2 ⊎ (result.status ≡ 4) }
     ensures drawn_kept { DrawsFile words.now → asks_text words.now ≡ false → (result.status ≡ 0) ⊎ (result.status ≡ 4)
