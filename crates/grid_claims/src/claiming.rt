@@ -101,8 +101,8 @@ fn refill_in(board: &Board, hands: &mut Hands, alloc: Global, p: Point) -> Resul
     }
 }
 
-// Claims a bucket, where it is not in hand.
-fn have(board: &Board, hands: &mut Hands, b: u32) -> Result<(), Refused>
+// Claims a bucket, where it is missing in the hands.
+fn claim_missing(board: &Board, hands: &mut Hands, b: u32) -> Result<(), Refused>
     requires hands { AreHands board.now.shared.table_id (buckets_of board.now.shared.key) hands.old }
     requires one { ShowsOne hands.old.hold }
     requires below { b < length hands.old.hold.places }
@@ -133,7 +133,7 @@ fn start_walk(board: &Board, hands: &mut Hands, p: Point) -> Result<Option<Walk>
     let first = grid.bucket_of(p);
     for step in 0..count {
         let b = (first + step) % count;
-        match have(board, hands, b) {
+        match claim_missing(board, hands, b) {
             Ok(()) => {}
             Err(why) => return Err(why),
         }
@@ -163,7 +163,7 @@ fn walk_on(board: &Board, hands: &mut Hands, start: Walk, p: Point) -> Result<Op
             WalkTurn::Moved => {}
             WalkTurn::Need(b) => {
                 let _ = hands.hold.grid();
-                match have(board, hands, b) {
+                match claim_missing(board, hands, b) {
                     Ok(()) => {}
                     Err(why) => return Err(why),
                 }

@@ -13,8 +13,8 @@ pub returns-in-Here-clause-goes : goal.returns-in-Here-clause-goes
 returns-in-Here-clause-goes c =
     walk_ends c.args.board.now.shared.table_id (buckets_of c.args.board.now.shared.key) c.args.p c.args.hands.now c.loop.hands c.loop.walk c.step.new.self c.in-Here.cell c.requires.new c.loop.invariant c.in-Here.ensures
 
-pub have-requires-clause-below : goal.have-requires-clause-below
-have-requires-clause-below c =
+pub claim_missing-requires-clause-below : goal.claim_missing-requires-clause-below
+claim_missing-requires-clause-below c =
     walk_asks_below c.args.board.now.shared.table_id (buckets_of c.args.board.now.shared.key) c.args.p c.args.hands.now c.loop.hands c.loop.walk c.step.new.self c.in-Need.b c.requires.new c.loop.invariant c.in-Need.ensures c.grid.ensures.size c.grid.ensures.places
 
 pub loop-preserved : goal.loop-preserved
@@ -25,5 +25,5 @@ loop-preserved c =
       | in-Moved w ↦ subst (λ (x : Hands). IsWalking id n c.args.p c.args.hands.now x c.step.new.self) (sym w.hands-is)
           (walk_moves id n c.args.p c.args.hands.now c.loop.hands c.loop.walk c.step.new.self c.requires.new c.loop.invariant w.in-Moved.ensures)
       | in-Need+in-Ok w ↦ subst (λ (x : Hands). IsWalking id n c.args.p c.args.hands.now x c.step.new.self) (sym w.hands-is)
-          (walk_waits id n c.args.p c.args.hands.now c.loop.hands w.have.new.hands c.loop.walk c.step.new.self w.in-Need.b c.requires.new c.loop.invariant w.in-Need.ensures w.in-Ok.ensures.more)
+          (walk_waits id n c.args.p c.args.hands.now c.loop.hands w.claim_missing.new.hands c.loop.walk c.step.new.self w.in-Need.b c.requires.new c.loop.invariant w.in-Need.ensures w.in-Ok.ensures.more)
     ]

@@ -1,6 +1,6 @@
 use Rattle.grid_claims.specs.Faces.{buckets_of}
 use Rattle.grid_claims.proofs.Walking.{held_on_ok}
-use Rattle.grid_claims.proofs.claiming.have.Goals as goal
+use Rattle.grid_claims.proofs.claiming.claim_missing.Goals as goal
 
 pub returns-clause-held : goal.returns-clause-held
 returns-clause-held c =
