@@ -18,6 +18,7 @@ mod Giving
 mod MoreHands
 mod Refilling
 mod Digging
+mod Walking
 mod Planning
 mod Finishing
 mod Trying

@@ -11,6 +11,7 @@ use Rattle.cell_store.specs.Buckets.{InHand, bucket_at}
 use Rattle.cell_store.specs.Meshes.{AreAmong}
 use Rattle.cell_store.specs.Shares.{Shows}
 use Rattle.cavity.specs.Digs.{Digging, IsDigIn}
+use Rattle.cell_walk.specs.Paths.{Walking, WalksFor}
 use Rattle.cell_store.specs.Touches.{HoldNoOther}
 use Rattle.grid_claims.specs.declared.hands.Hands.{Hands}
 use Rattle.grid_claims.specs.Claiming.{AreHands, HasClaimed, ShowsOne}
@@ -51,6 +52,12 @@ pub record IsDigging (id : TableId) (buckets : ℕ) (old now : Hands) (before di
   pub more : HasMore id buckets old now
   pub digs : IsDigFor now.hold dig
   pub point : dig.point ≡ before.point
+
+-- The claims of a walk to p.
+pub record IsWalking (id : TableId) (buckets p : ℕ) (old now : Hands) (walk : Walking) : Type 0 where
+  pub more : HasMore id buckets old now
+  pub point : walk.point ≡ p
+  pub walks : WalksFor now.hold p walk
 
 -- The claims in turn, in search of a first cell: all buckets below b are in hand.
 pub record IsSearching (id : TableId) (buckets : ℕ) (old now : Hands) (b : ℕ) : Type 0 where

@@ -1,6 +1,6 @@
 //! The claims of a try.
 
-ghost use Rattle.std.specs.Prelude.{◌≡◌, ℕ, ◌<◌, ◌++◌, ◌∷◌, [], None, List, length, OnOk, IfOk, IfErr};
+ghost use Rattle.std.specs.Prelude.{◌≡◌, ℕ, ◌<◌, ◌++◌, ◌∷◌, [], None, List, length, OnOk, IfOk, IfErr, IfSome, IsSome};
 ghost use Rattle.cell_store.specs.Buckets.{bucket_at};
 ghost use Rattle.grid_claims.specs.Faces.{buckets_of};
 ghost use Rattle.grid_claims.specs.Claiming.{AreHands, HasClaimed, HasStopped, ShowsOne, IsPlan, HasRoomFor};
@@ -12,16 +12,22 @@ ghost use Rattle.cell_store.specs.Shares.{Shows};
 ghost use Rattle.cavity.specs.Turns.{NoneIsNeeded};
 ghost use Rattle.cavity.specs.Digs.{IsDoneIn};
 ghost use Rattle.cell_store.specs.Ready.{AreHeld};
+ghost use Rattle.cell_walk.specs.Paths.{WalksFor};
 
 use crate::hands::{Hands, take_in};
 use crate::table::Refused;
 use crate::view::Board;
 use cavity::{Dig, DigTurn, Fresh, cell_in_conflict, fill};
 use cell_conflict::conflict_among;
+use cell_walk::{Walk, WalkTurn};
 use edit_history::{Edit, Reply};
 use point_order::{Cell, Point};
 use std::alloc::Global;
 use vertex_removal::{Refill, RefillTurn};
+
+// After how many steps a walk is given up, and the buckets are looked through in turn. No cell is met twice, so it ends before on every
+// mesh that memory can hold.
+const STEPS: u64 = 1 << 40;
 
 /// What an edit is to change: its reply, the cells that go, and those that come.
 #[derive(Debug, Drop)]
@@ -95,8 +101,80 @@ fn refill_in(board: &Board, hands: &mut Hands, alloc: Global, p: Point) -> Resul
     }
 }
 
+// Claims a bucket, where it is missing in the hands.
+fn claim_missing(board: &Board, hands: &mut Hands, b: u32) -> Result<(), Refused>
+    requires hands { AreHands board.now.shared.table_id (buckets_of board.now.shared.key) hands.old }
+    requires one { ShowsOne hands.old.hold }
+    requires below { b < length hands.old.hold.places }
+    ensures hands { AreHands board.now.shared.table_id (buckets_of board.now.shared.key) hands.new }
+    ensures more { OnOk result (HasMore board.now.shared.table_id (buckets_of board.now.shared.key) hands.old hands.new) }
+    ensures held { OnOk result (IsSome (bucket_at hands.new.hold.places b)) }
+    ensures stopped { IfErr result (λ why. HasStopped hands.old hands.new why) }
+{
+    if hands.hold.has(b) {
+        return Ok(());
+    }
+    ask(board, hands, b)
+}
+
+// The walk with which the search starts: from a point that lies near, of the first bucket that has any, from that of the new point on
+// and round. Each bucket that is looked at is claimed.
+fn start_walk(board: &Board, hands: &mut Hands, p: Point) -> Result<Option<Walk>, Refused>
+    requires hands { AreHands board.now.shared.table_id (buckets_of board.now.shared.key) hands.old }
+    requires one { ShowsOne hands.old.hold }
+    ensures hands { AreHands board.now.shared.table_id (buckets_of board.now.shared.key) hands.new }
+    ensures more { OnOk result (HasMore board.now.shared.table_id (buckets_of board.now.shared.key) hands.old hands.new) }
+    ensures point { IfOk result (λ walk. IfSome walk (λ w. w.point ≡ p)) }
+    ensures walks { IfOk result (λ walk. IfSome walk (WalksFor hands.new.hold p)) }
+    ensures stopped { IfErr result (λ why. HasStopped hands.old hands.new why) }
+{
+    let grid = hands.hold.grid();
+    let count = grid.count();
+    let first = grid.bucket_of(p);
+    for step in 0..count {
+        let b = (first + step) % count;
+        match claim_missing(board, hands, b) {
+            Ok(()) => {}
+            Err(why) => return Err(why),
+        }
+        if let Some(walk) = Walk::near(&hands.hold, b, p) {
+            return Ok(Some(walk));
+        }
+    }
+    Ok(None)
+}
+
+// Goes on with a walk to its end, and claims every bucket that it needs. None where it is given up.
+fn walk_on(board: &Board, hands: &mut Hands, start: Walk, p: Point) -> Result<Option<Cell>, Refused>
+    requires hands { AreHands board.now.shared.table_id (buckets_of board.now.shared.key) hands.old }
+    requires one { ShowsOne hands.old.hold }
+    requires new { IsNewFor hands.old.hold p }
+    requires point { start.point ≡ p }
+    requires walks { WalksFor hands.old.hold p start }
+    ensures hands { AreHands board.now.shared.table_id (buckets_of board.now.shared.key) hands.new }
+    ensures more { OnOk result (HasMore board.now.shared.table_id (buckets_of board.now.shared.key) hands.old hands.new) }
+    ensures goes { IfOk result (λ found. IfSome found (λ cell. (s : List ℕ) → Shows hands.new.hold s → GoesFrom s p cell)) }
+    ensures stopped { IfErr result (λ why. HasStopped hands.old hands.new why) }
+{
+    let mut walk = start;
+    for _ in 0..STEPS {
+        match walk.step(&hands.hold) {
+            WalkTurn::Here(cell) => return Ok(Some(cell)),
+            WalkTurn::Moved => {}
+            WalkTurn::Need(b) => {
+                let _ = hands.hold.grid();
+                match claim_missing(board, hands, b) {
+                    Ok(()) => {}
+                    Err(why) => return Err(why),
+                }
+            }
+        }
+    }
+    Ok(None)
+}
+
 // A cell that the new point takes away. Buckets are claimed in turn until one has it.
-fn first_cell(board: &Board, hands: &mut Hands, p: Point) -> Result<Cell, Refused>
+fn first_in_turn(board: &Board, hands: &mut Hands, p: Point) -> Result<Cell, Refused>
     requires hands { AreHands board.now.shared.table_id (buckets_of board.now.shared.key) hands.old }
     requires one { ShowsOne hands.old.hold }
     requires new { IsNewFor hands.old.hold p }
@@ -122,6 +200,29 @@ fn first_cell(board: &Board, hands: &mut Hands, p: Point) -> Result<Cell, Refuse
         }
     }
     Ok(cell_in_conflict(&hands.hold, p))
+}
+
+// A cell that the new point takes away, by a walk from a point that lies near. Where it does not come to an end, buckets are looked
+// through in turn.
+fn first_cell(board: &Board, hands: &mut Hands, p: Point) -> Result<Cell, Refused>
+    requires hands { AreHands board.now.shared.table_id (buckets_of board.now.shared.key) hands.old }
+    requires one { ShowsOne hands.old.hold }
+    requires new { IsNewFor hands.old.hold p }
+    requires mine { HasBucketOf hands.old.hold p }
+    ensures hands { AreHands board.now.shared.table_id (buckets_of board.now.shared.key) hands.new }
+    ensures more { OnOk result (HasMore board.now.shared.table_id (buckets_of board.now.shared.key) hands.old hands.new) }
+    ensures goes { IfOk result (λ cell. (s : List ℕ) → Shows hands.new.hold s → GoesFrom s p cell) }
+    ensures stopped { IfErr result (λ why. HasStopped hands.old hands.new why) }
+{
+    match start_walk(board, hands, p) {
+        Ok(Some(walk)) => match walk_on(board, hands, walk, p) {
+            Ok(Some(cell)) => Ok(cell),
+            Ok(None) => first_in_turn(board, hands, p),
+            Err(why) => Err(why),
+        },
+        Ok(None) => first_in_turn(board, hands, p),
+        Err(why) => Err(why),
+    }
 }
 
 // Digs on, and claims every bucket that it needs.

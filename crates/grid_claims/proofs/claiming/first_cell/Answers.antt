@@ -1,44 +1,47 @@
-use Rattle.std.proofs.Common.{sym, ◌+◌, subst}
-use Rattle.grid_claims.specs.declared.hands.Hands.{Hands}
-use Rattle.grid_claims.specs.Looking.{IsSearching}
-use Rattle.grid_claims.proofs.claiming.first_cell.Goals.{then-not-has+in-Ok+in_default-conflict_among, else-not-has}
 use Rattle.grid_claims.specs.Faces.{buckets_of}
 use Rattle.grid_claims.proofs.MoreHands.{more_then}
-use Rattle.grid_claims.proofs.Digging.{new_still, shows_new, searching_over, searching_on, asked_held}
+use Rattle.grid_claims.proofs.Digging.{new_still}
+use Rattle.grid_claims.proofs.Walking.{cell_more, cell_stopped}
 use Rattle.grid_claims.proofs.claiming.first_cell.Goals as goal
 
-pub conflict_among-requires-then-not-has-clause-shown : goal.conflict_among-requires-then-not-has-clause-shown
-conflict_among-requires-then-not-has-clause-shown c =
+pub walk_on-requires-clause-new : goal.walk_on-requires-clause-new
+walk_on-requires-clause-new c =
+    new_still c.args.board.now.shared.table_id (buckets_of c.args.board.now.shared.key) c.args.p c.args.hands.now c.start_walk.new.hands c.in-Ok-Some.ensures.more c.requires.new
+
+pub first_in_turn-requires-clause-new : goal.first_in_turn-requires-clause-new
+first_in_turn-requires-clause-new c =
     let id = c.args.board.now.shared.table_id in
     let n = buckets_of c.args.board.now.shared.key in
-    shows_new id n c.args.p c.args.hands.now c.ask.new.hands (more_then id n c.args.hands.now c.loop-b.hands c.ask.new.hands c.loop-b.invariant.more c.in-Ok.ensures.more) c.requires.new
+    new_still id n c.args.p c.args.hands.now c.walk_on.new.hands (more_then id n c.args.hands.now c.start_walk.new.hands c.walk_on.new.hands c.in-Ok-Some.ensures.more c.in-Ok-None-walk_on.ensures.more) c.requires.new
 
-pub conflict_among-requires-then-not-has-clause-held : goal.conflict_among-requires-then-not-has-clause-held
-conflict_among-requires-then-not-has-clause-held c = asked_held c.args.board.now.shared.table_id (buckets_of c.args.board.now.shared.key) c.loop-b.b c.loop-b.hands c.ask.new.hands c.in-Ok.ensures.more c.in-Ok.ensures.order
+pub first_in_turn-requires-in-Ok-None-clause-new : goal.first_in_turn-requires-in-Ok-None-clause-new
+first_in_turn-requires-in-Ok-None-clause-new c =
+    new_still c.args.board.now.shared.table_id (buckets_of c.args.board.now.shared.key) c.args.p c.args.hands.now c.start_walk.new.hands c.in-Ok-None.ensures.more c.requires.new
 
-pub returns-in-Some-conflict_among-clause-more : goal.returns-in-Some-conflict_among-clause-more
-returns-in-Some-conflict_among-clause-more c =
-    more_then c.args.board.now.shared.table_id (buckets_of c.args.board.now.shared.key) c.args.hands.now c.loop-b.hands c.ask.new.hands c.loop-b.invariant.more c.in-Ok.ensures.more
+pub returns-in-Ok-Some-walk_on-clause-more : goal.returns-in-Ok-Some-walk_on-clause-more
+returns-in-Ok-Some-walk_on-clause-more c =
+    more_then c.args.board.now.shared.table_id (buckets_of c.args.board.now.shared.key) c.args.hands.now c.start_walk.new.hands c.walk_on.new.hands c.in-Ok-Some.ensures.more c.in-Ok-Some-walk_on.ensures.more
 
-pub returns-in-Some-conflict_among-clause-goes : goal.returns-in-Some-conflict_among-clause-goes
-returns-in-Some-conflict_among-clause-goes c s st =
+pub returns-in-Ok-None-walk_on-clause-more : goal.returns-in-Ok-None-walk_on-clause-more
+returns-in-Ok-None-walk_on-clause-more c =
     let id = c.args.board.now.shared.table_id in
     let n = buckets_of c.args.board.now.shared.key in
-    c.in-Some-conflict_among.ensures.goes s st (new_still id n c.args.p c.args.hands.now c.ask.new.hands (more_then id n c.args.hands.now c.loop-b.hands c.ask.new.hands c.loop-b.invariant.more c.in-Ok.ensures.more) c.requires.new s st)
+    cell_more id n c.args.hands.now c.walk_on.new.hands c.first_in_turn.new.hands c.first_in_turn.result
+    (more_then id n c.args.hands.now c.start_walk.new.hands c.walk_on.new.hands c.in-Ok-Some.ensures.more c.in-Ok-None-walk_on.ensures.more) c.first_in_turn.ensures.more
 
-pub loop-b-preserved : goal.loop-b-preserved
-loop-b-preserved c =
+pub returns-in-Ok-None-walk_on-clause-stopped : goal.returns-in-Ok-None-walk_on-clause-stopped
+returns-in-Ok-None-walk_on-clause-stopped c =
     let id = c.args.board.now.shared.table_id in
     let n = buckets_of c.args.board.now.shared.key in
-    elim c.if-not-has.branch [
-      | then-not-has+in-Ok+in_default-conflict_among w ↦ subst (λ (x : Hands). IsSearching id n c.args.hands.now x (c.loop-b.b + 1)) (sym w.hands-is)
-          (searching_on id n c.loop-b.b c.args.hands.now c.loop-b.hands w.ask.new.hands c.loop-b.invariant w.in-Ok.ensures.more w.in-Ok.ensures.order)
-      | else-not-has w ↦ subst (λ (x : Hands). IsSearching id n c.args.hands.now x (c.loop-b.b + 1)) (sym w.hands-is)
-          (searching_over id n c.loop-b.b c.args.hands.now c.loop-b.hands c.loop-b.invariant (sym w.if-not-has.ensures))
-    ]
+    cell_stopped id n c.args.hands.now c.walk_on.new.hands c.first_in_turn.new.hands c.first_in_turn.result
+    (more_then id n c.args.hands.now c.start_walk.new.hands c.walk_on.new.hands c.in-Ok-Some.ensures.more c.in-Ok-None-walk_on.ensures.more) c.first_in_turn.ensures.stopped
 
-pub cell_in_conflict-requires-clause-shown : goal.cell_in_conflict-requires-clause-shown
-cell_in_conflict-requires-clause-shown c = shows_new c.args.board.now.shared.table_id (buckets_of c.args.board.now.shared.key) c.args.p c.args.hands.now c.loop-b.hands c.loop-b.invariant.more c.requires.new
+pub returns-in-Ok-None-clause-more : goal.returns-in-Ok-None-clause-more
+returns-in-Ok-None-clause-more c =
+    cell_more c.args.board.now.shared.table_id (buckets_of c.args.board.now.shared.key) c.args.hands.now c.start_walk.new.hands c.first_in_turn-in-Ok-None.new.hands c.first_in_turn-in-Ok-None.result
+    c.in-Ok-None.ensures.more c.first_in_turn-in-Ok-None.ensures.more
 
-pub returns-clause-goes : goal.returns-clause-goes
-returns-clause-goes c s st = c.cell_in_conflict.ensures s st (new_still c.args.board.now.shared.table_id (buckets_of c.args.board.now.shared.key) c.args.p c.args.hands.now c.loop-b.hands c.loop-b.invariant.more c.requires.new s st)
+pub returns-in-Ok-None-clause-stopped : goal.returns-in-Ok-None-clause-stopped
+returns-in-Ok-None-clause-stopped c =
+    cell_stopped c.args.board.now.shared.table_id (buckets_of c.args.board.now.shared.key) c.args.hands.now c.start_walk.new.hands c.first_in_turn-in-Ok-None.new.hands c.first_in_turn-in-Ok-None.result
+    c.in-Ok-None.ensures.more c.first_in_turn-in-Ok-None.ensures.stopped
