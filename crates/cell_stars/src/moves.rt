@@ -33,7 +33,7 @@ pub(crate) fn has_number(list: &[u32], i: u32) -> bool
     ensures { result ≡ is_among i list.now }
 {
     if list.len() <= FEW {
-        list.contains(&i)
+        list.iter().any(|j| *j == i)
     } else {
         list.binary_search(&i).is_ok()
     }
@@ -212,7 +212,7 @@ impl Cells {
         ensures freed { IfOk result (λ freed. AreFreed self.now gone.now freed.items) }
     {
         let _ = &self.slots;
-        let mut freed = Vec::new(alloc);
+        let mut freed = Vec::with_capacity(alloc, gone.len())?;
         for c in gone {
             if let Some(i) = self.place_of_cell(c) {
                 freed.push(i)?;

@@ -77,7 +77,7 @@ fn likely_numbers(
 ) -> Result<Vec<u32>, AllocError>
     ensures { IfOk result (λ list. (n : ℕ) → IsIn n list.items → IsSpare stars.now n) }
 {
-    let mut list = Vec::new(alloc);
+    let mut list = Vec::with_capacity(alloc, count)?;
     for n in spare {
         if list.len() >= count {
             break;
@@ -180,7 +180,7 @@ impl Cells {
         ensures order { IfOk result (λ list. IsAscending list.items) }
         ensures touched { IfOk result (λ list. AreTouched self.now moves.now.freed.items moves.now.placed.items list.items) }
     {
-        let mut list: Vec<Point> = Vec::new(alloc);
+        let mut list: Vec<Point> = Vec::with_capacity(alloc, EARLY)?;
         self.add_freed(&mut list, &moves.freed)?;
         self.add_placed(&mut list, &moves.placed)?;
         Ok(points_in_order(list))

@@ -50,11 +50,7 @@ fn add_number(numbers: &mut Vec<u32>, b: u32) -> Result<(), AllocError>
 }
 
 // Adds the numbers of the buckets of the points.
-fn add_numbers_at(
-    numbers: &mut Vec<u32>,
-    grid: Grid,
-    points: &[Point],
-) -> Result<(), AllocError>
+fn add_numbers_at(numbers: &mut Vec<u32>, grid: Grid, points: &[Point]) -> Result<(), AllocError>
     ensures { OnOk result (Gathers (IsNumberOf grid) points.now numbers.old.items numbers.new.items) }
 {
     for p in points {
@@ -78,7 +74,7 @@ fn touched(alloc: Global, grid: Grid, gone: &[Cell], fresh: &[Cell]) -> Result<V
     ensures order { IfOk result (λ numbers. IsAscending numbers.items) }
     ensures numbers { IfOk result (λ numbers. (b : ℕ) → IsIn b numbers.items ↔ (IsIn b (numbers_of grid gone.now) ⊎ IsIn b (numbers_of grid fresh.now))) }
 {
-    let mut numbers = Vec::new(alloc);
+    let mut numbers = Vec::with_capacity(alloc, EARLY)?;
     add_numbers(&mut numbers, grid, gone)?;
     add_numbers(&mut numbers, grid, fresh)?;
     numbers.sort_unstable();

@@ -8,5 +8,5 @@ returns-clause-order c = numbers_ascend c.sort_unstable.new.self.items c.dedup.n
 
 pub returns-clause-numbers : goal.returns-clause-numbers
 returns-clause-numbers c =
-    numbers_are c.args.grid c.args.gone.now c.args.fresh.now c.new-numbers.result.items c.add_numbers.new.numbers.items c.add_numbers-2.new.numbers.items c.sort_unstable.new.self.items c.dedup.new.self.items
-    c.new-numbers.ensures.items c.in_ok-add_numbers.ensures c.in_ok-add_numbers-2.ensures c.sort_unstable.ensures.permutation (dedup_is _ _ _ c.dedup.ensures.filtered)
+    numbers_are c.args.grid c.args.gone.now c.args.fresh.now c.in_ok-numbers.numbers.items c.add_numbers.new.numbers.items c.add_numbers-2.new.numbers.items c.sort_unstable.new.self.items c.dedup.new.self.items
+    c.in_ok-numbers.ensures.items c.in_ok-add_numbers.ensures c.in_ok-add_numbers-2.ensures c.sort_unstable.ensures.permutation (dedup_is _ _ _ c.dedup.ensures.filtered)

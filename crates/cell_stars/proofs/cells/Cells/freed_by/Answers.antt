@@ -5,7 +5,7 @@ use Rattle.cell_stars.proofs.cells.Cells.freed_by.Goals as goal
 use Rattle.cell_stars.proofs.cells.Cells.freed_by.Goals.{in-Some+in_ok-push, in_default}
 
 pub loop-c-init : goal.loop-c-init
-loop-c-init c = freed_none c.args.self.now c.args.gone.now c.new-freed.result.items c.new-freed.ensures.items
+loop-c-init c = freed_none c.args.self.now c.args.gone.now c.in_ok-freed.freed.items c.in_ok-freed.ensures.items
 
 pub loop-c-preserved : goal.loop-c-preserved
 loop-c-preserved c =

@@ -7,7 +7,7 @@ use Rattle.cell_stars.proofs.cells.Cells.vertices_of.Goals as goal
 pub returns-clause-touched : goal.returns-clause-touched
 returns-clause-touched c =
     let b = c.args.self.now in
-    are_touched b c.args.moves.now.freed.items c.args.moves.now.placed.items c.new-list.result.items c.add_freed.new.list.items c.add_placed.new.list.items c.points_in_order.result.items c.new-list.ensures.items
-    (subst (λ (l : List ℕ). Gathers (FromPlace b) l c.new-list.result.items c.add_freed.new.list.items) c.deref.ensures.value c.in_ok-add_freed.ensures)
+    are_touched b c.args.moves.now.freed.items c.args.moves.now.placed.items c.in_ok-list.list.items c.add_freed.new.list.items c.add_placed.new.list.items c.points_in_order.result.items c.in_ok-list.ensures.items
+    (subst (λ (l : List ℕ). Gathers (FromPlace b) l c.in_ok-list.list.items c.add_freed.new.list.items) c.deref.ensures.value c.in_ok-add_freed.ensures)
     (subst (λ (l : List (ℕ × Cell)). Gathers (FromPut b) l c.add_freed.new.list.items c.add_placed.new.list.items) c.deref-2.ensures.value c.in_ok-add_placed.ensures)
     c.points_in_order.ensures.same
