@@ -5,12 +5,14 @@ use byte_ends::{StdSink, StdSource};
 use grid_claims::OpenGate;
 use std::alloc::{AllocError, Global};
 use std::env;
+use std::io::ErrorKind;
 use std::process::ExitCode;
 
 // The words of the command line; none where they are not all text, so that the top call refuses them.
 fn words_of(rt: &HostRuntime, alloc: Global) -> Result<Vec<String>, AllocError> {
     match env::args(rt) {
         Ok(words) => words.collect(alloc),
+        Err(error) if error.kind() == ErrorKind::OutOfMemory => Err(AllocError),
         Err(_) => Ok(Vec::new(alloc)),
     }
 }
