@@ -1,5 +1,5 @@
 -- A whole snapshot, as contracts see it.
-use Rattle.std.specs.Prelude.{◌≡◌, ℕ, ◌*◌, List, [], ◌∷◌, ◌++◌, map, reverse, length}
+use Rattle.std.specs.Prelude.{◌≡◌, ℕ, ◌*◌, List, [], ◌∷◌, ◌++◌, map, reverse, length, Result, Ok, Err, IfOk, IfErr}
 use Rattle.std.specs.List.{range_with_len}
 use Rattle.std.proofs.Common.{sym, ◌∙◌, ap, subst, arith}
 use Rattle.std.proofs.lemmas.List.{append_assoc, append-nil}
@@ -10,16 +10,17 @@ use Rattle.edit_history.specs.declared.history.Entry.{Entry}
 use Rattle.claim_rule.specs.Boards.{made_by}
 use Rattle.claim_rule.specs.Good.{StartsWith}
 use Rattle.grid_claims.specs.declared.hands.Hands.{Hands}
+use Rattle.grid_claims.specs.declared.snapshot.Snapshot.{Snapshot}
 use Rattle.grid_claims.specs.declared.table.Refused.{Refused}
 use Rattle.grid_claims.specs.declared.table.Refused.TheVariants.{Spent, Busy, Memory}
 use Rattle.grid_claims.specs.declared.view.Act.{Act}
 use Rattle.grid_claims.specs.declared.view.Act.TheVariants.{Claim, Miss, Look}
 use Rattle.grid_claims.specs.declared.view.View.{View}
-use Rattle.grid_claims.specs.Passes.{standing}
-use Rattle.grid_claims.specs.Tries.{IsShown, IsUnshown}
+use Rattle.grid_claims.specs.Passes.{Standing, standing}
+use Rattle.grid_claims.specs.Tries.{IsShown, IsStill, IsUnshown}
 use Rattle.grid_claims.specs.Claiming.{AreHands, HasStopped, HasGivenBack, releases_of}
 use Rattle.grid_claims.specs.Showing.{HasClaimedAll, AreListsOf, HasLooked}
-use Rattle.grid_claims.proofs.Trying.{claimed_all, back_as_before}
+use Rattle.grid_claims.proofs.Trying.{back_as_before, claimed_all, still_as}
 
 pub snapshot_shown : (id : TableId) (n found : ℕ) (entries : List Entry) (cells : List Cell) (w mid u : Hands) → AreHands id n w → AreHands id n mid → AreHands id n u → w.order.items ≡ [] → n ≡ w.place.me.0.grid * w.place.me.0.grid * w.place.me.0.grid
     → HasClaimedAll w mid → AreListsOf mid.hold entries cells → HasLooked found mid u
@@ -62,3 +63,15 @@ tried_unshown id n w mid u (Busy bucket word) a b d none s back =
     let o = s.others in
     (record { some_pass = o.0; of_parts = o.2; others = o.1 }, back_as_before id n w mid u (Miss bucket word ∷ []) a b d none s.claimed back)
 tried_unshown id n w mid u Memory a b d none s back = back_as_before id n w mid u [] a b d none s.claimed back
+
+-- ---- whatever the answer is
+
+still_why : (old new : Standing) (why : Refused) → IsUnshown old why new → IsStill old new
+still_why old new Spent k = absurd k
+still_why old new (Busy bucket word) k = still_as old new (Miss bucket word ∷ []) k.1
+still_why old new Memory k = still_as old new [] k
+
+-- the pass is of the same table, and owns the same parts
+pub still_snapped : (old new : Standing) (r : Result Snapshot Refused) → IfOk r (λ s. IsShown s.history.items s.complex.items old new) → IfErr r (λ why. IsUnshown old why new) → IsStill old new
+still_snapped old new (Ok s) k n = (ap (λ (x : Standing). x.table) k.new_is, ap (λ (x : Standing). x.first) k.new_is, ap (λ (x : Standing). x.parts) k.new_is)
+still_snapped old new (Err why) k n = still_why old new why n

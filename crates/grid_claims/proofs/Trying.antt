@@ -119,7 +119,7 @@ tried_refused id n w mid u Memory some a b d none s back = (some, back_as_before
 
 -- ---- whatever the answer is
 
-still_as : (old new : Standing) (middle : List Act) → IsAsBefore middle old new → IsStill old new
+pub still_as : (old new : Standing) (middle : List Act) → IsAsBefore middle old new → IsStill old new
 still_as old new middle k = (ap (λ (s : Standing). s.table) k.2, ap (λ (s : Standing). s.first) k.2, ap (λ (s : Standing). s.parts) k.2)
 
 still_why : (old new : Standing) (why : Refused) → IsRefused old why new → IsStill old new
