@@ -98,6 +98,18 @@ fn are_those_of_five(alloc: Global, cells: &[Cell]) -> Result<bool, AllocError> 
     Ok(full && open && cells.len() == 9)
 }
 
+// Takes a snapshot, which is to have five entries and the complex of the five points.
+fn take_five(rt: &impl Abort, alloc: Global, table: &MeshTable, pass: &mut Pass) -> Result<(), Fail>
+    requires { pass.old.table ≡ table.now }
+    ensures { IsStill pass.old pass.new }
+{
+    let snapshot = taken(rt, snapped(table, alloc, pass));
+    assert_eq!(rt; snapshot.history.len(), 5);
+    let right = are_those_of_five(alloc, &snapshot.complex)?;
+    assert!(rt; right);
+    Ok(())
+}
+
 #[test]
 fn one_caller(rt: HostRuntime) -> Result<(), Fail> {
     let alloc = rt.alloc();
@@ -119,10 +131,7 @@ fn one_caller(rt: HostRuntime) -> Result<(), Fail> {
     assert_eq!(rt; receipt.number, 4);
     assert_eq!(rt; receipt.reply, Reply::Inserted);
     assert!(rt; (other.left(), other.seen()) == (3, 5));
-    let snapshot = taken(&rt, snapped(&table, alloc, &mut other));
-    assert_eq!(rt; snapshot.history.len(), 5);
-    let right = are_those_of_five(alloc, &snapshot.complex)?;
-    assert!(rt; right);
+    take_five(&rt, alloc, &table, &mut other)?;
     assert!(rt; (other.left(), other.seen()) == (3, 5));
     table.join(&mut pass, other);
     assert!(rt; (pass.parts(), pass.left(), pass.seen()) == (2, 9, 5));
