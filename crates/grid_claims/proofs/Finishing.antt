@@ -31,7 +31,7 @@ use Rattle.claim_rule.proofs.Brought.{brought}
 use Rattle.grid_claims.proofs.MoreHands.{all_empty, stands_in}
 use Rattle.grid_claims.proofs.Trailed.{in_hand_snoc}
 
-not_some : (o : Option Content) → (IsSome o → ⊥) → o ≡ None
+pub not_some : (o : Option Content) → (IsSome o → ⊥) → o ≡ None
 not_some None f = refl
 not_some (Some c) f = absurd (f refl)
 

@@ -23,4 +23,7 @@ mod Planning
 mod Finishing
 mod Trying
 mod Resting
+mod Counted
+mod Showing
+mod Snapped
 mod Homecoming

@@ -51,7 +51,7 @@ rested_hands id n w r table words places =
       room = r.room;
     }
 
-claimed_all : (w mid : Hands) (steps : List Act) → w.order.items ≡ [] → (c : HasClaimed w mid steps) → mid.order.items ≡ c.more
+pub claimed_all : (w mid : Hands) (steps : List Act) → w.order.items ≡ [] → (c : HasClaimed w mid steps) → mid.order.items ≡ c.more
 claimed_all w mid steps none c = c.order ∙ ap (λ (l : List ℕ). l ++ c.more) none
 
 abbrev around : (id : TableId) (n : ℕ) (w mid : Hands) (done : List Act) (middle : List Act) → AreHands id n mid → w.order.items ≡ [] → (c : HasClaimed w mid done) → AreClaimsAround middle (map Claim c.more ++ middle ++ releases_of c.more)
@@ -95,7 +95,7 @@ tried_edited id n tag number edit reply w mid u some a b d none c f =
       new_is = λ i. standing (table i) (view i);
     }
 
-back_as_before : (id : TableId) (n : ℕ) (w mid u : Hands) (middle : List Act) → AreHands id n w → AreHands id n mid → AreHands id n u → w.order.items ≡ [] → HasClaimed w mid middle → HasGivenBack mid u → IsAsBefore middle (standing w.place.table_id w.place.me.0) (standing u.place.table_id u.place.me.0)
+pub back_as_before : (id : TableId) (n : ℕ) (w mid u : Hands) (middle : List Act) → AreHands id n w → AreHands id n mid → AreHands id n u → w.order.items ≡ [] → HasClaimed w mid middle → HasGivenBack mid u → IsAsBefore middle (standing w.place.table_id w.place.me.0) (standing u.place.table_id u.place.me.0)
 back_as_before id n w mid u middle a b d none c back =
     let v : View = w.place.me.0 in
     let same : mid.order.items ≡ c.more = claimed_all w mid middle none c in
@@ -119,7 +119,7 @@ tried_refused id n w mid u Memory some a b d none s back = (some, back_as_before
 
 -- ---- whatever the answer is
 
-still_as : (old new : Standing) (middle : List Act) → IsAsBefore middle old new → IsStill old new
+pub still_as : (old new : Standing) (middle : List Act) → IsAsBefore middle old new → IsStill old new
 still_as old new middle k = (ap (λ (s : Standing). s.table) k.2, ap (λ (s : Standing). s.first) k.2, ap (λ (s : Standing). s.parts) k.2)
 
 still_why : (old new : Standing) (why : Refused) → IsRefused old why new → IsStill old new

@@ -51,9 +51,8 @@ pub record AreClaimsAround (middle : List Act) (steps : List Act) : Type 0 where
 -- ---- an edit
 
 -- What the history was when an edit was committed. It is legal and begins with what the pass knew, its length is the
--- number of the entry, and the
--- reply is that of the points that it leaves; the claimed buckets have all that the edit touches in them, and where
--- it is exact they are just these.
+-- number of the entry, and the reply is that of the points that it leaves; where the edit is exact, the claimed buckets
+-- are just those that it touches.
 pub record IsCommittedAfter (g : ℕ) (edit : Edit) (number : ℕ) (reply : Reply) (known : List Entry) (claims : List ℕ) (h : List Entry) : Type 0 where
   pub legal : IsLegal h
   pub knows : StartsWith h known

@@ -2,6 +2,7 @@
 
 ghost use Rattle.std.specs.Prelude.{◌≡◌, ℕ, ◌<◌, ◌++◌, ◌∷◌, [], None, List, length, OnOk, IfOk, IfErr, IfSome, IsSome};
 ghost use Rattle.cell_store.specs.Buckets.{bucket_at};
+ghost use Rattle.cell_store.specs.Meshes.{StandsForSome};
 ghost use Rattle.grid_claims.specs.Faces.{buckets_of};
 ghost use Rattle.grid_claims.specs.Claiming.{AreHands, HasClaimed, HasStopped, ShowsOne, IsPlan, HasRoomFor};
 ghost use Rattle.grid_claims.specs.Looking.{HasMore, IsNewFor, IsThereFor, OnlyTouched, HasBucketOf, HoldsJust, IsDigFor};
@@ -45,6 +46,7 @@ pub(crate) fn ask(board: &Board, hands: &mut Hands, b: u32) -> Result<(), Refuse
     ensures hands { AreHands board.now.shared.table_id (buckets_of board.now.shared.key) hands.new }
     ensures order { OnOk result (hands.new.order.items ≡ hands.old.order.items ++ b ∷ []) }
     ensures more { OnOk result (HasMore board.now.shared.table_id (buckets_of board.now.shared.key) hands.old hands.new) }
+    ensures stands { OnOk result (StandsForSome hands.new.hold) }
     ensures stopped { IfErr result (λ why. HasStopped hands.old hands.new why) }
 {
     match take_in(

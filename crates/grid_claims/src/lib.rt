@@ -14,12 +14,14 @@ mod laying;
 mod pass;
 mod plays;
 mod slot;
+mod snapshot;
 mod steps;
 mod table;
 mod view;
 
 pub use gate::{Gate, Moment, OpenGate};
 pub use pass::Pass;
+pub use snapshot::Snapshot;
 pub use table::{MeshTable, Receipt, Refused};
 
 #[cfg(test)]

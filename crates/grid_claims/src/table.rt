@@ -3,7 +3,7 @@
 ghost use Rattle.std.specs.Prelude.{◌≡◌, ◌+◌, ◌^◌, ◌<◌, ◌≤◌, ◌∷◌, ◌++◌, [], length, IfOk, IfErr, OnErr};
 ghost use Rattle.claim_rule.specs.Good.{StartsWith};
 ghost use Rattle.grid_claims.specs.declared.view.Act.TheVariants.{Look};
-ghost use Rattle.grid_claims.specs.Tries.{opening_pass, IsSplit, joined, IsEdited, IsRefused};
+ghost use Rattle.grid_claims.specs.Tries.{opening_pass, IsSplit, joined, IsEdited, IsRefused, IsShown, IsUnshown};
 
 use crate::claiming::prepare;
 use crate::finish::{finish, let_go};
@@ -13,6 +13,7 @@ use crate::homing::gather;
 use crate::laying::{first_words, laid_out};
 use crate::pass::Pass;
 use crate::plays::Together;
+use crate::snapshot::{Snapshot, copy_all, look_and_let_go};
 use crate::steps::{look_at, part};
 use crate::view::{Board, Key};
 use cell_store::{Hold, Mesh};
@@ -225,6 +226,29 @@ impl MeshTable {
         let found = look_at(&self.board, &mut pass.hands.place);
         pass.seen = found;
         found
+    }
+
+    /// The history so far and its complex, beside passes that edit. It claims every bucket.
+    ///
+    /// # Errors
+    /// A bucket is in another pass's hands; or want of memory. Mesh and pass are then as before, but for the pass's trail.
+    pub fn try_snapshot(&self, alloc: Global, pass: &mut Pass) -> Result<Snapshot, Refused>
+        requires table { pass.old.table ≡ self.now }
+        ensures shown { IfOk result (λ s. IsShown s.history.items s.complex.items pass.old pass.new) }
+        ensures refused { IfErr result (λ why. IsUnshown pass.old why pass.new) }
+    {
+        let _ = pass.hands.hold.grid();
+        let board = &self.board;
+        match copy_all(board, &mut pass.hands, alloc) {
+            Ok(snapshot) => {
+                pass.seen = look_and_let_go(board, &mut pass.hands);
+                Ok(snapshot)
+            }
+            Err(why) => {
+                let_go(board, &mut pass.hands);
+                Err(why)
+            }
+        }
     }
 
     /// The mesh, from a pass that owns all parts. It takes no memory.

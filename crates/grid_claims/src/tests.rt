@@ -4,12 +4,12 @@ ghost use Rattle.std.specs.Prelude.{◌≡◌, ◌<◌, false, length, IfOk};
 ghost use Rattle.point_order.specs.Orientation.{is_flat};
 ghost use Rattle.grid_claims.specs.Tries.{IsStill};
 
-use crate::{Gate, MeshTable, Moment, OpenGate, Pass, Receipt, Refused};
+use crate::{Gate, MeshTable, Moment, OpenGate, Pass, Receipt, Refused, Snapshot};
 use cavity::open_mesh;
 use cell_store::{Grid, Mesh};
 use edit_history::{Edit, Reply};
 use exact_orient::orient;
-use point_order::Point;
+use point_order::{Cell, Point};
 use std::alloc::{AllocError, Global};
 use std::process::Abort;
 use std::sync::atomic::{AtomicBool, Ordering};
@@ -62,6 +62,54 @@ fn made(rt: &impl Abort, answer: Result<Receipt, Refused>) -> Receipt {
     }
 }
 
+// Tries a snapshot.
+fn snapped(table: &MeshTable, alloc: Global, pass: &mut Pass) -> Result<Snapshot, Refused>
+    requires { pass.old.table ≡ table.now }
+    ensures { IsStill pass.old pass.new }
+{
+    table.try_snapshot(alloc, pass)
+}
+
+// The snapshot that is to be taken.
+fn taken(rt: &impl Abort, answer: Result<Snapshot, Refused>) -> Snapshot {
+    match answer {
+        Ok(snapshot) => snapshot,
+        Err(why) => panic!(rt; "{why:?}"),
+    }
+}
+
+// The cells, each by the coordinates of its points.
+fn text_of(alloc: Global, cells: &[Cell]) -> Result<String, AllocError> {
+    let mut text = String::new(alloc);
+    for cell in cells {
+        for p in cell.points() {
+            write!(text, "{}{}{}", p.x(), p.y(), p.z())?;
+        }
+        text.push(' ')?;
+    }
+    Ok(text)
+}
+
+// The cells are those of 000, 002, 020, 111 and 200.
+fn are_those_of_five(alloc: Global, cells: &[Cell]) -> Result<bool, AllocError> {
+    let text = text_of(alloc, cells)?;
+    let full = text.starts_with("000002020111 000002111200 000020111200 ");
+    let open = text.ends_with(" 000002020 000002200 000020200 002020111 002111200 020111200 ");
+    Ok(full && open && cells.len() == 9)
+}
+
+// Takes a snapshot, which is to have five entries and the complex of the five points.
+fn take_five(rt: &impl Abort, alloc: Global, table: &MeshTable, pass: &mut Pass) -> Result<(), Fail>
+    requires { pass.old.table ≡ table.now }
+    ensures { IsStill pass.old pass.new }
+{
+    let snapshot = taken(rt, snapped(table, alloc, pass));
+    assert_eq!(rt; snapshot.history.len(), 5);
+    let right = are_those_of_five(alloc, &snapshot.complex)?;
+    assert!(rt; right);
+    Ok(())
+}
+
 #[test]
 fn one_caller(rt: HostRuntime) -> Result<(), Fail> {
     let alloc = rt.alloc();
@@ -82,6 +130,8 @@ fn one_caller(rt: HostRuntime) -> Result<(), Fail> {
     let receipt = made(&rt, tried(&table, alloc, &mut other, 7, add, &OpenGate));
     assert_eq!(rt; receipt.number, 4);
     assert_eq!(rt; receipt.reply, Reply::Inserted);
+    assert!(rt; (other.left(), other.seen()) == (3, 5));
+    take_five(&rt, alloc, &table, &mut other)?;
     assert!(rt; (other.left(), other.seen()) == (3, 5));
     table.join(&mut pass, other);
     assert!(rt; (pass.parts(), pass.left(), pass.seen()) == (2, 9, 5));
@@ -206,24 +256,25 @@ fn kept_try(
     (pass, answer)
 }
 
-// Tries an edit once another pass is kept at Ready, and then lets that one go on.
+// Tries a snapshot and an edit once another pass is kept at Ready, and then lets that one go on.
 fn free_try(
     table: &MeshTable,
     alloc: Global,
     mut pass: Pass,
     edit: Edit,
     flags: &Flags,
-) -> (Pass, Result<Receipt, Refused>)
+) -> (Pass, Result<Snapshot, Refused>, Result<Receipt, Refused>)
     requires { pass.table ≡ table.now }
     ensures { IsStill pass result.0 }
 {
     let _ = awaits(&flags.ready);
+    let snapshot = snapped(table, alloc, &mut pass);
     let answer = tried(table, alloc, &mut pass, 1, edit, &OpenGate);
     flags.go.store(true, Ordering::SeqCst);
-    (pass, answer)
+    (pass, snapshot, answer)
 }
 
-// Two edits by two threads: the first pass is kept at Ready until the second one's edit has answered.
+// Two edits by two threads: the first pass is kept at Ready until the second one's snapshot and edit have answered.
 fn side_by_side<R: Threads + Sync>(
     rt: &R,
     alloc: Global,
@@ -233,7 +284,7 @@ fn side_by_side<R: Threads + Sync>(
     flags: &Flags,
 ) -> (
     (Pass, Result<Receipt, Refused>),
-    (Pass, Result<Receipt, Refused>),
+    (Pass, Result<Snapshot, Refused>, Result<Receipt, Refused>),
 )
     requires kept { kept.0.table ≡ table.now }
     requires free { free.0.table ≡ table.now }
@@ -248,7 +299,7 @@ fn side_by_side<R: Threads + Sync>(
             requires { one.table ≡ table.now }
             ensures { IsStill one result.0 }
         { kept_try(table, alloc, one, a, flags) },
-        || -> (Pass, Result<Receipt, Refused>)
+        || -> (Pass, Result<Snapshot, Refused>, Result<Receipt, Refused>)
             requires { two.table ≡ table.now }
             ensures { IsStill two result.0 }
         { free_try(table, alloc, two, b, flags) },
@@ -265,7 +316,7 @@ fn two_callers_apart(rt: HostRuntime) -> Result<(), Fail> {
     let near = Edit::Add(Point::new(110, 110, 110)?);
     let far = Edit::Add(Point::new(16010, 16010, 16010)?);
     let flags = no_flags();
-    let ((pass, first), (other, second)) = side_by_side(
+    let ((pass, first), (other, snapshot, second)) = side_by_side(
         &rt,
         alloc,
         &table,
@@ -274,6 +325,7 @@ fn two_callers_apart(rt: HostRuntime) -> Result<(), Fail> {
         &flags,
     );
     assert!(rt; flags.seen.load(Ordering::SeqCst));
+    assert!(rt; matches!(snapshot, Err(Refused::Busy { bucket: 0, word: 1 })));
     let second = made(&rt, second);
     assert!(rt; (second.number, second.reply) == (16, Reply::Inserted));
     let first = made(&rt, first);
@@ -292,7 +344,7 @@ fn two_callers_in_one_bucket(rt: HostRuntime) -> Result<(), Fail> {
     let middle = Edit::Add(Point::new(110, 110, 110)?);
     let beside = Edit::Add(Point::new(105, 105, 105)?);
     let flags = no_flags();
-    let ((_, first), (mut pass, second)) = side_by_side(
+    let ((_, first), (mut pass, snapshot, second)) = side_by_side(
         &rt,
         alloc,
         &table,
@@ -301,8 +353,11 @@ fn two_callers_in_one_bucket(rt: HostRuntime) -> Result<(), Fail> {
         &flags,
     );
     assert!(rt; flags.seen.load(Ordering::SeqCst));
+    assert!(rt; matches!(snapshot, Err(Refused::Busy { bucket: 0, word: 2 })));
     assert!(rt; matches!(second, Err(Refused::Busy { bucket: 0, word: 2 })));
     assert_eq!(rt; made(&rt, first).number, 16);
+    let snapshot = taken(&rt, snapped(&table, alloc, &mut pass));
+    assert_eq!(rt; snapshot.history.len(), 17);
     let again = tried(&table, alloc, &mut pass, 1, beside, &OpenGate);
     assert_eq!(rt; made(&rt, again).number, 17);
     Ok(())

@@ -1,0 +1,85 @@
+//! Snapshots.
+
+ghost use Rattle.std.specs.Prelude.{◌≡◌, [], OnOk, IfOk, IfErr};
+ghost use Rattle.cell_store.specs.Meshes.{AllInHand, StandsForSome};
+ghost use Rattle.grid_claims.specs.Faces.{buckets_of};
+ghost use Rattle.grid_claims.specs.Claiming.{AreHands, HasClaimed, HasStopped};
+ghost use Rattle.grid_claims.specs.Showing.{HasClaimedAll, AreListsOf, HasLooked};
+
+use crate::claiming::ask;
+use crate::finish::let_go;
+use crate::hands::Hands;
+use crate::steps::show_at;
+use crate::table::Refused;
+use crate::view::Board;
+use cell_store::Hold;
+use edit_history::Entry;
+use point_order::Cell;
+use std::alloc::{AllocError, Global};
+
+/// The history so far, and its complex.
+#[derive(Debug, Drop)]
+pub struct Snapshot {
+    /// The entries, in order.
+    pub history: Vec<Entry>,
+    /// The cells of the complex of the points that they leave, in order.
+    pub complex: Vec<Cell>,
+}
+
+// Claims every bucket, in turn.
+fn claim_all(board: &Board, hands: &mut Hands) -> Result<(), Refused>
+    requires hands { AreHands board.now.shared.table_id (buckets_of board.now.shared.key) hands.old }
+    requires none { hands.old.order.items ≡ [] }
+    ensures hands { AreHands board.now.shared.table_id (buckets_of board.now.shared.key) hands.new }
+    ensures all { OnOk result (HasClaimedAll hands.old hands.new) }
+    ensures stopped { IfErr result (λ why. HasStopped hands.old hands.new why) }
+{
+    for b in 0..hands.hold.grid().count() {
+        match ask(board, hands, b) {
+            Ok(()) => {}
+            Err(why) => return Err(why),
+        }
+    }
+    Ok(())
+}
+
+// The history of a hold that has every bucket, and its complex.
+fn lists_of(hold: &Hold, alloc: Global) -> Result<Snapshot, AllocError>
+    requires all { AllInHand hold.now }
+    requires stands { StandsForSome hold.now }
+    ensures { IfOk result (λ s. AreListsOf hold.now s.history.items s.complex.items) }
+{
+    let history = hold.history(alloc)?;
+    let complex = hold.complex(alloc)?;
+    Ok(Snapshot { history, complex })
+}
+
+// The history and its complex, with every bucket in hand.
+pub(crate) fn copy_all(board: &Board, hands: &mut Hands, alloc: Global) -> Result<Snapshot, Refused>
+    requires hands { AreHands board.now.shared.table_id (buckets_of board.now.shared.key) hands.old }
+    requires none { hands.old.order.items ≡ [] }
+    ensures hands { AreHands board.now.shared.table_id (buckets_of board.now.shared.key) hands.new }
+    ensures all { OnOk result (HasClaimedAll hands.old hands.new) }
+    ensures lists { IfOk result (λ s. AreListsOf hands.new.hold s.history.items s.complex.items) }
+    ensures stopped { IfErr result (λ why. HasStopped hands.old hands.new why) }
+{
+    match claim_all(board, hands) {
+        Ok(()) => match lists_of(&hands.hold, alloc) {
+            Ok(snapshot) => Ok(snapshot),
+            Err(_) => Err(Refused::Memory),
+        },
+        Err(why) => Err(why),
+    }
+}
+
+// Looks at the ticket with every bucket in hand, and gives them back.
+pub(crate) fn look_and_let_go(board: &Board, hands: &mut Hands) -> u64
+    requires hands { AreHands board.now.shared.table_id (buckets_of board.now.shared.key) hands.old }
+    ensures hands { AreHands board.now.shared.table_id (buckets_of board.now.shared.key) hands.new }
+    ensures none { hands.new.order.items ≡ [] }
+    ensures looked { HasLooked result hands.old hands.new }
+{
+    let found = show_at(board, &mut hands.place);
+    let_go(board, hands);
+    found
+}
