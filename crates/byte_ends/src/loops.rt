@@ -6,6 +6,7 @@ ghost use Rattle.byte_ends.specs.declared.loops.ReadError.TheVariants.{Fault, Me
 
 use crate::ends::{Failed, Sink, Source};
 use std::alloc::AllocError;
+use thiserror::Error;
 
 /// How many bytes a reading asks for at once, at most.
 const CHUNK: usize = 8192;
@@ -20,11 +21,13 @@ pub enum Reached {
 }
 
 /// Why a reading reached neither the end nor the limit.
-#[derive(Clone, Copy, Debug, PartialEq, Eq)]
+#[derive(Clone, Copy, Debug, PartialEq, Eq, Error)]
 pub enum ReadError {
     /// The source failed.
+    #[error("the source failed")]
     Fault,
     /// There was no memory for more bytes.
+    #[error("out of memory")]
     Memory,
 }
 

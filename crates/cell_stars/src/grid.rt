@@ -5,6 +5,7 @@ ghost use Rattle.cell_stars.specs.Grids.{is_grid_size, bucket_of as number_of};
 
 use point_order::Point;
 use std::marker::Model;
+use thiserror::Error;
 
 /// A grid that divides the range of coordinates into as many equal parts along each axis: 1, 2, 4, 8 or 16.
 ///
@@ -28,7 +29,8 @@ impl Model for Grid {
 }
 
 /// The number is none of the five sizes of a grid.
-#[derive(Clone, Copy, Debug, PartialEq, Eq)]
+#[derive(Clone, Copy, Debug, PartialEq, Eq, Error)]
+#[error("a grid has 1, 2, 4, 8 or 16 buckets along each axis")]
 pub struct BadGrid;
 
 impl Grid {

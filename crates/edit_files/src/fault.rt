@@ -1,5 +1,7 @@
 //! Why a text is no edit file.
 
+use thiserror::Error;
+
 /// What is wrong with a line.
 #[derive(Clone, Copy, Debug, PartialEq, Eq)]
 pub enum Why {
@@ -16,7 +18,8 @@ pub enum Why {
 }
 
 /// The fault of a text that is no edit file.
-#[derive(Clone, Copy, Debug, PartialEq, Eq)]
+#[derive(Clone, Copy, Debug, PartialEq, Eq, Error)]
+#[error("line {line}: {why:?}")]
 pub struct Fault {
     /// The number of the first bad line, from 1; of a truncated text, the number of its lines plus 1.
     pub line: u64,
@@ -24,10 +27,12 @@ pub struct Fault {
 }
 
 /// Why a text was not read.
-#[derive(Clone, Copy, Debug, PartialEq, Eq)]
+#[derive(Clone, Copy, Debug, PartialEq, Eq, Error)]
 pub enum ReadRefused {
     /// The text is no edit file.
+    #[error("{0}")]
     Bad(Fault),
     /// There was no memory for what it names.
+    #[error("out of memory")]
     Memory,
 }

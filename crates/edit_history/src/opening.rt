@@ -11,9 +11,11 @@ ghost use Rattle.edit_history.specs.OneThread.{places};
 ghost use Rattle.edit_history.specs.PassedOver.{is_kept as is_kept_of, kept, four_but as four_but_of};
 
 use point_order::{Point, Step};
+use thiserror::Error;
 
 /// No four of the points are independent: they lie in one plane.
-#[derive(Clone, Copy, Debug, PartialEq, Eq)]
+#[derive(Clone, Copy, Debug, PartialEq, Eq, Error)]
+#[error("no four independent points")]
 pub struct NotSolid;
 
 /// The places of the four points that a mesh begins with: the first point; the first after it that differs from it;

@@ -21,6 +21,7 @@ use edit_history::{Edit, Reply};
 use std::alloc::{AllocError, Global};
 use std::marker::Model;
 use std::snapshot::Snapshot as Told;
+use thiserror::Error;
 
 /// What an edit answers: the number of its entry in the history, from 0, and its reply.
 #[derive(Clone, Copy, Debug, PartialEq, Eq)]
@@ -30,13 +31,16 @@ pub struct Receipt {
 }
 
 /// Why a call did nothing.
-#[derive(Debug, Drop)]
+#[derive(Debug, Drop, Error)]
 pub enum Refused {
     /// The pass may make no more edits.
+    #[error("the pass may make no more edits")]
     Spent,
     /// The bucket was in another pass's hands: its word was found to be this.
+    #[error("bucket {bucket} is busy: its word is {word}")]
     Busy { bucket: u32, word: u64 },
     /// Want of memory.
+    #[error("out of memory")]
     Memory,
 }
 

@@ -10,3 +10,4 @@ pub mod Facets
 pub mod CellOrder
 pub mod Conflicts
 pub mod Laws
+pub mod Texts

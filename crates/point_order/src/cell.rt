@@ -94,6 +94,15 @@ impl Pair {
     {
         &self.points
     }
+
+    /// The two points by themselves, ascending.
+    pub fn corners(self) -> (Point, Point)
+        ensures points { self ≡ result.0 ∷ result.1 ∷ [] }
+        ensures order { result.0 < result.1 }
+    {
+        let [a, b] = self.points;
+        (a, b)
+    }
 }
 
 impl Tri {

@@ -8,6 +8,7 @@ pub mod cell;
 pub mod laws;
 mod point;
 mod step;
+mod text;
 
 pub use cell::{Cell, Facet, Pair, Quad, Tri};
 pub use point::{OutOfRange, Point};

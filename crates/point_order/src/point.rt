@@ -4,7 +4,9 @@ ghost use Rattle.std.specs.Prelude.{◌≡◌, ℕ, ◌+◌, ◌*◌, ◌^◌, �
 ghost use Rattle.point_order.specs.Coordinates.{x_of, y_of, z_of, IsKey, IsCoordinate, IsFirstOutside};
 ghost use Rattle.point_order.specs.Heights.{square_of};
 
+use std::fmt;
 use std::marker::Model;
+use thiserror::Error;
 
 /// A point whose three coordinates are whole numbers from 0 to 16383.
 ///
@@ -27,10 +29,23 @@ impl Model for Point {
 }
 
 /// A coordinate that no point has: which of the three it is (0, 1 or 2 for x, y or z), and its value.
-#[derive(Clone, Copy, Debug, PartialEq, Eq)]
+#[derive(Clone, Copy, Debug, PartialEq, Eq, Error)]
+#[error("coordinate {axis} is {value}, and not 0 to 16383")]
 pub struct OutOfRange {
     pub axis: u8,
     pub value: i64,
+}
+
+impl fmt::Display for Point {
+    ghost use Rattle.point_order.specs.Texts.{point_text};
+    ghost use Rattle.std.specs.Prelude.{Some};
+
+    ghost output = { λ p. Some (point_text p) };
+
+    /// Writes the three coordinates, as `(0, 0, 2)`.
+    fn fmt<W: fmt::Write>(&self, f: &mut fmt::Formatter<W>) -> fmt::Result {
+        write!(f, "({}, {}, {})", self.x(), self.y(), self.z())
+    }
 }
 
 impl Point {
