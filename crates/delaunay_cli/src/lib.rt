@@ -1,5 +1,10 @@
 //! The program's top call: from the bytes of an edit file to the text of its mesh and of its shapes, and from two numbers to the
 //! text of a drawn file or the summary of its mesh.
+//!
+//! ```
+//! let run = run(&rt, alloc, &words, &mut input, &mut output, &mut error, &OpenGate);
+//! ExitCode::from(run.status)  // `run.kept` is the history, on 0 and 4
+//! ```
 #![tactic(auto)]
 
 mod drawn;

@@ -2,6 +2,15 @@
 //!
 //! A text is lines: `mesh3 1`, `points`, point lines `X Y Z`, `edits`, edit lines `+ X Y Z` and `- X Y Z`, `radii`,
 //! radius lines `R`, and `end`. The grammar stands in `specs/Grammar.antt`, and the faults in `specs/Faults.antt`.
+//!
+//! ```
+//! match read_file(alloc, &bytes) {
+//!     Ok(file) => ..,                              // points, edits, radii; `file.lines()` in order of their tags
+//!     Err(ReadRefused::Bad(fault)) => ..,          // its first bad line, and why it is bad
+//!     Err(ReadRefused::Memory) => ..,
+//! }
+//! let text = file_text(alloc, &generate(alloc, 2000, 7)?)?;
+//! ```
 #![tactic(auto)]
 
 mod fault;

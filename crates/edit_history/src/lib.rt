@@ -2,6 +2,12 @@
 //!
 //! The definitions stand in `specs/`: what an edit answers and leaves, legal histories, the opening four points,
 //! and the history of one thread.
+//!
+//! ```
+//! let four = find_four(&points)?;                 // the places of the opening four, or NotSolid
+//! let reply = set.after(Edit::Add(p))?;           // Inserted or Duplicate; on want of memory the set is as before
+//! let entries = merge(alloc, &lists)?;            // in order of number
+//! ```
 #![tactic(auto)]
 
 mod history;

@@ -1,4 +1,8 @@
 //! The orientation of four points, exactly.
+//!
+//! ```
+//! let flat = orient(a, b, c, d) == 0;  // six times the signed volume, below 2^45
+//! ```
 #![tactic(auto)]
 
 ghost use Rattle.std.specs.Prelude.{◌≡◌, ◌&&◌, ◌<◌, ◌^◌, unsigned_abs};

@@ -1,4 +1,8 @@
 //! The in-sphere polynomial of five points, exactly.
+//!
+//! ```
+//! let value = sphere(a, b, c, d, e);  // positive where e is outside, for `orient(a, b, c, d)` above 0; below 2^77
+//! ```
 #![tactic(auto)]
 
 ghost use Rattle.std.specs.Prelude.{◌≡◌, ◌<◌, ◌^◌, ◌*ℤ◌, ◌+ℤ◌, ◌-ℤ◌, unsigned_abs};

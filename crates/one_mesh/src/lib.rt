@@ -1,6 +1,12 @@
 //! The mesh of one thread: it begins with four points, takes edits one by one, and gives its complex and its history.
 //!
 //! A mesh is seen as its grid and its history.
+//!
+//! ```
+//! let mut mesh = begin(alloc, Grid::new(4)?, [(0, a), (1, b), (2, c), (3, d)])?;  // four independent points with tags
+//! let receipt = apply(alloc, &mut mesh, 4, Edit::Add(p))?;  // its number and its reply; less than 2^32 entries before
+//! let cells = complex(alloc, &mesh)?;                       // sorted
+//! ```
 #![tactic(auto)]
 
 mod edits;

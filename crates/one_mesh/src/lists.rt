@@ -2,7 +2,9 @@
 
 ghost use Rattle.std.specs.Prelude.{◌≡◌, true, IfOk};
 ghost use Rattle.point_order.specs.Complex.{complex as complex_of};
+ghost use Rattle.point_order.specs.Sets.{IsAscending};
 ghost use Rattle.point_order.specs.Solid.{is_solid};
+ghost use Rattle.del_laws.specs.Keys.{AreKeys};
 ghost use Rattle.edit_history.specs.Histories.{replay};
 ghost use Rattle.cell_store.specs.Meshes.{AllInHand};
 ghost use Rattle.one_mesh.specs.Gathered.{all_points};
@@ -45,13 +47,15 @@ fn all_points_of(alloc: Global, hold: &Hold) -> Result<Vec<Point>, AllocError>
     Ok(list)
 }
 
-/// The points that the mesh's history leaves, ascending. Four of them are independent.
+/// The points that the mesh's history leaves, ascending. Four of them are independent, and each is the key of a point.
 ///
 /// # Errors
 /// Want of memory.
 pub fn points(alloc: Global, mesh: &Mesh) -> Result<Vec<Point>, AllocError>
     ensures points { IfOk result (λ points. points.items ≡ replay mesh.now.history) }
+    ensures ascending { IsAscending (replay mesh.now.history) }
     ensures solid { is_solid (replay mesh.now.history) ≡ true }
+    ensures keys { AreKeys (replay mesh.now.history) }
 {
     let points = all_points_of(alloc, mesh.hold())?;
     Ok(points_in_order(points))

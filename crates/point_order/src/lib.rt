@@ -2,6 +2,13 @@
 //!
 //! The definitions that all crates above share stand in `specs/`: orientation, the lifted height and determinant,
 //! solid sets, Full and Open cells, the complex of a set, and conflict.
+//!
+//! ```
+//! let a = Point::new(0, 0, 2)?;       // refused exactly outside 0 to 16383
+//! let cell = Cell::full(d, b, a, c);  // four distinct points in any order; `cell.points()` ascends
+//! for facet in &cell.facets() { .. }  // facet i lacks point i
+//! println!(rt; "{cell}")?;            // [(0, 0, 0), (0, 0, 2), (0, 2, 0), (2, 0, 0)]
+//! ```
 #![tactic(auto)]
 
 pub mod cell;

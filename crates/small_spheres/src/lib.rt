@@ -4,6 +4,11 @@
 //! These are the two questions of an alpha complex (Edelsbrunner and Mücke, Three-dimensional alpha shapes;
 //! `Alpha_shape_3` of CGAL): a face is Gabriel where no point lies strictly inside its smallest circumscribing sphere,
 //! and alpha is a squared radius. All of it is whole numbers: fractions are compared by multiplying out.
+//!
+//! ```
+//! let gabriel = points.iter().all(|e| !inside_edge(a, b, *e));
+//! let small = triangle_within(a, b, c, alpha);  // alpha is a squared radius below 2^30
+//! ```
 #![tactic(auto)]
 
 ghost use Rattle.std.specs.Prelude.{◌≡◌, ◌<◌, ◌^◌};

@@ -1,4 +1,9 @@
 //! On which side of a perturbed sphere a point lies, exactly, and which cells a point is in conflict with.
+//!
+//! ```
+//! let out = outside(a, b, c, d, e);      // never a tie: five distinct points, the first four independent
+//! let taken = conflict(&cell, mate, p);  // of a Full cell the mate is not looked at
+//! ```
 #![tactic(auto)]
 
 ghost use Rattle.std.specs.Prelude.{◌≡◌, false};

@@ -1,0 +1,98 @@
+//! A tour of the library: what a caller writes, from four points to a snapshot beside other threads.
+//!
+//! It runs as it stands and prints what `stdout` beside it says, so it cannot fall behind the library.
+#![tactic(auto)]
+
+ghost use Rattle.std.specs.Prelude.{◌≡◌, ◌<◌, ◌^◌, IfOk};
+ghost use Rattle.point_order.specs.Orientation.{is_flat};
+
+mod threads;
+
+use alpha_complex::alpha;
+use anyhow::{Result, bail};
+use cavity::cell_in_conflict;
+use cell_store::{Grid, Mesh};
+use edit_history::Edit;
+use exact_orient::orient;
+use face_list::faces;
+use one_mesh::{apply, begin, complex, points};
+use point_order::Point;
+use std::alloc::Global;
+
+// Whether four points lie in one plane: then no mesh begins with them.
+fn are_flat(a: Point, b: Point, c: Point, d: Point) -> bool
+    ensures { result ≡ is_flat a b c d }
+{
+    orient(a, b, c, d) == 0
+}
+
+// A mesh begins with four points that do not lie in one plane, each with a tag of the caller's own.
+fn first_mesh(alloc: Global) -> Result<Mesh> {
+    let a = Point::new(0, 0, 0)?;
+    let b = Point::new(20, 0, 0)?;
+    let c = Point::new(0, 20, 0)?;
+    let d = Point::new(0, 0, 20)?;
+    if are_flat(a, b, c, d) {
+        bail!("the four points lie in one plane");
+    }
+    let grid = Grid::new(4)?;
+    Ok(begin(alloc, grid, [(0, a), (1, b), (2, c), (3, d)])?)
+}
+
+// Adds or takes a point. The reply says what came of it.
+fn edit(rt: &impl Print, alloc: Global, mesh: &mut Mesh, tag: u32, edit: Edit) -> Result<()> {
+    if mesh.count() >= 1 << 32 {
+        bail!("the history is full");
+    }
+    let receipt = apply(alloc, mesh, tag, edit)?;
+    println!(rt; "edit {}: {:?}", receipt.number, receipt.reply)?;
+    Ok(())
+}
+
+// The complex: its cells in order, tetrahedra first, and then the triangles of the hull.
+fn show_complex(rt: &impl Print, alloc: Global, mesh: &Mesh) -> Result<()> {
+    for cell in &complex(alloc, mesh)? {
+        println!(rt; "cell {cell}")?;
+    }
+    Ok(())
+}
+
+// The alpha complex at a squared radius below 2^30.
+fn show_shape(rt: &impl Print, alloc: Global, mesh: &Mesh, radius: u64) -> Result<()>
+    requires { radius < 2 ^ 30 }
+{
+    let _ = points(alloc, mesh)?;
+    let faces = faces(rt, alloc, &complex(alloc, mesh)?)?;
+    let shape = alpha(rt, alloc, &faces, radius)?;
+    println!(rt; "at {radius}: {} tetrahedra", shape.cells.len())?;
+    for (triple, kind) in &shape.triples {
+        println!(rt; "at {radius}: {triple} {kind:?}")?;
+    }
+    Ok(())
+}
+
+// A cell that a new point would take away, found by a walk.
+fn show_conflict(rt: &impl Print, mesh: &Mesh, p: Point) -> Result<()> {
+    let hold = mesh.hold();
+    if hold.holds_point(p) {
+        bail!("{p} is there already");
+    }
+    let cell = cell_in_conflict(hold, p);
+    println!(rt; "{p} is in conflict with {cell}")?;
+    Ok(())
+}
+
+fn main(rt: HostRuntime) -> Result<()> {
+    let alloc = rt.alloc();
+    let mut mesh = first_mesh(alloc)?;
+    let corner = Point::new(20, 20, 20)?;
+    edit(&rt, alloc, &mut mesh, 4, Edit::Add(corner))?;
+    edit(&rt, alloc, &mut mesh, 5, Edit::Add(corner))?;
+    show_complex(&rt, alloc, &mesh)?;
+    show_shape(&rt, alloc, &mesh, 270)?;
+    show_shape(&rt, alloc, &mesh, 300)?;
+    show_conflict(&rt, &mesh, Point::new(1, 30, 30)?)?;
+    edit(&rt, alloc, &mut mesh, 6, Edit::Take(corner))?;
+    edit(&rt, alloc, &mut mesh, 7, Edit::Take(Point::new(0, 0, 0)?))?;
+    threads::edit_side_by_side(&rt, alloc, mesh)
+}

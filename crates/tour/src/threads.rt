@@ -1,0 +1,120 @@
+//! Two threads edit one mesh, each by a pass of its own, and one of them takes a snapshot.
+
+ghost use Rattle.std.specs.Prelude.{◌≡◌};
+ghost use Rattle.grid_claims.specs.Passes.{Opened};
+ghost use Rattle.grid_claims.specs.Tries.{IsStill};
+
+use anyhow::bail;
+use cell_store::Mesh;
+use edit_history::Edit;
+use grid_claims::{MeshTable, OpenGate, Pass, Receipt, Refused, Snapshot};
+use point_order::Point;
+use std::alloc::Global;
+use std::thread::{Threads, join};
+
+// How often an edit is tried. A try fails where another pass has a bucket in hand that the edit needs.
+const TRIES: u32 = 1 << 24;
+
+// Tries an edit.
+fn tried(
+    table: &MeshTable,
+    alloc: Global,
+    pass: &mut Pass,
+    tag: u32,
+    edit: Edit,
+) -> Result<Receipt, Refused>
+    requires { pass.old.table ≡ table.now }
+    ensures { IsStill pass.old pass.new }
+{
+    table.try_edit(alloc, pass, tag, edit, &OpenGate)
+}
+
+// Tries an edit until it is made; none where it never is.
+fn made(
+    table: &MeshTable,
+    alloc: Global,
+    pass: &mut Pass,
+    tag: u32,
+    edit: Edit,
+) -> Option<Receipt>
+    requires { pass.old.table ≡ table.now }
+    ensures { IsStill pass.old pass.new }
+{
+    for _ in 0..TRIES {
+        match tried(table, alloc, pass, tag, edit) {
+            Ok(receipt) => return Some(receipt),
+            Err(Refused::Busy { .. }) => {}
+            Err(_) => return None,
+        }
+    }
+    None
+}
+
+// Adds the points of a small cube, all by one pass, and answers how many were added.
+fn add_cube(table: &MeshTable, alloc: Global, mut pass: Pass, low: i64) -> (Pass, u32)
+    requires { pass.table ≡ table.now }
+    ensures { IsStill pass result.0 }
+{
+    let mut count = 0;
+    for i in 0..8 {
+        let place = Point::new(low + i / 4, low + i / 2 % 2, low + i % 2);
+        if let Ok(p) = place
+            && made(table, alloc, &mut pass, count, Edit::Add(p)).is_some()
+        {
+            count += 1;
+        }
+    }
+    (pass, count)
+}
+
+// Two cubes, each added by a thread.
+fn add_cubes<R: Threads + Sync>(
+    rt: &R,
+    alloc: Global,
+    table: &MeshTable,
+    one: Pass,
+    two: Pass,
+) -> ((Pass, u32), (Pass, u32))
+    requires one { one.table ≡ table.now }
+    requires two { two.table ≡ table.now }
+    ensures one { IsStill one result.0.0 }
+    ensures two { IsStill two result.1.0 }
+{
+    join(
+        rt,
+        || -> (Pass, u32)
+            requires { one.table ≡ table.now }
+            ensures { IsStill one result.0 }
+        { add_cube(table, alloc, one, 100) },
+        || -> (Pass, u32)
+            requires { two.table ≡ table.now }
+            ensures { IsStill two result.0 }
+        { add_cube(table, alloc, two, 16000) },
+    )
+}
+
+// Takes a snapshot.
+fn snapped(table: &MeshTable, alloc: Global, pass: &mut Pass) -> Result<Snapshot, Refused>
+    requires { pass.old.table ≡ table.now }
+    ensures { IsStill pass.old pass.new }
+{
+    table.try_snapshot(alloc, pass)
+}
+
+/// Adds two cubes to the mesh by two threads side by side, and looks at the whole by a snapshot.
+pub fn edit_side_by_side<R: Threads + Sync + Print>(rt: &R, alloc: Global, mesh: Mesh) -> anyhow::Result<()> {
+    if mesh.count() > 1000 {
+        bail!("the history is long");
+    }
+    let (table, mut one) = MeshTable::open(alloc, mesh, 2, 100)?;
+    let two = table.split(alloc, &mut one, 1, 50)?;
+    let ((mut one, near), (two, far)) = add_cubes(rt, alloc, &table, one, two);
+    println!(rt; "{near} and {far} points were added side by side")?;
+    table.join(&mut one, two);
+    let snapshot = snapped(&table, alloc, &mut one)?;
+    let (entries, cells) = (snapshot.history.len(), snapshot.complex.len());
+    println!(rt; "a snapshot has {entries} entries and {cells} cells")?;
+    let mesh = table.close(one);
+    println!(rt; "the mesh has {} entries", mesh.count())?;
+    Ok(())
+}
