@@ -6,6 +6,7 @@
 
 mod cells;
 mod grid;
+mod hints;
 mod keys;
 mod moves;
 mod order;
