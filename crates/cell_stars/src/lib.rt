@@ -8,6 +8,7 @@ mod cells;
 mod grid;
 mod hints;
 mod keys;
+mod marks;
 mod moves;
 mod order;
 mod plan;

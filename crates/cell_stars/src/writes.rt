@@ -8,10 +8,11 @@ ghost use Rattle.point_order.specs.Sets.{IsIn, IsAscending};
 ghost use Rattle.cell_stars.specs.Places.{at, lies_in, star_at, IsStarred};
 ghost use Rattle.cell_stars.specs.Plans.{StarsAfter};
 ghost use Rattle.cell_stars.specs.Gathering.{Gathers, FromPlace, FromPut};
-ghost use Rattle.cell_stars.specs.Moves.{AreTouched, AreNumbered, AreStarsAfter, IsOwnNumber, IsSpare, IsRewriting};
+ghost use Rattle.cell_stars.specs.Moves.{AreMarked, AreTouched, AreNumbered, AreStarsAfter, IsOwnNumber, IsSpare, IsRewriting};
 
 use crate::cells::{Cells, places_in};
-use crate::moves::{Moves, behind_last, has_number};
+use crate::marks::{Marks, has_marked, marks_of};
+use crate::moves::{Moves, behind_last};
 use crate::order::{has_vertex, numbers_in_order, points_in_order};
 use crate::plan::Around;
 use crate::star::cell_at;
@@ -239,13 +240,15 @@ impl Cells {
         alloc: Global,
         p: Point,
         freed: &[u32],
+        marks: &Marks,
     ) -> Result<SmallVec<u32, 32>, AllocError>
-        requires { IsAscending freed.now }
+        requires order { IsAscending freed.now }
+        requires marks { AreMarked marks.now freed.now }
         ensures { IfOk result (λ list. (i : ℕ) → IsIn i list.items ↔ (IsStarred self.now.keys self.now.stars p i × (IsIn i freed.now → ⊥))) }
     {
         let mut list = SmallVec::new(alloc);
         for i in self.star_of(p) {
-            if !has_number(freed, *i) {
+            if !has_marked(freed, marks, *i) {
                 list.push(*i)?;
             }
         }
@@ -258,12 +261,14 @@ impl Cells {
         alloc: Global,
         p: Point,
         moves: &Moves,
+        marks: &Marks,
     ) -> Result<SmallVec<u32, 32>, AllocError>
         requires order { IsAscending moves.now.freed.items }
+        requires marks { AreMarked marks.now moves.now.freed.items }
         requires inside { lies_in self.now.place p ≡ true }
         ensures { IfOk result (λ list. (i : ℕ) → IsIn i list.items ↔ StarsAfter moves.now.freed.items moves.now.placed.items self.now p i) }
     {
-        let mut list = self.staying(alloc, p, &moves.freed)?;
+        let mut list = self.staying(alloc, p, &moves.freed, marks)?;
         for (i, c) in &moves.placed {
             if has_vertex(c, p) {
                 list.push(*i)?;
@@ -273,15 +278,22 @@ impl Cells {
     }
 
     // The star of a vertex after an exchange.
-    fn star_after(&self, alloc: Global, p: Point, moves: &Moves) -> Result<Around, AllocError>
+    fn star_after(
+        &self,
+        alloc: Global,
+        p: Point,
+        moves: &Moves,
+        marks: &Marks,
+    ) -> Result<Around, AllocError>
         requires order { IsAscending moves.now.freed.items }
+        requires marks { AreMarked marks.now moves.now.freed.items }
         requires inside { lies_in self.now.place p ≡ true }
         ensures vertex { IfOk result (λ star. star.0 ≡ p) }
         ensures places { IfOk result (λ star. (i : ℕ) → IsIn i star.1 ↔ StarsAfter moves.now.freed.items moves.now.placed.items self.now p i) }
     {
         Ok(Around {
             vertex: p,
-            places: self.places_after(alloc, p, moves)?,
+            places: self.places_after(alloc, p, moves, marks)?,
         })
     }
 
@@ -296,9 +308,10 @@ impl Cells {
         requires inside { (n p : ℕ) → IsIn (n, p) turns.now → lies_in self.now.place p ≡ true }
         ensures { IfOk result (λ writes. AreStarsAfter self.now moves.now.freed.items moves.now.placed.items turns.now writes.items) }
     {
+        let marks = marks_of(&moves.freed);
         let mut writes = Vec::with_capacity(alloc, turns.len())?;
         for (n, p) in turns {
-            writes.push((*n, self.star_after(alloc, *p, moves)?))?;
+            writes.push((*n, self.star_after(alloc, *p, moves, &marks)?))?;
         }
         Ok(writes)
     }
