@@ -16,7 +16,7 @@ pub(crate) struct Hints {
 }
 
 // A number for the point that depends on all of its bits.
-fn hash_of(p: Point) -> u64 {
+pub(crate) fn hash_of(p: Point) -> u64 {
     let x = p.key().wrapping_mul(0x9E37_79B9_7F4A_7C15);
     (x ^ (x >> 29)).wrapping_mul(0xBF58_476D_1CE4_E5B9)
 }

@@ -11,6 +11,7 @@ ghost use Rattle.cell_stars.specs.Gathering.{Gathers, FromPlace, FromPut};
 ghost use Rattle.cell_stars.specs.Moves.{AreMarked, AreTouched, AreNumbered, AreStarsAfter, IsOwnNumber, IsSpare, IsRewriting};
 
 use crate::cells::{Cells, places_in};
+use crate::hints::hash_of;
 use crate::marks::{Marks, has_marked, marks_of};
 use crate::moves::{Moves, behind_last};
 use crate::order::{has_vertex, numbers_in_order, points_in_order};
@@ -21,8 +22,8 @@ use point_order::{Cell, Point};
 use smallvec::SmallVec;
 use std::alloc::{AllocError, Global};
 
-// A vertex is added once, as long as there are no more than so many.
-const EARLY: usize = 24;
+// As many vertices as an exchange mostly has in a bucket.
+const FEW: usize = 24;
 
 // Whether no place is in the star with the number.
 fn is_spare(stars: &[Around], n: u32) -> bool
@@ -124,18 +125,33 @@ fn pairs(
         .collect(alloc)
 }
 
-// Whether the point is one of the first ones.
-fn is_early(list: &[Point], p: Point) -> bool
-    ensures { IsTrue result → IsIn p list.now }
+// For each rest of a division, where in a list of points the last one with this rest is likely to be.
+type Seen = [usize; 64];
+
+// The rest of the point.
+fn rest_of(p: Point) -> usize
+    ensures { result < 64 }
 {
-    list[..list.len().min(EARLY)].contains(&p)
+    (hash_of(p) % 64) as usize
 }
 
-// Adds the point, where it is not one of the first ones.
-fn add_point(list: &mut Vec<Point>, p: Point) -> Result<(), AllocError>
+// Whether the point is where the last one with its rest was put.
+fn is_seen(list: &[Point], seen: &Seen, p: Point) -> bool
+    ensures { IsTrue result → IsIn p list.now }
+{
+    let at = seen[rest_of(p)];
+    if at >= list.len() {
+        return false;
+    }
+    list[at] == p
+}
+
+// Adds the point, where it is not seen.
+fn add_point(list: &mut Vec<Point>, seen: &mut Seen, p: Point) -> Result<(), AllocError>
     ensures { OnOk result ((q : ℕ) → IsIn q list.new.items ↔ (IsIn q list.old.items ⊎ (p ≡ q))) }
 {
-    if !is_early(list, p) {
+    if !is_seen(list, seen, p) {
+        seen[rest_of(p)] = list.len();
         list.push(p)?;
     }
     Ok(())
@@ -143,35 +159,50 @@ fn add_point(list: &mut Vec<Point>, p: Point) -> Result<(), AllocError>
 
 impl Cells {
     // Adds the vertices of the cell that lie in the bucket.
-    fn add_points(&self, list: &mut Vec<Point>, cell: &Cell) -> Result<(), AllocError>
+    fn add_points(
+        &self,
+        list: &mut Vec<Point>,
+        seen: &mut Seen,
+        cell: &Cell,
+    ) -> Result<(), AllocError>
         ensures { OnOk result ((p : ℕ) → IsIn p list.new.items ↔ (IsIn p list.old.items ⊎ (IsIn p (points_of cell.now) × (lies_in self.now.place p ≡ true)))) }
     {
         for p in cell.points() {
             if self.has_here(*p) {
-                add_point(list, *p)?;
+                add_point(list, seen, *p)?;
             }
         }
         Ok(())
     }
 
     // Adds those of the cells at freed places.
-    fn add_freed(&self, list: &mut Vec<Point>, freed: &[u32]) -> Result<(), AllocError>
+    fn add_freed(
+        &self,
+        list: &mut Vec<Point>,
+        seen: &mut Seen,
+        freed: &[u32],
+    ) -> Result<(), AllocError>
         ensures { OnOk result (Gathers (FromPlace self.now) freed.now list.old.items list.new.items) }
     {
         for i in freed {
             if let Some(cell) = cell_at(&self.slots, *i) {
-                self.add_points(list, cell)?;
+                self.add_points(list, seen, cell)?;
             }
         }
         Ok(())
     }
 
     // Adds those of the cells that are put at places.
-    fn add_placed(&self, list: &mut Vec<Point>, placed: &[(u32, Cell)]) -> Result<(), AllocError>
+    fn add_placed(
+        &self,
+        list: &mut Vec<Point>,
+        seen: &mut Seen,
+        placed: &[(u32, Cell)],
+    ) -> Result<(), AllocError>
         ensures { OnOk result (Gathers (FromPut self.now) placed.now list.old.items list.new.items) }
     {
         for (_, cell) in placed {
-            self.add_points(list, cell)?;
+            self.add_points(list, seen, cell)?;
         }
         Ok(())
     }
@@ -181,9 +212,10 @@ impl Cells {
         ensures order { IfOk result (λ list. IsAscending list.items) }
         ensures touched { IfOk result (λ list. AreTouched self.now moves.now.freed.items moves.now.placed.items list.items) }
     {
-        let mut list: Vec<Point> = Vec::with_capacity(alloc, EARLY)?;
-        self.add_freed(&mut list, &moves.freed)?;
-        self.add_placed(&mut list, &moves.placed)?;
+        let mut list: Vec<Point> = Vec::with_capacity(alloc, FEW)?;
+        let mut seen = [0usize; 64];
+        self.add_freed(&mut list, &mut seen, &moves.freed)?;
+        self.add_placed(&mut list, &mut seen, &moves.placed)?;
         Ok(points_in_order(list))
     }
 
