@@ -12,3 +12,4 @@ pub mod Search
 pub mod WriteLaws
 pub mod Planned
 pub mod Rewritten
+pub mod Marked

@@ -1,5 +1,5 @@
 -- What goes and comes in an exchange, and where.
-use Rattle.std.specs.Prelude.{◌≡◌, ◌⊎◌, ℕ, true, List, Option, Some, map}
+use Rattle.std.specs.Prelude.{◌≡◌, ◌⊎◌, ◌%◌, ℕ, Bool, true, false, List, length, Option, Some, map, slice_index_or}
 use Rattle.point_order.specs.declared.cell.Cell.{Cell}
 use Rattle.point_order.specs.Facets.{points_of}
 use Rattle.point_order.specs.Sets.{IsIn, IsAscending}
@@ -127,3 +127,8 @@ HasSameCells old new = (i : ℕ) → at new i ≡ at old i
 pub record HasSameStars (old new : List (ℕ × List ℕ)) : Type 0 where
   pub there : (n i : ℕ) → IsIn i (star_at old n).1 → star_at new n ≡ star_at old n
   pub back : (n i : ℕ) → IsIn i (star_at new n).1 → star_at new n ≡ star_at old n
+
+-- each number of the list has its mark
+pub record AreMarked (marks : List Bool) (list : List ℕ) : Type 0 where
+  pub count : length marks ≡ 256
+  pub each : (i : ℕ) → IsIn i list → slice_index_or marks (i % 256) false ≡ true

@@ -9,6 +9,7 @@ ghost use Rattle.cell_stars.specs.Plans.{done, Allows, IsPlanFor};
 ghost use Rattle.cell_stars.specs.Stars.{cells_left, cells_around, cells_to_come};
 
 use crate::grid::Grid;
+use crate::hints::Hints;
 use crate::plan::{Around, Plan, put_all, put_list};
 use crate::planner::copied_stars;
 use crate::star::{BucketCells, Star, StarCells, cell_at};
@@ -31,6 +32,7 @@ pub struct Cells {
     pub(crate) spare: Vec<u32>,
     pub(crate) used: u32,
     pub(crate) used_stars: u32,
+    pub(crate) hints: Hints,
 }
 
 impl Model for Cells {
@@ -78,6 +80,7 @@ impl Cells {
             spare: Vec::new(alloc),
             used: 0,
             used_stars: 0,
+            hints: Hints::new(alloc),
         }
     }
 
@@ -167,6 +170,16 @@ impl Cells {
         }
     }
 
+    /// Some cells, among which those on the facet with these finite points are likely to be, if there are any.
+    pub fn likely_on(&self, points: &[Point]) -> StarCells<'_>
+        ensures { (c : Cell) → IsIn c (cells_around result) → IsIn c (cells_of self.now.slots) }
+    {
+        StarCells {
+            slots: &self.slots,
+            star: self.hints.on_facet(points),
+        }
+    }
+
     /// A copy.
     ///
     /// # Errors
@@ -183,6 +196,7 @@ impl Cells {
             spare: Vec::from_slice(alloc, &self.spare)?,
             used: self.used,
             used_stars: self.used_stars,
+            hints: self.hints.copied(alloc)?,
         })
     }
 
@@ -201,7 +215,9 @@ impl Cells {
             spare,
             used,
             used_stars,
+            hints,
         } = plan;
+        self.hints.change(hints, &self.slots, &slots);
         put_list(&mut self.slots, grown);
         put_all(&mut self.slots, slots);
         put_list(&mut self.stars, more);

@@ -98,7 +98,8 @@ fn changed_keys(
     requires agreed { AreAgreed writes.now }
     ensures { IfOk result (λ list. AreKeysAfter keys.now writes.now list.items) }
 {
-    let mut list = Vec::from_slice(alloc, keys)?;
+    let mut list = Vec::with_capacity(alloc, keys.len().saturating_add(writes.len()))?;
+    list.extend_from_slice(keys)?;
     for (n, around) in writes {
         write_key(&mut list, *n, around)?;
     }

@@ -6,7 +6,9 @@
 
 mod cells;
 mod grid;
+mod hints;
 mod keys;
+mod marks;
 mod moves;
 mod order;
 mod plan;

@@ -196,13 +196,23 @@ impl Cells {
         shortest
     }
 
-    // The place of the cell, if it stands at one.
-    fn place_of_cell(&self, cell: &Cell) -> Option<u32>
+    // The place of the cell, if it stands at one, by a look through a star.
+    fn place_in_star(&self, cell: &Cell) -> Option<u32>
         ensures { MatchOption result ((i : ℕ) → at self.now.slots i ≡ Some cell.now → touches_in self.now.place cell.now ≡ true → ⊥) (λ i. at self.now.slots i ≡ Some cell.now) }
     {
         match self.shortest_star(cell) {
             Some(star) => place_among(&self.slots, star, cell),
             None => None,
+        }
+    }
+
+    // The place of the cell, if it stands at one.
+    fn place_of_cell(&self, cell: &Cell) -> Option<u32>
+        ensures { MatchOption result ((i : ℕ) → at self.now.slots i ≡ Some cell.now → touches_in self.now.place cell.now ≡ true → ⊥) (λ i. at self.now.slots i ≡ Some cell.now) }
+    {
+        match place_among(&self.slots, self.hints.of_cell(cell), cell) {
+            Some(i) => Some(i),
+            None => self.place_in_star(cell),
         }
     }
 

@@ -9,6 +9,7 @@ ghost use Rattle.cell_stars.specs.Plans.{or_else, IsPlanFor};
 ghost use Rattle.cell_stars.specs.Moves.{HasSameCells, HasSameStars};
 
 use crate::cells::Cells;
+use crate::hints::Hints;
 use crate::keys::keys_after;
 use crate::moves::Moves;
 use crate::plan::{Around, Plan};
@@ -53,6 +54,17 @@ fn grown_slots(
     let mut list = Vec::from_slice(alloc, slots)?;
     list.resize(end.max(slots.len().saturating_mul(2)), None)?;
     Ok(Some(list))
+}
+
+// The hints of the places in a longer list, where there is one.
+fn grown_hints(
+    alloc: Global,
+    grown: &Option<Vec<Option<Cell>>>,
+) -> Result<Option<Hints>, AllocError> {
+    match grown {
+        Some(slots) => Ok(Some(Hints::of(alloc, slots)?)),
+        None => Ok(None),
+    }
 }
 
 // A copy of the star.
@@ -184,6 +196,7 @@ impl Cells {
         let end = behind_places(&moves.placed);
         let end_stars = behind_stars(&stars);
         let grown = grown_slots(alloc, &self.slots, end)?;
+        let hints = grown_hints(alloc, &grown)?;
         let more = grown_stars(alloc, &self.stars, &stars, end_stars)?;
         let slots = changes(alloc, &moves)?;
         let free = open_after(alloc, &self.free, &moves)?;
@@ -200,6 +213,7 @@ impl Cells {
             used_stars: self
                 .used_stars
                 .max(u32::try_from(end_stars).unwrap_or(u32::MAX)),
+            hints,
         })
     }
 }

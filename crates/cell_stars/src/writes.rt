@@ -8,10 +8,12 @@ ghost use Rattle.point_order.specs.Sets.{IsIn, IsAscending};
 ghost use Rattle.cell_stars.specs.Places.{at, lies_in, star_at, IsStarred};
 ghost use Rattle.cell_stars.specs.Plans.{StarsAfter};
 ghost use Rattle.cell_stars.specs.Gathering.{Gathers, FromPlace, FromPut};
-ghost use Rattle.cell_stars.specs.Moves.{AreTouched, AreNumbered, AreStarsAfter, IsOwnNumber, IsSpare, IsRewriting};
+ghost use Rattle.cell_stars.specs.Moves.{AreMarked, AreTouched, AreNumbered, AreStarsAfter, IsOwnNumber, IsSpare, IsRewriting};
 
 use crate::cells::{Cells, places_in};
-use crate::moves::{Moves, behind_last, has_number};
+use crate::hints::hash_of;
+use crate::marks::{Marks, has_marked, marks_of};
+use crate::moves::{Moves, behind_last};
 use crate::order::{has_vertex, numbers_in_order, points_in_order};
 use crate::plan::Around;
 use crate::star::cell_at;
@@ -20,8 +22,8 @@ use point_order::{Cell, Point};
 use smallvec::SmallVec;
 use std::alloc::{AllocError, Global};
 
-// A vertex is added once, as long as there are no more than so many.
-const EARLY: usize = 24;
+// As many vertices as an exchange mostly has in a bucket.
+const FEW: usize = 24;
 
 // Whether no place is in the star with the number.
 fn is_spare(stars: &[Around], n: u32) -> bool
@@ -123,18 +125,33 @@ fn pairs(
         .collect(alloc)
 }
 
-// Whether the point is one of the first ones.
-fn is_early(list: &[Point], p: Point) -> bool
-    ensures { IsTrue result → IsIn p list.now }
+// For each rest of a division, where in a list of points the last one with this rest is likely to be.
+type Seen = [usize; 64];
+
+// The rest of the point.
+fn rest_of(p: Point) -> usize
+    ensures { result < 64 }
 {
-    list[..list.len().min(EARLY)].contains(&p)
+    (hash_of(p) % 64) as usize
 }
 
-// Adds the point, where it is not one of the first ones.
-fn add_point(list: &mut Vec<Point>, p: Point) -> Result<(), AllocError>
+// Whether the point is where the last one with its rest was put.
+fn is_seen(list: &[Point], seen: &Seen, p: Point) -> bool
+    ensures { IsTrue result → IsIn p list.now }
+{
+    let at = seen[rest_of(p)];
+    if at >= list.len() {
+        return false;
+    }
+    list[at] == p
+}
+
+// Adds the point, where it is not seen.
+fn add_point(list: &mut Vec<Point>, seen: &mut Seen, p: Point) -> Result<(), AllocError>
     ensures { OnOk result ((q : ℕ) → IsIn q list.new.items ↔ (IsIn q list.old.items ⊎ (p ≡ q))) }
 {
-    if !is_early(list, p) {
+    if !is_seen(list, seen, p) {
+        seen[rest_of(p)] = list.len();
         list.push(p)?;
     }
     Ok(())
@@ -142,35 +159,50 @@ fn add_point(list: &mut Vec<Point>, p: Point) -> Result<(), AllocError>
 
 impl Cells {
     // Adds the vertices of the cell that lie in the bucket.
-    fn add_points(&self, list: &mut Vec<Point>, cell: &Cell) -> Result<(), AllocError>
+    fn add_points(
+        &self,
+        list: &mut Vec<Point>,
+        seen: &mut Seen,
+        cell: &Cell,
+    ) -> Result<(), AllocError>
         ensures { OnOk result ((p : ℕ) → IsIn p list.new.items ↔ (IsIn p list.old.items ⊎ (IsIn p (points_of cell.now) × (lies_in self.now.place p ≡ true)))) }
     {
         for p in cell.points() {
             if self.has_here(*p) {
-                add_point(list, *p)?;
+                add_point(list, seen, *p)?;
             }
         }
         Ok(())
     }
 
     // Adds those of the cells at freed places.
-    fn add_freed(&self, list: &mut Vec<Point>, freed: &[u32]) -> Result<(), AllocError>
+    fn add_freed(
+        &self,
+        list: &mut Vec<Point>,
+        seen: &mut Seen,
+        freed: &[u32],
+    ) -> Result<(), AllocError>
         ensures { OnOk result (Gathers (FromPlace self.now) freed.now list.old.items list.new.items) }
     {
         for i in freed {
             if let Some(cell) = cell_at(&self.slots, *i) {
-                self.add_points(list, cell)?;
+                self.add_points(list, seen, cell)?;
             }
         }
         Ok(())
     }
 
     // Adds those of the cells that are put at places.
-    fn add_placed(&self, list: &mut Vec<Point>, placed: &[(u32, Cell)]) -> Result<(), AllocError>
+    fn add_placed(
+        &self,
+        list: &mut Vec<Point>,
+        seen: &mut Seen,
+        placed: &[(u32, Cell)],
+    ) -> Result<(), AllocError>
         ensures { OnOk result (Gathers (FromPut self.now) placed.now list.old.items list.new.items) }
     {
         for (_, cell) in placed {
-            self.add_points(list, cell)?;
+            self.add_points(list, seen, cell)?;
         }
         Ok(())
     }
@@ -180,9 +212,10 @@ impl Cells {
         ensures order { IfOk result (λ list. IsAscending list.items) }
         ensures touched { IfOk result (λ list. AreTouched self.now moves.now.freed.items moves.now.placed.items list.items) }
     {
-        let mut list: Vec<Point> = Vec::with_capacity(alloc, EARLY)?;
-        self.add_freed(&mut list, &moves.freed)?;
-        self.add_placed(&mut list, &moves.placed)?;
+        let mut list: Vec<Point> = Vec::with_capacity(alloc, FEW)?;
+        let mut seen = [0usize; 64];
+        self.add_freed(&mut list, &mut seen, &moves.freed)?;
+        self.add_placed(&mut list, &mut seen, &moves.placed)?;
         Ok(points_in_order(list))
     }
 
@@ -239,13 +272,15 @@ impl Cells {
         alloc: Global,
         p: Point,
         freed: &[u32],
+        marks: &Marks,
     ) -> Result<SmallVec<u32, 32>, AllocError>
-        requires { IsAscending freed.now }
+        requires order { IsAscending freed.now }
+        requires marks { AreMarked marks.now freed.now }
         ensures { IfOk result (λ list. (i : ℕ) → IsIn i list.items ↔ (IsStarred self.now.keys self.now.stars p i × (IsIn i freed.now → ⊥))) }
     {
         let mut list = SmallVec::new(alloc);
         for i in self.star_of(p) {
-            if !has_number(freed, *i) {
+            if !has_marked(freed, marks, *i) {
                 list.push(*i)?;
             }
         }
@@ -258,12 +293,14 @@ impl Cells {
         alloc: Global,
         p: Point,
         moves: &Moves,
+        marks: &Marks,
     ) -> Result<SmallVec<u32, 32>, AllocError>
         requires order { IsAscending moves.now.freed.items }
+        requires marks { AreMarked marks.now moves.now.freed.items }
         requires inside { lies_in self.now.place p ≡ true }
         ensures { IfOk result (λ list. (i : ℕ) → IsIn i list.items ↔ StarsAfter moves.now.freed.items moves.now.placed.items self.now p i) }
     {
-        let mut list = self.staying(alloc, p, &moves.freed)?;
+        let mut list = self.staying(alloc, p, &moves.freed, marks)?;
         for (i, c) in &moves.placed {
             if has_vertex(c, p) {
                 list.push(*i)?;
@@ -273,15 +310,22 @@ impl Cells {
     }
 
     // The star of a vertex after an exchange.
-    fn star_after(&self, alloc: Global, p: Point, moves: &Moves) -> Result<Around, AllocError>
+    fn star_after(
+        &self,
+        alloc: Global,
+        p: Point,
+        moves: &Moves,
+        marks: &Marks,
+    ) -> Result<Around, AllocError>
         requires order { IsAscending moves.now.freed.items }
+        requires marks { AreMarked marks.now moves.now.freed.items }
         requires inside { lies_in self.now.place p ≡ true }
         ensures vertex { IfOk result (λ star. star.0 ≡ p) }
         ensures places { IfOk result (λ star. (i : ℕ) → IsIn i star.1 ↔ StarsAfter moves.now.freed.items moves.now.placed.items self.now p i) }
     {
         Ok(Around {
             vertex: p,
-            places: self.places_after(alloc, p, moves)?,
+            places: self.places_after(alloc, p, moves, marks)?,
         })
     }
 
@@ -296,9 +340,10 @@ impl Cells {
         requires inside { (n p : ℕ) → IsIn (n, p) turns.now → lies_in self.now.place p ≡ true }
         ensures { IfOk result (λ writes. AreStarsAfter self.now moves.now.freed.items moves.now.placed.items turns.now writes.items) }
     {
+        let marks = marks_of(&moves.freed);
         let mut writes = Vec::with_capacity(alloc, turns.len())?;
         for (n, p) in turns {
-            writes.push((*n, self.star_after(alloc, *p, moves)?))?;
+            writes.push((*n, self.star_after(alloc, *p, moves, &marks)?))?;
         }
         Ok(writes)
     }

@@ -1,7 +1,7 @@
 -- Buckets as they are kept, and what they show.
-use Rattle.std.specs.Prelude.{◌≡◌, ◌≢◌, ℕ, zero, suc, ◌<◌, ◌≤◌, List, [], ◌∷◌, length, map, Option, None, Some, IsSome, IsSomeAnd, is_some, replicate, slice_index_or, slice_set}
+use Rattle.std.specs.Prelude.{◌≡◌, ℕ, zero, suc, ◌≤◌, List, [], ◌∷◌, length, Option, None, Some, is_some, replicate, slice_set}
 use Rattle.std.specs.Option.{option_map}
-use Rattle.std.proofs.Common.{refl, sym, ◌∙◌, ap, subst, arith}
+use Rattle.std.proofs.Common.{refl, ◌∙◌, ap, arith}
 use Rattle.cell_store.specs.Buckets.{Content, Layout, StandAtPlaces, bucket_at, content_of, layout_at, shown}
 
 pub shown_at : (l : List (Option Layout)) (b : ℕ) → bucket_at (shown l) b ≡ option_map content_of (layout_at l b)

@@ -1,5 +1,5 @@
 -- What an entry makes of the points of its bucket, and of the buckets of a hold.
-use Rattle.std.specs.Prelude.{◌≡◌, ◌≢◌, ℕ, zero, suc, ◌<◌, ◌≤◌, ◌==◌, Bool, true, false, cond, not, ◌||◌, List, [], ◌∷◌, ◌++◌, ◌⊎◌, Option, None, Some, IfSome, IsSomeAnd, length, slice_index, slice_set, Result, Ok, Err, MatchResult, OnOk, OnErr}
+use Rattle.std.specs.Prelude.{◌≡◌, ◌≢◌, ℕ, zero, suc, ◌<◌, ◌≤◌, ◌==◌, Bool, true, false, cond, not, ◌||◌, List, [], ◌∷◌, ◌++◌, ◌⊎◌, Option, None, Some, IfSome, IsSomeAnd, length, slice_index, slice_index_or, slice_set, Result, Ok, Err, MatchResult, OnOk, OnErr}
 use Rattle.std.specs.Option.{option_map}
 use Rattle.std.proofs.Common.{refl, sym, ◌∙◌, ap, subst, inl, inr, arith}
 use Rattle.std.proofs.lemmas.Bool.Decides.{nat_tests}
@@ -14,11 +14,12 @@ use Rattle.edit_history.specs.Edits.{point_of, changed}
 use Rattle.edit_history.proofs.SetEdits.{in-place, among-gap, ascending-without}
 use Rattle.cell_store.specs.Grids.{bucket_of}
 use Rattle.cell_stars.specs.Plans.{IsPlanFor}
-use Rattle.cell_store.specs.Buckets.{Content, Layout, InHand, Room, bucket_at, layout_at, StandAtPlaces}
+use Rattle.cell_stars.specs.Places.{Placed, cells_of}
+use Rattle.cell_store.specs.Buckets.{Content, Layout, InHand, Room, bucket_at, content_of, layout_at, shown, StandAtPlaces}
 use Rattle.cell_store.specs.declared.room.PlanFor.{PlanFor}
 use Rattle.cell_store.specs.Changes.{noted_in, IsNoted}
-use Rattle.cell_store.specs.Ready.{HasLists, IsNoteReady, IsReady, IsReadyFor, NoteLists}
-use Rattle.cell_store.specs.Swaps.{swapped}
+use Rattle.cell_store.specs.Ready.{HasRoom, IsNoteReady, IsReady, IsReadyFor, IsRoomier}
+use Rattle.cell_store.proofs.Layouts.{shown_is, shown_set}
 use Rattle.cell_store.proofs.RoomLaws.{of_some, to_some}
 
 -- a point that is there is put in already
@@ -193,11 +194,52 @@ ready_put g b gone fresh places plans x e r = record { each = λ l i. by l (r.ea
       | inr w ↦ subst (λ o. IsSomeAnd o (λ y. IsPlanFor gone fresh y.cells l.plan)) (sym (get_or-set_other places b l.number x None w)) q
     ]
 
-pub note_put : (g b : ℕ) (places : List (Option Content)) (n : NoteLists) (x : Option Content) → bucket_at places b ≡ None → IsNoteReady g places n → IsNoteReady g (slice_set places b x) n
-note_put g b places n x e q = elim (two (bucket_of g n.point) b) [
-  | inl w ↦ absurd (subst (λ o. IsSomeAnd o (λ y. HasLists n.point y n)) (ap (bucket_at places) w ∙ e) q)
-  | inr w ↦ subst (λ o. IsSomeAnd o (λ y. HasLists n.point y n)) (sym (get_or-set_other places b (bucket_of g n.point) x None w)) q
+pub note_put : (g b : ℕ) (places : List (Option Layout)) (p : ℕ) (x : Option Layout) → layout_at places b ≡ None → IsNoteReady g places p → IsNoteReady g (slice_set places b x) p
+note_put g b places p x e q = elim (two (bucket_of g p) b) [
+  | inl w ↦ absurd (subst (λ o. IsSomeAnd o HasRoom) (ap (layout_at places) w ∙ e) q)
+  | inr w ↦ subst (λ o. IsSomeAnd o HasRoom) (sym (get_or-set_other places b (bucket_of g p) x None w)) q
 ]
+
+-- ---- a bucket that has more room
+
+-- what holds anyhow holds of a refusal
+pub refused : {X E : Type 0} (r : Result X E) (P : Type 0) → P → OnErr r P
+refused (Ok x) P p = tt
+refused (Err e) P p = p
+
+-- what is there is set
+set_there : {X : Type 0} (l : List (Option X)) (b : ℕ) (x : X) → slice_index_or l b None ≡ Some x → slice_set l b (Some x) ≡ l
+set_there [] b x e = refl
+set_there {X} (o ∷ l) zero x e = ap (λ (y : Option X). y ∷ l) (sym e)
+set_there {X} (o ∷ l) (suc b) x e = ap (λ (m : List (Option X)). o ∷ m) (set_there l b x e)
+
+same_shown : (c d : Layout) → IsRoomier c d → content_of d ≡ content_of c
+same_shown c d r =
+    ap (λ (l : List ℕ). record { points = l; cells = cells_of d.cells.slots; entries = d.entries; place = d.cells.place }) r.points
+    ∙ ap (λ (x : Placed). record { points = c.points; cells = cells_of x.slots; entries = d.entries; place = x.place }) r.cells
+    ∙ ap (λ (l : List Entry). record { points = c.points; cells = cells_of c.cells.slots; entries = l; place = c.cells.place }) r.entries
+
+pub roomier_shown : (places : List (Option Layout)) (b : ℕ) (c d : Layout) → layout_at places b ≡ Some c → IsRoomier c d → shown (slice_set places b (Some d)) ≡ shown places
+roomier_shown places b c d e r =
+    shown_set places b (Some d) ∙ ap (λ (x : Content). slice_set (shown places) b (Some x)) (same_shown c d r) ∙ set_there (shown places) b (content_of c) (shown_is places b c e)
+
+pub roomier_ready : (g b : ℕ) (gone fresh : List Cell) (places : List (Option Layout)) (plans : List PlanFor) (c d : Layout) → b < length places → layout_at places b ≡ Some c → IsRoomier c d → IsReady g gone fresh places plans → IsReady g gone fresh (slice_set places b (Some d)) plans
+roomier_ready g b gone fresh places plans c d h e r q = subst (λ l. IsReady g gone fresh (slice_set l b (Some d)) plans) (set_there places b c e) (ready_noted g b gone fresh places plans (Some c) c d h e r.cells q)
+
+pub ready_same : (g h : ℕ) (gone fresh eg ef : List Cell) (places qs : List (Option Layout)) (plans : List PlanFor) → g ≡ h → gone ≡ eg → fresh ≡ ef → places ≡ qs → IsReady g gone fresh places plans → IsReady h eg ef qs plans
+ready_same g h gone fresh eg ef places qs plans e1 e2 e3 e4 r =
+    subst (λ (n : ℕ). IsReady n eg ef qs plans) e1 (subst (λ l. IsReady g l ef qs plans) e2 (subst (λ l. IsReady g gone l qs plans) e3 (subst (λ l. IsReady g gone fresh l plans) e4 r)))
+
+pub roomier_note : (g b : ℕ) (places : List (Option Layout)) (p : ℕ) (c d : Layout) → b < length places → layout_at places b ≡ Some c → IsRoomier c d → IsNoteReady g places p → IsNoteReady g (slice_set places b (Some d)) p
+roomier_note g b places p c d h e r q = elim (two (bucket_of g p) b) [
+  | inl w ↦ (
+      let k = of_some HasRoom (layout_at places (bucket_of g p)) c (ap (layout_at places) w ∙ e) q in
+      to_some HasRoom (layout_at (slice_set places b (Some d)) (bucket_of g p)) d (ap (layout_at (slice_set places b (Some d))) w ∙ get_or-set_same places b (Some d) None h) (more k))
+  | inr w ↦ subst (λ o. IsSomeAnd o HasRoom) (sym (get_or-set_other places b (bucket_of g p) (Some d) None w)) q
+]
+  where
+    more : HasRoom c → HasRoom d
+    more k = let x = k.points in let y = k.entries in let u = r.for_points in let v = r.for_entries in record { points = omega arith; entries = omega arith }
 
 -- the hold with other places
 pub hold_with : (h : InHand) (g : ℕ) (ps qs xs : List (Option Content)) (r s : Room) → record { grid = g; places = ps; room = r } ≡ h → qs ≡ xs → record { grid = g; places = qs; room = s } ≡ record h { places = xs; room = s }

@@ -21,7 +21,7 @@ use Rattle.cell_stars.specs.Gathering.{Gathers}
 use Rattle.cell_stars.specs.Plans.{Allows, IsPlanFor, done}
 use Rattle.cell_store.specs.Buckets.{Content, Layout, InHand, StandAtPlaces, bucket_at, content_of, layout_at, shown}
 use Rattle.cell_store.specs.Changes.{NoneTouches, swapped_in, IsSwapped}
-use Rattle.cell_store.specs.Ready.{AreApart, AreHeld, AreInHand, HasLists, HasNumber, IsNumberOf, IsAllowed, IsNoteReady, IsReady, IsReadyFor, NoneIsFor, NoteLists, carried, given, numbers_of}
+use Rattle.cell_store.specs.Ready.{AreApart, AreHeld, AreInHand, HasNumber, HasRoom, IsNumberOf, IsAllowed, IsNoteReady, IsReady, IsReadyFor, NoneIsFor, carried, given, numbers_of}
 use Rattle.cell_store.specs.declared.room.PlanFor.{PlanFor}
 use Rattle.cell_store.proofs.Layouts.{shown_at, shown_is, shown_some}
 use Rattle.cell_store.specs.Swaps.{swapped}
@@ -236,13 +236,18 @@ swap_is old new g places after gone fresh eg ef e1 e2 e3 e4 e6 e7 e8 f = record 
       ∙ ap (λ l. option_map (swapped_in old.grid b gone fresh) (bucket_at l b)) e2;
 }
 
--- a bucket keeps its points and its entries in an exchange
-pub note_swapped : (g : ℕ) (gone fresh : List Cell) (places after : List (Option Content)) (n : NoteLists) → ((b : ℕ) → bucket_at after b ≡ option_map (swapped_in g b gone fresh) (bucket_at places b)) → IsNoteReady g places n → IsNoteReady g after n
-note_swapped g gone fresh places after n f h = subst (λ o. IsSomeAnd o (λ c. HasLists n.point c n)) (sym (f (bucket_of g n.point))) (by (bucket_at places (bucket_of g n.point)) h)
+-- a bucket keeps its room in an exchange
+given_room : (plans : List PlanFor) (b : ℕ) (o : Option Layout) → IsSomeAnd o HasRoom → IsSomeAnd (given plans b o) HasRoom
+given_room [] b o h = h
+given_room (l ∷ plans) b o h = by (l.number == b) o h (given_room plans b)
   where
-    by : (o : Option Content) → IsSomeAnd o (λ c. HasLists n.point c n) → IsSomeAnd (option_map (swapped_in g (bucket_of g n.point) gone fresh) o) (λ c. HasLists n.point c n)
-    by None k = k
-    by (Some c) k = record { points = k.points; entries = k.entries }
+    by : (t : Bool) (o : Option Layout) → IsSomeAnd o HasRoom → ((o : Option Layout) → IsSomeAnd o HasRoom → IsSomeAnd (given plans b o) HasRoom) → IsSomeAnd (given plans b (cond t (option_map (carried l.plan) o) o)) HasRoom
+    by true None h f = absurd h
+    by true (Some c) h f = f (Some (carried l.plan c)) (record { points = h.points; entries = h.entries })
+    by false o h f = f o h
+
+pub note_swapped : (g : ℕ) (places after : List (Option Layout)) (plans : List PlanFor) (p : ℕ) → ((b : ℕ) → layout_at after b ≡ given plans b (layout_at places b)) → IsNoteReady g places p → IsNoteReady g after p
+note_swapped g places after plans p f h = subst (λ o. IsSomeAnd o HasRoom) (sym (f (bucket_of g p))) (given_room plans (bucket_of g p) (layout_at places (bucket_of g p)) h)
 
 -- and its place
 pub stand_swapped : (g : ℕ) (gone fresh : List Cell) (places after : List (Option Content)) → ((b : ℕ) → bucket_at after b ≡ option_map (swapped_in g b gone fresh) (bucket_at places b)) → StandAtPlaces g places → StandAtPlaces g after

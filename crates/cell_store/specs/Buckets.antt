@@ -13,11 +13,14 @@ pub record Content : Type 0 where
   pub entries : List Entry
   pub place : Option (ℕ × ℕ)
 
--- A bucket as it is kept: its points, its cells at numbered places with their stars, and its entries.
+-- A bucket as it is kept: its points, its cells at numbered places with their stars, and its entries; and how many points and entries
+-- more it takes without memory.
 pub record Layout : Type 0 where
   pub points : List ℕ
   pub cells : Placed
   pub entries : List Entry
+  pub room_points : ℕ
+  pub room_entries : ℕ
 
 -- what a bucket has, as clauses read it
 abbrev pub content_of : Layout → Content

@@ -1,14 +1,13 @@
 -- What a hold keeps ready for an exchange of cells and for an entry.
-use Rattle.std.specs.Prelude.{◌≡◌, ◌≢◌, ℕ, ◌==◌, List, [], ◌∷◌, Option, IsSome, IsSomeAnd, map, if◌then◌else◌}
+use Rattle.std.specs.Prelude.{◌≡◌, ◌≢◌, ℕ, ◌<◌, ◌≤◌, ◌==◌, List, [], ◌∷◌, Option, Some, IsSome, IsSomeAnd, map, if◌then◌else◌}
 use Rattle.std.specs.List.{flat_map}
 use Rattle.std.specs.Option.{option_map}
 use Rattle.point_order.specs.declared.cell.Cell.{Cell}
 use Rattle.point_order.specs.Facets.{points_of}
-use Rattle.point_order.specs.Sets.{IsIn, with_point}
-use Rattle.edit_history.specs.declared.history.Entry.{Entry}
+use Rattle.point_order.specs.Sets.{IsIn}
 use Rattle.cell_store.specs.Grids.{bucket_of}
 use Rattle.cell_stars.specs.Plans.{PlanView, Allows, IsPlanFor, done}
-use Rattle.cell_store.specs.Buckets.{Content, Layout, InHand, bucket_at, layout_at}
+use Rattle.cell_store.specs.Buckets.{Layout, InHand, bucket_at, layout_at}
 use Rattle.cell_store.specs.Changes.{NoneTouches}
 use Rattle.cell_store.specs.declared.room.PlanFor.{PlanFor}
 
@@ -68,17 +67,27 @@ HasNumber g c n = IsIn n (map (bucket_of g) (points_of c))
 abbrev pub AreHeld : InHand → List Cell → Type 0
 AreHeld hold l = (c : Cell) → IsIn c l → (p : ℕ) → IsIn p (points_of c) → IsSome (bucket_at hold.places (bucket_of hold.grid p))
 
--- The lists for an entry of a point: its bucket's points with that point, and its bucket's entries.
-pub record NoteLists : Type 0 where
-  pub point : ℕ
-  pub points : List ℕ
-  pub entries : List Entry
+-- there is room for one entry in the bucket
+pub record HasRoom (c : Layout) : Type 0 where
+  pub points : 0 < c.room_points
+  pub entries : 0 < c.room_entries
 
--- they are those of the bucket
-pub record HasLists (p : ℕ) (c : Content) (n : NoteLists) : Type 0 where
-  pub points : n.points ≡ with_point p c.points
-  pub entries : n.entries ≡ c.entries
+-- the bucket of the point is in hand, and has room for an entry
+abbrev pub IsNoteReady : ℕ → List (Option Layout) → ℕ → Type 0
+IsNoteReady g places p = IsSomeAnd (layout_at places (bucket_of g p)) HasRoom
 
--- the bucket of the note's point is in hand, and the note has its lists
-abbrev pub IsNoteReady : ℕ → List (Option Content) → NoteLists → Type 0
-IsNoteReady g places n = IsSomeAnd (bucket_at places (bucket_of g n.point)) (λ c. HasLists n.point c n)
+-- the same bucket, with no less room
+pub record IsRoomier (old new : Layout) : Type 0 where
+  pub points : new.points ≡ old.points
+  pub cells : new.cells ≡ old.cells
+  pub entries : new.entries ≡ old.entries
+  pub for_points : old.room_points ≤ new.room_points
+  pub for_entries : old.room_entries ≤ new.room_entries
+
+-- where it is in hand
+pub record AreRoomier (old new : Option Layout) : Type 0 where
+  pub before : Layout
+  pub was : old ≡ Some before
+  pub after : Layout
+  pub is : new ≡ Some after
+  pub roomier : IsRoomier before after

@@ -1,6 +1,6 @@
 //! Buckets.
 
-ghost use Rattle.std.specs.Prelude.{◌≡◌, ◌↔◌, ◌∷◌, [], ◌++◌, true, None, Some, IsPermutation, IfOk, MatchOption};
+ghost use Rattle.std.specs.Prelude.{◌≡◌, ◌↔◌, ◌∷◌, [], ◌++◌, true, None, Some, IsPermutation, IfOk, OnOk, MatchOption};
 ghost use Rattle.std.specs.List.{filter};
 ghost use Rattle.point_order.specs.Facets.{points_of};
 ghost use Rattle.point_order.specs.declared.cell.Cell.{Cell};
@@ -10,12 +10,12 @@ ghost use Rattle.cell_stars.specs.Places.{lies_in};
 ghost use Rattle.cell_stars.specs.Plans.{Allows, IsPlanFor};
 ghost use Rattle.cell_store.specs.Buckets.{FitsPlace, content_of};
 ghost use Rattle.cell_store.specs.Others.{HaveNoOther, IsOtherOf};
-ghost use Rattle.cell_store.specs.Ready.{HasLists, carried};
+ghost use Rattle.cell_store.specs.Ready.{HasRoom, IsRoomier, carried};
 ghost use Rattle.cell_store.specs.Shares.{points_on};
 ghost use Rattle.cell_store.specs.Stars.{cells_around, cells_left, cells_to_come};
 
-use crate::note::{Note, points_after};
-use crate::star::other_among;
+use crate::note::{points_after, with_entry};
+use crate::star::{facet_points, other_among};
 use cell_stars::{BucketCells, Cells, Grid, Plan, Star, StarCells};
 use edit_history::Entry;
 use point_order::{Cell, Facet, Point};
@@ -33,12 +33,14 @@ pub struct Bucket {
 }
 
 impl Model for Bucket {
+    ghost use Rattle.std.specs.Prelude.{◌-◌};
+    ghost use Rattle.std.specs.Vec.{vec_len, vec_capacity};
     ghost use Rattle.point_order.specs.Sets.{IsAscending};
     ghost use Rattle.cell_store.specs.Buckets.{Layout};
 
     ghost Value = { Layout };
 
-    ghost view = { λ b. record { points = b.points.items; cells = b.cells; entries = b.entries.items } };
+    ghost view = { λ b. record { points = b.points.items; cells = b.cells; entries = b.entries.items; room_points = vec_capacity b.points - vec_len b.points; room_entries = vec_capacity b.entries - vec_len b.entries } };
 
     ghost invariant = { λ b. IsAscending b.points.items };
 }
@@ -99,6 +101,9 @@ impl Bucket {
         requires among { IsIn p (points_on facet.now) }
         ensures { MatchOption result (HaveNoOther (content_of self.now).cells cell.now facet.now) (λ c. IsOtherOf (content_of self.now).cells cell.now facet.now c.now) }
     {
+        if let Some(other) = other_among(self.cells.likely_on(facet_points(facet)), cell, facet) {
+            return Some(other);
+        }
         other_among(self.cells.cells_around(p), cell, facet)
     }
 
@@ -122,13 +127,24 @@ impl Bucket {
         self.cells.carry_out(plan);
     }
 
-    // Puts the entry last, and its point in or out as its reply says. The note is to be ready for it.
-    pub(crate) fn noted(self, note: Note, entry: Entry) -> Bucket
-        requires { HasLists (point_of entry.edit) (content_of self) note }
-        ensures { result ≡ record self { points = changed self.points (point_of entry.edit) entry.reply; entries = self.entries ++ entry ∷ [] } }
+    // Makes room for an entry. Without memory there is as much room as before.
+    pub(crate) fn make_room(&mut self) -> Result<(), AllocError>
+        ensures same { IsRoomier self.old self.new }
+        ensures room { OnOk result (HasRoom self.new) }
     {
-        let (ready, entries) = note.into_lists(entry);
-        let points = points_after(self.points, ready, entry.edit.point(), entry.reply);
+        self.points.reserve(1)?;
+        self.entries.reserve(1)?;
+        Ok(())
+    }
+
+    // Puts the entry last, and its point in or out as its reply says. There is to be room for it. It takes no memory.
+    pub(crate) fn noted(self, entry: Entry) -> Bucket
+        requires { HasRoom self }
+        ensures content { content_of result ≡ record (content_of self) { points = changed self.points (point_of entry.edit) entry.reply; entries = self.entries ++ entry ∷ [] } }
+        ensures cells { result.cells ≡ self.cells }
+    {
+        let entries = with_entry(self.entries, entry);
+        let points = points_after(self.points, entry.edit.point(), entry.reply);
         Bucket {
             points,
             cells: self.cells,
@@ -158,7 +174,7 @@ impl Bucket {
 
     // A bucket with the same lists and the same place.
     pub(crate) fn copied(&self, alloc: Global) -> Result<Bucket, AllocError>
-        ensures { IfOk result (λ copy. copy ≡ self.now) }
+        ensures { IfOk result (λ copy. content_of copy ≡ content_of self.now) }
     {
         Ok(Bucket {
             points: Vec::from_slice(alloc, &self.points)?,

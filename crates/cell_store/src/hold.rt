@@ -15,8 +15,7 @@ ghost use Rattle.cell_store.specs.Ready.{AreHeld};
 ghost use Rattle.cell_store.specs.Stars.{cells_around, cells_left, AcrossGives};
 
 use crate::bucket::Bucket;
-use crate::note::Note;
-use crate::room::{Exchange, carry_all};
+use crate::room::{Exchange, carry_all, make_room};
 use crate::star::{Across, facet_points};
 use cell_stars::{Grid, Star, StarCells};
 use edit_history::Entry;
@@ -32,7 +31,7 @@ pub struct Hold {
     grid: Grid,
     places: Vec<Option<Bucket>>,
     exchange: Option<Exchange>,
-    note: Option<Note>,
+    note: Option<Point>,
 }
 
 impl Model for Hold {
@@ -43,9 +42,9 @@ impl Model for Hold {
 
     ghost Value = { InHand };
 
-    ghost view = { λ h. record { grid = h.grid; places = shown h.places.items; room = record { swap = option_map (λ e. (e.gone.items, e.fresh.items)) h.exchange; push = option_map (λ n. n.point) h.note } } };
+    ghost view = { λ h. record { grid = h.grid; places = shown h.places.items; room = record { swap = option_map (λ e. (e.gone.items, e.fresh.items)) h.exchange; push = h.note } } };
 
-    ghost invariant = { λ h. (length h.places.items ≡ h.grid * h.grid * h.grid) × IfSome h.exchange (λ e. IsReady h.grid e.gone.items e.fresh.items h.places.items e.plans.items) × IfSome h.note (λ n. IsNoteReady h.grid (shown h.places.items) n) × StandAtPlaces h.grid (shown h.places.items) };
+    ghost invariant = { λ h. (length h.places.items ≡ h.grid * h.grid * h.grid) × IfSome h.exchange (λ e. IsReady h.grid e.gone.items e.fresh.items h.places.items e.plans.items) × IfSome h.note (λ p. IsNoteReady h.grid h.places.items p) × StandAtPlaces h.grid (shown h.places.items) };
 }
 
 impl Hold {
@@ -242,9 +241,10 @@ impl Hold {
         ensures err { OnErr result (self.new ≡ self.old) }
     {
         let exchange = Exchange::new(alloc, self.grid(), &self.places, gone, fresh)?;
-        let note = Note::new(alloc, self.bucket(self.grid().bucket_of(p)), p)?;
+        let b = self.grid().bucket_of(p) as usize;
+        make_room(&mut self.places[b])?;
         self.exchange = Some(exchange);
-        self.note = Some(note);
+        self.note = Some(p);
         Ok(())
     }
 
@@ -268,8 +268,8 @@ impl Hold {
         ensures room { self.new.room ≡ record self.old.room { push = None } }
     {
         let b = self.grid().bucket_of(entry.edit.point()) as usize;
-        if let (Some(note), Some(bucket)) = (self.note.take(), self.places[b].take()) {
-            self.places[b] = Some(bucket.noted(note, entry));
+        if let (Some(_), Some(bucket)) = (self.note.take(), self.places[b].take()) {
+            self.places[b] = Some(bucket.noted(entry));
         }
     }
 }

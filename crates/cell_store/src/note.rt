@@ -1,64 +1,22 @@
-//! What a hold keeps ready, so that an entry takes no memory.
+//! The points and the entries of a bucket after an entry for which there is room.
 
 ghost use Rattle.std.specs.Prelude.{◌≡◌, ◌<◌, ◌≤◌, ◌∷◌, [], ◌++◌, IfOk, IfErr, OnOk, OnErr, length};
 ghost use Rattle.std.specs.List.{insert, remove};
+ghost use Rattle.std.specs.Vec.{vec_len, vec_capacity};
 ghost use Rattle.point_order.specs.Sets.{IsAscending, with_point as with, without_point};
 ghost use Rattle.edit_history.specs.Edits.{changed};
-ghost use Rattle.cell_store.specs.Buckets.{content_of};
-ghost use Rattle.cell_store.specs.Ready.{HasLists};
 
-use crate::bucket::Bucket;
 use edit_history::{Entry, Reply};
 use point_order::Point;
-use std::alloc::{AllocError, Global};
-use std::marker::Model;
 
-// The lists of the bucket of a point: its points with that point, and its entries, with room for one more.
-#[derive(Debug, Drop)]
-pub(crate) struct Note {
-    point: Point,
-    points: Vec<Point>,
-    entries: Vec<Entry>,
-}
-
-impl Model for Note {
-    ghost use Rattle.std.specs.Prelude.{◌<◌};
-    ghost use Rattle.std.specs.Vec.{vec_len, vec_capacity};
-    ghost use Rattle.cell_store.specs.Ready.{NoteLists};
-
-    ghost Value = { NoteLists };
-
-    ghost view = { λ n. record { point = n.point; points = n.points.items; entries = n.entries.items } };
-
-    ghost invariant = { λ n. vec_len n.entries < vec_capacity n.entries };
-}
-
-impl Note {
-    // For an entry of the point, which is one of the bucket's.
-    pub(crate) fn new(alloc: Global, bucket: &Bucket, p: Point) -> Result<Note, AllocError>
-        ensures point { IfOk result (λ note. note.point ≡ p) }
-        ensures lists { IfOk result (λ note. HasLists p (content_of bucket.now) note) }
-    {
-        let points = points_with(alloc, bucket.points(), p)?;
-        let mut entries = Vec::from_slice(alloc, bucket.entries())?;
-        entries.reserve(1)?;
-        Ok(Note {
-            point: p,
-            points,
-            entries,
-        })
-    }
-
-    // The points with the point, and the entries with this one last. It takes no memory.
-    pub(crate) fn into_lists(self, entry: Entry) -> (Vec<Point>, Vec<Entry>)
-        ensures points { result.0.items ≡ self.points }
-        ensures entries { result.1.items ≡ self.entries ++ entry ∷ [] }
-    {
-        let mut entries = self.entries;
-        match entries.extend_from_slice(&[entry]) {
-            Ok(()) => (self.points, entries),
-            Err(_) => unreachable!(),
-        }
+// The entries with one more, which comes last. It takes no memory.
+pub(crate) fn with_entry(mut entries: Vec<Entry>, entry: Entry) -> Vec<Entry>
+    requires { vec_len entries < vec_capacity entries }
+    ensures { result.items ≡ entries.items ++ entry ∷ [] }
+{
+    match entries.extend_from_slice(&[entry]) {
+        Ok(()) => entries,
+        Err(_) => unreachable!(),
     }
 }
 
@@ -73,37 +31,41 @@ fn search(points: &[Point], p: Point) -> Result<usize, usize>
     points.binary_search(&p)
 }
 
-// The points with one more, where it is not there.
-fn points_with(alloc: Global, points: &[Point], p: Point) -> Result<Vec<Point>, AllocError>
-    requires { IsAscending points.now }
-    ensures items { IfOk result (λ list. list.items ≡ with p points.now) }
+// The points with one more, where it is not there. It takes no memory.
+fn points_with(mut points: Vec<Point>, p: Point) -> Vec<Point>
+    requires order { IsAscending points.items }
+    requires room { vec_len points < vec_capacity points }
+    ensures { result.items ≡ with p points.items }
 {
-    let mut list = Vec::from_slice(alloc, points)?;
-    if let Err(i) = search(points, p) {
-        list.insert(i, p)?;
+    match search(&points, p) {
+        Ok(_) => points,
+        Err(i) => match points.insert(i, p) {
+            Ok(()) => points,
+            Err(_) => unreachable!(),
+        },
     }
-    Ok(list)
 }
 
-// The points after a reply, of which those with the point are ready.
-pub(crate) fn points_after(
-    mut points: Vec<Point>,
-    ready: Vec<Point>,
-    p: Point,
-    reply: Reply,
-) -> Vec<Point>
+// The points without one.
+fn points_without(mut points: Vec<Point>, p: Point) -> Vec<Point>
+    requires { IsAscending points.items }
+    ensures { result.items ≡ without_point p points.items }
+{
+    if let Ok(i) = search(&points, p) {
+        points.remove(i);
+    }
+    points
+}
+
+// The points after a reply. It takes no memory.
+pub(crate) fn points_after(points: Vec<Point>, p: Point, reply: Reply) -> Vec<Point>
     requires order { IsAscending points.items }
-    requires ready { ready.items ≡ with p points.items }
+    requires room { vec_len points < vec_capacity points }
     ensures { result.items ≡ changed points.items p reply }
 {
     match reply {
-        Reply::Inserted => ready,
-        Reply::Removed => {
-            if let Ok(i) = search(&points, p) {
-                points.remove(i);
-            }
-            points
-        }
+        Reply::Inserted => points_with(points, p),
+        Reply::Removed => points_without(points, p),
         Reply::Duplicate | Reply::Missing | Reply::Flat => points,
     }
 }

@@ -6,7 +6,7 @@ ghost use Rattle.point_order.specs.Sets.{IsIn, IsAscending};
 ghost use Rattle.cell_stars.specs.Gathering.{Gathers};
 ghost use Rattle.cell_stars.specs.Plans.{Allows};
 ghost use Rattle.cell_store.specs.Buckets.{layout_at};
-ghost use Rattle.cell_store.specs.Ready.{AreApart, AreInHand, HasNumber, IsAllowed, IsNumberOf, IsReady, IsReadyFor, carried, given, numbers_of};
+ghost use Rattle.cell_store.specs.Ready.{AreApart, AreInHand, AreRoomier, HasNumber, HasRoom, IsAllowed, IsNumberOf, IsReady, IsReadyFor, carried, given, numbers_of};
 ghost use Rattle.cell_store.specs.declared.room.PlanFor.{PlanFor};
 
 use crate::bucket::Bucket;
@@ -142,6 +142,18 @@ impl Exchange {
             fresh: Vec::from_slice(alloc, fresh)?,
             plans,
         })
+    }
+}
+
+// Makes room for an entry in the bucket, which is to be there.
+pub(crate) fn make_room(place: &mut Option<Bucket>) -> Result<(), AllocError>
+    requires { IsSome place.old }
+    ensures same { AreRoomier place.old place.new }
+    ensures room { OnOk result (IsSomeAnd place.new HasRoom) }
+{
+    match place {
+        Some(bucket) => bucket.make_room(),
+        None => unreachable!(),
     }
 }
 

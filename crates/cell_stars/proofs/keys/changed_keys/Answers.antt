@@ -1,8 +1,9 @@
-use Rattle.cell_stars.proofs.KeyLaws.{keys_begin, keys_step, keys_end}
+use Rattle.std.proofs.Common.{◌++◌, ◌∙◌, ap}
+use Rattle.cell_stars.proofs.KeyLaws.{Keys, keys_begin, keys_step, keys_end}
 use Rattle.cell_stars.proofs.keys.changed_keys.Goals as goal
 
 pub loop-n-init : goal.loop-n-init
-loop-n-init c = keys_begin c.args.keys.now c.in_ok-list.list.items c.args.writes.now c.in_ok-list.ensures.items c.requires.order
+loop-n-init c = keys_begin c.args.keys.now c.extend_from_slice.new.self.items c.args.writes.now (c.in_ok-extend_from_slice.ensures.items ∙ ap (λ (l : Keys). l ++ c.args.keys.now) c.in_ok-list.ensures.items) c.requires.order
 
 pub write_key-requires : goal.write_key-requires
 write_key-requires c = c.loop-n.invariant.order

@@ -1,4 +1,4 @@
-use Rattle.std.proofs.Common.{ap, subst, sym}
+use Rattle.std.proofs.Common.{ap, subst}
 use Rattle.cell_stars.specs.Stars.{cells_around}
 use Rattle.cell_store.specs.Others.{HaveNoOther, IsOtherOf}
 use Rattle.cell_store.proofs.Members.{not_true}

@@ -1,4 +1,3 @@
-use Rattle.std.proofs.Common.{◌≡◌}
 use Rattle.cell_store.proofs.StarLaws.{StillToCome}
 use Rattle.cell_stars.specs.Stars.{cells_around}
 use Rattle.cell_store.proofs.star.other_among.Given as goal

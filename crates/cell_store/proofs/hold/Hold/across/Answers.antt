@@ -1,5 +1,4 @@
 use Rattle.std.proofs.Common.{subst, sym, ◌∙◌, ap, refl, ℕ, List}
-use Rattle.point_order.specs.Sets.{IsIn}
 use Rattle.cell_store.specs.Buckets.{content_of}
 use Rattle.cell_store.specs.Grids.{bucket_of}
 use Rattle.cell_store.specs.Shares.{IsInHandFor, points_on}

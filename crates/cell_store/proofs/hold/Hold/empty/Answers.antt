@@ -1,6 +1,5 @@
-use Rattle.std.proofs.Common.{◌≡◌, ◌*◌, ◌∙◌, ap, sym, subst, length, arith, None, List, Option, ℕ}
-use Rattle.std.specs.Prelude.{replicate}
-use Rattle.cell_store.specs.Buckets.{InHand, StandAtPlaces, shown, no_room, Layout, Content}
+use Rattle.std.proofs.Common.{◌*◌, ◌∙◌, ap, sym, subst, length, List, Option}
+use Rattle.cell_store.specs.Buckets.{StandAtPlaces, shown, no_room, Content}
 use Rattle.cell_store.proofs.Layouts.{shown_none, empty_places, len_none, stand_nowhere}
 use Rattle.cell_store.proofs.hold.Hold.empty.Goals as goal
 

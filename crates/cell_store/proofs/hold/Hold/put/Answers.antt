@@ -1,8 +1,8 @@
-use Rattle.std.proofs.Common.{refl, sym, ◌∙◌, ap, subst, ◌<◌, ◌≡◌, ℕ, List, Option, length, Some, None}
+use Rattle.std.proofs.Common.{sym, ◌∙◌, ap, subst, ◌<◌, ◌≡◌, List, Option, length, Some, None}
 use Rattle.std.specs.Prelude.{slice_set}
 use Rattle.cell_store.specs.Buckets.{Content, FitsPlace, StandAtPlaces, at_place, bucket_at, content_of, layout_at, shown}
 use Rattle.cell_store.specs.Ready.{IsNoteReady, IsReady}
-use Rattle.cell_store.proofs.Layouts.{map_none, shown_at, shown_len, shown_set}
+use Rattle.cell_store.proofs.Layouts.{map_none, shown_at, shown_set}
 use Rattle.cell_store.proofs.NoteLaws.{hold_keeps, if_some, len_set, note_put, ready_put, stand_put}
 use Rattle.cell_store.proofs.hold.Hold.put.Goals as goal
 
@@ -22,7 +22,7 @@ invariant_of-self c =
     let set = shown_set places b x in (
       len_set places b x ∙ c.self.invariant.0,
       if_some (λ e. IsReady i.grid e.gone.items e.fresh.items places e.plans.items) _ i.exchange (λ e r. ready_put i.grid b e.gone.items e.fresh.items places e.plans.items x absent r) c.self.invariant.1,
-      if_some (λ n. IsNoteReady i.grid (shown places) n) _ i.note (λ n r. subst (λ l. IsNoteReady i.grid l n) (sym set) (note_put i.grid b (shown places) n (Some (content_of c.placed.result)) free r)) c.self.invariant.2,
+      if_some (λ n. IsNoteReady i.grid places n) _ i.note (λ n r. note_put i.grid b places n x absent r) c.self.invariant.2,
       subst (StandAtPlaces i.grid) (sym set) (stand_put i.grid b (shown places) (content_of c.placed.result) h (ap (λ z. z.cells.place) c.placed.ensures) c.self.invariant.3),
     )
 

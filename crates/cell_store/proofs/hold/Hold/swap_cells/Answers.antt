@@ -1,4 +1,4 @@
-use Rattle.std.proofs.Common.{◌≡◌, ◌*◌, ◌<◌, refl, sym, ◌∙◌, ap, subst, length, drop, IfSome}
+use Rattle.std.proofs.Common.{ℕ, ◌≡◌, ◌*◌, refl, sym, ◌∙◌, ap, subst, length, drop, IfSome}
 use Rattle.std.specs.Option.{option_map}
 use Rattle.cell_store.specs.Buckets.{StandAtPlaces, layout_at, shown}
 use Rattle.cell_store.specs.Ready.{IsAllowed, IsNoteReady, IsReady, given}
@@ -26,12 +26,13 @@ invariant_of-self c =
     let i = c.self.inside in
     let after = c.carry_all.new.places in
     let r = some_holds (λ e. IsReady i.grid e.gone.items e.fresh.items i.places.items e.plans.items) i.exchange x c.in-Some.ensures.value c.self.invariant.1 in
-    let f = swapped_places i.grid x.gone.items x.fresh.items i.places.items after x.plans.items r c.self.invariant.3 (λ b. c.carry_all.ensures b ∙ ap (λ l. given x.plans.items b (layout_at l b)) c.deref_mut.ensures.value) in
+    let given_are = λ (b : ℕ). c.carry_all.ensures b ∙ ap (λ l. given x.plans.items b (layout_at l b)) c.deref_mut.ensures.value in
+    let f = swapped_places i.grid x.gone.items x.fresh.items i.places.items after x.plans.items r c.self.invariant.3 given_are in
     let e = front_is after (drop (length after) i.places.items) i.places.len (i.places.ok.0 ∙ sym (ap length c.deref_mut.ensures.value) ∙ sym c.carry_all.auto.places) in
-    subst (λ ps. (length ps ≡ i.grid * i.grid * i.grid) × IfSome c.take.new.self (λ y. IsReady i.grid y.gone.items y.fresh.items ps y.plans.items) × IfSome i.note (λ n. IsNoteReady i.grid (shown ps) n) × StandAtPlaces i.grid (shown ps)) (sym e) (
+    subst (λ ps. (length ps ≡ i.grid * i.grid * i.grid) × IfSome c.take.new.self (λ y. IsReady i.grid y.gone.items y.fresh.items ps y.plans.items) × IfSome i.note (λ n. IsNoteReady i.grid ps n) × StandAtPlaces i.grid (shown ps)) (sym e) (
       c.carry_all.auto.places ∙ ap length c.deref_mut.ensures.value ∙ c.self.invariant.0,
       if_none _ _ c.take.ensures.after,
-      if_some (λ n. IsNoteReady i.grid (shown i.places.items) n) (λ n. IsNoteReady i.grid (shown after) n) i.note (λ n k. note_swapped i.grid x.gone.items x.fresh.items (shown i.places.items) (shown after) n f k) c.self.invariant.2,
+      if_some (λ n. IsNoteReady i.grid i.places.items n) (λ n. IsNoteReady i.grid after n) i.note (λ n k. note_swapped i.grid i.places.items after x.plans.items n given_are k) c.self.invariant.2,
       stand_swapped i.grid x.gone.items x.fresh.items (shown i.places.items) (shown after) f c.self.invariant.3,
     )
 

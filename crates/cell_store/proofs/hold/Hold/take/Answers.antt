@@ -1,6 +1,6 @@
-use Rattle.std.proofs.Common.{refl, sym, ap, subst, ◌<◌, ◌≡◌, ◌∙◌, List, Option, length, None, Some}
+use Rattle.std.proofs.Common.{sym, ap, subst, ◌<◌, ◌∙◌, List, Option, length, None, Some}
 use Rattle.std.specs.Prelude.{slice_set}
-use Rattle.cell_store.specs.Buckets.{Content, StandAtPlaces, bucket_at, content_of, layout_at, shown}
+use Rattle.cell_store.specs.Buckets.{Content, StandAtPlaces, content_of, shown}
 use Rattle.cell_store.proofs.Layouts.{shown_is, shown_len, shown_set}
 use Rattle.cell_store.proofs.Members.{within}
 use Rattle.cell_store.proofs.RoomLaws.{in_hand_below}

@@ -1,7 +1,7 @@
 use Rattle.std.proofs.Common.{subst, ap, ◌∙◌}
 use Rattle.cell_stars.specs.Places.{AreStars}
 use Rattle.cell_stars.proofs.MoveLaws.{in_no_star, untouched}
-use Rattle.cell_stars.proofs.cells.Cells.place_of_cell.Goals as goal
+use Rattle.cell_stars.proofs.cells.Cells.place_in_star.Goals as goal
 
 pub returns-in-Some : goal.returns-in-Some
 returns-in-Some c =

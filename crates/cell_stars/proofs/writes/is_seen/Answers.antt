@@ -1,0 +1,13 @@
+use Rattle.std.proofs.Common.{◌≡◌, ◌∙◌, ℕ, Bool, true, eqb, sym, subst, get_or, arith}
+use Rattle.std.proofs.lemmas.Bool.Decides.{nat_tests}
+use Rattle.point_order.specs.Sets.{IsIn}
+use Rattle.cell_stars.proofs.Members.{at_place}
+use Rattle.cell_stars.proofs.writes.is_seen.Goals as goal
+
+same : (n m : ℕ) → eqb n m ≡ true → n ≡ m
+same n m = grind (arith, nat_tests)
+
+pub returns : goal.returns
+returns c t =
+    subst (λ (q : ℕ). IsIn q c.args.list.now) (same c.index-list-at.result c.args.p (sym c.eq.ensures ∙ t))
+    (at_place c.args.list.now (get_or c.args.seen.now c.rest_of.result 0) c.index-list-at.result c.index-list-at.result c.if-at-list.false c.index-list-at.is)

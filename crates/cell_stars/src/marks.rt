@@ -1,0 +1,33 @@
+//! Marks of numbers, by which most numbers that are not in a list are told at once.
+
+ghost use Rattle.std.specs.Prelude.{◌≡◌};
+ghost use Rattle.point_order.specs.Sets.{IsAscending, is_among};
+ghost use Rattle.cell_stars.specs.Moves.{AreMarked};
+
+use crate::moves::has_number;
+
+// The marks of numbers, each at the rest of a division by 256.
+pub(crate) type Marks = [bool; 256];
+
+// The marks of the numbers of a list.
+pub(crate) fn marks_of(list: &[u32]) -> Marks
+    ensures { AreMarked result list.now }
+{
+    let mut marks = [false; 256];
+    for i in list {
+        marks[(*i % 256) as usize] = true;
+    }
+    marks
+}
+
+// Whether the number is one of the list, which has these marks.
+pub(crate) fn has_marked(list: &[u32], marks: &Marks, i: u32) -> bool
+    requires order { IsAscending list.now }
+    requires marks { AreMarked marks.now list.now }
+    ensures { result ≡ is_among i list.now }
+{
+    if !marks[(i % 256) as usize] {
+        return false;
+    }
+    has_number(list, i)
+}
