@@ -13,7 +13,7 @@ use Rattle.point_order.specs.Sets.{IsIn, IsAscending, IsBelowFirst}
 use Rattle.point_order.proofs.SetLaws.{below-each}
 use Rattle.del_laws.proofs.Listed.{in_right, from_append}
 use Rattle.cell_stars.specs.Places.{Placed, AreStars, IsStarred, at, lies_in, touches_in}
-use Rattle.cell_stars.specs.Moves.{IsStarFor, AreFreed, IsFreed, AreComing, IsComing, Stays, IsVacant, IsBare}
+use Rattle.cell_stars.specs.Moves.{IsStarFor, AreFreed, IsFreed, AreComing, IsComing, Stays, IsVacant, IsClear}
 use Rattle.std.proofs.lemmas.Bool.Decides.{nat_tests}
 use Rattle.del_laws.proofs.Tests.{any_from, any_true, among_from, among_true}
 use Rattle.point_order.specs.Sets.{is_among}
@@ -119,15 +119,24 @@ pub stays_is : (b : Placed) (freed : List ℕ) (c : Cell) (i : ℕ) (r : Bool) �
 stays_is b freed c i true a e f = λ t j g. subst (λ k. IsIn k freed) (a.once i j c e g) (among_from i freed (sym f))
 stays_is b freed c i false a e f = record { place = i; there = e; kept = λ m. (let t = among_true i freed m in absurd (cc (f, t))) }
 
--- ---- vertices with no star
+-- ---- vertices that are clear of a point
 
-pub bare_by : (b : Placed) (p : ℕ) (star : List ℕ) → lies_in b.place p ≡ true → (length star == 0) ≡ true → ((i : ℕ) → (IsIn i star → IsStarred b.keys b.stars p i) × (IsStarred b.keys b.stars p i → IsIn i star)) → IsBare b p
-bare_by b p [] l e f = record { inside = l; none = λ i s. (f i).1 s }
-bare_by b p (x ∷ star) l e f = (let t = zero_of (length (x ∷ star)) e in absurd (omega (arith, t)))
+-- a place whose cell does not have the point
+pub lacks_here : (slots : List (Option Cell)) (x p : ℕ) (cell : Cell) (r : Bool) → at slots x ≡ Some cell → r ≡ is_among p (points_of cell) → r ≡ false → (c : Cell) → at slots x ≡ Some c → IsIn p (points_of c) → ⊥
+lacks_here slots x p cell r e f g c h m =
+    let same : Some cell ≡ Some c = sym e ∙ h in
+    let t = among_true p (points_of cell) (subst (λ d. IsIn p (points_of d)) (sym (let u : cell ≡ c = cc same in u)) m) in
+    absurd (cc (f, g, t))
 
--- a cell with such a vertex stands nowhere
-pub bare_nowhere : (b : Placed) (p i : ℕ) (c : Cell) → AreStars b → IsBare b p → is_among p (points_of c) ≡ true → at b.slots i ≡ Some c → ⊥
-bare_nowhere b p i c a f h e = f.none i (a.listed p i c e (among_from p (points_of c) h) f.inside)
+pub clear_by : (b : Placed) (slots : List (Option Cell)) (p q : ℕ) (star : List ℕ) → slots ≡ b.slots → lies_in b.place q ≡ true → ((i : ℕ) → IsIn i star → (c : Cell) → at slots i ≡ Some c → IsIn p (points_of c) → ⊥) → ((i : ℕ) → (IsIn i star → IsStarred b.keys b.stars q i) × (IsStarred b.keys b.stars q i → IsIn i star)) → IsClear b p q
+clear_by b slots p q star e l n f = record { inside = l; apart = λ i c s h m. n i ((f i).1 s) c (ap (λ k. at k i) e ∙ h) m }
+
+pub clear_pushed : (b : Placed) (p : ℕ) (old new : List ℕ) (x : ℕ) → new ≡ old ++ x ∷ [] → IsClear b p x → ((q : ℕ) → IsIn q old → IsClear b p q) → (q : ℕ) → IsIn q new → IsClear b p q
+clear_pushed b p old new x e k f q m = elim (in_pushed old new x q e m) [ inl i ↦ f q i | inr s ↦ subst (IsClear b p) s k ]
+
+-- a cell with the point and such a vertex stands nowhere
+pub clear_nowhere : (b : Placed) (p q i : ℕ) (c : Cell) → AreStars b → IsClear b p q → is_among p (points_of c) ≡ true → is_among q (points_of c) ≡ true → at b.slots i ≡ Some c → ⊥
+clear_nowhere b p q i c a f h k e = f.apart i c (a.listed q i c e (among_from q (points_of c) k) f.inside) e (among_from p (points_of c) h)
 
 -- ---- what is freed
 

@@ -42,10 +42,10 @@ pub record AreComing (b : Placed) (freed : List ℕ) (fresh coming : List Cell) 
   pub each : (c : Cell) → IsIn c coming → IsComing b freed fresh c
   pub all : (c : Cell) → IsIn c fresh → touches_in b.place c ≡ true → IsIn c coming ⊎ Stays b freed c
 
--- the point lies in the bucket, and no cell stands in its star
-pub record IsBare (b : Placed) (p : ℕ) : Type 0 where
-  pub inside : lies_in b.place p ≡ true
-  pub none : (i : ℕ) → IsStarred b.keys b.stars p i → ⊥
+-- a vertex in the bucket, around which no cell has the point
+pub record IsClear (b : Placed) (p q : ℕ) : Type 0 where
+  pub inside : lies_in b.place q ≡ true
+  pub apart : (i : ℕ) (c : Cell) → IsStarred b.keys b.stars q i → at b.slots i ≡ Some c → IsIn p (points_of c) → ⊥
 
 -- a place for a cell: one that is freed, or has none
 abbrev pub IsVacant : List (Option Cell) → List ℕ → ℕ → Type 0

@@ -9,7 +9,7 @@ ghost use Rattle.point_order.specs.Facets.{points_of};
 ghost use Rattle.point_order.specs.Sets.{IsIn, IsAscending, is_among};
 ghost use Rattle.cell_stars.specs.Places.{at, lies_in, touches_in};
 ghost use Rattle.cell_stars.specs.Plans.{AreFor};
-ghost use Rattle.cell_stars.specs.Moves.{IsStarFor, AreFreed, AreComing, IsVacant, IsBare, Stays};
+ghost use Rattle.cell_stars.specs.Moves.{IsStarFor, AreFreed, AreComing, IsVacant, IsClear, Stays};
 
 use crate::cells::Cells;
 use crate::order::{are_same, cells_in_order, has_vertex, numbers_in_order, touches};
@@ -51,6 +51,32 @@ fn place_among(slots: &[Option<Cell>], star: &[u32], cell: &Cell) -> Option<u32>
         }
     }
     None
+}
+
+// Whether no cell at these places has the point.
+fn none_has(slots: &[Option<Cell>], star: &[u32], p: Point) -> bool
+    ensures { IsTrue result → (i : ℕ) → IsIn i star.now → (c : Cell) → at slots.now i ≡ Some c → IsIn p (points_of c) → ⊥ }
+{
+    for i in star {
+        if let Some(cell) = cell_at(slots, *i) {
+            if has_vertex(cell, p) {
+                return false;
+            }
+        }
+    }
+    true
+}
+
+// Whether one of these points is a vertex of the cell.
+fn meets(cell: &Cell, points: &[Point]) -> bool
+    ensures { IsTrue result → (q : ℕ) × IsIn q points.now × (is_among q (points_of cell.now) ≡ true) }
+{
+    for q in points {
+        if has_vertex(cell, *q) {
+            return true;
+        }
+    }
+    false
 }
 
 // Whether no cell stands at the place.
@@ -231,50 +257,101 @@ impl Cells {
         Ok(numbers_in_order(freed))
     }
 
-    // Whether the point lies in the bucket and has no star.
-    fn is_bare(&self, p: Point) -> bool
-        ensures { IsTrue result → IsBare self.now p }
-    {
-        self.has_here(p) && self.star_of(p).is_empty()
+    // Whether the point lies in the bucket and has a star.
+    fn has_star(&self, p: Point) -> bool {
+        self.has_here(p) && !self.star_of(p).is_empty()
     }
 
-    // A vertex of the first of the cells that lies in the bucket and has no star, if there is one. A new point is such.
-    fn bare_vertex(&self, cells: &[Cell]) -> Option<Point>
-        ensures { IfSome result (λ p. IsBare self.now p) }
-    {
-        for p in cells.first()?.points() {
-            if self.is_bare(*p) {
+    // A vertex of the first, the middle and the last of the cells that has no star, if there is one. A new point is such.
+    fn new_vertex(&self, cells: &[Cell]) -> Option<Point> {
+        let first = cells.first()?;
+        let middle = cells.get(cells.len() / 2)?;
+        let last = cells.last()?;
+        for p in first.points() {
+            if has_vertex(middle, *p) && has_vertex(last, *p) && !self.has_star(*p) {
                 return Some(*p);
             }
         }
         None
     }
 
-    // Whether the cell stands at a place that is not freed. A cell with a bare vertex stands nowhere.
-    fn stays(&self, cell: &Cell, freed: &[u32], bare: &Option<Point>) -> bool
+    // Whether the vertex lies in the bucket, and no cell around it has the point.
+    fn is_clear(&self, q: Point, p: Point) -> bool
+        ensures { IsTrue result → IsClear self.now p q }
+    {
+        self.has_here(q) && none_has(&self.slots, self.star_of(q), p)
+    }
+
+    // A vertex of the cell that is clear of the point, if there is one.
+    fn clear_vertex(&self, cell: &Cell, p: Point) -> Option<Point>
+        ensures { IfSome result (λ q. IsClear self.now p q) }
+    {
+        for q in cell.points() {
+            if self.is_clear(*q, p) {
+                return Some(*q);
+            }
+        }
+        None
+    }
+
+    // Vertices that are clear of the point, one of each of these cells that has the point, as far as there are such.
+    fn clear_of(&self, alloc: Global, cells: &[Cell], p: Point) -> Result<Vec<Point>, AllocError>
+        ensures { IfOk result (λ list. (q : ℕ) → IsIn q list.items → IsClear self.now p q) }
+    {
+        let mut list = Vec::new(alloc);
+        if self.is_clear(p, p) {
+            list.push(p)?;
+        }
+        for c in cells {
+            if has_vertex(c, p) && !meets(c, &list) {
+                if let Some(q) = self.clear_vertex(c, p) {
+                    list.push(q)?;
+                }
+            }
+        }
+        Ok(list)
+    }
+
+    // The same, if there is a point.
+    fn clear_vertices(
+        &self,
+        alloc: Global,
+        cells: &[Cell],
+        p: &Option<Point>,
+    ) -> Result<Vec<Point>, AllocError>
+        ensures { IfOk result (λ list. IfSome p.now (λ p. (q : ℕ) → IsIn q list.items → IsClear self.now p q)) }
+    {
+        match p {
+            Some(p) => self.clear_of(alloc, cells, *p),
+            None => Ok(Vec::new(alloc)),
+        }
+    }
+
+    // Whether the cell stands at a place that is not freed. One with the point and a vertex that is clear of it stands nowhere.
+    fn stays(&self, cell: &Cell, freed: &[u32], p: &Option<Point>, clear: &[Point]) -> bool
         requires order { IsAscending freed.now }
-        requires bare { IfSome bare.now (λ p. IsBare self.now p) }
+        requires clear { IfSome p.now (λ p. (q : ℕ) → IsIn q clear.now → IsClear self.now p q) }
         ensures { MatchBool result (Stays self.now freed.now cell.now) (touches_in self.now.place cell.now ≡ true → (i : ℕ) → at self.now.slots i ≡ Some cell.now → IsIn i freed.now) }
     {
         let _ = &self.slots;
-        if let Some(p) = bare {
-            if has_vertex(cell, *p) {
+        if let Some(p) = p {
+            if has_vertex(cell, *p) && meets(cell, clear) {
                 return false;
             }
         }
-        match self.place_of_cell(cell) {
+        match self.place_in_star(cell) {
             Some(i) => !has_number(freed, i),
             None => false,
         }
     }
 
     // Whether the cell touches the bucket and does not stay there.
-    fn comes(&self, cell: &Cell, freed: &[u32], bare: &Option<Point>) -> bool
+    fn comes(&self, cell: &Cell, freed: &[u32], p: &Option<Point>, clear: &[Point]) -> bool
         requires order { IsAscending freed.now }
-        requires bare { IfSome bare.now (λ p. IsBare self.now p) }
+        requires clear { IfSome p.now (λ p. (q : ℕ) → IsIn q clear.now → IsClear self.now p q) }
         ensures { MatchBool result ((touches_in self.now.place cell.now ≡ true) × ((i : ℕ) → at self.now.slots i ≡ Some cell.now → IsIn i freed.now)) (touches_in self.now.place cell.now ≡ true → Stays self.now freed.now cell.now) }
     {
-        self.is_touched_by(cell) && !self.stays(cell, freed, bare)
+        self.is_touched_by(cell) && !self.stays(cell, freed, p, clear)
     }
 
     // The fresh cells that touch the bucket and do not stay there, in order.
@@ -283,16 +360,17 @@ impl Cells {
         alloc: Global,
         fresh: &[Cell],
         freed: &[u32],
-        bare: &Option<Point>,
+        p: &Option<Point>,
+        clear: &[Point],
     ) -> Result<Vec<Cell>, AllocError>
         requires order { IsAscending freed.now }
-        requires bare { IfSome bare.now (λ p. IsBare self.now p) }
+        requires clear { IfSome p.now (λ p. (q : ℕ) → IsIn q clear.now → IsClear self.now p q) }
         ensures order { IfOk result (λ coming. IsStrictlySortedBy cell_cmp coming.items) }
         ensures coming { IfOk result (λ coming. AreComing self.now freed.now fresh.now coming.items) }
     {
         let mut coming = Vec::with_capacity(alloc, fresh.len())?;
         for c in fresh {
-            if self.comes(c, freed, bare) {
+            if self.comes(c, freed, p, clear) {
                 coming.push(*c)?;
             }
         }
@@ -310,8 +388,9 @@ impl Cells {
         ensures made { IfOk result (λ moves. AreFor gone.now fresh.now moves.freed.items moves.placed.items self.now) }
     {
         let freed = self.freed_by(alloc, gone)?;
-        let bare = self.bare_vertex(fresh);
-        let coming = self.coming_by(alloc, fresh, &freed, &bare)?;
+        let p = self.new_vertex(fresh);
+        let clear = self.clear_vertices(alloc, fresh, &p)?;
+        let coming = self.coming_by(alloc, fresh, &freed, &p, &clear)?;
         let places = places_for(
             alloc,
             &self.slots,
