@@ -7,3 +7,5 @@ pub mod Linked
 pub mod Taken
 pub mod Holes
 pub mod Turning
+pub mod Apexes
+pub mod Wrapping

@@ -1,6 +1,7 @@
 -- The cells at a point, and the buckets that they need.
-use Rattle.std.specs.Prelude.{◌≡◌, ℕ, List}
+use Rattle.std.specs.Prelude.{◌≡◌, ℕ, ◌↔◌, List}
 use Rattle.std.specs.List.{filter}
+use Rattle.std.specs.List.Sorted.{IsStrictlySortedBy}
 use Rattle.std.proofs.Common.{sym, subst}
 use Rattle.std.proofs.lemmas.List.Kept.{IsStrictlySortedBy-filter}
 use Rattle.conv_laws.specs.Lists.{AreDistinct}
@@ -9,10 +10,17 @@ use Rattle.point_order.specs.CellOrder.{cell_cmp}
 use Rattle.point_order.specs.Complex.{complex}
 use Rattle.point_order.specs.Facets.{points_of}
 use Rattle.point_order.specs.Sets.{IsIn, IsAscending, is_among}
-use Rattle.del_laws.proofs.Ordered.{complex_is_sorted}
+use Rattle.del_laws.proofs.Ordered.{complex_is_sorted, same_members}
+use Rattle.cell_store.specs.Swaps.{AreSameCells}
 use Rattle.del_laws.proofs.Tests.{filtered_from, filtered_true, among_from, among_true}
 use Rattle.vertex_removal.specs.Near.{IsStar}
 use Rattle.vertex_removal.proofs.Once.{sorted_once}
+
+-- the cells at v, put in order
+pub star_sorted : (s : List ℕ) (v : ℕ) (around star : List Cell) → IsAscending s → ((c : Cell) → IsIn c around ↔ IsIn c (filter (λ c. is_among v (points_of c)) (complex s))) → IsStrictlySortedBy cell_cmp star → AreSameCells around star → star ≡ filter (λ c. is_among v (points_of c)) (complex s)
+star_sorted s v around star a k o e =
+    same_members star (filter (λ c. is_among v (points_of c)) (complex s)) o (IsStrictlySortedBy-filter cell_cmp (λ c. is_among v (points_of c)) (complex s) (complex_is_sorted s a))
+    (λ c i. (k c).0 (e.1 c i)) (λ c i. e.0 c ((k c).1 i))
 
 -- the list of the cells at v
 pub star_list : (s : List ℕ) (v : ℕ) (star : List Cell) → star ≡ filter (λ c. is_among v (points_of c)) (complex s) → IsStar s v star

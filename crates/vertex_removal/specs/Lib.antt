@@ -1,3 +1,4 @@
 pub mod Refills
 pub mod Turns
 pub mod Near
+pub mod Wraps

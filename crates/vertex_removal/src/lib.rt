@@ -6,11 +6,13 @@
 //! these are flat too, the rest is. `docs/GEOMETRY.md` tells the laws. The definitions stand in `specs/`.
 #![tactic(auto)]
 
+mod apex;
 pub mod laws;
 mod near;
 mod ordered;
 mod refill;
 mod small_mesh;
+mod wrap;
 
 pub use ordered::points_in_order;
 pub use refill::{Refill, RefillTurn};

@@ -15,7 +15,7 @@ ghost use Rattle.vertex_removal.specs.Near.{IsStar, ShowsStar, ArePointsBut, Are
 
 use crate::ordered::points_in_order;
 use cell_conflict::cell_across;
-use cell_store::Hold;
+use cell_store::{Hold, cells_in_order};
 use edit_history::find_four;
 use point_order::{Cell, Point};
 use std::alloc::{AllocError, Global};
@@ -26,10 +26,10 @@ pub(crate) fn star_of(alloc: Global, hold: &Hold, v: Point) -> Result<Vec<Cell>,
     ensures { IfOk result (λ star. (s : List ℕ) → Shows hold.now s → star.items ≡ filter (λ c. is_among v (points_of c)) (complex s)) }
 {
     let mut star = Vec::new(alloc);
-    for cell in hold.cells_at(v) {
+    for cell in hold.cells_around(v) {
         star.push(*cell)?;
     }
-    Ok(star)
+    Ok(cells_in_order(star))
 }
 
 // The points of all these cells.

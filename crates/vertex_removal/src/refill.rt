@@ -5,13 +5,16 @@ ghost use Rattle.cell_store.specs.Buckets.{bucket_at};
 ghost use Rattle.cell_store.specs.Grids.{bucket_of};
 ghost use Rattle.cell_store.specs.Meshes.{AllInHand};
 ghost use Rattle.cell_store.specs.Shares.{Shows};
+ghost use Rattle.vertex_removal.specs.Near.{AreTaken};
 ghost use Rattle.vertex_removal.specs.Turns.{ShowsWithPoint, RefillGives, AsksBelow, AsksNothing};
+ghost use Rattle.vertex_removal.specs.Wraps.{IsHole};
 
 use crate::near::{near_set, star_of};
 use crate::small_mesh::cells_taken;
+use crate::wrap::cells_wrapped;
 use cavity::{Fresh, missing_bucket};
 use cell_store::Hold;
-use point_order::Point;
+use point_order::{Cell, Point};
 use std::alloc::{AllocError, Global};
 use std::marker::Model;
 
@@ -40,6 +43,22 @@ pub enum RefillTurn {
     Flat,
     /// The bucket with this number is not in hand, and has a finite point of a cell at the point.
     Need(u32),
+}
+
+// The cells that v takes away from the complex of the points near it, by wrapping the hole or from the mesh of these points.
+fn cells_coming(
+    alloc: Global,
+    points: &[Point],
+    v: Point,
+    star: &[Cell],
+) -> Result<Vec<Cell>, AllocError>
+    requires { IsHole points.now v star.now }
+    ensures { IfOk result (λ cells. AreTaken points.now v cells.items) }
+{
+    match cells_wrapped(alloc, points, v, star)? {
+        Some(cells) => Ok(cells),
+        None => cells_taken(alloc, points, v),
+    }
 }
 
 impl Refill {
@@ -75,7 +94,7 @@ impl Refill {
         }
         match near_set(alloc, hold, v, &gone)? {
             Some(near) => {
-                let fresh = cells_taken(alloc, &near, v)?;
+                let fresh = cells_coming(alloc, &near, v, &gone)?;
                 Ok(RefillTurn::Done(Fresh { gone, fresh }))
             }
             None => Ok(RefillTurn::Flat),

@@ -1,10 +1,9 @@
-use Rattle.std.proofs.Common.{refl, sym, ◌≡◌, ◌∙◌, subst, List, ℕ, true, false}
+use Rattle.std.proofs.Common.{sym, ◌≡◌, ◌∙◌, subst, List, ℕ, false}
 use Rattle.std.specs.Prelude.{MatchOption}
 use Rattle.point_order.specs.declared.cell.Cell.{Cell}
-use Rattle.point_order.specs.Sets.{IsIn, IsAscending, without_point}
+use Rattle.point_order.specs.Sets.{IsIn, without_point}
 use Rattle.point_order.specs.Solid.{is_solid}
 use Rattle.hole_laws.specs.Edits.{IsLinkSet}
-use Rattle.hole_laws.proofs.Rest.{without_from}
 use Rattle.cell_store.specs.Ready.{AreHeld}
 use Rattle.cavity.specs.Exploring.{IsCellMissing}
 use Rattle.cavity.proofs.Held.{at_none}
@@ -33,26 +32,19 @@ near_set-requires c =
       star_is = star_list r.0 c.self.inside.point c.deref-2.result.now (c.deref-2.ensures.value ∙ c.in_ok-gone.ensures r.0 r.1);
     }
 
-pub cells_taken-requires-clause-ascending : goal.cells_taken-requires-clause-ascending
-cells_taken-requires-clause-ascending c =
+pub cells_coming-requires : goal.cells_coming-requires
+cells_coming-requires c =
     let r = c.requires.shown in
-    let m = subst (λ (v : ℕ). IsIn v r.0) (sym c.self.view_is) r.2 in
-    let l = subst (λ o. MatchOption o (is_solid (without_point c.self.inside.point r.0) ≡ false) (λ t. IsLinkSet r.0 c.self.inside.point t.items)) c.in-Some-2.is (c.in_ok-near.ensures r.0 r.1 m (star_list r.0 c.self.inside.point c.deref-2.result.now (c.deref-2.ensures.value ∙ c.in_ok-gone.ensures r.0 r.1))) in
-    subst (λ (t : List ℕ). IsAscending t) (sym c.deref-in-Some-2.ensures.value) l.solid.set.ascending
-
-pub cells_taken-requires-clause-solid : goal.cells_taken-requires-clause-solid
-cells_taken-requires-clause-solid c =
-    let r = c.requires.shown in
-    let m = subst (λ (v : ℕ). IsIn v r.0) (sym c.self.view_is) r.2 in
-    let l = subst (λ o. MatchOption o (is_solid (without_point c.self.inside.point r.0) ≡ false) (λ t. IsLinkSet r.0 c.self.inside.point t.items)) c.in-Some-2.is (c.in_ok-near.ensures r.0 r.1 m (star_list r.0 c.self.inside.point c.deref-2.result.now (c.deref-2.ensures.value ∙ c.in_ok-gone.ensures r.0 r.1))) in
-    subst (λ (t : List ℕ). is_solid t ≡ true) (sym c.deref-in-Some-2.ensures.value) l.solid.solid
-
-pub cells_taken-requires-clause-absent : goal.cells_taken-requires-clause-absent
-cells_taken-requires-clause-absent c i =
-    let r = c.requires.shown in
-    let m = subst (λ (v : ℕ). IsIn v r.0) (sym c.self.view_is) r.2 in
-    let l = subst (λ o. MatchOption o (is_solid (without_point c.self.inside.point r.0) ≡ false) (λ t. IsLinkSet r.0 c.self.inside.point t.items)) c.in-Some-2.is (c.in_ok-near.ensures r.0 r.1 m (star_list r.0 c.self.inside.point c.deref-2.result.now (c.deref-2.ensures.value ∙ c.in_ok-gone.ensures r.0 r.1))) in
-    (without_from c.self.inside.point r.0 c.self.inside.point (l.inside c.self.inside.point (subst (λ (t : List ℕ). IsIn c.self.inside.point t) c.deref-in-Some-2.ensures.value i))).1 refl
+    let v = c.self.inside.point in
+    let m = subst (λ (x : ℕ). IsIn x r.0) (sym c.self.view_is) r.2 in
+    let near = subst (λ o. MatchOption o (is_solid (without_point v r.0) ≡ false) (λ t. IsLinkSet r.0 v t.items)) c.in-Some-2.is (c.in_ok-near.ensures r.0 r.1 m (star_list r.0 v c.deref-2.result.now (c.deref-2.ensures.value ∙ c.in_ok-gone.ensures r.0 r.1))) in
+    record {
+      set = r.0;
+      is_set = (solid_set c.args.hold.now r.0 r.1).set;
+      has_v = m;
+      link = subst (λ (t : List ℕ). IsLinkSet r.0 v t) (sym c.deref-in-Some-2.ensures.value) near;
+      star_is = star_list r.0 v c.deref-in-Some-2-2.result.now (c.deref-in-Some-2-2.ensures.value ∙ c.in_ok-gone.ensures r.0 r.1);
+    }
 
 pub returns-clause-turn : goal.returns-clause-turn
 returns-clause-turn c =
