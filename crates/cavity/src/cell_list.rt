@@ -9,6 +9,9 @@ use std::alloc::{AllocError, Global};
 use std::collections::HashSet;
 use std::marker::Model;
 
+// As many cells as a new point mostly takes away at the most: room for them is made at once.
+const USUAL: usize = 48;
+
 // The cells in the order in which they came, and as a set. Contracts see it as the list.
 #[derive(Debug, Drop)]
 pub(crate) struct CellList {
@@ -30,20 +33,20 @@ impl Model for CellList {
 
 impl CellList {
     // The list without a cell.
-    fn empty(alloc: Global) -> CellList
-        ensures { result ≡ [] }
+    fn empty(alloc: Global) -> Result<CellList, AllocError>
+        ensures { IfOk result (λ list. list ≡ []) }
     {
-        CellList {
-            list: Vec::new(alloc),
-            set: HashSet::new(alloc),
-        }
+        Ok(CellList {
+            list: Vec::with_capacity(alloc, USUAL)?,
+            set: HashSet::with_capacity(alloc, USUAL)?,
+        })
     }
 
     // The list of one cell.
     pub(crate) fn new(alloc: Global, cell: Cell) -> Result<CellList, AllocError>
         ensures { IfOk result (λ list. list ≡ cell ∷ []) }
     {
-        let mut list = CellList::empty(alloc);
+        let mut list = CellList::empty(alloc)?;
         list.push(&cell)?;
         Ok(list)
     }

@@ -13,6 +13,9 @@ use point_order::{Cell, Facet, Point};
 use std::alloc::{AllocError, Global};
 use std::marker::Model;
 
+// As many rim facets as a dig mostly meets at the most: room for them is made at once.
+const RIM: usize = 64;
+
 /// The search for the cells that a new point takes away.
 ///
 /// Contracts see it as a plain record: its point, the cells found, how many of them were explored, and the facets of these behind
@@ -56,7 +59,7 @@ impl Dig {
             point: p,
             found: CellList::new(alloc, cell)?,
             explored: 0,
-            rim: Vec::new(alloc),
+            rim: Vec::with_capacity(alloc, RIM)?,
         })
     }
 
