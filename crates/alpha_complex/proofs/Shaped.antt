@@ -9,9 +9,8 @@ use Rattle.point_order.specs.Complex.{complex}
 use Rattle.point_order.specs.Sets.{IsIn, IsAscending}
 use Rattle.del_laws.specs.Keys.{AreKeys}
 use Rattle.del_laws.proofs.Listed.{mapped_from}
-use Rattle.face_list.specs.declared.face.Faces.{Faces}
 use Rattle.face_list.specs.Faces.{full_cells, parts_in, cells_with, with_cells}
-use Rattle.face_list.specs.Seen.{points_seen, pairs_seen, triples_seen}
+use Rattle.face_list.specs.Seen.{FaceLists}
 use Rattle.face_list.proofs.FullCells.{listed_is_full_cell}
 use Rattle.face_list.proofs.FaceLaws.{listed_is_part, points_of_complex}
 use Rattle.alpha_complex.specs.Admitted.{is_within, is_admitted}
@@ -25,15 +24,15 @@ use Rattle.alpha_complex.proofs.Admission.{Linked, small_cells, small_triples, a
 -- ---- conditions
 
 -- the cells within alpha are in order
-pub cells_ordered : (faces : Faces) (alpha : ℕ) → AreFaces faces → IsStrictlySortedBy (slice_cmp nat_cmp) (filter (is_within alpha) faces.cells.items)
+pub cells_ordered : (faces : FaceLists) (alpha : ℕ) → AreFaces faces → IsStrictlySortedBy (slice_cmp nat_cmp) (filter (is_within alpha) (full_cells faces.cells))
 cells_ordered faces alpha h = rw h.1.cells (small_cells_in_order h.0 alpha h.1.ascending)
 
 -- the small triples too
-pub triples_ordered : (faces : Faces) (alpha : ℕ) → AreFaces faces → IsStrictlySortedBy (slice_cmp nat_cmp) (small_among alpha (triples_seen faces.triples.items))
+pub triples_ordered : (faces : FaceLists) (alpha : ℕ) → AreFaces faces → IsStrictlySortedBy (slice_cmp nat_cmp) (small_among alpha faces.triples)
 triples_ordered faces alpha h = rw h.1.triples (small_in_order alpha 3 (complex h.0))
 
 -- the pairs are pairs
-pub pairs_are : (faces : Faces) → AreFaces faces → ArePairs (pairs_seen faces.pairs.items)
+pub pairs_are : (faces : FaceLists) → AreFaces faces → ArePairs faces.pairs
 pairs_are faces h = record { two = λ f i. of_two f (subst (λ (v : List (List ℕ × List Cell)). IsIn f v) h.1.pairs i) }
   where
     -- each is one that is listed
@@ -50,28 +49,28 @@ linked : (s : List ℕ) (alpha : ℕ) → IsAscending s → AreKeys s → Linked
 linked s alpha a keys = record { ascending = a; small = λ k p i. small_by_link s alpha k p a keys i }
 
 -- the cells
-pub cells_are : (s : List ℕ) (faces : Faces) (alpha : ℕ) → AreFacesOf s faces → filter (is_within alpha) faces.cells.items ≡ (shape_of s alpha).cells
+pub cells_are : (s : List ℕ) (faces : FaceLists) (alpha : ℕ) → AreFacesOf s faces → filter (is_within alpha) (full_cells faces.cells) ≡ (shape_of s alpha).cells
 cells_are s faces alpha h =
-    ap (filter (is_within alpha)) h.cells
+    ap (λ (c : List Cell). filter (is_within alpha) (full_cells c)) h.cells
     ∙ filter_same (is_within alpha) (is_admitted s alpha) (full_cells (complex s)) (λ q i. admitted_cell_is s alpha q h.ascending (listed_is_full_cell (complex s) q i))
 
 -- the points
-pub points_are : (s : List ℕ) (faces : Faces) (alpha : ℕ) → AreFacesOf s faces → kinds_by (filter (is_within alpha) faces.cells.items) (points_seen faces.points.items) ≡ (shape_of s alpha).points
+pub points_are : (s : List ℕ) (faces : FaceLists) (alpha : ℕ) → AreFacesOf s faces → kinds_by (filter (is_within alpha) (full_cells faces.cells)) faces.points ≡ (shape_of s alpha).points
 points_are s faces alpha h =
     rw (h.cells, h.points, points_of_complex s h.ascending h.keys h.solid) (point_kinds_are s alpha s h.ascending)
 
 -- the pairs
 pub pair_kinds_are :
-    (s : List ℕ) (faces : Faces) (alpha : ℕ) → AreFacesOf s faces →
-    kinds_by (filter (is_within alpha) faces.cells.items) (filter (is_admitted_pair (filter (is_within alpha) faces.cells.items) (small_among alpha (triples_seen faces.triples.items)) alpha) (pairs_seen faces.pairs.items)) ≡ (shape_of s alpha).pairs
+    (s : List ℕ) (faces : FaceLists) (alpha : ℕ) → AreFacesOf s faces →
+    kinds_by (filter (is_within alpha) (full_cells faces.cells)) (filter (is_admitted_pair (filter (is_within alpha) (full_cells faces.cells)) (small_among alpha faces.triples) alpha) faces.pairs) ≡ (shape_of s alpha).pairs
 pair_kinds_are s faces alpha h =
     rw (h.cells, h.triples, h.pairs)
     (kinds_are s alpha (is_admitted_pair (small_cells s alpha) (small_triples s alpha) alpha) (parts_in 2 (complex s)) h.ascending (λ p i. admitted_pair_is s alpha p (linked s alpha h.ascending h.keys) i))
 
 -- the triples
 pub triple_kinds_are :
-    (s : List ℕ) (faces : Faces) (alpha : ℕ) → AreFacesOf s faces →
-    kinds_by (filter (is_within alpha) faces.cells.items) (filter (is_admitted_triple (filter (is_within alpha) faces.cells.items) (small_among alpha (triples_seen faces.triples.items))) (triples_seen faces.triples.items)) ≡ (shape_of s alpha).triples
+    (s : List ℕ) (faces : FaceLists) (alpha : ℕ) → AreFacesOf s faces →
+    kinds_by (filter (is_within alpha) (full_cells faces.cells)) (filter (is_admitted_triple (filter (is_within alpha) (full_cells faces.cells)) (small_among alpha faces.triples)) faces.triples) ≡ (shape_of s alpha).triples
 triple_kinds_are s faces alpha h =
     rw (h.cells, h.triples)
     (kinds_are s alpha (is_admitted_triple (small_cells s alpha) (small_triples s alpha)) (parts_in 3 (complex s)) h.ascending (λ p i. admitted_triple_is s alpha p (linked s alpha h.ascending h.keys) i))

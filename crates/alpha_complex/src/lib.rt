@@ -37,12 +37,12 @@ pub fn alpha<R>(_rt: &R, alloc: Global, faces: &Faces, alpha: u64) -> Result<Sha
     ensures triples { IfOk result (λ shape. (s : List ℕ) → AreFacesOf s faces.now → shape.triples.items ≡ (shape_of s alpha).triples) }
     ensures cells { IfOk result (λ shape. (s : List ℕ) → AreFacesOf s faces.now → shape.cells.items ≡ (shape_of s alpha).cells) }
 {
-    let cells = small::small_cells(alloc, &faces.cells, alpha)?;
-    let triples = small::small_triples(alloc, &faces.triples, alpha)?;
+    let cells = small::small_cells(alloc, faces.cells(), alpha)?;
+    let triples = small::small_triples(alloc, faces, alpha)?;
     Ok(Shape {
-        points: kinds::points_with_kinds(alloc, &cells, &faces.points)?,
-        pairs: kinds::pairs_with_kinds(alloc, &cells, &triples, &faces.pairs, alpha)?,
-        triples: kinds::triples_with_kinds(alloc, &cells, &triples, &faces.triples)?,
+        points: kinds::points_with_kinds(alloc, &cells, faces)?,
+        pairs: kinds::pairs_with_kinds(alloc, &cells, &triples, faces, alpha)?,
+        triples: kinds::triples_with_kinds(alloc, &cells, &triples, faces)?,
         cells,
     })
 }

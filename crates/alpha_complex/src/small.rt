@@ -1,14 +1,15 @@
 //! Which faces are Gabriel and within alpha, by the cells that contain them.
 
-ghost use Rattle.std.specs.Prelude.{◌≡◌, ◌∷◌, ◌++◌, [], ◌<◌, ◌^◌, not, length, IfOk, OnOk};
+ghost use Rattle.std.specs.Prelude.{◌≡◌, ◌∷◌, ◌++◌, [], ◌<◌, ◌^◌, not, All, length, IfOk, OnOk};
 ghost use Rattle.std.specs.List.{filter};
 ghost use Rattle.point_order.specs.Sets.{is_among};
 ghost use Rattle.gabriel_faces.specs.Links.{link_of};
-ghost use Rattle.face_list.specs.Seen.{triples_seen};
+ghost use Rattle.face_list.specs.Faces.{full_cells};
+ghost use Rattle.face_list.specs.Tables.{numbered};
 ghost use Rattle.alpha_complex.specs.Admitted.{is_within};
 ghost use Rattle.alpha_complex.specs.Judged.{is_small_by, small_among};
 
-use face_list::{PairFace, TriFace};
+use face_list::Faces;
 use gabriel_faces::{gabriel_edge, gabriel_triangle};
 use point_order::{Cell, Pair, Point, Quad, Tri};
 use small_spheres::{cell_within, edge_within, triangle_within};
@@ -44,13 +45,19 @@ fn put_others(link: &mut Vec<Point>, face: &[Point], points: &[Point]) -> Result
     Ok(())
 }
 
-// Makes the list the link of a face: the points of the cells that contain it, but for its own.
-fn fill_link(link: &mut Vec<Point>, face: &[Point], cells: &[Cell]) -> Result<(), AllocError>
-    ensures { OnOk result (link.new.items ≡ link_of face.now cells.now) }
+// Makes the list the link of a face: the points of the cells that contain it, told by their numbers, but for its own.
+fn fill_link(
+    link: &mut Vec<Point>,
+    face: &[Point],
+    cells: &[Cell],
+    around: &[u32],
+) -> Result<(), AllocError>
+    requires { All (λ n. n < length cells.now) around.now }
+    ensures { OnOk result (link.new.items ≡ link_of face.now (numbered cells.now around.now)) }
 {
     link.clear();
-    for cell in cells {
-        put_others(link, face, cell.points())?;
+    for number in around {
+        put_others(link, face, cells[*number as usize].points())?;
     }
     Ok(())
 }
@@ -65,53 +72,70 @@ fn is_small_cell(quad: &Quad, alpha: u64) -> bool
 }
 
 /// Whether the pair is Gabriel and within alpha. The list is room for its link.
-pub fn is_small_pair(link: &mut Vec<Point>, face: &PairFace, alpha: u64) -> Result<bool, AllocError>
-    requires { length face.now.pair ≡ 2 }
-    ensures { IfOk result (λ small. small ≡ is_small_by alpha (face.now.pair, face.now.cells.items)) }
+pub fn is_small_pair(
+    link: &mut Vec<Point>,
+    cells: &[Cell],
+    pair: &Pair,
+    around: &[u32],
+    alpha: u64,
+) -> Result<bool, AllocError>
+    requires two { length pair.now ≡ 2 }
+    requires numbers { All (λ n. n < length cells.now) around.now }
+    ensures { IfOk result (λ small. small ≡ is_small_by alpha (pair.now, numbered cells.now around.now)) }
 {
-    let (a, b) = ends(&face.pair);
+    let (a, b) = ends(pair);
     if !edge_within(a, b, alpha) {
         return Ok(false);
     }
-    fill_link(link, face.pair.points(), &face.cells)?;
+    fill_link(link, pair.points(), cells, around)?;
     Ok(gabriel_edge(a, b, link))
 }
 
 // Whether the triple is Gabriel and within alpha. The list is room for its link.
-fn is_small_triple(link: &mut Vec<Point>, face: &TriFace, alpha: u64) -> Result<bool, AllocError>
-    ensures { IfOk result (λ small. small ≡ is_small_by alpha (face.now.tri, face.now.cells.items)) }
+fn is_small_triple(
+    link: &mut Vec<Point>,
+    cells: &[Cell],
+    tri: &Tri,
+    around: &[u32],
+    alpha: u64,
+) -> Result<bool, AllocError>
+    requires { All (λ n. n < length cells.now) around.now }
+    ensures { IfOk result (λ small. small ≡ is_small_by alpha (tri.now, numbered cells.now around.now)) }
 {
-    let (a, b, c) = face.tri.corners();
+    let (a, b, c) = tri.corners();
     if !triangle_within(a, b, c, alpha) {
         return Ok(false);
     }
-    fill_link(link, face.tri.points(), &face.cells)?;
+    fill_link(link, tri.points(), cells, around)?;
     Ok(gabriel_triangle(a, b, c, link))
 }
 
-/// The cells that are within alpha.
-pub fn small_cells(alloc: Global, cells: &[Quad], alpha: u64) -> Result<Vec<Quad>, AllocError>
+/// The Full cells that are within alpha.
+pub fn small_cells(alloc: Global, cells: &[Cell], alpha: u64) -> Result<Vec<Quad>, AllocError>
     requires { alpha < 2 ^ 30 }
-    ensures { IfOk result (λ small. small.items ≡ filter (is_within alpha) cells.now) }
+    ensures { IfOk result (λ small. small.items ≡ filter (is_within alpha) (full_cells cells.now)) }
 {
     let mut small = Vec::new(alloc);
-    for quad in cells {
-        if is_small_cell(quad, alpha) {
-            small.push(*quad)?;
+    for cell in cells {
+        if let Cell::Full(quad) = cell {
+            if is_small_cell(quad, alpha) {
+                small.push(*quad)?;
+            }
         }
     }
     Ok(small)
 }
 
 /// The triples that are Gabriel and within alpha.
-pub fn small_triples(alloc: Global, triples: &[TriFace], alpha: u64) -> Result<Vec<Tri>, AllocError>
-    ensures { IfOk result (λ small. small.items ≡ small_among alpha (triples_seen triples.now)) }
+pub fn small_triples(alloc: Global, faces: &Faces, alpha: u64) -> Result<Vec<Tri>, AllocError>
+    ensures { IfOk result (λ small. small.items ≡ small_among alpha faces.now.triples) }
 {
     let mut small = Vec::new(alloc);
     let mut link = Vec::new(alloc);
-    for face in triples {
-        if is_small_triple(&mut link, face, alpha)? {
-            small.push(face.tri)?;
+    for index in 0..faces.triples().len() {
+        let (tri, around) = faces.triple(index);
+        if is_small_triple(&mut link, faces.cells(), &tri, around, alpha)? {
+            small.push(tri)?;
         }
     }
     Ok(small)

@@ -1,27 +1,27 @@
 -- The shapes of a set, as the report tells them.
-use Rattle.std.proofs.Common.{◌≡◌, refl, sym, subst, ap, ◌∙◌, ℕ, true, false, Bool, List, [], ◌∷◌, map}
+use Rattle.std.proofs.Common.{◌≡◌, refl, sym, subst, ap, ◌∙◌, ℕ, ◌<◌, ◌+◌, true, false, Bool, List, [], ◌∷◌, ◌++◌, map, drop, length, get_or}
+use Rattle.std.proofs.lemmas.List.{map-append, drop_more}
 use Rattle.point_order.specs.declared.cell.Cell.{Cell}
 use Rattle.point_order.specs.Complex.{complex}
 use Rattle.point_order.specs.Sets.{IsIn, IsAscending}
 use Rattle.point_order.specs.Solid.{is_solid}
 use Rattle.del_laws.specs.Keys.{AreKeys}
 use Rattle.del_laws.proofs.Listed.{mapped_from}
-use Rattle.face_list.specs.declared.face.Faces.{Faces}
-use Rattle.face_list.specs.Faces.{full_cells, points_in, parts_in, points_with_cells, with_cells}
-use Rattle.face_list.specs.Seen.{points_seen, pairs_seen, triples_seen}
+use Rattle.face_list.specs.Faces.{points_in, parts_in, points_with_cells, with_cells}
+use Rattle.face_list.specs.Seen.{FaceLists}
 use Rattle.alpha_complex.specs.declared.shape.Shape.{Shape}
 use Rattle.alpha_complex.specs.declared.shape.Kind.{Kind}
 use Rattle.alpha_complex.specs.Admitted.{kind}
 use Rattle.alpha_complex.specs.Condition.{AreFacesOf}
 use Rattle.alpha_complex.specs.Shapes.{ShapeParts, shape_of, shape_seen}
-use Rattle.mesh_files.specs.Report.{AreCounted}
+use Rattle.mesh_files.specs.Report.{AreCounted, shapes_seen}
 use Rattle.mesh_files.specs.Text.{counted}
 use Rattle.delaunay_cli.specs.Report.{shapes_of}
 
 -- the faces of the cells of a complex are those of the complex
-pub faces_of_complex : (s : List ℕ) (cells : List Cell) (faces : Faces) → IsAscending s → AreKeys s → is_solid s ≡ true → cells ≡ complex s →
-    points_seen faces.points.items ≡ points_with_cells (points_in cells) cells → pairs_seen faces.pairs.items ≡ with_cells (parts_in 2 cells) cells →
-    triples_seen faces.triples.items ≡ with_cells (parts_in 3 cells) cells → faces.cells.items ≡ full_cells cells → AreFacesOf s faces
+pub faces_of_complex : (s : List ℕ) (cells : List Cell) (faces : FaceLists) → IsAscending s → AreKeys s → is_solid s ≡ true → cells ≡ complex s →
+    faces.points ≡ points_with_cells (points_in cells) cells → faces.pairs ≡ with_cells (parts_in 2 cells) cells →
+    faces.triples ≡ with_cells (parts_in 3 cells) cells → faces.cells ≡ cells → AreFacesOf s faces
 faces_of_complex s cells faces a keys solid e p q r t = record {
   ascending = a;
   keys = keys;
@@ -29,12 +29,31 @@ faces_of_complex s cells faces a keys solid e p q r t = record {
   points = p ∙ ap (λ c. points_with_cells (points_in c) c) e;
   pairs = q ∙ ap (λ c. with_cells (parts_in 2 c) c) e;
   triples = r ∙ ap (λ c. with_cells (parts_in 3 c) c) e;
-  cells = t ∙ ap full_cells e;
+  cells = t ∙ e;
 }
 
 -- a shape is told by its four lists
 pub seen_is : (shape : Shape) (parts : ShapeParts) → shape.points.items ≡ parts.points → shape.pairs.items ≡ parts.pairs → shape.triples.items ≡ parts.triples → shape.cells.items ≡ parts.cells → shape_seen shape ≡ parts
 seen_is shape parts a b c d = rw (a, b, c, d) refl
+
+-- the loop's step: the shape of the next radius
+pub shapes_next :
+    (s radii : List ℕ) (i d : ℕ) (old new : List (ℕ × Shape)) (shape : Shape) → i < length radii → new ≡ old ++ (get_or radii i d, shape) ∷ [] → shape_seen shape ≡ shape_of s (get_or radii i d) →
+    shapes_seen old ++ map (λ radius. (radius, shape_of s radius)) (drop i radii) ≡ map (λ radius. (radius, shape_of s radius)) radii →
+    shapes_seen new ++ map (λ radius. (radius, shape_of s radius)) (drop (i + 1) radii) ≡ map (λ radius. (radius, shape_of s radius)) radii
+shapes_next s radii i d old new shape h e f g =
+    let radius = get_or radii i d in
+    let rest : List (ℕ × ShapeParts) = map (λ radius. (radius, shape_of s radius)) (drop (i + 1) radii) in
+    ap (λ (l : List (ℕ × Shape)). shapes_seen l ++ rest) e
+    ∙ ap (λ (l : List (ℕ × ShapeParts)). l ++ rest) (map-append (λ (v : ℕ × Shape). (v.0, shape_seen v.1)) old ((radius, shape) ∷ []))
+    ∙ joined (shapes_seen old) (radius, shape_seen shape) rest
+    ∙ ap (λ (v : ShapeParts). shapes_seen old ++ (radius, v) ∷ rest) f
+    ∙ ap (λ (l : List ℕ). shapes_seen old ++ map (λ radius. (radius, shape_of s radius)) l) (sym (drop_more radii i d h))
+    ∙ g
+  where
+    joined : (l : List (ℕ × ShapeParts)) (x : ℕ × ShapeParts) (m : List (ℕ × ShapeParts)) → (l ++ x ∷ []) ++ m ≡ l ++ x ∷ m
+    joined [] x m = refl
+    joined (y ∷ l) x m = ap (λ (v : List (ℕ × ShapeParts)). y ∷ v) (joined l x m)
 
 -- the points of a shape, without their kinds, are those of the set
 points_are : (s : List ℕ) (alpha : ℕ) → counted (shape_of s alpha) ≡ s

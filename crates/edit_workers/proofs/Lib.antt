@@ -4,4 +4,5 @@ pub mod FirstOnes
 pub mod Halves
 pub mod Marks
 pub mod Partly
+pub mod Stretches
 pub mod Worked

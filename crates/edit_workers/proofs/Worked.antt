@@ -1,6 +1,8 @@
 -- The work on a list, pair by pair.
 use Rattle.std.specs.Prelude.{◌≡◌, ◌⊎◌, ℕ, zero, suc, ◌+◌, ◌-◌, ◌<◌, ◌≤◌, Bool, true, false, List, [], ◌∷◌, ◌++◌, map, length, take, drop, slice_index_or, Result, Ok, Err, OnErr}
 use Rattle.std.proofs.Common.{refl, sym, ◌∙◌, ap, subst, inl, inr, arith, length-append, append-nil}
+use Rattle.std.specs.List.{flat_map}
+use Rattle.std.proofs.lemmas.Bool.{false≢true}
 use Rattle.std.proofs.lemmas.List.{length-map, length-take, map-append, append_assoc, take_all, take-append-drop}
 use Rattle.std.proofs.Math.Seq.{take-suc}
 use Rattle.std.proofs.lemmas.List.Elements.{All-append}
@@ -17,8 +19,9 @@ use Rattle.grid_claims.specs.Trails.{misses}
 use Rattle.grid_claims.specs.Tries.{AreClaimsAround, IsAsBefore, IsOthersWord}
 use Rattle.plain_laws.specs.Running.{Pair}
 use Rattle.plain_laws.proofs.Members.{all-in, in-all, later-pairs, pairs-later, later-append}
-use Rattle.edit_workers.specs.Working.{Marked, done, first_ones, AreEntriesOf, HasMade, IsWorked, IsBroken}
+use Rattle.edit_workers.specs.Working.{Marked, Stretch, done, left_over, first_ones, AreEntriesOf, HasMade, IsWorked, IsBroken}
 use Rattle.edit_workers.specs.Trying.{OwnsAll, HasMadeOne, HasMissed, FollowsLeft, IsLeftOver, IsDone, IsWorkedOn}
+use Rattle.edit_workers.proofs.Stretches.{flat_more, tried_more}
 use Rattle.edit_workers.proofs.FirstOnes.{points_of, in_points, not_in_points, first_same, first_more, left_more, left_same, done_more, done_same, all_left, all_parted, none_done, done_few, later_more}
 
 -- what holds in any case holds where there is an error
@@ -142,6 +145,10 @@ worked_nothing p = record {
     later = omega arith;
     seen_all = in-all (λ (e : Entry). e.number < p.seen) [] (λ x i. absurd i);
   };
+  stretches = [];
+  pairs_are = refl;
+  steps_are = refl;
+  tried = tt;
   tries = omega arith;
   alone = λ f q. refl;
 }
@@ -235,6 +242,15 @@ module _ (list left : List Pair) (pair : Pair) (old now new : Standing) (w : IsW
   parted_more : (b : Bool) → map (λ (m : Marked). m.1) (w.marked ++ (b, pair) ∷ []) ≡ list ++ pair ∷ []
   parted_more b = map-append (λ (m : Marked). m.1) w.marked ((b, pair) ∷ []) ∙ ap (λ (l : List Pair). l ++ pair ∷ []) w.parted
 
+  stretched_more : (b : Bool) (steps : List Act) → map (λ (s : Stretch). s.0) (w.stretches ++ ((b, pair), steps) ∷ []) ≡ w.marked ++ (b, pair) ∷ []
+  stretched_more b steps = map-append (λ (s : Stretch). s.0) w.stretches (((b, pair), steps) ∷ []) ∙ ap (λ (l : List Marked). l ++ (b, pair) ∷ []) w.pairs_are
+
+  steps_more : (b : Bool) (steps : List Act) → w.steps ++ steps ≡ flat_map (λ (s : Stretch). s.1) (w.stretches ++ ((b, pair), steps) ∷ [])
+  steps_more b steps = ap (λ (l : List Act). l ++ steps) w.steps_are ∙ sym (flat_more w.stretches ((b, pair), steps))
+
+  over_is : left ≡ left_over (map (λ (s : Stretch). s.0) w.stretches)
+  over_is = w.left_is ∙ ap left_over (sym w.pairs_are)
+
   pub worked_follows : (after : List Pair) → FollowsLeft pair left after now new → IsWorked (list ++ pair ∷ []) after old new
   worked_follows after f =
       let among = in_points (point_of pair.1) left f.shared in
@@ -248,6 +264,10 @@ module _ (list left : List Pair) (pair : Pair) (old now new : Standing) (w : IsW
         made = subst (λ (l : List Pair). AreEntriesOf old l w.entries) (sym (done_same w.marked pair)) w.made;
         steps = w.steps;
         pass = subst (λ (p : Standing). HasMade old p w.entries w.steps) (sym same) w.pass;
+        stretches = w.stretches ++ ((true, pair), []) ∷ [];
+        pairs_are = stretched_more true [];
+        steps_are = sym (append-nil w.steps) ∙ steps_more true [];
+        tried = tried_more [] w.stretches ((true, pair), []) w.tried (λ t a c. absurd (c (subst (λ (l : List Pair). IsIn (point_of pair.1) (points_of l)) over_is among)));
         tries = (let t = w.tries in let e = ap (first_ones []) f.behind ∙ first_same [] left pair (inr among) in omega (arith, t, e));
         alone = λ z q. absurd (nothing_has (point_of pair.1) left (w.alone z q) among);
       }
@@ -263,6 +283,10 @@ module _ (list left : List Pair) (pair : Pair) (old now new : Standing) (w : IsW
         made = subst (λ (l : List Pair). AreEntriesOf old l w.entries) (sym (done_same w.marked pair)) w.made;
         steps = w.steps ++ f.missed.steps;
         pass = made_as_before old now new w.entries w.steps 64 w.pass f.missed;
+        stretches = w.stretches ++ ((true, pair), f.missed.steps) ∷ [];
+        pairs_are = stretched_more true f.missed.steps;
+        steps_are = steps_more true f.missed.steps;
+        tried = tried_more [] w.stretches ((true, pair), f.missed.steps) w.tried (λ t a c. f.missed.missed);
         tries = (let t = w.tries in let e = ap (first_ones []) f.behind in let l = first_more [] left pair in let m = f.missed.missed in let b = misses_both w.steps f.missed.steps in omega (arith, t, e, l, m, b));
         alone = λ z q. absurd (f.missed.others (omega arith) (still_all old now w.entries w.steps w.pass (z, q)));
       }
@@ -279,6 +303,10 @@ module _ (list left : List Pair) (pair : Pair) (old now new : Standing) (w : IsW
         made = subst (λ (l : List Pair). AreEntriesOf old l (w.entries ++ entry_of f.made.number old.first pair.0 pair.1 f.made.reply ∷ [])) (sym (done_more w.marked pair)) (entries_more old now new (done w.marked) w.entries w.steps pair.0 pair.1 w.made w.pass f.made);
         steps = w.steps ++ f.made.steps;
         pass = made_more old now new w.entries w.steps pair.0 pair.1 w.pass f.made;
+        stretches = w.stretches ++ ((false, pair), f.made.steps) ∷ [];
+        pairs_are = stretched_more false f.made.steps;
+        steps_are = steps_more false f.made.steps;
+        tried = tried_more [] w.stretches ((false, pair), f.made.steps) w.tried (λ t a c. absurd (false≢true t));
         tries = (let t = w.tries in let e = ap (first_ones []) f.none in let b = misses_both w.steps f.made.steps in omega (arith, t, e, b));
         alone = λ z q. f.none ∙ w.alone z q;
       }

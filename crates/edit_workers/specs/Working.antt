@@ -1,6 +1,6 @@
 -- What the work on a list leaves.
-use Rattle.std.specs.Prelude.{◌≡◌, ℕ, ◌+◌, ◌-◌, ◌*◌, ◌<◌, ◌≤◌, Bool, true, not, List, [], ◌∷◌, ◌++◌, map, length, All, AllPairs, if◌then◌else◌}
-use Rattle.std.specs.List.{filter}
+use Rattle.std.specs.Prelude.{◌≡◌, ℕ, ◌+◌, ◌-◌, ◌*◌, ◌<◌, ◌≤◌, Bool, true, false, not, List, [], ◌∷◌, ◌++◌, map, length, All, AllPairs, if◌then◌else◌}
+use Rattle.std.specs.List.{filter, flat_map}
 use Rattle.point_order.specs.Sets.{is_among}
 use Rattle.edit_history.specs.declared.history.Entry.{Entry}
 use Rattle.edit_history.specs.Edits.{point_of}
@@ -30,6 +30,18 @@ abbrev pub first_ones : List ℕ → List Pair → ℕ
 first_ones seen [] = 0
 first_ones seen (p ∷ l) = if is_among (point_of p.1) seen then first_ones seen l else first_ones (point_of p.1 ∷ seen) l + 1
 
+-- a pair of the list and its mark, with the steps that were taken for it
+abbrev pub Stretch : Type 0
+Stretch = Marked × List Act
+
+-- For each pair that is left over by itself 64 claims failed, but where it shares its point with one of these or with an
+-- earlier one that is left over.
+abbrev pub AreTried : List ℕ → List Stretch → Type 0
+AreTried over [] = Unit {0}
+AreTried over (s ∷ l) =
+    (s.0.0 ≡ true → is_among (point_of s.0.1.1) over ≡ false → 64 ≤ misses s.1)
+    × AreTried (if s.0.0 then point_of s.0.1.1 ∷ over else over) l
+
 -- Entries of these pairs, in this order: by the pass, with ascending numbers, none below what it had seen.
 pub record AreEntriesOf (old : Standing) (pairs : List Pair) (entries : List Entry) : Type 0 where
   pub pairs_are : map line_of entries ≡ pairs
@@ -44,8 +56,8 @@ pub record HasMade (old new : Standing) (entries : List Entry) (steps : List Act
   pub seen_all : All (λ e. e.number < new.seen) entries
 
 -- The work is done: each pair of the list was made or is left over, once; what follows one left over of its point is
--- left over; and for each that is the first one left over of its point 64 claims failed. A pass that owns all parts
--- leaves nothing over.
+-- left over. The steps are those of the pairs one after another, and for each that is the first one left over of its
+-- point 64 claims failed, so that all in all as many failed. A pass that owns all parts leaves nothing over.
 pub record IsWorked (list left : List Pair) (old new : Standing) : Type 0 where
   pub marked : List Marked
   pub parted : map (λ x. x.1) marked ≡ list
@@ -55,6 +67,10 @@ pub record IsWorked (list left : List Pair) (old new : Standing) : Type 0 where
   pub made : AreEntriesOf old (done marked) entries
   pub steps : List Act
   pub pass : HasMade old new entries steps
+  pub stretches : List Stretch
+  pub pairs_are : map (λ s. s.0) stretches ≡ marked
+  pub steps_are : steps ≡ flat_map (λ s. s.1) stretches
+  pub tried : AreTried [] stretches
   pub tries : 64 * first_ones [] left ≤ misses steps
   pub alone : old.first ≡ 0 → old.parts ≡ old.table.parts → left ≡ []
 

@@ -21,7 +21,6 @@ use Rattle.del_laws.proofs.Tests.{filtered_from}
 use Rattle.face_list.specs.Faces.{full_cells, points_in}
 use Rattle.face_list.specs.Laws.{PointsInOrder, PointIsListed, ListedIsPoint, PartsInOrder, PartIsListed, ListedIsPart, PointsOfComplex}
 use Rattle.face_list.proofs.OnePart.{ordered}
-use Rattle.face_list.proofs.FaceLists.{all_insert}
 
 -- ---- one element at its place
 
@@ -29,6 +28,17 @@ use Rattle.face_list.proofs.FaceLists.{all_insert}
 all_behind : {X : Type 0} (cmp : X → X → Ordering) (o : IsTotalOrder cmp) (x y : X) (l : List X) → cmp x y ≡ Less → AllByRecursion (λ z. cmp y z ≡ Less) l → AllByRecursion (λ z. cmp x z ≡ Less) l
 all_behind cmp o x y [] e a = tt
 all_behind cmp o x y (z ∷ l) e a = (o.trans x y z e a.0, all_behind cmp o x y l e a.1)
+
+-- with one more in its place
+all_insert : {X : Type 0} (P : X → Type 0) (cmp : X → X → Ordering) (l : List X) (x : X) → AllByRecursion P l → P x → AllByRecursion P (insert_key cmp l x)
+all_insert P cmp [] x a p = (p, tt)
+all_insert {X} P cmp (y ∷ l) x a p = by_order (all_insert P cmp l x a.1 p) (cmp x y)
+  where
+    -- before the first, at it or behind it
+    by_order : AllByRecursion P (insert_key cmp l x) → (o : Ordering) → AllByRecursion P (match_ordering o (x ∷ y ∷ l) (y ∷ l) (y ∷ insert_key cmp l x))
+    by_order r Less = (p, a)
+    by_order r Equal = a
+    by_order r Greater = (a.0, r)
 
 -- a list in order stays so
 sorted_insert : {X : Type 0} (cmp : X → X → Ordering) (o : IsTotalOrder cmp) (l : List X) (x : X) → IsStrictlySortedBy cmp l → IsStrictlySortedBy cmp (insert_key cmp l x)

@@ -1,212 +1,281 @@
 -- The lists of faces: what is gathered under the parts of cells are the faces, each with its cells.
-use Rattle.std.proofs.Common.{◌≡◌, refl, ap, ◌∙◌, ℕ, zero, suc, ◌⊎◌, inl, inr, Bool, true, false, cond, List, [], ◌∷◌, ◌++◌, map, length, arith}
-use Rattle.std.specs.Prelude.{◌==◌, ◌<◌}
-use Rattle.std.specs.List.{filter, list_all, flat_map, fold, AllByRecursion}
-use Rattle.std.specs.Ordering.{nat_cmp, is_eq, match_ordering}
-use Rattle.std.specs.BTreeSet.{insert_key}
+use Rattle.std.proofs.Common.{◌≡◌, refl, sym, ap, subst, ◌∙◌, ℕ, zero, suc, ◌+◌, ◌<◌, inl, inr, Bool, true, false, cond, List, [], ◌∷◌, ◌++◌, map, take, length, get_or, arith}
+use Rattle.std.specs.List.{filter, list_all, AllByRecursion}
+use Rattle.std.specs.List.Sorted.{IsStrictlySortedBy}
+use Rattle.std.specs.Cmp.{IsTotalOrder}
+use Rattle.std.specs.Ordering.{nat_cmp}
 use Rattle.std.specs.Cmp.Lexicographic.{slice_cmp}
 use Rattle.std.specs.declared.cmp.Ordering.{Ordering}
-use Rattle.std.specs.declared.cmp.Ordering.TheVariants.{Less, Equal, Greater}
+use Rattle.std.specs.declared.cmp.Ordering.TheVariants.{Less}
+use Rattle.std.proofs.lemmas.Cmp.{nat_cmp_total, nat_list_cmp_total}
+use Rattle.std.proofs.lemmas.Map.Lookups.{CmpEqualImpliesEq, exact_unsigned, exact_bytes}
 use Rattle.std.proofs.lemmas.Bool.Decides.{nat_tests}
-use Rattle.std.proofs.lemmas.List.{map-append}
-use Rattle.std.proofs.lemmas.List.Elements.{filter-append}
+use Rattle.std.proofs.lemmas.List.{take_more}
 use Rattle.point_order.specs.declared.cell.Cell.{Cell}
 use Rattle.point_order.specs.declared.cell.Cell.TheVariants.{Full, Open}
 use Rattle.point_order.specs.Facets.{points_of}
-use Rattle.point_order.specs.Sets.{IsBelowFirst, IsAscending, is_among}
+use Rattle.point_order.specs.Sets.{IsIn, IsAscending, is_among}
 use Rattle.point_order.specs.Subsets.{subsets}
-use Rattle.face_list.specs.Faces.{full_cells, each_once, points_in, parts_in, cells_with}
-use Rattle.face_list.specs.Gather.{is_full, cells_at, full_keys, items_of, AreAscending}
-use Rattle.face_list.proofs.OnePart.{one_part, ordered, none_among}
+use Rattle.del_laws.proofs.Listed.{in_left, in_right, from_append, mapped_from, mapped_true, part_inside, part_ascending, part_true}
+use Rattle.del_laws.proofs.Tests.{all_from, all_true, among_from, among_true, filter_is}
+use Rattle.face_list.specs.declared.table.Table.{Table}
+use Rattle.face_list.specs.Faces.{points_in, parts_in, cells_with, points_with_cells, with_cells}
+use Rattle.face_list.specs.Gather.{is_full, numbers_of, items_from, Gathers, AreAscending, full_keys, AreItems}
+use Rattle.face_list.specs.Tables.{cell_at, numbered, paired, table_seen}
+use Rattle.face_list.proofs.FaceLaws.{points_in_order, point_is_listed, listed_is_point, parts_in_order, part_is_listed, listed_is_part}
+use Rattle.face_list.proofs.Sorting.{at_in, contains_in, in_all, one_order}
+use Rattle.face_list.proofs.Gathering.{numbers_rise, number_from, number_true, full_from, full_true}
 
--- ---- the cells of a face
+-- ---- cells by their numbers
 
--- the cells of the items of one cell
-cells_of_one : {K : Type 0} (t : K → Bool) (c : Cell) (qs : List K) → map (λ i. i.1) (filter (λ (i : K × Cell). t i.0) (map (λ q. (q, c)) qs)) ≡ map (λ q. c) (filter t qs)
-cells_of_one t c [] = refl
-cells_of_one {K} t c (q ∷ qs) = by_test (cells_of_one t c qs) (t q) refl
+-- number m is that of a cell of which P holds, where the first has the number n
+record Placed (P : Cell → Type 0) (n m : ℕ) (cells : List Cell) : Type 0 where
+  place : ℕ
+  inside : place < length cells
+  is : n + place ≡ m
+  holds : P (cell_at cells place)
+
+-- one place further on
+further : (P : Cell → Type 0) (n m : ℕ) (c : Cell) (cells : List Cell) → Placed P (suc n) m cells → Placed P n m (c ∷ cells)
+further P n m c cells h = record { place = suc h.place; inside = (let i = h.inside in omega arith); is = (let i = h.is in omega (arith, i)); holds = h.holds }
+
+-- the numbers of the cells that pass a test
+abbrev which : (Cell → Bool) → ℕ → List Cell → List ℕ
+which t n [] = []
+which t n (c ∷ cells) = cond (t c) (n ∷ which t (suc n) cells) (which t (suc n) cells)
+
+which_true : (t : Cell → Bool) (n : ℕ) (c : Cell) (cells : List Cell) → t c ≡ true → which t n (c ∷ cells) ≡ n ∷ which t (suc n) cells
+which_true t n c cells e = rw e refl
+
+which_false : (t : Cell → Bool) (n : ℕ) (c : Cell) (cells : List Cell) → t c ≡ false → which t n (c ∷ cells) ≡ which t (suc n) cells
+which_false t n c cells e = rw e refl
+
+-- they are the numbers of those cells
+which_from : (t : Cell → Bool) (n m : ℕ) (cells : List Cell) → IsIn m (which t n cells) → Placed (λ c. t c ≡ true) n m cells
+which_from t n m [] i = absurd i
+which_from t n m (c ∷ cells) i = by (which_from t (suc n) m cells) (t c) refl
   where
-    -- the part passes or not
-    by_test :
-        map (λ i. i.1) (filter (λ (i : K × Cell). t i.0) (map (λ q. (q, c)) qs)) ≡ map (λ q. c) (filter t qs) →
-        (b : Bool) → t q ≡ b → map (λ i. i.1) (filter (λ (i : K × Cell). t i.0) (map (λ q. (q, c)) (q ∷ qs))) ≡ map (λ q. c) (filter t (q ∷ qs))
-    by_test rest true e = rw e (ap (λ l. c ∷ l) rest)
-    by_test rest false e = rw e rest
+    by : (IsIn m (which t (suc n) cells) → Placed (λ c. t c ≡ true) (suc n) m cells) → (b : Bool) → t c ≡ b → Placed (λ c. t c ≡ true) n m (c ∷ cells)
+    by rest true e = elim (subst (IsIn m) (which_true t n c cells e) i) [
+      | inl q ↦ record { place = 0; inside = omega arith; is = omega (arith, q); holds = e }
+      | inr j ↦ further (λ c. t c ≡ true) n m c cells (rest j)
+    ]
+    by rest false e = further (λ c. t c ≡ true) n m c cells (rest (subst (IsIn m) (which_false t n c cells e) i))
 
--- where of the parts of a cell one is p if the cell passes a test, and else none, the cells of p are those that pass
-cells_are :
-    {K : Type 0} (cmp : K → K → Ordering) (parts : Cell → List K) (p : K) (test : Cell → Bool) (cells : List Cell) →
-    ((c : Cell) → IsAscending (points_of c) → filter (λ q. is_eq (cmp q p)) (parts c) ≡ cond (test c) (p ∷ []) []) → AreAscending cells →
-    cells_at cmp (items_of parts cells) p ≡ filter test cells
-cells_are cmp parts p test [] one a = refl
-cells_are {K} cmp parts p test (c ∷ cells) one a =
-    ap (map (λ i. i.1)) (filter-append (λ (i : K × Cell). is_eq (cmp i.0 p)) (map (λ q. (q, c)) (parts c)) (items_of parts cells))
-    ∙ map-append (λ (i : K × Cell). i.1) (filter (λ (i : K × Cell). is_eq (cmp i.0 p)) (map (λ q. (q, c)) (parts c))) (filter (λ (i : K × Cell). is_eq (cmp i.0 p)) (items_of parts cells))
-    ∙ ap (λ l. l ++ cells_at cmp (items_of parts cells) p) (cells_of_one (λ q. is_eq (cmp q p)) c (parts c) ∙ ap (map (λ q. c)) (one c a.0))
-    ∙ ap (λ l. map (λ q. c) (cond (test c) (p ∷ []) []) ++ l) (cells_are cmp parts p test cells one a.1)
-    ∙ by_test (test c) refl
+-- and all of them
+placed_in : (t : Cell → Bool) (n m place : ℕ) (cells : List Cell) → place < length cells → n + place ≡ m → t (cell_at cells place) ≡ true → IsIn m (which t n cells)
+placed_in t n m place [] h e f = absurd (omega arith)
+placed_in t n m zero (c ∷ cells) h e f = subst (IsIn m) (sym (which_true t n c cells f)) (inl (omega (arith, e)))
+placed_in t n m (suc place) (c ∷ cells) h e f = by (placed_in t (suc n) m place cells (omega arith) (omega (arith, e)) f) (t c) refl
   where
-    -- the cell passes or not
-    by_test : (b : Bool) → test c ≡ b → map (λ q. c) (cond (test c) (p ∷ []) []) ++ filter test cells ≡ filter test (c ∷ cells)
-    by_test true e = rw e refl
-    by_test false e = rw e refl
+    by : IsIn m (which t (suc n) cells) → (b : Bool) → t c ≡ b → IsIn m (which t n (c ∷ cells))
+    by rest true g = subst (IsIn m) (sym (which_true t n c cells g)) (inr rest)
+    by rest false g = subst (IsIn m) (sym (which_false t n c cells g)) rest
 
--- of an ascending list one element is p, or none is
-one_point : (xs : List ℕ) (p : ℕ) → IsAscending xs → filter (λ q. is_eq (nat_cmp q p)) xs ≡ cond (list_all (λ e. is_among e xs) (p ∷ [])) (p ∷ []) []
-one_point [] p a = refl
-one_point (x ∷ xs) p a = by_order (ordered x p) (one_point xs p a.1)
+-- they rise
+below : (x y : ℕ) → x < y → nat_cmp x y ≡ Less
+below x y l = grind (arith, nat_tests)
+
+which_rise : (t : Cell → Bool) (n : ℕ) (cells : List Cell) → IsStrictlySortedBy nat_cmp (which t n cells)
+unfolding IsStrictlySortedBy
+which_rise t n [] = tt
+which_rise t n (c ∷ cells) = by (which_rise t (suc n) cells) (t c) refl
   where
-    -- other numbers do not pass the test
-    differs : (x y : ℕ) → (x < y) ⊎ (y < x) → (x == y) ≡ false
-    differs x y l = grind (arith, nat_tests)
+    above : (m : ℕ) → Placed (λ c. t c ≡ true) (suc n) m cells → nat_cmp n m ≡ Less
+    above m h = (let e = h.is in below n m (omega (arith, e)))
 
-    -- equal ones do
-    equal : (x y : ℕ) → x ≡ y → (x == y) ≡ true
-    equal x y e = grind (arith, nat_tests)
+    by : IsStrictlySortedBy nat_cmp (which t (suc n) cells) → (b : Bool) → t c ≡ b → IsStrictlySortedBy nat_cmp (which t n (c ∷ cells))
+    by rest true e = subst (IsStrictlySortedBy nat_cmp) (sym (which_true t n c cells e)) (in_all (λ m. nat_cmp n m ≡ Less) (which t (suc n) cells) (λ m i. above m (which_from t (suc n) m cells i)), rest)
+    by rest false e = subst (IsStrictlySortedBy nat_cmp) (sym (which_false t n c cells e)) rest
 
-    -- by the first element
-    by_order :
-        ((x < p) × (nat_cmp x p ≡ Less)) ⊎ ((x ≡ p) × (nat_cmp x p ≡ Equal)) ⊎ ((p < x) × (nat_cmp x p ≡ Greater)) →
-        filter (λ q. is_eq (nat_cmp q p)) xs ≡ cond (list_all (λ e. is_among e xs) (p ∷ [])) (p ∷ []) [] →
-        filter (λ q. is_eq (nat_cmp q p)) (x ∷ xs) ≡ cond (list_all (λ e. is_among e (x ∷ xs)) (p ∷ [])) (p ∷ []) []
-    by_order (inl l) r = (
-        let t : (x == p) ≡ false = differs x p (inl l.0) in
-        let o : is_eq (nat_cmp x p) ≡ false = ap is_eq l.1 in
-        rw (o, t) r)
-    by_order (inr (inl l)) r = (
-        let t : (x == p) ≡ true = equal x p l.0 in
-        let f : is_among p xs ≡ false = rw l.0 at (none_among x xs a.0 a.1) in
-        let o : is_eq (nat_cmp x p) ≡ true = ap is_eq l.1 in
-        let s : filter (λ q. is_eq (nat_cmp q p)) xs ≡ [] = rw f at r in
-        rw (o, t) (ap (λ v. x ∷ v) s ∙ ap (λ v. v ∷ []) l.0))
-    by_order (inr (inr l)) r = (
-        let t : (x == p) ≡ false = differs x p (inr l.0) in
-        let o : is_eq (nat_cmp x p) ≡ false = ap is_eq l.1 in
-        rw (o, t) r)
-
--- the cells that are gathered under a point are those that have it
-pub cells_of_point : (cells : List Cell) (p : ℕ) → AreAscending cells → cells_at nat_cmp (items_of points_of cells) p ≡ cells_with (p ∷ []) cells
-cells_of_point cells p a = cells_are nat_cmp points_of p (λ c. list_all (λ e. is_among e (points_of c)) (p ∷ [])) cells (λ c b. one_point (points_of c) p b) a
-
--- the cells that are gathered under a part are those that have its points
-pub cells_of_part : (k : ℕ) (cells : List Cell) (p : List ℕ) → IsAscending p → length p ≡ k → AreAscending cells → cells_at (slice_cmp nat_cmp) (items_of (λ c. subsets k (points_of c)) cells) p ≡ cells_with p cells
-cells_of_part k cells p b n a = cells_are (slice_cmp nat_cmp) (λ c. subsets k (points_of c)) p (λ c. list_all (λ e. is_among e (points_of c)) p) cells (λ c d. one_part k (points_of c) p d b n) a
-
--- ---- the faces
-
--- the items of a Full cell
-full_items : {K : Type 0} (q : List ℕ) (ps : List K) → map (λ i. i.0) (filter (λ (i : K × Cell). is_full i.1) (map (λ p. (p, Full q)) ps)) ≡ ps
-full_items q [] = refl
-full_items q (p ∷ ps) = ap (λ l. p ∷ l) (full_items q ps)
-
--- and of an Open one
-open_items : {K : Type 0} (t : List ℕ) (ps : List K) → filter (λ (i : K × Cell). is_full i.1) (map (λ p. (p, Open t)) ps) ≡ []
-open_items t [] = refl
-open_items t (p ∷ ps) = open_items t ps
-
--- the keys of Full cells are the parts of Full cells
-keys_are : {K : Type 0} (parts : Cell → List K) (cells : List Cell) → map (λ i. i.0) (filter (λ (i : K × Cell). is_full i.1) (items_of parts cells)) ≡ flat_map (λ q. parts (Full q)) (full_cells cells)
-keys_are parts [] = refl
-keys_are {K} parts (Full q ∷ cells) =
-    ap (map (λ i. i.0)) (filter-append (λ (i : K × Cell). is_full i.1) (map (λ p. (p, Full q)) (parts (Full q))) (items_of parts cells))
-    ∙ map-append (λ (i : K × Cell). i.0) (filter (λ (i : K × Cell). is_full i.1) (map (λ p. (p, Full q)) (parts (Full q)))) (filter (λ (i : K × Cell). is_full i.1) (items_of parts cells))
-    ∙ ap (λ l. l ++ map (λ i. i.0) (filter (λ (i : K × Cell). is_full i.1) (items_of parts cells))) (full_items q (parts (Full q)))
-    ∙ ap (λ l. parts (Full q) ++ l) (keys_are parts cells)
-keys_are {K} parts (Open t ∷ cells) =
-    ap (map (λ i. i.0)) (filter-append (λ (i : K × Cell). is_full i.1) (map (λ p. (p, Open t)) (parts (Open t))) (items_of parts cells))
-    ∙ ap (λ l. map (λ (i : K × Cell). i.0) (l ++ filter (λ (i : K × Cell). is_full i.1) (items_of parts cells))) (open_items t (parts (Open t)))
-    ∙ keys_are parts cells
-
--- ---- what holds of all faces
-
--- of two lists together
-all_append : {X : Type 0} (P : X → Type 0) (l m : List X) → AllByRecursion P l → AllByRecursion P m → AllByRecursion P (l ++ m)
-all_append P [] m a b = b
-all_append P (x ∷ l) m a b = (a.0, all_append P l m a.1 b)
-
--- with one more in its place
-pub all_insert : {X : Type 0} (P : X → Type 0) (cmp : X → X → Ordering) (l : List X) (x : X) → AllByRecursion P l → P x → AllByRecursion P (insert_key cmp l x)
-all_insert P cmp [] x a p = (p, tt)
-all_insert {X} P cmp (y ∷ l) x a p = by_order (all_insert P cmp l x a.1 p) (cmp x y)
+-- and name the cells that pass
+which_are : (t : Cell → Bool) (all : List Cell) (n : ℕ) (cells : List Cell) → ((i : ℕ) → cell_at all (n + i) ≡ cell_at cells i) → numbered all (which t n cells) ≡ filter t cells
+which_are t all n [] f = refl
+which_are t all n (c ∷ cells) f = by (which_are t all (suc n) cells (λ i. ap (cell_at all) (omega arith) ∙ f (suc i))) (t c) refl
   where
-    -- before the first, at it or behind it
-    by_order : AllByRecursion P (insert_key cmp l x) → (o : Ordering) → AllByRecursion P (match_ordering o (x ∷ y ∷ l) (y ∷ l) (y ∷ insert_key cmp l x))
-    by_order r Less = (p, a)
-    by_order r Equal = a
-    by_order r Greater = (a.0, r)
+    first : cell_at all n ≡ c
+    first = ap (cell_at all) (omega arith) ∙ f 0
 
--- with all of a list in their places
-all_fold : {X : Type 0} (P : X → Type 0) (cmp : X → X → Ordering) (l xs : List X) → AllByRecursion P l → AllByRecursion P xs → AllByRecursion P (fold (insert_key cmp) l xs)
-all_fold P cmp l [] a b = a
-all_fold P cmp l (x ∷ xs) a b = all_fold P cmp (insert_key cmp l x) xs (all_insert P cmp l x a b.0) b.1
+    by : numbered all (which t (suc n) cells) ≡ filter t cells → (b : Bool) → t c ≡ b → numbered all (which t n (c ∷ cells)) ≡ filter t (c ∷ cells)
+    by rest true e = ap (numbered all) (which_true t n c cells e) ∙ ap (λ (v : Cell). v ∷ numbered all (which t (suc n) cells)) first ∙ ap (λ (l : List Cell). c ∷ l) rest ∙ rw e refl
+    by rest false e = ap (numbered all) (which_false t n c cells e) ∙ rest ∙ rw e refl
 
--- the part is ascending and has k points
-abbrev IsPartOf : ℕ → List ℕ → Type 0
-IsPartOf k p = IsAscending p × (length p ≡ k)
+-- ---- the items of cells
 
--- the parts of what is above x, with x before them
-all_above : (x k : ℕ) (qs : List (List ℕ)) → AllByRecursion (λ p. IsPartOf k p × IsBelowFirst x p) qs → AllByRecursion (IsPartOf (suc k)) (map (λ q. x ∷ q) qs)
-all_above x k [] a = tt
-all_above x k (q ∷ qs) a = (((a.0.1, a.0.0.0), ap suc a.0.0.1), all_above x k qs a.1)
+item_from : {K : Type 0} (parts : Cell → List K) (n : ℕ) (k : K) (m : ℕ) (cells : List Cell) → IsIn (k, m) (items_from n parts cells) → Placed (λ c. IsIn k (parts c)) n m cells
+item_from parts n k m [] i = absurd i
+item_from {K} parts n k m (c ∷ cells) i = elim (from_append (k, m) (map (λ p. (p, n)) (parts c)) (items_from (suc n) parts cells) i) [
+  | inl j ↦ (
+      let r = mapped_from (λ (p : K). (p, n)) (k, m) (parts c) j in
+      let a : r.0 ≡ k = ap (λ (v : K × ℕ). v.0) r.2 in
+      let b : n ≡ m = ap (λ (v : K × ℕ). v.1) r.2 in
+      record { place = 0; inside = omega arith; is = omega (arith, b); holds = subst (λ v. IsIn v (parts c)) a r.1 })
+  | inr j ↦ further (λ c. IsIn k (parts c)) n m c cells (item_from parts (suc n) k m cells j)
+]
 
--- with what is below all elements before them
-all_below : (x y k : ℕ) (qs : List (List ℕ)) → x < y → AllByRecursion (IsPartOf (suc k)) (map (λ q. y ∷ q) qs) → AllByRecursion (λ p. IsPartOf (suc k) p × IsBelowFirst x p) (map (λ q. y ∷ q) qs)
-all_below x y k [] l a = tt
-all_below x y k (q ∷ qs) l a = ((a.0, l), all_below x y k qs l a.1)
+item_true : {K : Type 0} (parts : Cell → List K) (n : ℕ) (k : K) (m place : ℕ) (cells : List Cell) → place < length cells → n + place ≡ m → IsIn k (parts (cell_at cells place)) → IsIn (k, m) (items_from n parts cells)
+item_true parts n k m place [] h e f = absurd (omega arith)
+item_true {K} parts n k m zero (c ∷ cells) h e f =
+    let b : n ≡ m = omega (arith, e) in
+    in_left (k, m) (map (λ p. (p, n)) (parts c)) (items_from (suc n) parts cells) (subst (λ (v : ℕ). IsIn {X = K × ℕ} (k, v) (map (λ p. (p, n)) (parts c))) b (mapped_true (λ (p : K). (p, n)) k (parts c) f))
+item_true parts n k m (suc place) (c ∷ cells) h e f = in_right (k, m) (map (λ p. (p, n)) (parts c)) (items_from (suc n) parts cells) (item_true parts (suc n) k m place cells (omega arith) (omega (arith, e)) f)
 
--- the parts of an ascending list whose elements are above x
-parts_above : (x k : ℕ) (xs : List ℕ) → IsBelowFirst x xs → IsAscending xs → AllByRecursion (λ p. IsPartOf k p × IsBelowFirst x p) (subsets k xs)
-parts_above x zero xs b a = (((tt, refl), tt), tt)
-parts_above x (suc k) [] b a = tt
-parts_above x (suc k) (y ∷ ys) b a =
-    all_append (λ p. IsPartOf (suc k) p × IsBelowFirst x p) (map (λ q. y ∷ q) (subsets k ys)) (subsets (suc k) ys)
-    (all_below x y k (subsets k ys) b (all_above y k (subsets k ys) (parts_above y k ys a.0 a.1)))
-    (parts_above x (suc k) ys (below_next ys b a.0) a.1)
+-- each names a cell
+pub items_name : {K : Type 0} (parts : Cell → List K) (cells : List Cell) → AreItems (length cells) (items_from 0 parts cells)
+items_name parts cells i m = (let h = item_from parts 0 i.0 i.1 cells m in let a = h.inside in let b = h.is in omega (arith, b))
+
+-- a cell more
+pub items_more : {K : Type 0} (parts : Cell → List K) (n : ℕ) (cells : List Cell) (c : Cell) → items_from n parts (cells ++ c ∷ []) ≡ items_from n parts cells ++ map (λ p. (p, n + length cells)) (parts c)
+items_more {K} parts n [] c = without_end (map (λ p. (p, n)) (parts c)) ∙ ap (λ (v : ℕ). map (λ (p : K). (p, v)) (parts c)) (omega arith)
   where
-    -- what is below an element is below the next
-    below_next : (zs : List ℕ) → x < y → IsBelowFirst y zs → IsBelowFirst x zs
-    below_next [] l m = tt
-    below_next (z ∷ zs) l m = omega (arith, l, m)
+    without_end : (l : List (K × ℕ)) → l ++ [] ≡ l
+    without_end [] = refl
+    without_end (x ∷ l) = ap (λ (m : List (K × ℕ)). x ∷ m) (without_end l)
+items_more {K} parts n (d ∷ cells) c =
+    ap (λ (l : List (K × ℕ)). map (λ p. (p, n)) (parts d) ++ l) (items_more parts (suc n) cells c ∙ ap (λ (v : ℕ). items_from (suc n) parts cells ++ map (λ (p : K). (p, v)) (parts c)) (omega arith))
+    ∙ sym (joined (map (λ p. (p, n)) (parts d)) (items_from (suc n) parts cells) (map (λ (p : K). (p, n + length (d ∷ cells))) (parts c)))
+  where
+    joined : (l m r : List (K × ℕ)) → (l ++ m) ++ r ≡ l ++ (m ++ r)
+    joined [] m r = refl
+    joined (x ∷ l) m r = ap (λ (v : List (K × ℕ)). x ∷ v) (joined l m r)
 
--- the parts of an ascending list
-parts_of_list : (k : ℕ) (xs : List ℕ) → IsAscending xs → AllByRecursion (IsPartOf k) (subsets k xs)
-parts_of_list zero xs a = ((tt, refl), tt)
-parts_of_list (suc k) [] a = tt
-parts_of_list (suc k) (y ∷ ys) a =
-    all_append (IsPartOf (suc k)) (map (λ q. y ∷ q) (subsets k ys)) (subsets (suc k) ys)
-    (all_above y k (subsets k ys) (parts_above y k ys a.0 a.1)) (parts_of_list (suc k) ys a.1)
+-- the loop's step: the cell of the next number under its parts
+pub items_next :
+    {K : Type 0} (parts : Cell → List K) (cells : List Cell) (n : ℕ) (c d : Cell) (old new : List (K × ℕ)) (ps : List K) → n < length cells → old ≡ items_from 0 parts (take n cells) →
+    get_or cells n d ≡ c → ps ≡ parts c → new ≡ old ++ map (λ p. (p, n)) ps → new ≡ items_from 0 parts (take (n + 1) cells)
+items_next {K} parts cells n c d old new ps h e f p m =
+    let t : take (n + 1) cells ≡ take n cells ++ c ∷ [] = take_more cells n d h ∙ ap (λ (v : Cell). take n cells ++ v ∷ []) f in
+    let k : 0 + length (take n cells) ≡ n = taken cells n h in
+    m ∙ ap (λ (l : List (K × ℕ)). l ++ map (λ p. (p, n)) ps) e ∙ ap (λ (l : List K). items_from 0 parts (take n cells) ++ map (λ p. (p, n)) l) p
+    ∙ ap (λ (v : ℕ). items_from 0 parts (take n cells) ++ map (λ p. (p, v)) (parts c)) (sym k)
+    ∙ sym (items_more parts 0 (take n cells) c) ∙ ap (items_from 0 parts) (sym t)
+  where
+    taken : (l : List Cell) (n : ℕ) → n < length l → 0 + length (take n l) ≡ n
+    taken l zero h = refl
+    taken [] (suc n) h = absurd (omega arith)
+    taken (x ∷ l) (suc n) h = (let r = taken l n (omega arith) in omega (arith, r))
 
--- the parts of all Full cells
-parts_of_cells : (k : ℕ) (cells : List Cell) → AreAscending cells → AllByRecursion (IsPartOf k) (flat_map (subsets k) (full_cells cells))
-parts_of_cells k [] a = tt
-parts_of_cells k (Full q ∷ cells) a = all_append (IsPartOf k) (subsets k q) (flat_map (subsets k) (full_cells cells)) (parts_of_list k q a.0) (parts_of_cells k cells a.1)
-parts_of_cells k (Open t ∷ cells) a = parts_of_cells k cells a.1
+-- the points of one cell more
+pub ascending_more : (cells : List Cell) (c : Cell) → AreAscending cells → IsAscending (points_of c) → AreAscending (cells ++ c ∷ [])
+ascending_more [] c a b = (b, tt)
+ascending_more (d ∷ cells) c a b = (a.0, ascending_more cells c a.1 b)
 
--- lists of values that are one at each element
-map_same : {X Y : Type 0} (P : X → Type 0) (f g : X → Y) (xs : List X) → ((x : X) → P x → f x ≡ g x) → AllByRecursion P xs → map {B = X × Y} (λ x. (x, f x)) xs ≡ map (λ x. (x, g x)) xs
-map_same P f g [] e a = refl
-map_same {X} {Y} P f g (x ∷ xs) e a = ap (λ y. (x, y) ∷ map {B = X × Y} (λ x. (x, f x)) xs) (e x a.0) ∙ ap (λ l. (x, g x) ∷ l) (map_same P f g xs e a.1)
+-- the points of a cell ascend
+cell_ascends : (cells : List Cell) (i : ℕ) → AreAscending cells → i < length cells → IsAscending (points_of (cell_at cells i))
+cell_ascends [] i a h = absurd (omega arith)
+cell_ascends (c ∷ cells) zero a h = a.0
+cell_ascends (c ∷ cells) (suc i) a h = cell_ascends cells i a.1 (omega arith)
+
+-- ---- what is gathered
+
+-- Where the keys that parts give are the faces, and a test tells of the keys which cells have them, the table shows each face
+-- with its cells.
+module _ {K : Type 0} (cmp : K → K → Ordering) (o : IsTotalOrder cmp) (exact : CmpEqualImpliesEq cmp) (parts : Cell → List K) (test : K → Cell → Bool) (cells : List Cell) where
+  -- the test is told of a key's cells
+  abbrev pub Told : K → Type 0
+  Told k = ((i : ℕ) → i < length cells → IsIn k (parts (cell_at cells i)) → test k (cell_at cells i) ≡ true) × ((i : ℕ) → i < length cells → test k (cell_at cells i) ≡ true → IsIn k (parts (cell_at cells i)))
+
+  numbers_are : (t : Table K) (g : Gathers cmp cells (items_from 0 parts cells) t) (k : K) → Told k → numbers_of cmp g.sorted k ≡ which (test k) 0 cells
+  numbers_are t g k told = one_order nat_cmp nat_cmp_total (numbers_of cmp g.sorted k) (which (test k) 0 cells) (numbers_rise cmp o exact g.sorted k g.order) (which_rise (test k) 0 cells) there back
+    where
+      there : (n : ℕ) → IsIn n (numbers_of cmp g.sorted k) → IsIn n (which (test k) 0 cells)
+      there n i = (
+          let h = item_from parts 0 k n cells ((g.same (k, n)).0 (number_from cmp exact g.sorted k n i)) in
+          placed_in (test k) 0 n h.place cells h.inside h.is (told.0 h.place h.inside h.holds))
+
+      back : (n : ℕ) → IsIn n (which (test k) 0 cells) → IsIn n (numbers_of cmp g.sorted k)
+      back n i = (
+          let h = which_from (test k) 0 n cells i in
+          number_true cmp o g.sorted k n ((g.same (k, n)).1 (item_true parts 0 k n h.place cells h.inside h.is (told.1 h.place h.inside h.holds))))
+
+  cells_are : (t : Table K) (g : Gathers cmp cells (items_from 0 parts cells) t) (k : K) → Told k → numbered cells (numbers_of cmp g.sorted k) ≡ filter (test k) cells
+  cells_are t g k told = ap (numbered cells) (numbers_are t g k told) ∙ which_are (test k) cells 0 cells (λ i. ap (cell_at cells) (omega arith))
+
+  lists_are : (t : Table K) (g : Gathers cmp cells (items_from 0 parts cells) t) (ks : List K) → ((k : K) → IsIn k ks → Told k) → paired ks (map (numbered cells) (map (numbers_of cmp g.sorted) ks)) ≡ map (λ k. (k, filter (test k) cells)) ks
+  lists_are t g [] f = refl
+  lists_are t g (k ∷ ks) f =
+      ap (λ (l : List Cell). (k, l) ∷ paired ks (map (numbered cells) (map (numbers_of cmp g.sorted) ks))) (cells_are t g k (f k (inl refl)))
+      ∙ ap (λ (l : List (K × List Cell)). (k, filter (test k) cells) ∷ l) (lists_are t g ks (λ j i. f j (inr i)))
+
+  pub seen_is :
+      (t : Table K) (faces : List K) → Gathers cmp cells (items_from 0 parts cells) t → IsStrictlySortedBy cmp faces → ((k : K) → IsIn k faces → Told k) →
+      ((k : K) → (q : List ℕ) → IsIn (Full q) cells → IsIn k (parts (Full q)) → IsIn k faces) →
+      ((k : K) → IsIn k faces → (q : List ℕ) × IsIn (Full q) cells × IsIn k (parts (Full q))) →
+      table_seen cells t ≡ map (λ k. (k, filter (test k) cells)) faces
+  seen_is t faces g s told there back =
+      ap (λ (l : List (List ℕ)). paired t.keys.items (map (numbered cells) l)) g.lists
+      ∙ ap (λ (l : List K). paired l (map (numbered cells) (map (numbers_of cmp g.sorted) l))) keys_are
+      ∙ lists_are t g faces told
+    where
+      -- a Full cell by its number
+      full_cell : (k : K) (i : ℕ) → i < length cells → (c : Cell) → cell_at cells i ≡ c → is_full c ≡ true → IsIn k (parts c) → IsIn k faces
+      full_cell k i h (Full q) e f p = there k q (subst (λ v. IsIn v cells) e (at_in cells i (Full []) h)) p
+      full_cell k i h (Open q) e f p = cc
+
+      key_is_face : (k : K) → IsIn k t.keys.items → IsIn k faces
+      key_is_face k i = (
+          let f = full_from cells g.sorted k ((g.keys k).0 i) in
+          let h = item_from parts 0 k f.0 cells ((g.same (k, f.0)).0 f.1) in
+          let e : h.place ≡ f.0 = (let d = h.is in omega (arith, d)) in
+          full_cell k h.place h.inside (cell_at cells h.place) refl (subst (λ n. is_full (cell_at cells n) ≡ true) (sym e) f.2) h.holds)
+
+      -- where it stands
+      stands : (q : List ℕ) (i : ℕ) → i < length cells → get_or cells i (Full q) ≡ Full q → cell_at cells i ≡ Full q
+      stands q i h e = at_default cells i h ∙ e
+        where
+          at_default : (l : List Cell) (i : ℕ) → i < length l → get_or l i (Full []) ≡ get_or l i (Full q)
+          at_default [] i h = absurd (omega arith)
+          at_default (c ∷ l) zero h = refl
+          at_default (c ∷ l) (suc i) h = at_default l i (omega arith)
+
+      face_is_key : (k : K) → IsIn k faces → IsIn k t.keys.items
+      face_is_key k i = (
+          let b = back k i in
+          let p = contains_in cells (Full b.0) b.1 in
+          let e = stands b.0 p.0 p.1 p.2 in
+          (g.keys k).1 (full_true cells g.sorted k p.0 ((g.same (k, p.0)).1 (item_true parts 0 k p.0 p.0 cells p.1 (omega arith) (subst (λ c. IsIn k (parts c)) (sym e) b.2))) (subst (λ c. is_full c ≡ true) (sym e) refl)))
+
+      keys_are : t.keys.items ≡ faces
+      keys_are = one_order cmp o t.keys.items faces g.keys_order s key_is_face face_is_key
 
 -- ---- the two laws
 
 -- what is gathered under points
-pub points_gathered :
-    (cells : List Cell) → AreAscending cells →
-    map {B = ℕ × List Cell} (λ p. (p, cells_at nat_cmp (items_of points_of cells) p)) (full_keys nat_cmp (items_of points_of cells)) ≡ map (λ p. (p, cells_with (p ∷ []) cells)) (points_in cells)
-points_gathered cells a =
-    ap (λ l. map {B = ℕ × List Cell} (λ p. (p, cells_at nat_cmp (items_of points_of cells) p)) (each_once nat_cmp l)) (keys_are points_of cells)
-    ∙ map_same (λ p. Unit {0}) (cells_at nat_cmp (items_of points_of cells)) (λ p. cells_with (p ∷ []) cells) (points_in cells) (λ p u. cells_of_point cells p a) (all_units (points_in cells))
-  where
-    -- nothing is asked of points
-    all_units : (l : List ℕ) → AllByRecursion (λ p. Unit {0}) l
-    all_units [] = tt
-    all_units (x ∷ l) = (tt, all_units l)
+pub points_gathered : (cells : List Cell) (t : Table ℕ) → AreAscending cells → Gathers nat_cmp cells (items_from 0 points_of cells) t → table_seen cells t ≡ points_with_cells (points_in cells) cells
+points_gathered cells t a g =
+    seen_is nat_cmp nat_cmp_total exact_unsigned points_of (λ p c. list_all (λ e. is_among e (points_of c)) (p ∷ [])) cells t (points_in cells) g (points_in_order cells)
+    (λ p i. (
+      λ n h m. all_true (λ e. is_among e (points_of (cell_at cells n))) (p ∷ []) (λ e j. elim j [ inl q ↦ subst (λ v. is_among v (points_of (cell_at cells n)) ≡ true) q (among_true p (points_of (cell_at cells n)) m) | inr none ↦ absurd none ]),
+      λ n h m. among_from p (points_of (cell_at cells n)) (all_from (λ e. is_among e (points_of (cell_at cells n))) (p ∷ []) m p (inl refl)),
+    ))
+    (λ p q l m. point_is_listed cells p (record { q = q; listed = l; has = m }))
+    (λ p i. let h = listed_is_point cells p i in (h.q, h.listed, h.has))
+
+-- a Full cell of the list ascends
+full_ascends : (cells : List Cell) (q : List ℕ) → AreAscending cells → IsIn (Full q) cells → IsAscending q
+full_ascends [] q a i = absurd i
+full_ascends (c ∷ cells) q a i = elim i [ inl e ↦ subst (λ v. IsAscending (points_of v)) e a.0 | inr j ↦ full_ascends cells q a.1 j ]
+
+-- a part has as many points
+part_length : (k : ℕ) (q p : List ℕ) → IsIn p (subsets k q) → length p ≡ k
+part_length zero q p m = elim m [ inl e ↦ ap length (sym e) | inr none ↦ absurd none ]
+part_length (suc k) [] p m = absurd m
+part_length (suc k) (x ∷ q) p m = elim (from_append p (map (λ r. x ∷ r) (subsets k q)) (subsets (suc k) q) m) [
+  | inl l ↦ (let r = mapped_from (λ r. x ∷ r) p (subsets k q) l in ap length (sym r.2) ∙ ap suc (part_length k q r.0 r.1))
+  | inr l ↦ part_length (suc k) q p l
+]
 
 -- what is gathered under parts of k points
-pub parts_gathered :
-    (k : ℕ) (cells : List Cell) → AreAscending cells →
-    map {B = List ℕ × List Cell} (λ p. (p, cells_at (slice_cmp nat_cmp) (items_of (λ c. subsets k (points_of c)) cells) p)) (full_keys (slice_cmp nat_cmp) (items_of (λ c. subsets k (points_of c)) cells)) ≡ map (λ p. (p, cells_with p cells)) (parts_in k cells)
-parts_gathered k cells a =
-    let items = items_of (λ c. subsets k (points_of c)) cells in
-    ap (λ l. map {B = List ℕ × List Cell} (λ p. (p, cells_at (slice_cmp nat_cmp) items p)) (each_once (slice_cmp nat_cmp) l)) (keys_are (λ c. subsets k (points_of c)) cells)
-    ∙ map_same (IsPartOf k) (cells_at (slice_cmp nat_cmp) items) (λ p. cells_with p cells) (parts_in k cells) (λ p b. cells_of_part k cells p b.0 b.1 a) (all_fold (IsPartOf k) (slice_cmp nat_cmp) [] (flat_map (subsets k) (full_cells cells)) tt (parts_of_cells k cells a))
+pub parts_gathered : (k : ℕ) (cells : List Cell) (t : Table (List ℕ)) → AreAscending cells → Gathers (slice_cmp nat_cmp) cells (items_from 0 (λ c. subsets k (points_of c)) cells) t → table_seen cells t ≡ with_cells (parts_in k cells) cells
+parts_gathered k cells t a g =
+    seen_is (slice_cmp nat_cmp) nat_list_cmp_total exact_bytes (λ c. subsets k (points_of c)) (λ p c. list_all (λ e. is_among e (points_of c)) p) cells t (parts_in k cells) g (parts_in_order k cells)
+    (λ p i. (
+      λ n h m. all_true (λ e. is_among e (points_of (cell_at cells n))) p (λ e j. among_true e (points_of (cell_at cells n)) (part_inside k (points_of (cell_at cells n)) p m e j)),
+      λ n h m. (
+          let l = listed_is_part k cells p i in
+          let b = part_ascending k l.q p (full_ascends cells l.q a l.listed) l.part in
+          subst (λ j. IsIn p (subsets j (points_of (cell_at cells n)))) (part_length k l.q p l.part)
+          (part_true (points_of (cell_at cells n)) p (cell_ascends cells n a h) b (λ e j. among_from e (points_of (cell_at cells n)) (all_from (λ e. is_among e (points_of (cell_at cells n))) p m e j)))),
+    ))
+    (λ p q l m. part_is_listed k cells p (record { q = q; listed = l; part = m }))
+    (λ p i. let h = listed_is_part k cells p i in (h.q, h.listed, h.part))

@@ -1,4 +1,6 @@
-pub mod Gathered
+pub mod Sorting
+pub mod Stretches
+pub mod Gathering
 pub mod OnePart
 pub mod FaceLists
 pub mod FaceLaws

@@ -1,41 +1,53 @@
--- Cells that are gathered under keys, as `gather` promises them.
-use Rattle.std.specs.Prelude.{Bool, true, false, List, [], ◌∷◌, ◌++◌, map, if◌then◌else◌}
-use Rattle.std.specs.List.{filter, flat_map}
-use Rattle.std.specs.Ordering.{is_eq}
+-- Cells that are gathered under keys, as `gather` promises them. An item is a key with the number of a cell.
+use Rattle.std.specs.Prelude.{◌≡◌, ℕ, suc, ◌<◌, ◌↔◌, Bool, true, false, List, [], ◌∷◌, ◌++◌, map}
+use Rattle.std.specs.List.{filter}
+use Rattle.std.specs.List.Sorted.{IsStrictlySortedBy}
+use Rattle.std.specs.Ordering.{nat_cmp, is_eq, ordering_then}
 use Rattle.std.specs.declared.cmp.Ordering.{Ordering}
-use Rattle.std.specs.Global.{Vec}
 use Rattle.point_order.specs.declared.cell.Cell.{Cell}
 use Rattle.point_order.specs.declared.cell.Cell.TheVariants.{Full, Open}
 use Rattle.point_order.specs.declared.cell.Facet.{Facet}
 use Rattle.point_order.specs.declared.cell.Facet.TheVariants.{Three, Two}
 use Rattle.point_order.specs.Facets.{points_of}
-use Rattle.point_order.specs.Sets.{IsAscending}
-use Rattle.face_list.specs.Faces.{each_once}
+use Rattle.point_order.specs.Sets.{IsAscending, IsIn}
+use Rattle.face_list.specs.declared.table.Table.{Table}
+use Rattle.face_list.specs.Tables.{cell_at, stretches}
 
 -- the cell is Full
 abbrev pub is_full : Cell → Bool
 is_full (Full q) = true
 is_full (Open t) = false
 
--- the cells of the items with a key, in their order
-abbrev pub cells_at : {K : Type 0} → (K → K → Ordering) → List (K × Cell) → K → List Cell
-cells_at cmp items k = map (λ i. i.1) (filter (λ i. is_eq (cmp i.0 k)) items)
+-- by keys, and those of one key by numbers
+abbrev pub item_cmp : {K : Type 0} → (K → K → Ordering) → K × ℕ → K × ℕ → Ordering
+item_cmp cmp i j = ordering_then (cmp i.0 j.0) (nat_cmp i.1 j.1)
 
--- the keys of the Full cells, in order, each once
-abbrev pub full_keys : {K : Type 0} → (K → K → Ordering) → List (K × Cell) → List K
-full_keys cmp items = each_once cmp (map (λ i. i.0) (filter (λ i. is_full i.1) items))
+-- the numbers of the items with a key, in their order
+abbrev pub numbers_of : {K : Type 0} → (K → K → Ordering) → List (K × ℕ) → K → List ℕ
+numbers_of cmp items k = map (λ i. i.1) (filter (λ i. is_eq (cmp i.0 k)) items)
 
--- the list that an entry holds
-abbrev pub seen : {K : Type 0} → List (K × Vec Cell) → List (K × List Cell)
-seen es = map (λ e. (e.0, e.1.items)) es
+-- the keys of the items of Full cells
+abbrev pub full_keys : {K : Type 0} → List Cell → List (K × ℕ) → List K
+full_keys cells items = map (λ i. i.0) (filter (λ i. is_full (cell_at cells i.1)) items)
 
--- the lists, each with one cell more whose key is that of the cell
-abbrev pub with_cell : {K : Type 0} → (K → K → Ordering) → K → Cell → List (K × List Cell) → List (K × List Cell)
-with_cell cmp k c es = map (λ e. (e.0, (if is_eq (cmp k e.0) then e.1 ++ c ∷ [] else e.1))) es
+-- the number of each cell under each of its parts, cell by cell, the cells counted from `first`
+abbrev pub items_from : {K : Type 0} → ℕ → (Cell → List K) → List Cell → List (K × ℕ)
+items_from first parts [] = []
+items_from first parts (c ∷ cells) = map (λ p. (p, first)) (parts c) ++ items_from (suc first) parts cells
 
--- each cell under each of its parts, cell by cell
-abbrev pub items_of : {K : Type 0} → (Cell → List K) → List Cell → List (K × Cell)
-items_of parts cells = flat_map (λ c. map (λ p. (p, c)) (parts c)) cells
+-- each item names a cell of a list of `count`
+abbrev pub AreItems : {K : Type 0} → ℕ → List (K × ℕ) → Type 0
+AreItems {K} count items = (i : K × ℕ) → IsIn i items → i.1 < count
+
+-- The table has the keys of the Full cells' items, in order and each once, and each has the numbers of its items, in order and each
+-- once: `sorted` are the items so.
+pub record Gathers {K : Type 0} (cmp : K → K → Ordering) (cells : List Cell) (items : List (K × ℕ)) (t : Table K) : Type 0 where
+  pub sorted : List (K × ℕ)
+  pub order : IsStrictlySortedBy (item_cmp cmp) sorted
+  pub same : (i : K × ℕ) → IsIn i sorted ↔ IsIn i items
+  pub keys_order : IsStrictlySortedBy cmp t.keys.items
+  pub keys : (k : K) → IsIn k t.keys.items ↔ IsIn k (full_keys cells sorted)
+  pub lists : stretches t.numbers.items 0 t.ends.items ≡ map (numbers_of cmp sorted) t.keys.items
 
 -- the facet is a pair with the infinite vertex
 abbrev pub IsTwo : Facet → Type 0

@@ -1,40 +1,97 @@
 //! Faces, each with the cells that contain it.
 
-use point_order::{Cell, Pair, Point, Quad, Tri};
+ghost use Rattle.std.specs.Prelude.{◌≡◌, ◌<◌, All, length, map, slice_index_or};
+ghost use Rattle.face_list.specs.Tables.{numbered};
 
-/// A point of a Full cell, with the cells that have it.
-#[derive(Debug, Drop)]
-pub struct PointFace {
-    pub point: Point,
-    /// In the order of the list of cells, Open ones too.
-    pub cells: Vec<Cell>,
+use crate::table::Table;
+use point_order::{Cell, Pair, Point, Tri};
+use std::marker::Model;
+
+/// The faces of a list of cells: the points, pairs and triples inside Full cells, each with the cells that contain it.
+///
+/// The cells stand once, and faces name them by their numbers, which count the list from 0.
+#[derive(Drop)]
+pub struct Faces<'a> {
+    pub(crate) cells: &'a [Cell],
+    pub(crate) points: Table<Point>,
+    pub(crate) pairs: Table<Pair>,
+    pub(crate) triples: Table<Tri>,
 }
 
-/// A pair inside a Full cell, with the cells that have both points.
-#[derive(Debug, Drop)]
-pub struct PairFace {
-    pub pair: Pair,
-    /// In the order of the list of cells, Open ones too.
-    pub cells: Vec<Cell>,
+impl<'a> Model for Faces<'a> {
+    ghost use Rattle.std.specs.Prelude.{length};
+    ghost use Rattle.face_list.specs.Seen.{FaceLists};
+    ghost use Rattle.face_list.specs.Tables.{IsTable, table_seen};
+
+    ghost Value = { FaceLists };
+
+    ghost view = { λ f. record {
+      cells = f.cells.now;
+      points = table_seen f.cells.now f.points;
+      pairs = table_seen f.cells.now f.pairs;
+      triples = table_seen f.cells.now f.triples;
+    } };
+
+    ghost invariant = { λ f. IsTable (length f.cells.now) f.points × IsTable (length f.cells.now) f.pairs
+        × IsTable (length f.cells.now) f.triples };
 }
 
-/// A triple inside a Full cell, with the cells that have all three points.
-#[derive(Debug, Drop)]
-pub struct TriFace {
-    pub tri: Tri,
-    /// In the order of the list of cells, Open ones too.
-    pub cells: Vec<Cell>,
-}
+impl<'a> Faces<'a> {
+    /// The cells, in their order.
+    pub fn cells(&self) -> &[Cell]
+        ensures { result.now ≡ self.now.cells }
+    {
+        self.cells
+    }
 
-/// The faces of a list of cells.
-#[derive(Debug, Drop)]
-pub struct Faces {
     /// The points of Full cells, ascending, each once.
-    pub points: Vec<PointFace>,
+    pub fn points(&self) -> &[Point]
+        ensures { result.now ≡ map (λ f. f.0) self.now.points }
+    {
+        &self.points.keys
+    }
+
     /// The pairs inside Full cells, in lexicographic order, each once.
-    pub pairs: Vec<PairFace>,
+    pub fn pairs(&self) -> &[Pair]
+        ensures { result.now ≡ map (λ f. f.0) self.now.pairs }
+    {
+        &self.pairs.keys
+    }
+
     /// The triples inside Full cells, in lexicographic order, each once.
-    pub triples: Vec<TriFace>,
-    /// The Full cells, in the order of the list.
-    pub cells: Vec<Quad>,
+    pub fn triples(&self) -> &[Tri]
+        ensures { result.now ≡ map (λ f. f.0) self.now.triples }
+    {
+        &self.triples.keys
+    }
+
+    /// The point of an index, and the numbers of the cells that have it, Open ones too, in their order.
+    pub fn point(&self, index: usize) -> (Point, &[u32])
+        requires { index < length self.now.points }
+        ensures face { (result.0, numbered self.now.cells result.1.now)
+            ≡ slice_index_or self.now.points index (result.0, numbered self.now.cells result.1.now) }
+        ensures numbers { All (λ n. n < length self.now.cells) result.1.now }
+    {
+        self.points.face(index)
+    }
+
+    /// The pair of an index, and the numbers of the cells that have both points, Open ones too, in their order.
+    pub fn pair(&self, index: usize) -> (Pair, &[u32])
+        requires { index < length self.now.pairs }
+        ensures face { (result.0, numbered self.now.cells result.1.now)
+            ≡ slice_index_or self.now.pairs index (result.0, numbered self.now.cells result.1.now) }
+        ensures numbers { All (λ n. n < length self.now.cells) result.1.now }
+    {
+        self.pairs.face(index)
+    }
+
+    /// The triple of an index, and the numbers of the cells that have all three points, Open ones too, in their order.
+    pub fn triple(&self, index: usize) -> (Tri, &[u32])
+        requires { index < length self.now.triples }
+        ensures face { (result.0, numbered self.now.cells result.1.now)
+            ≡ slice_index_or self.now.triples index (result.0, numbered self.now.cells result.1.now) }
+        ensures numbers { All (λ n. n < length self.now.cells) result.1.now }
+    {
+        self.triples.face(index)
+    }
 }

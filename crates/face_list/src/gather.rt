@@ -1,52 +1,154 @@
-//! Cells gathered under keys, by an ordered map.
+//! Cells gathered under keys, by sorting.
 
-ghost use Rattle.std.specs.Prelude.{◌≡◌, [], map, IfOk, OnOk};
-ghost use Rattle.face_list.specs.Gather.{cells_at, full_keys, seen, with_cell};
+ghost use Rattle.std.specs.Prelude.{◌≡◌, ◌<◌, ◌≤◌, ◌^◌, ◌++◌, ◌⊎◌, ◌↔◌, ℕ, [], ◌∷◌, false, length, map, IfOk, OnOk};
+ghost use Rattle.std.specs.List.Sorted.{IsStrictlySortedBy};
+ghost use Rattle.std.specs.Ordering.{is_gt, is_lt};
+ghost use Rattle.std.specs.declared.cmp.Ordering.TheVariants.{Less};
+ghost use Rattle.std.proofs.lemmas.Map.Lookups.{CmpEqualImpliesEq};
+ghost use Rattle.point_order.specs.Sets.{IsIn};
+ghost use Rattle.face_list.specs.Gather.{item_cmp, numbers_of, full_keys, is_full as is_full_cell, AreItems, Gathers};
+ghost use Rattle.face_list.specs.Tables.{AreStops, IsTable, stretches};
 
+use crate::table::Table;
 use point_order::Cell;
 use std::alloc::{AllocError, Global};
-use std::collections::BTreeMap;
+use std::cmp::Ordering;
 
-// Puts the cell at the end of the list of its key, where the map has the key.
-fn add_cell<K: Ord + Copy>(
-    lists: &mut BTreeMap<K, Vec<Cell>>,
-    key: K,
-    cell: Cell,
-) -> Result<(), AllocError>
-    ensures { OnOk result (seen lists.new.entries ≡ with_cell K.cmp key cell (seen lists.old.entries)) }
+// The items in order, each once.
+fn in_order<K: Ord + Copy>(mut items: Vec<(K, u32)>) -> Vec<(K, u32)>
+    requires { CmpEqualImpliesEq K.cmp }
+    ensures order { IsStrictlySortedBy (item_cmp K.cmp) result.items }
+    ensures same { (i : K × ℕ) → IsIn i result.items ↔ IsIn i items.items }
 {
-    if let Some(list) = lists.get_mut(&key) {
-        list.push(cell)?;
+    items.sort_unstable();
+    items.dedup();
+    items
+}
+
+fn is_full(cell: &Cell) -> bool
+    ensures { result ≡ is_full_cell cell.now }
+{
+    matches!(cell, Cell::Full(_))
+}
+
+fn is_before<K: Ord>(a: &K, b: &K) -> bool
+    ensures { result ≡ is_lt (K.cmp a.now b.now) }
+{
+    matches!(a.cmp(b), Ordering::Less)
+}
+
+// Puts a key behind the others, which are in order, unless it is the last of them.
+fn put_key<K: Ord + Copy>(keys: &mut Vec<K>, key: K) -> Result<(), AllocError>
+    requires exact { CmpEqualImpliesEq K.cmp }
+    requires order { IsStrictlySortedBy K.cmp keys.old.items }
+    requires not_before { (k : K) → IsIn k keys.old.items → is_gt (K.cmp k key) ≡ false }
+    ensures order { OnOk result (IsStrictlySortedBy K.cmp keys.new.items) }
+    ensures keys { OnOk result ((k : K) → IsIn k keys.new.items ↔ (IsIn k keys.old.items ⊎ (key ≡ k))) }
+{
+    let count = keys.len();
+    if count == 0 || is_before(&keys[count - 1], &key) {
+        keys.push(key)?;
     }
     Ok(())
 }
 
-// The keys of the Full cells, each with no cell.
-fn open_lists<K: Ord + Copy>(
+// The keys of the items of Full cells, each once.
+fn keys_of_full<K: Ord + Copy>(
     alloc: Global,
-    items: &[(K, Cell)],
-) -> Result<BTreeMap<K, Vec<Cell>>, AllocError>
-    ensures { IfOk result (λ lists. seen lists.entries ≡ map (λ k. (k, [])) (full_keys K.cmp items.now)) }
+    cells: &[Cell],
+    items: &[(K, u32)],
+) -> Result<Vec<K>, AllocError>
+    requires exact { CmpEqualImpliesEq K.cmp }
+    requires order { IsStrictlySortedBy (item_cmp K.cmp) items.now }
+    requires numbers { AreItems (length cells.now) items.now }
+    ensures order { IfOk result (λ keys. IsStrictlySortedBy K.cmp keys.items) }
+    ensures keys { IfOk result (λ keys. (k : K) → IsIn k keys.items ↔ IsIn k (full_keys cells.now items.now)) }
 {
-    let mut lists = BTreeMap::new(alloc);
-    for (key, cell) in items {
-        if let Cell::Full(_) = *cell {
-            lists.insert(*key, Vec::new(alloc))?;
+    let mut keys = Vec::new(alloc);
+    for (key, number) in items {
+        if is_full(&cells[*number as usize]) {
+            put_key(&mut keys, *key)?;
         }
     }
-    Ok(lists)
+    Ok(keys)
 }
 
-// Each key of a Full cell, in order, with the cells of the items that have it.
+// Puts the numbers of a key's items behind the others. Answers the items behind those: what was passed over matters to no later key.
+fn put_numbers<'a, K: Ord + Copy>(
+    numbers: &mut Vec<u32>,
+    items: &'a [(K, u32)],
+    key: K,
+) -> Result<&'a [(K, u32)], AllocError>
+    requires { IsStrictlySortedBy (item_cmp K.cmp) items.now }
+    ensures numbers { OnOk result (numbers.new.items ≡ numbers.old.items ++ numbers_of K.cmp items.now key) }
+    ensures order { IfOk result (λ rest. IsStrictlySortedBy (item_cmp K.cmp) rest.now) }
+    ensures later { IfOk result (λ rest. (k : K) → K.cmp key k ≡ Less → numbers_of K.cmp rest.now k ≡ numbers_of K.cmp items.now k) }
+{
+    let mut rest = items;
+    while let Some((first, others)) = rest.split_first() {
+        match first.0.cmp(&key) {
+            Ordering::Less => {}
+            Ordering::Equal => numbers.push(first.1)?,
+            Ordering::Greater => return Ok(rest),
+        }
+        rest = others;
+    }
+    Ok(rest)
+}
+
+// Puts where the numbers end.
+fn put_end(ends: &mut Vec<u32>, count: usize) -> Result<(), AllocError>
+    ensures { OnOk result (ends.new.items ≡ ends.old.items ++ count ∷ []) }
+{
+    let Ok(end) = u32::try_from(count) else {
+        return Err(AllocError);
+    };
+    ends.push(end)?;
+    Ok(())
+}
+
+// The keys, each with the numbers of its items.
+fn with_numbers<K: Ord + Copy>(
+    alloc: Global,
+    keys: Vec<K>,
+    items: &[(K, u32)],
+) -> Result<Table<K>, AllocError>
+    requires keys { IsStrictlySortedBy K.cmp keys.items }
+    requires order { IsStrictlySortedBy (item_cmp K.cmp) items.now }
+    ensures keys { IfOk result (λ t. t.keys.items ≡ keys.items) }
+    ensures ends { IfOk result (λ t. length t.ends.items ≡ length keys.items) }
+    ensures stops { IfOk result (λ t. AreStops 0 (length t.numbers.items) t.ends.items) }
+    ensures lists { IfOk result (λ t. stretches t.numbers.items 0 t.ends.items ≡ map (numbers_of K.cmp items.now) keys.items) }
+    ensures numbers { IfOk result (λ t. (n : ℕ) → IsIn n t.numbers.items → IsIn n (map (λ i. i.1) items.now)) }
+{
+    let mut ends = Vec::new(alloc);
+    let mut numbers = Vec::new(alloc);
+    let mut rest = items;
+    for key in &keys {
+        rest = put_numbers(&mut numbers, rest, *key)?;
+        put_end(&mut ends, numbers.len())?;
+    }
+    Ok(Table {
+        keys,
+        ends,
+        numbers,
+    })
+}
+
+// Each key of a Full cell, in order, with the numbers of the cells of its items, in order. It is refused as want of memory where
+// there are more numbers than 32 bits count.
 pub fn gather<K: Ord + Copy>(
     alloc: Global,
-    items: &[(K, Cell)],
-) -> Result<BTreeMap<K, Vec<Cell>>, AllocError>
-    ensures { IfOk result (λ lists. seen lists.entries ≡ map (λ k. (k, cells_at K.cmp items.now k)) (full_keys K.cmp items.now)) }
+    cells: &[Cell],
+    items: Vec<(K, u32)>,
+) -> Result<Table<K>, AllocError>
+    requires exact { CmpEqualImpliesEq K.cmp }
+    requires numbers { AreItems (length cells.now) items.items }
+    ensures gathers { IfOk result (λ t. Gathers K.cmp cells.now items.items t) }
+    ensures table { IfOk result (λ t. IsTable (length cells.now) t) }
 {
-    let mut lists = open_lists(alloc, items)?;
-    for (key, cell) in items {
-        add_cell(&mut lists, *key, *cell)?;
-    }
-    Ok(lists)
+    let items = in_order(items);
+    let keys = keys_of_full(alloc, cells, &items)?;
+    let table = with_numbers(alloc, keys, &items)?;
+    Ok(table)
 }

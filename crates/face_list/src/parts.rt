@@ -1,11 +1,11 @@
 //! The points, pairs and triples of cells.
 
-ghost use Rattle.std.specs.Prelude.{◌≡◌, ℕ, ◌++◌, map, IfOk, OnOk};
+ghost use Rattle.std.specs.Prelude.{◌≡◌, ◌<◌, ◌^◌, ◌++◌, length, map, IfOk, OnOk};
 ghost use Rattle.point_order.specs.Facets.{points_of};
 ghost use Rattle.point_order.specs.Subsets.{subsets};
 ghost use Rattle.point_order.specs.declared.cell.Facet.TheVariants.{Three, Two};
 ghost use Rattle.point_order.specs.Sets.{IsAscending};
-ghost use Rattle.face_list.specs.Gather.{items_of, AreAscending, IsTwo, IsThree};
+ghost use Rattle.face_list.specs.Gather.{items_from, AreAscending, IsTwo, IsThree};
 
 use point_order::{Cell, Facet, Pair, Point, Quad, Tri};
 use std::alloc::{AllocError, Global};
@@ -72,12 +72,12 @@ fn pairs_of_quad(quad: Quad) -> [Pair; 6]
     [ab, ac, ad, bc, bd, cd]
 }
 
-// Puts the cell under each of its parts.
-fn put<K: Copy>(items: &mut Vec<(K, Cell)>, parts: &[K], cell: &Cell) -> Result<(), AllocError>
-    ensures { OnOk result (items.new.items ≡ items.old.items ++ map (λ p. (p, cell.now)) parts.now) }
+// Puts the number of a cell under each of the cell's parts.
+fn put<K: Copy>(items: &mut Vec<(K, u32)>, parts: &[K], number: u32) -> Result<(), AllocError>
+    ensures { OnOk result (items.new.items ≡ items.old.items ++ map (λ p. (p, number)) parts.now) }
 {
     for part in parts {
-        items.push((*part, *cell))?;
+        items.push((*part, number))?;
     }
     Ok(())
 }
@@ -93,41 +93,44 @@ fn points_in_order(cell: &Cell) -> &[Point]
     }
 }
 
-/// Each cell under each of its points, which ascend in each cell.
-pub fn point_items(alloc: Global, cells: &[Cell]) -> Result<Vec<(Point, Cell)>, AllocError>
-    ensures items { IfOk result (λ v. v.items ≡ items_of points_of cells.now) }
+/// The number of each cell under each of its points, which ascend in each cell.
+pub fn point_items(alloc: Global, cells: &[Cell]) -> Result<Vec<(Point, u32)>, AllocError>
+    requires { length cells.now < 2 ^ 32 }
+    ensures items { IfOk result (λ v. v.items ≡ items_from 0 points_of cells.now) }
     ensures ascending { OnOk result (AreAscending cells.now) }
 {
     let mut items = Vec::new(alloc);
-    for cell in cells {
-        put(&mut items, points_in_order(cell), cell)?;
+    for number in 0..cells.len() {
+        put(&mut items, points_in_order(&cells[number]), number as u32)?;
     }
     Ok(items)
 }
 
-/// Each cell under each of its pairs.
-pub fn pair_items(alloc: Global, cells: &[Cell]) -> Result<Vec<(Pair, Cell)>, AllocError>
-    ensures { IfOk result (λ v. v.items ≡ items_of (λ c. subsets 2 (points_of c)) cells.now) }
+/// The number of each cell under each of its pairs.
+pub fn pair_items(alloc: Global, cells: &[Cell]) -> Result<Vec<(Pair, u32)>, AllocError>
+    requires { length cells.now < 2 ^ 32 }
+    ensures { IfOk result (λ v. v.items ≡ items_from 0 (λ c. subsets 2 (points_of c)) cells.now) }
 {
     let mut items = Vec::new(alloc);
-    for cell in cells {
-        match *cell {
-            Cell::Full(quad) => put(&mut items, &pairs_of_quad(quad), cell)?,
-            Cell::Open(tri) => put(&mut items, &pairs_of_tri(tri), cell)?,
+    for number in 0..cells.len() {
+        match cells[number] {
+            Cell::Full(quad) => put(&mut items, &pairs_of_quad(quad), number as u32)?,
+            Cell::Open(tri) => put(&mut items, &pairs_of_tri(tri), number as u32)?,
         }
     }
     Ok(items)
 }
 
-/// Each cell under each of its triples.
-pub fn triple_items(alloc: Global, cells: &[Cell]) -> Result<Vec<(Tri, Cell)>, AllocError>
-    ensures { IfOk result (λ v. v.items ≡ items_of (λ c. subsets 3 (points_of c)) cells.now) }
+/// The number of each cell under each of its triples.
+pub fn triple_items(alloc: Global, cells: &[Cell]) -> Result<Vec<(Tri, u32)>, AllocError>
+    requires { length cells.now < 2 ^ 32 }
+    ensures { IfOk result (λ v. v.items ≡ items_from 0 (λ c. subsets 3 (points_of c)) cells.now) }
 {
     let mut items = Vec::new(alloc);
-    for cell in cells {
-        match *cell {
-            Cell::Full(quad) => put(&mut items, &triples_of_quad(quad), cell)?,
-            Cell::Open(tri) => put(&mut items, &triples_of_tri(tri), cell)?,
+    for number in 0..cells.len() {
+        match cells[number] {
+            Cell::Full(quad) => put(&mut items, &triples_of_quad(quad), number as u32)?,
+            Cell::Open(tri) => put(&mut items, &triples_of_tri(tri), number as u32)?,
         }
     }
     Ok(items)

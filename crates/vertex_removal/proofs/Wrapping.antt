@@ -15,7 +15,7 @@ use Rattle.point_order.specs.Conflicts.{CanJudge, is_in_conflict}
 use Rattle.point_order.specs.Facets.{facets_of, points_of}
 use Rattle.point_order.specs.Heights.{height}
 use Rattle.point_order.specs.Orientation.{is_flat}
-use Rattle.point_order.specs.Sets.{IsIn, is_among, with_point, ascending}
+use Rattle.point_order.specs.Sets.{IsIn, is_among, with_point}
 use Rattle.point_order.specs.Spheres.{is_outside}
 use Rattle.point_order.proofs.SetLaws.{in-with, in-with_new, in-with_old}
 use Rattle.del_laws.specs.Cells.{Vertex, point, On}
@@ -40,21 +40,21 @@ use Rattle.cell_store.proofs.MeshLaws.{in_moved}
 use Rattle.cell_conflict.proofs.Standing.{one_of_two}
 use Rattle.cavity.proofs.Lists.{distinct_push}
 use Rattle.vertex_removal.specs.Near.{AreTaken}
-use Rattle.vertex_removal.specs.Wraps.{IsApex, CanWrap, IsHole, IsOuter, IsFacetIn, AreSidesOf, IsOpen, AreMet, AreInOrder}
+use Rattle.vertex_removal.specs.Wraps.{IsApex, CanWrap, IsHole, IsOuter, IsFacetIn, AreSidesOf, IsOpen, AreMet, AreInOrder, LeaderIsApex, OuterIsRim}
 use Rattle.vertex_removal.specs.declared.wrap.Side.{Side}
 use Rattle.vertex_removal.proofs.Apexes.{cell_above, cell_point}
 
 -- ---- the cell on a side
 
-module _ (t : List ℕ) (v : ℕ) (k : CanWrap t v) where
+module _ (t : List ℕ) (i : IsSet t) where
   -- the one that leads makes a cell
-  pub apex_is : (f : Facet) (a b c d : ℕ) → AreInOrder f a b c → IsFacetIn (complex t) f → IsApex t t a b c d → is_full_cell t a b c d ≡ true
+  apex_is : (f : Facet) (a b c d : ℕ) → AreInOrder f a b c → IsFacetIn (complex t) f → IsApex t t a b c d → is_full_cell t a b c d ≡ true
   apex_is f a b c d o m l =
-      let r = cell_above t k.solid.set.keys a b c over.last sides d l.inside l.above in
+      let r = cell_above t i.keys a b c over.last sides d l.inside l.above in
       subst (λ (x : ℕ). is_full_cell t a b c x ≡ true) (l.only r.0 (cell_point t a b c r.0 r.2 r.0 (inr (inr (inr (inl refl))))) r.1 r.2) r.2
     where
       over : IsOver t m.cell f
-      over = over_facet t k.solid.set.keys m.cell f (listed_is_cell t m.cell k.solid.set.ascending m.listed) m.has
+      over = over_facet t i.keys m.cell f (listed_is_cell t m.cell i.ascending m.listed) m.has
 
       plain : On height t a o.low o.high over.last ⊎ On height t a o.high o.low over.last
       plain = cell_from t (point a) (point o.low) (point o.high) over.last (subst (λ (g : Facet). fits t g over.last ≡ true) o.is over.test)
@@ -65,10 +65,11 @@ module _ (t : List ℕ) (v : ℕ) (k : CanWrap t v) where
         | inr e ↦ subst (λ (x : ℕ). On height t a x c over.last ⊎ On height t a c x over.last) (sym e.0) (subst (λ (x : ℕ). On height t a o.high x over.last ⊎ On height t a x o.high over.last) (sym e.1) (elim plain [ inl p ↦ inr p | inr p ↦ inl p ]))
       ]
 
-  -- it is listed
-  pub apex_listed : (a b c d : ℕ) → is_full_cell t a b c d ≡ true → IsIn (Full (ascending (a ∷ b ∷ c ∷ d ∷ []))) (complex t)
-  apex_listed a b c d h = test_is_listed t k.solid.set.ascending k.solid.set.keys (point a) (point b) (point c) (point d) h
+-- so it is listed
+pub leader_is_apex : LeaderIsApex
+leader_is_apex t f a b c d i o m l = test_is_listed t i.ascending i.keys (point a) (point b) (point c) (point d) (apex_is t i f a b c d o m l)
 
+module _ (t : List ℕ) (v : ℕ) (k : CanWrap t v) where
   -- whether v takes it away can be judged
   pub apex_judged : (l : List ℕ) → IsIn (Full l) (complex t) → CanJudge (Full l) v v
   apex_judged l m = mates_judge t v k.solid.set k.new (Full l) v m tt
@@ -162,7 +163,7 @@ module _ (t : List ℕ) (v : ℕ) (k : CanWrap t v) where
         ])
 
     -- and the triple is a facet of the hole
-    pub rim_of_star : (c : Cell) → IsIn c (complex (with_point v t)) → IsIn v (points_of c) → IsIn f (facets_of c) → IsRimOf t v f
+    rim_of_star : (c : Cell) → IsIn c (complex (with_point v t)) → IsIn v (points_of c) → IsIn f (facets_of c) → IsRimOf t v f
     rim_of_star c m h j =
         let o = listed_facets (with_point v t) c f with_set.ascending with_set.keys m j in
         let lacks : ¬ (IsIn v (points_of o.other)) = λ p. o.differs (over_triple o.other o.listed p o.has ∙ sym (over_triple c m h j)) in
@@ -182,6 +183,11 @@ module _ (t : List ℕ) (v : ℕ) (k : CanWrap t v) where
           stays = stays;
           of_kept = o.has;
         }
+
+-- the triples against v of the cells at it bound the hole
+pub outer_is_rim : OuterIsRim
+outer_is_rim s v t c f i m l n h a =
+    rim_of_star t v (record { solid = l.solid; new = within_new v s t i m l.inside }) f a.triple a.is a.apart c (near_cell s v i m t l c f n h a) h a.of_cell
 
 -- ---- the wrap
 
@@ -209,7 +215,7 @@ wrap_begun t v star sides h k = record {
   opened = λ s m. (
       let r = k s m in
       let c = (h.star_is r.0).0 r.1 in
-      inl (rim_of_star t v (hole_wraps t v star h) s.facet r.2.triple r.2.is r.2.apart r.0 (near_cell h.set v h.is_set h.has_v t h.link r.0 s.facet c.0 c.1 r.2) c.1 r.2.of_cell));
+      inl (outer_is_rim h.set v t r.0 s.facet h.is_set h.has_v h.link c.0 c.1 r.2));
   once = tt;
 }
 

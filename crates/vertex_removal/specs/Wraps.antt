@@ -2,14 +2,16 @@
 -- the facets of the cells at it.
 use Rattle.std.specs.Prelude.{◌≡◌, ℕ, ◌<◌, true, pos, ◌<ℤ◌, List, [], ◌∷◌, ◌⊎◌, Option, None, Some, if◌then◌else◌, length, slice_index_or}
 use Rattle.point_order.specs.declared.cell.Cell.{Cell}
+use Rattle.point_order.specs.declared.cell.Cell.TheVariants.{Full}
 use Rattle.point_order.specs.declared.cell.Facet.{Facet}
 use Rattle.point_order.specs.declared.cell.Facet.TheVariants.{Three}
-use Rattle.point_order.specs.Facets.{facets_of}
+use Rattle.point_order.specs.Complex.{complex}
+use Rattle.point_order.specs.Facets.{facets_of, points_of}
 use Rattle.point_order.specs.Orientation.{orientation}
-use Rattle.point_order.specs.Sets.{IsIn}
+use Rattle.point_order.specs.Sets.{IsIn, ascending}
 use Rattle.point_order.specs.Spheres.{is_outside}
 use Rattle.del_laws.specs.Vertices.{is_full_cell}
-use Rattle.hole_laws.specs.Edits.{IsSet, IsSolidSet, IsNew, IsLinkSet}
+use Rattle.hole_laws.specs.Edits.{IsSet, IsSolidSet, IsNew, IsLinkSet, IsRimOf}
 use Rattle.vertex_removal.specs.Near.{IsStar}
 use Rattle.vertex_removal.specs.declared.wrap.Side.{Side}
 
@@ -89,3 +91,17 @@ pub record AreInOrder (f : Facet) (a b c : ℕ) : Type 0 where
   pub first : a < low
   pub second : low < high
   pub one_of : ((b ≡ low) × (c ≡ high)) ⊎ ((b ≡ high) × (c ≡ low))
+
+-- ---- the laws
+
+-- Where a point leads of all points of a set above a facet of its complex, the facet and the point are a cell of it.
+abbrev pub LeaderIsApex : Type 0
+LeaderIsApex =
+    (t : List ℕ) (f : Facet) (a b c d : ℕ) → IsSet t → AreInOrder f a b c → IsFacetIn (complex t) f → IsApex t t a b c d →
+    IsIn (Full (ascending (a ∷ b ∷ c ∷ d ∷ []))) (complex t)
+
+-- The triples against v of the cells at v in a set are rim facets of the points near v, and v.
+abbrev pub OuterIsRim : Type 0
+OuterIsRim =
+    (s : List ℕ) (v : ℕ) (t : List ℕ) (c : Cell) (f : Facet) → IsSet s → IsIn v s → IsLinkSet s v t →
+    IsIn c (complex s) → IsIn v (points_of c) → IsOuter c v f → IsRimOf t v f

@@ -1,5 +1,7 @@
 //! The texts of points and cells, and the faces of a complex.
 
+ghost use Rattle.std.specs.Prelude.{◌<◌, All, length};
+
 use crate::meshes::mesh_of;
 use crate::reading::{list_at, points_of};
 use cell_store::Grid;
@@ -56,16 +58,21 @@ pub(crate) fn put_cells(
     Ok(())
 }
 
-// A face with the cells that contain it.
+// A face with the cells that contain it, told by their numbers.
 fn put_face(
     text: &mut String,
     points: &[Point],
     corners: &[Point],
     cells: &[Cell],
-) -> Result<(), AllocError> {
+    around: &[u32],
+) -> Result<(), AllocError>
+    requires { All (λ n. n < length cells.now) around.now }
+{
     put_places(text, points, corners)?;
     text.push_str(" in")?;
-    put_cells(text, points, cells)?;
+    for number in around {
+        put_places(text, points, cells[*number as usize].points())?;
+    }
     text.push(';')
 }
 
@@ -84,19 +91,25 @@ pub(crate) fn faces_of<R>(
         return String::from_str(alloc, "no four independent points");
     };
     let left = points(alloc, &mesh)?;
-    let faces = faces(rt, alloc, &complex(alloc, &mesh)?)?;
+    let cells = complex(alloc, &mesh)?;
+    let faces = faces(rt, alloc, &cells)?;
     let mut text = String::new(alloc);
-    for face in &faces.points {
-        put_face(&mut text, &left, &[face.point], &face.cells)?;
+    for index in 0..faces.points().len() {
+        let (point, around) = faces.point(index);
+        put_face(&mut text, &left, &[point], faces.cells(), around)?;
     }
-    for face in &faces.pairs {
-        put_face(&mut text, &left, face.pair.points(), &face.cells)?;
+    for index in 0..faces.pairs().len() {
+        let (pair, around) = faces.pair(index);
+        put_face(&mut text, &left, pair.points(), faces.cells(), around)?;
     }
-    for face in &faces.triples {
-        put_face(&mut text, &left, face.tri.points(), &face.cells)?;
+    for index in 0..faces.triples().len() {
+        let (tri, around) = faces.triple(index);
+        put_face(&mut text, &left, tri.points(), faces.cells(), around)?;
     }
-    for quad in &faces.cells {
-        put_places(&mut text, &left, quad.points())?;
+    for cell in faces.cells() {
+        if let Cell::Full(quad) = cell {
+            put_places(&mut text, &left, quad.points())?;
+        }
     }
     Ok(text)
 }

@@ -1,8 +1,10 @@
 -- the cells so far and those of the rest are all
 use Rattle.std.proofs.Common.{◌≡◌, ◌++◌, drop}
 use Rattle.std.specs.List.{filter}
+use Rattle.face_list.specs.Faces.{full_cells}
 use Rattle.alpha_complex.specs.Admitted.{is_within}
 use Rattle.alpha_complex.proofs.small.small_cells.Given as goal
 
-abbrev pub invariant-loop-quad : goal.invariant-loop-quad
-invariant-loop-quad l = l.small.items ++ filter (is_within l.alpha) (drop l.quad-index l.cells) ≡ filter (is_within l.alpha) l.cells
+abbrev pub invariant-loop-cell : goal.invariant-loop-cell
+invariant-loop-cell l =
+    l.small.items ++ filter (is_within l.alpha) (full_cells (drop l.cell-index l.cells)) ≡ filter (is_within l.alpha) (full_cells l.cells)

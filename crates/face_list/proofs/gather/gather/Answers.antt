@@ -1,21 +1,30 @@
-use Rattle.std.proofs.Common.{take, arith}
-use Rattle.std.proofs.lemmas.List.{take_more, take_all}
-use Rattle.face_list.proofs.Gathered.{lists_more}
-use Rattle.face_list.specs.Gather.{full_keys}
+use Rattle.std.proofs.Common.{◌≡◌, sym, subst, ap, ◌∙◌, ℕ, List, map, length}
+use Rattle.std.specs.List.Sorted.{IsStrictlySortedBy}
+use Rattle.point_order.specs.Sets.{IsIn}
+use Rattle.face_list.specs.Gather.{numbers_of, full_keys, item_cmp}
+use Rattle.face_list.specs.Tables.{stretches}
+use Rattle.face_list.proofs.Gathering.{all_numbers}
 use Rattle.face_list.proofs.gather.gather.Goals as goal
 
-pub loop-key-preserved : goal.loop-key-preserved
-loop-key-preserved g c =
-    let i = c.loop-key.key-index in
-    let items = c.args.items.now in
-    let item = c.loop-key-item.result in
-    let n = take_more items i item c.loop-key-test.true in
-    let m = c.loop-key-item.is in
-    let a = c.in_ok-add_cell.ensures in
-    let h = c.loop-key.invariant in
-    rw (n, ← m, a, h) (lists_more g.K.Ord.cmp (take i items) item.0 item.1 (full_keys g.K.Ord.cmp items))
+pub keys_of_full-requires-clause-numbers : goal.keys_of_full-requires-clause-numbers
+keys_of_full-requires-clause-numbers g c i m =
+    c.requires.numbers i ((c.in_order-items.ensures.same i).0 (subst (λ (l : List (g.row.K.Denot × ℕ)). IsIn i l) c.deref.ensures.value m))
 
-pub returns : goal.returns
-returns g c =
-    let e = take_all c.loop-key.key-index c.args.items.now (omega arith) in
-    rw e at c.loop-key.invariant
+pub returns-clause-gathers : goal.returns-clause-gathers
+returns-clause-gathers g c =
+    let k = c.in_ok-table.ensures.keys in
+    record {
+      sorted = c.in_order-items.result.items;
+      order = c.in_order-items.ensures.order;
+      same = c.in_order-items.ensures.same;
+      keys_order = subst (IsStrictlySortedBy g.K.Ord.cmp) (sym k) c.in_ok-keys.ensures.order;
+      keys = λ x. rw (k, ← c.deref.ensures.value) (c.in_ok-keys.ensures.keys x);
+      lists = rw (k, ← c.deref-2.ensures.value) c.in_ok-table.ensures.lists;
+    }
+
+pub returns-clause-table : goal.returns-clause-table
+returns-clause-table g c = record {
+  ends = c.in_ok-table.ensures.ends ∙ ap length (sym c.in_ok-table.ensures.keys);
+  stops = c.in_ok-table.ensures.stops;
+  numbers = all_numbers (length c.args.cells.now) c.args.items.items c.in_order-items.result.items c.in_ok-table.table.numbers.items c.requires.numbers (λ i m. (c.in_order-items.ensures.same i).0 m) (λ n m. subst (λ (l : List (g.row.K.Denot × ℕ)). IsIn n (map (λ i. i.1) l)) c.deref-2.ensures.value (c.in_ok-table.ensures.numbers n m));
+}

@@ -1,19 +1,19 @@
-use Rattle.std.proofs.Common.{take, arith}
+use Rattle.std.proofs.Common.{sym, take, arith}
 use Rattle.std.proofs.lemmas.List.{take_more, take_all}
 use Rattle.point_order.specs.Facets.{points_of}
-use Rattle.face_list.proofs.Gathered.{items_more, ascending_more}
+use Rattle.face_list.proofs.FaceLists.{items_next, ascending_more}
 use Rattle.face_list.proofs.parts.point_items.Goals as goal
 
-pub loop-cell-preserved : goal.loop-cell-preserved
-loop-cell-preserved c =
+pub loop-number-preserved : goal.loop-number-preserved
+loop-number-preserved c =
     let cells = c.args.cells.now in
-    let item = c.cell-item.result in
-    let n = take_more cells c.loop-cell.cell-index item c.loop-cell-test.true in
-    let before = take c.loop-cell.cell-index cells in
+    let n = c.loop-number.number in
+    let item = c.index-cells-number.result in
+    let t = take_more cells n item c.loop-number-test.true in
     record {
-      items = rw (n, ← c.cell-item.is, items_more points_of before item, ← c.loop-cell.invariant.items, ← c.points_in_order.ensures.points) c.in_ok-put.ensures;
-      ascending = rw (n, ← c.cell-item.is) (ascending_more before item c.loop-cell.invariant.ascending c.points_in_order.ensures.ascending);
+      items = items_next points_of cells n item item _ _ _ c.loop-number-test.true c.loop-number.invariant.items (sym c.index-cells-number.is) c.points_in_order.ensures.points c.in_ok-put.ensures;
+      ascending = rw (t, ← c.index-cells-number.is) (ascending_more (take n cells) item c.loop-number.invariant.ascending c.points_in_order.ensures.ascending);
     }
 
 pub returns-clause-ascending : goal.returns-clause-ascending
-returns-clause-ascending c = rw (take_all c.loop-cell.cell-index c.args.cells.now (omega arith)) at c.loop-cell.invariant.ascending
+returns-clause-ascending c = rw (take_all c.loop-number.number c.args.cells.now (omega arith)) at c.loop-number.invariant.ascending

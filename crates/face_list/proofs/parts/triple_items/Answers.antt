@@ -1,20 +1,16 @@
-use Rattle.std.proofs.Common.{sym, ap, ◌∙◌, ◌++◌, take, map, List, ℕ}
-use Rattle.std.proofs.lemmas.List.{take_more}
+use Rattle.std.proofs.Common.{ap, ◌∙◌, List, ℕ}
 use Rattle.point_order.specs.declared.cell.Cell.{Cell}
 use Rattle.point_order.specs.Facets.{points_of}
 use Rattle.point_order.specs.Subsets.{subsets}
-use Rattle.face_list.proofs.Gathered.{items_more}
+use Rattle.face_list.proofs.FaceLists.{items_next}
 use Rattle.face_list.proofs.parts.triple_items.Goals as goal
 use Rattle.face_list.proofs.parts.triple_items.Goals.{in-Full+in_ok-put-in-Full, in-Open+in_ok-put-in-Open}
 
-pub loop-cell-preserved : goal.loop-cell-preserved
-loop-cell-preserved c =
-    let cells = c.args.cells.now in
-    let item = c.cell-item.result in
-    let n = take_more cells c.loop-cell.cell-index item c.loop-cell-test.true in
+pub loop-number-preserved : goal.loop-number-preserved
+loop-number-preserved c =
     let parts : Cell → List (List ℕ) = λ c. subsets 3 (points_of c) in
-    rw (n, ← c.cell-item.is, items_more parts (take c.loop-cell.cell-index cells) item, ← c.loop-cell.invariant)
-    (elim c.match-cell.branch [
-      | in-Full+in_ok-put-in-Full w ↦ rw w.items-is (w.in_ok-put-in-Full.ensures ∙ ap (λ ps. c.loop-cell.items.items ++ map (λ (p : List ℕ). (p, item)) ps) (w.triples_of_quad.ensures ∙ ap parts (sym w.in-Full.is)))
-      | in-Open+in_ok-put-in-Open w ↦ rw w.items-is (w.in_ok-put-in-Open.ensures ∙ ap (λ ps. c.loop-cell.items.items ++ map (λ (p : List ℕ). (p, item)) ps) (w.triples_of_tri.ensures ∙ ap parts (sym w.in-Open.is)))
-    ])
+    let n = c.loop-number.number in
+    elim c.match-cells-number.branch [
+      | in-Full+in_ok-put-in-Full w ↦ items_next parts c.args.cells.now n _ _ _ _ _ c.loop-number-test.true c.loop-number.invariant w.in-Full.is w.triples_of_quad.ensures (ap (λ v. v.items) w.items-is ∙ w.in_ok-put-in-Full.ensures)
+      | in-Open+in_ok-put-in-Open w ↦ items_next parts c.args.cells.now n _ _ _ _ _ c.loop-number-test.true c.loop-number.invariant w.in-Open.is w.triples_of_tri.ensures (ap (λ v. v.items) w.items-is ∙ w.in_ok-put-in-Open.ensures)
+    ]

@@ -1,9 +1,9 @@
--- the cells so far stand under their parts
+-- the numbers of the cells so far stand under their parts
 use Rattle.std.proofs.Common.{◌≡◌, take}
 use Rattle.point_order.specs.Facets.{points_of}
 use Rattle.point_order.specs.Subsets.{subsets}
-use Rattle.face_list.specs.Gather.{items_of}
+use Rattle.face_list.specs.Gather.{items_from}
 use Rattle.face_list.proofs.parts.triple_items.Given as goal
 
-abbrev pub invariant-loop-cell : goal.invariant-loop-cell
-invariant-loop-cell l = l.items.items ≡ items_of (λ c. subsets 3 (points_of c)) (take l.cell-index l.cells)
+abbrev pub invariant-loop-number : goal.invariant-loop-number
+invariant-loop-number l = l.items.items ≡ items_from 0 (λ c. subsets 3 (points_of c)) (take l.number l.cells)

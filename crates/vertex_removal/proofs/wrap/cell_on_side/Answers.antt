@@ -4,7 +4,7 @@ use Rattle.point_order.specs.Conflicts.{CanJudge, is_in_conflict}
 use Rattle.point_order.specs.Sets.{ascending}
 use Rattle.hole_laws.specs.Edits.{GoesFrom}
 use Rattle.vertex_removal.proofs.Apexes.{apart_above}
-use Rattle.vertex_removal.proofs.Wrapping.{apex_is, apex_listed, apex_judged, apex_goes}
+use Rattle.vertex_removal.proofs.Wrapping.{leader_is_apex, apex_judged, apex_goes}
 use Rattle.vertex_removal.proofs.wrap.cell_on_side.Goals as goal
 
 pub full-cell-requires : goal.full-cell-requires
@@ -18,7 +18,7 @@ conflict-requires c =
     let b = c.in_ok-a.b in
     let c' = c.in_ok-a.c in
     let d = c.in_ok-d.d in
-    let m = apex_listed t v c.requires.wraps a b c' d (apex_is t v c.requires.wraps c.args.side.now.facet a b c' d c.in_ok-a.ensures c.requires.facet c.in_ok-d.ensures) in
+    let m = leader_is_apex t c.args.side.now.facet a b c' d c.requires.wraps.solid.set c.in_ok-a.ensures c.requires.facet c.in_ok-d.ensures in
     subst (λ (q : Cell). CanJudge q v v) (sym c.full-cell.ensures) (apex_judged t v c.requires.wraps (ascending (a ∷ b ∷ c' ∷ d ∷ [])) m)
 
 pub returns-then-conflict : goal.returns-then-conflict
@@ -29,6 +29,6 @@ returns-then-conflict c =
     let b = c.in_ok-a.b in
     let c' = c.in_ok-a.c in
     let d = c.in_ok-d.d in
-    let m = apex_listed t v c.requires.wraps a b c' d (apex_is t v c.requires.wraps c.args.side.now.facet a b c' d c.in_ok-a.ensures c.requires.facet c.in_ok-d.ensures) in
+    let m = leader_is_apex t c.args.side.now.facet a b c' d c.requires.wraps.solid.set c.in_ok-a.ensures c.requires.facet c.in_ok-d.ensures in
     let h = sym c.conflict.ensures ∙ c.if-conflict.true in
     subst (λ (q : Cell). GoesFrom t v q) (sym c.full-cell.ensures) (apex_goes t v c.requires.wraps (ascending (a ∷ b ∷ c' ∷ d ∷ [])) m (subst (λ (q : Cell). is_in_conflict q v v ≡ true) c.full-cell.ensures h))
