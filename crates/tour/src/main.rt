@@ -62,7 +62,8 @@ fn show_shape(rt: &impl Print, alloc: Global, mesh: &Mesh, radius: u64) -> Resul
     requires { radius < 2 ^ 30 }
 {
     let _ = points(alloc, mesh)?;
-    let faces = faces(rt, alloc, &complex(alloc, mesh)?)?;
+    let cells = complex(alloc, mesh)?;
+    let faces = faces(rt, alloc, &cells)?;
     let shape = alpha(rt, alloc, &faces, radius)?;
     println!(rt; "at {radius}: {} tetrahedra", shape.cells.len())?;
     for (triple, kind) in &shape.triples {
