@@ -70,24 +70,25 @@ fn shapes_of<R>(
     }
 }
 
-// The report of the mesh of a file's lines, and of its history.
+// The report of the mesh of a file's lines, and of its history. The mesh is let go before the shapes are made.
 fn report<R>(
     rt: &R,
     alloc: Global,
     asked: Asked,
     file: &File,
-    mesh: &Mesh,
+    mesh: Mesh,
     kept: &[Entry],
 ) -> Result<Report, AllocError>
-    requires history { mesh.now.history ≡ kept.now }
+    requires history { mesh.history ≡ kept.now }
     requires radii { All (λ radius. radius < 2 ^ 30) file.now.radii.items }
     requires lines { length file.now.points.items + length file.now.edits.items < 2 ^ 32 }
     ensures report { IfOk result (λ report. parts_of report ≡ report_of asked.shape asked.order (content file.now) kept.now) }
     ensures order { IfOk result (λ report. IsAscending report.points.items) }
     ensures counted { IfOk result (λ report. AreCounted (shapes_seen report.shapes.items)) }
 {
-    let points = points(alloc, mesh)?;
-    let cells = complex(alloc, mesh)?;
+    let points = points(alloc, &mesh)?;
+    let cells = complex(alloc, &mesh)?;
+    drop(mesh);
     Ok(Report {
         replies: replies_by_tag(alloc, file.points.len() + file.edits.len(), kept)?,
         shapes: shapes_of(rt, alloc, asked.shape, &points, &cells, &file.radii)?,
@@ -139,7 +140,7 @@ pub fn history_and_report<R: Threads + Sync, G: Gate + Sync>(
     let Ok(kept) = history(alloc, &mesh) else {
         return Err(NoReport::Memory);
     };
-    let Ok(report) = report(rt, alloc, asked, file, &mesh, &kept) else {
+    let Ok(report) = report(rt, alloc, asked, file, mesh, &kept) else {
         return Err(NoReport::Memory);
     };
     Ok((kept, report))

@@ -17,6 +17,17 @@ use Rattle.edit_history.specs.Opening.{Four, opening_four}
 use Rattle.edit_history.specs.OneThread.{places}
 use Rattle.edit_workers.specs.Dealing.{with_pair, AreOpening}
 
+-- the places of an opening four that was found
+pub are_opening : (points four : List ℕ) → option_map places (opening_four points) ≡ Some four → AreOpening points four
+are_opening points four e = by (opening_four points) refl e
+  where
+    same : (a b : List ℕ) → Some a ≡ Some b → a ≡ b
+    same a b e = cc
+
+    by : (o : Option Four) → opening_four points ≡ o → option_map places o ≡ Some four → AreOpening points four
+    by None f e = absurd (cc e)
+    by (Some f) g e = (f, g, sym (same (places f) four e))
+
 -- ---- a pair put last
 
 -- in a list of lists that are seen as lists of pairs

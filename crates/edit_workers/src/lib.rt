@@ -10,6 +10,3 @@ pub use dealing::deal;
 pub use lists::{Left, List, Lists};
 pub use running::run_edits;
 pub use working::work;
-
-#[cfg(test)]
-mod tests;

@@ -1,6 +1,6 @@
 -- The lists of faces: what is gathered under the parts of cells are the faces, each with its cells.
 use Rattle.std.proofs.Common.{◌≡◌, refl, sym, ap, subst, ◌∙◌, ℕ, zero, suc, ◌+◌, ◌<◌, inl, inr, Bool, true, false, cond, List, [], ◌∷◌, ◌++◌, map, take, length, get_or, arith}
-use Rattle.std.specs.List.{filter, list_all, AllByRecursion}
+use Rattle.std.specs.List.{filter, list_all}
 use Rattle.std.specs.List.Sorted.{IsStrictlySortedBy}
 use Rattle.std.specs.Cmp.{IsTotalOrder}
 use Rattle.std.specs.Ordering.{nat_cmp}
@@ -17,10 +17,10 @@ use Rattle.point_order.specs.Facets.{points_of}
 use Rattle.point_order.specs.Sets.{IsIn, IsAscending, is_among}
 use Rattle.point_order.specs.Subsets.{subsets}
 use Rattle.del_laws.proofs.Listed.{in_left, in_right, from_append, mapped_from, mapped_true, part_inside, part_ascending, part_true}
-use Rattle.del_laws.proofs.Tests.{all_from, all_true, among_from, among_true, filter_is}
+use Rattle.del_laws.proofs.Tests.{all_from, all_true, among_from, among_true}
 use Rattle.face_list.specs.declared.table.Table.{Table}
-use Rattle.face_list.specs.Faces.{points_in, parts_in, cells_with, points_with_cells, with_cells}
-use Rattle.face_list.specs.Gather.{is_full, numbers_of, items_from, Gathers, AreAscending, full_keys, AreItems}
+use Rattle.face_list.specs.Faces.{points_in, parts_in, points_with_cells, with_cells}
+use Rattle.face_list.specs.Gather.{is_full, numbers_of, items_from, Gathers, AreAscending, AreItems}
 use Rattle.face_list.specs.Tables.{cell_at, numbered, paired, table_seen}
 use Rattle.face_list.proofs.FaceLaws.{points_in_order, point_is_listed, listed_is_point, parts_in_order, part_is_listed, listed_is_part}
 use Rattle.face_list.proofs.Sorting.{at_in, contains_in, in_all, one_order}

@@ -21,9 +21,9 @@ mod Digging
 mod Walking
 mod Planning
 mod Finishing
-mod Trying
+pub mod Trying
 mod Resting
 mod Counted
 mod Showing
-mod Snapped
+pub mod Snapped
 mod Homecoming

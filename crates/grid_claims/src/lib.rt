@@ -23,6 +23,3 @@ pub use gate::{Gate, Moment, OpenGate};
 pub use pass::Pass;
 pub use snapshot::Snapshot;
 pub use table::{MeshTable, Receipt, Refused};
-
-#[cfg(test)]
-mod tests;

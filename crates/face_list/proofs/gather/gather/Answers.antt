@@ -1,8 +1,6 @@
-use Rattle.std.proofs.Common.{◌≡◌, sym, subst, ap, ◌∙◌, ℕ, List, map, length}
+use Rattle.std.proofs.Common.{sym, subst, ap, ◌∙◌, ℕ, List, map, length}
 use Rattle.std.specs.List.Sorted.{IsStrictlySortedBy}
 use Rattle.point_order.specs.Sets.{IsIn}
-use Rattle.face_list.specs.Gather.{numbers_of, full_keys, item_cmp}
-use Rattle.face_list.specs.Tables.{stretches}
 use Rattle.face_list.proofs.Gathering.{all_numbers}
 use Rattle.face_list.proofs.gather.gather.Goals as goal
 

@@ -1,4 +1,4 @@
-use Rattle.std.proofs.Common.{◌≡◌, sym, ap, subst, ◌∙◌, ◌-◌, ◌<◌, ℕ, suc, inl, inr, List, [], ◌∷◌, length, get_or, arith}
+use Rattle.std.proofs.Common.{◌≡◌, sym, subst, ◌∙◌, ◌-◌, ◌<◌, inl, inr, length, arith}
 use Rattle.point_order.specs.Sets.{IsIn}
 use Rattle.face_list.proofs.Sorting.{at_in, sorted_end, behind_all, is_last, is_less, in_end, none_in}
 use Rattle.face_list.proofs.gather.put_key.Goals as goal

@@ -1,6 +1,6 @@
-use Rattle.std.proofs.Common.{◌≡◌, refl, sym, ap, subst, ◌∙◌, inl, inr, ◌++◌, ℕ, List, [], ◌∷◌}
+use Rattle.std.proofs.Common.{◌≡◌, refl, sym, ap, subst, ◌∙◌, inl, inr, ◌++◌, ◌∷◌}
 use Rattle.std.specs.List.Sorted.{IsStrictlySortedBy}
-use Rattle.std.specs.declared.cmp.Ordering.TheVariants.{Less, Equal, Greater}
+use Rattle.std.specs.declared.cmp.Ordering.TheVariants.{Less, Equal}
 use Rattle.face_list.specs.Gather.{item_cmp, numbers_of}
 use Rattle.face_list.proofs.Gathering.{other_key, same_key, none_behind, before_later, sorted_rest, end_joined, end_none}
 use Rattle.face_list.proofs.gather.put_numbers.Goals as goal

@@ -1,4 +1,4 @@
-use Rattle.std.proofs.Common.{◌≡◌, ℕ, List, ap, sym, subst, ◌∙◌, ◌<◌, map, length, get_or, arith}
+use Rattle.std.proofs.Common.{◌≡◌, ℕ, List, ap, subst, ◌<◌, length, get_or, arith}
 use Rattle.point_order.specs.declared.cell.Cell.{Cell}
 use Rattle.face_list.specs.Tables.{numbered}
 use Rattle.face_list.proofs.Stretches.{seen_length, face_seen, numbers_seen}

@@ -1,0 +1,58 @@
+//! Lines that are dealt.
+
+ghost use Rattle.std.specs.Prelude.{◌≡◌, IfSome};
+ghost use Rattle.edit_workers.specs.Dealing.{AreOpening};
+
+use crate::reading::{list_at, pairs_of, points_of};
+use edit_files::File;
+use edit_history::find_four;
+use edit_workers::deal;
+use std::alloc::{AllocError, Global};
+
+// The places of the opening four of a file's points, if four of them are independent.
+fn four_of(file: &File) -> Option<[usize; 4]>
+    ensures { IfSome result (λ four. AreOpening file.now.points.items four) }
+{
+    match find_four(&file.points) {
+        Ok(four) => Some(four),
+        Err(_) => None,
+    }
+}
+
+/// Plays a scene of dealt lines: the tags of each list.
+///
+/// # Errors
+/// Want of memory.
+pub(crate) fn play(
+    alloc: Global,
+    text: &mut String,
+    workers: u32,
+    lists: &str,
+) -> Result<(), AllocError> {
+    let mut edits = Vec::new(alloc);
+    for (_, edit) in &pairs_of(alloc, list_at(lists, 1))? {
+        edits.push(*edit)?;
+    }
+    let points = points_of(alloc, list_at(lists, 0))?;
+    let radii = Vec::new(alloc);
+    if workers == 0 || workers > 64 || points.len() > 1024 || edits.len() > 1024 {
+        return text.push_str("no such lists");
+    }
+    let file = File {
+        points,
+        edits,
+        radii,
+    };
+    let Some(four) = four_of(&file) else {
+        return text.push_str("no four independent points");
+    };
+    let lists = deal(alloc, &file, four, workers)?;
+    for list in &lists.each {
+        text.push_str(" list")?;
+        for (tag, _) in &list.pairs {
+            write!(text, " {tag}")?;
+        }
+        text.push(';')?;
+    }
+    Ok(())
+}

@@ -1,0 +1,79 @@
+//! Two workers that are to see each other.
+
+ghost use Rattle.std.specs.Prelude.{◌≡◌, ◌≢◌, ◌+◌, ◌^◌, ◌≤◌, ◌∷◌, [], IfOk, length};
+ghost use Rattle.edit_history.specs.Edits.{point_of};
+ghost use Rattle.edit_workers.specs.Dealing.{lists_of};
+
+use crate::gates::Meeting;
+use crate::meshes::mesh_of;
+use crate::passes::put_mesh;
+use crate::reading::{list_at, pairs_of, points_of};
+use cell_store::{Grid, Mesh};
+use edit_history::Edit;
+use edit_workers::{List, Lists, run_edits};
+use grid_claims::Gate;
+use std::alloc::{AllocError, Global};
+use std::thread::Threads;
+
+// A list of one pair.
+fn list_of(alloc: Global, pair: (u32, Edit)) -> Result<List, AllocError>
+    ensures { IfOk result (λ list. list.pairs.items ≡ pair ∷ []) }
+{
+    let mut pairs = Vec::new(alloc);
+    pairs.push(pair)?;
+    Ok(List { pairs })
+}
+
+// Two lists of one pair each.
+fn two_lists(alloc: Global, one: (u32, Edit), two: (u32, Edit)) -> Result<Lists, AllocError>
+    ensures { IfOk result (λ lists. lists_of lists ≡ (one ∷ []) ∷ (two ∷ []) ∷ []) }
+{
+    let mut each = Vec::new(alloc);
+    each.push(list_of(alloc, one)?)?;
+    each.push(list_of(alloc, two)?)?;
+    Ok(Lists { each })
+}
+
+// Makes two edits of different points, each by a worker of its own.
+fn run_two<G: Gate + Sync, R: Threads + Sync>(
+    rt: &R,
+    alloc: Global,
+    mesh: Mesh,
+    one: (u32, Edit),
+    two: (u32, Edit),
+    gate: &G,
+) -> Result<Mesh, AllocError>
+    requires room { length mesh.history + 2 ≤ 2 ^ 32 }
+    requires apart { point_of one.1 ≢ point_of two.1 }
+{
+    let lists = two_lists(alloc, one, two)?;
+    run_edits(rt, alloc, mesh, &lists, gate)
+}
+
+/// Plays a scene of two workers. It is told who saw the other, and how many entries there are in the end.
+///
+/// # Errors
+/// Want of memory.
+pub(crate) fn play<R: Threads + Sync>(
+    rt: &R,
+    alloc: Global,
+    text: &mut String,
+    grid: Grid,
+    lists: &str,
+) -> Result<(), AllocError> {
+    let points = points_of(alloc, list_at(lists, 0))?;
+    let pairs = pairs_of(alloc, list_at(lists, 1))?;
+    let [one, two] = *pairs.as_slice() else {
+        return text.push_str("not two edits");
+    };
+    if one.1.point().key() == two.1.point().key() {
+        return text.push_str("edits of one point");
+    }
+    let Some(mesh) = mesh_of(alloc, grid, &points)? else {
+        return text.push_str("no four independent points");
+    };
+    let meeting = Meeting::new();
+    let mesh = run_two(rt, alloc, mesh, one, two, &meeting)?;
+    let (zero, one) = meeting.who_saw();
+    write!(text, " {zero} {one} {} entries", mesh.count())
+}
