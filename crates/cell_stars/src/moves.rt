@@ -2,17 +2,16 @@
 
 ghost use Rattle.std.specs.Prelude.{◌≡◌, ◌↔◌, ◌⊎◌, ◌≤◌, ◌<◌, ℕ, true, None, Some, IfOk, IfSome, OnOk, length, MatchOption, MatchBool, IsTrue};
 ghost use Rattle.std.specs.List.{zip};
-ghost use Rattle.std.specs.List.Sorted.{IsStrictlySortedBy};
 ghost use Rattle.point_order.specs.declared.cell.Cell.{Cell};
-ghost use Rattle.point_order.specs.CellOrder.{cell_cmp};
 ghost use Rattle.point_order.specs.Facets.{points_of};
 ghost use Rattle.point_order.specs.Sets.{IsIn, IsAscending, is_among};
 ghost use Rattle.cell_stars.specs.Places.{at, lies_in, touches_in};
 ghost use Rattle.cell_stars.specs.Plans.{AreFor};
+ghost use Rattle.cell_stars.specs.Swaps.{Differ};
 ghost use Rattle.cell_stars.specs.Moves.{IsStarFor, AreFreed, AreComing, IsVacant, IsClear, Stays};
 
 use crate::cells::Cells;
-use crate::order::{are_same, cells_in_order, has_vertex, numbers_in_order, touches};
+use crate::order::{are_same, cells_once, has_vertex, numbers_in_order, touches};
 use crate::star::cell_at;
 use point_order::{Cell, Point};
 use std::alloc::{AllocError, Global};
@@ -390,7 +389,7 @@ impl Cells {
         freed: &[u32],
     ) -> Result<Vec<Cell>, AllocError>
         requires { IsAscending freed.now }
-        ensures order { IfOk result (λ coming. IsStrictlySortedBy cell_cmp coming.items) }
+        ensures once { IfOk result (λ coming. Differ coming.items) }
         ensures coming { IfOk result (λ coming. AreComing self.now freed.now fresh.now coming.items) }
     {
         let p = self.new_vertex(fresh);
@@ -402,7 +401,7 @@ impl Cells {
                 coming.push(*c)?;
             }
         }
-        Ok(cells_in_order(coming))
+        Ok(cells_once(coming))
     }
 
     // What goes and comes.

@@ -16,4 +16,4 @@ loop-c-preserved c =
     ]
 
 pub returns-clause-coming : goal.returns-clause-coming
-returns-clause-coming c = coming_all c.args.self.now c.args.freed.now c.args.fresh.now c.loop-c.c-index c.loop-c.coming.items c.cells_in_order.result.items c.loop-c-test.false c.cells_in_order.ensures.cells c.loop-c.invariant.0
+returns-clause-coming c = coming_all c.args.self.now c.args.freed.now c.args.fresh.now c.loop-c.c-index c.loop-c.coming.items c.cells_once.result.items c.loop-c-test.false c.cells_once.ensures.cells c.loop-c.invariant.0
