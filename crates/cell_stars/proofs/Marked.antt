@@ -1,10 +1,10 @@
 -- Marks of numbers.
-use Rattle.std.specs.Prelude.{◌≡◌, ◌≢◌, ℕ, ◌+◌, ◌%◌, ◌<◌, ◌≤◌, Bool, true, false, List, length, slice_index_or, slice_set}
+use Rattle.std.specs.Prelude.{◌≡◌, ℕ, ◌+◌, ◌%◌, ◌<◌, ◌≤◌, Bool, true, false, List, length, slice_index_or, slice_set}
 use Rattle.std.proofs.Common.{refl, sym, ◌∙◌, ap, arith, inl, inr, take}
 use Rattle.std.proofs.lemmas.Bool.{cases_eq}
 use Rattle.std.proofs.lemmas.List.{get_or-set_same, get_or-set_other}
 use Rattle.std.proofs.Math.ListN.{length-set}
-use Rattle.point_order.specs.Sets.{IsIn, is_among}
+use Rattle.point_order.specs.Sets.{is_among}
 use Rattle.del_laws.proofs.Tests.{among_from}
 use Rattle.cell_stars.specs.Moves.{AreMarked}
 use Rattle.cell_stars.proofs.Members.{each_more, each_none, each_taken}

@@ -2,7 +2,6 @@
 use Rattle.std.specs.Prelude.{◌≡◌, ℕ, zero, suc, ◌+◌, ◌<◌, ◌≤◌, Bool, true, false, List, [], ◌∷◌, ◌++◌, ◌⊎◌, length, slice_index_or, Option, None, Some, MatchOption, MatchBool, IsTrue, not, ◌==◌}
 use Rattle.std.specs.Ordering.{is_eq}
 use Rattle.std.specs.List.{zip}
-use Rattle.std.specs.List.Sorted.{IsStrictlySortedBy}
 use Rattle.std.specs.declared.cmp.Ordering.{Ordering}
 use Rattle.std.specs.declared.cmp.Ordering.TheVariants.{Less, Equal, Greater}
 use Rattle.std.proofs.Common.{refl, sym, ◌∙◌, ap, subst, inl, inr, arith, take, length-append}
@@ -19,12 +18,9 @@ use Rattle.del_laws.proofs.Tests.{any_from, any_true, among_from, among_true}
 use Rattle.point_order.specs.Sets.{is_among}
 use Rattle.cell_stars.specs.Grids.{bucket_of}
 use Rattle.cell_stars.specs.Plans.{AreFor}
-use Rattle.cell_stars.specs.Swaps.{AreSameCells}
-use Rattle.cell_stars.proofs.CellLaws.{cell_same, cell_self, each_by}
+use Rattle.cell_stars.specs.Swaps.{AreSameCells, Differ}
+use Rattle.cell_stars.proofs.CellLaws.{cell_same, cell_self}
 use Rattle.cell_stars.proofs.Members.{each_more, each_taken, each_none, at_place, in_pushed, pushed_old, pushed_new}
-
-not_itself : (c d : Cell) → c ≡ d → cell_cmp c d ≡ Less → ⊥
-not_itself c d q e = (let s = cell_self c in let t = ap (cell_cmp c) q ∙ e in absurd (cc (s, t)))
 
 -- cells that tie are one
 pub same_cells : (a b : Cell) (r : Bool) → r ≡ is_eq (cell_cmp a b) → (IsTrue r → a ≡ b) × (a ≡ b → IsTrue r)
@@ -220,17 +216,16 @@ zip_apart (u ∷ us) (e ∷ cs) i c d a (inl p) (inr n) = (let b = below-each u 
 zip_apart (u ∷ us) (e ∷ cs) i c d a (inr m) (inl q) = (let b = below-each u us a.0 a.1 i (in_zip us cs i c m).0 in let p = ap (λ x. x.0) q in absurd (omega (arith, b, p)))
 zip_apart (u ∷ us) (e ∷ cs) i c d a (inr m) (inr n) = zip_apart us cs i c d a.1 m n
 
-zip_single : (us : List ℕ) (cs : List Cell) (i j : ℕ) (c : Cell) → IsStrictlySortedBy cell_cmp cs → IsIn (i, c) (zip us cs) → IsIn (j, c) (zip us cs) → i ≡ j
-unfolding IsStrictlySortedBy
+zip_single : (us : List ℕ) (cs : List Cell) (i j : ℕ) (c : Cell) → Differ cs → IsIn (i, c) (zip us cs) → IsIn (j, c) (zip us cs) → i ≡ j
 zip_single [] cs i j c a m n = absurd m
 zip_single (u ∷ us) [] i j c a m n = absurd m
 zip_single (u ∷ us) (e ∷ cs) i j c a (inl p) (inl q) = sym (ap (λ x. x.0) p) ∙ ap (λ x. x.0) q
-zip_single (u ∷ us) (e ∷ cs) i j c a (inl p) (inr n) = absurd (not_itself e c (ap (λ x. x.1) p) (each_by (λ y. cell_cmp e y ≡ Less) cs a.0 c (in_zip us cs j c n).1))
-zip_single (u ∷ us) (e ∷ cs) i j c a (inr m) (inl q) = absurd (not_itself e c (ap (λ x. x.1) q) (each_by (λ y. cell_cmp e y ≡ Less) cs a.0 c (in_zip us cs i c m).1))
+zip_single (u ∷ us) (e ∷ cs) i j c a (inl p) (inr n) = absurd (a.0 (subst (λ (d : Cell). IsIn d cs) (sym (ap (λ x. x.1) p)) (in_zip us cs j c n).1))
+zip_single (u ∷ us) (e ∷ cs) i j c a (inr m) (inl q) = absurd (a.0 (subst (λ (d : Cell). IsIn d cs) (sym (ap (λ x. x.1) q)) (in_zip us cs i c m).1))
 zip_single (u ∷ us) (e ∷ cs) i j c a (inr m) (inr n) = zip_single us cs i j c a.1 m n
 
 -- the places and the cells together are what goes and comes
-pub are_for : (b : Placed) (slots : List (Option Cell)) (gone fresh coming : List Cell) (freed us : List ℕ) (placed : List (ℕ × Cell)) → AreStars b → slots ≡ b.slots → AreFreed b gone freed → IsStrictlySortedBy cell_cmp coming → AreComing b freed fresh coming → IsAscending us → length us ≡ length coming → ((i : ℕ) → IsIn i us → IsVacant slots freed i) → placed ≡ zip us coming → AreFor gone fresh freed placed b
+pub are_for : (b : Placed) (slots : List (Option Cell)) (gone fresh coming : List Cell) (freed us : List ℕ) (placed : List (ℕ × Cell)) → AreStars b → slots ≡ b.slots → AreFreed b gone freed → Differ coming → AreComing b freed fresh coming → IsAscending us → length us ≡ length coming → ((i : ℕ) → IsIn i us → IsVacant slots freed i) → placed ≡ zip us coming → AreFor gone fresh freed placed b
 are_for b slots gone fresh coming freed us placed a es f o k au n v p = rw p (record {
   there = λ i m. (let r = f.each i m in (r.cell, r.there));
   freed_gone = λ i c m e. (let r = f.each i m in let q : r.cell ≡ c = (let t : Some r.cell ≡ Some c = sym r.there ∙ e in cc t) in (subst (λ x. IsIn x gone) q r.goes, ap (touches_in b.place) (sym q) ∙ r.touches));

@@ -1,5 +1,5 @@
 -- Lists in order, each element once.
-use Rattle.std.specs.Prelude.{◌≡◌, ℕ, suc, ◌<◌, ◌+◌, slice_index, Bool, true, List, [], ◌∷◌}
+use Rattle.std.specs.Prelude.{◌≡◌, ℕ, suc, ◌<◌, ◌+◌, slice_index, Bool, true, List, [], ◌∷◌, length}
 use Rattle.std.specs.Cmp.{IsTotalOrder, IsEquivalence}
 use Rattle.std.specs.List.{dedup, Contains}
 use Rattle.std.specs.List.Sorted.{IsStrictlySortedBy, IsStrictlyIncreasing, IsSorted, IsPermutation}
@@ -15,8 +15,8 @@ use Rattle.point_order.specs.declared.cell.Cell.{Cell}
 use Rattle.point_order.specs.CellOrder.{cell_cmp}
 use Rattle.point_order.specs.Sets.{IsIn, IsAscending}
 use Rattle.edit_history.proofs.Lines.{at-in}
-use Rattle.cell_stars.specs.Swaps.{AreSameCells}
-use Rattle.cell_stars.proofs.CellLaws.{cell_same, cell_reverse, cell_before}
+use Rattle.cell_stars.specs.Swaps.{AreSameCells, Differ}
+use Rattle.cell_stars.proofs.CellLaws.{cell_same, cell_self, cell_reverse, cell_before, each_by}
 
 pub cell_order : IsTotalOrder cell_cmp
 cell_order = record { antisymm = cell_reverse; trans = cell_before; congr = λ c d e h. ap (λ x. cell_cmp x e) (cell_same c d h) }
@@ -52,6 +52,21 @@ deduped_same same ties l sorted deduped p e = (
       symm = λ x y. ties x y ∙ q.symm x y ∙ sym (ties y x);
       congr = λ x y z h. ties x z ∙ q.congr x y z (sym (ties x y) ∙ h) ∙ sym (ties y z);
     }
+
+-- what is in order differs
+pub sorted_differ : (l : List Cell) → IsStrictlySortedBy cell_cmp l → Differ l
+unfolding IsStrictlySortedBy
+sorted_differ [] s = tt
+sorted_differ (c ∷ l) s = (λ m. (let t = each_by (λ d. cell_cmp c d ≡ Less) l s.0 c m in let e = cell_self c in absurd (cc (t, e))), sorted_differ l s.1)
+
+-- one cell more before those that differ
+pub differ_more : (rest others all : List Cell) (c : Cell) → rest ≡ c ∷ others → (IsIn c others → ⊥) → (Differ rest → Differ all) → Differ others → Differ all
+differ_more rest others all c e n f d = f (subst Differ (sym e) (n, d))
+
+-- none are left
+pub differ_none : (rest all : List Cell) → length rest ≡ 0 → (Differ rest → Differ all) → Differ all
+differ_none [] all e f = f tt
+differ_none (c ∷ rest) all e f = absurd (omega (arith, e))
 
 -- ---- numbers
 

@@ -8,7 +8,7 @@ use Rattle.std.proofs.lemmas.List.Sorted.{IsPermutation-refl, IsPermutation-cons
 use Rattle.point_order.specs.declared.cell.Cell.{Cell}
 use Rattle.point_order.specs.CellOrder.{cell_cmp}
 use Rattle.point_order.specs.Sets.{IsIn}
-use Rattle.cell_stars.specs.Swaps.{with_cell, with_cells}
+use Rattle.cell_stars.specs.Swaps.{Differ, with_cell, with_cells}
 use Rattle.cell_stars.specs.Places.{Placed, AreStars, IsNamed, at, live, cells_of, lies_in, touches_in}
 use Rattle.cell_stars.proofs.CellLaws.{cell_same, in_with}
 use Rattle.cell_stars.proofs.Least.{at_live}
@@ -35,11 +35,6 @@ stands_at w b (inl e) s = stands_new w b e s
 stands_at w b (inr e) s = subst (λ o. AreStars (record b { place = o })) e s
 
 -- ---- the list of the cells
-
--- no cell twice
-abbrev Differ : List Cell → Type 0
-Differ [] = Unit {0}
-Differ (c ∷ l) = (IsIn c l → ⊥) × Differ l
 
 all_differ : (slots : List (Option Cell)) → ((i j : ℕ) (c : Cell) → at slots i ≡ Some c → at slots j ≡ Some c → i ≡ j) → Differ (live slots)
 all_differ [] o = tt

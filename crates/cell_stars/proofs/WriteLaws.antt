@@ -1,66 +1,57 @@
 -- The stars after an exchange.
 use Rattle.std.specs.Prelude.{◌≡◌, ℕ, ◌+◌, ◌<◌, ◌≤◌, Bool, true, false, not, List, [], ◌∷◌, ◌++◌, ◌⊎◌, length, slice_index, slice_index_or, Option, None, Some, MatchBool, ◌==◌}
-use Rattle.std.specs.List.{zip}
+use Rattle.std.specs.List.{filter, zip}
 use Rattle.std.proofs.Common.{refl, sym, ◌∙◌, ap, subst, inl, inr, arith}
 use Rattle.point_order.specs.declared.cell.Cell.{Cell}
 use Rattle.point_order.specs.Facets.{points_of}
 use Rattle.point_order.specs.Sets.{IsIn, IsAscending, is_among}
 use Rattle.point_order.proofs.SetLaws.{below-each}
 use Rattle.std.proofs.lemmas.Bool.Decides.{nat_tests}
-use Rattle.del_laws.proofs.Tests.{among_from, among_true}
+use Rattle.del_laws.proofs.Tests.{among_from, among_true, filtered_from, filtered_true}
 use Rattle.cell_stars.specs.Places.{Placed, IsStarred, at, lies_in, star_at}
 use Rattle.cell_stars.specs.Plans.{StarsAfter}
 use Rattle.cell_stars.specs.Moves.{AreTouched, AreNumbered, AreStarsAfter, IsOwnNumber, IsSpare}
-use Rattle.cell_stars.specs.Gathering.{Gathers, FromPoints, FromPlace, FromPut}
+use Rattle.cell_stars.specs.Gathering.{Gathers, FromPoint, FromPlace, FromPut}
 use Rattle.cell_stars.proofs.KeyLaws.{owned_by, in_owned, owned_in, Keys, vertices, BelongsAt, one_key, at_key, no_key}
 use Rattle.cell_stars.proofs.Gathering.{Gathered, gather_all, gather_push, gather_skip, gather_step, Made, made_all}
 
 -- ---- vertices that are touched
 
-abbrev pub AddsPoints : Option (ℕ × ℕ) → Cell → List ℕ → List ℕ → Type 0
-AddsPoints place c old new = (p : ℕ) → (IsIn p new → IsIn p old ⊎ (IsIn p (points_of c) × (lies_in place p ≡ true))) × (IsIn p old ⊎ (IsIn p (points_of c) × (lies_in place p ≡ true)) → IsIn p new)
+abbrev pub AddsPoints : Cell → List ℕ → List ℕ → Type 0
+AddsPoints c old new = (p : ℕ) → (IsIn p new → IsIn p old ⊎ IsIn p (points_of c)) × (IsIn p old ⊎ IsIn p (points_of c) → IsIn p new)
 
-pub point_in : (place : Option (ℕ × ℕ)) (ps : List ℕ) (n : ℕ) (old list new : List ℕ) (x : ℕ) (r : Bool) → n < length ps → x ≡ slice_index_or ps n x → r ≡ lies_in place x → r ≡ true → ((p : ℕ) → (IsIn p new → IsIn p list ⊎ (x ≡ p)) × (IsIn p list ⊎ (x ≡ p) → IsIn p new)) → Gathered (FromPoints place) ps n old list → Gathered (FromPoints place) ps (n + 1) old new
-point_in place ps n old list new x r h e a b f s =
-    gather_step (FromPoints place) ps n old list new x x h e
-    (λ p m. elim ((f p).0 m) [ inl k ↦ inl k | inr q ↦ inr (q, ap (lies_in place) (sym q) ∙ sym a ∙ b) ])
-    (λ p m. (f p).1 (inl m)) (λ p t. (f p).1 (inr t.0)) s
+pub point_in : (ps : List ℕ) (n : ℕ) (old list new : List ℕ) (x : ℕ) → n < length ps → x ≡ slice_index_or ps n x → ((p : ℕ) → (IsIn p new → IsIn p list ⊎ (x ≡ p)) × (IsIn p list ⊎ (x ≡ p) → IsIn p new)) → Gathered FromPoint ps n old list → Gathered FromPoint ps (n + 1) old new
+point_in ps n old list new x h e f s = gather_step FromPoint ps n old list new x x h e (λ p m. (f p).0 m) (λ p m. (f p).1 (inl m)) (λ p t. (f p).1 (inr t)) s
 
-pub point_out : (place : Option (ℕ × ℕ)) (ps : List ℕ) (n : ℕ) (old list : List ℕ) (x : ℕ) (r : Bool) → n < length ps → x ≡ slice_index_or ps n x → r ≡ lies_in place x → r ≡ false → Gathered (FromPoints place) ps n old list → Gathered (FromPoints place) ps (n + 1) old list
-point_out place ps n old list x r h e a b s = gather_skip (FromPoints place) ps n old list x x h e (λ z t. (let u = ap (lies_in place) t.0 ∙ t.1 in absurd (cc (a, b, u)))) s
-
-pub points_added : (place : Option (ℕ × ℕ)) (c : Cell) (ps : List ℕ) (n : ℕ) (old new : List ℕ) → ps ≡ points_of c → length ps ≤ n → Gathered (FromPoints place) ps n old new → AddsPoints place c old new
-points_added place c ps n old new e h g p = (
-  λ m. elim (g.each p m) [ inl k ↦ inl k | inr r ↦ inr (subst (λ (l : List ℕ). IsIn p l) e (subst (λ q. IsIn q ps) r.2.0 r.1), r.2.1) ],
-  λ m. elim m [ inl k ↦ g.kept p k | inr r ↦ gather_all (FromPoints place) ps n old new h g p (subst (λ (l : List ℕ). IsIn p l) (sym e) r.0) p (refl, r.1) ],
+pub points_added : (c : Cell) (ps : List ℕ) (n : ℕ) (old new : List ℕ) → ps ≡ points_of c → length ps ≤ n → Gathered FromPoint ps n old new → AddsPoints c old new
+points_added c ps n old new e h g p = (
+  λ m. elim (g.each p m) [ inl k ↦ inl k | inr r ↦ inr (subst (λ (l : List ℕ). IsIn p l) e (subst (λ q. IsIn q ps) r.2 r.1)) ],
+  λ m. elim m [ inl k ↦ g.kept p k | inr r ↦ gather_all FromPoint ps n old new h g p (subst (λ (l : List ℕ). IsIn p l) (sym e) r) p refl ],
 )
 
 one_cell : (slots : List (Option Cell)) (i : ℕ) (c d : Cell) → at slots i ≡ Some c → at slots i ≡ Some d → c ≡ d
 one_cell slots i c d e f = (let t : Some c ≡ Some d = sym e ∙ f in cc t)
 
-pub freed_step : (b : Placed) (slots : List (Option Cell)) (freed : List ℕ) (n : ℕ) (old list new : List ℕ) (x : ℕ) (c : Cell) → slots ≡ b.slots → n < length freed → x ≡ slice_index_or freed n 0 → at slots x ≡ Some c → AddsPoints b.place c list new → Gathered (FromPlace b) freed n old list → Gathered (FromPlace b) freed (n + 1) old new
+pub freed_step : (b : Placed) (slots : List (Option Cell)) (freed : List ℕ) (n : ℕ) (old list new : List ℕ) (x : ℕ) (c : Cell) → slots ≡ b.slots → n < length freed → x ≡ slice_index_or freed n 0 → at slots x ≡ Some c → AddsPoints c list new → Gathered (FromPlace b) freed n old list → Gathered (FromPlace b) freed (n + 1) old new
 freed_step b slots freed n old list new x c es h e f g s =
     let t : at b.slots x ≡ Some c = ap (λ l. at l x) (sym es) ∙ f in
     gather_step (FromPlace b) freed n old list new x 0 h e
-    (λ p m. elim ((g p).0 m) [ inl k ↦ inl k | inr r ↦ inr (record { cell = c; there = t; has = r.0; inside = r.1 }) ])
-    (λ p m. (g p).1 (inl m)) (λ p r. (g p).1 (inr (subst (λ d. IsIn p (points_of d)) (one_cell b.slots x r.cell c r.there t) r.has, r.inside))) s
+    (λ p m. elim ((g p).0 m) [ inl k ↦ inl k | inr r ↦ inr (record { cell = c; there = t; has = r }) ])
+    (λ p m. (g p).1 (inl m)) (λ p r. (g p).1 (inr (subst (λ d. IsIn p (points_of d)) (one_cell b.slots x r.cell c r.there t) r.has))) s
 
 pub freed_skip : (b : Placed) (slots : List (Option Cell)) (freed : List ℕ) (n : ℕ) (old list : List ℕ) (x : ℕ) → slots ≡ b.slots → n < length freed → x ≡ slice_index_or freed n 0 → at slots x ≡ None → Gathered (FromPlace b) freed n old list → Gathered (FromPlace b) freed (n + 1) old list
 freed_skip b slots freed n old list x es h e f s =
     gather_skip (FromPlace b) freed n old list x 0 h e (λ p r. (let t = sym f ∙ ap (λ l. at l x) es ∙ r.there in absurd (cc t))) s
 
-pub placed_step : (b : Placed) (placed : List (ℕ × Cell)) (n : ℕ) (old list new : List ℕ) (x d : ℕ × Cell) → n < length placed → x ≡ slice_index_or placed n d → AddsPoints b.place x.1 list new → Gathered (FromPut b) placed n old list → Gathered (FromPut b) placed (n + 1) old new
-placed_step b placed n old list new x d h e g s = gather_step (FromPut b) placed n old list new x d h e (λ p m. (g p).0 m) (λ p m. (g p).1 (inl m)) (λ p r. (g p).1 (inr r)) s
+pub placed_step : (placed : List (ℕ × Cell)) (n : ℕ) (old list new : List ℕ) (x d : ℕ × Cell) → n < length placed → x ≡ slice_index_or placed n d → AddsPoints x.1 list new → Gathered FromPut placed n old list → Gathered FromPut placed (n + 1) old new
+placed_step placed n old list new x d h e g s = gather_step FromPut placed n old list new x d h e (λ p m. (g p).0 m) (λ p m. (g p).1 (inl m)) (λ p r. (g p).1 (inr r)) s
 
--- all of them
-pub are_touched : (b : Placed) (freed : List ℕ) (placed : List (ℕ × Cell)) (none first second all : List ℕ) → none ≡ [] → Gathers (FromPlace b) freed none first → Gathers (FromPut b) placed first second → ((p : ℕ) → (IsIn p all → IsIn p second) × (IsIn p second → IsIn p all)) → AreTouched b freed placed all
-are_touched b freed placed none first second all e f g o = record {
-  inside = λ p i. elim (g.each p ((o p).0 i)) [
-    | inl j ↦ elim (f.each p j) [ inl q ↦ absurd (subst (λ (l : List ℕ). IsIn p l) e q) | inr r ↦ r.2.inside ]
-    | inr r ↦ r.2.1
-  ];
-  gone = λ i p c j t q l. (o p).1 (g.kept p (f.all i j p (record { cell = c; there = t; has = q; inside = l })));
-  fresh = λ i p c j q l. (o p).1 (g.all (i, c) j p (q, l));
+-- all of them that lie in the bucket
+pub are_touched : (b : Placed) (freed : List ℕ) (placed : List (ℕ × Cell)) (none first second here all : List ℕ) → Gathers (FromPlace b) freed none first → Gathers FromPut placed first second → here ≡ filter (lies_in b.place) second → ((p : ℕ) → (IsIn p all → IsIn p here) × (IsIn p here → IsIn p all)) → AreTouched b freed placed all
+are_touched b freed placed none first second here all f g k o = record {
+  inside = λ p i. (filtered_from (lies_in b.place) second p (subst (λ (l : List ℕ). IsIn p l) k ((o p).0 i))).1;
+  gone = λ i p c j t q l. (o p).1 (subst (λ (m : List ℕ). IsIn p m) (sym k) (filtered_true (lies_in b.place) second p (g.kept p (f.all i j p (record { cell = c; there = t; has = q }))) l));
+  fresh = λ i p c j q l. (o p).1 (subst (λ (m : List ℕ). IsIn p m) (sym k) (filtered_true (lies_in b.place) second p (g.all (i, c) j p q) l));
 }
 
 -- ---- the places of a star

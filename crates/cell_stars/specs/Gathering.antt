@@ -1,9 +1,9 @@
 -- What is gathered from the elements of a list, and what is made of them.
-use Rattle.std.specs.Prelude.{◌≡◌, ℕ, List, ◌⊎◌, true, Option, Some}
+use Rattle.std.specs.Prelude.{◌≡◌, ℕ, List, ◌⊎◌, Some}
 use Rattle.point_order.specs.declared.cell.Cell.{Cell}
 use Rattle.point_order.specs.Facets.{points_of}
 use Rattle.point_order.specs.Sets.{IsIn}
-use Rattle.cell_stars.specs.Places.{Placed, at, lies_in}
+use Rattle.cell_stars.specs.Places.{Placed, at}
 
 -- Beside what was there, all that the elements give, and nothing else.
 pub record Gathers {X Y : Type 0} (R : X → Y → Type 0) (xs : List X) (old list : List Y) : Type 0 where
@@ -11,17 +11,16 @@ pub record Gathers {X Y : Type 0} (R : X → Y → Type 0) (xs : List X) (old li
   pub kept : (y : Y) → IsIn y old → IsIn y list
   pub all : (x : X) → IsIn x xs → (y : Y) → R x y → IsIn y list
 
--- a vertex of a cell, which lies in the bucket
-abbrev pub FromPoints : Option (ℕ × ℕ) → ℕ → ℕ → Type 0
-FromPoints place p q = (p ≡ q) × (lies_in place q ≡ true)
+-- the point itself
+abbrev pub FromPoint : ℕ → ℕ → Type 0
+FromPoint p q = p ≡ q
 
--- a vertex in the bucket of the cell at the place
+-- a vertex of the cell at the place
 pub record FromPlace (b : Placed) (i p : ℕ) : Type 0 where
   pub cell : Cell
   pub there : at b.slots i ≡ Some cell
   pub has : IsIn p (points_of cell)
-  pub inside : lies_in b.place p ≡ true
 
 -- and of the cell that is put
-abbrev pub FromPut : Placed → ℕ × Cell → ℕ → Type 0
-FromPut b x p = IsIn p (points_of x.1) × (lies_in b.place p ≡ true)
+abbrev pub FromPut : ℕ × Cell → ℕ → Type 0
+FromPut x p = IsIn p (points_of x.1)

@@ -51,3 +51,8 @@ swapped g b gone fresh l = with_cells (filter (touches g b) fresh) (without_cell
 -- the two lists have the same cells
 abbrev pub AreSameCells : List Cell → List Cell → Type 0
 AreSameCells l m = ((c : Cell) → IsIn c l → IsIn c m) × ((c : Cell) → IsIn c m → IsIn c l)
+
+-- no cell stands twice in the list
+abbrev pub Differ : List Cell → Type 0
+Differ [] = Unit {0}
+Differ (c ∷ l) = (IsIn c l → ⊥) × Differ l

@@ -2,17 +2,16 @@
 
 ghost use Rattle.std.specs.Prelude.{◌≡◌, ◌↔◌, ◌⊎◌, ◌≤◌, ◌<◌, ℕ, true, None, Some, IfOk, IfSome, OnOk, length, MatchOption, MatchBool, IsTrue};
 ghost use Rattle.std.specs.List.{zip};
-ghost use Rattle.std.specs.List.Sorted.{IsStrictlySortedBy};
 ghost use Rattle.point_order.specs.declared.cell.Cell.{Cell};
-ghost use Rattle.point_order.specs.CellOrder.{cell_cmp};
 ghost use Rattle.point_order.specs.Facets.{points_of};
 ghost use Rattle.point_order.specs.Sets.{IsIn, IsAscending, is_among};
 ghost use Rattle.cell_stars.specs.Places.{at, lies_in, touches_in};
 ghost use Rattle.cell_stars.specs.Plans.{AreFor};
+ghost use Rattle.cell_stars.specs.Swaps.{Differ};
 ghost use Rattle.cell_stars.specs.Moves.{IsStarFor, AreFreed, AreComing, IsVacant, IsClear, Stays};
 
 use crate::cells::Cells;
-use crate::order::{are_same, cells_in_order, has_vertex, numbers_in_order, touches};
+use crate::order::{are_same, cells_once, has_vertex, numbers_in_order, touches};
 use crate::star::cell_at;
 use point_order::{Cell, Point};
 use std::alloc::{AllocError, Global};
@@ -236,6 +235,9 @@ impl Cells {
     fn place_of_cell(&self, cell: &Cell) -> Option<u32>
         ensures { MatchOption result ((i : ℕ) → at self.now.slots i ≡ Some cell.now → touches_in self.now.place cell.now ≡ true → ⊥) (λ i. at self.now.slots i ≡ Some cell.now) }
     {
+        if !self.is_touched_by(cell) {
+            return None;
+        }
         match place_among(&self.slots, self.hints.of_cell(cell), cell) {
             Some(i) => Some(i),
             None => self.place_in_star(cell),
@@ -284,7 +286,8 @@ impl Cells {
 
     // A vertex of the cell that is clear of the point, if there is one.
     fn clear_vertex(&self, cell: &Cell, p: Point) -> Option<Point>
-        ensures { IfSome result (λ q. IsClear self.now p q) }
+        ensures clear { IfSome result (λ q. IsClear self.now p q) }
+        ensures vertex { IfSome result (λ q. IsIn q (points_of cell.now)) }
     {
         for q in cell.points() {
             if self.is_clear(*q, p) {
@@ -294,51 +297,64 @@ impl Cells {
         None
     }
 
-    // Vertices that are clear of the point, one of each of these cells that has the point, as far as there are such.
-    fn clear_of(&self, alloc: Global, cells: &[Cell], p: Point) -> Result<Vec<Point>, AllocError>
-        ensures { IfOk result (λ list. (q : ℕ) → IsIn q list.items → IsClear self.now p q) }
+    // The point, if there is one and it is clear of itself.
+    fn clear_point(&self, alloc: Global, p: &Option<Point>) -> Result<Vec<Point>, AllocError>
+        ensures { IfOk result (λ list. IfSome p.now (λ p. (q : ℕ) → IsIn q list.items → IsClear self.now p q)) }
     {
         let mut list = Vec::new(alloc);
-        if self.is_clear(p, p) {
-            list.push(p)?;
-        }
-        for c in cells {
-            if has_vertex(c, p) && !meets(c, &list) {
-                if let Some(q) = self.clear_vertex(c, p) {
-                    list.push(q)?;
-                }
+        if let Some(p) = p {
+            if self.is_clear(*p, *p) {
+                list.push(*p)?;
             }
         }
         Ok(list)
     }
 
-    // The same, if there is a point.
-    fn clear_vertices(
-        &self,
-        alloc: Global,
-        cells: &[Cell],
-        p: &Option<Point>,
-    ) -> Result<Vec<Point>, AllocError>
-        ensures { IfOk result (λ list. IfSome p.now (λ p. (q : ℕ) → IsIn q list.items → IsClear self.now p q)) }
+    // Whether the cell has the point and a vertex that is clear of it, which is kept for the next cells. Then it stands nowhere.
+    fn is_new(&self, cell: &Cell, p: Point, clear: &mut Vec<Point>) -> Result<bool, AllocError>
+        requires { (q : ℕ) → IsIn q clear.old.items → IsClear self.now p q }
+        ensures clear { OnOk result ((q : ℕ) → IsIn q clear.new.items → IsClear self.now p q) }
+        ensures new { IfOk result (λ r. IsTrue r → (i : ℕ) → at self.now.slots i ≡ Some cell.now → ⊥) }
     {
-        match p {
-            Some(p) => self.clear_of(alloc, cells, *p),
-            None => Ok(Vec::new(alloc)),
+        let _ = &self.slots;
+        if !has_vertex(cell, p) {
+            return Ok(false);
+        }
+        if meets(cell, clear) {
+            return Ok(true);
+        }
+        match self.clear_vertex(cell, p) {
+            Some(q) => {
+                clear.push(q)?;
+                Ok(true)
+            }
+            None => Ok(false),
         }
     }
 
-    // Whether the cell stands at a place that is not freed. One with the point and a vertex that is clear of it stands nowhere.
-    fn stays(&self, cell: &Cell, freed: &[u32], p: &Option<Point>, clear: &[Point]) -> bool
-        requires order { IsAscending freed.now }
-        requires clear { IfSome p.now (λ p. (q : ℕ) → IsIn q clear.now → IsClear self.now p q) }
+    // The same, if there is a point.
+    fn is_new_by(
+        &self,
+        cell: &Cell,
+        p: &Option<Point>,
+        clear: &mut Vec<Point>,
+    ) -> Result<bool, AllocError>
+        requires { IfSome p.now (λ p. (q : ℕ) → IsIn q clear.old.items → IsClear self.now p q) }
+        ensures clear { OnOk result (IfSome p.now (λ p. (q : ℕ) → IsIn q clear.new.items → IsClear self.now p q)) }
+        ensures new { IfOk result (λ r. IsTrue r → (i : ℕ) → at self.now.slots i ≡ Some cell.now → ⊥) }
+    {
+        match p {
+            Some(p) => self.is_new(cell, *p, clear),
+            None => Ok(false),
+        }
+    }
+
+    // Whether the cell, by a look through a star, stands at a place that is not freed.
+    fn stays(&self, cell: &Cell, freed: &[u32]) -> bool
+        requires { IsAscending freed.now }
         ensures { MatchBool result (Stays self.now freed.now cell.now) (touches_in self.now.place cell.now ≡ true → (i : ℕ) → at self.now.slots i ≡ Some cell.now → IsIn i freed.now) }
     {
         let _ = &self.slots;
-        if let Some(p) = p {
-            if has_vertex(cell, *p) && meets(cell, clear) {
-                return false;
-            }
-        }
         match self.place_in_star(cell) {
             Some(i) => !has_number(freed, i),
             None => false,
@@ -346,35 +362,46 @@ impl Cells {
     }
 
     // Whether the cell touches the bucket and does not stay there.
-    fn comes(&self, cell: &Cell, freed: &[u32], p: &Option<Point>, clear: &[Point]) -> bool
+    fn comes(
+        &self,
+        cell: &Cell,
+        freed: &[u32],
+        p: &Option<Point>,
+        clear: &mut Vec<Point>,
+    ) -> Result<bool, AllocError>
         requires order { IsAscending freed.now }
-        requires clear { IfSome p.now (λ p. (q : ℕ) → IsIn q clear.now → IsClear self.now p q) }
-        ensures { MatchBool result ((touches_in self.now.place cell.now ≡ true) × ((i : ℕ) → at self.now.slots i ≡ Some cell.now → IsIn i freed.now)) (touches_in self.now.place cell.now ≡ true → Stays self.now freed.now cell.now) }
+        requires clear { IfSome p.now (λ p. (q : ℕ) → IsIn q clear.old.items → IsClear self.now p q) }
+        ensures clear { OnOk result (IfSome p.now (λ p. (q : ℕ) → IsIn q clear.new.items → IsClear self.now p q)) }
+        ensures comes { IfOk result (λ r. MatchBool r ((touches_in self.now.place cell.now ≡ true) × ((i : ℕ) → at self.now.slots i ≡ Some cell.now → IsIn i freed.now)) (touches_in self.now.place cell.now ≡ true → Stays self.now freed.now cell.now)) }
     {
-        self.is_touched_by(cell) && !self.stays(cell, freed, p, clear)
+        if self.is_touched_by(cell) {
+            let is_new = self.is_new_by(cell, p, clear)?;
+            return Ok(is_new || !self.stays(cell, freed));
+        }
+        Ok(false)
     }
 
-    // The fresh cells that touch the bucket and do not stay there, in order.
+    // The fresh cells that touch the bucket and do not stay there, each once.
     fn coming_by(
         &self,
         alloc: Global,
         fresh: &[Cell],
         freed: &[u32],
-        p: &Option<Point>,
-        clear: &[Point],
     ) -> Result<Vec<Cell>, AllocError>
-        requires order { IsAscending freed.now }
-        requires clear { IfSome p.now (λ p. (q : ℕ) → IsIn q clear.now → IsClear self.now p q) }
-        ensures order { IfOk result (λ coming. IsStrictlySortedBy cell_cmp coming.items) }
+        requires { IsAscending freed.now }
+        ensures once { IfOk result (λ coming. Differ coming.items) }
         ensures coming { IfOk result (λ coming. AreComing self.now freed.now fresh.now coming.items) }
     {
+        let p = self.new_vertex(fresh);
+        let mut clear = self.clear_point(alloc, &p)?;
         let mut coming = Vec::with_capacity(alloc, fresh.len())?;
         for c in fresh {
-            if self.comes(c, freed, p, clear) {
+            let comes = self.comes(c, freed, &p, &mut clear)?;
+            if comes {
                 coming.push(*c)?;
             }
         }
-        Ok(cells_in_order(coming))
+        Ok(cells_once(coming))
     }
 
     // What goes and comes.
@@ -388,9 +415,7 @@ impl Cells {
         ensures made { IfOk result (λ moves. AreFor gone.now fresh.now moves.freed.items moves.placed.items self.now) }
     {
         let freed = self.freed_by(alloc, gone)?;
-        let p = self.new_vertex(fresh);
-        let clear = self.clear_vertices(alloc, fresh, &p)?;
-        let coming = self.coming_by(alloc, fresh, &freed, &p, &clear)?;
+        let coming = self.coming_by(alloc, fresh, &freed)?;
         let places = places_for(
             alloc,
             &self.slots,

@@ -1,11 +1,11 @@
 //! Lists in order, each element once.
 
-ghost use Rattle.std.specs.Prelude.{◌≡◌, ◌↔◌, ℕ, IsTrue};
+ghost use Rattle.std.specs.Prelude.{◌≡◌, ◌↔◌, ℕ, false, IsTrue};
 ghost use Rattle.std.specs.List.Sorted.{IsStrictlySortedBy};
 ghost use Rattle.point_order.specs.CellOrder.{cell_cmp};
 ghost use Rattle.point_order.specs.Facets.{points_of};
 ghost use Rattle.point_order.specs.Sets.{IsIn, IsAscending, is_among};
-ghost use Rattle.cell_stars.specs.Swaps.{touches as touches_of, AreSameCells};
+ghost use Rattle.cell_stars.specs.Swaps.{touches as touches_of, AreSameCells, Differ};
 
 use crate::grid::Grid;
 use point_order::{Cell, Point, Quad, Tri};
@@ -78,6 +78,46 @@ pub fn cells_in_order(mut list: Vec<Cell>) -> Vec<Cell>
     list.sort_unstable();
     list.dedup();
     list
+}
+
+// Up to so many cells are compared with each other, rather than put in order.
+const FEW: usize = 32;
+
+// Whether the cell is one of these.
+fn has_cell(list: &[Cell], cell: &Cell) -> bool
+    ensures { result ≡ false → IsIn cell.now list.now → ⊥ }
+{
+    for other in list {
+        if are_same(other, cell) {
+            return true;
+        }
+    }
+    false
+}
+
+// Whether no cell is there twice.
+fn do_differ(list: &[Cell]) -> bool
+    ensures { IsTrue result → Differ list.now }
+{
+    let mut rest = list;
+    while let Some((first, others)) = rest.split_first() {
+        if has_cell(others, first) {
+            return false;
+        }
+        rest = others;
+    }
+    true
+}
+
+// The cells, each once, in any order. It takes no memory.
+pub(crate) fn cells_once(list: Vec<Cell>) -> Vec<Cell>
+    ensures once { Differ result.items }
+    ensures cells { AreSameCells list.items result.items }
+{
+    if list.len() <= FEW && do_differ(&list) {
+        return list;
+    }
+    cells_in_order(list)
 }
 
 // The numbers in order, each once.

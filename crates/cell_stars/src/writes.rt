@@ -157,24 +157,31 @@ fn add_point(list: &mut Vec<Point>, seen: &mut Seen, p: Point) -> Result<(), All
     Ok(())
 }
 
-impl Cells {
-    // Adds the vertices of the cell that lie in the bucket.
-    fn add_points(
-        &self,
-        list: &mut Vec<Point>,
-        seen: &mut Seen,
-        cell: &Cell,
-    ) -> Result<(), AllocError>
-        ensures { OnOk result ((p : ℕ) → IsIn p list.new.items ↔ (IsIn p list.old.items ⊎ (IsIn p (points_of cell.now) × (lies_in self.now.place p ≡ true)))) }
-    {
-        for p in cell.points() {
-            if self.has_here(*p) {
-                add_point(list, seen, *p)?;
-            }
-        }
-        Ok(())
+// Adds the vertices of the cell.
+fn add_points(list: &mut Vec<Point>, seen: &mut Seen, cell: &Cell) -> Result<(), AllocError>
+    ensures { OnOk result ((p : ℕ) → IsIn p list.new.items ↔ (IsIn p list.old.items ⊎ IsIn p (points_of cell.now))) }
+{
+    for p in cell.points() {
+        add_point(list, seen, *p)?;
     }
+    Ok(())
+}
 
+// Adds those of the cells that are put at places.
+fn add_placed(
+    list: &mut Vec<Point>,
+    seen: &mut Seen,
+    placed: &[(u32, Cell)],
+) -> Result<(), AllocError>
+    ensures { OnOk result (Gathers FromPut placed.now list.old.items list.new.items) }
+{
+    for (_, cell) in placed {
+        add_points(list, seen, cell)?;
+    }
+    Ok(())
+}
+
+impl Cells {
     // Adds those of the cells at freed places.
     fn add_freed(
         &self,
@@ -186,23 +193,8 @@ impl Cells {
     {
         for i in freed {
             if let Some(cell) = cell_at(&self.slots, *i) {
-                self.add_points(list, seen, cell)?;
+                add_points(list, seen, cell)?;
             }
-        }
-        Ok(())
-    }
-
-    // Adds those of the cells that are put at places.
-    fn add_placed(
-        &self,
-        list: &mut Vec<Point>,
-        seen: &mut Seen,
-        placed: &[(u32, Cell)],
-    ) -> Result<(), AllocError>
-        ensures { OnOk result (Gathers (FromPut self.now) placed.now list.old.items list.new.items) }
-    {
-        for (_, cell) in placed {
-            self.add_points(list, seen, cell)?;
         }
         Ok(())
     }
@@ -215,7 +207,8 @@ impl Cells {
         let mut list: Vec<Point> = Vec::with_capacity(alloc, FEW)?;
         let mut seen = [0usize; 64];
         self.add_freed(&mut list, &mut seen, &moves.freed)?;
-        self.add_placed(&mut list, &mut seen, &moves.placed)?;
+        add_placed(&mut list, &mut seen, &moves.placed)?;
+        list.retain(|p| self.has_here(*p));
         Ok(points_in_order(list))
     }
 

@@ -3,7 +3,7 @@ use Rattle.cell_stars.proofs.cells.Cells.coming_by.Goals as goal
 use Rattle.cell_stars.proofs.cells.Cells.coming_by.Goals.{then-comes+in_ok-push, else-comes}
 
 pub loop-c-init : goal.loop-c-init
-loop-c-init c = coming_none c.args.self.now c.args.freed.now c.args.fresh.now c.in_ok-coming.coming.items c.in_ok-coming.ensures.items
+loop-c-init c = (coming_none c.args.self.now c.args.freed.now c.args.fresh.now c.in_ok-coming.coming.items c.in_ok-coming.ensures.items, c.in_ok-clear.ensures)
 
 pub loop-c-preserved : goal.loop-c-preserved
 loop-c-preserved c =
@@ -11,9 +11,9 @@ loop-c-preserved c =
     let freed = c.args.freed.now in
     let x = c.c-item.result in
     elim c.if-comes.branch [
-      | then-comes+in_ok-push w ↦ rw w.coming-is (coming_more b freed c.args.fresh.now c.loop-c.c-index c.loop-c.coming.items w.push.new.self.items x c.loop-c-test.true c.c-item.is (rw w.if-comes.true at c.comes.ensures) w.in_ok-push.ensures.items c.loop-c.invariant)
-      | else-comes w ↦ rw w.coming-is (coming_same b freed c.args.fresh.now c.loop-c.c-index c.loop-c.coming.items x c.loop-c-test.true c.c-item.is (rw w.if-comes.false at c.comes.ensures) c.loop-c.invariant)
+      | then-comes+in_ok-push w ↦ rw w.coming-is (coming_more b freed c.args.fresh.now c.loop-c.c-index c.loop-c.coming.items w.push.new.self.items x c.loop-c-test.true c.c-item.is (rw w.if-comes.true at c.in_ok-comes.ensures.comes) w.in_ok-push.ensures.items c.loop-c.invariant.0, c.in_ok-comes.ensures.clear)
+      | else-comes w ↦ rw w.coming-is (coming_same b freed c.args.fresh.now c.loop-c.c-index c.loop-c.coming.items x c.loop-c-test.true c.c-item.is (rw w.if-comes.false at c.in_ok-comes.ensures.comes) c.loop-c.invariant.0, c.in_ok-comes.ensures.clear)
     ]
 
 pub returns-clause-coming : goal.returns-clause-coming
-returns-clause-coming c = coming_all c.args.self.now c.args.freed.now c.args.fresh.now c.loop-c.c-index c.loop-c.coming.items c.cells_in_order.result.items c.loop-c-test.false c.cells_in_order.ensures.cells c.loop-c.invariant
+returns-clause-coming c = coming_all c.args.self.now c.args.freed.now c.args.fresh.now c.loop-c.c-index c.loop-c.coming.items c.cells_once.result.items c.loop-c-test.false c.cells_once.ensures.cells c.loop-c.invariant.0

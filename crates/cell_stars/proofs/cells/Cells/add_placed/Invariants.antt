@@ -1,6 +1,0 @@
-use Rattle.cell_stars.specs.Gathering.{FromPut}
-use Rattle.cell_stars.proofs.Gathering.{Gathered}
-use Rattle.cell_stars.proofs.cells.Cells.add_placed.Given as goal
-
-abbrev pub invariant-loop-cell : goal.invariant-loop-cell
-invariant-loop-cell l = Gathered (FromPut l.self) l.placed l.cell-index l.fn.list.items l.list.items

@@ -1,6 +1,0 @@
-use Rattle.cell_stars.proofs.Gathering.{Gathered}
-use Rattle.cell_stars.specs.Gathering.{FromPoints}
-use Rattle.cell_stars.proofs.cells.Cells.add_points.Given as goal
-
-abbrev pub invariant-loop-p : goal.invariant-loop-p
-invariant-loop-p l = Gathered (FromPoints l.self.place) l.p-items l.p-index l.fn.list.items l.list.items
