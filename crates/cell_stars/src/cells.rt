@@ -133,10 +133,11 @@ impl Cells {
         }
     }
 
-    /// The cells at a point of the bucket, in ascending order, by comparisons of keys that are counted.
+    /// The cells at a point of the bucket, in ascending order, by comparisons of keys that are counted. Each key is a vertex of a cell.
     pub fn star_counted<L: Ledger>(&self, p: Point, steps: &mut Steps<L>) -> Star<'_>
         requires { lies_in self.now.place p ≡ true }
         ensures cells { cells_left result ≡ filter (λ c. is_among p (points_of c)) (cells_of self.now.slots) }
+        ensures stars { AreStars self.now }
         ensures rises { steps.old ≤ steps.new }
         ensures cost { 2 ^ (steps.new - steps.old) ≤ 2 * length self.now.keys + 1 }
     {

@@ -12,3 +12,4 @@ pub mod StarLaws
 pub mod GridLaws
 pub mod CellLaws
 pub mod Orders
+pub mod KeyLaws

@@ -85,6 +85,10 @@ points_on (Two p) = p
 abbrev pub IsAcross : List ℕ → Cell → Facet → Cell → Type 0
 IsAcross s cell facet other = IsOtherOf (complex s) cell facet other
 
+-- the hold shows some set
+abbrev pub ShowsSome : InHand → Type 0
+ShowsSome hold = (s : List ℕ) × Shows hold s
+
 -- the hold shows a set of whose complex the cell is one
 abbrev pub ShowsWith : InHand → Cell → Type 0
 ShowsWith hold cell = (s : List ℕ) × Shows hold s × IsIn cell (complex s)

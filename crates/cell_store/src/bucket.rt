@@ -1,12 +1,12 @@
 //! Buckets.
 
-ghost use Rattle.std.specs.Prelude.{◌≡◌, ◌↔◌, ◌∷◌, [], ◌++◌, true, None, Some, IsPermutation, IfOk, OnOk, MatchOption};
+ghost use Rattle.std.specs.Prelude.{◌≡◌, ◌↔◌, ◌+◌, ◌*◌, ◌-◌, ◌≤◌, ◌^◌, ◌∷◌, [], ◌++◌, true, None, Some, length, IsPermutation, IfOk, OnOk, MatchOption};
 ghost use Rattle.std.specs.List.{filter};
 ghost use Rattle.point_order.specs.Facets.{points_of};
 ghost use Rattle.point_order.specs.declared.cell.Cell.{Cell};
 ghost use Rattle.point_order.specs.Sets.{IsIn, IsAscending, is_among};
 ghost use Rattle.edit_history.specs.Edits.{point_of, changed};
-ghost use Rattle.cell_stars.specs.Places.{lies_in};
+ghost use Rattle.cell_stars.specs.Places.{lies_in, AreStars};
 ghost use Rattle.cell_stars.specs.Plans.{Allows, IsPlanFor};
 ghost use Rattle.cell_store.specs.Buckets.{FitsPlace, content_of};
 ghost use Rattle.cell_store.specs.Others.{HaveNoOther, IsOtherOf};
@@ -16,11 +16,12 @@ ghost use Rattle.cell_store.specs.Stars.{cells_around, cells_left, cells_to_come
 
 use crate::note::{points_after, with_entry};
 use crate::star::{facet_points, other_among};
-use cell_stars::{BucketCells, Cells, Grid, Plan, Star, StarCells};
+use cell_stars::{BucketCells, Cells, Grid, Plan, Star, StarCells, Steps};
 use edit_history::Entry;
 use point_order::{Cell, Facet, Point};
 use std::alloc::{AllocError, Global};
 use std::marker::Model;
+use std::sync::ledger::Ledger;
 
 /// The points in one cube of the grid, the cells with a vertex there, and the entries whose point lies there.
 ///
@@ -85,6 +86,17 @@ impl Bucket {
         ensures { cells_left result ≡ filter (λ c. is_among p (points_of c)) (content_of self.now).cells }
     {
         self.cells.cells_at(p)
+    }
+
+    // The same, by comparisons that are counted. Each vertex with a star is one of a cell of the bucket.
+    pub(crate) fn star_counted<L: Ledger>(&self, p: Point, steps: &mut Steps<L>) -> Star<'_>
+        requires { lies_in self.now.cells.place p ≡ true }
+        ensures cells { cells_left result ≡ filter (λ c. is_among p (points_of c)) (content_of self.now).cells }
+        ensures stars { AreStars self.now.cells }
+        ensures rises { steps.old ≤ steps.new }
+        ensures cost { 2 ^ (steps.new - steps.old) ≤ 2 * length self.now.cells.keys + 1 }
+    {
+        self.cells.star_counted(p, steps)
     }
 
     // The cells at a point of the bucket, in any order.

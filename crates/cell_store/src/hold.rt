@@ -1,6 +1,6 @@
 //! Holds: the buckets in hand.
 
-ghost use Rattle.std.specs.Prelude.{◌≡◌, ◌↔◌, IsTrue, ℕ, ◌*◌, ◌<◌, true, None, Some, IsSome, is_some, IfOk, OnOk, OnErr, length, slice_set, List, MatchOption};
+ghost use Rattle.std.specs.Prelude.{◌≡◌, ◌↔◌, IsTrue, ℕ, ◌+◌, ◌*◌, ◌-◌, ◌<◌, ◌≤◌, ◌^◌, true, None, Some, IsSome, is_some, IfOk, OnOk, OnErr, length, slice_set, List, MatchOption};
 ghost use Rattle.std.specs.List.{filter, list_all};
 ghost use Rattle.point_order.specs.Sets.{IsIn, is_among};
 ghost use Rattle.point_order.specs.Facets.{points_of, facets_of};
@@ -9,7 +9,7 @@ ghost use Rattle.point_order.specs.Complex.{complex};
 ghost use Rattle.edit_history.specs.Edits.{point_of};
 ghost use Rattle.cell_store.specs.Grids.{is_grid_size, bucket_of as number_of};
 ghost use Rattle.cell_store.specs.Buckets.{no_room, empty_hold, bucket_at, points_in, cells_in, at_place, content_of, FitsPlace, StandAtPlaces};
-ghost use Rattle.cell_store.specs.Shares.{Shows, ShowsWith, NoneInHand, IsInHandFor};
+ghost use Rattle.cell_store.specs.Shares.{Shows, ShowsSome, ShowsWith, NoneInHand, IsInHandFor};
 ghost use Rattle.cell_store.specs.Changes.{IsSwapped, IsNoted};
 ghost use Rattle.cell_store.specs.Ready.{AreHeld};
 ghost use Rattle.cell_store.specs.Stars.{cells_around, cells_left, AcrossGives};
@@ -17,11 +17,12 @@ ghost use Rattle.cell_store.specs.Stars.{cells_around, cells_left, AcrossGives};
 use crate::bucket::Bucket;
 use crate::room::{Exchange, carry_all, make_room};
 use crate::star::{Across, facet_points};
-use cell_stars::{Grid, Star, StarCells};
+use cell_stars::{Grid, Star, StarCells, Steps};
 use edit_history::Entry;
 use point_order::{Cell, Facet, Point};
 use std::alloc::{AllocError, Global};
 use std::marker::Model;
+use std::sync::ledger::Ledger;
 
 /// The buckets in hand, over which every geometric step works.
 ///
@@ -156,6 +157,22 @@ impl Hold {
     {
         let b = self.grid().bucket_of(p);
         self.bucket(b).cells_at(p)
+    }
+
+    /// What `cells_at` gives, by a search whose comparisons are counted. The hold is to show some set, and the point's bucket is to
+    /// be in hand.
+    ///
+    /// Where the bucket has n points, it takes k comparisons, with 2^k at most 2n + 1.
+    pub fn star_counted<L: Ledger>(&self, p: Point, steps: &mut Steps<L>) -> Star<'_>
+        requires shown { ShowsSome self.now }
+        requires bucket { IsSome (bucket_at self.now.places (number_of self.now.grid p)) }
+        ensures in_bucket { cells_left result ≡ filter (λ c. is_among p (points_of c)) (cells_in self.now.places (number_of self.now.grid p)) }
+        ensures in_complex { (s : List ℕ) → Shows self.now s → cells_left result ≡ filter (λ c. is_among p (points_of c)) (complex s) }
+        ensures rises { steps.old ≤ steps.new }
+        ensures cost { 2 ^ (steps.new - steps.old) ≤ 2 * length (points_in self.now.places (number_of self.now.grid p)) + 1 }
+    {
+        let b = self.grid().bucket_of(p);
+        self.bucket(b).star_counted(p, steps)
     }
 
     /// The cells at a point, in any order, for those who need none: each is given at once. The point's bucket is to be in hand.

@@ -14,7 +14,7 @@ mod room;
 mod star;
 
 pub use bucket::Bucket;
-pub use cell_stars::{BadGrid, BucketCells, Grid, Star, StarCells, cells_in_order};
+pub use cell_stars::{BadGrid, BucketCells, Grid, Star, StarCells, Steps, cells_in_order};
 pub use hold::Hold;
 pub use mesh::Mesh;
 pub use star::Across;

@@ -43,10 +43,6 @@ pub record IsWalkIn (hold : InHand) (s : List ℕ) (w : Walking) : Type 0 where
   pub listed : IsIn w.cell (complex s)
   pub held : IsIn w.cell (all_cells hold.places)
 
--- the hold shows some set
-abbrev pub ShowsSome : InHand → Type 0
-ShowsSome hold = (s : List ℕ) × Shows hold s
-
 -- the hold shows a set in whose complex the walk is one
 abbrev pub ShowsWalk : InHand → Walking → Type 0
 ShowsWalk hold w = (s : List ℕ) × Shows hold s × IsWalkIn hold s w

@@ -5,7 +5,7 @@ ghost use Rattle.std.specs.declared.cmp.Ordering.TheVariants.{Less};
 ghost use Rattle.point_order.specs.CellOrder.{cell_cmp};
 ghost use Rattle.cell_store.specs.Buckets.{bucket_at, cells_in};
 ghost use Rattle.cell_walk.specs.Searching.{IsInside, IsFitting, IsLessened, IsLeastOf};
-ghost use Rattle.cell_walk.specs.Paths.{ShowsSome};
+ghost use Rattle.cell_store.specs.Shares.{ShowsSome};
 ghost use Rattle.cell_walk.specs.Turns.{HasNoCell, IsFirstMissing};
 
 use cell_store::Hold;

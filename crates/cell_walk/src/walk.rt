@@ -2,9 +2,9 @@
 
 ghost use Rattle.std.specs.Prelude.{◌≡◌, ◌&&◌, ◌||◌, ℕ, List, IsSome, IfSome, pos};
 ghost use Rattle.point_order.specs.Conflicts.{are_opposite as lie_opposite};
-ghost use Rattle.cell_store.specs.Shares.{Shows};
+ghost use Rattle.cell_store.specs.Shares.{Shows, ShowsSome};
 ghost use Rattle.cell_store.specs.Buckets.{bucket_at};
-ghost use Rattle.cell_walk.specs.Paths.{ShowsSome, ShowsWalk, IsWalkIn, WalksFor, facet_towards as towards};
+ghost use Rattle.cell_walk.specs.Paths.{ShowsWalk, IsWalkIn, WalksFor, facet_towards as towards};
 ghost use Rattle.cell_walk.specs.Turns.{StartGives, TurnGives};
 
 use crate::search::{first_missing, least_cell, near_point};

@@ -4,8 +4,7 @@ ghost use Rattle.std.specs.Prelude.{◌≡◌, ℕ, true, List, IsSome};
 ghost use Rattle.point_order.specs.Sets.{IsIn};
 ghost use Rattle.cell_store.specs.Buckets.{bucket_at};
 ghost use Rattle.cell_store.specs.Grids.{bucket_of};
-ghost use Rattle.cell_store.specs.Shares.{Shows};
-ghost use Rattle.cell_walk.specs.Paths.{ShowsSome};
+ghost use Rattle.cell_store.specs.Shares.{Shows, ShowsSome};
 
 use crate::cells::{put_cells, put_number};
 use crate::meshes::{keep_only, mesh_of};

@@ -1,9 +1,9 @@
 //! Walks over the buckets in hand.
 
 ghost use Rattle.std.specs.Prelude.{◌≡◌, ℕ, true, List};
-ghost use Rattle.cell_store.specs.Shares.{Shows};
+ghost use Rattle.cell_store.specs.Shares.{Shows, ShowsSome};
 ghost use Rattle.hole_laws.specs.Edits.{IsNew};
-ghost use Rattle.cell_walk.specs.Paths.{ShowsSome, ShowsWalk};
+ghost use Rattle.cell_walk.specs.Paths.{ShowsWalk};
 
 use crate::cells::put_cell;
 use crate::meshes::{keep_only, mesh_of};
