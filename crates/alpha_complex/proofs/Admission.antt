@@ -1,6 +1,6 @@
 -- What the judging by lists comes to: which faces are admitted, and of which kind.
 use Rattle.std.proofs.Common.{◌≡◌, refl, sym, subst, ap, ◌∙◌, ℕ, ◌<◌, inl, inr, Bool, true, false, List, [], ◌∷◌, ◌++◌, map, length, arith}
-use Rattle.std.specs.Prelude.{◌&&◌}
+use Rattle.std.specs.Prelude.{not, ◌&&◌, ◌||◌, ◌⊎◌}
 use Rattle.std.specs.List.{filter, list_all, list_any}
 use Rattle.point_order.specs.declared.cell.Cell.{Cell}
 use Rattle.point_order.specs.declared.cell.Cell.TheVariants.{Full, Open}
@@ -14,16 +14,16 @@ use Rattle.point_order.specs.Subsets.{subsets}
 use Rattle.del_laws.specs.Keys.{AreKeys}
 use Rattle.del_laws.proofs.Listed.{in_left, in_right, from_append, part_inside, part_ascending, part_true, listed_is_cell}
 use Rattle.del_laws.proofs.ListedParts.{listed_every_point}
-use Rattle.del_laws.proofs.Tests.{any_from, any_true, both_true, first_true, second_true, left_true, right_true, one_true, same_test, filtered_from, filtered_true}
+use Rattle.del_laws.proofs.Tests.{true_or_false, not_true, any_from, any_true, both_true, first_true, second_true, left_true, right_true, one_true, same_test, filtered_from, filtered_true}
 use Rattle.face_list.specs.Faces.{full_cells, parts_in, cells_with, with_cells, points_with_cells}
 use Rattle.face_list.proofs.FullCells.{full_cell_is_listed, listed_is_full_cell}
 use Rattle.face_list.proofs.FaceLaws.{listed_is_part, part_is_listed}
 use Rattle.gabriel_faces.specs.Gabriel.{is_gabriel}
 use Rattle.alpha_complex.specs.Admitted.{is_within, faces_inside, contains, is_small, is_admitted, is_admitted_cell, kind_by, kind}
-use Rattle.alpha_complex.specs.Judged.{is_listed, is_listed_cell, is_listed_around, covers, is_small_by, small_among, is_admitted_triple, is_admitted_pair, kinds_by}
+use Rattle.alpha_complex.specs.Judged.{is_listed, is_small_cell, is_listed_around, covers, is_small_by, is_lone, lone_among, is_admitted_triple, is_admitted_pair, kinds_by}
 use Rattle.alpha_complex.specs.Shapes.{admitted_among}
 use Rattle.alpha_complex.proofs.Parts.{part_length, contained_true, contains_itself, contains_through, not_in_shorter, whole_only, same_face}
-use Rattle.alpha_complex.proofs.SmallFaces.{listed_from, listed_true, all_same, any_same, small_are}
+use Rattle.alpha_complex.proofs.SmallFaces.{listed_from, listed_true, all_same, any_same, lone_are}
 
 -- ---- Full cells of a complex
 
@@ -174,37 +174,27 @@ cell_admits s alpha p q a i c t = (
       small = both_true (is_gabriel s q) (is_within alpha q) (four_gabriel s q f.four) t;
     }))
 
--- the Full cells within alpha
-abbrev pub small_cells : List ℕ → ℕ → List (List ℕ)
-small_cells s alpha = filter (is_within alpha) (full_cells (complex s))
+-- the triples that are Gabriel and within alpha, beside no cell within alpha
+abbrev pub lone_triples : List ℕ → ℕ → List (List ℕ)
+lone_triples s alpha = lone_among alpha (with_cells (parts_in 3 (complex s)) (complex s))
 
--- and the triples that are Gabriel and within alpha
-abbrev pub small_triples : List ℕ → ℕ → List (List ℕ)
-small_triples s alpha = small_among alpha (with_cells (parts_in 3 (complex s)) (complex s))
+-- a cell around a face that is within alpha admits the face
+marked_cell_admits : (s : List ℕ) (alpha : ℕ) (p : List ℕ) (c : Cell) → IsAscending s → IsIn c (cells_with p (complex s)) → is_small_cell alpha c ≡ true → is_admitted s alpha p ≡ true
+marked_cell_admits s alpha p (Open t) a i e = cc
+marked_cell_admits s alpha p (Full q) a i e = (let k = filtered_from (λ c. contains (points_of c) p) (complex s) (Full q) i in cell_admits s alpha p q a k.0 k.1 e)
 
--- a cell around a face that is told to be within alpha admits the face
-listed_cell_admits : (s : List ℕ) (alpha : ℕ) (p : List ℕ) (c : Cell) → IsAscending s → IsIn c (cells_with p (complex s)) → is_listed_cell (small_cells s alpha) c ≡ true → is_admitted s alpha p ≡ true
-listed_cell_admits s alpha p (Open t) a i e = cc
-listed_cell_admits s alpha p (Full q) a i e = (
-    let k = filtered_from (λ c. contains (points_of c) p) (complex s) (Full q) i in
-    let l = filtered_from (is_within alpha) (full_cells (complex s)) q (listed_from (small_cells s alpha) q e) in
-    cell_admits s alpha p q a k.0 k.1 l.1)
+-- and so does one among all around it
+around_admits : (s : List ℕ) (alpha : ℕ) (p : List ℕ) → IsAscending s → list_any (is_small_cell alpha) (cells_with p (complex s)) ≡ true → is_admitted s alpha p ≡ true
+around_admits s alpha p a e = (let k = any_from (is_small_cell alpha) (cells_with p (complex s)) e in marked_cell_admits s alpha p k.0 a k.1 k.2)
 
--- where a Full cell as a whole admits a face, it is told to be around it and within alpha
-record Around (s : List ℕ) (alpha : ℕ) (p q : List ℕ) : Type 0 where
-  around : IsIn (Full q) (cells_with p (complex s))
-  listed : is_listed_cell (small_cells s alpha) (Full q) ≡ true
-
-around_of : (s : List ℕ) (alpha : ℕ) (p : List ℕ) → IsAscending s → (b : AdmittedBy s alpha p) → IsIn b.face (subsets 4 b.cell) → Around s alpha p b.cell
+-- where a Full cell as a whole admits a face, one around it is within alpha
+around_of : (s : List ℕ) (alpha : ℕ) (p : List ℕ) → IsAscending s → (b : AdmittedBy s alpha p) → IsIn b.face (subsets 4 b.cell) → list_any (is_small_cell alpha) (cells_with p (complex s)) ≡ true
 around_of s alpha p a b i = (
     let f = four_points s b.cell a b.listed in
     let e : b.cell ≡ b.face = whole_only b.cell b.face (subst (λ n. IsIn b.face (subsets n b.cell)) (sym f.four) i) in
     let c : contains b.cell p ≡ true = subst (λ v. contains v p ≡ true) (sym e) b.has in
     let t : is_within alpha b.cell ≡ true = subst (λ v. is_within alpha v ≡ true) (sym e) (second_true (is_gabriel s b.face) (is_within alpha b.face) b.small) in
-    record {
-      around = filtered_true (λ c. contains (points_of c) p) (complex s) (Full b.cell) b.listed c;
-      listed = listed_true (small_cells s alpha) b.cell (filtered_true (is_within alpha) (full_cells (complex s)) b.cell (full_cell_is_listed (complex s) b.cell b.listed) t);
-    })
+    any_true (is_small_cell alpha) (cells_with p (complex s)) (Full b.cell) (filtered_true (λ c. contains (points_of c) p) (complex s) (Full b.cell) b.listed c) t)
 
 -- ---- what links give, as the laws of links have it
 pub record Linked (s : List ℕ) (alpha : ℕ) : Type 0 where
@@ -216,17 +206,21 @@ record SmallTriple (s : List ℕ) (alpha : ℕ) (t : List ℕ) : Type 0 where
   listed : IsIn t (parts_in 3 (complex s))
   small : is_small s alpha t ≡ true
 
-small_triple_from : (s : List ℕ) (alpha : ℕ) (t : List ℕ) → Linked s alpha → is_listed (small_triples s alpha) t ≡ true → SmallTriple s alpha t
+small_triple_from : (s : List ℕ) (alpha : ℕ) (t : List ℕ) → Linked s alpha → is_listed (lone_triples s alpha) t ≡ true → SmallTriple s alpha t
 small_triple_from s alpha t l e = (
-    let i = subst (λ (v : List (List ℕ)). IsIn t v) (small_are alpha (parts_in 3 (complex s)) (complex s)) (listed_from (small_triples s alpha) t e) in
-    let k = filtered_from (λ p. is_small_by alpha (p, cells_with p (complex s))) (parts_in 3 (complex s)) t i in
-    record { listed = k.0; small = sym (l.small 3 t k.0) ∙ k.1 })
+    let i = subst (λ (v : List (List ℕ)). IsIn t v) (lone_are alpha (parts_in 3 (complex s)) (complex s)) (listed_from (lone_triples s alpha) t e) in
+    let k = filtered_from (λ p. is_lone alpha (p, cells_with p (complex s))) (parts_in 3 (complex s)) t i in
+    record { listed = k.0; small = sym (l.small 3 t k.0) ∙ second_true (not (list_any (is_small_cell alpha) (cells_with t (complex s)))) (is_small_by alpha (t, cells_with t (complex s))) k.1 })
 
--- and back
-small_triple_true : (s : List ℕ) (alpha : ℕ) (t : List ℕ) → Linked s alpha → SmallTriple s alpha t → is_listed (small_triples s alpha) t ≡ true
-small_triple_true s alpha t l h = (
-    let i = filtered_true (λ p. is_small_by alpha (p, cells_with p (complex s))) (parts_in 3 (complex s)) t h.listed (l.small 3 t h.listed ∙ h.small) in
-    listed_true (small_triples s alpha) t (subst (λ (v : List (List ℕ)). IsIn t v) (sym (small_are alpha (parts_in 3 (complex s)) (complex s))) i))
+-- and back, unless a cell around it is within alpha
+small_triple_true : (s : List ℕ) (alpha : ℕ) (t : List ℕ) → Linked s alpha → SmallTriple s alpha t → (list_any (is_small_cell alpha) (cells_with t (complex s)) ≡ true) ⊎ (is_listed (lone_triples s alpha) t ≡ true)
+small_triple_true s alpha t l h = elim (true_or_false (list_any (is_small_cell alpha) (cells_with t (complex s)))) [
+  | inl e ↦ inl e
+  | inr e ↦ inr (
+      let k = both_true (not (list_any (is_small_cell alpha) (cells_with t (complex s)))) (is_small_by alpha (t, cells_with t (complex s))) (not_true (list_any (is_small_cell alpha) (cells_with t (complex s))) e) (l.small 3 t h.listed ∙ h.small) in
+      let i = filtered_true (λ p. is_lone alpha (p, cells_with p (complex s))) (parts_in 3 (complex s)) t h.listed k in
+      listed_true (lone_triples s alpha) t (subst (λ (v : List (List ℕ)). IsIn t v) (sym (lone_are alpha (parts_in 3 (complex s)) (complex s))) i))
+]
 
 -- a small triple admits what it contains
 triple_admits : (s : List ℕ) (alpha : ℕ) (p t : List ℕ) → SmallTriple s alpha t → contains t p ≡ true → is_admitted s alpha p ≡ true
@@ -236,28 +230,30 @@ triple_admits s alpha p t h c = (
 
 -- ---- triples
 
--- the lists tell which triples are admitted
-pub admitted_triple_is : (s : List ℕ) (alpha : ℕ) (p : List ℕ) → Linked s alpha → IsIn p (parts_in 3 (complex s)) → is_admitted_triple (small_cells s alpha) (small_triples s alpha) (p, cells_with p (complex s)) ≡ is_admitted s alpha p
-admitted_triple_is s alpha p l i = same_test (is_admitted_triple (small_cells s alpha) (small_triples s alpha) (p, cells_with p (complex s))) (is_admitted s alpha p) there back
+-- cells and lone triples tell which triples are admitted
+pub admitted_triple_is : (s : List ℕ) (alpha : ℕ) (p : List ℕ) → Linked s alpha → IsIn p (parts_in 3 (complex s)) → is_admitted_triple alpha (lone_triples s alpha) (p, cells_with p (complex s)) ≡ is_admitted s alpha p
+admitted_triple_is s alpha p l i = same_test (is_admitted_triple alpha (lone_triples s alpha) (p, cells_with p (complex s))) (is_admitted s alpha p) there back
   where
-    -- by itself, or by a cell
-    there : is_admitted_triple (small_cells s alpha) (small_triples s alpha) (p, cells_with p (complex s)) ≡ true → is_admitted s alpha p ≡ true
-    there t = elim (one_true (is_listed (small_triples s alpha) p) (list_any (is_listed_cell (small_cells s alpha)) (cells_with p (complex s))) t) [
-      | inl e ↦ triple_admits s alpha p p (small_triple_from s alpha p l e) (contains_itself p)
-      | inr e ↦ (let k = any_from (is_listed_cell (small_cells s alpha)) (cells_with p (complex s)) e in listed_cell_admits s alpha p k.0 l.ascending k.1 k.2)
+    -- by a cell, or by itself
+    there : is_admitted_triple alpha (lone_triples s alpha) (p, cells_with p (complex s)) ≡ true → is_admitted s alpha p ≡ true
+    there t = elim (one_true (list_any (is_small_cell alpha) (cells_with p (complex s))) (is_listed (lone_triples s alpha) p) t) [
+      | inl e ↦ around_admits s alpha p l.ascending e
+      | inr e ↦ triple_admits s alpha p p (small_triple_from s alpha p l e) (contains_itself p)
     ]
 
+    -- it is small itself
+    by_itself : SmallTriple s alpha p → is_admitted_triple alpha (lone_triples s alpha) (p, cells_with p (complex s)) ≡ true
+    by_itself h = elim (small_triple_true s alpha p l h) [ inl e ↦ left_true (list_any (is_small_cell alpha) (cells_with p (complex s))) (is_listed (lone_triples s alpha) p) e | inr e ↦ right_true (list_any (is_small_cell alpha) (cells_with p (complex s))) (is_listed (lone_triples s alpha) p) e ]
+
     -- and so by what admits it
-    by_face : IsAscending p → length p ≡ 3 → (b : AdmittedBy s alpha p) → IsAscending b.cell → Sized b.cell b.face → is_admitted_triple (small_cells s alpha) (small_triples s alpha) (p, cells_with p (complex s)) ≡ true
+    by_face : IsAscending p → length p ≡ 3 → (b : AdmittedBy s alpha p) → IsAscending b.cell → Sized b.cell b.face → is_admitted_triple alpha (lone_triples s alpha) (p, cells_with p (complex s)) ≡ true
     by_face a e b c (one j) = absurd (too_few 1 3 b.cell b.face p (omega arith) c j a e b.has)
     by_face a e b c (two j) = absurd (too_few 2 3 b.cell b.face p (omega arith) c j a e b.has)
-    by_face a e b c (three j) = left_true (is_listed (small_triples s alpha) p) (list_any (is_listed_cell (small_cells s alpha)) (cells_with p (complex s)))
-        (small_triple_true s alpha p l (record { listed = i; small = subst (λ v. is_small s alpha v ≡ true) (as_many 3 b.cell b.face p c j a e b.has) b.small }))
-    by_face a e b c (four j) = right_true (is_listed (small_triples s alpha) p) (list_any (is_listed_cell (small_cells s alpha)) (cells_with p (complex s)))
-        (let r = around_of s alpha p l.ascending b j in any_true (is_listed_cell (small_cells s alpha)) (cells_with p (complex s)) (Full b.cell) r.around r.listed)
+    by_face a e b c (three j) = by_itself (record { listed = i; small = subst (λ v. is_small s alpha v ≡ true) (as_many 3 b.cell b.face p c j a e b.has) b.small })
+    by_face a e b c (four j) = left_true (list_any (is_small_cell alpha) (cells_with p (complex s))) (is_listed (lone_triples s alpha) p) (around_of s alpha p l.ascending b j)
 
     -- whatever it is
-    back : is_admitted s alpha p ≡ true → is_admitted_triple (small_cells s alpha) (small_triples s alpha) (p, cells_with p (complex s)) ≡ true
+    back : is_admitted s alpha p ≡ true → is_admitted_triple alpha (lone_triples s alpha) (p, cells_with p (complex s)) ≡ true
     back t = (
         let b = admitted_from s alpha p t in
         let h = listed_is_part 3 (complex s) p i in
@@ -283,55 +279,62 @@ triple_facet (a ∷ b ∷ c ∷ d ∷ []) t e i = elim i [
 ]
 triple_facet (a ∷ b ∷ c ∷ d ∷ e ∷ q) t f i = absurd (omega arith)
 
--- the lists tell which pairs are admitted
-pub admitted_pair_is : (s : List ℕ) (alpha : ℕ) (p : List ℕ) → Linked s alpha → IsIn p (parts_in 2 (complex s)) → is_admitted_pair (small_cells s alpha) (small_triples s alpha) alpha (p, cells_with p (complex s)) ≡ is_admitted s alpha p
-admitted_pair_is s alpha p l i = same_test (is_admitted_pair (small_cells s alpha) (small_triples s alpha) alpha (p, cells_with p (complex s))) (is_admitted s alpha p) there back
+-- cells and lone triples tell which pairs are admitted
+pub admitted_pair_is : (s : List ℕ) (alpha : ℕ) (p : List ℕ) → Linked s alpha → IsIn p (parts_in 2 (complex s)) → is_admitted_pair alpha (lone_triples s alpha) (p, cells_with p (complex s)) ≡ is_admitted s alpha p
+admitted_pair_is s alpha p l i = same_test (is_admitted_pair alpha (lone_triples s alpha) (p, cells_with p (complex s))) (is_admitted s alpha p) there back
   where
     -- a facet that covers it
-    by_facet : (f : Facet) → is_listed_around (small_triples s alpha) p f ≡ true → is_admitted s alpha p ≡ true
+    by_facet : (f : Facet) → is_listed_around (lone_triples s alpha) p f ≡ true → is_admitted s alpha p ≡ true
     by_facet (Two q) e = cc
-    by_facet (Three t) e = triple_admits s alpha p t (small_triple_from s alpha t l (second_true (contains t p) (is_listed (small_triples s alpha) t) e)) (first_true (contains t p) (is_listed (small_triples s alpha) t) e)
+    by_facet (Three t) e = triple_admits s alpha p t (small_triple_from s alpha t l (second_true (contains t p) (is_listed (lone_triples s alpha) t) e)) (first_true (contains t p) (is_listed (lone_triples s alpha) t) e)
 
-    -- by a cell or a triple around it, or by itself
-    there : is_admitted_pair (small_cells s alpha) (small_triples s alpha) alpha (p, cells_with p (complex s)) ≡ true → is_admitted s alpha p ≡ true
-    there t = elim (one_true (is_small_by alpha (p, cells_with p (complex s))) (list_any (covers (small_cells s alpha) (small_triples s alpha) p) (cells_with p (complex s))) t) [
-      | inr e ↦ (
-          let k = any_from (covers (small_cells s alpha) (small_triples s alpha) p) (cells_with p (complex s)) e in
-          elim (one_true (is_listed_cell (small_cells s alpha) k.0) (list_any (is_listed_around (small_triples s alpha) p) (facets_of k.0)) k.2) [
-            | inl f ↦ listed_cell_admits s alpha p k.0 l.ascending k.1 f
-            | inr f ↦ (let m = any_from (is_listed_around (small_triples s alpha) p) (facets_of k.0) f in by_facet m.0 m.2)
-          ])
+    -- by itself, or by a triple around it
+    by_less : (is_small_by alpha (p, cells_with p (complex s)) || list_any (covers (lone_triples s alpha) p) (cells_with p (complex s))) ≡ true → is_admitted s alpha p ≡ true
+    by_less t = elim (one_true (is_small_by alpha (p, cells_with p (complex s))) (list_any (covers (lone_triples s alpha) p) (cells_with p (complex s))) t) [
       | inl e ↦ (
           let k = listed_is_part 2 (complex s) p i in
           admitted_true s alpha p (record { cell = k.q; listed = k.listed; face = p; inside = inside_2 k.q p k.part; has = contains_itself p; small = sym (l.small 2 p i) ∙ e }))
+      | inr e ↦ (
+          let k = any_from (covers (lone_triples s alpha) p) (cells_with p (complex s)) e in
+          let m = any_from (is_listed_around (lone_triples s alpha) p) (facets_of k.0) k.2 in
+          by_facet m.0 m.2)
     ]
 
-    -- a cell that covers it
-    covered : (q : List ℕ) → IsIn (Full q) (cells_with p (complex s)) → covers (small_cells s alpha) (small_triples s alpha) p (Full q) ≡ true → is_admitted_pair (small_cells s alpha) (small_triples s alpha) alpha (p, cells_with p (complex s)) ≡ true
-    covered q j c = right_true (is_small_by alpha (p, cells_with p (complex s))) (list_any (covers (small_cells s alpha) (small_triples s alpha) p) (cells_with p (complex s))) (any_true (covers (small_cells s alpha) (small_triples s alpha) p) (cells_with p (complex s)) (Full q) j c)
+    -- or by a cell
+    there : is_admitted_pair alpha (lone_triples s alpha) (p, cells_with p (complex s)) ≡ true → is_admitted s alpha p ≡ true
+    there t = elim (one_true (list_any (is_small_cell alpha) (cells_with p (complex s))) (is_small_by alpha (p, cells_with p (complex s)) || list_any (covers (lone_triples s alpha) p) (cells_with p (complex s))) t) [ inl e ↦ around_admits s alpha p l.ascending e | inr e ↦ by_less e ]
+
+    -- a cell within alpha around a triple that contains it is around it too
+    by_cell : (t : List ℕ) → contains t p ≡ true → list_any (is_small_cell alpha) (cells_with t (complex s)) ≡ true → is_admitted_pair alpha (lone_triples s alpha) (p, cells_with p (complex s)) ≡ true
+    by_cell t c e = (
+        let k = any_from (is_small_cell alpha) (cells_with t (complex s)) e in
+        let m = filtered_from (λ c. contains (points_of c) t) (complex s) k.0 k.1 in
+        let has : contains (points_of k.0) p ≡ true = contains_through (points_of k.0) t p m.1 c in
+        left_true (list_any (is_small_cell alpha) (cells_with p (complex s))) (is_small_by alpha (p, cells_with p (complex s)) || list_any (covers (lone_triples s alpha) p) (cells_with p (complex s))) (any_true (is_small_cell alpha) (cells_with p (complex s)) k.0 (filtered_true (λ c. contains (points_of c) p) (complex s) k.0 m.0 has) k.2))
 
     -- a small triple of a Full cell that contains it
-    by_triple : (b : AdmittedBy s alpha p) → IsFour b.cell → IsIn b.face (subsets 3 b.cell) → is_admitted_pair (small_cells s alpha) (small_triples s alpha) alpha (p, cells_with p (complex s)) ≡ true
-    by_triple b f j = (
-        let has : contains b.cell p ≡ true = contains_through b.cell b.face p (contained_true b.cell b.face (part_inside 3 b.cell b.face j)) b.has in
-        let h : SmallTriple s alpha b.face = record { listed = part_is_listed 3 (complex s) b.face (record { q = b.cell; listed = b.listed; part = j }); small = b.small } in
-        let t : is_listed_around (small_triples s alpha) p (Three b.face) ≡ true = both_true (contains b.face p) (is_listed (small_triples s alpha) b.face) b.has (small_triple_true s alpha b.face l h) in
-        covered b.cell (filtered_true (λ c. contains (points_of c) p) (complex s) (Full b.cell) b.listed has)
-        (right_true (is_listed_cell (small_cells s alpha) (Full b.cell)) (list_any (is_listed_around (small_triples s alpha) p) (facets_of (Full b.cell)))
-        (any_true (is_listed_around (small_triples s alpha) p) (facets_of (Full b.cell)) (Three b.face) (triple_facet b.cell b.face f.four j) t)))
+    by_triple : (b : AdmittedBy s alpha p) → IsFour b.cell → IsIn b.face (subsets 3 b.cell) → is_admitted_pair alpha (lone_triples s alpha) (p, cells_with p (complex s)) ≡ true
+    by_triple b f j = elim (small_triple_true s alpha b.face l (record { listed = part_is_listed 3 (complex s) b.face (record { q = b.cell; listed = b.listed; part = j }); small = b.small })) [
+      | inl e ↦ by_cell b.face b.has e
+      | inr e ↦ (
+          let has : contains b.cell p ≡ true = contains_through b.cell b.face p (contained_true b.cell b.face (part_inside 3 b.cell b.face j)) b.has in
+          let t : is_listed_around (lone_triples s alpha) p (Three b.face) ≡ true = both_true (contains b.face p) (is_listed (lone_triples s alpha) b.face) b.has e in
+          right_true (list_any (is_small_cell alpha) (cells_with p (complex s))) (is_small_by alpha (p, cells_with p (complex s)) || list_any (covers (lone_triples s alpha) p) (cells_with p (complex s)))
+          (right_true (is_small_by alpha (p, cells_with p (complex s))) (list_any (covers (lone_triples s alpha) p) (cells_with p (complex s)))
+          (any_true (covers (lone_triples s alpha) p) (cells_with p (complex s)) (Full b.cell) (filtered_true (λ c. contains (points_of c) p) (complex s) (Full b.cell) b.listed has)
+          (any_true (is_listed_around (lone_triples s alpha) p) (facets_of (Full b.cell)) (Three b.face) (triple_facet b.cell b.face f.four j) t))))
+    ]
 
     -- and so by what admits it
-    by_face : IsAscending p → length p ≡ 2 → (b : AdmittedBy s alpha p) → IsFour b.cell → Sized b.cell b.face → is_admitted_pair (small_cells s alpha) (small_triples s alpha) alpha (p, cells_with p (complex s)) ≡ true
+    by_face : IsAscending p → length p ≡ 2 → (b : AdmittedBy s alpha p) → IsFour b.cell → Sized b.cell b.face → is_admitted_pair alpha (lone_triples s alpha) (p, cells_with p (complex s)) ≡ true
     by_face a e b f (one j) = absurd (too_few 1 2 b.cell b.face p (omega arith) f.ascending j a e b.has)
-    by_face a e b f (two j) = left_true (is_small_by alpha (p, cells_with p (complex s))) (list_any (covers (small_cells s alpha) (small_triples s alpha) p) (cells_with p (complex s)))
-        (l.small 2 p i ∙ subst (λ v. is_small s alpha v ≡ true) (as_many 2 b.cell b.face p f.ascending j a e b.has) b.small)
+    by_face a e b f (two j) = right_true (list_any (is_small_cell alpha) (cells_with p (complex s))) (is_small_by alpha (p, cells_with p (complex s)) || list_any (covers (lone_triples s alpha) p) (cells_with p (complex s)))
+        (left_true (is_small_by alpha (p, cells_with p (complex s))) (list_any (covers (lone_triples s alpha) p) (cells_with p (complex s))) (l.small 2 p i ∙ subst (λ v. is_small s alpha v ≡ true) (as_many 2 b.cell b.face p f.ascending j a e b.has) b.small))
     by_face a e b f (three j) = by_triple b f j
-    by_face a e b f (four j) = (
-        let r = around_of s alpha p l.ascending b j in
-        covered b.cell r.around (left_true (is_listed_cell (small_cells s alpha) (Full b.cell)) (list_any (is_listed_around (small_triples s alpha) p) (facets_of (Full b.cell))) r.listed))
+    by_face a e b f (four j) = left_true (list_any (is_small_cell alpha) (cells_with p (complex s))) (is_small_by alpha (p, cells_with p (complex s)) || list_any (covers (lone_triples s alpha) p) (cells_with p (complex s))) (around_of s alpha p l.ascending b j)
 
     -- whatever it is
-    back : is_admitted s alpha p ≡ true → is_admitted_pair (small_cells s alpha) (small_triples s alpha) alpha (p, cells_with p (complex s)) ≡ true
+    back : is_admitted s alpha p ≡ true → is_admitted_pair alpha (lone_triples s alpha) (p, cells_with p (complex s)) ≡ true
     back t = (
         let b = admitted_from s alpha p t in
         let h = listed_is_part 2 (complex s) p i in
@@ -339,42 +342,39 @@ admitted_pair_is s alpha p l i = same_test (is_admitted_pair (small_cells s alph
 
 -- ---- kinds
 
--- the lists tell which cells are admitted
-listed_cell_is : (s : List ℕ) (alpha : ℕ) (c : Cell) → IsAscending s → IsIn c (complex s) → is_listed_cell (small_cells s alpha) c ≡ is_admitted_cell s alpha c
-listed_cell_is s alpha (Open t) a i = refl
-listed_cell_is s alpha (Full q) a i =
-    same_test (is_listed (small_cells s alpha) q) (is_admitted s alpha q)
-    (λ e. let k = filtered_from (is_within alpha) (full_cells (complex s)) q (listed_from (small_cells s alpha) q e) in sym (admitted_cell_is s alpha q a i) ∙ k.1)
-    (λ e. listed_true (small_cells s alpha) q (filtered_true (is_within alpha) (full_cells (complex s)) q (full_cell_is_listed (complex s) q i) (admitted_cell_is s alpha q a i ∙ e)))
+-- the cells within alpha are the admitted ones
+small_cell_is : (s : List ℕ) (alpha : ℕ) (c : Cell) → IsAscending s → IsIn c (complex s) → is_small_cell alpha c ≡ is_admitted_cell s alpha c
+small_cell_is s alpha (Open t) a i = refl
+small_cell_is s alpha (Full q) a i = admitted_cell_is s alpha q a i
 
--- the lists tell the kind of a face
-pub kind_is : (s : List ℕ) (alpha : ℕ) (p : List ℕ) → IsAscending s → kind_by (is_listed_cell (small_cells s alpha)) (cells_with p (complex s)) ≡ kind s alpha p
+-- they tell the kind of a face
+pub kind_is : (s : List ℕ) (alpha : ℕ) (p : List ℕ) → IsAscending s → kind_by (is_small_cell alpha) (cells_with p (complex s)) ≡ kind s alpha p
 unfolding kind
 kind_is s alpha p a = (
-    let same = λ (c : Cell) (i : IsIn c (cells_with p (complex s))). listed_cell_is s alpha c a (filtered_from (λ c. contains (points_of c) p) (complex s) c i).0 in
-    let f : list_all (is_listed_cell (small_cells s alpha)) (cells_with p (complex s)) ≡ list_all (is_admitted_cell s alpha) (cells_with p (complex s)) = all_same (is_listed_cell (small_cells s alpha)) (is_admitted_cell s alpha) (cells_with p (complex s)) same in
-    let g : list_any (is_listed_cell (small_cells s alpha)) (cells_with p (complex s)) ≡ list_any (is_admitted_cell s alpha) (cells_with p (complex s)) = any_same (is_listed_cell (small_cells s alpha)) (is_admitted_cell s alpha) (cells_with p (complex s)) same in
+    let same = λ (c : Cell) (i : IsIn c (cells_with p (complex s))). small_cell_is s alpha c a (filtered_from (λ c. contains (points_of c) p) (complex s) c i).0 in
+    let f : list_all (is_small_cell alpha) (cells_with p (complex s)) ≡ list_all (is_admitted_cell s alpha) (cells_with p (complex s)) = all_same (is_small_cell alpha) (is_admitted_cell s alpha) (cells_with p (complex s)) same in
+    let g : list_any (is_small_cell alpha) (cells_with p (complex s)) ≡ list_any (is_admitted_cell s alpha) (cells_with p (complex s)) = any_same (is_small_cell alpha) (is_admitted_cell s alpha) (cells_with p (complex s)) same in
     rw (f, g) refl)
 
 -- ---- the shape
 
 -- faces that pass a test of their cells, where this is the test of admission
-pub kinds_are : (s : List ℕ) (alpha : ℕ) (t : List ℕ × List Cell → Bool) (ps : List (List ℕ)) → IsAscending s → ((p : List ℕ) → IsIn p ps → t (p, cells_with p (complex s)) ≡ is_admitted s alpha p) → kinds_by (small_cells s alpha) (filter t (with_cells ps (complex s))) ≡ admitted_among s alpha ps
+pub kinds_are : (s : List ℕ) (alpha : ℕ) (t : List ℕ × List Cell → Bool) (ps : List (List ℕ)) → IsAscending s → ((p : List ℕ) → IsIn p ps → t (p, cells_with p (complex s)) ≡ is_admitted s alpha p) → kinds_by alpha (filter t (with_cells ps (complex s))) ≡ admitted_among s alpha ps
 kinds_are s alpha t [] a f = refl
 kinds_are s alpha t (p ∷ ps) a f = by_test (is_admitted s alpha p) refl (kinds_are s alpha t ps a (λ q i. f q (inr i)))
   where
     -- admitted or not
-    by_test : (b : Bool) → is_admitted s alpha p ≡ b → kinds_by (small_cells s alpha) (filter t (with_cells ps (complex s))) ≡ admitted_among s alpha ps → kinds_by (small_cells s alpha) (filter t (with_cells (p ∷ ps) (complex s))) ≡ admitted_among s alpha (p ∷ ps)
+    by_test : (b : Bool) → is_admitted s alpha p ≡ b → kinds_by alpha (filter t (with_cells ps (complex s))) ≡ admitted_among s alpha ps → kinds_by alpha (filter t (with_cells (p ∷ ps) (complex s))) ≡ admitted_among s alpha (p ∷ ps)
     by_test true e r = (
         let g : t (p, cells_with p (complex s)) ≡ true = f p (inl refl) ∙ e in
-        rw (e, g) (ap (λ k. (p, k) ∷ kinds_by (small_cells s alpha) (filter t (with_cells ps (complex s)))) (kind_is s alpha p a) ∙ ap (λ l. (p, kind s alpha p) ∷ l) r))
+        rw (e, g) (ap (λ k. (p, k) ∷ kinds_by alpha (filter t (with_cells ps (complex s)))) (kind_is s alpha p a) ∙ ap (λ l. (p, kind s alpha p) ∷ l) r))
     by_test false e r = (let g : t (p, cells_with p (complex s)) ≡ false = f p (inl refl) ∙ e in rw (e, g) r)
 
 -- points with their kinds
-pub point_kinds_are : (s : List ℕ) (alpha : ℕ) (ps : List ℕ) → IsAscending s → kinds_by (small_cells s alpha) (points_with_cells ps (complex s)) ≡ map (λ p. (p, kind s alpha (p ∷ []))) ps
+pub point_kinds_are : (s : List ℕ) (alpha : ℕ) (ps : List ℕ) → IsAscending s → kinds_by alpha (points_with_cells ps (complex s)) ≡ map (λ p. (p, kind s alpha (p ∷ []))) ps
 point_kinds_are s alpha [] a = refl
 point_kinds_are s alpha (p ∷ ps) a =
-    ap (λ k. (p, k) ∷ kinds_by (small_cells s alpha) (points_with_cells ps (complex s))) (kind_is s alpha (p ∷ []) a)
+    ap (λ k. (p, k) ∷ kinds_by alpha (points_with_cells ps (complex s))) (kind_is s alpha (p ∷ []) a)
     ∙ ap (λ l. (p, kind s alpha (p ∷ [])) ∷ l) (point_kinds_are s alpha ps a)
 
 -- every point of a solid set is admitted

@@ -15,21 +15,17 @@ use Rattle.face_list.proofs.FullCells.{listed_is_full_cell}
 use Rattle.face_list.proofs.FaceLaws.{listed_is_part, points_of_complex}
 use Rattle.alpha_complex.specs.Admitted.{is_within, is_admitted}
 use Rattle.alpha_complex.specs.Condition.{AreFaces, AreFacesOf}
-use Rattle.alpha_complex.specs.Judged.{ArePairs, small_among, is_admitted_triple, is_admitted_pair, kinds_by}
+use Rattle.alpha_complex.specs.Judged.{ArePairs, lone_among, is_admitted_triple, is_admitted_pair, kinds_by}
 use Rattle.alpha_complex.specs.Shapes.{shape_of}
 use Rattle.alpha_complex.proofs.Parts.{part_length}
-use Rattle.alpha_complex.proofs.SmallFaces.{filter_same, small_cells_in_order, small_in_order, small_by_link}
-use Rattle.alpha_complex.proofs.Admission.{Linked, small_cells, small_triples, admitted_cell_is, admitted_pair_is, admitted_triple_is, kinds_are, point_kinds_are}
+use Rattle.alpha_complex.proofs.SmallFaces.{filter_same, lone_in_order, small_by_link}
+use Rattle.alpha_complex.proofs.Admission.{Linked, lone_triples, admitted_cell_is, admitted_pair_is, admitted_triple_is, kinds_are, point_kinds_are}
 
 -- ---- conditions
 
--- the cells within alpha are in order
-pub cells_ordered : (faces : FaceLists) (alpha : ℕ) → AreFaces faces → IsStrictlySortedBy (slice_cmp nat_cmp) (filter (is_within alpha) (full_cells faces.cells))
-cells_ordered faces alpha h = rw h.1.cells (small_cells_in_order h.0 alpha h.1.ascending)
-
--- the small triples too
-pub triples_ordered : (faces : FaceLists) (alpha : ℕ) → AreFaces faces → IsStrictlySortedBy (slice_cmp nat_cmp) (small_among alpha faces.triples)
-triples_ordered faces alpha h = rw h.1.triples (small_in_order alpha 3 (complex h.0))
+-- the lone triples are in order
+pub triples_ordered : (faces : FaceLists) (alpha : ℕ) → AreFaces faces → IsStrictlySortedBy (slice_cmp nat_cmp) (lone_among alpha faces.triples)
+triples_ordered faces alpha h = rw h.1.triples (lone_in_order alpha 3 (complex h.0))
 
 -- the pairs are pairs
 pub pairs_are : (faces : FaceLists) → AreFaces faces → ArePairs faces.pairs
@@ -55,22 +51,17 @@ cells_are s faces alpha h =
     ∙ filter_same (is_within alpha) (is_admitted s alpha) (full_cells (complex s)) (λ q i. admitted_cell_is s alpha q h.ascending (listed_is_full_cell (complex s) q i))
 
 -- the points
-pub points_are : (s : List ℕ) (faces : FaceLists) (alpha : ℕ) → AreFacesOf s faces → kinds_by (filter (is_within alpha) (full_cells faces.cells)) faces.points ≡ (shape_of s alpha).points
-points_are s faces alpha h =
-    rw (h.cells, h.points, points_of_complex s h.ascending h.keys h.solid) (point_kinds_are s alpha s h.ascending)
+pub points_are : (s : List ℕ) (faces : FaceLists) (alpha : ℕ) → AreFacesOf s faces → kinds_by alpha faces.points ≡ (shape_of s alpha).points
+points_are s faces alpha h = rw (h.points, points_of_complex s h.ascending h.keys h.solid) (point_kinds_are s alpha s h.ascending)
 
 -- the pairs
 pub pair_kinds_are :
-    (s : List ℕ) (faces : FaceLists) (alpha : ℕ) → AreFacesOf s faces →
-    kinds_by (filter (is_within alpha) (full_cells faces.cells)) (filter (is_admitted_pair (filter (is_within alpha) (full_cells faces.cells)) (small_among alpha faces.triples) alpha) faces.pairs) ≡ (shape_of s alpha).pairs
+    (s : List ℕ) (faces : FaceLists) (alpha : ℕ) → AreFacesOf s faces → kinds_by alpha (filter (is_admitted_pair alpha (lone_among alpha faces.triples)) faces.pairs) ≡ (shape_of s alpha).pairs
 pair_kinds_are s faces alpha h =
-    rw (h.cells, h.triples, h.pairs)
-    (kinds_are s alpha (is_admitted_pair (small_cells s alpha) (small_triples s alpha) alpha) (parts_in 2 (complex s)) h.ascending (λ p i. admitted_pair_is s alpha p (linked s alpha h.ascending h.keys) i))
+    rw (h.triples, h.pairs) (kinds_are s alpha (is_admitted_pair alpha (lone_triples s alpha)) (parts_in 2 (complex s)) h.ascending (λ p i. admitted_pair_is s alpha p (linked s alpha h.ascending h.keys) i))
 
 -- the triples
 pub triple_kinds_are :
-    (s : List ℕ) (faces : FaceLists) (alpha : ℕ) → AreFacesOf s faces →
-    kinds_by (filter (is_within alpha) (full_cells faces.cells)) (filter (is_admitted_triple (filter (is_within alpha) (full_cells faces.cells)) (small_among alpha faces.triples)) faces.triples) ≡ (shape_of s alpha).triples
+    (s : List ℕ) (faces : FaceLists) (alpha : ℕ) → AreFacesOf s faces → kinds_by alpha (filter (is_admitted_triple alpha (lone_among alpha faces.triples)) faces.triples) ≡ (shape_of s alpha).triples
 triple_kinds_are s faces alpha h =
-    rw (h.cells, h.triples)
-    (kinds_are s alpha (is_admitted_triple (small_cells s alpha) (small_triples s alpha)) (parts_in 3 (complex s)) h.ascending (λ p i. admitted_triple_is s alpha p (linked s alpha h.ascending h.keys) i))
+    rw h.triples (kinds_are s alpha (is_admitted_triple alpha (lone_triples s alpha)) (parts_in 3 (complex s)) h.ascending (λ p i. admitted_triple_is s alpha p (linked s alpha h.ascending h.keys) i))

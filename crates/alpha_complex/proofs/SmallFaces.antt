@@ -13,14 +13,13 @@ use Rattle.point_order.specs.Complex.{complex}
 use Rattle.point_order.specs.Sets.{IsIn, IsAscending}
 use Rattle.del_laws.specs.Keys.{AreKeys}
 use Rattle.del_laws.proofs.Tests.{any_from, any_true}
-use Rattle.face_list.specs.Faces.{full_cells, parts_in, cells_with, with_cells}
+use Rattle.face_list.specs.Faces.{parts_in, cells_with, with_cells}
 use Rattle.face_list.proofs.FaceLaws.{parts_in_order}
-use Rattle.face_list.proofs.FullCells.{full_cells_of_complex}
 use Rattle.gabriel_faces.specs.Links.{link_of}
 use Rattle.gabriel_faces.proofs.JudgedByLink.{judged_by_link}
 use Rattle.gabriel_faces.proofs.Links.{listed_is_face, link_is_link}
 use Rattle.alpha_complex.specs.Admitted.{is_within, is_small}
-use Rattle.alpha_complex.specs.Judged.{is_listed, is_small_by, small_among}
+use Rattle.alpha_complex.specs.Judged.{is_listed, is_small_by, is_lone, lone_among}
 
 -- ---- lists
 
@@ -73,23 +72,17 @@ listed_from list p t = (
 pub listed_true : (list : List (List ℕ)) (p : List ℕ) → IsIn p list → is_listed list p ≡ true
 listed_true list p i = any_true (λ q. is_eq (slice_cmp nat_cmp q p)) list p i (is_eq-slice_cmp p p ∙ (bytes_eq-Decides p p).1 refl)
 
--- ---- Full cells
-
--- the cells within alpha are in order
-pub small_cells_in_order : (s : List ℕ) (alpha : ℕ) → IsAscending s → IsStrictlySortedBy (slice_cmp nat_cmp) (filter (is_within alpha) (full_cells (complex s)))
-small_cells_in_order s alpha a = IsStrictlySortedBy-filter (slice_cmp nat_cmp) (is_within alpha) (full_cells (complex s)) (full_cells_of_complex s a)
-
 -- ---- faces beside their cells
 
--- the small ones among faces beside their cells
-pub small_are : (alpha : ℕ) (faces : List (List ℕ)) (cells : List Cell) → small_among alpha (with_cells faces cells) ≡ filter (λ p. is_small_by alpha (p, cells_with p cells)) faces
-small_are alpha faces cells = firsts_kept (is_small_by alpha) (λ p. cells_with p cells) faces
+-- the lone ones among faces beside their cells
+pub lone_are : (alpha : ℕ) (faces : List (List ℕ)) (cells : List Cell) → lone_among alpha (with_cells faces cells) ≡ filter (λ p. is_lone alpha (p, cells_with p cells)) faces
+lone_are alpha faces cells = firsts_kept (is_lone alpha) (λ p. cells_with p cells) faces
 
 -- those of k points are in order
-pub small_in_order : (alpha k : ℕ) (cells : List Cell) → IsStrictlySortedBy (slice_cmp nat_cmp) (small_among alpha (with_cells (parts_in k cells) cells))
-small_in_order alpha k cells = (
-    let t = λ (p : List ℕ). is_small_by alpha (p, cells_with p cells) in
-    rw (small_are alpha (parts_in k cells) cells)
+pub lone_in_order : (alpha k : ℕ) (cells : List Cell) → IsStrictlySortedBy (slice_cmp nat_cmp) (lone_among alpha (with_cells (parts_in k cells) cells))
+lone_in_order alpha k cells = (
+    let t = λ (p : List ℕ). is_lone alpha (p, cells_with p cells) in
+    rw (lone_are alpha (parts_in k cells) cells)
     (IsStrictlySortedBy-filter (slice_cmp nat_cmp) t (parts_in k cells) (parts_in_order k cells)))
 
 -- a listed face is small by its link where it is in the set

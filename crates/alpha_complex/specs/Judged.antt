@@ -1,5 +1,5 @@
 -- How faces are judged by lists, as private functions promise it.
-use Rattle.std.specs.Prelude.{◌≡◌, ℕ, length, Bool, false, ◌||◌, ◌&&◌, List, map}
+use Rattle.std.specs.Prelude.{◌≡◌, ℕ, length, Bool, false, not, ◌||◌, ◌&&◌, List, map}
 use Rattle.std.specs.List.{filter, list_any}
 use Rattle.std.specs.Ordering.{nat_cmp, is_eq}
 use Rattle.std.specs.Cmp.Lexicographic.{slice_cmp}
@@ -22,36 +22,45 @@ pub record ArePairs (faces : List (List ℕ × List Cell)) : Type 0 where
 abbrev pub is_small_by : ℕ → List ℕ × List Cell → Bool
 is_small_by alpha f = is_gabriel (link_of f.0 f.1) f.0 && is_within alpha f.0
 
+-- the cell is Full and within alpha
+abbrev pub is_small_cell : ℕ → Cell → Bool
+is_small_cell alpha (Full q) = is_within alpha q
+is_small_cell alpha (Open t) = false
+
+-- a mark for each cell, whether it is
+abbrev pub AreMarks : ℕ → List Cell → List Bool → Type 0
+AreMarks alpha cells marks = marks ≡ map (is_small_cell alpha) cells
+
+-- the face is, beside cells that are Open or beyond alpha
+abbrev pub is_lone : ℕ → List ℕ × List Cell → Bool
+is_lone alpha f = not (list_any (is_small_cell alpha) f.1) && is_small_by alpha f
+
 -- those of the faces that are
-abbrev pub small_among : ℕ → List (List ℕ × List Cell) → List (List ℕ)
-small_among alpha faces = map (λ f. f.0) (filter (is_small_by alpha) faces)
+abbrev pub lone_among : ℕ → List (List ℕ × List Cell) → List (List ℕ)
+lone_among alpha faces = map (λ f. f.0) (filter (is_lone alpha) faces)
 
 -- the points are one of the list
 abbrev pub is_listed : List (List ℕ) → List ℕ → Bool
 is_listed list p = list_any (λ q. is_eq (slice_cmp nat_cmp q p)) list
-
--- the cell is Full and one of the list
-abbrev pub is_listed_cell : List (List ℕ) → Cell → Bool
-is_listed_cell cells (Full q) = is_listed cells q
-is_listed_cell cells (Open t) = false
 
 -- the facet is one of the triples and contains the pair
 abbrev pub is_listed_around : List (List ℕ) → List ℕ → Facet → Bool
 is_listed_around triples pair (Three t) = contains t pair && is_listed triples t
 is_listed_around triples pair (Two p) = false
 
--- the cell is one of the list, or one of the triples is among its facets and contains the pair
-abbrev pub covers : List (List ℕ) → List (List ℕ) → List ℕ → Cell → Bool
-covers cells triples pair cell = is_listed_cell cells cell || list_any (is_listed_around triples pair) (facets_of cell)
+-- one of the triples is among the facets of the cell and contains the pair
+abbrev pub covers : List (List ℕ) → List ℕ → Cell → Bool
+covers triples pair cell = list_any (is_listed_around triples pair) (facets_of cell)
 
--- faces, each with its kind by the listed cells
-abbrev pub kinds_by : {X : Type 0} → List (List ℕ) → List (X × List Cell) → List (X × Kind)
-kinds_by cells faces = map (λ f. (f.0, kind_by (is_listed_cell cells) f.1)) faces
+-- faces, each with its kind by the cells within alpha
+abbrev pub kinds_by : {X : Type 0} → ℕ → List (X × List Cell) → List (X × Kind)
+kinds_by alpha faces = map (λ f. (f.0, kind_by (is_small_cell alpha) f.1)) faces
 
--- the triple is one of the small ones, or some listed cell contains it
-abbrev pub is_admitted_triple : List (List ℕ) → List (List ℕ) → List ℕ × List Cell → Bool
-is_admitted_triple cells small face = is_listed small face.0 || list_any (is_listed_cell cells) face.1
+-- some cell within alpha contains the triple, or it is one of the lone ones
+abbrev pub is_admitted_triple : ℕ → List (List ℕ) → List ℕ × List Cell → Bool
+is_admitted_triple alpha lone face = list_any (is_small_cell alpha) face.1 || is_listed lone face.0
 
--- the pair is itself Gabriel and within alpha, or is covered by a cell around it
-abbrev pub is_admitted_pair : List (List ℕ) → List (List ℕ) → ℕ → List ℕ × List Cell → Bool
-is_admitted_pair cells triples alpha face = is_small_by alpha face || list_any (covers cells triples face.0) face.1
+-- some cell within alpha contains the pair, or it is itself Gabriel and within alpha, or a lone triple contains it
+abbrev pub is_admitted_pair : ℕ → List (List ℕ) → List ℕ × List Cell → Bool
+is_admitted_pair alpha lone face =
+    list_any (is_small_cell alpha) face.1 || (is_small_by alpha face || list_any (covers lone face.0) face.1)

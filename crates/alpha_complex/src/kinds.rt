@@ -1,75 +1,21 @@
 //! The kinds of faces, by the admitted cells among those that contain them.
 
 ghost use Rattle.std.specs.Prelude.{◌≡◌, ◌<◌, ◌&&◌, All, length, IfOk};
-ghost use Rattle.std.specs.List.{filter, list_all, list_any};
+ghost use Rattle.std.specs.List.{filter, list_any};
 ghost use Rattle.std.specs.List.Sorted.{IsStrictlySortedBy};
 ghost use Rattle.std.specs.Ordering.{nat_cmp};
 ghost use Rattle.std.specs.Cmp.Lexicographic.{slice_cmp};
-ghost use Rattle.point_order.specs.Facets.{facets_of};
 ghost use Rattle.face_list.specs.Tables.{numbered};
-ghost use Rattle.alpha_complex.specs.Admitted.{contains as contains_all, kind_by};
-ghost use Rattle.alpha_complex.specs.Judged.{is_listed_cell as is_listed_cell_of, is_listed_around as is_listed_around_of, covers as covers_of, kinds_by, is_admitted_triple as is_admitted_triple_of, ArePairs, is_admitted_pair};
+ghost use Rattle.alpha_complex.specs.Admitted.{contains as contains_all};
+ghost use Rattle.alpha_complex.specs.Judged.{is_listed_around as is_listed_around_of, covers, kinds_by, AreMarks, is_admitted_triple as is_admitted_triple_of, ArePairs, is_admitted_pair as is_admitted_pair_of};
 
+use crate::marks::{Marks, kind, some_marked};
 use crate::search::has;
 use crate::shape::Kind;
 use crate::small::is_small_pair;
 use face_list::Faces;
-use point_order::{Cell, Facet, Pair, Point, Quad, Tri};
+use point_order::{Cell, Facet, Pair, Point, Tri};
 use std::alloc::{AllocError, Global};
-
-// Whether the cell is Full and one of the list.
-fn is_listed_cell(cells: &[Quad], cell: &Cell) -> bool
-    requires { IsStrictlySortedBy (slice_cmp nat_cmp) cells.now }
-    ensures { result ≡ is_listed_cell_of cells.now cell.now }
-{
-    match cell {
-        Cell::Full(quad) => has(cells, quad),
-        Cell::Open(_) => false,
-    }
-}
-
-// Whether all of the cells of some numbers are listed.
-fn all_listed(listed: &[Quad], cells: &[Cell], around: &[u32]) -> bool
-    requires listed { IsStrictlySortedBy (slice_cmp nat_cmp) listed.now }
-    requires numbers { All (λ n. n < length cells.now) around.now }
-    ensures { result ≡ list_all (is_listed_cell_of listed.now) (numbered cells.now around.now) }
-{
-    for number in around {
-        if !is_listed_cell(listed, &cells[*number as usize]) {
-            return false;
-        }
-    }
-    true
-}
-
-// Whether some of the cells of some numbers are listed.
-fn some_listed(listed: &[Quad], cells: &[Cell], around: &[u32]) -> bool
-    requires listed { IsStrictlySortedBy (slice_cmp nat_cmp) listed.now }
-    requires numbers { All (λ n. n < length cells.now) around.now }
-    ensures { result ≡ list_any (is_listed_cell_of listed.now) (numbered cells.now around.now) }
-{
-    for number in around {
-        if is_listed_cell(listed, &cells[*number as usize]) {
-            return true;
-        }
-    }
-    false
-}
-
-// The kind of a face, by the cells that contain it, told by their numbers, and the list of those that are admitted.
-fn kind(listed: &[Quad], cells: &[Cell], around: &[u32]) -> Kind
-    requires listed { IsStrictlySortedBy (slice_cmp nat_cmp) listed.now }
-    requires numbers { All (λ n. n < length cells.now) around.now }
-    ensures { result ≡ kind_by (is_listed_cell_of listed.now) (numbered cells.now around.now) }
-{
-    if all_listed(listed, cells, around) {
-        Kind::Interior
-    } else if some_listed(listed, cells, around) {
-        Kind::Regular
-    } else {
-        Kind::Singular
-    }
-}
 
 // Whether the triple has both points of the pair.
 fn contains(tri: &Tri, pair: &Pair) -> bool
@@ -99,44 +45,31 @@ fn some_around(triples: &[Tri], pair: &Pair, facets: &[Facet]) -> bool
         .any(|facet| is_listed_around(triples, pair, facet))
 }
 
-// Whether the cell is listed, or has a facet that is one of the triples and contains the pair.
-fn covers(cells: &[Quad], triples: &[Tri], pair: &Pair, cell: &Cell) -> bool
-    requires cells { IsStrictlySortedBy (slice_cmp nat_cmp) cells.now }
-    requires triples { IsStrictlySortedBy (slice_cmp nat_cmp) triples.now }
-    ensures { result ≡ covers_of cells.now triples.now pair.now cell.now }
+// Whether a triple is one of the lone ones, or is contained in a marked cell.
+fn is_admitted_triple(marks: &Marks, lone: &[Tri], tri: &Tri, around: &[u32]) -> bool
+    requires marks { AreMarks marks.now.alpha marks.now.cells.now marks.now.marks.items }
+    requires lone { IsStrictlySortedBy (slice_cmp nat_cmp) lone.now }
+    requires numbers { All (λ n. n < length marks.now.cells.now) around.now }
+    ensures { result
+        ≡ is_admitted_triple_of marks.now.alpha lone.now (tri.now, numbered marks.now.cells.now around.now) }
 {
-    is_listed_cell(cells, cell) || some_around(triples, pair, &cell.facets())
-}
-
-// Whether a triple is one of the small ones, or is contained in a listed cell.
-fn is_admitted_triple(
-    listed: &[Quad],
-    small: &[Tri],
-    cells: &[Cell],
-    tri: &Tri,
-    around: &[u32],
-) -> bool
-    requires listed { IsStrictlySortedBy (slice_cmp nat_cmp) listed.now }
-    requires small { IsStrictlySortedBy (slice_cmp nat_cmp) small.now }
-    requires numbers { All (λ n. n < length cells.now) around.now }
-    ensures { result ≡ is_admitted_triple_of listed.now small.now (tri.now, numbered cells.now around.now) }
-{
-    has(small, tri) || some_listed(listed, cells, around)
+    some_marked(marks, around) || has(lone, tri)
 }
 
 /// The points with their kinds.
 pub fn points_with_kinds(
     alloc: Global,
-    listed: &[Quad],
+    marks: &Marks,
     faces: &Faces,
 ) -> Result<Vec<(Point, Kind)>, AllocError>
-    requires { IsStrictlySortedBy (slice_cmp nat_cmp) listed.now }
-    ensures { IfOk result (λ v. v.items ≡ kinds_by listed.now faces.now.points) }
+    requires marks { AreMarks marks.now.alpha marks.now.cells.now marks.now.marks.items }
+    requires cells { marks.now.cells.now ≡ faces.now.cells }
+    ensures { IfOk result (λ v. v.items ≡ kinds_by marks.now.alpha faces.now.points) }
 {
-    let mut kinds = Vec::new(alloc);
+    let mut kinds = Vec::with_capacity(alloc, faces.points().len())?;
     for index in 0..faces.points().len() {
         let (point, around) = faces.point(index);
-        kinds.push((point, kind(listed, faces.cells(), around)))?;
+        kinds.push((point, kind(marks, around)))?;
     }
     Ok(kinds)
 }
@@ -144,60 +77,85 @@ pub fn points_with_kinds(
 /// The admitted triples with their kinds.
 pub fn triples_with_kinds(
     alloc: Global,
-    listed: &[Quad],
-    small: &[Tri],
+    marks: &Marks,
+    lone: &[Tri],
     faces: &Faces,
 ) -> Result<Vec<(Tri, Kind)>, AllocError>
-    requires listed { IsStrictlySortedBy (slice_cmp nat_cmp) listed.now }
-    requires small { IsStrictlySortedBy (slice_cmp nat_cmp) small.now }
-    ensures { IfOk result (λ v. v.items ≡ kinds_by listed.now (filter (is_admitted_triple_of listed.now small.now) faces.now.triples)) }
+    requires marks { AreMarks marks.now.alpha marks.now.cells.now marks.now.marks.items }
+    requires cells { marks.now.cells.now ≡ faces.now.cells }
+    requires lone { IsStrictlySortedBy (slice_cmp nat_cmp) lone.now }
+    ensures { IfOk result (λ v. v.items
+        ≡ kinds_by marks.now.alpha (filter (is_admitted_triple_of marks.now.alpha lone.now) faces.now.triples)) }
 {
     let mut kinds = Vec::new(alloc);
     for index in 0..faces.triples().len() {
         let (tri, around) = faces.triple(index);
-        if is_admitted_triple(listed, small, faces.cells(), &tri, around) {
-            kinds.push((tri, kind(listed, faces.cells(), around)))?;
+        if is_admitted_triple(marks, lone, &tri, around) {
+            kinds.push((tri, kind(marks, around)))?;
         }
     }
     Ok(kinds)
 }
 
-// Whether some cell around the pair is listed, or has a facet that is one of the triples and contains the pair.
-fn is_covered(listed: &[Quad], triples: &[Tri], cells: &[Cell], pair: &Pair, around: &[u32]) -> bool
-    requires listed { IsStrictlySortedBy (slice_cmp nat_cmp) listed.now }
+// Whether some cell around the pair has a facet that is one of the triples and contains the pair.
+fn is_covered(triples: &[Tri], cells: &[Cell], pair: &Pair, around: &[u32]) -> bool
     requires triples { IsStrictlySortedBy (slice_cmp nat_cmp) triples.now }
     requires numbers { All (λ n. n < length cells.now) around.now }
-    ensures { result ≡ list_any (covers_of listed.now triples.now pair.now) (numbered cells.now around.now) }
+    ensures { result ≡ list_any (covers triples.now pair.now) (numbered cells.now around.now) }
 {
     for number in around {
-        if covers(listed, triples, pair, &cells[*number as usize]) {
+        if some_around(triples, pair, &cells[*number as usize].facets()) {
             return true;
         }
     }
     false
 }
 
-/// The admitted pairs with their kinds, by the admitted cells and the triples that are Gabriel and within alpha.
+// Whether the pair is contained in a marked cell, or is itself small, or is contained in a lone triple. The list is room for
+// its link.
+fn is_admitted_pair(
+    link: &mut Vec<Point>,
+    marks: &Marks,
+    lone: &[Tri],
+    pair: &Pair,
+    around: &[u32],
+) -> Result<bool, AllocError>
+    requires two { length pair.now ≡ 2 }
+    requires marks { AreMarks marks.now.alpha marks.now.cells.now marks.now.marks.items }
+    requires lone { IsStrictlySortedBy (slice_cmp nat_cmp) lone.now }
+    requires numbers { All (λ n. n < length marks.now.cells.now) around.now }
+    ensures { IfOk result (λ admitted. admitted
+        ≡ is_admitted_pair_of marks.now.alpha lone.now (pair.now, numbered marks.now.cells.now around.now)) }
+{
+    if some_marked(marks, around) {
+        return Ok(true);
+    }
+    if is_small_pair(link, marks.cells, pair, around, marks.alpha)? {
+        return Ok(true);
+    }
+    Ok(is_covered(lone, marks.cells, pair, around))
+}
+
+/// The admitted pairs with their kinds.
 pub fn pairs_with_kinds(
     alloc: Global,
-    listed: &[Quad],
-    triples: &[Tri],
+    marks: &Marks,
+    lone: &[Tri],
     faces: &Faces,
-    alpha: u64,
 ) -> Result<Vec<(Pair, Kind)>, AllocError>
-    requires listed { IsStrictlySortedBy (slice_cmp nat_cmp) listed.now }
-    requires triples { IsStrictlySortedBy (slice_cmp nat_cmp) triples.now }
+    requires marks { AreMarks marks.now.alpha marks.now.cells.now marks.now.marks.items }
+    requires cells { marks.now.cells.now ≡ faces.now.cells }
+    requires lone { IsStrictlySortedBy (slice_cmp nat_cmp) lone.now }
     requires pairs { ArePairs faces.now.pairs }
-    ensures { IfOk result (λ v. v.items ≡ kinds_by listed.now (filter (is_admitted_pair listed.now triples.now alpha) faces.now.pairs)) }
+    ensures { IfOk result (λ v. v.items
+        ≡ kinds_by marks.now.alpha (filter (is_admitted_pair_of marks.now.alpha lone.now) faces.now.pairs)) }
 {
     let mut kinds = Vec::new(alloc);
     let mut link = Vec::new(alloc);
     for index in 0..faces.pairs().len() {
         let (pair, around) = faces.pair(index);
-        if is_small_pair(&mut link, faces.cells(), &pair, around, alpha)?
-            || is_covered(listed, triples, faces.cells(), &pair, around)
-        {
-            kinds.push((pair, kind(listed, faces.cells(), around)))?;
+        if is_admitted_pair(&mut link, marks, lone, &pair, around)? {
+            kinds.push((pair, kind(marks, around)))?;
         }
     }
     Ok(kinds)

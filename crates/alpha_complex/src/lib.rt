@@ -11,6 +11,7 @@ ghost use Rattle.alpha_complex.specs.Shapes.{shape_of};
 
 mod kinds;
 pub mod laws;
+mod marks;
 mod search;
 pub mod shape;
 mod small;
@@ -24,8 +25,8 @@ use std::alloc::{AllocError, Global};
 ///
 /// The faces are what `face_list::faces` gives of the complex of a solid set, its cells in order.
 ///
-/// Each radius is compared once, and each Gabriel test is made at most once. Admission and kinds are found by searches in the
-/// lists of small cells and triples, and no pass is made over all pairs of faces (no clause counts the work).
+/// Each radius is compared once, and each Gabriel test is made at most once, and none for a face of an admitted cell. Kinds are
+/// read from a mark for each cell, and no pass is made over all pairs of faces (no clause counts the work).
 ///
 /// # Errors
 /// Want of memory.
@@ -37,12 +38,12 @@ pub fn alpha<R>(_rt: &R, alloc: Global, faces: &Faces, alpha: u64) -> Result<Sha
     ensures triples { IfOk result (λ shape. (s : List ℕ) → AreFacesOf s faces.now → shape.triples.items ≡ (shape_of s alpha).triples) }
     ensures cells { IfOk result (λ shape. (s : List ℕ) → AreFacesOf s faces.now → shape.cells.items ≡ (shape_of s alpha).cells) }
 {
-    let cells = small::small_cells(alloc, faces.cells(), alpha)?;
-    let triples = small::small_triples(alloc, faces, alpha)?;
+    let marks = marks::mark(alloc, faces.cells(), alpha)?;
+    let lone = small::lone_triples(alloc, &marks, faces)?;
     Ok(Shape {
-        points: kinds::points_with_kinds(alloc, &cells, faces)?,
-        pairs: kinds::pairs_with_kinds(alloc, &cells, &triples, faces, alpha)?,
-        triples: kinds::triples_with_kinds(alloc, &cells, &triples, faces)?,
-        cells,
+        points: kinds::points_with_kinds(alloc, &marks, faces)?,
+        pairs: kinds::pairs_with_kinds(alloc, &marks, &lone, faces)?,
+        triples: kinds::triples_with_kinds(alloc, &marks, &lone, faces)?,
+        cells: marks::marked_cells(alloc, &marks)?,
     })
 }

@@ -1,18 +1,17 @@
 //! Which faces are Gabriel and within alpha, by the cells that contain them.
 
-ghost use Rattle.std.specs.Prelude.{◌≡◌, ◌∷◌, ◌++◌, [], ◌<◌, ◌^◌, not, All, length, IfOk, OnOk};
+ghost use Rattle.std.specs.Prelude.{◌≡◌, ◌∷◌, ◌++◌, [], ◌<◌, not, All, length, IfOk, OnOk};
 ghost use Rattle.std.specs.List.{filter};
 ghost use Rattle.point_order.specs.Sets.{is_among};
 ghost use Rattle.gabriel_faces.specs.Links.{link_of};
-ghost use Rattle.face_list.specs.Faces.{full_cells};
 ghost use Rattle.face_list.specs.Tables.{numbered};
-ghost use Rattle.alpha_complex.specs.Admitted.{is_within};
-ghost use Rattle.alpha_complex.specs.Judged.{is_small_by, small_among};
+ghost use Rattle.alpha_complex.specs.Judged.{is_small_by, is_lone as is_lone_by, lone_among, AreMarks};
 
+use crate::marks::{Marks, some_marked};
 use face_list::Faces;
 use gabriel_faces::{gabriel_edge, gabriel_triangle};
-use point_order::{Cell, Pair, Point, Quad, Tri};
-use small_spheres::{cell_within, edge_within, triangle_within};
+use point_order::{Cell, Pair, Point, Tri};
+use small_spheres::{edge_within, triangle_within};
 use std::alloc::{AllocError, Global};
 
 // The two points of a pair.
@@ -62,15 +61,6 @@ fn fill_link(
     Ok(())
 }
 
-// Whether the cell's circumscribing sphere is within alpha.
-fn is_small_cell(quad: &Quad, alpha: u64) -> bool
-    requires { alpha < 2 ^ 30 }
-    ensures { result ≡ is_within alpha quad.now }
-{
-    let (a, b, c, d) = quad.corners();
-    cell_within(a, b, c, d, alpha)
-}
-
 /// Whether the pair is Gabriel and within alpha. The list is room for its link.
 pub fn is_small_pair(
     link: &mut Vec<Point>,
@@ -110,33 +100,37 @@ fn is_small_triple(
     Ok(gabriel_triangle(a, b, c, link))
 }
 
-/// The Full cells that are within alpha.
-pub fn small_cells(alloc: Global, cells: &[Cell], alpha: u64) -> Result<Vec<Quad>, AllocError>
-    requires { alpha < 2 ^ 30 }
-    ensures { IfOk result (λ small. small.items ≡ filter (is_within alpha) (full_cells cells.now)) }
+// Whether no cell around the triple is marked, and it is Gabriel and within alpha. The list is room for its link.
+fn is_lone(
+    link: &mut Vec<Point>,
+    marks: &Marks,
+    tri: &Tri,
+    around: &[u32],
+) -> Result<bool, AllocError>
+    requires marks { AreMarks marks.now.alpha marks.now.cells.now marks.now.marks.items }
+    requires numbers { All (λ n. n < length marks.now.cells.now) around.now }
+    ensures { IfOk result (λ lone. lone
+        ≡ is_lone_by marks.now.alpha (tri.now, numbered marks.now.cells.now around.now)) }
 {
-    let mut small = Vec::new(alloc);
-    for cell in cells {
-        if let Cell::Full(quad) = cell {
-            if is_small_cell(quad, alpha) {
-                small.push(*quad)?;
-            }
-        }
+    if some_marked(marks, around) {
+        return Ok(false);
     }
-    Ok(small)
+    is_small_triple(link, marks.cells, tri, around, marks.alpha)
 }
 
-/// The triples that are Gabriel and within alpha.
-pub fn small_triples(alloc: Global, faces: &Faces, alpha: u64) -> Result<Vec<Tri>, AllocError>
-    ensures { IfOk result (λ small. small.items ≡ small_among alpha faces.now.triples) }
+/// The triples that are Gabriel and within alpha, but for those of marked cells, which admit all that these would.
+pub fn lone_triples(alloc: Global, marks: &Marks, faces: &Faces) -> Result<Vec<Tri>, AllocError>
+    requires marks { AreMarks marks.now.alpha marks.now.cells.now marks.now.marks.items }
+    requires cells { marks.now.cells.now ≡ faces.now.cells }
+    ensures { IfOk result (λ lone. lone.items ≡ lone_among marks.now.alpha faces.now.triples) }
 {
-    let mut small = Vec::new(alloc);
+    let mut lone = Vec::new(alloc);
     let mut link = Vec::new(alloc);
     for index in 0..faces.triples().len() {
         let (tri, around) = faces.triple(index);
-        if is_small_triple(&mut link, faces.cells(), &tri, around, alpha)? {
-            small.push(tri)?;
+        if is_lone(&mut link, marks, &tri, around)? {
+            lone.push(tri)?;
         }
     }
-    Ok(small)
+    Ok(lone)
 }

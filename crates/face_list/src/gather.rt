@@ -121,8 +121,8 @@ fn with_numbers<K: Ord + Copy>(
     ensures lists { IfOk result (λ t. stretches t.numbers.items 0 t.ends.items ≡ map (numbers_of K.cmp items.now) keys.items) }
     ensures numbers { IfOk result (λ t. (n : ℕ) → IsIn n t.numbers.items → IsIn n (map (λ i. i.1) items.now)) }
 {
-    let mut ends = Vec::new(alloc);
-    let mut numbers = Vec::new(alloc);
+    let mut ends = Vec::with_capacity(alloc, keys.len())?;
+    let mut numbers = Vec::with_capacity(alloc, items.len())?;
     let mut rest = items;
     for key in &keys {
         rest = put_numbers(&mut numbers, rest, *key)?;

@@ -99,7 +99,7 @@ pub fn point_items(alloc: Global, cells: &[Cell]) -> Result<Vec<(Point, u32)>, A
     ensures items { IfOk result (λ v. v.items ≡ items_from 0 points_of cells.now) }
     ensures ascending { OnOk result (AreAscending cells.now) }
 {
-    let mut items = Vec::new(alloc);
+    let mut items = Vec::with_capacity(alloc, cells.len() * 4)?;
     for number in 0..cells.len() {
         put(&mut items, points_in_order(&cells[number]), number as u32)?;
     }
@@ -111,7 +111,7 @@ pub fn pair_items(alloc: Global, cells: &[Cell]) -> Result<Vec<(Pair, u32)>, All
     requires { length cells.now < 2 ^ 32 }
     ensures { IfOk result (λ v. v.items ≡ items_from 0 (λ c. subsets 2 (points_of c)) cells.now) }
 {
-    let mut items = Vec::new(alloc);
+    let mut items = Vec::with_capacity(alloc, cells.len() * 6)?;
     for number in 0..cells.len() {
         match cells[number] {
             Cell::Full(quad) => put(&mut items, &pairs_of_quad(quad), number as u32)?,
@@ -126,7 +126,7 @@ pub fn triple_items(alloc: Global, cells: &[Cell]) -> Result<Vec<(Tri, u32)>, Al
     requires { length cells.now < 2 ^ 32 }
     ensures { IfOk result (λ v. v.items ≡ items_from 0 (λ c. subsets 3 (points_of c)) cells.now) }
 {
-    let mut items = Vec::new(alloc);
+    let mut items = Vec::with_capacity(alloc, cells.len() * 4)?;
     for number in 0..cells.len() {
         match cells[number] {
             Cell::Full(quad) => put(&mut items, &triples_of_quad(quad), number as u32)?,

@@ -6,4 +6,4 @@ use Rattle.alpha_complex.specs.Judged.{covers}
 use Rattle.alpha_complex.proofs.kinds.is_covered.Given as goal
 
 abbrev pub invariant-loop-number : goal.invariant-loop-number
-invariant-loop-number l = list_any (covers l.listed l.triples l.pair) (numbered l.cells (drop l.number-index l.around)) ≡ list_any (covers l.listed l.triples l.pair) (numbered l.cells l.around)
+invariant-loop-number l = list_any (covers l.triples l.pair) (numbered l.cells (drop l.number-index l.around)) ≡ list_any (covers l.triples l.pair) (numbered l.cells l.around)

@@ -22,14 +22,14 @@ loop-key-preserved g c =
     let t : take (n + 1) keys ≡ take n keys ++ key ∷ [] = take_more keys n key c.loop-key-test.true ∙ ap (λ v. take n keys ++ v ∷ []) (sym c.key-item.is) in
     let own : numbers_of cmp c.loop-key.rest.now key ≡ more = c.loop-key.invariant.left key (subst (IsIn key) (sym d) (inl refl)) in
     let put : c.put_numbers.new.numbers.items ≡ old ++ more = c.in_ok-rest.ensures.numbers ∙ ap (λ l. old ++ l) own in
-    let end : c.len.result ≡ length old + length more = c.len.ensures ∙ c.put_numbers.new.numbers.ok.0 ∙ ap length put ∙ length-append old more in
+    let end : c.len-in-loop-key.result ≡ length old + length more = c.len-in-loop-key.ensures ∙ c.put_numbers.new.numbers.ok.0 ∙ ap length put ∙ length-append old more in
     let below : length old ≤ length old + length more = omega arith in
     record {
       order = c.in_ok-rest.ensures.order;
       left = λ k m. c.in_ok-rest.ensures.later k (before_others cmp keys n key k (subst (IsStrictlySortedBy cmp) (sym c.deref-key-items.ensures.value) c.requires.keys) d m) ∙ c.loop-key.invariant.left k (subst (IsIn k) (sym d) (inr m));
-      ends = ap length c.in_ok-put_end.ensures ∙ length-append c.loop-key.ends.items (c.len.result ∷ []) ∙ ap (λ k. k + 1) c.loop-key.invariant.ends;
+      ends = ap length c.in_ok-put_end.ensures ∙ length-append c.loop-key.ends.items (c.len-in-loop-key.result ∷ []) ∙ ap (λ k. k + 1) c.loop-key.invariant.ends;
       stops = rw (c.in_ok-put_end.ensures, put, length-append old more, end) (stops_more 0 (length old) (length old + length more) c.loop-key.ends.items c.loop-key.invariant.stops below);
-      lists = rw (c.in_ok-put_end.ensures, put, t) (one_more old more 0 c.len.result c.loop-key.ends.items c.loop-key.invariant.stops end
+      lists = rw (c.in_ok-put_end.ensures, put, t) (one_more old more 0 c.len-in-loop-key.result c.loop-key.ends.items c.loop-key.invariant.stops end
           ∙ ap (λ l. l ++ more ∷ []) c.loop-key.invariant.lists ∙ sym (map-append (numbers_of cmp items) (take n keys) (key ∷ [])));
       numbers = λ k m. elim (from_append k old more (subst (IsIn k) put m)) [ inl i ↦ c.loop-key.invariant.numbers k i | inr i ↦ number_of_item cmp items key k i ];
     }
