@@ -9,7 +9,7 @@ use std::alloc::AllocError;
 use thiserror::Error;
 
 /// How many bytes a reading asks for at once, at most.
-const CHUNK: usize = 8192;
+const CHUNK: usize = 4096;
 
 /// Where a reading ended.
 #[derive(Clone, Copy, Debug, PartialEq, Eq)]

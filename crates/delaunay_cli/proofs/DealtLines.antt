@@ -1,8 +1,7 @@
 -- The lines that are dealt to workers can be run, and a run of them behind the opening keeps the file.
 use Rattle.std.proofs.Common.{◌≡◌, refl, sym, ◌∙◌, ap, subst, ℕ, suc, ◌+◌, ◌%◌, ◌<◌, ◌≤◌, ◌==◌, Bool, true, false, cond, List, [], ◌∷◌, ◌++◌, length, map, arith, length-append}
-use Rattle.std.specs.Prelude.{not, ◌&&◌, All, Option, Some, None}
+use Rattle.std.specs.Prelude.{not, ◌&&◌, All}
 use Rattle.std.specs.List.{enumerate_from, filter, flat_map, range_with_len}
-use Rattle.std.specs.Option.{option_map}
 use Rattle.std.proofs.lemmas.Bool.{eqb-true}
 use Rattle.std.proofs.lemmas.List.{length-map}
 use Rattle.std.proofs.lemmas.List.FromFn.{length-range_with_len}
@@ -14,7 +13,6 @@ use Rattle.edit_history.specs.declared.history.Edit.TheVariants.{Add}
 use Rattle.edit_history.specs.declared.history.Entry.{Entry}
 use Rattle.edit_history.specs.Edits.{point_of}
 use Rattle.edit_history.specs.Histories.{IsLegal}
-use Rattle.edit_history.specs.Opening.{Four, opening_four}
 use Rattle.edit_history.specs.OneThread.{Keeps, one_thread, places, tagged_lines}
 use Rattle.plain_laws.specs.Running.{Pair, dealt, dealt_to, opening_entries, IsRun}
 use Rattle.plain_laws.proofs.Members.{EachLater, in-all, in-map_from, later-filter, later-map, later-pairs, later-weaken, numbered-lower, numbered-places, passes}
@@ -96,17 +94,6 @@ module _ (workers : ℕ) (four : List ℕ) (points : List ℕ) (edits : List Edi
       omega (arith, e, f, n, length-append (map Add points) edits, length-map points Add)
 
 -- ---- what a run of them leaves
-
--- the places of an opening four that was found
-pub are_opening : (points four : List ℕ) → option_map places (opening_four points) ≡ Some four → AreOpening points four
-are_opening points four e = by (opening_four points) refl e
-  where
-    same : (a b : List ℕ) → Some a ≡ Some b → a ≡ b
-    same a b e = cc
-
-    by : (o : Option Four) → opening_four points ≡ o → option_map places o ≡ Some four → AreOpening points four
-    by None f e = absurd (cc e)
-    by (Some f) g e = (f, g, sym (same (places f) four e))
 
 module _ (points : List ℕ) (edits : List Edit) (workers : ℕ) (four : List ℕ) (found : AreOpening points four) (some : 0 < workers)
     (ls : List (List Pair)) (deals : ls ≡ dealt workers four (tagged_lines points edits)) (h k : List Entry) (opens : h ≡ opening_entries four (tagged_lines points edits)) (run : AreRun ls h k) where

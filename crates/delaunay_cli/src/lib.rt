@@ -21,5 +21,3 @@ mod words;
 pub use outcome::Run;
 pub use top::run;
 
-#[cfg(test)]
-mod tests;

@@ -6,7 +6,8 @@ use Rattle.edit_history.proofs.Lines.{length-entries}
 use Rattle.edit_workers.specs.Dealing.{AreApart, AreAscending, count_of}
 use Rattle.delaunay_cli.specs.Made.{tagged_points}
 use Rattle.delaunay_cli.proofs.OpeningLines.{added, added_many, four_many, opening_made, opening_lines}
-use Rattle.delaunay_cli.proofs.DealtLines.{are_opening, dealt_apart, dealt_ascend, dealt_count, dealt_few, run_kept, run_of_one}
+use Rattle.edit_workers.proofs.Deals.{are_opening}
+use Rattle.delaunay_cli.proofs.DealtLines.{dealt_apart, dealt_ascend, dealt_count, dealt_few, run_kept, run_of_one}
 use Rattle.delaunay_cli.proofs.meshed.meshed.Goals as goal
 
 pub deal-requires-clause-four : goal.deal-requires-clause-four
