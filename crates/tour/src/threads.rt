@@ -41,7 +41,8 @@ fn made(
     ensures { IsStill pass.old pass.new }
 {
     for _ in 0..TRIES {
-        match tried(table, alloc, pass, tag, edit) {
+        let again = edit;
+        match tried(table, alloc, pass, tag, again) {
             Ok(receipt) => return Some(receipt),
             Err(Refused::Busy { .. }) => {}
             Err(_) => return None,
