@@ -1,16 +1,19 @@
 //! Grids, and a bucket of a mesh in a hold of its own.
 
-ghost use Rattle.std.specs.Prelude.{◌≡◌, ◌*◌, ◌<◌, Some, IfOk};
-ghost use Rattle.cell_store.specs.Buckets.{bucket_at};
+ghost use Rattle.std.specs.Prelude.{◌≡◌, ◌+◌, ◌*◌, ◌<◌, ◌≤◌, Some, IsSome, IfOk, length};
+ghost use Rattle.cell_store.specs.Grids.{bucket_of as number_of};
+ghost use Rattle.cell_store.specs.Buckets.{bucket_at, points_in};
 ghost use Rattle.cell_store.specs.Shares.{ShowsWith, Stands, share_at};
 ghost use Rattle.cell_store.specs.Meshes.{StandsForSome};
 
 use crate::cells::{put_cell, put_number};
 use crate::meshes::mesh_of;
 use crate::reading::{list_at, points_of};
-use cell_store::{Across, Bucket, Grid, Hold, Mesh};
+use cell_store::{Across, Bucket, Grid, Hold, Mesh, Star, Steps};
 use point_order::{Cell, Point};
 use std::alloc::{AllocError, Global};
+use std::marker::Brand;
+use std::sync::ledger::{Blank, Ledger};
 
 /// The answer to a case of a grid.
 ///
@@ -96,6 +99,43 @@ fn put_star(text: &mut String, hold: &Hold, p: Point) -> Result<(), AllocError> 
     Ok(())
 }
 
+// The cells at a point by a search that is counted: with at most four points in the bucket it makes at most three comparisons.
+fn searched<'a, L: Ledger>(hold: &'a Hold, p: Point, steps: &mut Steps<L>) -> Star<'a>
+    requires stands { StandsForSome hold.now }
+    requires bucket { IsSome (bucket_at hold.now.places (number_of hold.now.grid p)) }
+    ensures { length (points_in hold.now.places (number_of hold.now.grid p)) ≤ 4 → steps.new ≤ steps.old + 3 }
+{
+    hold.star_counted(p, steps)
+}
+
+// The same cells as above, by that search.
+fn put_searched<L: Ledger>(
+    text: &mut String,
+    blank: Blank,
+    hold: &Hold,
+    p: Point,
+) -> Result<(), AllocError>
+    requires name { blank.name ≡ L.name }
+    requires parts { blank.parts ≡ L.parts }
+    requires some { 0 < blank.parts }
+    requires stands { StandsForSome hold.now }
+{
+    if hold.has(hold.grid().bucket_of(p)) {
+        let mut steps = Steps::<L>::begin(blank);
+        for cell in searched(hold, p, &mut steps) {
+            put_cell(text, cell)?;
+        }
+    }
+    Ok(())
+}
+
+// The same, counted in a ledger of its own.
+fn put_counted(text: &mut String, hold: &Hold, p: Point) -> Result<(), AllocError>
+    requires { StandsForSome hold.now }
+{
+    put_searched::<Brand>(text, Blank::new(1), hold, p)
+}
+
 // What the bucket with the number shows, alone in hand.
 fn put_bucket(alloc: Global, text: &mut String, hold: &Hold, b: u32) -> Result<(), AllocError>
     requires { StandsForSome hold.now }
@@ -111,6 +151,8 @@ fn put_bucket(alloc: Global, text: &mut String, hold: &Hold, b: u32) -> Result<(
         for p in copy.points() {
             text.push_str("; at")?;
             put_star(text, hold, *p)?;
+            text.push_str(" counted")?;
+            put_counted(text, hold, *p)?;
             text.push_str(" across")?;
             put_first(text, hold, *p)?;
         }

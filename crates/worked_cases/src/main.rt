@@ -11,8 +11,8 @@
 //!   bucket has. Every edit is entered as done.
 //! - `mesh SIZE; POINTS; EDITS`: the history by tags, what a set of points replies, the points left, and the cells.
 //! - `faces SIZE; POINTS`: each face of the complex with the cells that contain it, by the places of the sorted points.
-//! - `bucket SIZE; POINTS; B`: the bucket in a hold of its own; its counts, the cells at each of its points, and what
-//!   lies across the facets of the first of them.
+//! - `bucket SIZE; POINTS; B`: the bucket in a hold of its own; its counts, the cells at each of its points, the same
+//!   cells by a search that is counted, and what lies across the facets of the first of them.
 //! - `refill SIZE; POINTS; HELD; POINT`: the cells that go when the point is taken, and those that come.
 //! - `walk SIZE; POINTS; HELD; TARGET`: where a walk to the target starts, and what each of its steps comes to.
 //! - `read TIMES; FRONT; MIDDLE; END`: the lines of the file that the text is, the middle standing there so many times,
