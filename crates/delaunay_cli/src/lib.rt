@@ -20,4 +20,3 @@ mod words;
 
 pub use outcome::Run;
 pub use top::run;
-

@@ -13,7 +13,11 @@ const ROOM: usize = 100_000;
 // Bytes, with a bar for each line feed.
 fn put_bytes(text: &mut String, bytes: &[u8]) -> Result<(), AllocError> {
     for byte in bytes {
-        text.push(if *byte == b'\n' { '|' } else { char::from(*byte) })?;
+        text.push(if *byte == b'\n' {
+            '|'
+        } else {
+            char::from(*byte)
+        })?;
     }
     Ok(())
 }
@@ -48,7 +52,11 @@ pub(crate) fn answer<R: Threads + Sync>(
     let source = numbers_of(alloc, list_at(lists, 5))?;
     let output = numbers_of(alloc, list_at(lists, 6))?;
     let error = numbers_of(alloc, list_at(lists, 7))?;
-    let ([given, reads @ ..], [taken, writes @ ..], [told, tells @ ..]) = (source.as_slice(), output.as_slice(), error.as_slice()) else {
+    let ([given, reads @ ..], [taken, writes @ ..], [told, tells @ ..]) = (
+        source.as_slice(),
+        output.as_slice(),
+        error.as_slice(),
+    ) else {
         return text.push_str("no ends");
     };
     if *given == 0 || *taken == 0 || *told == 0 {

@@ -30,13 +30,7 @@ fn tried(
 }
 
 // Tries an edit until it is made; none where it never is.
-fn made(
-    table: &MeshTable,
-    alloc: Global,
-    pass: &mut Pass,
-    tag: u32,
-    edit: Edit,
-) -> Option<Receipt>
+fn made(table: &MeshTable, alloc: Global, pass: &mut Pass, tag: u32, edit: Edit) -> Option<Receipt>
     requires { pass.old.table ≡ table.now }
     ensures { IsStill pass.old pass.new }
 {
@@ -103,7 +97,11 @@ fn snapped(table: &MeshTable, alloc: Global, pass: &mut Pass) -> Result<Snapshot
 }
 
 /// Adds two cubes to the mesh by two threads side by side, and looks at the whole by a snapshot.
-pub fn edit_side_by_side<R: Threads + Sync + Print>(rt: &R, alloc: Global, mesh: Mesh) -> anyhow::Result<()> {
+pub fn edit_side_by_side<R: Threads + Sync + Print>(
+    rt: &R,
+    alloc: Global,
+    mesh: Mesh,
+) -> anyhow::Result<()> {
     if mesh.count() > 1000 {
         bail!("the history is long");
     }
