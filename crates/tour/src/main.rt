@@ -74,6 +74,7 @@ fn show_shape(rt: &impl Print, alloc: Global, mesh: &Mesh, radius: u64) -> Resul
 
 // A cell that a new point would take away, found by a walk.
 fn show_conflict(rt: &impl Print, mesh: &Mesh, p: Point) -> Result<()> {
+    let _ = p.key();
     let hold = mesh.hold();
     if hold.holds_point(p) {
         bail!("{p} is there already");

@@ -15,6 +15,18 @@ use std::thread::{Threads, join};
 // How often an edit is tried. A try fails where another pass has a bucket in hand that the edit needs.
 const TRIES: u32 = 1 << 24;
 
+// The corners of a cube.
+const CUBE: [[i64; 3]; 8] = [
+    [0, 0, 0],
+    [0, 0, 1],
+    [0, 1, 0],
+    [0, 1, 1],
+    [1, 0, 0],
+    [1, 0, 1],
+    [1, 1, 0],
+    [1, 1, 1],
+];
+
 // Tries an edit.
 fn tried(
     table: &MeshTable,
@@ -50,13 +62,17 @@ fn add_cube(table: &MeshTable, alloc: Global, mut pass: Pass, low: i64) -> (Pass
     requires { pass.table ≡ table.now }
     ensures { IsStill pass result.0 }
 {
-    let mut count = 0;
-    for i in 0..8 {
-        let place = Point::new(low + i / 4, low + i / 2 % 2, low + i % 2);
-        if let Ok(p) = place
+    let mut count: u32 = 0;
+    for [x, y, z] in CUBE {
+        let corner = Point::new(
+            low.saturating_add(x),
+            low.saturating_add(y),
+            low.saturating_add(z),
+        );
+        if let Ok(p) = corner
             && made(table, alloc, &mut pass, count, Edit::Add(p)).is_some()
         {
-            count += 1;
+            count = count.saturating_add(1);
         }
     }
     (pass, count)
