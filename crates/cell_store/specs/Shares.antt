@@ -4,6 +4,7 @@ use Rattle.std.specs.List.{filter}
 use Rattle.point_order.specs.declared.cell.Cell.{Cell}
 use Rattle.point_order.specs.declared.cell.Facet.{Facet}
 use Rattle.point_order.specs.declared.cell.Facet.TheVariants.{Three, Two}
+pub use Rattle.point_order.specs.Facets.{points_on}
 use Rattle.point_order.specs.Complex.{complex}
 use Rattle.point_order.specs.Sets.{IsIn, IsAscending}
 use Rattle.point_order.specs.Solid.{is_solid}
@@ -75,11 +76,6 @@ pub record Shows (hold : InHand) (s : List ℕ) : Type 0 where
 -- A hold that stands for a history shows the set that it leaves.
 abbrev pub StandsShows : Type 0
 StandsShows = (hold : InHand) (h : List Entry) → Stands hold h → Shows hold (replay h)
-
--- the finite points of a facet, ascending
-abbrev pub points_on : Facet → List ℕ
-points_on (Three t) = t
-points_on (Two p) = p
 
 -- the other cell of the complex of the set, on a facet of one of its cells
 abbrev pub IsAcross : List ℕ → Cell → Facet → Cell → Type 0

@@ -49,16 +49,6 @@ pub record Gathers {K : Type 0} (cmp : K → K → Ordering) (cells : List Cell)
   pub keys : (k : K) → IsIn k t.keys.items ↔ IsIn k (full_keys cells sorted)
   pub lists : stretches t.numbers.items 0 t.ends.items ≡ map (numbers_of cmp sorted) t.keys.items
 
--- the facet is a pair with the infinite vertex
-abbrev pub IsTwo : Facet → Type 0
-IsTwo (Two p) = Unit {0}
-IsTwo (Three t) = ⊥
-
--- the facet is a triple
-abbrev pub IsThree : Facet → Type 0
-IsThree (Two p) = ⊥
-IsThree (Three t) = Unit {0}
-
 -- the points of each cell ascend
 abbrev pub AreAscending : List Cell → Type 0
 AreAscending [] = Unit {0}

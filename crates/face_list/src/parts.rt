@@ -3,73 +3,18 @@
 ghost use Rattle.std.specs.Prelude.{◌≡◌, ◌<◌, ◌^◌, ◌++◌, length, map, IfOk, OnOk};
 ghost use Rattle.point_order.specs.Facets.{points_of};
 ghost use Rattle.point_order.specs.Subsets.{subsets};
-ghost use Rattle.point_order.specs.declared.cell.Facet.TheVariants.{Three, Two};
 ghost use Rattle.point_order.specs.Sets.{IsAscending};
-ghost use Rattle.face_list.specs.Gather.{items_from, AreAscending, IsTwo, IsThree};
+ghost use Rattle.face_list.specs.Gather.{items_from, AreAscending};
 
-use point_order::{Cell, Facet, Pair, Point, Quad, Tri};
+use point_order::{Cell, Pair, Point, Tri};
 use std::alloc::{AllocError, Global};
-
-// The pair of a facet at the infinite vertex.
-fn pair_of(facet: Facet) -> Pair
-    requires { IsTwo facet }
-    ensures { facet ≡ Two result }
-{
-    match facet {
-        Facet::Two(pair) => pair,
-        Facet::Three(_) => unreachable!(),
-    }
-}
-
-// The triple of a facet of finite points.
-fn triple_of(facet: Facet) -> Tri
-    requires { IsThree facet }
-    ensures { facet ≡ Three result }
-{
-    match facet {
-        Facet::Three(tri) => tri,
-        Facet::Two(_) => unreachable!(),
-    }
-}
-
-// The pairs of a triple, in lexicographic order.
-fn pairs_of_tri(tri: Tri) -> [Pair; 3]
-    ensures { result ≡ subsets 2 tri }
-{
-    let facets = Cell::Open(tri).facets();
-    [pair_of(facets[2]), pair_of(facets[1]), pair_of(facets[0])]
-}
 
 // The one triple of an Open cell.
 fn triples_of_tri(tri: Tri) -> [Tri; 1]
     ensures { result ≡ subsets 3 tri }
 {
-    let facets = Cell::Open(tri).facets();
-    [triple_of(facets[3])]
-}
-
-// The triples of a Full cell, in lexicographic order.
-fn triples_of_quad(quad: Quad) -> [Tri; 4]
-    ensures { result ≡ subsets 3 quad }
-{
-    let facets = Cell::Full(quad).facets();
-    [
-        triple_of(facets[3]),
-        triple_of(facets[2]),
-        triple_of(facets[1]),
-        triple_of(facets[0]),
-    ]
-}
-
-// The pairs of a Full cell, in lexicographic order.
-fn pairs_of_quad(quad: Quad) -> [Pair; 6]
-    ensures { result ≡ subsets 2 quad }
-{
-    let facets = Cell::Full(quad).facets();
-    let [ab, ac, bc] = pairs_of_tri(triple_of(facets[3]));
-    let [_, ad, bd] = pairs_of_tri(triple_of(facets[2]));
-    let [_, _, cd] = pairs_of_tri(triple_of(facets[0]));
-    [ab, ac, ad, bc, bd, cd]
+    let _ = tri.corners();
+    [tri]
 }
 
 // Puts the number of a cell under each of the cell's parts.
@@ -114,8 +59,8 @@ pub fn pair_items(alloc: Global, cells: &[Cell]) -> Result<Vec<(Pair, u32)>, All
     let mut items = Vec::with_capacity(alloc, cells.len() * 6)?;
     for number in 0..cells.len() {
         match cells[number] {
-            Cell::Full(quad) => put(&mut items, &pairs_of_quad(quad), number as u32)?,
-            Cell::Open(tri) => put(&mut items, &pairs_of_tri(tri), number as u32)?,
+            Cell::Full(quad) => put(&mut items, &quad.pairs(), number as u32)?,
+            Cell::Open(tri) => put(&mut items, &tri.pairs(), number as u32)?,
         }
     }
     Ok(items)
@@ -129,7 +74,7 @@ pub fn triple_items(alloc: Global, cells: &[Cell]) -> Result<Vec<(Tri, u32)>, Al
     let mut items = Vec::with_capacity(alloc, cells.len() * 4)?;
     for number in 0..cells.len() {
         match cells[number] {
-            Cell::Full(quad) => put(&mut items, &triples_of_quad(quad), number as u32)?,
+            Cell::Full(quad) => put(&mut items, &quad.triples(), number as u32)?,
             Cell::Open(tri) => put(&mut items, &triples_of_tri(tri), number as u32)?,
         }
     }

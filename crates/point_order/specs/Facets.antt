@@ -25,3 +25,8 @@ open_facets _ = []
 abbrev pub facets_of : Cell → List Facet
 facets_of (Full q) = full_facets q
 facets_of (Open t) = open_facets t
+
+-- the finite points of a facet, ascending
+abbrev pub points_on : Facet → List ℕ
+points_on (Three t) = t
+points_on (Two p) = p

@@ -2,7 +2,8 @@
 
 ghost use Rattle.std.specs.Prelude.{◌≡◌, ◌≢◌, ◌<◌, ◌↔◌, ℕ, List, [], ◌∷◌, ◌⊎◌, length};
 ghost use Rattle.point_order.specs.CellOrder.{cell_cmp};
-ghost use Rattle.point_order.specs.Facets.{facets_of, points_of};
+ghost use Rattle.point_order.specs.Facets.{facets_of, points_of, points_on};
+ghost use Rattle.point_order.specs.Subsets.{subsets};
 ghost use Rattle.point_order.specs.Sets.{IsAscending, AreThree, AreFour, IsIn, is_among, ascending};
 ghost use Rattle.point_order.specs.declared.cell.Cell.{Cell};
 ghost use Rattle.point_order.specs.declared.cell.Cell.TheVariants.{Full, Open};
@@ -123,6 +124,18 @@ impl Tri {
         let [a, b, c] = self.points;
         (a, b, c)
     }
+
+    /// The pairs of its points, in lexicographic order.
+    pub fn pairs(self) -> [Pair; 3]
+        ensures { result ≡ subsets 2 self }
+    {
+        let [a, b, c] = self.points;
+        [
+            Pair { points: [a, b] },
+            Pair { points: [a, c] },
+            Pair { points: [b, c] },
+        ]
+    }
 }
 
 impl Quad {
@@ -143,6 +156,47 @@ impl Quad {
     {
         let [a, b, c, d] = self.points;
         (a, b, c, d)
+    }
+
+    /// The pairs of its points, in lexicographic order.
+    pub fn pairs(self) -> [Pair; 6]
+        ensures { result ≡ subsets 2 self }
+    {
+        let [a, b, c, d] = self.points;
+        [
+            Pair { points: [a, b] },
+            Pair { points: [a, c] },
+            Pair { points: [a, d] },
+            Pair { points: [b, c] },
+            Pair { points: [b, d] },
+            Pair { points: [c, d] },
+        ]
+    }
+
+    /// The triples of its points, in lexicographic order.
+    pub fn triples(self) -> [Tri; 4]
+        ensures { result ≡ subsets 3 self }
+    {
+        let [a, b, c, d] = self.points;
+        [
+            Tri { points: [a, b, c] },
+            Tri { points: [a, b, d] },
+            Tri { points: [a, c, d] },
+            Tri { points: [b, c, d] },
+        ]
+    }
+}
+
+impl Facet {
+    /// Its finite points, ascending.
+    pub fn points(&self) -> &[Point]
+        ensures points { result.now ≡ points_on self.now }
+        ensures ascending { IsAscending result.now }
+    {
+        match self {
+            Facet::Three(tri) => &tri.points,
+            Facet::Two(pair) => &pair.points,
+        }
     }
 }
 

@@ -11,6 +11,6 @@ loop-number-preserved c =
     let parts : Cell → List (List ℕ) = λ c. subsets 3 (points_of c) in
     let n = c.loop-number.number in
     elim c.match-cells-number.branch [
-      | in-Full+in_ok-put-in-Full w ↦ items_next parts c.args.cells.now n _ _ _ _ _ c.loop-number-test.true c.loop-number.invariant w.in-Full.is w.triples_of_quad.ensures (ap (λ v. v.items) w.items-is ∙ w.in_ok-put-in-Full.ensures)
+      | in-Full+in_ok-put-in-Full w ↦ items_next parts c.args.cells.now n _ _ _ _ _ c.loop-number-test.true c.loop-number.invariant w.in-Full.is w.triples.ensures (ap (λ v. v.items) w.items-is ∙ w.in_ok-put-in-Full.ensures)
       | in-Open+in_ok-put-in-Open w ↦ items_next parts c.args.cells.now n _ _ _ _ _ c.loop-number-test.true c.loop-number.invariant w.in-Open.is w.triples_of_tri.ensures (ap (λ v. v.items) w.items-is ∙ w.in_ok-put-in-Open.ensures)
     ]
