@@ -1,3 +1,4 @@
+pub mod Arranged
 pub mod Counts
 pub mod Deals
 pub mod FirstOnes

@@ -8,6 +8,7 @@
 //! ```
 #![tactic(auto)]
 
+mod arranging;
 mod dealing;
 mod lists;
 mod running;
