@@ -43,7 +43,7 @@ fn flat(a: Point, b: Point, c: Point, d: Point) -> bool
     orient(a, b, c, d) == 0
 }
 
-/// Whether four of the points are a Full cell.
+/// Whether four of the points, all different, are a Full cell.
 pub fn is_full_cell(points: &[Point], a: Point, b: Point, c: Point, d: Point) -> bool
     requires { AreFour a b c d }
     ensures { result ≡ is_full points.now (a ∷ b ∷ c ∷ d ∷ []) }
@@ -125,7 +125,7 @@ fn is_open_seen_from(points: &[Point], a: Point, b: Point, c: Point) -> bool
     }
 }
 
-/// Whether three of the points are an Open cell.
+/// Whether three of the points, all different, are an Open cell.
 pub fn is_open_cell(points: &[Point], a: Point, b: Point, c: Point) -> bool
     requires { AreThree a b c }
     ensures { result ≡ is_open points.now (a ∷ b ∷ c ∷ []) }

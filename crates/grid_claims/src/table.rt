@@ -65,7 +65,8 @@ impl Model for MeshTable {
 }
 
 impl MeshTable {
-    /// A table for the mesh, with so many parts, and its first pass, which owns all of them and may make so many edits.
+    /// A table for the mesh, with so many parts, and its first pass, which owns all of them and may make so many edits. A part is the
+    /// leave for one more pass; a pass goes by the number of its first one.
     ///
     /// There are to be 1 to 64 parts, and at most 2^32 entries with all that may come.
     ///
@@ -120,7 +121,8 @@ impl MeshTable {
         }
     }
 
-    /// Gives the last parts of a pass, so many, and so much of its allowance to a new pass.
+    /// Gives the last parts of a pass, so many, and so much of its allowance to a new pass. The pass is to be one of this table and
+    /// to keep a part; it gives no more allowance than it has left.
     ///
     /// # Errors
     /// Want of memory. The pass is then as before.
@@ -158,7 +160,7 @@ impl MeshTable {
         })
     }
 
-    /// Puts the parts of another pass, which come next, to those of a pass.
+    /// Puts the parts of another pass, which come next, to those of a pass. Both are to be of this table.
     pub fn join(&self, pass: &mut Pass, other: Pass)
         requires table { pass.old.table ≡ self.now }
         requires other { other.table ≡ self.now }
@@ -180,12 +182,11 @@ impl MeshTable {
         pass.seen = pass.seen.max(seen);
     }
 
-    /// Makes an edit, and answers its number and its reply.
+    /// Makes an edit, and answers its number and its reply. The pass is to be one of this table.
     ///
     /// # Errors
-    /// The pass may make no more edits, which is seen first; or a bucket is in another pass's hands; or want of
-    /// memory. Mesh and pass are then
-    /// as before, but for the pass's trail.
+    /// The pass may make no more edits, which is seen first; or a bucket is in another pass's hands; or want of memory. Mesh and pass
+    /// are then as before, but for the pass's trail.
     pub fn try_edit<G: Gate>(
         &self,
         alloc: Global,
@@ -221,7 +222,7 @@ impl MeshTable {
         }
     }
 
-    /// How many entries there are.
+    /// How many entries there are. The pass is to be one of this table.
     pub fn look(&self, pass: &mut Pass) -> u64
         requires table { pass.old.table ≡ self.now }
         ensures later { pass.old.seen ≤ result }
@@ -232,7 +233,7 @@ impl MeshTable {
         found
     }
 
-    /// The history so far and its complex, beside passes that edit. It claims every bucket.
+    /// The history so far and its complex, beside passes that edit. It claims every bucket. The pass is to be one of this table.
     ///
     /// # Errors
     /// A bucket is in another pass's hands; or want of memory. Mesh and pass are then as before, but for the pass's trail.
@@ -255,7 +256,7 @@ impl MeshTable {
         }
     }
 
-    /// The mesh, from a pass that owns all parts. It takes no memory.
+    /// The mesh, from a pass of this table that owns all parts. It takes no memory.
     pub fn close(self, pass: Pass) -> Mesh
         requires table { pass.table ≡ self }
         requires all { pass.parts ≡ self.parts }

@@ -1,6 +1,6 @@
 //! A tour of the library: what a caller writes, from four points to a snapshot beside other threads.
 //!
-//! It runs as it stands and prints what `stdout` beside it says, so it cannot fall behind the library.
+//! It runs as it stands and prints what `stdout` in its crate says, so it cannot fall behind the library.
 #![tactic(auto)]
 
 ghost use Rattle.std.specs.Prelude.{◌≡◌, ◌<◌, ◌^◌, IfOk};
