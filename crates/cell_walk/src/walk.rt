@@ -17,7 +17,7 @@ use std::marker::Model;
 /// A walk to a new point: where it stands.
 ///
 /// Contracts see it as a plain record: its point and its cell.
-#[derive(Clone, Copy, Debug)]
+#[derive(Debug, Drop)]
 pub struct Walk {
     point: Point,
     cell: Spot,
@@ -32,7 +32,7 @@ impl Model for Walk {
 }
 
 /// What the start of a walk comes to.
-#[derive(Clone, Copy, Debug)]
+#[derive(Debug, Drop)]
 pub enum Start {
     /// The walk, in its first cell.
     At(Walk),
@@ -127,9 +127,10 @@ impl Walk {
         }
         let mut around = hold.cells_around(q);
         let cell = around.next()?;
+        let place = around.place();
         Some(Walk {
+            cell: Spot::new(*cell, b, place),
             point: p,
-            cell: Spot::new(*cell, b, around.place()),
         })
     }
 
