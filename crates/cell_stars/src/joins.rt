@@ -52,7 +52,7 @@ const BOTH: usize = 4;
 const TURNS: usize = 8;
 
 // As many entries as there are for the facets of one cell.
-const ENTRIES: usize = 8;
+const ENTRIES: usize = 6;
 
 // The facets that were met. One that finds no entry in its turns is left out.
 #[derive(Debug, Drop)]

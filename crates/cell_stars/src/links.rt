@@ -53,8 +53,20 @@ pub(crate) fn facet_hashes(cell: &Cell) -> [u64; 4] {
 
 /// A number for the cell.
 pub(crate) fn cell_hash(cell: &Cell) -> u64 {
-    let [a, b, c, d] = point_hashes(cell);
-    a.wrapping_add(b).wrapping_add(c).wrapping_add(d)
+    let [a, b, c, d] = match cell {
+        Cell::Full(quad) => {
+            let (a, b, c, d) = quad.corners();
+            [a.key(), b.key(), c.key(), d.key()]
+        }
+        Cell::Open(tri) => {
+            let (a, b, c) = tri.corners();
+            [a.key(), b.key(), c.key(), 0]
+        }
+    };
+    a.wrapping_mul(0x9E37_79B9_7F4A_7C15)
+        .wrapping_add(b.wrapping_mul(0xBF58_476D_1CE4_E5B9))
+        .wrapping_add(c.wrapping_mul(0x94D0_49BB_1331_11EB))
+        .wrapping_add(d.wrapping_mul(0xD6E8_FEB8_6659_FD93))
 }
 
 /// Which facet of the cell this one is, if it is one, counted from 0.

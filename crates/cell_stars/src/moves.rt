@@ -246,11 +246,11 @@ impl Cells {
     fn place_of_cell(&self, cell: &Cell, guess: u32) -> Option<u32>
         ensures { MatchOption result ((i : ℕ) → at self.now.slots i ≡ Some cell.now → touches_in self.now.place cell.now ≡ true → ⊥) (λ i. at self.now.slots i ≡ Some cell.now) }
     {
-        if !self.is_touched_by(cell) {
-            return None;
-        }
         if stands_at(&self.slots, guess, cell) {
             return Some(guess);
+        }
+        if !self.is_touched_by(cell) {
+            return None;
         }
         self.place_in_star(cell)
     }

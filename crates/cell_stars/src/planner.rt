@@ -142,7 +142,7 @@ fn changes(alloc: Global, moves: &Moves) -> Result<Vec<(u32, Option<Cell>)>, All
 fn open_after(alloc: Global, free: &[u32], moves: &Moves) -> Result<Vec<u32>, AllocError> {
     let taken = moves.placed.len();
     let freed = moves.freed.len();
-    let mut list = Vec::new(alloc);
+    let mut list = Vec::with_capacity(alloc, free.len().saturating_add(freed))?;
     for i in free.iter().skip(taken.saturating_sub(freed)) {
         list.push(*i)?;
     }
@@ -158,7 +158,7 @@ fn spare_after(
     spare: &[u32],
     writes: &[(u32, Around)],
 ) -> Result<Vec<u32>, AllocError> {
-    let mut list = Vec::new(alloc);
+    let mut list = Vec::with_capacity(alloc, spare.len().saturating_add(writes.len()))?;
     for n in spare {
         if !writes.iter().any(|(m, _)| m == n) {
             list.push(*n)?;
