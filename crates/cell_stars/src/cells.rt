@@ -175,13 +175,7 @@ impl Cells {
 
     /// The place at which the other cell on a facet is likely to stand, where the given cell stands at the given place.
     pub fn place_across(&self, place: u32, cell: &Cell, facet: &Facet) -> u32 {
-        let [a, b, c, d] = self.links.at(place);
-        match side_of(cell, facet) {
-            0 => a,
-            1 => b,
-            2 => c,
-            _ => d,
-        }
+        self.links.across(place, side_of(cell, facet))
     }
 
     /// The cell at a place, if there is one.

@@ -1,7 +1,9 @@
 //! The links of the cells that are put at places in an exchange: among each other, and with the cells around them.
 
-use crate::links::{Around4, Links, NONE, facet_hashes};
-use crate::star::cell_at;
+use crate::links::{Around4, Links, NONE};
+use crate::matched::{Beside, Matched};
+use crate::moves::Moves;
+use crate::order::are_same;
 use point_order::Cell;
 use std::alloc::{AllocError, Global};
 
@@ -27,146 +29,89 @@ pub(crate) struct Joins {
     pub(crate) rim: Vec<Joint>,
 }
 
-// A facet by its number, and the cell, by where it comes in the list of those put, and the side on which it was met.
-#[derive(Clone, Copy, Debug)]
-struct Met {
-    hash: u64,
-    cell: usize,
-    side: usize,
+// More cells than so many come in order.
+const FEW: usize = 32;
+
+// One of the numbers, or none.
+fn number_at(list: &[u32], at: usize) -> u32 {
+    match list.get(at) {
+        Some(number) => *number,
+        None => NONE,
+    }
 }
 
-// In place of a cell.
-const NO_CELL: usize = usize::MAX;
-
-// In place of a facet.
-const EMPTY: Met = Met {
-    hash: 0,
-    cell: NO_CELL,
-    side: 0,
-};
-
-// In place of a side, where both cells on the facet were met.
-const BOTH: usize = 4;
-
-// A facet is looked for in so many entries from its first one on.
-const TURNS: usize = 8;
-
-// As many entries as there are for the facets of one cell.
-const ENTRIES: usize = 6;
-
-// The facets that were met. One that finds no entry in its turns is left out.
-#[derive(Debug, Drop)]
-struct Table {
+// The cells that come, each beside where it stands in their list, as those that are put follow each other.
+fn as_they_come(
+    alloc: Global,
+    fresh: &[Cell],
     count: usize,
-    entries: Vec<Met>,
+) -> Result<Vec<(Cell, usize)>, AllocError> {
+    let mut list = Vec::with_capacity(alloc, fresh.len())?;
+    for (at, cell) in fresh.iter().enumerate() {
+        list.push((*cell, at))?;
+    }
+    if count > FEW {
+        list.sort_unstable();
+    }
+    Ok(list)
 }
 
-// The links with another one across a facet.
-fn with_link(around: Around4, side: usize, other: u32) -> Around4 {
-    let [a, b, c, d] = around;
-    match side {
-        0 => [other, b, c, d],
-        1 => [a, other, c, d],
-        2 => [a, b, other, d],
-        3 => [a, b, c, other],
-        _ => around,
-    }
-}
-
-impl Table {
-    // A table for the facets of so many cells.
-    fn new(alloc: Global, cells: usize) -> Result<Table, AllocError> {
-        let count = cells.saturating_mul(ENTRIES);
-        let mut entries = Vec::new(alloc);
-        entries.resize(count.saturating_add(TURNS), EMPTY)?;
-        Ok(Table { count, entries })
-    }
-
-    // Where the facet with the number stands, or else the first free entry in its turns.
-    fn place(&self, hash: u64) -> Option<usize> {
-        let first = ((hash >> 32).wrapping_mul(self.count as u64) >> 32) as usize;
-        for turn in 0..TURNS {
-            let at = first.saturating_add(turn);
-            let met = self.entries.get(at)?;
-            if met.hash == hash || met.cell == NO_CELL {
-                return Some(at);
+// The places of the cells that come, none for those that are not put.
+fn places_of(
+    alloc: Global,
+    fresh: &[Cell],
+    placed: &[(u32, Cell)],
+) -> Result<Vec<u32>, AllocError> {
+    let list = as_they_come(alloc, fresh, placed.len())?;
+    let mut places = Vec::new(alloc);
+    places.resize(fresh.len(), NONE)?;
+    let mut rest = placed;
+    for (cell, at) in &list {
+        if let Some(((place, next), others)) = rest.split_first() {
+            if are_same(next, cell) {
+                if let Some(known) = places.get_mut(*at) {
+                    *known = *place;
+                }
+                rest = others;
             }
         }
-        None
     }
-
-    // The other cell on the facet, where it was met before. Else this one was met.
-    fn meet(&mut self, hash: u64, cell: usize, side: usize) -> Option<Met> {
-        let at = self.place(hash)?;
-        let met = self.entries.get_mut(at)?;
-        let before = *met;
-        if before.cell == NO_CELL {
-            *met = Met { hash, cell, side };
-            return None;
-        }
-        met.side = BOTH;
-        Some(before)
-    }
-
-    // The one cell that was met on the facet.
-    fn one(&self, hash: u64) -> Option<Met> {
-        let met = self.entries.get(self.place(hash)?)?;
-        if met.cell == NO_CELL || met.side == BOTH {
-            return None;
-        }
-        Some(*met)
-    }
+    Ok(places)
 }
 
 impl Joins {
-    // The place of a cell, by where it comes in the list.
-    fn place(&self, cell: usize) -> u32 {
-        match self.fresh.get(cell) {
-            Some(linked) => linked.place,
-            None => NONE,
-        }
-    }
-
-    // The place across a facet of a cell is this one.
-    fn set(&mut self, cell: usize, side: usize, other: u32) {
-        if let Some(linked) = self.fresh.get_mut(cell) {
-            linked.around = with_link(linked.around, side, other);
-        }
-    }
-
-    // Links a facet of a cell with the one that was met before.
-    fn join(&mut self, table: &mut Table, hash: u64, cell: usize, side: usize) {
-        if let Some(met) = table.meet(hash, cell, side) {
-            self.set(cell, side, self.place(met.cell));
-            self.set(met.cell, met.side, self.place(cell));
-        }
-    }
-
-    // Adds a cell that is put at the place, and links it with those before it.
-    fn add(&mut self, table: &mut Table, place: u32, cell: &Cell) -> Result<(), AllocError> {
-        let number = self.fresh.len();
-        self.fresh.push(Linked {
-            place,
-            around: [NONE; 4],
-        })?;
-        let [a, b, c, d] = facet_hashes(cell);
-        self.join(table, a, number, 0);
-        self.join(table, b, number, 1);
-        self.join(table, c, number, 2);
-        self.join(table, d, number, 3);
-        Ok(())
-    }
-
-    // Links the cell that is put on a facet with the one outside.
-    fn join_outside(
+    // The place across a side of the cell that is put at the place.
+    fn across(
         &mut self,
-        met: Met,
+        links: &Links,
+        gone: &[u32],
+        places: &[u32],
+        place: u32,
+        beside: Beside,
+    ) -> Result<u32, AllocError> {
+        match beside {
+            Beside::Nothing => Ok(NONE),
+            Beside::Fresh(other) => Ok(number_at(places, other)),
+            Beside::Behind(cell, side) => {
+                let freed = number_at(gone, cell);
+                let outside = links.across(freed, side);
+                self.add_rim(links, freed, outside, place)?;
+                Ok(outside)
+            }
+        }
+    }
+
+    // Links the cell outside, which was linked with the freed place, with the one that is put.
+    fn add_rim(
+        &mut self,
         links: &Links,
         freed: u32,
         outside: u32,
+        other: u32,
     ) -> Result<(), AllocError> {
-        self.set(met.cell, met.side, outside);
-        let other = self.place(met.cell);
+        if outside == NONE {
+            return Ok(());
+        }
         for (side, place) in links.at(outside).iter().enumerate() {
             if *place == freed {
                 self.rim.push(Joint {
@@ -179,44 +124,42 @@ impl Joins {
         Ok(())
     }
 
-    // Links what is put with what lies outside, across the facets of the cell at a freed place.
-    fn add_rim(
+    // Adds the cell that is put at the place.
+    fn add(
         &mut self,
-        table: &Table,
         links: &Links,
-        freed: u32,
-        cell: &Cell,
+        gone: &[u32],
+        places: &[u32],
+        place: u32,
+        sides: [Beside; 4],
     ) -> Result<(), AllocError> {
-        let hashes = facet_hashes(cell);
-        for (hash, outside) in hashes.iter().zip(links.at(freed)) {
-            if outside != NONE {
-                if let Some(met) = table.one(*hash) {
-                    self.join_outside(met, links, freed, outside)?;
-                }
-            }
-        }
+        let [a, b, c, d] = sides;
+        let around = [
+            self.across(links, gone, places, place, a)?,
+            self.across(links, gone, places, place, b)?,
+            self.across(links, gone, places, place, c)?,
+            self.across(links, gone, places, place, d)?,
+        ];
+        self.fresh.push(Linked { place, around })?;
         Ok(())
     }
 
-    /// The links that change where these places are freed and these cells are put at places.
+    /// The links that change where the cells move so.
     pub(crate) fn of(
         alloc: Global,
-        slots: &[Option<Cell>],
         links: &Links,
-        freed: &[u32],
-        placed: &[(u32, Cell)],
+        fresh: &[Cell],
+        matched: &Matched,
+        moves: &Moves,
     ) -> Result<Joins, AllocError> {
+        let places = places_of(alloc, fresh, &moves.placed)?;
         let mut joins = Joins {
-            fresh: Vec::with_capacity(alloc, placed.len())?,
-            rim: Vec::with_capacity(alloc, placed.len())?,
+            fresh: Vec::with_capacity(alloc, moves.placed.len())?,
+            rim: Vec::with_capacity(alloc, moves.placed.len())?,
         };
-        let mut table = Table::new(alloc, placed.len())?;
-        for (place, cell) in placed {
-            joins.add(&mut table, *place, cell)?;
-        }
-        for place in freed {
-            if let Some(cell) = cell_at(slots, *place) {
-                joins.add_rim(&table, links, *place, cell)?;
+        for (place, sides) in places.iter().zip(&matched.sides) {
+            if *place != NONE {
+                joins.add(links, &moves.gone, &places, *place, *sides)?;
             }
         }
         Ok(joins)

@@ -6,7 +6,8 @@
 //! ```
 //! let grid = Grid::new(4)?;
 //! let mut cells = Cells::new(alloc).placed(grid, grid.bucket_of(a));
-//! let plan = cells.plan(alloc, &[], &[cell])?;  // all memory is taken here
+//! let matched = Matched::of(alloc, &[], &[cell])?;
+//! let plan = cells.plan(alloc, &[], &[cell], &matched)?;  // all memory is taken here
 //! cells.carry_out(plan);                        // the cell is there, if it has a point in the bucket
 //! for cell in cells.cells_at(a) {               // ascending; `cells_around` gives them at once, in any order
 //!     ..
@@ -21,6 +22,7 @@ mod joins;
 mod keys;
 mod links;
 mod marks;
+mod matched;
 mod moves;
 mod order;
 mod plan;
@@ -31,6 +33,7 @@ mod writes;
 
 pub use cells::Cells;
 pub use grid::{BadGrid, Grid};
+pub use matched::Matched;
 pub use order::{are_same, cells_in_order};
 pub use plan::Plan;
 pub use star::{BucketCells, Star, StarCells};

@@ -51,24 +51,6 @@ pub(crate) fn facet_hashes(cell: &Cell) -> [u64; 4] {
     ]
 }
 
-/// A number for the cell.
-pub(crate) fn cell_hash(cell: &Cell) -> u64 {
-    let [a, b, c, d] = match cell {
-        Cell::Full(quad) => {
-            let (a, b, c, d) = quad.corners();
-            [a.key(), b.key(), c.key(), d.key()]
-        }
-        Cell::Open(tri) => {
-            let (a, b, c) = tri.corners();
-            [a.key(), b.key(), c.key(), 0]
-        }
-    };
-    a.wrapping_mul(0x9E37_79B9_7F4A_7C15)
-        .wrapping_add(b.wrapping_mul(0xBF58_476D_1CE4_E5B9))
-        .wrapping_add(c.wrapping_mul(0x94D0_49BB_1331_11EB))
-        .wrapping_add(d.wrapping_mul(0xD6E8_FEB8_6659_FD93))
-}
-
 /// Which facet of the cell this one is, if it is one, counted from 0.
 pub(crate) fn side_of(cell: &Cell, facet: &Facet) -> usize {
     match (cell, facet) {
@@ -130,6 +112,17 @@ impl Links {
         match self.list.get(place as usize) {
             Some(around) => *around,
             None => [NONE; 4],
+        }
+    }
+
+    /// The place across a facet of the cell at the place.
+    pub(crate) fn across(&self, place: u32, side: usize) -> u32 {
+        let [a, b, c, d] = self.at(place);
+        match side {
+            0 => a,
+            1 => b,
+            2 => c,
+            _ => d,
         }
     }
 

@@ -25,6 +25,8 @@ const FEW: usize = 32;
 pub(crate) struct Moves {
     pub(crate) freed: Vec<u32>,
     pub(crate) placed: Vec<(u32, Cell)>,
+    // Where each of the gone cells is likely to stand.
+    pub(crate) gone: Vec<u32>,
 }
 
 // Whether the number is one of these.
@@ -256,17 +258,22 @@ impl Cells {
     }
 
     // The places of the gone cells, ascending.
-    fn freed_by(&self, alloc: Global, gone: &[Cell]) -> Result<Vec<u32>, AllocError>
+    fn freed_by(
+        &self,
+        alloc: Global,
+        gone: &[Cell],
+        guesses: &mut Guesses,
+    ) -> Result<Vec<u32>, AllocError>
         ensures order { IfOk result (λ freed. IsAscending freed.items) }
         ensures freed { IfOk result (λ freed. AreFreed self.now gone.now freed.items) }
     {
         let _ = &self.slots;
-        let mut guesses = Guesses::new(alloc, gone)?;
         let mut freed = Vec::with_capacity(alloc, gone.len())?;
         for c in gone {
-            if let Some(i) = self.place_of_cell(c, guesses.place(c)) {
+            let guess = guesses.next(&self.slots, &self.links, c)?;
+            if let Some(i) = self.place_of_cell(c, guess) {
                 freed.push(i)?;
-                guesses.spread(&self.slots, &self.links, i);
+                guesses.put(i);
             }
         }
         Ok(numbers_in_order(freed))
@@ -427,7 +434,8 @@ impl Cells {
         ensures order { IfOk result (λ moves. IsAscending moves.freed.items) }
         ensures made { IfOk result (λ moves. AreFor gone.now fresh.now moves.freed.items moves.placed.items self.now) }
     {
-        let freed = self.freed_by(alloc, gone)?;
+        let mut guesses = Guesses::new(alloc, gone.len())?;
+        let freed = self.freed_by(alloc, gone, &mut guesses)?;
         let coming = self.coming_by(alloc, fresh, &freed)?;
         let places = places_for(
             alloc,
@@ -438,7 +446,11 @@ impl Cells {
             self.used,
         )?;
         let placed = pairs(alloc, &places, &coming)?;
-        Ok(Moves { freed, placed })
+        Ok(Moves {
+            freed,
+            placed,
+            gone: guesses.places,
+        })
     }
 }
 

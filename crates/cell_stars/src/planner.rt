@@ -12,6 +12,7 @@ use crate::cells::Cells;
 use crate::joins::Joins;
 use crate::keys::keys_after;
 use crate::links::Links;
+use crate::matched::Matched;
 use crate::moves::Moves;
 use crate::plan::{Around, Plan};
 use point_order::{Cell, Point};
@@ -185,16 +186,18 @@ impl Cells {
         }
     }
 
-    // The links that change in an exchange.
-    fn joins(&self, alloc: Global, moves: &Moves) -> Result<Joins, AllocError> {
-        Joins::of(alloc, &self.slots, &self.links, &moves.freed, &moves.placed)
-    }
-
-    /// Plans an exchange of the gone for the fresh cells, as far as they touch the bucket.
+    /// Plans an exchange of the gone for the fresh cells, as far as they touch the bucket. The matches are to be those of these cells;
+    /// else the plan is as good, and searches are longer.
     ///
     /// # Errors
     /// Want of memory, or of a number of 32 bits for a place or a star.
-    pub fn plan(&self, alloc: Global, gone: &[Cell], fresh: &[Cell]) -> Result<Plan, AllocError>
+    pub fn plan(
+        &self,
+        alloc: Global,
+        gone: &[Cell],
+        fresh: &[Cell],
+        matched: &Matched,
+    ) -> Result<Plan, AllocError>
         ensures { IfOk result (λ plan. IsPlanFor gone.now fresh.now self.now plan) }
     {
         let moves = self.moves(alloc, gone, fresh)?;
@@ -204,7 +207,7 @@ impl Cells {
         let end_stars = behind_stars(&stars);
         let grown = grown_slots(alloc, &self.slots, end)?;
         let links = self.grown_links(alloc, &grown)?;
-        let joins = self.joins(alloc, &moves)?;
+        let joins = Joins::of(alloc, &self.links, fresh, matched, &moves)?;
         let more = grown_stars(alloc, &self.stars, &stars, end_stars)?;
         let slots = changes(alloc, &moves)?;
         let free = open_after(alloc, &self.free, &moves)?;

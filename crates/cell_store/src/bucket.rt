@@ -16,7 +16,7 @@ ghost use Rattle.cell_store.specs.Stars.{cells_around, cells_left, cells_to_come
 
 use crate::note::{points_after, with_entry};
 use crate::star::{is_on, other_among};
-use cell_stars::{BucketCells, Cells, Grid, Plan, Star, StarCells, Steps, are_same};
+use cell_stars::{BucketCells, Cells, Grid, Matched, Plan, Star, StarCells, Steps, are_same};
 use edit_history::Entry;
 use point_order::{Cell, Facet, Point};
 use std::alloc::{AllocError, Global};
@@ -144,10 +144,11 @@ impl Bucket {
         alloc: Global,
         gone: &[Cell],
         fresh: &[Cell],
+        matched: &Matched,
     ) -> Result<Plan, AllocError>
         ensures { IfOk result (λ plan. IsPlanFor gone.now fresh.now self.now.cells plan) }
     {
-        self.cells.plan(alloc, gone, fresh)
+        self.cells.plan(alloc, gone, fresh, matched)
     }
 
     // Carries a plan out. It takes no memory.
