@@ -1,6 +1,3 @@
-use Rattle.std.proofs.Common.{subst, sym}
-use Rattle.point_order.specs.declared.cell.Cell.{Cell}
-use Rattle.hole_laws.specs.Edits.{IsMate}
 use Rattle.hole_laws.proofs.Judged.{mates_judge}
 use Rattle.cell_store.proofs.ShareLaws.{solid_set}
 use Rattle.cell_conflict.proofs.Mates.{judged}
