@@ -10,7 +10,7 @@ ghost use Rattle.hole_laws.specs.Edits.{IsNew, IsMate, GoesFrom, StaysFrom};
 ghost use Rattle.cell_store.specs.Shares.{Shows, ShowsWith, NoneInHand, IsAcross, points_on};
 ghost use Rattle.cell_conflict.specs.Judging.{ShowsWithNew};
 
-use cell_store::{Across, Hold};
+use cell_store::{Across, Hold, Spot, SpotAcross};
 use point_order::{Cell, Facet, Point, Tri};
 use sphere_ties::conflict;
 
@@ -25,6 +25,20 @@ pub fn cell_across<'a>(hold: &'a Hold, cell: &Cell, facet: &Facet) -> &'a Cell
     match hold.across(cell, facet) {
         Across::Cell(other) => other,
         Across::Need(_) => unreachable!(),
+    }
+}
+
+/// The cell across a facet of a cell at hand, at hand too; some point's bucket of the facet is in hand. The hold is to show a set of
+/// whose complex the given cell is one; the answer is right for each such set.
+pub fn spot_across(hold: &Hold, spot: &Spot, facet: &Facet) -> Spot
+    requires shown { ShowsWith hold.now spot.now }
+    requires facet { IsIn facet.now (facets_of spot.now) }
+    requires held { ¬ (NoneInHand hold.now (points_on facet.now)) }
+    ensures { (s : List ℕ) → Shows hold.now s → IsIn spot.now (complex s) → IsAcross s spot.now facet.now result }
+{
+    match hold.across_spot(spot, facet) {
+        SpotAcross::Spot(other) => other,
+        SpotAcross::Need(_) => unreachable!(),
     }
 }
 
@@ -59,6 +73,45 @@ fn mate_of(hold: &Hold, cell: &Cell, p: Point) -> Point
         Cell::Full(_) => p,
         Cell::Open(tri) => mate_of_triple(hold, tri),
     }
+}
+
+// The mate of an Open cell at hand with a point in hand.
+fn mate_behind(hold: &Hold, spot: &Spot, tri: &Tri) -> Point
+    requires shown { ShowsWith hold.now (Open tri.now) }
+    requires cell { spot.now ≡ Open tri.now }
+    requires held { ¬ (NoneInHand hold.now tri.now) }
+    ensures { (s : List ℕ) → Shows hold.now s → IsIn (Open tri.now) (complex s) → IsMate s (Open tri.now) result }
+{
+    let cell = Cell::Open(*tri);
+    let facet = Facet::Three(*tri);
+    let other = spot_across(hold, spot, &facet);
+    match point_against(other.cell(), &cell) {
+        Some(mate) => mate,
+        None => unreachable!(),
+    }
+}
+
+// A mate of the cell at hand. Of a Full cell it is not looked at.
+fn mate_at(hold: &Hold, spot: &Spot, p: Point) -> Point
+    requires shown { ShowsWith hold.now spot.now }
+    requires held { ¬ (NoneInHand hold.now (points_of spot.now)) }
+    ensures { (s : List ℕ) → Shows hold.now s → IsIn spot.now (complex s) → IsMate s spot.now result }
+{
+    match spot.cell() {
+        Cell::Full(_) => p,
+        Cell::Open(tri) => mate_behind(hold, spot, tri),
+    }
+}
+
+/// What `is_in_conflict` tells of a cell at hand.
+pub fn is_spot_in_conflict(hold: &Hold, spot: &Spot, p: Point) -> bool
+    requires shown { ShowsWithNew hold.now spot.now p }
+    requires held { ¬ (NoneInHand hold.now (points_of spot.now)) }
+    ensures { (s : List ℕ) → Shows hold.now s → IsNew s p → IsIn spot.now (complex s) →
+        MatchBool result (GoesFrom s p spot.now) (StaysFrom s p spot.now) }
+{
+    let mate = mate_at(hold, spot, p);
+    conflict(spot.cell(), mate, p)
 }
 
 /// Whether the new point takes the cell away, of which some point's bucket is in hand. The hold is to show a set

@@ -1,14 +1,28 @@
 //! The cells of a bucket at numbered places, with a star for each vertex: the numbers of the places of its cells.
 //!
 //! The definitions stand in `specs/`: the bucket of a point, an exchange of cells in a list in order, and when stars are those of
-//! the cells.
+//! the cells. Where the place across a facet is likely to be is kept too; no definition speaks of it.
+//!
+//! ```
+//! let grid = Grid::new(4)?;
+//! let mut cells = Cells::new(alloc).placed(grid, grid.bucket_of(a));
+//! let matched = Matched::of(alloc, &[], &[cell])?;
+//! let plan = cells.plan(alloc, &[], &[cell], &matched)?;  // all memory is taken here
+//! cells.carry_out(plan);                        // the cell is there, if it has a point in the bucket
+//! for cell in cells.cells_at(a) {               // ascending; `cells_around` gives them at once, in any order
+//!     ..
+//! }
+//! ```
 #![tactic(auto)]
 
 mod cells;
 mod grid;
-mod hints;
+mod guesses;
+mod joins;
 mod keys;
+mod links;
 mod marks;
+mod matched;
 mod moves;
 mod order;
 mod plan;
@@ -19,6 +33,7 @@ mod writes;
 
 pub use cells::Cells;
 pub use grid::{BadGrid, Grid};
+pub use matched::Matched;
 pub use order::{are_same, cells_in_order};
 pub use plan::Plan;
 pub use star::{BucketCells, Star, StarCells};

@@ -9,8 +9,10 @@ ghost use Rattle.cell_stars.specs.Plans.{or_else, IsPlanFor};
 ghost use Rattle.cell_stars.specs.Moves.{HasSameCells, HasSameStars};
 
 use crate::cells::Cells;
-use crate::hints::Hints;
+use crate::joins::Joins;
 use crate::keys::keys_after;
+use crate::links::Links;
+use crate::matched::Matched;
 use crate::moves::Moves;
 use crate::plan::{Around, Plan};
 use point_order::{Cell, Point};
@@ -52,19 +54,8 @@ fn grown_slots(
         return Ok(None);
     }
     let mut list = Vec::from_slice(alloc, slots)?;
-    list.resize(end.max(slots.len().saturating_mul(2)), None)?;
+    list.resize(end.max(slots.len().saturating_add(slots.len() / 4)), None)?;
     Ok(Some(list))
-}
-
-// The hints of the places in a longer list, where there is one.
-fn grown_hints(
-    alloc: Global,
-    grown: &Option<Vec<Option<Cell>>>,
-) -> Result<Option<Hints>, AllocError> {
-    match grown {
-        Some(slots) => Ok(Some(Hints::of(alloc, slots)?)),
-        None => Ok(None),
-    }
 }
 
 // A copy of the star.
@@ -128,7 +119,7 @@ fn grown_stars(
     if end <= stars.len() {
         return Ok(None);
     }
-    let count = end.max(stars.len().saturating_mul(2));
+    let count = end.max(stars.len().saturating_add(stars.len() / 4));
     let mut list = copied_stars(alloc, stars, count)?;
     add_stars(alloc, &mut list, first.vertex(), count)?;
     Ok(Some(list))
@@ -152,7 +143,7 @@ fn changes(alloc: Global, moves: &Moves) -> Result<Vec<(u32, Option<Cell>)>, All
 fn open_after(alloc: Global, free: &[u32], moves: &Moves) -> Result<Vec<u32>, AllocError> {
     let taken = moves.placed.len();
     let freed = moves.freed.len();
-    let mut list = Vec::new(alloc);
+    let mut list = Vec::with_capacity(alloc, free.len().saturating_add(freed))?;
     for i in free.iter().skip(taken.saturating_sub(freed)) {
         list.push(*i)?;
     }
@@ -168,7 +159,7 @@ fn spare_after(
     spare: &[u32],
     writes: &[(u32, Around)],
 ) -> Result<Vec<u32>, AllocError> {
-    let mut list = Vec::new(alloc);
+    let mut list = Vec::with_capacity(alloc, spare.len().saturating_add(writes.len()))?;
     for n in spare {
         if !writes.iter().any(|(m, _)| m == n) {
             list.push(*n)?;
@@ -183,11 +174,30 @@ fn spare_after(
 }
 
 impl Cells {
-    /// Plans an exchange of the gone for the fresh cells, as far as they touch the bucket.
+    // The links of the places in a longer list, where there is one.
+    fn grown_links(
+        &self,
+        alloc: Global,
+        grown: &Option<Vec<Option<Cell>>>,
+    ) -> Result<Option<Links>, AllocError> {
+        match grown {
+            Some(slots) => self.links.grown(alloc, slots.len()),
+            None => Ok(None),
+        }
+    }
+
+    /// Plans an exchange of the gone for the fresh cells, as far as they touch the bucket. The matches are to be those of these cells;
+    /// else the plan is as good, and searches are longer.
     ///
     /// # Errors
     /// Want of memory, or of a number of 32 bits for a place or a star.
-    pub fn plan(&self, alloc: Global, gone: &[Cell], fresh: &[Cell]) -> Result<Plan, AllocError>
+    pub fn plan(
+        &self,
+        alloc: Global,
+        gone: &[Cell],
+        fresh: &[Cell],
+        matched: &Matched,
+    ) -> Result<Plan, AllocError>
         ensures { IfOk result (λ plan. IsPlanFor gone.now fresh.now self.now plan) }
     {
         let moves = self.moves(alloc, gone, fresh)?;
@@ -196,7 +206,8 @@ impl Cells {
         let end = behind_places(&moves.placed);
         let end_stars = behind_stars(&stars);
         let grown = grown_slots(alloc, &self.slots, end)?;
-        let hints = grown_hints(alloc, &grown)?;
+        let links = self.grown_links(alloc, &grown)?;
+        let joins = Joins::of(alloc, &self.links, fresh, matched, &moves)?;
         let more = grown_stars(alloc, &self.stars, &stars, end_stars)?;
         let slots = changes(alloc, &moves)?;
         let free = open_after(alloc, &self.free, &moves)?;
@@ -213,7 +224,8 @@ impl Cells {
             used_stars: self
                 .used_stars
                 .max(u32::try_from(end_stars).unwrap_or(u32::MAX)),
-            hints,
+            links,
+            joins,
         })
     }
 }

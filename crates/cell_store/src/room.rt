@@ -10,7 +10,7 @@ ghost use Rattle.cell_store.specs.Ready.{AreApart, AreInHand, AreRoomier, HasNum
 ghost use Rattle.cell_store.specs.declared.room.PlanFor.{PlanFor};
 
 use crate::bucket::Bucket;
-use cell_stars::{Grid, Plan};
+use cell_stars::{Grid, Matched, Plan};
 use point_order::{Cell, Point};
 use std::alloc::{AllocError, Global};
 
@@ -89,6 +89,7 @@ fn plan_for(
     places: &[Option<Bucket>],
     gone: &[Cell],
     fresh: &[Cell],
+    matched: &Matched,
 ) -> Result<PlanFor, AllocError>
     requires { IsSome (layout_at places.now b) }
     ensures number { IfOk result (λ plan. plan.number ≡ b) }
@@ -97,7 +98,7 @@ fn plan_for(
     let Some(Some(bucket)) = places.get(b as usize) else {
         unreachable!()
     };
-    let plan = bucket.plan(alloc, gone, fresh)?;
+    let plan = bucket.plan(alloc, gone, fresh, matched)?;
     Ok(PlanFor { number: b, plan })
 }
 
@@ -113,10 +114,11 @@ fn plans_for(
     requires fresh { AreInHand places.now (numbers_of grid fresh.now) }
     ensures { IfOk result (λ plans. IsReady grid gone.now fresh.now places.now plans.items) }
 {
+    let matched = Matched::of(alloc, gone, fresh)?;
     let numbers = touched(alloc, grid, gone, fresh)?;
     let mut plans = Vec::with_capacity(alloc, numbers.len())?;
     for b in &numbers {
-        plans.push(plan_for(alloc, *b, places, gone, fresh)?)?;
+        plans.push(plan_for(alloc, *b, places, gone, fresh, &matched)?)?;
     }
     Ok(plans)
 }
