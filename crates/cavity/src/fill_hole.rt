@@ -26,10 +26,10 @@ fn cell_of(facet: &Facet, p: Point) -> Cell
             let (a, b, c) = tri.corners();
             Cell::full(p, a, b, c)
         }
-        Facet::Two(pair) => match pair.points() {
-            [a, b] => Cell::hull(p, *a, *b),
-            _ => unreachable!(),
-        },
+        Facet::Two(pair) => {
+            let (a, b) = pair.corners();
+            Cell::hull(p, a, b)
+        }
     }
 }
 
