@@ -10,7 +10,7 @@ ghost use Rattle.hole_laws.specs.Edits.{IsNew, IsMate, GoesFrom, StaysFrom};
 ghost use Rattle.cell_store.specs.Shares.{Shows, ShowsWith, NoneInHand, IsAcross, points_on};
 ghost use Rattle.cell_conflict.specs.Judging.{ShowsWithNew};
 
-use cell_store::{Across, Hold};
+use cell_store::{Across, Hold, Spot, SpotAcross};
 use point_order::{Cell, Facet, Point, Tri};
 use sphere_ties::conflict;
 
@@ -25,6 +25,20 @@ pub fn cell_across<'a>(hold: &'a Hold, cell: &Cell, facet: &Facet) -> &'a Cell
     match hold.across(cell, facet) {
         Across::Cell(other) => other,
         Across::Need(_) => unreachable!(),
+    }
+}
+
+/// The cell across a facet of a cell at hand, at hand too; some point's bucket of the facet is in hand. The hold is to show a set of
+/// whose complex the given cell is one; the answer is right for each such set.
+pub fn spot_across(hold: &Hold, spot: &Spot, facet: &Facet) -> Spot
+    requires shown { ShowsWith hold.now spot.now }
+    requires facet { IsIn facet.now (facets_of spot.now) }
+    requires held { ¬ (NoneInHand hold.now (points_on facet.now)) }
+    ensures { (s : List ℕ) → Shows hold.now s → IsIn spot.now (complex s) → IsAcross s spot.now facet.now result }
+{
+    match hold.across_spot(spot, facet) {
+        SpotAcross::Spot(other) => other,
+        SpotAcross::Need(_) => unreachable!(),
     }
 }
 

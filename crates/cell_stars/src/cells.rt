@@ -1,6 +1,6 @@
 //! The cells of a bucket.
 
-ghost use Rattle.std.specs.Prelude.{◌≡◌, ◌↔◌, ◌⊎◌, ◌+◌, ◌*◌, ◌-◌, ◌≤◌, ◌^◌, ℕ, None, Some, IsSome, true, [], length, MatchOption, IsPermutation, IfOk, if◌then◌else◌, ◌==◌};
+ghost use Rattle.std.specs.Prelude.{◌≡◌, ◌↔◌, ◌⊎◌, ◌+◌, ◌*◌, ◌-◌, ◌≤◌, ◌^◌, ℕ, None, Some, IsSome, IfSome, true, [], length, MatchOption, IsPermutation, IfOk, if◌then◌else◌, ◌==◌};
 ghost use Rattle.std.specs.List.{filter};
 ghost use Rattle.point_order.specs.Facets.{points_of};
 ghost use Rattle.point_order.specs.Sets.{IsIn, is_among};
@@ -9,12 +9,13 @@ ghost use Rattle.cell_stars.specs.Plans.{done, Allows, IsPlanFor};
 ghost use Rattle.cell_stars.specs.Stars.{cells_left, cells_around, cells_to_come};
 
 use crate::grid::Grid;
-use crate::hints::Hints;
+use crate::links::{Links, NONE, side_of};
+use crate::moves::place_among;
 use crate::plan::{Around, Plan, put_all, put_list};
 use crate::planner::copied_stars;
 use crate::star::{BucketCells, Star, StarCells, cell_at};
 use crate::steps::{Steps, place_counted, place_of};
-use point_order::{Cell, Point};
+use point_order::{Cell, Facet, Point};
 use smallvec::SmallVec;
 use std::alloc::{AllocError, Global};
 use std::marker::Model;
@@ -32,7 +33,7 @@ pub struct Cells {
     pub(crate) spare: Vec<u32>,
     pub(crate) used: u32,
     pub(crate) used_stars: u32,
-    pub(crate) hints: Hints,
+    pub(crate) links: Links,
 }
 
 impl Model for Cells {
@@ -80,7 +81,7 @@ impl Cells {
             spare: Vec::new(alloc),
             used: 0,
             used_stars: 0,
-            hints: Hints::new(alloc),
+            links: Links::new(alloc),
         }
     }
 
@@ -168,16 +169,36 @@ impl Cells {
         StarCells {
             slots: &self.slots,
             star: self.star_of(p),
+            last: NONE,
         }
     }
 
-    /// Some cells, among which those on the facet with these finite points are likely to be, if there are any.
-    pub fn likely_on(&self, points: &[Point]) -> StarCells<'_>
-        ensures { (c : Cell) → IsIn c (cells_around result) → IsIn c (cells_of self.now.slots) }
+    /// The place at which the other cell on a facet is likely to stand, where the given cell stands at the given place.
+    pub fn place_across(&self, place: u32, cell: &Cell, facet: &Facet) -> u32 {
+        let [a, b, c, d] = self.links.at(place);
+        match side_of(cell, facet) {
+            0 => a,
+            1 => b,
+            2 => c,
+            _ => d,
+        }
+    }
+
+    /// The cell at a place, if there is one.
+    pub fn cell(&self, place: u32) -> Option<&Cell>
+        ensures { IfSome result (λ c. IsIn c.now (cells_of self.now.slots)) }
     {
-        StarCells {
-            slots: &self.slots,
-            star: self.hints.on_facet(points),
+        match cell_at(&self.slots, place) {
+            Some(cell) => Some(cell),
+            None => None,
+        }
+    }
+
+    /// Where the cell, which has the point, is likely to stand.
+    pub fn place_at(&self, p: Point, cell: &Cell) -> u32 {
+        match place_among(&self.slots, self.star_of(p), cell) {
+            Some(place) => place,
+            None => NONE,
         }
     }
 
@@ -197,7 +218,7 @@ impl Cells {
             spare: Vec::from_slice(alloc, &self.spare)?,
             used: self.used,
             used_stars: self.used_stars,
-            hints: self.hints.copied(alloc)?,
+            links: self.links.copied(alloc)?,
         })
     }
 
@@ -216,9 +237,10 @@ impl Cells {
             spare,
             used,
             used_stars,
-            hints,
+            links,
+            joins,
         } = plan;
-        self.hints.change(hints, &self.slots, &slots);
+        self.links.change(links, &joins);
         put_list(&mut self.slots, grown);
         put_all(&mut self.slots, slots);
         put_list(&mut self.stars, more);

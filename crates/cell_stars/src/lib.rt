@@ -6,8 +6,10 @@
 
 mod cells;
 mod grid;
-mod hints;
+mod guesses;
+mod joins;
 mod keys;
+mod links;
 mod marks;
 mod moves;
 mod order;

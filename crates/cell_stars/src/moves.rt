@@ -11,6 +11,7 @@ ghost use Rattle.cell_stars.specs.Swaps.{Differ};
 ghost use Rattle.cell_stars.specs.Moves.{IsStarFor, AreFreed, AreComing, IsVacant, IsClear, Stays};
 
 use crate::cells::Cells;
+use crate::guesses::Guesses;
 use crate::order::{are_same, cells_once, has_vertex, numbers_in_order, touches};
 use crate::star::cell_at;
 use point_order::{Cell, Point};
@@ -39,7 +40,7 @@ pub(crate) fn has_number(list: &[u32], i: u32) -> bool
 }
 
 // The place of the cell among these, if it stands at one of them.
-fn place_among(slots: &[Option<Cell>], star: &[u32], cell: &Cell) -> Option<u32>
+pub(crate) fn place_among(slots: &[Option<Cell>], star: &[u32], cell: &Cell) -> Option<u32>
     ensures { MatchOption result ((i : ℕ) → IsIn i star.now → at slots.now i ≡ Some cell.now → ⊥) (λ i. at slots.now i ≡ Some cell.now) }
 {
     for i in star {
@@ -50,6 +51,16 @@ fn place_among(slots: &[Option<Cell>], star: &[u32], cell: &Cell) -> Option<u32>
         }
     }
     None
+}
+
+// Whether the cell stands at the place.
+fn stands_at(slots: &[Option<Cell>], i: u32, cell: &Cell) -> bool
+    ensures { IsTrue result → at slots.now i ≡ Some cell.now }
+{
+    match cell_at(slots, i) {
+        Some(other) => are_same(other, cell),
+        None => false,
+    }
 }
 
 // Whether no cell at these places has the point.
@@ -231,17 +242,17 @@ impl Cells {
         }
     }
 
-    // The place of the cell, if it stands at one.
-    fn place_of_cell(&self, cell: &Cell) -> Option<u32>
+    // The place of the cell, if it stands at one, which is likely to be the guess.
+    fn place_of_cell(&self, cell: &Cell, guess: u32) -> Option<u32>
         ensures { MatchOption result ((i : ℕ) → at self.now.slots i ≡ Some cell.now → touches_in self.now.place cell.now ≡ true → ⊥) (λ i. at self.now.slots i ≡ Some cell.now) }
     {
         if !self.is_touched_by(cell) {
             return None;
         }
-        match place_among(&self.slots, self.hints.of_cell(cell), cell) {
-            Some(i) => Some(i),
-            None => self.place_in_star(cell),
+        if stands_at(&self.slots, guess, cell) {
+            return Some(guess);
         }
+        self.place_in_star(cell)
     }
 
     // The places of the gone cells, ascending.
@@ -250,10 +261,12 @@ impl Cells {
         ensures freed { IfOk result (λ freed. AreFreed self.now gone.now freed.items) }
     {
         let _ = &self.slots;
+        let mut guesses = Guesses::new(alloc, gone)?;
         let mut freed = Vec::with_capacity(alloc, gone.len())?;
         for c in gone {
-            if let Some(i) = self.place_of_cell(c) {
+            if let Some(i) = self.place_of_cell(c, guesses.place(c)) {
                 freed.push(i)?;
+                guesses.spread(&self.slots, &self.links, i);
             }
         }
         Ok(numbers_in_order(freed))

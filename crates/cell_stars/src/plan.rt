@@ -5,7 +5,8 @@ ghost use Rattle.std.specs.Option.{option_map};
 ghost use Rattle.point_order.specs.Sets.{IsIn};
 ghost use Rattle.cell_stars.specs.Plans.{set_all, or_else, AreBelow};
 
-use crate::hints::Hints;
+use crate::joins::Joins;
+use crate::links::Links;
 use point_order::{Cell, Point};
 use smallvec::SmallVec;
 use std::marker::Model;
@@ -55,7 +56,8 @@ pub struct Plan {
     pub(crate) spare: Vec<u32>,
     pub(crate) used: u32,
     pub(crate) used_stars: u32,
-    pub(crate) hints: Option<Hints>,
+    pub(crate) links: Option<Links>,
+    pub(crate) joins: Joins,
 }
 
 impl Model for Plan {

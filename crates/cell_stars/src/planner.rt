@@ -9,8 +9,9 @@ ghost use Rattle.cell_stars.specs.Plans.{or_else, IsPlanFor};
 ghost use Rattle.cell_stars.specs.Moves.{HasSameCells, HasSameStars};
 
 use crate::cells::Cells;
-use crate::hints::Hints;
+use crate::joins::Joins;
 use crate::keys::keys_after;
+use crate::links::Links;
 use crate::moves::Moves;
 use crate::plan::{Around, Plan};
 use point_order::{Cell, Point};
@@ -52,19 +53,8 @@ fn grown_slots(
         return Ok(None);
     }
     let mut list = Vec::from_slice(alloc, slots)?;
-    list.resize(end.max(slots.len().saturating_mul(2)), None)?;
+    list.resize(end.max(slots.len().saturating_add(slots.len() / 4)), None)?;
     Ok(Some(list))
-}
-
-// The hints of the places in a longer list, where there is one.
-fn grown_hints(
-    alloc: Global,
-    grown: &Option<Vec<Option<Cell>>>,
-) -> Result<Option<Hints>, AllocError> {
-    match grown {
-        Some(slots) => Ok(Some(Hints::of(alloc, slots)?)),
-        None => Ok(None),
-    }
 }
 
 // A copy of the star.
@@ -128,7 +118,7 @@ fn grown_stars(
     if end <= stars.len() {
         return Ok(None);
     }
-    let count = end.max(stars.len().saturating_mul(2));
+    let count = end.max(stars.len().saturating_add(stars.len() / 4));
     let mut list = copied_stars(alloc, stars, count)?;
     add_stars(alloc, &mut list, first.vertex(), count)?;
     Ok(Some(list))
@@ -183,6 +173,23 @@ fn spare_after(
 }
 
 impl Cells {
+    // The links of the places in a longer list, where there is one.
+    fn grown_links(
+        &self,
+        alloc: Global,
+        grown: &Option<Vec<Option<Cell>>>,
+    ) -> Result<Option<Links>, AllocError> {
+        match grown {
+            Some(slots) => self.links.grown(alloc, slots.len()),
+            None => Ok(None),
+        }
+    }
+
+    // The links that change in an exchange.
+    fn joins(&self, alloc: Global, moves: &Moves) -> Result<Joins, AllocError> {
+        Joins::of(alloc, &self.slots, &self.links, &moves.freed, &moves.placed)
+    }
+
     /// Plans an exchange of the gone for the fresh cells, as far as they touch the bucket.
     ///
     /// # Errors
@@ -196,7 +203,8 @@ impl Cells {
         let end = behind_places(&moves.placed);
         let end_stars = behind_stars(&stars);
         let grown = grown_slots(alloc, &self.slots, end)?;
-        let hints = grown_hints(alloc, &grown)?;
+        let links = self.grown_links(alloc, &grown)?;
+        let joins = self.joins(alloc, &moves)?;
         let more = grown_stars(alloc, &self.stars, &stars, end_stars)?;
         let slots = changes(alloc, &moves)?;
         let free = open_after(alloc, &self.free, &moves)?;
@@ -213,7 +221,8 @@ impl Cells {
             used_stars: self
                 .used_stars
                 .max(u32::try_from(end_stars).unwrap_or(u32::MAX)),
-            hints,
+            links,
+            joins,
         })
     }
 }

@@ -21,6 +21,7 @@ pub struct Star<'a> {
 pub struct StarCells<'a> {
     pub(crate) slots: &'a [Option<Cell>],
     pub(crate) star: &'a [u32],
+    pub(crate) last: u32,
 }
 
 /// The cells of a bucket, each once, in any order.
@@ -97,6 +98,13 @@ impl<'a> Iterator for Star<'a> {
     }
 }
 
+impl StarCells<'_> {
+    /// Where the cell that came last stands. No clause speaks of it.
+    pub fn place(&self) -> u32 {
+        self.last
+    }
+}
+
 impl<'a> Iterator for StarCells<'a> {
     type Item = &'a Cell;
 
@@ -110,6 +118,7 @@ impl<'a> Iterator for StarCells<'a> {
     fn next(&mut self) -> Option<&'a Cell> {
         while let Some((first, others)) = self.star.split_first() {
             self.star = others;
+            self.last = *first;
             if let Some(cell) = cell_at(self.slots, *first) {
                 return Some(cell);
             }

@@ -11,7 +11,7 @@ ghost use Rattle.cell_stars.specs.Gathering.{Gathers, FromPlace, FromPut};
 ghost use Rattle.cell_stars.specs.Moves.{AreMarked, AreTouched, AreNumbered, AreStarsAfter, IsOwnNumber, IsSpare, IsRewriting};
 
 use crate::cells::{Cells, places_in};
-use crate::hints::hash_of;
+use crate::links::hash_of;
 use crate::marks::{Marks, has_marked, marks_of};
 use crate::moves::{Moves, behind_last};
 use crate::order::{has_vertex, numbers_in_order, points_in_order};

@@ -3,6 +3,7 @@ pub mod Buckets
 pub mod Swaps
 pub mod Shares
 pub mod Stars
+pub mod Spots
 pub mod Others
 pub mod Changes
 pub mod Meshes

@@ -1,6 +1,6 @@
 //! Buckets.
 
-ghost use Rattle.std.specs.Prelude.{◌≡◌, ◌↔◌, ◌+◌, ◌*◌, ◌-◌, ◌≤◌, ◌^◌, ◌∷◌, [], ◌++◌, true, None, Some, length, IsPermutation, IfOk, OnOk, MatchOption};
+ghost use Rattle.std.specs.Prelude.{◌≡◌, ◌↔◌, ◌+◌, ◌*◌, ◌-◌, ◌≤◌, ◌^◌, ◌∷◌, [], ◌++◌, true, None, Some, length, IsPermutation, IfOk, IfSome, OnOk, MatchOption};
 ghost use Rattle.std.specs.List.{filter};
 ghost use Rattle.point_order.specs.Facets.{points_of};
 ghost use Rattle.point_order.specs.declared.cell.Cell.{Cell};
@@ -15,8 +15,8 @@ ghost use Rattle.cell_store.specs.Shares.{points_on};
 ghost use Rattle.cell_store.specs.Stars.{cells_around, cells_left, cells_to_come};
 
 use crate::note::{points_after, with_entry};
-use crate::star::{facet_points, other_among};
-use cell_stars::{BucketCells, Cells, Grid, Plan, Star, StarCells, Steps};
+use crate::star::{is_on, other_among};
+use cell_stars::{BucketCells, Cells, Grid, Plan, Star, StarCells, Steps, are_same};
 use edit_history::Entry;
 use point_order::{Cell, Facet, Point};
 use std::alloc::{AllocError, Global};
@@ -113,10 +113,29 @@ impl Bucket {
         requires among { IsIn p (points_on facet.now) }
         ensures { MatchOption result (HaveNoOther (content_of self.now).cells cell.now facet.now) (λ c. IsOtherOf (content_of self.now).cells cell.now facet.now c.now) }
     {
-        if let Some(other) = other_among(self.cells.likely_on(facet_points(facet)), cell, facet) {
-            return Some(other);
-        }
         other_among(self.cells.cells_around(p), cell, facet)
+    }
+
+    // The cell at a place, where it is one on the facet other than the given one.
+    pub(crate) fn other_here(&self, place: u32, cell: &Cell, facet: &Facet) -> Option<&Cell>
+        ensures { IfSome result (λ c. IsOtherOf (content_of self.now).cells cell.now facet.now c.now) }
+    {
+        if let Some(other) = self.cells.cell(place) {
+            if is_on(other, facet) && !are_same(other, cell) {
+                return Some(other);
+            }
+        }
+        None
+    }
+
+    // Where the other cell on the facet is likely to stand, where the given one stands at the place.
+    pub(crate) fn place_across(&self, place: u32, cell: &Cell, facet: &Facet) -> u32 {
+        self.cells.place_across(place, cell, facet)
+    }
+
+    // Where the cell, which has the point, is likely to stand.
+    pub(crate) fn place_at(&self, p: Point, cell: &Cell) -> u32 {
+        self.cells.place_at(p, cell)
     }
 
     // Plans an exchange of cells, as far as they touch the bucket.

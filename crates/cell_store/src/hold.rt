@@ -1,6 +1,6 @@
 //! Holds: the buckets in hand.
 
-ghost use Rattle.std.specs.Prelude.{◌≡◌, ◌↔◌, IsTrue, ℕ, ◌+◌, ◌*◌, ◌-◌, ◌<◌, ◌≤◌, ◌^◌, true, None, Some, IsSome, is_some, IfOk, OnOk, OnErr, length, slice_set, List, MatchOption};
+ghost use Rattle.std.specs.Prelude.{◌≡◌, ◌↔◌, IsTrue, ℕ, ◌+◌, ◌*◌, ◌-◌, ◌<◌, ◌≤◌, ◌^◌, true, None, Some, IsSome, is_some, IfOk, IfSome, OnOk, OnErr, length, slice_set, List, MatchOption};
 ghost use Rattle.std.specs.List.{filter, list_all};
 ghost use Rattle.point_order.specs.Sets.{IsIn, is_among};
 ghost use Rattle.point_order.specs.Facets.{points_of, facets_of};
@@ -9,13 +9,15 @@ ghost use Rattle.point_order.specs.Complex.{complex};
 ghost use Rattle.edit_history.specs.Edits.{point_of};
 ghost use Rattle.cell_store.specs.Grids.{is_grid_size, bucket_of as number_of};
 ghost use Rattle.cell_store.specs.Buckets.{no_room, empty_hold, bucket_at, points_in, cells_in, at_place, content_of, FitsPlace, StandAtPlaces};
-ghost use Rattle.cell_store.specs.Shares.{Shows, ShowsSome, ShowsWith, NoneInHand, IsInHandFor};
+ghost use Rattle.cell_store.specs.Shares.{Shows, ShowsSome, ShowsWith, NoneInHand, IsInHandFor, points_on};
+ghost use Rattle.cell_store.specs.Spots.{IsAcrossIn, SpotGives};
 ghost use Rattle.cell_store.specs.Changes.{IsSwapped, IsNoted};
 ghost use Rattle.cell_store.specs.Ready.{AreHeld};
 ghost use Rattle.cell_store.specs.Stars.{cells_around, cells_left, AcrossGives};
 
 use crate::bucket::Bucket;
 use crate::room::{Exchange, carry_all, make_room};
+use crate::spot::{Spot, SpotAcross};
 use crate::star::{Across, facet_points};
 use cell_stars::{Grid, Star, StarCells, Steps};
 use edit_history::Entry;
@@ -219,6 +221,71 @@ impl Hold {
             },
             None => match points {
                 [first, ..] => Across::Need(self.grid().bucket_of(*first)),
+                [] => unreachable!(),
+            },
+        }
+    }
+
+    /// The cell, at hand: with the place where it stands, if the bucket of one of its points is in hand.
+    pub fn spot_of(&self, cell: &Cell) -> Spot
+        ensures { result ≡ cell.now }
+    {
+        let grid = self.grid();
+        for p in cell.points() {
+            let b = grid.bucket_of(*p);
+            if let Some(Some(bucket)) = self.places.get(b as usize) {
+                return Spot::new(*cell, b, bucket.place_at(*p, cell));
+            }
+        }
+        Spot::new(*cell, 0, 0)
+    }
+
+    // The cell that is likely to lie across a facet, if it does.
+    fn linked(&self, spot: &Spot, facet: &Facet) -> Option<Spot>
+        ensures { IfSome result (λ c. IsAcrossIn self.now spot.now facet.now c) }
+    {
+        let b = spot.bucket();
+        if !self.has(b) {
+            return None;
+        }
+        let bucket = self.bucket(b);
+        let place = bucket.place_across(spot.place(), spot.cell(), facet);
+        match bucket.other_here(place, spot.cell(), facet) {
+            Some(other) => Some(Spot::new(*other, b, place)),
+            None => None,
+        }
+    }
+
+    // The cell across a facet with a point whose bucket is in hand.
+    fn spot_at(&self, p: Point, spot: &Spot, facet: &Facet) -> Spot
+        requires shown { ShowsWith self.now spot.now }
+        requires facet { IsIn facet.now (facets_of spot.now) }
+        requires among { IsIn p (points_on facet.now) }
+        requires held { IsInHandFor self.now (points_on facet.now) (number_of self.now.grid p) }
+        ensures { IsAcrossIn self.now spot.now facet.now result }
+    {
+        let b = self.grid().bucket_of(p);
+        let bucket = self.bucket(b);
+        match bucket.other_at(p, spot.cell(), facet) {
+            Some(other) => Spot::new(*other, b, bucket.place_at(p, other)),
+            None => unreachable!(),
+        }
+    }
+
+    /// What `across` tells of a cell at hand. The other cell on the facet is at hand too.
+    pub fn across_spot(&self, spot: &Spot, facet: &Facet) -> SpotAcross
+        requires shown { ShowsWith self.now spot.now }
+        requires facet { IsIn facet.now (facets_of spot.now) }
+        ensures { SpotGives self.now spot.now facet.now result }
+    {
+        let points = facet_points(facet);
+        match self.point_among(points) {
+            Some(p) => match self.linked(spot, facet) {
+                Some(other) => SpotAcross::Spot(other),
+                None => SpotAcross::Spot(self.spot_at(p, spot, facet)),
+            },
+            None => match points {
+                [first, ..] => SpotAcross::Need(self.grid().bucket_of(*first)),
                 [] => unreachable!(),
             },
         }

@@ -11,10 +11,12 @@ pub mod laws;
 mod mesh;
 mod note;
 mod room;
+mod spot;
 mod star;
 
 pub use bucket::Bucket;
 pub use cell_stars::{BadGrid, BucketCells, Grid, Star, StarCells, Steps, cells_in_order};
 pub use hold::Hold;
 pub use mesh::Mesh;
+pub use spot::{Spot, SpotAcross};
 pub use star::Across;

@@ -56,7 +56,7 @@ fn is_facet_of(cell: &Cell, facet: &Facet) -> bool
 }
 
 // Whether the cell is on the facet.
-fn is_on(cell: &Cell, facet: &Facet) -> bool
+pub(crate) fn is_on(cell: &Cell, facet: &Facet) -> bool
     ensures { IsTrue result ↔ IsIn facet.now (facets_of cell.now) }
 {
     match (cell, facet) {

@@ -9,7 +9,7 @@ ghost use Rattle.cell_walk.specs.Turns.{StartGives, TurnGives};
 
 use crate::search::{first_missing, least_cell, near_point};
 use cell_conflict::is_in_conflict;
-use cell_store::{Across, Hold};
+use cell_store::{Hold, Spot, SpotAcross};
 use exact_orient::orient;
 use point_order::{Cell, Facet, Point};
 use std::marker::Model;
@@ -17,10 +17,10 @@ use std::marker::Model;
 /// A walk to a new point: where it stands.
 ///
 /// Contracts see it as a plain record: its point and its cell.
-#[derive(Clone, Copy, Debug)]
+#[derive(Debug, Drop)]
 pub struct Walk {
     point: Point,
-    cell: Cell,
+    cell: Spot,
 }
 
 impl Model for Walk {
@@ -29,12 +29,10 @@ impl Model for Walk {
     ghost Value = { Walking };
 
     ghost view = { λ w. record { point = w.point; cell = w.cell } };
-
-    ghost inverse = { λ v. record { point = v.point; cell = v.cell } };
 }
 
 /// What the start of a walk comes to.
-#[derive(Clone, Copy, Debug)]
+#[derive(Debug, Drop)]
 pub enum Start {
     /// The walk, in its first cell.
     At(Walk),
@@ -100,10 +98,16 @@ impl Walk {
         ensures { StartGives hold.now p result }
     {
         if let Some(cell) = least_cell(hold, true) {
-            return Start::At(Walk { point: p, cell });
+            return Start::At(Walk {
+                point: p,
+                cell: hold.spot_of(&cell),
+            });
         }
         if let Some(cell) = least_cell(hold, false) {
-            return Start::At(Walk { point: p, cell });
+            return Start::At(Walk {
+                point: p,
+                cell: hold.spot_of(&cell),
+            });
         }
         Start::Need(first_missing(hold, p))
     }
@@ -121,10 +125,12 @@ impl Walk {
         if !hold.has(hold.grid().bucket_of(q)) {
             return None;
         }
-        let cell = hold.cells_around(q).next()?;
+        let mut around = hold.cells_around(q);
+        let cell = around.next()?;
+        let place = around.place();
         Some(Walk {
+            cell: Spot::new(*cell, b, place),
             point: p,
-            cell: *cell,
         })
     }
 
@@ -137,19 +143,20 @@ impl Walk {
         ensures { (s : List ℕ) → Shows hold.now s → IsWalkIn hold.now s self.old →
             TurnGives hold.now s self.old self.new result }
     {
-        if is_in_conflict(hold, &self.cell, self.point) {
-            return WalkTurn::Here(self.cell);
+        let cell = self.cell.cell();
+        if is_in_conflict(hold, cell, self.point) {
+            return WalkTurn::Here(*cell);
         }
-        let facet = match facet_towards(&self.cell, self.point) {
+        let facet = match facet_towards(cell, self.point) {
             Some(facet) => facet,
             None => unreachable!(),
         };
-        match hold.across(&self.cell, &facet) {
-            Across::Cell(other) => {
-                self.cell = *other;
+        match hold.across_spot(&self.cell, &facet) {
+            SpotAcross::Spot(other) => {
+                self.cell = other;
                 WalkTurn::Moved
             }
-            Across::Need(b) => WalkTurn::Need(b),
+            SpotAcross::Need(b) => WalkTurn::Need(b),
         }
     }
 }

@@ -32,9 +32,10 @@ returns-clause-walks c s shown new =
     let has = λ (d : Cell). is_among c.in_ok-q.q (points_of d) in
     let first = subst (λ (l : List Cell). IsIn n l) (sym c.in_ok-cell.ensures.steps) (inl refl) in
     let number : b ≡ bucket_of hold.grid c.in_ok-q.q = c.bucket_of.ensures.number ∙ ap (λ (g : ℕ). bucket_of g c.in_ok-q.q) c.grid.ensures.grid in
-    let x = known (bucket_at hold.places b) (sym c.has.ensures ∙ c.if-not-has.false) in (
-    record {
+    let x = known (bucket_at hold.places b) (sym c.has.ensures ∙ c.if-not-has.false) in
+    subst (λ (d : Cell). IsWalkIn hold s (record { point = c.args.p; cell = d })) (sym c.new.ensures)
+    (record {
       new = new;
-      listed = (filtered_from has (complex s) n ((c.cells_around.ensures.in_complex s shown n).0 first)).0;
-      held = among_all hold b x.0 n x.1 (subst (λ (k : ℕ). IsIn n (cells_in hold.places k)) (sym number) (filtered_from has (cells_in hold.places (bucket_of hold.grid c.in_ok-q.q)) n ((c.cells_around.ensures.in_bucket n).0 first)).0);
+      listed = (filtered_from has (complex s) n ((c.cells_around-around.ensures.in_complex s shown n).0 first)).0;
+      held = among_all hold b x.0 n x.1 (subst (λ (k : ℕ). IsIn n (cells_in hold.places k)) (sym number) (filtered_from has (cells_in hold.places (bucket_of hold.grid c.in_ok-q.q)) n ((c.cells_around-around.ensures.in_bucket n).0 first)).0);
     })

@@ -1,0 +1,147 @@
+//! Places that are likely to lie across the facets of cells. No clause speaks of them: a cell is looked at before it is taken for one.
+
+use crate::joins::Joins;
+use point_order::{Cell, Facet, Point};
+use std::alloc::{AllocError, Global};
+
+/// In place of a place, where there is none.
+pub(crate) const NONE: u32 = u32::MAX;
+
+/// The places across the facets of a cell, in the order of its facets: across the one without its first point comes first.
+pub(crate) type Around4 = [u32; 4];
+
+/// For each place, the places across the facets of its cell.
+///
+/// Across each facet that has a point in the bucket the other cell stands in the bucket too, and its place is known as a rule.
+#[derive(Debug, Drop)]
+pub(crate) struct Links {
+    list: Vec<Around4>,
+}
+
+// A number for the point that depends on all of its bits.
+pub(crate) fn hash_of(p: Point) -> u64 {
+    let x = p.key().wrapping_mul(0x9E37_79B9_7F4A_7C15);
+    (x ^ (x >> 29)).wrapping_mul(0xBF58_476D_1CE4_E5B9)
+}
+
+// The numbers of a cell's points, 0 for infinity.
+fn point_hashes(cell: &Cell) -> [u64; 4] {
+    match cell {
+        Cell::Full(quad) => {
+            let (a, b, c, d) = quad.corners();
+            [hash_of(a), hash_of(b), hash_of(c), hash_of(d)]
+        }
+        Cell::Open(tri) => {
+            let (a, b, c) = tri.corners();
+            [hash_of(a), hash_of(b), hash_of(c), 0]
+        }
+    }
+}
+
+/// Numbers for the facets of the cell, in their order. A facet has the same number in both of its cells.
+pub(crate) fn facet_hashes(cell: &Cell) -> [u64; 4] {
+    let [a, b, c, d] = point_hashes(cell);
+    let first = a.wrapping_add(b);
+    let last = c.wrapping_add(d);
+    [
+        last.wrapping_add(b),
+        last.wrapping_add(a),
+        first.wrapping_add(d),
+        first.wrapping_add(c),
+    ]
+}
+
+/// A number for the cell.
+pub(crate) fn cell_hash(cell: &Cell) -> u64 {
+    let [a, b, c, d] = point_hashes(cell);
+    a.wrapping_add(b).wrapping_add(c).wrapping_add(d)
+}
+
+/// Which facet of the cell this one is, if it is one, counted from 0.
+pub(crate) fn side_of(cell: &Cell, facet: &Facet) -> usize {
+    match (cell, facet) {
+        (Cell::Full(quad), Facet::Three(tri)) => {
+            let (a, b, c, _) = quad.corners();
+            let (x, y, z) = tri.corners();
+            side_without(a == x, b == y, c == z)
+        }
+        (Cell::Open(tri), Facet::Two(pair)) => {
+            let (a, b, _) = tri.corners();
+            let (x, y) = pair.corners();
+            side_without(a == x, b == y, false)
+        }
+        _ => 3,
+    }
+}
+
+// The side without the first point that does not stand where it stands in the cell.
+fn side_without(has_first: bool, has_second: bool, has_third: bool) -> usize {
+    if !has_first {
+        0
+    } else if !has_second {
+        1
+    } else if !has_third {
+        2
+    } else {
+        3
+    }
+}
+
+impl Links {
+    /// No links. They take no memory.
+    pub(crate) fn new(alloc: Global) -> Links {
+        Links {
+            list: Vec::new(alloc),
+        }
+    }
+
+    /// A copy.
+    pub(crate) fn copied(&self, alloc: Global) -> Result<Links, AllocError> {
+        Ok(Links {
+            list: Vec::from_slice(alloc, &self.list)?,
+        })
+    }
+
+    /// A copy for so many places, or none where there are as many.
+    pub(crate) fn grown(&self, alloc: Global, count: usize) -> Result<Option<Links>, AllocError> {
+        if count <= self.list.len() {
+            return Ok(None);
+        }
+        let mut list = Vec::with_capacity(alloc, count)?;
+        list.extend_from_slice(&self.list)?;
+        list.resize(count, [NONE; 4])?;
+        Ok(Some(Links { list }))
+    }
+
+    /// The places across the facets of the cell at the place.
+    pub(crate) fn at(&self, place: u32) -> Around4 {
+        match self.list.get(place as usize) {
+            Some(around) => *around,
+            None => [NONE; 4],
+        }
+    }
+
+    // The place across the facet is this one from now on.
+    fn set(&mut self, place: u32, side: usize, other: u32) {
+        if let Some(around) = self.list.get_mut(place as usize) {
+            if side < 4 {
+                around[side] = other;
+            }
+        }
+    }
+
+    /// Puts others in their place, if there are any, and makes them those after an exchange. It takes no memory.
+    pub(crate) fn change(&mut self, grown: Option<Links>, joins: &Joins) {
+        if let Some(links) = grown {
+            *self = links;
+        }
+        for linked in &joins.fresh {
+            if let Some(around) = self.list.get_mut(linked.place as usize) {
+                *around = linked.around;
+            }
+        }
+        for joint in &joins.rim {
+            self.set(joint.place, joint.side, joint.other);
+        }
+    }
+}
