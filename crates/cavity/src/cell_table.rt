@@ -5,6 +5,7 @@ ghost use Rattle.point_order.specs.Facets.{points_of};
 ghost use Rattle.cavity.specs.Tables.{mixed_with, mixed_all, cell_number, cell_home, IsReached, KeepsReached, IsFreeFrom, IsMarked, Knows};
 
 use cell_stars::are_same;
+use cell_store::Spot;
 use point_order::{Cell, Point};
 use std::alloc::{AllocError, Global};
 
@@ -71,17 +72,17 @@ pub(crate) fn home_of(cell: &Cell, mask: usize) -> usize
 }
 
 // Whether the cell stands at that place of a list.
-fn is_at(cells: &[Cell], i: usize, cell: &Cell) -> bool
+fn is_at(cells: &[Spot], i: usize, cell: &Cell) -> bool
     ensures { IsTrue result ↔ (slice_get cells.now i ≡ Some cell.now) }
 {
     match cells.get(i) {
-        Some(other) => are_same(other, cell),
+        Some(other) => are_same(other.cell(), cell),
         None => false,
     }
 }
 
 // What is known of the cell, whose home it is. Each place of it in the list of those that go is to be reached from there.
-pub(crate) fn look(marks: &[Mark], home: usize, goes: &[Cell], stays: &[Cell], cell: &Cell) -> Seen
+pub(crate) fn look(marks: &[Mark], home: usize, goes: &[Spot], stays: &[Spot], cell: &Cell) -> Seen
     requires { (i : ℕ) → slice_get goes.now i ≡ Some cell.now → IsReached marks.now home (Mark.Gone i) }
     ensures { Knows goes.now stays.now cell.now result }
 {
@@ -138,8 +139,8 @@ pub(crate) fn put(marks: &mut Vec<Mark>, home: usize, mark: Mark) -> Result<(), 
 pub(crate) fn table_of(
     alloc: Global,
     mask: usize,
-    goes: &[Cell],
-    stays: &[Cell],
+    goes: &[Spot],
+    stays: &[Spot],
 ) -> Result<Vec<Mark>, AllocError>
     requires { mask < 2 ^ 63 }
     ensures { IfOk result (λ marks. IsMarked mask marks.items goes.now) }
@@ -147,10 +148,10 @@ pub(crate) fn table_of(
     let mut marks = Vec::new(alloc);
     marks.resize(mask + 1, Mark::Free)?;
     for (i, cell) in goes.iter().enumerate() {
-        put(&mut marks, home_of(cell, mask), Mark::Gone(i))?;
+        put(&mut marks, home_of(cell.cell(), mask), Mark::Gone(i))?;
     }
     for (i, cell) in stays.iter().enumerate() {
-        put(&mut marks, home_of(cell, mask), Mark::Kept(i))?;
+        put(&mut marks, home_of(cell.cell(), mask), Mark::Kept(i))?;
     }
     Ok(marks)
 }

@@ -6,9 +6,9 @@ ghost use Rattle.cell_store.specs.Meshes.{AllInHand};
 ghost use Rattle.cavity.specs.Digs.{CanDig, IsDigIn};
 ghost use Rattle.cavity.specs.Turns.{ShowsDig, TurnGives, AsksBelow};
 
-use crate::explore::{explore, missing_bucket, missing_point};
+use crate::explore::{explore, missing_point, missing_spot};
 use crate::judged::Judged;
-use cell_store::Hold;
+use cell_store::{Hold, Spot};
 use point_order::{Cell, Facet, Point};
 use std::alloc::{AllocError, Global};
 use std::marker::Model;
@@ -60,7 +60,7 @@ impl Dig {
         let _ = p.key();
         Ok(Dig {
             point: p,
-            judged: Judged::new(alloc, cell)?,
+            judged: Judged::new(alloc, Spot::new(cell, 0, 0))?,
             explored: 0,
             rim: Vec::with_capacity(alloc, RIM)?,
         })
@@ -81,11 +81,11 @@ impl Dig {
         ensures below { IfOk result (λ turn. AsksBelow (length hold.now.places) turn) }
         ensures all { IfOk result (λ turn. AllInHand hold.now → turn ≡ DigTurn.Done) }
     {
-        if let Some(b) = missing_bucket(hold, self.judged.goes()) {
+        if let Some(b) = missing_spot(hold, self.judged.goes()) {
             return Ok(DigTurn::Need(b));
         }
         while let Some(cell) = self.judged.get(self.explored) {
-            if let Some(b) = missing_point(hold, cell.points()) {
+            if let Some(b) = missing_point(hold, cell.cell().points()) {
                 return Ok(DigTurn::Need(b));
             }
             explore(
@@ -109,7 +109,7 @@ impl Dig {
     }
 
     // The cells that were found.
-    pub(crate) fn found(&self) -> &[Cell]
+    pub(crate) fn found(&self) -> &[Spot]
         ensures { result.now ≡ self.now.found }
     {
         self.judged.goes()

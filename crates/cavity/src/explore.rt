@@ -11,8 +11,8 @@ ghost use Rattle.cavity.specs.Tables.{AreBehind};
 
 use crate::cell_table::Seen;
 use crate::judged::Judged;
-use cell_conflict::{cell_across, is_in_conflict};
-use cell_store::Hold;
+use cell_conflict::{is_spot_in_conflict, spot_across};
+use cell_store::{Hold, Spot};
 use point_order::{Cell, Facet, Point};
 use std::alloc::{AllocError, Global};
 
@@ -42,13 +42,25 @@ pub fn missing_bucket(hold: &Hold, cells: &[Cell]) -> Option<u32>
     None
 }
 
+// The same for cells at hand.
+pub(crate) fn missing_spot(hold: &Hold, cells: &[Spot]) -> Option<u32>
+    ensures { MatchOption result (AreHeld hold.now cells.now) (λ b. IsCellMissing hold.now cells.now b) }
+{
+    for cell in cells {
+        if let Some(b) = missing_point(hold, cell.cell().points()) {
+            return Some(b);
+        }
+    }
+    None
+}
+
 // Crosses a facet of a found cell. The cell behind it goes, and is found, or it stays, and the facet is one of the rim. A cell that
 // was judged is not judged again.
 fn cross(
     alloc: Global,
     point: Point,
     hold: &Hold,
-    cell: &Cell,
+    cell: &Spot,
     facet: &Facet,
     judged: &mut Judged,
     rim: &mut Vec<Facet>,
@@ -61,15 +73,15 @@ fn cross(
     ensures more { OnOk result ((more : List Cell) × (judged.new.goes ≡ judged.old.goes ++ more)) }
     ensures crossed { OnOk result ((s : List ℕ) → Shows hold.now s → Crosses s point cell.now facet.now judged.old.goes rim.old.items judged.new.goes rim.new.items) }
 {
-    let other = cell_across(hold, cell, facet);
-    match judged.seen(other) {
+    let other = spot_across(hold, cell, facet);
+    match judged.seen(other.cell()) {
         Seen::Goes => Ok(()),
         Seen::Stays => {
             rim.push(*facet)?;
             Ok(())
         }
         Seen::New => {
-            if is_in_conflict(hold, other, point) {
+            if is_spot_in_conflict(hold, &other, point) {
                 judged.push_gone(alloc, other)?;
             } else {
                 rim.push(*facet)?;
@@ -85,7 +97,7 @@ pub(crate) fn explore(
     alloc: Global,
     point: Point,
     hold: &Hold,
-    cell: &Cell,
+    cell: &Spot,
     judged: &mut Judged,
     rim: &mut Vec<Facet>,
 ) -> Result<(), AllocError>
@@ -96,7 +108,7 @@ pub(crate) fn explore(
     ensures more { OnOk result ((more : List Cell) × (judged.new.goes ≡ judged.old.goes ++ more)) }
     ensures explored { OnOk result ((s : List ℕ) → Shows hold.now s → Explores s point cell.now judged.old.goes rim.old.items judged.new.goes rim.new.items) }
 {
-    let facets = cell.facets();
+    let facets = cell.cell().facets();
     for facet in &facets {
         cross(alloc, point, hold, cell, facet, judged, rim)?;
     }

@@ -5,6 +5,7 @@ ghost use Rattle.cavity.specs.Lists.{IsPast, IsAtPlace};
 ghost use Rattle.cavity.specs.Tables.{Knows};
 
 use crate::cell_table::{Mark, Seen, home_of, look, put, table_of};
+use cell_store::Spot;
 use point_order::Cell;
 use std::alloc::{AllocError, Global};
 use std::marker::Model;
@@ -19,8 +20,8 @@ const MASK: usize = 127;
 // to its place in these lists.
 #[derive(Debug, Drop)]
 pub(crate) struct Judged {
-    goes: Vec<Cell>,
-    stays: Vec<Cell>,
+    goes: Vec<Spot>,
+    stays: Vec<Spot>,
     marks: Vec<Mark>,
     mask: usize,
 }
@@ -37,7 +38,7 @@ impl Model for Judged {
 
 impl Judged {
     // One cell that goes.
-    pub(crate) fn new(alloc: Global, cell: Cell) -> Result<Judged, AllocError>
+    pub(crate) fn new(alloc: Global, cell: Spot) -> Result<Judged, AllocError>
         ensures { IfOk result (λ judged. judged ≡ record { goes = cell ∷ []; stays = [] }) }
     {
         let mut goes = Vec::with_capacity(alloc, USUAL)?;
@@ -74,45 +75,48 @@ impl Judged {
     }
 
     // Puts a cell that goes at the end of those.
-    pub(crate) fn push_gone(&mut self, alloc: Global, cell: &Cell) -> Result<(), AllocError>
-        ensures pushed { OnOk result (self.new ≡ record self.old { goes = self.old.goes ++ cell.now ∷ [] }) }
+    pub(crate) fn push_gone(&mut self, alloc: Global, cell: Spot) -> Result<(), AllocError>
+        ensures pushed { OnOk result (self.new ≡ record self.old { goes = self.old.goes ++ cell ∷ [] }) }
         ensures refused { OnErr result (self.new ≡ self.old) }
     {
         self.make_room(alloc)?;
         self.goes.reserve(1)?;
-        let home = home_of(cell, self.mask);
+        let home = home_of(cell.cell(), self.mask);
         put(&mut self.marks, home, Mark::Gone(self.goes.len()))?;
-        match self.goes.push(*cell) {
+        match self.goes.push(cell) {
             Ok(()) => Ok(()),
             Err(_) => unreachable!(),
         }
     }
 
     // Keeps that a cell stays.
-    pub(crate) fn keep(&mut self, alloc: Global, cell: &Cell) -> Result<(), AllocError>
-        ensures kept { OnOk result (self.new ≡ record self.old { stays = self.old.stays ++ cell.now ∷ [] }) }
+    pub(crate) fn keep(&mut self, alloc: Global, cell: Spot) -> Result<(), AllocError>
+        ensures kept { OnOk result (self.new ≡ record self.old { stays = self.old.stays ++ cell ∷ [] }) }
         ensures refused { OnErr result (self.new ≡ self.old) }
     {
         self.make_room(alloc)?;
         self.stays.reserve(1)?;
-        let home = home_of(cell, self.mask);
+        let home = home_of(cell.cell(), self.mask);
         put(&mut self.marks, home, Mark::Kept(self.stays.len()))?;
-        match self.stays.push(*cell) {
+        match self.stays.push(cell) {
             Ok(()) => Ok(()),
             Err(_) => unreachable!(),
         }
     }
 
     // The cell at a place of those that go, if there is one.
-    pub(crate) fn get(&self, i: usize) -> Option<Cell>
+    pub(crate) fn get(&self, i: usize) -> Option<Spot>
         ensures cell { MatchOption result (IsPast self.now.goes i) (λ cell. IsAtPlace self.now.goes i cell) }
         ensures small { length self.now.goes < 2 ^ 63 }
     {
-        self.goes.get(i).copied()
+        match self.goes.get(i) {
+            Some(spot) => Some(spot.copied()),
+            None => None,
+        }
     }
 
     // The cells that go.
-    pub(crate) fn goes(&self) -> &[Cell]
+    pub(crate) fn goes(&self) -> &[Spot]
         ensures { result.now ≡ self.now.goes }
     {
         &self.goes

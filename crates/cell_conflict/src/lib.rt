@@ -15,4 +15,4 @@ mod among;
 mod judge;
 
 pub use among::conflict_among;
-pub use judge::{cell_across, is_in_conflict, spot_across};
+pub use judge::{cell_across, is_in_conflict, is_spot_in_conflict, spot_across};

@@ -1,4 +1,5 @@
 use Rattle.std.proofs.Common.{refl, sym, ◌∙◌, ap, subst, ◌<◌, ◌≤◌, length, arith}
+use Rattle.point_order.specs.Facets.{points_of}
 use Rattle.cavity.specs.Digs.{Digging, IsDoneIn, facets_of_first}
 use Rattle.cavity.specs.Exploring.{ArePointsHeld, IsBucketMissing, IsCellMissing}
 use Rattle.cavity.specs.Lists.{IsPast, IsAtPlace}
@@ -16,7 +17,7 @@ loop-cell-init c = record {
   goes_on =
       subst (λ (d : Digging). GoesOn c.args.hold.now c.args.self.now d) (sym c.self.view_is)
       (goes_on_first c.args.hold.now c.args.self.now (rw (sym (ap (λ d. d.found) c.self.view_is), sym c.goes.ensures)
-      (at_none c.missing_bucket.result (AreHeld c.args.hold.now c.goes.result.now) (λ b. IsCellMissing c.args.hold.now c.goes.result.now b) c.in_default.not-Some c.missing_bucket.ensures)));
+      (at_none c.missing_spot.result (AreHeld c.args.hold.now c.goes.result.now) (λ b. IsCellMissing c.args.hold.now c.goes.result.now b) c.in_default.not-Some c.missing_spot.ensures)));
   behind = c.self.invariant;
 }
 
@@ -30,7 +31,7 @@ pub returns-in-Some-missing_point-clause-turn : goal.returns-in-Some-missing_poi
 returns-in-Some-missing_point-clause-turn c h st k =
     let d : Digging = (record { point = c.loop-cell.self-inside.point; found = c.loop-cell.self-inside.judged.goes; explored = c.loop-cell.self-inside.explored; rim = c.loop-cell.self-inside.rim.items }) in
     cell_needed c.args.hold.now h d d.found c.in-Some-missing_point.b refl (c.loop-cell.invariant.goes_on.digs h st k)
-    (cell_missing c.args.hold.now d.found d.explored c.in-Some-get.cell c.points.result.now c.in-Some-missing_point.b c.in-Some-get.ensures.cell.below c.in-Some-get.ensures.cell.at c.points.ensures c.in-Some-missing_point.ensures)
+    (cell_missing c.args.hold.now d.found d.explored c.in-Some-get.cell c.points.result.now c.in-Some-missing_point.b c.in-Some-get.ensures.cell.below c.in-Some-get.ensures.cell.at (c.points.ensures ∙ ap points_of c.cell.ensures) c.in-Some-missing_point.ensures)
 
 pub explore-requires-clause-shown : goal.explore-requires-clause-shown
 explore-requires-clause-shown c =
@@ -45,7 +46,7 @@ pub loop-cell-smaller : goal.loop-cell-smaller
 loop-cell-smaller c =
     let r = c.requires in
     let d : Digging = (record { point = c.loop-cell.self-inside.point; found = c.loop-cell.self-inside.judged.goes; explored = c.loop-cell.self-inside.explored; rim = c.loop-cell.self-inside.rim.items }) in
-    let few : d.explored < length (cells_in_hand c.args.hold.now.places) = goes_below c.args.hold.now c.args.self.now d c.in-Some-get.cell c.points.result.now c.loop-cell.invariant.goes_on c.in-Some-get.ensures.cell.below c.in-Some-get.ensures.cell.at c.points.ensures
+    let few : d.explored < length (cells_in_hand c.args.hold.now.places) = goes_below c.args.hold.now c.args.self.now d c.in-Some-get.cell c.points.result.now c.loop-cell.invariant.goes_on c.in-Some-get.ensures.cell.below c.in-Some-get.ensures.cell.at (c.points.ensures ∙ ap points_of c.cell.ensures)
     (at_none c.missing_point.result (ArePointsHeld c.args.hold.now c.points.result.now) (λ b. IsBucketMissing c.args.hold.now c.points.result.now b) c.in_default-missing_point.not-Some c.missing_point.ensures) r.0 r.1 r.2 in
     omega arith
 
@@ -54,7 +55,7 @@ loop-cell-preserved c =
     let d : Digging = (record { point = c.loop-cell.self-inside.point; found = c.loop-cell.self-inside.judged.goes; explored = c.loop-cell.self-inside.explored; rim = c.loop-cell.self-inside.rim.items }) in
     record {
       goes_on =
-          goes_further c.args.hold.now c.args.self.now d c.in-Some-get.cell c.points.result.now c.loop-cell.invariant.goes_on c.in-Some-get.ensures.cell.below c.in-Some-get.ensures.cell.at c.points.ensures
+          goes_further c.args.hold.now c.args.self.now d c.in-Some-get.cell c.points.result.now c.loop-cell.invariant.goes_on c.in-Some-get.ensures.cell.below c.in-Some-get.ensures.cell.at (c.points.ensures ∙ ap points_of c.cell.ensures)
           (at_none c.missing_point.result (ArePointsHeld c.args.hold.now c.points.result.now) (λ b. IsBucketMissing c.args.hold.now c.points.result.now b) c.in_default-missing_point.not-Some c.missing_point.ensures) c.explore.new.judged.goes c.explore.new.rim.items c.in_ok-explore.ensures.more c.in_ok-explore.ensures.explored;
       behind = c.in_ok-explore.ensures.behind;
     }
