@@ -1,11 +1,7 @@
 pub mod Lists
-pub mod SameCells
+pub mod Tables
 pub mod Crossing
 pub mod Held
 pub mod Filling
 pub mod Exploration
 pub mod Advancing
-pub mod FourCells
-pub mod OpeningLaws
-pub mod Insertions
-pub mod MeshGrowth

@@ -2,6 +2,5 @@ pub mod Digs
 pub mod Turns
 pub mod Fills
 pub mod Exploring
-pub mod Opening
-pub mod Growing
 pub mod Lists
+pub mod Tables

@@ -1,11 +1,6 @@
 -- Lists of cells and their places.
-use Rattle.std.specs.Prelude.{◌≡◌, ℕ, ◌<◌, ◌≤◌, ◌↔◌, List, length, slice_index_or}
+use Rattle.std.specs.Prelude.{◌≡◌, ℕ, ◌<◌, ◌≤◌, List, length, slice_index_or}
 use Rattle.point_order.specs.declared.cell.Cell.{Cell}
-use Rattle.point_order.specs.Sets.{IsIn}
-
--- the two lists have the same members
-abbrev pub HaveSame : List Cell → List Cell → Type 0
-HaveSame l m = (q : Cell) → IsIn q l ↔ IsIn q m
 
 -- the list has no such place
 abbrev pub IsPast : List Cell → ℕ → Type 0

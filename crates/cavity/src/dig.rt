@@ -6,9 +6,9 @@ ghost use Rattle.cell_store.specs.Meshes.{AllInHand};
 ghost use Rattle.cavity.specs.Digs.{CanDig, IsDigIn};
 ghost use Rattle.cavity.specs.Turns.{ShowsDig, TurnGives, AsksBelow};
 
-use crate::cell_list::CellList;
-use crate::explore::{explore, missing_bucket, missing_point};
-use cell_store::Hold;
+use crate::explore::{explore, missing_point, missing_spot};
+use crate::judged::Judged;
+use cell_store::{Hold, Spot};
 use point_order::{Cell, Facet, Point};
 use std::alloc::{AllocError, Global};
 use std::marker::Model;
@@ -23,17 +23,20 @@ const RIM: usize = 64;
 #[derive(Debug, Drop)]
 pub struct Dig {
     point: Point,
-    found: CellList,
+    judged: Judged,
     explored: usize,
     rim: Vec<Facet>,
 }
 
 impl Model for Dig {
     ghost use Rattle.cavity.specs.Digs.{Digging};
+    ghost use Rattle.cavity.specs.Tables.{AreBehind};
 
     ghost Value = { Digging };
 
-    ghost view = { λ d. record { point = d.point; found = d.found; explored = d.explored; rim = d.rim.items } };
+    ghost view = { λ d. record { point = d.point; found = d.judged.goes; explored = d.explored; rim = d.rim.items } };
+
+    ghost invariant = { λ d. AreBehind d.judged.stays d.rim.items };
 }
 
 /// What a turn of a dig comes to.
@@ -57,7 +60,7 @@ impl Dig {
         let _ = p.key();
         Ok(Dig {
             point: p,
-            found: CellList::new(alloc, cell)?,
+            judged: Judged::new(alloc, Spot::new(cell, 0, 0))?,
             explored: 0,
             rim: Vec::with_capacity(alloc, RIM)?,
         })
@@ -70,7 +73,7 @@ impl Dig {
     ///
     /// # Errors
     /// Want of memory. The dig may then only be dropped.
-    pub fn advance(&mut self, _alloc: Global, hold: &Hold) -> Result<DigTurn, AllocError>
+    pub fn advance(&mut self, alloc: Global, hold: &Hold) -> Result<DigTurn, AllocError>
         requires { ShowsDig hold.now self.old }
         ensures point { OnOk result (self.new.point ≡ self.old.point) }
         ensures digs { OnOk result ((s : List ℕ) → Shows hold.now s → IsDigIn s self.old → IsDigIn s self.new) }
@@ -78,14 +81,21 @@ impl Dig {
         ensures below { IfOk result (λ turn. AsksBelow (length hold.now.places) turn) }
         ensures all { IfOk result (λ turn. AllInHand hold.now → turn ≡ DigTurn.Done) }
     {
-        if let Some(b) = missing_bucket(hold, self.found.as_slice()) {
+        if let Some(b) = missing_spot(hold, self.judged.goes()) {
             return Ok(DigTurn::Need(b));
         }
-        while let Some(cell) = self.found.get(self.explored) {
-            if let Some(b) = missing_point(hold, cell.points()) {
+        while let Some(cell) = self.judged.get(self.explored) {
+            if let Some(b) = missing_point(hold, cell.cell().points()) {
                 return Ok(DigTurn::Need(b));
             }
-            explore(self.point, hold, &cell, &mut self.found, &mut self.rim)?;
+            explore(
+                alloc,
+                self.point,
+                hold,
+                &cell,
+                &mut self.judged,
+                &mut self.rim,
+            )?;
             self.explored += 1;
         }
         Ok(DigTurn::Done)
@@ -99,10 +109,10 @@ impl Dig {
     }
 
     // The cells that were found.
-    pub(crate) fn found(&self) -> &[Cell]
+    pub(crate) fn found(&self) -> &[Spot]
         ensures { result.now ≡ self.now.found }
     {
-        self.found.as_slice()
+        self.judged.goes()
     }
 
     // The rim facets of those explored.

@@ -7,12 +7,14 @@ ghost use Rattle.point_order.specs.declared.cell.Cell.{Cell};
 ghost use Rattle.cell_store.specs.Shares.{Shows, NoneInHand, points_on};
 ghost use Rattle.cell_store.specs.Ready.{AreHeld};
 ghost use Rattle.cavity.specs.Exploring.{ArePointsHeld, IsBucketMissing, IsCellMissing, ShowsAt, ShowsNewAt, Crosses, Explores};
+ghost use Rattle.cavity.specs.Tables.{AreBehind};
 
-use crate::cell_list::CellList;
-use cell_conflict::{cell_across, is_in_conflict};
-use cell_store::Hold;
+use crate::cell_table::Seen;
+use crate::judged::Judged;
+use cell_conflict::{is_spot_in_conflict, spot_across};
+use cell_store::{Hold, Spot};
 use point_order::{Cell, Facet, Point};
-use std::alloc::AllocError;
+use std::alloc::{AllocError, Global};
 
 // The bucket of one of the points that is not in hand, if there is one.
 pub(crate) fn missing_point(hold: &Hold, points: &[Point]) -> Option<u32>
@@ -40,48 +42,75 @@ pub fn missing_bucket(hold: &Hold, cells: &[Cell]) -> Option<u32>
     None
 }
 
-// Crosses a facet of a found cell. The cell behind it goes, and is found, or it stays, and the facet is one of the rim.
-fn cross(
-    point: Point,
-    hold: &Hold,
-    cell: &Cell,
-    facet: &Facet,
-    found: &mut CellList,
-    rim: &mut Vec<Facet>,
-) -> Result<(), AllocError>
-    requires shown { ShowsAt hold.now point cell.now found.old rim.old.items }
-    requires facet { IsIn facet.now (facets_of cell.now) }
-    requires held { ¬ (NoneInHand hold.now (points_on facet.now)) }
-    ensures more { OnOk result ((more : List Cell) × (found.new ≡ found.old ++ more)) }
-    ensures crossed { OnOk result ((s : List ℕ) → Shows hold.now s → Crosses s point cell.now facet.now found.old rim.old.items found.new rim.new.items) }
+// The same for cells at hand.
+pub(crate) fn missing_spot(hold: &Hold, cells: &[Spot]) -> Option<u32>
+    ensures { MatchOption result (AreHeld hold.now cells.now) (λ b. IsCellMissing hold.now cells.now b) }
 {
-    let other = cell_across(hold, cell, facet);
-    if !found.contains(other) {
-        if is_in_conflict(hold, other, point) {
-            found.push(other)?;
-        } else {
-            rim.push(*facet)?;
+    for cell in cells {
+        if let Some(b) = missing_point(hold, cell.cell().points()) {
+            return Some(b);
         }
     }
-    Ok(())
+    None
+}
+
+// Crosses a facet of a found cell. The cell behind it goes, and is found, or it stays, and the facet is one of the rim. A cell that
+// was judged is not judged again.
+fn cross(
+    alloc: Global,
+    point: Point,
+    hold: &Hold,
+    cell: &Spot,
+    facet: &Facet,
+    judged: &mut Judged,
+    rim: &mut Vec<Facet>,
+) -> Result<(), AllocError>
+    requires shown { ShowsAt hold.now point cell.now judged.old.goes rim.old.items }
+    requires facet { IsIn facet.now (facets_of cell.now) }
+    requires held { ¬ (NoneInHand hold.now (points_on facet.now)) }
+    requires behind { AreBehind judged.old.stays rim.old.items }
+    ensures behind { AreBehind judged.new.stays rim.new.items }
+    ensures more { OnOk result ((more : List Cell) × (judged.new.goes ≡ judged.old.goes ++ more)) }
+    ensures crossed { OnOk result ((s : List ℕ) → Shows hold.now s → Crosses s point cell.now facet.now judged.old.goes rim.old.items judged.new.goes rim.new.items) }
+{
+    let other = spot_across(hold, cell, facet);
+    match judged.seen(other.cell()) {
+        Seen::Goes => Ok(()),
+        Seen::Stays => {
+            rim.push(*facet)?;
+            Ok(())
+        }
+        Seen::New => {
+            if is_spot_in_conflict(hold, &other, point) {
+                judged.push_gone(alloc, other)?;
+            } else {
+                rim.push(*facet)?;
+                judged.keep(alloc, other)?;
+            }
+            Ok(())
+        }
+    }
 }
 
 // Crosses the four facets of a found cell, the buckets of whose points are all in hand.
 pub(crate) fn explore(
+    alloc: Global,
     point: Point,
     hold: &Hold,
-    cell: &Cell,
-    found: &mut CellList,
+    cell: &Spot,
+    judged: &mut Judged,
     rim: &mut Vec<Facet>,
 ) -> Result<(), AllocError>
-    requires shown { ShowsNewAt hold.now point cell.now found.old rim.old.items }
+    requires shown { ShowsNewAt hold.now point cell.now judged.old.goes rim.old.items }
     requires held { ArePointsHeld hold.now (points_of cell.now) }
-    ensures more { OnOk result ((more : List Cell) × (found.new ≡ found.old ++ more)) }
-    ensures explored { OnOk result ((s : List ℕ) → Shows hold.now s → Explores s point cell.now found.old rim.old.items found.new rim.new.items) }
+    requires behind { AreBehind judged.old.stays rim.old.items }
+    ensures behind { AreBehind judged.new.stays rim.new.items }
+    ensures more { OnOk result ((more : List Cell) × (judged.new.goes ≡ judged.old.goes ++ more)) }
+    ensures explored { OnOk result ((s : List ℕ) → Shows hold.now s → Explores s point cell.now judged.old.goes rim.old.items judged.new.goes rim.new.items) }
 {
-    let facets = cell.facets();
+    let facets = cell.cell().facets();
     for facet in &facets {
-        cross(point, hold, cell, facet, found, rim)?;
+        cross(alloc, point, hold, cell, facet, judged, rim)?;
     }
     Ok(())
 }

@@ -6,6 +6,7 @@ ghost use Rattle.cavity.specs.Digs.{IsDone, IsDoneIn};
 ghost use Rattle.cavity.specs.Fills.{IsFilled, IsFacetApart, AreFacetsApart};
 
 use crate::dig::Dig;
+use cell_store::Spot;
 use point_order::{Cell, Facet, Point};
 use std::alloc::{AllocError, Global};
 
@@ -26,10 +27,10 @@ fn cell_of(facet: &Facet, p: Point) -> Cell
             let (a, b, c) = tri.corners();
             Cell::full(p, a, b, c)
         }
-        Facet::Two(pair) => match pair.points() {
-            [a, b] => Cell::hull(p, *a, *b),
-            _ => unreachable!(),
-        },
+        Facet::Two(pair) => {
+            let (a, b) = pair.corners();
+            Cell::hull(p, a, b)
+        }
     }
 }
 
@@ -45,6 +46,17 @@ fn cells_of(alloc: Global, facets: &[Facet], p: Point) -> Result<Vec<Cell>, Allo
     Ok(cells)
 }
 
+// The cells at hand.
+fn cells_at_hand(alloc: Global, spots: &[Spot]) -> Result<Vec<Cell>, AllocError>
+    ensures { IfOk result (λ cells. cells.items ≡ spots.now) }
+{
+    let mut cells = Vec::with_capacity(alloc, spots.len())?;
+    for spot in spots {
+        cells.push(*spot.cell())?;
+    }
+    Ok(cells)
+}
+
 /// All cells that the dig's point takes away, and all that it brings, each once. The dig is to be done.
 ///
 /// # Errors
@@ -54,7 +66,7 @@ pub fn fill(alloc: Global, dig: &Dig) -> Result<Fresh, AllocError>
     ensures gone { IfOk result (λ f. f.gone.items ≡ dig.now.found) }
     ensures filled { IfOk result (λ f. (s : List ℕ) → IsDoneIn s dig.now → IsFilled s dig.now.point f.gone.items f.fresh.items) }
 {
-    let gone = Vec::from_slice(alloc, dig.found())?;
+    let gone = cells_at_hand(alloc, dig.found())?;
     let fresh = cells_of(alloc, dig.rim(), dig.point())?;
     Ok(Fresh { gone, fresh })
 }

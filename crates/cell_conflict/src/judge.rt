@@ -49,68 +49,42 @@ fn point_against(cell: &Cell, other: &Cell) -> Option<Point>
     cell.points().iter().copied().find(|p| !other.has(*p))
 }
 
-// The mate of an Open cell with a point in hand: the point against its triple in the Full cell behind it.
-fn mate_of_triple(hold: &Hold, tri: &Tri) -> Point
+// The mate of an Open cell at hand with a point in hand: the point against its triple in the Full cell behind it.
+fn mate_of_triple(hold: &Hold, spot: &Spot, tri: &Tri) -> Point
+    requires triple { spot.now ≡ Open tri.now }
     requires shown { ShowsWith hold.now (Open tri.now) }
     requires held { ¬ (NoneInHand hold.now tri.now) }
     ensures { (s : List ℕ) → Shows hold.now s → IsIn (Open tri.now) (complex s) → IsMate s (Open tri.now) result }
 {
-    let cell = Cell::Open(*tri);
     let facet = Facet::Three(*tri);
-    match point_against(cell_across(hold, &cell, &facet), &cell) {
+    let behind = spot_across(hold, spot, &facet);
+    match point_against(behind.cell(), spot.cell()) {
         Some(mate) => mate,
         None => unreachable!(),
     }
 }
 
 // A mate of the cell. Of a Full cell it is not looked at.
-fn mate_of(hold: &Hold, cell: &Cell, p: Point) -> Point
-    requires shown { ShowsWith hold.now cell.now }
-    requires held { ¬ (NoneInHand hold.now (points_of cell.now)) }
-    ensures { (s : List ℕ) → Shows hold.now s → IsIn cell.now (complex s) → IsMate s cell.now result }
-{
-    match cell {
-        Cell::Full(_) => p,
-        Cell::Open(tri) => mate_of_triple(hold, tri),
-    }
-}
-
-// The mate of an Open cell at hand with a point in hand.
-fn mate_behind(hold: &Hold, spot: &Spot, tri: &Tri) -> Point
-    requires shown { ShowsWith hold.now (Open tri.now) }
-    requires cell { spot.now ≡ Open tri.now }
-    requires held { ¬ (NoneInHand hold.now tri.now) }
-    ensures { (s : List ℕ) → Shows hold.now s → IsIn (Open tri.now) (complex s) → IsMate s (Open tri.now) result }
-{
-    let cell = Cell::Open(*tri);
-    let facet = Facet::Three(*tri);
-    let other = spot_across(hold, spot, &facet);
-    match point_against(other.cell(), &cell) {
-        Some(mate) => mate,
-        None => unreachable!(),
-    }
-}
-
-// A mate of the cell at hand. Of a Full cell it is not looked at.
-fn mate_at(hold: &Hold, spot: &Spot, p: Point) -> Point
+fn mate_of(hold: &Hold, spot: &Spot, p: Point) -> Point
     requires shown { ShowsWith hold.now spot.now }
     requires held { ¬ (NoneInHand hold.now (points_of spot.now)) }
     ensures { (s : List ℕ) → Shows hold.now s → IsIn spot.now (complex s) → IsMate s spot.now result }
 {
     match spot.cell() {
         Cell::Full(_) => p,
-        Cell::Open(tri) => mate_behind(hold, spot, tri),
+        Cell::Open(tri) => mate_of_triple(hold, spot, tri),
     }
 }
 
-/// What `is_in_conflict` tells of a cell at hand.
+/// Whether the new point takes the cell at hand away, of which some point's bucket is in hand. The hold is to show a set
+/// of whose complex the cell is one, and for which the point is new; the answer is right for each such set.
 pub fn is_spot_in_conflict(hold: &Hold, spot: &Spot, p: Point) -> bool
     requires shown { ShowsWithNew hold.now spot.now p }
     requires held { ¬ (NoneInHand hold.now (points_of spot.now)) }
     ensures { (s : List ℕ) → Shows hold.now s → IsNew s p → IsIn spot.now (complex s) →
         MatchBool result (GoesFrom s p spot.now) (StaysFrom s p spot.now) }
 {
-    let mate = mate_at(hold, spot, p);
+    let mate = mate_of(hold, spot, p);
     conflict(spot.cell(), mate, p)
 }
 
@@ -122,6 +96,5 @@ pub fn is_in_conflict(hold: &Hold, cell: &Cell, p: Point) -> bool
     ensures { (s : List ℕ) → Shows hold.now s → IsNew s p → IsIn cell.now (complex s) →
         MatchBool result (GoesFrom s p cell.now) (StaysFrom s p cell.now) }
 {
-    let mate = mate_of(hold, cell, p);
-    conflict(cell, mate, p)
+    is_spot_in_conflict(hold, &Spot::new(*cell, 0, 0), p)
 }

@@ -15,7 +15,7 @@ use Rattle.edit_history.specs.OneThread.{places, tagged_lines, line_of}
 use Rattle.edit_history.specs.Laws.{AreIndependent as AreIndependentPlaces}
 use Rattle.edit_history.proofs.LinesAtPlaces.{line_at, picked, same-map}
 use Rattle.edit_history.proofs.OpeningSolid.{four_law}
-use Rattle.cavity.specs.Opening.{inserted_from, opening_history}
+use Rattle.insertion.specs.Opening.{inserted_from, opening_history}
 use Rattle.delaunay_cli.specs.Made.{tagged_points}
 
 -- ---- a legal history by one thread is that of its lines

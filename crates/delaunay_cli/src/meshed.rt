@@ -4,7 +4,7 @@ ghost use Rattle.std.specs.Prelude.{◌≡◌, ◌<◌, ◌≤◌, ◌+◌, ◌^
 ghost use Rattle.edit_history.specs.OneThread.{places};
 ghost use Rattle.edit_history.specs.Opening.{opening_four};
 ghost use Rattle.edit_history.specs.Histories.{IsLegal};
-ghost use Rattle.cavity.specs.Opening.{opening_history};
+ghost use Rattle.insertion.specs.Opening.{opening_history};
 ghost use Rattle.edit_files.specs.Content.{content};
 ghost use Rattle.delaunay_cli.specs.Made.{tagged_points};
 ghost use Rattle.delaunay_cli.specs.Run.{IsKept};

@@ -14,7 +14,7 @@ use Rattle.edit_history.specs.Histories.{replay}
 use Rattle.del_laws.proofs.Tests.{among_true}
 use Rattle.cell_store.specs.Changes.{Follows, IsChange}
 use Rattle.cell_store.specs.Meshes.{MeshView, counted}
-use Rattle.cavity.specs.Growing.{IsInsertion}
+use Rattle.insertion.specs.Growing.{IsInsertion}
 use Rattle.point_order.specs.declared.cell.Cell.{Cell}
 use Rattle.cavity.specs.declared.fill_hole.Fresh.{Fresh}
 use Rattle.vertex_removal.specs.Refills.{IsRefilled}

@@ -7,13 +7,14 @@ ghost use Rattle.edit_history.specs.declared.history.Edit.TheVariants.{Add, Take
 ghost use Rattle.edit_history.specs.Edits.{reply_to};
 ghost use Rattle.edit_history.specs.Histories.{replay};
 ghost use Rattle.cell_store.specs.Changes.{Follows};
-ghost use Rattle.cavity.specs.Opening.{opening_history, AreIndependent};
+ghost use Rattle.insertion.specs.Opening.{opening_history, AreIndependent};
 ghost use Rattle.vertex_removal.specs.Refills.{IsRefilled};
 ghost use Rattle.one_mesh.specs.Applied.{edited};
 
-use cavity::{Fresh, insert, open_mesh};
+use cavity::Fresh;
 use cell_store::{Grid, Mesh};
 use edit_history::{Edit, Entry, Reply};
+use insertion::{insert, open_mesh};
 use point_order::{Cell, Point};
 use std::alloc::{AllocError, Global};
 use vertex_removal::{Refill, RefillTurn};

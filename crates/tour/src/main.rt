@@ -10,11 +10,11 @@ mod threads;
 
 use alpha_complex::alpha;
 use anyhow::{Result, bail};
-use cavity::cell_in_conflict;
 use cell_store::{Grid, Mesh};
 use edit_history::Edit;
 use exact_orient::orient;
 use face_list::faces;
+use insertion::cell_in_conflict;
 use one_mesh::{apply, begin, complex, points};
 use point_order::Point;
 use std::alloc::Global;

@@ -5,6 +5,17 @@
 //! takes away from the complex of the link, or where the link is flat, of the link and the points across from it. It wraps the hole
 //! that the cells at the point leave, triple by triple; or where one of them is Open, or the link is large, it makes that complex.
 //! Where these points are flat too, the rest is. `docs/GEOMETRY.md` tells the laws. The definitions stand in `specs/`.
+//!
+//! ```
+//! let mut refill = Refill::start(alloc, v)?;      // v is a point, and its bucket is in hand
+//! loop {
+//!     match refill.advance(alloc, &hold)? {
+//!         RefillTurn::Done(change) => break,      // change.gone are the cells at v, change.fresh those that come
+//!         RefillTurn::Flat => break,              // without v no four points are independent
+//!         RefillTurn::Need(b) => hold.put(b, ..), // a bucket that the removal has to have
+//!     }
+//! }
+//! ```
 #![tactic(auto)]
 
 mod apex;

@@ -5,9 +5,9 @@ ghost use Rattle.point_order.specs.Sets.{IsIn, IsAscending};
 ghost use Rattle.point_order.specs.Solid.{is_solid};
 ghost use Rattle.vertex_removal.specs.Near.{AreTaken};
 
-use cavity::mesh_of_points;
 use cell_conflict::is_in_conflict;
 use cell_store::Grid;
+use insertion::mesh_of_points;
 use point_order::{Cell, Point};
 use std::alloc::{AllocError, Global};
 

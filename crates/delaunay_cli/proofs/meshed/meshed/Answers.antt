@@ -1,6 +1,6 @@
 use Rattle.std.proofs.Common.{◌∙◌, sym, ap, subst, arith, [], List, ℕ, length, map}
 use Rattle.std.specs.Prelude.{All}
-use Rattle.cavity.specs.Opening.{opening_history}
+use Rattle.insertion.specs.Opening.{opening_history}
 use Rattle.edit_history.specs.Histories.{IsLegal, entries_from}
 use Rattle.edit_history.proofs.Lines.{length-entries}
 use Rattle.edit_workers.specs.Dealing.{AreApart, AreAscending, count_of}

@@ -1,5 +1,0 @@
-use Rattle.cavity.proofs.FourCells.{four_have_five}
-use Rattle.cavity.proofs.laws.complex_of_four.Goals as goal
-
-pub returns : goal.returns
-returns c = four_have_five

@@ -1,6 +1,0 @@
-use Rattle.cell_store.proofs.MeshLaws.{point_held}
-use Rattle.cavity.proofs.opening.note.Goals as goal
-
-pub reserve-requires-clause-point : goal.reserve-requires-clause-point
-reserve-requires-clause-point c =
-    point_held c.args.hold.now c.args.p (record { size = c.grid.ensures.size; places = c.grid.ensures.places }) c.requires

@@ -1,0 +1,124 @@
+//! The cells that a dig judged.
+
+ghost use Rattle.std.specs.Prelude.{◌≡◌, ◌<◌, ◌^◌, [], ◌∷◌, ◌++◌, length, IfOk, OnOk, OnErr, MatchOption};
+ghost use Rattle.cavity.specs.Lists.{IsPast, IsAtPlace};
+ghost use Rattle.cavity.specs.Tables.{Knows};
+
+use crate::cell_table::{Mark, Seen, home_of, look, put, table_of};
+use cell_store::Spot;
+use point_order::Cell;
+use std::alloc::{AllocError, Global};
+use std::marker::Model;
+
+// As many cells as a new point mostly takes away at the most, and as many as mostly lie around: room for them is made at once.
+const USUAL: usize = 48;
+
+// One less than the homes of the table at first: enough for these.
+const MASK: usize = 127;
+
+// The cells that go, in the order in which they were found, and those of which it was kept that they stay. A table leads from a cell
+// to its place in these lists.
+#[derive(Debug, Drop)]
+pub(crate) struct Judged {
+    goes: Vec<Spot>,
+    stays: Vec<Spot>,
+    marks: Vec<Mark>,
+    mask: usize,
+}
+
+impl Model for Judged {
+    ghost use Rattle.cavity.specs.Tables.{Known, IsMarked};
+
+    ghost Value = { Known };
+
+    ghost view = { λ j. record { goes = j.goes.items; stays = j.stays.items } };
+
+    ghost invariant = { λ j. IsMarked j.mask j.marks.items j.goes.items };
+}
+
+impl Judged {
+    // One cell that goes.
+    pub(crate) fn new(alloc: Global, cell: Spot) -> Result<Judged, AllocError>
+        ensures { IfOk result (λ judged. judged ≡ record { goes = cell ∷ []; stays = [] }) }
+    {
+        let mut goes = Vec::with_capacity(alloc, USUAL)?;
+        goes.push(cell)?;
+        let stays = Vec::with_capacity(alloc, USUAL)?;
+        let marks = table_of(alloc, MASK, &goes, &stays)?;
+        Ok(Judged {
+            goes,
+            stays,
+            marks,
+            mask: MASK,
+        })
+    }
+
+    // What is known of the cell.
+    pub(crate) fn seen(&self, cell: &Cell) -> Seen
+        ensures { Knows self.now.goes self.now.stays cell.now result }
+    {
+        let home = home_of(cell, self.mask);
+        look(&self.marks, home, &self.goes, &self.stays, cell)
+    }
+
+    // Doubles the table where three of four homes may be taken.
+    fn make_room(&mut self, alloc: Global) -> Result<(), AllocError>
+        ensures { self.new ≡ self.old }
+    {
+        let homes = self.mask + 1;
+        if self.goes.len() + self.stays.len() >= homes / 4 * 3 {
+            let mask = self.mask + homes;
+            self.marks = table_of(alloc, mask, &self.goes, &self.stays)?;
+            self.mask = mask;
+        }
+        Ok(())
+    }
+
+    // Puts a cell that goes at the end of those.
+    pub(crate) fn push_gone(&mut self, alloc: Global, cell: Spot) -> Result<(), AllocError>
+        ensures pushed { OnOk result (self.new ≡ record self.old { goes = self.old.goes ++ cell ∷ [] }) }
+        ensures refused { OnErr result (self.new ≡ self.old) }
+    {
+        self.make_room(alloc)?;
+        self.goes.reserve(1)?;
+        let home = home_of(cell.cell(), self.mask);
+        put(&mut self.marks, home, Mark::Gone(self.goes.len()))?;
+        match self.goes.push(cell) {
+            Ok(()) => Ok(()),
+            Err(_) => unreachable!(),
+        }
+    }
+
+    // Keeps that a cell stays.
+    pub(crate) fn keep(&mut self, alloc: Global, cell: Spot) -> Result<(), AllocError>
+        ensures kept { OnOk result (self.new ≡ record self.old { stays = self.old.stays ++ cell ∷ [] }) }
+        ensures refused { OnErr result (self.new ≡ self.old) }
+    {
+        self.make_room(alloc)?;
+        self.stays.reserve(1)?;
+        let home = home_of(cell.cell(), self.mask);
+        put(&mut self.marks, home, Mark::Kept(self.stays.len()))?;
+        match self.stays.push(cell) {
+            Ok(()) => Ok(()),
+            Err(_) => unreachable!(),
+        }
+    }
+
+    // The cell at a place of those that go, if there is one.
+    pub(crate) fn get(&self, i: usize) -> Option<Spot>
+        ensures cell { MatchOption result (IsPast self.now.goes i) (λ cell. IsAtPlace self.now.goes i cell) }
+        ensures small { length self.now.goes < 2 ^ 63 }
+    {
+        match self.goes.get(i) {
+            Some(spot) => Some(spot.copied()),
+            None => None,
+        }
+    }
+
+    // The cells that go.
+    pub(crate) fn goes(&self) -> &[Spot]
+        ensures { result.now ≡ self.now.goes }
+    {
+        &self.goes
+    }
+}

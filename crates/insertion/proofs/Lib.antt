@@ -1,0 +1,4 @@
+pub mod FourCells
+pub mod OpeningLaws
+pub mod Insertions
+pub mod MeshGrowth

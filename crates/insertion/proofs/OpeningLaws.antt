@@ -1,0 +1,351 @@
+-- The mesh of four independent points stands for the history that begins with them.
+use Rattle.std.specs.Prelude.{◌≡◌, refl, ℕ, zero, suc, map, ◌+◌, ◌<◌, true, false, Bool, cond, List, [], ◌∷◌, ◌++◌, length, Option, Some, slice_index_or, ℤ, pos, neg_ℤ, ◌==◌}
+use Rattle.std.specs.List.{filter}
+use Rattle.std.proofs.Common.{inl, inr, ap, sym, subst, ◌∙◌, arith}
+use Rattle.std.proofs.lemmas.Int.{ints}
+use Rattle.point_order.specs.declared.cell.Cell.{Cell}
+use Rattle.point_order.specs.Complex.{complex}
+use Rattle.point_order.specs.Coordinates.{IsKey}
+use Rattle.point_order.specs.Orientation.{orientation, is_flat, is_zero}
+use Rattle.point_order.specs.Sets.{IsIn, IsAscending, AreFour, ascending, is_among, with_point}
+use Rattle.point_order.specs.Solid.{is_solid}
+use Rattle.point_order.proofs.Determinants.{swap-first, swap-middle, last-first, last-second, last-third}
+use Rattle.point_order.proofs.SetLaws.{in-with, in-with_old, in-with_new, ascending-with, ascending-is, ascending-ascending, in-ascending, in-ascending_from}
+use Rattle.edit_history.specs.declared.history.Entry.{Entry}
+use Rattle.edit_history.specs.declared.history.Reply.TheVariants.{Inserted}
+use Rattle.edit_history.specs.Edits.{point_of, reply_to, changed}
+use Rattle.edit_history.specs.Histories.{replay, replay_from, IsLegal, IsLegalFrom}
+use Rattle.edit_history.proofs.Solidity.{solid-from}
+use Rattle.del_laws.specs.Keys.{AreKeys}
+use Rattle.del_laws.proofs.Tests.{among_from}
+use Rattle.cell_store.specs.Grids.{bucket_of}
+use Rattle.cell_store.specs.Swaps.{swapped, touches}
+use Rattle.cell_store.specs.Buckets.{Content, InHand, bucket_at, at_place}
+use Rattle.cell_store.specs.Shares.{Stands, IsShare, points_share, cells_share, entries_share}
+use Rattle.cell_store.specs.Changes.{IsChange, IsNoted, noted_in, swapped_in}
+use Rattle.cell_store.proofs.NextLaws.{cells_after, points_after, points_stay, entries_after, entries_stay, mapped_some, replay_next}
+use Rattle.cell_store.proofs.ShareLaws.{ascending_replay}
+use Rattle.insertion.specs.Opening.{five_cells, inserted, inserted_from, opening_history, AreIndependent, nothing, IsBare, HasCellsOfFour}
+use Rattle.insertion.proofs.FourCells.{four_have_five}
+
+-- ---- independent points are distinct
+
+zero_of : (z : ℤ) → z ≡ pos 0 → is_zero z ≡ true
+zero_of z e = rw e refl
+
+-- a number that is its opposite is 0
+self_opposite : (z : ℤ) → z ≡ neg_ℤ z → z ≡ pos 0
+self_opposite z e = omega (arith, ints, e)
+
+pub four_apart : (a b c d : ℕ) → is_flat a b c d ≡ false → AreFour a b c d
+four_apart a b c d f = (
+  (λ e. no (subst (λ x. orientation a x c d ≡ pos 0) e (self_opposite _ (swap-first a a c d)))),
+  (λ e. no (subst (λ x. orientation a b x d ≡ pos 0) e (from_swap b d))),
+  (λ e. no (subst (λ x. orientation a b c x ≡ pos 0) e (last-first a b c))),
+  (λ e. no (subst (λ x. orientation a b x d ≡ pos 0) e (self_opposite _ (swap-middle a b b d)))),
+  (λ e. no (subst (λ x. orientation a b c x ≡ pos 0) e (last-second a b c))),
+  (λ e. no (subst (λ x. orientation a b c x ≡ pos 0) e (last-third a b c))),
+)
+  where
+    no : orientation a b c d ≡ pos 0 → ⊥
+    no e = cc (zero_of (orientation a b c d) e, f)
+
+    from_swap : (b d : ℕ) → orientation a b a d ≡ pos 0
+    from_swap b d = let e = self_opposite _ (swap-first a a b d) in let s = swap-middle a b a d in omega (arith, ints, e, s)
+
+-- ---- the history
+
+-- each point is new where it comes
+abbrev AreNew : List ℕ → List (ℕ × ℕ) → Type 0
+AreNew s [] = Unit {0}
+AreNew s (line ∷ lines) = (¬ (IsIn line.1 s)) × AreNew (with_point line.1 s) lines
+
+-- the set with the points
+abbrev with_all : List ℕ → List (ℕ × ℕ) → List ℕ
+with_all s [] = s
+with_all s (line ∷ lines) = with_all (with_point line.1 s) lines
+
+-- a new point is inserted
+inserts : (s : List ℕ) (n : ℕ) (line : ℕ × ℕ) → ¬ (IsIn line.1 s) → reply_to s (inserted n line).edit ≡ Inserted
+inserts s n line a = by (is_among line.1 s) refl
+  where
+    by : (b : Bool) → is_among line.1 s ≡ b → reply_to s (inserted n line).edit ≡ Inserted
+    by true e = absurd (a (among_from line.1 s e))
+    by false e = rw e refl
+
+legal_from : (n : ℕ) (s : List ℕ) (lines : List (ℕ × ℕ)) → AreNew s lines → IsLegalFrom n s (inserted_from n lines)
+legal_from n s [] a = tt
+legal_from n s (line ∷ lines) a =
+    let i = inserts s n line a.0 in
+    (refl, sym i, subst (λ (t : List ℕ). IsLegalFrom (n + 1) t (inserted_from (n + 1) lines)) (ap (changed s line.1) (sym i)) (legal_from (n + 1) (with_point line.1 s) lines a.1))
+
+replay_is : (n : ℕ) (s : List ℕ) (lines : List (ℕ × ℕ)) → AreNew s lines → replay_from s (inserted_from n lines) ≡ with_all s lines
+replay_is n s [] a = refl
+replay_is n s (line ∷ lines) a =
+    let i = inserts s n line a.0 in
+    ap (λ (t : List ℕ). replay_from t (inserted_from (n + 1) lines)) (ap (changed s line.1) i) ∙ replay_is (n + 1) (with_point line.1 s) lines a.1
+
+-- four independent points are each new
+four_new : (a b c d : ℕ × ℕ) → is_flat a.1 b.1 c.1 d.1 ≡ false → AreNew [] (a ∷ b ∷ c ∷ d ∷ [])
+four_new a b c d f =
+    let n = four_apart a.1 b.1 c.1 d.1 f in (
+      (λ i. i),
+      (
+        (λ i. elim (in-with a.1 b.1 [] i) [ inl e ↦ n.0 e | inr j ↦ j ]),
+        (
+          (λ i. elim (in-with b.1 c.1 (with_point a.1 []) i) [ inl e ↦ n.3 e | inr j ↦ elim (in-with a.1 c.1 [] j) [ inl e ↦ n.1 e | inr k ↦ k ] ]),
+          (
+            (λ i. elim (in-with c.1 d.1 (with_point b.1 (with_point a.1 [])) i) [
+              | inl e ↦ n.5 e
+              | inr j ↦ elim (in-with b.1 d.1 (with_point a.1 []) j) [ inl e ↦ n.4 e | inr k ↦ elim (in-with a.1 d.1 [] k) [ inl e ↦ n.2 e | inr m ↦ m ] ]
+            ]),
+            tt,
+          ),
+        ),
+      ),
+    )
+
+-- so the history with which a mesh begins is legal
+pub opening_legal : (four : List (ℕ × ℕ)) → AreIndependent four → IsLegal (opening_history four)
+opening_legal (a ∷ b ∷ c ∷ d ∷ []) f = legal_from 0 [] (a ∷ b ∷ c ∷ d ∷ []) (four_new a b c d f)
+opening_legal [] f = absurd f
+opening_legal (a ∷ []) f = absurd f
+opening_legal (a ∷ b ∷ []) f = absurd f
+opening_legal (a ∷ b ∷ c ∷ []) f = absurd f
+opening_legal (a ∷ b ∷ c ∷ d ∷ e ∷ l) f = absurd f
+
+-- what the opening leaves: the four in order
+pub leaves_four : (a b c d : ℕ × ℕ) → is_flat a.1 b.1 c.1 d.1 ≡ false → replay (opening_history (a ∷ b ∷ c ∷ d ∷ [])) ≡ ascending (a.1 ∷ b.1 ∷ c.1 ∷ d.1 ∷ [])
+leaves_four a b c d f =
+    replay_is 0 [] (a ∷ b ∷ c ∷ d ∷ []) (four_new a b c d f)
+    ∙ ascending-is (with_all [] (a ∷ b ∷ c ∷ d ∷ [])) (a.1 ∷ b.1 ∷ c.1 ∷ d.1 ∷ [])
+    (ascending-with d.1 three (ascending-with c.1 two (ascending-with b.1 one (ascending-with a.1 [] tt))))
+    (λ p i. elim (in-with d.1 p three i) [
+      | inl e ↦ inr (inr (inr (inl e)))
+      | inr j ↦ elim (in-with c.1 p two j) [
+        | inl e ↦ inr (inr (inl e))
+        | inr k ↦ elim (in-with b.1 p one k) [ inl e ↦ inr (inl e) | inr m ↦ elim (in-with a.1 p [] m) [ inl e ↦ inl e | inr z ↦ absurd z ] ]
+      ]
+    ])
+    (λ p i. elim i [
+      | inl e ↦ in-with_old d.1 p three (in-with_old c.1 p two (in-with_old b.1 p one (subst (λ (v : ℕ). IsIn v one) e (in-with_new a.1 []))))
+      | inr i ↦ elim i [
+        | inl e ↦ in-with_old d.1 p three (in-with_old c.1 p two (subst (λ (v : ℕ). IsIn v two) e (in-with_new b.1 one)))
+        | inr i ↦ elim i [
+          | inl e ↦ in-with_old d.1 p three (subst (λ (v : ℕ). IsIn v three) e (in-with_new c.1 two))
+          | inr i ↦ elim i [ inl e ↦ subst (λ (v : ℕ). IsIn v (with_point d.1 three)) e (in-with_new d.1 three) | inr none ↦ absurd none ]
+        ]
+      ]
+    ])
+  where
+    one : List ℕ
+    one = with_point a.1 []
+
+    two : List ℕ
+    two = with_point b.1 one
+
+    three : List ℕ
+    three = with_point c.1 two
+
+-- ---- buckets
+
+-- a bucket has the points and entries of a history, and no cells yet
+abbrev HasLines : ℕ → ℕ → List Entry → Content → Type 0
+HasLines g b h c = (c.points ≡ points_share g b h) × (c.entries ≡ entries_share g b h) × (c.cells ≡ [])
+
+-- with one more entry
+noted_lines : (g b : ℕ) (h : List Entry) (e : Entry) (c : Content) → IsLegal (h ++ e ∷ []) → HasLines g b h c → HasLines g b (h ++ e ∷ []) (noted_in g b e c)
+noted_lines g b h e c l s = by (bucket_of g (point_of e.edit) == b) refl
+  where
+    test : ℕ → Bool
+    test = λ p. bucket_of g p == b
+
+    by : (o : Bool) → (bucket_of g (point_of e.edit) == b) ≡ o → HasLines g b (h ++ e ∷ []) (cond o (record c { points = changed c.points (point_of e.edit) e.reply; entries = c.entries ++ e ∷ [] }) c)
+    by true t = (
+      ap (λ m. changed m (point_of e.edit) e.reply) s.0 ∙ points_after test (point_of e.edit) e.reply (replay h) (ascending_replay h) t ∙ ap (filter test) (sym (replay_next h e l)),
+      ap (λ m. m ++ e ∷ []) s.1 ∙ entries_after g b h e t,
+      s.2,
+    )
+    by false t = (
+      s.0 ∙ points_stay test (point_of e.edit) e.reply (replay h) (ascending_replay h) t ∙ ap (filter test) (sym (replay_next h e l)),
+      s.1 ∙ entries_stay g b h e t,
+      s.2,
+    )
+
+-- the complex of no points has no cells
+none_listed : complex [] ≡ []
+unfolding complex
+none_listed = refl
+
+-- the five cells are what the opening brings
+brings_five : (h : List Entry) (a b c d : ℕ) → replay h ≡ a ∷ b ∷ c ∷ d ∷ [] → IsAscending (a ∷ b ∷ c ∷ d ∷ []) → AreKeys (a ∷ b ∷ c ∷ d ∷ []) → is_solid (a ∷ b ∷ c ∷ d ∷ []) ≡ true → IsChange (complex (replay [])) (complex (replay h)) [] (five_cells a b c d)
+brings_five h a b c d e l k v = record {
+  went = λ q i. absurd i;
+  all_gone = λ q i n. absurd (none q i);
+  came = λ q i. (subst (λ (s : List ℕ). IsIn q (complex s)) (sym e) ((four_have_five a b c d l k v q).1 i), none q);
+  all_fresh = λ q i n. (four_have_five a b c d l k v q).0 (subst (λ (s : List ℕ). IsIn q (complex s)) e i);
+}
+  where
+    none : (q : Cell) → IsIn q (complex []) → ⊥
+    none q i = subst (λ (m : List Cell). IsIn q m) none_listed i
+
+-- the share of a bucket after the four entries and the five cells
+opening_share : (g n : ℕ) (a b c d : ℕ × ℕ) (w x y z : ℕ) → is_flat a.1 b.1 c.1 d.1 ≡ false → ascending (a.1 ∷ b.1 ∷ c.1 ∷ d.1 ∷ []) ≡ w ∷ x ∷ y ∷ z ∷ [] → AreKeys (w ∷ x ∷ y ∷ z ∷ []) →
+    is_solid (w ∷ x ∷ y ∷ z ∷ []) ≡ true →
+    IsShare g n (opening_history (a ∷ b ∷ c ∷ d ∷ [])) (swapped_in g n [] (five_cells w x y z) (noted_in g n (inserted 3 d) (noted_in g n (inserted 2 c) (noted_in g n (inserted 1 b) (noted_in g n (inserted 0 a) (at_place g n nothing))))))
+opening_share g n a b c d w x y z f e k v = record {
+  points = four.0;
+  cells = ap (swapped g n [] (five_cells w x y z)) (four.2 ∙ sym no_cells) ∙ cells_after g n [] h [] (five_cells w x y z) (brings_five h w x y z (leaves_four a b c d f ∙ e) (subst IsAscending e (ascending-ascending (a.1 ∷ b.1 ∷ c.1 ∷ d.1 ∷ []))) k v);
+  entries = four.1;
+}
+  where
+    h : List Entry
+    h = opening_history (a ∷ b ∷ c ∷ d ∷ [])
+
+    new : AreNew [] (a ∷ b ∷ c ∷ d ∷ [])
+    new = four_new a b c d f
+
+    no_cells : cells_share g n [] ≡ []
+    no_cells = ap (filter (touches g n)) none_listed
+
+    e0 : Entry
+    e0 = inserted 0 a
+
+    e1 : Entry
+    e1 = inserted 1 b
+
+    e2 : Entry
+    e2 = inserted 2 c
+
+    bare : Content
+    bare = at_place g n nothing
+
+    one : HasLines g n (e0 ∷ []) (noted_in g n e0 bare)
+    one = noted_lines g n [] e0 bare (legal_from 0 [] (a ∷ []) (new.0, tt)) (refl, refl, refl)
+
+    two : HasLines g n (e0 ∷ e1 ∷ []) (noted_in g n e1 (noted_in g n e0 bare))
+    two = noted_lines g n (e0 ∷ []) e1 (noted_in g n e0 bare) (legal_from 0 [] (a ∷ b ∷ []) (new.0, (new.1.0, tt))) one
+
+    three : HasLines g n (e0 ∷ e1 ∷ e2 ∷ []) (noted_in g n e2 (noted_in g n e1 (noted_in g n e0 bare)))
+    three = noted_lines g n (e0 ∷ e1 ∷ []) e2 (noted_in g n e1 (noted_in g n e0 bare)) (legal_from 0 [] (a ∷ b ∷ c ∷ []) (new.0, (new.1.0, (new.1.1.0, tt)))) two
+
+    four : HasLines g n h (noted_in g n (inserted 3 d) (noted_in g n e2 (noted_in g n e1 (noted_in g n e0 bare))))
+    four = noted_lines g n (e0 ∷ e1 ∷ e2 ∷ []) (inserted 3 d) (noted_in g n e2 (noted_in g n e1 (noted_in g n e0 bare))) (legal_from 0 [] (a ∷ b ∷ c ∷ d ∷ []) new) three
+
+-- a place that has a bucket is one of the list
+has_place : (l : List (Option Content)) (b : ℕ) (c : Content) → bucket_at l b ≡ Some c → b < length l
+has_place [] b c e = absurd (cc e)
+has_place (o ∷ l) zero c e = omega arith
+has_place (o ∷ l) (suc b) c e = (let i = has_place l b c e in omega (arith, i))
+
+some_same : (a b : Content) → Some a ≡ Some b → a ≡ b
+some_same a b e = cc
+
+-- the points of tagged lines
+abbrev pub points_of_lines : List (ℕ × ℕ) → List ℕ
+points_of_lines lines = map (λ l. l.1) lines
+
+-- the four are noted in turn
+abbrev pub NotedFour : List (ℕ × ℕ) → InHand → InHand → InHand → InHand → InHand → Type 0
+NotedFour (a ∷ b ∷ c ∷ d ∷ []) bare n0 n1 n2 n3 =
+    IsNoted (inserted 0 a) bare n0 × IsNoted (inserted 1 b) n0 n1 × IsNoted (inserted 2 c) n1 n2 × IsNoted (inserted 3 d) n2 n3
+NotedFour _ bare n0 n1 n2 n3 = ⊥
+
+pub opening_stands :
+    (g : ℕ) (four : List (ℕ × ℕ)) (bare n0 n1 n2 n3 mesh : InHand) → AreIndependent four → ((p : ℕ × ℕ) → IsIn p four → IsKey p.1) → IsBare g bare →
+    NotedFour four bare n0 n1 n2 n3 → HasCellsOfFour (points_of_lines four) n3 mesh → Stands mesh (opening_history four)
+opening_stands g (a ∷ b ∷ c ∷ d ∷ []) bare n0 n1 n2 n3 mesh f k e n s = record { legal = legal_from 0 [] (a ∷ b ∷ c ∷ d ∷ []) (four_new a b c d f); keys = subst AreKeys (sym left) keys; solid = ap is_solid left ∙ solid; shares = each }
+  where
+    ps : List ℕ
+    ps = a.1 ∷ b.1 ∷ c.1 ∷ d.1 ∷ []
+
+    left : replay (opening_history (a ∷ b ∷ c ∷ d ∷ [])) ≡ s.a ∷ s.b ∷ s.c ∷ s.d ∷ []
+    left = leaves_four a b c d f ∙ s.sorted
+
+    keys : AreKeys (s.a ∷ s.b ∷ s.c ∷ s.d ∷ [])
+    keys = record {
+      below = λ p i. elim (in-ascending ps p (subst (λ (m : List ℕ). IsIn p m) (sym s.sorted) i)) [
+        | inl e ↦ subst IsKey e (k a (inl refl))
+        | inr i ↦ elim i [
+          | inl e ↦ subst IsKey e (k b (inr (inl refl)))
+          | inr i ↦ elim i [
+            | inl e ↦ subst IsKey e (k c (inr (inr (inl refl))))
+            | inr i ↦ elim i [ inl e ↦ subst IsKey e (k d (inr (inr (inr (inl refl))))) | inr none ↦ absurd none ]
+          ]
+        ]
+      ];
+    }
+
+    there : (p : ℕ) → IsIn p ps → IsIn p (s.a ∷ s.b ∷ s.c ∷ s.d ∷ [])
+    there p i = subst (λ (m : List ℕ). IsIn p m) s.sorted (in-ascending_from ps p i)
+
+    solid : is_solid (s.a ∷ s.b ∷ s.c ∷ s.d ∷ []) ≡ true
+    solid = solid-from (s.a ∷ s.b ∷ s.c ∷ s.d ∷ []) a.1 b.1 c.1 d.1 (there a.1 (inl refl)) (there b.1 (inr (inl refl))) (there c.1 (inr (inr (inl refl)))) (there d.1 (inr (inr (inr (inl refl))))) f
+
+    each : (m : ℕ) (x : Content) → bucket_at mesh.places m ≡ Some x → IsShare mesh.grid m (opening_history (a ∷ b ∷ c ∷ d ∷ [])) x
+    each m x q =
+        let five = five_cells s.a s.b s.c s.d in
+        let r5 = mapped_some (swapped_in n3.grid m [] five) (bucket_at n3.places m) x (sym (s.swapped.places m) ∙ q) in
+        let r4 = mapped_some (noted_in n2.grid m (inserted 3 d)) (bucket_at n2.places m) r5.0 (sym (n.3.places m) ∙ r5.1) in
+        let r3 = mapped_some (noted_in n1.grid m (inserted 2 c)) (bucket_at n1.places m) r4.0 (sym (n.2.places m) ∙ r4.1) in
+        let r2 = mapped_some (noted_in n0.grid m (inserted 1 b)) (bucket_at n0.places m) r3.0 (sym (n.1.places m) ∙ r3.1) in
+        let r1 = mapped_some (noted_in bare.grid m (inserted 0 a)) (bucket_at bare.places m) r2.0 (sym (n.0.places m) ∙ r2.1) in
+        let c0 : at_place g m nothing ≡ r1.0 = some_same (at_place g m nothing) r1.0 (sym (e.bare m (has_place bare.places m r1.0 r1.1)) ∙ r1.1) in
+        let g0 = e.grid in
+        let g1 = n.0.grid ∙ g0 in
+        let g2 = n.1.grid ∙ g1 in
+        let g3 = n.2.grid ∙ g2 in
+        let g4 = n.3.grid ∙ g3 in
+        let g5 = s.swapped.grid ∙ g4 in
+        let c1 : noted_in g m (inserted 0 a) (at_place g m nothing) ≡ r2.0 = ap (noted_in g m (inserted 0 a)) c0 ∙ ap (λ v. noted_in v m (inserted 0 a) r1.0) (sym g0) ∙ r1.2 in
+        let c2 : noted_in g m (inserted 1 b) (noted_in g m (inserted 0 a) (at_place g m nothing)) ≡ r3.0 = ap (noted_in g m (inserted 1 b)) c1 ∙ ap (λ v. noted_in v m (inserted 1 b) r2.0) (sym g1) ∙ r2.2 in
+        let c3 : noted_in g m (inserted 2 c) (noted_in g m (inserted 1 b) (noted_in g m (inserted 0 a) (at_place g m nothing))) ≡ r4.0 = ap (noted_in g m (inserted 2 c)) c2 ∙ ap (λ v. noted_in v m (inserted 2 c) r3.0) (sym g2) ∙ r3.2 in
+        let c4 : noted_in g m (inserted 3 d) (noted_in g m (inserted 2 c) (noted_in g m (inserted 1 b) (noted_in g m (inserted 0 a) (at_place g m nothing)))) ≡ r5.0 = ap (noted_in g m (inserted 3 d)) c3 ∙ ap (λ v. noted_in v m (inserted 3 d) r4.0) (sym g3) ∙ r4.2 in
+        let c5 = ap (swapped_in g m [] five) c4 ∙ ap (λ v. swapped_in v m [] five r5.0) (sym g4) ∙ r5.2 in
+        subst (λ v. IsShare v m (opening_history (a ∷ b ∷ c ∷ d ∷ [])) x) (sym g5)
+        (subst (IsShare g m (opening_history (a ∷ b ∷ c ∷ d ∷ []))) c5 (opening_share g m a b c d s.a s.b s.c s.d f s.sorted keys solid))
+opening_stands g [] bare n0 n1 n2 n3 mesh f k e n s = absurd f
+opening_stands g (a ∷ []) bare n0 n1 n2 n3 mesh f k e n s = absurd f
+opening_stands g (a ∷ b ∷ []) bare n0 n1 n2 n3 mesh f k e n s = absurd f
+opening_stands g (a ∷ b ∷ c ∷ []) bare n0 n1 n2 n3 mesh f k e n s = absurd f
+opening_stands g (a ∷ b ∷ c ∷ d ∷ x ∷ l) bare n0 n1 n2 n3 mesh f k e n s = absurd f
+
+-- ---- for four lines in a list, by their places
+
+-- the line at a place
+abbrev pub at : List (ℕ × ℕ) → ℕ → ℕ × ℕ → ℕ × ℕ
+at four i none = slice_index_or four i none
+
+pub apart_by : (four : List (ℕ × ℕ)) (w x y z : ℕ × ℕ) → AreIndependent four → AreFour (at four 0 w).1 (at four 1 x).1 (at four 2 y).1 (at four 3 z).1
+apart_by [] w x y z f = absurd f
+apart_by (a ∷ []) w x y z f = absurd f
+apart_by (a ∷ b ∷ []) w x y z f = absurd f
+apart_by (a ∷ b ∷ c ∷ []) w x y z f = absurd f
+apart_by (a ∷ b ∷ c ∷ d ∷ []) w x y z f = four_apart a.1 b.1 c.1 d.1 f
+apart_by (a ∷ b ∷ c ∷ d ∷ e ∷ l) w x y z f = absurd f
+
+pub stands_by :
+    (g : ℕ) (four : List (ℕ × ℕ)) (s t u v w x y z : ℕ × ℕ) (bare n0 n1 n2 n3 mesh : InHand) → AreIndependent four →
+    IsKey (at four 0 w).1 → IsKey (at four 1 x).1 → IsKey (at four 2 y).1 → IsKey (at four 3 z).1 → IsBare g bare →
+    IsNoted (inserted 0 ((at four 0 s).0, (at four 0 w).1)) bare n0 → IsNoted (inserted 1 ((at four 1 t).0, (at four 1 x).1)) n0 n1 →
+    IsNoted (inserted 2 ((at four 2 u).0, (at four 2 y).1)) n1 n2 → IsNoted (inserted 3 ((at four 3 v).0, (at four 3 z).1)) n2 n3 →
+    HasCellsOfFour ((at four 0 w).1 ∷ (at four 1 x).1 ∷ (at four 2 y).1 ∷ (at four 3 z).1 ∷ []) n3 mesh → Stands mesh (opening_history four)
+stands_by g [] s t u v w x y z bare n0 n1 n2 n3 mesh f k0 k1 k2 k3 e i0 i1 i2 i3 h = absurd f
+stands_by g (a ∷ []) s t u v w x y z bare n0 n1 n2 n3 mesh f k0 k1 k2 k3 e i0 i1 i2 i3 h = absurd f
+stands_by g (a ∷ b ∷ []) s t u v w x y z bare n0 n1 n2 n3 mesh f k0 k1 k2 k3 e i0 i1 i2 i3 h = absurd f
+stands_by g (a ∷ b ∷ c ∷ []) s t u v w x y z bare n0 n1 n2 n3 mesh f k0 k1 k2 k3 e i0 i1 i2 i3 h = absurd f
+stands_by g (a ∷ b ∷ c ∷ d ∷ []) s t u v w x y z bare n0 n1 n2 n3 mesh f k0 k1 k2 k3 e i0 i1 i2 i3 h =
+    opening_stands g (a ∷ b ∷ c ∷ d ∷ []) bare n0 n1 n2 n3 mesh f keys e (i0, i1, i2, i3) h
+  where
+    keys : (p : ℕ × ℕ) → IsIn p (a ∷ b ∷ c ∷ d ∷ []) → IsKey p.1
+    keys p i = elim i [
+      | inl q ↦ subst (λ (r : ℕ × ℕ). IsKey r.1) q k0
+      | inr i ↦ elim i [
+        | inl q ↦ subst (λ (r : ℕ × ℕ). IsKey r.1) q k1
+        | inr i ↦ elim i [
+          | inl q ↦ subst (λ (r : ℕ × ℕ). IsKey r.1) q k2
+          | inr i ↦ elim i [ inl q ↦ subst (λ (r : ℕ × ℕ). IsKey r.1) q k3 | inr none ↦ absurd none ]
+        ]
+      ]
+    ]
+stands_by g (a ∷ b ∷ c ∷ d ∷ q ∷ l) s t u v w x y z bare n0 n1 n2 n3 mesh f k0 k1 k2 k3 e i0 i1 i2 i3 h = absurd f

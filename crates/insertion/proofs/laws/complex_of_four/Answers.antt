@@ -1,0 +1,5 @@
+use Rattle.insertion.proofs.FourCells.{four_have_five}
+use Rattle.insertion.proofs.laws.complex_of_four.Goals as goal
+
+pub returns : goal.returns
+returns c = four_have_five

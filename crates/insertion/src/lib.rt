@@ -1,0 +1,27 @@
+//! Insertion into a mesh with every bucket in hand.
+//!
+//! A mesh begins with four independent points. A new point's first cell in conflict is found by a walk, the others by a dig of
+//! `cavity`, and the mesh is changed in place. The definitions stand in `specs/`.
+//!
+//! ```
+//! let mut mesh = open_mesh(alloc, Grid::new(4)?, [(0, a), (1, b), (2, c), (3, d)])?;  // four independent points with tags
+//! let cell = cell_in_conflict(mesh.hold(), p);                // some cell that the new point p takes away
+//! insert(alloc, &mut mesh, Entry {
+//!     number: 4,                                              // it continues the history
+//!     by: 0,
+//!     tag: 4,
+//!     edit: Edit::Add(p),
+//!     reply: Reply::Inserted,
+//! })?;                                                        // on want of memory the mesh is as before
+//! let small = mesh_of_points(alloc, Grid::new(1)?, &points)?; // of a solid set, ascending
+//! ```
+#![tactic(auto)]
+
+mod conflict_cell;
+mod growth;
+pub mod laws;
+mod opening;
+
+pub use conflict_cell::cell_in_conflict;
+pub use growth::{insert, mesh_of_points};
+pub use opening::open_mesh;
