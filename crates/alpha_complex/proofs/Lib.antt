@@ -1,4 +1,7 @@
 pub mod Searches
+pub mod Leasts
+pub mod Listing
+pub mod KindSteps
 pub mod Parts
 pub mod SmallFaces
 pub mod Admission

@@ -2,4 +2,5 @@ pub mod Admitted
 pub mod Shapes
 pub mod Condition
 pub mod Judged
+pub mod Leasts
 pub mod Laws
