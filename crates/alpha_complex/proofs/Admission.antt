@@ -333,7 +333,7 @@ admitted_pair_is s alpha p l i = same_test (is_admitted_pair (triples_of s) alph
 -- ---- kinds
 
 -- the cells within alpha are the admitted ones
-small_cell_is : (s : List ℕ) (alpha : ℕ) (c : Cell) → IsAscending s → IsIn c (complex s) → is_small_cell alpha c ≡ is_admitted_cell s alpha c
+pub small_cell_is : (s : List ℕ) (alpha : ℕ) (c : Cell) → IsAscending s → IsIn c (complex s) → is_small_cell alpha c ≡ is_admitted_cell s alpha c
 small_cell_is s alpha (Open t) a i = refl
 small_cell_is s alpha (Full q) a i = admitted_cell_is s alpha q a i
 

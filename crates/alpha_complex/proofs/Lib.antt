@@ -6,3 +6,4 @@ pub mod Parts
 pub mod SmallFaces
 pub mod Admission
 pub mod Shaped
+pub mod Told

@@ -26,7 +26,7 @@ triples_ordered faces h = rw (h.1.triples, firsts_are (parts_in 3 (complex h.0))
 -- ---- the lists
 
 -- links tell which faces are small
-linked : (s : List ℕ) (alpha : ℕ) → IsAscending s → AreKeys s → Linked s alpha
+pub linked : (s : List ℕ) (alpha : ℕ) → IsAscending s → AreKeys s → Linked s alpha
 linked s alpha a keys = record { ascending = a; small = λ k p i. small_by_link s alpha k p a keys i }
 
 -- the cells

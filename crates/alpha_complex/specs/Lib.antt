@@ -4,3 +4,4 @@ pub mod Condition
 pub mod Judged
 pub mod Leasts
 pub mod Laws
+pub mod Told

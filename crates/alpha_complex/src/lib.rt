@@ -3,12 +3,23 @@
 //! Alpha is a squared radius, as in `Alpha_shape_3` of CGAL. A face of the complex is admitted where some face that contains
 //! it is Gabriel and has a smallest circumscribing sphere of a squared radius of at most alpha (Edelsbrunner and Mücke,
 //! Three-dimensional alpha shapes, 1994). The kinds are judged by cells alone. The definitions stand in `specs/Admitted.antt`.
+//!
+//! ```
+//! let faces = faces(rt, alloc, &cells)?;       // of the sorted cells of a complex
+//! let shape = alpha(rt, alloc, &faces, 300)?;  // for one squared radius, below 2^30
+//! let known = alphas(rt, alloc, &faces)?;      // for several: the least alphas of all faces, made once
+//! for radius in [100, 200, 300] {
+//!     let shape = known.shape(alloc, radius)?;
+//!     println!(rt; "{radius}: {} edges, {} cells", shape.pairs.len(), shape.cells.len())?;
+//! }
+//! ```
 #![tactic(auto)]
 
 ghost use Rattle.std.specs.Prelude.{◌≡◌, ◌<◌, ◌^◌, ℕ, List, IfOk};
 ghost use Rattle.alpha_complex.specs.Condition.{AreFaces, AreFacesOf};
 ghost use Rattle.alpha_complex.specs.Leasts.{AreKnown};
 ghost use Rattle.alpha_complex.specs.Shapes.{shape_of};
+ghost use Rattle.alpha_complex.specs.Told.{TellsFaces};
 
 mod covers;
 mod kinds;
@@ -41,6 +52,7 @@ pub fn alphas<'a, 'b, R: Threads + Sync>(
     requires { AreFaces faces.now }
     ensures faces { IfOk result (λ known. known.faces.now ≡ faces.now) }
     ensures known { IfOk result (λ known. AreKnown known) }
+    ensures told { IfOk result (λ known. (s : List ℕ) → AreFacesOf s faces.now → TellsFaces s known) }
 {
     let own = least::own_alphas(rt, alloc, faces)?;
     Ok(Alphas {

@@ -2,6 +2,17 @@
 //!
 //! The definitions stand in `specs/Faces.antt`: the points, pairs and triples inside Full cells, each once and in order,
 //! and the cells that have all points of a face.
+//!
+//! ```
+//! let cells = complex(alloc, &mesh)?;      // sorted, Full cells first
+//! let faces = faces(rt, alloc, &cells)?;   // borrows the cells
+//! for index in 0..faces.triples().len() {
+//!     let (triple, around) = faces.triple(index);  // and the numbers of its cells, Open ones too
+//!     for number in around {
+//!         println!(rt; "{triple} is in {}", faces.cells()[*number as usize])?;
+//!     }
+//! }
+//! ```
 #![tactic(auto)]
 
 ghost use Rattle.std.specs.Prelude.{◌≡◌, IfOk};
