@@ -1,6 +1,6 @@
 -- What the judging by lists comes to: which faces are admitted, and of which kind.
 use Rattle.std.proofs.Common.{◌≡◌, refl, sym, subst, ap, ◌∙◌, ℕ, ◌<◌, inl, inr, Bool, true, false, List, [], ◌∷◌, ◌++◌, map, length, arith}
-use Rattle.std.specs.Prelude.{not, ◌&&◌, ◌||◌, ◌⊎◌}
+use Rattle.std.specs.Prelude.{◌&&◌, ◌||◌}
 use Rattle.std.specs.List.{filter, list_all, list_any}
 use Rattle.point_order.specs.declared.cell.Cell.{Cell}
 use Rattle.point_order.specs.declared.cell.Cell.TheVariants.{Full, Open}
@@ -14,16 +14,16 @@ use Rattle.point_order.specs.Subsets.{subsets}
 use Rattle.del_laws.specs.Keys.{AreKeys}
 use Rattle.del_laws.proofs.Listed.{in_left, in_right, from_append, part_inside, part_ascending, part_true, listed_is_cell}
 use Rattle.del_laws.proofs.ListedParts.{listed_every_point}
-use Rattle.del_laws.proofs.Tests.{true_or_false, not_true, any_from, any_true, both_true, first_true, second_true, left_true, right_true, one_true, same_test, filtered_from, filtered_true}
+use Rattle.del_laws.proofs.Tests.{any_from, any_true, both_true, first_true, second_true, left_true, right_true, one_true, same_test, filtered_from, filtered_true}
 use Rattle.face_list.specs.Faces.{full_cells, parts_in, cells_with, with_cells, points_with_cells}
 use Rattle.face_list.proofs.FullCells.{full_cell_is_listed, listed_is_full_cell}
 use Rattle.face_list.proofs.FaceLaws.{listed_is_part, part_is_listed}
 use Rattle.gabriel_faces.specs.Gabriel.{is_gabriel}
 use Rattle.alpha_complex.specs.Admitted.{is_within, faces_inside, contains, is_small, is_admitted, is_admitted_cell, kind_by, kind}
-use Rattle.alpha_complex.specs.Judged.{is_listed, is_small_cell, is_listed_around, covers, is_small_by, is_lone, lone_among, is_admitted_triple, is_admitted_pair, kinds_by}
+use Rattle.alpha_complex.specs.Judged.{is_listed, is_small_cell, is_listed_around, covers, is_small_by, small_among, is_admitted_triple, is_admitted_pair, kinds_by}
 use Rattle.alpha_complex.specs.Shapes.{admitted_among}
 use Rattle.alpha_complex.proofs.Parts.{part_length, contained_true, contains_itself, contains_through, not_in_shorter, whole_only, same_face}
-use Rattle.alpha_complex.proofs.SmallFaces.{listed_from, listed_true, all_same, any_same, lone_are}
+use Rattle.alpha_complex.proofs.SmallFaces.{listed_from, listed_true, all_same, any_same, small_are}
 
 -- ---- Full cells of a complex
 
@@ -174,9 +174,13 @@ cell_admits s alpha p q a i c t = (
       small = both_true (is_gabriel s q) (is_within alpha q) (four_gabriel s q f.four) t;
     }))
 
--- the triples that are Gabriel and within alpha, beside no cell within alpha
-abbrev pub lone_triples : List ℕ → ℕ → List (List ℕ)
-lone_triples s alpha = lone_among alpha (with_cells (parts_in 3 (complex s)) (complex s))
+-- the triples beside the cells that contain them
+abbrev pub triples_of : List ℕ → List (List ℕ × List Cell)
+triples_of s = with_cells (parts_in 3 (complex s)) (complex s)
+
+-- the triples that are Gabriel and within alpha
+abbrev pub small_triples : List ℕ → ℕ → List (List ℕ)
+small_triples s alpha = small_among alpha (triples_of s)
 
 -- a cell around a face that is within alpha admits the face
 marked_cell_admits : (s : List ℕ) (alpha : ℕ) (p : List ℕ) (c : Cell) → IsAscending s → IsIn c (cells_with p (complex s)) → is_small_cell alpha c ≡ true → is_admitted s alpha p ≡ true
@@ -206,21 +210,17 @@ record SmallTriple (s : List ℕ) (alpha : ℕ) (t : List ℕ) : Type 0 where
   listed : IsIn t (parts_in 3 (complex s))
   small : is_small s alpha t ≡ true
 
-small_triple_from : (s : List ℕ) (alpha : ℕ) (t : List ℕ) → Linked s alpha → is_listed (lone_triples s alpha) t ≡ true → SmallTriple s alpha t
+small_triple_from : (s : List ℕ) (alpha : ℕ) (t : List ℕ) → Linked s alpha → is_listed (small_triples s alpha) t ≡ true → SmallTriple s alpha t
 small_triple_from s alpha t l e = (
-    let i = subst (λ (v : List (List ℕ)). IsIn t v) (lone_are alpha (parts_in 3 (complex s)) (complex s)) (listed_from (lone_triples s alpha) t e) in
-    let k = filtered_from (λ p. is_lone alpha (p, cells_with p (complex s))) (parts_in 3 (complex s)) t i in
-    record { listed = k.0; small = sym (l.small 3 t k.0) ∙ second_true (not (list_any (is_small_cell alpha) (cells_with t (complex s)))) (is_small_by alpha (t, cells_with t (complex s))) k.1 })
+    let i = subst (λ (v : List (List ℕ)). IsIn t v) (small_are alpha (parts_in 3 (complex s)) (complex s)) (listed_from (small_triples s alpha) t e) in
+    let k = filtered_from (λ p. is_small_by alpha (p, cells_with p (complex s))) (parts_in 3 (complex s)) t i in
+    record { listed = k.0; small = sym (l.small 3 t k.0) ∙ k.1 })
 
--- and back, unless a cell around it is within alpha
-small_triple_true : (s : List ℕ) (alpha : ℕ) (t : List ℕ) → Linked s alpha → SmallTriple s alpha t → (list_any (is_small_cell alpha) (cells_with t (complex s)) ≡ true) ⊎ (is_listed (lone_triples s alpha) t ≡ true)
-small_triple_true s alpha t l h = elim (true_or_false (list_any (is_small_cell alpha) (cells_with t (complex s)))) [
-  | inl e ↦ inl e
-  | inr e ↦ inr (
-      let k = both_true (not (list_any (is_small_cell alpha) (cells_with t (complex s)))) (is_small_by alpha (t, cells_with t (complex s))) (not_true (list_any (is_small_cell alpha) (cells_with t (complex s))) e) (l.small 3 t h.listed ∙ h.small) in
-      let i = filtered_true (λ p. is_lone alpha (p, cells_with p (complex s))) (parts_in 3 (complex s)) t h.listed k in
-      listed_true (lone_triples s alpha) t (subst (λ (v : List (List ℕ)). IsIn t v) (sym (lone_are alpha (parts_in 3 (complex s)) (complex s))) i))
-]
+-- and back
+small_triple_true : (s : List ℕ) (alpha : ℕ) (t : List ℕ) → Linked s alpha → SmallTriple s alpha t → is_listed (small_triples s alpha) t ≡ true
+small_triple_true s alpha t l h = (
+    let i = filtered_true (λ p. is_small_by alpha (p, cells_with p (complex s))) (parts_in 3 (complex s)) t h.listed (l.small 3 t h.listed ∙ h.small) in
+    listed_true (small_triples s alpha) t (subst (λ (v : List (List ℕ)). IsIn t v) (sym (small_are alpha (parts_in 3 (complex s)) (complex s))) i))
 
 -- a small triple admits what it contains
 triple_admits : (s : List ℕ) (alpha : ℕ) (p t : List ℕ) → SmallTriple s alpha t → contains t p ≡ true → is_admitted s alpha p ≡ true
@@ -230,30 +230,30 @@ triple_admits s alpha p t h c = (
 
 -- ---- triples
 
--- cells and lone triples tell which triples are admitted
-pub admitted_triple_is : (s : List ℕ) (alpha : ℕ) (p : List ℕ) → Linked s alpha → IsIn p (parts_in 3 (complex s)) → is_admitted_triple alpha (lone_triples s alpha) (p, cells_with p (complex s)) ≡ is_admitted s alpha p
-admitted_triple_is s alpha p l i = same_test (is_admitted_triple alpha (lone_triples s alpha) (p, cells_with p (complex s))) (is_admitted s alpha p) there back
+-- cells and the triple itself tell which triples are admitted
+pub admitted_triple_is : (s : List ℕ) (alpha : ℕ) (p : List ℕ) → Linked s alpha → IsIn p (parts_in 3 (complex s)) → is_admitted_triple alpha (p, cells_with p (complex s)) ≡ is_admitted s alpha p
+admitted_triple_is s alpha p l i = same_test (is_admitted_triple alpha (p, cells_with p (complex s))) (is_admitted s alpha p) there back
   where
     -- by a cell, or by itself
-    there : is_admitted_triple alpha (lone_triples s alpha) (p, cells_with p (complex s)) ≡ true → is_admitted s alpha p ≡ true
-    there t = elim (one_true (list_any (is_small_cell alpha) (cells_with p (complex s))) (is_listed (lone_triples s alpha) p) t) [
+    there : is_admitted_triple alpha (p, cells_with p (complex s)) ≡ true → is_admitted s alpha p ≡ true
+    there t = elim (one_true (list_any (is_small_cell alpha) (cells_with p (complex s))) (is_small_by alpha (p, cells_with p (complex s))) t) [
       | inl e ↦ around_admits s alpha p l.ascending e
-      | inr e ↦ triple_admits s alpha p p (small_triple_from s alpha p l e) (contains_itself p)
+      | inr e ↦ triple_admits s alpha p p (record { listed = i; small = sym (l.small 3 p i) ∙ e }) (contains_itself p)
     ]
 
     -- it is small itself
-    by_itself : SmallTriple s alpha p → is_admitted_triple alpha (lone_triples s alpha) (p, cells_with p (complex s)) ≡ true
-    by_itself h = elim (small_triple_true s alpha p l h) [ inl e ↦ left_true (list_any (is_small_cell alpha) (cells_with p (complex s))) (is_listed (lone_triples s alpha) p) e | inr e ↦ right_true (list_any (is_small_cell alpha) (cells_with p (complex s))) (is_listed (lone_triples s alpha) p) e ]
+    by_itself : SmallTriple s alpha p → is_admitted_triple alpha (p, cells_with p (complex s)) ≡ true
+    by_itself h = right_true (list_any (is_small_cell alpha) (cells_with p (complex s))) (is_small_by alpha (p, cells_with p (complex s))) (l.small 3 p i ∙ h.small)
 
     -- and so by what admits it
-    by_face : IsAscending p → length p ≡ 3 → (b : AdmittedBy s alpha p) → IsAscending b.cell → Sized b.cell b.face → is_admitted_triple alpha (lone_triples s alpha) (p, cells_with p (complex s)) ≡ true
+    by_face : IsAscending p → length p ≡ 3 → (b : AdmittedBy s alpha p) → IsAscending b.cell → Sized b.cell b.face → is_admitted_triple alpha (p, cells_with p (complex s)) ≡ true
     by_face a e b c (one j) = absurd (too_few 1 3 b.cell b.face p (omega arith) c j a e b.has)
     by_face a e b c (two j) = absurd (too_few 2 3 b.cell b.face p (omega arith) c j a e b.has)
     by_face a e b c (three j) = by_itself (record { listed = i; small = subst (λ v. is_small s alpha v ≡ true) (as_many 3 b.cell b.face p c j a e b.has) b.small })
-    by_face a e b c (four j) = left_true (list_any (is_small_cell alpha) (cells_with p (complex s))) (is_listed (lone_triples s alpha) p) (around_of s alpha p l.ascending b j)
+    by_face a e b c (four j) = left_true (list_any (is_small_cell alpha) (cells_with p (complex s))) (is_small_by alpha (p, cells_with p (complex s))) (around_of s alpha p l.ascending b j)
 
     -- whatever it is
-    back : is_admitted s alpha p ≡ true → is_admitted_triple alpha (lone_triples s alpha) (p, cells_with p (complex s)) ≡ true
+    back : is_admitted s alpha p ≡ true → is_admitted_triple alpha (p, cells_with p (complex s)) ≡ true
     back t = (
         let b = admitted_from s alpha p t in
         let h = listed_is_part 3 (complex s) p i in
@@ -279,62 +279,52 @@ triple_facet (a ∷ b ∷ c ∷ d ∷ []) t e i = elim i [
 ]
 triple_facet (a ∷ b ∷ c ∷ d ∷ e ∷ q) t f i = absurd (omega arith)
 
--- cells and lone triples tell which pairs are admitted
-pub admitted_pair_is : (s : List ℕ) (alpha : ℕ) (p : List ℕ) → Linked s alpha → IsIn p (parts_in 2 (complex s)) → is_admitted_pair alpha (lone_triples s alpha) (p, cells_with p (complex s)) ≡ is_admitted s alpha p
-admitted_pair_is s alpha p l i = same_test (is_admitted_pair alpha (lone_triples s alpha) (p, cells_with p (complex s))) (is_admitted s alpha p) there back
+-- cells and small triples tell which pairs are admitted
+pub admitted_pair_is : (s : List ℕ) (alpha : ℕ) (p : List ℕ) → Linked s alpha → IsIn p (parts_in 2 (complex s)) → is_admitted_pair (triples_of s) alpha (p, cells_with p (complex s)) ≡ is_admitted s alpha p
+admitted_pair_is s alpha p l i = same_test (is_admitted_pair (triples_of s) alpha (p, cells_with p (complex s))) (is_admitted s alpha p) there back
   where
     -- a facet that covers it
-    by_facet : (f : Facet) → is_listed_around (lone_triples s alpha) p f ≡ true → is_admitted s alpha p ≡ true
+    by_facet : (f : Facet) → is_listed_around (small_triples s alpha) p f ≡ true → is_admitted s alpha p ≡ true
     by_facet (Two q) e = cc
-    by_facet (Three t) e = triple_admits s alpha p t (small_triple_from s alpha t l (second_true (contains t p) (is_listed (lone_triples s alpha) t) e)) (first_true (contains t p) (is_listed (lone_triples s alpha) t) e)
+    by_facet (Three t) e = triple_admits s alpha p t (small_triple_from s alpha t l (second_true (contains t p) (is_listed (small_triples s alpha) t) e)) (first_true (contains t p) (is_listed (small_triples s alpha) t) e)
 
     -- by itself, or by a triple around it
-    by_less : (is_small_by alpha (p, cells_with p (complex s)) || list_any (covers (lone_triples s alpha) p) (cells_with p (complex s))) ≡ true → is_admitted s alpha p ≡ true
-    by_less t = elim (one_true (is_small_by alpha (p, cells_with p (complex s))) (list_any (covers (lone_triples s alpha) p) (cells_with p (complex s))) t) [
+    by_less : (is_small_by alpha (p, cells_with p (complex s)) || list_any (covers (small_triples s alpha) p) (cells_with p (complex s))) ≡ true → is_admitted s alpha p ≡ true
+    by_less t = elim (one_true (is_small_by alpha (p, cells_with p (complex s))) (list_any (covers (small_triples s alpha) p) (cells_with p (complex s))) t) [
       | inl e ↦ (
           let k = listed_is_part 2 (complex s) p i in
           admitted_true s alpha p (record { cell = k.q; listed = k.listed; face = p; inside = inside_2 k.q p k.part; has = contains_itself p; small = sym (l.small 2 p i) ∙ e }))
       | inr e ↦ (
-          let k = any_from (covers (lone_triples s alpha) p) (cells_with p (complex s)) e in
-          let m = any_from (is_listed_around (lone_triples s alpha) p) (facets_of k.0) k.2 in
+          let k = any_from (covers (small_triples s alpha) p) (cells_with p (complex s)) e in
+          let m = any_from (is_listed_around (small_triples s alpha) p) (facets_of k.0) k.2 in
           by_facet m.0 m.2)
     ]
 
     -- or by a cell
-    there : is_admitted_pair alpha (lone_triples s alpha) (p, cells_with p (complex s)) ≡ true → is_admitted s alpha p ≡ true
-    there t = elim (one_true (list_any (is_small_cell alpha) (cells_with p (complex s))) (is_small_by alpha (p, cells_with p (complex s)) || list_any (covers (lone_triples s alpha) p) (cells_with p (complex s))) t) [ inl e ↦ around_admits s alpha p l.ascending e | inr e ↦ by_less e ]
-
-    -- a cell within alpha around a triple that contains it is around it too
-    by_cell : (t : List ℕ) → contains t p ≡ true → list_any (is_small_cell alpha) (cells_with t (complex s)) ≡ true → is_admitted_pair alpha (lone_triples s alpha) (p, cells_with p (complex s)) ≡ true
-    by_cell t c e = (
-        let k = any_from (is_small_cell alpha) (cells_with t (complex s)) e in
-        let m = filtered_from (λ c. contains (points_of c) t) (complex s) k.0 k.1 in
-        let has : contains (points_of k.0) p ≡ true = contains_through (points_of k.0) t p m.1 c in
-        left_true (list_any (is_small_cell alpha) (cells_with p (complex s))) (is_small_by alpha (p, cells_with p (complex s)) || list_any (covers (lone_triples s alpha) p) (cells_with p (complex s))) (any_true (is_small_cell alpha) (cells_with p (complex s)) k.0 (filtered_true (λ c. contains (points_of c) p) (complex s) k.0 m.0 has) k.2))
+    there : is_admitted_pair (triples_of s) alpha (p, cells_with p (complex s)) ≡ true → is_admitted s alpha p ≡ true
+    there t = elim (one_true (list_any (is_small_cell alpha) (cells_with p (complex s))) (is_small_by alpha (p, cells_with p (complex s)) || list_any (covers (small_triples s alpha) p) (cells_with p (complex s))) t) [ inl e ↦ around_admits s alpha p l.ascending e | inr e ↦ by_less e ]
 
     -- a small triple of a Full cell that contains it
-    by_triple : (b : AdmittedBy s alpha p) → IsFour b.cell → IsIn b.face (subsets 3 b.cell) → is_admitted_pair alpha (lone_triples s alpha) (p, cells_with p (complex s)) ≡ true
-    by_triple b f j = elim (small_triple_true s alpha b.face l (record { listed = part_is_listed 3 (complex s) b.face (record { q = b.cell; listed = b.listed; part = j }); small = b.small })) [
-      | inl e ↦ by_cell b.face b.has e
-      | inr e ↦ (
-          let has : contains b.cell p ≡ true = contains_through b.cell b.face p (contained_true b.cell b.face (part_inside 3 b.cell b.face j)) b.has in
-          let t : is_listed_around (lone_triples s alpha) p (Three b.face) ≡ true = both_true (contains b.face p) (is_listed (lone_triples s alpha) b.face) b.has e in
-          right_true (list_any (is_small_cell alpha) (cells_with p (complex s))) (is_small_by alpha (p, cells_with p (complex s)) || list_any (covers (lone_triples s alpha) p) (cells_with p (complex s)))
-          (right_true (is_small_by alpha (p, cells_with p (complex s))) (list_any (covers (lone_triples s alpha) p) (cells_with p (complex s)))
-          (any_true (covers (lone_triples s alpha) p) (cells_with p (complex s)) (Full b.cell) (filtered_true (λ c. contains (points_of c) p) (complex s) (Full b.cell) b.listed has)
-          (any_true (is_listed_around (lone_triples s alpha) p) (facets_of (Full b.cell)) (Three b.face) (triple_facet b.cell b.face f.four j) t))))
-    ]
+    by_triple : (b : AdmittedBy s alpha p) → IsFour b.cell → IsIn b.face (subsets 3 b.cell) → is_admitted_pair (triples_of s) alpha (p, cells_with p (complex s)) ≡ true
+    by_triple b f j = (
+        let e = small_triple_true s alpha b.face l (record { listed = part_is_listed 3 (complex s) b.face (record { q = b.cell; listed = b.listed; part = j }); small = b.small }) in
+        let has : contains b.cell p ≡ true = contains_through b.cell b.face p (contained_true b.cell b.face (part_inside 3 b.cell b.face j)) b.has in
+        let t : is_listed_around (small_triples s alpha) p (Three b.face) ≡ true = both_true (contains b.face p) (is_listed (small_triples s alpha) b.face) b.has e in
+        right_true (list_any (is_small_cell alpha) (cells_with p (complex s))) (is_small_by alpha (p, cells_with p (complex s)) || list_any (covers (small_triples s alpha) p) (cells_with p (complex s)))
+        (right_true (is_small_by alpha (p, cells_with p (complex s))) (list_any (covers (small_triples s alpha) p) (cells_with p (complex s)))
+        (any_true (covers (small_triples s alpha) p) (cells_with p (complex s)) (Full b.cell) (filtered_true (λ c. contains (points_of c) p) (complex s) (Full b.cell) b.listed has)
+        (any_true (is_listed_around (small_triples s alpha) p) (facets_of (Full b.cell)) (Three b.face) (triple_facet b.cell b.face f.four j) t))))
 
     -- and so by what admits it
-    by_face : IsAscending p → length p ≡ 2 → (b : AdmittedBy s alpha p) → IsFour b.cell → Sized b.cell b.face → is_admitted_pair alpha (lone_triples s alpha) (p, cells_with p (complex s)) ≡ true
+    by_face : IsAscending p → length p ≡ 2 → (b : AdmittedBy s alpha p) → IsFour b.cell → Sized b.cell b.face → is_admitted_pair (triples_of s) alpha (p, cells_with p (complex s)) ≡ true
     by_face a e b f (one j) = absurd (too_few 1 2 b.cell b.face p (omega arith) f.ascending j a e b.has)
-    by_face a e b f (two j) = right_true (list_any (is_small_cell alpha) (cells_with p (complex s))) (is_small_by alpha (p, cells_with p (complex s)) || list_any (covers (lone_triples s alpha) p) (cells_with p (complex s)))
-        (left_true (is_small_by alpha (p, cells_with p (complex s))) (list_any (covers (lone_triples s alpha) p) (cells_with p (complex s))) (l.small 2 p i ∙ subst (λ v. is_small s alpha v ≡ true) (as_many 2 b.cell b.face p f.ascending j a e b.has) b.small))
+    by_face a e b f (two j) = right_true (list_any (is_small_cell alpha) (cells_with p (complex s))) (is_small_by alpha (p, cells_with p (complex s)) || list_any (covers (small_triples s alpha) p) (cells_with p (complex s)))
+        (left_true (is_small_by alpha (p, cells_with p (complex s))) (list_any (covers (small_triples s alpha) p) (cells_with p (complex s))) (l.small 2 p i ∙ subst (λ v. is_small s alpha v ≡ true) (as_many 2 b.cell b.face p f.ascending j a e b.has) b.small))
     by_face a e b f (three j) = by_triple b f j
-    by_face a e b f (four j) = left_true (list_any (is_small_cell alpha) (cells_with p (complex s))) (is_small_by alpha (p, cells_with p (complex s)) || list_any (covers (lone_triples s alpha) p) (cells_with p (complex s))) (around_of s alpha p l.ascending b j)
+    by_face a e b f (four j) = left_true (list_any (is_small_cell alpha) (cells_with p (complex s))) (is_small_by alpha (p, cells_with p (complex s)) || list_any (covers (small_triples s alpha) p) (cells_with p (complex s))) (around_of s alpha p l.ascending b j)
 
     -- whatever it is
-    back : is_admitted s alpha p ≡ true → is_admitted_pair alpha (lone_triples s alpha) (p, cells_with p (complex s)) ≡ true
+    back : is_admitted s alpha p ≡ true → is_admitted_pair (triples_of s) alpha (p, cells_with p (complex s)) ≡ true
     back t = (
         let b = admitted_from s alpha p t in
         let h = listed_is_part 2 (complex s) p i in
@@ -343,7 +333,7 @@ admitted_pair_is s alpha p l i = same_test (is_admitted_pair alpha (lone_triples
 -- ---- kinds
 
 -- the cells within alpha are the admitted ones
-small_cell_is : (s : List ℕ) (alpha : ℕ) (c : Cell) → IsAscending s → IsIn c (complex s) → is_small_cell alpha c ≡ is_admitted_cell s alpha c
+pub small_cell_is : (s : List ℕ) (alpha : ℕ) (c : Cell) → IsAscending s → IsIn c (complex s) → is_small_cell alpha c ≡ is_admitted_cell s alpha c
 small_cell_is s alpha (Open t) a i = refl
 small_cell_is s alpha (Full q) a i = admitted_cell_is s alpha q a i
 

@@ -2,10 +2,8 @@
 use Rattle.std.proofs.Common.{◌≡◌, refl, sym, subst, ap, ◌∙◌, ℕ, inl, inr, Bool, true, false, List, [], ◌∷◌, map}
 use Rattle.std.specs.Prelude.{◌&&◌}
 use Rattle.std.specs.List.{filter, list_all, list_any}
-use Rattle.std.specs.List.Sorted.{IsStrictlySortedBy}
 use Rattle.std.specs.Ordering.{nat_cmp, is_eq}
 use Rattle.std.specs.Cmp.Lexicographic.{slice_cmp}
-use Rattle.std.proofs.lemmas.List.Kept.{IsStrictlySortedBy-filter}
 use Rattle.std.proofs.lemmas.Map.Text.{is_eq-slice_cmp}
 use Rattle.std.proofs.lemmas.Slice.Eq.{bytes_eq-Decides}
 use Rattle.point_order.specs.declared.cell.Cell.{Cell}
@@ -14,12 +12,11 @@ use Rattle.point_order.specs.Sets.{IsIn, IsAscending}
 use Rattle.del_laws.specs.Keys.{AreKeys}
 use Rattle.del_laws.proofs.Tests.{any_from, any_true}
 use Rattle.face_list.specs.Faces.{parts_in, cells_with, with_cells}
-use Rattle.face_list.proofs.FaceLaws.{parts_in_order}
 use Rattle.gabriel_faces.specs.Links.{link_of}
 use Rattle.gabriel_faces.proofs.JudgedByLink.{judged_by_link}
 use Rattle.gabriel_faces.proofs.Links.{listed_is_face, link_is_link}
 use Rattle.alpha_complex.specs.Admitted.{is_within, is_small}
-use Rattle.alpha_complex.specs.Judged.{is_listed, is_small_by, is_lone, lone_among}
+use Rattle.alpha_complex.specs.Judged.{is_listed, is_small_by, small_among}
 
 -- ---- lists
 
@@ -74,16 +71,14 @@ listed_true list p i = any_true (λ q. is_eq (slice_cmp nat_cmp q p)) list p i (
 
 -- ---- faces beside their cells
 
--- the lone ones among faces beside their cells
-pub lone_are : (alpha : ℕ) (faces : List (List ℕ)) (cells : List Cell) → lone_among alpha (with_cells faces cells) ≡ filter (λ p. is_lone alpha (p, cells_with p cells)) faces
-lone_are alpha faces cells = firsts_kept (is_lone alpha) (λ p. cells_with p cells) faces
+-- the small ones among faces beside their cells
+pub small_are : (alpha : ℕ) (faces : List (List ℕ)) (cells : List Cell) → small_among alpha (with_cells faces cells) ≡ filter (λ p. is_small_by alpha (p, cells_with p cells)) faces
+small_are alpha faces cells = firsts_kept (is_small_by alpha) (λ p. cells_with p cells) faces
 
--- those of k points are in order
-pub lone_in_order : (alpha k : ℕ) (cells : List Cell) → IsStrictlySortedBy (slice_cmp nat_cmp) (lone_among alpha (with_cells (parts_in k cells) cells))
-lone_in_order alpha k cells = (
-    let t = λ (p : List ℕ). is_lone alpha (p, cells_with p cells) in
-    rw (lone_are alpha (parts_in k cells) cells)
-    (IsStrictlySortedBy-filter (slice_cmp nat_cmp) t (parts_in k cells) (parts_in_order k cells)))
+-- faces beside their cells are in order where the faces are
+pub firsts_are : (faces : List (List ℕ)) (cells : List Cell) → map (λ f. f.0) (with_cells faces cells) ≡ faces
+firsts_are [] cells = refl
+firsts_are (p ∷ faces) cells = ap (λ l. p ∷ l) (firsts_are faces cells)
 
 -- a listed face is small by its link where it is in the set
 pub small_by_link : (s : List ℕ) (alpha k : ℕ) (p : List ℕ) → IsAscending s → AreKeys s → IsIn p (parts_in k (complex s)) → is_small_by alpha (p, cells_with p (complex s)) ≡ is_small s alpha p

@@ -1,5 +1,5 @@
 -- How faces are judged by lists, as private functions promise it.
-use Rattle.std.specs.Prelude.{◌≡◌, ℕ, length, Bool, false, not, ◌||◌, ◌&&◌, List, map}
+use Rattle.std.specs.Prelude.{ℕ, Bool, false, ◌||◌, ◌&&◌, List, map}
 use Rattle.std.specs.List.{filter, list_any}
 use Rattle.std.specs.Ordering.{nat_cmp, is_eq}
 use Rattle.std.specs.Cmp.Lexicographic.{slice_cmp}
@@ -9,14 +9,9 @@ use Rattle.point_order.specs.declared.cell.Facet.{Facet}
 use Rattle.point_order.specs.declared.cell.Facet.TheVariants.{Three, Two}
 use Rattle.point_order.specs.Facets.{facets_of}
 use Rattle.alpha_complex.specs.declared.shape.Kind.{Kind}
-use Rattle.point_order.specs.Sets.{IsIn}
 use Rattle.gabriel_faces.specs.Gabriel.{is_gabriel}
 use Rattle.gabriel_faces.specs.Links.{link_of}
 use Rattle.alpha_complex.specs.Admitted.{contains, is_within, kind_by}
-
--- each of the faces is a pair
-pub record ArePairs (faces : List (List ℕ × List Cell)) : Type 0 where
-  pub two : (f : List ℕ × List Cell) → IsIn f faces → length f.0 ≡ 2
 
 -- the face, beside the cells that contain it, is Gabriel in its link, and within alpha
 abbrev pub is_small_by : ℕ → List ℕ × List Cell → Bool
@@ -27,17 +22,9 @@ abbrev pub is_small_cell : ℕ → Cell → Bool
 is_small_cell alpha (Full q) = is_within alpha q
 is_small_cell alpha (Open t) = false
 
--- a mark for each cell, whether it is
-abbrev pub AreMarks : ℕ → List Cell → List Bool → Type 0
-AreMarks alpha cells marks = marks ≡ map (is_small_cell alpha) cells
-
--- the face is, beside cells that are Open or beyond alpha
-abbrev pub is_lone : ℕ → List ℕ × List Cell → Bool
-is_lone alpha f = not (list_any (is_small_cell alpha) f.1) && is_small_by alpha f
-
--- those of the faces that are
-abbrev pub lone_among : ℕ → List (List ℕ × List Cell) → List (List ℕ)
-lone_among alpha faces = map (λ f. f.0) (filter (is_lone alpha) faces)
+-- those of the faces that are Gabriel in their links and within alpha
+abbrev pub small_among : ℕ → List (List ℕ × List Cell) → List (List ℕ)
+small_among alpha faces = map (λ f. f.0) (filter (is_small_by alpha) faces)
 
 -- the points are one of the list
 abbrev pub is_listed : List (List ℕ) → List ℕ → Bool
@@ -56,11 +43,11 @@ covers triples pair cell = list_any (is_listed_around triples pair) (facets_of c
 abbrev pub kinds_by : {X : Type 0} → ℕ → List (X × List Cell) → List (X × Kind)
 kinds_by alpha faces = map (λ f. (f.0, kind_by (is_small_cell alpha) f.1)) faces
 
--- some cell within alpha contains the triple, or it is one of the lone ones
-abbrev pub is_admitted_triple : ℕ → List (List ℕ) → List ℕ × List Cell → Bool
-is_admitted_triple alpha lone face = list_any (is_small_cell alpha) face.1 || is_listed lone face.0
+-- some cell within alpha contains the triple, or it is itself Gabriel and within alpha
+abbrev pub is_admitted_triple : ℕ → List ℕ × List Cell → Bool
+is_admitted_triple alpha face = list_any (is_small_cell alpha) face.1 || is_small_by alpha face
 
--- some cell within alpha contains the pair, or it is itself Gabriel and within alpha, or a lone triple contains it
-abbrev pub is_admitted_pair : ℕ → List (List ℕ) → List ℕ × List Cell → Bool
-is_admitted_pair alpha lone face =
-    list_any (is_small_cell alpha) face.1 || (is_small_by alpha face || list_any (covers lone face.0) face.1)
+-- some cell within alpha contains the pair, or it is itself Gabriel and within alpha, or a triple that is contains it
+abbrev pub is_admitted_pair : List (List ℕ × List Cell) → ℕ → List ℕ × List Cell → Bool
+is_admitted_pair triples alpha face =
+    list_any (is_small_cell alpha) face.1 || (is_small_by alpha face || list_any (covers (small_among alpha triples) face.0) face.1)

@@ -3,34 +3,82 @@
 //! Alpha is a squared radius, as in `Alpha_shape_3` of CGAL. A face of the complex is admitted where some face that contains
 //! it is Gabriel and has a smallest circumscribing sphere of a squared radius of at most alpha (Edelsbrunner and Mücke,
 //! Three-dimensional alpha shapes, 1994). The kinds are judged by cells alone. The definitions stand in `specs/Admitted.antt`.
+//!
+//! ```
+//! let faces = faces(rt, alloc, &cells)?;       // of the sorted cells of a complex
+//! let shape = alpha(rt, alloc, &faces, 300)?;  // for one squared radius, below 2^30
+//! let known = alphas(rt, alloc, &faces)?;      // for several: the least alphas of all faces, made once
+//! for radius in [100, 200, 300] {
+//!     let shape = known.shape(alloc, radius)?;
+//!     println!(rt; "{radius}: {} edges, {} cells", shape.pairs.len(), shape.cells.len())?;
+//! }
+//! ```
 #![tactic(auto)]
 
 ghost use Rattle.std.specs.Prelude.{◌≡◌, ◌<◌, ◌^◌, ℕ, List, IfOk};
 ghost use Rattle.alpha_complex.specs.Condition.{AreFaces, AreFacesOf};
+ghost use Rattle.alpha_complex.specs.Leasts.{AreKnown};
 ghost use Rattle.alpha_complex.specs.Shapes.{shape_of};
+ghost use Rattle.alpha_complex.specs.Told.{TellsFaces};
 
+mod covers;
 mod kinds;
 pub mod laws;
-mod marks;
-mod search;
+mod least;
+pub mod numbers;
+mod owns;
+mod rounds;
 pub mod shape;
-mod small;
 
 use face_list::Faces;
+pub use numbers::{Alphas, FaceAlphas};
 pub use shape::{Kind, Shape};
 use std::alloc::{AllocError, Global};
+use std::thread::Threads;
+
+/// The least alphas of all faces of a complex, made once for any number of alphas: at which a face is admitted, and some and all of the
+/// cells that contain it are.
+///
+/// The faces are what `face_list::faces` gives of the complex of a solid set, its cells in order. Each Gabriel test is made once, and each
+/// squared radius is taken once, by several threads, as many as there are processors; the numbers are those that one thread would give.
+///
+/// # Errors
+/// Want of memory.
+pub fn alphas<'a, 'b, R: Threads + Sync>(
+    rt: &R,
+    alloc: Global,
+    faces: &'a Faces<'b>,
+) -> Result<Alphas<'a, 'b>, AllocError>
+    requires { AreFaces faces.now }
+    ensures faces { IfOk result (λ known. known.faces.now ≡ faces.now) }
+    ensures known { IfOk result (λ known. AreKnown known) }
+    ensures told { IfOk result (λ known. (s : List ℕ) → AreFacesOf s faces.now → TellsFaces s known) }
+{
+    let own = least::own_alphas(rt, alloc, faces)?;
+    Ok(Alphas {
+        faces,
+        points: least::alphas_of_points(rt, alloc, &own)?,
+        pairs: least::alphas_of_pairs(rt, alloc, &own)?,
+        triples: least::alphas_of_triples(rt, alloc, &own)?,
+        cells: own.cells,
+    })
+}
 
 /// The alpha complex for one alpha, a squared radius below 2^30: all points, and the admitted pairs, triples and Full cells, each
 /// list in order, and each point, pair and triple with its kind.
 ///
 /// The faces are what `face_list::faces` gives of the complex of a solid set, its cells in order.
 ///
-/// Each radius is compared once, and each Gabriel test is made at most once, and none for a face of an admitted cell. Kinds are
-/// read from a mark for each cell, and no pass is made over all pairs of faces (no clause counts the work).
+/// It makes the numbers of all faces, as `alphas` does, and compares them: for several alphas `alphas` is to be called once.
 ///
 /// # Errors
 /// Want of memory.
-pub fn alpha<R>(_rt: &R, alloc: Global, faces: &Faces, alpha: u64) -> Result<Shape, AllocError>
+pub fn alpha<R: Threads + Sync>(
+    rt: &R,
+    alloc: Global,
+    faces: &Faces,
+    alpha: u64,
+) -> Result<Shape, AllocError>
     requires faces { AreFaces faces.now }
     requires alpha { alpha < 2 ^ 30 }
     ensures points { IfOk result (λ shape. (s : List ℕ) → AreFacesOf s faces.now → shape.points.items ≡ (shape_of s alpha).points) }
@@ -38,12 +86,6 @@ pub fn alpha<R>(_rt: &R, alloc: Global, faces: &Faces, alpha: u64) -> Result<Sha
     ensures triples { IfOk result (λ shape. (s : List ℕ) → AreFacesOf s faces.now → shape.triples.items ≡ (shape_of s alpha).triples) }
     ensures cells { IfOk result (λ shape. (s : List ℕ) → AreFacesOf s faces.now → shape.cells.items ≡ (shape_of s alpha).cells) }
 {
-    let marks = marks::mark(alloc, faces.cells(), alpha)?;
-    let lone = small::lone_triples(alloc, &marks, faces)?;
-    Ok(Shape {
-        points: kinds::points_with_kinds(alloc, &marks, faces)?,
-        pairs: kinds::pairs_with_kinds(alloc, &marks, &lone, faces)?,
-        triples: kinds::triples_with_kinds(alloc, &marks, &lone, faces)?,
-        cells: marks::marked_cells(alloc, &marks)?,
-    })
+    let known = alphas(rt, alloc, faces)?;
+    known.shape(alloc, alpha)
 }

@@ -49,7 +49,7 @@ fn order_of(alloc: Global, order: bool, entries: &[Entry]) -> Result<Option<Vec<
 }
 
 // The alpha complex for each radius, where they are asked for.
-fn shapes_of<R>(
+fn shapes_of<R: Threads + Sync>(
     rt: &R,
     alloc: Global,
     shape: bool,
@@ -71,7 +71,7 @@ fn shapes_of<R>(
 }
 
 // The report of the mesh of a file's lines, and of its history. The mesh is let go before the shapes are made.
-fn report<R>(
+fn report<R: Threads + Sync>(
     rt: &R,
     alloc: Global,
     asked: Asked,

@@ -8,10 +8,11 @@ ghost use Rattle.del_laws.specs.Keys.{AreKeys};
 ghost use Rattle.alpha_complex.specs.Shapes.{shape_of};
 ghost use Rattle.mesh_files.specs.Report.{shapes_seen};
 
-use alpha_complex::{Shape, alpha};
+use alpha_complex::{Shape, alphas};
 use face_list::faces;
 use point_order::{Cell, Point};
 use std::alloc::{AllocError, Global};
+use std::thread::Threads;
 
 // Every point of a list is below 2^42, as each by itself is. The loop carries that to the list and does nothing else.
 fn all_keys(points: &[Point])
@@ -22,8 +23,9 @@ fn all_keys(points: &[Point])
     }
 }
 
-/// The alpha complex for each of the radii, in their order, of a solid set of points and the cells of its complex.
-pub fn shapes<R>(
+/// The alpha complex for each of the radii, in their order, of a solid set of points and the cells of its complex. The least alphas of
+/// its faces are made once.
+pub fn shapes<R: Threads + Sync>(
     rt: &R,
     alloc: Global,
     points: &[Point],
@@ -38,9 +40,10 @@ pub fn shapes<R>(
 {
     all_keys(points);
     let faces = faces(rt, alloc, cells)?;
+    let known = alphas(rt, alloc, &faces)?;
     let mut shapes = Vec::new(alloc);
     for radius in radii {
-        shapes.push((*radius, alpha(rt, alloc, &faces, *radius)?))?;
+        shapes.push((*radius, known.shape(alloc, *radius)?))?;
     }
     Ok(shapes)
 }

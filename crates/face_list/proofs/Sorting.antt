@@ -43,6 +43,14 @@ pub in_all : {X : Type 0} (P : X → Type 0) (l : List X) → ((x : X) → IsIn 
 in_all P [] f = tt
 in_all P (y ∷ l) f = (f y (inl refl), in_all P l (λ x i. f x (inr i)))
 
+-- the front of a list that goes on behind others is these
+pub front_is : {X : Type 0} (ws m : List X) (n : ℕ) → n ≡ length ws → take n (ws ++ m) ≡ ws
+front_is ws m n e = rw e (go ws m)
+  where
+    go : {X : Type 0} (ws m : List X) → take (length ws) (ws ++ m) ≡ ws
+    go [] m = refl
+    go {X} (x ∷ ws) m = ap (λ (l : List X). x ∷ l) (go ws m)
+
 -- ---- orders
 
 -- nothing is before itself
@@ -139,12 +147,19 @@ is_equal Less e = cc
 is_equal Equal e = refl
 is_equal Greater e = cc
 
+-- those of a list are those of its arrangements
+pub arranged_same : {X : Type 0} (l sorted : List X) → IsPermutation l sorted → (x : X) → (IsIn x sorted → IsIn x l) × (IsIn x l → IsIn x sorted)
+arranged_same l sorted p x = (
+  λ i. in_contained l x (Contains-permutation sorted l x (IsPermutation-sym l sorted p) (contains_in sorted x i)),
+  λ i. in_contained sorted x (Contains-permutation l sorted x p (contains_in l x i)),
+)
+
 pub deduped_same :
     {X : Type 0} (cmp : X → X → Ordering) (o : IsTotalOrder cmp) (exact : CmpEqualImpliesEq cmp) (same : X → X → Bool) → ((x y : X) → same x y ≡ eq_by_cmp cmp x y) →
-    (l sorted deduped : List X) → IsPermutation l sorted → deduped ≡ dedup same sorted → (x : X) → (IsIn x deduped → IsIn x l) × (IsIn x l → IsIn x deduped)
-deduped_same {X} cmp o exact same ties l sorted deduped p e x = (
-  λ i. in_contained l x (Contains-permutation sorted l x (IsPermutation-sym l sorted p) (Contains-from_dedup same sorted x (contains_in (dedup same sorted) x (subst (IsIn x) e i)))),
-  λ i. subst (IsIn x) (sym e) (in_contained (dedup same sorted) x (Contains-dedup equivalence (λ y z h. exact y z (is_equal (cmp y z) (sym (ties y z) ∙ h))) sorted x (Contains-permutation l sorted x p (contains_in l x i)))),
+    (l deduped : List X) → deduped ≡ dedup same l → (x : X) → (IsIn x deduped → IsIn x l) × (IsIn x l → IsIn x deduped)
+deduped_same {X} cmp o exact same ties l deduped e x = (
+  λ i. in_contained l x (Contains-from_dedup same l x (contains_in (dedup same l) x (subst (IsIn x) e i))),
+  λ i. subst (IsIn x) (sym e) (in_contained (dedup same l) x (Contains-dedup equivalence (λ y z h. exact y z (is_equal (cmp y z) (sym (ties y z) ∙ h))) l x (contains_in l x i))),
 )
   where
     q : IsEquivalence (eq_by_cmp cmp)

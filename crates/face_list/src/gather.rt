@@ -1,7 +1,7 @@
 //! Cells gathered under keys, by sorting.
 
 ghost use Rattle.std.specs.Prelude.{◌≡◌, ◌<◌, ◌≤◌, ◌^◌, ◌++◌, ◌⊎◌, ◌↔◌, ℕ, [], ◌∷◌, false, length, map, IfOk, OnOk};
-ghost use Rattle.std.specs.List.Sorted.{IsStrictlySortedBy};
+ghost use Rattle.std.specs.List.Sorted.{IsSorted, IsStrictlySortedBy};
 ghost use Rattle.std.specs.Ordering.{is_gt, is_lt};
 ghost use Rattle.std.specs.declared.cmp.Ordering.TheVariants.{Less};
 ghost use Rattle.std.proofs.lemmas.Map.Lookups.{CmpEqualImpliesEq};
@@ -11,18 +11,33 @@ ghost use Rattle.face_list.specs.Tables.{AreStops, IsTable, stretches};
 
 use crate::table::Table;
 use point_order::Cell;
+use rayon::slice::par_sort_unstable;
 use std::alloc::{AllocError, Global};
 use std::cmp::Ordering;
+use std::thread::Threads;
 
-// The items in order, each once.
-fn in_order<K: Ord + Copy>(mut items: Vec<(K, u32)>) -> Vec<(K, u32)>
+// Items in order, each once.
+fn each_once<K: Ord + Copy>(mut items: Vec<(K, u32)>) -> Vec<(K, u32)>
+    requires exact { CmpEqualImpliesEq K.cmp }
+    requires order { IsSorted (item_cmp K.cmp) items.items }
+    ensures order { IsStrictlySortedBy (item_cmp K.cmp) result.items }
+    ensures same { (i : K × ℕ) → IsIn i result.items ↔ IsIn i items.items }
+{
+    items.dedup();
+    items
+}
+
+// The items in order, each once, sorted by several threads.
+fn in_order<R: Threads + Sync, K: Ord + Copy + Send>(
+    rt: &R,
+    mut items: Vec<(K, u32)>,
+) -> Vec<(K, u32)>
     requires { CmpEqualImpliesEq K.cmp }
     ensures order { IsStrictlySortedBy (item_cmp K.cmp) result.items }
     ensures same { (i : K × ℕ) → IsIn i result.items ↔ IsIn i items.items }
 {
-    items.sort_unstable();
-    items.dedup();
-    items
+    par_sort_unstable(rt, &mut items);
+    each_once(items)
 }
 
 fn is_full(cell: &Cell) -> bool
@@ -137,7 +152,8 @@ fn with_numbers<K: Ord + Copy>(
 
 // Each key of a Full cell, in order, with the numbers of the cells of its items, in order. It is refused as want of memory where
 // there are more numbers than 32 bits count.
-pub fn gather<K: Ord + Copy>(
+pub fn gather<R: Threads + Sync, K: Ord + Copy + Send>(
+    rt: &R,
     alloc: Global,
     cells: &[Cell],
     items: Vec<(K, u32)>,
@@ -147,7 +163,7 @@ pub fn gather<K: Ord + Copy>(
     ensures gathers { IfOk result (λ t. Gathers K.cmp cells.now items.items t) }
     ensures table { IfOk result (λ t. IsTable (length cells.now) t) }
 {
-    let items = in_order(items);
+    let items = in_order(rt, items);
     let keys = keys_of_full(alloc, cells, &items)?;
     let table = with_numbers(alloc, keys, &items)?;
     Ok(table)

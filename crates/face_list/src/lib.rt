@@ -2,6 +2,17 @@
 //!
 //! The definitions stand in `specs/Faces.antt`: the points, pairs and triples inside Full cells, each once and in order,
 //! and the cells that have all points of a face.
+//!
+//! ```
+//! let cells = complex(alloc, &mesh)?;      // sorted, Full cells first
+//! let faces = faces(rt, alloc, &cells)?;   // borrows the cells
+//! for index in 0..faces.triples().len() {
+//!     let (triple, around) = faces.triple(index);  // and the numbers of its cells, Open ones too
+//!     for number in around {
+//!         println!(rt; "{triple} is in {}", faces.cells()[*number as usize])?;
+//!     }
+//! }
+//! ```
 #![tactic(auto)]
 
 ghost use Rattle.std.specs.Prelude.{◌≡◌, IfOk};
@@ -17,6 +28,7 @@ mod table;
 pub use face::Faces;
 use point_order::Cell;
 use std::alloc::{AllocError, Global};
+use std::thread::Threads;
 
 /// The faces of the cells: the points, pairs and triples inside Full cells, each with the cells that contain it, and the
 /// cells themselves.
@@ -25,11 +37,16 @@ use std::alloc::{AllocError, Global};
 /// sorted cells of a complex the Full cells come sorted too. `laws` says what the definitions come to: the lists of faces are
 /// strictly sorted and have exactly the parts of Full cells, and the points of a complex are all points of its set.
 ///
-/// The cells are gathered under their parts by sorting, with no pass over all pairs of cells and faces.
+/// The cells are gathered under their parts by sorting, with no pass over all pairs of cells and faces. Several threads sort, as
+/// many as there are processors; the faces are those that one thread would give.
 ///
 /// # Errors
 /// Want of memory. Where 32 bits do not count the cells around all faces, there is none.
-pub fn faces<'a, R>(_rt: &R, alloc: Global, cells: &'a [Cell]) -> Result<Faces<'a>, AllocError>
+pub fn faces<'a, R: Threads + Sync>(
+    rt: &R,
+    alloc: Global,
+    cells: &'a [Cell],
+) -> Result<Faces<'a>, AllocError>
     ensures points { IfOk result (λ f. f.points ≡ points_with_cells (points_in cells.now) cells.now) }
     ensures pairs { IfOk result (λ f. f.pairs ≡ with_cells (parts_in 2 cells.now) cells.now) }
     ensures triples { IfOk result (λ f. f.triples ≡ with_cells (parts_in 3 cells.now) cells.now) }
@@ -40,8 +57,8 @@ pub fn faces<'a, R>(_rt: &R, alloc: Global, cells: &'a [Cell]) -> Result<Faces<'
     }
     Ok(Faces {
         cells,
-        points: lists::point_table(alloc, cells)?,
-        pairs: lists::pair_table(alloc, cells)?,
-        triples: lists::triple_table(alloc, cells)?,
+        points: lists::point_table(rt, alloc, cells)?,
+        pairs: lists::pair_table(rt, alloc, cells)?,
+        triples: lists::triple_table(rt, alloc, cells)?,
     })
 }

@@ -10,36 +10,49 @@ use crate::parts::{pair_items, point_items, triple_items};
 use crate::table::Table;
 use point_order::{Cell, Pair, Point, Tri};
 use std::alloc::{AllocError, Global};
+use std::thread::Threads;
 
 /// The points of Full cells, with the cells that have them. The points of each cell ascend.
-pub fn point_table(alloc: Global, cells: &[Cell]) -> Result<Table<Point>, AllocError>
+pub fn point_table<R: Threads + Sync>(
+    rt: &R,
+    alloc: Global,
+    cells: &[Cell],
+) -> Result<Table<Point>, AllocError>
     requires { length cells.now < 2 ^ 32 }
     ensures faces { IfOk result (λ t. table_seen cells.now t ≡ points_with_cells (points_in cells.now) cells.now) }
     ensures table { IfOk result (λ t. IsTable (length cells.now) t) }
     ensures ascending { OnOk result (AreAscending cells.now) }
 {
     let items = point_items(alloc, cells)?;
-    gather(alloc, cells, items)
+    gather(rt, alloc, cells, items)
 }
 
 /// The pairs inside Full cells, with the cells that have both points.
-pub fn pair_table(alloc: Global, cells: &[Cell]) -> Result<Table<Pair>, AllocError>
+pub fn pair_table<R: Threads + Sync>(
+    rt: &R,
+    alloc: Global,
+    cells: &[Cell],
+) -> Result<Table<Pair>, AllocError>
     requires few { length cells.now < 2 ^ 32 }
     requires ascending { AreAscending cells.now }
     ensures faces { IfOk result (λ t. table_seen cells.now t ≡ with_cells (parts_in 2 cells.now) cells.now) }
     ensures table { IfOk result (λ t. IsTable (length cells.now) t) }
 {
     let items = pair_items(alloc, cells)?;
-    gather(alloc, cells, items)
+    gather(rt, alloc, cells, items)
 }
 
 /// The triples inside Full cells, with the cells that have all three points.
-pub fn triple_table(alloc: Global, cells: &[Cell]) -> Result<Table<Tri>, AllocError>
+pub fn triple_table<R: Threads + Sync>(
+    rt: &R,
+    alloc: Global,
+    cells: &[Cell],
+) -> Result<Table<Tri>, AllocError>
     requires few { length cells.now < 2 ^ 32 }
     requires ascending { AreAscending cells.now }
     ensures faces { IfOk result (λ t. table_seen cells.now t ≡ with_cells (parts_in 3 cells.now) cells.now) }
     ensures table { IfOk result (λ t. IsTable (length cells.now) t) }
 {
     let items = triple_items(alloc, cells)?;
-    gather(alloc, cells, items)
+    gather(rt, alloc, cells, items)
 }

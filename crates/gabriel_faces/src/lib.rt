@@ -3,6 +3,20 @@
 //! A face is Gabriel where no point of the set lies strictly inside its smallest circumscribing sphere (Gabriel and Sokal;
 //! `Alpha_shape_3` of CGAL; Edelsbrunner and Mücke, Three-dimensional alpha shapes). Whether an edge or a triangle of a complex is
 //! need not be asked of all points: those of its link suffice, which are the other points of the cells that contain it.
+//!
+//! ```
+//! let (tri, around) = faces.triple(index);  // of the faces of a complex
+//! let (a, b, c) = tri.corners();
+//! let mut link = Vec::new(alloc);
+//! for number in around {
+//!     for p in faces.cells()[*number as usize].points() {
+//!         if !tri.points().contains(p) {
+//!             link.push(*p)?;
+//!         }
+//!     }
+//! }
+//! let gabriel = gabriel_triangle(a, b, c, &link);  // among all points of the set
+//! ```
 #![tactic(auto)]
 
 ghost use Rattle.std.specs.Prelude.{◌≡◌, ℕ, List, [], ◌∷◌};

@@ -1,5 +1,5 @@
 //! The smallest circumscribing spheres of edges, triangles and cells: whether a point lies strictly inside,
-//! and whether the squared radius is at most alpha.
+//! whether the squared radius is at most alpha, and the least whole alpha of which it is.
 //!
 //! These are the two questions of an alpha complex (Edelsbrunner and Mücke, Three-dimensional alpha shapes;
 //! `Alpha_shape_3` of CGAL): a face is Gabriel where no point lies strictly inside its smallest circumscribing sphere,
@@ -11,14 +11,16 @@
 //! ```
 #![tactic(auto)]
 
-ghost use Rattle.std.specs.Prelude.{◌≡◌, ◌<◌, ◌^◌};
+ghost use Rattle.std.specs.Prelude.{◌≡◌, ◌<◌, ◌^◌, ℕ, nat_le};
 ghost use Rattle.small_spheres.specs.Inside.{is_inside_edge, is_inside_triangle};
 ghost use Rattle.small_spheres.specs.Within.{is_edge_within, is_triangle_within, is_cell_within};
 
+mod least;
 mod powers;
 mod products;
 mod radii;
 
+use least::{four_squares_of_normal, four_squares_of_orientation, least_factor};
 use point_order::{Point, Step};
 use powers::{power_of_edge, power_of_triangle};
 use products::{
@@ -74,6 +76,40 @@ pub fn cell_within(a: Point, b: Point, c: Point, d: Point, alpha: u64) -> bool
     let w = Step::between(a, d);
     let square = square_of_orientation(u.triple(v, w));
     centre_square(a, b, c, d) <= four_times_orientation(square, alpha)
+}
+
+/// The least alpha below 2^30 of which the smallest circumscribing sphere of the edge is within, its squared radius rounded up; 2^30
+/// where there is none.
+pub fn edge_least(a: Point, b: Point) -> u64
+    ensures { (alpha : ℕ) → alpha < 2 ^ 30 → is_edge_within a b alpha ≡ nat_le result alpha }
+{
+    least_factor(Step::between(a, b).square() as i128, 4)
+}
+
+/// The least alpha below 2^30 of which the smallest circumscribing sphere of the triangle is within, its squared radius rounded up;
+/// 2^30 where there is none, as for three different points on one line.
+pub fn triangle_least(a: Point, b: Point, c: Point) -> u64
+    ensures { (alpha : ℕ) → alpha < 2 ^ 30 → is_triangle_within a b c alpha ≡ nat_le result alpha }
+{
+    least_factor(
+        product_of_sides(a, b, c),
+        four_squares_of_normal(normal_square(a, b, c)),
+    )
+}
+
+/// The least alpha below 2^30 of which the circumscribing sphere of the cell is within, its squared radius rounded up; 2^30 where there
+/// is none.
+pub fn cell_least(a: Point, b: Point, c: Point, d: Point) -> u64
+    ensures { (alpha : ℕ) → alpha < 2 ^ 30 → is_cell_within a b c d alpha ≡ nat_le result alpha }
+{
+    let u = Step::between(a, b);
+    let v = Step::between(a, c);
+    let w = Step::between(a, d);
+    let square = square_of_orientation(u.triple(v, w));
+    least_factor(
+        centre_square(a, b, c, d),
+        four_squares_of_orientation(square),
+    )
 }
 
 #[cfg(test)]

@@ -18,6 +18,7 @@ use insertion::cell_in_conflict;
 use one_mesh::{apply, begin, complex, points};
 use point_order::Point;
 use std::alloc::Global;
+use std::thread::Threads;
 
 // Whether four points lie in one plane: then no mesh begins with them.
 fn are_flat(a: Point, b: Point, c: Point, d: Point) -> bool
@@ -58,7 +59,12 @@ fn show_complex(rt: &impl Print, alloc: Global, mesh: &Mesh) -> Result<()> {
 }
 
 // The alpha complex at a squared radius below 2^30.
-fn show_shape(rt: &impl Print, alloc: Global, mesh: &Mesh, radius: u64) -> Result<()>
+fn show_shape(
+    rt: &(impl Print + Threads + Sync),
+    alloc: Global,
+    mesh: &Mesh,
+    radius: u64,
+) -> Result<()>
     requires { radius < 2 ^ 30 }
 {
     let _ = points(alloc, mesh)?;

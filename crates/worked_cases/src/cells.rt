@@ -9,6 +9,7 @@ use face_list::faces;
 use one_mesh::{complex, points};
 use point_order::{Cell, Point};
 use std::alloc::{AllocError, Global};
+use std::thread::Threads;
 
 // A number, behind a space.
 pub(crate) fn put_number(text: &mut String, number: u64) -> Result<(), AllocError> {
@@ -80,7 +81,7 @@ fn put_face(
 ///
 /// # Errors
 /// Want of memory.
-pub(crate) fn faces_of<R>(
+pub(crate) fn faces_of<R: Threads + Sync>(
     rt: &R,
     alloc: Global,
     grid: Grid,

@@ -31,10 +31,11 @@ mod walks;
 
 use cell_store::Grid;
 use std::alloc::{AllocError, Global};
+use std::thread::Threads;
 use std::io;
 
 // The answer to what is asked of a grid and these lists.
-fn answer<R>(
+fn answer<R: Threads + Sync>(
     rt: &R,
     alloc: Global,
     asked: &str,
@@ -54,7 +55,7 @@ fn answer<R>(
 }
 
 // The answer to the case in a line.
-fn answer_to<R>(rt: &R, alloc: Global, line: &str) -> Result<String, AllocError> {
+fn answer_to<R: Threads + Sync>(rt: &R, alloc: Global, line: &str) -> Result<String, AllocError> {
     if line.starts_with('#') {
         return String::from_str(alloc, line);
     }

@@ -6,5 +6,5 @@ use Rattle.alpha_complex.proofs.kinds.pairs_with_kinds.Given as goal
 
 abbrev pub invariant-loop-index : goal.invariant-loop-index
 invariant-loop-index l =
-    l.kinds.items ++ kinds_by l.marks.alpha (filter (is_admitted_pair l.marks.alpha l.lone) (drop l.index l.faces.pairs))
-    ≡ kinds_by l.marks.alpha (filter (is_admitted_pair l.marks.alpha l.lone) l.faces.pairs)
+    l.kinds.items ++ kinds_by l.alpha (filter (is_admitted_pair l.faces.triples l.alpha) (drop l.index l.faces.pairs))
+    ≡ kinds_by l.alpha (filter (is_admitted_pair l.faces.triples l.alpha) l.faces.pairs)

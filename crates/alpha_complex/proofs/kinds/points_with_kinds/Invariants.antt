@@ -4,5 +4,4 @@ use Rattle.alpha_complex.specs.Judged.{kinds_by}
 use Rattle.alpha_complex.proofs.kinds.points_with_kinds.Given as goal
 
 abbrev pub invariant-loop-index : goal.invariant-loop-index
-invariant-loop-index l =
-    l.kinds.items ++ kinds_by l.marks.alpha (drop l.index l.faces.points) ≡ kinds_by l.marks.alpha l.faces.points
+invariant-loop-index l = l.kinds.items ++ kinds_by l.alpha (drop l.index l.faces.points) ≡ kinds_by l.alpha l.faces.points

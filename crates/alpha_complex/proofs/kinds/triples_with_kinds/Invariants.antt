@@ -6,5 +6,5 @@ use Rattle.alpha_complex.proofs.kinds.triples_with_kinds.Given as goal
 
 abbrev pub invariant-loop-index : goal.invariant-loop-index
 invariant-loop-index l =
-    l.kinds.items ++ kinds_by l.marks.alpha (filter (is_admitted_triple l.marks.alpha l.lone) (drop l.index l.faces.triples))
-    ≡ kinds_by l.marks.alpha (filter (is_admitted_triple l.marks.alpha l.lone) l.faces.triples)
+    l.kinds.items ++ kinds_by l.alpha (filter (is_admitted_triple l.alpha) (drop l.index l.faces.triples))
+    ≡ kinds_by l.alpha (filter (is_admitted_triple l.alpha) l.faces.triples)

@@ -8,7 +8,7 @@ use Rattle.delaunay_cli.proofs.ShapesOfSet.{shapes_counted}
 use Rattle.delaunay_cli.proofs.mesh.report.Goals as goal
 
 pub shapes_of-requires-clause-ascending : goal.shapes_of-requires-clause-ascending
-shapes_of-requires-clause-ascending g c =
+shapes_of-requires-clause-ascending g c κs l =
     subst IsAscending (sym (c.deref.ensures.value ∙ c.in_ok-points.ensures.points ∙ ap replay c.requires.history)) (ascending_replay c.args.kept.now)
 
 pub returns-clause-order : goal.returns-clause-order
@@ -19,4 +19,4 @@ returns-clause-counted g c =
     subst AreCounted (sym c.in_ok-shapes_of.ensures) (shapes_counted c.args.asked.shape c.deref-3.result.now c.deref.result.now (subst IsAscending (sym (c.deref.ensures.value ∙ c.in_ok-points.ensures.points ∙ ap replay c.requires.history)) (ascending_replay c.args.kept.now)))
 
 pub shapes_of-requires-clause-solid : goal.shapes_of-requires-clause-solid
-shapes_of-requires-clause-solid g c = ap is_solid (c.deref.ensures.value ∙ c.in_ok-points.ensures.points) ∙ c.in_ok-points.ensures.solid
+shapes_of-requires-clause-solid g c κs l = ap is_solid (c.deref.ensures.value ∙ c.in_ok-points.ensures.points) ∙ c.in_ok-points.ensures.solid

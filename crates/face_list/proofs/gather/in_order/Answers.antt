@@ -1,14 +1,23 @@
-use Rattle.std.proofs.lemmas.List.Filters.{dedup_is}
+use Rattle.std.proofs.Common.{sym, ap, subst, ◌∙◌, drop, length}
+use Rattle.std.specs.List.Sorted.{IsSorted}
+use Rattle.point_order.specs.Sets.{IsIn}
 use Rattle.face_list.specs.Gather.{item_cmp}
-use Rattle.face_list.proofs.Sorting.{item_order, item_exact, item_ties, deduped_sorted, deduped_same}
+use Rattle.face_list.proofs.Sorting.{arranged_same, front_is}
 use Rattle.face_list.proofs.gather.in_order.Goals as goal
 
-pub returns-clause-order : goal.returns-clause-order
-returns-clause-order g c =
-    let cmp = g.K.Ord.cmp in
-    deduped_sorted (item_cmp cmp) (item_order g.met.K.Ord.total) _ (item_ties cmp g.K.PartialEq.eq g.met.K.Ord.matches_eq) c.sort_unstable.new.self.items c.dedup.new.self.items c.sort_unstable.ensures.sorted (dedup_is _ _ _ c.dedup.ensures.filtered)
+pub each_once-requires-clause-order : goal.each_once-requires-clause-order
+each_once-requires-clause-order g c =
+    let s = c.par_sort_unstable.new.s in
+    let i = c.args.items in
+    let e = front_is s (drop (length s) i.items) i.len (i.ok.0 ∙ sym (ap length c.deref_mut.ensures.value) ∙ sym c.par_sort_unstable.ensures.len) in
+    subst (IsSorted (item_cmp g.K.Ord.cmp)) (sym e) c.par_sort_unstable.ensures.sorted
 
 pub returns-clause-same : goal.returns-clause-same
-returns-clause-same g c =
-    let cmp = g.K.Ord.cmp in
-    deduped_same (item_cmp cmp) (item_order g.met.K.Ord.total) (item_exact c.requires) _ (item_ties cmp g.K.PartialEq.eq g.met.K.Ord.matches_eq) c.args.items.items c.sort_unstable.new.self.items c.dedup.new.self.items c.sort_unstable.ensures.permutation (dedup_is _ _ _ c.dedup.ensures.filtered)
+returns-clause-same g c k =
+    let s = c.par_sort_unstable.new.s in
+    let i = c.args.items in
+    let e = front_is s (drop (length s) i.items) i.len (i.ok.0 ∙ sym (ap length c.deref_mut.ensures.value) ∙ sym c.par_sort_unstable.ensures.len) in
+    let a = arranged_same c.deref_mut.result.now s c.par_sort_unstable.ensures.permutation k in
+    let b = c.each_once.ensures.same k in
+    let q = c.deref_mut.ensures.value in
+    (λ m. subst (IsIn k) q (a.0 (subst (IsIn k) e (b.0 m))), λ m. b.1 (subst (IsIn k) (sym e) (a.1 (subst (IsIn k) (sym q) m))))

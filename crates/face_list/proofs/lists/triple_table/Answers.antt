@@ -10,10 +10,10 @@ use Rattle.face_list.proofs.FaceLists.{items_name, parts_gathered}
 use Rattle.face_list.proofs.lists.triple_table.Goals as goal
 
 pub gather-requires-clause-exact : goal.gather-requires-clause-exact
-gather-requires-clause-exact c = exact_bytes
+gather-requires-clause-exact g c κs l = exact_bytes
 
 pub gather-requires-clause-numbers : goal.gather-requires-clause-numbers
-gather-requires-clause-numbers c = subst (AreItems _) (sym c.in_ok-items.ensures) (items_name (λ c. subsets 3 (points_of c)) c.args.cells.now)
+gather-requires-clause-numbers g c κs l = subst (AreItems _) (sym c.in_ok-items.ensures) (items_name (λ c. subsets 3 (points_of c)) c.args.cells.now)
 
 pub returns-clause-faces : goal.returns-clause-faces
-returns-clause-faces c = IfOk-weaker c.gather.result _ _ (λ t g. parts_gathered 3 c.args.cells.now t c.requires.ascending (subst (λ (l : List (List ℕ × ℕ)). Gathers (slice_cmp nat_cmp) c.args.cells.now l t) c.in_ok-items.ensures g)) c.gather.ensures.gathers
+returns-clause-faces g c = IfOk-weaker c.gather.result _ _ (λ t g. parts_gathered 3 c.args.cells.now t c.requires.ascending (subst (λ (l : List (List ℕ × ℕ)). Gathers (slice_cmp nat_cmp) c.args.cells.now l t) c.in_ok-items.ensures g)) c.gather.ensures.gathers

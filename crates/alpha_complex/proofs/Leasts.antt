@@ -1,0 +1,193 @@
+-- The least alphas of tests that are put together.
+use Rattle.std.proofs.Common.{◌≡◌, refl, sym, subst, ap, ◌∙◌, ℕ, zero, suc, ◌<◌, ◌+◌, ◌^◌, min, max, Bool, true, false, List, [], ◌∷◌, ◌++◌, map, drop, length, get_or, arith, nat_le}
+use Rattle.std.specs.Prelude.{not, ◌&&◌, ◌||◌}
+use Rattle.std.specs.List.{range_with_len, AllZip, filter, flat_map, list_all, list_any}
+use Rattle.std.proofs.lemmas.Bool.Decides.{nat_tests}
+use Rattle.std.proofs.lemmas.List.{drop_more}
+use Rattle.std.proofs.lemmas.List.Elements.{filter-append}
+use Rattle.std.proofs.lemmas.List.Folds.{list_all-append}
+use Rattle.point_order.specs.declared.cell.Cell.{Cell}
+use Rattle.point_order.specs.declared.cell.Facet.{Facet}
+use Rattle.point_order.specs.Facets.{points_of}
+use Rattle.point_order.specs.Sets.{is_among}
+use Rattle.gabriel_faces.specs.Gabriel.{is_gabriel}
+use Rattle.gabriel_faces.specs.Links.{link_of}
+use Rattle.small_spheres.specs.Inside.{is_inside_edge, is_inside_triangle}
+use Rattle.alpha_complex.specs.Leasts.{IsLeastOf}
+
+-- ---- two numbers
+
+least_tells : (m n a : ℕ) → nat_le (min m n) a ≡ (nat_le m a || nat_le n a)
+least_tells m n a = grind (arith, nat_tests)
+
+most_tells : (m n a : ℕ) → nat_le (max m n) a ≡ (nat_le m a && nat_le n a)
+most_tells m n a = grind (arith, nat_tests)
+
+-- no alpha is 2^30 or more
+beyond : (a : ℕ) → a < 2 ^ 30 → nat_le 1073741824 a ≡ false
+beyond a l = grind (arith, nat_tests)
+
+-- every number is 0 or more
+from_0 : (a : ℕ) → nat_le 0 a ≡ true
+from_0 a = grind (arith, nat_tests)
+
+or_assoc : (a b c : Bool) → ((a || b) || c) ≡ (a || (b || c))
+or_assoc true b c = refl
+or_assoc false b c = refl
+
+and_assoc : (a b c : Bool) → ((a && b) && c) ≡ (a && (b && c))
+and_assoc true b c = refl
+and_assoc false b c = refl
+
+or_false : (a : Bool) → (a || false) ≡ a
+or_false true = refl
+or_false false = refl
+
+and_true : (a : Bool) → (a && true) ≡ a
+and_true true = refl
+and_true false = refl
+
+-- a test that never passes
+pub never_least : (t : ℕ → Bool) → ((a : ℕ) → a < 2 ^ 30 → t a ≡ false) → IsLeastOf t 1073741824
+never_least t f a l = f a l ∙ sym (beyond a l)
+
+-- one that always does
+pub always_least : (t : ℕ → Bool) → ((a : ℕ) → t a ≡ true) → IsLeastOf t 0
+always_least t f a l = f a ∙ sym (from_0 a)
+
+-- one of two
+pub either_least : (t u : ℕ → Bool) (m n : ℕ) → IsLeastOf t m → IsLeastOf u n → IsLeastOf (λ a. t a || u a) (min m n)
+either_least t u m n h k a l = ap (λ b. b || u a) (h a l) ∙ ap (λ b. nat_le m a || b) (k a l) ∙ sym (least_tells m n a)
+
+-- a test of four
+pub four_least :
+    (t u v w : ℕ → Bool) (k l m n : ℕ) → IsLeastOf t k → IsLeastOf u l → IsLeastOf v m → IsLeastOf w n → IsLeastOf (λ a. t a || (u a || (v a || (w a || false)))) (min k (min l (min m n)))
+four_least t u v w k l m n p q r s a e =
+    ap (λ b. t a || (u a || (v a || b))) (or_false (w a))
+    ∙ either_least t (λ a. u a || (v a || w a)) k (min l (min m n)) p (either_least u (λ a. v a || w a) l (min m n) q (either_least v w m n r s)) a e
+
+-- one of four facets
+pub facets_least :
+    (t : ℕ → Facet → Bool) (facets : List Facet) (a b c d : Facet) (k l m n : ℕ) → length facets ≡ 4 → IsLeastOf (λ x. t x (get_or facets 0 a)) k → IsLeastOf (λ x. t x (get_or facets 1 b)) l →
+    IsLeastOf (λ x. t x (get_or facets 2 c)) m → IsLeastOf (λ x. t x (get_or facets 3 d)) n → IsLeastOf (λ x. list_any (t x) facets) (min k (min l (min m n)))
+facets_least t [] a b c d k l m n e x y z w = absurd (omega (arith, e))
+facets_least t (o ∷ []) a b c d k l m n e x y z w = absurd (omega (arith, e))
+facets_least t (o ∷ p ∷ []) a b c d k l m n e x y z w = absurd (omega (arith, e))
+facets_least t (o ∷ p ∷ q ∷ []) a b c d k l m n e x y z w = absurd (omega (arith, e))
+facets_least t (o ∷ p ∷ q ∷ r ∷ []) a b c d k l m n e x y z w = four_least (λ v. t v o) (λ v. t v p) (λ v. t v q) (λ v. t v r) k l m n x y z w
+facets_least t (o ∷ p ∷ q ∷ r ∷ s ∷ facets) a b c d k l m n e x y z w = absurd (omega (arith, e))
+
+-- ---- numbers around a face
+
+-- the least number so far, and the elements that are left
+abbrev pub AnyLeft : {N X : Type 0} → (ℕ → X → Bool) → (N → X) → List N → ℕ → ℕ → Type 0
+AnyLeft t f ns i least = (a : ℕ) → a < 2 ^ 30 → (nat_le least a || list_any (t a) (map f (drop i ns))) ≡ list_any (t a) (map f ns)
+
+abbrev pub AllLeft : {N X : Type 0} → (ℕ → X → Bool) → (N → X) → List N → ℕ → ℕ → Type 0
+AllLeft t f ns i most = (a : ℕ) → a < 2 ^ 30 → (nat_le most a && list_all (t a) (map f (drop i ns))) ≡ list_all (t a) (map f ns)
+
+pub any_start : {N X : Type 0} (t : ℕ → X → Bool) (f : N → X) (ns : List N) → AnyLeft t f ns 0 1073741824
+any_start t f ns a l = ap (λ b. b || list_any (t a) (map f ns)) (beyond a l)
+
+pub any_step :
+    {N X : Type 0} (t : ℕ → X → Bool) (f : N → X) (ns : List N) (i : ℕ) (d : N) (least m r : ℕ) → i < length ns → IsLeastOf (λ a. t a (f (get_or ns i d))) m →
+    r ≡ min least m → AnyLeft t f ns i least → AnyLeft t f ns (i + 1) r
+any_step {N} {X} t f ns i d least m r h e q left a l =
+    let rest = list_any (t a) (map f (drop (i + 1) ns)) in
+    ap (λ b. b || rest) (ap (λ n. nat_le n a) q ∙ least_tells least m a)
+    ∙ or_assoc (nat_le least a) (nat_le m a) rest
+    ∙ ap (λ b. nat_le least a || (b || rest)) (sym (e a l))
+    ∙ ap (λ (v : List N). nat_le least a || list_any (t a) (map f v)) (sym (drop_more ns i d h))
+    ∙ left a l
+
+pub any_end : {N X : Type 0} (t : ℕ → X → Bool) (f : N → X) (ns : List N) (i least : ℕ) → length ns ≡ i → AnyLeft t f ns i least → IsLeastOf (λ a. list_any (t a) (map f ns)) least
+any_end {N} {X} t f ns i least e left a l =
+    sym (left a l) ∙ ap (λ (v : List N). nat_le least a || list_any (t a) (map f v)) (none ns i e) ∙ or_false (nat_le least a)
+  where
+    none : (ns : List N) (i : ℕ) → length ns ≡ i → drop i ns ≡ []
+    none [] zero e = refl
+    none [] (suc i) e = refl
+    none (x ∷ ns) zero e = absurd (omega (arith, e))
+    none (x ∷ ns) (suc i) e = none ns i (omega (arith, e))
+
+pub all_step :
+    {N X : Type 0} (t : ℕ → X → Bool) (f : N → X) (ns : List N) (i : ℕ) (d : N) (most m r : ℕ) → i < length ns → IsLeastOf (λ a. t a (f (get_or ns i d))) m →
+    r ≡ max most m → AllLeft t f ns i most → AllLeft t f ns (i + 1) r
+all_step {N} {X} t f ns i d most m r h e q left a l =
+    let rest = list_all (t a) (map f (drop (i + 1) ns)) in
+    ap (λ b. b && rest) (ap (λ n. nat_le n a) q ∙ most_tells most m a)
+    ∙ and_assoc (nat_le most a) (nat_le m a) rest
+    ∙ ap (λ b. nat_le most a && (b && rest)) (sym (e a l))
+    ∙ ap (λ (v : List N). nat_le most a && list_all (t a) (map f v)) (sym (drop_more ns i d h))
+    ∙ left a l
+
+pub all_end : {N X : Type 0} (t : ℕ → X → Bool) (f : N → X) (ns : List N) (i most : ℕ) → length ns ≡ i → AllLeft t f ns i most → IsLeastOf (λ a. list_all (t a) (map f ns)) most
+all_end {N} {X} t f ns i most e left a l =
+    sym (left a l) ∙ ap (λ (v : List N). nat_le most a && list_all (t a) (map f v)) (none ns i e) ∙ and_true (nat_le most a)
+  where
+    none : (ns : List N) (i : ℕ) → length ns ≡ i → drop i ns ≡ []
+    none [] zero e = refl
+    none [] (suc i) e = refl
+    none (x ∷ ns) zero e = absurd (omega (arith, e))
+    none (x ∷ ns) (suc i) e = none ns i (omega (arith, e))
+
+-- ---- lists of numbers
+
+pub length_mapped : {X Y : Type 0} (f : X → Y) (xs : List X) → length (map f xs) ≡ length xs
+length_mapped f [] = refl
+length_mapped f (x ∷ xs) = ap suc (length_mapped f xs)
+
+-- they are as many
+pub zip_length : {X Y : Type 0} (R : X → Y → Type 0) (xs : List X) (ys : List Y) → AllZip R xs ys → length xs ≡ length ys
+zip_length R [] [] z = refl
+zip_length R [] (y ∷ ys) z = absurd z
+zip_length R (x ∷ xs) [] z = absurd z
+zip_length R (x ∷ xs) (y ∷ ys) z = ap suc (zip_length R xs ys z.1)
+
+-- and each is of its element
+pub zip_at : {X Y : Type 0} (R : X → Y → Type 0) (xs : List X) (ys : List Y) (i : ℕ) (d : X) (e : Y) → AllZip R xs ys → i < length xs → R (get_or xs i d) (get_or ys i e)
+zip_at R [] ys i d e z h = absurd (omega (arith, h))
+zip_at R (x ∷ xs) [] i d e z h = absurd z
+zip_at R (x ∷ xs) (y ∷ ys) zero d e z h = z.0
+zip_at R (x ∷ xs) (y ∷ ys) (suc i) d e z h = zip_at R xs ys i d e z.1 (omega (arith, h))
+
+-- what holds at each place of a list holds of its elements
+pub zip_places : {X Y : Type 0} (R : X → Y → Type 0) (d : X) (xs : List X) (ys : List Y) → AllZip (λ i y. R (get_or xs i d) y) (range_with_len 0 (length xs)) ys → AllZip R xs ys
+zip_places {X} {Y} R d xs ys z = from xs ys 0 (λ i. get_or xs i d) (λ j. ap (λ n. get_or xs n d) (front j)) z
+  where
+    front : (j : ℕ) → 0 + j ≡ j
+    front j = omega arith
+
+    here : (k : ℕ) → k ≡ k + 0
+    here k = omega arith
+
+    shift : (k j : ℕ) → k + 1 + j ≡ k + suc j
+    shift k j = omega arith
+
+    from : (xs : List X) (ys : List Y) (k : ℕ) (f : ℕ → X) → ((j : ℕ) → f (k + j) ≡ get_or xs j d) → AllZip (λ i y. R (f i) y) (range_with_len k (length xs)) ys → AllZip R xs ys
+    from [] [] k f e z = tt
+    from [] (y ∷ ys) k f e z = absurd z
+    from (x ∷ xs) [] k f e z = absurd z
+    from (x ∷ xs) (y ∷ ys) k f e z = (subst (λ v. R v y) (ap f (here k) ∙ e 0) z.0, from xs ys (k + 1) f (λ j. ap f (shift k j) ∙ e (suc j)) z.1)
+
+-- ---- Gabriel faces, point by point
+
+-- a face is Gabriel in two lists where it is in both
+pub gabriel_append : (l m face : List ℕ) → is_gabriel (l ++ m) face ≡ (is_gabriel l face && is_gabriel m face)
+gabriel_append l m [] = refl
+gabriel_append l m (a ∷ []) = refl
+gabriel_append l m (a ∷ b ∷ []) = list_all-append (λ e. not (is_inside_edge a b e)) l m
+gabriel_append l m (a ∷ b ∷ c ∷ []) = list_all-append (λ e. not (is_inside_triangle a b c e)) l m
+gabriel_append l m (a ∷ b ∷ c ∷ d ∷ face) = refl
+
+-- and in none
+pub gabriel_none : (face : List ℕ) → is_gabriel [] face ≡ true
+gabriel_none [] = refl
+gabriel_none (a ∷ []) = refl
+gabriel_none (a ∷ b ∷ []) = refl
+gabriel_none (a ∷ b ∷ c ∷ []) = refl
+gabriel_none (a ∷ b ∷ c ∷ d ∷ face) = refl
+
+-- the points of one cell more
+pub link_more : (face : List ℕ) (c : Cell) (cells : List Cell) → link_of face (c ∷ cells) ≡ filter (λ p. not (is_among p face)) (points_of c) ++ link_of face cells
+link_more face c cells = filter-append (λ p. not (is_among p face)) (points_of c) (flat_map points_of cells)

@@ -1,0 +1,8 @@
+-- the greatest number so far, and the cells that are left
+use Rattle.face_list.specs.Tables.{cell_at}
+use Rattle.alpha_complex.specs.Judged.{is_small_cell}
+use Rattle.alpha_complex.proofs.Leasts.{AllLeft}
+use Rattle.alpha_complex.proofs.rounds.all_least.Given as goal
+
+abbrev pub invariant-loop-number : goal.invariant-loop-number
+invariant-loop-number l = AllLeft is_small_cell (cell_at l.own.faces.now.cells) l.around l.number-index l.least

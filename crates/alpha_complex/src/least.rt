@@ -1,0 +1,192 @@
+//! The least alphas of the faces of a complex.
+
+ghost use Rattle.std.specs.Prelude.{◌≡◌, ◌<◌, ◌^◌, length, IfOk};
+ghost use Rattle.alpha_complex.specs.Judged.{is_small_by, is_small_cell, is_admitted_triple, is_admitted_pair};
+ghost use Rattle.alpha_complex.specs.Leasts.{AreAlphas, AreAlphasOf, AreLeastOf, AreOrdered, AreOwn, IsLeastOf, face_at, is_admitted_point, point_at};
+
+use crate::covers::cover_least;
+use crate::numbers::FaceAlphas;
+use crate::owns::{cell_least_of, number_at, own_least};
+use crate::rounds::{all_least, some_least};
+use face_list::Faces;
+use point_order::Cell;
+use rayon::prelude::*;
+use std::alloc::{AllocError, Global};
+use std::thread::Threads;
+
+/// The least alphas at which the cells and the triples of a complex are within alpha, the triples where they are Gabriel, each by itself.
+#[derive(Drop)]
+pub struct OwnAlphas<'a, 'b> {
+    pub faces: &'a Faces<'b>,
+    pub cells: Vec<u64>,
+    pub triples: Vec<u64>,
+}
+
+// The least alpha of each cell.
+fn own_of_cells<R: Threads + Sync>(
+    rt: &R,
+    alloc: Global,
+    cells: &[Cell],
+) -> Result<Vec<u64>, AllocError>
+    ensures { IfOk result (λ v. AreLeastOf is_small_cell cells.now v.items) }
+{
+    cells
+        .par_iter()
+        .map(
+            |cell: &Cell| -> u64
+                ensures { IsLeastOf (λ alpha. is_small_cell alpha cell.now) result }
+            { cell_least_of(cell) },
+        )
+        .collect(rt, alloc)
+}
+
+// The least alpha at which a triple is itself Gabriel and within alpha.
+fn own_of_triple(faces: &Faces, index: usize) -> u64
+    requires { index < length faces.now.triples }
+    ensures { IsLeastOf (λ alpha. is_small_by alpha (face_at faces.now.triples index)) result }
+{
+    let (tri, around) = faces.triple(index);
+    own_least(tri.points(), faces.cells(), around)
+}
+
+// That of each triple.
+fn own_of_triples<R: Threads + Sync>(
+    rt: &R,
+    alloc: Global,
+    faces: &Faces,
+) -> Result<Vec<u64>, AllocError>
+    ensures { IfOk result (λ v. AreLeastOf is_small_by faces.now.triples v.items) }
+{
+    (0..faces.triples().len())
+        .into_par_iter()
+        .map(
+            |index: usize| -> u64
+                requires { index < length faces.now.triples }
+                ensures { IsLeastOf (λ alpha. is_small_by alpha (face_at faces.entry.now.triples index)) result }
+            { own_of_triple(faces, index) },
+        )
+        .collect(rt, alloc)
+}
+
+/// The numbers of cells and triples by themselves, by several threads.
+pub fn own_alphas<'a, 'b, R: Threads + Sync>(
+    rt: &R,
+    alloc: Global,
+    faces: &'a Faces<'b>,
+) -> Result<OwnAlphas<'a, 'b>, AllocError>
+    requires { AreOrdered faces.now.triples }
+    ensures faces { IfOk result (λ own. own.faces.now ≡ faces.now) }
+    ensures own { IfOk result (λ own. AreOwn own) }
+{
+    Ok(OwnAlphas {
+        faces,
+        cells: own_of_cells(rt, alloc, faces.cells())?,
+        triples: own_of_triples(rt, alloc, faces)?,
+    })
+}
+
+// The numbers of the point of an index.
+fn alphas_of_point(own: &OwnAlphas, index: usize) -> FaceAlphas
+    requires own { AreOwn own.now }
+    requires index { index < length own.now.faces.now.points }
+    ensures { AreAlphasOf is_admitted_point (point_at own.now.faces.now.points index) result }
+{
+    let (_, around) = own.faces.point(index);
+    FaceAlphas {
+        admitted: 0,
+        regular: some_least(own, around),
+        interior: all_least(own, around),
+    }
+}
+
+// The numbers of the triple of an index.
+fn alphas_of_triple(own: &OwnAlphas, index: usize) -> FaceAlphas
+    requires own { AreOwn own.now }
+    requires index { index < length own.now.faces.now.triples }
+    ensures { AreAlphasOf is_admitted_triple (face_at own.now.faces.now.triples index) result }
+{
+    let (_, around) = own.faces.triple(index);
+    let regular = some_least(own, around);
+    FaceAlphas {
+        admitted: regular.min(number_at(&own.triples, index)),
+        regular,
+        interior: all_least(own, around),
+    }
+}
+
+// The numbers of the pair of an index.
+fn alphas_of_pair(own: &OwnAlphas, index: usize) -> FaceAlphas
+    requires own { AreOwn own.now }
+    requires index { index < length own.now.faces.now.pairs }
+    ensures { AreAlphasOf (is_admitted_pair own.now.faces.now.triples) (face_at own.now.faces.now.pairs index) result }
+{
+    let (pair, around) = own.faces.pair(index);
+    let regular = some_least(own, around);
+    let itself = own_least(pair.points(), own.faces.cells(), around);
+    let cover = cover_least(own, &pair, around);
+    FaceAlphas {
+        admitted: regular.min(itself.min(cover)),
+        regular,
+        interior: all_least(own, around),
+    }
+}
+
+/// The numbers of all points.
+pub fn alphas_of_points<R: Threads + Sync>(
+    rt: &R,
+    alloc: Global,
+    own: &OwnAlphas,
+) -> Result<Vec<FaceAlphas>, AllocError>
+    requires { AreOwn own.now }
+    ensures { IfOk result (λ v. AreAlphas is_admitted_point own.now.faces.now.points v.items) }
+{
+    (0..own.faces.points().len())
+        .into_par_iter()
+        .map(
+            |index: usize| -> FaceAlphas
+                requires { AreOwn own.now × (index < length own.now.faces.now.points) }
+                ensures { AreAlphasOf is_admitted_point (point_at own.entry.now.faces.now.points index) result }
+            { alphas_of_point(own, index) },
+        )
+        .collect(rt, alloc)
+}
+
+/// The numbers of all triples.
+pub fn alphas_of_triples<R: Threads + Sync>(
+    rt: &R,
+    alloc: Global,
+    own: &OwnAlphas,
+) -> Result<Vec<FaceAlphas>, AllocError>
+    requires { AreOwn own.now }
+    ensures { IfOk result (λ v. AreAlphas is_admitted_triple own.now.faces.now.triples v.items) }
+{
+    (0..own.faces.triples().len())
+        .into_par_iter()
+        .map(
+            |index: usize| -> FaceAlphas
+                requires { AreOwn own.now × (index < length own.now.faces.now.triples) }
+                ensures { AreAlphasOf is_admitted_triple (face_at own.entry.now.faces.now.triples index) result }
+            { alphas_of_triple(own, index) },
+        )
+        .collect(rt, alloc)
+}
+
+/// The numbers of all pairs.
+pub fn alphas_of_pairs<R: Threads + Sync>(
+    rt: &R,
+    alloc: Global,
+    own: &OwnAlphas,
+) -> Result<Vec<FaceAlphas>, AllocError>
+    requires { AreOwn own.now }
+    ensures { IfOk result (λ v. AreAlphas (is_admitted_pair own.now.faces.now.triples) own.now.faces.now.pairs v.items) }
+{
+    (0..own.faces.pairs().len())
+        .into_par_iter()
+        .map(
+            |index: usize| -> FaceAlphas
+                requires { AreOwn own.now × (index < length own.now.faces.now.pairs) }
+                ensures { AreAlphasOf (is_admitted_pair own.entry.now.faces.now.triples) (face_at own.entry.now.faces.now.pairs index) result }
+            { alphas_of_pair(own, index) },
+        )
+        .collect(rt, alloc)
+}

@@ -1,0 +1,52 @@
+//! The least whole alpha of which a sphere is within.
+
+ghost use Rattle.std.specs.Prelude.{◌≡◌, ◌<◌, ◌≤ℤ◌, ◌^◌, ◌*◌, ◌*ℤ◌, ℕ, pos, nat_le};
+ghost use Rattle.std.specs.Int.Signed.{le_z};
+ghost use Rattle.whole_ring.specs.Bounds.{IsWithin};
+
+// Every alpha is below this.
+const BEYOND: u64 = 1 << 30;
+
+// The least alpha with `p <= d alpha`, a quotient rounded up, or 2^30 where that is 2^30 or more.
+fn quotient_up(p: u128, d: u128) -> u64
+    requires p { 0 < p }
+    requires d { 0 < d }
+    ensures { (alpha : ℕ) → alpha < 2 ^ 30 → nat_le p (d * alpha) ≡ nat_le result alpha }
+{
+    let below = (p - 1) / d;
+    if below < BEYOND as u128 {
+        below as u64 + 1
+    } else {
+        BEYOND
+    }
+}
+
+/// The least alpha below 2^30 with `p <= d alpha`, and 2^30 where there is none.
+pub fn least_factor(p: i128, d: i128) -> u64
+    requires { pos 0 ≤ℤ d }
+    ensures { (alpha : ℕ) → alpha < 2 ^ 30 → le_z p (d *ℤ pos alpha) ≡ nat_le result alpha }
+{
+    if p <= 0 {
+        0
+    } else if d == 0 {
+        BEYOND
+    } else {
+        quotient_up(p as u128, d as u128)
+    }
+}
+
+/// Four times the square of a normal, below 2^63.
+pub fn four_squares_of_normal(square: i64) -> i128
+    requires { IsWithin 1296720062323752978 square }
+    ensures { result ≡ pos 4 *ℤ square }
+{
+    4 * square as i128
+}
+
+/// Four times the square of an orientation, below 2^92.
+pub fn four_squares_of_orientation(square: i128) -> i128
+    requires { IsWithin 696086303215885775733915684 square }
+    ensures { result ≡ pos 4 *ℤ square }
+{
+    4 * square
+}
