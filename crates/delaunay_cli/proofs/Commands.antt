@@ -32,9 +32,9 @@ module _ (words : List (String Global)) (left : Option (List ℕ)) (failed : Typ
       record {
         taken = taken;
         read = λ d.
-          subst (λ (n : ℕ). IfSome left (IsReported n (asks_shape words) (asks_order words) h text)) k.3
-          (subst (λ (b : Bool). IfSome left (IsReported making.workers (asks_shape words) b h text)) k.2
-          (subst (λ (b : Bool). IfSome left (IsReported making.workers b asked.order h text)) k.1 r));
+            subst (λ (n : ℕ). IfSome left (IsReported n (asks_shape words) (asks_order words) h text)) k.3
+            (subst (λ (b : Bool). IfSome left (IsReported making.workers (asks_shape words) b h text)) k.2
+            (subst (λ (b : Bool). IfSome left (IsReported making.workers b asked.order h text)) k.1 r));
         drawn = λ d. absurd (not_both (asks_drawn words) k.0 d);
       }
 

@@ -41,38 +41,33 @@ verdict-reported status workers shape order h text bytes s r =
 
 -- of bytes without one, each comes with its cause
 verdict-unreported : (left : Option (List ℕ)) (failed : Type 0) (stop : Stop) → IsUnreported left failed stop → (IsEarly (status_of stop) → ⊥) → IfSome left (IsVerdict (status_of stop))
-verdict-unreported left failed Memory s late = absurd (late (inl refl))
-verdict-unreported left failed Usage s late = absurd s
-verdict-unreported left failed ReadFault s late = absurd (late (inr (inr refl)))
-verdict-unreported left failed WriteFault s late = absurd s
-verdict-unreported None failed (BadLine line) s late = tt
+verdict-unreported None failed stop s late = tt
+verdict-unreported (Some bytes) failed Memory s late = absurd (late (inl refl))
+verdict-unreported (Some bytes) failed Usage s late = absurd s
+verdict-unreported (Some bytes) failed ReadFault s late = absurd (late (inr (inr refl)))
+verdict-unreported (Some bytes) failed WriteFault s late = absurd s
 verdict-unreported (Some bytes) failed (BadLine line) s late =
     record {
       too_long = (λ e. absurd (omega (arith, e)), λ l. absurd (let w = s.1 in omega (arith, l, w)));
       bad_line = λ n. (λ e. (s.0.fault, s.0.cause), λ k. refl);
       not_solid = λ n file is. (λ e. absurd (omega (arith, e)), λ flat. absurd (no_fault_of line_limit bytes file s.0.fault is s.0.cause));
     }
-verdict-unreported None failed Flat s late = tt
 verdict-unreported (Some bytes) failed Flat s late =
     record {
       too_long = (λ e. absurd (omega (arith, e)), λ l. absurd (let w = s.0 in omega (arith, l, w)));
       bad_line = λ n. (λ e. absurd (omega (arith, e)), λ k. absurd (no_fault_of line_limit bytes s.1.0 k.0 s.1.1 k.1));
       not_solid = λ n file is. (λ e. subst (λ (f : Content). is_solid f.points ≡ false) (one_file_of line_limit bytes s.1.0 file s.1.1 is) s.1.2, λ flat. refl);
     }
-verdict-unreported None failed TooLong s late = tt
 verdict-unreported (Some bytes) failed TooLong s late =
     record { too_long = (λ e. s, λ l. refl); bad_line = λ n. absurd (n refl); not_solid = λ n. absurd (n refl) }
 
 -- where there is no report, the status is one of 1, 3, 5, 6 and 7, and 3 where the source failed
 status-unreported : (left : Option (List ℕ)) (failed : Type 0) (stop : Stop) → IsUnreported left failed stop →
     (status_of stop ≤ 7) × (status_of stop ≢ 0) × (status_of stop ≢ 2) × (status_of stop ≢ 4) × (status_of stop ≡ 3 → failed)
-status-unreported left failed Memory s = (omega arith, λ e. omega (arith, e), λ e. omega (arith, e), λ e. omega (arith, e), λ e. absurd (omega (arith, e)))
 status-unreported left failed Usage s = absurd s
-status-unreported left failed ReadFault s = (omega arith, λ e. omega (arith, e), λ e. omega (arith, e), λ e. omega (arith, e), λ e. s)
 status-unreported left failed WriteFault s = absurd s
-status-unreported left failed (BadLine line) s = (omega arith, λ e. omega (arith, e), λ e. omega (arith, e), λ e. omega (arith, e), λ e. absurd (omega (arith, e)))
-status-unreported left failed Flat s = (omega arith, λ e. omega (arith, e), λ e. omega (arith, e), λ e. omega (arith, e), λ e. absurd (omega (arith, e)))
-status-unreported left failed TooLong s = (omega arith, λ e. omega (arith, e), λ e. omega (arith, e), λ e. omega (arith, e), λ e. absurd (omega (arith, e)))
+status-unreported left failed ReadFault s = (omega arith, λ e. omega (arith, e), λ e. omega (arith, e), λ e. omega (arith, e), λ e. s)
+status-unreported left failed stop s = (omega arith, λ e. omega (arith, e), λ e. omega (arith, e), λ e. omega (arith, e), λ e. absurd (omega (arith, e)))
 
 -- where all is read, a front that is written changes nothing of that
 reads-front : (old new : Option (List ℕ)) → Reads old new 0 → Reads old new 4
@@ -170,12 +165,7 @@ module _ (words : List (String Global)) (left_old left_new : Option (List ℕ)) 
     where
       by : (s : Stop) → IsUnmade words left_old read_failed s → IsToldLine left_old (status_of s) (line_of s)
       by (BadLine line) u = record { plain = λ n. absurd (n refl); bad = λ k. u.2.0 }
-      by Memory u = record { plain = λ n. refl; bad = λ k. absurd (omega (arith, k)) }
-      by Usage u = record { plain = λ n. refl; bad = λ k. absurd (omega (arith, k)) }
-      by ReadFault u = record { plain = λ n. refl; bad = λ k. absurd (omega (arith, k)) }
-      by WriteFault u = record { plain = λ n. refl; bad = λ k. absurd (omega (arith, k)) }
-      by Flat u = record { plain = λ n. refl; bad = λ k. absurd (omega (arith, k)) }
-      by TooLong u = record { plain = λ n. refl; bad = λ k. absurd (omega (arith, k)) }
+      by s u = record { plain = λ n. refl; bad = λ k. absurd (omega (arith, k)) }
   told (Ok v) stop status h u e put stopped_by = subst (λ (n : ℕ). IsToldLine left_old n (line_of_end stop)) (sym e) (elim put.1 [ inl w ↦ at None w.0 refl (λ k. omega (arith, k)) | inr w ↦ at (Some WriteFault) w.0 refl (λ k. omega (arith, k)) ])
     where
       at : (o : Option Stop) → stop ≡ o → line_of_end o ≡ plain_line (status_of_end o) → status_of_end o ≢ 5 → IsToldLine left_old (status_of_end stop) (line_of_end stop)

@@ -43,11 +43,10 @@ if-told P (Some told) old bytes now e f h p = subst P (f ∙ h ∙ ap (λ (v : L
 pub unreported_told : (left : Option (List ℕ)) (failed : Type 0) (old bytes now : List ℕ) → old ≡ [] → now ≡ bytes → IfSome left (λ told. bytes ≡ old ++ told) → (m : Result Made Stop) → IfErr m (IsUnreported (Some now) ⊥) → IfErr m (IsUnreported left failed)
 unreported_told left failed old bytes now e f h (Ok made) u = tt
 unreported_told left failed old bytes now e f h (Err Memory) u = tt
-unreported_told left failed old bytes now e f h (Err (BadLine line)) u =
-    (
-      record { fault = u.0.fault; line_is = u.0.line_is; cause = if-told (λ (b : List ℕ). IsFault line_limit b u.0.fault) left old bytes now e f h u.0.cause },
-      if-told (λ (b : List ℕ). length b ≤ input_limit) left old bytes now e f h u.1,
-    )
+unreported_told left failed old bytes now e f h (Err (BadLine line)) u = (
+  record { fault = u.0.fault; line_is = u.0.line_is; cause = if-told (λ (b : List ℕ). IsFault line_limit b u.0.fault) left old bytes now e f h u.0.cause },
+  if-told (λ (b : List ℕ). length b ≤ input_limit) left old bytes now e f h u.1,
+)
 unreported_told left failed old bytes now e f h (Err Flat) u = if-told IsFlatFile left old bytes now e f h u
 unreported_told left failed old bytes now e f h (Err TooLong) u = if-told (λ (b : List ℕ). input_limit < length b) left old bytes now e f h u
 unreported_told left failed old bytes now e f h (Err stop) u = absurd u

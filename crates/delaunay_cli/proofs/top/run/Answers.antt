@@ -13,7 +13,7 @@ use Rattle.delaunay_cli.specs.Words.{asks_shape, asks_text, worker_count}
 use Rattle.delaunay_cli.proofs.DrawnFiles.{kept-meshed}
 use Rattle.delaunay_cli.proofs.Promised.{anchored_text, completes, drawn_text, of_bytes, of_file}
 use Rattle.delaunay_cli.specs.Stops.{line_of_end}
-use Rattle.delaunay_cli.proofs.CommandLine.{default-words, mesh-words, mesh_order-words, read-words, shape-words, shape_order-words}
+use Rattle.delaunay_cli.proofs.CommandLine.{default-words, mesh-words, mesh_order-words, shape-words, shape_order-words}
 use Rattle.delaunay_cli.proofs.NumberWords.{gen-words, gen_text-words, mesh_workers-words, shape_workers-words}
 use Rattle.delaunay_cli.proofs.top.run.Goals as goal
 
@@ -22,19 +22,19 @@ returns-clause-told g c =
     record { line = line_of_end c.work-ended.result.stop; is_line = c.work-ended.ensures.line; front = c.tell.ensures.front; whole = c.tell.ensures.whole }
 
 pub returns-clause-mesh : goal.returns-clause-mesh
-returns-clause-mesh g c = mesh-words c.args.words.now
+returns-clause-mesh g c = λ w. (mesh-words c.args.words.now w).0
 
 pub returns-clause-mesh_order : goal.returns-clause-mesh_order
-returns-clause-mesh_order g c = mesh_order-words c.args.words.now
+returns-clause-mesh_order g c = λ w. (mesh_order-words c.args.words.now w).0
 
 pub returns-clause-shape : goal.returns-clause-shape
-returns-clause-shape g c = shape-words c.args.words.now
+returns-clause-shape g c = λ w. (shape-words c.args.words.now w).0
 
 pub returns-clause-shape_order : goal.returns-clause-shape_order
-returns-clause-shape_order g c = shape_order-words c.args.words.now
+returns-clause-shape_order g c = λ w. (shape_order-words c.args.words.now w).0
 
 pub returns-clause-read : goal.returns-clause-read
-returns-clause-read g c = read-words c.args.words.now
+returns-clause-read g c = λ w. (default-words c.args.words.now w).1
 
 pub returns-clause-generator : goal.returns-clause-generator
 returns-clause-generator g c = λ count start few small w. gen-words c.args.words.now count start few small w
@@ -43,7 +43,7 @@ pub returns-clause-generator_text : goal.returns-clause-generator_text
 returns-clause-generator_text g c = λ count start few small w. gen_text-words c.args.words.now count start few small w
 
 pub returns-clause-one_worker : goal.returns-clause-one_worker
-returns-clause-one_worker g c = default-words c.args.words.now
+returns-clause-one_worker g c = λ w. (default-words c.args.words.now w).0
 
 pub returns-clause-mesh_workers : goal.returns-clause-mesh_workers
 returns-clause-mesh_workers g c = λ workers grid some few size w. mesh_workers-words c.args.words.now workers grid some few size w

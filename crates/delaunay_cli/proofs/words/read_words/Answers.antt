@@ -8,8 +8,11 @@ use Rattle.delaunay_cli.proofs.words.read_words.Goals.{in-OutOfMemory, in_defaul
 
 pub returns-in_default-clause-refused : goal.returns-in_default-clause-refused
 returns-in_default-clause-refused c =
-    inr (refl, grid-refused (app_of c.in_ok-program.program) c.args.words.now (subcommand_rows_of c.in-Ok.matches) c.in_ok-program.ensures (λ s. (c.in-Ok.ensures.matches s).1)
-        (sym (ap (λ (o : Option Making). is_some o) c.in_default.is) ∙ c.making_of.ensures.size))
+    inr (
+      refl,
+      grid-refused (app_of c.in_ok-program.program) c.args.words.now (subcommand_rows_of c.in-Ok.matches) c.in_ok-program.ensures (λ s. (c.in-Ok.ensures.matches s).1)
+          (sym (ap (λ (o : Option Making). is_some o) c.in_default.is) ∙ c.making_of.ensures.size),
+    )
 
 pub returns-in-Some-clause-taken : goal.returns-in-Some-clause-taken
 returns-in-Some-clause-taken c =
@@ -20,6 +23,9 @@ pub returns-after-kind-clause-refused : goal.returns-after-kind-clause-refused
 returns-after-kind-clause-refused c =
     elim c.match-kind.branch [
       | in-OutOfMemory w ↦ inl w.result-is
-      | in_default-kind w ↦ inr (w.result-is, refused (app_of c.in_ok-program.program) c.args.words.now (kind_of c.in-Err.error) c.in_ok-program.ensures c.in-Err.ensures.kinds
-          (λ k. w.in_default-kind.not-OutOfMemory (c.kind.ensures ∙ k)))
+      | in_default-kind w ↦ inr (
+        w.result-is,
+        refused (app_of c.in_ok-program.program) c.args.words.now (kind_of c.in-Err.error) c.in_ok-program.ensures c.in-Err.ensures.kinds
+            (λ k. w.in_default-kind.not-OutOfMemory (c.kind.ensures ∙ k)),
+      )
     ]
