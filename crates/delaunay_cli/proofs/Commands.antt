@@ -1,8 +1,7 @@
 -- What a command makes is what the words ask for.
-use Rattle.std.proofs.Common.{◌≡◌, sym, subst, ℕ, Bool, List}
+use Rattle.std.proofs.Common.{subst, ℕ, Bool, List}
 use Rattle.std.specs.Prelude.{Option, IfSome, IfOk, IfErr, Result, Ok, Err, String}
 use Rattle.std.specs.declared.alloc.Global.{Global}
-use Rattle.edit_history.specs.declared.history.Entry.{Entry}
 use Rattle.edit_files.specs.Generator.{generated}
 use Rattle.delaunay_cli.specs.declared.made.Made.{Made}
 use Rattle.delaunay_cli.specs.declared.stop.Stop.{Stop}
@@ -16,7 +15,7 @@ use Rattle.delaunay_cli.specs.Ends.{IsMade, IsUnmade}
 use Rattle.delaunay_cli.specs.Page.{text_of_page}
 use Rattle.delaunay_cli.specs.Reported.{IsReported, IsUnreported}
 use Rattle.delaunay_cli.specs.Tasks.{IsTask}
-use Rattle.delaunay_cli.specs.Words.{AreTaken, asks_drawn, asks_order, asks_shape, worker_count}
+use Rattle.delaunay_cli.specs.Words.{AreTaken, asks_drawn, asks_order, asks_shape}
 use Rattle.delaunay_cli.proofs.CommandLine.{draws-file, reads-file}
 use Rattle.delaunay_cli.proofs.DrawnFiles.{drawn-asked, not_both}
 

@@ -1,5 +1,5 @@
 -- How a run ends: from what was made for its words, or why nothing was.
-use Rattle.std.proofs.Common.{◌≡◌, ◌≢◌, ◌⊎◌, ◌↔◌, inl, inr, refl, sym, subst, ap, ◌∙◌, ℕ, ◌<◌, ◌≤◌, Bool, List, [], false, length, arith}
+use Rattle.std.proofs.Common.{◌≡◌, ◌≢◌, ◌⊎◌, ◌↔◌, inl, inr, refl, sym, subst, ap, ◌∙◌, ℕ, ◌≤◌, Bool, List, [], false, arith}
 use Rattle.std.specs.Prelude.{Option, None, Some, IfSome, IfOk, IfErr, IsOk, Result, Ok, Err, String}
 use Rattle.std.specs.declared.alloc.Global.{Global}
 use Rattle.std.specs.Io.KnownBytes.{Appends, Keeps, IsAtEnd}
@@ -8,7 +8,7 @@ use Rattle.point_order.specs.Solid.{is_solid}
 use Rattle.edit_history.specs.declared.history.Entry.{Entry}
 use Rattle.edit_history.specs.Histories.{IsLegal}
 use Rattle.edit_files.specs.Content.{Content}
-use Rattle.edit_files.specs.Grammar.{line_limit, IsFile}
+use Rattle.edit_files.specs.Grammar.{line_limit}
 use Rattle.edit_files.proofs.Judged.{one_file_of, no_fault_of}
 use Rattle.delaunay_cli.specs.declared.made.Made.{Made}
 use Rattle.delaunay_cli.specs.declared.stop.Stop.{Stop}

@@ -1,5 +1,5 @@
 -- What the end of a run says of its file.
-use Rattle.std.proofs.Common.{◌≡◌, ◌≢◌, ◌⊎◌, ◌↔◌, inl, inr, ◌∙◌, ap, subst, ℕ, ◌<◌, ◌≤◌, Bool, List, false, length, arith}
+use Rattle.std.proofs.Common.{◌≡◌, ◌≢◌, ◌⊎◌, inl, inr, ◌∙◌, ap, subst, ℕ, ◌<◌, Bool, List, false, length, arith}
 use Rattle.std.specs.Prelude.{Option, None, Some, IfSome, String}
 use Rattle.std.specs.declared.alloc.Global.{Global}
 use Rattle.std.proofs.lemmas.Bool.{cases_eq}
