@@ -2,11 +2,9 @@ pub mod Lines
 pub mod CommandLine
 pub mod Judging
 pub mod Ended
-pub mod Commands
 pub mod OpeningLines
 pub mod ShapesOfSet
 pub mod DrawnFiles
 pub mod PlainTexts
-pub mod Promised
 pub mod NumberWords
 pub mod DealtLines

@@ -11,7 +11,7 @@ use Rattle.delaunay_cli.specs.PlainText.{plain_text}
 use Rattle.delaunay_cli.specs.Run.{HasFault, history_of, input_limit}
 use Rattle.delaunay_cli.specs.Words.{asks_shape, asks_text, worker_count}
 use Rattle.delaunay_cli.proofs.DrawnFiles.{kept-meshed}
-use Rattle.delaunay_cli.proofs.Promised.{anchored_text, completes, drawn_text, of_bytes, of_file}
+use Rattle.delaunay_cli.proofs.Ended.{anchored_text, completes, drawn_text, of_bytes, of_file}
 use Rattle.delaunay_cli.specs.Stops.{line_of_end}
 use Rattle.delaunay_cli.proofs.CommandLine.{default-words, mesh-words, mesh_order-words, shape-words, shape_order-words}
 use Rattle.delaunay_cli.proofs.NumberWords.{gen-words, gen_text-words, mesh_workers-words, shape_workers-words}

@@ -4,7 +4,7 @@ use Rattle.delaunay_cli.specs.declared.task.Task.{Task}
 use Rattle.delaunay_cli.specs.Tasks.{IsTask}
 use Rattle.delaunay_cli.specs.Words.{asks_drawn}
 use Rattle.delaunay_cli.proofs.CommandLine.{draws-file, reads-file}
-use Rattle.delaunay_cli.proofs.Commands.{drawn-made, reported-made, reported-unmade}
+use Rattle.delaunay_cli.proofs.Ended.{drawn-made, reported-made, reported-unmade}
 use Rattle.delaunay_cli.proofs.DrawnFiles.{not_both}
 use Rattle.delaunay_cli.proofs.work.make.Goals as goal
 
