@@ -31,141 +31,56 @@ is-simple : is_simple program ≡ true
 unfolding clap_on_literals
 is-simple = refl
 
-mesh-fault : (name : Text) → fault_of program (name ∷ codes "mesh" ∷ []) ≡ []
+-- what words are found to be: with no fault, `shape` or not, with `--order` or not, one worker, a grid of 4, and not `gen`
+abbrev AreFound : List Text → Bool → Bool → Type 0
+AreFound words shape order =
+    (fault_of program words ≡ []) × (is_command (codes "shape") (subcommand_of program words) ≡ shape) × (has_flag (codes "order") (subcommand_of program words) ≡ order)
+    × (number_of (codes "workers") 1 most_workers (subcommand_of program words) ≡ 1) × (number_of (codes "grid") 1 most_grid (subcommand_of program words) ≡ 4)
+    × (is_command (codes "gen") (subcommand_of program words) ≡ false)
+
+mesh-found : (name : Text) → AreFound (name ∷ codes "mesh" ∷ []) false false
 unfolding clap_on_literals
-mesh-fault name = refl
+mesh-found name = (refl, refl, refl, refl, refl, refl)
 
-mesh-order : (name : Text) → has_flag (codes "order") (subcommand_of program (name ∷ codes "mesh" ∷ [])) ≡ false
+mesh_order-found : (name : Text) → AreFound (name ∷ codes "mesh" ∷ codes "--order" ∷ []) false true
 unfolding clap_on_literals
-mesh-order name = refl
+mesh_order-found name = (refl, refl, refl, refl, refl, refl)
 
-mesh-shape : (name : Text) → is_command (codes "shape") (subcommand_of program (name ∷ codes "mesh" ∷ [])) ≡ false
+shape-found : (name : Text) → AreFound (name ∷ codes "shape" ∷ []) true false
 unfolding clap_on_literals
-mesh-shape name = refl
+shape-found name = (refl, refl, refl, refl, refl, refl)
 
-mesh_order-fault : (name : Text) → fault_of program (name ∷ codes "mesh" ∷ codes "--order" ∷ []) ≡ []
+shape_order-found : (name : Text) → AreFound (name ∷ codes "shape" ∷ codes "--order" ∷ []) true true
 unfolding clap_on_literals
-mesh_order-fault name = refl
+shape_order-found name = (refl, refl, refl, refl, refl, refl)
 
-mesh_order-order : (name : Text) → has_flag (codes "order") (subcommand_of program (name ∷ codes "mesh" ∷ codes "--order" ∷ [])) ≡ true
-unfolding clap_on_literals
-mesh_order-order name = refl
+-- so they are taken, ask for these and for the defaults, and read a file
+abbrev AreAsked : List (String Global) → Bool → Bool → Type 0
+AreAsked words shape order =
+    (AreTaken words × (asks_shape words ≡ shape) × (asks_order words ≡ order)) × ((worker_count words ≡ 1) × (grid_size words ≡ 4)) × ReadsFile words
 
-mesh_order-shape : (name : Text) → is_command (codes "shape") (subcommand_of program (name ∷ codes "mesh" ∷ codes "--order" ∷ [])) ≡ false
-unfolding clap_on_literals
-mesh_order-shape name = refl
+asked : (words : List (String Global)) (texts : List Text) (shape order : Bool) → texts_of words ≡ texts → AreFound texts shape order → AreAsked words shape order
+unfolding AreTaken asks_order asks_shape asks_drawn worker_count grid_size
+asked words texts shape order e found =
+    let f = subst (λ (w : List Text). AreFound w shape order) (sym e) found in (((f.0, ap is_grid_size f.4), f.1, f.2), (f.3, f.4), f.5)
 
-shape-fault : (name : Text) → fault_of program (name ∷ codes "shape" ∷ []) ≡ []
-unfolding clap_on_literals
-shape-fault name = refl
+pub mesh-words : (words : List (String Global)) → AreMesh words → AreAsked words false false
+mesh-words words m = asked words (m.0 ∷ codes "mesh" ∷ []) false false m.1 (mesh-found m.0)
 
-shape-order : (name : Text) → has_flag (codes "order") (subcommand_of program (name ∷ codes "shape" ∷ [])) ≡ false
-unfolding clap_on_literals
-shape-order name = refl
+pub mesh_order-words : (words : List (String Global)) → AreMeshOrder words → AreAsked words false true
+mesh_order-words words m = asked words (m.0 ∷ codes "mesh" ∷ codes "--order" ∷ []) false true m.1 (mesh_order-found m.0)
 
-shape-shape : (name : Text) → is_command (codes "shape") (subcommand_of program (name ∷ codes "shape" ∷ [])) ≡ true
-unfolding clap_on_literals
-shape-shape name = refl
+pub shape-words : (words : List (String Global)) → AreShape words → AreAsked words true false
+shape-words words m = asked words (m.0 ∷ codes "shape" ∷ []) true false m.1 (shape-found m.0)
 
-shape_order-fault : (name : Text) → fault_of program (name ∷ codes "shape" ∷ codes "--order" ∷ []) ≡ []
-unfolding clap_on_literals
-shape_order-fault name = refl
+pub shape_order-words : (words : List (String Global)) → AreShapeOrder words → AreAsked words true true
+shape_order-words words m = asked words (m.0 ∷ codes "shape" ∷ codes "--order" ∷ []) true true m.1 (shape_order-found m.0)
 
-shape_order-order : (name : Text) → has_flag (codes "order") (subcommand_of program (name ∷ codes "shape" ∷ codes "--order" ∷ [])) ≡ true
-unfolding clap_on_literals
-shape_order-order name = refl
-
-shape_order-shape : (name : Text) → is_command (codes "shape") (subcommand_of program (name ∷ codes "shape" ∷ codes "--order" ∷ [])) ≡ true
-unfolding clap_on_literals
-shape_order-shape name = refl
-
-mesh-workers : (name : Text) → number_of (codes "workers") 1 most_workers (subcommand_of program (name ∷ codes "mesh" ∷ [])) ≡ 1
-unfolding clap_on_literals
-mesh-workers name = refl
-
-mesh-grid : (name : Text) → number_of (codes "grid") 1 most_grid (subcommand_of program (name ∷ codes "mesh" ∷ [])) ≡ 4
-unfolding clap_on_literals
-mesh-grid name = refl
-
-mesh_order-workers : (name : Text) → number_of (codes "workers") 1 most_workers (subcommand_of program (name ∷ codes "mesh" ∷ codes "--order" ∷ [])) ≡ 1
-unfolding clap_on_literals
-mesh_order-workers name = refl
-
-mesh_order-grid : (name : Text) → number_of (codes "grid") 1 most_grid (subcommand_of program (name ∷ codes "mesh" ∷ codes "--order" ∷ [])) ≡ 4
-unfolding clap_on_literals
-mesh_order-grid name = refl
-
-shape-workers : (name : Text) → number_of (codes "workers") 1 most_workers (subcommand_of program (name ∷ codes "shape" ∷ [])) ≡ 1
-unfolding clap_on_literals
-shape-workers name = refl
-
-shape-grid : (name : Text) → number_of (codes "grid") 1 most_grid (subcommand_of program (name ∷ codes "shape" ∷ [])) ≡ 4
-unfolding clap_on_literals
-shape-grid name = refl
-
-shape_order-workers : (name : Text) → number_of (codes "workers") 1 most_workers (subcommand_of program (name ∷ codes "shape" ∷ codes "--order" ∷ [])) ≡ 1
-unfolding clap_on_literals
-shape_order-workers name = refl
-
-shape_order-grid : (name : Text) → number_of (codes "grid") 1 most_grid (subcommand_of program (name ∷ codes "shape" ∷ codes "--order" ∷ [])) ≡ 4
-unfolding clap_on_literals
-shape_order-grid name = refl
-
--- by themselves they ask for one worker, and a grid of size 4
-pub default-words : (words : List (String Global)) → AreMesh words ⊎ AreMeshOrder words ⊎ AreShape words ⊎ AreShapeOrder words → (worker_count words ≡ 1) × (grid_size words ≡ 4)
-unfolding worker_count grid_size
-default-words words (inl m) = (
-  ap (λ (w : List Text). number_of (codes "workers") 1 most_workers (subcommand_of program w)) m.1 ∙ mesh-workers m.0,
-  ap (λ (w : List Text). number_of (codes "grid") 1 most_grid (subcommand_of program w)) m.1 ∙ mesh-grid m.0,
-)
-default-words words (inr (inl m)) = (
-  ap (λ (w : List Text). number_of (codes "workers") 1 most_workers (subcommand_of program w)) m.1 ∙ mesh_order-workers m.0,
-  ap (λ (w : List Text). number_of (codes "grid") 1 most_grid (subcommand_of program w)) m.1 ∙ mesh_order-grid m.0,
-)
-default-words words (inr (inr (inl m))) = (
-  ap (λ (w : List Text). number_of (codes "workers") 1 most_workers (subcommand_of program w)) m.1 ∙ shape-workers m.0,
-  ap (λ (w : List Text). number_of (codes "grid") 1 most_grid (subcommand_of program w)) m.1 ∙ shape-grid m.0,
-)
-default-words words (inr (inr (inr m))) = (
-  ap (λ (w : List Text). number_of (codes "workers") 1 most_workers (subcommand_of program w)) m.1 ∙ shape_order-workers m.0,
-  ap (λ (w : List Text). number_of (codes "grid") 1 most_grid (subcommand_of program w)) m.1 ∙ shape_order-grid m.0,
-)
-
--- the program's name and `mesh` are taken, and ask for no shapes and no order block
-pub mesh-words : (words : List (String Global)) → AreMesh words → AreTaken words × (asks_shape words ≡ false) × (asks_order words ≡ false)
-unfolding AreTaken asks_order asks_shape
-mesh-words words m = (
-  (ap (fault_of program) m.1 ∙ mesh-fault m.0, ap is_grid_size (default-words words (inl m)).1),
-  ap (λ (w : List Text). is_command (codes "shape") (subcommand_of program w)) m.1 ∙ mesh-shape m.0,
-  ap (λ (w : List Text). has_flag (codes "order") (subcommand_of program w)) m.1 ∙ mesh-order m.0,
-)
-
--- with `--order` they are taken, and ask for the order block
-pub mesh_order-words : (words : List (String Global)) → AreMeshOrder words → AreTaken words × (asks_shape words ≡ false) × (asks_order words ≡ true)
-unfolding AreTaken asks_order asks_shape
-mesh_order-words words m = (
-  (ap (fault_of program) m.1 ∙ mesh_order-fault m.0, ap is_grid_size (default-words words (inr (inl m))).1),
-  ap (λ (w : List Text). is_command (codes "shape") (subcommand_of program w)) m.1 ∙ mesh_order-shape m.0,
-  ap (λ (w : List Text). has_flag (codes "order") (subcommand_of program w)) m.1 ∙ mesh_order-order m.0,
-)
-
--- the program's name and `shape` are taken, and ask for shapes
-pub shape-words : (words : List (String Global)) → AreShape words → AreTaken words × (asks_shape words ≡ true) × (asks_order words ≡ false)
-unfolding AreTaken asks_order asks_shape
-shape-words words m = (
-  (ap (fault_of program) m.1 ∙ shape-fault m.0, ap is_grid_size (default-words words (inr (inr (inl m)))).1),
-  ap (λ (w : List Text). is_command (codes "shape") (subcommand_of program w)) m.1 ∙ shape-shape m.0,
-  ap (λ (w : List Text). has_flag (codes "order") (subcommand_of program w)) m.1 ∙ shape-order m.0,
-)
-
--- with `--order` they are taken, and ask for both
-pub shape_order-words : (words : List (String Global)) → AreShapeOrder words → AreTaken words × (asks_shape words ≡ true) × (asks_order words ≡ true)
-unfolding AreTaken asks_order asks_shape
-shape_order-words words m = (
-  (ap (fault_of program) m.1 ∙ shape_order-fault m.0, ap is_grid_size (default-words words (inr (inr (inr m)))).1),
-  ap (λ (w : List Text). is_command (codes "shape") (subcommand_of program w)) m.1 ∙ shape_order-shape m.0,
-  ap (λ (w : List Text). has_flag (codes "order") (subcommand_of program w)) m.1 ∙ shape_order-order m.0,
-)
+pub default-words : (words : List (String Global)) → AreMesh words ⊎ AreMeshOrder words ⊎ AreShape words ⊎ AreShapeOrder words → ((worker_count words ≡ 1) × (grid_size words ≡ 4)) × ReadsFile words
+default-words words (inl m) = let a = mesh-words words m in (a.1, a.2)
+default-words words (inr (inl m)) = let a = mesh_order-words words m in (a.1, a.2)
+default-words words (inr (inr (inl m))) = let a = shape-words words m in (a.1, a.2)
+default-words words (inr (inr (inr m))) = let a = shape_order-words words m in (a.1, a.2)
 
 -- what a parse met is what the words name
 pub met-is : (a : App) (words : List (String Global)) (met : Option (Text × List Row)) → a ≡ program → (is_simple a ≡ true → met ≡ subcommand_of a (texts_of words)) → met ≡ subcommand_of program (texts_of words)
@@ -239,32 +154,6 @@ number-not_read text least most small none = by (is_unsigned_in least most text)
     by : (b : Bool) → is_unsigned_in least most text ≡ b → least ≡ number_between least most text
     by true t = let a = accepts-Accepts false (Unsigned least most) text t in absurd (none a.0 (omega (arith, a.3)) a.2 a.3)
     by false t = sym (ap (λ (b : Bool). cond b (digits_value 10 (without_leading_plus text)) least) t)
-
--- ---- which words read a file
-
-mesh-read : (name : Text) → is_command (codes "gen") (subcommand_of program (name ∷ codes "mesh" ∷ [])) ≡ false
-unfolding clap_on_literals
-mesh-read name = refl
-
-mesh_order-read : (name : Text) → is_command (codes "gen") (subcommand_of program (name ∷ codes "mesh" ∷ codes "--order" ∷ [])) ≡ false
-unfolding clap_on_literals
-mesh_order-read name = refl
-
-shape-read : (name : Text) → is_command (codes "gen") (subcommand_of program (name ∷ codes "shape" ∷ [])) ≡ false
-unfolding clap_on_literals
-shape-read name = refl
-
-shape_order-read : (name : Text) → is_command (codes "gen") (subcommand_of program (name ∷ codes "shape" ∷ codes "--order" ∷ [])) ≡ false
-unfolding clap_on_literals
-shape_order-read name = refl
-
--- the commands `mesh` and `shape` do
-pub read-words : (words : List (String Global)) → AreMesh words ⊎ AreMeshOrder words ⊎ AreShape words ⊎ AreShapeOrder words → ReadsFile words
-unfolding asks_drawn
-read-words words (inl m) = ap (λ (w : List Text). is_command (codes "gen") (subcommand_of program w)) m.1 ∙ mesh-read m.0
-read-words words (inr (inl m)) = ap (λ (w : List Text). is_command (codes "gen") (subcommand_of program w)) m.1 ∙ mesh_order-read m.0
-read-words words (inr (inr (inl m))) = ap (λ (w : List Text). is_command (codes "gen") (subcommand_of program w)) m.1 ∙ shape-read m.0
-read-words words (inr (inr (inr m))) = ap (λ (w : List Text). is_command (codes "gen") (subcommand_of program w)) m.1 ∙ shape_order-read m.0
 
 -- ---- the task and the words
 

@@ -18,7 +18,7 @@ use Rattle.clap.proofs.ValueTestLemmas.{Accepts-accepts}
 use Rattle.clap.specs.declared.builder.value_parser.ValueParser.TheVariants.{Signed, Unsigned}
 use Rattle.std.proofs.lemmas.Bool.Decides.{nat_tests}
 use Rattle.cell_store.specs.Grids.{is_grid_size}
-use Rattle.delaunay_cli.specs.Words.{AreGen, AreGenText, AreMeshing, AreTaken, DrawsFile, ReadsFile, asks_drawn, asks_shape, asks_text, drawn_count, drawn_start, grid_size, has_flag, is_command, most_count, most_grid, most_start, most_workers, number_between, number_of, program, worker_count}
+use Rattle.delaunay_cli.specs.Words.{AreGen, AreGenText, AreMeshing, AreTaken, DrawsFile, ReadsFile, asks_drawn, asks_shape, asks_text, drawn_count, drawn_start, grid_size, has_flag, is_command, most_count, most_grid, most_start, most_workers, number_between, number_of, program, texts_of, worker_count}
 
 -- ---- the decimal text of a number
 
@@ -80,88 +80,46 @@ both_faults a b = or_else (or_else (or_else a (or_else b [])) []) []
 gen_texts : Text → Text → Text → List Text → List Text
 gen_texts name count start rest = name ∷ codes "gen" ∷ (codes "--count=" ++ count) ∷ (codes "--start=" ++ start) ∷ rest
 
-gen-fault : (name c s : Text) → is_signed_in (pos 0) (pos most_count) c ≡ true → is_signed_in (pos 0) (pos most_start) s ≡ true → fault_of program (gen_texts name c s []) ≡ []
+-- what the words are found to be: with no fault, a grid of 4, the command `gen`, its count and start, and with `--text` or not
+abbrev AreFoundGen : List Text → Text → Text → Bool → Type 0
+AreFoundGen words c s text =
+    (is_signed_in (pos 0) (pos most_count) c ≡ true → is_signed_in (pos 0) (pos most_start) s ≡ true → fault_of program words ≡ [])
+    × (number_of (codes "grid") 1 most_grid (subcommand_of program words) ≡ 4) × (is_command (codes "gen") (subcommand_of program words) ≡ true)
+    × (number_of (codes "count") 0 most_count (subcommand_of program words) ≡ number_between 0 most_count c)
+    × (number_of (codes "start") 0 most_start (subcommand_of program words) ≡ number_between 0 most_start s)
+    × (has_flag (codes "text") (subcommand_of program words) ≡ text)
+
+gen-found : (name c s : Text) → AreFoundGen (gen_texts name c s []) c s false
 unfolding clap_on_literals word_faults both_faults gen_texts
-gen-fault name c s e k = ap₂ (λ (x y : Bool). both_faults (word_faults 0 most_count x) (word_faults 0 most_start y)) e k
+gen-found name c s = (λ e k. ap₂ (λ (x y : Bool). both_faults (word_faults 0 most_count x) (word_faults 0 most_start y)) e k, refl, refl, refl, refl, refl)
 
-gen-grid : (name c s : Text) → number_of (codes "grid") 1 most_grid (subcommand_of program (gen_texts name c s [])) ≡ 4
-unfolding clap_on_literals gen_texts
-gen-grid name c s = refl
-
-gen-drawn : (name c s : Text) → is_command (codes "gen") (subcommand_of program (gen_texts name c s [])) ≡ true
-unfolding clap_on_literals gen_texts
-gen-drawn name c s = refl
-
-gen-count : (name c s : Text) → number_of (codes "count") 0 most_count (subcommand_of program (gen_texts name c s [])) ≡ number_between 0 most_count c
-unfolding clap_on_literals gen_texts
-gen-count name c s = refl
-
-gen-start : (name c s : Text) → number_of (codes "start") 0 most_start (subcommand_of program (gen_texts name c s [])) ≡ number_between 0 most_start s
-unfolding clap_on_literals gen_texts
-gen-start name c s = refl
-
-gen-text : (name c s : Text) → has_flag (codes "text") (subcommand_of program (gen_texts name c s [])) ≡ false
-unfolding clap_on_literals gen_texts
-gen-text name c s = refl
-
--- the same with `--text`
-gen_text-fault : (name c s : Text) → is_signed_in (pos 0) (pos most_count) c ≡ true → is_signed_in (pos 0) (pos most_start) s ≡ true → fault_of program (gen_texts name c s (codes "--text" ∷ [])) ≡ []
+gen_text-found : (name c s : Text) → AreFoundGen (gen_texts name c s (codes "--text" ∷ [])) c s true
 unfolding clap_on_literals word_faults both_faults gen_texts
-gen_text-fault name c s e k = ap₂ (λ (x y : Bool). both_faults (word_faults 0 most_count x) (word_faults 0 most_start y)) e k
+gen_text-found name c s = (λ e k. ap₂ (λ (x y : Bool). both_faults (word_faults 0 most_count x) (word_faults 0 most_start y)) e k, refl, refl, refl, refl, refl)
 
-gen_text-grid : (name c s : Text) → number_of (codes "grid") 1 most_grid (subcommand_of program (gen_texts name c s (codes "--text" ∷ []))) ≡ 4
-unfolding clap_on_literals gen_texts
-gen_text-grid name c s = refl
+-- so they are taken, and ask for the file of the count and the start
+gen-asked : (words : List (String Global)) (texts : List Text) (count start : ℕ) (text : Bool) → count ≤ most_count → start ≤ most_start → texts_of words ≡ texts → AreFoundGen texts (decimal count) (decimal start) text →
+    AreTaken words × DrawsFile words × (drawn_count words ≡ count) × (drawn_start words ≡ start) × (asks_text words ≡ text)
+unfolding AreTaken grid_size asks_drawn drawn_count drawn_start asks_text
+gen-asked words texts count start text few small e found =
+    let f = subst (λ (w : List Text). AreFoundGen w (decimal count) (decimal start) text) (sym e) found in (
+      (f.0 (decimal-taken 0 most_count count (omega arith) few (omega arith)) (decimal-taken 0 most_start start (omega arith) small (omega arith)), ap is_grid_size f.1),
+      f.2,
+      f.3 ∙ decimal-named 0 most_count count (omega arith) few (omega arith),
+      f.4 ∙ decimal-named 0 most_start start (omega arith) small (omega arith),
+      f.5,
+    )
 
-gen_text-drawn : (name c s : Text) → is_command (codes "gen") (subcommand_of program (gen_texts name c s (codes "--text" ∷ []))) ≡ true
-unfolding clap_on_literals gen_texts
-gen_text-drawn name c s = refl
-
-gen_text-count : (name c s : Text) → number_of (codes "count") 0 most_count (subcommand_of program (gen_texts name c s (codes "--text" ∷ []))) ≡ number_between 0 most_count c
-unfolding clap_on_literals gen_texts
-gen_text-count name c s = refl
-
-gen_text-start : (name c s : Text) → number_of (codes "start") 0 most_start (subcommand_of program (gen_texts name c s (codes "--text" ∷ []))) ≡ number_between 0 most_start s
-unfolding clap_on_literals gen_texts
-gen_text-start name c s = refl
-
-gen_text-text : (name c s : Text) → has_flag (codes "text") (subcommand_of program (gen_texts name c s (codes "--text" ∷ []))) ≡ true
-unfolding clap_on_literals gen_texts
-gen_text-text name c s = refl
-
--- the words `gen`, `--count=N` and `--start=M` are taken, and ask for the file of N and M
+-- the words `gen`, `--count=N` and `--start=M` ask for the file of N and M, and with `--text` for its text
 pub gen-words : (words : List (String Global)) (count start : ℕ) → count ≤ most_count → start ≤ most_start → AreGen count start words →
     AreTaken words × DrawsFile words × (drawn_count words ≡ count) × (drawn_start words ≡ start) × (asks_text words ≡ false)
-unfolding AreTaken grid_size asks_drawn drawn_count drawn_start asks_text gen_texts
-gen-words words count start few small m =
-    let c = decimal count in
-    let s = decimal start in (
-      (
-        ap (fault_of program) m.1 ∙ gen-fault m.0 c s (decimal-taken 0 most_count count (omega arith) few (omega arith)) (decimal-taken 0 most_start start (omega arith) small (omega arith)),
-        ap (λ (w : List Text). is_grid_size (number_of (codes "grid") 1 most_grid (subcommand_of program w))) m.1 ∙ ap is_grid_size (gen-grid m.0 c s),
-      ),
-      ap (λ (w : List Text). is_command (codes "gen") (subcommand_of program w)) m.1 ∙ gen-drawn m.0 c s,
-      ap (λ (w : List Text). number_of (codes "count") 0 most_count (subcommand_of program w)) m.1 ∙ gen-count m.0 c s ∙ decimal-named 0 most_count count (omega arith) few (omega arith),
-      ap (λ (w : List Text). number_of (codes "start") 0 most_start (subcommand_of program w)) m.1 ∙ gen-start m.0 c s ∙ decimal-named 0 most_start start (omega arith) small (omega arith),
-      ap (λ (w : List Text). has_flag (codes "text") (subcommand_of program w)) m.1 ∙ gen-text m.0 c s,
-    )
+unfolding gen_texts
+gen-words words count start few small m = gen-asked words (gen_texts m.0 (decimal count) (decimal start) []) count start false few small m.1 (gen-found m.0 (decimal count) (decimal start))
 
--- and with `--text` for its text
 pub gen_text-words : (words : List (String Global)) (count start : ℕ) → count ≤ most_count → start ≤ most_start → AreGenText count start words →
     AreTaken words × DrawsFile words × (drawn_count words ≡ count) × (drawn_start words ≡ start) × (asks_text words ≡ true)
-unfolding AreTaken grid_size asks_drawn drawn_count drawn_start asks_text gen_texts
-gen_text-words words count start few small m =
-    let c = decimal count in
-    let s = decimal start in (
-      (
-        ap (fault_of program) m.1 ∙ gen_text-fault m.0 c s (decimal-taken 0 most_count count (omega arith) few (omega arith)) (decimal-taken 0 most_start start (omega arith) small (omega arith)),
-        ap (λ (w : List Text). is_grid_size (number_of (codes "grid") 1 most_grid (subcommand_of program w))) m.1 ∙ ap is_grid_size (gen_text-grid m.0 c s),
-      ),
-      ap (λ (w : List Text). is_command (codes "gen") (subcommand_of program w)) m.1 ∙ gen_text-drawn m.0 c s,
-      ap (λ (w : List Text). number_of (codes "count") 0 most_count (subcommand_of program w)) m.1 ∙ gen_text-count m.0 c s ∙ decimal-named 0 most_count count (omega arith) few (omega arith),
-      ap (λ (w : List Text). number_of (codes "start") 0 most_start (subcommand_of program w)) m.1 ∙ gen_text-start m.0 c s ∙ decimal-named 0 most_start start (omega arith) small (omega arith),
-      ap (λ (w : List Text). has_flag (codes "text") (subcommand_of program w)) m.1 ∙ gen_text-text m.0 c s,
-    )
+unfolding gen_texts
+gen_text-words words count start few small m = gen-asked words (gen_texts m.0 (decimal count) (decimal start) (codes "--text" ∷ [])) count start true few small m.1 (gen_text-found m.0 (decimal count) (decimal start))
 
 -- ---- the words `--workers=N` and `--grid=M`
 
@@ -175,78 +133,44 @@ grid-below g h = grind (arith, nat_tests)
 meshing_texts : Text → Text → Text → Text → List Text
 meshing_texts name command workers grid = name ∷ command ∷ (codes "--workers=" ++ workers) ∷ (codes "--grid=" ++ grid) ∷ []
 
-mesh-fault : (name w g : Text) → is_signed_in (pos 1) (pos most_workers) w ≡ true → is_signed_in (pos 1) (pos most_grid) g ≡ true → fault_of program (meshing_texts name (codes "mesh") w g) ≡ []
+-- what the words are found to be: with no fault, a command that reads a file, its workers and its grid, and `shape` or not
+abbrev AreFoundMeshing : List Text → Text → Text → Bool → Type 0
+AreFoundMeshing words w g shape =
+    (is_signed_in (pos 1) (pos most_workers) w ≡ true → is_signed_in (pos 1) (pos most_grid) g ≡ true → fault_of program words ≡ [])
+    × (is_command (codes "gen") (subcommand_of program words) ≡ false)
+    × (number_of (codes "workers") 1 most_workers (subcommand_of program words) ≡ number_between 1 most_workers w)
+    × (number_of (codes "grid") 1 most_grid (subcommand_of program words) ≡ number_between 1 most_grid g)
+    × (is_command (codes "shape") (subcommand_of program words) ≡ shape)
+
+mesh-found : (name w g : Text) → AreFoundMeshing (meshing_texts name (codes "mesh") w g) w g false
 unfolding clap_on_literals word_faults both_faults meshing_texts
-mesh-fault name w g e k = ap₂ (λ (x y : Bool). both_faults (word_faults 1 most_workers x) (word_faults 1 most_grid y)) e k
+mesh-found name w g = (λ e k. ap₂ (λ (x y : Bool). both_faults (word_faults 1 most_workers x) (word_faults 1 most_grid y)) e k, refl, refl, refl, refl)
 
-mesh-drawn : (name w g : Text) → is_command (codes "gen") (subcommand_of program (meshing_texts name (codes "mesh") w g)) ≡ false
-unfolding clap_on_literals meshing_texts
-mesh-drawn name w g = refl
+shape-found : (name w g : Text) → AreFoundMeshing (meshing_texts name (codes "shape") w g) w g true
+unfolding clap_on_literals word_faults both_faults meshing_texts
+shape-found name w g = (λ e k. ap₂ (λ (x y : Bool). both_faults (word_faults 1 most_workers x) (word_faults 1 most_grid y)) e k, refl, refl, refl, refl)
 
-mesh-workers : (name w g : Text) → number_of (codes "workers") 1 most_workers (subcommand_of program (meshing_texts name (codes "mesh") w g)) ≡ number_between 1 most_workers w
-unfolding clap_on_literals meshing_texts
-mesh-workers name w g = refl
+-- so they are taken, and ask for these workers and this grid
+meshing-asked : (words : List (String Global)) (texts : List Text) (workers grid : ℕ) (shape : Bool) → 0 < workers → workers ≤ most_workers → is_grid_size grid ≡ true → texts_of words ≡ texts → AreFoundMeshing texts (decimal workers) (decimal grid) shape →
+    AreTaken words × ReadsFile words × (worker_count words ≡ workers) × (grid_size words ≡ grid) × (asks_shape words ≡ shape)
+unfolding AreTaken asks_drawn worker_count grid_size asks_shape
+meshing-asked words texts workers grid shape some few size e found =
+    let f = subst (λ (w : List Text). AreFoundMeshing w (decimal workers) (decimal grid) shape) (sym e) found in
+    let sized = f.3 ∙ decimal-named 1 most_grid grid (grid-above grid size) (grid-below grid size) (omega arith) in (
+      (f.0 (decimal-taken 1 most_workers workers (omega (arith, some)) few (omega arith)) (decimal-taken 1 most_grid grid (grid-above grid size) (grid-below grid size) (omega arith)), ap is_grid_size sized ∙ size),
+      f.1,
+      f.2 ∙ decimal-named 1 most_workers workers (omega (arith, some)) few (omega arith),
+      sized,
+      f.4,
+    )
 
-mesh-grid : (name w g : Text) → number_of (codes "grid") 1 most_grid (subcommand_of program (meshing_texts name (codes "mesh") w g)) ≡ number_between 1 most_grid g
-unfolding clap_on_literals meshing_texts
-mesh-grid name w g = refl
-
-mesh-shape : (name w g : Text) → is_command (codes "shape") (subcommand_of program (meshing_texts name (codes "mesh") w g)) ≡ false
-unfolding clap_on_literals meshing_texts
-mesh-shape name w g = refl
-
--- the words `mesh`, `--workers=N` and `--grid=M` are taken, and ask for N workers and a grid of size M
+-- the words `mesh` or `shape`, `--workers=N` and `--grid=M` ask for N workers and a grid of size M
 pub mesh_workers-words : (words : List (String Global)) (workers grid : ℕ) → 0 < workers → workers ≤ most_workers → is_grid_size grid ≡ true → AreMeshing (codes "mesh") workers grid words →
     AreTaken words × ReadsFile words × (worker_count words ≡ workers) × (grid_size words ≡ grid) × (asks_shape words ≡ false)
-unfolding AreTaken asks_drawn worker_count grid_size asks_shape meshing_texts
-mesh_workers-words words workers grid some few size m =
-    let w = decimal workers in
-    let g = decimal grid in
-    let sized = ap (λ (t : List Text). number_of (codes "grid") 1 most_grid (subcommand_of program t)) m.1 ∙ mesh-grid m.0 w g ∙ decimal-named 1 most_grid grid (grid-above grid size) (grid-below grid size) (omega arith) in (
-      (
-        ap (fault_of program) m.1 ∙ mesh-fault m.0 w g (decimal-taken 1 most_workers workers (omega (arith, some)) few (omega arith)) (decimal-taken 1 most_grid grid (grid-above grid size) (grid-below grid size) (omega arith)),
-        ap is_grid_size sized ∙ size,
-      ),
-      ap (λ (t : List Text). is_command (codes "gen") (subcommand_of program t)) m.1 ∙ mesh-drawn m.0 w g,
-      ap (λ (t : List Text). number_of (codes "workers") 1 most_workers (subcommand_of program t)) m.1 ∙ mesh-workers m.0 w g ∙ decimal-named 1 most_workers workers (omega (arith, some)) few (omega arith),
-      sized,
-      ap (λ (t : List Text). is_command (codes "shape") (subcommand_of program t)) m.1 ∙ mesh-shape m.0 w g,
-    )
+unfolding meshing_texts
+mesh_workers-words words workers grid some few size m = meshing-asked words (meshing_texts m.0 (codes "mesh") (decimal workers) (decimal grid)) workers grid false some few size m.1 (mesh-found m.0 (decimal workers) (decimal grid))
 
-shape-fault : (name w g : Text) → is_signed_in (pos 1) (pos most_workers) w ≡ true → is_signed_in (pos 1) (pos most_grid) g ≡ true → fault_of program (meshing_texts name (codes "shape") w g) ≡ []
-unfolding clap_on_literals word_faults both_faults meshing_texts
-shape-fault name w g e k = ap₂ (λ (x y : Bool). both_faults (word_faults 1 most_workers x) (word_faults 1 most_grid y)) e k
-
-shape-drawn : (name w g : Text) → is_command (codes "gen") (subcommand_of program (meshing_texts name (codes "shape") w g)) ≡ false
-unfolding clap_on_literals meshing_texts
-shape-drawn name w g = refl
-
-shape-workers : (name w g : Text) → number_of (codes "workers") 1 most_workers (subcommand_of program (meshing_texts name (codes "shape") w g)) ≡ number_between 1 most_workers w
-unfolding clap_on_literals meshing_texts
-shape-workers name w g = refl
-
-shape-grid : (name w g : Text) → number_of (codes "grid") 1 most_grid (subcommand_of program (meshing_texts name (codes "shape") w g)) ≡ number_between 1 most_grid g
-unfolding clap_on_literals meshing_texts
-shape-grid name w g = refl
-
-shape-shape : (name w g : Text) → is_command (codes "shape") (subcommand_of program (meshing_texts name (codes "shape") w g)) ≡ true
-unfolding clap_on_literals meshing_texts
-shape-shape name w g = refl
-
--- the words `shape`, `--workers=N` and `--grid=M` are taken, and ask for N workers and a grid of size M
 pub shape_workers-words : (words : List (String Global)) (workers grid : ℕ) → 0 < workers → workers ≤ most_workers → is_grid_size grid ≡ true → AreMeshing (codes "shape") workers grid words →
     AreTaken words × ReadsFile words × (worker_count words ≡ workers) × (grid_size words ≡ grid) × (asks_shape words ≡ true)
-unfolding AreTaken asks_drawn worker_count grid_size asks_shape meshing_texts
-shape_workers-words words workers grid some few size m =
-    let w = decimal workers in
-    let g = decimal grid in
-    let sized = ap (λ (t : List Text). number_of (codes "grid") 1 most_grid (subcommand_of program t)) m.1 ∙ shape-grid m.0 w g ∙ decimal-named 1 most_grid grid (grid-above grid size) (grid-below grid size) (omega arith) in (
-      (
-        ap (fault_of program) m.1 ∙ shape-fault m.0 w g (decimal-taken 1 most_workers workers (omega (arith, some)) few (omega arith)) (decimal-taken 1 most_grid grid (grid-above grid size) (grid-below grid size) (omega arith)),
-        ap is_grid_size sized ∙ size,
-      ),
-      ap (λ (t : List Text). is_command (codes "gen") (subcommand_of program t)) m.1 ∙ shape-drawn m.0 w g,
-      ap (λ (t : List Text). number_of (codes "workers") 1 most_workers (subcommand_of program t)) m.1 ∙ shape-workers m.0 w g ∙ decimal-named 1 most_workers workers (omega (arith, some)) few (omega arith),
-      sized,
-      ap (λ (t : List Text). is_command (codes "shape") (subcommand_of program t)) m.1 ∙ shape-shape m.0 w g,
-    )
+unfolding meshing_texts
+shape_workers-words words workers grid some few size m = meshing-asked words (meshing_texts m.0 (codes "shape") (decimal workers) (decimal grid)) workers grid true some few size m.1 (shape-found m.0 (decimal workers) (decimal grid))

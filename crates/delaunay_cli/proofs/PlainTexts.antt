@@ -1,26 +1,20 @@
 -- The text of an anchored file.
-use Rattle.std.proofs.Common.{◌≡◌, refl, ◌∙◌, ap, subst, ℕ, Bool, true, false, cond, List}
-use Rattle.std.specs.Prelude.{Option, Some, None, IfSome, String}
+use Rattle.std.proofs.Common.{◌≡◌, refl, ap, ℕ, Bool, true, false, cond, List}
+use Rattle.std.specs.Prelude.{None, String}
 use Rattle.std.specs.declared.alloc.Global.{Global}
-use Rattle.std.specs.Io.KnownBytes.{Appends}
-use Rattle.byte_ends.specs.Ends.{AppendsFront}
 use Rattle.point_order.specs.Complex.{complex}
 use Rattle.edit_history.specs.declared.history.Entry.{Entry}
 use Rattle.edit_history.specs.Histories.{IsLegal}
 use Rattle.edit_history.specs.OneThread.{Keeps}
 use Rattle.edit_files.specs.Content.{Content}
-use Rattle.edit_files.specs.Grammar.{line_limit, IsFile}
 use Rattle.edit_files.proofs.Generated.{generated-anchored}
-use Rattle.edit_files.proofs.Judged.{one_file_of}
 use Rattle.edit_files.specs.Writing.{file_text}
 use Rattle.mesh_files.specs.Summary.{summary_text}
-use Rattle.mesh_files.specs.Text.{report_text}
 use Rattle.plain_laws.specs.Plain.{IsAnchored, IsPlain}
 use Rattle.plain_laws.proofs.PlainLaw.{anchored_is_plain}
 use Rattle.delaunay_cli.specs.Drawn.{IsKeptOfDrawn, drawn_file, drawn_text}
-use Rattle.delaunay_cli.specs.PlainText.{plain_drawn, plain_report, plain_text}
-use Rattle.delaunay_cli.specs.Report.{report_of, shapes_of, text_of}
-use Rattle.delaunay_cli.specs.Run.{IsKept, Writes, WritesFront}
+use Rattle.delaunay_cli.specs.PlainText.{plain_drawn, plain_report}
+use Rattle.delaunay_cli.specs.Report.{report_of, shapes_of}
 use Rattle.delaunay_cli.specs.Words.{asks_text, drawn_count, drawn_start}
 
 -- the report of a plain history is that of the lines
@@ -32,26 +26,6 @@ report_is shape file h p =
 pub kept_is_plain : (shape : Bool) (file : Content) (workers : ℕ) (h : List Entry) → IsAnchored file.points file.edits → Keeps file.points file.edits workers h → IsLegal h →
     report_of shape false file h ≡ plain_report shape file
 kept_is_plain shape file workers h anchored keeps legal = report_is shape file h (anchored_is_plain file.points file.edits workers h anchored keeps legal)
-
--- what is written of an anchored file that a legal history keeps
-module _ (workers : ℕ) (shape order : Bool) (old new : Option (List ℕ)) (kept : List Entry) (legal : IsLegal kept) where
-  same : (f file : Content) → f ≡ file → order ≡ false → IsAnchored file.points file.edits → IsKept file workers kept → text_of shape order f kept ≡ plain_text shape file
-  same f file e o anchored k =
-      ap (λ (g : Content). text_of shape order g kept) e ∙ ap (λ (b : Bool). text_of shape b file kept) o ∙ ap report_text (kept_is_plain shape file workers kept anchored k.keeps legal)
-
-  pub plain_written : (left : Option (List ℕ)) → order ≡ false → IfSome left (λ bytes. Writes shape order bytes old new kept)
-      → IfSome left (λ bytes. (file : Content) → IsFile line_limit bytes file → IsKept file workers kept)
-      → IfSome left (λ bytes. (file : Content) → IsFile line_limit bytes file → IsAnchored file.points file.edits → Appends old new (plain_text shape file))
-  plain_written None o w k = tt
-  plain_written (Some bytes) o w k =
-      λ file is anchored. subst (λ (t : List ℕ). Appends old new t) (same w.0 file (one_file_of line_limit bytes w.0 file w.1 is) o anchored (k file is)) w.2
-
-  pub plain_front : (left : Option (List ℕ)) → order ≡ false → IfSome left (λ bytes. WritesFront shape order bytes old new kept)
-      → IfSome left (λ bytes. (file : Content) → IsFile line_limit bytes file → IsKept file workers kept)
-      → IfSome left (λ bytes. (file : Content) → IsFile line_limit bytes file → IsAnchored file.points file.edits → AppendsFront old new (plain_text shape file))
-  plain_front None o w k = tt
-  plain_front (Some bytes) o w k =
-      λ file is anchored. subst (λ (t : List ℕ). AppendsFront old new t) (same w.0 file (one_file_of line_limit bytes w.0 file w.1 is) o anchored (k file is)) w.2
 
 -- what is written of a drawn file
 pub drawn_is_plain : (words : List (String Global)) (workers : ℕ) (kept : List Entry) → IsLegal kept → IsKeptOfDrawn (asks_text words) (drawn_file words) workers kept → drawn_text words kept ≡ plain_drawn words

@@ -14,9 +14,16 @@ use Rattle.alpha_complex.specs.declared.shape.Kind.{Kind}
 use Rattle.alpha_complex.specs.Admitted.{kind}
 use Rattle.alpha_complex.specs.Condition.{AreFacesOf}
 use Rattle.alpha_complex.specs.Shapes.{ShapeParts, shape_of, shape_seen}
-use Rattle.mesh_files.specs.Report.{AreCounted, shapes_seen}
-use Rattle.mesh_files.specs.Text.{counted}
-use Rattle.delaunay_cli.specs.Report.{shapes_of}
+use Rattle.cell_store.proofs.ShareLaws.{ascending_replay}
+use Rattle.edit_files.specs.Content.{Content}
+use Rattle.edit_history.specs.declared.history.Entry.{Entry}
+use Rattle.edit_history.specs.Histories.{replay}
+use Rattle.mesh_files.specs.declared.report.Report.{Report}
+use Rattle.mesh_files.specs.Report.{AreCounted, parts_of, shapes_seen}
+use Rattle.mesh_files.specs.Text.{ReportParts, counted}
+use Rattle.delaunay_cli.specs.declared.made.Page.TheVariants.{Report as ReportPage}
+use Rattle.delaunay_cli.specs.Page.{IsWritable}
+use Rattle.delaunay_cli.specs.Report.{report_of, shapes_of}
 
 -- the faces of the cells of a complex are those of the complex
 pub faces_of_complex : (s : List ℕ) (cells : List Cell) (faces : FaceLists) → IsAscending s → AreKeys s → is_solid s ≡ true → cells ≡ complex s →
@@ -65,10 +72,17 @@ points_are s alpha = firsts s
     firsts (p ∷ ps) = ap (λ l. p ∷ l) (firsts ps)
 
 -- so a shape counts by them, and they ascend
-pub shapes_counted : (shape : Bool) (radii s : List ℕ) → IsAscending s → AreCounted (shapes_of shape radii s)
+shapes_counted : (shape : Bool) (radii s : List ℕ) → IsAscending s → AreCounted (shapes_of shape radii s)
 shapes_counted false radii s a = record { ascending = λ p i. absurd i }
 shapes_counted true radii s a = record { ascending = λ p i. by p (mapped_from (λ (radius : ℕ). (radius, shape_of s radius)) p radii i) }
   where
     -- the shape of a radius
     by : (p : ℕ × ShapeParts) → ((r : ℕ) × IsIn r radii × ((r, shape_of s r) ≡ p)) → IsAscending (counted p.1)
     by p k = subst (λ (v : ℕ × ShapeParts). IsAscending (counted v.1)) k.2 (subst IsAscending (sym (points_are s k.0)) a)
+
+-- the report of a history can be written
+pub writable_report : (shape order : Bool) (file : Content) (h : List Entry) (report : Report) → parts_of report ≡ report_of shape order file h → IsWritable (ReportPage report)
+writable_report shape order file h report e = (
+  subst IsAscending (sym (ap (λ (p : ReportParts). p.points) e)) (ascending_replay h),
+  subst AreCounted (sym (ap (λ (p : ReportParts). p.shapes) e)) (shapes_counted shape file.radii (replay h) (ascending_replay h)),
+)

@@ -30,3 +30,7 @@ drawn_file words = generated (drawn_count words) (drawn_start words)
 -- what is written of it
 abbrev pub drawn_text : List (String Global) → List Entry → List ℕ
 drawn_text words h = text_of_drawn (asks_text words) (drawn_file words) h
+
+-- what is made of a drawn file: the history and the text
+abbrev pub IsDrawn : Bool → ℕ → Content → List Entry → List ℕ → Type 0
+IsDrawn text workers file h written = IsKeptOfDrawn text file workers h × (written ≡ text_of_drawn text file h)

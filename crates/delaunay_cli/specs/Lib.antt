@@ -3,7 +3,10 @@ pub mod Made
 pub mod Statuses
 pub mod Words
 pub mod Run
-pub mod Endings
+pub mod Stops
+pub mod Page
+pub mod Reported
+pub mod Ends
 pub mod Tasks
 pub mod Drawn
 pub mod PlainText

@@ -53,7 +53,3 @@ IsSolidFile bytes =
 -- the bytes are no file, and have a fault
 abbrev pub HasFault : List ℕ → Type 0
 HasFault bytes = (fault : Fault) × IsFault line_limit bytes fault
-
--- a status of a run that has read its input whole
-abbrev pub IsJudged : ℕ → Type 0
-IsJudged status = (status ≡ 0) ⊎ (status ≡ 1) ⊎ (status ≡ 4) ⊎ (status ≡ 5) ⊎ (status ≡ 6)

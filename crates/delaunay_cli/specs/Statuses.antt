@@ -34,10 +34,6 @@ why_word Truncated = codes "Truncated"
 abbrev pub fault_line : Fault → List ℕ
 fault_line fault = codes "delaunay: line " ++ decimal fault.line ++ codes ": " ++ why_word fault.why ++ codes "\n"
 
--- it is the line of the fault of these bytes
-abbrev pub TellsFault : List ℕ → List ℕ → Type 0
-TellsFault bytes line = (fault : Fault) × (line ≡ fault_line fault) × IsFault line_limit bytes fault
-
 -- the line of a fault, and where the source told its bytes, of their fault
 pub record IsFaultLine (left : Option (List ℕ)) (line : List ℕ) : Type 0 where
   pub fault : Fault

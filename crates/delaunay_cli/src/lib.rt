@@ -8,15 +8,19 @@
 #![tactic(auto)]
 
 mod drawn;
+mod made;
 mod mesh;
 mod meshed;
 mod outcome;
 mod replies;
+mod reported;
 mod shapes;
+mod stop;
 mod task;
 mod telling;
 mod top;
 mod words;
+mod work;
 
 pub use outcome::Run;
 pub use top::run;

@@ -1,26 +1,11 @@
-//! The line that a run tells on standard error.
+//! The line that tells why a file is refused.
 
 ghost use Rattle.std.specs.Prelude.{◌≡◌, ◌++◌, IfOk, codes};
-ghost use Rattle.delaunay_cli.specs.Statuses.{plain_line as plain_line_of, fault_line as fault_line_of, why_word};
+ghost use Rattle.delaunay_cli.specs.Statuses.{fault_line as fault_line_of, why_word};
 
 use edit_files::{Fault, Why};
 use itoa::Buffer;
 use std::alloc::{AllocError, Global};
-
-// The line of a status other than 5.
-pub fn plain_line(status: u8) -> &'static str
-    ensures { result.now ≡ plain_line_of status }
-{
-    match status {
-        1 => "delaunay: out of memory\n",
-        2 => "delaunay: usage\n",
-        3 => "delaunay: read fault\n",
-        4 => "delaunay: write fault\n",
-        6 => "delaunay: no four independent points\n",
-        7 => "delaunay: input too long\n",
-        _ => "",
-    }
-}
 
 fn word(why: Why) -> &'static str
     ensures { result.now ≡ why_word why }

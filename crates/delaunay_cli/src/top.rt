@@ -1,218 +1,29 @@
 //! The top call.
 
-ghost use Rattle.std.specs.Prelude.{◌≡◌, ◌≢◌, ◌⊎◌, ◌↔◌, ◌≤◌, ◌<◌, ℕ, List, [], ◌++◌, false, true, length, codes, None, IfSome, IsSomeAnd};
+ghost use Rattle.std.specs.Prelude.{◌≡◌, ◌≢◌, ◌⊎◌, ◌↔◌, ◌≤◌, ◌<◌, ℕ, [], false, true, length, codes, IfSome};
 ghost use Rattle.std.specs.Io.KnownBytes.{Appends, Keeps, IsAtEnd};
 ghost use Rattle.byte_ends.specs.Ends.{AppendsFront, Rose};
 ghost use Rattle.point_order.specs.Solid.{is_solid};
 ghost use Rattle.cell_store.specs.Grids.{is_grid_size};
 ghost use Rattle.edit_files.specs.Content.{Content};
 ghost use Rattle.edit_files.specs.Grammar.{line_limit, IsFile};
-ghost use Rattle.delaunay_cli.specs.Statuses.{IsEarly, IsFaultLine, Tells, TellsFault};
-ghost use Rattle.delaunay_cli.specs.Run.{HasFault, IsJudged, Reads, Writes, WritesFront, IsKept, IsSolidFile, history_of, input_limit};
-ghost use Rattle.delaunay_cli.specs.Endings.{line_of, status_of_words};
+ghost use Rattle.delaunay_cli.specs.Statuses.{IsEarly, Tells};
+ghost use Rattle.delaunay_cli.specs.Run.{HasFault, Reads, Writes, WritesFront, IsSolidFile, history_of, input_limit};
+ghost use Rattle.delaunay_cli.specs.Stops.{line_of_end};
 ghost use Rattle.edit_history.specs.Histories.{IsLegal};
 ghost use Rattle.edit_history.specs.OneThread.{Keeps as FileKeeps};
 ghost use Rattle.plain_laws.specs.Plain.{IsAnchored};
 ghost use Rattle.delaunay_cli.specs.PlainText.{plain_drawn, plain_text};
-ghost use Rattle.delaunay_cli.specs.Drawn.{IsKeptOfDrawn, drawn_file, drawn_text};
+ghost use Rattle.delaunay_cli.specs.Drawn.{drawn_file, drawn_text};
 ghost use Rattle.delaunay_cli.specs.Words.{AreGen, AreGenText, AreMesh, AreMeshOrder, AreMeshing, AreShape, AreShapeOrder, AreTaken, DrawsFile, ReadsFile, asks_order, asks_shape, asks_text, drawn_count, drawn_start, grid_size, most_count, most_start, most_workers, worker_count};
 
-use crate::drawn::draw;
-use crate::mesh::mesh;
 use crate::outcome::Run;
-use crate::task::{Asked, Making, Task};
-use crate::telling::{fault_line, plain_line};
-use crate::words::{WordsRefused, read_words};
-use byte_ends::{Reached, ReadError, Sink, Source, read_to_limit, write_all};
-use edit_files::{ReadRefused, read_file};
+use crate::stop::Stop;
+use crate::work::work;
+use byte_ends::{Sink, Source, write_all};
 use grid_claims::Gate;
 use std::alloc::Global;
 use std::thread::Threads;
-
-// One more byte than an input may have.
-const TOO_MANY: usize = 16_777_217;
-
-// How a run ended, and the line to be told on status 5.
-#[derive(Drop)]
-struct Ended {
-    run: Run,
-    bad_line: Option<Vec<u8>>,
-}
-
-// Judges the bytes of a file, and writes the report of its mesh.
-fn judge<R: Threads + Sync, O: Sink, G: Gate + Sync>(
-    rt: &R,
-    alloc: Global,
-    bytes: &[u8],
-    making: Making,
-    asked: Asked,
-    out: &mut O,
-    gate: &G,
-) -> Ended
-    ensures statuses { IsJudged result.run.status }
-    ensures bad { result.run.status ≢ 1 → (result.run.status ≡ 5 ↔ HasFault bytes.now) }
-    ensures named { result.run.status ≡ 5 → IsSomeAnd result.bad_line (λ line. TellsFault bytes.now line.items) }
-    ensures unnamed { result.run.status ≢ 5 → result.bad_line ≡ None }
-    ensures not_solid { result.run.status ≢ 1 → (file : Content) → IsFile line_limit bytes.now file
-        → (result.run.status ≡ 6 ↔ (is_solid file.points ≡ false)) }
-    ensures kept { (result.run.status ≡ 0) ⊎ (result.run.status ≡ 4) → (file : Content) → IsFile line_limit bytes.now file
-        → IsKept file making.workers result.run.kept.items }
-    ensures none_kept { result.run.status ≢ 0 → result.run.status ≢ 4 → result.run.kept.items ≡ [] }
-    ensures legal { IsLegal result.run.kept.items }
-    ensures written { result.run.status ≡ 0 → Writes asked.shape asked.order bytes.now (O.holds out.old) (O.holds out.new) result.run.kept.items }
-    ensures front { result.run.status ≡ 4 → WritesFront asked.shape asked.order bytes.now (O.holds out.old) (O.holds out.new) result.run.kept.items }
-    ensures nothing { result.run.status ≢ 0 → result.run.status ≢ 4 → Keeps (O.holds out.old) (O.holds out.new) }
-    ensures later { O.faults out.old ≤ O.faults out.new }
-    ensures fault { result.run.status ≡ 4 → Rose (O.faults out.old) (O.faults out.new) }
-{
-    match read_file(alloc, bytes) {
-        Ok(file) => Ended {
-            run: mesh(rt, alloc, &file, making, asked, out, gate),
-            bad_line: None,
-        },
-        Err(ReadRefused::Memory) => Ended {
-            run: Run::ended(alloc, 1),
-            bad_line: None,
-        },
-        Err(ReadRefused::Bad(fault)) => match fault_line(alloc, fault) {
-            Ok(line) => Ended {
-                run: Run::ended(alloc, 5),
-                bad_line: Some(line),
-            },
-            Err(_) => Ended {
-                run: Run::ended(alloc, 1),
-                bad_line: None,
-            },
-        },
-    }
-}
-
-// The status of words that are not read.
-fn status_of(why: WordsRefused) -> u8
-    ensures { result ≡ status_of_words why }
-{
-    match why {
-        WordsRefused::Memory => 1,
-        WordsRefused::Usage => 2,
-    }
-}
-
-// Reads a file from the source, and writes the report of its mesh.
-fn report<R: Threads + Sync, S: Source, O: Sink, G: Gate + Sync>(
-    rt: &R,
-    alloc: Global,
-    making: Making,
-    asked: Asked,
-    src: &mut S,
-    out: &mut O,
-    gate: &G,
-) -> Ended
-    ensures statuses { result.run.status ≤ 7 }
-    ensures no_usage { result.run.status ≢ 2 }
-    ensures read_fault { result.run.status ≡ 3 → Rose (S.faults src.old) (S.faults src.new) }
-    ensures write_fault { result.run.status ≡ 4 → Rose (O.faults out.old) (O.faults out.new) }
-    ensures too_long { (IsEarly result.run.status → ⊥)
-        → IfSome (S.left src.old) (λ bytes. result.run.status ≡ 7 ↔ (input_limit < length bytes)) }
-    ensures bad_line { (IsEarly result.run.status → ⊥) → result.run.status ≢ 7
-        → IfSome (S.left src.old) (λ bytes. result.run.status ≡ 5 ↔ HasFault bytes) }
-    ensures named { result.run.status ≡ 5
-        → IsSomeAnd result.bad_line (λ line. IsFaultLine (S.left src.old) line.items) }
-    ensures unnamed { result.run.status ≢ 5 → result.bad_line ≡ None }
-    ensures not_solid { (IsEarly result.run.status → ⊥) → result.run.status ≢ 7
-        → IfSome (S.left src.old) (λ bytes. (file : Content) → IsFile line_limit bytes file
-        → (result.run.status ≡ 6 ↔ (is_solid file.points ≡ false))) }
-    ensures kept { (result.run.status ≡ 0) ⊎ (result.run.status ≡ 4)
-        → IfSome (S.left src.old) (λ bytes. (file : Content) → IsFile line_limit bytes file
-        → IsKept file making.workers result.run.kept.items) }
-    ensures none_kept { result.run.status ≢ 0 → result.run.status ≢ 4 → result.run.kept.items ≡ [] }
-    ensures legal { IsLegal result.run.kept.items }
-    ensures written { result.run.status ≡ 0
-        → IfSome (S.left src.old) (λ bytes. Writes asked.shape asked.order bytes (O.holds out.old) (O.holds out.new) result.run.kept.items) }
-    ensures front { result.run.status ≡ 4
-        → IfSome (S.left src.old) (λ bytes. WritesFront asked.shape asked.order bytes (O.holds out.old) (O.holds out.new) result.run.kept.items) }
-    ensures nothing { result.run.status ≢ 0 → result.run.status ≢ 4 → Keeps (O.holds out.old) (O.holds out.new) }
-    ensures reads { Reads (S.left src.old) (S.left src.new) result.run.status }
-    ensures to_its_end { result.run.status ≡ 0 → IsAtEnd (S.left src.new) }
-    ensures later_source { S.faults src.old ≤ S.faults src.new }
-    ensures later_output { O.faults out.old ≤ O.faults out.new }
-{
-    let mut bytes = Vec::new(alloc);
-    let status = match read_to_limit(src, TOO_MANY, &mut bytes) {
-        Ok(Reached::End) => return judge(rt, alloc, &bytes, making, asked, out, gate),
-        Ok(Reached::Limit) => 7,
-        Err(ReadError::Fault) => 3,
-        Err(ReadError::Memory) => 1,
-    };
-    Ended {
-        run: Run::ended(alloc, status),
-        bad_line: None,
-    }
-}
-
-// Does what the words ask for.
-fn work<R: Threads + Sync, S: Source, O: Sink, G: Gate + Sync>(
-    rt: &R,
-    alloc: Global,
-    words: &[String],
-    src: &mut S,
-    out: &mut O,
-    gate: &G,
-) -> Ended
-    ensures statuses { result.run.status ≤ 7 }
-    ensures usage { result.run.status ≢ 1 → (result.run.status ≡ 2 ↔ (AreTaken words.now → ⊥)) }
-    ensures read_fault { result.run.status ≡ 3 → Rose (S.faults src.old) (S.faults src.new) }
-    ensures write_fault { result.run.status ≡ 4 → Rose (O.faults out.old) (O.faults out.new) }
-    ensures too_long { ReadsFile words.now → (IsEarly result.run.status → ⊥)
-        → IfSome (S.left src.old) (λ bytes. result.run.status ≡ 7 ↔ (input_limit < length bytes)) }
-    ensures bad_line { ReadsFile words.now → (IsEarly result.run.status → ⊥) → result.run.status ≢ 7
-        → IfSome (S.left src.old) (λ bytes. result.run.status ≡ 5 ↔ HasFault bytes) }
-    ensures named { result.run.status ≡ 5
-        → IsSomeAnd result.bad_line (λ line. IsFaultLine (S.left src.old) line.items) }
-    ensures unnamed { result.run.status ≢ 5 → result.bad_line ≡ None }
-    ensures not_solid { ReadsFile words.now → (IsEarly result.run.status → ⊥) → result.run.status ≢ 7
-        → IfSome (S.left src.old) (λ bytes. (file : Content) → IsFile line_limit bytes file
-        → (result.run.status ≡ 6 ↔ (is_solid file.points ≡ false))) }
-    ensures kept { ReadsFile words.now → (result.run.status ≡ 0) ⊎ (result.run.status ≡ 4)
-        → IfSome (S.left src.old) (λ bytes. (file : Content) → IsFile line_limit bytes file
-        → IsKept file (worker_count words.now) result.run.kept.items) }
-    ensures none_kept { result.run.status ≢ 0 → result.run.status ≢ 4 → result.run.kept.items ≡ [] }
-    ensures legal { IsLegal result.run.kept.items }
-    ensures written { ReadsFile words.now → result.run.status ≡ 0
-        → IfSome (S.left src.old) (λ bytes. Writes (asks_shape words.now) (asks_order words.now) bytes (O.holds out.old) (O.holds out.new) result.run.kept.items) }
-    ensures front { ReadsFile words.now → result.run.status ≡ 4
-        → IfSome (S.left src.old) (λ bytes. WritesFront (asks_shape words.now) (asks_order words.now) bytes (O.holds out.old) (O.holds out.new) result.run.kept.items) }
-    ensures nothing { result.run.status ≢ 0 → result.run.status ≢ 4 → Keeps (O.holds out.old) (O.holds out.new) }
-    ensures reads { ReadsFile words.now → Reads (S.left src.old) (S.left src.new) result.run.status }
-    ensures to_its_end { ReadsFile words.now → result.run.status ≡ 0 → IsAtEnd (S.left src.new) }
-    ensures unread { result.run.status ≡ 2 → src.new ≡ src.old }
-    ensures later_source { S.faults src.old ≤ S.faults src.new }
-    ensures later_output { O.faults out.old ≤ O.faults out.new }
-    ensures source { DrawsFile words.now → src.new ≡ src.old }
-    ensures drawn_statuses { DrawsFile words.now → result.run.status ≤ 2 ⊎ (result.run.status ≡ 4) }
-    ensures drawn_kept { DrawsFile words.now → (result.run.status ≡ 0) ⊎ (result.run.status ≡ 4)
-        → IsKeptOfDrawn (asks_text words.now) (drawn_file words.now) (worker_count words.now) result.run.kept.items }
-    ensures drawn_written { DrawsFile words.now → result.run.status ≡ 0
-        → Appends (O.holds out.old) (O.holds out.new) (drawn_text words.now result.run.kept.items) }
-    ensures drawn_front { DrawsFile words.now → result.run.status ≡ 4
-        → AppendsFront (O.holds out.old) (O.holds out.new) (drawn_text words.now result.run.kept.items) }
-{
-    let task = match read_words(alloc, words) {
-        Ok(task) => task,
-        Err(why) => {
-            return Ended {
-                run: Run::ended(alloc, status_of(why)),
-                bad_line: None,
-            };
-        }
-    };
-    match task {
-        Task::Report(making, asked) => report(rt, alloc, making, asked, src, out, gate),
-        Task::Draw(making, drawn) => Ended {
-            run: draw(rt, alloc, making, drawn, out, gate),
-            bad_line: None,
-        },
-    }
-}
 
 /// Does what the words ask for, and tells in one line on `err` what went wrong.
 ///
@@ -328,20 +139,21 @@ pub fn run<R: Threads + Sync, S: Source, O: Sink, E: Sink, G: Gate + Sync>(
         → (result.status ≡ 0) ⊎ (result.status ≡ 1) }
 {
     let ended = work(rt, alloc, words, src, out, gate);
-    tell(err, &ended);
+    tell(err, &ended.stop);
     let Run { status, kept } = ended.run;
     Run { status, kept }
 }
 
 // Writes the line of the end. A failed write changes nothing else.
-fn tell<E: Sink>(err: &mut E, ended: &Ended)
-    ensures front { AppendsFront (E.holds err.old) (E.holds err.new) (line_of ended.now) }
+fn tell<E: Sink>(err: &mut E, stop: &Option<Stop>)
+    ensures front { AppendsFront (E.holds err.old) (E.holds err.new) (line_of_end stop.now) }
     ensures whole { (Rose (E.faults err.old) (E.faults err.new) → ⊥)
-        → Appends (E.holds err.old) (E.holds err.new) (line_of ended.now) }
+        → Appends (E.holds err.old) (E.holds err.new) (line_of_end stop.now) }
     ensures later { E.faults err.old ≤ E.faults err.new }
 {
-    let _ = match &ended.bad_line {
-        Some(line) => write_all(err, line),
-        None => write_all(err, plain_line(ended.run.status).as_bytes()),
+    let line = match stop {
+        Some(stop) => stop.told().1,
+        None => b"",
     };
+    let _ = write_all(err, line);
 }

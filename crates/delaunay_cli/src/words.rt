@@ -5,23 +5,16 @@ ghost use Rattle.clap.specs.Words.{app_of, found_of, rows_of, rule_of, subcomman
 ghost use Rattle.clap.specs.declared.builder.command.Command.TheViews.{out-Command};
 ghost use Rattle.cell_store.specs.Grids.{is_grid_size};
 ghost use Rattle.delaunay_cli.specs.Words.{AreTaken, command_of, gen_command as gen_command_of, program as program_of};
+ghost use Rattle.delaunay_cli.specs.Stops.{AreRefused};
 ghost use Rattle.delaunay_cli.specs.Tasks.{IsMakingOf, IsTask, IsTaskOf};
 ghost use Rattle.delaunay_cli.specs.Words.{flag_in as flag_in_of, flag_of, grid_option, most_count, most_grid, most_start, meshing_command, number_option, number_between as number_between_of, number_in as number_in_of, number_of as number_of_it, workers_option};
 
+use crate::stop::Stop;
 use crate::task::{Asked, Drawn, Making, Task};
 use cell_store::Grid;
 use clap::error::ErrorKind;
 use clap::{Arg, ArgAction, ArgMatches, Command};
 use std::alloc::{AllocError, Global};
-
-/// Why words are not read.
-#[derive(Clone, Copy, Debug)]
-pub enum WordsRefused {
-    /// They are none that the program takes.
-    Usage,
-    /// There was no memory to read them in.
-    Memory,
-}
 
 // The option `--workers`.
 fn workers<'a>(alloc: Global) -> Arg<'a>
@@ -217,24 +210,22 @@ fn task_of(matches: &ArgMatches, making: Making) -> Task
 /// # Errors
 ///
 /// `Usage` for words that the program does not take, a call for help and a grid of another size included, and `Memory`.
-pub fn read_words(alloc: Global, words: &[String]) -> Result<Task, WordsRefused>
+pub fn read_words(alloc: Global, words: &[String]) -> Result<Task, Stop>
     ensures taken { IfOk result (λ task. AreTaken words.now) }
     ensures task { IfOk result (λ task. IsTask words.now task) }
-    ensures refused { IfErr result (λ why. why ≡ WordsRefused.Usage → AreTaken words.now → ⊥) }
+    ensures refused { IfErr result (AreRefused words.now) }
 {
-    let Ok(program) = program(alloc) else {
-        return Err(WordsRefused::Memory);
-    };
+    let program = program(alloc)?;
     match program.try_get_matches_from(words) {
         Ok(matches) => {
             let Some(making) = making_of(&matches) else {
-                return Err(WordsRefused::Usage);
+                return Err(Stop::Usage);
             };
             Ok(task_of(&matches, making))
         }
         Err(error) => Err(match error.kind() {
-            ErrorKind::OutOfMemory => WordsRefused::Memory,
-            _ => WordsRefused::Usage,
+            ErrorKind::OutOfMemory => Stop::Memory,
+            _ => Stop::Usage,
         }),
     }
 }

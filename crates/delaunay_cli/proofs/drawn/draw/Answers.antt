@@ -1,14 +1,18 @@
-use Rattle.std.proofs.Common.{◌∙◌, sym, ap, subst, Bool, List, ℕ}
-use Rattle.std.specs.Io.KnownBytes.{Appends}
-use Rattle.edit_files.specs.Generator.{generated}
-use Rattle.edit_files.specs.Writing.{file_text}
-use Rattle.delaunay_cli.specs.Drawn.{text_of_drawn}
+use Rattle.std.proofs.Common.{refl}
+use Rattle.edit_files.specs.Content.{content}
+use Rattle.delaunay_cli.specs.declared.stop.Stop.TheVariants.{Memory}
+use Rattle.delaunay_cli.proofs.DrawnFiles.{drawn-lines, unmeshed-drawn, wanting}
 use Rattle.delaunay_cli.proofs.drawn.draw.Goals as goal
 
-pub returns-then-drawn-clause-written : goal.returns-then-drawn-clause-written
-returns-then-drawn-clause-written g c =
-    let file = generated c.args.drawn.count c.args.drawn.start in
-    let kept = c.put_text.result.kept.items in
-    λ e.
-    subst (λ (t : List ℕ). Appends (g.O.Sink.holds c.args.out.now) (g.O.Sink.holds c.put_text.new.out) t) (ap file_text c.in-Ok.ensures ∙ sym (ap (λ (b : Bool). text_of_drawn b file kept) c.if-drawn.true))
-    (c.put_text.ensures.written e)
+pub history_and_report-requires-clause-lines : goal.history_and_report-requires-clause-lines
+history_and_report-requires-clause-lines g c κs within =
+    drawn-lines (content c.in_ok-file.file) c.args.drawn.count c.args.drawn.start c.args.drawn.few c.in_ok-file.ensures
+
+pub returns-in_err-kept-clause-stop : goal.returns-in_err-kept-clause-stop
+returns-in_err-kept-clause-stop g c =
+    let stop = c.in_err-kept.field-0.0 in
+    wanting c.from_residual-in_err-kept.result stop c.from_residual-in_err-kept.ensures.1
+    (unmeshed-drawn (content c.in_ok-file.file) c.args.drawn.count c.args.drawn.start c.in_ok-file.ensures stop c.in_err-kept.ensures.stop)
+
+pub returns-in_err-summary_text-clause-stop : goal.returns-in_err-summary_text-clause-stop
+returns-in_err-summary_text-clause-stop g c = wanting c.from_residual-in_err-summary_text.result Memory c.from_residual-in_err-summary_text.ensures.1 refl

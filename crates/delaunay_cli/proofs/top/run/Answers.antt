@@ -1,51 +1,40 @@
-use Rattle.std.proofs.Common.{◌≡◌, subst, inl, inr, arith, [], List, ℕ}
+use Rattle.std.proofs.Common.{◌≡◌, ◌↔◌, inl, inr, subst, ◌<◌, false, length}
 use Rattle.std.specs.Io.KnownBytes.{Appends}
 use Rattle.byte_ends.specs.Ends.{AppendsFront}
-use Rattle.delaunay_cli.proofs.PlainTexts.{drawn_is_plain, plain_front, plain_written}
+use Rattle.point_order.specs.Solid.{is_solid}
 use Rattle.edit_history.specs.OneThread.{Keeps}
+use Rattle.edit_files.specs.Content.{Content}
+use Rattle.edit_files.specs.Grammar.{line_limit, IsFile}
+use Rattle.plain_laws.specs.Plain.{IsAnchored}
 use Rattle.delaunay_cli.specs.Drawn.{drawn_file}
-use Rattle.delaunay_cli.specs.Run.{IsKept, history_of}
-use Rattle.delaunay_cli.specs.Words.{asks_order, asks_shape, asks_text, worker_count}
-use Rattle.delaunay_cli.proofs.Judging.{by_status, completes, drawn-completes, each-kept, told-line}
-use Rattle.delaunay_cli.specs.Endings.{line_of}
-use Rattle.delaunay_cli.specs.Words.{AreTaken}
-use Rattle.delaunay_cli.proofs.CommandLine.{default-words, mesh-words, mesh_order-words, read-words, shape-words, shape_order-words}
+use Rattle.delaunay_cli.specs.PlainText.{plain_text}
+use Rattle.delaunay_cli.specs.Run.{HasFault, history_of, input_limit}
+use Rattle.delaunay_cli.specs.Words.{asks_shape, asks_text, worker_count}
+use Rattle.delaunay_cli.proofs.DrawnFiles.{kept-meshed}
+use Rattle.delaunay_cli.proofs.Ended.{anchored_text, completes, drawn_text, of_bytes, of_file}
+use Rattle.delaunay_cli.specs.Stops.{line_of_end}
+use Rattle.delaunay_cli.proofs.CommandLine.{default-words, mesh-words, mesh_order-words, shape-words, shape_order-words}
 use Rattle.delaunay_cli.proofs.NumberWords.{gen-words, gen_text-words, mesh_workers-words, shape_workers-words}
-use Rattle.delaunay_cli.proofs.DrawnFiles.{kept-meshed, kept-text}
-use Rattle.byte_ends.specs.Ends.{Rose}
 use Rattle.delaunay_cli.proofs.top.run.Goals as goal
 
 pub returns-clause-told : goal.returns-clause-told
 returns-clause-told g c =
-    record {
-      line = line_of c.work-ended.result;
-      is_line = told-line (g.S.Source.left c.args.src.now) c.work-ended.result c.work-ended.ensures.named c.work-ended.ensures.unnamed;
-      front = c.tell.ensures.front;
-      whole = c.tell.ensures.whole;
-    }
-
-pub returns-clause-complete : goal.returns-clause-complete
-returns-clause-complete g c =
-    λ words r.
-    completes (AreTaken c.args.words.now) (g.S.Source.left c.args.src.now) c.work-ended.result.run.status
-    (Rose (g.S.Source.faults c.args.src.now) (g.S.Source.faults c.work-ended.new.src)) (Rose (g.O.Sink.faults c.args.out.now) (g.O.Sink.faults c.work-ended.new.out))
-    c.work-ended.ensures.statuses (λ e. (c.work-ended.ensures.usage (λ k. absurd (omega (arith, e, k)))).0 e) c.work-ended.ensures.read_fault c.work-ended.ensures.write_fault
-    (c.work-ended.ensures.too_long r) (c.work-ended.ensures.bad_line r) (c.work-ended.ensures.not_solid r) words
+    record { line = line_of_end c.work-ended.result.stop; is_line = c.work-ended.ensures.line; front = c.tell.ensures.front; whole = c.tell.ensures.whole }
 
 pub returns-clause-mesh : goal.returns-clause-mesh
-returns-clause-mesh g c = mesh-words c.args.words.now
+returns-clause-mesh g c = λ w. (mesh-words c.args.words.now w).0
 
 pub returns-clause-mesh_order : goal.returns-clause-mesh_order
-returns-clause-mesh_order g c = mesh_order-words c.args.words.now
+returns-clause-mesh_order g c = λ w. (mesh_order-words c.args.words.now w).0
 
 pub returns-clause-shape : goal.returns-clause-shape
-returns-clause-shape g c = shape-words c.args.words.now
+returns-clause-shape g c = λ w. (shape-words c.args.words.now w).0
 
 pub returns-clause-shape_order : goal.returns-clause-shape_order
-returns-clause-shape_order g c = shape_order-words c.args.words.now
+returns-clause-shape_order g c = λ w. (shape_order-words c.args.words.now w).0
 
 pub returns-clause-read : goal.returns-clause-read
-returns-clause-read g c = read-words c.args.words.now
+returns-clause-read g c = λ w. (default-words c.args.words.now w).1
 
 pub returns-clause-generator : goal.returns-clause-generator
 returns-clause-generator g c = λ count start few small w. gen-words c.args.words.now count start few small w
@@ -53,14 +42,8 @@ returns-clause-generator g c = λ count start few small w. gen-words c.args.word
 pub returns-clause-generator_text : goal.returns-clause-generator_text
 returns-clause-generator_text g c = λ count start few small w. gen_text-words c.args.words.now count start few small w
 
-pub returns-clause-drawn_complete : goal.returns-clause-drawn_complete
-returns-clause-drawn_complete g c =
-    λ words d nr.
-    drawn-completes (AreTaken c.args.words.now) c.work-ended.result.run.status (Rose (g.O.Sink.faults c.args.out.now) (g.O.Sink.faults c.work-ended.new.out))
-    (c.work-ended.ensures.drawn_statuses d) (λ e. (c.work-ended.ensures.usage (λ k. absurd (omega (arith, e, k)))).0 e) c.work-ended.ensures.write_fault words nr
-
 pub returns-clause-one_worker : goal.returns-clause-one_worker
-returns-clause-one_worker g c = default-words c.args.words.now
+returns-clause-one_worker g c = λ w. (default-words c.args.words.now w).0
 
 pub returns-clause-mesh_workers : goal.returns-clause-mesh_workers
 returns-clause-mesh_workers g c = λ workers grid some few size w. mesh_workers-words c.args.words.now workers grid some few size w
@@ -68,60 +51,58 @@ returns-clause-mesh_workers g c = λ workers grid some few size w. mesh_workers-
 pub returns-clause-shape_workers : goal.returns-clause-shape_workers
 returns-clause-shape_workers g c = λ workers grid some few size w. shape_workers-words c.args.words.now workers grid some few size w
 
+pub returns-clause-too_long : goal.returns-clause-too_long
+returns-clause-too_long g c = let status = c.work-ended.result.run.status in of_bytes c.work-ended.ensures.ends (λ bytes. (status ≡ 7) ↔ (input_limit < length bytes)) (λ bytes v. v.too_long)
+
+pub returns-clause-bad_line : goal.returns-clause-bad_line
+returns-clause-bad_line g c =
+    let status = c.work-ended.result.run.status in
+    λ r late n. of_bytes c.work-ended.ensures.ends (λ bytes. (status ≡ 5) ↔ HasFault bytes) (λ bytes v. v.bad_line n) r late
+
+pub returns-clause-not_solid : goal.returns-clause-not_solid
+returns-clause-not_solid g c =
+    let status = c.work-ended.result.run.status in
+    λ r late n. of_bytes c.work-ended.ensures.ends (λ bytes. (file : Content) → IsFile line_limit bytes file → (status ≡ 6) ↔ (is_solid file.points ≡ false)) (λ bytes v. v.not_solid n) r late
+
 pub returns-clause-kept : goal.returns-clause-kept
 returns-clause-kept g c =
-    let kept = c.work-ended.result.run.kept.items in
+    let h = c.work-ended.result.run.kept.items in
     let n = worker_count c.args.words.now in
-    λ r s. each-kept (λ f. IsKept f n kept) (λ f. Keeps f.points f.edits n kept) (λ f k. k.keeps) (g.S.Source.left c.args.src.now) (c.work-ended.ensures.kept r s)
+    of_file c.work-ended.ensures.ends (λ file. Keeps file.points file.edits n h) (λ file k t. k.keeps)
 
 pub returns-clause-one_thread : goal.returns-clause-one_thread
 returns-clause-one_thread g c =
-    let kept = c.work-ended.result.run.kept.items in
-    λ r e s. each-kept (λ f. IsKept f (worker_count c.args.words.now) kept) (λ f. kept ≡ history_of f) (λ f k. k.alone e) (g.S.Source.left c.args.src.now) (c.work-ended.ensures.kept r s)
+    let h = c.work-ended.result.run.kept.items in
+    λ r one s. of_file c.work-ended.ensures.ends (λ file. h ≡ history_of file) (λ file k t. k.alone one) r s
 
 pub returns-clause-plain : goal.returns-clause-plain
 returns-clause-plain g c =
-    let words = c.args.words.now in
-    λ r o e.
-    plain_written (worker_count words) (asks_shape words) (asks_order words) (g.O.Sink.holds c.args.out.now) (g.O.Sink.holds c.work-ended.new.out) c.work-ended.result.run.kept.items c.work-ended.ensures.legal
-    (g.S.Source.left c.args.src.now) o (c.work-ended.ensures.written r e) (c.work-ended.ensures.kept r (inl e))
+    let e = c.work-ended.ensures.ends in
+    let appends = Appends (g.O.Sink.holds c.args.out.now) (g.O.Sink.holds c.work-ended.new.out) in
+    let shape = asks_shape c.args.words.now in
+    λ r o s. of_file e (λ file. IsAnchored file.points file.edits → appends (plain_text shape file)) (λ file k t a. subst appends (anchored_text e file k t o a) (e.written s)) r (inl s)
 
 pub returns-clause-plain_front : goal.returns-clause-plain_front
 returns-clause-plain_front g c =
-    let words = c.args.words.now in
-    λ r o e.
-    plain_front (worker_count words) (asks_shape words) (asks_order words) (g.O.Sink.holds c.args.out.now) (g.O.Sink.holds c.work-ended.new.out) c.work-ended.result.run.kept.items c.work-ended.ensures.legal
-    (g.S.Source.left c.args.src.now) o (c.work-ended.ensures.front r e) (c.work-ended.ensures.kept r (inr e))
+    let e = c.work-ended.ensures.ends in
+    let appends = AppendsFront (g.O.Sink.holds c.args.out.now) (g.O.Sink.holds c.work-ended.new.out) in
+    let shape = asks_shape c.args.words.now in
+    λ r o s. of_file e (λ file. IsAnchored file.points file.edits → appends (plain_text shape file)) (λ file k t a. subst appends (anchored_text e file k t o a) (e.front s)) r (inr s)
+
+pub returns-clause-complete : goal.returns-clause-complete
+returns-clause-complete g c = completes c.work-ended.ensures.ends
 
 pub returns-clause-drawn_kept : goal.returns-clause-drawn_kept
 returns-clause-drawn_kept g c =
     let words = c.args.words.now in
-    λ d t s. (kept-meshed (asks_text words) (drawn_file words) (worker_count words) c.work-ended.result.run.kept.items t (c.work-ended.ensures.drawn_kept d s)).keeps
-
-pub returns-clause-drawn_one_thread : goal.returns-clause-drawn_one_thread
-returns-clause-drawn_one_thread g c =
-    let words = c.args.words.now in
-    λ d t e s. (kept-meshed (asks_text words) (drawn_file words) (worker_count words) c.work-ended.result.run.kept.items t (c.work-ended.ensures.drawn_kept d s)).alone e
-
-pub returns-clause-drawn_text_kept : goal.returns-clause-drawn_text_kept
-returns-clause-drawn_text_kept g c =
-    let words = c.args.words.now in
-    let kept = c.work-ended.result.run.kept.items in
-    λ d t.
-    by_status c.work-ended.result.run.status (kept ≡ []) (λ s. kept-text (asks_text words) (drawn_file words) (worker_count words) kept t (c.work-ended.ensures.drawn_kept d s)) c.work-ended.ensures.none_kept
+    λ d t s. (kept-meshed (asks_text words) (drawn_file words) (worker_count words) c.work-ended.result.run.kept.items t ((c.work-ended.ensures.ends.made s).drawn d).0).keeps
 
 pub returns-clause-drawn_plain : goal.returns-clause-drawn_plain
 returns-clause-drawn_plain g c =
-    let words = c.args.words.now in
-    let kept = c.work-ended.result.run.kept.items in
-    λ d e.
-    subst (λ (t : List ℕ). Appends (g.O.Sink.holds c.args.out.now) (g.O.Sink.holds c.work-ended.new.out) t) (drawn_is_plain words (worker_count words) kept c.work-ended.ensures.legal (c.work-ended.ensures.drawn_kept d (inl e)))
-    (c.work-ended.ensures.drawn_written d e)
+    let e = c.work-ended.ensures.ends in
+    λ d s. subst (Appends (g.O.Sink.holds c.args.out.now) (g.O.Sink.holds c.work-ended.new.out)) (drawn_text e d (inl s)) (e.written s)
 
 pub returns-clause-drawn_plain_front : goal.returns-clause-drawn_plain_front
 returns-clause-drawn_plain_front g c =
-    let words = c.args.words.now in
-    let kept = c.work-ended.result.run.kept.items in
-    λ d e.
-    subst (λ (t : List ℕ). AppendsFront (g.O.Sink.holds c.args.out.now) (g.O.Sink.holds c.work-ended.new.out) t) (drawn_is_plain words (worker_count words) kept c.work-ended.ensures.legal (c.work-ended.ensures.drawn_kept d (inr e)))
-    (c.work-ended.ensures.drawn_front d e)
+    let e = c.work-ended.ensures.ends in
+    λ d s. subst (AppendsFront (g.O.Sink.holds c.args.out.now) (g.O.Sink.holds c.work-ended.new.out)) (drawn_text e d (inr s)) (e.front s)

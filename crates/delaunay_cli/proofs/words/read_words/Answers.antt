@@ -1,4 +1,4 @@
-use Rattle.std.proofs.Common.{◌∙◌, sym, ap}
+use Rattle.std.proofs.Common.{inl, inr, refl, ◌∙◌, sym, ap}
 use Rattle.std.specs.Prelude.{Option, is_some}
 use Rattle.clap.specs.Words.{app_of, kind_of, subcommand_rows_of}
 use Rattle.delaunay_cli.specs.declared.task.Making.{Making}
@@ -6,22 +6,26 @@ use Rattle.delaunay_cli.proofs.CommandLine.{grid-refused, refused, taken}
 use Rattle.delaunay_cli.proofs.words.read_words.Goals as goal
 use Rattle.delaunay_cli.proofs.words.read_words.Goals.{in-OutOfMemory, in_default-kind}
 
-pub returns-in_default-making_of-clause-refused : goal.returns-in_default-making_of-clause-refused
-returns-in_default-making_of-clause-refused c =
-    λ e.
-    grid-refused (app_of c.in-Ok.program) c.args.words.now (subcommand_rows_of c.in-Ok-try_get_matches_from.matches) c.in-Ok.ensures (λ s. (c.in-Ok-try_get_matches_from.ensures.matches s).1)
-    (sym (ap (λ (o : Option Making). is_some o) c.in_default-making_of.is) ∙ c.making_of.ensures.size)
+pub returns-in_default-clause-refused : goal.returns-in_default-clause-refused
+returns-in_default-clause-refused c =
+    inr (
+      refl,
+      grid-refused (app_of c.in_ok-program.program) c.args.words.now (subcommand_rows_of c.in-Ok.matches) c.in_ok-program.ensures (λ s. (c.in-Ok.ensures.matches s).1)
+          (sym (ap (λ (o : Option Making). is_some o) c.in_default.is) ∙ c.making_of.ensures.size),
+    )
 
 pub returns-in-Some-clause-taken : goal.returns-in-Some-clause-taken
 returns-in-Some-clause-taken c =
-    taken (app_of c.in-Ok.program) c.args.words.now (subcommand_rows_of c.in-Ok-try_get_matches_from.matches) c.in-Ok.ensures c.in-Ok-try_get_matches_from.ensures.kinds
-    (λ s. (c.in-Ok-try_get_matches_from.ensures.matches s).1) (sym c.making_of.ensures.size ∙ ap (λ (o : Option Making). is_some o) c.in-Some.is)
+    taken (app_of c.in_ok-program.program) c.args.words.now (subcommand_rows_of c.in-Ok.matches) c.in_ok-program.ensures c.in-Ok.ensures.kinds
+    (λ s. (c.in-Ok.ensures.matches s).1) (sym c.making_of.ensures.size ∙ ap (λ (o : Option Making). is_some o) c.in-Some.is)
 
 pub returns-after-kind-clause-refused : goal.returns-after-kind-clause-refused
 returns-after-kind-clause-refused c =
-    λ e.
     elim c.match-kind.branch [
-      | in-OutOfMemory w ↦ absurd (cc (w.result-is, e))
-      | in_default-kind w ↦ refused (app_of c.in-Ok.program) c.args.words.now (kind_of c.in-Err.error) c.in-Ok.ensures c.in-Err.ensures.kinds
-          (λ k. w.in_default-kind.not-OutOfMemory (c.kind.ensures ∙ k))
+      | in-OutOfMemory w ↦ inl w.result-is
+      | in_default-kind w ↦ inr (
+        w.result-is,
+        refused (app_of c.in_ok-program.program) c.args.words.now (kind_of c.in-Err.error) c.in_ok-program.ensures c.in-Err.ensures.kinds
+            (λ k. w.in_default-kind.not-OutOfMemory (c.kind.ensures ∙ k)),
+      )
     ]

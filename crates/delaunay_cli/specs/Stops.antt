@@ -1,0 +1,46 @@
+-- Why a run stops: the status and the line of each stop.
+use Rattle.std.specs.Prelude.{◌≡◌, ◌⊎◌, ℕ, List, [], Option, None, Some, Result, Ok, Err, String}
+use Rattle.std.specs.declared.alloc.Global.{Global}
+use Rattle.byte_ends.specs.declared.loops.ReadError.{ReadError}
+use Rattle.byte_ends.specs.declared.loops.ReadError.TheVariants.{Fault as SourceFault, Memory as NoRoom}
+use Rattle.delaunay_cli.specs.declared.stop.Stop.{Stop}
+use Rattle.delaunay_cli.specs.declared.stop.Stop.TheVariants.{Memory, Usage, ReadFault, WriteFault, BadLine, Flat, TooLong}
+use Rattle.delaunay_cli.specs.Statuses.{plain_line}
+use Rattle.delaunay_cli.specs.Words.{AreTaken}
+
+abbrev pub status_of : Stop → ℕ
+status_of Memory = 1
+status_of Usage = 2
+status_of ReadFault = 3
+status_of WriteFault = 4
+status_of (BadLine line) = 5
+status_of Flat = 6
+status_of TooLong = 7
+
+-- the line of a fault if there is one, and else that of the status
+abbrev pub line_of : Stop → List ℕ
+line_of (BadLine line) = line.items
+line_of stop = plain_line (status_of stop)
+
+-- the status of an end, 0 where nothing stopped the run, and its line
+abbrev pub status_of_end : Option Stop → ℕ
+status_of_end None = 0
+status_of_end (Some stop) = status_of stop
+
+abbrev pub line_of_end : Option Stop → List ℕ
+line_of_end None = []
+line_of_end (Some stop) = line_of stop
+
+-- the status where a command has made something or has stopped
+abbrev pub status_of_made : {A : Type 0} → Result A Stop → ℕ
+status_of_made (Ok made) = 0
+status_of_made (Err stop) = status_of stop
+
+-- why a reading stopped
+abbrev pub stop_of_read : ReadError → Stop
+stop_of_read SourceFault = ReadFault
+stop_of_read NoRoom = Memory
+
+-- why words are not read
+abbrev pub AreRefused : List (String Global) → Stop → Type 0
+AreRefused words stop = (stop ≡ Memory) ⊎ ((stop ≡ Usage) × (AreTaken words → ⊥))

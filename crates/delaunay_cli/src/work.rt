@@ -1,0 +1,107 @@
+//! From the words of a run to its end.
+
+ghost use Rattle.std.specs.Prelude.{◌≡◌, ◌≤◌, [], Some, IfOk, IfErr, IsOk};
+ghost use Rattle.std.specs.Result.{ForOk};
+ghost use Rattle.std.specs.Io.KnownBytes.{Keeps, IsAtEnd};
+ghost use Rattle.byte_ends.specs.Ends.{Rose};
+ghost use Rattle.delaunay_cli.specs.Ends.{Ends, IsMade, IsPut, IsUnmade};
+ghost use Rattle.delaunay_cli.specs.Page.{IsSound, text_of_page};
+ghost use Rattle.delaunay_cli.specs.Run.{Reads};
+ghost use Rattle.delaunay_cli.specs.Statuses.{IsToldLine};
+ghost use Rattle.delaunay_cli.specs.Stops.{line_of_end, status_of_end, status_of_made};
+ghost use Rattle.delaunay_cli.specs.Words.{DrawsFile, ReadsFile};
+
+use crate::drawn::draw;
+use crate::made::{Made, put_page};
+use crate::outcome::Run;
+use crate::reported::report;
+use crate::stop::Stop;
+use crate::task::Task;
+use crate::words::read_words;
+use byte_ends::{Failed, Sink, Source};
+use grid_claims::Gate;
+use std::alloc::Global;
+use std::thread::Threads;
+
+/// How a run ended.
+#[derive(Drop)]
+pub struct Ended {
+    /// What it gives back.
+    pub run: Run,
+    /// Why its text is not written whole, if it is not.
+    pub stop: Option<Stop>,
+}
+
+// The commands: makes what the words ask for.
+fn make<R: Threads + Sync, S: Source, G: Gate + Sync>(
+    rt: &R,
+    alloc: Global,
+    words: &[String],
+    src: &mut S,
+    gate: &G,
+) -> Result<Made, Stop>
+    ensures made { IfOk result (λ made. IsMade words.now (S.left src.old) made.kept.items (text_of_page made.page)) }
+    ensures sound { IfOk result IsSound }
+    ensures stop { IfErr result (IsUnmade words.now (S.left src.old) (Rose (S.faults src.old) (S.faults src.new))) }
+    ensures reads { ReadsFile words.now → Reads (S.left src.old) (S.left src.new) (status_of_made result) }
+    ensures to_its_end { ReadsFile words.now → IsOk result → IsAtEnd (S.left src.new) }
+    ensures source { DrawsFile words.now → src.new ≡ src.old }
+    ensures unread { status_of_made result ≡ 2 → src.new ≡ src.old }
+    ensures later { S.faults src.old ≤ S.faults src.new }
+{
+    match read_words(alloc, words)? {
+        Task::Report(making, asked) => report(rt, alloc, making, asked, src, gate),
+        Task::Draw(making, drawn) => draw(rt, alloc, making, drawn, gate),
+    }
+}
+
+// Writes what was made, and ends the run.
+fn end<O: Sink>(alloc: Global, made: Result<Made, Stop>, out: &mut O) -> Ended
+    requires { ForOk made IsSound }
+    ensures status { result.run.status ≡ status_of_end result.stop }
+    ensures made { IfOk made (λ made. (result.run.kept.items ≡ made.kept.items)
+        × IsPut (Rose (O.faults out.old) (O.faults out.new)) (O.holds out.old) (O.holds out.new) (text_of_page made.page) result.stop) }
+    ensures stop { IfErr made (λ stop. (result.stop ≡ Some stop) × (result.run.kept.items ≡ []) × Keeps (O.holds out.old) (O.holds out.new)) }
+    ensures later { O.faults out.old ≤ O.faults out.new }
+{
+    match made {
+        Ok(Made { kept, page }) => match put_page(&page, out) {
+            Ok(()) => Ended {
+                run: Run { status: 0, kept },
+                stop: None,
+            },
+            Err(Failed) => Ended {
+                run: Run { status: 4, kept },
+                stop: Some(Stop::WriteFault),
+            },
+        },
+        Err(stop) => Ended {
+            run: Run {
+                status: stop.told().0,
+                kept: Vec::new(alloc),
+            },
+            stop: Some(stop),
+        },
+    }
+}
+
+/// Does what the words ask for. All is made before the first write.
+pub fn work<R: Threads + Sync, S: Source, O: Sink, G: Gate + Sync>(
+    rt: &R,
+    alloc: Global,
+    words: &[String],
+    src: &mut S,
+    out: &mut O,
+    gate: &G,
+) -> Ended
+    ensures ends { Ends words.now (S.left src.old) (S.left src.new) (Rose (S.faults src.old) (S.faults src.new))
+        (O.holds out.old) (O.holds out.new) (Rose (O.faults out.old) (O.faults out.new)) result.run.status result.run.kept.items }
+    ensures line { IsToldLine (S.left src.old) result.run.status (line_of_end result.stop) }
+    ensures source { DrawsFile words.now → src.new ≡ src.old }
+    ensures unread { result.run.status ≡ 2 → src.new ≡ src.old }
+    ensures later_source { S.faults src.old ≤ S.faults src.new }
+    ensures later_output { O.faults out.old ≤ O.faults out.new }
+{
+    let made = make(rt, alloc, words, src, gate);
+    end(alloc, made, out)
+}
