@@ -1,3 +1,4 @@
+pub mod ByKeys
 pub mod Counts
 pub mod Deals
 pub mod FirstOnes

@@ -1,6 +1,7 @@
 //! Workers: the lines of a file are dealt to them by their points, and each makes its own on one table.
 #![tactic(auto)]
 
+mod arranging;
 mod dealing;
 mod lists;
 mod running;

@@ -1,0 +1,40 @@
+-- Pairs that are arranged by their places.
+use Rattle.std.specs.Prelude.{◌≡◌, ℕ, ◌+◌, ◌*◌, ◌/◌, ◌%◌, ◌<◌, ◌≤◌, Bool, false, ◌&&◌, ◌==◌, List, AllPairs, IsPermutation}
+use Rattle.std.specs.List.Sorted.{IsNonDecreasingBy}
+use Rattle.std.proofs.Common.{refl, sym, ◌∙◌, ap, subst, arith, get_or}
+use Rattle.std.proofs.lemmas.Bool.Decides.{nat_tests}
+use Rattle.std.proofs.lemmas.Map.Keys.{IsDistinct-from_apart, IsDistinct-IsPermutation, apart_from_distinct}
+use Rattle.edit_history.specs.Edits.{point_of}
+use Rattle.plain_laws.specs.Running.{Pair}
+use Rattle.edit_workers.specs.Dealing.{AreAscending}
+use Rattle.edit_workers.specs.Running.{AscendAtPoint}
+use Rattle.edit_workers.specs.Arranging.{key_of, place_of, IsArranged}
+use Rattle.edit_workers.proofs.Partly.{is_same, same-flips}
+
+-- the keys of two pairs of one place rise with their tags
+rises : (c d r : ℕ) → (c / 16384 * 4096 + r) * 4294967296 + c ≤ (d / 16384 * 4096 + r) * 4294967296 + d → c ≤ d
+rises c d r h = omega (arith, h)
+
+pub by-keys : (begin : ℕ) (list arranged : List Pair) → AreAscending list → IsPermutation list arranged → IsNonDecreasingBy (key_of begin) arranged → IsArranged list arranged
+by-keys begin list arranged tags same sorted = record {
+  same = same;
+  order = λ i j d l m one.
+      let differ = IsDistinct-IsPermutation is_same same-flips list arranged same (IsDistinct-from_apart is_same list (λ i j d l m. none (get_or list i d) (get_or list j d) (tags i j d l m))) in
+      strict (get_or arranged i d) (get_or arranged j d) (apart_from_distinct is_same arranged i j d differ l m) (sorted i j d (omega arith) m) one;
+}
+  where
+    none : (p q : Pair) → p.0 < q.0 → is_same p q ≡ false
+    none p q f = by (point_of p.1) (point_of q.1) p.0 q.0 f
+      where
+        by : (a b c d : ℕ) → c < d → ((a == b) && (c == d)) ≡ false
+        by a b c d f = grind (arith, nat_tests)
+
+    strict : (p q : Pair) → is_same p q ≡ false → key_of begin p ≤ key_of begin q → point_of p.1 ≡ point_of q.1 → p.0 < q.0
+    strict p q e f one =
+        let r : ℕ → ℕ = λ x. (place_of x + begin) % 4096 in
+        let g : (p.0 / 16384 * 4096 + r (point_of p.1)) * 4294967296 + p.0 ≤ (q.0 / 16384 * 4096 + r (point_of p.1)) * 4294967296 + q.0 =
+            subst (λ (x : ℕ). (p.0 / 16384 * 4096 + r (point_of p.1)) * 4294967296 + p.0 ≤ (q.0 / 16384 * 4096 + r x) * 4294967296 + q.0) (sym one) f in
+        by (point_of p.1) (point_of q.1) p.0 q.0 e (rises p.0 q.0 (r (point_of p.1)) g) one
+      where
+        by : (a b c d : ℕ) → ((a == b) && (c == d)) ≡ false → c ≤ d → a ≡ b → c < d
+        by a b c d e f same = grind (arith, nat_tests)
