@@ -15,12 +15,12 @@ use Rattle.grid_claims.specs.Passes.{Opened, Standing}
 use Rattle.grid_claims.specs.Lists.{entries_by}
 use Rattle.grid_claims.specs.Tries.{opening_pass, IsSplit, joined}
 use Rattle.plain_laws.specs.Running.{Pair}
-use Rattle.plain_laws.proofs.Members.{in-map, in-permutation, all-in, in-all, EachLater, later-pairs, pairs-later, later-weaken, later-unmap}
+use Rattle.plain_laws.proofs.Members.{in-map, in-permutation, all-in, in-all, EachLater, later-pairs, pairs-later, later-unmap}
 use Rattle.edit_workers.specs.Dealing.{AreAscending, AreApart, count_of}
 use Rattle.edit_workers.specs.Working.{Marked, left_over, done, IsWorked}
 use Rattle.edit_workers.specs.declared.lists.List as lists
 use Rattle.edit_workers.specs.Running.{pairs_in, CanRun, AscendAtPoint, ArePartly, AreWorked, AreRunBut}
-use Rattle.edit_workers.specs.Arranging.{IsArranged, IsWorkedInPlace}
+use Rattle.edit_workers.specs.Arranging.{IsArranged, IsInPlace}
 use Rattle.edit_workers.proofs.Marks.{in-order, both-later, marks-part, done-tags, left-tags, done-first}
 use Rattle.edit_workers.proofs.Partly.{count-both, all-low, all-high, apart-low, apart-high, partly-both}
 
@@ -111,12 +111,12 @@ one-of [] x l e = absurd (omega (arith, l))
 one-of {X} (y ∷ []) x l e = ap (λ (z : X). z ∷ []) (sym e)
 one-of (y ∷ z ∷ xs) x l e = absurd (omega (arith, l))
 
-pub slice-worked : (ls : List lists.List) (x : lists.List) (left : List Pair) (table : Opened) (count : ℕ) (old new : Standing) → length ls ≡ 1 → x ≡ get_or ls 0 x → CanRun table (pairs_in ls) old → count ≡ table.parts → IsWorkedInPlace count x.pairs.items left old new → AreWorked (pairs_in ls) left old new
-slice-worked ls x left table count old new l e can parts w =
+pub slice-worked : (ls : List lists.List) (x : lists.List) (arranged left : List Pair) (table : Opened) (count : ℕ) (old new : Standing) → length ls ≡ 1 → x ≡ get_or ls 0 x → CanRun table (pairs_in ls) old → count ≡ table.parts → IsInPlace count x.pairs.items arranged → IsWorked arranged left old new → AreWorked (pairs_in ls) left old new
+slice-worked ls x arranged left table count old new l e can parts is w =
     let f : pairs_in ls ≡ x.pairs.items ∷ [] = ap pairs_in (one-of ls x l e) in
     let g : CanRun table (x.pairs.items ∷ []) old = subst (λ (t : List (List Pair)). CanRun table t old) f can in
-    let all : old.parts ≡ old.table.parts → w.arranged ≡ x.pairs.items = λ own. w.alone (parts ∙ sym (ap (λ (t : Opened). t.parts) g.table_is) ∙ sym own ∙ g.parts) in
-    subst (λ (t : List (List Pair)). AreWorked t left old new) (sym f) (worked-one x.pairs.items w.arranged left old new w.is_arranged all g.fresh g.parts w.worked)
+    let all : old.parts ≡ old.table.parts → arranged ≡ x.pairs.items = λ own. is.alone (parts ∙ sym (ap (λ (t : Opened). t.parts) g.table_is) ∙ sym own ∙ g.parts) in
+    subst (λ (t : List (List Pair)). AreWorked t left old new) (sym f) (worked-one x.pairs.items arranged left old new is.is_arranged all g.fresh g.parts w)
 
 pub slice-tags : (ls : List lists.List) (x : lists.List) (table : Opened) (old : Standing) → length ls ≡ 1 → x ≡ get_or ls 0 x → CanRun table (pairs_in ls) old → AreAscending x.pairs.items
 slice-tags ls x table old l e can =

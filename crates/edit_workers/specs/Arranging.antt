@@ -3,8 +3,6 @@ use Rattle.std.specs.Prelude.{◌≡◌, ℕ, ◌+◌, ◌*◌, ◌/◌, ◌%◌
 use Rattle.point_order.specs.Coordinates.{x_of, y_of, z_of}
 use Rattle.edit_history.specs.Edits.{point_of}
 use Rattle.plain_laws.specs.Running.{Pair}
-use Rattle.grid_claims.specs.Passes.{Standing}
-use Rattle.edit_workers.specs.Working.{IsWorked}
 use Rattle.edit_workers.specs.Running.{AscendAtPoint}
 
 -- the four bits of a number, two places between each
@@ -24,9 +22,7 @@ pub record IsArranged (list arranged : List Pair) : Type 0 where
   pub same : IsPermutation list arranged
   pub order : AllPairs AscendAtPoint arranged
 
--- The list was worked on in some order, by one of so many workers; where it is alone in its own order.
-pub record IsWorkedInPlace (count : ℕ) (list left : List Pair) (old new : Standing) : Type 0 where
-  pub arranged : List Pair
+-- That, where there are so many workers; a worker that is alone keeps the order.
+pub record IsInPlace (count : ℕ) (list arranged : List Pair) : Type 0 where
   pub is_arranged : IsArranged list arranged
   pub alone : count ≡ 1 → arranged ≡ list
-  pub worked : IsWorked arranged left old new

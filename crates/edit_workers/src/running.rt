@@ -3,10 +3,9 @@
 ghost use Rattle.std.specs.Prelude.{◌≡◌, ◌+◌, ◌^◌, ◌<◌, ◌≤◌, IfOk, length, All};
 ghost use Rattle.std.specs.Thread.{IsSync};
 ghost use Rattle.edit_workers.specs.Dealing.{lists_of, AreAscending, AreApart, count_of};
-ghost use Rattle.edit_workers.specs.Arranging.{IsWorkedInPlace};
 ghost use Rattle.edit_workers.specs.Running.{AreRun, pairs_in, CanRun, AreWorked, AreRunBut, AreApplied, AreByTag};
 
-use crate::arranging::arranged;
+use crate::arranging::in_place;
 use crate::lists::{Left, List, Lists};
 use crate::working::work;
 use cell_store::Mesh;
@@ -28,29 +27,6 @@ fn pair_count(lists: &[List]) -> u64
     count
 }
 
-// Makes the edits of a list by one of so many workers, in an order in which it stays in one place for a while; where it is alone in
-// the list's own order.
-fn work_in_place<G: Gate>(
-    alloc: Global,
-    table: &MeshTable,
-    pass: &mut Pass,
-    list: &List,
-    count: u32,
-    gate: &G,
-) -> Result<Left, AllocError>
-    requires table { pass.old.table ≡ table.now }
-    requires left { length list.now.pairs.items ≤ pass.old.left }
-    requires some { 0 < count }
-    requires tags { AreAscending list.now.pairs.items }
-    ensures { IfOk result (λ left. IsWorkedInPlace count list.now.pairs.items left.pairs.items pass.old pass.new) }
-{
-    if count == 1 {
-        return work(alloc, table, pass, list, gate);
-    }
-    let list = arranged(alloc, list, pass.first(), count)?;
-    work(alloc, table, pass, &list, gate)
-}
-
 // Does the lists, each by a part of the pass: halves side by side. `count` tells how many parts the table has.
 fn work_all<G: Gate + Sync, R: Threads + Sync>(
     rt: &R,
@@ -66,7 +42,8 @@ fn work_all<G: Gate + Sync, R: Threads + Sync>(
     ensures { IfOk result (λ r. AreWorked (pairs_in lists.now) r.1.pairs.items pass r.0) }
 {
     if lists.len() == 1 {
-        let left = work_in_place(alloc, table, &mut pass, &lists[0], count, gate)?;
+        let list = in_place(alloc, &lists[0], pass.first(), count)?;
+        let left = work(alloc, table, &mut pass, &list, gate)?;
         return Ok((pass, left));
     }
     let (low, high) = lists.split_at(lists.len() / 2);

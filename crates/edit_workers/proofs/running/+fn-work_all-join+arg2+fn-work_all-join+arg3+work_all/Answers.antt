@@ -1,13 +1,23 @@
 use Rattle.std.proofs.Common.{rules, refl, arith, ◌<◌, length}
 use Rattle.std.proofs.lemmas.List.{length-map}
 use Rattle.std.proofs.lemmas.Result.{IfOk-at_ok}
+use Rattle.std.proofs.lemmas.List.Sorted.{length_permutation}
 use Rattle.edit_workers.specs.declared.lists.List as lists
 use Rattle.edit_workers.specs.Running.{pairs_in, AreWorked}
-use Rattle.edit_workers.proofs.Halves.{slice-worked, slice-low, slice-high, slice-both}
+use Rattle.edit_workers.proofs.Halves.{slice-worked, slice-tags, slice-allowance, slice-low, slice-high, slice-both}
 use Rattle.edit_workers.proofs.running.+fn-work_all-join+arg2+fn-work_all-join+arg3+work_all.Goals as goal
 
+pub in_place-requires-clause-tags : goal.in_place-requires-clause-tags
+in_place-requires-clause-tags g t c = slice-tags c.args.lists.now c.index-lists-0.result c.args.table.now c.args.pass c.if-lists-eq1.true c.index-lists-0.is c.requires.run
+
+pub work-requires-clause-left : goal.work-requires-clause-left
+work-requires-clause-left g t c =
+    let m = slice-allowance c.args.lists.now c.index-lists-0.result c.args.table.now c.args.pass c.if-lists-eq1.true c.index-lists-0.is c.requires.run in
+    let e = length_permutation c.index-lists-0.result.pairs.items c.in_ok-list.list.pairs.items c.in_ok-list.ensures.is_arranged.same in
+    omega (arith, m, e)
+
 pub returns-then-lists-eq1 : goal.returns-then-lists-eq1
-returns-then-lists-eq1 g t c = slice-worked c.args.lists.now c.index-lists-0.result c.in_ok-left.left.pairs.items c.args.table.now c.args.count c.args.pass c.work_in_place.new.pass c.if-lists-eq1.true c.index-lists-0.is c.requires.run c.requires.count.1 c.in_ok-left.ensures
+returns-then-lists-eq1 g t c = slice-worked c.args.lists.now c.index-lists-0.result c.in_ok-list.list.pairs.items c.in_ok-left.left.pairs.items c.args.table.now c.args.count c.args.pass c.work.new.pass c.if-lists-eq1.true c.index-lists-0.is c.requires.run c.requires.count.1 c.in_ok-list.ensures c.in_ok-left.ensures.worked
 
 pub join-a-requires-after_bounds : goal.join-a-requires-after_bounds
 join-a-requires-after_bounds g t c κs =
