@@ -5,7 +5,7 @@ use edit_history::Entry;
 /// The end of a run: its status, and the history that it kept where a mesh was made.
 #[derive(Debug, Drop)]
 pub struct Run {
-    /// 0 where the whole text was written; the README has a table of the others.
+    /// 0 where the whole text was written; docs/FORMATS.md has a table of all.
     pub status: u8,
     /// The history of the run on 0 and 4, and else empty.
     pub kept: Vec<Entry>,

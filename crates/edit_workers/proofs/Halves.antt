@@ -3,7 +3,7 @@ use Rattle.std.specs.Prelude.{◌≡◌, ℕ, ◌+◌, ◌-◌, ◌<◌, ◌≤�
 use Rattle.std.specs.List.{filter}
 use Rattle.std.proofs.Common.{refl, sym, ◌∙◌, ap, ap₂, subst, inl, inr, arith, get_or, length-append}
 use Rattle.std.proofs.lemmas.List.{append-nil, map-append, length-map}
-use Rattle.std.proofs.lemmas.List.Sorted.{IsPermutation-sym}
+use Rattle.std.proofs.lemmas.List.Sorted.{IsPermutation-sym, IsPermutation-trans}
 use Rattle.point_order.specs.Sets.{IsIn}
 use Rattle.edit_history.specs.declared.history.Entry.{Entry}
 use Rattle.edit_history.specs.Edits.{point_of}
@@ -15,12 +15,13 @@ use Rattle.grid_claims.specs.Passes.{Opened, Standing}
 use Rattle.grid_claims.specs.Lists.{entries_by}
 use Rattle.grid_claims.specs.Tries.{opening_pass, IsSplit, joined}
 use Rattle.plain_laws.specs.Running.{Pair}
-use Rattle.plain_laws.proofs.Members.{in-map, in-permutation, all-in, in-all, EachLater, later-pairs, pairs-later, later-weaken, later-unmap}
+use Rattle.plain_laws.proofs.Members.{in-map, in-permutation, all-in, in-all, EachLater, later-pairs, pairs-later, later-unmap}
 use Rattle.edit_workers.specs.Dealing.{AreAscending, AreApart, count_of}
 use Rattle.edit_workers.specs.Working.{Marked, left_over, done, IsWorked}
 use Rattle.edit_workers.specs.declared.lists.List as lists
 use Rattle.edit_workers.specs.Running.{pairs_in, CanRun, AscendAtPoint, ArePartly, AreWorked, AreRunBut}
-use Rattle.edit_workers.proofs.Marks.{in-order, both-later, marks-part, Below, done-tags, left-tags, done-first}
+use Rattle.edit_workers.specs.Arranging.{IsArranged, IsInPlace}
+use Rattle.edit_workers.proofs.Marks.{in-order, both-later, marks-part, done-tags, left-tags, done-first}
 use Rattle.edit_workers.proofs.Partly.{count-both, all-low, all-high, apart-low, apart-high, partly-both}
 
 -- ---- one list
@@ -43,7 +44,7 @@ only-list : (l m : List Pair) → l ∷ [] ≡ m ∷ [] → l ≡ m
 unfolding first-list
 only-list l m e = ap first-list e
 
-module _ (list left : List Pair) (old new : Standing) (tags : AreAscending list) (fresh : old.made ≡ []) (one : old.parts ≡ 1) (w : IsWorked list left old new) where
+module _ (list arranged left : List Pair) (old new : Standing) (is : IsArranged list arranged) (own : old.parts ≡ old.table.parts → arranged ≡ list) (fresh : old.made ≡ []) (one : old.parts ≡ 1) (w : IsWorked arranged left old new) where
   abbrev marked : List Marked
   marked = w.marked
 
@@ -53,27 +54,29 @@ module _ (list left : List Pair) (old new : Standing) (tags : AreAscending list)
   made-is : new.made ≡ es
   made-is = ap (λ (s : Standing). s.made) w.pass.new_is ∙ ap (λ (l : List Entry). l ++ es) fresh
 
-  ascending : EachLater Below (map (λ x. x.1) marked)
-  ascending = subst (EachLater Below) (sym w.parted) (pairs-later Below list tags)
+  ascending : EachLater AscendAtPoint (map (λ x. x.1) marked)
+  ascending = subst (EachLater AscendAtPoint) (sym w.parted) (pairs-later AscendAtPoint arranged is.order)
 
   lines : IsPermutation (list ++ []) (map line_of es ++ left)
   lines =
-      subst (λ (l : List Pair). IsPermutation l (map line_of es ++ left)) (w.parted ∙ sym (append-nil list))
-      (subst (IsPermutation (map (λ (x : Marked). x.1) marked)) (ap₂ (λ (a b : List Pair). a ++ b) (sym w.made.pairs_are) (sym w.left_is)) (marks-part marked))
+      IsPermutation-trans (list ++ []) arranged (map line_of es ++ left)
+      (subst (λ (l : List Pair). IsPermutation l arranged) (sym (append-nil list)) is.same)
+      (subst (λ (l : List Pair). IsPermutation l (map line_of es ++ left)) w.parted
+      (subst (IsPermutation (map (λ (x : Marked). x.1) marked)) (ap₂ (λ (a b : List Pair). a ++ b) (sym w.made.pairs_are) (sym w.left_is)) (marks-part marked)))
 
   abbrev Climbs : Entry → Entry → Type 0
-  Climbs d e = d.number < e.number × d.tag < e.tag
+  Climbs d e = d.number < e.number × AscendAtPoint (line_of d) (line_of e)
 
   climbs : EachLater Climbs es
   climbs =
-      both-later (λ (d e : Entry). d.number < e.number) (λ (d e : Entry). d.tag < e.tag) es (pairs-later (λ (d e : Entry). d.number < e.number) es w.made.ascending)
-      (later-unmap line_of Below es (subst (EachLater Below) (sym w.made.pairs_are) (done-tags marked ascending)))
+      both-later (λ (d e : Entry). d.number < e.number) (λ (d e : Entry). AscendAtPoint (line_of d) (line_of e)) es (pairs-later (λ (d e : Entry). d.number < e.number) es w.made.ascending)
+      (later-unmap line_of AscendAtPoint es (subst (EachLater AscendAtPoint) (sym w.made.pairs_are) (done-tags marked ascending)))
 
   order : (d e : Entry) → IsIn d es → IsIn e es → d.number < e.number → AscendAtPoint (line_of d) (line_of e)
   order d e i j n same =
       elim (in-order Climbs es d e climbs i j) [
         | inl q ↦ let m : d.number ≡ e.number = ap (λ (e : Entry). e.number) q in absurd (omega (arith, m, n))
-        | inr (inl r) ↦ r.1
+        | inr (inl r) ↦ r.1 same
         | inr (inr r) ↦ let m = r.0 in absurd (omega (arith, m, n))
       ]
 
@@ -87,7 +90,7 @@ module _ (list left : List Pair) (old new : Standing) (tags : AreAscending list)
     lines = lines;
     order = order;
     behind = behind;
-    later = later-pairs AscendAtPoint left (later-weaken Below AscendAtPoint left (λ p q i j l same. l) (subst (EachLater Below) (sym w.left_is) (left-tags marked ascending)));
+    later = later-pairs AscendAtPoint left (subst (EachLater AscendAtPoint) (sym w.left_is) (left-tags marked ascending));
   }
 
   pub worked-one : AreWorked (list ∷ []) left old new
@@ -99,7 +102,7 @@ module _ (list left : List Pair) (old new : Standing) (tags : AreAscending list)
         (in-all (λ (e : Entry). (old.first ≤ e.by) × (e.by < old.first + old.parts)) es (λ e i. let b = all-in (λ (e : Entry). e.by ≡ old.first) es w.made.by_pass e i in (omega (arith, b), omega (arith, b, one))));
     alone = λ l e zero all.
         let none : left ≡ [] = w.alone zero all in
-        (none, ap (map line_of) made-is ∙ w.made.pairs_are ∙ none-left marked (sym w.left_is ∙ none) ∙ w.parted ∙ only-list list l e);
+        (none, ap (map line_of) made-is ∙ w.made.pairs_are ∙ none-left marked (sym w.left_is ∙ none) ∙ w.parted ∙ own all ∙ only-list list l e);
   }
 
 -- a slice of one list
@@ -108,11 +111,18 @@ one-of [] x l e = absurd (omega (arith, l))
 one-of {X} (y ∷ []) x l e = ap (λ (z : X). z ∷ []) (sym e)
 one-of (y ∷ z ∷ xs) x l e = absurd (omega (arith, l))
 
-pub slice-worked : (ls : List lists.List) (x : lists.List) (left : List Pair) (table : Opened) (old new : Standing) → length ls ≡ 1 → x ≡ get_or ls 0 x → CanRun table (pairs_in ls) old → IsWorked x.pairs.items left old new → AreWorked (pairs_in ls) left old new
-slice-worked ls x left table old new l e can w =
+pub slice-worked : (ls : List lists.List) (x : lists.List) (arranged left : List Pair) (table : Opened) (count : ℕ) (old new : Standing) → length ls ≡ 1 → x ≡ get_or ls 0 x → CanRun table (pairs_in ls) old → count ≡ table.parts → IsInPlace count x.pairs.items arranged → IsWorked arranged left old new → AreWorked (pairs_in ls) left old new
+slice-worked ls x arranged left table count old new l e can parts is w =
     let f : pairs_in ls ≡ x.pairs.items ∷ [] = ap pairs_in (one-of ls x l e) in
     let g : CanRun table (x.pairs.items ∷ []) old = subst (λ (t : List (List Pair)). CanRun table t old) f can in
-    subst (λ (t : List (List Pair)). AreWorked t left old new) (sym f) (worked-one x.pairs.items left old new (g.tags 0 x.pairs.items (omega arith)) g.fresh g.parts w)
+    let all : old.parts ≡ old.table.parts → arranged ≡ x.pairs.items = λ own. is.alone (parts ∙ sym (ap (λ (t : Opened). t.parts) g.table_is) ∙ sym own ∙ g.parts) in
+    subst (λ (t : List (List Pair)). AreWorked t left old new) (sym f) (worked-one x.pairs.items arranged left old new is.is_arranged all g.fresh g.parts w)
+
+pub slice-tags : (ls : List lists.List) (x : lists.List) (table : Opened) (old : Standing) → length ls ≡ 1 → x ≡ get_or ls 0 x → CanRun table (pairs_in ls) old → AreAscending x.pairs.items
+slice-tags ls x table old l e can =
+    let f : pairs_in ls ≡ x.pairs.items ∷ [] = ap pairs_in (one-of ls x l e) in
+    let g : CanRun table (x.pairs.items ∷ []) old = subst (λ (t : List (List Pair)). CanRun table t old) f can in
+    g.tags 0 x.pairs.items (omega arith)
 
 pub slice-allowance : (ls : List lists.List) (x : lists.List) (table : Opened) (old : Standing) → length ls ≡ 1 → x ≡ get_or ls 0 x → CanRun table (pairs_in ls) old → length x.pairs.items ≤ old.left
 slice-allowance ls x table old l e can =

@@ -1,4 +1,4 @@
-pub mod Arranged
+pub mod ByKeys
 pub mod Counts
 pub mod Deals
 pub mod FirstOnes

@@ -11,6 +11,7 @@ use Rattle.edit_history.proofs.Lines.{in-append, in-filtered}
 use Rattle.plain_laws.specs.Running.{Pair}
 use Rattle.plain_laws.proofs.Members.{in-map_from, passes, EachLater, later-map, later-unmap, later-filter}
 use Rattle.edit_workers.specs.Working.{Marked, left_over, done}
+use Rattle.edit_workers.specs.Running.{AscendAtPoint}
 
 -- two members of a list are one, or the one stands before the other
 pub in-order : {X : Type 0} (R : X → X → Type 0) (xs : List X) (x y : X) → EachLater R xs → IsIn x xs → IsIn y xs → (x ≡ y) ⊎ R x y ⊎ R y x
@@ -47,18 +48,15 @@ marks-part l =
     subst (IsPermutation (map (λ (x : Marked). x.1) l)) (map-append (λ (x : Marked). x.1) (filter (λ x. not x.0) l) (filter (λ x. x.0) l))
     (IsPermutation-map (λ (x : Marked). x.1) l (filter (λ x. not x.0) l ++ filter (λ x. x.0) l) (IsPermutation-filter_both (λ (x : Marked). not x.0) (λ x. x.0) (λ x. both-ways x.0) l))
 
-abbrev pub Below : Pair → Pair → Type 0
-Below p q = p.0 < q.0
+module _ (l : List Marked) (tags : EachLater AscendAtPoint (map (λ x. x.1) l)) where
+  tagged : EachLater (λ (x y : Marked). AscendAtPoint x.1 y.1) l
+  tagged = later-unmap (λ (x : Marked). x.1) AscendAtPoint l tags
 
-module _ (l : List Marked) (tags : EachLater Below (map (λ x. x.1) l)) where
-  tagged : EachLater (λ (x y : Marked). x.1.0 < y.1.0) l
-  tagged = later-unmap (λ (x : Marked). x.1) Below l tags
+  pub done-tags : EachLater AscendAtPoint (done l)
+  done-tags = later-map (λ (x : Marked). x.1) AscendAtPoint (filter (λ x. not x.0) l) (later-filter (λ (x y : Marked). AscendAtPoint x.1 y.1) (λ x. not x.0) l tagged)
 
-  pub done-tags : EachLater Below (done l)
-  done-tags = later-map (λ (x : Marked). x.1) Below (filter (λ x. not x.0) l) (later-filter (λ (x y : Marked). x.1.0 < y.1.0) (λ x. not x.0) l tagged)
-
-  pub left-tags : EachLater Below (left_over l)
-  left-tags = later-map (λ (x : Marked). x.1) Below (filter (λ x. x.0) l) (later-filter (λ (x y : Marked). x.1.0 < y.1.0) (λ x. x.0) l tagged)
+  pub left-tags : EachLater AscendAtPoint (left_over l)
+  left-tags = later-map (λ (x : Marked). x.1) AscendAtPoint (filter (λ x. x.0) l) (later-filter (λ (x y : Marked). AscendAtPoint x.1 y.1) (λ x. x.0) l tagged)
 
   -- a pair that is done has a lower tag than one of its point that is left over
   pub done-first : EachLater (λ (x y : Marked). x.0 ≡ true → point_of x.1.1 ≡ point_of y.1.1 → y.0 ≡ true) l
@@ -68,12 +66,12 @@ module _ (l : List Marked) (tags : EachLater Below (map (λ x. x.1) l)) where
       let y = in-map_from (λ (x : Marked). x.1) (filter (λ x. x.0) l) q j in
       let undone : not x.0.0 ≡ true = passes (λ (x : Marked). not x.0) l x.0 x.1 in
       let left : y.0.0 ≡ true = passes (λ (x : Marked). x.0) l y.0 y.1 in
-      let R : Marked → Marked → Type 0 = λ x y. (x.1.0 < y.1.0) × (x.0 ≡ true → point_of x.1.1 ≡ point_of y.1.1 → y.0 ≡ true) in
+      let R : Marked → Marked → Type 0 = λ x y. AscendAtPoint x.1 y.1 × (x.0 ≡ true → point_of x.1.1 ≡ point_of y.1.1 → y.0 ≡ true) in
       let points : point_of y.0.1.1 ≡ point_of x.0.1.1 = ap (λ (p : Pair). point_of p.1) y.2 ∙ sym same ∙ sym (ap (λ (p : Pair). point_of p.1) x.2) in
-      elim (in-order R l x.0 y.0 (both-later (λ (x y : Marked). x.1.0 < y.1.0) (λ (x y : Marked). x.0 ≡ true → point_of x.1.1 ≡ point_of y.1.1 → y.0 ≡ true) l tagged later)
+      elim (in-order R l x.0 y.0 (both-later (λ (x y : Marked). AscendAtPoint x.1 y.1) (λ (x y : Marked). x.0 ≡ true → point_of x.1.1 ≡ point_of y.1.1 → y.0 ≡ true) l tagged later)
       (in-filtered (λ (x : Marked). not x.0) l x.0 x.1) (in-filtered (λ (x : Marked). x.0) l y.0 y.1)) [
         | inl e ↦ absurd (apart x.0.0 undone (ap (λ (x : Marked). x.0) e ∙ left))
-        | inr (inl r) ↦ subst (λ (n : ℕ). n < q.0) (ap (λ (p : Pair). p.0) x.2) (subst (λ (n : ℕ). x.0.1.0 < n) (ap (λ (p : Pair). p.0) y.2) r.0)
+        | inr (inl r) ↦ subst (λ (n : ℕ). n < q.0) (ap (λ (p : Pair). p.0) x.2) (subst (λ (n : ℕ). x.0.1.0 < n) (ap (λ (p : Pair). p.0) y.2) (r.0 (sym points)))
         | inr (inr r) ↦ absurd (apart x.0.0 undone (r.1 left points))
       ]
     where

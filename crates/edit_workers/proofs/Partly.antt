@@ -133,10 +133,10 @@ numbers-rise n s (d ∷ h) l = (λ e i. let m = low-numbers (n + 1) (after s d.e
 pub tags-in-order : (l : List Pair) → IsNonDecreasingBy (λ p. p.0) l → AllPairs (λ p q. p.0 ≤ q.0) l
 tags-in-order l h i j d m n = h i j d (omega arith) n
 
-abbrev is_same : Pair → Pair → Bool
+abbrev pub is_same : Pair → Pair → Bool
 is_same p q = (point_of p.1 == point_of q.1) && (p.0 == q.0)
 
-same-flips : (p q : Pair) → is_same p q ≡ is_same q p
+pub same-flips : (p q : Pair) → is_same p q ≡ is_same q p
 same-flips p q = flips (point_of p.1) (point_of q.1) p.0 q.0
   where
     flips : (a b c d : ℕ) → ((a == b) && (c == d)) ≡ ((b == a) && (d == c))

@@ -21,3 +21,8 @@ key_of begin pair = (pair.0 / 16384 * 4096 + (place_of (point_of pair.1) + begin
 pub record IsArranged (list arranged : List Pair) : Type 0 where
   pub same : IsPermutation list arranged
   pub order : AllPairs AscendAtPoint arranged
+
+-- That, where there are so many workers; a worker that is alone keeps the order.
+pub record IsInPlace (count : ℕ) (list arranged : List Pair) : Type 0 where
+  pub is_arranged : IsArranged list arranged
+  pub alone : count ≡ 1 → arranged ≡ list

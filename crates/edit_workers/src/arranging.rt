@@ -3,7 +3,7 @@
 
 ghost use Rattle.std.specs.Prelude.{◌≡◌, ◌<◌, IfOk, length};
 ghost use Rattle.edit_workers.specs.Dealing.{AreAscending};
-ghost use Rattle.edit_workers.specs.Arranging.{spread_of, place_of as place_of_point, key_of as key_of_pair, IsArranged};
+ghost use Rattle.edit_workers.specs.Arranging.{spread_of, place_of as place_of_point, key_of as key_of_pair, IsArranged, IsInPlace};
 
 use crate::lists::List;
 use edit_history::Edit;
@@ -45,11 +45,32 @@ fn key_of(pair: &(u32, Edit), begin: u32) -> u64
     (stretch * PLACES as u64 + place as u64) * 4_294_967_296 + pair.0 as u64
 }
 
-/// The pairs in the order in which the worker with a number, of so many workers, makes them. Pairs of one point stay in their order.
+// The place at which the worker with a number begins: those of so many begin far from each other.
+fn beginning(number: u32, count: u32) -> u32
+    requires { 0 < count }
+    ensures { result < 4096 }
+{
+    (PLACES / count).wrapping_mul(number) % PLACES
+}
+
+// The pairs in the order of their places, from that where the worker with a number begins.
+fn arranged(alloc: Global, list: &List, number: u32, count: u32) -> Result<List, AllocError>
+    requires some { 0 < count }
+    requires tags { AreAscending list.now.pairs.items }
+    ensures { IfOk result (λ l. IsArranged list.now.pairs.items l.pairs.items) }
+{
+    let mut pairs = Vec::from_slice(alloc, &list.pairs)?;
+    let begin = beginning(number, count);
+    pairs.sort_unstable_by_key(|pair| key_of(pair, begin));
+    Ok(List { pairs })
+}
+
+/// The pairs in the order in which the worker with a number, of so many workers, makes them. Pairs of one point stay in their order. A
+/// worker that is alone makes them as they stand.
 ///
 /// # Errors
 /// Want of memory.
-pub(crate) fn arranged(
+pub(crate) fn in_place(
     alloc: Global,
     list: &List,
     number: u32,
@@ -57,10 +78,12 @@ pub(crate) fn arranged(
 ) -> Result<List, AllocError>
     requires some { 0 < count }
     requires tags { AreAscending list.now.pairs.items }
-    ensures { IfOk result (λ l. IsArranged list.now.pairs.items l.pairs.items) }
+    ensures { IfOk result (λ l. IsInPlace count list.now.pairs.items l.pairs.items) }
 {
-    let mut pairs = Vec::from_slice(alloc, &list.pairs)?;
-    let begin = (PLACES / count).wrapping_mul(number) % PLACES;
-    pairs.sort_unstable_by_key(|pair| key_of(pair, begin));
-    Ok(List { pairs })
+    if count == 1 {
+        return Ok(List {
+            pairs: Vec::from_slice(alloc, &list.pairs)?,
+        });
+    }
+    Ok(arranged(alloc, list, number, count)?)
 }

@@ -5,6 +5,7 @@ ghost use Rattle.std.specs.Thread.{IsSync};
 ghost use Rattle.edit_workers.specs.Dealing.{lists_of, AreAscending, AreApart, count_of};
 ghost use Rattle.edit_workers.specs.Running.{AreRun, pairs_in, CanRun, AreWorked, AreRunBut, AreApplied, AreByTag};
 
+use crate::arranging::in_place;
 use crate::lists::{Left, List, Lists};
 use crate::working::work;
 use cell_store::Mesh;
@@ -15,7 +16,7 @@ use std::alloc::{AllocError, Global};
 use std::thread::{Threads, join};
 
 // How many pairs the lists have.
-fn count(lists: &[List]) -> u64
+fn pair_count(lists: &[List]) -> u64
     requires { count_of (pairs_in lists.now) ≤ 2 ^ 32 }
     ensures { result ≡ count_of (pairs_in lists.now) }
 {
@@ -26,34 +27,37 @@ fn count(lists: &[List]) -> u64
     count
 }
 
-// Does the lists, each by a part of the pass: halves side by side.
+// Does the lists, each by a part of the pass: halves side by side. `count` tells how many parts the table has.
 fn work_all<G: Gate + Sync, R: Threads + Sync>(
     rt: &R,
     alloc: Global,
     table: &MeshTable,
     mut pass: Pass,
     lists: &[List],
+    count: u32,
     gate: &G,
 ) -> Result<(Pass, Left), AllocError>
-    requires { CanRun table.now (pairs_in lists.now) pass }
+    requires run { CanRun table.now (pairs_in lists.now) pass }
+    requires count { (0 < count) × (count ≡ table.now.parts) }
     ensures { IfOk result (λ r. AreWorked (pairs_in lists.now) r.1.pairs.items pass r.0) }
 {
     if lists.len() == 1 {
-        let left = work(alloc, table, &mut pass, &lists[0], gate)?;
+        let list = in_place(alloc, &lists[0], pass.first(), count)?;
+        let left = work(alloc, table, &mut pass, &list, gate)?;
         return Ok((pass, left));
     }
     let (low, high) = lists.split_at(lists.len() / 2);
-    let other = table.split(alloc, &mut pass, high.len() as u32, count(high))?;
+    let other = table.split(alloc, &mut pass, high.len() as u32, pair_count(high))?;
     let (a, b) = join(
         rt,
         || -> Result<(Pass, Left), AllocError>
-            requires { IsSync R.row × IsSync G.row × CanRun table.now (pairs_in low.now) pass }
+            requires { IsSync R.row × IsSync G.row × CanRun table.now (pairs_in low.now) pass × (0 < count) × (count ≡ table.now.parts) }
             ensures { IfOk result (λ r. AreWorked (pairs_in low.entry.now) r.1.pairs.items pass r.0) }
-        { work_all(rt, alloc, table, pass, low, gate) },
+        { work_all(rt, alloc, table, pass, low, count, gate) },
         || -> Result<(Pass, Left), AllocError>
-            requires { IsSync R.row × IsSync G.row × CanRun table.now (pairs_in high.now) other }
+            requires { IsSync R.row × IsSync G.row × CanRun table.now (pairs_in high.now) other × (0 < count) × (count ≡ table.now.parts) }
             ensures { IfOk result (λ r. AreWorked (pairs_in high.entry.now) r.1.pairs.items other r.0) }
-        { work_all(rt, alloc, table, other, high, gate) },
+        { work_all(rt, alloc, table, other, high, count, gate) },
     );
     let (mut pass, mut left) = a?;
     let (other, mut more) = b?;
@@ -77,8 +81,9 @@ fn side_by_side<G: Gate + Sync, R: Threads + Sync>(
     ensures run { IfOk result (λ r. AreRunBut (pairs_in lists.now) r.1.pairs.items mesh.history r.0.history) }
     ensures grid { IfOk result (λ r. r.0.grid ≡ mesh.grid) }
 {
-    let (table, pass) = MeshTable::open(alloc, mesh, lists.len() as u32, count(lists))?;
-    let (pass, left) = work_all(rt, alloc, &table, pass, lists, gate)?;
+    let count = lists.len() as u32;
+    let (table, pass) = MeshTable::open(alloc, mesh, count, pair_count(lists))?;
+    let (pass, left) = work_all(rt, alloc, &table, pass, lists, count, gate)?;
     Ok((table.close(pass), left))
 }
 

@@ -1,13 +1,12 @@
 -- Pairs that are arranged by their places.
-use Rattle.std.specs.Prelude.{◌≡◌, ℕ, ◌+◌, ◌*◌, ◌/◌, ◌%◌, ◌<◌, ◌≤◌, Bool, false, ◌&&◌, ◌==◌, List, AllPairs, IsPermutation}
+use Rattle.std.specs.Prelude.{◌≡◌, ℕ, ◌+◌, ◌*◌, ◌/◌, ◌%◌, ◌<◌, ◌≤◌, false, ◌&&◌, ◌==◌, List, IsPermutation}
 use Rattle.std.specs.List.Sorted.{IsNonDecreasingBy}
-use Rattle.std.proofs.Common.{refl, sym, ◌∙◌, ap, subst, arith, get_or}
+use Rattle.std.proofs.Common.{sym, subst, arith, get_or}
 use Rattle.std.proofs.lemmas.Bool.Decides.{nat_tests}
 use Rattle.std.proofs.lemmas.Map.Keys.{IsDistinct-from_apart, IsDistinct-IsPermutation, apart_from_distinct}
 use Rattle.edit_history.specs.Edits.{point_of}
 use Rattle.plain_laws.specs.Running.{Pair}
 use Rattle.edit_workers.specs.Dealing.{AreAscending}
-use Rattle.edit_workers.specs.Running.{AscendAtPoint}
 use Rattle.edit_workers.specs.Arranging.{key_of, place_of, IsArranged}
 use Rattle.edit_workers.proofs.Partly.{is_same, same-flips}
 
@@ -33,7 +32,7 @@ by-keys begin list arranged tags same sorted = record {
     strict p q e f one =
         let r : ℕ → ℕ = λ x. (place_of x + begin) % 4096 in
         let g : (p.0 / 16384 * 4096 + r (point_of p.1)) * 4294967296 + p.0 ≤ (q.0 / 16384 * 4096 + r (point_of p.1)) * 4294967296 + q.0 =
-            subst (λ (x : ℕ). (p.0 / 16384 * 4096 + r (point_of p.1)) * 4294967296 + p.0 ≤ (q.0 / 16384 * 4096 + r x) * 4294967296 + q.0) (sym one) f in
+        subst (λ (x : ℕ). (p.0 / 16384 * 4096 + r (point_of p.1)) * 4294967296 + p.0 ≤ (q.0 / 16384 * 4096 + r x) * 4294967296 + q.0) (sym one) f in
         by (point_of p.1) (point_of q.1) p.0 q.0 e (rises p.0 q.0 (r (point_of p.1)) g) one
       where
         by : (a b c d : ℕ) → ((a == b) && (c == d)) ≡ false → c ≤ d → a ≡ b → c < d

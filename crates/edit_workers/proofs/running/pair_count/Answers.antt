@@ -1,6 +1,6 @@
 use Rattle.std.proofs.Common.{rules, arith}
 use Rattle.edit_workers.proofs.Counts.{count-within}
-use Rattle.edit_workers.proofs.running.count.Goals as goal
+use Rattle.edit_workers.proofs.running.pair_count.Goals as goal
 
 pub overflow_add-count : goal.overflow_add-count
 overflow_add-count c =
