@@ -53,8 +53,10 @@ fn grown_slots(
     if end <= slots.len() {
         return Ok(None);
     }
-    let mut list = Vec::from_slice(alloc, slots)?;
-    list.resize(end.max(slots.len().saturating_add(slots.len() / 4)), None)?;
+    let count = end.max(slots.len().saturating_add(slots.len() / 4));
+    let mut list = Vec::with_capacity(alloc, count)?;
+    list.extend_from_slice(slots)?;
+    list.resize(count, None)?;
     Ok(Some(list))
 }
 
@@ -153,16 +155,24 @@ fn open_after(alloc: Global, free: &[u32], moves: &Moves) -> Result<Vec<u32>, Al
     Ok(list)
 }
 
-// The numbers of stars that are likely to be spare after the exchange.
+// The numbers of stars that are likely to be spare after the exchange: those that were, those of stars that have no place then, and
+// the new ones, from the first number on and before the end, that no star got.
 fn spare_after(
     alloc: Global,
     spare: &[u32],
     writes: &[(u32, Around)],
+    first: u32,
+    end: u32,
 ) -> Result<Vec<u32>, AllocError> {
     let mut list = Vec::with_capacity(alloc, spare.len().saturating_add(writes.len()))?;
     for n in spare {
-        if !writes.iter().any(|(m, _)| m == n) {
+        if !is_written(writes, *n) {
             list.push(*n)?;
+        }
+    }
+    for n in first..end {
+        if !is_written(writes, n) {
+            list.push(n)?;
         }
     }
     for (n, around) in writes {
@@ -171,6 +181,11 @@ fn spare_after(
         }
     }
     Ok(list)
+}
+
+// Whether the star with the number is one of these.
+fn is_written(writes: &[(u32, Around)], n: u32) -> bool {
+    writes.iter().any(|(m, _)| *m == n)
 }
 
 impl Cells {
@@ -211,7 +226,10 @@ impl Cells {
         let more = grown_stars(alloc, &self.stars, &stars, end_stars)?;
         let slots = changes(alloc, &moves)?;
         let free = open_after(alloc, &self.free, &moves)?;
-        let spare = spare_after(alloc, &self.spare, &stars)?;
+        let used_stars = self
+            .used_stars
+            .max(u32::try_from(end_stars).unwrap_or(u32::MAX));
+        let spare = spare_after(alloc, &self.spare, &stars, self.used_stars, used_stars)?;
         Ok(Plan {
             grown,
             slots,
@@ -221,9 +239,7 @@ impl Cells {
             free,
             spare,
             used: self.used.max(u32::try_from(end).unwrap_or(u32::MAX)),
-            used_stars: self
-                .used_stars
-                .max(u32::try_from(end_stars).unwrap_or(u32::MAX)),
+            used_stars,
             links,
             joins,
         })
