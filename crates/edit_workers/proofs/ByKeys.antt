@@ -7,12 +7,18 @@ use Rattle.std.proofs.lemmas.Map.Keys.{IsDistinct-from_apart, IsDistinct-IsPermu
 use Rattle.edit_history.specs.Edits.{point_of}
 use Rattle.plain_laws.specs.Running.{Pair}
 use Rattle.edit_workers.specs.Dealing.{AreAscending}
-use Rattle.edit_workers.specs.Arranging.{key_of, place_of, IsArranged}
+use Rattle.edit_workers.specs.Arranging.{key_of, place_of, stretch_of, IsArranged}
 use Rattle.edit_workers.proofs.Partly.{is_same, same-flips}
 
 -- the keys of two pairs of one place rise with their tags
-rises : (c d r : ℕ) → (c / 16384 * 4096 + r) * 4294967296 + c ≤ (d / 16384 * 4096 + r) * 4294967296 + d → c ≤ d
-rises c d r h = omega (arith, h)
+later-stretch : (c d : ℕ) → d ≤ c → stretch_of d ≤ stretch_of c
+later-stretch c d h = grind (arith, nat_tests)
+
+rises : (c d r : ℕ) → (stretch_of c * 4096 + r) * 4294967296 + c ≤ (stretch_of d * 4096 + r) * 4294967296 + d → c ≤ d
+rises c d r h = by (stretch_of c) (stretch_of d) (later-stretch c d) h
+  where
+    by : (m n : ℕ) → (d ≤ c → n ≤ m) → (m * 4096 + r) * 4294967296 + c ≤ (n * 4096 + r) * 4294967296 + d → c ≤ d
+    by m n f h = grind (arith)
 
 pub by-keys : (begin : ℕ) (list arranged : List Pair) → AreAscending list → IsPermutation list arranged → IsNonDecreasingBy (key_of begin) arranged → IsArranged list arranged
 by-keys begin list arranged tags same sorted = record {
@@ -31,8 +37,8 @@ by-keys begin list arranged tags same sorted = record {
     strict : (p q : Pair) → is_same p q ≡ false → key_of begin p ≤ key_of begin q → point_of p.1 ≡ point_of q.1 → p.0 < q.0
     strict p q e f one =
         let r : ℕ → ℕ = λ x. (place_of x + begin) % 4096 in
-        let g : (p.0 / 16384 * 4096 + r (point_of p.1)) * 4294967296 + p.0 ≤ (q.0 / 16384 * 4096 + r (point_of p.1)) * 4294967296 + q.0 =
-        subst (λ (x : ℕ). (p.0 / 16384 * 4096 + r (point_of p.1)) * 4294967296 + p.0 ≤ (q.0 / 16384 * 4096 + r x) * 4294967296 + q.0) (sym one) f in
+        let g : (stretch_of p.0 * 4096 + r (point_of p.1)) * 4294967296 + p.0 ≤ (stretch_of q.0 * 4096 + r (point_of p.1)) * 4294967296 + q.0 =
+        subst (λ (x : ℕ). (stretch_of p.0 * 4096 + r (point_of p.1)) * 4294967296 + p.0 ≤ (stretch_of q.0 * 4096 + r x) * 4294967296 + q.0) (sym one) f in
         by (point_of p.1) (point_of q.1) p.0 q.0 e (rises p.0 q.0 (r (point_of p.1)) g) one
       where
         by : (a b c d : ℕ) → ((a == b) && (c == d)) ≡ false → c ≤ d → a ≡ b → c < d

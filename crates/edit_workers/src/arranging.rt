@@ -3,15 +3,18 @@
 
 ghost use Rattle.std.specs.Prelude.{◌≡◌, ◌<◌, IfOk, length};
 ghost use Rattle.edit_workers.specs.Dealing.{AreAscending};
-ghost use Rattle.edit_workers.specs.Arranging.{spread_of, place_of as place_of_point, key_of as key_of_pair, IsArranged, IsInPlace};
+ghost use Rattle.edit_workers.specs.Arranging.{spread_of, stretch_of as stretch_of_tag, place_of as place_of_point, key_of as key_of_pair, IsArranged, IsInPlace};
 
 use crate::lists::List;
 use edit_history::Edit;
 use point_order::Point;
 use std::alloc::{AllocError, Global};
 
-// Lines whose tags lie in one stretch of so many come in the order of their places.
-const STRETCH: u32 = 16384;
+// So many lines come in the order of the file, so that a mesh that is still small is fine everywhere before it grows in places.
+const EARLY: u32 = 8192;
+
+// Later ones whose tags lie in one stretch of so many come in the order of their places.
+const STRETCH: u32 = 65536;
 
 // How many places there are.
 const PLACES: u32 = 4096;
@@ -35,12 +38,24 @@ fn place_of(p: Point) -> u32
     spread(x / 1024) * 4 + spread(y / 1024) * 2 + spread(z / 1024)
 }
 
+// The number of the stretch of a tag.
+fn stretch_of(tag: u32) -> u32
+    ensures value { result ≡ stretch_of_tag tag }
+    ensures bound { result < 73728 }
+{
+    if tag < EARLY {
+        tag
+    } else {
+        EARLY + tag / STRETCH
+    }
+}
+
 // The number by which pairs are arranged: their stretch, then their place behind the one where the worker begins, then their tag.
 fn key_of(pair: &(u32, Edit), begin: u32) -> u64
     requires { begin < 4096 }
     ensures { result ≡ key_of_pair begin pair.now }
 {
-    let stretch = (pair.0 / STRETCH) as u64;
+    let stretch = stretch_of(pair.0) as u64;
     let place = (place_of(pair.1.point()) + begin) % PLACES;
     (stretch * PLACES as u64 + place as u64) * 4_294_967_296 + pair.0 as u64
 }
