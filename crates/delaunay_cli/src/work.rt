@@ -19,6 +19,7 @@ use crate::stop::Stop;
 use crate::task::Task;
 use crate::words::read_words;
 use byte_ends::{Failed, Sink, Source};
+use edit_history::Entry;
 use grid_claims::Gate;
 use std::alloc::Global;
 use std::thread::Threads;
@@ -55,6 +56,22 @@ fn make<R: Threads + Sync, S: Source, G: Gate + Sync>(
     }
 }
 
+// The end of a run by what stopped it, if anything did, and the history that it hands back.
+fn close(stop: Option<Stop>, kept: Vec<Entry>) -> Ended
+    ensures status { result.run.status ≡ status_of_end stop }
+    ensures stop { result.stop ≡ stop }
+    ensures kept { result.run.kept.items ≡ kept.items }
+{
+    let status = match &stop {
+        Some(stop) => stop.told().0,
+        None => 0,
+    };
+    Ended {
+        run: Run { status, kept },
+        stop,
+    }
+}
+
 // Writes what was made, and ends the run.
 fn end<O: Sink>(alloc: Global, made: Result<Made, Stop>, out: &mut O) -> Ended
     requires { ForOk made IsSound }
@@ -66,22 +83,10 @@ fn end<O: Sink>(alloc: Global, made: Result<Made, Stop>, out: &mut O) -> Ended
 {
     match made {
         Ok(Made { kept, page }) => match put_page(&page, out) {
-            Ok(()) => Ended {
-                run: Run { status: 0, kept },
-                stop: None,
-            },
-            Err(Failed) => Ended {
-                run: Run { status: 4, kept },
-                stop: Some(Stop::WriteFault),
-            },
+            Ok(()) => close(None, kept),
+            Err(Failed) => close(Some(Stop::WriteFault), kept),
         },
-        Err(stop) => Ended {
-            run: Run {
-                status: stop.told().0,
-                kept: Vec::new(alloc),
-            },
-            stop: Some(stop),
-        },
+        Err(stop) => close(Some(stop), Vec::new(alloc)),
     }
 }
 
