@@ -24,8 +24,8 @@ impl Guesses {
         })
     }
 
-    // Where the cell stands, if that is across a facet of one that was found, and of none before the last that told of one.
-    fn guess(&mut self, slots: &[Option<Cell>], links: &Links, cell: &Cell) -> u32 {
+    /// Where the cell stands, if that is across a facet of one that was found, and of none before the last that told of one.
+    pub(crate) fn guess(&mut self, slots: &[Option<Cell>], links: &Links, cell: &Cell) -> u32 {
         for at in self.first..self.places.len() {
             if let Some(found) = self.places.get(at) {
                 let place = place_beside(slots, links.at(*found), cell);
@@ -38,16 +38,10 @@ impl Guesses {
         NONE
     }
 
-    /// A guess where the next cell stands.
-    pub(crate) fn next(
-        &mut self,
-        slots: &[Option<Cell>],
-        links: &Links,
-        cell: &Cell,
-    ) -> Result<u32, AllocError> {
-        let guess = self.guess(slots, links, cell);
+    /// The next cell is looked for.
+    pub(crate) fn add(&mut self) -> Result<(), AllocError> {
         self.places.push(NONE)?;
-        Ok(guess)
+        Ok(())
     }
 
     /// This cell stands at the place.

@@ -40,20 +40,32 @@ fn number_at(list: &[u32], at: usize) -> u32 {
     }
 }
 
-// The cells that come, each beside where it stands in their list, as those that are put follow each other.
-fn as_they_come(
-    alloc: Global,
-    fresh: &[Cell],
-    count: usize,
-) -> Result<Vec<(Cell, usize)>, AllocError> {
+// The cells that come in order, each beside where it stands in their list.
+fn in_order(alloc: Global, fresh: &[Cell]) -> Result<Vec<(Cell, usize)>, AllocError> {
     let mut list = Vec::with_capacity(alloc, fresh.len())?;
     for (at, cell) in fresh.iter().enumerate() {
         list.push((*cell, at))?;
     }
-    if count > FEW {
-        list.sort_unstable();
-    }
+    list.sort_unstable();
     Ok(list)
+}
+
+// Notes the place of a cell that comes, if it is put next, and gives those that are put after it.
+fn note_next<'a>(
+    places: &mut [u32],
+    rest: &'a [(u32, Cell)],
+    cell: &Cell,
+    at: usize,
+) -> &'a [(u32, Cell)] {
+    if let Some(((place, next), others)) = rest.split_first() {
+        if are_same(next, cell) {
+            if let Some(known) = places.get_mut(at) {
+                *known = *place;
+            }
+            return others;
+        }
+    }
+    rest
 }
 
 // The places of the cells that come, none for those that are not put.
@@ -62,18 +74,16 @@ fn places_of(
     fresh: &[Cell],
     placed: &[(u32, Cell)],
 ) -> Result<Vec<u32>, AllocError> {
-    let list = as_they_come(alloc, fresh, placed.len())?;
     let mut places = Vec::new(alloc);
     places.resize(fresh.len(), NONE)?;
     let mut rest = placed;
-    for (cell, at) in &list {
-        if let Some(((place, next), others)) = rest.split_first() {
-            if are_same(next, cell) {
-                if let Some(known) = places.get_mut(*at) {
-                    *known = *place;
-                }
-                rest = others;
-            }
+    if placed.len() > FEW {
+        for (cell, at) in &in_order(alloc, fresh)? {
+            rest = note_next(&mut places, rest, cell, *at);
+        }
+    } else {
+        for (at, cell) in fresh.iter().enumerate() {
+            rest = note_next(&mut places, rest, cell, at);
         }
     }
     Ok(places)

@@ -244,15 +244,16 @@ impl Cells {
         }
     }
 
-    // The place of the cell, if it stands at one, which is likely to be the guess.
-    fn place_of_cell(&self, cell: &Cell, guess: u32) -> Option<u32>
+    // The place of the cell, if it stands at one.
+    fn place_of_cell(&self, cell: &Cell, guesses: &mut Guesses) -> Option<u32>
         ensures { MatchOption result ((i : ℕ) → at self.now.slots i ≡ Some cell.now → touches_in self.now.place cell.now ≡ true → ⊥) (λ i. at self.now.slots i ≡ Some cell.now) }
     {
-        if stands_at(&self.slots, guess, cell) {
-            return Some(guess);
-        }
         if !self.is_touched_by(cell) {
             return None;
+        }
+        let guess = guesses.guess(&self.slots, &self.links, cell);
+        if stands_at(&self.slots, guess, cell) {
+            return Some(guess);
         }
         self.place_in_star(cell)
     }
@@ -270,8 +271,8 @@ impl Cells {
         let _ = &self.slots;
         let mut freed = Vec::with_capacity(alloc, gone.len())?;
         for c in gone {
-            let guess = guesses.next(&self.slots, &self.links, c)?;
-            if let Some(i) = self.place_of_cell(c, guess) {
+            guesses.add()?;
+            if let Some(i) = self.place_of_cell(c, guesses) {
                 freed.push(i)?;
                 guesses.put(i);
             }
