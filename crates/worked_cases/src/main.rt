@@ -31,8 +31,8 @@ mod walks;
 
 use cell_store::Grid;
 use std::alloc::{AllocError, Global};
-use std::thread::Threads;
 use std::io;
+use std::thread::Threads;
 
 // The answer to what is asked of a grid and these lists.
 fn answer<R: Threads + Sync>(
