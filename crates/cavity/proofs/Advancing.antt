@@ -17,7 +17,7 @@ use Rattle.del_laws.specs.Listed.{IsListed}
 use Rattle.del_laws.proofs.Listed.{listed_is_cell, in_left}
 use Rattle.del_laws.proofs.Tests.{any_true, filtered_true}
 use Rattle.hole_laws.specs.Edits.{IsSolidSet, GoesFrom}
-use Rattle.hole_laws.proofs.Once.{one_gone_each}
+use Rattle.hole_laws.proofs.RimCells.{one_gone_each}
 use Rattle.cell_store.specs.Grids.{bucket_of}
 use Rattle.cell_store.specs.Buckets.{Content, InHand, bucket_at}
 use Rattle.cell_store.specs.Ready.{AreHeld}

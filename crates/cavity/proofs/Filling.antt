@@ -11,7 +11,7 @@ use Rattle.del_laws.proofs.Listed.{listed_is_cell, listed_inside, mapped_true, m
 use Rattle.hole_laws.specs.Lists.{cell_over}
 use Rattle.hole_laws.specs.Edits.{GoesFrom, IsRimOf, IsFresh}
 use Rattle.hole_laws.proofs.Laws.{cells_after, fresh_have_point, old_lack_point, region_connected, fresh_are_near}
-use Rattle.hole_laws.proofs.Once.{one_fresh_each}
+use Rattle.hole_laws.proofs.RimCells.{one_fresh_each}
 use Rattle.cell_store.specs.Grids.{bucket_of}
 use Rattle.cell_store.specs.Buckets.{bucket_at}
 use Rattle.cavity.specs.Digs.{Digging, AreCrossed, IsDoneIn}

@@ -1,5 +1,5 @@
 pub mod Across
-pub mod Based
+pub mod BaseFacts
 pub mod Bools
 pub mod CellFacts
 pub mod Closed
@@ -31,7 +31,7 @@ pub mod Regions
 pub mod Sides
 pub mod Smaller
 pub mod Sorting
-pub mod Starred
+pub mod StarLaw
 pub mod Stars
 pub mod Strict
 pub mod Tests

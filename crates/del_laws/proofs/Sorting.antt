@@ -13,7 +13,7 @@ use Rattle.del_laws.specs.Vertices.{is_cell}
 use Rattle.del_laws.specs.Listed.{cell_of, TestIsListed}
 use Rattle.del_laws.proofs.Orders.{swap12, swap23, swap34}
 use Rattle.del_laws.proofs.Bools.{cell_true, cell_from}
-use Rattle.del_laws.proofs.Based.{no_twice}
+use Rattle.del_laws.proofs.BaseFacts.{no_twice}
 use Rattle.del_laws.proofs.Listed.{cell_is_listed}
 
 -- ---- the test does not depend on the order

@@ -8,7 +8,7 @@ use Rattle.del_laws.specs.Cells.{Vertex, far}
 use Rattle.del_laws.specs.Base.{Corner}
 use Rattle.del_laws.specs.PointSets.{PointSet, has, solid, cell, plus, minus, is_point}
 use Rattle.del_laws.proofs.PointSets.{finite}
-use Rattle.del_laws.proofs.Starred.{base}
+use Rattle.del_laws.proofs.StarLaw.{base}
 use Rattle.hole_laws.proofs.Tests.{IsAdd, AreLinked, IsAtGone, HasRim, gone}
 use Rattle.hole_laws.proofs.Vertices.{cases_vertex, second_last}
 use Rattle.hole_laws.proofs.Rims.{last_apart, both}

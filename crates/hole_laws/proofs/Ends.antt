@@ -4,7 +4,7 @@ use Rattle.std.proofs.Common.{refl, sym, ap, ◌∙◌, subst, inl, inr, ⊎_eli
 use Rattle.std.proofs.lemmas.Bool.{false≢true}
 use Rattle.del_laws.specs.Cells.{Vertex}
 use Rattle.del_laws.specs.PointSets.{PointSet, has, solid, cell}
-use Rattle.del_laws.proofs.Starred.{base}
+use Rattle.del_laws.proofs.StarLaw.{base}
 use Rattle.hole_laws.proofs.Tests.{AreLinked}
 use Rattle.hole_laws.proofs.Rims.{both, both_is}
 use Rattle.hole_laws.proofs.FromBase as from

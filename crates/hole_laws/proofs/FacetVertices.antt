@@ -11,7 +11,7 @@ use Rattle.point_order.specs.declared.cell.Facet.TheVariants.{Three, Two}
 use Rattle.point_order.proofs.SetLaws.{same-members, ascending-is}
 use Rattle.del_laws.specs.Cells.{Vertex, point, far}
 use Rattle.del_laws.proofs.Pairs.{same_point}
-use Rattle.del_laws.proofs.Based.{point_finite}
+use Rattle.del_laws.proofs.BaseFacts.{point_finite}
 use Rattle.del_laws.proofs.Tests.{among_from, among_true}
 use Rattle.hole_laws.specs.Lists.{cell_over}
 use Rattle.hole_laws.proofs.Vertex.{has_vertex, has_vertices, IsOrdered, IsFacetVertex}

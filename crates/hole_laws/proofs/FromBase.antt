@@ -8,7 +8,7 @@ use Rattle.del_laws.proofs.Tests.{false_if}
 use Rattle.hole_laws.proofs.Tests.{IsComplex, Insertion, HasRim, AreLinked, gone}
 use Rattle.del_laws.specs.PointSets.{PointSet, has, solid, cell, vertices}
 use Rattle.hole_laws.proofs.Tests.{IsAdd}
-use Rattle.del_laws.proofs.Starred.{base}
+use Rattle.del_laws.proofs.StarLaw.{base}
 use Rattle.hole_laws.proofs.Vertices.{cases_vertex, first_last, second_last}
 use Rattle.hole_laws.proofs.Rims.{last_apart, rim_makes_new, both, both_is, without_symmetric}
 use Rattle.hole_laws.proofs.Stars as stars

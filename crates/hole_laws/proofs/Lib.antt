@@ -9,11 +9,11 @@ pub mod Judged
 pub mod Laws
 pub mod Listed
 pub mod Locality
-pub mod Made
+pub mod ExchangedLists
 pub mod Near
 pub mod NewCells
 pub mod OfSets
-pub mod Once
+pub mod RimCells
 pub mod Order
 pub mod Region
 pub mod Rest

@@ -14,7 +14,7 @@ use Rattle.del_laws.specs.Listed.{IsListed}
 use Rattle.del_laws.specs.Vertices.{is_cell}
 use Rattle.del_laws.proofs.PointSets.{set_true, ascending_of}
 use Rattle.del_laws.proofs.Listed.{listed_is_cell, cell_is_listed}
-use Rattle.del_laws.proofs.Starred.{base}
+use Rattle.del_laws.proofs.StarLaw.{base}
 use Rattle.del_laws.proofs.Tests.{same_test, among_true, among_from, false_if}
 use Rattle.hole_laws.proofs.Tests.{IsAdd, Insertion}
 use Rattle.hole_laws.proofs.Vertex.{has_vertices, HasListed, ListsCells, IsOrdered, at_cell}

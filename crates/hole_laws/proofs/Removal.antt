@@ -8,7 +8,7 @@ use Rattle.del_laws.proofs.Tests.{false_if, same_test}
 use Rattle.hole_laws.proofs.Tests.{Insertion, HasRim, AreLinked, IsOpposite, gone}
 use Rattle.del_laws.specs.PointSets.{PointSet, has, solid, cell}
 use Rattle.hole_laws.proofs.Tests.{IsAdd}
-use Rattle.del_laws.proofs.Starred.{base}
+use Rattle.del_laws.proofs.StarLaw.{base}
 use Rattle.hole_laws.proofs.Vertices.{cases_vertex, first_last, second_last}
 use Rattle.hole_laws.proofs.Rims.{last_apart, across_one, rim_makes_new, new_has_rim, both, both_is, without_symmetric}
 use Rattle.hole_laws.proofs.Region.{region}

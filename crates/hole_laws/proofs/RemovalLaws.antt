@@ -27,7 +27,7 @@ use Rattle.hole_laws.proofs.FromBase.{complex_of}
 use Rattle.hole_laws.proofs.Removal as removal
 use Rattle.hole_laws.proofs.OfSets.{set_of, lists_of, more_set, adds, solid_of, of_solid, inserts, has_of, of_has}
 use Rattle.hole_laws.proofs.Rest.{rest_set, rest_new, restored}
-use Rattle.hole_laws.proofs.Made.{made, decided}
+use Rattle.hole_laws.proofs.ExchangedLists.{made, decided}
 use Rattle.hole_laws.proofs.Laws.{cells_after, fresh_have_point, old_lack_point, joined_are_reached}
 
 -- ---- v is new to r, and to a part t of r

@@ -93,7 +93,7 @@ fn add(alloc: Global, mesh: &mut Mesh, number: u64, tag: u32, p: Point) -> Resul
 }
 
 // What the removal of a point changes; none where the rest is flat.
-fn refilled(alloc: Global, mesh: &Mesh, v: Point) -> Result<Option<Fresh>, AllocError>
+fn removal_change(alloc: Global, mesh: &Mesh, v: Point) -> Result<Option<Fresh>, AllocError>
     requires { IsIn v (replay mesh.now.history) }
     ensures { IfOk result (λ found. MatchOption found (is_solid (without_point v (replay mesh.now.history)) ≡ false) (λ f. IsRefilled (replay mesh.now.history) v f.gone.items f.fresh.items)) }
 {
@@ -120,7 +120,7 @@ fn take_there(
     ensures reply { IfOk result (λ reply. reply ≡ reply_to (replay mesh.old.history) (Take v)) }
     ensures refused { OnErr result (mesh.new ≡ mesh.old) }
 {
-    match refilled(alloc, mesh, v)? {
+    match removal_change(alloc, mesh, v)? {
         Some(f) => {
             let entry = entry_of(number, tag, Edit::Take(v), Reply::Removed);
             mesh.change(alloc, &f.gone, &f.fresh, entry)?;

@@ -1,11 +1,11 @@
 pub mod Removals
-pub mod Once
+pub mod DistinctCells
 pub mod Points
 pub mod Star
 pub mod Around
 pub mod Linked
 pub mod Taken
 pub mod Holes
-pub mod Turning
+pub mod RefillTurns
 pub mod Apexes
 pub mod Wrapping

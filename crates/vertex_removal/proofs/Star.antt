@@ -14,7 +14,7 @@ use Rattle.del_laws.proofs.Ordered.{complex_is_sorted, same_members}
 use Rattle.cell_store.specs.Swaps.{AreSameCells}
 use Rattle.del_laws.proofs.Tests.{filtered_from, filtered_true, among_from, among_true}
 use Rattle.vertex_removal.specs.Near.{IsStar}
-use Rattle.vertex_removal.proofs.Once.{sorted_once}
+use Rattle.vertex_removal.proofs.DistinctCells.{sorted_once}
 
 -- the cells at v, put in order
 pub star_sorted : (s : List ℕ) (v : ℕ) (around star : List Cell) → IsAscending s → ((c : Cell) → IsIn c around ↔ IsIn c (filter (λ c. is_among v (points_of c)) (complex s))) → IsStrictlySortedBy cell_cmp star → AreSameCells around star → star ≡ filter (λ c. is_among v (points_of c)) (complex s)

@@ -30,7 +30,7 @@ use Rattle.cavity.proofs.Lists.{distinct_push}
 use Rattle.cell_conflict.proofs.Searching.{some_point, none_in}
 use Rattle.cell_store.proofs.MeshLaws.{shows_of}
 use Rattle.vertex_removal.specs.Near.{AreTaken}
-use Rattle.vertex_removal.proofs.Once.{moved_once}
+use Rattle.vertex_removal.proofs.DistinctCells.{moved_once}
 
 -- a whole hold of one bucket that shows the points t, of which v is none
 pub record IsSmall (hold : InHand) (t : List ℕ) (v : ℕ) : Type 0 where

@@ -32,7 +32,7 @@ use Rattle.hole_laws.proofs.FacetVertices.{IsAgainst, against_of, over_facet as 
 use Rattle.hole_laws.proofs.Judged.{goes_in_conflict, mates_judge}
 use Rattle.hole_laws.proofs.Laws.{cells_after, fresh_have_point, old_lack_point, region_connected}
 use Rattle.hole_laws.proofs.NewCells.{point_vertex}
-use Rattle.hole_laws.proofs.Once.{one_gone_each}
+use Rattle.hole_laws.proofs.RimCells.{one_gone_each}
 use Rattle.hole_laws.proofs.OfSets.{lists_of, more_set}
 use Rattle.hole_laws.proofs.Rest.{without_from, within_new}
 use Rattle.hole_laws.proofs.Vertex.{IsFacetVertex}

@@ -1,4 +1,4 @@
-use Rattle.del_laws.proofs.Starred.{base}
+use Rattle.del_laws.proofs.StarLaw.{base}
 use Rattle.del_laws.proofs.base_of_edits.Goals as goal
 
 pub returns : goal.returns

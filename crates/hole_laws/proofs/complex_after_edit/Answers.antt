@@ -1,4 +1,4 @@
-use Rattle.hole_laws.proofs.Made.{made_by_insertion}
+use Rattle.hole_laws.proofs.ExchangedLists.{made_by_insertion}
 use Rattle.hole_laws.proofs.RemovalLaws.{made_by_removal}
 use Rattle.hole_laws.proofs.complex_after_edit.Goals as goal
 

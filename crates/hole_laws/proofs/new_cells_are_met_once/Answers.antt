@@ -1,4 +1,4 @@
-use Rattle.hole_laws.proofs.Once.{one_gone_each, one_fresh_each}
+use Rattle.hole_laws.proofs.RimCells.{one_gone_each, one_fresh_each}
 use Rattle.hole_laws.proofs.new_cells_are_met_once.Goals as goal
 
 pub returns-clause-gone : goal.returns-clause-gone

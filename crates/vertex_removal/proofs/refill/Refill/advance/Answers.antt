@@ -13,7 +13,7 @@ use Rattle.vertex_removal.specs.Turns.{IsNeeded, RefillGives}
 use Rattle.vertex_removal.specs.declared.refill.RefillTurn.TheVariants.{Done, Flat}
 use Rattle.vertex_removal.proofs.Holes.{still_there}
 use Rattle.vertex_removal.proofs.Star.{star_list}
-use Rattle.vertex_removal.proofs.Turning.{star_needs, none_needed, refill_done}
+use Rattle.vertex_removal.proofs.RefillTurns.{star_needs, none_needed, refill_done}
 use Rattle.vertex_removal.proofs.refill.Refill.advance.Goals.{in-Some-2+in_ok-fresh-in-Some-2, in-None}
 use Rattle.vertex_removal.proofs.refill.Refill.advance.Goals as goal
 

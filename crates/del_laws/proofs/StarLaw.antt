@@ -14,7 +14,7 @@ use Rattle.del_laws.proofs.Stars.{star}
 use Rattle.del_laws.proofs.Decide.{decide_full, both, either}
 use Rattle.del_laws.proofs.Perturbed.{no_ties}
 use Rattle.del_laws.proofs.PointSets.{keys_of, extensional, has_plus, has_minus, finite}
-use Rattle.del_laws.proofs.Based.{test_true, test_from, no_twice, test_symmetric, test_complex, test_point, test_smaller, test_union, point_finite, test_corner, test_full_solid, test_solid_more}
+use Rattle.del_laws.proofs.BaseFacts.{test_true, test_from, no_twice, test_symmetric, test_complex, test_point, test_smaller, test_union, point_finite, test_corner, test_full_solid, test_solid_more}
 
 -- whether a test passes
 is_true : (b : Bool) → Dec (b ≡ true)

@@ -6,7 +6,7 @@ use Rattle.cell_store.proofs.MeshLaws.{held_by, shows_of}
 use Rattle.vertex_removal.specs.Refills.{IsRefilled}
 use Rattle.vertex_removal.specs.Turns.{RefillGives}
 use Rattle.vertex_removal.specs.declared.refill.RefillTurn.{RefillTurn}
-use Rattle.one_mesh.proofs.edits.refilled.Goals as goal
+use Rattle.one_mesh.proofs.edits.removal_change.Goals as goal
 
 pub advance-requires-clause-shown : goal.advance-requires-clause-shown
 advance-requires-clause-shown c =
