@@ -8,16 +8,18 @@
 ghost use Rattle.std.specs.Prelude.{◌≡◌, ◌<◌, ◌^◌, ◌*ℤ◌, ◌+ℤ◌, ◌-ℤ◌, unsigned_abs};
 ghost use Rattle.whole_ring.specs.Bounds.{IsWithin};
 ghost use Rattle.point_order.specs.Heights.{sphere_polynomial};
+ghost use Rattle.point_order.specs.Sizes.{greatest_orientation, greatest_square};
+ghost use Rattle.exact_sphere.specs.Sizes.{greatest_sphere, greatest_term};
 
 use point_order::{Point, Step};
 
 // A term of the polynomial: an orientation times a square.
 #[inline]
 fn term(orientation: i64, square: i64) -> i128
-    requires orientation { IsWithin 26383447523322 orientation }
-    requires square { IsWithin 805208067 square }
+    requires orientation { IsWithin greatest_orientation orientation }
+    requires square { IsWithin greatest_square square }
     ensures value { result ≡ orientation *ℤ square }
-    ensures bound { IsWithin 21244164781050045038574 result }
+    ensures bound { IsWithin greatest_term result }
 {
     orientation as i128 * square as i128
 }
@@ -25,12 +27,12 @@ fn term(orientation: i64, square: i64) -> i128
 // p - q + r - s
 #[inline]
 fn alternating(p: i128, q: i128, r: i128, s: i128) -> i128
-    requires p { IsWithin 21244164781050045038574 p }
-    requires q { IsWithin 21244164781050045038574 q }
-    requires r { IsWithin 21244164781050045038574 r }
-    requires s { IsWithin 21244164781050045038574 s }
+    requires p { IsWithin greatest_term p }
+    requires q { IsWithin greatest_term q }
+    requires r { IsWithin greatest_term r }
+    requires s { IsWithin greatest_term s }
     ensures value { result ≡ p -ℤ q +ℤ r -ℤ s }
-    ensures bound { IsWithin 84976659124200180154296 result }
+    ensures bound { IsWithin greatest_sphere result }
 {
     p - q + r - s
 }

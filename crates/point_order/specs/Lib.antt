@@ -1,5 +1,6 @@
 pub mod Coordinates
 pub mod Orientation
+pub mod Sizes
 pub mod Heights
 pub mod Sets
 pub mod Subsets

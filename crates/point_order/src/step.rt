@@ -3,6 +3,12 @@
 ghost use Rattle.std.specs.Prelude.{◌≡◌, ◌+ℤ◌, ◌*ℤ◌};
 ghost use Rattle.whole_ring.specs.Bounds.{IsWithin};
 ghost use Rattle.point_order.specs.Orientation.{minor, triple, square_of_step, x_from, y_from, z_from};
+ghost use Rattle.point_order.specs.Sizes.{
+  greatest_difference,
+  greatest_minor,
+  greatest_orientation,
+  greatest_square,
+};
 
 use crate::Point;
 
@@ -12,9 +18,9 @@ pub struct Step {
     pub x: i64,
     pub y: i64,
     pub z: i64,
-    ghost x_within: { IsWithin 16383 x },
-    ghost y_within: { IsWithin 16383 y },
-    ghost z_within: { IsWithin 16383 z },
+    ghost x_within: { IsWithin greatest_difference x },
+    ghost y_within: { IsWithin greatest_difference y },
+    ghost z_within: { IsWithin greatest_difference z },
 }
 
 /// The normal of a plane, the cross product of two steps in it.
@@ -23,9 +29,9 @@ pub struct Normal {
     pub x: i64,
     pub y: i64,
     pub z: i64,
-    ghost x_within: { IsWithin 536805378 x },
-    ghost y_within: { IsWithin 536805378 y },
-    ghost z_within: { IsWithin 536805378 z },
+    ghost x_within: { IsWithin greatest_minor x },
+    ghost y_within: { IsWithin greatest_minor y },
+    ghost z_within: { IsWithin greatest_minor z },
 }
 
 impl Step {
@@ -45,7 +51,7 @@ impl Step {
     /// `self . (v x w)`
     pub fn triple(self, v: Step, w: Step) -> i64
         ensures value { result ≡ triple self.x self.y self.z v.x v.y v.z w.x w.y w.z }
-        ensures bound { IsWithin 26383447523322 result }
+        ensures bound { IsWithin greatest_orientation result }
     {
         let x = minor_of(v.y, v.z, w.y, w.z);
         let y = minor_of(v.z, v.x, w.z, w.x);
@@ -69,7 +75,7 @@ impl Step {
     /// The square of the step's length.
     pub fn square(self) -> i64
         ensures value { result ≡ square_of_step self.x self.y self.z }
-        ensures bound { IsWithin 805208067 result }
+        ensures bound { IsWithin greatest_square result }
     {
         norm(self.x, self.y, self.z)
     }
@@ -77,37 +83,37 @@ impl Step {
 
 // x * x + y * y + z * z
 fn norm(x: i64, y: i64, z: i64) -> i64
-    requires x_bound { IsWithin 16383 x }
-    requires y_bound { IsWithin 16383 y }
-    requires z_bound { IsWithin 16383 z }
+    requires x_bound { IsWithin greatest_difference x }
+    requires y_bound { IsWithin greatest_difference y }
+    requires z_bound { IsWithin greatest_difference z }
     ensures value { result ≡ square_of_step x y z }
-    ensures bound { IsWithin 805208067 result }
+    ensures bound { IsWithin greatest_square result }
 {
     x * x + y * y + z * z
 }
 
 // p * s - q * r
 fn minor_of(p: i64, q: i64, r: i64, s: i64) -> i64
-    requires first { IsWithin 16383 p }
-    requires second { IsWithin 16383 q }
-    requires third { IsWithin 16383 r }
-    requires fourth { IsWithin 16383 s }
+    requires first { IsWithin greatest_difference p }
+    requires second { IsWithin greatest_difference q }
+    requires third { IsWithin greatest_difference r }
+    requires fourth { IsWithin greatest_difference s }
     ensures value { result ≡ minor p q r s }
-    ensures bound { IsWithin 536805378 result }
+    ensures bound { IsWithin greatest_minor result }
 {
     p * s - q * r
 }
 
 // u * x + v * y + w * z
 fn dot(u: i64, v: i64, w: i64, x: i64, y: i64, z: i64) -> i64
-    requires u_bound { IsWithin 16383 u }
-    requires v_bound { IsWithin 16383 v }
-    requires w_bound { IsWithin 16383 w }
-    requires x_bound { IsWithin 536805378 x }
-    requires y_bound { IsWithin 536805378 y }
-    requires z_bound { IsWithin 536805378 z }
+    requires u_bound { IsWithin greatest_difference u }
+    requires v_bound { IsWithin greatest_difference v }
+    requires w_bound { IsWithin greatest_difference w }
+    requires x_bound { IsWithin greatest_minor x }
+    requires y_bound { IsWithin greatest_minor y }
+    requires z_bound { IsWithin greatest_minor z }
     ensures value { result ≡ u *ℤ x +ℤ v *ℤ y +ℤ w *ℤ z }
-    ensures bound { IsWithin 26383447523322 result }
+    ensures bound { IsWithin greatest_orientation result }
 {
     u * x + v * y + w * z
 }

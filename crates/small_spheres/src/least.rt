@@ -3,6 +3,7 @@
 ghost use Rattle.std.specs.Prelude.{◌≡◌, ◌<◌, ◌≤ℤ◌, ◌^◌, ◌*◌, ◌*ℤ◌, ℕ, pos, nat_le};
 ghost use Rattle.std.specs.Int.Signed.{le_z};
 ghost use Rattle.whole_ring.specs.Bounds.{IsWithin};
+ghost use Rattle.small_spheres.specs.Sizes.{greatest_scalar, greatest_square_of_orientation};
 
 // Every alpha is below this.
 const BEYOND: u64 = 1 << 30;
@@ -37,7 +38,7 @@ pub fn least_factor(p: i128, d: i128) -> u64
 
 /// Four times the square of a normal, below 2^63.
 pub fn four_squares_of_normal(square: i64) -> i128
-    requires { IsWithin 1296720062323752978 square }
+    requires { IsWithin greatest_scalar square }
     ensures { result ≡ pos 4 *ℤ square }
 {
     4 * square as i128
@@ -45,7 +46,7 @@ pub fn four_squares_of_normal(square: i64) -> i128
 
 /// Four times the square of an orientation, below 2^92.
 pub fn four_squares_of_orientation(square: i128) -> i128
-    requires { IsWithin 696086303215885775733915684 square }
+    requires { IsWithin greatest_square_of_orientation square }
     ensures { result ≡ pos 4 *ℤ square }
 {
     4 * square

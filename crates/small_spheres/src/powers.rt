@@ -3,6 +3,7 @@
 ghost use Rattle.std.specs.Prelude.{◌≡◌};
 ghost use Rattle.whole_ring.specs.Bounds.{IsWithin};
 ghost use Rattle.small_spheres.specs.Inside.{dot, edge_power, triangle_power};
+ghost use Rattle.small_spheres.specs.Sizes.{greatest_scalar};
 
 use crate::products::{difference, sum_of_products, term};
 use point_order::{Normal, Point, Step};
@@ -19,7 +20,7 @@ pub fn power_of_edge(a: Point, b: Point, e: Point) -> i64
 /// `n . m`
 pub fn dot_of_normals(n: Normal, m: Normal) -> i64
     ensures value { result ≡ dot n.x n.y n.z m.x m.y m.z }
-    ensures bound { IsWithin 1296720062323752978 result }
+    ensures bound { IsWithin greatest_scalar result }
 {
     sum_of_products(n.x, n.y, n.z, m.x, m.y, m.z)
 }

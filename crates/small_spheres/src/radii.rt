@@ -3,8 +3,10 @@
 ghost use Rattle.std.specs.Prelude.{◌≡◌, ◌*ℤ◌};
 ghost use Rattle.whole_ring.specs.Bounds.{IsWithin};
 ghost use Rattle.point_order.specs.Orientation.{distance};
+ghost use Rattle.point_order.specs.Sizes.{greatest_square};
 ghost use Rattle.small_spheres.specs.Inside.{square_of_normal};
 ghost use Rattle.small_spheres.specs.Within.{square_of_centre};
+ghost use Rattle.small_spheres.specs.Sizes.{greatest_scalar};
 
 use crate::powers::dot_of_normals;
 use crate::products::{product, square, sum, sum_of_products};
@@ -13,7 +15,7 @@ use point_order::{Point, Step};
 /// `|n|^2`, with `n = (b - a) x (c - a)`
 pub fn normal_square(a: Point, b: Point, c: Point) -> i64
     ensures value { result ≡ square_of_normal a b c }
-    ensures bound { IsWithin 1296720062323752978 result }
+    ensures bound { IsWithin greatest_scalar result }
 {
     let n = Step::between(a, b).cross(Step::between(a, c));
     dot_of_normals(n, n)
@@ -31,8 +33,8 @@ pub fn product_of_sides(a: Point, b: Point, c: Point) -> i128
 
 // p * q
 fn product_of_squares(p: i64, q: i64) -> i64
-    requires p { IsWithin 805208067 p }
-    requires q { IsWithin 805208067 q }
+    requires p { IsWithin greatest_square p }
+    requires q { IsWithin greatest_square q }
     ensures { result ≡ p *ℤ q }
 {
     p * q

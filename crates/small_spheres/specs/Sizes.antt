@@ -1,0 +1,18 @@
+-- How large the numbers are of which squared radii and powers are made, where the coordinates of points are 0 to 16383.
+use Rattle.std.specs.Prelude.{ℕ}
+
+-- a scalar product with a normal, of another normal or of three squares of distances: 18 16383^4
+abbrev pub greatest_scalar : ℕ
+greatest_scalar = 1296720062323752978
+
+-- the square of such a scalar product: 324 16383^8
+abbrev pub greatest_square_of_scalar : ℕ
+greatest_square_of_scalar = 1681482920032917807514505262763868484
+
+-- the square of a distance times such a scalar product, a term of a power: 54 16383^6
+abbrev pub greatest_power_term : ℕ
+greatest_power_term = 1044129454823828663600873526
+
+-- the square of an orientation: 36 16383^6
+abbrev pub greatest_square_of_orientation : ℕ
+greatest_square_of_orientation = 696086303215885775733915684
