@@ -60,7 +60,8 @@ fn are_flat(a: Point, b: Point, c: Point, d: Point) -> bool
     orient(a, b, c, d) == 0
 }
 
-// The mesh of the points, of which the first four are to be independent: it begins with these, and then the others are added.
+// The mesh of the points, of which the first four are to be independent: it begins
+// with these, and then the others are added.
 fn mesh_of(alloc: Global, grid: Grid, points: &[Point]) -> io::Result<Mesh> {
     let [a, b, c, d, others @ ..] = points else {
         return Err(io::ErrorKind::InvalidData.into());

@@ -1,5 +1,6 @@
 -- The words for what a source and a sink of bytes do: counts of faults, and text that arrived in part.
--- The words for told bytes, `Consumes`, `Appends`, `Keeps` and `IsAtEnd`, are those of `Rattle.std.specs.Io.KnownBytes`.
+-- The words for told bytes, `Consumes`, `Appends`, `Keeps` and `IsAtEnd`, are
+-- those of `Rattle.std.specs.Io.KnownBytes`.
 use Rattle.std.specs.Prelude.{◌≡◌, ℕ, ◌+◌, ◌-◌, ◌^◌, ◌≤◌, min, List, ◌++◌, length, Result, OnErr}
 use Rattle.std.specs.declared.option.Option.{Option}
 use Rattle.std.specs.Io.KnownBytes.{Appends, Consumes}

@@ -8,8 +8,8 @@ use Rattle.point_order.specs.Facets.{facets_of}
 use Rattle.point_order.specs.Sets.{IsIn}
 use Rattle.hole_laws.specs.Edits.{IsSolidSet, IsNew, GoesFrom, IsRimOf}
 
--- What a dig shows: its point, the cells found so far, how many of them were explored, the first ones first, and the facets of
--- explored cells behind which a cell stays.
+-- What a dig shows: its point, the cells found so far, how many of them were explored, the first ones first, and the
+-- facets of explored cells behind which a cell stays.
 pub record Digging : Type 0 where
   pub point : ℕ
   pub found : List Cell
@@ -25,8 +25,8 @@ pub record CanDig (s : List ℕ) (p : ℕ) (cell : Cell) : Type 0 where
 abbrev pub facets_of_first : ℕ → List Cell → List Facet
 facets_of_first n cells = flat_map facets_of (take n cells)
 
--- Some facets of found cells were crossed. All found cells go, and every cell that goes behind a crossed facet is found; the rim
--- facets among those crossed are listed. No cell and no facet is listed twice.
+-- Some facets of found cells were crossed. All found cells go, and every cell that goes behind a crossed facet is
+-- found; the rim facets among those crossed are listed. No cell and no facet is listed twice.
 pub record AreCrossed (s : List ℕ) (p : ℕ) (crossed : List Facet) (found : List Cell) (rim : List Facet) : Type 0 where
   pub goes : (q : Cell) → IsIn q found → GoesFrom s p q
   pub behind : (f : Facet) (q : Cell) → IsIn f crossed → GoesFrom s p q → IsIn f (facets_of q) → IsIn q found
@@ -34,8 +34,8 @@ pub record AreCrossed (s : List ℕ) (p : ℕ) (crossed : List Facet) (found : L
   pub found_once : AreDistinct found
   pub rim_once : AreDistinct rim
 
--- The dig is one in the complex of s: its point is none of s, some cell was found, and exactly the facets of the explored cells were
--- crossed.
+-- The dig is one in the complex of s: its point is none of s, some cell was found, and exactly the
+-- facets of the explored cells were crossed.
 pub record IsDigIn (s : List ℕ) (d : Digging) : Type 0 where
   pub new : IsNew s d.point
   pub first : Cell

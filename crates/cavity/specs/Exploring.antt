@@ -29,7 +29,8 @@ pub record IsCellMissing (hold : InHand) (cells : List Cell) (b : ℕ) : Type 0 
   pub missing : IsBucketMissing hold (points_of cell) b
 
 -- some facets of found cells were crossed, and the cell is one that was found
-pub record IsAt (s : List ℕ) (p : ℕ) (crossed : List Facet) (cell : Cell) (found : List Cell) (rim : List Facet) : Type 0 where
+pub record IsAt (s : List ℕ) (p : ℕ) (crossed : List Facet) (cell : Cell) (found : List Cell)
+    (rim : List Facet) : Type 0 where
   pub new : IsNew s p
   pub so_far : AreCrossed s p crossed found rim
   pub among : IsIn cell found

@@ -13,8 +13,8 @@ use Rattle.cell_store.specs.Changes.{IsChange}
 use Rattle.cell_store.specs.Ready.{AreHeld}
 use Rattle.cell_store.specs.Shares.{points_on}
 
--- Gone are exactly the cells of the complex of s that are none of that of s with p, and fresh are exactly the cells of the complex
--- of s with p that are none of that of s, each once.
+-- Gone are exactly the cells of the complex of s that are none of that of s with p, and fresh are exactly the cells of
+-- the complex of s with p that are none of that of s, each once.
 pub record IsFilled (s : List ℕ) (p : ℕ) (gone fresh : List Cell) : Type 0 where
   pub change : IsChange (complex s) (complex (with_point p s)) gone fresh
   pub gone_once : AreDistinct gone

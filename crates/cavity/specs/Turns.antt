@@ -29,8 +29,8 @@ pub record IsNeeded (hold : InHand) (s : List ℕ) (p b : ℕ) : Type 0 where
 abbrev pub NoneIsNeeded : InHand → List ℕ → ℕ → Type 0
 NoneIsNeeded hold s p = (b : ℕ) → IsNeeded hold s p b → ⊥
 
--- Done where no bucket is needed, and then the dig is done, and the buckets of all points of its cells are in hand; else a bucket
--- that is needed.
+-- Done where no bucket is needed, and then the dig is done, and the buckets of all points of its cells
+-- are in hand; else a bucket that is needed.
 abbrev pub TurnGives : InHand → List ℕ → Digging → DigTurn → Type 0
 TurnGives hold s d Done = NoneIsNeeded hold s d.point × IsDoneIn s d × AreHeld hold d.found
 TurnGives hold s d (Need b) = IsNeeded hold s d.point b

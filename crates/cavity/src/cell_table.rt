@@ -2,7 +2,17 @@
 
 ghost use Rattle.std.specs.Prelude.{◌≡◌, ◌≢◌, ◌<◌, ◌≤◌, ◌^◌, ◌↔◌, ℕ, length, slice_get, IfOk, OnOk, IsTrue};
 ghost use Rattle.point_order.specs.Facets.{points_of};
-ghost use Rattle.cavity.specs.Tables.{mixed_with, mixed_all, cell_number, cell_home, IsReached, KeepsReached, IsFreeFrom, IsMarked, Knows};
+ghost use Rattle.cavity.specs.Tables.{
+  mixed_with,
+  mixed_all,
+  cell_number,
+  cell_home,
+  IsReached,
+  KeepsReached,
+  IsFreeFrom,
+  IsMarked,
+  Knows,
+};
 
 use cell_stars::are_same;
 use cell_store::Spot;
@@ -12,7 +22,8 @@ use std::alloc::{AllocError, Global};
 // An odd number whose product with another depends in its upper bits on all bits of that.
 const FACTOR: u64 = 0x9E37_79B9_7F4A_7C15;
 
-// What stands at a place of the table: nothing, or the place of a cell in the list of those that go, or of those that stay.
+// What stands at a place of the table: nothing, or the place of a cell in the
+// list of those that go, or of those that stay.
 #[derive(Clone, Copy, Debug, PartialEq, Eq)]
 pub(crate) enum Mark {
     Free,
@@ -81,7 +92,8 @@ fn is_at(cells: &[Spot], i: usize, cell: &Cell) -> bool
     }
 }
 
-// What is known of the cell, whose home it is. Each place of it in the list of those that go is to be reached from there.
+// What is known of the cell, whose home it is. Each place of it in the list of
+// those that go is to be reached from there.
 pub(crate) fn look(marks: &[Mark], home: usize, goes: &[Spot], stays: &[Spot], cell: &Cell) -> Seen
     requires { (i : ℕ) → slice_get goes.now i ≡ Some cell.now → IsReached marks.now home (Mark.Gone i) }
     ensures { Knows goes.now stays.now cell.now result }

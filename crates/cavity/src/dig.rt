@@ -18,8 +18,8 @@ const RIM: usize = 64;
 
 /// The search for the cells that a new point takes away.
 ///
-/// Contracts see it as a plain record: its point, the cells found, how many of them were explored, and the facets of these behind
-/// which a cell stays.
+/// Contracts see it as a plain record: its point, the cells found, how many of them were explored, and the
+/// facets of these behind which a cell stays.
 #[derive(Debug, Drop)]
 pub struct Dig {
     point: Point,
@@ -68,8 +68,8 @@ impl Dig {
 
     /// Looks on over the buckets in hand, until all cells are found or a bucket is needed.
     ///
-    /// The hold is to show a set in which this is a dig; the answer is right for each such set. Between two turns buckets may come to the
-    /// hold.
+    /// The hold is to show a set in which this is a dig; the answer is right for each such set. Between
+    /// two turns buckets may come to the hold.
     ///
     /// # Errors
     /// Want of memory. The dig may then only be dropped.
@@ -77,7 +77,8 @@ impl Dig {
         requires { ShowsDig hold.now self.old }
         ensures point { OnOk result (self.new.point ≡ self.old.point) }
         ensures digs { OnOk result ((s : List ℕ) → Shows hold.now s → IsDigIn s self.old → IsDigIn s self.new) }
-        ensures turn { IfOk result (λ turn. (s : List ℕ) → Shows hold.now s → IsDigIn s self.old → TurnGives hold.now s self.new turn) }
+        ensures turn { IfOk result (λ turn. (s : List ℕ) → Shows hold.now s → IsDigIn s self.old →
+            TurnGives hold.now s self.new turn) }
         ensures below { IfOk result (λ turn. AsksBelow (length hold.now.places) turn) }
         ensures all { IfOk result (λ turn. AllInHand hold.now → turn ≡ DigTurn.Done) }
     {

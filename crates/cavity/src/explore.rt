@@ -6,7 +6,15 @@ ghost use Rattle.point_order.specs.Sets.{IsIn};
 ghost use Rattle.point_order.specs.declared.cell.Cell.{Cell};
 ghost use Rattle.cell_store.specs.Shares.{Shows, NoneInHand, points_on};
 ghost use Rattle.cell_store.specs.Ready.{AreHeld};
-ghost use Rattle.cavity.specs.Exploring.{ArePointsHeld, IsBucketMissing, IsCellMissing, ShowsAt, ShowsNewAt, Crosses, Explores};
+ghost use Rattle.cavity.specs.Exploring.{
+  ArePointsHeld,
+  IsBucketMissing,
+  IsCellMissing,
+  ShowsAt,
+  ShowsNewAt,
+  Crosses,
+  Explores,
+};
 ghost use Rattle.cavity.specs.Tables.{AreBehind};
 
 use crate::cell_table::Seen;
@@ -54,8 +62,8 @@ pub(crate) fn missing_spot(hold: &Hold, cells: &[Spot]) -> Option<u32>
     None
 }
 
-// Crosses a facet of a found cell. The cell behind it goes, and is found, or it stays, and the facet is one of the rim. A cell that
-// was judged is not judged again.
+// Crosses a facet of a found cell. The cell behind it goes, and is found, or it stays, and the facet is one of the rim.
+// A cell that was judged is not judged again.
 fn cross(
     alloc: Global,
     point: Point,
@@ -71,7 +79,8 @@ fn cross(
     requires behind { AreBehind judged.old.stays rim.old.items }
     ensures behind { AreBehind judged.new.stays rim.new.items }
     ensures more { OnOk result ((more : List Cell) × (judged.new.goes ≡ judged.old.goes ++ more)) }
-    ensures crossed { OnOk result ((s : List ℕ) → Shows hold.now s → Crosses s point cell.now facet.now judged.old.goes rim.old.items judged.new.goes rim.new.items) }
+    ensures crossed { OnOk result ((s : List ℕ) → Shows hold.now s →
+        Crosses s point cell.now facet.now judged.old.goes rim.old.items judged.new.goes rim.new.items) }
 {
     let other = spot_across(hold, cell, facet);
     match judged.seen(other.cell()) {
@@ -106,7 +115,8 @@ pub(crate) fn explore(
     requires behind { AreBehind judged.old.stays rim.old.items }
     ensures behind { AreBehind judged.new.stays rim.new.items }
     ensures more { OnOk result ((more : List Cell) × (judged.new.goes ≡ judged.old.goes ++ more)) }
-    ensures explored { OnOk result ((s : List ℕ) → Shows hold.now s → Explores s point cell.now judged.old.goes rim.old.items judged.new.goes rim.new.items) }
+    ensures explored { OnOk result ((s : List ℕ) → Shows hold.now s →
+        Explores s point cell.now judged.old.goes rim.old.items judged.new.goes rim.new.items) }
 {
     let facets = cell.cell().facets();
     for facet in &facets {

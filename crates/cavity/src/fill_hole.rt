@@ -64,7 +64,8 @@ fn cells_at_hand(alloc: Global, spots: &[Spot]) -> Result<Vec<Cell>, AllocError>
 pub fn fill(alloc: Global, dig: &Dig) -> Result<Fresh, AllocError>
     requires { IsDone dig.now }
     ensures gone { IfOk result (λ f. f.gone.items ≡ dig.now.found) }
-    ensures filled { IfOk result (λ f. (s : List ℕ) → IsDoneIn s dig.now → IsFilled s dig.now.point f.gone.items f.fresh.items) }
+    ensures filled { IfOk result (λ f. (s : List ℕ) → IsDoneIn s dig.now →
+        IsFilled s dig.now.point f.gone.items f.fresh.items) }
 {
     let gone = cells_at_hand(alloc, dig.found())?;
     let fresh = cells_of(alloc, dig.rim(), dig.point())?;

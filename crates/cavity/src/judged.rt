@@ -10,14 +10,15 @@ use point_order::Cell;
 use std::alloc::{AllocError, Global};
 use std::marker::Model;
 
-// As many cells as a new point mostly takes away at the most, and as many as mostly lie around: room for them is made at once.
+// As many cells as a new point mostly takes away at the most, and as many as mostly
+// lie around: room for them is made at once.
 const USUAL: usize = 48;
 
 // One less than the homes of the table at first: enough for these.
 const MASK: usize = 127;
 
-// The cells that go, in the order in which they were found, and those of which it was kept that they stay. A table leads from a cell
-// to its place in these lists.
+// The cells that go, in the order in which they were found, and those of which it was kept that they stay. A table
+// leads from a cell to its place in these lists.
 #[derive(Debug, Drop)]
 pub(crate) struct Judged {
     goes: Vec<Spot>,

@@ -1,8 +1,8 @@
 //! Cavities: the cells that a new point takes away, and those that it brings.
 //!
-//! The cells that a point takes away are one region, connected across facets. A `Dig` begins in one of them and looks across the
-//! facets of each that it finds, over the buckets in hand, until it needs another bucket or is done. `fill` then gives the cells.
-//! The definitions stand in `specs/`.
+//! The cells that a point takes away are one region, connected across facets. A `Dig` begins in one of them and looks
+//! across the facets of each that it finds, over the buckets in hand, until it needs another bucket or is done. `fill`
+//! then gives the cells. The definitions stand in `specs/`.
 //!
 //! ```
 //! let mut dig = Dig::start(alloc, p, cell)?;      // the new point p takes the cell away

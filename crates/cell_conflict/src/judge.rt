@@ -28,8 +28,8 @@ pub fn cell_across<'a>(hold: &'a Hold, cell: &Cell, facet: &Facet) -> &'a Cell
     }
 }
 
-/// The cell across a facet of a cell at hand, at hand too; some point's bucket of the facet is in hand. The hold is to show a set of
-/// whose complex the given cell is one; the answer is right for each such set.
+/// The cell across a facet of a cell at hand, at hand too; some point's bucket of the facet is in hand. The hold is to
+/// show a set of whose complex the given cell is one; the answer is right for each such set.
 pub fn spot_across(hold: &Hold, spot: &Spot, facet: &Facet) -> Spot
     requires shown { ShowsWith hold.now spot.now }
     requires facet { IsIn facet.now (facets_of spot.now) }
@@ -76,8 +76,8 @@ fn mate_of(hold: &Hold, spot: &Spot, p: Point) -> Point
     }
 }
 
-/// Whether the new point takes the cell at hand away, of which some point's bucket is in hand. The hold is to show a set
-/// of whose complex the cell is one, and for which the point is new; the answer is right for each such set.
+/// Whether the new point takes the cell at hand away, of which some point's bucket is in hand. The hold is to show a
+/// set of whose complex the cell is one, and for which the point is new; the answer is right for each such set.
 pub fn is_spot_in_conflict(hold: &Hold, spot: &Spot, p: Point) -> bool
     requires shown { ShowsWithNew hold.now spot.now p }
     requires held { ¬ (NoneInHand hold.now (points_of spot.now)) }

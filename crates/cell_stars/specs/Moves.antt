@@ -11,7 +11,8 @@ pub record IsStarFor (b : Placed) (c : Cell) (star : List ℕ) : Type 0 where
   pub vertex : ℕ
   pub has : IsIn vertex (points_of c)
   pub inside : lies_in b.place vertex ≡ true
-  pub places : (i : ℕ) → (IsIn i star → IsStarred b.keys b.stars vertex i) × (IsStarred b.keys b.stars vertex i → IsIn i star)
+  pub places : (i : ℕ) → (IsIn i star → IsStarred b.keys b.stars vertex i)
+      × (IsStarred b.keys b.stars vertex i → IsIn i star)
 
 -- a place that is freed has a gone cell that touches the bucket
 pub record IsFreed (b : Placed) (gone : List Cell) (i : ℕ) : Type 0 where
@@ -54,8 +55,10 @@ IsVacant slots freed i = (c : Cell) → at slots i ≡ Some c → IsIn i freed
 -- a vertex in the bucket of a cell that goes or comes
 pub record AreTouched (b : Placed) (freed : List ℕ) (placed : List (ℕ × Cell)) (vertices : List ℕ) : Type 0 where
   pub inside : (p : ℕ) → IsIn p vertices → lies_in b.place p ≡ true
-  pub gone : (i p : ℕ) (c : Cell) → IsIn i freed → at b.slots i ≡ Some c → IsIn p (points_of c) → lies_in b.place p ≡ true → IsIn p vertices
-  pub fresh : (i p : ℕ) (c : Cell) → IsIn (i, c) placed → IsIn p (points_of c) → lies_in b.place p ≡ true → IsIn p vertices
+  pub gone : (i p : ℕ) (c : Cell) → IsIn i freed → at b.slots i ≡ Some c → IsIn p (points_of c) →
+      lies_in b.place p ≡ true → IsIn p vertices
+  pub fresh : (i p : ℕ) (c : Cell) → IsIn (i, c) placed → IsIn p (points_of c) → lies_in b.place p ≡ true →
+      IsIn p vertices
 
 -- The numbers of the stars of these vertices after an exchange: one for each, which had its star or none.
 pub record AreNumbered (b : Placed) (vertices : List ℕ) (turns : List (ℕ × ℕ)) : Type 0 where
@@ -66,10 +69,12 @@ pub record AreNumbered (b : Placed) (vertices : List ℕ) (turns : List (ℕ × 
   pub vacant : (n p q i : ℕ) → IsIn (n, p) turns → (star_at b.stars n).0 ≡ q → IsIn i (star_at b.stars n).1 → q ≡ p
 
 -- the stars of the vertices after an exchange, at their numbers
-pub record AreStarsAfter (b : Placed) (freed : List ℕ) (placed : List (ℕ × Cell)) (turns : List (ℕ × ℕ)) (writes : List (ℕ × (ℕ × List ℕ))) : Type 0 where
+pub record AreStarsAfter (b : Placed) (freed : List ℕ) (placed : List (ℕ × Cell)) (turns : List (ℕ × ℕ))
+    (writes : List (ℕ × (ℕ × List ℕ))) : Type 0 where
   pub each : (n : ℕ) (s : ℕ × List ℕ) → IsIn (n, s) writes → IsIn (n, s.0) turns
   pub all : (n p : ℕ) → IsIn (n, p) turns → (s : List ℕ) × IsIn (n, (p, s)) writes
-  pub places : (n i : ℕ) (s : ℕ × List ℕ) → IsIn (n, s) writes → (IsIn i s.1 → StarsAfter freed placed b s.0 i) × (StarsAfter freed placed b s.0 i → IsIn i s.1)
+  pub places : (n i : ℕ) (s : ℕ × List ℕ) → IsIn (n, s) writes →
+      (IsIn i s.1 → StarsAfter freed placed b s.0 i) × (StarsAfter freed placed b s.0 i → IsIn i s.1)
 
 -- the star that was written for the vertex has a place
 pub record IsWritten (writes : List (ℕ × (ℕ × List ℕ))) (p n : ℕ) : Type 0 where
@@ -81,7 +86,8 @@ pub record IsWritten (writes : List (ℕ × (ℕ × List ℕ))) (p n : ℕ) : Ty
 -- the vertices with stars after them
 pub record AreKeysAfter (old : List (ℕ × ℕ)) (writes : List (ℕ × (ℕ × List ℕ))) (new : List (ℕ × ℕ)) : Type 0 where
   pub order : IsAscending (map (λ k. k.0) new)
-  pub from : (p n : ℕ) → IsIn (p, n) new → IsWritten writes p n ⊎ (IsIn (p, n) old × ((m : ℕ) (s : List ℕ) → IsIn (m, (p, s)) writes → ⊥))
+  pub from : (p n : ℕ) → IsIn (p, n) new →
+      IsWritten writes p n ⊎ (IsIn (p, n) old × ((m : ℕ) (s : List ℕ) → IsIn (m, (p, s)) writes → ⊥))
   pub kept : (p n : ℕ) → IsIn (p, n) old → ((m : ℕ) (s : List ℕ) → IsIn (m, (p, s)) writes → ⊥) → IsIn (p, n) new
   pub written : (p n : ℕ) → IsWritten writes p n → IsIn (p, n) new
 
@@ -97,7 +103,8 @@ abbrev pub IsSpare : List (ℕ × List ℕ) → ℕ → Type 0
 IsSpare stars n = (i : ℕ) → IsIn i (star_at stars n).1 → ⊥
 
 -- the stars of all vertices of an exchange after it, at their numbers
-pub record IsRewriting (b : Placed) (freed : List ℕ) (placed : List (ℕ × Cell)) (writes : List (ℕ × (ℕ × List ℕ))) : Type 0 where
+pub record IsRewriting (b : Placed) (freed : List ℕ) (placed : List (ℕ × Cell))
+    (writes : List (ℕ × (ℕ × List ℕ))) : Type 0 where
   pub vertices : List ℕ
   pub turns : List (ℕ × ℕ)
   pub touched : AreTouched b freed placed vertices
@@ -107,7 +114,8 @@ pub record IsRewriting (b : Placed) (freed : List ℕ) (placed : List (ℕ × Ce
 -- two stars that were written for one vertex have one number, and if one has a place, so has the other
 abbrev pub AreAgreed : List (ℕ × (ℕ × List ℕ)) → Type 0
 AreAgreed writes =
-    (n m p : ℕ) (s t : List ℕ) → IsIn (n, (p, s)) writes → IsIn (m, (p, t)) writes → (n ≡ m) × ((i : ℕ) → IsIn i s → IsIn i t)
+    (n m p : ℕ) (s t : List ℕ) → IsIn (n, (p, s)) writes → IsIn (m, (p, t)) writes →
+    (n ≡ m) × ((i : ℕ) → IsIn i s → IsIn i t)
 
 -- the star has a place, and its number stands beside its vertex
 pub record IsKeyed (keys : List (ℕ × ℕ)) (n : ℕ) (s : ℕ × List ℕ) : Type 0 where

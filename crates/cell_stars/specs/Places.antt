@@ -1,5 +1,21 @@
 -- The cells of a bucket at numbered places, and the star of each vertex: the places of its cells.
-use Rattle.std.specs.Prelude.{◌≡◌, ℕ, Bool, true, false, List, [], ◌∷◌, map, Option, None, Some, ◌==◌, ◌⊎◌, slice_index_or}
+use Rattle.std.specs.Prelude.{
+  ◌≡◌,
+  ℕ,
+  Bool,
+  true,
+  false,
+  List,
+  [],
+  ◌∷◌,
+  map,
+  Option,
+  None,
+  Some,
+  ◌==◌,
+  ◌⊎◌,
+  slice_index_or,
+}
 use Rattle.std.specs.Ordering.{is_lt}
 use Rattle.std.specs.declared.cmp.Ordering.TheVariants.{Less}
 use Rattle.point_order.specs.declared.cell.Cell.{Cell}
@@ -9,8 +25,9 @@ use Rattle.point_order.specs.Sets.{IsIn, IsAscending}
 use Rattle.cell_stars.specs.Grids.{bucket_of}
 use Rattle.cell_stars.specs.Swaps.{with_cells, touches, swapped}
 
--- Where the bucket stands: the size of its grid and its number there, or none for a new one. Its places, each with a cell or free.
--- The vertices with a star, ascending, each with the number of its star. The stars, each with its vertex and the places of its cells.
+-- Where the bucket stands: the size of its grid and its number there, or none for a new one. Its places, each
+-- with a cell or free. The vertices with a star, ascending, each with the number of its star. The stars, each
+-- with its vertex and the places of its cells.
 pub record Placed : Type 0 where
   pub place : Option (ℕ × ℕ)
   pub slots : List (Option Cell)
@@ -54,7 +71,8 @@ swapped_at (Some w) gone fresh l = swapped w.0 w.1 gone fresh l
 abbrev pub star_at : List (ℕ × List ℕ) → ℕ → ℕ × List ℕ
 star_at stars n = slice_index_or stars n (0, [])
 
--- The place is in the star of the vertex: in the one whose number stands beside the vertex, and which is the vertex's own.
+-- The place is in the star of the vertex: in the one whose number stands beside
+-- the vertex, and which is the vertex's own.
 pub record IsStarred (keys : List (ℕ × ℕ)) (stars : List (ℕ × List ℕ)) (p i : ℕ) : Type 0 where
   pub number : ℕ
   pub key : IsIn (p, number) keys
@@ -68,12 +86,14 @@ pub record IsNamed (place : Option (ℕ × ℕ)) (slots : List (Option Cell)) (p
   pub has : IsIn p (points_of cell)
   pub inside : lies_in place p ≡ true
 
--- The stars are those of the cells: each names exactly the places of the cells with its vertex, and each cell stands in the star of
--- each of its vertices in the bucket. No star is empty, no cell stands at two places, and each touches the bucket.
+-- The stars are those of the cells: each names exactly the places of the cells with its vertex, and
+-- each cell stands in the star of each of its vertices in the bucket. No star is empty, no cell stands
+-- at two places, and each touches the bucket.
 pub record AreStars (b : Placed) : Type 0 where
   pub order : IsAscending (map (λ k. k.0) b.keys)
   pub names : (p i : ℕ) → IsStarred b.keys b.stars p i → IsNamed b.place b.slots p i
-  pub listed : (p i : ℕ) (c : Cell) → at b.slots i ≡ Some c → IsIn p (points_of c) → lies_in b.place p ≡ true → IsStarred b.keys b.stars p i
+  pub listed : (p i : ℕ) (c : Cell) → at b.slots i ≡ Some c → IsIn p (points_of c) → lies_in b.place p ≡ true →
+      IsStarred b.keys b.stars p i
   pub filled : (k : ℕ × ℕ) → IsIn k b.keys → (i : ℕ) × IsStarred b.keys b.stars k.0 i
   pub once : (i j : ℕ) (c : Cell) → at b.slots i ≡ Some c → at b.slots j ≡ Some c → i ≡ j
   pub touching : (i : ℕ) (c : Cell) → at b.slots i ≡ Some c → touches_in b.place c ≡ true
@@ -99,10 +119,12 @@ pub record IsLeastOf (slots : List (Option Cell)) (star : List ℕ) (bound : Opt
   pub one : IsOneOf slots star bound c
   pub least : (d : Cell) → IsOneOf slots star bound d → cell_cmp d c ≡ Less → ⊥
 
--- An exchange by places. A cell that is not gone stays at its place, each fresh cell that touches the bucket gets one, and no other
--- cell stands anywhere.
+-- An exchange by places. A cell that is not gone stays at its place, each fresh cell that touches the bucket
+-- gets one, and no other cell stands anywhere.
 pub record IsMoved (gone fresh : List Cell) (old new : Placed) : Type 0 where
   pub place : new.place ≡ old.place
-  pub stays : (i : ℕ) (c : Cell) → at old.slots i ≡ Some c → (IsIn c gone → touches_in old.place c ≡ true → ⊥) → at new.slots i ≡ Some c
+  pub stays : (i : ℕ) (c : Cell) → at old.slots i ≡ Some c → (IsIn c gone → touches_in old.place c ≡ true → ⊥) →
+      at new.slots i ≡ Some c
   pub comes : (c : Cell) → IsIn c fresh → touches_in old.place c ≡ true → (i : ℕ) × (at new.slots i ≡ Some c)
-  pub only : (i : ℕ) (c : Cell) → at new.slots i ≡ Some c → (IsIn c fresh × (touches_in old.place c ≡ true)) ⊎ ((at old.slots i ≡ Some c) × (IsIn c gone → touches_in old.place c ≡ true → ⊥))
+  pub only : (i : ℕ) (c : Cell) → at new.slots i ≡ Some c → (IsIn c fresh × (touches_in old.place c ≡ true))
+      ⊎ ((at old.slots i ≡ Some c) × (IsIn c gone → touches_in old.place c ≡ true → ⊥))

@@ -5,8 +5,8 @@ use Rattle.point_order.specs.Facets.{points_of}
 use Rattle.point_order.specs.Sets.{IsIn, IsAscending}
 use Rattle.cell_stars.specs.Places.{Placed, AreStars, IsMoved, IsStarred, at, cells_of, lies_in, touches_in, swapped_at}
 
--- A plan: the places and the stars in longer lists, where there are too few; for each place that changes what stands there after,
--- for each star that changes the star after it; the keys where they change.
+-- A plan: the places and the stars in longer lists, where there are too few; for each place that changes what stands
+-- there after, for each star that changes the star after it; the keys where they change.
 pub record PlanView : Type 0 where
   pub grown : Option (List (Option Cell))
   pub slots : List (ℕ × Option Cell)
@@ -31,7 +31,11 @@ AreBelow n (s ∷ ss) = (s.0 < n) × AreBelow n ss
 
 -- the bucket after a plan
 abbrev pub done : PlanView → Placed → Placed
-done p b = record b { slots = set_all p.slots (or_else p.grown b.slots); stars = set_all p.stars (or_else p.more b.stars); keys = or_else p.keys b.keys }
+done p b = record b {
+  slots = set_all p.slots (or_else p.grown b.slots);
+  stars = set_all p.stars (or_else p.more b.stars);
+  keys = or_else p.keys b.keys;
+}
 
 -- the plan can be carried out in the bucket
 pub record Allows (p : PlanView) (b : Placed) : Type 0 where
@@ -53,14 +57,17 @@ pub record IsPutAt (place : Option (ℕ × ℕ)) (placed : List (ℕ × Cell)) (
   pub has : IsIn p (points_of cell)
   pub inside : lies_in place p ≡ true
 
--- The freed places are those of the gone cells that touch the bucket. The cells put are the fresh ones that touch it and do not stay
--- there, each at one place of its own, which is freed or has no cell.
+-- The freed places are those of the gone cells that touch the bucket. The cells put are the fresh ones that touch it
+-- and do not stay there, each at one place of its own, which is freed or has no cell.
 pub record AreFor (gone fresh : List Cell) (freed : List ℕ) (placed : List (ℕ × Cell)) (old : Placed) : Type 0 where
   pub there : (i : ℕ) → IsIn i freed → (c : Cell) × (at old.slots i ≡ Some c)
-  pub freed_gone : (i : ℕ) (c : Cell) → IsIn i freed → at old.slots i ≡ Some c → IsIn c gone × (touches_in old.place c ≡ true)
-  pub gone_freed : (i : ℕ) (c : Cell) → at old.slots i ≡ Some c → IsIn c gone → touches_in old.place c ≡ true → IsIn i freed
+  pub freed_gone : (i : ℕ) (c : Cell) → IsIn i freed → at old.slots i ≡ Some c →
+      IsIn c gone × (touches_in old.place c ≡ true)
+  pub gone_freed : (i : ℕ) (c : Cell) → at old.slots i ≡ Some c → IsIn c gone → touches_in old.place c ≡ true →
+      IsIn i freed
   pub placed_fresh : (i : ℕ) (c : Cell) → IsIn (i, c) placed → IsIn c fresh × (touches_in old.place c ≡ true)
-  pub fresh_placed : (c : Cell) → IsIn c fresh → touches_in old.place c ≡ true → ((i : ℕ) × IsIn (i, c) placed) ⊎ ((i : ℕ) × (at old.slots i ≡ Some c) × (IsIn i freed → ⊥))
+  pub fresh_placed : (c : Cell) → IsIn c fresh → touches_in old.place c ≡ true →
+      ((i : ℕ) × IsIn (i, c) placed) ⊎ ((i : ℕ) × (at old.slots i ≡ Some c) × (IsIn i freed → ⊥))
   pub new : (i j : ℕ) (c : Cell) → IsIn (i, c) placed → at old.slots j ≡ Some c → IsIn j freed
   pub vacant : (i : ℕ) (c d : Cell) → IsIn (i, c) placed → at old.slots i ≡ Some d → IsIn i freed
   pub apart : (i : ℕ) (c d : Cell) → IsIn (i, c) placed → IsIn (i, d) placed → c ≡ d
@@ -77,7 +84,8 @@ abbrev pub StarsAfter : List ℕ → List (ℕ × Cell) → Placed → ℕ → �
 StarsAfter freed placed old p i = (IsStarred old.keys old.stars p i × (IsIn i freed → ⊥)) ⊎ IsPutAt old.place placed p i
 
 -- all stars do, and none is empty
-pub record AreRewritten (freed : List ℕ) (placed : List (ℕ × Cell)) (old : Placed) (keys : List (ℕ × ℕ)) (stars : List (ℕ × List ℕ)) : Type 0 where
+pub record AreRewritten (freed : List ℕ) (placed : List (ℕ × Cell)) (old : Placed) (keys : List (ℕ × ℕ))
+    (stars : List (ℕ × List ℕ)) : Type 0 where
   pub order : IsAscending (map (λ k. k.0) keys)
   pub starred : (p i : ℕ) → IsStarred keys stars p i ↔ StarsAfter freed placed old p i
   pub filled : (k : ℕ × ℕ) → IsIn k keys → (i : ℕ) × IsStarred keys stars k.0 i
@@ -86,5 +94,6 @@ pub record AreRewritten (freed : List ℕ) (placed : List (ℕ × Cell)) (old : 
 abbrev pub RewrittenIsMoved : Type 0
 RewrittenIsMoved =
     (gone fresh : List Cell) (freed : List ℕ) (placed : List (ℕ × Cell)) (old new : Placed) → new.place ≡ old.place →
-    AreStars old → AreFor gone fresh freed placed old → ArePut freed placed old.slots new.slots → AreRewritten freed placed old new.keys new.stars →
+    AreStars old → AreFor gone fresh freed placed old → ArePut freed placed old.slots new.slots →
+    AreRewritten freed placed old new.keys new.stars →
     AreStars new × IsMoved gone fresh old new

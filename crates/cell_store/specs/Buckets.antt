@@ -5,16 +5,16 @@ use Rattle.point_order.specs.declared.cell.Cell.{Cell}
 use Rattle.edit_history.specs.declared.history.Entry.{Entry}
 use Rattle.cell_stars.specs.Places.{Placed, cells_of}
 
--- A bucket: its points, the cells with a vertex in it, and the entries whose point lies in it. Its place is none for a new
--- bucket, else the size of the grid in which it last stood, or from which it was copied, and its number there.
+-- A bucket: its points, the cells with a vertex in it, and the entries whose point lies in it. Its place is none for a
+-- new bucket, else the size of the grid in which it last stood, or from which it was copied, and its number there.
 pub record Content : Type 0 where
   pub points : List ℕ
   pub cells : List Cell
   pub entries : List Entry
   pub place : Option (ℕ × ℕ)
 
--- A bucket as it is kept: its points, its cells at numbered places with their stars, and its entries; and how many points and entries
--- more it takes without memory.
+-- A bucket as it is kept: its points, its cells at numbered places with their stars, and its entries; and how many
+-- points and entries more it takes without memory.
 pub record Layout : Type 0 where
   pub points : List ℕ
   pub cells : Placed
@@ -34,8 +34,8 @@ shown places = map (option_map content_of) places
 abbrev pub layout_at : List (Option Layout) → ℕ → Option Layout
 layout_at places b = slice_index_or places b None
 
--- The room of a hold: the cells that go and come in the exchange for which there is room, and the point of the entry for
--- which there is.
+-- The room of a hold: the cells that go and come in the exchange for which there is room, and
+-- the point of the entry for which there is.
 pub record Room : Type 0 where
   pub swap : Option (List Cell × List Cell)
   pub push : Option ℕ

@@ -28,7 +28,9 @@ pub record IsSwapped (gone fresh : List Cell) (old new : InHand) : Type 0 where
 -- the bucket b after an entry: the bucket of its point has the entry last, and the point as its reply says
 abbrev pub noted_in : ℕ → ℕ → Entry → Content → Content
 noted_in g b e c =
-    if bucket_of g (point_of e.edit) == b then record c { points = changed c.points (point_of e.edit) e.reply; entries = c.entries ++ e ∷ [] } else c
+    if bucket_of g (point_of e.edit) == b
+    then record c { points = changed c.points (point_of e.edit) e.reply; entries = c.entries ++ e ∷ [] }
+    else c
 
 -- every bucket in hand after an entry, and no other place changes
 pub record IsNoted (e : Entry) (old new : InHand) : Type 0 where
@@ -43,16 +45,17 @@ pub record IsChange (s t gone fresh : List Cell) : Type 0 where
   pub came : (c : Cell) → IsIn c fresh → IsIn c t × (IsIn c s → ⊥)
   pub all_fresh : (c : Cell) → IsIn c t → (IsIn c s → ⊥) → IsIn c fresh
 
--- The history with an entry is legal, the points that it leaves are keys and solid, and gone and fresh are exactly what the entry
--- takes from the complex and adds to it.
+-- The history with an entry is legal, the points that it leaves are keys and solid, and gone and fresh are exactly what
+-- the entry takes from the complex and adds to it.
 pub record IsNext (h : List Entry) (e : Entry) (gone fresh : List Cell) : Type 0 where
   pub legal : IsLegal (h ++ e ∷ [])
   pub keys : AreKeys (replay (h ++ e ∷ []))
   pub solid : is_solid (replay (h ++ e ∷ [])) ≡ true
   pub change : IsChange (complex (replay h)) (complex (replay (h ++ e ∷ []))) gone fresh
 
--- The entry follows the history: it has the next number and the reply of the points that are left, and gone and fresh are exactly what
--- its edit takes from their complex and adds to it, which may be nothing. The laws of insertion and removal supply the last.
+-- The entry follows the history: it has the next number and the reply of the points that are left, and gone
+-- and fresh are exactly what its edit takes from their complex and adds to it, which may be nothing. The
+-- laws of insertion and removal supply the last.
 pub record Follows (h : List Entry) (e : Entry) (gone fresh : List Cell) : Type 0 where
   pub number : e.number ≡ length h
   pub reply : e.reply ≡ reply_to (replay h) e.edit
@@ -61,14 +64,16 @@ pub record Follows (h : List Entry) (e : Entry) (gone fresh : List Cell) : Type 
 -- After a sound history such an entry is next.
 abbrev pub NextEntry : Type 0
 NextEntry =
-    (h : List Entry) (e : Entry) (gone fresh : List Cell) → IsSound h → IsKey (point_of e.edit) → Follows h e gone fresh → IsNext h e gone fresh
+    (h : List Entry) (e : Entry) (gone fresh : List Cell) → IsSound h → IsKey (point_of e.edit) →
+    Follows h e gone fresh → IsNext h e gone fresh
 
--- A hold that stands for a history stands, after the exchange of the gone and the new cells and after the entry, for the history
--- with the entry.
+-- A hold that stands for a history stands, after the exchange of the gone and the new cells and after
+-- the entry, for the history with the entry.
 abbrev pub EntryKeepsHold : Type 0
 EntryKeepsHold =
     (h : List Entry) (e : Entry) (gone fresh : List Cell) (old between new : InHand) →
-    Stands old h → IsNext h e gone fresh → IsSwapped gone fresh old between → IsNoted e between new → Stands new (h ++ e ∷ [])
+    Stands old h → IsNext h e gone fresh → IsSwapped gone fresh old between → IsNoted e between new →
+    Stands new (h ++ e ∷ [])
 
 -- The share of a bucket in the history with the entry is that exact function of its share before.
 abbrev pub ShareAfterEntry : Type 0
@@ -84,5 +89,6 @@ NoneTouches g b l = (c : Cell) → IsIn c l → touches g b c ≡ false
 abbrev pub ShareElsewhere : Type 0
 ShareElsewhere =
     (g b : ℕ) (h : List Entry) (e : Entry) (gone fresh : List Cell) (c : Content) →
-    IsNext h e gone fresh → (bucket_of g (point_of e.edit) == b) ≡ false → NoneTouches g b gone → NoneTouches g b fresh →
+    IsNext h e gone fresh → (bucket_of g (point_of e.edit) == b) ≡ false → NoneTouches g b gone →
+    NoneTouches g b fresh →
     IsShare g b h c → IsShare g b (h ++ e ∷ []) c

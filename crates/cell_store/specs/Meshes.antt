@@ -1,5 +1,27 @@
 -- Meshes, seen as their grid and their history, and the holds that are meshes.
-use Rattle.std.specs.Prelude.{◌≡◌, ℕ, ◌-◌, ◌*◌, ◌^◌, ◌<◌, ltb, if◌then◌else◌, min, true, List, [], ◌∷◌, ◌++◌, length, slice_set, Some, None, IsSome, IsPermutation, Option}
+use Rattle.std.specs.Prelude.{
+  ◌≡◌,
+  ℕ,
+  ◌-◌,
+  ◌*◌,
+  ◌^◌,
+  ◌<◌,
+  ltb,
+  if◌then◌else◌,
+  min,
+  true,
+  List,
+  [],
+  ◌∷◌,
+  ◌++◌,
+  length,
+  slice_set,
+  Some,
+  None,
+  IsSome,
+  IsPermutation,
+  Option,
+}
 use Rattle.std.specs.List.{flat_map}
 use Rattle.std.specs.Option.{option_map_or}
 use Rattle.std.specs.List.Sorted.{IsStrictlySortedBy}
@@ -95,7 +117,8 @@ pub record GathersHistory (hold : InHand) (h : List Entry) : Type 0 where
 abbrev pub MeshGathersHistory : Type 0
 MeshGathersHistory = (hold : InHand) (h : List Entry) → IsWhole hold → Stands hold h → GathersHistory hold h
 
--- The cells of all buckets are those of the complex of the set that the hold shows, and in order, each once, they are the complex.
+-- The cells of all buckets are those of the complex of the set that the hold shows, and
+-- in order, each once, they are the complex.
 pub record GathersComplex (hold : InHand) (s : List ℕ) : Type 0 where
   pub cells : AreSameCells (all_cells hold.places) (complex s)
   pub ordered : (l : List Cell) → IsStrictlySortedBy cell_cmp l → AreSameCells (all_cells hold.places) l → l ≡ complex s
@@ -138,16 +161,21 @@ EmptyStands = (g : ℕ) (h : List Entry) → IsSound h → Stands (empty_hold g)
 abbrev pub EmptyShows : Type 0
 EmptyShows = (g : ℕ) (s : List ℕ) → IsSolidSet s → Shows (empty_hold g) s
 
--- A hold that takes a share in hand stands for what it stood for, and one that takes a sight in hand shows what it showed.
+-- A hold that takes a share in hand stands for what it stood for, and one that
+-- takes a sight in hand shows what it showed.
 abbrev pub PutStands : Type 0
-PutStands = (hold : InHand) (b : ℕ) (c : Content) (h : List Entry) → Stands hold h → IsShare hold.grid b h c → Stands (with_bucket b c hold) h
+PutStands = (hold : InHand) (b : ℕ) (c : Content) (h : List Entry) → Stands hold h → IsShare hold.grid b h c →
+    Stands (with_bucket b c hold) h
 
 abbrev pub PutShows : Type 0
-PutShows = (hold : InHand) (b : ℕ) (c : Content) (s : List ℕ) → Shows hold s → IsSight hold.grid b s c → Shows (with_bucket b c hold) s
+PutShows = (hold : InHand) (b : ℕ) (c : Content) (s : List ℕ) → Shows hold s → IsSight hold.grid b s c →
+    Shows (with_bucket b c hold) s
 
--- Its buckets before are among those after, where the bucket was not in hand; and without a bucket they are among those before.
+-- Its buckets before are among those after, where the bucket was not in hand; and
+-- without a bucket they are among those before.
 abbrev pub PutIsMore : Type 0
-PutIsMore = (hold : InHand) (b : ℕ) (c : Content) → bucket_at hold.places b ≡ None → AreAmong hold (with_bucket b c hold)
+PutIsMore =
+    (hold : InHand) (b : ℕ) (c : Content) → bucket_at hold.places b ≡ None → AreAmong hold (with_bucket b c hold)
 
 abbrev pub TakeIsFewer : Type 0
 TakeIsFewer = (hold : InHand) (b : ℕ) → AreAmong (without_bucket b hold) hold

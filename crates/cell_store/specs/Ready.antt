@@ -1,5 +1,21 @@
 -- What a hold keeps ready for an exchange of cells and for an entry.
-use Rattle.std.specs.Prelude.{◌≡◌, ◌≢◌, ℕ, ◌<◌, ◌≤◌, ◌==◌, List, [], ◌∷◌, Option, Some, IsSome, IsSomeAnd, map, if◌then◌else◌}
+use Rattle.std.specs.Prelude.{
+  ◌≡◌,
+  ◌≢◌,
+  ℕ,
+  ◌<◌,
+  ◌≤◌,
+  ◌==◌,
+  List,
+  [],
+  ◌∷◌,
+  Option,
+  Some,
+  IsSome,
+  IsSomeAnd,
+  map,
+  if◌then◌else◌,
+}
 use Rattle.std.specs.List.{flat_map}
 use Rattle.std.specs.Option.{option_map}
 use Rattle.point_order.specs.declared.cell.Cell.{Cell}
@@ -42,7 +58,8 @@ AreApart [] = Unit {0}
 AreApart (l ∷ ls) = NoneIsFor l.number ls × AreApart ls
 
 -- what is ready for an exchange: plans for buckets in hand, one for each that the exchange touches
-pub record IsReady (g : ℕ) (gone fresh : List Cell) (places : List (Option Layout)) (plans : List PlanFor) : Type 0 where
+pub record IsReady (g : ℕ) (gone fresh : List Cell) (places : List (Option Layout))
+    (plans : List PlanFor) : Type 0 where
   pub each : (l : PlanFor) → IsIn l plans → IsReadyFor gone fresh places l
   pub apart : AreApart plans
   pub others : (b : ℕ) → NoneIsFor b plans → IsUntouched g b gone fresh
@@ -65,7 +82,8 @@ HasNumber g c n = IsIn n (map (bucket_of g) (points_of c))
 
 -- the buckets of all finite vertices of the cells are in hand
 abbrev pub AreHeld : InHand → List Cell → Type 0
-AreHeld hold l = (c : Cell) → IsIn c l → (p : ℕ) → IsIn p (points_of c) → IsSome (bucket_at hold.places (bucket_of hold.grid p))
+AreHeld hold l =
+    (c : Cell) → IsIn c l → (p : ℕ) → IsIn p (points_of c) → IsSome (bucket_at hold.places (bucket_of hold.grid p))
 
 -- there is room for one entry in the bucket
 pub record HasRoom (c : Layout) : Type 0 where

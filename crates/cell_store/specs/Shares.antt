@@ -38,7 +38,12 @@ pub record IsShare (g b : ℕ) (h : List Entry) (c : Content) : Type 0 where
 
 -- the share of bucket b as a bucket that stands in its place
 abbrev pub share_at : ℕ → ℕ → List Entry → Content
-share_at g b h = record { points = points_share g b h; cells = cells_share g b h; entries = entries_share g b h; place = Some (g, b) }
+share_at g b h = record {
+  points = points_share g b h;
+  cells = cells_share g b h;
+  entries = entries_share g b h;
+  place = Some (g, b);
+}
 
 -- A bucket in its place that is a share is that one.
 abbrev pub ShareIsOne : Type 0
@@ -53,8 +58,8 @@ pub record IsSound (h : List Entry) : Type 0 where
 abbrev pub AreShares : InHand → List Entry → Type 0
 AreShares hold h = (b : ℕ) (c : Content) → bucket_at hold.places b ≡ Some c → IsShare hold.grid b h c
 
--- The hold stands for a history: the history is legal, its points are keys of points and solid, and every bucket in hand is
--- its share of it.
+-- The hold stands for a history: the history is legal, its points are keys of points and solid,
+-- and every bucket in hand is its share of it.
 pub record Stands (hold : InHand) (h : List Entry) : Type 0 where
   pub legal : IsLegal h
   pub keys : AreKeys (replay h)
@@ -66,7 +71,8 @@ pub record IsSight (g b : ℕ) (s : List ℕ) (c : Content) : Type 0 where
   pub points : c.points ≡ filter (λ p. bucket_of g p == b) s
   pub cells : c.cells ≡ filter (touches g b) (complex s)
 
--- The hold shows a set: its points are keys in order and solid, and every bucket in hand has what lies in it. Entries are nothing to it.
+-- The hold shows a set: its points are keys in order and solid, and every bucket in hand has
+-- what lies in it. Entries are nothing to it.
 pub record Shows (hold : InHand) (s : List ℕ) : Type 0 where
   pub ascending : IsAscending s
   pub keys : AreKeys s

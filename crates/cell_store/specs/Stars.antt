@@ -16,8 +16,8 @@ abbrev pub bucket_of_first : ℕ → List ℕ → ℕ
 bucket_of_first g [] = 0
 bucket_of_first g (p ∷ ps) = bucket_of g p
 
--- What the call across a facet of a cell gives. A cell, where the bucket of some point of the facet is in hand: the other cell
--- on the facet, for each set that the hold shows. Else the number of the bucket of the facet's least point.
+-- What the call across a facet of a cell gives. A cell, where the bucket of some point of the facet is in hand: the
+-- other cell on the facet, for each set that the hold shows. Else the number of the bucket of the facet's least point.
 abbrev pub AcrossGives : InHand → Cell → Facet → Across → Type 0
 AcrossGives hold cell facet (Found other) =
     ((b : ℕ) × IsInHandFor hold (points_on facet) b)

@@ -11,9 +11,9 @@ use Rattle.cell_store.specs.Grids.{bucket_of}
 use Rattle.cell_store.specs.Buckets.{Content, InHand, bucket_at}
 use Rattle.cell_store.specs.Shares.{Shows, share_at}
 
--- An edit of the set s touches the buckets of the points that it reaches: that of its own point; for an added point that is not
--- there, those of the points of all cells that it takes away; for a taken point that is there, those of the points of its cells,
--- also where the reply is Flat.
+-- An edit of the set s touches the buckets of the points that it reaches: that of its own point; for an added point
+-- that is not there, those of the points of all cells that it takes away; for a taken point that is there, those of the
+-- points of its cells, also where the reply is Flat.
 pub record IsTouched (g : ℕ) (s : List ℕ) (edit : Edit) (b : ℕ) : Type 0 where
   pub point : ℕ
   pub reached : Reaches s edit point
@@ -33,16 +33,16 @@ ShareOutsideTouch =
     (g b : ℕ) (h : List Entry) (e : Entry) → IsSolidSet (replay h) → IsKey (point_of e.edit) →
     ¬ (IsTouched g (replay h) e.edit b) → share_at g b (h ++ e ∷ []) ≡ share_at g b h
 
--- What an edit reaches is found from the buckets in hand alone: where all that it touches in one set is in hand, it answers the same
--- and reaches the same points in every set that the hold shows.
+-- What an edit reaches is found from the buckets in hand alone: where all that it touches in one set is in hand, it
+-- answers the same and reaches the same points in every set that the hold shows.
 abbrev pub ReachFromHeld : Type 0
 ReachFromHeld =
     (hold : InHand) (s t : List ℕ) (edit : Edit) → Shows hold s → Shows hold t → IsKey (point_of edit) →
     HoldTouched hold.grid s edit hold.places →
     (reply_to s edit ≡ reply_to t edit) × ((p : ℕ) → Reaches s edit p ↔ Reaches t edit p)
 
--- Two edits commute where the first, and the second after it, touch no bucket in common: in the other order they leave the same set,
--- answer the same, and touch the same buckets.
+-- Two edits commute where the first, and the second after it, touch no bucket in common: in the other order they leave
+-- the same set, answer the same, and touch the same buckets.
 abbrev pub CommitsCommute : Type 0
 CommitsCommute =
     (g : ℕ) (s : List ℕ) (first second : Edit) → IsSolidSet s → IsKey (point_of first) → IsKey (point_of second) →

@@ -20,7 +20,8 @@ use Rattle.cell_walk.specs.declared.walk.Start.TheVariants.{At}
 -- across the facet towards p of a listed cell that stays, the cell is nearer
 abbrev pub NearerTowards : Type 0
 NearerTowards =
-    (s : List ℕ) (p : ℕ) (c other : Cell) (f : Facet) → IsSet s → IsNew s p → StaysFrom s p c → facet_towards c p ≡ Some f →
+    (s : List ℕ) (p : ℕ) (c other : Cell) (f : Facet) → IsSet s → IsNew s p → StaysFrom s p c →
+    facet_towards c p ≡ Some f →
     IsOtherOf (complex s) c f other → is_before (rank s p other) (rank s p c) ≡ true
 
 -- a listed cell that stays has a facet towards p
@@ -33,7 +34,8 @@ SomeFacetTowards =
 -- other cell on it.
 abbrev pub FewerAcross : Type 0
 FewerAcross =
-    (hold : InHand) (s : List ℕ) (p : ℕ) (c other : Cell) (f : Facet) (b : ℕ) → Shows hold s → IsNew s p → StaysFrom s p c →
+    (hold : InHand) (s : List ℕ) (p : ℕ) (c other : Cell) (f : Facet) (b : ℕ) → Shows hold s → IsNew s p →
+    StaysFrom s p c →
     facet_towards c p ≡ Some f → IsAcross s c f other → IsInHandFor hold (points_on f) b →
     nearer_held s p hold.places other < nearer_held s p hold.places c
 

@@ -52,7 +52,8 @@ pub record IsFirstMissing (hold : InHand) (p b : ℕ) : Type 0 where
   pub number : b ≡ (bucket_of hold.grid p + steps) % (hold.grid * hold.grid * hold.grid)
   pub absent : bucket_at hold.places b ≡ None
   pub before :
-      (i : ℕ) → i < steps → IsSome (bucket_at hold.places ((bucket_of hold.grid p + i) % (hold.grid * hold.grid * hold.grid)))
+      (i : ℕ) → i < steps →
+      IsSome (bucket_at hold.places ((bucket_of hold.grid p + i) % (hold.grid * hold.grid * hold.grid)))
 
 -- A walk to p from the least Full cell inside, else from the least cell; or, where no bucket in hand has a cell,
 -- the first bucket that is not in hand.

@@ -5,7 +5,8 @@
 //! point, so no cell is visited twice. The definitions stand in `specs/`.
 //!
 //! ```
-//! let mut walk = Walk::near(&hold, b, p)?;           // from a cell at a point of bucket b; none where it shows no point
+//! // from a cell at a point of bucket b; none where it shows no point
+//! let mut walk = Walk::near(&hold, b, p)?;
 //! for _ in 0..STEPS {
 //!     match walk.step(&hold) {
 //!         WalkTurn::Here(cell) => return Some(cell), // the new point p takes this cell away

@@ -112,8 +112,8 @@ impl Walk {
         Start::Need(first_missing(hold, p))
     }
 
-    /// A walk to a new point from a cell at a point of the bucket with the number that lies near; none where the bucket shows no such
-    /// point. The bucket is to be in hand.
+    /// A walk to a new point from a cell at a point of the bucket with the number that lies near; none where the bucket
+    /// shows no such point. The bucket is to be in hand.
     ///
     /// Which points are looked at is not promised. It takes no memory.
     pub fn near(hold: &Hold, b: u32, p: Point) -> Option<Walk>

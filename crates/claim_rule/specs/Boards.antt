@@ -1,11 +1,29 @@
 -- A table of buckets as plain data: the ticket, a word for each bucket, the buckets at home, and the live passes.
-use Rattle.std.specs.Prelude.{◌≡◌, ℕ, ◌+◌, ◌<◌, ◌≤◌, Bool, ◌&&◌, List, [], ◌∷◌, Option, None, Some, slice_index_or, drop, leb, ltb}
+use Rattle.std.specs.Prelude.{
+  ◌≡◌,
+  ℕ,
+  ◌+◌,
+  ◌<◌,
+  ◌≤◌,
+  Bool,
+  ◌&&◌,
+  List,
+  [],
+  ◌∷◌,
+  Option,
+  None,
+  Some,
+  slice_index_or,
+  drop,
+  leb,
+  ltb,
+}
 use Rattle.std.specs.List.{filter}
 use Rattle.edit_history.specs.declared.history.Entry.{Entry}
 use Rattle.cell_store.specs.Buckets.{Content, InHand, no_room}
 
--- A live pass: its first part, which is its number, how many parts it owns, how many edits it may still make, what it has
--- seen of the ticket, what the ticket was when it was made, and for each bucket the content, if the pass holds it.
+-- A live pass: its first part, which is its number, how many parts it owns, how many edits it may still make, what it
+-- has seen of the ticket, what the ticket was when it was made, and for each bucket the content, if the pass holds it.
 pub record View : Type 0 where
   pub first : ℕ
   pub parts : ℕ
@@ -15,8 +33,8 @@ pub record View : Type 0 where
   pub held : List (Option Content)
 
 -- A board: the size of its grid, its number of parts, how many entries there may be at most, the entries with which it
--- began; the ticket; for each bucket its word and the content, if it is at home; and for each part the live pass with this
--- number, if there is one.
+-- began; the ticket; for each bucket its word and the content, if it is at home; and for each part the
+-- live pass with this number, if there is one.
 pub record BoardState : Type 0 where
   pub grid : ℕ
   pub parts : ℕ

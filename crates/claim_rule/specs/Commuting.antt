@@ -34,9 +34,10 @@ pub record AreAlike (s t : BoardState) : Type 0 where
   pub words : s.words ≡ t.words
   pub held : map (option_map figures_of) s.views ≡ map (option_map figures_of) t.views
 
--- Two commits, the first by n and the second by m, come in the other order too: both are done, each with the reply that it
--- had, the numbers of their entries are exchanged, and the boards are alike.
-pub record ComeSwapped (h : List Entry) (s : BoardState) (n m tag tag' : ℕ) (edit edit' : Edit) (last : BoardState) : Type 0 where
+-- Two commits, the first by n and the second by m, come in the other order too: both are done, each with the reply that
+-- it had, the numbers of their entries are exchanged, and the boards are alike.
+pub record ComeSwapped (h : List Entry) (s : BoardState) (n m tag tag' : ℕ) (edit edit' : Edit)
+    (last : BoardState) : Type 0 where
   pub middle' : BoardState
   pub last' : BoardState
   pub first' : Next h s (Commit m tag' edit') Done middle'

@@ -1,5 +1,27 @@
 -- What each event makes of a board, and when it may come.
-use Rattle.std.specs.Prelude.{◌≡◌, ◌≢◌, ℕ, ◌+◌, ◌-◌, ◌<◌, ◌≤◌, List, [], ◌∷◌, ◌++◌, length, max, replicate, Option, None, Some, IsSome, IsSomeAnd, slice_set, slice_index_or}
+use Rattle.std.specs.Prelude.{
+  ◌≡◌,
+  ◌≢◌,
+  ℕ,
+  ◌+◌,
+  ◌-◌,
+  ◌<◌,
+  ◌≤◌,
+  List,
+  [],
+  ◌∷◌,
+  ◌++◌,
+  length,
+  max,
+  replicate,
+  Option,
+  None,
+  Some,
+  IsSome,
+  IsSomeAnd,
+  slice_set,
+  slice_index_or,
+}
 use Rattle.std.specs.Option.{option_map, option_map_or, option_and_then}
 use Rattle.point_order.specs.Coordinates.{IsKey}
 use Rattle.edit_history.specs.declared.history.Edit.{Edit}
@@ -39,12 +61,14 @@ CanLook s n = IsSome (view_at s n)
 
 -- The pass is live and holds nothing, it keeps a part and gives one, and gives no more allowance than it has.
 abbrev pub CanSplit : BoardState → ℕ → ℕ → ℕ → Type 0
-CanSplit s n parts left = IsSomeAnd (view_at s n) (λ v. HoldsNothing v × (0 < parts) × (parts < v.parts) × (left ≤ v.left))
+CanSplit s n parts left =
+    IsSomeAnd (view_at s n) (λ v. HoldsNothing v × (0 < parts) × (parts < v.parts) × (left ≤ v.left))
 
 -- Both passes are live and hold nothing, and the second's parts come next.
 abbrev pub CanJoin : BoardState → ℕ → ℕ → Type 0
 CanJoin s n m =
-    IsSomeAnd (view_at s n) (λ v. HoldsNothing v × (m ≡ v.first + v.parts)) × IsSomeAnd (view_at s m) (λ w. HoldsNothing w)
+    IsSomeAnd (view_at s n) (λ v. HoldsNothing v × (m ≡ v.first + v.parts))
+    × IsSomeAnd (view_at s m) (λ w. HoldsNothing w)
 
 -- ---- effects
 
@@ -62,7 +86,8 @@ claimed s n b = record s {
 
 -- the entry of a commit, after a history
 abbrev pub entry_after : List Entry → ℕ → ℕ → ℕ → Edit → Entry
-entry_after h number by tag edit = record { number = number; by = by; tag = tag; edit = edit; reply = reply_to (replay h) edit }
+entry_after h number by tag edit =
+    record { number = number; by = by; tag = tag; edit = edit; reply = reply_to (replay h) edit }
 
 -- each content in hand, from bucket b on, becomes its share of the history
 abbrev pub renewed_from : ℕ → List Entry → ℕ → List (Option Content) → List (Option Content)

@@ -1,5 +1,24 @@
 -- When a board is good.
-use Rattle.std.specs.Prelude.{◌≡◌, ◌≢◌, ℕ, ◌+◌, ◌*◌, ◌^◌, ◌<◌, ◌≤◌, ◌↔◌, true, List, ◌++◌, length, drop, Option, Some, IsSome, All}
+use Rattle.std.specs.Prelude.{
+  ◌≡◌,
+  ◌≢◌,
+  ℕ,
+  ◌+◌,
+  ◌*◌,
+  ◌^◌,
+  ◌<◌,
+  ◌≤◌,
+  ◌↔◌,
+  true,
+  List,
+  ◌++◌,
+  length,
+  drop,
+  Option,
+  Some,
+  IsSome,
+  All,
+}
 use Rattle.point_order.specs.Solid.{is_solid}
 use Rattle.edit_history.specs.declared.history.Entry.{Entry}
 use Rattle.edit_history.specs.Histories.{replay, IsLegal}
@@ -53,8 +72,8 @@ pub record IsInOrder (s : BoardState) (h : List Entry) (v : View) : Type 0 where
   pub made : All (λ e. e.number < v.seen) (made_by v.first v.parts (length s.opening) h)
 
 -- The board is good, with this history: the history is legal and begins with the opening entries, the ticket counts it,
--- and it leaves a solid set; every bucket is its share of the history, wherever it is; a word is 0 exactly where its bucket
--- is at home, and else names the pass that holds it; and the live passes share the parts and the allowance.
+-- and it leaves a solid set; every bucket is its share of the history, wherever it is; a word is 0 exactly where its
+-- bucket is at home, and else names the pass that holds it; and the live passes share the parts and the allowance.
 pub record IsGood (s : BoardState) (h : List Entry) : Type 0 where
   pub shape : HasShape s
   pub legal : IsLegal h

@@ -45,7 +45,9 @@ OneHistory = (s : BoardState) (h k : List Entry) → IsGood s h → IsGood s k �
 abbrev pub Runs : BoardState → List Event → BoardState → Type 0
 Runs s [] s' = s' ≡ s
 Runs s (event ∷ events) s' =
-    HasKey event × ((answer : Played) × (m : BoardState) × ((h : List Entry) → IsGood s h → Next h s event answer m) × Runs m events s')
+    HasKey event
+    × ((answer : Played) × (m : BoardState)
+    × ((h : List Entry) → IsGood s h → Next h s event answer m) × Runs m events s')
 
 -- In any run of a good board the history before is the front of the history after.
 abbrev pub HistoryGrows : Type 0

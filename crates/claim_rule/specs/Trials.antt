@@ -26,14 +26,14 @@ pub record IsOnSome (cells : List Cell) (p : ℕ) : Type 0 where
   pub listed : IsIn cell cells
   pub has : IsIn p (points_of cell)
 
--- the cells near an edit, of all and of those that go: for an added point those that go, for a taken one those that have
--- it
+-- the cells near an edit, of all and of those that go: for an added point those
+-- that go, for a taken one those that have it
 abbrev pub near_cells : Edit → List Cell → List Cell → List Cell
 near_cells (Add p) all gone = gone
 near_cells (Take v) all gone = filter (λ c. is_among v (points_of c)) all
 
--- The edit of s gets this reply, and takes away and brings exactly these cells. It reaches its own point, and the points of
--- the cells near it.
+-- The edit of s gets this reply, and takes away and brings exactly these cells. It reaches its own
+-- point, and the points of the cells near it.
 pub record IsTrialOf (s : List ℕ) (edit : Edit) (t : Trial) : Type 0 where
   pub reply : t.reply ≡ reply_to s edit
   pub change : IsChange (complex s) (complex (after s edit)) t.gone.items t.fresh.items

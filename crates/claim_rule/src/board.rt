@@ -1,6 +1,31 @@
 //! Boards.
 
-ghost use Rattle.std.specs.Prelude.{◌≡◌, ◌≢◌, ◌⊎◌, ◌↔◌, IsTrue, true, ℕ, ◌*◌, ◌+◌, ◌-◌, ◌^◌, ◌<◌, ◌≤◌, List, ◌∷◌, None, Some, All, length, replicate, IfOk, OnErr, IsSome, slice_index_or};
+ghost use Rattle.std.specs.Prelude.{
+  ◌≡◌,
+  ◌≢◌,
+  ◌⊎◌,
+  ◌↔◌,
+  IsTrue,
+  true,
+  ℕ,
+  ◌*◌,
+  ◌+◌,
+  ◌-◌,
+  ◌^◌,
+  ◌<◌,
+  ◌≤◌,
+  List,
+  ◌∷◌,
+  None,
+  Some,
+  All,
+  length,
+  replicate,
+  IfOk,
+  OnErr,
+  IsSome,
+  slice_index_or,
+};
 ghost use Rattle.edit_history.specs.declared.history.Entry.{Entry};
 ghost use Rattle.point_order.specs.Facets.{points_of};
 ghost use Rattle.cell_store.specs.Grids.{is_grid_size, bucket_of};
@@ -51,9 +76,11 @@ impl Model for Board {
 
     ghost Value = { BoardState };
 
-    ghost view = { λ s. kept s.hold.grid s.parts s.most s.begun.value.history s.ticket s.words.items s.hold.places s.seats.items };
+    ghost view = { λ s.
+        kept s.hold.grid s.parts s.most s.begun.value.history s.ticket s.words.items s.hold.places s.seats.items };
 
-    ghost invariant = { λ s. Good (kept s.hold.grid s.parts s.most s.begun.value.history s.ticket s.words.items s.hold.places s.seats.items) };
+    ghost invariant = { λ s. Good
+        (kept s.hold.grid s.parts s.most s.begun.value.history s.ticket s.words.items s.hold.places s.seats.items) };
 }
 
 // The pass with the number, if it is live.
@@ -182,8 +209,8 @@ impl Board {
         self.hold.grid()
     }
 
-    /// The word of the bucket with the number, which is to be below the grid's count: 0 where the bucket is at home, and
-    /// else the number of the pass that holds it plus 1.
+    /// The word of the bucket with the number, which is to be below the grid's count: 0 where the bucket is at home,
+    /// and else the number of the pass that holds it plus 1.
     pub fn word(&self, b: u32) -> u64
         requires { b < self.now.grid * self.now.grid * self.now.grid }
         ensures { result ≡ word_of self.now b }
@@ -295,7 +322,8 @@ impl Board {
     // A commit.
     fn commit(&mut self, alloc: Global, n: u32, tag: u32, edit: Edit) -> Result<Played, AllocError>
         ensures good { Good self.new }
-        ensures next { IfOk result (λ answer. (h : List Entry) → IsGood self.old h → Next h self.old (Commit n tag edit) answer self.new) }
+        ensures next { IfOk result (λ answer. (h : List Entry) → IsGood self.old h →
+            Next h self.old (Commit n tag edit) answer self.new) }
         ensures refused { OnErr result (self.new ≡ self.old) }
     {
         let Some(seat) = seat_at(&self.seats, n) else {
@@ -353,7 +381,8 @@ impl Board {
     /// Want of memory, which a commit alone can meet. The board is then as before.
     pub fn play(&mut self, alloc: Global, event: &Event) -> Result<Played, AllocError>
         ensures good { Good self.new }
-        ensures next { IfOk result (λ answer. (h : List Entry) → IsGood self.old h → Next h self.old event.now answer self.new) }
+        ensures next { IfOk result (λ answer. (h : List Entry) → IsGood self.old h →
+            Next h self.old event.now answer self.new) }
         ensures refused { OnErr result (self.new ≡ self.old) }
         ensures only_commits { OnErr result (is_commit event.now) }
     {

@@ -15,8 +15,8 @@ use edit_history::{Edit, PointSet, Reply};
 use point_order::{Cell, Point};
 use std::alloc::{AllocError, Global};
 
-/// What an edit of a set changes: its reply, the cells that go and come, and the cells whose points it reaches beside its
-/// own.
+/// What an edit of a set changes: its reply, the cells that go and come, and the
+/// cells whose points it reaches beside its own.
 #[derive(Debug, Drop)]
 pub struct Trial {
     pub reply: Reply,

@@ -101,7 +101,8 @@ fn leaves_plane(a: Point, b: Point, c: Point, mate: Point, e: Point) -> bool
 fn all_leave_plane(points: &[Point], a: Point, b: Point, c: Point, mate: Point) -> bool
     requires above { pos 0 <ℤ orientation a b c mate }
     requires distinct { AreThree a b c }
-    ensures { result ≡ list_all (λ e. is_among e (a ∷ b ∷ c ∷ []) || not (is_flat a b c e) || lt_z (pos 0) (out a b c mate e)) points.now }
+    ensures { result ≡ list_all
+        (λ e. is_among e (a ∷ b ∷ c ∷ []) || not (is_flat a b c e) || lt_z (pos 0) (out a b c mate e)) points.now }
 {
     for e in points {
         if !leaves_plane(a, b, c, mate, *e) {

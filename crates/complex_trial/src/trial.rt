@@ -55,7 +55,8 @@ fn push_full_from_two(
     requires first { i < j }
     requires place { j < length points.now }
     ensures { OnOk result (cells.new.items ≡ cells.old.items
-        ++ full_from points.now (slice_index points.now i ∷ slice_index points.now j ∷ []) 2 (drop (j + 1) points.now)) }
+        ++ full_from points.now (slice_index points.now i ∷ slice_index points.now j ∷ []) 2
+        (drop (j + 1) points.now)) }
 {
     for k in j + 1..points.len() {
         push_full_from_three(cells, points, i, j, k)?;
@@ -76,7 +77,8 @@ fn push_full_from_three(
     requires second { j < k }
     requires place { k < length points.now }
     ensures { OnOk result (cells.new.items ≡ cells.old.items
-        ++ full_from points.now (slice_index points.now i ∷ slice_index points.now j ∷ slice_index points.now k ∷ []) 1 (drop (k + 1) points.now)) }
+        ++ full_from points.now (slice_index points.now i ∷ slice_index points.now j ∷ slice_index points.now k ∷ []) 1
+        (drop (k + 1) points.now)) }
 {
     let (a, b, c) = (points[i], points[j], points[k]);
     for l in k + 1..points.len() {
@@ -140,7 +142,8 @@ fn push_open_from_two(
     requires first { i < j }
     requires place { j < length points.now }
     ensures { OnOk result (cells.new.items ≡ cells.old.items
-        ++ open_from points.now (slice_index points.now i ∷ slice_index points.now j ∷ []) 1 (drop (j + 1) points.now)) }
+        ++ open_from points.now (slice_index points.now i ∷ slice_index points.now j ∷ []) 1
+        (drop (j + 1) points.now)) }
 {
     let (a, b) = (points[i], points[j]);
     for k in j + 1..points.len() {

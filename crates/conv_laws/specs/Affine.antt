@@ -53,13 +53,15 @@ OrientCarried =
     orient a b c d *ℤ orient k l m e
     ≡ weighted a b c d e (orient k l m a) (orient k l m b) (orient k l m c) (orient k l m d)
 
--- the lifted determinant of e with any four is the weighted sum of those of the vertices, and as much more as e is raised
+-- the lifted determinant of e with any four is the weighted sum of those of
+-- the vertices, and as much more as e is raised
 abbrev pub LiftedCarried : Type 0
 LiftedCarried =
     (a b c d e k l m n : Lifted) →
     orient a.foot b.foot c.foot d.foot *ℤ lifted k l m n e
     ≡ orient k.foot l.foot m.foot n.foot *ℤ lifted a b c d e
-    +ℤ weighted a.foot b.foot c.foot d.foot e.foot (lifted k l m n a) (lifted k l m n b) (lifted k l m n c) (lifted k l m n d)
+    +ℤ weighted a.foot b.foot c.foot d.foot e.foot
+    (lifted k l m n a) (lifted k l m n b) (lifted k l m n c) (lifted k l m n d)
 
 -- ---- relations of six places
 
@@ -85,7 +87,8 @@ PencilInPlane =
     orient a.foot b.foot c.foot e.foot ≡ pos 0 →
     orient a.foot b.foot c.foot f.foot *ℤ lifted a b c g e ≡ orient a.foot b.foot c.foot g.foot *ℤ lifted a b c f e
 
--- from a cell to the one across a facet, the ratio of lifted determinant and orientation falls where the weight is negative
+-- from a cell to the one across a facet, the ratio of lifted determinant and
+-- orientation falls where the weight is negative
 abbrev pub Crossing : Type 0
 Crossing =
     (a b c d f e : Lifted) →

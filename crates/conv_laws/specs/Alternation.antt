@@ -1,4 +1,5 @@
--- Exchanging two arguments turns the sign of an orientation and of a lifted determinant, and both are 0 where two arguments are one.
+-- Exchanging two arguments turns the sign of an orientation and of a lifted determinant,
+-- and both are 0 where two arguments are one.
 use Rattle.std.specs.Prelude.{pos, neg_ℤ, ◌≡◌}
 use Rattle.conv_laws.specs.Places.{Place, orient, Lifted, lifted}
 
@@ -41,7 +42,8 @@ LiftedSwaps =
     × (lifted a b d c e ≡ neg_ℤ (lifted a b c d e))
     × (lifted a b c e d ≡ neg_ℤ (lifted a b c d e))
 
--- the orders of the first four that come from an even number of exchanges keep it; and exchanging the third with the fifth turns it
+-- the orders of the first four that come from an even number of exchanges keep it; and
+-- exchanging the third with the fifth turns it
 abbrev pub LiftedOrders : Type 0
 LiftedOrders =
     (a b c d e : Lifted) →

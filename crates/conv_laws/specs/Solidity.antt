@@ -17,7 +17,8 @@ CramersRule =
 -- the number times a cofactor, for each of three rows: the heights of l, m, n over the plane of a, b, c, less that of k
 abbrev pub by_heights : Place → Place → Place → Place → Place → Place → Place → ℤ → ℤ → ℤ → ℤ
 by_heights a b c k l m n p q r =
-    (orient a b c l -ℤ orient a b c k) *ℤ p +ℤ (orient a b c m -ℤ orient a b c k) *ℤ q +ℤ (orient a b c n -ℤ orient a b c k) *ℤ r
+    (orient a b c l -ℤ orient a b c k) *ℤ p +ℤ (orient a b c m -ℤ orient a b c k) *ℤ q
+    +ℤ (orient a b c n -ℤ orient a b c k) *ℤ r
 
 -- four places see the normal of three others: it is told by their heights over the plane
 abbrev pub NormalByHeights : Type 0
@@ -38,7 +39,8 @@ OnePlane =
     orient a b c k ≡ pos 0 → orient a b c l ≡ pos 0 → orient a b c m ≡ pos 0 → orient a b c n ≡ pos 0 →
     orient k l m n ≡ pos 0
 
--- and the other way round: where four places do not lie in one plane, and all are in the plane of a, b, c, these are on one line
+-- and the other way round: where four places do not lie in one plane, and all are in
+-- the plane of a, b, c, these are on one line
 abbrev pub OnlyOnLine : Type 0
 OnlyOnLine =
     (a b c k l m n : Place) →

@@ -1,6 +1,21 @@
--- Heights and spheres: what an affine function of place adds to heights, the paraboloid, and the smallest spheres of an edge and a triangle.
+-- Heights and spheres: what an affine function of place adds to heights, the paraboloid, and the
+-- smallest spheres of an edge and a triangle.
 use Rattle.std.specs.Prelude.{ℤ, pos, ◌+ℤ◌, ◌-ℤ◌, ◌*ℤ◌, neg_ℤ, ◌≡◌}
-use Rattle.conv_laws.specs.Places.{Vector, det, cross, dot, square, Place, step, distance, normal, orient, Lifted, lifted, sphere}
+use Rattle.conv_laws.specs.Places.{
+  Vector,
+  det,
+  cross,
+  dot,
+  square,
+  Place,
+  step,
+  distance,
+  normal,
+  orient,
+  Lifted,
+  lifted,
+  sphere,
+}
 use Rattle.conv_laws.specs.Affine.{weight_c, weight_d, weighted}
 
 -- ---- heights
@@ -74,8 +89,8 @@ ParaboloidIsConvex =
 
 -- ---- smallest spheres
 
--- The power of p to a sphere through a, for spheres given by a number k and a vector v: k times the square of the distance of p from a,
--- less (p - a) . v. For a positive k it is negative exactly where p is strictly inside.
+-- The power of p to a sphere through a, for spheres given by a number k and a vector v: k times the square of the
+-- distance of p from a, less (p - a) . v. For a positive k it is negative exactly where p is strictly inside.
 abbrev pub power : ℤ → Vector → Place → Place → ℤ
 power k v a p = distance a p *ℤ k -ℤ dot (step a p) v
 
@@ -105,12 +120,15 @@ times k u = record { x = k *ℤ u.x; y = k *ℤ u.y; z = k *ℤ u.z }
 abbrev pub plus : Vector → Vector → Vector
 plus u v = record { x = u.x +ℤ v.x; y = u.y +ℤ v.y; z = u.z +ℤ v.z }
 
--- |c - a|^2 (n x (b - a)) + |b - a|^2 ((c - a) x n), with n the normal: 2 |n|^2 times the step from a to the centre of the circle of a, b, c
+-- |c - a|^2 (n x (b - a)) + |b - a|^2 ((c - a) x n), with n the normal: 2 |n|^2 times the step
+-- from a to the centre of the circle of a, b, c
 abbrev pub triangle_vector : Place → Place → Place → Vector
 triangle_vector a b c =
-    plus (times (distance a c) (cross (normal a b c) (step a b))) (times (distance a b) (cross (step a c) (normal a b c)))
+    plus (times (distance a c) (cross (normal a b c) (step a b)))
+    (times (distance a b) (cross (step a c) (normal a b c)))
 
--- |p - a|^2 |n|^2 - (p - a) . V, with V the triangle's vector: the power of p to the smallest sphere of a triangle, times |n|^2
+-- |p - a|^2 |n|^2 - (p - a) . V, with V the triangle's vector: the power of p to the
+-- smallest sphere of a triangle, times |n|^2
 abbrev pub triangle_power : Place → Place → Place → Place → ℤ
 triangle_power a b c p = power (square (normal a b c)) (triangle_vector a b c) a p
 

@@ -1,14 +1,61 @@
-//! Identities of geometry over the whole numbers: orientations, lifted determinants and spheres; and three facts on lists.
+//! Identities of geometry over the whole numbers: orientations, lifted
+//! determinants and spheres; and three facts on lists.
 //!
-//! Each function here does nothing, and its contract is a law. The definitions are in `specs/`, and the lemmas that crates
-//! above cite are in `proofs/`. `docs/GEOMETRY.md` tells the laws in order.
+//! Each function here does nothing, and its contract is a law. The definitions are in `specs/`, and the lemmas that
+//! crates above cite are in `proofs/`. `docs/GEOMETRY.md` tells the laws in order.
 #![tactic(auto)]
 
-ghost use Rattle.conv_laws.specs.Affine.{WeightsAddUp, WeightsLocate, WeightsOfHeights, OrientCarried, LiftedCarried, ThreeTerms, Pencil, PencilInPlane, Crossing};
-ghost use Rattle.conv_laws.specs.Alternation.{OrientSwaps, OrientEvenOrders, OrientRepeats, LiftedSwaps, LiftedOrders, LiftedRepeats};
-ghost use Rattle.conv_laws.specs.Lists.{LeastRatio, Handshake, AnotherOfEven, NoneIsEven, OneIsOdd, TwoAreEven, CountOfPart, CountOfLess};
-ghost use Rattle.conv_laws.specs.Solidity.{HeightOverPlane, CramersRule, NormalByHeights, OnePlane, OnlyOnLine, LineInPlane, ParallelVectors, OneLine};
-ghost use Rattle.conv_laws.specs.Spheres.{HeightsAreLinear, AffineChange, LiftedBySteps, SphereBySteps, SphereAbout, ParaboloidIsConvex, PowerCarried, EdgePower, TriangleOnSphere, TrianglePower};
+ghost use Rattle.conv_laws.specs.Affine.{
+  WeightsAddUp,
+  WeightsLocate,
+  WeightsOfHeights,
+  OrientCarried,
+  LiftedCarried,
+  ThreeTerms,
+  Pencil,
+  PencilInPlane,
+  Crossing,
+};
+ghost use Rattle.conv_laws.specs.Alternation.{
+  OrientSwaps,
+  OrientEvenOrders,
+  OrientRepeats,
+  LiftedSwaps,
+  LiftedOrders,
+  LiftedRepeats,
+};
+ghost use Rattle.conv_laws.specs.Lists.{
+  LeastRatio,
+  Handshake,
+  AnotherOfEven,
+  NoneIsEven,
+  OneIsOdd,
+  TwoAreEven,
+  CountOfPart,
+  CountOfLess,
+};
+ghost use Rattle.conv_laws.specs.Solidity.{
+  HeightOverPlane,
+  CramersRule,
+  NormalByHeights,
+  OnePlane,
+  OnlyOnLine,
+  LineInPlane,
+  ParallelVectors,
+  OneLine,
+};
+ghost use Rattle.conv_laws.specs.Spheres.{
+  HeightsAreLinear,
+  AffineChange,
+  LiftedBySteps,
+  SphereBySteps,
+  SphereAbout,
+  ParaboloidIsConvex,
+  PowerCarried,
+  EdgePower,
+  TriangleOnSphere,
+  TrianglePower,
+};
 
 /// The orientation of four places is an alternating function of them.
 pub fn orientation_alternates()
@@ -24,7 +71,8 @@ pub fn lifted_determinant_alternates()
     ensures repeats { LiftedRepeats }
 {}
 
-/// Barycentric coordinates without division: a fifth place by its weights at four others, and how much it is raised above them.
+/// Barycentric coordinates without division: a fifth place by its weights at four
+/// others, and how much it is raised above them.
 pub fn affine_relation()
     ensures sum { WeightsAddUp }
     ensures place { WeightsLocate }
@@ -53,7 +101,8 @@ pub fn crossing_a_facet()
     ensures { Crossing }
 {}
 
-/// What a change of all heights does to a lifted determinant: it is linear in them, and an affine function of place adds nothing.
+/// What a change of all heights does to a lifted determinant: it is linear in them, and
+/// an affine function of place adds nothing.
 pub fn change_of_heights()
     ensures linear { HeightsAreLinear }
     ensures affine { AffineChange }
@@ -65,15 +114,15 @@ pub fn translated_to_first()
     ensures sphere { SphereBySteps }
 {}
 
-/// The in-sphere polynomial by squares of distances: from any place, and as a weighted sum, which tells that a place among the
-/// vertices is inside.
+/// The in-sphere polynomial by squares of distances: from any place, and as a weighted sum, which tells
+/// that a place among the vertices is inside.
 pub fn paraboloid_is_convex()
     ensures about { SphereAbout }
     ensures convex { ParaboloidIsConvex }
 {}
 
-/// The power of a place to a sphere, as a weighted sum of the powers of four others; and so for the smallest spheres of an edge
-/// and a triangle, on which their own vertices lie.
+/// The power of a place to a sphere, as a weighted sum of the powers of four others; and so for the smallest spheres of
+/// an edge and a triangle, on which their own vertices lie.
 pub fn small_spheres()
     ensures power { PowerCarried }
     ensures edge { EdgePower }
@@ -88,7 +137,8 @@ pub fn normal_of_plane()
     ensures told_by_heights { NormalByHeights }
 {}
 
-/// When all places lie in one plane: the places in the plane of three that are not on one line, and those on the line of two.
+/// When all places lie in one plane: the places in the plane of three that are not
+/// on one line, and those on the line of two.
 pub fn all_in_one_plane()
     ensures one_plane { OnePlane }
     ensures only_on_line { OnlyOnLine }

@@ -1,5 +1,6 @@
--- Cells of a set of points as predicates of four vertices, for any heights, and the two facts on heights that the laws use.
--- The definitions here are the weak form: no "other than", and at least 0 for above 0. Where there are no ties it says the same.
+-- Cells of a set of points as predicates of four vertices, for any heights, and the two facts on heights that the laws
+-- use. The definitions here are the weak form: no "other than", and "at least 0" in place of "above 0". Where there are
+-- no ties it says the same.
 use Rattle.std.specs.Prelude.{ℕ, pos, ◌*ℤ◌, ◌≡◌, ◌≤ℤ◌, ◌<ℤ◌, List, [], ◌∷◌, ◌⊎◌}
 use Rattle.point_order.specs.Orientation.{orientation}
 use Rattle.point_order.specs.Heights.{lifted}
@@ -33,7 +34,8 @@ pub record IsSolid (s : List ℕ) : Type 0 where
 
 -- ---- the two facts on heights
 
--- No ties: among the points of s, a fifth point does not lie on the sphere through four independent ones, unless it is one of them.
+-- No ties: among the points of s, a fifth point does not lie on the sphere through four
+-- independent ones, unless it is one of them.
 pub record NoTies (h : ℕ → ℕ) (s : List ℕ) : Type 0 where
   pub one_of :
       (a b c d e : ℕ) → IsIn a s → IsIn b s → IsIn c s → IsIn d s → IsIn e s →
@@ -45,7 +47,8 @@ pub record IsConvex (h : ℕ → ℕ) (s : List ℕ) : Type 0 where
   pub one_of :
       (a b c d e : ℕ) → IsIn a s → IsIn b s → IsIn c s → IsIn d s → IsIn e s →
       pos 0 <ℤ orientation a b c d →
-      pos 0 ≤ℤ orientation b d c e → pos 0 ≤ℤ orientation a c d e → pos 0 ≤ℤ orientation a d b e → pos 0 ≤ℤ orientation a b c e →
+      pos 0 ≤ℤ orientation b d c e → pos 0 ≤ℤ orientation a c d e → pos 0 ≤ℤ orientation a d b e →
+      pos 0 ≤ℤ orientation a b c e →
       pos 0 ≤ℤ lifted h a b c d e → OneOf e a b c d
 
 -- ---- cells
@@ -69,7 +72,8 @@ pub record Open (h : ℕ → ℕ) (s : List ℕ) (a b c : ℕ) : Type 0 where
   pub has_mate : IsIn mate s
   pub above : pos 0 <ℤ orientation a b c mate
   pub bounds : (e : ℕ) → IsIn e s → pos 0 ≤ℤ orientation a b c e
-  pub ties : (f e : ℕ) → IsIn f s → IsIn e s → pos 0 <ℤ orientation a b c f → orientation a b c e ≡ pos 0 → pos 0 ≤ℤ lifted h a b c f e
+  pub ties : (f e : ℕ) → IsIn f s → IsIn e s → pos 0 <ℤ orientation a b c f → orientation a b c e ≡ pos 0 →
+      pos 0 ≤ℤ lifted h a b c f e
 
 -- a vertex of a cell is a point, or the infinite vertex
 pub data Vertex : Type 0 where
@@ -129,7 +133,8 @@ pub record HavePoints (k : List ℕ) (w x y z : Vertex) : Type 0 where
 
 -- ---- cells and a point
 
--- p is not in conflict with an Open cell, as a mate m sees it: it is above the plane, or in it and not inside the circle
+-- p is not in conflict with an Open cell, as a mate m sees it: it is above
+-- the plane, or in it and not inside the circle
 pub record IsOutside (h : ℕ → ℕ) (a b c m p : ℕ) : Type 0 where
   pub side : pos 0 ≤ℤ orientation a b c p
   pub tie : orientation a b c p ≡ pos 0 → pos 0 ≤ℤ lifted h a b c m p
@@ -153,5 +158,6 @@ pub record IsBehind (h : ℕ → ℕ) (s : List ℕ) (p : ℕ) : Type 0 where
 
 -- what lies across a facet that has p behind it: a Full cell of a lower ratio, or an Open cell in conflict with p
 pub data Crossed (h : ℕ → ℕ) (s : List ℕ) (a b c d p : ℕ) : Type 0 where
-  full : (f : ℕ) → Full h s a c b f → (lifted h a c b f p *ℤ orientation a b c d) <ℤ (lifted h a b c d p *ℤ orientation a c b f) → Crossed h s a b c d p
+  full : (f : ℕ) → Full h s a c b f →
+      (lifted h a c b f p *ℤ orientation a b c d) <ℤ (lifted h a b c d p *ℤ orientation a c b f) → Crossed h s a b c d p
   in_conflict : Open h s a b c → orientation a b c p <ℤ pos 0 → Crossed h s a b c d p

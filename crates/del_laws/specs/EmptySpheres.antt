@@ -1,5 +1,5 @@
--- Smallest circumscribing spheres: that of a Full cell is empty, and the Full cells that have an edge or a triangle show whether its
--- sphere is.
+-- Smallest circumscribing spheres: that of a Full cell is empty, and the Full cells that have an
+-- edge or a triangle show whether its sphere is.
 use Rattle.std.specs.Prelude.{◌≡◌, ℕ, pos, true, ◌*ℤ◌, ◌≤ℤ◌, List, ◌↔◌}
 use Rattle.conv_laws.specs.Places.{Place}
 use Rattle.conv_laws.specs.Spheres.{edge_power, triangle_power}
@@ -28,7 +28,8 @@ EdgeByCells =
     (s : List ℕ) (a b c d : ℕ) → AreKeys s → is_full_cell s a b c d ≡ true →
     ((x y : ℕ) → is_full_cell s a b x y ≡ true → IsOffEdge a b x) ↔ ((e : ℕ) → IsIn e s → IsOffEdge a b e)
 
--- No point lies inside the sphere of a triangle of a Full cell exactly where no opposite point of its one or two Full cells does.
+-- No point lies inside the sphere of a triangle of a Full cell exactly where no
+-- opposite point of its one or two Full cells does.
 abbrev pub TriangleByCells : Type 0
 TriangleByCells =
     (s : List ℕ) (a b c d : ℕ) → AreKeys s → is_full_cell s a b c d ≡ true →

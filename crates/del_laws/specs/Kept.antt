@@ -12,7 +12,8 @@ use Rattle.del_laws.specs.Vertices.{is_full_cell, is_open_cell}
 abbrev pub FullIsKept : Type 0
 FullIsKept =
     (s : List ℕ) (a b c d m p : ℕ) → AreKeys s → IsKey p → ¬ (IsIn p s) →
-    is_full_cell s a b c d ≡ true → is_full_cell (with_point p s) a b c d ≡ not (is_in_conflict (Full (a ∷ b ∷ c ∷ d ∷ [])) m p)
+    is_full_cell s a b c d ≡ true →
+    is_full_cell (with_point p s) a b c d ≡ not (is_in_conflict (Full (a ∷ b ∷ c ∷ d ∷ [])) m p)
 
 -- an Open cell too, with any point of the set off its plane as its mate
 abbrev pub OpenIsKept : Type 0

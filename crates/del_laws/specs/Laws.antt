@@ -4,7 +4,20 @@ use Rattle.std.specs.Prelude.{false, ℕ, pos, true, ◌≡◌, ◌≤ℤ◌, �
 use Rattle.point_order.specs.Orientation.{orientation, is_collinear}
 use Rattle.point_order.specs.Heights.{height, lifted}
 use Rattle.point_order.specs.Sets.{IsIn}
-use Rattle.del_laws.specs.Cells.{Vertex, point, far, Full, Open, Cell, NoTies, IsConvex, IsSubset, IsSolid, Inside, IsOutside}
+use Rattle.del_laws.specs.Cells.{
+  Vertex,
+  point,
+  far,
+  Full,
+  Open,
+  Cell,
+  NoTies,
+  IsConvex,
+  IsSubset,
+  IsSolid,
+  Inside,
+  IsOutside,
+}
 use Rattle.del_laws.specs.Keys.{AreKeys}
 use Rattle.del_laws.specs.Vertices.{is_cell}
 
@@ -71,7 +84,8 @@ BetweenSets =
 -- a solid set has a point off the plane of any three points that are not on one line
 abbrev pub NoFlatTriple : Type 0
 NoFlatTriple =
-    (s : List ℕ) (a b c : ℕ) → IsSolid s → is_collinear a b c ≡ false → (f : ℕ) × IsIn f s × ¬ (orientation a b c f ≡ pos 0)
+    (s : List ℕ) (a b c : ℕ) → IsSolid s → is_collinear a b c ≡ false →
+    (f : ℕ) × IsIn f s × ¬ (orientation a b c f ≡ pos 0)
 
 -- in the plane of three points the side of the circle through them is the same as seen from every point above the plane
 abbrev pub AnyMate : Type 0

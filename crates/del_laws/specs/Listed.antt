@@ -86,7 +86,8 @@ cell_of _ _ _ _ = Open []
 
 -- four vertices that are a cell, and it is listed
 abbrev pub TestIsListed : Type 0
-TestIsListed = (s : List ℕ) → IsAscending s → AreKeys s → (w x y z : Vertex) → is_cell s w x y z ≡ true → IsIn (cell_of w x y z) (complex s)
+TestIsListed = (s : List ℕ) → IsAscending s → AreKeys s → (w x y z : Vertex) → is_cell s w x y z ≡ true →
+    IsIn (cell_of w x y z) (complex s)
 
 -- across a facet of a listed cell: another listed cell that has the facet, and no third has it
 pub record HasOtherCell (s : List ℕ) (c : Cell) (f : Facet) : Type 0 where
@@ -99,4 +100,5 @@ pub record HasOtherCell (s : List ℕ) (c : Cell) (f : Facet) : Type 0 where
 -- every facet of every listed cell lies in exactly two listed cells
 abbrev pub ListedFacets : Type 0
 ListedFacets =
-    (s : List ℕ) (c : Cell) (f : Facet) → IsAscending s → AreKeys s → IsIn c (complex s) → IsIn f (facets_of c) → HasOtherCell s c f
+    (s : List ℕ) (c : Cell) (f : Facet) → IsAscending s → AreKeys s → IsIn c (complex s) → IsIn f (facets_of c) →
+    HasOtherCell s c f

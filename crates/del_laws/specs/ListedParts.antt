@@ -1,4 +1,5 @@
--- Parts of the sorted list of a complex: closed parts, the cells at a point, every point, mates, and lists of empty cells.
+-- Parts of the sorted list of a complex: closed parts, the cells at a point,
+-- every point, mates, and lists of empty cells.
 use Rattle.std.specs.Prelude.{◌≡◌, ℕ, Bool, true, false, List, [], ◌∷◌}
 use Rattle.std.specs.List.Sorted.{IsStrictlySortedBy}
 use Rattle.point_order.specs.declared.cell.Cell.{Cell}
@@ -56,7 +57,8 @@ pub record HasListedAt (s : List ℕ) (e : ℕ) : Type 0 where
 abbrev pub ListedEveryPoint : Type 0
 ListedEveryPoint = (s : List ℕ) (e : ℕ) → IsAscending s → AreKeys s → is_solid s ≡ true → IsIn e s → HasListedAt s e
 
--- the Full cell on the inner side of a listed Open cell: the triple with its mate, the only listed cell on the triple but itself
+-- the Full cell on the inner side of a listed Open cell: the triple with its mate,
+-- the only listed cell on the triple but itself
 pub record HasMate (s : List ℕ) (a b c : ℕ) : Type 0 where
   pub mate : ℕ
   pub inside : IsIn mate s
@@ -66,7 +68,8 @@ pub record HasMate (s : List ℕ) (a b c : ℕ) : Type 0 where
 
 -- every listed Open cell has a mate
 abbrev pub ListedMate : Type 0
-ListedMate = (s : List ℕ) (a b c : ℕ) → IsAscending s → AreKeys s → IsIn (Open (a ∷ b ∷ c ∷ [])) (complex s) → HasMate s a b c
+ListedMate =
+    (s : List ℕ) (a b c : ℕ) → IsAscending s → AreKeys s → IsIn (Open (a ∷ b ∷ c ∷ [])) (complex s) → HasMate s a b c
 
 -- ---- lists of empty cells
 
@@ -88,7 +91,8 @@ pub record IsClosedList (s : List ℕ) (l : List Cell) : Type 0 where
 
 -- such a list is the complex, and the set is solid
 abbrev pub ClosedListIsComplex : Type 0
-ClosedListIsComplex = (s : List ℕ) (l : List Cell) → IsAscending s → AreKeys s → IsClosedList s l → (l ≡ complex s) × (is_solid s ≡ true)
+ClosedListIsComplex =
+    (s : List ℕ) (l : List Cell) → IsAscending s → AreKeys s → IsClosedList s l → (l ≡ complex s) × (is_solid s ≡ true)
 
 -- And the complex of a solid set is such a list. So each single flaw shows that a list is not the complex.
 abbrev pub ComplexIsClosedList : Type 0

@@ -35,13 +35,16 @@ rank s p (Full (a ∷ b ∷ c ∷ d ∷ [])) = ratio_by (orientation a b c d) (o
 rank s p (Open (a ∷ b ∷ c ∷ [])) = open_rank (is_open_cell (with_point p s) a b c)
 rank s p _ = last
 
--- across a triple of a Full cell that has p strictly on the other side of it than the cell's fourth point, the cell is nearer
+-- across a triple of a Full cell that has p strictly on the other side of it than
+-- the cell's fourth point, the cell is nearer
 abbrev pub NearerAcross : Type 0
 NearerAcross =
     (s : List ℕ) (p a b c x : ℕ) (y : Vertex) → AreKeys s → IsKey p → ¬ (IsIn p s) →
-    is_cell s (point a) (point b) (point c) (point x) ≡ true → is_cell s (point a) (point b) (point c) y ≡ true → ¬ (y ≡ point x) →
+    is_cell s (point a) (point b) (point c) (point x) ≡ true → is_cell s (point a) (point b) (point c) y ≡ true →
+    ¬ (y ≡ point x) →
     are_opposite a b c x p ≡ true →
-    is_before (rank s p (cell_of (point a) (point b) (point c) y)) (rank s p (cell_of (point a) (point b) (point c) (point x))) ≡ true
+    is_before (rank s p (cell_of (point a) (point b) (point c) y))
+    (rank s p (cell_of (point a) (point b) (point c) (point x))) ≡ true
 
 -- a Full cell that p is outside of has p strictly on the other side of one of its triples than the fourth point
 abbrev pub SomeTripleTowards : Type 0
@@ -55,4 +58,5 @@ abbrev pub NearerInside : Type 0
 NearerInside =
     (s : List ℕ) (p a b c d : ℕ) → AreKeys s → IsKey p → ¬ (IsIn p s) →
     is_open_cell s a b c ≡ true → is_full_cell s a b c d ≡ true → is_open_cell (with_point p s) a b c ≡ true →
-    is_before (rank s p (cell_of (point a) (point b) (point c) (point d))) (rank s p (cell_of (point a) (point b) (point c) far)) ≡ true
+    is_before (rank s p (cell_of (point a) (point b) (point c) (point d)))
+    (rank s p (cell_of (point a) (point b) (point c) far)) ≡ true

@@ -9,16 +9,19 @@ use Rattle.del_laws.specs.Cells.{Full, NoTies, IsConvex, OneOf, IsSolid, HasFull
 
 -- ---- crossing
 
--- across a facet that has e behind it the cell has a lower ratio of lifted determinant and orientation: it is closer to e
+-- across a facet that has e behind it the cell has a lower ratio of lifted
+-- determinant and orientation: it is closer to e
 abbrev pub CloserAcross : Type 0
 CloserAcross =
-    (h : ℕ → ℕ) (s : List ℕ) (a b c d f e : ℕ) → NoTies h s → Full h s a b c d → Full h s a c b f → orientation a b c e <ℤ pos 0 →
+    (h : ℕ → ℕ) (s : List ℕ) (a b c d f e : ℕ) → NoTies h s → Full h s a b c d → Full h s a c b f →
+    orientation a b c e <ℤ pos 0 →
     (lifted h a c b f e *ℤ orientation a b c d) <ℤ (lifted h a b c d e *ℤ orientation a c b f)
 
 -- across a facet that has e before it the cell is farther from e
 abbrev pub FartherAcross : Type 0
 FartherAcross =
-    (h : ℕ → ℕ) (s : List ℕ) (a b c d f e : ℕ) → NoTies h s → Full h s a b c d → Full h s a c b f → pos 0 <ℤ orientation a b c e →
+    (h : ℕ → ℕ) (s : List ℕ) (a b c d f e : ℕ) → NoTies h s → Full h s a b c d → Full h s a c b f →
+    pos 0 <ℤ orientation a b c e →
     (lifted h a b c d e *ℤ orientation a c b f) <ℤ (lifted h a c b f e *ℤ orientation a b c d)
 
 -- away from every point, in the set or not, some Open cell looks
@@ -40,17 +43,19 @@ EveryPoint = (h : ℕ → ℕ) (s : List ℕ) (e : ℕ) → NoTies h s → IsCon
 -- a Full cell that is not in conflict with p, and does not have it, has p behind one of its facets
 abbrev pub SomeFacetBehind : Type 0
 SomeFacetBehind =
-    (h : ℕ → ℕ) (s : List ℕ) (a b c d p : ℕ) → IsConvex h (p ∷ s) → Full h s a b c d → pos 0 ≤ℤ lifted h a b c d p → ¬ (OneOf p a b c d) →
+    (h : ℕ → ℕ) (s : List ℕ) (a b c d p : ℕ) → IsConvex h (p ∷ s) → Full h s a b c d → pos 0 ≤ℤ lifted h a b c d p →
+    ¬ (OneOf p a b c d) →
     IsBehind h s p
 
 -- crossing such a facet leads to a closer Full cell or to an Open cell in conflict
 abbrev pub CrossingTowards : Type 0
-CrossingTowards = (h : ℕ → ℕ) (s : List ℕ) (a b c d p : ℕ) → NoTies h s → Full h s a b c d → orientation a b c p <ℤ pos 0 → Crossed h s a b c d p
+CrossingTowards = (h : ℕ → ℕ) (s : List ℕ) (a b c d p : ℕ) → NoTies h s → Full h s a b c d →
+    orientation a b c p <ℤ pos 0 → Crossed h s a b c d p
 
 -- ---- nearness
 
--- First the Open cells in conflict with the point, then the Full cells by the ratio n / (d + 1) of lifted determinant and
--- orientation, and last the other Open cells.
+-- First the Open cells in conflict with the point, then the Full cells by the ratio n / (d + 1) of lifted determinant
+-- and orientation, and last the other Open cells.
 pub data Rank : Type 0 where
   first : Rank
   ratio : (n : ℤ) (d : ℕ) → Rank
@@ -66,8 +71,8 @@ is_before (ratio n d) (ratio m e) = lt_z (n *ℤ pos (suc e)) (m *ℤ pos (suc d
 is_before (ratio n d) last = true
 is_before last r = false
 
--- Of the cells in a list, fewer are nearer than the nearer of two that is in the list. So a walk that comes nearer at each step,
--- over cells of one list, ends.
+-- Of the cells in a list, fewer are nearer than the nearer of two that is in the list. So a walk that comes nearer
+-- at each step, over cells of one list, ends.
 abbrev pub FewerAreNearer : Type 0 → Type 0
 FewerAreNearer X =
     (rank : X → Rank) (x y : X) (held : List X) → is_before (rank y) (rank x) ≡ true → IsMember y held →

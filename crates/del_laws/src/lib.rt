@@ -1,21 +1,65 @@
 //! The laws of perturbed Delaunay complexes of points with whole coordinates.
 //!
-//! A cell is four vertices in any order: four points of the set whose sphere has no point inside (a Full cell), or three points of
-//! the hull and the infinite vertex (an Open cell). Each function here does nothing, and its contract is a law. The definitions
-//! are in `specs/`, and the lemmas that crates above cite are in `proofs/`. `docs/GEOMETRY.md` tells the laws in order.
+//! A cell is four vertices in any order: four points of the set whose sphere has no point inside (a Full cell), or
+//! three points of the hull and the infinite vertex (an Open cell). Each function here does nothing, and its contract
+//! is a law. The definitions are in `specs/`, and the lemmas that crates above cite are in `proofs/`.
+//! `docs/GEOMETRY.md` tells the laws in order.
 //!
-//! Most laws are for any heights that have no ties and are convex, as far as they need these facts. `perturbed_heights` says that
-//! the heights of the complex are such.
+//! Most laws are for any heights that have no ties and are convex, as far as they need these facts. `perturbed_heights`
+//! says that the heights of the complex are such.
 #![tactic(auto)]
 
-ghost use Rattle.del_laws.specs.Laws.{SwapFirst, SwapMiddle, SwapLast, FacetLaw, NoFlatTriple, AnyMate, AcrossFull, AcrossOpen, OneFullOnASide, OneOpenOnASide, SmallerSet, BetweenSets, FullStays, OpenStays, KeysHaveNoTies, KeysAreConvex, TestOfCells};
-ghost use Rattle.del_laws.specs.Walks.{CloserAcross, FartherAcross, AwayFromAPoint, SolidHasCells, EveryPoint, SomeFacetBehind, CrossingTowards, FewerAreNearer};
+ghost use Rattle.del_laws.specs.Laws.{
+  SwapFirst,
+  SwapMiddle,
+  SwapLast,
+  FacetLaw,
+  NoFlatTriple,
+  AnyMate,
+  AcrossFull,
+  AcrossOpen,
+  OneFullOnASide,
+  OneOpenOnASide,
+  SmallerSet,
+  BetweenSets,
+  FullStays,
+  OpenStays,
+  KeysHaveNoTies,
+  KeysAreConvex,
+  TestOfCells,
+};
+ghost use Rattle.del_laws.specs.Walks.{
+  CloserAcross,
+  FartherAcross,
+  AwayFromAPoint,
+  SolidHasCells,
+  EveryPoint,
+  SomeFacetBehind,
+  CrossingTowards,
+  FewerAreNearer,
+};
 ghost use Rattle.del_laws.specs.Parts.{StarLaw, ClosedPart, CellsAtAVertex, EmptyCells};
 ghost use Rattle.del_laws.specs.Kept.{FullIsKept, OpenIsKept};
 ghost use Rattle.del_laws.specs.EmptySpheres.{CellsAreEmpty, EdgeByCells, TriangleByCells};
 ghost use Rattle.del_laws.specs.Nearness.{NearerAcross, NearerInside, SomeTripleTowards};
-ghost use Rattle.del_laws.specs.Listed.{DefinitionIsCell, ListedIsCell, CellIsListed, TestIsListed, ComplexIsSorted, SameMembers, ListedFacets};
-ghost use Rattle.del_laws.specs.ListedParts.{ListedStar, ListedPart, ListedAtAPoint, ListedEveryPoint, ListedMate, ClosedListIsComplex, ComplexIsClosedList};
+ghost use Rattle.del_laws.specs.Listed.{
+  DefinitionIsCell,
+  ListedIsCell,
+  CellIsListed,
+  TestIsListed,
+  ComplexIsSorted,
+  SameMembers,
+  ListedFacets,
+};
+ghost use Rattle.del_laws.specs.ListedParts.{
+  ListedStar,
+  ListedPart,
+  ListedAtAPoint,
+  ListedEveryPoint,
+  ListedMate,
+  ClosedListIsComplex,
+  ComplexIsClosedList,
+};
 ghost use Rattle.del_laws.specs.PointSets.{PointSet, has, solid, cell, vertices, plus, minus};
 ghost use Rattle.del_laws.specs.Base.{Base};
 
@@ -31,7 +75,8 @@ pub fn facet_law()
     ensures { FacetLaw }
 {}
 
-/// What lies on the two sides of a triple of points: one cell on each, and of an Open cell the inner side has a Full one.
+/// What lies on the two sides of a triple of points: one cell on each, and of
+/// an Open cell the inner side has a Full one.
 pub fn across_a_triple()
     ensures full { AcrossFull }
     ensures open { AcrossOpen }
@@ -39,7 +84,8 @@ pub fn across_a_triple()
     ensures one_open { OneOpenOnASide }
 {}
 
-/// Planes of three points: a solid set is not in one, and in it the circle through the three does not depend on the fourth point.
+/// Planes of three points: a solid set is not in one, and in it the circle through the
+/// three does not depend on the fourth point.
 pub fn plane_of_a_triple()
     ensures off { NoFlatTriple }
     ensures any_mate { AnyMate }
@@ -78,7 +124,8 @@ pub fn every_point()
     ensures { EveryPoint }
 {}
 
-/// From a Full cell not in conflict with a point some facet leads towards it: to a closer Full cell, or to an Open cell in conflict.
+/// From a Full cell not in conflict with a point some facet leads towards it: to a closer
+/// Full cell, or to an Open cell in conflict.
 pub fn walk_towards_a_point()
     ensures behind { SomeFacetBehind }
     ensures crossing { CrossingTowards }
@@ -161,29 +208,32 @@ pub fn listed_parts()
     ensures at_a_point { ListedAtAPoint }
 {}
 
-/// A sorted list of empty cells, not none, in which every facet of a member lies in a second member, is the complex of the set, and
-/// the set is solid. The complex of a solid set is such a list; so each single flaw shows that a list is not the complex.
+/// A sorted list of empty cells, not none, in which every facet of a member lies in a second member, is
+/// the complex of the set, and the set is solid. The complex of a solid set is such a list; so each single
+/// flaw shows that a list is not the complex.
 pub fn closed_lists()
     ensures complex { ClosedListIsComplex }
     ensures closed { ComplexIsClosedList }
 {}
 
-/// A cell of a set is a cell of the set with one more point exactly where the test of conflict says that it is not in conflict.
+/// A cell of a set is a cell of the set with one more point exactly where the test of
+/// conflict says that it is not in conflict.
 pub fn kept_cells()
     ensures full { FullIsKept }
     ensures open { OpenIsKept }
 {}
 
-/// The steps of a walk towards a point that is not in the set, over cells of the complex: each leads to a nearer cell, and a Full
-/// cell that the point is outside of has a triple to cross. `fewer_are_nearer` says that such a walk ends.
+/// The steps of a walk towards a point that is not in the set, over cells of the complex: each leads to a nearer cell,
+/// and a Full cell that the point is outside of has a triple to cross. `fewer_are_nearer` says that such a walk ends.
 pub fn steps_of_a_walk()
     ensures across { NearerAcross }
     ensures inside { NearerInside }
     ensures towards { SomeTripleTowards }
 {}
 
-/// Smallest circumscribing spheres, the plain ones and not the perturbed: that of a Full cell has no point strictly inside, and whether
-/// that of an edge or a triangle of a Full cell has one shows in the Full cells that have the edge or the triangle.
+/// Smallest circumscribing spheres, the plain ones and not the perturbed: that of a Full cell has no point
+/// strictly inside, and whether that of an edge or a triangle of a Full cell has one shows in the Full
+/// cells that have the edge or the triangle.
 pub fn smallest_spheres()
     ensures cell { CellsAreEmpty }
     ensures edge { EdgeByCells }

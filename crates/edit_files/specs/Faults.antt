@@ -1,5 +1,26 @@
 -- The one fault of a text that is of no file.
-use Rattle.std.specs.Prelude.{◌≡◌, ℕ, Bool, true, false, List, [], ◌∷◌, ◌++◌, ◌+◌, ◌<◌, ◌⊎◌, length, codes, drop, not, ◌||◌, nat_le, IsTrue, if◌then◌else◌}
+use Rattle.std.specs.Prelude.{
+  ◌≡◌,
+  ℕ,
+  Bool,
+  true,
+  false,
+  List,
+  [],
+  ◌∷◌,
+  ◌++◌,
+  ◌+◌,
+  ◌<◌,
+  ◌⊎◌,
+  length,
+  codes,
+  drop,
+  not,
+  ◌||◌,
+  nat_le,
+  IsTrue,
+  if◌then◌else◌,
+}
 use Rattle.std.specs.List.{list_any, count_by}
 use Rattle.std.specs.Str.{bytes_eq}
 use Rattle.edit_files.specs.declared.fault.Why.{Why}
@@ -14,7 +35,8 @@ use Rattle.edit_files.specs.Grammar.{AreFileLines, IsFile, radius_limit}
 -- the lines are the first lines of the text of some file
 abbrev pub AreFirstLines : ℕ → List (List ℕ) → Type 0
 AreFirstLines limit front =
-    (text : List ℕ) × (file : Content) × IsFile limit text file × (rest : List (List ℕ)) × (lines_of text ≡ front ++ rest)
+    (text : List ℕ) × (file : Content) × IsFile limit text file × (rest : List (List ℕ))
+    × (lines_of text ≡ front ++ rest)
 
 -- The line behind `front` is the first that no file has there.
 pub record IsBadLine (limit : ℕ) (lines front : List (List ℕ)) (line : List ℕ) : Type 0 where
@@ -29,14 +51,16 @@ has word lines = list_any (λ line. bytes_eq line word) lines
 
 -- the line is one of the four section words
 abbrev pub is_word : List ℕ → Bool
-is_word line = bytes_eq line (codes "points") || bytes_eq line (codes "edits") || bytes_eq line (codes "radii") || bytes_eq line (codes "end")
+is_word line = bytes_eq line (codes "points") || bytes_eq line (codes "edits") || bytes_eq line (codes "radii")
+    || bytes_eq line (codes "end")
 
 -- the lines that follow the word
 abbrev pub lines_after : List ℕ → List (List ℕ) → List (List ℕ)
 lines_after word [] = []
 lines_after word (line ∷ lines) = if bytes_eq line word then lines else lines_after word lines
 
--- A line behind `front` may be no line of a list: it is line 1 or 2, or it stands behind `end`, or it is a section word.
+-- A line behind `front` may be no line of a list: it is line 1 or 2, or it
+-- stands behind `end`, or it is a section word.
 abbrev pub IsForWords : List (List ℕ) → List ℕ → Type 0
 IsForWords front line = (length front < 2) ⊎ IsTrue (has (codes "end") front) ⊎ IsTrue (is_word line)
 
@@ -47,8 +71,8 @@ is_full limit front =
     then nat_le radius_limit (length (lines_after (codes "radii") front))
     else nat_le limit (count_by (λ line. not (is_word line)) (drop 1 front))
 
--- the form that lines have: that of radius lines, where their word is there; else that of edit lines, where theirs is; else
--- that of point lines
+-- the form that lines have: that of radius lines, where their word is there; else that of edit
+-- lines, where theirs is; else that of point lines
 abbrev pub HasFormIn : Bool → Bool → List ℕ → Type 0
 HasFormIn true edits line = IsNumber line
 HasFormIn false true line = HasEditForm line

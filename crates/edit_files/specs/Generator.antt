@@ -23,7 +23,8 @@ draw start n = state_after start n / 131072
 abbrev pub drawn_point : ℕ → ℕ → ℕ
 drawn_point start n = draw start (n + 1) * 268435456 + draw start (n + 2) * 16384 + draw start (n + 3)
 
--- how many draws there were before edit line i, the first being 1: each line before it made three, but every fourth made none
+-- how many draws there were before edit line i, the first being 1: each line
+-- before it made three, but every fourth made none
 abbrev pub draws_before : ℕ → ℕ
 draws_before i = 3 * (i - 1 - (i - 1) / 4)
 
@@ -39,11 +40,16 @@ corners = 0 ∷ 16383 * 268435456 ∷ 16383 * 16384 ∷ 16383 ∷ []
 abbrev pub back_to : ℕ → Edit
 back_to p = if is_among p corners then Add p else Take p
 
--- edit line i: every fourth goes back to the point of the line before the last, and all others add the point that they draw
+-- edit line i: every fourth goes back to the point of the line before the last,
+-- and all others add the point that they draw
 abbrev pub edit_line : ℕ → ℕ → Edit
 edit_line start i = if i % 4 == 0 then back_to (drawn_by start (i - 2)) else Add (drawn_by start i)
 
 -- the file of a count and a start
 abbrev pub generated : ℕ → ℕ → Content
 generated count start =
-    record { points = corners; edits = map (edit_line start) (range_with_len 1 count); radii = 16384 ∷ 262144 ∷ 4194304 ∷ [] }
+    record {
+      points = corners;
+      edits = map (edit_line start) (range_with_len 1 count);
+      radii = 16384 ∷ 262144 ∷ 4194304 ∷ [];
+    }

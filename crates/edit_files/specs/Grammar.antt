@@ -17,7 +17,8 @@ pub record AreFileLines (limit : ℕ) (lines : List (List ℕ)) (file : Content)
   pub points : List (List ℕ)
   pub edits : List (List ℕ)
   pub radii : List (List ℕ)
-  pub order : lines ≡ codes "mesh3 1" ∷ codes "points" ∷ points ++ codes "edits" ∷ edits ++ codes "radii" ∷ radii ++ codes "end" ∷ []
+  pub order : lines ≡ codes "mesh3 1" ∷ codes "points" ∷ points ++ codes "edits" ∷ edits ++ codes "radii" ∷ radii
+      ++ codes "end" ∷ []
   pub point_lines : AllZip IsPointLine points file.points
   pub edit_lines : AllZip IsEditLine edits file.edits
   pub radius_lines : AllZip IsRadiusLine radii file.radii

@@ -1,5 +1,31 @@
 -- Judging a text line by line, as the reader does. That this decides the grammar and finds its fault is proved.
-use Rattle.std.specs.Prelude.{◌≡◌, ℕ, Bool, List, [], ◌∷◌, ◌++◌, ◌+◌, ◌*◌, ◌-◌, ◌^◌, ◌&&◌, length, codes, min, nat_lt, nat_le, ◌==◌, if◌then◌else◌, Option, Some, None, Result, Ok, Err}
+use Rattle.std.specs.Prelude.{
+  ◌≡◌,
+  ℕ,
+  Bool,
+  List,
+  [],
+  ◌∷◌,
+  ◌++◌,
+  ◌+◌,
+  ◌*◌,
+  ◌-◌,
+  ◌^◌,
+  ◌&&◌,
+  length,
+  codes,
+  min,
+  nat_lt,
+  nat_le,
+  ◌==◌,
+  if◌then◌else◌,
+  Option,
+  Some,
+  None,
+  Result,
+  Ok,
+  Err,
+}
 use Rattle.std.specs.List.{slice_split}
 use Rattle.std.specs.Char.{is_ascii_digit}
 use Rattle.std.specs.Str.{bytes_eq}
@@ -119,8 +145,10 @@ abbrev pub listed : List ℕ → Bool → Result State Why → Result State Why
 listed line full taken = if is_word line then Err Section else (if full then Err TooMany else taken)
 
 abbrev pub step_at : ℕ → Place → Content → List ℕ → Result State Why
-step_at limit places.Title taken line = if bytes_eq line (codes "mesh3 1") then move places.Heading taken else Err Section
-step_at limit places.Heading taken line = if bytes_eq line (codes "points") then move places.Points taken else Err Section
+step_at limit places.Title taken line =
+    if bytes_eq line (codes "mesh3 1") then move places.Heading taken else Err Section
+step_at limit places.Heading taken line =
+    if bytes_eq line (codes "points") then move places.Points taken else Err Section
 step_at limit places.Points taken line =
     if bytes_eq line (codes "edits") then move places.Edits taken
     else listed line (nat_le limit (length taken.points + length taken.edits)) (with_point taken (point line))

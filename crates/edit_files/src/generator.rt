@@ -3,7 +3,13 @@
 ghost use Rattle.std.specs.Prelude.{◌≡◌, ◌<◌, ◌≤◌, ◌+◌, ◌*◌, ◌/◌, map, IfOk};
 ghost use Rattle.std.specs.List.{range_with_len};
 ghost use Rattle.edit_files.specs.Content.{content};
-ghost use Rattle.edit_files.specs.Generator.{next_state, back_to as back_to_of, corners as corners_of, edit_line, generated};
+ghost use Rattle.edit_files.specs.Generator.{
+  next_state,
+  back_to as back_to_of,
+  corners as corners_of,
+  edit_line,
+  generated,
+};
 
 use crate::file::File;
 use edit_history::Edit;
@@ -104,8 +110,8 @@ fn edits(alloc: Global, count: u32, start: u32) -> Result<Vec<Edit>, AllocError>
 /// The file of a count and a start: four points, so many edits, and the radii 16384, 262144 and 4194304.
 ///
 /// Every fourth edit takes the point that the edit before the last added, or adds it again where it is one of the four
-/// points. All others add a point that is drawn, from the state `start` on. `count` is at most 262,140 and `start` is below
-/// 2^31.
+/// points. All others add a point that is drawn, from the state `start` on. `count` is
+/// at most 262,140 and `start` is below 2^31.
 ///
 /// # Errors
 ///

@@ -17,12 +17,14 @@ pub fn one_file()
 
 /// A text that is of a file has no fault.
 pub fn file_has_no_fault()
-    ensures { (limit : ℕ) (bytes : List ℕ) (f : Content) (fault : Fault) → IsFile limit bytes f → IsFault limit bytes fault → ⊥ }
+    ensures { (limit : ℕ) (bytes : List ℕ) (f : Content) (fault : Fault) → IsFile limit bytes f →
+        IsFault limit bytes fault → ⊥ }
 {}
 
 /// A text is of a file, or it has a fault.
 pub fn file_or_fault()
-    ensures { (limit : ℕ) (bytes : List ℕ) → ((f : Content) × IsFile limit bytes f) ⊎ ((fault : Fault) × IsFault limit bytes fault) }
+    ensures { (limit : ℕ) (bytes : List ℕ) →
+        ((f : Content) × IsFile limit bytes f) ⊎ ((fault : Fault) × IsFault limit bytes fault) }
 {}
 
 /// A text has at most one fault.

@@ -5,7 +5,20 @@ ghost use Rattle.std.specs.Str.{bytes_eq};
 ghost use Rattle.edit_files.specs.Content.{Content, content};
 ghost use Rattle.edit_files.specs.Grammar.{IsFile, line_limit};
 ghost use Rattle.edit_files.specs.Faults.{IsFault, is_word};
-ghost use Rattle.edit_files.specs.Judging.{State, state, step, step_at, move, listed, judged, ended, start, refused_at, Gives, Steps};
+ghost use Rattle.edit_files.specs.Judging.{
+  State,
+  state,
+  step,
+  step_at,
+  move,
+  listed,
+  judged,
+  ended,
+  start,
+  refused_at,
+  Gives,
+  Steps,
+};
 ghost use Rattle.edit_files.specs.declared.fault.Fault.{Fault};
 ghost use Rattle.edit_files.specs.declared.fault.Why.{Why};
 ghost use Rattle.edit_files.specs.declared.fault.Why.TheVariants.{Section};
@@ -96,7 +109,8 @@ fn is_section_word(line: &[u8]) -> bool
 
 // A line of a list may be no section word, and the list may not be full.
 fn admit(line: &[u8], is_full: bool) -> Result<(), Why>
-    ensures { (r : Result State Why) → MatchResult result (λ _. listed line.now is_full r ≡ r) (λ why. listed line.now is_full r ≡ Err why) }
+    ensures { (r : Result State Why) →
+        MatchResult result (λ _. listed line.now is_full r ≡ r) (λ why. listed line.now is_full r ≡ Err why) }
 {
     if is_section_word(line) {
         return Err(Why::Section);
@@ -138,7 +152,8 @@ impl Reader {
 
     // Takes a line that is to be this word, and goes on to the next place.
     fn take_word(&mut self, line: &[u8], word: &[u8], next: Place) -> Result<(), LineRefused>
-        ensures { Steps result (state self.new) (if bytes_eq line.now word.now then move next (content self.old.file) else Err Section) }
+        ensures { Steps result (state self.new)
+            (if bytes_eq line.now word.now then move next (content self.old.file) else Err Section) }
     {
         if line != word {
             return Err(LineRefused::Bad(Why::Section));

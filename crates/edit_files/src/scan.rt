@@ -1,6 +1,20 @@
 //! Lines, fields and numbers of a text.
 
-ghost use Rattle.std.specs.Prelude.{◌≡◌, ◌≢◌, ◌<◌, ◌+◌, ℕ, ◌∷◌, [], length, slice_index, MatchOption, IfSome, ◌==◌, ◌≤◌};
+ghost use Rattle.std.specs.Prelude.{
+  ◌≡◌,
+  ◌≢◌,
+  ◌<◌,
+  ◌+◌,
+  ℕ,
+  ◌∷◌,
+  [],
+  length,
+  slice_index,
+  MatchOption,
+  IfSome,
+  ◌==◌,
+  ◌≤◌,
+};
 ghost use Rattle.edit_files.specs.Lines.{lines_of};
 ghost use Rattle.std.specs.Str.Parse.{starts_with_minus};
 ghost use Rattle.edit_files.specs.Numbers.{after_minus};
@@ -11,7 +25,8 @@ const FAR: u64 = 1 << 40;
 
 // The first place of the byte.
 fn place_of(bytes: &[u8], wanted: u8) -> Option<usize>
-    ensures found { MatchOption result ((k : ℕ) → k < length bytes.now → slice_index bytes.now k ≢ wanted) (λ i. (i < length bytes.now) × (slice_index bytes.now i ≡ wanted)) }
+    ensures found { MatchOption result ((k : ℕ) → k < length bytes.now → slice_index bytes.now k ≢ wanted)
+        (λ i. (i < length bytes.now) × (slice_index bytes.now i ≡ wanted)) }
     ensures before { MatchOption result (⊥ → ⊥) (λ i. (k : ℕ) → k < i → slice_index bytes.now k ≢ wanted) }
 {
     for (i, b) in bytes.iter().enumerate() {
@@ -24,7 +39,8 @@ fn place_of(bytes: &[u8], wanted: u8) -> Option<usize>
 
 // The first line, without its line feed, and what follows it; none where no byte is left.
 pub fn first_line(bytes: &[u8]) -> Option<(&[u8], &[u8])>
-    ensures lines { MatchOption result (lines_of bytes.now ≡ []) (λ x. lines_of bytes.now ≡ x.0.now ∷ lines_of x.1.now) }
+    ensures lines { MatchOption result (lines_of bytes.now ≡ [])
+        (λ x. lines_of bytes.now ≡ x.0.now ∷ lines_of x.1.now) }
     ensures shorter { MatchOption result (⊥ → ⊥) (λ x. length x.1.now < length bytes.now) }
 {
     if bytes.is_empty() {
@@ -38,7 +54,8 @@ pub fn first_line(bytes: &[u8]) -> Option<(&[u8], &[u8])>
 
 // The first field of a line, up to its first space, and what follows the space.
 pub fn first_field(line: &[u8]) -> (&[u8], Option<&[u8]>)
-    ensures { MatchOption result.1 (fields_of line.now ≡ result.0.now ∷ []) (λ rest. fields_of line.now ≡ result.0.now ∷ fields_of rest.now) }
+    ensures { MatchOption result.1 (fields_of line.now ≡ result.0.now ∷ [])
+        (λ rest. fields_of line.now ≡ result.0.now ∷ fields_of rest.now) }
 {
     match place_of(line, b' ') {
         Some(end) => (&line[..end], Some(&line[end + 1..])),

@@ -23,8 +23,12 @@ IsFirstPlace points i = (m : ℕ) → m < i → slice_index points m ≢ slice_i
 pub record AreIndependent (points : List ℕ) (four : Four) : Type 0 where
   pub ascending : (four.first < four.second) × (four.second < four.third) × (four.third < four.fourth)
   pub within : four.fourth < length points
-  pub independent : is_flat (slice_index points four.first) (slice_index points four.second) (slice_index points four.third) (slice_index points four.fourth) ≡ false
-  pub first_places : IsFirstPlace points four.first × IsFirstPlace points four.second × IsFirstPlace points four.third × IsFirstPlace points four.fourth
+  pub independent :
+      is_flat (slice_index points four.first) (slice_index points four.second)
+      (slice_index points four.third) (slice_index points four.fourth) ≡ false
+  pub first_places :
+      IsFirstPlace points four.first × IsFirstPlace points four.second
+      × IsFirstPlace points four.third × IsFirstPlace points four.fourth
 
 -- so is an opening four
 abbrev pub FourLaw : Type 0
@@ -41,7 +45,8 @@ MoreLeaves = (h : List Entry) (e : Entry) → replay (h ++ e ∷ []) ≡ after (
 -- it is legal where the entry has the next number, and the reply of the points before
 abbrev pub MoreIsLegal : Type 0
 MoreIsLegal =
-    (h : List Entry) (e : Entry) → IsLegal h → e.number ≡ length h → e.reply ≡ reply_to (replay h) e.edit → IsLegal (h ++ e ∷ [])
+    (h : List Entry) (e : Entry) → IsLegal h → e.number ≡ length h → e.reply ≡ reply_to (replay h) e.edit →
+    IsLegal (h ++ e ∷ [])
 
 -- the history of one thread is legal
 abbrev pub LegalLaw : Type 0
@@ -53,7 +58,9 @@ ReplayLaw = (points : List ℕ) → IfSome (opening_four points) (λ _. replay (
 
 -- it keeps the file, for one worker
 abbrev pub KeepsLaw : Type 0
-KeepsLaw = (points : List ℕ) (edits : List Edit) → IfSome (opening_four points) (λ _. Keeps points edits 1 (one_thread points edits))
+KeepsLaw =
+    (points : List ℕ) (edits : List Edit) →
+    IfSome (opening_four points) (λ _. Keeps points edits 1 (one_thread points edits))
 
 -- a history leaves an ascending list, so a set
 abbrev pub LeavesSet : Type 0

@@ -17,7 +17,8 @@ place_of p = spread_of (x_of p / 1024) * 4 + spread_of (y_of p / 1024) * 2 + spr
 abbrev pub stretch_of : ℕ → ℕ
 stretch_of tag = if nat_lt tag 8192 then tag else 8192 + tag / 65536
 
--- the number by which pairs are arranged: their stretch of tags, then their place behind the one where the worker begins, then their tag
+-- the number by which pairs are arranged: their stretch of tags, then their place behind the
+-- one where the worker begins, then their tag
 abbrev pub key_of : ℕ → Pair → ℕ
 key_of begin pair = (stretch_of pair.0 * 4096 + (place_of (point_of pair.1) + begin) % 4096) * 4294967296 + pair.0
 

@@ -44,7 +44,8 @@ AscendAtPoint p q = point_of p.1 ≡ point_of q.1 → p.0 < q.0
 -- by number, then come those left over, by their tags.
 pub record ArePartly (lists : List (List Pair)) (left : List Pair) (entries : List Entry) : Type 0 where
   pub lines : IsPermutation (flat_map (λ l. l) lists) (map line_of entries ++ left)
-  pub order : (d e : Entry) → IsIn d entries → IsIn e entries → d.number < e.number → AscendAtPoint (line_of d) (line_of e)
+  pub order : (d e : Entry) → IsIn d entries → IsIn e entries → d.number < e.number →
+      AscendAtPoint (line_of d) (line_of e)
   pub behind : (d : Entry) (p : Pair) → IsIn d entries → IsIn p left → AscendAtPoint (line_of d) p
   pub later : AllPairs AscendAtPoint left
 

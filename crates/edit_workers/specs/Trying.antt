@@ -66,4 +66,5 @@ pub record IsDone (pair : Pair) (before left : List Pair) (old new : Standing) :
 
 -- one of the three
 abbrev pub IsWorkedOn : Pair → List Pair → List Pair → Standing → Standing → Type 0
-IsWorkedOn pair before left old new = FollowsLeft pair before left old new ⊎ (IsLeftOver pair before left old new ⊎ IsDone pair before left old new)
+IsWorkedOn pair before left old new =
+    FollowsLeft pair before left old new ⊎ (IsLeftOver pair before left old new ⊎ IsDone pair before left old new)

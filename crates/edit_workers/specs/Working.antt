@@ -1,5 +1,26 @@
 -- What the work on a list leaves.
-use Rattle.std.specs.Prelude.{◌≡◌, ℕ, ◌+◌, ◌-◌, ◌*◌, ◌<◌, ◌≤◌, Bool, true, false, not, List, [], ◌∷◌, ◌++◌, map, length, All, AllPairs, if◌then◌else◌}
+use Rattle.std.specs.Prelude.{
+  ◌≡◌,
+  ℕ,
+  ◌+◌,
+  ◌-◌,
+  ◌*◌,
+  ◌<◌,
+  ◌≤◌,
+  Bool,
+  true,
+  false,
+  not,
+  List,
+  [],
+  ◌∷◌,
+  ◌++◌,
+  map,
+  length,
+  All,
+  AllPairs,
+  if◌then◌else◌,
+}
 use Rattle.std.specs.List.{filter, flat_map}
 use Rattle.point_order.specs.Sets.{is_among}
 use Rattle.edit_history.specs.declared.history.Entry.{Entry}
@@ -28,14 +49,15 @@ LeavesLater l = AllPairs (λ x y. x.0 ≡ true → point_of x.1.1 ≡ point_of y
 -- how many pairs of a list share no point with an earlier one, nor with these points
 abbrev pub first_ones : List ℕ → List Pair → ℕ
 first_ones seen [] = 0
-first_ones seen (p ∷ l) = if is_among (point_of p.1) seen then first_ones seen l else first_ones (point_of p.1 ∷ seen) l + 1
+first_ones seen (p ∷ l) =
+    if is_among (point_of p.1) seen then first_ones seen l else first_ones (point_of p.1 ∷ seen) l + 1
 
 -- a pair of the list and its mark, with the steps that were taken for it
 abbrev pub Stretch : Type 0
 Stretch = Marked × List Act
 
--- For each pair that is left over by itself 64 claims failed, but where it shares its point with one of these or with an
--- earlier one that is left over.
+-- For each pair that is left over by itself 64 claims failed, but where it shares its point with one of
+-- these or with an earlier one that is left over.
 abbrev pub AreTried : List ℕ → List Stretch → Type 0
 AreTried over [] = Unit {0}
 AreTried over (s ∷ l) =
@@ -51,7 +73,12 @@ pub record AreEntriesOf (old : Standing) (pairs : List Pair) (entries : List Ent
 
 -- The pass made these entries, took these steps, and saw what it saw; else it is as before.
 pub record HasMade (old new : Standing) (entries : List Entry) (steps : List Act) : Type 0 where
-  pub new_is : new ≡ record old { left = old.left - length entries; seen = new.seen; made = old.made ++ entries; trail = old.trail ++ steps }
+  pub new_is : new ≡ record old {
+    left = old.left - length entries;
+    seen = new.seen;
+    made = old.made ++ entries;
+    trail = old.trail ++ steps;
+  }
   pub later : old.seen ≤ new.seen
   pub seen_all : All (λ e. e.number < new.seen) entries
 

@@ -1,16 +1,24 @@
-//! The order in which a worker makes its edits, where there are others: it stays in one place for a while, far from the others. So
-//! what it needs is still near its processor, and buckets are seldom in another's hands.
+//! The order in which a worker makes its edits, where there are others: it stays in one place for a while, far from the
+//! others. So what it needs is still near its processor, and buckets are seldom in another's hands.
 
 ghost use Rattle.std.specs.Prelude.{◌≡◌, ◌<◌, IfOk, length};
 ghost use Rattle.edit_workers.specs.Dealing.{AreAscending};
-ghost use Rattle.edit_workers.specs.Arranging.{spread_of, stretch_of as stretch_of_tag, place_of as place_of_point, key_of as key_of_pair, IsArranged, IsInPlace};
+ghost use Rattle.edit_workers.specs.Arranging.{
+  spread_of,
+  stretch_of as stretch_of_tag,
+  place_of as place_of_point,
+  key_of as key_of_pair,
+  IsArranged,
+  IsInPlace,
+};
 
 use crate::lists::List;
 use edit_history::Edit;
 use point_order::Point;
 use std::alloc::{AllocError, Global};
 
-// So many lines come in the order of the file, so that a mesh that is still small is fine everywhere before it grows in places.
+// So many lines come in the order of the file, so that a mesh that is still small is
+// fine everywhere before it grows in places.
 const EARLY: u32 = 8192;
 
 // Later ones whose tags lie in one stretch of so many come in the order of their places.
@@ -50,7 +58,8 @@ fn stretch_of(tag: u32) -> u32
     }
 }
 
-// The number by which pairs are arranged: their stretch, then their place behind the one where the worker begins, then their tag.
+// The number by which pairs are arranged: their stretch, then their place behind the
+// one where the worker begins, then their tag.
 fn key_of(pair: &(u32, Edit), begin: u32) -> u64
     requires { begin < 4096 }
     ensures { result ≡ key_of_pair begin pair.now }
@@ -80,8 +89,8 @@ fn arranged(alloc: Global, list: &List, number: u32, count: u32) -> Result<List,
     Ok(List { pairs })
 }
 
-/// The pairs in the order in which the worker with a number, of so many workers, makes them. Pairs of one point stay in their order. A
-/// worker that is alone makes them as they stand.
+/// The pairs in the order in which the worker with a number, of so many workers, makes them. Pairs of one point stay in
+/// their order. A worker that is alone makes them as they stand.
 ///
 /// # Errors
 /// Want of memory.

@@ -67,7 +67,8 @@ pub fn deal(alloc: Global, file: &File, four: [usize; 4], workers: u32) -> Resul
     requires workers { (0 < workers) × (workers ≤ 64) }
     requires lines { length file.now.points.items + length file.now.edits.items ≤ 2 ^ 32 }
     requires four { AreOpening file.now.points.items four }
-    ensures dealt { IfOk result (λ lists. lists_of lists ≡ dealt workers four (tagged_lines file.now.points.items file.now.edits.items)) }
+    ensures dealt { IfOk result (λ lists.
+        lists_of lists ≡ dealt workers four (tagged_lines file.now.points.items file.now.edits.items)) }
 {
     let mut lists = empty_lists(alloc, workers)?;
     for place in 0..file.points.len() + file.edits.len() {

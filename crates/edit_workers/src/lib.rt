@@ -2,7 +2,7 @@
 //!
 //! ```
 //! let four = find_four(&file.points)?;                     // a mesh has begun with these four lines
-//! let lists = deal(alloc, &file, four, 8)?;                // eight lists: lines of one point stand in one list, in file order
+//! let lists = deal(alloc, &file, four, 8)?;                // eight lists: the lines of one point in one of them
 //! let mesh = run_edits(rt, alloc, mesh, &lists, &gate)?;   // eight threads; what was busy too often comes at the end
 //! let kept = mesh.count();                                 // each line of the lists stands in the history once
 //! ```

@@ -51,11 +51,13 @@ fn work_all<G: Gate + Sync, R: Threads + Sync>(
     let (a, b) = join(
         rt,
         || -> Result<(Pass, Left), AllocError>
-            requires { IsSync R.row × IsSync G.row × CanRun table.now (pairs_in low.now) pass × (0 < count) × (count ≡ table.now.parts) }
+            requires { IsSync R.row × IsSync G.row × CanRun table.now (pairs_in low.now) pass × (0 < count)
+                × (count ≡ table.now.parts) }
             ensures { IfOk result (λ r. AreWorked (pairs_in low.entry.now) r.1.pairs.items pass r.0) }
         { work_all(rt, alloc, table, pass, low, count, gate) },
         || -> Result<(Pass, Left), AllocError>
-            requires { IsSync R.row × IsSync G.row × CanRun table.now (pairs_in high.now) other × (0 < count) × (count ≡ table.now.parts) }
+            requires { IsSync R.row × IsSync G.row × CanRun table.now (pairs_in high.now) other × (0 < count)
+                × (count ≡ table.now.parts) }
             ensures { IfOk result (λ r. AreWorked (pairs_in high.entry.now) r.1.pairs.items other r.0) }
         { work_all(rt, alloc, table, other, high, count, gate) },
     );
@@ -112,8 +114,8 @@ fn apply_all(alloc: Global, mut mesh: Mesh, pairs: &[(u32, Edit)]) -> Result<Mes
 /// The history goes on with each pair of the lists once, those of one point by their tags, and each entry by a number
 /// below the number of lists; with one list just its pairs in their order. The grid stays.
 ///
-/// There are to be 1 to 64 lists, with ascending tags in each and no point in two of them, and at most 2^32 entries with
-/// all that may come.
+/// There are to be 1 to 64 lists, with ascending tags in each and no point in two of them, and at
+/// most 2^32 entries with all that may come.
 ///
 /// # Errors
 /// Want of memory. The mesh is then dropped.

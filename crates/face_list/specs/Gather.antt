@@ -39,9 +39,10 @@ items_from first parts (c ∷ cells) = map (λ p. (p, first)) (parts c) ++ items
 abbrev pub AreItems : {K : Type 0} → ℕ → List (K × ℕ) → Type 0
 AreItems {K} count items = (i : K × ℕ) → IsIn i items → i.1 < count
 
--- The table has the keys of the Full cells' items, in order and each once, and each has the numbers of its items, in order and each
--- once: `sorted` are the items so.
-pub record Gathers {K : Type 0} (cmp : K → K → Ordering) (cells : List Cell) (items : List (K × ℕ)) (t : Table K) : Type 0 where
+-- The table has the keys of the Full cells' items, in order and each once, and each has the numbers of its items, in
+-- order and each once: `sorted` are the items so.
+pub record Gathers {K : Type 0} (cmp : K → K → Ordering) (cells : List Cell) (items : List (K × ℕ))
+    (t : Table K) : Type 0 where
   pub sorted : List (K × ℕ)
   pub order : IsStrictlySortedBy (item_cmp cmp) sorted
   pub same : (i : K × ℕ) → IsIn i sorted ↔ IsIn i items

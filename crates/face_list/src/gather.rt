@@ -88,7 +88,8 @@ fn keys_of_full<K: Ord + Copy>(
     Ok(keys)
 }
 
-// Puts the numbers of a key's items behind the others. Answers the items behind those: what was passed over matters to no later key.
+// Puts the numbers of a key's items behind the others. Answers the items behind those:
+// what was passed over matters to no later key.
 fn put_numbers<'a, K: Ord + Copy>(
     numbers: &mut Vec<u32>,
     items: &'a [(K, u32)],
@@ -97,7 +98,8 @@ fn put_numbers<'a, K: Ord + Copy>(
     requires { IsStrictlySortedBy (item_cmp K.cmp) items.now }
     ensures numbers { OnOk result (numbers.new.items ≡ numbers.old.items ++ numbers_of K.cmp items.now key) }
     ensures order { IfOk result (λ rest. IsStrictlySortedBy (item_cmp K.cmp) rest.now) }
-    ensures later { IfOk result (λ rest. (k : K) → K.cmp key k ≡ Less → numbers_of K.cmp rest.now k ≡ numbers_of K.cmp items.now k) }
+    ensures later { IfOk result (λ rest. (k : K) → K.cmp key k ≡ Less →
+        numbers_of K.cmp rest.now k ≡ numbers_of K.cmp items.now k) }
 {
     let mut rest = items;
     while let Some((first, others)) = rest.split_first() {
@@ -133,7 +135,8 @@ fn with_numbers<K: Ord + Copy>(
     ensures keys { IfOk result (λ t. t.keys.items ≡ keys.items) }
     ensures ends { IfOk result (λ t. length t.ends.items ≡ length keys.items) }
     ensures stops { IfOk result (λ t. AreStops 0 (length t.numbers.items) t.ends.items) }
-    ensures lists { IfOk result (λ t. stretches t.numbers.items 0 t.ends.items ≡ map (numbers_of K.cmp items.now) keys.items) }
+    ensures lists { IfOk result (λ t.
+        stretches t.numbers.items 0 t.ends.items ≡ map (numbers_of K.cmp items.now) keys.items) }
     ensures numbers { IfOk result (λ t. (n : ℕ) → IsIn n t.numbers.items → IsIn n (map (λ i. i.1) items.now)) }
 {
     let mut ends = Vec::with_capacity(alloc, keys.len())?;
@@ -150,8 +153,8 @@ fn with_numbers<K: Ord + Copy>(
     })
 }
 
-// Each key of a Full cell, in order, with the numbers of the cells of its items, in order. It is refused as want of memory where
-// there are more numbers than 32 bits count.
+// Each key of a Full cell, in order, with the numbers of the cells of its items, in order. It is refused as want of
+// memory where there are more numbers than 32 bits count.
 pub fn gather<R: Threads + Sync, K: Ord + Copy + Send>(
     rt: &R,
     alloc: Global,

@@ -1,9 +1,22 @@
 //! Laws of the lists of faces. The functions here do nothing: each contract is a law.
 
-ghost use Rattle.face_list.specs.Laws.{PointsInOrder, PointIsListed, ListedIsPoint, PartsInOrder, PartIsListed, ListedIsPart, FullCellsInOrder, FullCellIsListed, ListedIsFullCell, FullCellsOfComplex, PointsOfComplex};
+ghost use Rattle.face_list.specs.Laws.{
+  PointsInOrder,
+  PointIsListed,
+  ListedIsPoint,
+  PartsInOrder,
+  PartIsListed,
+  ListedIsPart,
+  FullCellsInOrder,
+  FullCellIsListed,
+  ListedIsFullCell,
+  FullCellsOfComplex,
+  PointsOfComplex,
+};
 
-/// The points of a list of cells ascend, none twice, and a point is among them exactly where a Full cell has it. The pairs and
-/// triples are in lexicographic order, none twice, and one is listed exactly where it is a part of a Full cell.
+/// The points of a list of cells ascend, none twice, and a point is among them exactly where a Full
+/// cell has it. The pairs and triples are in lexicographic order, none twice, and one is listed
+/// exactly where it is a part of a Full cell.
 pub fn faces_in_order()
     ensures points { PointsInOrder }
     ensures point { PointIsListed }
@@ -13,8 +26,8 @@ pub fn faces_in_order()
     ensures part_only { ListedIsPart }
 {}
 
-/// Of a list in the order of cells, as that of a complex is, the Full cells are in lexicographic order, none twice. In any list just the
-/// Full cells are listed.
+/// Of a list in the order of cells, as that of a complex is, the Full cells are in lexicographic order, none twice.
+/// In any list just the Full cells are listed.
 pub fn full_cells_in_order()
     ensures order { FullCellsInOrder }
     ensures of_complex { FullCellsOfComplex }

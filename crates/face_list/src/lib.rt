@@ -1,7 +1,7 @@
 //! The faces of a complex: its points, pairs, triples and Full cells, each with the cells that contain it.
 //!
-//! The definitions stand in `specs/Faces.antt`: the points, pairs and triples inside Full cells, each once and in order,
-//! and the cells that have all points of a face.
+//! The definitions stand in `specs/Faces.antt`: the points, pairs and triples inside Full cells, each once and in
+//! order, and the cells that have all points of a face.
 //!
 //! ```
 //! let cells = complex(alloc, &mesh)?;      // sorted, Full cells first
@@ -30,15 +30,16 @@ use point_order::Cell;
 use std::alloc::{AllocError, Global};
 use std::thread::Threads;
 
-/// The faces of the cells: the points, pairs and triples inside Full cells, each with the cells that contain it, and the
-/// cells themselves.
+/// The faces of the cells: the points, pairs and triples inside Full cells, each with the cells
+/// that contain it, and the cells themselves.
 ///
-/// A face is a part of a Full cell, and Open cells count among those that contain it. The list of cells may be any; for the
-/// sorted cells of a complex the Full cells come sorted too. `laws` says what the definitions come to: the lists of faces are
-/// strictly sorted and have exactly the parts of Full cells, and the points of a complex are all points of its set.
+/// A face is a part of a Full cell, and Open cells count among those that contain it. The list of cells may
+/// be any; for the sorted cells of a complex the Full cells come sorted too. `laws` says what the
+/// definitions come to: the lists of faces are strictly sorted and have exactly the parts of Full cells, and
+/// the points of a complex are all points of its set.
 ///
-/// The cells are gathered under their parts by sorting, with no pass over all pairs of cells and faces. Several threads sort, as
-/// many as there are processors; the faces are those that one thread would give.
+/// The cells are gathered under their parts by sorting, with no pass over all pairs of cells and faces. Several threads
+/// sort, as many as there are processors; the faces are those that one thread would give.
 ///
 /// # Errors
 /// Want of memory. Where 32 bits do not count the cells around all faces, there is none.

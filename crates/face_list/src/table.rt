@@ -3,8 +3,8 @@
 ghost use Rattle.std.specs.Prelude.{◌≡◌, ◌<◌, ◌≤◌, ◌∷◌, length, slice_index, slice_index_or};
 ghost use Rattle.face_list.specs.Tables.{AreStops, stretches};
 
-/// Keys, each with the numbers of its cells. The numbers of all keys stand in one list, one key's behind those of another, and
-/// `ends` says where those of each key end.
+/// Keys, each with the numbers of its cells. The numbers of all keys stand in one list, one key's behind those of
+/// another, and `ends` says where those of each key end.
 #[derive(Drop)]
 pub struct Table<K> {
     pub keys: Vec<K>,
@@ -39,7 +39,8 @@ impl<K: Copy> Table<K> {
         requires ends { length self.now.ends.items ≡ length self.now.keys.items }
         requires stops { AreStops 0 (length self.now.numbers.items) self.now.ends.items }
         ensures key { result.0 ≡ slice_index_or self.now.keys.items i result.0 }
-        ensures numbers { result.1.now ≡ slice_index_or (stretches self.now.numbers.items 0 self.now.ends.items) i result.1.now }
+        ensures numbers { result.1.now
+            ≡ slice_index_or (stretches self.now.numbers.items 0 self.now.ends.items) i result.1.now }
     {
         let start = start_of(&self.ends, i);
         let stop = stop_of(&self.ends, i, start, self.numbers.len());

@@ -16,7 +16,8 @@ pub record IsFace (s face : List ℕ) : Type 0 where
   pub inside : (p : ℕ) → IsIn p face → IsIn p cell
   pub distinct : AreDistinct face
 
--- the points of cells that are none of the face's: its link, where the cells are those that contain the face, Open ones too
+-- the points of cells that are none of the face's: its link, where the cells are
+-- those that contain the face, Open ones too
 abbrev pub link_of : List ℕ → List Cell → List ℕ
 link_of face cells = filter (λ p. not (is_among p face)) (flat_map points_of cells)
 

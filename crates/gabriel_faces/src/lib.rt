@@ -1,8 +1,9 @@
 //! Gabriel faces of a complex, judged by their links.
 //!
-//! A face is Gabriel where no point of the set lies strictly inside its smallest circumscribing sphere (Gabriel and Sokal;
-//! `Alpha_shape_3` of CGAL; Edelsbrunner and Mücke, Three-dimensional alpha shapes). Whether an edge or a triangle of a complex is
-//! need not be asked of all points: those of its link suffice, which are the other points of the cells that contain it.
+//! A face is Gabriel where no point of the set lies strictly inside its smallest circumscribing sphere (Gabriel
+//! and Sokal; `Alpha_shape_3` of CGAL; Edelsbrunner and Mücke, Three-dimensional alpha shapes). Whether an edge
+//! or a triangle of a complex is need not be asked of all points: those of its link suffice, which are the
+//! other points of the cells that contain it.
 //!
 //! ```
 //! let (tri, around) = faces.triple(index);  // of the faces of a complex
@@ -32,11 +33,12 @@ use small_spheres::{inside_edge, inside_triangle};
 
 /// Whether no point of the link lies strictly inside the smallest circumscribing sphere of the edge.
 ///
-/// Where the edge is one of a complex and the link is its own there, which is the other finite points of the cells that contain
-/// the edge, Open ones too, the answer is whether the edge is Gabriel: no point of the whole set lies inside.
+/// Where the edge is one of a complex and the link is its own there, which is the other finite points of the cells that
+/// contain the edge, Open ones too, the answer is whether the edge is Gabriel: no point of the whole set lies inside.
 pub fn gabriel_edge(a: Point, b: Point, link: &[Point]) -> bool
     ensures over_link { result ≡ is_empty_edge link.now a b }
-    ensures over_set { (s : List ℕ) → IsAscending s → AreKeys s → IsFace s (a ∷ b ∷ []) → IsLink s (a ∷ b ∷ []) link.now →
+    ensures over_set { (s : List ℕ) → IsAscending s → AreKeys s → IsFace s (a ∷ b ∷ []) →
+        IsLink s (a ∷ b ∷ []) link.now →
         result ≡ is_gabriel s (a ∷ b ∷ []) }
 {
     is_edge_empty(a, b, link)
@@ -44,11 +46,12 @@ pub fn gabriel_edge(a: Point, b: Point, link: &[Point]) -> bool
 
 /// Whether no point of the link lies strictly inside the smallest circumscribing sphere of the triangle.
 ///
-/// Where the triangle is one of a complex and the link is its own there, which is the opposite points of its one or two Full
-/// cells, the answer is whether the triangle is Gabriel: no point of the whole set lies inside.
+/// Where the triangle is one of a complex and the link is its own there, which is the opposite points of its one or two
+/// Full cells, the answer is whether the triangle is Gabriel: no point of the whole set lies inside.
 pub fn gabriel_triangle(a: Point, b: Point, c: Point, link: &[Point]) -> bool
     ensures over_link { result ≡ is_empty_triangle link.now a b c }
-    ensures over_set { (s : List ℕ) → IsAscending s → AreKeys s → IsFace s (a ∷ b ∷ c ∷ []) → IsLink s (a ∷ b ∷ c ∷ []) link.now →
+    ensures over_set { (s : List ℕ) → IsAscending s → AreKeys s → IsFace s (a ∷ b ∷ c ∷ []) →
+        IsLink s (a ∷ b ∷ c ∷ []) link.now →
         result ≡ is_gabriel s (a ∷ b ∷ c ∷ []) }
 {
     is_triangle_empty(a, b, c, link)

@@ -1,5 +1,5 @@
-//! Worked complexes, and which of their edges and triangles are Gabriel: found elsewhere, from centres and squared radii as fractions
-//! and all points of each set. Here each face is judged by its link.
+//! Worked complexes, and which of their edges and triangles are Gabriel: found elsewhere, from centres and squared
+//! radii as fractions and all points of each set. Here each face is judged by its link.
 
 use crate::{gabriel_edge, gabriel_triangle};
 use point_order::Point;
@@ -7,7 +7,8 @@ use std::alloc::Global;
 use std::process::Abort;
 use std::test::Fail;
 
-// A complex: its sorted points, its cells by digits, Full ones first, its edges and triangles, and those that are not Gabriel.
+// A complex: its sorted points, its cells by digits, Full ones first, its edges and
+// triangles, and those that are not Gabriel.
 #[derive(Drop)]
 struct Case<'a> {
     places: &'a [[i64; 3]],
@@ -69,8 +70,8 @@ fn judge(rt: &impl Abort, alloc: Global, case: &Case) -> Result<(), Fail> {
     Ok(())
 }
 
-// Squared radii: edges of the cube 1, diagonals of its sides 2, 34 is 3; triangles of the hull 2, 124 and 356 are 8/3 with the points
-// 0 and 7 inside, the other four 3.
+// Squared radii: edges of the cube 1, diagonals of its sides 2, 34 is 3; triangles of the hull 2, 124 and 356 are 8/3
+// with the points 0 and 7 inside, the other four 3.
 #[test]
 fn cube(rt: HostRuntime) -> Result<(), Fail> {
     let case = Case {

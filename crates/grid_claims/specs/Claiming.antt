@@ -1,5 +1,25 @@
 -- What a pass has done so far in a try.
-use Rattle.std.specs.Prelude.{◌≡◌, ℕ, ◌+◌, ◌-◌, ◌^◌, ◌<◌, ◌≤◌, List, [], ◌∷◌, ◌++◌, map, reverse, length, vec_capacity, Option, None, Some, IsSome}
+use Rattle.std.specs.Prelude.{
+  ◌≡◌,
+  ℕ,
+  ◌+◌,
+  ◌-◌,
+  ◌^◌,
+  ◌<◌,
+  ◌≤◌,
+  List,
+  [],
+  ◌∷◌,
+  ◌++◌,
+  map,
+  reverse,
+  length,
+  vec_capacity,
+  Option,
+  None,
+  Some,
+  IsSome,
+}
 use Rattle.atomic_table.specs.Seated.{TableId}
 use Rattle.edit_history.specs.declared.history.Edit.{Edit}
 use Rattle.edit_history.specs.declared.history.Entry.{Entry}
@@ -50,7 +70,10 @@ pub record AreHands (id : TableId) (buckets : ℕ) (w : Hands) : Type 0 where
 pub record HasClaimed (old new : Hands) (steps : List Act) : Type 0 where
   pub more : List ℕ
   pub order : new.order.items ≡ old.order.items ++ more
-  pub view : new.place.me.0 ≡ record old.place.me.0 { held = new.hold.places; trail = old.place.me.0.trail ++ (map Claim more ++ steps) }
+  pub view : new.place.me.0 ≡ record old.place.me.0 {
+    held = new.hold.places;
+    trail = old.place.me.0.trail ++ (map Claim more ++ steps);
+  }
 
 -- the step with which a try stops, after its claims
 abbrev pub last_step : Refused → List Act
@@ -77,7 +100,8 @@ ShowsOne hold = (s : List ℕ) × Shows hold s
 pub record IsPlan (v : View) (hold : InHand) (edit : Edit) (plan : Plan) : Type 0 where
   pub ready : IsReady v edit plan.reply
   pub key : IsKey (point_of edit)
-  pub change : (s : List ℕ) → Shows hold s → IsChange (complex s) (complex (after s edit)) plan.gone.items plan.fresh.items
+  pub change : (s : List ℕ) → Shows hold s →
+      IsChange (complex s) (complex (after s edit)) plan.gone.items plan.fresh.items
   pub gone : AreHeld hold plan.gone.items
   pub fresh : AreHeld hold plan.fresh.items
   pub mine : IsSome (bucket_at hold.places (bucket_of hold.grid (point_of edit)))
@@ -95,7 +119,8 @@ pub record IsGivingBack (old : Seated) (claims : List ℕ) (m : Seated) (hold : 
 
 -- there is room for the change
 abbrev pub HasRoomFor : InHand → Edit → Plan → Type 0
-HasRoomFor hold edit plan = hold.room ≡ record { swap = Some (plan.gone.items, plan.fresh.items); push = Some (point_of edit) }
+HasRoomFor hold edit plan =
+    hold.room ≡ record { swap = Some (plan.gone.items, plan.fresh.items); push = Some (point_of edit) }
 
 -- The edit was made after some history, and all buckets were given back.
 pub record IsFinished (tag : ℕ) (edit : Edit) (reply : Reply) (number : ℕ) (old new : Hands) : Type 0 where
@@ -117,7 +142,10 @@ pub record IsFinished (tag : ℕ) (edit : Edit) (reply : Reply) (number : ℕ) (
 
 -- All buckets were given back, the last one first; else the pass is as it was.
 pub record HasGivenBack (old new : Hands) : Type 0 where
-  pub view : new.place.me.0 ≡ record old.place.me.0 { held = new.hold.places; trail = old.place.me.0.trail ++ releases_of old.order.items }
+  pub view : new.place.me.0 ≡ record old.place.me.0 {
+    held = new.hold.places;
+    trail = old.place.me.0.trail ++ releases_of old.order.items;
+  }
 
 -- The cells were exchanged, and then the entry was put in.
 pub record IsBrought (gone fresh : List Cell) (e : Entry) (old new : InHand) : Type 0 where

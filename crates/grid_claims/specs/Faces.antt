@@ -1,5 +1,22 @@
 -- The running table seen as a board.
-use Rattle.std.specs.Prelude.{ℕ, ◌*◌, ◌==◌, ltb, List, [], ◌∷◌, ◌++◌, map, replicate, drop, slice_index_or, Option, None, Some, if◌then◌else◌}
+use Rattle.std.specs.Prelude.{
+  ℕ,
+  ◌*◌,
+  ◌==◌,
+  ltb,
+  List,
+  [],
+  ◌∷◌,
+  ◌++◌,
+  map,
+  replicate,
+  drop,
+  slice_index_or,
+  Option,
+  None,
+  Some,
+  if◌then◌else◌,
+}
 use Rattle.std.specs.List.{range_with_len}
 use Rattle.std.specs.Option.{option_map_or}
 use mathlib.Core.Option as maybe
@@ -27,11 +44,19 @@ plain v = record { first = v.first; parts = v.parts; left = v.left; seen = v.see
 
 -- and one that has no seat yet: it was made at what it has seen, and holds nothing
 abbrev pub plain_child : ℕ → Child → board.View
-plain_child count c = record { first = c.first; parts = c.parts; left = c.left; seen = c.seen; since = c.seen; held = replicate count None }
+plain_child count c = record {
+  first = c.first;
+  parts = c.parts;
+  left = c.left;
+  seen = c.seen;
+  since = c.seen;
+  held = replicate count None;
+}
 
 -- the live passes of a seat: its own, where it has a part, and the one that was split off from it and has no seat
 abbrev pub passes_of : ℕ → View → List board.View
-passes_of count v = (if ltb 0 v.parts then plain v ∷ [] else []) ++ option_map_or (λ c. plain_child count c ∷ []) v.child []
+passes_of count v =
+    (if ltb 0 v.parts then plain v ∷ [] else []) ++ option_map_or (λ c. plain_child count c ∷ []) v.child []
 
 -- those of all seats
 abbrev pub passes_in : ℕ → List View → List board.View

@@ -1,5 +1,26 @@
 -- What each step of the table makes of the pass that takes it, and what it tells.
-use Rattle.std.specs.Prelude.{◌≡◌, ◌≢◌, ◌⊎◌, ℕ, ◌+◌, ◌-◌, ◌^◌, ◌<◌, ◌≤◌, List, [], ◌∷◌, ◌++◌, length, max, replicate, slice_set, Option, None, Some}
+use Rattle.std.specs.Prelude.{
+  ◌≡◌,
+  ◌≢◌,
+  ◌⊎◌,
+  ℕ,
+  ◌+◌,
+  ◌-◌,
+  ◌^◌,
+  ◌<◌,
+  ◌≤◌,
+  List,
+  [],
+  ◌∷◌,
+  ◌++◌,
+  length,
+  max,
+  replicate,
+  slice_set,
+  Option,
+  None,
+  Some,
+}
 use Rattle.std.specs.Option.{option_map_or}
 use Rattle.atomic_table.specs.Table.{Me, Step, rest}
 use Rattle.edit_history.specs.declared.history.Edit.{Edit}
@@ -72,7 +93,13 @@ splits v parts left found = record v {
   left = v.left - left;
   seen = found;
   made = entries_by v.first (v.parts - parts) v.made;
-  child = Some (record { first = v.first + (v.parts - parts); parts = parts; left = left; seen = found; made = entries_by (v.first + (v.parts - parts)) parts v.made });
+  child = Some (record {
+    first = v.first + (v.parts - parts);
+    parts = parts;
+    left = left;
+    seen = found;
+    made = entries_by (v.first + (v.parts - parts)) parts v.made;
+  });
 }
 
 -- the seat that gave its child away
@@ -81,7 +108,21 @@ without_child v = record v { child = None }
 
 -- no pass
 abbrev pub no_pass : View
-no_pass = record { grid = 1; all = 1; opening = []; first = 0; parts = 0; left = 0; seen = 0; since = 0; held = None ∷ []; made = []; known = []; trail = []; child = None }
+no_pass = record {
+  grid = 1;
+  all = 1;
+  opening = [];
+  first = 0;
+  parts = 0;
+  left = 0;
+  seen = 0;
+  since = 0;
+  held = None ∷ [];
+  made = [];
+  known = [];
+  trail = [];
+  child = None;
+}
 
 -- the child in a seat of its own, which knows what the other one knows
 abbrev pub seated : View → Child → View
@@ -167,7 +208,9 @@ pub record Committed (tag : ℕ) (edit : Edit) (reply : Reply) (m : Seated) (fou
   pub known : StartsWith history m.0.known
   pub later : m.0.seen ≤ found
   pub few : found < 2 ^ 32
-  pub view : m'.0 ≡ commits m.0 (history ++ entry_of found m.0.first tag edit reply ∷ []) (entry_of found m.0.first tag edit reply)
+  pub view : m'.0
+      ≡ commits m.0 (history ++ entry_of found m.0.first tag edit reply ∷ [])
+      (entry_of found m.0.first tag edit reply)
   pub slots : m'.1 ≡ m.1
 
 -- A split: the load finds the ticket, and no allowance is above 2^32.

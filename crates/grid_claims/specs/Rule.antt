@@ -1,5 +1,22 @@
 -- The rule of the running table.
-use Rattle.std.specs.Prelude.{◌≡◌, ℕ, ◌+◌, ◌-◌, ◌<◌, ◌↔◌, List, [], length, map, replicate, Option, None, Some, IsSome, All}
+use Rattle.std.specs.Prelude.{
+  ◌≡◌,
+  ℕ,
+  ◌+◌,
+  ◌-◌,
+  ◌<◌,
+  ◌↔◌,
+  List,
+  [],
+  length,
+  map,
+  replicate,
+  Option,
+  None,
+  Some,
+  IsSome,
+  All,
+}
 use mathlib.Core.Option.{some}
 use lib.ListN.{get_elem?}
 use Rattle.atomic_table.specs.Table.{State}

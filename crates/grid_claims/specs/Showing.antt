@@ -40,7 +40,8 @@ pub record HasLooked (found : ℕ) (old new : Hands) : Type 0 where
   pub count : length history ≡ found
   pub stands : Stands old.hold history
   pub knows : StartsWith history old.place.me.0.known
-  pub own : old.place.me.0.made ≡ made_by old.place.me.0.first old.place.me.0.parts (length old.place.me.0.opening) history
+  pub own : old.place.me.0.made
+      ≡ made_by old.place.me.0.first old.place.me.0.parts (length old.place.me.0.opening) history
   pub later : old.place.me.0.seen ≤ found
   pub view : new.place.me.0 ≡ record old.place.me.0 {
     held = new.hold.places;

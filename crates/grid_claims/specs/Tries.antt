@@ -1,5 +1,23 @@
 -- What the calls make of a pass.
-use Rattle.std.specs.Prelude.{◌≡◌, ◌⊎◌, ℕ, ◌+◌, ◌-◌, ◌*◌, ◌^◌, ◌<◌, ◌≤◌, List, [], ◌∷◌, ◌++◌, map, max, length, IsPermutation}
+use Rattle.std.specs.Prelude.{
+  ◌≡◌,
+  ◌⊎◌,
+  ℕ,
+  ◌+◌,
+  ◌-◌,
+  ◌*◌,
+  ◌^◌,
+  ◌<◌,
+  ◌≤◌,
+  List,
+  [],
+  ◌∷◌,
+  ◌++◌,
+  map,
+  max,
+  length,
+  IsPermutation,
+}
 use Rattle.std.specs.List.{range_with_len}
 use Rattle.conv_laws.specs.Lists.{AreDistinct}
 use Rattle.point_order.specs.declared.cell.Cell.{Cell}
@@ -53,7 +71,8 @@ pub record AreClaimsAround (middle : List Act) (steps : List Act) : Type 0 where
 -- What the history was when an edit was committed. It is legal and begins with what the pass knew, its length is the
 -- number of the entry, and the reply is that of the points that it leaves; where the edit is exact, the claimed buckets
 -- are just those that it touches.
-pub record IsCommittedAfter (g : ℕ) (edit : Edit) (number : ℕ) (reply : Reply) (known : List Entry) (claims : List ℕ) (h : List Entry) : Type 0 where
+pub record IsCommittedAfter (g : ℕ) (edit : Edit) (number : ℕ) (reply : Reply) (known : List Entry) (claims : List ℕ)
+    (h : List Entry) : Type 0 where
   pub legal : IsLegal h
   pub knows : StartsWith h known
   pub count : length h ≡ number
@@ -84,7 +103,8 @@ IsStill old new = (new.table ≡ old.table) × (new.first ≡ old.first) × (new
 
 -- the pass took steps, and is else as before
 abbrev pub IsAsBefore : List Act → Standing → Standing → Type 0
-IsAsBefore middle old new = (steps : List Act) × AreClaimsAround middle steps × (new ≡ record old { trail = old.trail ++ steps })
+IsAsBefore middle old new =
+    (steps : List Act) × AreClaimsAround middle steps × (new ≡ record old { trail = old.trail ++ steps })
 
 -- The word is that of a pass whose number is below the number of parts, and none of these.
 pub record IsOthersWord (old : Standing) (word : ℕ) : Type 0 where
@@ -96,7 +116,8 @@ pub record IsOthersWord (old : Standing) (word : ℕ) : Type 0 where
 -- word. Memory: no claim failed.
 abbrev pub IsRefused : Standing → Refused → Standing → Type 0
 IsRefused old Spent new = (old.left ≡ 0) × (new ≡ old)
-IsRefused old (Busy bucket word) new = (0 < old.left) × IsOthersWord old word × IsAsBefore (Miss bucket word ∷ []) old new
+IsRefused old (Busy bucket word) new =
+    (0 < old.left) × IsOthersWord old word × IsAsBefore (Miss bucket word ∷ []) old new
 IsRefused old Memory new = (0 < old.left) × IsAsBefore [] old new
 
 -- the same of a snapshot, which asks for no allowance
@@ -158,5 +179,6 @@ pub record IsShown (h : List Entry) (cells : List Cell) (old new : Standing) : T
   pub new_is : new ≡ record old {
     seen = length h;
     known = h;
-    trail = old.trail ++ (map Claim (range_with_len 0 (buckets_of old.table)) ++ Look (length h) ∷ map Release releases);
+    trail = old.trail
+        ++ (map Claim (range_with_len 0 (buckets_of old.table)) ++ Look (length h) ∷ map Release releases);
   }

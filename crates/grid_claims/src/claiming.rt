@@ -5,7 +5,15 @@ ghost use Rattle.cell_store.specs.Buckets.{bucket_at};
 ghost use Rattle.cell_store.specs.Meshes.{StandsForSome};
 ghost use Rattle.grid_claims.specs.Faces.{buckets_of};
 ghost use Rattle.grid_claims.specs.Claiming.{AreHands, HasClaimed, HasStopped, ShowsOne, IsPlan, HasRoomFor};
-ghost use Rattle.grid_claims.specs.Looking.{HasMore, IsNewFor, IsThereFor, OnlyTouched, HasBucketOf, HoldsJust, IsDigFor};
+ghost use Rattle.grid_claims.specs.Looking.{
+  HasMore,
+  IsNewFor,
+  IsThereFor,
+  OnlyTouched,
+  HasBucketOf,
+  HoldsJust,
+  IsDigFor,
+};
 ghost use Rattle.point_order.specs.Sets.{is_among};
 ghost use Rattle.edit_history.specs.declared.history.Edit.TheVariants.{Add, Take};
 ghost use Rattle.hole_laws.specs.Edits.{GoesFrom};
@@ -27,8 +35,8 @@ use point_order::{Cell, Point};
 use std::alloc::Global;
 use vertex_removal::{Refill, RefillTurn};
 
-// After how many steps a walk is given up, and the buckets are looked through in turn. No cell is met twice, so it ends before on every
-// mesh that memory can hold.
+// After how many steps a walk is given up, and the buckets are looked through in turn. No cell is met twice, so it ends
+// before on every mesh that memory can hold.
 const STEPS: u64 = 1 << 40;
 
 /// What an edit is to change: its reply, the cells that go, and those that come.
@@ -46,7 +54,8 @@ pub(crate) fn ask(board: &Board, hands: &mut Hands, b: u32) -> Result<(), Refuse
     requires absent { bucket_at hands.old.hold.places b ≡ None }
     ensures hands { AreHands board.now.shared.table_id (buckets_of board.now.shared.key) hands.new }
     ensures order { OnOk result (hands.new.order.items ≡ hands.old.order.items ++ b ∷ []) }
-    ensures more { OnOk result (HasMore board.now.shared.table_id (buckets_of board.now.shared.key) hands.old hands.new) }
+    ensures more { OnOk result
+        (HasMore board.now.shared.table_id (buckets_of board.now.shared.key) hands.old hands.new) }
     ensures stands { OnOk result (StandsForSome hands.new.hold) }
     ensures stopped { IfErr result (λ why. HasStopped hands.old hands.new why) }
 {
@@ -71,7 +80,8 @@ fn refill_in(board: &Board, hands: &mut Hands, alloc: Global, p: Point) -> Resul
     requires mine { HasBucketOf hands.old.hold p }
     requires only { OnlyTouched hands.old.hold p }
     ensures hands { AreHands board.now.shared.table_id (buckets_of board.now.shared.key) hands.new }
-    ensures more { OnOk result (HasMore board.now.shared.table_id (buckets_of board.now.shared.key) hands.old hands.new) }
+    ensures more { OnOk result
+        (HasMore board.now.shared.table_id (buckets_of board.now.shared.key) hands.old hands.new) }
     ensures plan { IfOk result (λ plan. IsPlan hands.new.place.me.0 hands.new.hold (Take p) plan) }
     ensures stopped { IfErr result (λ why. HasStopped hands.old hands.new why) }
 {
@@ -110,7 +120,8 @@ fn claim_missing(board: &Board, hands: &mut Hands, b: u32) -> Result<(), Refused
     requires one { ShowsOne hands.old.hold }
     requires below { b < length hands.old.hold.places }
     ensures hands { AreHands board.now.shared.table_id (buckets_of board.now.shared.key) hands.new }
-    ensures more { OnOk result (HasMore board.now.shared.table_id (buckets_of board.now.shared.key) hands.old hands.new) }
+    ensures more { OnOk result
+        (HasMore board.now.shared.table_id (buckets_of board.now.shared.key) hands.old hands.new) }
     ensures held { OnOk result (IsSome (bucket_at hands.new.hold.places b)) }
     ensures stopped { IfErr result (λ why. HasStopped hands.old hands.new why) }
 {
@@ -120,13 +131,14 @@ fn claim_missing(board: &Board, hands: &mut Hands, b: u32) -> Result<(), Refused
     ask(board, hands, b)
 }
 
-// The walk with which the search starts: from a point that lies near, of the first bucket that has any, from that of the new point on
-// and round. Each bucket that is looked at is claimed.
+// The walk with which the search starts: from a point that lies near, of the first bucket that has any, from that of
+// the new point on and round. Each bucket that is looked at is claimed.
 fn start_walk(board: &Board, hands: &mut Hands, p: Point) -> Result<Option<Walk>, Refused>
     requires hands { AreHands board.now.shared.table_id (buckets_of board.now.shared.key) hands.old }
     requires one { ShowsOne hands.old.hold }
     ensures hands { AreHands board.now.shared.table_id (buckets_of board.now.shared.key) hands.new }
-    ensures more { OnOk result (HasMore board.now.shared.table_id (buckets_of board.now.shared.key) hands.old hands.new) }
+    ensures more { OnOk result
+        (HasMore board.now.shared.table_id (buckets_of board.now.shared.key) hands.old hands.new) }
     ensures point { IfOk result (λ walk. IfSome walk (λ w. w.point ≡ p)) }
     ensures walks { IfOk result (λ walk. IfSome walk (WalksFor hands.new.hold p)) }
     ensures stopped { IfErr result (λ why. HasStopped hands.old hands.new why) }
@@ -155,8 +167,10 @@ fn walk_on(board: &Board, hands: &mut Hands, start: Walk, p: Point) -> Result<Op
     requires point { start.point ≡ p }
     requires walks { WalksFor hands.old.hold p start }
     ensures hands { AreHands board.now.shared.table_id (buckets_of board.now.shared.key) hands.new }
-    ensures more { OnOk result (HasMore board.now.shared.table_id (buckets_of board.now.shared.key) hands.old hands.new) }
-    ensures goes { IfOk result (λ found. IfSome found (λ cell. (s : List ℕ) → Shows hands.new.hold s → GoesFrom s p cell)) }
+    ensures more { OnOk result
+        (HasMore board.now.shared.table_id (buckets_of board.now.shared.key) hands.old hands.new) }
+    ensures goes { IfOk result (λ found.
+        IfSome found (λ cell. (s : List ℕ) → Shows hands.new.hold s → GoesFrom s p cell)) }
     ensures stopped { IfErr result (λ why. HasStopped hands.old hands.new why) }
 {
     let mut walk = start;
@@ -183,7 +197,8 @@ fn first_in_turn(board: &Board, hands: &mut Hands, p: Point) -> Result<Cell, Ref
     requires new { IsNewFor hands.old.hold p }
     requires mine { HasBucketOf hands.old.hold p }
     ensures hands { AreHands board.now.shared.table_id (buckets_of board.now.shared.key) hands.new }
-    ensures more { OnOk result (HasMore board.now.shared.table_id (buckets_of board.now.shared.key) hands.old hands.new) }
+    ensures more { OnOk result
+        (HasMore board.now.shared.table_id (buckets_of board.now.shared.key) hands.old hands.new) }
     ensures goes { IfOk result (λ cell. (s : List ℕ) → Shows hands.new.hold s → GoesFrom s p cell) }
     ensures stopped { IfErr result (λ why. HasStopped hands.old hands.new why) }
 {
@@ -205,15 +220,16 @@ fn first_in_turn(board: &Board, hands: &mut Hands, p: Point) -> Result<Cell, Ref
     Ok(cell_in_conflict(&hands.hold, p))
 }
 
-// A cell that the new point takes away, by a walk from a point that lies near. Where it does not come to an end, buckets are looked
-// through in turn.
+// A cell that the new point takes away, by a walk from a point that lies near. Where it does not come to
+// an end, buckets are looked through in turn.
 fn first_cell(board: &Board, hands: &mut Hands, p: Point) -> Result<Cell, Refused>
     requires hands { AreHands board.now.shared.table_id (buckets_of board.now.shared.key) hands.old }
     requires one { ShowsOne hands.old.hold }
     requires new { IsNewFor hands.old.hold p }
     requires mine { HasBucketOf hands.old.hold p }
     ensures hands { AreHands board.now.shared.table_id (buckets_of board.now.shared.key) hands.new }
-    ensures more { OnOk result (HasMore board.now.shared.table_id (buckets_of board.now.shared.key) hands.old hands.new) }
+    ensures more { OnOk result
+        (HasMore board.now.shared.table_id (buckets_of board.now.shared.key) hands.old hands.new) }
     ensures goes { IfOk result (λ cell. (s : List ℕ) → Shows hands.new.hold s → GoesFrom s p cell) }
     ensures stopped { IfErr result (λ why. HasStopped hands.old hands.new why) }
 {
@@ -234,9 +250,11 @@ fn dig_on(board: &Board, hands: &mut Hands, alloc: Global, dig: &mut Dig) -> Res
     requires one { ShowsOne hands.old.hold }
     requires digs { IsDigFor hands.old.hold dig.old }
     ensures hands { AreHands board.now.shared.table_id (buckets_of board.now.shared.key) hands.new }
-    ensures more { OnOk result (HasMore board.now.shared.table_id (buckets_of board.now.shared.key) hands.old hands.new) }
+    ensures more { OnOk result
+        (HasMore board.now.shared.table_id (buckets_of board.now.shared.key) hands.old hands.new) }
     ensures point { OnOk result (dig.new.point ≡ dig.old.point) }
-    ensures done { OnOk result ((s : List ℕ) → Shows hands.new.hold s → NoneIsNeeded hands.new.hold s dig.new.point × IsDoneIn s dig.new × AreHeld hands.new.hold dig.new.found) }
+    ensures done { OnOk result ((s : List ℕ) → Shows hands.new.hold s →
+        NoneIsNeeded hands.new.hold s dig.new.point × IsDoneIn s dig.new × AreHeld hands.new.hold dig.new.found) }
     ensures stopped { IfErr result (λ why. HasStopped hands.old hands.new why) }
 {
     loop {
@@ -258,7 +276,8 @@ fn dig_in(board: &Board, hands: &mut Hands, alloc: Global, p: Point) -> Result<P
     requires new { IsNewFor hands.old.hold p }
     requires mine { HasBucketOf hands.old.hold p }
     ensures hands { AreHands board.now.shared.table_id (buckets_of board.now.shared.key) hands.new }
-    ensures more { OnOk result (HasMore board.now.shared.table_id (buckets_of board.now.shared.key) hands.old hands.new) }
+    ensures more { OnOk result
+        (HasMore board.now.shared.table_id (buckets_of board.now.shared.key) hands.old hands.new) }
     ensures plan { IfOk result (λ plan. IsPlan hands.new.place.me.0 hands.new.hold (Add p) plan) }
     ensures stopped { IfErr result (λ why. HasStopped hands.old hands.new why) }
 {
@@ -299,7 +318,8 @@ fn look_home(board: &Board, hands: &mut Hands, p: Point) -> Result<bool, Refused
     requires hands { AreHands board.now.shared.table_id (buckets_of board.now.shared.key) hands.old }
     requires none { hands.old.order.items ≡ [] }
     ensures hands { AreHands board.now.shared.table_id (buckets_of board.now.shared.key) hands.new }
-    ensures more { OnOk result (HasMore board.now.shared.table_id (buckets_of board.now.shared.key) hands.old hands.new) }
+    ensures more { OnOk result
+        (HasMore board.now.shared.table_id (buckets_of board.now.shared.key) hands.old hands.new) }
     ensures just { OnOk result (HoldsJust hands.new.hold p) }
     ensures there { IfOk result (λ there. (s : List ℕ) → Shows hands.new.hold s → there ≡ is_among p s) }
     ensures stopped { IfErr result (λ why. HasStopped hands.old hands.new why) }
@@ -316,7 +336,8 @@ fn plan_take(board: &Board, hands: &mut Hands, alloc: Global, p: Point) -> Resul
     requires hands { AreHands board.now.shared.table_id (buckets_of board.now.shared.key) hands.old }
     requires none { hands.old.order.items ≡ [] }
     ensures hands { AreHands board.now.shared.table_id (buckets_of board.now.shared.key) hands.new }
-    ensures more { OnOk result (HasMore board.now.shared.table_id (buckets_of board.now.shared.key) hands.old hands.new) }
+    ensures more { OnOk result
+        (HasMore board.now.shared.table_id (buckets_of board.now.shared.key) hands.old hands.new) }
     ensures plan { IfOk result (λ plan. IsPlan hands.new.place.me.0 hands.new.hold (Take p) plan) }
     ensures stopped { IfErr result (λ why. HasStopped hands.old hands.new why) }
 {
@@ -338,7 +359,8 @@ fn plan_add(board: &Board, hands: &mut Hands, alloc: Global, p: Point) -> Result
     requires hands { AreHands board.now.shared.table_id (buckets_of board.now.shared.key) hands.old }
     requires none { hands.old.order.items ≡ [] }
     ensures hands { AreHands board.now.shared.table_id (buckets_of board.now.shared.key) hands.new }
-    ensures more { OnOk result (HasMore board.now.shared.table_id (buckets_of board.now.shared.key) hands.old hands.new) }
+    ensures more { OnOk result
+        (HasMore board.now.shared.table_id (buckets_of board.now.shared.key) hands.old hands.new) }
     ensures plan { IfOk result (λ plan. IsPlan hands.new.place.me.0 hands.new.hold (Add p) plan) }
     ensures stopped { IfErr result (λ why. HasStopped hands.old hands.new why) }
 {
@@ -360,7 +382,8 @@ fn plan_for(board: &Board, hands: &mut Hands, alloc: Global, edit: Edit) -> Resu
     requires hands { AreHands board.now.shared.table_id (buckets_of board.now.shared.key) hands.old }
     requires none { hands.old.order.items ≡ [] }
     ensures hands { AreHands board.now.shared.table_id (buckets_of board.now.shared.key) hands.new }
-    ensures more { OnOk result (HasMore board.now.shared.table_id (buckets_of board.now.shared.key) hands.old hands.new) }
+    ensures more { OnOk result
+        (HasMore board.now.shared.table_id (buckets_of board.now.shared.key) hands.old hands.new) }
     ensures plan { IfOk result (λ plan. IsPlan hands.new.place.me.0 hands.new.hold edit plan) }
     ensures stopped { IfErr result (λ why. HasStopped hands.old hands.new why) }
 {

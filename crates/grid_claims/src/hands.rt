@@ -1,6 +1,21 @@
 //! What a pass has in its hands: its seat's slots, its hold, and the order of its claims.
 
-ghost use Rattle.std.specs.Prelude.{◌≡◌, ℕ, ◌+◌, ◌<◌, ◌++◌, ◌∷◌, [], None, List, length, OnOk, OnErr, IfErr, vec_capacity};
+ghost use Rattle.std.specs.Prelude.{
+  ◌≡◌,
+  ℕ,
+  ◌+◌,
+  ◌<◌,
+  ◌++◌,
+  ◌∷◌,
+  [],
+  None,
+  List,
+  length,
+  OnOk,
+  OnErr,
+  IfErr,
+  vec_capacity,
+};
 ghost use Rattle.edit_history.specs.declared.history.Entry.{Entry};
 ghost use Rattle.cell_store.specs.Buckets.{Content, bucket_at};
 ghost use Rattle.grid_claims.specs.Faces.{buckets_of};
@@ -33,7 +48,8 @@ pub(crate) fn take_in(
     b: u32,
 ) -> Result<(), u64>
     requires table { place.old.table_id ≡ board.now.shared.table_id }
-    requires words { (board.now.shared.table_id.words ≡ buckets_of board.now.shared.key + 1) × (b < buckets_of board.now.shared.key) }
+    requires words { (board.now.shared.table_id.words ≡ buckets_of board.now.shared.key + 1)
+        × (b < buckets_of board.now.shared.key) }
     requires alone { (0 < place.old.me.0.parts) × (place.old.me.0.child ≡ None) }
     requires first { first ≡ place.old.me.0.first }
     requires carries { Carries place.old.me hold.old.places order.old.items }
@@ -46,7 +62,8 @@ pub(crate) fn take_in(
     ensures stands { OnOk result ((h : List Entry) × HandStands place.new.me.0 h) }
     ensures order { OnOk result (order.new.items ≡ order.old.items ++ b ∷ []) }
     ensures carries { OnOk result (Carries place.new.me hold.new.places order.new.items) }
-    ensures missed { IfErr result (λ word. (place.new.me ≡ (fails place.old.me.0 b word, place.old.me.1)) × IsOthers place.old.me.0 word) }
+    ensures missed { IfErr result (λ word. (place.new.me ≡ (fails place.old.me.0 b word, place.old.me.1))
+        × IsOthers place.old.me.0 word) }
     ensures hands { OnErr result ((hold.new ≡ hold.old) × (order.new.items ≡ order.old.items)) }
     ensures grid { hold.new.grid ≡ hold.old.grid }
     ensures capacity { vec_capacity order.new ≡ vec_capacity order.old }
@@ -73,7 +90,8 @@ pub(crate) fn give_back(board: &Board, place: &mut Place, hold: &mut Hold, order
     requires carries { Carries place.old.me hold.old.places order.old.items }
     requires some { 0 < length order.old.items }
     ensures seat { (place.new.table_id ≡ place.old.table_id) × (place.new.id ≡ place.old.id) }
-    ensures released { (b : ℕ) × (order.old.items ≡ order.new.items ++ b ∷ []) × (place.new.me.0 ≡ releases place.old.me.0 b) }
+    ensures released { (b : ℕ) × (order.old.items ≡ order.new.items ++ b ∷ [])
+        × (place.new.me.0 ≡ releases place.old.me.0 b) }
     ensures carries { Carries place.new.me hold.new.places order.new.items }
     ensures grid { (hold.new.grid ≡ hold.old.grid) × (length hold.new.places ≡ length hold.old.places) }
     ensures capacity { vec_capacity order.new ≡ vec_capacity order.old }
@@ -93,7 +111,11 @@ pub(crate) fn release_all(board: &Board, place: &mut Place, hold: &mut Hold, ord
     requires alone { (0 < place.old.me.0.parts) × (place.old.me.0.child ≡ None) }
     requires carries { Carries place.old.me hold.old.places order.old.items }
     ensures seat { (place.new.table_id ≡ place.old.table_id) × (place.new.id ≡ place.old.id) }
-    ensures view { place.new.me.0 ≡ record place.old.me.0 { held = hold.new.places; trail = place.old.me.0.trail ++ releases_of order.old.items } }
+    ensures view { place.new.me.0
+        ≡ record place.old.me.0 {
+          held = hold.new.places;
+          trail = place.old.me.0.trail ++ releases_of order.old.items;
+        } }
     ensures carries { Carries place.new.me hold.new.places [] }
     ensures order { order.new.items ≡ [] }
     ensures grid { (hold.new.grid ≡ hold.old.grid) × (length hold.new.places ≡ length hold.old.places) }

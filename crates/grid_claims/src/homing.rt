@@ -15,7 +15,8 @@ pub(crate) fn gather(closed: &mut Closed<Option<Slot>, Global>, hold: &mut Hold)
     requires slots { (slots_len closed.old.slots ≡ length hold.old.places) × IsFull closed.old.slots }
     requires home { AllHome hold.old.grid (slots_items closed.old.slots) }
     requires none { (b : ℕ) → bucket_at hold.old.places b ≡ None }
-    ensures free { (k : ℕ) → k < slots_len closed.new.slots → slice_index_or (slots_filled closed.new.slots) k false ≡ false }
+    ensures free { (k : ℕ) → k < slots_len closed.new.slots →
+        slice_index_or (slots_filled closed.new.slots) k false ≡ false }
     ensures grid { hold.new.grid ≡ hold.old.grid }
     ensures places { hold.new.places ≡ slots_items closed.old.slots }
 {

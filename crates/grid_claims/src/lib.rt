@@ -1,19 +1,20 @@
 //! The running table: a mesh that several threads edit.
 //!
-//! Each bucket lies in a slot of a table of `atomic_table`, or in the hands of one pass, and has a word that tells which. The
-//! definitions stand in `specs/`: the table as a board, the rule that holds between any two steps, and what each call makes of a pass.
+//! Each bucket lies in a slot of a table of `atomic_table`, or in the hands of one pass, and has a word that
+//! tells which. The definitions stand in `specs/`: the table as a board, the rule that holds between any two
+//! steps, and what each call makes of a pass.
 //!
 //! ```
 //! let (table, mut pass) = MeshTable::open(alloc, mesh, 2, 1000)?;   // two parts, and a thousand edits that may come
-//! let mut other = table.split(alloc, &mut pass, 1, 500)?;           // a pass for another thread, which shares `&table`
+//! let mut other = table.split(alloc, &mut pass, 1, 500)?;           // for another thread, which shares `&table`
 //! match table.try_edit(alloc, &mut other, tag, Edit::Add(p), &OpenGate) {
 //!     Ok(receipt) => { .. }                                         // its number in the one history, and its reply
-//!     Err(Refused::Busy { bucket, .. }) => { .. }                   // another pass has this bucket in hand: as before, try later
+//!     Err(Refused::Busy { bucket, .. }) => { .. }                   // in another pass's hands: as before, try later
 //!     Err(Refused::Spent | Refused::Memory) => { .. }               // as before too
 //! }
 //! let seen = table.try_snapshot(alloc, &mut pass);                  // the history so far and its complex, or Busy
 //! table.join(&mut pass, other);                                     // when the threads are done
-//! let mesh = table.close(pass);                                     // its history: that of before, and all entries since
+//! let mesh = table.close(pass);                                     // with all entries since in its history
 //! ```
 #![tactic(auto)]
 

@@ -59,14 +59,26 @@ impl Model for MeshTable {
 
     ghost Value = { Opened };
 
-    ghost view = { λ t. record { id = t.board.shared.table_id; grid = t.board.shared.key.grid; parts = t.board.shared.key.parts; opening = opening_of t.board.shared.key } };
+    ghost view = { λ t.
+        record {
+          id = t.board.shared.table_id;
+          grid = t.board.shared.key.grid;
+          parts = t.board.shared.key.parts;
+          opening = opening_of t.board.shared.key;
+        } };
 
-    ghost invariant = { λ t. (t.board.shared.table_id.words ≡ buckets_of t.board.shared.key + 1) × (t.board.shared.table_id.slots ≡ buckets_of t.board.shared.key) × (t.hold ≡ record { grid = t.board.shared.key.grid; places = replicate (buckets_of t.board.shared.key) None; room = no_room }) };
+    ghost invariant = { λ t. (t.board.shared.table_id.words ≡ buckets_of t.board.shared.key + 1)
+        × (t.board.shared.table_id.slots ≡ buckets_of t.board.shared.key)
+        × (t.hold ≡ record {
+          grid = t.board.shared.key.grid;
+          places = replicate (buckets_of t.board.shared.key) None;
+          room = no_room;
+        }) };
 }
 
 impl MeshTable {
-    /// A table for the mesh, with so many parts, and its first pass, which owns all of them and may make so many edits. A part is the
-    /// leave for one more pass; a pass goes by the number of its first one.
+    /// A table for the mesh, with so many parts, and its first pass, which owns all of them and may make so many edits.
+    /// A part is the leave for one more pass; a pass goes by the number of its first one.
     ///
     /// There are to be 1 to 64 parts, and at most 2^32 entries with all that may come.
     ///
@@ -121,8 +133,8 @@ impl MeshTable {
         }
     }
 
-    /// Gives the last parts of a pass, so many, and so much of its allowance to a new pass. The pass is to be one of this table and
-    /// to keep a part; it gives no more allowance than it has left.
+    /// Gives the last parts of a pass, so many, and so much of its allowance to a new pass. The pass is to be one of
+    /// this table and to keep a part; it gives no more allowance than it has left.
     ///
     /// # Errors
     /// Want of memory. The pass is then as before.
@@ -185,8 +197,8 @@ impl MeshTable {
     /// Makes an edit, and answers its number and its reply. The pass is to be one of this table.
     ///
     /// # Errors
-    /// The pass may make no more edits, which is seen first; or a bucket is in another pass's hands; or want of memory. Mesh and pass
-    /// are then as before, but for the pass's trail.
+    /// The pass may make no more edits, which is seen first; or a bucket is in another pass's hands; or want of memory.
+    /// Mesh and pass are then as before, but for the pass's trail.
     pub fn try_edit<G: Gate>(
         &self,
         alloc: Global,
@@ -233,10 +245,12 @@ impl MeshTable {
         found
     }
 
-    /// The history so far and its complex, beside passes that edit. It claims every bucket. The pass is to be one of this table.
+    /// The history so far and its complex, beside passes that edit. It claims every
+    /// bucket. The pass is to be one of this table.
     ///
     /// # Errors
-    /// A bucket is in another pass's hands; or want of memory. Mesh and pass are then as before, but for the pass's trail.
+    /// A bucket is in another pass's hands; or want of memory. Mesh and pass are
+    /// then as before, but for the pass's trail.
     pub fn try_snapshot(&self, alloc: Global, pass: &mut Pass) -> Result<Snapshot, Refused>
         requires table { pass.old.table ≡ self.now }
         ensures shown { IfOk result (λ s. IsShown s.history.items s.complex.items pass.old pass.new) }

@@ -10,7 +10,19 @@ use Rattle.point_order.specs.Facets.{facets_of, points_of}
 use Rattle.point_order.specs.declared.cell.Cell.{Cell}
 use Rattle.point_order.specs.declared.cell.Facet.{Facet}
 use Rattle.hole_laws.specs.Lists.{cell_over, HasHeld, IsAtGoing, AreJoined}
-use Rattle.hole_laws.specs.Edits.{IsSet, IsSolidSet, IsNew, IsMate, GoesFrom, StaysFrom, IsRimOf, IsFresh, ComesWithout, IsLinkSet, IsAcross}
+use Rattle.hole_laws.specs.Edits.{
+  IsSet,
+  IsSolidSet,
+  IsNew,
+  IsMate,
+  GoesFrom,
+  StaysFrom,
+  IsRimOf,
+  IsFresh,
+  ComesWithout,
+  IsLinkSet,
+  IsAcross,
+}
 
 -- ---- conflict
 
@@ -56,13 +68,15 @@ FreshHavePoint =
 
 -- no cell of the set has it
 abbrev pub OldLackPoint : Type 0
-OldLackPoint = (s : List ℕ) (p : ℕ) → IsSolidSet s → IsNew s p → (q : Cell) → IsIn q (complex s) → ¬ (IsIn p (points_of q))
+OldLackPoint =
+    (s : List ℕ) (p : ℕ) → IsSolidSet s → IsNew s p → (q : Cell) → IsIn q (complex s) → ¬ (IsIn p (points_of q))
 
 -- only one of the cells on a rim facet goes
 abbrev pub OneGoneEach : Type 0
 OneGoneEach =
     (s : List ℕ) (p : ℕ) → IsSolidSet s → IsNew s p →
-    (f : Facet) → IsRimOf s p f → (q r : Cell) → GoesFrom s p q → GoesFrom s p r → IsIn f (facets_of q) → IsIn f (facets_of r) → q ≡ r
+    (f : Facet) → IsRimOf s p f → (q r : Cell) → GoesFrom s p q → GoesFrom s p r → IsIn f (facets_of q) →
+    IsIn f (facets_of r) → q ≡ r
 
 -- and each rim facet has a new cell of its own
 abbrev pub OneFreshEach : Type 0
@@ -75,7 +89,8 @@ OneFreshEach =
 -- a part of the cells that go, with each of them those that share a facet with it
 pub record IsClosedPart (s : List ℕ) (p : ℕ) (part : List Cell) : Type 0 where
   pub goes : (q : Cell) → IsIn q part → GoesFrom s p q
-  pub across : (q r : Cell) (f : Facet) → IsIn q part → GoesFrom s p r → IsIn f (facets_of q) → IsIn f (facets_of r) → IsIn r part
+  pub across : (q r : Cell) (f : Facet) → IsIn q part → GoesFrom s p r → IsIn f (facets_of q) → IsIn f (facets_of r) →
+      IsIn r part
 
 -- the region of the cells that go is connected across facets: a closed part that has one of them has them all
 abbrev pub RegionConnected : Type 0
@@ -96,7 +111,8 @@ pub record IsHeldPart (s : List ℕ) (p : ℕ) (held : ℕ → Bool) (part : Lis
 abbrev pub FoundFromHeld : Type 0
 FoundFromHeld =
     (s : List ℕ) (p : ℕ) → IsSolidSet s → IsNew s p →
-    (held : ℕ → Bool) (part : List Cell) → IsHeldPart s p held part → (a : Cell) → IsIn a part → (b : Cell) → GoesFrom s p b → IsIn b part
+    (held : ℕ → Bool) (part : List Cell) → IsHeldPart s p held part → (a : Cell) → IsIn a part → (b : Cell) →
+    GoesFrom s p b → IsIn b part
 
 -- ---- locality
 
@@ -127,7 +143,8 @@ pub record IsExchanged (l gone fresh m : List Cell) : Type 0 where
 abbrev pub MadeByInsertion : Type 0
 MadeByInsertion =
     (s : List ℕ) (p : ℕ) → IsSolidSet s → IsNew s p →
-    (gone fresh m : List Cell) → ((q : Cell) → IsIn q gone ↔ GoesFrom s p q) → ((q : Cell) → IsIn q fresh ↔ IsFresh s p q) →
+    (gone fresh m : List Cell) → ((q : Cell) → IsIn q gone ↔ GoesFrom s p q) →
+    ((q : Cell) → IsIn q fresh ↔ IsFresh s p q) →
     IsExchanged (complex s) gone fresh m → m ≡ complex (with_point p s)
 
 -- ---- removal
@@ -136,13 +153,15 @@ MadeByInsertion =
 abbrev pub CellsOfRest : Type 0
 CellsOfRest =
     (s : List ℕ) (v : ℕ) → IsSet s → IsIn v s → is_solid (without_point v s) ≡ true →
-    (q : Cell) → IsIn q (complex (without_point v s)) ↔ ((IsIn q (complex s) × ¬ (IsIn v (points_of q))) ⊎ ComesWithout s v q)
+    (q : Cell) → IsIn q (complex (without_point v s))
+    ↔ ((IsIn q (complex s) × ¬ (IsIn v (points_of q))) ⊎ ComesWithout s v q)
 
 -- and it is made from that of the set, the list of the cells at v and the list of those that come
 abbrev pub MadeByRemoval : Type 0
 MadeByRemoval =
     (s : List ℕ) (v : ℕ) → IsSet s → IsIn v s → is_solid (without_point v s) ≡ true →
-    (gone fresh m : List Cell) → ((q : Cell) → IsIn q gone ↔ (IsIn q (complex s) × IsIn v (points_of q))) → ((q : Cell) → IsIn q fresh ↔ ComesWithout s v q) →
+    (gone fresh m : List Cell) → ((q : Cell) → IsIn q gone ↔ (IsIn q (complex s) × IsIn v (points_of q))) →
+    ((q : Cell) → IsIn q fresh ↔ ComesWithout s v q) →
     IsExchanged (complex s) gone fresh m → m ≡ complex (without_point v s)
 
 -- The cells that come are those that v takes away from the complex of any solid set between its link and the rest.

@@ -7,7 +7,29 @@
 #![tactic(auto)]
 
 ghost use Rattle.hole_laws.specs.Commuting.{StaysSolid, ChangesReached, EditsCommute, BatchCommutes};
-ghost use Rattle.hole_laws.specs.Laws.{StaysWithoutConflict, GoesInConflict, SomeMate, MatesJudge, SomeRim, CellsAfter, FreshHavePoint, OldLackPoint, OneGoneEach, OneFreshEach, RegionConnected, FoundFromHeld, FreshAreNear, JoinedAreReached, MadeByInsertion, CellsOfRest, MadeByRemoval, RefilledFromLink, ComingAreNear, SolidNear, FlatRestJoined};
+ghost use Rattle.hole_laws.specs.Laws.{
+  StaysWithoutConflict,
+  GoesInConflict,
+  SomeMate,
+  MatesJudge,
+  SomeRim,
+  CellsAfter,
+  FreshHavePoint,
+  OldLackPoint,
+  OneGoneEach,
+  OneFreshEach,
+  RegionConnected,
+  FoundFromHeld,
+  FreshAreNear,
+  JoinedAreReached,
+  MadeByInsertion,
+  CellsOfRest,
+  MadeByRemoval,
+  RefilledFromLink,
+  ComingAreNear,
+  SolidNear,
+  FlatRestJoined,
+};
 
 /// A cell of the set is one of the set with a new point `p` exactly where it is not in conflict with `p`.
 ///
@@ -62,16 +84,16 @@ pub fn complex_after_edit()
 
 /// The complex of a set without one of its points `v` has the cells that do not have `v`, and those that come.
 ///
-/// The cells that come are those in conflict with `v` in the complex of any solid set between the link of `v`, the points
-/// that some cell joins to it, and the rest. All their points are in the link.
+/// The cells that come are those in conflict with `v` in the complex of any solid set between the link of `v`, the
+/// points that some cell joins to it, and the rest. All their points are in the link.
 pub fn removal_law()
     ensures rest { CellsOfRest }
     ensures refilled { RefilledFromLink }
     ensures near { ComingAreNear }
 {}
 
-/// Whether the rest of a set is solid shows in the link and in the points across from it. A flat link does not mean that
-/// the rest is flat; a flat rest is all in the link.
+/// Whether the rest of a set is solid shows in the link and in the points across from it. A flat link does not mean
+/// that the rest is flat; a flat rest is all in the link.
 pub fn flat_rest_shows()
     ensures solid { SolidNear }
     ensures flat { FlatRestJoined }

@@ -20,7 +20,8 @@ pub record IsInsertion (h : List Entry) (e : Entry) : Type 0 where
 -- Such an entry follows the history, with exactly the cells that its point takes away and those that it brings.
 abbrev pub InsertionFollows : Type 0
 InsertionFollows =
-    (h : List Entry) (e : Entry) (gone fresh : List Cell) → IsInsertion h e → IsFilled (replay h) (point_of e.edit) gone fresh → Follows h e gone fresh
+    (h : List Entry) (e : Entry) (gone fresh : List Cell) → IsInsertion h e →
+    IsFilled (replay h) (point_of e.edit) gone fresh → Follows h e gone fresh
 
 -- the points of the tagged lines are all in the list
 abbrev pub AreAmong : List (ℕ × ℕ) → List ℕ → Type 0

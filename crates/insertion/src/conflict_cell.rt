@@ -14,8 +14,8 @@ use cell_store::Hold;
 use cell_walk::{Walk, WalkTurn};
 use point_order::{Cell, Point};
 
-// After how many steps a walk is given up, and the buckets are looked through. No cell is met twice, so it ends before on every mesh
-// that memory can hold.
+// After how many steps a walk is given up, and the buckets are looked through. No cell is met twice, so it ends
+// before on every mesh that memory can hold.
 const STEPS: u64 = 1 << 40;
 
 // A walk to p from a point that lies near: of the first bucket that has any, from that of p on and round.
@@ -70,7 +70,8 @@ fn conflict_in_turn(hold: &Hold, p: Point) -> Cell
     unreachable!()
 }
 
-/// A cell that the new point takes away. Every bucket is to be in hand, and the hold to show a set for which the point is new.
+/// A cell that the new point takes away. Every bucket is to be in hand, and the hold
+/// to show a set for which the point is new.
 ///
 /// A walk finds it, from a cell at a point that lies near. Where there is none the buckets are looked through in turn.
 pub fn cell_in_conflict(hold: &Hold, p: Point) -> Cell

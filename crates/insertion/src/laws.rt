@@ -1,10 +1,11 @@
-//! What an insertion comes to, and the complex of four points. Each function here does nothing, and its contract is a law.
+//! What an insertion comes to, and the complex of four points. Each function
+//! here does nothing, and its contract is a law.
 
 ghost use Rattle.insertion.specs.Growing.{InsertionFollows};
 ghost use Rattle.insertion.specs.Opening.{FourHaveFive};
 
-/// The entry of an insertion follows the history, with exactly the cells that its point takes away and those that it brings: what a
-/// change of a mesh asks.
+/// The entry of an insertion follows the history, with exactly the cells that its point takes away and those
+/// that it brings: what a change of a mesh asks.
 pub fn insertion_follows()
     ensures { InsertionFollows }
 {}

@@ -1,10 +1,11 @@
 //! Insertion into a mesh with every bucket in hand.
 //!
-//! A mesh begins with four independent points. A new point's first cell in conflict is found by a walk, the others by a dig of
-//! `cavity`, and the mesh is changed in place. The definitions stand in `specs/`.
+//! A mesh begins with four independent points. A new point's first cell in conflict is found by a walk, the others by a
+//! dig of `cavity`, and the mesh is changed in place. The definitions stand in `specs/`.
 //!
 //! ```
-//! let mut mesh = open_mesh(alloc, Grid::new(4)?, [(0, a), (1, b), (2, c), (3, d)])?;  // four independent points with tags
+//! // four independent points with tags
+//! let mut mesh = open_mesh(alloc, Grid::new(4)?, [(0, a), (1, b), (2, c), (3, d)])?;
 //! let cell = cell_in_conflict(mesh.hold(), p);                // some cell that the new point p takes away
 //! insert(alloc, &mut mesh, Entry {
 //!     number: 4,                                              // it continues the history

@@ -5,7 +5,14 @@ ghost use Rattle.point_order.specs.Coordinates.{IsKey};
 ghost use Rattle.point_order.specs.Sets.{AreFour, ascending};
 ghost use Rattle.cell_store.specs.Meshes.{AllInHand};
 ghost use Rattle.cell_store.specs.Changes.{IsNoted};
-ghost use Rattle.insertion.specs.Opening.{five_cells, inserted, opening_history, AreIndependent, IsBare, HasCellsOfFour};
+ghost use Rattle.insertion.specs.Opening.{
+  five_cells,
+  inserted,
+  opening_history,
+  AreIndependent,
+  IsBare,
+  HasCellsOfFour,
+};
 
 use cell_store::{Bucket, Grid, Hold, Mesh};
 use edit_history::{Edit, Entry, Reply};
@@ -104,7 +111,8 @@ fn put_cells(
     Ok(())
 }
 
-/// The mesh of four independent points, each with a tag. Its history has them as entries 0 to 3 by 0, in this order, all inserted.
+/// The mesh of four independent points, each with a tag. Its history has them as entries
+/// 0 to 3 by 0, in this order, all inserted.
 ///
 /// # Errors
 /// Want of memory.

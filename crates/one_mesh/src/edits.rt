@@ -26,7 +26,8 @@ pub struct Receipt {
     pub reply: Reply,
 }
 
-/// The mesh of four independent points, each with a tag. Its history has them as entries 0 to 3 by 0, in this order, all inserted.
+/// The mesh of four independent points, each with a tag. Its history has them as entries
+/// 0 to 3 by 0, in this order, all inserted.
 ///
 /// # Errors
 /// Want of memory.
@@ -95,7 +96,9 @@ fn add(alloc: Global, mesh: &mut Mesh, number: u64, tag: u32, p: Point) -> Resul
 // What the removal of a point changes; none where the rest is flat.
 fn removal_change(alloc: Global, mesh: &Mesh, v: Point) -> Result<Option<Fresh>, AllocError>
     requires { IsIn v (replay mesh.now.history) }
-    ensures { IfOk result (λ found. MatchOption found (is_solid (without_point v (replay mesh.now.history)) ≡ false) (λ f. IsRefilled (replay mesh.now.history) v f.gone.items f.fresh.items)) }
+    ensures { IfOk result (λ found.
+        MatchOption found (is_solid (without_point v (replay mesh.now.history)) ≡ false) (λ f.
+        IsRefilled (replay mesh.now.history) v f.gone.items f.fresh.items)) }
 {
     let hold = mesh.hold();
     let mut refill = Refill::start(alloc, v)?;
@@ -163,8 +166,8 @@ fn take(
     }
 }
 
-/// Makes an edit of a mesh, as the next entry by 0, and answers its number and its reply: an add is a duplicate where its point is
-/// there, a take is missing where it is not, and flat where the rest would lie in one plane.
+/// Makes an edit of a mesh, as the next entry by 0, and answers its number and its reply: an add is a duplicate where
+/// its point is there, a take is missing where it is not, and flat where the rest would lie in one plane.
 ///
 /// The mesh is to have less than 2^32 entries.
 ///

@@ -1,5 +1,24 @@
 -- What a file's lines answer and leave where none of the opening four is ever taken: told by the lines alone.
-use Rattle.std.specs.Prelude.{◌≡◌, ℕ, ◌+◌, Bool, true, false, ◌==◌, ◌++◌, List, [], ◌∷◌, map, length, take, slice_index, None, Some, if◌then◌else◌}
+use Rattle.std.specs.Prelude.{
+  ◌≡◌,
+  ℕ,
+  ◌+◌,
+  Bool,
+  true,
+  false,
+  ◌==◌,
+  ◌++◌,
+  List,
+  [],
+  ◌∷◌,
+  map,
+  length,
+  take,
+  slice_index,
+  None,
+  Some,
+  if◌then◌else◌,
+}
 use Rattle.std.specs.List.{filter, enumerate_from, range_with_len, last_or}
 use Rattle.std.specs.Option.{option_map_or}
 use Rattle.point_order.specs.Sets.{IsIn, ascending}

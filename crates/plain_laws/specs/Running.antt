@@ -1,5 +1,23 @@
 -- Lines that are dealt to workers, and what the workers make of them.
-use Rattle.std.specs.Prelude.{◌≡◌, ℕ, ◌%◌, ◌<◌, ◌==◌, ◌&&◌, not, List, [], ◌∷◌, ◌++◌, map, length, Some, All, AllPairs, IsPermutation}
+use Rattle.std.specs.Prelude.{
+  ◌≡◌,
+  ℕ,
+  ◌%◌,
+  ◌<◌,
+  ◌==◌,
+  ◌&&◌,
+  not,
+  List,
+  [],
+  ◌∷◌,
+  ◌++◌,
+  map,
+  length,
+  Some,
+  All,
+  AllPairs,
+  IsPermutation,
+}
 use Rattle.std.specs.List.{filter, flat_map, range_with_len}
 use Rattle.point_order.specs.Sets.{is_among}
 use Rattle.edit_history.specs.declared.history.Edit.{Edit}
@@ -25,8 +43,8 @@ dealt n four lines = map (dealt_to n four lines) (range_with_len 0 n)
 abbrev pub opening_entries : List ℕ → List Pair → List Entry
 opening_entries four lines = entries_from 0 [] (filter (λ line. is_among line.0 four) lines)
 
--- The entries are those of the pairs of the lists, each once, those of one point by their tags, each by the worker of some
--- list. With one list they are in its order.
+-- The entries are those of the pairs of the lists, each once, those of one point by their tags, each by the worker of
+-- some list. With one list they are in its order.
 pub record IsRun (lists : List (List Pair)) (entries : List Entry) : Type 0 where
   pub lines : IsPermutation (flat_map (λ l. l) lists) (map line_of entries)
   pub order : AllPairs (λ d e. point_of d.edit ≡ point_of e.edit → d.tag < e.tag) entries
@@ -37,7 +55,8 @@ pub record IsRun (lists : List (List Pair)) (entries : List Entry) : Type 0 wher
 abbrev pub RunKeeps : Type 0
 RunKeeps =
     (points : List ℕ) (edits : List Edit) (workers : ℕ) (four : Four) (run : List Entry) →
-    opening_four points ≡ Some four → 0 < workers → IsRun (dealt workers (places four) (tagged_lines points edits)) run →
+    opening_four points ≡ Some four → 0 < workers →
+    IsRun (dealt workers (places four) (tagged_lines points edits)) run →
     Keeps points edits workers (opening_entries (places four) (tagged_lines points edits) ++ run)
 
 -- with one worker they are the history of one thread, where they are legal

@@ -16,7 +16,8 @@ is_full s (a ∷ b ∷ c ∷ d ∷ []) =
     not (is_flat a b c d) && list_all (λ e. is_among e (a ∷ b ∷ c ∷ d ∷ []) || is_outside a b c d e) s
 is_full s _ = false
 
--- every other point of s in the plane of a, b, c is outside the perturbed sphere of these and f, a point above the plane
+-- every other point of s in the plane of a, b, c is outside the perturbed
+-- sphere of these and f, a point above the plane
 abbrev pub is_empty_in_plane : List ℕ → ℕ → ℕ → ℕ → Option ℕ → Bool
 is_empty_in_plane s a b c None = false
 is_empty_in_plane s a b c (Some f) =

@@ -1,4 +1,5 @@
--- The heights to which points are lifted, and the lifted determinant, which tells the inside of a sphere from its outside.
+-- The heights to which points are lifted, and the lifted determinant, which
+-- tells the inside of a sphere from its outside.
 use Rattle.std.specs.Prelude.{◌≡◌, refl, ℕ, ◌+◌, ◌*◌, ◌^◌, ℤ, pos, ◌+ℤ◌, ◌-ℤ◌, ◌*ℤ◌}
 use Rattle.point_order.specs.Coordinates.{x_of, y_of, z_of}
 use Rattle.point_order.specs.Orientation.{orientation}

@@ -14,7 +14,11 @@ AreKeys a b c d e = IsKey a × IsKey b × IsKey c × IsKey d × IsKey e
 -- what the height of p is multiplied by in the lifted determinant of five points; 0 where p is none of them
 abbrev pub coefficient : ℕ → ℕ → ℕ → ℕ → ℕ → ℕ → ℤ
 coefficient a b c d e p =
-    if p == e then orientation a b c d else (if p == d then neg_ℤ (orientation a b c e) else (if p == c then orientation a b d e else (if p == b then neg_ℤ (orientation a c d e) else (if p == a then orientation b c d e else pos 0))))
+    if p == e then orientation a b c d
+    else (if p == d then neg_ℤ (orientation a b c e)
+    else (if p == c then orientation a b d e
+    else (if p == b then neg_ℤ (orientation a c d e)
+    else (if p == a then orientation b c d e else pos 0))))
 
 -- p is the greatest point whose coefficient is not 0
 abbrev pub IsDeciding : ℕ → ℕ → ℕ → ℕ → ℕ → ℕ → Type 0
@@ -23,11 +27,13 @@ IsDeciding a b c d e p =
 
 -- The sign rule: where the in-sphere polynomial is not 0, the perturbation does not change its sign.
 abbrev pub PlainSign : Type 0
-PlainSign = (a b c d e : ℕ) → AreKeys a b c d e → sphere_polynomial a b c d e ≢ pos 0 → sgn (out a b c d e) ≡ sgn (sphere_polynomial a b c d e)
+PlainSign = (a b c d e : ℕ) → AreKeys a b c d e → sphere_polynomial a b c d e ≢ pos 0 →
+    sgn (out a b c d e) ≡ sgn (sphere_polynomial a b c d e)
 
 -- Where it is 0, the sign is that of the coefficient of the greatest point whose coefficient is not 0.
 abbrev pub TieSign : Type 0
-TieSign = (a b c d e p : ℕ) → AreFive a b c d e → sphere_polynomial a b c d e ≡ pos 0 → IsDeciding a b c d e p → sgn (out a b c d e) ≡ sgn (coefficient a b c d e p)
+TieSign = (a b c d e p : ℕ) → AreFive a b c d e → sphere_polynomial a b c d e ≡ pos 0 → IsDeciding a b c d e p →
+    sgn (out a b c d e) ≡ sgn (coefficient a b c d e p)
 
 -- There is such a point, where the first four are independent.
 abbrev pub TieDecided : Type 0
@@ -46,7 +52,8 @@ PlainNotAbove = (a b c d e : ℕ) → AreKeys a b c d e → out a b c d e <ℤ p
 
 -- The height is |p|^2 times a great number, plus a part strictly between 0 and that number.
 abbrev pub HeightParts : Type 0
-HeightParts = (p : ℕ) → IsKey p → (height p ≡ square_of p * base ^ top + base ^ p) × (0 < base ^ p) × (base ^ p < base ^ top)
+HeightParts =
+    (p : ℕ) → IsKey p → (height p ≡ square_of p * base ^ top + base ^ p) × (0 < base ^ p) × (base ^ p < base ^ top)
 
 -- That part rises with the key.
 abbrev pub PartRises : Type 0

@@ -25,7 +25,9 @@ triple ux uy uz vx vy vz wx wy wz =
 -- The orientation of four points, (b - a) . ((c - a) x (d - a)). It is 0 where the four lie in one plane.
 unfoldable pub orientation : ℕ → ℕ → ℕ → ℕ → ℤ
 orientation a b c d =
-    triple (x_from a b) (y_from a b) (z_from a b) (x_from a c) (y_from a c) (z_from a c) (x_from a d) (y_from a d) (z_from a d)
+    triple (x_from a b) (y_from a b) (z_from a b)
+    (x_from a c) (y_from a c) (z_from a c)
+    (x_from a d) (y_from a d) (z_from a d)
 
 -- the number is 0
 abbrev pub is_zero : ℤ → Bool

@@ -1,4 +1,5 @@
-//! Points of a cube of whole numbers, in the order of their keys, and the cells and facets of a Delaunay complex of them.
+//! Points of a cube of whole numbers, in the order of their keys, and the cells
+//! and facets of a Delaunay complex of them.
 //!
 //! The definitions that all crates above share stand in `specs/`: orientation, the lifted height and determinant,
 //! solid sets, Full and Open cells, the complex of a set, and conflict.

@@ -1,10 +1,11 @@
-//! Runs of the top call over ends in memory, some of which fail: a case a line on standard input, and what came of it a line on standard
-//! output.
+//! Runs of the top call over ends in memory, some of which fail: a case a line on standard input, and
+//! what came of it a line on standard output.
 //!
-//! A case is `TIMES; WORDS; FRONT; MIDDLE; END; SOURCE; OUTPUT; ERROR`. The words are those behind the program's name. The input is the
-//! front, the middle so many times, and the end; a bar stands for a line feed. Each end is the number of bytes that a call gives or
-//! takes at most, and then the numbers of its calls that fail, counted from 1. What came of it is the status, what was told and
-//! written, and of each entry that is kept the tag and the worker. A line that begins with `#` is answered by itself.
+//! A case is `TIMES; WORDS; FRONT; MIDDLE; END; SOURCE; OUTPUT; ERROR`. The words are those behind the program's
+//! name. The input is the front, the middle so many times, and the end; a bar stands for a line feed. Each end is the
+//! number of bytes that a call gives or takes at most, and then the numbers of its calls that fail, counted from 1.
+//! What came of it is the status, what was told and written, and of each entry that is kept the tag and the worker. A
+//! line that begins with `#` is answered by itself.
 #![tactic(auto)]
 
 mod ends;

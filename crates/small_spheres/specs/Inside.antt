@@ -1,14 +1,26 @@
 -- Which points lie strictly inside the smallest circumscribing sphere of an edge or a triangle.
--- The power of e to a sphere is the square of its distance from the centre less the squared radius: negative strictly inside.
+-- The power of e to a sphere is the square of its distance from the centre less
+-- the squared radius: negative strictly inside.
 use Rattle.std.specs.Prelude.{ℕ, Bool, ℤ, pos, ◌+ℤ◌, ◌-ℤ◌, ◌*ℤ◌}
 use Rattle.std.specs.Int.Signed.{lt_z}
-use Rattle.point_order.specs.Orientation.{x_from, y_from, z_from, minor, normal_x, normal_y, normal_z, square_of_step, distance}
+use Rattle.point_order.specs.Orientation.{
+  x_from,
+  y_from,
+  z_from,
+  minor,
+  normal_x,
+  normal_y,
+  normal_z,
+  square_of_step,
+  distance,
+}
 
 -- the scalar product u . v
 unfoldable pub dot : ℤ → ℤ → ℤ → ℤ → ℤ → ℤ → ℤ
 dot ux uy uz vx vy vz = ux *ℤ vx +ℤ uy *ℤ vy +ℤ uz *ℤ vz
 
--- (a - e) . (b - e), the power of e to the smallest circumscribing sphere of the edge a, b, which has the edge as a diameter
+-- (a - e) . (b - e), the power of e to the smallest circumscribing sphere of the
+-- edge a, b, which has the edge as a diameter
 unfoldable pub edge_power : ℕ → ℕ → ℕ → ℤ
 edge_power a b e = dot (x_from e a) (y_from e a) (z_from e a) (x_from e b) (y_from e b) (z_from e b)
 
@@ -37,7 +49,8 @@ centre_z a b c =
     distance a c *ℤ minor (normal_x a b c) (normal_y a b c) (x_from a b) (y_from a b)
     +ℤ distance a b *ℤ minor (x_from a c) (y_from a c) (normal_x a b c) (normal_y a b c)
 
--- |e - a|^2 |n|^2 - (e - a) . V, the power of e to the smallest circumscribing sphere of the triangle a, b, c, times |n|^2
+-- |e - a|^2 |n|^2 - (e - a) . V, the power of e to the smallest circumscribing
+-- sphere of the triangle a, b, c, times |n|^2
 unfoldable pub triangle_power : ℕ → ℕ → ℕ → ℕ → ℤ
 triangle_power a b c e =
     distance a e *ℤ square_of_normal a b c

@@ -9,7 +9,8 @@ use Rattle.small_spheres.specs.Inside.{dot, square_of_normal}
 abbrev pub is_edge_within : ℕ → ℕ → ℕ → Bool
 is_edge_within a b alpha = le_z (distance a b) (pos 4 *ℤ pos alpha)
 
--- |a - b|^2 |a - c|^2 |b - c|^2 <= 4 |n|^2 alpha: the squared radius of a triangle is the product of the squared sides by 4 |n|^2
+-- |a - b|^2 |a - c|^2 |b - c|^2 <= 4 |n|^2 alpha: the squared radius of a triangle is
+-- the product of the squared sides by 4 |n|^2
 abbrev pub is_triangle_within : ℕ → ℕ → ℕ → ℕ → Bool
 is_triangle_within a b c alpha =
     le_z (distance a b *ℤ distance a c *ℤ distance b c) (pos 4 *ℤ square_of_normal a b c *ℤ pos alpha)

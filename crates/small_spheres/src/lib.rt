@@ -28,8 +28,8 @@ use products::{
 };
 use radii::{centre_square, normal_square, product_of_sides};
 
-/// Whether `e` lies strictly inside the smallest circumscribing sphere of the edge `a`, `b`, which has it as a diameter:
-/// `(a - e) . (b - e)` is negative.
+/// Whether `e` lies strictly inside the smallest circumscribing sphere of the edge `a`, `b`, which has it as a
+/// diameter: `(a - e) . (b - e)` is negative.
 pub fn inside_edge(a: Point, b: Point, e: Point) -> bool
     ensures { result ≡ is_inside_edge a b e }
 {
@@ -78,16 +78,16 @@ pub fn cell_within(a: Point, b: Point, c: Point, d: Point, alpha: u64) -> bool
     centre_square(a, b, c, d) <= four_times_orientation(square, alpha)
 }
 
-/// The least alpha below 2^30 of which the smallest circumscribing sphere of the edge is within, its squared radius rounded up; 2^30
-/// where there is none.
+/// The least alpha below 2^30 of which the smallest circumscribing sphere of the edge is within, its squared
+/// radius rounded up; 2^30 where there is none.
 pub fn edge_least(a: Point, b: Point) -> u64
     ensures { (alpha : ℕ) → alpha < 2 ^ 30 → is_edge_within a b alpha ≡ nat_le result alpha }
 {
     least_factor(Step::between(a, b).square() as i128, 4)
 }
 
-/// The least alpha below 2^30 of which the smallest circumscribing sphere of the triangle is within, its squared radius rounded up;
-/// 2^30 where there is none, as for three different points on one line.
+/// The least alpha below 2^30 of which the smallest circumscribing sphere of the triangle is within, its squared radius
+/// rounded up; 2^30 where there is none, as for three different points on one line.
 pub fn triangle_least(a: Point, b: Point, c: Point) -> u64
     ensures { (alpha : ℕ) → alpha < 2 ^ 30 → is_triangle_within a b c alpha ≡ nat_le result alpha }
 {
@@ -97,8 +97,8 @@ pub fn triangle_least(a: Point, b: Point, c: Point) -> u64
     )
 }
 
-/// The least alpha below 2^30 of which the circumscribing sphere of the cell is within, its squared radius rounded up; 2^30 where there
-/// is none.
+/// The least alpha below 2^30 of which the circumscribing sphere of the cell is within, its squared
+/// radius rounded up; 2^30 where there is none.
 pub fn cell_least(a: Point, b: Point, c: Point, d: Point) -> u64
     ensures { (alpha : ℕ) → alpha < 2 ^ 30 → is_cell_within a b c d alpha ≡ nat_le result alpha }
 {

@@ -4,7 +4,12 @@ ghost use Rattle.std.specs.Prelude.{◌≡◌, ◌<◌, ◌^◌, pos, ◌+ℤ◌
 ghost use Rattle.whole_ring.specs.Bounds.{IsWithin};
 ghost use Rattle.point_order.specs.Sizes.{greatest_minor, greatest_orientation, greatest_square};
 ghost use Rattle.small_spheres.specs.Inside.{dot};
-ghost use Rattle.small_spheres.specs.Sizes.{greatest_power_term, greatest_scalar, greatest_square_of_orientation, greatest_square_of_scalar};
+ghost use Rattle.small_spheres.specs.Sizes.{
+  greatest_power_term,
+  greatest_scalar,
+  greatest_square_of_orientation,
+  greatest_square_of_scalar,
+};
 
 /// `u . v`, below 2^61.
 pub fn sum_of_products(ux: i64, uy: i64, uz: i64, vx: i64, vy: i64, vz: i64) -> i64

@@ -21,8 +21,9 @@ use point_order::{Cell, Point};
 
 /// Whether `e` is outside the perturbed sphere through the other four, which may stand in either orientation.
 ///
-/// Where the in-sphere polynomial is 0 the five lie on one sphere, and the symbolic perturbation (Edelsbrunner and Mücke,
-/// Simulation of Simplicity) decides: by the greatest of the points whose coefficient in the polynomial is not 0.
+/// Where the in-sphere polynomial is 0 the five lie on one sphere, and the symbolic perturbation
+/// (Edelsbrunner and Mücke, Simulation of Simplicity) decides: by the greatest of the points
+/// whose coefficient in the polynomial is not 0.
 pub fn outside(a: Point, b: Point, c: Point, d: Point, e: Point) -> bool
     requires independent { is_flat a b c d ≡ false }
     requires distinct { AreFive a b c d e }

@@ -50,11 +50,13 @@ fn write_all<R: Threads + Sync>(
     let (a, b) = join(
         rt,
         || -> Result<(Pass, usize), AllocError>
-            requires { IsSync R.row × (pass.table ≡ table.now) × (0 < length low.now) × (length low.now ≤ 64) × (pass.parts ≡ length low.now) }
+            requires { IsSync R.row × (pass.table ≡ table.now) × (0 < length low.now) × (length low.now ≤ 64)
+                × (pass.parts ≡ length low.now) }
             ensures { IfOk result (λ r. IsStill pass r.0) }
         { write_all(rt, alloc, table, pass, low, pace) },
         || -> Result<(Pass, usize), AllocError>
-            requires { IsSync R.row × (other.table ≡ table.now) × (0 < length high.now) × (length high.now ≤ 64) × (other.parts ≡ length high.now) }
+            requires { IsSync R.row × (other.table ≡ table.now) × (0 < length high.now) × (length high.now ≤ 64)
+                × (other.parts ≡ length high.now) }
             ensures { IfOk result (λ r. IsStill other r.0) }
         { write_all(rt, alloc, table, other, high, pace) },
     );
@@ -153,7 +155,8 @@ fn side_by_side<R: Threads + Sync>(
     join(
         rt,
         || -> Result<(Pass, usize), AllocError>
-            requires { (writers.table ≡ table.now) × (0 < length lists.now) × (length lists.now ≤ 64) × (writers.parts ≡ length lists.now) }
+            requires { (writers.table ≡ table.now) × (0 < length lists.now) × (length lists.now ≤ 64)
+                × (writers.parts ≡ length lists.now) }
             ensures { IfOk result (λ r. IsStill writers r.0) }
         { write_all(rt, alloc, table, writers, lists, pace) },
         || -> (Pass, Result<Vec<Snapshot>, AllocError>)
@@ -183,7 +186,8 @@ fn put_shots(alloc: Global, text: &mut String, shots: &[Snapshot]) -> Result<(),
     )
 }
 
-// Has the lists worked on beside a reader, to the end of the table: the mesh, how many edits were left over, and the snapshots.
+// Has the lists worked on beside a reader, to the end of the table: the mesh, how
+// many edits were left over, and the snapshots.
 fn write_and_read<R: Threads + Sync>(
     rt: &R,
     alloc: Global,

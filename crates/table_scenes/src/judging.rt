@@ -1,4 +1,5 @@
-//! Judging a history and its complex by another program: the replies of a set of points, and trial of all quadruples and triples.
+//! Judging a history and its complex by another program: the replies of a set of
+//! points, and trial of all quadruples and triples.
 
 use complex_trial::complex_by_trial;
 use edit_history::{Entry, PointSet};

@@ -1,18 +1,21 @@
-//! Scenes of the running table and its workers: a scene a line on standard input, and what it comes to a line on standard output.
+//! Scenes of the running table and its workers: a scene a line on standard input, and
+//! what it comes to a line on standard output.
 //!
-//! A scene is what is played, a number, and lists of words behind semicolons. A point is written `x,y,z`, and an edit is its tag, `+` or
-//! `-`, and its point. Orders are edits, and `look`, `shot`, and `work`, which has all edits behind it done as a list. The mesh of a scene
-//! has its points, the first four independent ones first, each with its place for a tag. A line that begins with `#` is answered by
-//! itself. Threads wait for each other by gates, so that what is printed is the same whatever the schedule.
+//! A scene is what is played, a number, and lists of words behind semicolons. A point is written `x,y,z`, and an edit
+//! is its tag, `+` or `-`, and its point. Orders are edits, and `look`, `shot`, and `work`, which has all edits behind
+//! it done as a list. The mesh of a scene has its points, the first four independent ones first, each with its place
+//! for a tag. A line that begins with `#` is answered by itself. Threads wait for each other by gates, so that what is
+//! printed is the same whatever the schedule.
 //!
-//! - `passes SIZE; POINTS; PARTS ALLOWANCE; PARTS ALLOWANCE; ORDERS; ORDERS`: a table's first pass, of which another one is split off,
-//!   which does the first orders; then the two are joined, the one pass does the other orders, and the table is closed.
-//! - `kept SIZE; POINTS; NUMBER MOMENT; EDIT; ORDERS; ORDERS`: of two passes the one of this number is kept at a moment of an edit; meanwhile
-//!   the other one does orders on a thread of its own, and more of them afterwards.
+//! - `passes SIZE; POINTS; PARTS ALLOWANCE; PARTS ALLOWANCE; ORDERS; ORDERS`: a table's first pass, of
+//!   which another one is split off, which does the first orders; then the two are joined, the one pass
+//!   does the other orders, and the table is closed.
+//! - `kept SIZE; POINTS; NUMBER MOMENT; EDIT; ORDERS; ORDERS`: of two passes the one of this number is kept at a moment
+//!   of an edit; meanwhile the other one does orders on a thread of its own, and more of them afterwards.
 //! - `meet SIZE; POINTS; EDIT EDIT`: two workers, an edit each, that are to see each other at Ready.
 //! - `deal WORKERS; POINTS; EDITS`: the lists that are dealt, by their tags.
-//! - `beside SIZE; POINTS; COUNT; EDITS; EDITS; ..`: a worker a list, and beside them a reader that takes so many snapshots. Each is judged
-//!   by the replies of sets of points and by trial of all quadruples and triples.
+//! - `beside SIZE; POINTS; COUNT; EDITS; EDITS; ..`: a worker a list, and beside them a reader that takes so many
+//!   snapshots. Each is judged by the replies of sets of points and by trial of all quadruples and triples.
 #![tactic(auto)]
 
 mod beside;

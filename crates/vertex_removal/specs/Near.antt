@@ -38,12 +38,13 @@ pub record ArePointsBut (cells : List Cell) (v : ℕ) (points : List ℕ) : Type
 abbrev pub AreSamePoints : List ℕ → List ℕ → Type 0
 AreSamePoints l m = (e : ℕ) → IsIn e l ↔ IsIn e m
 
--- To the old cells were added cells of the complex of s, and among them are all those without v that lie across one of the crossed
--- facets of a cell.
+-- To the old cells were added cells of the complex of s, and among them are all those without v that lie
+-- across one of the crossed facets of a cell.
 pub record AreAdded (s : List ℕ) (v : ℕ) (Crossed : Cell → Facet → Type 0) (old new : List Cell) : Type 0 where
   pub kept : (c : Cell) → IsIn c old → IsIn c new
   pub listed : (c : Cell) → IsIn c new → IsIn c old ⊎ IsIn c (complex s)
-  pub across : (here : Cell) (f : Facet) (c : Cell) → Crossed here f → IsOtherOf (complex s) here f c → ¬ (IsIn v (points_of c)) → IsIn c new
+  pub across : (here : Cell) (f : Facet) (c : Cell) → Crossed here f → IsOtherOf (complex s) here f c →
+      ¬ (IsIn v (points_of c)) → IsIn c new
 
 -- the facets of one cell that are listed
 abbrev pub IsOneOf : Cell → List Facet → Cell → Facet → Type 0

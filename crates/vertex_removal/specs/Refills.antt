@@ -13,8 +13,9 @@ use Rattle.edit_history.specs.Edits.{point_of}
 use Rattle.edit_history.specs.Histories.{replay}
 use Rattle.cell_store.specs.Changes.{IsChange, Follows}
 
--- The set without v is solid. Gone are exactly the cells of the complex of s that have v, and these are those that are none of the
--- complex of the set without v. Fresh are exactly the cells of the latter that are none of the former. Each stands once.
+-- The set without v is solid. Gone are exactly the cells of the complex of s that have v, and these are
+-- those that are none of the complex of the set without v. Fresh are exactly the cells of the latter
+-- that are none of the former. Each stands once.
 pub record IsRefilled (s : List ℕ) (v : ℕ) (gone fresh : List Cell) : Type 0 where
   pub solid : is_solid (without_point v s) ≡ true
   pub star : (c : Cell) → IsIn c gone ↔ (IsIn c (complex s) × IsIn v (points_of c))
@@ -32,4 +33,5 @@ pub record IsRemoval (h : List Entry) (e : Entry) : Type 0 where
 -- Where the rest is solid such an entry follows the history, with exactly the cells that go and those that come.
 abbrev pub RemovalFollows : Type 0
 RemovalFollows =
-    (h : List Entry) (e : Entry) (gone fresh : List Cell) → IsRemoval h e → IsRefilled (replay h) (point_of e.edit) gone fresh → Follows h e gone fresh
+    (h : List Entry) (e : Entry) (gone fresh : List Cell) → IsRemoval h e →
+    IsRefilled (replay h) (point_of e.edit) gone fresh → Follows h e gone fresh

@@ -31,11 +31,13 @@ pub record IsNeeded (hold : InHand) (s : List ℕ) (v b : ℕ) : Type 0 where
 abbrev pub NoneIsNeeded : InHand → List ℕ → ℕ → Type 0
 NoneIsNeeded hold s v = (b : ℕ) → IsNeeded hold s v b → ⊥
 
--- Need: a bucket that is needed. Flat where none is needed and the set without v is not solid. Done where none is needed and it is
--- solid; then there are the cells that go and those that come, and the buckets of all their points are in hand.
+-- Need: a bucket that is needed. Flat where none is needed and the set without v is not solid. Done
+-- where none is needed and it is solid; then there are the cells that go and those that come, and
+-- the buckets of all their points are in hand.
 abbrev pub RefillGives : InHand → List ℕ → ℕ → RefillTurn → Type 0
 RefillGives hold s v (Done f) =
-    NoneIsNeeded hold s v × IsRefilled s v f.gone.items f.fresh.items × AreHeld hold f.gone.items × AreHeld hold f.fresh.items
+    NoneIsNeeded hold s v × IsRefilled s v f.gone.items f.fresh.items × AreHeld hold f.gone.items
+    × AreHeld hold f.fresh.items
 RefillGives hold s v Flat = NoneIsNeeded hold s v × (is_solid (without_point v s) ≡ false)
 RefillGives hold s v (Need b) = IsNeeded hold s v b
 

@@ -1,6 +1,23 @@
--- Wrapping the hole of a point that is taken: the cells that the point takes away from the complex of the points near it, found from
--- the facets of the cells at it.
-use Rattle.std.specs.Prelude.{◌≡◌, ℕ, ◌<◌, true, pos, ◌<ℤ◌, List, [], ◌∷◌, ◌⊎◌, Option, None, Some, if◌then◌else◌, length, slice_index_or}
+-- Wrapping the hole of a point that is taken: the cells that the point takes away from the complex of the points near
+-- it, found from the facets of the cells at it.
+use Rattle.std.specs.Prelude.{
+  ◌≡◌,
+  ℕ,
+  ◌<◌,
+  true,
+  pos,
+  ◌<ℤ◌,
+  List,
+  [],
+  ◌∷◌,
+  ◌⊎◌,
+  Option,
+  None,
+  Some,
+  if◌then◌else◌,
+  length,
+  slice_index_or,
+}
 use Rattle.point_order.specs.declared.cell.Cell.{Cell}
 use Rattle.point_order.specs.declared.cell.Cell.TheVariants.{Full}
 use Rattle.point_order.specs.declared.cell.Facet.{Facet}
@@ -22,8 +39,8 @@ abbrev pub leader_of : ℕ → ℕ → ℕ → Option ℕ → ℕ → ℕ
 leader_of a b c None e = e
 leader_of a b c (Some d) e = if is_outside a b c d e then d else e
 
--- d is one of the points that were met, above the plane of a, b, c; and where one of these makes a cell of t with the three and is
--- above their plane, that is d
+-- d is one of the points that were met, above the plane of a, b, c; and where one of these makes a cell of t with
+-- the three and is above their plane, that is d
 pub record IsApex (t met : List ℕ) (a b c d : ℕ) : Type 0 where
   pub inside : IsIn d met
   pub above : pos 0 <ℤ orientation a b c d
@@ -97,7 +114,8 @@ pub record AreInOrder (f : Facet) (a b c : ℕ) : Type 0 where
 -- Where a point leads of all points of a set above a facet of its complex, the facet and the point are a cell of it.
 abbrev pub LeaderIsApex : Type 0
 LeaderIsApex =
-    (t : List ℕ) (f : Facet) (a b c d : ℕ) → IsSet t → AreInOrder f a b c → IsFacetIn (complex t) f → IsApex t t a b c d →
+    (t : List ℕ) (f : Facet) (a b c d : ℕ) → IsSet t → AreInOrder f a b c → IsFacetIn (complex t) f →
+    IsApex t t a b c d →
     IsIn (Full (ascending (a ∷ b ∷ c ∷ d ∷ []))) (complex t)
 
 -- The triples against v of the cells at v in a set are rim facets of the points near v, and v.

@@ -28,7 +28,8 @@ fn leader(a: Point, b: Point, c: Point, best: Option<Point>, next: Point) -> Poi
     }
 }
 
-// Of the points above the plane of the three the one that makes a cell with them: the one outside of whose sphere the others lie.
+// Of the points above the plane of the three the one that makes a cell with them: the
+// one outside of whose sphere the others lie.
 pub(crate) fn apex_over(points: &[Point], a: Point, b: Point, c: Point) -> Option<Point>
     requires { IsAscending points.now }
     ensures { IfSome result (λ d. IsApex points.now points.now a b c d) }

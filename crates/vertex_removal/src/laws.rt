@@ -3,12 +3,14 @@
 ghost use Rattle.vertex_removal.specs.Refills.{RemovalFollows};
 ghost use Rattle.vertex_removal.specs.Wraps.{LeaderIsApex, OuterIsRim};
 
-/// The entry of a removal follows the history, with exactly the cells that go and those that come: what a change of a mesh asks.
+/// The entry of a removal follows the history, with exactly the cells that go and
+/// those that come: what a change of a mesh asks.
 pub fn removal_follows()
     ensures { RemovalFollows }
 {}
 
-/// What a wrapped hole rests on: which cell lies over a facet, and that the triples against a point of the cells at it bound its hole.
+/// What a wrapped hole rests on: which cell lies over a facet, and that the triples against
+/// a point of the cells at it bound its hole.
 pub fn wrapped_holes()
     ensures apex { LeaderIsApex }
     ensures rim { OuterIsRim }

@@ -23,7 +23,8 @@ use std::alloc::{AllocError, Global};
 // The cells at a point whose bucket is in hand, in ascending order.
 pub(crate) fn star_of(alloc: Global, hold: &Hold, v: Point) -> Result<Vec<Cell>, AllocError>
     requires { IsSome (bucket_at hold.now.places (bucket_of hold.now.grid v)) }
-    ensures { IfOk result (λ star. (s : List ℕ) → Shows hold.now s → star.items ≡ filter (λ c. is_among v (points_of c)) (complex s)) }
+    ensures { IfOk result (λ star. (s : List ℕ) → Shows hold.now s →
+        star.items ≡ filter (λ c. is_among v (points_of c)) (complex s)) }
 {
     let mut star = Vec::new(alloc);
     for cell in hold.cells_around(v) {
@@ -63,7 +64,8 @@ pub(crate) fn is_solid(points: &[Point]) -> bool
 fn add_across(hold: &Hold, cell: &Cell, v: Point, around: &mut Vec<Cell>) -> Result<(), AllocError>
     requires shown { ShowsWith hold.now cell.now }
     requires held { ArePointsHeld hold.now (points_of cell.now) }
-    ensures { OnOk result ((s : List ℕ) → Shows hold.now s → IsIn cell.now (complex s) → AreAdded s v (IsOneOf cell.now (facets_of cell.now)) around.old.items around.new.items) }
+    ensures { OnOk result ((s : List ℕ) → Shows hold.now s → IsIn cell.now (complex s) →
+        AreAdded s v (IsOneOf cell.now (facets_of cell.now)) around.old.items around.new.items) }
 {
     let facets = cell.facets();
     for facet in &facets {
@@ -83,7 +85,8 @@ fn cells_around(
     star: &[Cell],
 ) -> Result<Vec<Cell>, AllocError>
     requires { ShowsStar hold.now v star.now }
-    ensures { IfOk result (λ around. (s : List ℕ) → Shows hold.now s → IsStar s v star.now → AreAdded s v (IsOfOne star.now) star.now around.items) }
+    ensures { IfOk result (λ around. (s : List ℕ) → Shows hold.now s → IsStar s v star.now →
+        AreAdded s v (IsOfOne star.now) star.now around.items) }
 {
     let mut around = Vec::from_slice(alloc, star)?;
     for cell in star {
@@ -92,8 +95,8 @@ fn cells_around(
     Ok(around)
 }
 
-// A solid set between the link of v and the rest, ascending: the link, or where it is flat, the link and the points across from it.
-// There is none where these are flat too, and then the rest is flat.
+// A solid set between the link of v and the rest, ascending: the link, or where it is flat, the link and the points
+// across from it. There is none where these are flat too, and then the rest is flat.
 pub(crate) fn near_set(
     alloc: Global,
     hold: &Hold,
@@ -101,7 +104,8 @@ pub(crate) fn near_set(
     star: &[Cell],
 ) -> Result<Option<Vec<Point>>, AllocError>
     requires { ShowsStar hold.now v star.now }
-    ensures { IfOk result (λ near. (s : List ℕ) → Shows hold.now s → IsIn v s → IsStar s v star.now → MatchOption near (is_solid_of (without_point v s) ≡ false) (λ t. IsLinkSet s v t.items)) }
+    ensures { IfOk result (λ near. (s : List ℕ) → Shows hold.now s → IsIn v s → IsStar s v star.now →
+        MatchOption near (is_solid_of (without_point v s) ≡ false) (λ t. IsLinkSet s v t.items)) }
 {
     let link = points_but(alloc, star, v)?;
     if is_solid(&link) {

@@ -39,13 +39,15 @@ impl Model for Refill {
 pub enum RefillTurn {
     /// The cells at the point, which go, and the cells that come. All buckets of their finite points are in hand.
     Done(Fresh),
-    /// All buckets of the finite points of the cells at the point are in hand, and without the point no four points are independent.
+    /// All buckets of the finite points of the cells at the point are in hand, and without the
+    /// point no four points are independent.
     Flat,
     /// The bucket with this number is not in hand, and has a finite point of a cell at the point.
     Need(u32),
 }
 
-// The cells that v takes away from the complex of the points near it, by wrapping the hole or from the mesh of these points.
+// The cells that v takes away from the complex of the points near it, by wrapping
+// the hole or from the mesh of these points.
 fn cells_coming(
     alloc: Global,
     points: &[Point],
@@ -72,10 +74,11 @@ impl Refill {
         Ok(Refill { point: v })
     }
 
-    /// Looks over the buckets in hand, and answers what goes and comes, that the rest is flat, or which bucket is needed.
+    /// Looks over the buckets in hand, and answers what goes and comes, that the
+    /// rest is flat, or which bucket is needed.
     ///
-    /// The hold is to show a set with the point, whose bucket is to be in hand; the answer is right for each set that the hold shows.
-    /// Between two turns buckets may come to the hold.
+    /// The hold is to show a set with the point, whose bucket is to be in hand; the answer is right for each set that
+    /// the hold shows. Between two turns buckets may come to the hold.
     ///
     /// # Errors
     /// Want of memory. The refill is then as before.

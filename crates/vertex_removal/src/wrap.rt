@@ -1,8 +1,8 @@
 //! The cells that come where a point is taken, found by wrapping the hole that the cells at it leave.
 //!
-//! The hole is bounded by the facets of these cells against the point. Behind each such facet, and behind each facet of a cell that
-//! was found, lies one cell: that of the facet and the point of the link outside of whose sphere the others lie. A facet that was met
-//! from both sides is done with. When none is left, all cells are found.
+//! The hole is bounded by the facets of these cells against the point. Behind each such facet, and behind each facet of
+//! a cell that was found, lies one cell: that of the facet and the point of the link outside of whose sphere the others
+//! lie. A facet that was met from both sides is done with. When none is left, all cells are found.
 
 ghost use Rattle.std.specs.Prelude.{◌≡◌, [], ◌∷◌, ◌↔◌, IfOk, IfSome, OnOk, IsTrue};
 ghost use Rattle.conv_laws.specs.Lists.{AreDistinct};
@@ -11,7 +11,16 @@ ghost use Rattle.point_order.specs.Facets.{facets_of, points_of};
 ghost use Rattle.point_order.specs.Sets.{IsIn};
 ghost use Rattle.hole_laws.specs.Edits.{GoesFrom};
 ghost use Rattle.vertex_removal.specs.Near.{AreTaken};
-ghost use Rattle.vertex_removal.specs.Wraps.{CanWrap, IsHole, IsOuter, IsFacetIn, AreSidesOf, AreMet, IsPlaceOf, AreInOrder};
+ghost use Rattle.vertex_removal.specs.Wraps.{
+  CanWrap,
+  IsHole,
+  IsOuter,
+  IsFacetIn,
+  AreSidesOf,
+  AreMet,
+  IsPlaceOf,
+  AreInOrder,
+};
 
 use crate::apex::{apex_over, is_over};
 use point_order::{Cell, Facet, Point, Tri};
@@ -188,8 +197,8 @@ fn is_among(cells: &[Cell], cell: &Cell) -> bool
     false
 }
 
-// The cells that v takes away from the complex of the points near it, by wrapping the hole of the cells at v; none where one of these
-// is Open, or where there is too much to look at.
+// The cells that v takes away from the complex of the points near it, by wrapping the hole of the cells at v; none
+// where one of these is Open, or where there is too much to look at.
 pub(crate) fn cells_wrapped(
     alloc: Global,
     points: &[Point],

@@ -1,7 +1,28 @@
 -- Expressions over the whole numbers, their value at a list of numbers, and the polynomial that each computes to.
--- Every definition here is an `abbrev`, so that a proof computes with it: the value of a written expression is the term that it
--- stands for, and whether two expressions have the same polynomial is a test that computes.
-use Rattle.std.specs.Prelude.{ℤ, pos, negsuc, ◌+ℤ◌, ◌*ℤ◌, neg_ℤ, ◌≤ℤ◌, ◌<ℤ◌, ℕ, zero, suc, List, [], ◌∷◌, Bool, true, false, eqb, ltb, ◌≡◌}
+-- Every definition here is an `abbrev`, so that a proof computes with it: the value of a written expression is the term
+-- that it stands for, and whether two expressions have the same polynomial is a test that computes.
+use Rattle.std.specs.Prelude.{
+  ℤ,
+  pos,
+  negsuc,
+  ◌+ℤ◌,
+  ◌*ℤ◌,
+  neg_ℤ,
+  ◌≤ℤ◌,
+  ◌<ℤ◌,
+  ℕ,
+  zero,
+  suc,
+  List,
+  [],
+  ◌∷◌,
+  Bool,
+  true,
+  false,
+  eqb,
+  ltb,
+  ◌≡◌,
+}
 
 -- ---- expressions
 
@@ -76,7 +97,8 @@ add_num c (node i p q) = node i (add_num c p) q
 abbrev pub add_node : ℕ → Sum → Sum → (Sum → Sum) → (Sum → Sum) → Sum → Sum
 add_node i p q f g (num c) = node i (add_num c p) q
 add_node i p q f g (node j r s) =
-    pick (eqb i j) (λ u. made i (f r) (g s)) (λ u. pick (ltb i j) (λ v. node i (f (node j r s)) q) (λ v. node j (add_node i p q f g r) s))
+    pick (eqb i j) (λ u. made i (f r) (g s)) (λ u.
+    pick (ltb i j) (λ v. node i (f (node j r s)) q) (λ v. node j (add_node i p q f g r) s))
 
 -- the sum of two polynomials
 abbrev pub add_sum : Sum → Sum → Sum
@@ -102,7 +124,8 @@ scale (negsuc n) t = times_num (negsuc n) t
 -- the variable i times a polynomial
 abbrev pub times_var : ℕ → Sum → Sum
 times_var i (num c) = made i (num (pos 0)) (num c)
-times_var i (node j r s) = pick (ltb j i) (λ u. node j (times_var i r) (times_var i s)) (λ u. node i (num (pos 0)) (node j r s))
+times_var i (node j r s) =
+    pick (ltb j i) (λ u. node j (times_var i r) (times_var i s)) (λ u. node i (num (pos 0)) (node j r s))
 
 -- the product of two polynomials
 abbrev pub mul_sum : Sum → Sum → Sum

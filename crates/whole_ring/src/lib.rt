@@ -4,7 +4,16 @@
 //! `proofs/Ring` (identities and signs by computing), `proofs/Whole`, `proofs/Signs` and `proofs/Bounds`.
 #![tactic(auto)]
 
-ghost use Rattle.whole_ring.specs.Laws.{RingLaw, CombinationLaw, NonnegativeLaw, PositiveLaw, SignOfProduct, ZeroFactor, SizeOfSum, SizeOfProduct};
+ghost use Rattle.whole_ring.specs.Laws.{
+  RingLaw,
+  CombinationLaw,
+  NonnegativeLaw,
+  PositiveLaw,
+  SignOfProduct,
+  ZeroFactor,
+  SizeOfSum,
+  SizeOfProduct,
+};
 
 /// Two expressions have the same value at every list of numbers, where their difference computes to the polynomial 0;
 /// and at every list where given equations hold, where it is a combination of those.

@@ -99,7 +99,8 @@ fn put_star(text: &mut String, hold: &Hold, p: Point) -> Result<(), AllocError> 
     Ok(())
 }
 
-// The cells at a point by a search that is counted: with at most four points in the bucket it makes at most three comparisons.
+// The cells at a point by a search that is counted: with at most four points in the
+// bucket it makes at most three comparisons.
 fn searched<'a, L: Ledger>(hold: &'a Hold, p: Point, steps: &mut Steps<L>) -> Star<'a>
     requires stands { StandsForSome hold.now }
     requires bucket { IsSome (bucket_at hold.now.places (number_of hold.now.grid p)) }

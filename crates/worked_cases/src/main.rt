@@ -1,10 +1,10 @@
 //! Worked cases of the layers below the top call: a case a line on standard input, and its answer a line on
 //! standard output.
 //!
-//! A case is what is asked, the size of a grid or another number, and lists of words behind semicolons. A point is written `x,y,z`, and
-//! an edit is a point behind `+` or `-`. Of a mesh that is asked about, the first four independent points come first,
-//! and then the others, each with its place for a tag. Of the buckets those with the numbers HELD are in hand, or
-//! `all`, or all `but` those that follow. A line that begins with `#` is answered by itself.
+//! A case is what is asked, the size of a grid or another number, and lists of words behind semicolons. A point is
+//! written `x,y,z`, and an edit is a point behind `+` or `-`. Of a mesh that is asked about, the first four independent
+//! points come first, and then the others, each with its place for a tag. Of the buckets those with the numbers HELD
+//! are in hand, or `all`, or all `but` those that follow. A line that begins with `#` is answered by itself.
 //!
 //! - `grid SIZE; POINTS`: how many buckets the grid has, and those of the points.
 //! - `enter SIZE; EDITS`: an empty bucket at each point of the edits; after each entry how many points and entries its
