@@ -2,6 +2,7 @@
 use Rattle.std.proofs.Common.{◌≡◌, refl, sym, subst, ap, ◌∙◌, ℕ, ◌<◌, inl, inr, Bool, true, false, List, [], ◌∷◌, ◌++◌, map, length, arith}
 use Rattle.std.specs.Prelude.{◌&&◌, ◌||◌}
 use Rattle.std.specs.List.{filter, list_all, list_any}
+use Rattle.list_laws.proofs.Cited.{any_from, any_true, both_true, filtered_from, filtered_true, first_true, from_append, in_left, in_right, left_true, one_true, right_true, same_test, second_true}
 use Rattle.point_order.specs.declared.cell.Cell.{Cell}
 use Rattle.point_order.specs.declared.cell.Cell.TheVariants.{Full, Open}
 use Rattle.point_order.specs.declared.cell.Facet.{Facet}
@@ -12,12 +13,9 @@ use Rattle.point_order.specs.Sets.{IsIn, IsAscending}
 use Rattle.point_order.specs.Solid.{is_solid}
 use Rattle.point_order.specs.Subsets.{subsets}
 use Rattle.del_laws.specs.Keys.{AreKeys}
-use Rattle.del_laws.proofs.Listed.{in_left, in_right, from_append, part_inside, part_ascending, part_true, listed_is_cell}
-use Rattle.del_laws.proofs.ListedParts.{listed_every_point}
-use Rattle.del_laws.proofs.Tests.{any_from, any_true, both_true, first_true, second_true, left_true, right_true, one_true, same_test, filtered_from, filtered_true}
+use Rattle.del_laws.proofs.Cited.{listed_every_point, listed_is_cell, part_ascending, part_inside, part_true}
 use Rattle.face_list.specs.Faces.{full_cells, parts_in, cells_with, with_cells, points_with_cells}
-use Rattle.face_list.proofs.FullCells.{full_cell_is_listed, listed_is_full_cell}
-use Rattle.face_list.proofs.FaceLaws.{listed_is_part, part_is_listed}
+use Rattle.face_list.proofs.Cited.{full_cell_is_listed, listed_is_full_cell, listed_is_part, part_is_listed}
 use Rattle.gabriel_faces.specs.Gabriel.{is_gabriel}
 use Rattle.alpha_complex.specs.Admitted.{is_within, faces_inside, contains, is_small, is_admitted, is_admitted_cell, kind_by, kind}
 use Rattle.alpha_complex.specs.Judged.{is_listed, is_small_cell, is_listed_around, covers, is_small_by, small_among, is_admitted_triple, is_admitted_pair, kinds_by}

@@ -7,3 +7,4 @@ pub mod SmallFaces
 pub mod Admission
 pub mod Shaped
 pub mod Told
+pub mod Cited

@@ -10,12 +10,10 @@ use Rattle.std.proofs.lemmas.Map.Text.{is_eq-slice_cmp}
 use Rattle.std.proofs.lemmas.Slice.Eq.{bytes_eq-Decides}
 use Rattle.point_order.specs.declared.cell.Cell.{Cell}
 use Rattle.point_order.specs.Sets.{IsIn}
-use Rattle.del_laws.proofs.Listed.{mapped_from, mapped_true}
-use Rattle.del_laws.proofs.Tests.{any_true, filtered_from, filtered_true, same_test, true_or_false}
-use Rattle.face_list.proofs.Sorting.{all_in, at_in, itself}
 use Rattle.alpha_complex.specs.Judged.{is_listed, is_small_by, small_among}
 use Rattle.alpha_complex.specs.Leasts.{AreOrdered}
 use Rattle.std.proofs.lemmas.List.{get_or-map}
+use Rattle.list_laws.proofs.Cited.{any_true, at_in, each_by, filtered_from, filtered_true, itself, mapped_from, mapped_true, same_test, true_or_false}
 use Rattle.alpha_complex.proofs.Leasts.{length_mapped}
 use Rattle.alpha_complex.proofs.SmallFaces.{listed_from, listed_true}
 
@@ -30,7 +28,7 @@ same_points (x ∷ faces) f g s i j e = elim i [
   where
     -- the first has not the points of another
     twice : (h : List ℕ × List Cell) → IsIn h faces → x.0 ≡ h.0 → ⊥
-    twice h m q = itself (slice_cmp nat_cmp) nat_list_cmp_total h.0 (subst (λ v. slice_cmp nat_cmp v h.0 ≡ Less) q (all_in (λ z. slice_cmp nat_cmp x.0 z ≡ Less) (map (λ (v : List ℕ × List Cell). v.0) faces) h.0 s.0 (mapped_true (λ (v : List ℕ × List Cell). v.0) h faces m)))
+    twice h m q = itself (slice_cmp nat_cmp) nat_list_cmp_total h.0 (subst (λ v. slice_cmp nat_cmp v h.0 ≡ Less) q (each_by (λ z. slice_cmp nat_cmp x.0 z ≡ Less) (map (λ (v : List ℕ × List Cell). v.0) faces) s.0 h.0 (mapped_true (λ (v : List ℕ × List Cell). v.0) h faces m)))
 
 -- what is listed among the small faces is a small one of the faces
 listed_small : (a : ℕ) (faces : List (List ℕ × List Cell)) (t : List ℕ) → is_listed (small_among a faces) t ≡ true → (f : List ℕ × List Cell) × IsIn f faces × (f.0 ≡ t) × (is_small_by a f ≡ true)

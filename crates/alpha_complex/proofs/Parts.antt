@@ -1,9 +1,9 @@
 -- Parts of ascending lists of points: how long they are, and which parts contain which.
 use Rattle.std.proofs.Common.{◌≡◌, refl, sym, subst, ap, ◌∙◌, ℕ, zero, suc, ◌<◌, inl, inr, true, List, [], ◌∷◌, map, length, arith}
+use Rattle.list_laws.proofs.Cited.{all_from, all_true, among_from, among_true, from_append, mapped_from}
 use Rattle.point_order.specs.Sets.{IsIn, IsAscending, is_among}
 use Rattle.point_order.specs.Subsets.{subsets}
-use Rattle.del_laws.proofs.Listed.{from_append, mapped_from, part_true}
-use Rattle.del_laws.proofs.Tests.{all_from, all_true, among_from, among_true}
+use Rattle.del_laws.proofs.Cited.{part_true}
 use Rattle.alpha_complex.specs.Admitted.{contains}
 
 -- a part with k points has k points

@@ -7,8 +7,7 @@ use Rattle.point_order.specs.Sets.{IsAscending}
 use Rattle.del_laws.specs.Keys.{AreKeys}
 use Rattle.face_list.specs.Faces.{full_cells, parts_in}
 use Rattle.face_list.specs.Seen.{FaceLists}
-use Rattle.face_list.proofs.FullCells.{listed_is_full_cell}
-use Rattle.face_list.proofs.FaceLaws.{parts_in_order, points_of_complex}
+use Rattle.face_list.proofs.Cited.{listed_is_full_cell, parts_in_order, points_of_complex}
 use Rattle.alpha_complex.specs.Admitted.{is_within, is_admitted}
 use Rattle.alpha_complex.specs.Condition.{AreFaces, AreFacesOf}
 use Rattle.alpha_complex.specs.Judged.{is_admitted_triple, is_admitted_pair, kinds_by}

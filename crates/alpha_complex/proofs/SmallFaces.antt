@@ -6,15 +6,14 @@ use Rattle.std.specs.Ordering.{nat_cmp, is_eq}
 use Rattle.std.specs.Cmp.Lexicographic.{slice_cmp}
 use Rattle.std.proofs.lemmas.Map.Text.{is_eq-slice_cmp}
 use Rattle.std.proofs.lemmas.Slice.Eq.{bytes_eq-Decides}
+use Rattle.list_laws.proofs.Cited.{any_from, any_true}
 use Rattle.point_order.specs.declared.cell.Cell.{Cell}
 use Rattle.point_order.specs.Complex.{complex}
 use Rattle.point_order.specs.Sets.{IsIn, IsAscending}
 use Rattle.del_laws.specs.Keys.{AreKeys}
-use Rattle.del_laws.proofs.Tests.{any_from, any_true}
 use Rattle.face_list.specs.Faces.{parts_in, cells_with, with_cells}
 use Rattle.gabriel_faces.specs.Links.{link_of}
-use Rattle.gabriel_faces.proofs.JudgedByLink.{judged_by_link}
-use Rattle.gabriel_faces.proofs.Links.{listed_is_face, link_is_link}
+use Rattle.gabriel_faces.proofs.Cited.{judged_by_link, link_is_link, listed_is_face}
 use Rattle.alpha_complex.specs.Admitted.{is_within, is_small}
 use Rattle.alpha_complex.specs.Judged.{is_listed, is_small_by, small_among}
 

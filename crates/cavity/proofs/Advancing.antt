@@ -1,63 +1,49 @@
 -- A dig goes on: each turn explores found cells whose buckets are in hand, and there are not more of them than cells in hand.
-use Rattle.std.specs.Prelude.{◌≡◌, ℕ, ◌+◌, zero, suc, ◌<◌, List, [], ◌∷◌, ◌++◌, ◌==◌, length, take, slice_index_or, Option, None, Some, IsSome}
+use Rattle.std.specs.Prelude.{◌≡◌, ℕ, ◌+◌, zero, suc, ◌<◌, List, [], ◌∷◌, ◌++◌, ◌==◌, length, take, slice_index_or, Option, Some, IsSome}
 use Rattle.std.specs.List.{flat_map}
 use Rattle.std.specs.Option.{option_map_or}
 use Rattle.std.proofs.Common.{refl, sym, ◌∙◌, ap, subst, inl, inr, arith, append-nil, length-take}
 use Rattle.std.proofs.lemmas.Bool.{eq-eqb}
 use Rattle.std.proofs.lemmas.Grind.{flat_map-append}
 use Rattle.std.proofs.lemmas.List.{take-append-le}
+use Rattle.list_laws.proofs.Cited.{any_true, apart_place, at_most, at_place, distinct_take, filtered_true, flat_from, in_flat, in_left, in_take, none_there, some_of, take_next}
 use Rattle.point_order.specs.declared.cell.Cell.{Cell}
-use Rattle.point_order.specs.declared.cell.Cell.TheVariants.{Full, Open}
 use Rattle.point_order.specs.declared.cell.Facet.{Facet}
 use Rattle.point_order.specs.Complex.{complex}
 use Rattle.point_order.specs.Coordinates.{IsKey}
 use Rattle.point_order.specs.Facets.{facets_of, points_of}
 use Rattle.point_order.specs.Sets.{IsIn}
-use Rattle.del_laws.specs.Listed.{IsListed}
-use Rattle.del_laws.proofs.Listed.{listed_is_cell, in_left}
-use Rattle.del_laws.proofs.Tests.{any_true, filtered_true}
+use Rattle.del_laws.proofs.Cited.{listed_is_cell}
 use Rattle.hole_laws.specs.Edits.{IsSolidSet, GoesFrom}
-use Rattle.hole_laws.proofs.RimCells.{one_gone_each}
+use Rattle.hole_laws.proofs.Cited.{one_gone_each}
 use Rattle.cell_store.specs.Grids.{bucket_of}
-use Rattle.cell_store.specs.Buckets.{Content, InHand, bucket_at}
+use Rattle.cell_store.specs.Buckets.{BucketContent, InHand, bucket_at}
 use Rattle.cell_store.specs.Ready.{AreHeld}
 use Rattle.cell_store.specs.Shares.{Shows}
 use Rattle.cell_store.specs.Swaps.{touches}
 use Rattle.cavity.specs.Digs.{Digging, CanDig, AreCrossed, IsDigIn, IsDoneIn, facets_of_first}
 use Rattle.cavity.specs.Exploring.{IsCellMissing, IsAt, AreUncrossed, ArePointsHeld, Explores}
 use Rattle.cavity.specs.Turns.{IsNeeded, NoneIsNeeded}
-use Rattle.cell_conflict.proofs.Counting.{at_most}
-use Rattle.cavity.proofs.Lists.{at_place, apart_place, in_take, take_next, distinct_take, flat_from, in_flat}
-use Rattle.cavity.proofs.Held.{not_some, cells_more}
-use Rattle.cell_store.proofs.ShareLaws.{solid_set}
+use Rattle.cavity.proofs.Held.{cells_more}
+use Rattle.cell_store.proofs.Cited.{has_point, solid_set}
 use Rattle.cavity.proofs.Filling.{all_found}
 
 -- ---- the cells in hand
 
 -- the cells of all buckets in hand
-abbrev pub cells_in_hand : List (Option Content) → List Cell
+abbrev pub cells_in_hand : List (Option BucketContent) → List Cell
 cells_in_hand places = flat_map (λ o. option_map_or (λ c. c.cells) o []) places
 
 -- a bucket by its number is one of the list
-bucket_in : (places : List (Option Content)) (b : ℕ) (c : Content) → bucket_at places b ≡ Some c → IsIn (Some c) places
+bucket_in : (places : List (Option BucketContent)) (b : ℕ) (c : BucketContent) → bucket_at places b ≡ Some c → IsIn (Some c) places
 bucket_in [] b c e = (cc)
 bucket_in (o ∷ places) zero c e = inl e
 bucket_in (o ∷ places) (suc b) c e = inr (bucket_in places b c e)
 
--- what an option that has a value is
-some_of : {X : Type 0} (o : Option X) → IsSome o → (x : X) × (o ≡ Some x)
-some_of None e = (cc)
-some_of (Some x) e = (x, refl)
-
--- a listed cell has a point
-some_point : (s : List ℕ) (q : Cell) → IsListed s q → (e : ℕ) × IsIn e (points_of q)
-some_point s (Full q) r = (r.a, subst (λ (v : List ℕ). IsIn r.a v) (sym r.is) (inl refl))
-some_point s (Open q) r = (r.a, subst (λ (v : List ℕ). IsIn r.a v) (sym r.is) (inl refl))
-
 -- a cell of the complex whose buckets are in hand is in one of them
 cell_in_hand : (hold : InHand) (h : List ℕ) → Shows hold h → (q : Cell) → IsIn q (complex h) → ((e : ℕ) → IsIn e (points_of q) → IsSome (bucket_at hold.places (bucket_of hold.grid e))) → IsIn q (cells_in_hand hold.places)
 cell_in_hand hold h st q m held =
-    let e = some_point h q (listed_is_cell h q (solid_set hold h st).set.ascending m) in
+    let e = has_point h q (listed_is_cell h q (solid_set hold h st).set.ascending m) in
     let b = bucket_of hold.grid e.0 in
     let k = some_of (bucket_at hold.places b) (held e.0 e.1) in
     let t = any_true (λ p. bucket_of hold.grid p == b) (points_of q) e.0 e.1 (eq-eqb b b refl) in
@@ -75,7 +61,7 @@ few_explored hold h d st k less held =
 module _ (s : List ℕ) (i : IsSolidSet s) (d : Digging) (k : IsDigIn s d) (cell : Cell) (h : d.explored < length d.found) (at : cell ≡ slice_index_or d.found d.explored cell) where
   -- it was found
   pub next_at : IsAt s d.point (facets_of_first d.explored d.found) cell d.found d.rim
-  next_at = record { new = k.new; so_far = k.crossed; among = at_place d.found d.explored cell h at }
+  next_at = record { new = k.new; so_far = k.crossed; among = at_place d.found d.explored cell cell h at }
 
   -- no rim facet of it was crossed
   pub next_new : AreUncrossed s d.point (facets_of_first d.explored d.found) (facets_of cell)
@@ -161,4 +147,4 @@ cell_needed hold s d found b e k m = record {
 -- where the dig is done and the buckets of its cells are in hand, none is needed
 pub none_needed : (hold : InHand) (s : List ℕ) (d : Digging) → IsDoneIn s d → AreHeld hold d.found → NoneIsNeeded hold s d.point
 none_needed hold s d k held b n =
-    not_some (bucket_at hold.places b) n.absent (subst (λ (x : ℕ). IsSome (bucket_at hold.places x)) (sym n.number) (held n.cell (all_found s d k n.cell n.goes) n.point n.has))
+    none_there (bucket_at hold.places b) n.absent (subst (λ (x : ℕ). IsSome (bucket_at hold.places x)) (sym n.number) (held n.cell (all_found s d k n.cell n.goes) n.point n.has))

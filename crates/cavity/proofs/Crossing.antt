@@ -1,20 +1,19 @@
 -- Crossing a facet of a found cell: the cell behind it is found, or the facet is one of the rim.
 use Rattle.std.specs.Prelude.{◌≡◌, ℕ, List, [], ◌∷◌, ◌++◌, ◌⊎◌}
 use Rattle.std.proofs.Common.{refl, sym, subst, inl, inr}
-use Rattle.conv_laws.specs.Lists.{AreDistinct}
+use Rattle.list_laws.specs.Lists.{AreDistinct}
+use Rattle.list_laws.proofs.Cited.{distinct_push, from_append, in_left, in_right}
 use Rattle.point_order.specs.declared.cell.Cell.{Cell}
 use Rattle.point_order.specs.declared.cell.Facet.{Facet}
 use Rattle.point_order.specs.Complex.{complex}
 use Rattle.point_order.specs.Facets.{facets_of}
 use Rattle.point_order.specs.Sets.{IsIn, with_point}
-use Rattle.del_laws.proofs.Listed.{in_left, in_right, from_append}
 use Rattle.hole_laws.specs.Edits.{IsSolidSet, GoesFrom, StaysFrom, IsRimOf}
 use Rattle.cell_store.specs.Others.{IsOtherOf}
 use Rattle.cavity.specs.Digs.{AreCrossed}
 use Rattle.cavity.specs.Exploring.{IsAt, AreUncrossed}
 use Rattle.cavity.specs.Tables.{AreBehind}
-use Rattle.cavity.proofs.Lists.{distinct_push}
-use Rattle.cell_conflict.proofs.Standing.{one_of_two}
+use Rattle.cell_conflict.proofs.Cited.{one_of_two}
 
 module _ (s : List ℕ) (p : ℕ) (i : IsSolidSet s) (crossed : List Facet) (cell other : Cell) (f : Facet) (found : List Cell) (rim : List Facet)
     (t : IsAt s p crossed cell found rim) (m : IsIn f (facets_of cell)) (o : IsOtherOf (complex s) cell f other) where

@@ -1,7 +1,8 @@
 -- Exploring a found cell: its four facets are crossed, one after another.
 use Rattle.std.specs.Prelude.{◌≡◌, ℕ, ◌+◌, ◌<◌, ◌≤◌, List, [], ◌∷◌, ◌++◌, length, take, slice_index_or}
 use Rattle.std.proofs.Common.{sym, ◌∙◌, ap, subst, inl, inr, arith, append_assoc}
-use Rattle.conv_laws.specs.Lists.{AreDistinct}
+use Rattle.list_laws.specs.Lists.{AreDistinct}
+use Rattle.list_laws.proofs.Cited.{apart_place, at_place, four_once, from_append, in_left, none_there, take_next}
 use Rattle.point_order.specs.declared.cell.Cell.{Cell}
 use Rattle.point_order.specs.declared.cell.Cell.TheVariants.{Full, Open}
 use Rattle.point_order.specs.declared.cell.Facet.{Facet}
@@ -10,26 +11,14 @@ use Rattle.point_order.specs.Complex.{complex}
 use Rattle.point_order.specs.Facets.{facets_of, points_of}
 use Rattle.point_order.specs.Sets.{IsIn}
 use Rattle.del_laws.specs.Listed.{IsListed}
-use Rattle.del_laws.proofs.Listed.{listed_is_cell, in_left, from_append}
+use Rattle.del_laws.proofs.Cited.{listed_is_cell}
 use Rattle.hole_laws.specs.Edits.{IsSet}
 use Rattle.cell_store.specs.Buckets.{InHand, bucket_at}
 use Rattle.cell_store.specs.Grids.{bucket_of}
 use Rattle.cell_store.specs.Shares.{NoneInHand, points_on}
 use Rattle.cavity.specs.Digs.{AreCrossed}
 use Rattle.cavity.specs.Exploring.{ArePointsHeld, IsAt, AreUncrossed}
-use Rattle.cavity.proofs.Lists.{apart_place, at_place, take_next}
-use Rattle.cavity.proofs.Held.{not_some}
-use Rattle.cell_conflict.proofs.Standing.{some_on, on_cell}
-
--- four that are apart
-four_once : {X : Type 0} (w x y z : X) → ¬ (x ≡ w) → ¬ (y ≡ w) → ¬ (z ≡ w) → ¬ (y ≡ x) → ¬ (z ≡ x) → ¬ (z ≡ y) → AreDistinct (w ∷ x ∷ y ∷ z ∷ [])
-four_once w x y z xw yw zw yx zx zy = (
-  λ m. elim m [ inl e ↦ xw e | inr k ↦ elim k [ inl e ↦ yw e | inr l ↦ elim l [ inl e ↦ zw e | inr none ↦ none ] ] ],
-  (
-    λ m. elim m [ inl e ↦ yx e | inr k ↦ elim k [ inl e ↦ zx e | inr none ↦ none ] ],
-    (λ m. elim m [ inl e ↦ zy e | inr none ↦ none ], (λ none. none, tt)),
-  ),
-)
+use Rattle.cell_conflict.proofs.Cited.{on_cell, some_on}
 
 -- the facets of a cell whose points ascend
 full_facets_once : (a b c d : ℕ) → a < b → b < c → c < d → AreDistinct (facets_of (Full (a ∷ b ∷ c ∷ d ∷ [])))
@@ -70,13 +59,13 @@ facets_few (Open (a ∷ b ∷ c ∷ d ∷ q)) = omega arith
 pub facet_held : (hold : InHand) (s : List ℕ) → IsSet s → (q : Cell) → IsIn q (complex s) → ArePointsHeld hold (points_of q) → (f : Facet) → IsIn f (facets_of q) → ¬ (NoneInHand hold (points_on f))
 facet_held hold s i q m held f n none =
     let e = some_on s i q m f n in
-    not_some (bucket_at hold.places (bucket_of hold.grid e.0)) (none e.0 e.1) (held e.0 (on_cell s i q m f n e.0 e.1))
+    none_there (bucket_at hold.places (bucket_of hold.grid e.0)) (none e.0 e.1) (held e.0 (on_cell s i q m f n e.0 e.1))
 
 module _ (s : List ℕ) (p : ℕ) (i : IsSet s) (crossed : List Facet) (cell : Cell) (found : List Cell) (rim : List Facet) (t : IsAt s p crossed cell found rim) (u : AreUncrossed s p crossed (facets_of cell))
     (facets : List Facet) (n : ℕ) (f : Facet) (same : facets ≡ facets_of cell) (h : n < length facets) (at : f ≡ slice_index_or facets n f) where
   -- the next facet is one of the cell's
   pub next_facet : IsIn f (facets_of cell)
-  next_facet = subst (λ (l : List Facet). IsIn f l) same (at_place facets n f h at)
+  next_facet = subst (λ (l : List Facet). IsIn f l) same (at_place facets n f f h at)
 
   -- and was not crossed
   pub next_uncrossed : AreUncrossed s p (crossed ++ take n facets) (f ∷ [])

@@ -3,21 +3,20 @@ use Rattle.std.specs.Prelude.{ℕ, List, map, IsSome}
 use Rattle.std.specs.List.{flat_map}
 use Rattle.std.proofs.Common.{sym, subst, inl, inr}
 use Rattle.std.proofs.lemmas.List.{take_all}
+use Rattle.list_laws.proofs.Cited.{distinct_map, in_flat, mapped_from, mapped_true}
 use Rattle.point_order.specs.declared.cell.Cell.{Cell}
 use Rattle.point_order.specs.declared.cell.Facet.{Facet}
 use Rattle.point_order.specs.Facets.{facets_of}
 use Rattle.point_order.specs.Sets.{IsIn}
-use Rattle.del_laws.proofs.Listed.{listed_is_cell, listed_inside, mapped_true, mapped_from}
+use Rattle.del_laws.proofs.Cited.{listed_inside, listed_is_cell}
 use Rattle.hole_laws.specs.Lists.{cell_over}
 use Rattle.hole_laws.specs.Edits.{GoesFrom, IsRimOf, IsFresh}
-use Rattle.hole_laws.proofs.Laws.{cells_after, fresh_have_point, old_lack_point, region_connected, fresh_are_near}
-use Rattle.hole_laws.proofs.RimCells.{one_fresh_each}
+use Rattle.hole_laws.proofs.Cited.{cells_after, fresh_are_near, fresh_have_point, old_lack_point, one_fresh_each, region_connected}
 use Rattle.cell_store.specs.Grids.{bucket_of}
 use Rattle.cell_store.specs.Buckets.{bucket_at}
 use Rattle.cavity.specs.Digs.{Digging, AreCrossed, IsDoneIn}
 use Rattle.cavity.specs.Fills.{IsFilled, IsFacetApart, FreshAreHeld}
-use Rattle.cavity.proofs.Lists.{in_flat, distinct_map}
-use Rattle.cell_conflict.proofs.Standing.{on_cell}
+use Rattle.cell_conflict.proofs.Cited.{on_cell}
 
 module _ (s : List ℕ) (d : Digging) (k : IsDoneIn s d) where
   -- the facets of all found cells were crossed

@@ -1,7 +1,8 @@
 -- Buckets in hand, and buckets that are missing.
-use Rattle.std.specs.Prelude.{◌≡◌, ℕ, ◌+◌, ◌*◌, ◌<◌, ◌≤◌, Bool, true, false, List, length, take, slice_index_or, Option, None, Some, IsSome, is_some, MatchOption}
-use Rattle.std.proofs.Common.{refl, sym, ◌∙◌, ap, subst, inl, inr}
+use Rattle.std.specs.Prelude.{◌≡◌, ℕ, ◌+◌, ◌*◌, ◌<◌, ◌≤◌, Bool, true, false, List, length, take, slice_index_or, IsSome, is_some}
+use Rattle.std.proofs.Common.{sym, ◌∙◌, ap, subst, inl, inr}
 use Rattle.std.proofs.lemmas.List.{take_all}
+use Rattle.list_laws.proofs.Cited.{at_place, in_take_more, none_is}
 use Rattle.point_order.specs.declared.cell.Cell.{Cell}
 use Rattle.point_order.specs.Facets.{points_of}
 use Rattle.point_order.specs.Sets.{IsIn}
@@ -9,22 +10,6 @@ use Rattle.cell_store.specs.Grids.{bucket_of}
 use Rattle.cell_store.specs.Buckets.{InHand, bucket_at}
 use Rattle.cell_store.specs.Ready.{AreHeld}
 use Rattle.cavity.specs.Exploring.{ArePointsHeld, IsBucketMissing, IsCellMissing}
-use Rattle.cavity.proofs.Lists.{at_place, in_take_more}
-
--- an option that has no value
-none_is : {X : Type 0} (o : Option X) → is_some o ≡ false → o ≡ None
-none_is None e = refl
-none_is (Some x) e = (cc)
-
--- and not both
-pub not_some : {X : Type 0} (o : Option X) → o ≡ None → ¬ (IsSome o)
-not_some None e k = (cc)
-not_some (Some x) e k = (cc)
-
--- what is said of an option that is not Some
-pub at_none : {X : Type 0} (o : Option X) (P : Type 0) (Q : X → Type 0) → ((x : X) → ¬ (o ≡ Some x)) → MatchOption o P Q → P
-at_none None P Q n m = m
-at_none (Some x) P Q n m = absurd (n x refl)
 
 -- the number of the bucket of a point, in the grid of a hold
 number_in : (hold : InHand) (g p b : ℕ) → g ≡ hold.grid → b ≡ bucket_of g p → b ≡ bucket_of hold.grid p
@@ -49,7 +34,7 @@ points_more hold ps i g p b t h at e f is holds held q m = elim (in_take_more ps
 
 -- the bucket of a point of one of the cells is missing
 pub cell_missing : (hold : InHand) (cells : List Cell) (i : ℕ) (cell : Cell) (ps : List ℕ) (b : ℕ) → i < length cells → cell ≡ slice_index_or cells i cell → ps ≡ points_of cell → IsBucketMissing hold ps b → IsCellMissing hold cells b
-cell_missing hold cells i cell ps b h at e m = record { cell = cell; among = at_place cells i cell h at; missing = subst (λ (l : List ℕ). IsBucketMissing hold l b) e m }
+cell_missing hold cells i cell ps b h at e m = record { cell = cell; among = at_place cells i cell cell h at; missing = subst (λ (l : List ℕ). IsBucketMissing hold l b) e m }
 
 -- the next cell's buckets are in hand too
 pub cells_more : (hold : InHand) (cells : List Cell) (i : ℕ) (cell : Cell) (ps : List ℕ) → i < length cells → cell ≡ slice_index_or cells i cell → ps ≡ points_of cell → ArePointsHeld hold ps → AreHeld hold (take i cells) → AreHeld hold (take (i + 1) cells)

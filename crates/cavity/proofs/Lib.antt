@@ -1,7 +1,7 @@
-pub mod Lists
 pub mod Tables
 pub mod Crossing
 pub mod Held
 pub mod Filling
 pub mod Exploration
 pub mod Advancing
+pub mod Cited

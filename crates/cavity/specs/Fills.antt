@@ -1,6 +1,6 @@
 -- The cells that a new point takes away, and those that it brings.
 use Rattle.std.specs.Prelude.{ℕ, List, IsSome}
-use Rattle.conv_laws.specs.Lists.{AreDistinct}
+use Rattle.list_laws.specs.Lists.{AreDistinct}
 use Rattle.point_order.specs.declared.cell.Cell.{Cell}
 use Rattle.point_order.specs.declared.cell.Facet.{Facet}
 use Rattle.point_order.specs.Complex.{complex}

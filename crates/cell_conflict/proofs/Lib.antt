@@ -1,4 +1,4 @@
-pub mod Counting
 pub mod Standing
 pub mod Mates
 pub mod Searching
+pub mod Cited

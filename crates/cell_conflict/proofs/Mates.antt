@@ -2,6 +2,7 @@
 use Rattle.std.specs.Prelude.{◌≡◌, ℕ, Bool, true, false, List, [], ◌∷◌, ◌⊎◌, MatchBool, not, Some, None}
 use Rattle.std.specs.List.{find}
 use Rattle.std.proofs.Common.{sym, subst, inl, inr, arith}
+use Rattle.list_laws.proofs.Cited.{IsFound, among_from, among_true, at_most, distinct_ascending, found_from, not_both, not_from, not_true, searched, true_or_false}
 use Rattle.point_order.specs.declared.cell.Cell.{Cell}
 use Rattle.point_order.specs.declared.cell.Cell.TheVariants.{Full, Open}
 use Rattle.point_order.specs.declared.cell.Facet.TheVariants.{Three}
@@ -9,15 +10,12 @@ use Rattle.point_order.specs.Complex.{complex}
 use Rattle.point_order.specs.Conflicts.{is_in_conflict}
 use Rattle.point_order.specs.Facets.{points_of}
 use Rattle.point_order.specs.Sets.{IsIn, ascending, is_among}
-use Rattle.point_order.proofs.SetLaws.{in-ascending}
+use Rattle.point_order.proofs.Cited.{in-ascending}
 use Rattle.del_laws.specs.Listed.{IsListedFull}
-use Rattle.del_laws.proofs.Listed.{listed_is_cell, not_both_kinds}
-use Rattle.del_laws.proofs.ListedParts.{listed_mate}
-use Rattle.del_laws.proofs.Tests.{IsFound, found_from, searched, true_or_false, among_true, among_from, not_both, not_true, not_from}
+use Rattle.del_laws.proofs.Cited.{listed_is_cell, listed_mate, not_both_kinds}
 use Rattle.hole_laws.specs.Edits.{IsSet, IsSolidSet, IsNew, IsMate, GoesFrom, StaysFrom}
-use Rattle.hole_laws.proofs.Judged.{stays_without_conflict, goes_in_conflict}
+use Rattle.hole_laws.proofs.Cited.{goes_in_conflict, stays_without_conflict}
 use Rattle.cell_store.specs.Others.{IsOtherOf}
-use Rattle.cell_conflict.proofs.Counting.{at_most, distinct_ascending}
 use Rattle.cell_conflict.proofs.Standing.{one_of_two, triple_on}
 
 -- all of l are in m

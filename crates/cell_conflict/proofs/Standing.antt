@@ -8,11 +8,9 @@ use Rattle.point_order.specs.declared.cell.Facet.TheVariants.{Three, Two}
 use Rattle.point_order.specs.Complex.{complex}
 use Rattle.point_order.specs.Facets.{facets_of, points_of}
 use Rattle.point_order.specs.Sets.{IsIn}
-use Rattle.del_laws.proofs.Listed.{listed_is_cell}
-use Rattle.del_laws.proofs.Neighbours.{listed_facets}
+use Rattle.del_laws.proofs.Cited.{listed_facets, listed_is_cell}
 use Rattle.hole_laws.specs.Edits.{IsSet}
-use Rattle.hole_laws.proofs.Near.{facet_inside, facet_point}
-use Rattle.hole_laws.proofs.OfSets.{lists_of}
+use Rattle.hole_laws.proofs.Cited.{facet_inside, facet_point, lists_of}
 use Rattle.cell_store.specs.Buckets.{InHand}
 use Rattle.cell_store.specs.Shares.{NoneInHand, points_on}
 

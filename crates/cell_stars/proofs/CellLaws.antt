@@ -1,35 +1,28 @@
 -- The order of cells, and exchanges of cells in sorted lists.
 use Rattle.std.specs.Prelude.{◌≡◌, ℕ, Bool, true, false, not, ◌||◌, List, [], ◌∷◌, ◌⊎◌}
-use Rattle.std.specs.List.{filter, AllByRecursion}
+use Rattle.std.specs.List.{filter}
 use Rattle.std.specs.List.Sorted.{IsStrictlySortedBy}
-use Rattle.std.specs.Ordering.{nat_cmp, is_eq, match_ordering, ordering_reverse}
-use Rattle.std.specs.Cmp.Lexicographic.{slice_cmp}
+use Rattle.std.specs.Ordering.{is_eq, match_ordering, ordering_reverse}
 use Rattle.std.specs.declared.cmp.Ordering.{Ordering}
 use Rattle.std.specs.declared.cmp.Ordering.TheVariants.{Less, Equal, Greater}
 use Rattle.std.proofs.Common.{refl, sym, ◌∙◌, ap, subst, inl, inr}
 use Rattle.std.proofs.lemmas.Cmp.{nat_list_cmp_total}
 use Rattle.std.proofs.lemmas.List.Kept.{IsStrictlySortedBy-filter}
-use Rattle.std.proofs.lemmas.Map.Text.{is_eq-slice_cmp}
-use Rattle.std.proofs.lemmas.Slice.Eq.{bytes_eq-Decides}
+use Rattle.list_laws.proofs.Cited.{all_by, each_by, filtered_from, filtered_true, same_list}
 use Rattle.point_order.specs.declared.cell.Cell.{Cell}
 use Rattle.point_order.specs.declared.cell.Cell.TheVariants.{Full, Open}
 use Rattle.point_order.specs.CellOrder.{cell_cmp}
 use Rattle.point_order.specs.Sets.{IsIn}
-use Rattle.del_laws.proofs.Tests.{filtered_from, filtered_true}
 use Rattle.cell_stars.specs.Swaps.{is_cell_among, with_cell, with_cells, without_cells, touches, swapped}
 
 -- ---- the order of cells
 
--- lists of numbers that tie are one
-list_same : (q r : List ℕ) → slice_cmp nat_cmp q r ≡ Equal → q ≡ r
-list_same q r e = (bytes_eq-Decides q r).0 (sym (is_eq-slice_cmp q r) ∙ ap is_eq e)
-
 -- cells that tie are one
 pub cell_same : (c d : Cell) → cell_cmp c d ≡ Equal → c ≡ d
-cell_same (Full q) (Full r) e = ap Full (list_same q r e)
+cell_same (Full q) (Full r) e = ap Full (same_list q r e)
 cell_same (Full q) (Open r) e = cc
 cell_same (Open q) (Full r) e = cc
-cell_same (Open q) (Open r) e = ap Open (list_same q r e)
+cell_same (Open q) (Open r) e = ap Open (same_list q r e)
 
 -- the other way round the answer is the reverse
 pub cell_reverse : (c d : Cell) → cell_cmp c d ≡ ordering_reverse (cell_cmp d c)
@@ -60,16 +53,6 @@ cell_before (Open q) (Open r) (Open s) h k = nat_list_cmp_total.trans q r s h k
 -- what is after comes before the other way round
 pub cell_after : (c d : Cell) → cell_cmp c d ≡ Greater → cell_cmp d c ≡ Less
 cell_after c d e = cell_reverse d c ∙ ap ordering_reverse e
-
--- ---- what holds of all members
-
-all_by : {X : Type 0} (P : X → Type 0) (l : List X) → ((y : X) → IsIn y l → P y) → AllByRecursion P l
-all_by P [] f = tt
-all_by P (x ∷ l) f = (f x (inl refl), all_by P l (λ y m. f y (inr m)))
-
-pub each_by : {X : Type 0} (P : X → Type 0) (l : List X) → AllByRecursion P l → (y : X) → IsIn y l → P y
-each_by P [] a y m = absurd m
-each_by P (x ∷ l) a y m = elim m [ inl q ↦ subst P q a.0 | inr r ↦ each_by P l a.1 y r ]
 
 -- ---- whether a cell is in a list
 

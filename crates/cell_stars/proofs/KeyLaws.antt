@@ -1,13 +1,12 @@
 -- Vertices with their stars.
 use Rattle.std.specs.Prelude.{◌≡◌, ℕ, zero, suc, ◌<◌, ◌≤◌, ◌==◌, Bool, true, false, List, [], ◌∷◌, ◌⊎◌, length, map, slice_index, slice_index_or, if◌then◌else◌, not, MatchBool, IsTrue}
 use Rattle.std.proofs.Common.{◌+◌, take, refl, sym, ◌∙◌, ap, subst, inl, inr, arith}
-use Rattle.std.proofs.lemmas.Bool.Decides.{nat_tests, leb_tells}
+use Rattle.std.proofs.lemmas.Bool.Decides.{leb_tells}
 use Rattle.std.specs.List.{insert, remove}
+use Rattle.list_laws.proofs.Cited.{at_place, below_each, each_none, in_more, in_take, last_one, more_one, same_from, same_true}
 use Rattle.point_order.specs.Sets.{IsIn, IsAscending, IsBelowFirst}
-use Rattle.point_order.proofs.SetLaws.{below-each}
 use Rattle.cell_stars.specs.Places.{IsStarred, star_at}
 use Rattle.cell_stars.specs.Moves.{IsWritten, AreKeysAfter, AreAgreed, IsKeyed, IsKeyAfter}
-use Rattle.cell_stars.proofs.Members.{in_more, in_taken, at_place}
 
 abbrev pub Keys : Type 0
 Keys = List (ℕ × ℕ)
@@ -25,8 +24,8 @@ vertex_in (x ∷ ks) k (inr i) = inr (vertex_in ks k i)
 pub one_key : (ks : Keys) (k l : ℕ × ℕ) → IsAscending (vertices ks) → IsIn k ks → IsIn l ks → k.0 ≡ l.0 → k ≡ l
 one_key [] k l a i j e = absurd i
 one_key (x ∷ ks) k l a (inl p) (inl q) e = sym p ∙ q
-one_key (x ∷ ks) k l a (inl p) (inr j) e = (let h = below-each x.0 (vertices ks) a.0 a.1 l.0 (vertex_in ks l j) in let f = ap (λ y. y.0) p in absurd (omega (arith, h, f, e)))
-one_key (x ∷ ks) k l a (inr i) (inl q) e = (let h = below-each x.0 (vertices ks) a.0 a.1 k.0 (vertex_in ks k i) in let f = ap (λ y. y.0) q in absurd (omega (arith, h, f, e)))
+one_key (x ∷ ks) k l a (inl p) (inr j) e = (let h = below_each x.0 (vertices ks) a.0 a.1 l.0 (vertex_in ks l j) in let f = ap (λ y. y.0) p in absurd (omega (arith, h, f, e)))
+one_key (x ∷ ks) k l a (inr i) (inl q) e = (let h = below_each x.0 (vertices ks) a.0 a.1 k.0 (vertex_in ks k i) in let f = ap (λ y. y.0) q in absurd (omega (arith, h, f, e)))
 one_key (x ∷ ks) k l a (inr i) (inr j) e = one_key ks k l a.1 i j e
 
 -- where a key stands
@@ -53,12 +52,6 @@ no_key ks p i b k m e =
       | inr h ↦ (let u = b.1 t.0 (omega (arith, h.1)) in absurd (omega (arith, u, t.2, e)))
     ]
 
-test_same : (x p : ℕ) → (x == p) ≡ true → x ≡ p
-test_same x p = grind (arith, nat_tests)
-
-same_test : (x p : ℕ) → x ≡ p → (x == p) ≡ true
-same_test x p = grind (arith, nat_tests)
-
 -- ---- the star of a vertex
 
 -- the places in a star, where it is the vertex's own
@@ -69,11 +62,11 @@ pub in_owned : (p x : ℕ) (s : ℕ × List ℕ) → IsIn x (owned_by p s) → (
 in_owned p x s i = by (s.0 == p) refl i
   where
     by : (b : Bool) → (s.0 == p) ≡ b → IsIn x (if b then s.1 else []) → (s.0 ≡ p) × IsIn x s.1
-    by true e i = (test_same s.0 p e, i)
+    by true e i = (same_from s.0 p e, i)
     by false e i = absurd i
 
 pub owned_in : (p x : ℕ) (s : ℕ × List ℕ) → s.0 ≡ p → IsIn x s.1 → IsIn x (owned_by p s)
-owned_in p x s e i = rw (same_test s.0 p e) i
+owned_in p x s e i = rw (same_true s.0 p e) i
 
 -- the star beside a key that was found
 pub star_here : (ks : Keys) (stars : List (ℕ × List ℕ)) (p i : ℕ) (k : ℕ × ℕ) (star : List ℕ) → IsAscending (vertices ks) → (i < length ks) × (slice_index (vertices ks) i ≡ p) → k ≡ slice_index_or ks i k → star ≡ owned_by p (star_at stars k.1) →
@@ -99,13 +92,10 @@ star_here ks stars p i k star a h e f x = (there, back)
 pub no_star : (ks : Keys) (stars : List (ℕ × List ℕ)) (p i : ℕ) (star : List ℕ) → BelongsAt ks p i → star ≡ [] → (x : ℕ) → (IsIn x star → IsStarred ks stars p x) × (IsStarred ks stars p x → IsIn x star)
 no_star ks stars p i star b e x = (λ m. absurd (subst (λ (l : List ℕ). IsIn x l) e m), λ s. absurd (no_key ks p i b (p, s.number) s.key refl))
 
-zero_of : (n : ℕ) → (n == 0) ≡ true → n ≡ 0
-zero_of n = grind (arith, nat_tests)
-
 -- whether a star has a place
 pub has_any : (s : ℕ × List ℕ) (l : List ℕ) (r : Bool) → l ≡ s.1 → r ≡ (length l == 0) → MatchBool (not r) ((i : ℕ) × IsIn i s.1) ((i : ℕ) → IsIn i s.1 → ⊥)
 has_any s [] true e f = λ i m. subst (λ (k : List ℕ). IsIn i k) (sym e) m
-has_any s (x ∷ l) true e f = (let t = zero_of (length (x ∷ l)) (sym f) in absurd (omega (arith, t)))
+has_any s (x ∷ l) true e f = (let t = same_from (length (x ∷ l)) 0 (sym f) in absurd (omega (arith, t)))
 has_any s [] false e f = absurd (yes f)
   where
     yes : false ≡ true → ⊥
@@ -147,8 +137,8 @@ without_key ks new p i a h e = (subst (λ l. IsAscending (vertices l)) (sym e) (
     there : (ks : Keys) (i : ℕ) (k : ℕ × ℕ) → IsAscending (vertices ks) → (i < length ks) × (slice_index (vertices ks) i ≡ p) → IsIn k (remove ks i) → IsIn k ks × (k.0 ≡ p → ⊥)
     there [] zero k a h m = absurd m
     there [] (suc i) k a h m = absurd m
-    there (x ∷ ks) zero k a h m = (inr m, λ q. (let b = below-each x.0 (vertices ks) a.0 a.1 k.0 (vertex_in ks k m) in let f = h.1 in absurd (omega (arith, b, q, f))))
-    there (x ∷ ks) (suc i) k a h (inl f) = (inl f, λ q. (let b = below-each x.0 (vertices ks) a.0 a.1 p (subst (λ v. IsIn v (vertices ks)) h.1 (in_vertices ks i (omega (arith, h.0)))) in let g = ap (λ y. y.0) f in absurd (omega (arith, b, q, g))))
+    there (x ∷ ks) zero k a h m = (inr m, λ q. (let b = below_each x.0 (vertices ks) a.0 a.1 k.0 (vertex_in ks k m) in let f = h.1 in absurd (omega (arith, b, q, f))))
+    there (x ∷ ks) (suc i) k a h (inl f) = (inl f, λ q. (let b = below_each x.0 (vertices ks) a.0 a.1 p (subst (λ v. IsIn v (vertices ks)) h.1 (in_vertices ks i (omega (arith, h.0)))) in let g = ap (λ y. y.0) f in absurd (omega (arith, b, q, g))))
     there (x ∷ ks) (suc i) k a h (inr m) = (let r = there ks i k a.1 (omega (arith, h.0), h.1) m in (inr r.0, r.1))
 
     back : (ks : Keys) (i : ℕ) (k : ℕ × ℕ) → (i < length ks) × (slice_index (vertices ks) i ≡ p) → IsIn k ks × (k.0 ≡ p → ⊥) → IsIn k (remove ks i)
@@ -219,8 +209,8 @@ pub same_or_not : (x y : ℕ) → (x ≡ y) ⊎ (x ≡ y → ⊥)
 same_or_not x y = by (x == y) refl
   where
     by : (b : Bool) → (x == y) ≡ b → (x ≡ y) ⊎ (x ≡ y → ⊥)
-    by true e = inl (test_same x y e)
-    by false e = inr (λ q. (let t = same_test x y q in absurd (cc (e, t))))
+    by true e = inl (same_from x y e)
+    by false e = inr (λ q. (let t = same_true x y q in absurd (cc (e, t))))
 
 -- where the star's key is there, nothing changes
 pub keyed_same : (ks : Keys) (n : ℕ) (s : ℕ × List ℕ) → IsAscending (vertices ks) → IsKeyed ks n s → (k : ℕ × ℕ) → (IsIn k ks → IsKeyAfter ks n s k) × (IsKeyAfter ks n s k → IsIn k ks)
@@ -255,8 +245,7 @@ pub record KeysSoFar (old : Keys) (writes : Writes) (n : ℕ) (new : Keys) : Typ
   pub written : (p m : ℕ) → IsWritten (take n writes) p m → IsIn (p, m) new
 
 none_yet : (writes : Writes) (x : ℕ × (ℕ × List ℕ)) → IsIn x (take 0 writes) → ⊥
-none_yet [] x m = m
-none_yet (y ∷ writes) x m = m
+none_yet writes x m = each_none (λ y. ⊥) writes x m
 
 pub keys_begin : (old new : Keys) (writes : Writes) → new ≡ old → IsAscending (vertices old) → KeysSoFar old writes 0 new
 keys_begin old new writes e a = rw e (record {
@@ -267,28 +256,16 @@ keys_begin old new writes e a = rw e (record {
 })
 
 widen : (writes : Writes) (n : ℕ) (y : ℕ × (ℕ × List ℕ)) → IsIn y (take n writes) → IsIn y (take (n + 1) writes)
-widen writes n y m = subst (λ k. IsIn y (take k writes)) (one n) (more writes n y m)
+widen writes n y m = subst (λ k. IsIn y (take k writes)) (one n) (more_one writes n y m)
   where
     one : (n : ℕ) → suc n ≡ n + 1
     one n = omega arith
-
-    more : (writes : Writes) (n : ℕ) (y : ℕ × (ℕ × List ℕ)) → IsIn y (take n writes) → IsIn y (take (suc n) writes)
-    more [] zero y m = absurd m
-    more [] (suc n) y m = absurd m
-    more (x ∷ l) zero y m = absurd m
-    more (x ∷ l) (suc n) y (inl e) = inl e
-    more (x ∷ l) (suc n) y (inr m) = inr (more l n y m)
 
 last_in : (writes : Writes) (n : ℕ) (x d : ℕ × (ℕ × List ℕ)) → n < length writes → x ≡ slice_index_or writes n d → IsIn x (take (n + 1) writes)
-last_in writes n x d h e = subst (λ k. IsIn x (take k writes)) (one n) (last writes n h e)
+last_in writes n x d h e = subst (λ k. IsIn x (take k writes)) (one n) (last_one writes n x d h e)
   where
     one : (n : ℕ) → suc n ≡ n + 1
     one n = omega arith
-
-    last : (writes : Writes) (n : ℕ) → n < length writes → x ≡ slice_index_or writes n d → IsIn x (take (suc n) writes)
-    last [] n h e = absurd (omega arith)
-    last (y ∷ l) zero h e = inl (sym e)
-    last (y ∷ l) (suc n) h e = inr (last l n (omega arith) e)
 
 one_or : (writes : Writes) (n : ℕ) (x d y : ℕ × (ℕ × List ℕ)) → n < length writes → x ≡ slice_index_or writes n d → IsIn y (take (n + 1) writes) → IsIn y (take n writes) ⊎ (x ≡ y)
 one_or writes n x d y h e m = in_more writes n x d y h e (subst (λ k. IsIn y (take k writes)) (one n) m)
@@ -318,7 +295,7 @@ keys_step old list new writes n x d g h e a f s = record { order = a; from = fro
     written p m w = elim (one_or writes n x d (m, (p, w.places)) h e w.listed) [
       | inl u ↦ elim (same_or_not p x.1.0) [
         | inl q ↦ (
-            let r = g m x.0 p w.places x.1.1 (in_taken writes n (m, (p, w.places)) u) (subst (λ (v : ℕ). IsIn (x.0, (v, x.1.1)) writes) (sym q) here) in
+            let r = g m x.0 p w.places x.1.1 (in_take n writes (m, (p, w.places)) u) (subst (λ (v : ℕ). IsIn (x.0, (v, x.1.1)) writes) (sym q) here) in
             (f (p, m)).1 (inl (ap (λ (v : ℕ). (v, x.0)) (sym q) ∙ ap (λ (v : ℕ). (p, v)) (sym r.0), (w.place, r.1 w.place w.filled))))
         | inr q ↦ (f (p, m)).1 (inr (s.written p m (record { places = w.places; listed = u; place = w.place; filled = w.filled }), q))
       ]
@@ -366,5 +343,5 @@ pub key_there : (ks : Keys) (p n i : ℕ) (k : ℕ × ℕ) → (i < length ks) �
 key_there ks p n i k h e t =
     let r = at_key ks i k h.0 e in
     let a : k.0 ≡ p = sym r.1 ∙ h.1 in
-    let b : k.1 ≡ n = ap (λ y. y.1) e ∙ test_same (slice_index_or ks i k).1 n t in
+    let b : k.1 ≡ n = ap (λ y. y.1) e ∙ same_from (slice_index_or ks i k).1 n t in
     subst (λ (x : ℕ × ℕ). IsIn x ks) (ap (λ (v : ℕ). (v, k.1)) a ∙ ap (λ (v : ℕ). (p, v)) b) r.0

@@ -1,5 +1,5 @@
 -- The least cell behind a bound, and the cells of a star in order.
-use Rattle.std.specs.Prelude.{◌≡◌, ℕ, zero, suc, ◌<◌, Bool, true, false, List, [], ◌∷◌, ◌⊎◌, length, map, Option, None, Some, MatchOption, slice_index_or}
+use Rattle.std.specs.Prelude.{◌≡◌, ℕ, zero, suc, ◌<◌, Bool, true, false, List, [], ◌∷◌, length, map, Option, None, Some, MatchOption, slice_index_or}
 use Rattle.std.specs.List.{filter}
 use Rattle.std.specs.List.Sorted.{IsStrictlySortedBy}
 use Rattle.std.specs.Ordering.{is_lt}
@@ -7,12 +7,12 @@ use Rattle.std.specs.declared.cmp.Ordering.{Ordering}
 use Rattle.std.specs.declared.cmp.Ordering.TheVariants.{Less, Equal, Greater}
 use Rattle.std.proofs.Common.{add-one, ◌+◌, refl, sym, ◌∙◌, ap, subst, inl, inr, arith, take}
 use Rattle.std.proofs.lemmas.List.Kept.{IsStrictlySortedBy-filter}
+use Rattle.list_laws.proofs.Cited.{among_from, among_true, filtered_from, filtered_true, in_more, is_less, last_one, more_one}
 use Rattle.point_order.specs.declared.cell.Cell.{Cell}
 use Rattle.point_order.specs.CellOrder.{cell_cmp}
 use Rattle.point_order.specs.Facets.{points_of}
 use Rattle.point_order.specs.Sets.{IsIn, is_among}
-use Rattle.del_laws.proofs.Ordered.{same_members}
-use Rattle.del_laws.proofs.Tests.{filtered_from, filtered_true, among_from, among_true}
+use Rattle.del_laws.proofs.Cited.{same_members}
 use Rattle.cell_stars.specs.Swaps.{with_cells}
 use Rattle.cell_stars.specs.Places.{Placed, AreStars, IsStarred, live, at, named, cells_of, lies_in, is_after, IsOneOf, HaveNone, IsLeastOf}
 use Rattle.cell_stars.proofs.CellLaws.{cell_same, cell_self, cell_before, cell_after, in_withs, withs_new, withs_sorted}
@@ -82,11 +82,6 @@ no_members (c ∷ l) f = absurd (f c (inl refl))
 pub none_left : (slots : List (Option Cell)) (star : List ℕ) (bound : Option Cell) → HaveNone slots star bound → behind slots star bound ≡ []
 none_left slots star bound n = no_members (behind slots star bound) (λ c m. n c (member_one slots star bound c m))
 
-less_lt : (o : Ordering) → is_lt o ≡ true → o ≡ Less
-less_lt Less e = refl
-less_lt Equal e = cc
-less_lt Greater e = cc
-
 not_lt : (o : Ordering) → is_lt o ≡ false → o ≡ Less → ⊥
 not_lt Less e f = absurd (cc e)
 not_lt Equal e f = absurd (cc f)
@@ -95,13 +90,13 @@ not_lt Greater e f = absurd (cc f)
 -- behind a cell that is behind the bound is behind the bound
 after_more : (bound : Option Cell) (c d : Cell) → is_after bound c ≡ true → is_after (Some c) d ≡ true → is_after bound d ≡ true
 after_more None c d e f = refl
-after_more (Some b) c d e f = ap is_lt (cell_before b c d (less_lt (cell_cmp b c) e) (less_lt (cell_cmp c d) f))
+after_more (Some b) c d e f = ap is_lt (cell_before b c d (is_less (cell_cmp b c) e) (is_less (cell_cmp c d) f))
 
 -- the least one is the first, and the others are those behind it
 pub least_first : (slots : List (Option Cell)) (star : List ℕ) (bound : Option Cell) (c : Cell) → IsLeastOf slots star bound c → behind slots star bound ≡ c ∷ behind slots star (Some c)
 unfolding IsStrictlySortedBy
 least_first slots star bound c l =
-    same_members (behind slots star bound) (c ∷ behind slots star (Some c)) (behind_sorted slots star bound) (heads (behind slots star (Some c)) (λ d m. less_lt (cell_cmp c d) (filtered_from (is_after (Some c)) (with_cells (named slots star) []) d m).1), behind_sorted slots star (Some c)) there back
+    same_members (behind slots star bound) (c ∷ behind slots star (Some c)) (behind_sorted slots star bound) (heads (behind slots star (Some c)) (λ d m. is_less (cell_cmp c d) (filtered_from (is_after (Some c)) (with_cells (named slots star) []) d m).1), behind_sorted slots star (Some c)) there back
   where
     heads : (m : List Cell) → ((d : Cell) → IsIn d m → cell_cmp c d ≡ Less) → Rattle.std.specs.List.AllByRecursion (λ y. cell_cmp c y ≡ Less) m
     heads [] f = tt
@@ -124,25 +119,6 @@ least_first slots star bound c l =
 
 -- ---- one more place
 
-one_more : (l : List ℕ) (i x y : ℕ) → i < length l → x ≡ slice_index_or l i 0 → IsIn y (take (suc i) l) → IsIn y (take i l) ⊎ (x ≡ y)
-one_more [] i x y h e k = absurd (omega arith)
-one_more (z ∷ l) zero x y h e (inl k) = inr (e ∙ k)
-one_more (z ∷ l) zero x y h e (inr k) = absurd k
-one_more (z ∷ l) (suc i) x y h e (inl k) = inl (inl k)
-one_more (z ∷ l) (suc i) x y h e (inr k) = elim (one_more l i x y (omega arith) e k) [ inl m ↦ inl (inr m) | inr m ↦ inr m ]
-
-more_one : {X : Type 0} (l : List X) (i : ℕ) (y : X) → IsIn y (take i l) → IsIn y (take (suc i) l)
-more_one [] zero y k = absurd k
-more_one [] (suc i) y k = absurd k
-more_one (z ∷ l) zero y k = absurd k
-more_one (z ∷ l) (suc i) y (inl e) = inl e
-more_one (z ∷ l) (suc i) y (inr k) = inr (more_one l i y k)
-
-last_one : (l : List ℕ) (i x : ℕ) → i < length l → x ≡ slice_index_or l i 0 → IsIn x (take (suc i) l)
-last_one [] i x h e = absurd (omega arith)
-last_one (z ∷ l) zero x h e = inl (sym e)
-last_one (z ∷ l) (suc i) x h e = inr (last_one l i x (omega arith) e)
-
 one_cell : (c d : Cell) → Some c ≡ Some d → c ≡ d
 one_cell c d e = cc e
 
@@ -158,7 +134,7 @@ pub passed : {X : Type 0} (f : X → Cell) (slots : List (Option Cell)) (star : 
 passed {X} f slots star bound i x o h e none_so found = by o found
   where
     narrowed : (d : Cell) → IsOneOf slots (take (suc i) star) bound d → IsOneOf slots (take i star) bound d
-    narrowed d k = elim (one_more star i x k.place h e k.listed) [
+    narrowed d k = elim (in_more star i x 0 k.place h e k.listed) [
       | inl m ↦ record { place = k.place; listed = m; there = k.there; behind = k.behind }
       | inr q ↦ absurd (none_so d (ap (at slots) q ∙ k.there) k.behind)
     ]
@@ -172,7 +148,7 @@ pub not_less : (slots : List (Option Cell)) (star : List ℕ) (bound : Option Ce
 not_less slots star bound i x c cell h e a lt l = record { one = widened slots star bound i c l.one; least = least }
   where
     least : (d : Cell) → IsOneOf slots (take (suc i) star) bound d → cell_cmp d c ≡ Less → ⊥
-    least d k m = elim (one_more star i x k.place h e k.listed) [
+    least d k m = elim (in_more star i x 0 k.place h e k.listed) [
       | inl n ↦ l.least d (record { place = k.place; listed = n; there = k.there; behind = k.behind }) m
       | inr q ↦ (let same : cell ≡ d = one_cell cell d (sym a ∙ ap (at slots) q ∙ k.there) in
           let t = cell_before c cell c lt (subst (λ y. cell_cmp y c ≡ Less) (sym same) m) in
@@ -181,7 +157,7 @@ not_less slots star bound i x c cell h e a lt l = record { one = widened slots s
 
 -- a cell that is
 pub lesser : {X : Type 0} (f : X → Cell) (slots : List (Option Cell)) (star : List ℕ) (bound : Option Cell) (i x : ℕ) (o : Option X) (cell : Cell) → i < length star → x ≡ slice_index_or star i 0 → at slots x ≡ Some cell → is_after bound cell ≡ true → ((c : X) → o ≡ Some c → cell_cmp (f c) cell ≡ Less → ⊥) → Found f slots (take i star) bound o → IsLeastOf slots (take (suc i) star) bound cell
-lesser {X} f slots star bound i x o cell h e a b none_so found = record { one = record { place = x; listed = last_one star i x h e; there = a; behind = b }; least = least }
+lesser {X} f slots star bound i x o cell h e a b none_so found = record { one = record { place = x; listed = last_one star i x 0 h e; there = a; behind = b }; least = least }
   where
     older : (o : Option X) → ((c : X) → o ≡ Some c → cell_cmp (f c) cell ≡ Less → ⊥) → Found f slots (take i star) bound o → (d : Cell) → IsOneOf slots (take i star) bound d → cell_cmp d cell ≡ Less → ⊥
     older None w n d k m = n d k
@@ -193,7 +169,7 @@ lesser {X} f slots star bound i x o cell h e a b none_so found = record { one = 
         by Greater q = l.least d k (cell_before d cell (f c) m (cell_after (f c) cell q))
 
     least : (d : Cell) → IsOneOf slots (take (suc i) star) bound d → cell_cmp d cell ≡ Less → ⊥
-    least d k m = elim (one_more star i x k.place h e k.listed) [
+    least d k m = elim (in_more star i x 0 k.place h e k.listed) [
       | inl n ↦ older o none_so found d (record { place = k.place; listed = n; there = k.there; behind = k.behind }) m
       | inr q ↦ (let same : cell ≡ d = one_cell cell d (sym a ∙ ap (at slots) q ∙ k.there) in
           let s = cell_self cell in let t = subst (λ y. cell_cmp y cell ≡ Less) (sym same) m in absurd (cc (s, t)))
@@ -220,7 +196,7 @@ test_false f (Some d) cell r e m c q l = (let same : d ≡ c = cc q in not_lt (c
 
 pub not_less_found : {X : Type 0} (f : X → Cell) (slots : List (Option Cell)) (star : List ℕ) (bound : Option Cell) (i x : ℕ) (o : Option X) (cell : Cell) (r : Bool) → i < length star → x ≡ slice_index_or star i 0 → at slots x ≡ Some cell → r ≡ true → MatchOption o (r ≡ false) (λ c. r ≡ is_lt (cell_cmp (f c) cell)) → Found f slots (take i star) bound o → Found f slots (take (suc i) star) bound o
 not_less_found f slots star bound i x None cell r h e a t m found = absurd (cc (t, m))
-not_less_found f slots star bound i x (Some c) cell r h e a t m found = not_less slots star bound i x (f c) cell h e a (less_lt (cell_cmp (f c) cell) (sym m ∙ t)) found
+not_less_found f slots star bound i x (Some c) cell r h e a t m found = not_less slots star bound i x (f c) cell h e a (is_less (cell_cmp (f c) cell) (sym m ∙ t)) found
 
 pub passed_one : {X : Type 0} (f : X → Cell) (slots : List (Option Cell)) (star : List ℕ) (bound : Option Cell) (i x : ℕ) (o : Option X) → i < length star → x ≡ slice_index_or star i 0 → ((d : Cell) → at slots x ≡ Some d → is_after bound d ≡ true → ⊥) → Found f slots (take i star) bound o → Found f slots (take (i + 1) star) bound o
 passed_one f slots star bound i x o h e n found = rw add-one (passed f slots star bound i x o h e n found)

@@ -4,7 +4,6 @@ pub mod GridLaws
 pub mod Least
 pub mod KeyLaws
 pub mod Placing
-pub mod Members
 pub mod MoveLaws
 pub mod Moved
 pub mod Orders
@@ -13,3 +12,4 @@ pub mod WriteLaws
 pub mod Planned
 pub mod Rewritten
 pub mod Marked
+pub mod Cited

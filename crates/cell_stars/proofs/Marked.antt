@@ -4,10 +4,9 @@ use Rattle.std.proofs.Common.{refl, sym, ◌∙◌, ap, arith, inl, inr, take}
 use Rattle.std.proofs.lemmas.Bool.{cases_eq}
 use Rattle.std.proofs.lemmas.List.{get_or-set_same, get_or-set_other}
 use Rattle.std.proofs.Math.ListN.{length-set}
+use Rattle.list_laws.proofs.Cited.{among_from, each_more, each_none, each_taken}
 use Rattle.point_order.specs.Sets.{is_among}
-use Rattle.del_laws.proofs.Tests.{among_from}
 use Rattle.cell_stars.specs.Moves.{AreMarked}
-use Rattle.cell_stars.proofs.Members.{each_more, each_none, each_taken}
 
 pub marked_none : (marks : List Bool) (list : List ℕ) → length marks ≡ 256 → AreMarked marks (take 0 list)
 marked_none marks list e = record { count = e; each = each_none (λ i. slice_index_or marks (i % 256) false ≡ true) list }

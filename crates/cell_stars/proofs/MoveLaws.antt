@@ -1,38 +1,17 @@
 -- What goes and comes in an exchange.
-use Rattle.std.specs.Prelude.{◌≡◌, ℕ, zero, suc, ◌+◌, ◌<◌, ◌≤◌, Bool, true, false, List, [], ◌∷◌, ◌++◌, ◌⊎◌, length, slice_index_or, Option, None, Some, MatchOption, MatchBool, IsTrue, not, ◌==◌}
-use Rattle.std.specs.Ordering.{is_eq}
+use Rattle.std.specs.Prelude.{◌≡◌, ℕ, ◌+◌, ◌<◌, ◌≤◌, Bool, true, false, List, [], ◌∷◌, ◌++◌, ◌⊎◌, length, slice_index_or, Option, None, Some, MatchOption, MatchBool, not, ◌==◌}
 use Rattle.std.specs.List.{zip}
-use Rattle.std.specs.declared.cmp.Ordering.{Ordering}
-use Rattle.std.specs.declared.cmp.Ordering.TheVariants.{Less, Equal, Greater}
 use Rattle.std.proofs.Common.{refl, sym, ◌∙◌, ap, subst, inl, inr, arith, take, length-append}
+use Rattle.list_laws.proofs.Cited.{among_from, among_true, any_from, ascend_more, at_place, below_each, each_more, each_none, each_taken, in_pushed, in_right, not_both, pushed_new, pushed_old}
 use Rattle.point_order.specs.declared.cell.Cell.{Cell}
-use Rattle.point_order.specs.CellOrder.{cell_cmp}
 use Rattle.point_order.specs.Facets.{points_of}
-use Rattle.point_order.specs.Sets.{IsIn, IsAscending, IsBelowFirst}
-use Rattle.point_order.proofs.SetLaws.{below-each}
-use Rattle.del_laws.proofs.Listed.{in_right, from_append}
+use Rattle.point_order.specs.Sets.{IsIn, IsAscending}
 use Rattle.cell_stars.specs.Places.{Placed, AreStars, IsStarred, at, lies_in, touches_in}
 use Rattle.cell_stars.specs.Moves.{IsStarFor, AreFreed, IsFreed, AreComing, IsComing, Stays, IsVacant, IsClear}
-use Rattle.std.proofs.lemmas.Bool.Decides.{nat_tests}
-use Rattle.del_laws.proofs.Tests.{any_from, any_true, among_from, among_true}
 use Rattle.point_order.specs.Sets.{is_among}
 use Rattle.cell_stars.specs.Grids.{bucket_of}
 use Rattle.cell_stars.specs.Plans.{AreFor}
 use Rattle.cell_stars.specs.Swaps.{AreSameCells, Differ}
-use Rattle.cell_stars.proofs.CellLaws.{cell_same, cell_self}
-use Rattle.cell_stars.proofs.Members.{each_more, each_taken, each_none, at_place, in_pushed, pushed_old, pushed_new}
-
--- cells that tie are one
-pub same_cells : (a b : Cell) (r : Bool) → r ≡ is_eq (cell_cmp a b) → (IsTrue r → a ≡ b) × (a ≡ b → IsTrue r)
-same_cells a b r e = (λ t. cell_same a b (equal (cell_cmp a b) (sym e ∙ t)), λ q. e ∙ ap (λ x. is_eq (cell_cmp a x)) (sym q) ∙ ap is_eq (cell_self a))
-  where
-    equal : (o : Ordering) → is_eq o ≡ true → o ≡ Equal
-    equal Less e = cc
-    equal Equal e = refl
-    equal Greater e = cc
-
-pub not_true : (b : Bool) → b ≡ false → b ≡ true → ⊥
-not_true b e t = absurd (cc (e, t))
 
 -- another cell stands at the place
 pub another : (slots : List (Option Cell)) (i : ℕ) (c d : Cell) → at slots i ≡ Some c → (c ≡ d → ⊥) → at slots i ≡ Some d → ⊥
@@ -41,51 +20,12 @@ another slots i c d e n f = n (let q : Some c ≡ Some d = sym e ∙ f in cc q)
 pub no_cell : (slots : List (Option Cell)) (i : ℕ) (d : Cell) → at slots i ≡ None → at slots i ≡ Some d → ⊥
 no_cell slots i d e f = let q = sym e ∙ f in absurd (cc q)
 
-first-below : (x : ℕ) (s : List ℕ) → ((y : ℕ) → IsIn y s → x < y) → IsBelowFirst x s
-first-below x [] f = tt
-first-below x (y ∷ s) f = f y (inl refl)
-
--- one more number behind those that ascend
-pub ascend_more : (l m : List ℕ) (x : ℕ) → m ≡ l ++ x ∷ [] → IsAscending l → ((y : ℕ) → IsIn y l → y < x) → IsAscending m
-ascend_more l m x e a f = subst IsAscending (sym e) (go l a f)
-  where
-    go : (l : List ℕ) → IsAscending l → ((y : ℕ) → IsIn y l → y < x) → IsAscending (l ++ x ∷ [])
-    go [] a f = (tt, tt)
-    go (z ∷ l) a f = (
-      first-below z (l ++ x ∷ []) (λ y i. elim (from_append y l (x ∷ []) i) [
-        | inl k ↦ below-each z l a.0 a.1 y k
-        | inr k ↦ elim k [ inl q ↦ subst (λ n. z < n) q (f z (inl refl)) | inr n ↦ absurd n ]
-      ]),
-      go l a.1 (λ y i. f y (inr i)),
-    )
-
--- the first of numbers that ascend do
-pub ascend_first : (l : List ℕ) (n : ℕ) → IsAscending l → IsAscending (take n l)
-ascend_first [] zero a = tt
-ascend_first [] (suc n) a = tt
-ascend_first (x ∷ l) zero a = tt
-ascend_first (x ∷ l) (suc n) a = (first-below x (take n l) (λ y i. below-each x l a.0 a.1 y (in_first l n y i)), ascend_first l n a.1)
-  where
-    in_first : (l : List ℕ) (n y : ℕ) → IsIn y (take n l) → IsIn y l
-    in_first [] zero y i = i
-    in_first [] (suc n) y i = i
-    in_first (x ∷ l) zero y i = absurd i
-    in_first (x ∷ l) (suc n) y (inl e) = inl e
-    in_first (x ∷ l) (suc n) y (inr i) = inr (in_first l n y i)
-
-zero_of : (n : ℕ) → (n == 0) ≡ true → n ≡ 0
-zero_of n = grind (arith, nat_tests)
-
 -- ---- the place of a cell
 
 -- a cell that touches the bucket has a vertex there
 pub touched_vertex : (place : Option (ℕ × ℕ)) (c : Cell) → touches_in place c ≡ true → (p : ℕ) × IsIn p (points_of c) × (lies_in place p ≡ true)
 touched_vertex None c e = absurd (cc e)
 touched_vertex (Some w) c e = any_from (λ p. bucket_of w.0 p == w.1) (points_of c) e
-
-pub vertex_touches : (place : Option (ℕ × ℕ)) (c : Cell) (p : ℕ) → IsIn p (points_of c) → lies_in place p ≡ true → touches_in place c ≡ true
-vertex_touches None c p m e = absurd (cc e)
-vertex_touches (Some w) c p m e = any_true (λ p. bucket_of w.0 p == w.1) (points_of c) p m e
 
 -- the shorter of two stars is one of them
 pub shorter_is : {X : Type 0} (f : X → List ℕ) (b : Placed) (c : Cell) (P : Type 0) (o : Option X) (star r : List ℕ) → MatchOption o P (λ s. IsStarFor b c (f s)) → IsStarFor b c star → MatchOption o (r ≡ star) (λ s. (r ≡ star) ⊎ (r ≡ f s)) → IsStarFor b c r
@@ -96,7 +36,7 @@ shorter_is f b c P (Some x) star r m s (inr e) = subst (IsStarFor b c) (sym e) m
 -- a vertex that is passed over
 pub vertex_passed : {X : Type 0} (f : X → List ℕ) (b : Placed) (c : Cell) (ps : List ℕ) (i x d : ℕ) (o : Option X) (r : Bool) → i < length ps → x ≡ slice_index_or ps i d → r ≡ lies_in b.place x → r ≡ false →
     MatchOption o ((p : ℕ) → IsIn p (take i ps) → lies_in b.place p ≡ true → ⊥) (λ s. IsStarFor b c (f s)) → MatchOption o ((p : ℕ) → IsIn p (take (i + 1) ps) → lies_in b.place p ≡ true → ⊥) (λ s. IsStarFor b c (f s))
-vertex_passed f b c ps i x d None r h e t n m = each_more (λ p. lies_in b.place p ≡ true → ⊥) ps i x d h e m (λ q. not_true (lies_in b.place x) (sym t ∙ n) q)
+vertex_passed f b c ps i x d None r h e t n m = each_more (λ p. lies_in b.place p ≡ true → ⊥) ps i x d h e m (λ q. not_both (lies_in b.place x) q (sym t ∙ n))
 vertex_passed f b c ps i x d (Some s) r h e t n m = m
 
 pub star_for : (b : Placed) (c : Cell) (p : ℕ) (star : List ℕ) (r : Bool) → IsIn p (points_of c) → r ≡ lies_in b.place p → r ≡ true → ((i : ℕ) → (IsIn i star → IsStarred b.keys b.stars p i) × (IsStarred b.keys b.stars p i → IsIn i star)) → IsStarFor b c star
@@ -212,8 +152,8 @@ zip_apart : (us : List ℕ) (cs : List Cell) (i : ℕ) (c d : Cell) → IsAscend
 zip_apart [] cs i c d a m n = absurd m
 zip_apart (u ∷ us) [] i c d a m n = absurd m
 zip_apart (u ∷ us) (e ∷ cs) i c d a (inl p) (inl q) = sym (ap (λ x. x.1) p) ∙ ap (λ x. x.1) q
-zip_apart (u ∷ us) (e ∷ cs) i c d a (inl p) (inr n) = (let b = below-each u us a.0 a.1 i (in_zip us cs i d n).0 in let q = ap (λ x. x.0) p in absurd (omega (arith, b, q)))
-zip_apart (u ∷ us) (e ∷ cs) i c d a (inr m) (inl q) = (let b = below-each u us a.0 a.1 i (in_zip us cs i c m).0 in let p = ap (λ x. x.0) q in absurd (omega (arith, b, p)))
+zip_apart (u ∷ us) (e ∷ cs) i c d a (inl p) (inr n) = (let b = below_each u us a.0 a.1 i (in_zip us cs i d n).0 in let q = ap (λ x. x.0) p in absurd (omega (arith, b, q)))
+zip_apart (u ∷ us) (e ∷ cs) i c d a (inr m) (inl q) = (let b = below_each u us a.0 a.1 i (in_zip us cs i c m).0 in let p = ap (λ x. x.0) q in absurd (omega (arith, b, p)))
 zip_apart (u ∷ us) (e ∷ cs) i c d a (inr m) (inr n) = zip_apart us cs i c d a.1 m n
 
 zip_single : (us : List ℕ) (cs : List Cell) (i j : ℕ) (c : Cell) → Differ cs → IsIn (i, c) (zip us cs) → IsIn (j, c) (zip us cs) → i ≡ j
@@ -250,7 +190,7 @@ before_last l m x n e a f i k = (let t = go m (subst IsAscending e a) i (subst (
     go : (m : List ℕ) → IsAscending (m ++ x ∷ []) → (i : ℕ) → IsIn i (m ++ x ∷ []) → i ≤ x
     go [] a i (inl e) = omega (arith, e)
     go [] a i (inr k) = absurd k
-    go (y ∷ m) a i (inl e) = (let t = below-each y (m ++ x ∷ []) a.0 a.1 x (in_right x m (x ∷ []) (inl refl)) in omega (arith, t, e))
+    go (y ∷ m) a i (inl e) = (let t = below_each y (m ++ x ∷ []) a.0 a.1 x (in_right x m (x ∷ []) (inl refl)) in omega (arith, t, e))
     go (y ∷ m) a i (inr k) = go m a.1 i k
 
 pub record OpenSoFar (P : ℕ → Type 0) (old list : List ℕ) (count next : ℕ) : Type 0 where

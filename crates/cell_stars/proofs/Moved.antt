@@ -5,7 +5,7 @@ use Rattle.std.proofs.Common.{inl, inr, sym, ◌∙◌, ap}
 use Rattle.point_order.specs.declared.cell.Cell.{Cell}
 use Rattle.point_order.specs.CellOrder.{cell_cmp}
 use Rattle.point_order.specs.Sets.{IsIn}
-use Rattle.del_laws.proofs.Ordered.{same_members}
+use Rattle.del_laws.proofs.Cited.{same_members}
 use Rattle.cell_stars.specs.Swaps.{touches, swapped}
 use Rattle.cell_stars.specs.Places.{Placed, IsMoved, live, at, cells_of, touches_in}
 use Rattle.cell_stars.proofs.CellLaws.{in_withs, withs_new, withs_sorted, swapped_sorted, swapped_from, swapped_new, swapped_kept}

@@ -1,38 +1,23 @@
 -- Lists in order, each element once.
-use Rattle.std.specs.Prelude.{◌≡◌, ℕ, suc, ◌<◌, ◌+◌, slice_index, Bool, true, List, [], ◌∷◌, length}
+use Rattle.std.specs.Prelude.{◌≡◌, Bool, List, [], ◌∷◌, length}
 use Rattle.std.specs.Cmp.{IsTotalOrder, IsEquivalence}
-use Rattle.std.specs.List.{dedup, Contains}
-use Rattle.std.specs.List.Sorted.{IsStrictlySortedBy, IsStrictlyIncreasing, IsSorted, IsPermutation}
-use Rattle.std.specs.Ordering.{nat_cmp, is_eq, eq_by_cmp}
-use Rattle.std.specs.declared.cmp.Ordering.{Ordering}
-use Rattle.std.specs.declared.cmp.Ordering.TheVariants.{Less, Equal, Greater}
-use Rattle.std.proofs.Common.{refl, sym, ◌∙◌, ap, subst, inl, inr, arith, eqb}
+use Rattle.std.specs.List.{dedup}
+use Rattle.std.specs.List.Sorted.{IsStrictlySortedBy, IsSorted, IsPermutation}
+use Rattle.std.specs.Ordering.{eq_by_cmp}
+use Rattle.std.specs.declared.cmp.Ordering.TheVariants.{Less}
+use Rattle.std.proofs.Common.{refl, sym, ◌∙◌, ap, subst, arith}
 use Rattle.std.proofs.lemmas.Cmp.{eq_by_cmp_equiv}
-use Rattle.std.proofs.lemmas.List.Kept.{Contains-dedup, Contains-dedup_nat, Contains-from_dedup, IsStrictlySortedBy-dedup}
-use Rattle.std.proofs.lemmas.Map.Keys.{IsStrictlyIncreasing-dedup}
+use Rattle.std.proofs.lemmas.List.Kept.{Contains-dedup, Contains-from_dedup, IsStrictlySortedBy-dedup}
 use Rattle.std.proofs.lemmas.List.Sorted.{Contains-permutation, IsPermutation-sym}
+use Rattle.list_laws.proofs.Cited.{contains_in, each_by, in_contained, is_equal}
 use Rattle.point_order.specs.declared.cell.Cell.{Cell}
 use Rattle.point_order.specs.CellOrder.{cell_cmp}
-use Rattle.point_order.specs.Sets.{IsIn, IsAscending}
-use Rattle.edit_history.proofs.Lines.{at-in}
+use Rattle.point_order.specs.Sets.{IsIn}
 use Rattle.cell_stars.specs.Swaps.{AreSameCells, Differ}
-use Rattle.cell_stars.proofs.CellLaws.{cell_same, cell_self, cell_reverse, cell_before, each_by}
+use Rattle.cell_stars.proofs.CellLaws.{cell_same, cell_self, cell_reverse, cell_before}
 
 pub cell_order : IsTotalOrder cell_cmp
 cell_order = record { antisymm = cell_reverse; trans = cell_before; congr = λ c d e h. ap (λ x. cell_cmp x e) (cell_same c d h) }
-
-is_equal : (o : Ordering) → is_eq o ≡ true → o ≡ Equal
-is_equal Less e = cc
-is_equal Equal e = refl
-is_equal Greater e = cc
-
-pub in_contained : {X : Type 0} (l : List X) (x : X) → Contains l x → IsIn x l
-in_contained l x h = subst (λ y. IsIn y l) h.2 (at-in l h.0 x h.1)
-
-pub contains_in : {X : Type 0} (l : List X) (x : X) → IsIn x l → Contains l x
-contains_in [] x i = absurd i
-contains_in (y ∷ l) x (inl e) = (0, omega arith, e)
-contains_in (y ∷ l) x (inr i) = let r = contains_in l x i in (suc r.0, (let h = r.1 in omega arith), r.2)
 
 pub deduped_sorted : (same : Cell → Cell → Bool) → ((x y : Cell) → same x y ≡ eq_by_cmp cell_cmp x y) → (sorted deduped : List Cell) → IsSorted cell_cmp sorted → deduped ≡ dedup same sorted → IsStrictlySortedBy cell_cmp deduped
 deduped_sorted same ties sorted deduped s e = rw e (IsStrictlySortedBy-dedup cell_order ties sorted s)
@@ -67,25 +52,3 @@ differ_more rest others all c e n f d = f (subst Differ (sym e) (n, d))
 pub differ_none : (rest all : List Cell) → length rest ≡ 0 → (Differ rest → Differ all) → Differ all
 differ_none [] all e f = f tt
 differ_none (c ∷ rest) all e f = absurd (omega (arith, e))
-
--- ---- numbers
-
--- each number below the next
-ascending_by : (l : List ℕ) → IsStrictlyIncreasing l → IsAscending l
-ascending_by [] s = tt
-ascending_by (x ∷ []) s = (tt, tt)
-ascending_by (x ∷ y ∷ l) s = (s 0 (omega arith), ascending_by (y ∷ l) (λ k h. subst (λ n. slice_index (x ∷ y ∷ l) (suc k) < slice_index (x ∷ y ∷ l) n) (more k) (s (suc k) (omega (arith, h)))))
-  where
-    more : (k : ℕ) → suc k + 1 ≡ suc (k + 1)
-    more k = omega arith
-
--- sorted, and each once, numbers ascend
-pub numbers_ascend : (sorted deduped : List ℕ) → IsSorted nat_cmp sorted → deduped ≡ dedup eqb sorted → IsAscending deduped
-numbers_ascend sorted deduped s e = rw e (ascending_by (dedup eqb sorted) (IsStrictlyIncreasing-dedup sorted s))
-
--- and are the same
-pub numbers_same : (l sorted deduped : List ℕ) → IsPermutation l sorted → deduped ≡ dedup eqb sorted → (n : ℕ) → (IsIn n deduped → IsIn n l) × (IsIn n l → IsIn n deduped)
-numbers_same l sorted deduped p d n = (
-  λ i. in_contained l n (Contains-permutation sorted l n (IsPermutation-sym l sorted p) (Contains-from_dedup eqb sorted n (contains_in (dedup eqb sorted) n (subst (IsIn n) d i)))),
-  λ i. subst (IsIn n) (sym d) (in_contained (dedup eqb sorted) n (Contains-dedup_nat sorted n (Contains-permutation l sorted n p (contains_in l n i)))),
-)

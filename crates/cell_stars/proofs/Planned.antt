@@ -2,24 +2,18 @@
 use Rattle.std.specs.Prelude.{◌≡◌, ℕ, zero, suc, ◌<◌, Bool, true, false, List, [], ◌∷◌, ◌++◌, ◌⊎◌, length, map, Option, None, Some, slice_index_or, slice_set}
 use Rattle.std.proofs.Common.{refl, sym, ◌∙◌, ap, subst, inl, inr, arith}
 use Rattle.std.proofs.lemmas.List.{get_or-set_same, get_or-set_other}
+use Rattle.list_laws.proofs.Cited.{among_from, among_true, len_set, mapped_from, mapped_true}
 use Rattle.point_order.specs.declared.cell.Cell.{Cell}
 use Rattle.point_order.specs.Sets.{IsIn, is_among}
-use Rattle.del_laws.proofs.Listed.{mapped_true, mapped_from}
-use Rattle.del_laws.proofs.Tests.{among_from, among_true}
 use Rattle.cell_stars.specs.Places.{Placed, AreStars, IsStarred, IsMoved, at, cells_of, touches_in, star_at, swapped_at}
 use Rattle.cell_stars.specs.Plans.{PlanView, IsPlanFor, AreFor, ArePut, AreRewritten, StarsAfter, AreBelow, or_else, set_all, done}
 use Rattle.cell_stars.specs.Moves.{IsRewriting, AreKeysAfter, AreAgreed, HasSameCells, HasSameStars}
 use Rattle.cell_stars.proofs.KeyLaws.{same_or_not}
 use Rattle.cell_stars.proofs.Moved.{moved_is_swapped, placed_in, in_placed, placed_sorted}
 use Rattle.cell_stars.proofs.Rewritten.{rewritten_is_moved}
-use Rattle.del_laws.proofs.Ordered.{same_members}
+use Rattle.del_laws.proofs.Cited.{same_members}
 
 -- ---- lists with other elements at some places
-
-len_set : {X : Type 0} (l : List X) (i : ℕ) (x : X) → length (slice_set l i x) ≡ length l
-len_set [] i x = refl
-len_set (y ∷ l) zero x = refl
-len_set (y ∷ l) (suc i) x = ap suc (len_set l i x)
 
 len_all : {X : Type 0} (cs : List (ℕ × X)) (l : List X) → length (set_all cs l) ≡ length l
 len_all [] l = refl

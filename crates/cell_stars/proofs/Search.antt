@@ -1,13 +1,12 @@
 -- How far a search has come, and what it has cost.
-use Rattle.std.specs.Prelude.{◌≡◌, ℕ, zero, suc, ◌<◌, ◌≤◌, ◌+◌, ◌-◌, ◌*◌, ◌/◌, ◌^◌, List, [], ◌∷◌, length, slice_index, slice_index_or}
+use Rattle.std.specs.Prelude.{◌≡◌, ℕ, suc, ◌<◌, ◌≤◌, ◌+◌, ◌-◌, ◌*◌, ◌/◌, ◌^◌, List, length, slice_index, slice_index_or}
 use Rattle.std.specs.Prelude.{map}
-use Rattle.std.proofs.Common.{refl, sym, ◌∙◌, ap, subst, inl, inr, arith}
+use Rattle.std.proofs.Common.{refl, sym, ◌∙◌, ap, arith}
 use Rattle.std.proofs.Math.ListN.{get_or-map}
 use Rattle.std.proofs.lemmas.List.{length-map}
 use Rattle.std.proofs.Math.Nat.{pow-succ', mul-le-mul_left, mul_assoc, mul_left_comm}
-use Rattle.std.proofs.lemmas.Bool.Decides.{eqb_tells}
+use Rattle.list_laws.proofs.Cited.{climbs, default_free, rises}
 use Rattle.point_order.specs.Sets.{IsAscending}
-use Rattle.point_order.proofs.SetLaws.{rises}
 
 -- The keys before low are less, those from high on are greater, and each step halved what is left. There are n.
 pub record IsSearched (keys : List ℕ) (n p before low high steps : ℕ) : Type 0 where
@@ -19,19 +18,6 @@ pub record IsSearched (keys : List ℕ) (n p before low high steps : ℕ) : Type
   pub rises : before ≤ steps
   pub halves : 2 ^ (steps - before) * (high - low) ≤ n
   pub cost : 2 ^ (steps - before) ≤ 2 * n + 1
-
--- an ascending list, by places
-up : (keys : List ℕ) (i j : ℕ) → IsAscending keys → i ≤ j → j < length keys → slice_index keys i ≤ slice_index keys j
-up keys i j a h l = elim (eqb_tells i j) [
-  | inl e ↦ subst (λ k. slice_index keys i ≤ slice_index keys k) e.1 (omega arith)
-  | inr e ↦ (let r = rises keys i j 0 a (omega (arith, h, e.1)) l in omega (arith, r))
-]
-
--- within a list what stands for elements past its end does not count
-default_free : (l : List ℕ) (i d u : ℕ) → i < length l → slice_index_or l i d ≡ slice_index_or l i u
-default_free [] i d u h = absurd (omega arith)
-default_free (x ∷ l) zero d u h = refl
-default_free (x ∷ l) (suc i) d u h = default_free l i d u (omega arith)
 
 -- a step doubles the power
 doubled : (before steps : ℕ) → before ≤ steps → 2 ^ (steps + 1 - before) ≡ 2 * 2 ^ (steps - before)
@@ -65,7 +51,7 @@ step_less keys n p before low high steps after k a h e l q s = rw q (record {
   size = s.size;
   within = omega (arith, m);
   inside = s.inside;
-  below = λ i j. (let t = up keys i (low + (high - low) / 2) a (omega (arith, j)) (omega (arith, m, s.inside, s.size)) in omega (arith, t, e, l, default_free keys (low + (high - low) / 2) k 0 (omega (arith, m, s.inside, s.size))));
+  below = λ i j. (let t = climbs keys a i (low + (high - low) / 2) (omega (arith, j)) (omega (arith, m, s.inside, s.size)) in omega (arith, t, e, l, default_free keys (low + (high - low) / 2) k 0 (omega (arith, m, s.inside, s.size))));
   above = s.above;
   rises = omega (arith, s.rises);
   halves = halved before steps n (high - low) (high - (low + (high - low) / 2 + 1)) s.rises s.halves (half_right low high h);
@@ -81,7 +67,7 @@ step_greater keys n p before low high steps after k a h e l q s = rw q (record {
   within = omega arith;
   inside = omega (arith, m, s.inside);
   below = s.below;
-  above = λ i j r. (let t = up keys (low + (high - low) / 2) i a j (omega (arith, r, s.size)) in omega (arith, t, e, l, default_free keys (low + (high - low) / 2) k 0 (omega (arith, m, s.inside, s.size))));
+  above = λ i j r. (let t = climbs keys a (low + (high - low) / 2) i j (omega (arith, r, s.size)) in omega (arith, t, e, l, default_free keys (low + (high - low) / 2) k 0 (omega (arith, m, s.inside, s.size))));
   rises = omega (arith, s.rises);
   halves = rw (left low ((high - low) / 2)) (halved before steps n (high - low) ((high - low) / 2) s.rises s.halves (half_left low high h));
   cost = paid before steps n (high - low) s.rises s.halves (omega (arith, h));

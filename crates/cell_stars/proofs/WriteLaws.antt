@@ -2,18 +2,15 @@
 use Rattle.std.specs.Prelude.{◌≡◌, ℕ, ◌+◌, ◌<◌, ◌≤◌, Bool, true, false, not, List, [], ◌∷◌, ◌++◌, ◌⊎◌, length, slice_index, slice_index_or, Option, None, Some, MatchBool, ◌==◌}
 use Rattle.std.specs.List.{filter, zip}
 use Rattle.std.proofs.Common.{refl, sym, ◌∙◌, ap, subst, inl, inr, arith}
+use Rattle.list_laws.proofs.Cited.{Gathered, Made, among_from, among_true, filtered_from, filtered_true, gather_all, gather_push, gather_skip, gather_step, in_zip, made_all, same_from, zip_apart, zip_has, zip_single}
 use Rattle.point_order.specs.declared.cell.Cell.{Cell}
 use Rattle.point_order.specs.Facets.{points_of}
 use Rattle.point_order.specs.Sets.{IsIn, IsAscending, is_among}
-use Rattle.point_order.proofs.SetLaws.{below-each}
-use Rattle.std.proofs.lemmas.Bool.Decides.{nat_tests}
-use Rattle.del_laws.proofs.Tests.{among_from, among_true, filtered_from, filtered_true}
 use Rattle.cell_stars.specs.Places.{Placed, IsStarred, at, lies_in, star_at}
 use Rattle.cell_stars.specs.Plans.{StarsAfter}
 use Rattle.cell_stars.specs.Moves.{AreTouched, AreNumbered, AreStarsAfter, IsOwnNumber, IsSpare}
 use Rattle.cell_stars.specs.Gathering.{Gathers, FromPoint, FromPlace, FromPut}
 use Rattle.cell_stars.proofs.KeyLaws.{owned_by, in_owned, owned_in, Keys, vertices, BelongsAt, one_key, at_key, no_key}
-use Rattle.cell_stars.proofs.Gathering.{Gathered, gather_all, gather_push, gather_skip, gather_step, Made, made_all}
 
 -- ---- vertices that are touched
 
@@ -99,12 +96,9 @@ places_are b freed placed p n first list l h f g i = (
 
 -- ---- the numbers of stars
 
-zero_of : (n : ℕ) → (n == 0) ≡ true → n ≡ 0
-zero_of n = grind (arith, nat_tests)
-
 pub full_by : (s : ℕ × List ℕ) (p : ℕ) (l : List ℕ) (r : Bool) → l ≡ owned_by p s → r ≡ (length l == 0) → MatchBool (not r) ((s.0 ≡ p) × ((i : ℕ) × IsIn i s.1)) (s.0 ≡ p → (i : ℕ) → IsIn i s.1 → ⊥)
 full_by s p [] true e f = λ q i m. subst (λ (k : List ℕ). IsIn i k) (sym e) (owned_in p i s q m)
-full_by s p (x ∷ l) true e f = (let t = zero_of (length (x ∷ l)) (sym f) in absurd (omega (arith, t)))
+full_by s p (x ∷ l) true e f = (let t = same_from (length (x ∷ l)) 0 (sym f) in absurd (omega (arith, t)))
 full_by s p [] false e f = absurd (yes f)
   where
     yes : false ≡ true → ⊥
@@ -137,34 +131,6 @@ no_own_at b ks p i e f j s = no_key ks p i f (p, s.number) (subst (λ (l : Keys)
 abbrev pub HasNumber : Placed → ℕ × ℕ → ℕ × ℕ → Type 0
 HasNumber b x y = (x.1 ≡ y.1) × (IsOwnNumber b y.1 y.0 ⊎ ((y.0 ≡ x.0) × ((i : ℕ) → IsStarred b.keys b.stars y.1 i → ⊥)))
 
-in_zip : (us ps : List ℕ) (u p : ℕ) → IsIn (u, p) (zip us ps) → IsIn u us × IsIn p ps
-in_zip [] ps u p m = absurd m
-in_zip (x ∷ us) [] u p m = absurd m
-in_zip (x ∷ us) (y ∷ ps) u p (inl e) = (inl (ap (λ z. z.0) e), inl (ap (λ z. z.1) e))
-in_zip (x ∷ us) (y ∷ ps) u p (inr m) = (let r = in_zip us ps u p m in (inr r.0, inr r.1))
-
-zip_all : (us ps : List ℕ) (p : ℕ) → length ps ≤ length us → IsIn p ps → (u : ℕ) × IsIn (u, p) (zip us ps)
-zip_all us [] p h m = absurd m
-zip_all [] (y ∷ ps) p h m = absurd (omega arith)
-zip_all (x ∷ us) (y ∷ ps) p h (inl e) = (x, inl (ap (λ (z : ℕ). (x, z)) e))
-zip_all (x ∷ us) (y ∷ ps) p h (inr m) = (let r = zip_all us ps p (omega arith) m in (r.0, inr r.1))
-
-zip_apart : (us ps : List ℕ) (u p q : ℕ) → IsAscending us → IsIn (u, p) (zip us ps) → IsIn (u, q) (zip us ps) → p ≡ q
-zip_apart [] ps u p q a m n = absurd m
-zip_apart (x ∷ us) [] u p q a m n = absurd m
-zip_apart (x ∷ us) (y ∷ ps) u p q a (inl e) (inl f) = sym (ap (λ z. z.1) e) ∙ ap (λ z. z.1) f
-zip_apart (x ∷ us) (y ∷ ps) u p q a (inl e) (inr n) = (let b = below-each x us a.0 a.1 u (in_zip us ps u q n).0 in let f = ap (λ z. z.0) e in absurd (omega (arith, b, f)))
-zip_apart (x ∷ us) (y ∷ ps) u p q a (inr m) (inl f) = (let b = below-each x us a.0 a.1 u (in_zip us ps u p m).0 in let e = ap (λ z. z.0) f in absurd (omega (arith, b, e)))
-zip_apart (x ∷ us) (y ∷ ps) u p q a (inr m) (inr n) = zip_apart us ps u p q a.1 m n
-
-zip_single : (us ps : List ℕ) (u v p : ℕ) → IsAscending ps → IsIn (u, p) (zip us ps) → IsIn (v, p) (zip us ps) → u ≡ v
-zip_single [] ps u v p a m n = absurd m
-zip_single (x ∷ us) [] u v p a m n = absurd m
-zip_single (x ∷ us) (y ∷ ps) u v p a (inl e) (inl f) = sym (ap (λ z. z.0) e) ∙ ap (λ z. z.0) f
-zip_single (x ∷ us) (y ∷ ps) u v p a (inl e) (inr n) = (let b = below-each y ps a.0 a.1 p (in_zip us ps v p n).1 in let f = ap (λ z. z.1) e in absurd (omega (arith, b, f)))
-zip_single (x ∷ us) (y ∷ ps) u v p a (inr m) (inl f) = (let b = below-each y ps a.0 a.1 p (in_zip us ps u p m).1 in let e = ap (λ z. z.1) f in absurd (omega (arith, b, e)))
-zip_single (x ∷ us) (y ∷ ps) u v p a (inr m) (inr n) = zip_single us ps u v p a.1 m n
-
 own_starred : (b : Placed) (p n : ℕ) (o : IsOwnNumber b p n) → IsStarred b.keys b.stars p o.place
 own_starred b p n o = record { number = n; key = o.key; owned = o.owned; listed = o.filled }
 
@@ -172,7 +138,7 @@ pub are_numbered : (b : Placed) (stars : List (ℕ × List ℕ)) (us ps : List �
 are_numbered b stars us ps pairs turns n es ak au ap' l sp e h m = record {
   each = λ k p i. (let r = from k p i in (in_zip us ps r.0 p r.1).1);
   all = λ p i. (
-      let z = zip_all us ps p (omega (arith, l)) i in
+      let z = zip_has us ps p (omega (arith, l)) i in
       let r = made_all (HasNumber b) pairs n turns h m (z.0, p) (subst (λ (w : List (ℕ × ℕ)). IsIn (z.0, p) w) (sym e) z.1) in
       (r.0.0, subst (λ (q : ℕ). IsIn (r.0.0, q) turns) (sym r.2.0) r.1));
   apart = λ k p q i j. (let r = from k p i in let s = from k q j in together k p q r s);

@@ -4,16 +4,16 @@ use Rattle.std.specs.List.{flat_map}
 use Rattle.std.proofs.Common.{ap, sym, subst, ◌∙◌, add-one, inl, inr}
 use Rattle.std.proofs.lemmas.List.{take_all}
 use Rattle.std.proofs.lemmas.List.Sorted.{IsPermutation-sym}
+use Rattle.list_laws.proofs.Cited.{from_append, in_left, in_moved, in_right}
 use Rattle.point_order.specs.declared.cell.Cell.{Cell}
 use Rattle.point_order.specs.Sets.{IsIn}
-use Rattle.del_laws.proofs.Listed.{in_left, in_right, from_append}
-use Rattle.cell_store.specs.Buckets.{Content, bucket_at}
+use Rattle.cell_store.specs.Buckets.{BucketContent, bucket_at}
 use Rattle.cell_store.specs.Meshes.{HasMore}
 use Rattle.cell_store.specs.Swaps.{AreSameCells}
-use Rattle.cell_store.proofs.MeshLaws.{in_moved, cells_of, next_gathered}
+use Rattle.cell_store.proofs.MeshLaws.{cells_of, next_gathered}
 
 -- the same cells with those of one more bucket
-pub same_next : (l : List (Option Content)) (n : ℕ) (x : Content) (old new : List Cell) → n < length l → bucket_at l n ≡ Some x → AreSameCells (flat_map cells_of (take n l)) old → HasMore x.cells old new → AreSameCells (flat_map cells_of (take (n + 1) l)) new
+pub same_next : (l : List (Option BucketContent)) (n : ℕ) (x : BucketContent) (old new : List Cell) → n < length l → bucket_at l n ≡ Some x → AreSameCells (flat_map cells_of (take n l)) old → HasMore x.cells old new → AreSameCells (flat_map cells_of (take (n + 1) l)) new
 same_next l n x old new h e s m = (there, back)
   where
     next : flat_map cells_of (take (n + 1) l) ≡ flat_map cells_of (take n l) ++ x.cells
@@ -32,5 +32,5 @@ same_next l n x old new h e s m = (there, back)
     ])
 
 -- the cells of all buckets
-pub same_all : (l : List (Option Content)) (n : ℕ) (cells : List Cell) → length l ≤ n → AreSameCells (flat_map cells_of (take n l)) cells → AreSameCells (flat_map cells_of l) cells
-same_all l n cells h s = subst (λ (m : List (Option Content)). AreSameCells (flat_map cells_of m) cells) (take_all n l h) s
+pub same_all : (l : List (Option BucketContent)) (n : ℕ) (cells : List Cell) → length l ≤ n → AreSameCells (flat_map cells_of (take n l)) cells → AreSameCells (flat_map cells_of l) cells
+same_all l n cells h s = subst (λ (m : List (Option BucketContent)). AreSameCells (flat_map cells_of m) cells) (take_all n l h) s

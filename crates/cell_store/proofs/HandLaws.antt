@@ -5,13 +5,12 @@ use Rattle.std.proofs.Common.{refl, sym, ◌∙◌, ap, subst, inl, inr, arith}
 use Rattle.std.proofs.lemmas.Bool.{cases_eq}
 use Rattle.std.proofs.lemmas.Bool.Decides.{nat_tests}
 use Rattle.std.proofs.lemmas.List.{get_or-set_other}
+use Rattle.list_laws.proofs.Cited.{among_from, among_true, filtered_from, filtered_true, same_test, some_of}
 use Rattle.point_order.specs.Sets.{is_among}
-use Rattle.del_laws.proofs.Tests.{among_from, among_true, same_test, filtered_from, filtered_true}
 use Rattle.cell_store.specs.Grids.{bucket_of}
-use Rattle.cell_store.specs.Buckets.{Content, InHand, bucket_at, points_in, at_place}
+use Rattle.cell_store.specs.Buckets.{BucketContent, InHand, bucket_at, points_in, at_place}
 use Rattle.cell_store.specs.Shares.{Shows, IsShare, IsSight}
 use Rattle.cell_store.specs.Meshes.{EmptyStands, EmptyShows, FewerStand, FewerShow, PutStands, PutShows, PutIsMore, TakeIsFewer, with_bucket}
-use Rattle.cell_store.proofs.ShareLaws.{some_of}
 
 -- ---- fewer buckets
 
@@ -33,7 +32,7 @@ fewer_show few many s am sh = record {
 
 -- ---- no bucket
 
-none_there : (n k : ℕ) (c : Content) → bucket_at (replicate n None) k ≡ Some c → ⊥
+none_there : (n k : ℕ) (c : BucketContent) → bucket_at (replicate n None) k ≡ Some c → ⊥
 none_there zero k c e = cc e
 none_there (suc n) zero c e = cc e
 none_there (suc n) (suc k) c e = none_there n k c e
@@ -60,7 +59,7 @@ same_some : {X : Type 0} {x y : X} → Some x ≡ Some y → x ≡ y
 same_some e = cc
 
 -- what stands at a place after one was set: what was set there, or what stood at the place before
-set_from : (l : List (Option Content)) (b k : ℕ) (x : Option Content) (y : Content) → bucket_at (slice_set l b x) k ≡ Some y → ((k ≡ b) × (x ≡ Some y)) ⊎ (bucket_at l k ≡ Some y)
+set_from : (l : List (Option BucketContent)) (b k : ℕ) (x : Option BucketContent) (y : BucketContent) → bucket_at (slice_set l b x) k ≡ Some y → ((k ≡ b) × (x ≡ Some y)) ⊎ (bucket_at l k ≡ Some y)
 set_from [] zero k x y e = inr e
 set_from [] (suc b) k x y e = inr e
 set_from (o ∷ l) zero zero x y e = inl (refl, e)
@@ -69,7 +68,7 @@ set_from (o ∷ l) (suc b) zero x y e = inr e
 set_from (o ∷ l) (suc b) (suc k) x y e = elim (set_from l b k x y e) [ inl p ↦ inl (ap suc p.0, p.1) | inr q ↦ inr q ]
 
 -- a fact of every bucket in hand, where it holds of the one that comes
-put_each : (P : ℕ → Content → Type 0) (hold : InHand) (b : ℕ) (c : Content) → P b (at_place hold.grid b c) → ((k : ℕ) (d : Content) → bucket_at hold.places k ≡ Some d → P k d) → (k : ℕ) (d : Content) → bucket_at (with_bucket b c hold).places k ≡ Some d → P k d
+put_each : (P : ℕ → BucketContent → Type 0) (hold : InHand) (b : ℕ) (c : BucketContent) → P b (at_place hold.grid b c) → ((k : ℕ) (d : BucketContent) → bucket_at hold.places k ≡ Some d → P k d) → (k : ℕ) (d : BucketContent) → bucket_at (with_bucket b c hold).places k ≡ Some d → P k d
 put_each P hold b c own old k d e = elim (set_from hold.places b k (Some (at_place hold.grid b c)) d e) [
   | inl w ↦ subst (λ n. P n d) (sym w.0) (subst (P b) (same_some w.1) own)
   | inr q ↦ old k d q
@@ -94,10 +93,10 @@ put_shows hold b c s sh sight = record {
 pub put_is_more : PutIsMore
 put_is_more hold b c none = record { grid = refl; buckets = each }
   where
-    clash : {d : Content} → None ≡ Some d → ⊥
+    clash : {d : BucketContent} → None ≡ Some d → ⊥
     clash e = cc e
 
-    each : (k : ℕ) (d : Content) → bucket_at hold.places k ≡ Some d → bucket_at (with_bucket b c hold).places k ≡ Some d
+    each : (k : ℕ) (d : BucketContent) → bucket_at hold.places k ≡ Some d → bucket_at (with_bucket b c hold).places k ≡ Some d
     each k d e = elim (cases_eq k b) [
       | inl w ↦ absurd (clash (sym none ∙ ap (bucket_at hold.places) (sym w) ∙ e))
       | inr n ↦ get_or-set_other hold.places b k (Some (at_place hold.grid b c)) None n ∙ e
@@ -106,7 +105,7 @@ put_is_more hold b c none = record { grid = refl; buckets = each }
 pub take_is_fewer : TakeIsFewer
 take_is_fewer hold b = record { grid = refl; buckets = λ k d e. elim (set_from hold.places b k None d e) [ inl w ↦ absurd (clash w.1) | inr q ↦ q ] }
   where
-    clash : {d : Content} → None ≡ Some d → ⊥
+    clash : {d : BucketContent} → None ≡ Some d → ⊥
     clash e = cc e
 
 -- ---- a point in hand

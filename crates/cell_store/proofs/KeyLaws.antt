@@ -1,40 +1,22 @@
 -- A bucket in hand has no more vertices with a star than points, where the hold shows a set.
-use Rattle.std.specs.Prelude.{◌≡◌, ℕ, ◌<◌, ◌≤◌, true, List, [], ◌∷◌, Option, Some, map, length, ◌==◌}
+use Rattle.std.specs.Prelude.{◌≡◌, ℕ, ◌≤◌, true, List, [], Option, Some, map, length, ◌==◌}
 use Rattle.std.specs.Option.{option_map_or}
-use Rattle.std.proofs.Common.{refl, sym, ◌∙◌, ap, subst, inl, inr, arith}
+use Rattle.std.proofs.Common.{sym, ◌∙◌, ap, subst}
 use Rattle.std.proofs.lemmas.List.{length-map}
+use Rattle.list_laws.proofs.Cited.{at_most, distinct_ascending, filtered_ascending, filtered_from, filtered_true, mapped_from}
 use Rattle.point_order.specs.Complex.{complex}
 use Rattle.point_order.specs.Sets.{IsIn, IsAscending}
-use Rattle.point_order.proofs.SetLaws.{below-each}
-use Rattle.del_laws.proofs.Listed.{listed_inside, listed_is_cell, mapped_from}
-use Rattle.del_laws.proofs.PointSets.{filtered_ascending}
-use Rattle.del_laws.proofs.Tests.{filtered_from, filtered_true}
+use Rattle.del_laws.proofs.Cited.{listed_inside, listed_is_cell}
 use Rattle.cell_stars.specs.Places.{AreStars, cells_of, lies_in, live}
-use Rattle.cell_stars.proofs.CellLaws.{withs_new}
-use Rattle.cell_stars.proofs.Least.{live_at}
+use Rattle.cell_stars.proofs.Cited.{live_at, withs_new}
 use Rattle.cell_store.specs.Grids.{bucket_of}
-use Rattle.cell_store.specs.Buckets.{Content, InHand, Layout, bucket_at, content_of, points_in}
+use Rattle.cell_store.specs.Buckets.{BucketContent, InHand, Layout, bucket_at, content_of, points_in}
 use Rattle.cell_store.specs.Shares.{Shows, ShowsSome}
 use Rattle.cell_store.specs.Swaps.{touches}
 
 -- of two ascending lists one has no more members than the other where it has no others
 fewer : (l m : List ℕ) → IsAscending l → IsAscending m → ((p : ℕ) → IsIn p l → IsIn p m) → length l ≤ length m
-fewer [] m a b f = omega arith
-fewer (x ∷ l) [] a b f = absurd (f x (inl refl))
-fewer (x ∷ l) (y ∷ m) a b f = elim (f x (inl refl)) [
-  | inl e ↦ (let r = fewer l m a.1 b.1 (λ p i. later p (subst (λ v. v < p) (sym e) (below-each x l a.0 a.1 p i)) (f p (inr i))) in omega (arith, r))
-  | inr k ↦ (
-      let h = below-each y m b.0 b.1 x k in
-      let r = fewer (x ∷ l) m a b.1 (λ p i. later p (elim i [ inl e ↦ subst (λ v. y < v) e h | inr j ↦ after p h (below-each x l a.0 a.1 p j) ]) (f p i)) in
-      omega (arith, r))
-]
-  where
-    after : (p : ℕ) → y < x → x < p → y < p
-    after p h k = omega arith
-
-    later : (p : ℕ) → y < p → IsIn p (y ∷ m) → IsIn p m
-    later p h (inl e) = absurd (omega (arith, h, e))
-    later p h (inr i) = i
+fewer l m a b f = at_most l m (distinct_ascending l a) f
 
 -- a vertex with a star is a point of the bucket
 vertex_inside : (hold : InHand) (s : List ℕ) (b : ℕ) (o : Layout) → Shows hold s → bucket_at hold.places b ≡ Some (content_of o) → o.cells.place ≡ Some (hold.grid, b) → AreStars o.cells → (p : ℕ) → IsIn p (map (λ k. k.0) o.cells.keys) → IsIn p o.points
@@ -58,5 +40,5 @@ keys_within hold g b p o shows e f h at stars =
     let points = subst IsAscending (sym (sh.sights b (content_of o) h).points) (filtered_ascending (λ q. bucket_of hold.grid q == b) shows.0 sh.ascending) in
     let most = fewer (map (λ k. k.0) o.cells.keys) o.points stars.order points (vertex_inside hold shows.0 b o sh h at stars) in
     subst (λ (n : ℕ). length o.cells.keys ≤ length (points_in hold.places n)) (f ∙ ap (λ n. bucket_of n p) e)
-    (subst (λ (c : Option Content). length o.cells.keys ≤ length (option_map_or (λ c. c.points) c [])) (sym h)
+    (subst (λ (c : Option BucketContent). length o.cells.keys ≤ length (option_map_or (λ c. c.points) c [])) (sym h)
     (subst (λ (n : ℕ). n ≤ length o.points) (length-map o.cells.keys (λ k. k.0)) most))

@@ -2,7 +2,7 @@
 use Rattle.std.specs.Prelude.{◌≡◌, ℕ, zero, suc, ◌≤◌, List, [], ◌∷◌, length, Option, None, Some, is_some, replicate, slice_set}
 use Rattle.std.specs.Option.{option_map}
 use Rattle.std.proofs.Common.{refl, ◌∙◌, ap, arith}
-use Rattle.cell_store.specs.Buckets.{Content, Layout, StandAtPlaces, bucket_at, content_of, layout_at, shown}
+use Rattle.cell_store.specs.Buckets.{BucketContent, Layout, StandAtPlaces, bucket_at, content_of, layout_at, shown}
 
 pub shown_at : (l : List (Option Layout)) (b : ℕ) → bucket_at (shown l) b ≡ option_map content_of (layout_at l b)
 shown_at [] b = refl
@@ -15,7 +15,7 @@ shown_is l b c e = shown_at l b ∙ ap (option_map content_of) e
 pub shown_set : (l : List (Option Layout)) (b : ℕ) (x : Option Layout) → shown (slice_set l b x) ≡ slice_set (shown l) b (option_map content_of x)
 shown_set [] b x = refl
 shown_set (y ∷ l) zero x = refl
-shown_set (y ∷ l) (suc b) x = ap (λ (m : List (Option Content)). option_map content_of y ∷ m) (shown_set l b x)
+shown_set (y ∷ l) (suc b) x = ap (λ (m : List (Option BucketContent)). option_map content_of y ∷ m) (shown_set l b x)
 
 pub shown_len : (l : List (Option Layout)) → length (shown l) ≡ length l
 shown_len [] = refl
@@ -23,7 +23,7 @@ shown_len (x ∷ l) = ap suc (shown_len l)
 
 pub shown_none : (n : ℕ) → shown (replicate n None) ≡ replicate n None
 shown_none zero = refl
-shown_none (suc n) = ap (λ (m : List (Option Content)). None ∷ m) (shown_none n)
+shown_none (suc n) = ap (λ (m : List (Option BucketContent)). None ∷ m) (shown_none n)
 
 -- a bucket is in hand where it is shown
 pub map_some : (o : Option Layout) → is_some (option_map content_of o) ≡ is_some o
@@ -36,10 +36,6 @@ shown_some l b = ap is_some (shown_at l b) ∙ map_some (layout_at l b)
 pub map_none : (o : Option Layout) → option_map content_of o ≡ None → o ≡ None
 map_none None e = refl
 map_none (Some c) e = absurd (cc e)
-
-pub some_map : (o : Option Layout) (c : Content) → option_map content_of o ≡ Some c → (x : Layout) × (o ≡ Some x) × (content_of x ≡ c)
-some_map None c e = absurd (cc e)
-some_map (Some x) c e = (x, refl, (let q : Some (content_of x) ≡ Some c = e in cc q))
 
 pub len_none : (n : ℕ) → length {A = Option Layout} (replicate n None) ≡ n
 len_none zero = refl

@@ -1,4 +1,3 @@
-pub mod Members
 pub mod ShareLaws
 pub mod NextLaws
 pub mod Layouts
@@ -9,7 +8,6 @@ pub mod TouchLaws
 pub mod MeshLaws
 pub mod Gathering
 pub mod StarLaws
-pub mod GridLaws
-pub mod CellLaws
-pub mod Orders
 pub mod KeyLaws
+pub mod Cited
+pub mod BucketPoints

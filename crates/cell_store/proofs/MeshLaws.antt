@@ -1,6 +1,6 @@
 -- Meshes, their histories, and buckets in hand.
 use Rattle.std.specs.Prelude.{◌≡◌, ◌⊎◌, ltb, ℕ, ◌+◌, ◌-◌, ◌*◌, ◌^◌, zero, suc, ◌<◌, ◌≤◌, ◌==◌, min, nat_lt, Bool, true, false, cond, not, ◌&&◌, List, [], ◌∷◌, ◌++◌, Option, None, Some, IsSome, is_some, length, slice_index_or}
-use Rattle.std.specs.List.{filter, flat_map, range_with_len, list_all, All}
+use Rattle.std.specs.List.{filter, flat_map, range_with_len, list_all}
 use Rattle.std.specs.List.Sorted.{IsPermutation, IsNonDecreasingBy}
 use Rattle.std.specs.Option.{option_map_or}
 use Rattle.std.proofs.Common.{refl, sym, ◌∙◌, ap, subst, inl, inr, arith, take, length-append, add-one}
@@ -8,7 +8,8 @@ use Rattle.std.proofs.Math.Seq.{take-length}
 use Rattle.std.proofs.lemmas.Bool.Decides.{nat_tests}
 use Rattle.std.proofs.lemmas.Grind.{flat_map-append}
 use Rattle.std.proofs.lemmas.List.{append-nil}
-use Rattle.std.proofs.lemmas.List.Sorted.{All-permutation, IsPermutation-append, IsPermutation-cons, IsPermutation-middle, IsPermutation-filter_both, IsPermutation-map, IsPermutation-refl, IsPermutation-sym, IsPermutation-trans, length_permutation}
+use Rattle.std.proofs.lemmas.List.Sorted.{IsPermutation-append, IsPermutation-cons, IsPermutation-middle, IsPermutation-filter_both, IsPermutation-map, IsPermutation-refl, IsPermutation-sym, IsPermutation-trans, length_permutation}
+use Rattle.list_laws.proofs.Cited.{all_from, all_pass, all_true, filter_and, filtered_from, filtered_true, from_append, in_left, in_moved, in_right, is_there, none_pass, some_mapped, some_of, take_suc}
 use Rattle.point_order.specs.declared.cell.Cell.{Cell}
 use Rattle.point_order.specs.declared.cell.Cell.TheVariants.{Full, Open}
 use Rattle.point_order.specs.Complex.{complex}
@@ -19,24 +20,20 @@ use Rattle.edit_history.specs.declared.history.Entry.{Entry}
 use Rattle.edit_history.specs.Edits.{point_of, after}
 use Rattle.edit_history.specs.Histories.{replay, IsLegalFrom}
 use Rattle.edit_history.specs.Merging.{numbers}
-use Rattle.edit_history.proofs.Lines.{at-in}
-use Rattle.edit_history.proofs.Numbers.{merged-order}
+use Rattle.edit_history.proofs.Cited.{merged-order}
 use Rattle.del_laws.specs.Listed.{IsListed}
-use Rattle.del_laws.proofs.Listed.{listed_is_cell, in_left, in_right, from_append}
-use Rattle.del_laws.proofs.Ordered.{complex_is_sorted, same_members}
-use Rattle.del_laws.proofs.Tests.{all_from, all_true, filtered_from, filtered_true}
+use Rattle.del_laws.proofs.Cited.{complex_is_sorted, listed_is_cell, same_members}
 use Rattle.cell_store.specs.Grids.{bucket_of}
-use Rattle.cell_store.specs.Buckets.{Content, InHand, bucket_at}
+use Rattle.cell_store.specs.Buckets.{BucketContent, InHand, bucket_at}
 use Rattle.cell_store.specs.Shares.{Stands, IsSound, Shows, entries_share}
 use Rattle.cell_store.specs.Changes.{Follows, IsNext, IsSwapped, IsNoted}
 use Rattle.cell_store.specs.Ready.{AreHeld}
 use Rattle.cell_store.specs.Swaps.{touches, AreSameCells}
 use Rattle.cell_store.specs.Meshes.{AllInHand, HasPlaces, IsWhole, MeshView, IsHoldOf, with_entry, by_number, history_in, mesh_in, counted, all_entries, all_cells, HistoryIs, MeshIs, MeshGathersHistory, MeshGathersComplex, AllAreHeld, MoreAreHeld}
-use Rattle.cell_stars.proofs.GridLaws.{bucket-below}
+use Rattle.cell_stars.proofs.Cited.{bucket-below}
 use Rattle.cell_store.proofs.HandLaws.{fewer_stand}
-use Rattle.cell_store.proofs.Members.{take_next}
 use Rattle.cell_store.proofs.NextLaws.{entry_keeps_hold, next_entry}
-use Rattle.cell_store.proofs.ShareLaws.{some_of, known_some, some_mapped, touched, sound_of, stands_shows}
+use Rattle.cell_store.proofs.ShareLaws.{touched, sound_of, stands_shows}
 
 -- ---- what is in hand
 
@@ -57,7 +54,7 @@ all_are_held hold l has all c k p i = point_held hold p has all
 pub more_are_held : MoreAreHeld
 more_are_held few many l am held c k p i =
     let s = some_of (bucket_at few.places (bucket_of few.grid p)) (held c k p i) in
-    subst (λ g. IsSome (bucket_at many.places (bucket_of g p))) am.grid (known_some (bucket_at many.places (bucket_of few.grid p)) s.0 (am.buckets (bucket_of few.grid p) s.0 s.1))
+    subst (λ g. IsSome (bucket_at many.places (bucket_of g p))) am.grid (is_there (bucket_at many.places (bucket_of few.grid p)) s.0 (am.buckets (bucket_of few.grid p) s.0 s.1))
 
 -- the test whether cells are held
 pub held_test : (hold : InHand) (l : List Cell) (t : Bool) → t ≡ list_all (λ c. list_all (λ p. is_some (bucket_at hold.places (bucket_of hold.grid p))) (points_of c)) l → (t ≡ true → AreHeld hold l) × (AreHeld hold l → t ≡ true)
@@ -66,28 +63,9 @@ held_test hold l t e = (
   λ h. e ∙ all_true (λ c. list_all (λ p. is_some (bucket_at hold.places (bucket_of hold.grid p))) (points_of c)) l (λ c k. all_true (λ p. is_some (bucket_at hold.places (bucket_of hold.grid p))) (points_of c) (h c k)),
 )
 
--- ---- filters
-
--- two tests in turn are one that needs both
-filter_and : {X : Type 0} (p q r : X → Bool) (l : List X) → ((x : X) → (q x && p x) ≡ r x) → filter p (filter q l) ≡ filter r l
-filter_and p q r [] f = refl
-filter_and {X} p q r (x ∷ l) f = by (q x) (r x) (f x) (filter_and p q r l f)
-  where
-    by : (a c : Bool) → (a && p x) ≡ c → filter p (filter q l) ≡ filter r l → filter p (cond a (x ∷ filter q l) (filter q l)) ≡ cond c (x ∷ filter r l) (filter r l)
-    by true c e r' = ap (λ b. cond b (x ∷ filter p (filter q l)) (filter p (filter q l))) e ∙ ap (λ (m : List X). cond c (x ∷ m) m) r'
-    by false c e r' = r' ∙ ap (λ b. cond b (x ∷ filter r l) (filter r l)) e
-
-all_pass : {X : Type 0} (p : X → Bool) (l : List X) → ((x : X) → p x ≡ true) → filter p l ≡ l
-all_pass p [] f = refl
-all_pass {X} p (x ∷ l) f = rw (f x) (ap (λ (m : List X). x ∷ m) (all_pass p l f))
-
-none_pass : {X : Type 0} (p : X → Bool) (l : List X) → ((x : X) → p x ≡ false) → filter p l ≡ []
-none_pass p [] f = refl
-none_pass p (x ∷ l) f = rw (f x) (none_pass p l f)
-
 -- ---- the entries of the first buckets
 
-abbrev pub entries_of : Option Content → List Entry
+abbrev pub entries_of : Option BucketContent → List Entry
 entries_of o = option_map_or (λ c. c.entries) o []
 
 -- the number of the entry's bucket is below n
@@ -121,8 +99,8 @@ entries_are hold h b st s =
     ap entries_of c.1 ∙ (st.shares b c.0 c.1).entries
 
 -- what the first buckets have and the next
-pub next_gathered : {Y : Type 0} (f : Option Content → List Y) (l : List (Option Content)) (n : ℕ) → n < length l → flat_map f (take (suc n) l) ≡ flat_map f (take n l) ++ f (bucket_at l n)
-next_gathered f l n k = ap (flat_map f) (take_next l n None k) ∙ flat_map-append f (take n l) (bucket_at l n ∷ []) ∙ ap (λ m. flat_map f (take n l) ++ m) (append-nil (f (bucket_at l n)))
+pub next_gathered : {Y : Type 0} (f : Option BucketContent → List Y) (l : List (Option BucketContent)) (n : ℕ) → n < length l → flat_map f (take (suc n) l) ≡ flat_map f (take n l) ++ f (bucket_at l n)
+next_gathered f l n k = ap (flat_map f) (take_suc l n None k) ∙ flat_map-append f (take n l) (bucket_at l n ∷ []) ∙ ap (λ m. flat_map f (take n l) ++ m) (append-nil (f (bucket_at l n)))
 
 gathered : (hold : InHand) (h : List Entry) → AllInHand hold → Stands hold h → (n : ℕ) → n ≤ length hold.places → IsPermutation (flat_map entries_of (take n hold.places)) (filter (is_below hold.grid n) h)
 gathered hold h all st zero k = rw (none_pass (is_below hold.grid 0) h (λ e. none (bucket_of hold.grid (point_of e.edit)))) (IsPermutation-refl [])
@@ -185,16 +163,6 @@ same_numbered n (d ∷ l) (e ∷ h) k m f b = rw first (ap (λ (t : List Entry).
     back : (x : Entry) → IsIn x h → IsIn x l
     back x i = elim (b x (inr i)) [ inl q ↦ (let s = number_from (n + 1) h x m.1 i in let t = ap (λ (y : Entry). y.number) q in let u = k.0 in absurd (omega arith)) | inr j ↦ j ]
 
--- ---- members of a list in another order
-
-in_all : {X : Type 0} (P : X → Type 0) (l : List X) (x : X) → All P l → IsIn x l → P x
-in_all P [] x a i = absurd i
-in_all P (y ∷ l) x a (inl q) = subst P q (a 0 y (omega arith))
-in_all P (y ∷ l) x a (inr i) = in_all P l x (λ k d h. a (suc k) d (omega arith)) i
-
-pub in_moved : {X : Type 0} (xs ys : List X) (x : X) → IsPermutation xs ys → IsIn x ys → IsIn x xs
-in_moved xs ys x p i = in_all (λ y. IsIn y xs) ys x (All-permutation (λ y. IsIn y xs) xs ys p (λ k d h. at-in xs k d h)) i
-
 -- ---- the laws
 
 pub mesh_gathers : MeshGathersHistory
@@ -220,7 +188,7 @@ abbrev Rises : List Entry → Type 0
 Rises [] = Unit {0}
 Rises (e ∷ l) = ((d : Entry) → IsIn d l → e.number ≤ d.number) × Rises l
 
-from_put : (e d : Entry) (l : List Entry) → IsIn d (with_entry e l) → (e ≡ d) ⊎ IsIn d l
+pub from_put : (e d : Entry) (l : List Entry) → IsIn d (with_entry e l) → (e ≡ d) ⊎ IsIn d l
 from_put e d [] (inl q) = inl q
 from_put e d [] (inr i) = absurd i
 from_put e d (x ∷ l) i = by (ltb e.number x.number) i (from_put e d l)
@@ -311,11 +279,11 @@ flat_from f (x ∷ l) d y k = elim (from_append y (f x) (flat_map f l) k) [
   | inr j ↦ (let r = flat_from f l d y j in (suc r.0, r.1))
 ]
 
-abbrev pub cells_of : Option Content → List Cell
+abbrev pub cells_of : Option BucketContent → List Cell
 cells_of o = option_map_or (λ c. c.cells) o []
 
 -- a cell of a complex has a point
-has_point : (s : List ℕ) (c : Cell) → IsListed s c → (p : ℕ) × IsIn p (points_of c)
+pub has_point : (s : List ℕ) (c : Cell) → IsListed s c → (p : ℕ) × IsIn p (points_of c)
 has_point s (Full q) l = (l.a, subst (IsIn l.a) (sym l.is) (inl refl))
 has_point s (Open t) l = (l.a, subst (IsIn l.a) (sym l.is) (inl refl))
 
@@ -323,7 +291,7 @@ cells_are : (mesh : InHand) (s : List ℕ) → IsWhole mesh → Shows mesh s →
 cells_are mesh s m sh = (forth, back)
   where
     -- of a bucket in hand
-    known : (b : ℕ) (o : Option Content) → bucket_at mesh.places b ≡ o → (c : Cell) → IsIn c (cells_of o) → IsIn c (complex s)
+    known : (b : ℕ) (o : Option BucketContent) → bucket_at mesh.places b ≡ o → (c : Cell) → IsIn c (cells_of o) → IsIn c (complex s)
     known b None e c i = absurd i
     known b (Some x) e c i = (filtered_from (touches mesh.grid b) (complex s) c (subst (IsIn c) ((sh.sights b x e).cells) i)).0
 
@@ -349,7 +317,7 @@ mesh_gathers_cells mesh s m sh = record {
 -- ---- the count
 
 -- what the loop over the buckets counts
-pub count_next : (l : List (Option Content)) (n count entries : ℕ) → n < length l → count ≡ min (length (flat_map entries_of (take n l))) (2 ^ 64 - 1) → entries ≡ length (entries_of (bucket_at l n)) → min (count + entries) (2 ^ 64 - 1) ≡ min (length (flat_map entries_of (take (n + 1) l))) (2 ^ 64 - 1)
+pub count_next : (l : List (Option BucketContent)) (n count entries : ℕ) → n < length l → count ≡ min (length (flat_map entries_of (take n l))) (2 ^ 64 - 1) → entries ≡ length (entries_of (bucket_at l n)) → min (count + entries) (2 ^ 64 - 1) ≡ min (length (flat_map entries_of (take (n + 1) l))) (2 ^ 64 - 1)
 count_next l n count entries k e f =
     let s = ap length (next_gathered entries_of l n k) ∙ length-append (flat_map entries_of (take n l)) (entries_of (bucket_at l n)) in
     rw add-one (rw s (step _ _ _ _ e f))

@@ -6,28 +6,27 @@ use Rattle.std.proofs.Common.{refl, sym, ◌∙◌, ap, subst, inl, inr, arith}
 use Rattle.std.proofs.lemmas.Bool.{eqb-true}
 use Rattle.std.proofs.lemmas.List.Elements.{filter-append}
 use Rattle.std.proofs.lemmas.List.Kept.{IsStrictlySortedBy-filter}
+use Rattle.list_laws.proofs.Cited.{filter_swap, filtered_ascending, filtered_from, filtered_true, same_members as same-members}
 use Rattle.point_order.specs.declared.cell.Cell.{Cell}
 use Rattle.point_order.specs.CellOrder.{cell_cmp}
 use Rattle.point_order.specs.Complex.{complex}
 use Rattle.point_order.specs.Sets.{IsIn, IsAscending, with_point, without_point}
-use Rattle.point_order.proofs.SetLaws.{same-members, in-with, in-with_new, in-with_old, ascending-with}
+use Rattle.point_order.proofs.Cited.{ascending-with, in-with, in-with_new, in-with_old}
 use Rattle.edit_history.specs.declared.history.Entry.{Entry}
 use Rattle.edit_history.specs.declared.history.Reply.{Reply}
 use Rattle.edit_history.specs.declared.history.Reply.TheVariants.{Inserted, Duplicate, Removed, Missing, Flat}
 use Rattle.edit_history.specs.Edits.{point_of, changed, after}
 use Rattle.edit_history.specs.Histories.{replay, replay_from, IsLegal, IsLegalFrom}
-use Rattle.edit_history.proofs.OneMore.{replay_more, legal_more}
-use Rattle.del_laws.proofs.Tests.{filtered_from, filtered_true}
-use Rattle.del_laws.proofs.PointSets.{filtered_ascending}
-use Rattle.del_laws.proofs.Ordered.{complex_is_sorted, same_members}
+use Rattle.edit_history.proofs.Cited.{legal_more, replay_more}
+use Rattle.del_laws.proofs.Cited.{complex_is_sorted, same_members}
 use Rattle.hole_laws.specs.Edits.{IsSolidSet}
-use Rattle.hole_laws.proofs.EditLaws.{stays_solid}
+use Rattle.hole_laws.proofs.Cited.{stays_solid}
 use Rattle.cell_store.specs.Grids.{bucket_of}
-use Rattle.cell_store.specs.Buckets.{Content, bucket_at}
+use Rattle.cell_store.specs.Buckets.{BucketContent, bucket_at}
 use Rattle.cell_store.specs.Swaps.{touches, swapped}
 use Rattle.cell_store.specs.Shares.{IsShare, cells_share, entries_share}
 use Rattle.cell_store.specs.Changes.{swapped_in, noted_in, IsChange, NextEntry, EntryKeepsHold, ShareAfterEntry, ShareElsewhere}
-use Rattle.cell_stars.proofs.CellLaws.{in_or_not, swapped_sorted, swapped_from, swapped_new, swapped_old, swapped_none}
+use Rattle.cell_stars.proofs.Cited.{in_or_not, swapped_from, swapped_new, swapped_none, swapped_old, swapped_sorted}
 use Rattle.cell_store.proofs.ShareLaws.{ascending_replay}
 
 -- ---- the cells
@@ -87,13 +86,6 @@ filter_with_else t p s a e =
       | inl f ↦ (let n : t q ≡ false = subst (λ z. t z ≡ false) f e in absurd (cc (n, r.1)))
       | inr j ↦ filtered_true t s q j r.1
     ]))
-
--- two tests in turn
-filter_swap : (t u : ℕ → Bool) (s : List ℕ) → IsAscending s → filter u (filter t s) ≡ filter t (filter u s)
-filter_swap t u s a =
-    same-members (filter u (filter t s)) (filter t (filter u s)) (filtered_ascending u (filter t s) (filtered_ascending t s a)) (filtered_ascending t (filter u s) (filtered_ascending u s a))
-    (λ q i. (let r = filtered_from u (filter t s) q i in let k = filtered_from t s q r.0 in filtered_true t (filter u s) q (filtered_true u s q k.0 r.1) k.1))
-    (λ q i. (let r = filtered_from t (filter u s) q i in let k = filtered_from u s q r.0 in filtered_true u (filter t s) q (filtered_true t s q k.0 r.1) k.1))
 
 -- a point that does not pass is not among those that do, so taking it out changes nothing
 filter_without_else : (t : ℕ → Bool) (p : ℕ) (s : List ℕ) → IsAscending s → t p ≡ false → filter t s ≡ filter t (without_point p s)
@@ -197,7 +189,7 @@ mapped_some {X} f (Some x) y e = (x, refl, same (f x) y e)
 pub entry_keeps_hold : EntryKeepsHold
 entry_keeps_hold h e gone fresh old between new st next sw nd = record { legal = next.legal; keys = next.keys; solid = next.solid; shares = each }
   where
-    each : (b : ℕ) (c : Content) → bucket_at new.places b ≡ Some c → IsShare new.grid b (h ++ e ∷ []) c
+    each : (b : ℕ) (c : BucketContent) → bucket_at new.places b ≡ Some c → IsShare new.grid b (h ++ e ∷ []) c
     each b c q =
         let r = mapped_some (noted_in between.grid b e) (bucket_at between.places b) c (sym (nd.places b) ∙ q) in
         let u = mapped_some (swapped_in old.grid b gone fresh) (bucket_at old.places b) r.0 (sym (sw.places b) ∙ r.1) in

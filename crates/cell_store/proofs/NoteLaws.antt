@@ -1,26 +1,24 @@
 -- What an entry makes of the points of its bucket, and of the buckets of a hold.
-use Rattle.std.specs.Prelude.{◌≡◌, ◌≢◌, ℕ, zero, suc, ◌<◌, ◌≤◌, ◌==◌, Bool, true, false, cond, not, ◌||◌, List, [], ◌∷◌, ◌++◌, ◌⊎◌, Option, None, Some, IfSome, IsSomeAnd, length, slice_index, slice_index_or, slice_set, Result, Ok, Err, MatchResult, OnOk, OnErr}
+use Rattle.std.specs.Prelude.{◌≡◌, ◌≢◌, ℕ, ◌<◌, ◌≤◌, ◌==◌, Bool, true, false, cond, not, ◌||◌, List, [], ◌∷◌, ◌++◌, ◌⊎◌, Option, None, Some, IsSomeAnd, length, slice_index, slice_set, Result, Ok, Err, MatchResult, OnOk, OnErr}
 use Rattle.std.specs.Option.{option_map}
 use Rattle.std.proofs.Common.{refl, sym, ◌∙◌, ap, subst, inl, inr, arith}
 use Rattle.std.proofs.lemmas.Bool.Decides.{nat_tests}
 use Rattle.std.proofs.lemmas.List.{get_or-set_same, get_or-set_other}
+use Rattle.list_laws.proofs.Cited.{below_each, index_in, len_set, len_twice, of_some, one_value, set_there, to_some}
 use Rattle.point_order.specs.declared.cell.Cell.{Cell}
 use Rattle.point_order.specs.Sets.{IsIn, IsAscending, is_among, with_point, without_point}
-use Rattle.point_order.proofs.SetLaws.{below-each, with-cases, ascending-with}
+use Rattle.point_order.proofs.Cited.{with-cases}
 use Rattle.edit_history.specs.declared.history.Entry.{Entry}
-use Rattle.edit_history.specs.declared.history.Reply.{Reply}
-use Rattle.edit_history.specs.declared.history.Reply.TheVariants.{Inserted, Duplicate, Removed, Missing, Flat}
 use Rattle.edit_history.specs.Edits.{point_of, changed}
-use Rattle.edit_history.proofs.SetEdits.{in-place, among-gap, ascending-without}
+use Rattle.edit_history.proofs.Cited.{among-gap}
 use Rattle.cell_store.specs.Grids.{bucket_of}
 use Rattle.cell_stars.specs.Plans.{IsPlanFor}
 use Rattle.cell_stars.specs.Places.{Placed, cells_of}
-use Rattle.cell_store.specs.Buckets.{Content, Layout, InHand, Room, bucket_at, content_of, layout_at, shown, StandAtPlaces}
+use Rattle.cell_store.specs.Buckets.{BucketContent, Layout, InHand, Room, bucket_at, content_of, layout_at, shown, StandAtPlaces}
 use Rattle.cell_store.specs.declared.room.PlanFor.{PlanFor}
 use Rattle.cell_store.specs.Changes.{noted_in, IsNoted}
 use Rattle.cell_store.specs.Ready.{HasRoom, IsNoteReady, IsReady, IsReadyFor, IsRoomier}
 use Rattle.cell_store.proofs.Layouts.{shown_is, shown_set}
-use Rattle.cell_store.proofs.RoomLaws.{of_some, to_some}
 
 -- a point that is there is put in already
 with_there : (p : ℕ) (s : List ℕ) → IsAscending s → IsIn p s → with_point p s ≡ s
@@ -28,7 +26,7 @@ with_there p [] a k = absurd k
 with_there p (x ∷ s) a (inl e) =
     elim (with-cases p x s) [ inl w ↦ absurd (omega (arith, w.0, e)) | inr o ↦ elim o [ inl w ↦ w.1 | inr w ↦ absurd (omega (arith, w.0, e)) ] ]
 with_there p (x ∷ s) a (inr k) =
-    let b : x < p = below-each x s a.0 a.1 p k in
+    let b : x < p = below_each x s a.0 a.1 p k in
     let r = with_there p s a.1 k in
     elim (with-cases p x s) [ inl w ↦ absurd (omega (arith, w.0, b)) | inr o ↦ elim o [ inl w ↦ absurd (omega (arith, w.0, b)) | inr w ↦ w.1 ∙ ap (λ (t : List ℕ). x ∷ t) r ] ]
 
@@ -43,47 +41,21 @@ without_absent p (x ∷ s) e = by (x == p) e (without_absent p s)
 
 -- what a search found, for a point to be put in or taken out
 pub found_with : (s : List ℕ) (p : ℕ) (r : Result ℕ ℕ) → IsAscending s → MatchResult r (λ i. (i < length s) × (slice_index s i ≡ p)) (λ i. (i ≤ length s) × ((k : ℕ) → k < i → slice_index s k < p) × ((k : ℕ) → i ≤ k → k < length s → p < slice_index s k)) → OnOk r (with_point p s ≡ s)
-found_with s p (Ok i) a h = with_there p s a (subst (λ q. IsIn q s) h.1 (in-place s i h.0))
+found_with s p (Ok i) a h = with_there p s a (subst (λ q. IsIn q s) h.1 (index_in s i h.0))
 found_with s p (Err i) a h = tt
 
 pub found_without : (s : List ℕ) (p : ℕ) (r : Result ℕ ℕ) → MatchResult r (λ i. (i < length s) × (slice_index s i ≡ p)) (λ i. (i ≤ length s) × ((k : ℕ) → k < i → slice_index s k < p) × ((k : ℕ) → i ≤ k → k < length s → p < slice_index s k)) → OnErr r (without_point p s ≡ s)
 found_without s p (Ok i) h = tt
 found_without s p (Err i) h = without_absent p s (among-gap s p i (record { within = h.0; below = h.1; above = h.2 }))
 
--- points in order are in order after a reply
-pub ascending_changed : (s : List ℕ) (p : ℕ) (r : Reply) → IsAscending s → IsAscending (changed s p r)
-ascending_changed s p Inserted a = ascending-with p s a
-ascending_changed s p Duplicate a = a
-ascending_changed s p Removed a = ascending-without p s a
-ascending_changed s p Missing a = a
-ascending_changed s p Flat a = a
-
 -- ---- one bucket anew
 
-pub if_some : {X : Type 0} (P Q : X → Type 0) (o : Option X) → ((x : X) → P x → Q x) → IfSome o P → IfSome o Q
-if_some P Q None f h = tt
-if_some P Q (Some x) f h = f x h
-
-pub if_none : {X : Type 0} (P : X → Type 0) (o : Option X) → o ≡ None → IfSome o P
-if_none P o e = rw e tt
-
-pub len_set : {X : Type 0} (l : List X) (i : ℕ) (x : X) → length (slice_set l i x) ≡ length l
-len_set [] i x = refl
-len_set (y ∷ l) zero x = refl
-len_set (y ∷ l) (suc i) x = ap suc (len_set l i x)
-
-len_twice : {X : Type 0} (l : List X) (i : ℕ) (x y : X) → length (slice_set (slice_set l i x) i y) ≡ length l
-len_twice l i x y = len_set (slice_set l i x) i y ∙ len_set l i x
-
-pub len_twice_is : {X : Type 0} (l : List X) (i n : ℕ) (x y : X) → length l ≡ n → length (slice_set (slice_set l i x) i y) ≡ n
-len_twice_is l i n x y e = len_twice l i x y ∙ e
-
 -- the bucket itself
-there : (places : List (Option Content)) (b : ℕ) (x y : Option Content) → b < length places → bucket_at (slice_set (slice_set places b x) b y) b ≡ y
+there : (places : List (Option BucketContent)) (b : ℕ) (x y : Option BucketContent) → b < length places → bucket_at (slice_set (slice_set places b x) b y) b ≡ y
 there places b x y h = get_or-set_same (slice_set places b x) b y None (let e = len_set places b x in omega (arith, e, h))
 
 -- another
-elsewhere : (places : List (Option Content)) (b k : ℕ) (x y : Option Content) → k ≢ b → bucket_at (slice_set (slice_set places b x) b y) k ≡ bucket_at places k
+elsewhere : (places : List (Option BucketContent)) (b k : ℕ) (x y : Option BucketContent) → k ≢ b → bucket_at (slice_set (slice_set places b x) b y) k ≡ bucket_at places k
 elsewhere places b k x y n = get_or-set_other (slice_set places b x) b k y None n ∙ get_or-set_other places b k x None n
 
 two : (k b : ℕ) → (k ≡ b) ⊎ (k ≢ b)
@@ -121,23 +93,23 @@ ready_noted g b gone fresh places plans x c d h e f r = record { each = λ l i. 
     ]
 
 -- the bucket with the entry
-abbrev with_entry : Entry → Content → Content
+abbrev with_entry : Entry → BucketContent → BucketContent
 with_entry e c = record c { points = changed c.points (point_of e.edit) e.reply; entries = c.entries ++ e ∷ [] }
 
-noted_here : (g b : ℕ) (e : Entry) (c : Content) → b ≡ bucket_of g (point_of e.edit) → noted_in g b e c ≡ with_entry e c
+noted_here : (g b : ℕ) (e : Entry) (c : BucketContent) → b ≡ bucket_of g (point_of e.edit) → noted_in g b e c ≡ with_entry e c
 noted_here g b e c h = rw (test (bucket_of g (point_of e.edit)) b h) refl
   where
     test : (n m : ℕ) → m ≡ n → (n == m) ≡ true
     test n m = grind (arith, nat_tests)
 
-noted_elsewhere : (g k : ℕ) (e : Entry) (o : Option Content) → k ≢ bucket_of g (point_of e.edit) → option_map (noted_in g k e) o ≡ o
+noted_elsewhere : (g k : ℕ) (e : Entry) (o : Option BucketContent) → k ≢ bucket_of g (point_of e.edit) → option_map (noted_in g k e) o ≡ o
 noted_elsewhere g k e None h = refl
 noted_elsewhere g k e (Some c) h = rw (test (bucket_of g (point_of e.edit)) k h) refl
   where
     test : (n m : ℕ) → m ≢ n → (n == m) ≡ false
     test n m = grind (arith, nat_tests)
 
-pub noted_is : (old new : InHand) (g b : ℕ) (places : List (Option Content)) (e : Entry) (x : Option Content) (c d : Content) → g ≡ old.grid → places ≡ old.places → new.grid ≡ g → new.places ≡ slice_set (slice_set places b x) b (Some d) → b ≡ bucket_of g (point_of e.edit) → b < length places → bucket_at places b ≡ Some c → d ≡ with_entry e c → IsNoted e old new
+pub noted_is : (old new : InHand) (g b : ℕ) (places : List (Option BucketContent)) (e : Entry) (x : Option BucketContent) (c d : BucketContent) → g ≡ old.grid → places ≡ old.places → new.grid ≡ g → new.places ≡ slice_set (slice_set places b x) b (Some d) → b ≡ bucket_of g (point_of e.edit) → b < length places → bucket_at places b ≡ Some c → d ≡ with_entry e c → IsNoted e old new
 noted_is old new g b places e x c d e1 e2 e3 e4 h l k f = record {
   grid = e3 ∙ e1;
   count = ap length e4 ∙ len_twice places b x (Some d) ∙ ap length e2;
@@ -151,33 +123,30 @@ noted_is old new g b places e x c d e1 e2 e3 e4 h l k f = record {
     by n = elim (two n b) [
       | inl w ↦
           ap (bucket_at (slice_set (slice_set places b x) b (Some d))) w ∙ there places b x (Some d) l
-          ∙ ap (λ (y : Content). Some y) (f ∙ sym (noted_here g n e c (w ∙ h)))
+          ∙ ap (λ (y : BucketContent). Some y) (f ∙ sym (noted_here g n e c (w ∙ h)))
           ∙ sym (ap (option_map (noted_in g n e)) (ap (bucket_at places) w ∙ k))
       | inr w ↦ elsewhere places b n x (Some d) w ∙ sym (noted_elsewhere g n e (bucket_at places n) (λ q. w (q ∙ sym h)))
     ]
 
 -- ---- places
 
-same_content : (x y : Content) → ◌≡◌ {A = Option Content} (Some x) (Some y) → x ≡ y
-same_content x y e = cc
-
-pub stand_noted : (g b : ℕ) (places : List (Option Content)) (x : Option Content) (c d : Content) → b < length places → bucket_at places b ≡ Some c → d.place ≡ c.place → StandAtPlaces g places → StandAtPlaces g (slice_set (slice_set places b x) b (Some d))
+pub stand_noted : (g b : ℕ) (places : List (Option BucketContent)) (x : Option BucketContent) (c d : BucketContent) → b < length places → bucket_at places b ≡ Some c → d.place ≡ c.place → StandAtPlaces g places → StandAtPlaces g (slice_set (slice_set places b x) b (Some d))
 stand_noted g b places x c d h e p st k y q = elim (two k b) [
   | inl w ↦ (
-      let u : d ≡ y = same_content d y (sym (there places b x (Some d) h) ∙ ap (bucket_at (slice_set (slice_set places b x) b (Some d))) (sym w) ∙ q) in
+      let u : d ≡ y = one_value d y (sym (there places b x (Some d) h) ∙ ap (bucket_at (slice_set (slice_set places b x) b (Some d))) (sym w) ∙ q) in
       ap (λ z. z.place) (sym u) ∙ p ∙ st b c e ∙ ap (λ (n : ℕ). Some (g, n)) (sym w))
   | inr n ↦ st k y (sym (elsewhere places b k x (Some d) n) ∙ q)
 ]
 
-pub stand_put : (g b : ℕ) (places : List (Option Content)) (d : Content) → b < length places → d.place ≡ Some (g, b) → StandAtPlaces g places → StandAtPlaces g (slice_set places b (Some d))
+pub stand_put : (g b : ℕ) (places : List (Option BucketContent)) (d : BucketContent) → b < length places → d.place ≡ Some (g, b) → StandAtPlaces g places → StandAtPlaces g (slice_set places b (Some d))
 stand_put g b places d h p st k y q = elim (two k b) [
   | inl w ↦ (
-      let u : d ≡ y = same_content d y (sym (get_or-set_same places b (Some d) None h) ∙ ap (bucket_at (slice_set places b (Some d))) (sym w) ∙ q) in
+      let u : d ≡ y = one_value d y (sym (get_or-set_same places b (Some d) None h) ∙ ap (bucket_at (slice_set places b (Some d))) (sym w) ∙ q) in
       ap (λ z. z.place) (sym u) ∙ p ∙ ap (λ (n : ℕ). Some (g, n)) (sym w))
   | inr n ↦ st k y (sym (get_or-set_other places b k (Some d) None n) ∙ q)
 ]
 
-pub stand_take : (g b : ℕ) (places : List (Option Content)) → b < length places → StandAtPlaces g places → StandAtPlaces g (slice_set places b None)
+pub stand_take : (g b : ℕ) (places : List (Option BucketContent)) → b < length places → StandAtPlaces g places → StandAtPlaces g (slice_set places b None)
 stand_take g b places h st k y q = elim (two k b) [
   | inl w ↦ (let u = sym (get_or-set_same places b None None h) ∙ ap (bucket_at (slice_set places b None)) (sym w) ∙ q in absurd (cc u))
   | inr n ↦ st k y (sym (get_or-set_other places b k None None n) ∙ q)
@@ -202,17 +171,6 @@ note_put g b places p x e q = elim (two (bucket_of g p) b) [
 
 -- ---- a bucket that has more room
 
--- what holds anyhow holds of a refusal
-pub refused : {X E : Type 0} (r : Result X E) (P : Type 0) → P → OnErr r P
-refused (Ok x) P p = tt
-refused (Err e) P p = p
-
--- what is there is set
-set_there : {X : Type 0} (l : List (Option X)) (b : ℕ) (x : X) → slice_index_or l b None ≡ Some x → slice_set l b (Some x) ≡ l
-set_there [] b x e = refl
-set_there {X} (o ∷ l) zero x e = ap (λ (y : Option X). y ∷ l) (sym e)
-set_there {X} (o ∷ l) (suc b) x e = ap (λ (m : List (Option X)). o ∷ m) (set_there l b x e)
-
 same_shown : (c d : Layout) → IsRoomier c d → content_of d ≡ content_of c
 same_shown c d r =
     ap (λ (l : List ℕ). record { points = l; cells = cells_of d.cells.slots; entries = d.entries; place = d.cells.place }) r.points
@@ -221,7 +179,7 @@ same_shown c d r =
 
 pub roomier_shown : (places : List (Option Layout)) (b : ℕ) (c d : Layout) → layout_at places b ≡ Some c → IsRoomier c d → shown (slice_set places b (Some d)) ≡ shown places
 roomier_shown places b c d e r =
-    shown_set places b (Some d) ∙ ap (λ (x : Content). slice_set (shown places) b (Some x)) (same_shown c d r) ∙ set_there (shown places) b (content_of c) (shown_is places b c e)
+    shown_set places b (Some d) ∙ ap (λ (x : BucketContent). slice_set (shown places) b (Some x)) (same_shown c d r) ∙ set_there (shown places) b (content_of c) (shown_is places b c e)
 
 pub roomier_ready : (g b : ℕ) (gone fresh : List Cell) (places : List (Option Layout)) (plans : List PlanFor) (c d : Layout) → b < length places → layout_at places b ≡ Some c → IsRoomier c d → IsReady g gone fresh places plans → IsReady g gone fresh (slice_set places b (Some d)) plans
 roomier_ready g b gone fresh places plans c d h e r q = subst (λ l. IsReady g gone fresh (slice_set l b (Some d)) plans) (set_there places b c e) (ready_noted g b gone fresh places plans (Some c) c d h e r.cells q)
@@ -242,8 +200,8 @@ roomier_note g b places p c d h e r q = elim (two (bucket_of g p) b) [
     more k = let x = k.points in let y = k.entries in let u = r.for_points in let v = r.for_entries in record { points = omega arith; entries = omega arith }
 
 -- the hold with other places
-pub hold_with : (h : InHand) (g : ℕ) (ps qs xs : List (Option Content)) (r s : Room) → record { grid = g; places = ps; room = r } ≡ h → qs ≡ xs → record { grid = g; places = qs; room = s } ≡ record h { places = xs; room = s }
-hold_with h g ps qs xs r s e q = ap (λ (l : List (Option Content)). record { grid = g; places = l; room = s }) q ∙ ap (λ (k : InHand). record k { places = xs; room = s }) e
+pub hold_with : (h : InHand) (g : ℕ) (ps qs xs : List (Option BucketContent)) (r s : Room) → record { grid = g; places = ps; room = r } ≡ h → qs ≡ xs → record { grid = g; places = qs; room = s } ≡ record h { places = xs; room = s }
+hold_with h g ps qs xs r s e q = ap (λ (l : List (Option BucketContent)). record { grid = g; places = l; room = s }) q ∙ ap (λ (k : InHand). record k { places = xs; room = s }) e
 
-pub hold_keeps : (h : InHand) (g : ℕ) (ps qs xs : List (Option Content)) (r : Room) → record { grid = g; places = ps; room = r } ≡ h → qs ≡ xs → record { grid = g; places = qs; room = r } ≡ record h { places = xs }
-hold_keeps h g ps qs xs r e q = ap (λ (l : List (Option Content)). record { grid = g; places = l; room = r }) q ∙ ap (λ (k : InHand). record k { places = xs }) e
+pub hold_keeps : (h : InHand) (g : ℕ) (ps qs xs : List (Option BucketContent)) (r : Room) → record { grid = g; places = ps; room = r } ≡ h → qs ≡ xs → record { grid = g; places = qs; room = r } ≡ record h { places = xs }
+hold_keeps h g ps qs xs r e q = ap (λ (l : List (Option BucketContent)). record { grid = g; places = l; room = r }) q ∙ ap (λ (k : InHand). record k { places = xs }) e

@@ -1,64 +1,32 @@
 -- What an exchange makes of the buckets of a hold, from the lists that were ready.
-use Rattle.std.specs.Prelude.{◌≡◌, ◌≢◌, ℕ, ◌+◌, zero, suc, ◌<◌, ◌==◌, Bool, true, false, cond, List, [], ◌∷◌, ◌++◌, ◌⊎◌, Option, None, Some, IfSome, IsSome, IsSomeAnd, length, map, slice_index_or, slice_set, unwrap_or}
+use Rattle.std.specs.Prelude.{◌≡◌, ◌≢◌, ℕ, ◌+◌, zero, suc, ◌<◌, ◌==◌, Bool, true, false, cond, List, [], ◌∷◌, ◌++◌, ◌⊎◌, Option, None, Some, IsSome, IsSomeAnd, length, map, slice_index_or, slice_set}
 use Rattle.std.specs.List.{dedup}
 use Rattle.std.specs.List.Sorted.{IsPermutation}
 use Rattle.std.specs.Option.{option_map}
 use Rattle.std.proofs.Common.{refl, sym, ◌∙◌, ap, subst, inl, inr, arith, take, eqb, add-one}
-use Rattle.std.proofs.lemmas.Bool.Decides.{nat_tests}
 use Rattle.std.proofs.lemmas.List.{get_or-set_same, get_or-set_other}
-use Rattle.std.proofs.lemmas.List.Kept.{Contains-dedup_nat, Contains-from_dedup}
-use Rattle.std.proofs.lemmas.List.Sorted.{Contains-permutation, IsPermutation-sym}
+use Rattle.list_laws.proofs.Cited.{and_known, any_none, below_each, differ_from, from_append, in_left, in_right, mapped_from, mapped_true, numbers_same, of_some, same_from, take_suc, within_list}
 use Rattle.point_order.specs.declared.cell.Cell.{Cell}
 use Rattle.point_order.specs.Facets.{points_of}
 use Rattle.point_order.specs.Sets.{IsIn}
-use Rattle.edit_history.proofs.Solidity.{any-none}
-use Rattle.del_laws.proofs.Listed.{in_left, in_right, from_append}
 use Rattle.cell_store.specs.Grids.{bucket_of}
 use Rattle.point_order.specs.Sets.{IsAscending}
-use Rattle.point_order.proofs.SetLaws.{below-each}
 use Rattle.cell_stars.specs.Places.{cells_of, swapped_at}
 use Rattle.cell_stars.specs.Gathering.{Gathers}
 use Rattle.cell_stars.specs.Plans.{Allows, IsPlanFor, done}
-use Rattle.cell_store.specs.Buckets.{Content, Layout, InHand, StandAtPlaces, bucket_at, content_of, layout_at, shown}
+use Rattle.cell_store.specs.Buckets.{BucketContent, Layout, InHand, StandAtPlaces, bucket_at, content_of, layout_at, shown}
 use Rattle.cell_store.specs.Changes.{NoneTouches, swapped_in, IsSwapped}
 use Rattle.cell_store.specs.Ready.{AreApart, AreHeld, AreInHand, HasNumber, HasRoom, IsNumberOf, IsAllowed, IsNoteReady, IsReady, IsReadyFor, NoneIsFor, carried, given, numbers_of}
 use Rattle.cell_store.specs.declared.room.PlanFor.{PlanFor}
 use Rattle.cell_store.proofs.Layouts.{shown_at, shown_is, shown_some}
 use Rattle.cell_store.specs.Swaps.{swapped}
-use Rattle.cell_stars.proofs.CellLaws.{swapped_none}
-use Rattle.cell_store.proofs.Members.{take_next, within}
-use Rattle.cell_stars.proofs.Orders.{in_contained, contains_in}
-
--- what holds of the value, where there is one
-pub some_holds : {X : Type 0} (P : X → Type 0) (o : Option X) (x : X) → Some x ≡ o → IfSome o P → P x
-some_holds P o x e h = subst (λ o. IfSome o P) (sym e) h
-
--- equal pairs have equal parts
-pub same_pair : {X Y : Type 0} (a c : X) (b d : Y) → ◌≡◌ {A = Option (X × Y)} (Some (a, b)) (Some (c, d)) → (a ≡ c) × (b ≡ d)
-same_pair {X} {Y} a c b d e =
-    (ap (λ (o : Option (X × Y)). unwrap_or (option_map (λ p. p.0) o) a) e, ap (λ (o : Option (X × Y)). unwrap_or (option_map (λ p. p.1) o) b) e)
-
-equal_from : (n m : ℕ) → (n == m) ≡ true → n ≡ m
-equal_from n m = grind (arith, nat_tests)
-
-differ_from : (n m : ℕ) → (n == m) ≡ false → n ≢ m
-differ_from n m = grind (arith, nat_tests)
+use Rattle.cell_stars.proofs.Cited.{swapped_none}
 
 -- ---- the numbers of the touched buckets
 
-in_mapped : {X Y : Type 0} (f : X → Y) (l : List X) (x : X) → IsIn x l → IsIn (f x) (map f l)
-in_mapped f [] x i = absurd i
-in_mapped f (y ∷ l) x (inl e) = inl (ap f e)
-in_mapped f (y ∷ l) x (inr i) = inr (in_mapped f l x i)
-
-mapped_from : {X Y : Type 0} (f : X → Y) (l : List X) (y : Y) → IsIn y (map f l) → (x : X) × IsIn x l × (f x ≡ y)
-mapped_from f [] y i = absurd i
-mapped_from f (x ∷ l) y (inl e) = (x, inl refl, e)
-mapped_from f (x ∷ l) y (inr i) = let r = mapped_from f l y i in (r.0, inr r.1, r.2)
-
 in_numbers : (g : ℕ) (cells : List Cell) (c : Cell) (p : ℕ) → IsIn c cells → IsIn p (points_of c) → IsIn (bucket_of g p) (numbers_of g cells)
 in_numbers g [] c p i j = absurd i
-in_numbers g (d ∷ cells) c p (inl e) j = in_left (bucket_of g p) (map (bucket_of g) (points_of d)) (numbers_of g cells) (in_mapped (bucket_of g) (points_of d) p (subst (λ (x : Cell). IsIn p (points_of x)) (sym e) j))
+in_numbers g (d ∷ cells) c p (inl e) j = in_left (bucket_of g p) (map (bucket_of g) (points_of d)) (numbers_of g cells) (mapped_true (bucket_of g) p (points_of d) (subst (λ (x : Cell). IsIn p (points_of x)) (sym e) j))
 in_numbers g (d ∷ cells) c p (inr i) j = in_right (bucket_of g p) (map (bucket_of g) (points_of d)) (numbers_of g cells) (in_numbers g cells c p i j)
 
 -- a vertex in the bucket
@@ -72,7 +40,7 @@ record HasVertex (g b : ℕ) (cells : List Cell) : Type 0 where
 numbers_from : (g b : ℕ) (cells : List Cell) → IsIn b (numbers_of g cells) → HasVertex g b cells
 numbers_from g b [] i = absurd i
 numbers_from g b (c ∷ cells) i = elim (from_append b (map (bucket_of g) (points_of c)) (numbers_of g cells) i) [
-  | inl j ↦ (let r = mapped_from (bucket_of g) (points_of c) b j in record { cell = c; listed = inl refl; point = r.0; vertex = r.1; number = r.2 })
+  | inl j ↦ (let r = mapped_from (bucket_of g) b (points_of c) j in record { cell = c; listed = inl refl; point = r.0; vertex = r.1; number = r.2 })
   | inr j ↦ (let r = numbers_from g b cells j in record { cell = r.cell; listed = inr r.listed; point = r.point; vertex = r.vertex; number = r.number })
 ]
 
@@ -84,38 +52,31 @@ held_in_hand hold g places cells eg ep h b i =
 
 -- a bucket whose number is not among them is not touched
 pub not_touched : (g b : ℕ) (cells : List Cell) → (IsIn b (numbers_of g cells) → ⊥) → NoneTouches g b cells
-not_touched g b cells n c i = any-none (λ p. bucket_of g p == b) (points_of c) (λ p j. by p (bucket_of g p == b) refl j)
+not_touched g b cells n c i = any_none (λ p. bucket_of g p == b) (points_of c) (λ p j. by p (bucket_of g p == b) refl j)
   where
     by : (p : ℕ) (t : Bool) → (bucket_of g p == b) ≡ t → IsIn p (points_of c) → (bucket_of g p == b) ≡ false
-    by p true e j = absurd (n (subst (λ m. IsIn m (numbers_of g cells)) (equal_from (bucket_of g p) b e) (in_numbers g cells c p i j)))
+    by p true e j = absurd (n (subst (λ m. IsIn m (numbers_of g cells)) (same_from (bucket_of g p) b e) (in_numbers g cells c p i j)))
     by p false e j = e
 
 -- the numbers of the points of a cell
 pub numbers_step : (g : ℕ) (c : Cell) (ps list new : List ℕ) → ps ≡ points_of c → Gathers (IsNumberOf g) ps list new →
     ((n : ℕ) → IsIn n new → IsIn n list ⊎ HasNumber g c n) × ((n : ℕ) → IsIn n list → IsIn n new) × ((n : ℕ) → HasNumber g c n → IsIn n new)
 numbers_step g c ps list new e s = (
-  λ n m. elim (s.each n m) [ inl k ↦ inl k | inr r ↦ inr (subst (λ (l : List ℕ). IsIn n (map (bucket_of g) l)) e (subst (λ k. IsIn k (map (bucket_of g) ps)) r.2 (in_mapped (bucket_of g) ps r.0 r.1))) ],
+  λ n m. elim (s.each n m) [ inl k ↦ inl k | inr r ↦ inr (subst (λ (l : List ℕ). IsIn n (map (bucket_of g) l)) e (subst (λ k. IsIn k (map (bucket_of g) ps)) r.2 (mapped_true (bucket_of g) r.0 ps r.1))) ],
   s.kept,
-  λ n h. (let r = mapped_from (bucket_of g) ps n (subst (λ (l : List ℕ). IsIn n (map (bucket_of g) l)) (sym e) h) in s.all r.0 r.1 n r.2),
+  λ n h. (let r = mapped_from (bucket_of g) n ps (subst (λ (l : List ℕ). IsIn n (map (bucket_of g) l)) (sym e) h) in s.all r.0 r.1 n r.2),
 )
 
 number_in : (g n : ℕ) (cells : List Cell) (c : Cell) → IsIn c cells → HasNumber g c n → IsIn n (numbers_of g cells)
-number_in g n cells c i h = (let r = mapped_from (bucket_of g) (points_of c) n h in subst (λ m. IsIn m (numbers_of g cells)) r.2 (in_numbers g cells c r.0 i r.1))
+number_in g n cells c i h = (let r = mapped_from (bucket_of g) n (points_of c) h in subst (λ m. IsIn m (numbers_of g cells)) r.2 (in_numbers g cells c r.0 i r.1))
 
 gathered_are : (g : ℕ) (cells : List Cell) (old list : List ℕ) (n : ℕ) → Gathers (HasNumber g) cells old list → (IsIn n list → IsIn n old ⊎ IsIn n (numbers_of g cells)) × (IsIn n old ⊎ IsIn n (numbers_of g cells) → IsIn n list)
 gathered_are g cells old list n s = (
   λ i. elim (s.each n i) [ inl j ↦ inl j | inr r ↦ inr (number_in g n cells r.0 r.1 r.2) ],
   λ i. elim i [
     | inl j ↦ s.kept n j
-    | inr j ↦ (let r = numbers_from g n cells j in s.all r.cell r.listed n (subst (λ m. IsIn m (map (bucket_of g) (points_of r.cell))) r.number (in_mapped (bucket_of g) (points_of r.cell) r.point r.vertex)))
+    | inr j ↦ (let r = numbers_from g n cells j in s.all r.cell r.listed n (subst (λ m. IsIn m (map (bucket_of g) (points_of r.cell))) r.number (mapped_true (bucket_of g) r.point (points_of r.cell) r.vertex)))
   ],
-)
-
--- sorted, and each once, they are the same numbers
-sorted_are : (l sorted deduped : List ℕ) (n : ℕ) → IsPermutation l sorted → deduped ≡ dedup eqb sorted → (IsIn n deduped → IsIn n l) × (IsIn n l → IsIn n deduped)
-sorted_are l sorted deduped n p d = (
-  λ i. in_contained l n (Contains-permutation sorted l n (IsPermutation-sym l sorted p) (Contains-from_dedup eqb sorted n (contains_in (dedup eqb sorted) n (subst (IsIn n) d i)))),
-  λ i. subst (IsIn n) (sym d) (in_contained (dedup eqb sorted) n (Contains-dedup_nat sorted n (Contains-permutation l sorted n p (contains_in l n i)))),
 )
 
 pub numbers_are : (g : ℕ) (gone fresh : List Cell) (none first second sorted deduped : List ℕ) → none ≡ [] → Gathers (HasNumber g) gone none first → Gathers (HasNumber g) fresh first second → IsPermutation second sorted → deduped ≡ dedup eqb sorted →
@@ -123,7 +84,7 @@ pub numbers_are : (g : ℕ) (gone fresh : List Cell) (none first second sorted d
 numbers_are g gone fresh none first second sorted deduped e s t p d n =
     let f = gathered_are g gone none first n s in
     let h = gathered_are g fresh first second n t in
-    let k = sorted_are second sorted deduped n p d in (
+    let k = numbers_same second sorted deduped p d n in (
       λ i. elim (h.0 (k.0 i)) [
         | inl j ↦ elim (f.0 j) [ inl m ↦ absurd (subst (IsIn n) e m) | inr m ↦ inl m ]
         | inr j ↦ inr j
@@ -148,7 +109,7 @@ given_same [] b o n = refl
 given_same (l ∷ plans) b o n = by (l.number == b) refl (given_same plans b o (λ k i. n k (inr i)))
   where
     by : (t : Bool) → (l.number == b) ≡ t → given plans b o ≡ o → given plans b (cond t (option_map (carried l.plan) o) o) ≡ o
-    by true e r = absurd (n l (inl refl) (equal_from l.number b e))
+    by true e r = absurd (n l (inl refl) (same_from l.number b e))
     by false e r = r
 
 -- the plan for a bucket, if there is one
@@ -166,8 +127,8 @@ given_some (l ∷ plans) b c a = by (l.number == b) refl (given_some plans b c a
     by true e r = inl (record {
       plan = l;
       listed = inl refl;
-      number = equal_from l.number b e;
-      made = ap (λ t. given plans b (cond t (Some (carried l.plan c)) (Some c))) e ∙ given_same plans b (Some (carried l.plan c)) (subst (λ n. NoneIsFor n plans) (equal_from l.number b e) a.0);
+      number = same_from l.number b e;
+      made = ap (λ t. given plans b (cond t (Some (carried l.plan c)) (Some c))) e ∙ given_same plans b (Some (carried l.plan c)) (subst (λ n. NoneIsFor n plans) (same_from l.number b e) a.0);
     })
     by false e (inl h) = inl (record { plan = h.plan; listed = inr h.listed; number = h.number; made = ap (λ t. given plans b (cond t (Some (carried l.plan c)) (Some c))) e ∙ h.made })
     by false e (inr n) = inr (λ k i. elim i [ inl s ↦ subst (λ (x : PlanFor). x.number ≢ b) s (differ_from l.number b e) | inr j ↦ n k j ])
@@ -181,8 +142,8 @@ given_next items rest l places n x y e q h f g b = by (l.number == b) refl ∙ s
 
     by : (t : Bool) → (l.number == b) ≡ t → given rest b (layout_at (slice_set places n y) b) ≡ given rest b (cond (l.number == b) (new (layout_at places b)) (layout_at places b))
     by true w =
-        let k = q ∙ equal_from l.number b w in
-        ap (given rest b) (ap (layout_at (slice_set places n y)) (sym k) ∙ get_or-set_same places n y None h ∙ g ∙ ap new (sym f ∙ sym (within places n x None h f) ∙ ap (layout_at places) k) ∙ ap (λ t. cond t (new (layout_at places b)) (layout_at places b)) (sym w))
+        let k = q ∙ same_from l.number b w in
+        ap (given rest b) (ap (layout_at (slice_set places n y)) (sym k) ∙ get_or-set_same places n y None h ∙ g ∙ ap new (sym f ∙ sym (within_list places n x None h f) ∙ ap (layout_at places) k) ∙ ap (λ t. cond t (new (layout_at places b)) (layout_at places b)) (sym w))
     by false w =
         ap (given rest b) (get_or-set_other places n b y None (λ k. differ_from l.number b w (sym q ∙ sym k)) ∙ ap (λ t. cond t (new (layout_at places b)) (layout_at places b)) (sym w))
 
@@ -194,13 +155,6 @@ allowed_next items rest l places n y e q a f k i =
 
 pub apart_next : (items rest : List PlanFor) (l : PlanFor) → items ≡ l ∷ rest → AreApart items → AreApart rest
 apart_next items rest l e a = (subst AreApart e a).1
-
--- what is known of the value of a known option
-pub of_some : {X : Type 0} (P : X → Type 0) (o : Option X) (x : X) → o ≡ Some x → IsSomeAnd o P → P x
-of_some P o x e h = subst (λ o. IsSomeAnd o P) e h
-
-pub to_some : {X : Type 0} (P : X → Type 0) (o : Option X) (x : X) → o ≡ Some x → P x → IsSomeAnd o P
-to_some P o x e h = subst (λ o. IsSomeAnd o P) (sym e) h
 
 -- every bucket for which there is a plan shows what it has after the exchange
 place_given : (g : ℕ) (gone fresh : List Cell) (places : List (Option Layout)) (plans : List PlanFor) → IsReady g gone fresh places plans → StandAtPlaces g (shown places) → (b : ℕ) → option_map content_of (given plans b (layout_at places b)) ≡ option_map (swapped_in g b gone fresh) (option_map content_of (layout_at places b))
@@ -224,7 +178,7 @@ pub swapped_places : (g : ℕ) (gone fresh : List Cell) (places after : List (Op
 swapped_places g gone fresh places after plans r st f b =
     shown_at after b ∙ ap (option_map content_of) (f b) ∙ place_given g gone fresh places plans r st b ∙ ap (option_map (swapped_in g b gone fresh)) (sym (shown_at places b))
 
-pub swap_is : (old new : InHand) (g : ℕ) (places after : List (Option Content)) (gone fresh eg ef : List Cell) → g ≡ old.grid → places ≡ old.places → new.grid ≡ g → new.places ≡ after → length after ≡ length places → eg ≡ gone → ef ≡ fresh → ((b : ℕ) → bucket_at after b ≡ option_map (swapped_in g b eg ef) (bucket_at places b)) → IsSwapped gone fresh old new
+pub swap_is : (old new : InHand) (g : ℕ) (places after : List (Option BucketContent)) (gone fresh eg ef : List Cell) → g ≡ old.grid → places ≡ old.places → new.grid ≡ g → new.places ≡ after → length after ≡ length places → eg ≡ gone → ef ≡ fresh → ((b : ℕ) → bucket_at after b ≡ option_map (swapped_in g b eg ef) (bucket_at places b)) → IsSwapped gone fresh old new
 swap_is old new g places after gone fresh eg ef e1 e2 e3 e4 e6 e7 e8 f = record {
   grid = e3 ∙ e1;
   count = ap length e4 ∙ e6 ∙ ap length e2;
@@ -250,15 +204,15 @@ pub note_swapped : (g : ℕ) (places after : List (Option Layout)) (plans : List
 note_swapped g places after plans p f h = subst (λ o. IsSomeAnd o HasRoom) (sym (f (bucket_of g p))) (given_room plans (bucket_of g p) (layout_at places (bucket_of g p)) h)
 
 -- and its place
-pub stand_swapped : (g : ℕ) (gone fresh : List Cell) (places after : List (Option Content)) → ((b : ℕ) → bucket_at after b ≡ option_map (swapped_in g b gone fresh) (bucket_at places b)) → StandAtPlaces g places → StandAtPlaces g after
+pub stand_swapped : (g : ℕ) (gone fresh : List Cell) (places after : List (Option BucketContent)) → ((b : ℕ) → bucket_at after b ≡ option_map (swapped_in g b gone fresh) (bucket_at places b)) → StandAtPlaces g places → StandAtPlaces g after
 stand_swapped g gone fresh places after f st b d e = by (bucket_at places b) refl (sym (f b) ∙ e)
   where
-    by : (o : Option Content) → bucket_at places b ≡ o → option_map (swapped_in g b gone fresh) o ≡ Some d → d.place ≡ Some (g, b)
+    by : (o : Option BucketContent) → bucket_at places b ≡ o → option_map (swapped_in g b gone fresh) o ≡ Some d → d.place ≡ Some (g, b)
     by None q k = absurd (cc k)
     by (Some c) q k = (let t : Some (swapped_in g b gone fresh c) ≡ Some d = k in let u : swapped_in g b gone fresh c ≡ d = cc t in ap (λ z. z.place) (sym u) ∙ st b c q)
 
 -- a bucket in hand has its number below that of the places
-pub in_hand_below : (places : List (Option Content)) (b : ℕ) → IsSome (bucket_at places b) → b < length places
+pub in_hand_below : (places : List (Option BucketContent)) (b : ℕ) → IsSome (bucket_at places b) → b < length places
 in_hand_below [] b s = absurd (cc s)
 in_hand_below (o ∷ places) zero s = omega arith
 in_hand_below (o ∷ places) (suc b) s = let h = in_hand_below places b s in omega arith
@@ -268,16 +222,12 @@ layout_below [] b s = absurd (cc s)
 layout_below (o ∷ places) zero s = omega arith
 layout_below (o ∷ places) (suc b) s = let h = layout_below places b s in omega arith
 
-known_some : {X : Type 0} (P : X → Type 0) (o : Option X) → IsSomeAnd o P → IsSome o
-known_some P None h = absurd h
-known_some P (Some x) h = refl
-
 pub allowed_below : (places : List (Option Layout)) (l : PlanFor) → IsAllowed places l → l.number < length places
-allowed_below places l a = layout_below places l.number (known_some (λ c. Allows l.plan c.cells) (layout_at places l.number) a)
+allowed_below places l a = layout_below places l.number (and_known (λ c. Allows l.plan c.cells) (layout_at places l.number) a)
 
 -- the bucket in which it can
 pub allowed_there : (places : List (Option Layout)) (l : PlanFor) (x : Option Layout) → IsAllowed places l → x ≡ slice_index_or places l.number x → IsSomeAnd (slice_index_or places l.number x) (λ c. Allows l.plan c.cells)
-allowed_there places l x a e = subst (λ o. IsSomeAnd o (λ c. Allows l.plan c.cells)) (within places l.number x None (allowed_below places l a) e ∙ e) a
+allowed_there places l x a e = subst (λ o. IsSomeAnd o (λ c. Allows l.plan c.cells)) (within_list places l.number x None (allowed_below places l a) e ∙ e) a
 
 -- a plan that makes the exchange can be carried out
 pub ready_allowed : (g : ℕ) (gone fresh : List Cell) (places : List (Option Layout)) (plans : List PlanFor) → IsReady g gone fresh places plans → (l : PlanFor) → IsIn l plans → IsAllowed places l
@@ -290,7 +240,7 @@ ready_allowed g gone fresh places plans r l i = by (layout_at places l.number) (
 -- while more plans are made, they are for the first numbers
 pub numbers_more : (plans next : List PlanFor) (l : PlanFor) (numbers : List ℕ) (i : ℕ) → i < length numbers → next ≡ plans ++ l ∷ [] → l.number ≡ slice_index_or numbers i 0 → map (λ k. k.number) plans ≡ take i numbers → map (λ k. k.number) next ≡ take (i + 1) numbers
 numbers_more plans next l numbers i h e q m =
-    ap (map (λ (k : PlanFor). k.number)) e ∙ last plans ∙ ap (λ (k : List ℕ). k ++ l.number ∷ []) m ∙ ap (λ n. take i numbers ++ n ∷ []) q ∙ sym (take_next numbers i 0 h) ∙ ap (λ n. take n numbers) (sym (add-one i))
+    ap (map (λ (k : PlanFor). k.number)) e ∙ last plans ∙ ap (λ (k : List ℕ). k ++ l.number ∷ []) m ∙ ap (λ n. take i numbers ++ n ∷ []) q ∙ sym (take_suc numbers i 0 h) ∙ ap (λ n. take n numbers) (sym (add-one i))
   where
     last : (ls : List PlanFor) → map (λ (k : PlanFor). k.number) (ls ++ l ∷ []) ≡ map (λ k. k.number) ls ++ l.number ∷ []
     last [] = refl
@@ -306,7 +256,7 @@ ready_more gone fresh places plans next l e f this k i = elim (from_append k pla
 -- plans for numbers that ascend are apart
 apart_from : (plans : List PlanFor) → IsAscending (map (λ l. l.number) plans) → AreApart plans
 apart_from [] a = tt
-apart_from (l ∷ plans) a = (λ k i e. (let b = below-each l.number (map (λ (k : PlanFor). k.number) plans) a.0 a.1 k.number (in_mapped (λ (k : PlanFor). k.number) plans k i) in omega (arith, b, e)), apart_from plans a.1)
+apart_from (l ∷ plans) a = (λ k i e. (let b = below_each l.number (map (λ (k : PlanFor). k.number) plans) a.0 a.1 k.number (mapped_true (λ (k : PlanFor). k.number) k plans i) in omega (arith, b, e)), apart_from plans a.1)
 
 -- with plans for all the numbers of touched buckets
 pub ready_all : (g : ℕ) (gone fresh : List Cell) (places : List (Option Layout)) (plans : List PlanFor) (numbers : List ℕ) → ((k : PlanFor) → IsIn k plans → IsReadyFor gone fresh places k) → map (λ l. l.number) plans ≡ numbers → IsAscending numbers → ((b : ℕ) → (IsIn b (numbers_of g gone) ⊎ IsIn b (numbers_of g fresh)) → IsIn b numbers) → IsReady g gone fresh places plans
@@ -320,12 +270,4 @@ ready_all g gone fresh places plans numbers f e a all = record {
 }
   where
     none : (b : ℕ) → NoneIsFor b plans → IsIn b numbers → ⊥
-    none b n i = let r = mapped_from (λ (l : PlanFor). l.number) plans b (subst (IsIn b) (sym e) i) in n r.0 r.1 r.2
-
--- the front of a list, by its length
-pub front_is : {X : Type 0} (ws m : List X) (n : ℕ) → n ≡ length ws → take n (ws ++ m) ≡ ws
-front_is ws m n e = rw e (go ws m)
-  where
-    go : {X : Type 0} (ws m : List X) → take (length ws) (ws ++ m) ≡ ws
-    go [] m = refl
-    go {X} (x ∷ ws) m = ap (λ (l : List X). x ∷ l) (go ws m)
+    none b n i = let r = mapped_from (λ (l : PlanFor). l.number) b plans (subst (IsIn b) (sym e) i) in n r.0 r.1 r.2

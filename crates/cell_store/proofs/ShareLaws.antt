@@ -1,10 +1,10 @@
 -- What the buckets of a hold have of the set that it shows, and of its complex.
-use Rattle.std.specs.Prelude.{◌≡◌, ℕ, ◌+◌, ◌<◌, Bool, true, false, cond, ◌==◌, List, [], ◌∷◌, Option, None, Some, IsSome, is_some, length, slice_index_or}
+use Rattle.std.specs.Prelude.{◌≡◌, ℕ, ◌+◌, ◌<◌, Bool, true, false, ◌==◌, List, [], ◌∷◌, Option, Some, is_some, length, slice_index_or}
 use Rattle.std.specs.List.{filter}
-use Rattle.std.specs.Option.{option_map, option_map_or}
+use Rattle.std.specs.Option.{option_map_or}
 use Rattle.std.proofs.Common.{refl, sym, ◌∙◌, ap, subst, inl, inr, arith, take, add-one}
-use Rattle.std.proofs.lemmas.Bool.{eqb-true}
 use Rattle.std.proofs.lemmas.Bool.Decides.{nat_tests}
+use Rattle.list_laws.proofs.Cited.{among_from, any_true, filter_twice, filtered_from, filtered_true, in_more, none_is, some_is}
 use Rattle.point_order.specs.declared.cell.Cell.{Cell}
 use Rattle.point_order.specs.declared.cell.Cell.TheVariants.{Full, Open}
 use Rattle.point_order.specs.declared.cell.Facet.{Facet}
@@ -12,61 +12,29 @@ use Rattle.point_order.specs.declared.cell.Facet.TheVariants.{Three, Two}
 use Rattle.point_order.specs.Complex.{complex}
 use Rattle.point_order.specs.Facets.{points_of, facets_of, full_facets, open_facets}
 use Rattle.point_order.specs.Sets.{IsIn, IsAscending, is_among}
-use Rattle.point_order.proofs.SetLaws.{ascending-with}
+use Rattle.point_order.proofs.Cited.{ascending-with}
 use Rattle.edit_history.specs.declared.history.Entry.{Entry}
 use Rattle.edit_history.specs.declared.history.Reply.{Reply}
 use Rattle.edit_history.specs.declared.history.Reply.TheVariants.{Inserted, Duplicate, Removed, Missing, Flat}
 use Rattle.edit_history.specs.Edits.{point_of, reply_to, changed}
 use Rattle.edit_history.specs.Histories.{replay, replay_from}
-use Rattle.edit_history.proofs.SetEdits.{ascending-without}
-use Rattle.edit_history.proofs.Solidity.{any-in, any-some}
-use Rattle.del_laws.proofs.Tests.{filter_is, filtered_from, filtered_true}
-use Rattle.del_laws.proofs.Neighbours.{listed_facets}
+use Rattle.edit_history.proofs.Cited.{ascending-without}
+use Rattle.del_laws.proofs.Cited.{listed_facets}
 use Rattle.hole_laws.specs.Edits.{IsSolidSet}
 use Rattle.cell_store.specs.Grids.{bucket_of}
-use Rattle.cell_store.specs.Buckets.{Content, InHand, bucket_at, cells_in}
+use Rattle.cell_store.specs.Buckets.{BucketContent, InHand, bucket_at, cells_in}
 use Rattle.cell_store.specs.Swaps.{touches}
 use Rattle.cell_store.specs.Others.{IsOtherOf, HaveNoOther}
 use Rattle.cell_store.specs.Shares.{Stands, IsSound, StandsShows, ShareIsOne, Shows, ShowsWith, NoneInHand, IsInHandFor, IsAcross, points_on}
-use Rattle.cell_store.proofs.Members.{in-take_more}
-
--- ---- options
-
-pub some_of : {X : Type 0} (o : Option X) → IsSome o → (x : X) × (o ≡ Some x)
-some_of None s = absurd (cc s)
-some_of (Some x) s = (x, refl)
-
-pub known_some : {X : Type 0} (o : Option X) (x : X) → o ≡ Some x → IsSome o
-known_some o x e = rw e refl
-
-pub some_mapped : {X Y : Type 0} (f : X → Y) (o : Option X) → IsSome o → IsSome (option_map f o)
-some_mapped f None s = s
-some_mapped f (Some x) s = refl
-
--- ---- filters
-
--- a test after a weaker one is the test alone
-pub filter_twice : {X : Type 0} (p q : X → Bool) (l : List X) → ((x : X) → p x ≡ true → q x ≡ true) → filter p (filter q l) ≡ filter p l
-filter_twice p q [] f = refl
-filter_twice p q (x ∷ l) f = elim (filter_is q x l) [
-  | inl k ↦ ap (filter p) k.1 ∙ ap (λ m. cond (p x) (x ∷ m) m) (filter_twice p q l f)
-  | inr k ↦ elim (filter_is p x l) [
-    | inl m ↦ (let t = f x m.0 in absurd (cc (t, k.0)))
-    | inr m ↦ ap (filter p) k.1 ∙ filter_twice p q l f ∙ sym m.1
-  ]
-]
 
 -- ---- points and buckets
 
 -- a cell with a point has a finite vertex in the bucket of the point
 pub touched : (g p b : ℕ) (c : Cell) → b ≡ bucket_of g p → IsIn p (points_of c) → touches g b c ≡ true
-touched g p b c e i = any-in (λ q. bucket_of g q == b) (points_of c) p i (let s : bucket_of g p ≡ b = sym e in rw s (same b))
+touched g p b c e i = any_true (λ q. bucket_of g q == b) (points_of c) p i (let s : bucket_of g p ≡ b = sym e in rw s (same b))
   where
     same : (b : ℕ) → (b == b) ≡ true
     same b = grind (arith, nat_tests)
-
-among_in : (p : ℕ) (s : List ℕ) → is_among p s ≡ true → IsIn p s
-among_in p s e = let r = any-some (λ q. q == p) s e in subst (λ q. IsIn q s) (eqb-true r.0 p r.2) r.1
 
 -- the points that a history leaves are ascending
 pub ascending_replay : (h : List Entry) → IsAscending (replay h)
@@ -107,27 +75,19 @@ sound_of hold h st = record { legal = st.legal; set = solid_set hold (replay h) 
 -- ---- the cells at a point
 
 -- the cells of a bucket in hand that have a point of it are all cells of the complex that have the point
-pub star_is : (hold : InHand) (s : List ℕ) (p g b : ℕ) (c : Content) (cells : List Cell) → Shows hold s → g ≡ hold.grid → b ≡ bucket_of g p → bucket_at hold.places b ≡ Some c → cells ≡ c.cells → filter (λ c. is_among p (points_of c)) cells ≡ filter (λ c. is_among p (points_of c)) (complex s)
+pub star_is : (hold : InHand) (s : List ℕ) (p g b : ℕ) (c : BucketContent) (cells : List Cell) → Shows hold s → g ≡ hold.grid → b ≡ bucket_of g p → bucket_at hold.places b ≡ Some c → cells ≡ c.cells → filter (λ c. is_among p (points_of c)) cells ≡ filter (λ c. is_among p (points_of c)) (complex s)
 star_is hold s p g b c cells st e1 e2 e3 e4 =
     ap (filter (λ c. is_among p (points_of c))) (e4 ∙ (st.sights b c e3).cells)
-    ∙ filter_twice (λ c. is_among p (points_of c)) (touches hold.grid b) (complex s) (λ d t. touched hold.grid p b d (e2 ∙ ap (λ n. bucket_of n p) e1) (among_in p (points_of d) t))
+    ∙ filter_twice (λ c. is_among p (points_of c)) (touches hold.grid b) (complex s) (λ d t. touched hold.grid p b d (e2 ∙ ap (λ n. bucket_of n p) e1) (among_from p (points_of d) t))
 
 -- they are those of the bucket with the point's number
-pub around_in : (hold : InHand) (p g b : ℕ) (c : Content) → g ≡ hold.grid → b ≡ bucket_of g p → bucket_at hold.places b ≡ Some c →
+pub around_in : (hold : InHand) (p g b : ℕ) (c : BucketContent) → g ≡ hold.grid → b ≡ bucket_of g p → bucket_at hold.places b ≡ Some c →
     filter (λ d. is_among p (points_of d)) c.cells ≡ filter (λ d. is_among p (points_of d)) (cells_in hold.places (bucket_of hold.grid p))
 around_in hold p g b c e f h =
-    ap (λ (o : Option Content). filter (λ d. is_among p (points_of d)) (option_map_or (λ x. x.cells) o [])) (sym h)
+    ap (λ (o : Option BucketContent). filter (λ d. is_among p (points_of d)) (option_map_or (λ x. x.cells) o [])) (sym h)
     ∙ ap (λ n. filter (λ d. is_among p (points_of d)) (cells_in hold.places n)) (f ∙ ap (λ n. bucket_of n p) e)
 
 -- ---- buckets in hand
-
-pub some_is : {X : Type 0} (o : Option X) → is_some o ≡ true → (x : X) × (o ≡ Some x)
-some_is None e = absurd (cc e)
-some_is (Some x) e = (x, refl)
-
-pub none_is : {X : Type 0} (o : Option X) → is_some o ≡ false → o ≡ None
-none_is None e = refl
-none_is (Some x) e = absurd (cc e)
 
 -- the bucket of a point of the list is in hand
 pub in_hand_for : (hold : InHand) (ps : List ℕ) (g p b : ℕ) (t : Bool) → g ≡ hold.grid → b ≡ bucket_of g p → IsIn p ps → t ≡ is_some (bucket_at hold.places b) → t ≡ true → IsInHandFor hold ps b
@@ -138,7 +98,7 @@ in_hand_for hold ps g p b t e1 e2 i e3 e4 =
 -- the buckets of the first points and of the next are not in hand
 pub none_more_in_hand : (hold : InHand) (l : List ℕ) (i g p b : ℕ) (t : Bool) → i < length l → p ≡ slice_index_or l i p → g ≡ hold.grid → b ≡ bucket_of g p → t ≡ is_some (bucket_at hold.places b) → t ≡ false → NoneInHand hold (take i l) → NoneInHand hold (take (i + 1) l)
 none_more_in_hand hold l i g p b t h e e1 e2 e3 e4 none q k =
-    elim (in-take_more l i p q h e (subst (λ n. IsIn q (take n l)) (add-one i) k)) [
+    elim (in_more l i p p q h e (subst (λ n. IsIn q (take n l)) (add-one i) k)) [
       | inl j ↦ none q j
       | inr f ↦ ap (bucket_at hold.places) (sym (e2 ∙ ap (λ n. bucket_of n p) e1 ∙ ap (bucket_of hold.grid) f)) ∙ none_is (bucket_at hold.places b) (sym e3 ∙ e4)
     ]
@@ -208,7 +168,7 @@ facet_nonempty c f i e = by c i
     by (Open (a ∷ b ∷ c ∷ d ∷ q)) i = i
 
 -- where the bucket of a point of the facet is in hand, it has another cell on the facet
-pub across_there : (hold : InHand) (cell : Cell) (f : Facet) (b : ℕ) (c : Content) (cells : List Cell) → ShowsWith hold cell → IsIn f (facets_of cell) → IsInHandFor hold (points_on f) b → bucket_at hold.places b ≡ Some c → cells ≡ c.cells → HaveNoOther cells cell f → ⊥
+pub across_there : (hold : InHand) (cell : Cell) (f : Facet) (b : ℕ) (c : BucketContent) (cells : List Cell) → ShowsWith hold cell → IsIn f (facets_of cell) → IsInHandFor hold (points_on f) b → bucket_at hold.places b ≡ Some c → cells ≡ c.cells → HaveNoOther cells cell f → ⊥
 across_there hold cell f b c cells w i held e1 e2 none =
     let st = w.1 in
     let o = listed_facets w.0 cell f st.ascending st.keys w.2 i in
@@ -217,7 +177,7 @@ across_there hold cell f b c cells w i held e1 e2 none =
     none o.other (record { listed = subst (λ (l : List Cell). IsIn o.other l) (sym (e2 ∙ (st.sights b c e1).cells)) k; has = o.has; differs = o.differs })
 
 -- another cell on the facet in a bucket in hand is the one of the complex
-pub across_is : (hold : InHand) (cell : Cell) (f : Facet) (b : ℕ) (c : Content) (cells : List Cell) (other : Cell) → bucket_at hold.places b ≡ Some c → cells ≡ c.cells → IsOtherOf cells cell f other → (s : List ℕ) → Shows hold s → IsIn cell (complex s) → IsAcross s cell f other
+pub across_is : (hold : InHand) (cell : Cell) (f : Facet) (b : ℕ) (c : BucketContent) (cells : List Cell) (other : Cell) → bucket_at hold.places b ≡ Some c → cells ≡ c.cells → IsOtherOf cells cell f other → (s : List ℕ) → Shows hold s → IsIn cell (complex s) → IsAcross s cell f other
 across_is hold cell f b c cells other e1 e2 o s st i =
     let k = subst (λ (l : List Cell). IsIn other l) (e2 ∙ (st.sights b c e1).cells) o.listed in
     record { listed = (filtered_from (touches hold.grid b) (complex s) other k).0; has = o.has; differs = o.differs }

@@ -3,11 +3,11 @@ use Rattle.std.specs.Prelude.{◌≡◌, ℕ, true, List, [], ◌∷◌, Option,
 use Rattle.std.specs.List.{filter}
 use Rattle.std.proofs.Common.{refl, sym, ◌∙◌, ap, subst, inl, inr}
 use Rattle.std.proofs.lemmas.Bool.{eq-eqb}
+use Rattle.list_laws.proofs.Cited.{among_true, filtered_from, filtered_true}
 use Rattle.point_order.specs.declared.cell.Cell.{Cell}
 use Rattle.point_order.specs.declared.cell.Facet.{Facet}
 use Rattle.point_order.specs.Facets.{points_of, facets_of}
 use Rattle.point_order.specs.Sets.{IsIn, is_among}
-use Rattle.del_laws.proofs.Tests.{among_true, filtered_from, filtered_true}
 use Rattle.cell_stars.specs.Grids.{bucket_of}
 use Rattle.cell_stars.specs.Places.{lies_in}
 use Rattle.cell_store.specs.Others.{IsOtherOf, HaveNoOther}

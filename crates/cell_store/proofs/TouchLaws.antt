@@ -3,6 +3,7 @@ use Rattle.std.specs.Prelude.{◌≡◌, ◌≢◌, ◌⊎◌, ℕ, Bool, true, 
 use Rattle.std.specs.List.{filter}
 use Rattle.std.proofs.Common.{refl, sym, ◌∙◌, ap, subst, inl, inr, ne_eqb}
 use Rattle.std.proofs.lemmas.Bool.{eqb-true}
+use Rattle.list_laws.proofs.Cited.{among_from, among_true, any_from, false_if, filtered_from, filtered_true, not_from, not_true, same_test, some_of}
 use Rattle.point_order.specs.declared.cell.Cell.{Cell}
 use Rattle.point_order.specs.declared.cell.Cell.TheVariants.{Full, Open}
 use Rattle.point_order.specs.declared.cell.Facet.{Facet}
@@ -10,36 +11,30 @@ use Rattle.point_order.specs.Complex.{complex}
 use Rattle.point_order.specs.Facets.{points_of}
 use Rattle.point_order.specs.Sets.{IsIn, is_among, ascending, with_point, without_point}
 use Rattle.point_order.specs.Solid.{is_solid}
-use Rattle.point_order.proofs.SetLaws.{in-ascending_from}
+use Rattle.point_order.proofs.Cited.{in-ascending_from}
 use Rattle.edit_history.specs.declared.history.Edit.{Edit}
 use Rattle.edit_history.specs.declared.history.Edit.TheVariants.{Add, Take}
 use Rattle.edit_history.specs.declared.history.Reply.TheVariants.{Inserted, Duplicate, Removed, Missing, Flat}
 use Rattle.edit_history.specs.Edits.{point_of, reply_to, after}
 use Rattle.edit_history.specs.Histories.{replay}
-use Rattle.edit_history.proofs.OneMore.{replay_more}
+use Rattle.edit_history.proofs.Cited.{replay_more}
 use Rattle.del_laws.specs.Listed.{IsListedOpen}
-use Rattle.del_laws.proofs.Listed.{listed_is_cell, listed_inside}
-use Rattle.del_laws.proofs.ListedParts.{listed_mate}
-use Rattle.del_laws.proofs.Tests.{false_if, filtered_from, filtered_true, any_from, among_from, among_true, not_from, not_true, same_test}
+use Rattle.del_laws.proofs.Cited.{listed_inside, listed_is_cell, listed_mate}
 use Rattle.hole_laws.specs.Commuting.{Reaches}
 use Rattle.hole_laws.specs.Edits.{IsSet, IsNew, IsMate, GoesFrom}
 use Rattle.hole_laws.specs.Laws.{IsHeldPart}
 use Rattle.hole_laws.specs.Lists.{Goes, AreJoined}
-use Rattle.hole_laws.proofs.EditLaws.{changes_reached, edits_commute}
-use Rattle.hole_laws.proofs.Judged.{goes_in_conflict}
-use Rattle.hole_laws.proofs.Laws.{some_rim, found_from_held}
-use Rattle.hole_laws.proofs.RemovalLaws.{solid_near}
-use Rattle.hole_laws.proofs.Rest.{rest_set}
+use Rattle.hole_laws.proofs.Cited.{changes_reached, edits_commute, found_from_held, goes_in_conflict, rest_set, solid_near, some_rim}
 use Rattle.cell_store.specs.Grids.{bucket_of}
-use Rattle.cell_store.specs.Buckets.{Content, InHand, bucket_at}
+use Rattle.cell_store.specs.Buckets.{BucketContent, InHand, bucket_at}
 use Rattle.cell_store.specs.Swaps.{touches, without_cells, is_cell_among}
 use Rattle.cell_store.specs.Shares.{Shows, cells_share, points_on}
 use Rattle.cell_store.specs.Changes.{IsChange, NoneTouches}
 use Rattle.cell_store.specs.Touches.{IsTouched, ShareOutsideTouch, ReachFromHeld, CommitsCommute}
-use Rattle.cell_stars.proofs.CellLaws.{among_true as cell_among, among_from as cell_from, swapped_none}
+use Rattle.cell_stars.proofs.Cited.{among_from as cell_from, among_true as cell_among, swapped_none}
 use Rattle.cell_store.proofs.HandLaws.{held_point}
 use Rattle.cell_store.proofs.NextLaws.{cells_after, points_stay, entries_stay}
-use Rattle.cell_store.proofs.ShareLaws.{some_of, ascending_replay, touched, facet_inside, facet_nonempty, solid_set}
+use Rattle.cell_store.proofs.ShareLaws.{ascending_replay, touched, facet_inside, facet_nonempty, solid_set}
 
 -- ---- what an edit leaves alone
 
@@ -189,11 +184,11 @@ all_go hold s t p sh th n m all q g =
     among : (q : Cell) → GoesFrom s p q → IsIn q part
     among q g = all_out (complex s) (complex (with_point p s)) q g.before g.after
 
-    to_some : (o : Option Content) → is_some o ≡ true → IsSome o
+    to_some : (o : Option BucketContent) → is_some o ≡ true → IsSome o
     to_some None e = absurd (cc e)
     to_some (Some x) e = refl
 
-    from_some : (o : Option Content) → IsSome o → is_some o ≡ true
+    from_some : (o : Option BucketContent) → IsSome o → is_some o ≡ true
     from_some None s = absurd (cc s)
     from_some (Some x) s = refl
 

@@ -7,7 +7,7 @@ use Rattle.cell_stars.specs.Places.{Placed, cells_of}
 
 -- A bucket: its points, the cells with a vertex in it, and the entries whose point lies in it. Its place is none for a
 -- new bucket, else the size of the grid in which it last stood, or from which it was copied, and its number there.
-pub record Content : Type 0 where
+pub record BucketContent : Type 0 where
   pub points : List ℕ
   pub cells : List Cell
   pub entries : List Entry
@@ -23,11 +23,11 @@ pub record Layout : Type 0 where
   pub room_entries : ℕ
 
 -- what a bucket has, as clauses read it
-abbrev pub content_of : Layout → Content
+abbrev pub content_of : Layout → BucketContent
 content_of c = record { points = c.points; cells = cells_of c.cells.slots; entries = c.entries; place = c.cells.place }
 
 -- what the buckets in hand have
-abbrev pub shown : List (Option Layout) → List (Option Content)
+abbrev pub shown : List (Option Layout) → List (Option BucketContent)
 shown places = map (option_map content_of) places
 
 -- the bucket with a number as it is kept, if it is in hand
@@ -43,7 +43,7 @@ pub record Room : Type 0 where
 -- A hold: the size of its grid, for each number the bucket in hand, if it is, and its room.
 pub record InHand : Type 0 where
   pub grid : ℕ
-  pub places : List (Option Content)
+  pub places : List (Option BucketContent)
   pub room : Room
 
 -- no room
@@ -55,25 +55,25 @@ abbrev pub empty_hold : ℕ → InHand
 empty_hold g = record { grid = g; places = replicate (g * g * g) None; room = no_room }
 
 -- the bucket with a number, if it is in hand
-abbrev pub bucket_at : List (Option Content) → ℕ → Option Content
+abbrev pub bucket_at : List (Option BucketContent) → ℕ → Option BucketContent
 bucket_at places b = slice_index_or places b None
 
 -- the points of the bucket with a number, none where it is not in hand
-abbrev pub points_in : List (Option Content) → ℕ → List ℕ
+abbrev pub points_in : List (Option BucketContent) → ℕ → List ℕ
 points_in places b = option_map_or (λ c. c.points) (bucket_at places b) []
 
 -- and its cells
-abbrev pub cells_in : List (Option Content) → ℕ → List Cell
+abbrev pub cells_in : List (Option BucketContent) → ℕ → List Cell
 cells_in places b = option_map_or (λ c. c.cells) (bucket_at places b) []
 
 -- the bucket, standing in a grid at a number
-abbrev pub at_place : ℕ → ℕ → Content → Content
+abbrev pub at_place : ℕ → ℕ → BucketContent → BucketContent
 at_place g b c = record c { place = Some (g, b) }
 
 -- the bucket is new, or last stood in this grid at this number
-abbrev pub FitsPlace : ℕ → ℕ → Content → Type 0
+abbrev pub FitsPlace : ℕ → ℕ → BucketContent → Type 0
 FitsPlace g b c = (c.place ≡ None) ⊎ (c.place ≡ Some (g, b))
 
 -- every bucket in hand stands in the grid at its number
-abbrev pub StandAtPlaces : ℕ → List (Option Content) → Type 0
-StandAtPlaces g places = (b : ℕ) (c : Content) → bucket_at places b ≡ Some c → c.place ≡ Some (g, b)
+abbrev pub StandAtPlaces : ℕ → List (Option BucketContent) → Type 0
+StandAtPlaces g places = (b : ℕ) (c : BucketContent) → bucket_at places b ≡ Some c → c.place ≡ Some (g, b)

@@ -12,11 +12,11 @@ use Rattle.edit_history.specs.Histories.{replay, IsLegal}
 use Rattle.del_laws.specs.Keys.{AreKeys}
 use Rattle.cell_store.specs.Grids.{bucket_of}
 use Rattle.cell_store.specs.Swaps.{touches, swapped}
-use Rattle.cell_store.specs.Buckets.{Content, InHand, bucket_at}
+use Rattle.cell_store.specs.Buckets.{BucketContent, InHand, bucket_at}
 use Rattle.cell_store.specs.Shares.{Stands, IsSound, IsShare}
 
 -- the bucket b after an exchange of cells
-abbrev pub swapped_in : ℕ → ℕ → List Cell → List Cell → Content → Content
+abbrev pub swapped_in : ℕ → ℕ → List Cell → List Cell → BucketContent → BucketContent
 swapped_in g b gone fresh c = record c { cells = swapped g b gone fresh c.cells }
 
 -- every bucket in hand after an exchange of cells, and no other place changes
@@ -26,7 +26,7 @@ pub record IsSwapped (gone fresh : List Cell) (old new : InHand) : Type 0 where
   pub places : (b : ℕ) → bucket_at new.places b ≡ option_map (swapped_in old.grid b gone fresh) (bucket_at old.places b)
 
 -- the bucket b after an entry: the bucket of its point has the entry last, and the point as its reply says
-abbrev pub noted_in : ℕ → ℕ → Entry → Content → Content
+abbrev pub noted_in : ℕ → ℕ → Entry → BucketContent → BucketContent
 noted_in g b e c =
     if bucket_of g (point_of e.edit) == b
     then record c { points = changed c.points (point_of e.edit) e.reply; entries = c.entries ++ e ∷ [] }
@@ -78,7 +78,7 @@ EntryKeepsHold =
 -- The share of a bucket in the history with the entry is that exact function of its share before.
 abbrev pub ShareAfterEntry : Type 0
 ShareAfterEntry =
-    (g b : ℕ) (h : List Entry) (e : Entry) (gone fresh : List Cell) (c : Content) →
+    (g b : ℕ) (h : List Entry) (e : Entry) (gone fresh : List Cell) (c : BucketContent) →
     IsNext h e gone fresh → IsShare g b h c → IsShare g b (h ++ e ∷ []) (noted_in g b e (swapped_in g b gone fresh c))
 
 -- No finite vertex of these cells lies in the bucket.
@@ -88,7 +88,7 @@ NoneTouches g b l = (c : Cell) → IsIn c l → touches g b c ≡ false
 -- A bucket with no finite vertex of a gone or a new cell, and without the entry's point, keeps its share.
 abbrev pub ShareElsewhere : Type 0
 ShareElsewhere =
-    (g b : ℕ) (h : List Entry) (e : Entry) (gone fresh : List Cell) (c : Content) →
+    (g b : ℕ) (h : List Entry) (e : Entry) (gone fresh : List Cell) (c : BucketContent) →
     IsNext h e gone fresh → (bucket_of g (point_of e.edit) == b) ≡ false → NoneTouches g b gone →
     NoneTouches g b fresh →
     IsShare g b h c → IsShare g b (h ++ e ∷ []) c

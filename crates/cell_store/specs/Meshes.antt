@@ -32,7 +32,7 @@ use Rattle.edit_history.specs.declared.history.Entry.{Entry}
 use Rattle.edit_history.specs.Merging.{AreNumbered, numbers, places_of}
 use Rattle.hole_laws.specs.Edits.{IsSolidSet}
 use Rattle.cell_store.specs.Grids.{is_grid_size}
-use Rattle.cell_store.specs.Buckets.{Content, InHand, empty_hold, bucket_at, at_place, no_room}
+use Rattle.cell_store.specs.Buckets.{BucketContent, InHand, empty_hold, bucket_at, at_place, no_room}
 use Rattle.cell_store.specs.Swaps.{AreSameCells}
 use Rattle.cell_store.specs.Shares.{Stands, IsSound, Shows, IsShare, IsSight}
 use Rattle.cell_store.specs.Ready.{AreHeld}
@@ -77,11 +77,11 @@ by_number [] = []
 by_number (e ∷ l) = with_entry e (by_number l)
 
 -- the entries of all buckets in hand, those of bucket 0 first
-abbrev pub all_entries : List (Option Content) → List Entry
+abbrev pub all_entries : List (Option BucketContent) → List Entry
 all_entries places = flat_map (λ o. option_map_or (λ c. c.entries) o []) places
 
 -- in order of number
-abbrev pub history_in : List (Option Content) → List Entry
+abbrev pub history_in : List (Option BucketContent) → List Entry
 history_in places = by_number (all_entries places)
 
 -- the mesh of these buckets
@@ -93,7 +93,7 @@ abbrev pub counted : ℕ → ℕ
 counted n = min n (2 ^ 64 - 1)
 
 -- the cells of all buckets in hand, those of bucket 0 first
-abbrev pub all_cells : List (Option Content) → List Cell
+abbrev pub all_cells : List (Option BucketContent) → List Cell
 all_cells places = flat_map (λ o. option_map_or (λ c. c.cells) o []) places
 
 -- the new list has some cells behind those of the old one, in any order
@@ -133,7 +133,7 @@ AllAreHeld = (hold : InHand) (l : List Cell) → HasPlaces hold → AllInHand ho
 -- the buckets of one hold are among those of another of the same grid, with the same content
 pub record AreAmong (few many : InHand) : Type 0 where
   pub grid : few.grid ≡ many.grid
-  pub buckets : (b : ℕ) (c : Content) → bucket_at few.places b ≡ Some c → bucket_at many.places b ≡ Some c
+  pub buckets : (b : ℕ) (c : BucketContent) → bucket_at few.places b ≡ Some c → bucket_at many.places b ≡ Some c
 
 -- With fewer buckets in hand a hold stands for what it stood for, and shows what it showed.
 abbrev pub FewerStand : Type 0
@@ -147,7 +147,7 @@ abbrev pub MoreAreHeld : Type 0
 MoreAreHeld = (few many : InHand) (l : List Cell) → AreAmong few many → AreHeld few l → AreHeld many l
 
 -- the hold with a bucket more, which then stands in its place
-abbrev pub with_bucket : ℕ → Content → InHand → InHand
+abbrev pub with_bucket : ℕ → BucketContent → InHand → InHand
 with_bucket b c hold = record hold { places = slice_set hold.places b (Some (at_place hold.grid b c)) }
 
 -- and with one less, and no room
@@ -164,18 +164,18 @@ EmptyShows = (g : ℕ) (s : List ℕ) → IsSolidSet s → Shows (empty_hold g) 
 -- A hold that takes a share in hand stands for what it stood for, and one that
 -- takes a sight in hand shows what it showed.
 abbrev pub PutStands : Type 0
-PutStands = (hold : InHand) (b : ℕ) (c : Content) (h : List Entry) → Stands hold h → IsShare hold.grid b h c →
+PutStands = (hold : InHand) (b : ℕ) (c : BucketContent) (h : List Entry) → Stands hold h → IsShare hold.grid b h c →
     Stands (with_bucket b c hold) h
 
 abbrev pub PutShows : Type 0
-PutShows = (hold : InHand) (b : ℕ) (c : Content) (s : List ℕ) → Shows hold s → IsSight hold.grid b s c →
+PutShows = (hold : InHand) (b : ℕ) (c : BucketContent) (s : List ℕ) → Shows hold s → IsSight hold.grid b s c →
     Shows (with_bucket b c hold) s
 
 -- Its buckets before are among those after, where the bucket was not in hand; and
 -- without a bucket they are among those before.
 abbrev pub PutIsMore : Type 0
 PutIsMore =
-    (hold : InHand) (b : ℕ) (c : Content) → bucket_at hold.places b ≡ None → AreAmong hold (with_bucket b c hold)
+    (hold : InHand) (b : ℕ) (c : BucketContent) → bucket_at hold.places b ≡ None → AreAmong hold (with_bucket b c hold)
 
 abbrev pub TakeIsFewer : Type 0
 TakeIsFewer = (hold : InHand) (b : ℕ) → AreAmong (without_bucket b hold) hold

@@ -16,7 +16,7 @@ use Rattle.hole_laws.specs.Edits.{IsSolidSet}
 use Rattle.cell_store.specs.Grids.{bucket_of}
 use Rattle.cell_store.specs.Others.{IsOtherOf}
 use Rattle.cell_store.specs.Swaps.{touches}
-use Rattle.cell_store.specs.Buckets.{Content, InHand, bucket_at}
+use Rattle.cell_store.specs.Buckets.{BucketContent, InHand, bucket_at}
 
 -- the points that a history leaves in bucket b
 abbrev pub points_share : ℕ → ℕ → List Entry → List ℕ
@@ -31,13 +31,13 @@ abbrev pub entries_share : ℕ → ℕ → List Entry → List Entry
 entries_share g b h = filter (λ e. bucket_of g (point_of e.edit) == b) h
 
 -- the share of bucket b in a history: these three lists
-pub record IsShare (g b : ℕ) (h : List Entry) (c : Content) : Type 0 where
+pub record IsShare (g b : ℕ) (h : List Entry) (c : BucketContent) : Type 0 where
   pub points : c.points ≡ points_share g b h
   pub cells : c.cells ≡ cells_share g b h
   pub entries : c.entries ≡ entries_share g b h
 
 -- the share of bucket b as a bucket that stands in its place
-abbrev pub share_at : ℕ → ℕ → List Entry → Content
+abbrev pub share_at : ℕ → ℕ → List Entry → BucketContent
 share_at g b h = record {
   points = points_share g b h;
   cells = cells_share g b h;
@@ -47,7 +47,7 @@ share_at g b h = record {
 
 -- A bucket in its place that is a share is that one.
 abbrev pub ShareIsOne : Type 0
-ShareIsOne = (g b : ℕ) (h : List Entry) (c : Content) → IsShare g b h c → c.place ≡ Some (g, b) → c ≡ share_at g b h
+ShareIsOne = (g b : ℕ) (h : List Entry) (c : BucketContent) → IsShare g b h c → c.place ≡ Some (g, b) → c ≡ share_at g b h
 
 -- the history is legal, and the points that it leaves are a solid set
 pub record IsSound (h : List Entry) : Type 0 where
@@ -56,7 +56,7 @@ pub record IsSound (h : List Entry) : Type 0 where
 
 -- every bucket in hand is its share of the history
 abbrev pub AreShares : InHand → List Entry → Type 0
-AreShares hold h = (b : ℕ) (c : Content) → bucket_at hold.places b ≡ Some c → IsShare hold.grid b h c
+AreShares hold h = (b : ℕ) (c : BucketContent) → bucket_at hold.places b ≡ Some c → IsShare hold.grid b h c
 
 -- The hold stands for a history: the history is legal, its points are keys of points and solid,
 -- and every bucket in hand is its share of it.
@@ -67,7 +67,7 @@ pub record Stands (hold : InHand) (h : List Entry) : Type 0 where
   pub shares : AreShares hold h
 
 -- bucket b has exactly its points of the set s, and the cells of its complex with a finite vertex in b
-pub record IsSight (g b : ℕ) (s : List ℕ) (c : Content) : Type 0 where
+pub record IsSight (g b : ℕ) (s : List ℕ) (c : BucketContent) : Type 0 where
   pub points : c.points ≡ filter (λ p. bucket_of g p == b) s
   pub cells : c.cells ≡ filter (touches g b) (complex s)
 
@@ -77,7 +77,7 @@ pub record Shows (hold : InHand) (s : List ℕ) : Type 0 where
   pub ascending : IsAscending s
   pub keys : AreKeys s
   pub solid : is_solid s ≡ true
-  pub sights : (b : ℕ) (c : Content) → bucket_at hold.places b ≡ Some c → IsSight hold.grid b s c
+  pub sights : (b : ℕ) (c : BucketContent) → bucket_at hold.places b ≡ Some c → IsSight hold.grid b s c
 
 -- A hold that stands for a history shows the set that it leaves.
 abbrev pub StandsShows : Type 0
@@ -104,5 +104,5 @@ pub record IsInHandFor (hold : InHand) (ps : List ℕ) (b : ℕ) : Type 0 where
   pub point : ℕ
   pub among : IsIn point ps
   pub number : b ≡ bucket_of hold.grid point
-  pub content : Content
+  pub content : BucketContent
   pub held : bucket_at hold.places b ≡ Some content

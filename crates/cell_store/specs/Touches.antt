@@ -8,7 +8,7 @@ use Rattle.edit_history.specs.Histories.{replay}
 use Rattle.hole_laws.specs.Edits.{IsSolidSet}
 use Rattle.hole_laws.specs.Commuting.{Reaches, DoCommute}
 use Rattle.cell_store.specs.Grids.{bucket_of}
-use Rattle.cell_store.specs.Buckets.{Content, InHand, bucket_at}
+use Rattle.cell_store.specs.Buckets.{BucketContent, InHand, bucket_at}
 use Rattle.cell_store.specs.Shares.{Shows, share_at}
 
 -- An edit of the set s touches the buckets of the points that it reaches: that of its own point; for an added point
@@ -20,11 +20,11 @@ pub record IsTouched (g : ℕ) (s : List ℕ) (edit : Edit) (b : ℕ) : Type 0 w
   pub number : b ≡ bucket_of g point
 
 -- every bucket that the edit touches is in hand
-abbrev pub HoldTouched : ℕ → List ℕ → Edit → List (Option Content) → Type 0
+abbrev pub HoldTouched : ℕ → List ℕ → Edit → List (Option BucketContent) → Type 0
 HoldTouched g s edit places = (b : ℕ) → IsTouched g s edit b → IsSome (bucket_at places b)
 
 -- no other is
-abbrev pub HoldNoOther : ℕ → List ℕ → Edit → List (Option Content) → Type 0
+abbrev pub HoldNoOther : ℕ → List ℕ → Edit → List (Option BucketContent) → Type 0
 HoldNoOther g s edit places = (b : ℕ) → IsSome (bucket_at places b) → IsTouched g s edit b
 
 -- One more entry, whatever its number and its reply, changes the share of no bucket that its edit does not touch.

@@ -1,28 +1,23 @@
 -- The least cells of buckets in hand, and the first bucket that is not.
-use Rattle.std.specs.Prelude.{◌≡◌, refl, ℕ, zero, suc, ◌+◌, ◌-◌, ◌*◌, ◌%◌, ◌<◌, ◌≤◌, ◌⊎◌, Bool, true, false, List, [], ◌∷◌, Option, None, Some, IsSome, IfSome, IsTrue, MatchBool, ◌↔◌, length, slice_index_or}
-use Rattle.std.specs.Option.{option_map_or}
+use Rattle.std.specs.Prelude.{◌≡◌, refl, ℕ, zero, suc, ◌+◌, ◌*◌, ◌%◌, ◌<◌, ◌≤◌, ◌⊎◌, Bool, true, false, List, [], ◌∷◌, Option, None, Some, IsSome, IfSome, IsTrue, MatchBool, ◌↔◌, length, slice_index_or}
 use Rattle.std.specs.declared.cmp.Ordering.{Ordering}
 use Rattle.std.specs.declared.cmp.Ordering.TheVariants.{Less, Equal, Greater}
 use Rattle.std.proofs.Common.{arith, inl, inr, ap, sym, subst, ◌∙◌}
 use Rattle.std.proofs.lemmas.Bool.{false≢true}
-use Rattle.std.proofs.lemmas.Nat.{mod-mul-add}
+use Rattle.list_laws.proofs.Cited.{filtered_true, one_below, round, some_of}
 use Rattle.point_order.specs.declared.cell.Cell.{Cell}
 use Rattle.point_order.specs.CellOrder.{cell_cmp}
 use Rattle.point_order.specs.Complex.{complex}
 use Rattle.point_order.specs.Sets.{IsIn}
-use Rattle.del_laws.proofs.Recognised.{complex_is_closed_list}
-use Rattle.del_laws.proofs.Tests.{filtered_true}
+use Rattle.del_laws.proofs.Cited.{complex_is_closed_list}
 use Rattle.cell_store.specs.Grids.{bucket_of}
-use Rattle.cell_store.specs.Buckets.{Content, InHand, bucket_at, cells_in}
+use Rattle.cell_store.specs.Buckets.{BucketContent, InHand, bucket_at, cells_in}
 use Rattle.cell_store.specs.Meshes.{all_cells, HasPlaces}
 use Rattle.cell_store.specs.Shares.{Shows}
 use Rattle.cell_store.specs.Swaps.{touches}
-use Rattle.cell_store.proofs.CellLaws.{cell_self, cell_same, cell_before, cell_after}
-use Rattle.cell_store.proofs.MeshLaws.{flat_from}
-use Rattle.cell_store.proofs.ShareLaws.{some_of, touched}
-use Rattle.cell_store.proofs.GridLaws.{bucket-below}
-use Rattle.cell_store.proofs.ShareLaws.{solid_set}
-use Rattle.cell_conflict.proofs.Searching.{some_point, one_more}
+use Rattle.cell_stars.proofs.Cited.{bucket-below, cell_after, cell_before, cell_same, cell_self}
+use Rattle.cell_store.proofs.Cited.{cells_of, flat_from, solid_set, touched}
+use Rattle.cell_conflict.proofs.Cited.{some_point}
 use Rattle.cell_walk.specs.Searching.{IsInside, IsFitting, IsAtMost, IsLessened, IsLeastOf}
 use Rattle.cell_walk.specs.Turns.{HasNoCell}
 use Rattle.cell_walk.proofs.Counting.{in_all}
@@ -35,10 +30,6 @@ not_self c e = clash (sym (cell_self c) ∙ e)
   where
     clash : Equal ≡ Less → ⊥
     clash e = cc e
-
--- nor before what is before it
-pub not_back : (c d : Cell) → cell_cmp c d ≡ Less → cell_cmp d c ≡ Less → ⊥
-not_back c d e f = not_self c (cell_before c d c e f)
 
 -- what is not before a cell is not before one that the cell is not before
 not_before : (d m c : Cell) → ¬ (cell_cmp d m ≡ Less) → ¬ (cell_cmp m c ≡ Less) → ¬ (cell_cmp d c ≡ Less)
@@ -136,10 +127,6 @@ at_last hold inside l rest old new none k = record {
 
 -- ---- all buckets
 
--- the cells of a bucket, if it is in hand
-abbrev pub cells_of : Option Content → List Cell
-cells_of o = option_map_or (λ c. c.cells) o []
-
 -- the least of the fitting cells of the first n buckets
 pub record IsLeastBelow (hold : InHand) (inside : Bool) (n : ℕ) (best : Option Cell) : Type 0 where
   pub from : (c : Cell) → best ≡ Some c → IsIn c (all_cells hold.places) × IsFitting hold inside c
@@ -149,7 +136,7 @@ pub record IsLeastBelow (hold : InHand) (inside : Bool) (n : ℕ) (best : Option
 of_bucket : (hold : InHand) (b : ℕ) (c : Cell) → IsIn c (cells_in hold.places b) → IsIn c (all_cells hold.places)
 of_bucket hold b c i = by (bucket_at hold.places b) refl i
   where
-    by : (o : Option Content) → bucket_at hold.places b ≡ o → IsIn c (cells_of o) → IsIn c (all_cells hold.places)
+    by : (o : Option BucketContent) → bucket_at hold.places b ≡ o → IsIn c (cells_of o) → IsIn c (all_cells hold.places)
     by None e j = absurd j
     by (Some x) e j = in_all hold.places b x c e j
 
@@ -157,7 +144,7 @@ of_bucket hold b c i = by (bucket_at hold.places b) refl i
 pub one_bucket : (hold : InHand) (inside : Bool) (b : ℕ) (old new : Option Cell) → IsLeastBelow hold inside b old → IsLessened hold inside (cells_in hold.places b) old new → IsLeastBelow hold inside (b + 1) new
 one_bucket hold inside b old new k m = record {
   from = λ c e. elim (m.from c e) [ inl h ↦ k.from c h | inr r ↦ (of_bucket hold b c r.0, r.1) ];
-  below = λ i l d j f. elim (one_more b i l) [
+  below = λ i l d j f. elim (one_below b i l) [
     | inl h ↦ at_most_both old new d m.kept (k.below i h d j f)
     | inr h ↦ m.below d (subst (λ (v : ℕ). IsIn d (cells_in hold.places v)) h j) f
   ];
@@ -167,14 +154,14 @@ one_bucket hold inside b old new k m = record {
 pub no_bucket : (hold : InHand) (inside : Bool) (b : ℕ) (old : Option Cell) → bucket_at hold.places b ≡ None → IsLeastBelow hold inside b old → IsLeastBelow hold inside (b + 1) old
 no_bucket hold inside b old none k = record {
   from = k.from;
-  below = λ i l d j f. elim (one_more b i l) [
+  below = λ i l d j f. elim (one_below b i l) [
     | inl h ↦ k.below i h d j f
-    | inr h ↦ absurd (subst (λ (o : Option Content). IsIn d (cells_of o)) (ap (bucket_at hold.places) h ∙ none) j)
+    | inr h ↦ absurd (subst (λ (o : Option BucketContent). IsIn d (cells_of o)) (ap (bucket_at hold.places) h ∙ none) j)
   ];
 }
 
 -- only below the length of the list there is one
-below_length : (l : List (Option Content)) (i : ℕ) (d : Cell) → IsIn d (cells_of (slice_index_or l i None)) → i < length l
+below_length : (l : List (Option BucketContent)) (i : ℕ) (d : Cell) → IsIn d (cells_of (slice_index_or l i None)) → i < length l
 below_length [] i d j = absurd j
 below_length (o ∷ l) zero d j = omega arith
 below_length (o ∷ l) (suc i) d j = let r = below_length l i d j in omega (arith, r)
@@ -195,22 +182,6 @@ least_of_all hold inside n best e k = record {
 pub no_member : (l : List Cell) → ((d : Cell) → ¬ (IsIn d l)) → l ≡ []
 no_member [] f = refl
 no_member (x ∷ l) f = absurd (f x (inl refl))
-
--- two numbers in order
-le_or_lt : (a b : ℕ) → (a ≤ b) ⊎ (b < a)
-le_or_lt zero b = inl (omega arith)
-le_or_lt (suc a) zero = inr (omega arith)
-le_or_lt (suc a) (suc b) = elim (le_or_lt a b) [ inl l ↦ inl (omega (arith, l)) | inr l ↦ inr (omega (arith, l)) ]
-
--- a round from any bucket meets each
-round : (first b n : ℕ) → first < n → b < n → (i : ℕ) × (i < n) × ((first + i) % n ≡ b)
-round first b n f l = elim (le_or_lt first b) [
-  | inl k ↦ (b - first, omega (arith, k, l), at 0 (b - first) (omega (arith, k)))
-  | inr k ↦ (b + n - first, omega (arith, k, f), at 1 (b + n - first) (omega (arith, k, f)))
-]
-  where
-    at : (a i : ℕ) → first + i ≡ a * n + b → (first + i) % n ≡ b
-    at a i e = ap (λ m. m % n) e ∙ mod-mul-add a n b l
 
 -- a round over buckets that are all in hand meets a cell
 pub none_missing :

@@ -8,7 +8,7 @@ use Rattle.point_order.specs.Sets.{IsIn}
 use Rattle.hole_laws.specs.Edits.{IsSolidSet, IsNew, StaysFrom}
 use Rattle.cell_store.specs.Buckets.{InHand}
 use Rattle.cell_store.specs.Shares.{Shows, IsAcross, IsInHandFor, points_on}
-use Rattle.cell_store.proofs.ShareLaws.{solid_set}
+use Rattle.cell_store.proofs.Cited.{solid_set}
 use Rattle.cell_walk.specs.Paths.{facet_towards}
 use Rattle.cell_walk.specs.Turns.{IsOnward, HasMoved}
 use Rattle.cell_walk.proofs.Towards.{nearer_towards, some_facet_towards}

@@ -2,37 +2,35 @@
 use Rattle.std.specs.Prelude.{◌≡◌, refl, ℕ, true, List, [], ◌∷◌, ◌⊎◌, Option, None, Some}
 use Rattle.std.proofs.Common.{inl, inr, sym, subst, ◌∙◌}
 use Rattle.std.proofs.lemmas.Bool.{false≢true}
-use Rattle.conv_laws.specs.Lists.{IsIn as IsMember}
+use Rattle.list_laws.proofs.Cited.{filtered_from}
 use Rattle.point_order.specs.declared.cell.Cell.{Cell}
 use Rattle.point_order.specs.Complex.{complex}
 use Rattle.point_order.specs.Sets.{IsIn}
 use Rattle.del_laws.specs.Walks.{is_before}
 use Rattle.del_laws.specs.Nearness.{rank}
-use Rattle.del_laws.proofs.Nearness.{before_not, before_chain}
-use Rattle.del_laws.proofs.Tests.{filtered_from}
+use Rattle.del_laws.proofs.Cited.{before_chain, before_not}
 use Rattle.hole_laws.specs.Edits.{IsNew}
-use Rattle.cell_store.specs.Buckets.{Content, InHand, bucket_at}
+use Rattle.cell_store.specs.Buckets.{BucketContent, InHand, bucket_at}
 use Rattle.cell_store.specs.Meshes.{all_cells}
 use Rattle.cell_store.specs.Shares.{Shows}
 use Rattle.cell_store.specs.Swaps.{touches}
-use Rattle.cell_store.proofs.MeshLaws.{flat_from}
+use Rattle.cell_store.proofs.Cited.{cells_of, flat_from}
 use Rattle.cell_walk.specs.Paths.{ComesNearer}
 use Rattle.cell_walk.specs.Turns.{IsLeastInside, IsLeastHeld}
 use Rattle.cell_walk.specs.Laws.{StartIsWalk, WalkStays, NoCellTwice}
 use Rattle.cell_walk.proofs.Counting.{in_all}
-use Rattle.cell_walk.proofs.Searching.{cells_of}
 
 -- the bucket of a cell of those in hand
-record IsKept (places : List (Option Content)) (c : Cell) : Type 0 where
+record IsKept (places : List (Option BucketContent)) (c : Cell) : Type 0 where
   pub number : ℕ
-  pub content : Content
+  pub content : BucketContent
   pub held : bucket_at places number ≡ Some content
   pub has : IsIn c content.cells
 
-kept : (places : List (Option Content)) (c : Cell) → IsIn c (all_cells places) → IsKept places c
+kept : (places : List (Option BucketContent)) (c : Cell) → IsIn c (all_cells places) → IsKept places c
 kept places c i = let r = flat_from cells_of places None c i in by r.0 (bucket_at places r.0) refl r.1
   where
-    by : (b : ℕ) (o : Option Content) → bucket_at places b ≡ o → IsIn c (cells_of o) → IsKept places c
+    by : (b : ℕ) (o : Option BucketContent) → bucket_at places b ≡ o → IsIn c (cells_of o) → IsKept places c
     by b None e j = absurd j
     by b (Some x) e j = record { number = b; content = x; held = e; has = j }
 
@@ -59,7 +57,7 @@ walk_stays few many s w a k =
     record { new = k.new; listed = k.listed; held = in_all many.places b.number b.content w.cell (a.buckets b.number b.content b.held) b.has }
 
 -- each later cell is nearer than the first
-later_nearer : (s : List ℕ) (p : ℕ) (c : Cell) (l : List Cell) → ComesNearer s p (c ∷ l) → (x : Cell) → IsMember x l → is_before (rank s p x) (rank s p c) ≡ true
+later_nearer : (s : List ℕ) (p : ℕ) (c : Cell) (l : List Cell) → ComesNearer s p (c ∷ l) → (x : Cell) → IsIn x l → is_before (rank s p x) (rank s p c) ≡ true
 later_nearer s p c [] k x i = absurd i
 later_nearer s p c (d ∷ l) k x (inl e) = subst (λ (v : Cell). is_before (rank s p v) (rank s p c) ≡ true) e k.0
 later_nearer s p c (d ∷ l) k x (inr i) = before_chain (rank s p x) (rank s p d) (rank s p c) (later_nearer s p d l k.1 x i) k.0

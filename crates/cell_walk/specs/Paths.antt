@@ -11,7 +11,7 @@ use Rattle.point_order.specs.Sets.{IsIn}
 use Rattle.del_laws.specs.Walks.{is_before}
 use Rattle.del_laws.specs.Nearness.{rank}
 use Rattle.hole_laws.specs.Edits.{IsNew}
-use Rattle.cell_store.specs.Buckets.{Content, InHand}
+use Rattle.cell_store.specs.Buckets.{BucketContent, InHand}
 use Rattle.cell_store.specs.Meshes.{all_cells}
 use Rattle.cell_store.specs.Shares.{Shows}
 
@@ -21,7 +21,7 @@ pub record Walking : Type 0 where
   pub cell : Cell
 
 -- how many cells of the buckets in hand, in the complex of s, are nearer to p than the cell
-abbrev pub nearer_held : List ℕ → ℕ → List (Option Content) → Cell → ℕ
+abbrev pub nearer_held : List ℕ → ℕ → List (Option BucketContent) → Cell → ℕ
 nearer_held s p places c = count_by (λ z. is_before (rank s p z) (rank s p c)) (all_cells places)
 
 -- the first facet of the cell that has p strictly on the other side than the cell's fourth point; of an Open

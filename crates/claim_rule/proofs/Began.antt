@@ -3,17 +3,17 @@ use Rattle.std.specs.Prelude.{◌≡◌, ℕ, zero, suc, ◌+◌, ◌-◌, ◌*�
 use Rattle.std.specs.Option.{option_map}
 use Rattle.std.proofs.Common.{refl, sym, ◌∙◌, ap, subst, arith, ext_get_or, ne_eqb}
 use Rattle.std.proofs.lemmas.List.{length-replicate}
+use Rattle.list_laws.proofs.Cited.{some_of, zero_at}
 use Rattle.edit_history.specs.declared.history.Entry.{Entry}
-use Rattle.cell_store.specs.Buckets.{Content, InHand, bucket_at, StandAtPlaces}
+use Rattle.cell_store.specs.Buckets.{BucketContent, InHand, bucket_at, StandAtPlaces}
 use Rattle.cell_store.specs.Shares.{share_at}
 use Rattle.cell_store.specs.Meshes.{MeshView, IsHoldOf, counted}
-use Rattle.cell_store.proofs.ShareLaws.{share_is_one}
+use Rattle.cell_store.proofs.Cited.{share_is_one}
 use Rattle.claim_rule.specs.declared.board.Seat.{Seat}
 use Rattle.claim_rule.specs.Boards.{View}
 use Rattle.claim_rule.specs.Good.{Good}
 use Rattle.claim_rule.specs.Opening.{shares_from, opening_board}
 use Rattle.claim_rule.specs.Kept.{homes_of, held_by, view_of, views_of, kept}
-use Rattle.claim_rule.proofs.Places.{some_of, zero_at}
 use Rattle.claim_rule.proofs.OneHistory.{shares_count, all_shares}
 use Rattle.claim_rule.proofs.Opening.{opening_is_good}
 use Rattle.claim_rule.proofs.Seats.{held_none}
@@ -22,7 +22,7 @@ pub as_counted : (n l a : ℕ) → n ≡ counted l → l + a ≤ 2 ^ 32 → n �
 as_counted n l a e h = omega arith
 
 -- with all words 0, all contents are at home
-all_home : (n : ℕ) (places : List (Option Content)) → length places ≡ n → homes_of (replicate n 0) places ≡ places
+all_home : (n : ℕ) (places : List (Option BucketContent)) → length places ≡ n → homes_of (replicate n 0) places ≡ places
 all_home zero [] e = refl
 all_home zero (o ∷ places) e = absurd (omega arith)
 all_home (suc n) [] e = absurd (omega arith)
@@ -32,7 +32,7 @@ all_none : (f : Seat → View) (n : ℕ) → map (option_map f) (replicate n Non
 all_none f zero = refl
 all_none f (suc n) = ap (λ l. None ∷ l) (all_none f n)
 
-none_held : (n first : ℕ) (places : List (Option Content)) → held_by first (replicate n 0) places ≡ replicate n None
+none_held : (n first : ℕ) (places : List (Option BucketContent)) → held_by first (replicate n 0) places ≡ replicate n None
 none_held n first places =
     held_none (λ w. w == first + 1) (replicate n 0) places (λ b h. ap (λ w. w == first + 1) (zero_at n b) ∙ ne_eqb 0 (first + 1) (λ q. omega (arith, q)))
     ∙ ap (λ k. replicate k None) (length-replicate n 0)
@@ -45,7 +45,7 @@ mesh_shares mesh hold i placed =
     let count : length hold.places ≡ g * g * g = i.whole.has.places ∙ ap (λ (n : ℕ). n * n * n) i.grid in
     ext_get_or None hold.places (shares_from g h 0 (g * g * g)) (count ∙ sym (shares_count g h 0 (g * g * g))) (λ b l.
     let c = some_of (bucket_at hold.places b) (i.whole.all b l) in
-    c.1 ∙ ap (λ (x : Content). Some x) (share_is_one hold.grid b h c.0 (i.stands.shares b c.0 c.1) (placed b c.0 c.1))
+    c.1 ∙ ap (λ (x : BucketContent). Some x) (share_is_one hold.grid b h c.0 (i.stands.shares b c.0 c.1) (placed b c.0 c.1))
     ∙ ap (λ (n : ℕ). Some (share_at n b h)) i.grid ∙ sym (all_shares g h b (omega (arith, l, count))))
 
 pub begun_is : (mesh : MeshView) (hold : InHand) (parts allowance ticket : ℕ) (words : List ℕ) (seats : List (Option Seat)) → IsHoldOf mesh hold → StandAtPlaces hold.grid hold.places → ticket ≡ length mesh.history →
@@ -57,7 +57,7 @@ begun_is mesh hold parts allowance ticket words seats i placed t w s =
     let n : ℕ = g * g * g in
     let seat : Seat = record { first = 0; parts = parts; left = allowance; seen = ticket; since = ticket } in
     let zeros : List ℕ = replicate n 0 in
-    let homes : List (Option Content) = shares_from g h 0 n in
+    let homes : List (Option BucketContent) = shares_from g h 0 n in
     let at : hold.places ≡ homes = mesh_shares mesh hold i placed in
     let home : homes_of zeros homes ≡ homes = all_home n homes (shares_count g h 0 n) in
     let view : view_of zeros homes seat ≡ record { first = 0; parts = parts; left = allowance; seen = length h; since = length h; held = replicate n None } =

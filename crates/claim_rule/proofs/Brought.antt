@@ -6,23 +6,23 @@ use Rattle.point_order.specs.declared.cell.Cell.{Cell}
 use Rattle.edit_history.specs.declared.history.Entry.{Entry}
 use Rattle.edit_history.specs.Edits.{point_of}
 use Rattle.cell_store.specs.Grids.{bucket_of}
-use Rattle.cell_store.specs.Buckets.{Content, InHand, bucket_at}
+use Rattle.cell_store.specs.Buckets.{BucketContent, InHand, bucket_at}
 use Rattle.cell_store.specs.Shares.{IsShare, share_at}
 use Rattle.cell_store.specs.Changes.{IsNext, IsSwapped, IsNoted, swapped_in, noted_in}
-use Rattle.cell_store.proofs.NextLaws.{share_after_entry}
+use Rattle.cell_store.proofs.Cited.{share_after_entry}
 use Rattle.claim_rule.specs.Good.{AreSharesOf}
 use Rattle.claim_rule.specs.Events.{renewed_from}
 use Rattle.claim_rule.proofs.Commits.{renewed_at, renewed_length}
 
 -- the place of a content stays
-place_stays : (g b : ℕ) (e : Entry) (c : Content) → (noted_in g b e c).place ≡ c.place
+place_stays : (g b : ℕ) (e : Entry) (c : BucketContent) → (noted_in g b e c).place ≡ c.place
 place_stays g b e c = by (bucket_of g (point_of e.edit) == b)
   where
     by : (t : Bool) → (cond t (record c { points = Rattle.edit_history.specs.Edits.changed c.points (point_of e.edit) e.reply; entries = c.entries ++ e ∷ [] }) c).place ≡ c.place
     by true = refl
     by false = refl
 
-is_share_at : (g b : ℕ) (h : List Entry) (c : Content) → IsShare g b h c → c.place ≡ Some (g, b) → c ≡ share_at g b h
+is_share_at : (g b : ℕ) (h : List Entry) (c : BucketContent) → IsShare g b h c → c.place ≡ Some (g, b) → c ≡ share_at g b h
 is_share_at g b h c s p = λ i. record { points = s.points i; cells = s.cells i; entries = s.entries i; place = p i }
 
 pub brought : (g : ℕ) (h : List Entry) (e : Entry) (gone fresh : List Cell) (old between new : InHand) → old.grid ≡ g → AreSharesOf g h old.places → IsNext h e gone fresh → IsSwapped gone fresh old between → IsNoted e between new
@@ -39,10 +39,10 @@ brought g h e gone fresh old between new same shares next swap note =
     ∙ (λ i. option_map (λ c. share_at g (sym z i) h') (bucket_at old.places b))
     ∙ sym (renewed_at g h' 0 old.places b))
   where
-    one : (g b : ℕ) (o : Option Content) → g ≡ g → ((c : Content) → o ≡ Some c → c ≡ share_at g b h) → option_map (noted_in g b e) (option_map (swapped_in g b gone fresh) o) ≡ option_map (λ c. share_at g b (h ++ e ∷ [])) o
+    one : (g b : ℕ) (o : Option BucketContent) → g ≡ g → ((c : BucketContent) → o ≡ Some c → c ≡ share_at g b h) → option_map (noted_in g b e) (option_map (swapped_in g b gone fresh) o) ≡ option_map (λ c. share_at g b (h ++ e ∷ [])) o
     one g b None q f = refl
     one g b (Some c) q f =
         let is : c ≡ share_at g b h = f c refl in
-        let s : IsShare g b h c = record { points = ap (λ (x : Content). x.points) is; cells = ap (λ (x : Content). x.cells) is; entries = ap (λ (x : Content). x.entries) is } in
-        let p : c.place ≡ Some (g, b) = ap (λ (x : Content). x.place) is in
-        ap (λ (x : Content). Some x) (is_share_at g b (h ++ e ∷ []) (noted_in g b e (swapped_in g b gone fresh c)) (share_after_entry g b h e gone fresh c next s) (place_stays g b e (swapped_in g b gone fresh c) ∙ p))
+        let s : IsShare g b h c = record { points = ap (λ (x : BucketContent). x.points) is; cells = ap (λ (x : BucketContent). x.cells) is; entries = ap (λ (x : BucketContent). x.entries) is } in
+        let p : c.place ≡ Some (g, b) = ap (λ (x : BucketContent). x.place) is in
+        ap (λ (x : BucketContent). Some x) (is_share_at g b (h ++ e ∷ []) (noted_in g b e (swapped_in g b gone fresh c)) (share_after_entry g b h e gone fresh c next s) (place_stays g b e (swapped_in g b gone fresh c) ∙ p))

@@ -2,6 +2,7 @@
 use Rattle.std.specs.Prelude.{◌≡◌, ◌≢◌, ℕ, zero, suc, ◌+◌, ◌-◌, ◌<◌, true, List, [], ◌∷◌, ◌++◌, Option, None, Some, IsSome, drop, length, slice_set}
 use Rattle.std.specs.Option.{option_map}
 use Rattle.std.proofs.Common.{refl, sym, ◌∙◌, ap, subst, inl, inr, arith}
+use Rattle.list_laws.proofs.Cited.{filtered_from, filtered_true, is_there, one_value, same_there, some_mapped, within_some}
 use mathlib.Core.Logic.{dite}
 use native.Mathlib.Decide.{ℕ_discrete}
 use Rattle.point_order.specs.Coordinates.{IsKey}
@@ -9,14 +10,13 @@ use Rattle.edit_history.specs.declared.history.Edit.{Edit}
 use Rattle.edit_history.specs.declared.history.Entry.{Entry}
 use Rattle.edit_history.specs.Edits.{point_of}
 use Rattle.edit_history.specs.Histories.{replay}
-use Rattle.del_laws.proofs.Tests.{filtered_from, filtered_true}
-use Rattle.cell_store.specs.Buckets.{Content, bucket_at}
+use Rattle.cell_store.specs.Buckets.{BucketContent, bucket_at}
 use Rattle.cell_store.specs.Touches.{HoldTouched}
 use Rattle.claim_rule.specs.Boards.{View, BoardState, word_of, view_at, IsLive, is_by, made_by}
 use Rattle.claim_rule.specs.Good.{AreSharesOf, IsInOrder, IsGood}
 use Rattle.cell_store.specs.Shares.{share_at}
 use Rattle.claim_rule.specs.Events.{committed, entry_after, renewed_from}
-use Rattle.claim_rule.proofs.Places.{is_there, same_there, one_value, left_set, within_some}
+use Rattle.claim_rule.proofs.Places.{left_set}
 use Rattle.claim_rule.proofs.Histories.{length_more, starts_more, in_dropped_more, all_from_in, in_all, made_below, by_parts}
 use Rattle.claim_rule.proofs.Nexts.{some_next, stays_outside}
 use Rattle.claim_rule.proofs.Keeps.{renewed, keeps}
@@ -24,12 +24,12 @@ use Rattle.claim_rule.proofs.Steps.{live_at, one_view}
 
 -- ---- contents that are renewed
 
-pub renewed_at : (g : ℕ) (h : List Entry) (k : ℕ) (l : List (Option Content)) (b : ℕ) → bucket_at (renewed_from g h k l) b ≡ option_map (λ c. share_at g (k + b) h) (bucket_at l b)
+pub renewed_at : (g : ℕ) (h : List Entry) (k : ℕ) (l : List (Option BucketContent)) (b : ℕ) → bucket_at (renewed_from g h k l) b ≡ option_map (λ c. share_at g (k + b) h) (bucket_at l b)
 renewed_at g h k [] b = refl
 renewed_at g h k (o ∷ l) zero = let q : k ≡ k + 0 = omega arith in ap (λ (n : ℕ). option_map (λ c. share_at g n h) o) q
 renewed_at g h k (o ∷ l) (suc b) = let q : k + 1 + b ≡ k + suc b = omega arith in renewed_at g h (k + 1) l b ∙ ap (λ (n : ℕ). option_map (λ c. share_at g n h) (bucket_at l b)) q
 
-pub renewed_length : (g : ℕ) (h : List Entry) (k : ℕ) (l : List (Option Content)) → length (renewed_from g h k l) ≡ length l
+pub renewed_length : (g : ℕ) (h : List Entry) (k : ℕ) (l : List (Option BucketContent)) → length (renewed_from g h k l) ≡ length l
 renewed_length g h k [] = refl
 renewed_length g h k (o ∷ l) = let r = renewed_length g h (k + 1) l in omega arith
 
@@ -41,19 +41,15 @@ mapped_is : {X Y : Type 0} (y : Y) (o : Option X) (z : Y) → option_map (λ x. 
 mapped_is y None z e = absurd (cc e)
 mapped_is y (Some x) z e = sym (one_value y z e)
 
-mapped_some : {X Y : Type 0} (f : X → Y) (o : Option X) → IsSome o → IsSome (option_map f o)
-mapped_some f None s = absurd (cc s)
-mapped_some f (Some x) s = refl
-
-pub renewed_shares : (g : ℕ) (h : List Entry) (l : List (Option Content)) → AreSharesOf g h (renewed_from g h 0 l)
+pub renewed_shares : (g : ℕ) (h : List Entry) (l : List (Option BucketContent)) → AreSharesOf g h (renewed_from g h 0 l)
 renewed_shares g h l b c e =
     let q : 0 + b ≡ b = omega arith in
     mapped_is (share_at g (0 + b) h) (bucket_at l b) c (sym (renewed_at g h 0 l b) ∙ e) ∙ ap (λ (n : ℕ). share_at g n h) q
 
-pub renewed_there : (g : ℕ) (h : List Entry) (l : List (Option Content)) (b : ℕ) → IsSome (bucket_at l b) → IsSome (bucket_at (renewed_from g h 0 l) b)
-renewed_there g h l b t = same_there (option_map (λ c. share_at g (0 + b) h) (bucket_at l b)) (bucket_at (renewed_from g h 0 l) b) (sym (renewed_at g h 0 l b)) (mapped_some (λ c. share_at g (0 + b) h) (bucket_at l b) t)
+pub renewed_there : (g : ℕ) (h : List Entry) (l : List (Option BucketContent)) (b : ℕ) → IsSome (bucket_at l b) → IsSome (bucket_at (renewed_from g h 0 l) b)
+renewed_there g h l b t = same_there (option_map (λ c. share_at g (0 + b) h) (bucket_at l b)) (bucket_at (renewed_from g h 0 l) b) (sym (renewed_at g h 0 l b)) (some_mapped (λ c. share_at g (0 + b) h) (bucket_at l b) t)
 
-pub renewed_back : (g : ℕ) (h : List Entry) (l : List (Option Content)) (b : ℕ) → IsSome (bucket_at (renewed_from g h 0 l) b) → IsSome (bucket_at l b)
+pub renewed_back : (g : ℕ) (h : List Entry) (l : List (Option BucketContent)) (b : ℕ) → IsSome (bucket_at (renewed_from g h 0 l) b) → IsSome (bucket_at l b)
 renewed_back g h l b t = mapped_back (λ c. share_at g (0 + b) h) (bucket_at l b) (same_there (bucket_at (renewed_from g h 0 l) b) (option_map (λ c. share_at g (0 + b) h) (bucket_at l b)) (renewed_at g h 0 l b) t)
 
 -- ---- the step

@@ -1,17 +1,17 @@
 -- A commit of a board that is kept in one hold with words: when its condition holds, and what it makes of the board.
-use Rattle.std.specs.Prelude.{◌≡◌, ◌⊎◌, ℕ, zero, suc, ◌+◌, ◌-◌, ◌*◌, ◌^◌, ◌<◌, ◌==◌, List, [], ◌∷◌, ◌++◌, All, Option, None, Some, IsSome, length, slice_index_or, slice_set}
+use Rattle.std.specs.Prelude.{◌≡◌, ◌⊎◌, ℕ, ◌+◌, ◌-◌, ◌*◌, ◌<◌, ◌==◌, List, [], ◌∷◌, ◌++◌, All, Option, None, Some, IsSome, length, slice_index_or, slice_set}
 use Rattle.std.proofs.Common.{refl, sym, ◌∙◌, ap, subst, inl, inr, arith}
 use Rattle.std.proofs.lemmas.Bool.{eqb-true, eq-eqb}
+use Rattle.list_laws.proofs.Cited.{all_of_each, each_of_all, one_value, same_there, some_and, within_some}
 use Rattle.point_order.specs.declared.cell.Cell.{Cell}
 use Rattle.point_order.specs.Coordinates.{IsKey}
 use Rattle.point_order.specs.Facets.{points_of}
-use Rattle.point_order.specs.Sets.{IsIn}
 use Rattle.edit_history.specs.declared.history.Edit.{Edit}
 use Rattle.edit_history.specs.declared.history.Entry.{Entry}
 use Rattle.edit_history.specs.Edits.{point_of}
 use Rattle.edit_history.specs.Histories.{replay}
 use Rattle.cell_store.specs.Grids.{bucket_of}
-use Rattle.cell_store.specs.Buckets.{Content, InHand, bucket_at}
+use Rattle.cell_store.specs.Buckets.{BucketContent, InHand, bucket_at}
 use Rattle.cell_store.specs.Changes.{IsChange, IsNext, IsSwapped, IsNoted}
 use Rattle.claim_rule.specs.declared.board.Seat.{Seat}
 use Rattle.claim_rule.specs.declared.trial.Trial.{Trial}
@@ -23,7 +23,6 @@ use Rattle.claim_rule.specs.Good.{IsGood, Good}
 use Rattle.claim_rule.specs.Events.{Next, CanCommit, entry_after}
 use Rattle.claim_rule.specs.Kept.{held_by, view_of, kept}
 use Rattle.claim_rule.specs.Trials.{IsNamed, IsOnSome, IsTrialOf}
-use Rattle.claim_rule.proofs.Places.{some_and, one_value, within_some, same_there}
 use Rattle.claim_rule.proofs.Nexts.{next_of}
 use Rattle.claim_rule.proofs.Kept.{if_so, whose_length, whose_at}
 use Rattle.claim_rule.proofs.Moves.{live_view}
@@ -31,27 +30,15 @@ use Rattle.claim_rule.proofs.Renewals.{so_true, commit_next}
 use Rattle.claim_rule.proofs.Brought.{brought}
 use Rattle.claim_rule.proofs.Whole.{all_are_shares, all_in_hand}
 
--- ---- all of a list
-
-all_in : {X : Type 0} (P : X → Type 0) (l : List X) → All P l → (x : X) → IsIn x l → P x
-all_in P [] a x i = absurd i
-all_in P (y ∷ l) a x (inl e) = subst P e (a 0 y (omega arith))
-all_in P (y ∷ l) a x (inr i) = all_in P l (λ k d h. a (suc k) d (omega arith)) x i
-
-from_in : {X : Type 0} (P : X → Type 0) (l : List X) → ((x : X) → IsIn x l → P x) → All P l
-from_in P [] f k d h = absurd (omega arith)
-from_in P (y ∷ l) f zero d h = f y (inl refl)
-from_in P (y ∷ l) f (suc k) d h = from_in P l (λ x i. f x (inr i)) k d (omega arith)
-
 -- ---- the condition
 
 -- a bucket whose word names the pass is held by it, where all buckets are in the hold
-named_held : (words : List ℕ) (places : List (Option Content)) (n b : ℕ) → IsSome (bucket_at places b) → IsNamed n words b → IsSome (bucket_at (held_by n words places) b)
+named_held : (words : List ℕ) (places : List (Option BucketContent)) (n b : ℕ) → IsSome (bucket_at places b) → IsNamed n words b → IsSome (bucket_at (held_by n words places) b)
 named_held words places n b there named =
     same_there (bucket_at places b) (bucket_at (held_by n words places) b)
     (sym (whose_at (λ w. w == n + 1) words places b named.0 ∙ ap (λ k. if_so k (bucket_at places b)) (eq-eqb (slice_index_or words b 0) (n + 1) named.1))) there
 
-held_named : (words : List ℕ) (places : List (Option Content)) (n b : ℕ) → IsSome (bucket_at (held_by n words places) b) → IsNamed n words b
+held_named : (words : List ℕ) (places : List (Option BucketContent)) (n b : ℕ) → IsSome (bucket_at (held_by n words places) b) → IsNamed n words b
 held_named words places n b s =
     let below : b < length words = let l = within_some (held_by n words places) b s in let m = whose_length (λ w. w == n + 1) words places in omega (arith, l, m) in (
       below,
@@ -60,28 +47,28 @@ held_named words places n b s =
     )
 
 -- the words of all buckets that are found name the pass: it holds all that is touched
-pub touched_held : (g n : ℕ) (s : List ℕ) (edit : Edit) (t : Trial) (words : List ℕ) (places : List (Option Content)) → ((b : ℕ) → b < length words → IsSome (bucket_at places b)) → IsTrialOf s edit t
+pub touched_held : (g n : ℕ) (s : List ℕ) (edit : Edit) (t : Trial) (words : List ℕ) (places : List (Option BucketContent)) → ((b : ℕ) → b < length words → IsSome (bucket_at places b)) → IsTrialOf s edit t
     → IsNamed n words (bucket_of g (point_of edit)) → All (λ c. All (λ p. IsNamed n words (bucket_of g p)) (points_of c)) t.near.items → HoldTouched g s edit (held_by n words places)
 touched_held g n s edit t words places all trial own near b touched =
     let named : IsNamed n words b = subst (IsNamed n words) (sym touched.number) (elim ((trial.near touched.point).0 touched.reached) [
       | inl e ↦ subst (λ (p : ℕ). IsNamed n words (bucket_of g p)) (sym e) own
-      | inr o ↦ all_in (λ p. IsNamed n words (bucket_of g p)) (points_of o.cell) (all_in (λ c. All (λ p. IsNamed n words (bucket_of g p)) (points_of c)) t.near.items near o.cell o.listed) touched.point o.has
+      | inr o ↦ each_of_all (λ p. IsNamed n words (bucket_of g p)) (points_of o.cell) (each_of_all (λ c. All (λ p. IsNamed n words (bucket_of g p)) (points_of c)) t.near.items near o.cell o.listed) touched.point o.has
     ]) in
     named_held words places n b (all b named.0) named
 
 -- and the other way round
-pub held_touched : (g n : ℕ) (s : List ℕ) (edit : Edit) (t : Trial) (words : List ℕ) (places : List (Option Content)) → IsTrialOf s edit t → HoldTouched g s edit (held_by n words places)
+pub held_touched : (g n : ℕ) (s : List ℕ) (edit : Edit) (t : Trial) (words : List ℕ) (places : List (Option BucketContent)) → IsTrialOf s edit t → HoldTouched g s edit (held_by n words places)
     → IsNamed n words (bucket_of g (point_of edit)) × All (λ c. All (λ p. IsNamed n words (bucket_of g p)) (points_of c)) t.near.items
 held_touched g n s edit t words places trial touched =
     let named : (p : ℕ) → (p ≡ point_of edit) ⊎ IsOnSome t.near.items p → IsNamed n words (bucket_of g p) = λ p k.
     held_named words places n (bucket_of g p) (touched (bucket_of g p) (record { point = p; reached = (trial.near p).1 k; number = refl })) in (
       named (point_of edit) (inl refl),
-      from_in (λ c. All (λ p. IsNamed n words (bucket_of g p)) (points_of c)) t.near.items (λ c i.
-          from_in (λ p. IsNamed n words (bucket_of g p)) (points_of c) (λ p j. named p (inr record { cell = c; listed = i; has = j }))),
+      all_of_each (λ c. All (λ p. IsNamed n words (bucket_of g p)) (points_of c)) t.near.items (λ c i.
+          all_of_each (λ p. IsNamed n words (bucket_of g p)) (points_of c) (λ p j. named p (inr record { cell = c; listed = i; has = j }))),
     )
 
 -- what the condition of a commit says of the seat and the words
-pub commit_facts : (g parts most : ℕ) (opening : List Entry) (ticket : ℕ) (words : List ℕ) (places : List (Option Content)) (seats : List (Option Seat)) (h : List Entry) (n : ℕ) (seat : Seat) (edit : Edit) →
+pub commit_facts : (g parts most : ℕ) (opening : List Entry) (ticket : ℕ) (words : List ℕ) (places : List (Option BucketContent)) (seats : List (Option Seat)) (h : List Entry) (n : ℕ) (seat : Seat) (edit : Edit) →
     IsGood (kept g parts most opening ticket words places seats) h → slice_index_or seats n None ≡ Some seat → CanCommit h (kept g parts most opening ticket words places seats) n edit →
     (0 < seat.left) × HoldTouched g (replay h) edit (held_by n words places)
 commit_facts g parts most opening ticket words places seats h n seat edit good live can =
@@ -114,10 +101,6 @@ committed_next old between new parts most opening ticket words seats h n tag edi
     let grid : new.grid ≡ g = note.grid ∙ swap.grid in
     subst (λ (k : ℕ). Next h s (Commit n tag edit) Done (kept k parts most opening (ticket + 1) words new.places (slice_set seats n (Some (record seat { left = seat.left - 1; seen = ticket + 1 }))))) (sym grid)
     (commit_next g parts most opening ticket words old.places seats h n tag edit seat new.places good live key some touched is)
-
--- one more entry can be counted
-pub ticket_small : (s : BoardState) (h : List Entry) → IsGood s h → s.ticket + 1 < 2 ^ 64
-ticket_small s h good = let t = good.ticket in let r = good.room in let m = good.shape.most in omega (arith, t, r, m)
 
 -- ---- as the code has it
 

@@ -1,61 +1,46 @@
 -- Commits of two passes commute.
-use Rattle.std.specs.Prelude.{◌≡◌, ◌≢◌, ℕ, zero, suc, ◌+◌, ◌-◌, ◌<◌, List, [], ◌∷◌, ◌++◌, map, Option, None, Some, IsSome, IsSomeAnd, ◌==◌, slice_set}
+use Rattle.std.specs.Prelude.{◌≡◌, ◌≢◌, ℕ, suc, ◌+◌, ◌-◌, ◌<◌, List, [], ◌∷◌, ◌++◌, map, Option, None, Some, IsSome, ◌==◌, slice_set}
 use Rattle.std.specs.List.{filter}
 use Rattle.point_order.specs.Complex.{complex}
 use Rattle.cell_store.specs.Swaps.{touches}
 use Rattle.std.specs.Option.{option_map}
 use Rattle.std.proofs.Common.{refl, sym, ◌∙◌, ap, subst, arith, get_or-set_other}
+use Rattle.list_laws.proofs.Cited.{map_set, set_swapped, some_and, to_some}
 use Rattle.edit_history.specs.declared.history.Edit.{Edit}
 use Rattle.edit_history.specs.declared.history.Entry.{Entry}
 use Rattle.edit_history.specs.Edits.{reply_to, after}
 use Rattle.edit_history.specs.Histories.{replay}
 use Rattle.hole_laws.specs.Commuting.{Reaches, DoCommute}
-use Rattle.hole_laws.proofs.EditLaws.{edits_commute}
+use Rattle.hole_laws.proofs.Cited.{edits_commute}
 use Rattle.cell_store.specs.Grids.{bucket_of}
-use Rattle.cell_store.specs.Buckets.{Content, bucket_at}
+use Rattle.cell_store.specs.Buckets.{BucketContent, bucket_at}
 use Rattle.cell_store.specs.Touches.{HoldTouched}
 use Rattle.claim_rule.specs.Boards.{View, BoardState, word_of, view_at, IsLive}
 use Rattle.claim_rule.specs.Good.{IsGood}
 use Rattle.cell_store.specs.Shares.{share_at}
 use Rattle.claim_rule.specs.Events.{CanCommit, committed, entry_after, renewed_from}
 use Rattle.claim_rule.specs.Commuting.{Figure, figure, figures, figures_of, AreAlike, CommitsCommute}
-use Rattle.claim_rule.proofs.Places.{some_and}
-use Rattle.edit_history.proofs.OneMore.{replay_more}
+use Rattle.edit_history.proofs.Cited.{replay_more}
 use Rattle.claim_rule.proofs.Nexts.{set_of, stays_outside}
 use Rattle.claim_rule.proofs.Steps.{live_at}
 use Rattle.claim_rule.proofs.Commits.{commit_keeps}
 
 -- ---- lists
 
-set_swapped : {X : Type 0} (l : List X) (i j : ℕ) (a b : X) → i ≢ j → slice_set (slice_set l i a) j b ≡ slice_set (slice_set l j b) i a
-set_swapped [] i j a b n = refl
-set_swapped (x ∷ l) zero zero a b n = absurd (n refl)
-set_swapped (x ∷ l) zero (suc j) a b n = refl
-set_swapped (x ∷ l) (suc i) zero a b n = refl
-set_swapped (x ∷ l) (suc i) (suc j) a b n = ap (λ (m : List _). x ∷ m) (set_swapped l i j a b (λ e. n (ap suc e)))
-
-map_set : {X Y : Type 0} (f : X → Y) (l : List X) (i : ℕ) (a : X) → map f (slice_set l i a) ≡ slice_set (map f l) i (f a)
-map_set f [] i a = refl
-map_set f (x ∷ l) zero a = refl
-map_set f (x ∷ l) (suc i) a = ap (λ (m : List _). f x ∷ m) (map_set f l i a)
-
-figures_alike : (g : ℕ) (h h' : List Entry) (k : ℕ) (l : List (Option Content)) → ((b : ℕ) → IsSome (bucket_at l b) → figure (share_at g (k + b) h) ≡ figure (share_at g (k + b) h')) → figures (renewed_from g h k l) ≡ figures (renewed_from g h' k l)
+figures_alike : (g : ℕ) (h h' : List Entry) (k : ℕ) (l : List (Option BucketContent)) → ((b : ℕ) → IsSome (bucket_at l b) → figure (share_at g (k + b) h) ≡ figure (share_at g (k + b) h')) → figures (renewed_from g h k l) ≡ figures (renewed_from g h' k l)
 figures_alike g h h' k [] f = refl
 figures_alike g h h' k (o ∷ l) f =
     let rest = figures_alike g h h' (k + 1) l (λ b t. let q : k + suc b ≡ k + 1 + b = omega arith in
     subst (λ (n : ℕ). figure (share_at g n h) ≡ figure (share_at g n h')) q (f (suc b) t)) in
     λ i. by o (λ t. let q : k + 0 ≡ k = omega arith in subst (λ (n : ℕ). figure (share_at g n h) ≡ figure (share_at g n h')) q (f 0 t)) i ∷ rest i
   where
-    by : (o : Option Content) → (IsSome o → figure (share_at g k h) ≡ figure (share_at g k h')) → option_map figure (option_map (λ c. share_at g k h) o) ≡ option_map figure (option_map (λ c. share_at g k h') o)
+    by : (o : Option BucketContent) → (IsSome o → figure (share_at g k h) ≡ figure (share_at g k h')) → option_map figure (option_map (λ c. share_at g k h) o) ≡ option_map figure (option_map (λ c. share_at g k h') o)
     by None f = refl
     by (Some c) f = ap (λ (x : Figure). Some x) (f refl)
 
 -- the points and the cells of a share are of the set that the history leaves
 same_figure : (g b : ℕ) (h k : List Entry) → replay h ≡ replay k → figure (share_at g b h) ≡ figure (share_at g b k)
 same_figure g b h k e = λ i. (filter (λ p. bucket_of g p == b) (e i), filter (touches g b) (complex (e i)))
-
-and_some : {X : Type 0} (o : Option X) (x : X) (P : X → Type 0) → o ≡ Some x → P x → IsSomeAnd o P
-and_some o x P e p = subst (λ q. IsSomeAnd q P) (sym e) p
 
 -- what a commit makes of a pass
 abbrev renews : ℕ → ℕ → List Entry → View → View
@@ -137,8 +122,8 @@ commits_commute h s n m tag tag' edit edit' middle last good key key' apart firs
     record {
       middle' = mid';
       last' = end';
-      first' = (and_some (view_at s m) w _ at_w (fw.2.0, touched'), refl);
-      second' = (and_some (view_at mid' n) v _ at_v' (fv.2.0, touched), refl);
+      first' = (to_some _ (view_at s m) w at_w (fw.2.0, touched'), refl);
+      second' = (to_some _ (view_at mid' n) v at_v' (fv.2.0, touched), refl);
       reply = sym both.reply_a ∙ ap (λ (x : List ℕ). reply_to x edit) (sym q1);
       reply' = ap (λ (x : List ℕ). reply_to x edit') r1 ∙ sym both.reply_b;
       ticket = refl;

@@ -1,77 +1,26 @@
 -- The points of all buckets, gathered bucket by bucket.
-use Rattle.std.specs.Prelude.{◌≡◌, ◌⊎◌, ◌↔◌, ℕ, zero, suc, ◌+◌, ◌<◌, ◌≤◌, ◌==◌, List, [], ◌∷◌, length, take, Option, None, Some, slice_index_or}
+use Rattle.std.specs.Prelude.{◌≡◌, ◌⊎◌, ◌↔◌, ℕ, zero, suc, ◌+◌, ◌<◌, ◌≤◌, List, [], ◌∷◌, length, take, Option, Some, slice_index_or}
 use Rattle.std.specs.List.{flat_map}
-use Rattle.std.specs.Option.{option_map_or}
 use Rattle.std.proofs.Common.{refl, sym, ◌∙◌, subst, inl, inr, arith}
-use Rattle.std.proofs.lemmas.Bool.{eq-eqb}
 use Rattle.std.proofs.lemmas.List.{take_all}
+use Rattle.list_laws.proofs.Cited.{from_append, in_left, in_more, in_right, last_one, more_one, same_members}
 use Rattle.point_order.specs.Sets.{IsIn, IsAscending}
-use Rattle.point_order.proofs.SetLaws.{same-members}
 use Rattle.edit_history.specs.declared.history.Edit.TheVariants.{Add}
 use Rattle.edit_history.specs.Edits.{after}
-use Rattle.del_laws.proofs.Tests.{filtered_true, filtered_from}
-use Rattle.del_laws.proofs.Listed.{in_left, in_right, from_append}
-use Rattle.cell_store.specs.Grids.{bucket_of}
-use Rattle.cell_store.specs.Buckets.{Content, InHand, bucket_at}
+use Rattle.cell_store.specs.Buckets.{BucketContent, InHand, bucket_at}
 use Rattle.cell_store.specs.Shares.{Shows}
 use Rattle.cell_store.specs.Meshes.{AllInHand, HasPlaces, IsWhole}
-use Rattle.cell_store.proofs.GridLaws.{bucket-below}
-use Rattle.cell_store.proofs.MeshLaws.{in_flat, flat_from, point_held}
-use Rattle.cell_store.proofs.ShareLaws.{some_of}
+use Rattle.cell_store.proofs.Cited.{points_are, points_of_bucket}
 use Rattle.claim_rule.specs.Trials.{HasBoth}
 use Rattle.claim_rule.proofs.Trials.{added}
 
--- the points of a bucket
-abbrev pub points_of_bucket : Option Content → List ℕ
-points_of_bucket o = option_map_or (λ c. c.points) o []
-
 -- ---- one list more
 
-pub none_yet : (s l : List ℕ) → HasBoth s (take 0 l) s
-none_yet s [] p = (
-  (λ i. inl i),
-  (λ k. elim k [
-    | inl i ↦ i
-    | inr j ↦ absurd j
-  ]),
-)
-none_yet s (x ∷ l) p = (
-  (λ i. inl i),
-  (λ k. elim k [
-    | inl i ↦ i
-    | inr j ↦ absurd j
-  ]),
-)
-
 in_taken : (l : List ℕ) (n d p : ℕ) → n < length l → IsIn p (take (suc n) l) ↔ (IsIn p (take n l) ⊎ (slice_index_or l n d ≡ p))
-in_taken [] n d p h = absurd (omega arith)
-in_taken (x ∷ l) zero d p h = (
-  (λ i. elim i [
-    | inl e ↦ inr e
-    | inr j ↦ absurd j
-  ]),
-  (λ k. elim k [
-    | inl j ↦ absurd j
-    | inr e ↦ inl e
-  ]),
+in_taken l n d p h = (
+  λ m. in_more l n (slice_index_or l n d) d p h refl m,
+  λ k. elim k [ inl m ↦ more_one l n p m | inr e ↦ subst (λ v. IsIn v (take (suc n) l)) e (last_one l n (slice_index_or l n d) d h refl) ],
 )
-in_taken (x ∷ l) (suc n) d p h =
-    let r = in_taken l n d p (omega arith) in (
-      (λ i. elim i [
-        | inl e ↦ inl (inl e)
-        | inr j ↦ elim (r.0 j) [
-          | inl k ↦ inl (inr k)
-          | inr e ↦ inr e
-        ]
-      ]),
-      (λ k. elim k [
-        | inl i ↦ elim i [
-          | inl e ↦ inl e
-          | inr j ↦ inr (r.1 (inl j))
-        ]
-        | inr e ↦ inr (r.1 (inr e))
-      ]),
-    )
 
 -- one point more
 pub one_more : (s t u l : List ℕ) (n x : ℕ) → n < length l → x ≡ slice_index_or l n x → HasBoth s (take n l) t → u ≡ after t (Add x) → HasBoth s (take (n + 1) l) u
@@ -101,14 +50,14 @@ all_more s t l n h b = subst (λ (m : List ℕ). HasBoth s m t) (take_all n l h)
 -- ---- bucket by bucket
 
 -- the set has the points of the buckets below b
-abbrev pub HasBelow : List (Option Content) → ℕ → List ℕ → Type 0
+abbrev pub HasBelow : List (Option BucketContent) → ℕ → List ℕ → Type 0
 HasBelow places b s = (p : ℕ) → IsIn p s ↔ IsIn p (flat_map points_of_bucket (take b places))
 
-pub none_below : (places : List (Option Content)) → HasBelow places 0 []
+pub none_below : (places : List (Option BucketContent)) → HasBelow places 0 []
 none_below [] p = ((λ i. i), (λ i. i))
 none_below (o ∷ places) p = ((λ i. i), (λ i. i))
 
-in_next : (l : List (Option Content)) (n : ℕ) (p : ℕ) → n < length l → IsIn p (flat_map points_of_bucket (take (suc n) l)) ↔ (IsIn p (flat_map points_of_bucket (take n l)) ⊎ IsIn p (points_of_bucket (bucket_at l n)))
+in_next : (l : List (Option BucketContent)) (n : ℕ) (p : ℕ) → n < length l → IsIn p (flat_map points_of_bucket (take (suc n) l)) ↔ (IsIn p (flat_map points_of_bucket (take n l)) ⊎ IsIn p (points_of_bucket (bucket_at l n)))
 in_next [] n p h = absurd (omega arith)
 in_next (o ∷ l) zero p h = (
   (λ i. elim (from_append p (points_of_bucket o) [] i) [
@@ -142,10 +91,10 @@ in_next (o ∷ l) (suc n) p h =
     )
 
 -- one bucket more
-pub bucket_more : (places : List (Option Content)) (b : ℕ) (c : Content) (s t : List ℕ) → b < length places → bucket_at places b ≡ Some c → HasBelow places b s → HasBoth s c.points t → HasBelow places (b + 1) t
+pub bucket_more : (places : List (Option BucketContent)) (b : ℕ) (c : BucketContent) (s t : List ℕ) → b < length places → bucket_at places b ≡ Some c → HasBelow places b s → HasBoth s c.points t → HasBelow places (b + 1) t
 bucket_more places b c s t h e below both p =
     let q : b + 1 ≡ suc b = omega arith in
-    let next = subst (λ (o : Option Content). IsIn p (flat_map points_of_bucket (take (suc b) places)) ↔ (IsIn p (flat_map points_of_bucket (take b places)) ⊎ IsIn p (points_of_bucket o))) e (in_next places b p h) in
+    let next = subst (λ (o : Option BucketContent). IsIn p (flat_map points_of_bucket (take (suc b) places)) ↔ (IsIn p (flat_map points_of_bucket (take b places)) ⊎ IsIn p (points_of_bucket o))) e (in_next places b p h) in
     subst (λ (m : ℕ). IsIn p t ↔ IsIn p (flat_map points_of_bucket (take m places))) (sym q) (
       (λ i. elim ((both p).0 i) [
         | inl j ↦ next.1 (inl ((below p).0 j))
@@ -157,30 +106,11 @@ bucket_more places b c s t h e below both p =
       ]),
     )
 
--- the points of all buckets are those of the set that is shown
-points_are : (hold : InHand) (s : List ℕ) → IsWhole hold → Shows hold s → (p : ℕ) → IsIn p (flat_map points_of_bucket hold.places) ↔ IsIn p s
-points_are hold s w sh p = (forth, back)
-  where
-    known : (b : ℕ) (o : Option Content) → bucket_at hold.places b ≡ o → IsIn p (points_of_bucket o) → IsIn p s
-    known b None e k = absurd k
-    known b (Some x) e k = (filtered_from (λ q. bucket_of hold.grid q == b) s p (subst (λ (l : List ℕ). IsIn p l) ((sh.sights b x e).points) k)).0
-
-    forth : IsIn p (flat_map points_of_bucket hold.places) → IsIn p s
-    forth k = let r = flat_from points_of_bucket hold.places None p k in known r.0 (bucket_at hold.places r.0) refl r.1
-
-    back : IsIn p s → IsIn p (flat_map points_of_bucket hold.places)
-    back k =
-        let b = bucket_of hold.grid p in
-        let x = some_of (bucket_at hold.places b) (point_held hold p w.has w.all) in
-        let j = filtered_true (λ q. bucket_of hold.grid q == b) s p k (eq-eqb b b refl) in
-        in_flat points_of_bucket hold.places b None p (subst (λ n. b < n) (sym w.has.places) (bucket-below hold.grid p w.has.size))
-        (subst (λ o. IsIn p (points_of_bucket o)) (sym x.1) (subst (λ (l : List ℕ). IsIn p l) (sym (sh.sights b x.0 x.1).points) j))
-
 -- with all buckets the set is the one that is shown
 pub gathered : (hold : InHand) (b : ℕ) (set s : List ℕ) → HasPlaces hold → AllInHand hold → length hold.places ≤ b → HasBelow hold.places b set → IsAscending set → Shows hold s → set ≡ s
 gathered hold b set s has all h below order sh =
     let w : IsWhole hold = record { has = has; all = all } in
     let e : take b hold.places ≡ hold.places = take_all b hold.places h in
-    same-members set s order sh.ascending
-    (λ p i. (points_are hold s w sh p).0 (subst (λ (l : List (Option Content)). IsIn p (flat_map points_of_bucket l)) e ((below p).0 i)))
-    (λ p i. (below p).1 (subst (λ (l : List (Option Content)). IsIn p (flat_map points_of_bucket l)) (sym e) ((points_are hold s w sh p).1 i)))
+    same_members set s order sh.ascending
+    (λ p i. (points_are hold s w sh p).0 (subst (λ (l : List (Option BucketContent)). IsIn p (flat_map points_of_bucket l)) e ((below p).0 i)))
+    (λ p i. (below p).1 (subst (λ (l : List (Option BucketContent)). IsIn p (flat_map points_of_bucket l)) (sym e) ((points_are hold s w sh p).1 i)))

@@ -2,11 +2,11 @@
 use Rattle.std.specs.Prelude.{◌≡◌, ◌⊎◌, ℕ, zero, suc, ◌+◌, ◌<◌, ◌≤◌, true, List, [], ◌∷◌, ◌++◌, All, drop, length}
 use Rattle.std.proofs.Common.{refl, ◌∙◌, ap, subst, inl, inr, arith}
 use Rattle.std.proofs.lemmas.Bool.Decides.{nat_tests}
+use Rattle.list_laws.proofs.Cited.{filtered_from}
 use Rattle.point_order.specs.Sets.{IsIn}
 use Rattle.edit_history.specs.declared.history.Entry.{Entry}
 use Rattle.edit_history.specs.Histories.{IsLegal}
-use Rattle.edit_history.proofs.OneMore.{number_below}
-use Rattle.del_laws.proofs.Tests.{filtered_from}
+use Rattle.edit_history.proofs.Cited.{number_below}
 use Rattle.claim_rule.specs.Boards.{is_by, made_by}
 use Rattle.claim_rule.specs.Good.{StartsWith}
 

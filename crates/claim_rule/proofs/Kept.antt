@@ -1,38 +1,34 @@
 -- What an event does to a board that is kept in one hold with words.
-use Rattle.std.specs.Prelude.{◌≡◌, ◌≢◌, ℕ, zero, suc, Bool, true, false, ◌<◌, ◌==◌, List, [], ◌∷◌, Option, None, Some, IsSomeAnd, map, length, slice_index_or, slice_set, if◌then◌else◌}
+use Rattle.std.specs.Prelude.{◌≡◌, ◌≢◌, ℕ, zero, suc, Bool, true, false, ◌<◌, List, [], ◌∷◌, Option, None, Some, map, length, slice_index_or, slice_set, if◌then◌else◌}
 use Rattle.std.specs.Option.{option_map}
-use Rattle.std.proofs.Common.{refl, sym, ◌∙◌, ap, subst, arith}
-use Rattle.std.proofs.lemmas.Bool.{eq-eqb}
+use Rattle.std.proofs.Common.{refl, sym, ◌∙◌, ap, arith}
 use Rattle.std.proofs.lemmas.List.{set-get_or}
-use Rattle.cell_store.specs.Buckets.{Content, bucket_at}
+use Rattle.cell_store.specs.Buckets.{BucketContent, bucket_at}
 use Rattle.claim_rule.specs.Boards.{View}
 use Rattle.claim_rule.specs.Events.{with_view}
 use Rattle.claim_rule.specs.Kept.{whose}
 
-pub eq_same : (n : ℕ) → (n == n) ≡ true
-eq_same n = eq-eqb n n refl
-
 -- a content, if the test passes
-abbrev pub if_so : Bool → Option Content → Option Content
+abbrev pub if_so : Bool → Option BucketContent → Option BucketContent
 if_so t o = if t then o else None
 
 none_so : (t : Bool) → None ≡ if_so t None
 none_so true = refl
 none_so false = refl
 
-pub whose_length : (t : ℕ → Bool) (words : List ℕ) (places : List (Option Content)) → length (whose t words places) ≡ length words
+pub whose_length : (t : ℕ → Bool) (words : List ℕ) (places : List (Option BucketContent)) → length (whose t words places) ≡ length words
 whose_length t [] places = refl
 whose_length t (w ∷ words) [] = ap suc (whose_length t words [])
 whose_length t (w ∷ words) (o ∷ places) = ap suc (whose_length t words places)
 
-pub whose_at : (t : ℕ → Bool) (words : List ℕ) (places : List (Option Content)) (b : ℕ) → b < length words → bucket_at (whose t words places) b ≡ if_so (t (slice_index_or words b 0)) (bucket_at places b)
+pub whose_at : (t : ℕ → Bool) (words : List ℕ) (places : List (Option BucketContent)) (b : ℕ) → b < length words → bucket_at (whose t words places) b ≡ if_so (t (slice_index_or words b 0)) (bucket_at places b)
 whose_at t [] places b h = absurd (omega arith)
 whose_at t (w ∷ words) [] zero h = none_so (t w)
 whose_at t (w ∷ words) (o ∷ places) zero h = refl
 whose_at t (w ∷ words) [] (suc b) h = whose_at t words [] b (omega arith)
 whose_at t (w ∷ words) (o ∷ places) (suc b) h = whose_at t words places b (omega arith)
 
-pub whose_set : (t : ℕ → Bool) (words : List ℕ) (places : List (Option Content)) (b w : ℕ) → b < length words → whose t (slice_set words b w) places ≡ slice_set (whose t words places) b (if_so (t w) (bucket_at places b))
+pub whose_set : (t : ℕ → Bool) (words : List ℕ) (places : List (Option BucketContent)) (b w : ℕ) → b < length words → whose t (slice_set words b w) places ≡ slice_set (whose t words places) b (if_so (t w) (bucket_at places b))
 whose_set t [] places b w h = absurd (omega arith)
 whose_set t (u ∷ words) [] zero w h = ap (λ o. o ∷ whose t words []) (none_so (t w))
 whose_set t (u ∷ words) (o ∷ places) zero w h = refl
@@ -40,7 +36,7 @@ whose_set t (u ∷ words) [] (suc b) w h = ap (λ l. None ∷ l) (whose_set t wo
 whose_set t (u ∷ words) (o ∷ places) (suc b) w h = ap (λ l. (if t u then o else None) ∷ l) (whose_set t words places b w (omega arith))
 
 -- a word that passes neither before nor after changes nothing
-pub whose_same : (t : ℕ → Bool) (words : List ℕ) (places : List (Option Content)) (b w : ℕ) → b < length words → t (slice_index_or words b 0) ≡ false → t w ≡ false → whose t (slice_set words b w) places ≡ whose t words places
+pub whose_same : (t : ℕ → Bool) (words : List ℕ) (places : List (Option BucketContent)) (b w : ℕ) → b < length words → t (slice_index_or words b 0) ≡ false → t w ≡ false → whose t (slice_set words b w) places ≡ whose t words places
 whose_same t words places b w h e f =
     let was : bucket_at (whose t words places) b ≡ None = whose_at t words places b h ∙ ap (λ k. if_so k (bucket_at places b)) e in
     whose_set t words places b w h ∙ ap (λ k. slice_set (whose t words places) b (if_so k (bucket_at places b))) f ∙ ap (λ o. slice_set (whose t words places) b o) (sym was) ∙ set-get_or (whose t words places) b None
@@ -66,6 +62,3 @@ seats_changed f f' g (None ∷ seats) zero a b = ap (λ l. None ∷ l) (map_same
 seats_changed f f' g (Some y ∷ seats) zero a b = ap (λ v. Some v ∷ map (option_map f') seats) (b y refl) ∙ ap (λ l. Some (g (f y)) ∷ l) (map_same f f' seats (λ i x e. a (suc i) x e (λ q. omega arith)))
 seats_changed f f' g (None ∷ seats) (suc n) a b = ap (λ l. None ∷ l) (seats_changed f f' g seats n (λ i x e d. a (suc i) x e (λ q. d (omega (arith, q)))) b)
 seats_changed f f' g (Some y ∷ seats) (suc n) a b = ap (λ v. Some v ∷ map (option_map f') seats) (a 0 y refl (λ q. omega arith)) ∙ ap (λ l. Some (f y) ∷ l) (seats_changed f f' g seats n (λ i x e d. a (suc i) x e (λ q. d (omega (arith, q)))) b)
-
-pub and_some : {X : Type 0} (o : Option X) (P : X → Type 0) (x : X) → o ≡ Some x → P x → IsSomeAnd o P
-and_some o P x e p = subst (λ q. IsSomeAnd q P) (sym e) p

@@ -20,3 +20,4 @@ pub mod Trials
 pub mod Gathered
 pub mod Began
 pub mod Committing
+pub mod Cited

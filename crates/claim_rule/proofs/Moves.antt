@@ -3,7 +3,7 @@ use Rattle.std.specs.Prelude.{◌≡◌, ◌≢◌, ℕ, false, ◌+◌, ◌<◌
 use Rattle.std.specs.Option.{option_map, option_and_then}
 use Rattle.std.proofs.Common.{refl, sym, ◌∙◌, ap, subst, arith, ne_eqb}
 use Rattle.edit_history.specs.declared.history.Entry.{Entry}
-use Rattle.cell_store.specs.Buckets.{Content, bucket_at}
+use Rattle.cell_store.specs.Buckets.{BucketContent, bucket_at}
 use Rattle.claim_rule.specs.declared.board.Seat.{Seat}
 use Rattle.claim_rule.specs.declared.event.Event.{Event}
 use Rattle.claim_rule.specs.declared.event.Event.TheVariants.{Claim, Release, Look}
@@ -11,13 +11,13 @@ use Rattle.claim_rule.specs.declared.event.Played.{Played}
 use Rattle.claim_rule.specs.declared.event.Played.TheVariants.{Done, Taken}
 use Rattle.claim_rule.specs.Boards.{View, BoardState, view_at, word_of}
 use Rattle.claim_rule.specs.Good.{IsGood, Good}
-use Rattle.claim_rule.specs.Events.{Next, HasKey, CanClaim, CanRelease, with_view, history_after}
+use Rattle.claim_rule.specs.Events.{Next, HasKey, CanRelease, with_view, history_after}
 use Rattle.claim_rule.specs.Kept.{homes_of, held_by, view_of, views_of, kept}
-use Rattle.claim_rule.proofs.Places.{some_and, one_value, within_some, none_there}
 use Rattle.std.proofs.lemmas.List.{map-set}
+use Rattle.list_laws.proofs.Cited.{eq_same, some_and, to_some, within_some}
 use Rattle.claim_rule.proofs.Steps.{live_at}
 use Rattle.claim_rule.proofs.Events.{events_keep_good}
-use Rattle.claim_rule.proofs.Kept.{if_so, eq_same, whose_at, whose_set, whose_same, seen_at, seats_changed, and_some}
+use Rattle.claim_rule.proofs.Kept.{if_so, whose_at, whose_set, whose_same, seen_at, seats_changed}
 
 pub good_by : (h : List Entry) (s : BoardState) (event : Event) (answer : Played) (s' : BoardState) → IsGood s h → HasKey event → Next h s event answer s' → Good s'
 good_by h s event answer s' good key next = (history_after h s event answer, events_keep_good h s event answer s' good key next)
@@ -26,33 +26,26 @@ good_by h s event answer s' good key next = (history_after h s event answer, eve
 pub seen_as : (h : List Entry) (s t : BoardState) (event : Event) (answer : Played) (s' : BoardState) → s ≡ t → Next h s event answer s' → Next h t event answer s'
 seen_as h s t event answer s' e next = subst (λ (x : BoardState). Next h x event answer s') e next
 
-pub live_view : (words : List ℕ) (places : List (Option Content)) (seats : List (Option Seat)) (n : ℕ) (seat : Seat) → slice_index_or seats n None ≡ Some seat → slice_index_or (views_of words places seats) n None ≡ Some (view_of words places seat)
+pub live_view : (words : List ℕ) (places : List (Option BucketContent)) (seats : List (Option Seat)) (n : ℕ) (seat : Seat) → slice_index_or seats n None ≡ Some seat → slice_index_or (views_of words places seats) n None ≡ Some (view_of words places seat)
 live_view words places seats n seat e = seen_at (view_of words places) seats n ∙ ap (option_map (view_of words places)) e
 
-pub no_view : (words : List ℕ) (places : List (Option Content)) (seats : List (Option Seat)) (n : ℕ) → slice_index_or seats n None ≡ None → slice_index_or (views_of words places seats) n None ≡ None
-no_view words places seats n e = seen_at (view_of words places) seats n ∙ ap (option_map (view_of words places)) e
-
-pub first_is : (g parts most : ℕ) (opening : List Entry) (ticket : ℕ) (words : List ℕ) (places : List (Option Content)) (seats : List (Option Seat)) (h : List Entry) → IsGood (kept g parts most opening ticket words places seats) h →
+pub first_is : (g parts most : ℕ) (opening : List Entry) (ticket : ℕ) (words : List ℕ) (places : List (Option BucketContent)) (seats : List (Option Seat)) (h : List Entry) → IsGood (kept g parts most opening ticket words places seats) h →
     (i : ℕ) (x : Seat) → slice_index_or seats i None ≡ Some x → x.first ≡ i
 first_is g parts most opening ticket words places seats h good i x e = good.shape.named i (view_of words places x) (live_view words places seats i x e)
 
--- a pass that no word names may have no bucket
-no_and : {X : Type 0} (o : Option X) (P : X → Type 0) → o ≡ None → IsSomeAnd o P → ⊥
-no_and o P e p = subst (λ q. IsSomeAnd q P) e p
-
-same_held : (words words' : List ℕ) (places : List (Option Content)) (x : Seat) → held_by x.first words' places ≡ held_by x.first words places → view_of words' places x ≡ view_of words places x
+same_held : (words words' : List ℕ) (places : List (Option BucketContent)) (x : Seat) → held_by x.first words' places ≡ held_by x.first words places → view_of words' places x ≡ view_of words places x
 same_held words words' places x e = ap (λ l. record { first = x.first; parts = x.parts; left = x.left; seen = x.seen; since = x.since; held = l }) e
 
 some_from : {X : Type 0} (f : X → View) (o : Option X) (v : View) → option_map f o ≡ Some v → IsSome o
 some_from f None v e = absurd (cc e)
 some_from f (Some x) v e = refl
 
-pub from_view : (words : List ℕ) (places : List (Option Content)) (seats : List (Option Seat)) (n : ℕ) (v : View) → slice_index_or (views_of words places seats) n None ≡ Some v → IsSome (slice_index_or seats n None)
+pub from_view : (words : List ℕ) (places : List (Option BucketContent)) (seats : List (Option Seat)) (n : ℕ) (v : View) → slice_index_or (views_of words places seats) n None ≡ Some v → IsSome (slice_index_or seats n None)
 from_view words places seats n v e = some_from (view_of words places) (slice_index_or seats n None) v (sym (seen_at (view_of words places) seats n) ∙ e)
 
 -- ---- claim
 
-pub claim_next : (g parts most : ℕ) (opening : List Entry) (ticket : ℕ) (words : List ℕ) (places : List (Option Content)) (seats : List (Option Seat)) (n b : ℕ) (seat : Seat) (h : List Entry) →
+pub claim_next : (g parts most : ℕ) (opening : List Entry) (ticket : ℕ) (words : List ℕ) (places : List (Option BucketContent)) (seats : List (Option Seat)) (n b : ℕ) (seat : Seat) (h : List Entry) →
     IsGood (kept g parts most opening ticket words places seats) h → slice_index_or seats n None ≡ Some seat → b < length words → slice_index_or words b 0 ≡ 0 →
     Next h (kept g parts most opening ticket words places seats) (Claim n b) Done (kept g parts most opening ticket (slice_set words b (n + 1)) places seats)
 claim_next g parts most opening ticket words places seats n b seat h good live below home =
@@ -60,7 +53,7 @@ claim_next g parts most opening ticket words places seats n b seat h good live b
     let f : Seat → View = view_of words places in
     let words' : List ℕ = slice_set words b (n + 1) in
     let f' : Seat → View = view_of words' places in
-    let p : Option Content = bucket_at places b in
+    let p : Option BucketContent = bucket_at places b in
     let named : (i : ℕ) (x : Seat) → slice_index_or seats i None ≡ Some x → x.first ≡ i = first_is g parts most opening ticket words places seats h good in
     let away : (k : ℕ) → (slice_index_or words b 0 == k + 1) ≡ false = λ k. ap (λ w. w == k + 1) home ∙ ne_eqb 0 (k + 1) (λ q. omega (arith, q)) in
     let home_is : bucket_at s.homes b ≡ p = whose_at (λ w. w == 0) words places b below ∙ ap (λ w. if_so (w == 0) p) home in
@@ -75,14 +68,14 @@ claim_next g parts most opening ticket words places seats n b seat h good live b
     (whose_set (λ w. w == x.first + 1) words places b (n + 1) below
     ∙ ap (λ k. slice_set (f x).held b (if_so k p)) (ap (λ k. (n + 1) == (k + 1)) (named n x e) ∙ eq_same (n + 1))
     ∙ ap (λ o. slice_set (f x).held b o) (sym home_is))) in (
-      (below, and_some (view_at s n) (λ v. bucket_at v.held b ≡ None) (f seat) (live_view words places seats n seat live) lacks),
+      (below, to_some (λ v. bucket_at v.held b ≡ None) (view_at s n) (f seat) (live_view words places seats n seat live) lacks),
       home,
       ap (λ hs. record s { words = words'; homes = hs; views = views_of words' places seats }) homes_are
           ∙ ap (λ vs. record s { words = words'; homes = slice_set s.homes b None; views = vs }) views_are,
     )
 
 -- the word of another's bucket
-pub claim_taken : (g parts most : ℕ) (opening : List Entry) (ticket : ℕ) (words : List ℕ) (places : List (Option Content)) (seats : List (Option Seat)) (n b : ℕ) (seat : Seat) (h : List Entry) →
+pub claim_taken : (g parts most : ℕ) (opening : List Entry) (ticket : ℕ) (words : List ℕ) (places : List (Option BucketContent)) (seats : List (Option Seat)) (n b : ℕ) (seat : Seat) (h : List Entry) →
     IsGood (kept g parts most opening ticket words places seats) h → slice_index_or seats n None ≡ Some seat → b < length words → slice_index_or words b 0 ≢ 0 → slice_index_or words b 0 ≢ n + 1 →
     Next h (kept g parts most opening ticket words places seats) (Claim n b) (Taken (slice_index_or words b 0)) (kept g parts most opening ticket words places seats)
 claim_taken g parts most opening ticket words places seats n b seat h good live below home other =
@@ -91,20 +84,20 @@ claim_taken g parts most opening ticket words places seats n b seat h good live 
     let first : seat.first ≡ n = first_is g parts most opening ticket words places seats h good n seat live in
     let lacks : bucket_at (f seat).held b ≡ None = whose_at (λ w. w == seat.first + 1) words places b below
     ∙ ap (λ k. if_so k (bucket_at places b)) (ne_eqb (slice_index_or words b 0) (seat.first + 1) (λ q. other (q ∙ ap (λ k. k + 1) first))) in
-    ((below, and_some (view_at s n) (λ v. bucket_at v.held b ≡ None) (f seat) (live_view words places seats n seat live) lacks), home, refl, refl)
+    ((below, to_some (λ v. bucket_at v.held b ≡ None) (view_at s n) (f seat) (live_view words places seats n seat live) lacks), home, refl, refl)
 
 -- ---- what a word that names the pass says
 
-pub named_holds : (g parts most : ℕ) (opening : List Entry) (ticket : ℕ) (words : List ℕ) (places : List (Option Content)) (seats : List (Option Seat)) (n b : ℕ) (h : List Entry) →
+pub named_holds : (g parts most : ℕ) (opening : List Entry) (ticket : ℕ) (words : List ℕ) (places : List (Option BucketContent)) (seats : List (Option Seat)) (n b : ℕ) (h : List Entry) →
     IsGood (kept g parts most opening ticket words places seats) h → b < length words → slice_index_or words b 0 ≡ n + 1 → CanRelease (kept g parts most opening ticket words places seats) n b
 named_holds g parts most opening ticket words places seats n b h good below named =
     let s : BoardState = kept g parts most opening ticket words places seats in
     let u = good.away b below (λ q. omega (arith, q, named)) in
     let word : word_of s b ≡ u.view.first + 1 = (good.passes u.view u.live).words b u.holds in
     let is_n : u.view.first ≡ n = omega (arith, word, named) in
-    and_some (view_at s n) (λ v. IsSome (bucket_at v.held b)) u.view (ap (λ k. view_at s k) (sym is_n) ∙ u.live) u.holds
+    to_some (λ v. IsSome (bucket_at v.held b)) (view_at s n) u.view (ap (λ k. view_at s k) (sym is_n) ∙ u.live) u.holds
 
-pub holds_named : (g parts most : ℕ) (opening : List Entry) (ticket : ℕ) (words : List ℕ) (places : List (Option Content)) (seats : List (Option Seat)) (n b : ℕ) (h : List Entry) →
+pub holds_named : (g parts most : ℕ) (opening : List Entry) (ticket : ℕ) (words : List ℕ) (places : List (Option BucketContent)) (seats : List (Option Seat)) (n b : ℕ) (h : List Entry) →
     IsGood (kept g parts most opening ticket words places seats) h → CanRelease (kept g parts most opening ticket words places seats) n b → (b < length words) × (slice_index_or words b 0 ≡ n + 1)
 holds_named g parts most opening ticket words places seats n b h good can =
     let s : BoardState = kept g parts most opening ticket words places seats in
@@ -115,23 +108,14 @@ holds_named g parts most opening ticket words places seats n b h good can =
     (let l = within_some v.0.held b v.2 in let m = ok.places in omega (arith, l, m), ok.words b v.2 ∙ ap (λ k. k + 1) first)
 
 -- a pass that is not live cannot claim or release
-pub no_release : (words : List ℕ) (places : List (Option Content)) (seats : List (Option Seat)) (n b : ℕ) → (IsSome (slice_index_or seats n None) → ⊥) → IsSomeAnd (slice_index_or (views_of words places seats) n None) (λ v. IsSome (bucket_at v.held b)) → ⊥
+pub no_release : (words : List ℕ) (places : List (Option BucketContent)) (seats : List (Option Seat)) (n b : ℕ) → (IsSome (slice_index_or seats n None) → ⊥) → IsSomeAnd (slice_index_or (views_of words places seats) n None) (λ v. IsSome (bucket_at v.held b)) → ⊥
 no_release words places seats n b not can =
     let v = some_and (slice_index_or (views_of words places seats) n None) (λ v. IsSome (bucket_at v.held b)) can in
     not (from_view words places seats n v.0 v.1)
 
-pub claim_short : (g parts most : ℕ) (opening : List Entry) (ticket : ℕ) (words : List ℕ) (places : List (Option Content)) (seats : List (Option Seat)) (n b : ℕ) (h : List Entry) →
-    IsGood (kept g parts most opening ticket words places seats) h → slice_index_or words b 0 ≡ n + 1 → CanClaim (kept g parts most opening ticket words places seats) n b → ⊥
-claim_short g parts most opening ticket words places seats n b h good named can =
-    let s : BoardState = kept g parts most opening ticket words places seats in
-    let v = some_and (view_at s n) (λ v. bucket_at v.held b ≡ None) can.1 in
-    let r = some_and (view_at s n) (λ v. IsSome (bucket_at v.held b)) (named_holds g parts most opening ticket words places seats n b h good can.0 named) in
-    let same : r.0 ≡ v.0 = one_value r.0 v.0 (sym r.1 ∙ v.1) in
-    none_there (bucket_at v.0.held b) v.2 (subst (λ (x : View). IsSome (bucket_at x.held b)) same r.2)
-
 -- ---- release
 
-pub release_next : (g parts most : ℕ) (opening : List Entry) (ticket : ℕ) (words : List ℕ) (places : List (Option Content)) (seats : List (Option Seat)) (n b : ℕ) (seat : Seat) (h : List Entry) →
+pub release_next : (g parts most : ℕ) (opening : List Entry) (ticket : ℕ) (words : List ℕ) (places : List (Option BucketContent)) (seats : List (Option Seat)) (n b : ℕ) (seat : Seat) (h : List Entry) →
     IsGood (kept g parts most opening ticket words places seats) h → slice_index_or seats n None ≡ Some seat → b < length words → slice_index_or words b 0 ≡ n + 1 →
     Next h (kept g parts most opening ticket words places seats) (Release n b) Done (kept g parts most opening ticket (slice_set words b 0) places seats)
 release_next g parts most opening ticket words places seats n b seat h good live below word =
@@ -139,7 +123,7 @@ release_next g parts most opening ticket words places seats n b seat h good live
     let f : Seat → View = view_of words places in
     let words' : List ℕ = slice_set words b 0 in
     let f' : Seat → View = view_of words' places in
-    let p : Option Content = bucket_at places b in
+    let p : Option BucketContent = bucket_at places b in
     let named : (i : ℕ) (x : Seat) → slice_index_or seats i None ≡ Some x → x.first ≡ i = first_is g parts most opening ticket words places seats h good in
     let zero_is : (k : ℕ) → (0 == k + 1) ≡ false = λ k. ne_eqb 0 (k + 1) (λ q. omega (arith, q)) in
     let held_is : bucket_at (f seat).held b ≡ p = whose_at (λ w. w == seat.first + 1) words places b below
@@ -162,7 +146,7 @@ release_next g parts most opening ticket words places seats n b seat h good live
 
 -- ---- look
 
-pub look_next : (g parts most : ℕ) (opening : List Entry) (ticket : ℕ) (words : List ℕ) (places : List (Option Content)) (seats : List (Option Seat)) (n : ℕ) (seat : Seat) (h : List Entry) →
+pub look_next : (g parts most : ℕ) (opening : List Entry) (ticket : ℕ) (words : List ℕ) (places : List (Option BucketContent)) (seats : List (Option Seat)) (n : ℕ) (seat : Seat) (h : List Entry) →
     slice_index_or seats n None ≡ Some seat →
     Next h (kept g parts most opening ticket words places seats) (Look n) Done (kept g parts most opening ticket words places (slice_set seats n (Some (record seat { seen = ticket }))))
 look_next g parts most opening ticket words places seats n seat h live =

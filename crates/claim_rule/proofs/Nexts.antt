@@ -14,9 +14,7 @@ use Rattle.cell_store.specs.Swaps.{without_cells}
 use Rattle.cell_store.specs.Shares.{IsSound, share_at}
 use Rattle.cell_store.specs.Changes.{IsChange, IsNext}
 use Rattle.cell_store.specs.Touches.{IsTouched}
-use Rattle.cell_store.proofs.NextLaws.{next_entry}
-use Rattle.cell_store.proofs.ShareLaws.{ascending_replay}
-use Rattle.cell_store.proofs.TouchLaws.{left_out, all_out, share_outside}
+use Rattle.cell_store.proofs.Cited.{all_out, ascending_replay, left_out, next_entry, share_outside}
 use Rattle.claim_rule.specs.Boards.{BoardState}
 use Rattle.claim_rule.specs.Good.{IsGood}
 use Rattle.claim_rule.specs.Events.{entry_after}

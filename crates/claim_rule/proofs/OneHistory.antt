@@ -1,21 +1,21 @@
 -- A board is good with one history.
 use Rattle.std.specs.Prelude.{◌≡◌, ℕ, zero, suc, ◌+◌, ◌*◌, ◌<◌, true, List, Option, Some, length}
 use Rattle.std.proofs.Common.{refl, sym, ◌∙◌, ap, arith}
+use Rattle.list_laws.proofs.Cited.{is_there, one_value, some_of, within}
 use mathlib.Core.Logic.{dite}
 use native.Mathlib.Decide.{ℕ_discrete}
 use Rattle.point_order.specs.Solid.{is_solid}
 use Rattle.edit_history.specs.declared.history.Entry.{Entry}
 use Rattle.edit_history.specs.Histories.{replay, IsLegal}
 use Rattle.del_laws.specs.Keys.{AreKeys}
-use Rattle.cell_store.specs.Buckets.{Content, InHand, bucket_at}
+use Rattle.cell_store.specs.Buckets.{BucketContent, InHand, bucket_at}
 use Rattle.cell_store.specs.Shares.{Stands, IsShare, share_at}
 use Rattle.cell_store.specs.Meshes.{IsWhole}
-use Rattle.cell_store.proofs.MeshLaws.{history_is}
+use Rattle.cell_store.proofs.Cited.{history_is}
 use Rattle.claim_rule.specs.Boards.{BoardState, word_of, in_hand_of}
 use Rattle.claim_rule.specs.Good.{AreSharesOf, IsGood}
 use Rattle.claim_rule.specs.Opening.{shares_from}
 use Rattle.claim_rule.specs.Laws.{OneHistory}
-use Rattle.claim_rule.proofs.Places.{is_there, some_of, within, one_value}
 
 pub shares_count : (g : ℕ) (h : List Entry) (k n : ℕ) → length (shares_from g h k n) ≡ n
 shares_count g h k zero = refl
@@ -37,10 +37,10 @@ only_shares g h b c e =
     let q = shares_count g h 0 (g * g * g) in
     one_value c (share_at g b h) (sym e ∙ all_shares g h b (omega (arith, i, q)))
 
-pub is_share : (g b : ℕ) (h : List Entry) (c : Content) → c ≡ share_at g b h → IsShare g b h c
-is_share g b h c e = record { points = ap (λ (x : Content). x.points) e; cells = ap (λ (x : Content). x.cells) e; entries = ap (λ (x : Content). x.entries) e }
+pub is_share : (g b : ℕ) (h : List Entry) (c : BucketContent) → c ≡ share_at g b h → IsShare g b h c
+is_share g b h c e = record { points = ap (λ (x : BucketContent). x.points) e; cells = ap (λ (x : BucketContent). x.cells) e; entries = ap (λ (x : BucketContent). x.entries) e }
 
-pub stands_for : (g : ℕ) (h : List Entry) (places : List (Option Content)) → IsLegal h → AreKeys (replay h) → is_solid (replay h) ≡ true → AreSharesOf g h places → Stands (in_hand_of g places) h
+pub stands_for : (g : ℕ) (h : List Entry) (places : List (Option BucketContent)) → IsLegal h → AreKeys (replay h) → is_solid (replay h) ≡ true → AreSharesOf g h places → Stands (in_hand_of g places) h
 stands_for g h places legal keys solid sh = record { legal = legal; keys = keys; solid = solid; shares = λ b c e. is_share g b h c (sh b c e) }
 
 -- each bucket's content is somewhere, and a share of both
@@ -56,7 +56,7 @@ both_shares s h k b good good' l =
 pub one_history_of_board : OneHistory
 one_history_of_board s h k good good' =
     let g : ℕ = s.grid in
-    let places : List (Option Content) = shares_from g h 0 (g * g * g) in
+    let places : List (Option BucketContent) = shares_from g h 0 (g * g * g) in
     let count = shares_count g h 0 (g * g * g) in
     let hold : InHand = in_hand_of g places in
     let of_h : AreSharesOf g h places = only_shares g h in

@@ -3,14 +3,15 @@ use Rattle.std.specs.Prelude.{◌≡◌, ℕ, zero, suc, ◌-◌, ◌*◌, ◌<�
 use Rattle.std.specs.List.{filter}
 use Rattle.std.proofs.Common.{refl, sym, ◌∙◌, ap, subst, arith}
 use Rattle.std.proofs.lemmas.List.{append-nil, length-replicate}
+use Rattle.list_laws.proofs.Cited.{is_there, none_at, none_there, nothing, one_value, zero_at}
 use Rattle.edit_history.specs.declared.history.Entry.{Entry}
-use Rattle.cell_store.specs.Buckets.{Content, bucket_at}
+use Rattle.cell_store.specs.Buckets.{BucketContent, bucket_at}
 use Rattle.claim_rule.specs.Boards.{View, BoardState, IsLive, is_by, made_by}
 use Rattle.claim_rule.specs.Good.{IsInOrder}
 use Rattle.cell_store.specs.Shares.{share_at}
 use Rattle.claim_rule.specs.Opening.{shares_from, opening_board}
 use Rattle.claim_rule.specs.Laws.{OpeningIsGood}
-use Rattle.claim_rule.proofs.Places.{nothing, is_there, none_at, zero_at, one_value, none_there, left_none}
+use Rattle.claim_rule.proofs.Places.{left_none}
 use Rattle.claim_rule.proofs.Histories.{dropped_all}
 use Rattle.claim_rule.proofs.OneHistory.{shares_count, all_shares, only_shares}
 
@@ -25,7 +26,7 @@ none_made P first parts h = subst (λ (l : List Entry). All P (filter (is_by fir
 pub opening_is_good : OpeningIsGood
 opening_is_good g parts allowance h size some few most legal keys solid =
     let s : BoardState = opening_board g parts allowance h in
-    let homes : List (Option Content) = shares_from g h 0 (g * g * g) in
+    let homes : List (Option BucketContent) = shares_from g h 0 (g * g * g) in
     let wide : length homes ≡ g * g * g = shares_count g h 0 (g * g * g) in
     let v : View = record { first = 0; parts = parts; left = allowance; seen = length h; since = length h; held = replicate (g * g * g) None } in
     let zeros : (b : ℕ) → ◌≡◌ {A = ℕ} (slice_index_or s.words b 0) 0 = zero_at (g * g * g) in

@@ -1,15 +1,16 @@
 -- A commit of a board that is kept in one hold with words: where all contents become the shares of the new history, those of others stay.
-use Rattle.std.specs.Prelude.{◌≡◌, ◌≢◌, ℕ, zero, suc, Bool, true, false, ◌+◌, ◌-◌, ◌<◌, ◌==◌, List, [], ◌∷◌, ◌++◌, Option, None, Some, IsSome, length, slice_index_or, slice_set}
+use Rattle.std.specs.Prelude.{◌≡◌, ◌≢◌, ℕ, Bool, true, false, ◌+◌, ◌-◌, ◌<◌, ◌==◌, List, [], ◌∷◌, ◌++◌, Option, None, Some, IsSome, length, slice_index_or, slice_set}
 use Rattle.std.specs.Option.{option_map}
 use Rattle.std.proofs.Common.{refl, sym, ◌∙◌, ap, subst, arith, ext_get_or}
 use Rattle.std.proofs.lemmas.Bool.{eqb-true}
 use Rattle.std.proofs.lemmas.List.{map-set}
+use Rattle.list_laws.proofs.Cited.{is_there, same_there, set_twice, to_some, within}
 use Rattle.point_order.specs.Coordinates.{IsKey}
 use Rattle.edit_history.specs.declared.history.Edit.{Edit}
 use Rattle.edit_history.specs.declared.history.Entry.{Entry}
 use Rattle.edit_history.specs.Edits.{point_of}
 use Rattle.edit_history.specs.Histories.{replay}
-use Rattle.cell_store.specs.Buckets.{Content, bucket_at}
+use Rattle.cell_store.specs.Buckets.{BucketContent, bucket_at}
 use Rattle.claim_rule.specs.declared.board.Seat.{Seat}
 use Rattle.claim_rule.specs.declared.event.Event.TheVariants.{Commit}
 use Rattle.claim_rule.specs.declared.event.Played.TheVariants.{Done}
@@ -19,44 +20,38 @@ use Rattle.claim_rule.specs.Good.{AreSharesOf, IsGood}
 use Rattle.cell_store.specs.Shares.{share_at}
 use Rattle.claim_rule.specs.Events.{Next, entry_after, renewed_from, with_view}
 use Rattle.claim_rule.specs.Kept.{whose, homes_of, held_by, view_of, views_of, kept}
-use Rattle.claim_rule.proofs.Places.{within, is_there, same_there}
 use Rattle.claim_rule.proofs.Nexts.{stays_outside}
 use Rattle.claim_rule.proofs.Commits.{renewed_at, renewed_length}
 use Rattle.claim_rule.proofs.Steps.{live_at}
-use Rattle.claim_rule.proofs.Kept.{if_so, whose_length, whose_at, seats_changed, and_some}
+use Rattle.claim_rule.proofs.Kept.{if_so, whose_length, whose_at, seats_changed}
 use Rattle.claim_rule.proofs.Moves.{live_view, first_is}
 
-so_map : (t : Bool) (f : Content → Content) (o : Option Content) → if_so t (option_map f o) ≡ option_map f (if_so t o)
+so_map : (t : Bool) (f : BucketContent → BucketContent) (o : Option BucketContent) → if_so t (option_map f o) ≡ option_map f (if_so t o)
 so_map true f o = refl
 so_map false f o = refl
 
-pub so_true : (t : Bool) (o : Option Content) → IsSome (if_so t o) → t ≡ true
+pub so_true : (t : Bool) (o : Option BucketContent) → IsSome (if_so t o) → t ≡ true
 so_true true o s = refl
 so_true false o s = absurd (cc s)
 
-pub whose_renewed : (t : ℕ → Bool) (g : ℕ) (h : List Entry) (k : ℕ) (words : List ℕ) (places : List (Option Content)) → whose t words (renewed_from g h k places) ≡ renewed_from g h k (whose t words places)
+pub whose_renewed : (t : ℕ → Bool) (g : ℕ) (h : List Entry) (k : ℕ) (words : List ℕ) (places : List (Option BucketContent)) → whose t words (renewed_from g h k places) ≡ renewed_from g h k (whose t words places)
 whose_renewed t g h k [] places = refl
 whose_renewed t g h k (w ∷ words) [] = ap (λ l. None ∷ l) (whose_renewed t g h (k + 1) words [])
 whose_renewed t g h k (w ∷ words) (o ∷ places) =
     ap (λ x. x ∷ whose t words (renewed_from g h (k + 1) places)) (so_map (t w) (λ c. share_at g k h) o)
     ∙ ap (λ l. option_map (λ c. share_at g k h) (if_so (t w) o) ∷ l) (whose_renewed t g h (k + 1) words places)
 
-same_option : (o : Option Content) (x : Content) → ((c : Content) → o ≡ Some c → x ≡ c) → option_map (λ c. x) o ≡ o
+same_option : (o : Option BucketContent) (x : BucketContent) → ((c : BucketContent) → o ≡ Some c → x ≡ c) → option_map (λ c. x) o ≡ o
 same_option None x e = refl
-same_option (Some c) x e = ap (λ (y : Content). Some y) (e c refl)
+same_option (Some c) x e = ap (λ (y : BucketContent). Some y) (e c refl)
 
-pub stays : (g : ℕ) (h : List Entry) (l : List (Option Content)) → ((b : ℕ) (c : Content) → bucket_at l b ≡ Some c → share_at g b h ≡ c) → renewed_from g h 0 l ≡ l
+pub stays : (g : ℕ) (h : List Entry) (l : List (Option BucketContent)) → ((b : ℕ) (c : BucketContent) → bucket_at l b ≡ Some c → share_at g b h ≡ c) → renewed_from g h 0 l ≡ l
 stays g h l e = ext_get_or None (renewed_from g h 0 l) l (renewed_length g h 0 l) (λ b below.
     let z : 0 + b ≡ b = omega arith in
     renewed_at g h 0 l b ∙ ap (λ (n : ℕ). option_map (λ c. share_at g n h) (bucket_at l b)) z ∙ same_option (bucket_at l b) (share_at g b h) (e b))
 
-set_twice : {X : Type 0} (l : List X) (n : ℕ) (a b : X) → slice_set (slice_set l n a) n b ≡ slice_set l n b
-set_twice [] n a b = refl
-set_twice (x ∷ l) zero a b = refl
-set_twice (x ∷ l) (suc n) a b = ap (λ k. x ∷ k) (set_twice l n a b)
-
 -- the contents whose words pass a test that this pass's word does not
-pub others_stay : (t : ℕ → Bool) (g ticket : ℕ) (words : List ℕ) (places : List (Option Content)) (h : List Entry) (n tag : ℕ) (edit : Edit) →
+pub others_stay : (t : ℕ → Bool) (g ticket : ℕ) (words : List ℕ) (places : List (Option BucketContent)) (h : List Entry) (n tag : ℕ) (edit : Edit) →
     AreSharesOf g h (whose t words places) → HoldTouched g (replay h) edit (held_by n words places) →
     ((w : ℕ) → t w ≡ true → w ≢ n + 1) →
     ((b : ℕ) → (Rattle.cell_store.specs.Touches.IsTouched g (replay h) edit b → ⊥) → share_at g b (h ++ entry_after h ticket n tag edit ∷ []) ≡ share_at g b h) →
@@ -72,7 +67,7 @@ others_stay t g ticket words places h n tag edit shares touched apart local =
     (same_there (bucket_at (held_by n words places) b) _ (whose_at (λ w. w == n + 1) words places b below) (touched b r)))))
     ∙ sym (shares b c e))
 
-pub commit_next : (g parts most : ℕ) (opening : List Entry) (ticket : ℕ) (words : List ℕ) (places : List (Option Content)) (seats : List (Option Seat)) (h : List Entry) (n tag : ℕ) (edit : Edit) (seat : Seat) (places' : List (Option Content)) →
+pub commit_next : (g parts most : ℕ) (opening : List Entry) (ticket : ℕ) (words : List ℕ) (places : List (Option BucketContent)) (seats : List (Option Seat)) (h : List Entry) (n tag : ℕ) (edit : Edit) (seat : Seat) (places' : List (Option BucketContent)) →
     IsGood (kept g parts most opening ticket words places seats) h → slice_index_or seats n None ≡ Some seat → IsKey (point_of edit) → 0 < seat.left →
     HoldTouched g (replay h) edit (held_by n words places) → places' ≡ renewed_from g (h ++ entry_after h ticket n tag edit ∷ []) 0 places →
     Next h (kept g parts most opening ticket words places seats) (Commit n tag edit) Done
@@ -108,7 +103,7 @@ commit_next g parts most opening ticket words places seats h n tag edit seat pla
     ∙ ap (λ x. slice_set s.views n (Some x)) new_view
     ∙ ap (λ (o : Option View). slice_set s.views n (option_map change o)) (sym at) in
     let holds : HoldTouched g (replay h) edit v.held = subst (λ (j : ℕ). HoldTouched g (replay h) edit (held_by j words places)) (sym (named n seat live)) touched in (
-      and_some (view_at s n) (λ v. (0 < v.left) × HoldTouched g (replay h) edit v.held) v at (some, holds),
+      to_some (λ v. (0 < v.left) × HoldTouched g (replay h) edit v.held) (view_at s n) v at (some, holds),
       ap (λ hs. record s { ticket = ticket + 1; homes = hs; views = views_of words places' (slice_set seats n (Some a)) }) homes_are
           ∙ ap (λ vs. record s { ticket = ticket + 1; views = vs }) views_are,
     )

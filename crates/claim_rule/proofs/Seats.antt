@@ -1,47 +1,39 @@
 -- Splits and joins of a board that is kept in one hold with words.
-use Rattle.std.specs.Prelude.{◌≡◌, ◌≢◌, ℕ, zero, suc, Bool, false, ◌+◌, ◌-◌, ◌^◌, ◌<◌, ◌≤◌, ◌==◌, List, [], ◌∷◌, Option, None, Some, IsSome, All, max, length, replicate, slice_index_or, slice_set}
+use Rattle.std.specs.Prelude.{◌≡◌, ◌≢◌, ℕ, suc, Bool, false, ◌+◌, ◌-◌, ◌^◌, ◌<◌, ◌≤◌, ◌==◌, List, [], ◌∷◌, Option, None, Some, IsSome, All, max, length, replicate, slice_index_or, slice_set}
 use Rattle.std.specs.Option.{option_map, option_map_or}
 use Rattle.std.proofs.Common.{refl, sym, ◌∙◌, ap, subst, arith, ne_eqb}
 use Rattle.std.proofs.lemmas.List.{map-set}
+use Rattle.list_laws.proofs.Cited.{default_free, none_there, one_value, past, some_and, to_some}
 use mathlib.Core.Logic.{dite}
 use native.Mathlib.Decide.{dec_lt}
 use Rattle.edit_history.specs.declared.history.Entry.{Entry}
-use Rattle.cell_store.specs.Buckets.{Content, bucket_at}
+use Rattle.cell_store.specs.Buckets.{BucketContent, bucket_at}
 use Rattle.claim_rule.specs.declared.board.Seat.{Seat}
 use Rattle.claim_rule.specs.declared.event.Event.TheVariants.{Split, Join}
 use Rattle.claim_rule.specs.declared.event.Played.TheVariants.{Done}
-use Rattle.claim_rule.specs.Boards.{View, BoardState, view_at, word_of, IsLive, Owns}
+use Rattle.claim_rule.specs.Boards.{View, BoardState, view_at, word_of, IsLive}
 use Rattle.claim_rule.specs.Good.{IsGood}
 use Rattle.claim_rule.specs.Events.{Next, HoldsNothing, CanSplit, CanJoin, split_of, join_of, split_off}
 use Rattle.claim_rule.specs.Kept.{whose, held_by, view_of, views_of, kept}
-use Rattle.claim_rule.proofs.Places.{some_and, one_value, past, none_there, left_one}
+use Rattle.claim_rule.proofs.Places.{left_one}
 use Rattle.claim_rule.proofs.Steps.{live_at}
-use Rattle.claim_rule.proofs.Kept.{if_so, whose_length, whose_at, and_some}
+use Rattle.claim_rule.proofs.Kept.{if_so, whose_length, whose_at}
 use Rattle.claim_rule.proofs.Moves.{live_view, first_is, named_holds}
+use Rattle.claim_rule.proofs.Parts.{same_owner}
 
-default_free : (l : List ℕ) (k d e : ℕ) → k < length l → slice_index_or l k d ≡ slice_index_or l k e
-default_free [] k d e h = absurd (omega arith)
-default_free (x ∷ l) zero d e h = refl
-default_free (x ∷ l) (suc k) d e h = default_free l k d e (omega arith)
-
-same_owner : (s : BoardState) (h : List Entry) (v u : View) (p : ℕ) → IsGood s h → IsLive s v → IsLive s u → Owns v p → Owns u p → v ≡ u
-same_owner s h v u p good l k a b =
-    let below : p < s.parts = (let i = (good.passes v l).inside in let r = a.1 in omega arith) in
-    let q = good.owners p below in q.only v l a ∙ sym (q.only u k b)
-
-pub nothing_of : (words : List ℕ) (places : List (Option Content)) (n : ℕ) → All (λ w. w ≢ n + 1) words → (b : ℕ) → bucket_at (held_by n words places) b ≡ None
+pub nothing_of : (words : List ℕ) (places : List (Option BucketContent)) (n : ℕ) → All (λ w. w ≢ n + 1) words → (b : ℕ) → bucket_at (held_by n words places) b ≡ None
 nothing_of words places n all b =
     dite (dec_lt b (length words))
     (λ below. whose_at (λ w. w == n + 1) words places b below ∙ ap (λ k. if_so k (bucket_at places b)) (ne_eqb (slice_index_or words b 0) (n + 1) (all b 0 below)))
     (λ not. past (held_by n words places) b (let l = whose_length (λ w. w == n + 1) words places in omega arith))
 
-pub held_none : (t : ℕ → Bool) (words : List ℕ) (places : List (Option Content)) → ((b : ℕ) → b < length words → t (slice_index_or words b 0) ≡ false) → whose t words places ≡ replicate (length words) None
+pub held_none : (t : ℕ → Bool) (words : List ℕ) (places : List (Option BucketContent)) → ((b : ℕ) → b < length words → t (slice_index_or words b 0) ≡ false) → whose t words places ≡ replicate (length words) None
 held_none t [] places e = refl
 held_none t (w ∷ words) [] e = ap (λ l. None ∷ l) (held_none t words [] (λ b h. e (suc b) (omega arith)))
 held_none t (w ∷ words) (o ∷ places) e = ap (λ k. if_so k o ∷ whose t words places) (e 0 (omega arith)) ∙ ap (λ l. None ∷ l) (held_none t words places (λ b h. e (suc b) (omega arith)))
 
 -- a pass that holds nothing is named by no word
-pub no_word : (g parts most : ℕ) (opening : List Entry) (ticket : ℕ) (words : List ℕ) (places : List (Option Content)) (seats : List (Option Seat)) (h : List Entry) (n : ℕ) (v : View) →
+pub no_word : (g parts most : ℕ) (opening : List Entry) (ticket : ℕ) (words : List ℕ) (places : List (Option BucketContent)) (seats : List (Option Seat)) (h : List Entry) (n : ℕ) (v : View) →
     IsGood (kept g parts most opening ticket words places seats) h → slice_index_or (views_of words places seats) n None ≡ Some v → HoldsNothing v → All (λ w. w ≢ n + 1) words
 no_word g parts most opening ticket words places seats h n v good at nothing k d below q =
     let s : BoardState = kept g parts most opening ticket words places seats in
@@ -51,7 +43,7 @@ no_word g parts most opening ticket words places seats h n v good at nothing k d
 
 -- ---- numbers
 
-pub seat_inside : (g parts most : ℕ) (opening : List Entry) (ticket : ℕ) (words : List ℕ) (places : List (Option Content)) (seats : List (Option Seat)) (h : List Entry) (n : ℕ) (seat : Seat) →
+pub seat_inside : (g parts most : ℕ) (opening : List Entry) (ticket : ℕ) (words : List ℕ) (places : List (Option BucketContent)) (seats : List (Option Seat)) (h : List Entry) (n : ℕ) (seat : Seat) →
     IsGood (kept g parts most opening ticket words places seats) h → slice_index_or seats n None ≡ Some seat → (seat.first + seat.parts ≤ length (views_of words places seats)) × (seat.first + seat.parts ≤ 64) × (seat.left ≤ 2 ^ 32)
 seat_inside g parts most opening ticket words places seats h n seat good live =
     let s : BoardState = kept g parts most opening ticket words places seats in
@@ -65,13 +57,13 @@ seat_inside g parts most opening ticket words places seats h n seat good live =
     let one : seat.left ≤ Rattle.claim_rule.specs.Boards.left_in s.views = left_one s.views n v at in
     (omega (arith, inside, views), omega (arith, inside, few), omega (arith, one, room, most_is))
 
-pub as_many : (words : List ℕ) (places : List (Option Content)) (seats : List (Option Seat)) → length (views_of words places seats) ≡ length seats
+pub as_many : (words : List ℕ) (places : List (Option BucketContent)) (seats : List (Option Seat)) → length (views_of words places seats) ≡ length seats
 as_many words places [] = refl
 as_many words places (o ∷ seats) = ap suc (as_many words places seats)
 
 -- ---- split
 
-pub split_facts : (g parts most : ℕ) (opening : List Entry) (ticket : ℕ) (words : List ℕ) (places : List (Option Content)) (seats : List (Option Seat)) (h : List Entry) (n : ℕ) (seat : Seat) (k left : ℕ) →
+pub split_facts : (g parts most : ℕ) (opening : List Entry) (ticket : ℕ) (words : List ℕ) (places : List (Option BucketContent)) (seats : List (Option Seat)) (h : List Entry) (n : ℕ) (seat : Seat) (k left : ℕ) →
     IsGood (kept g parts most opening ticket words places seats) h → slice_index_or seats n None ≡ Some seat → CanSplit (kept g parts most opening ticket words places seats) n k left →
     All (λ w. w ≢ n + 1) words × (0 < k) × (k < seat.parts) × (left ≤ seat.left)
 split_facts g parts most opening ticket words places seats h n seat k left good live can =
@@ -84,7 +76,7 @@ split_facts g parts most opening ticket words places seats h n seat k left good 
       subst (λ (x : View). left ≤ x.left) same v.2.3,
     )
 
-pub split_next : (g parts most : ℕ) (opening : List Entry) (ticket : ℕ) (words : List ℕ) (places : List (Option Content)) (seats : List (Option Seat)) (h : List Entry) (n : ℕ) (seat : Seat) (k left : ℕ) →
+pub split_next : (g parts most : ℕ) (opening : List Entry) (ticket : ℕ) (words : List ℕ) (places : List (Option BucketContent)) (seats : List (Option Seat)) (h : List Entry) (n : ℕ) (seat : Seat) (k left : ℕ) →
     IsGood (kept g parts most opening ticket words places seats) h → slice_index_or seats n None ≡ Some seat →
     All (λ w. w ≢ n + 1) words → 0 < k → k < seat.parts → left ≤ seat.left →
     Next h (kept g parts most opening ticket words places seats) (Split n k left) Done
@@ -110,7 +102,7 @@ split_next g parts most opening ticket words places seats h n seat k left good l
     let e : seat.first ≡ u.first = ap (λ (x : View). x.first) same in omega (arith, e, is, fewer)) in
     let off : f b ≡ split_off s v k left = ap (λ l. record { first = m; parts = k; left = left; seen = ticket; since = ticket; held = l }) (held_none (λ w. w == m + 1) words places free) in
     let holds : HoldsNothing v = nothing_of words places seat.first (subst (λ (j : ℕ). All (λ w. w ≢ j + 1) words) (sym first) nothing) in (
-      and_some (view_at s n) (λ v. HoldsNothing v × (0 < k) × (k < v.parts) × (left ≤ v.left)) v at (holds, some, fewer, less),
+      to_some (λ v. HoldsNothing v × (0 < k) × (k < v.parts) × (left ≤ v.left)) (view_at s n) v at (holds, some, fewer, less),
       ap (λ vs. record s { views = vs })
           (map-set (option_map f) (slice_set seats n (Some a)) m (Some b)
           ∙ ap (λ l. slice_set l m (Some (f b))) (map-set (option_map f) seats n (Some a))
@@ -121,7 +113,7 @@ split_next g parts most opening ticket words places seats h n seat k left good l
 
 -- ---- join
 
-pub join_facts : (g parts most : ℕ) (opening : List Entry) (ticket : ℕ) (words : List ℕ) (places : List (Option Content)) (seats : List (Option Seat)) (h : List Entry) (n m : ℕ) (seat : Seat) →
+pub join_facts : (g parts most : ℕ) (opening : List Entry) (ticket : ℕ) (words : List ℕ) (places : List (Option BucketContent)) (seats : List (Option Seat)) (h : List Entry) (n m : ℕ) (seat : Seat) →
     IsGood (kept g parts most opening ticket words places seats) h → slice_index_or seats n None ≡ Some seat → CanJoin (kept g parts most opening ticket words places seats) n m →
     All (λ w. w ≢ n + 1) words × All (λ w. w ≢ m + 1) words × (m ≡ seat.first + seat.parts)
 join_facts g parts most opening ticket words places seats h n m seat good live can =
@@ -134,7 +126,7 @@ join_facts g parts most opening ticket words places seats h n m seat good live c
       subst (λ (x : View). m ≡ x.first + x.parts) same v.2.1,
     )
 
-pub join_next : (g parts most : ℕ) (opening : List Entry) (ticket : ℕ) (words : List ℕ) (places : List (Option Content)) (seats : List (Option Seat)) (h : List Entry) (n m : ℕ) (seat other : Seat) →
+pub join_next : (g parts most : ℕ) (opening : List Entry) (ticket : ℕ) (words : List ℕ) (places : List (Option BucketContent)) (seats : List (Option Seat)) (h : List Entry) (n m : ℕ) (seat other : Seat) →
     IsGood (kept g parts most opening ticket words places seats) h → slice_index_or seats n None ≡ Some seat → slice_index_or seats m None ≡ Some other →
     All (λ w. w ≢ n + 1) words → All (λ w. w ≢ m + 1) words → m ≡ seat.first + seat.parts →
     Next h (kept g parts most opening ticket words places seats) (Join n m) Done
@@ -151,7 +143,7 @@ join_next g parts most opening ticket words places seats h n m seat other good l
     let both : Seat = record seat { parts = seat.parts + other.parts; left = seat.left + other.left; seen = max seat.seen other.seen } in
     let holds : HoldsNothing v = nothing_of words places seat.first (subst (λ (j : ℕ). All (λ w. w ≢ j + 1) words) (sym first) nothing) in
     let holds' : HoldsNothing w = nothing_of words places other.first (subst (λ (j : ℕ). All (λ w. w ≢ j + 1) words) (sym second) nothing') in (
-      (and_some (view_at s n) (λ v. HoldsNothing v × (m ≡ v.first + v.parts)) v at (holds, next), and_some (view_at s m) (λ w. HoldsNothing w) w at' holds'),
+      (to_some (λ v. HoldsNothing v × (m ≡ v.first + v.parts)) (view_at s n) v at (holds, next), to_some (λ w. HoldsNothing w) (view_at s m) w at' holds'),
       ap (λ vs. record s { views = vs })
           (map-set (option_map f) (slice_set seats m None) n (Some both)
           ∙ ap (λ l. slice_set l n (Some (f both))) (map-set (option_map f) seats m None)

@@ -1,17 +1,17 @@
 -- What the trial of an edit finds is what the edit changes and reaches.
 use Rattle.std.specs.Prelude.{◌≡◌, ◌⊎◌, ◌↔◌, ℕ, Bool, true, false, if◌then◌else◌, List}
 use Rattle.std.proofs.Common.{refl, sym, ◌∙◌, ap, subst, inl, inr}
+use Rattle.list_laws.proofs.Cited.{among_from, among_true, filtered_from, filtered_true}
 use Rattle.point_order.specs.declared.cell.Cell.{Cell}
 use Rattle.point_order.specs.Complex.{complex}
 use Rattle.point_order.specs.Facets.{points_of}
 use Rattle.point_order.specs.Sets.{IsIn, IsAscending, is_among, with_point}
-use Rattle.point_order.proofs.SetLaws.{in-with, in-with_new, in-with_old}
+use Rattle.point_order.proofs.Cited.{in-with, in-with_new, in-with_old}
 use Rattle.edit_history.specs.declared.history.Edit.{Edit}
 use Rattle.edit_history.specs.declared.history.Edit.TheVariants.{Add, Take}
 use Rattle.edit_history.specs.declared.history.Reply.TheVariants.{Inserted, Duplicate}
 use Rattle.edit_history.specs.Edits.{point_of, reply_to, changed, after}
-use Rattle.del_laws.proofs.Tests.{among_from, among_true, filtered_from, filtered_true}
-use Rattle.del_laws.proofs.Listed.{listed_is_cell, listed_inside}
+use Rattle.del_laws.proofs.Cited.{listed_inside, listed_is_cell}
 use Rattle.hole_laws.specs.Commuting.{Reaches}
 use Rattle.cell_store.specs.Swaps.{without_cells}
 use Rattle.cell_store.specs.Changes.{IsChange}

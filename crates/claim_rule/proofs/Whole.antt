@@ -3,16 +3,16 @@ use Rattle.std.specs.Prelude.{◌≡◌, ℕ, Bool, true, false, ◌+◌, ◌<�
 use Rattle.std.specs.Option.{option_map}
 use Rattle.std.proofs.Common.{sym, ◌∙◌, ap, subst, arith}
 use Rattle.std.proofs.lemmas.Bool.{eq-eqb}
+use Rattle.list_laws.proofs.Cited.{one_value, same_there, within}
 use mathlib.Core.Logic.{dite}
 use native.Mathlib.Decide.{ℕ_discrete}
 use Rattle.edit_history.specs.declared.history.Entry.{Entry}
-use Rattle.cell_store.specs.Buckets.{Content, InHand, bucket_at}
+use Rattle.cell_store.specs.Buckets.{BucketContent, InHand, bucket_at}
 use Rattle.cell_store.specs.Shares.{Stands}
 use Rattle.claim_rule.specs.declared.board.Seat.{Seat}
 use Rattle.claim_rule.specs.Boards.{View, BoardState}
 use Rattle.claim_rule.specs.Good.{AreSharesOf, IsGood}
 use Rattle.claim_rule.specs.Kept.{view_of, kept}
-use Rattle.claim_rule.proofs.Places.{within, one_value, same_there}
 use Rattle.claim_rule.proofs.OneHistory.{is_share}
 use Rattle.claim_rule.proofs.Kept.{if_so, whose_at, seen_at}
 
@@ -20,7 +20,7 @@ seat_of : (f : Seat → View) (o : Option Seat) (v : View) → option_map f o �
 seat_of f None v e = absurd (cc e)
 seat_of f (Some x) v e = (x, one_value (f x) v e)
 
-pub all_are_shares : (g parts most : ℕ) (opening : List Entry) (ticket : ℕ) (words : List ℕ) (places : List (Option Content)) (seats : List (Option Seat)) (h : List Entry) →
+pub all_are_shares : (g parts most : ℕ) (opening : List Entry) (ticket : ℕ) (words : List ℕ) (places : List (Option BucketContent)) (seats : List (Option Seat)) (h : List Entry) →
     IsGood (kept g parts most opening ticket words places seats) h → length places ≡ length words → AreSharesOf g h places
 all_are_shares g parts most opening ticket words places seats h good wide b c e =
     let s : BoardState = kept g parts most opening ticket words places seats in
@@ -38,12 +38,12 @@ all_are_shares g parts most opening ticket words places seats h good wide b c e 
     ∙ ap (λ k. if_so k (bucket_at places b)) (eq-eqb (slice_index_or words b 0) (x.0.first + 1) (word ∙ ap (λ k. k + 1) (sym first))) ∙ e in
     ok.shares b c (ap (λ (v : View). bucket_at v.held b) (sym x.1) ∙ is))
 
-so_some : (t : Bool) (o : Option Content) → IsSome (if_so t o) → IsSome o
+so_some : (t : Bool) (o : Option BucketContent) → IsSome (if_so t o) → IsSome o
 so_some true o s = s
 so_some false o s = absurd (cc s)
 
 -- and all of them are in the hold
-pub all_in_hand : (g parts most : ℕ) (opening : List Entry) (ticket : ℕ) (words : List ℕ) (places : List (Option Content)) (seats : List (Option Seat)) (h : List Entry) →
+pub all_in_hand : (g parts most : ℕ) (opening : List Entry) (ticket : ℕ) (words : List ℕ) (places : List (Option BucketContent)) (seats : List (Option Seat)) (h : List Entry) →
     IsGood (kept g parts most opening ticket words places seats) h → (b : ℕ) → b < length words → IsSome (bucket_at places b)
 all_in_hand g parts most opening ticket words places seats h good b below =
     let f : Seat → View = view_of words places in

@@ -20,7 +20,7 @@ use Rattle.std.specs.Prelude.{
 }
 use Rattle.std.specs.List.{filter}
 use Rattle.edit_history.specs.declared.history.Entry.{Entry}
-use Rattle.cell_store.specs.Buckets.{Content, InHand, no_room}
+use Rattle.cell_store.specs.Buckets.{BucketContent, InHand, no_room}
 
 -- A live pass: its first part, which is its number, how many parts it owns, how many edits it may still make, what it
 -- has seen of the ticket, what the ticket was when it was made, and for each bucket the content, if the pass holds it.
@@ -30,7 +30,7 @@ pub record View : Type 0 where
   pub left : ℕ
   pub seen : ℕ
   pub since : ℕ
-  pub held : List (Option Content)
+  pub held : List (Option BucketContent)
 
 -- A board: the size of its grid, its number of parts, how many entries there may be at most, the entries with which it
 -- began; the ticket; for each bucket its word and the content, if it is at home; and for each part the
@@ -42,7 +42,7 @@ pub record BoardState : Type 0 where
   pub opening : List Entry
   pub ticket : ℕ
   pub words : List ℕ
-  pub homes : List (Option Content)
+  pub homes : List (Option BucketContent)
   pub views : List (Option View)
 
 -- the word of a bucket
@@ -62,7 +62,7 @@ abbrev pub Owns : View → ℕ → Type 0
 Owns v p = (v.first ≤ p) × (p < v.first + v.parts)
 
 -- what a pass holds, as a hold
-abbrev pub in_hand_of : ℕ → List (Option Content) → InHand
+abbrev pub in_hand_of : ℕ → List (Option BucketContent) → InHand
 in_hand_of g places = record { grid = g; places = places; room = no_room }
 
 -- how many edits all live passes may still make

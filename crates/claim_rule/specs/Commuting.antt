@@ -6,7 +6,7 @@ use Rattle.point_order.specs.declared.cell.Cell.{Cell}
 use Rattle.edit_history.specs.declared.history.Edit.{Edit}
 use Rattle.edit_history.specs.declared.history.Entry.{Entry}
 use Rattle.edit_history.specs.Edits.{point_of}
-use Rattle.cell_store.specs.Buckets.{Content}
+use Rattle.cell_store.specs.Buckets.{BucketContent}
 use Rattle.claim_rule.specs.declared.event.Event.TheVariants.{Commit}
 use Rattle.claim_rule.specs.declared.event.Played.TheVariants.{Done}
 use Rattle.claim_rule.specs.Boards.{View, BoardState}
@@ -17,11 +17,11 @@ use Rattle.claim_rule.specs.Events.{Next, entry_after}
 abbrev pub Figure : Type 0
 Figure = List ℕ × List Cell
 
-abbrev pub figure : Content → Figure
+abbrev pub figure : BucketContent → Figure
 figure c = (c.points, c.cells)
 
 -- those of each bucket, if it is there
-abbrev pub figures : List (Option Content) → List (Option Figure)
+abbrev pub figures : List (Option BucketContent) → List (Option Figure)
 figures places = map (option_map figure) places
 
 -- a pass's number, and those of what it holds

@@ -28,7 +28,7 @@ use Rattle.edit_history.specs.declared.history.Edit.{Edit}
 use Rattle.edit_history.specs.declared.history.Entry.{Entry}
 use Rattle.edit_history.specs.Edits.{point_of, reply_to}
 use Rattle.edit_history.specs.Histories.{replay}
-use Rattle.cell_store.specs.Buckets.{Content, bucket_at}
+use Rattle.cell_store.specs.Buckets.{BucketContent, bucket_at}
 use Rattle.claim_rule.specs.declared.event.Event.{Event}
 use Rattle.claim_rule.specs.declared.event.Event.TheVariants.{Claim, Commit, Release, Look, Split, Join}
 use Rattle.claim_rule.specs.declared.event.Played.{Played}
@@ -90,7 +90,7 @@ entry_after h number by tag edit =
     record { number = number; by = by; tag = tag; edit = edit; reply = reply_to (replay h) edit }
 
 -- each content in hand, from bucket b on, becomes its share of the history
-abbrev pub renewed_from : ℕ → List Entry → ℕ → List (Option Content) → List (Option Content)
+abbrev pub renewed_from : ℕ → List Entry → ℕ → List (Option BucketContent) → List (Option BucketContent)
 renewed_from g h b [] = []
 renewed_from g h b (o ∷ places) = option_map (λ c. share_at g b h) o ∷ renewed_from g h (b + 1) places
 

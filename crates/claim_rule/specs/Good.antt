@@ -24,13 +24,13 @@ use Rattle.edit_history.specs.declared.history.Entry.{Entry}
 use Rattle.edit_history.specs.Histories.{replay, IsLegal}
 use Rattle.del_laws.specs.Keys.{AreKeys}
 use Rattle.cell_store.specs.Grids.{is_grid_size}
-use Rattle.cell_store.specs.Buckets.{Content, bucket_at}
+use Rattle.cell_store.specs.Buckets.{BucketContent, bucket_at}
 use Rattle.cell_store.specs.Shares.{share_at}
 use Rattle.claim_rule.specs.Boards.{View, BoardState, word_of, view_at, IsLive, Owns, left_in, made_by}
 
 -- each of these buckets is its share of the history
-abbrev pub AreSharesOf : ℕ → List Entry → List (Option Content) → Type 0
-AreSharesOf g h places = (b : ℕ) (c : Content) → bucket_at places b ≡ Some c → c ≡ share_at g b h
+abbrev pub AreSharesOf : ℕ → List Entry → List (Option BucketContent) → Type 0
+AreSharesOf g h places = (b : ℕ) (c : BucketContent) → bucket_at places b ≡ Some c → c ≡ share_at g b h
 
 -- the history begins with these entries
 abbrev pub StartsWith : List Entry → List Entry → Type 0

@@ -1,12 +1,12 @@
 -- The board with which a mesh begins.
 use Rattle.std.specs.Prelude.{ℕ, zero, suc, ◌+◌, ◌-◌, ◌*◌, List, [], ◌∷◌, Option, None, Some, length, replicate}
 use Rattle.edit_history.specs.declared.history.Entry.{Entry}
-use Rattle.cell_store.specs.Buckets.{Content}
+use Rattle.cell_store.specs.Buckets.{BucketContent}
 use Rattle.cell_store.specs.Shares.{share_at}
 use Rattle.claim_rule.specs.Boards.{BoardState}
 
 -- the shares of n buckets, from bucket b on, in a history
-abbrev pub shares_from : ℕ → List Entry → ℕ → ℕ → List (Option Content)
+abbrev pub shares_from : ℕ → List Entry → ℕ → ℕ → List (Option BucketContent)
 shares_from g h b zero = []
 shares_from g h b (suc n) = Some (share_at g b h) ∷ shares_from g h (b + 1) n
 

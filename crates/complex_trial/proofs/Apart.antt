@@ -1,39 +1,14 @@
 -- Points that differ, since they lie in different places.
 use Rattle.std.proofs.Common.{◌≡◌, ◌≢◌, refl, sym, ap, ◌∙◌, ℕ, ℤ, pos, ◌<ℤ◌, arith}
-use Rattle.std.proofs.Math.IntN.{neg_ℤ}
 use Rattle.std.proofs.lemmas.Int.{ints}
 use Rattle.std.specs.Prelude.{Bool, true, false, List, [], ◌∷◌, Some}
 use Rattle.std.specs.List.{find}
 use Rattle.std.specs.Int.Signed.{lt_z}
 use Rattle.std.proofs.lemmas.Bool.Decides.{nat_tests}
-use Rattle.point_order.specs.Orientation.{orientation, is_flat, is_zero}
+use Rattle.list_laws.proofs.Cited.{not_zero}
+use Rattle.point_order.specs.Orientation.{orientation, is_flat}
 use Rattle.point_order.specs.Sets.{AreThree, AreFive, is_among}
-use Rattle.point_order.proofs.Determinants.{swap-first, swap-middle, swap-last}
-
-self-negative : (z : ℤ) → z ≡ neg_ℤ z → z ≡ pos 0
-self-negative z e = omega (arith, ints)
-
-negative-of_zero : (y z : ℤ) → z ≡ neg_ℤ y → y ≡ pos 0 → z ≡ pos 0
-negative-of_zero y z e h = omega (arith, ints)
-
--- orientation is 0 where the last point is one of the others
-pub flat-c : (a b c : ℕ) → orientation a b c c ≡ pos 0
-flat-c a b c = self-negative (orientation a b c c) (swap-last a b c c)
-
-pub flat-b : (a b c : ℕ) → orientation a b c b ≡ pos 0
-flat-b a b c =
-    negative-of_zero (orientation a b b c) (orientation a b c b) (swap-last a b b c) (self-negative (orientation a b b c) (swap-middle a b b c))
-
-pub flat-a : (a b c : ℕ) → orientation a b c a ≡ pos 0
-flat-a a b c =
-    negative-of_zero (orientation a b a c) (orientation a b c a) (swap-last a b a c)
-    (negative-of_zero (orientation a a b c) (orientation a b a c) (swap-middle a a b c) (self-negative (orientation a a b c) (swap-first a a b c)))
-
-not-above : (z : ℤ) → pos 0 <ℤ z → z ≡ pos 0 → ⊥
-not-above z h e = omega (arith, ints)
-
-zero-is : (z : ℤ) → is_zero z ≡ true → z ≡ pos 0
-zero-is z h = grind (arith, ints)
+use Rattle.point_order.proofs.Cited.{last-first, last-second, last-third, zero_from}
 
 pub above-is : (z : ℤ) → lt_z (pos 0) z ≡ true → pos 0 <ℤ z
 above-is z h = grind (arith, ints)
@@ -57,8 +32,8 @@ found-passes p (y ∷ s) x e = by-test (p y) refl (found-passes p s x)
 pub five-above : (a b c m e : ℕ) → AreThree a b c → pos 0 <ℤ orientation a b c m → e ≢ a → e ≢ b → e ≢ c → is_flat a b c e ≡ true → AreFive a b c m e
 five-above a b c m e n h ea eb ec f =
     let apart : (v : ℕ) → orientation a b c v ≡ pos 0 → v ≢ m =
-    λ v z q. not-above (orientation a b c m) h (ap (orientation a b c) (sym q) ∙ z) in
-    (n.0, n.1, apart a (flat-a a b c), (λ q. ea (sym q)), n.2, apart b (flat-b a b c), (λ q. eb (sym q)), apart c (flat-c a b c), (λ q. ec (sym q)), (λ q. apart e (zero-is (orientation a b c e) f) (sym q)))
+    λ v z q. not_zero (orientation a b c m) h (ap (orientation a b c) (sym q) ∙ z) in
+    (n.0, n.1, apart a (last-first a b c), (λ q. ea (sym q)), n.2, apart b (last-second a b c), (λ q. eb (sym q)), apart c (last-third a b c), (λ q. ec (sym q)), (λ q. apart e (zero_from (orientation a b c e) f) (sym q)))
 
 -- the same where e is tested for being one of the three
 pub five-off : (a b c m e : ℕ) → AreThree a b c → pos 0 <ℤ orientation a b c m → is_among e (a ∷ b ∷ c ∷ []) ≡ false → is_flat a b c e ≡ true → AreFive a b c m e

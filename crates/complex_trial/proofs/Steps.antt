@@ -1,26 +1,16 @@
 -- The trial goes on: the lists that begin with a front go on with the next element, or without it.
-use Rattle.std.proofs.Common.{◌≡◌, refl, sym, ap, ◌∙◌, ℕ, zero, suc, ◌+◌, ◌<◌, List, [], ◌∷◌, ◌++◌, Bool, true, false, length, get_or, drop, append_assoc, add-one, drop-cons, arith}
-use Rattle.std.specs.Prelude.{map, cond}
+use Rattle.std.proofs.Common.{◌≡◌, refl, sym, ap, ◌∙◌, ℕ, zero, suc, ◌+◌, ◌<◌, List, [], ◌∷◌, ◌++◌, Bool, length, get_or, drop, append_assoc, add-one, drop-cons, arith}
+use Rattle.std.specs.Prelude.{map}
 use Rattle.std.specs.List.{filter}
+use Rattle.std.proofs.lemmas.List.{map-append}
+use Rattle.std.proofs.lemmas.List.Elements.{filter-append}
+use Rattle.list_laws.proofs.Cited.{rises}
 use Rattle.point_order.specs.Sets.{IsAscending}
-use Rattle.point_order.proofs.SetLaws.{rises}
 use Rattle.point_order.specs.Subsets.{subsets}
 use Rattle.point_order.specs.declared.cell.Cell.{Cell}
 use Rattle.point_order.specs.Complex.{complex, is_full, is_open}
 use Rattle.point_order.specs.declared.cell.Cell.TheVariants.{Full, Open}
 use Rattle.complex_trial.specs.Trial.{found_from, full_from, open_from}
-
-map-append : {X Y : Type 0} (f : X → Y) (xs ys : List X) → map f (xs ++ ys) ≡ map f xs ++ map f ys
-map-append f [] ys = refl
-map-append f (x ∷ xs) ys = ap (λ l. f x ∷ l) (map-append f xs ys)
-
-filter-append : {X : Type 0} (p : X → Bool) (xs ys : List X) → filter p (xs ++ ys) ≡ filter p xs ++ filter p ys
-filter-append p [] ys = refl
-filter-append {X} p (x ∷ xs) ys = by-test (p x) (filter-append p xs ys)
-  where
-    by-test : (t : Bool) → filter p (xs ++ ys) ≡ filter p xs ++ filter p ys → cond t (x ∷ filter p (xs ++ ys)) (filter p (xs ++ ys)) ≡ cond t (x ∷ filter p xs) (filter p xs) ++ filter p ys
-    by-test true e = ap (λ l. x ∷ l) e
-    by-test false e = e
 
 map-map : (front : List ℕ) (x : ℕ) (qs : List (List ℕ)) → map (λ q. front ++ q) (map (λ q. x ∷ q) qs) ≡ map (λ q. (front ++ x ∷ []) ++ q) qs
 map-map front x [] = refl

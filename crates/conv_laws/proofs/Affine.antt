@@ -2,7 +2,7 @@
 use Rattle.std.specs.Prelude.{ℤ, pos, ◌*ℤ◌, ◌≡◌, ℕ, List, [], ◌∷◌}
 use Rattle.std.proofs.Common.{sym}
 use Rattle.whole_ring.specs.Poly.{Expr, var, lit, ◌⊕◌, ◌⊗◌, minus, ◌⊖◌, nothing, given}
-use Rattle.whole_ring.proofs.Ring.{ring, ring_from}
+use Rattle.whole_ring.proofs.Cited.{ring, ring_from}
 use Rattle.conv_laws.specs.Places.{Place, orient, lifted}
 use Rattle.conv_laws.specs.Affine.{weighted, WeightsAddUp, WeightsLocate, WeightsOfHeights, OrientCarried, LiftedCarried, ThreeTerms, Pencil, PencilInPlane, Crossing}
 use Rattle.conv_laws.proofs.Written.{Written, place, onto, all_of, o, weighted_w, raised}

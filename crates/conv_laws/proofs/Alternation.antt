@@ -1,7 +1,7 @@
 -- Exchanging arguments of an orientation and of a lifted determinant.
 use Rattle.std.specs.Prelude.{ℤ, pos, neg_ℤ, ◌≡◌, List, [], ◌∷◌}
 use Rattle.whole_ring.specs.Poly.{lit, minus}
-use Rattle.whole_ring.proofs.Ring.{ring}
+use Rattle.whole_ring.proofs.Cited.{ring}
 use Rattle.conv_laws.specs.Places.{Place, orient, Lifted, lifted}
 use Rattle.conv_laws.specs.Alternation.{OrientSwaps, OrientEvenOrders, OrientRepeats, LiftedSwaps, LiftedOrders, LiftedRepeats}
 use Rattle.conv_laws.proofs.Written.{onto, all_of, o, raised}

@@ -1,11 +1,9 @@
 -- Planes by their normals, and when all places lie in one plane or on one line.
 use Rattle.std.specs.Prelude.{ℤ, pos, negsuc, ◌+ℤ◌, ◌-ℤ◌, ◌*ℤ◌, ◌≡◌, List, [], ◌∷◌}
-use Rattle.std.proofs.Common.{arith, inl, inr, ◌∙◌}
-use Rattle.std.proofs.lemmas.Int.{ints}
+use Rattle.std.proofs.Common.{◌∙◌}
 use Rattle.whole_ring.specs.Poly.{Expr, var, lit, ◌⊕◌, ◌⊗◌, minus, ◌⊖◌, nothing, given}
-use Rattle.whole_ring.proofs.Ring.{ring, ring_from}
-use Rattle.whole_ring.proofs.Signs.{sign, zero_factor}
-use Rattle.whole_ring.specs.Signs.{below, at_zero, above}
+use Rattle.whole_ring.proofs.Cited.{ring, ring_from}
+use Rattle.list_laws.proofs.Cited.{first_factor, not_other, other_factor}
 use Rattle.conv_laws.specs.Places.{Vector, cross, IsZero, Place, step, normal, orient}
 use Rattle.conv_laws.specs.Solidity.{HeightOverPlane, CramersRule, NormalByHeights, OnePlane, OnlyOnLine, LineInPlane, ParallelVectors, OneLine}
 use Rattle.conv_laws.proofs.Written.{Written, place, onto, det_w, cross_w, dot_w, step_w, normal_w, o}
@@ -70,14 +68,6 @@ no_heights p q r hk hl hm hn ek el em en =
     (given (minus (var 0 ⊕ var 1 ⊕ var 2)) (var 3) (lit (pos 0)) (given (var 0) (var 4) (lit (pos 0)) (given (var 1) (var 5) (lit (pos 0)) (given (var 2) (var 6) (lit (pos 0)) nothing))))
     (p ∷ q ∷ r ∷ hk ∷ hl ∷ hm ∷ hn ∷ []) (ek, (el, (em, (en, tt)))) tt
 
--- a product that is 0, one factor not being 0
-other_factor : (p q : ℤ) → ¬ (p ≡ pos 0) → p *ℤ q ≡ pos 0 → q ≡ pos 0
-other_factor p q k e = elim (zero_factor p q e) [ inl z ↦ absurd (k z) | inr z ↦ z ]
-
--- what is not different from 0 is 0
-settled : (z : ℤ) → (¬ (z ≡ pos 0) → ⊥) → z ≡ pos 0
-settled z f = elim (sign z) [ below p ↦ absurd (f (λ e. omega (arith, ints, p, e))) | at_zero e ↦ e | above p ↦ absurd (f (λ e. omega (arith, ints, p, e))) ]
-
 -- four independent places in the plane of three: these are on one line
 pub only_on_line : OnlyOnLine
 only_on_line a b c k l m n t ek el em en =
@@ -91,7 +81,7 @@ only_on_line a b c k l m n t ek el em en =
 
 -- the other way round
 pub one_plane : OnePlane
-one_plane a b c k l m n t ek el em en = settled (orient k l m n) (λ f. t (only_on_line a b c k l m n f ek el em en))
+one_plane a b c k l m n t ek el em en = not_other (orient k l m n) (λ f. t (only_on_line a b c k l m n f ek el em en))
 
 -- ---- one line
 
@@ -130,14 +120,10 @@ parallel_third o p q x r s y t u e f g =
     (given (var 7) (var 2 ⊗ var 3 ⊖ var 0 ⊗ var 5) (lit (pos 0)) (given (var 8) (var 0 ⊗ var 4 ⊖ var 1 ⊗ var 3) (lit (pos 0)) nothing)))
     (o ∷ p ∷ q ∷ x ∷ r ∷ s ∷ y ∷ t ∷ u ∷ []) (e, (f, (g, tt))) tt
 
--- a product that is 0, the second factor not being 0
-first_factor : (p q : ℤ) → ¬ (q ≡ pos 0) → p *ℤ q ≡ pos 0 → p ≡ pos 0
-first_factor p q k e = elim (zero_factor p q e) [ inl z ↦ z | inr z ↦ absurd (k z) ]
-
 -- one coordinate of the vector product of two vectors that are parallel to (o, p, q), which is not 0
 parallel_coordinate : (o p q x r s y t u : ℤ) → (o ≡ pos 0 → p ≡ pos 0 → q ≡ pos 0 → ⊥) → p *ℤ s -ℤ q *ℤ r ≡ pos 0 → q *ℤ x -ℤ o *ℤ s ≡ pos 0 → o *ℤ r -ℤ p *ℤ x ≡ pos 0 → p *ℤ u -ℤ q *ℤ t ≡ pos 0 → r *ℤ u -ℤ s *ℤ t ≡ pos 0
 parallel_coordinate o p q x r s y t u n e f g h =
-    settled (r *ℤ u -ℤ s *ℤ t) (λ k. n (first_factor o (r *ℤ u -ℤ s *ℤ t) k (parallel_third o p q x r s y t u h f g)) (first_factor p (r *ℤ u -ℤ s *ℤ t) k (parallel_first p q r s t u e h)) (first_factor q (r *ℤ u -ℤ s *ℤ t) k (parallel_second p q r s t u e h)))
+    not_other (r *ℤ u -ℤ s *ℤ t) (λ k. n (first_factor o (r *ℤ u -ℤ s *ℤ t) k (parallel_third o p q x r s y t u h f g)) (first_factor p (r *ℤ u -ℤ s *ℤ t) k (parallel_first p q r s t u e h)) (first_factor q (r *ℤ u -ℤ s *ℤ t) k (parallel_second p q r s t u e h)))
 
 -- each coordinate of the vector product of two vectors that are parallel to a third is 0
 pub parallel_vectors : ParallelVectors

@@ -1,7 +1,7 @@
 -- Heights and spheres.
 use Rattle.std.specs.Prelude.{ℤ, pos, ◌+ℤ◌, ◌*ℤ◌, ◌≡◌, ℕ, ◌+◌, ◌*◌, List, [], ◌∷◌}
 use Rattle.whole_ring.specs.Poly.{Expr, var, lit, ◌⊕◌, ◌⊗◌, minus, ◌⊖◌, nothing, given}
-use Rattle.whole_ring.proofs.Ring.{ring, ring_from}
+use Rattle.whole_ring.proofs.Cited.{ring, ring_from}
 use Rattle.conv_laws.specs.Places.{square, Place, normal, orient, lifted, sphere}
 use Rattle.conv_laws.specs.Spheres.{HeightsAreLinear, AffineChange, LiftedBySteps, SphereBySteps, SphereAbout, ParaboloidIsConvex, PowerCarried, EdgePower, triangle_vector, triangle_power, TriangleOnSphere, TrianglePower}
 use Rattle.conv_laws.proofs.Written.{Written, place, onto, det_w, cross_w, dot_w, step_w, square_w, distance_w, normal_w, WrittenLifted, on_paraboloid_w, lifted_w, all_of, o, weighted_w, raised}

@@ -1,6 +1,5 @@
 pub mod Affine
 pub mod Alternation
-pub mod Lists
 pub mod Places
 pub mod Solidity
 pub mod Spheres

@@ -1,8 +1,7 @@
-//! Identities of geometry over the whole numbers: orientations, lifted
-//! determinants and spheres; and three facts on lists.
+//! Identities of geometry over the whole numbers: orientations, lifted determinants and spheres.
 //!
-//! Each function here does nothing, and its contract is a law. The definitions are in `specs/`, and the lemmas that
-//! crates above cite are in `proofs/`. `docs/GEOMETRY.md` tells the laws in order.
+//! Each function here does nothing, and its contract is a law. The definitions are in `specs/`, and
+//! `proofs/Cited` passes on the lemmas that crates above cite. `docs/GEOMETRY.md` tells the laws in order.
 #![tactic(auto)]
 
 ghost use Rattle.conv_laws.specs.Affine.{
@@ -23,16 +22,6 @@ ghost use Rattle.conv_laws.specs.Alternation.{
   LiftedSwaps,
   LiftedOrders,
   LiftedRepeats,
-};
-ghost use Rattle.conv_laws.specs.Lists.{
-  LeastRatio,
-  Handshake,
-  AnotherOfEven,
-  NoneIsEven,
-  OneIsOdd,
-  TwoAreEven,
-  CountOfPart,
-  CountOfLess,
 };
 ghost use Rattle.conv_laws.specs.Solidity.{
   HeightOverPlane,
@@ -145,28 +134,4 @@ pub fn all_in_one_plane()
     ensures line_in_plane { LineInPlane }
     ensures parallel { ParallelVectors }
     ensures one_line { OneLine }
-{}
-
-/// A list has a member of least ratio, among those where the denominator is positive, unless it is positive at none.
-pub fn least_ratio<T>()
-    ensures { LeastRatio T }
-{}
-
-/// The handshake lemma: evenly many nodes of a graph have an odd degree. So where one has, another has.
-pub fn handshake<T>()
-    ensures degrees { Handshake T }
-    ensures another { AnotherOfEven T }
-{}
-
-/// How many members of a list pass a test, as even or odd: none, exactly one, exactly two.
-pub fn parity_of_few<T>()
-    ensures none { NoneIsEven T }
-    ensures one { OneIsOdd T }
-    ensures two { TwoAreEven T }
-{}
-
-/// A stricter test counts at most as many members of a list, and fewer where a member passes the other test alone.
-pub fn count_of_part<T>()
-    ensures most { CountOfPart T }
-    ensures less { CountOfLess T }
 {}

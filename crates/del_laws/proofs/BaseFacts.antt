@@ -2,7 +2,7 @@
 --
 use Rattle.std.specs.Prelude.{◌≡◌, ◌≢◌, refl, ℕ, true, List, ◌⊎◌}
 use Rattle.std.proofs.Common.{inl, inr, sym, subst, ◌∙◌}
-use Rattle.conv_laws.specs.Lists.{IsIn as IsMember}
+use Rattle.list_laws.proofs.Cited.{false_if, same_test}
 use Rattle.point_order.specs.Heights.{height}
 use Rattle.point_order.specs.Sets.{IsIn}
 use Rattle.del_laws.specs.Cells.{Full, Vertex, point, far, Held, OneOf, Inside}
@@ -16,7 +16,6 @@ use Rattle.del_laws.proofs.Walks.{every_point}
 use Rattle.del_laws.proofs.Existence.{exists_full}
 use Rattle.del_laws.proofs.Smaller.{smaller, held_inside, union}
 use Rattle.del_laws.proofs.Perturbed.{no_ties, is_convex}
-use Rattle.del_laws.proofs.Tests.{same_test, false_if}
 use Rattle.del_laws.proofs.Bools.{cell_true, cell_from}
 use Rattle.del_laws.proofs.PointSets.{keys_of, has_from, has_true, within, solid_from, solid_true, solid_more, in_map, distinct_vertices}
 
@@ -48,7 +47,7 @@ test_symmetric s = record {
 }
 
 -- a vertex of a cell is one of the set's
-pub test_listed : (s : PointSet) (w x y z : Vertex) → cell s w x y z ≡ true → IsMember z (vertices s)
+pub test_listed : (s : PointSet) (w x y z : Vertex) → cell s w x y z ≡ true → IsIn z (vertices s)
 test_listed s w x y far e = inl refl
 test_listed s w x y (point k) e = inr (in_map k s.points (held_inside height s.points w x y (point k) (test_from s w x y (point k) e)).fourth)
 

@@ -1,20 +1,15 @@
 -- The laws of stars and closed parts over tests; a set of empty cells with no open facet is the complex.
-use Rattle.std.specs.Prelude.{ℕ, ◌≡◌, Bool, true, false, List, [], ◌∷◌}
+use Rattle.std.specs.Prelude.{ℕ, ◌≡◌, Bool, true, List, [], ◌∷◌}
 use Rattle.std.proofs.Common.{refl, inl, inr, subst, sym, ◌∙◌, ap}
+use Rattle.list_laws.proofs.Cited.{all_in, both, is_true, of_three}
 use Rattle.point_order.specs.Sets.{IsIn}
 use Rattle.del_laws.specs.Cells.{Vertex, point, Held, Cell, NoTies, IsRegion, HavePoints}
 use Rattle.del_laws.specs.Base.{Symmetric}
 use Rattle.del_laws.specs.Parts.{IsClosedAround, StarLaw, ClosedPart, CellsAtAVertex, EmptyCells}
 use Rattle.del_laws.proofs.Orders.{swap12, swap23, swap34, cell_12, cell_23}
 use Rattle.del_laws.proofs.Facets.{facing}
-use Rattle.del_laws.proofs.Decide.{both, all_in, is_held, vertex_discrete}
-use Rattle.del_laws.proofs.Lists.{of_three}
+use Rattle.del_laws.proofs.Decide.{is_held, vertex_discrete}
 use Rattle.del_laws.proofs.Parts.{IsPart, part_all, has_even}
-
--- whether a test passes
-is_true : (b : Bool) → Dec (b ≡ true)
-is_true true = yes refl
-is_true false = no (λ e. cc)
 
 -- whether a vertex is one of four
 is_vertex : (i : Vertex) (l : List Vertex) → Dec (IsIn i l)

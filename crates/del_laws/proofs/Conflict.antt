@@ -1,12 +1,12 @@
 -- Which cells stay when a point is added, by signs.
 use Rattle.std.specs.Prelude.{ℕ, pos, ◌≤ℤ◌, ◌<ℤ◌, List, ◌∷◌}
 use Rattle.std.proofs.Common.{refl, inl, inr, subst, ◌∙◌, ap}
+use Rattle.list_laws.proofs.Cited.{weak}
 use Rattle.point_order.specs.Orientation.{orientation}
 use Rattle.point_order.specs.Heights.{lifted}
 use Rattle.point_order.specs.Sets.{IsIn}
 use Rattle.del_laws.specs.Cells.{Full, Open, IsOutside}
 use Rattle.del_laws.proofs.Identities.{pencil_of}
-use Rattle.del_laws.proofs.Numbers.{weak}
 use Rattle.del_laws.proofs.CellFacts.{full_cell, full_a, full_b, full_c, full_d, full_turned, full_empty, open_by_mate, open_a, open_b, open_c, open_mate, open_bounds, open_ties}
 use Rattle.del_laws.proofs.Pencils.{mate_sign}
 

@@ -3,20 +3,19 @@ use Rattle.std.specs.Prelude.{ℕ, ℤ, pos, neg_ℤ, ◌+ℤ◌, ◌*ℤ◌, �
 use Rattle.std.proofs.Common.{arith, refl, inl, inr, subst, sym, ◌∙◌, ap}
 use Rattle.std.proofs.lemmas.Int.{ints}
 use Rattle.whole_ring.specs.Signs.{HasSignOf}
-use Rattle.whole_ring.proofs.Signs.{mul_pos_neg, mul_nonneg, square_nonneg}
-use Rattle.whole_ring.proofs.Whole.{mul_neg, neg_mul}
+use Rattle.whole_ring.proofs.Cited.{mul_neg, mul_nonneg, mul_pos_neg, neg_mul, square_nonneg}
+use Rattle.list_laws.proofs.Cited.{below_or_not, clash, not_below, not_zero, weak}
 use Rattle.conv_laws.specs.Places.{Vector, square, normal}
 use Rattle.conv_laws.specs.Spheres.{edge_power, triangle_power}
 use Rattle.point_order.specs.Orientation.{orientation}
 use Rattle.point_order.specs.Heights.{height, out, sphere_polynomial, square_of}
 use Rattle.point_order.specs.Sets.{IsIn}
-use Rattle.point_order.proofs.Perturbation.{out-sign}
+use Rattle.point_order.proofs.Cited.{last-first, last-second, out-sign, swap-middle}
 use Rattle.del_laws.specs.Cells.{point, Full, Held, OneOf}
 use Rattle.del_laws.specs.Keys.{AreKeys}
 use Rattle.del_laws.specs.Vertices.{is_full_cell}
 use Rattle.del_laws.specs.EmptySpheres.{place, IsOffEdge, IsOffTriangle, CellsAreEmpty, EdgeByCells, TriangleByCells}
-use Rattle.del_laws.proofs.Identities.{orientation_at_a, orientation_at_b, orientation_same12, orientation_same13, orientation_same23, orientation_swap23, lifted_swap23, edge_power_of, triangle_power_of}
-use Rattle.del_laws.proofs.Numbers.{weak, not_zero, not_below, clash, below_or_not}
+use Rattle.del_laws.proofs.Identities.{orientation_same12, orientation_same13, orientation_same23, lifted_swap23, edge_power_of, triangle_power_of}
 use Rattle.del_laws.proofs.CellFacts.{full_a, full_b, full_c, full_d, full_turned, full_empty, open_bounds}
 use Rattle.del_laws.proofs.Orders.{full_right}
 use Rattle.del_laws.proofs.Across.{across_full}
@@ -55,7 +54,7 @@ both_turned o p q r e f l =
 pub cells_are_empty : CellsAreEmpty
 cells_are_empty s a b c d e k t m = elim (cell_from s (point a) (point b) (point c) (point d) t) [
   | inl F ↦ mul_nonneg (orientation a b c d) (sphere_polynomial a b c d e) (weak (orientation a b c d) (full_turned F)) (plain k F e m)
-  | inr F ↦ both_turned (orientation a b c d) (orientation a c b d) (sphere_polynomial a b c d e) (sphere_polynomial a c b d e) (orientation_swap23 a b c d) (swapped a b c d e)
+  | inr F ↦ both_turned (orientation a b c d) (orientation a c b d) (sphere_polynomial a b c d e) (sphere_polynomial a c b d e) (swap-middle a b c d) (swapped a b c d e)
       (mul_nonneg (orientation a c b d) (sphere_polynomial a c b d e) (weak (orientation a c b d) (full_turned F)) (plain k F e m))
 ]
 
@@ -126,8 +125,8 @@ module _ (s : List ℕ) (k : AreKeys s) (a b : ℕ) (differ : ¬ (b ≡ a)) wher
   -- nor is the fourth
   apart_d : {c d : ℕ} → Full height s a b c d → ¬ (IsIn d (b ∷ a ∷ []))
   apart_d {c} {d} F m = elim m [
-    | inl f ↦ not_zero (orientation a b c d) (full_turned F) (ap (λ x. orientation a b c x) (sym f) ∙ orientation_at_b a b c)
-    | inr r ↦ elim r [ inl f ↦ not_zero (orientation a b c d) (full_turned F) (ap (λ x. orientation a b c x) (sym f) ∙ orientation_at_a a b c) | inr none ↦ none ]
+    | inl f ↦ not_zero (orientation a b c d) (full_turned F) (ap (λ x. orientation a b c x) (sym f) ∙ last-second a b c)
+    | inr r ↦ elim r [ inl f ↦ not_zero (orientation a b c d) (full_turned F) (ap (λ x. orientation a b c x) (sym f) ∙ last-first a b c) | inr none ↦ none ]
   ]
 
   -- where the points of the cells with the edge are not inside, no point of the set is
@@ -201,10 +200,10 @@ module _ (s : List ℕ) (k : AreKeys s) (a b c : ℕ) where
   behind d F o e m l =
       carried_turned (orientation a b c d) (sphere_polynomial a b c d e) (square (normal (place a) (place b) (place c))) (orientation a b c e) (triangle_power (place a) (place b) (place c) (place e)) (triangle_power (place a) (place b) (place c) (place d))
       (triangle_power_of a b c d e)
-      (subst (λ z. pos 0 <ℤ z) (orientation_swap23 a b c d) (full_turned F))
+      (subst (λ z. pos 0 <ℤ z) (swap-middle a b c d) (full_turned F))
       (subst (λ z. pos 0 ≤ℤ z) (swapped a b c d e) (plain k F e m))
       (square_weak (normal (place a) (place b) (place c)))
-      (subst (λ z. pos 0 ≤ℤ z) (orientation_swap23 a b c e) l) o
+      (subst (λ z. pos 0 ≤ℤ z) (swap-middle a b c e) l) o
 
 -- the orientation of the other order is not negative where this one is negative
 turned_weak : (y z : ℤ) → z ≡ neg_ℤ y → y <ℤ pos 0 → pos 0 ≤ℤ z
@@ -215,7 +214,7 @@ all_off_triangle : (s : List ℕ) (k : AreKeys s) (a b c d : ℕ) → Full heigh
 all_off_triangle s k a b c d F o e m = elim (below_or_not (orientation a b c e)) [
   | inr l ↦ before s k a b c d F (o d (cell_true s k (point a) (point b) (point c) (point d) (inl F))) e m l
   | inl l ↦ elim (across_full F) [
-    | inl r ↦ behind s k a b c r.0 r.1 (o r.0 (cell_true s k (point a) (point b) (point c) (point r.0) (inr r.1))) e m (turned_weak (orientation a b c e) (orientation a c b e) (orientation_swap23 a b c e) l)
+    | inl r ↦ behind s k a b c r.0 r.1 (o r.0 (cell_true s k (point a) (point b) (point c) (point r.0) (inr r.1))) e m (turned_weak (orientation a b c e) (orientation a c b e) (swap-middle a b c e) l)
     | inr G ↦ absurd (clash (orientation a b c e) l (open_bounds G e m))
   ]
 ]
@@ -225,7 +224,7 @@ all_off_behind : (s : List ℕ) (k : AreKeys s) (a b c d : ℕ) → Full height 
 all_off_behind s k a b c d F o e m = elim (below_or_not (orientation a c b e)) [
   | inr l ↦ behind s k a b c d F (o d (cell_true s k (point a) (point b) (point c) (point d) (inr F))) e m l
   | inl l ↦ elim (across_full F) [
-    | inl r ↦ before s k a b c r.0 r.1 (o r.0 (cell_true s k (point a) (point b) (point c) (point r.0) (inl r.1))) e m (turned_weak (orientation a c b e) (orientation a b c e) (orientation_swap23 a c b e) l)
+    | inl r ↦ before s k a b c r.0 r.1 (o r.0 (cell_true s k (point a) (point b) (point c) (point r.0) (inl r.1))) e m (turned_weak (orientation a c b e) (orientation a b c e) (swap-middle a c b e) l)
     | inr G ↦ absurd (clash (orientation a c b e) l (open_bounds G e m))
   ]
 ]

@@ -3,15 +3,14 @@ use Rattle.std.specs.Prelude.{ℕ, ℤ, pos, ◌*ℤ◌, neg_ℤ, ◌≤ℤ◌, 
 use Rattle.std.proofs.Common.{arith, refl, inl, inr}
 use Rattle.std.proofs.lemmas.Int.{ints}
 use Rattle.whole_ring.specs.Signs.{below, at_zero, above}
-use Rattle.whole_ring.proofs.Signs.{sign}
-use Rattle.whole_ring.proofs.Whole.{neg_mul}
+use Rattle.whole_ring.proofs.Cited.{neg_mul, sign}
+use Rattle.list_laws.proofs.Cited.{from_append, in_left, not_back, not_zero, one_above, turned_below, weak, zero_weak}
 use Rattle.point_order.specs.Orientation.{orientation}
 use Rattle.point_order.specs.Heights.{lifted}
 use Rattle.point_order.specs.Sets.{IsIn}
+use Rattle.point_order.proofs.Cited.{swap-middle}
 use Rattle.del_laws.specs.Cells.{Full, Open, NoTies, Four, IsSolid, IsSubset, HasFull, Faces}
-use Rattle.del_laws.proofs.Listed.{in_left, from_append}
-use Rattle.del_laws.proofs.Identities.{orientation_swap23, orientation_bcad, orientation_acdb, lifted_bcad, lifted_acdb, weights_of}
-use Rattle.del_laws.proofs.Numbers.{weak, zero_weak, not_zero, not_back, one_above, turned_below}
+use Rattle.del_laws.proofs.Identities.{orientation_bcad, orientation_acdb, lifted_bcad, lifted_acdb, weights_of}
 use Rattle.del_laws.proofs.Lists.{of_four}
 use Rattle.del_laws.proofs.CellFacts.{full_cell, full_turned, full_same}
 use Rattle.del_laws.proofs.Across.{across_full, across_open}
@@ -109,7 +108,7 @@ exists_from {h} {s} a b c d n ma mb mc md o =
 -- a solid set has a Full cell
 pub exists_full : {h : ℕ → ℕ} {s : List ℕ} → NoTies h s → IsSolid s → HasFull h s
 exists_full {h} {s} n i = elim (sign (orientation i.f.a i.f.b i.f.c i.f.d)) [
-  | below l ↦ exists_from i.f.a i.f.c i.f.b i.f.d n i.has_a i.has_c i.has_b i.has_d (rw orientation_swap23 (turned_below (orientation i.f.a i.f.b i.f.c i.f.d) l))
+  | below l ↦ exists_from i.f.a i.f.c i.f.b i.f.d n i.has_a i.has_c i.has_b i.has_d (rw swap-middle (turned_below (orientation i.f.a i.f.b i.f.c i.f.d) l))
   | at_zero z ↦ absurd (i.apart z)
   | above l ↦ exists_from i.f.a i.f.b i.f.c i.f.d n i.has_a i.has_b i.has_c i.has_d l
 ]

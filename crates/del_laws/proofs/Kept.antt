@@ -1,30 +1,29 @@
 -- Which cells stay when a point is added, by the tests of conflict.
-use Rattle.std.specs.Prelude.{◌≡◌, refl, ℕ, ℤ, pos, neg_ℤ, ◌≤ℤ◌, ◌<ℤ◌, Bool, true, false, not, ◌&&◌, ◌||◌, List, [], ◌∷◌}
+use Rattle.std.specs.Prelude.{◌≡◌, refl, ℕ, ℤ, pos, ◌≤ℤ◌, ◌<ℤ◌, Bool, true, false, not, ◌&&◌, ◌||◌, List, [], ◌∷◌}
 use Rattle.std.specs.Int.Signed.{lt_z}
 use Rattle.std.proofs.Common.{arith, inl, inr, sym, subst}
 use Rattle.std.proofs.lemmas.Int.{ints}
 use Rattle.whole_ring.specs.Signs.{Sign, below, at_zero, above}
-use Rattle.whole_ring.proofs.Signs.{sign}
+use Rattle.whole_ring.proofs.Cited.{sign}
+use Rattle.list_laws.proofs.Cited.{clash, high_of, low_of, negative_of_zero, not_both, not_from, not_true, not_zero, positive, same_test, weak, zero_weak}
 use Rattle.point_order.specs.Coordinates.{IsKey}
 use Rattle.point_order.specs.Orientation.{orientation, is_zero}
 use Rattle.point_order.specs.Heights.{height, lifted, out}
 use Rattle.point_order.specs.Spheres.{is_outside}
 use Rattle.point_order.specs.Sets.{IsIn, with_point}
 use Rattle.point_order.specs.Conflicts.{is_open_conflict}
-use Rattle.point_order.proofs.SetLaws.{in-with, in-with_new, in-with_old}
+use Rattle.point_order.proofs.Cited.{in-with, in-with_new, in-with_old, not_zero_from, swap-middle}
 use Rattle.del_laws.specs.Cells as cells
 use Rattle.del_laws.specs.Cells.{point, far, Held, OneOf, NoTies, IsOutside}
 use Rattle.del_laws.specs.Keys.{AreKeys}
 use Rattle.del_laws.specs.Vertices.{is_full_cell, is_open_cell}
 use Rattle.del_laws.specs.Kept.{FullIsKept, OpenIsKept}
-use Rattle.del_laws.proofs.Identities.{orientation_swap23, lifted_swap23}
-use Rattle.del_laws.proofs.Numbers.{weak, zero_weak, positive, not_zero, clash, low_of, high_of}
+use Rattle.del_laws.proofs.Identities.{lifted_swap23}
 use Rattle.del_laws.proofs.Lists.{of_four}
 use Rattle.del_laws.proofs.CellFacts.{full_point, full_turned, full_against, full_same, open_a, open_b, open_c, open_bounds, open_ties, open_under, open_same}
 use Rattle.del_laws.proofs.Walks.{strict}
 use Rattle.del_laws.proofs.Conflict.{full_stays, open_stays}
 use Rattle.del_laws.proofs.Perturbed.{no_ties, out_is}
-use Rattle.del_laws.proofs.Tests.{same_test, not_zero_from, not_true, not_from, not_both}
 use Rattle.del_laws.proofs.Bools.{cell_true, cell_from, outside_above, outside_below, above_from, below_from}
 
 -- ---- the set with the point
@@ -82,7 +81,7 @@ module _ (s : List ℕ) (p : ℕ) (k : AreKeys s) (j : IsKey p) (o : IsIn p s �
   -- in an order of negative orientation
   full_below : (a b c d : ℕ) → cells.Full height s a c b d → is_full_cell (with_point p s) a b c d ≡ not (not (is_outside a b c d p))
   full_below a b c d F =
-      let low : orientation a b c d <ℤ pos 0 = low_of (orientation a b c d) (orientation a c b d) (full_turned F) (orientation_swap23 a b c d) in
+      let low : orientation a b c d <ℤ pos 0 = low_of (orientation a b c d) (orientation a c b d) (full_turned F) (swap-middle a b c d) in
       same_test (is_full_cell (with_point p s) a b c d) (not (not (is_outside a b c d p)))
       (λ t. denied_twice (is_outside a b c d p) (elim (cell_from (with_point p s) (point a) (point b) (point c) (point d) t) [
         | inl G ↦ absurd (full_against F G)
@@ -132,10 +131,6 @@ inside_plane_above m q l hm hq hl = grind (arith, ints)
 inside_plane_below : (m q l : ℤ) → m <ℤ pos 0 → q ≡ pos 0 → pos 0 ≤ℤ l → conflict m q l ≡ true
 inside_plane_below m q l hm hq hl = grind (arith, ints)
 
--- two numbers that are opposite are 0 together
-zero_of : (a b : ℤ) → b ≡ neg_ℤ a → a ≡ pos 0 → b ≡ pos 0
-zero_of a b e z = omega (arith, ints)
-
 module _ (s : List ℕ) (p : ℕ) (k : AreKeys s) (j : IsKey p) (o : IsIn p s → ⊥) where
   -- an Open cell of the set with p, seen from a mate of the set: p is above its plane, or in it and strictly outside
   kept_open : (a b c m : ℕ) → IsIn a s → IsIn b s → IsIn c s → IsIn m s → pos 0 <ℤ orientation a b c m → cells.Open height (with_point p s) a b c → orientation a b c p ≡ pos 0 → pos 0 <ℤ lifted height a b c m p
@@ -181,7 +176,7 @@ module _ (s : List ℕ) (p : ℕ) (k : AreKeys s) (j : IsKey p) (o : IsIn p s �
   -- three points in the other order
   open_below : (a b c m : ℕ) → cells.Open height s a c b → IsIn m s → pos 0 <ℤ orientation a c b m → is_open_cell (with_point p s) a b c ≡ not (is_open_conflict (a ∷ b ∷ c ∷ []) m p)
   open_below a b c m F mm l =
-      let low : orientation a b c m <ℤ pos 0 = low_of (orientation a b c m) (orientation a c b m) l (orientation_swap23 a b c m) in
+      let low : orientation a b c m <ℤ pos 0 = low_of (orientation a b c m) (orientation a c b m) l (swap-middle a b c m) in
       same_test (is_open_cell (with_point p s) a b c) (not (is_open_conflict (a ∷ b ∷ c ∷ []) m p))
       (λ t. not_true (is_open_conflict (a ∷ b ∷ c ∷ []) m p) (elim (cell_from (with_point p s) (point a) (point b) (point c) far t) [
         | inr G ↦ absurd (open_under _ (in-with_old p m s mm) l G)
@@ -193,22 +188,22 @@ module _ (s : List ℕ) (p : ℕ) (k : AreKeys s) (j : IsKey p) (o : IsIn p s �
       passes : orientation a b c m <ℤ pos 0 → cells.Open height (with_point p s) a c b → is_open_conflict (a ∷ b ∷ c ∷ []) m p ≡ false
       passes low G = elim (sign (orientation a c b p)) [
         | below q ↦ absurd (clash (orientation a c b p) q (open_bounds G p (in-with_new p s)))
-        | at_zero q ↦ outside_plane_below (orientation a b c m) (orientation a b c p) (out a b c m p) low (zero_of (orientation a c b p) (orientation a b c p) (orientation_swap23 a c b p) q)
+        | at_zero q ↦ outside_plane_below (orientation a b c m) (orientation a b c p) (out a b c m p) low (negative_of_zero (orientation a c b p) (orientation a b c p) (swap-middle a c b p) q)
             (subst (λ z. z <ℤ pos 0) (sym (out_is a b c m p)) (low_of (lifted height a b c m p) (lifted height a c b m p) (kept_open a c b m (open_a F) (open_b F) (open_c F) mm l G q) (lifted_swap23 height a b c m p)))
-        | above q ↦ before_below (orientation a b c m) (orientation a b c p) (out a b c m p) low (low_of (orientation a b c p) (orientation a c b p) q (orientation_swap23 a b c p))
+        | above q ↦ before_below (orientation a b c m) (orientation a b c p) (out a b c m p) low (low_of (orientation a b c p) (orientation a c b p) q (swap-middle a b c p))
       ]
 
       -- and where it is not in conflict p is outside
       outside : orientation a b c m <ℤ pos 0 → is_open_conflict (a ∷ b ∷ c ∷ []) m p ≡ false → IsOutside height a c b m p
       outside low t = elim (sign (orientation a c b p)) [
-        | below q ↦ absurd (not_both (is_open_conflict (a ∷ b ∷ c ∷ []) m p) (beyond_below (orientation a b c m) (orientation a b c p) (out a b c m p) low (high_of (orientation a c b p) (orientation a b c p) q (orientation_swap23 a c b p))) t)
+        | below q ↦ absurd (not_both (is_open_conflict (a ∷ b ∷ c ∷ []) m p) (beyond_below (orientation a b c m) (orientation a b c p) (out a b c m p) low (high_of (orientation a c b p) (orientation a b c p) q (swap-middle a c b p))) t)
         | at_zero q ↦ record { side = zero_weak (orientation a c b p) q; tie = λ z. plane q (sign (lifted height a c b m p)) }
         | above q ↦ record { side = weak (orientation a c b p) q; tie = λ z. absurd (not_zero (orientation a c b p) q z) }
       ]
         where
           -- in the plane
           plane : orientation a c b p ≡ pos 0 → Sign (lifted height a c b m p) → pos 0 ≤ℤ lifted height a c b m p
-          plane q (below r) = absurd (not_both (is_open_conflict (a ∷ b ∷ c ∷ []) m p) (inside_plane_below (orientation a b c m) (orientation a b c p) (out a b c m p) low (zero_of (orientation a c b p) (orientation a b c p) (orientation_swap23 a c b p) q)
+          plane q (below r) = absurd (not_both (is_open_conflict (a ∷ b ∷ c ∷ []) m p) (inside_plane_below (orientation a b c m) (orientation a b c p) (out a b c m p) low (negative_of_zero (orientation a c b p) (orientation a b c p) (swap-middle a c b p) q)
               (weak (out a b c m p) (subst (λ z. pos 0 <ℤ z) (sym (out_is a b c m p)) (high_of (lifted height a c b m p) (lifted height a b c m p) r (lifted_swap23 height a c b m p))))) t)
           plane q (at_zero r) = zero_weak (lifted height a c b m p) r
           plane q (above r) = weak (lifted height a c b m p) r
@@ -216,6 +211,6 @@ module _ (s : List ℕ) (p : ℕ) (k : AreKeys s) (j : IsKey p) (o : IsIn p s �
 -- an Open cell is kept where it is not in conflict
 pub open_is_kept : OpenIsKept
 open_is_kept s a b c m p k j o t mm n = elim (cell_from s (point a) (point b) (point c) far t) [
-  | inl F ↦ open_below s p k j o a b c m F mm (positive (orientation a c b m) (open_bounds F m mm) (λ z. not_zero_from (orientation a b c m) n (zero_of (orientation a c b m) (orientation a b c m) (orientation_swap23 a c b m) z)))
+  | inl F ↦ open_below s p k j o a b c m F mm (positive (orientation a c b m) (open_bounds F m mm) (λ z. not_zero_from (orientation a b c m) n (negative_of_zero (orientation a c b m) (orientation a b c m) (swap-middle a c b m) z)))
   | inr F ↦ open_above s p k j o a b c m F mm (positive (orientation a b c m) (open_bounds F m mm) (not_zero_from (orientation a b c m) n))
 ]

@@ -1,6 +1,7 @@
 -- The laws of specs/Laws and specs/Walks, from the theorems of the other files.
 use Rattle.std.specs.Prelude.{pos, ◌≤ℤ◌, ◌∷◌}
 use Rattle.std.proofs.Common.{inl, inr}
+use Rattle.list_laws.proofs.Cited.{not_both}
 use Rattle.point_order.specs.Orientation.{is_collinear}
 use Rattle.point_order.specs.Heights.{lifted}
 use Rattle.del_laws.specs.Cells.{point, far, Cell, IsOutside}
@@ -11,7 +12,6 @@ use Rattle.del_laws.proofs.Orders.{cell_12, cell_23, cell_34}
 use Rattle.del_laws.proofs.Across.{across_full, across_open}
 use Rattle.del_laws.proofs.Sides.{unique, one_open}
 use Rattle.del_laws.proofs.Pairs.{same_point}
-use Rattle.del_laws.proofs.Tests.{not_both}
 use Rattle.del_laws.proofs.Planes.{off_plane}
 use Rattle.del_laws.proofs.Smaller.{smaller, union}
 use Rattle.del_laws.proofs.Conflict.{full_stays, full_kept, open_stays, open_kept, outside_any}

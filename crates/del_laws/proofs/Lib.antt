@@ -16,7 +16,6 @@ pub mod ListedParts
 pub mod Lists
 pub mod Nearness
 pub mod Neighbours
-pub mod Numbers
 pub mod Ordered
 pub mod Orders
 pub mod Pairs
@@ -34,5 +33,5 @@ pub mod Sorting
 pub mod StarLaw
 pub mod Stars
 pub mod Strict
-pub mod Tests
 pub mod Walks
+pub mod Cited

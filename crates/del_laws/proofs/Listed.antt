@@ -1,46 +1,18 @@
 -- Which cells the sorted list of a complex has.
-use Rattle.std.specs.Prelude.{◌≡◌, refl, ℕ, zero, suc, ◌<◌, Bool, true, false, not, ◌&&◌, ◌||◌, List, [], ◌∷◌, ◌++◌, ◌⊎◌, map, length}
+use Rattle.std.specs.Prelude.{◌≡◌, refl, ℕ, zero, suc, ◌<◌, Bool, true, false, not, ◌&&◌, ◌||◌, List, [], ◌∷◌, ◌⊎◌, map, length}
 use Rattle.std.specs.List.{filter, list_all}
-use Rattle.std.proofs.Common.{arith, inl, inr, ap, sym, subst}
+use Rattle.std.proofs.Common.{arith, inl, inr, sym, subst}
+use Rattle.list_laws.proofs.Cited.{all_from, all_true, among_from, among_true, below_each, both_true, filtered_from, filtered_true, first_below, first_true, from_append, in_left, in_right, less_chain, mapped_from, mapped_true, not_from, second_true}
 use Rattle.point_order.specs.declared.cell.Cell.{Cell}
 use Rattle.point_order.specs.declared.cell.Cell.TheVariants.{Full, Open}
 use Rattle.point_order.specs.Orientation.{is_flat}
 use Rattle.point_order.specs.Spheres.{is_outside}
 use Rattle.point_order.specs.Facets.{points_of}
-use Rattle.point_order.specs.Sets.{IsIn, IsAscending, IsBelowFirst, is_among}
+use Rattle.point_order.specs.Sets.{IsIn, IsAscending, is_among}
 use Rattle.point_order.specs.Subsets.{subsets}
 use Rattle.point_order.specs.Complex.{complex, is_full, is_open}
-use Rattle.point_order.proofs.SetLaws.{below-each}
 use Rattle.del_laws.specs.Vertices.{are_among, is_full_cell, is_open_cell}
 use Rattle.del_laws.specs.Listed.{IsListedFull, IsListedOpen, IsListed, DefinitionIsCell, ListedIsCell, CellIsListed}
-use Rattle.del_laws.proofs.Tests.{both_true, first_true, second_true, all_true, all_from, among_true, among_from, filtered_from, filtered_true, not_from}
-
--- ---- lists
-
--- a member of the first of two lists
-pub in_left : {X : Type 0} (e : X) (l m : List X) → IsIn e l → IsIn e (l ++ m)
-in_left e [] m i = absurd i
-in_left e (x ∷ l) m i = elim i [ inl q ↦ inl q | inr r ↦ inr (in_left e l m r) ]
-
--- of the second
-pub in_right : {X : Type 0} (e : X) (l m : List X) → IsIn e m → IsIn e (l ++ m)
-in_right e [] m i = i
-in_right e (x ∷ l) m i = inr (in_right e l m i)
-
--- a member of both together
-pub from_append : {X : Type 0} (e : X) (l m : List X) → IsIn e (l ++ m) → IsIn e l ⊎ IsIn e m
-from_append e [] m i = inr i
-from_append e (x ∷ l) m i = elim i [ inl q ↦ inl (inl q) | inr r ↦ elim (from_append e l m r) [ inl k ↦ inl (inr k) | inr k ↦ inr k ] ]
-
--- f of a member
-pub mapped_true : {X Y : Type 0} (f : X → Y) (e : X) (l : List X) → IsIn e l → IsIn (f e) (map f l)
-mapped_true f e [] i = absurd i
-mapped_true f e (x ∷ l) i = elim i [ inl q ↦ inl (ap f q) | inr r ↦ inr (mapped_true f e l r) ]
-
--- and back
-pub mapped_from : {X Y : Type 0} (f : X → Y) (e : Y) (l : List X) → IsIn e (map f l) → (x : X) × IsIn x l × (f x ≡ e)
-mapped_from f e [] i = absurd i
-mapped_from f e (x ∷ l) i = elim i [ inl q ↦ (x, inl refl, q) | inr r ↦ (let k = mapped_from f e l r in (k.0, inr k.1, k.2)) ]
 
 -- ---- parts of a list
 
@@ -59,11 +31,6 @@ part_inside (suc k) (x ∷ s) q m p i = elim (from_append q (map (λ r. x ∷ r)
     first_or_later : (r : List ℕ) → x ∷ r ≡ q → (x ≡ p) ⊎ IsIn p r
     first_or_later r e = subst (λ (l : List ℕ). IsIn p l) (sym e) i
 
--- what is below each member is below the first
-first_below : (x : ℕ) (l : List ℕ) → ((y : ℕ) → IsIn y l → x < y) → IsBelowFirst x l
-first_below x [] f = tt
-first_below x (y ∷ l) f = f y (inl refl)
-
 -- a part of an ascending list is ascending
 pub part_ascending : (k : ℕ) (s q : List ℕ) → IsAscending s → IsIn q (subsets k s) → IsAscending q
 part_ascending zero s q a m = elim m [ inl e ↦ subst IsAscending e tt | inr none ↦ absurd none ]
@@ -71,7 +38,7 @@ part_ascending (suc k) [] q a m = absurd m
 part_ascending (suc k) (x ∷ s) q a m = elim (from_append q (map (λ r. x ∷ r) (subsets k s)) (subsets (suc k) s) m) [
   | inl l ↦ (
       let r = mapped_from (λ r. x ∷ r) q (subsets k s) l in
-      subst IsAscending r.2 (first_below x r.0 (λ y i. below-each x s a.0 a.1 y (part_inside k s r.0 r.1 y i)), part_ascending k s r.0 a.1 r.1))
+      subst IsAscending r.2 (first_below x r.0 (λ y i. below_each x s a.0 a.1 y (part_inside k s r.0 r.1 y i)), part_ascending k s r.0 a.1 r.1))
   | inr l ↦ part_ascending (suc k) s q a.1 l
 ]
 
@@ -79,19 +46,15 @@ part_ascending (suc k) (x ∷ s) q a m = elim (from_append q (map (λ r. x ∷ r
 not_less : (n : ℕ) → n < n → ⊥
 not_less n e = omega arith
 
--- one after the other
-less_chain : (a b c : ℕ) → a < b → b < c → a < c
-less_chain a b c e f = omega arith
-
 -- an ascending list of members is a part
 pub part_true : (s q : List ℕ) → IsAscending s → IsAscending q → ((p : ℕ) → IsIn p q → IsIn p s) → IsIn q (subsets (length q) s)
 part_true s [] a b f = inl refl
 part_true [] (x ∷ q) a b f = absurd (f x (inl refl))
 part_true (y ∷ s) (x ∷ q) a b f = elim (f x (inl refl)) [
   | inl e ↦ in_left (x ∷ q) (map (λ r. y ∷ r) (subsets (length q) s)) (subsets (suc (length q)) s)
-      (subst (λ v. IsIn (v ∷ q) (map (λ r. y ∷ r) (subsets (length q) s))) e (mapped_true (λ r. y ∷ r) q (subsets (length q) s) (part_true s q a.1 b.1 (λ p i. later p (less_at e (below-each x q b.0 b.1 p i)) (f p (inr i))))))
+      (subst (λ v. IsIn (v ∷ q) (map (λ r. y ∷ r) (subsets (length q) s))) e (mapped_true (λ r. y ∷ r) q (subsets (length q) s) (part_true s q a.1 b.1 (λ p i. later p (less_at e (below_each x q b.0 b.1 p i)) (f p (inr i))))))
   | inr r ↦ in_right (x ∷ q) (map (λ r. y ∷ r) (subsets (length q) s)) (subsets (suc (length q)) s)
-      (part_true s (x ∷ q) a.1 b (λ p i. later p (elim i [ inl e ↦ subst (λ v. y < v) e (below-each y s a.0 a.1 x r) | inr j ↦ less_chain y x p (below-each y s a.0 a.1 x r) (below-each x q b.0 b.1 p j) ]) (f p i)))
+      (part_true s (x ∷ q) a.1 b (λ p i. later p (elim i [ inl e ↦ subst (λ v. y < v) e (below_each y s a.0 a.1 x r) | inr j ↦ less_chain y x p (below_each y s a.0 a.1 x r) (below_each x q b.0 b.1 p j) ]) (f p i)))
 ]
   where
     -- above the first, so later

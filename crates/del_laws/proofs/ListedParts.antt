@@ -1,6 +1,7 @@
 -- Parts of the sorted list of a complex.
 use Rattle.std.specs.Prelude.{◌≡◌, refl, ℕ, pos, neg_ℤ, ◌<◌, Bool, true, List, [], ◌∷◌}
 use Rattle.std.proofs.Common.{inl, inr, ap, sym, subst, ◌∙◌}
+use Rattle.list_laws.proofs.Cited.{of_three}
 use Rattle.point_order.specs.declared.cell.Cell.{Cell}
 use Rattle.point_order.specs.declared.cell.Cell.TheVariants.{Full, Open}
 use Rattle.point_order.specs.declared.cell.Facet.TheVariants.{Three}
@@ -8,21 +9,19 @@ use Rattle.point_order.specs.Orientation.{orientation}
 use Rattle.point_order.specs.Heights.{height}
 use Rattle.point_order.specs.Sets.{IsIn, IsAscending, ascending}
 use Rattle.point_order.specs.Facets.{points_of}
-use Rattle.point_order.proofs.SetLaws.{ascending-self, in-ascending_from}
+use Rattle.point_order.proofs.Cited.{ascending-self, in-ascending_from, swap-middle, zero_false}
 use Rattle.del_laws.specs.Cells.{Vertex, point, far, Held, HavePoints}
 use Rattle.del_laws.specs.Keys.{AreKeys}
 use Rattle.del_laws.specs.Vertices.{is_cell}
 use Rattle.del_laws.specs.Base.{Symmetric}
 use Rattle.del_laws.specs.Listed.{IsListed, cell_of}
 use Rattle.del_laws.specs.ListedParts.{IsClosedListed, ListedStar, ListedPart, ListedAtAPoint, ListedEveryPoint, HasMate, ListedMate}
-use Rattle.del_laws.proofs.Identities.{orientation_swap23}
-use Rattle.del_laws.proofs.Lists.{of_three, of_four}
+use Rattle.del_laws.proofs.Lists.{of_four}
 use Rattle.del_laws.proofs.CellFacts.{full_d, full_apart}
 use Rattle.del_laws.proofs.Across.{across_open}
 use Rattle.del_laws.proofs.Walks.{every_point}
 use Rattle.del_laws.proofs.Existence.{exists_full}
 use Rattle.del_laws.proofs.Perturbed.{no_ties, is_convex}
-use Rattle.del_laws.proofs.Tests.{zero_false}
 use Rattle.del_laws.proofs.Bools.{cell_true, cell_from}
 use Rattle.del_laws.proofs.PointSets.{solid_from}
 use Rattle.del_laws.proofs.Closed.{star_law}
@@ -164,7 +163,7 @@ listed_every_point s e a keys i m =
 
 -- three points flat in one order are in the other
 turned : (a b c d : ℕ) → orientation a b c d ≡ pos 0 → orientation a c b d ≡ pos 0
-turned a b c d z = orientation_swap23 a b c d ∙ ap neg_ℤ z
+turned a b c d z = swap-middle a b c d ∙ ap neg_ℤ z
 
 -- the mate of a listed Open cell
 pub listed_mate : ListedMate

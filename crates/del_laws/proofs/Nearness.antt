@@ -4,16 +4,13 @@ use Rattle.std.specs.Prelude.{ℕ, suc, ℤ, pos, ◌*ℤ◌, ◌≡◌, ◌≤�
 use Rattle.std.proofs.Common.{arith, refl, inl, inr}
 use Rattle.std.proofs.lemmas.Int.{ints}
 use Rattle.std.specs.Int.Signed.{lt_z}
-use Rattle.conv_laws.specs.Lists.{IsIn as IsMember}
-use Rattle.conv_laws.proofs.Counts.{count_less}
-use Rattle.conv_laws.proofs.LeastRatio.{ratio_chain_less}
+use Rattle.list_laws.specs.Lists.{IsIn}
+use Rattle.list_laws.proofs.Cited.{below_or_not, count_less, less_from, less_true, ratio_chain_less}
 use Rattle.point_order.specs.Orientation.{orientation}
 use Rattle.point_order.specs.Heights.{lifted}
 use Rattle.del_laws.specs.Cells.{Full, NoTies, IsConvex, OneOf, IsBehind, Crossed, full, in_conflict}
 use Rattle.del_laws.specs.Walks.{Rank, first, ratio, last, is_before}
-use Rattle.del_laws.proofs.Numbers.{below_or_not}
 use Rattle.del_laws.proofs.CellFacts.{full_a, full_b, full_c, full_d, full_turned}
-use Rattle.del_laws.proofs.Tests.{less_from, less_true}
 use Rattle.del_laws.proofs.Orders.{full_left, full_right}
 use Rattle.del_laws.proofs.Across.{across_full}
 use Rattle.del_laws.proofs.Walks.{nearer}
@@ -51,7 +48,7 @@ before_chain (ratio n d) last t a b = cc
 before_chain last r t a b = cc
 
 -- of the cells of a list, fewer are nearer than the nearer of two
-pub fewer_nearer : {X : Type 0} (rank : X → Rank) (x y : X) → is_before (rank y) (rank x) ≡ true → (xs : List X) → IsMember y xs → count_by (λ z. is_before (rank z) (rank y)) xs < count_by (λ z. is_before (rank z) (rank x)) xs
+pub fewer_nearer : {X : Type 0} (rank : X → Rank) (x y : X) → is_before (rank y) (rank x) ≡ true → (xs : List X) → IsIn y xs → count_by (λ z. is_before (rank z) (rank y)) xs < count_by (λ z. is_before (rank z) (rank x)) xs
 fewer_nearer rank x y l xs m =
     count_less (λ z. is_before (rank z) (rank y)) (λ z. is_before (rank z) (rank x)) xs
     (λ z i q. before_chain (rank z) (rank y) (rank x) q l)

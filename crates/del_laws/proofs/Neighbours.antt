@@ -1,6 +1,7 @@
 -- Facets of listed cells: each lies in exactly two.
 use Rattle.std.specs.Prelude.{◌≡◌, refl, ℕ, ◌<◌, Bool, true, false, List, [], ◌∷◌, ◌⊎◌}
-use Rattle.std.proofs.Common.{arith, inl, inr, ap, sym, subst, ◌∙◌}
+use Rattle.std.proofs.Common.{inl, inr, ap, sym, subst, ◌∙◌}
+use Rattle.list_laws.proofs.Cited.{less_chain}
 use Rattle.point_order.specs.declared.cell.Cell.{Cell}
 use Rattle.point_order.specs.declared.cell.Cell.TheVariants.{Full, Open}
 use Rattle.point_order.specs.declared.cell.Facet.{Facet}
@@ -9,7 +10,7 @@ use Rattle.point_order.specs.Heights.{height}
 use Rattle.point_order.specs.Sets.{IsIn, IsAscending, ascending}
 use Rattle.point_order.specs.Complex.{complex}
 use Rattle.point_order.specs.Facets.{facets_of}
-use Rattle.point_order.proofs.SetLaws.{in-ascending, in-ascending_from, ascending-self}
+use Rattle.point_order.proofs.Cited.{ascending-self, in-ascending, in-ascending_from}
 use Rattle.del_laws.specs.Cells.{Vertex, point, far}
 use Rattle.del_laws.specs.Keys.{AreKeys}
 use Rattle.del_laws.specs.Vertices.{is_cell}
@@ -46,10 +47,6 @@ pub record IsOver (s : List ℕ) (c : Cell) (f : Facet) : Type 0 where
   pub last : Vertex
   pub is : c ≡ over f last
   pub test : fits s f last ≡ true
-
--- one after the other
-less_chain : (a b c : ℕ) → a < b → b < c → a < c
-less_chain a b c e f = omega arith
 
 -- the cell of the first vertex brought to the end
 cell_of-rotate1 : (w x y z : Vertex) → cell_of w x y z ≡ cell_of x y z w
@@ -210,14 +207,14 @@ last_told s k (Two (v ∷ w ∷ x ∷ r)) y z t u q = cc
 -- ---- two cells
 
 -- the vertex across a facet, and no third
-pub record IsAcross (s : List ℕ) (f : Facet) (x : Vertex) : Type 0 where
+pub record HasOneAcross (s : List ℕ) (f : Facet) (x : Vertex) : Type 0 where
   pub other : Vertex
   pub differs : ¬ (other ≡ x)
   pub test : fits s f other ≡ true
   pub only : (z : Vertex) → fits s f z ≡ true → (z ≡ x) ⊎ (z ≡ other)
 
 -- by the facet law
-pub across : (s : List ℕ) (k : AreKeys s) (f : Facet) (x : Vertex) → fits s f x ≡ true → IsAcross s f x
+pub across : (s : List ℕ) (k : AreKeys s) (f : Facet) (x : Vertex) → fits s f x ≡ true → HasOneAcross s f x
 across s k (Three (a ∷ b ∷ c ∷ [])) x t = (
     let f = facing height s (no_ties s k) (point a) (point b) (point c) x (cell_from s (point a) (point b) (point c) x t) in
     record { other = f.other; differs = f.differs; test = cell_true s k (point a) (point b) (point c) f.other f.cell; only = λ z u. f.only z (cell_from s (point a) (point b) (point c) z u) })

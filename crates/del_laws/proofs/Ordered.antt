@@ -1,73 +1,23 @@
 -- The sorted list of a complex is in the order of cells; lists in order with the same members are one.
-use Rattle.std.specs.Prelude.{◌≡◌, refl, ℕ, zero, suc, ◌<◌, List, [], ◌∷◌, ◌++◌, map}
-use Rattle.std.specs.List.{filter, AllByRecursion}
+use Rattle.std.specs.Prelude.{◌≡◌, refl, ℕ, zero, suc, List, [], ◌∷◌, map}
+use Rattle.std.specs.List.{filter}
 use Rattle.std.specs.List.Sorted.{IsStrictlySortedBy}
-use Rattle.std.specs.Ordering.{nat_cmp, ordering_then, ordering_reverse}
-use Rattle.std.specs.Cmp.{nat_cmp_is}
+use Rattle.std.specs.Ordering.{nat_cmp}
 use Rattle.std.specs.Cmp.Lexicographic.{slice_cmp}
-use Rattle.std.specs.declared.cmp.Ordering.{Ordering}
-use Rattle.std.specs.declared.cmp.Ordering.TheVariants.{Less, Equal, Greater}
-use Rattle.std.proofs.Common.{inl, inr, ap, sym, subst, ◌∙◌}
-use Rattle.std.proofs.lemmas.Cmp.{nat_list_cmp_total}
+use Rattle.std.specs.declared.cmp.Ordering.TheVariants.{Less}
+use Rattle.std.proofs.Common.{inl, inr, sym, subst, ◌∙◌}
 use Rattle.std.proofs.lemmas.List.Kept.{IsStrictlySortedBy-filter}
+use Rattle.list_laws.proofs.Cited.{below_each, each_by, from_append, less_first, list_against, mapped_from, same_first, sorted_append, sorted_map}
 use Rattle.point_order.specs.declared.cell.Cell.{Cell}
 use Rattle.point_order.specs.declared.cell.Cell.TheVariants.{Full, Open}
 use Rattle.point_order.specs.Sets.{IsIn, IsAscending}
 use Rattle.point_order.specs.Subsets.{subsets}
 use Rattle.point_order.specs.CellOrder.{cell_cmp}
 use Rattle.point_order.specs.Complex.{complex, is_full, is_open}
-use Rattle.point_order.proofs.SetLaws.{below-each}
 use Rattle.del_laws.specs.Listed.{ComplexIsSorted, SameMembers}
-use Rattle.del_laws.proofs.Listed.{from_append, mapped_from, part_inside, not_both_kinds}
-
--- ---- what holds of all members
-
--- what holds of each member, as std says it
-all_by : {X : Type 0} (P : X → Type 0) (l : List X) → ((y : X) → IsIn y l → P y) → AllByRecursion P l
-all_by P [] f = tt
-all_by P (x ∷ l) f = (f x (inl refl), all_by P l (λ y m. f y (inr m)))
-
--- and back
-each_by : {X : Type 0} (P : X → Type 0) (l : List X) → AllByRecursion P l → (y : X) → IsIn y l → P y
-each_by P [] a y m = absurd m
-each_by P (x ∷ l) a y m = elim m [ inl q ↦ subst P q a.0 | inr r ↦ each_by P l a.1 y r ]
-
--- two lists in order, the first before the second
-sorted_append : {X : Type 0} (c : X → X → Ordering) (l m : List X) → IsStrictlySortedBy c l → IsStrictlySortedBy c m → ((x y : X) → IsIn x l → IsIn y m → c x y ≡ Less) → IsStrictlySortedBy c (l ++ m)
-unfolding IsStrictlySortedBy
-sorted_append c [] m a b f = b
-sorted_append c (x ∷ l) m a b f = (
-  all_by (λ y. c x y ≡ Less) (l ++ m) (λ y i. elim (from_append y l m i) [ inl j ↦ each_by (λ y. c x y ≡ Less) l a.0 y j | inr j ↦ f x y (inl refl) j ]),
-  sorted_append c l m a.1 b (λ x y i j. f x y (inr i) j),
-)
-
--- a list in order, put through a function that keeps the order
-sorted_map : {X Y : Type 0} (c : X → X → Ordering) (d : Y → Y → Ordering) (f : X → Y) (l : List X) → IsStrictlySortedBy c l → ((x y : X) → c x y ≡ Less → d (f x) (f y) ≡ Less) → IsStrictlySortedBy d (map f l)
-unfolding IsStrictlySortedBy
-sorted_map c d f [] a g = tt
-sorted_map {X} {Y} c d f (x ∷ l) a g = (all_by (λ y. d (f x) y ≡ Less) (map f l) each, sorted_map c d f l a.1 g)
-  where
-    -- each of the later ones
-    each : (y : Y) → IsIn y (map f l) → d (f x) y ≡ Less
-    each y m = (let r = mapped_from f y l m in subst (λ z. d (f x) z ≡ Less) r.2 (g x r.0 (each_by (λ z. c x z ≡ Less) l a.0 r.0 r.1)))
+use Rattle.del_laws.proofs.Listed.{part_inside, not_both_kinds}
 
 -- ---- parts of an ascending list
-
--- a lesser number comes first
-cmp_less : (x y : ℕ) → x < y → nat_cmp x y ≡ Less
-cmp_less x y l = sym (nat_cmp_is x y Less l)
-
--- a number ties with itself
-cmp_same : (x : ℕ) → nat_cmp x x ≡ Equal
-cmp_same x = sym (nat_cmp_is x x Equal refl)
-
--- lists with the same first are in the order of the others
-same_first : (x : ℕ) (q r : List ℕ) → slice_cmp nat_cmp q r ≡ Less → slice_cmp nat_cmp (x ∷ q) (x ∷ r) ≡ Less
-same_first x q r e = ap (λ o. ordering_then o (slice_cmp nat_cmp q r)) (cmp_same x) ∙ e
-
--- a lesser first comes first
-less_first : (x y : ℕ) (q r : List ℕ) → x < y → slice_cmp nat_cmp (x ∷ q) (y ∷ r) ≡ Less
-less_first x y q r l = ap (λ o. ordering_then o (slice_cmp nat_cmp q r)) (cmp_less x y l)
 
 -- no part of more than no elements is empty
 no_empty : (k : ℕ) (s : List ℕ) → IsIn [] (subsets (suc k) s) → ⊥
@@ -94,7 +44,7 @@ sorted_subsets (suc k) (x ∷ s) a =
     -- with the first element before without it
     by_shape : (q r : List ℕ) → IsIn r (subsets (suc k) s) → slice_cmp nat_cmp (x ∷ q) r ≡ Less
     by_shape q [] m = absurd (no_empty k s m)
-    by_shape q (y ∷ r) m = less_first x y q r (below-each x s a.0 a.1 y (part_inside (suc k) s (y ∷ r) m y (inl refl)))
+    by_shape q (y ∷ r) m = less_first x y q r (below_each x s a.0 a.1 y (part_inside (suc k) s (y ∷ r) m y (inl refl)))
 
     -- the same for any two
     before : (p r : List ℕ) → IsIn p (map (λ q. x ∷ q) (subsets k s)) → IsIn r (subsets (suc k) s) → slice_cmp nat_cmp p r ≡ Less
@@ -119,16 +69,8 @@ complex_is_sorted s a =
 
 -- ---- the same members
 
--- no list of numbers is before itself, and none before what is before it
-list_against : (q r : List ℕ) → slice_cmp nat_cmp q r ≡ Less → slice_cmp nat_cmp r q ≡ Less → ⊥
-list_against q r e f = clash (sym e ∙ nat_list_cmp_total.antisymm q r ∙ ap ordering_reverse f)
-  where
-    -- two answers
-    clash : Less ≡ Greater → ⊥
-    clash e = cc
-
 -- no two cells are each before the other
-against : (c d : Cell) → cell_cmp c d ≡ Less → cell_cmp d c ≡ Less → ⊥
+pub against : (c d : Cell) → cell_cmp c d ≡ Less → cell_cmp d c ≡ Less → ⊥
 against (Full q) (Full r) e f = list_against q r e f
 against (Full q) (Open r) e f = cc
 against (Open q) (Full r) e f = cc

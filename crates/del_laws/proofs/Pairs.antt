@@ -2,16 +2,16 @@
 --
 use Rattle.std.specs.Prelude.{ℕ, ◌≡◌, Bool, true, false, List, [], ◌∷◌, ◌⊎◌}
 use Rattle.std.proofs.Common.{refl, inl, inr, subst, sym, ap}
-use Rattle.conv_laws.specs.Lists.{odd, AreDistinct, IsGraph, IsIn as IsMember}
-use Rattle.conv_laws.proofs.Parity.{even_degrees, HasSome, look, another, none_even, two_even}
+use Rattle.list_laws.specs.Lists.{AreDistinct}
+use Rattle.list_laws.specs.Laws.{odd, IsGraph}
+use Rattle.list_laws.proofs.Cited.{HasSome, another, even_degrees, holds-true, is_in, look, none_even, true_if, true_if-no, true_if-same, true_if-yes, two_even}
 use Rattle.point_order.specs.Sets.{IsIn}
+use Rattle.point_order.proofs.Cited.{last-second, last-third}
 use Rattle.del_laws.specs.Cells.{Open, Vertex, point, far, Held, NoTies}
-use Rattle.del_laws.proofs.Identities.{orientation_at_b, orientation_at_c}
-use Rattle.del_laws.proofs.Lists.{to_member, from_member}
 use Rattle.del_laws.proofs.CellFacts.{full_d, full_apart, open_b, open_c}
 use Rattle.del_laws.proofs.Orders.{open_left, swap34}
 use Rattle.del_laws.proofs.Sides.{Facing, facing_triple, one_open}
-use Rattle.del_laws.proofs.Decide.{is_in, is_held, true_if, true_if-yes, true_if-no, true_if-same, holds-true}
+use Rattle.del_laws.proofs.Decide.{is_held}
 
 -- ---- the points of a list once each, and the infinite vertex
 
@@ -50,7 +50,7 @@ in_once e (x ∷ xs) m = elim m [
 distinct_put : (x : ℕ) (xs : List ℕ) (d : Dec (IsIn x xs)) → AreDistinct xs → AreDistinct (put d x xs)
 unfolding put
 distinct_put x xs (yes k) m = m
-distinct_put x xs (no k) m = (λ q. k (from_member x xs q), m)
+distinct_put x xs (no k) m = (k, m)
 
 -- each is there once
 distinct_once : (s : List ℕ) → AreDistinct (once s)
@@ -76,19 +76,19 @@ pub far_point : (a : ℕ) → far ≡ point a → ⊥
 far_point a e = cc
 
 -- a point of the list is a vertex of it
-in_vertices : (k : ℕ) (s : List ℕ) → IsMember k s → IsMember (point k) (vertices s)
+in_vertices : (k : ℕ) (s : List ℕ) → IsIn k s → IsIn (point k) (vertices s)
 unfolding vertices
 in_vertices k [] m = absurd m
 in_vertices k (x ∷ xs) m = elim m [ inl e ↦ inl (ap point e) | inr r ↦ inr (in_vertices k xs r) ]
 
 -- and back
-from_vertices : (k : ℕ) (s : List ℕ) → IsMember (point k) (vertices s) → IsMember k s
+from_vertices : (k : ℕ) (s : List ℕ) → IsIn (point k) (vertices s) → IsIn k s
 unfolding vertices
 from_vertices k [] m = absurd m
 from_vertices k (x ∷ xs) m = elim m [ inl e ↦ inl (same_point x k e) | inr r ↦ inr (from_vertices k xs r) ]
 
 -- the infinite vertex is not among the points
-no_far : (s : List ℕ) → IsMember far (vertices s) → ⊥
+no_far : (s : List ℕ) → IsIn far (vertices s) → ⊥
 unfolding vertices
 no_far [] m = m
 no_far (x ∷ xs) m = elim m [ inl e ↦ far_point x (sym e) | inr r ↦ no_far xs r ]
@@ -105,10 +105,10 @@ unfolding nodes
 distinct_nodes s = (no_far (once s), distinct_vertices (once s) (distinct_once s))
 
 -- a vertex is a node, if a point that it is is in the set
-pub in_nodes : (s : List ℕ) (z : Vertex) → ((k : ℕ) → z ≡ point k → IsIn k s) → IsMember z (nodes s)
+pub in_nodes : (s : List ℕ) (z : Vertex) → ((k : ℕ) → z ≡ point k → IsIn k s) → IsIn z (nodes s)
 unfolding nodes
 in_nodes s far m = inl refl
-in_nodes s (point k) m = inr (in_vertices k (once s) (to_member k (once s) (in_once k s (m k refl))))
+in_nodes s (point k) m = inr (in_vertices k (once s) (in_once k s (m k refl)))
 
 -- ---- the graph of the vertices that make a cell with a pair
 
@@ -118,7 +118,7 @@ last_in h s a b (point c) k m = elim m [ inl F ↦ full_d F | inr F ↦ full_d F
 last_in h s a b far k m = elim m [ inl F ↦ open_b F | inr F ↦ open_c F ]
 
 -- a vertex of a cell is a node
-held_in_nodes : (h : ℕ → ℕ) (s : List ℕ) (a b : ℕ) (y z : Vertex) → Held h s (point a) (point b) y z → IsMember z (nodes s)
+held_in_nodes : (h : ℕ → ℕ) (s : List ℕ) (a b : ℕ) (y z : Vertex) → Held h s (point a) (point b) y z → IsIn z (nodes s)
 held_in_nodes h s a b y z m = in_nodes s z (λ k e. last_in h s a b y k (subst (λ v. Held h s (point a) (point b) y v) e m))
 
 -- y and z make a cell with the pair
@@ -127,7 +127,7 @@ linked h s a b y z = true_if (is_held h s (point a) (point b) y z)
 
 -- no cell has a vertex twice
 pub not_twice : (h : ℕ → ℕ) (s : List ℕ) (a b : ℕ) (y : Vertex) → Held h s (point a) (point b) y y → ⊥
-not_twice h s a b (point c) m = elim m [ inl F ↦ full_apart F (orientation_at_c a b c) | inr F ↦ full_apart F (orientation_at_b a c b) ]
+not_twice h s a b (point c) m = elim m [ inl F ↦ full_apart F (last-third a b c) | inr F ↦ full_apart F (last-second a c b) ]
 not_twice h s a b far m = m
 
 -- it is a graph

@@ -2,6 +2,7 @@
 --
 use Rattle.std.specs.Prelude.{ℕ, List, [], ◌∷◌}
 use Rattle.std.proofs.Common.{inl, inr, subst, sym, ap}
+use Rattle.list_laws.proofs.Cited.{both}
 use Rattle.point_order.specs.Sets.{IsIn}
 use Rattle.del_laws.specs.Cells.{Full, Vertex, point, far, Held, NoTies, Four, IsSymmetric, IsRegion, HavePoints}
 use Rattle.del_laws.proofs.Orders.{full_left, full_right, swap12, swap23, swap34}
@@ -9,7 +10,7 @@ use Rattle.del_laws.proofs.Across.{across_open}
 use Rattle.del_laws.proofs.Regions.{IsSetOf}
 use Rattle.del_laws.proofs.Walks.{IsClosed}
 use Rattle.del_laws.proofs.Stars.{Holds, star}
-use Rattle.del_laws.proofs.Decide.{decide_full, both}
+use Rattle.del_laws.proofs.Decide.{decide_full}
 use Rattle.del_laws.proofs.Pairs.{same_point, far_point}
 
 -- a cell is symmetric in its vertices

@@ -3,7 +3,7 @@ use Rattle.std.specs.Prelude.{ℤ, pos, ◌+ℤ◌, ◌-ℤ◌, ◌*ℤ◌, neg_
 use Rattle.std.proofs.Common.{arith, sym}
 use Rattle.std.proofs.lemmas.Int.{ints}
 use Rattle.whole_ring.specs.Poly.{Expr, var, lit, ◌⊕◌, ◌⊗◌, minus, ◌⊖◌, nothing, given, end, part}
-use Rattle.whole_ring.proofs.Ring.{nonneg_from}
+use Rattle.whole_ring.proofs.Cited.{nonneg_from}
 
 -- The relation of three points x, y, z of one pencil: with u the orientation of a point with a, b, c, and W the lifted determinant
 -- of two of them with a, b, c, it is ux Wyz - uy Wxz + uz Wxy = 0.

@@ -1,43 +1,35 @@
 -- The two facts on heights hold for the perturbed heights of points with whole coordinates.
-use Rattle.std.specs.Prelude.{ℕ, ℤ, pos, ◌+ℤ◌, ◌-ℤ◌, ◌*ℤ◌, neg_ℤ, ◌≡◌, ◌≤ℤ◌, ◌<ℤ◌, false, List, [], ◌∷◌, ◌+◌, ◌*◌}
+use Rattle.std.specs.Prelude.{ℕ, ℤ, pos, ◌+ℤ◌, ◌-ℤ◌, ◌*ℤ◌, neg_ℤ, ◌≡◌, ◌≤ℤ◌, ◌<ℤ◌, List, [], ◌∷◌, ◌+◌, ◌*◌}
 use Rattle.std.proofs.Common.{arith, refl, inl, inr, ap, subst, ◌∙◌}
 use Rattle.std.proofs.lemmas.Int.{ints}
 use Rattle.whole_ring.specs.Signs.{below, at_zero, above}
-use Rattle.whole_ring.proofs.Signs.{sign, mul_pos, mul_neg_neg, mul_nonneg, square_nonneg}
-use Rattle.whole_ring.proofs.Whole.{mul_add, mul_neg}
+use Rattle.whole_ring.proofs.Cited.{mul_add, mul_neg, mul_neg_neg, mul_nonneg, mul_pos, sign, square_nonneg}
+use Rattle.list_laws.proofs.Cited.{clash, is_in}
 use Rattle.conv_laws.specs.Places.{orient, lifted as lifted_determinant, distance}
-use Rattle.conv_laws.proofs.Spheres.{paraboloid_is_convex}
+use Rattle.conv_laws.proofs.Cited.{paraboloid_is_convex}
 use Rattle.point_order.specs.Coordinates.{IsKey, x_of, y_of, z_of}
-use Rattle.point_order.specs.Orientation.{orientation, is_zero, triple, minor, x_from, y_from, z_from}
+use Rattle.point_order.specs.Orientation.{orientation, triple, minor, x_from, y_from, z_from}
 use Rattle.point_order.specs.Heights.{height, lifted, out, sphere_polynomial, square_of}
 use Rattle.point_order.specs.Sets.{AreFive}
-use Rattle.point_order.proofs.Keys.{key-is}
-use Rattle.point_order.proofs.Perturbation.{out-sign}
-use Rattle.point_order.proofs.HeightLaws.{never_zero_law}
+use Rattle.point_order.proofs.Cited.{key-is, last-first, last-second, last-third, never_zero_law, out-sign, zero_false}
 use Rattle.del_laws.specs.EmptySpheres.{place}
 use Rattle.del_laws.specs.Cells.{NoTies, IsConvex, OneOf}
 use Rattle.del_laws.specs.Keys.{AreKeys}
-use Rattle.del_laws.proofs.Identities.{orientation_at_a, orientation_at_b, orientation_at_c, orientation_same12, orientation_same13, orientation_same23, weights_of}
-use Rattle.del_laws.proofs.Numbers.{clash}
-use Rattle.del_laws.proofs.Decide.{is_in}
+use Rattle.del_laws.proofs.Identities.{orientation_same12, orientation_same13, orientation_same23, weights_of}
 
 -- ---- no ties
-
--- a number that is not 0 is not told to be
-not_told : (z : ℤ) → ¬ (z ≡ pos 0) → is_zero z ≡ false
-not_told z n = elim (sign z) [ below p ↦ grind (arith, ints) | at_zero e ↦ absurd (n e) | above p ↦ grind (arith, ints) ]
 
 -- independent points, and a fifth that is none of them, are five different points
 five : (a b c d e : ℕ) → ¬ (orientation a b c d ≡ pos 0) → ¬ (OneOf e a b c d) → AreFive a b c d e
 five a b c d e n k = (
   λ q. n (ap (λ x. orientation x b c d) q ∙ orientation_same12 b c d),
   λ q. n (ap (λ x. orientation x b c d) q ∙ orientation_same13 c b d),
-  λ q. n (ap (λ x. orientation x b c d) q ∙ orientation_at_a d b c),
+  λ q. n (ap (λ x. orientation x b c d) q ∙ last-first d b c),
   λ q. k (inl q),
   λ q. n (ap (λ x. orientation a x c d) q ∙ orientation_same23 a c d),
-  λ q. n (ap (λ x. orientation a x c d) q ∙ orientation_at_b a d c),
+  λ q. n (ap (λ x. orientation a x c d) q ∙ last-second a d c),
   λ q. k (inr (inl q)),
-  λ q. n (ap (λ x. orientation a b x d) q ∙ orientation_at_c a b d),
+  λ q. n (ap (λ x. orientation a b x d) q ∙ last-third a b d),
   λ q. k (inr (inr (inl q))),
   λ q. k (inr (inr (inr (inl q)))),
 )
@@ -52,7 +44,7 @@ pub no_ties : (s : List ℕ) → AreKeys s → NoTies height s
 no_ties s k = record {
   one_of = λ a b c d e ma mb mc md me n z. elim (is_in e (a ∷ b ∷ c ∷ d ∷ [])) [
     | yes m ↦ m
-    | no m ↦ absurd (never_zero_law a b c d e (k.below a ma, k.below b mb, k.below c mc, k.below d md, k.below e me) (five a b c d e n m) (not_told (orientation a b c d) n) (out_is a b c d e ∙ z))
+    | no m ↦ absurd (never_zero_law a b c d e (k.below a ma, k.below b mb, k.below c mc, k.below d md, k.below e me) (five a b c d e n m) (zero_false (orientation a b c d) n) (out_is a b c d e ∙ z))
   ];
 }
 

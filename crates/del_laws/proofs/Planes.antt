@@ -1,17 +1,16 @@
 -- Solid sets and the planes of three points; mates of Open cells.
-use Rattle.std.specs.Prelude.{ℕ, ℤ, pos, ◌*ℤ◌, ◌≡◌, ◌≤ℤ◌, ◌<ℤ◌, List}
+use Rattle.std.specs.Prelude.{ℕ, pos, ◌*ℤ◌, ◌≡◌, ◌≤ℤ◌, ◌<ℤ◌, List}
 use Rattle.std.proofs.Common.{inl, inr, ◌∙◌}
-use Rattle.whole_ring.proofs.Signs.{zero_factor}
+use Rattle.whole_ring.proofs.Cited.{zero_factor}
+use Rattle.list_laws.proofs.Cited.{denied, is_at_zero, is_positive, not_other, not_zero, settled, some_in, zero_terms}
 use Rattle.conv_laws.specs.Places.{IsZero, normal, orient}
-use Rattle.conv_laws.proofs.Solidity.{only_on_line, line_in_plane}
+use Rattle.conv_laws.proofs.Cited.{line_in_plane, only_on_line}
 use Rattle.point_order.specs.Orientation.{orientation, triple, minor, x_from, y_from, z_from}
 use Rattle.point_order.specs.Sets.{IsIn}
 use Rattle.del_laws.specs.EmptySpheres.{place}
 use Rattle.del_laws.specs.Cells.{Open, IsSolid, IsSubset}
 use Rattle.del_laws.proofs.Identities.{orientation_carried}
-use Rattle.del_laws.proofs.Numbers.{not_zero, settled, zero_terms}
 use Rattle.del_laws.proofs.CellFacts.{open_mate, open_bounds}
-use Rattle.del_laws.proofs.Decide.{some_in, is_positive, is_at_zero, denied}
 
 -- ---- lines and planes
 
@@ -28,10 +27,6 @@ on_line a b c k l m n d ek el em en = record { flat = only_on_line (place a) (pl
 pub line_flat : (a b c y : ℕ) → IsLine a b c → orientation a b c y ≡ pos 0
 unfolding orientation orient triple minor x_from y_from z_from
 line_flat a b c y l = line_in_plane (place a) (place b) (place c) (place y) l.flat
-
--- a number that is not other than 0 is 0
-not_other : (z : ℤ) → (¬ (z ≡ pos 0) → ⊥) → z ≡ pos 0
-not_other z f = elim (is_at_zero z) [ yes e ↦ e | no k ↦ absurd (f k) ]
 
 -- a solid set has a point off the plane of any three points that are not on one line
 pub off_plane : (s : List ℕ) (a b c : ℕ) → IsSolid s → ¬ (IsLine a b c) → (f : ℕ) × IsIn f s × ¬ (orientation a b c f ≡ pos 0)

@@ -1,40 +1,21 @@
 -- Sets of points: when two are one, the points of a set with and without a point, and solid sets.
 use Rattle.std.specs.Prelude.{◌≡◌, refl, ℕ, ◌<◌, ◌^◌, Bool, true, false, not, ◌&&◌, ◌||◌, ◌==◌, nat_lt, List, [], ◌∷◌, map}
-use Rattle.std.specs.List.{list_any, filter}
+use Rattle.std.specs.List.{list_any}
 use Rattle.std.proofs.Common.{arith, inl, inr, ap, sym, subst, ◌∙◌}
 use Rattle.std.proofs.lemmas.Bool.Decides.{nat_tests}
 use Rattle.std.proofs.Math.Bool.{Bool-set}
-use Rattle.conv_laws.specs.Lists.{AreDistinct, odd, IsIn as IsMember}
-use Rattle.conv_laws.proofs.Parity.{one_odd}
+use Rattle.list_laws.specs.Lists.{AreDistinct}
+use Rattle.list_laws.proofs.Cited.{among_from, among_true, any_from, any_true, below_each, below_from, below_true, both_true, filtered_ascending, filtered_from, filtered_true, first_true, left_true, not_both, not_from, not_true, one_true, right_true, same_from, same_members, same_test, same_true, second_true}
 use Rattle.point_order.specs.Coordinates.{IsKey}
 use Rattle.point_order.specs.Orientation.{orientation, is_flat}
 use Rattle.point_order.specs.Sets.{IsIn, IsAscending, IsBelowFirst, is_among, with_point, without_point}
 use Rattle.point_order.specs.Solid.{is_solid}
-use Rattle.point_order.proofs.SetLaws.{below-each, same-members, in-with, in-with_new, in-with_old, ascending-with}
+use Rattle.point_order.proofs.Cited.{ascending-with, in-with, in-with_new, in-with_old, not_zero_from, zero_false}
 use Rattle.del_laws.specs.Cells.{Vertex, point, far, IsSolid, IsSubset}
 use Rattle.del_laws.specs.Keys.{AreKeys}
 use Rattle.del_laws.specs.PointSets.{is_below_first, is_point_set, PointSet, same_vertex, is_point, has, set_or, plus, minus, vertices}
 use Rattle.del_laws.specs.Base.{Within}
 use Rattle.del_laws.proofs.Pairs.{same_point, far_point}
-use Rattle.del_laws.proofs.Tests.{filter_is, both_true, first_true, second_true, one_true, left_true, right_true, not_both, same_test, not_true, not_from, zero_false, not_zero_from, any_from, any_true, among_from, among_true, filtered_from, filtered_true}
-
--- ---- numbers
-
--- equal numbers
-pub same_from : (m n : ℕ) → (m == n) ≡ true → m ≡ n
-same_from m n e = grind (arith, nat_tests)
-
--- and back
-pub same_true : (m n : ℕ) → m ≡ n → (m == n) ≡ true
-same_true m n e = grind (arith, nat_tests)
-
--- the test of an order
-pub below_from : (m n : ℕ) → nat_lt m n ≡ true → m < n
-below_from m n e = grind (arith, nat_tests)
-
--- and back
-pub below_true : (m n : ℕ) → m < n → nat_lt m n ≡ true
-below_true m n e = grind (arith, nat_tests)
 
 -- ---- lists that are sets
 
@@ -105,7 +86,7 @@ along l m e f q =
 -- sets with the same points are one
 pub extensional : (s t : PointSet) → ((q : Vertex) → has s q ≡ has t q) → s ≡ t
 unfolding made
-extensional s t f = along s.points t.points s.valid t.valid (same-members s.points t.points (ascending_of s) (ascending_of t) (λ p m. has_from t p (sym (f (point p)) ∙ has_true s p m)) (λ p m. has_from s p (f (point p) ∙ has_true t p m)))
+extensional s t f = along s.points t.points s.valid t.valid (same_members s.points t.points (ascending_of s) (ascending_of t) (λ p m. has_from t p (sym (f (point p)) ∙ has_true s p m)) (λ p m. has_from s p (f (point p) ∙ has_true t p m)))
 
 -- ---- with a point and without one
 
@@ -117,19 +98,6 @@ with_valid s a k = set_true (with_point a s.points) (ascending-with a s.points (
 pub plus_points : (s : PointSet) (a : ℕ) → IsKey a → (plus s (point a)).points ≡ with_point a s.points
 unfolding plus
 plus_points s a k = set_or-is (with_point a s.points) (is_point_set (with_point a s.points)) refl s (with_valid s a k)
-
--- what is below each member is below the first
-first_below : (x : ℕ) (l : List ℕ) → ((y : ℕ) → IsIn y l → x < y) → IsBelowFirst x l
-first_below x [] f = tt
-first_below x (y ∷ l) f = f y (inl refl)
-
--- a filtered list is ascending
-pub filtered_ascending : (p : ℕ → Bool) (l : List ℕ) → IsAscending l → IsAscending (filter p l)
-filtered_ascending p [] a = tt
-filtered_ascending p (x ∷ l) a = elim (filter_is p x l) [
-  | inl f ↦ subst (λ (v : List ℕ). IsAscending v) (sym f.1) (first_below x (filter p l) (λ y m. below-each x l a.0 a.1 y (filtered_from p l y m).0), filtered_ascending p l a.1)
-  | inr f ↦ subst (λ (v : List ℕ). IsAscending v) (sym f.1) (filtered_ascending p l a.1)
-]
 
 -- the list without a point is a set
 without_valid : (s : PointSet) (a : ℕ) → is_point_set (without_point a s.points) ≡ true
@@ -224,24 +192,24 @@ solid_more s t f e =
 -- ---- vertices
 
 -- a point of the list is a vertex of it
-pub in_map : (k : ℕ) (l : List ℕ) → IsIn k l → IsMember (point k) (map point l)
+pub in_map : (k : ℕ) (l : List ℕ) → IsIn k l → IsIn (point k) (map point l)
 in_map k [] m = absurd m
 in_map k (x ∷ l) m = elim m [ inl e ↦ inl (ap point e) | inr r ↦ inr (in_map k l r) ]
 
 -- and back
-from_map : (k : ℕ) (l : List ℕ) → IsMember (point k) (map point l) → IsIn k l
+from_map : (k : ℕ) (l : List ℕ) → IsIn (point k) (map point l) → IsIn k l
 from_map k [] m = absurd m
 from_map k (x ∷ l) m = elim m [ inl e ↦ inl (same_point x k e) | inr r ↦ inr (from_map k l r) ]
 
 -- the infinite vertex is none of them
-no_far : (l : List ℕ) → IsMember far (map point l) → ⊥
+no_far : (l : List ℕ) → IsIn far (map point l) → ⊥
 no_far [] m = m
 no_far (x ∷ l) m = elim m [ inl e ↦ far_point x (sym e) | inr r ↦ no_far l r ]
 
 -- an ascending list has each number once
 distinct_map : (l : List ℕ) → IsAscending l → AreDistinct (map point l)
 distinct_map [] a = tt
-distinct_map (x ∷ l) a = (λ m. not_less x (below-each x l a.0 a.1 x (from_map x l m)), distinct_map l a.1)
+distinct_map (x ∷ l) a = (λ m. not_less x (below_each x l a.0 a.1 x (from_map x l m)), distinct_map l a.1)
   where
     -- no number is below itself
     not_less : (n : ℕ) → n < n → ⊥
@@ -251,29 +219,8 @@ distinct_map (x ∷ l) a = (λ m. not_less x (below-each x l a.0 a.1 x (from_map
 pub distinct_vertices : (s : PointSet) → AreDistinct (vertices s)
 distinct_vertices s = (no_far s.points, distinct_map s.points (ascending_of s))
 
--- a vertex of a set is in its list an odd number of times, as it is there once
-pub listed_odd : (s : PointSet) (z : Vertex) → IsMember z (vertices s) → odd (λ v. same_vertex z v) (vertices s) ≡ true
-listed_odd s z m = one_odd (λ v. same_vertex z v) z (vertices s) (distinct_vertices s) m (itself z) (λ y i e. sym (one z y e))
-  where
-    -- a vertex is itself
-    itself : (z : Vertex) → same_vertex z z ≡ true
-    itself (point a) = same_true a a refl
-    itself far = refl
-
-    -- vertices that pass are one
-    one : (z y : Vertex) → same_vertex z y ≡ true → z ≡ y
-    one (point a) (point b) e = ap point (same_from a b e)
-    one (point a) far e = cc
-    one far (point b) e = cc
-    one far far e = refl
-
 -- ---- a list as a set
 
 -- the set of an ascending list of keys
 pub point_set : (s : List ℕ) → IsAscending s → AreKeys s → PointSet
 point_set s a k = record { points = s; valid = set_true s a k.below }
-
--- its points are the list
-pub point_set-points : (s : List ℕ) (a : IsAscending s) (k : AreKeys s) → (point_set s a k).points ≡ s
-unfolding point_set
-point_set-points s a k = refl

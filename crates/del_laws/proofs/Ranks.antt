@@ -5,14 +5,15 @@ use Rattle.std.specs.Int.Signed.{lt_z}
 use Rattle.std.proofs.Common.{arith, inl, inr, ap, sym, subst, ◌∙◌}
 use Rattle.std.proofs.lemmas.Int.{ints}
 use Rattle.whole_ring.specs.Signs.{below, at_zero, above}
-use Rattle.whole_ring.proofs.Signs.{sign}
+use Rattle.whole_ring.proofs.Cited.{sign}
+use Rattle.list_laws.proofs.Cited.{below_or_not, both_true, clash, false_if, first_true, high_of, left_true, less_from, less_true, low_of, low_turned, one_true, right_true, same_test, second_true, turned_below, two_signs, weak}
 use Rattle.point_order.specs.declared.cell.Cell.TheVariants.{Full, Open}
 use Rattle.point_order.specs.Coordinates.{IsKey}
 use Rattle.point_order.specs.Orientation.{orientation}
 use Rattle.point_order.specs.Heights.{height, lifted, out}
 use Rattle.point_order.specs.Sets.{IsIn, with_point}
 use Rattle.point_order.specs.Conflicts.{are_opposite}
-use Rattle.point_order.proofs.SetLaws.{ascending-self, in-with_new, in-with_old}
+use Rattle.point_order.proofs.Cited.{ascending-self, in-with_new, in-with_old, swap-first, swap-last, swap-middle}
 use Rattle.del_laws.specs.Cells as cells
 use Rattle.del_laws.specs.Cells.{Vertex, point, far, Held}
 use Rattle.del_laws.specs.Keys.{AreKeys}
@@ -20,14 +21,12 @@ use Rattle.del_laws.specs.Vertices.{is_open_cell, is_cell}
 use Rattle.del_laws.specs.Listed.{cell_of}
 use Rattle.del_laws.specs.Walks.{Rank, ratio, is_before}
 use Rattle.del_laws.specs.Nearness.{one_less, ratio_by, open_rank, rank, NearerAcross, SomeTripleTowards, NearerInside}
-use Rattle.del_laws.proofs.Identities.{orientation_bcad, orientation_acdb, orientation_swap12, orientation_swap23, orientation_swap34, lifted_swap12, lifted_swap23, lifted_swap34}
-use Rattle.del_laws.proofs.Numbers.{weak, clash, below_or_not, low_of, low_turned, high_of, two_signs}
+use Rattle.del_laws.proofs.Identities.{orientation_bcad, orientation_acdb, lifted_swap12, lifted_swap23, lifted_swap34}
 use Rattle.del_laws.proofs.CellFacts.{full_a, full_b, full_c, full_d, full_point, full_turned, full_apart, open_bounds, open_under}
 use Rattle.del_laws.proofs.Kept.{with_keys}
 use Rattle.del_laws.proofs.Sides.{unique}
 use Rattle.del_laws.proofs.Walks.{nearer}
 use Rattle.del_laws.proofs.Perturbed.{no_ties, is_convex, out_is}
-use Rattle.del_laws.proofs.Tests.{less_true, less_from, first_true, second_true, one_true, left_true, right_true, both_true, false_if, same_test}
 use Rattle.del_laws.proofs.Bools.{cell_from, above_from, below_from}
 use Rattle.del_laws.proofs.Sorting.{turn12, turn23, cell_of-swap12, cell_of-swap23, cell_of-swap34, IsSorted4, IsSorted3, sort4, sort3}
 
@@ -57,14 +56,10 @@ twice_opposite l = omega (arith, ints)
 opposite_low : (o : ℤ) → pos 0 <ℤ o → neg_ℤ o <ℤ pos 0
 opposite_low o h = omega (arith, ints)
 
--- the opposite of a negative number is positive
-opposite_high : (o : ℤ) → o <ℤ pos 0 → pos 0 <ℤ neg_ℤ o
-opposite_high o h = omega (arith, ints)
-
 -- the ratio of opposites
 ratio_turned : (o l : ℤ) → ¬ (o ≡ pos 0) → ratio_by (neg_ℤ o) (neg_ℤ l) ≡ ratio_by o l
 ratio_turned o l n = elim (sign o) [
-  | below h ↦ ratio_above (neg_ℤ o) (neg_ℤ l) (opposite_high o h) ∙ ap (λ d. ratio (neg_ℤ l) (one_less d)) (same_size o) ∙ sym (ratio_below o l h)
+  | below h ↦ ratio_above (neg_ℤ o) (neg_ℤ l) (turned_below o h) ∙ ap (λ d. ratio (neg_ℤ l) (one_less d)) (same_size o) ∙ sym (ratio_below o l h)
   | at_zero z ↦ absurd (n z)
   | above h ↦ ratio_below (neg_ℤ o) (neg_ℤ l) (opposite_low o h) ∙ ap (λ d. ratio (neg_ℤ (neg_ℤ l)) (one_less d)) (same_size o) ∙ ap (λ m. ratio m (one_less (unsigned_abs o))) (twice_opposite l) ∙ sym (ratio_above o l h)
 ]
@@ -93,7 +88,7 @@ at_numbers o o2 l l2 e f n = ap (λ v. ratio_by v l2) e ∙ ap (λ v. ratio_by (
 not_flat : (s : List ℕ) (a b c d : ℕ) → is_cell s (point a) (point b) (point c) (point d) ≡ true → ¬ (orientation a b c d ≡ pos 0)
 not_flat s a b c d t z = elim (cell_from s (point a) (point b) (point c) (point d) t) [
   | inl F ↦ full_apart F z
-  | inr F ↦ full_apart F (orientation_swap23 a b c d ∙ ap neg_ℤ z)
+  | inr F ↦ full_apart F (swap-middle a b c d ∙ ap neg_ℤ z)
 ]
 
 -- the rank of a Full cell is the ratio in any order
@@ -101,9 +96,9 @@ pub full_rank : (s : List ℕ) (p : ℕ) → AreKeys s → (a b c d : ℕ) → i
 full_rank s p k a b c d t =
     let o = cell_of (point a) (point b) (point c) (point d) in
     by_order (sort4 s k (λ w x y z. (o ≡ cell_of (point w) (point x) (point y) (point z)) × (ratio_of p w x y z ≡ ratio_of p a b c d))
-    (λ w x y z u i. (i.0 ∙ cell_of-swap12 (point w) (point x) (point y) (point z), at_numbers (orientation w x y z) (orientation x w y z) (out w x y z p) (out x w y z p) (orientation_swap12 w x y z) (out_swap12 w x y z p) (not_flat s w x y z u) ∙ i.1))
-    (λ w x y z u i. (i.0 ∙ cell_of-swap23 (point w) (point x) (point y) (point z), at_numbers (orientation w x y z) (orientation w y x z) (out w x y z p) (out w y x z p) (orientation_swap23 w x y z) (out_swap23 w x y z p) (not_flat s w x y z u) ∙ i.1))
-    (λ w x y z u i. (i.0 ∙ cell_of-swap34 (point w) (point x) (point y) (point z), at_numbers (orientation w x y z) (orientation w x z y) (out w x y z p) (out w x z y p) (orientation_swap34 w x y z) (out_swap34 w x y z p) (not_flat s w x y z u) ∙ i.1))
+    (λ w x y z u i. (i.0 ∙ cell_of-swap12 (point w) (point x) (point y) (point z), at_numbers (orientation w x y z) (orientation x w y z) (out w x y z p) (out x w y z p) (swap-first w x y z) (out_swap12 w x y z p) (not_flat s w x y z u) ∙ i.1))
+    (λ w x y z u i. (i.0 ∙ cell_of-swap23 (point w) (point x) (point y) (point z), at_numbers (orientation w x y z) (orientation w y x z) (out w x y z p) (out w y x z p) (swap-middle w x y z) (out_swap23 w x y z p) (not_flat s w x y z u) ∙ i.1))
+    (λ w x y z u i. (i.0 ∙ cell_of-swap34 (point w) (point x) (point y) (point z), at_numbers (orientation w x y z) (orientation w x z y) (out w x y z p) (out w x z y p) (swap-last w x y z) (out_swap34 w x y z p) (not_flat s w x y z u) ∙ i.1))
     a b c d (t, (refl, refl)))
   where
     -- in order
@@ -187,7 +182,7 @@ module _ (s : List ℕ) (p : ℕ) (k : AreKeys s) (j : IsKey p) (o : IsIn p s �
   across_above a b c x (point f) F t u n l = elim (cell_from s (point a) (point b) (point c) (point f) u) [
     | inl G ↦ absurd (n (unique height s a b c (no_ties s k) (point f) (point x) G F))
     | inr G ↦ before_by (full_rank s p k a b c f u) (full_rank s p k a b c x t)
-        (ratio_before (orientation a b c f) (out a b c f p) (orientation a b c x) (out a b c x p) (orientation a c b f) (lifted height a c b f p) (low_of (orientation a b c f) (orientation a c b f) (full_turned G) (orientation_swap23 a b c f)) (full_turned F) (orientation_swap23 a b c f)
+        (ratio_before (orientation a b c f) (out a b c f p) (orientation a b c x) (out a b c x p) (orientation a c b f) (lifted height a c b f p) (low_of (orientation a b c f) (orientation a c b f) (full_turned G) (swap-middle a b c f)) (full_turned F) (swap-middle a b c f)
         (sym (out_is a c b f p) ∙ out_swap23 a b c f p)
         (subst (λ z. (lifted height a c b f p *ℤ orientation a b c x) <ℤ (z *ℤ orientation a c b f)) (sym (out_is a b c x p)) (nearer (no_ties s k) F G p l)))
   ]
@@ -209,7 +204,7 @@ nearer_across s p a b c x y k j o t u n e = elim (cell_from s (point a) (point b
   | inl F ↦ across_above s p k j o a b c x y F t u n (low_from (orientation a b c x) (orientation a b c p) (full_turned F) e)
   | inr F ↦ before_by (ap (rank s p) (cell_of-swap23 (point a) (point b) (point c) y)) (ap (rank s p) (cell_of-swap23 (point a) (point b) (point c) (point x)))
       (across_above s p k j o a c b x y F (turn23 s k (point a) (point b) (point c) (point x) t) (turn23 s k (point a) (point b) (point c) y u) n
-      (low_turned (orientation a b c p) (orientation a c b p) (high_from (orientation a b c x) (orientation a b c p) (low_of (orientation a b c x) (orientation a c b x) (full_turned F) (orientation_swap23 a b c x)) e) (orientation_swap23 a b c p)))
+      (low_turned (orientation a b c p) (orientation a c b p) (high_from (orientation a b c x) (orientation a b c p) (low_of (orientation a b c x) (orientation a c b x) (full_turned F) (swap-middle a b c x)) e) (swap-middle a b c p)))
 ]
 
 -- from an Open cell that stays
@@ -245,7 +240,7 @@ same_down z v h e = omega (arith, ints)
 
 -- orientations of the rotations of four points
 rotation_a : (a b c d : ℕ) → orientation b c d a ≡ neg_ℤ (orientation a b c d)
-rotation_a a b c d = orientation_swap34 b c a d ∙ ap neg_ℤ (orientation_bcad a b c d)
+rotation_a a b c d = swap-last b c a d ∙ ap neg_ℤ (orientation_bcad a b c d)
 
 -- the four tests, one of which passes
 pub some_triple_towards : SomeTripleTowards
@@ -256,24 +251,24 @@ some_triple_towards s p a b c d k j o t e =
     let td = are_opposite a b c d p in
     elim (cell_from s (point a) (point b) (point c) (point d) t) [
       | inl F ↦ elim (towards s p a b c d k j o F (weak (lifted height a b c d p) (above_from a b c d p e (full_turned F)))) [
-        | inl q ↦ left_true (ta || tb || tc) td (left_true (ta || tb) tc (left_true ta tb (opposite_below (orientation b c d a) (orientation b c d p) (low_turned (orientation a b c d) (orientation b c d a) (full_turned F) (rotation_a a b c d)) (high_of (orientation b d c p) (orientation b c d p) q (orientation_swap23 b d c p)))))
+        | inl q ↦ left_true (ta || tb || tc) td (left_true (ta || tb) tc (left_true ta tb (opposite_below (orientation b c d a) (orientation b c d p) (low_turned (orientation a b c d) (orientation b c d a) (full_turned F) (rotation_a a b c d)) (high_of (orientation b d c p) (orientation b c d p) q (swap-middle b d c p)))))
         | inr r ↦ elim r [
           | inl q ↦ left_true (ta || tb || tc) td (left_true (ta || tb) tc (right_true ta tb (opposite_above (orientation a c d b) (orientation a c d p) (same_up (orientation a b c d) (orientation a c d b) (full_turned F) (orientation_acdb a b c d)) q)))
           | inr u ↦ elim u [
-            | inl q ↦ left_true (ta || tb || tc) td (right_true (ta || tb) tc (opposite_below (orientation a b d c) (orientation a b d p) (low_turned (orientation a b c d) (orientation a b d c) (full_turned F) (orientation_swap34 a b c d)) (high_of (orientation a d b p) (orientation a b d p) q (orientation_swap23 a d b p))))
+            | inl q ↦ left_true (ta || tb || tc) td (right_true (ta || tb) tc (opposite_below (orientation a b d c) (orientation a b d p) (low_turned (orientation a b c d) (orientation a b d c) (full_turned F) (swap-last a b c d)) (high_of (orientation a d b p) (orientation a b d p) q (swap-middle a d b p))))
             | inr q ↦ right_true (ta || tb || tc) td (opposite_above (orientation a b c d) (orientation a b c p) (full_turned F) q)
           ]
         ]
       ]
       | inr F ↦ (
-          let low : orientation a b c d <ℤ pos 0 = low_turned (orientation a c b d) (orientation a b c d) (full_turned F) (orientation_swap23 a c b d) in
+          let low : orientation a b c d <ℤ pos 0 = low_turned (orientation a c b d) (orientation a b c d) (full_turned F) (swap-middle a c b d) in
           elim (towards s p a c b d k j o F (weak (lifted height a c b d p) (high_of (lifted height a b c d p) (lifted height a c b d p) (below_from a b c d p e low) (lifted_swap23 height a b c d p)))) [
             | inl q ↦ left_true (ta || tb || tc) td (left_true (ta || tb) tc (left_true ta tb (opposite_above (orientation b c d a) (orientation b c d p) (high_of (orientation a b c d) (orientation b c d a) low (rotation_a a b c d)) (same_down (orientation c d b p) (orientation b c d p) q (sym (orientation_bcad b c d p))))))
             | inr r ↦ elim r [
-              | inl q ↦ left_true (ta || tb || tc) td (right_true (ta || tb) tc (opposite_above (orientation a b d c) (orientation a b d p) (high_of (orientation a b c d) (orientation a b d c) low (orientation_swap34 a b c d)) q))
+              | inl q ↦ left_true (ta || tb || tc) td (right_true (ta || tb) tc (opposite_above (orientation a b d c) (orientation a b d p) (high_of (orientation a b c d) (orientation a b d c) low (swap-last a b c d)) q))
               | inr u ↦ elim u [
-                | inl q ↦ left_true (ta || tb || tc) td (left_true (ta || tb) tc (right_true ta tb (opposite_below (orientation a c d b) (orientation a c d p) (same_down (orientation a b c d) (orientation a c d b) low (orientation_acdb a b c d)) (high_of (orientation a d c p) (orientation a c d p) q (orientation_swap23 a d c p)))))
-                | inr q ↦ right_true (ta || tb || tc) td (opposite_below (orientation a b c d) (orientation a b c p) low (high_of (orientation a c b p) (orientation a b c p) q (orientation_swap23 a c b p)))
+                | inl q ↦ left_true (ta || tb || tc) td (left_true (ta || tb) tc (right_true ta tb (opposite_below (orientation a c d b) (orientation a c d p) (same_down (orientation a b c d) (orientation a c d b) low (orientation_acdb a b c d)) (high_of (orientation a d c p) (orientation a c d p) q (swap-middle a d c p)))))
+                | inr q ↦ right_true (ta || tb || tc) td (opposite_below (orientation a b c d) (orientation a b c p) low (high_of (orientation a c b p) (orientation a b c p) q (swap-middle a c b p)))
               ]
             ]
           ])

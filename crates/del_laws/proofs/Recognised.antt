@@ -1,7 +1,7 @@
 -- A list of empty cells in which every facet lies in a second one is the complex.
-use Rattle.std.specs.Prelude.{◌≡◌, refl, ℕ, Bool, true, List, [], ◌∷◌}
+use Rattle.std.specs.Prelude.{◌≡◌, ℕ, Bool, true, List, [], ◌∷◌}
 use Rattle.std.proofs.Common.{inl, inr, ap, sym, subst, ◌∙◌}
-use Rattle.std.proofs.Math.Decide.{ℕ_discrete}
+use Rattle.list_laws.proofs.Cited.{either, holds-true, lists_discrete, moved, true_if, true_if-yes}
 use Rattle.point_order.specs.declared.cell.Cell.{Cell}
 use Rattle.point_order.specs.declared.cell.Cell.TheVariants.{Full, Open}
 use Rattle.point_order.specs.declared.cell.Facet.TheVariants.{Three}
@@ -14,7 +14,6 @@ use Rattle.del_laws.specs.Listed.{IsListed, cell_of}
 use Rattle.del_laws.specs.ListedParts.{IsClosedListed, IsClosedList, ClosedListIsComplex, ComplexIsClosedList}
 use Rattle.del_laws.proofs.CellFacts.{full_solid}
 use Rattle.del_laws.proofs.Across.{across_open}
-use Rattle.del_laws.proofs.Decide.{moved, both, either, true_if, true_if-yes, holds-true}
 use Rattle.del_laws.proofs.Existence.{exists_full}
 use Rattle.del_laws.proofs.Perturbed.{no_ties}
 use Rattle.del_laws.proofs.Bools.{cell_true, cell_from}
@@ -26,25 +25,6 @@ use Rattle.del_laws.proofs.Neighbours.{listed_facets}
 use Rattle.del_laws.proofs.ListedParts.{listed_part}
 
 -- ---- whether a cell is in a list
-
--- whether two lists of numbers are one
-lists_discrete : (q r : List ℕ) → Dec (q ≡ r)
-lists_discrete [] [] = yes refl
-lists_discrete [] (y ∷ r) = no (λ e. (cc))
-lists_discrete (x ∷ q) [] = no (λ e. (cc))
-lists_discrete (x ∷ q) (y ∷ r) = moved (λ t. joined t.0 t.1) (λ e. (parted_first e, parted_rest e)) (both (ℕ_discrete x y) (lists_discrete q r))
-  where
-    -- equal parts
-    joined : x ≡ y → q ≡ r → x ∷ q ≡ y ∷ r
-    joined e f = cc
-
-    -- of equal lists the first
-    parted_first : x ∷ q ≡ y ∷ r → x ≡ y
-    parted_first e = cc
-
-    -- and the rest
-    parted_rest : x ∷ q ≡ y ∷ r → q ≡ r
-    parted_rest e = cc
 
 -- whether two cells are one
 cells_discrete : (c d : Cell) → Dec (c ≡ d)

@@ -1,13 +1,12 @@
 -- Sets of Full cells, and the closest of them to a point.
 use Rattle.std.specs.Prelude.{ℕ, ℤ, pos, ◌*ℤ◌, ◌≡◌, ◌≤ℤ◌, ◌<ℤ◌, List, [], ◌∷◌}
 use Rattle.std.proofs.Common.{refl, inl, inr, subst, ap}
+use Rattle.list_laws.proofs.Cited.{clash_above, find_least}
 use Rattle.point_order.specs.Orientation.{orientation}
 use Rattle.point_order.specs.Heights.{lifted}
 use Rattle.point_order.specs.Sets.{IsIn}
 use Rattle.del_laws.specs.Cells.{Full, Four}
 use Rattle.del_laws.proofs.Identities.{orientation_bcad, orientation_acdb, lifted_bcad, lifted_acdb}
-use Rattle.del_laws.proofs.Numbers.{clash_above}
-use Rattle.del_laws.proofs.Lists.{find_best}
 use Rattle.del_laws.proofs.CellFacts.{full_a, full_b, full_c, full_d, full_turned}
 
 -- a set of Full cells, with each cell in all its even orders
@@ -106,16 +105,16 @@ pub record Chosen (q : ℕ → ℕ → ℕ → ℕ → Type 0) (num : ℕ → �
 
 -- there is one
 pub choose : {h : ℕ → ℕ} {s : List ℕ} {q : ℕ → ℕ → ℕ → ℕ → Type 0} → IsSetOf h s q → (num : ℕ → ℕ → ℕ → ℕ → ℤ) (a b c d : ℕ) → q a b c d → Chosen q num
-choose {h} {s} {q} g num a b c d t = elim (find_best number size (quads s)) [
+choose {h} {s} {q} g num a b c d t = elim (find_least number size (quads s)) [
   | inl n ↦ absurd (clash_above (size (record { a = a; b = b; c = c; d = d })) (large a b c d t) (n (record { a = a; b = b; c = c; d = d }) (there a b c d t)))
   | inr l ↦ (
-      let at = size_if-pos (g.decide l.best.a l.best.b l.best.c l.best.d) (orientation l.best.a l.best.b l.best.c l.best.d) l.positive in
+      let at = size_if-pos (g.decide l.0.a l.0.b l.0.c l.0.d) (orientation l.0.a l.0.b l.0.c l.0.d) l.1.positive in
       record {
-        f = l.best;
+        f = l.0;
         at = at;
         least = λ k l' m n u. (
-            let v = l.least (record { a = k; b = l'; c = m; d = n }) (there k l' m n u) (large k l' m n u) in
-            rw (size_if-yes (g.decide k l' m n) (orientation k l' m n) u, size_if-yes (g.decide l.best.a l.best.b l.best.c l.best.d) (orientation l.best.a l.best.b l.best.c l.best.d) at) at v);
+            let v = l.1.least (record { a = k; b = l'; c = m; d = n }) (there k l' m n u) (large k l' m n u) in
+            rw (size_if-yes (g.decide k l' m n) (orientation k l' m n) u, size_if-yes (g.decide l.0.a l.0.b l.0.c l.0.d) (orientation l.0.a l.0.b l.0.c l.0.d) at) at v);
       })
 ]
   where

@@ -6,7 +6,7 @@ use Rattle.point_order.specs.declared.cell.Cell.TheVariants.{Full, Open}
 use Rattle.point_order.specs.Heights.{height}
 use Rattle.point_order.specs.Sets.{IsIn, IsAscending, ascending}
 use Rattle.point_order.specs.Complex.{complex}
-use Rattle.point_order.proofs.SetLaws.{ascending-ascending, in-ascending, in-ascending_from, ascending-is, ascending-self}
+use Rattle.point_order.proofs.Cited.{ascending-ascending, ascending-is, ascending-self, in-ascending, in-ascending_from}
 use Rattle.del_laws.specs.Cells.{Vertex, point, far, Held}
 use Rattle.del_laws.specs.Keys.{AreKeys}
 use Rattle.del_laws.specs.Vertices.{is_cell}

@@ -1,7 +1,8 @@
 -- The star law over tests of vertices, and so all facts of specs/Base.
-use Rattle.std.specs.Prelude.{◌≡◌, ◌≢◌, refl, ℕ, Bool, true, false, [], ◌∷◌, ◌⊎◌}
+use Rattle.std.specs.Prelude.{◌≡◌, ◌≢◌, refl, ℕ, Bool, true, [], ◌∷◌, ◌⊎◌}
 use Rattle.std.proofs.Common.{inl, inr, sym, subst, ◌∙◌}
 use Rattle.std.proofs.Math.Decide.{ℕ_discrete}
+use Rattle.list_laws.proofs.Cited.{both, either, is_true}
 use Rattle.point_order.specs.Heights.{height}
 use Rattle.point_order.specs.Sets.{IsIn}
 use Rattle.del_laws.specs.Cells.{Full, Vertex, point, far, Held, OneOf}
@@ -11,15 +12,10 @@ use Rattle.del_laws.proofs.Orders.{full_left, full_right}
 use Rattle.del_laws.proofs.Regions.{IsSetOf}
 use Rattle.del_laws.proofs.Walks.{IsClosed}
 use Rattle.del_laws.proofs.Stars.{star}
-use Rattle.del_laws.proofs.Decide.{decide_full, both, either}
+use Rattle.del_laws.proofs.Decide.{decide_full}
 use Rattle.del_laws.proofs.Perturbed.{no_ties}
 use Rattle.del_laws.proofs.PointSets.{keys_of, extensional, has_plus, has_minus, finite}
 use Rattle.del_laws.proofs.BaseFacts.{test_true, test_from, no_twice, test_symmetric, test_complex, test_point, test_smaller, test_union, point_finite, test_corner, test_full_solid, test_solid_more}
-
--- whether a test passes
-is_true : (b : Bool) → Dec (b ≡ true)
-is_true true = yes refl
-is_true false = no (λ e. cc)
 
 -- four points are finite
 all_finite : (a b c d : ℕ) → AreFinite (point a) (point b) (point c) (point d)

@@ -4,18 +4,18 @@ use Rattle.std.specs.Prelude.{ℕ, ℤ, pos, ◌+ℤ◌, ◌*ℤ◌, neg_ℤ, �
 use Rattle.std.proofs.Common.{arith, refl, inl, inr, subst, sym, ◌∙◌, ap}
 use Rattle.std.proofs.lemmas.Int.{ints}
 use Rattle.std.proofs.Math.IntN.{*ℤ-zero}
-use Rattle.whole_ring.proofs.Signs.{mul_pos, mul_nonneg}
+use Rattle.whole_ring.proofs.Cited.{mul_nonneg, mul_pos}
+use Rattle.list_laws.proofs.Cited.{both, is_in, not_zero}
 use Rattle.point_order.specs.Orientation.{orientation}
 use Rattle.point_order.specs.Heights.{lifted}
 use Rattle.point_order.specs.Sets.{IsIn}
+use Rattle.point_order.proofs.Cited.{last-first, last-second, last-third, swap-last}
 use Rattle.del_laws.specs.Cells.{Full, NoTies, OneOf, Four}
-use Rattle.del_laws.proofs.Identities.{orientation_swap34, orientation_same12, orientation_at_a, orientation_at_b, orientation_at_c, orientation_same13, orientation_same23, lifted_carried_of}
-use Rattle.del_laws.proofs.Numbers.{not_zero}
+use Rattle.del_laws.proofs.Identities.{orientation_same12, orientation_same13, orientation_same23, lifted_carried_of}
 use Rattle.del_laws.proofs.Lists.{of_four}
 use Rattle.del_laws.proofs.CellFacts.{full_a, full_b, full_c, full_d, full_point, full_turned, full_empty}
 use Rattle.del_laws.proofs.Regions.{IsSetOf, Closest, closest_left, closest_right, closest}
 use Rattle.del_laws.proofs.Walks.{IsClosed, weight, strict, on}
-use Rattle.del_laws.proofs.Decide.{is_in, both}
 
 -- the four have the points of k
 pub record Holds (k : List ℕ) (a b c d : ℕ) : Type 0 where
@@ -123,8 +123,8 @@ module _ (q : ℕ → ℕ → ℕ → ℕ → Type 0) (turned : (a b c d : ℕ) 
       of_four (λ x. pos 0 <ℤ orientation k l x n → q k l x n) om
       (flat (orientation k l k n) (orientation_same13 k l n))
       (flat (orientation k l l n) (orientation_same23 k l n))
-      (λ p. of_four (λ y. pos 0 <ℤ orientation k l b y → q k l b y) on (flat (orientation k l b k) (orientation_at_a k l b)) (flat (orientation k l b l) (orientation_at_b k l b)) (flat (orientation k l b b) (orientation_at_c k l b)) (λ r. t) p)
-      (λ p. of_four (λ y. pos 0 <ℤ orientation k l c y → q k l c y) on (flat (orientation k l c k) (orientation_at_a k l c)) (flat (orientation k l c l) (orientation_at_b k l c)) (λ r. absurd (two_ways (orientation k l b c) (orientation k l c b) (turned k l b c t) r (orientation_swap34 k l b c))) (flat (orientation k l c c) (orientation_at_c k l c)) p)
+      (λ p. of_four (λ y. pos 0 <ℤ orientation k l b y → q k l b y) on (flat (orientation k l b k) (last-first k l b)) (flat (orientation k l b l) (last-second k l b)) (flat (orientation k l b b) (last-third k l b)) (λ r. t) p)
+      (λ p. of_four (λ y. pos 0 <ℤ orientation k l c y → q k l c y) on (flat (orientation k l c k) (last-first k l c)) (flat (orientation k l c l) (last-second k l c)) (λ r. absurd (two_ways (orientation k l b c) (orientation k l c b) (turned k l b c t) r (swap-last k l b c))) (flat (orientation k l c c) (last-third k l c)) p)
       o
 
   -- the last three

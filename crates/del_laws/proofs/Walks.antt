@@ -3,13 +3,14 @@
 use Rattle.std.specs.Prelude.{ℕ, ℤ, pos, ◌-ℤ◌, ◌*ℤ◌, neg_ℤ, ◌≡◌, ◌≤ℤ◌, ◌<ℤ◌, List, []}
 use Rattle.std.proofs.Common.{arith, inl, inr, subst, ◌∙◌, ap}
 use Rattle.std.proofs.lemmas.Int.{ints}
-use Rattle.whole_ring.proofs.Signs.{mul_pos, mul_neg_pos}
+use Rattle.whole_ring.proofs.Cited.{mul_neg_pos, mul_pos}
+use Rattle.list_laws.proofs.Cited.{clash, not_back, not_below, not_zero, positive}
 use Rattle.point_order.specs.Orientation.{orientation}
 use Rattle.point_order.specs.Heights.{lifted}
 use Rattle.point_order.specs.Sets.{IsIn}
+use Rattle.point_order.proofs.Cited.{swap-middle}
 use Rattle.del_laws.specs.Cells.{Full, NoTies, IsConvex, OneOf, HasFullAt}
-use Rattle.del_laws.proofs.Identities.{orientation_swap23, lifted_at_a, lifted_at_b, lifted_at_c, lifted_at_d, crossing_of}
-use Rattle.del_laws.proofs.Numbers.{positive, not_zero, clash, not_below, not_back}
+use Rattle.del_laws.proofs.Identities.{lifted_at_a, lifted_at_b, lifted_at_c, lifted_at_d, crossing_of}
 use Rattle.del_laws.proofs.Lists.{of_four}
 use Rattle.del_laws.proofs.CellFacts.{full_a, full_b, full_c, full_d, full_turned, full_apart, full_empty, full_against, open_bounds}
 use Rattle.del_laws.proofs.Orders.{full_left, full_right}
@@ -32,7 +33,7 @@ beyond {h} {s} {a} {b} {c} {d} {f} n F G = strict n F f (full_d G) (λ m. same (
   where
     -- f is off the plane
     off : orientation a b c f ≡ pos 0 → ⊥
-    off e = full_apart G (orientation_swap23 a b c f ∙ ap neg_ℤ e)
+    off e = full_apart G (swap-middle a b c f ∙ ap neg_ℤ e)
 
     -- and not on the side of d
     same : f ≡ d → ⊥

@@ -1,7 +1,7 @@
 -- The few facts of geometry from which all laws of insertion and removal follow. They are over tests of four vertices
 -- in any order, and do not say what a cell is.
 use Rattle.std.specs.Prelude.{◌≡◌, ◌≢◌, Bool, true, false, not, ◌&&◌, ◌||◌, List, ◌⊎◌}
-use Rattle.conv_laws.specs.Lists.{IsIn, AreDistinct}
+use Rattle.list_laws.specs.Lists.{IsIn, AreDistinct}
 use Rattle.del_laws.specs.Cells.{Vertex, far}
 use Rattle.del_laws.specs.PointSets.{same_vertex, is_point}
 

@@ -1,7 +1,6 @@
 -- The laws of walks over cells, as the functions of the crate promise them; and how near a cell is to a point.
 use Rattle.std.specs.Prelude.{ℕ, suc, ℤ, pos, Bool, true, false, ◌*ℤ◌, ◌≡◌, ◌≤ℤ◌, ◌<ℤ◌, ◌<◌, List, ◌∷◌, count_by}
 use Rattle.std.specs.Int.Signed.{lt_z}
-use Rattle.conv_laws.specs.Lists.{IsIn as IsMember}
 use Rattle.point_order.specs.Orientation.{orientation}
 use Rattle.point_order.specs.Heights.{lifted}
 use Rattle.point_order.specs.Sets.{IsIn}
@@ -75,5 +74,5 @@ is_before last r = false
 -- at each step, over cells of one list, ends.
 abbrev pub FewerAreNearer : Type 0 → Type 0
 FewerAreNearer X =
-    (rank : X → Rank) (x y : X) (held : List X) → is_before (rank y) (rank x) ≡ true → IsMember y held →
+    (rank : X → Rank) (x y : X) (held : List X) → is_before (rank y) (rank x) ≡ true → IsIn y held →
     count_by (λ z. is_before (rank z) (rank y)) held < count_by (λ z. is_before (rank z) (rank x)) held

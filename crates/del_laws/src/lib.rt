@@ -2,7 +2,7 @@
 //!
 //! A cell is four vertices in any order: four points of the set whose sphere has no point inside (a Full cell), or
 //! three points of the hull and the infinite vertex (an Open cell). Each function here does nothing, and its contract
-//! is a law. The definitions are in `specs/`, and the lemmas that crates above cite are in `proofs/`.
+//! is a law. The definitions are in `specs/`, and `proofs/Cited` passes on the lemmas that crates above cite.
 //! `docs/GEOMETRY.md` tells the laws in order.
 //!
 //! Most laws are for any heights that have no ties and are convex, as far as they need these facts. `perturbed_heights`

@@ -7,6 +7,7 @@ use Rattle.std.proofs.lemmas.List.{length-map}
 use Rattle.std.proofs.lemmas.List.FromFn.{length-range_with_len}
 use Rattle.std.proofs.lemmas.List.Sorted.{length_permutation}
 use Rattle.std.proofs.Math.Nat.{mod-lt}
+use Rattle.list_laws.proofs.Cited.{EachLater, all_of_each, later-filter, later-map, later-pairs, later-weaken, mapped_from, numbered-lower, numbered-places, passes}
 use Rattle.point_order.specs.Sets.{IsIn, is_among}
 use Rattle.edit_history.specs.declared.history.Edit.{Edit}
 use Rattle.edit_history.specs.declared.history.Edit.TheVariants.{Add}
@@ -15,8 +16,7 @@ use Rattle.edit_history.specs.Edits.{point_of}
 use Rattle.edit_history.specs.Histories.{IsLegal}
 use Rattle.edit_history.specs.OneThread.{Keeps, one_thread, places, tagged_lines}
 use Rattle.plain_laws.specs.Running.{Pair, dealt, dealt_to, opening_entries, IsRun}
-use Rattle.plain_laws.proofs.Members.{EachLater, in-all, in-map_from, later-filter, later-map, later-pairs, later-weaken, numbered-lower, numbered-places, passes}
-use Rattle.plain_laws.proofs.Runs.{all-parts, run_alone, run_keeps}
+use Rattle.plain_laws.proofs.Cited.{all-parts, run_alone, run_keeps}
 use Rattle.edit_workers.specs.Dealing.{AreApart, AreAscending, AreOpening, HaveNoPoint, count_of}
 use Rattle.edit_workers.specs.Running.{AreRun}
 
@@ -34,7 +34,7 @@ module _ (workers : ℕ) (four : List ℕ) (points : List ℕ) (edits : List Edi
 
   -- the tags of each list ascend
   pub dealt_ascend : All AreAscending lists
-  dealt_ascend = in-all AreAscending lists (λ l i. each l (in-map_from (dealt_to workers four all) (range_with_len 0 workers) l i))
+  dealt_ascend = all_of_each AreAscending lists (λ l i. each l (mapped_from (dealt_to workers four all) l (range_with_len 0 workers) i))
     where
       one : (i : ℕ) → AreAscending (dealt_to workers four all i)
       one i =

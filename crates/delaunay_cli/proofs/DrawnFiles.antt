@@ -7,7 +7,7 @@ use Rattle.std.proofs.lemmas.List.FromFn.{length-map-range_with_len}
 use Rattle.point_order.specs.Solid.{is_solid}
 use Rattle.edit_files.specs.Content.{Content}
 use Rattle.edit_files.specs.Generator.{edit_line, generated}
-use Rattle.edit_files.proofs.Generated.{generated-solid}
+use Rattle.edit_files.proofs.Cited.{generated-solid}
 use Rattle.edit_history.specs.declared.history.Entry.{Entry}
 use Rattle.delaunay_cli.specs.declared.made.Made.{Made}
 use Rattle.delaunay_cli.specs.declared.stop.Stop.{Stop}

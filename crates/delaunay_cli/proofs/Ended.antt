@@ -11,7 +11,7 @@ use Rattle.edit_history.specs.Histories.{IsLegal}
 use Rattle.edit_files.specs.Content.{Content}
 use Rattle.edit_files.specs.Grammar.{line_limit, IsFile}
 use Rattle.edit_files.specs.Generator.{generated}
-use Rattle.edit_files.proofs.Judged.{one_file_of, no_fault_of}
+use Rattle.edit_files.proofs.Cited.{no_fault_of, one_file_of}
 use Rattle.mesh_files.specs.Text.{report_text}
 use Rattle.plain_laws.specs.Plain.{IsAnchored}
 use Rattle.delaunay_cli.specs.declared.made.Made.{Made}

@@ -13,8 +13,7 @@ use Rattle.edit_history.specs.Histories.{entries_from, IsLegal, IsLegalFrom}
 use Rattle.edit_history.specs.Opening.{Four, opening_four}
 use Rattle.edit_history.specs.OneThread.{places, tagged_lines, line_of}
 use Rattle.edit_history.specs.Laws.{AreIndependent as AreIndependentPlaces}
-use Rattle.edit_history.proofs.LinesAtPlaces.{line_at, picked, same-map}
-use Rattle.edit_history.proofs.OpeningSolid.{four_law}
+use Rattle.edit_history.proofs.Cited.{four_law, line_at, picked, same-map}
 use Rattle.insertion.specs.Opening.{inserted_from, opening_history}
 use Rattle.delaunay_cli.specs.Made.{tagged_points}
 

@@ -7,11 +7,11 @@ use Rattle.edit_history.specs.declared.history.Entry.{Entry}
 use Rattle.edit_history.specs.Histories.{IsLegal}
 use Rattle.edit_history.specs.OneThread.{Keeps}
 use Rattle.edit_files.specs.Content.{Content}
-use Rattle.edit_files.proofs.Generated.{generated-anchored}
+use Rattle.edit_files.proofs.Cited.{generated-anchored}
 use Rattle.edit_files.specs.Writing.{file_text}
 use Rattle.mesh_files.specs.Summary.{summary_text}
 use Rattle.plain_laws.specs.Plain.{IsAnchored, IsPlain}
-use Rattle.plain_laws.proofs.PlainLaw.{anchored_is_plain}
+use Rattle.plain_laws.proofs.Cited.{anchored_is_plain}
 use Rattle.delaunay_cli.specs.Drawn.{IsKeptOfDrawn, drawn_file, drawn_text}
 use Rattle.delaunay_cli.specs.PlainText.{plain_drawn, plain_report}
 use Rattle.delaunay_cli.specs.Report.{report_of, shapes_of}

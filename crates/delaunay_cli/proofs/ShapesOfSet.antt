@@ -1,12 +1,12 @@
 -- The shapes of a set, as the report tells them.
 use Rattle.std.proofs.Common.{◌≡◌, refl, sym, subst, ap, ◌∙◌, ℕ, ◌<◌, ◌+◌, true, false, Bool, List, [], ◌∷◌, ◌++◌, map, drop, length, get_or}
 use Rattle.std.proofs.lemmas.List.{map-append, drop_more}
+use Rattle.list_laws.proofs.Cited.{mapped_from}
 use Rattle.point_order.specs.declared.cell.Cell.{Cell}
 use Rattle.point_order.specs.Complex.{complex}
 use Rattle.point_order.specs.Sets.{IsIn, IsAscending}
 use Rattle.point_order.specs.Solid.{is_solid}
 use Rattle.del_laws.specs.Keys.{AreKeys}
-use Rattle.del_laws.proofs.Listed.{mapped_from}
 use Rattle.face_list.specs.Faces.{points_in, parts_in, points_with_cells, with_cells}
 use Rattle.face_list.specs.Seen.{FaceLists}
 use Rattle.alpha_complex.specs.declared.shape.Shape.{Shape}
@@ -14,7 +14,7 @@ use Rattle.alpha_complex.specs.declared.shape.Kind.{Kind}
 use Rattle.alpha_complex.specs.Admitted.{kind}
 use Rattle.alpha_complex.specs.Condition.{AreFacesOf}
 use Rattle.alpha_complex.specs.Shapes.{ShapeParts, shape_of, shape_seen}
-use Rattle.cell_store.proofs.ShareLaws.{ascending_replay}
+use Rattle.cell_store.proofs.Cited.{ascending_replay}
 use Rattle.edit_files.specs.Content.{Content}
 use Rattle.edit_history.specs.declared.history.Entry.{Entry}
 use Rattle.edit_history.specs.Histories.{replay}

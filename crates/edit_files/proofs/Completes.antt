@@ -1,10 +1,11 @@
 -- The lines of a file are judged to be it.
-use Rattle.std.proofs.Common.{◌≡◌, ℕ, suc, ◌+◌, ◌<◌, ◌≤◌, false, leb, List, [], ◌∷◌, ◌++◌, length, Ok, refl, sym, ap, subst, ◌∙◌, arith, append_assoc}
+use Rattle.std.proofs.Common.{◌≡◌, ℕ, ◌+◌, ◌<◌, ◌≤◌, false, leb, List, [], ◌∷◌, ◌++◌, length, Ok, refl, sym, ap, subst, ◌∙◌, arith, append_assoc}
 use Rattle.std.specs.Prelude.{codes}
 use Rattle.std.specs.List.{AllZip}
 use Rattle.std.specs.Str.{bytes_eq}
 use Rattle.std.proofs.lemmas.Bool.{lt-leb}
 use Rattle.std.proofs.lemmas.List.{append-nil, length-append}
+use Rattle.list_laws.proofs.Cited.{length_zip}
 use Rattle.edit_history.specs.declared.history.Edit.{Edit}
 use Rattle.edit_files.specs.declared.reader.Place.{Place}
 use Rattle.edit_files.specs.declared.reader.Place.TheVariants as places
@@ -127,12 +128,6 @@ goes-radii limit t (l ∷ ls) (r ∷ rs) rest z le =
     let same : more_radii u rs ≡ more_radii t (r ∷ rs) = ap (λ (xs : List ℕ). record t { radii = xs }) (append_assoc t.radii (r ∷ []) rs) in
     subst (λ (v : Content). Goes limit (at places.Radii t) (l ∷ (ls ++ rest)) (at places.Radii v) rest) same (goes-then limit _ _ _ _ _ _ one others)
 
-pub length-zip : {A B : Type 0} (R : A → B → Type 0) (xs : List A) (ys : List B) → AllZip R xs ys → length xs ≡ length ys
-length-zip R [] [] z = refl
-length-zip R [] (y ∷ ys) z = absurd z
-length-zip R (x ∷ xs) [] z = absurd z
-length-zip R (x ∷ xs) (y ∷ ys) z = ap suc (length-zip R xs ys z.1)
-
 regrouped : (pls els rls : List (List ℕ)) → codes "mesh3 1" ∷ codes "points" ∷ pls ++ codes "edits" ∷ els ++ codes "radii" ∷ rls ++ codes "end" ∷ [] ≡ codes "mesh3 1" ∷ codes "points" ∷ (pls ++ (codes "edits" ∷ (els ++ (codes "radii" ∷ (rls ++ (codes "end" ∷ []))))))
 regrouped pls els rls = simp append_assoc
 
@@ -149,7 +144,7 @@ goes-all limit lines f are =
     let b : Goes limit (at places.Heading nothing) (codes "points" ∷ in_points) (at places.Points nothing) in_points = goes-one limit _ _ _ _ (step-points limit nothing) in
     let c : Goes limit (at places.Points nothing) in_points (at places.Points t1) (codes "edits" ∷ in_edits) = goes-points limit nothing are.points f.points (codes "edits" ∷ in_edits) are.point_lines (omega (arith, are.line_count)) in
     let d : Goes limit (at places.Points t1) (codes "edits" ∷ in_edits) (at places.Edits t1) in_edits = goes-one limit _ _ _ _ (step-edits limit t1) in
-    let e : Goes limit (at places.Edits t1) in_edits (at places.Edits t2) (codes "radii" ∷ in_radii) = goes-edits limit t1 are.edits f.edits (codes "radii" ∷ in_radii) are.edit_lines (omega (arith, are.line_count, length-zip IsPointLine are.points f.points are.point_lines)) in
+    let e : Goes limit (at places.Edits t1) in_edits (at places.Edits t2) (codes "radii" ∷ in_radii) = goes-edits limit t1 are.edits f.edits (codes "radii" ∷ in_radii) are.edit_lines (omega (arith, are.line_count, length_zip IsPointLine are.points f.points are.point_lines)) in
     let g : Goes limit (at places.Edits t2) (codes "radii" ∷ in_radii) (at places.Radii t2) in_radii = goes-one limit _ _ _ _ (step-radii limit t2) in
     let h : Goes limit (at places.Radii t2) in_radii (at places.Radii t3) ends = goes-radii limit t2 are.radii f.radii ends are.radius_lines (omega (arith, are.radius_count)) in
     let i : Goes limit (at places.Radii t3) ends (at places.End t3) [] = goes-one limit _ _ _ _ (step-end limit t3) in

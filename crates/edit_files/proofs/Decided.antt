@@ -82,10 +82,10 @@ point_at-cases a b c =
       ]
     ]
 
-abbrev done : ℕ → Result ℕ Why
+abbrev pub done : ℕ → Result ℕ Why
 done n = Ok n
 
-ok_same : (m n : ℕ) → done m ≡ done n → m ≡ n
+pub ok_same : (m n : ℕ) → done m ≡ done n → m ≡ n
 ok_same m n h = cc
 
 abbrev pub failed : Why → Result ℕ Why

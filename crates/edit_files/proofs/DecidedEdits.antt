@@ -10,7 +10,7 @@ use Rattle.edit_files.specs.Numbers.{IsNumber}
 use Rattle.edit_files.specs.Forms.{HasEditForm, IsEditLine, IsRadiusLine}
 use Rattle.edit_files.specs.Judging.{number, point, edit, edit_from, radius, radius_from}
 use Rattle.edit_files.proofs.Values.{number-some, number-none-not, number-of, of-number}
-use Rattle.edit_files.proofs.Decided.{Decides, point-sound, point-complete, point-field, point-range, point-only, err_same}
+use Rattle.edit_files.proofs.Decided.{Decides, point-sound, point-complete, point-field, point-range, point-only, err_same, ok_same}
 
 -- ---- edits
 
@@ -146,12 +146,6 @@ from-cases n =
       | inr le ↦ let e : ltb n (2 ^ 30) ≡ false = le-ltb _ _ le in inr (le, rw e refl)
     ]
 
-abbrev done : ℕ → Result ℕ Why
-done n = Ok n
-
-done_same : (m n : ℕ) → done m ≡ done n → m ≡ n
-done_same m n h = cc
-
 -- a number, and what is read of it; or no number
 radius-view : (line : List ℕ) (o : Option ℕ) → number line ≡ o → ((radius line ≡ Err Field) × (IsNumber line → ⊥)) ⊎ ((n : ℕ) × (number line ≡ Some n) × (radius line ≡ radius_from (Some n)))
 radius-view line None h = inl (radius-is line None h, number-none-not line h)
@@ -164,7 +158,7 @@ radius-sound line r h =
       | inr v ↦ elim (from-cases v.0) [
         | inr e ↦ (let f = v.2 in let g = e.1 in absurd cc)
         | inl e ↦
-            let same : v.0 ≡ r = done_same v.0 r (sym e.1 ∙ sym v.2 ∙ h) in
+            let same : v.0 ≡ r = ok_same v.0 r (sym e.1 ∙ sym v.2 ∙ h) in
             subst (λ (n : ℕ). IsRadiusLine line n) same (of-number line v.0 v.1 (omega (arith, e.0)), e.0)
       ]
     ]

@@ -15,3 +15,4 @@ pub mod Judged
 pub mod OneFault
 pub mod Written
 pub mod Generated
+pub mod Cited

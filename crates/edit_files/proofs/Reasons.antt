@@ -7,6 +7,7 @@ use Rattle.std.proofs.lemmas.Bool.{both_ways, or_from, or_right}
 use Rattle.std.proofs.lemmas.List.{length-append}
 use Rattle.std.proofs.lemmas.List.Sums.{sum_by-cons, sum_by-append}
 use Rattle.std.proofs.lemmas.List.Folds.{list_any-append}
+use Rattle.list_laws.proofs.Cited.{length_zip}
 use Rattle.edit_history.specs.declared.history.Edit.{Edit}
 use Rattle.edit_files.specs.declared.fault.Why.{Why}
 use Rattle.edit_files.specs.declared.fault.Why.TheVariants.{Section, Field, Range, TooMany}
@@ -21,7 +22,7 @@ use Rattle.edit_files.specs.Judging.{State, step, step_at, with_point, with_edit
 use Rattle.edit_files.proofs.Decided.{points_decided}
 use Rattle.edit_files.proofs.DecidedEdits.{edits_decided, radii_decided}
 use Rattle.edit_files.proofs.Words.{HaveNoWord, said-no_word, has-none, count-all, lines_after-at, point-no_word, edit-no_word, radius-no_word}
-use Rattle.edit_files.proofs.Completes.{at, length-zip}
+use Rattle.edit_files.proofs.Completes.{at}
 use Rattle.edit_files.proofs.Fronts.{Leads}
 
 -- where a front stands in a list: it is full or not, and what form a line is to have
@@ -128,7 +129,7 @@ in_points limit front t line k =
     let none : length k.edits ≡ 0 = ap length k.unmet.0 in
     let count : counted (drop 1 front) ≡ length t.points + length t.edits =
     ap (λ (ls : List (List ℕ)). counted (drop 1 ls)) k.order ∙ count-points k.points z
-    ∙ omega (arith, length-zip IsPointLine k.points t.points k.point_lines, length-zip IsEditLine k.edits t.edits k.edit_lines) in
+    ∙ omega (arith, length_zip IsPointLine k.points t.points k.point_lines, length_zip IsEditLine k.edits t.edits k.edit_lines) in
     let form = form-points front line radii edits in
     record {
       long = omega (arith, ap length k.order);
@@ -150,7 +151,7 @@ in_edits limit front t line k =
     ∙ has-both (codes "end") (lead k.points) tail (has-lead (codes "end") refl refl k.points (has-none (codes "end") (λ l n. n.end) k.points z)) (has-none (codes "end") (λ l n. n.end) k.edits y) in
     let count : counted (drop 1 front) ≡ length t.points + length t.edits =
     ap (λ (ls : List (List ℕ)). counted (drop 1 ls)) k.order ∙ count-both k.points k.edits z y
-    ∙ omega (arith, length-zip IsPointLine k.points t.points k.point_lines, length-zip IsEditLine k.edits t.edits k.edit_lines) in
+    ∙ omega (arith, length_zip IsPointLine k.points t.points k.point_lines, length_zip IsEditLine k.edits t.edits k.edit_lines) in
     let form = form-edits front line radii edits in
     record {
       long = omega (arith, ap length k.order, length-append (lead k.points) tail);
@@ -176,7 +177,7 @@ in_radii limit front t line k =
     ∙ has-both (codes "end") before (codes "radii" ∷ k.radii) unended (has-none (codes "end") (λ l n. n.end) k.radii x) in
     let after : length (lines_after (codes "radii") front) ≡ length t.radii =
     ap (λ (ls : List (List ℕ)). length (lines_after (codes "radii") ls)) k.order ∙ ap length (lines_after-at (codes "radii") before k.radii refl clear)
-    ∙ length-zip IsRadiusLine k.radii t.radii k.radius_lines in
+    ∙ length_zip IsRadiusLine k.radii t.radii k.radius_lines in
     let form = form-radii front line radii in
     record {
       long = omega (arith, ap length k.order, length-append before (codes "radii" ∷ k.radii), length-append (lead k.points) tail);

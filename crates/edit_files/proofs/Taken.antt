@@ -1,11 +1,11 @@
 -- A line that is taken leads on.
 use Rattle.std.proofs.Common.{◌≡◌, ℕ, ◌+◌, ◌<◌, Bool, true, false, cond, leb, ◌⊎◌, List, [], ◌∷◌, ◌++◌, length, Result, Ok, Err, refl, sym, ap, subst, ◌∙◌, arith, inl, inr, append_assoc}
 use Rattle.std.specs.Prelude.{codes}
-use Rattle.std.specs.List.{AllZip}
 use Rattle.std.specs.Str.{bytes_eq}
 use Rattle.std.proofs.lemmas.Bool.{leb-false}
 use Rattle.std.proofs.lemmas.List.{length-append}
 use Rattle.std.proofs.lemmas.Slice.Eq.{bytes_eq-Decides}
+use Rattle.list_laws.proofs.Cited.{length_zip, zip_push}
 use Rattle.edit_history.specs.declared.history.Edit.{Edit}
 use Rattle.edit_files.specs.declared.fault.Why.{Why}
 use Rattle.edit_files.specs.declared.fault.Why.TheVariants.{Section, TooMany}
@@ -18,14 +18,8 @@ use Rattle.edit_files.specs.Faults.{is_word}
 use Rattle.edit_files.specs.Judging.{State, step, step_at, listed, with_point, with_edit, with_radius, point, edit, radius}
 use Rattle.edit_files.proofs.Decided.{points_decided}
 use Rattle.edit_files.proofs.DecidedEdits.{edits_decided, radii_decided}
-use Rattle.edit_files.proofs.Completes.{at, more_points, more_edits, more_radii, length-zip}
+use Rattle.edit_files.proofs.Completes.{at, more_points, more_edits, more_radii}
 use Rattle.edit_files.proofs.Fronts.{Leads}
-
-zip-push : {A B : Type 0} (R : A → B → Type 0) (xs : List A) (ys : List B) (x : A) (y : B) → AllZip R xs ys → R x y → AllZip R (xs ++ x ∷ []) (ys ++ y ∷ [])
-zip-push R [] [] x y z r = (r, tt)
-zip-push R [] (b ∷ ys) x y z r = absurd z
-zip-push R (a ∷ xs) [] x y z r = absurd z
-zip-push R (a ∷ xs) (b ∷ ys) x y z r = (z.0, zip-push R xs ys x y z.1 r)
 
 same : (line word : List ℕ) → bytes_eq line word ≡ true → line ≡ word
 same line word t = (bytes_eq-Decides line word).0 t
@@ -153,10 +147,10 @@ more-point limit front t line p k says lt = record {
   radii = k.radii;
   unmet = k.unmet;
   order = ap (λ (ls : List (List ℕ)). ls ++ line ∷ []) k.order;
-  point_lines = zip-push IsPointLine k.points t.points line p k.point_lines says;
+  point_lines = zip_push IsPointLine k.points t.points line p k.point_lines says;
   edit_lines = k.edit_lines;
   radius_lines = k.radius_lines;
-  line_count = omega (arith, length-append k.points (line ∷ []), length-zip IsPointLine k.points t.points k.point_lines, length-zip IsEditLine k.edits t.edits k.edit_lines);
+  line_count = omega (arith, length-append k.points (line ∷ []), length_zip IsPointLine k.points t.points k.point_lines, length_zip IsEditLine k.edits t.edits k.edit_lines);
   radius_count = k.radius_count;
 }
 
@@ -168,9 +162,9 @@ more-edit limit front t line e k says lt = record {
   unmet = k.unmet;
   order = ap (λ (ls : List (List ℕ)). ls ++ line ∷ []) k.order ∙ append_assoc (codes "mesh3 1" ∷ codes "points" ∷ k.points) (codes "edits" ∷ k.edits) (line ∷ []);
   point_lines = k.point_lines;
-  edit_lines = zip-push IsEditLine k.edits t.edits line e k.edit_lines says;
+  edit_lines = zip_push IsEditLine k.edits t.edits line e k.edit_lines says;
   radius_lines = k.radius_lines;
-  line_count = omega (arith, length-append k.edits (line ∷ []), length-zip IsPointLine k.points t.points k.point_lines, length-zip IsEditLine k.edits t.edits k.edit_lines);
+  line_count = omega (arith, length-append k.edits (line ∷ []), length_zip IsPointLine k.points t.points k.point_lines, length_zip IsEditLine k.edits t.edits k.edit_lines);
   radius_count = k.radius_count;
 }
 
@@ -183,9 +177,9 @@ more-radius limit front t line r k says lt = record {
   order = ap (λ (ls : List (List ℕ)). ls ++ line ∷ []) k.order ∙ append_assoc (codes "mesh3 1" ∷ codes "points" ∷ k.points ++ codes "edits" ∷ k.edits) (codes "radii" ∷ k.radii) (line ∷ []);
   point_lines = k.point_lines;
   edit_lines = k.edit_lines;
-  radius_lines = zip-push IsRadiusLine k.radii t.radii line r k.radius_lines says;
+  radius_lines = zip_push IsRadiusLine k.radii t.radii line r k.radius_lines says;
   line_count = k.line_count;
-  radius_count = omega (arith, length-append k.radii (line ∷ []), length-zip IsRadiusLine k.radii t.radii k.radius_lines);
+  radius_count = omega (arith, length-append k.radii (line ∷ []), length_zip IsRadiusLine k.radii t.radii k.radius_lines);
 }
 
 leads-at : (limit : ℕ) (front : List (List ℕ)) (place : Place) (t : Content) (line : List ℕ) (s : State) → Leads limit front place t → step_at limit place t line ≡ Ok s → LeadsTo limit (front ++ line ∷ []) s

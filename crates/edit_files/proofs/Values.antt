@@ -4,6 +4,7 @@ use Rattle.std.specs.Char.{is_ascii_digit, digit_value}
 use Rattle.std.specs.Str.Parse.{AllDigits, IsNumeral, digits_value, digits_value_after, starts_with_minus}
 use Rattle.std.proofs.lemmas.Bool.{cases_lt, cases_Bool, and_parts, and_from, leb-true, le-leb, lt-ltb, le-ltb}
 use Rattle.std.proofs.lemmas.Str.Parse.{digit_from_value}
+use Rattle.list_laws.proofs.Cited.{one_value}
 use Rattle.edit_files.specs.Numbers.{after_minus, IsNumber, IsNumberOf}
 use Rattle.edit_files.specs.Judging.{far, digits, digits_from, signed, number}
 use Rattle.edit_files.proofs.Numerals.{digits_from-nil, digits_from-digit, digits_from-other, digits-is, digits-nil, number-is}
@@ -105,9 +106,6 @@ value-reading true v n e z lt =
     rw none (omega arith)
 value-reading false v n e z lt = omega arith
 
-some_is : (m n : ℕ) → Some m ≡ Some n → m ≡ n
-some_is m n h = cc
-
 pub number-of : (bs : List ℕ) (n : ℕ) → IsNumberOf bs n → n < far → number bs ≡ Some n
 number-of bs n h lt =
     number-read bs h.number ∙ ap (λ (m : ℕ). Some m) (value-reading (starts_with_minus bs) (digits_value 10 (after_minus bs)) n h.value h.minus lt)
@@ -115,6 +113,6 @@ number-of bs n h lt =
 pub of-number : (bs : List ℕ) (n : ℕ) → number bs ≡ Some n → n < far → IsNumberOf bs n
 of-number bs n h lt =
     let is : IsNumber bs = number-some bs n h in
-    let same : reading bs ≡ n = some_is (reading bs) n (sym (number-read bs is) ∙ h) in
+    let same : reading bs ≡ n = one_value (reading bs) n (sym (number-read bs is) ∙ h) in
     let v = reading-value (starts_with_minus bs) (digits_value 10 (after_minus bs)) n same lt in
     record { number = is; value = v.0; minus = v.1 }

@@ -1,12 +1,12 @@
 -- The lines that are written of a file are its lines.
 use Rattle.std.proofs.Common.{◌≡◌, ℕ, ◌<◌, ◌^◌, false, List, [], ◌∷◌, ◌++◌, refl, sym, ap, subst, ◌∙◌, arith, append_assoc, map}
 use Rattle.std.specs.Prelude.{codes, decimal}
-use Rattle.std.specs.List.{AllByRecursion, AllZip}
 use Rattle.std.specs.Str.Parse.{IsNumeral, digits_value, starts_with_minus}
 use Rattle.std.proofs.lemmas.Bool.{ne_eqb, both_ways}
 use Rattle.std.proofs.lemmas.Fmt.{decimal_is_IsNumeral}
 use Rattle.std.proofs.lemmas.List.{length-map}
 use Rattle.std.proofs.lemmas.Str.Parse.{digit_from_value}
+use Rattle.list_laws.proofs.Cited.{length_zip, zip_all, zip_map}
 use Rattle.point_order.specs.Coordinates.{x_of, y_of, z_of, IsKey}
 use Rattle.edit_history.specs.declared.history.Edit.{Edit}
 use Rattle.edit_history.specs.declared.history.Edit.TheVariants.{Add, Take}
@@ -18,7 +18,6 @@ use Rattle.edit_files.specs.Forms.{IsPointLine, IsEditLine, IsRadiusLine}
 use Rattle.edit_files.specs.Grammar.{IsFile}
 use Rattle.edit_files.specs.Writing.{point_text, edit_text, file_lines, file_text, IsWithin}
 use Rattle.edit_files.proofs.Points.{coordinate-below}
-use Rattle.edit_files.proofs.Completes.{length-zip}
 use Rattle.edit_files.proofs.Texts.{text-is_file}
 
 -- digits begin with no minus
@@ -58,29 +57,18 @@ edit-line (Take p) key = (point_text p, refl, point-line p key)
 radius-line : (r : ℕ) → r < 2 ^ 30 → IsRadiusLine (decimal r) r
 radius-line r lt = (decimal-is r (omega arith), lt)
 
-zip-map : {A : Type 0} (Says : List ℕ → A → Type 0) (write : A → List ℕ) (P : A → Type 0) → ((a : A) → P a → Says (write a) a) → (vs : List A) → AllByRecursion P vs → AllZip Says (map write vs) vs
-zip-map Says write P h [] all = tt
-zip-map Says write P h (v ∷ vs) all = (h v all.0, zip-map Says write P h vs all.1)
-
 pub written-is_file : (limit : ℕ) (f : Content) → IsWithin limit f → IsFile limit (file_text f) f
 written-is_file limit f w = text-is_file limit (file_lines f) f (record {
   points = map point_text f.points;
   edits = map edit_text f.edits;
   radii = map decimal f.radii;
   order = refl;
-  point_lines = zip-map IsPointLine point_text IsKey point-line f.points w.points;
-  edit_lines = zip-map IsEditLine edit_text (λ e. IsKey (point_of e)) edit-line f.edits w.edits;
-  radius_lines = zip-map IsRadiusLine decimal (λ r. r < 2 ^ 30) radius-line f.radii w.radii;
+  point_lines = zip_map IsPointLine point_text IsKey point-line f.points w.points;
+  edit_lines = zip_map IsEditLine edit_text (λ e. IsKey (point_of e)) edit-line f.edits w.edits;
+  radius_lines = zip_map IsRadiusLine decimal (λ r. r < 2 ^ 30) radius-line f.radii w.radii;
   line_count = omega (arith, w.line_count, length-map f.points point_text, length-map f.edits edit_text);
   radius_count = omega (arith, w.radius_count, length-map f.radii decimal);
 })
-
--- what lines say is within what they can say
-zip-all : {A : Type 0} (Says : List ℕ → A → Type 0) (P : A → Type 0) → ((line : List ℕ) (a : A) → Says line a → P a) → (lines : List (List ℕ)) (vs : List A) → AllZip Says lines vs → AllByRecursion P vs
-zip-all Says P h [] [] z = tt
-zip-all Says P h [] (v ∷ vs) z = absurd z
-zip-all Says P h (l ∷ ls) [] z = absurd z
-zip-all Says P h (l ∷ ls) (v ∷ vs) z = (h l v z.0, zip-all Says P h ls vs z.1)
 
 edit-key : (line : List ℕ) (e : Edit) → IsEditLine line e → IsKey (point_of e)
 edit-key line (Add p) s = s.2.key
@@ -88,11 +76,11 @@ edit-key line (Take p) s = s.2.key
 
 pub file-is_within : (limit : ℕ) (bytes : List ℕ) (f : Content) → IsFile limit bytes f → IsWithin limit f
 file-is_within limit bytes f k = record {
-  points = zip-all IsPointLine IsKey (λ line p s. s.key) k.points f.points k.point_lines;
-  edits = zip-all IsEditLine (λ e. IsKey (point_of e)) edit-key k.edits f.edits k.edit_lines;
-  radii = zip-all IsRadiusLine (λ r. r < 2 ^ 30) (λ line r s. s.1) k.radii f.radii k.radius_lines;
-  line_count = omega (arith, k.line_count, length-zip IsPointLine k.points f.points k.point_lines, length-zip IsEditLine k.edits f.edits k.edit_lines);
-  radius_count = omega (arith, k.radius_count, length-zip IsRadiusLine k.radii f.radii k.radius_lines);
+  points = zip_all IsPointLine IsKey (λ line p s. s.key) k.points f.points k.point_lines;
+  edits = zip_all IsEditLine (λ e. IsKey (point_of e)) edit-key k.edits f.edits k.edit_lines;
+  radii = zip_all IsRadiusLine (λ r. r < 2 ^ 30) (λ line r s. s.1) k.radii f.radii k.radius_lines;
+  line_count = omega (arith, k.line_count, length_zip IsPointLine k.points f.points k.point_lines, length_zip IsEditLine k.edits f.edits k.edit_lines);
+  radius_count = omega (arith, k.radius_count, length_zip IsRadiusLine k.radii f.radii k.radius_lines);
 }
 
 -- ---- the text, list by list

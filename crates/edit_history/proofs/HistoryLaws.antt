@@ -2,8 +2,9 @@
 use Rattle.std.specs.Prelude.{◌≡◌, ℕ, ◌+◌, Bool, true, false, cond, not, List, [], ◌∷◌, ◌++◌, ◌⊎◌, map, Option, None, Some, IfSome}
 use Rattle.std.specs.List.{enumerate_from, filter}
 use Rattle.std.proofs.Common.{refl, sym, ◌∙◌, ap, subst, inl, inr, append-nil}
+use Rattle.list_laws.proofs.Cited.{among_from, filtered_true, from_append, in_filtered, in_left, in_right}
 use Rattle.point_order.specs.Sets.{IsIn, IsAscending, is_among, ascending}
-use Rattle.point_order.proofs.SetLaws.{in-with, in-with_new, in-with_old, ascending-with, ascending-is}
+use Rattle.point_order.proofs.Cited.{ascending-is, ascending-with, in-with, in-with_new, in-with_old}
 use Rattle.edit_history.specs.declared.history.Edit.{Edit}
 use Rattle.edit_history.specs.declared.history.Edit.TheVariants.{Add}
 use Rattle.edit_history.specs.declared.history.Entry.{Entry}
@@ -12,12 +13,11 @@ use Rattle.edit_history.specs.declared.history.Reply.TheVariants.{Inserted, Dupl
 use Rattle.edit_history.specs.Edits.{point_of, reply_to, changed, after}
 use Rattle.edit_history.specs.Histories.{replay_from, replay, entries_from, IsLegalFrom}
 use Rattle.edit_history.specs.Opening.{Four, opening_four}
-use Rattle.edit_history.specs.OneThread.{is_opening, tagged_lines, opening_first, lines_in_order}
+use Rattle.edit_history.specs.OneThread.{is_opening, tagged_lines, opening_first, lines_of_one_thread}
 use Rattle.edit_history.specs.Laws.{SetLaw, LegalLaw, ReplayLaw, LeavesSet}
 use Rattle.edit_history.proofs.Solidity.{solid-ascending}
 use Rattle.edit_history.proofs.SetEdits.{ascending-without}
-use Rattle.edit_history.proofs.Numbers.{among-in}
-use Rattle.edit_history.proofs.Lines.{set_after, replay-is, in-filtered, in-append}
+use Rattle.edit_history.proofs.Lines.{set_after, replay-is}
 
 pub set_law : SetLaw
 set_law points = solid-ascending points
@@ -29,11 +29,11 @@ legal-from n s [] = tt
 legal-from n s (line ∷ lines) = (refl, refl, legal-from (n + 1) (after s line.1) lines)
 
 pub legal_law : LegalLaw
-legal_law points edits = legal-from 0 [] (lines_in_order (opening_four points) (tagged_lines points edits))
+legal_law points edits = legal-from 0 [] (lines_of_one_thread (opening_four points) (tagged_lines points edits))
 
 -- ---- an edit leaves an ascending list
 
-ascending-changed : (s : List ℕ) (p : ℕ) (r : Reply) → IsAscending s → IsAscending (changed s p r)
+pub ascending-changed : (s : List ℕ) (p : ℕ) (r : Reply) → IsAscending s → IsAscending (changed s p r)
 ascending-changed s p Inserted a = ascending-with p s a
 ascending-changed s p Duplicate a = a
 ascending-changed s p Removed a = ascending-without p s a
@@ -60,18 +60,18 @@ in-added s p q i = by (is_among p s) i
     by true i = inl i
     by false i = elim (in-with p q s i) [ inl e ↦ inr e | inr j ↦ inl j ]
 
-added-old : (s : List ℕ) (p q : ℕ) → IsIn q s → IsIn q (after s (Add p))
+pub added-old : (s : List ℕ) (p q : ℕ) → IsIn q s → IsIn q (after s (Add p))
 added-old s p q i = by (is_among p s)
   where
     by : (b : Bool) → IsIn q (changed s p (cond b Duplicate Inserted))
     by true = i
     by false = in-with_old p q s i
 
-added-new : (s : List ℕ) (p : ℕ) → IsIn p (after s (Add p))
+pub added-new : (s : List ℕ) (p : ℕ) → IsIn p (after s (Add p))
 added-new s p = by (is_among p s) refl
   where
     by : (b : Bool) → is_among p s ≡ b → IsIn p (changed s p (cond b Duplicate Inserted))
-    by true e = among-in s p e
+    by true e = among_from p s e
     by false e = in-with_new p s
 
 -- what lines that add leave: what was there, and their points
@@ -126,34 +126,16 @@ point-line n [] q i = absurd i
 point-line n (p ∷ points) q (inl e) = ((n, Add p), inl refl, e)
 point-line n (p ∷ points) q (inr i) = let r = point-line (n + 1) points q i in (r.0, inr r.1, r.2)
 
-into-append_left : {X : Type 0} (xs ys : List X) (y : X) → IsIn y xs → IsIn y (xs ++ ys)
-into-append_left [] ys y i = absurd i
-into-append_left (x ∷ xs) ys y (inl e) = inl e
-into-append_left (x ∷ xs) ys y (inr i) = inr (into-append_left xs ys y i)
-
-into-append_right : {X : Type 0} (xs ys : List X) (y : X) → IsIn y ys → IsIn y (xs ++ ys)
-into-append_right [] ys y i = i
-into-append_right (x ∷ xs) ys y i = inr (into-append_right xs ys y i)
-
-into-filter : {X : Type 0} (t : X → Bool) (xs : List X) (y : X) → IsIn y xs → t y ≡ true → IsIn y (filter t xs)
-into-filter t [] y i e = absurd i
-into-filter {X} t (x ∷ xs) y (inl e) f = let g : t x ≡ true = ap t e ∙ f in rw g (inl e)
-into-filter {X} t (x ∷ xs) y (inr i) f = by (t x) (into-filter t xs y i f)
-  where
-    by : (b : Bool) → IsIn y (filter t xs) → IsIn y (cond b (x ∷ filter t xs) (filter t xs))
-    by true j = inr j
-    by false j = j
-
 -- each line is in the one part or the other
 into-parts : (t : ℕ × Edit → Bool) (xs : List (ℕ × Edit)) (y : ℕ × Edit) → IsIn y xs → IsIn y (filter t xs ++ filter (λ x. not (t x)) xs)
 into-parts t xs y i = by (t y) refl
   where
     by : (b : Bool) → t y ≡ b → IsIn y (filter t xs ++ filter (λ x. not (t x)) xs)
-    by true e = into-append_left (filter t xs) (filter (λ x. not (t x)) xs) y (into-filter t xs y i e)
-    by false e = into-append_right (filter t xs) (filter (λ x. not (t x)) xs) y (into-filter (λ x. not (t x)) xs y i (ap not e))
+    by true e = in_left y (filter t xs) (filter (λ x. not (t x)) xs) (filtered_true t xs y i e)
+    by false e = in_right y (filter t xs) (filter (λ x. not (t x)) xs) (filtered_true (λ x. not (t x)) xs y i (ap not e))
 
 from-parts : (t : ℕ × Edit → Bool) (xs : List (ℕ × Edit)) (y : ℕ × Edit) → IsIn y (filter t xs ++ filter (λ x. not (t x)) xs) → IsIn y xs
-from-parts t xs y i = elim (in-append (filter t xs) (filter (λ x. not (t x)) xs) y i) [ inl j ↦ in-filtered t xs y j | inr j ↦ in-filtered (λ x. not (t x)) xs y j ]
+from-parts t xs y i = elim (from_append y (filter t xs) (filter (λ x. not (t x)) xs) i) [ inl j ↦ in_filtered t xs y j | inr j ↦ in_filtered (λ x. not (t x)) xs y j ]
 
 -- ---- what one thread leaves of point lines
 
@@ -169,6 +151,6 @@ parts-leave t points =
 pub replay_law : ReplayLaw
 replay_law points = by (opening_four points)
   where
-    by : (o : Option Four) → IfSome o (λ _. replay (entries_from 0 [] (lines_in_order o (tagged_lines points []))) ≡ ascending points)
+    by : (o : Option Four) → IfSome o (λ _. replay (entries_from 0 [] (lines_of_one_thread o (tagged_lines points []))) ≡ ascending points)
     by None = tt
     by (Some four) = replay-is 0 [] (opening_first four (tagged_lines points [])) ∙ rw append-nil (parts-leave (λ line. is_opening four line.0) points)

@@ -1,9 +1,10 @@
 -- The history of one thread keeps the file.
-use Rattle.std.specs.Prelude.{◌≡◌, ℕ, zero, suc, ◌+◌, ◌-◌, ◌<◌, ◌≤◌, Bool, true, false, cond, not, List, [], ◌∷◌, ◌++◌, ◌⊎◌, map, length, take, slice_index, Option, None, Some, IfSome, AllPairs, IsPermutation}
+use Rattle.std.specs.Prelude.{◌≡◌, ℕ, suc, ◌+◌, ◌-◌, ◌<◌, ◌≤◌, Bool, true, false, cond, not, List, [], ◌∷◌, ◌++◌, ◌⊎◌, map, length, take, slice_index, Option, None, Some, IfSome, IsPermutation}
 use Rattle.std.specs.List.{enumerate_from, filter}
 use Rattle.std.proofs.Common.{refl, sym, ◌∙◌, ap, subst, inl, inr, arith, get_or, length-append}
 use Rattle.std.proofs.lemmas.List.{take-map, take-append-le, length-map, take_all}
 use Rattle.std.proofs.lemmas.List.Sorted.{IsPermutation-filter_both}
+use Rattle.list_laws.proofs.Cited.{EachLater, among_from, among_true, at_in, in_filtered, later-append, later-filter, later-pairs, numbered_from}
 use Rattle.point_order.specs.Sets.{IsIn, IsAscending, is_among}
 use Rattle.edit_history.specs.declared.history.Edit.{Edit}
 use Rattle.edit_history.specs.declared.history.Edit.TheVariants.{Add}
@@ -11,11 +12,9 @@ use Rattle.edit_history.specs.declared.history.Entry.{Entry}
 use Rattle.edit_history.specs.Edits.{point_of, after}
 use Rattle.edit_history.specs.Histories.{entries_from}
 use Rattle.edit_history.specs.Opening.{Four, opening_four}
-use Rattle.edit_history.specs.OneThread.{places, is_opening, tagged_lines, lines_in_order, line_of, Keeps}
+use Rattle.edit_history.specs.OneThread.{places, is_opening, tagged_lines, lines_of_one_thread, line_of, Keeps}
 use Rattle.edit_history.specs.Laws.{IsFirstPlace, AreIndependent, KeepsLaw}
-use Rattle.edit_history.proofs.Numbers.{among-in, in-among}
-use Rattle.edit_history.proofs.Lines.{in-filtered, in-append, at-in}
-use Rattle.edit_history.proofs.LinesAtPlaces.{low, line_at, picked}
+use Rattle.edit_history.proofs.LinesAtPlaces.{line_at, picked}
 use Rattle.edit_history.proofs.OpeningSolid.{four_law}
 
 abbrev tag_of : ℕ × Edit → ℕ
@@ -38,25 +37,8 @@ entry-by n s (line ∷ lines) e (inr i) = entry-by (n + 1) (after s line.1) line
 
 -- ---- each line before each later one
 
-abbrev EachLater : {X : Type 0} → (X → X → Type 0) → List X → Type 0
-EachLater R [] = Unit {0}
-EachLater {X} R (x ∷ xs) = ((y : X) → IsIn y xs → R x y) × EachLater R xs
-
-later-filter : {X : Type 0} (R : X → X → Type 0) (t : X → Bool) (xs : List X) → EachLater R xs → EachLater R (filter t xs)
-later-filter R t [] h = tt
-later-filter {X} R t (x ∷ xs) h = by (t x) (later-filter R t xs h.1)
-  where
-    by : (b : Bool) → EachLater R (filter t xs) → EachLater R (cond b (x ∷ filter t xs) (filter t xs))
-    by true r = (λ y i. h.0 y (in-filtered t xs y i), r)
-    by false r = r
-
-later-append : {X : Type 0} (R : X → X → Type 0) (xs ys : List X) → EachLater R xs → EachLater R ys → ((x y : X) → IsIn x xs → IsIn y ys → R x y) → EachLater R (xs ++ ys)
-later-append R [] ys h k f = k
-later-append R (x ∷ xs) ys h k f =
-    (λ y i. elim (in-append xs ys y i) [ inl j ↦ h.0 y j | inr j ↦ f x y (inl refl) j ], later-append R xs ys h.1 k (λ z y i j. f z y (inr i) j))
-
 -- of two entries with one point the earlier has the lower tag
-abbrev InOrder : ℕ × Edit → ℕ × Edit → Type 0
+abbrev pub InOrder : ℕ × Edit → ℕ × Edit → Type 0
 InOrder x y = point_of x.1 ≡ point_of y.1 → x.0 < y.0
 
 later-entries : (n : ℕ) (s : List ℕ) (lines : List (ℕ × Edit)) → EachLater InOrder lines → EachLater (λ (d e : Entry). point_of d.edit ≡ point_of e.edit → d.tag < e.tag) (entries_from n s lines)
@@ -71,28 +53,21 @@ later-entries n s (line ∷ lines) h = (first (n + 1) (after s line.1) lines h.0
         subst (λ (m : ℕ). line.0 < m) b (f l (inl refl) a)
     first n s (l ∷ ls) f e (inr i) q = first (n + 1) (after s l.1) ls (λ y j. f y (inr j)) e i q
 
-later-pairs : {X : Type 0} (R : X → X → Type 0) (xs : List X) → EachLater R xs → AllPairs R xs
-later-pairs R [] h i j d l m = absurd (omega arith)
-later-pairs R (x ∷ xs) h zero zero d l m = absurd (omega arith)
-later-pairs R (x ∷ xs) h zero (suc j) d l m = h.0 (get_or xs j d) (at-in xs j d (omega arith))
-later-pairs R (x ∷ xs) h (suc i) zero d l m = absurd (omega arith)
-later-pairs R (x ∷ xs) h (suc i) (suc j) d l m = later-pairs R xs h.1 i j d (omega arith) (omega arith)
-
 -- ---- numbered lines
 
 numbered-later : (n : ℕ) (xs : List Edit) → EachLater InOrder (enumerate_from n xs)
 numbered-later n [] = tt
-numbered-later n (x ∷ xs) = (λ y i q. omega (arith, low (n + 1) xs y i), numbered-later (n + 1) xs)
+numbered-later n (x ∷ xs) = (λ y i q. omega (arith, numbered_from (n + 1) xs y i), numbered-later (n + 1) xs)
 
 -- the point of a line among the first, which add
 line-at : (n : ℕ) (points : List ℕ) (edits : List Edit) (line : ℕ × Edit) → IsIn line (enumerate_from n (map Add points ++ edits)) → line.0 < n + length points → point_of line.1 ≡ slice_index points (line.0 - n)
-line-at n [] edits line i h = absurd (omega (arith, low n edits line i))
+line-at n [] edits line i h = absurd (omega (arith, numbered_from n edits line i))
 line-at n (p ∷ points) edits line (inl e) h =
     let f : n ≡ line.0 = ap (λ (l : ℕ × Edit). l.0) e in
     let z : line.0 - n ≡ 0 = omega arith in
     sym (ap (λ (l : ℕ × Edit). point_of l.1) e) ∙ ap (slice_index (p ∷ points)) (sym z)
 line-at n (p ∷ points) edits line (inr i) h =
-    let l : n + 1 ≤ line.0 = low (n + 1) (map Add points ++ edits) line i in
+    let l : n + 1 ≤ line.0 = numbered_from (n + 1) (map Add points ++ edits) line i in
     let z : suc (line.0 - (n + 1)) ≡ line.0 - n = omega arith in
     line-at (n + 1) points edits line i (omega arith) ∙ ap (slice_index (p ∷ points)) z
 
@@ -140,7 +115,7 @@ module _ (points : List ℕ) (edits : List Edit) (four : Four) (w : AreIndepende
           by false e k r = r k
 
       chosen : IsIn x.0 (places four)
-      chosen = among-in (places four) x.0 (passes opens all x i)
+      chosen = among_from x.0 (places four) (passes opens all x i)
 
       other : is_among y.0 (places four) ≡ false
       other = flip (is_among y.0 (places four)) (passes (λ line. not (opens line)) all y j)
@@ -152,14 +127,14 @@ module _ (points : List ℕ) (edits : List Edit) (four : Four) (w : AreIndepende
       earlier : y.0 < x.0 → ⊥
       earlier l =
           let f = first-place x.0 chosen in
-          let a = line-at 0 points edits x (in-filtered opens all x i) (omega (arith, f.1)) in
-          let b = line-at 0 points edits y (in-filtered (λ line. not (opens line)) all y j) (omega (arith, f.1, l)) in
+          let a = line-at 0 points edits x (in_filtered opens all x i) (omega (arith, f.1)) in
+          let b = line-at 0 points edits y (in_filtered (λ line. not (opens line)) all y j) (omega (arith, f.1, l)) in
           let za : x.0 - 0 ≡ x.0 = omega arith in
           let zb : y.0 - 0 ≡ y.0 = omega arith in
           f.0 y.0 l (sym (b ∙ ap (slice_index points) zb) ∙ sym q ∙ a ∙ ap (slice_index points) za)
 
       same : x.0 ≡ y.0 → ⊥
-      same e = let g : is_among y.0 (places four) ≡ true = in-among (places four) y.0 (subst (λ (m : ℕ). IsIn m (places four)) e chosen) in let h = other in cc
+      same e = let g : is_among y.0 (places four) ≡ true = among_true y.0 (places four) (subst (λ (m : ℕ). IsIn m (places four)) e chosen) in let h = other in cc
 
       sides : (m n : ℕ) → x.0 ≡ m → y.0 ≡ n → x.0 < y.0
       sides m n e f = elim (compared x.0 y.0) [ inl l ↦ l | inr o ↦ elim o [ inl g ↦ absurd (same g) | inr g ↦ absurd (earlier g) ] ]
@@ -186,12 +161,12 @@ module _ (points : List ℕ) (edits : List Edit) (four : Four) (w : AreIndepende
         opening = subst (λ (o : Option Four). IfSome o (λ f. map (λ (e : Entry). e.tag) (take 4 history) ≡ places f)) (sym found) first-four;
         lines = subst (IsPermutation all) (sym (entry-lines 0 [] (filter opens all ++ filter (λ line. not (opens line)) all))) (IsPermutation-filter_both opens (λ line. not (opens line)) (λ x. refl) all);
         order = later-pairs (λ (d e : Entry). point_of d.edit ≡ point_of e.edit → d.tag < e.tag) history (later-entries 0 [] (filter opens all ++ filter (λ line. not (opens line)) all) (later-append InOrder (filter opens all) (filter (λ line. not (opens line)) all) (later-filter InOrder opens all (numbered-later 0 (map Add points ++ edits))) (later-filter InOrder (λ line. not (opens line)) all (numbered-later 0 (map Add points ++ edits))) crossing));
-        workers = λ k d h. entry-by 0 [] (filter opens all ++ filter (λ line. not (opens line)) all) (get_or history k d) (at-in history k d h);
+        workers = λ k d h. entry-by 0 [] (filter opens all ++ filter (λ line. not (opens line)) all) (get_or history k d) (at_in history k d h);
       }
 
 pub keeps_law : KeepsLaw
 keeps_law points edits = by (opening_four points) refl (four_law points)
   where
-    by : (o : Option Four) → opening_four points ≡ o → IfSome o (AreIndependent points) → IfSome o (λ _. Keeps points edits 1 (entries_from 0 [] (lines_in_order o (tagged_lines points edits))))
+    by : (o : Option Four) → opening_four points ≡ o → IfSome o (AreIndependent points) → IfSome o (λ _. Keeps points edits 1 (entries_from 0 [] (lines_of_one_thread o (tagged_lines points edits))))
     by None e h = tt
     by (Some four) e h = keeps points edits four h e

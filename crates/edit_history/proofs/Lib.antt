@@ -10,3 +10,5 @@ pub mod OneMore
 pub mod HistoryLaws
 pub mod LinesAtPlaces
 pub mod KeepsLaw
+pub mod Cited
+pub mod Replies

@@ -3,17 +3,11 @@ use Rattle.std.specs.Prelude.{◌≡◌, ℕ, suc, ◌+◌, ◌-◌, ◌<◌, �
 use Rattle.std.specs.List.{enumerate_from, filter}
 use Rattle.std.proofs.Common.{refl, sym, ◌∙◌, ap, inl, inr, arith}
 use Rattle.std.proofs.lemmas.Bool.Decides.{nat_tests}
+use Rattle.list_laws.proofs.Cited.{among_from, among_true, below_each, numbered_from}
 use Rattle.point_order.specs.Sets.{IsIn, IsAscending, is_among}
-use Rattle.point_order.proofs.SetLaws.{below-each}
 use Rattle.edit_history.specs.declared.history.Edit.{Edit}
-use Rattle.edit_history.proofs.Numbers.{in-among, among-in}
 
 -- ---- lists and tests
-
-pub low : {X : Type 0} (n : ℕ) (xs : List X) (line : ℕ × X) → IsIn line (enumerate_from n xs) → n ≤ line.0
-low n [] line i = absurd i
-low {X} n (x ∷ xs) line (inl e) = let f : n ≡ line.0 = ap (λ (p : ℕ × X). p.0) e in omega (arith, f)
-low n (x ∷ xs) line (inr i) = omega (arith, low (n + 1) xs line i)
 
 same-filter : {X : Type 0} (t u : X → Bool) (xs : List X) → ((y : X) → IsIn y xs → t y ≡ u y) → filter t xs ≡ filter u xs
 same-filter t u [] f = refl
@@ -31,7 +25,7 @@ not-among : (p n : ℕ) (ps : List ℕ) → ((q : ℕ) → IsIn q (p ∷ ps) →
 not-among p n ps f = by (is_among n (p ∷ ps)) refl
   where
     by : (b : Bool) → is_among n (p ∷ ps) ≡ b → b ≡ false
-    by true e = absurd (let l = f n (among-in (p ∷ ps) n e) in omega (arith, l))
+    by true e = absurd (let l = f n (among_from n (p ∷ ps) e) in omega (arith, l))
     by false e = refl
 
 among-later : (p n : ℕ) (ps : List ℕ) → p < n → is_among n (p ∷ ps) ≡ is_among n ps
@@ -48,7 +42,7 @@ picked [] n xs d a f = none-pass (λ line. is_among line.0 []) (enumerate_from n
 picked (p ∷ ps) n [] d a f = let b = f p (inl refl) in absurd (omega (arith, b.0, b.1))
 picked (p ∷ ps) n (x ∷ xs) d a f =
     elim (side n p (f p (inl refl)).0) [
-      | inl e ↦ here e (picked ps (n + 1) xs d a.1 (λ q i. let b = f q (inr i) in let l : p < q = below-each p ps a.0 a.1 q i in (omega (arith, l, e), omega (arith, b.1))))
+      | inl e ↦ here e (picked ps (n + 1) xs d a.1 (λ q i. let b = f q (inr i) in let l : p < q = below_each p ps a.0 a.1 q i in (omega (arith, l, e), omega (arith, b.1))))
       | inr l ↦ there l (picked (p ∷ ps) (n + 1) xs d a (λ q i. let b = f q i in (above l q i, omega (arith, b.1))))
     ]
   where
@@ -57,7 +51,7 @@ picked (p ∷ ps) n (x ∷ xs) d a f =
 
     above : n < p → (q : ℕ) → IsIn q (p ∷ ps) → n + 1 ≤ q
     above l q (inl e) = omega (arith, l, e)
-    above l q (inr i) = let b : p < q = below-each p ps a.0 a.1 q i in omega (arith, b, l)
+    above l q (inr i) = let b : p < q = below_each p ps a.0 a.1 q i in omega (arith, b, l)
 
     -- one place on
     on : (q : ℕ) → n + 1 ≤ q → line_at (n + 1) xs d q ≡ line_at n (x ∷ xs) d q
@@ -65,11 +59,11 @@ picked (p ∷ ps) n (x ∷ xs) d a f =
 
     here : n ≡ p → filter (λ line. is_among line.0 ps) (enumerate_from (n + 1) xs) ≡ map (line_at (n + 1) xs d) ps → filter (λ line. is_among line.0 (p ∷ ps)) (enumerate_from n (x ∷ xs)) ≡ map (line_at n (x ∷ xs) d) (p ∷ ps)
     here e r =
-        let g : is_among n (p ∷ ps) ≡ true = in-among (p ∷ ps) n (inl (sym e)) in
-        let same = same-filter (λ line. is_among line.0 (p ∷ ps)) (λ line. is_among line.0 ps) (enumerate_from (n + 1) xs) (λ y i. let l = low (n + 1) xs y i in among-later p y.0 ps (omega (arith, l, e))) in
+        let g : is_among n (p ∷ ps) ≡ true = among_true n (p ∷ ps) (inl (sym e)) in
+        let same = same-filter (λ line. is_among line.0 (p ∷ ps)) (λ line. is_among line.0 ps) (enumerate_from (n + 1) xs) (λ y i. let l = numbered_from (n + 1) xs y i in among-later p y.0 ps (omega (arith, l, e))) in
         let z : p - n ≡ 0 = omega (arith, e) in
         let first : (n, x) ≡ line_at n (x ∷ xs) d p = ap (λ (m : ℕ). (m, x)) e ∙ ap (λ (k : ℕ). (p, slice_index_or (x ∷ xs) k d)) (sym z) in
-        rw g (ap (λ (t : List (ℕ × Edit)). (n, x) ∷ t) (same ∙ r ∙ same-map (line_at (n + 1) xs d) (line_at n (x ∷ xs) d) ps (λ q i. on q (let b : p < q = below-each p ps a.0 a.1 q i in omega (arith, b, e)))) ∙ ap (λ (y : ℕ × Edit). y ∷ map (line_at n (x ∷ xs) d) ps) first)
+        rw g (ap (λ (t : List (ℕ × Edit)). (n, x) ∷ t) (same ∙ r ∙ same-map (line_at (n + 1) xs d) (line_at n (x ∷ xs) d) ps (λ q i. on q (let b : p < q = below_each p ps a.0 a.1 q i in omega (arith, b, e)))) ∙ ap (λ (y : ℕ × Edit). y ∷ map (line_at n (x ∷ xs) d) ps) first)
 
     there : n < p → filter (λ line. is_among line.0 (p ∷ ps)) (enumerate_from (n + 1) xs) ≡ map (line_at (n + 1) xs d) (p ∷ ps) → filter (λ line. is_among line.0 (p ∷ ps)) (enumerate_from n (x ∷ xs)) ≡ map (line_at n (x ∷ xs) d) (p ∷ ps)
     there l r = rw (not-among p n ps (λ q i. let b = above l q i in omega (arith, b))) (r ∙ same-map (line_at (n + 1) xs d) (line_at n (x ∷ xs) d) (p ∷ ps) (λ q i. on q (above l q i)))

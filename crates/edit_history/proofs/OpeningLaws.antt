@@ -2,12 +2,14 @@
 use Rattle.std.specs.Prelude.{◌≡◌, ◌≢◌, ℕ, ◌+◌, ◌<◌, ◌≤◌, Bool, true, false, not, ◌==◌, ◌&&◌, List, ◌⊎◌, length, Option, slice_index}
 use Rattle.std.proofs.Common.{refl, sym, ◌∙◌, ap, inl, inr, arith}
 use Rattle.std.proofs.lemmas.Bool.Decides.{nat_tests}
+use Rattle.list_laws.proofs.Cited.{same_from}
 use Rattle.point_order.specs.Coordinates.{IsKey}
 use Rattle.point_order.specs.Sets.{IsIn}
 use Rattle.point_order.specs.Orientation.{orientation, is_flat, is_collinear}
 use Rattle.point_order.specs.Solid.{is_solid}
+use Rattle.point_order.proofs.Cited.{last-first, last-third, zero_true}
 use Rattle.edit_history.specs.PassedOver.{is_kept, kept}
-use Rattle.edit_history.proofs.Planes.{is-zero, flat-first, flat-third, collinear-first, collinear-second, flat_on_line, flat_in_plane, flat_in_line}
+use Rattle.edit_history.proofs.Planes.{collinear-first, collinear-second, flat_on_line, flat_in_plane, flat_in_line}
 use Rattle.edit_history.proofs.Places.{IsFirst, IsNowhere, in-filter, filter-in}
 use Rattle.edit_history.proofs.Solidity.{solid-from, flat-from}
 
@@ -36,9 +38,6 @@ passed true true e = cc
 passed true false e = (refl, refl)
 passed false found e = cc
 
-is-one : (a b : ℕ) → (b == a) ≡ true → b ≡ a
-is-one a b e = grind (arith, nat_tests)
-
 pub is-other : (a b : ℕ) → (b == a) ≡ false → a ≢ b
 is-other a b e f = grind (arith, nat_tests)
 
@@ -65,7 +64,7 @@ module _ (absent : Option ℕ) (s : List ℕ) where
           | inl l ↦ let g = first.before m (omega arith) l in cc
           | inr o ↦ elim o [
             | inl q ↦ ap (slice_index s) q
-            | inr l ↦ is-one a (slice_index s m) (failed (is_kept absent (slice_index s m)) (slice_index s m == a) (f m (omega arith) h) e)
+            | inr l ↦ same_from (slice_index s m) a (failed (is_kept absent (slice_index s m)) (slice_index s m == a) (f m (omega arith) h) e)
           ]
         ]
 
@@ -76,7 +75,7 @@ module _ (absent : Option ℕ) (s : List ℕ) where
         one q k = let t = filter-in (is_kept absent) s q k in sym (f t.0 t.1 (ap (is_kept absent) t.2 ∙ t.3)) ∙ t.2
 
         flat : {p q r t : ℕ} → a ≡ p → a ≡ q → a ≡ r → a ≡ t → is_flat p q r t ≡ true
-        flat ep eq er et = rw (← ep, ← eq, ← er, ← et) (is-zero (orientation a a a a) (flat-first a a a))
+        flat ep eq er et = rw (← ep, ← eq, ← er, ← et) (zero_true (orientation a a a a) (last-first a a a))
 
     module _ (j : ℕ) (second : IsFirst (λ q. is_kept absent q && not (q == slice_index s i)) (i + 1) s j) where
       abbrev b : ℕ
@@ -115,7 +114,7 @@ module _ (absent : Option ℕ) (s : List ℕ) where
             elim (order m k) [
               | inl l ↦ flat_on_line a b c (slice_index s m) (line-before k (omega (arith, third.within)) third.before m l e)
               | inr o ↦ elim o [
-                | inl q ↦ rw q (is-zero (orientation a b c c) (flat-third a b c))
+                | inl q ↦ rw q (zero_true (orientation a b c c) (last-third a b c))
                 | inr l ↦ failed (is_kept absent (slice_index s m)) (is_flat a b c (slice_index s m)) (f m (omega arith) h) e
               ]
             ]

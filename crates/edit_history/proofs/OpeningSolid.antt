@@ -40,12 +40,12 @@ abbrev from_first : Option ℕ → List ℕ → ℕ → Option Four
 from_first absent s i = option_and_then (from_second absent s i) (second_of absent s i)
 
 -- the first two points that the search finds are keys
-abbrev pub AreKeys : Option ℕ → List ℕ → Type 0
-AreKeys absent s = IfSome (position_from (is_kept absent) 0 s) (λ i. IfSome (second_of absent s i) (λ j. IsKey (slice_index s i) × IsKey (slice_index s j)))
+abbrev pub AreKeysFound : Option ℕ → List ℕ → Type 0
+AreKeysFound absent s = IfSome (position_from (is_kept absent) 0 s) (λ i. IfSome (second_of absent s i) (λ j. IsKey (slice_index s i) × IsKey (slice_index s j)))
 
 -- ---- the search finds four points exactly where those that are kept are solid
 
-pub four_but-solid : (absent : Option ℕ) (s : List ℕ) → AreKeys absent s → is_some (four_but absent s) ≡ is_solid (kept absent s)
+pub four_but-solid : (absent : Option ℕ) (s : List ℕ) → AreKeysFound absent s → is_some (four_but absent s) ≡ is_solid (kept absent s)
 four_but-solid absent s keys = first (position_from (is_kept absent) 0 s) (next-is (is_kept absent) 0 s) keys
   where
     fourth : (i : ℕ) (f : IsFirst (is_kept absent) 0 s i) (j : ℕ) (g : IsFirst (λ b. is_kept absent b && not (b == slice_index s i)) (i + 1) s j) (k : ℕ) (h : IsFirst (λ c. is_kept absent c && not (is_collinear (slice_index s i) (slice_index s j) c)) (j + 1) s k)
@@ -84,11 +84,11 @@ pub four_but-none : (s : List ℕ) → four_but None s ≡ opening_four s
 four_but-none [] = refl
 four_but-none (x ∷ s) = refl
 
-pub solid-none : (s : List ℕ) → AreKeys None s → is_some (opening_four s) ≡ is_solid s
+pub solid-none : (s : List ℕ) → AreKeysFound None s → is_some (opening_four s) ≡ is_solid s
 solid-none s keys = ap is_some (sym (four_but-none s)) ∙ four_but-solid None s keys ∙ ap is_solid (kept-none s)
 
 -- where all points are keys, so are the first two
-pub keys-all : (absent : Option ℕ) (s : List ℕ) → All IsKey s → AreKeys absent s
+pub keys-all : (absent : Option ℕ) (s : List ℕ) → All IsKey s → AreKeysFound absent s
 keys-all absent s h = first (position_from (is_kept absent) 0 s) (next-is (is_kept absent) 0 s)
   where
     second : (i : ℕ) → i < length s → (o : Option ℕ) → MatchOption o (IsNowhere (λ b. is_kept absent b && not (b == slice_index s i)) (i + 1) s) (IsFirst (λ b. is_kept absent b && not (b == slice_index s i)) (i + 1) s)
@@ -111,7 +111,7 @@ pub record Answers (absent : Option ℕ) (s : List ℕ) (answer : Option Four) :
   pub four : four_but absent s ≡ answer
   pub solid : is_some answer ≡ is_solid (kept absent s)
 
-answers : (absent : Option ℕ) (s : List ℕ) (answer : Option Four) → AreKeys absent s → four_but absent s ≡ answer → Answers absent s answer
+answers : (absent : Option ℕ) (s : List ℕ) (answer : Option Four) → AreKeysFound absent s → four_but absent s ≡ answer → Answers absent s answer
 answers absent s answer keys e = record { four = e; solid = sym (ap is_some e) ∙ four_but-solid absent s keys }
 
 -- the answer of a search in what is left

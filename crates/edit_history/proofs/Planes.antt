@@ -1,17 +1,15 @@
 -- Points of one plane and of one line: no four of them are independent.
-use Rattle.std.specs.Prelude.{ℤ, pos, Bool, true, false, not, T, ◌&&◌, ◌≡◌, ◌≢◌, ◌≤ℤ◌, ℕ, ◌+◌, ◌*◌, ◌+ℤ◌, ◌*ℤ◌, List, [], ◌∷◌}
-use Rattle.std.specs.Int.Signed.{lt_z, lt_z_no}
-use Rattle.std.proofs.Common.{arith, subst, lit<, w64, nat_eq, to_z, of_z, inl, inr, refl, sym, ◌∙◌, ap}
+use Rattle.std.specs.Prelude.{ℤ, pos, Bool, true, false, ◌&&◌, ◌≡◌, ◌≢◌, ℕ, ◌+◌, ◌*◌, ◌+ℤ◌, ◌*ℤ◌, List, [], ◌∷◌}
+use Rattle.std.proofs.Common.{arith, lit<, w64, nat_eq, to_z, of_z, refl, sym, ◌∙◌, ap}
 use Rattle.std.proofs.lemmas.Int.{ints, to_z-of_z}
 use Rattle.std.proofs.lemmas.Bool.Decides.{nat_tests}
 use Rattle.whole_ring.specs.Bounds.{IsWithin}
-use Rattle.whole_ring.proofs.Bounds.{within-fits}
+use Rattle.whole_ring.proofs.Cited.{ring, ring_from, within-fits}
 use Rattle.whole_ring.specs.Poly.{Expr, Given, var, lit, ◌⊕◌, ◌⊖◌, ◌⊗◌, minus, given, nothing}
-use Rattle.whole_ring.proofs.Ring.{ring, ring_from}
-use Rattle.whole_ring.proofs.Signs.{zero_factor}
+use Rattle.list_laws.proofs.Cited.{other_factor}
 use Rattle.point_order.specs.Coordinates.{x_of, y_of, z_of, IsKey}
 use Rattle.point_order.specs.Orientation.{is_zero, is_flat, is_collinear, x_from, y_from, z_from, minor, triple, orientation, normal_x, normal_y, normal_z}
-use Rattle.point_order.proofs.Keys.{key-is}
+use Rattle.point_order.proofs.Cited.{key-is, not-zero, zero_from, zero_true}
 
 -- ---- the words of orientation, written: point i of a list has the variables 3i, 3i + 1 and 3i + 2
 
@@ -40,18 +38,6 @@ abbrev nil : Expr
 nil = lit (pos 0)
 
 -- ---- a point of the three is in their plane
-
-pub flat-first : (a b c : ℕ) → orientation a b c a ≡ pos 0
-unfolding orientation triple minor x_from y_from z_from
-flat-first a b c = ring (orient_w 0 1 2 0) nil (onto (a ∷ b ∷ c ∷ [])) tt
-
-pub flat-second : (a b c : ℕ) → orientation a b c b ≡ pos 0
-unfolding orientation triple minor x_from y_from z_from
-flat-second a b c = ring (orient_w 0 1 2 1) nil (onto (a ∷ b ∷ c ∷ [])) tt
-
-pub flat-third : (a b c : ℕ) → orientation a b c c ≡ pos 0
-unfolding orientation triple minor x_from y_from z_from
-flat-third a b c = ring (orient_w 0 1 2 2) nil (onto (a ∷ b ∷ c ∷ [])) tt
 
 -- a point of the line of a and b is in each plane with them
 pub flat-line : (a b c d : ℕ) → normal_x a b d ≡ pos 0 → normal_y a b d ≡ pos 0 → normal_z a b d ≡ pos 0 → orientation a b c d ≡ pos 0
@@ -129,66 +115,43 @@ line-z a b p q r t hp hq hr =
     ring_from (dz 0 1 ⊗ (dz 0 1 ⊗ orient_w 2 3 4 5)) nil (line_given dz (minor_w dy dz 0 1) (minor_w dz dx 0 1))
     (onto (a ∷ b ∷ p ∷ q ∷ r ∷ t ∷ [])) (hq.x, (hq.y, (hr.x, (hr.y, (hp.x, (hp.y, tt)))))) tt
 
--- ---- tests for 0
-
-pub zero-is : (z : ℤ) → is_zero z ≡ true → z ≡ pos 0
-zero-is z e = parts (lt_z (pos 0) z) (lt_z z (pos 0)) refl refl e
-  where
-    parts : (f g : Bool) → lt_z (pos 0) z ≡ f → lt_z z (pos 0) ≡ g → (not f && not g) ≡ true → z ≡ pos 0
-    parts false false i j e =
-        let l : z ≤ℤ pos 0 = lt_z_no (subst (λ (b : Bool). T (not b)) (sym i) tt) in
-        let m : pos 0 ≤ℤ z = lt_z_no (subst (λ (b : Bool). T (not b)) (sym j) tt) in
-        omega (arith, ints)
-    parts false true i j e = cc
-    parts true g i j e = cc
-
-pub is-zero : (z : ℤ) → z ≡ pos 0 → is_zero z ≡ true
-is-zero z e = rw e refl
-
-pub zero-not : (z : ℤ) → is_zero z ≡ false → z ≢ pos 0
-zero-not z e f = let g = is-zero z f in cc
-
--- a number that is not 0 times one is 0 only where that one is
-zero_of : (a b : ℤ) → a ≢ pos 0 → a *ℤ b ≡ pos 0 → b ≡ pos 0
-zero_of a b n e = elim (zero_factor a b e) [ inl f ↦ absurd (n f) | inr f ↦ f ]
-
 -- ---- what the tests say
 
 pub on_line : (a b p : ℕ) → is_collinear a b p ≡ true → IsOnLine a b p
 on_line a b p e = parts (is_zero (normal_x a b p)) (is_zero (normal_y a b p)) (is_zero (normal_z a b p)) refl refl refl e
   where
     parts : (f g h : Bool) → is_zero (normal_x a b p) ≡ f → is_zero (normal_y a b p) ≡ g → is_zero (normal_z a b p) ≡ h → (f && g && h) ≡ true → IsOnLine a b p
-    parts true true true i j k e = record { x = zero-is (normal_x a b p) i; y = zero-is (normal_y a b p) j; z = zero-is (normal_z a b p) k }
+    parts true true true i j k e = record { x = zero_from (normal_x a b p) i; y = zero_from (normal_y a b p) j; z = zero_from (normal_z a b p) k }
     parts true true false i j k e = cc
     parts true false h i j k e = cc
     parts false g h i j k e = cc
 
 -- a point of the line of a and b is in the plane of a, b and c
 pub flat_on_line : (a b c d : ℕ) → is_collinear a b d ≡ true → is_flat a b c d ≡ true
-flat_on_line a b c d e = let l = on_line a b d e in is-zero (orientation a b c d) (flat-line a b c d l.x l.y l.z)
+flat_on_line a b c d e = let l = on_line a b d e in zero_true (orientation a b c d) (flat-line a b c d l.x l.y l.z)
 
 -- four points in the plane of three that are not on one line
 pub flat_in_plane : (a b c p q r t : ℕ) → is_collinear a b c ≡ false → is_flat a b c p ≡ true → is_flat a b c q ≡ true → is_flat a b c r ≡ true → is_flat a b c t ≡ true → is_flat p q r t ≡ true
 flat_in_plane a b c p q r t n hp hq hr ht =
-    is-zero (orientation p q r t) (parts (is_zero (normal_x a b c)) (is_zero (normal_y a b c)) (is_zero (normal_z a b c)) refl refl refl n)
+    zero_true (orientation p q r t) (parts (is_zero (normal_x a b c)) (is_zero (normal_y a b c)) (is_zero (normal_z a b c)) refl refl refl n)
   where
     ep : orientation a b c p ≡ pos 0
-    ep = zero-is (orientation a b c p) hp
+    ep = zero_from (orientation a b c p) hp
 
     eq : orientation a b c q ≡ pos 0
-    eq = zero-is (orientation a b c q) hq
+    eq = zero_from (orientation a b c q) hq
 
     er : orientation a b c r ≡ pos 0
-    er = zero-is (orientation a b c r) hr
+    er = zero_from (orientation a b c r) hr
 
     et : orientation a b c t ≡ pos 0
-    et = zero-is (orientation a b c t) ht
+    et = zero_from (orientation a b c t) ht
 
     parts : (f g h : Bool) → is_zero (normal_x a b c) ≡ f → is_zero (normal_y a b c) ≡ g → is_zero (normal_z a b c) ≡ h → (f && g && h) ≡ false → orientation p q r t ≡ pos 0
     parts true true true i j k e = cc
-    parts true true false i j k e = zero_of (normal_z a b c) (orientation p q r t) (zero-not (normal_z a b c) k) (plane-z a b c p q r t ep eq er et)
-    parts true false h i j k e = zero_of (normal_y a b c) (orientation p q r t) (zero-not (normal_y a b c) j) (plane-y a b c p q r t ep eq er et)
-    parts false g h i j k e = zero_of (normal_x a b c) (orientation p q r t) (zero-not (normal_x a b c) i) (plane-x a b c p q r t ep eq er et)
+    parts true true false i j k e = other_factor (normal_z a b c) (orientation p q r t) (not-zero (normal_z a b c) k) (plane-z a b c p q r t ep eq er et)
+    parts true false h i j k e = other_factor (normal_y a b c) (orientation p q r t) (not-zero (normal_y a b c) j) (plane-y a b c p q r t ep eq er et)
+    parts false g h i j k e = other_factor (normal_x a b c) (orientation p q r t) (not-zero (normal_x a b c) i) (plane-x a b c p q r t ep eq er et)
 
 -- two keys with the same coordinates are one
 same_key : (a b : ℕ) → IsKey a → IsKey b → x_from a b ≡ pos 0 → y_from a b ≡ pos 0 → z_from a b ≡ pos 0 → a ≡ b
@@ -202,7 +165,7 @@ same_key a b h k ex ey ez =
 -- points on one line with two distinct points
 pub flat_in_line : (a b p q r t : ℕ) → IsKey a → IsKey b → a ≢ b → is_collinear a b p ≡ true → is_collinear a b q ≡ true → is_collinear a b r ≡ true → is_flat p q r t ≡ true
 flat_in_line a b p q r t h k n ep eq er =
-    is-zero (orientation p q r t) (parts (is_zero (x_from a b)) (is_zero (y_from a b)) (is_zero (z_from a b)) refl refl refl)
+    zero_true (orientation p q r t) (parts (is_zero (x_from a b)) (is_zero (y_from a b)) (is_zero (z_from a b)) refl refl refl)
   where
     lp : IsOnLine a b p
     lp = on_line a b p ep
@@ -214,24 +177,24 @@ flat_in_line a b p q r t h k n ep eq er =
     lr = on_line a b r er
 
     twice : (d o : ℤ) → d ≢ pos 0 → d *ℤ (d *ℤ o) ≡ pos 0 → o ≡ pos 0
-    twice d o m e = zero_of d o m (zero_of d (d *ℤ o) m e)
+    twice d o m e = other_factor d o m (other_factor d (d *ℤ o) m e)
 
     parts : (f g i : Bool) → is_zero (x_from a b) ≡ f → is_zero (y_from a b) ≡ g → is_zero (z_from a b) ≡ i → orientation p q r t ≡ pos 0
-    parts true true true ex ey ez = absurd (n (same_key a b h k (zero-is (x_from a b) ex) (zero-is (y_from a b) ey) (zero-is (z_from a b) ez)))
-    parts true true false ex ey ez = twice (z_from a b) (orientation p q r t) (zero-not (z_from a b) ez) (line-z a b p q r t lp lq lr)
-    parts true false i ex ey ez = twice (y_from a b) (orientation p q r t) (zero-not (y_from a b) ey) (line-y a b p q r t lp lq lr)
-    parts false g i ex ey ez = twice (x_from a b) (orientation p q r t) (zero-not (x_from a b) ex) (line-x a b p q r t lp lq lr)
+    parts true true true ex ey ez = absurd (n (same_key a b h k (zero_from (x_from a b) ex) (zero_from (y_from a b) ey) (zero_from (z_from a b) ez)))
+    parts true true false ex ey ez = twice (z_from a b) (orientation p q r t) (not-zero (z_from a b) ez) (line-z a b p q r t lp lq lr)
+    parts true false i ex ey ez = twice (y_from a b) (orientation p q r t) (not-zero (y_from a b) ey) (line-y a b p q r t lp lq lr)
+    parts false g i ex ey ez = twice (x_from a b) (orientation p q r t) (not-zero (x_from a b) ex) (line-x a b p q r t lp lq lr)
 
 -- a and b are on their line
 pub collinear-first : (a b : ℕ) → is_collinear a b a ≡ true
 unfolding minor normal_x normal_y normal_z x_from y_from z_from
 collinear-first a b =
-    rw (is-zero (normal_x a b a) (ring (minor_w dy dz 0 1 0) nil (onto (a ∷ b ∷ [])) tt), is-zero (normal_y a b a) (ring (minor_w dz dx 0 1 0) nil (onto (a ∷ b ∷ [])) tt), is-zero (normal_z a b a) (ring (minor_w dx dy 0 1 0) nil (onto (a ∷ b ∷ [])) tt)) refl
+    rw (zero_true (normal_x a b a) (ring (minor_w dy dz 0 1 0) nil (onto (a ∷ b ∷ [])) tt), zero_true (normal_y a b a) (ring (minor_w dz dx 0 1 0) nil (onto (a ∷ b ∷ [])) tt), zero_true (normal_z a b a) (ring (minor_w dx dy 0 1 0) nil (onto (a ∷ b ∷ [])) tt)) refl
 
 pub collinear-second : (a b : ℕ) → is_collinear a b b ≡ true
 unfolding minor normal_x normal_y normal_z x_from y_from z_from
 collinear-second a b =
-    rw (is-zero (normal_x a b b) (ring (minor_w dy dz 0 1 1) nil (onto (a ∷ b ∷ [])) tt), is-zero (normal_y a b b) (ring (minor_w dz dx 0 1 1) nil (onto (a ∷ b ∷ [])) tt), is-zero (normal_z a b b) (ring (minor_w dx dy 0 1 1) nil (onto (a ∷ b ∷ [])) tt)) refl
+    rw (zero_true (normal_x a b b) (ring (minor_w dy dz 0 1 1) nil (onto (a ∷ b ∷ [])) tt), zero_true (normal_y a b b) (ring (minor_w dz dx 0 1 1) nil (onto (a ∷ b ∷ [])) tt), zero_true (normal_z a b b) (ring (minor_w dx dy 0 1 1) nil (onto (a ∷ b ∷ [])) tt)) refl
 
 -- ---- orientation and the normal, from steps between the points
 
@@ -281,7 +244,7 @@ zero-test z h = by (nat_eq (of_z w64 z) 0) (is_zero z) refl refl
     by true false e k =
         let n : of_z w64 z ≡ 0 = grind (arith, nat_tests) in
         let q : z ≡ pos 0 = sym (read-back z h) ∙ ap (to_z w64) n in
-        absurd (zero-not z k q)
+        absurd (not-zero z k q)
     by false true e k =
-        let q : of_z w64 z ≡ 0 = ap (of_z w64) (zero-is z k) in
+        let q : of_z w64 z ≡ 0 = ap (of_z w64) (zero_from z k) in
         absurd (grind (arith, nat_tests))

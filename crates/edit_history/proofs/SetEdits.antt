@@ -3,9 +3,9 @@ use Rattle.std.specs.Prelude.{◌≡◌, ◌≢◌, ℕ, zero, suc, ◌<◌, ◌
 use Rattle.std.specs.List.{insert, remove}
 use Rattle.std.proofs.Common.{refl, sym, ◌∙◌, ap, subst, inl, inr, arith}
 use Rattle.std.proofs.lemmas.Bool.Decides.{nat_tests}
-use Rattle.point_order.specs.Sets.{IsIn, IsBelowFirst, IsAscending, is_among, with_point, without_point}
-use Rattle.point_order.proofs.SetLaws.{below-each, with-cases, ascending-with}
-use Rattle.edit_history.proofs.Solidity.{any-in, any-none}
+use Rattle.list_laws.proofs.Cited.{any_none, any_true, below_each, first_below, index_in}
+use Rattle.point_order.specs.Sets.{IsIn, IsAscending, is_among, with_point, without_point}
+use Rattle.point_order.proofs.Cited.{ascending-with, with-cases}
 
 -- the points before the place are below p, and those from it on are above
 pub record IsGap (p i : ℕ) (s : List ℕ) : Type 0 where
@@ -15,34 +15,21 @@ pub record IsGap (p i : ℕ) (s : List ℕ) : Type 0 where
 
 -- ---- members and places
 
-pub in-place : (s : List ℕ) (i : ℕ) → i < length s → IsIn (slice_index s i) s
-in-place [] i h = absurd (omega arith)
-in-place (x ∷ s) zero h = inl refl
-in-place (x ∷ s) (suc i) h = inr (in-place s i (omega arith))
-
 pub place-in : (s : List ℕ) (q : ℕ) → IsIn q s → (i : ℕ) × (i < length s) × (slice_index s i ≡ q)
 place-in [] q k = absurd k
 place-in (x ∷ s) q (inl e) = (0, omega arith, e)
 place-in (x ∷ s) q (inr k) = let r = place-in s q k in (suc r.0, omega (arith, r.1), r.2)
 
--- an ascending list rises from place to place
-pub rises : (s : List ℕ) → IsAscending s → (i j : ℕ) → i ≤ j → j < length s → slice_index s i ≤ slice_index s j
-rises [] h i j l m = absurd (omega arith)
-rises (x ∷ s) h zero zero l m = omega arith
-rises (x ∷ s) h zero (suc j) l m = let b : x < slice_index s j = below-each x s h.0 h.1 (slice_index s j) (in-place s j (omega arith)) in omega arith
-rises (x ∷ s) h (suc i) zero l m = absurd (omega arith)
-rises (x ∷ s) h (suc i) (suc j) l m = rises s h.1 i j (omega arith) (omega arith)
-
 -- ---- whether a point is there
 
 pub among-at : (s : List ℕ) (p i : ℕ) → i < length s → slice_index s i ≡ p → is_among p s ≡ true
-among-at s p i h e = any-in (λ q. q == p) s (slice_index s i) (in-place s i h) (rw e (same p))
+among-at s p i h e = any_true (λ q. q == p) s (slice_index s i) (index_in s i h) (rw e (same p))
   where
     same : (p : ℕ) → (p == p) ≡ true
     same p = grind (arith, nat_tests)
 
 pub among-gap : (s : List ℕ) (p i : ℕ) → IsGap p i s → is_among p s ≡ false
-among-gap s p i g = any-none (λ q. q == p) s (λ q k. let r = place-in s q k in other r.0 r.1 q r.2)
+among-gap s p i g = any_none (λ q. q == p) s (λ q k. let r = place-in s q k in other r.0 r.1 q r.2)
   where
     apart : (q : ℕ) → q ≢ p → (q == p) ≡ false
     apart q n = grind (arith, nat_tests)
@@ -89,9 +76,9 @@ pub remove-is : (s : List ℕ) (p i : ℕ) → IsAscending s → i < length s �
 remove-is [] p i h l e = absurd (omega arith)
 remove-is (x ∷ s) p zero h l e =
     let f : (x == p) ≡ true = grind (arith, nat_tests) in
-    rw f (sym (without-none p s (λ q i. subst (λ (y : ℕ). y < q) e (below-each x s h.0 h.1 q i))))
+    rw f (sym (without-none p s (λ q i. subst (λ (y : ℕ). y < q) e (below_each x s h.0 h.1 q i))))
 remove-is (x ∷ s) p (suc i) h l e =
-    let b : x < slice_index s i = below-each x s h.0 h.1 (slice_index s i) (in-place s i (omega arith)) in
+    let b : x < slice_index s i = below_each x s h.0 h.1 (slice_index s i) (index_in s i (omega arith)) in
     let c : x < p = omega (arith, b, e) in
     let f : (x == p) ≡ false = grind (arith, nat_tests) in
     rw f (ap (λ (t : List ℕ). x ∷ t) (remove-is s p i h.1 (omega arith) e))
@@ -105,17 +92,13 @@ in-without p (x ∷ s) q i = by (x == p) i (in-without p s q)
     by false (inl e) r = inl e
     by false (inr j) r = inr (r j)
 
-below-first : (x : ℕ) (s : List ℕ) → ((y : ℕ) → IsIn y s → x < y) → IsBelowFirst x s
-below-first x [] f = tt
-below-first x (y ∷ s) f = f y (inl refl)
-
 pub ascending-without : (p : ℕ) (s : List ℕ) → IsAscending s → IsAscending (without_point p s)
 ascending-without p [] h = tt
 ascending-without p (x ∷ s) h = by (x == p) (ascending-without p s h.1)
   where
     by : (b : Bool) → IsAscending (without_point p s) → IsAscending (cond (not b) (x ∷ without_point p s) (without_point p s))
     by true a = a
-    by false a = (below-first x (without_point p s) (λ q i. below-each x s h.0 h.1 q (in-without p s q i)), a)
+    by false a = (first_below x (without_point p s) (λ q i. below_each x s h.0 h.1 q (in-without p s q i)), a)
 
 -- ---- what a search found
 

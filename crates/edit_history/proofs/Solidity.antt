@@ -1,45 +1,22 @@
 -- Solid lists: what decides whether some four points are independent.
-use Rattle.std.specs.Prelude.{◌≡◌, ℕ, Bool, true, false, not, ◌||◌, List, [], ◌∷◌, ◌⊎◌}
+use Rattle.std.specs.Prelude.{◌≡◌, ℕ, Bool, true, false, not, List}
 use Rattle.std.specs.List.{list_any}
-use Rattle.std.proofs.Common.{refl, ap, inl, inr}
+use Rattle.std.proofs.Common.{refl}
+use Rattle.list_laws.proofs.Cited.{any_from, any_none, any_true}
 use Rattle.point_order.specs.Sets.{IsIn, ascending}
 use Rattle.point_order.specs.Orientation.{is_flat}
 use Rattle.point_order.specs.Solid.{is_solid}
-use Rattle.point_order.proofs.SetLaws.{in-ascending, in-ascending_from}
-
--- a test that some element passes
-pub any-in : (t : ℕ → Bool) (s : List ℕ) (x : ℕ) → IsIn x s → t x ≡ true → list_any t s ≡ true
-any-in t [] x i e = absurd i
-any-in t (y ∷ s) x i e = by (t y) refl i (λ j. any-in t s x j e)
-  where
-    by : (b : Bool) → t y ≡ b → (y ≡ x) ⊎ IsIn x s → (IsIn x s → list_any t s ≡ true) → (b || list_any t s) ≡ true
-    by true f i r = refl
-    by false f (inl g) r = let h = ap t g in cc
-    by false f (inr j) r = r j
-
--- a test that no element passes
-pub any-none : (t : ℕ → Bool) (s : List ℕ) → ((x : ℕ) → IsIn x s → t x ≡ false) → list_any t s ≡ false
-any-none t [] f = refl
-any-none t (y ∷ s) f = rw (f y (inl refl)) (any-none t s (λ x i. f x (inr i)))
-
--- the element that passes
-pub any-some : (t : ℕ → Bool) (s : List ℕ) → list_any t s ≡ true → (x : ℕ) × IsIn x s × (t x ≡ true)
-any-some t [] e = cc
-any-some t (y ∷ s) e = by (t y) refl e (any-some t s)
-  where
-    by : (b : Bool) → t y ≡ b → (b || list_any t s) ≡ true → (list_any t s ≡ true → (x : ℕ) × IsIn x s × (t x ≡ true)) → (x : ℕ) × IsIn x (y ∷ s) × (t x ≡ true)
-    by true f e r = (y, inl refl, f)
-    by false f e r = let q = r e in (q.0, inr q.1, q.2)
+use Rattle.point_order.proofs.Cited.{in-ascending, in-ascending_from}
 
 -- four independent points make a list solid
 pub solid-from : (s : List ℕ) (a b c d : ℕ) → IsIn a s → IsIn b s → IsIn c s → IsIn d s → is_flat a b c d ≡ false → is_solid s ≡ true
 solid-from s a b c d ia ib ic id e =
-    any-in _ s a ia (any-in _ s b ib (any-in _ s c ic (any-in (λ d. not (is_flat a b c d)) s d id (rw e refl))))
+    any_true _ s a ia (any_true _ s b ib (any_true _ s c ic (any_true (λ d. not (is_flat a b c d)) s d id (rw e refl))))
 
 -- a list whose points lie four by four in a plane is not solid
 pub flat-from : (s : List ℕ) → ((a b c d : ℕ) → IsIn a s → IsIn b s → IsIn c s → IsIn d s → is_flat a b c d ≡ true) → is_solid s ≡ false
 flat-from s f =
-    any-none _ s (λ a ia. any-none _ s (λ b ib. any-none _ s (λ c ic. any-none _ s (λ d id. rw (f a b c d ia ib ic id) refl))))
+    any_none _ s (λ a ia. any_none _ s (λ b ib. any_none _ s (λ c ic. any_none _ s (λ d id. rw (f a b c d ia ib ic id) refl))))
 
 pub record HasFour (s : List ℕ) : Type 0 where
   pub a : ℕ
@@ -55,10 +32,10 @@ pub record HasFour (s : List ℕ) : Type 0 where
 -- the four of a solid list
 pub solid-some : (s : List ℕ) → is_solid s ≡ true → HasFour s
 solid-some s e =
-    let a = any-some (λ a. list_any (λ b. list_any (λ c. list_any (λ d. not (is_flat a b c d)) s) s) s) s e in
-    let b = any-some (λ b. list_any (λ c. list_any (λ d. not (is_flat a.0 b c d)) s) s) s a.2 in
-    let c = any-some (λ c. list_any (λ d. not (is_flat a.0 b.0 c d)) s) s b.2 in
-    let d = any-some (λ d. not (is_flat a.0 b.0 c.0 d)) s c.2 in
+    let a = any_from (λ a. list_any (λ b. list_any (λ c. list_any (λ d. not (is_flat a b c d)) s) s) s) s e in
+    let b = any_from (λ b. list_any (λ c. list_any (λ d. not (is_flat a.0 b c d)) s) s) s a.2 in
+    let c = any_from (λ c. list_any (λ d. not (is_flat a.0 b.0 c d)) s) s b.2 in
+    let d = any_from (λ d. not (is_flat a.0 b.0 c.0 d)) s c.2 in
     record { a = a.0; b = b.0; c = c.0; d = d.0; in_a = a.1; in_b = b.1; in_c = c.1; in_d = d.1; independent = opposite (is_flat a.0 b.0 c.0 d.0) d.2 }
   where
     opposite : (b : Bool) → not b ≡ true → b ≡ false

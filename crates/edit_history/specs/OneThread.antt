@@ -28,13 +28,13 @@ opening_first four lines =
     filter (λ line. is_opening four line.0) lines ++ filter (λ line. not (is_opening four line.0)) lines
 
 -- the lines in the order in which one thread makes them; it makes none where the points have no opening four
-abbrev pub lines_in_order : Option Four → List (ℕ × Edit) → List (ℕ × Edit)
-lines_in_order None lines = []
-lines_in_order (Some four) lines = opening_first four lines
+abbrev pub lines_of_one_thread : Option Four → List (ℕ × Edit) → List (ℕ × Edit)
+lines_of_one_thread None lines = []
+lines_of_one_thread (Some four) lines = opening_first four lines
 
 -- the history of one thread
 abbrev pub one_thread : List ℕ → List Edit → List Entry
-one_thread points edits = entries_from 0 [] (lines_in_order (opening_four points) (tagged_lines points edits))
+one_thread points edits = entries_from 0 [] (lines_of_one_thread (opening_four points) (tagged_lines points edits))
 
 -- an entry's line: its tag and its edit
 abbrev pub line_of : Entry → ℕ × Edit

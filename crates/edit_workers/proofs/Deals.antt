@@ -1,5 +1,5 @@
 -- Lines that are dealt one by one.
-use Rattle.std.specs.Prelude.{◌≡◌, ◌≢◌, ℕ, zero, suc, ◌+◌, ◌%◌, ◌<◌, ◌≤◌, Bool, true, false, cond, not, ◌&&◌, ◌==◌, List, [], ◌∷◌, ◌++◌, map, length, take, set, slice_index_or, slice_get, Some, replicate}
+use Rattle.std.specs.Prelude.{◌≡◌, ◌≢◌, ℕ, zero, suc, ◌+◌, ◌%◌, ◌<◌, Bool, true, false, cond, not, ◌&&◌, ◌==◌, List, [], ◌∷◌, ◌++◌, map, length, take, set, slice_index_or, slice_get, Some, replicate}
 use Rattle.std.specs.List.{enumerate_from, range_with_len}
 use Rattle.std.proofs.Common.{refl, sym, ◌∙◌, ap, arith}
 use Rattle.std.proofs.Math.Nat.{mod-lt}
@@ -13,6 +13,7 @@ use Rattle.edit_history.specs.Edits.{point_of}
 use Rattle.plain_laws.specs.Running.{Pair, dealt_to, dealt}
 use Rattle.std.specs.Prelude.{Option, None}
 use Rattle.std.specs.Option.{option_map}
+use Rattle.list_laws.proofs.Cited.{eq_same, map_above, map_but_one}
 use Rattle.edit_history.specs.Opening.{Four, opening_four}
 use Rattle.edit_history.specs.OneThread.{places}
 use Rattle.edit_workers.specs.Dealing.{with_pair, AreOpening}
@@ -40,35 +41,10 @@ put_last_is f xs k old new pair l e o n =
     map-set f xs k new ∙ ap (set (map f xs) k) (n ∙ ap (λ (t : List Pair). t ++ pair ∷ []) (sym there))
     ∙ ap (λ (w : ℕ). set (map f xs) w (slice_index_or (map f xs) w [] ++ pair ∷ [])) worker
 
--- ---- a list for each number
-
--- f and g differ at no number from a on
-map_above : {X : Type 0} (f g : ℕ → X) (a n : ℕ) → ((i : ℕ) → a ≤ i → g i ≡ f i) → map g (range_with_len a n) ≡ map f (range_with_len a n)
-map_above f g a zero h = refl
-map_above f g a (suc n) h = let first = h a (omega arith) in let rest = map_above f g (a + 1) n (λ i l. h i (omega (arith, l))) in λ j. first j ∷ rest j
-
--- they differ at one number
-map_but_one : {X : Type 0} (f g : ℕ → X) (a n k : ℕ) (v : X) → k < n → g (a + k) ≡ v → ((i : ℕ) → i ≢ a + k → g i ≡ f i) →
-    map g (range_with_len a n) ≡ set (map f (range_with_len a n)) k v
-map_but_one f g a zero k v l e h = absurd (omega (arith, l))
-map_but_one f g a (suc n) zero v l e h =
-    let zero_more : a + 0 ≡ a = omega arith in
-    let first = ap g (sym zero_more) ∙ e in
-    let rest = map_above f g (a + 1) n (λ i m. h i (λ q. omega (arith, m, q))) in
-    λ j. first j ∷ rest j
-map_but_one f g a (suc n) (suc k) v l e h =
-    let there : a + 1 + k ≡ a + suc k = omega arith in
-    let first = h a (λ q. omega (arith, q)) in
-    let rest = map_but_one f g (a + 1) n k v (omega (arith, l)) (ap g there ∙ e) (λ i m. h i (λ q. m (q ∙ sym there))) in
-    λ j. first j ∷ rest j
-
 -- ---- one more line
 
 other : (m n : ℕ) → m ≢ n → (m == n) ≡ false
 other m n d = grind (arith, nat_tests)
-
-itself : (m : ℕ) → (m == m) ≡ true
-itself m = grind (arith, nat_tests)
 
 module _ (n : ℕ) (four : List ℕ) (lines : List Pair) (line : Pair) where
   deals : ℕ → Pair → Bool
@@ -106,7 +82,7 @@ module _ (n : ℕ) (four : List ℕ) (lines : List Pair) (line : Pair) where
       let count = length-map (range_with_len 0 n) f ∙ length-range_with_len 0 n in
       let there = get_or-map-range_with_len f 0 n w w [] below from_0 in
       let value : g (0 + w) ≡ slice_index_or (dealt n four lines) w [] ++ line ∷ [] =
-      ap g from_0 ∙ more_is w ∙ one_more (deals w line) (ap (λ (b : Bool). not b && (w == w)) a ∙ itself w) (f w) ∙ ap (λ (t : List Pair). t ++ line ∷ []) (sym there) in
+      ap g from_0 ∙ more_is w ∙ one_more (deals w line) (ap (λ (b : Bool). not b && (w == w)) a ∙ eq_same w) (f w) ∙ ap (λ (t : List Pair). t ++ line ∷ []) (sym there) in
       let others : (i : ℕ) → i ≢ 0 + w → g i ≡ f i =
       λ i d. more_is i ∙ nothing_more (deals i line) (ap (λ (b : Bool). not b && (w == i)) a ∙ other w i (λ q. d (sym q ∙ sym from_0))) (f i) in
       map_but_one f g 0 n w (slice_index_or (dealt n four lines) w [] ++ line ∷ []) below value others
@@ -175,15 +151,3 @@ next_is_passed n four lines tag now l a e =
     one [] k l = absurd (omega (arith, l))
     one (x ∷ lines) zero l = (x, refl)
     one (x ∷ lines) (suc k) l = one lines k (omega (arith, l))
-
--- ---- the opening four, as they are found
-
-pub opening_is : (points four : List ℕ) → option_map places (opening_four points) ≡ Some four → AreOpening points four
-opening_is points four e = by (opening_four points) refl e
-  where
-    same : (a b : List ℕ) → Some a ≡ Some b → a ≡ b
-    same a b e = cc
-
-    by : (o : Option Four) → opening_four points ≡ o → option_map places o ≡ Some four → AreOpening points four
-    by None q e = absurd (cc e)
-    by (Some f) q e = (f, q, sym (same (places f) four e))

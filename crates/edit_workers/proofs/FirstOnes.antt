@@ -4,11 +4,10 @@ use Rattle.std.specs.List.{filter}
 use Rattle.std.proofs.Common.{refl, sym, ◌∙◌, ap, subst, inl, inr, arith}
 use Rattle.std.proofs.lemmas.List.{map-append}
 use Rattle.std.proofs.lemmas.List.Elements.{filter-append}
+use Rattle.list_laws.proofs.Cited.{among_from, among_true, filtered_true, later-append, later-pairs, mapped_true, pairs-later}
 use Rattle.point_order.specs.Sets.{IsIn, is_among}
-use Rattle.edit_history.proofs.Numbers.{in-among, among-in}
 use Rattle.edit_history.specs.Edits.{point_of}
 use Rattle.plain_laws.specs.Running.{Pair}
-use Rattle.plain_laws.proofs.Members.{in-map, into-filter, later-pairs, pairs-later, later-append}
 use Rattle.edit_workers.specs.Working.{Marked, left_over, done, LeavesLater, first_ones}
 use Rattle.edit_workers.specs.Trying.{has_point}
 
@@ -23,10 +22,10 @@ has_is_among p [] = refl
 has_is_among p (x ∷ l) = ap (λ b. (point_of x.1 == p) || b) (has_is_among p l)
 
 pub in_points : (p : ℕ) (l : List Pair) → has_point p l ≡ true → IsIn p (points_of l)
-in_points p l e = among-in (points_of l) p (sym (has_is_among p l) ∙ e)
+in_points p l e = among_from p (points_of l) (sym (has_is_among p l) ∙ e)
 
 pub not_in_points : (p : ℕ) (l : List Pair) → has_point p l ≡ false → ¬ (IsIn p (points_of l))
-not_in_points p l e i = clash (sym (in-among (points_of l) p i) ∙ sym (has_is_among p l) ∙ e)
+not_in_points p l e i = clash (sym (among_true p (points_of l) i) ∙ sym (has_is_among p l) ∙ e)
   where
     clash : true ≡ false → ⊥
     clash e = cc e
@@ -35,7 +34,7 @@ not_in_points p l e i = clash (sym (in-among (points_of l) p i) ∙ sym (has_is_
 
 -- a pair of a point that was seen is not
 pub first_same : (seen : List ℕ) (l : List Pair) (x : Pair) → IsIn (point_of x.1) seen ⊎ IsIn (point_of x.1) (points_of l) → first_ones seen (l ++ x ∷ []) ≡ first_ones seen l
-first_same seen [] x (inl i) = let e = in-among seen (point_of x.1) i in rw e refl
+first_same seen [] x (inl i) = let e = among_true (point_of x.1) seen i in rw e refl
 first_same seen [] x (inr i) = absurd i
 first_same seen (y ∷ l) x c = by (is_among (point_of y.1) seen) refl c (λ c. first_same seen l x c) (λ c. first_same (point_of y.1 ∷ seen) l x c)
   where
@@ -44,7 +43,7 @@ first_same seen (y ∷ l) x c = by (is_among (point_of y.1) seen) refl c (λ c. 
         (IsIn (point_of x.1) (point_of y.1 ∷ seen) ⊎ IsIn (point_of x.1) (points_of l) → first_ones (point_of y.1 ∷ seen) (l ++ x ∷ []) ≡ first_ones (point_of y.1 ∷ seen) l) →
         (if b then first_ones seen (l ++ x ∷ []) else first_ones (point_of y.1 ∷ seen) (l ++ x ∷ []) + 1) ≡ (if b then first_ones seen l else first_ones (point_of y.1 ∷ seen) l + 1)
     by true e (inl i) h k = h (inl i)
-    by true e (inr (inl q)) h k = h (inl (subst (λ p. IsIn p seen) q (among-in seen (point_of y.1) e)))
+    by true e (inr (inl q)) h k = h (inl (subst (λ p. IsIn p seen) q (among_from (point_of y.1) seen e)))
     by true e (inr (inr i)) h k = h (inr i)
     by false e (inl i) h k = ap (λ k. k + 1) (k (inl (inr i)))
     by false e (inr (inl q)) h k = ap (λ k. k + 1) (k (inl (inl q)))
@@ -128,7 +127,7 @@ later_more l m h f = later-pairs Leaves (l ++ m ∷ []) (later-append Leaves l (
   where
     across : (x y : Marked) → IsIn x l → IsIn y (m ∷ []) → Leaves x y
     across x y i (inl e) t q =
-        let among = in-map (λ (z : Pair). point_of z.1) (left_over l) x.1 (in-map (λ (z : Marked). z.1) (filter (λ (z : Marked). z.0) l) x (into-filter (λ (z : Marked). z.0) l x i t)) in
+        let among = mapped_true (λ (z : Pair). point_of z.1) x.1 (left_over l) (mapped_true (λ (z : Marked). z.1) x (filter (λ (z : Marked). z.0) l) (filtered_true (λ (z : Marked). z.0) l x i t)) in
         let point = q ∙ ap (λ (z : Marked). point_of z.1.1) (sym e) in
         sym (ap (λ (z : Marked). z.0) e) ∙ f (subst (λ p. IsIn p (points_of (left_over l))) point among)
     across x y i (inr j) t q = absurd j

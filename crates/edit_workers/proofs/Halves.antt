@@ -4,24 +4,23 @@ use Rattle.std.specs.List.{filter}
 use Rattle.std.proofs.Common.{refl, sym, ◌∙◌, ap, ap₂, subst, inl, inr, arith, get_or, length-append}
 use Rattle.std.proofs.lemmas.List.{append-nil, map-append, length-map}
 use Rattle.std.proofs.lemmas.List.Sorted.{IsPermutation-sym, IsPermutation-trans}
+use Rattle.list_laws.proofs.Cited.{EachLater, all_of_each, both-later, each_of_all, from_append, in_permutation, later-pairs, later-unmap, mapped_true, pairs-later, related}
 use Rattle.point_order.specs.Sets.{IsIn}
 use Rattle.edit_history.specs.declared.history.Entry.{Entry}
 use Rattle.edit_history.specs.Edits.{point_of}
 use Rattle.edit_history.specs.OneThread.{line_of}
-use Rattle.edit_history.proofs.Lines.{in-append}
 use Rattle.cell_store.specs.Meshes.{by_number}
-use Rattle.cell_store.proofs.MeshLaws.{sorted_moves}
+use Rattle.cell_store.proofs.Cited.{sorted_moves}
 use Rattle.grid_claims.specs.Passes.{Opened, Standing}
 use Rattle.grid_claims.specs.Lists.{entries_by}
 use Rattle.grid_claims.specs.Tries.{opening_pass, IsSplit, joined}
 use Rattle.plain_laws.specs.Running.{Pair}
-use Rattle.plain_laws.proofs.Members.{in-map, in-permutation, all-in, in-all, EachLater, later-pairs, pairs-later, later-unmap}
 use Rattle.edit_workers.specs.Dealing.{AreAscending, AreApart, count_of}
 use Rattle.edit_workers.specs.Working.{Marked, left_over, done, IsWorked}
 use Rattle.edit_workers.specs.declared.lists.List as lists
 use Rattle.edit_workers.specs.Running.{pairs_in, CanRun, AscendAtPoint, ArePartly, AreWorked, AreRunBut}
 use Rattle.edit_workers.specs.Arranging.{IsArranged, IsInPlace}
-use Rattle.edit_workers.proofs.Marks.{in-order, both-later, marks-part, done-tags, left-tags, done-first}
+use Rattle.edit_workers.proofs.Marks.{marks-part, done-tags, left-tags, done-first}
 use Rattle.edit_workers.proofs.Partly.{count-both, all-low, all-high, apart-low, apart-high, partly-both}
 
 -- ---- one list
@@ -74,7 +73,7 @@ module _ (list arranged left : List Pair) (old new : Standing) (is : IsArranged 
 
   order : (d e : Entry) → IsIn d es → IsIn e es → d.number < e.number → AscendAtPoint (line_of d) (line_of e)
   order d e i j n same =
-      elim (in-order Climbs es d e climbs i j) [
+      elim (related Climbs es d e climbs i j) [
         | inl q ↦ let m : d.number ≡ e.number = ap (λ (e : Entry). e.number) q in absurd (omega (arith, m, n))
         | inr (inl r) ↦ r.1 same
         | inr (inr r) ↦ let m = r.0 in absurd (omega (arith, m, n))
@@ -83,7 +82,7 @@ module _ (list arranged left : List Pair) (old new : Standing) (is : IsArranged 
   behind : (d : Entry) (p : Pair) → IsIn d es → IsIn p left → AscendAtPoint (line_of d) p
   behind d p i j same =
       done-first marked ascending (pairs-later (λ (x y : Marked). x.0 ≡ true → point_of x.1.1 ≡ point_of y.1.1 → y.0 ≡ true) marked w.later)
-      (line_of d) p (subst (IsIn (line_of d)) w.made.pairs_are (in-map line_of es d i)) (subst (IsIn p) w.left_is j) same
+      (line_of d) p (subst (IsIn (line_of d)) w.made.pairs_are (mapped_true line_of d es i)) (subst (IsIn p) w.left_is j) same
 
   partly : ArePartly (list ∷ []) left es
   partly = record {
@@ -99,7 +98,7 @@ module _ (list arranged left : List Pair) (old new : Standing) (is : IsArranged 
     partly = subst (ArePartly (list ∷ []) left) (sym made-is) partly;
     workers =
         subst (All (λ (e : Entry). (old.first ≤ e.by) × (e.by < old.first + old.parts))) (sym made-is)
-        (in-all (λ (e : Entry). (old.first ≤ e.by) × (e.by < old.first + old.parts)) es (λ e i. let b = all-in (λ (e : Entry). e.by ≡ old.first) es w.made.by_pass e i in (omega (arith, b), omega (arith, b, one))));
+        (all_of_each (λ (e : Entry). (old.first ≤ e.by) × (e.by < old.first + old.parts)) es (λ e i. let b = each_of_all (λ (e : Entry). e.by ≡ old.first) es w.made.by_pass e i in (omega (arith, b), omega (arith, b, one))));
     alone = λ l e zero all.
         let none : left ≡ [] = w.alone zero all in
         (none, ap (map line_of) made-is ∙ w.made.pairs_are ∙ none-left marked (sym w.left_is ∙ none) ∙ w.parted ∙ own all ∙ only-list list l e);
@@ -189,16 +188,16 @@ module _ (lows highs : List (List Pair)) (old mid other : Standing) (some-low : 
 
     ours : (e : Entry) → IsIn e (by_number (p.made ++ q.made)) → IsOurs e
     ours e i =
-        elim (in-append p.made q.made e (in-permutation (by_number (p.made ++ q.made)) (p.made ++ q.made) e (IsPermutation-sym (p.made ++ q.made) (by_number (p.made ++ q.made)) (sorted_moves (p.made ++ q.made))) i)) [
+        elim (from_append e p.made q.made (in_permutation (by_number (p.made ++ q.made)) (p.made ++ q.made) e (IsPermutation-sym (p.made ++ q.made) (by_number (p.made ++ q.made)) (sorted_moves (p.made ++ q.made))) i)) [
           | inl j ↦
-              let b = all-in (λ (e : Entry). (mid.first ≤ e.by) × (e.by < mid.first + mid.parts)) p.made low.workers e j in
+              let b = each_of_all (λ (e : Entry). (mid.first ≤ e.by) × (e.by < mid.first + mid.parts)) p.made low.workers e j in
               let f : mid.first ≡ old.first = ap (λ (s : Standing). s.first) split.new_is in
               let g : mid.parts ≡ old.parts - length highs = ap (λ (s : Standing). s.parts) split.new_is in
               let l = b.0 in
               let m = b.1 in
               (omega (arith, l, f), omega (arith, m, f, g, fits))
           | inr j ↦
-              let b = all-in (λ (e : Entry). (other.first ≤ e.by) × (e.by < other.first + other.parts)) q.made high.workers e j in
+              let b = each_of_all (λ (e : Entry). (other.first ≤ e.by) × (e.by < other.first + other.parts)) q.made high.workers e j in
               let f : other.first ≡ old.first + (old.parts - length highs) = ap (λ (s : Standing). s.first) split.other_is in
               let g : other.parts ≡ length highs = ap (λ (s : Standing). s.parts) split.other_is in
               let l = b.0 in
@@ -210,7 +209,7 @@ module _ (lows highs : List (List Pair)) (old mid other : Standing) (some-low : 
     worked-both = record {
       still = (table-low, first-p, omega (arith, parts-p, parts-q, fits));
       partly = partly-both lows highs a b p.made q.made (by_number (p.made ++ q.made)) apart low.partly high.partly (sorted_moves (p.made ++ q.made));
-      workers = in-all IsOurs (by_number (p.made ++ q.made)) ours;
+      workers = all_of_each IsOurs (by_number (p.made ++ q.made)) ours;
       alone = λ l e zero all. let n : length (lows ++ highs) ≡ 1 = ap length e in absurd (omega (arith, n, length-append lows highs, some-low, some-high));
     }
 
@@ -263,7 +262,7 @@ all-worked lists left t allowance new parts w = record {
   more = new.made;
   history = refl;
   partly = w.partly;
-  workers = in-all (λ (e : Entry). e.by < length lists) new.made (λ e i. let b = all-in (λ (e : Entry). (0 ≤ e.by) × (e.by < 0 + t.parts)) new.made w.workers e i in let m = b.1 in omega (arith, m, parts));
+  workers = all_of_each (λ (e : Entry). e.by < length lists) new.made (λ e i. let b = each_of_all (λ (e : Entry). (0 ≤ e.by) × (e.by < 0 + t.parts)) new.made w.workers e i in let m = b.1 in omega (arith, m, parts));
   alone = λ l e. w.alone l e refl refl;
 }
 

@@ -7,3 +7,4 @@ pub mod Marks
 pub mod Partly
 pub mod Stretches
 pub mod Worked
+pub mod Cited

@@ -8,14 +8,13 @@ use Rattle.std.proofs.lemmas.Grind.{flat_map-append}
 use Rattle.std.proofs.lemmas.List.{map-append, append_assoc, append-nil, length-map}
 use Rattle.std.proofs.lemmas.List.Sorted.{IsPermutation-sym, IsPermutation-trans, IsPermutation-map, IsPermutation-append, IsPermutation-append_left, IsPermutation-append_right, IsPermutation-append_comm, length_permutation}
 use Rattle.std.proofs.lemmas.Map.Keys.{IsDistinct-from_apart, IsDistinct-IsPermutation, apart_from_distinct}
+use Rattle.list_laws.proofs.Cited.{EachLater, all_of_each, each_of_all, from_append, in_left, in_permutation, in_right, later-across, later-append, later-left, later-pairs, later-right, later-unmap, later-weaken, mapped_true, pairs-later}
 use Rattle.point_order.specs.Sets.{IsIn}
 use Rattle.edit_history.specs.declared.history.Entry.{Entry}
 use Rattle.edit_history.specs.Edits.{point_of, after}
 use Rattle.edit_history.specs.Histories.{IsLegalFrom, IsLegal}
 use Rattle.edit_history.specs.OneThread.{line_of}
-use Rattle.edit_history.proofs.Lines.{in-append}
 use Rattle.plain_laws.specs.Running.{Pair}
-use Rattle.plain_laws.proofs.Members.{in-left, in-right, in-map, in-permutation, all-in, in-all, EachLater, later-pairs, pairs-later, later-append, later-across, later-left, later-right, later-weaken, later-unmap}
 use Rattle.edit_workers.specs.Dealing.{HaveNoPoint, AreApart, count_of}
 use Rattle.edit_workers.specs.Running.{AreRun, AscendAtPoint, ArePartly, AreRunBut, AreApplied, AreByTag}
 use Rattle.edit_workers.proofs.Marks.{in-flat}
@@ -26,10 +25,10 @@ pub count-both : (low high : List (List Pair)) → count_of (low ++ high) ≡ co
 count-both low high = ap length (flat_map-append (λ (l : List Pair). l) low high) ∙ length-append (flat_map (λ l. l) low) (flat_map (λ l. l) high)
 
 pub all-low : {X : Type 0} (P : X → Type 0) (low high : List X) → All P (low ++ high) → All P low
-all-low {X} P low high h = in-all P low (λ (x : X) i. all-in P (low ++ high) h x (in-left low high x i))
+all-low {X} P low high h = all_of_each P low (λ (x : X) i. each_of_all P (low ++ high) h x (in_left x low high i))
 
 pub all-high : {X : Type 0} (P : X → Type 0) (low high : List X) → All P (low ++ high) → All P high
-all-high {X} P low high h = in-all P high (λ (x : X) i. all-in P (low ++ high) h x (in-right low high x i))
+all-high {X} P low high h = all_of_each P high (λ (x : X) i. each_of_all P (low ++ high) h x (in_right x low high i))
 
 module _ (low high : List (List Pair)) (apart : AreApart (low ++ high)) where
   later : EachLater HaveNoPoint (low ++ high)
@@ -58,14 +57,14 @@ exchanged {X} a b c d =
 module _ (lists : List (List Pair)) (left : List Pair) (entries : List Entry) (part : ArePartly lists left entries) where
   -- what was made or left over is of the lists
   pub made-in : (d : Entry) → IsIn d entries → IsIn (line_of d) (flat_map (λ l. l) lists)
-  made-in d i = in-permutation (map line_of entries ++ left) (flat_map (λ l. l) lists) (line_of d) (IsPermutation-sym (flat_map (λ l. l) lists) (map line_of entries ++ left) part.lines) (in-left (map line_of entries) left (line_of d) (in-map line_of entries d i))
+  made-in d i = in_permutation (map line_of entries ++ left) (flat_map (λ l. l) lists) (line_of d) (IsPermutation-sym (flat_map (λ l. l) lists) (map line_of entries ++ left) part.lines) (in_left (line_of d) (map line_of entries) left (mapped_true line_of d entries i))
 
   pub left-in : (p : Pair) → IsIn p left → IsIn p (flat_map (λ l. l) lists)
-  left-in p i = in-permutation (map line_of entries ++ left) (flat_map (λ l. l) lists) p (IsPermutation-sym (flat_map (λ l. l) lists) (map line_of entries ++ left) part.lines) (in-right (map line_of entries) left p i)
+  left-in p i = in_permutation (map line_of entries ++ left) (flat_map (λ l. l) lists) p (IsPermutation-sym (flat_map (λ l. l) lists) (map line_of entries ++ left) part.lines) (in_right p (map line_of entries) left i)
 
 module _ (low high : List (List Pair)) (a b : List Pair) (es fs made : List Entry) (apart : AreApart (low ++ high)) (first : ArePartly low a es) (second : ArePartly high b fs) (moved : IsPermutation (es ++ fs) made) where
   from-made : (d : Entry) → IsIn d made → IsIn d (es ++ fs)
-  from-made d i = in-permutation made (es ++ fs) d (IsPermutation-sym (es ++ fs) made moved) i
+  from-made d i = in_permutation made (es ++ fs) d (IsPermutation-sym (es ++ fs) made moved) i
 
   never : (p q : Pair) → IsIn p (flat_map (λ l. l) low) → IsIn q (flat_map (λ l. l) high) → point_of p.1 ≡ point_of q.1 → ⊥
   never p q i j e = apart-across low high apart p q i j e
@@ -82,12 +81,12 @@ module _ (low high : List (List Pair)) (a b : List Pair) (es fs made : List Entr
 
   order : (d e : Entry) → IsIn d made → IsIn e made → d.number < e.number → AscendAtPoint (line_of d) (line_of e)
   order d e i j number same =
-      elim (in-append es fs d (from-made d i)) [
-        | inl k ↦ elim (in-append es fs e (from-made e j)) [
+      elim (from_append d es fs (from-made d i)) [
+        | inl k ↦ elim (from_append e es fs (from-made e j)) [
           | inl m ↦ first.order d e k m number same
           | inr m ↦ absurd (never (line_of d) (line_of e) (made-in low a es first d k) (made-in high b fs second e m) same)
         ]
-        | inr k ↦ elim (in-append es fs e (from-made e j)) [
+        | inr k ↦ elim (from_append e es fs (from-made e j)) [
           | inl m ↦ absurd (never (line_of e) (line_of d) (made-in low a es first e m) (made-in high b fs second d k) (sym same))
           | inr m ↦ second.order d e k m number same
         ]
@@ -95,12 +94,12 @@ module _ (low high : List (List Pair)) (a b : List Pair) (es fs made : List Entr
 
   behind : (d : Entry) (p : Pair) → IsIn d made → IsIn p (a ++ b) → AscendAtPoint (line_of d) p
   behind d p i j same =
-      elim (in-append es fs d (from-made d i)) [
-        | inl k ↦ elim (in-append a b p j) [
+      elim (from_append d es fs (from-made d i)) [
+        | inl k ↦ elim (from_append p a b j) [
           | inl m ↦ first.behind d p k m same
           | inr m ↦ absurd (never (line_of d) p (made-in low a es first d k) (left-in high b fs second p m) same)
         ]
-        | inr k ↦ elim (in-append a b p j) [
+        | inr k ↦ elim (from_append p a b j) [
           | inl m ↦ absurd (never p (line_of d) (left-in low a es first p m) (made-in high b fs second d k) (sym same))
           | inr m ↦ second.behind d p k m same
         ]
@@ -188,7 +187,7 @@ module _ (lists : List (List Pair)) (left sorted : List Pair) (h k m : List Entr
   second-part = later-unmap line_of AscendAtPoint fs (subst (EachLater AscendAtPoint) (sym applied.pairs_are) (pairs-later AscendAtPoint sorted (by-tags left sorted but.partly.later tags)))
 
   from-left : (e : Entry) → IsIn e fs → IsIn (line_of e) left
-  from-left e i = in-permutation sorted left (line_of e) (IsPermutation-sym left sorted tags.same) (subst (IsIn (line_of e)) applied.pairs_are (in-map line_of fs e i))
+  from-left e i = in_permutation sorted left (line_of e) (IsPermutation-sym left sorted tags.same) (subst (IsIn (line_of e)) applied.pairs_are (mapped_true line_of e fs i))
 
   both-parts : EachLater SamePoint (es ++ fs)
   both-parts = later-append SamePoint es fs first-part second-part (λ d e i j same. but.partly.behind d (line_of e) i (from-left e j) same)
@@ -201,10 +200,10 @@ module _ (lists : List (List Pair)) (left sorted : List Pair) (h k m : List Entr
 
   by-workers : All (λ e. e.by < length lists) (es ++ fs)
   by-workers =
-      in-all (λ (e : Entry). e.by < length lists) (es ++ fs)
-      (λ e i. elim (in-append es fs e i) [
-        | inl j ↦ all-in (λ (e : Entry). e.by < length lists) es but.workers e j
-        | inr j ↦ let z = all-in (λ (e : Entry). e.by ≡ 0) fs applied.by_none e j in omega (arith, z, some)
+      all_of_each (λ (e : Entry). e.by < length lists) (es ++ fs)
+      (λ e i. elim (from_append e es fs i) [
+        | inl j ↦ each_of_all (λ (e : Entry). e.by < length lists) es but.workers e j
+        | inr j ↦ let z = each_of_all (λ (e : Entry). e.by ≡ 0) fs applied.by_none e j in omega (arith, z, some)
       ])
 
   nothing-left : (l : List Pair) → lists ≡ l ∷ [] → map line_of (es ++ fs) ≡ l

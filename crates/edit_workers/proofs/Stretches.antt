@@ -3,8 +3,8 @@ use Rattle.std.specs.Prelude.{◌≡◌, ℕ, ◌≤◌, Bool, true, false, List
 use Rattle.std.specs.List.{filter, flat_map}
 use Rattle.std.proofs.Common.{sym, ◌∙◌, ap, inl, inr, append-nil}
 use Rattle.std.proofs.lemmas.List.{append_assoc}
-use Rattle.point_order.specs.Sets.{IsIn, is_among}
-use Rattle.edit_history.proofs.Numbers.{in-among}
+use Rattle.list_laws.proofs.Cited.{not_among}
+use Rattle.point_order.specs.Sets.{IsIn}
 use Rattle.edit_history.specs.Edits.{point_of}
 use Rattle.grid_claims.specs.declared.view.Act.{Act}
 use Rattle.grid_claims.specs.Trails.{misses}
@@ -15,12 +15,6 @@ use Rattle.edit_workers.proofs.FirstOnes.{points_of}
 pub flat_more : (l : List Stretch) (s : Stretch) → flat_map (λ (s : Stretch). s.1) (l ++ s ∷ []) ≡ flat_map (λ (s : Stretch). s.1) l ++ s.1
 flat_more [] s = append-nil s.1
 flat_more (x ∷ l) s = ap (λ (t : List Act). x.1 ++ t) (flat_more l s) ∙ sym (append_assoc x.1 (flat_map (λ (s : Stretch). s.1) l) s.1)
-
-not_among : (p : ℕ) (l : List ℕ) → is_among p l ≡ false → ¬ (IsIn p l)
-not_among p l e i = clash (sym (in-among l p i) ∙ e)
-  where
-    clash : true ≡ false → ⊥
-    clash e = cc e
 
 -- what has to be shown of the last one: it was tried to the end, if it is the first one left over of its point
 abbrev pub IsTriedLast : List ℕ → List Stretch → Stretch → Type 0
@@ -34,7 +28,7 @@ neither p q over others a c (inr j) = c j
 
 -- those tried before, and one pair more
 pub tried_more : (over : List ℕ) (l : List Stretch) (s : Stretch) → AreTried over l → IsTriedLast over l s → AreTried over (l ++ s ∷ [])
-tried_more over [] s h f = ((λ t e. f t (not_among (point_of s.0.1.1) over e) (λ i. absurd i)), tt)
+tried_more over [] s h f = ((λ t e. f t (not_among over (point_of s.0.1.1) e) (λ i. absurd i)), tt)
 tried_more over (x ∷ l) s h f = (h.0, by x.0.0 h.1 f (tried_more over l s) (tried_more (point_of x.0.1.1 ∷ over) l s))
   where
     by : (b : Bool) → AreTried (if b then point_of x.0.1.1 ∷ over else over) l

@@ -1,11 +1,12 @@
 -- The work on a list, pair by pair.
-use Rattle.std.specs.Prelude.{◌≡◌, ◌⊎◌, ℕ, zero, suc, ◌+◌, ◌-◌, ◌<◌, ◌≤◌, Bool, true, false, List, [], ◌∷◌, ◌++◌, map, length, take, drop, slice_index_or, Result, Ok, Err, OnErr}
+use Rattle.std.specs.Prelude.{◌≡◌, ◌⊎◌, ℕ, zero, suc, ◌+◌, ◌-◌, ◌<◌, ◌≤◌, Bool, true, false, List, [], ◌∷◌, ◌++◌, map, length, take, drop, slice_index_or}
 use Rattle.std.proofs.Common.{refl, sym, ◌∙◌, ap, subst, inl, inr, arith, length-append, append-nil}
 use Rattle.std.specs.List.{flat_map}
 use Rattle.std.proofs.lemmas.Bool.{false≢true}
 use Rattle.std.proofs.lemmas.List.{length-map, length-take, map-append, append_assoc, take_all, take-append-drop}
 use Rattle.std.proofs.Math.Seq.{take-suc}
 use Rattle.std.proofs.lemmas.List.Elements.{All-append}
+use Rattle.list_laws.proofs.Cited.{all_of_each, each_of_all, later-append, later-pairs, pairs-later}
 use Rattle.point_order.specs.Sets.{IsIn}
 use Rattle.edit_history.specs.declared.history.Edit.{Edit}
 use Rattle.edit_history.specs.declared.history.Entry.{Entry}
@@ -18,16 +19,10 @@ use Rattle.grid_claims.specs.Plays.{entry_of}
 use Rattle.grid_claims.specs.Trails.{misses}
 use Rattle.grid_claims.specs.Tries.{AreClaimsAround, IsAsBefore, IsOthersWord}
 use Rattle.plain_laws.specs.Running.{Pair}
-use Rattle.plain_laws.proofs.Members.{all-in, in-all, later-pairs, pairs-later, later-append}
 use Rattle.edit_workers.specs.Working.{Marked, Stretch, done, left_over, first_ones, AreEntriesOf, HasMade, IsWorked, IsBroken}
 use Rattle.edit_workers.specs.Trying.{OwnsAll, HasMadeOne, HasMissed, FollowsLeft, IsLeftOver, IsDone, IsWorkedOn}
 use Rattle.edit_workers.proofs.Stretches.{flat_more, tried_more}
 use Rattle.edit_workers.proofs.FirstOnes.{points_of, in_points, not_in_points, first_same, first_more, left_more, left_same, done_more, done_same, all_left, all_parted, none_done, done_few, later_more}
-
--- what holds in any case holds where there is an error
-pub on_err : {T E P : Type 0} (r : Result T E) → P → OnErr r P
-on_err (Ok x) p = tt
-on_err (Err e) p = p
 
 -- ---- trails
 
@@ -138,12 +133,12 @@ worked_nothing p = record {
   left_is = refl;
   later = λ i j d l m. absurd (omega arith);
   entries = [];
-  made = record { pairs_are = refl; by_pass = in-all (λ (e : Entry). e.by ≡ p.first) [] (λ x i. absurd i); ascending = later-pairs (λ (d e : Entry). d.number < e.number) [] tt; later = in-all (λ (e : Entry). p.seen ≤ e.number) [] (λ x i. absurd i) };
+  made = record { pairs_are = refl; by_pass = all_of_each (λ (e : Entry). e.by ≡ p.first) [] (λ x i. absurd i); ascending = later-pairs (λ (d e : Entry). d.number < e.number) [] tt; later = all_of_each (λ (e : Entry). p.seen ≤ e.number) [] (λ x i. absurd i) };
   steps = [];
   pass = record {
     new_is = (let l : p.left ≡ p.left - 0 = omega arith in let m = sym (append-nil p.made) in let t = sym (append-nil p.trail) in λ i. record p { left = l i; made = m i; trail = t i });
     later = omega arith;
-    seen_all = in-all (λ (e : Entry). e.number < p.seen) [] (λ x i. absurd i);
+    seen_all = all_of_each (λ (e : Entry). e.number < p.seen) [] (λ x i. absurd i);
   };
   stretches = [];
   pairs_are = refl;
@@ -170,7 +165,7 @@ made_as_before old now new entries steps n h m =
           (ap (λ (p : Standing). p.known) b ∙ ap (λ (p : Standing). p.known) a)
           (ap (λ (p : Standing). p.trail) b ∙ ap (λ (p : Standing). p.trail ++ m.steps) a ∙ append_assoc old.trail steps m.steps);
       later = (let l = h.later in omega (arith, l, seen));
-      seen_all = in-all (λ (e : Entry). e.number < new.seen) entries (λ e i. let l = all-in (λ (e : Entry). e.number < now.seen) entries h.seen_all e i in omega (arith, l, seen));
+      seen_all = all_of_each (λ (e : Entry). e.number < new.seen) entries (λ e i. let l = each_of_all (λ (e : Entry). e.number < now.seen) entries h.seen_all e i in omega (arith, l, seen));
     }
 
 -- an entry more
@@ -196,8 +191,8 @@ made_more old now new entries steps tag edit h m =
           (ap (λ (p : Standing). p.trail) b ∙ ap (λ (p : Standing). p.trail ++ m.steps) a ∙ append_assoc old.trail steps m.steps);
       later = (let l = h.later in let k = m.later in omega (arith, l, k, seen));
       seen_all = All-append (λ (e : Entry). e.number < new.seen) entries (e ∷ [])
-          (in-all (λ (e : Entry). e.number < new.seen) entries (λ d i. let l = all-in (λ (e : Entry). e.number < now.seen) entries h.seen_all d i in let k = m.later in omega (arith, l, k, seen)))
-          (in-all (λ (e : Entry). e.number < new.seen) (e ∷ []) (λ d i. last d i seen));
+          (all_of_each (λ (e : Entry). e.number < new.seen) entries (λ d i. let l = each_of_all (λ (e : Entry). e.number < now.seen) entries h.seen_all d i in let k = m.later in omega (arith, l, k, seen)))
+          (all_of_each (λ (e : Entry). e.number < new.seen) (e ∷ []) (λ d i. last d i seen));
     }
   where
     last : (d : Entry) → IsIn d (entry_of m.number old.first tag edit m.reply ∷ []) → new.seen ≡ m.number + 1 → d.number < new.seen
@@ -210,10 +205,10 @@ entries_more old now new pairs entries steps tag edit a h m =
     let e : Entry = entry_of m.number old.first tag edit m.reply in
     record {
       pairs_are = map-append line_of entries (e ∷ []) ∙ ap (λ (l : List Pair). l ++ (tag, edit) ∷ []) a.pairs_are;
-      by_pass = All-append (λ (e : Entry). e.by ≡ old.first) entries (e ∷ []) a.by_pass (in-all (λ (e : Entry). e.by ≡ old.first) (e ∷ []) (λ d i. by_it d i));
+      by_pass = All-append (λ (e : Entry). e.by ≡ old.first) entries (e ∷ []) a.by_pass (all_of_each (λ (e : Entry). e.by ≡ old.first) (e ∷ []) (λ d i. by_it d i));
       ascending = later-pairs (λ (d e : Entry). d.number < e.number) (entries ++ e ∷ [])
           (later-append (λ (d e : Entry). d.number < e.number) entries (e ∷ []) (pairs-later (λ (d e : Entry). d.number < e.number) entries a.ascending) ((λ y i. absurd i), tt) across);
-      later = All-append (λ (e : Entry). old.seen ≤ e.number) entries (e ∷ []) a.later (in-all (λ (e : Entry). old.seen ≤ e.number) (e ∷ []) (λ d i. above d i));
+      later = All-append (λ (e : Entry). old.seen ≤ e.number) entries (e ∷ []) a.later (all_of_each (λ (e : Entry). old.seen ≤ e.number) (e ∷ []) (λ d i. above d i));
     }
   where
     by_it : (d : Entry) → IsIn d (entry_of m.number old.first tag edit m.reply ∷ []) → d.by ≡ old.first
@@ -221,7 +216,7 @@ entries_more old now new pairs entries steps tag edit a h m =
     by_it d (inr i) = absurd i
 
     across : (x y : Entry) → IsIn x entries → IsIn y (entry_of m.number old.first tag edit m.reply ∷ []) → x.number < y.number
-    across x y i (inl q) = let l = all-in (λ (e : Entry). e.number < now.seen) entries h.seen_all x i in let k = m.later in let n = ap (λ (e : Entry). e.number) q in omega (arith, l, k, n)
+    across x y i (inl q) = let l = each_of_all (λ (e : Entry). e.number < now.seen) entries h.seen_all x i in let k = m.later in let n = ap (λ (e : Entry). e.number) q in omega (arith, l, k, n)
     across x y i (inr j) = absurd j
 
     above : (d : Entry) → IsIn d (entry_of m.number old.first tag edit m.reply ∷ []) → old.seen ≤ d.number

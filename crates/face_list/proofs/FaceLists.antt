@@ -9,21 +9,19 @@ use Rattle.std.specs.declared.cmp.Ordering.{Ordering}
 use Rattle.std.specs.declared.cmp.Ordering.TheVariants.{Less}
 use Rattle.std.proofs.lemmas.Cmp.{nat_cmp_total, nat_list_cmp_total}
 use Rattle.std.proofs.lemmas.Map.Lookups.{CmpEqualImpliesEq, exact_unsigned, exact_bytes}
-use Rattle.std.proofs.lemmas.Bool.Decides.{nat_tests}
 use Rattle.std.proofs.lemmas.List.{take_more}
+use Rattle.list_laws.proofs.Cited.{all_by, all_from, all_true, among_from, among_true, at_in, cmp_less, contains_in, from_append, in_left, in_right, mapped_from, mapped_true, one_order}
 use Rattle.point_order.specs.declared.cell.Cell.{Cell}
 use Rattle.point_order.specs.declared.cell.Cell.TheVariants.{Full, Open}
 use Rattle.point_order.specs.Facets.{points_of}
 use Rattle.point_order.specs.Sets.{IsIn, IsAscending, is_among}
 use Rattle.point_order.specs.Subsets.{subsets}
-use Rattle.del_laws.proofs.Listed.{in_left, in_right, from_append, mapped_from, mapped_true, part_inside, part_ascending, part_true}
-use Rattle.del_laws.proofs.Tests.{all_from, all_true, among_from, among_true}
+use Rattle.del_laws.proofs.Cited.{part_ascending, part_inside, part_true}
 use Rattle.face_list.specs.declared.table.Table.{Table}
 use Rattle.face_list.specs.Faces.{points_in, parts_in, points_with_cells, with_cells}
 use Rattle.face_list.specs.Gather.{is_full, numbers_of, items_from, Gathers, AreAscending, AreItems}
 use Rattle.face_list.specs.Tables.{cell_at, numbered, paired, table_seen}
 use Rattle.face_list.proofs.FaceLaws.{points_in_order, point_is_listed, listed_is_point, parts_in_order, part_is_listed, listed_is_part}
-use Rattle.face_list.proofs.Sorting.{at_in, contains_in, in_all, one_order}
 use Rattle.face_list.proofs.Gathering.{numbers_rise, number_from, number_true, full_from, full_true}
 
 -- ---- cells by their numbers
@@ -72,20 +70,16 @@ placed_in t n m (suc place) (c ∷ cells) h e f = by (placed_in t (suc n) m plac
     by rest true g = subst (IsIn m) (sym (which_true t n c cells g)) (inr rest)
     by rest false g = subst (IsIn m) (sym (which_false t n c cells g)) rest
 
--- they rise
-below : (x y : ℕ) → x < y → nat_cmp x y ≡ Less
-below x y l = grind (arith, nat_tests)
-
 which_rise : (t : Cell → Bool) (n : ℕ) (cells : List Cell) → IsStrictlySortedBy nat_cmp (which t n cells)
 unfolding IsStrictlySortedBy
 which_rise t n [] = tt
 which_rise t n (c ∷ cells) = by (which_rise t (suc n) cells) (t c) refl
   where
     above : (m : ℕ) → Placed (λ c. t c ≡ true) (suc n) m cells → nat_cmp n m ≡ Less
-    above m h = (let e = h.is in below n m (omega (arith, e)))
+    above m h = (let e = h.is in cmp_less n m (omega (arith, e)))
 
     by : IsStrictlySortedBy nat_cmp (which t (suc n) cells) → (b : Bool) → t c ≡ b → IsStrictlySortedBy nat_cmp (which t n (c ∷ cells))
-    by rest true e = subst (IsStrictlySortedBy nat_cmp) (sym (which_true t n c cells e)) (in_all (λ m. nat_cmp n m ≡ Less) (which t (suc n) cells) (λ m i. above m (which_from t (suc n) m cells i)), rest)
+    by rest true e = subst (IsStrictlySortedBy nat_cmp) (sym (which_true t n c cells e)) (all_by (λ m. nat_cmp n m ≡ Less) (which t (suc n) cells) (λ m i. above m (which_from t (suc n) m cells i)), rest)
     by rest false e = subst (IsStrictlySortedBy nat_cmp) (sym (which_false t n c cells e)) rest
 
 -- and name the cells that pass

@@ -9,8 +9,7 @@ use Rattle.point_order.specs.declared.cell.Cell.{Cell}
 use Rattle.point_order.specs.declared.cell.Cell.TheVariants.{Full, Open}
 use Rattle.point_order.specs.CellOrder.{cell_cmp}
 use Rattle.point_order.specs.Complex.{complex}
-use Rattle.del_laws.proofs.Ordered.{complex_is_sorted}
-use Rattle.del_laws.proofs.Listed.{same_full, not_both_kinds}
+use Rattle.del_laws.proofs.Cited.{complex_is_sorted, not_both_kinds, same_full}
 use Rattle.face_list.specs.Faces.{full_cells}
 use Rattle.face_list.specs.Laws.{FullCellsInOrder, FullCellIsListed, ListedIsFullCell, FullCellsOfComplex}
 

@@ -9,14 +9,12 @@ use Rattle.std.specs.declared.cmp.Ordering.TheVariants.{Less, Equal, Greater}
 use Rattle.std.proofs.lemmas.Map.Lookups.{CmpEqualImpliesEq}
 use Rattle.std.proofs.lemmas.List.{map-append, get_or_default}
 use Rattle.std.proofs.lemmas.List.Elements.{filter-append}
+use Rattle.list_laws.proofs.Cited.{all_by, at_in, each_by, filtered_from, filtered_true, level, mapped_from, mapped_true}
 use Rattle.point_order.specs.declared.cell.Cell.{Cell}
 use Rattle.point_order.specs.declared.cell.Cell.TheVariants.{Full}
 use Rattle.point_order.specs.Sets.{IsIn}
-use Rattle.del_laws.proofs.Listed.{mapped_from, mapped_true}
-use Rattle.del_laws.proofs.Tests.{filtered_from, filtered_true}
 use Rattle.face_list.specs.Gather.{item_cmp, numbers_of, full_keys, is_full, AreItems}
 use Rattle.face_list.specs.Tables.{cell_at}
-use Rattle.face_list.proofs.Sorting.{at_in, all_in, in_all, level}
 
 -- ---- an item in front
 
@@ -48,7 +46,7 @@ none_of cmp (i ∷ items) k f = other_key cmp i items k Greater (f i (inl refl))
 -- of items in order the first of which is behind the key, none has it
 pub none_behind : {K : Type 0} (cmp : K → K → Ordering) (o : IsTotalOrder cmp) (i : K × ℕ) (items : List (K × ℕ)) (k : K) → IsStrictlySortedBy (item_cmp cmp) (i ∷ items) → cmp i.0 k ≡ Greater → numbers_of cmp (i ∷ items) k ≡ []
 unfolding IsStrictlySortedBy
-none_behind {K} cmp o i items k s e = none_of cmp (i ∷ items) k (λ j m. elim m [ inl q ↦ subst (λ (v : K × ℕ). cmp v.0 k ≡ Greater) q e | inr n ↦ later j (keys_rise cmp i j (all_in (λ z. item_cmp cmp i z ≡ Less) items j s.0 n)) ])
+none_behind {K} cmp o i items k s e = none_of cmp (i ∷ items) k (λ j m. elim m [ inl q ↦ subst (λ (v : K × ℕ). cmp v.0 k ≡ Greater) q e | inr n ↦ later j (keys_rise cmp i j (each_by (λ z. item_cmp cmp i z ≡ Less) items s.0 j n)) ])
   where
     -- the key is before the first
     first : cmp k i.0 ≡ Less
@@ -76,7 +74,7 @@ numbers_rise {K} cmp o exact (i ∷ items) k s = by (numbers_rise cmp o exact it
     above e n m = (
         let f = mapped_from (λ (j : K × ℕ). j.1) n (filter (λ (j : K × ℕ). is_eq (cmp j.0 k)) items) m in
         let g = filtered_from (λ (j : K × ℕ). is_eq (cmp j.0 k)) items f.0 f.1 in
-        subst (λ v. nat_cmp i.1 v ≡ Less) f.2 (tied f.0 (exact f.0.0 k (equal (cmp f.0.0 k) g.1)) (keys_rise cmp i f.0 (all_in (λ z. item_cmp cmp i z ≡ Less) items f.0 s.0 g.0))))
+        subst (λ v. nat_cmp i.1 v ≡ Less) f.2 (tied f.0 (exact f.0.0 k (equal (cmp f.0.0 k) g.1)) (keys_rise cmp i f.0 (each_by (λ z. item_cmp cmp i z ≡ Less) items s.0 f.0 g.0))))
       where
         equal : (r : Ordering) → is_eq r ≡ true → r ≡ Equal
         equal Less h = cc
@@ -89,7 +87,7 @@ numbers_rise {K} cmp o exact (i ∷ items) k s = by (numbers_rise cmp o exact it
 
     by : IsStrictlySortedBy nat_cmp (numbers_of cmp items k) → (r : Ordering) → cmp i.0 k ≡ r → IsStrictlySortedBy nat_cmp (numbers_of cmp (i ∷ items) k)
     by t Less e = subst (IsStrictlySortedBy nat_cmp) (sym (other_key cmp i items k Less e refl)) t
-    by t Equal e = subst (IsStrictlySortedBy nat_cmp) (sym (same_key cmp i items k e)) (in_all (λ n. nat_cmp i.1 n ≡ Less) (numbers_of cmp items k) (above e), t)
+    by t Equal e = subst (IsStrictlySortedBy nat_cmp) (sym (same_key cmp i items k e)) (all_by (λ n. nat_cmp i.1 n ≡ Less) (numbers_of cmp items k) (above e), t)
     by t Greater e = subst (IsStrictlySortedBy nat_cmp) (sym (other_key cmp i items k Greater e refl)) t
 
 -- each stands beside the key

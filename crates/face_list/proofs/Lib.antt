@@ -5,3 +5,4 @@ pub mod OnePart
 pub mod FaceLists
 pub mod FaceLaws
 pub mod FullCells
+pub mod Cited

@@ -5,7 +5,7 @@ use Rattle.point_order.specs.Sets.{IsIn}
 use Rattle.del_laws.specs.Cells.{point, OneOf}
 use Rattle.del_laws.specs.Keys.{AreKeys}
 use Rattle.del_laws.specs.Vertices.{is_full_cell}
-use Rattle.del_laws.proofs.Sorting.{turn12, turn23, turn34}
+use Rattle.del_laws.proofs.Cited.{turn12, turn23, turn34}
 
 -- a Full cell that begins with a, and all points of a list
 pub record Begins (s q : List ℕ) (a : ℕ) : Type 0 where

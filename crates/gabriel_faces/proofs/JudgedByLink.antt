@@ -1,15 +1,14 @@
 -- A face is Gabriel in its link exactly where it is in the whole set.
 use Rattle.std.specs.Prelude.{◌≡◌, refl, ℕ, true, not, List, [], ◌∷◌}
 use Rattle.std.proofs.Common.{inl, inr, sym, subst}
+use Rattle.list_laws.proofs.Cited.{all_from, all_true, same_test}
 use Rattle.point_order.specs.declared.cell.Cell.TheVariants.{Full}
 use Rattle.point_order.specs.Sets.{IsIn, IsAscending}
 use Rattle.small_spheres.specs.Inside.{is_inside_edge, is_inside_triangle}
 use Rattle.del_laws.specs.Keys.{AreKeys}
 use Rattle.del_laws.specs.Vertices.{is_full_cell}
 use Rattle.del_laws.specs.EmptySpheres.{IsOffEdge, IsOffTriangle}
-use Rattle.del_laws.proofs.EmptySpheres.{edge_by_cells, triangle_by_cells}
-use Rattle.del_laws.proofs.Listed.{listed_is_cell}
-use Rattle.del_laws.proofs.Tests.{all_from, all_true, same_test}
+use Rattle.del_laws.proofs.Cited.{edge_by_cells, listed_is_cell, triangle_by_cells}
 use Rattle.gabriel_faces.specs.Gabriel.{is_empty_edge, is_empty_triangle}
 use Rattle.gabriel_faces.specs.Links.{IsFace, IsLink}
 use Rattle.gabriel_faces.specs.Laws.{JudgedByLink}

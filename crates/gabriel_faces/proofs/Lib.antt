@@ -3,3 +3,4 @@ pub mod Links
 pub mod Powers
 pub mod JudgedByLink
 pub mod Opposite
+pub mod Cited

@@ -1,35 +1,23 @@
 -- Faces of a complex, and their links: what is in a link.
-use Rattle.std.specs.Prelude.{◌≡◌, refl, ℕ, ◌<◌, true, not, List, [], ◌∷◌}
+use Rattle.std.specs.Prelude.{◌≡◌, refl, ℕ, true, not, List, [], ◌∷◌}
 use Rattle.std.specs.List.{flat_map, list_all}
-use Rattle.std.proofs.Common.{ap, inl, inr, sym, subst, arith}
-use Rattle.conv_laws.specs.Lists.{AreDistinct, IsIn as IsMember}
+use Rattle.std.proofs.Common.{ap, inl, inr, sym, subst}
+use Rattle.list_laws.proofs.Cited.{all_true, among_from, among_true, distinct_ascending, false_if, filtered_from, filtered_true, flat_from, in_flat, not_true, of_three}
 use Rattle.point_order.specs.declared.cell.Cell.TheVariants.{Full}
 use Rattle.point_order.specs.Sets.{IsIn, IsAscending, is_among, ascending}
 use Rattle.point_order.specs.Facets.{points_of}
 use Rattle.point_order.specs.Complex.{complex}
-use Rattle.point_order.proofs.SetLaws.{below-each, in-ascending_from}
+use Rattle.point_order.proofs.Cited.{in-ascending_from}
 use Rattle.del_laws.specs.Cells.{point, OneOf}
 use Rattle.del_laws.specs.Keys.{AreKeys}
 use Rattle.del_laws.specs.Vertices.{is_full_cell}
-use Rattle.del_laws.proofs.Lists.{of_three, from_member}
-use Rattle.del_laws.proofs.Listed.{in_left, in_right, from_append, part_ascending, part_inside, listed_is_cell, listed_inside}
-use Rattle.del_laws.proofs.Sorting.{turn23, apart12, apart14, apart23, apart24, apart34, test_is_listed}
-use Rattle.del_laws.proofs.Tests.{all_true, among_true, among_from, filtered_from, filtered_true, false_if, not_true}
+use Rattle.del_laws.proofs.Cited.{apart12, apart14, apart23, apart24, apart34, listed_inside, listed_is_cell, part_ascending, part_inside, test_is_listed, turn23}
 use Rattle.face_list.specs.Faces.{cells_with}
-use Rattle.face_list.proofs.FaceLaws.{listed_is_part}
+use Rattle.face_list.proofs.Cited.{listed_is_part}
 use Rattle.gabriel_faces.specs.Links.{link_of}
 use Rattle.gabriel_faces.specs.Laws.{ListedIsFace, LinkIsLink}
 
 -- ---- faces
-
--- no number is below itself
-not_less : (m n : ℕ) → m < n → n ≡ m → ⊥
-not_less m n l e = omega (arith, l, e)
-
--- an ascending list has no point twice
-distinct_of : (l : List ℕ) → IsAscending l → AreDistinct l
-distinct_of [] a = tt
-distinct_of (x ∷ l) a = (λ (m : IsMember x l). (let i : IsIn x l = from_member x l m in not_less x x (below-each x l a.0 a.1 x i) refl), distinct_of l a.1)
 
 -- the law ListedIsFace
 pub listed_is_face : ListedIsFace
@@ -39,7 +27,7 @@ listed_is_face s k p a m =
       cell = h.q;
       listed = h.listed;
       inside = part_inside k h.q p h.part;
-      distinct = distinct_of p (part_ascending k h.q p (ascends h.q h.listed) h.part);
+      distinct = distinct_ascending p (part_ascending k h.q p (ascends h.q h.listed) h.part);
     }
   where
     -- the points of a listed cell ascend
@@ -51,22 +39,6 @@ listed_is_face s k p a m =
 -- the law LinkIsLink
 pub link_is_link : LinkIsLink
 link_is_link s face = record { all = λ p m. m; only = λ p m. m }
-
--- what stands in f of a member stands in all that f gives
-in_flat : {X Y : Type 0} (f : X → List Y) (l : List X) (x : X) (y : Y) → IsIn x l → IsIn y (f x) → IsIn y (flat_map f l)
-in_flat f [] x y m i = absurd m
-in_flat f (z ∷ l) x y m i = elim m [
-  | inl e ↦ in_left y (f z) (flat_map f l) (subst (λ v. IsIn y (f v)) (sym e) i)
-  | inr r ↦ in_right y (f z) (flat_map f l) (in_flat f l x y r i)
-]
-
--- and nothing else does
-pub from_flat : {X Y : Type 0} (f : X → List Y) (l : List X) (y : Y) → IsIn y (flat_map f l) → (x : X) × IsIn x l × IsIn y (f x)
-from_flat f [] y m = absurd m
-from_flat f (z ∷ l) y m = elim (from_append y (f z) (flat_map f l) m) [
-  | inl i ↦ (z, inl refl, i)
-  | inr r ↦ (let t = from_flat f l y r in (t.0, inr t.1, t.2))
-]
 
 -- a point of a Full cell that has the face, and none of the face's, is in the link
 in_link : (s face : List ℕ) (w x y z e : ℕ) → IsAscending s → AreKeys s → is_full_cell s w x y z ≡ true → ((p : ℕ) → IsIn p face → OneOf p w x y z) → OneOf e w x y z → ¬ (IsIn e face) → IsIn e (link_of face (cells_with face (complex s)))
@@ -108,6 +80,6 @@ triangle_in_link s a b c x i k u =
 pub link_inside : (s face : List ℕ) (e : ℕ) → IsAscending s → IsIn e (link_of face (cells_with face (complex s))) → IsIn e s
 link_inside s face e a m =
     let i = filtered_from (λ p. not (is_among p face)) (flat_map points_of (cells_with face (complex s))) e m in
-    let t = from_flat points_of (cells_with face (complex s)) e i.0 in
+    let t = flat_from points_of (cells_with face (complex s)) e i.0 in
     let j = filtered_from (λ c. list_all (λ p. is_among p (points_of c)) face) (complex s) t.0 t.1 in
     listed_inside s t.0 (listed_is_cell s t.0 a j.0) e t.2

@@ -2,7 +2,8 @@
 use Rattle.std.specs.Prelude.{◌≡◌, refl, ℕ, suc, true, not, List, [], ◌∷◌, ◌⊎◌, length}
 use Rattle.std.specs.List.{flat_map, list_all}
 use Rattle.std.proofs.Common.{arith, inl, inr, sym, subst, ap, ◌∙◌}
-use Rattle.conv_laws.specs.Lists.{AreDistinct}
+use Rattle.list_laws.specs.Lists.{AreDistinct}
+use Rattle.list_laws.proofs.Cited.{all_from, among_from, among_true, filtered_from, flat_from, none_in, not_both, not_from}
 use Rattle.point_order.specs.declared.cell.Cell.{Cell}
 use Rattle.point_order.specs.declared.cell.Cell.TheVariants.{Full, Open}
 use Rattle.point_order.specs.Sets.{IsIn, IsAscending, is_among}
@@ -11,13 +12,12 @@ use Rattle.point_order.specs.Complex.{complex}
 use Rattle.del_laws.specs.Keys.{AreKeys}
 use Rattle.del_laws.specs.Vertices.{is_full_cell}
 use Rattle.del_laws.specs.Listed.{IsListed}
-use Rattle.del_laws.proofs.Listed.{listed_is_cell}
-use Rattle.del_laws.proofs.Tests.{all_from, among_from, among_true, filtered_from, not_both, not_from}
+use Rattle.del_laws.proofs.Cited.{listed_is_cell}
 use Rattle.face_list.specs.Faces.{cells_with}
 use Rattle.gabriel_faces.specs.Links.{link_of}
 use Rattle.gabriel_faces.specs.Laws.{OppositePoints}
 use Rattle.gabriel_faces.proofs.Corners.{with_one, with_two, with_three}
-use Rattle.gabriel_faces.proofs.Links.{triangle_in_link, from_flat}
+use Rattle.gabriel_faces.proofs.Links.{triangle_in_link}
 
 -- ---- lists without a member
 
@@ -40,11 +40,6 @@ without (x ∷ l) a m = elim m [
 -- what is a member and is not the one that is left out stays
 stays : (l : List ℕ) (a p : ℕ) (w : Without l a) → IsIn p l → ¬ (a ≡ p) → IsIn p w.rest
 stays l a p w i n = elim (w.all p i) [ inl e ↦ absurd (n e) | inr r ↦ r ]
-
--- a list of no length has no member
-none_in : (l : List ℕ) (p : ℕ) → length l ≡ 0 → IsIn p l → ⊥
-none_in [] p e m = m
-none_in (x ∷ l) p e m = cc
 
 -- four different points are not among three
 no_fourth : (u v w a b c p : ℕ) → IsIn a (u ∷ v ∷ w ∷ []) → IsIn b (u ∷ v ∷ w ∷ []) → IsIn c (u ∷ v ∷ w ∷ []) → IsIn p (u ∷ v ∷ w ∷ []) → ¬ (a ≡ b) → ¬ (a ≡ c) → ¬ (b ≡ c) → ¬ (a ≡ p) → ¬ (b ≡ p) → ¬ (c ≡ p) → ⊥
@@ -97,7 +92,7 @@ module _ (s : List ℕ) (a b c p : ℕ) (i : IsAscending s) (k : AreKeys s) (d :
   from_link m =
       let face = a ∷ b ∷ c ∷ [] in
       let j = filtered_from (λ x. not (is_among x face)) (flat_map points_of (cells_with face (complex s))) p m in
-      let t = from_flat points_of (cells_with face (complex s)) p j.0 in
+      let t = flat_from points_of (cells_with face (complex s)) p j.0 in
       let o = filtered_from (λ e. list_all (λ x. is_among x (points_of e)) face) (complex s) t.0 t.1 in
       of_cell t.0 (listed_is_cell s t.0 i o.0) (λ x y. among_from x (points_of t.0) (all_from (λ x. is_among x (points_of t.0)) face o.1 x y)) t.2
       (λ y. not_both (is_among p face) (among_true p face y) (not_from (is_among p face) j.1))

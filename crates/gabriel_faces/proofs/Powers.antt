@@ -1,12 +1,11 @@
 -- The powers of points to smallest spheres, as `small_spheres` and as `conv_laws` says them.
 use Rattle.std.specs.Prelude.{◌≡◌, refl, ℕ, true, not, pos, ◌<ℤ◌}
 use Rattle.std.proofs.Common.{subst, sym}
+use Rattle.list_laws.proofs.Cited.{clash, false_if, less_from, less_true, not_below, not_both, not_from, not_true}
 use Rattle.conv_laws.specs.Spheres.{edge_power as edge_power_at, triangle_power as triangle_power_at}
 use Rattle.point_order.specs.Orientation.{x_from, y_from, z_from, minor, normal_x, normal_y, normal_z, square_of_step, distance}
 use Rattle.small_spheres.specs.Inside.{dot, edge_power, is_inside_edge, square_of_normal, centre_x, centre_y, centre_z, triangle_power, is_inside_triangle}
 use Rattle.del_laws.specs.EmptySpheres.{place, IsOffEdge, IsOffTriangle}
-use Rattle.del_laws.proofs.Numbers.{clash, not_below}
-use Rattle.del_laws.proofs.Tests.{not_true, not_from, not_both, false_if, less_from, less_true}
 
 -- the power to the smallest sphere of an edge
 edge_power-is : (a b e : ℕ) → edge_power a b e ≡ edge_power_at (place a) (place b) (place e)

@@ -1,6 +1,6 @@
 -- The laws of faces and links.
 use Rattle.std.specs.Prelude.{◌≡◌, ℕ, true, List, [], ◌∷◌, ◌↔◌}
-use Rattle.conv_laws.specs.Lists.{AreDistinct}
+use Rattle.list_laws.specs.Lists.{AreDistinct}
 use Rattle.point_order.specs.Sets.{IsIn, IsAscending}
 use Rattle.point_order.specs.Complex.{complex}
 use Rattle.del_laws.specs.Keys.{AreKeys}

@@ -1,7 +1,7 @@
 -- The link of a face of the complex of a set: the other points of the cells that contain the face.
 use Rattle.std.specs.Prelude.{ℕ, not, List}
 use Rattle.std.specs.List.{filter, flat_map}
-use Rattle.conv_laws.specs.Lists.{AreDistinct}
+use Rattle.list_laws.specs.Lists.{AreDistinct}
 use Rattle.point_order.specs.declared.cell.Cell.{Cell}
 use Rattle.point_order.specs.declared.cell.Cell.TheVariants.{Full}
 use Rattle.point_order.specs.Facets.{points_of}

@@ -2,16 +2,16 @@
 use Rattle.std.specs.Prelude.{◌≡◌, ℕ, zero, suc, ◌+◌, ◌<◌, ◌≤◌, cond, List, [], ◌∷◌, ◌++◌, drop, None, Some, IsSome, length, slice_index_or}
 use Rattle.std.specs.List.{filter}
 use Rattle.std.proofs.Common.{refl, sym, ◌∙◌, ap, subst, arith}
+use Rattle.list_laws.proofs.Cited.{none_there, some_of}
 use mathlib.Core.Logic.{dite}
 use mathlib.Core.Option.{some}
 use native.Mathlib.Decide.{ℕ_discrete}
 use lib.ListN.{get_elem?}
 use Rattle.edit_history.specs.declared.history.Entry.{Entry}
-use Rattle.cell_store.specs.Buckets.{Content, bucket_at}
+use Rattle.cell_store.specs.Buckets.{BucketContent, bucket_at}
 use Rattle.claim_rule.specs.Boards.{BoardState, word_of, is_by, made_by}
 use Rattle.cell_store.specs.Shares.{share_at}
-use Rattle.claim_rule.proofs.Places.{none_there, some_of}
-use Rattle.claim_rule.proofs.Histories.{parts_by}
+use Rattle.claim_rule.proofs.Cited.{parts_by}
 use Rattle.grid_claims.specs.declared.view.Key.{Key}
 use Rattle.grid_claims.specs.declared.view.View.{View}
 use Rattle.grid_claims.specs.Faces.{buckets_of, opening_of, plain, board_of}
@@ -51,7 +51,7 @@ all_home k s h id b v r a all nothing inside =
     dite (ℕ_discrete (word_of old b) 0)
     (λ z.
     let c = some_of (bucket_at old.homes b) ((good.home b (omega arith)).0 z) in
-    slot_of s.homes b (share_at k.grid b h) (c.1 ∙ ap (λ (x : Content). Some x) (good.shares b c.0 c.1)))
+    slot_of s.homes b (share_at k.grid b h) (c.1 ∙ ap (λ (x : BucketContent). Some x) (good.shares b c.0 c.1)))
     (λ n.
     let o = good.away b (omega arith) n in
     let ok = good.passes o.view o.live in

@@ -10,7 +10,7 @@ use native.Mathlib.Decide.{ℕ_discrete}
 use lib.ListN.{get_elem?}
 use Rattle.atomic_table.specs.Table.{keeps, stepped}
 use Rattle.atomic_table.proofs.Lists.{at_set, at_last}
-use Rattle.conv_laws.specs.Lists.{AreDistinct}
+use Rattle.list_laws.specs.Lists.{AreDistinct}
 use Rattle.point_order.specs.Coordinates.{IsKey}
 use Rattle.point_order.specs.Sets.{IsIn}
 use Rattle.edit_history.specs.declared.history.Edit.{Edit}
@@ -22,11 +22,9 @@ use Rattle.claim_rule.specs.Boards.{BoardState, view_at, is_by, made_by, left_in
 use Rattle.claim_rule.specs.Good.{IsGood, StartsWith, AreSharesOf}
 use Rattle.claim_rule.specs.Events.{committed, entry_after, renewed_from}
 use Rattle.cell_store.specs.Touches.{HoldTouched}
-use Rattle.cell_store.proofs.ShareLaws.{stands_shows}
+use Rattle.cell_store.proofs.Cited.{stands_shows}
 use Rattle.claim_rule.specs.Boards.{in_hand_of}
-use Rattle.claim_rule.proofs.Places.{left_one}
-use Rattle.claim_rule.proofs.Histories.{length_more, starts_more, parts_by, by_parts}
-use Rattle.claim_rule.proofs.Commits.{commit_keeps, renewed_length, renewed_there, renewed_back}
+use Rattle.claim_rule.proofs.Cited.{by_parts, commit_keeps, left_one, length_more, parts_by, renewed_back, renewed_length, renewed_there, starts_more}
 use Rattle.grid_claims.specs.declared.view.Key.{Key}
 use Rattle.grid_claims.specs.declared.view.View.{View}
 use Rattle.grid_claims.specs.declared.view.Act.{Act as Deed}
@@ -36,9 +34,10 @@ use Rattle.grid_claims.specs.Trails.{in_hand, in_hand_after, AreStepsFrom, IsSte
 use Rattle.grid_claims.specs.Rule.{IsSeatInOrder, IsRule}
 use Rattle.grid_claims.specs.Plays.{Seated, commits, Committed, IsReady, HandStands, HandShows, entry_of}
 use Rattle.grid_claims.proofs.Boarded.{Table, Live, firsts, alone, shown, same_firsts, others_from, views_set}
-use Rattle.grid_claims.proofs.Seen.{passes_to}
+use Rattle.grid_claims.proofs.Seen.{passes_to, in_firsts}
 use Rattle.grid_claims.specs.declared.view.Child.{Child}
 use Rattle.std.proofs.lemmas.Bool.Decides.{nat_tests}
+use Rattle.list_laws.proofs.Cited.{in_both, rest_distinct}
 use Rattle.grid_claims.proofs.Trailed.{in_hand_snoc, steps_snoc}
 use Rattle.grid_claims.proofs.Claims.{IsAlone, below, on_board, hand_stands, Taken, live_all, live_one}
 
@@ -109,27 +108,9 @@ front (w ∷ words) x n e = refl
 
 -- ---- seats that differ
 
-firsts_append : (l m : List Live) → firsts (l ++ m) ≡ firsts l ++ firsts m
+pub firsts_append : (l m : List Live) → firsts (l ++ m) ≡ firsts l ++ firsts m
 firsts_append [] m = refl
 firsts_append (y ∷ l) m = ap (λ (n : List ℕ). y.first ∷ n) (firsts_append l m)
-
-in_firsts : (l : List Live) (v : Live) → IsIn v l → IsIn v.first (firsts l)
-in_firsts [] v i = i
-in_firsts (x ∷ l) v (inl e) = inl (ap (λ (u : Live). u.first) e)
-in_firsts (x ∷ l) v (inr i) = inr (in_firsts l v i)
-
-in_back : (l m : List ℕ) (x : ℕ) → IsIn x m → IsIn x (l ++ m)
-in_back [] m x i = i
-in_back (y ∷ l) m x i = inr (in_back l m x i)
-
-in_both : (l m : List ℕ) (x : ℕ) → AreDistinct (l ++ m) → IsIn x l → IsIn x m → ⊥
-in_both [] m x d i j = i
-in_both (y ∷ l) m x d (inl e) j = d.0 (subst (λ (k : ℕ). IsIn k (l ++ m)) (sym e) (in_back l m x j))
-in_both (y ∷ l) m x d (inr i) j = in_both l m x d.1 i j
-
-rest_distinct : (l m : List ℕ) → AreDistinct (l ++ m) → AreDistinct m
-rest_distinct [] m d = d
-rest_distinct (y ∷ l) m d = rest_distinct l m d.1
 
 -- passes of two seats have two numbers
 pub seats_differ : (count : ℕ) (views : List View) (i j : ℕ) (v u : View) (x y : Live) → i ≢ j → get_elem? views i ≡ some v → get_elem? views j ≡ some u → IsIn x (passes_of count v) → IsIn y (passes_of count u) → AreDistinct (firsts (passes_in count views)) → x.first ≢ y.first

@@ -1,14 +1,14 @@
 -- The claims of an insertion.
-use Rattle.std.specs.Prelude.{◌≡◌, ℕ, cond, ◌+◌, List, [], ◌∷◌, ◌++◌, None, IsSome}
-use Rattle.std.proofs.Common.{refl, sym, ◌∙◌, ap, subst, inl, inr, arith}
+use Rattle.std.specs.Prelude.{◌≡◌, ℕ, cond, ◌+◌, List, [], ◌∷◌, ◌++◌, IsSome}
+use Rattle.std.proofs.Common.{sym, ◌∙◌, ap, subst, inl, inr}
 use Rattle.atomic_table.specs.Seated.{TableId}
+use Rattle.list_laws.proofs.Cited.{among_from, false_if, is_there, one_below, snoc_new, some_of}
 use Rattle.point_order.specs.declared.cell.Cell.{Cell}
 use Rattle.point_order.specs.Complex.{complex}
 use Rattle.point_order.specs.Sets.{IsIn, is_among}
 use Rattle.edit_history.specs.declared.history.Edit.TheVariants.{Add}
 use Rattle.edit_history.specs.declared.history.Reply.TheVariants.{Inserted, Duplicate}
 use Rattle.edit_history.specs.Edits.{reply_to, changed}
-use Rattle.del_laws.proofs.Tests.{among_from, false_if}
 use Rattle.hole_laws.specs.Edits.{IsNew, GoesFrom}
 use Rattle.cell_store.specs.Buckets.{InHand, bucket_at}
 use Rattle.cell_store.specs.Meshes.{AreAmong}
@@ -20,16 +20,14 @@ use Rattle.cavity.specs.Fills.{IsFilled}
 use Rattle.cell_conflict.specs.Searching.{ShowsNew}
 use Rattle.cavity.specs.Turns as dig
 use Rattle.cavity.specs.declared.dig.DigTurn.{DigTurn}
-use Rattle.cavity.specs.declared.dig.DigTurn.TheVariants.{Done, Need}
-use Rattle.cell_store.proofs.ShareLaws.{solid_set}
-use Rattle.cell_conflict.proofs.Searching.{one_more}
-use Rattle.claim_rule.proofs.Places.{is_there, some_of}
+use Rattle.cavity.specs.declared.dig.DigTurn.TheVariants.{Done}
+use Rattle.cell_store.proofs.Cited.{solid_set}
 use Rattle.grid_claims.specs.declared.hands.Hands.{Hands}
 use Rattle.grid_claims.specs.declared.claiming.Plan.{Plan}
-use Rattle.grid_claims.specs.Claiming.{AreHands, ShowsOne, IsPlan}
+use Rattle.grid_claims.specs.Claiming.{IsPlan}
 use Rattle.grid_claims.specs.Looking.{HasMore, IsNewFor, IsDigFor, HasBucketOf, IsDigging, IsSearching}
 use Rattle.grid_claims.proofs.Ready.{insertion_is_ready}
-use Rattle.grid_claims.proofs.MoreHands.{more_begins, more_then, shown, still_held}
+use Rattle.grid_claims.proofs.MoreHands.{more_then, shown, still_held}
 use Rattle.grid_claims.proofs.Refilling.{has_hand}
 
 pub new_still : (id : TableId) (n p : ℕ) (old now : Hands) → HasMore id n old now → IsNewFor old.hold p → IsNewFor now.hold p
@@ -40,26 +38,19 @@ shows_new id n p old now m new = (m.one.0, m.one.1, new_still id n p old now m n
 
 -- ---- in turn
 
-pub searching_begins : (id : TableId) (n : ℕ) (w : Hands) → AreHands id n w → ShowsOne w.hold → IsSearching id n w w 0
-searching_begins id n w a one = record { more = more_begins id n w a one; below = λ x l. absurd (omega (arith, l)) }
-
 -- the bucket is in hand
 pub searching_over : (id : TableId) (n b : ℕ) (old now : Hands) → IsSearching id n old now b → IsSome (bucket_at now.hold.places b) → IsSearching id n old now (b + 1)
 searching_over id n b old now s here = record {
   more = s.more;
-  below = λ x l. elim (one_more b x l) [
+  below = λ x l. elim (one_below b x l) [
     | inl k ↦ s.below x k
     | inr e ↦ subst (λ (y : ℕ). IsSome (bucket_at now.hold.places y)) (sym e) here
   ];
 }
 
-snoc_in : (l : List ℕ) (b : ℕ) → IsIn b (l ++ b ∷ [])
-snoc_in [] b = inl refl
-snoc_in (x ∷ l) b = inr (snoc_in l b)
-
 -- what was asked for last is in hand
 pub asked_held : (id : TableId) (n b : ℕ) (now next : Hands) → HasMore id n now next → next.order.items ≡ now.order.items ++ b ∷ [] → IsSome (bucket_at next.hold.places b)
-asked_held id n b now next m order = (m.hands.carries.holds b).1 (subst (λ (l : List ℕ). IsIn b l) (sym order) (snoc_in now.order.items b))
+asked_held id n b now next m order = (m.hands.carries.holds b).1 (subst (λ (l : List ℕ). IsIn b l) (sym order) (snoc_new now.order.items b))
 
 pub still_there : (w w' : InHand) (b : ℕ) → AreAmong w w' → IsSome (bucket_at w.places b) → IsSome (bucket_at w'.places b)
 still_there w w' b a s =
@@ -76,25 +67,12 @@ searching_on id n b old now next s m order =
 
 -- ---- a dig
 
-pub dig_shows : (id : TableId) (n : ℕ) (old now : Hands) (before d : Digging) → IsDigging id n old now before d → dig.ShowsDig now.hold d
-dig_shows id n old now before d i = (i.more.one.0, i.more.one.1, i.digs i.more.one.0 i.more.one.1)
-
-pub digging_begins : (id : TableId) (n : ℕ) (w : Hands) (d : Digging) → AreHands id n w → ShowsOne w.hold → IsDigFor w.hold d → IsDigging id n w w d d
-digging_begins id n w d a one digs = record { more = more_begins id n w a one; digs = digs; point = refl }
-
 pub digging_goes_on : (id : TableId) (n : ℕ) (old now next : Hands) (before d d' : Digging) → IsDigging id n old now before d → HasMore id n now next → d'.point ≡ d.point → ((s : List ℕ) → Shows now.hold s → IsDigIn s d → IsDigIn s d') → IsDigging id n old next before d'
 digging_goes_on id n old now next before d d' i m point digs = record {
   more = more_then id n old now next i.more m;
   digs = λ s st. let st' = shown now.hold next.hold s m.among st in digs s st' (i.digs s st');
   point = point ∙ i.point;
 }
-
--- a bucket that is needed is not in hand
-pub needed_absent : (id : TableId) (n b : ℕ) (old now : Hands) (before d d' : Digging) (turn : DigTurn) → IsDigging id n old now before d → turn ≡ Need b
-    → ((s : List ℕ) → Shows now.hold s → IsDigIn s d → dig.TurnGives now.hold s d' turn) → bucket_at now.hold.places b ≡ None
-needed_absent id n b old now before d d' turn i is gives =
-    let g = subst (λ (t : DigTurn). dig.TurnGives now.hold i.more.one.0 d' t) is (gives i.more.one.0 i.more.one.1 (i.digs i.more.one.0 i.more.one.1)) in
-    g.absent
 
 pub all_done : (id : TableId) (n : ℕ) (old now : Hands) (before d d' : Digging) (turn : DigTurn) → IsDigging id n old now before d → turn ≡ Done
     → ((s : List ℕ) → Shows now.hold s → IsDigIn s d → dig.TurnGives now.hold s d' turn)
@@ -124,6 +102,6 @@ plan_inserted id n p old now d plan m new mine point reply done gone filled =
       key = (here m.one.0 m.one.1).key;
       change = λ s st. subst (λ (l : List ℕ). IsChange (complex s) (complex l) plan.gone.items plan.fresh.items) (sym (ap (changed s p) (inserted s p (here s st)))) (fills s st).change;
       gone = held;
-      fresh = Rattle.cavity.proofs.Filling.fresh_are_held m.one.0 p plan.gone.items plan.fresh.items now.hold (solid_set now.hold m.one.0 m.one.1) (here m.one.0 m.one.1) (fills m.one.0 m.one.1) held bucket;
+      fresh = Rattle.cavity.proofs.Cited.fresh_are_held m.one.0 p plan.gone.items plan.fresh.items now.hold (solid_set now.hold m.one.0 m.one.1) (here m.one.0 m.one.1) (fills m.one.0 m.one.1) held bucket;
       mine = bucket;
     }

@@ -4,21 +4,20 @@ use Rattle.std.proofs.Common.{refl, sym, ◌∙◌, ap, subst, arith}
 use Rattle.std.specs.Option.{option_map}
 use Rattle.std.proofs.lemmas.List.{append_assoc}
 use Rattle.atomic_table.specs.Seated.{TableId}
+use Rattle.list_laws.proofs.Cited.{none_or, same_there}
 use Rattle.edit_history.specs.declared.history.Edit.{Edit}
 use Rattle.edit_history.specs.declared.history.Entry.{Entry}
 use Rattle.edit_history.specs.declared.history.Reply.{Reply}
 use Rattle.edit_history.specs.Histories.{replay}
 use Rattle.point_order.specs.Sets.{IsIn}
-use Rattle.cell_store.specs.Buckets.{Content, InHand, bucket_at}
+use Rattle.cell_store.specs.Buckets.{BucketContent, InHand, bucket_at}
 use Rattle.cell_store.specs.Changes.{IsNext, Follows, IsSwapped, IsNoted}
-use Rattle.cell_store.proofs.NextLaws.{next_entry}
-use Rattle.cell_store.proofs.ShareLaws.{stands_shows, sound_of}
+use Rattle.cell_store.proofs.Cited.{next_entry, sound_of, stands_shows}
 use Rattle.claim_rule.specs.Boards.{in_hand_of}
 use Rattle.claim_rule.specs.Good.{AreSharesOf}
 use Rattle.cell_store.specs.Shares.{Stands, share_at}
 use Rattle.claim_rule.specs.Events.{renewed_from}
-use Rattle.claim_rule.proofs.Commits.{renewed_at}
-use Rattle.claim_rule.proofs.Places.{same_there}
+use Rattle.claim_rule.proofs.Cited.{brought, renewed_at}
 use Rattle.grid_claims.specs.declared.hands.Hands.{Hands}
 use Rattle.grid_claims.specs.declared.claiming.Plan.{Plan}
 use Rattle.grid_claims.specs.declared.view.Act.TheVariants.{Commit}
@@ -27,16 +26,11 @@ use Rattle.grid_claims.specs.Trails.{in_hand}
 use Rattle.grid_claims.specs.Passes.{Carries}
 use Rattle.grid_claims.specs.Plays.{Seated, Committed, entry_of}
 use Rattle.grid_claims.specs.Claiming.{AreHands, IsPlan, IsFinished, HasGivenBack, empty_places, releases_of}
-use Rattle.claim_rule.proofs.Brought.{brought}
 use Rattle.grid_claims.proofs.MoreHands.{all_empty, stands_in}
 use Rattle.grid_claims.proofs.Trailed.{in_hand_snoc}
 
-pub not_some : (o : Option Content) → (IsSome o → ⊥) → o ≡ None
-not_some None f = refl
-not_some (Some c) f = absurd (f refl)
-
-pub holds_nothing : (m : Seated) (places : List (Option Content)) → Carries m places [] → (b : ℕ) → bucket_at places b ≡ None
-holds_nothing m places k b = not_some (bucket_at places b) (λ s. (k.holds b).0 s)
+pub holds_nothing : (m : Seated) (places : List (Option BucketContent)) → Carries m places [] → (b : ℕ) → bucket_at places b ≡ None
+holds_nothing m places k b = none_or (bucket_at places b) (λ s. (k.holds b).0 s)
 
 pub hands_empty : (id : TableId) (n : ℕ) (w w' : Hands) → AreHands id n w → w'.place.table_id ≡ w.place.table_id → HasGivenBack w w' → Carries w'.place.me w'.hold.places [] → w'.order.items ≡ [] → w'.hold.grid ≡ w.hold.grid → length w'.hold.places ≡ length w.hold.places
     → vec_capacity w'.order ≡ vec_capacity w.order → w'.first ≡ w.first → AreHands id n w'
@@ -57,11 +51,11 @@ hands_empty id n w w' a table back k none grid wide capacity first =
       room = omega (arith, wide, capacity, room);
     }
 
-some_mapped : (f : Content → Content) (o : Option Content) → IsSome o → IsSome (option_map f o)
+some_mapped : (f : BucketContent → BucketContent) (o : Option BucketContent) → IsSome o → IsSome (option_map f o)
 some_mapped f None s = absurd (cc s)
 some_mapped f (Some c) s = refl
 
-mapped_some : (f : Content → Content) (o : Option Content) → IsSome (option_map f o) → IsSome o
+mapped_some : (f : BucketContent → BucketContent) (o : Option BucketContent) → IsSome (option_map f o) → IsSome o
 mapped_some f None s = absurd (cc s)
 mapped_some f (Some c) s = refl
 
@@ -81,7 +75,7 @@ hands_committed id n tag number edit reply w w' plan between a plan_is reply_is 
     } in
     let next : IsNext h e plan.gone.items plan.fresh.items = next_entry h e plan.gone.items plan.fresh.items (sound_of w.hold h st) plan_is.key follows in
     let note' : IsNoted e between w'.hold = subst (λ (x : ℕ). IsNoted (entry_of number x tag edit reply) between w'.hold) a.first note in
-    let shares : AreSharesOf w.place.me.0.grid h w.hold.places = subst (λ (l : List (Option Content)). AreSharesOf w.place.me.0.grid h l) places told.shares in
+    let shares : AreSharesOf w.place.me.0.grid h w.hold.places = subst (λ (l : List (Option BucketContent)). AreSharesOf w.place.me.0.grid h l) places told.shares in
     let now : w'.hold.places ≡ renewed_from w.place.me.0.grid (h ++ e ∷ []) 0 w.hold.places = brought w.place.me.0.grid h e plan.gone.items plan.fresh.items w.hold between w'.hold a.grid shares next swap note' in
     let g : ℕ = w.place.me.0.grid in
     let wide : length w'.hold.places ≡ length w.hold.places = note.count ∙ swap.count in
@@ -106,13 +100,13 @@ hands_committed id n tag number edit reply w w' plan between a plan_is reply_is 
           (λ s. subst (λ o. IsIn b o.items) (sym order) ((k.holds b).0 (mapped_some (λ c. share_at g (0 + b) (h ++ e ∷ [])) (bucket_at w.hold.places b) (same_there (bucket_at w'.hold.places b) (option_map (λ c. share_at g (0 + b) (h ++ e ∷ [])) (bucket_at w.hold.places b)) (here b) s)))),
           (λ i. same_there (option_map (λ c. share_at g (0 + b) (h ++ e ∷ [])) (bucket_at w.hold.places b)) (bucket_at w'.hold.places b) (sym (here b)) (some_mapped (λ c. share_at g (0 + b) (h ++ e ∷ [])) (bucket_at w.hold.places b) ((k.holds b).1 (subst (λ o. IsIn b o.items) order i)))),
         );
-        once = subst (λ o. Rattle.conv_laws.specs.Lists.AreDistinct o.items) (sym order) k.once;
+        once = subst (λ o. Rattle.list_laws.specs.Lists.AreDistinct o.items) (sym order) k.once;
       };
       count = ap (λ o. length o.items + empty_places w'.hold.places) order ∙ ap (λ (x : ℕ). length w.order.items + x) empty ∙ count ∙ sym wide;
       room = subst (λ o. length w'.hold.places ≤ vec_capacity o) (sym order) (omega (arith, wide, room));
     }
   where
-    same_empty : (g : ℕ) (h : List Entry) (i : ℕ) (l : List (Option Content)) → empty_places (renewed_from g h i l) ≡ empty_places l
+    same_empty : (g : ℕ) (h : List Entry) (i : ℕ) (l : List (Option BucketContent)) → empty_places (renewed_from g h i l) ≡ empty_places l
     same_empty g h i [] = refl
     same_empty g h i (None ∷ l) = ap (λ (x : ℕ). x + 1) (same_empty g h (i + 1) l)
     same_empty g h i (Some c ∷ l) = same_empty g h (i + 1) l
@@ -133,8 +127,8 @@ finished id n tag number edit reply w w' u plan a plan_is reply_is told order ba
       count = told.count;
       right = plan_is.ready.right (replay told.history) sh;
       exact = λ x b. (
-        (λ i. plan_is.ready.exact x (replay told.history) sh b (subst (λ (l : List (Option Content)). IsSome (bucket_at l b)) (sym a.carries.places_are) ((a.carries.holds b).1 i))),
-        (λ t. (a.carries.holds b).0 (subst (λ (l : List (Option Content)). IsSome (bucket_at l b)) a.carries.places_are (plan_is.ready.touched (replay told.history) sh b t))),
+        (λ i. plan_is.ready.exact x (replay told.history) sh b (subst (λ (l : List (Option BucketContent)). IsSome (bucket_at l b)) (sym a.carries.places_are) ((a.carries.holds b).1 i))),
+        (λ t. (a.carries.holds b).0 (subst (λ (l : List (Option BucketContent)). IsSome (bucket_at l b)) a.carries.places_are (plan_is.ready.touched (replay told.history) sh b t))),
       );
       view = back.view ∙ (λ i. record (told.view i) { held = u.hold.places; trail = (told.view i).trail ++ releases_of w'.order.items })
           ∙ (λ i. record v { held = u.hold.places; left = v.left - 1; seen = number + 1; made = v.made ++ entry_of number v.first tag edit (reply_is i) ∷ []; trail = tail i });

@@ -1,5 +1,5 @@
 -- A join keeps the rule.
-use Rattle.std.specs.Prelude.{◌≡◌, ◌≢◌, ◌⊎◌, ℕ, zero, suc, ◌+◌, ◌<◌, Bool, true, false, cond, leb, List, [], ◌∷◌, ◌++◌, map, Option, None, Some, length, slice_index_or, slice_set}
+use Rattle.std.specs.Prelude.{◌≡◌, ◌≢◌, ℕ, zero, suc, ◌+◌, ◌<◌, Bool, true, false, cond, leb, List, [], ◌∷◌, ◌++◌, map, Option, None, Some, length, slice_index_or, slice_set}
 use Rattle.std.specs.List.{range_with_len}
 use Rattle.std.specs.Option.{option_map_or}
 use Rattle.std.proofs.Common.{refl, sym, ◌∙◌, ap, subst, inl, inr, arith, get_or-set_other, get_or-set_same, length-set, ext_get_or}
@@ -10,14 +10,15 @@ use native.Mathlib.Decide.{ℕ_discrete}
 use lib.ListN.{get_elem?}
 use Rattle.atomic_table.specs.Table.{Joins}
 use Rattle.atomic_table.proofs.Lists.{at_set, set_else}
-use Rattle.conv_laws.specs.Lists.{AreDistinct}
+use Rattle.list_laws.specs.Lists.{AreDistinct}
+use Rattle.list_laws.proofs.Cited.{distinct_less}
 use Rattle.point_order.specs.Sets.{IsIn}
 use Rattle.edit_history.specs.declared.history.Entry.{Entry}
 use Rattle.cell_store.specs.Buckets.{bucket_at}
 use Rattle.claim_rule.specs.Boards.{BoardState, made_by}
 use Rattle.claim_rule.specs.Good.{IsGood, StartsWith}
 use Rattle.claim_rule.specs.Events.{joined, join_of}
-use Rattle.claim_rule.proofs.Parts.{join_keeps}
+use Rattle.claim_rule.proofs.Cited.{join_keeps}
 use Rattle.grid_claims.specs.declared.view.Key.{Key}
 use Rattle.grid_claims.specs.declared.view.View.{View}
 use Rattle.grid_claims.specs.Faces.{buckets_of, opening_of, plain, passes_of, passes_in, numbered, board_of}
@@ -25,45 +26,15 @@ use Rattle.cell_store.specs.Meshes.{by_number}
 use Rattle.grid_claims.specs.Lists.{longer}
 use Rattle.grid_claims.specs.Rule.{IsSeatInOrder, IsRule, Rule}
 use Rattle.grid_claims.specs.Plays.{joins, no_pass}
-use Rattle.grid_claims.proofs.Seen.{numbered_from, same_numbered, at_place, places_count}
+use Rattle.grid_claims.proofs.Seen.{numbered_from, same_numbered, at_place, places_count, in_firsts}
 use Rattle.grid_claims.proofs.Boarded.{Table, Live, firsts, alone, others_to, others_from, same_firsts, views_set}
-use Rattle.grid_claims.proofs.Handled.{Between, firsts_append}
+use Rattle.grid_claims.proofs.Handled.{Between}
 use Rattle.grid_claims.proofs.Claims.{IsAlone, below, on_board, live_all, live_one}
 use Rattle.grid_claims.proofs.Closing.{spent_in_order}
 use Rattle.grid_claims.proofs.United.{made_united}
+use Rattle.grid_claims.proofs.Commits.{firsts_append}
 
 -- ---- a seat without a pass
-
-none_of : (count : ℕ) → passes_of count no_pass ≡ []
-none_of count = refl
-
-in_back : (l m : List ℕ) (x : ℕ) → IsIn x (l ++ m) → IsIn x l ⊎ IsIn x m
-in_back [] m x i = inr i
-in_back (y ∷ l) m x (inl e) = inl (inl e)
-in_back (y ∷ l) m x (inr i) = elim (in_back l m x i) [
-  | inl j ↦ inl (inr j)
-  | inr j ↦ inr j
-]
-
-in_more : (l m : List ℕ) (y x : ℕ) → IsIn x (l ++ m) → IsIn x (l ++ y ∷ m)
-in_more [] m y x i = inr i
-in_more (z ∷ l) m y x (inl e) = inl e
-in_more (z ∷ l) m y x (inr i) = inr (in_more l m y x i)
-
-at_middle : (l m : List ℕ) (x : ℕ) → IsIn x (l ++ x ∷ m)
-at_middle [] m x = inl refl
-at_middle (z ∷ l) m x = inr (at_middle l m x)
-
-distinct_less : (l m : List ℕ) (x : ℕ) → AreDistinct (l ++ x ∷ m) → AreDistinct (l ++ m) × ¬ (IsIn x (l ++ m))
-distinct_less [] m x d = (d.1, d.0)
-distinct_less (y ∷ l) m x d =
-    let r = distinct_less l m x d.1 in (
-      ((λ i. d.0 (in_more l m x y i)), r.0),
-      (λ i. elim i [
-        | inl e ↦ d.0 (subst (λ (z : ℕ). IsIn z (l ++ x ∷ m)) (sym e) (at_middle l m x))
-        | inr j ↦ r.1 j
-      ]),
-    )
 
 one_less : (count : ℕ) (views : List View) (id : ℕ) (w : View) (x : ℕ) → get_elem? views id ≡ some w → firsts (passes_of count w) ≡ x ∷ [] → Between (firsts (passes_in count (slice_set views id no_pass))) (firsts (passes_in count views)) x
 one_less count [] id w x at e = absurd (some-ne-none w (sym at))
@@ -82,11 +53,6 @@ one_less count (y ∷ views) (suc id) w x at e =
       was = firsts_append (passes_of count y) (passes_in count (slice_set views id no_pass)) ∙ ap (λ (l : List ℕ). p ++ l) r.was ∙ sym (append_assoc p r.front r.back);
       is = firsts_append (passes_of count y) (passes_in count views) ∙ ap (λ (l : List ℕ). p ++ l) r.is ∙ sym (append_assoc p r.front (x ∷ r.back));
     }
-
-in_firsts : (l : List Live) (v : Live) → IsIn v l → IsIn v.first (firsts l)
-in_firsts [] v i = i
-in_firsts (x ∷ l) v (inl e) = inl (ap (λ (u : Live). u.first) e)
-in_firsts (x ∷ l) v (inr i) = inr (in_firsts l v i)
 
 none_shown : (n : ℕ) (l : List Live) → ¬ (IsIn n (firsts l)) → numbered n l ≡ None
 none_shown n l f = by (numbered n l) refl

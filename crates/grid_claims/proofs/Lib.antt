@@ -14,7 +14,6 @@ mod Asked
 mod United
 mod Joins
 mod Carrying
-mod Giving
 mod MoreHands
 mod Refilling
 mod Digging
@@ -27,3 +26,4 @@ mod Counted
 mod Showing
 pub mod Snapped
 mod Homecoming
+pub mod Cited

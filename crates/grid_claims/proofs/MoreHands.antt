@@ -5,12 +5,12 @@ use Rattle.std.proofs.lemmas.List.{append_assoc, append-nil, map-append, length-
 use mathlib.Core.Logic.{dite}
 use native.Mathlib.Decide.{ℕ_discrete}
 use Rattle.atomic_table.specs.Seated.{TableId}
+use Rattle.list_laws.proofs.Cited.{is_there, some_of}
 use Rattle.edit_history.specs.declared.history.Entry.{Entry}
-use Rattle.cell_store.specs.Buckets.{Content, InHand, bucket_at}
+use Rattle.cell_store.specs.Buckets.{BucketContent, InHand, bucket_at}
 use Rattle.cell_store.specs.Shares.{Stands, Shows}
 use Rattle.edit_history.specs.Histories.{replay}
-use Rattle.cell_store.proofs.ShareLaws.{stands_shows}
-use Rattle.cell_store.proofs.HandLaws.{fewer_show}
+use Rattle.cell_store.proofs.Cited.{fewer_show, stands_shows}
 use Rattle.claim_rule.specs.Boards.{in_hand_of}
 use Rattle.grid_claims.specs.declared.hands.Hands.{Hands}
 use Rattle.grid_claims.specs.declared.view.Act.{Act}
@@ -25,17 +25,16 @@ use Rattle.grid_claims.specs.declared.table.Refused.{Refused}
 use Rattle.grid_claims.specs.declared.table.Refused.TheVariants.{Spent, Busy, Memory}
 use Rattle.cell_store.specs.Grids.{bucket_of}
 use Rattle.cell_store.specs.Meshes.{AreAmong}
-use Rattle.claim_rule.proofs.Places.{is_there, some_of}
 use Rattle.grid_claims.proofs.Trailed.{in_hand_snoc}
 
-pub fewer_empty : (l : List (Option Content)) (b : ℕ) (c : Content) → bucket_at l b ≡ None → b < length l → empty_places (slice_set l b (Some c)) + 1 ≡ empty_places l
+pub fewer_empty : (l : List (Option BucketContent)) (b : ℕ) (c : BucketContent) → bucket_at l b ≡ None → b < length l → empty_places (slice_set l b (Some c)) + 1 ≡ empty_places l
 fewer_empty [] b c e h = absurd (omega arith)
 fewer_empty (None ∷ l) zero c e h = refl
 fewer_empty (Some x ∷ l) zero c e h = absurd (cc e)
 fewer_empty (None ∷ l) (suc b) c e h = let r = fewer_empty l b c e (omega arith) in omega arith
 fewer_empty (Some x ∷ l) (suc b) c e h = fewer_empty l b c e (omega arith)
 
-pub all_empty : (l : List (Option Content)) → ((b : ℕ) → bucket_at l b ≡ None) → empty_places l ≡ length l
+pub all_empty : (l : List (Option BucketContent)) → ((b : ℕ) → bucket_at l b ≡ None) → empty_places l ≡ length l
 all_empty [] f = refl
 all_empty (None ∷ l) f = let r = all_empty l (λ b. f (suc b)) in omega arith
 all_empty (Some x ∷ l) f = absurd (let e = f zero in cc e)
@@ -50,17 +49,17 @@ hands_room id n w b a lacks below =
     let room = a.room in
     omega (arith, some, count, room)
   where
-    some_empty : (l : List (Option Content)) (b : ℕ) → bucket_at l b ≡ None → b < length l → 0 < empty_places l
+    some_empty : (l : List (Option BucketContent)) (b : ℕ) → bucket_at l b ≡ None → b < length l → 0 < empty_places l
     some_empty [] b e h = absurd (omega arith)
     some_empty (None ∷ l) b e h = omega arith
     some_empty (Some x ∷ l) zero e h = absurd (cc e)
     some_empty (Some x ∷ l) (suc b) e h = some_empty l b e (omega arith)
 
 -- the hold after a claim
-pub put_in : (m m' : Seated) (places places' : List (Option Content)) (order order' : List ℕ) (b : ℕ) (c : Content) → Carries m places order → Carries m' places' order' → m'.0 ≡ claims m.0 b c → places' ≡ slice_set places b (Some c)
+pub put_in : (m m' : Seated) (places places' : List (Option BucketContent)) (order order' : List ℕ) (b : ℕ) (c : BucketContent) → Carries m places order → Carries m' places' order' → m'.0 ≡ claims m.0 b c → places' ≡ slice_set places b (Some c)
 put_in m m' places places' order order' b c k k' view = sym k'.places_are ∙ ap (λ (v : View). v.held) view ∙ ap (λ l. slice_set l b (Some c)) k.places_are
 
-pub hands_more : (id : TableId) (n : ℕ) (w w' : Hands) (b : ℕ) (c : Content) → AreHands id n w → bucket_at w.hold.places b ≡ None → b < length w.hold.places → w'.place.table_id ≡ w.place.table_id → w'.place.me.0 ≡ claims w.place.me.0 b c → w'.order.items ≡ w.order.items ++ b ∷ []
+pub hands_more : (id : TableId) (n : ℕ) (w w' : Hands) (b : ℕ) (c : BucketContent) → AreHands id n w → bucket_at w.hold.places b ≡ None → b < length w.hold.places → w'.place.table_id ≡ w.place.table_id → w'.place.me.0 ≡ claims w.place.me.0 b c → w'.order.items ≡ w.order.items ++ b ∷ []
     → Carries w'.place.me w'.hold.places w'.order.items → w'.hold.grid ≡ w.hold.grid → vec_capacity w'.order ≡ vec_capacity w.order → w'.first ≡ w.first → AreHands id n w'
 hands_more id n w w' b c a lacks below seat view order k grid capacity first =
     let put = put_in w.place.me w'.place.me w.hold.places w'.hold.places w.order.items w'.order.items b c a.carries k view in
@@ -84,7 +83,7 @@ hands_more id n w w' b c a lacks below seat view order k grid capacity first =
 
 pub stands_in : (id : TableId) (n : ℕ) (w : Hands) → AreHands id n w → (h : List Entry) → HandStands w.place.me.0 h → Stands w.hold h
 stands_in id n w a h st =
-    let r : Stands (in_hand_of w.hold.grid w.hold.places) h = subst (λ (t : ℕ × List (Option Content)). Stands (in_hand_of t.0 t.1) h) (λ i. (sym a.grid i, a.carries.places_are i)) st in
+    let r : Stands (in_hand_of w.hold.grid w.hold.places) h = subst (λ (t : ℕ × List (Option BucketContent)). Stands (in_hand_of t.0 t.1) h) (λ i. (sym a.grid i, a.carries.places_are i)) st in
     record { legal = r.legal; keys = r.keys; solid = r.solid; shares = r.shares }
 
 pub shows_in : (id : TableId) (n : ℕ) (w : Hands) → AreHands id n w → (h : List Entry) → HandStands w.place.me.0 h → Shows w.hold (replay h)
@@ -113,7 +112,7 @@ hands_missed id n w w' b word a seat me hold order capacity first =
       no_child = ap (λ (v : View). v.child) view ∙ a.no_child;
       first = first ∙ a.first ∙ sym (ap (λ (v : View). v.first) view);
       grid = ap (λ (x : InHand). x.grid) hold ∙ a.grid ∙ sym (ap (λ (v : View). v.grid) view);
-      carries = subst (λ (t : List (Option Content) × List ℕ). Carries w'.place.me t.0 t.1) (λ i. (sym places i, sym order i)) (record {
+      carries = subst (λ (t : List (Option BucketContent) × List ℕ). Carries w'.place.me t.0 t.1) (λ i. (sym places i, sym order i)) (record {
         places_are = ap (λ (v : View). v.held) view ∙ k.places_are;
         order_is = ap (λ (v : View). in_hand v.trail) view ∙ in_hand_snoc w.place.me.0.trail (Miss b word) ∙ k.order_is;
         slots = ap (λ (m : Seated). m.1) me ∙ k.slots;
@@ -125,15 +124,6 @@ hands_missed id n w w' b word a seat me hold order capacity first =
     }
 
 -- ---- one after another
-
-pub nothing_claimed : (id : TableId) (n : ℕ) (w : Hands) → AreHands id n w → HasClaimed w w []
-nothing_claimed id n w a =
-    let v : View = w.place.me.0 in
-    record {
-      more = [];
-      order = sym (append-nil w.order.items);
-      view = λ i. record v { held = a.carries.places_are i; trail = sym (append-nil v.trail) i };
-    }
 
 pub claimed_then : (w w' u : Hands) (steps : List Act) → HasClaimed w w' [] → HasClaimed w' u steps → HasClaimed w u steps
 claimed_then w w' u steps x y =
@@ -147,7 +137,7 @@ claimed_then w w' u steps x y =
       view = y.view ∙ (λ i. record (x.view i) { held = u.hold.places; trail = (x.view i).trail ++ (map Claim y.more ++ steps) }) ∙ (λ i. record v { held = u.hold.places; trail = joined i });
     }
 
-more_among : (w w' : Hands) (b : ℕ) (c : Content) → bucket_at w.hold.places b ≡ None → w'.hold.grid ≡ w.hold.grid → w'.hold.places ≡ slice_set w.hold.places b (Some c) → AreAmong w.hold w'.hold
+more_among : (w w' : Hands) (b : ℕ) (c : BucketContent) → bucket_at w.hold.places b ≡ None → w'.hold.grid ≡ w.hold.grid → w'.hold.places ≡ slice_set w.hold.places b (Some c) → AreAmong w.hold w'.hold
 more_among w w' b c lacks grid put = record {
   grid = sym grid;
   buckets = λ x u e. dite (ℕ_discrete x b)
@@ -155,7 +145,7 @@ more_among w w' b c lacks grid put = record {
       (λ n. ap (λ l. bucket_at l x) put ∙ get_or-set_other w.hold.places b x (Some c) None n ∙ e);
 }
 
-pub has_more : (id : TableId) (n : ℕ) (w w' : Hands) (b : ℕ) (c : Content) → AreHands id n w → AreHands id n w' → bucket_at w.hold.places b ≡ None → w'.place.me.0 ≡ claims w.place.me.0 b c → w'.order.items ≡ w.order.items ++ b ∷ [] → (h : List Entry) × HandStands w'.place.me.0 h → HasMore id n w w'
+pub has_more : (id : TableId) (n : ℕ) (w w' : Hands) (b : ℕ) (c : BucketContent) → AreHands id n w → AreHands id n w' → bucket_at w.hold.places b ≡ None → w'.place.me.0 ≡ claims w.place.me.0 b c → w'.order.items ≡ w.order.items ++ b ∷ [] → (h : List Entry) × HandStands w'.place.me.0 h → HasMore id n w w'
 has_more id n w w' b c a a' lacks view order st =
     let v : View = w.place.me.0 in
     let put = put_in w.place.me w'.place.me w.hold.places w'.hold.places w.order.items w'.order.items b c a.carries a'.carries view in
@@ -169,14 +159,6 @@ has_more id n w w' b c a a' lacks view order st =
       among = more_among w w' b c lacks (a'.grid ∙ ap (λ (u : View). u.grid) view ∙ sym a.grid) put;
       one = shows_one id n w' a' st;
     }
-
-pub more_begins : (id : TableId) (n : ℕ) (w : Hands) → AreHands id n w → ShowsOne w.hold → HasMore id n w w
-more_begins id n w a one = record {
-  hands = a;
-  claimed = nothing_claimed id n w a;
-  among = record { grid = refl; buckets = λ b c e. e };
-  one = one;
-}
 
 pub more_then : (id : TableId) (n : ℕ) (w w' u : Hands) → HasMore id n w w' → HasMore id n w' u → HasMore id n w u
 more_then id n w w' u x y = record {
@@ -193,16 +175,6 @@ pub still_held : (w w' : InHand) (p : ℕ) → AreAmong w w' → HasBucketOf w p
 still_held w w' p a s =
     let t = some_of (bucket_at w.places (bucket_of w.grid p)) s in
     subst (λ (g : ℕ). IsSome (bucket_at w'.places (bucket_of g p))) a.grid (is_there (bucket_at w'.places (bucket_of w.grid p)) t.0 (a.buckets (bucket_of w.grid p) t.0 t.1))
-
--- one place fewer is empty
-pub one_fewer : (id : TableId) (n : ℕ) (w w' : Hands) (b : ℕ) → AreHands id n w → AreHands id n w' → w'.order.items ≡ w.order.items ++ b ∷ [] → empty_places w'.hold.places < empty_places w.hold.places
-one_fewer id n w w' b a a' order =
-    let more : length w'.order.items ≡ length w.order.items + 1 = ap length order ∙ length_snoc w.order.items b in
-    let x = a.count in
-    let y = a'.count in
-    let u = a.places in
-    let v = a'.places in
-    omega (arith, more, x, y, u, v)
 
 -- no word of the pass's own
 pub others_still : (w w' : Hands) (steps : List Act) (why : Refused) → HasClaimed w w' steps → HasOthersWord w'.place.me.0 why → HasOthersWord w.place.me.0 why

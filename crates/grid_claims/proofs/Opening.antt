@@ -6,19 +6,18 @@ use Rattle.std.proofs.lemmas.List.{length-replicate, append-nil}
 use mathlib.Core.Option.{some, some-injective, some-ne-none}
 use lib.ListN.{get_elem?}
 use Rattle.atomic_table.specs.Table.{opening}
-use Rattle.conv_laws.specs.Lists.{AreDistinct}
+use Rattle.list_laws.specs.Lists.{AreDistinct}
+use Rattle.list_laws.proofs.Cited.{none_at, none_there}
 use Rattle.point_order.specs.Solid.{is_solid}
 use Rattle.edit_history.specs.declared.history.Entry.{Entry}
 use Rattle.edit_history.specs.Histories.{replay, IsLegal}
 use Rattle.del_laws.specs.Keys.{AreKeys}
 use Rattle.cell_store.specs.Grids.{is_grid_size}
-use Rattle.cell_store.specs.Buckets.{Content, bucket_at}
+use Rattle.cell_store.specs.Buckets.{BucketContent, bucket_at}
 use Rattle.claim_rule.specs.Boards.{BoardState, is_by, made_by}
 use Rattle.claim_rule.specs.Good.{IsGood}
 use Rattle.claim_rule.specs.Opening.{shares_from, opening_board}
-use Rattle.claim_rule.proofs.Places.{none_at, none_there}
-use Rattle.claim_rule.proofs.Histories.{dropped_all}
-use Rattle.claim_rule.proofs.Opening.{opening_is_good}
+use Rattle.claim_rule.proofs.Cited.{dropped_all, opening_is_good}
 use Rattle.grid_claims.specs.declared.view.Key.{Key}
 use Rattle.grid_claims.specs.declared.view.View.{View}
 use Rattle.grid_claims.specs.Faces.{buckets_of, opening_of, plain, passes_of, passes_in, numbered, at_home, board_of}
@@ -28,12 +27,12 @@ use Rattle.grid_claims.proofs.Boarded.{Table, Live, firsts, alone}
 use Rattle.grid_claims.proofs.Claims.{live_all}
 use Rattle.grid_claims.proofs.Divides.{empty_hand, empty_once}
 
-homes_are : (slots : List (Option Content)) → map at_home (map some slots) ≡ slots
+homes_are : (slots : List (Option BucketContent)) → map at_home (map some slots) ≡ slots
 homes_are [] = refl
-homes_are (o ∷ slots) = ap (λ (l : List (Option Content)). o ∷ l) (homes_are slots)
+homes_are (o ∷ slots) = ap (λ (l : List (Option BucketContent)). o ∷ l) (homes_are slots)
 
 -- Words, slots and the first pass of a table for a mesh of this history: the ticket counts it, and every bucket is at home with its share.
-pub starts : (k : Key) (h : List Entry) (allowance : ℕ) (slots : List (Option Content)) → opening_of k ≡ h → k.most ≡ length h + allowance → is_grid_size k.grid ≡ true → 0 < k.parts → k.parts ≤ 64 → length h + allowance ≤ 2 ^ 32
+pub starts : (k : Key) (h : List Entry) (allowance : ℕ) (slots : List (Option BucketContent)) → opening_of k ≡ h → k.most ≡ length h + allowance → is_grid_size k.grid ≡ true → 0 < k.parts → k.parts ≤ 64 → length h + allowance ≤ 2 ^ 32
     → IsLegal h → AreKeys (replay h) → is_solid (replay h) ≡ true → slots ≡ shares_from k.grid h 0 (buckets_of k)
     → IsRule k (opening (length h ∷ replicate (buckets_of k) 0) slots (opening_view k)) h
 starts k h allowance slots is most size some_part few fits legal keys solid all_shares =

@@ -1,9 +1,8 @@
 -- Plans that change no cell, and plans with room.
-
--- what the test says
-use Rattle.std.specs.Prelude.{◌≡◌, ℕ, Bool, true, false, List, [], ◌∷◌, ◌++◌, Result, Ok, Err, OnOk, IsSome}
-use Rattle.std.proofs.Common.{refl, sym, ◌∙◌, ap, subst, inl, inr}
+use Rattle.std.specs.Prelude.{◌≡◌, ℕ, Bool, true, false, List, [], Result, Ok, Err, OnOk}
+use Rattle.std.proofs.Common.{sym, ◌∙◌, ap, subst}
 use Rattle.atomic_table.specs.Seated.{TableId}
+use Rattle.list_laws.proofs.Cited.{among_from, among_true}
 use Rattle.point_order.specs.declared.cell.Cell.{Cell}
 use Rattle.point_order.specs.Complex.{complex}
 use Rattle.point_order.specs.Coordinates.{IsKey}
@@ -13,9 +12,8 @@ use Rattle.edit_history.specs.declared.history.Edit.TheVariants.{Add, Take}
 use Rattle.edit_history.specs.declared.history.Reply.{Reply}
 use Rattle.edit_history.specs.declared.history.Reply.TheVariants.{Duplicate, Missing}
 use Rattle.edit_history.specs.Edits.{point_of, reply_to, changed, after}
-use Rattle.del_laws.proofs.Tests.{among_true, among_from}
-use Rattle.cell_store.specs.Buckets.{InHand, Room, bucket_at}
-use Rattle.cell_store.specs.Grids.{bucket_of}
+use Rattle.edit_history.proofs.Cited.{duplicate, missing}
+use Rattle.cell_store.specs.Buckets.{InHand, Room}
 use Rattle.cell_store.specs.Changes.{IsChange}
 use Rattle.cell_store.specs.Shares.{Shows}
 use Rattle.grid_claims.specs.declared.hands.Hands.{Hands}
@@ -23,7 +21,7 @@ use Rattle.grid_claims.specs.declared.claiming.Plan.{Plan}
 use Rattle.grid_claims.specs.declared.table.Refused.{Refused}
 use Rattle.grid_claims.specs.declared.view.View.{View}
 use Rattle.grid_claims.specs.Claiming.{AreHands, IsPlan}
-use Rattle.grid_claims.specs.Looking.{HasMore, HoldsJust, IsThereFor, IsNewFor, OnlyTouched}
+use Rattle.grid_claims.specs.Looking.{HasMore, HoldsJust, IsThereFor, IsNewFor}
 use Rattle.grid_claims.specs.Plays.{IsReady}
 use Rattle.grid_claims.proofs.Ready.{duplicate_is_ready, missing_is_ready}
 use Rattle.grid_claims.proofs.MoreHands.{more_then}
@@ -37,12 +35,6 @@ tells_there hold p there t e s st = among_from p s (sym (t s st) ∙ e)
 
 pub tells_new : (hold : InHand) (p : ℕ) (there : Bool) → IsKey p → TellsWhether hold p there → there ≡ false → IsNewFor hold p
 tells_new hold p there key t e s st = record { key = key; absent = λ i. (let a = among_true p s i in let b = sym (t s st) ∙ e in cc (a, b)) }
-
-duplicate : (s : List ℕ) (p : ℕ) → is_among p s ≡ true → reply_to s (Add p) ≡ Duplicate
-duplicate s p e = ap (λ b. Rattle.std.specs.Prelude.cond b Duplicate Reply.Inserted) e
-
-missing : (s : List ℕ) (p : ℕ) → is_among p s ≡ false → reply_to s (Take p) ≡ Missing
-missing s p e = ap (λ b. Rattle.std.specs.Prelude.cond b (Rattle.std.specs.Prelude.cond (Rattle.point_order.specs.Solid.is_solid (Rattle.point_order.specs.Sets.without_point p s)) Reply.Removed Reply.Flat) Missing) e
 
 -- a plan without cells
 quiet_plan : (id : TableId) (n : ℕ) (w : Hands) (edit : Edit) (plan : Plan) → AreHands id n w → HoldsJust w.hold (point_of edit) → IsKey (point_of edit) → plan.gone.items ≡ [] → plan.fresh.items ≡ []
@@ -82,17 +74,3 @@ plan_with_room v hold new r edit plan k e = subst (λ (x : InHand). IsPlan v x e
 pub more_on_ok : (id : TableId) (n : ℕ) (w w' u : Hands) (r : Result Plan Refused) → HasMore id n w w' → OnOk r (HasMore id n w' u) → OnOk r (HasMore id n w u)
 more_on_ok id n w w' u (Ok x) m k = more_then id n w w' u m k
 more_on_ok id n w w' u (Err x) m k = tt
-
-home_only : (l : List ℕ) (order : List ℕ) (b x : ℕ) → order ≡ [] → l ≡ order ++ b ∷ [] → IsIn x l → x ≡ b
-home_only l order b x none e i = by (subst (λ (m : List ℕ). IsIn x m) (e ∙ ap (λ (m : List ℕ). m ++ b ∷ []) none) i)
-  where
-    by : IsIn x (b ∷ []) → x ≡ b
-    by (inl q) = sym q
-    by (inr q) = absurd q
-
-pub only_home : (id : TableId) (n p b : ℕ) (w w' : Hands) → AreHands id n w' → w.order.items ≡ [] → w'.order.items ≡ w.order.items ++ b ∷ [] → b ≡ bucket_of w'.hold.grid p → IsSome (bucket_at w'.hold.places b) → HoldsJust w'.hold p
-only_home id n p b w w' a none order is here =
-    (subst (λ (x : ℕ). IsSome (bucket_at w'.hold.places x)) is here, (λ x s. home_only w'.order.items w.order.items b x none order ((a.carries.holds x).0 s) ∙ is))
-
-pub only_touched : (hold : InHand) (p : ℕ) → HoldsJust hold p → OnlyTouched hold p
-only_touched hold p just s st x held = record { point = p; reached = inl refl; number = just.1 x held }

@@ -1,18 +1,16 @@
 -- What digs and refills say is what a commit needs.
-
--- the hold has what the view says
 use Rattle.std.specs.Prelude.{◌≡◌, ℕ, cond, List, Option, None, Some, IsSome}
 use Rattle.std.proofs.Common.{refl, sym, ◌∙◌, ap, subst, inl, inr}
+use Rattle.list_laws.proofs.Cited.{among_from, among_true, false_if}
 use Rattle.point_order.specs.Sets.{IsIn, is_among, without_point}
 use Rattle.point_order.specs.Solid.{is_solid}
 use Rattle.edit_history.specs.declared.history.Edit.TheVariants.{Add, Take}
 use Rattle.edit_history.specs.declared.history.Reply.{Reply}
 use Rattle.edit_history.specs.declared.history.Reply.TheVariants.{Inserted, Duplicate, Removed, Missing, Flat}
 use Rattle.edit_history.specs.Edits.{reply_to}
-use Rattle.del_laws.proofs.Tests.{among_from, among_true, false_if}
 use Rattle.hole_laws.specs.Edits.{IsNew}
 use Rattle.cell_store.specs.Grids.{bucket_of}
-use Rattle.cell_store.specs.Buckets.{Content, InHand, bucket_at}
+use Rattle.cell_store.specs.Buckets.{BucketContent, InHand, bucket_at}
 use Rattle.cell_store.specs.Shares.{Shows}
 use Rattle.cavity.specs.Turns as dig
 use Rattle.vertex_removal.specs.Turns as refill
@@ -27,10 +25,10 @@ pub record HasHand (hold : InHand) (v : View) : Type 0 where
 
 as_hold : (hold : InHand) (v : View) (s : List ℕ) → HasHand hold v → HandShows v s → Shows hold s
 as_hold hold v s is st =
-    let r : Shows (in_hand_of hold.grid hold.places) s = subst (λ (t : ℕ × List (Option Content)). Shows (in_hand_of t.0 t.1) s) (λ i. (is.grid i, is.places i)) st in
+    let r : Shows (in_hand_of hold.grid hold.places) s = subst (λ (t : ℕ × List (Option BucketContent)). Shows (in_hand_of t.0 t.1) s) (λ i. (is.grid i, is.places i)) st in
     record { ascending = r.ascending; keys = r.keys; solid = r.solid; sights = r.sights }
 
-there_or : (o : Option Content) → (o ≡ None → ⊥) → IsSome o
+there_or : (o : Option BucketContent) → (o ≡ None → ⊥) → IsSome o
 there_or None f = absurd (f refl)
 there_or (Some c) f = refl
 
@@ -42,7 +40,7 @@ insertion_is_ready hold v p is mine done = record {
   touched = λ s st b t.
       let k = done s (as_hold hold v s is st) in
       let number : b ≡ bucket_of hold.grid t.point = t.number ∙ ap (λ (g : ℕ). bucket_of g t.point) is.grid in
-      subst (λ (l : List (Option Content)). IsSome (bucket_at l b)) (sym is.places)
+      subst (λ (l : List (Option BucketContent)). IsSome (bucket_at l b)) (sym is.places)
       (elim t.reached [
         | inl e ↦ subst (λ (x : ℕ). IsSome (bucket_at hold.places x)) (ap (bucket_of hold.grid) (sym e) ∙ sym number) mine
         | inr r ↦ there_or (bucket_at hold.places b) (λ no_one. k.1 b record { absent = no_one; cell = r.1.q; goes = r.1.goes; point = t.point; has = r.1.has; number = number })
@@ -58,14 +56,14 @@ removal_is_ready hold v p reply is mine done others = record {
   touched = λ s st b t.
       let k = done s (as_hold hold v s is st) in
       let number : b ≡ bucket_of hold.grid t.point = t.number ∙ ap (λ (g : ℕ). bucket_of g t.point) is.grid in
-      subst (λ (l : List (Option Content)). IsSome (bucket_at l b)) (sym is.places)
+      subst (λ (l : List (Option BucketContent)). IsSome (bucket_at l b)) (sym is.places)
       (elim t.reached [
         | inl e ↦ subst (λ (x : ℕ). IsSome (bucket_at hold.places x)) (ap (bucket_of hold.grid) (sym e) ∙ sym number) mine
         | inr r ↦ there_or (bucket_at hold.places b) (λ no_one. k.1 b record { absent = no_one; cell = r.1.q; listed = r.1.listed; has_v = r.1.has_p; point = t.point; has = r.1.has_e; number = number })
       ]);
   exact = λ x s st.
       let k = others s (as_hold hold v s is st) in
-      subst (λ (t : ℕ × List (Option Content)). HoldNoOther t.0 s (Take p) t.1) (λ i. (sym is.grid i, sym is.places i)) k;
+      subst (λ (t : ℕ × List (Option BucketContent)). HoldNoOther t.0 s (Take p) t.1) (λ i. (sym is.grid i, sym is.places i)) k;
 }
 
 -- the buckets in hand are just that of a point
@@ -78,7 +76,7 @@ duplicate_is_ready hold v p is just there = record {
   right = λ s st. sym (ap (λ t. cond t Duplicate Inserted) (among_true p s (there s (as_hold hold v s is st))));
   touched = λ s st b t.
       let number : b ≡ bucket_of hold.grid t.point = t.number ∙ ap (λ (g : ℕ). bucket_of g t.point) is.grid in
-      subst (λ (l : List (Option Content)). IsSome (bucket_at l b)) (sym is.places)
+      subst (λ (l : List (Option BucketContent)). IsSome (bucket_at l b)) (sym is.places)
       (elim t.reached [
         | inl e ↦ subst (λ (x : ℕ). IsSome (bucket_at hold.places x)) (ap (bucket_of hold.grid) (sym e) ∙ sym number) just.0
         | inr r ↦ absurd (r.0 (there s (as_hold hold v s is st)))
@@ -86,7 +84,7 @@ duplicate_is_ready hold v p is just there = record {
   exact = λ x s st b t. record {
     point = p;
     reached = inl refl;
-    number = just.1 b (subst (λ (l : List (Option Content)). IsSome (bucket_at l b)) is.places t) ∙ ap (λ (g : ℕ). bucket_of g p) (sym is.grid);
+    number = just.1 b (subst (λ (l : List (Option BucketContent)). IsSome (bucket_at l b)) is.places t) ∙ ap (λ (g : ℕ). bucket_of g p) (sym is.grid);
   };
 }
 
@@ -96,7 +94,7 @@ missing_is_ready hold v p is just lacks = record {
   right = λ s st. sym (ap (λ t. cond t (cond (is_solid (without_point p s)) Removed Flat) Missing) (false_if (is_among p s) (λ t. lacks s (as_hold hold v s is st) (among_from p s t))));
   touched = λ s st b t.
       let number : b ≡ bucket_of hold.grid t.point = t.number ∙ ap (λ (g : ℕ). bucket_of g t.point) is.grid in
-      subst (λ (l : List (Option Content)). IsSome (bucket_at l b)) (sym is.places)
+      subst (λ (l : List (Option BucketContent)). IsSome (bucket_at l b)) (sym is.places)
       (elim t.reached [
         | inl e ↦ subst (λ (x : ℕ). IsSome (bucket_at hold.places x)) (ap (bucket_of hold.grid) (sym e) ∙ sym number) just.0
         | inr r ↦ absurd (lacks s (as_hold hold v s is st) r.0)
@@ -104,6 +102,6 @@ missing_is_ready hold v p is just lacks = record {
   exact = λ x s st b t. record {
     point = p;
     reached = inl refl;
-    number = just.1 b (subst (λ (l : List (Option Content)). IsSome (bucket_at l b)) is.places t) ∙ ap (λ (g : ℕ). bucket_of g p) (sym is.grid);
+    number = just.1 b (subst (λ (l : List (Option BucketContent)). IsSome (bucket_at l b)) is.places t) ∙ ap (λ (g : ℕ). bucket_of g p) (sym is.grid);
   };
 }

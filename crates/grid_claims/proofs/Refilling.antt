@@ -2,6 +2,7 @@
 use Rattle.std.specs.Prelude.{◌≡◌, ℕ, true, false, cond, List, [], ◌∷◌, ◌++◌}
 use Rattle.std.proofs.Common.{refl, sym, ◌∙◌, ap, subst, inl, inr}
 use Rattle.atomic_table.specs.Seated.{TableId}
+use Rattle.list_laws.proofs.Cited.{among_true, in_snoc}
 use Rattle.point_order.specs.declared.cell.Cell.{Cell}
 use Rattle.point_order.specs.Complex.{complex}
 use Rattle.point_order.specs.Coordinates.{IsKey}
@@ -12,7 +13,6 @@ use Rattle.edit_history.specs.declared.history.Edit.TheVariants.{Take}
 use Rattle.edit_history.specs.declared.history.Reply.{Reply}
 use Rattle.edit_history.specs.declared.history.Reply.TheVariants.{Removed, Flat, Missing}
 use Rattle.edit_history.specs.Edits.{reply_to, after, changed}
-use Rattle.del_laws.proofs.Tests.{among_true}
 use Rattle.cell_store.specs.Buckets.{InHand}
 use Rattle.cell_store.specs.Changes.{IsChange}
 use Rattle.cell_store.specs.Ready.{AreHeld}
@@ -26,14 +26,10 @@ use Rattle.cavity.specs.declared.fill_hole.Fresh.{Fresh}
 use Rattle.cell_store.specs.Touches.{IsTouched}
 use Rattle.grid_claims.specs.declared.hands.Hands.{Hands}
 use Rattle.grid_claims.specs.declared.claiming.Plan.{Plan}
-use Rattle.grid_claims.specs.Claiming.{AreHands, ShowsOne, IsPlan}
-use Rattle.grid_claims.specs.Looking.{HasMore, IsThereFor, OnlyTouched, HasBucketOf, IsRefilling}
+use Rattle.grid_claims.specs.Claiming.{AreHands, IsPlan}
+use Rattle.grid_claims.specs.Looking.{HasMore, IsThereFor, HasBucketOf, IsRefilling}
 use Rattle.grid_claims.proofs.Ready.{HasHand, removal_is_ready}
-use Rattle.grid_claims.proofs.Trailed.{in_snoc}
-use Rattle.grid_claims.proofs.MoreHands.{more_begins, more_then, shown, still_held}
-
-pub refilling_begins : (id : TableId) (n p : ℕ) (w : Hands) → AreHands id n w → ShowsOne w.hold → OnlyTouched w.hold p → IsRefilling id n p w w
-refilling_begins id n p w a one only = record { more = more_begins id n w a one; only = only }
+use Rattle.grid_claims.proofs.MoreHands.{more_then, shown, still_held}
 
 pub there_still : (id : TableId) (n p : ℕ) (old now : Hands) → HasMore id n old now → IsThereFor old.hold p → IsThereFor now.hold p
 there_still id n p old now m there s st = there s (shown old.hold now.hold s m.among st)

@@ -2,6 +2,7 @@
 use Rattle.std.specs.Prelude.{◌≡◌, ℕ, ◌+◌, ◌-◌, ◌*◌, ◌^◌, ◌<◌, ◌≤◌, [], None, length, replicate, vec_capacity}
 use Rattle.std.proofs.Common.{refl, sym, ◌∙◌, ap, subst, arith}
 use Rattle.std.proofs.lemmas.List.{length-replicate}
+use Rattle.list_laws.proofs.Cited.{none_at}
 use Rattle.cell_store.specs.Buckets.{bucket_at}
 use Rattle.grid_claims.specs.declared.hands.Hands.{Hands}
 use Rattle.grid_claims.specs.declared.view.Act.TheVariants.{Look}
@@ -10,7 +11,6 @@ use Rattle.grid_claims.specs.declared.view.View.{View}
 use Rattle.grid_claims.specs.Faces.{buckets_of, opening_of}
 use Rattle.grid_claims.specs.Rule.{opening_view}
 use Rattle.grid_claims.specs.Trails.{in_hand}
-use Rattle.claim_rule.proofs.Places.{none_at}
 use Rattle.grid_claims.specs.Passes.{standing}
 use Rattle.grid_claims.specs.Plays.{Seated, looks, splits, without_child, child_of}
 use Rattle.grid_claims.specs.Tries.{IsSplit}

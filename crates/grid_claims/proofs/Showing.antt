@@ -2,17 +2,16 @@
 use Rattle.std.specs.Prelude.{◌≡◌, ℕ, ◌+◌, ◌*◌, ◌<◌, true, List, [], ◌∷◌, ◌++◌, length, vec_capacity, Option, None}
 use Rattle.std.specs.List.{range_with_len}
 use Rattle.std.proofs.Common.{sym, ◌∙◌, ap, subst, arith}
-use Rattle.std.proofs.lemmas.List.{append_assoc}
 use Rattle.atomic_table.specs.Seated.{TableId}
 use Rattle.atomic_table.specs.Table.{Allows}
+use Rattle.list_laws.proofs.Cited.{counted_below, counted_on, none_or}
 use Rattle.point_order.specs.Sets.{IsIn}
 use Rattle.edit_history.specs.declared.history.Entry.{Entry}
-use Rattle.cell_store.specs.Buckets.{Content, InHand, bucket_at}
+use Rattle.cell_store.specs.Buckets.{BucketContent, InHand, bucket_at}
 use Rattle.cell_store.specs.Grids.{is_grid_size}
 use Rattle.cell_store.specs.Meshes.{StandsForSome}
-use Rattle.cell_store.proofs.GridLaws.{bucket-below}
+use Rattle.cell_stars.proofs.Cited.{bucket-below}
 use Rattle.grid_claims.specs.declared.hands.Hands.{Hands}
-use Rattle.grid_claims.specs.declared.table.Refused.{Refused}
 use Rattle.grid_claims.specs.declared.view.Act.TheVariants.{Look}
 use Rattle.grid_claims.specs.declared.view.Key.{Key}
 use Rattle.grid_claims.specs.declared.view.View.{View}
@@ -20,13 +19,12 @@ use Rattle.grid_claims.specs.Rule.{Rule}
 use Rattle.grid_claims.specs.Trails.{in_hand}
 use Rattle.grid_claims.specs.Passes.{Carries}
 use Rattle.grid_claims.specs.Plays.{Seated, HandStands, Shown}
-use Rattle.grid_claims.specs.Claiming.{empty_places, AreHands, HasClaimed, HasStopped, HasGivenBack, releases_of, last_step}
+use Rattle.grid_claims.specs.Claiming.{empty_places, AreHands}
 use Rattle.grid_claims.specs.Looking.{HasMore}
-use Rattle.grid_claims.specs.Showing.{IsClaimingAll, HasClaimedAll, HasLooked}
-use Rattle.grid_claims.proofs.Counted.{counted_on, counted_below, is_counted}
-use Rattle.grid_claims.proofs.Finishing.{not_some}
+use Rattle.grid_claims.specs.Showing.{IsClaimingAll, HasClaimedAll}
+use Rattle.grid_claims.proofs.Counted.{is_counted}
 use Rattle.grid_claims.proofs.Looks.{shows_keep}
-use Rattle.grid_claims.proofs.MoreHands.{stands_in, nothing_claimed, claimed_then, others_still}
+use Rattle.grid_claims.proofs.MoreHands.{stands_in, claimed_then}
 use Rattle.grid_claims.proofs.Trailed.{in_hand_snoc}
 
 pub shows_allowed : (k : Key) (slots id : ℕ) (me : Seated) → 0 < me.0.parts → me.0.child ≡ None → Allows (Rule k) slots id me 0 (λ n. n) (Shown me)
@@ -37,9 +35,6 @@ shows_allowed k slots id me live lone s rule deep at small = shows_keep k slots 
 -- what is in hand stands for some history, after a claim
 pub stands_some : (id : TableId) (n : ℕ) (w : Hands) → AreHands id n w → (h : List Entry) × HandStands w.place.me.0 h → StandsForSome w.hold
 stands_some id n w a s = (s.0, stands_in id n w a s.0 s.1)
-
-pub claiming_begins : (id : TableId) (n : ℕ) (w : Hands) → AreHands id n w → w.order.items ≡ [] → IsClaimingAll id n w w 0
-claiming_begins id n w a none = record { hands = a; claimed = nothing_claimed id n w a; order = none; stands = λ l. absurd (omega (arith, l)) }
 
 pub claiming_goes_on : (id : TableId) (n b : ℕ) (old now next : Hands) → IsClaimingAll id n old now b → HasMore id n now next → next.order.items ≡ now.order.items ++ b ∷ [] → StandsForSome next.hold → IsClaimingAll id n old next (b + 1)
 claiming_goes_on id n b old now next i m order stands = record {
@@ -52,7 +47,7 @@ claiming_goes_on id n b old now next i m order stands = record {
 -- the bucket that comes next is not in hand
 pub next_absent : (id : TableId) (n b : ℕ) (old now : Hands) → IsClaimingAll id n old now b → bucket_at now.hold.places b ≡ None
 next_absent id n b old now i =
-    not_some (bucket_at now.hold.places b)
+    none_or (bucket_at now.hold.places b)
     (λ s. let k = counted_below 0 b b (subst (λ (l : List ℕ). IsIn b l) i.order ((i.hands.carries.holds b).0 s)) in omega (arith, k))
 
 pub claiming_ends : (id : TableId) (n count g : ℕ) (old now : Hands) → IsClaimingAll id n old now count → count ≡ n → is_grid_size g ≡ true → count ≡ g * g * g → HasClaimedAll old now
@@ -65,12 +60,6 @@ claiming_ends id n count g old now i all size cube =
       all = λ b l. (i.hands.carries.holds b).1 (subst (λ (m : List ℕ). IsIn b m) (sym i.order) (is_counted 0 count b (omega arith) (omega (arith, l, wide))));
       stands = i.stands (omega (arith, first, cube));
     }
-
-pub stopped_after : (w w' u : Hands) (why : Refused) → HasClaimed w w' [] → HasStopped w' u why → HasStopped w u why
-stopped_after w w' u why x y = record {
-  claimed = claimed_then w w' u (last_step why) x y.claimed;
-  others = others_still w w' [] why x y.others;
-}
 
 -- ---- the look
 
@@ -94,7 +83,7 @@ hands_looked id n found w w' a seat told hold order first =
       no_child = ap (λ (v : View). v.child) view ∙ a.no_child;
       first = first ∙ a.first ∙ sym (ap (λ (v : View). v.first) view);
       grid = ap (λ (x : InHand). x.grid) hold ∙ a.grid ∙ sym (ap (λ (v : View). v.grid) view);
-      carries = subst (λ (t : List (Option Content) × List ℕ). Carries w'.place.me t.0 t.1) (λ i. (sym places i, sym items i)) (record {
+      carries = subst (λ (t : List (Option BucketContent) × List ℕ). Carries w'.place.me t.0 t.1) (λ i. (sym places i, sym items i)) (record {
         places_are = ap (λ (v : View). v.held) view ∙ k.places_are;
         order_is = ap (λ (v : View). in_hand v.trail) view ∙ in_hand_snoc w.place.me.0.trail (Look found) ∙ k.order_is;
         slots = told.slots ∙ k.slots;
@@ -103,20 +92,4 @@ hands_looked id n found w w' a seat told hold order first =
       });
       count = omega (arith, wide, empty, long, count);
       room = omega (arith, wide, capacity, room);
-    }
-
-pub looked_then : (id : TableId) (n found : ℕ) (w w' u : Hands) → AreHands id n w → Shown w.place.me found w'.place.me → w'.order ≡ w.order → HasGivenBack w' u → HasLooked found w u
-looked_then id n found w w' u a told order back =
-    let v : View = w.place.me.0 in
-    let tail : (v.trail ++ Look found ∷ []) ++ releases_of w'.order.items ≡ v.trail ++ Look found ∷ releases_of w.order.items =
-    append_assoc v.trail (Look found ∷ []) (releases_of w'.order.items) ∙ ap (λ o. v.trail ++ Look found ∷ releases_of o.items) order in
-    record {
-      history = told.history;
-      count = told.count;
-      stands = stands_in id n w a told.history told.stands;
-      knows = told.known;
-      own = told.made;
-      later = told.later;
-      view = back.view ∙ (λ i. record (told.view i) { held = u.hold.places; trail = (told.view i).trail ++ releases_of w'.order.items })
-          ∙ (λ i. record v { held = u.hold.places; seen = found; known = told.history; trail = tail i });
     }

@@ -3,7 +3,7 @@ use Rattle.std.specs.Prelude.{◌≡◌, ℕ, ◌+◌, ◌-◌, ◌<◌, List, [
 use Rattle.std.proofs.Common.{refl, sym, ◌∙◌, ap, subst}
 use Rattle.std.proofs.lemmas.List.{append_assoc, append-nil}
 use Rattle.std.proofs.lemmas.List.Sorted.{IsPermutation-reverse}
-use Rattle.conv_laws.specs.Lists.{AreDistinct}
+use Rattle.list_laws.specs.Lists.{AreDistinct}
 use Rattle.atomic_table.specs.Seated.{TableId}
 use Rattle.edit_history.specs.declared.history.Edit.{Edit}
 use Rattle.edit_history.specs.declared.history.Entry.{Entry}
@@ -42,7 +42,7 @@ rested_hands id n w r table words places =
         order_is = r.rest.none_in_hand ∙ sym r.order;
         slots = r.rest.no_slot ∙ ap Rattle.grid_claims.specs.Passes.emptied (sym r.order);
         holds = λ b. (
-          (λ s. absurd (Rattle.claim_rule.proofs.Places.none_there (bucket_at w.hold.places b) (nothing b) s)),
+          (λ s. absurd (Rattle.list_laws.proofs.Cited.none_there (bucket_at w.hold.places b) (nothing b) s)),
           (λ i. absurd (subst (λ (l : List ℕ). Rattle.point_order.specs.Sets.IsIn b l) r.order i)),
         );
         once = subst (λ (l : List ℕ). AreDistinct l) (sym r.order) tt;

@@ -3,13 +3,14 @@ use Rattle.std.specs.Prelude.{◌≡◌, ◌⊎◌, ℕ, zero, suc, ◌+◌, ◌
 use Rattle.std.specs.List.{filter}
 use Rattle.std.proofs.Common.{refl, ◌∙◌, ap, inl, inr, arith}
 use Rattle.std.proofs.lemmas.Bool.Decides.{nat_tests}
+use Rattle.list_laws.proofs.Cited.{filtered_from}
 use Rattle.point_order.specs.Sets.{IsIn}
 use Rattle.edit_history.specs.declared.history.Entry.{Entry}
 use Rattle.edit_history.specs.Edits.{after}
 use Rattle.edit_history.specs.Histories.{IsLegal, IsLegalFrom}
-use Rattle.del_laws.proofs.Tests.{filtered_from}
 use Rattle.claim_rule.specs.Boards.{is_by, made_by}
 use Rattle.cell_store.specs.Meshes.{with_entry, by_number}
+use Rattle.cell_store.proofs.Cited.{from_put}
 
 -- the numbers rise
 abbrev pub Climbs : List Entry → Type 0
@@ -31,20 +32,6 @@ dropped_climbs (suc n) [] c = tt
 dropped_climbs (suc n) (e ∷ l) c = dropped_climbs n l c.1
 
 -- ---- the least comes first
-
-from_put : (e d : Entry) (l : List Entry) → IsIn d (with_entry e l) → (e ≡ d) ⊎ IsIn d l
-from_put e d [] (inl q) = inl q
-from_put e d [] (inr i) = absurd i
-from_put e d (x ∷ l) i = by (ltb e.number x.number) i (from_put e d l)
-  where
-    by : (t : Bool) → IsIn d (cond t (e ∷ x ∷ l) (x ∷ with_entry e l)) → (IsIn d (with_entry e l) → (e ≡ d) ⊎ IsIn d l) → (e ≡ d) ⊎ IsIn d (x ∷ l)
-    by true (inl q) f = inl q
-    by true (inr j) f = inr j
-    by false (inl q) f = inr (inl q)
-    by false (inr j) f = elim (f j) [
-      | inl q ↦ inl q
-      | inr k ↦ inr (inr k)
-    ]
 
 in_sorted : (d : Entry) (l : List Entry) → IsIn d (by_number l) → IsIn d l
 unfolding by_number

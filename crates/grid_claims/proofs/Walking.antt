@@ -4,7 +4,7 @@ use Rattle.std.proofs.Common.{sym, ◌∙◌, subst, arith}
 use Rattle.atomic_table.specs.Seated.{TableId}
 use Rattle.point_order.specs.declared.cell.Cell.{Cell}
 use Rattle.hole_laws.specs.Edits.{GoesFrom}
-use Rattle.cell_store.proofs.GridLaws.{bucket-below}
+use Rattle.cell_stars.proofs.Cited.{bucket-below}
 use Rattle.cell_store.specs.Grids.{is_grid_size}
 use Rattle.cell_store.specs.Buckets.{InHand, bucket_at}
 use Rattle.cell_store.specs.Shares.{Shows, points_on}
@@ -13,7 +13,7 @@ use Rattle.cell_walk.specs.Paths.{Walking, IsWalkIn, ShowsWalk}
 use Rattle.cell_walk.specs.Turns.{TurnGives}
 use Rattle.cell_walk.specs.declared.walk.WalkTurn.{WalkTurn}
 use Rattle.cell_walk.specs.declared.walk.WalkTurn.TheVariants.{Here, Moved, Need}
-use Rattle.cell_walk.proofs.Trails.{walk_stays}
+use Rattle.cell_walk.proofs.Cited.{walk_stays}
 use Rattle.grid_claims.specs.declared.hands.Hands.{Hands}
 use Rattle.grid_claims.specs.Claiming.{HasStopped}
 use Rattle.grid_claims.specs.declared.table.Refused.{Refused}

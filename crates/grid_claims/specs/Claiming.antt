@@ -25,7 +25,7 @@ use Rattle.edit_history.specs.declared.history.Edit.{Edit}
 use Rattle.edit_history.specs.declared.history.Entry.{Entry}
 use Rattle.edit_history.specs.Edits.{point_of, reply_to, after}
 use Rattle.cell_store.specs.Grids.{bucket_of}
-use Rattle.cell_store.specs.Buckets.{Content, InHand, bucket_at}
+use Rattle.cell_store.specs.Buckets.{BucketContent, InHand, bucket_at}
 use Rattle.cell_store.specs.Changes.{IsChange, IsSwapped, IsNoted}
 use Rattle.point_order.specs.Coordinates.{IsKey}
 use Rattle.point_order.specs.Complex.{complex}
@@ -47,7 +47,7 @@ use Rattle.edit_history.specs.declared.history.Reply.{Reply}
 use Rattle.edit_history.specs.Histories.{replay, IsLegal}
 
 -- how many places have no bucket
-abbrev pub empty_places : List (Option Content) → ℕ
+abbrev pub empty_places : List (Option BucketContent) → ℕ
 empty_places [] = 0
 empty_places (None ∷ places) = empty_places places + 1
 empty_places (Some c ∷ places) = empty_places places

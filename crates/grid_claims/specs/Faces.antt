@@ -23,7 +23,7 @@ use mathlib.Core.Option as maybe
 use mathlib.Core.Option.{none, some}
 use Rattle.atomic_table.specs.Table.{State}
 use Rattle.edit_history.specs.declared.history.Entry.{Entry}
-use Rattle.cell_store.specs.Buckets.{Content}
+use Rattle.cell_store.specs.Buckets.{BucketContent}
 use Rattle.claim_rule.specs.Boards.{BoardState}
 use Rattle.claim_rule.specs.Boards as board
 use Rattle.grid_claims.specs.declared.view.Key.{Key}
@@ -69,12 +69,12 @@ numbered n [] = None
 numbered n (v ∷ views) = if v.first == n then Some v else numbered n views
 
 -- what a slot at home has
-abbrev pub at_home : maybe.Option (Option Content) → Option Content
+abbrev pub at_home : maybe.Option (Option BucketContent) → Option BucketContent
 at_home none = None
 at_home (some o) = o
 
 -- the table as a board
-abbrev pub board_of : Key → State (Option Content) View → BoardState
+abbrev pub board_of : Key → State (Option BucketContent) View → BoardState
 board_of k s = record {
   grid = k.grid;
   parts = k.parts;

@@ -1,10 +1,10 @@
 -- A table and its passes, as contracts see them.
 use Rattle.std.specs.Prelude.{◌≡◌, ℕ, ◌+◌, ◌*◌, ◌^◌, ◌<◌, ◌≤◌, List, [], map, reverse, ◌↔◌, Option, None, IsSome}
 use Rattle.atomic_table.specs.Seated.{TableId}
-use Rattle.conv_laws.specs.Lists.{AreDistinct}
+use Rattle.list_laws.specs.Lists.{AreDistinct}
 use Rattle.point_order.specs.Sets.{IsIn}
 use Rattle.edit_history.specs.declared.history.Entry.{Entry}
-use Rattle.cell_store.specs.Buckets.{Content, bucket_at}
+use Rattle.cell_store.specs.Buckets.{BucketContent, bucket_at}
 use Rattle.grid_claims.specs.declared.view.Act.{Act}
 use Rattle.grid_claims.specs.declared.view.View.{View}
 use Rattle.grid_claims.specs.Trails.{in_hand}
@@ -45,11 +45,11 @@ standing id v = record {
 }
 
 -- the slots that a seat has taken are those of the buckets that it holds, the last one first, and they are empty
-abbrev pub emptied : List ℕ → List (ℕ × Option Content)
+abbrev pub emptied : List ℕ → List (ℕ × Option BucketContent)
 emptied bs = map (λ b. (b, None)) (reverse bs)
 
 -- What a pass carries in its hands is what its view says: these buckets and no other, claimed in this order, each once.
-pub record Carries (m : Seated) (places : List (Option Content)) (order : List ℕ) : Type 0 where
+pub record Carries (m : Seated) (places : List (Option BucketContent)) (order : List ℕ) : Type 0 where
   pub places_are : m.0.held ≡ places
   pub order_is : in_hand m.0.trail ≡ order
   pub slots : m.1 ≡ emptied order

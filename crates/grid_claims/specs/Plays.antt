@@ -27,7 +27,7 @@ use Rattle.edit_history.specs.declared.history.Edit.{Edit}
 use Rattle.edit_history.specs.declared.history.Entry.{Entry}
 use Rattle.edit_history.specs.declared.history.Reply.{Reply}
 use Rattle.edit_history.specs.Edits.{reply_to}
-use Rattle.cell_store.specs.Buckets.{Content, bucket_at}
+use Rattle.cell_store.specs.Buckets.{BucketContent, bucket_at}
 use Rattle.cell_store.specs.Shares.{Stands, Shows}
 use Rattle.cell_store.specs.Touches.{HoldTouched, HoldNoOther}
 use Rattle.claim_rule.specs.Boards.{in_hand_of, made_by}
@@ -41,10 +41,10 @@ use Rattle.grid_claims.specs.Lists.{entries_by, longer}
 use Rattle.grid_claims.specs.Trails.{IsExact}
 
 abbrev pub Seated : Type 0
-Seated = Me (Option Content) View
+Seated = Me (Option BucketContent) View
 
 abbrev pub At : Type 0
-At = Step (Option Content)
+At = Step (Option BucketContent)
 
 -- what a pass holds shows the set
 abbrev pub HandShows : View → List ℕ → Type 0
@@ -57,7 +57,7 @@ HandStands v h = Stands (in_hand_of v.grid v.held) h
 -- ---- the view after a step
 
 -- a claim that found 0
-abbrev pub claims : View → ℕ → Content → View
+abbrev pub claims : View → ℕ → BucketContent → View
 claims v b c = record v { held = slice_set v.held b (Some c); trail = v.trail ++ Claim b ∷ [] }
 
 -- one that found the word of another pass
@@ -166,7 +166,7 @@ IsOthers v word = (0 < word) × ((word ≤ v.first) ⊎ (v.first + v.parts < wor
 abbrev pub Claimed : At → Seated → ℕ → Seated → Type 0
 Claimed st m found m' =
     (b : ℕ) → st.word ≡ b + 1 →
-    (found ≡ 0 → (c : Content) × (m'.0 ≡ claims m.0 b c) × (m'.1 ≡ (b, Some c) ∷ m.1) × (bucket_at m.0.held b ≡ None)
+    (found ≡ 0 → (c : BucketContent) × (m'.0 ≡ claims m.0 b c) × (m'.1 ≡ (b, Some c) ∷ m.1) × (bucket_at m.0.held b ≡ None)
     × (c.place ≡ Some (m.0.grid, b)) × ((h : List Entry) × HandStands m'.0 h))
     × (found ≢ 0 → (m' ≡ (fails m.0 b found, m.1)) × (bucket_at m.0.held b ≡ None → IsOthers m.0 found))
 

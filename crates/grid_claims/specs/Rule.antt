@@ -20,10 +20,10 @@ use Rattle.std.specs.Prelude.{
 use mathlib.Core.Option.{some}
 use lib.ListN.{get_elem?}
 use Rattle.atomic_table.specs.Table.{State}
-use Rattle.conv_laws.specs.Lists.{AreDistinct}
+use Rattle.list_laws.specs.Lists.{AreDistinct}
 use Rattle.point_order.specs.Sets.{IsIn}
 use Rattle.edit_history.specs.declared.history.Entry.{Entry}
-use Rattle.cell_store.specs.Buckets.{Content, bucket_at}
+use Rattle.cell_store.specs.Buckets.{BucketContent, bucket_at}
 use Rattle.claim_rule.specs.Boards.{made_by}
 use Rattle.claim_rule.specs.Boards as board
 use Rattle.claim_rule.specs.Good.{StartsWith, IsGood}
@@ -55,14 +55,14 @@ pub record IsSeatInOrder (k : Key) (h : List Entry) (v : View) : Type 0 where
 -- The rule, with this history: seen as a board the table is good; no two live passes have one number, and each is
 -- below the number of
 -- parts, so the board shows them all; and each seat is in order.
-pub record IsRule (k : Key) (s : State (Option Content) View) (h : List Entry) : Type 0 where
+pub record IsRule (k : Key) (s : State (Option BucketContent) View) (h : List Entry) : Type 0 where
   pub good : IsGood (board_of k s) h
   pub words : length s.words ≡ buckets_of k + 1
   pub apart : AreDistinct (map (λ (v : board.View). v.first) (passes_in (buckets_of k) s.views))
   pub below : All (λ (v : board.View). v.first < k.parts) (passes_in (buckets_of k) s.views)
   pub seats : (j : ℕ) (v : View) → get_elem? s.views j ≡ some v → IsSeatInOrder k h v
 
-abbrev pub Rule : Key → State (Option Content) View → Type 0
+abbrev pub Rule : Key → State (Option BucketContent) View → Type 0
 Rule k s = (h : List Entry) × IsRule k s h
 
 -- the first pass: it owns all parts, and has seen the mesh with which the table began

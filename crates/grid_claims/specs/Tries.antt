@@ -19,7 +19,7 @@ use Rattle.std.specs.Prelude.{
   IsPermutation,
 }
 use Rattle.std.specs.List.{range_with_len}
-use Rattle.conv_laws.specs.Lists.{AreDistinct}
+use Rattle.list_laws.specs.Lists.{AreDistinct}
 use Rattle.point_order.specs.declared.cell.Cell.{Cell}
 use Rattle.point_order.specs.Complex.{complex}
 use Rattle.edit_history.specs.declared.history.Edit.{Edit}

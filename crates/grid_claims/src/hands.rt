@@ -17,7 +17,7 @@ ghost use Rattle.std.specs.Prelude.{
   vec_capacity,
 };
 ghost use Rattle.edit_history.specs.declared.history.Entry.{Entry};
-ghost use Rattle.cell_store.specs.Buckets.{Content, bucket_at};
+ghost use Rattle.cell_store.specs.Buckets.{BucketContent, bucket_at};
 ghost use Rattle.grid_claims.specs.Faces.{buckets_of};
 ghost use Rattle.grid_claims.specs.Claiming.{releases_of};
 ghost use Rattle.grid_claims.specs.Passes.{Carries};
@@ -58,7 +58,7 @@ pub(crate) fn take_in(
     requires absent { bucket_at hold.old.places b ≡ None }
     requires room { length order.old.items < vec_capacity order.old }
     ensures seat { (place.new.table_id ≡ place.old.table_id) × (place.new.id ≡ place.old.id) }
-    ensures view { OnOk result ((c : Content) × (place.new.me.0 ≡ claims place.old.me.0 b c)) }
+    ensures view { OnOk result ((c : BucketContent) × (place.new.me.0 ≡ claims place.old.me.0 b c)) }
     ensures stands { OnOk result ((h : List Entry) × HandStands place.new.me.0 h) }
     ensures order { OnOk result (order.new.items ≡ order.old.items ++ b ∷ []) }
     ensures carries { OnOk result (Carries place.new.me hold.new.places order.new.items) }

@@ -10,9 +10,9 @@ pub struct Slot {
 }
 
 impl Model for Slot {
-    ghost use Rattle.cell_store.specs.Buckets.{Content, content_of};
+    ghost use Rattle.cell_store.specs.Buckets.{BucketContent, content_of};
 
-    ghost Value = { Content };
+    ghost Value = { BucketContent };
 
     ghost view = { λ s. content_of s.bucket };
 }

@@ -1,37 +1,17 @@
 -- Cells with their points in order: by any four of its vertices such a cell is told.
-use Rattle.std.specs.Prelude.{◌≡◌, ℕ, ◌<◌, ◌≤◌, Bool, true, false, ◌&&◌, List, [], ◌∷◌}
+use Rattle.std.specs.Prelude.{◌≡◌, ℕ, ◌<◌, ◌≤◌, Bool, true, false, List, [], ◌∷◌}
 use Rattle.std.proofs.Common.{refl, sym, ap, ◌∙◌, inl, inr, arith}
 use Rattle.std.proofs.lemmas.Bool.{false≢true}
+use Rattle.list_laws.proofs.Cited.{among_from, and_first, and_last, and_middle, four_is}
 use Rattle.point_order.specs.Sets.{IsIn, is_among}
 use Rattle.point_order.specs.declared.cell.Cell.{Cell}
 use Rattle.point_order.specs.declared.cell.Cell.TheVariants.{Full, Open}
 use Rattle.del_laws.specs.Cells.{Vertex, point, far}
-use Rattle.del_laws.proofs.Tests.{among_from}
 use Rattle.del_laws.specs.Base.{Symmetric}
 use Rattle.hole_laws.proofs.Vertex.{has_vertex, has_vertices, IsOrdered, at_cell}
 use Rattle.hole_laws.proofs.Order.{IsBefore, AreFourVertices, in_any_order}
 
 -- ---- tests of four
-
--- four tests that pass together
-pub four_true : (a b c d : Bool) → a ≡ true → b ≡ true → c ≡ true → d ≡ true → (a && b && c && d) ≡ true
-four_true a b c d e f g h = cc
-
--- each of them
-pub four_is : (a b c d : Bool) → (a && b && c && d) ≡ true → (a ≡ true) × (b ≡ true) × (c ≡ true) × (d ≡ true)
-four_is a b c d h = grind arith
-
--- in another order
-pub and_first : (a b c d : Bool) → (a && b && c && d) ≡ (b && a && c && d)
-and_first a b c d = grind arith
-
--- in another order
-pub and_middle : (a b c d : Bool) → (a && b && c && d) ≡ (a && c && b && d)
-and_middle a b c d = grind arith
-
--- in another order
-pub and_last : (a b c d : Bool) → (a && b && c && d) ≡ (a && b && d && c)
-and_last a b c d = grind arith
 
 -- the test of four vertices does not depend on their order
 pub vertices_symmetric : (q : Cell) → Symmetric (has_vertices q)

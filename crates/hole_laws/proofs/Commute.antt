@@ -2,16 +2,16 @@
 use Rattle.std.specs.Prelude.{◌≡◌, Bool, true, false, cond, ◌≢◌, ◌⊎◌, ◌↔◌}
 use Rattle.std.proofs.Common.{refl, sym, ap, ◌∙◌, subst, inl, inr, ⊎_elim}
 use Rattle.std.proofs.lemmas.Bool.{false≢true}
+use Rattle.list_laws.proofs.Cited.{and_not, cond_false, cond_true}
 use Rattle.edit_history.specs.declared.history.Reply.{Reply}
 use Rattle.edit_history.specs.declared.history.Reply.TheVariants.{Inserted, Duplicate, Removed, Missing, Flat}
 use Rattle.del_laws.specs.Cells.{Vertex, far}
 use Rattle.del_laws.specs.Base.{Corner}
 use Rattle.del_laws.specs.PointSets.{PointSet, has, solid, cell, plus, minus, is_point}
-use Rattle.del_laws.proofs.PointSets.{finite}
-use Rattle.del_laws.proofs.StarLaw.{base}
+use Rattle.del_laws.proofs.Cited.{base, finite, test_symmetric}
 use Rattle.hole_laws.proofs.Tests.{IsAdd, AreLinked, IsAtGone, HasRim, gone}
 use Rattle.hole_laws.proofs.Vertices.{cases_vertex, second_last}
-use Rattle.hole_laws.proofs.Rims.{last_apart, both}
+use Rattle.hole_laws.proofs.Rims.{last_apart}
 use Rattle.hole_laws.proofs.FromBase.{complex_of}
 use Rattle.hole_laws.proofs.FromBase as from
 use Rattle.hole_laws.proofs.Locality.{linked_at, at_linked, changed as local_changed}
@@ -34,14 +34,6 @@ point_of (take p) = p
 is_add : Step → Bool
 is_add (add p) = true
 is_add (take p) = false
-
--- a choice where the test passes
-cond_true : {A : Type 0} (b : Bool) (x y : A) → b ≡ true → cond b x y ≡ x
-cond_true b x y e = ap (λ b. cond b x y) e
-
--- and where it does not
-cond_false : {A : Type 0} (b : Bool) (x y : A) → b ≡ false → cond b x y ≡ y
-cond_false b x y e = ap (λ b. cond b x y) e
 
 -- the set after an edit, and the reply
 abbrev pub after : PointSet → Step → PointSet
@@ -233,12 +225,12 @@ touches S (take p) s n i = (p, yes_has (has S p) i, inl refl)
 touches S (add p) s n i =
     ⊎_elim (λ k. (
       m.t3,
-      base.point S m.t1 m.t2 m.rim.lost m.t3 (sym ((sq.symmetric S).last m.t1 m.t2 m.t3 m.rim.lost) ∙ m.rim.lost_before) k,
+      base.point S m.t1 m.t2 m.rim.lost m.t3 (sym ((test_symmetric S).last m.t1 m.t2 m.t3 m.rim.lost) ∙ m.rim.lost_before) k,
       inr (f, sq.at_third S (plus S p) m.t1 m.t2 m.t3 m.rim.lost g k),
     ))
     (λ k. (
       m.t2,
-      base.point S m.t1 m.t3 m.rim.lost m.t2 (sym (second_last (cell S) (sq.symmetric S) m.t1 m.t2 m.t3 m.rim.lost) ∙ m.rim.lost_before) k,
+      base.point S m.t1 m.t3 m.rim.lost m.t2 (sym (second_last (cell S) (test_symmetric S) m.t1 m.t2 m.t3 m.rim.lost) ∙ m.rim.lost_before) k,
       inr (f, sq.at_second S (plus S p) m.t1 m.t2 m.t3 m.rim.lost g k),
     ))
     (sq.facet_point S m.t1 m.t2 m.t3 m.rim.lost m.rim.lost_before)
@@ -254,14 +246,14 @@ touches S (add p) s n i =
     m = from.rim S (plus S p) p s (corners.plus_adds S p n f)
 
     g : gone (cell S) (cell (plus S p)) m.t1 m.t2 m.t3 m.rim.lost ≡ true
-    g = both (cell S m.t1 m.t2 m.t3 m.rim.lost) (cell (plus S p) m.t1 m.t2 m.t3 m.rim.lost) m.rim.lost_before m.rim.lost_after
+    g = and_not (cell S m.t1 m.t2 m.t3 m.rim.lost) (cell (plus S p) m.t1 m.t2 m.t3 m.rim.lost) m.rim.lost_before m.rim.lost_after
 
 -- a real edit reaches a point of the set that it makes
 stays : (S : PointSet) (e : Step) (T : PointSet) → solid S ≡ true → Makes S e T → (q : Vertex) × (has T q ≡ true) × Reach S e q
 stays S (add p) T s m = (p, m.present, inl refl)
 stays S (take p) T s m = (
   k.t3,
-  sym (m.0.same k.t3 n) ∙ base.point S k.t1 k.t2 p k.t3 (sym ((sq.symmetric S).last k.t1 k.t2 k.t3 p) ∙ k.cell) k.finite3,
+  sym (m.0.same k.t3 n) ∙ base.point S k.t1 k.t2 p k.t3 (sym ((test_symmetric S).last k.t1 k.t2 k.t3 p) ∙ k.cell) k.finite3,
   inr (m.0.present, k.finite3, record { t1 = k.t1; t2 = k.t2; cell = k.cell }),
 )
   where

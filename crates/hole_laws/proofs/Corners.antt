@@ -2,9 +2,10 @@
 use Rattle.std.specs.Prelude.{◌≡◌, Bool, true, false, not, ◌&&◌, ◌||◌, ◌≢◌, ◌⊎◌, ◌↔◌}
 use Rattle.std.proofs.Common.{refl, sym, ap, ◌∙◌, inl, inr}
 use Rattle.std.proofs.lemmas.Bool.{false≢true}
+use Rattle.list_laws.proofs.Cited.{same_from, same_true}
 use Rattle.del_laws.specs.Cells.{Vertex, point, far}
 use Rattle.del_laws.specs.PointSets.{PointSet, has, solid, cell, plus, minus, same_vertex, is_point}
-use Rattle.del_laws.proofs.PointSets.{extensional, has_plus, has_minus, same_from, same_true}
+use Rattle.del_laws.proofs.Cited.{extensional, has_minus, has_plus}
 use Rattle.hole_laws.proofs.Tests.{IsAdd, gone}
 use Rattle.hole_laws.proofs.Vertices.{cases_vertex}
 use Rattle.hole_laws.proofs.Squares.{Square, At, Rho, Disjoint}

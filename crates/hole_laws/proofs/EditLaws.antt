@@ -2,6 +2,7 @@
 use Rattle.std.specs.Prelude.{◌≡◌, ◌≢◌, ℕ, ◌^◌, Bool, true, false, cond, if◌then◌else◌, List, [], ◌∷◌, ◌⊎◌, ◌↔◌}
 use Rattle.std.proofs.Common.{refl, sym, ap, ap₂, ◌∙◌, subst, inl, inr}
 use Rattle.std.proofs.lemmas.Bool.{false≢true, cases_eq}
+use Rattle.list_laws.proofs.Cited.{below_true, false_if, four_is}
 use Rattle.point_order.specs.Coordinates.{IsKey}
 use Rattle.point_order.specs.Sets.{IsIn, is_among, with_point, without_point}
 use Rattle.point_order.specs.Solid.{is_solid}
@@ -14,17 +15,15 @@ use Rattle.edit_history.specs.declared.history.Reply.TheVariants.{Inserted, Dupl
 use Rattle.edit_history.specs.Edits.{point_of, reply_to, after, changed}
 use Rattle.del_laws.specs.Cells.{Vertex, point, far}
 use Rattle.del_laws.specs.PointSets.{PointSet, has, solid, cell, plus, minus, is_point}
-use Rattle.del_laws.proofs.Pairs.{same_point}
-use Rattle.del_laws.proofs.PointSets.{plus_points, minus_points, below_true, ascending_of, keys_of, has_from, has_true}
+use Rattle.del_laws.proofs.Cited.{ascending_of, has_from, has_true, keys_of, minus_points, plus_points, same_point}
 use Rattle.del_laws.specs.Base.{Symmetric}
-use Rattle.del_laws.proofs.Tests.{false_if}
 use Rattle.hole_laws.specs.Lists.{Goes, AreJoined}
 use Rattle.hole_laws.specs.Edits.{IsSolidSet}
 use Rattle.hole_laws.specs.Laws.{IsReached}
 use Rattle.hole_laws.specs.Commuting.{Reaches, StaysSolid, ChangesReached, DoCommute, EditsCommute, after_all, replies_to, SomeReaches, AllCommute, BatchCommutes}
 use Rattle.hole_laws.proofs.Tests.{IsComplex, Insertion, AreLinked, IsAtGone}
 use Rattle.hole_laws.proofs.Vertex.{has_vertex, IsOrdered, ListsCells}
-use Rattle.hole_laws.proofs.CellVertices.{four_is, all_vertices}
+use Rattle.hole_laws.proofs.CellVertices.{all_vertices}
 use Rattle.hole_laws.proofs.FacetVertices.{IsAgainst, facet_against}
 use Rattle.hole_laws.proofs.Listed.{cell_of, listed_of, test_goes}
 use Rattle.hole_laws.proofs.NewCells.{point_vertex, vertex_point}

@@ -7,7 +7,7 @@ use Rattle.point_order.specs.Complex.{complex}
 use Rattle.point_order.specs.declared.cell.Cell.{Cell}
 use Rattle.std.specs.List.Sorted.{IsStrictlySortedBy}
 use Rattle.del_laws.specs.PointSets.{cell}
-use Rattle.del_laws.proofs.Ordered.{complex_is_sorted, same_members}
+use Rattle.del_laws.proofs.Cited.{complex_is_sorted, same_members}
 use Rattle.hole_laws.specs.Lists.{Goes}
 use Rattle.hole_laws.specs.Edits.{IsSet, IsSolidSet, IsNew, IsFresh}
 use Rattle.hole_laws.specs.Laws.{IsExchanged, MadeByInsertion}

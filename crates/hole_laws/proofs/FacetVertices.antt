@@ -2,21 +2,20 @@
 use Rattle.std.specs.Prelude.{◌≡◌, ◌≢◌, ℕ, ◌<◌, true, List, [], ◌∷◌, ◌⊎◌}
 use Rattle.std.proofs.Common.{refl, sym, ap, subst, inl, inr, arith}
 use Rattle.std.proofs.lemmas.Bool.{false≢true, cases_eq}
+use Rattle.list_laws.proofs.Cited.{among_from, among_true, four_is, four_true, same_members}
 use Rattle.point_order.specs.Sets.{IsIn, IsAscending, is_among, ascending}
 use Rattle.point_order.specs.Facets.{facets_of}
 use Rattle.point_order.specs.declared.cell.Cell.{Cell}
 use Rattle.point_order.specs.declared.cell.Cell.TheVariants.{Full, Open}
 use Rattle.point_order.specs.declared.cell.Facet.{Facet}
 use Rattle.point_order.specs.declared.cell.Facet.TheVariants.{Three, Two}
-use Rattle.point_order.proofs.SetLaws.{same-members, ascending-is}
+use Rattle.point_order.proofs.Cited.{ascending-is}
 use Rattle.del_laws.specs.Cells.{Vertex, point, far}
-use Rattle.del_laws.proofs.Pairs.{same_point}
-use Rattle.del_laws.proofs.BaseFacts.{point_finite}
-use Rattle.del_laws.proofs.Tests.{among_from, among_true}
+use Rattle.del_laws.proofs.Cited.{point_finite, same_point}
 use Rattle.hole_laws.specs.Lists.{cell_over}
 use Rattle.hole_laws.proofs.Vertex.{has_vertex, has_vertices, IsOrdered, IsFacetVertex}
-use Rattle.hole_laws.proofs.Order.{AreFourVertices}
-use Rattle.hole_laws.proofs.CellVertices.{four_true, four_is, all_vertices}
+use Rattle.hole_laws.proofs.Order.{AreFourVertices, swap34}
+use Rattle.hole_laws.proofs.CellVertices.{all_vertices}
 
 -- the points of a facet, in order
 abbrev pub IsOrderedFacet : Facet → Type 0
@@ -75,10 +74,6 @@ last_first d = record { wx = d.xy; wy = d.xz; wz = λ e. d.wx (sym e); xy = d.yz
 -- the second last
 last_second : {w x y z : Vertex} → AreFourVertices w x y z → AreFourVertices w y z x
 last_second d = record { wx = d.wy; wy = d.wz; wz = d.wx; xy = d.yz; xz = λ e. d.xy (sym e); yz = λ e. d.xz (sym e) }
-
--- the third last
-last_third : {w x y z : Vertex} → AreFourVertices w x y z → AreFourVertices w x z y
-last_third d = record { wx = d.wx; wy = d.wz; wz = d.wy; xy = d.xz; xz = d.xy; yz = λ e. d.yz (sym e) }
 
 -- a facet of a Full cell, the points of which are those of the facet and one more
 full_against : (l t : List ℕ) (x : ℕ) → IsIn (Three t) (facets_of (Full l)) → IsAscending t → (i j k : ℕ) → AreFourVertices (point i) (point j) (point k) (point x) →
@@ -148,7 +143,7 @@ module _ (a b c d : ℕ) (ab : a < b) (bc : b < c) (cd : c < d) where
 
   -- against the third
   full_third : IsAgainst (Full four) (point c) (Three (a ∷ b ∷ d ∷ []))
-  full_third = full_against four (a ∷ b ∷ d ∷ []) c (inr (inr (inl refl))) (ab, (omega arith, (tt, tt))) a b d (last_third (four_points a b c d ab bc cd))
+  full_third = full_against four (a ∷ b ∷ d ∷ []) c (inr (inr (inl refl))) (ab, (omega arith, (tt, tt))) a b d (swap34 (four_points a b c d ab bc cd))
       (inl refl) (inr (inl refl)) (inr (inr (inr (inl refl)))) (inr (inr (inl refl)))
       (λ e m. elim m [ inl q ↦ inr (inl q) | inr r ↦ elim r [ inl q ↦ inr (inr (inl q)) | inr u ↦ elim u [ inl q ↦ inl q | inr v ↦ inr (inr (inr v)) ] ] ])
       (λ e m. elim m [ inl q ↦ inl q | inr r ↦ elim r [ inl q ↦ inr (inl q) | inr u ↦ inr (inr (inr u)) ] ]) (λ m. omega arith)
@@ -180,7 +175,7 @@ module _ (a b c : ℕ) (ab : a < b) (bc : b < c) where
 
   -- against the third
   open_third : IsAgainst (Open three) (point c) (Two (a ∷ b ∷ []))
-  open_third = pair_against three (a ∷ b ∷ []) c (inr (inr (inl refl))) (ab, (tt, tt)) a b (last_third (three_points a b c ab bc))
+  open_third = pair_against three (a ∷ b ∷ []) c (inr (inr (inl refl))) (ab, (tt, tt)) a b (swap34 (three_points a b c ab bc))
       (inl refl) (inr (inl refl)) (inr (inr (inl refl)))
       (λ e m. elim m [ inl q ↦ inr (inl q) | inr r ↦ elim r [ inl q ↦ inr (inr (inl q)) | inr u ↦ elim u [ inl q ↦ inl q | inr none ↦ absurd none ] ] ])
       (λ e m. elim m [ inl q ↦ inl q | inr r ↦ elim r [ inl q ↦ inr (inl q) | inr none ↦ absurd none ] ]) (λ m. omega arith)
@@ -285,8 +280,8 @@ against_of q o f m = absurd o
 
 -- facets with their points in order and the same vertices are one
 pub same_facet : (f g : Facet) → IsOrderedFacet f → IsOrderedFacet g → ((v : Vertex) → IsFacetVertex f v → IsFacetVertex g v) → ((v : Vertex) → IsFacetVertex g v → IsFacetVertex f v) → f ≡ g
-same_facet (Three t) (Three u) o p k m = ap Three (same-members t u o p (λ e. k (point e)) (λ e. m (point e)))
-same_facet (Two t) (Two u) o p k m = ap Two (same-members t u o p (λ e. k (point e)) (λ e. m (point e)))
+same_facet (Three t) (Three u) o p k m = ap Three (same_members t u o p (λ e. k (point e)) (λ e. m (point e)))
+same_facet (Two t) (Two u) o p k m = ap Two (same_members t u o p (λ e. k (point e)) (λ e. m (point e)))
 same_facet (Three t) (Two u) o p k m = absurd (m far tt)
 same_facet (Two t) (Three u) o p k m = absurd (k far tt)
 

@@ -2,25 +2,20 @@
 use Rattle.std.specs.Prelude.{◌≡◌, Bool, true, false, ◌≢◌, ◌⊎◌}
 use Rattle.std.proofs.Common.{refl, sym, ap, ◌∙◌, inl, inr}
 use Rattle.std.proofs.lemmas.Bool.{false≢true}
+use Rattle.list_laws.proofs.Cited.{and_not, and_not_from, false_if, search_pair}
 use Rattle.del_laws.specs.Cells.{Vertex, far}
 use Rattle.del_laws.specs.Base.{Symmetric, Across, Corner, Within, IsVertexOf}
-use Rattle.del_laws.proofs.Tests.{false_if}
 use Rattle.hole_laws.proofs.Tests.{IsComplex, Insertion, HasRim, AreLinked, gone}
 use Rattle.del_laws.specs.PointSets.{PointSet, has, solid, cell, vertices}
 use Rattle.hole_laws.proofs.Tests.{IsAdd}
-use Rattle.del_laws.proofs.StarLaw.{base}
+use Rattle.del_laws.proofs.Cited.{base, test_symmetric}
 use Rattle.hole_laws.proofs.Vertices.{cases_vertex, first_last, second_last}
-use Rattle.hole_laws.proofs.Rims.{last_apart, rim_makes_new, both, both_is, without_symmetric}
+use Rattle.hole_laws.proofs.Rims.{last_apart, rim_makes_new, without_symmetric}
 use Rattle.hole_laws.proofs.Stars as stars
-use Rattle.hole_laws.proofs.Search.{search_pair}
 
 -- the complex of a set
 pub complex_of : (S : PointSet) → IsComplex (cell S)
 complex_of S = record { vertices = vertices S; laws = base.complex S }
-
--- a cell is symmetric
-symm : (S : PointSet) → Symmetric (cell S)
-symm S = (complex_of S).laws.symmetric
 
 -- the set is within the set with p
 pub larger : (S T : PointSet) (p : Vertex) → IsAdd S p T → Within PointSet has S T
@@ -38,9 +33,9 @@ keeps S T p a w x y z h n = go (cases_vertex z far)
 pub old : (S T : PointSet) (p : Vertex) → solid S ≡ true → IsAdd S p T → (w x y z : Vertex) → cell T w x y z ≡ true →
     w ≢ p → x ≢ p → y ≢ p → z ≢ p → cell S w x y z ≡ true
 old S T p s a w x y z h i j k l = base.smaller T S s (larger S T p a) w x y z h
-    (keeps S T p a x y z w (sym (first_last (cell T) (symm T) w x y z) ∙ h) i)
-    (keeps S T p a w y z x (sym (second_last (cell T) (symm T) w x y z) ∙ h) j)
-    (keeps S T p a w x z y (sym ((symm T).last w x y z) ∙ h) k)
+    (keeps S T p a x y z w (sym (first_last (cell T) (test_symmetric T) w x y z) ∙ h) i)
+    (keeps S T p a w y z x (sym (second_last (cell T) (test_symmetric T) w x y z) ∙ h) j)
+    (keeps S T p a w x z y (sym ((test_symmetric T).last w x y z) ∙ h) k)
     (keeps S T p a w x y z h l)
 
 -- with a point a solid set is solid
@@ -113,15 +108,15 @@ pub linked : (S T : PointSet) (v : Vertex) → solid S ≡ true → IsAdd S v T 
 linked S T v s a w x y z g f = elim (search_pair (λ i j. cell T i j z v) (complex_of T).vertices (complex_of T).vertices) [
   | inl r ↦ record { t1 = r.a; t2 = r.b; cell = r.holds }
   | inr h ↦ absurd (none (λ i j. false_if _ λ e. false≢true (sym (h i j
-      ((complex_of T).laws.listed j z v i (sym (first_last (cell T) (symm T) i j z v) ∙ e))
-      ((complex_of T).laws.listed i z v j (sym (second_last (cell T) (symm T) i j z v) ∙ e))) ∙ e)))
+      ((complex_of T).laws.listed j z v i (sym (first_last (cell T) (test_symmetric T) i j z v) ∙ e))
+      ((complex_of T).laws.listed i z v j (sym (second_last (cell T) (test_symmetric T) i j z v) ∙ e))) ∙ e)))
 ]
   where
     st : solid T ≡ true
     st = solid_add S T v s a
 
     c : cell S w x y z ≡ true
-    c = (both_is (cell S w x y z) (cell T w x y z) g).0
+    c = (and_not_from (cell S w x y z) (cell T w x y z) g).0
 
     hz : has S z ≡ true
     hz = base.point S w x y z c f
@@ -133,22 +128,22 @@ linked S T v s a w x y z g f = elim (search_pair (λ i j. cell T i j z v) (compl
         k = base.corner T z st (larger S T v a z hz)
 
         sg : Symmetric (gone (cell S) (cell T))
-        sg = without_symmetric (cell S) (cell T) (symm S) (symm T)
+        sg = without_symmetric (cell S) (cell T) (test_symmetric S) (test_symmetric T)
 
         step : (t1 t2 p q : Vertex) → cell S t1 t2 p z ≡ true → gone (cell S) (cell T) t1 t2 p z ≡ true → cell S t1 t2 q z ≡ true →
             gone (cell S) (cell T) t1 t2 q z ≡ true
         step t1 t2 p q hp gp hq = go (cell T t1 t2 q z) refl
           where
             go : (b : Bool) → cell T t1 t2 q z ≡ b → gone (cell S) (cell T) t1 t2 q z ≡ true
-            go false e = both (cell S t1 t2 q z) (cell T t1 t2 q z) hq e
+            go false e = and_not (cell S t1 t2 q z) (cell T t1 t2 q z) hq e
             go true e = absurd (false≢true (sym (h t1 t2) ∙ rim_makes_new (cell S) (cell T) v (insertion S T v s a) t1 t2 z
                 record {
                   kept = q;
                   lost = p;
-                  kept_before = (symm S).last t1 t2 z q ∙ hq;
-                  kept_after = (symm T).last t1 t2 z q ∙ e;
-                  lost_before = (symm S).last t1 t2 z p ∙ hp;
-                  lost_after = (symm T).last t1 t2 z p ∙ (both_is (cell S t1 t2 p z) (cell T t1 t2 p z) gp).1;
+                  kept_before = (test_symmetric S).last t1 t2 z q ∙ hq;
+                  kept_after = (test_symmetric T).last t1 t2 z q ∙ e;
+                  lost_before = (test_symmetric S).last t1 t2 z p ∙ hp;
+                  lost_after = (test_symmetric T).last t1 t2 z p ∙ (and_not_from (cell S t1 t2 p z) (cell T t1 t2 p z) gp).1;
                 }))
 
         all : (b1 b2 b3 : Vertex) → cell S b1 b2 b3 z ≡ true → gone (cell S) (cell T) b1 b2 b3 z ≡ true
@@ -159,8 +154,8 @@ linked S T v s a w x y z g f = elim (search_pair (λ i j. cell T i j z v) (compl
         zv e = false≢true (sym (absent S T v a w x y) ∙ ap (cell S w x y) (sym e) ∙ c)
 
         at_corner : (k.t1 ≡ v) ⊎ (k.t1 ≡ v → ⊥) → (k.t2 ≡ v) ⊎ (k.t2 ≡ v → ⊥) → (k.t3 ≡ v) ⊎ (k.t3 ≡ v → ⊥) → ⊥
-        at_corner (inl e) q r = false≢true (sym (h k.t2 k.t3) ∙ ap (cell T k.t2 k.t3 z) (sym e) ∙ sym (first_last (cell T) (symm T) k.t1 k.t2 k.t3 z) ∙ k.cell)
-        at_corner (inr i) (inl e) r = false≢true (sym (h k.t1 k.t3) ∙ ap (cell T k.t1 k.t3 z) (sym e) ∙ sym (second_last (cell T) (symm T) k.t1 k.t2 k.t3 z) ∙ k.cell)
-        at_corner (inr i) (inr j) (inl e) = false≢true (sym (h k.t1 k.t2) ∙ ap (cell T k.t1 k.t2 z) (sym e) ∙ sym ((symm T).last k.t1 k.t2 k.t3 z) ∙ k.cell)
-        at_corner (inr i) (inr j) (inr o) = false≢true (sym (both_is (cell S k.t1 k.t2 k.t3 z) (cell T k.t1 k.t2 k.t3 z)
+        at_corner (inl e) q r = false≢true (sym (h k.t2 k.t3) ∙ ap (cell T k.t2 k.t3 z) (sym e) ∙ sym (first_last (cell T) (test_symmetric T) k.t1 k.t2 k.t3 z) ∙ k.cell)
+        at_corner (inr i) (inl e) r = false≢true (sym (h k.t1 k.t3) ∙ ap (cell T k.t1 k.t3 z) (sym e) ∙ sym (second_last (cell T) (test_symmetric T) k.t1 k.t2 k.t3 z) ∙ k.cell)
+        at_corner (inr i) (inr j) (inl e) = false≢true (sym (h k.t1 k.t2) ∙ ap (cell T k.t1 k.t2 z) (sym e) ∙ sym ((test_symmetric T).last k.t1 k.t2 k.t3 z) ∙ k.cell)
+        at_corner (inr i) (inr j) (inr o) = false≢true (sym (and_not_from (cell S k.t1 k.t2 k.t3 z) (cell T k.t1 k.t2 k.t3 z)
             (all k.t1 k.t2 k.t3 (old S T v s a k.t1 k.t2 k.t3 z k.cell i j o zv))).1 ∙ k.cell)

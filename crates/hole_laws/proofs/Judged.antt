@@ -3,6 +3,7 @@
 use Rattle.std.specs.Prelude.{◌≡◌, ℕ, ◌<◌, true, false, List, [], ◌∷◌, ◌↔◌}
 use Rattle.std.proofs.Common.{refl, sym, ◌∙◌, subst, inl, inr}
 use Rattle.std.proofs.lemmas.Bool.{false≢true}
+use Rattle.list_laws.proofs.Cited.{among_from, false_if, not_from, not_true, true_or_false}
 use Rattle.point_order.specs.Orientation.{is_flat}
 use Rattle.point_order.specs.Sets.{IsIn, with_point, is_among}
 use Rattle.point_order.specs.Complex.{complex}
@@ -10,11 +11,7 @@ use Rattle.point_order.specs.Conflicts.{is_in_conflict, CanJudge}
 use Rattle.point_order.specs.declared.cell.Cell.{Cell}
 use Rattle.point_order.specs.declared.cell.Cell.TheVariants.{Full, Open}
 use Rattle.del_laws.specs.Vertices.{is_full_cell, is_open_cell}
-use Rattle.del_laws.proofs.Kept.{full_is_kept, open_is_kept}
-use Rattle.del_laws.proofs.Listed.{listed_is_cell, cell_is_listed, listed_inside, listed_full, listed_open, full_not_flat}
-use Rattle.del_laws.proofs.Lists.{of_four}
-use Rattle.del_laws.proofs.ListedParts.{listed_mate}
-use Rattle.del_laws.proofs.Tests.{false_if, true_or_false, among_from, not_true, not_from}
+use Rattle.del_laws.proofs.Cited.{cell_is_listed, full_is_kept, full_not_flat, listed_full, listed_inside, listed_is_cell, listed_mate, listed_open, of_four, open_is_kept}
 use Rattle.hole_laws.specs.Edits.{IsSet, IsNew, IsMate}
 use Rattle.hole_laws.specs.Laws.{StaysWithoutConflict, GoesInConflict, SomeMate, MatesJudge}
 use Rattle.hole_laws.proofs.OfSets.{more_set}

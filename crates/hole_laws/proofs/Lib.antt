@@ -20,9 +20,9 @@ pub mod Rest
 pub mod Removal
 pub mod RemovalLaws
 pub mod Rims
-pub mod Search
 pub mod Squares
 pub mod Stars
 pub mod Tests
 pub mod Vertex
 pub mod Vertices
+pub mod Cited

@@ -2,6 +2,7 @@
 use Rattle.std.specs.Prelude.{◌≡◌, ℕ, Bool, true, ◌&&◌, ◌||◌, List, [], ◌∷◌, ◌⊎◌}
 use Rattle.std.proofs.Common.{refl, sym, ap₂, ◌∙◌, subst, inl, inr}
 use Rattle.std.proofs.lemmas.Bool.{false≢true}
+use Rattle.list_laws.proofs.Cited.{and_not, and_not_from, any_from, any_true, false_if, first_true, four_is, second_true, true_or_false}
 use Rattle.point_order.specs.Sets.{IsIn}
 use Rattle.point_order.specs.Facets.{facets_of}
 use Rattle.point_order.specs.declared.cell.Cell.{Cell}
@@ -9,16 +10,15 @@ use Rattle.point_order.specs.declared.cell.Cell.TheVariants.{Full, Open}
 use Rattle.point_order.specs.declared.cell.Facet.{Facet}
 use Rattle.point_order.specs.declared.cell.Facet.TheVariants.{Three, Two}
 use Rattle.del_laws.specs.Cells.{Vertex, point}
-use Rattle.del_laws.proofs.Tests.{any_from, any_true, true_or_false, false_if, first_true, second_true}
 use Rattle.del_laws.specs.Base.{Symmetric}
 use Rattle.hole_laws.proofs.Tests.{IsComplex, Insertion, gone}
 use Rattle.hole_laws.specs.Lists.{Goes}
 use Rattle.hole_laws.proofs.Vertex.{has_vertex, has_vertices, is_listed, IsOrdered, HasListed, ListsCells}
 use Rattle.hole_laws.proofs.Order.{AreFourVertices}
 use Rattle.hole_laws.proofs.Vertices.{first_last, second_last}
-use Rattle.hole_laws.proofs.Rims.{last_apart, both, both_is, without_symmetric}
+use Rattle.hole_laws.proofs.Rims.{last_apart, without_symmetric}
 use Rattle.hole_laws.proofs.Region.{region}
-use Rattle.hole_laws.proofs.CellVertices.{four_is, vertices_symmetric, at_vertices, same_cell}
+use Rattle.hole_laws.proofs.CellVertices.{vertices_symmetric, at_vertices, same_cell}
 use Rattle.hole_laws.proofs.FacetVertices.{facet_against, against_of, shared_facet}
 
 -- ---- one list
@@ -103,13 +103,13 @@ module _ (c c' : Vertex → Vertex → Vertex → Vertex → Bool) (p : ℕ) (k 
   -- the vertices of a cell that goes pass the test
   pub goes_test : (q : Cell) → Goes l l' q → (w x y z : Vertex) → AreFourVertices w x y z → has_vertices q w x y z ≡ true → gone c c' w x y z ≡ true
   goes_test q g w x y z d h =
-      both (c w x y z) (c' w x y z) (cell_of c k.before l t q g.before w x y z d h)
+      and_not (c w x y z) (c' w x y z) (cell_of c k.before l t q g.before w x y z d h)
       (false_if (c' w x y z) (λ e. g.after (listed_of c' k.after l' t' q (t.ordered q g.before) w x y z d h e)))
 
   -- and four that pass it are the vertices of one
   pub test_goes : (w x y z : Vertex) → gone c c' w x y z ≡ true → (q : Cell) × Goes l l' q × (has_vertices q w x y z ≡ true)
   test_goes w x y z h =
-      let g = both_is (c w x y z) (c' w x y z) h in
+      let g = and_not_from (c w x y z) (c' w x y z) h in
       let r = t.found w x y z g.0 in
       (r.q, record { before = r.listed; after = λ m. false≢true (sym g.1 ∙ cell_of c' k.after l' t' r.q m w x y z (four_of c k.before w x y z g.0) r.vertices) }, r.vertices)
 
@@ -151,8 +151,8 @@ module _ (c c' : Vertex → Vertex → Vertex → Vertex → Bool) (p : ℕ) (k 
           let r = test_goes t1 t2 t3 y hy in
           let oq = t.ordered q.q (goes q.q q.listed).before in
           let or = t.ordered r.0 r.1.before in
-          let dx = four_of c k.before t1 t2 t3 x (both_is (c t1 t2 t3 x) (c' t1 t2 t3 x) gx).0 in
-          let dy = four_of c k.before t1 t2 t3 y (both_is (c t1 t2 t3 y) (c' t1 t2 t3 y) hy).0 in
+          let dx = four_of c k.before t1 t2 t3 x (and_not_from (c t1 t2 t3 x) (c' t1 t2 t3 x) gx).0 in
+          let dy = four_of c k.before t1 t2 t3 y (and_not_from (c t1 t2 t3 y) (c' t1 t2 t3 y) hy).0 in
           let f = facet_against q.q oq x (four_is (has_vertex q.q t1) (has_vertex q.q t2) (has_vertex q.q t3) (has_vertex q.q x) q.vertices).3 in
           let g = facet_against r.0 or y (four_is (has_vertex r.0 t1) (has_vertex r.0 t2) (has_vertex r.0 t3) (has_vertex r.0 y) r.2).3 in
           let e = shared_facet q.q r.0 oq or t1 t2 t3 x y dx dy q.vertices r.2 f.f g.f f.against g.against in

@@ -2,19 +2,15 @@
 use Rattle.std.specs.Prelude.{◌≡◌, Bool, true, false, ◌≢◌, ◌⊎◌}
 use Rattle.std.proofs.Common.{refl, sym, ap, ◌∙◌, inl, inr}
 use Rattle.std.proofs.lemmas.Bool.{false≢true}
+use Rattle.list_laws.proofs.Cited.{and_not}
 use Rattle.del_laws.specs.Cells.{Vertex, far}
-use Rattle.del_laws.specs.Base.{Symmetric}
 use Rattle.hole_laws.proofs.Tests.{AreLinked, IsAtGone}
 use Rattle.del_laws.specs.PointSets.{PointSet, solid, cell}
+use Rattle.del_laws.proofs.Cited.{test_symmetric}
 use Rattle.hole_laws.proofs.Tests.{IsAdd}
 use Rattle.hole_laws.proofs.Vertices.{cases_vertex, first_last, second_last}
-use Rattle.hole_laws.proofs.Rims.{new_has_rim, both, without_symmetric}
-use Rattle.hole_laws.proofs.FromBase.{complex_of}
+use Rattle.hole_laws.proofs.Rims.{new_has_rim, without_symmetric}
 use Rattle.hole_laws.proofs.FromBase as from
-
--- a cell is symmetric
-symm : (S : PointSet) → Symmetric (cell S)
-symm S = (complex_of S).laws.symmetric
 
 -- the points beside v are points of cells that v takes away
 pub linked_at : (S T : PointSet) (v : Vertex) → solid S ≡ true → IsAdd S v T → (q : Vertex) → q ≢ far → AreLinked (cell T) v q → IsAtGone (cell S) (cell T) q
@@ -24,7 +20,7 @@ linked_at S T v s a q n l =
       t1 = l.t1;
       t2 = l.t2;
       t3 = r.lost;
-      cell = sym ((without_symmetric (cell S) (cell T) (symm S) (symm T)).last l.t1 l.t2 q r.lost) ∙ both (cell S l.t1 l.t2 q r.lost) (cell T l.t1 l.t2 q r.lost) r.lost_before r.lost_after;
+      cell = sym ((without_symmetric (cell S) (cell T) (test_symmetric S) (test_symmetric T)).last l.t1 l.t2 q r.lost) ∙ and_not (cell S l.t1 l.t2 q r.lost) (cell T l.t1 l.t2 q r.lost) r.lost_before r.lost_after;
       finite = n;
     }
 
@@ -41,13 +37,13 @@ changed S T p s a w x y z n f = go (cell S w x y z) (cell T w x y z) refl refl
 
     made : cell S w x y z ≡ false → cell T w x y z ≡ true → (w ≡ p) ⊎ (w ≡ p → ⊥) → (x ≡ p) ⊎ (x ≡ p → ⊥) → (y ≡ p) ⊎ (y ≡ p → ⊥) → (z ≡ p) ⊎ (z ≡ p → ⊥) → (z ≡ p) ⊎ IsAtGone (cell S) (cell T) z
     made l r b c d (inl e) = inl e
-    made l r (inl e) c d (inr m) = inr (new x y (ap (cell T x y z) (sym e) ∙ sym (first_last (cell T) (symm T) w x y z) ∙ r))
-    made l r (inr i) (inl e) d (inr m) = inr (new w y (ap (cell T w y z) (sym e) ∙ sym (second_last (cell T) (symm T) w x y z) ∙ r))
-    made l r (inr i) (inr j) (inl e) (inr m) = inr (new w x (ap (cell T w x z) (sym e) ∙ sym ((symm T).last w x y z) ∙ r))
+    made l r (inl e) c d (inr m) = inr (new x y (ap (cell T x y z) (sym e) ∙ sym (first_last (cell T) (test_symmetric T) w x y z) ∙ r))
+    made l r (inr i) (inl e) d (inr m) = inr (new w y (ap (cell T w y z) (sym e) ∙ sym (second_last (cell T) (test_symmetric T) w x y z) ∙ r))
+    made l r (inr i) (inr j) (inl e) (inr m) = inr (new w x (ap (cell T w x z) (sym e) ∙ sym ((test_symmetric T).last w x y z) ∙ r))
     made l r (inr i) (inr j) (inr o) (inr m) = absurd (false≢true (sym l ∙ from.old S T p s a w x y z r i j o m))
 
     go : (b c : Bool) → cell S w x y z ≡ b → cell T w x y z ≡ c → (z ≡ p) ⊎ IsAtGone (cell S) (cell T) z
     go true true l r = absurd (n (l ∙ sym r))
     go false false l r = absurd (n (l ∙ sym r))
-    go true false l r = inr record { t1 = w; t2 = x; t3 = y; cell = both (cell S w x y z) (cell T w x y z) l r; finite = f }
+    go true false l r = inr record { t1 = w; t2 = x; t3 = y; cell = and_not (cell S w x y z) (cell T w x y z) l r; finite = f }
     go false true l r = made l r (cases_vertex w p) (cases_vertex x p) (cases_vertex y p) (cases_vertex z p)

@@ -1,18 +1,18 @@
 -- What an insertion changes is near the new point, and is found from the cells near by; over lists of cells.
 use Rattle.std.specs.Prelude.{◌≡◌, ◌≢◌, ℕ, Bool, true, List, ◌∷◌, ◌⊎◌}
 use Rattle.std.proofs.Common.{refl, sym, subst, inl, inr}
+use Rattle.list_laws.proofs.Cited.{four_is}
 use Rattle.point_order.specs.Sets.{IsIn}
 use Rattle.point_order.specs.Facets.{facets_of, points_of}
 use Rattle.point_order.specs.declared.cell.Cell.{Cell}
 use Rattle.point_order.specs.declared.cell.Facet.{Facet}
 use Rattle.point_order.specs.declared.cell.Facet.TheVariants.{Three, Two}
-use Rattle.point_order.proofs.SetLaws.{in-ascending}
+use Rattle.point_order.proofs.Cited.{in-ascending}
 use Rattle.del_laws.specs.Cells.{Vertex, point, far}
 use Rattle.hole_laws.proofs.Tests.{Insertion, IsAtGone, AreLinked}
 use Rattle.hole_laws.specs.Lists.{cell_over, Goes, IsOverRim, IsAtGoing, AreJoined, HasHeld}
 use Rattle.hole_laws.proofs.Vertex.{has_vertex, IsOrdered, ListsCells, IsFacetVertex}
 use Rattle.hole_laws.proofs.FacetVertices.{IsAgainst, facet_against, against_of}
-use Rattle.hole_laws.proofs.CellVertices.{four_is}
 use Rattle.hole_laws.proofs.Listed.{region_listed, goes_test}
 use Rattle.hole_laws.proofs.NewCells.{point_vertex, vertex_point, new_over_rim, without_new}
 

@@ -2,21 +2,20 @@
 use Rattle.std.specs.Prelude.{◌≡◌, ◌≢◌, ℕ, Bool, true, false, List, [], ◌∷◌}
 use Rattle.std.proofs.Common.{refl, sym, ap, ◌∙◌, subst, inl, inr}
 use Rattle.std.proofs.lemmas.Bool.{false≢true}
+use Rattle.list_laws.proofs.Cited.{among_from, among_true, and_not, and_not_from, four_is, four_true, true_or_false}
 use Rattle.point_order.specs.Sets.{IsIn}
 use Rattle.point_order.specs.Facets.{facets_of, points_of}
 use Rattle.point_order.specs.declared.cell.Cell.{Cell}
 use Rattle.point_order.specs.declared.cell.Cell.TheVariants.{Full, Open}
 use Rattle.point_order.specs.declared.cell.Facet.{Facet}
 use Rattle.point_order.specs.declared.cell.Facet.TheVariants.{Three, Two}
-use Rattle.point_order.proofs.SetLaws.{in-ascending_from}
+use Rattle.point_order.proofs.Cited.{in-ascending_from}
 use Rattle.del_laws.specs.Cells.{Vertex, point}
-use Rattle.del_laws.proofs.Tests.{among_from, among_true, true_or_false}
 use Rattle.hole_laws.proofs.Tests.{Insertion, IsRim}
 use Rattle.hole_laws.specs.Lists.{cell_over, Goes, IsRimFacet, IsOverRim}
 use Rattle.hole_laws.proofs.Vertex.{has_vertex, has_vertices, IsOrdered, HasListed, ListsCells, IsFacetVertex}
 use Rattle.hole_laws.proofs.Order.{AreFourVertices}
-use Rattle.hole_laws.proofs.Rims.{new_has_rim, rim_makes_new, both, both_is}
-use Rattle.hole_laws.proofs.CellVertices.{four_true, four_is}
+use Rattle.hole_laws.proofs.Rims.{new_has_rim, rim_makes_new}
 use Rattle.hole_laws.proofs.FacetVertices.{IsAgainst, HasAgainst, AgainstSome, facet_against, against_of, facet_from, shared_facet, over_facet}
 use Rattle.hole_laws.proofs.Listed.{four_of, corners, cell_of, listed_of, goes_test, test_goes}
 
@@ -90,7 +89,7 @@ module _ (c c' : Vertex → Vertex → Vertex → Vertex → Bool) (p : ℕ) (k 
       r = new_has_rim c c' (point p) k a.t1 a.t2 a.t3 (cell_of c' k.after l' t' q m a.t1 a.t2 a.t3 (point p) a.four a.vertices)
 
       lost : (q : Cell) × Goes l l' q × (has_vertices q a.t1 a.t2 a.t3 r.lost ≡ true)
-      lost = test_goes c c' p k l l' t t' a.t1 a.t2 a.t3 r.lost (both (c a.t1 a.t2 a.t3 r.lost) (c' a.t1 a.t2 a.t3 r.lost) r.lost_before r.lost_after)
+      lost = test_goes c c' p k l l' t t' a.t1 a.t2 a.t3 r.lost (and_not (c a.t1 a.t2 a.t3 r.lost) (c' a.t1 a.t2 a.t3 r.lost) r.lost_before r.lost_after)
 
       lost_four : AreFourVertices a.t1 a.t2 a.t3 r.lost
       lost_four = four_of c k.before a.t1 a.t2 a.t3 r.lost r.lost_before
@@ -154,7 +153,7 @@ module _ (c c' : Vertex → Vertex → Vertex → Vertex → Bool) (p : ℕ) (k 
           (four_is (has_vertex r.kept b.against.t1) (has_vertex r.kept b.against.t2) (has_vertex r.kept b.against.t3) (has_vertex r.kept b.z) b.against.vertices).3
 
       lost : (c t1 t2 t3 a.z ≡ true) × (c' t1 t2 t3 a.z ≡ false)
-      lost = both_is (c t1 t2 t3 a.z) (c' t1 t2 t3 a.z) (goes_test c c' p k l l' t t' r.gone r.goes t1 t2 t3 a.z a.against.four a.against.vertices)
+      lost = and_not_from (c t1 t2 t3 a.z) (c' t1 t2 t3 a.z) (goes_test c c' p k l l' t t' r.gone r.goes t1 t2 t3 a.z a.against.four a.against.vertices)
 
       new : c' t1 t2 t3 (point p) ≡ true
       new = rim_makes_new c c' (point p) k t1 t2 t3 record {
@@ -196,7 +195,7 @@ module _ (c c' : Vertex → Vertex → Vertex → Vertex → Bool) (p : ℕ) (k 
   )
     where
       lost : (q : Cell) × Goes l l' q × (has_vertices q t1 t2 t3 r.lost ≡ true)
-      lost = test_goes c c' p k l l' t t' t1 t2 t3 r.lost (both (c t1 t2 t3 r.lost) (c' t1 t2 t3 r.lost) r.lost_before r.lost_after)
+      lost = test_goes c c' p k l l' t t' t1 t2 t3 r.lost (and_not (c t1 t2 t3 r.lost) (c' t1 t2 t3 r.lost) r.lost_before r.lost_after)
 
       lost_four : AreFourVertices t1 t2 t3 r.lost
       lost_four = four_of c k.before t1 t2 t3 r.lost r.lost_before

@@ -1,34 +1,28 @@
 -- The complexes of sets, as tests of four vertices and as lists; an insertion into a solid set.
 use Rattle.std.specs.Prelude.{◌≡◌, ◌≢◌, ℕ, true, List, [], ◌∷◌}
 use Rattle.std.proofs.Common.{refl, sym, ap, ◌∙◌, subst, inl, inr}
+use Rattle.list_laws.proofs.Cited.{among_from, among_true, false_if, four_true, same_test}
 use Rattle.point_order.specs.Coordinates.{IsKey}
 use Rattle.point_order.specs.Sets.{IsIn, with_point}
 use Rattle.point_order.specs.Complex.{complex}
 use Rattle.point_order.specs.declared.cell.Cell.{Cell}
 use Rattle.point_order.specs.declared.cell.Cell.TheVariants.{Full, Open}
 use Rattle.point_order.specs.Solid.{is_solid}
-use Rattle.point_order.proofs.SetLaws.{in-with, in-with_new, in-with_old, ascending-with}
+use Rattle.point_order.proofs.Cited.{ascending-with, in-with, in-with_new, in-with_old}
 use Rattle.del_laws.specs.Cells.{Vertex, point, far}
 use Rattle.del_laws.specs.PointSets.{PointSet, has, solid, cell}
 use Rattle.del_laws.specs.Listed.{IsListed}
 use Rattle.del_laws.specs.Vertices.{is_cell}
-use Rattle.del_laws.proofs.PointSets.{set_true, ascending_of}
-use Rattle.del_laws.proofs.Listed.{listed_is_cell, cell_is_listed}
-use Rattle.del_laws.proofs.StarLaw.{base}
-use Rattle.del_laws.proofs.Tests.{same_test, among_true, among_from, false_if}
+use Rattle.del_laws.proofs.Cited.{ascending_of, base, cell_is_listed, listed_is_cell, set_true}
 use Rattle.hole_laws.proofs.Tests.{IsAdd, Insertion}
 use Rattle.hole_laws.proofs.Vertex.{has_vertices, HasListed, ListsCells, IsOrdered, at_cell}
 use Rattle.hole_laws.specs.Edits.{IsSet, IsSolidSet, IsNew}
 use Rattle.hole_laws.proofs.Order.{IsBefore, in_any_order}
-use Rattle.hole_laws.proofs.CellVertices.{four_true, vertices_symmetric}
+use Rattle.hole_laws.proofs.CellVertices.{vertices_symmetric}
 use Rattle.hole_laws.proofs.Listed.{four_of}
 use Rattle.hole_laws.proofs.FromBase.{complex_of, insertion}
 
 -- ---- the list of a complex
-
--- no point is the infinite vertex
-far_last : (x y : Vertex) → IsBefore x y → (x ≡ far) → ⊥
-far_last x y l e = subst (λ v. IsBefore v y) e l
 
 -- four vertices in order that are a cell are listed
 in_order : (s : PointSet) (w x y z : Vertex) → IsBefore w x → IsBefore x y → IsBefore y z → cell s w x y z ≡ true → HasListed (complex s.points) w x y z

@@ -35,7 +35,7 @@ swap23 : {w x y z : Vertex} → AreFourVertices w x y z → AreFourVertices w y 
 swap23 d = record { wx = d.wy; wy = d.wx; wz = d.wz; xy = λ e. d.xy (sym e); xz = d.yz; yz = d.xz }
 
 -- in another order
-swap34 : {w x y z : Vertex} → AreFourVertices w x y z → AreFourVertices w x z y
+pub swap34 : {w x y z : Vertex} → AreFourVertices w x y z → AreFourVertices w x z y
 swap34 d = record { wx = d.wx; wy = d.wz; wz = d.wy; xy = d.xz; xz = d.xy; yz = λ e. d.yz (sym e) }
 
 module _ (r : Vertex → Vertex → Vertex → Vertex → Type 0) (e : IsEven r)

@@ -3,14 +3,14 @@
 use Rattle.std.specs.Prelude.{◌≡◌, Bool, true, false, not, ◌&&◌, ◌≢◌, ◌⊎◌}
 use Rattle.std.proofs.Common.{refl, sym, ap, ◌∙◌, inl, inr}
 use Rattle.std.proofs.lemmas.Bool.{false≢true}
-use Rattle.conv_laws.specs.Lists.{odd, IsIn, HasAnother}
-use Rattle.conv_laws.proofs.Parity.{even_degrees, HasSome, odd_some, another, one_odd, two_even, odd-same}
+use Rattle.list_laws.specs.Lists.{IsIn}
+use Rattle.list_laws.specs.Laws.{odd, HasAnother}
+use Rattle.list_laws.proofs.Cited.{HasSome, and_not, and_not_false, and_not_from, another, even_degrees, false_if, odd-same, odd_some, one_odd, two_even}
 use Rattle.del_laws.specs.Cells.{Vertex}
 use Rattle.del_laws.specs.Base.{Symmetric, Symmetric3, Across}
-use Rattle.del_laws.proofs.Tests.{false_if}
 use Rattle.hole_laws.proofs.Tests.{Insertion, gone}
 use Rattle.hole_laws.proofs.Vertices.{cases_vertex}
-use Rattle.hole_laws.proofs.Rims.{across_one, rim_makes_new, both, both_is, kept_is, without_symmetric}
+use Rattle.hole_laws.proofs.Rims.{across_one, rim_makes_new, without_symmetric}
 
 module _ (c c' : Vertex → Vertex → Vertex → Vertex → Bool) (p : Vertex) (k : Insertion c c' p)
     (part : Vertex → Vertex → Vertex → Vertex → Bool) (symmetric : Symmetric part)
@@ -18,11 +18,11 @@ module _ (c c' : Vertex → Vertex → Vertex → Vertex → Bool) (p : Vertex) 
     (closed : (t1 t2 t3 x y : Vertex) → part t1 t2 t3 x ≡ true → gone c c' t1 t2 t3 y ≡ true → part t1 t2 t3 y ≡ true) where
   -- the part has cells of the set
   part_cell : (w x y z : Vertex) → part w x y z ≡ true → c w x y z ≡ true
-  part_cell w x y z h = (both_is (c w x y z) (c' w x y z) (goes w x y z h)).0
+  part_cell w x y z h = (and_not_from (c w x y z) (c' w x y z) (goes w x y z h)).0
 
   -- and none of the set with p
   part_new : (w x y z : Vertex) → part w x y z ≡ true → c' w x y z ≡ false
-  part_new w x y z h = (both_is (c w x y z) (c' w x y z) (goes w x y z h)).1
+  part_new w x y z h = (and_not_from (c w x y z) (c' w x y z) (goes w x y z h)).1
 
   -- an odd facet has one cell of the part
   abbrev rim : Vertex → Vertex → Vertex → Bool
@@ -54,7 +54,7 @@ module _ (c c' : Vertex → Vertex → Vertex → Vertex → Bool) (p : Vertex) 
         kept = a.beyond;
         lost = z.at;
         kept_before = a.cell;
-        kept_after = kept_is _ _ a.cell (only_gone t1 t2 t3 z.at a.beyond h z.holds a.cell a.other);
+        kept_after = and_not_false _ _ a.cell (only_gone t1 t2 t3 z.at a.beyond h z.holds a.cell a.other);
         lost_before = part_cell t1 t2 t3 z.at z.holds;
         lost_after = part_new t1 t2 t3 z.at z.holds;
       }
@@ -126,23 +126,23 @@ module _ (c c' : Vertex → Vertex → Vertex → Vertex → Bool) (p : Vertex) 
   rest_step a1 a2 a3 ha t1 t2 t3 x y hx hy = go (gone c c' t1 t2 t3 y) (part t1 t2 t3 y) refl refl
     where
       x_gone : gone c c' t1 t2 t3 x ≡ true
-      x_gone = (both_is (gone c c' t1 t2 t3 x) (part t1 t2 t3 x) hx).0
+      x_gone = (and_not_from (gone c c' t1 t2 t3 x) (part t1 t2 t3 x) hx).0
 
       x_out : part t1 t2 t3 x ≡ false
-      x_out = (both_is (gone c c' t1 t2 t3 x) (part t1 t2 t3 x) hx).1
+      x_out = (and_not_from (gone c c' t1 t2 t3 x) (part t1 t2 t3 x) hx).1
 
       x_cell : (c t1 t2 t3 x ≡ true) × (c' t1 t2 t3 x ≡ false)
-      x_cell = both_is (c t1 t2 t3 x) (c' t1 t2 t3 x) x_gone
+      x_cell = and_not_from (c t1 t2 t3 x) (c' t1 t2 t3 x) x_gone
 
       go : (g b : Bool) → gone c c' t1 t2 t3 y ≡ g → part t1 t2 t3 y ≡ b → (gone c c' t1 t2 t3 y && not (part t1 t2 t3 y)) ≡ true
-      go true false eg eb = both (gone c c' t1 t2 t3 y) (part t1 t2 t3 y) eg eb
+      go true false eg eb = and_not (gone c c' t1 t2 t3 y) (part t1 t2 t3 y) eg eb
       go g true eg eb = absurd (false≢true (sym x_out ∙ closed t1 t2 t3 y x eb x_gone))
       go false false eg eb =
           let new = rim_makes_new c c' p k t1 t2 t3 record {
             kept = y;
             lost = x;
             kept_before = hy;
-            kept_after = kept_is (c t1 t2 t3 y) (c' t1 t2 t3 y) hy eg;
+            kept_after = and_not_false (c t1 t2 t3 y) (c' t1 t2 t3 y) hy eg;
             lost_before = x_cell.0;
             lost_after = x_cell.1;
           } in
@@ -161,7 +161,7 @@ module _ (c c' : Vertex → Vertex → Vertex → Vertex → Bool) (p : Vertex) 
       go false e = absurd (some_rim a1 a2 a3 a4 ha λ r1 r2 r3 h.
           let q = k.whole (λ w x y z. gone c c' w x y z && not (part w x y z))
           (without_symmetric (gone c c') part (without_symmetric c c' k.before.laws.symmetric k.after.laws.symmetric) symmetric)
-          b1 b2 b3 b4 (both_is (c b1 b2 b3 b4) (c' b1 b2 b3 b4) hb).0 (both (gone c c' b1 b2 b3 b4) (part b1 b2 b3 b4) hb e)
+          b1 b2 b3 b4 (and_not_from (c b1 b2 b3 b4) (c' b1 b2 b3 b4) hb).0 (and_not (gone c c' b1 b2 b3 b4) (part b1 b2 b3 b4) hb e)
           (λ t1 t2 t3 x y hc hx hy. rest_step r1 r2 r3 h t1 t2 t3 x y hx hy)
           a1 a2 a3 a4 (part_cell a1 a2 a3 a4 ha) in
-          false≢true (sym (both_is (gone c c' a1 a2 a3 a4) (part a1 a2 a3 a4) q).1 ∙ ha))
+          false≢true (sym (and_not_from (gone c c' a1 a2 a3 a4) (part a1 a2 a3 a4) q).1 ∙ ha))

@@ -2,23 +2,19 @@
 use Rattle.std.specs.Prelude.{◌≡◌, Bool, true, false, ◌≢◌, ◌⊎◌}
 use Rattle.std.proofs.Common.{refl, sym, ap, ◌∙◌, inl, inr}
 use Rattle.std.proofs.lemmas.Bool.{false≢true}
+use Rattle.list_laws.proofs.Cited.{and_not, and_not_from, false_if, same_test}
 use Rattle.del_laws.specs.Cells.{Vertex, far}
 use Rattle.del_laws.specs.Base.{Symmetric, Across, Corner, Within, IsVertexOf}
-use Rattle.del_laws.proofs.Tests.{false_if, same_test}
 use Rattle.hole_laws.proofs.Tests.{Insertion, HasRim, AreLinked, IsOpposite, gone}
 use Rattle.del_laws.specs.PointSets.{PointSet, has, solid, cell}
 use Rattle.hole_laws.proofs.Tests.{IsAdd}
-use Rattle.del_laws.proofs.StarLaw.{base}
+use Rattle.del_laws.proofs.Cited.{base, test_symmetric}
 use Rattle.hole_laws.proofs.Vertices.{cases_vertex, first_last, second_last}
-use Rattle.hole_laws.proofs.Rims.{last_apart, across_one, rim_makes_new, new_has_rim, both, both_is, without_symmetric}
+use Rattle.hole_laws.proofs.Rims.{last_apart, across_one, rim_makes_new, new_has_rim, without_symmetric}
 use Rattle.hole_laws.proofs.Region.{region}
 use Rattle.hole_laws.proofs.Stars as stars
 use Rattle.hole_laws.proofs.FromBase.{complex_of}
 use Rattle.hole_laws.proofs.FromBase as from
-
--- a cell is symmetric
-symm : (S : PointSet) → Symmetric (cell S)
-symm S = (complex_of S).laws.symmetric
 
 -- S is R with v; T is a solid part of R with all points beside v; U is T with v
 module _ (R S T U : PointSet) (v : Vertex) (a : IsAdd R v S) (b : IsAdd T v U) (st : solid T ≡ true) (within : Within PointSet has T R)
@@ -71,15 +67,15 @@ module _ (R S T U : PointSet) (v : Vertex) (a : IsAdd R v S) (b : IsAdd T v U) (
   -- a cell at v in the set is one in the small set with v
   star_down : (t1 t2 t3 : Vertex) → cell S t1 t2 t3 v ≡ true → cell U t1 t2 t3 v ≡ true
   star_down t1 t2 t3 h = base.smaller S U su u_in_s t1 t2 t3 v h
-      (vertex_u t1 (vertex_t t1 record { t1 = t2; t2 = t3; cell = sym ((symm S).middle t2 t1 t3 v) ∙ sym ((symm S).first t1 t2 t3 v) ∙ h }))
-      (vertex_u t2 (vertex_t t2 record { t1 = t1; t2 = t3; cell = sym ((symm S).middle t1 t2 t3 v) ∙ h }))
+      (vertex_u t1 (vertex_t t1 record { t1 = t2; t2 = t3; cell = sym ((test_symmetric S).middle t2 t1 t3 v) ∙ sym ((test_symmetric S).first t1 t2 t3 v) ∙ h }))
+      (vertex_u t2 (vertex_t t2 record { t1 = t1; t2 = t3; cell = sym ((test_symmetric S).middle t1 t2 t3 v) ∙ h }))
       (vertex_u t3 (vertex_t t3 record { t1 = t1; t2 = t2; cell = h }))
       (inr b.present)
 
   -- and there are no others there
   star_up : (t1 t2 t3 : Vertex) → cell U t1 t2 t3 v ≡ true → cell S t1 t2 t3 v ≡ true
   star_up = stars.star_closed (cell U) (complex_of U) v b.finite (base.star_full U v b.present) (λ t1 t2 t3. cell S t1 t2 t3 v)
-      record { first = λ x y z. (symm S).first x y z v; last = λ x y z. (symm S).middle x y z v }
+      record { first = λ x y z. (test_symmetric S).first x y z v; last = λ x y z. (test_symmetric S).middle x y z v }
       k.t1 k.t2 k.t3 (star_down k.t1 k.t2 k.t3 k.cell) k.cell step
     where
       k : Corner (cell S) v
@@ -89,15 +85,15 @@ module _ (R S T U : PointSet) (v : Vertex) (a : IsAdd R v S) (b : IsAdd T v U) (
       step t1 t2 x y ux hx uy = go (cases_vertex y x)
         where
           w : Across (cell S) t1 t2 v x
-          w = (complex_of S).laws.across t1 t2 v x ((symm S).last t1 t2 v x ∙ hx)
+          w = (complex_of S).laws.across t1 t2 v x ((test_symmetric S).last t1 t2 v x ∙ hx)
 
           hw : cell S t1 t2 w.beyond v ≡ true
-          hw = sym ((symm S).last t1 t2 v w.beyond) ∙ w.cell
+          hw = sym ((test_symmetric S).last t1 t2 v w.beyond) ∙ w.cell
 
           go : (y ≡ x) ⊎ (y ≡ x → ⊥) → cell S t1 t2 y v ≡ true
           go (inl e) = ap (λ q. cell S t1 t2 q v) e ∙ hx
           go (inr n) = ap (λ q. cell S t1 t2 q v) (across_one (cell U) (complex_of U) t1 t2 v y w.beyond x
-              ((symm U).last t1 t2 v y ∙ uy) ((symm U).last t1 t2 v w.beyond ∙ star_down t1 t2 w.beyond hw) ((symm U).last t1 t2 v x ∙ ux) n w.other) ∙ hw
+              ((test_symmetric U).last t1 t2 v y ∙ uy) ((test_symmetric U).last t1 t2 v w.beyond ∙ star_down t1 t2 w.beyond hw) ((test_symmetric U).last t1 t2 v x ∙ ux) n w.other) ∙ hw
 
   -- the vertices of a cell that goes are beside v
   vertex_gone : (w x y z : Vertex) → gone (cell R) (cell S) w x y z ≡ true → IsVertexOf PointSet has T z
@@ -109,12 +105,12 @@ module _ (R S T U : PointSet) (v : Vertex) (a : IsAdd R v S) (b : IsAdd T v U) (
 
   -- in any order
   sg : Symmetric (gone (cell R) (cell S))
-  sg = without_symmetric (cell R) (cell S) (symm R) (symm S)
+  sg = without_symmetric (cell R) (cell S) (test_symmetric R) (test_symmetric S)
 
   -- a cell that v takes from the rest it takes from the small set
   gone_down : (w x y z : Vertex) → gone (cell R) (cell S) w x y z ≡ true → gone (cell T) (cell U) w x y z ≡ true
   gone_down w x y z h =
-      both (cell T w x y z) (cell U w x y z)
+      and_not (cell T w x y z) (cell U w x y z)
       (base.smaller R T st within w x y z g.0
       (vertex_gone x y z w (sym (first_last (gone (cell R) (cell S)) sg w x y z) ∙ h))
       (vertex_gone w y z x (sym (second_last (gone (cell R) (cell S)) sg w x y z) ∙ h))
@@ -123,7 +119,7 @@ module _ (R S T U : PointSet) (v : Vertex) (a : IsAdd R v S) (b : IsAdd T v U) (
       (false_if _ λ u. false≢true (sym g.1 ∙ base.union T U R S st t_in_u within u_in_s cover w x y z u g.0))
     where
       g : (cell R w x y z ≡ true) × (cell S w x y z ≡ false)
-      g = both_is (cell R w x y z) (cell S w x y z) h
+      g = and_not_from (cell R w x y z) (cell S w x y z) h
 
       cover : (q : Vertex) → has S q ≡ true → (has U q ≡ true) ⊎ (has R q ≡ true)
       cover q k = go (cases_vertex q v)
@@ -138,13 +134,13 @@ module _ (R S T U : PointSet) (v : Vertex) (a : IsAdd R v S) (b : IsAdd T v U) (
   gone_closed t1 t2 t3 x y hx hy = go (cases_vertex y x) (cell S t1 t2 t3 w.beyond) refl
     where
       gx : (cell R t1 t2 t3 x ≡ true) × (cell S t1 t2 t3 x ≡ false)
-      gx = both_is (cell R t1 t2 t3 x) (cell S t1 t2 t3 x) hx
+      gx = and_not_from (cell R t1 t2 t3 x) (cell S t1 t2 t3 x) hx
 
       ux : (cell T t1 t2 t3 x ≡ true) × (cell U t1 t2 t3 x ≡ false)
-      ux = both_is (cell T t1 t2 t3 x) (cell U t1 t2 t3 x) (gone_down t1 t2 t3 x hx)
+      ux = and_not_from (cell T t1 t2 t3 x) (cell U t1 t2 t3 x) (gone_down t1 t2 t3 x hx)
 
       uy : (cell T t1 t2 t3 y ≡ true) × (cell U t1 t2 t3 y ≡ false)
-      uy = both_is (cell T t1 t2 t3 y) (cell U t1 t2 t3 y) hy
+      uy = and_not_from (cell T t1 t2 t3 y) (cell U t1 t2 t3 y) hy
 
       w : Across (cell R) t1 t2 t3 x
       w = (complex_of R).laws.across t1 t2 t3 x gx.0
@@ -152,9 +148,9 @@ module _ (R S T U : PointSet) (v : Vertex) (a : IsAdd R v S) (b : IsAdd T v U) (
       go : (y ≡ x) ⊎ (y ≡ x → ⊥) → (r : Bool) → cell S t1 t2 t3 w.beyond ≡ r → gone (cell R) (cell S) t1 t2 t3 y ≡ true
       go (inl e) r q = ap (gone (cell R) (cell S) t1 t2 t3) e ∙ hx
       go (inr n) false q =
-          let gw = both (cell R t1 t2 t3 w.beyond) (cell S t1 t2 t3 w.beyond) w.cell q in
+          let gw = and_not (cell R t1 t2 t3 w.beyond) (cell S t1 t2 t3 w.beyond) w.cell q in
           ap (gone (cell R) (cell S) t1 t2 t3) (across_one (cell T) (complex_of T) t1 t2 t3 y w.beyond x
-          uy.0 (both_is (cell T t1 t2 t3 w.beyond) (cell U t1 t2 t3 w.beyond) (gone_down t1 t2 t3 w.beyond gw)).0 ux.0 n w.other) ∙ gw
+          uy.0 (and_not_from (cell T t1 t2 t3 w.beyond) (cell U t1 t2 t3 w.beyond) (gone_down t1 t2 t3 w.beyond gw)).0 ux.0 n w.other) ∙ gw
       go (inr n) true q =
           let new = rim_makes_new (cell R) (cell S) v ins t1 t2 t3
           record { kept = w.beyond; lost = x; kept_before = w.cell; kept_after = q; lost_before = gx.0; lost_after = gx.1 } in
@@ -169,7 +165,7 @@ module _ (R S T U : PointSet) (v : Vertex) (a : IsAdd R v S) (b : IsAdd T v U) (
       let m = ins.met in
       same_test (gone (cell T) (cell U) w x y z) (gone (cell R) (cell S) w x y z)
       (region (cell T) (cell U) v ins' (gone (cell R) (cell S)) sg gone_down gone_closed
-      m.t1 m.t2 m.t3 m.rim.lost (both (cell R m.t1 m.t2 m.t3 m.rim.lost) (cell S m.t1 m.t2 m.t3 m.rim.lost) m.rim.lost_before m.rim.lost_after) w x y z)
+      m.t1 m.t2 m.t3 m.rim.lost (and_not (cell R m.t1 m.t2 m.t3 m.rim.lost) (cell S m.t1 m.t2 m.t3 m.rim.lost) m.rim.lost_before m.rim.lost_after) w x y z)
       (gone_down w x y z)
 
 -- a solid rest shows in the points beside v and across from it
@@ -187,16 +183,16 @@ solid_near R S T v a rest near across = start (cases_vertex m.t1 far) (cases_ver
     c = gone (cell R) (cell S)
 
     sg : Symmetric (gone (cell R) (cell S))
-    sg = without_symmetric (cell R) (cell S) (symm R) (symm S)
+    sg = without_symmetric (cell R) (cell S) (test_symmetric R) (test_symmetric S)
 
     mg : gone (cell R) (cell S) m.t1 m.t2 m.t3 m.rim.lost ≡ true
-    mg = both (cell R m.t1 m.t2 m.t3 m.rim.lost) (cell S m.t1 m.t2 m.t3 m.rim.lost) m.rim.lost_before m.rim.lost_after
+    mg = and_not (cell R m.t1 m.t2 m.t3 m.rim.lost) (cell S m.t1 m.t2 m.t3 m.rim.lost) m.rim.lost_before m.rim.lost_after
 
     in_t : (w x y z : Vertex) → gone (cell R) (cell S) w x y z ≡ true → z ≢ far → has T z ≡ true
     in_t w x y z h n = near z n (from.linked R S v rest a w x y z h n)
 
     full : (w x y z : Vertex) → gone (cell R) (cell S) w x y z ≡ true → w ≢ far → x ≢ far → y ≢ far → z ≢ far → solid T ≡ true
-    full w x y z h i j k l = base.full_solid R T w x y z (both_is (cell R w x y z) (cell S w x y z) h).0
+    full w x y z h i j k l = base.full_solid R T w x y z (and_not_from (cell R w x y z) (cell S w x y z) h).0
         (in_t x y z w (sym (first_last (gone (cell R) (cell S)) sg w x y z) ∙ h) i)
         (in_t w y z x (sym (second_last (gone (cell R) (cell S)) sg w x y z) ∙ h) j)
         (in_t w x z y (sym (sg.last w x y z) ∙ h) k)
@@ -206,7 +202,7 @@ solid_near R S T v a rest near across = start (cases_vertex m.t1 far) (cases_ver
     open_one x y z h = go (cell S x y z d.beyond) refl
       where
         g : (cell R x y z far ≡ true) × (cell S x y z far ≡ false)
-        g = both_is (cell R x y z far) (cell S x y z far) h
+        g = and_not_from (cell R x y z far) (cell S x y z far) h
 
         n : (far ≢ z) × (far ≢ y) × (far ≢ x)
         n = last_apart (cell R) (complex_of R) x y z far g.0
@@ -215,7 +211,7 @@ solid_near R S T v a rest near across = start (cases_vertex m.t1 far) (cases_ver
         d = (complex_of R).laws.across x y z far g.0
 
         go : (r : Bool) → cell S x y z d.beyond ≡ r → solid T ≡ true
-        go false e = full x y z d.beyond (both (cell R x y z d.beyond) (cell S x y z d.beyond) d.cell e) (λ f. n.2 (sym f)) (λ f. n.1 (sym f)) (λ f. n.0 (sym f)) d.other
+        go false e = full x y z d.beyond (and_not (cell R x y z d.beyond) (cell S x y z d.beyond) d.cell e) (λ f. n.2 (sym f)) (λ f. n.1 (sym f)) (λ f. n.0 (sym f)) d.other
         go true e = base.full_solid R T x y z d.beyond d.cell
             (in_t y z far x (sym (first_last (gone (cell R) (cell S)) sg x y z far) ∙ h) (λ f. n.2 (sym f)))
             (in_t x z far y (sym (second_last (gone (cell R) (cell S)) sg x y z far) ∙ h) (λ f. n.1 (sym f)))
@@ -252,12 +248,12 @@ flat_rest R S v a s f e h = go (cases_vertex k.t1 v) (cases_vertex k.t2 v) (case
     in_r q n p = sym (a.same q n) ∙ p
 
     go : (k.t1 ≡ v) ⊎ (k.t1 ≡ v → ⊥) → (k.t2 ≡ v) ⊎ (k.t2 ≡ v → ⊥) → (k.t3 ≡ v) ⊎ (k.t3 ≡ v → ⊥) → AreLinked (cell S) v e
-    go (inl p) b d = record { t1 = k.t2; t2 = k.t3; cell = ap (cell S k.t2 k.t3 e) (sym p) ∙ sym (first_last (cell S) (symm S) k.t1 k.t2 k.t3 e) ∙ k.cell }
-    go (inr l) (inl p) d = record { t1 = k.t1; t2 = k.t3; cell = ap (cell S k.t1 k.t3 e) (sym p) ∙ sym (second_last (cell S) (symm S) k.t1 k.t2 k.t3 e) ∙ k.cell }
-    go (inr l) (inr m) (inl p) = record { t1 = k.t1; t2 = k.t2; cell = ap (cell S k.t1 k.t2 e) (sym p) ∙ sym ((symm S).last k.t1 k.t2 k.t3 e) ∙ k.cell }
+    go (inl p) b d = record { t1 = k.t2; t2 = k.t3; cell = ap (cell S k.t2 k.t3 e) (sym p) ∙ sym (first_last (cell S) (test_symmetric S) k.t1 k.t2 k.t3 e) ∙ k.cell }
+    go (inr l) (inl p) d = record { t1 = k.t1; t2 = k.t3; cell = ap (cell S k.t1 k.t3 e) (sym p) ∙ sym (second_last (cell S) (test_symmetric S) k.t1 k.t2 k.t3 e) ∙ k.cell }
+    go (inr l) (inr m) (inl p) = record { t1 = k.t1; t2 = k.t2; cell = ap (cell S k.t1 k.t2 e) (sym p) ∙ sym ((test_symmetric S).last k.t1 k.t2 k.t3 e) ∙ k.cell }
     go (inr l) (inr m) (inr n) =
         absurd (false≢true (sym f ∙ base.full_solid S R k.t1 k.t2 k.t3 e k.cell
-        (in_r k.t1 l (base.point S k.t2 k.t3 e k.t1 (sym (first_last (cell S) (symm S) k.t1 k.t2 k.t3 e) ∙ k.cell) k.finite1))
-        (in_r k.t2 m (base.point S k.t1 k.t3 e k.t2 (sym (second_last (cell S) (symm S) k.t1 k.t2 k.t3 e) ∙ k.cell) k.finite2))
-        (in_r k.t3 n (base.point S k.t1 k.t2 e k.t3 (sym ((symm S).last k.t1 k.t2 k.t3 e) ∙ k.cell) k.finite3))
+        (in_r k.t1 l (base.point S k.t2 k.t3 e k.t1 (sym (first_last (cell S) (test_symmetric S) k.t1 k.t2 k.t3 e) ∙ k.cell) k.finite1))
+        (in_r k.t2 m (base.point S k.t1 k.t3 e k.t2 (sym (second_last (cell S) (test_symmetric S) k.t1 k.t2 k.t3 e) ∙ k.cell) k.finite2))
+        (in_r k.t3 n (base.point S k.t1 k.t2 e k.t3 (sym ((test_symmetric S).last k.t1 k.t2 k.t3 e) ∙ k.cell) k.finite3))
         h))

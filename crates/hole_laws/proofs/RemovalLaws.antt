@@ -2,6 +2,7 @@
 use Rattle.std.specs.Prelude.{◌≡◌, ◌≢◌, ℕ, true, false, List, ◌⊎◌, ◌↔◌}
 use Rattle.std.proofs.Common.{refl, sym, ap, ◌∙◌, inl, inr, subst}
 use Rattle.std.proofs.lemmas.Bool.{false≢true}
+use Rattle.list_laws.proofs.Cited.{false_if, four_is, is_in, not_both}
 use Rattle.point_order.specs.Sets.{IsIn, with_point, without_point}
 use Rattle.point_order.specs.Solid.{is_solid}
 use Rattle.point_order.specs.Complex.{complex}
@@ -9,16 +10,13 @@ use Rattle.point_order.specs.Facets.{facets_of, points_of}
 use Rattle.point_order.specs.declared.cell.Cell.{Cell}
 use Rattle.del_laws.specs.Cells.{Vertex, point, far}
 use Rattle.del_laws.specs.PointSets.{has, cell}
-use Rattle.del_laws.proofs.Decide.{is_in}
-use Rattle.del_laws.proofs.Ordered.{complex_is_sorted}
-use Rattle.del_laws.proofs.PointSets.{solid_more}
-use Rattle.del_laws.proofs.Tests.{false_if, not_both}
+use Rattle.del_laws.proofs.Cited.{complex_is_sorted, solid_more}
 use Rattle.hole_laws.proofs.Tests.{IsComplex, AreLinked, IsOpposite, gone}
 use Rattle.hole_laws.specs.Lists.{Goes, AreJoined}
 use Rattle.hole_laws.proofs.Vertex.{has_vertex, ListsCells}
-use Rattle.hole_laws.specs.Edits.{IsSet, IsSolidSet, IsNew, GoesFrom, IsAcross}
+use Rattle.hole_laws.specs.Edits.{IsSet, IsSolidSet, IsNew, GoesFrom, IsPointAcross}
 use Rattle.hole_laws.specs.Laws.{CellsOfRest, MadeByRemoval, RefilledFromLink, ComingAreNear, SolidNear, FlatRestJoined}
-use Rattle.hole_laws.proofs.CellVertices.{four_is, same_cell, all_vertices}
+use Rattle.hole_laws.proofs.CellVertices.{same_cell, all_vertices}
 use Rattle.hole_laws.proofs.FacetVertices.{facet_against, shared_facet}
 use Rattle.hole_laws.proofs.Listed.{four_of, corners, goes_test, test_goes}
 use Rattle.hole_laws.proofs.NewCells.{point_vertex, vertex_point}
@@ -84,7 +82,7 @@ module _ (r : List ℕ) (v : ℕ) (i : IsSet r) (n : IsNew r v) where
       (removal.flat_rest (set_of r i) (set_of (with_point v r) more) (point v) (adds r v i n) (solid_of (with_point v r) more h) (false_if _ (λ k. not_both (is_solid r) (of_solid r i k) f)) (point e) (has_of r i e m))
 
   -- a solid rest shows in what is joined to v and what is across
-  pub solid_shows : (t : List ℕ) (j : IsSet t) → is_solid r ≡ true → ((e : ℕ) → e ≢ v → AreJoined (complex (with_point v r)) v e → IsIn e t) → ((e : ℕ) → IsAcross (with_point v r) v e → IsIn e t) → is_solid t ≡ true
+  pub solid_shows : (t : List ℕ) (j : IsSet t) → is_solid r ≡ true → ((e : ℕ) → e ≢ v → AreJoined (complex (with_point v r)) v e → IsIn e t) → ((e : ℕ) → IsPointAcross (with_point v r) v e → IsIn e t) → is_solid t ≡ true
   solid_shows t j h link across =
       of_solid t j (removal.solid_near (set_of r i) (set_of (with_point v r) more) (set_of t j) (point v) (adds r v i n) (solid_of r i h) (link_has t j link) opposite)
     where
@@ -94,7 +92,7 @@ module _ (r : List ℕ) (v : ℕ) (i : IsSet r) (n : IsNew r v) where
       whole : IsComplex (cell (set_of (with_point v r) more))
       whole = complex_of (set_of (with_point v r) more)
 
-      found : (e : ℕ) → IsOpposite (cell (set_of (with_point v r) more)) (point v) (point e) → IsAcross (with_point v r) v e
+      found : (e : ℕ) → IsOpposite (cell (set_of (with_point v r) more)) (point v) (point e) → IsPointAcross (with_point v r) v e
       found e o =
           let a = lists.found o.t1 o.t2 o.t3 (point v) o.here in
           let b = lists.found o.t1 o.t2 o.t3 (point e) o.there in
@@ -180,7 +178,7 @@ pub solid_near : SolidNear
 solid_near s v t i m j h link across =
     solid_shows (without_point v s) v (rest_set v s i) (rest_new v s i m) t j h
     (back s v i m (λ x. (e : ℕ) → e ≢ v → AreJoined (complex x) v e → IsIn e t) link)
-    (back s v i m (λ x. (e : ℕ) → IsAcross x v e → IsIn e t) across)
+    (back s v i m (λ x. (e : ℕ) → IsPointAcross x v e → IsIn e t) across)
 
 -- a flat rest is in the link
 pub flat_rest_joined : FlatRestJoined

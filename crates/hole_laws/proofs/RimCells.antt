@@ -1,15 +1,15 @@
 -- Each rim facet has one cell that goes, and its own new cell.
 use Rattle.std.specs.Prelude.{◌≡◌, ℕ, List, ◌∷◌, ◌⊎◌}
 use Rattle.std.proofs.Common.{sym, ap, ◌∙◌, subst, inl, inr}
+use Rattle.list_laws.proofs.Cited.{same_members}
 use Rattle.point_order.specs.Sets.{IsIn, IsAscending, with_point, ascending}
 use Rattle.point_order.specs.Complex.{complex}
 use Rattle.point_order.specs.declared.cell.Cell.{Cell}
 use Rattle.point_order.specs.declared.cell.Facet.{Facet}
 use Rattle.point_order.specs.declared.cell.Facet.TheVariants.{Three, Two}
-use Rattle.point_order.proofs.SetLaws.{same-members, in-ascending, in-ascending_from}
+use Rattle.point_order.proofs.Cited.{in-ascending, in-ascending_from}
 use Rattle.del_laws.specs.Cells.{point}
-use Rattle.del_laws.proofs.Neighbours.{listed_facets}
-use Rattle.del_laws.proofs.Listed.{same_full, same_open, not_both_kinds}
+use Rattle.del_laws.proofs.Cited.{listed_facets, not_both_kinds, same_full, same_open}
 use Rattle.hole_laws.specs.Lists.{cell_over}
 use Rattle.hole_laws.specs.Edits.{IsSolidSet, IsNew, IsRimOf}
 use Rattle.hole_laws.specs.Laws.{OneGoneEach, OneFreshEach}
@@ -21,7 +21,7 @@ use Rattle.hole_laws.proofs.Laws.{old_lack_point}
 
 -- lists that are one when p is put in, and do not have p, are one
 same_rest : (t u : List ℕ) (p : ℕ) → IsAscending t → IsAscending u → ¬ (IsIn p t) → ¬ (IsIn p u) → ascending (p ∷ t) ≡ ascending (p ∷ u) → t ≡ u
-same_rest t u p a b n k e = same-members t u a b (into t u n e) (into u t k (sym e))
+same_rest t u p a b n k e = same_members t u a b (into t u n e) (into u t k (sym e))
   where
     into : (t u : List ℕ) → ¬ (IsIn p t) → ascending (p ∷ t) ≡ ascending (p ∷ u) → (q : ℕ) → IsIn q t → IsIn q u
     into t u n e q m = elim (in-ascending (p ∷ u) q (subst (λ (v : List ℕ). IsIn q v) e (in-ascending_from (p ∷ t) q (inr m)))) [

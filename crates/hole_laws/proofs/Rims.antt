@@ -9,18 +9,6 @@ use Rattle.hole_laws.proofs.Vertices.{cases_vertex}
 
 -- ---- tests with two answers
 
--- the one and not the other
-pub both : (a b : Bool) → a ≡ true → b ≡ false → (a && not b) ≡ true
-both a b h k = grind arith
-
--- and back
-pub both_is : (a b : Bool) → (a && not b) ≡ true → (a ≡ true) × (b ≡ false)
-both_is a b h = grind arith
-
--- the one, and not without the other
-pub kept_is : (a b : Bool) → a ≡ true → (a && not b) ≡ false → b ≡ true
-kept_is a b h k = grind arith
-
 -- what passes one symmetric test and not another
 pub without_symmetric : (f g : Vertex → Vertex → Vertex → Vertex → Bool) → Symmetric f → Symmetric g → Symmetric (λ w x y z. f w x y z && not (g w x y z))
 without_symmetric f g s t = record {

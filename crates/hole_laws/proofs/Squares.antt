@@ -2,13 +2,14 @@
 use Rattle.std.specs.Prelude.{◌≡◌, Bool, true, false, ◌≢◌, ◌⊎◌}
 use Rattle.std.proofs.Common.{refl, sym, ap, ◌∙◌, subst, inl, inr}
 use Rattle.std.proofs.lemmas.Bool.{false≢true}
+use Rattle.list_laws.proofs.Cited.{and_not, and_not_from, false_if, same_test}
 use Rattle.del_laws.specs.Cells.{Vertex, far}
 use Rattle.del_laws.specs.Base.{Symmetric}
 use Rattle.del_laws.specs.PointSets.{PointSet, solid, cell}
-use Rattle.del_laws.proofs.Tests.{same_test, false_if}
+use Rattle.del_laws.proofs.Cited.{test_symmetric}
 use Rattle.hole_laws.proofs.Tests.{IsAdd, IsAtGone, gone}
 use Rattle.hole_laws.proofs.Vertices.{cases_vertex, first_last, second_last}
-use Rattle.hole_laws.proofs.Rims.{last_apart, absent_all, new_has_rim, both, both_is, without_symmetric}
+use Rattle.hole_laws.proofs.Rims.{last_apart, absent_all, new_has_rim, without_symmetric}
 use Rattle.hole_laws.proofs.Region.{region}
 use Rattle.hole_laws.proofs.FromBase.{complex_of}
 use Rattle.hole_laws.proofs.FromBase as from
@@ -17,28 +18,24 @@ use Rattle.hole_laws.proofs.FromBase as from
 abbrev pub goes : PointSet → PointSet → Vertex → Vertex → Vertex → Vertex → Bool
 goes S T = gone (cell S) (cell T)
 
--- a cell is symmetric
-pub symmetric : (S : PointSet) → Symmetric (cell S)
-symmetric S = (complex_of S).laws.symmetric
-
 -- and so is one that goes
 pub goes_symmetric : (S T : PointSet) → Symmetric (goes S T)
-goes_symmetric S T = without_symmetric (cell S) (cell T) (symmetric S) (symmetric T)
+goes_symmetric S T = without_symmetric (cell S) (cell T) (test_symmetric S) (test_symmetric T)
 
 -- a cell that goes is one of the one set and none of the other
 pub goes_is : (S T : PointSet) (w x y z : Vertex) → goes S T w x y z ≡ true → (cell S w x y z ≡ true) × (cell T w x y z ≡ false)
-goes_is S T w x y z h = both_is (cell S w x y z) (cell T w x y z) h
+goes_is S T w x y z h = and_not_from (cell S w x y z) (cell T w x y z) h
 
 -- and back
 pub to_goes : (S T : PointSet) (w x y z : Vertex) → cell S w x y z ≡ true → (cell T w x y z ≡ true → ⊥) → goes S T w x y z ≡ true
-to_goes S T w x y z h n = both (cell S w x y z) (cell T w x y z) h (false_if _ n)
+to_goes S T w x y z h n = and_not (cell S w x y z) (cell T w x y z) h (false_if _ n)
 
 -- a facet has a point
 pub facet_point : (S : PointSet) (t1 t2 t3 x : Vertex) → cell S t1 t2 t3 x ≡ true → (t3 ≢ far) ⊎ (t2 ≢ far)
 facet_point S t1 t2 t3 x h = pick t2 t3 far (last_apart (cell S) (complex_of S) x t1 t2 t3 rot).0 (cases_vertex t3 far) (cases_vertex t2 far)
   where
     rot : cell S x t1 t2 t3 ≡ true
-    rot = first_last (cell S) (symmetric S) x t1 t2 t3 ∙ h
+    rot = first_last (cell S) (test_symmetric S) x t1 t2 t3 ∙ h
 
     pick : (a b o : Vertex) → b ≢ a → (b ≡ o) ⊎ (b ≡ o → ⊥) → (a ≡ o) ⊎ (a ≡ o → ⊥) → (b ≢ o) ⊎ (a ≢ o)
     pick a b o n (inr m) q = inl m
@@ -122,7 +119,7 @@ module _ (R A B T : PointSet) (x y : Vertex) (q : Square R A B T x y) (s : solid
 
       there : (b : Bool) → cell A v1 v2 v3 v4 ≡ b → cell A v1 v2 v3 v4 ≡ true
       there true e = e
-      there false e = absurd (share R A R B x y d v1 v2 v3 v4 v4 (both (cell R v1 v2 v3 v4) (cell A v1 v2 v3 v4) g.0 e) h)
+      there false e = absurd (share R A R B x y d v1 v2 v3 v4 v4 (and_not (cell R v1 v2 v3 v4) (cell A v1 v2 v3 v4) g.0 e) h)
 
   -- and no more: across a facet of such a cell from A lies such a cell
   far_closed : Disjoint (Rho R A x) (Rho R B y) → (t1 t2 t3 z w : Vertex) → goes R B t1 t2 t3 z ≡ true → goes A T t1 t2 t3 w ≡ true → goes R B t1 t2 t3 w ≡ true
@@ -137,7 +134,7 @@ module _ (R A B T : PointSet) (x y : Vertex) (q : Square R A B T x y) (s : solid
       go : (w ≡ x) ⊎ (w ≡ x → ⊥) → goes R B t1 t2 t3 w ≡ true
       go (inl e) =
           let r = new_has_rim (cell R) (cell A) x (from.insertion R A x s q.ra) t1 t2 t3 (ap (cell A t1 t2 t3) (sym e) ∙ k.0) in
-          absurd (share R A R B x y d t1 t2 t3 r.lost z (both (cell R t1 t2 t3 r.lost) (cell A t1 t2 t3 r.lost) r.lost_before r.lost_after) hz)
+          absurd (share R A R B x y d t1 t2 t3 r.lost z (and_not (cell R t1 t2 t3 r.lost) (cell A t1 t2 t3 r.lost) r.lost_before r.lost_after) hz)
       go (inr m) = to_goes R B t1 t2 t3 w (from.old R A x s q.ra t1 t2 t3 w k.0 n.0 n.1 n.2 m)
           λ h. false≢true (sym k.1 ∙ from.meet R A B T x y s q.ra q.rb q.at t1 t2 t3 w k.0 h)
 
@@ -147,7 +144,7 @@ module _ (R A B T : PointSet) (x y : Vertex) (q : Square R A B T x y) (s : solid
       let m = from.rim R B y s q.rb in
       same_test (goes A T v1 v2 v3 v4) (goes R B v1 v2 v3 v4)
       (λ h. region (cell A) (cell T) y (from.insertion A T y solid_a q.at)
-      (goes R B) (goes_symmetric R B) (far_into d) (far_closed d) m.t1 m.t2 m.t3 m.rim.lost (both (cell R m.t1 m.t2 m.t3 m.rim.lost) (cell B m.t1 m.t2 m.t3 m.rim.lost) m.rim.lost_before m.rim.lost_after) v1 v2 v3 v4 h)
+      (goes R B) (goes_symmetric R B) (far_into d) (far_closed d) m.t1 m.t2 m.t3 m.rim.lost (and_not (cell R m.t1 m.t2 m.t3 m.rim.lost) (cell B m.t1 m.t2 m.t3 m.rim.lost) m.rim.lost_before m.rim.lost_after) v1 v2 v3 v4 h)
       (far_into d v1 v2 v3 v4)
 
   -- the same, where it is far from x at A
@@ -173,7 +170,7 @@ module _ (R A B T : PointSet) (x y : Vertex) (q : Square R A B T x y) (s : solid
 
       go : (b : Bool) → cell A t1 t2 t3 w ≡ b → goes A T t1 t2 t3 w ≡ true
       go true e = to_goes A T t1 t2 t3 w e λ t. false≢true (sym k.1 ∙ from.old B T x solid_b q.bt t1 t2 t3 w t n.0 n.1 n.2 n.3)
-      go false e = absurd (share R A A T x y d t1 t2 t3 w z (both (cell R t1 t2 t3 w) (cell A t1 t2 t3 w) k.0 e) hz)
+      go false e = absurd (share R A A T x y d t1 t2 t3 w z (and_not (cell R t1 t2 t3 w) (cell A t1 t2 t3 w) k.0 e) hz)
 
   -- so it takes away the same cells
   pub same_near : Disjoint (Rho R A x) (Rho A T y) → (v1 v2 v3 v4 : Vertex) → goes R B v1 v2 v3 v4 ≡ goes A T v1 v2 v3 v4
@@ -181,5 +178,5 @@ module _ (R A B T : PointSet) (x y : Vertex) (q : Square R A B T x y) (s : solid
       let m = from.rim A T y solid_a q.at in
       same_test (goes R B v1 v2 v3 v4) (goes A T v1 v2 v3 v4)
       (λ h. region (cell R) (cell B) y (from.insertion R B y s q.rb)
-      (goes A T) (goes_symmetric A T) (near_into d) (near_closed d) m.t1 m.t2 m.t3 m.rim.lost (both (cell A m.t1 m.t2 m.t3 m.rim.lost) (cell T m.t1 m.t2 m.t3 m.rim.lost) m.rim.lost_before m.rim.lost_after) v1 v2 v3 v4 h)
+      (goes A T) (goes_symmetric A T) (near_into d) (near_closed d) m.t1 m.t2 m.t3 m.rim.lost (and_not (cell A m.t1 m.t2 m.t3 m.rim.lost) (cell T m.t1 m.t2 m.t3 m.rim.lost) m.rim.lost_before m.rim.lost_after) v1 v2 v3 v4 h)
       (near_into d v1 v2 v3 v4)

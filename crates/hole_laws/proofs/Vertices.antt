@@ -2,7 +2,7 @@
 use Rattle.std.specs.Prelude.{◌≡◌, Bool, ◌⊎◌}
 use Rattle.std.proofs.Common.{◌∙◌, inl, inr}
 use Rattle.del_laws.specs.Cells.{Vertex}
-use Rattle.del_laws.proofs.Decide.{vertex_discrete}
+use Rattle.del_laws.proofs.Cited.{vertex_discrete}
 use Rattle.del_laws.specs.Base.{Symmetric}
 
 -- two vertices are one or not

@@ -62,7 +62,7 @@ pub record IsLinkSet (s : List ℕ) (v : ℕ) (t : List ℕ) : Type 0 where
   pub link : (e : ℕ) → e ≢ v → AreJoined (complex s) v e → IsIn e t
 
 -- e is a point of the cell across a facet of a cell at v, against v
-pub record IsAcross (s : List ℕ) (v e : ℕ) : Type 0 where
+pub record IsPointAcross (s : List ℕ) (v e : ℕ) : Type 0 where
   pub f : Facet
   pub here : Cell
   pub here_listed : IsIn here (complex s)

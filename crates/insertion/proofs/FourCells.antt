@@ -11,9 +11,7 @@ use Rattle.point_order.specs.Solid.{is_solid}
 use Rattle.point_order.specs.Subsets.{subsets}
 use Rattle.del_laws.specs.Keys.{AreKeys}
 use Rattle.del_laws.specs.Listed.{IsListedFull, IsListedOpen}
-use Rattle.del_laws.proofs.Listed.{listed_is_cell, listed_inside, part_true}
-use Rattle.del_laws.proofs.ListedParts.{listed_every_point}
-use Rattle.del_laws.proofs.Neighbours.{listed_facets}
+use Rattle.del_laws.proofs.Cited.{listed_every_point, listed_facets, listed_inside, listed_is_cell, part_true}
 use Rattle.insertion.specs.Opening.{five_cells, FourHaveFive}
 
 -- the points of a listed Full cell are a part of the set

@@ -1,6 +1,7 @@
 -- The entry of a new point.
 use Rattle.std.specs.Prelude.{◌≡◌, ℕ, cond, List}
 use Rattle.std.proofs.Common.{sym, ◌∙◌, ap, subst}
+use Rattle.list_laws.proofs.Cited.{among_from, false_if}
 use Rattle.point_order.specs.Complex.{complex}
 use Rattle.point_order.specs.Sets.{is_among, with_point}
 use Rattle.edit_history.specs.declared.history.Edit.TheVariants.{Add}
@@ -8,7 +9,6 @@ use Rattle.edit_history.specs.declared.history.Entry.{Entry}
 use Rattle.edit_history.specs.declared.history.Reply.TheVariants.{Inserted, Duplicate}
 use Rattle.edit_history.specs.Edits.{point_of, reply_to, changed, after}
 use Rattle.edit_history.specs.Histories.{replay}
-use Rattle.del_laws.proofs.Tests.{among_from, false_if}
 use Rattle.cell_store.specs.Changes.{IsChange}
 use Rattle.insertion.specs.Growing.{IsInsertion, InsertionFollows}
 

@@ -2,3 +2,4 @@ pub mod FourCells
 pub mod OpeningLaws
 pub mod Insertions
 pub mod MeshGrowth
+pub mod Cited

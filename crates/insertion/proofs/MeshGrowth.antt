@@ -3,16 +3,15 @@ use Rattle.std.specs.Prelude.{◌≡◌, refl, ℕ, suc, ◌+◌, ◌<◌, ◌�
 use Rattle.std.specs.Option.{option_map}
 use Rattle.std.proofs.Common.{inl, inr, ap, sym, subst, ◌∙◌, arith}
 use Rattle.point_order.specs.Orientation.{is_flat}
-use Rattle.point_order.specs.Sets.{IsIn, IsAscending, is_among, with_point}
+use Rattle.point_order.specs.Sets.{IsIn, IsAscending, with_point}
 use Rattle.edit_history.specs.Opening.{Four, opening_four}
 use Rattle.edit_history.specs.OneThread.{places}
 use Rattle.edit_history.specs.Laws.{AreIndependent as AreIndependentOf}
-use Rattle.edit_history.proofs.OpeningSolid.{four_law}
-use Rattle.point_order.proofs.SetLaws.{in-place, in-ascending, in-with, in-with_old, in-with_new, same-members}
+use Rattle.edit_history.proofs.Cited.{four_law, replay_more}
+use Rattle.point_order.proofs.Cited.{in-ascending, in-with, in-with_new, in-with_old}
 use Rattle.std.proofs.lemmas.List.{take_all, length-append}
-use Rattle.del_laws.proofs.Tests.{among_true}
-use Rattle.cell_store.proofs.Members.{in-take_more, at-place}
-use Rattle.cell_store.proofs.ShareLaws.{ascending_replay}
+use Rattle.list_laws.proofs.Cited.{at_place, in_more, index_in, same_members}
+use Rattle.cell_store.proofs.Cited.{ascending_replay}
 use Rattle.insertion.specs.Opening.{inserted, opening_history}
 use Rattle.insertion.proofs.OpeningLaws.{leaves_four}
 use Rattle.insertion.specs.Opening.{AreIndependent}
@@ -22,7 +21,6 @@ use Rattle.edit_history.specs.Edits.{point_of}
 use Rattle.edit_history.specs.Histories.{replay}
 use Rattle.hole_laws.specs.Edits.{IsNew}
 use Rattle.insertion.specs.Growing.{AreAmong, IsInsertion, HasGrown}
-use Rattle.edit_history.proofs.OneMore.{replay_more}
 use Rattle.insertion.proofs.Insertions.{left_by}
 
 -- four places in a list, of independent points
@@ -51,13 +49,9 @@ four_found points four e = by (opening_four points) (four_law points) e
       independent = i.independent;
     })
 
--- a point at a place is one of the list
-at_place_in : (points : List ℕ) (i : ℕ) → i < length points → IsIn (slice_index points i) points
-at_place_in points i l = in-place points i 0 l
-
 pub found_among : (points four : List ℕ) → AreFound points four → AreAmong ((0, slice_index points (slice_index_or four 0 0)) ∷ (0, slice_index points (slice_index_or four 1 0)) ∷ (0, slice_index points (slice_index_or four 2 0)) ∷ (0, slice_index points (slice_index_or four 3 0)) ∷ []) points
 found_among points four f line i =
-    let to : (k : ℕ) → k < length points → (0, slice_index points k) ≡ line → IsIn line.1 points = λ k l e. subst (λ (m : ℕ × ℕ). IsIn m.1 points) e (at_place_in points k l) in
+    let to : (k : ℕ) → k < length points → (0, slice_index points k) ≡ line → IsIn line.1 points = λ k l e. subst (λ (m : ℕ × ℕ). IsIn m.1 points) e (index_in points k l) in
     elim i [
       | inl e ↦ to (slice_index_or four 0 0) f.first e
       | inr i ↦ elim i [
@@ -74,10 +68,6 @@ found_among points four f line i =
 -- the point of an insertion is new
 pub new_of : (h : List Entry) (e : Entry) (p : ℕ) → IsKey p → p ≡ point_of e.edit → IsInsertion h e → IsNew (replay h) p
 new_of h e p k q i = record { key = k; absent = λ m. i.absent (subst (λ (x : ℕ). IsIn x (replay h)) q m) }
-
--- a point whose test is false is none of the set
-pub not_among : (s : List ℕ) (p : ℕ) → is_among p s ≡ false → ¬ (IsIn p s)
-not_among s p f i = let t = among_true p s i in cc (t, f)
 
 -- ---- a mesh grows
 
@@ -115,7 +105,7 @@ pub grown_same : (points : List ℕ) (i n p : ℕ) (h : List Entry) → i < leng
 grown_same points i n p h l e g k = record {
   count = g.count;
   inside = g.inside;
-  front_in = λ q j. elim (in-take_more points i p q l e (subst (λ (t : ℕ). IsIn q (take t points)) (one_up i) j)) [ inl f ↦ g.front_in q f | inr f ↦ subst (λ (v : ℕ). IsIn v (replay h)) f k ];
+  front_in = λ q j. elim (in_more points i p p q l e (subst (λ (t : ℕ). IsIn q (take t points)) (one_up i) j)) [ inl f ↦ g.front_in q f | inr f ↦ subst (λ (v : ℕ). IsIn v (replay h)) f k ];
 }
 
 -- a point that is inserted
@@ -123,10 +113,10 @@ pub grown_more : (points : List ℕ) (i n p : ℕ) (h : List Entry) (e : Entry) 
 grown_more points i n p h e l q g k ins = record {
   count = ap (λ (v : ℕ). v + 1) g.count ∙ sym (length-append h (e ∷ []));
   inside = λ r j. elim (in-with p r (replay h) (subst (λ (s : List ℕ). IsIn r s) left j)) [
-    | inl f ↦ subst (λ (v : ℕ). IsIn v points) f (at-place points i p l q)
+    | inl f ↦ subst (λ (v : ℕ). IsIn v points) f (at_place points i p p l q)
     | inr f ↦ g.inside r f
   ];
-  front_in = λ r j. subst (λ (s : List ℕ). IsIn r s) (sym left) (elim (in-take_more points i p r l q (subst (λ (t : ℕ). IsIn r (take t points)) (one_up i) j)) [
+  front_in = λ r j. subst (λ (s : List ℕ). IsIn r s) (sym left) (elim (in_more points i p p r l q (subst (λ (t : ℕ). IsIn r (take t points)) (one_up i) j)) [
     | inl f ↦ in-with_old p r (replay h) (g.front_in r f)
     | inr f ↦ subst (λ (v : ℕ). IsIn v (with_point p (replay h))) f (in-with_new p (replay h))
   ]);
@@ -142,4 +132,4 @@ inserts h n p e c a q = subst (IsInsertion h) (sym q) (record { edit = refl; abs
 -- all points
 pub grown_all : (points : List ℕ) (i n : ℕ) (h : List Entry) → IsAscending points → length points ≤ i → HasGrown points (take i points) n h → replay h ≡ points
 grown_all points i n h a l g =
-    same-members (replay h) points (ascending_replay h) a g.inside (λ p k. g.front_in p (subst (λ (s : List ℕ). IsIn p s) (sym (take_all i points l)) k))
+    same_members (replay h) points (ascending_replay h) a g.inside (λ p k. g.front_in p (subst (λ (s : List ℕ). IsIn p s) (sym (take_all i points l)) k))

@@ -1,57 +1,48 @@
 -- The mesh of four independent points stands for the history that begins with them.
-use Rattle.std.specs.Prelude.{◌≡◌, refl, ℕ, zero, suc, map, ◌+◌, ◌<◌, true, false, Bool, cond, List, [], ◌∷◌, ◌++◌, length, Option, Some, slice_index_or, ℤ, pos, neg_ℤ, ◌==◌}
+use Rattle.std.specs.Prelude.{◌≡◌, refl, ℕ, zero, suc, map, ◌+◌, ◌<◌, true, false, Bool, cond, List, [], ◌∷◌, ◌++◌, length, Option, Some, slice_index_or, pos, ◌==◌}
 use Rattle.std.specs.List.{filter}
 use Rattle.std.proofs.Common.{inl, inr, ap, sym, subst, ◌∙◌, arith}
 use Rattle.std.proofs.lemmas.Int.{ints}
+use Rattle.list_laws.proofs.Cited.{among_from, self_negative}
 use Rattle.point_order.specs.declared.cell.Cell.{Cell}
 use Rattle.point_order.specs.Complex.{complex}
 use Rattle.point_order.specs.Coordinates.{IsKey}
-use Rattle.point_order.specs.Orientation.{orientation, is_flat, is_zero}
+use Rattle.point_order.specs.Orientation.{orientation, is_flat}
 use Rattle.point_order.specs.Sets.{IsIn, IsAscending, AreFour, ascending, is_among, with_point}
 use Rattle.point_order.specs.Solid.{is_solid}
-use Rattle.point_order.proofs.Determinants.{swap-first, swap-middle, last-first, last-second, last-third}
-use Rattle.point_order.proofs.SetLaws.{in-with, in-with_old, in-with_new, ascending-with, ascending-is, ascending-ascending, in-ascending, in-ascending_from}
+use Rattle.point_order.proofs.Cited.{ascending-ascending, ascending-is, ascending-with, in-ascending, in-ascending_from, in-with, in-with_new, in-with_old, last-first, last-second, last-third, swap-first, swap-middle, zero_true}
 use Rattle.edit_history.specs.declared.history.Entry.{Entry}
 use Rattle.edit_history.specs.declared.history.Reply.TheVariants.{Inserted}
 use Rattle.edit_history.specs.Edits.{point_of, reply_to, changed}
 use Rattle.edit_history.specs.Histories.{replay, replay_from, IsLegal, IsLegalFrom}
-use Rattle.edit_history.proofs.Solidity.{solid-from}
+use Rattle.edit_history.proofs.Cited.{solid-from}
 use Rattle.del_laws.specs.Keys.{AreKeys}
-use Rattle.del_laws.proofs.Tests.{among_from}
 use Rattle.cell_store.specs.Grids.{bucket_of}
 use Rattle.cell_store.specs.Swaps.{swapped, touches}
-use Rattle.cell_store.specs.Buckets.{Content, InHand, bucket_at, at_place}
+use Rattle.cell_store.specs.Buckets.{BucketContent, InHand, bucket_at, at_place}
 use Rattle.cell_store.specs.Shares.{Stands, IsShare, points_share, cells_share, entries_share}
 use Rattle.cell_store.specs.Changes.{IsChange, IsNoted, noted_in, swapped_in}
-use Rattle.cell_store.proofs.NextLaws.{cells_after, points_after, points_stay, entries_after, entries_stay, mapped_some, replay_next}
-use Rattle.cell_store.proofs.ShareLaws.{ascending_replay}
+use Rattle.cell_store.proofs.Cited.{ascending_replay, cells_after, entries_after, entries_stay, mapped_some, points_after, points_stay, replay_next}
 use Rattle.insertion.specs.Opening.{five_cells, inserted, inserted_from, opening_history, AreIndependent, nothing, IsBare, HasCellsOfFour}
 use Rattle.insertion.proofs.FourCells.{four_have_five}
 
 -- ---- independent points are distinct
 
-zero_of : (z : ℤ) → z ≡ pos 0 → is_zero z ≡ true
-zero_of z e = rw e refl
-
--- a number that is its opposite is 0
-self_opposite : (z : ℤ) → z ≡ neg_ℤ z → z ≡ pos 0
-self_opposite z e = omega (arith, ints, e)
-
 pub four_apart : (a b c d : ℕ) → is_flat a b c d ≡ false → AreFour a b c d
 four_apart a b c d f = (
-  (λ e. no (subst (λ x. orientation a x c d ≡ pos 0) e (self_opposite _ (swap-first a a c d)))),
+  (λ e. no (subst (λ x. orientation a x c d ≡ pos 0) e (self_negative _ (swap-first a a c d)))),
   (λ e. no (subst (λ x. orientation a b x d ≡ pos 0) e (from_swap b d))),
   (λ e. no (subst (λ x. orientation a b c x ≡ pos 0) e (last-first a b c))),
-  (λ e. no (subst (λ x. orientation a b x d ≡ pos 0) e (self_opposite _ (swap-middle a b b d)))),
+  (λ e. no (subst (λ x. orientation a b x d ≡ pos 0) e (self_negative _ (swap-middle a b b d)))),
   (λ e. no (subst (λ x. orientation a b c x ≡ pos 0) e (last-second a b c))),
   (λ e. no (subst (λ x. orientation a b c x ≡ pos 0) e (last-third a b c))),
 )
   where
     no : orientation a b c d ≡ pos 0 → ⊥
-    no e = cc (zero_of (orientation a b c d) e, f)
+    no e = cc (zero_true (orientation a b c d) e, f)
 
     from_swap : (b d : ℕ) → orientation a b a d ≡ pos 0
-    from_swap b d = let e = self_opposite _ (swap-first a a b d) in let s = swap-middle a b a d in omega (arith, ints, e, s)
+    from_swap b d = let e = self_negative _ (swap-first a a b d) in let s = swap-middle a b a d in omega (arith, ints, e, s)
 
 -- ---- the history
 
@@ -150,11 +141,11 @@ leaves_four a b c d f =
 -- ---- buckets
 
 -- a bucket has the points and entries of a history, and no cells yet
-abbrev HasLines : ℕ → ℕ → List Entry → Content → Type 0
+abbrev HasLines : ℕ → ℕ → List Entry → BucketContent → Type 0
 HasLines g b h c = (c.points ≡ points_share g b h) × (c.entries ≡ entries_share g b h) × (c.cells ≡ [])
 
 -- with one more entry
-noted_lines : (g b : ℕ) (h : List Entry) (e : Entry) (c : Content) → IsLegal (h ++ e ∷ []) → HasLines g b h c → HasLines g b (h ++ e ∷ []) (noted_in g b e c)
+noted_lines : (g b : ℕ) (h : List Entry) (e : Entry) (c : BucketContent) → IsLegal (h ++ e ∷ []) → HasLines g b h c → HasLines g b (h ++ e ∷ []) (noted_in g b e c)
 noted_lines g b h e c l s = by (bucket_of g (point_of e.edit) == b) refl
   where
     test : ℕ → Bool
@@ -217,7 +208,7 @@ opening_share g n a b c d w x y z f e k v = record {
     e2 : Entry
     e2 = inserted 2 c
 
-    bare : Content
+    bare : BucketContent
     bare = at_place g n nothing
 
     one : HasLines g n (e0 ∷ []) (noted_in g n e0 bare)
@@ -233,12 +224,12 @@ opening_share g n a b c d w x y z f e k v = record {
     four = noted_lines g n (e0 ∷ e1 ∷ e2 ∷ []) (inserted 3 d) (noted_in g n e2 (noted_in g n e1 (noted_in g n e0 bare))) (legal_from 0 [] (a ∷ b ∷ c ∷ d ∷ []) new) three
 
 -- a place that has a bucket is one of the list
-has_place : (l : List (Option Content)) (b : ℕ) (c : Content) → bucket_at l b ≡ Some c → b < length l
+has_place : (l : List (Option BucketContent)) (b : ℕ) (c : BucketContent) → bucket_at l b ≡ Some c → b < length l
 has_place [] b c e = absurd (cc e)
 has_place (o ∷ l) zero c e = omega arith
 has_place (o ∷ l) (suc b) c e = (let i = has_place l b c e in omega (arith, i))
 
-some_same : (a b : Content) → Some a ≡ Some b → a ≡ b
+some_same : (a b : BucketContent) → Some a ≡ Some b → a ≡ b
 some_same a b e = cc
 
 -- the points of tagged lines
@@ -282,7 +273,7 @@ opening_stands g (a ∷ b ∷ c ∷ d ∷ []) bare n0 n1 n2 n3 mesh f k e n s = 
     solid : is_solid (s.a ∷ s.b ∷ s.c ∷ s.d ∷ []) ≡ true
     solid = solid-from (s.a ∷ s.b ∷ s.c ∷ s.d ∷ []) a.1 b.1 c.1 d.1 (there a.1 (inl refl)) (there b.1 (inr (inl refl))) (there c.1 (inr (inr (inl refl)))) (there d.1 (inr (inr (inr (inl refl))))) f
 
-    each : (m : ℕ) (x : Content) → bucket_at mesh.places m ≡ Some x → IsShare mesh.grid m (opening_history (a ∷ b ∷ c ∷ d ∷ [])) x
+    each : (m : ℕ) (x : BucketContent) → bucket_at mesh.places m ≡ Some x → IsShare mesh.grid m (opening_history (a ∷ b ∷ c ∷ d ∷ [])) x
     each m x q =
         let five = five_cells s.a s.b s.c s.d in
         let r5 = mapped_some (swapped_in n3.grid m [] five) (bucket_at n3.places m) x (sym (s.swapped.places m) ∙ q) in

@@ -11,7 +11,7 @@ use Rattle.edit_history.specs.declared.history.Entry.{Entry}
 use Rattle.edit_history.specs.declared.history.Reply.TheVariants.{Inserted}
 use Rattle.del_laws.specs.Keys.{AreKeys}
 use Rattle.cell_store.specs.Changes.{IsSwapped}
-use Rattle.cell_store.specs.Buckets.{Content, InHand, bucket_at, at_place}
+use Rattle.cell_store.specs.Buckets.{BucketContent, InHand, bucket_at, at_place}
 
 -- the Full cell of four ascending points, and the Open cell on each of its facets
 abbrev pub five_cells : ℕ → ℕ → ℕ → ℕ → List Cell
@@ -45,7 +45,7 @@ AreIndependent (a ∷ b ∷ c ∷ d ∷ []) = is_flat a.1 b.1 c.1 d.1 ≡ false
 AreIndependent _ = ⊥
 
 -- a bucket with nothing in it
-abbrev pub nothing : Content
+abbrev pub nothing : BucketContent
 nothing = record { points = []; cells = []; entries = []; place = None }
 
 -- every bucket of the grid is in hand, with nothing in it

@@ -4,7 +4,7 @@ use Rattle.std.specs.Prelude.{Result, Ok, Err, OnOk, OnErr, Option, codes, decim
 use Rattle.std.specs.Io.KnownBytes.{Appends}
 use Rattle.std.proofs.KnownBytes.{Appends-trans, Appends-nil}
 use Rattle.byte_ends.specs.Ends.{AppendsFront}
-use Rattle.byte_ends.proofs.Told.{AppendsFront-after}
+use Rattle.byte_ends.proofs.Cited.{AppendsFront-after}
 use Rattle.std.specs.List.{concat}
 use Rattle.mesh_files.specs.Lines.{block}
 use Rattle.mesh_files.specs.Pages.{Flows, FlowsInPart}

@@ -7,8 +7,8 @@ use Rattle.std.specs.List.{prefix_len, AllWithin}
 use Rattle.std.specs.List.Sorted.{IsPartitionedBy}
 use Rattle.std.proofs.lemmas.Bool.{cases_lt}
 use Rattle.std.proofs.lemmas.Bool.Decides.{nat_tests}
+use Rattle.list_laws.proofs.Cited.{rises}
 use Rattle.point_order.specs.Sets.{IsAscending}
-use Rattle.point_order.proofs.SetLaws.{rises}
 
 -- where the first i pass and the others fail, the front that passes is i long
 pub prefix-is : {X : Type 0} (p : X → Bool) (xs : List X) (i : ℕ) → i ≤ length xs → AllWithin (λ y. p y ≡ true) xs 0 i → AllWithin (λ y. p y ≡ false) xs i (length xs) → prefix_len p xs ≡ i

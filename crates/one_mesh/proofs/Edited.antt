@@ -1,6 +1,7 @@
 -- What edits make of a mesh.
-use Rattle.std.specs.Prelude.{◌≡◌, refl, ℕ, ◌<◌, ◌^◌, true, false, cond, List, [], ◌∷◌, ◌++◌, length, Option, None, Some, MatchOption}
+use Rattle.std.specs.Prelude.{◌≡◌, refl, ℕ, ◌<◌, ◌^◌, false, List, [], ◌∷◌, ◌++◌, length, Option, None, Some, MatchOption}
 use Rattle.std.proofs.Common.{ap, sym, subst, ◌∙◌, arith}
+use Rattle.list_laws.proofs.Cited.{among_true}
 use Rattle.point_order.specs.Complex.{complex}
 use Rattle.point_order.specs.Sets.{IsIn, is_among, without_point}
 use Rattle.point_order.specs.Solid.{is_solid}
@@ -8,17 +9,16 @@ use Rattle.edit_history.specs.declared.history.Edit.{Edit}
 use Rattle.edit_history.specs.declared.history.Edit.TheVariants.{Add, Take}
 use Rattle.edit_history.specs.declared.history.Entry.{Entry}
 use Rattle.edit_history.specs.declared.history.Reply.{Reply}
-use Rattle.edit_history.specs.declared.history.Reply.TheVariants.{Inserted, Duplicate, Removed, Missing, Flat}
+use Rattle.edit_history.specs.declared.history.Reply.TheVariants.{Inserted, Removed}
 use Rattle.edit_history.specs.Edits.{reply_to, changed, point_of}
 use Rattle.edit_history.specs.Histories.{replay}
-use Rattle.del_laws.proofs.Tests.{among_true}
 use Rattle.cell_store.specs.Changes.{Follows, IsChange}
 use Rattle.cell_store.specs.Meshes.{MeshView, counted}
 use Rattle.insertion.specs.Growing.{IsInsertion}
 use Rattle.point_order.specs.declared.cell.Cell.{Cell}
 use Rattle.cavity.specs.declared.fill_hole.Fresh.{Fresh}
 use Rattle.vertex_removal.specs.Refills.{IsRefilled}
-use Rattle.vertex_removal.proofs.Removals.{removal_follows}
+use Rattle.vertex_removal.proofs.Cited.{removal_follows}
 use Rattle.one_mesh.specs.Applied.{edited}
 
 -- the count is the next number
@@ -31,21 +31,6 @@ applied old new tag edit n reply e k r is st =
     st ∙ ap (λ (x : Entry). record old { history = old.history ++ x ∷ [] }) (is ∙ (λ i. record { number = k i; by = 0; tag = tag; edit = edit; reply = r i }))
 
 -- ---- the replies
-
-pub duplicate : (s : List ℕ) (p : ℕ) → is_among p s ≡ true → reply_to s (Add p) ≡ Duplicate
-duplicate s p e = ap (λ b. cond b Duplicate Inserted) e
-
-pub inserts : (s : List ℕ) (p : ℕ) → is_among p s ≡ false → reply_to s (Add p) ≡ Inserted
-inserts s p e = ap (λ b. cond b Duplicate Inserted) e
-
-pub missing : (s : List ℕ) (p : ℕ) → is_among p s ≡ false → reply_to s (Take p) ≡ Missing
-missing s p e = ap (λ b. cond b (cond (is_solid (without_point p s)) Removed Flat) Missing) e
-
-pub flat : (s : List ℕ) (p : ℕ) → is_among p s ≡ true → is_solid (without_point p s) ≡ false → reply_to s (Take p) ≡ Flat
-flat s p e f = ap (λ b. cond b (cond (is_solid (without_point p s)) Removed Flat) Missing) e ∙ ap (λ b. cond b Removed Flat) f
-
-pub removed : (s : List ℕ) (p : ℕ) → is_among p s ≡ true → is_solid (without_point p s) ≡ true → reply_to s (Take p) ≡ Removed
-removed s p e f = ap (λ b. cond b (cond (is_solid (without_point p s)) Removed Flat) Missing) e ∙ ap (λ b. cond b Removed Flat) f
 
 -- an entry whose reply is no change follows, and changes no cell
 pub quiet : (h : List Entry) (n tag : ℕ) (edit : Edit) (reply : Reply) (e : Entry) → n ≡ length h → reply_to (replay h) edit ≡ reply → changed (replay h) (point_of edit) reply ≡ replay h → e ≡ record { number = n; by = 0; tag = tag; edit = edit; reply = reply } → Follows h e [] []

@@ -2,8 +2,8 @@
 use Rattle.std.specs.Prelude.{ℕ, List, [], Option}
 use Rattle.std.specs.List.{flat_map}
 use Rattle.std.specs.Option.{option_map_or}
-use Rattle.cell_store.specs.Buckets.{Content}
+use Rattle.cell_store.specs.Buckets.{BucketContent}
 
 -- the points of all buckets in hand, those of bucket 0 first
-abbrev pub all_points : List (Option Content) → List ℕ
+abbrev pub all_points : List (Option BucketContent) → List ℕ
 all_points places = flat_map (λ o. option_map_or (λ c. c.points) o []) places

@@ -14,20 +14,15 @@ use Rattle.edit_history.specs.declared.history.Entry.{Entry}
 use Rattle.edit_history.specs.Edits.{point_of, reply_to, after}
 use Rattle.edit_history.specs.Histories.{entries_from, IsLegalFrom, IsLegal}
 use Rattle.edit_history.specs.Opening.{Four, opening_four}
-use Rattle.edit_history.specs.OneThread.{places, tagged_lines, lines_in_order, one_thread, line_of, Keeps}
+use Rattle.edit_history.specs.OneThread.{places, tagged_lines, lines_of_one_thread, one_thread, line_of, Keeps}
 use Rattle.edit_history.specs.Laws.{AreIndependent}
-use Rattle.edit_history.proofs.Lines.{in-append}
-use Rattle.edit_history.proofs.LinesAtPlaces.{line_at, picked}
-use Rattle.edit_history.proofs.OpeningSolid.{four_law}
-use Rattle.edit_history.proofs.KeepsLaw.{keeps_law}
-use Rattle.edit_history.proofs.HistoryLaws.{legal_law}
-use Rattle.edit_history.proofs.Lines.{set_after}
+use Rattle.edit_history.proofs.Cited.{four_law, keeps_law, legal_law, line_at, picked, set_after}
 use Rattle.std.specs.Prelude.{◌*◌}
+use Rattle.list_laws.proofs.Cited.{EachLater, all_of_each, each_of_all, from_append, in_permutation, later-across, later-append, later-left, later-map, later-pairs, later-right, later-unmap, mapped_true, none_pass, pairs-later}
 use Rattle.point_order.specs.Coordinates.{x_of, y_of, z_of}
 use Rattle.point_order.specs.Orientation.{x_from, y_from, z_from, minor, triple, orientation, normal_x, normal_y, normal_z}
 use Rattle.plain_laws.specs.Plain.{lines_of, IsAnchored, SomeFileIsAnchored}
 use Rattle.plain_laws.specs.Running.{Pair, dealt_to, dealt, opening_entries, IsRun, RunKeeps, RunAlone}
-use Rattle.plain_laws.proofs.Members.{in-map, all-in, in-all, in-permutation, EachLater, later-pairs, pairs-later, later-append, later-across, later-left, later-right, later-map, later-unmap}
 
 -- ---- entries of lines
 
@@ -73,10 +68,6 @@ same-filter : {X : Type 0} (t u : X → Bool) (xs : List X) → ((y : X) → t y
 same-filter t u [] f = refl
 same-filter t u (x ∷ xs) f = rw (f x, same-filter t u xs f) refl
 
-none-pass : {X : Type 0} (t : X → Bool) (xs : List X) → ((y : X) → t y ≡ false) → filter t xs ≡ []
-none-pass t [] f = refl
-none-pass t (x ∷ xs) f = rw (f x) (none-pass t xs f)
-
 -- elements that pass a test, by a number that each has
 module _ {X : Type 0} (t : X → Bool) (k : X → ℕ) (l : List X) where
   abbrev part : ℕ → List X
@@ -117,7 +108,7 @@ module _ {X : Type 0} (t : X → Bool) (k : X → ℕ) (l : List X) where
   pub all-parts : (n : ℕ) → ((x : X) → k x < n) → IsPermutation (filter t l) (flat_map (λ x. x) (map part (range_with_len 0 n)))
   all-parts n f =
       let e : from 0 ≡ filter t l = same-filter (λ x. t x && not (nat_lt (k x) 0)) t l (λ x. first (t x) (k x)) in
-      let g : from (0 + n) ≡ [] = none-pass (λ x. t x && not (nat_lt (k x) (0 + n))) l (λ x. last (t x) (k x) (f x)) in
+      let g : from (0 + n) ≡ [] = none_pass (λ x. t x && not (nat_lt (k x) (0 + n))) l (λ x. last (t x) (k x) (f x)) in
       subst (λ (m : List X). IsPermutation m (flat_map (λ x. x) (map part (range_with_len 0 n)))) e
       (subst (IsPermutation (from 0)) (ap (λ (m : List X). flat_map (λ x. x) (map part (range_with_len 0 n)) ++ m) g ∙ append-nil (flat_map (λ x. x) (map part (range_with_len 0 n)))) (from-parts 0 n))
     where
@@ -175,7 +166,7 @@ module _ (points : List ℕ) (edits : List Edit) (four : Four) (found : opening_
   -- the history of one thread has the same lines
   one-order : EachLater InOrder (opening_lines ++ others)
   one-order =
-      let kept : Keeps points edits 1 (entries_from 0 [] (opening_lines ++ others)) = subst (λ (o : Option Four). IfSome o (λ _. Keeps points edits 1 (entries_from 0 [] (lines_in_order o all)))) found (keeps_law points edits) in
+      let kept : Keeps points edits 1 (entries_from 0 [] (opening_lines ++ others)) = subst (λ (o : Option Four). IfSome o (λ _. Keeps points edits 1 (entries_from 0 [] (lines_of_one_thread o all)))) found (keeps_law points edits) in
       subst (EachLater InOrder) (entry-lines 0 [] (opening_lines ++ others))
       (later-map line_of InOrder (entries_from 0 [] (opening_lines ++ others)) (pairs-later (λ (d e : Entry). InOrder (line_of d) (line_of e)) (entries_from 0 [] (opening_lines ++ others)) kept.order))
 
@@ -205,14 +196,14 @@ module _ (points : List ℕ) (edits : List Edit) (four : Four) (found : opening_
         (later-unmap line_of InOrder opening (subst (EachLater InOrder) (sym (entry-lines 0 [] opening_lines)) (later-left InOrder opening_lines others one-order)))
         (pairs-later (λ (d e : Entry). InOrder (line_of d) (line_of e)) run is_run.order)
         (λ x y i j. later-across InOrder opening_lines others one-order (line_of x) (line_of y)
-        (subst (IsIn (line_of x)) (entry-lines 0 [] opening_lines) (in-map line_of opening x i))
-        (in-permutation (map line_of run) others (line_of y) (IsPermutation-sym others (map line_of run) run-lines) (in-map line_of run y j)))
+        (subst (IsIn (line_of x)) (entry-lines 0 [] opening_lines) (mapped_true line_of x opening i))
+        (in_permutation (map line_of run) others (line_of y) (IsPermutation-sym others (map line_of run) run-lines) (mapped_true line_of y run j)))
 
     pub made-by : (e : Entry) → IsIn e (opening ++ run) → e.by < workers
     made-by e i =
-        elim (in-append opening run e i) [
+        elim (from_append e opening run i) [
           | inl j ↦ let z = entry-by 0 [] opening_lines e j in omega (arith, z, some)
-          | inr j ↦ let l = all-in (λ (d : Entry). d.by < length (dealt workers (places four) all)) run is_run.workers e j in omega (arith, l, length-map (range_with_len 0 workers) (dealt_to workers (places four) all), length-range_with_len 0 workers)
+          | inr j ↦ let l = each_of_all (λ (d : Entry). d.by < length (dealt workers (places four) all)) run is_run.workers e j in omega (arith, l, length-map (range_with_len 0 workers) (dealt_to workers (places four) all), length-range_with_len 0 workers)
         ]
 
     pub keeps : Keeps points edits workers (opening ++ run)
@@ -221,7 +212,7 @@ module _ (points : List ℕ) (edits : List Edit) (four : Four) (found : opening_
           opening = subst (λ (o : Option Four). IfSome o (λ f. map (λ (e : Entry). e.tag) (take 4 (opening ++ run)) ≡ places f)) (sym found) first-four;
           lines = lines;
           order = later-pairs (λ (d e : Entry). point_of d.edit ≡ point_of e.edit → d.tag < e.tag) (opening ++ run) order;
-          workers = in-all (λ (e : Entry). e.by < workers) (opening ++ run) made-by;
+          workers = all_of_each (λ (e : Entry). e.by < workers) (opening ++ run) made-by;
         }
 
   -- ---- one worker
@@ -232,7 +223,7 @@ module _ (points : List ℕ) (edits : List Edit) (four : Four) (found : opening_
       let f : map line_of (opening ++ run) ≡ opening_lines ++ others = lines-are 1 (omega arith) run is_run ∙ ap (λ (l : List Pair). opening_lines ++ l) (is_run.alone (dealt_to 1 (places four) all 0) refl ∙ e) in
       legal-is 0 [] (opening ++ run) legal (λ d i. let l = made-by 1 (omega arith) run is_run d i in omega (arith, l))
       ∙ ap (entries_from 0 []) f
-      ∙ ap (λ (o : Option Four). entries_from 0 [] (lines_in_order o all)) (sym found)
+      ∙ ap (λ (o : Option Four). entries_from 0 [] (lines_of_one_thread o all)) (sym found)
     where
       zeros : (m : ℕ) → m < 1 → (m == 0) ≡ true
       zeros m h = grind (arith, nat_tests)
@@ -283,10 +274,10 @@ module _ (points : List ℕ) (edits : List Edit) (four : Four) (found : opening_
       lines = subst (IsPermutation (flat_map (λ l. l) (dealt workers (places four) (tagged_lines points edits)))) (sym sequel-lines)
           (IsPermutation-sym rest (flat_map (λ l. l) (dealt workers (places four) (tagged_lines points edits))) (all-parts (λ (line : Pair). not (is_among line.0 (places four))) (λ (line : Pair). point_of line.1 % workers) (tagged_lines points edits) workers (λ line. mod-lt (point_of line.1) some)));
       order = later-pairs (λ (d e : Entry). point_of d.edit ≡ point_of e.edit → d.tag < e.tag) sequel (later-unmap line_of InOrder sequel (subst (EachLater InOrder) (sym sequel-lines) (later-right InOrder those rest (one-order points edits four found))));
-      workers = in-all (λ (e : Entry). e.by < length (dealt workers (places four) (tagged_lines points edits))) sequel (λ e i. let z = entry-by (0 + length those) (set_after [] those) rest e i in omega (arith, z, some, length-map (range_with_len 0 workers) (dealt_to workers (places four) (tagged_lines points edits)), length-range_with_len 0 workers));
+      workers = all_of_each (λ (e : Entry). e.by < length (dealt workers (places four) (tagged_lines points edits))) sequel (λ e i. let z = entry-by (0 + length those) (set_after [] those) rest e i in omega (arith, z, some, length-map (range_with_len 0 workers) (dealt_to workers (places four) (tagged_lines points edits)), length-range_with_len 0 workers));
       alone = sequel-alone workers;
     },
-    subst IsLegal (ap (λ (o : Option Four). entries_from 0 [] (lines_in_order o (tagged_lines points edits))) found ∙ entries-append 0 [] those rest) (legal_law points edits),
+    subst IsLegal (ap (λ (o : Option Four). entries_from 0 [] (lines_of_one_thread o (tagged_lines points edits))) found ∙ entries-append 0 [] those rest) (legal_law points edits),
   )
 
 four-found : opening_four (0 ∷ 2 * 268435456 ∷ 2 * 16384 ∷ 2 ∷ []) ≡ Some (record { first = 0; second = 1; third = 2; fourth = 3 })
@@ -309,7 +300,7 @@ an_anchored_file = record { four = record { first = 0; second = 1; third = 2; fo
     apart k (inr (inr (inr (inr j)))) f = j
 
     at-place : (i : ℕ) → IsIn i (0 ∷ 1 ∷ 2 ∷ 3 ∷ []) → IsIn (slice_index (0 ∷ 2 * 268435456 ∷ 2 * 16384 ∷ 2 ∷ []) i) (0 ∷ 2 * 268435456 ∷ 2 * 16384 ∷ 2 ∷ [])
-    at-place i j = in-map (slice_index (0 ∷ 2 * 268435456 ∷ 2 * 16384 ∷ 2 ∷ [])) (0 ∷ 1 ∷ 2 ∷ 3 ∷ []) i j
+    at-place i j = mapped_true (slice_index (0 ∷ 2 * 268435456 ∷ 2 * 16384 ∷ 2 ∷ [])) i (0 ∷ 1 ∷ 2 ∷ 3 ∷ []) j
 
     spared : (i : ℕ) → IsIn i (0 ∷ 1 ∷ 2 ∷ 3 ∷ []) → ¬ (IsIn (Take (slice_index (0 ∷ 2 * 268435456 ∷ 2 * 16384 ∷ 2 ∷ []) i)) (Add (268435456 + 16384 + 1) ∷ Take (268435456 + 16384 + 1) ∷ []))
     spared i j (inl e) = let f = ap is-take e in cc

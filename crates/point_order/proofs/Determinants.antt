@@ -1,7 +1,7 @@
 -- How orientations change where points are exchanged or repeated, and the in-sphere polynomial by squares of distances.
 use Rattle.std.specs.Prelude.{ℕ, pos, neg_ℤ, ◌≡◌, ◌+ℤ◌, ◌-ℤ◌, ◌*ℤ◌, [], ◌∷◌}
 use Rattle.whole_ring.specs.Poly.{lit, minus, ◌⊕◌, ◌⊖◌, ◌⊗◌}
-use Rattle.whole_ring.proofs.Ring.{ring}
+use Rattle.whole_ring.proofs.Cited.{ring}
 use Rattle.point_order.specs.Orientation.{x_from, y_from, z_from, minor, triple, orientation, square_of_step, distance}
 use Rattle.point_order.specs.Heights.{square_of, lifted, sphere_polynomial}
 use Rattle.point_order.proofs.Written.{coordinates, orientation_w, distance_w, sphere_w}

@@ -3,7 +3,7 @@ use Rattle.std.proofs.Common.{◌≡◌, ◌≢◌, ◌<◌, ◌≤◌, ◌*◌,
 use Rattle.std.proofs.lemmas.Int.{ints}
 use Rattle.std.proofs.Math.Nat.{pow-suc, pow-le-pow_right}
 use Rattle.whole_ring.specs.Signs.{HasSignOf, below, at_zero, above}
-use Rattle.whole_ring.proofs.Signs.{sign, sgn_same}
+use Rattle.whole_ring.proofs.Cited.{sgn_same, sign}
 use Rattle.point_order.specs.Heights.{base, top, base-is, top-is, height, sphere_polynomial, out}
 use Rattle.point_order.specs.Laws.{coefficient, PlainSign, TieSign, TieDecided, NeverZero, PlainNotBelow, PlainNotAbove, HeightParts, PartRises}
 use Rattle.point_order.proofs.Perturbation.{out-sign, base-pos, power-pos}

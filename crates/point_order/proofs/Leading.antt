@@ -4,7 +4,7 @@ use Rattle.std.proofs.lemmas.Int.{ints, unsigned_abs-mul}
 use Rattle.std.specs.Int.RustNames.{unsigned_abs}
 use Rattle.std.proofs.Math.Nat.{pow-suc, pow-le-pow_right, mul-le-mul_right}
 use lib.IntN.{negsuc, neg_ℤ}
-use Rattle.whole_ring.proofs.Whole.{add_mul, neg_mul, mul_add, mul_assoc}
+use Rattle.whole_ring.proofs.Cited.{add_mul, mul_add, mul_assoc, neg_mul}
 use Rattle.whole_ring.specs.Signs.{HasSignOf}
 
 -- ---- a multiple of p, and less than p

@@ -7,3 +7,5 @@ pub mod Sizes
 pub mod Perturbation
 pub mod SignRule
 pub mod HeightLaws
+pub mod Zero
+pub mod Cited

@@ -1,43 +1,9 @@
 -- Ascending lists as sets.
-use Rattle.std.proofs.Common.{◌≡◌, refl, sym, subst, ℕ, zero, suc, ◌<◌, List, [], ◌∷◌, ◌⊎◌, inl, inr, Bool, true, false, length, get_or, arith}
+use Rattle.std.proofs.Common.{◌≡◌, refl, sym, subst, ℕ, ◌<◌, List, [], ◌∷◌, ◌⊎◌, inl, inr, Bool, true, false, arith}
 use Rattle.std.specs.Prelude.{nat_lt, ◌==◌}
 use Rattle.std.proofs.lemmas.Bool.Decides.{nat_tests}
-use Rattle.point_order.specs.Sets.{IsIn, IsBelowFirst, IsAscending, with_point, ascending}
-
--- ---- what below the first is, is below each
-
-pub below-each : (x : ℕ) (s : List ℕ) → IsBelowFirst x s → IsAscending s → (y : ℕ) → IsIn y s → x < y
-below-each x [] h k y i = absurd i
-below-each x (z ∷ s) h k y i =
-    elim i [
-      | inl e ↦ omega (arith, h, e)
-      | inr j ↦ let l : z < y = below-each z s k.0 k.1 y j in omega (arith, h, l)
-    ]
-
-first-below : (x : ℕ) (s : List ℕ) → ((y : ℕ) → IsIn y s → x < y) → IsBelowFirst x s
-first-below x [] f = tt
-first-below x (y ∷ s) f = f y (inl refl)
-
--- ---- two ascending lists with the same members are one
-
-pub same-members : (xs ys : List ℕ) → IsAscending xs → IsAscending ys → ((p : ℕ) → IsIn p xs → IsIn p ys) → ((p : ℕ) → IsIn p ys → IsIn p xs) → xs ≡ ys
-same-members [] [] h k f g = refl
-same-members [] (y ∷ ys) h k f g = absurd (g y (inl refl))
-same-members (x ∷ xs) [] h k f g = absurd (f x (inl refl))
-same-members (x ∷ xs) (y ∷ ys) h k f g =
-    let e : x ≡ y =
-    elim (f x (inl refl)) [
-      | inl a ↦ sym a
-      | inr i ↦ elim (g y (inl refl)) [
-        | inl b ↦ b
-        | inr j ↦ let p : y < x = below-each y ys k.0 k.1 x i in let q : x < y = below-each x xs h.0 h.1 y j in absurd (omega arith)
-      ]
-    ] in
-    let t : xs ≡ ys =
-    same-members xs ys h.1 k.1
-    (λ p i. elim (f p (inr i)) [ inl a ↦ let l : x < p = below-each x xs h.0 h.1 p i in absurd (omega arith) | inr j ↦ j ])
-    (λ p i. elim (g p (inr i)) [ inl a ↦ let l : y < p = below-each y ys k.0 k.1 p i in absurd (omega arith) | inr j ↦ j ]) in
-    cc
+use Rattle.list_laws.proofs.Cited.{below_each, first_below, same_members}
+use Rattle.point_order.specs.Sets.{IsIn, IsAscending, with_point, ascending}
 
 -- ---- with a point
 
@@ -92,7 +58,7 @@ ascending-with p (x ∷ s) h =
       | inl a ↦ subst IsAscending (sym a.1) (a.0, h)
       | inr b ↦ elim b [
         | inl a ↦ subst IsAscending (sym a.1) h
-        | inr a ↦ subst IsAscending (sym a.1) (first-below x (with_point p s) (λ y i. elim (in-with p y s i) [ inl e ↦ omega (arith, a.0, e) | inr j ↦ below-each x s h.0 h.1 y j ]), ascending-with p s h.1)
+        | inr a ↦ subst IsAscending (sym a.1) (first_below x (with_point p s) (λ y i. elim (in-with p y s i) [ inl e ↦ omega (arith, a.0, e) | inr j ↦ below_each x s h.0 h.1 y j ]), ascending-with p s h.1)
       ]
     ]
 
@@ -114,23 +80,7 @@ in-ascending_from (q ∷ ps) p i =
 -- what has the members of a list and is ascending is that list in order
 pub ascending-is : (xs ps : List ℕ) → IsAscending xs → ((p : ℕ) → IsIn p xs → IsIn p ps) → ((p : ℕ) → IsIn p ps → IsIn p xs) → xs ≡ ascending ps
 ascending-is xs ps h f g =
-    same-members xs (ascending ps) h (ascending-ascending ps) (λ p i. in-ascending_from ps p (f p i)) (λ p i. g p (in-ascending ps p i))
+    same_members xs (ascending ps) h (ascending-ascending ps) (λ p i. in-ascending_from ps p (f p i)) (λ p i. g p (in-ascending ps p i))
 
 pub ascending-self : (s : List ℕ) → IsAscending s → ascending s ≡ s
 ascending-self s h = sym (ascending-is s s h (λ p i. i) (λ p i. i))
-
--- ---- places
-
--- an element at a place is a member
-pub in-place : (s : List ℕ) (i d : ℕ) → i < length s → IsIn (get_or s i d) s
-in-place [] i d h = absurd (omega (arith, h))
-in-place (x ∷ s) zero d h = inl refl
-in-place (x ∷ s) (suc i) d h = inr (in-place s i d (omega (arith, h)))
-
--- an ascending list rises from place to place
-pub rises : (s : List ℕ) (i j d : ℕ) → IsAscending s → i < j → j < length s → get_or s i d < get_or s j d
-rises [] i j d h l m = absurd (omega (arith, m))
-rises (x ∷ s) zero zero d h l m = absurd (omega (arith, l))
-rises (x ∷ s) zero (suc j) d h l m = below-each x s h.0 h.1 (get_or s j d) (in-place s j d (omega (arith, m)))
-rises (x ∷ s) (suc i) zero d h l m = absurd (omega (arith, l))
-rises (x ∷ s) (suc i) (suc j) d h l m = rises s i j d h.1 (omega (arith, l)) (omega (arith, m))

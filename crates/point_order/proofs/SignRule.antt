@@ -5,7 +5,7 @@ use Rattle.std.proofs.lemmas.Bool.Decides.{nat_tests}
 use Rattle.std.proofs.Math.IntN.{neg_ℤ}
 use Rattle.whole_ring.specs.Signs.{HasSignOf}
 use Rattle.whole_ring.specs.Signs.{below, at_zero, above}
-use Rattle.whole_ring.proofs.Signs.{sign}
+use Rattle.whole_ring.proofs.Cited.{sign}
 use Rattle.point_order.specs.Orientation.{orientation, is_zero, is_flat}
 use Rattle.point_order.specs.Heights.{sphere_polynomial, out}
 use Rattle.point_order.specs.Sets.{AreFive}

@@ -2,7 +2,7 @@
 use Rattle.std.proofs.Common.{ℕ, ◌<◌, arith, ℤ, pos, ◌-ℤ◌}
 use Rattle.std.proofs.lemmas.Int.{ints}
 use Rattle.whole_ring.specs.Bounds.{IsWithin}
-use Rattle.whole_ring.proofs.Bounds.{within-add, within-sub, within-mul}
+use Rattle.whole_ring.proofs.Cited.{within-add, within-mul, within-sub}
 use Rattle.point_order.specs.Coordinates.{x_of, y_of, z_of}
 use Rattle.point_order.specs.Orientation.{x_from, y_from, z_from, minor, triple, orientation}
 use Rattle.point_order.proofs.Keys.{x_of-below, y_of-below, z_of-below}

@@ -8,8 +8,8 @@ use Rattle.point_order.specs.Heights.{base, top, square_of, height, sphere_polyn
 use Rattle.point_order.specs.Sets.{AreFive}
 
 -- the five numbers are keys
-abbrev pub AreKeys : ℕ → ℕ → ℕ → ℕ → ℕ → Type 0
-AreKeys a b c d e = IsKey a × IsKey b × IsKey c × IsKey d × IsKey e
+abbrev pub AreFiveKeys : ℕ → ℕ → ℕ → ℕ → ℕ → Type 0
+AreFiveKeys a b c d e = IsKey a × IsKey b × IsKey c × IsKey d × IsKey e
 
 -- what the height of p is multiplied by in the lifted determinant of five points; 0 where p is none of them
 abbrev pub coefficient : ℕ → ℕ → ℕ → ℕ → ℕ → ℕ → ℤ
@@ -27,7 +27,7 @@ IsDeciding a b c d e p =
 
 -- The sign rule: where the in-sphere polynomial is not 0, the perturbation does not change its sign.
 abbrev pub PlainSign : Type 0
-PlainSign = (a b c d e : ℕ) → AreKeys a b c d e → sphere_polynomial a b c d e ≢ pos 0 →
+PlainSign = (a b c d e : ℕ) → AreFiveKeys a b c d e → sphere_polynomial a b c d e ≢ pos 0 →
     sgn (out a b c d e) ≡ sgn (sphere_polynomial a b c d e)
 
 -- Where it is 0, the sign is that of the coefficient of the greatest point whose coefficient is not 0.
@@ -41,14 +41,14 @@ TieDecided = (a b c d e : ℕ) → AreFive a b c d e → is_flat a b c d ≡ fal
 
 -- No tie is left: at five points of which the first four are independent, the determinant is not 0.
 abbrev pub NeverZero : Type 0
-NeverZero = (a b c d e : ℕ) → AreKeys a b c d e → AreFive a b c d e → is_flat a b c d ≡ false → out a b c d e ≢ pos 0
+NeverZero = (a b c d e : ℕ) → AreFiveKeys a b c d e → AreFive a b c d e → is_flat a b c d ≡ false → out a b c d e ≢ pos 0
 
 -- Where the perturbed determinant is positive, the plain polynomial is not negative; and the mirror.
 abbrev pub PlainNotBelow : Type 0
-PlainNotBelow = (a b c d e : ℕ) → AreKeys a b c d e → pos 0 <ℤ out a b c d e → pos 0 ≤ℤ sphere_polynomial a b c d e
+PlainNotBelow = (a b c d e : ℕ) → AreFiveKeys a b c d e → pos 0 <ℤ out a b c d e → pos 0 ≤ℤ sphere_polynomial a b c d e
 
 abbrev pub PlainNotAbove : Type 0
-PlainNotAbove = (a b c d e : ℕ) → AreKeys a b c d e → out a b c d e <ℤ pos 0 → sphere_polynomial a b c d e ≤ℤ pos 0
+PlainNotAbove = (a b c d e : ℕ) → AreFiveKeys a b c d e → out a b c d e <ℤ pos 0 → sphere_polynomial a b c d e ≤ℤ pos 0
 
 -- The height is |p|^2 times a great number, plus a part strictly between 0 and that number.
 abbrev pub HeightParts : Type 0

@@ -1,25 +1,7 @@
 -- Sets of points, as ascending lists of keys.
-use Rattle.std.specs.Prelude.{◌≡◌, ℕ, ◌≢◌, ◌<◌, Bool, List, [], ◌∷◌, ◌⊎◌, ◌==◌, nat_lt, not, if◌then◌else◌}
-use Rattle.std.specs.List.{list_any, filter}
-
--- x is an element
-abbrev pub IsIn : {X : Type 0} → X → List X → Type 0
-IsIn x [] = ⊥
-IsIn x (y ∷ ys) = (y ≡ x) ⊎ IsIn x ys
-
--- p is one of the list
-abbrev pub is_among : ℕ → List ℕ → Bool
-is_among p s = list_any (λ q. q == p) s
-
--- x is below the first of the list, if there is one
-abbrev pub IsBelowFirst : ℕ → List ℕ → Type 0
-IsBelowFirst x [] = Unit {0}
-IsBelowFirst x (y ∷ ys) = x < y
-
--- each element is below the next
-abbrev pub IsAscending : List ℕ → Type 0
-IsAscending [] = Unit {0}
-IsAscending (x ∷ xs) = IsBelowFirst x xs × IsAscending xs
+use Rattle.std.specs.Prelude.{ℕ, ◌≢◌, List, [], ◌∷◌, ◌==◌, nat_lt, not, if◌then◌else◌}
+use Rattle.std.specs.List.{filter}
+pub use Rattle.list_laws.specs.Lists.{IsIn, is_among, IsBelowFirst, IsAscending}
 
 -- no two of the three are one
 abbrev pub AreThree : ℕ → ℕ → ℕ → Type 0

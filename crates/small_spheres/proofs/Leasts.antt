@@ -3,7 +3,7 @@ use Rattle.std.specs.Prelude.{ℤ, pos, ◌+ℤ◌, ◌*ℤ◌, ◌≤ℤ◌}
 use Rattle.std.proofs.Common.{arith}
 use Rattle.std.proofs.lemmas.Int.{ints}
 use Rattle.point_order.specs.Orientation.{square_of_step}
-use Rattle.whole_ring.proofs.Signs.{square_nonneg, mul_nonneg}
+use Rattle.whole_ring.proofs.Cited.{mul_nonneg, square_nonneg}
 
 -- it is not below 0
 pub four_squares : (x y z : ℤ) → pos 0 ≤ℤ (pos 4 *ℤ square_of_step x y z)

@@ -1,7 +1,7 @@
 -- The power of a point to the sphere of a triangle, by normals.
 use Rattle.std.specs.Prelude.{ℕ, ℤ, ◌+ℤ◌, ◌-ℤ◌, ◌*ℤ◌, ◌≡◌, [], ◌∷◌}
 use Rattle.whole_ring.specs.Poly.{Expr, var, ◌⊕◌, ◌⊖◌, ◌⊗◌}
-use Rattle.whole_ring.proofs.Ring.{ring}
+use Rattle.whole_ring.proofs.Cited.{ring}
 use Rattle.point_order.specs.Orientation.{x_from, y_from, z_from, minor, normal_x, normal_y, normal_z, distance}
 use Rattle.small_spheres.specs.Inside.{dot, square_of_normal, centre_x, centre_y, centre_z, triangle_power}
 

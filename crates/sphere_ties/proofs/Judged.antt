@@ -3,8 +3,7 @@ use Rattle.std.proofs.Common.{◌≡◌, ◌≢◌, ◌<◌, ℕ, [], ◌∷◌,
 use Rattle.std.proofs.lemmas.Bool.Decides.{nat_tests}
 use Rattle.point_order.specs.Orientation.{orientation, is_flat}
 use Rattle.point_order.specs.Sets.{AreFive, is_among}
-use Rattle.point_order.proofs.Determinants.{last-first, last-second, last-third}
-use Rattle.point_order.proofs.SignRule.{not-zero}
+use Rattle.point_order.proofs.Cited.{last-first, last-second, last-third, not-zero}
 
 -- a point off the plane of three is none of them
 off-plane : (a b c m k : ℕ) → is_flat a b c m ≡ false → orientation a b c k ≡ pos 0 → k ≢ m

@@ -2,11 +2,11 @@
 use Rattle.std.proofs.Common.{◌≡◌, ◌≢◌, ◌<◌, ◌≤◌, ◌⊎◌, inl, inr, ℕ, [], ◌∷◌, pos, sym, ◌∙◌, ap, arith, false, ◌<ℤ◌}
 use Rattle.std.proofs.lemmas.Int.{ints}
 use Rattle.whole_ring.specs.Signs.{below, at_zero, above}
-use Rattle.whole_ring.proofs.Signs.{sign}
+use Rattle.whole_ring.proofs.Cited.{sign}
 use Rattle.point_order.specs.Orientation.{orientation, is_flat}
 use Rattle.point_order.specs.Sets.{AreFive, IsIn}
 use Rattle.point_order.specs.Laws.{coefficient}
-use Rattle.point_order.proofs.SignRule.{coefficient-e, not-zero, one-of_five}
+use Rattle.point_order.proofs.Cited.{coefficient-e, not-zero, one-of_five}
 
 -- the last point keeps its coefficient, so it is below the limit
 pub last-below : (a b c d e limit : ℕ) → AreFive a b c d e → is_flat a b c d ≡ false → ((q : ℕ) → limit ≤ q → coefficient a b c d e q ≡ pos 0) → e < limit

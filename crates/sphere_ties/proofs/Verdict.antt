@@ -5,7 +5,7 @@ use Rattle.std.proofs.lemmas.Int.{ints}
 use Rattle.std.specs.Int.Signed.{lt_z}
 use mathlib.Core.Bool.{beq}
 use Rattle.whole_ring.specs.Signs.{HasSignOf, below, at_zero, above}
-use Rattle.whole_ring.proofs.Signs.{sign}
+use Rattle.whole_ring.proofs.Cited.{sign}
 use Rattle.point_order.specs.Orientation.{is_zero}
 
 -- s has the sign of r and is not 0, nor is o: s and o are both positive or neither is, exactly where o and r have one sign

@@ -3,22 +3,17 @@ use Rattle.std.specs.Prelude.{◌≡◌, ◌≢◌, ℕ, true, false, pos, ◌<�
 use Rattle.std.specs.List.{list_all}
 use Rattle.std.specs.Int.Signed.{lt_z}
 use Rattle.std.proofs.Common.{refl, sym, ◌∙◌, subst, inl, inr}
+use Rattle.list_laws.proofs.Cited.{all_from, among_from, first_true, from_append, in_left, in_right, less_from, low_turned, not_both, not_zero, one_true, second_true, two_signs}
 use Rattle.point_order.specs.Orientation.{orientation, is_flat}
 use Rattle.point_order.specs.Heights.{height, lifted, out}
 use Rattle.point_order.specs.Sets.{IsIn, AreFour, AreFive, is_among}
 use Rattle.point_order.specs.Complex.{is_full}
 use Rattle.point_order.specs.Spheres.{is_outside}
+use Rattle.point_order.proofs.Cited.{last-first, last-second, last-third, zero_false}
 use Rattle.del_laws.specs.Cells.{Vertex, point, far, Full, On}
 use Rattle.del_laws.specs.Keys.{AreKeys}
 use Rattle.del_laws.specs.Vertices.{are_among, is_full_cell}
-use Rattle.del_laws.proofs.Across.{across_full, across_open}
-use Rattle.del_laws.proofs.Bools.{cell_true}
-use Rattle.del_laws.proofs.CellFacts.{full_turned, open_under}
-use Rattle.del_laws.proofs.Identities.{orientation_same12, orientation_same13, orientation_same23, orientation_at_a, orientation_at_b, orientation_at_c, lifted_swap45}
-use Rattle.del_laws.proofs.Listed.{in_left, in_right, from_append}
-use Rattle.del_laws.proofs.Numbers.{not_zero, two_signs, low_turned}
-use Rattle.del_laws.proofs.Perturbed.{out_is}
-use Rattle.del_laws.proofs.Tests.{first_true, second_true, one_true, less_from, zero_false, all_from, among_from, not_both}
+use Rattle.del_laws.proofs.Cited.{across_full, across_open, cell_true, full_turned, lifted_swap45, open_under, orientation_same12, orientation_same13, orientation_same23, out_is}
 use Rattle.vertex_removal.specs.Wraps.{leader_of, IsApex, Leads}
 
 -- ---- points above a plane
@@ -28,10 +23,10 @@ pub apart_above : (a b c d : ℕ) → pos 0 <ℤ orientation a b c d → AreFour
 apart_above a b c d h = (
   λ e. flat (subst (λ (x : ℕ). orientation a x c d ≡ pos 0) e (orientation_same12 a c d)),
   λ e. flat (subst (λ (x : ℕ). orientation a b x d ≡ pos 0) e (orientation_same13 a b d)),
-  λ e. flat (subst (λ (x : ℕ). orientation a b c x ≡ pos 0) e (orientation_at_a a b c)),
+  λ e. flat (subst (λ (x : ℕ). orientation a b c x ≡ pos 0) e (last-first a b c)),
   λ e. flat (subst (λ (x : ℕ). orientation a b x d ≡ pos 0) e (orientation_same23 a b d)),
-  λ e. flat (subst (λ (x : ℕ). orientation a b c x ≡ pos 0) e (orientation_at_b a b c)),
-  λ e. flat (subst (λ (x : ℕ). orientation a b c x ≡ pos 0) e (orientation_at_c a b c)),
+  λ e. flat (subst (λ (x : ℕ). orientation a b c x ≡ pos 0) e (last-second a b c)),
+  λ e. flat (subst (λ (x : ℕ). orientation a b c x ≡ pos 0) e (last-third a b c)),
 )
   where
     flat : ¬ (orientation a b c d ≡ pos 0)

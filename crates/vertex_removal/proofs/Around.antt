@@ -1,16 +1,15 @@
 -- Cells across the facets of the cells at a point.
 use Rattle.std.specs.Prelude.{◌≡◌, ℕ, ◌+◌, ◌<◌, List, [], ◌∷◌, ◌++◌, length, take, slice_index_or}
 use Rattle.std.proofs.Common.{sym, subst, inl, inr}
+use Rattle.list_laws.proofs.Cited.{at_place, from_append, in_left, in_right, in_take_more}
 use Rattle.point_order.specs.declared.cell.Cell.{Cell}
 use Rattle.point_order.specs.declared.cell.Facet.{Facet}
 use Rattle.point_order.specs.Complex.{complex}
 use Rattle.point_order.specs.Facets.{facets_of, points_of}
 use Rattle.point_order.specs.Sets.{IsIn}
-use Rattle.del_laws.proofs.Listed.{in_left, in_right, from_append}
 use Rattle.hole_laws.specs.Edits.{IsSet}
 use Rattle.cell_store.specs.Others.{IsOtherOf}
-use Rattle.cavity.proofs.Lists.{at_place, in_take_more}
-use Rattle.cell_conflict.proofs.Standing.{one_of_two}
+use Rattle.cell_conflict.proofs.Cited.{one_of_two}
 use Rattle.vertex_removal.specs.Near.{AreAdded, IsOneOf, IsOfOne}
 
 module _ (s : List ℕ) (v : ℕ) where
@@ -24,7 +23,7 @@ module _ (s : List ℕ) (v : ℕ) where
   module _ (i : IsSet s) (cell : Cell) (at : IsIn cell (complex s)) (facets : List Facet) (n : ℕ) (f : Facet) (h : n < length facets) (is : f ≡ slice_index_or facets n f) (same : facets ≡ facets_of cell) (other : Cell) (o : IsOtherOf (complex s) cell f other) where
     -- the facet is one of the cell's
     of_cell : IsIn f (facets_of cell)
-    of_cell = subst (λ (l : List Facet). IsIn f l) same (at_place facets n f h is)
+    of_cell = subst (λ (l : List Facet). IsIn f l) same (at_place facets n f f h is)
 
     -- no other cell is across it
     only : (c : Cell) → IsOtherOf (complex s) cell f c → other ≡ c

@@ -3,23 +3,19 @@ use Rattle.std.specs.Prelude.{◌≡◌, ℕ, true, List, ◌==◌, IsSome}
 use Rattle.std.specs.List.{filter}
 use Rattle.std.proofs.Common.{refl, sym, subst, inl, ◌∙◌}
 use Rattle.std.proofs.lemmas.Bool.{eq-eqb}
+use Rattle.list_laws.proofs.Cited.{filtered_from, filtered_true, is_in, some_of}
 use Rattle.point_order.specs.declared.cell.Cell.{Cell}
 use Rattle.point_order.specs.Complex.{complex}
 use Rattle.point_order.specs.Facets.{points_of}
 use Rattle.point_order.specs.Sets.{IsIn, is_among, without_point}
 use Rattle.point_order.specs.Solid.{is_solid}
-use Rattle.del_laws.proofs.Decide.{is_in}
-use Rattle.del_laws.proofs.PointSets.{solid_more}
-use Rattle.del_laws.proofs.Tests.{filtered_from, filtered_true}
+use Rattle.del_laws.proofs.Cited.{solid_more}
 use Rattle.hole_laws.specs.Edits.{IsSet, IsLinkSet}
-use Rattle.hole_laws.proofs.Laws.{old_lack_point}
-use Rattle.hole_laws.proofs.RemovalLaws.{cells_of_rest, refilled_from_link, coming_are_near}
-use Rattle.hole_laws.proofs.Rest.{rest_set, rest_new}
+use Rattle.hole_laws.proofs.Cited.{cells_of_rest, coming_are_near, old_lack_point, refilled_from_link, rest_new, rest_set}
 use Rattle.cell_store.specs.Grids.{bucket_of}
 use Rattle.cell_store.specs.Buckets.{InHand, bucket_at}
 use Rattle.cell_store.specs.Ready.{AreHeld}
 use Rattle.cell_store.specs.Shares.{Shows}
-use Rattle.cell_store.proofs.ShareLaws.{some_of}
 use Rattle.vertex_removal.specs.Near.{AreTaken}
 use Rattle.vertex_removal.specs.Refills.{IsRefilled}
 use Rattle.vertex_removal.proofs.Star.{star_list, star_once}

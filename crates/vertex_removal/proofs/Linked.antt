@@ -1,17 +1,16 @@
 -- The set of the points near a point that is taken: it is solid, and then enough for the hole, or the rest is flat.
 use Rattle.std.specs.Prelude.{◌≡◌, ◌≢◌, ℕ, true, false, List}
 use Rattle.std.proofs.Common.{sym, subst, inl, inr}
+use Rattle.list_laws.proofs.Cited.{false_if, not_both}
 use Rattle.point_order.specs.declared.cell.Cell.{Cell}
 use Rattle.point_order.specs.Complex.{complex}
 use Rattle.point_order.specs.Facets.{points_of}
 use Rattle.point_order.specs.Sets.{IsIn, without_point}
 use Rattle.point_order.specs.Solid.{is_solid}
-use Rattle.del_laws.proofs.Listed.{listed_is_cell, listed_inside}
-use Rattle.del_laws.proofs.Tests.{false_if, not_both}
+use Rattle.del_laws.proofs.Cited.{listed_inside, listed_is_cell}
 use Rattle.hole_laws.specs.Lists.{AreJoined}
-use Rattle.hole_laws.specs.Edits.{IsSet, IsLinkSet, IsAcross}
-use Rattle.hole_laws.proofs.RemovalLaws.{solid_near}
-use Rattle.hole_laws.proofs.Rest.{without_true}
+use Rattle.hole_laws.specs.Edits.{IsSet, IsLinkSet, IsPointAcross}
+use Rattle.hole_laws.proofs.Cited.{solid_near, without_true}
 use Rattle.vertex_removal.specs.Near.{IsStar, HasPoint, ArePointsBut, AreAdded, IsOfOne}
 
 module _ (s : List ℕ) (v : ℕ) (i : IsSet s) (m : IsIn v s) (star : List Cell) (k : IsStar s v star) (cells : List Cell) (listed : (c : Cell) → IsIn c cells → IsIn c (complex s)) (among : (c : Cell) → IsIn c star → IsIn c cells) (t : List ℕ) (p : ArePointsBut cells v t) where
@@ -35,11 +34,11 @@ module _ (s : List ℕ) (v : ℕ) (i : IsSet s) (m : IsIn v s) (star : List Cell
   }
 
   -- and with the points across they are solid where the rest is
-  pub rest_flat : ((e : ℕ) → IsAcross s v e → HasPoint cells e) → is_solid t ≡ false → is_solid (without_point v s) ≡ false
+  pub rest_flat : ((e : ℕ) → IsPointAcross s v e → HasPoint cells e) → is_solid t ≡ false → is_solid (without_point v s) ≡ false
   rest_flat across h = false_if (is_solid (without_point v s)) (λ d. not_both (is_solid t) (solid_near s v t i m near_is d has_link (λ e a. (p.points_are e).1 (across e a, λ q. a.there_lacks (subst (λ (x : ℕ). IsIn x (points_of a.there)) q a.has)))) h)
 
 -- the cells around have the points across
-pub has_across : (s : List ℕ) (v : ℕ) (star around : List Cell) → IsStar s v star → AreAdded s v (IsOfOne star) star around → (e : ℕ) → IsAcross s v e → HasPoint around e
+pub has_across : (s : List ℕ) (v : ℕ) (star around : List Cell) → IsStar s v star → AreAdded s v (IsOfOne star) star around → (e : ℕ) → IsPointAcross s v e → HasPoint around e
 has_across s v star around k a e x = record {
   cell = x.there;
   among = a.across x.here x.f x.there ((k x.here).1 (x.here_listed, x.here_has), x.of_here)

@@ -1,33 +1,15 @@
 -- The points of cells, ascending, each once.
-use Rattle.std.specs.Prelude.{◌≡◌, ℕ, suc, ◌+◌, ◌<◌, not, ◌==◌, List, [], ◌∷◌, length, slice_index, eqb}
+use Rattle.std.specs.Prelude.{◌≡◌, ℕ, not, ◌==◌, List, eqb}
 use Rattle.std.specs.List.{filter, flat_map, dedup}
-use Rattle.std.specs.List.Sorted.{IsSorted, IsPermutation, IsStrictlyIncreasing}
-use Rattle.std.specs.Ordering.{nat_cmp}
-use Rattle.std.proofs.Common.{sym, subst, arith}
+use Rattle.std.specs.List.Sorted.{IsPermutation}
+use Rattle.std.proofs.Common.{sym, subst}
 use Rattle.std.proofs.lemmas.List.Kept.{Contains-dedup_nat, Contains-from_dedup}
 use Rattle.std.proofs.lemmas.List.Sorted.{Contains-permutation, IsPermutation-sym}
-use Rattle.std.proofs.lemmas.Map.Keys.{IsStrictlyIncreasing-dedup}
+use Rattle.list_laws.proofs.Cited.{contains_in, false_if, filtered_from, filtered_true, flat_from, in_contained, in_flat, not_both, not_from, not_true, same_from, same_true}
 use Rattle.point_order.specs.declared.cell.Cell.{Cell}
 use Rattle.point_order.specs.Facets.{points_of}
-use Rattle.point_order.specs.Sets.{IsIn, IsAscending, IsBelowFirst}
-use Rattle.cell_store.proofs.Orders.{in_contained, contains_in}
-use Rattle.del_laws.proofs.Tests.{filtered_from, filtered_true, not_true, not_from, false_if, not_both}
-use Rattle.del_laws.proofs.PointSets.{same_from, same_true}
-use Rattle.cavity.proofs.Lists.{in_flat, flat_from}
+use Rattle.point_order.specs.Sets.{IsIn, IsAscending}
 use Rattle.vertex_removal.specs.Near.{ArePointsBut, AreSamePoints}
-
--- a list of which each is below the next ascends
-ascends : (l : List ℕ) → IsStrictlyIncreasing l → IsAscending l
-ascends [] s = tt
-ascends (x ∷ l) s = (first l (s 0), ascends l (λ k h. (let e : suc k + 1 ≡ suc (k + 1) = omega arith in subst (λ n. slice_index l k < slice_index (x ∷ l) n) e (s (suc k) (omega (arith, h))))))
-  where
-    first : (l : List ℕ) → (1 < length (x ∷ l) → x < slice_index (x ∷ l) 1) → IsBelowFirst x l
-    first [] f = tt
-    first (y ∷ l) f = f (omega arith)
-
--- sorted, and without repeats, a list ascends
-pub ordered : (sorted deduped : List ℕ) → IsSorted nat_cmp sorted → deduped ≡ dedup eqb sorted → IsAscending deduped
-ordered sorted deduped s e = subst (λ (l : List ℕ). IsAscending l) (sym e) (ascends (dedup eqb sorted) (IsStrictlyIncreasing-dedup sorted s))
 
 -- and has the same points
 pub same_points : (l sorted deduped : List ℕ) → IsPermutation l sorted → deduped ≡ dedup eqb sorted → AreSamePoints l deduped

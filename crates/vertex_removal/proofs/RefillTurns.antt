@@ -2,6 +2,7 @@
 use Rattle.std.specs.Prelude.{◌≡◌, ℕ, List, IsSome}
 use Rattle.std.specs.List.{filter}
 use Rattle.std.proofs.Common.{sym, subst}
+use Rattle.list_laws.proofs.Cited.{none_there}
 use Rattle.point_order.specs.declared.cell.Cell.{Cell}
 use Rattle.point_order.specs.Complex.{complex}
 use Rattle.point_order.specs.Facets.{points_of}
@@ -10,7 +11,6 @@ use Rattle.hole_laws.specs.Edits.{IsSet, IsLinkSet}
 use Rattle.cell_store.specs.Buckets.{InHand, bucket_at}
 use Rattle.cell_store.specs.Ready.{AreHeld}
 use Rattle.cavity.specs.Exploring.{IsCellMissing}
-use Rattle.cavity.proofs.Held.{not_some}
 use Rattle.vertex_removal.specs.Near.{IsStar, AreTaken}
 use Rattle.vertex_removal.specs.Refills.{IsRefilled}
 use Rattle.vertex_removal.specs.Turns.{IsNeeded, NoneIsNeeded}
@@ -26,7 +26,7 @@ star_needs hold s v star b k m =
 -- and where none is missing, none is
 pub none_needed : (hold : InHand) (s : List ℕ) (v : ℕ) (star : List Cell) → IsStar s v star → AreHeld hold star → NoneIsNeeded hold s v
 none_needed hold s v star k held b n =
-    not_some (bucket_at hold.places b) n.absent (subst (λ (x : ℕ). IsSome (bucket_at hold.places x)) (sym n.number) (held n.cell ((k n.cell).1 (n.listed, n.has_v)) n.point n.has))
+    none_there (bucket_at hold.places b) n.absent (subst (λ (x : ℕ). IsSome (bucket_at hold.places x)) (sym n.number) (held n.cell ((k n.cell).1 (n.listed, n.has_v)) n.point n.has))
 
 -- when the hole is filled
 pub refill_done : (hold : InHand) (s : List ℕ) (v : ℕ) (t : List ℕ) (star fresh : List Cell) → IsSet s → IsIn v s → IsLinkSet s v t → star ≡ filter (λ c. is_among v (points_of c)) (complex s) → AreHeld hold star → AreTaken t v fresh → NoneIsNeeded hold s v × IsRefilled s v star fresh × AreHeld hold star × AreHeld hold fresh

@@ -1,20 +1,16 @@
 -- The entry of a point that is taken.
-use Rattle.std.specs.Prelude.{◌≡◌, ℕ, true, cond, List}
+use Rattle.std.specs.Prelude.{◌≡◌, ℕ, List}
 use Rattle.std.proofs.Common.{sym, ◌∙◌, ap, subst}
+use Rattle.list_laws.proofs.Cited.{among_true}
 use Rattle.point_order.specs.Complex.{complex}
-use Rattle.point_order.specs.Sets.{is_among, without_point}
-use Rattle.point_order.specs.Solid.{is_solid}
+use Rattle.point_order.specs.Sets.{without_point}
 use Rattle.edit_history.specs.declared.history.Edit.TheVariants.{Take}
-use Rattle.edit_history.specs.declared.history.Reply.TheVariants.{Removed, Missing, Flat}
+use Rattle.edit_history.specs.declared.history.Reply.TheVariants.{Removed}
 use Rattle.edit_history.specs.Edits.{point_of, reply_to, changed, after}
 use Rattle.edit_history.specs.Histories.{replay}
-use Rattle.del_laws.proofs.Tests.{among_true}
+use Rattle.edit_history.proofs.Cited.{reply_there}
 use Rattle.cell_store.specs.Changes.{IsChange}
 use Rattle.vertex_removal.specs.Refills.{RemovalFollows}
-
--- a point that is there is removed, where the rest is solid
-reply_there : (s : List ℕ) (v : ℕ) → is_among v s ≡ true → is_solid (without_point v s) ≡ true → reply_to s (Take v) ≡ Removed
-reply_there s v e f = ap (λ b. cond b (cond (is_solid (without_point v s)) Removed Flat) Missing) e ∙ ap (λ b. cond b Removed Flat) f
 
 pub removal_follows : RemovalFollows
 removal_follows h e gone fresh i f =

@@ -5,7 +5,8 @@ use Rattle.std.specs.List.Sorted.{IsStrictlySortedBy, IsPermutation}
 use Rattle.std.proofs.Common.{refl, sym, ◌∙◌, subst, inl, inr, arith}
 use Rattle.std.proofs.lemmas.List.Kept.{IsStrictlySortedBy-filter}
 use Rattle.std.proofs.lemmas.List.Sorted.{IsPermutation-sym}
-use Rattle.conv_laws.specs.Lists.{AreDistinct}
+use Rattle.list_laws.specs.Lists.{AreDistinct}
+use Rattle.list_laws.proofs.Cited.{distinct_push, filtered_from, filtered_true, from_append, in_left, in_moved, in_right, none_there}
 use Rattle.point_order.specs.declared.cell.Cell.{Cell}
 use Rattle.point_order.specs.CellOrder.{cell_cmp}
 use Rattle.point_order.specs.Complex.{complex}
@@ -13,22 +14,16 @@ use Rattle.point_order.specs.Coordinates.{IsKey}
 use Rattle.point_order.specs.Facets.{points_of}
 use Rattle.point_order.specs.Sets.{IsIn, with_point}
 use Rattle.edit_history.specs.Histories.{replay}
-use Rattle.del_laws.proofs.Listed.{in_left, in_right, from_append}
-use Rattle.del_laws.proofs.Ordered.{complex_is_sorted}
-use Rattle.del_laws.proofs.Tests.{filtered_from, filtered_true}
+use Rattle.del_laws.proofs.Cited.{complex_is_sorted}
 use Rattle.hole_laws.specs.Edits.{IsNew, GoesFrom, StaysFrom}
-use Rattle.cell_store.specs.Buckets.{InHand, Content, bucket_at}
+use Rattle.cell_store.specs.Buckets.{InHand, BucketContent, bucket_at}
 use Rattle.cell_store.specs.Grids.{bucket_of, is_grid_size}
 use Rattle.cell_store.specs.Meshes.{IsWhole, MeshView, IsHoldOf}
 use Rattle.cell_store.specs.Shares.{Shows, NoneInHand}
 use Rattle.cell_store.specs.Swaps.{touches}
-use Rattle.cell_store.proofs.GridLaws.{bucket-below}
-use Rattle.cell_store.proofs.MeshLaws.{in_moved, point_held}
-use Rattle.cell_store.proofs.ShareLaws.{touched}
-use Rattle.cavity.proofs.Held.{not_some}
-use Rattle.cavity.proofs.Lists.{distinct_push}
-use Rattle.cell_conflict.proofs.Searching.{some_point, none_in}
-use Rattle.cell_store.proofs.MeshLaws.{shows_of}
+use Rattle.cell_stars.proofs.Cited.{bucket-below}
+use Rattle.cell_store.proofs.Cited.{point_held, shows_of, touched}
+use Rattle.cell_conflict.proofs.Cited.{none_in, some_point}
 use Rattle.vertex_removal.specs.Near.{AreTaken}
 use Rattle.vertex_removal.proofs.DistinctCells.{moved_once}
 
@@ -50,7 +45,7 @@ small_of mesh hold g t v i at one e key absent = record {
 pub some_held : (hold : InHand) (t : List ℕ) (v : ℕ) → IsSmall hold t v → (c : Cell) → IsIn c (complex t) → ¬ (NoneInHand hold (points_of c))
 some_held hold t v k c m none =
     let e = some_point t k.shown.ascending c m in
-    not_some (bucket_at hold.places (bucket_of hold.grid e.0)) (none e.0 e.1) (point_held hold e.0 k.whole.has k.whole.all)
+    none_there (bucket_at hold.places (bucket_of hold.grid e.0)) (none e.0 e.1) (point_held hold e.0 k.whole.has k.whole.all)
 
 -- cells that are taken away, and the rest, which are still to be judged
 pub record IsJudged (t : List ℕ) (v : ℕ) (rest taken : List Cell) : Type 0 where
@@ -70,7 +65,7 @@ in_bucket s g c e f m =
     subst (λ b. touches g b c ≡ true) zero r.1
 
 -- at first all are to be judged
-pub judged_first : (hold : InHand) (t : List ℕ) (v : ℕ) (x : Content) (rest : List Cell) → IsSmall hold t v → bucket_at hold.places 0 ≡ Some x → IsPermutation x.cells rest → IsJudged t v rest []
+pub judged_first : (hold : InHand) (t : List ℕ) (v : ℕ) (x : BucketContent) (rest : List Cell) → IsSmall hold t v → bucket_at hold.places 0 ≡ Some x → IsPermutation x.cells rest → IsJudged t v rest []
 judged_first hold t v x rest k at moved = first
   where
     one : hold.grid ≡ 1

@@ -5,7 +5,8 @@ use Rattle.std.specs.List.Sorted.{IsPermutation}
 use Rattle.std.proofs.Common.{refl, sym, ◌∙◌, ap, subst, inl, inr, arith}
 use Rattle.std.proofs.lemmas.Bool.{cases_eq}
 use Rattle.std.proofs.lemmas.List.Sorted.{IsPermutation-sym}
-use Rattle.conv_laws.specs.Lists.{AreDistinct}
+use Rattle.list_laws.specs.Lists.{AreDistinct}
+use Rattle.list_laws.proofs.Cited.{all_from, all_true, among_true, both_true, distinct_push, first_true, from_append, in_left, in_moved, in_right, none_in, second_true}
 use Rattle.point_order.specs.declared.cell.Cell.{Cell}
 use Rattle.point_order.specs.declared.cell.Cell.TheVariants.{Full, Open}
 use Rattle.point_order.specs.declared.cell.Facet.{Facet}
@@ -17,28 +18,14 @@ use Rattle.point_order.specs.Heights.{height}
 use Rattle.point_order.specs.Orientation.{is_flat}
 use Rattle.point_order.specs.Sets.{IsIn, is_among, with_point}
 use Rattle.point_order.specs.Spheres.{is_outside}
-use Rattle.point_order.proofs.SetLaws.{in-with, in-with_new, in-with_old}
+use Rattle.point_order.proofs.Cited.{in-with, in-with_new, in-with_old}
 use Rattle.del_laws.specs.Cells.{Vertex, point, On}
 use Rattle.del_laws.specs.Vertices.{are_among, is_full_cell}
-use Rattle.del_laws.proofs.Bools.{cell_from}
-use Rattle.del_laws.proofs.Decide.{vertex_discrete}
-use Rattle.del_laws.proofs.Listed.{listed_is_cell, cell_is_listed, in_left, in_right, from_append}
-use Rattle.del_laws.proofs.Neighbours.{IsOver, over_facet, fits, listed_facets}
-use Rattle.del_laws.proofs.Sorting.{test_is_listed}
-use Rattle.del_laws.proofs.Tests.{both_true, first_true, second_true, all_from, all_true, among_true}
+use Rattle.del_laws.proofs.Cited.{IsOver, cell_from, cell_is_listed, fits, listed_facets, listed_is_cell, over_facet, test_is_listed, vertex_discrete}
 use Rattle.hole_laws.specs.Edits.{IsSet, IsNew, IsLinkSet, GoesFrom, StaysFrom, IsRimOf}
 use Rattle.hole_laws.specs.Lists.{cell_over}
-use Rattle.hole_laws.proofs.FacetVertices.{IsAgainst, against_of, over_facet as over_point}
-use Rattle.hole_laws.proofs.Judged.{goes_in_conflict, mates_judge}
-use Rattle.hole_laws.proofs.Laws.{cells_after, fresh_have_point, old_lack_point, region_connected}
-use Rattle.hole_laws.proofs.NewCells.{point_vertex}
-use Rattle.hole_laws.proofs.RimCells.{one_gone_each}
-use Rattle.hole_laws.proofs.OfSets.{lists_of, more_set}
-use Rattle.hole_laws.proofs.Rest.{without_from, within_new}
-use Rattle.hole_laws.proofs.Vertex.{IsFacetVertex}
-use Rattle.cell_store.proofs.MeshLaws.{in_moved}
-use Rattle.cell_conflict.proofs.Standing.{one_of_two}
-use Rattle.cavity.proofs.Lists.{distinct_push}
+use Rattle.hole_laws.proofs.Cited.{IsAgainst, IsFacetVertex, against_of, cells_after, fresh_have_point, goes_in_conflict, lists_of, mates_judge, more_set, old_lack_point, one_gone_each, over_facet as over_point, point_vertex, region_connected, within_new, without_from}
+use Rattle.cell_conflict.proofs.Cited.{one_of_two}
 use Rattle.vertex_removal.specs.Near.{AreTaken}
 use Rattle.vertex_removal.specs.Wraps.{IsApex, CanWrap, IsHole, IsOuter, IsFacetIn, AreSidesOf, IsOpen, AreMet, AreInOrder, LeaderIsApex, OuterIsRim}
 use Rattle.vertex_removal.specs.declared.wrap.Side.{Side}
@@ -224,10 +211,6 @@ some_member : {X : Type 0} (l : List X) → 0 < length l → (x : X) × IsIn x l
 some_member [] h = absurd (omega arith)
 some_member (x ∷ l) h = (x, inl refl)
 
-no_member : {X : Type 0} (l : List X) → length l ≡ 0 → (x : X) → ¬ (IsIn x l)
-no_member [] e x m = m
-no_member (y ∷ l) e x m = absurd (omega (arith, e))
-
 module _ (t : List ℕ) (v : ℕ) (k : CanWrap t v) (found : List Cell) (sides : List Side) (w : IsWrapped t v found sides) where
   -- an open side is that of a facet of the complex
   pub open_facet : (s : Side) → IsIn s sides → IsFacetIn (complex t) s.facet
@@ -243,7 +226,7 @@ module _ (t : List ℕ) (v : ℕ) (k : CanWrap t v) (found : List Cell) (sides :
       w.goes c,
       λ g. region_connected t v k.solid k.new found (record {
         goes = w.goes;
-        across = λ q r f n j i l. elim (w.settled q f n i) [ inl s ↦ s r j l | inr o ↦ absurd (no_member sides e o.side o.among) ];
+        across = λ q r f n j i l. elim (w.settled q f n i) [ inl s ↦ s r j l | inr o ↦ absurd (none_in sides o.side e o.among) ];
       }) a.0 a.1 c g,
     );
     once = w.once;

@@ -1,6 +1,6 @@
 -- What is near a point that is taken: the cells at it and around it, and their points.
 use Rattle.std.specs.Prelude.{◌≡◌, ◌≢◌, ℕ, ◌↔◌, ◌⊎◌, List}
-use Rattle.conv_laws.specs.Lists.{AreDistinct}
+use Rattle.list_laws.specs.Lists.{AreDistinct}
 use Rattle.point_order.specs.declared.cell.Cell.{Cell}
 use Rattle.point_order.specs.declared.cell.Facet.{Facet}
 use Rattle.point_order.specs.Complex.{complex}

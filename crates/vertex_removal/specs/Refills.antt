@@ -1,6 +1,6 @@
 -- The cells that go when a point is taken, and those that come.
 use Rattle.std.specs.Prelude.{◌≡◌, ℕ, ◌↔◌, true, List, length}
-use Rattle.conv_laws.specs.Lists.{AreDistinct}
+use Rattle.list_laws.specs.Lists.{AreDistinct}
 use Rattle.point_order.specs.declared.cell.Cell.{Cell}
 use Rattle.point_order.specs.Complex.{complex}
 use Rattle.point_order.specs.Facets.{points_of}

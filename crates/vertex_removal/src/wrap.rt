@@ -5,7 +5,7 @@
 //! lie. A facet that was met from both sides is done with. When none is left, all cells are found.
 
 ghost use Rattle.std.specs.Prelude.{◌≡◌, [], ◌∷◌, ◌↔◌, IfOk, IfSome, OnOk, IsTrue};
-ghost use Rattle.conv_laws.specs.Lists.{AreDistinct};
+ghost use Rattle.list_laws.specs.Lists.{AreDistinct};
 ghost use Rattle.point_order.specs.Complex.{complex};
 ghost use Rattle.point_order.specs.Facets.{facets_of, points_of};
 ghost use Rattle.point_order.specs.Sets.{IsIn};

@@ -4,3 +4,4 @@ pub mod Poly
 pub mod Ring
 pub mod Signs
 pub mod Whole
+pub mod Cited

@@ -10,7 +10,7 @@ use Rattle.std.proofs.Common.{arith, sym, ◌∙◌, subst}
 use Rattle.std.proofs.lemmas.Int.{ints}
 use Rattle.whole_ring.proofs.Signs.{mul_pos, mul_nonneg, pos_of_mul_pos, nonneg_of_mul_nonneg}
 use Rattle.whole_ring.proofs.Poly.{sum_of_is, is_nothing_is, combined_is}
-use Rattle.whole_ring.specs.Poly.{Expr, lit, ◌⊗◌, ◌⊖◌, value, sum_of, is_nothing, Given, combined, Hold, Parts, end, part, total, NotNegative, Positive}
+use Rattle.whole_ring.specs.Poly.{Expr, ◌⊗◌, ◌⊖◌, value, sum_of, is_nothing, Given, combined, Hold, Parts, end, part, total, NotNegative, Positive}
 
 -- numbers whose difference is 0 are equal
 same : (a b : ℤ) → a +ℤ neg_ℤ b ≡ pos 0 → a ≡ b
@@ -47,11 +47,3 @@ nonneg_from m e s g xs hm hs hg t =
 pub pos_from : (m e : Expr) (s : Parts) (g : Given) (xs : List ℤ) → pos 0 <ℤ value m xs → Positive s xs → Hold g xs → T (is_nothing (sum_of (m ⊗ e ⊖ total s ⊖ combined g))) → pos 0 <ℤ value e xs
 pos_from m e s g xs hm hs hg t =
     pos_of_mul_pos (value m xs) (value e xs) hm (subst (λ n. pos 0 <ℤ n) (sym (ring_from (m ⊗ e) (total s) g xs hg t)) (total_pos s xs hs))
-
--- a sum of products is not 0, where the last is positive and the others are not negative
-pub clash_from : (s : Parts) (g : Given) (xs : List ℤ) → Positive s xs → Hold g xs → T (is_nothing (sum_of (total s ⊖ lit (pos 0) ⊖ combined g))) → ⊥
-clash_from s g xs hs hg t =
-    not_above (subst (λ n. pos 0 <ℤ n) (ring_from (total s) (lit (pos 0)) g xs hg t) (total_pos s xs hs))
-  where
-    not_above : pos 0 <ℤ pos 0 → ⊥
-    not_above h = h.lt

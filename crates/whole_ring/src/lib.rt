@@ -1,7 +1,7 @@
 //! Whole numbers: identities between polynomials, and the signs and sizes of sums and products.
 //!
 //! Each function here does nothing, and its contract is a law of the crate. Crates above use the laws through
-//! `proofs/Ring` (identities and signs by computing), `proofs/Whole`, `proofs/Signs` and `proofs/Bounds`.
+//! `proofs/Cited`: identities and signs by computing (`Ring`), and the laws of `Whole`, `Signs` and `Bounds`.
 #![tactic(auto)]
 
 ghost use Rattle.whole_ring.specs.Laws.{

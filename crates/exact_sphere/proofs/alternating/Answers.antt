@@ -3,7 +3,7 @@ use Rattle.std.proofs.lemmas.Int.{to_z-of_z}
 use Rattle.whole_ring.specs.Bounds.{IsWithin}
 use Rattle.std.specs.Int.{w128}
 use Rattle.std.specs.Int.RustNames.{FitsSigned}
-use Rattle.whole_ring.proofs.Bounds.{within-add, within-sub, within-fits}
+use Rattle.whole_ring.proofs.Cited.{within-add, within-fits, within-sub}
 use Rattle.exact_sphere.proofs.alternating.Goals as goal
 
 pub overflow_sub-result : goal.overflow_sub-result

@@ -1,7 +1,7 @@
 use Rattle.std.proofs.Common.{arith}
 use Rattle.std.proofs.lemmas.Int.{to_z-of_z}
 use Rattle.point_order.specs.Orientation.{orientation, distance}
-use Rattle.point_order.proofs.Determinants.{sphere-from_first}
+use Rattle.point_order.proofs.Cited.{sphere-from_first}
 use Rattle.exact_sphere.proofs.sphere.Goals as goal
 
 pub returns-clause-value : goal.returns-clause-value

@@ -6,8 +6,7 @@ use Rattle.whole_ring.specs.Signs.{HasSignOf}
 use Rattle.point_order.specs.Heights.{out, sphere_polynomial}
 use Rattle.point_order.specs.Orientation.{orientation}
 use Rattle.point_order.specs.Laws.{coefficient}
-use Rattle.point_order.proofs.Perturbation.{out-sign}
-use Rattle.point_order.proofs.SignRule.{sign-of_tie}
+use Rattle.point_order.proofs.Cited.{out-sign, sign-of_tie}
 use Rattle.sphere_ties.proofs.Verdict.{verdict}
 use Rattle.sphere_ties.proofs.outside.Goals as goal
 

@@ -1,7 +1,7 @@
 use Rattle.std.proofs.Common.{sym, ◌∙◌}
+use Rattle.list_laws.proofs.Cited.{among_true}
 use Rattle.edit_history.specs.Histories.{replay}
-use Rattle.del_laws.proofs.Tests.{among_true}
-use Rattle.cell_store.proofs.MeshLaws.{held_by, shows_of}
+use Rattle.cell_store.proofs.Cited.{held_by, shows_of}
 use Rattle.tour.proofs.show_conflict.Goals as goal
 
 pub holds_point-requires : goal.holds_point-requires

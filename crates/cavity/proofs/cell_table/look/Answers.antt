@@ -1,6 +1,6 @@
 use Rattle.std.proofs.Common.{◌≡◌, sym, ◌∙◌}
 use Rattle.std.proofs.lemmas.List.{get_or_past}
-use Rattle.del_laws.proofs.Tests.{not_both}
+use Rattle.list_laws.proofs.Cited.{not_both}
 use Rattle.cavity.specs.declared.cell_table.Mark.TheVariants.{Free, Gone, Kept}
 use Rattle.cavity.specs.declared.cell_table.Seen.TheVariants.{Goes, Stays}
 use Rattle.cavity.proofs.Tables.{in_at, not_there, none_goes, knows_end, passed_more}

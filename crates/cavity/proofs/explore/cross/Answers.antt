@@ -1,8 +1,8 @@
 use Rattle.std.proofs.Common.{subst}
 use Rattle.point_order.specs.declared.cell.Cell.{Cell}
 use Rattle.point_order.specs.Sets.{IsIn}
-use Rattle.cell_store.proofs.ShareLaws.{solid_set}
-use Rattle.cell_conflict.proofs.Standing.{held_on}
+use Rattle.cell_store.proofs.Cited.{solid_set}
+use Rattle.cell_conflict.proofs.Cited.{held_on}
 use Rattle.cavity.proofs.Crossing.{crossed_found, crossed_goes, crossed_stays, behind_rim, behind_more, behind_kept}
 use Rattle.cavity.proofs.explore.cross.Goals as goal
 

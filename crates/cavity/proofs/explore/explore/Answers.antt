@@ -5,7 +5,7 @@ use Rattle.point_order.specs.Facets.{facets_of}
 use Rattle.cell_store.specs.Shares.{NoneInHand, points_on}
 use Rattle.cavity.specs.Digs.{AreCrossed}
 use Rattle.cavity.specs.Exploring.{AreUncrossed}
-use Rattle.cell_store.proofs.ShareLaws.{solid_set}
+use Rattle.cell_store.proofs.Cited.{solid_set}
 use Rattle.cavity.proofs.Exploration.{facet_held, next_facet, next_uncrossed, still_at, one_more, more_twice, facets_few}
 use Rattle.cavity.proofs.explore.explore.Goals as goal
 

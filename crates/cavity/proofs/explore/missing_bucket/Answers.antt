@@ -1,6 +1,7 @@
 use Rattle.std.proofs.Common.{arith}
+use Rattle.list_laws.proofs.Cited.{at_none}
 use Rattle.cavity.specs.Exploring.{ArePointsHeld, IsBucketMissing}
-use Rattle.cavity.proofs.Held.{at_none, cell_missing, cells_more, cells_all}
+use Rattle.cavity.proofs.Held.{cell_missing, cells_more, cells_all}
 use Rattle.cavity.proofs.explore.missing_bucket.Goals as goal
 
 pub returns-in-Some : goal.returns-in-Some

@@ -1,5 +1,5 @@
-use Rattle.hole_laws.proofs.Judged.{mates_judge}
-use Rattle.cell_store.proofs.ShareLaws.{solid_set}
+use Rattle.hole_laws.proofs.Cited.{mates_judge}
+use Rattle.cell_store.proofs.Cited.{solid_set}
 use Rattle.cell_conflict.proofs.Mates.{judged}
 use Rattle.cell_conflict.proofs.judge.is_spot_in_conflict.Goals as goal
 

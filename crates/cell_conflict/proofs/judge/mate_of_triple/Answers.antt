@@ -8,7 +8,7 @@ use Rattle.point_order.specs.Complex.{complex}
 use Rattle.point_order.specs.Facets.{points_of}
 use Rattle.point_order.specs.Sets.{IsIn, is_among}
 use Rattle.cell_store.specs.Shares.{IsAcross}
-use Rattle.cell_store.proofs.ShareLaws.{solid_set}
+use Rattle.cell_store.proofs.Cited.{solid_set}
 use Rattle.cell_conflict.proofs.Standing.{triple_on}
 use Rattle.cell_conflict.proofs.Mates.{mate_against, some_against}
 use Rattle.cell_conflict.proofs.judge.mate_of_triple.Goals as goal

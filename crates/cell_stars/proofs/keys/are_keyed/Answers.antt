@@ -1,6 +1,6 @@
 use Rattle.std.proofs.Common.{ℕ, List}
+use Rattle.list_laws.proofs.Cited.{each_more, each_none, each_taken}
 use Rattle.cell_stars.specs.Moves.{IsKeyed}
-use Rattle.cell_stars.proofs.Members.{each_none, each_more, each_taken}
 use Rattle.cell_stars.proofs.keys.are_keyed.Goals as goal
 
 pub loop-n-init : goal.loop-n-init

@@ -1,5 +1,5 @@
 use Rattle.std.proofs.Common.{◌∙◌, sym}
-use Rattle.cell_stars.proofs.Members.{at_place}
+use Rattle.list_laws.proofs.Cited.{at_place}
 use Rattle.cell_stars.proofs.moves.meets.Goals as goal
 
 pub returns-then-has_vertex : goal.returns-then-has_vertex

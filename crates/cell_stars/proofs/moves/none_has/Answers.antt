@@ -1,9 +1,9 @@
 use Rattle.std.proofs.Common.{◌≡◌, ◌∙◌, Some, sym, refl, get_or}
+use Rattle.list_laws.proofs.Cited.{each_more, each_taken}
 use Rattle.point_order.specs.declared.cell.Cell.{Cell}
 use Rattle.point_order.specs.Facets.{points_of}
 use Rattle.point_order.specs.Sets.{IsIn}
 use Rattle.cell_stars.specs.Places.{at}
-use Rattle.cell_stars.proofs.Members.{each_more, each_taken}
 use Rattle.cell_stars.proofs.MoveLaws.{lacks_here}
 use Rattle.cell_stars.proofs.moves.none_has.Goals as goal
 use Rattle.cell_stars.proofs.moves.none_has.Goals.{in-Some+else-has_vertex, in_default}

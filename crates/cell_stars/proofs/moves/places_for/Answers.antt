@@ -1,7 +1,7 @@
 use Rattle.std.proofs.Common.{arith, subst, sym, ◌∙◌, List, ℕ}
+use Rattle.list_laws.proofs.Cited.{ascend_first, in_take}
 use Rattle.point_order.specs.Sets.{IsIn, IsAscending}
-use Rattle.cell_stars.proofs.Members.{in_taken}
-use Rattle.cell_stars.proofs.MoveLaws.{ascend_first, vacant_from}
+use Rattle.cell_stars.proofs.MoveLaws.{vacant_from}
 use Rattle.cell_stars.proofs.moves.places_for.Goals as goal
 
 pub behind_last-requires : goal.behind_last-requires
@@ -16,5 +16,5 @@ add_open-requires-clause-before c i m = (let t = c.in_ok-last.ensures i (subst (
 pub returns-clause-vacant : goal.returns-clause-vacant
 returns-clause-vacant c =
     vacant_from c.args.slots.now c.args.freed.now c.in_ok-likely_places.field-0.items c.truncate.new.self.items c.add_open.new.list.items c.in_ok-likely_places.ensures
-    (λ i m. (c.numbers_in_order-list.ensures.same i).0 (in_taken c.numbers_in_order-list.result.items c.args.count i (subst (λ (l : List ℕ). IsIn i l) c.truncate.ensures.items m)))
+    (λ i m. (c.numbers_in_order-list.ensures.same i).0 (in_take c.args.count c.numbers_in_order-list.result.items i (subst (λ (l : List ℕ). IsIn i l) c.truncate.ensures.items m)))
     c.in_ok-add_open.ensures.open

@@ -1,5 +1,5 @@
 use Rattle.std.proofs.lemmas.List.Filters.{dedup_is}
-use Rattle.cell_stars.proofs.Orders.{numbers_ascend, numbers_same}
+use Rattle.list_laws.proofs.Cited.{numbers_ascend, numbers_same}
 use Rattle.cell_stars.proofs.order.points_in_order.Goals as goal
 
 pub returns-clause-order : goal.returns-clause-order

@@ -1,6 +1,6 @@
 use Rattle.std.proofs.Common.{ℕ, ◌<◌, arith}
+use Rattle.list_laws.proofs.Cited.{each_more, each_none, each_taken}
 use Rattle.point_order.specs.declared.cell.Cell.{Cell}
-use Rattle.cell_stars.proofs.Members.{each_none, each_more, each_taken}
 use Rattle.cell_stars.proofs.planner.behind_places.Goals as goal
 
 pub loop-i-init : goal.loop-i-init

@@ -1,5 +1,5 @@
 use Rattle.std.proofs.Common.{ℕ, List, ◌<◌, arith}
-use Rattle.cell_stars.proofs.Members.{each_none, each_more, each_taken}
+use Rattle.list_laws.proofs.Cited.{each_more, each_none, each_taken}
 use Rattle.cell_stars.proofs.planner.behind_stars.Goals as goal
 
 pub loop-n-init : goal.loop-n-init

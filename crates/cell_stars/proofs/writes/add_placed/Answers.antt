@@ -1,5 +1,6 @@
+use Rattle.list_laws.proofs.Cited.{gather_none}
 use Rattle.cell_stars.specs.Gathering.{FromPut}
-use Rattle.cell_stars.proofs.Gathering.{gather_none, gathers}
+use Rattle.cell_stars.proofs.Gathering.{gathers}
 use Rattle.cell_stars.proofs.WriteLaws.{placed_step}
 use Rattle.cell_stars.proofs.writes.add_placed.Goals as goal
 

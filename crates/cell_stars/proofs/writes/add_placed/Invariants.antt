@@ -1,5 +1,5 @@
+use Rattle.list_laws.proofs.Cited.{Gathered}
 use Rattle.cell_stars.specs.Gathering.{FromPut}
-use Rattle.cell_stars.proofs.Gathering.{Gathered}
 use Rattle.cell_stars.proofs.writes.add_placed.Given as goal
 
 abbrev pub invariant-loop-cell : goal.invariant-loop-cell

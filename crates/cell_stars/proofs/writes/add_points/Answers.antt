@@ -1,5 +1,5 @@
+use Rattle.list_laws.proofs.Cited.{gather_none}
 use Rattle.cell_stars.specs.Gathering.{FromPoint}
-use Rattle.cell_stars.proofs.Gathering.{gather_none}
 use Rattle.cell_stars.proofs.WriteLaws.{points_added, point_in}
 use Rattle.cell_stars.proofs.writes.add_points.Goals as goal
 

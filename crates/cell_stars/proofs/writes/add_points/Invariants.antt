@@ -1,4 +1,4 @@
-use Rattle.cell_stars.proofs.Gathering.{Gathered}
+use Rattle.list_laws.proofs.Cited.{Gathered}
 use Rattle.cell_stars.specs.Gathering.{FromPoint}
 use Rattle.cell_stars.proofs.writes.add_points.Given as goal
 

@@ -1,7 +1,7 @@
 use Rattle.std.proofs.Common.{◌≡◌, ◌∙◌, ℕ, true, eqb, sym, subst, get_or, arith}
 use Rattle.std.proofs.lemmas.Bool.Decides.{nat_tests}
+use Rattle.list_laws.proofs.Cited.{at_place}
 use Rattle.point_order.specs.Sets.{IsIn}
-use Rattle.cell_stars.proofs.Members.{at_place}
 use Rattle.cell_stars.proofs.writes.is_seen.Goals as goal
 
 same : (n m : ℕ) → eqb n m ≡ true → n ≡ m

@@ -1,7 +1,6 @@
 use Rattle.std.proofs.Common.{arith, inl, inr, subst, sym, ◌∙◌, List, ℕ}
+use Rattle.list_laws.proofs.Cited.{ascend_first, in_take}
 use Rattle.point_order.specs.Sets.{IsIn, IsAscending}
-use Rattle.cell_stars.proofs.Members.{in_taken}
-use Rattle.cell_stars.proofs.MoveLaws.{ascend_first}
 use Rattle.cell_stars.proofs.writes.numbers_for.Goals as goal
 
 pub behind_last-requires : goal.behind_last-requires
@@ -15,6 +14,6 @@ add_spare-requires-clause-before c i m = (let t = c.in_ok-last.ensures i (subst 
 
 pub returns-clause-spare : goal.returns-clause-spare
 returns-clause-spare c n m = elim (c.in_ok-add_spare.ensures.spare n m) [
-  | inl k ↦ c.in_ok-likely_numbers.ensures n ((c.numbers_in_order-list.ensures.same n).0 (in_taken c.numbers_in_order-list.result.items c.args.count n (subst (λ (l : List ℕ). IsIn n l) c.truncate.ensures.items k)))
+  | inl k ↦ c.in_ok-likely_numbers.ensures n ((c.numbers_in_order-list.ensures.same n).0 (in_take c.args.count c.numbers_in_order-list.result.items n (subst (λ (l : List ℕ). IsIn n l) c.truncate.ensures.items k)))
   | inr k ↦ k
 ]

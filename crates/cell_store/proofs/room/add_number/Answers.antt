@@ -1,5 +1,5 @@
 use Rattle.std.proofs.Common.{inl, inr}
-use Rattle.cell_stars.proofs.Members.{in_pushed, pushed_old, pushed_new}
+use Rattle.list_laws.proofs.Cited.{in_pushed, pushed_new, pushed_old}
 use Rattle.cell_store.proofs.room.add_number.Goals as goal
 
 pub returns-in_ok-push : goal.returns-in_ok-push

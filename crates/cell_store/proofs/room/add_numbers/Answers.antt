@@ -1,4 +1,5 @@
-use Rattle.cell_stars.proofs.Gathering.{gather_none, gather_step, gathers}
+use Rattle.list_laws.proofs.Cited.{gather_none, gather_step}
+use Rattle.cell_stars.proofs.Cited.{gathers}
 use Rattle.cell_store.specs.Ready.{HasNumber}
 use Rattle.cell_store.proofs.RoomLaws.{numbers_step}
 use Rattle.cell_store.proofs.room.add_numbers.Goals as goal

@@ -1,4 +1,4 @@
-use Rattle.cell_stars.proofs.Gathering.{Gathered}
+use Rattle.list_laws.proofs.Cited.{Gathered}
 use Rattle.cell_store.specs.Ready.{IsNumberOf}
 use Rattle.cell_store.proofs.room.add_numbers_at.Given as goal
 

@@ -1,9 +1,9 @@
 use Rattle.std.proofs.Common.{refl, sym, ◌∙◌, ap, subst, inl}
 use Rattle.std.proofs.lemmas.List.{nil_from_length}
+use Rattle.list_laws.proofs.Cited.{len_set}
 use Rattle.point_order.specs.Sets.{IsIn}
 use Rattle.cell_store.specs.Buckets.{layout_at}
 use Rattle.cell_store.specs.Ready.{AreApart, given}
-use Rattle.cell_store.proofs.NoteLaws.{len_set}
 use Rattle.cell_store.proofs.RoomLaws.{given_next, allowed_next, apart_next, allowed_below, allowed_there}
 use Rattle.cell_store.proofs.room.carry_all.Goals as goal
 

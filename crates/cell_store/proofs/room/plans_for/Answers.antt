@@ -1,13 +1,13 @@
 use Rattle.std.proofs.Common.{◌∙◌, inl, inr, subst}
 use Rattle.std.proofs.lemmas.List.{take_all}
-use Rattle.edit_history.proofs.Lines.{at-in}
+use Rattle.list_laws.proofs.Cited.{at_in}
 use Rattle.point_order.specs.Sets.{IsIn}
 use Rattle.cell_store.proofs.RoomLaws.{numbers_more, ready_more, ready_all}
 use Rattle.cell_store.proofs.room.plans_for.Goals as goal
 
 pub plan_for-requires : goal.plan_for-requires
 plan_for-requires c =
-    let i = at-in c.deref-b-items.result.now c.loop-b.b-index 0 c.loop-b-test.true in
+    let i = at_in c.deref-b-items.result.now c.loop-b.b-index 0 c.loop-b-test.true in
     elim ((c.in_ok-numbers.ensures.numbers _).0 (subst (IsIn _) c.deref-b-items.ensures.value i)) [ inl j ↦ c.requires.gone _ j | inr j ↦ c.requires.fresh _ j ]
 
 pub loop-b-preserved : goal.loop-b-preserved

@@ -1,5 +1,5 @@
 use Rattle.std.proofs.lemmas.List.Filters.{dedup_is}
-use Rattle.cell_stars.proofs.Orders.{numbers_ascend}
+use Rattle.list_laws.proofs.Cited.{numbers_ascend}
 use Rattle.cell_store.proofs.RoomLaws.{numbers_are}
 use Rattle.cell_store.proofs.room.touched.Goals as goal
 

@@ -1,7 +1,7 @@
 use Rattle.std.proofs.Common.{ap, length}
 use Rattle.cell_store.specs.Buckets.{cells_in, content_of}
 use Rattle.cell_store.specs.Stars.{cells_to_come}
-use Rattle.cell_conflict.proofs.Searching.{in_items, of_items, none_in}
+use Rattle.cell_conflict.proofs.Cited.{in_items, none_in, of_items}
 use Rattle.cell_walk.proofs.Searching.{at_first, one_fits, one_not, at_last}
 use Rattle.cell_walk.proofs.search.least_in.Goals as goal
 

@@ -1,9 +1,10 @@
 use Rattle.std.proofs.Common.{inl, sym, ◌∙◌}
-use Rattle.cell_walk.proofs.Searching.{not_self, not_back}
+use Rattle.del_laws.proofs.Cited.{against}
+use Rattle.cell_walk.proofs.Searching.{not_self}
 use Rattle.cell_walk.proofs.search.lesser.Goals as goal
 
 pub returns-in-Less-clause-best : goal.returns-in-Less-clause-best
-returns-in-Less-clause-best c = rw c.in-Some.is (λ e. not_back c.args.cell.now c.in-Some.old (sym c.compare.ensures ∙ c.in-Less.is) e)
+returns-in-Less-clause-best c = rw c.in-Some.is (λ e. against c.args.cell.now c.in-Some.old (sym c.compare.ensures ∙ c.in-Less.is) e)
 
 pub returns-in-Less-clause-cell : goal.returns-in-Less-clause-cell
 returns-in-Less-clause-cell c = not_self c.args.cell.now

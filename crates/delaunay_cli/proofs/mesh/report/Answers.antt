@@ -2,7 +2,7 @@ use Rattle.std.proofs.Common.{sym, subst, ap, ◌∙◌}
 use Rattle.point_order.specs.Sets.{IsAscending}
 use Rattle.point_order.specs.Solid.{is_solid}
 use Rattle.edit_history.specs.Histories.{replay}
-use Rattle.cell_store.proofs.ShareLaws.{ascending_replay}
+use Rattle.cell_store.proofs.Cited.{ascending_replay}
 use Rattle.delaunay_cli.proofs.mesh.report.Goals as goal
 
 pub shapes_of-requires-clause-ascending : goal.shapes_of-requires-clause-ascending

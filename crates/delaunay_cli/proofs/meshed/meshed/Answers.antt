@@ -2,11 +2,11 @@ use Rattle.std.proofs.Common.{◌∙◌, sym, ap, subst, arith, [], List, ℕ, l
 use Rattle.std.specs.Prelude.{All}
 use Rattle.insertion.specs.Opening.{opening_history}
 use Rattle.edit_history.specs.Histories.{IsLegal, entries_from}
-use Rattle.edit_history.proofs.Lines.{length-entries}
+use Rattle.edit_history.proofs.Cited.{length-entries}
 use Rattle.edit_workers.specs.Dealing.{AreApart, AreAscending, count_of}
 use Rattle.delaunay_cli.specs.Made.{tagged_points}
 use Rattle.delaunay_cli.proofs.OpeningLines.{added, added_many, four_many, opening_made, opening_lines}
-use Rattle.edit_workers.proofs.Deals.{are_opening}
+use Rattle.edit_workers.proofs.Cited.{are_opening}
 use Rattle.delaunay_cli.proofs.DealtLines.{dealt_apart, dealt_ascend, dealt_count, dealt_few, run_kept, run_of_one}
 use Rattle.delaunay_cli.proofs.meshed.meshed.Goals as goal
 

@@ -2,8 +2,7 @@ use Rattle.std.proofs.Common.{arith, ap, sym, subst, ◌∙◌, ◌≡◌, [], �
 use Rattle.edit_history.specs.Histories.{IsLegal}
 use Rattle.cell_store.specs.Meshes.{MeshView}
 use Rattle.insertion.specs.Opening.{opening_history}
-use Rattle.insertion.proofs.MeshGrowth.{four_found}
-use Rattle.insertion.proofs.OpeningLaws.{opening_legal}
+use Rattle.insertion.proofs.Cited.{four_found, opening_legal}
 use Rattle.delaunay_cli.specs.Made.{tagged_points}
 use Rattle.delaunay_cli.proofs.OpeningLines.{tagged_is}
 use Rattle.delaunay_cli.proofs.meshed.opening.Goals as goal

@@ -1,8 +1,8 @@
 use Rattle.std.proofs.Common.{subst, inl, inr, ℕ, List, [], ◌∷◌, ◌++◌, take, arith}
 use Rattle.std.proofs.lemmas.List.{take_more, take_all}
+use Rattle.list_laws.proofs.Cited.{from_append}
 use Rattle.point_order.specs.Coordinates.{IsKey}
 use Rattle.del_laws.specs.Keys.{AreKeys}
-use Rattle.del_laws.proofs.Listed.{from_append}
 use Rattle.delaunay_cli.proofs.shapes.all_keys.Goals as goal
 
 -- one key more

@@ -1,5 +1,5 @@
 use Rattle.std.proofs.Common.{List, length, arith, ap, subst}
-use Rattle.edit_history.proofs.Lines.{ok-then}
+use Rattle.edit_history.proofs.Cited.{ok-then}
 use Rattle.plain_laws.specs.Running.{Pair}
 use Rattle.edit_workers.specs.declared.lists.List as list
 use Rattle.edit_workers.specs.Running.{AreRun, AreRunBut, pairs_in, AreApplied}

@@ -1,6 +1,7 @@
 use Rattle.std.proofs.Common.{ap, ◌∙◌, arith}
+use Rattle.list_laws.proofs.Cited.{on_err}
 use Rattle.grid_claims.specs.Passes.{Standing}
-use Rattle.edit_workers.proofs.Worked.{on_err, tried_nothing, missed_both, missed_fewer, broken_after, made_after}
+use Rattle.edit_workers.proofs.Worked.{tried_nothing, missed_both, missed_fewer, broken_after, made_after}
 use Rattle.edit_workers.proofs.working.try_often.Goals as goal
 
 pub loop-tries-init : goal.loop-tries-init

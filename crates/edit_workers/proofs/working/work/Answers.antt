@@ -1,5 +1,6 @@
-use Rattle.edit_workers.proofs.Worked.{on_err, worked_first, worked_next, worked_all, left_inside, same_table, broken_off}
+use Rattle.edit_workers.proofs.Worked.{worked_first, worked_next, worked_all, left_inside, same_table, broken_off}
 use Rattle.std.proofs.Common.{take}
+use Rattle.list_laws.proofs.Cited.{on_err}
 use Rattle.edit_workers.proofs.working.work.Goals as goal
 
 pub loop-pair-init : goal.loop-pair-init

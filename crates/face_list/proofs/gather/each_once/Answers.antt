@@ -1,6 +1,7 @@
 use Rattle.std.proofs.lemmas.List.Filters.{dedup_is}
+use Rattle.list_laws.proofs.Cited.{deduped_same, deduped_sorted}
 use Rattle.face_list.specs.Gather.{item_cmp}
-use Rattle.face_list.proofs.Sorting.{item_order, item_exact, item_ties, deduped_sorted, deduped_same}
+use Rattle.face_list.proofs.Sorting.{item_order, item_exact, item_ties}
 use Rattle.face_list.proofs.gather.each_once.Goals as goal
 
 pub returns-clause-order : goal.returns-clause-order

@@ -1,8 +1,8 @@
 use Rattle.std.proofs.Common.{sym, ap, subst, ◌∙◌, drop, length}
 use Rattle.std.specs.List.Sorted.{IsSorted}
+use Rattle.list_laws.proofs.Cited.{arranged_same, front_is}
 use Rattle.point_order.specs.Sets.{IsIn}
 use Rattle.face_list.specs.Gather.{item_cmp}
-use Rattle.face_list.proofs.Sorting.{arranged_same, front_is}
 use Rattle.face_list.proofs.gather.in_order.Goals as goal
 
 pub each_once-requires-clause-order : goal.each_once-requires-clause-order

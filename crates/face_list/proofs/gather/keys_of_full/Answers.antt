@@ -2,10 +2,10 @@ use Rattle.std.proofs.Common.{◌≡◌, sym, ap, subst, ◌∙◌, inl, inr, ta
 use Rattle.std.specs.List.Sorted.{IsStrictlySortedBy}
 use Rattle.std.specs.declared.cmp.Ordering.TheVariants.{Less}
 use Rattle.std.proofs.lemmas.List.{take_more, take_all}
+use Rattle.list_laws.proofs.Cited.{at_in, before_next, in_end, sorted_none}
 use Rattle.point_order.specs.Sets.{IsIn}
 use Rattle.face_list.specs.Gather.{full_keys, is_full, item_cmp}
 use Rattle.face_list.specs.Tables.{cell_at}
-use Rattle.face_list.proofs.Sorting.{at_in, before_next, in_end, sorted_none}
 use Rattle.face_list.proofs.Gathering.{full_from, full_more, open_more, not_greater, cell_is}
 use Rattle.face_list.proofs.gather.keys_of_full.Goals as goal
 use Rattle.face_list.proofs.gather.keys_of_full.Goals.{then-is_full+in_ok-put_key, else-is_full}

@@ -1,6 +1,6 @@
 use Rattle.std.proofs.Common.{◌≡◌, sym, subst, ◌∙◌, ◌-◌, ◌<◌, inl, inr, length, arith}
+use Rattle.list_laws.proofs.Cited.{at_in, behind_all, in_end, is_last, is_less, none_in, sorted_end}
 use Rattle.point_order.specs.Sets.{IsIn}
-use Rattle.face_list.proofs.Sorting.{at_in, sorted_end, behind_all, is_last, is_less, in_end, none_in}
 use Rattle.face_list.proofs.gather.put_key.Goals as goal
 use Rattle.face_list.proofs.gather.put_key.Goals.{then-count-eq0-via-then-count-eq0, then-count-eq0-via-else-count-eq0+then-is_before}
 

@@ -1,10 +1,9 @@
 use Rattle.std.proofs.Common.{◌≡◌, sym, ap, subst, ◌∙◌, ◌+◌, ◌≤◌, inl, inr, take, drop, length, [], ◌∷◌, ◌++◌, arith, refl}
 use Rattle.std.specs.List.Sorted.{IsStrictlySortedBy}
 use Rattle.std.proofs.lemmas.List.{take_more, drop_more, map-append, length-append}
+use Rattle.list_laws.proofs.Cited.{before_others, from_append}
 use Rattle.point_order.specs.Sets.{IsIn}
-use Rattle.del_laws.proofs.Listed.{from_append}
 use Rattle.face_list.specs.Gather.{numbers_of}
-use Rattle.face_list.proofs.Sorting.{before_others}
 use Rattle.face_list.proofs.Gathering.{number_of_item}
 use Rattle.face_list.proofs.Stretches.{one_more, stops_more}
 use Rattle.face_list.proofs.gather.with_numbers.Goals as goal

@@ -1,8 +1,9 @@
 use Rattle.std.proofs.Common.{◌≡◌, ◌∷◌, None, Some, ℕ, slice_set, refl, sym, ◌∙◌, ap}
 use Rattle.atomic_table.specs.Table.{rest}
-use Rattle.cell_store.specs.Buckets.{Content, at_place}
+use Rattle.list_laws.proofs.Cited.{one_value}
+use Rattle.cell_store.specs.Buckets.{BucketContent, at_place}
 use Rattle.grid_claims.specs.Plays.{claims}
-use Rattle.grid_claims.proofs.Carrying.{carries_more, same_some, first_slot}
+use Rattle.grid_claims.proofs.Carrying.{carries_more, first_slot}
 use Rattle.grid_claims.proofs.hands.take_in.Goals as goal
 
 pub exchange-requires : goal.exchange-requires
@@ -13,13 +14,13 @@ exchange-requires c =
 pub returns-clause-carries : goal.returns-clause-carries
 returns-clause-carries c =
     let t = (c.claim_at-found.ensures.claimed c.args.b refl).0 c.if-found-ne0.false in
-    let u : Content = t.0 in
-    let bucket : Content = c.in-Some.slot in
+    let u : BucketContent = t.0 in
+    let bucket : BucketContent = c.in-Some.slot in
     let was = c.exchange.ensures.2 in
     let now = c.exchange.ensures.3 in
-    let same : u ≡ bucket = same_some u bucket (first_slot c.args.b (Some u) c.exchange.result c.args.place.now.me.1 (rest c.claim_at-found.new.place.me.1) (sym t.2 ∙ was) ∙ c.in-Some.is) in
+    let same : u ≡ bucket = one_value u bucket (first_slot c.args.b (Some u) c.exchange.result c.args.place.now.me.1 (rest c.claim_at-found.new.place.me.1) (sym t.2 ∙ was) ∙ c.in-Some.is) in
     carries_more c.args.place.now.me c.exchange.new.seat.me c.args.hold.now.places c.put.new.self.places c.args.order.now.items c.push_reserved.new.self.items c.args.hold.now.grid c.args.b bucket c.requires.carries
-    (ap (λ y. y.0) now ∙ t.1 ∙ ap (λ (y : Content). claims c.args.place.now.me.0 c.args.b y) same)
+    (ap (λ y. y.0) now ∙ t.1 ∙ ap (λ (y : BucketContent). claims c.args.place.now.me.0 c.args.b y) same)
     (ap (λ y. y.1) now ∙ ap (λ l. (c.args.b, None) ∷ rest l) t.2)
-    (ap (λ (y : Content). y.place) (sym same) ∙ t.4 ∙ ap (λ (g : ℕ). Some (g, c.args.b)) (sym c.requires.grid))
-    (ap (λ h. h.places) c.put.ensures ∙ ap (λ (y : Content). slice_set c.args.hold.now.places c.args.b (Some (at_place c.args.hold.now.grid c.args.b y))) c.into_bucket.ensures) c.push_reserved.ensures.items c.requires.below c.requires.absent
+    (ap (λ (y : BucketContent). y.place) (sym same) ∙ t.4 ∙ ap (λ (g : ℕ). Some (g, c.args.b)) (sym c.requires.grid))
+    (ap (λ h. h.places) c.put.ensures ∙ ap (λ (y : BucketContent). slice_set c.args.hold.now.places c.args.b (Some (at_place c.args.hold.now.grid c.args.b y))) c.into_bucket.ensures) c.push_reserved.ensures.items c.requires.below c.requires.absent

@@ -1,5 +1,5 @@
 use Rattle.std.proofs.Common.{◌≡◌, ◌<◌, ◌*◌, ℕ, Some, length, slice_set, sym, ◌∙◌, ap, subst, arith}
-use Rattle.cell_store.specs.Buckets.{Content, FitsPlace, at_place}
+use Rattle.cell_store.specs.Buckets.{BucketContent, FitsPlace, at_place}
 use Rattle.std.specs.Mem.Slots.{slots_items, slots_filled, slots_len, slots_counts}
 use Rattle.grid_claims.proofs.Homecoming.{fits, not_empty, gathers_on, gathered}
 use Rattle.grid_claims.proofs.homing.gather.Goals as goal
@@ -13,7 +13,7 @@ put-requires-clause-place c =
     let count : c.count-b-end.result ≡ length c.args.hold.now.places = c.count-b-end.ensures.value ∙ ap (λ (x : ℕ). x * x * x) c.grid.ensures.grid ∙ sym wide in
     let t = c.loop-b-test.true in
     let l : c.loop-b.b < length (slots_items s) = omega (arith, t, count, d, n) in
-    subst (λ (y : Content). FitsPlace c.loop-b.hold.grid c.loop-b.b y) (sym c.into_bucket.ensures) (fits (slots_items s) (slots_items c.loop-b.closed.slots) (slots_len s) (slots_len c.loop-b.closed.slots) (slots_filled c.loop-b.closed.slots) c.args.hold.now c.loop-b.hold c.loop-b.b c.in-Some.slot c.loop-b.invariant l c.requires.home c.in-Some.ensures.value)
+    subst (λ (y : BucketContent). FitsPlace c.loop-b.hold.grid c.loop-b.b y) (sym c.into_bucket.ensures) (fits (slots_items s) (slots_items c.loop-b.closed.slots) (slots_len s) (slots_len c.loop-b.closed.slots) (slots_filled c.loop-b.closed.slots) c.args.hold.now c.loop-b.hold c.loop-b.b c.in-Some.slot c.loop-b.invariant l c.requires.home c.in-Some.ensures.value)
 
 pub unreachable-requires : goal.unreachable-requires
 unreachable-requires c =
@@ -37,7 +37,7 @@ loop-b-preserved c =
     let l : c.loop-b.b < length (slots_items s) = omega (arith, t, count, d, n) in
     let o = c.take.ensures.others in
     gathers_on (slots_items s) (slots_items c.loop-b.closed.slots) (slots_items c.take.new.self.slots) (slots_len s) (slots_len c.loop-b.closed.slots) (slots_len c.take.new.self.slots) (slots_filled c.loop-b.closed.slots) (slots_filled c.take.new.self.slots)
-    c.args.hold.now c.loop-b.hold c.put.new.self c.loop-b.b c.in-Some.slot c.loop-b.invariant l n (slots_counts c.loop-b.closed.slots).1 (sym d) c.requires.home c.in-Some.ensures.value o.0 o.1 o.2 (c.put.ensures ∙ ap (λ (y : Content). record c.loop-b.hold { places = slice_set c.loop-b.hold.places c.loop-b.b (Some (at_place c.loop-b.hold.grid c.loop-b.b y)) }) c.into_bucket.ensures)
+    c.args.hold.now c.loop-b.hold c.put.new.self c.loop-b.b c.in-Some.slot c.loop-b.invariant l n (slots_counts c.loop-b.closed.slots).1 (sym d) c.requires.home c.in-Some.ensures.value o.0 o.1 o.2 (c.put.ensures ∙ ap (λ (y : BucketContent). record c.loop-b.hold { places = slice_set c.loop-b.hold.places c.loop-b.b (Some (at_place c.loop-b.hold.grid c.loop-b.b y)) }) c.into_bucket.ensures)
 
 pub returns-clause-places : goal.returns-clause-places
 returns-clause-places c =

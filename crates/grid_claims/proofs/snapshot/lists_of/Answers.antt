@@ -1,5 +1,5 @@
 use Rattle.edit_history.specs.Histories.{replay}
-use Rattle.cell_store.proofs.ShareLaws.{stands_shows}
+use Rattle.cell_store.proofs.Cited.{stands_shows}
 use Rattle.grid_claims.proofs.snapshot.lists_of.Goals as goal
 
 pub returns : goal.returns

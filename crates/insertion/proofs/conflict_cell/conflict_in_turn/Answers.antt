@@ -1,11 +1,12 @@
 use Rattle.std.proofs.Common.{inl, inr, sym, subst, ◌+◌, ◌%◌}
+use Rattle.list_laws.proofs.Cited.{one_below}
 use Rattle.cell_store.specs.Buckets.{cells_in}
 use Rattle.cell_conflict.specs.Searching.{NoneGoes}
-use Rattle.cell_conflict.proofs.Searching.{one_more, unmet}
+use Rattle.cell_conflict.proofs.Cited.{unmet}
 use Rattle.insertion.proofs.conflict_cell.conflict_in_turn.Goals as goal
 
 pub loop-step-preserved : goal.loop-step-preserved
-loop-step-preserved c i k h st new = elim (one_more c.loop-step.step i k) [
+loop-step-preserved c i k h st new = elim (one_below c.loop-step.step i k) [
   | inl l ↦ c.loop-step.invariant i l h st new
   | inr e ↦ subst (λ j. NoneGoes h c.args.p (cells_in c.args.hold.now.places ((c.bucket_of-first.result + j) % c.count-count.result))) (sym e) (c.in_default.ensures.goes h st new)
 ]

@@ -2,7 +2,7 @@ use Rattle.std.proofs.Common.{subst}
 use Rattle.edit_history.specs.Histories.{replay}
 use Rattle.cavity.specs.Turns.{TurnGives}
 use Rattle.cavity.specs.declared.dig.DigTurn.{DigTurn}
-use Rattle.cell_store.proofs.MeshLaws.{shows_of}
+use Rattle.cell_store.proofs.Cited.{shows_of}
 use Rattle.insertion.proofs.growth.dig_in.Goals as goal
 
 pub cell_in_conflict-cell-requires-clause-shown : goal.cell_in_conflict-cell-requires-clause-shown

@@ -1,12 +1,12 @@
 use Rattle.std.proofs.Common.{subst, sym, ap, ◌∙◌, arith, ℕ, ◌+◌, take, List}
+use Rattle.list_laws.proofs.Cited.{among_from, not_among}
 use Rattle.edit_history.specs.declared.history.Entry.{Entry}
 use Rattle.edit_history.specs.Edits.{point_of}
 use Rattle.edit_history.specs.Histories.{replay}
-use Rattle.del_laws.proofs.Tests.{among_from}
 use Rattle.cell_store.specs.Meshes.{MeshView}
 use Rattle.insertion.specs.Growing.{HasGrown}
-use Rattle.cell_store.proofs.MeshLaws.{held_by, shows_of}
-use Rattle.insertion.proofs.MeshGrowth.{grown_first, grown_same, grown_more, grown_all, inserts, not_among}
+use Rattle.cell_store.proofs.Cited.{held_by, shows_of}
+use Rattle.insertion.proofs.MeshGrowth.{grown_first, grown_same, grown_more, grown_all, inserts}
 use Rattle.insertion.proofs.growth.mesh_of_points.Goals as goal
 use Rattle.insertion.proofs.growth.mesh_of_points.Goals.{then-not-holds_point+in_ok-insert, else-not-holds_point}
 

@@ -1,4 +1,4 @@
-use Rattle.cell_store.proofs.MeshLaws.{point_held}
+use Rattle.cell_store.proofs.Cited.{point_held}
 use Rattle.insertion.proofs.opening.note.Goals as goal
 
 pub reserve-requires-clause-point : goal.reserve-requires-clause-point

@@ -1,4 +1,4 @@
-use Rattle.cell_store.proofs.MeshLaws.{all_are_held, point_held}
+use Rattle.cell_store.proofs.Cited.{all_are_held, point_held}
 use Rattle.insertion.proofs.opening.put_cells.Goals as goal
 
 pub reserve-requires-clause-fresh : goal.reserve-requires-clause-fresh

@@ -1,7 +1,7 @@
 use Rattle.std.proofs.Common.{List, ℕ, refl, arith}
 use Rattle.alpha_complex.specs.declared.shape.Shape.{Shape}
 use Rattle.alpha_complex.specs.Shapes.{ShapeParts, shape_seen}
-use Rattle.alpha_complex.proofs.Searches.{mapped_at}
+use Rattle.alpha_complex.proofs.Cited.{mapped_at}
 use Rattle.mesh_files.specs.Report.{shapes_seen}
 use Rattle.mesh_files.specs.Text.{shape_text, shape_blocks}
 use Rattle.mesh_files.proofs.Flowing.{breaks, goes_on, on_err}

@@ -2,7 +2,8 @@ use Rattle.std.proofs.Common.{sym, ◌∙◌, refl}
 use Rattle.edit_history.specs.declared.history.Edit.TheVariants.{Add}
 use Rattle.edit_history.specs.declared.history.Reply.TheVariants.{Inserted, Duplicate}
 use Rattle.edit_history.specs.Histories.{replay}
-use Rattle.one_mesh.proofs.Edited.{applied, duplicate, inserts, quiet, insertion}
+use Rattle.edit_history.proofs.Cited.{duplicate, inserts}
+use Rattle.one_mesh.proofs.Edited.{applied, quiet, insertion}
 use Rattle.one_mesh.proofs.edits.add.Goals as goal
 
 pub note-requires : goal.note-requires

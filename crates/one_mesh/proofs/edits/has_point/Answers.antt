@@ -1,5 +1,5 @@
 use Rattle.edit_history.specs.Histories.{replay}
-use Rattle.cell_store.proofs.MeshLaws.{held_by, shows_of}
+use Rattle.cell_store.proofs.Cited.{held_by, shows_of}
 use Rattle.one_mesh.proofs.edits.has_point.Goals as goal
 
 pub holds_point-requires : goal.holds_point-requires

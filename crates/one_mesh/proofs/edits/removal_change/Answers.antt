@@ -2,7 +2,7 @@ use Rattle.std.proofs.Common.{sym, subst, ℕ, false, ◌≡◌}
 use Rattle.point_order.specs.Sets.{IsIn, without_point}
 use Rattle.point_order.specs.Solid.{is_solid}
 use Rattle.edit_history.specs.Histories.{replay}
-use Rattle.cell_store.proofs.MeshLaws.{held_by, shows_of}
+use Rattle.cell_store.proofs.Cited.{held_by, shows_of}
 use Rattle.vertex_removal.specs.Refills.{IsRefilled}
 use Rattle.vertex_removal.specs.Turns.{RefillGives}
 use Rattle.vertex_removal.specs.declared.refill.RefillTurn.{RefillTurn}

@@ -1,9 +1,10 @@
 use Rattle.std.proofs.Common.{sym, ◌∙◌, refl}
+use Rattle.list_laws.proofs.Cited.{among_from}
 use Rattle.edit_history.specs.declared.history.Edit.TheVariants.{Take}
 use Rattle.edit_history.specs.declared.history.Reply.TheVariants.{Missing}
 use Rattle.edit_history.specs.Histories.{replay}
-use Rattle.del_laws.proofs.Tests.{among_from}
-use Rattle.one_mesh.proofs.Edited.{applied, missing, quiet}
+use Rattle.edit_history.proofs.Cited.{missing}
+use Rattle.one_mesh.proofs.Edited.{applied, quiet}
 use Rattle.one_mesh.proofs.edits.take.Goals as goal
 
 pub take_there-requires-clause-there : goal.take_there-requires-clause-there

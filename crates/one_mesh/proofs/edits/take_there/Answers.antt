@@ -1,9 +1,10 @@
 use Rattle.std.proofs.Common.{sym, refl}
+use Rattle.list_laws.proofs.Cited.{among_true}
 use Rattle.edit_history.specs.declared.history.Edit.TheVariants.{Take}
 use Rattle.edit_history.specs.declared.history.Reply.TheVariants.{Removed, Flat}
 use Rattle.edit_history.specs.Histories.{replay}
-use Rattle.del_laws.proofs.Tests.{among_true}
-use Rattle.one_mesh.proofs.Edited.{applied, flat, removed, quiet, removal, some_refilled, none_refilled}
+use Rattle.edit_history.proofs.Cited.{flat, reply_there}
+use Rattle.one_mesh.proofs.Edited.{applied, quiet, removal, some_refilled, none_refilled}
 use Rattle.one_mesh.proofs.edits.take_there.Goals as goal
 
 pub change-requires : goal.change-requires
@@ -22,14 +23,14 @@ pub returns-in_ok-change-in-Some-clause-applied : goal.returns-in_ok-change-in-S
 returns-in_ok-change-in-Some-clause-applied c =
     let h = c.args.mesh.now.history in
     let f = some_refilled (replay h) c.args.v c.in_ok-f.field-0 c.in-Some.f c.in-Some.is c.in_ok-f.ensures in
-    let r = removed (replay h) c.args.v (among_true c.args.v (replay h) c.requires.there) f.solid in
+    let r = reply_there (replay h) c.args.v (among_true c.args.v (replay h) c.requires.there) f.solid in
     applied c.args.mesh.now c.change.new.self c.args.tag (Take c.args.v) c.args.number Removed c.entry_of-entry.result c.requires.number (sym r) c.entry_of-entry.ensures c.in_ok-change-in-Some.ensures.changed
 
 pub returns-in_ok-change-in-Some-clause-reply : goal.returns-in_ok-change-in-Some-clause-reply
 returns-in_ok-change-in-Some-clause-reply c =
     let h = c.args.mesh.now.history in
     let f = some_refilled (replay h) c.args.v c.in_ok-f.field-0 c.in-Some.f c.in-Some.is c.in_ok-f.ensures in
-    sym (removed (replay h) c.args.v (among_true c.args.v (replay h) c.requires.there) f.solid)
+    sym (reply_there (replay h) c.args.v (among_true c.args.v (replay h) c.requires.there) f.solid)
 
 pub returns-in_ok-note-in-None-clause-applied : goal.returns-in_ok-note-in-None-clause-applied
 returns-in_ok-note-in-None-clause-applied c =

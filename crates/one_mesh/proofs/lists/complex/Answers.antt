@@ -1,6 +1,6 @@
-use Rattle.edit_history.proofs.Lines.{ok-then}
+use Rattle.edit_history.proofs.Cited.{ok-then}
 use Rattle.edit_history.specs.Histories.{replay}
-use Rattle.cell_store.proofs.MeshLaws.{shows_of}
+use Rattle.cell_store.proofs.Cited.{shows_of}
 use Rattle.one_mesh.proofs.lists.complex.Goals as goal
 
 pub returns : goal.returns

@@ -1,4 +1,4 @@
-use Rattle.edit_history.proofs.Lines.{ok-then}
+use Rattle.edit_history.proofs.Cited.{ok-then}
 use Rattle.one_mesh.proofs.lists.history.Goals as goal
 
 pub history-requires-clause-stands : goal.history-requires-clause-stands

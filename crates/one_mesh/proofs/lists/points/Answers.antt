@@ -1,7 +1,6 @@
 use Rattle.std.proofs.Common.{subst, List, ℕ}
 use Rattle.edit_history.specs.Histories.{replay}
-use Rattle.cell_store.proofs.MeshLaws.{shows_of}
-use Rattle.cell_store.proofs.ShareLaws.{ascending_replay}
+use Rattle.cell_store.proofs.Cited.{ascending_replay, shows_of}
 use Rattle.one_mesh.proofs.Gathering.{points_in}
 use Rattle.vertex_removal.specs.Near.{AreSamePoints}
 use Rattle.one_mesh.proofs.lists.points.Goals as goal

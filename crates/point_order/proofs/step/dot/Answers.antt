@@ -2,7 +2,7 @@ use Rattle.std.proofs.Common.{ℤ, ◌*ℤ◌, ◌+ℤ◌, subst, sym, lit<, w64
 use Rattle.std.proofs.lemmas.Int.{to_z-of_z}
 use Rattle.std.specs.Int.RustNames.{FitsSigned}
 use Rattle.whole_ring.specs.Bounds.{IsWithin}
-use Rattle.whole_ring.proofs.Bounds.{within-mul, within-add, within-fits}
+use Rattle.whole_ring.proofs.Cited.{within-add, within-fits, within-mul}
 use Rattle.point_order.proofs.step.dot.Goals as goal
 
 small : {x : ℤ} → IsWithin 536805378 x → FitsSigned w64 x

@@ -2,7 +2,7 @@ use Rattle.std.proofs.Common.{◌*ℤ◌, ◌-ℤ◌, lit<, w64}
 use Rattle.std.proofs.lemmas.Int.{to_z-of_z}
 use Rattle.std.specs.Int.RustNames.{FitsSigned}
 use Rattle.point_order.specs.Orientation.{minor}
-use Rattle.whole_ring.proofs.Bounds.{within-mul, within-sub, within-fits}
+use Rattle.whole_ring.proofs.Cited.{within-fits, within-mul, within-sub}
 use Rattle.point_order.proofs.step.minor_of.Goals as goal
 
 pub overflow_sub-result : goal.overflow_sub-result

@@ -3,7 +3,7 @@ use Rattle.std.proofs.lemmas.Int.{to_z-of_z}
 use Rattle.std.specs.Int.RustNames.{FitsSigned}
 use Rattle.whole_ring.specs.Bounds.{IsWithin}
 use Rattle.point_order.specs.Orientation.{square_of_step}
-use Rattle.whole_ring.proofs.Bounds.{within-add, within-mul, within-fits}
+use Rattle.whole_ring.proofs.Cited.{within-add, within-fits, within-mul}
 use Rattle.point_order.proofs.step.norm.Goals as goal
 
 pub overflow_add-result : goal.overflow_add-result

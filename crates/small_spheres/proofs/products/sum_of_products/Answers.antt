@@ -3,7 +3,7 @@ use Rattle.std.proofs.lemmas.Int.{to_z-of_z}
 use Rattle.std.specs.Int.RustNames.{FitsSigned}
 use Rattle.small_spheres.specs.Inside.{dot}
 use Rattle.whole_ring.specs.Bounds.{IsWithin}
-use Rattle.whole_ring.proofs.Bounds.{within-mul, within-add, within-fits}
+use Rattle.whole_ring.proofs.Cited.{within-add, within-fits, within-mul}
 use Rattle.small_spheres.proofs.products.sum_of_products.Goals as goal
 
 small : {x : ℤ} → IsWithin 536805378 x → FitsSigned w64 x

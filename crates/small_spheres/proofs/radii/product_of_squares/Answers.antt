@@ -1,7 +1,7 @@
 use Rattle.std.proofs.Common.{◌*ℤ◌, lit<, w64}
 use Rattle.std.proofs.lemmas.Int.{to_z-of_z}
 use Rattle.std.specs.Int.RustNames.{FitsSigned}
-use Rattle.whole_ring.proofs.Bounds.{within-mul, within-fits}
+use Rattle.whole_ring.proofs.Cited.{within-fits, within-mul}
 use Rattle.small_spheres.proofs.radii.product_of_squares.Goals as goal
 
 pub returns : goal.returns

@@ -1,4 +1,4 @@
-use Rattle.insertion.proofs.MeshGrowth.{four_found}
+use Rattle.insertion.proofs.Cited.{four_found}
 use Rattle.table_scenes.proofs.meshes.mesh_of_four.Goals as goal
 
 pub line_at-b-requires : goal.line_at-b-requires

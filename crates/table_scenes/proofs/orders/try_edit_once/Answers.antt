@@ -1,4 +1,4 @@
-use Rattle.grid_claims.proofs.Trying.{still}
+use Rattle.grid_claims.proofs.Cited.{still}
 use Rattle.table_scenes.proofs.orders.try_edit_once.Goals as goal
 
 pub returns : goal.returns

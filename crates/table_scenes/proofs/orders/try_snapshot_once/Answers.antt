@@ -1,4 +1,4 @@
-use Rattle.grid_claims.proofs.Snapped.{still_snapped}
+use Rattle.grid_claims.proofs.Cited.{still_snapped}
 use Rattle.table_scenes.proofs.orders.try_snapshot_once.Goals as goal
 
 pub returns : goal.returns

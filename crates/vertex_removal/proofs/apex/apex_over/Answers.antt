@@ -1,7 +1,5 @@
 use Rattle.std.proofs.Common.{sym, subst, ap, ◌∙◌, List, ℕ, Some, take, ◌++◌, ◌∷◌, []}
-use Rattle.del_laws.proofs.Tests.{not_both}
-use Rattle.cell_conflict.proofs.Counting.{distinct_ascending}
-use Rattle.cavity.proofs.Lists.{apart_place, at_place, in_take, take_next}
+use Rattle.list_laws.proofs.Cited.{apart_place, at_place, distinct_ascending, in_take, not_both, take_next}
 use Rattle.vertex_removal.specs.Wraps.{Leads}
 use Rattle.vertex_removal.proofs.Apexes.{lead_apart, next_below, next_above}
 use Rattle.vertex_removal.proofs.apex.apex_over.Goals.{then-is_over, else-is_over}
@@ -18,7 +16,7 @@ loop-p-preserved c =
     let n = c.loop-p.p-index in
     let e = c.p-item.result in
     let within = λ (x : ℕ). in_take n t x in
-    let here = at_place t n e c.loop-p-test.true c.p-item.is in
+    let here = at_place t n e e c.loop-p-test.true c.p-item.is in
     let apart = lead_apart t (take n t) c.args.a c.args.b c.args.c c.loop-p.best e c.loop-p.invariant (apart_place t n e (distinct_ascending t c.requires) c.loop-p-test.true c.p-item.is) in
     elim c.if-is_over.branch [
       | then-is_over w ↦ subst (λ (m : List ℕ). Leads t m c.args.a c.args.b c.args.c c.if-is_over.best) (sym (take_next t n e c.loop-p-test.true c.p-item.is))

@@ -1,14 +1,13 @@
 use Rattle.std.proofs.Common.{sym, ◌∙◌, subst, List, arith}
+use Rattle.list_laws.proofs.Cited.{among_from, at_place}
 use Rattle.point_order.specs.declared.cell.Facet.{Facet}
 use Rattle.point_order.specs.Complex.{complex}
 use Rattle.point_order.specs.Facets.{points_of}
 use Rattle.point_order.specs.Sets.{IsIn}
-use Rattle.del_laws.proofs.Tests.{among_from}
 use Rattle.cell_store.specs.Others.{IsOtherOf}
 use Rattle.cell_store.specs.Shares.{NoneInHand, points_on}
-use Rattle.cavity.proofs.Exploration.{facet_held}
-use Rattle.cavity.proofs.Lists.{at_place}
-use Rattle.cell_store.proofs.ShareLaws.{solid_set}
+use Rattle.cavity.proofs.Cited.{facet_held}
+use Rattle.cell_store.proofs.Cited.{solid_set}
 use Rattle.vertex_removal.proofs.Around.{one_added, one_passed}
 use Rattle.vertex_removal.proofs.near.add_across.Goals.{then-not-has+in_ok-push, else-not-has}
 use Rattle.vertex_removal.proofs.near.add_across.Goals as goal
@@ -16,7 +15,7 @@ use Rattle.vertex_removal.proofs.near.add_across.Goals as goal
 pub cell_across-other-requires-clause-held : goal.cell_across-other-requires-clause-held
 cell_across-other-requires-clause-held c =
     let r = c.requires.shown in
-    let m = subst (λ (l : List Facet). IsIn c.facet-item.result l) c.facets-facets.ensures (at_place c.facets-facets.result c.loop-facet.facet-index c.facet-item.result (omega (arith, c.type_inv.facet-items)) c.facet-item.is) in
+    let m = subst (λ (l : List Facet). IsIn c.facet-item.result l) c.facets-facets.ensures (at_place c.facets-facets.result c.loop-facet.facet-index c.facet-item.result c.facet-item.result (omega (arith, c.type_inv.facet-items)) c.facet-item.is) in
     subst (λ (f : Facet). ¬ (NoneInHand c.args.hold.now (points_on f))) c.facet-item.is
     (facet_held c.args.hold.now r.0 (solid_set c.args.hold.now r.0 r.1).set c.args.cell.now r.2 c.requires.held c.facet-item.result m)
 

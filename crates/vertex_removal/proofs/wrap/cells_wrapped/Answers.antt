@@ -1,9 +1,7 @@
 use Rattle.std.proofs.Common.{sym, subst, List, ◌≡◌, ◌==◌, ◌-◌, length, vec_len, arith}
-use Rattle.del_laws.proofs.PointSets.{same_from, same_true}
+use Rattle.list_laws.proofs.Cited.{at_place, not_both, same_from, same_true}
 use Rattle.point_order.specs.declared.cell.Cell.{Cell}
 use Rattle.point_order.specs.Sets.{IsIn}
-use Rattle.del_laws.proofs.Tests.{not_both}
-use Rattle.cavity.proofs.Lists.{at_place}
 use Rattle.vertex_removal.specs.declared.wrap.Side.{Side}
 use Rattle.vertex_removal.proofs.Wrapping.{IsWrapped, hole_wraps, wrap_begun, open_facet, wrap_more, wrap_done}
 use Rattle.vertex_removal.proofs.wrap.cells_wrapped.Goals as goal
@@ -21,7 +19,7 @@ cell_on_side-requires-clause-facet c =
     let k = hole_wraps c.args.points.now c.args.v c.args.star.now c.requires in
     let sides = c.deref.result.now in
     let item = c.in-Some-last.ensures.item in
-    let m : IsIn c.in-Some-last.side.now sides = at_place sides (length sides - 1) c.in-Some-last.side.now (omega (arith, item.3.0)) (item.3.1 c.in-Some-last.side.now) in
+    let m : IsIn c.in-Some-last.side.now sides = at_place sides (length sides - 1) c.in-Some-last.side.now c.in-Some-last.side.now (omega (arith, item.3.0)) (item.3.1 c.in-Some-last.side.now) in
     open_facet c.args.points.now c.args.v k c.wrap.cells.items c.wrap.sides.items c.wrap.invariant c.in-Some-last.side.now (subst (λ (l : List Side). IsIn c.in-Some-last.side.now l) c.deref.ensures.value m)
 
 pub wrap-preserved : goal.wrap-preserved

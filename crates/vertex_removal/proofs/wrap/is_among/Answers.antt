@@ -1,9 +1,8 @@
 use Rattle.std.proofs.Common.{refl, sym, subst, inl, inr, false, List, arith}
 use Rattle.std.proofs.lemmas.List.{take_all}
+use Rattle.list_laws.proofs.Cited.{at_place, in_take_more, not_both}
 use Rattle.point_order.specs.declared.cell.Cell.{Cell}
 use Rattle.point_order.specs.Sets.{IsIn}
-use Rattle.del_laws.proofs.Tests.{not_both}
-use Rattle.cavity.proofs.Lists.{at_place, in_take_more}
 use Rattle.vertex_removal.proofs.wrap.is_among.Goals as goal
 
 pub loop-other-preserved : goal.loop-other-preserved
@@ -14,7 +13,7 @@ loop-other-preserved c = λ m. elim (in_take_more c.args.cells.now c.loop-other.
 
 pub returns-then-are_same : goal.returns-then-are_same
 returns-then-are_same c = (
-  λ h. subst (λ (x : Cell). IsIn x c.args.cells.now) (c.are_same.ensures.0 c.if-are_same.true) (at_place c.args.cells.now c.loop-other.other-index c.other-item.result c.loop-other-test.true c.other-item.is),
+  λ h. subst (λ (x : Cell). IsIn x c.args.cells.now) (c.are_same.ensures.0 c.if-are_same.true) (at_place c.args.cells.now c.loop-other.other-index c.other-item.result c.other-item.result c.loop-other-test.true c.other-item.is),
   λ m. refl,
 )
 

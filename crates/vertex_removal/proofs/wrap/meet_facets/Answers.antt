@@ -1,7 +1,7 @@
 use Rattle.std.proofs.Common.{sym, subst, List, ◌∷◌, [], take, arith}
-use Rattle.conv_laws.specs.Lists.{AreDistinct}
+use Rattle.list_laws.specs.Lists.{AreDistinct}
+use Rattle.list_laws.proofs.Cited.{apart_place, take_next}
 use Rattle.point_order.specs.declared.cell.Facet.{Facet}
-use Rattle.cavity.proofs.Lists.{apart_place, take_next}
 use Rattle.vertex_removal.specs.Wraps.{AreMet}
 use Rattle.vertex_removal.proofs.Wrapping.{one_met}
 use Rattle.vertex_removal.proofs.wrap.meet_facets.Goals as goal

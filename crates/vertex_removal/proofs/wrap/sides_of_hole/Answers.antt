@@ -1,7 +1,6 @@
 use Rattle.std.proofs.Common.{subst, List, ◌∷◌, [], inl, inr}
+use Rattle.list_laws.proofs.Cited.{at_place, from_append}
 use Rattle.point_order.specs.Sets.{IsIn}
-use Rattle.del_laws.proofs.Listed.{from_append}
-use Rattle.cavity.proofs.Lists.{at_place}
 use Rattle.vertex_removal.specs.Wraps.{IsOuter}
 use Rattle.vertex_removal.specs.declared.wrap.Side.{Side}
 use Rattle.vertex_removal.proofs.wrap.sides_of_hole.Goals as goal
@@ -11,7 +10,7 @@ loop-cell-preserved c = λ s m.
     elim (from_append s c.loop-cell.sides.items (record { facet = c.in-Some.facet; up = c.is_above-up.result } ∷ []) (subst (λ (l : List Side). IsIn s l) c.in_ok-push-in-Some.ensures.items m)) [
       | inl n ↦ c.loop-cell.invariant s n
       | inr n ↦ elim n [
-        | inl e ↦ (c.cell-item.result, at_place c.args.star.now c.loop-cell.cell-index c.cell-item.result c.loop-cell-test.true c.cell-item.is, subst (λ (x : Side). IsOuter c.cell-item.result c.args.v x.facet) e c.in-Some.ensures)
+        | inl e ↦ (c.cell-item.result, at_place c.args.star.now c.loop-cell.cell-index c.cell-item.result c.cell-item.result c.loop-cell-test.true c.cell-item.is, subst (λ (x : Side). IsOuter c.cell-item.result c.args.v x.facet) e c.in-Some.ensures)
         | inr none ↦ absurd none
       ]
     ]

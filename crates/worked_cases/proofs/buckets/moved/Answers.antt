@@ -1,11 +1,10 @@
 use Rattle.std.specs.Prelude.{◌≡◌, ◌*◌, ◌<◌, ℕ, length, Some, None}
 use Rattle.std.proofs.Common.{ap, refl, sym, subst, ◌∙◌}
 use Rattle.std.proofs.lemmas.List.{get_or-set_same, length-replicate}
-use Rattle.cell_store.specs.Buckets.{Content, InHand, empty_hold, content_of, at_place, bucket_at}
+use Rattle.cell_store.specs.Buckets.{BucketContent, InHand, empty_hold, content_of, at_place, bucket_at}
 use Rattle.cell_store.specs.Shares.{Stands, IsShare, share_at}
 use Rattle.cell_store.specs.Meshes.{with_bucket}
-use Rattle.cell_store.proofs.HandLaws.{empty_stands, put_stands}
-use Rattle.cell_store.proofs.ShareLaws.{share_is_one, sound_of}
+use Rattle.cell_store.proofs.Cited.{empty_stands, put_stands, share_is_one, sound_of}
 use Rattle.worked_cases.proofs.buckets.moved.Goals as goal
 
 pub returns-clause-stands : goal.returns-clause-stands
@@ -32,5 +31,5 @@ returns-clause-bucket c =
     let below : b < length (empty_hold g).places = subst (λ (n : ℕ). b < n) (ap (λ (n : ℕ). n * n * n) (sym size) ∙ sym (length-replicate (g * g * g) None)) c.requires in
     ap (λ (x : InHand). bucket_at x.places b) (c.put.ensures ∙ ap (with_bucket b content) c.in_ok-pass.ensures)
     ∙ get_or-set_same (empty_hold g).places b (Some (at_place g b content)) None below
-    ∙ ap (λ (x : Content). Some x) one
+    ∙ ap (λ (x : BucketContent). Some x) one
     ∙ ap (λ (n : ℕ). Some (share_at n b h)) size

@@ -1,11 +1,11 @@
 use Rattle.std.proofs.Common.{subst, sym, ◌∙◌, inl, refl, List}
+use Rattle.list_laws.proofs.Cited.{filtered_from}
 use Rattle.point_order.specs.declared.cell.Cell.{Cell}
 use Rattle.point_order.specs.Complex.{complex}
 use Rattle.point_order.specs.Facets.{points_of}
 use Rattle.point_order.specs.Sets.{IsIn, is_among}
 use Rattle.edit_history.specs.Histories.{replay}
-use Rattle.del_laws.proofs.Tests.{filtered_from}
-use Rattle.cell_store.proofs.ShareLaws.{stands_shows}
+use Rattle.cell_store.proofs.Cited.{stands_shows}
 use Rattle.worked_cases.proofs.buckets.put_first.Goals as goal
 
 pub put_beyond-requires : goal.put_beyond-requires

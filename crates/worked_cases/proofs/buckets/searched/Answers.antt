@@ -3,7 +3,7 @@ use Rattle.std.proofs.Common.{arith, inl, inr}
 use Rattle.std.proofs.Math.Nat.{pow-le-pow_right}
 use Rattle.std.proofs.lemmas.Bool.Decides.{leb_tells}
 use Rattle.edit_history.specs.Histories.{replay}
-use Rattle.cell_store.proofs.ShareLaws.{stands_shows}
+use Rattle.cell_store.proofs.Cited.{stands_shows}
 use Rattle.worked_cases.proofs.buckets.searched.Goals as goal
 
 pub star_counted-requires-clause-shown : goal.star_counted-requires-clause-shown

@@ -1,5 +1,5 @@
 use Rattle.edit_history.specs.Histories.{replay}
-use Rattle.cell_store.proofs.ShareLaws.{stands_shows}
+use Rattle.cell_store.proofs.Cited.{stands_shows}
 use Rattle.worked_cases.proofs.refills.answer.Goals as goal
 
 pub put_turn-requires : goal.put_turn-requires

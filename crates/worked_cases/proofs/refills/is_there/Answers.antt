@@ -1,5 +1,5 @@
 use Rattle.std.proofs.Common.{sym, ◌∙◌}
-use Rattle.del_laws.proofs.Tests.{among_from}
+use Rattle.list_laws.proofs.Cited.{among_from}
 use Rattle.worked_cases.proofs.refills.is_there.Goals as goal
 
 pub returns-then-has-clause-there : goal.returns-then-has-clause-there

@@ -1,6 +1,6 @@
 use Rattle.std.specs.Prelude.{◌≡◌, Bool, true, false, not}
 use Rattle.std.proofs.Common.{refl, sym, ◌∙◌, arith}
-use Rattle.del_laws.proofs.Tests.{among_true}
+use Rattle.list_laws.proofs.Cited.{among_true}
 use Rattle.worked_cases.proofs.walks.is_new.Goals as goal
 
 -- what is not there

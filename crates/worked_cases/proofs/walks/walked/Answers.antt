@@ -1,4 +1,4 @@
-use Rattle.cell_walk.proofs.Trails.{start_is_walk}
+use Rattle.cell_walk.proofs.Cited.{start_is_walk}
 use Rattle.worked_cases.proofs.walks.walked.Goals as goal
 
 pub put_steps-requires : goal.put_steps-requires

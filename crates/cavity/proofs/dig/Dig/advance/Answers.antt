@@ -1,11 +1,12 @@
 use Rattle.std.proofs.Common.{refl, sym, ◌∙◌, ap, subst, ◌<◌, ◌≤◌, length, arith}
+use Rattle.list_laws.proofs.Cited.{at_none}
 use Rattle.point_order.specs.Facets.{points_of}
 use Rattle.cavity.specs.Digs.{Digging, IsDoneIn, facets_of_first}
 use Rattle.cavity.specs.Exploring.{ArePointsHeld, IsBucketMissing, IsCellMissing}
 use Rattle.cavity.specs.Lists.{IsPast, IsAtPlace}
 use Rattle.cell_store.specs.Ready.{AreHeld}
-use Rattle.cavity.proofs.Held.{at_none, cell_missing, cells_all}
-use Rattle.cell_store.proofs.ShareLaws.{solid_set}
+use Rattle.cavity.proofs.Held.{cell_missing, cells_all}
+use Rattle.cell_store.proofs.Cited.{solid_set}
 use Rattle.cavity.proofs.Advancing.{GoesOn, goes_on_first, cell_needed, none_needed, next_at, next_new, goes_further, goes_below, cells_in_hand}
 use Rattle.cavity.proofs.dig.Dig.advance.Goals as goal
 

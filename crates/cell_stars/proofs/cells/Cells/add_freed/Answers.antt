@@ -1,6 +1,7 @@
 use Rattle.std.proofs.Common.{refl, ap, ◌∙◌, get_or}
+use Rattle.list_laws.proofs.Cited.{gather_none}
 use Rattle.cell_stars.specs.Gathering.{FromPlace}
-use Rattle.cell_stars.proofs.Gathering.{gather_none, gathers}
+use Rattle.cell_stars.proofs.Gathering.{gathers}
 use Rattle.cell_stars.proofs.WriteLaws.{freed_step, freed_skip}
 use Rattle.cell_stars.proofs.cells.Cells.add_freed.Goals as goal
 use Rattle.cell_stars.proofs.cells.Cells.add_freed.Goals.{in-Some+in_ok-add_points, in_default}

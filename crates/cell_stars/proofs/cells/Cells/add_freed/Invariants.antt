@@ -1,4 +1,4 @@
-use Rattle.cell_stars.proofs.Gathering.{Gathered}
+use Rattle.list_laws.proofs.Cited.{Gathered}
 use Rattle.cell_stars.specs.Gathering.{FromPlace}
 use Rattle.cell_stars.proofs.cells.Cells.add_freed.Given as goal
 

@@ -1,6 +1,6 @@
 use Rattle.std.proofs.Common.{subst, List, ℕ}
+use Rattle.list_laws.proofs.Cited.{at_place}
 use Rattle.point_order.specs.Sets.{IsIn}
-use Rattle.cell_stars.proofs.Members.{at_place}
 use Rattle.cell_stars.proofs.cells.Cells.clear_vertex.Goals as goal
 
 pub returns-then-is_clear-clause-vertex : goal.returns-then-is_clear-clause-vertex

@@ -1,7 +1,7 @@
 use Rattle.std.proofs.Common.{subst, sym, ◌∙◌, List, ℕ}
+use Rattle.list_laws.proofs.Cited.{among_true}
 use Rattle.point_order.specs.Sets.{IsIn}
 use Rattle.point_order.specs.Facets.{points_of}
-use Rattle.del_laws.proofs.Tests.{among_true}
 use Rattle.cell_stars.specs.Places.{AreStars}
 use Rattle.cell_stars.proofs.MoveLaws.{clear_nowhere, clear_pushed}
 use Rattle.cell_stars.proofs.cells.Cells.is_new.Goals as goal

@@ -1,9 +1,9 @@
 use Rattle.std.proofs.Common.{subst, List, ℕ}
+use Rattle.list_laws.proofs.Cited.{gather_none}
 use Rattle.point_order.specs.declared.cell.Cell.{Cell}
 use Rattle.point_order.specs.Sets.{IsIn}
 use Rattle.cell_stars.specs.Places.{IsStarred}
 use Rattle.cell_stars.specs.Plans.{StarsAfter}
-use Rattle.cell_stars.proofs.Gathering.{gather_none}
 use Rattle.cell_stars.proofs.WriteLaws.{PutWith, put_step, put_skip, places_are}
 use Rattle.cell_stars.proofs.cells.Cells.places_after.Goals as goal
 use Rattle.cell_stars.proofs.cells.Cells.places_after.Goals.{then-has_vertex+in_ok-push, else-has_vertex}

@@ -1,4 +1,4 @@
-use Rattle.cell_stars.proofs.Gathering.{Gathered}
+use Rattle.list_laws.proofs.Cited.{Gathered}
 use Rattle.cell_stars.proofs.WriteLaws.{PutWith}
 use Rattle.cell_stars.proofs.cells.Cells.places_after.Given as goal
 

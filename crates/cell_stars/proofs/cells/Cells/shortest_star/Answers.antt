@@ -1,7 +1,7 @@
 use Rattle.std.proofs.Common.{subst}
 use Rattle.std.specs.Prelude.{ℕ, List}
+use Rattle.list_laws.proofs.Cited.{at_place}
 use Rattle.point_order.specs.Sets.{IsIn}
-use Rattle.cell_stars.proofs.Members.{at_place}
 use Rattle.cell_stars.proofs.MoveLaws.{shorter_is, star_for, vertex_passed}
 use Rattle.cell_stars.proofs.cells.Cells.shortest_star.Goals as goal
 use Rattle.cell_stars.proofs.cells.Cells.shortest_star.Goals.{then-has_here+else-star-le-FEW, else-has_here}

@@ -1,5 +1,4 @@
-use Rattle.cell_stars.proofs.Members.{at_place}
-use Rattle.cell_stars.proofs.Gathering.{made_none, made_more}
+use Rattle.list_laws.proofs.Cited.{at_place, made_more, made_none}
 use Rattle.cell_stars.proofs.WriteLaws.{HasStar, has_star, are_after}
 use Rattle.cell_stars.proofs.cells.Cells.stars_after.Goals as goal
 

@@ -1,5 +1,5 @@
 use Rattle.std.proofs.Common.{refl, get_or}
-use Rattle.cell_stars.proofs.Gathering.{gather_none}
+use Rattle.list_laws.proofs.Cited.{gather_none}
 use Rattle.cell_stars.proofs.WriteLaws.{NotFreed, stay_step, stay_skip, stayed}
 use Rattle.cell_stars.proofs.cells.Cells.staying.Goals as goal
 use Rattle.cell_stars.proofs.cells.Cells.staying.Goals.{then-not-has_marked+in_ok-push, else-not-has_marked}

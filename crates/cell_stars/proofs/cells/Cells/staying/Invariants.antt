@@ -1,4 +1,4 @@
-use Rattle.cell_stars.proofs.Gathering.{Gathered}
+use Rattle.list_laws.proofs.Cited.{Gathered}
 use Rattle.cell_stars.proofs.WriteLaws.{NotFreed}
 use Rattle.cell_stars.proofs.cells.Cells.staying.Given as goal
 

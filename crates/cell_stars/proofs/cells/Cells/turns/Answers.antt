@@ -1,6 +1,6 @@
 use Rattle.std.proofs.Common.{refl, ap, ◌∙◌, List, ℕ, subst}
 use Rattle.std.specs.List.{zip}
-use Rattle.cell_stars.proofs.Gathering.{made_none, made_more}
+use Rattle.list_laws.proofs.Cited.{made_more, made_none}
 use Rattle.cell_stars.proofs.KeyLaws.{vertices}
 use Rattle.point_order.specs.Sets.{IsAscending}
 use Rattle.cell_stars.proofs.WriteLaws.{HasNumber, are_numbered}

@@ -1,4 +1,4 @@
-use Rattle.cell_stars.proofs.Gathering.{Made}
+use Rattle.list_laws.proofs.Cited.{Made}
 use Rattle.cell_stars.proofs.WriteLaws.{HasNumber}
 use Rattle.cell_stars.proofs.cells.Cells.turns.Given as goal
 

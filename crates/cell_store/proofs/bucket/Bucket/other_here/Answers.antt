@@ -1,7 +1,7 @@
 use Rattle.std.proofs.Common.{ap, subst}
+use Rattle.list_laws.proofs.Cited.{not_both}
 use Rattle.point_order.specs.Sets.{IsIn}
 use Rattle.cell_stars.specs.Places.{Placed, cells_of}
-use Rattle.cell_store.proofs.Members.{not_true}
 use Rattle.cell_store.proofs.bucket.Bucket.other_here.Goals as goal
 
 pub returns-then-not-are_same : goal.returns-then-not-are_same
@@ -9,5 +9,5 @@ returns-then-not-are_same c =
     record {
       listed = subst (λ (b : Placed). IsIn c.in-Some.other.now (cells_of b.slots)) (ap (λ v. v.cells) c.self.view_is) c.in-Some.ensures;
       has = c.is_on.ensures.0 c.if-is_on.true;
-      differs = λ e. not_true c.are_same.result c.if-not-are_same.true (c.are_same.ensures.1 e);
+      differs = λ e. not_both c.are_same.result (c.are_same.ensures.1 e) c.if-not-are_same.true;
     }

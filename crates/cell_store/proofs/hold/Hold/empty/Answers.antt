@@ -1,5 +1,5 @@
 use Rattle.std.proofs.Common.{◌*◌, ◌∙◌, ap, sym, subst, length, List, Option}
-use Rattle.cell_store.specs.Buckets.{StandAtPlaces, shown, no_room, Content}
+use Rattle.cell_store.specs.Buckets.{StandAtPlaces, shown, no_room, BucketContent}
 use Rattle.cell_store.proofs.Layouts.{shown_none, empty_places, len_none, stand_nowhere}
 use Rattle.cell_store.proofs.hold.Hold.empty.Goals as goal
 
@@ -11,4 +11,4 @@ invariant_of-result c =
 pub returns : goal.returns
 returns c =
     let e = empty_places c.loop.places.items c.loop.counter c.count-count.result (c.args.grid * c.args.grid * c.args.grid) c.loop.invariant c.loop-test.false c.loop.auto.counter-end c.count-count.ensures.value in
-    ap (λ (l : List (Option Content)). record { grid = c.args.grid; places = l; room = no_room }) (ap shown e ∙ shown_none (c.args.grid * c.args.grid * c.args.grid))
+    ap (λ (l : List (Option BucketContent)). record { grid = c.args.grid; places = l; room = no_room }) (ap shown e ∙ shown_none (c.args.grid * c.args.grid * c.args.grid))

@@ -1,10 +1,10 @@
 use Rattle.std.proofs.Common.{ℕ, ◌≡◌, ◌*◌, refl, sym, ◌∙◌, ap, subst, length, drop, IfSome}
 use Rattle.std.specs.Option.{option_map}
+use Rattle.list_laws.proofs.Cited.{front_is, if_none, if_some, same_pair, some_holds}
 use Rattle.cell_store.specs.Buckets.{StandAtPlaces, layout_at, shown}
 use Rattle.cell_store.specs.Ready.{IsAllowed, IsNoteReady, IsReady, given}
 use Rattle.cell_store.proofs.Layouts.{shown_len}
-use Rattle.cell_store.proofs.NoteLaws.{if_some, if_none}
-use Rattle.cell_store.proofs.RoomLaws.{some_holds, same_pair, swap_is, front_is, ready_allowed, note_swapped, stand_swapped, swapped_places}
+use Rattle.cell_store.proofs.RoomLaws.{swap_is, ready_allowed, note_swapped, stand_swapped, swapped_places}
 use Rattle.cell_store.proofs.hold.Hold.swap_cells.Goals as goal
 
 pub carry_all-requires-clause-allowed : goal.carry_all-requires-clause-allowed

@@ -1,10 +1,10 @@
 use Rattle.std.proofs.Common.{sym, ap, subst, ◌<◌, ◌∙◌, List, Option, length, None, Some}
 use Rattle.std.specs.Prelude.{slice_set}
-use Rattle.cell_store.specs.Buckets.{Content, StandAtPlaces, content_of, shown}
+use Rattle.list_laws.proofs.Cited.{len_set, within_list}
+use Rattle.cell_store.specs.Buckets.{BucketContent, StandAtPlaces, content_of, shown}
 use Rattle.cell_store.proofs.Layouts.{shown_is, shown_len, shown_set}
-use Rattle.cell_store.proofs.Members.{within}
 use Rattle.cell_store.proofs.RoomLaws.{in_hand_below}
-use Rattle.cell_store.proofs.NoteLaws.{hold_with, len_set, stand_take}
+use Rattle.cell_store.proofs.NoteLaws.{hold_with, stand_take}
 use Rattle.cell_store.proofs.hold.Hold.take.Goals as goal
 
 pub invariant_of-self : goal.invariant_of-self
@@ -12,7 +12,7 @@ invariant_of-self c =
     let i = c.self.inside in
     let b = c.args.b in
     let places = i.places.items in
-    let h : b < length (shown places) = subst (λ (l : List (Option Content)). b < length l) (sym (ap (λ h. h.places) c.self.view_is)) (in_hand_below c.args.self.now.places b c.requires) in (
+    let h : b < length (shown places) = subst (λ (l : List (Option BucketContent)). b < length l) (sym (ap (λ h. h.places) c.self.view_is)) (in_hand_below c.args.self.now.places b c.requires) in (
       len_set places b _ ∙ c.self.invariant.0,
       tt,
       tt,
@@ -23,9 +23,9 @@ pub returns-clause-place : goal.returns-clause-place
 returns-clause-place c =
     let i = c.self.inside in
     let b = c.args.b in
-    let n : b < length (shown i.places.items) = subst (λ (l : List (Option Content)). b < length l) (sym (ap (λ h. h.places) c.self.view_is)) (in_hand_below c.args.self.now.places b c.requires) in
+    let n : b < length (shown i.places.items) = subst (λ (l : List (Option BucketContent)). b < length l) (sym (ap (λ h. h.places) c.self.view_is)) (in_hand_below c.args.self.now.places b c.requires) in
     let h : b < length i.places.items = subst (λ n. b < n) (shown_len i.places.items) n in
-    let e = within i.places.items b c.index_mut.result.now None h c.index_mut.ensures.value ∙ sym c.in-Some.ensures.value in
+    let e = within_list i.places.items b c.index_mut.result.now None h c.index_mut.ensures.value ∙ sym c.in-Some.ensures.value in
     c.self.invariant.3 b (content_of c.in-Some.bucket) (shown_is i.places.items b c.in-Some.bucket e) ∙ ap (λ g. Some (g, b)) (ap (λ h. h.grid) c.self.view_is)
 
 pub returns-clause-after : goal.returns-clause-after
@@ -33,4 +33,4 @@ returns-clause-after c =
     let i = c.self.inside in
     let b = c.args.b in
     hold_with c.args.self.now i.grid (shown i.places.items) _ _ _ _ c.self.view_is
-    (ap (λ o. shown (slice_set i.places.items b o)) c.take.ensures.after ∙ shown_set i.places.items b None ∙ ap (λ (l : List (Option Content)). slice_set l b None) (ap (λ h. h.places) c.self.view_is))
+    (ap (λ o. shown (slice_set i.places.items b o)) c.take.ensures.after ∙ shown_set i.places.items b None ∙ ap (λ (l : List (Option BucketContent)). slice_set l b None) (ap (λ h. h.places) c.self.view_is))

@@ -1,11 +1,11 @@
 use Rattle.std.specs.Prelude.{◌≡◌, ℕ, true, Option, Some, None, is_some}
 use Rattle.std.proofs.Common.{refl, inl, ap, sym, subst, ◌∙◌, List}
+use Rattle.list_laws.proofs.Cited.{filtered_from}
 use Rattle.point_order.specs.declared.cell.Cell.{Cell}
 use Rattle.point_order.specs.Complex.{complex}
 use Rattle.point_order.specs.Facets.{points_of}
 use Rattle.point_order.specs.Sets.{IsIn, is_among}
-use Rattle.del_laws.proofs.Tests.{filtered_from}
-use Rattle.cell_store.specs.Buckets.{Content, InHand, bucket_at, cells_in}
+use Rattle.cell_store.specs.Buckets.{BucketContent, InHand, bucket_at, cells_in}
 use Rattle.cell_store.specs.Grids.{bucket_of}
 use Rattle.cell_store.specs.Meshes.{all_cells}
 use Rattle.cell_walk.proofs.Counting.{in_all}
@@ -13,13 +13,13 @@ use Rattle.cell_walk.specs.Paths.{IsWalkIn}
 use Rattle.cell_walk.proofs.walk.Walk.near.Goals as goal
 
 -- a cell of a bucket in hand is one of all cells in hand
-among_all : (hold : InHand) (b : ℕ) (x : Content) (c : Cell) → bucket_at hold.places b ≡ Some x → IsIn c (cells_in hold.places b) → IsIn c (all_cells hold.places)
+among_all : (hold : InHand) (b : ℕ) (x : BucketContent) (c : Cell) → bucket_at hold.places b ≡ Some x → IsIn c (cells_in hold.places b) → IsIn c (all_cells hold.places)
 among_all hold b x c e i = in_all hold.places b x c e (subst (λ (l : List Cell). IsIn c l) are i)
   where
     are : cells_in hold.places b ≡ x.cells
     are = rw e refl
 
-known : (o : Option Content) → is_some o ≡ true → (x : Content) × (o ≡ Some x)
+known : (o : Option BucketContent) → is_some o ≡ true → (x : BucketContent) × (o ≡ Some x)
 known (Some x) e = (x, refl)
 known None e = absurd (cc e)
 

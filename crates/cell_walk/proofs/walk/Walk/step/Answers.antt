@@ -6,7 +6,7 @@ use Rattle.hole_laws.specs.Edits.{StaysFrom}
 use Rattle.cell_store.specs.Meshes.{all_cells}
 use Rattle.cell_walk.specs.Paths.{Walking, IsWalkIn, facet_towards}
 use Rattle.cell_walk.specs.Turns.{HasMoved, IsStopped}
-use Rattle.cell_store.proofs.ShareLaws.{solid_set}
+use Rattle.cell_store.proofs.Cited.{solid_set}
 use Rattle.cell_walk.proofs.Counting.{not_without}
 use Rattle.cell_walk.proofs.Stepping.{some_towards, onward, moved}
 use Rattle.cell_walk.proofs.walk.Walk.step.Goals as goal

@@ -5,8 +5,8 @@ use Rattle.claim_rule.specs.Boards.{BoardState}
 use Rattle.claim_rule.specs.Good.{IsGood, Good}
 use Rattle.claim_rule.specs.Events.{Next}
 use Rattle.claim_rule.specs.Kept.{kept}
-use Rattle.claim_rule.proofs.Places.{some_of}
 use Rattle.std.proofs.lemmas.List.{get_or_read}
+use Rattle.list_laws.proofs.Cited.{some_of}
 use Rattle.claim_rule.proofs.Moves.{good_by, seen_as, claim_next, claim_taken}
 use Rattle.claim_rule.proofs.board.Board.claim.Goals as goal
 

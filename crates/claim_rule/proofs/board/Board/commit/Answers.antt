@@ -2,8 +2,7 @@ use Rattle.std.proofs.Common.{◌<◌, ℕ, None, slice_index_or, refl, sym, ◌
 use Rattle.point_order.specs.Coordinates.{IsKey}
 use Rattle.edit_history.specs.Histories.{replay}
 use Rattle.cell_store.specs.Grids.{bucket_of}
-use Rattle.cell_store.proofs.ShareLaws.{stands_shows}
-use Rattle.cell_store.proofs.MeshLaws.{all_are_held, point_held}
+use Rattle.cell_store.proofs.Cited.{all_are_held, point_held, stands_shows}
 use Rattle.claim_rule.specs.declared.event.Event.TheVariants.{Commit}
 use Rattle.claim_rule.specs.declared.event.Played.TheVariants.{Done}
 use Rattle.claim_rule.specs.Boards.{BoardState}

@@ -1,11 +1,11 @@
 use Rattle.std.proofs.Common.{◌≡◌, ◌<◌, ◌+◌, None, IsSome, length, slice_index_or, slice_set, refl, sym, subst}
+use Rattle.list_laws.proofs.Cited.{some_of}
 use Rattle.claim_rule.specs.declared.event.Event.TheVariants.{Release}
 use Rattle.claim_rule.specs.declared.event.Played.TheVariants.{Done}
 use Rattle.claim_rule.specs.Boards.{BoardState}
 use Rattle.claim_rule.specs.Good.{IsGood}
 use Rattle.claim_rule.specs.Events.{CanRelease}
 use Rattle.claim_rule.specs.Kept.{kept}
-use Rattle.claim_rule.proofs.Places.{some_of}
 use Rattle.claim_rule.proofs.Moves.{good_by, seen_as, release_next, holds_named, no_release}
 use Rattle.claim_rule.proofs.board.Board.release.Goals as goal
 use Rattle.claim_rule.proofs.board.Board.release.Goals.{then-not-is_live-via-then-not-is_live, then-not-is_live-via-else-not-is_live+then-not-names}

@@ -1,9 +1,9 @@
 use Rattle.std.proofs.Common.{◌≡◌, ◌++◌, ℕ, List, Option, length, sym, ◌∙◌, ap, subst}
 use Rattle.std.specs.Mem.Slots.{slots_items, slots_counts}
 use Rattle.edit_history.specs.declared.history.Entry.{Entry}
-use Rattle.cell_store.specs.Buckets.{Content, InHand}
+use Rattle.cell_store.specs.Buckets.{BucketContent, InHand}
 use Rattle.cell_store.specs.Meshes.{IsWhole}
-use Rattle.cell_store.proofs.MeshLaws.{history_is}
+use Rattle.cell_store.proofs.Cited.{history_is}
 use Rattle.claim_rule.specs.Good.{StartsWith}
 use Rattle.grid_claims.specs.declared.view.View.{View}
 use Rattle.grid_claims.specs.Faces.{buckets_of, opening_of}
@@ -19,7 +19,7 @@ gather-requires-clause-home c =
     let r = c.pass.invariant.0.rest in
     let told = c.close_with-closed.ensures in
     let closed = c.close_with-closed.result in
-    let items : List (Option Content) = slots_items closed.slots in
+    let items : List (Option BucketContent) = slots_items closed.slots in
     let all : v.parts ≡ k.parts = (λ i. (c.pass.view_is i).parts) ∙ c.requires.all ∙ (λ i. (sym c.self.view_is i).parts) in
     let wide : length items ≡ buckets_of k = sym (slots_counts closed.slots).0 ∙ told.counts.1 ∙ c.self.invariant.1 in
     let d = homed k place.id v (slots_items closed.words) items wide (last_of told.values) r.some_part r.no_child all r.nothing in
@@ -34,7 +34,7 @@ into_mesh-requires-clause-all c =
     let r = c.pass.invariant.0.rest in
     let told = c.close_with-closed.ensures in
     let closed = c.close_with-closed.result in
-    let items : List (Option Content) = slots_items closed.slots in
+    let items : List (Option BucketContent) = slots_items closed.slots in
     let all : v.parts ≡ k.parts = (λ i. (c.pass.view_is i).parts) ∙ c.requires.all ∙ (λ i. (sym c.self.view_is i).parts) in
     let wide : length items ≡ buckets_of k = sym (slots_counts closed.slots).0 ∙ told.counts.1 ∙ c.self.invariant.1 in
     let d = homed k place.id v (slots_items closed.words) items wide (last_of told.values) r.some_part r.no_child all r.nothing in
@@ -49,7 +49,7 @@ into_mesh-requires-clause-stands c =
     let r = c.pass.invariant.0.rest in
     let told = c.close_with-closed.ensures in
     let closed = c.close_with-closed.result in
-    let items : List (Option Content) = slots_items closed.slots in
+    let items : List (Option BucketContent) = slots_items closed.slots in
     let all : v.parts ≡ k.parts = (λ i. (c.pass.view_is i).parts) ∙ c.requires.all ∙ (λ i. (sym c.self.view_is i).parts) in
     let wide : length items ≡ buckets_of k = sym (slots_counts closed.slots).0 ∙ told.counts.1 ∙ c.self.invariant.1 in
     let d = homed k place.id v (slots_items closed.words) items wide (last_of told.values) r.some_part r.no_child all r.nothing in
@@ -64,7 +64,7 @@ returns-clause-mesh c =
     let r = c.pass.invariant.0.rest in
     let told = c.close_with-closed.ensures in
     let closed = c.close_with-closed.result in
-    let items : List (Option Content) = slots_items closed.slots in
+    let items : List (Option BucketContent) = slots_items closed.slots in
     let all : v.parts ≡ k.parts = (λ i. (c.pass.view_is i).parts) ∙ c.requires.all ∙ (λ i. (sym c.self.view_is i).parts) in
     let wide : length items ≡ buckets_of k = sym (slots_counts closed.slots).0 ∙ told.counts.1 ∙ c.self.invariant.1 in
     let d = homed k place.id v (slots_items closed.words) items wide (last_of told.values) r.some_part r.no_child all r.nothing in
@@ -84,7 +84,7 @@ returns-clause-known c =
     let r = c.pass.invariant.0.rest in
     let told = c.close_with-closed.ensures in
     let closed = c.close_with-closed.result in
-    let items : List (Option Content) = slots_items closed.slots in
+    let items : List (Option BucketContent) = slots_items closed.slots in
     let all : v.parts ≡ k.parts = (λ i. (c.pass.view_is i).parts) ∙ c.requires.all ∙ (λ i. (sym c.self.view_is i).parts) in
     let wide : length items ≡ buckets_of k = sym (slots_counts closed.slots).0 ∙ told.counts.1 ∙ c.self.invariant.1 in
     let d = homed k place.id v (slots_items closed.words) items wide (last_of told.values) r.some_part r.no_child all r.nothing in

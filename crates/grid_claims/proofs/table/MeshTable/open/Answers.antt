@@ -5,7 +5,7 @@ use Rattle.cell_store.specs.Buckets.{InHand}
 use Rattle.cell_store.specs.Meshes.{MeshView}
 use Rattle.atomic_table.specs.Table.{opening}
 use Rattle.claim_rule.specs.Opening.{shares_from}
-use Rattle.claim_rule.proofs.Began.{as_counted, mesh_shares}
+use Rattle.claim_rule.proofs.Cited.{as_counted, mesh_shares}
 use Rattle.grid_claims.specs.declared.hands.Hands.{Hands}
 use Rattle.grid_claims.specs.declared.view.Key.{Key}
 use Rattle.grid_claims.specs.Faces.{buckets_of, opening_of}

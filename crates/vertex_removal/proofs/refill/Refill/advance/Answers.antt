@@ -1,13 +1,13 @@
 use Rattle.std.proofs.Common.{sym, ◌≡◌, ◌∙◌, subst, List, ℕ, false}
 use Rattle.std.specs.Prelude.{MatchOption}
+use Rattle.list_laws.proofs.Cited.{at_none}
 use Rattle.point_order.specs.declared.cell.Cell.{Cell}
 use Rattle.point_order.specs.Sets.{IsIn, without_point}
 use Rattle.point_order.specs.Solid.{is_solid}
 use Rattle.hole_laws.specs.Edits.{IsLinkSet}
 use Rattle.cell_store.specs.Ready.{AreHeld}
 use Rattle.cavity.specs.Exploring.{IsCellMissing}
-use Rattle.cavity.proofs.Held.{at_none}
-use Rattle.cell_store.proofs.ShareLaws.{solid_set}
+use Rattle.cell_store.proofs.Cited.{solid_set}
 use Rattle.vertex_removal.specs.Near.{AreTaken}
 use Rattle.vertex_removal.specs.Turns.{IsNeeded, RefillGives}
 use Rattle.vertex_removal.specs.declared.refill.RefillTurn.TheVariants.{Done, Flat}

@@ -1,0 +1,3 @@
+-- The lemmas that other crates cite.
+pub use Rattle.edit_files.proofs.Generated.{generated-anchored, generated-solid}
+pub use Rattle.edit_files.proofs.Judged.{no_fault_of, one_file_of}

@@ -1,0 +1,2 @@
+-- The lemmas that other crates cite.
+pub use Rattle.edit_workers.proofs.Deals.{are_opening}

@@ -1,0 +1,27 @@
+-- Members of lists, lists without repeats, and ascending lists.
+use Rattle.std.specs.Prelude.{ℕ, ◌≡◌, ◌<◌, Bool, List, [], ◌∷◌, ◌⊎◌, ◌==◌}
+use Rattle.std.specs.List.{list_any}
+
+-- x is an element
+abbrev pub IsIn : {X : Type 0} → X → List X → Type 0
+IsIn x [] = ⊥
+IsIn x (y ∷ ys) = (y ≡ x) ⊎ IsIn x ys
+
+-- p is one of the list
+abbrev pub is_among : ℕ → List ℕ → Bool
+is_among p s = list_any (λ q. q == p) s
+
+-- no element stands in the list twice
+abbrev pub AreDistinct : {X : Type 0} → List X → Type 0
+AreDistinct [] = Unit {0}
+AreDistinct (x ∷ xs) = (¬ (IsIn x xs)) × AreDistinct xs
+
+-- x is below the first of the list, if there is one
+abbrev pub IsBelowFirst : ℕ → List ℕ → Type 0
+IsBelowFirst x [] = Unit {0}
+IsBelowFirst x (y ∷ ys) = x < y
+
+-- each element is below the next
+abbrev pub IsAscending : List ℕ → Type 0
+IsAscending [] = Unit {0}
+IsAscending (x ∷ xs) = IsBelowFirst x xs × IsAscending xs

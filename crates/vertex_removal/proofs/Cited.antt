@@ -1,0 +1,2 @@
+-- The lemmas that other crates cite.
+pub use Rattle.vertex_removal.proofs.Removals.{removal_follows}
