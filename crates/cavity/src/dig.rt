@@ -85,7 +85,7 @@ impl Dig {
         if let Some(b) = missing_spot(hold, self.judged.goes()) {
             return Ok(DigTurn::Need(b));
         }
-        while let Some(cell) = self.judged.get(self.explored) {
+        while let Some(cell) = self.judged.get(hold, self.explored) {
             if let Some(b) = missing_point(hold, cell.cell().points()) {
                 return Ok(DigTurn::Need(b));
             }

@@ -5,7 +5,7 @@ ghost use Rattle.cavity.specs.Lists.{IsPast, IsAtPlace};
 ghost use Rattle.cavity.specs.Tables.{Knows};
 
 use crate::cell_table::{Mark, Seen, home_of, look, put, table_of};
-use cell_store::Spot;
+use cell_store::{Hold, Spot};
 use point_order::Cell;
 use std::alloc::{AllocError, Global};
 use std::marker::Model;
@@ -35,6 +35,17 @@ impl Model for Judged {
     ghost view = { λ j. record { goes = j.goes.items; stays = j.stays.items } };
 
     ghost invariant = { λ j. IsMarked j.mask j.marks.items j.goes.items };
+}
+
+// The cell with this number. Where the first one stands is looked up, since nobody said it.
+fn at_hand(hold: &Hold, spot: &Spot, number: usize) -> Spot
+    ensures { result ≡ spot.now }
+{
+    if number == 0 {
+        hold.spot_of(spot.cell())
+    } else {
+        spot.copied()
+    }
 }
 
 impl Judged {
@@ -106,12 +117,12 @@ impl Judged {
     }
 
     // The cell at a place of those that go, if there is one.
-    pub(crate) fn get(&self, i: usize) -> Option<Spot>
+    pub(crate) fn get(&self, hold: &Hold, i: usize) -> Option<Spot>
         ensures cell { MatchOption result (IsPast self.now.goes i) (λ cell. IsAtPlace self.now.goes i cell) }
         ensures small { length self.now.goes < 2 ^ 63 }
     {
         match self.goes.get(i) {
-            Some(spot) => Some(spot.copied()),
+            Some(spot) => Some(at_hand(hold, spot, i)),
             None => None,
         }
     }

@@ -1,6 +1,28 @@
 //! The cells of a bucket.
 
-ghost use Rattle.std.specs.Prelude.{◌≡◌, ◌↔◌, ◌⊎◌, ◌+◌, ◌*◌, ◌-◌, ◌≤◌, ◌^◌, ℕ, None, Some, IsSome, IfSome, true, [], length, MatchOption, IsPermutation, IfOk, if◌then◌else◌, ◌==◌};
+ghost use Rattle.std.specs.Prelude.{
+  ◌≡◌,
+  ◌↔◌,
+  ◌⊎◌,
+  ◌+◌,
+  ◌*◌,
+  ◌-◌,
+  ◌≤◌,
+  ◌^◌,
+  ℕ,
+  None,
+  Some,
+  IsSome,
+  IfSome,
+  true,
+  [],
+  length,
+  MatchOption,
+  IsPermutation,
+  IfOk,
+  if◌then◌else◌,
+  ◌==◌,
+};
 ghost use Rattle.std.specs.List.{filter};
 ghost use Rattle.point_order.specs.Facets.{points_of};
 ghost use Rattle.point_order.specs.Sets.{IsIn, is_among};
@@ -43,7 +65,12 @@ impl Model for Cells {
 
     ghost view = { λ b. record { place = b.place; slots = b.slots.items; keys = b.keys.items; stars = b.stars.items } };
 
-    ghost invariant = { λ b. AreStars (record { place = b.place; slots = b.slots.items; keys = b.keys.items; stars = b.stars.items }) };
+    ghost invariant = { λ b. AreStars (record {
+      place = b.place;
+      slots = b.slots.items;
+      keys = b.keys.items;
+      stars = b.stars.items;
+    }) };
 }
 
 // The places in a star, where it is the vertex's own.
@@ -92,7 +119,8 @@ impl Cells {
         self.place
     }
 
-    /// The cells, in a bucket that stands in the grid at the number from now on. It is to be new, or to have stood there.
+    /// The cells, in a bucket that stands in the grid at the number from now on. It is to be new, or to have stood
+    /// there.
     pub fn placed(self, grid: Grid, number: u32) -> Cells
         requires { (self.place ≡ None) ⊎ (self.place ≡ Some (grid, number)) }
         ensures { result ≡ record self { place = Some (grid, number) } }
@@ -134,7 +162,8 @@ impl Cells {
         }
     }
 
-    /// The cells at a point of the bucket, in ascending order, by comparisons of keys that are counted. Each key is a vertex of a cell.
+    /// The cells at a point of the bucket, in ascending order, by comparisons of keys that are counted. Each key is a
+    /// vertex of a cell.
     pub fn star_counted<L: Ledger>(&self, p: Point, steps: &mut Steps<L>) -> Star<'_>
         requires { lies_in self.now.place p ≡ true }
         ensures cells { cells_left result ≡ filter (λ c. is_among p (points_of c)) (cells_of self.now.slots) }
@@ -164,7 +193,8 @@ impl Cells {
     /// The cells at a point of the bucket, in any order.
     pub fn cells_around(&self, p: Point) -> StarCells<'_>
         requires { lies_in self.now.place p ≡ true }
-        ensures { (c : Cell) → IsIn c (cells_around result) ↔ IsIn c (filter (λ c. is_among p (points_of c)) (cells_of self.now.slots)) }
+        ensures { (c : Cell) → IsIn c (cells_around result)
+            ↔ IsIn c (filter (λ c. is_among p (points_of c)) (cells_of self.now.slots)) }
     {
         StarCells {
             slots: &self.slots,

@@ -8,7 +8,8 @@ use std::alloc::{AllocError, Global};
 
 /// The places of the cells that go, as far as they were looked for, and at which of them the last guess was made.
 ///
-/// Cells that go are mostly listed as a dig finds them: each across a facet of one before it, those of one cell side by side.
+/// Cells that go are mostly listed as a dig finds them: each across a facet of one before it, those of one cell side
+/// by side.
 #[derive(Debug, Drop)]
 pub(crate) struct Guesses {
     pub(crate) places: Vec<u32>,
@@ -24,7 +25,8 @@ impl Guesses {
         })
     }
 
-    /// Where the cell stands, if that is across a facet of one that was found, and of none before the last that told of one.
+    /// Where the cell stands, if that is across a facet of one that was found, and of none before the last that told
+    /// of one.
     pub(crate) fn guess(&mut self, slots: &[Option<Cell>], links: &Links, cell: &Cell) -> u32 {
         for at in self.first..self.places.len() {
             if let Some(found) = self.places.get(at) {

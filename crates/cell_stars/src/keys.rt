@@ -61,7 +61,8 @@ fn drop_key(keys: &mut Vec<(Point, u32)>, p: Point)
 fn put_key(keys: &mut Vec<(Point, u32)>, p: Point, n: u32) -> Result<(), AllocError>
     requires { IsAscending (map (λ k. k.0) keys.old.items) }
     ensures order { OnOk result (IsAscending (map (λ k. k.0) keys.new.items)) }
-    ensures keys { OnOk result ((k : ℕ × ℕ) → IsIn k keys.new.items ↔ (((p, n) ≡ k) ⊎ (IsIn k keys.old.items × ¬ (k.0 ≡ p)))) }
+    ensures keys { OnOk result ((k : ℕ × ℕ) → IsIn k keys.new.items
+        ↔ (((p, n) ≡ k) ⊎ (IsIn k keys.old.items × ¬ (k.0 ≡ p)))) }
 {
     drop_key(keys, p);
     match place_of(keys, p) {
@@ -114,7 +115,8 @@ pub(crate) fn keys_after(
 ) -> Result<Option<Vec<(Point, u32)>>, AllocError>
     requires order { IsAscending (map (λ k. k.0) keys.now) }
     requires agreed { AreAgreed writes.now }
-    ensures { IfOk result (λ list. AreKeysAfter keys.now writes.now (or_else (option_map (λ v. v.items) list) keys.now)) }
+    ensures { IfOk result (λ list. AreKeysAfter keys.now writes.now
+        (or_else (option_map (λ v. v.items) list) keys.now)) }
 {
     if are_keyed(keys, writes) {
         return Ok(None);

@@ -1,7 +1,7 @@
 //! The cells of a bucket at numbered places, with a star for each vertex: the numbers of the places of its cells.
 //!
-//! The definitions stand in `specs/`: the bucket of a point, an exchange of cells in a list in order, and when stars are those of
-//! the cells. Where the place across a facet is likely to be is kept too; no definition speaks of it.
+//! The definitions stand in `specs/`: the bucket of a point, an exchange of cells in a list in order, and when stars
+//! are those of the cells. Where the place across a facet is likely to be is kept too; no definition speaks of it.
 //!
 //! ```
 //! let grid = Grid::new(4)?;

@@ -1,4 +1,5 @@
-//! Places that are likely to lie across the facets of cells. No clause speaks of them: a cell is looked at before it is taken for one.
+//! Places that are likely to lie across the facets of cells. No clause speaks of them: a cell is looked at before it
+//! is taken for one.
 
 use crate::joins::Joins;
 use point_order::{Cell, Facet, Point};
@@ -7,12 +8,14 @@ use std::alloc::{AllocError, Global};
 /// In place of a place, where there is none.
 pub(crate) const NONE: u32 = u32::MAX;
 
-/// The places across the facets of a cell, in the order of its facets: across the one without its first point comes first.
+/// The places across the facets of a cell, in the order of its facets: across the one without its first point comes
+/// first.
 pub(crate) type Around4 = [u32; 4];
 
 /// For each place, the places across the facets of its cell.
 ///
-/// Across each facet that has a point in the bucket the other cell stands in the bucket too, and its place is known as a rule.
+/// Across each facet that has a point in the bucket the other cell stands in the bucket too, and its place is known
+/// as a rule.
 #[derive(Debug, Drop)]
 pub(crate) struct Links {
     list: Vec<Around4>,

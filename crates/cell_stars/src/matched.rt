@@ -1,4 +1,5 @@
-//! Which cells lie across the facets of the cells that come, found once for an exchange. It is only a hint, and no clause speaks of it.
+//! Which cells lie across the facets of the cells that come, found once for an exchange. It is only a hint, and no
+//! clause speaks of it.
 
 use crate::links::facet_hashes;
 use point_order::Cell;

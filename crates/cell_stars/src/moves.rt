@@ -1,6 +1,23 @@
 //! What goes and comes in an exchange, by places.
 
-ghost use Rattle.std.specs.Prelude.{◌≡◌, ◌↔◌, ◌⊎◌, ◌≤◌, ◌<◌, ℕ, true, None, Some, IfOk, IfSome, OnOk, length, MatchOption, MatchBool, IsTrue};
+ghost use Rattle.std.specs.Prelude.{
+  ◌≡◌,
+  ◌↔◌,
+  ◌⊎◌,
+  ◌≤◌,
+  ◌<◌,
+  ℕ,
+  true,
+  None,
+  Some,
+  IfOk,
+  IfSome,
+  OnOk,
+  length,
+  MatchOption,
+  MatchBool,
+  IsTrue,
+};
 ghost use Rattle.std.specs.List.{zip};
 ghost use Rattle.point_order.specs.declared.cell.Cell.{Cell};
 ghost use Rattle.point_order.specs.Facets.{points_of};
@@ -43,7 +60,8 @@ pub(crate) fn has_number(list: &[u32], i: u32) -> bool
 
 // The place of the cell among these, if it stands at one of them.
 pub(crate) fn place_among(slots: &[Option<Cell>], star: &[u32], cell: &Cell) -> Option<u32>
-    ensures { MatchOption result ((i : ℕ) → IsIn i star.now → at slots.now i ≡ Some cell.now → ⊥) (λ i. at slots.now i ≡ Some cell.now) }
+    ensures { MatchOption result ((i : ℕ) → IsIn i star.now → at slots.now i ≡ Some cell.now → ⊥) (λ i. at slots.now i
+        ≡ Some cell.now) }
 {
     for i in star {
         if let Some(other) = cell_at(slots, *i) {
@@ -67,7 +85,8 @@ fn stands_at(slots: &[Option<Cell>], i: u32, cell: &Cell) -> bool
 
 // Whether no cell at these places has the point.
 fn none_has(slots: &[Option<Cell>], star: &[u32], p: Point) -> bool
-    ensures { IsTrue result → (i : ℕ) → IsIn i star.now → (c : Cell) → at slots.now i ≡ Some c → IsIn p (points_of c) → ⊥ }
+    ensures { IsTrue result → (i : ℕ) → IsIn i star.now → (c : Cell) → at slots.now i ≡ Some c → IsIn p (points_of c)
+        → ⊥ }
 {
     for i in star {
         if let Some(cell) = cell_at(slots, *i) {
@@ -219,7 +238,8 @@ impl Cells {
 
     // The shortest star of a vertex of the cell, or the first that is short.
     fn shortest_star(&self, cell: &Cell) -> Option<&[u32]>
-        ensures { MatchOption result ((p : ℕ) → IsIn p (points_of cell.now) → lies_in self.now.place p ≡ true → ⊥) (λ star. IsStarFor self.now cell.now star.now) }
+        ensures { MatchOption result ((p : ℕ) → IsIn p (points_of cell.now) → lies_in self.now.place p ≡ true →
+            ⊥) (λ star. IsStarFor self.now cell.now star.now) }
     {
         let mut shortest: Option<&[u32]> = None;
         for p in cell.points() {
@@ -236,7 +256,8 @@ impl Cells {
 
     // The place of the cell, if it stands at one, by a look through a star.
     fn place_in_star(&self, cell: &Cell) -> Option<u32>
-        ensures { MatchOption result ((i : ℕ) → at self.now.slots i ≡ Some cell.now → touches_in self.now.place cell.now ≡ true → ⊥) (λ i. at self.now.slots i ≡ Some cell.now) }
+        ensures { MatchOption result ((i : ℕ) → at self.now.slots i ≡ Some cell.now →
+            touches_in self.now.place cell.now ≡ true → ⊥) (λ i. at self.now.slots i ≡ Some cell.now) }
     {
         match self.shortest_star(cell) {
             Some(star) => place_among(&self.slots, star, cell),
@@ -246,7 +267,8 @@ impl Cells {
 
     // The place of the cell, if it stands at one.
     fn place_of_cell(&self, cell: &Cell, guesses: &mut Guesses) -> Option<u32>
-        ensures { MatchOption result ((i : ℕ) → at self.now.slots i ≡ Some cell.now → touches_in self.now.place cell.now ≡ true → ⊥) (λ i. at self.now.slots i ≡ Some cell.now) }
+        ensures { MatchOption result ((i : ℕ) → at self.now.slots i ≡ Some cell.now →
+            touches_in self.now.place cell.now ≡ true → ⊥) (λ i. at self.now.slots i ≡ Some cell.now) }
     {
         if !self.is_touched_by(cell) {
             return None;
@@ -285,7 +307,8 @@ impl Cells {
         self.has_here(p) && !self.star_of(p).is_empty()
     }
 
-    // A vertex of the first, the middle and the last of the cells that has no star, if there is one. A new point is such.
+    // A vertex of the first, the middle and the last of the cells that has no star, if there is one. A new point is
+    // such.
     fn new_vertex(&self, cells: &[Cell]) -> Option<Point> {
         let first = cells.first()?;
         let middle = cells.get(cells.len() / 2)?;
@@ -331,7 +354,8 @@ impl Cells {
         Ok(list)
     }
 
-    // Whether the cell has the point and a vertex that is clear of it, which is kept for the next cells. Then it stands nowhere.
+    // Whether the cell has the point and a vertex that is clear of it, which is kept for the next cells. Then it
+    // stands nowhere.
     fn is_new(&self, cell: &Cell, p: Point, clear: &mut Vec<Point>) -> Result<bool, AllocError>
         requires { (q : ℕ) → IsIn q clear.old.items → IsClear self.now p q }
         ensures clear { OnOk result ((q : ℕ) → IsIn q clear.new.items → IsClear self.now p q) }
@@ -373,7 +397,8 @@ impl Cells {
     // Whether the cell, by a look through a star, stands at a place that is not freed.
     fn stays(&self, cell: &Cell, freed: &[u32]) -> bool
         requires { IsAscending freed.now }
-        ensures { MatchBool result (Stays self.now freed.now cell.now) (touches_in self.now.place cell.now ≡ true → (i : ℕ) → at self.now.slots i ≡ Some cell.now → IsIn i freed.now) }
+        ensures { MatchBool result (Stays self.now freed.now cell.now) (touches_in self.now.place cell.now ≡ true →
+            (i : ℕ) → at self.now.slots i ≡ Some cell.now → IsIn i freed.now) }
     {
         let _ = &self.slots;
         match self.place_in_star(cell) {
@@ -393,7 +418,9 @@ impl Cells {
         requires order { IsAscending freed.now }
         requires clear { IfSome p.now (λ p. (q : ℕ) → IsIn q clear.old.items → IsClear self.now p q) }
         ensures clear { OnOk result (IfSome p.now (λ p. (q : ℕ) → IsIn q clear.new.items → IsClear self.now p q)) }
-        ensures comes { IfOk result (λ r. MatchBool r ((touches_in self.now.place cell.now ≡ true) × ((i : ℕ) → at self.now.slots i ≡ Some cell.now → IsIn i freed.now)) (touches_in self.now.place cell.now ≡ true → Stays self.now freed.now cell.now)) }
+        ensures comes { IfOk result (λ r. MatchBool r ((touches_in self.now.place cell.now ≡ true)
+            × ((i : ℕ) → at self.now.slots i ≡ Some cell.now → IsIn i freed.now)) (touches_in self.now.place cell.now
+            ≡ true → Stays self.now freed.now cell.now)) }
     {
         if self.is_touched_by(cell) {
             let is_new = self.is_new_by(cell, p, clear)?;
@@ -457,7 +484,8 @@ impl Cells {
 
 // The shorter of two stars.
 fn shorter<'a>(shortest: Option<&'a [u32]>, star: &'a [u32]) -> &'a [u32]
-    ensures { MatchOption shortest.entry (result.now ≡ star.now) (λ other. (result.now ≡ star.now) ⊎ (result.now ≡ other.now)) }
+    ensures { MatchOption shortest.entry (result.now ≡ star.now)
+        (λ other. (result.now ≡ star.now) ⊎ (result.now ≡ other.now)) }
 {
     match shortest {
         Some(other) if other.len() <= star.len() => other,

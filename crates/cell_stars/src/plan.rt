@@ -66,7 +66,14 @@ impl Model for Plan {
 
     ghost Value = { PlanView };
 
-    ghost view = { λ p. record { grown = option_map (λ v. v.items) p.grown; slots = p.slots.items; more = option_map (λ v. v.items) p.more; stars = p.stars.items; keys = option_map (λ v. v.items) p.keys } };
+    ghost view = { λ p. record {
+      grown = option_map (λ v. v.items) p.grown;
+      slots = p.slots.items;
+      more = option_map
+          (λ v. v.items) p.more;
+      stars = p.stars.items;
+      keys = option_map (λ v. v.items) p.keys;
+    } };
 }
 
 // Puts the other list in place, if there is one.

@@ -12,6 +12,7 @@ use crate::cells::Cells;
 use crate::joins::Joins;
 use crate::keys::keys_after;
 use crate::links::Links;
+use crate::marks::Marks;
 use crate::matched::Matched;
 use crate::moves::Moves;
 use crate::plan::{Around, Plan};
@@ -112,7 +113,8 @@ fn grown_stars(
     end: usize,
 ) -> Result<Option<Vec<Around>>, AllocError>
     requires { (n : ℕ) (s : ℕ × List ℕ) → IsIn (n, s) writes.now → n < end }
-    ensures long { IfOk result (λ list. (n : ℕ) (s : ℕ × List ℕ) → IsIn (n, s) writes.now → n < length (or_else (option_map (λ v. v.items) list) stars.now)) }
+    ensures long { IfOk result (λ list. (n : ℕ) (s : ℕ × List ℕ) → IsIn (n, s) writes.now →
+        n < length (or_else (option_map (λ v. v.items) list) stars.now)) }
     ensures same { IfOk result (λ list. HasSameStars stars.now (or_else (option_map (λ v. v.items) list) stars.now)) }
 {
     let Some((_, first)) = writes.first() else {
@@ -129,7 +131,8 @@ fn grown_stars(
 
 // What stands at places after the exchange: nothing at those that are freed, and then the cells that are put.
 fn changes(alloc: Global, moves: &Moves) -> Result<Vec<(u32, Option<Cell>)>, AllocError>
-    ensures { IfOk result (λ list. list.items ≡ map (λ i. (i, None)) moves.now.freed.items ++ map (λ m. (m.0, Some m.1)) moves.now.placed.items) }
+    ensures { IfOk result (λ list. list.items ≡ map (λ i. (i, None)) moves.now.freed.items ++ map
+        (λ m. (m.0, Some m.1)) moves.now.placed.items) }
 {
     let mut list = Vec::with_capacity(alloc, moves.freed.len().saturating_add(moves.placed.len()))?;
     for i in &moves.freed {
@@ -141,7 +144,8 @@ fn changes(alloc: Global, moves: &Moves) -> Result<Vec<(u32, Option<Cell>)>, All
     Ok(list)
 }
 
-// The numbers that are likely to be open after the exchange: those that were and are not taken, and those that are freed and not taken.
+// The numbers that are likely to be open after the exchange: those that were and are not taken, and those that are
+// freed and not taken.
 fn open_after(alloc: Global, free: &[u32], moves: &Moves) -> Result<Vec<u32>, AllocError> {
     let taken = moves.placed.len();
     let freed = moves.freed.len();
@@ -155,8 +159,8 @@ fn open_after(alloc: Global, free: &[u32], moves: &Moves) -> Result<Vec<u32>, Al
     Ok(list)
 }
 
-// The numbers of stars that are likely to be spare after the exchange: those that were, those of stars that have no place then, and
-// the new ones, from the first number on and before the end, that no star got.
+// The numbers of stars that are likely to be spare after the exchange: those that were, those of stars that have no
+// place then, and the new ones, from the first number on and before the end, that no star got.
 fn spare_after(
     alloc: Global,
     spare: &[u32],
@@ -165,13 +169,14 @@ fn spare_after(
     end: u32,
 ) -> Result<Vec<u32>, AllocError> {
     let mut list = Vec::with_capacity(alloc, spare.len().saturating_add(writes.len()))?;
+    let marks = marks_of_written(writes);
     for n in spare {
-        if !is_written(writes, *n) {
+        if !is_written(writes, &marks, *n) {
             list.push(*n)?;
         }
     }
     for n in first..end {
-        if !is_written(writes, n) {
+        if !is_written(writes, &marks, n) {
             list.push(n)?;
         }
     }
@@ -183,9 +188,18 @@ fn spare_after(
     Ok(list)
 }
 
-// Whether the star with the number is one of these.
-fn is_written(writes: &[(u32, Around)], n: u32) -> bool {
-    writes.iter().any(|(m, _)| *m == n)
+// The marks of the numbers of these stars.
+fn marks_of_written(writes: &[(u32, Around)]) -> Marks {
+    let mut marks = [false; 4096];
+    for (n, _) in writes {
+        marks[(*n % 4096) as usize] = true;
+    }
+    marks
+}
+
+// Whether the star with the number is one of these, which have these marks.
+fn is_written(writes: &[(u32, Around)], marks: &Marks, n: u32) -> bool {
+    marks[(n % 4096) as usize] && writes.iter().any(|(m, _)| *m == n)
 }
 
 impl Cells {
@@ -201,8 +215,8 @@ impl Cells {
         }
     }
 
-    /// Plans an exchange of the gone for the fresh cells, as far as they touch the bucket. The matches are to be those of these cells;
-    /// else the plan is as good, and searches are longer.
+    /// Plans an exchange of the gone for the fresh cells, as far as they touch the bucket. The matches are to be
+    /// those of these cells; else the plan is as good, and searches are longer.
     ///
     /// # Errors
     /// Want of memory, or of a number of 32 bits for a place or a star.

@@ -66,7 +66,8 @@ fn least_behind<'a>(
     star: &[u32],
     bound: &Option<Cell>,
 ) -> Option<&'a Cell>
-    ensures { MatchOption result (HaveNone slots.now star.now bound.now) (λ c. IsLeastOf slots.now star.now bound.now c.now) }
+    ensures { MatchOption result (HaveNone slots.now star.now bound.now)
+        (λ c. IsLeastOf slots.now star.now bound.now c.now) }
 {
     let mut least: Option<&Cell> = None;
     for i in star {

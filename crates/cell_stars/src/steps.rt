@@ -68,7 +68,10 @@ pub(crate) fn place_counted<L: Ledger>(
     steps: &mut Steps<L>,
 ) -> Result<usize, usize>
     requires { IsAscending (map (λ k. k.0) keys.now) }
-    ensures found { MatchResult result (λ i. (i < length keys.now) × (slice_index (map (λ k. k.0) keys.now) i ≡ p)) (λ i. (i ≤ length keys.now) × ((k : ℕ) → k < i → slice_index (map (λ k. k.0) keys.now) k < p) × ((k : ℕ) → i ≤ k → k < length keys.now → p < slice_index (map (λ k. k.0) keys.now) k)) }
+    ensures found { MatchResult result (λ i. (i < length keys.now)
+        × (slice_index (map (λ k. k.0) keys.now) i ≡ p)) (λ i. (i ≤ length keys.now)
+        × ((k : ℕ) → k < i → slice_index (map (λ k. k.0) keys.now) k < p)
+        × ((k : ℕ) → i ≤ k → k < length keys.now → p < slice_index (map (λ k. k.0) keys.now) k)) }
     ensures rises { steps.old ≤ steps.new }
     ensures cost { 2 ^ (steps.new - steps.old) ≤ 2 * length keys.now + 1 }
 {
@@ -91,7 +94,10 @@ fn place_in<L: Ledger>(blank: Blank, keys: &[(Point, u32)], p: Point) -> Result<
     requires parts { blank.parts ≡ L.parts }
     requires some { 0 < blank.parts }
     requires order { IsAscending (map (λ k. k.0) keys.now) }
-    ensures { MatchResult result (λ i. (i < length keys.now) × (slice_index (map (λ k. k.0) keys.now) i ≡ p)) (λ i. (i ≤ length keys.now) × ((k : ℕ) → k < i → slice_index (map (λ k. k.0) keys.now) k < p) × ((k : ℕ) → i ≤ k → k < length keys.now → p < slice_index (map (λ k. k.0) keys.now) k)) }
+    ensures { MatchResult result (λ i. (i < length keys.now)
+        × (slice_index (map (λ k. k.0) keys.now) i ≡ p)) (λ i. (i ≤ length keys.now)
+        × ((k : ℕ) → k < i → slice_index (map (λ k. k.0) keys.now) k < p)
+        × ((k : ℕ) → i ≤ k → k < length keys.now → p < slice_index (map (λ k. k.0) keys.now) k)) }
 {
     let mut steps = Steps::<L>::begin(blank);
     place_counted(keys, p, &mut steps)
@@ -100,7 +106,10 @@ fn place_in<L: Ledger>(blank: Blank, keys: &[(Point, u32)], p: Point) -> Result<
 // The same, with no count.
 pub(crate) fn place_of(keys: &[(Point, u32)], p: Point) -> Result<usize, usize>
     requires { IsAscending (map (λ k. k.0) keys.now) }
-    ensures { MatchResult result (λ i. (i < length keys.now) × (slice_index (map (λ k. k.0) keys.now) i ≡ p)) (λ i. (i ≤ length keys.now) × ((k : ℕ) → k < i → slice_index (map (λ k. k.0) keys.now) k < p) × ((k : ℕ) → i ≤ k → k < length keys.now → p < slice_index (map (λ k. k.0) keys.now) k)) }
+    ensures { MatchResult result (λ i. (i < length keys.now)
+        × (slice_index (map (λ k. k.0) keys.now) i ≡ p)) (λ i. (i ≤ length keys.now)
+        × ((k : ℕ) → k < i → slice_index (map (λ k. k.0) keys.now) k < p)
+        × ((k : ℕ) → i ≤ k → k < length keys.now → p < slice_index (map (λ k. k.0) keys.now) k)) }
 {
     place_in::<Brand>(Blank::new(1), keys, p)
 }

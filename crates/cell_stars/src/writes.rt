@@ -1,6 +1,22 @@
 //! The stars after an exchange.
 
-ghost use Rattle.std.specs.Prelude.{◌≡◌, ◌↔◌, ◌⊎◌, ◌<◌, ◌≤◌, ◌++◌, ℕ, true, Some, IfOk, OnOk, length, MatchBool, MatchOption, IsTrue};
+ghost use Rattle.std.specs.Prelude.{
+  ◌≡◌,
+  ◌↔◌,
+  ◌⊎◌,
+  ◌<◌,
+  ◌≤◌,
+  ◌++◌,
+  ℕ,
+  true,
+  Some,
+  IfOk,
+  OnOk,
+  length,
+  MatchBool,
+  MatchOption,
+  IsTrue,
+};
 ghost use Rattle.std.specs.List.{zip};
 ghost use Rattle.point_order.specs.declared.cell.Cell.{Cell};
 ghost use Rattle.point_order.specs.Facets.{points_of};
@@ -8,7 +24,15 @@ ghost use Rattle.point_order.specs.Sets.{IsIn, IsAscending};
 ghost use Rattle.cell_stars.specs.Places.{at, lies_in, star_at, IsStarred};
 ghost use Rattle.cell_stars.specs.Plans.{StarsAfter};
 ghost use Rattle.cell_stars.specs.Gathering.{Gathers, FromPlace, FromPut};
-ghost use Rattle.cell_stars.specs.Moves.{AreMarked, AreTouched, AreNumbered, AreStarsAfter, IsOwnNumber, IsSpare, IsRewriting};
+ghost use Rattle.cell_stars.specs.Moves.{
+  AreMarked,
+  AreTouched,
+  AreNumbered,
+  AreStarsAfter,
+  IsOwnNumber,
+  IsSpare,
+  IsRewriting,
+};
 
 use crate::cells::{Cells, places_in};
 use crate::links::hash_of;
@@ -38,7 +62,9 @@ fn is_spare(stars: &[Around], n: u32) -> bool
 
 // Whether the star with the number is the vertex's and has a place.
 fn is_own(stars: &[Around], n: u32, p: Point) -> bool
-    ensures { MatchBool result (((star_at stars.now n).0 ≡ p) × ((i : ℕ) × IsIn i (star_at stars.now n).1)) ((star_at stars.now n).0 ≡ p → (i : ℕ) → IsIn i (star_at stars.now n).1 → ⊥) }
+    ensures { MatchBool result (((star_at stars.now n).0 ≡ p)
+        × ((i : ℕ) × IsIn i (star_at stars.now n).1)) ((star_at stars.now n).0 ≡ p → (i : ℕ) →
+        IsIn i (star_at stars.now n).1 → ⊥) }
 {
     !places_in(stars, n, p).is_empty()
 }
@@ -202,7 +228,8 @@ impl Cells {
     // The vertices in the bucket of the cells that go and come, ascending.
     fn vertices_of(&self, alloc: Global, moves: &Moves) -> Result<Vec<Point>, AllocError>
         ensures order { IfOk result (λ list. IsAscending list.items) }
-        ensures touched { IfOk result (λ list. AreTouched self.now moves.now.freed.items moves.now.placed.items list.items) }
+        ensures touched { IfOk result (λ list. AreTouched self.now moves.now.freed.items moves.now.placed.items
+            list.items) }
     {
         let mut list: Vec<Point> = Vec::with_capacity(alloc, FEW)?;
         let mut seen = [0usize; 64];
@@ -214,7 +241,8 @@ impl Cells {
 
     // The number of the vertex's star, if it has one with places.
     fn number_of(&self, p: Point) -> Option<u32>
-        ensures { MatchOption result ((i : ℕ) → IsStarred self.now.keys self.now.stars p i → ⊥) (λ n. IsOwnNumber self.now p n) }
+        ensures { MatchOption result ((i : ℕ) → IsStarred self.now.keys self.now.stars p i →
+            ⊥) (λ n. IsOwnNumber self.now p n) }
     {
         match place_of(&self.keys, p) {
             Ok(i) => {
@@ -231,7 +259,8 @@ impl Cells {
 
     // The number that the vertex's star has after an exchange: its own, or else the one that is for it.
     fn number_for(&self, p: Point, spare: u32) -> u32
-        ensures { IsOwnNumber self.now p result ⊎ ((result ≡ spare) × ((i : ℕ) → IsStarred self.now.keys self.now.stars p i → ⊥)) }
+        ensures { IsOwnNumber self.now p result ⊎ ((result ≡ spare)
+            × ((i : ℕ) → IsStarred self.now.keys self.now.stars p i → ⊥)) }
     {
         match self.number_of(p) {
             Some(n) => n,
@@ -269,7 +298,8 @@ impl Cells {
     ) -> Result<SmallVec<u32, 32>, AllocError>
         requires order { IsAscending freed.now }
         requires marks { AreMarked marks.now freed.now }
-        ensures { IfOk result (λ list. (i : ℕ) → IsIn i list.items ↔ (IsStarred self.now.keys self.now.stars p i × (IsIn i freed.now → ⊥))) }
+        ensures { IfOk result (λ list. (i : ℕ) → IsIn i list.items
+            ↔ (IsStarred self.now.keys self.now.stars p i × (IsIn i freed.now → ⊥))) }
     {
         let mut list = SmallVec::new(alloc);
         for i in self.star_of(p) {
@@ -291,7 +321,8 @@ impl Cells {
         requires order { IsAscending moves.now.freed.items }
         requires marks { AreMarked marks.now moves.now.freed.items }
         requires inside { lies_in self.now.place p ≡ true }
-        ensures { IfOk result (λ list. (i : ℕ) → IsIn i list.items ↔ StarsAfter moves.now.freed.items moves.now.placed.items self.now p i) }
+        ensures { IfOk result (λ list. (i : ℕ) → IsIn i list.items
+            ↔ StarsAfter moves.now.freed.items moves.now.placed.items self.now p i) }
     {
         let mut list = self.staying(alloc, p, &moves.freed, marks)?;
         for (i, c) in &moves.placed {
@@ -314,7 +345,8 @@ impl Cells {
         requires marks { AreMarked marks.now moves.now.freed.items }
         requires inside { lies_in self.now.place p ≡ true }
         ensures vertex { IfOk result (λ star. star.0 ≡ p) }
-        ensures places { IfOk result (λ star. (i : ℕ) → IsIn i star.1 ↔ StarsAfter moves.now.freed.items moves.now.placed.items self.now p i) }
+        ensures places { IfOk result (λ star. (i : ℕ) → IsIn i star.1
+            ↔ StarsAfter moves.now.freed.items moves.now.placed.items self.now p i) }
     {
         Ok(Around {
             vertex: p,
@@ -331,7 +363,8 @@ impl Cells {
     ) -> Result<Vec<(u32, Around)>, AllocError>
         requires order { IsAscending moves.now.freed.items }
         requires inside { (n p : ℕ) → IsIn (n, p) turns.now → lies_in self.now.place p ≡ true }
-        ensures { IfOk result (λ writes. AreStarsAfter self.now moves.now.freed.items moves.now.placed.items turns.now writes.items) }
+        ensures { IfOk result (λ writes. AreStarsAfter self.now moves.now.freed.items moves.now.placed.items turns.now
+            writes.items) }
     {
         let marks = marks_of(&moves.freed);
         let mut writes = Vec::with_capacity(alloc, turns.len())?;
@@ -348,7 +381,8 @@ impl Cells {
         moves: &Moves,
     ) -> Result<Vec<(u32, Around)>, AllocError>
         requires { IsAscending moves.now.freed.items }
-        ensures { IfOk result (λ writes. IsRewriting self.now moves.now.freed.items moves.now.placed.items writes.items) }
+        ensures { IfOk result (λ writes. IsRewriting self.now moves.now.freed.items moves.now.placed.items
+            writes.items) }
     {
         let vertices = self.vertices_of(alloc, moves)?;
         let turns = self.turns(alloc, &vertices)?;

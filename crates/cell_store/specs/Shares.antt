@@ -47,7 +47,8 @@ share_at g b h = record {
 
 -- A bucket in its place that is a share is that one.
 abbrev pub ShareIsOne : Type 0
-ShareIsOne = (g b : ℕ) (h : List Entry) (c : BucketContent) → IsShare g b h c → c.place ≡ Some (g, b) → c ≡ share_at g b h
+ShareIsOne = (g b : ℕ) (h : List Entry) (c : BucketContent) → IsShare g b h c → c.place ≡ Some (g, b) → c
+    ≡ share_at g b h
 
 -- the history is legal, and the points that it leaves are a solid set
 pub record IsSound (h : List Entry) : Type 0 where

@@ -1,6 +1,26 @@
 //! Buckets.
 
-ghost use Rattle.std.specs.Prelude.{◌≡◌, ◌↔◌, ◌+◌, ◌*◌, ◌-◌, ◌≤◌, ◌^◌, ◌∷◌, [], ◌++◌, true, None, Some, length, IsPermutation, IfOk, IfSome, OnOk, MatchOption};
+ghost use Rattle.std.specs.Prelude.{
+  ◌≡◌,
+  ◌↔◌,
+  ◌+◌,
+  ◌*◌,
+  ◌-◌,
+  ◌≤◌,
+  ◌^◌,
+  ◌∷◌,
+  [],
+  ◌++◌,
+  true,
+  None,
+  Some,
+  length,
+  IsPermutation,
+  IfOk,
+  IfSome,
+  OnOk,
+  MatchOption,
+};
 ghost use Rattle.std.specs.List.{filter};
 ghost use Rattle.point_order.specs.Facets.{points_of};
 ghost use Rattle.point_order.specs.declared.cell.Cell.{Cell};
@@ -15,7 +35,7 @@ ghost use Rattle.cell_store.specs.Shares.{points_on};
 ghost use Rattle.cell_store.specs.Stars.{cells_around, cells_left, cells_to_come};
 
 use crate::note::{points_after, with_entry};
-use crate::star::{is_on, other_among};
+use crate::star::{Other, is_on, other_among};
 use cell_stars::{BucketCells, Cells, Grid, Matched, Plan, Star, StarCells, Steps, are_same};
 use edit_history::Entry;
 use point_order::{Cell, Facet, Point};
@@ -41,7 +61,13 @@ impl Model for Bucket {
 
     ghost Value = { Layout };
 
-    ghost view = { λ b. record { points = b.points.items; cells = b.cells; entries = b.entries.items; room_points = vec_capacity b.points - vec_len b.points; room_entries = vec_capacity b.entries - vec_len b.entries } };
+    ghost view = { λ b. record {
+      points = b.points.items;
+      cells = b.cells;
+      entries = b.entries.items;
+      room_points = vec_capacity b.points - vec_len b.points;
+      room_entries = vec_capacity b.entries - vec_len b.entries;
+    } };
 
     ghost invariant = { λ b. IsAscending b.points.items };
 }
@@ -102,16 +128,19 @@ impl Bucket {
     // The cells at a point of the bucket, in any order.
     pub(crate) fn cells_around(&self, p: Point) -> StarCells<'_>
         requires { lies_in self.now.cells.place p ≡ true }
-        ensures { (c : Cell) → IsIn c (cells_around result) ↔ IsIn c (filter (λ c. is_among p (points_of c)) (content_of self.now).cells) }
+        ensures { (c : Cell) → IsIn c (cells_around result)
+            ↔ IsIn c (filter (λ c. is_among p (points_of c)) (content_of self.now).cells) }
     {
         self.cells.cells_around(p)
     }
 
-    // A cell on the facet other than the given one, if there is one. The facet is to have the point, which is to lie in the bucket.
-    pub(crate) fn other_at(&self, p: Point, cell: &Cell, facet: &Facet) -> Option<&Cell>
+    // A cell on the facet other than the given one, if there is one. The facet is to have the point, which is to lie
+    // in the bucket.
+    pub(crate) fn other_at(&self, p: Point, cell: &Cell, facet: &Facet) -> Option<Other<'_>>
         requires inside { lies_in self.now.cells.place p ≡ true }
         requires among { IsIn p (points_on facet.now) }
-        ensures { MatchOption result (HaveNoOther (content_of self.now).cells cell.now facet.now) (λ c. IsOtherOf (content_of self.now).cells cell.now facet.now c.now) }
+        ensures { MatchOption result (HaveNoOther (content_of self.now).cells cell.now facet.now)
+            (λ o. IsOtherOf (content_of self.now).cells cell.now facet.now o.cell.now) }
     {
         other_among(self.cells.cells_around(p), cell, facet)
     }
@@ -172,7 +201,8 @@ impl Bucket {
     // Puts the entry last, and its point in or out as its reply says. There is to be room for it. It takes no memory.
     pub(crate) fn noted(self, entry: Entry) -> Bucket
         requires { HasRoom self }
-        ensures content { content_of result ≡ record (content_of self) { points = changed self.points (point_of entry.edit) entry.reply; entries = self.entries ++ entry ∷ [] } }
+        ensures content { content_of result ≡ record (content_of self)
+            { points = changed self.points (point_of entry.edit) entry.reply; entries = self.entries ++ entry ∷ [] } }
         ensures cells { result.cells ≡ self.cells }
     {
         let entries = with_entry(self.entries, entry);

@@ -1,6 +1,30 @@
 //! Holds: the buckets in hand.
 
-ghost use Rattle.std.specs.Prelude.{◌≡◌, ◌↔◌, IsTrue, ℕ, ◌+◌, ◌*◌, ◌-◌, ◌<◌, ◌≤◌, ◌^◌, true, None, Some, IsSome, is_some, IfOk, IfSome, OnOk, OnErr, length, slice_set, List, MatchOption};
+ghost use Rattle.std.specs.Prelude.{
+  ◌≡◌,
+  ◌↔◌,
+  IsTrue,
+  ℕ,
+  ◌+◌,
+  ◌*◌,
+  ◌-◌,
+  ◌<◌,
+  ◌≤◌,
+  ◌^◌,
+  true,
+  None,
+  Some,
+  IsSome,
+  is_some,
+  IfOk,
+  IfSome,
+  OnOk,
+  OnErr,
+  length,
+  slice_set,
+  List,
+  MatchOption,
+};
 ghost use Rattle.std.specs.List.{filter, list_all};
 ghost use Rattle.point_order.specs.Sets.{IsIn, is_among};
 ghost use Rattle.point_order.specs.Facets.{points_of, facets_of};
@@ -8,7 +32,17 @@ ghost use Rattle.point_order.specs.declared.cell.Cell.{Cell};
 ghost use Rattle.point_order.specs.Complex.{complex};
 ghost use Rattle.edit_history.specs.Edits.{point_of};
 ghost use Rattle.cell_store.specs.Grids.{is_grid_size, bucket_of as number_of};
-ghost use Rattle.cell_store.specs.Buckets.{no_room, empty_hold, bucket_at, points_in, cells_in, at_place, content_of, FitsPlace, StandAtPlaces};
+ghost use Rattle.cell_store.specs.Buckets.{
+  no_room,
+  empty_hold,
+  bucket_at,
+  points_in,
+  cells_in,
+  at_place,
+  content_of,
+  FitsPlace,
+  StandAtPlaces,
+};
 ghost use Rattle.cell_store.specs.Shares.{Shows, ShowsSome, ShowsWith, NoneInHand, IsInHandFor, points_on};
 ghost use Rattle.cell_store.specs.Spots.{IsAcrossIn, SpotGives};
 ghost use Rattle.cell_store.specs.Changes.{IsSwapped, IsNoted};
@@ -45,9 +79,15 @@ impl Model for Hold {
 
     ghost Value = { InHand };
 
-    ghost view = { λ h. record { grid = h.grid; places = shown h.places.items; room = record { swap = option_map (λ e. (e.gone.items, e.fresh.items)) h.exchange; push = h.note } } };
+    ghost view = { λ h. record {
+      grid = h.grid;
+      places = shown h.places.items;
+      room = record { swap = option_map (λ e. (e.gone.items, e.fresh.items)) h.exchange; push = h.note };
+    } };
 
-    ghost invariant = { λ h. (length h.places.items ≡ h.grid * h.grid * h.grid) × IfSome h.exchange (λ e. IsReady h.grid e.gone.items e.fresh.items h.places.items e.plans.items) × IfSome h.note (λ p. IsNoteReady h.grid h.places.items p) × StandAtPlaces h.grid (shown h.places.items) };
+    ghost invariant = { λ h. (length h.places.items ≡ h.grid * h.grid * h.grid)
+        × IfSome h.exchange (λ e. IsReady h.grid e.gone.items e.fresh.items h.places.items e.plans.items)
+        × IfSome h.note (λ p. IsNoteReady h.grid h.places.items p) × StandAtPlaces h.grid (shown h.places.items) };
 }
 
 impl Hold {
@@ -106,7 +146,10 @@ impl Hold {
         requires below { b < length self.old.places }
         requires absent { bucket_at self.old.places b ≡ None }
         requires place { FitsPlace self.old.grid b (content_of bucket) }
-        ensures { self.new ≡ record self.old { places = slice_set self.old.places b (Some (at_place self.old.grid b (content_of bucket))) } }
+        ensures { self.new ≡ record self.old {
+          places = slice_set self.old.places b
+              (Some (at_place self.old.grid b (content_of bucket)));
+        } }
     {
         self.places[b as usize] = Some(bucket.placed(self.grid, b));
     }
@@ -154,36 +197,44 @@ impl Hold {
     /// They are all cells of the complex that have the point, for every set that the hold shows.
     pub fn cells_at(&self, p: Point) -> Star<'_>
         requires { IsSome (bucket_at self.now.places (number_of self.now.grid p)) }
-        ensures in_bucket { cells_left result ≡ filter (λ c. is_among p (points_of c)) (cells_in self.now.places (number_of self.now.grid p)) }
-        ensures in_complex { (s : List ℕ) → Shows self.now s → cells_left result ≡ filter (λ c. is_among p (points_of c)) (complex s) }
+        ensures in_bucket { cells_left result ≡ filter (λ c. is_among p (points_of c))
+            (cells_in self.now.places (number_of self.now.grid p)) }
+        ensures in_complex { (s : List ℕ) → Shows self.now s → cells_left result
+            ≡ filter (λ c. is_among p (points_of c)) (complex s) }
     {
         let b = self.grid().bucket_of(p);
         self.bucket(b).cells_at(p)
     }
 
-    /// What `cells_at` gives, by a search whose comparisons are counted. The hold is to show some set, and the point's bucket is to
-    /// be in hand.
+    /// What `cells_at` gives, by a search whose comparisons are counted. The hold is to show some set, and the
+    /// point's bucket is to be in hand.
     ///
     /// Where the bucket has n points, it takes k comparisons, with 2^k at most 2n + 1.
     pub fn star_counted<L: Ledger>(&self, p: Point, steps: &mut Steps<L>) -> Star<'_>
         requires shown { ShowsSome self.now }
         requires bucket { IsSome (bucket_at self.now.places (number_of self.now.grid p)) }
-        ensures in_bucket { cells_left result ≡ filter (λ c. is_among p (points_of c)) (cells_in self.now.places (number_of self.now.grid p)) }
-        ensures in_complex { (s : List ℕ) → Shows self.now s → cells_left result ≡ filter (λ c. is_among p (points_of c)) (complex s) }
+        ensures in_bucket { cells_left result ≡ filter (λ c. is_among p (points_of c))
+            (cells_in self.now.places (number_of self.now.grid p)) }
+        ensures in_complex { (s : List ℕ) → Shows self.now s → cells_left result
+            ≡ filter (λ c. is_among p (points_of c)) (complex s) }
         ensures rises { steps.old ≤ steps.new }
-        ensures cost { 2 ^ (steps.new - steps.old) ≤ 2 * length (points_in self.now.places (number_of self.now.grid p)) + 1 }
+        ensures cost { 2 ^ (steps.new - steps.old) ≤ 2 * length
+            (points_in self.now.places (number_of self.now.grid p)) + 1 }
     {
         let b = self.grid().bucket_of(p);
         self.bucket(b).star_counted(p, steps)
     }
 
-    /// The cells at a point, in any order, for those who need none: each is given at once. The point's bucket is to be in hand.
+    /// The cells at a point, in any order, for those who need none: each is given at once. The point's bucket is to
+    /// be in hand.
     ///
     /// They are all cells of the complex that have the point, for every set that the hold shows.
     pub fn cells_around(&self, p: Point) -> StarCells<'_>
         requires { IsSome (bucket_at self.now.places (number_of self.now.grid p)) }
-        ensures in_bucket { (c : Cell) → IsIn c (cells_around result) ↔ IsIn c (filter (λ c. is_among p (points_of c)) (cells_in self.now.places (number_of self.now.grid p))) }
-        ensures in_complex { (s : List ℕ) → Shows self.now s → (c : Cell) → IsIn c (cells_around result) ↔ IsIn c (filter (λ c. is_among p (points_of c)) (complex s)) }
+        ensures in_bucket { (c : Cell) → IsIn c (cells_around result)
+            ↔ IsIn c (filter (λ c. is_among p (points_of c)) (cells_in self.now.places (number_of self.now.grid p))) }
+        ensures in_complex { (s : List ℕ) → Shows self.now s → (c : Cell) → IsIn c (cells_around result)
+            ↔ IsIn c (filter (λ c. is_among p (points_of c)) (complex s)) }
     {
         let b = self.grid().bucket_of(p);
         self.bucket(b).cells_around(p)
@@ -191,7 +242,8 @@ impl Hold {
 
     // One of the points whose bucket is in hand, if there is one.
     pub(crate) fn point_among(&self, points: &[Point]) -> Option<Point>
-        ensures { MatchOption result (NoneInHand self.now points.now) (λ p. IsIn p points.now × IsInHandFor self.now points.now (number_of self.now.grid p)) }
+        ensures { MatchOption result (NoneInHand self.now points.now) (λ p. IsIn p points.now
+            × IsInHandFor self.now points.now (number_of self.now.grid p)) }
     {
         let grid = self.grid();
         for p in points {
@@ -203,8 +255,8 @@ impl Hold {
         None
     }
 
-    /// What lies across a facet of a cell of the complex of a set that the hold shows: the other cell on the facet, or the bucket
-    /// of its least point where the bucket of none of its points is in hand.
+    /// What lies across a facet of a cell of the complex of a set that the hold shows: the other cell on the facet,
+    /// or the bucket of its least point where the bucket of none of its points is in hand.
     pub fn across(&self, cell: &Cell, facet: &Facet) -> Across<'_>
         requires shown { ShowsWith self.now cell.now }
         requires facet { IsIn facet.now (facets_of cell.now) }
@@ -216,7 +268,7 @@ impl Hold {
                 .bucket(self.grid().bucket_of(p))
                 .other_at(p, cell, facet)
             {
-                Some(other) => Across::Cell(other),
+                Some(other) => Across::Cell(other.cell),
                 None => unreachable!(),
             },
             None => match points {
@@ -267,7 +319,7 @@ impl Hold {
         let b = self.grid().bucket_of(p);
         let bucket = self.bucket(b);
         match bucket.other_at(p, spot.cell(), facet) {
-            Some(other) => Spot::new(*other, b, bucket.place_at(p, other)),
+            Some(other) => Spot::new(*other.cell, b, other.place),
             None => unreachable!(),
         }
     }
@@ -306,8 +358,8 @@ impl Hold {
         points.iter().all(|p| self.has(grid.bucket_of(*p)))
     }
 
-    /// Makes room for one exchange of the gone for the fresh cells and for one entry of the point, which then take no memory. The
-    /// buckets of all finite vertices of the cells, and of the point, are to be in hand.
+    /// Makes room for one exchange of the gone for the fresh cells and for one entry of the point, which then take no
+    /// memory. The buckets of all finite vertices of the cells, and of the point, are to be in hand.
     ///
     /// # Errors
     /// Want of memory. The room is then as before.
@@ -321,7 +373,8 @@ impl Hold {
         requires gone { AreHeld self.old gone.now }
         requires fresh { AreHeld self.old fresh.now }
         requires point { IsSome (bucket_at self.old.places (number_of self.old.grid p)) }
-        ensures ok { OnOk result (self.new ≡ record self.old { room = record { swap = Some (gone.now, fresh.now); push = Some p } }) }
+        ensures ok { OnOk result (self.new ≡ record self.old
+            { room = record { swap = Some (gone.now, fresh.now); push = Some p } }) }
         ensures err { OnErr result (self.new ≡ self.old) }
     {
         let exchange = Exchange::new(alloc, self.grid(), &self.places, gone, fresh)?;
@@ -332,8 +385,8 @@ impl Hold {
         Ok(())
     }
 
-    /// Takes the gone cells out of the buckets of their finite vertices, and puts the fresh ones in. There is to be room for this
-    /// exchange, which it uses up. It takes no memory.
+    /// Takes the gone cells out of the buckets of their finite vertices, and puts the fresh ones in. There is to be
+    /// room for this exchange, which it uses up. It takes no memory.
     pub fn swap_cells(&mut self, gone: &[Cell], fresh: &[Cell])
         requires { self.old.room.swap ≡ Some (gone.now, fresh.now) }
         ensures swapped { IsSwapped gone.now fresh.now self.old self.new }
@@ -344,8 +397,8 @@ impl Hold {
         }
     }
 
-    /// Puts the entry last in the bucket of its point, and the point in or out as its reply says. There is to be room for an entry
-    /// of this point, which it uses up. It takes no memory.
+    /// Puts the entry last in the bucket of its point, and the point in or out as its reply says. There is to be room
+    /// for an entry of this point, which it uses up. It takes no memory.
     pub fn push_entry(&mut self, entry: Entry)
         requires { self.old.room.push ≡ Some (point_of entry.edit) }
         ensures noted { IsNoted entry self.old self.new }

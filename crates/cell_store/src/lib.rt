@@ -1,7 +1,7 @@
 //! The mesh as buckets of a grid, and holds of the buckets in hand.
 //!
-//! The definitions stand in `specs/`: the bucket of a point, the share that a bucket has of a history, when a hold stands for a
-//! history and when it shows a set, and which buckets an edit touches.
+//! The definitions stand in `specs/`: the bucket of a point, the share that a bucket has of a history, when a hold
+//! stands for a history and when it shows a set, and which buckets an edit touches.
 //!
 //! ```
 //! let b = hold.grid().bucket_of(p);

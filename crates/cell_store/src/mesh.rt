@@ -32,7 +32,8 @@ impl Model for Mesh {
 
     ghost view = { λ m. mesh_in m.hold };
 
-    ghost invariant = { λ m. IsHoldOf (mesh_in m.hold) m.hold × (m.count ≡ counted (length (history_in m.hold.places))) };
+    ghost invariant = { λ m. IsHoldOf (mesh_in m.hold) m.hold
+        × (m.count ≡ counted (length (history_in m.hold.places))) };
 }
 
 impl Mesh {
@@ -66,7 +67,8 @@ impl Mesh {
         self.hold.bucket(b)
     }
 
-    /// How many entries there are so far. Where they are more than 64 bits can count, it is the greatest number of 64 bits.
+    /// How many entries there are so far. Where they are more than 64 bits can count, it is the greatest number of 64
+    /// bits.
     pub fn count(&self) -> u64
         ensures count { result ≡ counted (length self.now.history) }
         ensures sound { IsSound self.now.history }
@@ -74,8 +76,9 @@ impl Mesh {
         self.count
     }
 
-    /// Makes the change that an entry makes of the mesh: takes the gone cells out, puts the fresh ones in, and puts the entry last
-    /// and its point in or out as its reply says. The entry is to follow the history, with exactly this change of cells.
+    /// Makes the change that an entry makes of the mesh: takes the gone cells out, puts the fresh ones in, and puts
+    /// the entry last and its point in or out as its reply says. The entry is to follow the history, with exactly
+    /// this change of cells.
     ///
     /// # Errors
     /// Want of memory. The mesh is then as before.

@@ -6,7 +6,20 @@ ghost use Rattle.point_order.specs.Sets.{IsIn, IsAscending};
 ghost use Rattle.cell_stars.specs.Gathering.{Gathers};
 ghost use Rattle.cell_stars.specs.Plans.{Allows};
 ghost use Rattle.cell_store.specs.Buckets.{layout_at};
-ghost use Rattle.cell_store.specs.Ready.{AreApart, AreInHand, AreRoomier, HasNumber, HasRoom, IsAllowed, IsNumberOf, IsReady, IsReadyFor, carried, given, numbers_of};
+ghost use Rattle.cell_store.specs.Ready.{
+  AreApart,
+  AreInHand,
+  AreRoomier,
+  HasNumber,
+  HasRoom,
+  IsAllowed,
+  IsNumberOf,
+  IsReady,
+  IsReadyFor,
+  carried,
+  given,
+  numbers_of,
+};
 ghost use Rattle.cell_store.specs.declared.room.PlanFor.{PlanFor};
 
 use crate::bucket::Bucket;
@@ -72,7 +85,8 @@ fn add_numbers(numbers: &mut Vec<u32>, grid: Grid, cells: &[Cell]) -> Result<(),
 // The numbers of the buckets that an exchange touches, ascending.
 fn touched(alloc: Global, grid: Grid, gone: &[Cell], fresh: &[Cell]) -> Result<Vec<u32>, AllocError>
     ensures order { IfOk result (λ numbers. IsAscending numbers.items) }
-    ensures numbers { IfOk result (λ numbers. (b : ℕ) → IsIn b numbers.items ↔ (IsIn b (numbers_of grid gone.now) ⊎ IsIn b (numbers_of grid fresh.now))) }
+    ensures numbers { IfOk result (λ numbers. (b : ℕ) → IsIn b numbers.items
+        ↔ (IsIn b (numbers_of grid gone.now) ⊎ IsIn b (numbers_of grid fresh.now))) }
 {
     let mut numbers = Vec::with_capacity(alloc, EARLY)?;
     add_numbers(&mut numbers, grid, gone)?;

@@ -5,9 +5,11 @@ ghost use Rattle.std.specs.Prelude.{◌≡◌};
 use point_order::Cell;
 use std::marker::Model;
 
-/// A cell at hand: beside it stands where it is likely to be found, so that what lies across its facets is found without a search.
+/// A cell at hand: beside it stands where it is likely to be found, so that what lies across its facets is found
+/// without a search.
 ///
-/// Contracts see it as the cell. It may outlive changes of the hold, since what stands at a place is looked at before it is believed.
+/// Contracts see it as the cell. It may outlive changes of the hold, since what stands at a place is looked at before
+/// it is believed.
 #[derive(Debug, Drop)]
 pub struct Spot {
     cell: Cell,

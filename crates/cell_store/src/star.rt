@@ -3,14 +3,14 @@
 ghost use Rattle.std.specs.Prelude.{◌≡◌, ◌↔◌, IsTrue, MatchOption};
 ghost use Rattle.point_order.specs.Sets.{IsIn};
 ghost use Rattle.point_order.specs.Facets.{facets_of};
-ghost use Rattle.point_order.specs.declared.cell.Cell.TheVariants.{Full};
-ghost use Rattle.point_order.specs.declared.cell.Facet.TheVariants.{Three};
+ghost use Rattle.point_order.specs.declared.cell.Cell.TheVariants.{Full, Open};
+ghost use Rattle.point_order.specs.declared.cell.Facet.TheVariants.{Three, Two};
 ghost use Rattle.cell_store.specs.Shares.{points_on};
 ghost use Rattle.cell_stars.specs.Stars.{cells_around};
 ghost use Rattle.cell_store.specs.Others.{IsOtherOf, HaveNoOther};
 
 use cell_stars::{StarCells, are_same};
-use point_order::{Cell, Facet, Point, Quad, Tri};
+use point_order::{Cell, Facet, Pair, Point, Quad, Tri};
 
 /// What lies across a facet.
 #[derive(Clone, Copy, Debug)]
@@ -48,11 +48,26 @@ fn has_triple(quad: &Quad, tri: &Tri) -> bool
     }
 }
 
-// Whether the facet is one of the cell's, by a look at each of them.
-fn is_facet_of(cell: &Cell, facet: &Facet) -> bool
-    ensures { IsTrue result ↔ IsIn facet.now (facets_of cell.now) }
+// Whether the pair is one of an Open cell's three.
+fn has_pair(tri: &Tri, pair: &Pair) -> bool
+    ensures { IsTrue result ↔ IsIn (Two pair.now) (facets_of (Open tri.now)) }
 {
-    cell.facets().contains(facet)
+    let (a, b, c) = tri.corners();
+    let (x, y) = pair.corners();
+    if a == x {
+        b == y || c == y
+    } else {
+        b == x && c == y
+    }
+}
+
+// Whether the triple is an Open cell's.
+fn is_triple(tri: &Tri, other: &Tri) -> bool
+    ensures { IsTrue result ↔ IsIn (Three other.now) (facets_of (Open tri.now)) }
+{
+    let (a, b, c) = tri.corners();
+    let (x, y, z) = other.corners();
+    a == x && b == y && c == z
 }
 
 // Whether the cell is on the facet.
@@ -62,17 +77,33 @@ pub(crate) fn is_on(cell: &Cell, facet: &Facet) -> bool
     match (cell, facet) {
         (Cell::Full(quad), Facet::Three(tri)) => has_triple(quad, tri),
         (Cell::Full(_), Facet::Two(_)) => false,
-        _ => is_facet_of(cell, facet),
+        (Cell::Open(tri), Facet::Three(other)) => is_triple(tri, other),
+        (Cell::Open(tri), Facet::Two(pair)) => has_pair(tri, pair),
     }
 }
 
+// A cell on a facet, and the place at which it stands in its bucket.
+#[derive(Clone, Copy, Debug)]
+pub(crate) struct Other<'a> {
+    pub(crate) cell: &'a Cell,
+    pub(crate) place: u32,
+}
+
 // A cell on the facet other than the given one, if there is one among these.
-pub(crate) fn other_among<'a>(around: StarCells<'a>, cell: &Cell, facet: &Facet) -> Option<&'a Cell>
-    ensures { MatchOption result (HaveNoOther (cells_around around.entry) cell.now facet.now) (λ c. IsOtherOf (cells_around around.entry) cell.now facet.now c.now) }
+pub(crate) fn other_among<'a>(
+    mut around: StarCells<'a>,
+    cell: &Cell,
+    facet: &Facet,
+) -> Option<Other<'a>>
+    ensures { MatchOption result (HaveNoOther (cells_around around.entry) cell.now facet.now)
+        (λ o. IsOtherOf (cells_around around.entry) cell.now facet.now o.cell.now) }
 {
-    for c in around {
+    while let Some(c) = around.next() {
         if is_on(c, facet) && !are_same(c, cell) {
-            return Some(c);
+            return Some(Other {
+                cell: c,
+                place: around.place(),
+            });
         }
     }
     None

@@ -17,5 +17,5 @@ unreachable-requires c =
 pub returns-in-Some-other_at : goal.returns-in-Some-other_at
 returns-in-Some-other_at c = (
   (bucket_of c.args.self.now.grid c.in-Some.p, subst (λ (l : List ℕ). IsInHandFor c.args.self.now l (bucket_of c.args.self.now.grid c.in-Some.p)) c.facet_points-points.ensures c.in-Some.ensures.1),
-  across_is c.args.self.now c.args.cell.now c.args.facet.now c.bucket_of.result (content_of c.bucket.result.now) (content_of c.bucket.result.now).cells c.in-Some-other_at.other.now c.bucket.ensures.bucket refl c.in-Some-other_at.ensures,
+  across_is c.args.self.now c.args.cell.now c.args.facet.now c.bucket_of.result (content_of c.bucket.result.now) (content_of c.bucket.result.now).cells c.in-Some-other_at.other.cell.now c.bucket.ensures.bucket refl c.in-Some-other_at.ensures,
 )

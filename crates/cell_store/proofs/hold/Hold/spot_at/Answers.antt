@@ -18,7 +18,7 @@ unreachable-requires c =
 pub returns : goal.returns
 returns c =
     let b = content_of c.bucket-bucket.result.now in
-    let other = c.in-Some.other.now in
+    let other = c.in-Some.other.cell.now in
     let is = subst (λ (d : Cell). IsOtherOf b.cells d c.args.facet.now other) c.cell.ensures c.in-Some.ensures in
     subst (IsAcrossIn c.args.self.now c.args.spot.now c.args.facet.now) (sym c.new.ensures)
     (across_is c.args.self.now c.args.spot.now c.args.facet.now c.bucket_of-b.result b b.cells other c.bucket-bucket.ensures.bucket refl is)
