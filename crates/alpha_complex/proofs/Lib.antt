@@ -2,6 +2,7 @@ pub mod Searches
 pub mod Leasts
 pub mod Listing
 pub mod KindSteps
+pub mod SlotLaws
 pub mod Parts
 pub mod SmallFaces
 pub mod Admission

@@ -4,7 +4,7 @@ use Rattle.std.specs.List.{AllZip}
 use Rattle.point_order.specs.declared.cell.Cell.{Cell}
 use Rattle.point_order.specs.Complex.{complex}
 use Rattle.point_order.specs.Sets.{IsIn, IsAscending}
-use Rattle.face_list.specs.Faces.{cells_with, parts_in, points_in, points_with_cells, with_cells}
+use Rattle.face_list.specs.Faces.{cells_with, parts_in, points_with_cells, with_cells}
 use Rattle.face_list.specs.Seen.{FaceLists}
 use Rattle.face_list.proofs.Cited.{points_of_complex}
 use Rattle.alpha_complex.specs.declared.numbers.FaceAlphas.{FaceAlphas}

@@ -1,4 +1,5 @@
--- Which faces of the complex of a set are admitted at alpha, and of which kind they are. A set is an ascending list of keys.
+-- Which faces of the complex of a set are admitted at alpha, and of which kind they are. A set is an ascending list
+-- of keys.
 use Rattle.std.specs.Prelude.{ℕ, Bool, true, false, ◌&&◌, List, [], ◌∷◌, ◌++◌, if◌then◌else◌}
 use Rattle.std.specs.List.{list_all, list_any}
 use Rattle.point_order.specs.declared.cell.Cell.{Cell}
@@ -34,14 +35,16 @@ is_small s alpha face = is_gabriel s face && is_within alpha face
 -- a face is admitted where some face of the complex that contains it is Gabriel and within alpha
 unfoldable pub is_admitted : List ℕ → ℕ → List ℕ → Bool
 is_admitted s alpha p =
-    list_any (λ q. list_any (λ face. contains face p && is_small s alpha face) (faces_inside q)) (full_cells (complex s))
+    list_any (λ q. list_any (λ face. contains face p && is_small s alpha face) (faces_inside q))
+    (full_cells (complex s))
 
 -- a cell is admitted where it is Full and its points are
 abbrev pub is_admitted_cell : List ℕ → ℕ → Cell → Bool
 is_admitted_cell s alpha (Full q) = is_admitted s alpha q
 is_admitted_cell s alpha (Open t) = false
 
--- the kind of a face by the cells that contain it: interior where all pass the test, regular where some do, else singular
+-- the kind of a face by the cells that contain it: interior where all pass the test, regular where some do, else
+-- singular
 abbrev pub kind_by : (Cell → Bool) → List Cell → Kind
 kind_by test cells = if list_all test cells then Interior else (if list_any test cells then Regular else Singular)
 

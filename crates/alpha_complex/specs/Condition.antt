@@ -7,8 +7,8 @@ use Rattle.del_laws.specs.Keys.{AreKeys}
 use Rattle.face_list.specs.Faces.{points_in, parts_in, points_with_cells, with_cells}
 use Rattle.face_list.specs.Seen.{FaceLists}
 
--- The faces are what is listed of the complex of s, a solid set: its cells, and points, pairs and triples with the cells that contain
--- them.
+-- The faces are what is listed of the complex of s, a solid set: its cells, and points, pairs and triples with the
+-- cells that contain them.
 pub record AreFacesOf (s : List ℕ) (faces : FaceLists) : Type 0 where
   pub ascending : IsAscending s
   pub keys : AreKeys s

@@ -50,4 +50,5 @@ is_admitted_triple alpha face = list_any (is_small_cell alpha) face.1 || is_smal
 -- some cell within alpha contains the pair, or it is itself Gabriel and within alpha, or a triple that is contains it
 abbrev pub is_admitted_pair : List (List ℕ × List Cell) → ℕ → List ℕ × List Cell → Bool
 is_admitted_pair triples alpha face =
-    list_any (is_small_cell alpha) face.1 || (is_small_by alpha face || list_any (covers (small_among alpha triples) face.0) face.1)
+    list_any (is_small_cell alpha) face.1 || (is_small_by alpha face
+    || list_any (covers (small_among alpha triples) face.0) face.1)

@@ -1,5 +1,21 @@
 -- The least alphas from which on a test passes. Every alpha is below 2^30.
-use Rattle.std.specs.Prelude.{◌≡◌, ℕ, ◌<◌, ◌^◌, nat_le, Bool, true, List, [], map, slice_index_or, if◌then◌else◌}
+use Rattle.std.specs.Prelude.{
+  ◌≡◌,
+  ℕ,
+  ◌<◌,
+  ◌^◌,
+  nat_le,
+  Bool,
+  true,
+  List,
+  [],
+  map,
+  slice_index_or,
+  Option,
+  None,
+  Some,
+  if◌then◌else◌,
+}
 use Rattle.std.specs.List.{AllZip, list_all, list_any}
 use Rattle.std.specs.List.Sorted.{IsStrictlySortedBy}
 use Rattle.std.specs.Ordering.{nat_cmp}
@@ -20,9 +36,10 @@ IsLeastOf test n = (alpha : ℕ) → alpha < 2 ^ 30 → test alpha ≡ nat_le n 
 abbrev pub AreLeastOf : {X : Type 0} → (ℕ → X → Bool) → List X → List ℕ → Type 0
 AreLeastOf test xs ns = AllZip (λ x n. IsLeastOf (λ alpha. test alpha x) n) xs ns
 
--- The numbers of a face, beside the cells that contain it: the least alpha at which it passes the test, at which some of the cells is
--- Full and within alpha, and at which all of them are.
-pub record AreAlphasOf {X : Type 0} (admits : ℕ → X × List Cell → Bool) (f : X × List Cell) (a : FaceAlphas) : Type 0 where
+-- The numbers of a face, beside the cells that contain it: the least alpha at which it passes the test, at which some
+-- of the cells is Full and within alpha, and at which all of them are.
+pub record AreAlphasOf {X : Type 0} (admits : ℕ → X × List Cell → Bool) (f : X × List Cell)
+    (a : FaceAlphas) : Type 0 where
   pub admitted : IsLeastOf (λ alpha. admits alpha f) a.admitted
   pub regular : IsLeastOf (λ alpha. list_any (is_small_cell alpha) f.1) a.regular
   pub interior : IsLeastOf (λ alpha. list_all (is_small_cell alpha) f.1) a.interior
@@ -55,6 +72,10 @@ pub record AreKnown (known : Alphas) : Type 0 where
 -- the kind that the numbers of a face tell at an alpha
 abbrev pub kind_at : FaceAlphas → ℕ → Kind
 kind_at a alpha = if nat_le a.interior alpha then Interior else (if nat_le a.regular alpha then Regular else Singular)
+
+-- and where it is admitted
+abbrev pub kind_where : FaceAlphas → ℕ → Option Kind
+kind_where a alpha = if nat_le a.admitted alpha then Some (kind_at a alpha) else None
 
 -- the face of an index, beside the cells that contain it
 abbrev pub face_at : List (List ℕ × List Cell) → ℕ → List ℕ × List Cell

@@ -1,4 +1,6 @@
 pub mod Admitted
+pub mod Slots
+pub mod Seen
 pub mod Shapes
 pub mod Condition
 pub mod Judged

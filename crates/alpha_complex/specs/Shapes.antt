@@ -4,8 +4,8 @@ use Rattle.std.specs.List.{filter}
 use Rattle.point_order.specs.Complex.{complex}
 use Rattle.face_list.specs.Faces.{full_cells, parts_in}
 use Rattle.alpha_complex.specs.declared.shape.Kind.{Kind}
-use Rattle.alpha_complex.specs.declared.shape.Shape.{Shape}
 use Rattle.alpha_complex.specs.Admitted.{is_admitted, kind}
+use Rattle.alpha_complex.specs.Slots.{ShapeSlots, held}
 
 -- admitted faces with their kinds, and the admitted cells
 pub record ShapeParts : Type 0 where
@@ -28,7 +28,11 @@ shape_of s alpha =
       cells = filter (is_admitted s alpha) (full_cells (complex s));
     }
 
--- what a shape says
-abbrev pub shape_seen : Shape → ShapeParts
-shape_seen shape =
-    record { points = shape.points.items; pairs = shape.pairs.items; triples = shape.triples.items; cells = shape.cells.items }
+-- what a shape says: all its points, and what its slots hold
+abbrev pub shape_seen : ShapeSlots → ShapeParts
+shape_seen shape = record {
+  points = shape.points;
+  pairs = held shape.pairs;
+  triples = held shape.triples;
+  cells = held shape.cells;
+}

@@ -2,7 +2,17 @@
 
 ghost use Rattle.std.specs.Prelude.{◌≡◌, ◌<◌, ◌^◌, length, IfOk};
 ghost use Rattle.alpha_complex.specs.Judged.{is_small_by, is_small_cell, is_admitted_triple, is_admitted_pair};
-ghost use Rattle.alpha_complex.specs.Leasts.{AreAlphas, AreAlphasOf, AreLeastOf, AreOrdered, AreOwn, IsLeastOf, face_at, is_admitted_point, point_at};
+ghost use Rattle.alpha_complex.specs.Leasts.{
+  AreAlphas,
+  AreAlphasOf,
+  AreLeastOf,
+  AreOrdered,
+  AreOwn,
+  IsLeastOf,
+  face_at,
+  is_admitted_point,
+  point_at,
+};
 
 use crate::covers::cover_least;
 use crate::numbers::FaceAlphas;
@@ -14,12 +24,13 @@ use rayon::prelude::*;
 use std::alloc::{AllocError, Global};
 use std::thread::Threads;
 
-/// The least alphas at which the cells and the triples of a complex are within alpha, the triples where they are Gabriel, each by itself.
+/// The least alphas at which the cells and the triples of a complex are within alpha, the triples where they are
+/// Gabriel, each by itself.
 #[derive(Drop)]
 pub struct OwnAlphas<'a, 'b> {
     pub faces: &'a Faces<'b>,
-    pub cells: Vec<u64>,
-    pub triples: Vec<u64>,
+    pub cells: Vec<u32>,
+    pub triples: Vec<u32>,
 }
 
 // The least alpha of each cell.
@@ -27,13 +38,13 @@ fn own_of_cells<R: Threads + Sync>(
     rt: &R,
     alloc: Global,
     cells: &[Cell],
-) -> Result<Vec<u64>, AllocError>
+) -> Result<Vec<u32>, AllocError>
     ensures { IfOk result (λ v. AreLeastOf is_small_cell cells.now v.items) }
 {
     cells
         .par_iter()
         .map(
-            |cell: &Cell| -> u64
+            |cell: &Cell| -> u32
                 ensures { IsLeastOf (λ alpha. is_small_cell alpha cell.now) result }
             { cell_least_of(cell) },
         )
@@ -41,7 +52,7 @@ fn own_of_cells<R: Threads + Sync>(
 }
 
 // The least alpha at which a triple is itself Gabriel and within alpha.
-fn own_of_triple(faces: &Faces, index: usize) -> u64
+fn own_of_triple(faces: &Faces, index: usize) -> u32
     requires { index < length faces.now.triples }
     ensures { IsLeastOf (λ alpha. is_small_by alpha (face_at faces.now.triples index)) result }
 {
@@ -54,13 +65,13 @@ fn own_of_triples<R: Threads + Sync>(
     rt: &R,
     alloc: Global,
     faces: &Faces,
-) -> Result<Vec<u64>, AllocError>
+) -> Result<Vec<u32>, AllocError>
     ensures { IfOk result (λ v. AreLeastOf is_small_by faces.now.triples v.items) }
 {
     (0..faces.triples().len())
         .into_par_iter()
         .map(
-            |index: usize| -> u64
+            |index: usize| -> u32
                 requires { index < length faces.now.triples }
                 ensures { IsLeastOf (λ alpha. is_small_by alpha (face_at faces.entry.now.triples index)) result }
             { own_of_triple(faces, index) },
@@ -178,14 +189,16 @@ pub fn alphas_of_pairs<R: Threads + Sync>(
     own: &OwnAlphas,
 ) -> Result<Vec<FaceAlphas>, AllocError>
     requires { AreOwn own.now }
-    ensures { IfOk result (λ v. AreAlphas (is_admitted_pair own.now.faces.now.triples) own.now.faces.now.pairs v.items) }
+    ensures { IfOk result (λ v. AreAlphas (is_admitted_pair own.now.faces.now.triples) own.now.faces.now.pairs
+        v.items) }
 {
     (0..own.faces.pairs().len())
         .into_par_iter()
         .map(
             |index: usize| -> FaceAlphas
                 requires { AreOwn own.now × (index < length own.now.faces.now.pairs) }
-                ensures { AreAlphasOf (is_admitted_pair own.entry.now.faces.now.triples) (face_at own.entry.now.faces.now.pairs index) result }
+                ensures { AreAlphasOf (is_admitted_pair own.entry.now.faces.now.triples)
+                    (face_at own.entry.now.faces.now.pairs index) result }
             { alphas_of_pair(own, index) },
         )
         .collect(rt, alloc)

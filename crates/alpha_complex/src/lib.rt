@@ -1,8 +1,9 @@
 //! The alpha complex of a set of points: the admitted faces of its Delaunay complex, each with its kind.
 //!
-//! Alpha is a squared radius, as in `Alpha_shape_3` of CGAL. A face of the complex is admitted where some face that contains
-//! it is Gabriel and has a smallest circumscribing sphere of a squared radius of at most alpha (Edelsbrunner and Mücke,
-//! Three-dimensional alpha shapes, 1994). The kinds are judged by cells alone. The definitions stand in `specs/Admitted.antt`.
+//! Alpha is a squared radius, as in `Alpha_shape_3` of CGAL. A face of the complex is admitted where some face that
+//! contains it is Gabriel and has a smallest circumscribing sphere of a squared radius of at most alpha (Edelsbrunner
+//! and Mücke, Three-dimensional alpha shapes, 1994). The kinds are judged by cells alone. The definitions stand in
+//! `specs/Admitted.antt`.
 //!
 //! ```
 //! let faces = faces(rt, alloc, &cells)?;       // of the sorted cells of a complex
@@ -10,7 +11,12 @@
 //! let known = alphas(rt, alloc, &faces)?;      // for several: the least alphas of all faces, made once
 //! for radius in [100, 200, 300] {
 //!     let shape = known.shape(alloc, radius)?;
-//!     println!(rt; "{radius}: {} edges, {} cells", shape.pairs.len(), shape.cells.len())?;
+//!     println!(rt; "{radius}: {} edges, {} cells", shape.pair_count(), shape.cell_count())?;
+//!     for index in 0..shape.triple_slots() {
+//!         if let Some((triple, kind)) = shape.triple(index) {
+//!             println!(rt; "{triple} {kind:?}")?;
+//!         }
+//!     }
 //! }
 //! ```
 #![tactic(auto)]
@@ -18,7 +24,7 @@
 ghost use Rattle.std.specs.Prelude.{◌≡◌, ◌<◌, ◌^◌, ℕ, List, IfOk};
 ghost use Rattle.alpha_complex.specs.Condition.{AreFaces, AreFacesOf};
 ghost use Rattle.alpha_complex.specs.Leasts.{AreKnown};
-ghost use Rattle.alpha_complex.specs.Shapes.{shape_of};
+ghost use Rattle.alpha_complex.specs.Shapes.{shape_of, shape_seen};
 ghost use Rattle.alpha_complex.specs.Told.{TellsFaces};
 
 mod covers;
@@ -36,11 +42,12 @@ pub use shape::{Kind, Shape};
 use std::alloc::{AllocError, Global};
 use std::thread::Threads;
 
-/// The least alphas of all faces of a complex, made once for any number of alphas: at which a face is admitted, and some and all of the
-/// cells that contain it are.
+/// The least alphas of all faces of a complex, made once for any number of alphas: at which a face is admitted, and
+/// some and all of the cells that contain it are.
 ///
-/// The faces are what `face_list::faces` gives of the complex of a solid set, its cells in order. Each Gabriel test is made once, and each
-/// squared radius is taken once, by several threads, as many as there are processors; the numbers are those that one thread would give.
+/// The faces are what `face_list::faces` gives of the complex of a solid set, its cells in order. Each Gabriel test
+/// is made once, and each squared radius is taken once, by several threads, as many as there are processors; the
+/// numbers are those that one thread would give.
 ///
 /// # Errors
 /// Want of memory.
@@ -64,27 +71,32 @@ pub fn alphas<'a, 'b, R: Threads + Sync>(
     })
 }
 
-/// The alpha complex for one alpha, a squared radius below 2^30: all points, and the admitted pairs, triples and Full cells, each
-/// list in order, and each point, pair and triple with its kind.
+/// The alpha complex for one alpha, a squared radius below 2^30: all points, and the admitted pairs, triples and Full
+/// cells, each list in order, and each point, pair and triple with its kind. It borrows the faces.
 ///
 /// The faces are what `face_list::faces` gives of the complex of a solid set, its cells in order.
 ///
-/// It makes the numbers of all faces, as `alphas` does, and compares them: for several alphas `alphas` is to be called once.
+/// It makes the numbers of all faces, as `alphas` does, and compares them: for several alphas `alphas` is to be
+/// called once.
 ///
 /// # Errors
 /// Want of memory.
-pub fn alpha<R: Threads + Sync>(
+pub fn alpha<'a, 'b, R: Threads + Sync>(
     rt: &R,
     alloc: Global,
-    faces: &Faces,
+    faces: &'a Faces<'b>,
     alpha: u64,
-) -> Result<Shape, AllocError>
+) -> Result<Shape<'a, 'b>, AllocError>
     requires faces { AreFaces faces.now }
     requires alpha { alpha < 2 ^ 30 }
-    ensures points { IfOk result (λ shape. (s : List ℕ) → AreFacesOf s faces.now → shape.points.items ≡ (shape_of s alpha).points) }
-    ensures pairs { IfOk result (λ shape. (s : List ℕ) → AreFacesOf s faces.now → shape.pairs.items ≡ (shape_of s alpha).pairs) }
-    ensures triples { IfOk result (λ shape. (s : List ℕ) → AreFacesOf s faces.now → shape.triples.items ≡ (shape_of s alpha).triples) }
-    ensures cells { IfOk result (λ shape. (s : List ℕ) → AreFacesOf s faces.now → shape.cells.items ≡ (shape_of s alpha).cells) }
+    ensures points { IfOk result (λ shape. (s : List ℕ) → AreFacesOf s faces.now → (shape_seen shape).points
+        ≡ (shape_of s alpha).points) }
+    ensures pairs { IfOk result (λ shape. (s : List ℕ) → AreFacesOf s faces.now → (shape_seen shape).pairs
+        ≡ (shape_of s alpha).pairs) }
+    ensures triples { IfOk result (λ shape. (s : List ℕ) → AreFacesOf s faces.now → (shape_seen shape).triples
+        ≡ (shape_of s alpha).triples) }
+    ensures cells { IfOk result (λ shape. (s : List ℕ) → AreFacesOf s faces.now → (shape_seen shape).cells
+        ≡ (shape_of s alpha).cells) }
 {
     let known = alphas(rt, alloc, faces)?;
     known.shape(alloc, alpha)

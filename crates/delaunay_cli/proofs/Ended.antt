@@ -94,6 +94,10 @@ reads-front old new r =
       past = λ e. absurd (elim (r.past e) [ inl a ↦ omega (arith, a) | inr a ↦ omega (arith, a) ]);
     }
 
+-- and so where memory is wanting then
+reads-stopped : (old new : Option (List ℕ)) → Reads old new 0 → Reads old new 1
+reads-stopped old new r = record { taken = r.taken; consumed = r.consumed; within = r.within; whole = λ late. absurd (late (inl refl)); past = λ e. inr refl }
+
 module _ (words : List (String Global)) (left_old left_new : Option (List ℕ)) (read_failed : Type 0) (held holds : Option (List ℕ)) (write_failed : Type 0) where
   -- a run that stopped before a write
   unmade : (status : ℕ) → (status ≤ 7) × (status ≢ 0) × (status ≢ 4) → (status ≢ 1 → status ≡ 2 ↔ (AreTaken words → ⊥)) → (status ≡ 3 → read_failed)
@@ -156,34 +160,45 @@ module _ (words : List (String Global)) (left_old left_new : Option (List ℕ)) 
   -- the end of a run, of what was made and how the write ended
   pub ends : (m : Result Made Stop) (stop : Option Stop) (status : ℕ) (h : List Entry) → IfOk m IsSound → IfOk m (λ made. IsMade words left_old made.kept.items (text_of_page made.page)) → IfErr m (IsUnmade words left_old read_failed)
       → (ReadsFile words → Reads left_old left_new (status_of_made m)) → (ReadsFile words → IsOk m → IsAtEnd left_new) → status ≡ status_of_end stop
-      → IfOk m (λ made. (h ≡ made.kept.items) × IsPut write_failed held holds (text_of_page made.page) stop) → IfErr m (λ s. (stop ≡ Some s) × (h ≡ []) × Keeps held holds)
+      → IfOk m (λ made. IsPut write_failed held holds (text_of_page made.page) made.kept.items stop h) → IfErr m (λ s. (stop ≡ Some s) × (h ≡ []) × Keeps held holds)
       → Ends words left_old left_new read_failed held holds write_failed status h
   ends (Err s) stop status h sound m u reads end e put stopped_by =
       subst (λ (n : ℕ). Ends words left_old left_new read_failed held holds write_failed n h) (sym (e ∙ ap status_of_end stopped_by.0))
       (subst (λ (k : List Entry). Ends words left_old left_new read_failed held holds write_failed (status_of s) k) (sym stopped_by.1) (stopped s u reads stopped_by.2))
-  ends (Ok v) stop status h sound m u reads end e put stopped_by = subst (λ (k : List Entry). Ends words left_old left_new read_failed held holds write_failed status k) (sym put.0) (by put.1)
+  ends (Ok v) stop status h sound m u reads end e put stopped_by = by put
     where
-      by : IsPut write_failed held holds (text_of_page v.page) stop → Ends words left_old left_new read_failed held holds write_failed status v.kept.items
+      kept : h ≡ v.kept.items → Ends words left_old left_new read_failed held holds write_failed status v.kept.items → Ends words left_old left_new read_failed held holds write_failed status h
+      kept k d = subst (λ (l : List Entry). Ends words left_old left_new read_failed held holds write_failed status l) (sym k) d
+
+      by : IsPut write_failed held holds (text_of_page v.page) v.kept.items stop h → Ends words left_old left_new read_failed held holds write_failed status h
       by (inl w) =
           let z = e ∙ ap status_of_end w.0 in
-          made v.kept.items (text_of_page v.page) sound.legal m (λ r. end r refl) status (inl z) (λ r. subst (λ (n : ℕ). Reads left_old left_new n) (sym z) (reads r)) (λ k. absurd (omega (arith, z, k))) (λ k. w.1) (λ k. absurd (omega (arith, z, k)))
-      by (inr w) =
+          kept w.1 (made v.kept.items (text_of_page v.page) sound.legal m (λ r. end r refl) status (inl z) (λ r. subst (λ (n : ℕ). Reads left_old left_new n) (sym z) (reads r)) (λ k. absurd (omega (arith, z, k))) (λ k. w.2) (λ k. absurd (omega (arith, z, k))))
+      by (inr (inl w)) =
           let z = e ∙ ap status_of_end w.0 in
-          made v.kept.items (text_of_page v.page) sound.legal m (λ r. end r refl) status (inr z) (λ r. subst (λ (n : ℕ). Reads left_old left_new n) (sym z) (reads-front left_old left_new (reads r))) (λ k. w.1) (λ k. absurd (omega (arith, z, k))) (λ k. w.2)
+          kept w.1 (made v.kept.items (text_of_page v.page) sound.legal m (λ r. end r refl) status (inr z) (λ r. subst (λ (n : ℕ). Reads left_old left_new n) (sym z) (reads-front left_old left_new (reads r))) (λ k. w.2) (λ k. absurd (omega (arith, z, k))) (λ k. w.3))
+      by (inr (inr w)) =
+          subst (λ (n : ℕ). Ends words left_old left_new read_failed held holds write_failed n h) (sym (e ∙ ap status_of_end w.0))
+          (subst (λ (l : List Entry). Ends words left_old left_new read_failed held holds write_failed 1 l) (sym w.1) (stopped Memory tt (λ r. reads-stopped left_old left_new (reads r)) w.2))
 
   -- and its line
   pub told : (m : Result Made Stop) (stop : Option Stop) (status : ℕ) (h : List Entry) → IfErr m (IsUnmade words left_old read_failed) → status ≡ status_of_end stop
-      → IfOk m (λ made. (h ≡ made.kept.items) × IsPut write_failed held holds (text_of_page made.page) stop) → IfErr m (λ s. (stop ≡ Some s) × (h ≡ []) × Keeps held holds) → IsToldLine left_old status (line_of_end stop)
+      → IfOk m (λ made. IsPut write_failed held holds (text_of_page made.page) made.kept.items stop h) → IfErr m (λ s. (stop ≡ Some s) × (h ≡ []) × Keeps held holds) → IsToldLine left_old status (line_of_end stop)
   told (Err s) stop status h u e put stopped_by =
       subst (λ (n : ℕ). IsToldLine left_old n (line_of_end stop)) (sym e) (subst (λ (o : Option Stop). IsToldLine left_old (status_of_end o) (line_of_end o)) (sym stopped_by.0) (by s u))
     where
       by : (s : Stop) → IsUnmade words left_old read_failed s → IsToldLine left_old (status_of s) (line_of s)
       by (BadLine line) u = record { plain = λ n. absurd (n refl); bad = λ k. u.2.0 }
       by s u = record { plain = λ n. refl; bad = λ k. absurd (omega (arith, k)) }
-  told (Ok v) stop status h u e put stopped_by = subst (λ (n : ℕ). IsToldLine left_old n (line_of_end stop)) (sym e) (elim put.1 [ inl w ↦ at None w.0 refl (λ k. omega (arith, k)) | inr w ↦ at (Some WriteFault) w.0 refl (λ k. omega (arith, k)) ])
+  told (Ok v) stop status h u e put stopped_by = subst (λ (n : ℕ). IsToldLine left_old n (line_of_end stop)) (sym e) (by put)
     where
       at : (o : Option Stop) → stop ≡ o → line_of_end o ≡ plain_line (status_of_end o) → status_of_end o ≢ 5 → IsToldLine left_old (status_of_end stop) (line_of_end stop)
       at o z l n = subst (λ (p : Option Stop). IsToldLine left_old (status_of_end p) (line_of_end p)) (sym z) (record { plain = λ k. l; bad = λ k. absurd (n k) })
+
+      by : IsPut write_failed held holds (text_of_page v.page) v.kept.items stop h → IsToldLine left_old (status_of_end stop) (line_of_end stop)
+      by (inl w) = at None w.0 refl (λ k. omega (arith, k))
+      by (inr (inl w)) = at (Some WriteFault) w.0 refl (λ k. omega (arith, k))
+      by (inr (inr w)) = at (Some Memory) w.0 refl (λ k. omega (arith, k))
 
 -- ---- what a command makes is what the words ask for
 

@@ -14,7 +14,8 @@ use Rattle.delaunay_cli.specs.Words.{asks_text, drawn_count, drawn_start}
 abbrev pub summary_of : Content → List Entry → List ℕ
 summary_of file h = summary_text (report_of true false file h)
 
--- what is written of a drawn file: its text where that is asked for, and else the summary of what a history of its lines leaves
+-- what is written of a drawn file: its text where that is asked for, and else the summary of what a history of its
+-- lines leaves
 abbrev pub text_of_drawn : Bool → Content → List Entry → List ℕ
 text_of_drawn text file h = if text then file_text file else summary_of file h
 

@@ -1,24 +1,77 @@
 -- What a command makes.
-use Rattle.std.specs.Prelude.{ℕ, List, ⊤}
+use Rattle.std.specs.Prelude.{
+  ◌≡◌,
+  ℕ,
+  ◌<◌,
+  ◌^◌,
+  Bool,
+  true,
+  All,
+  List,
+  [],
+  map,
+  Option,
+  None,
+  Some,
+  Vec,
+  if◌then◌else◌,
+  ⊤,
+}
+use Rattle.std.specs.Option.{option_map}
+use Rattle.std.specs.declared.alloc.Global.{Global}
+use Rattle.point_order.specs.Complex.{complex}
 use Rattle.point_order.specs.Sets.{IsAscending}
+use Rattle.point_order.specs.Solid.{is_solid}
+use Rattle.del_laws.specs.Keys.{AreKeys}
 use Rattle.edit_history.specs.Histories.{IsLegal}
-use Rattle.mesh_files.specs.Report.{AreCounted, parts_of, shapes_seen}
-use Rattle.mesh_files.specs.Text.{report_text}
+use Rattle.face_list.specs.Seen.{FaceLists}
+use Rattle.alpha_complex.specs.Condition.{AreFacesOf}
+use Rattle.alpha_complex.specs.Shapes.{shape_of}
+use Rattle.mesh_files.specs.Text.{ReportParts, report_text}
 use Rattle.delaunay_cli.specs.declared.made.Made.{Made}
 use Rattle.delaunay_cli.specs.declared.made.Page.{Page}
 use Rattle.delaunay_cli.specs.declared.made.Page.TheVariants.{Text, Report}
+use Rattle.delaunay_cli.specs.declared.made.Parts.{Parts}
+
+-- the radii of the shapes that are asked for
+abbrev pub radii_of : Bool → List ℕ → List ℕ
+radii_of shape radii = if shape then radii else []
+
+-- the report that these are the parts of: with the alpha complex of its points for each radius
+abbrev pub report_of_parts : Parts → ReportParts
+report_of_parts r =
+    record {
+      replies = r.replies.items;
+      points = r.points.items;
+      cells = r.cells.items;
+      shapes = map (λ radius. (radius, shape_of r.points.items radius)) r.radii.items;
+      order = option_map (λ (tags : Vec ℕ Global). tags.items) r.order;
+    }
 
 -- the bytes of a page
 abbrev pub text_of_page : Page → List ℕ
 text_of_page (Text text) = text.items
-text_of_page (Report report) = report_text (parts_of report)
+text_of_page (Report parts) = report_text (report_of_parts parts)
 
--- the points of a report ascend, and those of its shapes
+-- The parts are those of a solid set, its complex, and radii of shapes.
+pub record IsReady (parts : Parts) : Type 0 where
+  pub ascending : IsAscending parts.points.items
+  pub keys : AreKeys parts.points.items
+  pub solid : is_solid parts.points.items ≡ true
+  pub cells : parts.cells.items ≡ complex parts.points.items
+  pub radii : All (λ radius. radius < 2 ^ 30) parts.radii.items
+
+-- the parts of a report are ready
 abbrev pub IsWritable : Page → Type 0
 IsWritable (Text text) = ⊤
-IsWritable (Report report) = IsAscending report.points.items × AreCounted (shapes_seen report.shapes.items)
+IsWritable (Report parts) = IsReady parts
 
 -- The history is legal, and the page can be written.
 pub record IsSound (made : Made) : Type 0 where
   pub legal : IsLegal made.kept.items
   pub writable : IsWritable made.page
+
+-- the faces are those of the set, and there are none only where there are no radii
+abbrev pub AreFacesFor : List ℕ → List ℕ → Option FaceLists → Type 0
+AreFacesFor radii s None = radii ≡ []
+AreFacesFor radii s (Some faces) = AreFacesOf s faces

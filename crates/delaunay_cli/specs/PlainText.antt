@@ -15,7 +15,8 @@ use Rattle.delaunay_cli.specs.Words.{asks_text}
 abbrev pub plain_points : Content → List ℕ
 plain_points file = plain_set (lines_of file.points file.edits)
 
--- the report that a file's lines tell by themselves, with a shape for each of its radii or none, and without an order block
+-- the report that a file's lines tell by themselves, with a shape for each of its radii or none, and without an order
+-- block
 abbrev pub plain_report : Bool → Content → ReportParts
 plain_report shape file =
     record {
@@ -30,6 +31,8 @@ plain_report shape file =
 abbrev pub plain_text : Bool → Content → List ℕ
 plain_text shape file = report_text (plain_report shape file)
 
--- what is written of the file that the words draw: its text where that is asked for, and else the summary that its lines tell
+-- what is written of the file that the words draw: its text where that is asked for, and else the summary that its
+-- lines tell
 abbrev pub plain_drawn : List (String Global) → List ℕ
-plain_drawn words = if asks_text words then file_text (drawn_file words) else summary_text (plain_report true (drawn_file words))
+plain_drawn words = if asks_text words then file_text (drawn_file words)
+    else summary_text (plain_report true (drawn_file words))

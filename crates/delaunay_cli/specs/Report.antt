@@ -24,8 +24,8 @@ order_of order h = if order then Some (tags_of h) else None
 abbrev pub shapes_of : Bool → List ℕ → List ℕ → List (ℕ × ShapeParts)
 shapes_of shape radii s = if shape then map (λ radius. (radius, shape_of s radius)) radii else []
 
--- the report of a history of a file's lines, with a shape for each of the file's radii or none, and with its order block or not:
--- its replies, the points that it leaves, and the complex of these
+-- the report of a history of a file's lines, with a shape for each of the file's radii or none, and with its order
+-- block or not: its replies, the points that it leaves, and the complex of these
 abbrev pub report_of : Bool → Bool → Content → List Entry → ReportParts
 report_of shape order file h =
     record {

@@ -13,7 +13,8 @@ use Rattle.delaunay_cli.specs.Run.{IsKept, input_limit}
 use Rattle.delaunay_cli.specs.Statuses.{IsFaultLine}
 
 -- The file's points are solid; the history keeps it for a number of workers, and the report is that of the two.
-pub record IsMeshed (workers : ℕ) (shape order : Bool) (file : Content) (h : List Entry) (report : ReportParts) : Type 0 where
+pub record IsMeshed (workers : ℕ) (shape order : Bool) (file : Content) (h : List Entry)
+    (report : ReportParts) : Type 0 where
   pub solid : is_solid file.points ≡ true
   pub kept : IsKept file workers h
   pub legal : IsLegal h
@@ -41,7 +42,8 @@ IsFlatFile bytes =
 abbrev pub IsUnreported : Option (List ℕ) → Type 0 → Stop → Type 0
 IsUnreported left failed Memory = ⊤
 IsUnreported left failed ReadFault = failed
-IsUnreported left failed (BadLine line) = IsFaultLine left line.items × IfSome left (λ bytes. length bytes ≤ input_limit)
+IsUnreported left failed (BadLine line) = IsFaultLine left line.items
+    × IfSome left (λ bytes. length bytes ≤ input_limit)
 IsUnreported left failed Flat = IfSome left IsFlatFile
 IsUnreported left failed TooLong = IfSome left (λ bytes. input_limit < length bytes)
 IsUnreported left failed stop = ⊥

@@ -25,8 +25,8 @@ pub record IsKept (file : Content) (workers : ℕ) (h : List Entry) : Type 0 whe
   pub keeps : Keeps file.points file.edits workers h
   pub alone : workers ≡ 1 → h ≡ history_of file
 
--- Bytes that were taken of a source, one more than the limit at most; all that it told, unless it was left early. Where it was one
--- more, the input is too long, or memory is wanting.
+-- Bytes that were taken of a source, one more than the limit at most; all that it told, unless it was left early.
+-- Where it was one more, the input is too long, or memory is wanting.
 pub record Reads (left_old left_new : Option (List ℕ)) (status : ℕ) : Type 0 where
   pub taken : List ℕ
   pub consumed : Consumes left_old left_new taken
@@ -34,8 +34,8 @@ pub record Reads (left_old left_new : Option (List ℕ)) (status : ℕ) : Type 0
   pub whole : (IsEarly status → ⊥) → IsAtEnd left_new ⊎ (length taken ≡ input_limit + 1)
   pub past : length taken ≡ input_limit + 1 → (status ≡ 7) ⊎ (status ≡ 1)
 
--- the output gained the text of the file that the bytes are, and of the history, with shapes or without, and with its order block
--- or not
+-- the output gained the text of the file that the bytes are, and of the history, with shapes or without, and with its
+-- order block or not
 abbrev pub Writes : Bool → Bool → List ℕ → Option (List ℕ) → Option (List ℕ) → List Entry → Type 0
 Writes shape order bytes old new kept =
     (file : Content) × IsFile line_limit bytes file × Appends old new (text_of shape order file kept)

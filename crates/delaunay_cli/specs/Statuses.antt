@@ -8,7 +8,8 @@ use Rattle.byte_ends.specs.Ends.{AppendsFront, Rose}
 use Rattle.edit_files.specs.Grammar.{line_limit}
 use Rattle.edit_files.specs.Faults.{IsFault}
 
--- the run ended before the input was read to its end or its limit: for want of memory, for its words, or by a fault of the source
+-- the run ended before the input was read to its end or its limit: for want of memory, for its words, or by a fault
+-- of the source
 abbrev pub IsEarly : ℕ → Type 0
 IsEarly status = (status ≡ 1) ⊎ (status ≡ 2) ⊎ (status ≡ 3)
 

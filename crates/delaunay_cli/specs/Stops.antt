@@ -4,7 +4,15 @@ use Rattle.std.specs.declared.alloc.Global.{Global}
 use Rattle.byte_ends.specs.declared.loops.ReadError.{ReadError}
 use Rattle.byte_ends.specs.declared.loops.ReadError.TheVariants.{Fault as SourceFault, Memory as NoRoom}
 use Rattle.delaunay_cli.specs.declared.stop.Stop.{Stop}
-use Rattle.delaunay_cli.specs.declared.stop.Stop.TheVariants.{Memory, Usage, ReadFault, WriteFault, BadLine, Flat, TooLong}
+use Rattle.delaunay_cli.specs.declared.stop.Stop.TheVariants.{
+  Memory,
+  Usage,
+  ReadFault,
+  WriteFault,
+  BadLine,
+  Flat,
+  TooLong,
+}
 use Rattle.delaunay_cli.specs.Statuses.{plain_line}
 use Rattle.delaunay_cli.specs.Words.{AreTaken}
 

@@ -5,7 +5,17 @@ use Rattle.clap.specs.Words.{Row, Text, subcommand_of}
 use Rattle.delaunay_cli.specs.declared.task.Making.{Making}
 use Rattle.delaunay_cli.specs.declared.task.Task.{Task}
 use Rattle.delaunay_cli.specs.declared.task.Task.TheVariants.{Report, Draw}
-use Rattle.delaunay_cli.specs.Words.{has_flag, is_command, most_count, most_grid, most_start, most_workers, number_of, program, texts_of}
+use Rattle.delaunay_cli.specs.Words.{
+  has_flag,
+  is_command,
+  most_count,
+  most_grid,
+  most_start,
+  most_workers,
+  number_of,
+  program,
+  texts_of,
+}
 
 -- the workers and the grid of the command that was met, by its matches
 pub record IsMakingOf (met : Option (Text × List Row)) (making : Making) : Type 0 where
@@ -18,7 +28,8 @@ IsTaskOf met (Report making asked) =
     IsMakingOf met making × (is_command (codes "gen") met ≡ false) × (asked.shape ≡ is_command (codes "shape") met)
     × (asked.order ≡ has_flag (codes "order") met)
 IsTaskOf met (Draw making drawn) =
-    IsMakingOf met making × (is_command (codes "gen") met ≡ true) × (drawn.count ≡ number_of (codes "count") 0 most_count met)
+    IsMakingOf met making × (is_command (codes "gen") met ≡ true)
+    × (drawn.count ≡ number_of (codes "count") 0 most_count met)
     × (drawn.start ≡ number_of (codes "start") 0 most_start met) × (drawn.text ≡ has_flag (codes "text") met)
 
 -- the task that the words ask for

@@ -1,10 +1,41 @@
 -- The command line, as `clap` reads it.
-use Rattle.std.specs.Prelude.{◌≡◌, ℕ, List, [], ◌∷◌, ◌++◌, Bool, true, false, pos, Option, Some, codes, decimal, map, string_bytes, String, if◌then◌else◌}
+use Rattle.std.specs.Prelude.{
+  ◌≡◌,
+  ℕ,
+  List,
+  [],
+  ◌∷◌,
+  ◌++◌,
+  Bool,
+  true,
+  false,
+  pos,
+  Option,
+  Some,
+  codes,
+  decimal,
+  map,
+  string_bytes,
+  String,
+  if◌then◌else◌,
+}
 use Rattle.std.specs.Option.{option_map_or}
 use Rattle.std.specs.Str.{bytes_eq}
 use Rattle.std.specs.Str.Parse.{digits_value, without_leading_plus}
 use Rattle.std.specs.declared.alloc.Global.{Global}
-use Rattle.clap.specs.Words.{App, Row, Rule, Text, fault_of, first_of, new_app, new_rule, subcommand_of, with_rule, with_subcommand}
+use Rattle.clap.specs.Words.{
+  App,
+  Row,
+  Rule,
+  Text,
+  fault_of,
+  first_of,
+  new_app,
+  new_rule,
+  subcommand_of,
+  with_rule,
+  with_subcommand,
+}
 use Rattle.clap.specs.Simple.{on_top}
 use Rattle.clap.specs.ValueTests.{is_unsigned_in}
 use Rattle.clap.specs.declared.builder.action.ArgAction.TheVariants.{SetTrue}
@@ -75,7 +106,8 @@ abbrev pub program : App
 program =
     with_subcommand
     (with_subcommand
-    (with_subcommand (on_top (λ top. record top { subcommand_required = true }) (new_app (codes "delaunay"))) (command_of (codes "mesh")).top)
+    (with_subcommand (on_top (λ top. record top { subcommand_required = true }) (new_app (codes "delaunay")))
+    (command_of (codes "mesh")).top)
     (command_of (codes "shape")).top)
     gen_command.top
 
@@ -116,7 +148,8 @@ AreGen count start words =
 -- the words are these and `--text`
 abbrev pub AreGenText : ℕ → ℕ → List (String Global) → Type 0
 AreGenText count start words =
-    AreNameAnd (codes "gen" ∷ (codes "--count=" ++ decimal count) ∷ (codes "--start=" ++ decimal start) ∷ codes "--text" ∷ []) words
+    AreNameAnd (codes "gen" ∷ (codes "--count=" ++ decimal count) ∷ (codes "--start=" ++ decimal start)
+    ∷ codes "--text" ∷ []) words
 
 -- a flag was given, by the matches of the command
 abbrev pub flag_in : Text → List Row → Bool
@@ -146,10 +179,11 @@ asks_drawn words = is_command (codes "gen") (subcommand_of program (texts_of wor
 unfoldable pub asks_text : List (String Global) → Bool
 asks_text words = has_flag (codes "text") (subcommand_of program (texts_of words))
 
--- the number that a text names, where `clap` takes it for one from the least to the most, and else the least; a minus may stand
--- before a 0 alone
+-- the number that a text names, where `clap` takes it for one from the least to the most, and else the least; a minus
+-- may stand before a 0 alone
 abbrev pub number_between : ℕ → ℕ → Text → ℕ
-number_between least most text = if is_unsigned_in least most text then digits_value 10 (without_leading_plus text) else least
+number_between least most text = if is_unsigned_in least most text then digits_value 10
+    (without_leading_plus text) else least
 
 -- the number of an option, by the matches of the command
 abbrev pub number_in : Text → ℕ → ℕ → List Row → ℕ

@@ -7,12 +7,12 @@ ghost use Rattle.delaunay_cli.specs.Drawn.{IsDrawn};
 ghost use Rattle.delaunay_cli.specs.Page.{IsSound, text_of_page};
 
 use crate::made::{Made, Page};
-use crate::mesh::history_and_report;
+use crate::mesh::history_and_parts;
+use crate::shapes::summary_of_parts;
 use crate::stop::Stop;
 use crate::task::{Asked, Drawn, Making};
 use edit_files::{file_text, generate};
 use grid_claims::Gate;
-use mesh_files::summary_text;
 use std::alloc::Global;
 use std::thread::Threads;
 
@@ -29,7 +29,8 @@ pub fn draw<R: Threads + Sync, G: Gate + Sync>(
     gate: &G,
 ) -> Result<Made, Stop>
     ensures made { IfOk result (λ made.
-        IsDrawn drawn.text making.workers (generated drawn.count drawn.start) made.kept.items (text_of_page made.page)) }
+        IsDrawn drawn.text making.workers (generated drawn.count drawn.start) made.kept.items
+        (text_of_page made.page)) }
     ensures sound { IfOk result IsSound }
     ensures stop { IfErr result (λ stop. stop ≡ Memory) }
 {
@@ -43,7 +44,7 @@ pub fn draw<R: Threads + Sync, G: Gate + Sync>(
         shape: true,
         order: false,
     };
-    let (kept, report) = history_and_report(rt, alloc, &file, making, asked, gate)?;
-    let page = Page::Text(summary_text(alloc, &report)?);
+    let (kept, parts) = history_and_parts(rt, alloc, &file, making, asked, gate)?;
+    let page = Page::Text(summary_of_parts(rt, alloc, parts)?);
     Ok(Made { kept, page })
 }

@@ -1,5 +1,5 @@
-//! The program's top call: from the bytes of an edit file to the text of its mesh and of its shapes, and from two numbers to the
-//! text of a drawn file or the summary of its mesh.
+//! The program's top call: from the bytes of an edit file to the text of its mesh and of its shapes, and from two
+//! numbers to the text of a drawn file or the summary of its mesh.
 //!
 //! ```
 //! let run = run(&rt, alloc, &words, &mut input, &mut output, &mut error, &OpenGate);
@@ -10,7 +10,7 @@
 mod drawn;
 mod made;
 mod mesh;
-mod meshed;
+mod mesh_of_lines;
 mod outcome;
 mod replies;
 mod reported;

@@ -1,21 +1,41 @@
 //! What a command makes, before anything is written.
 
-ghost use Rattle.std.specs.Prelude.{OnOk};
+ghost use Rattle.std.specs.Prelude.{◌≤◌, IfErr, OnOk};
 ghost use Rattle.std.specs.Io.KnownBytes.{Appends};
-ghost use Rattle.byte_ends.specs.Ends.{AppendsFront, HasCause};
+ghost use Rattle.byte_ends.specs.Ends.{Rose};
+ghost use Rattle.delaunay_cli.specs.Ends.{IsUnput};
 ghost use Rattle.delaunay_cli.specs.Page.{IsWritable, text_of_page};
 
+use crate::shapes::put_parts;
+use crate::stop::Stop;
 use byte_ends::{Failed, Sink, write_all};
-use edit_history::Entry;
-use mesh_files::{Report, put_report};
+use edit_history::{Entry, Reply};
+use point_order::{Cell, Point};
+use std::alloc::Global;
+use std::thread::Threads;
+
+/// What the report of a mesh is made of. Its shapes are made only when it is written, since they stand on these cells.
+#[derive(Debug, Drop)]
+pub struct Parts {
+    /// The reply to each line.
+    pub replies: Vec<Reply>,
+    /// The points of the mesh, ascending.
+    pub points: Vec<Point>,
+    /// Its cells, in their order.
+    pub cells: Vec<Cell>,
+    /// The radii of the shapes that are asked for, each below 2^30.
+    pub radii: Vec<u64>,
+    /// The tags of the history, where they are asked for.
+    pub order: Option<Vec<u32>>,
+}
 
 /// What is to be written.
 #[derive(Debug, Drop)]
 pub enum Page {
     /// These bytes.
     Text(Vec<u8>),
-    /// The text of this report, which is put to the sink without memory.
-    Report(Report),
+    /// The report that these are the parts of.
+    Report(Parts),
 }
 
 /// What a command makes.
@@ -27,18 +47,38 @@ pub struct Made {
     pub page: Page,
 }
 
-/// Writes a page.
+// Writes bytes.
+fn put_text<O: Sink>(text: &[u8], out: &mut O) -> Result<(), Stop>
+    ensures whole { OnOk result (Appends (O.holds out.old) (O.holds out.new) text.now) }
+    ensures stop { IfErr result (IsUnput (Rose (O.faults out.old) (O.faults out.new)) (O.holds out.old)
+        (O.holds out.new) text.now) }
+    ensures later { O.faults out.old ≤ O.faults out.new }
+{
+    match write_all(out, text) {
+        Ok(()) => Ok(()),
+        Err(Failed) => Err(Stop::WriteFault),
+    }
+}
+
+/// Writes a page. The shapes of a report are made before anything of it is written.
 ///
 /// # Errors
-/// `Failed` where the output failed. Then it has taken a front of the text.
-pub fn put_page<O: Sink>(page: &Page, out: &mut O) -> Result<(), Failed>
-    requires { IsWritable page.now }
-    ensures whole { OnOk result (Appends (O.holds out.old) (O.holds out.new) (text_of_page page.now)) }
-    ensures front { AppendsFront (O.holds out.old) (O.holds out.new) (text_of_page page.now) }
-    ensures cause { HasCause (O.faults out.old) (O.faults out.new) result }
+/// `Memory` where there is none for the shapes: then nothing is written. `WriteFault` where the output failed: then
+/// it has taken a front of the text.
+pub fn put_page<R: Threads + Sync, O: Sink>(
+    rt: &R,
+    alloc: Global,
+    page: Page,
+    out: &mut O,
+) -> Result<(), Stop>
+    requires { IsWritable page }
+    ensures whole { OnOk result (Appends (O.holds out.old) (O.holds out.new) (text_of_page page)) }
+    ensures stop { IfErr result (IsUnput (Rose (O.faults out.old) (O.faults out.new)) (O.holds out.old)
+        (O.holds out.new) (text_of_page page)) }
+    ensures later { O.faults out.old ≤ O.faults out.new }
 {
     match page {
-        Page::Text(text) => write_all(out, text),
-        Page::Report(report) => put_report(out, report),
+        Page::Text(text) => put_text(&text, out),
+        Page::Report(parts) => put_parts(rt, alloc, parts, out),
     }
 }

@@ -9,7 +9,7 @@ ghost use Rattle.delaunay_cli.specs.Run.{Reads, input_limit};
 ghost use Rattle.delaunay_cli.specs.Stops.{status_of_made};
 
 use crate::made::{Made, Page};
-use crate::mesh::history_and_report;
+use crate::mesh::history_and_parts;
 use crate::stop::Stop;
 use crate::task::{Asked, Making};
 use crate::telling::fault_line;
@@ -32,14 +32,15 @@ fn judge<R: Threads + Sync, G: Gate + Sync>(
     gate: &G,
 ) -> Result<Made, Stop>
     requires { length bytes.now ≤ input_limit }
-    ensures made { IfOk result (λ made. IsReported making.workers asked.shape asked.order made.kept.items (text_of_page made.page) bytes.now) }
+    ensures made { IfOk result (λ made. IsReported making.workers asked.shape asked.order made.kept.items
+        (text_of_page made.page) bytes.now) }
     ensures sound { IfOk result IsSound }
     ensures stop { IfErr result (IsUnreported (Some bytes.now) ⊥) }
 {
     match read_file(alloc, bytes) {
         Ok(file) => {
-            let (kept, report) = history_and_report(rt, alloc, &file, making, asked, gate)?;
-            let page = Page::Report(report);
+            let (kept, parts) = history_and_parts(rt, alloc, &file, making, asked, gate)?;
+            let page = Page::Report(parts);
             Ok(Made { kept, page })
         }
         Err(ReadRefused::Memory) => Err(Stop::Memory),
@@ -61,7 +62,8 @@ pub fn report<R: Threads + Sync, S: Source, G: Gate + Sync>(
     gate: &G,
 ) -> Result<Made, Stop>
     ensures made { IfOk result (λ made.
-        IfSome (S.left src.old) (IsReported making.workers asked.shape asked.order made.kept.items (text_of_page made.page))) }
+        IfSome (S.left src.old) (IsReported making.workers asked.shape asked.order made.kept.items
+        (text_of_page made.page))) }
     ensures sound { IfOk result IsSound }
     ensures stop { IfErr result (IsUnreported (S.left src.old) (Rose (S.faults src.old) (S.faults src.new))) }
     ensures reads { Reads (S.left src.old) (S.left src.new) (status_of_made result) }

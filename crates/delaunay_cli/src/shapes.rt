@@ -1,49 +1,172 @@
-//! The shapes of a mesh, one for each radius.
+//! The shapes of a mesh, one for each radius, and the texts that have them.
 
-ghost use Rattle.std.specs.Prelude.{◌≡◌, ◌<◌, ◌^◌, true, map, All, IfOk};
+ghost use Rattle.std.specs.Prelude.{◌≡◌, ◌≤◌, ◌<◌, ◌^◌, true, map, All, IfOk, IfErr, OnOk};
+ghost use Rattle.std.specs.Io.KnownBytes.{Appends};
+ghost use Rattle.byte_ends.specs.Ends.{Rose};
 ghost use Rattle.point_order.specs.Complex.{complex};
 ghost use Rattle.point_order.specs.Sets.{IsAscending};
 ghost use Rattle.point_order.specs.Solid.{is_solid};
 ghost use Rattle.del_laws.specs.Keys.{AreKeys};
+ghost use Rattle.alpha_complex.specs.Condition.{AreFacesOf};
 ghost use Rattle.alpha_complex.specs.Shapes.{shape_of};
-ghost use Rattle.mesh_files.specs.Report.{shapes_seen};
+ghost use Rattle.mesh_files.specs.Report.{AreCounted, parts_of, shapes_seen};
+ghost use Rattle.mesh_files.specs.Summary.{summary_text as summary_text_of};
+ghost use Rattle.mesh_files.specs.Text.{report_text};
+ghost use Rattle.delaunay_cli.specs.Ends.{IsUnput};
+ghost use Rattle.delaunay_cli.specs.Page.{AreFacesFor, IsReady, report_of_parts};
 
+use crate::made::Parts;
+use crate::stop::Stop;
 use alpha_complex::{Shape, alphas};
-use face_list::faces;
+use byte_ends::{Failed, Sink};
+use face_list::{Faces, faces};
+use mesh_files::{Report, put_report, summary_text};
 use point_order::{Cell, Point};
 use std::alloc::{AllocError, Global};
 use std::thread::Threads;
 
-// Every point of a list is below 2^42, as each by itself is. The loop carries that to the list and does nothing else.
-fn all_keys(points: &[Point])
-    ensures { AreKeys points.now }
-{
-    for point in points {
-        let _ = point.key();
-    }
-}
-
-/// The alpha complex for each of the radii, in their order, of a solid set of points and the cells of its complex. The least alphas of
-/// its faces are made once.
-pub fn shapes<R: Threads + Sync>(
+// The faces of the cells of a mesh, where there are radii.
+fn faces_for<'b, R: Threads + Sync>(
     rt: &R,
     alloc: Global,
     points: &[Point],
-    cells: &[Cell],
+    cells: &'b [Cell],
     radii: &[u64],
-) -> Result<Vec<(u64, Shape)>, AllocError>
+) -> Result<Option<Faces<'b>>, AllocError>
     requires ascending { IsAscending points.now }
+    requires keys { AreKeys points.now }
     requires solid { is_solid points.now ≡ true }
     requires cells { cells.now ≡ complex points.now }
-    requires radii { All (λ radius. radius < 2 ^ 30) radii.now }
-    ensures { IfOk result (λ shapes. shapes_seen shapes.items ≡ map (λ radius. (radius, shape_of points.now radius)) radii.now) }
+    ensures { IfOk result (AreFacesFor radii.now points.now) }
 {
-    all_keys(points);
+    if radii.is_empty() {
+        return Ok(None);
+    }
     let faces = faces(rt, alloc, cells)?;
-    let known = alphas(rt, alloc, &faces)?;
+    Ok(Some(faces))
+}
+
+// The alpha complex for each of the radii, in their order, of the set whose faces these are. Their least alphas are
+// made once.
+fn shapes_of_faces<'a, 'b, R: Threads + Sync>(
+    rt: &R,
+    alloc: Global,
+    points: &[Point],
+    faces: &'a Faces<'b>,
+    radii: &[u64],
+) -> Result<Vec<(u64, Shape<'a, 'b>)>, AllocError>
+    requires faces { AreFacesOf points.now faces.now }
+    requires radii { All (λ radius. radius < 2 ^ 30) radii.now }
+    ensures { IfOk result (λ shapes. shapes_seen shapes.items
+        ≡ map (λ radius. (radius, shape_of points.now radius)) radii.now) }
+{
+    let known = alphas(rt, alloc, faces)?;
     let mut shapes = Vec::new(alloc);
     for radius in radii {
         shapes.push((*radius, known.shape(alloc, *radius)?))?;
     }
     Ok(shapes)
+}
+
+// The alpha complex for each of the radii, where there are any.
+fn shapes<'a, 'b, R: Threads + Sync>(
+    rt: &R,
+    alloc: Global,
+    points: &[Point],
+    faces: &'a Option<Faces<'b>>,
+    radii: &[u64],
+) -> Result<Vec<(u64, Shape<'a, 'b>)>, AllocError>
+    requires faces { AreFacesFor radii.now points.now faces.now }
+    requires radii { All (λ radius. radius < 2 ^ 30) radii.now }
+    ensures { IfOk result (λ shapes. shapes_seen shapes.items
+        ≡ map (λ radius. (radius, shape_of points.now radius)) radii.now) }
+{
+    match faces {
+        Some(faces) => shapes_of_faces(rt, alloc, points, faces, radii),
+        None => Ok(Vec::new(alloc)),
+    }
+}
+
+// Puts a report, and says of a fault that the output failed.
+fn put<O: Sink>(report: &Report, out: &mut O) -> Result<(), Stop>
+    requires points { IsAscending report.now.points.items }
+    requires shapes { AreCounted (shapes_seen report.now.shapes.items) }
+    ensures whole { OnOk result (Appends (O.holds out.old) (O.holds out.new) (report_text (parts_of report.now))) }
+    ensures stop { IfErr result (IsUnput (Rose (O.faults out.old) (O.faults out.new)) (O.holds out.old)
+        (O.holds out.new)
+        (report_text (parts_of report.now))) }
+    ensures later { O.faults out.old ≤ O.faults out.new }
+{
+    match put_report(out, report) {
+        Ok(()) => Ok(()),
+        Err(Failed) => Err(Stop::WriteFault),
+    }
+}
+
+/// Makes the shapes of a report, and then writes it.
+///
+/// # Errors
+/// `Memory` where there is none for the shapes: then nothing is written. `WriteFault` where the output failed: then
+/// it has taken a front of the text.
+pub fn put_parts<R: Threads + Sync, O: Sink>(
+    rt: &R,
+    alloc: Global,
+    parts: Parts,
+    out: &mut O,
+) -> Result<(), Stop>
+    requires { IsReady parts }
+    ensures whole { OnOk result (Appends (O.holds out.old) (O.holds out.new) (report_text (report_of_parts parts))) }
+    ensures stop { IfErr result (IsUnput (Rose (O.faults out.old) (O.faults out.new)) (O.holds out.old)
+        (O.holds out.new)
+        (report_text (report_of_parts parts))) }
+    ensures later { O.faults out.old ≤ O.faults out.new }
+{
+    let Parts {
+        replies,
+        points,
+        cells,
+        radii,
+        order,
+    } = parts;
+    let faces = faces_for(rt, alloc, &points, &cells, &radii)?;
+    let shapes = shapes(rt, alloc, &points, &faces, &radii)?;
+    let report = Report {
+        replies,
+        points,
+        cells: &cells,
+        shapes,
+        order,
+    };
+    put(&report, out)
+}
+
+/// The summary of a report, with its shapes.
+///
+/// # Errors
+/// Want of memory.
+pub fn summary_of_parts<R: Threads + Sync>(
+    rt: &R,
+    alloc: Global,
+    parts: Parts,
+) -> Result<Vec<u8>, AllocError>
+    requires { IsReady parts }
+    ensures { IfOk result (λ text. text.items ≡ summary_text_of (report_of_parts parts)) }
+{
+    let Parts {
+        replies,
+        points,
+        cells,
+        radii,
+        order,
+    } = parts;
+    let faces = faces_for(rt, alloc, &points, &cells, &radii)?;
+    let shapes = shapes(rt, alloc, &points, &faces, &radii)?;
+    let report = Report {
+        replies,
+        points,
+        cells: &cells,
+        shapes,
+        order,
+    };
+    summary_text(alloc, &report)
 }

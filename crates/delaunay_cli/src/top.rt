@@ -15,7 +15,28 @@ ghost use Rattle.edit_history.specs.OneThread.{Keeps as FileKeeps};
 ghost use Rattle.plain_laws.specs.Plain.{IsAnchored};
 ghost use Rattle.delaunay_cli.specs.PlainText.{plain_drawn, plain_text};
 ghost use Rattle.delaunay_cli.specs.Drawn.{drawn_file, drawn_text};
-ghost use Rattle.delaunay_cli.specs.Words.{AreGen, AreGenText, AreMesh, AreMeshOrder, AreMeshing, AreShape, AreShapeOrder, AreTaken, DrawsFile, ReadsFile, asks_order, asks_shape, asks_text, drawn_count, drawn_start, grid_size, most_count, most_start, most_workers, worker_count};
+ghost use Rattle.delaunay_cli.specs.Words.{
+  AreGen,
+  AreGenText,
+  AreMesh,
+  AreMeshOrder,
+  AreMeshing,
+  AreShape,
+  AreShapeOrder,
+  AreTaken,
+  DrawsFile,
+  ReadsFile,
+  asks_order,
+  asks_shape,
+  asks_text,
+  drawn_count,
+  drawn_start,
+  grid_size,
+  most_count,
+  most_start,
+  most_workers,
+  worker_count,
+};
 
 use crate::outcome::Run;
 use crate::stop::Stop;
@@ -27,12 +48,12 @@ use std::thread::Threads;
 
 /// Does what the words ask for, and tells in one line on `err` what went wrong.
 ///
-/// `rt` is the runtime, and `words` are those of the command line: the program's name, and what `clap` takes for the three
-/// commands. `mesh` and `shape`, each with `--order`, read an edit file from `src` and write the report of its mesh to `out`; with
-/// `shape` the report has a block for each radius of the file, in its order. `gen`, with `--count`, `--start` and `--text`, reads
-/// nothing: it draws an edit file, and writes the summary of its mesh or the file's text. Each takes `--workers`, 1 to 64, and
-/// `--grid`, 1, 2, 4, 8 or 16: so many workers make the edits side by side, over buckets of this grid. `gate` is told of the
-/// moments of their edits.
+/// `rt` is the runtime, and `words` are those of the command line: the program's name, and what `clap` takes for the
+/// three commands. `mesh` and `shape`, each with `--order`, read an edit file from `src` and write the report of its
+/// mesh to `out`; with `shape` the report has a block for each radius of the file, in its order. `gen`, with
+/// `--count`, `--start` and `--text`, reads nothing: it draws an edit file, and writes the summary of its mesh or the
+/// file's text. Each takes `--workers`, 1 to 64, and `--grid`, 1, 2, 4, 8 or 16: so many workers make the edits side
+/// by side, over buckets of this grid. `gate` is told of the moments of their edits.
 pub fn run<R: Threads + Sync, S: Source, O: Sink, E: Sink, G: Gate + Sync>(
     rt: &R,
     alloc: Global,
@@ -56,14 +77,20 @@ pub fn run<R: Threads + Sync, S: Source, O: Sink, E: Sink, G: Gate + Sync>(
         → IfSome (S.left src.old) (λ bytes. (file : Content) → IsFile line_limit bytes file
         → (result.status ≡ 6 ↔ (is_solid file.points ≡ false))) }
 
-    // The words `mesh` and `shape` alone are taken, and ask for no order block; with `--order` they ask for it. Both read a file.
-    ensures mesh { AreMesh words.now → AreTaken words.now × (asks_shape words.now ≡ false) × (asks_order words.now ≡ false) }
-    ensures mesh_order { AreMeshOrder words.now → AreTaken words.now × (asks_shape words.now ≡ false) × (asks_order words.now ≡ true) }
-    ensures shape { AreShape words.now → AreTaken words.now × (asks_shape words.now ≡ true) × (asks_order words.now ≡ false) }
-    ensures shape_order { AreShapeOrder words.now → AreTaken words.now × (asks_shape words.now ≡ true) × (asks_order words.now ≡ true) }
+    // The words `mesh` and `shape` alone are taken, and ask for no order block; with `--order` they ask for it. Both
+    // read a file.
+    ensures mesh { AreMesh words.now → AreTaken words.now × (asks_shape words.now ≡ false)
+        × (asks_order words.now ≡ false) }
+    ensures mesh_order { AreMeshOrder words.now → AreTaken words.now × (asks_shape words.now ≡ false)
+        × (asks_order words.now ≡ true) }
+    ensures shape { AreShape words.now → AreTaken words.now × (asks_shape words.now ≡ true)
+        × (asks_order words.now ≡ false) }
+    ensures shape_order { AreShapeOrder words.now → AreTaken words.now × (asks_shape words.now ≡ true)
+        × (asks_order words.now ≡ true) }
     ensures one_worker { AreMesh words.now ⊎ AreMeshOrder words.now ⊎ AreShape words.now ⊎ AreShapeOrder words.now
         → (worker_count words.now ≡ 1) × (grid_size words.now ≡ 4) }
-    ensures read { AreMesh words.now ⊎ AreMeshOrder words.now ⊎ AreShape words.now ⊎ AreShapeOrder words.now → ReadsFile words.now }
+    ensures read { AreMesh words.now ⊎ AreMeshOrder words.now ⊎ AreShape words.now ⊎ AreShapeOrder words.now →
+        ReadsFile words.now }
 
     // So are `mesh` and `shape` with `--workers=N` and `--grid=M`, for every count of workers and every size of a grid.
     ensures mesh_workers { (workers grid : ℕ) → 0 < workers → workers ≤ most_workers → is_grid_size grid ≡ true
@@ -73,11 +100,13 @@ pub fn run<R: Threads + Sync, S: Source, O: Sink, E: Sink, G: Gate + Sync>(
         → AreMeshing (codes "shape") workers grid words.now → AreTaken words.now × ReadsFile words.now
         × (worker_count words.now ≡ workers) × (grid_size words.now ≡ grid) × (asks_shape words.now ≡ true) }
 
-    // The words `gen`, `--count=N` and `--start=M` are taken for every count and start, and with `--text` ask for the file's text.
+    // The words `gen`, `--count=N` and `--start=M` are taken for every count and start, and with `--text` ask for the
+    // file's text.
     ensures generator { (count start : ℕ) → count ≤ most_count → start ≤ most_start → AreGen count start words.now
         → AreTaken words.now × DrawsFile words.now × (drawn_count words.now ≡ count) × (drawn_start words.now ≡ start)
         × (asks_text words.now ≡ false) }
-    ensures generator_text { (count start : ℕ) → count ≤ most_count → start ≤ most_start → AreGenText count start words.now
+    ensures generator_text { (count start : ℕ) → count ≤ most_count → start ≤ most_start →
+        AreGenText count start words.now
         → AreTaken words.now × DrawsFile words.now × (drawn_count words.now ≡ count) × (drawn_start words.now ≡ start)
         × (asks_text words.now ≡ true) }
 
@@ -91,26 +120,32 @@ pub fn run<R: Threads + Sync, S: Source, O: Sink, E: Sink, G: Gate + Sync>(
     ensures none_kept { result.status ≢ 0 → result.status ≢ 4 → result.kept.items ≡ [] }
     ensures legal { IsLegal result.kept.items }
     ensures written { ReadsFile words.now → result.status ≡ 0
-        → IfSome (S.left src.old) (λ bytes. Writes (asks_shape words.now) (asks_order words.now) bytes (O.holds out.old) (O.holds out.new) result.kept.items) }
+        → IfSome (S.left src.old) (λ bytes. Writes (asks_shape words.now) (asks_order words.now) bytes
+        (O.holds out.old) (O.holds out.new) result.kept.items) }
     ensures front { ReadsFile words.now → result.status ≡ 4
-        → IfSome (S.left src.old) (λ bytes. WritesFront (asks_shape words.now) (asks_order words.now) bytes (O.holds out.old) (O.holds out.new) result.kept.items) }
+        → IfSome (S.left src.old) (λ bytes. WritesFront (asks_shape words.now) (asks_order words.now) bytes
+        (O.holds out.old) (O.holds out.new) result.kept.items) }
     ensures nothing { result.status ≢ 0 → result.status ≢ 4 → Keeps (O.holds out.old) (O.holds out.new) }
     ensures reads { ReadsFile words.now → Reads (S.left src.old) (S.left src.new) result.status }
     ensures to_its_end { ReadsFile words.now → result.status ≡ 0 → IsAtEnd (S.left src.new) }
     ensures unread { result.status ≡ 2 → src.new ≡ src.old }
-    ensures told { Tells (S.left src.old) (E.holds err.old) (E.holds err.new) (E.faults err.old) (E.faults err.new) result.status }
+    ensures told { Tells (S.left src.old) (E.holds err.old) (E.holds err.new) (E.faults err.old)
+        (E.faults err.new) result.status }
 
     // Counts of faults never fall.
     ensures later_source { S.faults src.old ≤ S.faults src.new }
     ensures later_output { O.faults out.old ≤ O.faults out.new }
     ensures later_error { E.faults err.old ≤ E.faults err.new }
 
-    // Where no edit takes one of the opening four and no order block is asked for, what is written goes by the file and the command.
+    // Where no edit takes one of the opening four and no order block is asked for, what is written goes by the file
+    // and the command.
     ensures plain { ReadsFile words.now → asks_order words.now ≡ false → result.status ≡ 0
-        → IfSome (S.left src.old) (λ bytes. (file : Content) → IsFile line_limit bytes file → IsAnchored file.points file.edits
+        → IfSome (S.left src.old) (λ bytes. (file : Content) → IsFile line_limit bytes file →
+        IsAnchored file.points file.edits
         → Appends (O.holds out.old) (O.holds out.new) (plain_text (asks_shape words.now) file)) }
     ensures plain_front { ReadsFile words.now → asks_order words.now ≡ false → result.status ≡ 4
-        → IfSome (S.left src.old) (λ bytes. (file : Content) → IsFile line_limit bytes file → IsAnchored file.points file.edits
+        → IfSome (S.left src.old) (λ bytes. (file : Content) → IsFile line_limit bytes file →
+        IsAnchored file.points file.edits
         → AppendsFront (O.holds out.old) (O.holds out.new) (plain_text (asks_shape words.now) file)) }
 
     // A solid file within the limit is meshed, unless memory is wanting or the source or the output fails.
@@ -123,7 +158,8 @@ pub fn run<R: Threads + Sync, S: Source, O: Sink, E: Sink, G: Gate + Sync>(
     ensures source { DrawsFile words.now → src.new ≡ src.old }
     ensures drawn_statuses { DrawsFile words.now → result.status ≤ 2 ⊎ (result.status ≡ 4) }
     ensures drawn_kept { DrawsFile words.now → asks_text words.now ≡ false → (result.status ≡ 0) ⊎ (result.status ≡ 4)
-        → FileKeeps (drawn_file words.now).points (drawn_file words.now).edits (worker_count words.now) result.kept.items }
+        → FileKeeps (drawn_file words.now).points (drawn_file words.now).edits
+        (worker_count words.now) result.kept.items }
     ensures drawn_one_thread { DrawsFile words.now → asks_text words.now ≡ false → worker_count words.now ≡ 1
         → (result.status ≡ 0) ⊎ (result.status ≡ 4) → result.kept.items ≡ history_of (drawn_file words.now) }
     ensures drawn_text_kept { DrawsFile words.now → asks_text words.now ≡ true → result.kept.items ≡ [] }

@@ -7,7 +7,20 @@ ghost use Rattle.cell_store.specs.Grids.{is_grid_size};
 ghost use Rattle.delaunay_cli.specs.Words.{AreTaken, command_of, gen_command as gen_command_of, program as program_of};
 ghost use Rattle.delaunay_cli.specs.Stops.{AreRefused};
 ghost use Rattle.delaunay_cli.specs.Tasks.{IsMakingOf, IsTask, IsTaskOf};
-ghost use Rattle.delaunay_cli.specs.Words.{flag_in as flag_in_of, flag_of, grid_option, most_count, most_grid, most_start, meshing_command, number_option, number_between as number_between_of, number_in as number_in_of, number_of as number_of_it, workers_option};
+ghost use Rattle.delaunay_cli.specs.Words.{
+  flag_in as flag_in_of,
+  flag_of,
+  grid_option,
+  most_count,
+  most_grid,
+  most_start,
+  meshing_command,
+  number_option,
+  number_between as number_between_of,
+  number_in as number_in_of,
+  number_of as number_of_it,
+  workers_option,
+};
 
 use crate::stop::Stop;
 use crate::task::{Asked, Drawn, Making, Task};
@@ -163,7 +176,8 @@ fn number_of(matches: &ArgMatches, option: &str, least: u32, most: u32) -> u32
 // The workers and the grid of the command that was met; none where there is no grid of the size.
 fn making_of(matches: &ArgMatches) -> Option<Making>
     ensures making { IfSome result (IsMakingOf (subcommand_rows_of matches.now)) }
-    ensures size { is_some result ≡ is_grid_size (number_of_it (codes "grid") 1 most_grid (subcommand_rows_of matches.now)) }
+    ensures size { is_some result ≡ is_grid_size (number_of_it (codes "grid") 1 most_grid
+        (subcommand_rows_of matches.now)) }
 {
     let workers = number_of(matches, "workers", 1, 64);
     let size = number_of(matches, "grid", 1, 16);

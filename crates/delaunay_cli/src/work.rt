@@ -18,7 +18,7 @@ use crate::reported::report;
 use crate::stop::Stop;
 use crate::task::Task;
 use crate::words::read_words;
-use byte_ends::{Failed, Sink, Source};
+use byte_ends::{Sink, Source};
 use edit_history::Entry;
 use grid_claims::Gate;
 use std::alloc::Global;
@@ -73,18 +73,26 @@ fn close(stop: Option<Stop>, kept: Vec<Entry>) -> Ended
 }
 
 // Writes what was made, and ends the run.
-fn end<O: Sink>(alloc: Global, made: Result<Made, Stop>, out: &mut O) -> Ended
+fn end<R: Threads + Sync, O: Sink>(
+    rt: &R,
+    alloc: Global,
+    made: Result<Made, Stop>,
+    out: &mut O,
+) -> Ended
     requires { ForOk made IsSound }
     ensures status { result.run.status ≡ status_of_end result.stop }
-    ensures made { IfOk made (λ made. (result.run.kept.items ≡ made.kept.items)
-        × IsPut (Rose (O.faults out.old) (O.faults out.new)) (O.holds out.old) (O.holds out.new) (text_of_page made.page) result.stop) }
-    ensures stop { IfErr made (λ stop. (result.stop ≡ Some stop) × (result.run.kept.items ≡ []) × Keeps (O.holds out.old) (O.holds out.new)) }
+    ensures made { IfOk made (λ made. IsPut (Rose (O.faults out.old) (O.faults out.new)) (O.holds out.old)
+        (O.holds out.new)
+        (text_of_page made.page) made.kept.items result.stop result.run.kept.items) }
+    ensures stop { IfErr made (λ stop. (result.stop ≡ Some stop) × (result.run.kept.items ≡ [])
+        × Keeps (O.holds out.old) (O.holds out.new)) }
     ensures later { O.faults out.old ≤ O.faults out.new }
 {
     match made {
-        Ok(Made { kept, page }) => match put_page(&page, out) {
+        Ok(Made { kept, page }) => match put_page(rt, alloc, page, out) {
             Ok(()) => close(None, kept),
-            Err(Failed) => close(Some(Stop::WriteFault), kept),
+            Err(Stop::WriteFault) => close(Some(Stop::WriteFault), kept),
+            Err(stop) => close(Some(stop), Vec::new(alloc)),
         },
         Err(stop) => close(Some(stop), Vec::new(alloc)),
     }
@@ -100,7 +108,8 @@ pub fn work<R: Threads + Sync, S: Source, O: Sink, G: Gate + Sync>(
     gate: &G,
 ) -> Ended
     ensures ends { Ends words.now (S.left src.old) (S.left src.new) (Rose (S.faults src.old) (S.faults src.new))
-        (O.holds out.old) (O.holds out.new) (Rose (O.faults out.old) (O.faults out.new)) result.run.status result.run.kept.items }
+        (O.holds out.old) (O.holds out.new) (Rose (O.faults out.old) (O.faults out.new)) result.run.status
+        result.run.kept.items }
     ensures line { IsToldLine (S.left src.old) result.run.status (line_of_end result.stop) }
     ensures source { DrawsFile words.now → src.new ≡ src.old }
     ensures unread { result.run.status ≡ 2 → src.new ≡ src.old }
@@ -108,5 +117,5 @@ pub fn work<R: Threads + Sync, S: Source, O: Sink, G: Gate + Sync>(
     ensures later_output { O.faults out.old ≤ O.faults out.new }
 {
     let made = make(rt, alloc, words, src, gate);
-    end(alloc, made, out)
+    end(rt, alloc, made, out)
 }

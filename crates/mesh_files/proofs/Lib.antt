@@ -1,3 +1,4 @@
 pub mod Places
 pub mod Flowing
 pub mod Cells
+pub mod Slots

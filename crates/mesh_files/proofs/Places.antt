@@ -1,7 +1,5 @@
 -- The place of a point in an ascending list.
-use Rattle.std.proofs.Common.{◌≡◌, refl, sym, ap, subst, cond, map, ℕ, zero, suc, ◌+◌, ◌<◌, ◌≤◌, List, [], ◌∷◌, Bool, true, false, length, get_or, arith, inl, inr}
-use Rattle.std.proofs.Math.ListN.{get_or-map}
-use Rattle.std.proofs.lemmas.List.{length-map}
+use Rattle.std.proofs.Common.{◌≡◌, refl, subst, ℕ, zero, suc, ◌<◌, ◌≤◌, List, [], ◌∷◌, Bool, true, false, length, get_or, arith, inl, inr}
 use Rattle.std.specs.Prelude.{nat_lt}
 use Rattle.std.specs.List.{prefix_len, AllWithin}
 use Rattle.std.specs.List.Sorted.{IsPartitionedBy}
@@ -35,18 +33,6 @@ below-front s p h i j d l m t =
           | inl u ↦ omega (arith, rises s a b d h u (omega (arith, m)))
           | inr u ↦ let e : a ≡ b = omega arith in subst (λ (v : ℕ). get_or s a d ≤ get_or s v d) e (omega arith)
         ]
-
--- how many of a front pass, where each is seen through a function
-pub prefix-of_map : {X Y : Type 0} (f : X → Y) (p : Y → Bool) (xs : List X) → prefix_len p (map f xs) ≡ prefix_len (λ x. p (f x)) xs
-prefix-of_map f p [] = refl
-prefix-of_map f p (x ∷ xs) = ap (λ (n : ℕ). cond (p (f x)) (1 + n) 0) (prefix-of_map f p xs)
-
--- a list whose first parts ascend has those below a point at its front
-pub below-front_of : {K : Type 0} (s : List (ℕ × K)) (p : ℕ) → IsAscending (map (λ q. q.0) s) → IsPartitionedBy (λ q. nat_lt q.0 p) s
-below-front_of {K} s p h i j d l m t =
-    let first : ℕ × K → ℕ = λ q. q.0 in
-    subst (λ (k : ℕ). nat_lt k p ≡ true) (get_or-map first s i d)
-    (below-front (map first s) p h i j d.0 l (omega (arith, m, length-map s first)) (subst (λ (k : ℕ). nat_lt k p ≡ true) (sym (get_or-map first s j d)) t))
 
 -- an item of a list at its place
 pub own_item : {X : Type 0} (d : X) (xs : List X) (i : ℕ) → i < length xs → get_or xs i d ≡ get_or xs i (get_or xs i d)

@@ -4,12 +4,12 @@ use Rattle.std.specs.Option.{option_map}
 use Rattle.std.specs.declared.alloc.Global.{Global}
 use Rattle.mesh_files.specs.declared.report.Report.{Report}
 use Rattle.point_order.specs.Sets.{IsIn, IsAscending}
-use Rattle.alpha_complex.specs.declared.shape.Shape.{Shape}
 use Rattle.alpha_complex.specs.Shapes.{ShapeParts, shape_seen}
+use Rattle.alpha_complex.specs.Slots.{ShapeSlots}
 use Rattle.mesh_files.specs.Text.{ReportParts, counted}
 
 -- shapes, each behind its radius
-abbrev pub shapes_seen : List (ℕ × Shape) → List (ℕ × ShapeParts)
+abbrev pub shapes_seen : List (ℕ × ShapeSlots) → List (ℕ × ShapeParts)
 shapes_seen shapes = map (λ s. (s.0, shape_seen s.1)) shapes
 
 -- the points by which each of the shapes counts ascend
@@ -21,7 +21,7 @@ parts_of r =
     record {
       replies = r.replies.items;
       points = r.points.items;
-      cells = r.cells.items;
+      cells = r.cells.now;
       shapes = shapes_seen r.shapes.items;
       order = option_map (λ (tags : Vec ℕ Global). tags.items) r.order;
     }

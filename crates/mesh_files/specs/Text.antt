@@ -11,8 +11,8 @@ use Rattle.alpha_complex.specs.declared.shape.Kind.TheVariants.{Singular, Regula
 use Rattle.alpha_complex.specs.Shapes.{ShapeParts}
 use Rattle.mesh_files.specs.Lines.{numbers_line, block}
 
--- what a report tells: the reply to each line, the points ascending, the cells in their order, a shape for each radius, in order,
--- and the tags of the history where they are asked for
+-- what a report tells: the reply to each line, the points ascending, the cells in their order, a shape for each
+-- radius, in order, and the tags of the history where they are asked for
 pub record ReportParts : Type 0 where
   pub replies : List Reply
   pub points : List ℕ
@@ -62,6 +62,11 @@ kind_word Interior = codes "interior"
 abbrev pub face_line : List ℕ → List ℕ → Kind → List ℕ
 face_line points corners kind =
     concat (map (λ p. decimal (index_of points p) ++ codes " ") corners) ++ kind_word kind ++ codes "\n"
+
+-- the line of what a slot holds, and nothing where it is empty
+abbrev pub held_line : {X : Type 0} → (X → List ℕ) → Option X → List ℕ
+held_line line None = []
+held_line line (Some x) = line x
 
 -- the points of a list of points with their kinds
 abbrev pub points_in : List (ℕ × Kind) → List ℕ

@@ -1,8 +1,8 @@
 //! The texts that the program writes.
 //!
 //! ```
-//! let report = Report { replies, points, cells, shapes, order: None };  // the points ascend; each radius stands beside its shape
-//! put_report(&mut out, &report)?;               // takes no memory
+//! let report = Report { replies, points, cells: &cells, shapes, order: None };  // the points ascend; each radius
+//! stands beside its shape put_report(&mut out, &report)?;               // takes no memory
 //! let text = mesh_text(alloc, &report)?;        // the same text, in memory
 //! let block = shape_text(alloc, 300, &shape)?;  // the block of one radius
 //! let counts = summary_text(alloc, &report)?;

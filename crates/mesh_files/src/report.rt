@@ -8,7 +8,18 @@ ghost use Rattle.byte_ends.specs.Ends.{AppendsFront, HasCause, Rose};
 ghost use Rattle.mesh_files.specs.Lines.{block};
 ghost use Rattle.mesh_files.specs.Pages.{Flows, FlowsInPart};
 ghost use Rattle.mesh_files.specs.Report.{AreCounted, parts_of, shapes_seen};
-ghost use Rattle.mesh_files.specs.Text.{reply_line, reply_word, point_line, indices_line, full_corners, hull_corners, tag_line, order_block, mesh_blocks, report_text};
+ghost use Rattle.mesh_files.specs.Text.{
+  reply_line,
+  reply_word,
+  point_line,
+  indices_line,
+  full_corners,
+  hull_corners,
+  tag_line,
+  order_block,
+  mesh_blocks,
+  report_text,
+};
 
 use crate::indices::{put_full_line, put_hull_line};
 use crate::lines::{put_number_and, put_three, put_title};
@@ -22,16 +33,18 @@ use point_order::{Cell, Point};
 use std::alloc::{AllocError, Global};
 
 /// What a report tells.
-#[derive(Debug, Drop)]
-pub struct Report {
+///
+/// The cells are borrowed, since the faces that the shapes borrow stand on them.
+#[derive(Drop)]
+pub struct Report<'a, 'b> {
     /// The reply to each point and edit line, in the order of the lines.
     pub replies: Vec<Reply>,
     /// The points of the mesh, ascending.
     pub points: Vec<Point>,
     /// The cells of the mesh in their order, Full cells first.
-    pub cells: Vec<Cell>,
+    pub cells: &'b [Cell],
     /// The radii in their order, each with its alpha complex.
-    pub shapes: Vec<(u64, Shape)>,
+    pub shapes: Vec<(u64, Shape<'a, 'b>)>,
     /// The tags of the history, in its order, where they are asked for.
     pub order: Option<Vec<u32>>,
 }
@@ -226,8 +239,8 @@ fn put_mesh<O: Sink>(page: &mut Page, out: &mut O, report: &Report) -> Result<()
 {
     put_replies(page, out, &report.replies)?;
     put_points(page, out, &report.points)?;
-    put_cells(page, out, &report.points, &report.cells)?;
-    put_hull(page, out, &report.points, &report.cells)
+    put_cells(page, out, &report.points, report.cells)?;
+    put_hull(page, out, &report.points, report.cells)
 }
 
 // Puts the text of the report.
@@ -247,9 +260,10 @@ fn put_all<O: Sink>(page: &mut Page, out: &mut O, report: &Report) -> Result<(),
     page.put(out, b"end\n")
 }
 
-/// Writes the report: its replies, points, cells, hull, shapes and order, one block after another, each line with a line feed.
-/// Cells are written by the indices of their points, counted from 0 in the list of points, and the faces of a shape by those of
-/// its own points. It takes no memory: the text goes to the sink a page of 4,096 bytes at a time.
+/// Writes the report: its replies, points, cells, hull, shapes and order, one block after another, each line with a
+/// line feed. Cells are written by the indices of their points, counted from 0 in the list of points, and the faces
+/// of a shape by those of its own points. It takes no memory: the text goes to the sink a page of 4,096 bytes at a
+/// time.
 ///
 /// # Errors
 ///
@@ -304,29 +318,40 @@ mod tests {
     const EVERY_COUNT: &str =
         "lines 5\nInserted 1\nDuplicate 1\nRemoved 1\nMissing 1\nFlat 1\npoints 4\ncells 1\nhull 4\n";
 
-    // The report of the tetrahedron with corners (0,0,0), (0,0,2), (0,2,0), (2,0,0).
-    fn tetrahedron(
-        rt: &impl Abort,
-        alloc: Global,
-        replies: &[Reply],
-        order: Option<Vec<u32>>,
-    ) -> Result<Report, Fail> {
+    // The corners (0,0,0), (0,0,2), (0,2,0), (2,0,0) of the tetrahedron.
+    fn corners() -> Result<[Point; 4], Fail> {
         let a = Point::new(0, 0, 0)?;
         let b = Point::new(0, 0, 2)?;
         let c = Point::new(0, 2, 0)?;
         let d = Point::new(2, 0, 0)?;
+        Ok([a, b, c, d])
+    }
+
+    // The cells of the tetrahedron.
+    fn tetrahedron(rt: &impl Abort, corners: &[Point; 4]) -> [Cell; 5] {
+        let [a, b, c, d] = *corners;
         assert!(rt; a < b && b < c && c < d && a < c && a < d && b < d);
-        let cells = [
+        [
             Cell::full(a, b, c, d),
             Cell::hull(a, b, c),
             Cell::hull(a, b, d),
             Cell::hull(a, c, d),
             Cell::hull(b, c, d),
-        ];
+        ]
+    }
+
+    // A report of the corners and the cells.
+    fn report<'a, 'b>(
+        alloc: Global,
+        replies: &[Reply],
+        corners: &[Point; 4],
+        cells: &'b [Cell],
+        order: Option<Vec<u32>>,
+    ) -> Result<Report<'a, 'b>, Fail> {
         Ok(Report {
             replies: Vec::from_slice(alloc, replies)?,
-            points: Vec::from_slice(alloc, &[a, b, c, d])?,
-            cells: Vec::from_slice(alloc, &cells)?,
+            points: Vec::from_slice(alloc, corners)?,
+            cells,
             shapes: Vec::new(alloc),
             order,
         })
@@ -359,8 +384,10 @@ mod tests {
             Reply::Flat,
         ];
         let tags = Vec::from_slice(alloc, &[10u32, 0, u32::MAX])?;
-        let plain = tetrahedron(&rt, alloc, &inserted, None)?;
-        let ordered = tetrahedron(&rt, alloc, &words, Some(tags))?;
+        let corners = corners()?;
+        let cells = tetrahedron(&rt, &corners);
+        let plain = report(alloc, &inserted, &corners, &cells, None)?;
+        let ordered = report(alloc, &words, &corners, &cells, Some(tags))?;
         for (report, counts) in [(&plain, INSERTED_COUNTS), (&ordered, EVERY_COUNT)] {
             assert_eq!(rt; summary_text(alloc, report)?.as_slice(), counts.as_bytes());
         }

@@ -7,7 +7,13 @@ ghost use Rattle.byte_ends.specs.Ends.{HasCause};
 ghost use Rattle.alpha_complex.specs.Shapes.{shape_seen};
 ghost use Rattle.mesh_files.specs.Pages.{Flows, FlowsInPart};
 ghost use Rattle.mesh_files.specs.Report.{parts_of, shapes_seen};
-ghost use Rattle.mesh_files.specs.Summary.{count_of as count_of_word, reply_count_line, mesh_counts, shape_line, summary_text as summary_text_of};
+ghost use Rattle.mesh_files.specs.Summary.{
+  count_of as count_of_word,
+  reply_count_line,
+  mesh_counts,
+  shape_line,
+  summary_text as summary_text_of,
+};
 
 use crate::lines::{put_four, put_title};
 use crate::page::Page;
@@ -81,8 +87,8 @@ fn put_mesh_counts<O: Sink>(page: &mut Page, out: &mut O, report: &Report) -> Re
     ensures cause { HasCause (O.faults out.old) (O.faults out.new) result }
 {
     put_title(page, out, b"points", report.points.len())?;
-    put_title(page, out, b"cells", full_count(&report.cells))?;
-    put_title(page, out, b"hull", hull_count(&report.cells))
+    put_title(page, out, b"cells", full_count(report.cells))?;
+    put_title(page, out, b"hull", hull_count(report.cells))
 }
 
 // Puts a radius, and how many edges, triangles and cells its shape has.
@@ -103,9 +109,9 @@ fn put_shape_line<O: Sink>(
         page,
         out,
         radius,
-        shape.pairs.len() as u64,
-        shape.triples.len() as u64,
-        shape.cells.len() as u64,
+        shape.pair_count() as u64,
+        shape.triple_count() as u64,
+        shape.cell_count() as u64,
     )
 }
 
@@ -150,8 +156,8 @@ fn put_whole<O: Sink>(out: &mut O, report: &Report) -> Result<(), Failed>
     page.flush(out)
 }
 
-/// The summary of a report, a line for each count: its lines, the replies of each word, its points, cells and hull, and for
-/// each radius the edges, triangles and cells of its shape.
+/// The summary of a report, a line for each count: its lines, the replies of each word, its points, cells and hull,
+/// and for each radius the edges, triangles and cells of its shape.
 ///
 /// # Errors
 ///

@@ -71,9 +71,11 @@ fn show_shape(
     let cells = complex(alloc, mesh)?;
     let faces = faces(rt, alloc, &cells)?;
     let shape = alpha(rt, alloc, &faces, radius)?;
-    println!(rt; "at {radius}: {} tetrahedra", shape.cells.len())?;
-    for (triple, kind) in &shape.triples {
-        println!(rt; "at {radius}: {triple} {kind:?}")?;
+    println!(rt; "at {radius}: {} tetrahedra", shape.cell_count())?;
+    for index in 0..shape.triple_slots() {
+        if let Some((triple, kind)) = shape.triple(index) {
+            println!(rt; "at {radius}: {triple} {kind:?}")?;
+        }
     }
     Ok(())
 }

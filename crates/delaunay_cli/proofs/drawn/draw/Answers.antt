@@ -4,8 +4,8 @@ use Rattle.delaunay_cli.specs.declared.stop.Stop.TheVariants.{Memory}
 use Rattle.delaunay_cli.proofs.DrawnFiles.{drawn-lines, unmeshed-drawn, wanting}
 use Rattle.delaunay_cli.proofs.drawn.draw.Goals as goal
 
-pub history_and_report-requires-clause-lines : goal.history_and_report-requires-clause-lines
-history_and_report-requires-clause-lines g c κs within =
+pub history_and_parts-requires-clause-lines : goal.history_and_parts-requires-clause-lines
+history_and_parts-requires-clause-lines g c κs within =
     drawn-lines (content c.in_ok-file.file) c.args.drawn.count c.args.drawn.start c.args.drawn.few c.in_ok-file.ensures
 
 pub returns-in_err-kept-clause-stop : goal.returns-in_err-kept-clause-stop
@@ -14,5 +14,5 @@ returns-in_err-kept-clause-stop g c =
     wanting c.from_residual-in_err-kept.result stop c.from_residual-in_err-kept.ensures.1
     (unmeshed-drawn (content c.in_ok-file.file) c.args.drawn.count c.args.drawn.start c.in_ok-file.ensures stop c.in_err-kept.ensures.stop)
 
-pub returns-in_err-summary_text-clause-stop : goal.returns-in_err-summary_text-clause-stop
-returns-in_err-summary_text-clause-stop g c = wanting c.from_residual-in_err-summary_text.result Memory c.from_residual-in_err-summary_text.ensures.1 refl
+pub returns-in_err-summary_of_parts-clause-stop : goal.returns-in_err-summary_of_parts-clause-stop
+returns-in_err-summary_of_parts-clause-stop g c = wanting c.from_residual-in_err-summary_of_parts.result Memory c.from_residual-in_err-summary_of_parts.ensures.1 refl

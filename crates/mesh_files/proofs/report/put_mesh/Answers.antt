@@ -12,12 +12,12 @@ returns-in_err-put_points-clause-front g c = search (on_err, more_two, fails (rw
 
 pub returns-in_err-put_cells-clause-front : goal.returns-in_err-put_cells-clause-front
 unfolding mesh_blocks
-returns-in_err-put_cells-clause-front g c = search (on_err, more, fails (then (rw c.deref.ensures.value at c.in_ok-put_replies.ensures.flows) (rw c.deref-2.ensures.value at c.in_ok-put_points.ensures.flows)) (rw (c.deref-3.ensures.value, c.deref-4.ensures.value) at c.in_err-put_cells.ensures.front))
+returns-in_err-put_cells-clause-front g c = search (on_err, more, fails (then (rw c.deref.ensures.value at c.in_ok-put_replies.ensures.flows) (rw c.deref-2.ensures.value at c.in_ok-put_points.ensures.flows)) (rw c.deref-3.ensures.value at c.in_err-put_cells.ensures.front))
 
 pub returns-clause-flows : goal.returns-clause-flows
 unfolding mesh_blocks
-returns-clause-flows g c = then_ok _ _ _ _ (then (then (rw c.deref.ensures.value at c.in_ok-put_replies.ensures.flows) (rw c.deref-2.ensures.value at c.in_ok-put_points.ensures.flows)) (rw (c.deref-3.ensures.value, c.deref-4.ensures.value) at c.in_ok-put_cells.ensures.flows)) (rw (c.deref-5.ensures.value, c.deref-6.ensures.value) at c.put_hull.ensures.flows)
+returns-clause-flows g c = then_ok _ _ _ _ (then (then (rw c.deref.ensures.value at c.in_ok-put_replies.ensures.flows) (rw c.deref-2.ensures.value at c.in_ok-put_points.ensures.flows)) (rw c.deref-3.ensures.value at c.in_ok-put_cells.ensures.flows)) (rw c.deref-4.ensures.value at c.put_hull.ensures.flows)
 
 pub returns-clause-front : goal.returns-clause-front
 unfolding mesh_blocks
-returns-clause-front g c = fails_err _ _ _ (then (then (rw c.deref.ensures.value at c.in_ok-put_replies.ensures.flows) (rw c.deref-2.ensures.value at c.in_ok-put_points.ensures.flows)) (rw (c.deref-3.ensures.value, c.deref-4.ensures.value) at c.in_ok-put_cells.ensures.flows)) (rw (c.deref-5.ensures.value, c.deref-6.ensures.value) at c.put_hull.ensures.front)
+returns-clause-front g c = fails_err _ _ _ (then (then (rw c.deref.ensures.value at c.in_ok-put_replies.ensures.flows) (rw c.deref-2.ensures.value at c.in_ok-put_points.ensures.flows)) (rw c.deref-3.ensures.value at c.in_ok-put_cells.ensures.flows)) (rw c.deref-4.ensures.value at c.put_hull.ensures.front)

@@ -1,20 +1,39 @@
-use Rattle.std.proofs.Common.{List, ℕ, refl, arith, length, sym}
-use Rattle.std.specs.Prelude.{map, codes}
+use Rattle.std.proofs.Common.{◌≡◌, ◌∙◌, sym, List, ℕ, ◌<◌, length, get_or, arith}
+use Rattle.std.specs.Prelude.{Option, None, map, codes}
 use Rattle.std.specs.List.{concat}
 use Rattle.std.proofs.lemmas.List.{length-map}
 use Rattle.alpha_complex.specs.declared.shape.Kind.{Kind}
-use Rattle.mesh_files.specs.Text.{face_line, points_in}
+use Rattle.alpha_complex.specs.Slots.{held}
+use Rattle.mesh_files.specs.Text.{face_line, held_line, points_in}
 use Rattle.mesh_files.proofs.Flowing.{breaks, goes_on, on_err, title_fails}
+use Rattle.mesh_files.proofs.Places.{own_item}
+use Rattle.mesh_files.proofs.Slots.{held_items}
 use Rattle.mesh_files.proofs.shapes.put_pairs.Goals as goal
 
 pub returns-in_err-put_title-clause-front : goal.returns-in_err-put_title-clause-front
-returns-in_err-put_title-clause-front g c = on_err c.from_residual.result (title_fails (codes "edges") (map (λ (f : List ℕ × Kind). face_line (points_in c.args.points.now) f.0 f.1) c.args.faces.now) (length c.args.faces.now) (sym (length-map c.args.faces.now (λ (f : List ℕ × Kind). face_line (points_in c.args.points.now) f.0 f.1))) c.in_err-put_title.ensures.front)
+returns-in_err-put_title-clause-front g c =
+    let line = (λ (f : List ℕ × Kind). face_line (points_in c.args.shape.now.points) f.0 f.1) in
+    let slots = c.args.shape.now.pairs in
+    let n : c.pair_count.result ≡ length (map line (held slots)) = c.pair_count.ensures ∙ sym (length-map (held slots) line) in
+    on_err c.from_residual.result (title_fails (codes "edges") (map line (held slots)) c.pair_count.result n c.in_err-put_title.ensures.front)
 
-pub returns-in_err-put_face-clause-front : goal.returns-in_err-put_face-clause-front
-returns-in_err-put_face-clause-front g c =
-    on_err c.from_residual-in_err-put_face.result
-    (breaks (λ (xs : List (List ℕ × Kind)). concat (map (λ (f : List ℕ × Kind). face_line (points_in c.args.points.now) f.0 f.1) xs)) (λ (f : List ℕ × Kind). face_line (points_in c.args.points.now) f.0 f.1) (λ x xs. refl) c.args.faces.now c.loop-pair.pair-index c.loop-pair-item.result c.loop-pair-test.true c.loop-pair-item.is c.loop-pair.invariant.0 (rw c.points.ensures.points at c.in_err-put_face.ensures.front))
+pub returns-in_err-put_pair-clause-front : goal.returns-in_err-put_pair-clause-front
+returns-in_err-put_pair-clause-front g c =
+    let line = (λ (f : List ℕ × Kind). face_line (points_in c.args.shape.now.points) f.0 f.1) in
+    let slots = c.args.shape.now.pairs in
+    let i = c.loop-index.index in
+    let t = c.loop-index-test.true in
+    let e = c.pair_slots-index-end.ensures in
+    let h : i < length slots = omega (arith, t, e) in
+    on_err c.from_residual-in_err-put_pair.result
+    (breaks (λ (xs : List (Option (List ℕ × Kind))). concat (map line (held xs))) (held_line line) (held_items line) slots i (get_or slots i None) h (own_item None slots i h) c.loop-index.invariant.0 c.in_err-put_pair.ensures.front)
 
-pub loop-pair-preserved : goal.loop-pair-preserved
-loop-pair-preserved g c =
-    (goes_on (λ (xs : List (List ℕ × Kind)). concat (map (λ (f : List ℕ × Kind). face_line (points_in c.args.points.now) f.0 f.1) xs)) (λ (f : List ℕ × Kind). face_line (points_in c.args.points.now) f.0 f.1) (λ x xs. refl) c.args.faces.now c.loop-pair.pair-index c.loop-pair-item.result c.loop-pair-test.true c.loop-pair-item.is c.loop-pair.invariant.0 (rw c.points.ensures.points at c.in_ok-put_face.ensures.flows), omega (arith, c.loop-pair.invariant.1, c.in_ok-put_face.ensures.cause.later))
+pub loop-index-preserved : goal.loop-index-preserved
+loop-index-preserved g c =
+    let line = (λ (f : List ℕ × Kind). face_line (points_in c.args.shape.now.points) f.0 f.1) in
+    let slots = c.args.shape.now.pairs in
+    let i = c.loop-index.index in
+    let t = c.loop-index-test.true in
+    let e = c.pair_slots-index-end.ensures in
+    let h : i < length slots = omega (arith, t, e) in
+    (goes_on (λ (xs : List (Option (List ℕ × Kind))). concat (map line (held xs))) (held_line line) (held_items line) slots i (get_or slots i None) h (own_item None slots i h) c.loop-index.invariant.0 c.in_ok-put_pair.ensures.flows, omega (arith, c.loop-index.invariant.1, c.in_ok-put_pair.ensures.cause.later))

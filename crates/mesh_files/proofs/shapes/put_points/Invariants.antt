@@ -7,9 +7,9 @@ use Rattle.mesh_files.specs.Text.{face_line, points_in}
 use Rattle.mesh_files.proofs.Flowing.{FlowsBut}
 use Rattle.mesh_files.proofs.shapes.put_points.Given as goal
 
-abbrev pub invariant-loop-point : goal.invariant-loop-point
-invariant-loop-point g l =
+abbrev pub invariant-loop-index : goal.invariant-loop-index
+invariant-loop-index g l =
     FlowsBut (g.O.Sink.holds l.fn.out) (g.O.Sink.holds l.out) l.fn.page l.page
-    (concat (map (λ f. face_line (points_in l.points) (f.0 ∷ []) f.1) (drop l.point-index l.points)))
-    (block (codes "points") (map (λ f. face_line (points_in l.points) (f.0 ∷ []) f.1) l.points))
+    (concat (map (λ f. face_line (points_in l.shape.points) (f.0 ∷ []) f.1) (drop l.index l.shape.points)))
+    (block (codes "points") (map (λ f. face_line (points_in l.shape.points) (f.0 ∷ []) f.1) l.shape.points))
     × (g.O.Sink.faults l.fn.out ≤ g.O.Sink.faults l.out)

@@ -1,5 +1,5 @@
 use Rattle.std.proofs.Common.{List, ℕ, refl, arith}
-use Rattle.alpha_complex.specs.declared.shape.Shape.{Shape}
+use Rattle.alpha_complex.specs.Slots.{ShapeSlots}
 use Rattle.alpha_complex.specs.Shapes.{ShapeParts, shape_seen}
 use Rattle.alpha_complex.proofs.Cited.{mapped_at}
 use Rattle.mesh_files.specs.Report.{shapes_seen}
@@ -9,14 +9,14 @@ use Rattle.mesh_files.proofs.shapes.put_shapes.Goals as goal
 
 pub put_shape-requires : goal.put_shape-requires
 put_shape-requires g c =
-    let seen : ℕ × Shape → ℕ × ShapeParts = λ s. (s.0, shape_seen s.1) in
+    let seen : ℕ × ShapeSlots → ℕ × ShapeParts = λ s. (s.0, shape_seen s.1) in
     c.requires.ascending (seen c.loop-radius-item.result) (mapped_at seen c.args.shapes.now c.loop-radius.radius-index c.loop-radius-item.result c.loop-radius-test.true c.loop-radius-item.is)
 
 pub returns-in_err-put_shape-clause-front : goal.returns-in_err-put_shape-clause-front
 returns-in_err-put_shape-clause-front g c =
     on_err c.from_residual.result
-    (breaks (λ (xs : List (ℕ × Shape)). shape_blocks (shapes_seen xs)) (λ (s : ℕ × Shape). shape_text s.0 (shape_seen s.1)) (λ x xs. refl) c.args.shapes.now c.loop-radius.radius-index c.loop-radius-item.result c.loop-radius-test.true c.loop-radius-item.is c.loop-radius.invariant.0 c.in_err-put_shape.ensures.front)
+    (breaks (λ (xs : List (ℕ × ShapeSlots)). shape_blocks (shapes_seen xs)) (λ (s : ℕ × ShapeSlots). shape_text s.0 (shape_seen s.1)) (λ x xs. refl) c.args.shapes.now c.loop-radius.radius-index c.loop-radius-item.result c.loop-radius-test.true c.loop-radius-item.is c.loop-radius.invariant.0 c.in_err-put_shape.ensures.front)
 
 pub loop-radius-preserved : goal.loop-radius-preserved
 loop-radius-preserved g c =
-    (goes_on (λ (xs : List (ℕ × Shape)). shape_blocks (shapes_seen xs)) (λ (s : ℕ × Shape). shape_text s.0 (shape_seen s.1)) (λ x xs. refl) c.args.shapes.now c.loop-radius.radius-index c.loop-radius-item.result c.loop-radius-test.true c.loop-radius-item.is c.loop-radius.invariant.0 c.in_ok-put_shape.ensures.flows, omega (arith, c.loop-radius.invariant.1, c.in_ok-put_shape.ensures.cause.later))
+    (goes_on (λ (xs : List (ℕ × ShapeSlots)). shape_blocks (shapes_seen xs)) (λ (s : ℕ × ShapeSlots). shape_text s.0 (shape_seen s.1)) (λ x xs. refl) c.args.shapes.now c.loop-radius.radius-index c.loop-radius-item.result c.loop-radius-test.true c.loop-radius-item.is c.loop-radius.invariant.0 c.in_ok-put_shape.ensures.flows, omega (arith, c.loop-radius.invariant.1, c.in_ok-put_shape.ensures.cause.later))

@@ -1,15 +1,16 @@
--- a front of the block was put, and the lines that are left are not yet
+-- a front of the block was put, and the lines of the slots that are left are not yet
 use Rattle.std.proofs.Common.{◌≤◌, drop}
 use Rattle.std.specs.Prelude.{map, codes}
 use Rattle.std.specs.List.{concat}
+use Rattle.alpha_complex.specs.Slots.{held}
 use Rattle.mesh_files.specs.Lines.{block}
 use Rattle.mesh_files.specs.Text.{face_line, points_in}
 use Rattle.mesh_files.proofs.Flowing.{FlowsBut}
 use Rattle.mesh_files.proofs.shapes.put_triples.Given as goal
 
-abbrev pub invariant-loop-tri : goal.invariant-loop-tri
-invariant-loop-tri g l =
+abbrev pub invariant-loop-index : goal.invariant-loop-index
+invariant-loop-index g l =
     FlowsBut (g.O.Sink.holds l.fn.out) (g.O.Sink.holds l.out) l.fn.page l.page
-    (concat (map (λ f. face_line (points_in l.points) f.0 f.1) (drop l.tri-index l.faces)))
-    (block (codes "triangles") (map (λ f. face_line (points_in l.points) f.0 f.1) l.faces))
+    (concat (map (λ f. face_line (points_in l.shape.points) f.0 f.1) (held (drop l.index l.shape.triples))))
+    (block (codes "triangles") (map (λ f. face_line (points_in l.shape.points) f.0 f.1) (held l.shape.triples)))
     × (g.O.Sink.faults l.fn.out ≤ g.O.Sink.faults l.out)

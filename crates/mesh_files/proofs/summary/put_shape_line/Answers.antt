@@ -1,4 +1,3 @@
-use Rattle.std.proofs.Common.{◌∙◌}
 use Rattle.mesh_files.proofs.Flowing.{fails_err, more, on_err, then_ok}
 use Rattle.mesh_files.proofs.summary.put_shape_line.Goals as goal
 
@@ -6,7 +5,7 @@ pub returns-in_err-put-clause-front : goal.returns-in_err-put-clause-front
 returns-in_err-put-clause-front g c = search (on_err, more, c.in_err-put.ensures.front)
 
 pub returns-clause-flows : goal.returns-clause-flows
-returns-clause-flows g c = then_ok _ _ _ _ c.in_ok-put.ensures.flows (rw ((c.len.ensures ∙ c.args.shape.now.pairs.ok.0), (c.len-2.ensures ∙ c.args.shape.now.triples.ok.0), (c.len-3.ensures ∙ c.args.shape.now.cells.ok.0)) at c.put_four.ensures.flows)
+returns-clause-flows g c = then_ok _ _ _ _ c.in_ok-put.ensures.flows (rw (c.pair_count.ensures, c.triple_count.ensures, c.cell_count.ensures) at c.put_four.ensures.flows)
 
 pub returns-clause-front : goal.returns-clause-front
-returns-clause-front g c = fails_err _ _ _ c.in_ok-put.ensures.flows (rw ((c.len.ensures ∙ c.args.shape.now.pairs.ok.0), (c.len-2.ensures ∙ c.args.shape.now.triples.ok.0), (c.len-3.ensures ∙ c.args.shape.now.cells.ok.0)) at c.put_four.ensures.front)
+returns-clause-front g c = fails_err _ _ _ c.in_ok-put.ensures.flows (rw (c.pair_count.ensures, c.triple_count.ensures, c.cell_count.ensures) at c.put_four.ensures.front)

@@ -1,20 +1,63 @@
-use Rattle.std.proofs.Common.{◌∙◌, List, ap}
-use Rattle.std.specs.List.{filter}
+use Rattle.std.proofs.Common.{◌≡◌, ◌∙◌, List, ℕ, Bool, ap, sym, length, map, nat_le}
+use Rattle.std.specs.Prelude.{Option, zip}
 use Rattle.point_order.specs.declared.cell.Cell.{Cell}
-use Rattle.face_list.specs.Faces.{full_cells}
-use Rattle.alpha_complex.specs.Admitted.{is_within}
+use Rattle.alpha_complex.specs.declared.numbers.FaceAlphas.{FaceAlphas}
+use Rattle.alpha_complex.specs.declared.shape.Kind.{Kind}
+use Rattle.alpha_complex.specs.Judged.{is_admitted_pair, is_admitted_triple, is_small_cell}
+use Rattle.alpha_complex.specs.Leasts.{AreAlphas, AreAlphasOf, IsLeastOf, is_admitted_point, kind_at, kind_where}
+use Rattle.alpha_complex.specs.Slots.{held, slots_of, cell_slots_of}
+use Rattle.alpha_complex.proofs.Leasts.{length_mapped, zip_length}
+use Rattle.alpha_complex.proofs.KindSteps.{admitted_told, all_told, cells_told}
 use Rattle.alpha_complex.proofs.Shaped.{pair_kinds_are, points_are, triple_kinds_are, cells_are}
 use Rattle.alpha_complex.proofs.numbers.Alphas.shape.Goals as goal
 
+-- as many kinds as faces
+kind_count : {X : Type 0} (admits : ℕ → X × List Cell → Bool) (faces : List (X × List Cell)) (alphas : List FaceAlphas) {K : Type 0} (f : FaceAlphas → K) (kinds : List K) → AreAlphas admits faces alphas → kinds ≡ map f alphas → length kinds ≡ length faces
+kind_count admits faces alphas f kinds z e = ap length e ∙ length_mapped f alphas ∙ sym (zip_length (AreAlphasOf admits) faces alphas z)
+
+pub invariant_of-result : goal.invariant_of-result
+invariant_of-result c =
+    let known = c.args.self.now in
+    let alpha = c.args.alpha in
+    record {
+      points = kind_count is_admitted_point known.faces.now.points known.points.items (λ a. kind_at a alpha) _ c.requires.known.points (c.in_ok-kinds_of_all.ensures ∙ ap (λ (v : List FaceAlphas). map (λ a. kind_at a alpha) v) c.deref.ensures.value);
+      pairs = kind_count (is_admitted_pair known.faces.now.triples) known.faces.now.pairs known.pairs.items (λ a. kind_where a alpha) _ c.requires.known.pairs (c.in_ok-kinds_of_admitted.ensures ∙ ap (λ (v : List FaceAlphas). map (λ a. kind_where a alpha) v) c.deref-2.ensures.value);
+      triples = kind_count is_admitted_triple known.faces.now.triples known.triples.items (λ a. kind_where a alpha) _ c.requires.known.triples (c.in_ok-kinds_of_admitted-2.ensures ∙ ap (λ (v : List FaceAlphas). map (λ a. kind_where a alpha) v) c.deref-3.ensures.value);
+      cells = ap length (c.in_ok-marks.ensures ∙ ap (λ (v : List ℕ). map (λ n. nat_le n alpha) v) c.deref-4.ensures.value) ∙ length_mapped (λ n. nat_le n alpha) known.cells.items ∙ sym (zip_length (λ x n. IsLeastOf (λ a. is_small_cell a x) n) known.faces.now.cells known.cells.items c.requires.known.cells);
+    }
+
 pub returns-clause-points : goal.returns-clause-points
-returns-clause-points c s h = c.in_ok-points_with_kinds.ensures ∙ points_are s c.args.self.now.faces.now c.args.alpha h
+returns-clause-points c s h =
+    let known = c.args.self.now in
+    let alpha = c.args.alpha in
+    let kinds = c.in_ok-kinds_of_all.ensures ∙ ap (λ (v : List FaceAlphas). map (λ a. kind_at a alpha) v) c.deref.ensures.value in
+    ap (λ (v : List Kind). zip (map (λ f. f.0) known.faces.now.points) v) kinds
+    ∙ all_told is_admitted_point alpha known.faces.now.points known.points.items c.requires.alpha c.requires.known.points
+    ∙ points_are s known.faces.now alpha h
 
 pub returns-clause-pairs : goal.returns-clause-pairs
-returns-clause-pairs c s h = c.in_ok-pairs_with_kinds.ensures ∙ pair_kinds_are s c.args.self.now.faces.now c.args.alpha h
+returns-clause-pairs c s h =
+    let known = c.args.self.now in
+    let alpha = c.args.alpha in
+    let kinds = c.in_ok-kinds_of_admitted.ensures ∙ ap (λ (v : List FaceAlphas). map (λ a. kind_where a alpha) v) c.deref-2.ensures.value in
+    ap (λ (v : List (Option Kind)). held (slots_of (map (λ f. f.0) known.faces.now.pairs) v)) kinds
+    ∙ admitted_told (is_admitted_pair known.faces.now.triples) alpha known.faces.now.pairs known.pairs.items c.requires.alpha c.requires.known.pairs
+    ∙ pair_kinds_are s known.faces.now alpha h
 
 pub returns-clause-triples : goal.returns-clause-triples
-returns-clause-triples c s h = c.in_ok-triples_with_kinds.ensures ∙ triple_kinds_are s c.args.self.now.faces.now c.args.alpha h
+returns-clause-triples c s h =
+    let known = c.args.self.now in
+    let alpha = c.args.alpha in
+    let kinds = c.in_ok-kinds_of_admitted-2.ensures ∙ ap (λ (v : List FaceAlphas). map (λ a. kind_where a alpha) v) c.deref-3.ensures.value in
+    ap (λ (v : List (Option Kind)). held (slots_of (map (λ f. f.0) known.faces.now.triples) v)) kinds
+    ∙ admitted_told is_admitted_triple alpha known.faces.now.triples known.triples.items c.requires.alpha c.requires.known.triples
+    ∙ triple_kinds_are s known.faces.now alpha h
 
 pub returns-clause-cells : goal.returns-clause-cells
 returns-clause-cells c s h =
-    c.in_ok-cells_within.ensures ∙ ap (λ (v : List Cell). filter (is_within c.args.alpha) (full_cells v)) c.cells.ensures ∙ cells_are s c.args.self.now.faces.now c.args.alpha h
+    let known = c.args.self.now in
+    let alpha = c.args.alpha in
+    let marks = c.in_ok-marks.ensures ∙ ap (λ (v : List ℕ). map (λ n. nat_le n alpha) v) c.deref-4.ensures.value in
+    ap (λ (v : List Bool). held (cell_slots_of known.faces.now.cells v)) marks
+    ∙ cells_told alpha known.faces.now.cells known.cells.items c.requires.alpha c.requires.known.cells
+    ∙ cells_are s known.faces.now alpha h

@@ -1,0 +1,35 @@
+use Rattle.std.proofs.Common.{◌≡◌, inl, sym, subst, ℕ, List}
+use Rattle.std.specs.Prelude.{Option, Result, Ok, Err, IfErr, IsErrAnd}
+use Rattle.std.proofs.KnownBytes.{Keeps-refl}
+use Rattle.mesh_files.specs.Report.{AreCounted, shapes_seen}
+use Rattle.delaunay_cli.specs.declared.stop.Stop.{Stop}
+use Rattle.delaunay_cli.specs.declared.stop.Stop.TheVariants.{Memory}
+use Rattle.delaunay_cli.specs.Ends.{IsUnput}
+use Rattle.delaunay_cli.proofs.ShapesOfSet.{shapes_counted, shapes_lent}
+use Rattle.delaunay_cli.proofs.shapes.put_parts.Goals as goal
+
+-- nothing was written where memory was wanting
+unwritten : {T : Type 0} (failed : Type 0) (held : Option (List ℕ)) (text : List ℕ) (m : Result T Stop) → IsErrAnd m (λ e. e ≡ Memory) → IfErr m (IsUnput failed held held text)
+unwritten failed held text (Ok v) a = tt
+unwritten failed held text (Err s) a = inl (a, Keeps-refl held)
+
+pub returns-in_err-shapes-clause-stop : goal.returns-in_err-shapes-clause-stop
+returns-in_err-shapes-clause-stop g c = unwritten _ _ _ c.from_residual-in_err-shapes.result c.from_residual-in_err-shapes.ensures.1
+
+pub put-requires-clause-shapes : goal.put-requires-clause-shapes
+put-requires-clause-shapes g c =
+    let parts = c.args.parts in
+    let e = shapes_lent (shapes_seen c.in_ok-shapes.shapes.items) parts.points.items c.deref-4.result.now parts.radii.items c.deref-5.result.now c.in_ok-shapes.ensures c.deref-4.ensures.value c.deref-5.ensures.value in
+    subst AreCounted (sym e) (shapes_counted parts.radii.items parts.points.items c.requires.ascending)
+
+pub returns-clause-whole : goal.returns-clause-whole
+returns-clause-whole g c =
+    let parts = c.args.parts in
+    let e = shapes_lent (shapes_seen c.in_ok-shapes.shapes.items) parts.points.items c.deref-4.result.now parts.radii.items c.deref-5.result.now c.in_ok-shapes.ensures c.deref-4.ensures.value c.deref-5.ensures.value in
+    rw (e, c.deref-6.ensures.value) at c.put.ensures.whole
+
+pub returns-clause-stop : goal.returns-clause-stop
+returns-clause-stop g c =
+    let parts = c.args.parts in
+    let e = shapes_lent (shapes_seen c.in_ok-shapes.shapes.items) parts.points.items c.deref-4.result.now parts.radii.items c.deref-5.result.now c.in_ok-shapes.ensures c.deref-4.ensures.value c.deref-5.ensures.value in
+    rw (e, c.deref-6.ensures.value) at c.put.ensures.stop
