@@ -4,7 +4,6 @@
 --     ring_from a b g xs h tt       the same, from given equations, each times a factor
 --     nonneg_from m e s g xs .. tt  m times e is the sum of products s, none negative, and m is positive: so e is not negative
 --     pos_from m e s g xs .. tt     the same with a positive last product: so e is positive
---     clash_from s g xs .. tt       a sum of products with a positive one cannot be 0
 use Rattle.std.specs.Prelude.{ℤ, pos, ◌+ℤ◌, neg_ℤ, ◌≡◌, ◌≤ℤ◌, ◌<ℤ◌, List, T}
 use Rattle.std.proofs.Common.{arith, sym, ◌∙◌, subst}
 use Rattle.std.proofs.lemmas.Int.{ints}
