@@ -3,8 +3,9 @@
 //! It runs as it stands and prints what `stdout` in its crate says, so it cannot fall behind the library.
 #![tactic(auto)]
 
-ghost use Rattle.std.specs.Prelude.{◌≡◌, ◌<◌, ◌^◌, IfOk};
+ghost use Rattle.std.specs.Prelude.{◌≡◌, ◌<◌, ◌^◌, IfOk, IsTrue};
 ghost use Rattle.point_order.specs.Orientation.{is_flat};
+ghost use Rattle.point_order.specs.Sets.{IsAscending};
 
 mod threads;
 
@@ -15,6 +16,7 @@ use edit_history::Edit;
 use exact_orient::orient;
 use face_list::faces;
 use insertion::cell_in_conflict;
+use mesh_files::shape_text;
 use one_mesh::{apply, begin, complex, points};
 use point_order::Point;
 use std::alloc::Global;
@@ -58,7 +60,17 @@ fn show_complex(rt: &impl Print, alloc: Global, mesh: &Mesh) -> Result<()> {
     Ok(())
 }
 
-// The alpha complex at a squared radius below 2^30.
+// Whether the five points ascend.
+fn are_ascending(points: &[Point]) -> bool
+    ensures { IsTrue result → IsAscending points.now }
+{
+    match points {
+        [a, b, c, d, e] => a < b && b < c && c < d && d < e,
+        _ => false,
+    }
+}
+
+// The alpha complex at a squared radius below 2^30, and how long its block in a report is.
 fn show_shape(
     rt: &(impl Print + Threads + Sync),
     alloc: Global,
@@ -76,6 +88,10 @@ fn show_shape(
         if let Some((triple, kind)) = shape.triple(index) {
             println!(rt; "at {radius}: {triple} {kind:?}")?;
         }
+    }
+    if are_ascending(shape.points()) {
+        let block = shape_text(alloc, radius, &shape)?;
+        println!(rt; "at {radius}: a block of {} bytes", block.len())?;
     }
     Ok(())
 }
