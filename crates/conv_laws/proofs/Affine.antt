@@ -3,7 +3,7 @@ use Rattle.std.specs.Prelude.{ℤ, pos, ◌*ℤ◌, ◌≡◌, ℕ, List, [], �
 use Rattle.std.proofs.Common.{sym}
 use Rattle.whole_ring.specs.Poly.{Expr, var, lit, ◌⊕◌, ◌⊗◌, minus, ◌⊖◌, nothing, given}
 use Rattle.whole_ring.proofs.Cited.{ring, ring_from}
-use Rattle.conv_laws.specs.Places.{Place, orient, lifted}
+use Rattle.conv_laws.specs.Places.{Place, orient, lifted, minor, triple}
 use Rattle.conv_laws.specs.Affine.{weighted, WeightsAddUp, WeightsLocate, WeightsOfHeights, OrientCarried, LiftedCarried, ThreeTerms, Pencil, PencilInPlane, Crossing}
 use Rattle.conv_laws.proofs.Written.{Written, place, onto, all_of, o, weighted_w, raised}
 use Rattle.conv_laws.proofs.Alternation.{orient_swap23, lifted_swap23}
@@ -16,7 +16,7 @@ five a b c d e = onto (a ∷ b ∷ c ∷ d ∷ e ∷ []) []
 
 -- the weights add up to the orientation of the four
 pub weights_add_up : WeightsAddUp
-unfolding orient
+unfolding orient triple minor
 weights_add_up a b c d e = ring (o 1 3 2 4 ⊕ o 0 2 3 4 ⊕ o 0 3 1 4 ⊕ o 0 1 2 4) (o 0 1 2 3) (five a b c d e) tt
 
 -- in one coordinate, which f takes out of each place
@@ -25,17 +25,17 @@ located f = weighted_w (f (place 0)) (f (place 1)) (f (place 2)) (f (place 3))
 
 -- the weights give e in each coordinate
 pub weights_locate_x : (a b c d e : Place) → orient a b c d *ℤ e.x ≡ weighted a b c d e a.x b.x c.x d.x
-unfolding orient
+unfolding orient triple minor
 weights_locate_x a b c d e = ring (o 0 1 2 3 ⊗ var 12) (located (λ p. p.x)) (five a b c d e) tt
 
 -- the same in the second coordinate
 pub weights_locate_y : (a b c d e : Place) → orient a b c d *ℤ e.y ≡ weighted a b c d e a.y b.y c.y d.y
-unfolding orient
+unfolding orient triple minor
 weights_locate_y a b c d e = ring (o 0 1 2 3 ⊗ var 13) (located (λ p. p.y)) (five a b c d e) tt
 
 -- the same in the third coordinate
 pub weights_locate_z : (a b c d e : Place) → orient a b c d *ℤ e.z ≡ weighted a b c d e a.z b.z c.z d.z
-unfolding orient
+unfolding orient triple minor
 weights_locate_z a b c d e = ring (o 0 1 2 3 ⊗ var 14) (located (λ p. p.z)) (five a b c d e) tt
 
 -- the three together
@@ -44,7 +44,7 @@ weights_locate a b c d e = (weights_locate_x a b c d e, weights_locate_y a b c d
 
 -- the lifted determinant is what the weights leave over of the height
 pub weights_of_heights : WeightsOfHeights
-unfolding orient lifted
+unfolding orient lifted triple minor
 weights_of_heights a b c d e =
     ring (o 0 1 2 3 ⊗ var 19) (raised 15 0 1 2 3 4 ⊕ weighted_w (var 15) (var 16) (var 17) (var 18)) (all_of (a ∷ b ∷ c ∷ d ∷ e ∷ [])) tt
 
@@ -52,7 +52,7 @@ weights_of_heights a b c d e =
 
 -- orientations are carried
 pub orient_carried : OrientCarried
-unfolding orient
+unfolding orient triple minor
 orient_carried a b c d e k l m =
     ring (o 0 1 2 3 ⊗ o 5 6 7 4) (weighted_w (o 5 6 7 0) (o 5 6 7 1) (o 5 6 7 2) (o 5 6 7 3)) (onto (a ∷ b ∷ c ∷ d ∷ e ∷ k ∷ l ∷ m ∷ []) []) tt
 
@@ -107,13 +107,13 @@ lifted_carried a' b' c' d' e' k' l' m' n' =
 
 -- the three-term relation around a common pair
 pub three_terms : ThreeTerms
-unfolding orient
+unfolding orient triple minor
 three_terms a b c d x y =
     ring (o 0 1 2 3 ⊗ o 0 1 4 5 ⊖ o 0 1 2 4 ⊗ o 0 1 3 5 ⊕ o 0 1 2 5 ⊗ o 0 1 3 4) (lit (pos 0)) (onto (a ∷ b ∷ c ∷ d ∷ x ∷ y ∷ []) []) tt
 
 -- the relation of the pencil of spheres through three places
 pub pencil : Pencil
-unfolding orient lifted
+unfolding orient lifted triple minor
 pencil a b c x y z =
     ring (o 0 1 2 3 ⊗ raised 18 0 1 2 4 5 ⊖ o 0 1 2 4 ⊗ raised 18 0 1 2 3 5 ⊕ o 0 1 2 5 ⊗ raised 18 0 1 2 3 4) (lit (pos 0)) (all_of (a ∷ b ∷ c ∷ x ∷ y ∷ z ∷ [])) tt
 

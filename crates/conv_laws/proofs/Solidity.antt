@@ -4,7 +4,7 @@ use Rattle.std.proofs.Common.{◌∙◌}
 use Rattle.whole_ring.specs.Poly.{Expr, var, lit, ◌⊕◌, ◌⊗◌, minus, ◌⊖◌, nothing, given}
 use Rattle.whole_ring.proofs.Cited.{ring, ring_from}
 use Rattle.list_laws.proofs.Cited.{first_factor, not_other, other_factor}
-use Rattle.conv_laws.specs.Places.{Vector, cross, IsZero, Place, step, normal, orient}
+use Rattle.conv_laws.specs.Places.{Vector, cross, IsZero, Place, step, normal, orient, minor, triple}
 use Rattle.conv_laws.specs.Solidity.{HeightOverPlane, CramersRule, NormalByHeights, OnePlane, OnlyOnLine, LineInPlane, ParallelVectors, OneLine}
 use Rattle.conv_laws.proofs.Written.{Written, place, onto, det_w, cross_w, dot_w, step_w, normal_w, o}
 
@@ -12,7 +12,7 @@ use Rattle.conv_laws.proofs.Written.{Written, place, onto, det_w, cross_w, dot_w
 
 -- the orientation is the height along the normal
 pub height_over_plane : HeightOverPlane
-unfolding orient
+unfolding orient triple minor
 height_over_plane a b c y =
     ring (o 0 1 2 3) (dot_w (normal_w (place 0) (place 1) (place 2)) (step_w (place 0) (place 3))) (onto (a ∷ b ∷ c ∷ y ∷ []) []) tt
 
@@ -34,6 +34,7 @@ rows = det_w (place 1) (place 2) (place 3)
 
 -- the rule in each coordinate
 pub cramers_rule : CramersRule
+unfolding minor triple
 cramers_rule n u v w =
     let xs = along (n ∷ u ∷ v ∷ w ∷ []) in
     (ring (rows ⊗ var 0) (told (λ t. t.x)) xs tt, ring (rows ⊗ var 1) (told (λ t. t.y)) xs tt, ring (rows ⊗ var 2) (told (λ t. t.z)) xs tt)
@@ -51,7 +52,7 @@ seen f =
 
 -- the normal by heights, in each coordinate
 pub normal_by_heights : NormalByHeights
-unfolding orient
+unfolding orient triple minor
 normal_by_heights a b c k l m n =
     let xs = onto (a ∷ b ∷ c ∷ k ∷ l ∷ m ∷ n ∷ []) [] in (
       ring (o 3 4 5 6 ⊗ normal_of (λ t. t.x)) (seen (λ t. t.x)) xs tt,
@@ -127,6 +128,7 @@ parallel_coordinate o p q x r s y t u n e f g h =
 
 -- each coordinate of the vector product of two vectors that are parallel to a third is 0
 pub parallel_vectors : ParallelVectors
+unfolding minor triple
 parallel_vectors u v w n e f =
     record {
       x = parallel_coordinate u.x u.y u.z v.x v.y v.z w.x w.y w.z (λ a b c. n (record { x = a; y = b; z = c })) e.x e.y e.z f.x;
@@ -144,6 +146,7 @@ between p q a b k l m n e f =
 
 -- a step between two places of the line of a and b is parallel to the step from a to b
 along_line : (a b k l : Place) → IsZero (normal a b k) → IsZero (normal a b l) → IsZero (cross (step a b) (step k l))
+unfolding minor triple
 along_line a b k l e f =
     record {
       x = between (b.y -ℤ a.y) (b.z -ℤ a.z) a.y a.z k.y k.z l.y l.z e.x f.x;

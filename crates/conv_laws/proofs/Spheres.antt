@@ -2,7 +2,7 @@
 use Rattle.std.specs.Prelude.{ℤ, pos, ◌+ℤ◌, ◌*ℤ◌, ◌≡◌, ℕ, ◌+◌, ◌*◌, List, [], ◌∷◌}
 use Rattle.whole_ring.specs.Poly.{Expr, var, lit, ◌⊕◌, ◌⊗◌, minus, ◌⊖◌, nothing, given}
 use Rattle.whole_ring.proofs.Cited.{ring, ring_from}
-use Rattle.conv_laws.specs.Places.{square, Place, normal, orient, lifted, sphere}
+use Rattle.conv_laws.specs.Places.{square, Place, normal, orient, lifted, sphere, minor, triple}
 use Rattle.conv_laws.specs.Spheres.{HeightsAreLinear, AffineChange, LiftedBySteps, SphereBySteps, SphereAbout, ParaboloidIsConvex, PowerCarried, EdgePower, triangle_vector, triangle_power, TriangleOnSphere, TrianglePower}
 use Rattle.conv_laws.proofs.Written.{Written, place, onto, det_w, cross_w, dot_w, step_w, square_w, distance_w, normal_w, WrittenLifted, on_paraboloid_w, lifted_w, all_of, o, weighted_w, raised}
 
@@ -37,7 +37,7 @@ sheared_w n i =
 
 -- an affine function of place adds nothing
 pub affine_change : AffineChange
-unfolding orient lifted
+unfolding orient lifted triple minor
 affine_change g k a b c d e =
     ring (lifted_w (sheared_w 0 15) (sheared_w 1 16) (sheared_w 2 17) (sheared_w 3 18) (sheared_w 4 19)) (raised 15 0 1 2 3 4)
     (onto (a.foot ∷ b.foot ∷ c.foot ∷ d.foot ∷ e.foot ∷ []) (a.height ∷ b.height ∷ c.height ∷ d.height ∷ e.height ∷ g.x ∷ g.y ∷ g.z ∷ k ∷ [])) tt
@@ -50,7 +50,7 @@ s i j k = det_w (step_w (place 0) (place i)) (step_w (place 0) (place j)) (step_
 
 -- the lifted determinant by steps
 pub lifted_by_steps : LiftedBySteps
-unfolding orient lifted
+unfolding orient lifted triple minor
 lifted_by_steps a b c d e =
     ring (raised 15 0 1 2 3 4)
     (s 1 2 3 ⊗ (var 19 ⊖ var 15) ⊖ s 1 2 4 ⊗ (var 18 ⊖ var 15) ⊕ s 1 3 4 ⊗ (var 17 ⊖ var 15) ⊖ s 2 3 4 ⊗ (var 16 ⊖ var 15))
@@ -62,7 +62,7 @@ q i = distance_w (place 0) (place i)
 
 -- the in-sphere polynomial by steps
 pub sphere_by_steps : SphereBySteps
-unfolding orient lifted
+unfolding orient lifted triple minor
 sphere_by_steps a b c d e =
     ring sphere_w (s 1 2 3 ⊗ q 4 ⊖ s 1 2 4 ⊗ q 3 ⊕ s 1 3 4 ⊗ q 2 ⊖ s 2 3 4 ⊗ q 1) (five a b c d e []) tt
 
@@ -74,7 +74,7 @@ far_w n = record { foot = place n; height = distance_w (place 5) (place n) }
 
 -- the origin of the paraboloid moved to q
 pub sphere_about : SphereAbout
-unfolding orient lifted
+unfolding orient lifted triple minor
 sphere_about q a b c d e =
     ring sphere_w (lifted_w (far_w 0) (far_w 1) (far_w 2) (far_w 3) (far_w 4)) (five a b c d e (q.x ∷ q.y ∷ q.z ∷ [])) tt
 
@@ -84,7 +84,7 @@ r i = distance_w (place 4) (place i)
 
 -- the in-sphere polynomial as a weighted sum of squares of distances
 pub paraboloid_is_convex : ParaboloidIsConvex
-unfolding orient lifted
+unfolding orient lifted triple minor
 paraboloid_is_convex a b c d e = ring sphere_w (minus (weighted_w (r 0) (r 1) (r 2) (r 3))) (five a b c d e []) tt
 
 -- ---- smallest spheres
@@ -97,7 +97,7 @@ power_w n =
 
 -- powers are carried
 pub power_carried : PowerCarried
-unfolding orient lifted
+unfolding orient lifted triple minor
 power_carried k v q a b c d e =
     ring (o 0 1 2 3 ⊗ power_w 4) (sphere_w ⊗ var 18 ⊕ weighted_w (power_w 0) (power_w 1) (power_w 2) (power_w 3))
     (five a b c d e (q.x ∷ q.y ∷ q.z ∷ k ∷ v.x ∷ v.y ∷ v.z ∷ [])) tt
@@ -108,7 +108,7 @@ edge_w n = dot_w (step_w (place n) (place 0)) (step_w (place n) (place 1))
 
 -- the power to the smallest sphere of an edge
 pub edge_power_carried : EdgePower
-unfolding orient lifted
+unfolding orient lifted triple minor
 edge_power_carried a b c d e =
     ring (o 0 1 2 3 ⊗ edge_w 4) (sphere_w ⊕ (o 0 3 1 4 ⊗ edge_w 2 ⊕ o 0 1 2 4 ⊗ edge_w 3)) (five a b c d e []) tt
 
@@ -136,14 +136,17 @@ triangle_w n = q n ⊗ square_w n_w ⊖ dot_w (step_w (place 0) (place n)) v_w
 
 -- the first vertex lies on the sphere
 pub triangle_power_a : (a b c : Place) → triangle_power a b c a ≡ pos 0
+unfolding minor triple
 triangle_power_a a b c = ring (triangle_w 0) (lit (pos 0)) (onto (a ∷ b ∷ c ∷ []) []) tt
 
 -- the second does
 pub triangle_power_b : (a b c : Place) → triangle_power a b c b ≡ pos 0
+unfolding minor triple
 triangle_power_b a b c = ring (triangle_w 1) (lit (pos 0)) (onto (a ∷ b ∷ c ∷ []) []) tt
 
 -- the third does
 pub triangle_power_c : (a b c : Place) → triangle_power a b c c ≡ pos 0
+unfolding minor triple
 triangle_power_c a b c = ring (triangle_w 2) (lit (pos 0)) (onto (a ∷ b ∷ c ∷ []) []) tt
 
 -- all three do

@@ -1,5 +1,6 @@
 -- Places in space with whole coordinates, vectors, the orientation of four places, and the lifted determinant of five.
 use Rattle.std.specs.Prelude.{ℤ, pos, ◌+ℤ◌, ◌-ℤ◌, ◌*ℤ◌, ◌≡◌}
+unfoldable pub use Rattle.whole_ring.specs.Determinants.{minor, triple}
 
 -- ---- vectors
 
@@ -8,15 +9,6 @@ pub record Vector : Type 0 where
   pub x : ℤ
   pub y : ℤ
   pub z : ℤ
-
--- the determinant of two rows, (p, q) and (r, s)
-abbrev pub minor : ℤ → ℤ → ℤ → ℤ → ℤ
-minor p q r s = p *ℤ s -ℤ q *ℤ r
-
--- the determinant of three rows, u . (v x w)
-abbrev pub triple : ℤ → ℤ → ℤ → ℤ → ℤ → ℤ → ℤ → ℤ → ℤ → ℤ
-triple ux uy uz vx vy vz wx wy wz =
-    ux *ℤ minor vy vz wy wz +ℤ uy *ℤ minor vz vx wz wx +ℤ uz *ℤ minor vx vy wx wy
 
 -- the determinant of three vectors
 abbrev pub det : Vector → Vector → Vector → ℤ

@@ -14,6 +14,7 @@ use Rattle.list_laws.proofs.Members.{at_in, contains_in, from_append, in_contain
 use Rattle.list_laws.proofs.Numbers.{ordered}
 use Rattle.list_laws.proofs.Places.{index_in}
 
+-- what is below the first of an ascending list is below each
 pub below_each : (x : ℕ) (s : List ℕ) → IsBelowFirst x s → IsAscending s → (y : ℕ) → IsIn y s → x < y
 below_each x [] h k y i = absurd i
 below_each x (z ∷ s) h k y i =
@@ -22,10 +23,12 @@ below_each x (z ∷ s) h k y i =
       | inr j ↦ let l : z < y = below_each z s k.0 k.1 y j in omega (arith, h, l)
     ]
 
+-- what is below each is below the first
 pub first_below : (x : ℕ) (s : List ℕ) → ((y : ℕ) → IsIn y s → x < y) → IsBelowFirst x s
 first_below x [] f = tt
 first_below x (y ∷ s) f = f y (inl refl)
 
+-- ascending lists of the same members are one list
 pub same_members : (xs ys : List ℕ) → IsAscending xs → IsAscending ys → ((p : ℕ) → IsIn p xs → IsIn p ys) → ((p : ℕ) → IsIn p ys → IsIn p xs) → xs ≡ ys
 same_members [] [] h k f g = refl
 same_members [] (y ∷ ys) h k f g = absurd (g y (inl refl))

@@ -72,26 +72,26 @@ true_if (yes a) = true
 true_if (no n) = false
 
 -- it is true where the statement holds
-pub true_if-yes : {A : Type 0} (d : Dec A) → A → true_if d ≡ true
-true_if-yes (yes a) b = refl
-true_if-yes (no n) b = absurd (n b)
+pub true_if_yes : {A : Type 0} (d : Dec A) → A → true_if d ≡ true
+true_if_yes (yes a) b = refl
+true_if_yes (no n) b = absurd (n b)
 
 -- and there alone
-pub holds-true : {A : Type 0} (d : Dec A) → true_if d ≡ true → A
-holds-true (yes a) e = a
-holds-true (no n) e = cc
+pub holds_true : {A : Type 0} (d : Dec A) → true_if d ≡ true → A
+holds_true (yes a) e = a
+holds_true (no n) e = cc
 
 -- it is false where the statement does not hold
-pub true_if-no : {A : Type 0} (d : Dec A) → (A → ⊥) → true_if d ≡ false
-true_if-no (yes a) n = absurd (n a)
-true_if-no (no k) n = refl
+pub true_if_no : {A : Type 0} (d : Dec A) → (A → ⊥) → true_if d ≡ false
+true_if_no (yes a) n = absurd (n a)
+true_if_no (no k) n = refl
 
 -- statements that follow from each other have the same test
-pub true_if-same : {A B : Type 0} (d : Dec A) (e : Dec B) → (A → B) → (B → A) → true_if d ≡ true_if e
-true_if-same (yes a) (yes b) f g = refl
-true_if-same (yes a) (no n) f g = absurd (n (f a))
-true_if-same (no n) (yes b) f g = absurd (n (g b))
-true_if-same (no n) (no k) f g = refl
+pub true_if_same : {A B : Type 0} (d : Dec A) (e : Dec B) → (A → B) → (B → A) → true_if d ≡ true_if e
+true_if_same (yes a) (yes b) f g = refl
+true_if_same (yes a) (no n) f g = absurd (n (f a))
+true_if_same (no n) (yes b) f g = absurd (n (g b))
+true_if_same (no n) (no k) f g = refl
 
 -- whether a test passes
 pub is_true : (b : Bool) → Dec (b ≡ true)

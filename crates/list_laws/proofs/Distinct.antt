@@ -46,6 +46,7 @@ without_one x [] m = []
 without_one x (y ∷ l) (inl e) = l
 without_one x (y ∷ l) (inr m) = y ∷ without_one x l m
 
+-- which is one shorter
 pub length_without : {X : Type 0} (x : X) (l : List X) (m : IsIn x l) → length l ≡ length (without_one x l m) + 1
 unfolding without_one
 length_without x [] m = absurd m
@@ -72,6 +73,7 @@ pub distinct_ascending : (l : List ℕ) → IsAscending l → AreDistinct l
 distinct_ascending [] a = tt
 distinct_ascending (x ∷ l) a = (λ m. (let h = below_each x l a.0 a.1 x m in absurd (omega arith)), distinct_ascending l a.1)
 
+-- where each stands once, the last is none of the others
 pub last_apart : (l : List ℕ) (b : ℕ) → AreDistinct (l ++ b ∷ []) → AreDistinct l × ¬ (IsIn b l)
 last_apart [] b d = (tt, (λ i. i))
 last_apart (x ∷ l) b d =
@@ -83,17 +85,20 @@ last_apart (x ∷ l) b d =
       ]),
     )
 
+-- a filter that refuses the last keeps the others
 pub without_last : (l : List ℕ) (b : ℕ) → ¬ (IsIn b l) → filter (λ x. not (x == b)) (l ++ b ∷ []) ≡ l
 without_last [] b n = (λ i. cond (not (eq-eqb b b refl i)) (b ∷ []) [])
 without_last (x ∷ l) b n =
     (λ i. cond (not (ne_eqb x b (λ e. n (inl e)) i)) (x ∷ filter (λ x. not (x == b)) (l ++ b ∷ [])) (filter (λ x. not (x == b)) (l ++ b ∷ [])))
     ∙ ap (λ (m : List ℕ). x ∷ m) (without_last l b (λ i. n (inr i)))
 
+-- no member stands in both parts
 pub in_both : (l m : List ℕ) (x : ℕ) → AreDistinct (l ++ m) → IsIn x l → IsIn x m → ⊥
 in_both [] m x d i j = i
 in_both (y ∷ l) m x d (inl e) j = d.0 (subst (λ (k : ℕ). IsIn k (l ++ m)) (sym e) (in_right x l m j))
 in_both (y ∷ l) m x d (inr i) j = in_both l m x d.1 i j
 
+-- what follows has each once too
 pub rest_distinct : (l m : List ℕ) → AreDistinct (l ++ m) → AreDistinct m
 rest_distinct [] m d = d
 rest_distinct (y ∷ l) m d = rest_distinct l m d.1
@@ -112,15 +117,18 @@ distinct_with (y ∷ l) m x d n = (
   distinct_with l m x d.1 (λ i. n (inr i)),
 )
 
+-- a member is still there with one more in the middle
 pub in_wider : (l m : List ℕ) (y x : ℕ) → IsIn x (l ++ m) → IsIn x (l ++ y ∷ m)
 in_wider [] m y x i = inr i
 in_wider (z ∷ l) m y x (inl e) = inl e
 in_wider (z ∷ l) m y x (inr i) = inr (in_wider l m y x i)
 
+-- and that one is a member
 pub at_middle : (l m : List ℕ) (x : ℕ) → IsIn x (l ++ x ∷ m)
 at_middle [] m x = inl refl
 at_middle (z ∷ l) m x = inr (at_middle l m x)
 
+-- without one in the middle each still stands once, and that one is none of them
 pub distinct_less : (l m : List ℕ) (x : ℕ) → AreDistinct (l ++ x ∷ m) → AreDistinct (l ++ m) × ¬ (IsIn x (l ++ m))
 distinct_less [] m x d = (d.1, d.0)
 distinct_less (y ∷ l) m x d =
@@ -141,6 +149,7 @@ distinct_filter p (x ∷ l) d = by (p x) (distinct_filter p l d.1)
     by true r = ((λ i. d.0 (filtered_from p l x i).0), r)
     by false r = r
 
+-- a number below each is, by the test, none of them
 pub all_above : (x : ℕ) (s : List ℕ) → ((y : ℕ) → IsIn y s → x < y) → AllByRecursion (λ y. nat_eq x y ≡ false) s
 all_above x [] f = tt
 all_above x (y ∷ s) f = (apart (f y (inl refl)), all_above x s (λ z i. f z (inr i)))
@@ -148,6 +157,7 @@ all_above x (y ∷ s) f = (apart (f y (inl refl)), all_above x s (λ z i. f z (i
     apart : x < y → nat_eq x y ≡ false
     apart h = grind (arith, nat_tests)
 
+-- an ascending list has each number once, by the test
 pub distinct_by_test : (s : List ℕ) → IsAscending s → IsDistinct nat_eq s
 unfolding IsDistinct
 distinct_by_test [] h = tt

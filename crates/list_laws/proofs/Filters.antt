@@ -111,13 +111,20 @@ filter_and {X} p q r (x ∷ l) f = by (q x) (r x) (f x) (filter_and p q r l f)
     by true c e r' = ap (λ b. cond b (x ∷ filter p (filter q l)) (filter p (filter q l))) e ∙ ap (λ (m : List X). cond c (x ∷ m) m) r'
     by false c e r' = r' ∙ ap (λ b. cond b (x ∷ filter r l) (filter r l)) e
 
+-- a test that each passes keeps the list
 pub all_pass : {X : Type 0} (p : X → Bool) (l : List X) → ((x : X) → p x ≡ true) → filter p l ≡ l
 all_pass p [] f = refl
 all_pass {X} p (x ∷ l) f = rw (f x) (ap (λ (m : List X). x ∷ m) (all_pass p l f))
 
+-- and one that none passes keeps nothing
 pub none_pass : {X : Type 0} (p : X → Bool) (l : List X) → ((x : X) → p x ≡ false) → filter p l ≡ []
 none_pass p [] f = refl
 none_pass p (x ∷ l) f = rw (f x) (none_pass p l f)
+
+-- tests that agree on the members of a list filter it alike
+pub same_filter : {X : Type 0} (p q : X → Bool) (l : List X) → ((x : X) → IsIn x l → p x ≡ q x) → filter p l ≡ filter q l
+same_filter p q [] f = refl
+same_filter p q (x ∷ l) f = rw (f x (inl refl), same_filter p q l (λ y m. f y (inr m))) refl
 
 -- a test after a weaker one is the test alone
 pub filter_twice : {X : Type 0} (p q : X → Bool) (l : List X) → ((x : X) → p x ≡ true → q x ≡ true) → filter p (filter q l) ≡ filter p l
@@ -143,6 +150,7 @@ in_filtered t xs y m = (filtered_from t xs y m).0
 pub passes : {X : Type 0} (t : X → Bool) (xs : List X) (y : X) → IsIn y (filter t xs) → t y ≡ true
 passes t xs y m = (filtered_from t xs y m).1
 
+-- a test of the images keeps the images of those that pass it through the function
 pub filter_map : {X Y : Type 0} (f : X → Y) (t : Y → Bool) (xs : List X) → filter t (map f xs) ≡ map f (filter (λ x. t (f x)) xs)
 filter_map f t [] = refl
 filter_map {X} {Y} f t (x ∷ xs) = rw (filter_map f t xs) (by (t (f x)))

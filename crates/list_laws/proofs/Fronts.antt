@@ -1,9 +1,11 @@
 -- Lists that begin alike.
 use Rattle.std.proofs.Common.{List, [], ap, arith, length, refl, sym, ◌++◌, ◌<◌, ◌∙◌, ◌∷◌, ◌≡◌}
 
+-- lists that are the same have the same first
 pub head_same : {A : Type 0} (x y : A) (xs ys : List A) → x ∷ xs ≡ y ∷ ys → x ≡ y
 head_same x y xs ys h = cc
 
+-- and the same rest
 pub tail_same : {A : Type 0} (x y : A) (xs ys : List A) → x ∷ xs ≡ y ∷ ys → xs ≡ ys
 tail_same x y xs ys h = cc
 

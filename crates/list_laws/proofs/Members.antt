@@ -2,10 +2,10 @@
 use Rattle.std.specs.List.{AllByRecursion, Contains, flat_map}
 use Rattle.std.specs.Prelude.{All, IsPermutation, List, [], false, map, refl, suc, true, ℕ, ◌++◌, ◌==◌, ◌∷◌, ◌≡◌, ◌⊎◌}
 use Rattle.std.proofs.Common.{ap, arith, get_or, inl, inr, length, subst, sym, zero, ◌<◌}
-use Rattle.std.proofs.lemmas.Bool.Decides.{nat_tests}
 use Rattle.std.proofs.lemmas.List.Sorted.{All-permutation, Contains-permutation}
 use Rattle.list_laws.specs.Lists.{IsIn, is_among}
 use Rattle.list_laws.proofs.Filters.{any_from, any_true}
+use Rattle.list_laws.proofs.Numbers.{eq_same, same_from}
 
 -- a member of the first of two lists
 pub in_left : {X : Type 0} (e : X) (l m : List X) → IsIn e l → IsIn e (l ++ m)
@@ -50,9 +50,11 @@ flat_from f (z ∷ l) y i = elim (from_append y (f z) (flat_map f l) i) [
 pub in_pushed : {X : Type 0} (l m : List X) (x y : X) → m ≡ l ++ x ∷ [] → IsIn y m → IsIn y l ⊎ (x ≡ y)
 in_pushed l m x y e k = elim (from_append y l (x ∷ []) (subst (IsIn y) e k)) [ inl i ↦ inl i | inr i ↦ elim i [ inl q ↦ inr q | inr n ↦ absurd n ] ]
 
+-- what was there is there
 pub pushed_old : {X : Type 0} (l m : List X) (x y : X) → m ≡ l ++ x ∷ [] → IsIn y l → IsIn y m
 pushed_old l m x y e k = subst (IsIn y) (sym e) (in_left y l (x ∷ []) k)
 
+-- and so is the new one
 pub pushed_new : {X : Type 0} (l m : List X) (x : X) → m ≡ l ++ x ∷ [] → IsIn x m
 pushed_new l m x e = subst (IsIn x) (sym e) (in_right x l (x ∷ []) (inl refl))
 
@@ -60,9 +62,11 @@ pushed_new l m x e = subst (IsIn x) (sym e) (in_right x l (x ∷ []) (inl refl))
 pub in_snoc : {X : Type 0} (l : List X) (b x : X) → IsIn x (l ++ b ∷ []) → IsIn x l ⊎ (b ≡ x)
 in_snoc l b x m = in_pushed l (l ++ b ∷ []) b x refl m
 
+-- what was there, where no name stands for the longer list
 pub snoc_old : {X : Type 0} (l : List X) (b x : X) → IsIn x l → IsIn x (l ++ b ∷ [])
 snoc_old l b x m = in_left x l (b ∷ []) m
 
+-- and the new one
 pub snoc_new : {X : Type 0} (l : List X) (b : X) → IsIn b (l ++ b ∷ [])
 snoc_new l b = in_right b l (b ∷ []) (inl refl)
 
@@ -72,14 +76,17 @@ at_in [] i d h = absurd (omega arith)
 at_in (x ∷ l) zero d h = inl refl
 at_in (x ∷ l) (suc i) d h = inr (at_in l i d (omega arith))
 
+-- a member, as std says it
 pub in_contained : {X : Type 0} (l : List X) (x : X) → Contains l x → IsIn x l
 in_contained l x h = subst (λ y. IsIn y l) h.2 (at_in l h.0 x h.1)
 
+-- and back
 pub contains_in : {X : Type 0} (l : List X) (x : X) → IsIn x l → Contains l x
 contains_in [] x i = absurd i
 contains_in (y ∷ l) x (inl e) = (0, omega arith, e)
 contains_in (y ∷ l) x (inr i) = let r = contains_in l x i in (suc r.0, (let h = r.1 in omega arith), r.2)
 
+-- a member of a list is one of each arrangement of it
 pub in_permutation : {X : Type 0} (xs ys : List X) (x : X) → IsPermutation xs ys → IsIn x xs → IsIn x ys
 in_permutation {X} xs ys x p i = let c = Contains-permutation xs ys x p (contains_in xs x i) in subst (λ (z : X). IsIn z ys) c.2 (at_in ys c.0 x c.1)
 
@@ -89,12 +96,15 @@ split_at [] x i = absurd i
 split_at {X} (y ∷ xs) x (inl e) = ([], xs, ap (λ (z : X). z ∷ xs) e)
 split_at {X} (y ∷ xs) x (inr i) = let r = split_at xs x i in (y ∷ r.0, r.1, ap (λ (l : List X). y ∷ l) r.2)
 
+-- what holds at all places holds of each member
 pub each_of_all : {X : Type 0} (P : X → Type 0) (xs : List X) → All P xs → (x : X) → IsIn x xs → P x
 each_of_all P xs h x i = let c = contains_in xs x i in subst P c.2 (h c.0 x c.1)
 
+-- and back
 pub all_of_each : {X : Type 0} (P : X → Type 0) (xs : List X) → ((x : X) → IsIn x xs → P x) → All P xs
 all_of_each P xs h k d l = h (get_or xs k d) (at_in xs k d l)
 
+-- and a member of an arrangement is one of the list
 pub in_moved : {X : Type 0} (xs ys : List X) (x : X) → IsPermutation xs ys → IsIn x ys → IsIn x xs
 in_moved xs ys x p i = each_of_all (λ y. IsIn y xs) ys (All-permutation (λ y. IsIn y xs) xs ys p (λ k d h. at_in xs k d h)) x i
 
@@ -112,20 +122,12 @@ each_by P (x ∷ l) a y m = elim m [ inl q ↦ subst P q a.0 | inr r ↦ each_by
 pub among_from : (p : ℕ) (s : List ℕ) → is_among p s ≡ true → IsIn p s
 among_from p s t = (
     let r = any_from (λ q. q == p) s t in
-    let e : r.0 ≡ p = same r.0 p r.2 in
+    let e : r.0 ≡ p = same_from r.0 p r.2 in
     subst (λ v. IsIn v s) e r.1)
-  where
-    -- equal numbers
-    same : (m n : ℕ) → (m == n) ≡ true → m ≡ n
-    same m n e = grind (arith, nat_tests)
 
 -- and back
 pub among_true : (p : ℕ) (s : List ℕ) → IsIn p s → is_among p s ≡ true
-among_true p s m = any_true (λ q. q == p) s p m (same p)
-  where
-    -- a number is itself
-    same : (m : ℕ) → (m == m) ≡ true
-    same m = grind (arith, nat_tests)
+among_true p s m = any_true (λ q. q == p) s p m (eq_same p)
 
 -- a point whose test is false is none of the set
 pub not_among : (s : List ℕ) (p : ℕ) → is_among p s ≡ false → ¬ (IsIn p s)

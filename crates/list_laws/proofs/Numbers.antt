@@ -28,9 +28,11 @@ below_from m n e = grind (arith, nat_tests)
 pub below_true : (m n : ℕ) → m < n → nat_lt m n ≡ true
 below_true m n e = grind (arith, nat_tests)
 
+-- a number passes the test of equality with itself
 pub eq_same : (n : ℕ) → (n == n) ≡ true
 eq_same n = eq-eqb n n refl
 
+-- numbers that fail it differ
 pub differ_from : (n m : ℕ) → (n == m) ≡ false → n ≢ m
 differ_from n m = grind (arith, nat_tests)
 
@@ -66,11 +68,13 @@ cmp_less x y l = sym (nat_cmp_is x y Less l)
 pub cmp_same : (x : ℕ) → nat_cmp x x ≡ Equal
 cmp_same x = sym (nat_cmp_is x x Equal refl)
 
+-- the test of a tie
 pub is_equal : (o : Ordering) → is_eq o ≡ true → o ≡ Equal
 is_equal Less e = cc
 is_equal Equal e = refl
 is_equal Greater e = cc
 
+-- and of the first before the second
 pub is_less : (r : Ordering) → is_lt r ≡ true → r ≡ Less
 is_less Less e = refl
 is_less Equal e = cc

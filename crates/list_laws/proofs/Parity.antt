@@ -41,20 +41,20 @@ skip a b e o = sym (ap (λ c. xor c b) e) ∙ o
 -- ---- the handshake lemma
 
 -- the parity of two tests that exclude each other where both hold
-pub odd-xor : {X : Type 0} (p q : X → Bool) (xs : List X) → odd (λ x. xor (p x) (q x)) xs ≡ xor (odd p xs) (odd q xs)
-odd-xor p q [] = refl
-odd-xor p q (x ∷ xs) = ap (λ b. xor (xor (p x) (q x)) b) (odd-xor p q xs) ∙ shuffle (p x) (q x) (odd p xs) (odd q xs)
+pub odd_xor : {X : Type 0} (p q : X → Bool) (xs : List X) → odd (λ x. xor (p x) (q x)) xs ≡ xor (odd p xs) (odd q xs)
+odd_xor p q [] = refl
+odd_xor p q (x ∷ xs) = ap (λ b. xor (xor (p x) (q x)) b) (odd_xor p q xs) ∙ shuffle (p x) (q x) (odd p xs) (odd q xs)
 
 -- tests that agree have one parity
-pub odd-same : {X : Type 0} (p q : X → Bool) → ((x : X) → p x ≡ q x) → (xs : List X) → odd p xs ≡ odd q xs
-odd-same p q e [] = refl
-odd-same p q e (x ∷ xs) = ap₂ xor (e x) (odd-same p q e xs)
+pub odd_same : {X : Type 0} (p q : X → Bool) → ((x : X) → p x ≡ q x) → (xs : List X) → odd p xs ≡ odd q xs
+odd_same p q e [] = refl
+odd_same p q e (x ∷ xs) = ap₂ xor (e x) (odd_same p q e xs)
 
 -- a node in front of the list adds its degree twice: once its own, and once spread over the others
 pub even_degrees : {X : Type 0} (m : X → X → Bool) → IsGraph m → (xs : List X) → odd (λ x. odd (m x) xs) xs ≡ false
 even_degrees m g [] = refl
 even_degrees m g (z ∷ xs) =
-    ap₂ (λ a b. xor (xor a (odd (m z) xs)) b) (g.loose z) (odd-xor (λ x. m x z) (λ x. odd (m x) xs) xs ∙ ap₂ xor (odd-same (λ x. m x z) (m z) (λ x. g.both x z) xs) (even_degrees m g xs))
+    ap₂ (λ a b. xor (xor a (odd (m z) xs)) b) (g.loose z) (odd_xor (λ x. m x z) (λ x. odd (m x) xs) xs ∙ ap₂ xor (odd_same (λ x. m x z) (m z) (λ x. g.both x z) xs) (even_degrees m g xs))
     ∙ cancel (odd (m z) xs) false
 
 -- the laws of specs/Lists

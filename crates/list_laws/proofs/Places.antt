@@ -27,6 +27,7 @@ each_more P l i x d h e f p y m = elim (in_more l i x d y h e (subst (λ n. IsIn
     one : (i : ℕ) → i + 1 ≡ suc i
     one i = omega arith
 
+-- of so many first elements as there are, each member is one
 pub all_taken_in : {X : Type 0} (l : List X) (i : ℕ) (y : X) → length l ≤ i → IsIn y l → IsIn y (take i l)
 all_taken_in [] i y h m = absurd m
 all_taken_in (x ∷ l) zero y h m = absurd (omega arith)
@@ -75,6 +76,7 @@ within_list (y ∷ l) (suc i) d u h e = within_list l i d u (omega arith) e
 pub front_is : {X : Type 0} (ws m : List X) (n : ℕ) → n ≡ length ws → take n (ws ++ m) ≡ ws
 front_is ws m n e = rw e (take-append_seam ws m)
 
+-- a number at a place within the list is a member
 pub index_in : (s : List ℕ) (i : ℕ) → i < length s → IsIn (slice_index s i) s
 index_in [] i h = absurd (omega arith)
 index_in (x ∷ s) zero h = inl refl
@@ -86,14 +88,17 @@ default_free [] i d u h = absurd (omega arith)
 default_free (x ∷ l) zero d u h = refl
 default_free (x ∷ l) (suc i) d u h = default_free l i d u (omega arith)
 
+-- setting a place changes no length
 pub len_set : {X : Type 0} (l : List X) (i : ℕ) (x : X) → length (slice_set l i x) ≡ length l
 len_set [] i x = refl
 len_set (y ∷ l) zero x = refl
 len_set (y ∷ l) (suc i) x = ap suc (len_set l i x)
 
+-- nor does setting it twice
 pub len_twice : {X : Type 0} (l : List X) (i : ℕ) (x y : X) → length (slice_set (slice_set l i x) i y) ≡ length l
 len_twice l i x y = len_set (slice_set l i x) i y ∙ len_set l i x
 
+-- where the length has a name
 pub len_twice_is : {X : Type 0} (l : List X) (i n : ℕ) (x y : X) → length l ≡ n → length (slice_set (slice_set l i x) i y) ≡ n
 len_twice_is l i n x y e = len_twice l i x y ∙ e
 
@@ -103,6 +108,7 @@ set_there [] b x e = refl
 set_there {X} (o ∷ l) zero x e = ap (λ (y : Option X). y ∷ l) (sym e)
 set_there {X} (o ∷ l) (suc b) x e = ap (λ (m : List (Option X)). o ∷ m) (set_there l b x e)
 
+-- one of the first elements is one of one more
 pub more_one : {X : Type 0} (l : List X) (i : ℕ) (y : X) → IsIn y (take i l) → IsIn y (take (suc i) l)
 more_one [] zero y k = absurd k
 more_one [] (suc i) y k = absurd k
@@ -116,6 +122,7 @@ last_one [] i x d h e = absurd (omega arith)
 last_one (z ∷ l) zero x d h e = inl (sym e)
 last_one (z ∷ l) (suc i) x d h e = inr (last_one l i x d (omega arith) e)
 
+-- two places can be set in either order
 pub set_swapped : {X : Type 0} (l : List X) (i j : ℕ) (a b : X) → i ≢ j → slice_set (slice_set l i a) j b ≡ slice_set (slice_set l j b) i a
 set_swapped [] i j a b n = refl
 set_swapped (x ∷ l) zero zero a b n = absurd (n refl)
@@ -123,11 +130,13 @@ set_swapped (x ∷ l) zero (suc j) a b n = refl
 set_swapped (x ∷ l) (suc i) zero a b n = refl
 set_swapped (x ∷ l) (suc i) (suc j) a b n = ap (λ (m : List _). x ∷ m) (set_swapped l i j a b (λ e. n (ap suc e)))
 
+-- the images of a list with a place set
 pub map_set : {X Y : Type 0} (f : X → Y) (l : List X) (i : ℕ) (a : X) → map f (slice_set l i a) ≡ slice_set (map f l) i (f a)
 map_set f [] i a = refl
 map_set f (x ∷ l) zero a = refl
 map_set f (x ∷ l) (suc i) a = ap (λ (m : List _). f x ∷ m) (map_set f l i a)
 
+-- what is set last stays
 pub set_twice : {X : Type 0} (l : List X) (n : ℕ) (a b : X) → slice_set (slice_set l n a) n b ≡ slice_set l n b
 set_twice [] n a b = refl
 set_twice (x ∷ l) zero a b = refl

@@ -6,10 +6,12 @@ use Rattle.std.proofs.Common.{ap, arith, inl, inr, refl, sym, ◌∙◌}
 use Rattle.std.proofs.lemmas.Bool.Decides.{nat_tests}
 use Rattle.list_laws.specs.Lists.{IsAscending, IsBelowFirst, IsIn}
 
+-- what is below the first that is counted
 pub range_above : (n k x : ℕ) → x < n → IsBelowFirst x (range_with_len n k)
 range_above n zero x h = tt
 range_above n (suc k) x h = h
 
+-- counted numbers ascend
 pub range_ascending : (n k : ℕ) → IsAscending (range_with_len n k)
 range_ascending n zero = tt
 range_ascending n (suc k) = (range_above (n + 1) k n (omega arith), range_ascending (n + 1) k)
@@ -24,6 +26,7 @@ rising (x ∷ y ∷ s) h d = (above (h 0 1 0 (omega arith) (omega arith)) d.0.0,
     above : x ≤ y → nat_eq x y ≡ false → x < y
     above l e = grind (arith, nat_tests)
 
+-- the last of those that are counted
 pub last_counted : (a n j : ℕ) → a + n ≡ j → range_with_len a (suc n) ≡ range_with_len a n ++ j ∷ []
 last_counted a zero j e = let same : a ≡ j = omega (arith, e) in ap (λ (k : ℕ). k ∷ []) same
 last_counted a (suc n) j e = ap (λ (l : List ℕ). a ∷ l) (last_counted (a + 1) n j (omega (arith, e)))
@@ -32,6 +35,7 @@ last_counted a (suc n) j e = ap (λ (l : List ℕ). a ∷ l) (last_counted (a + 
 pub counted_on : (n : ℕ) → range_with_len 0 (n + 1) ≡ range_with_len 0 n ++ n ∷ []
 counted_on n = let on : n + 1 ≡ suc n = omega arith in ap (range_with_len 0) on ∙ last_counted 0 n n (omega arith)
 
+-- each is below the end
 pub counted_below : (a n x : ℕ) → IsIn x (range_with_len a n) → x < a + n
 counted_below a zero x i = absurd i
 counted_below a (suc n) x (inl e) = omega (arith, e)

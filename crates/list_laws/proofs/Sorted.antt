@@ -72,6 +72,7 @@ pub all_end : {X : Type 0} (P : X → Type 0) (l : List X) (k : X) → AllByRecu
 all_end P [] k a p = (p, tt)
 all_end P (x ∷ l) k a p = (a.0, all_end P l k a.1 p)
 
+-- a list in order with one more behind all is in order
 pub sorted_end : {X : Type 0} (cmp : X → X → Ordering) (l : List X) (k : X) → IsStrictlySortedBy cmp l → ((x : X) → IsIn x l → cmp x k ≡ Less) → IsStrictlySortedBy cmp (l ++ k ∷ [])
 unfolding IsStrictlySortedBy
 sorted_end cmp [] k s f = (tt, tt)
@@ -99,6 +100,7 @@ before_next cmp (y ∷ l) (suc i) d x s h m = elim m [
   | inr j ↦ before_next cmp l i d x s.1 (omega arith) j
 ]
 
+-- a sorted list without repeats is in strict order
 pub deduped_sorted :
     {X : Type 0} (cmp : X → X → Ordering) (o : IsTotalOrder cmp) (same : X → X → Bool) → ((x y : X) → same x y ≡ eq_by_cmp cmp x y) →
     (sorted deduped : List X) → IsSorted cmp sorted → deduped ≡ dedup same sorted → IsStrictlySortedBy cmp deduped
@@ -111,6 +113,7 @@ arranged_same l sorted p x = (
   λ i. in_contained sorted x (Contains-permutation l sorted x p (contains_in l x i)),
 )
 
+-- without repeats it has the same members
 pub deduped_same :
     {X : Type 0} (cmp : X → X → Ordering) (o : IsTotalOrder cmp) (exact : CmpEqualImpliesEq cmp) (same : X → X → Bool) → ((x y : X) → same x y ≡ eq_by_cmp cmp x y) →
     (l deduped : List X) → deduped ≡ dedup same l → (x : X) → (IsIn x deduped → IsIn x l) × (IsIn x l → IsIn x deduped)
@@ -129,6 +132,7 @@ deduped_same {X} cmp o exact same ties l deduped e x = (
       congr = λ x y z h. ties x z ∙ q.congr x y z (sym (ties x y) ∙ h) ∙ sym (ties y z);
     }
 
+-- numbers are equal where they tie
 pub nat_ties : (m n : ℕ) → (m == n) ≡ is_eq (nat_cmp m n)
 nat_ties m n = grind (arith, nat_tests)
 
@@ -155,6 +159,7 @@ in_end {X} l key k = (
   λ i. elim i [ inl j ↦ in_left k l (key ∷ []) j | inr e ↦ in_right k l (key ∷ []) (inl e) ],
 )
 
+-- no elements are in order
 pub sorted_none : {X : Type 0} (cmp : X → X → Ordering) → IsStrictlySortedBy cmp []
 unfolding IsStrictlySortedBy
 sorted_none cmp = tt

@@ -140,8 +140,10 @@ other_factor p q k e = elim (zero_factor p q e) [ inl z ↦ absurd (k z) | inr z
 pub first_factor : (p q : ℤ) → ¬ (q ≡ pos 0) → p *ℤ q ≡ pos 0 → p ≡ pos 0
 first_factor p q k e = elim (zero_factor p q e) [ inl z ↦ z | inr z ↦ absurd (k z) ]
 
+-- a number that is its own opposite is 0
 pub self_negative : (z : ℤ) → z ≡ neg_ℤ z → z ≡ pos 0
 self_negative z e = omega (arith, ints)
 
+-- the opposite of 0 is 0
 pub negative_of_zero : (y z : ℤ) → z ≡ neg_ℤ y → y ≡ pos 0 → z ≡ pos 0
 negative_of_zero y z e h = omega (arith, ints)

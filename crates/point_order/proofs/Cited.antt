@@ -1,8 +1,9 @@
 -- The lemmas that other crates cite.
-pub use Rattle.point_order.proofs.Determinants.{last-first, last-second, last-third, sphere-from_first, swap-first, swap-last, swap-middle}
+pub use Rattle.point_order.proofs.CellOrderLaws.{cell_after, cell_before, cell_order, cell_reverse, cell_same, cell_self}
+pub use Rattle.point_order.proofs.Determinants.{last_first, last_second, last_third, sphere_from_first, swap_first, swap_last, swap_middle}
 pub use Rattle.point_order.proofs.HeightLaws.{never_zero_law}
-pub use Rattle.point_order.proofs.Keys.{key-is}
-pub use Rattle.point_order.proofs.Perturbation.{out-sign}
-pub use Rattle.point_order.proofs.SetLaws.{ascending-ascending, ascending-is, ascending-self, ascending-with, in-ascending, in-ascending_from, in-with, in-with_new, in-with_old, with-cases}
-pub use Rattle.point_order.proofs.SignRule.{coefficient-e, not-zero, one-of_five, sign-of_tie}
+pub use Rattle.point_order.proofs.Keys.{key_is}
+pub use Rattle.point_order.proofs.Perturbation.{out_sign}
+pub use Rattle.point_order.proofs.SetLaws.{ascending_ascending, ascending_is, ascending_self, ascending_with, in_ascending, in_ascending_from, in_with, in_with_new, in_with_old, with_cases}
+pub use Rattle.point_order.proofs.SignRule.{coefficient_e, not_zero, one_of_five, sign_of_tie}
 pub use Rattle.point_order.proofs.Zero.{not_zero_from, zero_false, zero_from, zero_true}

@@ -4,20 +4,20 @@ use Rattle.std.proofs.lemmas.Int.{ints}
 use Rattle.std.proofs.Math.Nat.{pow-suc, pow-le-pow_right}
 use Rattle.whole_ring.specs.Signs.{HasSignOf, below, at_zero, above}
 use Rattle.whole_ring.proofs.Cited.{sgn_same, sign}
-use Rattle.point_order.specs.Heights.{base, top, base-is, top-is, height, sphere_polynomial, out}
+use Rattle.point_order.specs.Heights.{base, top, base_is, top_is, height, sphere_polynomial, out}
 use Rattle.point_order.specs.Laws.{coefficient, PlainSign, TieSign, TieDecided, NeverZero, PlainNotBelow, PlainNotAbove, HeightParts, PartRises}
-use Rattle.point_order.proofs.Perturbation.{out-sign, base-pos, power-pos}
-use Rattle.point_order.proofs.SignRule.{sign-of_tie, decided}
+use Rattle.point_order.proofs.Perturbation.{out_sign, base_pos, power_pos}
+use Rattle.point_order.proofs.SignRule.{sign_of_tie, decided}
 
 -- where the in-sphere polynomial is not 0, it gives the sign
 pub plain_sign : PlainSign
 plain_sign a b c d e k n =
-    sym (sgn_same (sphere_polynomial a b c d e) (out a b c d e) (out-sign a b c d e k.0 k.1 k.2 k.3 k.4) n)
+    sym (sgn_same (sphere_polynomial a b c d e) (out a b c d e) (out_sign a b c d e k.0 k.1 k.2 k.3 k.4) n)
 
 -- at a tie the coefficient of the deciding point does
 pub tie_sign : TieSign
 tie_sign a b c d e p n t h =
-    sym (sgn_same (coefficient a b c d e p) (out a b c d e) (sign-of_tie a b c d e p n t h) h.0)
+    sym (sgn_same (coefficient a b c d e p) (out a b c d e) (sign_of_tie a b c d e p n t h) h.0)
 
 -- there is a deciding point
 pub tie_decided : TieDecided
@@ -36,10 +36,10 @@ kept z r h n e =
 pub never_zero_law : NeverZero
 never_zero_law a b c d e k n f =
     let s = sphere_polynomial a b c d e in
-    let h : HasSignOf s (out a b c d e) = out-sign a b c d e k.0 k.1 k.2 k.3 k.4 in
+    let h : HasSignOf s (out a b c d e) = out_sign a b c d e k.0 k.1 k.2 k.3 k.4 in
     elim (sign s) [
       | below m ↦ kept s (out a b c d e) h (λ z. absurd (omega (arith, ints, m, z)))
-      | at_zero t ↦ let g = decided a b c d e n f in kept (coefficient a b c d e g.0) (out a b c d e) (sign-of_tie a b c d e g.0 n t g.1) g.1.0
+      | at_zero t ↦ let g = decided a b c d e n f in kept (coefficient a b c d e g.0) (out a b c d e) (sign_of_tie a b c d e g.0 n t g.1) g.1.0
       | above m ↦ kept s (out a b c d e) h (λ z. absurd (omega (arith, ints, m, z)))
     ]
 
@@ -56,12 +56,12 @@ half_below s r h p =
 -- so the in-sphere polynomial is not negative where the determinant is positive
 pub plain_not_below : PlainNotBelow
 plain_not_below a b c d e k h =
-    half_above (sphere_polynomial a b c d e) (out a b c d e) (out-sign a b c d e k.0 k.1 k.2 k.3 k.4) h
+    half_above (sphere_polynomial a b c d e) (out a b c d e) (out_sign a b c d e k.0 k.1 k.2 k.3 k.4) h
 
 -- and not positive where it is negative
 pub plain_not_above : PlainNotAbove
 plain_not_above a b c d e k h =
-    half_below (sphere_polynomial a b c d e) (out a b c d e) (out-sign a b c d e k.0 k.1 k.2 k.3 k.4) h
+    half_below (sphere_polynomial a b c d e) (out a b c d e) (out_sign a b c d e k.0 k.1 k.2 k.3 k.4) h
 
 -- a product with a number above 1 is greater
 twice : (b n m : ℕ) → 1 < b → 0 < n → n * b ≤ m → n < m
@@ -70,11 +70,11 @@ twice b n m h k l = let e : n * 2 ≤ n * b = grind arith in omega arith
 -- the part that the perturbation adds rises with the key
 pub part_rises : PartRises
 part_rises p q h =
-    let e : base ^ suc p ≤ base ^ q = pow-le-pow_right base-pos h in
+    let e : base ^ suc p ≤ base ^ q = pow-le-pow_right base_pos h in
     let f : base ^ suc p ≡ base ^ p * base = pow-suc base p in
-    twice base (base ^ p) (base ^ q) (omega (arith, base-is)) (power-pos p) (omega (arith, e, f))
+    twice base (base ^ p) (base ^ q) (omega (arith, base_is)) (power_pos p) (omega (arith, e, f))
 
 -- and lies between 0 and the great number
 pub height_parts_law : HeightParts
 unfolding height
-height_parts_law p k = (refl, power-pos p, part_rises p top (omega (arith, top-is)))
+height_parts_law p k = (refl, power_pos p, part_rises p top (omega (arith, top_is)))

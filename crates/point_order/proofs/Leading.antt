@@ -10,21 +10,21 @@ use Rattle.whole_ring.specs.Signs.{HasSignOf}
 -- ---- a multiple of p, and less than p
 
 -- a positive multiple of p, and less than p, is positive
-lead-pos : (n p : ℕ) (t : ℤ) → 0 < n → unsigned_abs t < p → pos 0 <ℤ (pos n *ℤ pos p +ℤ t)
-lead-pos n p t h k =
+lead_pos : (n p : ℕ) (t : ℤ) → 0 < n → unsigned_abs t < p → pos 0 <ℤ (pos n *ℤ pos p +ℤ t)
+lead_pos n p t h k =
     let e : p ≤ n * p = grind arith in omega (arith, ints)
 
 -- a negative multiple of p, and less than p, is negative
-lead-neg : (n p : ℕ) (t : ℤ) → unsigned_abs t < p → (negsuc n *ℤ pos p +ℤ t) <ℤ pos 0
-lead-neg n p t k =
+lead_neg : (n p : ℕ) (t : ℤ) → unsigned_abs t < p → (negsuc n *ℤ pos p +ℤ t) <ℤ pos 0
+lead_neg n p t k =
     let e : p ≤ suc n * p = grind arith in omega (arith, ints)
 
 -- s * p + t has the sign of s, where |t| < p
 pub lead_sign : (s : ℤ) (p : ℕ) (t : ℤ) → unsigned_abs t < p → HasSignOf s (s *ℤ pos p +ℤ t)
 lead_sign (pos n) p t k =
-    record { positive = λ h. lead-pos n p t (omega (arith, ints)) k; negative = λ h. absurd (omega (arith, ints)) }
+    record { positive = λ h. lead_pos n p t (omega (arith, ints)) k; negative = λ h. absurd (omega (arith, ints)) }
 lead_sign (negsuc n) p t k =
-    record { positive = λ h. absurd (omega (arith, ints)); negative = λ h. lead-neg n p t k }
+    record { positive = λ h. absurd (omega (arith, ints)); negative = λ h. lead_neg n p t k }
 
 -- ---- a term of a lower power is small
 

@@ -1,5 +1,6 @@
 pub mod Keys
 pub mod SetLaws
+pub mod CellOrderLaws
 pub mod Written
 pub mod Determinants
 pub mod Leading

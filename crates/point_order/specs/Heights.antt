@@ -15,13 +15,13 @@ base = 2 ^ 64
 pub top : ℕ
 top = 2 ^ 42
 
-pub base-is : base ≡ 2 ^ 64
+pub base_is : base ≡ 2 ^ 64
 unfolding base
-base-is = refl
+base_is = refl
 
-pub top-is : top ≡ 2 ^ 42
+pub top_is : top ≡ 2 ^ 42
 unfolding top
-top-is = refl
+top_is = refl
 
 -- The perturbed height: |p|^2 times a great number, raised by a smaller one that grows with the key of p.
 unfoldable pub height : ℕ → ℕ

@@ -41,7 +41,8 @@ TieDecided = (a b c d e : ℕ) → AreFive a b c d e → is_flat a b c d ≡ fal
 
 -- No tie is left: at five points of which the first four are independent, the determinant is not 0.
 abbrev pub NeverZero : Type 0
-NeverZero = (a b c d e : ℕ) → AreFiveKeys a b c d e → AreFive a b c d e → is_flat a b c d ≡ false → out a b c d e ≢ pos 0
+NeverZero = (a b c d e : ℕ) → AreFiveKeys a b c d e → AreFive a b c d e → is_flat a b c d ≡ false →
+    out a b c d e ≢ pos 0
 
 -- Where the perturbed determinant is positive, the plain polynomial is not negative; and the mirror.
 abbrev pub PlainNotBelow : Type 0

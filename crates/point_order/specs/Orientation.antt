@@ -1,6 +1,7 @@
 -- On which side of a plane a point lies.
 use Rattle.std.specs.Prelude.{ℕ, Bool, ℤ, pos, ◌+ℤ◌, ◌-ℤ◌, ◌*ℤ◌, not, ◌&&◌}
 use Rattle.std.specs.Int.Signed.{lt_z}
+unfoldable pub use Rattle.whole_ring.specs.Determinants.{minor, triple}
 use Rattle.point_order.specs.Coordinates.{x_of, y_of, z_of}
 
 -- the coordinates of b - a
@@ -12,15 +13,6 @@ y_from a b = pos (y_of b) -ℤ pos (y_of a)
 
 unfoldable pub z_from : ℕ → ℕ → ℤ
 z_from a b = pos (z_of b) -ℤ pos (z_of a)
-
--- the determinant of two rows, (p, q) and (r, s)
-unfoldable pub minor : ℤ → ℤ → ℤ → ℤ → ℤ
-minor p q r s = p *ℤ s -ℤ q *ℤ r
-
--- the determinant of three rows, u . (v x w)
-unfoldable pub triple : ℤ → ℤ → ℤ → ℤ → ℤ → ℤ → ℤ → ℤ → ℤ → ℤ
-triple ux uy uz vx vy vz wx wy wz =
-    ux *ℤ minor vy vz wy wz +ℤ uy *ℤ minor vz vx wz wx +ℤ uz *ℤ minor vx vy wx wy
 
 -- The orientation of four points, (b - a) . ((c - a) x (d - a)). It is 0 where the four lie in one plane.
 unfoldable pub orientation : ℕ → ℕ → ℕ → ℕ → ℤ

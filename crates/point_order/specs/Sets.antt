@@ -1,5 +1,5 @@
 -- Sets of points, as ascending lists of keys.
-use Rattle.std.specs.Prelude.{ℕ, ◌≢◌, List, [], ◌∷◌, ◌==◌, nat_lt, not, if◌then◌else◌}
+use Rattle.std.specs.Prelude.{ℕ, ◌≢◌, ◌↔◌, List, [], ◌∷◌, ◌==◌, nat_lt, not, if◌then◌else◌}
 use Rattle.std.specs.List.{filter}
 pub use Rattle.list_laws.specs.Lists.{IsIn, is_among, IsBelowFirst, IsAscending}
 
@@ -15,6 +15,10 @@ AreFour a b c d = (a ≢ b) × (a ≢ c) × (a ≢ d) × (b ≢ c) × (b ≢ d) 
 abbrev pub AreFive : ℕ → ℕ → ℕ → ℕ → ℕ → Type 0
 AreFive a b c d e =
     (a ≢ b) × (a ≢ c) × (a ≢ d) × (a ≢ e) × (b ≢ c) × (b ≢ d) × (b ≢ e) × (c ≢ d) × (c ≢ e) × (d ≢ e)
+
+-- the two lists have the same points
+abbrev pub AreSamePoints : List ℕ → List ℕ → Type 0
+AreSamePoints l m = (e : ℕ) → IsIn e l ↔ IsIn e m
 
 -- the ascending list with p, which stands in it once
 abbrev pub with_point : ℕ → List ℕ → List ℕ

@@ -298,7 +298,8 @@ impl Cell {
 
     /// The finite points, ascending.
     pub fn points(&self) -> &[Point]
-        ensures { result.now ≡ points_of self.now }
+        ensures points { result.now ≡ points_of self.now }
+        ensures ascending { IsAscending result.now }
     {
         match self {
             Cell::Full(quad) => &quad.points,

@@ -14,13 +14,12 @@
 
 pub mod cell;
 pub mod laws;
+mod order;
 mod point;
 mod step;
 mod text;
 
 pub use cell::{Cell, Facet, Pair, Quad, Tri};
+pub use order::{cells_in_order, points_in_order};
 pub use point::{OutOfRange, Point};
 pub use step::{Normal, Step};
-
-#[cfg(test)]
-mod tests;

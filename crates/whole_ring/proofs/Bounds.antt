@@ -8,18 +8,18 @@ use mir.Val.{hbits}
 use Rattle.whole_ring.specs.Bounds.{IsWithin}
 
 -- bounds are multiplied
-pub within-mul : {m n : ℕ} {x y : ℤ} → IsWithin m x → IsWithin n y → IsWithin (m * n) (x *ℤ y)
-within-mul {m} {n} {x} {y} h k =
+pub within_mul : {m n : ℕ} {x y : ℤ} → IsWithin m x → IsWithin n y → IsWithin (m * n) (x *ℤ y)
+within_mul {m} {n} {x} {y} h k =
     record { size = rw (unsigned_abs-mul x y) (mul-le (unsigned_abs x) (unsigned_abs y) m n h.size k.size) }
 
 -- bounds are added
-pub within-add : {m n : ℕ} {x y : ℤ} → IsWithin m x → IsWithin n y → IsWithin (m + n) (x +ℤ y)
-within-add {m} {n} {x} {y} h k = record { size = omega (arith, ints, h.size, k.size) }
+pub within_add : {m n : ℕ} {x y : ℤ} → IsWithin m x → IsWithin n y → IsWithin (m + n) (x +ℤ y)
+within_add {m} {n} {x} {y} h k = record { size = omega (arith, ints, h.size, k.size) }
 
 -- bounds are added for a difference too
-pub within-sub : {m n : ℕ} {x y : ℤ} → IsWithin m x → IsWithin n y → IsWithin (m + n) (x -ℤ y)
-within-sub {m} {n} {x} {y} h k = record { size = omega (arith, ints, h.size, k.size) }
+pub within_sub : {m n : ℕ} {x y : ℤ} → IsWithin m x → IsWithin n y → IsWithin (m + n) (x -ℤ y)
+within_sub {m} {n} {x} {y} h k = record { size = omega (arith, ints, h.size, k.size) }
 
 -- a bound below 2 to the width's bits but one: the number fits the signed type of that width
-pub within-fits : (w : Width) {m : ℕ} {x : ℤ} → IsWithin m x → m < 2 ^ hbits w → FitsSigned w x
-within-fits w {m} {x} h k = fits_signed_from_abs w x (omega (arith, h.size))
+pub within_fits : (w : Width) {m : ℕ} {x : ℤ} → IsWithin m x → m < 2 ^ hbits w → FitsSigned w x
+within_fits w {m} {x} h k = fits_signed_from_abs w x (omega (arith, h.size))

@@ -4,7 +4,7 @@ use Rattle.std.proofs.Common.{sym, subst}
 use Rattle.whole_ring.specs.Laws.{RingLaw, CombinationLaw, NonnegativeLaw, PositiveLaw, SignOfProduct, ZeroFactor, SizeOfSum, SizeOfProduct}
 use Rattle.whole_ring.proofs.Ring.{ring, ring_from, nonneg_from, pos_from}
 use Rattle.whole_ring.proofs.Signs.{sgn_mul, zero_factor}
-use Rattle.whole_ring.proofs.Bounds.{within-add, within-mul}
+use Rattle.whole_ring.proofs.Bounds.{within_add, within_mul}
 
 -- a test that is true, as the theorems take it
 passed : (b : Bool) → IsTrue b → T b
@@ -29,7 +29,7 @@ pub zero_factor_law : ZeroFactor
 zero_factor_law a b e = zero_factor a b e
 
 pub size_of_sum : SizeOfSum
-size_of_sum m n x y h k = within-add h k
+size_of_sum m n x y h k = within_add h k
 
 pub size_of_product : SizeOfProduct
-size_of_product m n x y h k = within-mul h k
+size_of_product m n x y h k = within_mul h k

@@ -2,7 +2,7 @@ use Rattle.std.proofs.Common.{◌*ℤ◌, ◌-ℤ◌, lit<, w64}
 use Rattle.std.proofs.lemmas.Int.{to_z-of_z}
 use Rattle.std.specs.Int.RustNames.{FitsSigned}
 use Rattle.point_order.specs.Orientation.{minor}
-use Rattle.whole_ring.proofs.Cited.{within-fits, within-mul, within-sub}
+use Rattle.whole_ring.proofs.Cited.{within_fits, within_mul, within_sub}
 use Rattle.point_order.proofs.step.minor_of.Goals as goal
 
 pub overflow_sub-result : goal.overflow_sub-result
@@ -15,9 +15,9 @@ overflow_sub-result c =
     let fq : FitsSigned w64 q = c.ranges.q in
     let fr : FitsSigned w64 r = c.ranges.r in
     let fs : FitsSigned w64 s = c.ranges.s in
-    let ps : FitsSigned w64 (p *ℤ s) = within-fits w64 (within-mul c.requires.first c.requires.fourth) (lit< tt) in
-    let qr : FitsSigned w64 (q *ℤ r) = within-fits w64 (within-mul c.requires.second c.requires.third) (lit< tt) in
-    simp to_z-of_z (within-fits w64 (within-sub (within-mul c.requires.first c.requires.fourth) (within-mul c.requires.second c.requires.third)) (lit< tt))
+    let ps : FitsSigned w64 (p *ℤ s) = within_fits w64 (within_mul c.requires.first c.requires.fourth) (lit< tt) in
+    let qr : FitsSigned w64 (q *ℤ r) = within_fits w64 (within_mul c.requires.second c.requires.third) (lit< tt) in
+    simp to_z-of_z (within_fits w64 (within_sub (within_mul c.requires.first c.requires.fourth) (within_mul c.requires.second c.requires.third)) (lit< tt))
 
 pub returns-clause-value : goal.returns-clause-value
 unfolding minor
@@ -30,9 +30,9 @@ returns-clause-value c =
     let fq : FitsSigned w64 q = c.ranges.q in
     let fr : FitsSigned w64 r = c.ranges.r in
     let fs : FitsSigned w64 s = c.ranges.s in
-    let ps : FitsSigned w64 (p *ℤ s) = within-fits w64 (within-mul c.requires.first c.requires.fourth) (lit< tt) in
-    let qr : FitsSigned w64 (q *ℤ r) = within-fits w64 (within-mul c.requires.second c.requires.third) (lit< tt) in
-    let all : FitsSigned w64 (p *ℤ s -ℤ q *ℤ r) = within-fits w64 (within-sub (within-mul c.requires.first c.requires.fourth) (within-mul c.requires.second c.requires.third)) (lit< tt) in
+    let ps : FitsSigned w64 (p *ℤ s) = within_fits w64 (within_mul c.requires.first c.requires.fourth) (lit< tt) in
+    let qr : FitsSigned w64 (q *ℤ r) = within_fits w64 (within_mul c.requires.second c.requires.third) (lit< tt) in
+    let all : FitsSigned w64 (p *ℤ s -ℤ q *ℤ r) = within_fits w64 (within_sub (within_mul c.requires.first c.requires.fourth) (within_mul c.requires.second c.requires.third)) (lit< tt) in
     simp to_z-of_z
 
 pub returns-clause-bound : goal.returns-clause-bound
@@ -45,7 +45,7 @@ returns-clause-bound c =
     let fq : FitsSigned w64 q = c.ranges.q in
     let fr : FitsSigned w64 r = c.ranges.r in
     let fs : FitsSigned w64 s = c.ranges.s in
-    let ps : FitsSigned w64 (p *ℤ s) = within-fits w64 (within-mul c.requires.first c.requires.fourth) (lit< tt) in
-    let qr : FitsSigned w64 (q *ℤ r) = within-fits w64 (within-mul c.requires.second c.requires.third) (lit< tt) in
-    let all : FitsSigned w64 (p *ℤ s -ℤ q *ℤ r) = within-fits w64 (within-sub (within-mul c.requires.first c.requires.fourth) (within-mul c.requires.second c.requires.third)) (lit< tt) in
-    simp to_z-of_z (within-sub (within-mul c.requires.first c.requires.fourth) (within-mul c.requires.second c.requires.third))
+    let ps : FitsSigned w64 (p *ℤ s) = within_fits w64 (within_mul c.requires.first c.requires.fourth) (lit< tt) in
+    let qr : FitsSigned w64 (q *ℤ r) = within_fits w64 (within_mul c.requires.second c.requires.third) (lit< tt) in
+    let all : FitsSigned w64 (p *ℤ s -ℤ q *ℤ r) = within_fits w64 (within_sub (within_mul c.requires.first c.requires.fourth) (within_mul c.requires.second c.requires.third)) (lit< tt) in
+    simp to_z-of_z (within_sub (within_mul c.requires.first c.requires.fourth) (within_mul c.requires.second c.requires.third))

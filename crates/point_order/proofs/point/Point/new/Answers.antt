@@ -2,7 +2,7 @@ use Rattle.std.proofs.Common.{arith, ◌≡◌, ℕ, pos, ◌<◌, ap, ◌∙◌
 use Rattle.std.proofs.lemmas.Int.{ints}
 use Rattle.std.specs.Prelude.{unsigned_abs}
 use Rattle.std.specs.Int.{cast_signed, cast_unsigned, w64}
-use Rattle.point_order.proofs.Keys.{x_of-packed, y_of-packed, z_of-packed}
+use Rattle.point_order.proofs.Keys.{x_of_packed, y_of_packed, z_of_packed}
 use Rattle.point_order.proofs.point.Point.new.Goals as goal
 
 pub returns-clause-made : goal.returns-clause-made
@@ -16,4 +16,4 @@ returns-clause-made c =
     let ha : a < 16384 = omega (arith, ints) in
     let hb : b < 16384 = omega (arith, ints) in
     let hd : d < 16384 = omega (arith, ints) in
-    (ap pos (x_of-packed a b d ha hb hd) ∙ ea, ap pos (y_of-packed a b d hb hd) ∙ eb, ap pos (z_of-packed a b d hd) ∙ ed)
+    (ap pos (x_of_packed a b d ha hb hd) ∙ ea, ap pos (y_of_packed a b d hb hd) ∙ eb, ap pos (z_of_packed a b d hd) ∙ ed)
