@@ -1,2 +1,2 @@
 -- The lemmas that other crates cite.
-pub use Rattle.byte_ends.proofs.Told.{AppendsFront-after}
+pub use Rattle.byte_ends.proofs.Told.{AppendsFront_after}

@@ -8,8 +8,8 @@ use Rattle.std.proofs.lemmas.List.{take_rest}
 use Rattle.byte_ends.specs.Ends.{AppendsFront}
 
 -- a piece arrived whole, and then a front of what comes after it
-pub AppendsFront-after : (a b c : Option (List ℕ)) (piece text : List ℕ) → Appends a b piece → AppendsFront b c text → AppendsFront a c (piece ++ text)
-AppendsFront-after a b c piece text whole f = record {
+pub AppendsFront_after : (a b c : Option (List ℕ)) (piece text : List ℕ) → Appends a b piece → AppendsFront b c text → AppendsFront a c (piece ++ text)
+AppendsFront_after a b c piece text whole f = record {
   front = piece ++ f.front;
   rest = f.rest;
   parts = ap (λ l. piece ++ l) f.parts ∙ sym (append_assoc piece f.front f.rest);

@@ -16,6 +16,3 @@ pub use ends::{Failed, Sink, Source};
 pub use in_memory::{MemSink, MemSource};
 pub use loops::{Reached, ReadError, read_to_limit, write_all};
 pub use real::{Reading, StdSink, StdSource, StdStream, Writing};
-
-#[cfg(test)]
-mod tests;

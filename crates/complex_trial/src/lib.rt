@@ -12,6 +12,3 @@ mod tests_of_cells;
 mod trial;
 
 pub use trial::complex_by_trial;
-
-#[cfg(test)]
-mod tests;

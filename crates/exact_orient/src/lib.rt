@@ -35,6 +35,3 @@ fn are_zero(x: i64, y: i64, z: i64) -> bool
 {
     x == 0 && y == 0 && z == 0
 }
-
-#[cfg(test)]
-mod tests;

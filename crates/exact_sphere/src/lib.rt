@@ -57,6 +57,3 @@ pub fn sphere(a: Point, b: Point, c: Point, d: Point, e: Point) -> i128
         term(v.triple(w, t), u.square()),
     )
 }
-
-#[cfg(test)]
-mod tests;

@@ -7,7 +7,7 @@ use Rattle.point_order.specs.declared.cell.Cell.TheVariants.{Full}
 use Rattle.point_order.specs.Sets.{IsIn, IsAscending, is_among, ascending}
 use Rattle.point_order.specs.Facets.{points_of}
 use Rattle.point_order.specs.Complex.{complex}
-use Rattle.point_order.proofs.Cited.{in-ascending_from}
+use Rattle.point_order.proofs.Cited.{in_ascending_from}
 use Rattle.del_laws.specs.Cells.{point, OneOf}
 use Rattle.del_laws.specs.Keys.{AreKeys}
 use Rattle.del_laws.specs.Vertices.{is_full_cell}
@@ -47,8 +47,8 @@ in_link s face w x y z e a k t f m n =
     filtered_true (λ p. not (is_among p face)) (flat_map points_of (cells_with face (complex s))) e
     (in_flat points_of (cells_with face (complex s)) (Full q) e
     (filtered_true (λ c. list_all (λ p. is_among p (points_of c)) face) (complex s) (Full q) (test_is_listed s a k (point w) (point x) (point y) (point z) t)
-    (all_true (λ p. is_among p q) face (λ p i. among_true p q (in-ascending_from (w ∷ x ∷ y ∷ z ∷ []) p (f p i)))))
-    (in-ascending_from (w ∷ x ∷ y ∷ z ∷ []) e m))
+    (all_true (λ p. is_among p q) face (λ p i. among_true p q (in_ascending_from (w ∷ x ∷ y ∷ z ∷ []) p (f p i)))))
+    (in_ascending_from (w ∷ x ∷ y ∷ z ∷ []) e m))
     (not_true (is_among e face) (false_if (is_among e face) (λ i. n (among_from e face i))))
 
 -- the third point of a Full cell that begins with an edge is in the link of the edge

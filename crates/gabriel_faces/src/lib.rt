@@ -70,6 +70,3 @@ fn is_triangle_empty(a: Point, b: Point, c: Point, points: &[Point]) -> bool
 {
     points.iter().all(|e| !inside_triangle(a, b, c, *e))
 }
-
-#[cfg(test)]
-mod tests;

@@ -29,8 +29,8 @@ turned d m p q nx ny nz ux uy uz vx vy vz tx ty tz =
     (d ∷ m ∷ p ∷ q ∷ nx ∷ ny ∷ nz ∷ ux ∷ uy ∷ uz ∷ vx ∷ vy ∷ vz ∷ tx ∷ ty ∷ tz ∷ []) tt
 
 -- the power of e to the sphere of the triangle, times |n|^2: each term is a square times a scalar product of two normals
-pub by-normals : (a b c e : ℕ) → triangle_power a b c e ≡ distance a e *ℤ square_of_normal a b c -ℤ distance a c *ℤ dot (normal_x a b c) (normal_y a b c) (normal_z a b c) (normal_x a b e) (normal_y a b e) (normal_z a b e) -ℤ distance a b *ℤ dot (normal_x a b c) (normal_y a b c) (normal_z a b c) (normal_x a e c) (normal_y a e c) (normal_z a e c)
+pub by_normals : (a b c e : ℕ) → triangle_power a b c e ≡ distance a e *ℤ square_of_normal a b c -ℤ distance a c *ℤ dot (normal_x a b c) (normal_y a b c) (normal_z a b c) (normal_x a b e) (normal_y a b e) (normal_z a b e) -ℤ distance a b *ℤ dot (normal_x a b c) (normal_y a b c) (normal_z a b c) (normal_x a e c) (normal_y a e c) (normal_z a e c)
 unfolding triangle_power centre_x centre_y centre_z normal_x normal_y normal_z
-by-normals a b c e =
+by_normals a b c e =
     turned (distance a e) (square_of_normal a b c) (distance a c) (distance a b) (normal_x a b c) (normal_y a b c) (normal_z a b c)
     (x_from a b) (y_from a b) (z_from a b) (x_from a c) (y_from a c) (z_from a c) (x_from a e) (y_from a e) (z_from a e)

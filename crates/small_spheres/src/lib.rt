@@ -111,6 +111,3 @@ pub fn cell_least(a: Point, b: Point, c: Point, d: Point) -> u64
         four_squares_of_orientation(square),
     )
 }
-
-#[cfg(test)]
-mod tests;

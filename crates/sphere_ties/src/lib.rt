@@ -62,6 +62,3 @@ pub fn conflict(cell: &Cell, mate: Point, p: Point) -> bool
         }
     }
 }
-
-#[cfg(test)]
-mod tests;

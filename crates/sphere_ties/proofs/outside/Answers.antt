@@ -6,7 +6,7 @@ use Rattle.whole_ring.specs.Signs.{HasSignOf}
 use Rattle.point_order.specs.Heights.{out, sphere_polynomial}
 use Rattle.point_order.specs.Orientation.{orientation}
 use Rattle.point_order.specs.Laws.{coefficient}
-use Rattle.point_order.proofs.Cited.{out-sign, sign-of_tie}
+use Rattle.point_order.proofs.Cited.{out_sign, sign_of_tie}
 use Rattle.sphere_ties.proofs.Verdict.{verdict}
 use Rattle.sphere_ties.proofs.outside.Goals as goal
 
@@ -25,7 +25,7 @@ returns-then-plain-ne0 c =
     let fq : FitsSigned w64 (orientation a b p d) = subst (FitsSigned w64) side fo in
     let ns : s ≢ pos 0 = λ z. c.if-plain-ne0.true (ap (cast_unsigned w128) z) in
     let k : HasSignOf s (out a b p d e) =
-    subst (λ (v : ℤ). HasSignOf v (out a b p d e)) (sym is) (out-sign a b p d e c.key.ensures.bound c.key-2.ensures.bound c.key-3.ensures.bound c.key-4.ensures.bound c.key-5.ensures.bound) in
+    subst (λ (v : ℤ). HasSignOf v (out a b p d e)) (sym is) (out_sign a b p d e c.key.ensures.bound c.key-2.ensures.bound c.key-3.ensures.bound c.key-4.ensures.bound c.key-5.ensures.bound) in
     simp (to_z-of_z, side) (verdict s (orientation a b p d) (out a b p d e) ns c.requires.independent k)
 
 pub returns-else-plain-ne0 : goal.returns-else-plain-ne0
@@ -48,5 +48,5 @@ returns-else-plain-ne0 c =
     sym c.sphere-plain.ensures.value ∙ sym (to_z-of_z w128 s fs) ∙ ap (to_z w128) c.if-plain-ne0.false in
     let nz : z ≢ pos 0 = λ w. c.first_coefficient.ensures.1.0 (sym is ∙ w) in
     let k : HasSignOf z (out a b p d e) =
-    subst (λ (v : ℤ). HasSignOf v (out a b p d e)) (sym is) (sign-of_tie a b p d e g c.requires.distinct tied c.first_coefficient.ensures.1) in
+    subst (λ (v : ℤ). HasSignOf v (out a b p d e)) (sym is) (sign_of_tie a b p d e g c.requires.distinct tied c.first_coefficient.ensures.1) in
     simp (to_z-of_z, side) (verdict z (orientation a b p d) (out a b p d e) nz c.requires.independent k)

@@ -3,17 +3,17 @@ use Rattle.std.proofs.lemmas.Int.{to_z-of_z}
 use Rattle.std.specs.Int.RustNames.{FitsSigned}
 use Rattle.small_spheres.specs.Inside.{dot}
 use Rattle.whole_ring.specs.Bounds.{IsWithin}
-use Rattle.whole_ring.proofs.Cited.{within-add, within-fits, within-mul}
+use Rattle.whole_ring.proofs.Cited.{within_add, within_fits, within_mul}
 use Rattle.small_spheres.proofs.products.sum_of_products.Goals as goal
 
 small : {x : ℤ} → IsWithin 536805378 x → FitsSigned w64 x
-small h = within-fits w64 h (lit< tt)
+small h = within_fits w64 h (lit< tt)
 
 product : {u x : ℤ} → IsWithin 805208067 u → IsWithin 536805378 x → FitsSigned w64 (u *ℤ x)
-product h k = within-fits w64 (within-mul h k) (lit< tt)
+product h k = within_fits w64 (within_mul h k) (lit< tt)
 
 pair : {u v x y : ℤ} → IsWithin 805208067 u → IsWithin 805208067 v → IsWithin 536805378 x → IsWithin 536805378 y → FitsSigned w64 (u *ℤ x +ℤ v *ℤ y)
-pair h k i j = within-fits w64 (within-add (within-mul h i) (within-mul k j)) (lit< tt)
+pair h k i j = within_fits w64 (within_add (within_mul h i) (within_mul k j)) (lit< tt)
 
 pub overflow_add-result : goal.overflow_add-result
 overflow_add-result c =
@@ -43,7 +43,7 @@ overflow_add-result-2 c =
     let vy : FitsSigned w64 (c.args.uy *ℤ c.args.vy) = product c.requires.uy c.requires.vy in
     let wz : FitsSigned w64 (c.args.uz *ℤ c.args.vz) = product c.requires.uz c.requires.vz in
     let uv : FitsSigned w64 (c.args.ux *ℤ c.args.vx +ℤ c.args.uy *ℤ c.args.vy) = pair c.requires.ux c.requires.uy c.requires.vx c.requires.vy in
-    simp to_z-of_z (within-fits w64 (within-add (within-add (within-mul c.requires.ux c.requires.vx) (within-mul c.requires.uy c.requires.vy)) (within-mul c.requires.uz c.requires.vz)) (lit< tt))
+    simp to_z-of_z (within_fits w64 (within_add (within_add (within_mul c.requires.ux c.requires.vx) (within_mul c.requires.uy c.requires.vy)) (within_mul c.requires.uz c.requires.vz)) (lit< tt))
 
 pub returns-clause-value : goal.returns-clause-value
 unfolding dot
@@ -58,10 +58,10 @@ returns-clause-value c =
     let vy : FitsSigned w64 (c.args.uy *ℤ c.args.vy) = product c.requires.uy c.requires.vy in
     let wz : FitsSigned w64 (c.args.uz *ℤ c.args.vz) = product c.requires.uz c.requires.vz in
     let uv : FitsSigned w64 (c.args.ux *ℤ c.args.vx +ℤ c.args.uy *ℤ c.args.vy) = pair c.requires.ux c.requires.uy c.requires.vx c.requires.vy in
-    let all : FitsSigned w64 (c.args.ux *ℤ c.args.vx +ℤ c.args.uy *ℤ c.args.vy +ℤ c.args.uz *ℤ c.args.vz) = within-fits w64 (within-add (within-add (within-mul c.requires.ux c.requires.vx) (within-mul c.requires.uy c.requires.vy)) (within-mul c.requires.uz c.requires.vz)) (lit< tt) in
+    let all : FitsSigned w64 (c.args.ux *ℤ c.args.vx +ℤ c.args.uy *ℤ c.args.vy +ℤ c.args.uz *ℤ c.args.vz) = within_fits w64 (within_add (within_add (within_mul c.requires.ux c.requires.vx) (within_mul c.requires.uy c.requires.vy)) (within_mul c.requires.uz c.requires.vz)) (lit< tt) in
     simp to_z-of_z
 
 pub returns-clause-bound : goal.returns-clause-bound
 unfolding dot
 returns-clause-bound c =
-    subst (IsWithin 1296720062323752978) (sym (returns-clause-value c)) (within-add (within-add (within-mul c.requires.ux c.requires.vx) (within-mul c.requires.uy c.requires.vy)) (within-mul c.requires.uz c.requires.vz))
+    subst (IsWithin 1296720062323752978) (sym (returns-clause-value c)) (within_add (within_add (within_mul c.requires.ux c.requires.vx) (within_mul c.requires.uy c.requires.vy)) (within_mul c.requires.uz c.requires.vz))
