@@ -52,19 +52,19 @@ pub record Leads (limit : ℕ) (front : List (List ℕ)) (place : Place) (taken 
   pub line_count : length points + length edits ≤ limit
   pub radius_count : length radii ≤ radius_limit
 
-join-two : (front : List (List ℕ)) (a b : List ℕ) → front ++ (a ∷ b ∷ []) ≡ front ++ a ∷ [] ++ b ∷ []
-join-two front a b = sym (append_assoc front (a ∷ []) (b ∷ []))
+join_two : (front : List (List ℕ)) (a b : List ℕ) → front ++ (a ∷ b ∷ []) ≡ front ++ a ∷ [] ++ b ∷ []
+join_two front a b = sym (append_assoc front (a ∷ []) (b ∷ []))
 
-join-three : (front : List (List ℕ)) (a b c : List ℕ) → front ++ (a ∷ b ∷ c ∷ []) ≡ front ++ a ∷ [] ++ b ∷ [] ++ c ∷ []
-join-three front a b c = sym (append_assoc (front ++ a ∷ []) (b ∷ []) (c ∷ []) ∙ append_assoc front (a ∷ []) (b ∷ c ∷ []))
+join_three : (front : List (List ℕ)) (a b c : List ℕ) → front ++ (a ∷ b ∷ c ∷ []) ≡ front ++ a ∷ [] ++ b ∷ [] ++ c ∷ []
+join_three front a b c = sym (append_assoc (front ++ a ∷ []) (b ∷ []) (c ∷ []) ∙ append_assoc front (a ∷ []) (b ∷ c ∷ []))
 
-whole-is : (place : Place) (pls els rls : List (List ℕ)) → AreUnmet place pls els rls → front_at place pls els rls ++ words_from place ≡ front_at places.End pls els rls
-whole-is places.Title pls els rls h = rw (h.0, h.1, h.2) refl
-whole-is places.Heading pls els rls h = rw (h.0, h.1, h.2) refl
-whole-is places.Points pls els rls h = rw (h.0, h.1) (join-three (codes "mesh3 1" ∷ codes "points" ∷ pls) (codes "edits") (codes "radii") (codes "end"))
-whole-is places.Edits pls els rls h = rw h (join-two (codes "mesh3 1" ∷ codes "points" ∷ pls ++ codes "edits" ∷ els) (codes "radii") (codes "end"))
-whole-is places.Radii pls els rls h = refl
-whole-is places.End pls els rls h = append-nil _
+whole_is : (place : Place) (pls els rls : List (List ℕ)) → AreUnmet place pls els rls → front_at place pls els rls ++ words_from place ≡ front_at places.End pls els rls
+whole_is places.Title pls els rls h = rw (h.0, h.1, h.2) refl
+whole_is places.Heading pls els rls h = rw (h.0, h.1, h.2) refl
+whole_is places.Points pls els rls h = rw (h.0, h.1) (join_three (codes "mesh3 1" ∷ codes "points" ∷ pls) (codes "edits") (codes "radii") (codes "end"))
+whole_is places.Edits pls els rls h = rw h (join_two (codes "mesh3 1" ∷ codes "points" ∷ pls ++ codes "edits" ∷ els) (codes "radii") (codes "end"))
+whole_is places.Radii pls els rls h = refl
+whole_is places.End pls els rls h = append-nil _
 
 -- lines that lead to a place are the first of a file
 pub first_lines : (limit : ℕ) (front : List (List ℕ)) (place : Place) (t : Content) → Leads limit front place t → AreFirstLines limit front
@@ -73,7 +73,7 @@ first_lines limit front place t k =
       points = k.points;
       edits = k.edits;
       radii = k.radii;
-      order = ap (λ (ls : List (List ℕ)). ls ++ words_from place) k.order ∙ whole-is place k.points k.edits k.radii k.unmet;
+      order = ap (λ (ls : List (List ℕ)). ls ++ words_from place) k.order ∙ whole_is place k.points k.edits k.radii k.unmet;
       point_lines = k.point_lines;
       edit_lines = k.edit_lines;
       radius_lines = k.radius_lines;

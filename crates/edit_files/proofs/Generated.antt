@@ -1,5 +1,5 @@
 -- The lines of a generated file, one after another, and its laws.
-use Rattle.std.proofs.Common.{◌≡◌, ◌≢◌, ◌∙◌, refl, sym, ap, subst, ℕ, suc, ◌+◌, ◌-◌, ◌*◌, ◌/◌, ◌%◌, ◌<◌, ◌≤◌, Bool, true, false, cond, eqb, List, [], ◌∷◌, ◌++◌, map, get_or, length, arith, eq-eqb, inl, inr, Some, lit<, lit≤, slice_index}
+use Rattle.std.proofs.Common.{◌≡◌, ◌≢◌, ◌∙◌, refl, sym, ap, subst, ℕ, suc, ◌+◌, ◌-◌, ◌*◌, ◌/◌, ◌%◌, ◌<◌, ◌≤◌, Bool, true, false, cond, eqb, List, [], ◌∷◌, ◌++◌, map, get_or, length, arith, eq-eqb, inl, inr, Some, lit<, lit≤, slice_index, add-one}
 use Rattle.std.specs.List.{range_with_len, AllByRecursion}
 use Rattle.std.proofs.lemmas.Bool.{ne_eqb}
 use Rattle.std.proofs.lemmas.List.FromFn.{map-range_with_len_more, get_or-map-range_with_len, length-map-range_with_len}
@@ -14,12 +14,10 @@ use Rattle.edit_history.specs.Opening.{opening_four}
 use Rattle.plain_laws.specs.Plain.{IsAnchored}
 use Rattle.edit_files.specs.Grammar.{line_limit}
 use Rattle.edit_files.specs.Writing.{IsWithin}
-use Rattle.edit_files.specs.Generator.{next_state, state_after, draw, drawn_point, draws_before, drawn_by, corners, back_to, edit_line, generated}
+use Rattle.edit_files.specs.Keys.{coordinate_count, key_of}
+use Rattle.edit_files.specs.Generator.{next_state, state_after, draw, draw_of, drawn_point, most_edits, point_behind, draws_before, drawn_by, corners, back_to, edit_line, generated}
 
 -- ---- draws
-
-one : (m : ℕ) → m + 1 ≡ suc m
-one m = omega arith
 
 two : (m : ℕ) → m + 2 ≡ suc (suc m)
 two m = omega arith
@@ -27,16 +25,11 @@ two m = omega arith
 three : (m : ℕ) → m + 3 ≡ suc (suc (suc m))
 three m = omega arith
 
--- the point of the three draws behind a state
-abbrev point_behind : ℕ → ℕ
-point_behind s =
-    next_state s / 131072 * 268435456 + next_state (next_state s) / 131072 * 16384 + next_state (next_state (next_state s)) / 131072
-
-drawn-behind : (start m : ℕ) → drawn_point start m ≡ point_behind (state_after start m)
-drawn-behind start m =
-    ap (λ (k : ℕ). state_after start k / 131072 * 268435456 + draw start (m + 2) * 16384 + draw start (m + 3)) (one m)
-    ∙ ap (λ (k : ℕ). draw start (suc m) * 268435456 + state_after start k / 131072 * 16384 + draw start (m + 3)) (two m)
-    ∙ ap (λ (k : ℕ). draw start (suc m) * 268435456 + draw start (suc (suc m)) * 16384 + state_after start k / 131072) (three m)
+drawn_behind : (start m : ℕ) → drawn_point start m ≡ point_behind (state_after start m)
+drawn_behind start m =
+    ap (λ (k : ℕ). key_of (draw start k) (draw start (m + 2)) (draw start (m + 3))) (add-one m)
+    ∙ ap (λ (k : ℕ). key_of (draw start (suc m)) (draw start k) (draw start (m + 3))) (two m)
+    ∙ ap (λ (k : ℕ). key_of (draw start (suc m)) (draw start (suc (suc m))) (draw start k)) (three m)
 
 -- ---- one line more
 
@@ -66,7 +59,7 @@ pub draws_line : (start n s p : ℕ) (edit : Edit) → s ≡ state_after start (
 draws_line start n s p edit state m q e =
     let adds : eqb ((n + 1) % 4) 0 ≡ false = ne_eqb ((n + 1) % 4) 0 (λ z. m (omega (arith, z))) in
     let behind : 3 * (n - n / 4) ≡ draws_before (n + 1) = omega arith in
-    let drawn : p ≡ drawn_by start (n + 1) = q ∙ ap point_behind state ∙ sym (drawn-behind start (3 * (n - n / 4))) ∙ ap (drawn_point start) behind in
+    let drawn : p ≡ drawn_by start (n + 1) = q ∙ ap point_behind state ∙ sym (drawn_behind start (3 * (n - n / 4))) ∙ ap (drawn_point start) behind in
     e ∙ ap Add drawn ∙ sym (ap (λ (b : Bool). cond b (back_to (drawn_by start (n + 1 - 2))) (Add (drawn_by start (n + 1)))) adds)
 
 -- the state behind a line that goes back
@@ -109,8 +102,8 @@ none_takes start q a [] i = absurd i
 none_takes start q a (k ∷ is) (inl e) = line_takes start k q a (sym e)
 none_takes start q a (k ∷ is) (inr i) = none_takes start q a is i
 
-pub generated-anchored : (count start : ℕ) → IsAnchored (generated count start).points (generated count start).edits
-generated-anchored count start = record {
+pub generated_anchored : (count start : ℕ) → IsAnchored (generated count start).points (generated count start).edits
+generated_anchored count start = record {
   four = record { first = 0; second = 1; third = 2; fourth = 3 };
   opening = corners_open;
   untaken = λ i at. none_takes start (slice_index corners i) (corner i at) (range_with_len 1 count);
@@ -123,42 +116,42 @@ generated-anchored count start = record {
     corner i (inr (inr (inr (inl e)))) = ap (λ (k : ℕ). is_among (slice_index corners k) corners) (sym e)
     corner i (inr (inr (inr (inr n)))) = absurd n
 
-pub generated-solid : (count start : ℕ) → is_solid (generated count start).points ≡ true
+pub generated_solid : (count start : ℕ) → is_solid (generated count start).points ≡ true
 unfolding x_of y_of z_of x_from y_from z_from minor triple orientation normal_x normal_y normal_z
-generated-solid count start = refl
+generated_solid count start = refl
 
 -- a state behind a draw is below 2^31
-draw-below : (s : ℕ) → next_state s / 131072 < 16384
-draw-below s = omega arith
+draw_below : (s : ℕ) → draw_of (next_state s) < coordinate_count
+draw_below s = omega arith
 
-drawn-key : (start m : ℕ) → IsKey (drawn_point start m)
-drawn-key start m =
+drawn_key : (start m : ℕ) → IsKey (drawn_point start m)
+drawn_key start m =
     let s = state_after start m in
-    let a = draw-below s in
-    let b = draw-below (next_state s) in
-    let d = draw-below (next_state (next_state s)) in
+    let a = draw_below s in
+    let b = draw_below (next_state s) in
+    let d = draw_below (next_state (next_state s)) in
     let k : IsKey (point_behind s) = omega (arith, a, b, d) in
-    subst IsKey (sym (drawn-behind start m)) k
+    subst IsKey (sym (drawn_behind start m)) k
 
-line-key : (start i : ℕ) → IsKey (point_of (edit_line start i))
-line-key start i = by (eqb (i % 4) 0)
+line_key : (start i : ℕ) → IsKey (point_of (edit_line start i))
+line_key start i = by (eqb (i % 4) 0)
   where
     back : (p : ℕ) (b : Bool) → IsKey p → IsKey (point_of (cond b (Add p) (Take p)))
     back p true k = k
     back p false k = k
 
     by : (b : Bool) → IsKey (point_of (cond b (back_to (drawn_by start (i - 2))) (Add (drawn_by start i))))
-    by true = back (drawn_by start (i - 2)) (is_among (drawn_by start (i - 2)) corners) (drawn-key start (draws_before (i - 2)))
-    by false = drawn-key start (draws_before i)
+    by true = back (drawn_by start (i - 2)) (is_among (drawn_by start (i - 2)) corners) (drawn_key start (draws_before (i - 2)))
+    by false = drawn_key start (draws_before i)
 
-lines-keys : (start : ℕ) (is : List ℕ) → AllByRecursion (λ e. IsKey (point_of e)) (map (edit_line start) is)
-lines-keys start [] = tt
-lines-keys start (i ∷ is) = (line-key start i, lines-keys start is)
+lines_keys : (start : ℕ) (is : List ℕ) → AllByRecursion (λ e. IsKey (point_of e)) (map (edit_line start) is)
+lines_keys start [] = tt
+lines_keys start (i ∷ is) = (line_key start i, lines_keys start is)
 
-pub generated-within : (count start : ℕ) → count ≤ 262140 → IsWithin line_limit (generated count start)
-generated-within count start few = record {
+pub generated_within : (count start : ℕ) → count ≤ most_edits → IsWithin line_limit (generated count start)
+generated_within count start few = record {
   points = (lit< tt, (lit< tt, (lit< tt, (lit< tt, tt))));
-  edits = lines-keys start (range_with_len 1 count);
+  edits = lines_keys start (range_with_len 1 count);
   radii = (lit< tt, (lit< tt, (lit< tt, tt)));
   line_count = omega (arith, few, length-map-range_with_len (edit_line start) 1 count);
   radius_count = lit≤ tt;

@@ -17,10 +17,10 @@ use Rattle.edit_files.specs.Faults.{AreFirstLines, IsBadLine, IsFaultOfLine, IsF
 use Rattle.edit_files.specs.Judging.{State, step, judge, judged, ended, start, Gives, Fails}
 use Rattle.edit_files.proofs.Texts.{file_from_first}
 use Rattle.edit_files.proofs.Turns.{judge_on, judge_bad, judge_end}
-use Rattle.edit_files.proofs.Completes.{judged-file}
+use Rattle.edit_files.proofs.Completes.{judged_file}
 use Rattle.edit_files.proofs.Fronts.{Leads, first_lines, all_lines, at_start}
-use Rattle.edit_files.proofs.Taken.{leads-on}
-use Rattle.edit_files.proofs.Reasons.{reason-is}
+use Rattle.edit_files.proofs.Taken.{leads_on}
+use Rattle.edit_files.proofs.Reasons.{reason_is}
 
 -- ---- first lines
 
@@ -53,18 +53,18 @@ record Refuses (limit : ℕ) (front lines : List (List ℕ)) (s : State) : Type 
   answer : judge limit (length front + 1) s lines ≡ Err fault
   is : IsFaultOfLine limit (front ++ lines) fault ⊎ IsFaultOfEnd limit (front ++ lines) fault
 
-ended-cases : (n : ℕ) (place : Place) (t : Content) → ((place ≡ places.End) × (ended n place t ≡ Ok t)) ⊎ (ended n place t ≡ Err (record { line = n; why = Truncated }))
-ended-cases n places.Title t = inr refl
-ended-cases n places.Heading t = inr refl
-ended-cases n places.Points t = inr refl
-ended-cases n places.Edits t = inr refl
-ended-cases n places.Radii t = inr refl
-ended-cases n places.End t = inl (refl, refl)
+ended_cases : (n : ℕ) (place : Place) (t : Content) → ((place ≡ places.End) × (ended n place t ≡ Ok t)) ⊎ (ended n place t ≡ Err (record { line = n; why = Truncated }))
+ended_cases n places.Title t = inr refl
+ended_cases n places.Heading t = inr refl
+ended_cases n places.Points t = inr refl
+ended_cases n places.Edits t = inr refl
+ended_cases n places.Radii t = inr refl
+ended_cases n places.End t = inl (refl, refl)
 
 at_end : (limit : ℕ) (front : List (List ℕ)) (s : State) → Reached limit front s → Accepts limit front [] s ⊎ Refuses limit front [] s
 at_end limit front s r =
     let n : ℕ = length front + 1 in
-    elim (ended-cases n s.place s.taken) [
+    elim (ended_cases n s.place s.taken) [
       | inl e ↦ inl (record {
         file = s.taken;
         answer = judge_end limit n s [] refl ∙ e.1;
@@ -77,7 +77,7 @@ at_end limit front s r =
             answer = answer;
             is = inr (record {
               none_bad = none_bad limit (front ++ []) (subst (λ (ls : List (List ℕ)). AreFirstLines limit ls) (sym (append-nil front)) (first_lines limit front s.place s.taken r.leads));
-              no_file = λ f are. (let good = judged-file limit 1 (front ++ []) f are in let bad = r.on [] in absurd cc);
+              no_file = λ f are. (let good = judged_file limit 1 (front ++ []) f are in let bad = r.on [] in absurd cc);
               place = ap (λ (ls : List (List ℕ)). length ls + 1) (sym (append-nil front));
               truncated = refl;
             });
@@ -86,7 +86,7 @@ at_end limit front s r =
 
 further : (limit : ℕ) (front : List (List ℕ)) (s t : State) (line : List ℕ) → Reached limit front s → step limit s line ≡ Ok t → Reached limit (front ++ line ∷ []) t
 further limit front s t line r h = record {
-  leads = leads-on limit front s t line r.leads h;
+  leads = leads_on limit front s t line r.leads h;
   on = λ rest. (let n : length (front ++ line ∷ []) + 1 ≡ length front + 1 + 1 = omega (arith, length-append front (line ∷ [])) in
       ap (judge limit 1 start) (append_assoc front (line ∷ []) rest) ∙ r.on (line ∷ rest) ∙ judge_on limit (length front + 1) s t (line ∷ rest) line rest refl h
       ∙ ap (λ (m : ℕ). judge limit m t rest) (sym n));
@@ -107,13 +107,13 @@ bad_line limit front s line rest why r h =
           good_so_far = first_lines limit front s.place s.taken r.leads;
           no_more = λ first. (let tail : List (List ℕ) = line ∷ first.3 in
               let are : AreFileLines limit (front ++ tail) first.1 = subst (λ (ls : List (List ℕ)). AreFileLines limit ls first.1) (append_assoc front (line ∷ []) first.3) (file_from_first limit (front ++ line ∷ []) first) in
-              let good : judge limit 1 start (front ++ tail) ≡ Ok first.1 = judged-file limit 1 (front ++ tail) first.1 are in
+              let good : judge limit 1 start (front ++ tail) ≡ Ok first.1 = judged_file limit 1 (front ++ tail) first.1 are in
               let on : judge limit 1 start (front ++ tail) ≡ judge limit n s tail = r.on tail in
               let bad : judge limit n s tail ≡ Err (record { line = n; why = why }) = judge_bad limit n s why tail line first.3 refl h in
               absurd cc);
         },
         refl,
-        reason-is limit front s line why r.leads h,
+        reason_is limit front s line why r.leads h,
       );
     }
 
@@ -165,31 +165,31 @@ gave_up fault = Err fault
 gave_up_same : (a b : Fault) → gave_up a ≡ gave_up b → a ≡ b
 gave_up_same a b h = cc
 
-pub judged-is_file : (limit : ℕ) (bytes : List ℕ) (f : Content) → judged limit bytes ≡ Ok f → IsFile limit bytes f
-judged-is_file limit bytes f h =
+pub judged_is_file : (limit : ℕ) (bytes : List ℕ) (f : Content) → judged limit bytes ≡ Ok f → IsFile limit bytes f
+judged_is_file limit bytes f h =
     elim (decided limit bytes) [
       | inl a ↦ subst (λ (g : Content). IsFile limit bytes g) (took_same a.file f (sym a.answer ∙ h)) a.are
       | inr b ↦ (let e : judged limit bytes ≡ Err b.fault = b.answer in absurd cc)
     ]
 
-pub judged-is_fault : (limit : ℕ) (bytes : List ℕ) (fault : Fault) → judged limit bytes ≡ Err fault → IsFault limit bytes fault
-judged-is_fault limit bytes fault h =
+pub judged_is_fault : (limit : ℕ) (bytes : List ℕ) (fault : Fault) → judged limit bytes ≡ Err fault → IsFault limit bytes fault
+judged_is_fault limit bytes fault h =
     elim (decided limit bytes) [
       | inl a ↦ (let e : judged limit bytes ≡ Ok a.file = a.answer in absurd cc)
       | inr b ↦ subst (λ (g : Fault). IsFault limit bytes g) (gave_up_same b.fault fault (sym b.answer ∙ h)) b.is
     ]
 
 -- what a function returned that gives what judging gives
-pub given-is_file : (limit : ℕ) (bytes : List ℕ) (r : Result File ReadRefused) → Gives content r (judged limit bytes) → IfOk r (λ f. IsFile limit bytes (content f))
-given-is_file limit bytes (Ok f) h = judged-is_file limit bytes (content f) h
-given-is_file limit bytes (Err e) h = tt
+pub given_is_file : (limit : ℕ) (bytes : List ℕ) (r : Result File ReadRefused) → Gives content r (judged limit bytes) → IfOk r (λ f. IsFile limit bytes (content f))
+given_is_file limit bytes (Ok f) h = judged_is_file limit bytes (content f) h
+given_is_file limit bytes (Err e) h = tt
 
 bad_same : (a b : Fault) → refusals.Bad a ≡ refusals.Bad b → a ≡ b
 bad_same a b h = cc
 
-failed-is_fault : (limit : ℕ) (bytes : List ℕ) (e : ReadRefused) (fault : Fault) → Fails e (judged limit bytes) → e ≡ refusals.Bad fault → IsFault limit bytes fault
-failed-is_fault limit bytes refusals.Memory fault h e = absurd cc
-failed-is_fault limit bytes (refusals.Bad f) fault h e = subst (λ (g : Fault). IsFault limit bytes g) (bad_same f fault e) (judged-is_fault limit bytes f h)
+failed_is_fault : (limit : ℕ) (bytes : List ℕ) (e : ReadRefused) (fault : Fault) → Fails e (judged limit bytes) → e ≡ refusals.Bad fault → IsFault limit bytes fault
+failed_is_fault limit bytes refusals.Memory fault h e = absurd cc
+failed_is_fault limit bytes (refusals.Bad f) fault h e = subst (λ (g : Fault). IsFault limit bytes g) (bad_same f fault e) (judged_is_fault limit bytes f h)
 
 abbrev refused : ReadRefused → Result File ReadRefused
 refused e = Err e
@@ -197,14 +197,14 @@ refused e = Err e
 refused_same : (d e : ReadRefused) → refused d ≡ refused e → d ≡ e
 refused_same d e h = cc
 
-pub given-is_fault : (limit : ℕ) (bytes : List ℕ) (r : Result File ReadRefused) (fault : Fault) → Gives content r (judged limit bytes) → r ≡ Err (refusals.Bad fault) → IsFault limit bytes fault
-given-is_fault limit bytes (Ok f) fault h e = absurd cc
-given-is_fault limit bytes (Err d) fault h e = failed-is_fault limit bytes d fault h (refused_same d (refusals.Bad fault) e)
+pub given_is_fault : (limit : ℕ) (bytes : List ℕ) (r : Result File ReadRefused) (fault : Fault) → Gives content r (judged limit bytes) → r ≡ Err (refusals.Bad fault) → IsFault limit bytes fault
+given_is_fault limit bytes (Ok f) fault h e = absurd cc
+given_is_fault limit bytes (Err d) fault h e = failed_is_fault limit bytes d fault h (refused_same d (refusals.Bad fault) e)
 
 -- ---- the laws
 
 pub one_file_of : (limit : ℕ) (bytes : List ℕ) (f g : Content) → IsFile limit bytes f → IsFile limit bytes g → f ≡ g
-one_file_of limit bytes f g p q = took_same f g (sym (judged-file limit 1 (lines_of bytes) f p) ∙ judged-file limit 1 (lines_of bytes) g q)
+one_file_of limit bytes f g p q = took_same f g (sym (judged_file limit 1 (lines_of bytes) f p) ∙ judged_file limit 1 (lines_of bytes) g q)
 
 first_of_file : (limit : ℕ) (bytes : List ℕ) (f : Content) → IsFile limit bytes f → AreFirstLines limit (lines_of bytes)
 first_of_file limit bytes f is = (bytes, f, is, [], sym (append-nil (lines_of bytes)))

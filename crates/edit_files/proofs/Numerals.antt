@@ -5,32 +5,32 @@ use Rattle.std.specs.Str.Parse.{starts_with_minus}
 use Rattle.edit_files.specs.Numbers.{after_minus}
 use Rattle.edit_files.specs.Judging.{far, digits, digits_from, signed, number}
 
-pub digits-is : (ds : List ℕ) → 0 < length ds → digits ds ≡ digits_from 0 ds
+pub digits_is : (ds : List ℕ) → 0 < length ds → digits ds ≡ digits_from 0 ds
 unfolding digits
-digits-is [] lt = absurd (omega arith)
-digits-is (c ∷ cs) lt = refl
+digits_is [] lt = absurd (omega arith)
+digits_is (c ∷ cs) lt = refl
 
-pub digits_from-nil : (n : ℕ) → digits_from n [] ≡ Some n
+pub digits_from_nil : (n : ℕ) → digits_from n [] ≡ Some n
 unfolding digits_from
-digits_from-nil n = refl
+digits_from_nil n = refl
 
-pub digits_from-digit : (n c : ℕ) (cs : List ℕ) → is_ascii_digit c ≡ true → digits_from n (c ∷ cs) ≡ digits_from (min (n * 10 + (c - 48)) far) cs
+pub digits_from_digit : (n c : ℕ) (cs : List ℕ) → is_ascii_digit c ≡ true → digits_from n (c ∷ cs) ≡ digits_from (min (n * 10 + (c - 48)) far) cs
 unfolding digits_from
-digits_from-digit n c cs h = rw h refl
+digits_from_digit n c cs h = rw h refl
 
-pub digits_from-other : (n c : ℕ) (cs : List ℕ) → is_ascii_digit c ≡ false → digits_from n (c ∷ cs) ≡ None
+pub digits_from_other : (n c : ℕ) (cs : List ℕ) → is_ascii_digit c ≡ false → digits_from n (c ∷ cs) ≡ None
 unfolding digits_from
-digits_from-other n c cs h = rw h refl
+digits_from_other n c cs h = rw h refl
 
-pub digits-nil : digits [] ≡ None
+pub digits_nil : digits [] ≡ None
 unfolding digits
-digits-nil = refl
+digits_nil = refl
 
 -- a number is read from its digits and its minus
-pub number-is : (bs : List ℕ) (n : ℕ) → digits (after_minus bs) ≡ Some n → number bs ≡ Some (cond (starts_with_minus bs && ltb 0 n) far n)
+pub number_is : (bs : List ℕ) (n : ℕ) → digits (after_minus bs) ≡ Some n → number bs ≡ Some (cond (starts_with_minus bs && ltb 0 n) far n)
 unfolding number
-number-is bs n h = ap (signed (starts_with_minus bs)) h
+number_is bs n h = ap (signed (starts_with_minus bs)) h
 
-pub number-none : (bs : List ℕ) → digits (after_minus bs) ≡ None → number bs ≡ None
+pub number_none : (bs : List ℕ) → digits (after_minus bs) ≡ None → number bs ≡ None
 unfolding number
-number-none bs h = ap (signed (starts_with_minus bs)) h
+number_none bs h = ap (signed (starts_with_minus bs)) h

@@ -7,13 +7,13 @@ use Rattle.std.specs.List.{onto_first}
 use Rattle.edit_files.specs.declared.fault.Why.TheVariants.{Field}
 use Rattle.edit_files.specs.Judging.{number, point, point_at, point_from, point_from_fields, fields_of, edit, edit_at}
 
-pub point-one : (line x : List ℕ) → fields_of line ≡ x ∷ [] → point line ≡ Err Field
+pub point_one : (line x : List ℕ) → fields_of line ≡ x ∷ [] → point line ≡ Err Field
 unfolding point
-point-one line x a = ap point_from_fields a
+point_one line x a = ap point_from_fields a
 
-pub point-two : (line x r y : List ℕ) → fields_of line ≡ x ∷ fields_of r → fields_of r ≡ y ∷ [] → point line ≡ Err Field
+pub point_two : (line x r y : List ℕ) → fields_of line ≡ x ∷ fields_of r → fields_of r ≡ y ∷ [] → point line ≡ Err Field
 unfolding point
-point-two line x r y a b = ap point_from_fields (a ∙ ap (λ (fs : List (List ℕ)). x ∷ fs) b)
+point_two line x r y a b = ap point_from_fields (a ∙ ap (λ (fs : List (List ℕ)). x ∷ fs) b)
 
 some_first : (t : Bool) (b : ℕ) (fs : List (List ℕ)) → (g : List ℕ) × (gs : List (List ℕ)) × (cond t ([] ∷ fs) (onto_first b fs) ≡ g ∷ gs)
 some_first true b fs = ([], fs, refl)
@@ -28,15 +28,15 @@ some_field (b ∷ bs) = some_first (eqb b 32) b (fields_of bs)
 joined : (line x r y q z : List ℕ) (fs : List (List ℕ)) → fields_of line ≡ x ∷ fields_of r → fields_of r ≡ y ∷ fields_of q → fields_of q ≡ z ∷ fs → fields_of line ≡ x ∷ y ∷ z ∷ fs
 joined line x r y q z fs a b c = cc
 
-pub point-four : (line x r y q z s : List ℕ) → fields_of line ≡ x ∷ fields_of r → fields_of r ≡ y ∷ fields_of q → fields_of q ≡ z ∷ fields_of s → point line ≡ Err Field
+pub point_four : (line x r y q z s : List ℕ) → fields_of line ≡ x ∷ fields_of r → fields_of r ≡ y ∷ fields_of q → fields_of q ≡ z ∷ fields_of s → point line ≡ Err Field
 unfolding point
-point-four line x r y q z s a b c =
+point_four line x r y q z s a b c =
     let more = some_field s in
     ap point_from_fields (joined line x r y q z (fields_of s) a b c ∙ ap (λ (fs : List (List ℕ)). x ∷ y ∷ z ∷ fs) more.2)
 
-pub point-is : (line x r y q z : List ℕ) → fields_of line ≡ x ∷ fields_of r → fields_of r ≡ y ∷ fields_of q → fields_of q ≡ z ∷ [] → point line ≡ point_from (number x) (number y) (number z)
+pub point_is : (line x r y q z : List ℕ) → fields_of line ≡ x ∷ fields_of r → fields_of r ≡ y ∷ fields_of q → fields_of q ≡ z ∷ [] → point line ≡ point_from (number x) (number y) (number z)
 unfolding point
-point-is line x r y q z a b c = ap point_from_fields (joined line x r y q z [] a b c)
+point_is line x r y q z a b c = ap point_from_fields (joined line x r y q z [] a b c)
 
 -- what follows the third field, as it was found
 pub third_more : (o : Option (Bor (List ℕ))) (q z : List ℕ) → MatchOption o (fields_of q ≡ z ∷ []) (λ s. fields_of q ≡ z ∷ fields_of s.now) → is_some o ≡ true → (s : List ℕ) × (fields_of q ≡ z ∷ fields_of s)
@@ -48,40 +48,40 @@ third_last None q z h t = h
 third_last (Some s) q z h t = absurd cc
 
 -- an edit line, by its first two bytes
-pub edit-is : (line : List ℕ) → 2 ≤ length line → get_or line 1 0 ≡ 32 → edit line ≡ edit_at (get_or line 0 0) (drop 2 line)
+pub edit_is : (line : List ℕ) → 2 ≤ length line → get_or line 1 0 ≡ 32 → edit line ≡ edit_at (get_or line 0 0) (drop 2 line)
 unfolding edit
-edit-is [] len space = absurd (omega arith)
-edit-is (s ∷ []) len space = absurd (omega arith)
-edit-is (s ∷ b ∷ rest) len space = let e : eqb b 32 ≡ true = eq-eqb b 32 space in rw e refl
+edit_is [] len space = absurd (omega arith)
+edit_is (s ∷ []) len space = absurd (omega arith)
+edit_is (s ∷ b ∷ rest) len space = let e : eqb b 32 ≡ true = eq-eqb b 32 space in rw e refl
 
-pub edit-short : (line : List ℕ) → suc (length line) ≤ 2 → edit line ≡ Err Field
+pub edit_short : (line : List ℕ) → suc (length line) ≤ 2 → edit line ≡ Err Field
 unfolding edit
-edit-short [] len = refl
-edit-short (s ∷ []) len = refl
-edit-short (s ∷ b ∷ rest) len = absurd (omega arith)
+edit_short [] len = refl
+edit_short (s ∷ []) len = refl
+edit_short (s ∷ b ∷ rest) len = absurd (omega arith)
 
-pub edit-other : (line : List ℕ) → 2 ≤ length line → get_or line 1 0 ≢ 32 → edit line ≡ Err Field
+pub edit_other : (line : List ℕ) → 2 ≤ length line → get_or line 1 0 ≢ 32 → edit line ≡ Err Field
 unfolding edit
-edit-other [] len space = absurd (omega arith)
-edit-other (s ∷ []) len space = absurd (omega arith)
-edit-other (s ∷ b ∷ rest) len space = let e : eqb b 32 ≡ false = ne_eqb b 32 space in rw e refl
+edit_other [] len space = absurd (omega arith)
+edit_other (s ∷ []) len space = absurd (omega arith)
+edit_other (s ∷ b ∷ rest) len space = let e : eqb b 32 ≡ false = ne_eqb b 32 space in rw e refl
 
-pub coordinate-below : (p : ℕ) → (x_of p < 16384) × (y_of p < 16384) × (z_of p < 16384)
+pub coordinate_below : (p : ℕ) → (x_of p < 16384) × (y_of p < 16384) × (z_of p < 16384)
 unfolding x_of y_of z_of
-coordinate-below p = (omega arith, omega arith, omega arith)
+coordinate_below p = (omega arith, omega arith, omega arith)
 
-pub packed-is : (p : ℕ) → IsKey p → x_of p * 268435456 + y_of p * 16384 + z_of p ≡ p
+pub packed_is : (p : ℕ) → IsKey p → x_of p * 268435456 + y_of p * 16384 + z_of p ≡ p
 unfolding x_of y_of z_of
-packed-is p key = omega arith
+packed_is p key = omega arith
 
 -- the point of its own coordinates
-pub point_at-own : (p : ℕ) → IsKey p → point_at (x_of p) (y_of p) (z_of p) ≡ Ok p
-point_at-own p key =
-    let below = coordinate-below p in
+pub point_at_own : (p : ℕ) → IsKey p → point_at (x_of p) (y_of p) (z_of p) ≡ Ok p
+point_at_own p key =
+    let below = coordinate_below p in
     let a : ltb (x_of p) 16384 ≡ true = lt-ltb _ _ below.0 in
     let b : ltb (y_of p) 16384 ≡ true = lt-ltb _ _ below.1 in
     let d : ltb (z_of p) 16384 ≡ true = lt-ltb _ _ below.2 in
-    rw (a, b, d) (ap (λ (k : ℕ). Ok k) (packed-is p key))
+    rw (a, b, d) (ap (λ (k : ℕ). Ok k) (packed_is p key))
 
-pub point_at-is : (p x y z : ℕ) → x_of p ≡ x → y_of p ≡ y → z_of p ≡ z → IsKey p → point_at x y z ≡ Ok p
-point_at-is p x y z a b d key = rw (← a, ← b, ← d) (point_at-own p key)
+pub point_at_is : (p x y z : ℕ) → x_of p ≡ x → y_of p ≡ y → z_of p ≡ z → IsKey p → point_at x y z ≡ Ok p
+point_at_is p x y z a b d key = rw (← a, ← b, ← d) (point_at_own p key)

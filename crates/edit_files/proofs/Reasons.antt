@@ -19,9 +19,9 @@ use Rattle.edit_files.specs.Forms.{HasPointForm, HasEditForm, IsPointLine, IsEdi
 use Rattle.edit_files.specs.Grammar.{radius_limit}
 use Rattle.edit_files.specs.Faults.{has, is_word, lines_after, is_full, IsForWords, HasForm, IsReason}
 use Rattle.edit_files.specs.Judging.{State, step, step_at, with_point, with_edit, with_radius, point, edit, radius}
-use Rattle.edit_files.proofs.Decided.{points_decided}
+use Rattle.edit_files.proofs.Decided.{err_same, points_decided}
 use Rattle.edit_files.proofs.DecidedEdits.{edits_decided, radii_decided}
-use Rattle.edit_files.proofs.Words.{HaveNoWord, said-no_word, has-none, count-all, lines_after-at, point-no_word, edit-no_word, radius-no_word}
+use Rattle.edit_files.proofs.Words.{HaveNoWord, said_no_word, has_none, count_all, lines_after_at, point_no_word, edit_no_word, radius_no_word}
 use Rattle.edit_files.proofs.Completes.{at}
 use Rattle.edit_files.proofs.Fronts.{Leads}
 
@@ -40,20 +40,14 @@ not_for_words limit front line full Form l w h =
       | inr k ↦ elim k [ inl e ↦ both_ways _ l.unended e | inr e ↦ both_ways _ w e ]
     ]
 
-abbrev failed : Why → Result State Why
-failed why = Err why
-
-failed_same : (v w : Why) → failed v ≡ failed w → v ≡ w
-failed_same v w h = cc
-
-reason-by : (limit : ℕ) (front : List (List ℕ)) (line : List ℕ) (full word : Bool) (Form : Type 0) (w : Result State Why) (why : Why)
+reason_by : (limit : ℕ) (front : List (List ℕ)) (line : List ℕ) (full word : Bool) (Form : Type 0) (w : Result State Why) (why : Why)
     → InList limit front line full Form → (w ≡ Err Field → Form → ⊥) → (w ≡ Err Range → Form) → ((v : Why) → w ≡ Err v → (v ≡ Field) ⊎ (v ≡ Range))
     → is_word line ≡ word → cond word (Err Section) (cond full (Err TooMany) w) ≡ Err why → IsReason limit front line why
-reason-by limit front line full true Form w why l field range only word h =
-    subst (λ (v : Why). IsReason limit front line v) (failed_same Section why h) (inr (inr word))
-reason-by limit front line true false Form w why l field range only word h =
-    subst (λ (v : Why). IsReason limit front line v) (failed_same TooMany why h) (not_for_words limit front line true Form l word, l.full_is)
-reason-by limit front line false false Form w why l field range only word h =
+reason_by limit front line full true Form w why l field range only word h =
+    subst (λ (v : Why). IsReason limit front line v) (err_same Section why h) (inr (inr word))
+reason_by limit front line true false Form w why l field range only word h =
+    subst (λ (v : Why). IsReason limit front line v) (err_same TooMany why h) (not_for_words limit front line true Form l word, l.full_is)
+reason_by limit front line false false Form w why l field range only word h =
     let here = not_for_words limit front line false Form l word in
     let room : not (is_full limit front) ≡ true = rw l.full_is refl in
     elim (only why h) [
@@ -69,31 +63,31 @@ refused false x r why h = h
 abbrev bad_point : Why → Result ℕ Why
 bad_point why = Err why
 
-point-err : (t : Content) (r : Result ℕ Why) (why : Why) → with_point t r ≡ Err why → r ≡ Err why
-point-err t (Ok p) why h = absurd cc
-point-err t (Err v) why h = ap bad_point (failed_same v why h)
+point_err : (t : Content) (r : Result ℕ Why) (why : Why) → with_point t r ≡ Err why → r ≡ Err why
+point_err t (Ok p) why h = absurd cc
+point_err t (Err v) why h = ap bad_point (err_same v why h)
 
-edit-err : (t : Content) (r : Result Edit Why) (why : Why) → with_edit t r ≡ Err why → r ≡ Err why
-edit-err t (Ok e) why h = absurd cc
-edit-err t (Err v) why h = ap (λ (w : Why). Err w) (failed_same v why h)
+edit_err : (t : Content) (r : Result Edit Why) (why : Why) → with_edit t r ≡ Err why → r ≡ Err why
+edit_err t (Ok e) why h = absurd cc
+edit_err t (Err v) why h = ap (λ (w : Why). Err w) (err_same v why h)
 
-radius-err : (t : Content) (r : Result ℕ Why) (why : Why) → with_radius t r ≡ Err why → r ≡ Err why
-radius-err t (Ok q) why h = absurd cc
-radius-err t (Err v) why h = ap bad_point (failed_same v why h)
+radius_err : (t : Content) (r : Result ℕ Why) (why : Why) → with_radius t r ≡ Err why → r ≡ Err why
+radius_err t (Ok q) why h = absurd cc
+radius_err t (Err v) why h = ap bad_point (err_same v why h)
 
 -- ---- where the reader is in a list
 
 abbrev lead : List (List ℕ) → List (List ℕ)
 lead pls = codes "mesh3 1" ∷ codes "points" ∷ pls
 
-has-lead : (word : List ℕ) → bytes_eq (codes "mesh3 1") word ≡ false → bytes_eq (codes "points") word ≡ false → (pls : List (List ℕ)) → has word pls ≡ false → has word (lead pls) ≡ false
-has-lead word a b pls h = or_from _ _ a (or_from _ _ b h)
+has_lead : (word : List ℕ) → bytes_eq (codes "mesh3 1") word ≡ false → bytes_eq (codes "points") word ≡ false → (pls : List (List ℕ)) → has word pls ≡ false → has word (lead pls) ≡ false
+has_lead word a b pls h = or_from _ _ a (or_from _ _ b h)
 
-has-both : (word : List ℕ) (a b : List (List ℕ)) → has word a ≡ false → has word b ≡ false → has word (a ++ b) ≡ false
-has-both word a b p q = list_any-append (λ line. bytes_eq line word) a b ∙ or_from _ _ p q
+has_both : (word : List ℕ) (a b : List (List ℕ)) → has word a ≡ false → has word b ≡ false → has word (a ++ b) ≡ false
+has_both word a b p q = list_any-append (λ line. bytes_eq line word) a b ∙ or_from _ _ p q
 
-has-second : (word : List ℕ) (a b : List (List ℕ)) → has word b ≡ true → has word (a ++ b) ≡ true
-has-second word a b q = list_any-append (λ line. bytes_eq line word) a b ∙ or_right _ _ q
+has_second : (word : List ℕ) (a b : List (List ℕ)) → has word b ≡ true → has word (a ++ b) ≡ true
+has_second word a b q = list_any-append (λ line. bytes_eq line word) a b ∙ or_right _ _ q
 
 abbrev counted : List (List ℕ) → ℕ
 counted lines = count_by (λ line. not (is_word line)) lines
@@ -101,36 +95,36 @@ counted lines = count_by (λ line. not (is_word line)) lines
 abbrev counts : List ℕ → ℕ
 counts line = cond (not (is_word line)) 1 0
 
-count-points : (pls : List (List ℕ)) → HaveNoWord pls → counted (codes "points" ∷ pls) ≡ length pls
-count-points pls z = sum_by-cons counts (codes "points") pls ∙ omega (arith, count-all pls z)
+count_points : (pls : List (List ℕ)) → HaveNoWord pls → counted (codes "points" ∷ pls) ≡ length pls
+count_points pls z = sum_by-cons counts (codes "points") pls ∙ omega (arith, count_all pls z)
 
-count-edits : (els : List (List ℕ)) → HaveNoWord els → counted (codes "edits" ∷ els) ≡ length els
-count-edits els z = sum_by-cons counts (codes "edits") els ∙ omega (arith, count-all els z)
+count_edits : (els : List (List ℕ)) → HaveNoWord els → counted (codes "edits" ∷ els) ≡ length els
+count_edits els z = sum_by-cons counts (codes "edits") els ∙ omega (arith, count_all els z)
 
-count-both : (pls els : List (List ℕ)) → HaveNoWord pls → HaveNoWord els → counted ((codes "points" ∷ pls) ++ (codes "edits" ∷ els)) ≡ length pls + length els
-count-both pls els p q = sum_by-append counts (codes "points" ∷ pls) (codes "edits" ∷ els) ∙ omega (arith, count-points pls p, count-edits els q)
+count_both : (pls els : List (List ℕ)) → HaveNoWord pls → HaveNoWord els → counted ((codes "points" ∷ pls) ++ (codes "edits" ∷ els)) ≡ length pls + length els
+count_both pls els p q = sum_by-append counts (codes "points" ∷ pls) (codes "edits" ∷ els) ∙ omega (arith, count_points pls p, count_edits els q)
 
 -- which form a line is to have
-form-points : (front : List (List ℕ)) (line : List ℕ) → has (codes "radii") front ≡ false → has (codes "edits") front ≡ false → (HasForm front line → HasPointForm line) × (HasPointForm line → HasForm front line)
-form-points front line r e = (λ h. rw (r, e) at h, λ f. rw (r, e) f)
+form_points : (front : List (List ℕ)) (line : List ℕ) → has (codes "radii") front ≡ false → has (codes "edits") front ≡ false → (HasForm front line → HasPointForm line) × (HasPointForm line → HasForm front line)
+form_points front line r e = (λ h. rw (r, e) at h, λ f. rw (r, e) f)
 
-form-edits : (front : List (List ℕ)) (line : List ℕ) → has (codes "radii") front ≡ false → has (codes "edits") front ≡ true → (HasForm front line → HasEditForm line) × (HasEditForm line → HasForm front line)
-form-edits front line r e = (λ h. rw (r, e) at h, λ f. rw (r, e) f)
+form_edits : (front : List (List ℕ)) (line : List ℕ) → has (codes "radii") front ≡ false → has (codes "edits") front ≡ true → (HasForm front line → HasEditForm line) × (HasEditForm line → HasForm front line)
+form_edits front line r e = (λ h. rw (r, e) at h, λ f. rw (r, e) f)
 
-form-radii : (front : List (List ℕ)) (line : List ℕ) → has (codes "radii") front ≡ true → (HasForm front line → IsNumber line) × (IsNumber line → HasForm front line)
-form-radii front line r = (λ h. rw r at h, λ f. rw r f)
+form_radii : (front : List (List ℕ)) (line : List ℕ) → has (codes "radii") front ≡ true → (HasForm front line → IsNumber line) × (IsNumber line → HasForm front line)
+form_radii front line r = (λ h. rw r at h, λ f. rw r f)
 
 in_points : (limit : ℕ) (front : List (List ℕ)) (t : Content) (line : List ℕ) → Leads limit front places.Points t → InList limit front line (leb limit (length t.points + length t.edits)) (HasPointForm line)
 in_points limit front t line k =
-    let z : HaveNoWord k.points = said-no_word IsPointLine point-no_word k.points t.points k.point_lines in
-    let radii : has (codes "radii") front ≡ false = ap (has (codes "radii")) k.order ∙ has-lead (codes "radii") refl refl k.points (has-none (codes "radii") (λ l n. n.radii) k.points z) in
-    let edits : has (codes "edits") front ≡ false = ap (has (codes "edits")) k.order ∙ has-lead (codes "edits") refl refl k.points (has-none (codes "edits") (λ l n. n.edits) k.points z) in
-    let ends : has (codes "end") front ≡ false = ap (has (codes "end")) k.order ∙ has-lead (codes "end") refl refl k.points (has-none (codes "end") (λ l n. n.end) k.points z) in
+    let z : HaveNoWord k.points = said_no_word IsPointLine point_no_word k.points t.points k.point_lines in
+    let radii : has (codes "radii") front ≡ false = ap (has (codes "radii")) k.order ∙ has_lead (codes "radii") refl refl k.points (has_none (codes "radii") (λ l n. n.radii) k.points z) in
+    let edits : has (codes "edits") front ≡ false = ap (has (codes "edits")) k.order ∙ has_lead (codes "edits") refl refl k.points (has_none (codes "edits") (λ l n. n.edits) k.points z) in
+    let ends : has (codes "end") front ≡ false = ap (has (codes "end")) k.order ∙ has_lead (codes "end") refl refl k.points (has_none (codes "end") (λ l n. n.end) k.points z) in
     let none : length k.edits ≡ 0 = ap length k.unmet.0 in
     let count : counted (drop 1 front) ≡ length t.points + length t.edits =
-    ap (λ (ls : List (List ℕ)). counted (drop 1 ls)) k.order ∙ count-points k.points z
+    ap (λ (ls : List (List ℕ)). counted (drop 1 ls)) k.order ∙ count_points k.points z
     ∙ omega (arith, length_zip IsPointLine k.points t.points k.point_lines, length_zip IsEditLine k.edits t.edits k.edit_lines) in
-    let form = form-points front line radii edits in
+    let form = form_points front line radii edits in
     record {
       long = omega (arith, ap length k.order);
       unended = ends;
@@ -141,18 +135,18 @@ in_points limit front t line k =
 
 in_edits : (limit : ℕ) (front : List (List ℕ)) (t : Content) (line : List ℕ) → Leads limit front places.Edits t → InList limit front line (leb limit (length t.points + length t.edits)) (HasEditForm line)
 in_edits limit front t line k =
-    let z : HaveNoWord k.points = said-no_word IsPointLine point-no_word k.points t.points k.point_lines in
-    let y : HaveNoWord k.edits = said-no_word IsEditLine edit-no_word k.edits t.edits k.edit_lines in
+    let z : HaveNoWord k.points = said_no_word IsPointLine point_no_word k.points t.points k.point_lines in
+    let y : HaveNoWord k.edits = said_no_word IsEditLine edit_no_word k.edits t.edits k.edit_lines in
     let tail : List (List ℕ) = codes "edits" ∷ k.edits in
     let radii : has (codes "radii") front ≡ false = ap (has (codes "radii")) k.order
-    ∙ has-both (codes "radii") (lead k.points) tail (has-lead (codes "radii") refl refl k.points (has-none (codes "radii") (λ l n. n.radii) k.points z)) (has-none (codes "radii") (λ l n. n.radii) k.edits y) in
-    let edits : has (codes "edits") front ≡ true = ap (has (codes "edits")) k.order ∙ has-second (codes "edits") (lead k.points) tail refl in
+    ∙ has_both (codes "radii") (lead k.points) tail (has_lead (codes "radii") refl refl k.points (has_none (codes "radii") (λ l n. n.radii) k.points z)) (has_none (codes "radii") (λ l n. n.radii) k.edits y) in
+    let edits : has (codes "edits") front ≡ true = ap (has (codes "edits")) k.order ∙ has_second (codes "edits") (lead k.points) tail refl in
     let ends : has (codes "end") front ≡ false = ap (has (codes "end")) k.order
-    ∙ has-both (codes "end") (lead k.points) tail (has-lead (codes "end") refl refl k.points (has-none (codes "end") (λ l n. n.end) k.points z)) (has-none (codes "end") (λ l n. n.end) k.edits y) in
+    ∙ has_both (codes "end") (lead k.points) tail (has_lead (codes "end") refl refl k.points (has_none (codes "end") (λ l n. n.end) k.points z)) (has_none (codes "end") (λ l n. n.end) k.edits y) in
     let count : counted (drop 1 front) ≡ length t.points + length t.edits =
-    ap (λ (ls : List (List ℕ)). counted (drop 1 ls)) k.order ∙ count-both k.points k.edits z y
+    ap (λ (ls : List (List ℕ)). counted (drop 1 ls)) k.order ∙ count_both k.points k.edits z y
     ∙ omega (arith, length_zip IsPointLine k.points t.points k.point_lines, length_zip IsEditLine k.edits t.edits k.edit_lines) in
-    let form = form-edits front line radii edits in
+    let form = form_edits front line radii edits in
     record {
       long = omega (arith, ap length k.order, length-append (lead k.points) tail);
       unended = ends;
@@ -163,22 +157,22 @@ in_edits limit front t line k =
 
 in_radii : (limit : ℕ) (front : List (List ℕ)) (t : Content) (line : List ℕ) → Leads limit front places.Radii t → InList limit front line (leb radius_limit (length t.radii)) (IsNumber line)
 in_radii limit front t line k =
-    let z : HaveNoWord k.points = said-no_word IsPointLine point-no_word k.points t.points k.point_lines in
-    let y : HaveNoWord k.edits = said-no_word IsEditLine edit-no_word k.edits t.edits k.edit_lines in
-    let x : HaveNoWord k.radii = said-no_word IsRadiusLine radius-no_word k.radii t.radii k.radius_lines in
+    let z : HaveNoWord k.points = said_no_word IsPointLine point_no_word k.points t.points k.point_lines in
+    let y : HaveNoWord k.edits = said_no_word IsEditLine edit_no_word k.edits t.edits k.edit_lines in
+    let x : HaveNoWord k.radii = said_no_word IsRadiusLine radius_no_word k.radii t.radii k.radius_lines in
     let tail : List (List ℕ) = codes "edits" ∷ k.edits in
     let before : List (List ℕ) = lead k.points ++ tail in
     let clear : has (codes "radii") before ≡ false =
-    has-both (codes "radii") (lead k.points) tail (has-lead (codes "radii") refl refl k.points (has-none (codes "radii") (λ l n. n.radii) k.points z)) (has-none (codes "radii") (λ l n. n.radii) k.edits y) in
+    has_both (codes "radii") (lead k.points) tail (has_lead (codes "radii") refl refl k.points (has_none (codes "radii") (λ l n. n.radii) k.points z)) (has_none (codes "radii") (λ l n. n.radii) k.edits y) in
     let unended : has (codes "end") before ≡ false =
-    has-both (codes "end") (lead k.points) tail (has-lead (codes "end") refl refl k.points (has-none (codes "end") (λ l n. n.end) k.points z)) (has-none (codes "end") (λ l n. n.end) k.edits y) in
-    let radii : has (codes "radii") front ≡ true = ap (has (codes "radii")) k.order ∙ has-second (codes "radii") before (codes "radii" ∷ k.radii) refl in
+    has_both (codes "end") (lead k.points) tail (has_lead (codes "end") refl refl k.points (has_none (codes "end") (λ l n. n.end) k.points z)) (has_none (codes "end") (λ l n. n.end) k.edits y) in
+    let radii : has (codes "radii") front ≡ true = ap (has (codes "radii")) k.order ∙ has_second (codes "radii") before (codes "radii" ∷ k.radii) refl in
     let ends : has (codes "end") front ≡ false = ap (has (codes "end")) k.order
-    ∙ has-both (codes "end") before (codes "radii" ∷ k.radii) unended (has-none (codes "end") (λ l n. n.end) k.radii x) in
+    ∙ has_both (codes "end") before (codes "radii" ∷ k.radii) unended (has_none (codes "end") (λ l n. n.end) k.radii x) in
     let after : length (lines_after (codes "radii") front) ≡ length t.radii =
-    ap (λ (ls : List (List ℕ)). length (lines_after (codes "radii") ls)) k.order ∙ ap length (lines_after-at (codes "radii") before k.radii refl clear)
+    ap (λ (ls : List (List ℕ)). length (lines_after (codes "radii") ls)) k.order ∙ ap length (lines_after_at (codes "radii") before k.radii refl clear)
     ∙ length_zip IsRadiusLine k.radii t.radii k.radius_lines in
-    let form = form-radii front line radii in
+    let form = form_radii front line radii in
     record {
       long = omega (arith, ap length k.order, length-append before (codes "radii" ∷ k.radii), length-append (lead k.points) tail);
       unended = ends;
@@ -188,32 +182,32 @@ in_radii limit front t line k =
     }
 
 -- a word that was to come
-word-err : (b : Bool) (x : State) (why : Why) → cond b (Ok x) (Err Section) ≡ Err why → Section ≡ why
-word-err true x why h = absurd cc
-word-err false x why h = failed_same Section why h
+word_err : (b : Bool) (x : State) (why : Why) → cond b (Ok x) (Err Section) ≡ Err why → Section ≡ why
+word_err true x why h = absurd cc
+word_err false x why h = err_same Section why h
 
-reason-at : (limit : ℕ) (front : List (List ℕ)) (place : Place) (t : Content) (line : List ℕ) (why : Why) → Leads limit front place t → step_at limit place t line ≡ Err why → IsReason limit front line why
-reason-at limit front places.Title t line why k h =
-    subst (λ (v : Why). IsReason limit front line v) (word-err (bytes_eq line (codes "mesh3 1")) (at places.Heading t) why h) (inl (omega (arith, ap length k.order)))
-reason-at limit front places.Heading t line why k h =
-    subst (λ (v : Why). IsReason limit front line v) (word-err (bytes_eq line (codes "points")) (at places.Points t) why h) (inl (omega (arith, ap length k.order)))
-reason-at limit front places.Points t line why k h =
-    reason-by limit front line (leb limit (length t.points + length t.edits)) (is_word line) (HasPointForm line) (with_point t (point line)) why (in_points limit front t line k)
-    (λ e. points_decided.field line (point-err t (point line) Field e)) (λ e. points_decided.range line (point-err t (point line) Range e)) (λ v e. points_decided.only line v (point-err t (point line) v e))
+reason_at : (limit : ℕ) (front : List (List ℕ)) (place : Place) (t : Content) (line : List ℕ) (why : Why) → Leads limit front place t → step_at limit place t line ≡ Err why → IsReason limit front line why
+reason_at limit front places.Title t line why k h =
+    subst (λ (v : Why). IsReason limit front line v) (word_err (bytes_eq line (codes "mesh3 1")) (at places.Heading t) why h) (inl (omega (arith, ap length k.order)))
+reason_at limit front places.Heading t line why k h =
+    subst (λ (v : Why). IsReason limit front line v) (word_err (bytes_eq line (codes "points")) (at places.Points t) why h) (inl (omega (arith, ap length k.order)))
+reason_at limit front places.Points t line why k h =
+    reason_by limit front line (leb limit (length t.points + length t.edits)) (is_word line) (HasPointForm line) (with_point t (point line)) why (in_points limit front t line k)
+    (λ e. points_decided.field line (point_err t (point line) Field e)) (λ e. points_decided.range line (point_err t (point line) Range e)) (λ v e. points_decided.only line v (point_err t (point line) v e))
     refl (refused (bytes_eq line (codes "edits")) (at places.Edits t) _ why h)
-reason-at limit front places.Edits t line why k h =
-    reason-by limit front line (leb limit (length t.points + length t.edits)) (is_word line) (HasEditForm line) (with_edit t (edit line)) why (in_edits limit front t line k)
-    (λ e. edits_decided.field line (edit-err t (edit line) Field e)) (λ e. edits_decided.range line (edit-err t (edit line) Range e)) (λ v e. edits_decided.only line v (edit-err t (edit line) v e))
+reason_at limit front places.Edits t line why k h =
+    reason_by limit front line (leb limit (length t.points + length t.edits)) (is_word line) (HasEditForm line) (with_edit t (edit line)) why (in_edits limit front t line k)
+    (λ e. edits_decided.field line (edit_err t (edit line) Field e)) (λ e. edits_decided.range line (edit_err t (edit line) Range e)) (λ v e. edits_decided.only line v (edit_err t (edit line) v e))
     refl (refused (bytes_eq line (codes "radii")) (at places.Radii t) _ why h)
-reason-at limit front places.Radii t line why k h =
-    reason-by limit front line (leb radius_limit (length t.radii)) (is_word line) (IsNumber line) (with_radius t (radius line)) why (in_radii limit front t line k)
-    (λ e. radii_decided.field line (radius-err t (radius line) Field e)) (λ e. radii_decided.range line (radius-err t (radius line) Range e)) (λ v e. radii_decided.only line v (radius-err t (radius line) v e))
+reason_at limit front places.Radii t line why k h =
+    reason_by limit front line (leb radius_limit (length t.radii)) (is_word line) (IsNumber line) (with_radius t (radius line)) why (in_radii limit front t line k)
+    (λ e. radii_decided.field line (radius_err t (radius line) Field e)) (λ e. radii_decided.range line (radius_err t (radius line) Range e)) (λ v e. radii_decided.only line v (radius_err t (radius line) v e))
     refl (refused (bytes_eq line (codes "end")) (at places.End t) _ why h)
-reason-at limit front places.End t line why k h =
-    let ends : has (codes "end") front ≡ true = ap (has (codes "end")) k.order ∙ has-second (codes "end") (lead k.points ++ codes "edits" ∷ k.edits ++ codes "radii" ∷ k.radii) (codes "end" ∷ []) refl in
-    subst (λ (v : Why). IsReason limit front line v) (failed_same Section why h) (inr (inl ends))
+reason_at limit front places.End t line why k h =
+    let ends : has (codes "end") front ≡ true = ap (has (codes "end")) k.order ∙ has_second (codes "end") (lead k.points ++ codes "edits" ∷ k.edits ++ codes "radii" ∷ k.radii) (codes "end" ∷ []) refl in
+    subst (λ (v : Why). IsReason limit front line v) (err_same Section why h) (inr (inl ends))
 
 -- a line that is not taken is bad, for this reason
-pub reason-is : (limit : ℕ) (front : List (List ℕ)) (s : State) (line : List ℕ) (why : Why) → Leads limit front s.place s.taken → step limit s line ≡ Err why → IsReason limit front line why
+pub reason_is : (limit : ℕ) (front : List (List ℕ)) (s : State) (line : List ℕ) (why : Why) → Leads limit front s.place s.taken → step limit s line ≡ Err why → IsReason limit front line why
 unfolding step
-reason-is limit front s line why k h = reason-at limit front s.place s.taken line why k h
+reason_is limit front s line why k h = reason_at limit front s.place s.taken line why k h

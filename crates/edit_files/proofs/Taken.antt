@@ -41,26 +41,26 @@ pub record Listed (line : List ℕ) (full : Bool) (w : Result State Why) (s : St
   pub room : full ≡ false
   pub taken : w ≡ Ok s
 
-listed-ok : (word : Bool) (line : List ℕ) (full : Bool) (w : Result State Why) (s : State) → is_word line ≡ word → cond word (Err Section) (cond full (Err TooMany) w) ≡ Ok s → Listed line full w s
-listed-ok true line full w s e h = absurd cc
-listed-ok false line true w s e h = absurd cc
-listed-ok false line false w s e h = record { word = e; room = refl; taken = h }
+listed_ok : (word : Bool) (line : List ℕ) (full : Bool) (w : Result State Why) (s : State) → is_word line ≡ word → cond word (Err Section) (cond full (Err TooMany) w) ≡ Ok s → Listed line full w s
+listed_ok true line full w s e h = absurd cc
+listed_ok false line true w s e h = absurd cc
+listed_ok false line false w s e h = record { word = e; room = refl; taken = h }
 
-list-ok : (b : Bool) (x : State) (line : List ℕ) (full : Bool) (w : Result State Why) (s : State) → cond b (Ok x) (listed line full w) ≡ Ok s → ((b ≡ true) × (x ≡ s)) ⊎ Listed line full w s
-list-ok true x line full w s h = inl (refl, state_same x s h)
-list-ok false x line full w s h = inr (listed-ok (is_word line) line full w s refl h)
+list_ok : (b : Bool) (x : State) (line : List ℕ) (full : Bool) (w : Result State Why) (s : State) → cond b (Ok x) (listed line full w) ≡ Ok s → ((b ≡ true) × (x ≡ s)) ⊎ Listed line full w s
+list_ok true x line full w s h = inl (refl, state_same x s h)
+list_ok false x line full w s h = inr (listed_ok (is_word line) line full w s refl h)
 
-point-ok : (t : Content) (r : Result ℕ Why) (s : State) → with_point t r ≡ Ok s → (p : ℕ) × (r ≡ Ok p) × (at places.Points (more_points t (p ∷ [])) ≡ s)
-point-ok t (Ok p) s h = (p, refl, state_same _ s h)
-point-ok t (Err why) s h = absurd cc
+point_ok : (t : Content) (r : Result ℕ Why) (s : State) → with_point t r ≡ Ok s → (p : ℕ) × (r ≡ Ok p) × (at places.Points (more_points t (p ∷ [])) ≡ s)
+point_ok t (Ok p) s h = (p, refl, state_same _ s h)
+point_ok t (Err why) s h = absurd cc
 
-edit-ok : (t : Content) (r : Result Edit Why) (s : State) → with_edit t r ≡ Ok s → (e : Edit) × (r ≡ Ok e) × (at places.Edits (more_edits t (e ∷ [])) ≡ s)
-edit-ok t (Ok e) s h = (e, refl, state_same _ s h)
-edit-ok t (Err why) s h = absurd cc
+edit_ok : (t : Content) (r : Result Edit Why) (s : State) → with_edit t r ≡ Ok s → (e : Edit) × (r ≡ Ok e) × (at places.Edits (more_edits t (e ∷ [])) ≡ s)
+edit_ok t (Ok e) s h = (e, refl, state_same _ s h)
+edit_ok t (Err why) s h = absurd cc
 
-radius-ok : (t : Content) (r : Result ℕ Why) (s : State) → with_radius t r ≡ Ok s → (q : ℕ) × (r ≡ Ok q) × (at places.Radii (more_radii t (q ∷ [])) ≡ s)
-radius-ok t (Ok q) s h = (q, refl, state_same _ s h)
-radius-ok t (Err why) s h = absurd cc
+radius_ok : (t : Content) (r : Result ℕ Why) (s : State) → with_radius t r ≡ Ok s → (q : ℕ) × (r ≡ Ok q) × (at places.Radii (more_radii t (q ∷ [])) ≡ s)
+radius_ok t (Ok q) s h = (q, refl, state_same _ s h)
+radius_ok t (Err why) s h = absurd cc
 
 abbrev LeadsTo : ℕ → List (List ℕ) → State → Type 0
 LeadsTo limit front s = Leads limit front s.place s.taken
@@ -140,8 +140,8 @@ to_end limit front t line k e = record {
   radius_count = k.radius_count;
 }
 
-more-point : (limit : ℕ) (front : List (List ℕ)) (t : Content) (line : List ℕ) (p : ℕ) → Leads limit front places.Points t → IsPointLine line p → length t.points + length t.edits < limit → Leads limit (front ++ line ∷ []) places.Points (more_points t (p ∷ []))
-more-point limit front t line p k says lt = record {
+more_point : (limit : ℕ) (front : List (List ℕ)) (t : Content) (line : List ℕ) (p : ℕ) → Leads limit front places.Points t → IsPointLine line p → length t.points + length t.edits < limit → Leads limit (front ++ line ∷ []) places.Points (more_points t (p ∷ []))
+more_point limit front t line p k says lt = record {
   points = k.points ++ line ∷ [];
   edits = k.edits;
   radii = k.radii;
@@ -154,8 +154,8 @@ more-point limit front t line p k says lt = record {
   radius_count = k.radius_count;
 }
 
-more-edit : (limit : ℕ) (front : List (List ℕ)) (t : Content) (line : List ℕ) (e : Edit) → Leads limit front places.Edits t → IsEditLine line e → length t.points + length t.edits < limit → Leads limit (front ++ line ∷ []) places.Edits (more_edits t (e ∷ []))
-more-edit limit front t line e k says lt = record {
+more_edit : (limit : ℕ) (front : List (List ℕ)) (t : Content) (line : List ℕ) (e : Edit) → Leads limit front places.Edits t → IsEditLine line e → length t.points + length t.edits < limit → Leads limit (front ++ line ∷ []) places.Edits (more_edits t (e ∷ []))
+more_edit limit front t line e k says lt = record {
   points = k.points;
   edits = k.edits ++ line ∷ [];
   radii = k.radii;
@@ -168,8 +168,8 @@ more-edit limit front t line e k says lt = record {
   radius_count = k.radius_count;
 }
 
-more-radius : (limit : ℕ) (front : List (List ℕ)) (t : Content) (line : List ℕ) (r : ℕ) → Leads limit front places.Radii t → IsRadiusLine line r → length t.radii < radius_limit → Leads limit (front ++ line ∷ []) places.Radii (more_radii t (r ∷ []))
-more-radius limit front t line r k says lt = record {
+more_radius : (limit : ℕ) (front : List (List ℕ)) (t : Content) (line : List ℕ) (r : ℕ) → Leads limit front places.Radii t → IsRadiusLine line r → length t.radii < radius_limit → Leads limit (front ++ line ∷ []) places.Radii (more_radii t (r ∷ []))
+more_radius limit front t line r k says lt = record {
   points = k.points;
   edits = k.edits;
   radii = k.radii ++ line ∷ [];
@@ -182,37 +182,37 @@ more-radius limit front t line r k says lt = record {
   radius_count = omega (arith, length-append k.radii (line ∷ []), length_zip IsRadiusLine k.radii t.radii k.radius_lines);
 }
 
-leads-at : (limit : ℕ) (front : List (List ℕ)) (place : Place) (t : Content) (line : List ℕ) (s : State) → Leads limit front place t → step_at limit place t line ≡ Ok s → LeadsTo limit (front ++ line ∷ []) s
-leads-at limit front places.Title t line s k h =
+leads_at : (limit : ℕ) (front : List (List ℕ)) (place : Place) (t : Content) (line : List ℕ) (s : State) → Leads limit front place t → step_at limit place t line ≡ Ok s → LeadsTo limit (front ++ line ∷ []) s
+leads_at limit front places.Title t line s k h =
     let c = chosen (bytes_eq line (codes "mesh3 1")) (at places.Heading t) Section s h in
     subst (λ (u : State). LeadsTo limit (front ++ line ∷ []) u) c.1 (to_heading limit front t line k (same line (codes "mesh3 1") c.0))
-leads-at limit front places.Heading t line s k h =
+leads_at limit front places.Heading t line s k h =
     let c = chosen (bytes_eq line (codes "points")) (at places.Points t) Section s h in
     subst (λ (u : State). LeadsTo limit (front ++ line ∷ []) u) c.1 (to_points limit front t line k (same line (codes "points") c.0))
-leads-at limit front places.Points t line s k h =
-    elim (list-ok (bytes_eq line (codes "edits")) (at places.Edits t) line (leb limit (length t.points + length t.edits)) (with_point t (point line)) s h) [
+leads_at limit front places.Points t line s k h =
+    elim (list_ok (bytes_eq line (codes "edits")) (at places.Edits t) line (leb limit (length t.points + length t.edits)) (with_point t (point line)) s h) [
       | inl c ↦ subst (λ (u : State). LeadsTo limit (front ++ line ∷ []) u) c.1 (to_edits limit front t line k (same line (codes "edits") c.0))
       | inr l ↦
-          let r = point-ok t (point line) s l.taken in
-          subst (λ (u : State). LeadsTo limit (front ++ line ∷ []) u) r.2 (more-point limit front t line r.0 k (points_decided.sound line r.0 r.1) (leb-false _ _ l.room))
+          let r = point_ok t (point line) s l.taken in
+          subst (λ (u : State). LeadsTo limit (front ++ line ∷ []) u) r.2 (more_point limit front t line r.0 k (points_decided.sound line r.0 r.1) (leb-false _ _ l.room))
     ]
-leads-at limit front places.Edits t line s k h =
-    elim (list-ok (bytes_eq line (codes "radii")) (at places.Radii t) line (leb limit (length t.points + length t.edits)) (with_edit t (edit line)) s h) [
+leads_at limit front places.Edits t line s k h =
+    elim (list_ok (bytes_eq line (codes "radii")) (at places.Radii t) line (leb limit (length t.points + length t.edits)) (with_edit t (edit line)) s h) [
       | inl c ↦ subst (λ (u : State). LeadsTo limit (front ++ line ∷ []) u) c.1 (to_radii limit front t line k (same line (codes "radii") c.0))
       | inr l ↦
-          let r = edit-ok t (edit line) s l.taken in
-          subst (λ (u : State). LeadsTo limit (front ++ line ∷ []) u) r.2 (more-edit limit front t line r.0 k (edits_decided.sound line r.0 r.1) (leb-false _ _ l.room))
+          let r = edit_ok t (edit line) s l.taken in
+          subst (λ (u : State). LeadsTo limit (front ++ line ∷ []) u) r.2 (more_edit limit front t line r.0 k (edits_decided.sound line r.0 r.1) (leb-false _ _ l.room))
     ]
-leads-at limit front places.Radii t line s k h =
-    elim (list-ok (bytes_eq line (codes "end")) (at places.End t) line (leb radius_limit (length t.radii)) (with_radius t (radius line)) s h) [
+leads_at limit front places.Radii t line s k h =
+    elim (list_ok (bytes_eq line (codes "end")) (at places.End t) line (leb radius_limit (length t.radii)) (with_radius t (radius line)) s h) [
       | inl c ↦ subst (λ (u : State). LeadsTo limit (front ++ line ∷ []) u) c.1 (to_end limit front t line k (same line (codes "end") c.0))
       | inr l ↦
-          let r = radius-ok t (radius line) s l.taken in
-          subst (λ (u : State). LeadsTo limit (front ++ line ∷ []) u) r.2 (more-radius limit front t line r.0 k (radii_decided.sound line r.0 r.1) (leb-false _ _ l.room))
+          let r = radius_ok t (radius line) s l.taken in
+          subst (λ (u : State). LeadsTo limit (front ++ line ∷ []) u) r.2 (more_radius limit front t line r.0 k (radii_decided.sound line r.0 r.1) (leb-false _ _ l.room))
     ]
-leads-at limit front places.End t line s k h = absurd cc
+leads_at limit front places.End t line s k h = absurd cc
 
 -- a line that is taken leads on
-pub leads-on : (limit : ℕ) (front : List (List ℕ)) (s t : State) (line : List ℕ) → Leads limit front s.place s.taken → step limit s line ≡ Ok t → Leads limit (front ++ line ∷ []) t.place t.taken
+pub leads_on : (limit : ℕ) (front : List (List ℕ)) (s t : State) (line : List ℕ) → Leads limit front s.place s.taken → step limit s line ≡ Ok t → Leads limit (front ++ line ∷ []) t.place t.taken
 unfolding step
-leads-on limit front s t line k h = leads-at limit front s.place s.taken line t k h
+leads_on limit front s t line k h = leads_at limit front s.place s.taken line t k h

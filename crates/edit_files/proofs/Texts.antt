@@ -9,73 +9,73 @@ use Rattle.edit_files.specs.Lines.{lines_of, text_of}
 use Rattle.edit_files.specs.Forms.{IsPointLine, IsEditLine, IsRadiusLine}
 use Rattle.edit_files.specs.Grammar.{AreFileLines, IsFile}
 use Rattle.edit_files.specs.Faults.{AreFirstLines}
-use Rattle.edit_files.proofs.Decided.{HasNo, number-without}
+use Rattle.edit_files.proofs.Decided.{HasNo, number_without}
 
-without-append : (c : ℕ) (a b : List ℕ) → HasNo c a → HasNo c b → HasNo c (a ++ b)
-without-append c [] b p q = q
-without-append c (x ∷ a) b p q = (p.0, without-append c a b p.1 q)
+without_append : (c : ℕ) (a b : List ℕ) → HasNo c a → HasNo c b → HasNo c (a ++ b)
+without_append c [] b p q = q
+without_append c (x ∷ a) b p q = (p.0, without_append c a b p.1 q)
 
-line-first : (line rest : List ℕ) → HasNo 10 line → lines_of (line ++ 10 ∷ rest) ≡ line ∷ lines_of rest
-line-first [] rest h = refl
-line-first (b ∷ bs) rest h = let e = line-first bs rest h.1 in let f : eqb b 10 ≡ false = h.0 in rw (f, e) refl
+line_first : (line rest : List ℕ) → HasNo 10 line → lines_of (line ++ 10 ∷ rest) ≡ line ∷ lines_of rest
+line_first [] rest h = refl
+line_first (b ∷ bs) rest h = let e = line_first bs rest h.1 in let f : eqb b 10 ≡ false = h.0 in rw (f, e) refl
 
 abbrev HaveNoFeed : List (List ℕ) → Type 0
 HaveNoFeed lines = AllByRecursion (λ line. HasNo 10 line) lines
 
-pub lines-of_text : (lines : List (List ℕ)) → HaveNoFeed lines → lines_of (text_of lines) ≡ lines
-lines-of_text [] h = refl
-lines-of_text (l ∷ ls) h = line-first l (text_of ls) h.0 ∙ ap (λ (ms : List (List ℕ)). l ∷ ms) (lines-of_text ls h.1)
+pub lines_of_text : (lines : List (List ℕ)) → HaveNoFeed lines → lines_of (text_of lines) ≡ lines
+lines_of_text [] h = refl
+lines_of_text (l ∷ ls) h = line_first l (text_of ls) h.0 ∙ ap (λ (ms : List (List ℕ)). l ∷ ms) (lines_of_text ls h.1)
 
-point-no_feed : (line : List ℕ) (p : ℕ) → IsPointLine line p → HasNo 10 line
-point-no_feed line p s =
-    let x : HasNo 10 s.x = number-without 10 s.x (omega arith) s.x_value.number in
-    let y : HasNo 10 s.y = number-without 10 s.y (omega arith) s.y_value.number in
-    let z : HasNo 10 s.z = number-without 10 s.z (omega arith) s.z_value.number in
-    let both : HasNo 10 (s.x ++ 32 ∷ s.y) = without-append 10 s.x (32 ∷ s.y) x (refl, y) in
-    subst (λ (l : List ℕ). HasNo 10 l) (sym s.fields) (without-append 10 (s.x ++ 32 ∷ s.y) (32 ∷ s.z) both (refl, z))
+point_no_feed : (line : List ℕ) (p : ℕ) → IsPointLine line p → HasNo 10 line
+point_no_feed line p s =
+    let x : HasNo 10 s.x = number_without 10 s.x (omega arith) s.x_value.number in
+    let y : HasNo 10 s.y = number_without 10 s.y (omega arith) s.y_value.number in
+    let z : HasNo 10 s.z = number_without 10 s.z (omega arith) s.z_value.number in
+    let both : HasNo 10 (s.x ++ 32 ∷ s.y) = without_append 10 s.x (32 ∷ s.y) x (refl, y) in
+    subst (λ (l : List ℕ). HasNo 10 l) (sym s.fields) (without_append 10 (s.x ++ 32 ∷ s.y) (32 ∷ s.z) both (refl, z))
 
-edit-no_feed : (line : List ℕ) (e : Edit) → IsEditLine line e → HasNo 10 line
-edit-no_feed line (Add p) s = subst (λ (l : List ℕ). HasNo 10 l) (sym s.1) (refl, (refl, point-no_feed s.0 p s.2))
-edit-no_feed line (Take p) s = subst (λ (l : List ℕ). HasNo 10 l) (sym s.1) (refl, (refl, point-no_feed s.0 p s.2))
+edit_no_feed : (line : List ℕ) (e : Edit) → IsEditLine line e → HasNo 10 line
+edit_no_feed line (Add p) s = subst (λ (l : List ℕ). HasNo 10 l) (sym s.1) (refl, (refl, point_no_feed s.0 p s.2))
+edit_no_feed line (Take p) s = subst (λ (l : List ℕ). HasNo 10 l) (sym s.1) (refl, (refl, point_no_feed s.0 p s.2))
 
-radius-no_feed : (line : List ℕ) (r : ℕ) → IsRadiusLine line r → HasNo 10 line
-radius-no_feed line r s = number-without 10 line (omega arith) s.0.number
+radius_no_feed : (line : List ℕ) (r : ℕ) → IsRadiusLine line r → HasNo 10 line
+radius_no_feed line r s = number_without 10 line (omega arith) s.0.number
 
-zip-no_feed : {A : Type 0} (Says : List ℕ → A → Type 0) → ((line : List ℕ) (a : A) → Says line a → HasNo 10 line) → (lines : List (List ℕ)) (vs : List A) → AllZip Says lines vs → HaveNoFeed lines
-zip-no_feed Says h [] vs z = tt
-zip-no_feed Says h (l ∷ ls) [] z = absurd z
-zip-no_feed Says h (l ∷ ls) (v ∷ vs) z = (h l v z.0, zip-no_feed Says h ls vs z.1)
+zip_no_feed : {A : Type 0} (Says : List ℕ → A → Type 0) → ((line : List ℕ) (a : A) → Says line a → HasNo 10 line) → (lines : List (List ℕ)) (vs : List A) → AllZip Says lines vs → HaveNoFeed lines
+zip_no_feed Says h [] vs z = tt
+zip_no_feed Says h (l ∷ ls) [] z = absurd z
+zip_no_feed Says h (l ∷ ls) (v ∷ vs) z = (h l v z.0, zip_no_feed Says h ls vs z.1)
 
-all-append : (a b : List (List ℕ)) → HaveNoFeed a → HaveNoFeed b → HaveNoFeed (a ++ b)
-all-append [] b p q = q
-all-append (x ∷ a) b p q = (p.0, all-append a b p.1 q)
+all_append : (a b : List (List ℕ)) → HaveNoFeed a → HaveNoFeed b → HaveNoFeed (a ++ b)
+all_append [] b p q = q
+all_append (x ∷ a) b p q = (p.0, all_append a b p.1 q)
 
-file-no_feed : (limit : ℕ) (lines : List (List ℕ)) (f : Content) → AreFileLines limit lines f → HaveNoFeed lines
-file-no_feed limit lines f k =
+file_no_feed : (limit : ℕ) (lines : List (List ℕ)) (f : Content) → AreFileLines limit lines f → HaveNoFeed lines
+file_no_feed limit lines f k =
     let title : HasNo 10 (codes "mesh3 1") = (refl, (refl, (refl, (refl, (refl, (refl, (refl, tt))))))) in
     let points : HasNo 10 (codes "points") = (refl, (refl, (refl, (refl, (refl, (refl, tt)))))) in
     let edits : HasNo 10 (codes "edits") = (refl, (refl, (refl, (refl, (refl, tt))))) in
     let radii : HasNo 10 (codes "radii") = (refl, (refl, (refl, (refl, (refl, tt))))) in
     let ends : HasNo 10 (codes "end") = (refl, (refl, (refl, tt))) in
-    let a : HaveNoFeed (codes "mesh3 1" ∷ codes "points" ∷ k.points) = (title, (points, zip-no_feed IsPointLine point-no_feed k.points f.points k.point_lines)) in
-    let b : HaveNoFeed (codes "edits" ∷ k.edits) = (edits, zip-no_feed IsEditLine edit-no_feed k.edits f.edits k.edit_lines) in
-    let c : HaveNoFeed (codes "radii" ∷ k.radii) = (radii, zip-no_feed IsRadiusLine radius-no_feed k.radii f.radii k.radius_lines) in
+    let a : HaveNoFeed (codes "mesh3 1" ∷ codes "points" ∷ k.points) = (title, (points, zip_no_feed IsPointLine point_no_feed k.points f.points k.point_lines)) in
+    let b : HaveNoFeed (codes "edits" ∷ k.edits) = (edits, zip_no_feed IsEditLine edit_no_feed k.edits f.edits k.edit_lines) in
+    let c : HaveNoFeed (codes "radii" ∷ k.radii) = (radii, zip_no_feed IsRadiusLine radius_no_feed k.radii f.radii k.radius_lines) in
     let d : HaveNoFeed (codes "end" ∷ []) = (ends, tt) in
     let in_points : List (List ℕ) = codes "mesh3 1" ∷ codes "points" ∷ k.points in
     let in_edits : List (List ℕ) = in_points ++ codes "edits" ∷ k.edits in
     let in_radii : List (List ℕ) = in_edits ++ codes "radii" ∷ k.radii in
     let all : HaveNoFeed (in_radii ++ codes "end" ∷ []) =
-    all-append in_radii (codes "end" ∷ []) (all-append in_edits (codes "radii" ∷ k.radii) (all-append in_points (codes "edits" ∷ k.edits) a b) c) d in
+    all_append in_radii (codes "end" ∷ []) (all_append in_edits (codes "radii" ∷ k.radii) (all_append in_points (codes "edits" ∷ k.edits) a b) c) d in
     subst (λ (ls : List (List ℕ)). HaveNoFeed ls) (sym k.order) all
 
 -- the text of a file's lines is of that file
-pub text-is_file : (limit : ℕ) (lines : List (List ℕ)) (f : Content) → AreFileLines limit lines f → IsFile limit (text_of lines) f
-text-is_file limit lines f are = subst (λ (ls : List (List ℕ)). AreFileLines limit ls f) (sym (lines-of_text lines (file-no_feed limit lines f are))) are
+pub text_is_file : (limit : ℕ) (lines : List (List ℕ)) (f : Content) → AreFileLines limit lines f → IsFile limit (text_of lines) f
+text_is_file limit lines f are = subst (λ (ls : List (List ℕ)). AreFileLines limit ls f) (sym (lines_of_text lines (file_no_feed limit lines f are))) are
 
 -- first lines of a file's lines are the first lines of a text
 pub first_lines_of : (limit : ℕ) (front rest : List (List ℕ)) (f : Content) → AreFileLines limit (front ++ rest) f → AreFirstLines limit front
 first_lines_of limit front rest f are =
-    (text_of (front ++ rest), f, text-is_file limit (front ++ rest) f are, rest, lines-of_text (front ++ rest) (file-no_feed limit (front ++ rest) f are))
+    (text_of (front ++ rest), f, text_is_file limit (front ++ rest) f are, rest, lines_of_text (front ++ rest) (file_no_feed limit (front ++ rest) f are))
 
 -- and the other way
 pub file_from_first : (limit : ℕ) (front : List (List ℕ)) (h : AreFirstLines limit front) → AreFileLines limit (front ++ h.3) h.1

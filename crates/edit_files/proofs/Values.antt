@@ -7,12 +7,12 @@ use Rattle.std.proofs.lemmas.Str.Parse.{digit_from_value}
 use Rattle.list_laws.proofs.Cited.{one_value}
 use Rattle.edit_files.specs.Numbers.{after_minus, IsNumber, IsNumberOf}
 use Rattle.edit_files.specs.Judging.{far, digits, digits_from, signed, number}
-use Rattle.edit_files.proofs.Numerals.{digits_from-nil, digits_from-digit, digits_from-other, digits-is, digits-nil, number-is}
+use Rattle.edit_files.proofs.Numerals.{digits_from_nil, digits_from_digit, digits_from_other, digits_is, digits_nil, number_is}
 
 -- ---- digits
 
-digit-test : (c : ℕ) → digit_value c < 10 → (is_ascii_digit c ≡ true) × (digit_value c ≡ c - 48)
-digit-test c h =
+digit_test : (c : ℕ) → digit_value c < 10 → (is_ascii_digit c ≡ true) × (digit_value c ≡ c - 48)
+digit_test c h =
     let within = digit_from_value c h in
     let low : leb 48 c ≡ true = le-leb 48 c within.0 in
     let high : leb c 57 ≡ true = le-leb c 57 within.1 in
@@ -20,8 +20,8 @@ digit-test c h =
     let below : ltb c 58 ≡ true = lt-ltb c 58 (omega (arith, within.1)) in
     (and_from (leb 48 c) (leb c 57) low high, rw (above, below) refl)
 
-digit-from_test : (c : ℕ) → is_ascii_digit c ≡ true → digit_value c < 10
-digit-from_test c h =
+digit_from_test : (c : ℕ) → is_ascii_digit c ≡ true → digit_value c < 10
+digit_from_test c h =
     let parts = and_parts (leb 48 c) (leb c 57) h in
     let low : 48 ≤ c = leb-true 48 c parts.0 in
     let high : c ≤ 57 = leb-true c 57 parts.1 in
@@ -31,9 +31,9 @@ digit-from_test c h =
     rw e (omega arith)
 
 -- digits behind others only add to their value
-after-le : (n : ℕ) (ds : List ℕ) → n ≤ digits_value_after 10 n ds
-after-le n [] = omega arith
-after-le n (c ∷ cs) = omega (arith, after-le (n * 10 + digit_value c) cs)
+after_le : (n : ℕ) (ds : List ℕ) → n ≤ digits_value_after 10 n ds
+after_le n [] = omega arith
+after_le n (c ∷ cs) = omega (arith, after_le (n * 10 + digit_value c) cs)
 
 -- what lies beyond the bound stays there
 kept_far : (n : ℕ) (ds : List ℕ) → min (digits_value_after 10 (min n far) ds) far ≡ min (digits_value_after 10 n ds) far
@@ -41,34 +41,34 @@ kept_far n ds =
     elim (cases_lt n far) [
       | inl lt ↦ let e : min n far ≡ n = omega arith in ap (λ (m : ℕ). min (digits_value_after 10 m ds) far) e
       | inr le ↦
-          let a : min n far ≤ digits_value_after 10 (min n far) ds = after-le (min n far) ds in
-          let b : n ≤ digits_value_after 10 n ds = after-le n ds in
+          let a : min n far ≤ digits_value_after 10 (min n far) ds = after_le (min n far) ds in
+          let b : n ≤ digits_value_after 10 n ds = after_le n ds in
           omega arith
     ]
 
-digits_from-all : (n : ℕ) (ds : List ℕ) → n ≤ far → AllDigits 10 ds → digits_from n ds ≡ Some (min (digits_value_after 10 n ds) far)
-digits_from-all n [] le all = digits_from-nil n ∙ ap (λ (m : ℕ). Some m) (omega arith)
-digits_from-all n (c ∷ cs) le all =
-    let test = digit-test c all.0 in
+digits_from_all : (n : ℕ) (ds : List ℕ) → n ≤ far → AllDigits 10 ds → digits_from n ds ≡ Some (min (digits_value_after 10 n ds) far)
+digits_from_all n [] le all = digits_from_nil n ∙ ap (λ (m : ℕ). Some m) (omega arith)
+digits_from_all n (c ∷ cs) le all =
+    let test = digit_test c all.0 in
     let m : ℕ = n * 10 + (c - 48) in
-    let rest : digits_from (min m far) cs ≡ Some (min (digits_value_after 10 (min m far) cs) far) = digits_from-all (min m far) cs (omega arith) all.1 in
+    let rest : digits_from (min m far) cs ≡ Some (min (digits_value_after 10 (min m far) cs) far) = digits_from_all (min m far) cs (omega arith) all.1 in
     let same : m ≡ n * 10 + digit_value c = ap (λ (d : ℕ). n * 10 + d) (sym test.1) in
-    digits_from-digit n c cs test.0 ∙ rest ∙ ap (λ (v : ℕ). Some v) (kept_far m cs ∙ ap (λ (v : ℕ). min (digits_value_after 10 v cs) far) same)
+    digits_from_digit n c cs test.0 ∙ rest ∙ ap (λ (v : ℕ). Some v) (kept_far m cs ∙ ap (λ (v : ℕ). min (digits_value_after 10 v cs) far) same)
 
-digits_from-some : (n : ℕ) (ds : List ℕ) (v : ℕ) → digits_from n ds ≡ Some v → AllDigits 10 ds
-digits_from-some n [] v h = tt
-digits_from-some n (c ∷ cs) v h =
+digits_from_some : (n : ℕ) (ds : List ℕ) (v : ℕ) → digits_from n ds ≡ Some v → AllDigits 10 ds
+digits_from_some n [] v h = tt
+digits_from_some n (c ∷ cs) v h =
     elim (cases_Bool (is_ascii_digit c)) [
-      | inl is ↦ (digit-from_test c is, digits_from-some (min (n * 10 + (c - 48)) far) cs v (sym (digits_from-digit n c cs is) ∙ h))
-      | inr isnt ↦ let e : digits_from n (c ∷ cs) ≡ None = digits_from-other n c cs isnt in absurd cc
+      | inl is ↦ (digit_from_test c is, digits_from_some (min (n * 10 + (c - 48)) far) cs v (sym (digits_from_digit n c cs is) ∙ h))
+      | inr isnt ↦ let e : digits_from n (c ∷ cs) ≡ None = digits_from_other n c cs isnt in absurd cc
     ]
 
-digits-all : (ds : List ℕ) → IsNumeral 10 ds → digits ds ≡ Some (min (digits_value 10 ds) far)
-digits-all ds h = digits-is ds h.0 ∙ digits_from-all 0 ds (omega arith) h.1
+digits_all : (ds : List ℕ) → IsNumeral 10 ds → digits ds ≡ Some (min (digits_value 10 ds) far)
+digits_all ds h = digits_is ds h.0 ∙ digits_from_all 0 ds (omega arith) h.1
 
-digits-some : (ds : List ℕ) (v : ℕ) → digits ds ≡ Some v → IsNumeral 10 ds
-digits-some [] v h = let e : digits [] ≡ None = digits-nil in absurd cc
-digits-some (c ∷ cs) v h = (omega arith, digits_from-some 0 (c ∷ cs) v (sym (digits-is (c ∷ cs) (omega arith)) ∙ h))
+digits_some : (ds : List ℕ) (v : ℕ) → digits ds ≡ Some v → IsNumeral 10 ds
+digits_some [] v h = let e : digits [] ≡ None = digits_nil in absurd cc
+digits_some (c ∷ cs) v h = (omega arith, digits_from_some 0 (c ∷ cs) v (sym (digits_is (c ∷ cs) (omega arith)) ∙ h))
 
 -- ---- numbers
 
@@ -76,43 +76,43 @@ digits-some (c ∷ cs) v h = (omega arith, digits_from-some 0 (c ∷ cs) v (sym 
 abbrev pub reading : List ℕ → ℕ
 reading bs = cond (starts_with_minus bs && ltb 0 (min (digits_value 10 (after_minus bs)) far)) far (min (digits_value 10 (after_minus bs)) far)
 
-pub number-read : (bs : List ℕ) → IsNumber bs → number bs ≡ Some (reading bs)
-number-read bs h = number-is bs (min (digits_value 10 (after_minus bs)) far) (digits-all (after_minus bs) h)
+pub number_read : (bs : List ℕ) → IsNumber bs → number bs ≡ Some (reading bs)
+number_read bs h = number_is bs (min (digits_value 10 (after_minus bs)) far) (digits_all (after_minus bs) h)
 
 -- what is read is a number
 some_digits : (o : Option ℕ) (minus : Bool) (n : ℕ) → signed minus o ≡ Some n → (v : ℕ) × (o ≡ Some v)
 some_digits None minus n h = absurd cc
 some_digits (Some v) minus n h = (v, refl)
 
-pub number-some : (bs : List ℕ) (n : ℕ) → number bs ≡ Some n → IsNumber bs
+pub number_some : (bs : List ℕ) (n : ℕ) → number bs ≡ Some n → IsNumber bs
 unfolding number
-number-some bs n h = let d = some_digits (digits (after_minus bs)) (starts_with_minus bs) n h in digits-some (after_minus bs) d.0 d.1
+number_some bs n h = let d = some_digits (digits (after_minus bs)) (starts_with_minus bs) n h in digits_some (after_minus bs) d.0 d.1
 
-pub number-none-not : (bs : List ℕ) → number bs ≡ None → IsNumber bs → ⊥
-number-none-not bs h is = let e = number-read bs is in absurd cc
+pub number_none_not : (bs : List ℕ) → number bs ≡ None → IsNumber bs → ⊥
+number_none_not bs h is = let e = number_read bs is in absurd cc
 
 -- below the bound the reading is the value
-reading-value : (minus : Bool) (v n : ℕ) → cond (minus && ltb 0 (min v far)) far (min v far) ≡ n → n < far → (v ≡ n) × (minus ≡ true → n ≡ 0)
-reading-value true v n h lt =
+reading_value : (minus : Bool) (v n : ℕ) → cond (minus && ltb 0 (min v far)) far (min v far) ≡ n → n < far → (v ≡ n) × (minus ≡ true → n ≡ 0)
+reading_value true v n h lt =
     elim (cases_lt 0 (min v far)) [
       | inl some ↦ let e : ltb 0 (min v far) ≡ true = lt-ltb _ _ some in let k : far ≡ n = sym (rw e refl) ∙ h in absurd (omega arith)
       | inr none ↦ let e : ltb 0 (min v far) ≡ false = le-ltb _ _ none in let k : min v far ≡ n = sym (rw e refl) ∙ h in (omega arith, λ _. omega arith)
     ]
-reading-value false v n h lt = (omega arith, λ t. absurd cc)
+reading_value false v n h lt = (omega arith, λ t. absurd cc)
 
-value-reading : (minus : Bool) (v n : ℕ) → v ≡ n → (minus ≡ true → n ≡ 0) → n < far → cond (minus && ltb 0 (min v far)) far (min v far) ≡ n
-value-reading true v n e z lt =
+value_reading : (minus : Bool) (v n : ℕ) → v ≡ n → (minus ≡ true → n ≡ 0) → n < far → cond (minus && ltb 0 (min v far)) far (min v far) ≡ n
+value_reading true v n e z lt =
     let none : ltb 0 (min v far) ≡ false = le-ltb _ _ (omega (arith, z refl)) in
     rw none (omega arith)
-value-reading false v n e z lt = omega arith
+value_reading false v n e z lt = omega arith
 
-pub number-of : (bs : List ℕ) (n : ℕ) → IsNumberOf bs n → n < far → number bs ≡ Some n
-number-of bs n h lt =
-    number-read bs h.number ∙ ap (λ (m : ℕ). Some m) (value-reading (starts_with_minus bs) (digits_value 10 (after_minus bs)) n h.value h.minus lt)
+pub number_of : (bs : List ℕ) (n : ℕ) → IsNumberOf bs n → n < far → number bs ≡ Some n
+number_of bs n h lt =
+    number_read bs h.number ∙ ap (λ (m : ℕ). Some m) (value_reading (starts_with_minus bs) (digits_value 10 (after_minus bs)) n h.value h.minus lt)
 
-pub of-number : (bs : List ℕ) (n : ℕ) → number bs ≡ Some n → n < far → IsNumberOf bs n
-of-number bs n h lt =
-    let is : IsNumber bs = number-some bs n h in
-    let same : reading bs ≡ n = one_value (reading bs) n (sym (number-read bs is) ∙ h) in
-    let v = reading-value (starts_with_minus bs) (digits_value 10 (after_minus bs)) n same lt in
+pub of_number : (bs : List ℕ) (n : ℕ) → number bs ≡ Some n → n < far → IsNumberOf bs n
+of_number bs n h lt =
+    let is : IsNumber bs = number_some bs n h in
+    let same : reading bs ≡ n = one_value (reading bs) n (sym (number_read bs is) ∙ h) in
+    let v = reading_value (starts_with_minus bs) (digits_value 10 (after_minus bs)) n same lt in
     record { number = is; value = v.0; minus = v.1 }

@@ -21,17 +21,17 @@ record ReadsNoWord {A : Type 0} (read : List ℕ → Result A Why) : Type 0 wher
   radii : read (codes "radii") ≡ Err Field
   end : read (codes "end") ≡ Err Field
 
-words-point : ReadsNoWord point
+words_point : ReadsNoWord point
 unfolding point number digits digits_from
-words-point = record { points = refl; edits = refl; radii = refl; end = refl }
+words_point = record { points = refl; edits = refl; radii = refl; end = refl }
 
-words-edit : ReadsNoWord edit
+words_edit : ReadsNoWord edit
 unfolding edit point number digits digits_from
-words-edit = record { points = refl; edits = refl; radii = refl; end = refl }
+words_edit = record { points = refl; edits = refl; radii = refl; end = refl }
 
-words-radius : ReadsNoWord radius
+words_radius : ReadsNoWord radius
 unfolding radius number digits digits_from
-words-radius = record { points = refl; edits = refl; radii = refl; end = refl }
+words_radius = record { points = refl; edits = refl; radii = refl; end = refl }
 
 other : {A : Type 0} (read : List ℕ → Result A Why) (line word : List ℕ) (a : A) → read line ≡ Ok a → read word ≡ Err Field → bytes_eq line word ≡ false
 other read line word a h w = false_from_ne_true (bytes_eq line word) (λ t. let same : line ≡ word = (bytes_eq-Decides line word).0 t in let e : read word ≡ Ok a = sym (ap read same) ∙ h in absurd cc)
@@ -40,14 +40,14 @@ no_word : {A : Type 0} (read : List ℕ → Result A Why) (r : ReadsNoWord read)
 no_word read r line a h =
     or_from _ _ (or_from _ _ (or_from _ _ (other read line (codes "points") a h r.points) (other read line (codes "edits") a h r.edits)) (other read line (codes "radii") a h r.radii)) (other read line (codes "end") a h r.end)
 
-pub point-no_word : (line : List ℕ) (p : ℕ) → IsPointLine line p → is_word line ≡ false
-point-no_word line p s = no_word point words-point line p (points_decided.complete line p s)
+pub point_no_word : (line : List ℕ) (p : ℕ) → IsPointLine line p → is_word line ≡ false
+point_no_word line p s = no_word point words_point line p (points_decided.complete line p s)
 
-pub edit-no_word : (line : List ℕ) (e : _) → IsEditLine line e → is_word line ≡ false
-edit-no_word line e s = no_word edit words-edit line e (edits_decided.complete line e s)
+pub edit_no_word : (line : List ℕ) (e : _) → IsEditLine line e → is_word line ≡ false
+edit_no_word line e s = no_word edit words_edit line e (edits_decided.complete line e s)
 
-pub radius-no_word : (line : List ℕ) (r : ℕ) → IsRadiusLine line r → is_word line ≡ false
-radius-no_word line r s = no_word radius words-radius line r (radii_decided.complete line r s)
+pub radius_no_word : (line : List ℕ) (r : ℕ) → IsRadiusLine line r → is_word line ≡ false
+radius_no_word line r s = no_word radius words_radius line r (radii_decided.complete line r s)
 
 -- what is no section word is none of the four
 pub record IsNone (line : List ℕ) : Type 0 where
@@ -56,8 +56,8 @@ pub record IsNone (line : List ℕ) : Type 0 where
   pub radii : bytes_eq line (codes "radii") ≡ false
   pub end : bytes_eq line (codes "end") ≡ false
 
-pub none-is : (line : List ℕ) → is_word line ≡ false → IsNone line
-none-is line h =
+pub none_is : (line : List ℕ) → is_word line ≡ false → IsNone line
+none_is line h =
     let a = or_parts (bytes_eq line (codes "points") || bytes_eq line (codes "edits") || bytes_eq line (codes "radii")) (bytes_eq line (codes "end")) h in
     let b = or_parts (bytes_eq line (codes "points") || bytes_eq line (codes "edits")) (bytes_eq line (codes "radii")) a.0 in
     let c = or_parts (bytes_eq line (codes "points")) (bytes_eq line (codes "edits")) b.0 in
@@ -66,25 +66,25 @@ none-is line h =
 abbrev pub HaveNoWord : List (List ℕ) → Type 0
 HaveNoWord lines = AllByRecursion (λ line. is_word line ≡ false) lines
 
-pub said-no_word : {A : Type 0} (Says : List ℕ → A → Type 0) → ((line : List ℕ) (a : A) → Says line a → is_word line ≡ false) → (lines : List (List ℕ)) (vs : List A) → AllZip Says lines vs → HaveNoWord lines
-said-no_word Says h [] vs z = tt
-said-no_word Says h (l ∷ ls) [] z = absurd z
-said-no_word Says h (l ∷ ls) (v ∷ vs) z = (h l v z.0, said-no_word Says h ls vs z.1)
+pub said_no_word : {A : Type 0} (Says : List ℕ → A → Type 0) → ((line : List ℕ) (a : A) → Says line a → is_word line ≡ false) → (lines : List (List ℕ)) (vs : List A) → AllZip Says lines vs → HaveNoWord lines
+said_no_word Says h [] vs z = tt
+said_no_word Says h (l ∷ ls) [] z = absurd z
+said_no_word Says h (l ∷ ls) (v ∷ vs) z = (h l v z.0, said_no_word Says h ls vs z.1)
 
-pub has-none : (word : List ℕ) → ((line : List ℕ) → IsNone line → bytes_eq line word ≡ false) → (lines : List (List ℕ)) → HaveNoWord lines → has word lines ≡ false
-has-none word h [] z = refl
-has-none word h (l ∷ ls) z = or_from _ _ (h l (none-is l z.0)) (has-none word h ls z.1)
+pub has_none : (word : List ℕ) → ((line : List ℕ) → IsNone line → bytes_eq line word ≡ false) → (lines : List (List ℕ)) → HaveNoWord lines → has word lines ≡ false
+has_none word h [] z = refl
+has_none word h (l ∷ ls) z = or_from _ _ (h l (none_is l z.0)) (has_none word h ls z.1)
 
-pub count-all : (lines : List (List ℕ)) → HaveNoWord lines → count_by (λ line. not (is_word line)) lines ≡ length lines
-count-all [] z = refl
-count-all (l ∷ ls) z =
+pub count_all : (lines : List (List ℕ)) → HaveNoWord lines → count_by (λ line. not (is_word line)) lines ≡ length lines
+count_all [] z = refl
+count_all (l ∷ ls) z =
     let f : List ℕ → ℕ = λ line. cond (not (is_word line)) 1 0 in
     let here : f l ≡ 1 = rw z.0 refl in
-    sum_by-cons f l ls ∙ omega (arith, here, count-all ls z.1)
+    sum_by-cons f l ls ∙ omega (arith, here, count_all ls z.1)
 
-pub lines_after-at : (word : List ℕ) (front rest : List (List ℕ)) → bytes_eq word word ≡ true → has word front ≡ false → lines_after word (front ++ word ∷ rest) ≡ rest
-lines_after-at word [] rest w h = rw w refl
-lines_after-at word (l ∷ ls) rest w h =
+pub lines_after_at : (word : List ℕ) (front rest : List (List ℕ)) → bytes_eq word word ≡ true → has word front ≡ false → lines_after word (front ++ word ∷ rest) ≡ rest
+lines_after_at word [] rest w h = rw w refl
+lines_after_at word (l ∷ ls) rest w h =
     let p = or_parts (bytes_eq l word) (has word ls) h in
     let e : bytes_eq l word ≡ false = p.0 in
-    rw e (lines_after-at word ls rest w p.1)
+    rw e (lines_after_at word ls rest w p.1)

@@ -17,16 +17,16 @@ use Rattle.edit_files.specs.Numbers.{IsNumberOf, after_minus}
 use Rattle.edit_files.specs.Forms.{IsPointLine, IsEditLine, IsRadiusLine}
 use Rattle.edit_files.specs.Grammar.{IsFile}
 use Rattle.edit_files.specs.Writing.{point_text, edit_text, file_lines, file_text, IsWithin}
-use Rattle.edit_files.proofs.Points.{coordinate-below}
-use Rattle.edit_files.proofs.Texts.{text-is_file}
+use Rattle.edit_files.proofs.Points.{coordinate_below}
+use Rattle.edit_files.proofs.Texts.{text_is_file}
 
 -- digits begin with no minus
-no_minus : (ds : List ℕ) → IsNumeral 10 ds → starts_with_minus ds ≡ false
+pub no_minus : (ds : List ℕ) → IsNumeral 10 ds → starts_with_minus ds ≡ false
 no_minus [] h = absurd (omega (arith, h.0))
 no_minus (c ∷ cs) h = let w = digit_from_value c h.1.0 in ne_eqb c 45 (λ e. absurd (omega (arith, w.0)))
 
-decimal-is : (n : ℕ) → n < 2 ^ 64 → IsNumberOf (decimal n) n
-decimal-is n lt =
+decimal_is : (n : ℕ) → n < 2 ^ 64 → IsNumberOf (decimal n) n
+decimal_is n lt =
     let d = decimal_is_IsNumeral n lt in
     let plain : starts_with_minus (decimal n) ≡ false = no_minus (decimal n) d.0 in
     let same : after_minus (decimal n) ≡ decimal n = rw plain refl in
@@ -36,48 +36,48 @@ decimal-is n lt =
       minus = λ t. absurd (both_ways _ plain t);
     }
 
-point-line : (p : ℕ) → IsKey p → IsPointLine (point_text p) p
-point-line p key =
-    let below = coordinate-below p in
+point_line : (p : ℕ) → IsKey p → IsPointLine (point_text p) p
+point_line p key =
+    let below = coordinate_below p in
     record {
       x = decimal (x_of p);
       y = decimal (y_of p);
       z = decimal (z_of p);
       fields = refl;
-      x_value = decimal-is (x_of p) (omega (arith, below.0));
-      y_value = decimal-is (y_of p) (omega (arith, below.1));
-      z_value = decimal-is (z_of p) (omega (arith, below.2));
+      x_value = decimal_is (x_of p) (omega (arith, below.0));
+      y_value = decimal_is (y_of p) (omega (arith, below.1));
+      z_value = decimal_is (z_of p) (omega (arith, below.2));
       key = key;
     }
 
-edit-line : (e : Edit) → IsKey (point_of e) → IsEditLine (edit_text e) e
-edit-line (Add p) key = (point_text p, refl, point-line p key)
-edit-line (Take p) key = (point_text p, refl, point-line p key)
+edit_line : (e : Edit) → IsKey (point_of e) → IsEditLine (edit_text e) e
+edit_line (Add p) key = (point_text p, refl, point_line p key)
+edit_line (Take p) key = (point_text p, refl, point_line p key)
 
-radius-line : (r : ℕ) → r < 2 ^ 30 → IsRadiusLine (decimal r) r
-radius-line r lt = (decimal-is r (omega arith), lt)
+radius_line : (r : ℕ) → r < 2 ^ 30 → IsRadiusLine (decimal r) r
+radius_line r lt = (decimal_is r (omega arith), lt)
 
-pub written-is_file : (limit : ℕ) (f : Content) → IsWithin limit f → IsFile limit (file_text f) f
-written-is_file limit f w = text-is_file limit (file_lines f) f (record {
+pub written_is_file : (limit : ℕ) (f : Content) → IsWithin limit f → IsFile limit (file_text f) f
+written_is_file limit f w = text_is_file limit (file_lines f) f (record {
   points = map point_text f.points;
   edits = map edit_text f.edits;
   radii = map decimal f.radii;
   order = refl;
-  point_lines = zip_map IsPointLine point_text IsKey point-line f.points w.points;
-  edit_lines = zip_map IsEditLine edit_text (λ e. IsKey (point_of e)) edit-line f.edits w.edits;
-  radius_lines = zip_map IsRadiusLine decimal (λ r. r < 2 ^ 30) radius-line f.radii w.radii;
+  point_lines = zip_map IsPointLine point_text IsKey point_line f.points w.points;
+  edit_lines = zip_map IsEditLine edit_text (λ e. IsKey (point_of e)) edit_line f.edits w.edits;
+  radius_lines = zip_map IsRadiusLine decimal (λ r. r < 2 ^ 30) radius_line f.radii w.radii;
   line_count = omega (arith, w.line_count, length-map f.points point_text, length-map f.edits edit_text);
   radius_count = omega (arith, w.radius_count, length-map f.radii decimal);
 })
 
-edit-key : (line : List ℕ) (e : Edit) → IsEditLine line e → IsKey (point_of e)
-edit-key line (Add p) s = s.2.key
-edit-key line (Take p) s = s.2.key
+edit_key : (line : List ℕ) (e : Edit) → IsEditLine line e → IsKey (point_of e)
+edit_key line (Add p) s = s.2.key
+edit_key line (Take p) s = s.2.key
 
-pub file-is_within : (limit : ℕ) (bytes : List ℕ) (f : Content) → IsFile limit bytes f → IsWithin limit f
-file-is_within limit bytes f k = record {
+pub file_is_within : (limit : ℕ) (bytes : List ℕ) (f : Content) → IsFile limit bytes f → IsWithin limit f
+file_is_within limit bytes f k = record {
   points = zip_all IsPointLine IsKey (λ line p s. s.key) k.points f.points k.point_lines;
-  edits = zip_all IsEditLine (λ e. IsKey (point_of e)) edit-key k.edits f.edits k.edit_lines;
+  edits = zip_all IsEditLine (λ e. IsKey (point_of e)) edit_key k.edits f.edits k.edit_lines;
   radii = zip_all IsRadiusLine (λ r. r < 2 ^ 30) (λ line r s. s.1) k.radii f.radii k.radius_lines;
   line_count = omega (arith, k.line_count, length_zip IsPointLine k.points f.points k.point_lines, length_zip IsEditLine k.edits f.edits k.edit_lines);
   radius_count = omega (arith, k.radius_count, length_zip IsRadiusLine k.radii f.radii k.radius_lines);
@@ -85,13 +85,13 @@ file-is_within limit bytes f k = record {
 
 -- ---- the text, list by list
 
-text_of-append : (a b : List (List ℕ)) → text_of (a ++ b) ≡ text_of a ++ text_of b
-text_of-append [] b = refl
-text_of-append (l ∷ a) b = ap (λ (t : List ℕ). l ++ 10 ∷ t) (text_of-append a b) ∙ sym (append_assoc l (10 ∷ text_of a) (text_of b))
+text_of_append : (a b : List (List ℕ)) → text_of (a ++ b) ≡ text_of a ++ text_of b
+text_of_append [] b = refl
+text_of_append (l ∷ a) b = ap (λ (t : List ℕ). l ++ 10 ∷ t) (text_of_append a b) ∙ sym (append_assoc l (10 ∷ text_of a) (text_of b))
 
 pushed : (a : List (List ℕ)) (word : List ℕ) (b : List (List ℕ)) → text_of a ++ text_of (word ∷ []) ++ text_of b ≡ text_of (a ++ word ∷ b)
 pushed a word b =
-    append_assoc (text_of a) (text_of (word ∷ [])) (text_of b) ∙ ap (λ (t : List ℕ). text_of a ++ t) (sym (text_of-append (word ∷ []) b)) ∙ sym (text_of-append a (word ∷ b))
+    append_assoc (text_of a) (text_of (word ∷ [])) (text_of b) ∙ ap (λ (t : List ℕ). text_of a ++ t) (sym (text_of_append (word ∷ []) b)) ∙ sym (text_of_append a (word ∷ b))
 
 -- what is put list by list is the whole text
 pub pieces : (f : Content) (a b c d e g h i : List ℕ) → a ≡ text_of (codes "mesh3 1" ∷ []) → b ≡ a ++ text_of (codes "points" ∷ []) → c ≡ b ++ text_of (map point_text f.points)
@@ -103,4 +103,4 @@ pieces f a b c d e g h i pa pb pc pd pe pg ph pi =
     let qc : c ≡ text_of in_points = pc ∙ ap (λ (t : List ℕ). t ++ text_of (map point_text f.points)) (pb ∙ ap (λ (t : List ℕ). t ++ text_of (codes "points" ∷ [])) pa) in
     let qe : e ≡ text_of in_edits = pe ∙ ap (λ (t : List ℕ). t ++ text_of (map edit_text f.edits)) (pd ∙ ap (λ (t : List ℕ). t ++ text_of (codes "edits" ∷ [])) qc) ∙ pushed in_points (codes "edits") (map edit_text f.edits) in
     let qh : h ≡ text_of in_radii = ph ∙ ap (λ (t : List ℕ). t ++ text_of (map decimal f.radii)) (pg ∙ ap (λ (t : List ℕ). t ++ text_of (codes "radii" ∷ [])) qe) ∙ pushed in_edits (codes "radii") (map decimal f.radii) in
-    pi ∙ ap (λ (t : List ℕ). t ++ text_of (codes "end" ∷ [])) qh ∙ sym (text_of-append in_radii (codes "end" ∷ []))
+    pi ∙ ap (λ (t : List ℕ). t ++ text_of (codes "end" ∷ [])) qh ∙ sym (text_of_append in_radii (codes "end" ∷ []))

@@ -5,23 +5,48 @@ use Rattle.point_order.specs.Sets.{is_among}
 use Rattle.edit_history.specs.declared.history.Edit.{Edit}
 use Rattle.edit_history.specs.declared.history.Edit.TheVariants.{Add, Take}
 use Rattle.edit_files.specs.Content.{Content}
+use Rattle.edit_files.specs.Keys.{key_of, greatest_coordinate}
 
--- the state that a draw makes of a state: below 2^31
+-- how many states the draws have: each is below 2^31
+abbrev pub state_count : ℕ
+state_count = 2147483648
+
+-- the state that a draw makes of a state: it is multiplied, and a number is added
+abbrev pub multiplier : ℕ
+multiplier = 1103515245
+
+abbrev pub increment : ℕ
+increment = 12345
+
 abbrev pub next_state : ℕ → ℕ
-next_state state = (state * 1103515245 + 12345) % 2147483648
+next_state state = (state * multiplier + increment) % state_count
 
 -- the state behind so many draws from a start
 abbrev pub state_after : ℕ → ℕ → ℕ
 state_after start zero = start
 state_after start (suc n) = next_state (state_after start n)
 
--- what draw n gives, the first being 1: 0 to 16383
+-- how many states give the same draw: so that draws are coordinates, 0 to 16383
+abbrev pub states_a_draw : ℕ
+states_a_draw = 131072
+
+-- the draw that a state gives
+abbrev pub draw_of : ℕ → ℕ
+draw_of state = state / states_a_draw
+
+-- what draw n gives, the first being 1
 abbrev pub draw : ℕ → ℕ → ℕ
-draw start n = state_after start n / 131072
+draw start n = draw_of (state_after start n)
+
+-- the point whose x, y and z are the three draws behind a state
+abbrev pub point_behind : ℕ → ℕ
+point_behind state =
+    key_of (draw_of (next_state state)) (draw_of (next_state (next_state state)))
+    (draw_of (next_state (next_state (next_state state))))
 
 -- the point whose x, y and z are the three draws behind so many
 abbrev pub drawn_point : ℕ → ℕ → ℕ
-drawn_point start n = draw start (n + 1) * 268435456 + draw start (n + 2) * 16384 + draw start (n + 3)
+drawn_point start n = key_of (draw start (n + 1)) (draw start (n + 2)) (draw start (n + 3))
 
 -- how many draws there were before edit line i, the first being 1: each line
 -- before it made three, but every fourth made none
@@ -34,7 +59,8 @@ drawn_by start i = drawn_point start (draws_before i)
 
 -- the points: (0,0,0), (16383,0,0), (0,16383,0) and (0,0,16383)
 abbrev pub corners : List ℕ
-corners = 0 ∷ 16383 * 268435456 ∷ 16383 * 16384 ∷ 16383 ∷ []
+corners =
+    key_of 0 0 0 ∷ key_of greatest_coordinate 0 0 ∷ key_of 0 greatest_coordinate 0 ∷ key_of 0 0 greatest_coordinate ∷ []
 
 -- the edit that goes back to a drawn point: it takes it, but where it is a corner it adds it again
 abbrev pub back_to : ℕ → Edit
@@ -45,11 +71,19 @@ back_to p = if is_among p corners then Add p else Take p
 abbrev pub edit_line : ℕ → ℕ → Edit
 edit_line start i = if i % 4 == 0 then back_to (drawn_by start (i - 2)) else Add (drawn_by start i)
 
+-- the radii, squared: those of 128, 512 and 2048
+abbrev pub drawn_radii : List ℕ
+drawn_radii = 16384 ∷ 262144 ∷ 4194304 ∷ []
+
+-- how many edits there are at most: with the four points as many lines as a file may have
+abbrev pub most_edits : ℕ
+most_edits = 262140
+
 -- the file of a count and a start
 abbrev pub generated : ℕ → ℕ → Content
 generated count start =
     record {
       points = corners;
       edits = map (edit_line start) (range_with_len 1 count);
-      radii = 16384 ∷ 262144 ∷ 4194304 ∷ [];
+      radii = drawn_radii;
     }

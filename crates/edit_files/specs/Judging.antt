@@ -46,6 +46,7 @@ use Rattle.edit_files.specs.Content.{Content, content}
 use Rattle.edit_files.specs.Lines.{lines_of}
 use Rattle.edit_files.specs.Numbers.{after_minus}
 use Rattle.edit_files.specs.Faults.{is_word}
+use Rattle.edit_files.specs.Keys.{coordinate_count, key_of}
 use Rattle.edit_files.specs.Grammar.{radius_limit}
 
 -- beyond every range
@@ -73,7 +74,9 @@ number bs = signed (starts_with_minus bs) (digits (after_minus bs))
 -- the point with these coordinates
 abbrev pub point_at : ℕ → ℕ → ℕ → Result ℕ Why
 point_at x y z =
-    if nat_lt x 16384 && nat_lt y 16384 && nat_lt z 16384 then Ok (x * 268435456 + y * 16384 + z) else Err Range
+    if nat_lt x coordinate_count && nat_lt y coordinate_count && nat_lt z coordinate_count
+    then Ok (key_of x y z)
+    else Err Range
 
 -- a point from its three numbers
 abbrev pub point_from : Option ℕ → Option ℕ → Option ℕ → Result ℕ Why

@@ -5,6 +5,7 @@ pub mod Numbers
 pub mod Forms
 pub mod Grammar
 pub mod Faults
+pub mod Keys
 pub mod Judging
 pub mod Writing
 pub mod Generator

@@ -1,13 +1,18 @@
 //! The file that is made of two numbers.
 
-ghost use Rattle.std.specs.Prelude.{◌≡◌, ◌<◌, ◌≤◌, ◌+◌, ◌*◌, ◌/◌, map, IfOk};
+ghost use Rattle.std.specs.Prelude.{◌≡◌, ◌<◌, ◌≤◌, map, IfOk};
 ghost use Rattle.std.specs.List.{range_with_len};
 ghost use Rattle.edit_files.specs.Content.{content};
+ghost use Rattle.edit_files.specs.Keys.{coordinate_count, key_of};
 ghost use Rattle.edit_files.specs.Generator.{
+  state_count,
   next_state,
+  draw_of,
+  point_behind,
   back_to as back_to_of,
   corners as corners_of,
   edit_line,
+  most_edits,
   generated,
 };
 
@@ -23,15 +28,15 @@ const RADII: [u64; 3] = [16_384, 262_144, 4_194_304];
 #[derive(Drop)]
 struct Draws {
     state: u64,
-    ghost small: { state < 2147483648 },
+    ghost small: { state < state_count },
 }
 
 impl Draws {
     // The next draw, 0 to 16383.
     fn draw(&mut self) -> u64
         ensures state { self.new.state ≡ next_state self.old.state }
-        ensures drawn { result ≡ next_state self.old.state / 131072 }
-        ensures small { result < 16384 }
+        ensures drawn { result ≡ draw_of (next_state self.old.state) }
+        ensures small { result < coordinate_count }
     {
         self.state = (self.state * 1_103_515_245 + 12_345) % 2_147_483_648;
         self.state / 131_072
@@ -40,9 +45,7 @@ impl Draws {
     // The point of the next three draws: x, then y, then z.
     fn point(&mut self) -> Point
         ensures state { self.new.state ≡ next_state (next_state (next_state self.old.state)) }
-        ensures point { result ≡ next_state self.old.state / 131072 * 268435456
-            + next_state (next_state self.old.state) / 131072 * 16384
-            + next_state (next_state (next_state self.old.state)) / 131072 }
+        ensures point { result ≡ point_behind self.old.state }
     {
         let x = self.draw();
         let y = self.draw();
@@ -53,10 +56,10 @@ impl Draws {
 
 // The point with these coordinates.
 fn point_at(x: u64, y: u64, z: u64) -> Point
-    requires x { x < 16384 }
-    requires y { y < 16384 }
-    requires z { z < 16384 }
-    ensures { result ≡ x * 268435456 + y * 16384 + z }
+    requires x { x < coordinate_count }
+    requires y { y < coordinate_count }
+    requires z { z < coordinate_count }
+    ensures { result ≡ key_of x y z }
 {
     match Point::new(x as i64, y as i64, z as i64) {
         Ok(point) => point,
@@ -89,7 +92,7 @@ fn back_to(point: Point) -> Edit
 
 // The edit lines: every fourth goes back to the point of the line before the last, and all others add a drawn point.
 fn edits(alloc: Global, count: u32, start: u32) -> Result<Vec<Edit>, AllocError>
-    requires { start < 2147483648 }
+    requires { start < state_count }
     ensures { IfOk result (λ edits. edits.items ≡ map (edit_line start) (range_with_len 1 count)) }
 {
     let mut draws = Draws {
@@ -117,8 +120,8 @@ fn edits(alloc: Global, count: u32, start: u32) -> Result<Vec<Edit>, AllocError>
 ///
 /// Where there is no memory for the file.
 pub fn generate(alloc: Global, count: u32, start: u32) -> Result<File, AllocError>
-    requires count { count ≤ 262140 }
-    requires start { start < 2147483648 }
+    requires count { count ≤ most_edits }
+    requires start { start < state_count }
     ensures { IfOk result (λ file. content file ≡ generated count start) }
 {
     Ok(File {

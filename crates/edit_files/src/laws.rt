@@ -5,7 +5,7 @@ ghost use Rattle.point_order.specs.Solid.{is_solid};
 ghost use Rattle.plain_laws.specs.Plain.{IsAnchored};
 ghost use Rattle.edit_files.specs.Content.{Content};
 ghost use Rattle.edit_files.specs.Grammar.{line_limit, IsFile};
-ghost use Rattle.edit_files.specs.Generator.{generated};
+ghost use Rattle.edit_files.specs.Generator.{generated, most_edits};
 ghost use Rattle.edit_files.specs.Faults.{IsFault};
 ghost use Rattle.edit_files.specs.Writing.{IsWithin, file_text};
 ghost use Rattle.edit_files.specs.declared.fault.Fault.{Fault};
@@ -54,5 +54,5 @@ pub fn generated_is_solid()
 
 /// With at most 262,140 edits it is within what a text may hold.
 pub fn generated_is_within()
-    ensures { (count start : ℕ) → count ≤ 262140 → IsWithin line_limit (generated count start) }
+    ensures { (count start : ℕ) → count ≤ most_edits → IsWithin line_limit (generated count start) }
 {}

@@ -1,10 +1,11 @@
 -- The history of one thread keeps the file.
-use Rattle.std.specs.Prelude.{◌≡◌, ℕ, suc, ◌+◌, ◌-◌, ◌<◌, ◌≤◌, Bool, true, false, cond, not, List, [], ◌∷◌, ◌++◌, ◌⊎◌, map, length, take, slice_index, Option, None, Some, IfSome, IsPermutation}
+use Rattle.std.specs.Prelude.{◌≡◌, ℕ, suc, ◌+◌, ◌-◌, ◌<◌, ◌≤◌, Bool, true, false, not, List, [], ◌∷◌, ◌++◌, map, length, take, slice_index, Option, None, Some, IfSome, IsPermutation}
 use Rattle.std.specs.List.{enumerate_from, filter}
 use Rattle.std.proofs.Common.{refl, sym, ◌∙◌, ap, subst, inl, inr, arith, get_or, length-append}
 use Rattle.std.proofs.lemmas.List.{take-map, take-append-le, length-map, take_all}
 use Rattle.std.proofs.lemmas.List.Sorted.{IsPermutation-filter_both}
-use Rattle.list_laws.proofs.Cited.{EachLater, among_from, among_true, at_in, in_filtered, later-append, later-filter, later-pairs, numbered_from}
+use Rattle.std.proofs.lemmas.Bool.{cases_order}
+use Rattle.list_laws.proofs.Cited.{EachLater, among_from, among_true, at_in, in_filtered, later_append, later_filter, later_pairs, not_from, numbered_from, passes}
 use Rattle.point_order.specs.Sets.{IsIn, IsAscending, is_among}
 use Rattle.edit_history.specs.declared.history.Edit.{Edit}
 use Rattle.edit_history.specs.declared.history.Edit.TheVariants.{Add}
@@ -22,18 +23,18 @@ tag_of line = line.0
 
 -- ---- entries and their lines
 
-entry-lines : (n : ℕ) (s : List ℕ) (lines : List (ℕ × Edit)) → map line_of (entries_from n s lines) ≡ lines
-entry-lines n s [] = refl
-entry-lines n s (line ∷ lines) = ap (λ (t : List (ℕ × Edit)). line ∷ t) (entry-lines (n + 1) (after s line.1) lines)
+pub entry_lines : (n : ℕ) (s : List ℕ) (lines : List (ℕ × Edit)) → map line_of (entries_from n s lines) ≡ lines
+entry_lines n s [] = refl
+entry_lines n s (line ∷ lines) = ap (λ (t : List (ℕ × Edit)). line ∷ t) (entry_lines (n + 1) (after s line.1) lines)
 
-entry-tags : (n : ℕ) (s : List ℕ) (lines : List (ℕ × Edit)) → map (λ (e : Entry). e.tag) (entries_from n s lines) ≡ map tag_of lines
-entry-tags n s [] = refl
-entry-tags n s (line ∷ lines) = ap (λ (t : List ℕ). line.0 ∷ t) (entry-tags (n + 1) (after s line.1) lines)
+entry_tags : (n : ℕ) (s : List ℕ) (lines : List (ℕ × Edit)) → map (λ (e : Entry). e.tag) (entries_from n s lines) ≡ map tag_of lines
+entry_tags n s [] = refl
+entry_tags n s (line ∷ lines) = ap (λ (t : List ℕ). line.0 ∷ t) (entry_tags (n + 1) (after s line.1) lines)
 
-entry-by : (n : ℕ) (s : List ℕ) (lines : List (ℕ × Edit)) (e : Entry) → IsIn e (entries_from n s lines) → e.by < 1
-entry-by n s [] e i = absurd i
-entry-by n s (line ∷ lines) e (inl q) = let f = ap (λ (e : Entry). e.by) q in omega arith
-entry-by n s (line ∷ lines) e (inr i) = entry-by (n + 1) (after s line.1) lines e i
+entry_by : (n : ℕ) (s : List ℕ) (lines : List (ℕ × Edit)) (e : Entry) → IsIn e (entries_from n s lines) → e.by < 1
+entry_by n s [] e i = absurd i
+entry_by n s (line ∷ lines) e (inl q) = let f = ap (λ (e : Entry). e.by) q in omega arith
+entry_by n s (line ∷ lines) e (inr i) = entry_by (n + 1) (after s line.1) lines e i
 
 -- ---- each line before each later one
 
@@ -41,9 +42,9 @@ entry-by n s (line ∷ lines) e (inr i) = entry-by (n + 1) (after s line.1) line
 abbrev pub InOrder : ℕ × Edit → ℕ × Edit → Type 0
 InOrder x y = point_of x.1 ≡ point_of y.1 → x.0 < y.0
 
-later-entries : (n : ℕ) (s : List ℕ) (lines : List (ℕ × Edit)) → EachLater InOrder lines → EachLater (λ (d e : Entry). point_of d.edit ≡ point_of e.edit → d.tag < e.tag) (entries_from n s lines)
-later-entries n s [] h = tt
-later-entries n s (line ∷ lines) h = (first (n + 1) (after s line.1) lines h.0, later-entries (n + 1) (after s line.1) lines h.1)
+later_entries : (n : ℕ) (s : List ℕ) (lines : List (ℕ × Edit)) → EachLater InOrder lines → EachLater (λ (d e : Entry). point_of d.edit ≡ point_of e.edit → d.tag < e.tag) (entries_from n s lines)
+later_entries n s [] h = tt
+later_entries n s (line ∷ lines) h = (first (n + 1) (after s line.1) lines h.0, later_entries (n + 1) (after s line.1) lines h.1)
   where
     first : (n : ℕ) (s : List ℕ) (ls : List (ℕ × Edit)) → ((y : ℕ × Edit) → IsIn y ls → InOrder line y) → (e : Entry) → IsIn e (entries_from n s ls) → point_of line.1 ≡ point_of e.edit → line.0 < e.tag
     first n s [] f e i q = absurd i
@@ -55,21 +56,21 @@ later-entries n s (line ∷ lines) h = (first (n + 1) (after s line.1) lines h.0
 
 -- ---- numbered lines
 
-numbered-later : (n : ℕ) (xs : List Edit) → EachLater InOrder (enumerate_from n xs)
-numbered-later n [] = tt
-numbered-later n (x ∷ xs) = (λ y i q. omega (arith, numbered_from (n + 1) xs y i), numbered-later (n + 1) xs)
+numbered_later : (n : ℕ) (xs : List Edit) → EachLater InOrder (enumerate_from n xs)
+numbered_later n [] = tt
+numbered_later n (x ∷ xs) = (λ y i q. omega (arith, numbered_from (n + 1) xs y i), numbered_later (n + 1) xs)
 
 -- the point of a line among the first, which add
-line-at : (n : ℕ) (points : List ℕ) (edits : List Edit) (line : ℕ × Edit) → IsIn line (enumerate_from n (map Add points ++ edits)) → line.0 < n + length points → point_of line.1 ≡ slice_index points (line.0 - n)
-line-at n [] edits line i h = absurd (omega (arith, numbered_from n edits line i))
-line-at n (p ∷ points) edits line (inl e) h =
+point_at_line : (n : ℕ) (points : List ℕ) (edits : List Edit) (line : ℕ × Edit) → IsIn line (enumerate_from n (map Add points ++ edits)) → line.0 < n + length points → point_of line.1 ≡ slice_index points (line.0 - n)
+point_at_line n [] edits line i h = absurd (omega (arith, numbered_from n edits line i))
+point_at_line n (p ∷ points) edits line (inl e) h =
     let f : n ≡ line.0 = ap (λ (l : ℕ × Edit). l.0) e in
     let z : line.0 - n ≡ 0 = omega arith in
     sym (ap (λ (l : ℕ × Edit). point_of l.1) e) ∙ ap (slice_index (p ∷ points)) (sym z)
-line-at n (p ∷ points) edits line (inr i) h =
+point_at_line n (p ∷ points) edits line (inr i) h =
     let l : n + 1 ≤ line.0 = numbered_from (n + 1) (map Add points ++ edits) line i in
     let z : suc (line.0 - (n + 1)) ≡ line.0 - n = omega arith in
-    line-at (n + 1) points edits line i (omega arith) ∙ ap (slice_index (p ∷ points)) z
+    point_at_line (n + 1) points edits line i (omega arith) ∙ ap (slice_index (p ∷ points)) z
 
 -- ---- the file
 
@@ -81,21 +82,21 @@ module _ (points : List ℕ) (edits : List Edit) (four : Four) (w : AreIndepende
   opens line = is_opening four line.0
 
   -- a place of the four is the first of its point, and among those of the point lines
-  first-place : (p : ℕ) → IsIn p (places four) → IsFirstPlace points p × (p < length points)
-  first-place p (inl e) = (subst (IsFirstPlace points) e w.first_places.0, omega (arith, w.ascending.0, w.ascending.1, w.ascending.2, w.within, e))
-  first-place p (inr (inl e)) = (subst (IsFirstPlace points) e w.first_places.1, omega (arith, w.ascending.1, w.ascending.2, w.within, e))
-  first-place p (inr (inr (inl e))) = (subst (IsFirstPlace points) e w.first_places.2, omega (arith, w.ascending.2, w.within, e))
-  first-place p (inr (inr (inr (inl e)))) = (subst (IsFirstPlace points) e w.first_places.3, omega (arith, w.within, e))
-  first-place p (inr (inr (inr (inr i)))) = absurd i
+  first_place : (p : ℕ) → IsIn p (places four) → IsFirstPlace points p × (p < length points)
+  first_place p (inl e) = (subst (IsFirstPlace points) e w.first_places.0, omega (arith, w.ascending.0, w.ascending.1, w.ascending.2, w.within, e))
+  first_place p (inr (inl e)) = (subst (IsFirstPlace points) e w.first_places.1, omega (arith, w.ascending.1, w.ascending.2, w.within, e))
+  first_place p (inr (inr (inl e))) = (subst (IsFirstPlace points) e w.first_places.2, omega (arith, w.ascending.2, w.within, e))
+  first_place p (inr (inr (inr (inl e)))) = (subst (IsFirstPlace points) e w.first_places.3, omega (arith, w.within, e))
+  first_place p (inr (inr (inr (inr i)))) = absurd i
 
-  places-ascending : IsAscending (places four)
-  places-ascending = (w.ascending.0, (w.ascending.1, (w.ascending.2, (tt, tt))))
+  places_ascending : IsAscending (places four)
+  places_ascending = (w.ascending.0, (w.ascending.1, (w.ascending.2, (tt, tt))))
 
-  in-range : (p : ℕ) → IsIn p (places four) → (0 ≤ p) × (p < 0 + length (map Add points ++ edits))
-  in-range p i = let f = first-place p i in (omega arith, omega (arith, f.1, length-append (map Add points) edits, length-map points Add))
+  in_range : (p : ℕ) → IsIn p (places four) → (0 ≤ p) × (p < 0 + length (map Add points ++ edits))
+  in_range p i = let f = first_place p i in (omega arith, omega (arith, f.1, length-append (map Add points) edits, length-map points Add))
 
-  opening-tags : map tag_of (filter opens all) ≡ places four
-  opening-tags = ap (map tag_of) (picked (places four) 0 (map Add points ++ edits) (Add 0) places-ascending in-range) ∙ tags (places four)
+  opening_tags : map tag_of (filter opens all) ≡ places four
+  opening_tags = ap (map tag_of) (picked (places four) 0 (map Add points ++ edits) (Add 0) places_ascending in_range) ∙ tags (places four)
     where
       tags : (ps : List ℕ) → map tag_of (map (line_at 0 (map Add points ++ edits) (Add 0)) ps) ≡ ps
       tags [] = refl
@@ -105,30 +106,17 @@ module _ (points : List ℕ) (edits : List Edit) (four : Four) (w : AreIndepende
   crossing : (x y : ℕ × Edit) → IsIn x (filter opens all) → IsIn y (filter (λ line. not (opens line)) all) → InOrder x y
   crossing x y i j q = sides (x.0) (y.0) refl refl
     where
-      passes : {X : Type 0} (t : X → Bool) (xs : List X) (z : X) → IsIn z (filter t xs) → t z ≡ true
-      passes t [] z i = absurd i
-      passes {X} t (v ∷ xs) z i = by (t v) refl i (passes t xs z)
-        where
-          by : (b : Bool) → t v ≡ b → IsIn z (cond b (v ∷ filter t xs) (filter t xs)) → (IsIn z (filter t xs) → t z ≡ true) → t z ≡ true
-          by true e (inl f) r = sym (ap t f) ∙ e
-          by true e (inr k) r = r k
-          by false e k r = r k
-
       chosen : IsIn x.0 (places four)
       chosen = among_from x.0 (places four) (passes opens all x i)
 
       other : is_among y.0 (places four) ≡ false
-      other = flip (is_among y.0 (places four)) (passes (λ line. not (opens line)) all y j)
-        where
-          flip : (b : Bool) → not b ≡ true → b ≡ false
-          flip true e = cc
-          flip false e = refl
+      other = not_from (is_among y.0 (places four)) (passes (λ line. not (opens line)) all y j)
 
       earlier : y.0 < x.0 → ⊥
       earlier l =
-          let f = first-place x.0 chosen in
-          let a = line-at 0 points edits x (in_filtered opens all x i) (omega (arith, f.1)) in
-          let b = line-at 0 points edits y (in_filtered (λ line. not (opens line)) all y j) (omega (arith, f.1, l)) in
+          let f = first_place x.0 chosen in
+          let a = point_at_line 0 points edits x (in_filtered opens all x i) (omega (arith, f.1)) in
+          let b = point_at_line 0 points edits y (in_filtered (λ line. not (opens line)) all y j) (omega (arith, f.1, l)) in
           let za : x.0 - 0 ≡ x.0 = omega arith in
           let zb : y.0 - 0 ≡ y.0 = omega arith in
           f.0 y.0 l (sym (b ∙ ap (slice_index points) zb) ∙ sym q ∙ a ∙ ap (slice_index points) za)
@@ -137,31 +125,28 @@ module _ (points : List ℕ) (edits : List Edit) (four : Four) (w : AreIndepende
       same e = let g : is_among y.0 (places four) ≡ true = among_true y.0 (places four) (subst (λ (m : ℕ). IsIn m (places four)) e chosen) in let h = other in cc
 
       sides : (m n : ℕ) → x.0 ≡ m → y.0 ≡ n → x.0 < y.0
-      sides m n e f = elim (compared x.0 y.0) [ inl l ↦ l | inr o ↦ elim o [ inl g ↦ absurd (same g) | inr g ↦ absurd (earlier g) ] ]
-        where
-          compared : (m n : ℕ) → (m < n) ⊎ (m ≡ n) ⊎ (n < m)
-          compared m n = grind arith
+      sides m n e f = elim (cases_order x.0 y.0) [ inl g ↦ absurd (same g) | inr o ↦ elim o [ inl l ↦ l | inr g ↦ absurd (earlier g) ] ]
 
   abbrev history : List Entry
   history = entries_from 0 [] (filter opens all ++ filter (λ line. not (opens line)) all)
 
-  first-four : map (λ (e : Entry). e.tag) (take 4 history) ≡ places four
-  first-four =
-      let tags = entry-tags 0 [] (filter opens all ++ filter (λ line. not (opens line)) all) in
-      let count : length (filter opens all) ≡ 4 = sym (length-map (filter opens all) tag_of) ∙ ap length opening-tags in
+  first_four : map (λ (e : Entry). e.tag) (take 4 history) ≡ places four
+  first_four =
+      let tags = entry_tags 0 [] (filter opens all ++ filter (λ line. not (opens line)) all) in
+      let count : length (filter opens all) ≡ 4 = sym (length-map (filter opens all) tag_of) ∙ ap length opening_tags in
       sym (take-map (λ (e : Entry). e.tag) 4 history)
       ∙ ap (take 4) tags
       ∙ take-map tag_of 4 (filter opens all ++ filter (λ line. not (opens line)) all)
       ∙ ap (map tag_of) (take-append-le 4 (filter opens all) (filter (λ line. not (opens line)) all) (omega arith) ∙ take_all 4 (filter opens all) (omega arith))
-      ∙ opening-tags
+      ∙ opening_tags
 
   pub keeps : opening_four points ≡ Some four → Keeps points edits 1 history
   keeps found =
       record {
-        opening = subst (λ (o : Option Four). IfSome o (λ f. map (λ (e : Entry). e.tag) (take 4 history) ≡ places f)) (sym found) first-four;
-        lines = subst (IsPermutation all) (sym (entry-lines 0 [] (filter opens all ++ filter (λ line. not (opens line)) all))) (IsPermutation-filter_both opens (λ line. not (opens line)) (λ x. refl) all);
-        order = later-pairs (λ (d e : Entry). point_of d.edit ≡ point_of e.edit → d.tag < e.tag) history (later-entries 0 [] (filter opens all ++ filter (λ line. not (opens line)) all) (later-append InOrder (filter opens all) (filter (λ line. not (opens line)) all) (later-filter InOrder opens all (numbered-later 0 (map Add points ++ edits))) (later-filter InOrder (λ line. not (opens line)) all (numbered-later 0 (map Add points ++ edits))) crossing));
-        workers = λ k d h. entry-by 0 [] (filter opens all ++ filter (λ line. not (opens line)) all) (get_or history k d) (at_in history k d h);
+        opening = subst (λ (o : Option Four). IfSome o (λ f. map (λ (e : Entry). e.tag) (take 4 history) ≡ places f)) (sym found) first_four;
+        lines = subst (IsPermutation all) (sym (entry_lines 0 [] (filter opens all ++ filter (λ line. not (opens line)) all))) (IsPermutation-filter_both opens (λ line. not (opens line)) (λ x. refl) all);
+        order = later_pairs (λ (d e : Entry). point_of d.edit ≡ point_of e.edit → d.tag < e.tag) history (later_entries 0 [] (filter opens all ++ filter (λ line. not (opens line)) all) (later_append InOrder (filter opens all) (filter (λ line. not (opens line)) all) (later_filter InOrder opens all (numbered_later 0 (map Add points ++ edits))) (later_filter InOrder (λ line. not (opens line)) all (numbered_later 0 (map Add points ++ edits))) crossing));
+        workers = λ k d h. entry_by 0 [] (filter opens all ++ filter (λ line. not (opens line)) all) (get_or history k d) (at_in history k d h);
       }
 
 pub keeps_law : KeepsLaw

@@ -12,17 +12,17 @@ abbrev pub set_after : List ℕ → List (ℕ × Edit) → List ℕ
 set_after s [] = s
 set_after s (line ∷ lines) = set_after (after s line.1) lines
 
-pub length-entries : (n : ℕ) (s : List ℕ) (lines : List (ℕ × Edit)) → length (entries_from n s lines) ≡ length lines
-length-entries n s [] = refl
-length-entries n s (x ∷ lines) = ap suc (length-entries (n + 1) (after s x.1) lines)
+pub length_entries : (n : ℕ) (s : List ℕ) (lines : List (ℕ × Edit)) → length (entries_from n s lines) ≡ length lines
+length_entries n s [] = refl
+length_entries n s (x ∷ lines) = ap suc (length_entries (n + 1) (after s x.1) lines)
 
-pub replay-is : (n : ℕ) (s : List ℕ) (lines : List (ℕ × Edit)) → replay_from s (entries_from n s lines) ≡ set_after s lines
-replay-is n s [] = refl
-replay-is n s (x ∷ lines) = replay-is (n + 1) (after s x.1) lines
+pub replay_is : (n : ℕ) (s : List ℕ) (lines : List (ℕ × Edit)) → replay_from s (entries_from n s lines) ≡ set_after s lines
+replay_is n s [] = refl
+replay_is n s (x ∷ lines) = replay_is (n + 1) (after s x.1) lines
 
 -- ---- the lines in order, by the places that were found
 
 -- what follows for the value in an `Ok`
-pub ok-then : {T E : Type 0} (P Q : T → Type 0) (r : Result T E) → ((x : T) → P x → Q x) → IfOk r P → IfOk r Q
-ok-then P Q (Ok x) f h = f x h
-ok-then P Q (Err e) f h = tt
+pub ok_then : {T E : Type 0} (P Q : T → Type 0) (r : Result T E) → ((x : T) → P x → Q x) → IfOk r P → IfOk r Q
+ok_then P Q (Ok x) f h = f x h
+ok_then P Q (Err e) f h = tt

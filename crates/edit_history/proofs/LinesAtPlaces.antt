@@ -3,33 +3,29 @@ use Rattle.std.specs.Prelude.{◌≡◌, ℕ, suc, ◌+◌, ◌-◌, ◌<◌, �
 use Rattle.std.specs.List.{enumerate_from, filter}
 use Rattle.std.proofs.Common.{refl, sym, ◌∙◌, ap, inl, inr, arith}
 use Rattle.std.proofs.lemmas.Bool.Decides.{nat_tests}
-use Rattle.list_laws.proofs.Cited.{among_from, among_true, below_each, numbered_from}
+use Rattle.list_laws.proofs.Cited.{among_from, among_true, below_each, numbered_from, same_filter}
 use Rattle.point_order.specs.Sets.{IsIn, IsAscending, is_among}
 use Rattle.edit_history.specs.declared.history.Edit.{Edit}
 
 -- ---- lists and tests
 
-same-filter : {X : Type 0} (t u : X → Bool) (xs : List X) → ((y : X) → IsIn y xs → t y ≡ u y) → filter t xs ≡ filter u xs
-same-filter t u [] f = refl
-same-filter {X} t u (x ∷ xs) f = rw (f x (inl refl), same-filter t u xs (λ y i. f y (inr i))) refl
+none_pass : {X : Type 0} (t : X → Bool) (xs : List X) → ((y : X) → IsIn y xs → t y ≡ false) → filter t xs ≡ []
+none_pass t [] f = refl
+none_pass t (x ∷ xs) f = rw (f x (inl refl)) (none_pass t xs (λ y i. f y (inr i)))
 
-none-pass : {X : Type 0} (t : X → Bool) (xs : List X) → ((y : X) → IsIn y xs → t y ≡ false) → filter t xs ≡ []
-none-pass t [] f = refl
-none-pass t (x ∷ xs) f = rw (f x (inl refl)) (none-pass t xs (λ y i. f y (inr i)))
+pub same_map : {X : Type 0} (f g : ℕ → X) (ps : List ℕ) → ((p : ℕ) → IsIn p ps → f p ≡ g p) → map f ps ≡ map g ps
+same_map f g [] h = refl
+same_map {X} f g (p ∷ ps) h = ap (λ (x : X). x ∷ map f ps) (h p (inl refl)) ∙ ap (λ (t : List X). g p ∷ t) (same_map f g ps (λ q i. h q (inr i)))
 
-pub same-map : {X : Type 0} (f g : ℕ → X) (ps : List ℕ) → ((p : ℕ) → IsIn p ps → f p ≡ g p) → map f ps ≡ map g ps
-same-map f g [] h = refl
-same-map {X} f g (p ∷ ps) h = ap (λ (x : X). x ∷ map f ps) (h p (inl refl)) ∙ ap (λ (t : List X). g p ∷ t) (same-map f g ps (λ q i. h q (inr i)))
-
-not-among : (p n : ℕ) (ps : List ℕ) → ((q : ℕ) → IsIn q (p ∷ ps) → n < q) → is_among n (p ∷ ps) ≡ false
-not-among p n ps f = by (is_among n (p ∷ ps)) refl
+not_among : (p n : ℕ) (ps : List ℕ) → ((q : ℕ) → IsIn q (p ∷ ps) → n < q) → is_among n (p ∷ ps) ≡ false
+not_among p n ps f = by (is_among n (p ∷ ps)) refl
   where
     by : (b : Bool) → is_among n (p ∷ ps) ≡ b → b ≡ false
     by true e = absurd (let l = f n (among_from n (p ∷ ps) e) in omega (arith, l))
     by false e = refl
 
-among-later : (p n : ℕ) (ps : List ℕ) → p < n → is_among n (p ∷ ps) ≡ is_among n ps
-among-later p n ps h = let e : (p == n) ≡ false = grind (arith, nat_tests) in rw e refl
+among_later : (p n : ℕ) (ps : List ℕ) → p < n → is_among n (p ∷ ps) ≡ is_among n ps
+among_later p n ps h = let e : (p == n) ≡ false = grind (arith, nat_tests) in rw e refl
 
 -- ---- the lines at ascending places
 
@@ -38,7 +34,7 @@ abbrev pub line_at : ℕ → List Edit → Edit → ℕ → ℕ × Edit
 line_at n xs d p = (p, slice_index_or xs (p - n) d)
 
 pub picked : (ps : List ℕ) (n : ℕ) (xs : List Edit) (d : Edit) → IsAscending ps → ((p : ℕ) → IsIn p ps → (n ≤ p) × (p < n + length xs)) → filter (λ line. is_among line.0 ps) (enumerate_from n xs) ≡ map (line_at n xs d) ps
-picked [] n xs d a f = none-pass (λ line. is_among line.0 []) (enumerate_from n xs) (λ y i. refl)
+picked [] n xs d a f = none_pass (λ line. is_among line.0 []) (enumerate_from n xs) (λ y i. refl)
 picked (p ∷ ps) n [] d a f = let b = f p (inl refl) in absurd (omega (arith, b.0, b.1))
 picked (p ∷ ps) n (x ∷ xs) d a f =
     elim (side n p (f p (inl refl)).0) [
@@ -60,10 +56,10 @@ picked (p ∷ ps) n (x ∷ xs) d a f =
     here : n ≡ p → filter (λ line. is_among line.0 ps) (enumerate_from (n + 1) xs) ≡ map (line_at (n + 1) xs d) ps → filter (λ line. is_among line.0 (p ∷ ps)) (enumerate_from n (x ∷ xs)) ≡ map (line_at n (x ∷ xs) d) (p ∷ ps)
     here e r =
         let g : is_among n (p ∷ ps) ≡ true = among_true n (p ∷ ps) (inl (sym e)) in
-        let same = same-filter (λ line. is_among line.0 (p ∷ ps)) (λ line. is_among line.0 ps) (enumerate_from (n + 1) xs) (λ y i. let l = numbered_from (n + 1) xs y i in among-later p y.0 ps (omega (arith, l, e))) in
+        let same = same_filter (λ line. is_among line.0 (p ∷ ps)) (λ line. is_among line.0 ps) (enumerate_from (n + 1) xs) (λ y i. let l = numbered_from (n + 1) xs y i in among_later p y.0 ps (omega (arith, l, e))) in
         let z : p - n ≡ 0 = omega (arith, e) in
         let first : (n, x) ≡ line_at n (x ∷ xs) d p = ap (λ (m : ℕ). (m, x)) e ∙ ap (λ (k : ℕ). (p, slice_index_or (x ∷ xs) k d)) (sym z) in
-        rw g (ap (λ (t : List (ℕ × Edit)). (n, x) ∷ t) (same ∙ r ∙ same-map (line_at (n + 1) xs d) (line_at n (x ∷ xs) d) ps (λ q i. on q (let b : p < q = below_each p ps a.0 a.1 q i in omega (arith, b, e)))) ∙ ap (λ (y : ℕ × Edit). y ∷ map (line_at n (x ∷ xs) d) ps) first)
+        rw g (ap (λ (t : List (ℕ × Edit)). (n, x) ∷ t) (same ∙ r ∙ same_map (line_at (n + 1) xs d) (line_at n (x ∷ xs) d) ps (λ q i. on q (let b : p < q = below_each p ps a.0 a.1 q i in omega (arith, b, e)))) ∙ ap (λ (y : ℕ × Edit). y ∷ map (line_at n (x ∷ xs) d) ps) first)
 
     there : n < p → filter (λ line. is_among line.0 (p ∷ ps)) (enumerate_from (n + 1) xs) ≡ map (line_at (n + 1) xs d) (p ∷ ps) → filter (λ line. is_among line.0 (p ∷ ps)) (enumerate_from n (x ∷ xs)) ≡ map (line_at n (x ∷ xs) d) (p ∷ ps)
-    there l r = rw (not-among p n ps (λ q i. let b = above l q i in omega (arith, b))) (r ∙ same-map (line_at (n + 1) xs d) (line_at n (x ∷ xs) d) (p ∷ ps) (λ q i. on q (above l q i)))
+    there l r = rw (not_among p n ps (λ q i. let b = above l q i in omega (arith, b))) (r ∙ same_map (line_at (n + 1) xs d) (line_at n (x ∷ xs) d) (p ∷ ps) (λ q i. on q (above l q i)))

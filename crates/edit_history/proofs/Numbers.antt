@@ -14,8 +14,8 @@ use Rattle.edit_history.specs.Merging.{numbers, places_of, AreNumbered}
 -- ---- ascending lists and lists that do not repeat
 
 -- numbers that do not fall and are 0, 1, 2 and so on in some order are so in this order
-in-order : (s : List ℕ) (n : ℕ) → IsNonDecreasing s → IsPermutation s (range_with_len 0 n) → s ≡ range_with_len 0 n
-in-order s n h p =
+in_order : (s : List ℕ) (n : ℕ) → IsNonDecreasing s → IsPermutation s (range_with_len 0 n) → s ≡ range_with_len 0 n
+in_order s n h p =
     let q = IsPermutation-sym s (range_with_len 0 n) p in
     same_members s (range_with_len 0 n)
     (rising s h (IsDistinct-IsPermutation nat_eq flips (range_with_len 0 n) s q (distinct_by_test (range_with_len 0 n) (range_ascending 0 n))))
@@ -28,11 +28,11 @@ in-order s n h p =
 
 -- ---- sorted entries
 
-pub merged-order : (entries merged : List Entry) → AreNumbered entries → IsPermutation entries merged → IsNonDecreasingBy (λ e. e.number) merged → numbers merged ≡ places_of merged
-merged-order entries merged a p h =
+pub merged_order : (entries merged : List Entry) → AreNumbered entries → IsPermutation entries merged → IsNonDecreasingBy (λ e. e.number) merged → numbers merged ≡ places_of merged
+merged_order entries merged a p h =
     let l : length merged ≡ length entries = length_permutation entries merged p in
     let q : IsPermutation (numbers merged) (range_with_len 0 (length entries)) = IsPermutation-trans (numbers merged) (numbers entries) (range_with_len 0 (length entries)) (IsPermutation-sym (numbers entries) (numbers merged) (IsPermutation-map (λ e. e.number) entries merged p)) a in
-    in-order (numbers merged) (length entries) (by_number merged h) q ∙ ap (range_with_len 0) (sym l)
+    in_order (numbers merged) (length entries) (by_number merged h) q ∙ ap (range_with_len 0) (sym l)
   where
     by_number : (es : List Entry) → IsNonDecreasingBy (λ e. e.number) es → IsNonDecreasing (numbers es)
     by_number [] h i j d l m = absurd (omega arith)

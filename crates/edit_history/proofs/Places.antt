@@ -24,9 +24,9 @@ pub record IsFound (test : ℕ → Bool) (n : ℕ) (s : List ℕ) (i : ℕ) : Ty
   pub passes : test (slice_index s k) ≡ true
   pub before : (m : ℕ) → m < k → test (slice_index s m) ≡ false
 
-pub position-is : (test : ℕ → Bool) (n : ℕ) (s : List ℕ) → MatchOption (position_from test n s) (IsNowhere test 0 s) (IsFound test n s)
-position-is test n [] = λ m l h. absurd (omega arith)
-position-is test n (x ∷ s) = by (test x) refl (position_from test (n + 1) s) (position-is test (n + 1) s)
+pub position_is : (test : ℕ → Bool) (n : ℕ) (s : List ℕ) → MatchOption (position_from test n s) (IsNowhere test 0 s) (IsFound test n s)
+position_is test n [] = λ m l h. absurd (omega arith)
+position_is test n (x ∷ s) = by (test x) refl (position_from test (n + 1) s) (position_is test (n + 1) s)
   where
     later : IsNowhere test 0 s → test x ≡ false → (m : ℕ) → 0 ≤ m → m < length (x ∷ s) → test (slice_index (x ∷ s) m) ≡ false
     later f e zero l h = e
@@ -42,8 +42,8 @@ position-is test n (x ∷ s) = by (test x) refl (position_from test (n + 1) s) (
     by false e (Some i) h = record { k = suc h.k; place = omega (arith, h.place); within = omega (arith, h.within); passes = h.passes; before = front h.k h.before e }
 
 -- where the search is over the elements from place n on
-pub next-is : (test : ℕ → Bool) (n : ℕ) (s : List ℕ) → MatchOption (position_from test n (drop n s)) (IsNowhere test n s) (IsFirst test n s)
-next-is test n s = by (position_from test n (drop n s)) (position-is test n (drop n s))
+pub next_is : (test : ℕ → Bool) (n : ℕ) (s : List ℕ) → MatchOption (position_from test n (drop n s)) (IsNowhere test n s) (IsFirst test n s)
+next_is test n s = by (position_from test n (drop n s)) (position_is test n (drop n s))
   where
     moved : (m : ℕ) → slice_index (drop n s) m ≡ slice_index s (n + m)
     moved m = get_or-drop n s m 0
@@ -62,8 +62,8 @@ next-is test n s = by (position_from test n (drop n s)) (position-is test n (dro
         }
 
 -- a search moved to another first place
-pub position-shift : (test : ℕ → Bool) (n : ℕ) (s : List ℕ) → position_from test n s ≡ option_map (λ k. n + k) (position_from test 0 s)
-position-shift test n s =
+pub position_shift : (test : ℕ → Bool) (n : ℕ) (s : List ℕ) → position_from test n s ≡ option_map (λ k. n + k) (position_from test 0 s)
+position_shift test n s =
     let e : n + 0 ≡ n = omega arith in
     subst (λ (k : ℕ). position_from test k s ≡ option_map (λ k. n + k) (position_from test 0 s)) e (from n 0 s)
   where
@@ -76,19 +76,19 @@ position-shift test n s =
         by false h = let e : n + k + 1 ≡ n + (k + 1) = omega arith in rw e h
 
 -- an element that passes the test is one of those that do
-pub in-filter : (test : ℕ → Bool) (s : List ℕ) (m : ℕ) → m < length s → test (slice_index s m) ≡ true → IsIn (slice_index s m) (filter test s)
-in-filter test [] m h e = absurd (omega arith)
-in-filter test (x ∷ s) zero h e = rw e (inl refl)
-in-filter test (x ∷ s) (suc m) h e = by (test x) (in-filter test s m (omega arith) e)
+pub in_filter : (test : ℕ → Bool) (s : List ℕ) (m : ℕ) → m < length s → test (slice_index s m) ≡ true → IsIn (slice_index s m) (filter test s)
+in_filter test [] m h e = absurd (omega arith)
+in_filter test (x ∷ s) zero h e = rw e (inl refl)
+in_filter test (x ∷ s) (suc m) h e = by (test x) (in_filter test s m (omega arith) e)
   where
     by : (b : Bool) → IsIn (slice_index s m) (filter test s) → IsIn (slice_index s m) (cond b (x ∷ filter test s) (filter test s))
     by true i = inr i
     by false i = i
 
 -- and each of those stands somewhere in the list
-pub filter-in : (test : ℕ → Bool) (s : List ℕ) (q : ℕ) → IsIn q (filter test s) → (m : ℕ) × (m < length s) × (slice_index s m ≡ q) × (test q ≡ true)
-filter-in test [] q i = absurd i
-filter-in test (x ∷ s) q i = by (test x) refl i (filter-in test s q)
+pub filter_in : (test : ℕ → Bool) (s : List ℕ) (q : ℕ) → IsIn q (filter test s) → (m : ℕ) × (m < length s) × (slice_index s m ≡ q) × (test q ≡ true)
+filter_in test [] q i = absurd i
+filter_in test (x ∷ s) q i = by (test x) refl i (filter_in test s q)
   where
     by : (b : Bool) → test x ≡ b → IsIn q (cond b (x ∷ filter test s) (filter test s)) → (IsIn q (filter test s) → (m : ℕ) × (m < length s) × (slice_index s m ≡ q) × (test q ≡ true)) → (m : ℕ) × (m < length (x ∷ s)) × (slice_index (x ∷ s) m ≡ q) × (test q ≡ true)
     by true e (inl f) r = (0, omega arith, f, sym (ap test f) ∙ e)

@@ -16,9 +16,9 @@ use Rattle.edit_history.specs.Histories.{entries_from, IsLegalFrom, IsLegal}
 use Rattle.edit_history.specs.Opening.{Four, opening_four}
 use Rattle.edit_history.specs.OneThread.{places, tagged_lines, lines_of_one_thread, one_thread, line_of, Keeps}
 use Rattle.edit_history.specs.Laws.{AreIndependent}
-use Rattle.edit_history.proofs.Cited.{four_law, keeps_law, legal_law, line_at, picked, set_after}
+use Rattle.edit_history.proofs.Cited.{entry_lines, four_law, keeps_law, legal_law, line_at, picked, set_after}
 use Rattle.std.specs.Prelude.{◌*◌}
-use Rattle.list_laws.proofs.Cited.{EachLater, all_of_each, each_of_all, from_append, in_permutation, later-across, later-append, later-left, later-map, later-pairs, later-right, later-unmap, mapped_true, none_pass, pairs-later}
+use Rattle.list_laws.proofs.Cited.{EachLater, all_of_each, each_of_all, from_append, in_permutation, later_across, later_append, later_left, later_map, later_pairs, later_right, later_unmap, mapped_true, none_pass, pairs_later, same_filter, same_true}
 use Rattle.point_order.specs.Coordinates.{x_of, y_of, z_of}
 use Rattle.point_order.specs.Orientation.{x_from, y_from, z_from, minor, triple, orientation, normal_x, normal_y, normal_z}
 use Rattle.plain_laws.specs.Plain.{lines_of, IsAnchored, SomeFileIsAnchored}
@@ -26,28 +26,24 @@ use Rattle.plain_laws.specs.Running.{Pair, dealt_to, dealt, opening_entries, IsR
 
 -- ---- entries of lines
 
-entry-lines : (n : ℕ) (s : List ℕ) (lines : List Pair) → map line_of (entries_from n s lines) ≡ lines
-entry-lines n s [] = refl
-entry-lines n s (line ∷ lines) = ap (λ (t : List Pair). line ∷ t) (entry-lines (n + 1) (after s line.1) lines)
-
-entry-by : (n : ℕ) (s : List ℕ) (lines : List Pair) (e : Entry) → IsIn e (entries_from n s lines) → e.by ≡ 0
-entry-by n s [] e i = absurd i
-entry-by n s (line ∷ lines) e (inl q) = sym (ap (λ (e : Entry). e.by) q)
-entry-by n s (line ∷ lines) e (inr i) = entry-by (n + 1) (after s line.1) lines e i
+entry_by : (n : ℕ) (s : List ℕ) (lines : List Pair) (e : Entry) → IsIn e (entries_from n s lines) → e.by ≡ 0
+entry_by n s [] e i = absurd i
+entry_by n s (line ∷ lines) e (inl q) = sym (ap (λ (e : Entry). e.by) q)
+entry_by n s (line ∷ lines) e (inr i) = entry_by (n + 1) (after s line.1) lines e i
 
 -- legal entries by 0 are those that one thread makes of their lines
-legal-is : (n : ℕ) (s : List ℕ) (h : List Entry) → IsLegalFrom n s h → ((e : Entry) → IsIn e h → e.by ≡ 0) → h ≡ entries_from n s (map line_of h)
-legal-is n s [] l b = refl
-legal-is n s (e ∷ h) l b =
+legal_is : (n : ℕ) (s : List ℕ) (h : List Entry) → IsLegalFrom n s h → ((e : Entry) → IsIn e h → e.by ≡ 0) → h ≡ entries_from n s (map line_of h)
+legal_is n s [] l b = refl
+legal_is n s (e ∷ h) l b =
     let number = l.0 in
     let reply = l.1 in
     let by_is = b e (inl refl) in
     let first : e ≡ record { number = n; by = 0; tag = e.tag; edit = e.edit; reply = reply_to s e.edit } = λ i. record { number = number i; by = by_is i; tag = e.tag; edit = e.edit; reply = reply i } in
-    ap (λ (x : Entry). x ∷ h) first ∙ ap (λ (t : List Entry). record { number = n; by = 0; tag = e.tag; edit = e.edit; reply = reply_to s e.edit } ∷ t) (legal-is (n + 1) (after s e.edit) h l.2 (λ d i. b d (inr i)))
+    ap (λ (x : Entry). x ∷ h) first ∙ ap (λ (t : List Entry). record { number = n; by = 0; tag = e.tag; edit = e.edit; reply = reply_to s e.edit } ∷ t) (legal_is (n + 1) (after s e.edit) h l.2 (λ d i. b d (inr i)))
 
-tags-of : (h : List Entry) → map (λ (e : Entry). e.tag) h ≡ map (λ (l : Pair). l.0) (map line_of h)
-tags-of [] = refl
-tags-of (e ∷ h) = ap (λ (t : List ℕ). e.tag ∷ t) (tags-of h)
+tags_of : (h : List Entry) → map (λ (e : Entry). e.tag) h ≡ map (λ (l : Pair). l.0) (map line_of h)
+tags_of [] = refl
+tags_of (e ∷ h) = ap (λ (t : List ℕ). e.tag ∷ t) (tags_of h)
 
 -- ---- parts of a list by tests
 
@@ -64,9 +60,10 @@ parted {X} p q r f g (x ∷ l) = by (p x) (q x) (r x) (f x) (g x) (parted p q r 
         (IsPermutation-sym (filter p l ++ x ∷ filter q l) (x ∷ (filter p l ++ filter q l)) (IsPermutation-middle (filter p l) x (filter q l))))
     by false false c e d h = rw e h
 
-same-filter : {X : Type 0} (t u : X → Bool) (xs : List X) → ((y : X) → t y ≡ u y) → filter t xs ≡ filter u xs
-same-filter t u [] f = refl
-same-filter t u (x ∷ xs) f = rw (f x, same-filter t u xs f) refl
+-- the one worker of one has all that pass
+whole : (b : Bool) (m : ℕ) → (b && (m % 1 == 0)) ≡ b
+whole true m = same_true (m % 1) 0 (let l : m % 1 < 1 = mod-lt m (omega arith) in omega (arith, l))
+whole false m = refl
 
 -- elements that pass a test, by a number that each has
 module _ {X : Type 0} (t : X → Bool) (k : X → ℕ) (l : List X) where
@@ -76,8 +73,8 @@ module _ {X : Type 0} (t : X → Bool) (k : X → ℕ) (l : List X) where
   abbrev from : ℕ → List X
   from i = filter (λ x. t x && not (nat_lt (k x) i)) l
 
-  from-next : (i : ℕ) → IsPermutation (from i) (part i ++ from (i + 1))
-  from-next i =
+  from_next : (i : ℕ) → IsPermutation (from i) (part i ++ from (i + 1))
+  from_next i =
       parted (λ x. t x && (k x == i)) (λ x. t x && not (nat_lt (k x) (i + 1))) (λ x. t x && not (nat_lt (k x) i))
       (λ x. either (t x) (k x)) (λ x. apart (t x) (k x)) l
     where
@@ -95,22 +92,22 @@ module _ {X : Type 0} (t : X → Bool) (k : X → ℕ) (l : List X) where
       apart true m = both m
       apart false m = refl
 
-  pub from-parts : (i n : ℕ) → IsPermutation (from i) (flat_map (λ x. x) (map part (range_with_len i n)) ++ from (i + n))
-  from-parts i zero = let e : i ≡ i + 0 = omega arith in subst (λ (m : ℕ). IsPermutation (from i) (from m)) e (IsPermutation-refl (from i))
-  from-parts i (suc n) =
+  pub from_parts : (i n : ℕ) → IsPermutation (from i) (flat_map (λ x. x) (map part (range_with_len i n)) ++ from (i + n))
+  from_parts i zero = let e : i ≡ i + 0 = omega arith in subst (λ (m : ℕ). IsPermutation (from i) (from m)) e (IsPermutation-refl (from i))
+  from_parts i (suc n) =
       let e : i + 1 + n ≡ i + suc n = omega arith in
-      let rest = subst (λ (m : ℕ). IsPermutation (from (i + 1)) (flat_map (λ x. x) (map part (range_with_len (i + 1) n)) ++ from m)) e (from-parts (i + 1) n) in
+      let rest = subst (λ (m : ℕ). IsPermutation (from (i + 1)) (flat_map (λ x. x) (map part (range_with_len (i + 1) n)) ++ from m)) e (from_parts (i + 1) n) in
       let step = IsPermutation-append_right (part i) (from (i + 1)) (flat_map (λ x. x) (map part (range_with_len (i + 1) n)) ++ from (i + suc n)) rest in
       subst (IsPermutation (from i)) (sym (append_assoc (part i) (flat_map (λ x. x) (map part (range_with_len (i + 1) n))) (from (i + suc n))))
-      (IsPermutation-trans (from i) (part i ++ from (i + 1)) (part i ++ (flat_map (λ x. x) (map part (range_with_len (i + 1) n)) ++ from (i + suc n))) (from-next i) step)
+      (IsPermutation-trans (from i) (part i ++ from (i + 1)) (part i ++ (flat_map (λ x. x) (map part (range_with_len (i + 1) n)) ++ from (i + suc n))) (from_next i) step)
 
   -- where all numbers are below n
-  pub all-parts : (n : ℕ) → ((x : X) → k x < n) → IsPermutation (filter t l) (flat_map (λ x. x) (map part (range_with_len 0 n)))
-  all-parts n f =
-      let e : from 0 ≡ filter t l = same-filter (λ x. t x && not (nat_lt (k x) 0)) t l (λ x. first (t x) (k x)) in
+  pub all_parts : (n : ℕ) → ((x : X) → k x < n) → IsPermutation (filter t l) (flat_map (λ x. x) (map part (range_with_len 0 n)))
+  all_parts n f =
+      let e : from 0 ≡ filter t l = same_filter (λ x. t x && not (nat_lt (k x) 0)) t l (λ x m. first (t x) (k x)) in
       let g : from (0 + n) ≡ [] = none_pass (λ x. t x && not (nat_lt (k x) (0 + n))) l (λ x. last (t x) (k x) (f x)) in
       subst (λ (m : List X). IsPermutation m (flat_map (λ x. x) (map part (range_with_len 0 n)))) e
-      (subst (IsPermutation (from 0)) (ap (λ (m : List X). flat_map (λ x. x) (map part (range_with_len 0 n)) ++ m) g ∙ append-nil (flat_map (λ x. x) (map part (range_with_len 0 n)))) (from-parts 0 n))
+      (subst (IsPermutation (from 0)) (ap (λ (m : List X). flat_map (λ x. x) (map part (range_with_len 0 n)) ++ m) g ∙ append-nil (flat_map (λ x. x) (map part (range_with_len 0 n)))) (from_parts 0 n))
     where
       none : (m : ℕ) → not (nat_lt m 0) ≡ true
       none m = grind (arith, nat_tests)
@@ -150,8 +147,8 @@ module _ (points : List ℕ) (edits : List Edit) (four : Four) (found : opening_
   independent : AreIndependent points four
   independent = subst (λ (o : Option Four). IfSome o (AreIndependent points)) found (four_law points)
 
-  in-range : (p : ℕ) → IsIn p (places four) → (0 ≤ p) × (p < 0 + length (lines_of points edits))
-  in-range p i = (omega arith, omega (arith, below p i, length-append (map Add points) edits, length-map points Add))
+  in_range : (p : ℕ) → IsIn p (places four) → (0 ≤ p) × (p < 0 + length (lines_of points edits))
+  in_range p i = (omega arith, omega (arith, below p i, length-append (map Add points) edits, length-map points Add))
     where
       below : (p : ℕ) → IsIn p (places four) → p < length points
       below p (inl e) = omega (arith, independent.ascending.0, independent.ascending.1, independent.ascending.2, independent.within, e)
@@ -160,86 +157,79 @@ module _ (points : List ℕ) (edits : List Edit) (four : Four) (found : opening_
       below p (inr (inr (inr (inl e)))) = omega (arith, independent.within, e)
       below p (inr (inr (inr (inr j)))) = absurd j
 
-  opening-is : opening_lines ≡ map (line_at 0 (lines_of points edits) (Add 0)) (places four)
-  opening-is = picked (places four) 0 (lines_of points edits) (Add 0) (independent.ascending.0, (independent.ascending.1, (independent.ascending.2, (tt, tt)))) in-range
+  opening_is : opening_lines ≡ map (line_at 0 (lines_of points edits) (Add 0)) (places four)
+  opening_is = picked (places four) 0 (lines_of points edits) (Add 0) (independent.ascending.0, (independent.ascending.1, (independent.ascending.2, (tt, tt)))) in_range
 
   -- the history of one thread has the same lines
-  one-order : EachLater InOrder (opening_lines ++ others)
-  one-order =
+  one_order : EachLater InOrder (opening_lines ++ others)
+  one_order =
       let kept : Keeps points edits 1 (entries_from 0 [] (opening_lines ++ others)) = subst (λ (o : Option Four). IfSome o (λ _. Keeps points edits 1 (entries_from 0 [] (lines_of_one_thread o all)))) found (keeps_law points edits) in
-      subst (EachLater InOrder) (entry-lines 0 [] (opening_lines ++ others))
-      (later-map line_of InOrder (entries_from 0 [] (opening_lines ++ others)) (pairs-later (λ (d e : Entry). InOrder (line_of d) (line_of e)) (entries_from 0 [] (opening_lines ++ others)) kept.order))
+      subst (EachLater InOrder) (entry_lines 0 [] (opening_lines ++ others))
+      (later_map line_of InOrder (entries_from 0 [] (opening_lines ++ others)) (pairs_later (λ (d e : Entry). InOrder (line_of d) (line_of e)) (entries_from 0 [] (opening_lines ++ others)) kept.order))
 
   module _ (workers : ℕ) (some : 0 < workers) (run : List Entry) (is_run : IsRun (dealt workers (places four) all) run) where
-    run-lines : IsPermutation others (map line_of run)
-    run-lines =
+    run_lines : IsPermutation others (map line_of run)
+    run_lines =
         IsPermutation-trans others (flat_map (λ l. l) (dealt workers (places four) all)) (map line_of run)
-        (all-parts (λ (line : Pair). not (opens line)) (λ (line : Pair). point_of line.1 % workers) all workers (λ line. mod-lt (point_of line.1) some)) is_run.lines
+        (all_parts (λ (line : Pair). not (opens line)) (λ (line : Pair). point_of line.1 % workers) all workers (λ line. mod-lt (point_of line.1) some)) is_run.lines
 
-    lines-are : map line_of (opening ++ run) ≡ opening_lines ++ map line_of run
-    lines-are = map-append line_of opening run ∙ ap (λ (l : List Pair). l ++ map line_of run) (entry-lines 0 [] opening_lines)
+    lines_are : map line_of (opening ++ run) ≡ opening_lines ++ map line_of run
+    lines_are = map-append line_of opening run ∙ ap (λ (l : List Pair). l ++ map line_of run) (entry_lines 0 [] opening_lines)
 
     lines : IsPermutation all (map line_of (opening ++ run))
     lines =
-        subst (IsPermutation all) (sym lines-are)
-        (IsPermutation-trans all (opening_lines ++ others) (opening_lines ++ map line_of run) (IsPermutation-filter_both opens (λ line. not (opens line)) (λ x. refl) all) (IsPermutation-append_right opening_lines others (map line_of run) run-lines))
+        subst (IsPermutation all) (sym lines_are)
+        (IsPermutation-trans all (opening_lines ++ others) (opening_lines ++ map line_of run) (IsPermutation-filter_both opens (λ line. not (opens line)) (λ x. refl) all) (IsPermutation-append_right opening_lines others (map line_of run) run_lines))
 
-    first-four : map (λ (e : Entry). e.tag) (take 4 (opening ++ run)) ≡ places four
-    first-four =
+    first_four : map (λ (e : Entry). e.tag) (take 4 (opening ++ run)) ≡ places four
+    first_four =
         sym (take-map (λ (e : Entry). e.tag) 4 (opening ++ run))
-        ∙ ap (take 4) (tags-of (opening ++ run) ∙ ap (map (λ (l : Pair). l.0)) lines-are)
-        ∙ ap (λ (l : List Pair). take 4 (map (λ (l : Pair). l.0) (l ++ map line_of run))) opening-is
+        ∙ ap (take 4) (tags_of (opening ++ run) ∙ ap (map (λ (l : Pair). l.0)) lines_are)
+        ∙ ap (λ (l : List Pair). take 4 (map (λ (l : Pair). l.0) (l ++ map line_of run))) opening_is
 
     order : EachLater (λ (d e : Entry). InOrder (line_of d) (line_of e)) (opening ++ run)
     order =
-        later-append (λ (d e : Entry). InOrder (line_of d) (line_of e)) opening run
-        (later-unmap line_of InOrder opening (subst (EachLater InOrder) (sym (entry-lines 0 [] opening_lines)) (later-left InOrder opening_lines others one-order)))
-        (pairs-later (λ (d e : Entry). InOrder (line_of d) (line_of e)) run is_run.order)
-        (λ x y i j. later-across InOrder opening_lines others one-order (line_of x) (line_of y)
-        (subst (IsIn (line_of x)) (entry-lines 0 [] opening_lines) (mapped_true line_of x opening i))
-        (in_permutation (map line_of run) others (line_of y) (IsPermutation-sym others (map line_of run) run-lines) (mapped_true line_of y run j)))
+        later_append (λ (d e : Entry). InOrder (line_of d) (line_of e)) opening run
+        (later_unmap line_of InOrder opening (subst (EachLater InOrder) (sym (entry_lines 0 [] opening_lines)) (later_left InOrder opening_lines others one_order)))
+        (pairs_later (λ (d e : Entry). InOrder (line_of d) (line_of e)) run is_run.order)
+        (λ x y i j. later_across InOrder opening_lines others one_order (line_of x) (line_of y)
+        (subst (IsIn (line_of x)) (entry_lines 0 [] opening_lines) (mapped_true line_of x opening i))
+        (in_permutation (map line_of run) others (line_of y) (IsPermutation-sym others (map line_of run) run_lines) (mapped_true line_of y run j)))
 
-    pub made-by : (e : Entry) → IsIn e (opening ++ run) → e.by < workers
-    made-by e i =
+    pub made_by : (e : Entry) → IsIn e (opening ++ run) → e.by < workers
+    made_by e i =
         elim (from_append e opening run i) [
-          | inl j ↦ let z = entry-by 0 [] opening_lines e j in omega (arith, z, some)
+          | inl j ↦ let z = entry_by 0 [] opening_lines e j in omega (arith, z, some)
           | inr j ↦ let l = each_of_all (λ (d : Entry). d.by < length (dealt workers (places four) all)) run is_run.workers e j in omega (arith, l, length-map (range_with_len 0 workers) (dealt_to workers (places four) all), length-range_with_len 0 workers)
         ]
 
     pub keeps : Keeps points edits workers (opening ++ run)
     keeps =
         record {
-          opening = subst (λ (o : Option Four). IfSome o (λ f. map (λ (e : Entry). e.tag) (take 4 (opening ++ run)) ≡ places f)) (sym found) first-four;
+          opening = subst (λ (o : Option Four). IfSome o (λ f. map (λ (e : Entry). e.tag) (take 4 (opening ++ run)) ≡ places f)) (sym found) first_four;
           lines = lines;
-          order = later-pairs (λ (d e : Entry). point_of d.edit ≡ point_of e.edit → d.tag < e.tag) (opening ++ run) order;
-          workers = all_of_each (λ (e : Entry). e.by < workers) (opening ++ run) made-by;
+          order = later_pairs (λ (d e : Entry). point_of d.edit ≡ point_of e.edit → d.tag < e.tag) (opening ++ run) order;
+          workers = all_of_each (λ (e : Entry). e.by < workers) (opening ++ run) made_by;
         }
 
   -- ---- one worker
 
   pub alone : (run : List Entry) → IsRun (dealt 1 (places four) all) run → IsLegal (opening ++ run) → opening ++ run ≡ one_thread points edits
   alone run is_run legal =
-      let e : dealt_to 1 (places four) all 0 ≡ others = same-filter (λ (line : Pair). not (opens line) && (point_of line.1 % 1 == 0)) (λ line. not (opens line)) all (λ line. whole (not (opens line)) (point_of line.1)) in
-      let f : map line_of (opening ++ run) ≡ opening_lines ++ others = lines-are 1 (omega arith) run is_run ∙ ap (λ (l : List Pair). opening_lines ++ l) (is_run.alone (dealt_to 1 (places four) all 0) refl ∙ e) in
-      legal-is 0 [] (opening ++ run) legal (λ d i. let l = made-by 1 (omega arith) run is_run d i in omega (arith, l))
+      let e : dealt_to 1 (places four) all 0 ≡ others = same_filter (λ (line : Pair). not (opens line) && (point_of line.1 % 1 == 0)) (λ line. not (opens line)) all (λ line m. whole (not (opens line)) (point_of line.1)) in
+      let f : map line_of (opening ++ run) ≡ opening_lines ++ others = lines_are 1 (omega arith) run is_run ∙ ap (λ (l : List Pair). opening_lines ++ l) (is_run.alone (dealt_to 1 (places four) all 0) refl ∙ e) in
+      legal_is 0 [] (opening ++ run) legal (λ d i. let l = made_by 1 (omega arith) run is_run d i in omega (arith, l))
       ∙ ap (entries_from 0 []) f
       ∙ ap (λ (o : Option Four). entries_from 0 [] (lines_of_one_thread o all)) (sym found)
-    where
-      zeros : (m : ℕ) → m < 1 → (m == 0) ≡ true
-      zeros m h = grind (arith, nat_tests)
-
-      whole : (b : Bool) (m : ℕ) → (b && (m % 1 == 0)) ≡ b
-      whole true m = zeros (m % 1) (mod-lt m (omega arith))
-      whole false m = refl
 
 -- ---- there is a run for every number of workers: the premises can be met
 
-entries-append : (n : ℕ) (s : List ℕ) (a b : List Pair) → entries_from n s (a ++ b) ≡ entries_from n s a ++ entries_from (n + length a) (set_after s a) b
-entries-append n s [] b = let e : n ≡ n + 0 = omega arith in ap (λ (m : ℕ). entries_from m s b) e
-entries-append n s (x ∷ a) b =
+entries_append : (n : ℕ) (s : List ℕ) (a b : List Pair) → entries_from n s (a ++ b) ≡ entries_from n s a ++ entries_from (n + length a) (set_after s a) b
+entries_append n s [] b = let e : n ≡ n + 0 = omega arith in ap (λ (m : ℕ). entries_from m s b) e
+entries_append n s (x ∷ a) b =
     let e : n + 1 + length a ≡ n + suc (length a) = omega arith in
     let first : Entry = record { number = n; by = 0; tag = x.0; edit = x.1; reply = reply_to s x.1 } in
-    ap (λ (h : List Entry). record { number = n; by = 0; tag = x.0; edit = x.1; reply = reply_to s x.1 } ∷ h) (entries-append (n + 1) (after s x.1) a b ∙ ap (λ (m : ℕ). entries_from (n + 1) (after s x.1) a ++ entries_from m (set_after (after s x.1) a) b) e)
+    ap (λ (h : List Entry). record { number = n; by = 0; tag = x.0; edit = x.1; reply = reply_to s x.1 } ∷ h) (entries_append (n + 1) (after s x.1) a b ∙ ap (λ (m : ℕ). entries_from (n + 1) (after s x.1) a ++ entries_from m (set_after (after s x.1) a) b) e)
 
 module _ (points : List ℕ) (edits : List Edit) (four : Four) (found : opening_four points ≡ Some four) where
   abbrev those : List Pair
@@ -251,46 +241,39 @@ module _ (points : List ℕ) (edits : List Edit) (four : Four) (found : opening_
   abbrev sequel : List Entry
   sequel = entries_from (0 + length those) (set_after [] those) rest
 
-  sequel-lines : map line_of sequel ≡ rest
-  sequel-lines = entry-lines (0 + length those) (set_after [] those) rest
+  sequel_lines : map line_of sequel ≡ rest
+  sequel_lines = entry_lines (0 + length those) (set_after [] those) rest
 
-  zeros : (m : ℕ) → m < 1 → (m == 0) ≡ true
-  zeros m h = grind (arith, nat_tests)
-
-  whole : (b : Bool) (m : ℕ) → (b && (m % 1 == 0)) ≡ b
-  whole true m = zeros (m % 1) (mod-lt m (omega arith))
-  whole false m = refl
-
-  sequel-alone : (workers : ℕ) (l : List Pair) → dealt workers (places four) (tagged_lines points edits) ≡ l ∷ [] → map line_of sequel ≡ l
-  sequel-alone workers l e =
+  sequel_alone : (workers : ℕ) (l : List Pair) → dealt workers (places four) (tagged_lines points edits) ≡ l ∷ [] → map line_of sequel ≡ l
+  sequel_alone workers l e =
       let n : workers ≡ 1 = sym (length-range_with_len 0 workers) ∙ sym (length-map (range_with_len 0 workers) (dealt_to workers (places four) (tagged_lines points edits))) ∙ ap length e in
       let f : dealt 1 (places four) (tagged_lines points edits) ≡ l ∷ [] = subst (λ (m : ℕ). dealt m (places four) (tagged_lines points edits) ≡ l ∷ []) n e in
       let g : dealt_to 1 (places four) (tagged_lines points edits) 0 ≡ l = cc in
-      sequel-lines ∙ sym (same-filter (λ (line : Pair). not (is_among line.0 (places four)) && (point_of line.1 % 1 == 0)) (λ line. not (is_among line.0 (places four))) (tagged_lines points edits) (λ line. whole (not (is_among line.0 (places four))) (point_of line.1))) ∙ g
+      sequel_lines ∙ sym (same_filter (λ (line : Pair). not (is_among line.0 (places four)) && (point_of line.1 % 1 == 0)) (λ line. not (is_among line.0 (places four))) (tagged_lines points edits) (λ line m. whole (not (is_among line.0 (places four))) (point_of line.1))) ∙ g
 
   pub some_run : (workers : ℕ) → 0 < workers → IsRun (dealt workers (places four) (tagged_lines points edits)) sequel × IsLegal (opening_entries (places four) (tagged_lines points edits) ++ sequel)
   some_run workers some = (
     record {
-      lines = subst (IsPermutation (flat_map (λ l. l) (dealt workers (places four) (tagged_lines points edits)))) (sym sequel-lines)
-          (IsPermutation-sym rest (flat_map (λ l. l) (dealt workers (places four) (tagged_lines points edits))) (all-parts (λ (line : Pair). not (is_among line.0 (places four))) (λ (line : Pair). point_of line.1 % workers) (tagged_lines points edits) workers (λ line. mod-lt (point_of line.1) some)));
-      order = later-pairs (λ (d e : Entry). point_of d.edit ≡ point_of e.edit → d.tag < e.tag) sequel (later-unmap line_of InOrder sequel (subst (EachLater InOrder) (sym sequel-lines) (later-right InOrder those rest (one-order points edits four found))));
-      workers = all_of_each (λ (e : Entry). e.by < length (dealt workers (places four) (tagged_lines points edits))) sequel (λ e i. let z = entry-by (0 + length those) (set_after [] those) rest e i in omega (arith, z, some, length-map (range_with_len 0 workers) (dealt_to workers (places four) (tagged_lines points edits)), length-range_with_len 0 workers));
-      alone = sequel-alone workers;
+      lines = subst (IsPermutation (flat_map (λ l. l) (dealt workers (places four) (tagged_lines points edits)))) (sym sequel_lines)
+          (IsPermutation-sym rest (flat_map (λ l. l) (dealt workers (places four) (tagged_lines points edits))) (all_parts (λ (line : Pair). not (is_among line.0 (places four))) (λ (line : Pair). point_of line.1 % workers) (tagged_lines points edits) workers (λ line. mod-lt (point_of line.1) some)));
+      order = later_pairs (λ (d e : Entry). point_of d.edit ≡ point_of e.edit → d.tag < e.tag) sequel (later_unmap line_of InOrder sequel (subst (EachLater InOrder) (sym sequel_lines) (later_right InOrder those rest (one_order points edits four found))));
+      workers = all_of_each (λ (e : Entry). e.by < length (dealt workers (places four) (tagged_lines points edits))) sequel (λ e i. let z = entry_by (0 + length those) (set_after [] those) rest e i in omega (arith, z, some, length-map (range_with_len 0 workers) (dealt_to workers (places four) (tagged_lines points edits)), length-range_with_len 0 workers));
+      alone = sequel_alone workers;
     },
-    subst IsLegal (ap (λ (o : Option Four). entries_from 0 [] (lines_of_one_thread o (tagged_lines points edits))) found ∙ entries-append 0 [] those rest) (legal_law points edits),
+    subst IsLegal (ap (λ (o : Option Four). entries_from 0 [] (lines_of_one_thread o (tagged_lines points edits))) found ∙ entries_append 0 [] those rest) (legal_law points edits),
   )
 
-four-found : opening_four (0 ∷ 2 * 268435456 ∷ 2 * 16384 ∷ 2 ∷ []) ≡ Some (record { first = 0; second = 1; third = 2; fourth = 3 })
+four_found : opening_four (0 ∷ 2 * 268435456 ∷ 2 * 16384 ∷ 2 ∷ []) ≡ Some (record { first = 0; second = 1; third = 2; fourth = 3 })
 unfolding orientation triple minor normal_x normal_y normal_z x_from y_from z_from x_of y_of z_of
-four-found = refl
+four_found = refl
 
 -- a file that is anchored: the points of a tetrahedron, and an add and a take of another point
 an_anchored_file : IsAnchored (0 ∷ 2 * 268435456 ∷ 2 * 16384 ∷ 2 ∷ []) (Add (268435456 + 16384 + 1) ∷ Take (268435456 + 16384 + 1) ∷ [])
-an_anchored_file = record { four = record { first = 0; second = 1; third = 2; fourth = 3 }; opening = four-found; untaken = spared }
+an_anchored_file = record { four = record { first = 0; second = 1; third = 2; fourth = 3 }; opening = four_found; untaken = spared }
   where
-    is-take : Edit → Bool
-    is-take (Add p) = false
-    is-take (Take p) = true
+    is_take : Edit → Bool
+    is_take (Add p) = false
+    is_take (Take p) = true
 
     apart : (k : ℕ) → IsIn k (0 ∷ 2 * 268435456 ∷ 2 * 16384 ∷ 2 ∷ []) → 268435456 + 16384 + 1 ≡ k → ⊥
     apart k (inl e) f = omega (arith, e, f)
@@ -299,12 +282,12 @@ an_anchored_file = record { four = record { first = 0; second = 1; third = 2; fo
     apart k (inr (inr (inr (inl e)))) f = omega (arith, e, f)
     apart k (inr (inr (inr (inr j)))) f = j
 
-    at-place : (i : ℕ) → IsIn i (0 ∷ 1 ∷ 2 ∷ 3 ∷ []) → IsIn (slice_index (0 ∷ 2 * 268435456 ∷ 2 * 16384 ∷ 2 ∷ []) i) (0 ∷ 2 * 268435456 ∷ 2 * 16384 ∷ 2 ∷ [])
-    at-place i j = mapped_true (slice_index (0 ∷ 2 * 268435456 ∷ 2 * 16384 ∷ 2 ∷ [])) i (0 ∷ 1 ∷ 2 ∷ 3 ∷ []) j
+    at_place : (i : ℕ) → IsIn i (0 ∷ 1 ∷ 2 ∷ 3 ∷ []) → IsIn (slice_index (0 ∷ 2 * 268435456 ∷ 2 * 16384 ∷ 2 ∷ []) i) (0 ∷ 2 * 268435456 ∷ 2 * 16384 ∷ 2 ∷ [])
+    at_place i j = mapped_true (slice_index (0 ∷ 2 * 268435456 ∷ 2 * 16384 ∷ 2 ∷ [])) i (0 ∷ 1 ∷ 2 ∷ 3 ∷ []) j
 
     spared : (i : ℕ) → IsIn i (0 ∷ 1 ∷ 2 ∷ 3 ∷ []) → ¬ (IsIn (Take (slice_index (0 ∷ 2 * 268435456 ∷ 2 * 16384 ∷ 2 ∷ []) i)) (Add (268435456 + 16384 + 1) ∷ Take (268435456 + 16384 + 1) ∷ []))
-    spared i j (inl e) = let f = ap is-take e in cc
-    spared i j (inr (inl e)) = apart (slice_index (0 ∷ 2 * 268435456 ∷ 2 * 16384 ∷ 2 ∷ []) i) (at-place i j) (ap point_of e)
+    spared i j (inl e) = let f = ap is_take e in cc
+    spared i j (inr (inl e)) = apart (slice_index (0 ∷ 2 * 268435456 ∷ 2 * 16384 ∷ 2 ∷ []) i) (at_place i j) (ap point_of e)
     spared i j (inr (inr k)) = k
 
 pub some_file_is_anchored : SomeFileIsAnchored

@@ -1,5 +1,5 @@
-use Rattle.edit_files.proofs.Written.{file-is_within}
+use Rattle.edit_files.proofs.Written.{file_is_within}
 use Rattle.edit_files.proofs.laws.file_is_within.Goals as goal
 
 pub returns : goal.returns
-returns c = file-is_within
+returns c = file_is_within

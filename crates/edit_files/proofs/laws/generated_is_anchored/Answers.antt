@@ -1,5 +1,5 @@
-use Rattle.edit_files.proofs.Generated.{generated-anchored}
+use Rattle.edit_files.proofs.Generated.{generated_anchored}
 use Rattle.edit_files.proofs.laws.generated_is_anchored.Goals as goal
 
 pub returns : goal.returns
-returns c = generated-anchored
+returns c = generated_anchored

@@ -1,7 +1,7 @@
 use Rattle.std.proofs.Common.{◌≡◌, sym, ◌∙◌, arith}
 use Rattle.std.proofs.lemmas.Int.{ints}
 use Rattle.point_order.specs.Coordinates.{x_of, y_of, z_of}
-use Rattle.edit_files.proofs.Points.{point_at-is}
+use Rattle.edit_files.proofs.Points.{point_at_is}
 use Rattle.edit_files.proofs.line.point_of.Goals as goal
 
 pub returns-in-Ok : goal.returns-in-Ok
@@ -9,4 +9,4 @@ returns-in-Ok c =
     let a : x_of c.in-Ok.point ≡ c.in-Some.x = omega (arith, ints, c.in-Ok.ensures.made.0, c.in-Some.ensures.bound.0) in
     let b : y_of c.in-Ok.point ≡ c.in-Some.y = omega (arith, ints, c.in-Ok.ensures.made.1, c.in-Some.ensures.bound.1) in
     let d : z_of c.in-Ok.point ≡ c.in-Some.z = omega (arith, ints, c.in-Ok.ensures.made.2, c.in-Some.ensures.bound.2) in
-    sym (c.in-Some.ensures.value ∙ point_at-is c.in-Ok.point c.in-Some.x c.in-Some.y c.in-Some.z a b d c.in-Ok.ensures.key)
+    sym (c.in-Some.ensures.value ∙ point_at_is c.in-Ok.point c.in-Some.x c.in-Some.y c.in-Some.z a b d c.in-Ok.ensures.key)

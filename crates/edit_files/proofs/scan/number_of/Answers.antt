@@ -3,14 +3,14 @@ use Rattle.std.specs.Str.Parse.{starts_with_minus}
 use Rattle.std.proofs.lemmas.Bool.{lt-ltb, le-ltb}
 use Rattle.edit_files.specs.Judging.{digits}
 use Rattle.edit_files.specs.Numbers.{after_minus}
-use Rattle.edit_files.proofs.Numerals.{number-is, number-none}
+use Rattle.edit_files.proofs.Numerals.{number_is, number_none}
 use Rattle.edit_files.proofs.scan.number_of.Goals as goal
 use Rattle.edit_files.proofs.scan.number_of.Goals.{else-is_negative-via-then-is_negative+else-value-gt0, else-is_negative-via-else-is_negative}
 
 pub returns-in_err-value-clause-value : goal.returns-in_err-value-clause-value
 returns-in_err-value-clause-value c =
     let read : None ≡ digits (after_minus c.args.text.now) = c.in_err-value.ensures.value ∙ ap digits c.sign_of-is_negative.ensures.rest in
-    rw c.from_residual.ensures (sym (number-none c.args.text.now (sym read)))
+    rw c.from_residual.ensures (sym (number_none c.args.text.now (sym read)))
 
 pub returns-then-value-gt0-clause-value : goal.returns-then-value-gt0-clause-value
 returns-then-value-gt0-clause-value c =
@@ -19,7 +19,7 @@ returns-then-value-gt0-clause-value c =
     let read : Some n ≡ digits (after_minus bs) = c.in_ok-value.ensures.value ∙ ap digits c.sign_of-is_negative.ensures.rest in
     let minus : starts_with_minus bs ≡ true = sym c.sign_of-is_negative.ensures.minus ∙ c.if-is_negative.true in
     let above : ltb 0 n ≡ true = lt-ltb 0 n (omega arith) in
-    sym (number-is bs n (sym read) ∙ rw (minus, above) refl)
+    sym (number_is bs n (sym read) ∙ rw (minus, above) refl)
 
 pub returns-else-is_negative-clause-value : goal.returns-else-is_negative-clause-value
 returns-else-is_negative-clause-value c =
@@ -30,8 +30,8 @@ returns-else-is_negative-clause-value c =
       | else-is_negative-via-then-is_negative+else-value-gt0 w ↦
           let minus : starts_with_minus bs ≡ true = sym c.sign_of-is_negative.ensures.minus ∙ w.if-is_negative.true in
           let none : ltb 0 n ≡ false = le-ltb 0 n (omega arith) in
-          sym (number-is bs n (sym read) ∙ rw (minus, none) refl)
+          sym (number_is bs n (sym read) ∙ rw (minus, none) refl)
       | else-is_negative-via-else-is_negative w ↦
           let minus : starts_with_minus bs ≡ false = sym c.sign_of-is_negative.ensures.minus ∙ w.if-is_negative.false in
-          sym (number-is bs n (sym read) ∙ rw minus refl)
+          sym (number_is bs n (sym read) ∙ rw minus refl)
     ]

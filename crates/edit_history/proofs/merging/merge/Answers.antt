@@ -4,7 +4,7 @@ use Rattle.std.specs.List.{flat_map}
 use Rattle.std.proofs.lemmas.List.{take_all}
 use Rattle.std.proofs.lemmas.List.Sorted.{IsNonDecreasingBy-from_sort_by_key}
 use Rattle.edit_history.specs.declared.history.Entry.{Entry}
-use Rattle.edit_history.proofs.Numbers.{merged-order}
+use Rattle.edit_history.proofs.Numbers.{merged_order}
 use Rattle.edit_history.proofs.merging.merge.Goals as goal
 
 pub returns-clause-order : goal.returns-clause-order
@@ -14,4 +14,4 @@ returns-clause-order c =
     let merged : List Entry = c.sort_unstable_by_key.new.self.items in
     let e : c.loop-list.merged.items ≡ entries = c.loop-list.invariant ∙ ap (flat_map (λ list. list.items)) (take_all c.loop-list.list-index lists (omega arith)) in
     let p : IsPermutation entries merged = subst (λ (s : List Entry). IsPermutation s merged) e c.sort_unstable_by_key.ensures.permutation in
-    merged-order entries merged c.requires p (IsNonDecreasingBy-from_sort_by_key (λ (e : Entry). e.number) merged c.sort_unstable_by_key.ensures.sorted (λ a r q k. search rules))
+    merged_order entries merged c.requires p (IsNonDecreasingBy-from_sort_by_key (λ (e : Entry). e.number) merged c.sort_unstable_by_key.ensures.sorted (λ a r q k. search rules))
