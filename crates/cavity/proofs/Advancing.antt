@@ -18,14 +18,14 @@ use Rattle.hole_laws.specs.Edits.{IsSolidSet, GoesFrom}
 use Rattle.hole_laws.proofs.Cited.{one_gone_each}
 use Rattle.cell_store.specs.Grids.{bucket_of}
 use Rattle.cell_store.specs.Buckets.{BucketContent, InHand, bucket_at}
+use Rattle.cell_store.specs.Missing.{ArePointsHeld, IsCellMissing}
 use Rattle.cell_store.specs.Ready.{AreHeld}
 use Rattle.cell_store.specs.Shares.{Shows}
 use Rattle.cell_store.specs.Swaps.{touches}
 use Rattle.cavity.specs.Digs.{Digging, CanDig, AreCrossed, IsDigIn, IsDoneIn, facets_of_first}
-use Rattle.cavity.specs.Exploring.{IsCellMissing, IsAt, AreUncrossed, ArePointsHeld, Explores}
+use Rattle.cavity.specs.Exploring.{IsAt, AreUncrossed, Explores}
 use Rattle.cavity.specs.Turns.{IsNeeded, NoneIsNeeded}
-use Rattle.cavity.proofs.Held.{cells_more}
-use Rattle.cell_store.proofs.Cited.{has_point, solid_set}
+use Rattle.cell_store.proofs.Cited.{cells_more, has_point, solid_set}
 use Rattle.cavity.proofs.Filling.{all_found}
 
 -- ---- the cells in hand

@@ -17,7 +17,8 @@ use Rattle.cell_store.specs.Buckets.{InHand, bucket_at}
 use Rattle.cell_store.specs.Grids.{bucket_of}
 use Rattle.cell_store.specs.Shares.{NoneInHand, points_on}
 use Rattle.cavity.specs.Digs.{AreCrossed}
-use Rattle.cavity.specs.Exploring.{ArePointsHeld, IsAt, AreUncrossed}
+use Rattle.cell_store.specs.Missing.{ArePointsHeld}
+use Rattle.cavity.specs.Exploring.{IsAt, AreUncrossed}
 use Rattle.cell_conflict.proofs.Cited.{on_cell, some_on}
 
 -- the facets of a cell whose points ascend

@@ -1,6 +1,5 @@
 pub mod Tables
 pub mod Crossing
-pub mod Held
 pub mod Filling
 pub mod Exploration
 pub mod Advancing

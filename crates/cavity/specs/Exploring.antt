@@ -1,32 +1,13 @@
 -- The steps of a dig: the facets of found cells that are crossed.
-use Rattle.std.specs.Prelude.{◌≡◌, ℕ, ◌<◌, ◌++◌, length, List, [], ◌∷◌, None, IsSome}
+use Rattle.std.specs.Prelude.{ℕ, ◌++◌, List, [], ◌∷◌}
 use Rattle.point_order.specs.declared.cell.Cell.{Cell}
 use Rattle.point_order.specs.declared.cell.Facet.{Facet}
-use Rattle.point_order.specs.Facets.{facets_of, points_of}
+use Rattle.point_order.specs.Facets.{facets_of}
 use Rattle.point_order.specs.Sets.{IsIn}
 use Rattle.hole_laws.specs.Edits.{IsNew, IsRimOf}
-use Rattle.cell_store.specs.Grids.{bucket_of}
-use Rattle.cell_store.specs.Buckets.{InHand, bucket_at}
+use Rattle.cell_store.specs.Buckets.{InHand}
 use Rattle.cell_store.specs.Shares.{Shows}
 use Rattle.cavity.specs.Digs.{AreCrossed}
-
--- the buckets of all points of the list are in hand
-abbrev pub ArePointsHeld : InHand → List ℕ → Type 0
-ArePointsHeld hold ps = (p : ℕ) → IsIn p ps → IsSome (bucket_at hold.places (bucket_of hold.grid p))
-
--- bucket b is that of a point of the list, and is not in hand
-pub record IsBucketMissing (hold : InHand) (ps : List ℕ) (b : ℕ) : Type 0 where
-  pub point : ℕ
-  pub among : IsIn point ps
-  pub number : b ≡ bucket_of hold.grid point
-  pub below : b < length hold.places
-  pub absent : bucket_at hold.places b ≡ None
-
--- bucket b is that of a finite point of one of the cells, and is not in hand
-pub record IsCellMissing (hold : InHand) (cells : List Cell) (b : ℕ) : Type 0 where
-  pub cell : Cell
-  pub among : IsIn cell cells
-  pub missing : IsBucketMissing hold (points_of cell) b
 
 -- some facets of found cells were crossed, and the cell is one that was found
 pub record IsAt (s : List ℕ) (p : ℕ) (crossed : List Facet) (cell : Cell) (found : List Cell)

@@ -33,9 +33,13 @@ pub record Known : Type 0 where
   pub goes : List Cell
   pub stays : List Cell
 
+-- an odd number whose product with another depends in its upper bits on all bits of that
+abbrev pub factor : ℕ
+factor = 11400714819323198485
+
 -- a number with one point more
 unfoldable pub mixed_with : ℕ → ℕ → ℕ
-mixed_with number p = ((number + p) % 2 ^ 64 * 11400714819323198485) % 2 ^ 64
+mixed_with number p = ((number + p) % 2 ^ 64 * factor) % 2 ^ 64
 
 -- a number and the points of a list, one after another
 abbrev pub mixed_all : ℕ → List ℕ → ℕ

@@ -6,7 +6,7 @@ ghost use Rattle.cell_store.specs.Meshes.{AllInHand};
 ghost use Rattle.cavity.specs.Digs.{CanDig, IsDigIn};
 ghost use Rattle.cavity.specs.Turns.{ShowsDig, TurnGives, AsksBelow};
 
-use crate::explore::{explore, missing_point, missing_spot};
+use crate::explore::explore;
 use crate::judged::Judged;
 use cell_store::{Hold, Spot};
 use point_order::{Cell, Facet, Point};
@@ -82,11 +82,11 @@ impl Dig {
         ensures below { IfOk result (λ turn. AsksBelow (length hold.now.places) turn) }
         ensures all { IfOk result (λ turn. AllInHand hold.now → turn ≡ DigTurn.Done) }
     {
-        if let Some(b) = missing_spot(hold, self.judged.goes()) {
+        if let Some(b) = hold.missing_bucket_of_spots(self.judged.goes()) {
             return Ok(DigTurn::Need(b));
         }
         while let Some(cell) = self.judged.get(hold, self.explored) {
-            if let Some(b) = missing_point(hold, cell.cell().points()) {
+            if let Some(b) = hold.missing_bucket_of_points(cell.cell().points()) {
                 return Ok(DigTurn::Need(b));
             }
             explore(

@@ -1,66 +1,20 @@
 //! The steps of a dig, over the lists that it keeps.
 
-ghost use Rattle.std.specs.Prelude.{◌≡◌, ◌++◌, List, MatchOption, OnOk, ℕ};
+ghost use Rattle.std.specs.Prelude.{◌≡◌, ◌++◌, List, OnOk, ℕ};
 ghost use Rattle.point_order.specs.Facets.{facets_of, points_of};
 ghost use Rattle.point_order.specs.Sets.{IsIn};
 ghost use Rattle.point_order.specs.declared.cell.Cell.{Cell};
 ghost use Rattle.cell_store.specs.Shares.{Shows, NoneInHand, points_on};
-ghost use Rattle.cell_store.specs.Ready.{AreHeld};
-ghost use Rattle.cavity.specs.Exploring.{
-  ArePointsHeld,
-  IsBucketMissing,
-  IsCellMissing,
-  ShowsAt,
-  ShowsNewAt,
-  Crosses,
-  Explores,
-};
+ghost use Rattle.cell_store.specs.Missing.{ArePointsHeld};
+ghost use Rattle.cavity.specs.Exploring.{ShowsAt, ShowsNewAt, Crosses, Explores};
 ghost use Rattle.cavity.specs.Tables.{AreBehind};
 
 use crate::cell_table::Seen;
 use crate::judged::Judged;
-use cell_conflict::{is_spot_in_conflict, spot_across};
+use cell_conflict::is_spot_in_conflict;
 use cell_store::{Hold, Spot};
-use point_order::{Cell, Facet, Point};
+use point_order::{Facet, Point};
 use std::alloc::{AllocError, Global};
-
-// The bucket of one of the points that is not in hand, if there is one.
-pub(crate) fn missing_point(hold: &Hold, points: &[Point]) -> Option<u32>
-    ensures { MatchOption result (ArePointsHeld hold.now points.now) (λ b. IsBucketMissing hold.now points.now b) }
-{
-    let grid = hold.grid();
-    for p in points {
-        let b = grid.bucket_of(*p);
-        if !hold.has(b) {
-            return Some(b);
-        }
-    }
-    None
-}
-
-/// The bucket of a finite point of one of the cells that is not in hand, if there is one.
-pub fn missing_bucket(hold: &Hold, cells: &[Cell]) -> Option<u32>
-    ensures { MatchOption result (AreHeld hold.now cells.now) (λ b. IsCellMissing hold.now cells.now b) }
-{
-    for cell in cells {
-        if let Some(b) = missing_point(hold, cell.points()) {
-            return Some(b);
-        }
-    }
-    None
-}
-
-// The same for cells at hand.
-pub(crate) fn missing_spot(hold: &Hold, cells: &[Spot]) -> Option<u32>
-    ensures { MatchOption result (AreHeld hold.now cells.now) (λ b. IsCellMissing hold.now cells.now b) }
-{
-    for cell in cells {
-        if let Some(b) = missing_point(hold, cell.cell().points()) {
-            return Some(b);
-        }
-    }
-    None
-}
 
 // Crosses a facet of a found cell. The cell behind it goes, and is found, or it stays, and the facet is one of the rim.
 // A cell that was judged is not judged again.
@@ -82,7 +36,7 @@ fn cross(
     ensures crossed { OnOk result ((s : List ℕ) → Shows hold.now s →
         Crosses s point cell.now facet.now judged.old.goes rim.old.items judged.new.goes rim.new.items) }
 {
-    let other = spot_across(hold, cell, facet);
+    let other = hold.spot_across(cell, facet);
     match judged.seen(other.cell()) {
         Seen::Goes => Ok(()),
         Seen::Stays => {

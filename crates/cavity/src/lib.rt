@@ -24,5 +24,4 @@ mod judged;
 pub mod laws;
 
 pub use dig::{Dig, DigTurn};
-pub use explore::missing_bucket;
 pub use fill_hole::{Fresh, fill};

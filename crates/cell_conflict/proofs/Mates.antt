@@ -10,7 +10,7 @@ use Rattle.point_order.specs.Complex.{complex}
 use Rattle.point_order.specs.Conflicts.{is_in_conflict}
 use Rattle.point_order.specs.Facets.{points_of}
 use Rattle.point_order.specs.Sets.{IsIn, ascending, is_among}
-use Rattle.point_order.proofs.Cited.{in-ascending}
+use Rattle.point_order.proofs.Cited.{in_ascending}
 use Rattle.del_laws.specs.Listed.{IsListedFull}
 use Rattle.del_laws.proofs.Cited.{listed_is_cell, listed_mate, not_both_kinds}
 use Rattle.hole_laws.specs.Edits.{IsSet, IsSolidSet, IsNew, IsMate, GoesFrom, StaysFrom}
@@ -59,7 +59,7 @@ module _ (s : List ℕ) (i : IsSet s) where
   mate_of_three : (a b c : ℕ) (x : Cell) (m : ℕ) → IsIn (Open (a ∷ b ∷ c ∷ [])) (complex s) → IsOtherOf (complex s) (Open (a ∷ b ∷ c ∷ [])) (Three (a ∷ b ∷ c ∷ [])) x → IsAgainst (points_of x) (a ∷ b ∷ c ∷ []) m → IsMate s (Open (a ∷ b ∷ c ∷ [])) m
   mate_of_three a b c x m k o g =
       let r = behind a b c x k o in
-      pick r.0 r.1 (in-ascending (a ∷ b ∷ c ∷ r.0 ∷ []) m (subst (λ (q : Cell). IsIn m (points_of q)) r.2 g.here))
+      pick r.0 r.1 (in_ascending (a ∷ b ∷ c ∷ r.0 ∷ []) m (subst (λ (q : Cell). IsIn m (points_of q)) r.2 g.here))
     where
       pick : (n : ℕ) → IsMate s (Open (a ∷ b ∷ c ∷ [])) n → IsIn m (a ∷ b ∷ c ∷ n ∷ []) → IsMate s (Open (a ∷ b ∷ c ∷ [])) m
       pick n j (inl e) = absurd (g.apart (inl e))

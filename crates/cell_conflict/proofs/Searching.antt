@@ -10,7 +10,7 @@ use Rattle.cell_store.specs.Buckets.{InHand, BucketContent, bucket_at, cells_in}
 use Rattle.cell_store.specs.Grids.{bucket_of}
 use Rattle.cell_store.specs.Shares.{Shows, NoneInHand}
 use Rattle.cell_store.specs.Swaps.{touches}
-use Rattle.cell_stars.proofs.Cited.{bucket-below}
+use Rattle.cell_stars.proofs.Cited.{bucket_below}
 use Rattle.cell_store.proofs.Cited.{point_held, solid_set, touched}
 use Rattle.cell_store.specs.Meshes.{AllInHand, HasPlaces}
 use Rattle.del_laws.proofs.Cited.{listed_is_cell}
@@ -80,7 +80,7 @@ some_goes hold h p has all st new =
       rim.goes,
       (
         b,
-        subst (λ n. b < n) (sym has.places) (bucket-below hold.grid e.0 has.size),
+        subst (λ n. b < n) (sym has.places) (bucket_below hold.grid e.0 has.size),
         subst (λ (l : List Cell). IsIn rim.gone l) (sym (cells_are hold b x.0 x.1 ∙ (st.sights b x.0 x.1).cells))
             (filtered_true (touches hold.grid b) (complex h) rim.gone rim.goes.before (touched hold.grid e.0 b rim.gone refl e.1)),
       ),

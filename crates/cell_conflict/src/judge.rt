@@ -3,44 +3,16 @@
 ghost use Rattle.std.specs.Prelude.{◌≡◌, List, MatchBool, not, ℕ};
 ghost use Rattle.std.specs.List.{find};
 ghost use Rattle.point_order.specs.Complex.{complex};
-ghost use Rattle.point_order.specs.Facets.{facets_of, points_of};
+ghost use Rattle.point_order.specs.Facets.{points_of};
 ghost use Rattle.point_order.specs.Sets.{IsIn, is_among};
 ghost use Rattle.point_order.specs.declared.cell.Cell.TheVariants.{Open};
 ghost use Rattle.hole_laws.specs.Edits.{IsNew, IsMate, GoesFrom, StaysFrom};
-ghost use Rattle.cell_store.specs.Shares.{Shows, ShowsWith, NoneInHand, IsAcross, points_on};
+ghost use Rattle.cell_store.specs.Shares.{Shows, ShowsWith, NoneInHand};
 ghost use Rattle.cell_conflict.specs.Judging.{ShowsWithNew};
 
-use cell_store::{Across, Hold, Spot, SpotAcross};
+use cell_store::{Hold, Spot};
 use point_order::{Cell, Facet, Point, Tri};
 use sphere_ties::conflict;
-
-/// The cell across a facet of which some point's bucket is in hand. The hold is to show a set of whose complex
-/// the given cell is one; the answer is right for each such set.
-pub fn cell_across<'a>(hold: &'a Hold, cell: &Cell, facet: &Facet) -> &'a Cell
-    requires shown { ShowsWith hold.now cell.now }
-    requires facet { IsIn facet.now (facets_of cell.now) }
-    requires held { ¬ (NoneInHand hold.now (points_on facet.now)) }
-    ensures { (s : List ℕ) → Shows hold.now s → IsIn cell.now (complex s) → IsAcross s cell.now facet.now result.now }
-{
-    match hold.across(cell, facet) {
-        Across::Cell(other) => other,
-        Across::Need(_) => unreachable!(),
-    }
-}
-
-/// The cell across a facet of a cell at hand, at hand too; some point's bucket of the facet is in hand. The hold is to
-/// show a set of whose complex the given cell is one; the answer is right for each such set.
-pub fn spot_across(hold: &Hold, spot: &Spot, facet: &Facet) -> Spot
-    requires shown { ShowsWith hold.now spot.now }
-    requires facet { IsIn facet.now (facets_of spot.now) }
-    requires held { ¬ (NoneInHand hold.now (points_on facet.now)) }
-    ensures { (s : List ℕ) → Shows hold.now s → IsIn spot.now (complex s) → IsAcross s spot.now facet.now result }
-{
-    match hold.across_spot(spot, facet) {
-        SpotAcross::Spot(other) => other,
-        SpotAcross::Need(_) => unreachable!(),
-    }
-}
 
 // The first point of a cell that another does not have, if there is one.
 fn point_against(cell: &Cell, other: &Cell) -> Option<Point>
@@ -57,7 +29,7 @@ fn mate_of_triple(hold: &Hold, spot: &Spot, tri: &Tri) -> Point
     ensures { (s : List ℕ) → Shows hold.now s → IsIn (Open tri.now) (complex s) → IsMate s (Open tri.now) result }
 {
     let facet = Facet::Three(*tri);
-    let behind = spot_across(hold, spot, &facet);
+    let behind = hold.spot_across(spot, &facet);
     match point_against(behind.cell(), spot.cell()) {
         Some(mate) => mate,
         None => unreachable!(),

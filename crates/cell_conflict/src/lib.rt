@@ -7,7 +7,6 @@
 //! ```
 //! let goes = is_in_conflict(&hold, &cell, p);        // whether the new point p takes the cell away
 //! let first = conflict_among(&hold, b, p);           // some cell of bucket b that it takes away, if there is one
-//! let other = cell_across(&hold, &cell, &facet);     // a point of the facet lies in a bucket in hand
 //! ```
 #![tactic(auto)]
 
@@ -15,4 +14,4 @@ mod among;
 mod judge;
 
 pub use among::conflict_among;
-pub use judge::{cell_across, is_in_conflict, is_spot_in_conflict, spot_across};
+pub use judge::{is_in_conflict, is_spot_in_conflict};

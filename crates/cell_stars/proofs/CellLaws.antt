@@ -1,58 +1,18 @@
--- The order of cells, and exchanges of cells in sorted lists.
+-- Cells in sorted lists, and exchanges of them.
 use Rattle.std.specs.Prelude.{◌≡◌, ℕ, Bool, true, false, not, ◌||◌, List, [], ◌∷◌, ◌⊎◌}
 use Rattle.std.specs.List.{filter}
 use Rattle.std.specs.List.Sorted.{IsStrictlySortedBy}
-use Rattle.std.specs.Ordering.{is_eq, match_ordering, ordering_reverse}
+use Rattle.std.specs.Ordering.{is_eq, match_ordering}
 use Rattle.std.specs.declared.cmp.Ordering.{Ordering}
 use Rattle.std.specs.declared.cmp.Ordering.TheVariants.{Less, Equal, Greater}
 use Rattle.std.proofs.Common.{refl, sym, ◌∙◌, ap, subst, inl, inr}
-use Rattle.std.proofs.lemmas.Cmp.{nat_list_cmp_total}
 use Rattle.std.proofs.lemmas.List.Kept.{IsStrictlySortedBy-filter}
-use Rattle.list_laws.proofs.Cited.{all_by, each_by, filtered_from, filtered_true, same_list}
+use Rattle.list_laws.proofs.Cited.{all_by, each_by, filtered_from, filtered_true}
+use Rattle.point_order.proofs.Cited.{cell_after, cell_before, cell_same, cell_self}
 use Rattle.point_order.specs.declared.cell.Cell.{Cell}
-use Rattle.point_order.specs.declared.cell.Cell.TheVariants.{Full, Open}
 use Rattle.point_order.specs.CellOrder.{cell_cmp}
 use Rattle.point_order.specs.Sets.{IsIn}
 use Rattle.cell_stars.specs.Swaps.{is_cell_among, with_cell, with_cells, without_cells, touches, swapped}
-
--- ---- the order of cells
-
--- cells that tie are one
-pub cell_same : (c d : Cell) → cell_cmp c d ≡ Equal → c ≡ d
-cell_same (Full q) (Full r) e = ap Full (same_list q r e)
-cell_same (Full q) (Open r) e = cc
-cell_same (Open q) (Full r) e = cc
-cell_same (Open q) (Open r) e = ap Open (same_list q r e)
-
--- the other way round the answer is the reverse
-pub cell_reverse : (c d : Cell) → cell_cmp c d ≡ ordering_reverse (cell_cmp d c)
-cell_reverse (Full q) (Full r) = nat_list_cmp_total.antisymm q r
-cell_reverse (Full q) (Open r) = refl
-cell_reverse (Open q) (Full r) = refl
-cell_reverse (Open q) (Open r) = nat_list_cmp_total.antisymm q r
-
--- a cell ties with itself
-pub cell_self : (c : Cell) → cell_cmp c c ≡ Equal
-cell_self c = by (cell_cmp c c) (cell_reverse c c)
-  where
-    by : (o : Ordering) → o ≡ ordering_reverse o → o ≡ Equal
-    by Less e = cc
-    by Equal e = refl
-    by Greater e = cc
-
--- before what is before
-pub cell_before : (c d e : Cell) → cell_cmp c d ≡ Less → cell_cmp d e ≡ Less → cell_cmp c e ≡ Less
-cell_before (Full q) (Full r) (Full s) h k = nat_list_cmp_total.trans q r s h k
-cell_before (Full q) (Full r) (Open s) h k = refl
-cell_before (Full q) (Open r) (Full s) h k = cc
-cell_before (Full q) (Open r) (Open s) h k = refl
-cell_before (Open q) (Full r) e h k = cc
-cell_before (Open q) (Open r) (Full s) h k = cc
-cell_before (Open q) (Open r) (Open s) h k = nat_list_cmp_total.trans q r s h k
-
--- what is after comes before the other way round
-pub cell_after : (c d : Cell) → cell_cmp c d ≡ Greater → cell_cmp d c ≡ Less
-cell_after c d e = cell_reverse d c ∙ ap ordering_reverse e
 
 -- ---- whether a cell is in a list
 

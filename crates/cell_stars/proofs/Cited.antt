@@ -1,6 +1,5 @@
 -- The lemmas that other crates cite.
-pub use Rattle.cell_stars.proofs.CellLaws.{among_from, among_true, cell_after, cell_before, cell_same, cell_self, in_or_not, swapped_from, swapped_new, swapped_none, swapped_old, swapped_sorted, withs_new}
+pub use Rattle.cell_stars.proofs.CellLaws.{among_from, among_true, in_or_not, swapped_from, swapped_new, swapped_none, swapped_old, swapped_sorted, withs_new}
 pub use Rattle.cell_stars.proofs.Gathering.{gathers}
-pub use Rattle.cell_stars.proofs.GridLaws.{bucket-below}
+pub use Rattle.cell_stars.proofs.GridLaws.{bucket_below}
 pub use Rattle.cell_stars.proofs.Least.{live_at}
-pub use Rattle.cell_stars.proofs.Orders.{cell_order}

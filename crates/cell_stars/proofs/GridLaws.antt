@@ -29,9 +29,9 @@ below g x y z h i j k =
     P : ℕ → Type 0
     P g = x / width_of g * g * g + y / width_of g * g + z / width_of g < g * g * g
 
-pub bucket-below : (g p : ℕ) → is_grid_size g ≡ true → bucket_of g p < g * g * g
+pub bucket_below : (g p : ℕ) → is_grid_size g ≡ true → bucket_of g p < g * g * g
 unfolding bucket_of x_of y_of z_of
-bucket-below g p h = below g (p / 268435456 % 16384) (p / 16384 % 16384) (p % 16384) h (omega arith) (omega arith) (omega arith)
+bucket_below g p h = below g (p / 268435456 % 16384) (p / 16384 % 16384) (p % 16384) h (omega arith) (omega arith) (omega arith)
 
 -- a part of the range by a product in place of a quotient by its width
 part_is : (g c : ℕ) → is_grid_size g ≡ true → c < 16384 → c * g / 16384 ≡ c / (16384 / g)
@@ -54,9 +54,9 @@ part_is g c h l =
     P g = c * g / 16384 ≡ c / (16384 / g)
 
 -- the number as the code finds it, from equal parts
-pub bucket-is : (g v p a b c : ℕ) → is_grid_size g ≡ true → g ≡ v → a ≡ p → b ≡ p → c ≡ p → (a / 268435456 % 16384) * g / 16384 * g * g + (b / 16384 % 16384) * g / 16384 * g + (c % 16384) * g / 16384 ≡ bucket_of v p
+pub bucket_is : (g v p a b c : ℕ) → is_grid_size g ≡ true → g ≡ v → a ≡ p → b ≡ p → c ≡ p → (a / 268435456 % 16384) * g / 16384 * g * g + (b / 16384 % 16384) * g / 16384 * g + (c % 16384) * g / 16384 ≡ bucket_of v p
 unfolding bucket_of x_of y_of z_of
-bucket-is g v p a b c h e1 e2 e3 e4 =
+bucket_is g v p a b c h e1 e2 e3 e4 =
     ap (λ x. x * g * g + (b / 16384 % 16384) * g / 16384 * g + (c % 16384) * g / 16384) (part_is g (a / 268435456 % 16384) h (omega arith))
     ∙ ap (λ y. (a / 268435456 % 16384) / (16384 / g) * g * g + y * g + (c % 16384) * g / 16384) (part_is g (b / 16384 % 16384) h (omega arith))
     ∙ ap (λ z. (a / 268435456 % 16384) / (16384 / g) * g * g + (b / 16384 % 16384) / (16384 / g) * g + z) (part_is g (c % 16384) h (omega arith))

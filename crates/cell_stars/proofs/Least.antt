@@ -8,6 +8,7 @@ use Rattle.std.specs.declared.cmp.Ordering.TheVariants.{Less, Equal, Greater}
 use Rattle.std.proofs.Common.{add-one, ◌+◌, refl, sym, ◌∙◌, ap, subst, inl, inr, arith, take}
 use Rattle.std.proofs.lemmas.List.Kept.{IsStrictlySortedBy-filter}
 use Rattle.list_laws.proofs.Cited.{among_from, among_true, filtered_from, filtered_true, in_more, is_less, last_one, more_one}
+use Rattle.point_order.proofs.Cited.{cell_after, cell_before, cell_same, cell_self}
 use Rattle.point_order.specs.declared.cell.Cell.{Cell}
 use Rattle.point_order.specs.CellOrder.{cell_cmp}
 use Rattle.point_order.specs.Facets.{points_of}
@@ -15,7 +16,7 @@ use Rattle.point_order.specs.Sets.{IsIn, is_among}
 use Rattle.del_laws.proofs.Cited.{same_members}
 use Rattle.cell_stars.specs.Swaps.{with_cells}
 use Rattle.cell_stars.specs.Places.{Placed, AreStars, IsStarred, live, at, named, cells_of, lies_in, is_after, IsOneOf, HaveNone, IsLeastOf}
-use Rattle.cell_stars.proofs.CellLaws.{cell_same, cell_self, cell_before, cell_after, in_withs, withs_new, withs_sorted}
+use Rattle.cell_stars.proofs.CellLaws.{in_withs, withs_new, withs_sorted}
 
 -- ---- members
 

@@ -11,7 +11,8 @@ use Rattle.cell_stars.specs.Moves.{IsStarFor, AreFreed, IsFreed, AreComing, IsCo
 use Rattle.point_order.specs.Sets.{is_among}
 use Rattle.cell_stars.specs.Grids.{bucket_of}
 use Rattle.cell_stars.specs.Plans.{AreFor}
-use Rattle.cell_stars.specs.Swaps.{AreSameCells, Differ}
+use Rattle.point_order.specs.CellOrder.{AreSameCells}
+use Rattle.cell_stars.specs.Swaps.{Differ}
 
 -- another cell stands at the place
 pub another : (slots : List (Option Cell)) (i : ℕ) (c d : Cell) → at slots i ≡ Some c → (c ≡ d → ⊥) → at slots i ≡ Some d → ⊥

@@ -5,12 +5,13 @@ use Rattle.std.specs.declared.cmp.Ordering.{Ordering}
 use Rattle.std.specs.declared.cmp.Ordering.TheVariants.{Less, Equal, Greater}
 use Rattle.std.proofs.Common.{refl, sym, ◌∙◌, ap, subst, inl, inr, arith}
 use Rattle.std.proofs.lemmas.List.Sorted.{IsPermutation-refl, IsPermutation-cons, IsPermutation-trans, IsPermutation-middle, IsPermutation-append_right}
+use Rattle.point_order.proofs.Cited.{cell_same}
 use Rattle.point_order.specs.declared.cell.Cell.{Cell}
 use Rattle.point_order.specs.CellOrder.{cell_cmp}
 use Rattle.point_order.specs.Sets.{IsIn}
 use Rattle.cell_stars.specs.Swaps.{Differ, with_cell, with_cells}
 use Rattle.cell_stars.specs.Places.{Placed, AreStars, IsNamed, at, live, cells_of, lies_in, touches_in}
-use Rattle.cell_stars.proofs.CellLaws.{cell_same, in_with}
+use Rattle.cell_stars.proofs.CellLaws.{in_with}
 use Rattle.cell_stars.proofs.Least.{at_live}
 
 -- a bucket that has not stood anywhere has no cells

@@ -5,7 +5,7 @@ use Rattle.std.proofs.Common.{refl, sym, ◌∙◌, ap, arith}
 use Rattle.std.proofs.Math.ListN.{get_or-map}
 use Rattle.std.proofs.lemmas.List.{length-map}
 use Rattle.std.proofs.Math.Nat.{pow-succ', mul-le-mul_left, mul_assoc, mul_left_comm}
-use Rattle.list_laws.proofs.Cited.{climbs, default_free, rises}
+use Rattle.list_laws.proofs.Cited.{climbs, default_free}
 use Rattle.point_order.specs.Sets.{IsAscending}
 
 -- The keys before low are less, those from high on are greater, and each step halved what is left. There are n.

@@ -48,10 +48,6 @@ cells_behind c (d ∷ l) = match_ordering (cell_cmp d c) (d ∷ l) l (d ∷ l)
 unfoldable pub swapped : ℕ → ℕ → List Cell → List Cell → List Cell → List Cell
 swapped g b gone fresh l = with_cells (filter (touches g b) fresh) (without_cells (filter (touches g b) gone) l)
 
--- the two lists have the same cells
-abbrev pub AreSameCells : List Cell → List Cell → Type 0
-AreSameCells l m = ((c : Cell) → IsIn c l → IsIn c m) × ((c : Cell) → IsIn c m → IsIn c l)
-
 -- no cell stands twice in the list
 abbrev pub Differ : List Cell → Type 0
 Differ [] = Unit {0}

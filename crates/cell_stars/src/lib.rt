@@ -34,7 +34,7 @@ mod writes;
 pub use cells::Cells;
 pub use grid::{BadGrid, Grid};
 pub use matched::Matched;
-pub use order::{are_same, cells_in_order};
+pub use order::are_same;
 pub use plan::Plan;
 pub use star::{BucketCells, Star, StarCells};
 pub use steps::Steps;

@@ -1,14 +1,13 @@
 //! Lists in order, each element once.
 
 ghost use Rattle.std.specs.Prelude.{◌≡◌, ◌↔◌, ℕ, false, IsTrue};
-ghost use Rattle.std.specs.List.Sorted.{IsStrictlySortedBy};
-ghost use Rattle.point_order.specs.CellOrder.{cell_cmp};
+ghost use Rattle.point_order.specs.CellOrder.{cell_cmp, AreSameCells};
 ghost use Rattle.point_order.specs.Facets.{points_of};
 ghost use Rattle.point_order.specs.Sets.{IsIn, IsAscending, is_among};
-ghost use Rattle.cell_stars.specs.Swaps.{touches as touches_of, AreSameCells, Differ};
+ghost use Rattle.cell_stars.specs.Swaps.{touches as touches_of, Differ};
 
 use crate::grid::Grid;
-use point_order::{Cell, Point, Quad, Tri};
+use point_order::{Cell, Point, Quad, Tri, cells_in_order};
 use std::cmp::Ordering;
 
 // Whether a finite vertex of the cell lies in the bucket.
@@ -70,16 +69,6 @@ pub(crate) fn has_vertex(cell: &Cell, p: Point) -> bool
     }
 }
 
-/// The cells in order, each once. It takes no memory.
-pub fn cells_in_order(mut list: Vec<Cell>) -> Vec<Cell>
-    ensures order { IsStrictlySortedBy cell_cmp result.items }
-    ensures cells { AreSameCells list.items result.items }
-{
-    list.sort_unstable();
-    list.dedup();
-    list
-}
-
 // Up to so many cells are compared with each other, rather than put in order.
 const FEW: usize = 32;
 
@@ -124,16 +113,6 @@ pub(crate) fn cells_once(list: Vec<Cell>) -> Vec<Cell>
 pub(crate) fn numbers_in_order(mut list: Vec<u32>) -> Vec<u32>
     ensures order { IsAscending result.items }
     ensures same { (n : ℕ) → IsIn n result.items ↔ IsIn n list.items }
-{
-    list.sort_unstable();
-    list.dedup();
-    list
-}
-
-// The points in order, each once.
-pub(crate) fn points_in_order(mut list: Vec<Point>) -> Vec<Point>
-    ensures order { IsAscending result.items }
-    ensures same { (p : ℕ) → IsIn p result.items ↔ IsIn p list.items }
 {
     list.sort_unstable();
     list.dedup();

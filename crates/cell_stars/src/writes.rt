@@ -38,11 +38,11 @@ use crate::cells::{Cells, places_in};
 use crate::links::hash_of;
 use crate::marks::{Marks, has_marked, marks_of};
 use crate::moves::{Moves, behind_last};
-use crate::order::{has_vertex, numbers_in_order, points_in_order};
+use crate::order::{has_vertex, numbers_in_order};
 use crate::plan::Around;
 use crate::star::cell_at;
 use crate::steps::place_of;
-use point_order::{Cell, Point};
+use point_order::{Cell, Point, points_in_order};
 use smallvec::SmallVec;
 use std::alloc::{AllocError, Global};
 

@@ -1,13 +1,12 @@
 -- The points of all buckets.
 use Rattle.std.specs.List.{flat_map}
 use Rattle.std.specs.Option.{option_map_or}
-use Rattle.std.specs.Prelude.{List, None, Option, Some, [], refl, true, ℕ, ◌<◌, ◌==◌, ◌↔◌, ◌≡◌}
-use Rattle.std.proofs.Common.{arith, subst, sym}
-use Rattle.std.proofs.lemmas.Bool.Decides.{nat_tests}
+use Rattle.std.specs.Prelude.{List, None, Option, Some, [], refl, ℕ, ◌<◌, ◌==◌, ◌↔◌, ◌≡◌}
+use Rattle.std.proofs.Common.{subst, sym}
 use Rattle.list_laws.specs.Lists.{IsIn}
-use Rattle.list_laws.proofs.Cited.{filtered_from, filtered_true, some_of}
+use Rattle.list_laws.proofs.Cited.{eq_same, filtered_from, filtered_true, some_of}
 use Rattle.cell_stars.specs.Grids.{bucket_of}
-use Rattle.cell_stars.proofs.Cited.{bucket-below}
+use Rattle.cell_stars.proofs.Cited.{bucket_below}
 use Rattle.cell_store.specs.Buckets.{BucketContent, InHand, bucket_at}
 use Rattle.cell_store.specs.Meshes.{IsWhole}
 use Rattle.cell_store.specs.Shares.{Shows}
@@ -32,9 +31,6 @@ points_are hold s w sh p = (forth, back)
     back k =
         let b = bucket_of hold.grid p in
         let x = some_of (bucket_at hold.places b) (point_held hold p w.has w.all) in
-        let j = filtered_true (λ q. bucket_of hold.grid q == b) s p k (same b) in
-        in_flat points_of_bucket hold.places b None p (subst (λ n. b < n) (sym w.has.places) (bucket-below hold.grid p w.has.size))
+        let j = filtered_true (λ q. bucket_of hold.grid q == b) s p k (eq_same b) in
+        in_flat points_of_bucket hold.places b None p (subst (λ n. b < n) (sym w.has.places) (bucket_below hold.grid p w.has.size))
         (subst (λ o. IsIn p (points_of_bucket o)) (sym x.1) (subst (λ (l : List ℕ). IsIn p l) (sym (sh.sights b x.0 x.1).points) j))
-      where
-        same : (b : ℕ) → (b == b) ≡ true
-        same b = grind (arith, nat_tests)

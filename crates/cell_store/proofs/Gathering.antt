@@ -7,9 +7,9 @@ use Rattle.std.proofs.lemmas.List.Sorted.{IsPermutation-sym}
 use Rattle.list_laws.proofs.Cited.{from_append, in_left, in_moved, in_right}
 use Rattle.point_order.specs.declared.cell.Cell.{Cell}
 use Rattle.point_order.specs.Sets.{IsIn}
+use Rattle.point_order.specs.CellOrder.{AreSameCells}
 use Rattle.cell_store.specs.Buckets.{BucketContent, bucket_at}
 use Rattle.cell_store.specs.Meshes.{HasMore}
-use Rattle.cell_store.specs.Swaps.{AreSameCells}
 use Rattle.cell_store.proofs.MeshLaws.{cells_of, next_gathered}
 
 -- the same cells with those of one more bucket

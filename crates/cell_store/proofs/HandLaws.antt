@@ -1,11 +1,10 @@
 -- Buckets that come in hand and go.
-use Rattle.std.specs.Prelude.{◌≡◌, ℕ, zero, suc, true, ◌==◌, List, [], ◌∷◌, ◌⊎◌, Option, None, Some, IsSome, slice_set, ◌*◌, replicate}
+use Rattle.std.specs.Prelude.{◌≡◌, ℕ, zero, suc, ◌==◌, List, [], ◌∷◌, ◌⊎◌, Option, None, Some, IsSome, slice_set, ◌*◌, replicate}
 use Rattle.std.specs.List.{filter}
-use Rattle.std.proofs.Common.{refl, sym, ◌∙◌, ap, subst, inl, inr, arith}
+use Rattle.std.proofs.Common.{refl, sym, ◌∙◌, ap, subst, inl, inr}
 use Rattle.std.proofs.lemmas.Bool.{cases_eq}
-use Rattle.std.proofs.lemmas.Bool.Decides.{nat_tests}
 use Rattle.std.proofs.lemmas.List.{get_or-set_other}
-use Rattle.list_laws.proofs.Cited.{among_from, among_true, filtered_from, filtered_true, same_test, some_of}
+use Rattle.list_laws.proofs.Cited.{among_from, among_true, eq_same, filtered_from, filtered_true, one_value, same_test, some_of}
 use Rattle.point_order.specs.Sets.{is_among}
 use Rattle.cell_store.specs.Grids.{bucket_of}
 use Rattle.cell_store.specs.Buckets.{BucketContent, InHand, bucket_at, points_in, at_place}
@@ -55,9 +54,6 @@ empty_shows g s solid = record {
 
 -- ---- one place that is set
 
-same_some : {X : Type 0} {x y : X} → Some x ≡ Some y → x ≡ y
-same_some e = cc
-
 -- what stands at a place after one was set: what was set there, or what stood at the place before
 set_from : (l : List (Option BucketContent)) (b k : ℕ) (x : Option BucketContent) (y : BucketContent) → bucket_at (slice_set l b x) k ≡ Some y → ((k ≡ b) × (x ≡ Some y)) ⊎ (bucket_at l k ≡ Some y)
 set_from [] zero k x y e = inr e
@@ -70,7 +66,7 @@ set_from (o ∷ l) (suc b) (suc k) x y e = elim (set_from l b k x y e) [ inl p �
 -- a fact of every bucket in hand, where it holds of the one that comes
 put_each : (P : ℕ → BucketContent → Type 0) (hold : InHand) (b : ℕ) (c : BucketContent) → P b (at_place hold.grid b c) → ((k : ℕ) (d : BucketContent) → bucket_at hold.places k ≡ Some d → P k d) → (k : ℕ) (d : BucketContent) → bucket_at (with_bucket b c hold).places k ≡ Some d → P k d
 put_each P hold b c own old k d e = elim (set_from hold.places b k (Some (at_place hold.grid b c)) d e) [
-  | inl w ↦ subst (λ n. P n d) (sym w.0) (subst (P b) (same_some w.1) own)
+  | inl w ↦ subst (λ n. P n d) (sym w.0) (subst (P b) (one_value (at_place hold.grid b c) d w.1) own)
   | inr q ↦ old k d q
 ]
 
@@ -93,20 +89,14 @@ put_shows hold b c s sh sight = record {
 pub put_is_more : PutIsMore
 put_is_more hold b c none = record { grid = refl; buckets = each }
   where
-    clash : {d : BucketContent} → None ≡ Some d → ⊥
-    clash e = cc e
-
     each : (k : ℕ) (d : BucketContent) → bucket_at hold.places k ≡ Some d → bucket_at (with_bucket b c hold).places k ≡ Some d
     each k d e = elim (cases_eq k b) [
-      | inl w ↦ absurd (clash (sym none ∙ ap (bucket_at hold.places) (sym w) ∙ e))
+      | inl w ↦ absurd (cc (sym none ∙ ap (bucket_at hold.places) (sym w) ∙ e))
       | inr n ↦ get_or-set_other hold.places b k (Some (at_place hold.grid b c)) None n ∙ e
     ]
 
 pub take_is_fewer : TakeIsFewer
-take_is_fewer hold b = record { grid = refl; buckets = λ k d e. elim (set_from hold.places b k None d e) [ inl w ↦ absurd (clash w.1) | inr q ↦ q ] }
-  where
-    clash : {d : BucketContent} → None ≡ Some d → ⊥
-    clash e = cc e
+take_is_fewer hold b = record { grid = refl; buckets = λ k d e. elim (set_from hold.places b k None d e) [ inl w ↦ absurd (cc w.1) | inr q ↦ q ] }
 
 -- ---- a point in hand
 
@@ -118,7 +108,4 @@ held_point hold s p sh o =
     let is : points_in hold.places b ≡ filter (λ q. bucket_of hold.grid q == b) s = (rw c.1 (sh.sights b c.0 c.1).points) in
     ap (is_among p) is ∙ same_test (is_among p (filter (λ q. bucket_of hold.grid q == b) s)) (is_among p s)
     (λ t. among_true p s (filtered_from (λ q. bucket_of hold.grid q == b) s p (among_from p (filter (λ q. bucket_of hold.grid q == b) s) t)).0)
-    (λ t. among_true p (filter (λ q. bucket_of hold.grid q == b) s) (filtered_true (λ q. bucket_of hold.grid q == b) s p (among_from p s t) (same b)))
-  where
-    same : (n : ℕ) → (n == n) ≡ true
-    same n = grind (arith, nat_tests)
+    (λ t. among_true p (filter (λ q. bucket_of hold.grid q == b) s) (filtered_true (λ q. bucket_of hold.grid q == b) s p (among_from p s t) (eq_same b)))

@@ -11,3 +11,4 @@ pub mod StarLaws
 pub mod KeyLaws
 pub mod Cited
 pub mod BucketPoints
+pub mod Held

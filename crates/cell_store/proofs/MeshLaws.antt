@@ -1,6 +1,6 @@
 -- Meshes, their histories, and buckets in hand.
-use Rattle.std.specs.Prelude.{◌≡◌, ◌⊎◌, ltb, ℕ, ◌+◌, ◌-◌, ◌*◌, ◌^◌, zero, suc, ◌<◌, ◌≤◌, ◌==◌, min, nat_lt, Bool, true, false, cond, not, ◌&&◌, List, [], ◌∷◌, ◌++◌, Option, None, Some, IsSome, is_some, length, slice_index_or}
-use Rattle.std.specs.List.{filter, flat_map, range_with_len, list_all}
+use Rattle.std.specs.Prelude.{◌≡◌, ◌⊎◌, ltb, ℕ, ◌+◌, ◌-◌, ◌*◌, ◌^◌, zero, suc, ◌<◌, ◌≤◌, ◌==◌, min, nat_lt, Bool, true, false, cond, not, ◌&&◌, List, [], ◌∷◌, ◌++◌, Option, None, Some, IsSome, length, slice_index_or}
+use Rattle.std.specs.List.{filter, flat_map, range_with_len}
 use Rattle.std.specs.List.Sorted.{IsPermutation, IsNonDecreasingBy}
 use Rattle.std.specs.Option.{option_map_or}
 use Rattle.std.proofs.Common.{refl, sym, ◌∙◌, ap, subst, inl, inr, arith, take, length-append, add-one}
@@ -9,28 +9,28 @@ use Rattle.std.proofs.lemmas.Bool.Decides.{nat_tests}
 use Rattle.std.proofs.lemmas.Grind.{flat_map-append}
 use Rattle.std.proofs.lemmas.List.{append-nil}
 use Rattle.std.proofs.lemmas.List.Sorted.{IsPermutation-append, IsPermutation-cons, IsPermutation-middle, IsPermutation-filter_both, IsPermutation-map, IsPermutation-refl, IsPermutation-sym, IsPermutation-trans, length_permutation}
-use Rattle.list_laws.proofs.Cited.{all_from, all_pass, all_true, filter_and, filtered_from, filtered_true, from_append, in_left, in_moved, in_right, is_there, none_pass, some_mapped, some_of, take_suc}
+use Rattle.list_laws.proofs.Cited.{all_pass, below_true, filter_and, filtered_from, filtered_true, from_append, in_left, in_moved, in_right, is_there, none_pass, some_mapped, some_of, take_suc}
 use Rattle.point_order.specs.declared.cell.Cell.{Cell}
 use Rattle.point_order.specs.declared.cell.Cell.TheVariants.{Full, Open}
 use Rattle.point_order.specs.Complex.{complex}
 use Rattle.point_order.specs.Coordinates.{IsKey}
 use Rattle.point_order.specs.Facets.{points_of}
 use Rattle.point_order.specs.Sets.{IsIn}
+use Rattle.point_order.specs.CellOrder.{AreSameCells}
 use Rattle.edit_history.specs.declared.history.Entry.{Entry}
 use Rattle.edit_history.specs.Edits.{point_of, after}
 use Rattle.edit_history.specs.Histories.{replay, IsLegalFrom}
 use Rattle.edit_history.specs.Merging.{numbers}
-use Rattle.edit_history.proofs.Cited.{merged-order}
+use Rattle.edit_history.proofs.Cited.{merged_order}
 use Rattle.del_laws.specs.Listed.{IsListed}
 use Rattle.del_laws.proofs.Cited.{complex_is_sorted, listed_is_cell, same_members}
 use Rattle.cell_store.specs.Grids.{bucket_of}
 use Rattle.cell_store.specs.Buckets.{BucketContent, InHand, bucket_at}
 use Rattle.cell_store.specs.Shares.{Stands, IsSound, Shows, entries_share}
 use Rattle.cell_store.specs.Changes.{Follows, IsNext, IsSwapped, IsNoted}
-use Rattle.cell_store.specs.Ready.{AreHeld}
-use Rattle.cell_store.specs.Swaps.{touches, AreSameCells}
+use Rattle.cell_store.specs.Swaps.{touches}
 use Rattle.cell_store.specs.Meshes.{AllInHand, HasPlaces, IsWhole, MeshView, IsHoldOf, with_entry, by_number, history_in, mesh_in, counted, all_entries, all_cells, HistoryIs, MeshIs, MeshGathersHistory, MeshGathersComplex, AllAreHeld, MoreAreHeld}
-use Rattle.cell_stars.proofs.Cited.{bucket-below}
+use Rattle.cell_stars.proofs.Cited.{bucket_below}
 use Rattle.cell_store.proofs.HandLaws.{fewer_stand}
 use Rattle.cell_store.proofs.NextLaws.{entry_keeps_hold, next_entry}
 use Rattle.cell_store.proofs.ShareLaws.{touched, sound_of, stands_shows}
@@ -38,7 +38,7 @@ use Rattle.cell_store.proofs.ShareLaws.{touched, sound_of, stands_shows}
 -- ---- what is in hand
 
 pub point_held : (hold : InHand) (p : ℕ) → HasPlaces hold → AllInHand hold → IsSome (bucket_at hold.places (bucket_of hold.grid p))
-point_held hold p has all = all (bucket_of hold.grid p) (subst (λ n. bucket_of hold.grid p < n) (sym has.places) (bucket-below hold.grid p has.size))
+point_held hold p has all = all (bucket_of hold.grid p) (subst (λ n. bucket_of hold.grid p < n) (sym has.places) (bucket_below hold.grid p has.size))
 
 -- so with the hold of a mesh
 pub held_by : (mesh : MeshView) (hold : InHand) (p : ℕ) → IsHoldOf mesh hold → IsSome (bucket_at hold.places (bucket_of hold.grid p))
@@ -55,13 +55,6 @@ pub more_are_held : MoreAreHeld
 more_are_held few many l am held c k p i =
     let s = some_of (bucket_at few.places (bucket_of few.grid p)) (held c k p i) in
     subst (λ g. IsSome (bucket_at many.places (bucket_of g p))) am.grid (is_there (bucket_at many.places (bucket_of few.grid p)) s.0 (am.buckets (bucket_of few.grid p) s.0 s.1))
-
--- the test whether cells are held
-pub held_test : (hold : InHand) (l : List Cell) (t : Bool) → t ≡ list_all (λ c. list_all (λ p. is_some (bucket_at hold.places (bucket_of hold.grid p))) (points_of c)) l → (t ≡ true → AreHeld hold l) × (AreHeld hold l → t ≡ true)
-held_test hold l t e = (
-  λ h c k p i. all_from (λ p. is_some (bucket_at hold.places (bucket_of hold.grid p))) (points_of c) (all_from (λ c. list_all (λ p. is_some (bucket_at hold.places (bucket_of hold.grid p))) (points_of c)) l (sym e ∙ h) c k) p i,
-  λ h. e ∙ all_true (λ c. list_all (λ p. is_some (bucket_at hold.places (bucket_of hold.grid p))) (points_of c)) l (λ c k. all_true (λ p. is_some (bucket_at hold.places (bucket_of hold.grid p))) (points_of c) (h c k)),
-)
 
 -- ---- the entries of the first buckets
 
@@ -117,11 +110,8 @@ gathered hold h all st (suc n) k =
 pub gathers : (hold : InHand) (h : List Entry) → HasPlaces hold → AllInHand hold → Stands hold h → IsPermutation (all_entries hold.places) h
 gathers hold h has all st =
     let p = gathered hold h all st (length hold.places) (omega arith) in
-    let e = all_pass (is_below hold.grid (length hold.places)) h (λ e. below (bucket_of hold.grid (point_of e.edit)) (length hold.places) (subst (λ n. bucket_of hold.grid (point_of e.edit) < n) (sym has.places) (bucket-below hold.grid (point_of e.edit) has.size))) in
+    let e = all_pass (is_below hold.grid (length hold.places)) h (λ e. below_true (bucket_of hold.grid (point_of e.edit)) (length hold.places) (subst (λ n. bucket_of hold.grid (point_of e.edit) < n) (sym has.places) (bucket_below hold.grid (point_of e.edit) has.size))) in
     subst (λ m. IsPermutation (all_entries hold.places) m) e (subst (λ m. IsPermutation (flat_map entries_of m) (filter (is_below hold.grid (length hold.places)) h)) (take-length hold.places) p)
-  where
-    below : (m n : ℕ) → m < n → nat_lt m n ≡ true
-    below m n = grind (arith, nat_tests)
 
 -- ---- entries by number
 
@@ -256,7 +246,7 @@ pub history_is : HistoryIs
 history_is hold h w st =
     let g = mesh_gathers hold h w st in
     let l : List Entry = all_entries hold.places in
-    g.ordered (by_number l) (sorted_moves l) (merged-order l (by_number l) g.numbered (sorted_moves l) (rises_all (by_number l) (sorted_rises l)))
+    g.ordered (by_number l) (sorted_moves l) (merged_order l (by_number l) g.numbered (sorted_moves l) (rises_all (by_number l) (sorted_rises l)))
 
 pub mesh_is : MeshIs
 mesh_is mesh hold i = λ k. record { grid = i.grid k; history = history_is hold mesh.history i.whole i.stands k }
@@ -303,7 +293,7 @@ cells_are mesh s m sh = (forth, back)
         let p = has_point s c (listed_is_cell s c sh.ascending i) in
         let x = some_of (bucket_at mesh.places (bucket_of mesh.grid p.0)) (point_held mesh p.0 m.has m.all) in
         let k = filtered_true (touches mesh.grid (bucket_of mesh.grid p.0)) (complex s) c i (touched mesh.grid p.0 (bucket_of mesh.grid p.0) c refl p.1) in
-        in_flat cells_of mesh.places (bucket_of mesh.grid p.0) None c (subst (λ n. bucket_of mesh.grid p.0 < n) (sym m.has.places) (bucket-below mesh.grid p.0 m.has.size))
+        in_flat cells_of mesh.places (bucket_of mesh.grid p.0) None c (subst (λ n. bucket_of mesh.grid p.0 < n) (sym m.has.places) (bucket_below mesh.grid p.0 m.has.size))
         (subst (λ o. IsIn c (cells_of o)) (sym x.1) (subst (IsIn c) (sym (sh.sights (bucket_of mesh.grid p.0) x.0 x.1).cells) k))
 
 pub mesh_gathers_cells : MeshGathersComplex

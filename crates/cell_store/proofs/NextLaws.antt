@@ -11,13 +11,13 @@ use Rattle.point_order.specs.declared.cell.Cell.{Cell}
 use Rattle.point_order.specs.CellOrder.{cell_cmp}
 use Rattle.point_order.specs.Complex.{complex}
 use Rattle.point_order.specs.Sets.{IsIn, IsAscending, with_point, without_point}
-use Rattle.point_order.proofs.Cited.{ascending-with, in-with, in-with_new, in-with_old}
+use Rattle.point_order.proofs.Cited.{ascending_with, in_with, in_with_new, in_with_old}
 use Rattle.edit_history.specs.declared.history.Entry.{Entry}
 use Rattle.edit_history.specs.declared.history.Reply.{Reply}
 use Rattle.edit_history.specs.declared.history.Reply.TheVariants.{Inserted, Duplicate, Removed, Missing, Flat}
 use Rattle.edit_history.specs.Edits.{point_of, changed, after}
 use Rattle.edit_history.specs.Histories.{replay, replay_from, IsLegal, IsLegalFrom}
-use Rattle.edit_history.proofs.Cited.{legal_more, replay_more}
+use Rattle.edit_history.proofs.Cited.{leaves_set, legal_more, replay_more}
 use Rattle.del_laws.proofs.Cited.{complex_is_sorted, same_members}
 use Rattle.hole_laws.specs.Edits.{IsSolidSet}
 use Rattle.hole_laws.proofs.Cited.{stays_solid}
@@ -27,7 +27,6 @@ use Rattle.cell_store.specs.Swaps.{touches, swapped}
 use Rattle.cell_store.specs.Shares.{IsShare, cells_share, entries_share}
 use Rattle.cell_store.specs.Changes.{swapped_in, noted_in, IsChange, NextEntry, EntryKeepsHold, ShareAfterEntry, ShareElsewhere}
 use Rattle.cell_stars.proofs.Cited.{in_or_not, swapped_from, swapped_new, swapped_none, swapped_old, swapped_sorted}
-use Rattle.cell_store.proofs.ShareLaws.{ascending_replay}
 
 -- ---- the cells
 
@@ -54,8 +53,8 @@ pub cells_after : (g b : ℕ) (h k : List Entry) (gone fresh : List Cell) → Is
 cells_after g b h k gone fresh ch =
     let r = cells_next g b (complex (replay h)) (complex (replay k)) gone fresh ch in
     same_members (swapped g b gone fresh (cells_share g b h)) (cells_share g b k)
-    (swapped_sorted g b gone fresh (cells_share g b h) (IsStrictlySortedBy-filter cell_cmp (touches g b) (complex (replay h)) (complex_is_sorted (replay h) (ascending_replay h))))
-    (IsStrictlySortedBy-filter cell_cmp (touches g b) (complex (replay k)) (complex_is_sorted (replay k) (ascending_replay k)))
+    (swapped_sorted g b gone fresh (cells_share g b h) (IsStrictlySortedBy-filter cell_cmp (touches g b) (complex (replay h)) (complex_is_sorted (replay h) (leaves_set h))))
+    (IsStrictlySortedBy-filter cell_cmp (touches g b) (complex (replay k)) (complex_is_sorted (replay k) (leaves_set k)))
     r.0 r.1
 
 -- ---- the points
@@ -67,22 +66,22 @@ lies g b p = bucket_of g p == b
 -- a filtered set after a change: where the point passes the test, the change of the filtered set
 filter_with : (t : ℕ → Bool) (p : ℕ) (s : List ℕ) → IsAscending s → t p ≡ true → with_point p (filter t s) ≡ filter t (with_point p s)
 filter_with t p s a e =
-    same-members (with_point p (filter t s)) (filter t (with_point p s)) (ascending-with p (filter t s) (filtered_ascending t s a)) (filtered_ascending t (with_point p s) (ascending-with p s a))
-    (λ q i. elim (in-with p q (filter t s) i) [
-      | inl f ↦ filtered_true t (with_point p s) q (subst (λ z. IsIn z (with_point p s)) f (in-with_new p s)) (subst (λ z. t z ≡ true) f e)
-      | inr j ↦ (let r = filtered_from t s q j in filtered_true t (with_point p s) q (in-with_old p q s r.0) r.1)
+    same-members (with_point p (filter t s)) (filter t (with_point p s)) (ascending_with p (filter t s) (filtered_ascending t s a)) (filtered_ascending t (with_point p s) (ascending_with p s a))
+    (λ q i. elim (in_with p q (filter t s) i) [
+      | inl f ↦ filtered_true t (with_point p s) q (subst (λ z. IsIn z (with_point p s)) f (in_with_new p s)) (subst (λ z. t z ≡ true) f e)
+      | inr j ↦ (let r = filtered_from t s q j in filtered_true t (with_point p s) q (in_with_old p q s r.0) r.1)
     ])
-    (λ q i. (let r = filtered_from t (with_point p s) q i in elim (in-with p q s r.0) [
-      | inl f ↦ subst (λ z. IsIn z (with_point p (filter t s))) f (in-with_new p (filter t s))
-      | inr j ↦ in-with_old p q (filter t s) (filtered_true t s q j r.1)
+    (λ q i. (let r = filtered_from t (with_point p s) q i in elim (in_with p q s r.0) [
+      | inl f ↦ subst (λ z. IsIn z (with_point p (filter t s))) f (in_with_new p (filter t s))
+      | inr j ↦ in_with_old p q (filter t s) (filtered_true t s q j r.1)
     ]))
 
 -- and where it does not, no change
 filter_with_else : (t : ℕ → Bool) (p : ℕ) (s : List ℕ) → IsAscending s → t p ≡ false → filter t s ≡ filter t (with_point p s)
 filter_with_else t p s a e =
-    same-members (filter t s) (filter t (with_point p s)) (filtered_ascending t s a) (filtered_ascending t (with_point p s) (ascending-with p s a))
-    (λ q i. (let r = filtered_from t s q i in filtered_true t (with_point p s) q (in-with_old p q s r.0) r.1))
-    (λ q i. (let r = filtered_from t (with_point p s) q i in elim (in-with p q s r.0) [
+    same-members (filter t s) (filter t (with_point p s)) (filtered_ascending t s a) (filtered_ascending t (with_point p s) (ascending_with p s a))
+    (λ q i. (let r = filtered_from t s q i in filtered_true t (with_point p s) q (in_with_old p q s r.0) r.1))
+    (λ q i. (let r = filtered_from t (with_point p s) q i in elim (in_with p q s r.0) [
       | inl f ↦ (let n : t q ≡ false = subst (λ z. t z ≡ false) f e in absurd (cc (n, r.1)))
       | inr j ↦ filtered_true t s q j r.1
     ]))
@@ -161,19 +160,19 @@ share_after_entry g b h e gone fresh c next sh = by (lies g b (point_of e.edit))
 
     by : (o : Bool) → lies g b (point_of e.edit) ≡ o → IsShare g b k (cond o (record (swapped_in g b gone fresh c) { points = changed c.points (point_of e.edit) e.reply; entries = c.entries ++ e ∷ [] }) (swapped_in g b gone fresh c))
     by true t = record {
-      points = ap (λ l. changed l (point_of e.edit) e.reply) sh.points ∙ points_after (lies g b) (point_of e.edit) e.reply (replay h) (ascending_replay h) t ∙ ap (filter (lies g b)) (sym (replay_next h e next.legal));
+      points = ap (λ l. changed l (point_of e.edit) e.reply) sh.points ∙ points_after (lies g b) (point_of e.edit) e.reply (replay h) (leaves_set h) t ∙ ap (filter (lies g b)) (sym (replay_next h e next.legal));
       cells = cells;
       entries = ap (λ l. l ++ e ∷ []) sh.entries ∙ entries_after g b h e t;
     }
     by false t = record {
-      points = sh.points ∙ points_stay (lies g b) (point_of e.edit) e.reply (replay h) (ascending_replay h) t ∙ ap (filter (lies g b)) (sym (replay_next h e next.legal));
+      points = sh.points ∙ points_stay (lies g b) (point_of e.edit) e.reply (replay h) (leaves_set h) t ∙ ap (filter (lies g b)) (sym (replay_next h e next.legal));
       cells = cells;
       entries = sh.entries ∙ entries_stay g b h e t;
     }
 
 pub share_elsewhere : ShareElsewhere
 share_elsewhere g b h e gone fresh c next t f1 f2 sh = record {
-  points = sh.points ∙ points_stay (lies g b) (point_of e.edit) e.reply (replay h) (ascending_replay h) t ∙ ap (filter (lies g b)) (sym (replay_next h e next.legal));
+  points = sh.points ∙ points_stay (lies g b) (point_of e.edit) e.reply (replay h) (leaves_set h) t ∙ ap (filter (lies g b)) (sym (replay_next h e next.legal));
   cells = sym (swapped_none g b gone fresh c.cells f1 f2) ∙ ap (swapped g b gone fresh) sh.cells ∙ cells_after g b h (h ++ e ∷ []) gone fresh next.change;
   entries = sh.entries ∙ entries_stay g b h e t;
 }

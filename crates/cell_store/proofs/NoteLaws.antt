@@ -1,16 +1,16 @@
 -- What an entry makes of the points of its bucket, and of the buckets of a hold.
-use Rattle.std.specs.Prelude.{◌≡◌, ◌≢◌, ℕ, ◌<◌, ◌≤◌, ◌==◌, Bool, true, false, cond, not, ◌||◌, List, [], ◌∷◌, ◌++◌, ◌⊎◌, Option, None, Some, IsSomeAnd, length, slice_index, slice_set, Result, Ok, Err, MatchResult, OnOk, OnErr}
+use Rattle.std.specs.Prelude.{◌≡◌, ◌≢◌, ℕ, ◌<◌, ◌≤◌, ◌==◌, Bool, true, false, cond, not, ◌||◌, List, [], ◌∷◌, ◌++◌, Option, None, Some, IsSomeAnd, length, slice_index, slice_set, Result, Ok, Err, MatchResult, OnOk, OnErr}
 use Rattle.std.specs.Option.{option_map}
 use Rattle.std.proofs.Common.{refl, sym, ◌∙◌, ap, subst, inl, inr, arith}
-use Rattle.std.proofs.lemmas.Bool.Decides.{nat_tests}
 use Rattle.std.proofs.lemmas.List.{get_or-set_same, get_or-set_other}
-use Rattle.list_laws.proofs.Cited.{below_each, index_in, len_set, len_twice, of_some, one_value, set_there, to_some}
+use Rattle.std.proofs.lemmas.Bool.{cases_eq, ne_eqb}
+use Rattle.list_laws.proofs.Cited.{below_each, index_in, len_set, len_twice, of_some, one_value, same_true, set_there, to_some}
 use Rattle.point_order.specs.declared.cell.Cell.{Cell}
 use Rattle.point_order.specs.Sets.{IsIn, IsAscending, is_among, with_point, without_point}
-use Rattle.point_order.proofs.Cited.{with-cases}
+use Rattle.point_order.proofs.Cited.{with_cases}
 use Rattle.edit_history.specs.declared.history.Entry.{Entry}
 use Rattle.edit_history.specs.Edits.{point_of, changed}
-use Rattle.edit_history.proofs.Cited.{among-gap}
+use Rattle.edit_history.proofs.Cited.{among_gap}
 use Rattle.cell_store.specs.Grids.{bucket_of}
 use Rattle.cell_stars.specs.Plans.{IsPlanFor}
 use Rattle.cell_stars.specs.Places.{Placed, cells_of}
@@ -24,11 +24,11 @@ use Rattle.cell_store.proofs.Layouts.{shown_is, shown_set}
 with_there : (p : ℕ) (s : List ℕ) → IsAscending s → IsIn p s → with_point p s ≡ s
 with_there p [] a k = absurd k
 with_there p (x ∷ s) a (inl e) =
-    elim (with-cases p x s) [ inl w ↦ absurd (omega (arith, w.0, e)) | inr o ↦ elim o [ inl w ↦ w.1 | inr w ↦ absurd (omega (arith, w.0, e)) ] ]
+    elim (with_cases p x s) [ inl w ↦ absurd (omega (arith, w.0, e)) | inr o ↦ elim o [ inl w ↦ w.1 | inr w ↦ absurd (omega (arith, w.0, e)) ] ]
 with_there p (x ∷ s) a (inr k) =
     let b : x < p = below_each x s a.0 a.1 p k in
     let r = with_there p s a.1 k in
-    elim (with-cases p x s) [ inl w ↦ absurd (omega (arith, w.0, b)) | inr o ↦ elim o [ inl w ↦ absurd (omega (arith, w.0, b)) | inr w ↦ w.1 ∙ ap (λ (t : List ℕ). x ∷ t) r ] ]
+    elim (with_cases p x s) [ inl w ↦ absurd (omega (arith, w.0, b)) | inr o ↦ elim o [ inl w ↦ absurd (omega (arith, w.0, b)) | inr w ↦ w.1 ∙ ap (λ (t : List ℕ). x ∷ t) r ] ]
 
 -- a point that is not there is taken out already
 without_absent : (p : ℕ) (s : List ℕ) → is_among p s ≡ false → without_point p s ≡ s
@@ -46,7 +46,7 @@ found_with s p (Err i) a h = tt
 
 pub found_without : (s : List ℕ) (p : ℕ) (r : Result ℕ ℕ) → MatchResult r (λ i. (i < length s) × (slice_index s i ≡ p)) (λ i. (i ≤ length s) × ((k : ℕ) → k < i → slice_index s k < p) × ((k : ℕ) → i ≤ k → k < length s → p < slice_index s k)) → OnErr r (without_point p s ≡ s)
 found_without s p (Ok i) h = tt
-found_without s p (Err i) h = without_absent p s (among-gap s p i (record { within = h.0; below = h.1; above = h.2 }))
+found_without s p (Err i) h = without_absent p s (among_gap s p i (record { within = h.0; below = h.1; above = h.2 }))
 
 -- ---- one bucket anew
 
@@ -57,19 +57,6 @@ there places b x y h = get_or-set_same (slice_set places b x) b y None (let e = 
 -- another
 elsewhere : (places : List (Option BucketContent)) (b k : ℕ) (x y : Option BucketContent) → k ≢ b → bucket_at (slice_set (slice_set places b x) b y) k ≡ bucket_at places k
 elsewhere places b k x y n = get_or-set_other (slice_set places b x) b k y None n ∙ get_or-set_other places b k x None n
-
-two : (k b : ℕ) → (k ≡ b) ⊎ (k ≢ b)
-two k b = by (k == b) refl
-  where
-    same : (n m : ℕ) → (n == m) ≡ true → n ≡ m
-    same n m = grind (arith, nat_tests)
-
-    other : (n m : ℕ) → (n == m) ≡ false → n ≢ m
-    other n m = grind (arith, nat_tests)
-
-    by : (t : Bool) → (k == b) ≡ t → (k ≡ b) ⊎ (k ≢ b)
-    by true e = inl (same k b e)
-    by false e = inr (other k b e)
 
 -- what is ready for an exchange stays so where a bucket keeps its cells
 pub ready_noted : (g b : ℕ) (gone fresh : List Cell) (places : List (Option Layout)) (plans : List PlanFor) (x : Option Layout) (c d : Layout) → b < length places → layout_at places b ≡ Some c → d.cells ≡ c.cells → IsReady g gone fresh places plans → IsReady g gone fresh (slice_set (slice_set places b x) b (Some d)) plans
@@ -87,7 +74,7 @@ ready_noted g b gone fresh places plans x c d h e f r = record { each = λ l i. 
         to_some (λ y. IsPlanFor gone fresh y.cells l.plan) (layout_at after l.number) d (ap (layout_at after) w ∙ at_b) (subst (λ y. IsPlanFor gone fresh y l.plan) (sym f) k)
 
     by : (l : PlanFor) → IsReadyFor gone fresh places l → IsReadyFor gone fresh after l
-    by l q = elim (two l.number b) [
+    by l q = elim (cases_eq l.number b) [
       | inl w ↦ here l w q
       | inr w ↦ subst (λ o. IsSomeAnd o (λ y. IsPlanFor gone fresh y.cells l.plan)) (sym (get_or-set_other (slice_set places b x) b l.number (Some d) None w ∙ get_or-set_other places b l.number x None w)) q
     ]
@@ -97,17 +84,11 @@ abbrev with_entry : Entry → BucketContent → BucketContent
 with_entry e c = record c { points = changed c.points (point_of e.edit) e.reply; entries = c.entries ++ e ∷ [] }
 
 noted_here : (g b : ℕ) (e : Entry) (c : BucketContent) → b ≡ bucket_of g (point_of e.edit) → noted_in g b e c ≡ with_entry e c
-noted_here g b e c h = rw (test (bucket_of g (point_of e.edit)) b h) refl
-  where
-    test : (n m : ℕ) → m ≡ n → (n == m) ≡ true
-    test n m = grind (arith, nat_tests)
+noted_here g b e c h = rw (same_true (bucket_of g (point_of e.edit)) b (sym h)) refl
 
 noted_elsewhere : (g k : ℕ) (e : Entry) (o : Option BucketContent) → k ≢ bucket_of g (point_of e.edit) → option_map (noted_in g k e) o ≡ o
 noted_elsewhere g k e None h = refl
-noted_elsewhere g k e (Some c) h = rw (test (bucket_of g (point_of e.edit)) k h) refl
-  where
-    test : (n m : ℕ) → m ≢ n → (n == m) ≡ false
-    test n m = grind (arith, nat_tests)
+noted_elsewhere g k e (Some c) h = rw (ne_eqb (bucket_of g (point_of e.edit)) k (λ q. h (sym q))) refl
 
 pub noted_is : (old new : InHand) (g b : ℕ) (places : List (Option BucketContent)) (e : Entry) (x : Option BucketContent) (c d : BucketContent) → g ≡ old.grid → places ≡ old.places → new.grid ≡ g → new.places ≡ slice_set (slice_set places b x) b (Some d) → b ≡ bucket_of g (point_of e.edit) → b < length places → bucket_at places b ≡ Some c → d ≡ with_entry e c → IsNoted e old new
 noted_is old new g b places e x c d e1 e2 e3 e4 h l k f = record {
@@ -120,7 +101,7 @@ noted_is old new g b places e x c d e1 e2 e3 e4 h l k f = record {
 }
   where
     by : (n : ℕ) → bucket_at (slice_set (slice_set places b x) b (Some d)) n ≡ option_map (noted_in g n e) (bucket_at places n)
-    by n = elim (two n b) [
+    by n = elim (cases_eq n b) [
       | inl w ↦
           ap (bucket_at (slice_set (slice_set places b x) b (Some d))) w ∙ there places b x (Some d) l
           ∙ ap (λ (y : BucketContent). Some y) (f ∙ sym (noted_here g n e c (w ∙ h)))
@@ -131,7 +112,7 @@ noted_is old new g b places e x c d e1 e2 e3 e4 h l k f = record {
 -- ---- places
 
 pub stand_noted : (g b : ℕ) (places : List (Option BucketContent)) (x : Option BucketContent) (c d : BucketContent) → b < length places → bucket_at places b ≡ Some c → d.place ≡ c.place → StandAtPlaces g places → StandAtPlaces g (slice_set (slice_set places b x) b (Some d))
-stand_noted g b places x c d h e p st k y q = elim (two k b) [
+stand_noted g b places x c d h e p st k y q = elim (cases_eq k b) [
   | inl w ↦ (
       let u : d ≡ y = one_value d y (sym (there places b x (Some d) h) ∙ ap (bucket_at (slice_set (slice_set places b x) b (Some d))) (sym w) ∙ q) in
       ap (λ z. z.place) (sym u) ∙ p ∙ st b c e ∙ ap (λ (n : ℕ). Some (g, n)) (sym w))
@@ -139,7 +120,7 @@ stand_noted g b places x c d h e p st k y q = elim (two k b) [
 ]
 
 pub stand_put : (g b : ℕ) (places : List (Option BucketContent)) (d : BucketContent) → b < length places → d.place ≡ Some (g, b) → StandAtPlaces g places → StandAtPlaces g (slice_set places b (Some d))
-stand_put g b places d h p st k y q = elim (two k b) [
+stand_put g b places d h p st k y q = elim (cases_eq k b) [
   | inl w ↦ (
       let u : d ≡ y = one_value d y (sym (get_or-set_same places b (Some d) None h) ∙ ap (bucket_at (slice_set places b (Some d))) (sym w) ∙ q) in
       ap (λ z. z.place) (sym u) ∙ p ∙ ap (λ (n : ℕ). Some (g, n)) (sym w))
@@ -147,7 +128,7 @@ stand_put g b places d h p st k y q = elim (two k b) [
 ]
 
 pub stand_take : (g b : ℕ) (places : List (Option BucketContent)) → b < length places → StandAtPlaces g places → StandAtPlaces g (slice_set places b None)
-stand_take g b places h st k y q = elim (two k b) [
+stand_take g b places h st k y q = elim (cases_eq k b) [
   | inl w ↦ (let u = sym (get_or-set_same places b None None h) ∙ ap (bucket_at (slice_set places b None)) (sym w) ∙ q in absurd (cc u))
   | inr n ↦ st k y (sym (get_or-set_other places b k None None n) ∙ q)
 ]
@@ -158,13 +139,13 @@ pub ready_put : (g b : ℕ) (gone fresh : List Cell) (places : List (Option Layo
 ready_put g b gone fresh places plans x e r = record { each = λ l i. by l (r.each l i); apart = r.apart; others = r.others }
   where
     by : (l : PlanFor) → IsReadyFor gone fresh places l → IsReadyFor gone fresh (slice_set places b x) l
-    by l q = elim (two l.number b) [
+    by l q = elim (cases_eq l.number b) [
       | inl w ↦ absurd (subst (λ o. IsSomeAnd o (λ y. IsPlanFor gone fresh y.cells l.plan)) (ap (layout_at places) w ∙ e) q)
       | inr w ↦ subst (λ o. IsSomeAnd o (λ y. IsPlanFor gone fresh y.cells l.plan)) (sym (get_or-set_other places b l.number x None w)) q
     ]
 
 pub note_put : (g b : ℕ) (places : List (Option Layout)) (p : ℕ) (x : Option Layout) → layout_at places b ≡ None → IsNoteReady g places p → IsNoteReady g (slice_set places b x) p
-note_put g b places p x e q = elim (two (bucket_of g p) b) [
+note_put g b places p x e q = elim (cases_eq (bucket_of g p) b) [
   | inl w ↦ absurd (subst (λ o. IsSomeAnd o HasRoom) (ap (layout_at places) w ∙ e) q)
   | inr w ↦ subst (λ o. IsSomeAnd o HasRoom) (sym (get_or-set_other places b (bucket_of g p) x None w)) q
 ]
@@ -189,7 +170,7 @@ ready_same g h gone fresh eg ef places qs plans e1 e2 e3 e4 r =
     subst (λ (n : ℕ). IsReady n eg ef qs plans) e1 (subst (λ l. IsReady g l ef qs plans) e2 (subst (λ l. IsReady g gone l qs plans) e3 (subst (λ l. IsReady g gone fresh l plans) e4 r)))
 
 pub roomier_note : (g b : ℕ) (places : List (Option Layout)) (p : ℕ) (c d : Layout) → b < length places → layout_at places b ≡ Some c → IsRoomier c d → IsNoteReady g places p → IsNoteReady g (slice_set places b (Some d)) p
-roomier_note g b places p c d h e r q = elim (two (bucket_of g p) b) [
+roomier_note g b places p c d h e r q = elim (cases_eq (bucket_of g p) b) [
   | inl w ↦ (
       let k = of_some HasRoom (layout_at places (bucket_of g p)) c (ap (layout_at places) w ∙ e) q in
       to_some HasRoom (layout_at (slice_set places b (Some d)) (bucket_of g p)) d (ap (layout_at (slice_set places b (Some d))) w ∙ get_or-set_same places b (Some d) None h) (more k))

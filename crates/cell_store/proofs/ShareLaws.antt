@@ -2,23 +2,18 @@
 use Rattle.std.specs.Prelude.{◌≡◌, ℕ, ◌+◌, ◌<◌, Bool, true, false, ◌==◌, List, [], ◌∷◌, Option, Some, is_some, length, slice_index_or}
 use Rattle.std.specs.List.{filter}
 use Rattle.std.specs.Option.{option_map_or}
-use Rattle.std.proofs.Common.{refl, sym, ◌∙◌, ap, subst, inl, inr, arith, take, add-one}
-use Rattle.std.proofs.lemmas.Bool.Decides.{nat_tests}
-use Rattle.list_laws.proofs.Cited.{among_from, any_true, filter_twice, filtered_from, filtered_true, in_more, none_is, some_is}
+use Rattle.std.proofs.Common.{refl, sym, ◌∙◌, ap, subst, inl, inr, take, add-one}
+use Rattle.list_laws.proofs.Cited.{among_from, any_true, eq_same, filter_twice, filtered_from, filtered_true, in_more, none_is, some_is}
 use Rattle.point_order.specs.declared.cell.Cell.{Cell}
 use Rattle.point_order.specs.declared.cell.Cell.TheVariants.{Full, Open}
 use Rattle.point_order.specs.declared.cell.Facet.{Facet}
 use Rattle.point_order.specs.declared.cell.Facet.TheVariants.{Three, Two}
 use Rattle.point_order.specs.Complex.{complex}
 use Rattle.point_order.specs.Facets.{points_of, facets_of, full_facets, open_facets}
-use Rattle.point_order.specs.Sets.{IsIn, IsAscending, is_among}
-use Rattle.point_order.proofs.Cited.{ascending-with}
+use Rattle.point_order.specs.Sets.{IsIn, is_among}
 use Rattle.edit_history.specs.declared.history.Entry.{Entry}
-use Rattle.edit_history.specs.declared.history.Reply.{Reply}
-use Rattle.edit_history.specs.declared.history.Reply.TheVariants.{Inserted, Duplicate, Removed, Missing, Flat}
-use Rattle.edit_history.specs.Edits.{point_of, reply_to, changed}
-use Rattle.edit_history.specs.Histories.{replay, replay_from}
-use Rattle.edit_history.proofs.Cited.{ascending-without}
+use Rattle.edit_history.specs.Histories.{replay}
+use Rattle.edit_history.proofs.Cited.{leaves_set}
 use Rattle.del_laws.proofs.Cited.{listed_facets}
 use Rattle.hole_laws.specs.Edits.{IsSolidSet}
 use Rattle.cell_store.specs.Grids.{bucket_of}
@@ -31,25 +26,7 @@ use Rattle.cell_store.specs.Shares.{Stands, IsSound, StandsShows, ShareIsOne, Sh
 
 -- a cell with a point has a finite vertex in the bucket of the point
 pub touched : (g p b : ℕ) (c : Cell) → b ≡ bucket_of g p → IsIn p (points_of c) → touches g b c ≡ true
-touched g p b c e i = any_true (λ q. bucket_of g q == b) (points_of c) p i (let s : bucket_of g p ≡ b = sym e in rw s (same b))
-  where
-    same : (b : ℕ) → (b == b) ≡ true
-    same b = grind (arith, nat_tests)
-
--- the points that a history leaves are ascending
-pub ascending_replay : (h : List Entry) → IsAscending (replay h)
-ascending_replay h = from [] h tt
-  where
-    step : (s : List ℕ) (p : ℕ) (r : Reply) → IsAscending s → IsAscending (changed s p r)
-    step s p Inserted a = ascending-with p s a
-    step s p Duplicate a = a
-    step s p Removed a = ascending-without p s a
-    step s p Missing a = a
-    step s p Flat a = a
-
-    from : (s : List ℕ) (h : List Entry) → IsAscending s → IsAscending (replay_from s h)
-    from s [] a = a
-    from s (e ∷ h) a = from (changed s (point_of e.edit) (reply_to s e.edit)) h (step s (point_of e.edit) (reply_to s e.edit) a)
+touched g p b c e i = any_true (λ q. bucket_of g q == b) (points_of c) p i (let s : bucket_of g p ≡ b = sym e in rw s (eq_same b))
 
 -- ---- shares and shown sets
 
@@ -58,7 +35,7 @@ share_is_one g b h c s e = λ i. record { points = s.points i; cells = s.cells i
 
 pub stands_shows : StandsShows
 stands_shows hold h st = record {
-  ascending = ascending_replay h;
+  ascending = leaves_set h;
   keys = st.keys;
   solid = st.solid;
   sights = λ b c e. record { points = (st.shares b c e).points; cells = (st.shares b c e).cells };

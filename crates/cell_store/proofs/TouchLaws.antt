@@ -11,13 +11,13 @@ use Rattle.point_order.specs.Complex.{complex}
 use Rattle.point_order.specs.Facets.{points_of}
 use Rattle.point_order.specs.Sets.{IsIn, is_among, ascending, with_point, without_point}
 use Rattle.point_order.specs.Solid.{is_solid}
-use Rattle.point_order.proofs.Cited.{in-ascending_from}
+use Rattle.point_order.proofs.Cited.{in_ascending_from}
 use Rattle.edit_history.specs.declared.history.Edit.{Edit}
 use Rattle.edit_history.specs.declared.history.Edit.TheVariants.{Add, Take}
 use Rattle.edit_history.specs.declared.history.Reply.TheVariants.{Inserted, Duplicate, Removed, Missing, Flat}
 use Rattle.edit_history.specs.Edits.{point_of, reply_to, after}
 use Rattle.edit_history.specs.Histories.{replay}
-use Rattle.edit_history.proofs.Cited.{replay_more}
+use Rattle.edit_history.proofs.Cited.{leaves_set, replay_more}
 use Rattle.del_laws.specs.Listed.{IsListedOpen}
 use Rattle.del_laws.proofs.Cited.{listed_inside, listed_is_cell, listed_mate}
 use Rattle.hole_laws.specs.Commuting.{Reaches}
@@ -34,7 +34,7 @@ use Rattle.cell_store.specs.Touches.{IsTouched, ShareOutsideTouch, ReachFromHeld
 use Rattle.cell_stars.proofs.Cited.{among_from as cell_from, among_true as cell_among, swapped_none}
 use Rattle.cell_store.proofs.HandLaws.{held_point}
 use Rattle.cell_store.proofs.NextLaws.{cells_after, points_stay, entries_stay}
-use Rattle.cell_store.proofs.ShareLaws.{ascending_replay, touched, facet_inside, facet_nonempty, solid_set}
+use Rattle.cell_store.proofs.ShareLaws.{touched, facet_inside, facet_nonempty, solid_set}
 
 -- ---- what an edit leaves alone
 
@@ -68,7 +68,7 @@ share_outside g b h e i key n = λ k. record { points = points k; cells = cells 
     here = false_if (bucket_of g (point_of e.edit) == b) (λ q. n (subst (IsTouched g (replay h) e.edit) (eqb-true (bucket_of g (point_of e.edit)) b q) (own_touched g (replay h) e.edit)))
 
     points : filter (λ p. bucket_of g p == b) (replay (h ++ e ∷ [])) ≡ filter (λ p. bucket_of g p == b) (replay h)
-    points = ap (filter (λ p. bucket_of g p == b)) (replay_more [] h e) ∙ sym (points_stay (λ p. bucket_of g p == b) (point_of e.edit) (reply_to (replay h) e.edit) (replay h) (ascending_replay h) here)
+    points = ap (filter (λ p. bucket_of g p == b)) (replay_more [] h e) ∙ sym (points_stay (λ p. bucket_of g p == b) (point_of e.edit) (reply_to (replay h) e.edit) (replay h) (leaves_set h) here)
 
     none : (l : List Cell) → ((q : Cell) → IsIn q l → Goes s t q ⊎ Goes t s q) → NoneTouches g b l
     none l f q m = false_if (touches g b q) (λ k.
@@ -123,8 +123,8 @@ module _ (hold : InHand) (s t : List ℕ) (sh : Shows hold s) (th : Shows hold t
           let m = listed_mate s r.a r.b r.c sh.ascending sh.keys (subst (λ (x : List ℕ). IsIn (Open x) (complex s)) r.is i) in
           let f : Cell = Full (ascending (r.a ∷ r.b ∷ r.c ∷ m.mate ∷ [])) in
           let more : IsIn e (r.a ∷ r.b ∷ r.c ∷ m.mate ∷ []) = wider r.a r.b r.c m.mate (subst (λ (x : List ℕ). IsIn e x) r.is has) in
-          let moved : IsIn f (complex t) = cell_moves f e (in-ascending_from (r.a ∷ r.b ∷ r.c ∷ m.mate ∷ []) e more) held m.listed in
-          let there : IsIn m.mate t = inside t (solid_set hold t th).set f moved m.mate (in-ascending_from (r.a ∷ r.b ∷ r.c ∷ m.mate ∷ []) m.mate (inr (inr (inr (inl refl))))) in
+          let moved : IsIn f (complex t) = cell_moves f e (in_ascending_from (r.a ∷ r.b ∷ r.c ∷ m.mate ∷ []) e more) held m.listed in
+          let there : IsIn m.mate t = inside t (solid_set hold t th).set f moved m.mate (in_ascending_from (r.a ∷ r.b ∷ r.c ∷ m.mate ∷ []) m.mate (inr (inr (inr (inl refl))))) in
           record {
             mate = m.mate;
             here = subst (λ (x : List ℕ). IsMate s (Open x) m.mate) (sym r.is) (m.inside, m.off);

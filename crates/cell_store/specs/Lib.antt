@@ -8,4 +8,5 @@ pub mod Others
 pub mod Changes
 pub mod Meshes
 pub mod Ready
+pub mod Missing
 pub mod Touches

@@ -2,17 +2,16 @@
 
 ghost use Rattle.std.specs.Prelude.{◌≡◌, ℕ, List, IfOk, OnOk};
 ghost use Rattle.point_order.specs.Complex.{complex as complex_of};
+ghost use Rattle.point_order.specs.CellOrder.{AreSameCells};
 ghost use Rattle.edit_history.specs.declared.history.Entry.{Entry};
 ghost use Rattle.cell_store.specs.Buckets.{content_of};
 ghost use Rattle.cell_store.specs.Shares.{Stands, Shows};
 ghost use Rattle.cell_store.specs.Meshes.{AllInHand, IsWhole, StandsForSome, HasMore, all_entries, all_cells};
-ghost use Rattle.cell_store.specs.Swaps.{AreSameCells};
 
 use crate::bucket::Bucket;
 use crate::hold::Hold;
-use cell_stars::cells_in_order;
 use edit_history::{Entry, merge};
-use point_order::Cell;
+use point_order::{Cell, cells_in_order};
 use std::alloc::{AllocError, Global};
 
 impl Hold {

@@ -3,7 +3,6 @@
 ghost use Rattle.std.specs.Prelude.{
   ◌≡◌,
   ◌↔◌,
-  IsTrue,
   ℕ,
   ◌+◌,
   ◌*◌,
@@ -25,7 +24,7 @@ ghost use Rattle.std.specs.Prelude.{
   List,
   MatchOption,
 };
-ghost use Rattle.std.specs.List.{filter, list_all};
+ghost use Rattle.std.specs.List.{filter};
 ghost use Rattle.point_order.specs.Sets.{IsIn, is_among};
 ghost use Rattle.point_order.specs.Facets.{points_of, facets_of};
 ghost use Rattle.point_order.specs.declared.cell.Cell.{Cell};
@@ -43,7 +42,7 @@ ghost use Rattle.cell_store.specs.Buckets.{
   FitsPlace,
   StandAtPlaces,
 };
-ghost use Rattle.cell_store.specs.Shares.{Shows, ShowsSome, ShowsWith, NoneInHand, IsInHandFor, points_on};
+ghost use Rattle.cell_store.specs.Shares.{Shows, ShowsSome, ShowsWith, NoneInHand, IsInHandFor, IsAcross, points_on};
 ghost use Rattle.cell_store.specs.Spots.{IsAcrossIn, SpotGives};
 ghost use Rattle.cell_store.specs.Changes.{IsSwapped, IsNoted};
 ghost use Rattle.cell_store.specs.Ready.{AreHeld};
@@ -52,7 +51,7 @@ ghost use Rattle.cell_store.specs.Stars.{cells_around, cells_left, AcrossGives};
 use crate::bucket::Bucket;
 use crate::room::{Exchange, carry_all, make_room};
 use crate::spot::{Spot, SpotAcross};
-use crate::star::{Across, facet_points};
+use crate::star::Across;
 use cell_stars::{Grid, Star, StarCells, Steps};
 use edit_history::Entry;
 use point_order::{Cell, Facet, Point};
@@ -262,7 +261,7 @@ impl Hold {
         requires facet { IsIn facet.now (facets_of cell.now) }
         ensures { AcrossGives self.now cell.now facet.now result }
     {
-        let points = facet_points(facet);
+        let points = facet.points();
         match self.point_among(points) {
             Some(p) => match self
                 .bucket(self.grid().bucket_of(p))
@@ -330,7 +329,7 @@ impl Hold {
         requires facet { IsIn facet.now (facets_of spot.now) }
         ensures { SpotGives self.now spot.now facet.now result }
     {
-        let points = facet_points(facet);
+        let points = facet.points();
         match self.point_among(points) {
             Some(p) => match self.linked(spot, facet) {
                 Some(other) => SpotAcross::Spot(other),
@@ -343,19 +342,32 @@ impl Hold {
         }
     }
 
-    /// Whether the buckets of all finite vertices of the cells are in hand.
-    pub fn holds_cells(&self, cells: &[Cell]) -> bool
-        ensures { IsTrue result ↔ AreHeld self.now cells.now }
+    /// The cell across a facet of which some point's bucket is in hand. The hold is to show a set of whose complex
+    /// the given cell is one; the answer is right for each such set.
+    pub fn cell_across(&self, cell: &Cell, facet: &Facet) -> &Cell
+        requires shown { ShowsWith self.now cell.now }
+        requires facet { IsIn facet.now (facets_of cell.now) }
+        requires held { ¬ (NoneInHand self.now (points_on facet.now)) }
+        ensures { (s : List ℕ) → Shows self.now s → IsIn cell.now (complex s) →
+            IsAcross s cell.now facet.now result.now }
     {
-        cells.iter().all(|c| self.has_buckets_of(c.points()))
+        match self.across(cell, facet) {
+            Across::Cell(other) => other,
+            Across::Need(_) => unreachable!(),
+        }
     }
 
-    // Whether the buckets of all these points are in hand.
-    fn has_buckets_of(&self, points: &[Point]) -> bool
-        ensures { result ≡ list_all (λ p. is_some (bucket_at self.now.places (number_of self.now.grid p))) points.now }
+    /// What `cell_across` gives for a cell at hand, at hand too.
+    pub fn spot_across(&self, spot: &Spot, facet: &Facet) -> Spot
+        requires shown { ShowsWith self.now spot.now }
+        requires facet { IsIn facet.now (facets_of spot.now) }
+        requires held { ¬ (NoneInHand self.now (points_on facet.now)) }
+        ensures { (s : List ℕ) → Shows self.now s → IsIn spot.now (complex s) → IsAcross s spot.now facet.now result }
     {
-        let grid = self.grid();
-        points.iter().all(|p| self.has(grid.bucket_of(*p)))
+        match self.across_spot(spot, facet) {
+            SpotAcross::Spot(other) => other,
+            SpotAcross::Need(_) => unreachable!(),
+        }
     }
 
     /// Makes room for one exchange of the gone for the fresh cells and for one entry of the point, which then take no

@@ -11,6 +11,10 @@
 //!     SpotAcross::Spot(other) => ..,                // the other cell on the facet
 //!     SpotAcross::Need(b) => ..,                    // first this bucket is to be in hand
 //! }
+//! let other = hold.cell_across(&cell, &facet);      // a point of the facet lies in a bucket in hand
+//! if let Some(b) = hold.missing_bucket(&gone) {     // none: the buckets of all their points are in hand
+//!     ..
+//! }
 //! hold.reserve(alloc, &gone, &fresh, p)?;           // all memory is taken here
 //! hold.swap_cells(&gone, &fresh);
 //! hold.push_entry(entry);
@@ -22,13 +26,14 @@ mod gather;
 mod hold;
 pub mod laws;
 mod mesh;
+mod missing;
 mod note;
 mod room;
 mod spot;
 mod star;
 
 pub use bucket::Bucket;
-pub use cell_stars::{BadGrid, BucketCells, Grid, Star, StarCells, Steps, cells_in_order};
+pub use cell_stars::{BadGrid, BucketCells, Grid, Star, StarCells, Steps};
 pub use hold::Hold;
 pub use mesh::Mesh;
 pub use spot::{Spot, SpotAcross};

@@ -1,16 +1,15 @@
 //! The cell across a facet.
 
-ghost use Rattle.std.specs.Prelude.{◌≡◌, ◌↔◌, IsTrue, MatchOption};
+ghost use Rattle.std.specs.Prelude.{◌↔◌, IsTrue, MatchOption};
 ghost use Rattle.point_order.specs.Sets.{IsIn};
 ghost use Rattle.point_order.specs.Facets.{facets_of};
 ghost use Rattle.point_order.specs.declared.cell.Cell.TheVariants.{Full, Open};
 ghost use Rattle.point_order.specs.declared.cell.Facet.TheVariants.{Three, Two};
-ghost use Rattle.cell_store.specs.Shares.{points_on};
 ghost use Rattle.cell_stars.specs.Stars.{cells_around};
 ghost use Rattle.cell_store.specs.Others.{IsOtherOf, HaveNoOther};
 
 use cell_stars::{StarCells, are_same};
-use point_order::{Cell, Facet, Pair, Point, Quad, Tri};
+use point_order::{Cell, Facet, Pair, Quad, Tri};
 
 /// What lies across a facet.
 #[derive(Clone, Copy, Debug)]
@@ -19,16 +18,6 @@ pub enum Across<'a> {
     Cell(&'a Cell),
     /// No bucket of the facet's finite points is in hand. This is the number of the bucket of the least.
     Need(u32),
-}
-
-// The finite points of the facet, ascending.
-pub(crate) fn facet_points(facet: &Facet) -> &[Point]
-    ensures { result.now ≡ points_on facet.now }
-{
-    match facet {
-        Facet::Three(tri) => tri.points(),
-        Facet::Two(pair) => pair.points(),
-    }
 }
 
 // Whether the triple is one of a Full cell's four.

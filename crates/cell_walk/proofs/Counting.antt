@@ -1,6 +1,6 @@
 -- Of the cells of the buckets in hand, fewer are nearer after a step.
 use Rattle.std.specs.Prelude.{◌≡◌, refl, ℕ, zero, suc, List, [], ◌∷◌, Option, None, Some}
-use Rattle.std.proofs.Common.{inl, inr, sym, subst}
+use Rattle.std.proofs.Common.{sym, subst}
 use Rattle.list_laws.proofs.Cited.{filtered_true, in_left, in_right}
 use Rattle.point_order.specs.declared.cell.Cell.{Cell}
 use Rattle.point_order.specs.declared.cell.Facet.{Facet}

@@ -5,6 +5,7 @@ use Rattle.std.specs.declared.cmp.Ordering.TheVariants.{Less, Equal, Greater}
 use Rattle.std.proofs.Common.{arith, inl, inr, ap, sym, subst, ◌∙◌}
 use Rattle.std.proofs.lemmas.Bool.{false≢true}
 use Rattle.list_laws.proofs.Cited.{filtered_true, one_below, round, some_of}
+use Rattle.point_order.proofs.Cited.{cell_after, cell_before, cell_same, cell_self}
 use Rattle.point_order.specs.declared.cell.Cell.{Cell}
 use Rattle.point_order.specs.CellOrder.{cell_cmp}
 use Rattle.point_order.specs.Complex.{complex}
@@ -15,7 +16,7 @@ use Rattle.cell_store.specs.Buckets.{BucketContent, InHand, bucket_at, cells_in}
 use Rattle.cell_store.specs.Meshes.{all_cells, HasPlaces}
 use Rattle.cell_store.specs.Shares.{Shows}
 use Rattle.cell_store.specs.Swaps.{touches}
-use Rattle.cell_stars.proofs.Cited.{bucket-below, cell_after, cell_before, cell_same, cell_self}
+use Rattle.cell_stars.proofs.Cited.{bucket_below}
 use Rattle.cell_store.proofs.Cited.{cells_of, flat_from, solid_set, touched}
 use Rattle.cell_conflict.proofs.Cited.{some_point}
 use Rattle.cell_walk.specs.Searching.{IsInside, IsFitting, IsAtMost, IsLessened, IsLeastOf}
@@ -192,7 +193,7 @@ none_missing hold s first count has st none f e all =
     let k = complex_is_closed_list s i.set.ascending i.set.keys i.solid in
     let p = some_point s i.set.ascending k.some k.has_some in
     let b = bucket_of hold.grid p.0 in
-    let l : b < count = subst (λ n. b < n) (sym e) (bucket-below hold.grid p.0 has.size) in
+    let l : b < count = subst (λ n. b < n) (sym e) (bucket_below hold.grid p.0 has.size) in
     let r = round first b count f l in
     let x = some_of (bucket_at hold.places b) (in_hand b ((first + r.0) % count) r.2 (all r.0 r.1)) in
     let j = filtered_true (touches hold.grid b) (complex s) k.some k.has_some (touched hold.grid p.0 b k.some refl p.1) in

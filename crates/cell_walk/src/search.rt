@@ -29,7 +29,7 @@ fn is_inside(hold: &Hold, cell: &Cell) -> bool
     ensures { IsTrue result ↔ IsInside hold.now cell.now }
 {
     match cell {
-        Cell::Full(_) => hold.holds_cells(&[*cell]),
+        Cell::Full(_) => hold.missing_bucket(&[*cell]).is_none(),
         Cell::Open(_) => false,
     }
 }

@@ -8,7 +8,7 @@ use Rattle.list_laws.proofs.Cited.{clash, clash_above, find_least, turned_below,
 use Rattle.point_order.specs.Orientation.{orientation}
 use Rattle.point_order.specs.Heights.{lifted}
 use Rattle.point_order.specs.Sets.{IsIn}
-use Rattle.point_order.proofs.Cited.{swap-middle}
+use Rattle.point_order.proofs.Cited.{swap_middle}
 use Rattle.del_laws.specs.Cells.{Full, Open, Vertex, point, far, On}
 use Rattle.del_laws.proofs.Identities.{lifted_swap23, pencil_of}
 use Rattle.del_laws.proofs.Pencils.{beyond, nearest, lowest, mate_sign}
@@ -20,7 +20,7 @@ across_full {h} {s} {a} {b} {c} {d} F = elim (find_least (λ x. lifted h a b c d
   | inl n ↦ inr (open_by_mate (full_a F) (full_b F) (full_c F) d (full_d F) (full_turned F) (λ e m. turned_most (orientation a b c e) (n e m)) (λ e m z. full_empty F e m))
   | inr l ↦ inl (
     l.0,
-    full_cell (full_a F) (full_c F) (full_b F) l.1.found (rw swap-middle l.1.positive)
+    full_cell (full_a F) (full_c F) (full_b F) l.1.found (rw swap_middle l.1.positive)
         (λ e m. rw lifted_swap23 (elim (sign (orientation a b c e)) [
           | below p ↦ nearest (orientation a b c d) (orientation a b c l.0) (orientation a b c e) (lifted h a b c d l.0) (lifted h a b c d e) (lifted h a b c l.0 e) (pencil_of h a b c d l.0 e) (full_turned F) (l.1.least e m (turned_below (orientation a b c e) p))
           | at_zero p ↦ other_side l e m (zero_weak (orientation a b c e) p)

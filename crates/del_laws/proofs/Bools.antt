@@ -12,7 +12,7 @@ use Rattle.point_order.specs.Heights.{height, lifted, out}
 use Rattle.point_order.specs.Spheres.{is_outside}
 use Rattle.point_order.specs.Sets.{IsIn, is_among}
 use Rattle.point_order.specs.Complex.{is_full, is_open, is_open_from, is_empty_in_plane}
-use Rattle.point_order.proofs.Cited.{not_zero_from, swap-middle, zero_false, zero_from, zero_true}
+use Rattle.point_order.proofs.Cited.{not_zero_from, swap_middle, zero_false, zero_from, zero_true}
 use Rattle.del_laws.specs.Cells.{Full, Open, Vertex, point, far, Held, OneOf}
 use Rattle.del_laws.specs.Keys.{AreKeys}
 use Rattle.del_laws.specs.Vertices.{are_among, is_full_cell, is_open_cell, is_cell}
@@ -91,11 +91,11 @@ full_true_turned s a b c d k F =
   where
     -- the orientation is negative
     low : orientation a b c d <ℤ pos 0
-    low = low_of (orientation a b c d) (orientation a c b d) (full_turned F) (swap-middle a b c d)
+    low = low_of (orientation a b c d) (orientation a c b d) (full_turned F) (swap_middle a b c d)
 
     -- and not 0
     low_not : orientation a b c d ≡ pos 0 → ⊥
-    low_not z = not_zero (orientation a c b d) (full_turned F) (swap-middle a b c d ∙ ap neg_ℤ z)
+    low_not z = not_zero (orientation a c b d) (full_turned F) (swap_middle a b c d ∙ ap neg_ℤ z)
 
     -- each point
     each : (e : ℕ) → IsIn e s → passes a b c d e ≡ true
@@ -107,7 +107,7 @@ full_true_turned s a b c d k F =
 -- four points that pass are a Full cell in one order
 full_from : (s : List ℕ) (a b c d : ℕ) → is_full_cell s a b c d ≡ true → Full height s a b c d ⊎ Full height s a c b d
 full_from s a b c d t = elim (sign (orientation a b c d)) [
-  | below l ↦ inr (full_cell (among_from a s first_in) (among_from c s third_in) (among_from b s second_in) (among_from d s fourth_in) (high_of (orientation a b c d) (orientation a c b d) l (swap-middle a b c d))
+  | below l ↦ inr (full_cell (among_from a s first_in) (among_from c s third_in) (among_from b s second_in) (among_from d s fourth_in) (high_of (orientation a b c d) (orientation a c b d) l (swap_middle a b c d))
       (λ e m. elim (one_true (is_among e (a ∷ b ∷ c ∷ d ∷ [])) (is_outside a b c d e) (each e m)) [
         | inl i ↦ zero_weak (lifted height a c b d e) (on height a c b d e (four_turned e a c b d (among_from e (a ∷ b ∷ c ∷ d ∷ []) i)))
         | inr i ↦ weak (lifted height a c b d e) (high_of (lifted height a b c d e) (lifted height a c b d e) (below_from a b c d e i l) (lifted_swap23 height a b c d e))
@@ -260,7 +260,7 @@ all_three s a b c ma mb mc =
 open_true : (s : List ℕ) (a b c : ℕ) → AreKeys s → Open height s a c b ⊎ Open height s a b c → is_open_cell s a b c ≡ true
 open_true s a b c k m = elim m [
   | inl F ↦ both_true (are_among (a ∷ b ∷ c ∷ []) s) (is_open s (a ∷ b ∷ c ∷ [])) (all_three s a b c (open_a F) (open_c F) (open_b F))
-      (both_true (not (is_collinear a b c)) (is_open_from s a b c || is_open_from s a c b) (not_true (is_collinear a b c) (false_if (is_collinear a b c) (λ t. (let k = open_mate F in not_zero (orientation a c b k.0) k.2 (swap-middle a b c k.0 ∙ ap neg_ℤ (line_flat a b c k.0 (line_from a b c t)))))))
+      (both_true (not (is_collinear a b c)) (is_open_from s a b c || is_open_from s a c b) (not_true (is_collinear a b c) (false_if (is_collinear a b c) (λ t. (let k = open_mate F in not_zero (orientation a c b k.0) k.2 (swap_middle a b c k.0 ∙ ap neg_ℤ (line_flat a b c k.0 (line_from a b c t)))))))
       (right_true (is_open_from s a b c) (is_open_from s a c b) (open_from_true s a c b k F)))
   | inr F ↦ both_true (are_among (a ∷ b ∷ c ∷ []) s) (is_open s (a ∷ b ∷ c ∷ [])) (all_three s a b c (open_a F) (open_b F) (open_c F))
       (both_true (not (is_collinear a b c)) (is_open_from s a b c || is_open_from s a c b) (not_true (is_collinear a b c) (false_if (is_collinear a b c) (λ t. open_not_line F (line_from a b c t))))

@@ -5,7 +5,7 @@ use Rattle.list_laws.proofs.Cited.{against, not_zero, opposite, weak}
 use Rattle.point_order.specs.Orientation.{orientation}
 use Rattle.point_order.specs.Heights.{lifted}
 use Rattle.point_order.specs.Sets.{IsIn}
-use Rattle.point_order.proofs.Cited.{swap-middle}
+use Rattle.point_order.proofs.Cited.{swap_middle}
 use Rattle.del_laws.specs.Cells.{Full, Open, OneOf, IsSolid}
 use Rattle.del_laws.proofs.Identities.{pencil_of}
 use Rattle.del_laws.proofs.Lists.{of_four}
@@ -51,7 +51,7 @@ full_empty F e m = F.empty e m
 
 -- no four points are Full in two orders of opposite sign
 pub full_against : {h : ℕ → ℕ} {s t : List ℕ} {a b c d : ℕ} → Full h s a b c d → Full h t a c b d → ⊥
-full_against {h} {s} {t} {a} {b} {c} {d} F G = against (orientation a b c d) (orientation a c b d) F.turned (weak (orientation a c b d) G.turned) (swap-middle a b c d)
+full_against {h} {s} {t} {a} {b} {c} {d} F G = against (orientation a b c d) (orientation a c b d) F.turned (weak (orientation a c b d) G.turned) (swap_middle a b c d)
 
 -- a set with a Full cell is solid
 pub full_solid : {h : ℕ → ℕ} {s : List ℕ} {a b c d : ℕ} → Full h s a b c d → IsSolid s
@@ -102,13 +102,13 @@ open_ties F f e i j l z = F.ties f e i j l z
 
 -- no three points are Open in the order in which a point of the set is below them
 pub open_under : {h : ℕ → ℕ} {s : List ℕ} {a b c : ℕ} (m : ℕ) → IsIn m s → pos 0 <ℤ orientation a b c m → Open h s a c b → ⊥
-open_under {h} {s} {a} {b} {c} m i l F = against (orientation a b c m) (orientation a c b m) l (F.bounds m i) (swap-middle a b c m)
+open_under {h} {s} {a} {b} {c} m i l F = against (orientation a b c m) (orientation a c b m) l (F.bounds m i) (swap_middle a b c m)
 
 -- no Open cell has a point twice
 pub open_not_twice : {h : ℕ → ℕ} {s : List ℕ} {a b : ℕ} → Open h s a b b → ⊥
 open_not_twice {h} {s} {a} {b} F =
     let o = orientation a b b F.mate in
-    not_zero o F.above (opposite o o (weak o F.above) (weak o F.above) (swap-middle a b b F.mate))
+    not_zero o F.above (opposite o o (weak o F.above) (weak o F.above) (swap_middle a b b F.mate))
 
 -- it is one of each list with the same points
 pub open_same : {h : ℕ → ℕ} {s t : List ℕ} {a b c : ℕ} → ((e : ℕ) → IsIn e s → IsIn e t) → ((e : ℕ) → IsIn e t → IsIn e s) → Open h s a b c → Open h t a b c

@@ -18,5 +18,5 @@ pub use Rattle.del_laws.proofs.Perturbed.{out_is}
 pub use Rattle.del_laws.proofs.PointSets.{ascending_of, extensional, finite, has_from, has_minus, has_plus, has_true, keys_of, minus_points, plus_points, set_true, solid_more}
 pub use Rattle.del_laws.proofs.Ranks.{nearer_across, nearer_inside, some_triple_towards}
 pub use Rattle.del_laws.proofs.Recognised.{complex_is_closed_list}
-pub use Rattle.del_laws.proofs.Sorting.{apart12, apart14, apart23, apart24, apart34, cell_of-swap12, cell_of-swap23, cell_of-swap34, rotate1, rotate2, test_is_listed, turn12, turn23, turn34}
+pub use Rattle.del_laws.proofs.Sorting.{apart12, apart14, apart23, apart24, apart34, cell_of_swap12, cell_of_swap23, cell_of_swap34, rotate1, rotate2, test_is_listed, turn12, turn23, turn34}
 pub use Rattle.del_laws.proofs.StarLaw.{base}

@@ -10,7 +10,7 @@ use Rattle.conv_laws.specs.Spheres.{edge_power, triangle_power}
 use Rattle.point_order.specs.Orientation.{orientation}
 use Rattle.point_order.specs.Heights.{height, out, sphere_polynomial, square_of}
 use Rattle.point_order.specs.Sets.{IsIn}
-use Rattle.point_order.proofs.Cited.{last-first, last-second, out-sign, swap-middle}
+use Rattle.point_order.proofs.Cited.{last_first, last_second, out_sign, swap_middle}
 use Rattle.del_laws.specs.Cells.{point, Full, Held, OneOf}
 use Rattle.del_laws.specs.Keys.{AreKeys}
 use Rattle.del_laws.specs.Vertices.{is_full_cell}
@@ -34,7 +34,7 @@ not_less s r h l = not_below s (λ m. clash r (h.negative m) l)
 -- no point of the set is strictly inside the plain sphere of a Full cell
 plain : {s : List ℕ} {a b c d : ℕ} → AreKeys s → Full height s a b c d → (e : ℕ) → IsIn e s → pos 0 ≤ℤ sphere_polynomial a b c d e
 plain {s} {a} {b} {c} {d} k F e m =
-    not_less (sphere_polynomial a b c d e) (out a b c d e) (out-sign a b c d e (k.below a (full_a F)) (k.below b (full_b F)) (k.below c (full_c F)) (k.below d (full_d F)) (k.below e m))
+    not_less (sphere_polynomial a b c d e) (out a b c d e) (out_sign a b c d e (k.below a (full_a F)) (k.below b (full_b F)) (k.below c (full_c F)) (k.below d (full_d F)) (k.below e m))
     (subst (λ z. pos 0 ≤ℤ z) (sym (out_is a b c d e)) (full_empty F e m))
 
 -- the in-sphere polynomial turns its sign
@@ -54,7 +54,7 @@ both_turned o p q r e f l =
 pub cells_are_empty : CellsAreEmpty
 cells_are_empty s a b c d e k t m = elim (cell_from s (point a) (point b) (point c) (point d) t) [
   | inl F ↦ mul_nonneg (orientation a b c d) (sphere_polynomial a b c d e) (weak (orientation a b c d) (full_turned F)) (plain k F e m)
-  | inr F ↦ both_turned (orientation a b c d) (orientation a c b d) (sphere_polynomial a b c d e) (sphere_polynomial a c b d e) (swap-middle a b c d) (swapped a b c d e)
+  | inr F ↦ both_turned (orientation a b c d) (orientation a c b d) (sphere_polynomial a b c d e) (sphere_polynomial a c b d e) (swap_middle a b c d) (swapped a b c d e)
       (mul_nonneg (orientation a c b d) (sphere_polynomial a c b d e) (weak (orientation a c b d) (full_turned F)) (plain k F e m))
 ]
 
@@ -125,8 +125,8 @@ module _ (s : List ℕ) (k : AreKeys s) (a b : ℕ) (differ : ¬ (b ≡ a)) wher
   -- nor is the fourth
   apart_d : {c d : ℕ} → Full height s a b c d → ¬ (IsIn d (b ∷ a ∷ []))
   apart_d {c} {d} F m = elim m [
-    | inl f ↦ not_zero (orientation a b c d) (full_turned F) (ap (λ x. orientation a b c x) (sym f) ∙ last-second a b c)
-    | inr r ↦ elim r [ inl f ↦ not_zero (orientation a b c d) (full_turned F) (ap (λ x. orientation a b c x) (sym f) ∙ last-first a b c) | inr none ↦ none ]
+    | inl f ↦ not_zero (orientation a b c d) (full_turned F) (ap (λ x. orientation a b c x) (sym f) ∙ last_second a b c)
+    | inr r ↦ elim r [ inl f ↦ not_zero (orientation a b c d) (full_turned F) (ap (λ x. orientation a b c x) (sym f) ∙ last_first a b c) | inr none ↦ none ]
   ]
 
   -- where the points of the cells with the edge are not inside, no point of the set is
@@ -200,10 +200,10 @@ module _ (s : List ℕ) (k : AreKeys s) (a b c : ℕ) where
   behind d F o e m l =
       carried_turned (orientation a b c d) (sphere_polynomial a b c d e) (square (normal (place a) (place b) (place c))) (orientation a b c e) (triangle_power (place a) (place b) (place c) (place e)) (triangle_power (place a) (place b) (place c) (place d))
       (triangle_power_of a b c d e)
-      (subst (λ z. pos 0 <ℤ z) (swap-middle a b c d) (full_turned F))
+      (subst (λ z. pos 0 <ℤ z) (swap_middle a b c d) (full_turned F))
       (subst (λ z. pos 0 ≤ℤ z) (swapped a b c d e) (plain k F e m))
       (square_weak (normal (place a) (place b) (place c)))
-      (subst (λ z. pos 0 ≤ℤ z) (swap-middle a b c e) l) o
+      (subst (λ z. pos 0 ≤ℤ z) (swap_middle a b c e) l) o
 
 -- the orientation of the other order is not negative where this one is negative
 turned_weak : (y z : ℤ) → z ≡ neg_ℤ y → y <ℤ pos 0 → pos 0 ≤ℤ z
@@ -214,7 +214,7 @@ all_off_triangle : (s : List ℕ) (k : AreKeys s) (a b c d : ℕ) → Full heigh
 all_off_triangle s k a b c d F o e m = elim (below_or_not (orientation a b c e)) [
   | inr l ↦ before s k a b c d F (o d (cell_true s k (point a) (point b) (point c) (point d) (inl F))) e m l
   | inl l ↦ elim (across_full F) [
-    | inl r ↦ behind s k a b c r.0 r.1 (o r.0 (cell_true s k (point a) (point b) (point c) (point r.0) (inr r.1))) e m (turned_weak (orientation a b c e) (orientation a c b e) (swap-middle a b c e) l)
+    | inl r ↦ behind s k a b c r.0 r.1 (o r.0 (cell_true s k (point a) (point b) (point c) (point r.0) (inr r.1))) e m (turned_weak (orientation a b c e) (orientation a c b e) (swap_middle a b c e) l)
     | inr G ↦ absurd (clash (orientation a b c e) l (open_bounds G e m))
   ]
 ]
@@ -224,7 +224,7 @@ all_off_behind : (s : List ℕ) (k : AreKeys s) (a b c d : ℕ) → Full height 
 all_off_behind s k a b c d F o e m = elim (below_or_not (orientation a c b e)) [
   | inr l ↦ behind s k a b c d F (o d (cell_true s k (point a) (point b) (point c) (point d) (inr F))) e m l
   | inl l ↦ elim (across_full F) [
-    | inl r ↦ before s k a b c r.0 r.1 (o r.0 (cell_true s k (point a) (point b) (point c) (point r.0) (inl r.1))) e m (turned_weak (orientation a c b e) (orientation a b c e) (swap-middle a c b e) l)
+    | inl r ↦ before s k a b c r.0 r.1 (o r.0 (cell_true s k (point a) (point b) (point c) (point r.0) (inl r.1))) e m (turned_weak (orientation a c b e) (orientation a b c e) (swap_middle a c b e) l)
     | inr G ↦ absurd (clash (orientation a c b e) l (open_bounds G e m))
   ]
 ]

@@ -8,7 +8,7 @@ use Rattle.list_laws.proofs.Cited.{from_append, in_left, not_back, not_zero, one
 use Rattle.point_order.specs.Orientation.{orientation}
 use Rattle.point_order.specs.Heights.{lifted}
 use Rattle.point_order.specs.Sets.{IsIn}
-use Rattle.point_order.proofs.Cited.{swap-middle}
+use Rattle.point_order.proofs.Cited.{swap_middle}
 use Rattle.del_laws.specs.Cells.{Full, Open, NoTies, Four, IsSolid, IsSubset, HasFull, Faces}
 use Rattle.del_laws.proofs.Identities.{orientation_bcad, orientation_acdb, lifted_bcad, lifted_acdb, weights_of}
 use Rattle.del_laws.proofs.Lists.{of_four}
@@ -108,7 +108,7 @@ exists_from {h} {s} a b c d n ma mb mc md o =
 -- a solid set has a Full cell
 pub exists_full : {h : ℕ → ℕ} {s : List ℕ} → NoTies h s → IsSolid s → HasFull h s
 exists_full {h} {s} n i = elim (sign (orientation i.f.a i.f.b i.f.c i.f.d)) [
-  | below l ↦ exists_from i.f.a i.f.c i.f.b i.f.d n i.has_a i.has_c i.has_b i.has_d (rw swap-middle (turned_below (orientation i.f.a i.f.b i.f.c i.f.d) l))
+  | below l ↦ exists_from i.f.a i.f.c i.f.b i.f.d n i.has_a i.has_c i.has_b i.has_d (rw swap_middle (turned_below (orientation i.f.a i.f.b i.f.c i.f.d) l))
   | at_zero z ↦ absurd (i.apart z)
   | above l ↦ exists_from i.f.a i.f.b i.f.c i.f.d n i.has_a i.has_b i.has_c i.has_d l
 ]

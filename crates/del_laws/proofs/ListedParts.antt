@@ -9,7 +9,7 @@ use Rattle.point_order.specs.Orientation.{orientation}
 use Rattle.point_order.specs.Heights.{height}
 use Rattle.point_order.specs.Sets.{IsIn, IsAscending, ascending}
 use Rattle.point_order.specs.Facets.{points_of}
-use Rattle.point_order.proofs.Cited.{ascending-self, in-ascending_from, swap-middle, zero_false}
+use Rattle.point_order.proofs.Cited.{ascending_self, in_ascending_from, swap_middle, zero_false}
 use Rattle.del_laws.specs.Cells.{Vertex, point, far, Held, HavePoints}
 use Rattle.del_laws.specs.Keys.{AreKeys}
 use Rattle.del_laws.specs.Vertices.{is_cell}
@@ -26,7 +26,7 @@ use Rattle.del_laws.proofs.Bools.{cell_true, cell_from}
 use Rattle.del_laws.proofs.PointSets.{solid_from}
 use Rattle.del_laws.proofs.Closed.{star_law}
 use Rattle.del_laws.proofs.Listed.{listed_is_cell}
-use Rattle.del_laws.proofs.Sorting.{turn12, turn23, apart12, apart23, cell_of-swap12, cell_of-swap23, cell_of-swap34, test_is_listed, less, more, compared}
+use Rattle.del_laws.proofs.Sorting.{turn12, turn23, apart12, apart23, cell_of_swap12, cell_of_swap23, cell_of_swap34, test_is_listed, less, more, compared}
 use Rattle.del_laws.proofs.Neighbours.{has_facet}
 
 -- ---- listed cells by their vertices
@@ -49,7 +49,7 @@ of_listed s (Full q) l =
       v2 = point l.b;
       v3 = point l.c;
       v4 = point l.d;
-      is = ap Full (sym (ascending-self (l.a ∷ l.b ∷ l.c ∷ l.d ∷ []) (l.first, (l.second, (l.third, (tt, tt))))));
+      is = ap Full (sym (ascending_self (l.a ∷ l.b ∷ l.c ∷ l.d ∷ []) (l.first, (l.second, (l.third, (tt, tt))))));
       test = l.test;
       points = λ p m. of_four (λ x. IsIn (point x) (point l.a ∷ point l.b ∷ point l.c ∷ point l.d ∷ [])) m (inl refl) (inr (inl refl)) (inr (inr (inl refl))) (inr (inr (inr (inl refl))));
     })
@@ -59,7 +59,7 @@ of_listed s (Open t) l =
       v2 = point l.b;
       v3 = point l.c;
       v4 = far;
-      is = ap Open (sym (ascending-self (l.a ∷ l.b ∷ l.c ∷ []) (l.first, (l.second, (tt, tt)))));
+      is = ap Open (sym (ascending_self (l.a ∷ l.b ∷ l.c ∷ []) (l.first, (l.second, (tt, tt)))));
       test = l.test;
       points = λ p m. of_three (λ x. IsIn (point x) (point l.a ∷ point l.b ∷ point l.c ∷ far ∷ [])) m (inl refl) (inr (inl refl)) (inr (inr (inl refl)));
     })
@@ -71,8 +71,8 @@ abbrev of_vertices : (Cell → Bool) → Vertex → Vertex → Vertex → Vertex
 of_vertices q w x y z = q (cell_of w x y z)
 
 -- it does not depend on their order
-of_vertices-symmetric : (q : Cell → Bool) → Symmetric (of_vertices q)
-of_vertices-symmetric q = record { first = λ w x y z. ap q (cell_of-swap12 w x y z); middle = λ w x y z. ap q (cell_of-swap23 w x y z); last = λ w x y z. ap q (cell_of-swap34 w x y z) }
+of_vertices_symmetric : (q : Cell → Bool) → Symmetric (of_vertices q)
+of_vertices_symmetric q = record { first = λ w x y z. ap q (cell_of_swap12 w x y z); middle = λ w x y z. ap q (cell_of_swap23 w x y z); last = λ w x y z. ap q (cell_of_swap34 w x y z) }
 
 module _ (s : List ℕ) (k : List ℕ) (q : Cell → Bool) (a : IsAscending s) (keys : AreKeys s) (closed : IsClosedListed s k q) (x y : Vertex) where
   -- across a triple that has the points
@@ -91,16 +91,16 @@ module _ (s : List ℕ) (k : List ℕ) (q : Cell → Bool) (a : IsAscending s) (
   -- the first two exchanged
   crosses12 : (e f g : ℕ) → Crosses f e g → Crosses e f g
   crosses12 e f g h i t u j =
-      ap q (cell_of-swap12 (point e) (point f) (point g) y)
+      ap q (cell_of_swap12 (point e) (point f) (point g) y)
       ∙ h (λ p m. of_three (λ v. IsIn v (f ∷ e ∷ g ∷ [])) (i p m) (inr (inl refl)) (inl refl) (inr (inr (inl refl))))
-      (turn12 s keys (point e) (point f) (point g) x t) (turn12 s keys (point e) (point f) (point g) y u) (sym (ap q (cell_of-swap12 (point e) (point f) (point g) x)) ∙ j)
+      (turn12 s keys (point e) (point f) (point g) x t) (turn12 s keys (point e) (point f) (point g) y u) (sym (ap q (cell_of_swap12 (point e) (point f) (point g) x)) ∙ j)
 
   -- the last two exchanged
   crosses23 : (e f g : ℕ) → Crosses e g f → Crosses e f g
   crosses23 e f g h i t u j =
-      ap q (cell_of-swap23 (point e) (point f) (point g) y)
+      ap q (cell_of_swap23 (point e) (point f) (point g) y)
       ∙ h (λ p m. of_three (λ v. IsIn v (e ∷ g ∷ f ∷ [])) (i p m) (inl refl) (inr (inr (inl refl))) (inr (inl refl)))
-      (turn23 s keys (point e) (point f) (point g) x t) (turn23 s keys (point e) (point f) (point g) y u) (sym (ap q (cell_of-swap23 (point e) (point f) (point g) x)) ∙ j)
+      (turn23 s keys (point e) (point f) (point g) x t) (turn23 s keys (point e) (point f) (point g) y u) (sym (ap q (cell_of_swap23 (point e) (point f) (point g) x)) ∙ j)
 
   -- the first put among two in order
   crosses_put : (e f g : ℕ) → f < g → Crosses e f g
@@ -129,7 +129,7 @@ listed_star s k q a keys closed c mc fc hc d md fd =
     let o = of_listed s c (listed_is_cell s c a mc) in
     let r = of_listed s d (listed_is_cell s d a md) in
     ap q r.is
-    ∙ star_law height s k (of_vertices q) (no_ties s keys) (of_vertices-symmetric q)
+    ∙ star_law height s k (of_vertices q) (no_ties s keys) (of_vertices_symmetric q)
     (λ e f g x y i C t D. crosses s k q a keys closed x y e f g i.inside (cell_true s keys (point e) (point f) (point g) x C.held) (cell_true s keys (point e) (point f) (point g) y D.held) t)
     o.v1 o.v2 o.v3 o.v4 (record { held = cell_from s o.v1 o.v2 o.v3 o.v4 o.test }) (have_of s k c o fc) (sym (ap q o.is) ∙ hc)
     r.v1 r.v2 r.v3 r.v4 (record { held = cell_from s r.v1 r.v2 r.v3 r.v4 r.test }) (have_of s k d r fd)
@@ -158,12 +158,12 @@ listed_every_point s e a keys i m =
     record {
       q = ascending (f.a ∷ f.b ∷ f.c ∷ f.d ∷ []);
       listed = test_is_listed s a keys (point f.a) (point f.b) (point f.c) (point f.d) (cell_true s keys (point f.a) (point f.b) (point f.c) (point f.d) (inl t.full));
-      has = in-ascending_from (f.a ∷ f.b ∷ f.c ∷ f.d ∷ []) e t.has;
+      has = in_ascending_from (f.a ∷ f.b ∷ f.c ∷ f.d ∷ []) e t.has;
     }
 
 -- three points flat in one order are in the other
 turned : (a b c d : ℕ) → orientation a b c d ≡ pos 0 → orientation a c b d ≡ pos 0
-turned a b c d z = swap-middle a b c d ∙ ap neg_ℤ z
+turned a b c d z = swap_middle a b c d ∙ ap neg_ℤ z
 
 -- the mate of a listed Open cell
 pub listed_mate : ListedMate

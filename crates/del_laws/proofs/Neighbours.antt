@@ -10,7 +10,7 @@ use Rattle.point_order.specs.Heights.{height}
 use Rattle.point_order.specs.Sets.{IsIn, IsAscending, ascending}
 use Rattle.point_order.specs.Complex.{complex}
 use Rattle.point_order.specs.Facets.{facets_of}
-use Rattle.point_order.proofs.Cited.{ascending-self, in-ascending, in-ascending_from}
+use Rattle.point_order.proofs.Cited.{ascending_self, in_ascending, in_ascending_from}
 use Rattle.del_laws.specs.Cells.{Vertex, point, far}
 use Rattle.del_laws.specs.Keys.{AreKeys}
 use Rattle.del_laws.specs.Vertices.{is_cell}
@@ -19,7 +19,7 @@ use Rattle.del_laws.proofs.Facets.{facing}
 use Rattle.del_laws.proofs.Perturbed.{no_ties}
 use Rattle.del_laws.proofs.Bools.{cell_true, cell_from}
 use Rattle.del_laws.proofs.Listed.{listed_is_cell, same_full, same_open, not_both_kinds}
-use Rattle.del_laws.proofs.Sorting.{turn34, rotate1, rotate2, apart34, apart24, apart14, cell_of-swap12, cell_of-swap23, cell_of-swap34, test_is_listed, less, more, compared}
+use Rattle.del_laws.proofs.Sorting.{turn34, rotate1, rotate2, apart34, apart24, apart14, cell_of_swap12, cell_of_swap23, cell_of_swap34, test_is_listed, less, more, compared}
 
 -- ---- a facet and one more vertex
 
@@ -49,12 +49,12 @@ pub record IsOver (s : List ℕ) (c : Cell) (f : Facet) : Type 0 where
   pub test : fits s f last ≡ true
 
 -- the cell of the first vertex brought to the end
-cell_of-rotate1 : (w x y z : Vertex) → cell_of w x y z ≡ cell_of x y z w
-cell_of-rotate1 w x y z = cell_of-swap12 w x y z ∙ cell_of-swap23 x w y z ∙ cell_of-swap34 x y w z
+cell_of_rotate1 : (w x y z : Vertex) → cell_of w x y z ≡ cell_of x y z w
+cell_of_rotate1 w x y z = cell_of_swap12 w x y z ∙ cell_of_swap23 x w y z ∙ cell_of_swap34 x y w z
 
 -- of the second
-cell_of-rotate2 : (w x y z : Vertex) → cell_of w x y z ≡ cell_of w y z x
-cell_of-rotate2 w x y z = cell_of-swap23 w x y z ∙ cell_of-swap34 w y x z
+cell_of_rotate2 : (w x y z : Vertex) → cell_of w x y z ≡ cell_of w y z x
+cell_of_rotate2 w x y z = cell_of_swap23 w x y z ∙ cell_of_swap34 w y x z
 
 -- a facet written otherwise
 at_facet : (s : List ℕ) (c : Cell) (f g : Facet) → f ≡ g → IsOver s c f → IsOver s c g
@@ -63,13 +63,13 @@ at_facet s c f g e t = subst (λ v. IsOver s c v) e t
 -- the facets of a Full cell
 over_full : (s : List ℕ) (k : AreKeys s) (a b c d : ℕ) (f : Facet) → a < b → b < c → c < d → is_cell s (point a) (point b) (point c) (point d) ≡ true → IsIn f (facets_of (Full (a ∷ b ∷ c ∷ d ∷ []))) → IsOver s (Full (a ∷ b ∷ c ∷ d ∷ [])) f
 over_full s k a b c d f l m n t i =
-    let q : Full (a ∷ b ∷ c ∷ d ∷ []) ≡ cell_of (point a) (point b) (point c) (point d) = ap Full (sym (ascending-self (a ∷ b ∷ c ∷ d ∷ []) (l, (m, (n, (tt, tt)))))) in
+    let q : Full (a ∷ b ∷ c ∷ d ∷ []) ≡ cell_of (point a) (point b) (point c) (point d) = ap Full (sym (ascending_self (a ∷ b ∷ c ∷ d ∷ []) (l, (m, (n, (tt, tt)))))) in
     elim i [
-      | inl e ↦ at_facet s (Full (a ∷ b ∷ c ∷ d ∷ [])) (Three (b ∷ c ∷ d ∷ [])) f e (record { facet = (m, n); last = point a; is = q ∙ cell_of-rotate1 (point a) (point b) (point c) (point d); test = rotate1 s k (point a) (point b) (point c) (point d) t })
+      | inl e ↦ at_facet s (Full (a ∷ b ∷ c ∷ d ∷ [])) (Three (b ∷ c ∷ d ∷ [])) f e (record { facet = (m, n); last = point a; is = q ∙ cell_of_rotate1 (point a) (point b) (point c) (point d); test = rotate1 s k (point a) (point b) (point c) (point d) t })
       | inr r ↦ elim r [
-        | inl e ↦ at_facet s (Full (a ∷ b ∷ c ∷ d ∷ [])) (Three (a ∷ c ∷ d ∷ [])) f e (record { facet = (less_chain a b c l m, n); last = point b; is = q ∙ cell_of-rotate2 (point a) (point b) (point c) (point d); test = rotate2 s k (point a) (point b) (point c) (point d) t })
+        | inl e ↦ at_facet s (Full (a ∷ b ∷ c ∷ d ∷ [])) (Three (a ∷ c ∷ d ∷ [])) f e (record { facet = (less_chain a b c l m, n); last = point b; is = q ∙ cell_of_rotate2 (point a) (point b) (point c) (point d); test = rotate2 s k (point a) (point b) (point c) (point d) t })
         | inr u ↦ elim u [
-          | inl e ↦ at_facet s (Full (a ∷ b ∷ c ∷ d ∷ [])) (Three (a ∷ b ∷ d ∷ [])) f e (record { facet = (l, less_chain b c d m n); last = point c; is = q ∙ cell_of-swap34 (point a) (point b) (point c) (point d); test = turn34 s k (point a) (point b) (point c) (point d) t })
+          | inl e ↦ at_facet s (Full (a ∷ b ∷ c ∷ d ∷ [])) (Three (a ∷ b ∷ d ∷ [])) f e (record { facet = (l, less_chain b c d m n); last = point c; is = q ∙ cell_of_swap34 (point a) (point b) (point c) (point d); test = turn34 s k (point a) (point b) (point c) (point d) t })
           | inr v ↦ elim v [ inl e ↦ at_facet s (Full (a ∷ b ∷ c ∷ d ∷ [])) (Three (a ∷ b ∷ c ∷ [])) f e (record { facet = (l, m); last = point d; is = q; test = t }) | inr none ↦ absurd none ]
         ]
       ]
@@ -78,13 +78,13 @@ over_full s k a b c d f l m n t i =
 -- the facets of an Open cell
 over_open : (s : List ℕ) (k : AreKeys s) (a b c : ℕ) (f : Facet) → a < b → b < c → is_cell s (point a) (point b) (point c) far ≡ true → IsIn f (facets_of (Open (a ∷ b ∷ c ∷ []))) → IsOver s (Open (a ∷ b ∷ c ∷ [])) f
 over_open s k a b c f l m t i =
-    let q : Open (a ∷ b ∷ c ∷ []) ≡ cell_of (point a) (point b) (point c) far = ap Open (sym (ascending-self (a ∷ b ∷ c ∷ []) (l, (m, (tt, tt))))) in
+    let q : Open (a ∷ b ∷ c ∷ []) ≡ cell_of (point a) (point b) (point c) far = ap Open (sym (ascending_self (a ∷ b ∷ c ∷ []) (l, (m, (tt, tt))))) in
     elim i [
-      | inl e ↦ at_facet s (Open (a ∷ b ∷ c ∷ [])) (Two (b ∷ c ∷ [])) f e (record { facet = m; last = point a; is = q ∙ cell_of-rotate1 (point a) (point b) (point c) far; test = rotate1 s k (point a) (point b) (point c) far t })
+      | inl e ↦ at_facet s (Open (a ∷ b ∷ c ∷ [])) (Two (b ∷ c ∷ [])) f e (record { facet = m; last = point a; is = q ∙ cell_of_rotate1 (point a) (point b) (point c) far; test = rotate1 s k (point a) (point b) (point c) far t })
       | inr r ↦ elim r [
-        | inl e ↦ at_facet s (Open (a ∷ b ∷ c ∷ [])) (Two (a ∷ c ∷ [])) f e (record { facet = less_chain a b c l m; last = point b; is = q ∙ cell_of-rotate2 (point a) (point b) (point c) far; test = rotate2 s k (point a) (point b) (point c) far t })
+        | inl e ↦ at_facet s (Open (a ∷ b ∷ c ∷ [])) (Two (a ∷ c ∷ [])) f e (record { facet = less_chain a b c l m; last = point b; is = q ∙ cell_of_rotate2 (point a) (point b) (point c) far; test = rotate2 s k (point a) (point b) (point c) far t })
         | inr u ↦ elim u [
-          | inl e ↦ at_facet s (Open (a ∷ b ∷ c ∷ [])) (Two (a ∷ b ∷ [])) f e (record { facet = l; last = point c; is = q ∙ cell_of-swap34 (point a) (point b) (point c) far; test = turn34 s k (point a) (point b) (point c) far t })
+          | inl e ↦ at_facet s (Open (a ∷ b ∷ c ∷ [])) (Two (a ∷ b ∷ [])) f e (record { facet = l; last = point c; is = q ∙ cell_of_swap34 (point a) (point b) (point c) far; test = turn34 s k (point a) (point b) (point c) far t })
           | inr v ↦ elim v [ inl e ↦ at_facet s (Open (a ∷ b ∷ c ∷ [])) (Three (a ∷ b ∷ c ∷ [])) f e (record { facet = (l, m); last = far; is = q; test = t }) | inr none ↦ absurd none ]
         ]
       ]
@@ -101,11 +101,11 @@ over_facet s k (Open q) f l i =
 
 -- a sorted list is told by its order
 in_order4 : (w x y z : ℕ) → w < x → x < y → y < z → ascending (w ∷ x ∷ y ∷ z ∷ []) ≡ w ∷ x ∷ y ∷ z ∷ []
-in_order4 w x y z l m n = ascending-self (w ∷ x ∷ y ∷ z ∷ []) (l, (m, (n, (tt, tt))))
+in_order4 w x y z l m n = ascending_self (w ∷ x ∷ y ∷ z ∷ []) (l, (m, (n, (tt, tt))))
 
 -- of three
 in_order3 : (x y z : ℕ) → x < y → y < z → ascending (x ∷ y ∷ z ∷ []) ≡ x ∷ y ∷ z ∷ []
-in_order3 x y z l m = ascending-self (x ∷ y ∷ z ∷ []) (l, (m, (tt, tt)))
+in_order3 x y z l m = ascending_self (x ∷ y ∷ z ∷ []) (l, (m, (tt, tt)))
 
 -- a facet of a cell that is written otherwise
 has_at : (f : Facet) (c d : Cell) → c ≡ d → IsIn f (facets_of d) → IsIn f (facets_of c)
@@ -117,11 +117,11 @@ three_and_point s k a b c d l m t =
     let f = Three (a ∷ b ∷ c ∷ []) in
     let o = cell_of (point a) (point b) (point c) (point d) in
     elim (compared d a (λ e. apart14 s k (point a) (point b) (point c) (point d) t (ap point (sym e)))) [
-      | less i ↦ has_at f o (Full (d ∷ a ∷ b ∷ c ∷ [])) (sym (cell_of-rotate1 (point d) (point a) (point b) (point c)) ∙ ap Full (in_order4 d a b c i l m)) (inl refl)
+      | less i ↦ has_at f o (Full (d ∷ a ∷ b ∷ c ∷ [])) (sym (cell_of_rotate1 (point d) (point a) (point b) (point c)) ∙ ap Full (in_order4 d a b c i l m)) (inl refl)
       | more i ↦ elim (compared d b (λ e. apart24 s k (point a) (point b) (point c) (point d) t (ap point (sym e)))) [
-        | less j ↦ has_at f o (Full (a ∷ d ∷ b ∷ c ∷ [])) (sym (cell_of-rotate2 (point a) (point d) (point b) (point c)) ∙ ap Full (in_order4 a d b c i j m)) (inr (inl refl))
+        | less j ↦ has_at f o (Full (a ∷ d ∷ b ∷ c ∷ [])) (sym (cell_of_rotate2 (point a) (point d) (point b) (point c)) ∙ ap Full (in_order4 a d b c i j m)) (inr (inl refl))
         | more j ↦ elim (compared d c (λ e. apart34 s (point a) (point b) (point c) (point d) t (ap point (sym e)))) [
-          | less n ↦ has_at f o (Full (a ∷ b ∷ d ∷ c ∷ [])) (cell_of-swap34 (point a) (point b) (point c) (point d) ∙ ap Full (in_order4 a b d c l j n)) (inr (inr (inl refl)))
+          | less n ↦ has_at f o (Full (a ∷ b ∷ d ∷ c ∷ [])) (cell_of_swap34 (point a) (point b) (point c) (point d) ∙ ap Full (in_order4 a b d c l j n)) (inr (inr (inl refl)))
           | more n ↦ has_at f o (Full (a ∷ b ∷ c ∷ d ∷ [])) (ap Full (in_order4 a b c d l m n)) (inr (inr (inr (inl refl))))
         ]
       ]
@@ -133,9 +133,9 @@ two_and_point s k a b d l t =
     let f = Two (a ∷ b ∷ []) in
     let o = cell_of (point a) (point b) far (point d) in
     elim (compared d a (λ e. apart14 s k (point a) (point b) far (point d) t (ap point (sym e)))) [
-      | less i ↦ has_at f o (Open (d ∷ a ∷ b ∷ [])) (sym (cell_of-rotate1 (point d) (point a) (point b) far) ∙ ap Open (in_order3 d a b i l)) (inl refl)
+      | less i ↦ has_at f o (Open (d ∷ a ∷ b ∷ [])) (sym (cell_of_rotate1 (point d) (point a) (point b) far) ∙ ap Open (in_order3 d a b i l)) (inl refl)
       | more i ↦ elim (compared d b (λ e. apart24 s k (point a) (point b) far (point d) t (ap point (sym e)))) [
-        | less j ↦ has_at f o (Open (a ∷ d ∷ b ∷ [])) (sym (cell_of-rotate2 (point a) (point d) (point b) far) ∙ ap Open (in_order3 a d b i j)) (inr (inl refl))
+        | less j ↦ has_at f o (Open (a ∷ d ∷ b ∷ [])) (sym (cell_of_rotate2 (point a) (point d) (point b) far) ∙ ap Open (in_order3 a d b i j)) (inr (inl refl))
         | more j ↦ has_at f o (Open (a ∷ b ∷ d ∷ [])) (ap Open (in_order3 a b d l j)) (inr (inr (inl refl)))
       ]
     ]
@@ -171,7 +171,7 @@ over_listed s a k (Two (x ∷ y ∷ z ∷ r)) v t = cc
 -- the fourth of four points, told by their list
 fourth_told : (s : List ℕ) (k : AreKeys s) (a b c d e : ℕ) → is_cell s (point a) (point b) (point c) (point d) ≡ true → ascending (a ∷ b ∷ c ∷ d ∷ []) ≡ ascending (a ∷ b ∷ c ∷ e ∷ []) → d ≡ e
 fourth_told s k a b c d e t q =
-    elim (in-ascending (a ∷ b ∷ c ∷ e ∷ []) d (subst (λ (l : List ℕ). IsIn d l) q (in-ascending_from (a ∷ b ∷ c ∷ d ∷ []) d (inr (inr (inr (inl refl))))))) [
+    elim (in_ascending (a ∷ b ∷ c ∷ e ∷ []) d (subst (λ (l : List ℕ). IsIn d l) q (in_ascending_from (a ∷ b ∷ c ∷ d ∷ []) d (inr (inr (inr (inl refl))))))) [
       | inl i ↦ absurd (apart14 s k (point a) (point b) (point c) (point d) t (ap point i))
       | inr r ↦ elim r [
         | inl i ↦ absurd (apart24 s k (point a) (point b) (point c) (point d) t (ap point i))
@@ -182,7 +182,7 @@ fourth_told s k a b c d e t q =
 -- the third of three points
 third_told : (s : List ℕ) (k : AreKeys s) (a b d e : ℕ) → is_cell s (point a) (point b) far (point d) ≡ true → ascending (a ∷ b ∷ d ∷ []) ≡ ascending (a ∷ b ∷ e ∷ []) → d ≡ e
 third_told s k a b d e t q =
-    elim (in-ascending (a ∷ b ∷ e ∷ []) d (subst (λ (l : List ℕ). IsIn d l) q (in-ascending_from (a ∷ b ∷ d ∷ []) d (inr (inr (inl refl)))))) [
+    elim (in_ascending (a ∷ b ∷ e ∷ []) d (subst (λ (l : List ℕ). IsIn d l) q (in_ascending_from (a ∷ b ∷ d ∷ []) d (inr (inr (inl refl)))))) [
       | inl i ↦ absurd (apart14 s k (point a) (point b) far (point d) t (ap point i))
       | inr r ↦ elim r [ inl i ↦ absurd (apart24 s k (point a) (point b) far (point d) t (ap point i)) | inr u ↦ elim u [ inl i ↦ sym i | inr none ↦ absurd none ] ]
     ]

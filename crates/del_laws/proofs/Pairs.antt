@@ -4,9 +4,9 @@ use Rattle.std.specs.Prelude.{ℕ, ◌≡◌, Bool, true, false, List, [], ◌�
 use Rattle.std.proofs.Common.{refl, inl, inr, subst, sym, ap}
 use Rattle.list_laws.specs.Lists.{AreDistinct}
 use Rattle.list_laws.specs.Laws.{odd, IsGraph}
-use Rattle.list_laws.proofs.Cited.{HasSome, another, even_degrees, holds-true, is_in, look, none_even, true_if, true_if-no, true_if-same, true_if-yes, two_even}
+use Rattle.list_laws.proofs.Cited.{HasSome, another, even_degrees, holds_true, is_in, look, none_even, true_if, true_if_no, true_if_same, true_if_yes, two_even}
 use Rattle.point_order.specs.Sets.{IsIn}
-use Rattle.point_order.proofs.Cited.{last-second, last-third}
+use Rattle.point_order.proofs.Cited.{last_second, last_third}
 use Rattle.del_laws.specs.Cells.{Open, Vertex, point, far, Held, NoTies}
 use Rattle.del_laws.proofs.CellFacts.{full_d, full_apart, open_b, open_c}
 use Rattle.del_laws.proofs.Orders.{open_left, swap34}
@@ -127,29 +127,29 @@ linked h s a b y z = true_if (is_held h s (point a) (point b) y z)
 
 -- no cell has a vertex twice
 pub not_twice : (h : ℕ → ℕ) (s : List ℕ) (a b : ℕ) (y : Vertex) → Held h s (point a) (point b) y y → ⊥
-not_twice h s a b (point c) m = elim m [ inl F ↦ full_apart F (last-third a b c) | inr F ↦ full_apart F (last-second a c b) ]
+not_twice h s a b (point c) m = elim m [ inl F ↦ full_apart F (last_third a b c) | inr F ↦ full_apart F (last_second a c b) ]
 not_twice h s a b far m = m
 
 -- it is a graph
 pub graph : (h : ℕ → ℕ) (s : List ℕ) (a b : ℕ) → IsGraph (linked h s a b)
 graph h s a b = record {
-  loose = λ y. true_if-no (is_held h s (point a) (point b) y y) (not_twice h s a b y);
-  both = λ y z. true_if-same (is_held h s (point a) (point b) y z) (is_held h s (point a) (point b) z y) (swap34 h s (point a) (point b) y z) (swap34 h s (point a) (point b) z y);
+  loose = λ y. true_if_no (is_held h s (point a) (point b) y y) (not_twice h s a b y);
+  both = λ y z. true_if_same (is_held h s (point a) (point b) y z) (is_held h s (point a) (point b) z y) (swap34 h s (point a) (point b) y z) (swap34 h s (point a) (point b) z y);
 }
 
 -- a point has no neighbour or two
 point_even : (h : ℕ → ℕ) (s : List ℕ) → NoTies h s → (a b c : ℕ) → odd (linked h s a b (point c)) (nodes s) ≡ false
 point_even h s n a b c = elim (look (linked h s a b (point c)) (nodes s)) [
   | inl e ↦ none_even (linked h s a b (point c)) (nodes s) e
-  | inr x ↦ two x (facing_triple n a b c x.at (holds-true (is_held h s (point a) (point b) (point c) x.at) x.holds))
+  | inr x ↦ two x (facing_triple n a b c x.at (holds_true (is_held h s (point a) (point b) (point c) x.at) x.holds))
 ]
   where
     -- two, where there is one
     two : (x : HasSome (linked h s a b (point c)) (nodes s)) → Facing h s (point a) (point b) (point c) x.at → odd (linked h s a b (point c)) (nodes s) ≡ false
     two x t =
         two_even (linked h s a b (point c)) x.at t.other (nodes s) (distinct_nodes s) x.found (held_in_nodes h s a b (point c) t.other t.cell) (λ e. t.differs (sym e)) x.holds
-        (true_if-yes (is_held h s (point a) (point b) (point c) t.other) t.cell)
-        (λ z i q. t.only z (holds-true (is_held h s (point a) (point b) (point c) z) q))
+        (true_if_yes (is_held h s (point a) (point b) (point c) t.other) t.cell)
+        (λ z i q. t.only z (holds_true (is_held h s (point a) (point b) (point c) z) q))
 
 -- so the infinite vertex, the only other node, has evenly many
 far_even : (h : ℕ → ℕ) (s : List ℕ) → NoTies h s → (a b : ℕ) → odd (linked h s a b far) (nodes s) ≡ false
@@ -170,8 +170,8 @@ far_even h s n a b = decided (odd (linked h s a b far) (nodes s)) refl
 -- a pair of an Open cell lies in exactly two Open cells
 pub facing_pair : (h : ℕ → ℕ) (s : List ℕ) → NoTies h s → (a b : ℕ) (x : Vertex) → Held h s (point a) (point b) far x → Facing h s (point a) (point b) far x
 facing_pair h s n a b x k =
-    let y = another (linked h s a b far) x (nodes s) (distinct_nodes s) (held_in_nodes h s a b far x k) (true_if-yes (is_held h s (point a) (point b) far x) k) (far_even h s n a b) in
-    let l : Held h s (point a) (point b) far y.at = holds-true (is_held h s (point a) (point b) far y.at) y.holds in
+    let y = another (linked h s a b far) x (nodes s) (distinct_nodes s) (held_in_nodes h s a b far x k) (true_if_yes (is_held h s (point a) (point b) far x) k) (far_even h s n a b) in
+    let l : Held h s (point a) (point b) far y.at = holds_true (is_held h s (point a) (point b) far y.at) y.holds in
     record { other = y.at; differs = y.differs; cell = l; only = λ z m. third x y.at z y.differs k l m }
   where
     -- at most one on the one side

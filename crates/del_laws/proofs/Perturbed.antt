@@ -11,7 +11,7 @@ use Rattle.point_order.specs.Coordinates.{IsKey, x_of, y_of, z_of}
 use Rattle.point_order.specs.Orientation.{orientation, triple, minor, x_from, y_from, z_from}
 use Rattle.point_order.specs.Heights.{height, lifted, out, sphere_polynomial, square_of}
 use Rattle.point_order.specs.Sets.{AreFive}
-use Rattle.point_order.proofs.Cited.{key-is, last-first, last-second, last-third, never_zero_law, out-sign, zero_false}
+use Rattle.point_order.proofs.Cited.{key_is, last_first, last_second, last_third, never_zero_law, out_sign, zero_false}
 use Rattle.del_laws.specs.EmptySpheres.{place}
 use Rattle.del_laws.specs.Cells.{NoTies, IsConvex, OneOf}
 use Rattle.del_laws.specs.Keys.{AreKeys}
@@ -24,12 +24,12 @@ five : (a b c d e : ℕ) → ¬ (orientation a b c d ≡ pos 0) → ¬ (OneOf e 
 five a b c d e n k = (
   λ q. n (ap (λ x. orientation x b c d) q ∙ orientation_same12 b c d),
   λ q. n (ap (λ x. orientation x b c d) q ∙ orientation_same13 c b d),
-  λ q. n (ap (λ x. orientation x b c d) q ∙ last-first d b c),
+  λ q. n (ap (λ x. orientation x b c d) q ∙ last_first d b c),
   λ q. k (inl q),
   λ q. n (ap (λ x. orientation a x c d) q ∙ orientation_same23 a c d),
-  λ q. n (ap (λ x. orientation a x c d) q ∙ last-second a d c),
+  λ q. n (ap (λ x. orientation a x c d) q ∙ last_second a d c),
   λ q. k (inr (inl q)),
-  λ q. n (ap (λ x. orientation a b x d) q ∙ last-third a b d),
+  λ q. n (ap (λ x. orientation a b x d) q ∙ last_third a b d),
   λ q. k (inr (inr (inl q))),
   λ q. k (inr (inr (inr (inl q)))),
 )
@@ -78,7 +78,7 @@ same_key x y z u v w p q ep eq ex ey ez = omega arith
 apart : (e a : ℕ) → IsKey e → IsKey a → ¬ (a ≡ e) → pos 0 <ℤ distance (place e) (place a)
 apart e a ke ka n =
     squares_pos (pos (x_of a) -ℤ pos (x_of e)) (pos (y_of a) -ℤ pos (y_of e)) (pos (z_of a) -ℤ pos (z_of e))
-    (λ ex ey ez. n (same_key (x_of a) (y_of a) (z_of a) (x_of e) (y_of e) (z_of e) a e (key-is a ka) (key-is e ke) (same_number (x_of a) (x_of e) ex) (same_number (y_of a) (y_of e) ey) (same_number (z_of a) (z_of e) ez)))
+    (λ ex ey ez. n (same_key (x_of a) (y_of a) (z_of a) (x_of e) (y_of e) (z_of e) a e (key_is a ka) (key_is e ke) (same_number (x_of a) (x_of e) ex) (same_number (y_of a) (y_of e) ey) (same_number (z_of a) (z_of e) ez)))
 
 -- the in-sphere polynomial of points by the squares of the distances
 sphere_by_distances : (a b c d e : ℕ) → sphere_polynomial a b c d e ≡ neg_ℤ (orientation b d c e *ℤ distance (place e) (place a) +ℤ orientation a c d e *ℤ distance (place e) (place b) +ℤ orientation a d b e *ℤ distance (place e) (place c) +ℤ orientation a b c e *ℤ distance (place e) (place d))
@@ -104,7 +104,7 @@ is_convex s k = record {
     | no m ↦ (
         let ke = k.below e me in
         let low : sphere_polynomial a b c d e <ℤ pos 0 = sum_pos (orientation a b c d) (orientation b d c e) (orientation a c d e) (orientation a d b e) (orientation a b c e) (distance (place e) (place a)) (distance (place e) (place b)) (distance (place e) (place c)) (distance (place e) (place d)) (sphere_polynomial a b c d e) (weights_of a b c d e) o wa wb wc wd (apart e a ke (k.below a ma) (λ q. m (inl q))) (apart e b ke (k.below b mb) (λ q. m (inr (inl q)))) (apart e c ke (k.below c mc) (λ q. m (inr (inr (inl q))))) (apart e d ke (k.below d md) (λ q. m (inr (inr (inr (inl q)))))) (sphere_by_distances a b c d e) in
-        let inside : out a b c d e <ℤ pos 0 = (out-sign a b c d e (k.below a ma) (k.below b mb) (k.below c mc) (k.below d md) ke).negative low in
+        let inside : out a b c d e <ℤ pos 0 = (out_sign a b c d e (k.below a ma) (k.below b mb) (k.below c mc) (k.below d md) ke).negative low in
         absurd (clash (lifted height a b c d e) (subst (λ z. z <ℤ pos 0) (out_is a b c d e) inside) l))
   ];
 }

@@ -10,7 +10,7 @@ use Rattle.point_order.specs.Coordinates.{IsKey}
 use Rattle.point_order.specs.Orientation.{orientation, is_flat}
 use Rattle.point_order.specs.Sets.{IsIn, IsAscending, IsBelowFirst, is_among, with_point, without_point}
 use Rattle.point_order.specs.Solid.{is_solid}
-use Rattle.point_order.proofs.Cited.{ascending-with, in-with, in-with_new, in-with_old, not_zero_from, zero_false}
+use Rattle.point_order.proofs.Cited.{ascending_with, in_with, in_with_new, in_with_old, not_zero_from, zero_false}
 use Rattle.del_laws.specs.Cells.{Vertex, point, far, IsSolid, IsSubset}
 use Rattle.del_laws.specs.Keys.{AreKeys}
 use Rattle.del_laws.specs.PointSets.{is_below_first, is_point_set, PointSet, same_vertex, is_point, has, set_or, plus, minus, vertices}
@@ -59,9 +59,9 @@ pub keys_of : (s : PointSet) → AreKeys s.points
 keys_of s = record { below = key_from s.points s.valid }
 
 -- a list that is a set gives it
-set_or-is : (l : List ℕ) (b : Bool) (e : is_point_set l ≡ b) (s : PointSet) → is_point_set l ≡ true → (set_or l b e s).points ≡ l
-set_or-is l true e s t = refl
-set_or-is l false e s t = absurd (not_both (is_point_set l) t e)
+set_or_is : (l : List ℕ) (b : Bool) (e : is_point_set l ≡ b) (s : PointSet) → is_point_set l ≡ true → (set_or l b e s).points ≡ l
+set_or_is l true e s t = refl
+set_or_is l false e s t = absurd (not_both (is_point_set l) t e)
 
 -- ---- members
 
@@ -92,12 +92,12 @@ extensional s t f = along s.points t.points s.valid t.valid (same_members s.poin
 
 -- the list with a key is a set
 with_valid : (s : PointSet) (a : ℕ) → IsKey a → is_point_set (with_point a s.points) ≡ true
-with_valid s a k = set_true (with_point a s.points) (ascending-with a s.points (ascending_of s)) (λ p m. elim (in-with a p s.points m) [ inl e ↦ subst IsKey e k | inr r ↦ key_from s.points s.valid p r ])
+with_valid s a k = set_true (with_point a s.points) (ascending_with a s.points (ascending_of s)) (λ p m. elim (in_with a p s.points m) [ inl e ↦ subst IsKey e k | inr r ↦ key_from s.points s.valid p r ])
 
 -- the points of the set with a point
 pub plus_points : (s : PointSet) (a : ℕ) → IsKey a → (plus s (point a)).points ≡ with_point a s.points
 unfolding plus
-plus_points s a k = set_or-is (with_point a s.points) (is_point_set (with_point a s.points)) refl s (with_valid s a k)
+plus_points s a k = set_or_is (with_point a s.points) (is_point_set (with_point a s.points)) refl s (with_valid s a k)
 
 -- the list without a point is a set
 without_valid : (s : PointSet) (a : ℕ) → is_point_set (without_point a s.points) ≡ true
@@ -106,7 +106,7 @@ without_valid s a = set_true (without_point a s.points) (filtered_ascending (λ 
 -- the points of the set without a point
 pub minus_points : (s : PointSet) (a : ℕ) → (minus s (point a)).points ≡ without_point a s.points
 unfolding minus
-minus_points s a = set_or-is (without_point a s.points) (is_point_set (without_point a s.points)) refl s (without_valid s a)
+minus_points s a = set_or_is (without_point a s.points) (is_point_set (without_point a s.points)) refl s (without_valid s a)
 
 -- which points the set with a point has
 pub has_plus : (s : PointSet) (p q : Vertex) → is_point p ≡ true → has (plus s p) q ≡ (same_vertex p q || has s q)
@@ -116,13 +116,13 @@ has_plus s (point a) (point b) e =
     let i = plus_points s a (below_from a (2 ^ 42) e) in
     ap (λ l. is_among b l) i
     ∙ same_test (is_among b (with_point a s.points)) ((a == b) || is_among b s.points)
-    (λ t. elim (in-with a b s.points (among_from b (with_point a s.points) t)) [
+    (λ t. elim (in_with a b s.points (among_from b (with_point a s.points) t)) [
       | inl q ↦ left_true (a == b) (is_among b s.points) (same_true a b q)
       | inr r ↦ right_true (a == b) (is_among b s.points) (among_true b s.points r)
     ])
     (λ t. among_true b (with_point a s.points) (elim (one_true (a == b) (is_among b s.points) t) [
-      | inl q ↦ subst (λ x. IsIn x (with_point a s.points)) (same_from a b q) (in-with_new a s.points)
-      | inr r ↦ in-with_old a b s.points (among_from b s.points r)
+      | inl q ↦ subst (λ x. IsIn x (with_point a s.points)) (same_from a b q) (in_with_new a s.points)
+      | inr r ↦ in_with_old a b s.points (among_from b s.points r)
     ]))
 
 -- which points the set without a point has

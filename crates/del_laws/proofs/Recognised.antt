@@ -1,7 +1,7 @@
 -- A list of empty cells in which every facet lies in a second one is the complex.
 use Rattle.std.specs.Prelude.{◌≡◌, ℕ, Bool, true, List, [], ◌∷◌}
 use Rattle.std.proofs.Common.{inl, inr, ap, sym, subst, ◌∙◌}
-use Rattle.list_laws.proofs.Cited.{either, holds-true, lists_discrete, moved, true_if, true_if-yes}
+use Rattle.list_laws.proofs.Cited.{either, holds_true, lists_discrete, moved, true_if, true_if_yes}
 use Rattle.point_order.specs.declared.cell.Cell.{Cell}
 use Rattle.point_order.specs.declared.cell.Cell.TheVariants.{Full, Open}
 use Rattle.point_order.specs.declared.cell.Facet.TheVariants.{Three}
@@ -55,9 +55,9 @@ is_listed l c = true_if (in_cells c l)
 members_closed : (s : List ℕ) (l : List Cell) → IsAscending s → AreKeys s → IsClosedList s l → IsClosedListed s [] (is_listed l)
 members_closed s l a k r c d t i mc md fc fd h =
     let n = listed_facets s c (Three t) a k mc fc in
-    let mcl = holds-true (in_cells c l) h in
+    let mcl = holds_true (in_cells c l) h in
     let e = r.closed c (Three t) mcl fc in
-    true_if-yes (in_cells d l) (elim (n.only d md fd) [
+    true_if_yes (in_cells d l) (elim (n.only d md fd) [
       | inl q ↦ subst (λ v. IsIn v l) (sym q) mcl
       | inr q ↦ elim (n.only e.second (cell_is_listed s e.second a (r.empty e.second e.listed)) e.has) [
         | inl p ↦ absurd (e.differs p)
@@ -70,7 +70,7 @@ pub closed_list_is_complex : ClosedListIsComplex
 closed_list_is_complex s l a k r = (
   same_members l (complex s) r.sorted (complex_is_sorted s a)
       (λ c m. cell_is_listed s c a (r.empty c m))
-      (λ c m. holds-true (in_cells c l) (listed_part s (is_listed l) a k (members_closed s l a k r) r.some (cell_is_listed s r.some a (r.empty r.some r.has_some)) (true_if-yes (in_cells r.some l) r.has_some) c m)),
+      (λ c m. holds_true (in_cells c l) (listed_part s (is_listed l) a k (members_closed s l a k r) r.some (cell_is_listed s r.some a (r.empty r.some r.has_some)) (true_if_yes (in_cells r.some l) r.has_some) c m)),
   solid_listed s r.some (r.empty r.some r.has_some),
 )
 

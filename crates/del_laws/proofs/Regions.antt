@@ -88,14 +88,14 @@ size_if (yes p) z = z
 size_if (no n) z = pos 0
 
 -- where it holds
-size_if-yes : {A : Type 0} (d : Dec A) (z : ℤ) → A → size_if d z ≡ z
-size_if-yes (yes p) z a = refl
-size_if-yes (no n) z a = absurd (n a)
+size_if_yes : {A : Type 0} (d : Dec A) (z : ℤ) → A → size_if d z ≡ z
+size_if_yes (yes p) z a = refl
+size_if_yes (no n) z a = absurd (n a)
 
 -- it holds where the number is positive
-size_if-pos : {A : Type 0} (d : Dec A) (z : ℤ) → pos 0 <ℤ size_if d z → A
-size_if-pos (yes p) z k = p
-size_if-pos (no n) z k = absurd k.lt
+size_if_pos : {A : Type 0} (d : Dec A) (z : ℤ) → pos 0 <ℤ size_if d z → A
+size_if_pos (yes p) z k = p
+size_if_pos (no n) z k = absurd k.lt
 
 -- a cell of the set of least ratio, for any numerators
 pub record Chosen (q : ℕ → ℕ → ℕ → ℕ → Type 0) (num : ℕ → ℕ → ℕ → ℕ → ℤ) : Type 0 where
@@ -108,13 +108,13 @@ pub choose : {h : ℕ → ℕ} {s : List ℕ} {q : ℕ → ℕ → ℕ → ℕ �
 choose {h} {s} {q} g num a b c d t = elim (find_least number size (quads s)) [
   | inl n ↦ absurd (clash_above (size (record { a = a; b = b; c = c; d = d })) (large a b c d t) (n (record { a = a; b = b; c = c; d = d }) (there a b c d t)))
   | inr l ↦ (
-      let at = size_if-pos (g.decide l.0.a l.0.b l.0.c l.0.d) (orientation l.0.a l.0.b l.0.c l.0.d) l.1.positive in
+      let at = size_if_pos (g.decide l.0.a l.0.b l.0.c l.0.d) (orientation l.0.a l.0.b l.0.c l.0.d) l.1.positive in
       record {
         f = l.0;
         at = at;
         least = λ k l' m n u. (
             let v = l.1.least (record { a = k; b = l'; c = m; d = n }) (there k l' m n u) (large k l' m n u) in
-            rw (size_if-yes (g.decide k l' m n) (orientation k l' m n) u, size_if-yes (g.decide l.0.a l.0.b l.0.c l.0.d) (orientation l.0.a l.0.b l.0.c l.0.d) at) at v);
+            rw (size_if_yes (g.decide k l' m n) (orientation k l' m n) u, size_if_yes (g.decide l.0.a l.0.b l.0.c l.0.d) (orientation l.0.a l.0.b l.0.c l.0.d) at) at v);
       })
 ]
   where
@@ -132,7 +132,7 @@ choose {h} {s} {q} g num a b c d t = elim (find_least number size (quads s)) [
 
     -- and its denominator is positive
     large : (a b c d : ℕ) (t : q a b c d) → pos 0 <ℤ size_if (g.decide a b c d) (orientation a b c d)
-    large a b c d t = rw (size_if-yes (g.decide a b c d) (orientation a b c d) t) (full_turned (g.full a b c d t))
+    large a b c d t = rw (size_if_yes (g.decide a b c d) (orientation a b c d) t) (full_turned (g.full a b c d t))
 
 -- the closest cell of a set that is not empty
 pub closest : {h : ℕ → ℕ} {s : List ℕ} {q : ℕ → ℕ → ℕ → ℕ → Type 0} → IsSetOf h s q → (e a b c d : ℕ) → q a b c d → (f : Four) × Closest h q e f.a f.b f.c f.d

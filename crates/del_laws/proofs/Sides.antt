@@ -6,7 +6,7 @@ use Rattle.whole_ring.proofs.Cited.{mul_pos}
 use Rattle.list_laws.proofs.Cited.{not_zero, opposite, positive_factor}
 use Rattle.point_order.specs.Orientation.{orientation}
 use Rattle.point_order.specs.Heights.{lifted}
-use Rattle.point_order.proofs.Cited.{last-first, last-second, last-third, swap-last}
+use Rattle.point_order.proofs.Cited.{last_first, last_second, last_third, swap_last}
 use Rattle.del_laws.specs.Cells.{Open, Vertex, point, far, On, Held, NoTies, OneOf}
 use Rattle.del_laws.proofs.Identities.{orientation_same13, orientation_same23, lifted_swap45, lifted_swap35, three_terms_of}
 use Rattle.del_laws.proofs.Lists.{of_four}
@@ -16,7 +16,7 @@ use Rattle.del_laws.proofs.Across.{across}
 -- one of four points, off the plane of the first three: it is the fourth
 pub fourth : (a b c d e : ℕ) → OneOf e a b c d → ¬ (orientation a b c e ≡ pos 0) → e ≡ d
 fourth a b c d e m n =
-    of_four (λ x. ¬ (orientation a b c x ≡ pos 0) → x ≡ d) m (λ k. absurd (k (last-first a b c))) (λ k. absurd (k (last-second a b c))) (λ k. absurd (k (last-third a b c))) (λ k. refl) n
+    of_four (λ x. ¬ (orientation a b c x ≡ pos 0) → x ≡ d) m (λ k. absurd (k (last_first a b c))) (λ k. absurd (k (last_second a b c))) (λ k. absurd (k (last_third a b c))) (λ k. refl) n
 
 -- no vertex is on both sides of a triple
 pub disjoint : (h : ℕ → ℕ) (s : List ℕ) (a b c : ℕ) (z : Vertex) → On h s a b c z → On h s a c b z → ⊥
@@ -39,8 +39,8 @@ one_open {h} {s} {a} {b} {x} {y} n F G =
     let j = open_mate G in
     let f = i.0 in
     let g = j.0 in
-    let flat : orientation a b x y ≡ pos 0 = opposite (orientation a b x y) (orientation a b y x) (open_bounds F y (open_c G)) (open_bounds G x (open_c F)) (swap-last a b x y) in
-    let flat' : orientation a b y x ≡ pos 0 = opposite (orientation a b y x) (orientation a b x y) (open_bounds G x (open_c F)) (open_bounds F y (open_c G)) (swap-last a b y x) in
+    let flat : orientation a b x y ≡ pos 0 = opposite (orientation a b x y) (orientation a b y x) (open_bounds F y (open_c G)) (open_bounds G x (open_c F)) (swap_last a b x y) in
+    let flat' : orientation a b y x ≡ pos 0 = opposite (orientation a b y x) (orientation a b x y) (open_bounds G x (open_c F)) (open_bounds F y (open_c G)) (swap_last a b y x) in
     let p : pos 0 <ℤ (orientation a b x f *ℤ orientation a b y g) = mul_pos (orientation a b x f) (orientation a b y g) i.2 j.2 in
     let t : orientation a b x y *ℤ orientation a b f g -ℤ orientation a b x f *ℤ orientation a b y g +ℤ orientation a b x g *ℤ orientation a b y f ≡ pos 0 = three_terms_of a b x y f g in
     let q : pos 0 <ℤ (orientation a b x g *ℤ orientation a b y f) = moved (orientation a b x y) (orientation a b f g) (orientation a b x f *ℤ orientation a b y g) (orientation a b x g *ℤ orientation a b y f) t flat p in
@@ -59,7 +59,7 @@ one_open {h} {s} {a} {b} {x} {y} n F G =
         (λ k l. absurd (not_zero (orientation a b a g) l (orientation_same13 a b g)))
         (λ k l. absurd (not_zero (orientation a b b g) l (orientation_same23 a b g)))
         (λ k l. refl)
-        (λ k l. absurd (not_zero (orientation a b f f) k (last-third a b f)))
+        (λ k l. absurd (not_zero (orientation a b f f) k (last_third a b f)))
         yf yg
 
 -- the vertex on the other side of a facet

@@ -6,7 +6,7 @@ use Rattle.point_order.specs.declared.cell.Cell.TheVariants.{Full, Open}
 use Rattle.point_order.specs.Heights.{height}
 use Rattle.point_order.specs.Sets.{IsIn, IsAscending, ascending}
 use Rattle.point_order.specs.Complex.{complex}
-use Rattle.point_order.proofs.Cited.{ascending-ascending, ascending-is, ascending-self, in-ascending, in-ascending_from}
+use Rattle.point_order.proofs.Cited.{ascending_ascending, ascending_is, ascending_self, in_ascending, in_ascending_from}
 use Rattle.del_laws.specs.Cells.{Vertex, point, far, Held}
 use Rattle.del_laws.specs.Keys.{AreKeys}
 use Rattle.del_laws.specs.Vertices.{is_cell}
@@ -62,7 +62,7 @@ apart24 s k w x y z e q = apart34 s w y x z (turn23 s k w x y z e) q
 
 -- lists with the same members have one order
 pub same_order : (l m : List ℕ) → ((p : ℕ) → IsIn p l → IsIn p m) → ((p : ℕ) → IsIn p m → IsIn p l) → ascending l ≡ ascending m
-same_order l m f g = ascending-is (ascending l) m (ascending-ascending l) (λ p i. f p (in-ascending l p i)) (λ p i. in-ascending_from l p (g p i))
+same_order l m f g = ascending_is (ascending l) m (ascending_ascending l) (λ p i. f p (in_ascending l p i)) (λ p i. in_ascending_from l p (g p i))
 
 -- the first two exchanged
 first_two : (a b : ℕ) (l : List ℕ) (p : ℕ) → IsIn p (a ∷ b ∷ l) → IsIn p (b ∷ a ∷ l)
@@ -89,52 +89,52 @@ order34 : (c d a b : ℕ) (l : List ℕ) → ascending (c ∷ d ∷ a ∷ b ∷ 
 order34 c d a b l = same_order (c ∷ d ∷ a ∷ b ∷ l) (c ∷ d ∷ b ∷ a ∷ l) (last_two c d a b l) (last_two c d b a l)
 
 -- the first two vertices of a cell exchanged
-pub cell_of-swap12 : (w x y z : Vertex) → cell_of w x y z ≡ cell_of x w y z
-cell_of-swap12 (point a) (point b) (point c) (point d) = ap Full (order12 a b (c ∷ d ∷ []))
-cell_of-swap12 (point a) (point b) (point c) far = ap Open (order12 a b (c ∷ []))
-cell_of-swap12 (point a) (point b) far (point d) = ap Open (order12 a b (d ∷ []))
-cell_of-swap12 (point a) (point b) far far = refl
-cell_of-swap12 (point a) far (point c) (point d) = refl
-cell_of-swap12 (point a) far (point c) far = refl
-cell_of-swap12 (point a) far far z = refl
-cell_of-swap12 far (point b) (point c) (point d) = refl
-cell_of-swap12 far (point b) (point c) far = refl
-cell_of-swap12 far (point b) far z = refl
-cell_of-swap12 far far y z = refl
+pub cell_of_swap12 : (w x y z : Vertex) → cell_of w x y z ≡ cell_of x w y z
+cell_of_swap12 (point a) (point b) (point c) (point d) = ap Full (order12 a b (c ∷ d ∷ []))
+cell_of_swap12 (point a) (point b) (point c) far = ap Open (order12 a b (c ∷ []))
+cell_of_swap12 (point a) (point b) far (point d) = ap Open (order12 a b (d ∷ []))
+cell_of_swap12 (point a) (point b) far far = refl
+cell_of_swap12 (point a) far (point c) (point d) = refl
+cell_of_swap12 (point a) far (point c) far = refl
+cell_of_swap12 (point a) far far z = refl
+cell_of_swap12 far (point b) (point c) (point d) = refl
+cell_of_swap12 far (point b) (point c) far = refl
+cell_of_swap12 far (point b) far z = refl
+cell_of_swap12 far far y z = refl
 
 -- the middle two
-pub cell_of-swap23 : (w x y z : Vertex) → cell_of w x y z ≡ cell_of w y x z
-cell_of-swap23 (point a) (point b) (point c) (point d) = ap Full (order23 a b c (d ∷ []))
-cell_of-swap23 (point a) (point b) (point c) far = ap Open (order23 a b c [])
-cell_of-swap23 (point a) (point b) far (point d) = refl
-cell_of-swap23 (point a) (point b) far far = refl
-cell_of-swap23 (point a) far (point c) (point d) = refl
-cell_of-swap23 (point a) far (point c) far = refl
-cell_of-swap23 (point a) far far z = refl
-cell_of-swap23 far (point b) (point c) (point d) = ap Open (order12 b c (d ∷ []))
-cell_of-swap23 far (point b) (point c) far = refl
-cell_of-swap23 far (point b) far z = refl
-cell_of-swap23 far far (point c) z = refl
-cell_of-swap23 far far far z = refl
+pub cell_of_swap23 : (w x y z : Vertex) → cell_of w x y z ≡ cell_of w y x z
+cell_of_swap23 (point a) (point b) (point c) (point d) = ap Full (order23 a b c (d ∷ []))
+cell_of_swap23 (point a) (point b) (point c) far = ap Open (order23 a b c [])
+cell_of_swap23 (point a) (point b) far (point d) = refl
+cell_of_swap23 (point a) (point b) far far = refl
+cell_of_swap23 (point a) far (point c) (point d) = refl
+cell_of_swap23 (point a) far (point c) far = refl
+cell_of_swap23 (point a) far far z = refl
+cell_of_swap23 far (point b) (point c) (point d) = ap Open (order12 b c (d ∷ []))
+cell_of_swap23 far (point b) (point c) far = refl
+cell_of_swap23 far (point b) far z = refl
+cell_of_swap23 far far (point c) z = refl
+cell_of_swap23 far far far z = refl
 
 -- the last two
-pub cell_of-swap34 : (w x y z : Vertex) → cell_of w x y z ≡ cell_of w x z y
-cell_of-swap34 (point a) (point b) (point c) (point d) = ap Full (order34 a b c d [])
-cell_of-swap34 (point a) (point b) (point c) far = refl
-cell_of-swap34 (point a) (point b) far (point d) = refl
-cell_of-swap34 (point a) (point b) far far = refl
-cell_of-swap34 (point a) far (point c) (point d) = ap Open (order23 a c d [])
-cell_of-swap34 (point a) far (point c) far = refl
-cell_of-swap34 (point a) far far (point d) = refl
-cell_of-swap34 (point a) far far far = refl
-cell_of-swap34 far (point b) (point c) (point d) = ap Open (order23 b c d [])
-cell_of-swap34 far (point b) (point c) far = refl
-cell_of-swap34 far (point b) far (point d) = refl
-cell_of-swap34 far (point b) far far = refl
-cell_of-swap34 far far (point c) (point d) = refl
-cell_of-swap34 far far (point c) far = refl
-cell_of-swap34 far far far (point d) = refl
-cell_of-swap34 far far far far = refl
+pub cell_of_swap34 : (w x y z : Vertex) → cell_of w x y z ≡ cell_of w x z y
+cell_of_swap34 (point a) (point b) (point c) (point d) = ap Full (order34 a b c d [])
+cell_of_swap34 (point a) (point b) (point c) far = refl
+cell_of_swap34 (point a) (point b) far (point d) = refl
+cell_of_swap34 (point a) (point b) far far = refl
+cell_of_swap34 (point a) far (point c) (point d) = ap Open (order23 a c d [])
+cell_of_swap34 (point a) far (point c) far = refl
+cell_of_swap34 (point a) far far (point d) = refl
+cell_of_swap34 (point a) far far far = refl
+cell_of_swap34 far (point b) (point c) (point d) = ap Open (order23 b c d [])
+cell_of_swap34 far (point b) (point c) far = refl
+cell_of_swap34 far (point b) far (point d) = refl
+cell_of_swap34 far (point b) far far = refl
+cell_of_swap34 far far (point c) (point d) = refl
+cell_of_swap34 far far (point c) far = refl
+cell_of_swap34 far far far (point d) = refl
+cell_of_swap34 far far far far = refl
 
 -- ---- put in order
 
@@ -281,26 +281,26 @@ IsOpenOf c x y z = c ≡ cell_of (point x) (point y) (point z) far
 -- in order it is listed
 listed4 : (s : List ℕ) (a : IsAscending s) (c : Cell) → IsSorted4 s (IsFullOf c) → IsIn c (complex s)
 listed4 s a c r =
-    subst (λ v. IsIn v (complex s)) (sym (r.holds ∙ ap Full (ascending-self (r.a ∷ r.b ∷ r.c ∷ r.d ∷ []) (r.first, (r.second, (r.third, (tt, tt)))))))
+    subst (λ v. IsIn v (complex s)) (sym (r.holds ∙ ap Full (ascending_self (r.a ∷ r.b ∷ r.c ∷ r.d ∷ []) (r.first, (r.second, (r.third, (tt, tt)))))))
     (cell_is_listed s (Full (r.a ∷ r.b ∷ r.c ∷ r.d ∷ [])) a (record { a = r.a; b = r.b; c = r.c; d = r.d; is = refl; first = r.first; second = r.second; third = r.third; test = r.test }))
 
 -- and of three
 listed3 : (s : List ℕ) (a : IsAscending s) (c : Cell) → IsSorted3 s (IsOpenOf c) → IsIn c (complex s)
 listed3 s a c r =
-    subst (λ v. IsIn v (complex s)) (sym (r.holds ∙ ap Open (ascending-self (r.a ∷ r.b ∷ r.c ∷ []) (r.first, (r.second, (tt, tt))))))
+    subst (λ v. IsIn v (complex s)) (sym (r.holds ∙ ap Open (ascending_self (r.a ∷ r.b ∷ r.c ∷ []) (r.first, (r.second, (tt, tt))))))
     (cell_is_listed s (Open (r.a ∷ r.b ∷ r.c ∷ [])) a (record { a = r.a; b = r.b; c = r.c; is = refl; first = r.first; second = r.second; test = r.test }))
 
 -- four points
 any4 : (s : List ℕ) (a : IsAscending s) (k : AreKeys s) (c : Cell) (w x y z : ℕ) → is_cell s (point w) (point x) (point y) (point z) ≡ true → IsFullOf c w x y z → IsIn c (complex s)
 any4 s a k c w x y z t e =
     listed4 s a c (sort4 s k (IsFullOf c)
-    (λ w x y z u i. i ∙ cell_of-swap12 (point w) (point x) (point y) (point z)) (λ w x y z u i. i ∙ cell_of-swap23 (point w) (point x) (point y) (point z)) (λ w x y z u i. i ∙ cell_of-swap34 (point w) (point x) (point y) (point z))
+    (λ w x y z u i. i ∙ cell_of_swap12 (point w) (point x) (point y) (point z)) (λ w x y z u i. i ∙ cell_of_swap23 (point w) (point x) (point y) (point z)) (λ w x y z u i. i ∙ cell_of_swap34 (point w) (point x) (point y) (point z))
     w x y z (t, e))
 
 -- three points
 any3 : (s : List ℕ) (a : IsAscending s) (k : AreKeys s) (c : Cell) (x y z : ℕ) → is_cell s (point x) (point y) (point z) far ≡ true → IsOpenOf c x y z → IsIn c (complex s)
 any3 s a k c x y z t e =
-    listed3 s a c (sort3 s k (IsOpenOf c) (λ x y z i. i ∙ cell_of-swap12 (point x) (point y) (point z) far) (λ x y z i. i ∙ cell_of-swap23 (point x) (point y) (point z) far) x y z (t, e))
+    listed3 s a c (sort3 s k (IsOpenOf c) (λ x y z i. i ∙ cell_of_swap12 (point x) (point y) (point z) far) (λ x y z i. i ∙ cell_of_swap23 (point x) (point y) (point z) far) x y z (t, e))
 
 -- the cell of four vertices that pass is listed
 pub test_is_listed : TestIsListed

@@ -9,7 +9,7 @@ use Rattle.list_laws.proofs.Cited.{both, is_in, not_zero}
 use Rattle.point_order.specs.Orientation.{orientation}
 use Rattle.point_order.specs.Heights.{lifted}
 use Rattle.point_order.specs.Sets.{IsIn}
-use Rattle.point_order.proofs.Cited.{last-first, last-second, last-third, swap-last}
+use Rattle.point_order.proofs.Cited.{last_first, last_second, last_third, swap_last}
 use Rattle.del_laws.specs.Cells.{Full, NoTies, OneOf, Four}
 use Rattle.del_laws.proofs.Identities.{orientation_same12, orientation_same13, orientation_same23, lifted_carried_of}
 use Rattle.del_laws.proofs.Lists.{of_four}
@@ -123,8 +123,8 @@ module _ (q : ℕ → ℕ → ℕ → ℕ → Type 0) (turned : (a b c d : ℕ) 
       of_four (λ x. pos 0 <ℤ orientation k l x n → q k l x n) om
       (flat (orientation k l k n) (orientation_same13 k l n))
       (flat (orientation k l l n) (orientation_same23 k l n))
-      (λ p. of_four (λ y. pos 0 <ℤ orientation k l b y → q k l b y) on (flat (orientation k l b k) (last-first k l b)) (flat (orientation k l b l) (last-second k l b)) (flat (orientation k l b b) (last-third k l b)) (λ r. t) p)
-      (λ p. of_four (λ y. pos 0 <ℤ orientation k l c y → q k l c y) on (flat (orientation k l c k) (last-first k l c)) (flat (orientation k l c l) (last-second k l c)) (λ r. absurd (two_ways (orientation k l b c) (orientation k l c b) (turned k l b c t) r (swap-last k l b c))) (flat (orientation k l c c) (last-third k l c)) p)
+      (λ p. of_four (λ y. pos 0 <ℤ orientation k l b y → q k l b y) on (flat (orientation k l b k) (last_first k l b)) (flat (orientation k l b l) (last_second k l b)) (flat (orientation k l b b) (last_third k l b)) (λ r. t) p)
+      (λ p. of_four (λ y. pos 0 <ℤ orientation k l c y → q k l c y) on (flat (orientation k l c k) (last_first k l c)) (flat (orientation k l c l) (last_second k l c)) (λ r. absurd (two_ways (orientation k l b c) (orientation k l c b) (turned k l b c t) r (swap_last k l b c))) (flat (orientation k l c c) (last_third k l c)) p)
       o
 
   -- the last three

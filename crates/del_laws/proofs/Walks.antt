@@ -8,7 +8,7 @@ use Rattle.list_laws.proofs.Cited.{clash, not_back, not_below, not_zero, positiv
 use Rattle.point_order.specs.Orientation.{orientation}
 use Rattle.point_order.specs.Heights.{lifted}
 use Rattle.point_order.specs.Sets.{IsIn}
-use Rattle.point_order.proofs.Cited.{swap-middle}
+use Rattle.point_order.proofs.Cited.{swap_middle}
 use Rattle.del_laws.specs.Cells.{Full, NoTies, IsConvex, OneOf, HasFullAt}
 use Rattle.del_laws.proofs.Identities.{lifted_at_a, lifted_at_b, lifted_at_c, lifted_at_d, crossing_of}
 use Rattle.del_laws.proofs.Lists.{of_four}
@@ -33,7 +33,7 @@ beyond {h} {s} {a} {b} {c} {d} {f} n F G = strict n F f (full_d G) (λ m. same (
   where
     -- f is off the plane
     off : orientation a b c f ≡ pos 0 → ⊥
-    off e = full_apart G (swap-middle a b c f ∙ ap neg_ℤ e)
+    off e = full_apart G (swap_middle a b c f ∙ ap neg_ℤ e)
 
     -- and not on the side of d
     same : f ≡ d → ⊥

@@ -2,7 +2,7 @@
 use Rattle.std.specs.Prelude.{◌≡◌, Bool, true, false, cond, ◌≢◌, ◌⊎◌, ◌↔◌}
 use Rattle.std.proofs.Common.{refl, sym, ap, ◌∙◌, subst, inl, inr, ⊎_elim}
 use Rattle.std.proofs.lemmas.Bool.{false≢true}
-use Rattle.list_laws.proofs.Cited.{and_not, cond_false, cond_true}
+use Rattle.list_laws.proofs.Cited.{and_not, cond_false, cond_true, false_if}
 use Rattle.edit_history.specs.declared.history.Reply.{Reply}
 use Rattle.edit_history.specs.declared.history.Reply.TheVariants.{Inserted, Duplicate, Removed, Missing, Flat}
 use Rattle.del_laws.specs.Cells.{Vertex, far}
@@ -235,12 +235,8 @@ touches S (add p) s n i =
     ))
     (sq.facet_point S m.t1 m.t2 m.t3 m.rim.lost m.rim.lost_before)
   where
-    no_has : (b : Bool) → (b ≡ true → ⊥) → b ≡ false
-    no_has false h = refl
-    no_has true h = absurd (h refl)
-
     f : has S p ≡ false
-    f = no_has (has S p) i
+    f = false_if (has S p) i
 
     m : HasRim (cell S) (cell (plus S p))
     m = from.rim S (plus S p) p s (corners.plus_adds S p n f)

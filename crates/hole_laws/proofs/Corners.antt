@@ -15,16 +15,16 @@ use Rattle.hole_laws.proofs.Ends.{corner_solid, opposite}
 -- ---- vertices
 
 -- vertices that are told to be one are
-same_vertex-true : (a b : Vertex) → same_vertex a b ≡ true → a ≡ b
-same_vertex-true (point a) (point b) h = ap point (same_from a b h)
-same_vertex-true far far h = refl
-same_vertex-true (point a) far h = absurd (false≢true h)
-same_vertex-true far (point b) h = absurd (false≢true h)
+same_vertex_true : (a b : Vertex) → same_vertex a b ≡ true → a ≡ b
+same_vertex_true (point a) (point b) h = ap point (same_from a b h)
+same_vertex_true far far h = refl
+same_vertex_true (point a) far h = absurd (false≢true h)
+same_vertex_true far (point b) h = absurd (false≢true h)
 
 -- and a vertex is itself
-same_vertex-self : (a : Vertex) → same_vertex a a ≡ true
-same_vertex-self (point a) = same_true a a refl
-same_vertex-self far = refl
+same_vertex_self : (a : Vertex) → same_vertex a a ≡ true
+same_vertex_self (point a) = same_true a a refl
+same_vertex_self far = refl
 
 -- a point is not the infinite vertex
 pub point_finite : (p : Vertex) → is_point p ≡ true → p ≢ far
@@ -81,8 +81,8 @@ pub plus_adds : (S : PointSet) (p : Vertex) → is_point p ≡ true → has S p 
 plus_adds S p n f = record {
   finite = point_finite p n;
   absent = f;
-  present = has_plus S p p n ∙ ap (λ b. b || has S p) (same_vertex-self p);
-  same = λ q m. has_plus S p q n ∙ other (same_vertex p q) (has S q) (λ e. m (sym (same_vertex-true p q e)));
+  present = has_plus S p p n ∙ ap (λ b. b || has S p) (same_vertex_self p);
+  same = λ q m. has_plus S p q n ∙ other (same_vertex p q) (has S q) (λ e. m (sym (same_vertex_true p q e)));
 }
   where
     other : (a b : Bool) → (a ≡ true → ⊥) → (a || b) ≡ b
@@ -93,9 +93,9 @@ plus_adds S p n f = record {
 pub minus_adds : (S : PointSet) (p : Vertex) → has S p ≡ true → IsAdd (minus S p) p S
 minus_adds S p h = record {
   finite = λ e. false≢true (ap (has S) (sym e) ∙ h);
-  absent = has_minus S p p ∙ ap (λ b. not b && has S p) (same_vertex-self p);
+  absent = has_minus S p p ∙ ap (λ b. not b && has S p) (same_vertex_self p);
   present = h;
-  same = λ q m. sym (has_minus S p q ∙ other (same_vertex p q) (has S q) (λ e. m (sym (same_vertex-true p q e))));
+  same = λ q m. sym (has_minus S p q ∙ other (same_vertex p q) (has S q) (λ e. m (sym (same_vertex_true p q e))));
 }
   where
     other : (a b : Bool) → (a ≡ true → ⊥) → (not a && b) ≡ b

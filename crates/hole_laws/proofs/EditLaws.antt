@@ -30,7 +30,7 @@ use Rattle.hole_laws.proofs.NewCells.{point_vertex, vertex_point}
 use Rattle.hole_laws.proofs.Near.{at_gone, joined_of}
 use Rattle.hole_laws.proofs.FromBase.{complex_of, insertion}
 use Rattle.hole_laws.proofs.Corners.{plus_adds}
-use Rattle.hole_laws.proofs.OfSets.{set_of, set_of-points, solid_of, lists_cells}
+use Rattle.hole_laws.proofs.OfSets.{set_of, set_of_points, solid_of, lists_cells}
 use Rattle.hole_laws.proofs.Commute as sets
 use Rattle.hole_laws.proofs.Commute.{Step, add, take}
 
@@ -238,19 +238,19 @@ commute_at s h a b ka kb apart = record {
 
 -- a solid set stays solid
 pub stays_solid : StaysSolid
-stays_solid s a i k = subst (λ (v : List ℕ). IsSolidSet (after v a)) (set_of-points s i.set) (list_solid (set_of s i.set) (solid_of s i.set i.solid) a k)
+stays_solid s a i k = subst (λ (v : List ℕ). IsSolidSet (after v a)) (set_of_points s i.set) (list_solid (set_of s i.set) (solid_of s i.set i.solid) a k)
 
 -- what changes is reached
 pub changes_reached : ChangesReached
 changes_reached s a i k =
     subst (λ (v : List ℕ). (q : Cell) → Goes (complex v) (complex (after v a)) q ⊎ Goes (complex (after v a)) (complex v) q → (e : ℕ) → IsIn e (points_of q) → Reaches v a e)
-    (set_of-points s i.set) (changed_reached (set_of s i.set) (solid_of s i.set i.solid) a k)
+    (set_of_points s i.set) (changed_reached (set_of s i.set) (solid_of s i.set i.solid) a k)
 
 -- edits whose reaches are apart commute
 pub edits_commute : EditsCommute
 edits_commute s a b i ka kb =
     subst (λ (v : List ℕ). ((e : ℕ) → Reaches v a e → ¬ (Reaches (after v a) b e)) → DoCommute v a b)
-    (set_of-points s i.set) (commute_at (set_of s i.set) (solid_of s i.set i.solid) a b ka kb)
+    (set_of_points s i.set) (commute_at (set_of s i.set) (solid_of s i.set i.solid) a b ka kb)
 
 -- and so do some edits and one more
 pub batch_commutes : BatchCommutes

@@ -9,7 +9,7 @@ use Rattle.point_order.specs.declared.cell.Cell.{Cell}
 use Rattle.point_order.specs.declared.cell.Cell.TheVariants.{Full, Open}
 use Rattle.point_order.specs.declared.cell.Facet.{Facet}
 use Rattle.point_order.specs.declared.cell.Facet.TheVariants.{Three, Two}
-use Rattle.point_order.proofs.Cited.{ascending-is}
+use Rattle.point_order.proofs.Cited.{ascending_is}
 use Rattle.del_laws.specs.Cells.{Vertex, point, far}
 use Rattle.del_laws.proofs.Cited.{point_finite, same_point}
 use Rattle.hole_laws.specs.Lists.{cell_over}
@@ -315,7 +315,7 @@ shared_facet q r o p t1 t2 t3 x y d e h k f g a b =
 
 -- an ascending list with p is p put in its place among the others
 in_place : (l t : List ℕ) (p : ℕ) → IsAscending l → IsIn p l → ((e : ℕ) → IsIn e t → IsIn e l) → ((e : ℕ) → IsIn e l → ¬ (e ≡ p) → IsIn e t) → l ≡ ascending (p ∷ t)
-in_place l t p o m k n = ascending-is l (p ∷ t) o
+in_place l t p o m k n = ascending_is l (p ∷ t) o
     (λ e i. elim (cases_eq e p) [ inl q ↦ inl (sym q) | inr o ↦ inr (n e i o) ])
     (λ e i. elim i [ inl q ↦ subst (λ v. IsIn v l) q m | inr r ↦ k e r ])
 

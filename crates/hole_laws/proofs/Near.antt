@@ -7,7 +7,7 @@ use Rattle.point_order.specs.Facets.{facets_of, points_of}
 use Rattle.point_order.specs.declared.cell.Cell.{Cell}
 use Rattle.point_order.specs.declared.cell.Facet.{Facet}
 use Rattle.point_order.specs.declared.cell.Facet.TheVariants.{Three, Two}
-use Rattle.point_order.proofs.Cited.{in-ascending}
+use Rattle.point_order.proofs.Cited.{in_ascending}
 use Rattle.del_laws.specs.Cells.{Vertex, point, far}
 use Rattle.hole_laws.proofs.Tests.{Insertion, IsAtGone, AreLinked}
 use Rattle.hole_laws.specs.Lists.{cell_over, Goes, IsOverRim, IsAtGoing, AreJoined, HasHeld}
@@ -40,8 +40,8 @@ facet_inside q o f m e i = vertex_point q e ((against_of q o f m).against.into (
 
 -- a point of the cell over a facet is the new one or of the facet
 over_points : (f : Facet) (p e : ℕ) → IsIn e (points_of (cell_over f p)) → (p ≡ e) ⊎ IsFacetVertex f (point e)
-over_points (Three t) p e m = in-ascending (p ∷ t) e m
-over_points (Two t) p e m = in-ascending (p ∷ t) e m
+over_points (Three t) p e m = in_ascending (p ∷ t) e m
+over_points (Two t) p e m = in_ascending (p ∷ t) e m
 
 module _ (c c' : Vertex → Vertex → Vertex → Vertex → Bool) (p : ℕ) (k : Insertion c c' (point p)) (l l' : List Cell) (t : ListsCells l c) (t' : ListsCells l' c') where
   -- A part of the cells that go, whose points are all held, and closed among the cells with a held point, is all of them.

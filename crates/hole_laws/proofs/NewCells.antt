@@ -9,7 +9,7 @@ use Rattle.point_order.specs.declared.cell.Cell.{Cell}
 use Rattle.point_order.specs.declared.cell.Cell.TheVariants.{Full, Open}
 use Rattle.point_order.specs.declared.cell.Facet.{Facet}
 use Rattle.point_order.specs.declared.cell.Facet.TheVariants.{Three, Two}
-use Rattle.point_order.proofs.Cited.{in-ascending_from}
+use Rattle.point_order.proofs.Cited.{in_ascending_from}
 use Rattle.del_laws.specs.Cells.{Vertex, point}
 use Rattle.hole_laws.proofs.Tests.{Insertion, IsRim}
 use Rattle.hole_laws.specs.Lists.{cell_over, Goes, IsRimFacet, IsOverRim}
@@ -35,8 +35,8 @@ not_it q v u h n e = false≢true (sym n ∙ ap (has_vertex q) (sym e) ∙ h)
 
 -- the cell over a facet has the point
 pub over_has_point : (f : Facet) (p : ℕ) → IsIn p (points_of (cell_over f p))
-over_has_point (Three t) p = in-ascending_from (p ∷ t) p (inl refl)
-over_has_point (Two t) p = in-ascending_from (p ∷ t) p (inl refl)
+over_has_point (Three t) p = in_ascending_from (p ∷ t) p (inl refl)
+over_has_point (Two t) p = in_ascending_from (p ∷ t) p (inl refl)
 
 module _ (c c' : Vertex → Vertex → Vertex → Vertex → Bool) (p : ℕ) (k : Insertion c c' (point p)) (l l' : List Cell) (t : ListsCells l c) (t' : ListsCells l' c') where
   -- a listed cell of the set has not the new point

@@ -8,7 +8,7 @@ use Rattle.point_order.specs.Complex.{complex}
 use Rattle.point_order.specs.declared.cell.Cell.{Cell}
 use Rattle.point_order.specs.declared.cell.Cell.TheVariants.{Full, Open}
 use Rattle.point_order.specs.Solid.{is_solid}
-use Rattle.point_order.proofs.Cited.{ascending-with, in-with, in-with_new, in-with_old}
+use Rattle.point_order.proofs.Cited.{ascending_with, in_with, in_with_new, in_with_old}
 use Rattle.del_laws.specs.Cells.{Vertex, point, far}
 use Rattle.del_laws.specs.PointSets.{PointSet, has, solid, cell}
 use Rattle.del_laws.specs.Listed.{IsListed}
@@ -73,9 +73,9 @@ pub set_of : (s : List ℕ) → IsSet s → PointSet
 set_of s i = record { points = s; valid = set_true s i.ascending i.keys.below }
 
 -- its points are those of the list
-pub set_of-points : (s : List ℕ) (i : IsSet s) → (set_of s i).points ≡ s
+pub set_of_points : (s : List ℕ) (i : IsSet s) → (set_of s i).points ≡ s
 unfolding set_of
-set_of-points s i = refl
+set_of_points s i = refl
 
 -- what the list is asked for
 pub has_of : (s : List ℕ) (i : IsSet s) (e : ℕ) → IsIn e s → has (set_of s i) (point e) ≡ true
@@ -99,13 +99,13 @@ of_solid s i e = e
 
 -- the list of its complex has its cells
 pub lists_of : (s : List ℕ) (i : IsSet s) → ListsCells (complex s) (cell (set_of s i))
-lists_of s i = subst (λ (v : List ℕ). ListsCells (complex v) (cell (set_of s i))) (set_of-points s i) (lists_cells (set_of s i))
+lists_of s i = subst (λ (v : List ℕ). ListsCells (complex v) (cell (set_of s i))) (set_of_points s i) (lists_cells (set_of s i))
 
 -- with a key a set is a set
 pub more_set : (s : List ℕ) (p : ℕ) → IsSet s → IsKey p → IsSet (with_point p s)
 more_set s p i k = record {
-  ascending = ascending-with p s i.ascending;
-  keys = record { below = λ e m. elim (in-with p e s m) [ inl q ↦ subst IsKey q k | inr r ↦ i.keys.below e r ] };
+  ascending = ascending_with p s i.ascending;
+  keys = record { below = λ e m. elim (in_with p e s m) [ inl q ↦ subst IsKey q k | inr r ↦ i.keys.below e r ] };
 }
 
 -- a set with a new point
@@ -113,18 +113,18 @@ pub adds : (s : List ℕ) (p : ℕ) (i : IsSet s) (n : IsNew s p) → IsAdd (set
 adds s p i n = record {
   finite = λ e. (cc);
   absent = false_if (has (set_of s i) (point p)) (λ h. n.absent (of_has s i p h));
-  present = has_of (with_point p s) (more_set s p i n.key) p (in-with_new p s);
+  present = has_of (with_point p s) (more_set s p i n.key) p (in_with_new p s);
   same = same;
 }
   where
     other : (e : ℕ) → point e ≢ point p → IsIn e (with_point p s) → IsIn e s
-    other e d m = elim (in-with p e s m) [ inl q ↦ absurd (d (ap point (sym q))) | inr r ↦ r ]
+    other e d m = elim (in_with p e s m) [ inl q ↦ absurd (d (ap point (sym q))) | inr r ↦ r ]
 
     same : (q : Vertex) → q ≢ point p → has (set_of (with_point p s) (more_set s p i n.key)) q ≡ has (set_of s i) q
     same (point e) d =
         same_test (has (set_of (with_point p s) (more_set s p i n.key)) (point e)) (has (set_of s i) (point e))
         (λ h. has_of s i e (other e d (of_has (with_point p s) (more_set s p i n.key) e h)))
-        (λ h. has_of (with_point p s) (more_set s p i n.key) e (in-with_old p e s (of_has s i e h)))
+        (λ h. has_of (with_point p s) (more_set s p i n.key) e (in_with_old p e s (of_has s i e h)))
     same far d = refl
 
 -- an insertion into a solid set

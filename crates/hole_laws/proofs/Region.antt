@@ -5,7 +5,7 @@ use Rattle.std.proofs.Common.{refl, sym, ap, ◌∙◌, inl, inr}
 use Rattle.std.proofs.lemmas.Bool.{false≢true}
 use Rattle.list_laws.specs.Lists.{IsIn}
 use Rattle.list_laws.specs.Laws.{odd, HasAnother}
-use Rattle.list_laws.proofs.Cited.{HasSome, and_not, and_not_false, and_not_from, another, even_degrees, false_if, odd-same, odd_some, one_odd, two_even}
+use Rattle.list_laws.proofs.Cited.{HasSome, and_not, and_not_false, and_not_from, another, even_degrees, false_if, odd_same, odd_some, one_odd, two_even}
 use Rattle.del_laws.specs.Cells.{Vertex}
 use Rattle.del_laws.specs.Base.{Symmetric, Symmetric3, Across}
 use Rattle.hole_laws.proofs.Tests.{Insertion, gone}
@@ -31,8 +31,8 @@ module _ (c c' : Vertex → Vertex → Vertex → Vertex → Bool) (p : Vertex) 
   -- in any order
   rim_symmetric : Symmetric3 rim
   rim_symmetric = record {
-    first = λ x y z. odd-same (part x y z) (part y x z) (λ w. symmetric.first x y z w) k.before.vertices;
-    last = λ x y z. odd-same (part x y z) (part x z y) (λ w. symmetric.middle x y z w) k.before.vertices;
+    first = λ x y z. odd_same (part x y z) (part y x z) (λ w. symmetric.first x y z w) k.before.vertices;
+    last = λ x y z. odd_same (part x y z) (part x z y) (λ w. symmetric.middle x y z w) k.before.vertices;
   }
 
   -- the only cell of the part on the facet, beside one that stays

@@ -4,7 +4,7 @@ use Rattle.std.proofs.Common.{refl, sym, subst, inl, inr}
 use Rattle.std.proofs.lemmas.Bool.{cases_eq}
 use Rattle.list_laws.proofs.Cited.{false_if, filtered_ascending, filtered_from, filtered_true, not_both, not_from, not_true, same_from, same_members, same_true}
 use Rattle.point_order.specs.Sets.{IsIn, with_point, without_point}
-use Rattle.point_order.proofs.Cited.{ascending-with, in-with, in-with_new, in-with_old}
+use Rattle.point_order.proofs.Cited.{ascending_with, in_with, in_with_new, in_with_old}
 use Rattle.hole_laws.specs.Edits.{IsSet, IsNew}
 
 -- a point of the rest
@@ -35,6 +35,6 @@ within_new v s t i m f = record { key = i.keys.below v m; absent = λ h. (withou
 -- the rest with v is the set
 pub restored : (v : ℕ) (s : List ℕ) → IsSet s → IsIn v s → with_point v (without_point v s) ≡ s
 restored v s i m =
-    same_members (with_point v (without_point v s)) s (ascending-with v (without_point v s) (rest_set v s i).ascending) i.ascending
-    (λ e h. elim (in-with v e (without_point v s) h) [ inl q ↦ subst (λ x. IsIn x s) q m | inr r ↦ (without_from v s e r).0 ])
-    (λ e h. elim (cases_eq e v) [ inl q ↦ subst (λ x. IsIn x (with_point v (without_point v s))) (sym q) (in-with_new v (without_point v s)) | inr n ↦ in-with_old v e (without_point v s) (without_true v s e h n) ])
+    same_members (with_point v (without_point v s)) s (ascending_with v (without_point v s) (rest_set v s i).ascending) i.ascending
+    (λ e h. elim (in_with v e (without_point v s) h) [ inl q ↦ subst (λ x. IsIn x s) q m | inr r ↦ (without_from v s e r).0 ])
+    (λ e h. elim (cases_eq e v) [ inl q ↦ subst (λ x. IsIn x (with_point v (without_point v s))) (sym q) (in_with_new v (without_point v s)) | inr n ↦ in_with_old v e (without_point v s) (without_true v s e h n) ])

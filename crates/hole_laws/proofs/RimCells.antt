@@ -7,7 +7,7 @@ use Rattle.point_order.specs.Complex.{complex}
 use Rattle.point_order.specs.declared.cell.Cell.{Cell}
 use Rattle.point_order.specs.declared.cell.Facet.{Facet}
 use Rattle.point_order.specs.declared.cell.Facet.TheVariants.{Three, Two}
-use Rattle.point_order.proofs.Cited.{in-ascending, in-ascending_from}
+use Rattle.point_order.proofs.Cited.{in_ascending, in_ascending_from}
 use Rattle.del_laws.specs.Cells.{point}
 use Rattle.del_laws.proofs.Cited.{listed_facets, not_both_kinds, same_full, same_open}
 use Rattle.hole_laws.specs.Lists.{cell_over}
@@ -24,7 +24,7 @@ same_rest : (t u : List ℕ) (p : ℕ) → IsAscending t → IsAscending u → �
 same_rest t u p a b n k e = same_members t u a b (into t u n e) (into u t k (sym e))
   where
     into : (t u : List ℕ) → ¬ (IsIn p t) → ascending (p ∷ t) ≡ ascending (p ∷ u) → (q : ℕ) → IsIn q t → IsIn q u
-    into t u n e q m = elim (in-ascending (p ∷ u) q (subst (λ (v : List ℕ). IsIn q v) e (in-ascending_from (p ∷ t) q (inr m)))) [
+    into t u n e q m = elim (in_ascending (p ∷ u) q (subst (λ (v : List ℕ). IsIn q v) e (in_ascending_from (p ∷ t) q (inr m)))) [
       | inl x ↦ absurd (n (subst (λ (v : ℕ). IsIn v t) (sym x) m))
       | inr r ↦ r
     ]

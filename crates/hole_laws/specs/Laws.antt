@@ -180,7 +180,8 @@ ComingAreNear =
 abbrev pub SolidNear : Type 0
 SolidNear =
     (s : List ℕ) (v : ℕ) (t : List ℕ) → IsSet s → IsIn v s → IsSet t → is_solid (without_point v s) ≡ true →
-    ((e : ℕ) → e ≢ v → AreJoined (complex s) v e → IsIn e t) → ((e : ℕ) → IsPointAcross s v e → IsIn e t) → is_solid t ≡ true
+    ((e : ℕ) → e ≢ v → AreJoined (complex s) v e → IsIn e t) → ((e : ℕ) → IsPointAcross s v e → IsIn e t) →
+    is_solid t ≡ true
 
 -- a flat rest is joined to v as a whole
 abbrev pub FlatRestJoined : Type 0

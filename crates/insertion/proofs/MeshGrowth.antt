@@ -1,17 +1,16 @@
 -- Meshes that grow: the opening four of a list, and a history with insertions.
-use Rattle.std.specs.Prelude.{◌≡◌, refl, ℕ, suc, ◌+◌, ◌<◌, ◌≤◌, false, List, [], ◌∷◌, ◌++◌, length, take, Option, None, Some, IfSome, slice_index, slice_index_or}
+use Rattle.std.specs.Prelude.{◌≡◌, refl, ℕ, ◌+◌, ◌<◌, ◌≤◌, false, List, [], ◌∷◌, ◌++◌, length, take, Option, None, Some, IfSome, slice_index, slice_index_or}
 use Rattle.std.specs.Option.{option_map}
-use Rattle.std.proofs.Common.{inl, inr, ap, sym, subst, ◌∙◌, arith}
+use Rattle.std.proofs.Common.{inl, inr, ap, sym, subst, ◌∙◌, arith, add-one}
 use Rattle.point_order.specs.Orientation.{is_flat}
 use Rattle.point_order.specs.Sets.{IsIn, IsAscending, with_point}
 use Rattle.edit_history.specs.Opening.{Four, opening_four}
 use Rattle.edit_history.specs.OneThread.{places}
 use Rattle.edit_history.specs.Laws.{AreIndependent as AreIndependentOf}
-use Rattle.edit_history.proofs.Cited.{four_law, replay_more}
-use Rattle.point_order.proofs.Cited.{in-ascending, in-with, in-with_new, in-with_old}
+use Rattle.edit_history.proofs.Cited.{four_law, leaves_set, replay_more}
+use Rattle.point_order.proofs.Cited.{in_ascending, in_with, in_with_new, in_with_old}
 use Rattle.std.proofs.lemmas.List.{take_all, length-append}
-use Rattle.list_laws.proofs.Cited.{at_place, in_more, index_in, same_members}
-use Rattle.cell_store.proofs.Cited.{ascending_replay}
+use Rattle.list_laws.proofs.Cited.{at_place, in_more, index_in, one_value, same_members}
 use Rattle.insertion.specs.Opening.{inserted, opening_history}
 use Rattle.insertion.proofs.OpeningLaws.{leaves_four}
 use Rattle.insertion.specs.Opening.{AreIndependent}
@@ -36,12 +35,9 @@ pub record AreFound (points four : List ℕ) : Type 0 where
 pub four_found : (points four : List ℕ) → option_map places (opening_four points) ≡ Some four → AreFound points four
 four_found points four e = by (opening_four points) (four_law points) e
   where
-    same : (a b : List ℕ) → Some a ≡ Some b → a ≡ b
-    same a b e = cc
-
     by : (o : Option Four) → IfSome o (AreIndependentOf points) → option_map places o ≡ Some four → AreFound points four
     by None i e = absurd (cc e)
-    by (Some f) i e = subst (AreFound points) (same (places f) four e) (record {
+    by (Some f) i e = subst (AreFound points) (one_value (places f) four e) (record {
       first = omega (arith, i.within, i.ascending.0, i.ascending.1, i.ascending.2);
       second = omega (arith, i.within, i.ascending.1, i.ascending.2);
       third = omega (arith, i.within, i.ascending.2);
@@ -75,7 +71,7 @@ new_of h e p k q i = record { key = k; absent = λ m. i.absent (subst (λ (x : �
 pub grown_first : (points : List ℕ) (four : List (ℕ × ℕ)) → AreIndependent four → AreAmong four points → HasGrown points [] 4 (opening_history four)
 grown_first points (a ∷ b ∷ c ∷ d ∷ []) f among = record {
   count = refl;
-  inside = λ p i. inside p (in-ascending (a.1 ∷ b.1 ∷ c.1 ∷ d.1 ∷ []) p (subst (λ (l : List ℕ). IsIn p l) (leaves_four a b c d f) i));
+  inside = λ p i. inside p (in_ascending (a.1 ∷ b.1 ∷ c.1 ∷ d.1 ∷ []) p (subst (λ (l : List ℕ). IsIn p l) (leaves_four a b c d f) i));
   front_in = λ p i. absurd i;
 }
   where
@@ -96,29 +92,25 @@ grown_first points (a ∷ b ∷ []) f among = absurd f
 grown_first points (a ∷ b ∷ c ∷ []) f among = absurd f
 grown_first points (a ∷ b ∷ c ∷ d ∷ e ∷ l) f among = absurd f
 
--- the next place
-one_up : (i : ℕ) → i + 1 ≡ suc i
-one_up i = omega arith
-
 -- a point that is there
 pub grown_same : (points : List ℕ) (i n p : ℕ) (h : List Entry) → i < length points → p ≡ slice_index_or points i p → HasGrown points (take i points) n h → IsIn p (replay h) → HasGrown points (take (i + 1) points) n h
 grown_same points i n p h l e g k = record {
   count = g.count;
   inside = g.inside;
-  front_in = λ q j. elim (in_more points i p p q l e (subst (λ (t : ℕ). IsIn q (take t points)) (one_up i) j)) [ inl f ↦ g.front_in q f | inr f ↦ subst (λ (v : ℕ). IsIn v (replay h)) f k ];
+  front_in = λ q j. elim (in_more points i p p q l e (subst (λ (t : ℕ). IsIn q (take t points)) (add-one i) j)) [ inl f ↦ g.front_in q f | inr f ↦ subst (λ (v : ℕ). IsIn v (replay h)) f k ];
 }
 
 -- a point that is inserted
 pub grown_more : (points : List ℕ) (i n p : ℕ) (h : List Entry) (e : Entry) → i < length points → p ≡ slice_index_or points i p → HasGrown points (take i points) n h → p ≡ point_of e.edit → IsInsertion h e → HasGrown points (take (i + 1) points) (n + 1) (h ++ e ∷ [])
 grown_more points i n p h e l q g k ins = record {
   count = ap (λ (v : ℕ). v + 1) g.count ∙ sym (length-append h (e ∷ []));
-  inside = λ r j. elim (in-with p r (replay h) (subst (λ (s : List ℕ). IsIn r s) left j)) [
+  inside = λ r j. elim (in_with p r (replay h) (subst (λ (s : List ℕ). IsIn r s) left j)) [
     | inl f ↦ subst (λ (v : ℕ). IsIn v points) f (at_place points i p p l q)
     | inr f ↦ g.inside r f
   ];
-  front_in = λ r j. subst (λ (s : List ℕ). IsIn r s) (sym left) (elim (in_more points i p p r l q (subst (λ (t : ℕ). IsIn r (take t points)) (one_up i) j)) [
-    | inl f ↦ in-with_old p r (replay h) (g.front_in r f)
-    | inr f ↦ subst (λ (v : ℕ). IsIn v (with_point p (replay h))) f (in-with_new p (replay h))
+  front_in = λ r j. subst (λ (s : List ℕ). IsIn r s) (sym left) (elim (in_more points i p p r l q (subst (λ (t : ℕ). IsIn r (take t points)) (add-one i) j)) [
+    | inl f ↦ in_with_old p r (replay h) (g.front_in r f)
+    | inr f ↦ subst (λ (v : ℕ). IsIn v (with_point p (replay h))) f (in_with_new p (replay h))
   ]);
 }
   where
@@ -132,4 +124,4 @@ inserts h n p e c a q = subst (IsInsertion h) (sym q) (record { edit = refl; abs
 -- all points
 pub grown_all : (points : List ℕ) (i n : ℕ) (h : List Entry) → IsAscending points → length points ≤ i → HasGrown points (take i points) n h → replay h ≡ points
 grown_all points i n h a l g =
-    same_members (replay h) points (ascending_replay h) a g.inside (λ p k. g.front_in p (subst (λ (s : List ℕ). IsIn p s) (sym (take_all i points l)) k))
+    same_members (replay h) points (leaves_set h) a g.inside (λ p k. g.front_in p (subst (λ (s : List ℕ). IsIn p s) (sym (take_all i points l)) k))

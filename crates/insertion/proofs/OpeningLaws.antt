@@ -10,19 +10,19 @@ use Rattle.point_order.specs.Coordinates.{IsKey}
 use Rattle.point_order.specs.Orientation.{orientation, is_flat}
 use Rattle.point_order.specs.Sets.{IsIn, IsAscending, AreFour, ascending, is_among, with_point}
 use Rattle.point_order.specs.Solid.{is_solid}
-use Rattle.point_order.proofs.Cited.{ascending-ascending, ascending-is, ascending-with, in-ascending, in-ascending_from, in-with, in-with_new, in-with_old, last-first, last-second, last-third, swap-first, swap-middle, zero_true}
+use Rattle.point_order.proofs.Cited.{ascending_ascending, ascending_is, ascending_with, in_ascending, in_ascending_from, in_with, in_with_new, in_with_old, last_first, last_second, last_third, swap_first, swap_middle, zero_true}
 use Rattle.edit_history.specs.declared.history.Entry.{Entry}
 use Rattle.edit_history.specs.declared.history.Reply.TheVariants.{Inserted}
 use Rattle.edit_history.specs.Edits.{point_of, reply_to, changed}
 use Rattle.edit_history.specs.Histories.{replay, replay_from, IsLegal, IsLegalFrom}
-use Rattle.edit_history.proofs.Cited.{solid-from}
+use Rattle.edit_history.proofs.Cited.{leaves_set, solid_from}
 use Rattle.del_laws.specs.Keys.{AreKeys}
 use Rattle.cell_store.specs.Grids.{bucket_of}
 use Rattle.cell_store.specs.Swaps.{swapped, touches}
 use Rattle.cell_store.specs.Buckets.{BucketContent, InHand, bucket_at, at_place}
 use Rattle.cell_store.specs.Shares.{Stands, IsShare, points_share, cells_share, entries_share}
 use Rattle.cell_store.specs.Changes.{IsChange, IsNoted, noted_in, swapped_in}
-use Rattle.cell_store.proofs.Cited.{ascending_replay, cells_after, entries_after, entries_stay, mapped_some, points_after, points_stay, replay_next}
+use Rattle.cell_store.proofs.Cited.{cells_after, entries_after, entries_stay, mapped_some, points_after, points_stay, replay_next}
 use Rattle.insertion.specs.Opening.{five_cells, inserted, inserted_from, opening_history, AreIndependent, nothing, IsBare, HasCellsOfFour}
 use Rattle.insertion.proofs.FourCells.{four_have_five}
 
@@ -30,19 +30,19 @@ use Rattle.insertion.proofs.FourCells.{four_have_five}
 
 pub four_apart : (a b c d : ℕ) → is_flat a b c d ≡ false → AreFour a b c d
 four_apart a b c d f = (
-  (λ e. no (subst (λ x. orientation a x c d ≡ pos 0) e (self_negative _ (swap-first a a c d)))),
+  (λ e. no (subst (λ x. orientation a x c d ≡ pos 0) e (self_negative _ (swap_first a a c d)))),
   (λ e. no (subst (λ x. orientation a b x d ≡ pos 0) e (from_swap b d))),
-  (λ e. no (subst (λ x. orientation a b c x ≡ pos 0) e (last-first a b c))),
-  (λ e. no (subst (λ x. orientation a b x d ≡ pos 0) e (self_negative _ (swap-middle a b b d)))),
-  (λ e. no (subst (λ x. orientation a b c x ≡ pos 0) e (last-second a b c))),
-  (λ e. no (subst (λ x. orientation a b c x ≡ pos 0) e (last-third a b c))),
+  (λ e. no (subst (λ x. orientation a b c x ≡ pos 0) e (last_first a b c))),
+  (λ e. no (subst (λ x. orientation a b x d ≡ pos 0) e (self_negative _ (swap_middle a b b d)))),
+  (λ e. no (subst (λ x. orientation a b c x ≡ pos 0) e (last_second a b c))),
+  (λ e. no (subst (λ x. orientation a b c x ≡ pos 0) e (last_third a b c))),
 )
   where
     no : orientation a b c d ≡ pos 0 → ⊥
     no e = cc (zero_true (orientation a b c d) e, f)
 
     from_swap : (b d : ℕ) → orientation a b a d ≡ pos 0
-    from_swap b d = let e = self_negative _ (swap-first a a b d) in let s = swap-middle a b a d in omega (arith, ints, e, s)
+    from_swap b d = let e = self_negative _ (swap_first a a b d) in let s = swap_middle a b a d in omega (arith, ints, e, s)
 
 -- ---- the history
 
@@ -82,13 +82,13 @@ four_new a b c d f =
     let n = four_apart a.1 b.1 c.1 d.1 f in (
       (λ i. i),
       (
-        (λ i. elim (in-with a.1 b.1 [] i) [ inl e ↦ n.0 e | inr j ↦ j ]),
+        (λ i. elim (in_with a.1 b.1 [] i) [ inl e ↦ n.0 e | inr j ↦ j ]),
         (
-          (λ i. elim (in-with b.1 c.1 (with_point a.1 []) i) [ inl e ↦ n.3 e | inr j ↦ elim (in-with a.1 c.1 [] j) [ inl e ↦ n.1 e | inr k ↦ k ] ]),
+          (λ i. elim (in_with b.1 c.1 (with_point a.1 []) i) [ inl e ↦ n.3 e | inr j ↦ elim (in_with a.1 c.1 [] j) [ inl e ↦ n.1 e | inr k ↦ k ] ]),
           (
-            (λ i. elim (in-with c.1 d.1 (with_point b.1 (with_point a.1 [])) i) [
+            (λ i. elim (in_with c.1 d.1 (with_point b.1 (with_point a.1 [])) i) [
               | inl e ↦ n.5 e
-              | inr j ↦ elim (in-with b.1 d.1 (with_point a.1 []) j) [ inl e ↦ n.4 e | inr k ↦ elim (in-with a.1 d.1 [] k) [ inl e ↦ n.2 e | inr m ↦ m ] ]
+              | inr j ↦ elim (in_with b.1 d.1 (with_point a.1 []) j) [ inl e ↦ n.4 e | inr k ↦ elim (in_with a.1 d.1 [] k) [ inl e ↦ n.2 e | inr m ↦ m ] ]
             ]),
             tt,
           ),
@@ -109,22 +109,22 @@ opening_legal (a ∷ b ∷ c ∷ d ∷ e ∷ l) f = absurd f
 pub leaves_four : (a b c d : ℕ × ℕ) → is_flat a.1 b.1 c.1 d.1 ≡ false → replay (opening_history (a ∷ b ∷ c ∷ d ∷ [])) ≡ ascending (a.1 ∷ b.1 ∷ c.1 ∷ d.1 ∷ [])
 leaves_four a b c d f =
     replay_is 0 [] (a ∷ b ∷ c ∷ d ∷ []) (four_new a b c d f)
-    ∙ ascending-is (with_all [] (a ∷ b ∷ c ∷ d ∷ [])) (a.1 ∷ b.1 ∷ c.1 ∷ d.1 ∷ [])
-    (ascending-with d.1 three (ascending-with c.1 two (ascending-with b.1 one (ascending-with a.1 [] tt))))
-    (λ p i. elim (in-with d.1 p three i) [
+    ∙ ascending_is (with_all [] (a ∷ b ∷ c ∷ d ∷ [])) (a.1 ∷ b.1 ∷ c.1 ∷ d.1 ∷ [])
+    (ascending_with d.1 three (ascending_with c.1 two (ascending_with b.1 one (ascending_with a.1 [] tt))))
+    (λ p i. elim (in_with d.1 p three i) [
       | inl e ↦ inr (inr (inr (inl e)))
-      | inr j ↦ elim (in-with c.1 p two j) [
+      | inr j ↦ elim (in_with c.1 p two j) [
         | inl e ↦ inr (inr (inl e))
-        | inr k ↦ elim (in-with b.1 p one k) [ inl e ↦ inr (inl e) | inr m ↦ elim (in-with a.1 p [] m) [ inl e ↦ inl e | inr z ↦ absurd z ] ]
+        | inr k ↦ elim (in_with b.1 p one k) [ inl e ↦ inr (inl e) | inr m ↦ elim (in_with a.1 p [] m) [ inl e ↦ inl e | inr z ↦ absurd z ] ]
       ]
     ])
     (λ p i. elim i [
-      | inl e ↦ in-with_old d.1 p three (in-with_old c.1 p two (in-with_old b.1 p one (subst (λ (v : ℕ). IsIn v one) e (in-with_new a.1 []))))
+      | inl e ↦ in_with_old d.1 p three (in_with_old c.1 p two (in_with_old b.1 p one (subst (λ (v : ℕ). IsIn v one) e (in_with_new a.1 []))))
       | inr i ↦ elim i [
-        | inl e ↦ in-with_old d.1 p three (in-with_old c.1 p two (subst (λ (v : ℕ). IsIn v two) e (in-with_new b.1 one)))
+        | inl e ↦ in_with_old d.1 p three (in_with_old c.1 p two (subst (λ (v : ℕ). IsIn v two) e (in_with_new b.1 one)))
         | inr i ↦ elim i [
-          | inl e ↦ in-with_old d.1 p three (subst (λ (v : ℕ). IsIn v three) e (in-with_new c.1 two))
-          | inr i ↦ elim i [ inl e ↦ subst (λ (v : ℕ). IsIn v (with_point d.1 three)) e (in-with_new d.1 three) | inr none ↦ absurd none ]
+          | inl e ↦ in_with_old d.1 p three (subst (λ (v : ℕ). IsIn v three) e (in_with_new c.1 two))
+          | inr i ↦ elim i [ inl e ↦ subst (λ (v : ℕ). IsIn v (with_point d.1 three)) e (in_with_new d.1 three) | inr none ↦ absurd none ]
         ]
       ]
     ])
@@ -153,12 +153,12 @@ noted_lines g b h e c l s = by (bucket_of g (point_of e.edit) == b) refl
 
     by : (o : Bool) → (bucket_of g (point_of e.edit) == b) ≡ o → HasLines g b (h ++ e ∷ []) (cond o (record c { points = changed c.points (point_of e.edit) e.reply; entries = c.entries ++ e ∷ [] }) c)
     by true t = (
-      ap (λ m. changed m (point_of e.edit) e.reply) s.0 ∙ points_after test (point_of e.edit) e.reply (replay h) (ascending_replay h) t ∙ ap (filter test) (sym (replay_next h e l)),
+      ap (λ m. changed m (point_of e.edit) e.reply) s.0 ∙ points_after test (point_of e.edit) e.reply (replay h) (leaves_set h) t ∙ ap (filter test) (sym (replay_next h e l)),
       ap (λ m. m ++ e ∷ []) s.1 ∙ entries_after g b h e t,
       s.2,
     )
     by false t = (
-      s.0 ∙ points_stay test (point_of e.edit) e.reply (replay h) (ascending_replay h) t ∙ ap (filter test) (sym (replay_next h e l)),
+      s.0 ∙ points_stay test (point_of e.edit) e.reply (replay h) (leaves_set h) t ∙ ap (filter test) (sym (replay_next h e l)),
       s.1 ∙ entries_stay g b h e t,
       s.2,
     )
@@ -186,7 +186,7 @@ opening_share : (g n : ℕ) (a b c d : ℕ × ℕ) (w x y z : ℕ) → is_flat a
     IsShare g n (opening_history (a ∷ b ∷ c ∷ d ∷ [])) (swapped_in g n [] (five_cells w x y z) (noted_in g n (inserted 3 d) (noted_in g n (inserted 2 c) (noted_in g n (inserted 1 b) (noted_in g n (inserted 0 a) (at_place g n nothing))))))
 opening_share g n a b c d w x y z f e k v = record {
   points = four.0;
-  cells = ap (swapped g n [] (five_cells w x y z)) (four.2 ∙ sym no_cells) ∙ cells_after g n [] h [] (five_cells w x y z) (brings_five h w x y z (leaves_four a b c d f ∙ e) (subst IsAscending e (ascending-ascending (a.1 ∷ b.1 ∷ c.1 ∷ d.1 ∷ []))) k v);
+  cells = ap (swapped g n [] (five_cells w x y z)) (four.2 ∙ sym no_cells) ∙ cells_after g n [] h [] (five_cells w x y z) (brings_five h w x y z (leaves_four a b c d f ∙ e) (subst IsAscending e (ascending_ascending (a.1 ∷ b.1 ∷ c.1 ∷ d.1 ∷ []))) k v);
   entries = four.1;
 }
   where
@@ -255,7 +255,7 @@ opening_stands g (a ∷ b ∷ c ∷ d ∷ []) bare n0 n1 n2 n3 mesh f k e n s = 
 
     keys : AreKeys (s.a ∷ s.b ∷ s.c ∷ s.d ∷ [])
     keys = record {
-      below = λ p i. elim (in-ascending ps p (subst (λ (m : List ℕ). IsIn p m) (sym s.sorted) i)) [
+      below = λ p i. elim (in_ascending ps p (subst (λ (m : List ℕ). IsIn p m) (sym s.sorted) i)) [
         | inl e ↦ subst IsKey e (k a (inl refl))
         | inr i ↦ elim i [
           | inl e ↦ subst IsKey e (k b (inr (inl refl)))
@@ -268,10 +268,10 @@ opening_stands g (a ∷ b ∷ c ∷ d ∷ []) bare n0 n1 n2 n3 mesh f k e n s = 
     }
 
     there : (p : ℕ) → IsIn p ps → IsIn p (s.a ∷ s.b ∷ s.c ∷ s.d ∷ [])
-    there p i = subst (λ (m : List ℕ). IsIn p m) s.sorted (in-ascending_from ps p i)
+    there p i = subst (λ (m : List ℕ). IsIn p m) s.sorted (in_ascending_from ps p i)
 
     solid : is_solid (s.a ∷ s.b ∷ s.c ∷ s.d ∷ []) ≡ true
-    solid = solid-from (s.a ∷ s.b ∷ s.c ∷ s.d ∷ []) a.1 b.1 c.1 d.1 (there a.1 (inl refl)) (there b.1 (inr (inl refl))) (there c.1 (inr (inr (inl refl)))) (there d.1 (inr (inr (inr (inl refl))))) f
+    solid = solid_from (s.a ∷ s.b ∷ s.c ∷ s.d ∷ []) a.1 b.1 c.1 d.1 (there a.1 (inl refl)) (there b.1 (inr (inl refl))) (there c.1 (inr (inr (inl refl)))) (there d.1 (inr (inr (inr (inl refl))))) f
 
     each : (m : ℕ) (x : BucketContent) → bucket_at mesh.places m ≡ Some x → IsShare mesh.grid m (opening_history (a ∷ b ∷ c ∷ d ∷ [])) x
     each m x q =

@@ -11,9 +11,8 @@ ghost use Rattle.one_mesh.specs.Gathered.{all_points};
 
 use cell_store::{Hold, Mesh};
 use edit_history::Entry;
-use point_order::{Cell, Point};
+use point_order::{Cell, Point, points_in_order};
 use std::alloc::{AllocError, Global};
-use vertex_removal::points_in_order;
 
 /// The mesh's history.
 ///

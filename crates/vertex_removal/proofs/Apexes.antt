@@ -9,7 +9,7 @@ use Rattle.point_order.specs.Heights.{height, lifted, out}
 use Rattle.point_order.specs.Sets.{IsIn, AreFour, AreFive, is_among}
 use Rattle.point_order.specs.Complex.{is_full}
 use Rattle.point_order.specs.Spheres.{is_outside}
-use Rattle.point_order.proofs.Cited.{last-first, last-second, last-third, zero_false}
+use Rattle.point_order.proofs.Cited.{last_first, last_second, last_third, zero_false}
 use Rattle.del_laws.specs.Cells.{Vertex, point, far, Full, On}
 use Rattle.del_laws.specs.Keys.{AreKeys}
 use Rattle.del_laws.specs.Vertices.{are_among, is_full_cell}
@@ -23,10 +23,10 @@ pub apart_above : (a b c d : ℕ) → pos 0 <ℤ orientation a b c d → AreFour
 apart_above a b c d h = (
   λ e. flat (subst (λ (x : ℕ). orientation a x c d ≡ pos 0) e (orientation_same12 a c d)),
   λ e. flat (subst (λ (x : ℕ). orientation a b x d ≡ pos 0) e (orientation_same13 a b d)),
-  λ e. flat (subst (λ (x : ℕ). orientation a b c x ≡ pos 0) e (last-first a b c)),
+  λ e. flat (subst (λ (x : ℕ). orientation a b c x ≡ pos 0) e (last_first a b c)),
   λ e. flat (subst (λ (x : ℕ). orientation a b x d ≡ pos 0) e (orientation_same23 a b d)),
-  λ e. flat (subst (λ (x : ℕ). orientation a b c x ≡ pos 0) e (last-second a b c)),
-  λ e. flat (subst (λ (x : ℕ). orientation a b c x ≡ pos 0) e (last-third a b c)),
+  λ e. flat (subst (λ (x : ℕ). orientation a b c x ≡ pos 0) e (last_second a b c)),
+  λ e. flat (subst (λ (x : ℕ). orientation a b c x ≡ pos 0) e (last_third a b c)),
 )
   where
     flat : ¬ (orientation a b c d ≡ pos 0)

@@ -8,10 +8,10 @@ use Rattle.std.proofs.Common.{sym, subst, inl, inr}
 use Rattle.std.proofs.lemmas.Map.Keys.{IsDistinct-from_sorted, IsDistinct-IsPermutation}
 use Rattle.list_laws.specs.Lists.{AreDistinct}
 use Rattle.list_laws.proofs.Cited.{not_both}
+use Rattle.point_order.proofs.Cited.{cell_order}
 use Rattle.point_order.specs.declared.cell.Cell.{Cell}
 use Rattle.point_order.specs.CellOrder.{cell_cmp}
 use Rattle.point_order.specs.Sets.{IsIn}
-use Rattle.cell_stars.proofs.Cited.{cell_order}
 
 -- a list whose members a test tells apart has each once
 apart_once : (e : Cell → Cell → Bool) → ((x : Cell) → e x x ≡ true) → (xs : List Cell) → IsDistinct e xs → AreDistinct xs

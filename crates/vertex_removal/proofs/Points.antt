@@ -1,22 +1,12 @@
 -- The points of cells, ascending, each once.
-use Rattle.std.specs.Prelude.{◌≡◌, ℕ, not, ◌==◌, List, eqb}
-use Rattle.std.specs.List.{filter, flat_map, dedup}
-use Rattle.std.specs.List.Sorted.{IsPermutation}
+use Rattle.std.specs.Prelude.{◌≡◌, ℕ, not, ◌==◌, List}
+use Rattle.std.specs.List.{filter, flat_map}
 use Rattle.std.proofs.Common.{sym, subst}
-use Rattle.std.proofs.lemmas.List.Kept.{Contains-dedup_nat, Contains-from_dedup}
-use Rattle.std.proofs.lemmas.List.Sorted.{Contains-permutation, IsPermutation-sym}
-use Rattle.list_laws.proofs.Cited.{contains_in, false_if, filtered_from, filtered_true, flat_from, in_contained, in_flat, not_both, not_from, not_true, same_from, same_true}
+use Rattle.list_laws.proofs.Cited.{false_if, filtered_from, filtered_true, flat_from, in_flat, not_both, not_from, not_true, same_from, same_true}
 use Rattle.point_order.specs.declared.cell.Cell.{Cell}
 use Rattle.point_order.specs.Facets.{points_of}
-use Rattle.point_order.specs.Sets.{IsIn, IsAscending}
-use Rattle.vertex_removal.specs.Near.{ArePointsBut, AreSamePoints}
-
--- and has the same points
-pub same_points : (l sorted deduped : List ℕ) → IsPermutation l sorted → deduped ≡ dedup eqb sorted → AreSamePoints l deduped
-same_points l sorted deduped p e n = (
-  λ i. subst (λ (m : List ℕ). IsIn n m) (sym e) (in_contained (dedup eqb sorted) n (Contains-dedup_nat sorted n (Contains-permutation l sorted n p (contains_in l n i)))),
-  λ i. in_contained l n (Contains-permutation sorted l n (IsPermutation-sym l sorted p) (Contains-from_dedup eqb sorted n (contains_in (dedup eqb sorted) n (subst (λ (m : List ℕ). IsIn n m) e i)))),
-)
+use Rattle.point_order.specs.Sets.{IsIn, IsAscending, AreSamePoints}
+use Rattle.vertex_removal.specs.Near.{ArePointsBut}
 
 -- the points of the cells but one, in order
 pub points_are : (cells : List Cell) (v : ℕ) (all kept points : List ℕ) → all ≡ flat_map points_of cells → kept ≡ filter (λ p. not (p == v)) all → AreSamePoints kept points → IsAscending points → ArePointsBut cells v points

@@ -10,7 +10,7 @@ use Rattle.point_order.specs.Sets.{IsIn, is_among}
 use Rattle.hole_laws.specs.Edits.{IsSet, IsLinkSet}
 use Rattle.cell_store.specs.Buckets.{InHand, bucket_at}
 use Rattle.cell_store.specs.Ready.{AreHeld}
-use Rattle.cavity.specs.Exploring.{IsCellMissing}
+use Rattle.cell_store.specs.Missing.{IsCellMissing}
 use Rattle.vertex_removal.specs.Near.{IsStar, AreTaken}
 use Rattle.vertex_removal.specs.Refills.{IsRefilled}
 use Rattle.vertex_removal.specs.Turns.{IsNeeded, NoneIsNeeded}

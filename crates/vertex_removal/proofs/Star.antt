@@ -7,12 +7,11 @@ use Rattle.std.proofs.lemmas.List.Kept.{IsStrictlySortedBy-filter}
 use Rattle.list_laws.specs.Lists.{AreDistinct}
 use Rattle.list_laws.proofs.Cited.{among_from, among_true, filtered_from, filtered_true}
 use Rattle.point_order.specs.declared.cell.Cell.{Cell}
-use Rattle.point_order.specs.CellOrder.{cell_cmp}
+use Rattle.point_order.specs.CellOrder.{cell_cmp, AreSameCells}
 use Rattle.point_order.specs.Complex.{complex}
 use Rattle.point_order.specs.Facets.{points_of}
 use Rattle.point_order.specs.Sets.{IsIn, IsAscending, is_among}
 use Rattle.del_laws.proofs.Cited.{complex_is_sorted, same_members}
-use Rattle.cell_store.specs.Swaps.{AreSameCells}
 use Rattle.vertex_removal.specs.Near.{IsStar}
 use Rattle.vertex_removal.proofs.DistinctCells.{sorted_once}
 

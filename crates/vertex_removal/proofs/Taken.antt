@@ -21,7 +21,7 @@ use Rattle.cell_store.specs.Grids.{bucket_of, is_grid_size}
 use Rattle.cell_store.specs.Meshes.{IsWhole, MeshView, IsHoldOf}
 use Rattle.cell_store.specs.Shares.{Shows, NoneInHand}
 use Rattle.cell_store.specs.Swaps.{touches}
-use Rattle.cell_stars.proofs.Cited.{bucket-below}
+use Rattle.cell_stars.proofs.Cited.{bucket_below}
 use Rattle.cell_store.proofs.Cited.{point_held, shows_of, touched}
 use Rattle.cell_conflict.proofs.Cited.{none_in, some_point}
 use Rattle.vertex_removal.specs.Near.{AreTaken}
@@ -78,7 +78,7 @@ judged_first hold t v x rest k at moved = first
     sorted = subst (λ (l : List Cell). IsStrictlySortedBy cell_cmp l) (sym share) (IsStrictlySortedBy-filter cell_cmp (touches hold.grid 0) (complex t) (complex_is_sorted t k.shown.ascending))
 
     touch : (c : Cell) → IsIn c (complex t) → touches hold.grid 0 c ≡ true
-    touch c m = in_bucket t hold.grid c one (λ d n. (let e = some_point t k.shown.ascending d n in (e.0, touched hold.grid e.0 (bucket_of hold.grid e.0) d refl e.1, bucket-below hold.grid e.0 (subst (λ g. is_grid_size g ≡ true) (sym one) refl)))) m
+    touch c m = in_bucket t hold.grid c one (λ d n. (let e = some_point t k.shown.ascending d n in (e.0, touched hold.grid e.0 (bucket_of hold.grid e.0) d refl e.1, bucket_below hold.grid e.0 (subst (λ g. is_grid_size g ≡ true) (sym one) refl)))) m
 
     first : IsJudged t v rest []
     first = record {

@@ -18,7 +18,7 @@ use Rattle.point_order.specs.Heights.{height}
 use Rattle.point_order.specs.Orientation.{is_flat}
 use Rattle.point_order.specs.Sets.{IsIn, is_among, with_point}
 use Rattle.point_order.specs.Spheres.{is_outside}
-use Rattle.point_order.proofs.Cited.{in-with, in-with_new, in-with_old}
+use Rattle.point_order.proofs.Cited.{in_with, in_with_new, in_with_old}
 use Rattle.del_laws.specs.Cells.{Vertex, point, On}
 use Rattle.del_laws.specs.Vertices.{are_among, is_full_cell}
 use Rattle.del_laws.proofs.Cited.{IsOver, cell_from, cell_is_listed, fits, listed_facets, listed_is_cell, over_facet, test_is_listed, vertex_discrete}
@@ -75,13 +75,13 @@ module _ (s : List ℕ) (v : ℕ) (i : IsSet s) (m : IsIn v s) (t : List ℕ) (l
 
   -- with v they are of the set
   near_inside : (e : ℕ) → IsIn e (with_point v t) → IsIn e s
-  near_inside e h = elim (in-with v e t h) [ inl q ↦ subst (λ (x : ℕ). IsIn x s) q m | inr r ↦ (without_from v s e (l.inside e r)).0 ]
+  near_inside e h = elim (in_with v e t h) [ inl q ↦ subst (λ (x : ℕ). IsIn x s) q m | inr r ↦ (without_from v s e (l.inside e r)).0 ]
 
   -- the points of a cell at v are among them
   near_point : (c : Cell) → IsIn c (complex s) → IsIn v (points_of c) → (e : ℕ) → IsIn e (points_of c) → IsIn e (with_point v t)
   near_point c n h e j = elim (cases_eq e v) [
-    | inl q ↦ subst (λ (x : ℕ). IsIn x (with_point v t)) (sym q) (in-with_new v t)
-    | inr d ↦ in-with_old v e t (l.link e d (record { q = c; listed = n; has_p = h; has_e = j }))
+    | inl q ↦ subst (λ (x : ℕ). IsIn x (with_point v t)) (sym q) (in_with_new v t)
+    | inr d ↦ in_with_old v e t (l.link e d (record { q = c; listed = n; has_p = h; has_e = j }))
   ]
 
   -- a Full cell

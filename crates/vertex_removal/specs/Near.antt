@@ -34,10 +34,6 @@ pub record ArePointsBut (cells : List Cell) (v : ℕ) (points : List ℕ) : Type
   pub order : IsAscending points
   pub points_are : (e : ℕ) → IsIn e points ↔ (HasPoint cells e × (e ≢ v))
 
--- the two lists have the same points
-abbrev pub AreSamePoints : List ℕ → List ℕ → Type 0
-AreSamePoints l m = (e : ℕ) → IsIn e l ↔ IsIn e m
-
 -- To the old cells were added cells of the complex of s, and among them are all those without v that lie
 -- across one of the crossed facets of a cell.
 pub record AreAdded (s : List ℕ) (v : ℕ) (Crossed : Cell → Facet → Type 0) (old new : List Cell) : Type 0 where

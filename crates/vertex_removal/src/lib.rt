@@ -22,10 +22,8 @@
 mod apex;
 pub mod laws;
 mod near;
-mod ordered;
 mod refill;
 mod small_mesh;
 mod wrap;
 
-pub use ordered::points_in_order;
 pub use refill::{Refill, RefillTurn};

@@ -4,20 +4,18 @@ ghost use Rattle.std.specs.Prelude.{◌≡◌, false, ℕ, List, IfOk, OnOk, IsS
 ghost use Rattle.std.specs.List.{filter, flat_map};
 ghost use Rattle.point_order.specs.Complex.{complex};
 ghost use Rattle.point_order.specs.Facets.{facets_of, points_of};
-ghost use Rattle.point_order.specs.Sets.{IsIn, IsAscending, is_among, without_point};
+ghost use Rattle.point_order.specs.Sets.{IsIn, IsAscending, is_among, without_point, AreSamePoints};
 ghost use Rattle.point_order.specs.Solid.{is_solid as is_solid_of};
 ghost use Rattle.hole_laws.specs.Edits.{IsLinkSet};
 ghost use Rattle.cell_store.specs.Buckets.{bucket_at, cells_in};
 ghost use Rattle.cell_store.specs.Grids.{bucket_of};
 ghost use Rattle.cell_store.specs.Shares.{Shows, ShowsWith};
-ghost use Rattle.cavity.specs.Exploring.{ArePointsHeld};
-ghost use Rattle.vertex_removal.specs.Near.{IsStar, ShowsStar, ArePointsBut, AreSamePoints, AreAdded, IsOneOf, IsOfOne};
+ghost use Rattle.cell_store.specs.Missing.{ArePointsHeld};
+ghost use Rattle.vertex_removal.specs.Near.{IsStar, ShowsStar, ArePointsBut, AreAdded, IsOneOf, IsOfOne};
 
-use crate::ordered::points_in_order;
-use cell_conflict::cell_across;
-use cell_store::{Hold, cells_in_order};
+use cell_store::Hold;
 use edit_history::find_four;
-use point_order::{Cell, Point};
+use point_order::{Cell, Point, cells_in_order, points_in_order};
 use std::alloc::{AllocError, Global};
 
 // The cells at a point whose bucket is in hand, in ascending order.
@@ -69,7 +67,7 @@ fn add_across(hold: &Hold, cell: &Cell, v: Point, around: &mut Vec<Cell>) -> Res
 {
     let facets = cell.facets();
     for facet in &facets {
-        let other = cell_across(hold, cell, facet);
+        let other = hold.cell_across(cell, facet);
         if !other.has(v) {
             around.push(*other)?;
         }

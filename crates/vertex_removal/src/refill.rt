@@ -12,7 +12,7 @@ ghost use Rattle.vertex_removal.specs.Wraps.{IsHole};
 use crate::near::{near_set, star_of};
 use crate::small_mesh::cells_taken;
 use crate::wrap::cells_wrapped;
-use cavity::{Fresh, missing_bucket};
+use cavity::Fresh;
 use cell_store::Hold;
 use point_order::{Cell, Point};
 use std::alloc::{AllocError, Global};
@@ -92,7 +92,7 @@ impl Refill {
     {
         let v = self.point;
         let gone = star_of(alloc, hold, v)?;
-        if let Some(b) = missing_bucket(hold, &gone) {
+        if let Some(b) = hold.missing_bucket(&gone) {
             return Ok(RefillTurn::Need(b));
         }
         match near_set(alloc, hold, v, &gone)? {

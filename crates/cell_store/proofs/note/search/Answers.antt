@@ -1,6 +1,6 @@
 use Rattle.std.proofs.lemmas.List.Sorted.{searched}
 use Rattle.list_laws.proofs.Cited.{climbs}
-use Rattle.edit_history.proofs.Cited.{search-absent, search-found}
+use Rattle.edit_history.proofs.Cited.{search_absent, search_found}
 use Rattle.cell_store.proofs.NoteLaws.{found_with, found_without}
 use Rattle.cell_store.proofs.note.search.Goals as goal
 
@@ -12,7 +12,7 @@ returns-clause-there c =
 pub returns-clause-found : goal.returns-clause-found
 returns-clause-found c =
     let s = c.args.points.now in
-    search-found s c.args.p c.binary_search.result c.requires (searched s c.args.p c.binary_search.result c.binary_search.ensures.position (climbs s c.requires))
+    search_found s c.args.p c.binary_search.result c.requires (searched s c.args.p c.binary_search.result c.binary_search.ensures.position (climbs s c.requires))
 
 pub returns-clause-missing : goal.returns-clause-missing
 returns-clause-missing c =
@@ -22,4 +22,4 @@ returns-clause-missing c =
 pub returns-clause-absent : goal.returns-clause-absent
 returns-clause-absent c =
     let s = c.args.points.now in
-    search-absent s c.args.p c.binary_search.result (searched s c.args.p c.binary_search.result c.binary_search.ensures.position (climbs s c.requires))
+    search_absent s c.args.p c.binary_search.result (searched s c.args.p c.binary_search.result c.binary_search.ensures.position (climbs s c.requires))

@@ -11,7 +11,7 @@ pub loop-c-preserved : goal.loop-c-preserved
 loop-c-preserved c =
     let list = c.loop-c.numbers.items in
     let new = c.add_numbers_at.new.numbers.items in
-    let step = numbers_step c.args.grid c.c-item.result c.points.result.now list new c.points.ensures c.in_ok-add_numbers_at.ensures in
+    let step = numbers_step c.args.grid c.c-item.result c.points.result.now list new c.points.ensures.points c.in_ok-add_numbers_at.ensures in
     gather_step (HasNumber c.args.grid) c.args.cells.now c.loop-c.c-index c.args.numbers.now.items list new c.c-item.result c.c-item.result c.loop-c-test.true c.c-item.is
     step.0 step.1 step.2 c.loop-c.invariant
 

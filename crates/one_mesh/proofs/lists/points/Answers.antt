@@ -1,8 +1,9 @@
 use Rattle.std.proofs.Common.{subst, List, ℕ}
+use Rattle.point_order.specs.Sets.{AreSamePoints}
 use Rattle.edit_history.specs.Histories.{replay}
-use Rattle.cell_store.proofs.Cited.{ascending_replay, shows_of}
+use Rattle.edit_history.proofs.Cited.{leaves_set}
+use Rattle.cell_store.proofs.Cited.{shows_of}
 use Rattle.one_mesh.proofs.Gathering.{points_in}
-use Rattle.vertex_removal.specs.Near.{AreSamePoints}
 use Rattle.one_mesh.proofs.lists.points.Goals as goal
 
 pub returns-clause-points : goal.returns-clause-points
@@ -11,10 +12,10 @@ returns-clause-points c =
     (subst (λ (l : List ℕ). AreSamePoints l c.points_in_order.result.items) c.in_ok-points.ensures c.points_in_order.ensures.points)
 
 pub returns-clause-ascending : goal.returns-clause-ascending
-returns-clause-ascending c = ascending_replay c.args.mesh.now.history
+returns-clause-ascending c = leaves_set c.args.mesh.now.history
 
 pub returns-in_err-points-clause-ascending : goal.returns-in_err-points-clause-ascending
-returns-in_err-points-clause-ascending c = ascending_replay c.args.mesh.now.history
+returns-in_err-points-clause-ascending c = leaves_set c.args.mesh.now.history
 
 pub returns-clause-solid : goal.returns-clause-solid
 returns-clause-solid c = c.hold.ensures.stands.solid

@@ -1,8 +1,8 @@
 use Rattle.std.proofs.Common.{◌≡◌, subst, List, arith}
 use Rattle.std.proofs.lemmas.Grind.{common_steps}
 use Rattle.point_order.specs.declared.cell.Cell.{Cell}
+use Rattle.point_order.specs.CellOrder.{AreSameCells}
 use Rattle.cell_store.specs.Stars.{cells_around}
-use Rattle.cell_store.specs.Swaps.{AreSameCells}
 use Rattle.vertex_removal.proofs.Star.{star_sorted}
 use Rattle.vertex_removal.proofs.near.star_of.Goals as goal
 

@@ -2,11 +2,10 @@ use Rattle.std.proofs.Common.{refl, sym, ◌∙◌, ap, subst, ◌<◌, ◌≤�
 use Rattle.list_laws.proofs.Cited.{at_none}
 use Rattle.point_order.specs.Facets.{points_of}
 use Rattle.cavity.specs.Digs.{Digging, IsDoneIn, facets_of_first}
-use Rattle.cavity.specs.Exploring.{ArePointsHeld, IsBucketMissing, IsCellMissing}
+use Rattle.cell_store.specs.Missing.{ArePointsHeld, IsBucketMissing, IsCellMissing}
 use Rattle.cavity.specs.Lists.{IsPast, IsAtPlace}
 use Rattle.cell_store.specs.Ready.{AreHeld}
-use Rattle.cavity.proofs.Held.{cell_missing, cells_all}
-use Rattle.cell_store.proofs.Cited.{solid_set}
+use Rattle.cell_store.proofs.Cited.{cell_missing, cells_all, solid_set}
 use Rattle.cavity.proofs.Advancing.{GoesOn, goes_on_first, cell_needed, none_needed, next_at, next_new, goes_further, goes_below, cells_in_hand}
 use Rattle.cavity.proofs.dig.Dig.advance.Goals as goal
 
@@ -18,21 +17,21 @@ loop-cell-init c = record {
   goes_on =
       subst (λ (d : Digging). GoesOn c.args.hold.now c.args.self.now d) (sym c.self.view_is)
       (goes_on_first c.args.hold.now c.args.self.now (rw (sym (ap (λ d. d.found) c.self.view_is), sym c.goes.ensures)
-      (at_none c.missing_spot.result (AreHeld c.args.hold.now c.goes.result.now) (λ b. IsCellMissing c.args.hold.now c.goes.result.now b) c.in_default.not-Some c.missing_spot.ensures)));
+      (at_none c.missing_bucket_of_spots.result (AreHeld c.args.hold.now c.goes.result.now) (λ b. IsCellMissing c.args.hold.now c.goes.result.now b) c.in_default.not-Some c.missing_bucket_of_spots.ensures)));
   behind = c.self.invariant;
 }
 
-pub returns-in-Some-missing_point-clause-point : goal.returns-in-Some-missing_point-clause-point
-returns-in-Some-missing_point-clause-point c = c.loop-cell.invariant.goes_on.point
+pub returns-in-Some-missing_bucket_of_points-clause-point : goal.returns-in-Some-missing_bucket_of_points-clause-point
+returns-in-Some-missing_bucket_of_points-clause-point c = c.loop-cell.invariant.goes_on.point
 
-pub returns-in-Some-missing_point-clause-digs : goal.returns-in-Some-missing_point-clause-digs
-returns-in-Some-missing_point-clause-digs c = c.loop-cell.invariant.goes_on.digs
+pub returns-in-Some-missing_bucket_of_points-clause-digs : goal.returns-in-Some-missing_bucket_of_points-clause-digs
+returns-in-Some-missing_bucket_of_points-clause-digs c = c.loop-cell.invariant.goes_on.digs
 
-pub returns-in-Some-missing_point-clause-turn : goal.returns-in-Some-missing_point-clause-turn
-returns-in-Some-missing_point-clause-turn c h st k =
+pub returns-in-Some-missing_bucket_of_points-clause-turn : goal.returns-in-Some-missing_bucket_of_points-clause-turn
+returns-in-Some-missing_bucket_of_points-clause-turn c h st k =
     let d : Digging = (record { point = c.loop-cell.self-inside.point; found = c.loop-cell.self-inside.judged.goes; explored = c.loop-cell.self-inside.explored; rim = c.loop-cell.self-inside.rim.items }) in
-    cell_needed c.args.hold.now h d d.found c.in-Some-missing_point.b refl (c.loop-cell.invariant.goes_on.digs h st k)
-    (cell_missing c.args.hold.now d.found d.explored c.in-Some-get.cell c.points.result.now c.in-Some-missing_point.b c.in-Some-get.ensures.cell.below c.in-Some-get.ensures.cell.at (c.points.ensures ∙ ap points_of c.cell.ensures) c.in-Some-missing_point.ensures)
+    cell_needed c.args.hold.now h d d.found c.in-Some-missing_bucket_of_points.b refl (c.loop-cell.invariant.goes_on.digs h st k)
+    (cell_missing c.args.hold.now d.found d.explored c.in-Some-get.cell c.points.result.now c.in-Some-missing_bucket_of_points.b c.in-Some-get.ensures.cell.below c.in-Some-get.ensures.cell.at (c.points.ensures.points ∙ ap points_of c.cell.ensures) c.in-Some-missing_bucket_of_points.ensures)
 
 pub explore-requires-clause-shown : goal.explore-requires-clause-shown
 explore-requires-clause-shown c =
@@ -47,8 +46,8 @@ pub loop-cell-smaller : goal.loop-cell-smaller
 loop-cell-smaller c =
     let r = c.requires in
     let d : Digging = (record { point = c.loop-cell.self-inside.point; found = c.loop-cell.self-inside.judged.goes; explored = c.loop-cell.self-inside.explored; rim = c.loop-cell.self-inside.rim.items }) in
-    let few : d.explored < length (cells_in_hand c.args.hold.now.places) = goes_below c.args.hold.now c.args.self.now d c.in-Some-get.cell c.points.result.now c.loop-cell.invariant.goes_on c.in-Some-get.ensures.cell.below c.in-Some-get.ensures.cell.at (c.points.ensures ∙ ap points_of c.cell.ensures)
-    (at_none c.missing_point.result (ArePointsHeld c.args.hold.now c.points.result.now) (λ b. IsBucketMissing c.args.hold.now c.points.result.now b) c.in_default-missing_point.not-Some c.missing_point.ensures) r.0 r.1 r.2 in
+    let few : d.explored < length (cells_in_hand c.args.hold.now.places) = goes_below c.args.hold.now c.args.self.now d c.in-Some-get.cell c.points.result.now c.loop-cell.invariant.goes_on c.in-Some-get.ensures.cell.below c.in-Some-get.ensures.cell.at (c.points.ensures.points ∙ ap points_of c.cell.ensures)
+    (at_none c.missing_bucket_of_points.result (ArePointsHeld c.args.hold.now c.points.result.now) (λ b. IsBucketMissing c.args.hold.now c.points.result.now b) c.in_default-missing_bucket_of_points.not-Some c.missing_bucket_of_points.ensures) r.0 r.1 r.2 in
     omega arith
 
 pub loop-cell-preserved : goal.loop-cell-preserved
@@ -56,8 +55,8 @@ loop-cell-preserved c =
     let d : Digging = (record { point = c.loop-cell.self-inside.point; found = c.loop-cell.self-inside.judged.goes; explored = c.loop-cell.self-inside.explored; rim = c.loop-cell.self-inside.rim.items }) in
     record {
       goes_on =
-          goes_further c.args.hold.now c.args.self.now d c.in-Some-get.cell c.points.result.now c.loop-cell.invariant.goes_on c.in-Some-get.ensures.cell.below c.in-Some-get.ensures.cell.at (c.points.ensures ∙ ap points_of c.cell.ensures)
-          (at_none c.missing_point.result (ArePointsHeld c.args.hold.now c.points.result.now) (λ b. IsBucketMissing c.args.hold.now c.points.result.now b) c.in_default-missing_point.not-Some c.missing_point.ensures) c.explore.new.judged.goes c.explore.new.rim.items c.in_ok-explore.ensures.more c.in_ok-explore.ensures.explored;
+          goes_further c.args.hold.now c.args.self.now d c.in-Some-get.cell c.points.result.now c.loop-cell.invariant.goes_on c.in-Some-get.ensures.cell.below c.in-Some-get.ensures.cell.at (c.points.ensures.points ∙ ap points_of c.cell.ensures)
+          (at_none c.missing_bucket_of_points.result (ArePointsHeld c.args.hold.now c.points.result.now) (λ b. IsBucketMissing c.args.hold.now c.points.result.now b) c.in_default-missing_bucket_of_points.not-Some c.missing_bucket_of_points.ensures) c.explore.new.judged.goes c.explore.new.rim.items c.in_ok-explore.ensures.more c.in_ok-explore.ensures.explored;
       behind = c.in_ok-explore.ensures.behind;
     }
 

@@ -13,4 +13,4 @@ returns-clause-touched c =
     (subst (λ (l : List ℕ). Gathers (FromPlace b) l c.in_ok-list.list.items c.add_freed.new.list.items) c.deref.ensures.value c.in_ok-add_freed.ensures)
     (subst (λ (l : List (ℕ × Cell)). Gathers FromPut l c.add_freed.new.list.items c.add_placed.new.list.items) c.deref-2.ensures.value c.in_ok-add_placed.ensures)
     (filter_same _ (lies_in b.place) _ (λ x r f k. search rules) _ _ c.retain.ensures.filtered)
-    c.points_in_order.ensures.same
+    (λ p. ((c.points_in_order.ensures.points p).1, (c.points_in_order.ensures.points p).0))

@@ -1,12 +1,12 @@
 use Rattle.std.proofs.Common.{◌≡◌, true, subst}
 use Rattle.cell_stars.specs.Grids.{is_grid_size}
-use Rattle.cell_stars.proofs.GridLaws.{bucket-below, bucket-is}
+use Rattle.cell_stars.proofs.GridLaws.{bucket_below, bucket_is}
 use Rattle.cell_stars.proofs.grid.Grid.bucket_of.Goals as goal
 
 pub returns-clause-number : goal.returns-clause-number
 returns-clause-number c =
-    bucket-is c.self.inside.size c.args.self.now c.args.p c.key.result c.key-2.result c.key-3.result c.self.invariant c.self.view_is c.key.ensures.value c.key-2.ensures.value c.key-3.ensures.value
+    bucket_is c.self.inside.size c.args.self.now c.args.p c.key.result c.key-2.result c.key-3.result c.self.invariant c.self.view_is c.key.ensures.value c.key-2.ensures.value c.key-3.ensures.value
 
 pub returns-clause-below : goal.returns-clause-below
 returns-clause-below c =
-    bucket-below c.args.self.now c.args.p (subst (λ n. is_grid_size n ≡ true) c.self.view_is c.self.invariant)
+    bucket_below c.args.self.now c.args.p (subst (λ n. is_grid_size n ≡ true) c.self.view_is c.self.invariant)

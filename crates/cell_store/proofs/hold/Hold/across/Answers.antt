@@ -11,11 +11,11 @@ other_at-requires-clause-inside c = lies_at c.bucket.result.now.cells.place c.ar
 
 pub unreachable-requires : goal.unreachable-requires
 unreachable-requires c =
-    let held = subst (IsInHandFor c.args.self.now (points_on c.args.facet.now)) (ap (λ g. bucket_of g c.in-Some.p) (sym c.grid.ensures.grid) ∙ sym c.bucket_of.ensures.number) (subst (λ (l : List ℕ). IsInHandFor c.args.self.now l (bucket_of c.args.self.now.grid c.in-Some.p)) c.facet_points-points.ensures c.in-Some.ensures.1) in
+    let held = subst (IsInHandFor c.args.self.now (points_on c.args.facet.now)) (ap (λ g. bucket_of g c.in-Some.p) (sym c.grid.ensures.grid) ∙ sym c.bucket_of.ensures.number) (subst (λ (l : List ℕ). IsInHandFor c.args.self.now l (bucket_of c.args.self.now.grid c.in-Some.p)) c.points-points.ensures.points c.in-Some.ensures.1) in
     across_there c.args.self.now c.args.cell.now c.args.facet.now c.bucket_of.result (content_of c.bucket.result.now) (content_of c.bucket.result.now).cells c.requires.shown c.requires.facet held c.bucket.ensures.bucket refl c.in-None-other_at.ensures
 
 pub returns-in-Some-other_at : goal.returns-in-Some-other_at
 returns-in-Some-other_at c = (
-  (bucket_of c.args.self.now.grid c.in-Some.p, subst (λ (l : List ℕ). IsInHandFor c.args.self.now l (bucket_of c.args.self.now.grid c.in-Some.p)) c.facet_points-points.ensures c.in-Some.ensures.1),
+  (bucket_of c.args.self.now.grid c.in-Some.p, subst (λ (l : List ℕ). IsInHandFor c.args.self.now l (bucket_of c.args.self.now.grid c.in-Some.p)) c.points-points.ensures.points c.in-Some.ensures.1),
   across_is c.args.self.now c.args.cell.now c.args.facet.now c.bucket_of.result (content_of c.bucket.result.now) (content_of c.bucket.result.now).cells c.in-Some-other_at.other.cell.now c.bucket.ensures.bucket refl c.in-Some-other_at.ensures,
 )

@@ -1,6 +1,6 @@
 use Rattle.std.proofs.Common.{take}
 use Rattle.std.specs.List.{flat_map}
-use Rattle.cell_store.specs.Swaps.{AreSameCells}
+use Rattle.point_order.specs.CellOrder.{AreSameCells}
 use Rattle.cell_store.proofs.MeshLaws.{cells_of}
 use Rattle.cell_store.proofs.hold.Hold.all_cells.Given as goal
 

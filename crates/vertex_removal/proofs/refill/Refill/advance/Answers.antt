@@ -6,7 +6,7 @@ use Rattle.point_order.specs.Sets.{IsIn, without_point}
 use Rattle.point_order.specs.Solid.{is_solid}
 use Rattle.hole_laws.specs.Edits.{IsLinkSet}
 use Rattle.cell_store.specs.Ready.{AreHeld}
-use Rattle.cavity.specs.Exploring.{IsCellMissing}
+use Rattle.cell_store.specs.Missing.{IsCellMissing}
 use Rattle.cell_store.proofs.Cited.{solid_set}
 use Rattle.vertex_removal.specs.Near.{AreTaken}
 use Rattle.vertex_removal.specs.Turns.{IsNeeded, RefillGives}
