@@ -15,12 +15,12 @@ use Rattle.point_order.specs.Subsets.{subsets}
 use Rattle.del_laws.specs.Keys.{AreKeys}
 use Rattle.del_laws.proofs.Cited.{listed_every_point, listed_is_cell, part_ascending, part_inside, part_true}
 use Rattle.face_list.specs.Faces.{full_cells, parts_in, cells_with, with_cells, points_with_cells}
-use Rattle.face_list.proofs.Cited.{full_cell_is_listed, listed_is_full_cell, listed_is_part, part_is_listed}
+use Rattle.face_list.proofs.Cited.{full_cell_is_listed, listed_is_full_cell, listed_is_part, part_is_listed, part_length}
 use Rattle.gabriel_faces.specs.Gabriel.{is_gabriel}
 use Rattle.alpha_complex.specs.Admitted.{is_within, faces_inside, contains, is_small, is_admitted, is_admitted_cell, kind_by, kind}
 use Rattle.alpha_complex.specs.Judged.{is_listed, is_small_cell, is_listed_around, covers, is_small_by, small_among, is_admitted_triple, is_admitted_pair, kinds_by}
 use Rattle.alpha_complex.specs.Shapes.{admitted_among}
-use Rattle.alpha_complex.proofs.Parts.{part_length, contained_true, contains_itself, contains_through, not_in_shorter, whole_only, same_face}
+use Rattle.alpha_complex.proofs.Parts.{contained_true, contains_itself, contains_through, not_in_shorter, whole_only, same_face}
 use Rattle.alpha_complex.proofs.SmallFaces.{listed_from, listed_true, all_same, any_same, small_are}
 
 -- ---- Full cells of a complex

@@ -3,9 +3,10 @@ use Rattle.std.proofs.Common.{◌≡◌, refl, sym, subst, ap, ◌∙◌, ℕ, z
 use Rattle.std.specs.Prelude.{not, ◌&&◌, ◌||◌}
 use Rattle.std.specs.List.{range_with_len, AllZip, filter, flat_map, list_all, list_any}
 use Rattle.std.proofs.lemmas.Bool.Decides.{nat_tests}
-use Rattle.std.proofs.lemmas.List.{drop_more}
+use Rattle.std.proofs.lemmas.List.{drop_all, drop_more}
 use Rattle.std.proofs.lemmas.List.Elements.{filter-append}
 use Rattle.std.proofs.lemmas.List.Folds.{list_all-append}
+use Rattle.std.proofs.Math.Bool.{and-true, and_assoc, or-false, or_assoc}
 use Rattle.point_order.specs.declared.cell.Cell.{Cell}
 use Rattle.point_order.specs.declared.cell.Facet.{Facet}
 use Rattle.point_order.specs.Facets.{points_of}
@@ -31,22 +32,6 @@ beyond a l = grind (arith, nat_tests)
 from_0 : (a : ℕ) → nat_le 0 a ≡ true
 from_0 a = grind (arith, nat_tests)
 
-or_assoc : (a b c : Bool) → ((a || b) || c) ≡ (a || (b || c))
-or_assoc true b c = refl
-or_assoc false b c = refl
-
-and_assoc : (a b c : Bool) → ((a && b) && c) ≡ (a && (b && c))
-and_assoc true b c = refl
-and_assoc false b c = refl
-
-or_false : (a : Bool) → (a || false) ≡ a
-or_false true = refl
-or_false false = refl
-
-and_true : (a : Bool) → (a && true) ≡ a
-and_true true = refl
-and_true false = refl
-
 -- a test that never passes
 pub never_least : (t : ℕ → Bool) → ((a : ℕ) → a < 2 ^ 30 → t a ≡ false) → IsLeastOf t 1073741824
 never_least t f a l = f a l ∙ sym (beyond a l)
@@ -63,7 +48,7 @@ either_least t u m n h k a l = ap (λ b. b || u a) (h a l) ∙ ap (λ b. nat_le 
 pub four_least :
     (t u v w : ℕ → Bool) (k l m n : ℕ) → IsLeastOf t k → IsLeastOf u l → IsLeastOf v m → IsLeastOf w n → IsLeastOf (λ a. t a || (u a || (v a || (w a || false)))) (min k (min l (min m n)))
 four_least t u v w k l m n p q r s a e =
-    ap (λ b. t a || (u a || (v a || b))) (or_false (w a))
+    ap (λ b. t a || (u a || (v a || b))) (or-false (w a))
     ∙ either_least t (λ a. u a || (v a || w a)) k (min l (min m n)) p (either_least u (λ a. v a || w a) l (min m n) q (either_least v w m n r s)) a e
 
 -- one of four facets
@@ -102,13 +87,7 @@ any_step {N} {X} t f ns i d least m r h e q left a l =
 
 pub any_end : {N X : Type 0} (t : ℕ → X → Bool) (f : N → X) (ns : List N) (i least : ℕ) → length ns ≡ i → AnyLeft t f ns i least → IsLeastOf (λ a. list_any (t a) (map f ns)) least
 any_end {N} {X} t f ns i least e left a l =
-    sym (left a l) ∙ ap (λ (v : List N). nat_le least a || list_any (t a) (map f v)) (none ns i e) ∙ or_false (nat_le least a)
-  where
-    none : (ns : List N) (i : ℕ) → length ns ≡ i → drop i ns ≡ []
-    none [] zero e = refl
-    none [] (suc i) e = refl
-    none (x ∷ ns) zero e = absurd (omega (arith, e))
-    none (x ∷ ns) (suc i) e = none ns i (omega (arith, e))
+    sym (left a l) ∙ ap (λ (v : List N). nat_le least a || list_any (t a) (map f v)) (drop_all i ns (omega (arith, e))) ∙ or-false (nat_le least a)
 
 pub all_step :
     {N X : Type 0} (t : ℕ → X → Bool) (f : N → X) (ns : List N) (i : ℕ) (d : N) (most m r : ℕ) → i < length ns → IsLeastOf (λ a. t a (f (get_or ns i d))) m →
@@ -123,28 +102,11 @@ all_step {N} {X} t f ns i d most m r h e q left a l =
 
 pub all_end : {N X : Type 0} (t : ℕ → X → Bool) (f : N → X) (ns : List N) (i most : ℕ) → length ns ≡ i → AllLeft t f ns i most → IsLeastOf (λ a. list_all (t a) (map f ns)) most
 all_end {N} {X} t f ns i most e left a l =
-    sym (left a l) ∙ ap (λ (v : List N). nat_le most a && list_all (t a) (map f v)) (none ns i e) ∙ and_true (nat_le most a)
-  where
-    none : (ns : List N) (i : ℕ) → length ns ≡ i → drop i ns ≡ []
-    none [] zero e = refl
-    none [] (suc i) e = refl
-    none (x ∷ ns) zero e = absurd (omega (arith, e))
-    none (x ∷ ns) (suc i) e = none ns i (omega (arith, e))
+    sym (left a l) ∙ ap (λ (v : List N). nat_le most a && list_all (t a) (map f v)) (drop_all i ns (omega (arith, e))) ∙ and-true (nat_le most a)
 
 -- ---- lists of numbers
 
-pub length_mapped : {X Y : Type 0} (f : X → Y) (xs : List X) → length (map f xs) ≡ length xs
-length_mapped f [] = refl
-length_mapped f (x ∷ xs) = ap suc (length_mapped f xs)
-
--- they are as many
-pub zip_length : {X Y : Type 0} (R : X → Y → Type 0) (xs : List X) (ys : List Y) → AllZip R xs ys → length xs ≡ length ys
-zip_length R [] [] z = refl
-zip_length R [] (y ∷ ys) z = absurd z
-zip_length R (x ∷ xs) [] z = absurd z
-zip_length R (x ∷ xs) (y ∷ ys) z = ap suc (zip_length R xs ys z.1)
-
--- and each is of its element
+-- of lists that are paired each is of its element
 pub zip_at : {X Y : Type 0} (R : X → Y → Type 0) (xs : List X) (ys : List Y) (i : ℕ) (d : X) (e : Y) → AllZip R xs ys → i < length xs → R (get_or xs i d) (get_or ys i e)
 zip_at R [] ys i d e z h = absurd (omega (arith, h))
 zip_at R (x ∷ xs) [] i d e z h = absurd z

@@ -12,9 +12,8 @@ use Rattle.point_order.specs.declared.cell.Cell.{Cell}
 use Rattle.point_order.specs.Sets.{IsIn}
 use Rattle.alpha_complex.specs.Judged.{is_listed, is_small_by, small_among}
 use Rattle.alpha_complex.specs.Leasts.{AreOrdered}
-use Rattle.std.proofs.lemmas.List.{get_or-map}
-use Rattle.list_laws.proofs.Cited.{any_true, at_in, each_by, filtered_from, filtered_true, itself, mapped_from, mapped_true, same_test, true_or_false}
-use Rattle.alpha_complex.proofs.Leasts.{length_mapped}
+use Rattle.std.proofs.lemmas.List.{get_or-map, length-map}
+use Rattle.list_laws.proofs.Cited.{any_true, at_in, each_by, filtered_from, filtered_true, itself, mapped_from, mapped_true, same_list, same_test, true_or_false}
 use Rattle.alpha_complex.proofs.SmallFaces.{listed_from, listed_true}
 
 -- of faces in order no two have the same points
@@ -37,16 +36,12 @@ listed_small a faces t e = (
     let m = filtered_from (is_small_by a) faces k.0 k.1 in
     (k.0, m.0, k.2, m.1))
 
--- what ties is one
-tied : (p q : List ℕ) → slice_cmp nat_cmp p q ≡ Equal → p ≡ q
-tied p q e = (bytes_eq-Decides p q).0 (sym (is_eq-slice_cmp p q) ∙ ap is_eq e)
-
 -- the face that a search finds
 pub found_at : (faces : List (List ℕ × List Cell)) (keys : List (List ℕ)) (t : List ℕ) (i : ℕ) → keys ≡ map (λ f. f.0) faces → i < length keys → slice_cmp nat_cmp (get_or keys i t) t ≡ Equal → (i < length faces) × ((get_or faces i ([], [])).0 ≡ t)
 found_at faces keys t i e h c = (
-    let m = ap length e ∙ length_mapped (λ (f : List ℕ × List Cell). f.0) faces in
+    let m = ap length e ∙ length-map faces (λ (f : List ℕ × List Cell). f.0) in
     let n : i < length faces = omega (arith, h, m) in
-    (n, sym (get_or-map (λ (f : List ℕ × List Cell). f.0) faces i ([], []) t n) ∙ ap (λ (v : List (List ℕ)). get_or v i t) (sym e) ∙ tied (get_or keys i t) t c))
+    (n, sym (get_or-map (λ (f : List ℕ × List Cell). f.0) faces i ([], []) t n) ∙ ap (λ (v : List (List ℕ)). get_or v i t) (sym e) ∙ same_list (get_or keys i t) t c))
 
 -- the face that has the points tells whether they are listed
 pub listed_found : (a : ℕ) (faces : List (List ℕ × List Cell)) (t : List ℕ) (i : ℕ) (d : List ℕ × List Cell) → AreOrdered faces → i < length faces → (get_or faces i d).0 ≡ t → is_listed (small_among a faces) t ≡ is_small_by a (get_or faces i d)

@@ -1,21 +1,10 @@
 -- Parts of ascending lists of points: how long they are, and which parts contain which.
-use Rattle.std.proofs.Common.{◌≡◌, refl, sym, subst, ap, ◌∙◌, ℕ, zero, suc, ◌<◌, inl, inr, true, List, [], ◌∷◌, map, length, arith}
+use Rattle.std.proofs.Common.{◌≡◌, sym, subst, ap, ◌∙◌, ℕ, zero, suc, ◌<◌, inl, inr, true, List, [], ◌∷◌, map, length, arith}
 use Rattle.list_laws.proofs.Cited.{all_from, all_true, among_from, among_true, from_append, mapped_from}
 use Rattle.point_order.specs.Sets.{IsIn, IsAscending, is_among}
 use Rattle.point_order.specs.Subsets.{subsets}
 use Rattle.del_laws.proofs.Cited.{part_true}
 use Rattle.alpha_complex.specs.Admitted.{contains}
-
--- a part with k points has k points
-pub part_length : (k : ℕ) (s q : List ℕ) → IsIn q (subsets k s) → length q ≡ k
-part_length zero s q m = elim m [ inl e ↦ subst (λ (v : List ℕ). length v ≡ zero) e refl | inr none ↦ absurd none ]
-part_length (suc k) [] q m = absurd m
-part_length (suc k) (x ∷ s) q m = elim (from_append q (map (λ r. x ∷ r) (subsets k s)) (subsets (suc k) s) m) [
-  | inl l ↦ (
-      let r = mapped_from (λ r. x ∷ r) q (subsets k s) l in
-      subst (λ (v : List ℕ). length v ≡ suc k) r.2 (ap suc (part_length k s r.0 r.1)))
-  | inr l ↦ part_length (suc k) s q l
-]
 
 -- a list has no part that is longer
 no_longer : (k : ℕ) (t p : List ℕ) → length t < k → IsIn p (subsets k t) → ⊥

@@ -1,6 +1,7 @@
 -- The lists of a shape, by the lists of faces of a complex.
 use Rattle.std.proofs.Common.{◌≡◌, ap, ◌∙◌, ℕ, List}
 use Rattle.std.specs.List.{filter}
+use Rattle.list_laws.proofs.Cited.{same_filter}
 use Rattle.point_order.specs.declared.cell.Cell.{Cell}
 use Rattle.point_order.specs.Complex.{complex}
 use Rattle.point_order.specs.Sets.{IsAscending}
@@ -13,7 +14,7 @@ use Rattle.alpha_complex.specs.Condition.{AreFaces, AreFacesOf}
 use Rattle.alpha_complex.specs.Judged.{is_admitted_triple, is_admitted_pair, kinds_by}
 use Rattle.alpha_complex.specs.Leasts.{AreOrdered}
 use Rattle.alpha_complex.specs.Shapes.{shape_of}
-use Rattle.alpha_complex.proofs.SmallFaces.{filter_same, firsts_are, small_by_link}
+use Rattle.alpha_complex.proofs.SmallFaces.{firsts_are, small_by_link}
 use Rattle.alpha_complex.proofs.Admission.{Linked, triples_of, admitted_cell_is, admitted_pair_is, admitted_triple_is, kinds_are, point_kinds_are}
 
 -- ---- conditions
@@ -32,7 +33,7 @@ linked s alpha a keys = record { ascending = a; small = λ k p i. small_by_link 
 pub cells_are : (s : List ℕ) (faces : FaceLists) (alpha : ℕ) → AreFacesOf s faces → filter (is_within alpha) (full_cells faces.cells) ≡ (shape_of s alpha).cells
 cells_are s faces alpha h =
     ap (λ (c : List Cell). filter (is_within alpha) (full_cells c)) h.cells
-    ∙ filter_same (is_within alpha) (is_admitted s alpha) (full_cells (complex s)) (λ q i. admitted_cell_is s alpha q h.ascending (listed_is_full_cell (complex s) q i))
+    ∙ same_filter (is_within alpha) (is_admitted s alpha) (full_cells (complex s)) (λ q i. admitted_cell_is s alpha q h.ascending (listed_is_full_cell (complex s) q i))
 
 -- the points
 pub points_are : (s : List ℕ) (faces : FaceLists) (alpha : ℕ) → AreFacesOf s faces → kinds_by alpha faces.points ≡ (shape_of s alpha).points

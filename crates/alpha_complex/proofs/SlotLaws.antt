@@ -3,13 +3,13 @@ use Rattle.std.proofs.Common.{◌≡◌, refl, sym, ap, ◌∙◌, ℕ, zero, su
 use Rattle.std.specs.Prelude.{Option, None, Some, option_map, is_some, count_by, zip}
 use Rattle.std.specs.List.{filter}
 use Rattle.std.proofs.lemmas.List.Sums.{length-filter}
+use Rattle.std.proofs.lemmas.List.{length-map}
 use Rattle.point_order.specs.declared.cell.Cell.{Cell}
 use Rattle.point_order.specs.declared.cell.Cell.TheVariants.{Full, Open}
 use Rattle.alpha_complex.specs.declared.shape.Kind.{Kind}
 use Rattle.alpha_complex.specs.declared.shape.Shape.TheInside.{Inside}
 use Rattle.alpha_complex.specs.Slots.{ShapeSlots, held, slots_of, marked_cell, cell_slots_of}
 use Rattle.alpha_complex.specs.Seen.{IsShape, slots_seen}
-use Rattle.alpha_complex.proofs.Leasts.{length_mapped}
 
 -- ---- pairs of two lists
 
@@ -73,17 +73,17 @@ held_marked cells marks = sym (length-filter (λ c. is_some (marked_cell c.0 c.1
 
 -- as many kinds as faces
 pub point_count : (s : Inside) → IsShape s → length s.points.items ≡ length (map (λ f. f.0) s.faces.now.points)
-point_count s h = h.points ∙ sym (length_mapped (λ (f : ℕ × List Cell). f.0) s.faces.now.points)
+point_count s h = h.points ∙ sym (length-map s.faces.now.points (λ (f : ℕ × List Cell). f.0))
 
 pub pair_count : (s : Inside) → IsShape s → length s.pairs.items ≡ length (map (λ f. f.0) s.faces.now.pairs)
-pair_count s h = h.pairs ∙ sym (length_mapped (λ (f : List ℕ × List Cell). f.0) s.faces.now.pairs)
+pair_count s h = h.pairs ∙ sym (length-map s.faces.now.pairs (λ (f : List ℕ × List Cell). f.0))
 
 pub triple_count : (s : Inside) → IsShape s → length s.triples.items ≡ length (map (λ f. f.0) s.faces.now.triples)
-triple_count s h = h.triples ∙ sym (length_mapped (λ (f : List ℕ × List Cell). f.0) s.faces.now.triples)
+triple_count s h = h.triples ∙ sym (length-map s.faces.now.triples (λ (f : List ℕ × List Cell). f.0))
 
 -- and as slots
 slots_count : {X : Type 0} (xs : List X) (ks : List (Option Kind)) → length ks ≡ length xs → length ks ≡ length (slots_of xs ks)
-slots_count {X} xs ks e = sym (length_mapped (λ (f : X × Option Kind). option_map (λ kind. (f.0, kind)) f.1) (zip xs ks) ∙ zip_count xs ks e)
+slots_count {X} xs ks e = sym (length-map (zip xs ks) (λ (f : X × Option Kind). option_map (λ kind. (f.0, kind)) f.1) ∙ zip_count xs ks e)
 
 pub points_as_seen : (s : Inside) (v : ShapeSlots) → IsShape s → slots_seen s ≡ v → length s.points.items ≡ length v.points
 points_as_seen s v h e = sym (zip_count (map (λ f. f.0) s.faces.now.points) s.points.items (point_count s h)) ∙ ap (λ (w : ShapeSlots). length w.points) e
@@ -96,7 +96,7 @@ triples_as_seen s v h e = slots_count (map (λ f. f.0) s.faces.now.triples) s.tr
 
 pub cells_as_seen : (s : Inside) (v : ShapeSlots) → IsShape s → slots_seen s ≡ v → length s.cells.items ≡ length v.cells
 cells_as_seen s v h e =
-    sym (length_mapped (λ (c : Cell × Bool). marked_cell c.0 c.1) (zip s.faces.now.cells s.cells.items) ∙ zip_count s.faces.now.cells s.cells.items h.cells)
+    sym (length-map (zip s.faces.now.cells s.cells.items) (λ (c : Cell × Bool). marked_cell c.0 c.1) ∙ zip_count s.faces.now.cells s.cells.items h.cells)
     ∙ ap (λ (w : ShapeSlots). length w.cells) e
 
 -- how many are admitted

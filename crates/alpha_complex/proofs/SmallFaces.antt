@@ -19,17 +19,7 @@ use Rattle.alpha_complex.specs.Judged.{is_listed, is_small_by, small_among}
 
 -- ---- lists
 
--- tests that answer alike at the members of a list keep the same of them
-pub filter_same : {X : Type 0} (p q : X → Bool) (xs : List X) → ((x : X) → IsIn x xs → p x ≡ q x) → filter p xs ≡ filter q xs
-filter_same p q [] f = refl
-filter_same {X} p q (x ∷ xs) f = by_test (p x) refl (filter_same p q xs (λ y i. f y (inr i)))
-  where
-    -- kept or not
-    by_test : (b : Bool) → p x ≡ b → filter p xs ≡ filter q xs → filter p (x ∷ xs) ≡ filter q (x ∷ xs)
-    by_test true e r = (let g : q x ≡ true = sym (f x (inl refl)) ∙ e in rw (e, g) (ap (λ l. x ∷ l) r))
-    by_test false e r = (let g : q x ≡ false = sym (f x (inl refl)) ∙ e in rw (e, g) r)
-
--- and pass all alike
+-- tests that answer alike at the members of a list pass all alike
 pub all_same : {X : Type 0} (p q : X → Bool) (xs : List X) → ((x : X) → IsIn x xs → p x ≡ q x) → list_all p xs ≡ list_all q xs
 all_same p q [] f = refl
 all_same p q (x ∷ xs) f = (

@@ -9,18 +9,19 @@ use Rattle.edit_history.specs.declared.history.Edit.{Edit}
 use Rattle.edit_history.specs.declared.history.Entry.{Entry}
 use Rattle.edit_history.specs.Edits.{point_of, after}
 use Rattle.edit_history.specs.Histories.{replay}
+use Rattle.edit_history.proofs.Cited.{leaves_set}
 use Rattle.hole_laws.specs.Edits.{IsSolidSet}
 use Rattle.cell_store.specs.Swaps.{without_cells}
 use Rattle.cell_store.specs.Shares.{IsSound, share_at}
 use Rattle.cell_store.specs.Changes.{IsChange, IsNext}
 use Rattle.cell_store.specs.Touches.{IsTouched}
-use Rattle.cell_store.proofs.Cited.{all_out, ascending_replay, left_out, next_entry, share_outside}
+use Rattle.cell_store.proofs.Cited.{all_out, left_out, next_entry, share_outside}
 use Rattle.claim_rule.specs.Boards.{BoardState}
 use Rattle.claim_rule.specs.Good.{IsGood}
 use Rattle.claim_rule.specs.Events.{entry_after}
 
 pub set_of : (s : BoardState) (h : List Entry) → IsGood s h → IsSolidSet (replay h)
-set_of s h good = record { set = record { ascending = ascending_replay h; keys = good.keys }; solid = good.solid }
+set_of s h good = record { set = record { ascending = leaves_set h; keys = good.keys }; solid = good.solid }
 
 pub sound : (s : BoardState) (h : List Entry) → IsGood s h → IsSound h
 sound s h good = record { legal = good.legal; set = set_of s h good }

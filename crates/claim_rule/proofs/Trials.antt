@@ -6,7 +6,7 @@ use Rattle.point_order.specs.declared.cell.Cell.{Cell}
 use Rattle.point_order.specs.Complex.{complex}
 use Rattle.point_order.specs.Facets.{points_of}
 use Rattle.point_order.specs.Sets.{IsIn, IsAscending, is_among, with_point}
-use Rattle.point_order.proofs.Cited.{in-with, in-with_new, in-with_old}
+use Rattle.point_order.proofs.Cited.{in_with, in_with_new, in_with_old}
 use Rattle.edit_history.specs.declared.history.Edit.{Edit}
 use Rattle.edit_history.specs.declared.history.Edit.TheVariants.{Add, Take}
 use Rattle.edit_history.specs.declared.history.Reply.TheVariants.{Inserted, Duplicate}
@@ -32,13 +32,13 @@ added p s q = by (is_among p s) refl
       ]),
     )
     by false e = (
-      (λ i. elim (in-with p q s i) [
+      (λ i. elim (in_with p q s i) [
         | inl j ↦ inr j
         | inr j ↦ inl j
       ]),
       (λ k. elim k [
-        | inl i ↦ in-with_old p q s i
-        | inr j ↦ subst (λ (x : ℕ). IsIn x (with_point p s)) j (in-with_new p s)
+        | inl i ↦ in_with_old p q s i
+        | inr j ↦ subst (λ (x : ℕ). IsIn x (with_point p s)) j (in_with_new p s)
       ]),
     )
 

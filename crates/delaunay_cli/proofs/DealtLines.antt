@@ -7,7 +7,7 @@ use Rattle.std.proofs.lemmas.List.{length-map}
 use Rattle.std.proofs.lemmas.List.FromFn.{length-range_with_len}
 use Rattle.std.proofs.lemmas.List.Sorted.{length_permutation}
 use Rattle.std.proofs.Math.Nat.{mod-lt}
-use Rattle.list_laws.proofs.Cited.{EachLater, all_of_each, later-filter, later-map, later-pairs, later-weaken, mapped_from, numbered-lower, numbered-places, passes}
+use Rattle.list_laws.proofs.Cited.{EachLater, all_of_each, later_filter, later_map, later_pairs, later_weaken, mapped_from, numbered_lower, numbered_places, passes, second_true}
 use Rattle.point_order.specs.Sets.{IsIn, is_among}
 use Rattle.edit_history.specs.declared.history.Edit.{Edit}
 use Rattle.edit_history.specs.declared.history.Edit.TheVariants.{Add}
@@ -16,7 +16,7 @@ use Rattle.edit_history.specs.Edits.{point_of}
 use Rattle.edit_history.specs.Histories.{IsLegal}
 use Rattle.edit_history.specs.OneThread.{Keeps, one_thread, places, tagged_lines}
 use Rattle.plain_laws.specs.Running.{Pair, dealt, dealt_to, opening_entries, IsRun}
-use Rattle.plain_laws.proofs.Cited.{all-parts, run_alone, run_keeps}
+use Rattle.plain_laws.proofs.Cited.{all_parts, run_alone, run_keeps}
 use Rattle.edit_workers.specs.Dealing.{AreApart, AreAscending, AreOpening, HaveNoPoint, count_of}
 use Rattle.edit_workers.specs.Running.{AreRun}
 
@@ -38,32 +38,28 @@ module _ (workers : ℕ) (four : List ℕ) (points : List ℕ) (edits : List Edi
     where
       one : (i : ℕ) → AreAscending (dealt_to workers four all i)
       one i =
-          later-pairs (λ (a b : Pair). a.0 < b.0) (dealt_to workers four all i)
-          (later-filter (λ (a b : Pair). a.0 < b.0) (λ line. not (is_among line.0 four) && (point_of line.1 % workers == i)) all (numbered-lower 0 (map Add points ++ edits)))
+          later_pairs (λ (a b : Pair). a.0 < b.0) (dealt_to workers four all i)
+          (later_filter (λ (a b : Pair). a.0 < b.0) (λ line. not (is_among line.0 four) && (point_of line.1 % workers == i)) all (numbered_lower 0 (map Add points ++ edits)))
 
       each : (l : List Pair) → ((i : ℕ) × IsIn i (range_with_len 0 workers) × (dealt_to workers four all i ≡ l)) → AreAscending l
       each l k = subst AreAscending k.2 (one k.0)
 
-  second : (a b : Bool) → (a && b) ≡ true → b ≡ true
-  second true b e = e
-  second false b e = absurd (cc e)
-
   -- a line goes to the worker that its point tells
   dealt_by : (i : ℕ) (a : Pair) → IsIn a (dealt_to workers four all i) → point_of a.1 % workers ≡ i
   dealt_by i a k =
-      eqb-true (point_of a.1 % workers) i (second (not (is_among a.0 four)) (point_of a.1 % workers == i) (passes (λ line. not (is_among line.0 four) && (point_of line.1 % workers == i)) all a k))
+      eqb-true (point_of a.1 % workers) i (second_true (not (is_among a.0 four)) (point_of a.1 % workers == i) (passes (λ line. not (is_among line.0 four) && (point_of line.1 % workers == i)) all a k))
 
   numbers_ascend : EachLater (λ (i j : ℕ). i < j) (range_with_len 0 workers)
   numbers_ascend =
-      subst (EachLater (λ (i j : ℕ). i < j)) (numbered-places 0 (range_with_len 0 workers) ∙ ap (range_with_len 0) (length-range_with_len 0 workers))
-      (later-map (λ (x : ℕ × ℕ). x.0) (λ (i j : ℕ). i < j) (enumerate_from 0 (range_with_len 0 workers)) (numbered-lower 0 (range_with_len 0 workers)))
+      subst (EachLater (λ (i j : ℕ). i < j)) (numbered_places 0 (range_with_len 0 workers) ∙ ap (range_with_len 0) (length-range_with_len 0 workers))
+      (later_map (λ (x : ℕ × ℕ). x.0) (λ (i j : ℕ). i < j) (enumerate_from 0 (range_with_len 0 workers)) (numbered_lower 0 (range_with_len 0 workers)))
 
   -- no point stands in two of the lists
   pub dealt_apart : AreApart lists
   dealt_apart =
-      later-pairs HaveNoPoint lists
-      (later-map (dealt_to workers four all) HaveNoPoint (range_with_len 0 workers)
-      (later-weaken (λ (i j : ℕ). i < j) (λ (i j : ℕ). HaveNoPoint (dealt_to workers four all i) (dealt_to workers four all j)) (range_with_len 0 workers) (λ i j m n l. two i j l) numbers_ascend))
+      later_pairs HaveNoPoint lists
+      (later_map (dealt_to workers four all) HaveNoPoint (range_with_len 0 workers)
+      (later_weaken (λ (i j : ℕ). i < j) (λ (i j : ℕ). HaveNoPoint (dealt_to workers four all i) (dealt_to workers four all j)) (range_with_len 0 workers) (λ i j m n l. two i j l) numbers_ascend))
     where
       two : (i j : ℕ) → i < j → HaveNoPoint (dealt_to workers four all i) (dealt_to workers four all j)
       two i j l a b m n e =
@@ -88,7 +84,7 @@ module _ (workers : ℕ) (four : List ℕ) (points : List ℕ) (edits : List Edi
   pub dealt_few : 0 < workers → count_of lists ≤ length points + length edits
   dealt_few some =
       let e = length_permutation (filter (λ (line : Pair). not (is_among line.0 four)) all) (flat_map (λ l. l) lists)
-      (all-parts (λ (line : Pair). not (is_among line.0 four)) (λ (line : Pair). point_of line.1 % workers) all workers (λ line. mod-lt (point_of line.1) some)) in
+      (all_parts (λ (line : Pair). not (is_among line.0 four)) (λ (line : Pair). point_of line.1 % workers) all workers (λ line. mod-lt (point_of line.1) some)) in
       let f = few_pass (λ (line : Pair). not (is_among line.0 four)) all in
       let n = numbered_length 0 (map Add points ++ edits) in
       omega (arith, e, f, n, length-append (map Add points) edits, length-map points Add)

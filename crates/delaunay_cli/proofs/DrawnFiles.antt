@@ -7,7 +7,7 @@ use Rattle.std.proofs.lemmas.List.FromFn.{length-map-range_with_len}
 use Rattle.point_order.specs.Solid.{is_solid}
 use Rattle.edit_files.specs.Content.{Content}
 use Rattle.edit_files.specs.Generator.{edit_line, generated}
-use Rattle.edit_files.proofs.Cited.{generated-solid}
+use Rattle.edit_files.proofs.Cited.{generated_solid}
 use Rattle.edit_history.specs.declared.history.Entry.{Entry}
 use Rattle.delaunay_cli.specs.declared.made.Made.{Made}
 use Rattle.delaunay_cli.specs.declared.stop.Stop.{Stop}
@@ -19,30 +19,26 @@ use Rattle.delaunay_cli.specs.Drawn.{IsDrawn, IsKeptOfDrawn, drawn_file}
 use Rattle.delaunay_cli.specs.Run.{IsKept}
 use Rattle.delaunay_cli.specs.Words.{DrawsFile, asks_text, drawn_count, drawn_start, worker_count}
 
-pub drawn-lines : (f : Content) (count start : ℕ) → count ≤ 262140 → f ≡ generated count start → length f.points + length f.edits + 4 < 2 ^ 32
-drawn-lines f count start few e =
+pub drawn_lines : (f : Content) (count start : ℕ) → count ≤ 262140 → f ≡ generated count start → length f.points + length f.edits + 4 < 2 ^ 32
+drawn_lines f count start few e =
     let points : length f.points ≡ 4 = ap (λ (g : Content). length g.points) e in
     let edits : length f.edits ≡ count = ap (λ (g : Content). length g.edits) e ∙ length-map-range_with_len (edit_line start) 1 count in
     omega arith
 
-pub drawn-radii : (f : Content) (count start : ℕ) → f ≡ generated count start → All (λ radius. radius < 2 ^ 30) f.radii
-drawn-radii f count start e =
+pub drawn_radii : (f : Content) (count start : ℕ) → f ≡ generated count start → All (λ radius. radius < 2 ^ 30) f.radii
+drawn_radii f count start e =
     subst (λ (g : Content). All (λ radius. radius < 2 ^ 30) g.radii) (sym e)
     (All-cons (λ radius. radius < 2 ^ 30) 16384 (262144 ∷ 4194304 ∷ []) (lit< tt)
     (All-cons (λ radius. radius < 2 ^ 30) 262144 (4194304 ∷ []) (lit< tt)
     (All-cons (λ radius. radius < 2 ^ 30) 4194304 [] (lit< tt) (All-nil (λ radius. radius < 2 ^ 30)))))
 
-drawn-solid : (f : Content) (count start : ℕ) → f ≡ generated count start → is_solid f.points ≡ true
-drawn-solid f count start e = ap (λ (g : Content). is_solid g.points) e ∙ generated-solid count start
-
--- a file is not both read and drawn
-pub not_both : (b : Bool) → b ≡ false → b ≡ true → ⊥
-not_both b e k = cc
+drawn_solid : (f : Content) (count start : ℕ) → f ≡ generated count start → is_solid f.points ≡ true
+drawn_solid f count start e = ap (λ (g : Content). is_solid g.points) e ∙ generated_solid count start
 
 -- where a drawn file has no mesh, memory is wanting
-pub unmeshed-drawn : (f : Content) (count start : ℕ) → f ≡ generated count start → (stop : Stop) → IsUnmeshed f stop → stop ≡ Memory
-unmeshed-drawn f count start e stop (inl m) = m
-unmeshed-drawn f count start e stop (inr k) = absurd (let solid = drawn-solid f count start e in let flat = k.1 in cc)
+pub unmeshed_drawn : (f : Content) (count start : ℕ) → f ≡ generated count start → (stop : Stop) → IsUnmeshed f stop → stop ≡ Memory
+unmeshed_drawn f count start e stop (inl m) = m
+unmeshed_drawn f count start e stop (inr k) = absurd (let solid = drawn_solid f count start e in let flat = k.1 in cc)
 
 -- and it ends so
 pub wanting : (m : Result Made Stop) (stop : Stop) → IsErrAnd m (λ e. e ≡ stop) → stop ≡ Memory → IfErr m (λ e. e ≡ Memory)
@@ -50,15 +46,15 @@ wanting (Ok made) stop a e = tt
 wanting (Err s) stop a e = a ∙ e
 
 -- what is made of the file that was read of the words is that of the file that they ask for
-pub drawn-asked : (making : Making) (drawn : Drawn) (words : List (String Global)) (h : List Entry) (text : List ℕ) →
+pub drawn_asked : (making : Making) (drawn : Drawn) (words : List (String Global)) (h : List Entry) (text : List ℕ) →
     DrawsFile words × (drawn.count ≡ drawn_count words) × (drawn.start ≡ drawn_start words) × (drawn.text ≡ asks_text words) × (making.workers ≡ worker_count words) →
     IsDrawn drawn.text making.workers (generated drawn.count drawn.start) h text → IsDrawn (asks_text words) (worker_count words) (drawn_file words) h text
-drawn-asked making drawn words h text k x =
+drawn_asked making drawn words h text k x =
     subst (λ (n : ℕ). IsDrawn (asks_text words) n (drawn_file words) h text) k.4
     (subst (λ (n : ℕ). IsDrawn (asks_text words) making.workers (generated (drawn_count words) n) h text) k.2
     (subst (λ (n : ℕ). IsDrawn (asks_text words) making.workers (generated n drawn.start) h text) k.1
     (subst (λ (b : Bool). IsDrawn b making.workers (generated drawn.count drawn.start) h text) k.3 x)))
 
 -- what is kept of a drawn file whose text is not asked for
-pub kept-meshed : (text : Bool) (file : Content) (workers : ℕ) (h : List Entry) → text ≡ false → IsKeptOfDrawn text file workers h → IsKept file workers h
-kept-meshed text file workers h t k = subst (λ (b : Bool). IsKeptOfDrawn b file workers h) t k
+pub kept_meshed : (text : Bool) (file : Content) (workers : ℕ) (h : List Entry) → text ≡ false → IsKeptOfDrawn text file workers h → IsKept file workers h
+kept_meshed text file workers h t k = subst (λ (b : Bool). IsKeptOfDrawn b file workers h) t k

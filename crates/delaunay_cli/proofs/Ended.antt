@@ -3,7 +3,8 @@ use Rattle.std.specs.declared.alloc.Global.{Global}
 use Rattle.std.specs.Prelude.{Option, None, Some, IfSome, IfOk, IfErr, IsOk, Result, Ok, Err, String}
 use Rattle.std.specs.Io.KnownBytes.{Appends, Keeps, IsAtEnd}
 use Rattle.std.proofs.Common.{◌≡◌, ◌≢◌, ◌⊎◌, ◌↔◌, inl, inr, refl, sym, subst, ap, ◌∙◌, ℕ, ◌≤◌, Bool, List, [], false, arith, ◌<◌, length}
-use Rattle.std.proofs.lemmas.Bool.{cases_eq}
+use Rattle.std.proofs.lemmas.Bool.{both_ways, cases_eq}
+use Rattle.list_laws.proofs.Cited.{if_some}
 use Rattle.byte_ends.specs.Ends.{AppendsFront}
 use Rattle.point_order.specs.Solid.{is_solid}
 use Rattle.edit_history.specs.declared.history.Entry.{Entry}
@@ -32,60 +33,56 @@ use Rattle.delaunay_cli.specs.Drawn.{IsDrawn}
 use Rattle.delaunay_cli.specs.Tasks.{IsTask}
 use Rattle.delaunay_cli.specs.PlainText.{plain_drawn, plain_text}
 use Rattle.delaunay_cli.specs.Report.{text_of}
-use Rattle.delaunay_cli.proofs.DrawnFiles.{not_both, drawn-asked}
-use Rattle.delaunay_cli.proofs.CommandLine.{draws-file, reads-file}
+use Rattle.delaunay_cli.proofs.DrawnFiles.{drawn_asked}
+use Rattle.delaunay_cli.proofs.CommandLine.{draws_file, reads_file}
 use Rattle.delaunay_cli.proofs.PlainTexts.{drawn_is_plain, kept_is_plain}
 
--- what holds of what the source told
-pub if-some : (P Q : List ℕ → Type 0) → ((bytes : List ℕ) → P bytes → Q bytes) → (left : Option (List ℕ)) → IfSome left P → IfSome left Q
-if-some P Q f None h = tt
-if-some P Q f (Some bytes) h = f bytes h
+-- a status that is 0 or 4 is no other
+no_other : (status : ℕ) → (status ≡ 0) ⊎ (status ≡ 4) → (k : ℕ) → 0 ≢ k → 4 ≢ k → status ≡ k → ⊥
+no_other status s k a b e = elim s [ inl z ↦ a (sym z ∙ e) | inr z ↦ b (sym z ∙ e) ]
 
 -- of bytes with a report, none of the statuses 5, 6 and 7 comes
-verdict-reported : (status workers : ℕ) (shape order : Bool) (h : List Entry) (text bytes : List ℕ) → (status ≡ 0) ⊎ (status ≡ 4) → IsReported workers shape order h text bytes → IsVerdict status bytes
-verdict-reported status workers shape order h text bytes s r =
+verdict_reported : (status workers : ℕ) (shape order : Bool) (h : List Entry) (text bytes : List ℕ) → (status ≡ 0) ⊎ (status ≡ 4) → IsReported workers shape order h text bytes → IsVerdict status bytes
+verdict_reported status workers shape order h text bytes s r =
     record {
-      too_long = (λ e. absurd (not 7 (λ k. omega (arith, k)) (λ k. omega (arith, k)) e), λ l. absurd (let w = r.within in omega (arith, l, w)));
-      bad_line = λ n. (λ e. absurd (not 5 (λ k. omega (arith, k)) (λ k. omega (arith, k)) e), λ k. absurd (no_fault_of line_limit bytes r.file k.0 r.is_file k.1));
-      not_solid = λ n file is. (λ e. absurd (not 6 (λ k. omega (arith, k)) (λ k. omega (arith, k)) e), λ flat. absurd (let w = ap (λ (f : Content). is_solid f.points) (one_file_of line_limit bytes r.file file r.is_file is) in let t = r.solid in cc));
+      too_long = (λ e. absurd (no_other status s 7 (λ k. omega (arith, k)) (λ k. omega (arith, k)) e), λ l. absurd (let w = r.within in omega (arith, l, w)));
+      bad_line = λ n. (λ e. absurd (no_other status s 5 (λ k. omega (arith, k)) (λ k. omega (arith, k)) e), λ k. absurd (no_fault_of line_limit bytes r.file k.0 r.is_file k.1));
+      not_solid = λ n file is. (λ e. absurd (no_other status s 6 (λ k. omega (arith, k)) (λ k. omega (arith, k)) e), λ flat. absurd (let w = ap (λ (f : Content). is_solid f.points) (one_file_of line_limit bytes r.file file r.is_file is) in let t = r.solid in cc));
     }
-  where
-    not : (k : ℕ) → 0 ≢ k → 4 ≢ k → status ≡ k → ⊥
-    not k a b e = elim s [ inl z ↦ a (sym z ∙ e) | inr z ↦ b (sym z ∙ e) ]
 
 -- of bytes without one, each comes with its cause
-verdict-unreported : (left : Option (List ℕ)) (failed : Type 0) (stop : Stop) → IsUnreported left failed stop → (IsEarly (status_of stop) → ⊥) → IfSome left (IsVerdict (status_of stop))
-verdict-unreported None failed stop s late = tt
-verdict-unreported (Some bytes) failed Memory s late = absurd (late (inl refl))
-verdict-unreported (Some bytes) failed Usage s late = absurd s
-verdict-unreported (Some bytes) failed ReadFault s late = absurd (late (inr (inr refl)))
-verdict-unreported (Some bytes) failed WriteFault s late = absurd s
-verdict-unreported (Some bytes) failed (BadLine line) s late =
+verdict_unreported : (left : Option (List ℕ)) (failed : Type 0) (stop : Stop) → IsUnreported left failed stop → (IsEarly (status_of stop) → ⊥) → IfSome left (IsVerdict (status_of stop))
+verdict_unreported None failed stop s late = tt
+verdict_unreported (Some bytes) failed Memory s late = absurd (late (inl refl))
+verdict_unreported (Some bytes) failed Usage s late = absurd s
+verdict_unreported (Some bytes) failed ReadFault s late = absurd (late (inr (inr refl)))
+verdict_unreported (Some bytes) failed WriteFault s late = absurd s
+verdict_unreported (Some bytes) failed (BadLine line) s late =
     record {
       too_long = (λ e. absurd (omega (arith, e)), λ l. absurd (let w = s.1 in omega (arith, l, w)));
       bad_line = λ n. (λ e. (s.0.fault, s.0.cause), λ k. refl);
       not_solid = λ n file is. (λ e. absurd (omega (arith, e)), λ flat. absurd (no_fault_of line_limit bytes file s.0.fault is s.0.cause));
     }
-verdict-unreported (Some bytes) failed Flat s late =
+verdict_unreported (Some bytes) failed Flat s late =
     record {
       too_long = (λ e. absurd (omega (arith, e)), λ l. absurd (let w = s.0 in omega (arith, l, w)));
       bad_line = λ n. (λ e. absurd (omega (arith, e)), λ k. absurd (no_fault_of line_limit bytes s.1.0 k.0 s.1.1 k.1));
       not_solid = λ n file is. (λ e. subst (λ (f : Content). is_solid f.points ≡ false) (one_file_of line_limit bytes s.1.0 file s.1.1 is) s.1.2, λ flat. refl);
     }
-verdict-unreported (Some bytes) failed TooLong s late =
+verdict_unreported (Some bytes) failed TooLong s late =
     record { too_long = (λ e. s, λ l. refl); bad_line = λ n. absurd (n refl); not_solid = λ n. absurd (n refl) }
 
 -- where there is no report, the status is one of 1, 3, 5, 6 and 7, and 3 where the source failed
-status-unreported : (left : Option (List ℕ)) (failed : Type 0) (stop : Stop) → IsUnreported left failed stop →
+status_unreported : (left : Option (List ℕ)) (failed : Type 0) (stop : Stop) → IsUnreported left failed stop →
     (status_of stop ≤ 7) × (status_of stop ≢ 0) × (status_of stop ≢ 2) × (status_of stop ≢ 4) × (status_of stop ≡ 3 → failed)
-status-unreported left failed Usage s = absurd s
-status-unreported left failed WriteFault s = absurd s
-status-unreported left failed ReadFault s = (omega arith, λ e. omega (arith, e), λ e. omega (arith, e), λ e. omega (arith, e), λ e. s)
-status-unreported left failed stop s = (omega arith, λ e. omega (arith, e), λ e. omega (arith, e), λ e. omega (arith, e), λ e. absurd (omega (arith, e)))
+status_unreported left failed Usage s = absurd s
+status_unreported left failed WriteFault s = absurd s
+status_unreported left failed ReadFault s = (omega arith, λ e. omega (arith, e), λ e. omega (arith, e), λ e. omega (arith, e), λ e. s)
+status_unreported left failed stop s = (omega arith, λ e. omega (arith, e), λ e. omega (arith, e), λ e. omega (arith, e), λ e. absurd (omega (arith, e)))
 
 -- where all is read, a front that is written changes nothing of that
-reads-front : (old new : Option (List ℕ)) → Reads old new 0 → Reads old new 4
-reads-front old new r =
+reads_front : (old new : Option (List ℕ)) → Reads old new 0 → Reads old new 4
+reads_front old new r =
     record {
       taken = r.taken;
       consumed = r.consumed;
@@ -95,8 +92,8 @@ reads-front old new r =
     }
 
 -- and so where memory is wanting then
-reads-stopped : (old new : Option (List ℕ)) → Reads old new 0 → Reads old new 1
-reads-stopped old new r = record { taken = r.taken; consumed = r.consumed; within = r.within; whole = λ late. absurd (late (inl refl)); past = λ e. inr refl }
+reads_stopped : (old new : Option (List ℕ)) → Reads old new 0 → Reads old new 1
+reads_stopped old new r = record { taken = r.taken; consumed = r.consumed; within = r.within; whole = λ late. absurd (late (inl refl)); past = λ e. inr refl }
 
 module _ (words : List (String Global)) (left_old left_new : Option (List ℕ)) (read_failed : Type 0) (held holds : Option (List ℕ)) (write_failed : Type 0) where
   -- a run that stopped before a write
@@ -129,8 +126,8 @@ module _ (words : List (String Global)) (left_old left_new : Option (List ℕ)) 
   stopped Usage s reads keeps =
       unmade 2 (omega arith, λ e. omega (arith, e), λ e. omega (arith, e)) (λ n. (λ e. s, λ k. refl)) (λ e. absurd (omega (arith, e))) (λ r late. absurd (late (inr (inl refl)))) reads (λ d. omega arith) keeps
   stopped stop s reads keeps =
-      let n = status-unreported left_old read_failed stop s.2 in
-      unmade (status_of stop) (n.0, n.1, n.3) (λ k. (λ e. absurd (n.2 e), λ t. absurd (t s.0))) n.4 (λ r late. verdict-unreported left_old read_failed stop s.2 late) reads (λ d. absurd (not_both _ s.1 d)) keeps
+      let n = status_unreported left_old read_failed stop s.2 in
+      unmade (status_of stop) (n.0, n.1, n.3) (λ k. (λ e. absurd (n.2 e), λ t. absurd (t s.0))) n.4 (λ r late. verdict_unreported left_old read_failed stop s.2 late) reads (λ d. absurd (both_ways _ s.1 d)) keeps
 
   -- a run that wrote
   made : (h : List Entry) (text : List ℕ) → IsLegal h → IsMade words left_old h text → (ReadsFile words → IsAtEnd left_new) → (status : ℕ) → (status ≡ 0) ⊎ (status ≡ 4) → (ReadsFile words → Reads left_old left_new status)
@@ -138,10 +135,10 @@ module _ (words : List (String Global)) (left_old left_new : Option (List ℕ)) 
   made h text legal m end status s reads failed whole front =
       record {
         statuses = elim s [ inl z ↦ omega (arith, z) | inr z ↦ omega (arith, z) ];
-        usage = λ n. (λ e. absurd (not 2 (λ k. omega (arith, k)) (λ k. omega (arith, k)) e), λ k. absurd (k m.taken));
-        read_fault = λ e. absurd (not 3 (λ k. omega (arith, k)) (λ k. omega (arith, k)) e);
+        usage = λ n. (λ e. absurd (no_other status s 2 (λ k. omega (arith, k)) (λ k. omega (arith, k)) e), λ k. absurd (k m.taken));
+        read_fault = λ e. absurd (no_other status s 3 (λ k. omega (arith, k)) (λ k. omega (arith, k)) e);
         write_fault = failed;
-        verdict = λ r late. if-some (IsReported (worker_count words) (asks_shape words) (asks_order words) h text) (IsVerdict status) (λ bytes. verdict-reported status (worker_count words) (asks_shape words) (asks_order words) h text bytes s) left_old (m.read r);
+        verdict = λ r late. if_some (IsReported (worker_count words) (asks_shape words) (asks_order words) h text) (IsVerdict status) left_old (λ bytes. verdict_reported status (worker_count words) (asks_shape words) (asks_order words) h text bytes s) (m.read r);
         reads = reads;
         to_its_end = λ r e. end r;
         drawn_statuses = λ d. elim s [ inl z ↦ inl (omega (arith, z)) | inr z ↦ inr z ];
@@ -153,9 +150,6 @@ module _ (words : List (String Global)) (left_old left_new : Option (List ℕ)) 
         none_kept = λ a b. absurd (elim s [ inl z ↦ a z | inr z ↦ b z ]);
         nothing = λ a b. absurd (elim s [ inl z ↦ a z | inr z ↦ b z ]);
       }
-    where
-      not : (k : ℕ) → 0 ≢ k → 4 ≢ k → status ≡ k → ⊥
-      not k a b e = elim s [ inl z ↦ a (sym z ∙ e) | inr z ↦ b (sym z ∙ e) ]
 
   -- the end of a run, of what was made and how the write ended
   pub ends : (m : Result Made Stop) (stop : Option Stop) (status : ℕ) (h : List Entry) → IfOk m IsSound → IfOk m (λ made. IsMade words left_old made.kept.items (text_of_page made.page)) → IfErr m (IsUnmade words left_old read_failed)
@@ -176,10 +170,10 @@ module _ (words : List (String Global)) (left_old left_new : Option (List ℕ)) 
           kept w.1 (made v.kept.items (text_of_page v.page) sound.legal m (λ r. end r refl) status (inl z) (λ r. subst (λ (n : ℕ). Reads left_old left_new n) (sym z) (reads r)) (λ k. absurd (omega (arith, z, k))) (λ k. w.2) (λ k. absurd (omega (arith, z, k))))
       by (inr (inl w)) =
           let z = e ∙ ap status_of_end w.0 in
-          kept w.1 (made v.kept.items (text_of_page v.page) sound.legal m (λ r. end r refl) status (inr z) (λ r. subst (λ (n : ℕ). Reads left_old left_new n) (sym z) (reads-front left_old left_new (reads r))) (λ k. w.2) (λ k. absurd (omega (arith, z, k))) (λ k. w.3))
+          kept w.1 (made v.kept.items (text_of_page v.page) sound.legal m (λ r. end r refl) status (inr z) (λ r. subst (λ (n : ℕ). Reads left_old left_new n) (sym z) (reads_front left_old left_new (reads r))) (λ k. w.2) (λ k. absurd (omega (arith, z, k))) (λ k. w.3))
       by (inr (inr w)) =
           subst (λ (n : ℕ). Ends words left_old left_new read_failed held holds write_failed n h) (sym (e ∙ ap status_of_end w.0))
-          (subst (λ (l : List Entry). Ends words left_old left_new read_failed held holds write_failed 1 l) (sym w.1) (stopped Memory tt (λ r. reads-stopped left_old left_new (reads r)) w.2))
+          (subst (λ (l : List Entry). Ends words left_old left_new read_failed held holds write_failed 1 l) (sym w.1) (stopped Memory tt (λ r. reads_stopped left_old left_new (reads r)) w.2))
 
   -- and its line
   pub told : (m : Result Made Stop) (stop : Option Stop) (status : ℕ) (h : List Entry) → IfErr m (IsUnmade words left_old read_failed) → status ≡ status_of_end stop
@@ -204,11 +198,11 @@ module _ (words : List (String Global)) (left_old left_new : Option (List ℕ)) 
 
 module _ (words : List (String Global)) (left : Option (List ℕ)) (failed : Type 0) (making : Making) (taken : AreTaken words) where
   -- `mesh` and `shape`
-  pub reported-made : (asked : Asked) → IsTask words (Report making asked) → (m : Result Made Stop)
+  pub reported_made : (asked : Asked) → IsTask words (Report making asked) → (m : Result Made Stop)
       → IfOk m (λ made. IfSome left (IsReported making.workers asked.shape asked.order made.kept.items (text_of_page made.page))) → IfOk m (λ made. IsMade words left made.kept.items (text_of_page made.page))
-  reported-made asked t (Err stop) r = tt
-  reported-made asked t (Ok made) r =
-      let k = reads-file words making asked t in
+  reported_made asked t (Err stop) r = tt
+  reported_made asked t (Ok made) r =
+      let k = reads_file words making asked t in
       let h = made.kept.items in
       let text = text_of_page made.page in
       record {
@@ -217,22 +211,22 @@ module _ (words : List (String Global)) (left : Option (List ℕ)) (failed : Typ
             subst (λ (n : ℕ). IfSome left (IsReported n (asks_shape words) (asks_order words) h text)) k.3
             (subst (λ (b : Bool). IfSome left (IsReported making.workers (asks_shape words) b h text)) k.2
             (subst (λ (b : Bool). IfSome left (IsReported making.workers b asked.order h text)) k.1 r));
-        drawn = λ d. absurd (not_both (asks_drawn words) k.0 d);
+        drawn = λ d. absurd (both_ways (asks_drawn words) k.0 d);
       }
 
-  pub reported-unmade : (asked : Asked) → IsTask words (Report making asked) → (m : Result Made Stop) → IfErr m (IsUnreported left failed) → IfErr m (IsUnmade words left failed)
-  reported-unmade asked t (Ok made) u = tt
-  reported-unmade asked t (Err Memory) u = tt
-  reported-unmade asked t (Err Usage) u = absurd u
-  reported-unmade asked t (Err stop) u = (taken, (reads-file words making asked t).0, u)
+  pub reported_unmade : (asked : Asked) → IsTask words (Report making asked) → (m : Result Made Stop) → IfErr m (IsUnreported left failed) → IfErr m (IsUnmade words left failed)
+  reported_unmade asked t (Ok made) u = tt
+  reported_unmade asked t (Err Memory) u = tt
+  reported_unmade asked t (Err Usage) u = absurd u
+  reported_unmade asked t (Err stop) u = (taken, (reads_file words making asked t).0, u)
 
   -- `gen`
-  pub drawn-made : (drawn : Drawn) → IsTask words (Draw making drawn) → (m : Result Made Stop)
+  pub drawn_made : (drawn : Drawn) → IsTask words (Draw making drawn) → (m : Result Made Stop)
       → IfOk m (λ made. IsDrawn drawn.text making.workers (generated drawn.count drawn.start) made.kept.items (text_of_page made.page)) → IfOk m (λ made. IsMade words left made.kept.items (text_of_page made.page))
-  drawn-made drawn t (Err stop) d = tt
-  drawn-made drawn t (Ok made) d =
-      let k = draws-file words making drawn t in
-      record { taken = taken; read = λ r. absurd (not_both (asks_drawn words) r k.0); drawn = λ r. drawn-asked making drawn words made.kept.items (text_of_page made.page) k d }
+  drawn_made drawn t (Err stop) d = tt
+  drawn_made drawn t (Ok made) d =
+      let k = draws_file words making drawn t in
+      record { taken = taken; read = λ r. absurd (both_ways (asks_drawn words) r k.0); drawn = λ r. drawn_asked making drawn words made.kept.items (text_of_page made.page) k d }
 
 -- ---- what the end says of the file
 
@@ -240,14 +234,14 @@ module _ {words : List (String Global)} {left_old left_new : Option (List ℕ)} 
     (e : Ends words left_old left_new read_failed held holds write_failed status h) where
   -- what the statuses tell of the bytes
   pub of_bytes : (P : List ℕ → Type 0) → ((bytes : List ℕ) → IsVerdict status bytes → P bytes) → ReadsFile words → (IsEarly status → ⊥) → IfSome left_old P
-  of_bytes P f r late = if-some (IsVerdict status) P f left_old (e.verdict r late)
+  of_bytes P f r late = if_some (IsVerdict status) P left_old f (e.verdict r late)
 
   -- what is kept and written of the file
   pub of_file : (P : Content → Type 0) → ((file : Content) → IsKept file (worker_count words) h → e.text ≡ text_of (asks_shape words) (asks_order words) file h → P file)
       → ReadsFile words → (status ≡ 0) ⊎ (status ≡ 4) → IfSome left_old (λ bytes. (file : Content) → IsFile line_limit bytes file → P file)
   of_file P f r s =
-      if-some (IsReported (worker_count words) (asks_shape words) (asks_order words) h e.text) (λ bytes. (file : Content) → IsFile line_limit bytes file → P file)
-      (λ bytes m file is. subst P (one_file_of line_limit bytes m.file file m.is_file is) (f m.file m.kept m.text_is)) left_old ((e.made s).read r)
+      if_some (IsReported (worker_count words) (asks_shape words) (asks_order words) h e.text) (λ bytes. (file : Content) → IsFile line_limit bytes file → P file)
+      left_old (λ bytes m file is. subst P (one_file_of line_limit bytes m.file file m.is_file is) (f m.file m.kept m.text_is)) ((e.made s).read r)
 
   -- the text of an anchored file, and of a drawn one
   pub anchored_text : (file : Content) → IsKept file (worker_count words) h → e.text ≡ text_of (asks_shape words) (asks_order words) file h → asks_order words ≡ false → IsAnchored file.points file.edits

@@ -1,7 +1,8 @@
 -- What the judging of a file says of its bytes.
-use Rattle.std.proofs.Common.{◌≡◌, refl, subst, ap, ◌∙◌, ℕ, ◌+◌, ◌<◌, ◌≤◌, ◌^◌, List, [], ◌∷◌, ◌++◌, length, arith}
+use Rattle.std.proofs.Common.{◌≡◌, subst, ap, ◌∙◌, ℕ, ◌+◌, ◌<◌, ◌≤◌, ◌^◌, List, [], ◌∷◌, ◌++◌, length, arith}
 use Rattle.std.specs.Prelude.{Option, None, Some, IfSome, IfErr, Result, Ok, Err, All}
 use Rattle.std.specs.List.{AllZip}
+use Rattle.list_laws.proofs.Cited.{length_zip}
 use Rattle.edit_files.specs.Content.{Content}
 use Rattle.edit_files.specs.Grammar.{line_limit, IsFile}
 use Rattle.edit_files.specs.Forms.{IsPointLine, IsEditLine, IsRadiusLine}
@@ -13,20 +14,14 @@ use Rattle.delaunay_cli.specs.Reported.{IsFlatFile, IsUnreported}
 use Rattle.delaunay_cli.specs.Run.{input_limit}
 use Rattle.std.proofs.lemmas.List.Elements.{All-cons}
 
-zip-length : {A B : Type 0} (R : A → B → Type 0) (xs : List A) (ys : List B) → AllZip R xs ys → length xs ≡ length ys
-zip-length R [] [] h = refl
-zip-length R [] (y ∷ ys) h = absurd h
-zip-length R (x ∷ xs) [] h = absurd h
-zip-length R (x ∷ xs) (y ∷ ys) h = omega (arith, zip-length R xs ys h.1)
-
 -- a file has at most as many points and edits as lines are allowed
-pub file-small : (limit : ℕ) (bytes : List ℕ) (f : Content) → IsFile limit bytes f → length f.points + length f.edits ≤ limit
-file-small limit bytes f h =
-    omega (arith, zip-length IsPointLine h.points f.points h.point_lines, zip-length IsEditLine h.edits f.edits h.edit_lines, h.line_count)
+pub file_small : (limit : ℕ) (bytes : List ℕ) (f : Content) → IsFile limit bytes f → length f.points + length f.edits ≤ limit
+file_small limit bytes f h =
+    omega (arith, length_zip IsPointLine h.points f.points h.point_lines, length_zip IsEditLine h.edits f.edits h.edit_lines, h.line_count)
 
 -- the radii of a file are below 2^30
-pub radii-small : (limit : ℕ) (bytes : List ℕ) (f : Content) → IsFile limit bytes f → All (λ radius. radius < 2 ^ 30) f.radii
-radii-small limit bytes f h = of_lines h.radii f.radii h.radius_lines
+pub radii_small : (limit : ℕ) (bytes : List ℕ) (f : Content) → IsFile limit bytes f → All (λ radius. radius < 2 ^ 30) f.radii
+radii_small limit bytes f h = of_lines h.radii f.radii h.radius_lines
   where
     of_lines : (lines : List (List ℕ)) (radii : List ℕ) → AllZip IsRadiusLine lines radii → All (λ radius. radius < 2 ^ 30) radii
     of_lines [] [] z = λ k d l. absurd (omega arith)
@@ -35,18 +30,18 @@ radii-small limit bytes f h = of_lines h.radii f.radii h.radius_lines
     of_lines (l ∷ lines) (r ∷ radii) z = All-cons (λ radius. radius < 2 ^ 30) r radii z.0.1 (of_lines lines radii z.1)
 
 -- what holds of the bytes that were read to the end holds of those that the source told
-pub if-told : (P : List ℕ → Type 0) (left : Option (List ℕ)) (old bytes now : List ℕ) → old ≡ [] → now ≡ bytes → IfSome left (λ told. bytes ≡ old ++ told) → P now → IfSome left P
-if-told P None old bytes now e f h p = tt
-if-told P (Some told) old bytes now e f h p = subst P (f ∙ h ∙ ap (λ (v : List ℕ). v ++ told) e) p
+pub if_told : (P : List ℕ → Type 0) (left : Option (List ℕ)) (old bytes now : List ℕ) → old ≡ [] → now ≡ bytes → IfSome left (λ told. bytes ≡ old ++ told) → P now → IfSome left P
+if_told P None old bytes now e f h p = tt
+if_told P (Some told) old bytes now e f h p = subst P (f ∙ h ∙ ap (λ (v : List ℕ). v ++ told) e) p
 
 -- why there is no report of these bytes tells why there is none of what the source told
 pub unreported_told : (left : Option (List ℕ)) (failed : Type 0) (old bytes now : List ℕ) → old ≡ [] → now ≡ bytes → IfSome left (λ told. bytes ≡ old ++ told) → (m : Result Made Stop) → IfErr m (IsUnreported (Some now) ⊥) → IfErr m (IsUnreported left failed)
 unreported_told left failed old bytes now e f h (Ok made) u = tt
 unreported_told left failed old bytes now e f h (Err Memory) u = tt
 unreported_told left failed old bytes now e f h (Err (BadLine line)) u = (
-  record { fault = u.0.fault; line_is = u.0.line_is; cause = if-told (λ (b : List ℕ). IsFault line_limit b u.0.fault) left old bytes now e f h u.0.cause },
-  if-told (λ (b : List ℕ). length b ≤ input_limit) left old bytes now e f h u.1,
+  record { fault = u.0.fault; line_is = u.0.line_is; cause = if_told (λ (b : List ℕ). IsFault line_limit b u.0.fault) left old bytes now e f h u.0.cause },
+  if_told (λ (b : List ℕ). length b ≤ input_limit) left old bytes now e f h u.1,
 )
-unreported_told left failed old bytes now e f h (Err Flat) u = if-told IsFlatFile left old bytes now e f h u
-unreported_told left failed old bytes now e f h (Err TooLong) u = if-told (λ (b : List ℕ). input_limit < length b) left old bytes now e f h u
+unreported_told left failed old bytes now e f h (Err Flat) u = if_told IsFlatFile left old bytes now e f h u
+unreported_told left failed old bytes now e f h (Err TooLong) u = if_told (λ (b : List ℕ). input_limit < length b) left old bytes now e f h u
 unreported_told left failed old bytes now e f h (Err stop) u = absurd u

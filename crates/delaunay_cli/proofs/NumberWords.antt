@@ -4,7 +4,7 @@ use Rattle.std.specs.Prelude.{ℤ, pos, neg_ℤ, ◌≤ℤ◌, FitsSigned, decim
 use Rattle.std.specs.declared.alloc.Global.{Global}
 use Rattle.std.specs.Int.{w64}
 use Rattle.std.specs.Char.{digit_value}
-use Rattle.std.specs.Str.Parse.{IsNumeral, digits_value, signed_digits_value, starts_with_minus, without_leading_plus, without_leading_sign}
+use Rattle.std.specs.Str.Parse.{IsNumeral, digits_value, signed_digits_value, without_leading_plus, without_leading_sign}
 use Rattle.std.proofs.lemmas.Bool.{le-leb}
 use Rattle.std.proofs.lemmas.Fmt.{decimal_is_IsNumeral}
 use lib.Dec.{T}
@@ -17,6 +17,7 @@ use Rattle.clap.proofs.OnLiterals.{clap_on_literals}
 use Rattle.clap.proofs.ValueTestLemmas.{Accepts-accepts}
 use Rattle.clap.specs.declared.builder.value_parser.ValueParser.TheVariants.{Signed, Unsigned}
 use Rattle.std.proofs.lemmas.Bool.Decides.{nat_tests}
+use Rattle.edit_files.proofs.Cited.{no_minus}
 use Rattle.cell_store.specs.Grids.{is_grid_size}
 use Rattle.delaunay_cli.specs.Words.{AreGen, AreGenText, AreMeshing, AreTaken, DrawsFile, ReadsFile, asks_drawn, asks_shape, asks_text, drawn_count, drawn_start, grid_size, has_flag, is_command, most_count, most_grid, most_start, most_workers, number_between, number_of, program, texts_of, worker_count}
 
@@ -29,10 +30,6 @@ other c k d n = ne_eqb c k (λ e. n (subst (λ (x : ℕ). digit_value x < 10) e 
 no_plus : (ds : List ℕ) → IsNumeral 10 ds → without_leading_plus ds ≡ ds
 no_plus [] h = refl
 no_plus (c ∷ cs) h = ap (λ (b : Bool). drop (cond b 1 0) (c ∷ cs)) (other c 43 h.1.0 (λ l. omega (arith, l)))
-
-no_minus : (ds : List ℕ) → IsNumeral 10 ds → starts_with_minus ds ≡ false
-no_minus [] h = refl
-no_minus (c ∷ cs) h = other c 45 h.1.0 (λ l. omega (arith, l))
 
 no_sign : (ds : List ℕ) → IsNumeral 10 ds → without_leading_sign ds ≡ ds
 no_sign ds h = ap (λ (b : Bool). cond b (drop 1 ds) (without_leading_plus ds)) (no_minus ds h) ∙ no_plus ds h
@@ -50,8 +47,8 @@ module _ (least most n : ℕ) (above : least ≤ n) (below : n ≤ most) (small 
   numeral = decimal_is_IsNumeral n (omega (arith, below, small))
 
   -- an option takes it, where the number is in its range
-  pub decimal-taken : is_signed_in (pos least) (pos most) (decimal n) ≡ true
-  decimal-taken =
+  pub decimal_taken : is_signed_in (pos least) (pos most) (decimal n) ≡ true
+  decimal_taken =
       let z : signed_digits_value 10 (decimal n) ≡ pos n = signed (decimal n) numeral.0 ∙ ap pos numeral.1 in
       Accepts-accepts false (Signed (pos least) (pos most)) (decimal n) (
         subst (IsNumeral 10) (sym (no_sign (decimal n) numeral.0)) numeral.0,
@@ -61,8 +58,8 @@ module _ (least most n : ℕ) (above : least ≤ n) (below : n ≤ most) (small 
       )
 
   -- and it names that number
-  pub decimal-named : number_between least most (decimal n) ≡ n
-  decimal-named =
+  pub decimal_named : number_between least most (decimal n) ≡ n
+  decimal_named =
       let e : digits_value 10 (without_leading_plus (decimal n)) ≡ n = ap (digits_value 10) (no_plus (decimal n) numeral.0) ∙ numeral.1 in
       let t : is_unsigned_in least most (decimal n) ≡ true = Accepts-accepts false (Unsigned least most) (decimal n) (subst (IsNumeral 10) (sym (no_plus (decimal n) numeral.0)) numeral.0, omega (arith, e, below, small), omega (arith, e, above), omega (arith, e, below)) in
       ap (λ (b : Bool). cond b (digits_value 10 (without_leading_plus (decimal n))) least) t ∙ e
@@ -89,46 +86,46 @@ AreFoundGen words c s text =
     × (number_of (codes "start") 0 most_start (subcommand_of program words) ≡ number_between 0 most_start s)
     × (has_flag (codes "text") (subcommand_of program words) ≡ text)
 
-gen-found : (name c s : Text) → AreFoundGen (gen_texts name c s []) c s false
+gen_found : (name c s : Text) → AreFoundGen (gen_texts name c s []) c s false
 unfolding clap_on_literals word_faults both_faults gen_texts
-gen-found name c s = (λ e k. ap₂ (λ (x y : Bool). both_faults (word_faults 0 most_count x) (word_faults 0 most_start y)) e k, refl, refl, refl, refl, refl)
+gen_found name c s = (λ e k. ap₂ (λ (x y : Bool). both_faults (word_faults 0 most_count x) (word_faults 0 most_start y)) e k, refl, refl, refl, refl, refl)
 
-gen_text-found : (name c s : Text) → AreFoundGen (gen_texts name c s (codes "--text" ∷ [])) c s true
+gen_text_found : (name c s : Text) → AreFoundGen (gen_texts name c s (codes "--text" ∷ [])) c s true
 unfolding clap_on_literals word_faults both_faults gen_texts
-gen_text-found name c s = (λ e k. ap₂ (λ (x y : Bool). both_faults (word_faults 0 most_count x) (word_faults 0 most_start y)) e k, refl, refl, refl, refl, refl)
+gen_text_found name c s = (λ e k. ap₂ (λ (x y : Bool). both_faults (word_faults 0 most_count x) (word_faults 0 most_start y)) e k, refl, refl, refl, refl, refl)
 
 -- so they are taken, and ask for the file of the count and the start
-gen-asked : (words : List (String Global)) (texts : List Text) (count start : ℕ) (text : Bool) → count ≤ most_count → start ≤ most_start → texts_of words ≡ texts → AreFoundGen texts (decimal count) (decimal start) text →
+gen_asked : (words : List (String Global)) (texts : List Text) (count start : ℕ) (text : Bool) → count ≤ most_count → start ≤ most_start → texts_of words ≡ texts → AreFoundGen texts (decimal count) (decimal start) text →
     AreTaken words × DrawsFile words × (drawn_count words ≡ count) × (drawn_start words ≡ start) × (asks_text words ≡ text)
 unfolding AreTaken grid_size asks_drawn drawn_count drawn_start asks_text
-gen-asked words texts count start text few small e found =
+gen_asked words texts count start text few small e found =
     let f = subst (λ (w : List Text). AreFoundGen w (decimal count) (decimal start) text) (sym e) found in (
-      (f.0 (decimal-taken 0 most_count count (omega arith) few (omega arith)) (decimal-taken 0 most_start start (omega arith) small (omega arith)), ap is_grid_size f.1),
+      (f.0 (decimal_taken 0 most_count count (omega arith) few (omega arith)) (decimal_taken 0 most_start start (omega arith) small (omega arith)), ap is_grid_size f.1),
       f.2,
-      f.3 ∙ decimal-named 0 most_count count (omega arith) few (omega arith),
-      f.4 ∙ decimal-named 0 most_start start (omega arith) small (omega arith),
+      f.3 ∙ decimal_named 0 most_count count (omega arith) few (omega arith),
+      f.4 ∙ decimal_named 0 most_start start (omega arith) small (omega arith),
       f.5,
     )
 
 -- the words `gen`, `--count=N` and `--start=M` ask for the file of N and M, and with `--text` for its text
-pub gen-words : (words : List (String Global)) (count start : ℕ) → count ≤ most_count → start ≤ most_start → AreGen count start words →
+pub gen_words : (words : List (String Global)) (count start : ℕ) → count ≤ most_count → start ≤ most_start → AreGen count start words →
     AreTaken words × DrawsFile words × (drawn_count words ≡ count) × (drawn_start words ≡ start) × (asks_text words ≡ false)
 unfolding gen_texts
-gen-words words count start few small m = gen-asked words (gen_texts m.0 (decimal count) (decimal start) []) count start false few small m.1 (gen-found m.0 (decimal count) (decimal start))
+gen_words words count start few small m = gen_asked words (gen_texts m.0 (decimal count) (decimal start) []) count start false few small m.1 (gen_found m.0 (decimal count) (decimal start))
 
-pub gen_text-words : (words : List (String Global)) (count start : ℕ) → count ≤ most_count → start ≤ most_start → AreGenText count start words →
+pub gen_text_words : (words : List (String Global)) (count start : ℕ) → count ≤ most_count → start ≤ most_start → AreGenText count start words →
     AreTaken words × DrawsFile words × (drawn_count words ≡ count) × (drawn_start words ≡ start) × (asks_text words ≡ true)
 unfolding gen_texts
-gen_text-words words count start few small m = gen-asked words (gen_texts m.0 (decimal count) (decimal start) (codes "--text" ∷ [])) count start true few small m.1 (gen_text-found m.0 (decimal count) (decimal start))
+gen_text_words words count start few small m = gen_asked words (gen_texts m.0 (decimal count) (decimal start) (codes "--text" ∷ [])) count start true few small m.1 (gen_text_found m.0 (decimal count) (decimal start))
 
 -- ---- the words `--workers=N` and `--grid=M`
 
 -- a size of a grid is a number that the option takes
-grid-above : (g : ℕ) → is_grid_size g ≡ true → 1 ≤ g
-grid-above g h = grind (arith, nat_tests)
+grid_above : (g : ℕ) → is_grid_size g ≡ true → 1 ≤ g
+grid_above g h = grind (arith, nat_tests)
 
-grid-below : (g : ℕ) → is_grid_size g ≡ true → g ≤ 16
-grid-below g h = grind (arith, nat_tests)
+grid_below : (g : ℕ) → is_grid_size g ≡ true → g ≤ 16
+grid_below g h = grind (arith, nat_tests)
 
 meshing_texts : Text → Text → Text → Text → List Text
 meshing_texts name command workers grid = name ∷ command ∷ (codes "--workers=" ++ workers) ∷ (codes "--grid=" ++ grid) ∷ []
@@ -142,35 +139,35 @@ AreFoundMeshing words w g shape =
     × (number_of (codes "grid") 1 most_grid (subcommand_of program words) ≡ number_between 1 most_grid g)
     × (is_command (codes "shape") (subcommand_of program words) ≡ shape)
 
-mesh-found : (name w g : Text) → AreFoundMeshing (meshing_texts name (codes "mesh") w g) w g false
+mesh_found : (name w g : Text) → AreFoundMeshing (meshing_texts name (codes "mesh") w g) w g false
 unfolding clap_on_literals word_faults both_faults meshing_texts
-mesh-found name w g = (λ e k. ap₂ (λ (x y : Bool). both_faults (word_faults 1 most_workers x) (word_faults 1 most_grid y)) e k, refl, refl, refl, refl)
+mesh_found name w g = (λ e k. ap₂ (λ (x y : Bool). both_faults (word_faults 1 most_workers x) (word_faults 1 most_grid y)) e k, refl, refl, refl, refl)
 
-shape-found : (name w g : Text) → AreFoundMeshing (meshing_texts name (codes "shape") w g) w g true
+shape_found : (name w g : Text) → AreFoundMeshing (meshing_texts name (codes "shape") w g) w g true
 unfolding clap_on_literals word_faults both_faults meshing_texts
-shape-found name w g = (λ e k. ap₂ (λ (x y : Bool). both_faults (word_faults 1 most_workers x) (word_faults 1 most_grid y)) e k, refl, refl, refl, refl)
+shape_found name w g = (λ e k. ap₂ (λ (x y : Bool). both_faults (word_faults 1 most_workers x) (word_faults 1 most_grid y)) e k, refl, refl, refl, refl)
 
 -- so they are taken, and ask for these workers and this grid
-meshing-asked : (words : List (String Global)) (texts : List Text) (workers grid : ℕ) (shape : Bool) → 0 < workers → workers ≤ most_workers → is_grid_size grid ≡ true → texts_of words ≡ texts → AreFoundMeshing texts (decimal workers) (decimal grid) shape →
+meshing_asked : (words : List (String Global)) (texts : List Text) (workers grid : ℕ) (shape : Bool) → 0 < workers → workers ≤ most_workers → is_grid_size grid ≡ true → texts_of words ≡ texts → AreFoundMeshing texts (decimal workers) (decimal grid) shape →
     AreTaken words × ReadsFile words × (worker_count words ≡ workers) × (grid_size words ≡ grid) × (asks_shape words ≡ shape)
 unfolding AreTaken asks_drawn worker_count grid_size asks_shape
-meshing-asked words texts workers grid shape some few size e found =
+meshing_asked words texts workers grid shape some few size e found =
     let f = subst (λ (w : List Text). AreFoundMeshing w (decimal workers) (decimal grid) shape) (sym e) found in
-    let sized = f.3 ∙ decimal-named 1 most_grid grid (grid-above grid size) (grid-below grid size) (omega arith) in (
-      (f.0 (decimal-taken 1 most_workers workers (omega (arith, some)) few (omega arith)) (decimal-taken 1 most_grid grid (grid-above grid size) (grid-below grid size) (omega arith)), ap is_grid_size sized ∙ size),
+    let sized = f.3 ∙ decimal_named 1 most_grid grid (grid_above grid size) (grid_below grid size) (omega arith) in (
+      (f.0 (decimal_taken 1 most_workers workers (omega (arith, some)) few (omega arith)) (decimal_taken 1 most_grid grid (grid_above grid size) (grid_below grid size) (omega arith)), ap is_grid_size sized ∙ size),
       f.1,
-      f.2 ∙ decimal-named 1 most_workers workers (omega (arith, some)) few (omega arith),
+      f.2 ∙ decimal_named 1 most_workers workers (omega (arith, some)) few (omega arith),
       sized,
       f.4,
     )
 
 -- the words `mesh` or `shape`, `--workers=N` and `--grid=M` ask for N workers and a grid of size M
-pub mesh_workers-words : (words : List (String Global)) (workers grid : ℕ) → 0 < workers → workers ≤ most_workers → is_grid_size grid ≡ true → AreMeshing (codes "mesh") workers grid words →
+pub mesh_workers_words : (words : List (String Global)) (workers grid : ℕ) → 0 < workers → workers ≤ most_workers → is_grid_size grid ≡ true → AreMeshing (codes "mesh") workers grid words →
     AreTaken words × ReadsFile words × (worker_count words ≡ workers) × (grid_size words ≡ grid) × (asks_shape words ≡ false)
 unfolding meshing_texts
-mesh_workers-words words workers grid some few size m = meshing-asked words (meshing_texts m.0 (codes "mesh") (decimal workers) (decimal grid)) workers grid false some few size m.1 (mesh-found m.0 (decimal workers) (decimal grid))
+mesh_workers_words words workers grid some few size m = meshing_asked words (meshing_texts m.0 (codes "mesh") (decimal workers) (decimal grid)) workers grid false some few size m.1 (mesh_found m.0 (decimal workers) (decimal grid))
 
-pub shape_workers-words : (words : List (String Global)) (workers grid : ℕ) → 0 < workers → workers ≤ most_workers → is_grid_size grid ≡ true → AreMeshing (codes "shape") workers grid words →
+pub shape_workers_words : (words : List (String Global)) (workers grid : ℕ) → 0 < workers → workers ≤ most_workers → is_grid_size grid ≡ true → AreMeshing (codes "shape") workers grid words →
     AreTaken words × ReadsFile words × (worker_count words ≡ workers) × (grid_size words ≡ grid) × (asks_shape words ≡ true)
 unfolding meshing_texts
-shape_workers-words words workers grid some few size m = meshing-asked words (meshing_texts m.0 (codes "shape") (decimal workers) (decimal grid)) workers grid true some few size m.1 (shape-found m.0 (decimal workers) (decimal grid))
+shape_workers_words words workers grid some few size m = meshing_asked words (meshing_texts m.0 (codes "shape") (decimal workers) (decimal grid)) workers grid true some few size m.1 (shape_found m.0 (decimal workers) (decimal grid))

@@ -4,6 +4,7 @@ use Rattle.std.specs.List.{filter}
 use Rattle.std.specs.Option.{option_map}
 use Rattle.std.proofs.Common.{refl, sym, ◌∙◌, ap, subst, inl, inr, arith, length-append}
 use Rattle.std.proofs.lemmas.List.{length-map}
+use Rattle.list_laws.proofs.Cited.{one_value}
 use Rattle.point_order.specs.Sets.{IsIn, is_among}
 use Rattle.edit_history.specs.declared.history.Edit.{Edit}
 use Rattle.edit_history.specs.declared.history.Edit.TheVariants.{Add}
@@ -13,7 +14,7 @@ use Rattle.edit_history.specs.Histories.{entries_from, IsLegal, IsLegalFrom}
 use Rattle.edit_history.specs.Opening.{Four, opening_four}
 use Rattle.edit_history.specs.OneThread.{places, tagged_lines, line_of}
 use Rattle.edit_history.specs.Laws.{AreIndependent as AreIndependentPlaces}
-use Rattle.edit_history.proofs.Cited.{four_law, line_at, picked, same-map}
+use Rattle.edit_history.proofs.Cited.{four_law, line_at, picked, same_map}
 use Rattle.insertion.specs.Opening.{inserted_from, opening_history}
 use Rattle.delaunay_cli.specs.Made.{tagged_points}
 
@@ -62,17 +63,14 @@ pub opening_lines : (points : List ℕ) (edits : List Edit) (four : List ℕ) �
     map added (tagged_points points four) ≡ filter (λ line. is_among line.0 four) (tagged_lines points edits)
 opening_lines points edits four e = by (opening_four points) (four_law points) e
   where
-    same : (a b : List ℕ) → Some a ≡ Some b → a ≡ b
-    same a b e = cc
-
     two_maps : (ps : List ℕ) → map added (tagged_points points ps) ≡ map (λ p. (p, Add (slice_index points p))) ps
     two_maps [] = refl
     two_maps (p ∷ ps) = ap (λ (t : List (ℕ × Edit)). (p, Add (slice_index points p)) ∷ t) (two_maps ps)
 
     by : (o : Option Four) → IfSome o (AreIndependentPlaces points) → option_map places o ≡ Some four → map added (tagged_points points four) ≡ filter (λ line. is_among line.0 four) (tagged_lines points edits)
     by None i e = absurd (cc e)
-    by (Some f) w e = subst (λ (v : List ℕ). map added (tagged_points points v) ≡ filter (λ line. is_among line.0 v) (tagged_lines points edits)) (same (places f) four e)
-        (two_maps (places f) ∙ sym (picked (places f) 0 (map Add points ++ edits) (Add 0) (w.ascending.0, (w.ascending.1, (w.ascending.2, (tt, tt)))) range ∙ same-map (line_at 0 (map Add points ++ edits) (Add 0)) (λ p. (p, Add (slice_index points p))) (places f) (λ p i. ap (λ (k : Edit). (p, k)) (ap (λ (k : ℕ). slice_index_or (map Add points ++ edits) k (Add 0)) (none p) ∙ adds points edits (Add 0) p (below p i)))))
+    by (Some f) w e = subst (λ (v : List ℕ). map added (tagged_points points v) ≡ filter (λ line. is_among line.0 v) (tagged_lines points edits)) (one_value (places f) four e)
+        (two_maps (places f) ∙ sym (picked (places f) 0 (map Add points ++ edits) (Add 0) (w.ascending.0, (w.ascending.1, (w.ascending.2, (tt, tt)))) range ∙ same_map (line_at 0 (map Add points ++ edits) (Add 0)) (λ p. (p, Add (slice_index points p))) (places f) (λ p i. ap (λ (k : Edit). (p, k)) (ap (λ (k : ℕ). slice_index_or (map Add points ++ edits) k (Add 0)) (none p) ∙ adds points edits (Add 0) p (below p i)))))
       where
         none : (p : ℕ) → p - 0 ≡ p
         none p = omega arith
@@ -95,24 +93,18 @@ tagged_is points four e = by (opening_four points) e
     at : List ℕ → ℕ → ℕ × ℕ
     at four k = (slice_index_or four k 0, slice_index points (slice_index_or four k 0))
 
-    same : (a b : List ℕ) → Some a ≡ Some b → a ≡ b
-    same a b e = cc
-
     by : (o : Option Four) → option_map places o ≡ Some four →
         (slice_index_or four 0 0, slice_index points (slice_index_or four 0 0)) ∷ (slice_index_or four 1 0, slice_index points (slice_index_or four 1 0)) ∷ (slice_index_or four 2 0, slice_index points (slice_index_or four 2 0)) ∷ (slice_index_or four 3 0, slice_index points (slice_index_or four 3 0)) ∷ [] ≡ tagged_points points four
     by None e = absurd (cc e)
-    by (Some f) e = rw (sym (same (places f) four e)) refl
+    by (Some f) e = rw (sym (one_value (places f) four e)) refl
 
 -- there are four
 pub four_many : (points four : List ℕ) → option_map places (opening_four points) ≡ Some four → length (tagged_points points four) ≤ 4
 four_many points four e = by (opening_four points) e
   where
-    same : (a b : List ℕ) → Some a ≡ Some b → a ≡ b
-    same a b e = cc
-
     by : (o : Option Four) → option_map places o ≡ Some four → length (tagged_points points four) ≤ 4
     by None e = absurd (cc e)
-    by (Some f) e = rw (sym (same (places f) four e)) (omega arith)
+    by (Some f) e = rw (sym (one_value (places f) four e)) (omega arith)
 
 pub added_many : (lines : List (ℕ × ℕ)) → length (map added lines) ≡ length lines
 added_many lines = length-map lines added

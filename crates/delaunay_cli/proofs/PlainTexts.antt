@@ -7,7 +7,7 @@ use Rattle.edit_history.specs.declared.history.Entry.{Entry}
 use Rattle.edit_history.specs.Histories.{IsLegal}
 use Rattle.edit_history.specs.OneThread.{Keeps}
 use Rattle.edit_files.specs.Content.{Content}
-use Rattle.edit_files.proofs.Cited.{generated-anchored}
+use Rattle.edit_files.proofs.Cited.{generated_anchored}
 use Rattle.edit_files.specs.Writing.{file_text}
 use Rattle.mesh_files.specs.Summary.{summary_text}
 use Rattle.plain_laws.specs.Plain.{IsAnchored, IsPlain}
@@ -34,4 +34,4 @@ drawn_is_plain words workers kept legal e = by (asks_text words) e
     by : (text : Bool) → IsKeptOfDrawn text (drawn_file words) workers kept →
         cond text (file_text (drawn_file words)) (summary_text (report_of true false (drawn_file words) kept)) ≡ cond text (file_text (drawn_file words)) (summary_text (plain_report true (drawn_file words)))
     by true k = refl
-    by false k = ap summary_text (kept_is_plain true (drawn_file words) workers kept (generated-anchored (drawn_count words) (drawn_start words)) k.keeps legal)
+    by false k = ap summary_text (kept_is_plain true (drawn_file words) workers kept (generated_anchored (drawn_count words) (drawn_start words)) k.keeps legal)

@@ -1,6 +1,7 @@
 //! What a run is asked to do.
 
 ghost use Rattle.std.specs.Prelude.{◌<◌, ◌≤◌};
+ghost use Rattle.edit_files.specs.Generator.{most_edits, state_count};
 
 use cell_store::Grid;
 
@@ -33,8 +34,8 @@ pub struct Drawn {
     pub start: u32,
     /// Whether its text is to be written, and not the summary of its mesh.
     pub text: bool,
-    pub ghost few: { count ≤ 262140 },
-    pub ghost small: { start < 2147483648 },
+    pub ghost few: { count ≤ most_edits },
+    pub ghost small: { start < state_count },
 }
 
 /// What the words of a run ask for.

@@ -3,17 +3,17 @@ use Rattle.std.specs.Prelude.{◌≡◌, ◌≢◌, ℕ, zero, suc, ◌+◌, ◌
 use Rattle.std.specs.List.{enumerate_from, range_with_len}
 use Rattle.std.proofs.Common.{refl, sym, ◌∙◌, ap, arith}
 use Rattle.std.proofs.Math.Nat.{mod-lt}
-use Rattle.std.proofs.lemmas.Bool.Decides.{nat_tests}
-use Rattle.std.proofs.lemmas.List.{length-map, map-set, get_or-map}
+use Rattle.std.proofs.lemmas.List.{length-map, map-set, get_or-map, append-nil}
 use Rattle.std.proofs.lemmas.List.Elements.{filter-append}
 use Rattle.std.proofs.lemmas.List.FromFn.{length-range_with_len, get_or-map-range_with_len}
+use Rattle.std.proofs.lemmas.Bool.{ne_eqb}
 use Rattle.point_order.specs.Sets.{is_among}
 use Rattle.edit_history.specs.declared.history.Edit.{Edit}
 use Rattle.edit_history.specs.Edits.{point_of}
 use Rattle.plain_laws.specs.Running.{Pair, dealt_to, dealt}
 use Rattle.std.specs.Prelude.{Option, None}
 use Rattle.std.specs.Option.{option_map}
-use Rattle.list_laws.proofs.Cited.{eq_same, map_above, map_but_one}
+use Rattle.list_laws.proofs.Cited.{eq_same, map_above, map_but_one, one_value}
 use Rattle.edit_history.specs.Opening.{Four, opening_four}
 use Rattle.edit_history.specs.OneThread.{places}
 use Rattle.edit_workers.specs.Dealing.{with_pair, AreOpening}
@@ -22,12 +22,9 @@ use Rattle.edit_workers.specs.Dealing.{with_pair, AreOpening}
 pub are_opening : (points four : List ℕ) → option_map places (opening_four points) ≡ Some four → AreOpening points four
 are_opening points four e = by (opening_four points) refl e
   where
-    same : (a b : List ℕ) → Some a ≡ Some b → a ≡ b
-    same a b e = cc
-
     by : (o : Option Four) → opening_four points ≡ o → option_map places o ≡ Some four → AreOpening points four
     by None f e = absurd (cc e)
-    by (Some f) g e = (f, g, sym (same (places f) four e))
+    by (Some f) g e = (f, g, sym (one_value (places f) four e))
 
 -- ---- a pair put last
 
@@ -43,9 +40,6 @@ put_last_is f xs k old new pair l e o n =
 
 -- ---- one more line
 
-other : (m n : ℕ) → m ≢ n → (m == n) ≡ false
-other m n d = grind (arith, nat_tests)
-
 module _ (n : ℕ) (four : List ℕ) (lines : List Pair) (line : Pair) where
   deals : ℕ → Pair → Bool
   deals i l = not (is_among l.0 four) && (point_of l.1 % n == i)
@@ -55,11 +49,7 @@ module _ (n : ℕ) (four : List ℕ) (lines : List Pair) (line : Pair) where
   more_is i = filter-append (deals i) lines (line ∷ [])
 
   nothing_more : (b : Bool) → b ≡ false → (l : List Pair) → l ++ cond b (line ∷ []) [] ≡ l
-  nothing_more b e l = ap (λ (b : Bool). l ++ cond b (line ∷ []) []) e ∙ nothing l
-    where
-      nothing : (l : List Pair) → l ++ [] ≡ l
-      nothing [] = refl
-      nothing (x ∷ l) = ap (λ (t : List Pair). x ∷ t) (nothing l)
+  nothing_more b e l = ap (λ (b : Bool). l ++ cond b (line ∷ []) []) e ∙ append-nil l
 
   one_more : (b : Bool) → b ≡ true → (l : List Pair) → l ++ cond b (line ∷ []) [] ≡ l ++ line ∷ []
   one_more b e l = ap (λ (b : Bool). l ++ cond b (line ∷ []) []) e
@@ -84,7 +74,7 @@ module _ (n : ℕ) (four : List ℕ) (lines : List Pair) (line : Pair) where
       let value : g (0 + w) ≡ slice_index_or (dealt n four lines) w [] ++ line ∷ [] =
       ap g from_0 ∙ more_is w ∙ one_more (deals w line) (ap (λ (b : Bool). not b && (w == w)) a ∙ eq_same w) (f w) ∙ ap (λ (t : List Pair). t ++ line ∷ []) (sym there) in
       let others : (i : ℕ) → i ≢ 0 + w → g i ≡ f i =
-      λ i d. more_is i ∙ nothing_more (deals i line) (ap (λ (b : Bool). not b && (w == i)) a ∙ other w i (λ q. d (sym q ∙ sym from_0))) (f i) in
+      λ i d. more_is i ∙ nothing_more (deals i line) (ap (λ (b : Bool). not b && (w == i)) a ∙ ne_eqb w i (λ q. d (sym q ∙ sym from_0))) (f i) in
       map_but_one f g 0 n w (slice_index_or (dealt n four lines) w [] ++ line ∷ []) below value others
       ∙ ap (λ (c : ℕ). set (dealt n four lines) (point_of line.1 % c) (slice_index_or (dealt n four lines) (point_of line.1 % c) [] ++ line ∷ [])) (sym count)
 
@@ -105,12 +95,9 @@ lines_more lines n d e = ap (λ (k : ℕ). take k (enumerate_from 0 lines)) (up 
     none : (m : ℕ) → m ≡ m + 0
     none m = omega arith
 
-    same : (x d : Edit) → Some x ≡ Some d → x ≡ d
-    same x d e = cc
-
     next : (m : ℕ) (lines : List Edit) (n : ℕ) (d : Edit) → slice_get lines n ≡ Some d → take (suc n) (enumerate_from m lines) ≡ take n (enumerate_from m lines) ++ (m + n, d) ∷ []
     next m [] n d e = absurd (cc e)
-    next m (x ∷ lines) zero d e = let v = same x d e in let k = none m in λ i. (k i, v i) ∷ []
+    next m (x ∷ lines) zero d e = let v = one_value x d e in let k = none m in λ i. (k i, v i) ∷ []
     next m (x ∷ lines) (suc n) d e = ap (λ (t : List Pair). (m, x) ∷ t) (next (m + 1) lines n d e ∙ ap (λ (k : ℕ). take n (enumerate_from (m + 1) lines) ++ (k, d) ∷ []) (further m n))
 
 -- no line yet: the lists are empty

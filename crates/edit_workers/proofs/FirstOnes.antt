@@ -2,9 +2,9 @@
 use Rattle.std.specs.Prelude.{◌≡◌, ◌⊎◌, ℕ, ◌+◌, ◌≤◌, Bool, true, false, not, ◌==◌, ◌||◌, List, [], ◌∷◌, ◌++◌, map, length, if◌then◌else◌}
 use Rattle.std.specs.List.{filter}
 use Rattle.std.proofs.Common.{refl, sym, ◌∙◌, ap, subst, inl, inr, arith}
-use Rattle.std.proofs.lemmas.List.{map-append}
+use Rattle.std.proofs.lemmas.List.{append-nil, map-append}
 use Rattle.std.proofs.lemmas.List.Elements.{filter-append}
-use Rattle.list_laws.proofs.Cited.{among_from, among_true, filtered_true, later-append, later-pairs, mapped_true, pairs-later}
+use Rattle.list_laws.proofs.Cited.{among_from, among_true, filtered_true, later_append, later_pairs, mapped_true, pairs_later}
 use Rattle.point_order.specs.Sets.{IsIn, is_among}
 use Rattle.edit_history.specs.Edits.{point_of}
 use Rattle.plain_laws.specs.Running.{Pair}
@@ -71,18 +71,10 @@ left_more l x =
     ∙ map-append (λ (m : Marked). m.1) (filter (λ (m : Marked). m.0) l) ((true, x) ∷ [])
 
 pub done_same : (l : List Marked) (x : Pair) → done (l ++ (true, x) ∷ []) ≡ done l
-done_same l x = ap (map (λ (m : Marked). m.1)) (filter-append (λ (m : Marked). not m.0) l ((true, x) ∷ []) ∙ nothing (filter (λ (m : Marked). not m.0) l))
-  where
-    nothing : (l : List Marked) → l ++ [] ≡ l
-    nothing [] = refl
-    nothing (x ∷ l) = ap (λ (t : List Marked). x ∷ t) (nothing l)
+done_same l x = ap (map (λ (m : Marked). m.1)) (filter-append (λ (m : Marked). not m.0) l ((true, x) ∷ []) ∙ append-nil (filter (λ (m : Marked). not m.0) l))
 
 pub left_same : (l : List Marked) (x : Pair) → left_over (l ++ (false, x) ∷ []) ≡ left_over l
-left_same l x = ap (map (λ (m : Marked). m.1)) (filter-append (λ (m : Marked). m.0) l ((false, x) ∷ []) ∙ nothing (filter (λ (m : Marked). m.0) l))
-  where
-    nothing : (l : List Marked) → l ++ [] ≡ l
-    nothing [] = refl
-    nothing (x ∷ l) = ap (λ (t : List Marked). x ∷ t) (nothing l)
+left_same l x = ap (map (λ (m : Marked). m.1)) (filter-append (λ (m : Marked). m.0) l ((false, x) ∷ []) ∙ append-nil (filter (λ (m : Marked). m.0) l))
 
 pub done_more : (l : List Marked) (x : Pair) → done (l ++ (false, x) ∷ []) ≡ done l ++ x ∷ []
 done_more l x =
@@ -98,15 +90,11 @@ all_parted [] = refl
 all_parted (x ∷ l) = ap (λ (t : List Pair). x ∷ t) (all_parted l)
 
 pub none_done : (l : List Marked) (r : List Pair) → done (l ++ all_left r) ≡ done l
-none_done l r = ap (map (λ (m : Marked). m.1)) (filter-append (λ (m : Marked). not m.0) l (all_left r) ∙ ap (λ (t : List Marked). filter (λ (m : Marked). not m.0) l ++ t) (empty r) ∙ nothing (filter (λ (m : Marked). not m.0) l))
+none_done l r = ap (map (λ (m : Marked). m.1)) (filter-append (λ (m : Marked). not m.0) l (all_left r) ∙ ap (λ (t : List Marked). filter (λ (m : Marked). not m.0) l ++ t) (empty r) ∙ append-nil (filter (λ (m : Marked). not m.0) l))
   where
     empty : (r : List Pair) → filter (λ (m : Marked). not m.0) (all_left r) ≡ []
     empty [] = refl
     empty (x ∷ r) = empty r
-
-    nothing : (l : List Marked) → l ++ [] ≡ l
-    nothing [] = refl
-    nothing (x ∷ l) = ap (λ (t : List Marked). x ∷ t) (nothing l)
 
 -- no more are done than there are
 pub done_few : (l : List Marked) → length (done l) ≤ length l
@@ -123,7 +111,7 @@ Leaves x y = x.0 ≡ true → point_of x.1.1 ≡ point_of y.1.1 → y.0 ≡ true
 
 -- what follows one left over is left over, with one more where that holds of it
 pub later_more : (l : List Marked) (m : Marked) → LeavesLater l → (IsIn (point_of m.1.1) (points_of (left_over l)) → m.0 ≡ true) → LeavesLater (l ++ m ∷ [])
-later_more l m h f = later-pairs Leaves (l ++ m ∷ []) (later-append Leaves l (m ∷ []) (pairs-later Leaves l h) ((λ y i. absurd i), tt) across)
+later_more l m h f = later_pairs Leaves (l ++ m ∷ []) (later_append Leaves l (m ∷ []) (pairs_later Leaves l h) ((λ y i. absurd i), tt) across)
   where
     across : (x y : Marked) → IsIn x l → IsIn y (m ∷ []) → Leaves x y
     across x y i (inl e) t q =

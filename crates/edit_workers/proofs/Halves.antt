@@ -4,7 +4,7 @@ use Rattle.std.specs.List.{filter}
 use Rattle.std.proofs.Common.{refl, sym, ◌∙◌, ap, ap₂, subst, inl, inr, arith, get_or, length-append}
 use Rattle.std.proofs.lemmas.List.{append-nil, map-append, length-map}
 use Rattle.std.proofs.lemmas.List.Sorted.{IsPermutation-sym, IsPermutation-trans}
-use Rattle.list_laws.proofs.Cited.{EachLater, all_of_each, both-later, each_of_all, from_append, in_permutation, later-pairs, later-unmap, mapped_true, pairs-later, related}
+use Rattle.list_laws.proofs.Cited.{EachLater, all_of_each, both_later, each_of_all, from_append, in_permutation, later_pairs, later_unmap, mapped_true, pairs_later, related}
 use Rattle.point_order.specs.Sets.{IsIn}
 use Rattle.edit_history.specs.declared.history.Entry.{Entry}
 use Rattle.edit_history.specs.Edits.{point_of}
@@ -20,28 +20,28 @@ use Rattle.edit_workers.specs.Working.{Marked, left_over, done, IsWorked}
 use Rattle.edit_workers.specs.declared.lists.List as lists
 use Rattle.edit_workers.specs.Running.{pairs_in, CanRun, AscendAtPoint, ArePartly, AreWorked, AreRunBut}
 use Rattle.edit_workers.specs.Arranging.{IsArranged, IsInPlace}
-use Rattle.edit_workers.proofs.Marks.{marks-part, done-tags, left-tags, done-first}
-use Rattle.edit_workers.proofs.Partly.{count-both, all-low, all-high, apart-low, apart-high, partly-both}
+use Rattle.edit_workers.proofs.Marks.{marks_part, done_tags, left_tags, done_first}
+use Rattle.edit_workers.proofs.Partly.{count_both, all_low, all_high, apart_low, apart_high, partly_both}
 
 -- ---- one list
 
 -- where nothing is left over all is done
-none-left : (l : List Marked) → left_over l ≡ [] → done l ≡ map (λ x. x.1) l
-none-left [] e = refl
-none-left (x ∷ l) e = by x.0 (none-left l) e
+none_left : (l : List Marked) → left_over l ≡ [] → done l ≡ map (λ x. x.1) l
+none_left [] e = refl
+none_left (x ∷ l) e = by x.0 (none_left l) e
   where
     by : (b : Bool) → (left_over l ≡ [] → done l ≡ map (λ x. x.1) l) → map (λ (x : Marked). x.1) (cond b (x ∷ filter (λ x. x.0) l) (filter (λ x. x.0) l)) ≡ []
         → map (λ (x : Marked). x.1) (cond (not b) (x ∷ filter (λ x. not x.0) l) (filter (λ x. not x.0) l)) ≡ x.1 ∷ map (λ (x : Marked). x.1) l
     by true h e = absurd (omega (arith, ap length e))
     by false h e = ap (λ (t : List Pair). x.1 ∷ t) (h e)
 
-first-list : List (List Pair) → List Pair
-first-list [] = []
-first-list (l ∷ ls) = l
+first_list : List (List Pair) → List Pair
+first_list [] = []
+first_list (l ∷ ls) = l
 
-only-list : (l m : List Pair) → l ∷ [] ≡ m ∷ [] → l ≡ m
-unfolding first-list
-only-list l m e = ap first-list e
+only_list : (l m : List Pair) → l ∷ [] ≡ m ∷ [] → l ≡ m
+unfolding first_list
+only_list l m e = ap first_list e
 
 module _ (list arranged left : List Pair) (old new : Standing) (is : IsArranged list arranged) (own : old.parts ≡ old.table.parts → arranged ≡ list) (fresh : old.made ≡ []) (one : old.parts ≡ 1) (w : IsWorked arranged left old new) where
   abbrev marked : List Marked
@@ -50,26 +50,26 @@ module _ (list arranged left : List Pair) (old new : Standing) (is : IsArranged 
   abbrev es : List Entry
   es = w.entries
 
-  made-is : new.made ≡ es
-  made-is = ap (λ (s : Standing). s.made) w.pass.new_is ∙ ap (λ (l : List Entry). l ++ es) fresh
+  made_is : new.made ≡ es
+  made_is = ap (λ (s : Standing). s.made) w.pass.new_is ∙ ap (λ (l : List Entry). l ++ es) fresh
 
   ascending : EachLater AscendAtPoint (map (λ x. x.1) marked)
-  ascending = subst (EachLater AscendAtPoint) (sym w.parted) (pairs-later AscendAtPoint arranged is.order)
+  ascending = subst (EachLater AscendAtPoint) (sym w.parted) (pairs_later AscendAtPoint arranged is.order)
 
   lines : IsPermutation (list ++ []) (map line_of es ++ left)
   lines =
       IsPermutation-trans (list ++ []) arranged (map line_of es ++ left)
       (subst (λ (l : List Pair). IsPermutation l arranged) (sym (append-nil list)) is.same)
       (subst (λ (l : List Pair). IsPermutation l (map line_of es ++ left)) w.parted
-      (subst (IsPermutation (map (λ (x : Marked). x.1) marked)) (ap₂ (λ (a b : List Pair). a ++ b) (sym w.made.pairs_are) (sym w.left_is)) (marks-part marked)))
+      (subst (IsPermutation (map (λ (x : Marked). x.1) marked)) (ap₂ (λ (a b : List Pair). a ++ b) (sym w.made.pairs_are) (sym w.left_is)) (marks_part marked)))
 
   abbrev Climbs : Entry → Entry → Type 0
   Climbs d e = d.number < e.number × AscendAtPoint (line_of d) (line_of e)
 
   climbs : EachLater Climbs es
   climbs =
-      both-later (λ (d e : Entry). d.number < e.number) (λ (d e : Entry). AscendAtPoint (line_of d) (line_of e)) es (pairs-later (λ (d e : Entry). d.number < e.number) es w.made.ascending)
-      (later-unmap line_of AscendAtPoint es (subst (EachLater AscendAtPoint) (sym w.made.pairs_are) (done-tags marked ascending)))
+      both_later (λ (d e : Entry). d.number < e.number) (λ (d e : Entry). AscendAtPoint (line_of d) (line_of e)) es (pairs_later (λ (d e : Entry). d.number < e.number) es w.made.ascending)
+      (later_unmap line_of AscendAtPoint es (subst (EachLater AscendAtPoint) (sym w.made.pairs_are) (done_tags marked ascending)))
 
   order : (d e : Entry) → IsIn d es → IsIn e es → d.number < e.number → AscendAtPoint (line_of d) (line_of e)
   order d e i j n same =
@@ -81,7 +81,7 @@ module _ (list arranged left : List Pair) (old new : Standing) (is : IsArranged 
 
   behind : (d : Entry) (p : Pair) → IsIn d es → IsIn p left → AscendAtPoint (line_of d) p
   behind d p i j same =
-      done-first marked ascending (pairs-later (λ (x y : Marked). x.0 ≡ true → point_of x.1.1 ≡ point_of y.1.1 → y.0 ≡ true) marked w.later)
+      done_first marked ascending (pairs_later (λ (x y : Marked). x.0 ≡ true → point_of x.1.1 ≡ point_of y.1.1 → y.0 ≡ true) marked w.later)
       (line_of d) p (subst (IsIn (line_of d)) w.made.pairs_are (mapped_true line_of d es i)) (subst (IsIn p) w.left_is j) same
 
   partly : ArePartly (list ∷ []) left es
@@ -89,99 +89,99 @@ module _ (list arranged left : List Pair) (old new : Standing) (is : IsArranged 
     lines = lines;
     order = order;
     behind = behind;
-    later = later-pairs AscendAtPoint left (subst (EachLater AscendAtPoint) (sym w.left_is) (left-tags marked ascending));
+    later = later_pairs AscendAtPoint left (subst (EachLater AscendAtPoint) (sym w.left_is) (left_tags marked ascending));
   }
 
-  pub worked-one : AreWorked (list ∷ []) left old new
-  worked-one = record {
+  pub worked_one : AreWorked (list ∷ []) left old new
+  worked_one = record {
     still = (ap (λ (s : Standing). s.table) w.pass.new_is, ap (λ (s : Standing). s.first) w.pass.new_is, ap (λ (s : Standing). s.parts) w.pass.new_is);
-    partly = subst (ArePartly (list ∷ []) left) (sym made-is) partly;
+    partly = subst (ArePartly (list ∷ []) left) (sym made_is) partly;
     workers =
-        subst (All (λ (e : Entry). (old.first ≤ e.by) × (e.by < old.first + old.parts))) (sym made-is)
+        subst (All (λ (e : Entry). (old.first ≤ e.by) × (e.by < old.first + old.parts))) (sym made_is)
         (all_of_each (λ (e : Entry). (old.first ≤ e.by) × (e.by < old.first + old.parts)) es (λ e i. let b = each_of_all (λ (e : Entry). e.by ≡ old.first) es w.made.by_pass e i in (omega (arith, b), omega (arith, b, one))));
     alone = λ l e zero all.
         let none : left ≡ [] = w.alone zero all in
-        (none, ap (map line_of) made-is ∙ w.made.pairs_are ∙ none-left marked (sym w.left_is ∙ none) ∙ w.parted ∙ own all ∙ only-list list l e);
+        (none, ap (map line_of) made_is ∙ w.made.pairs_are ∙ none_left marked (sym w.left_is ∙ none) ∙ w.parted ∙ own all ∙ only_list list l e);
   }
 
 -- a slice of one list
-one-of : {X : Type 0} (xs : List X) (x : X) → length xs ≡ 1 → x ≡ get_or xs 0 x → xs ≡ x ∷ []
-one-of [] x l e = absurd (omega (arith, l))
-one-of {X} (y ∷ []) x l e = ap (λ (z : X). z ∷ []) (sym e)
-one-of (y ∷ z ∷ xs) x l e = absurd (omega (arith, l))
+one_of : {X : Type 0} (xs : List X) (x : X) → length xs ≡ 1 → x ≡ get_or xs 0 x → xs ≡ x ∷ []
+one_of [] x l e = absurd (omega (arith, l))
+one_of {X} (y ∷ []) x l e = ap (λ (z : X). z ∷ []) (sym e)
+one_of (y ∷ z ∷ xs) x l e = absurd (omega (arith, l))
 
-pub slice-worked : (ls : List lists.List) (x : lists.List) (arranged left : List Pair) (table : Opened) (count : ℕ) (old new : Standing) → length ls ≡ 1 → x ≡ get_or ls 0 x → CanRun table (pairs_in ls) old → count ≡ table.parts → IsInPlace count x.pairs.items arranged → IsWorked arranged left old new → AreWorked (pairs_in ls) left old new
-slice-worked ls x arranged left table count old new l e can parts is w =
-    let f : pairs_in ls ≡ x.pairs.items ∷ [] = ap pairs_in (one-of ls x l e) in
+pub slice_worked : (ls : List lists.List) (x : lists.List) (arranged left : List Pair) (table : Opened) (count : ℕ) (old new : Standing) → length ls ≡ 1 → x ≡ get_or ls 0 x → CanRun table (pairs_in ls) old → count ≡ table.parts → IsInPlace count x.pairs.items arranged → IsWorked arranged left old new → AreWorked (pairs_in ls) left old new
+slice_worked ls x arranged left table count old new l e can parts is w =
+    let f : pairs_in ls ≡ x.pairs.items ∷ [] = ap pairs_in (one_of ls x l e) in
     let g : CanRun table (x.pairs.items ∷ []) old = subst (λ (t : List (List Pair)). CanRun table t old) f can in
     let all : old.parts ≡ old.table.parts → arranged ≡ x.pairs.items = λ own. is.alone (parts ∙ sym (ap (λ (t : Opened). t.parts) g.table_is) ∙ sym own ∙ g.parts) in
-    subst (λ (t : List (List Pair)). AreWorked t left old new) (sym f) (worked-one x.pairs.items arranged left old new is.is_arranged all g.fresh g.parts w)
+    subst (λ (t : List (List Pair)). AreWorked t left old new) (sym f) (worked_one x.pairs.items arranged left old new is.is_arranged all g.fresh g.parts w)
 
-pub slice-tags : (ls : List lists.List) (x : lists.List) (table : Opened) (old : Standing) → length ls ≡ 1 → x ≡ get_or ls 0 x → CanRun table (pairs_in ls) old → AreAscending x.pairs.items
-slice-tags ls x table old l e can =
-    let f : pairs_in ls ≡ x.pairs.items ∷ [] = ap pairs_in (one-of ls x l e) in
+pub slice_tags : (ls : List lists.List) (x : lists.List) (table : Opened) (old : Standing) → length ls ≡ 1 → x ≡ get_or ls 0 x → CanRun table (pairs_in ls) old → AreAscending x.pairs.items
+slice_tags ls x table old l e can =
+    let f : pairs_in ls ≡ x.pairs.items ∷ [] = ap pairs_in (one_of ls x l e) in
     let g : CanRun table (x.pairs.items ∷ []) old = subst (λ (t : List (List Pair)). CanRun table t old) f can in
     g.tags 0 x.pairs.items (omega arith)
 
-pub slice-allowance : (ls : List lists.List) (x : lists.List) (table : Opened) (old : Standing) → length ls ≡ 1 → x ≡ get_or ls 0 x → CanRun table (pairs_in ls) old → length x.pairs.items ≤ old.left
-slice-allowance ls x table old l e can =
-    let f : pairs_in ls ≡ x.pairs.items ∷ [] = ap pairs_in (one-of ls x l e) in
+pub slice_allowance : (ls : List lists.List) (x : lists.List) (table : Opened) (old : Standing) → length ls ≡ 1 → x ≡ get_or ls 0 x → CanRun table (pairs_in ls) old → length x.pairs.items ≤ old.left
+slice_allowance ls x table old l e can =
+    let f : pairs_in ls ≡ x.pairs.items ∷ [] = ap pairs_in (one_of ls x l e) in
     let g : CanRun table (x.pairs.items ∷ []) old = subst (λ (t : List (List Pair)). CanRun table t old) f can in
     let h = g.left in
     omega (arith, h, length-append x.pairs.items [])
 
 -- ---- two halves
 
-no-entries : (first parts : ℕ) (l : List Entry) → l ≡ [] → entries_by first parts l ≡ []
+no_entries : (first parts : ℕ) (l : List Entry) → l ≡ [] → entries_by first parts l ≡ []
 unfolding entries_by
-no-entries first parts l e = ap (entries_by first parts) e
+no_entries first parts l e = ap (entries_by first parts) e
 
 module _ (lows highs : List (List Pair)) (old mid other : Standing) (some-low : 0 < length lows) (some-high : 0 < length highs) (split : IsSplit (length highs) (count_of highs) old mid other) where
   module _ (table : Opened) (can : CanRun table (lows ++ highs) old) where
-    pub can-low : CanRun table lows mid
-    can-low = record {
+    pub can_low : CanRun table lows mid
+    can_low = record {
       some = some-low;
       short = let s = can.short in omega (arith, s, length-append lows highs);
       table_is = ap (λ (s : Standing). s.table) split.new_is ∙ can.table_is;
       parts = let e : mid.parts ≡ old.parts - length highs = ap (λ (s : Standing). s.parts) split.new_is in let f = can.parts in omega (arith, e, f, length-append lows highs);
-      left = let e : mid.left ≡ old.left - count_of highs = ap (λ (s : Standing). s.left) split.new_is in let f = can.left in let g = count-both lows highs in omega (arith, e, f, g);
+      left = let e : mid.left ≡ old.left - count_of highs = ap (λ (s : Standing). s.left) split.new_is in let f = can.left in let g = count_both lows highs in omega (arith, e, f, g);
       few = let e : mid.left ≡ old.left - count_of highs = ap (λ (s : Standing). s.left) split.new_is in let f = can.few in omega (arith, e, f);
-      fresh = ap (λ (s : Standing). s.made) split.new_is ∙ no-entries old.first (old.parts - length highs) old.made can.fresh;
-      tags = all-low AreAscending lows highs can.tags;
-      apart = apart-low lows highs can.apart;
+      fresh = ap (λ (s : Standing). s.made) split.new_is ∙ no_entries old.first (old.parts - length highs) old.made can.fresh;
+      tags = all_low AreAscending lows highs can.tags;
+      apart = apart_low lows highs can.apart;
     }
 
-    pub can-high : CanRun table highs other
-    can-high = record {
+    pub can_high : CanRun table highs other
+    can_high = record {
       some = some-high;
       short = let s = can.short in omega (arith, s, length-append lows highs);
       table_is = ap (λ (s : Standing). s.table) split.other_is ∙ can.table_is;
       parts = ap (λ (s : Standing). s.parts) split.other_is;
       left = let e : other.left ≡ count_of highs = ap (λ (s : Standing). s.left) split.other_is in omega (arith, e);
-      few = let e : other.left ≡ count_of highs = ap (λ (s : Standing). s.left) split.other_is in let f = can.left in let g = can.few in omega (arith, e, f, g, count-both lows highs);
-      fresh = ap (λ (s : Standing). s.made) split.other_is ∙ no-entries (old.first + (old.parts - length highs)) (length highs) old.made can.fresh;
-      tags = all-high AreAscending lows highs can.tags;
-      apart = apart-high lows highs can.apart;
+      few = let e : other.left ≡ count_of highs = ap (λ (s : Standing). s.left) split.other_is in let f = can.left in let g = can.few in omega (arith, e, f, g, count_both lows highs);
+      fresh = ap (λ (s : Standing). s.made) split.other_is ∙ no_entries (old.first + (old.parts - length highs)) (length highs) old.made can.fresh;
+      tags = all_high AreAscending lows highs can.tags;
+      apart = apart_high lows highs can.apart;
     }
 
   module _ (a b : List Pair) (p q : Standing) (fits : length highs < old.parts) (apart : AreApart (lows ++ highs)) (low : AreWorked lows a mid p) (high : AreWorked highs b other q) where
-    first-p : p.first ≡ old.first
-    first-p = low.still.1 ∙ ap (λ (s : Standing). s.first) split.new_is
+    first_p : p.first ≡ old.first
+    first_p = low.still.1 ∙ ap (λ (s : Standing). s.first) split.new_is
 
-    parts-p : p.parts ≡ old.parts - length highs
-    parts-p = low.still.2 ∙ ap (λ (s : Standing). s.parts) split.new_is
+    parts_p : p.parts ≡ old.parts - length highs
+    parts_p = low.still.2 ∙ ap (λ (s : Standing). s.parts) split.new_is
 
-    parts-q : q.parts ≡ length highs
-    parts-q = high.still.2 ∙ ap (λ (s : Standing). s.parts) split.other_is
+    parts_q : q.parts ≡ length highs
+    parts_q = high.still.2 ∙ ap (λ (s : Standing). s.parts) split.other_is
 
-    pub table-low : p.table ≡ old.table
-    table-low = low.still.0 ∙ ap (λ (s : Standing). s.table) split.new_is
+    pub table_low : p.table ≡ old.table
+    table_low = low.still.0 ∙ ap (λ (s : Standing). s.table) split.new_is
 
-    pub table-high : q.table ≡ old.table
-    table-high = high.still.0 ∙ ap (λ (s : Standing). s.table) split.other_is
+    pub table_high : q.table ≡ old.table
+    table_high = high.still.0 ∙ ap (λ (s : Standing). s.table) split.other_is
 
     pub next : q.first ≡ p.first + p.parts
-    next = high.still.1 ∙ ap (λ (s : Standing). s.first) split.other_is ∙ ap₂ (λ (m n : ℕ). m + n) (sym first-p) (sym parts-p)
+    next = high.still.1 ∙ ap (λ (s : Standing). s.first) split.other_is ∙ ap₂ (λ (m n : ℕ). m + n) (sym first_p) (sym parts_p)
 
     abbrev IsOurs : Entry → Type 0
     IsOurs e = (old.first ≤ e.by) × (e.by < old.first + old.parts)
@@ -205,10 +205,10 @@ module _ (lows highs : List (List Pair)) (old mid other : Standing) (some-low : 
               (omega (arith, l, f), omega (arith, m, f, g, fits))
         ]
 
-    pub worked-both : AreWorked (lows ++ highs) (a ++ b) old (joined p q)
-    worked-both = record {
-      still = (table-low, first-p, omega (arith, parts-p, parts-q, fits));
-      partly = partly-both lows highs a b p.made q.made (by_number (p.made ++ q.made)) apart low.partly high.partly (sorted_moves (p.made ++ q.made));
+    pub worked_both : AreWorked (lows ++ highs) (a ++ b) old (joined p q)
+    worked_both = record {
+      still = (table_low, first_p, omega (arith, parts_p, parts_q, fits));
+      partly = partly_both lows highs a b p.made q.made (by_number (p.made ++ q.made)) apart low.partly high.partly (sorted_moves (p.made ++ q.made));
       workers = all_of_each IsOurs (by_number (p.made ++ q.made)) ours;
       alone = λ l e zero all. let n : length (lows ++ highs) ≡ 1 = ap length e in absurd (omega (arith, n, length-append lows highs, some-low, some-high));
     }
@@ -217,48 +217,48 @@ module _ (lows highs : List (List Pair)) (old mid other : Standing) (some-low : 
 
 module _ (ls lows highs : List lists.List) (parts allowance : ℕ) (table : Opened) (old mid other : Standing) (cut : ls ≡ lows ++ highs) (many : parts ≡ length highs) (all : allowance ≡ count_of (pairs_in highs))
     (some-low : 0 < length lows) (some-high : 0 < length highs) (can : CanRun table (pairs_in ls) old) (split : IsSplit parts allowance old mid other) where
-  pairs-cut : pairs_in ls ≡ pairs_in lows ++ pairs_in highs
-  pairs-cut = ap pairs_in cut ∙ map-append (λ (l : lists.List). l.pairs.items) lows highs
+  pairs_cut : pairs_in ls ≡ pairs_in lows ++ pairs_in highs
+  pairs_cut = ap pairs_in cut ∙ map-append (λ (l : lists.List). l.pairs.items) lows highs
 
-  some-low' : 0 < length (pairs_in lows)
-  some-low' = omega (arith, length-map lows (λ (l : lists.List). l.pairs.items), some-low)
+  some_low' : 0 < length (pairs_in lows)
+  some_low' = omega (arith, length-map lows (λ (l : lists.List). l.pairs.items), some-low)
 
-  some-high' : 0 < length (pairs_in highs)
-  some-high' = omega (arith, length-map highs (λ (l : lists.List). l.pairs.items), some-high)
+  some_high' : 0 < length (pairs_in highs)
+  some_high' = omega (arith, length-map highs (λ (l : lists.List). l.pairs.items), some-high)
 
-  parts-are : parts ≡ length (pairs_in highs)
-  parts-are = many ∙ sym (length-map highs (λ (l : lists.List). l.pairs.items))
+  parts_are : parts ≡ length (pairs_in highs)
+  parts_are = many ∙ sym (length-map highs (λ (l : lists.List). l.pairs.items))
 
-  can-cut : CanRun table (pairs_in lows ++ pairs_in highs) old
-  can-cut = subst (λ (l : List (List Pair)). CanRun table l old) pairs-cut can
+  can_cut : CanRun table (pairs_in lows ++ pairs_in highs) old
+  can_cut = subst (λ (l : List (List Pair)). CanRun table l old) pairs_cut can
 
-  split-cut : IsSplit (length (pairs_in highs)) (count_of (pairs_in highs)) old mid other
-  split-cut = subst (λ (n : ℕ). IsSplit n (count_of (pairs_in highs)) old mid other) parts-are (subst (λ (n : ℕ). IsSplit parts n old mid other) all split)
+  split_cut : IsSplit (length (pairs_in highs)) (count_of (pairs_in highs)) old mid other
+  split_cut = subst (λ (n : ℕ). IsSplit n (count_of (pairs_in highs)) old mid other) parts_are (subst (λ (n : ℕ). IsSplit parts n old mid other) all split)
 
-  pub slice-low : CanRun table (pairs_in lows) mid
-  slice-low = can-low (pairs_in lows) (pairs_in highs) old mid other some-low' some-high' split-cut table can-cut
+  pub slice_low : CanRun table (pairs_in lows) mid
+  slice_low = can_low (pairs_in lows) (pairs_in highs) old mid other some_low' some_high' split_cut table can_cut
 
-  pub slice-high : CanRun table (pairs_in highs) other
-  slice-high = can-high (pairs_in lows) (pairs_in highs) old mid other some-low' some-high' split-cut table can-cut
+  pub slice_high : CanRun table (pairs_in highs) other
+  slice_high = can_high (pairs_in lows) (pairs_in highs) old mid other some_low' some_high' split_cut table can_cut
 
   module _ (a b : List Pair) (p q : Standing) (low : AreWorked (pairs_in lows) a mid p) (high : AreWorked (pairs_in highs) b other q) where
     fits : length (pairs_in highs) < old.parts
-    fits = let e = can-cut.parts in omega (arith, e, length-append (pairs_in lows) (pairs_in highs), some-low')
+    fits = let e = can_cut.parts in omega (arith, e, length-append (pairs_in lows) (pairs_in highs), some_low')
 
-    pub slice-tables : (p.table ≡ table) × (q.table ≡ table) × (q.first ≡ p.first + p.parts)
-    slice-tables = (
-      table-low (pairs_in lows) (pairs_in highs) old mid other some-low' some-high' split-cut a b p q fits can-cut.apart low high ∙ can-cut.table_is,
-      table-high (pairs_in lows) (pairs_in highs) old mid other some-low' some-high' split-cut a b p q fits can-cut.apart low high ∙ can-cut.table_is,
-      next (pairs_in lows) (pairs_in highs) old mid other some-low' some-high' split-cut a b p q fits can-cut.apart low high,
+    pub slice_tables : (p.table ≡ table) × (q.table ≡ table) × (q.first ≡ p.first + p.parts)
+    slice_tables = (
+      table_low (pairs_in lows) (pairs_in highs) old mid other some_low' some_high' split_cut a b p q fits can_cut.apart low high ∙ can_cut.table_is,
+      table_high (pairs_in lows) (pairs_in highs) old mid other some_low' some_high' split_cut a b p q fits can_cut.apart low high ∙ can_cut.table_is,
+      next (pairs_in lows) (pairs_in highs) old mid other some_low' some_high' split_cut a b p q fits can_cut.apart low high,
     )
 
-    pub slice-both : AreWorked (pairs_in ls) (a ++ b) old (joined p q)
-    slice-both = subst (λ (l : List (List Pair)). AreWorked l (a ++ b) old (joined p q)) (sym pairs-cut) (worked-both (pairs_in lows) (pairs_in highs) old mid other some-low' some-high' split-cut a b p q fits can-cut.apart low high)
+    pub slice_both : AreWorked (pairs_in ls) (a ++ b) old (joined p q)
+    slice_both = subst (λ (l : List (List Pair)). AreWorked l (a ++ b) old (joined p q)) (sym pairs_cut) (worked_both (pairs_in lows) (pairs_in highs) old mid other some_low' some_high' split_cut a b p q fits can_cut.apart low high)
 
 -- ---- all lists
 
-pub all-worked : (lists : List (List Pair)) (left : List Pair) (t : Opened) (allowance : ℕ) (new : Standing) → t.parts ≡ length lists → AreWorked lists left (opening_pass t allowance) new → AreRunBut lists left t.opening (t.opening ++ new.made)
-all-worked lists left t allowance new parts w = record {
+pub all_worked : (lists : List (List Pair)) (left : List Pair) (t : Opened) (allowance : ℕ) (new : Standing) → t.parts ≡ length lists → AreWorked lists left (opening_pass t allowance) new → AreRunBut lists left t.opening (t.opening ++ new.made)
+all_worked lists left t allowance new parts w = record {
   more = new.made;
   history = refl;
   partly = w.partly;
@@ -266,7 +266,7 @@ all-worked lists left t allowance new parts w = record {
   alone = λ l e. w.alone l e refl refl;
 }
 
-pub mesh-run : (lists : List (List Pair)) (left : List Pair) (t : Opened) (allowance : ℕ) (old new : Standing) (h k : List Entry) → old ≡ opening_pass t allowance → t.parts ≡ length lists → t.opening ≡ h → AreWorked lists left old new → k ≡ t.opening ++ new.made → AreRunBut lists left h k
-mesh-run lists left t allowance old new h k e parts f w g =
+pub mesh_run : (lists : List (List Pair)) (left : List Pair) (t : Opened) (allowance : ℕ) (old new : Standing) (h k : List Entry) → old ≡ opening_pass t allowance → t.parts ≡ length lists → t.opening ≡ h → AreWorked lists left old new → k ≡ t.opening ++ new.made → AreRunBut lists left h k
+mesh_run lists left t allowance old new h k e parts f w g =
     subst (λ (l : List Entry). AreRunBut lists left l k) f
-    (subst (AreRunBut lists left t.opening) (sym g) (all-worked lists left t allowance new parts (subst (λ (s : Standing). AreWorked lists left s new) e w)))
+    (subst (AreRunBut lists left t.opening) (sym g) (all_worked lists left t allowance new parts (subst (λ (s : Standing). AreWorked lists left s new) e w)))

@@ -1,66 +1,51 @@
 -- Lists of pairs that are done or left over.
-use Rattle.std.specs.Prelude.{◌≡◌, ℕ, ◌<◌, Bool, true, false, not, List, [], ◌∷◌, ◌++◌, map, IsPermutation}
-use Rattle.std.specs.List.{filter, flat_map}
+use Rattle.std.specs.Prelude.{◌≡◌, ℕ, ◌<◌, Bool, true, false, not, List, ◌++◌, map, IsPermutation}
+use Rattle.std.specs.List.{filter}
 use Rattle.std.proofs.Common.{refl, sym, ◌∙◌, ap, subst, inl, inr}
-use Rattle.std.proofs.lemmas.Bool.{false≢true}
 use Rattle.std.proofs.lemmas.List.{map-append}
 use Rattle.std.proofs.lemmas.List.Sorted.{IsPermutation-map, IsPermutation-filter_both}
-use Rattle.list_laws.proofs.Cited.{EachLater, both-later, from_append, in_filtered, later-filter, later-map, later-unmap, mapped_from, passes, related}
+use Rattle.list_laws.proofs.Cited.{EachLater, both_later, in_filtered, later_filter, later_map, later_unmap, mapped_from, not_both, not_from, passes, related}
 use Rattle.point_order.specs.Sets.{IsIn}
 use Rattle.edit_history.specs.Edits.{point_of}
 use Rattle.plain_laws.specs.Running.{Pair}
 use Rattle.edit_workers.specs.Working.{Marked, left_over, done}
 use Rattle.edit_workers.specs.Running.{AscendAtPoint}
 
--- ---- members of lists of lists
-
-pub in-flat : {X : Type 0} (ls : List (List X)) (x : X) → IsIn x (flat_map (λ l. l) ls) → (l : List X) × IsIn l ls × IsIn x l
-in-flat [] x i = absurd i
-in-flat {X} (l ∷ ls) x i =
-    elim (from_append x l (flat_map (λ l. l) ls) i) [
-      | inl j ↦ (l, inl refl, j)
-      | inr j ↦ let r = in-flat ls x j in (r.0, inr r.1, r.2)
-    ]
-
 -- ---- marks
 
-both-ways : (b : Bool) → b ≡ not (not b)
-both-ways true = refl
-both-ways false = refl
+both_ways : (b : Bool) → b ≡ not (not b)
+both_ways true = refl
+both_ways false = refl
 
 -- what is done and what is left over are the pairs
-pub marks-part : (l : List Marked) → IsPermutation (map (λ x. x.1) l) (done l ++ left_over l)
-marks-part l =
+pub marks_part : (l : List Marked) → IsPermutation (map (λ x. x.1) l) (done l ++ left_over l)
+marks_part l =
     subst (IsPermutation (map (λ (x : Marked). x.1) l)) (map-append (λ (x : Marked). x.1) (filter (λ x. not x.0) l) (filter (λ x. x.0) l))
-    (IsPermutation-map (λ (x : Marked). x.1) l (filter (λ x. not x.0) l ++ filter (λ x. x.0) l) (IsPermutation-filter_both (λ (x : Marked). not x.0) (λ x. x.0) (λ x. both-ways x.0) l))
+    (IsPermutation-map (λ (x : Marked). x.1) l (filter (λ x. not x.0) l ++ filter (λ x. x.0) l) (IsPermutation-filter_both (λ (x : Marked). not x.0) (λ x. x.0) (λ x. both_ways x.0) l))
 
 module _ (l : List Marked) (tags : EachLater AscendAtPoint (map (λ x. x.1) l)) where
   tagged : EachLater (λ (x y : Marked). AscendAtPoint x.1 y.1) l
-  tagged = later-unmap (λ (x : Marked). x.1) AscendAtPoint l tags
+  tagged = later_unmap (λ (x : Marked). x.1) AscendAtPoint l tags
 
-  pub done-tags : EachLater AscendAtPoint (done l)
-  done-tags = later-map (λ (x : Marked). x.1) AscendAtPoint (filter (λ x. not x.0) l) (later-filter (λ (x y : Marked). AscendAtPoint x.1 y.1) (λ x. not x.0) l tagged)
+  pub done_tags : EachLater AscendAtPoint (done l)
+  done_tags = later_map (λ (x : Marked). x.1) AscendAtPoint (filter (λ x. not x.0) l) (later_filter (λ (x y : Marked). AscendAtPoint x.1 y.1) (λ x. not x.0) l tagged)
 
-  pub left-tags : EachLater AscendAtPoint (left_over l)
-  left-tags = later-map (λ (x : Marked). x.1) AscendAtPoint (filter (λ x. x.0) l) (later-filter (λ (x y : Marked). AscendAtPoint x.1 y.1) (λ x. x.0) l tagged)
+  pub left_tags : EachLater AscendAtPoint (left_over l)
+  left_tags = later_map (λ (x : Marked). x.1) AscendAtPoint (filter (λ x. x.0) l) (later_filter (λ (x y : Marked). AscendAtPoint x.1 y.1) (λ x. x.0) l tagged)
 
   -- a pair that is done has a lower tag than one of its point that is left over
-  pub done-first : EachLater (λ (x y : Marked). x.0 ≡ true → point_of x.1.1 ≡ point_of y.1.1 → y.0 ≡ true) l
+  pub done_first : EachLater (λ (x y : Marked). x.0 ≡ true → point_of x.1.1 ≡ point_of y.1.1 → y.0 ≡ true) l
       → (p q : Pair) → IsIn p (done l) → IsIn q (left_over l) → point_of p.1 ≡ point_of q.1 → p.0 < q.0
-  done-first later p q i j same =
+  done_first later p q i j same =
       let x = mapped_from (λ (x : Marked). x.1) p (filter (λ x. not x.0) l) i in
       let y = mapped_from (λ (x : Marked). x.1) q (filter (λ x. x.0) l) j in
       let undone : not x.0.0 ≡ true = passes (λ (x : Marked). not x.0) l x.0 x.1 in
       let left : y.0.0 ≡ true = passes (λ (x : Marked). x.0) l y.0 y.1 in
       let R : Marked → Marked → Type 0 = λ x y. AscendAtPoint x.1 y.1 × (x.0 ≡ true → point_of x.1.1 ≡ point_of y.1.1 → y.0 ≡ true) in
       let points : point_of y.0.1.1 ≡ point_of x.0.1.1 = ap (λ (p : Pair). point_of p.1) y.2 ∙ sym same ∙ sym (ap (λ (p : Pair). point_of p.1) x.2) in
-      elim (related R l x.0 y.0 (both-later (λ (x y : Marked). AscendAtPoint x.1 y.1) (λ (x y : Marked). x.0 ≡ true → point_of x.1.1 ≡ point_of y.1.1 → y.0 ≡ true) l tagged later)
+      elim (related R l x.0 y.0 (both_later (λ (x y : Marked). AscendAtPoint x.1 y.1) (λ (x y : Marked). x.0 ≡ true → point_of x.1.1 ≡ point_of y.1.1 → y.0 ≡ true) l tagged later)
       (in_filtered (λ (x : Marked). not x.0) l x.0 x.1) (in_filtered (λ (x : Marked). x.0) l y.0 y.1)) [
-        | inl e ↦ absurd (apart x.0.0 undone (ap (λ (x : Marked). x.0) e ∙ left))
+        | inl e ↦ absurd (not_both x.0.0 (ap (λ (x : Marked). x.0) e ∙ left) (not_from x.0.0 undone))
         | inr (inl r) ↦ subst (λ (n : ℕ). n < q.0) (ap (λ (p : Pair). p.0) x.2) (subst (λ (n : ℕ). x.0.1.0 < n) (ap (λ (p : Pair). p.0) y.2) (r.0 (sym points)))
-        | inr (inr r) ↦ absurd (apart x.0.0 undone (r.1 left points))
+        | inr (inr r) ↦ absurd (not_both x.0.0 (r.1 left points) (not_from x.0.0 undone))
       ]
-    where
-      apart : (b : Bool) → not b ≡ true → b ≡ true → ⊥
-      apart true e f = false≢true e
-      apart false e f = false≢true f

@@ -8,7 +8,7 @@ use Rattle.std.proofs.lemmas.Grind.{flat_map-append}
 use Rattle.std.proofs.lemmas.List.{map-append, append_assoc, append-nil, length-map}
 use Rattle.std.proofs.lemmas.List.Sorted.{IsPermutation-sym, IsPermutation-trans, IsPermutation-map, IsPermutation-append, IsPermutation-append_left, IsPermutation-append_right, IsPermutation-append_comm, length_permutation}
 use Rattle.std.proofs.lemmas.Map.Keys.{IsDistinct-from_apart, IsDistinct-IsPermutation, apart_from_distinct}
-use Rattle.list_laws.proofs.Cited.{EachLater, all_of_each, each_of_all, from_append, in_left, in_permutation, in_right, later-across, later-append, later-left, later-pairs, later-right, later-unmap, later-weaken, mapped_true, pairs-later}
+use Rattle.list_laws.proofs.Cited.{EachLater, all_of_each, each_of_all, flat_from, from_append, in_left, in_permutation, in_right, later_across, later_append, later_left, later_pairs, later_right, later_unmap, later_weaken, mapped_true, pairs_later}
 use Rattle.point_order.specs.Sets.{IsIn}
 use Rattle.edit_history.specs.declared.history.Entry.{Entry}
 use Rattle.edit_history.specs.Edits.{point_of, after}
@@ -17,34 +17,33 @@ use Rattle.edit_history.specs.OneThread.{line_of}
 use Rattle.plain_laws.specs.Running.{Pair}
 use Rattle.edit_workers.specs.Dealing.{HaveNoPoint, AreApart, count_of}
 use Rattle.edit_workers.specs.Running.{AreRun, AscendAtPoint, ArePartly, AreRunBut, AreApplied, AreByTag}
-use Rattle.edit_workers.proofs.Marks.{in-flat}
 
 -- ---- two parts of the lists
 
-pub count-both : (low high : List (List Pair)) → count_of (low ++ high) ≡ count_of low + count_of high
-count-both low high = ap length (flat_map-append (λ (l : List Pair). l) low high) ∙ length-append (flat_map (λ l. l) low) (flat_map (λ l. l) high)
+pub count_both : (low high : List (List Pair)) → count_of (low ++ high) ≡ count_of low + count_of high
+count_both low high = ap length (flat_map-append (λ (l : List Pair). l) low high) ∙ length-append (flat_map (λ l. l) low) (flat_map (λ l. l) high)
 
-pub all-low : {X : Type 0} (P : X → Type 0) (low high : List X) → All P (low ++ high) → All P low
-all-low {X} P low high h = all_of_each P low (λ (x : X) i. each_of_all P (low ++ high) h x (in_left x low high i))
+pub all_low : {X : Type 0} (P : X → Type 0) (low high : List X) → All P (low ++ high) → All P low
+all_low {X} P low high h = all_of_each P low (λ (x : X) i. each_of_all P (low ++ high) h x (in_left x low high i))
 
-pub all-high : {X : Type 0} (P : X → Type 0) (low high : List X) → All P (low ++ high) → All P high
-all-high {X} P low high h = all_of_each P high (λ (x : X) i. each_of_all P (low ++ high) h x (in_right x low high i))
+pub all_high : {X : Type 0} (P : X → Type 0) (low high : List X) → All P (low ++ high) → All P high
+all_high {X} P low high h = all_of_each P high (λ (x : X) i. each_of_all P (low ++ high) h x (in_right x low high i))
 
 module _ (low high : List (List Pair)) (apart : AreApart (low ++ high)) where
   later : EachLater HaveNoPoint (low ++ high)
-  later = pairs-later HaveNoPoint (low ++ high) apart
+  later = pairs_later HaveNoPoint (low ++ high) apart
 
-  pub apart-low : AreApart low
-  apart-low = later-pairs HaveNoPoint low (later-left HaveNoPoint low high later)
+  pub apart_low : AreApart low
+  apart_low = later_pairs HaveNoPoint low (later_left HaveNoPoint low high later)
 
-  pub apart-high : AreApart high
-  apart-high = later-pairs HaveNoPoint high (later-right HaveNoPoint low high later)
+  pub apart_high : AreApart high
+  apart_high = later_pairs HaveNoPoint high (later_right HaveNoPoint low high later)
 
-  pub apart-across : (p q : Pair) → IsIn p (flat_map (λ l. l) low) → IsIn q (flat_map (λ l. l) high) → point_of p.1 ≢ point_of q.1
-  apart-across p q i j =
-      let l = in-flat low p i in
-      let m = in-flat high q j in
-      later-across HaveNoPoint low high later l.0 m.0 l.1 m.1 p q l.2 m.2
+  pub apart_across : (p q : Pair) → IsIn p (flat_map (λ l. l) low) → IsIn q (flat_map (λ l. l) high) → point_of p.1 ≢ point_of q.1
+  apart_across p q i j =
+      let l = flat_from (λ (l : List Pair). l) low p i in
+      let m = flat_from (λ (l : List Pair). l) high q j in
+      later_across HaveNoPoint low high later l.0 m.0 l.1 m.1 p q l.2 m.2
 
 -- exchanged in the middle
 exchanged : {X : Type 0} (a b c d : List X) → IsPermutation ((a ++ b) ++ (c ++ d)) ((a ++ c) ++ (b ++ d))
@@ -56,18 +55,18 @@ exchanged {X} a b c d =
 
 module _ (lists : List (List Pair)) (left : List Pair) (entries : List Entry) (part : ArePartly lists left entries) where
   -- what was made or left over is of the lists
-  pub made-in : (d : Entry) → IsIn d entries → IsIn (line_of d) (flat_map (λ l. l) lists)
-  made-in d i = in_permutation (map line_of entries ++ left) (flat_map (λ l. l) lists) (line_of d) (IsPermutation-sym (flat_map (λ l. l) lists) (map line_of entries ++ left) part.lines) (in_left (line_of d) (map line_of entries) left (mapped_true line_of d entries i))
+  pub made_in : (d : Entry) → IsIn d entries → IsIn (line_of d) (flat_map (λ l. l) lists)
+  made_in d i = in_permutation (map line_of entries ++ left) (flat_map (λ l. l) lists) (line_of d) (IsPermutation-sym (flat_map (λ l. l) lists) (map line_of entries ++ left) part.lines) (in_left (line_of d) (map line_of entries) left (mapped_true line_of d entries i))
 
-  pub left-in : (p : Pair) → IsIn p left → IsIn p (flat_map (λ l. l) lists)
-  left-in p i = in_permutation (map line_of entries ++ left) (flat_map (λ l. l) lists) p (IsPermutation-sym (flat_map (λ l. l) lists) (map line_of entries ++ left) part.lines) (in_right p (map line_of entries) left i)
+  pub left_in : (p : Pair) → IsIn p left → IsIn p (flat_map (λ l. l) lists)
+  left_in p i = in_permutation (map line_of entries ++ left) (flat_map (λ l. l) lists) p (IsPermutation-sym (flat_map (λ l. l) lists) (map line_of entries ++ left) part.lines) (in_right p (map line_of entries) left i)
 
 module _ (low high : List (List Pair)) (a b : List Pair) (es fs made : List Entry) (apart : AreApart (low ++ high)) (first : ArePartly low a es) (second : ArePartly high b fs) (moved : IsPermutation (es ++ fs) made) where
-  from-made : (d : Entry) → IsIn d made → IsIn d (es ++ fs)
-  from-made d i = in_permutation made (es ++ fs) d (IsPermutation-sym (es ++ fs) made moved) i
+  from_made : (d : Entry) → IsIn d made → IsIn d (es ++ fs)
+  from_made d i = in_permutation made (es ++ fs) d (IsPermutation-sym (es ++ fs) made moved) i
 
   never : (p q : Pair) → IsIn p (flat_map (λ l. l) low) → IsIn q (flat_map (λ l. l) high) → point_of p.1 ≡ point_of q.1 → ⊥
-  never p q i j e = apart-across low high apart p q i j e
+  never p q i j e = apart_across low high apart p q i j e
 
   lines : IsPermutation (flat_map (λ l. l) (low ++ high)) (map line_of made ++ (a ++ b))
   lines =
@@ -81,69 +80,69 @@ module _ (low high : List (List Pair)) (a b : List Pair) (es fs made : List Entr
 
   order : (d e : Entry) → IsIn d made → IsIn e made → d.number < e.number → AscendAtPoint (line_of d) (line_of e)
   order d e i j number same =
-      elim (from_append d es fs (from-made d i)) [
-        | inl k ↦ elim (from_append e es fs (from-made e j)) [
+      elim (from_append d es fs (from_made d i)) [
+        | inl k ↦ elim (from_append e es fs (from_made e j)) [
           | inl m ↦ first.order d e k m number same
-          | inr m ↦ absurd (never (line_of d) (line_of e) (made-in low a es first d k) (made-in high b fs second e m) same)
+          | inr m ↦ absurd (never (line_of d) (line_of e) (made_in low a es first d k) (made_in high b fs second e m) same)
         ]
-        | inr k ↦ elim (from_append e es fs (from-made e j)) [
-          | inl m ↦ absurd (never (line_of e) (line_of d) (made-in low a es first e m) (made-in high b fs second d k) (sym same))
+        | inr k ↦ elim (from_append e es fs (from_made e j)) [
+          | inl m ↦ absurd (never (line_of e) (line_of d) (made_in low a es first e m) (made_in high b fs second d k) (sym same))
           | inr m ↦ second.order d e k m number same
         ]
       ]
 
   behind : (d : Entry) (p : Pair) → IsIn d made → IsIn p (a ++ b) → AscendAtPoint (line_of d) p
   behind d p i j same =
-      elim (from_append d es fs (from-made d i)) [
+      elim (from_append d es fs (from_made d i)) [
         | inl k ↦ elim (from_append p a b j) [
           | inl m ↦ first.behind d p k m same
-          | inr m ↦ absurd (never (line_of d) p (made-in low a es first d k) (left-in high b fs second p m) same)
+          | inr m ↦ absurd (never (line_of d) p (made_in low a es first d k) (left_in high b fs second p m) same)
         ]
         | inr k ↦ elim (from_append p a b j) [
-          | inl m ↦ absurd (never p (line_of d) (left-in low a es first p m) (made-in high b fs second d k) (sym same))
+          | inl m ↦ absurd (never p (line_of d) (left_in low a es first p m) (made_in high b fs second d k) (sym same))
           | inr m ↦ second.behind d p k m same
         ]
       ]
 
-  left-later : EachLater AscendAtPoint (a ++ b)
-  left-later = later-append AscendAtPoint a b (pairs-later AscendAtPoint a first.later) (pairs-later AscendAtPoint b second.later) (λ p q i j same. absurd (never p q (left-in low a es first p i) (left-in high b fs second q j) same))
+  left_later : EachLater AscendAtPoint (a ++ b)
+  left_later = later_append AscendAtPoint a b (pairs_later AscendAtPoint a first.later) (pairs_later AscendAtPoint b second.later) (λ p q i j same. absurd (never p q (left_in low a es first p i) (left_in high b fs second q j) same))
 
-  pub partly-both : ArePartly (low ++ high) (a ++ b) made
-  partly-both = record {
+  pub partly_both : ArePartly (low ++ high) (a ++ b) made
+  partly_both = record {
     lines = lines;
     order = order;
     behind = behind;
-    later = later-pairs AscendAtPoint (a ++ b) left-later;
+    later = later_pairs AscendAtPoint (a ++ b) left_later;
   }
 
 -- ---- numbers of a legal history
 
-low-numbers : (n : ℕ) (s : List ℕ) (h : List Entry) → IsLegalFrom n s h → (e : Entry) → IsIn e h → n ≤ e.number
-low-numbers n s [] l e i = absurd i
-low-numbers n s (d ∷ h) l e (inl q) = let m : n ≡ e.number = sym l.0 ∙ ap (λ (e : Entry). e.number) q in omega (arith, m)
-low-numbers n s (d ∷ h) l e (inr i) = let m = low-numbers (n + 1) (after s d.edit) h l.2 e i in omega (arith, m)
+low_numbers : (n : ℕ) (s : List ℕ) (h : List Entry) → IsLegalFrom n s h → (e : Entry) → IsIn e h → n ≤ e.number
+low_numbers n s [] l e i = absurd i
+low_numbers n s (d ∷ h) l e (inl q) = let m : n ≡ e.number = sym l.0 ∙ ap (λ (e : Entry). e.number) q in omega (arith, m)
+low_numbers n s (d ∷ h) l e (inr i) = let m = low_numbers (n + 1) (after s d.edit) h l.2 e i in omega (arith, m)
 
-numbers-rise : (n : ℕ) (s : List ℕ) (h : List Entry) → IsLegalFrom n s h → EachLater (λ (d e : Entry). d.number < e.number) h
-numbers-rise n s [] l = tt
-numbers-rise n s (d ∷ h) l = (λ e i. let m = low-numbers (n + 1) (after s d.edit) h l.2 e i in let z = l.0 in omega (arith, m, z), numbers-rise (n + 1) (after s d.edit) h l.2)
+numbers_rise : (n : ℕ) (s : List ℕ) (h : List Entry) → IsLegalFrom n s h → EachLater (λ (d e : Entry). d.number < e.number) h
+numbers_rise n s [] l = tt
+numbers_rise n s (d ∷ h) l = (λ e i. let m = low_numbers (n + 1) (after s d.edit) h l.2 e i in let z = l.0 in omega (arith, m, z), numbers_rise (n + 1) (after s d.edit) h l.2)
 
 -- ---- pairs by their tags
 
-pub tags-in-order : (l : List Pair) → IsNonDecreasingBy (λ p. p.0) l → AllPairs (λ p q. p.0 ≤ q.0) l
-tags-in-order l h i j d m n = h i j d (omega arith) n
+pub tags_in_order : (l : List Pair) → IsNonDecreasingBy (λ p. p.0) l → AllPairs (λ p q. p.0 ≤ q.0) l
+tags_in_order l h i j d m n = h i j d (omega arith) n
 
 abbrev pub is_same : Pair → Pair → Bool
 is_same p q = (point_of p.1 == point_of q.1) && (p.0 == q.0)
 
-pub same-flips : (p q : Pair) → is_same p q ≡ is_same q p
-same-flips p q = flips (point_of p.1) (point_of q.1) p.0 q.0
+pub same_flips : (p q : Pair) → is_same p q ≡ is_same q p
+same_flips p q = flips (point_of p.1) (point_of q.1) p.0 q.0
   where
     flips : (a b c d : ℕ) → ((a == b) && (c == d)) ≡ ((b == a) && (d == c))
     flips a b c d = grind (arith, nat_tests)
 
-pub by-tags : (left sorted : List Pair) → AllPairs AscendAtPoint left → AreByTag left sorted → AllPairs AscendAtPoint sorted
-by-tags left sorted h s i j d l m same =
-    let differ = IsDistinct-IsPermutation is_same same-flips left sorted s.same (IsDistinct-from_apart is_same left (λ i j d l m. none (get_or left i d) (get_or left j d) (h i j d l m))) in
+pub by_tags : (left sorted : List Pair) → AllPairs AscendAtPoint left → AreByTag left sorted → AllPairs AscendAtPoint sorted
+by_tags left sorted h s i j d l m same =
+    let differ = IsDistinct-IsPermutation is_same same_flips left sorted s.same (IsDistinct-from_apart is_same left (λ i j d l m. none (get_or left i d) (get_or left j d) (h i j d l m))) in
     strict (get_or sorted i d) (get_or sorted j d) (apart_from_distinct is_same sorted i j d differ l m) (s.order i j d l m) same
   where
     none : (p q : Pair) → AscendAtPoint p q → is_same p q ≡ false
@@ -161,8 +160,8 @@ by-tags left sorted h s i j d l m same =
 -- ---- the whole run
 
 -- the entries that were made and the pairs that are left over are as many as the pairs of the lists
-pub room-left : (lists : List (List Pair)) (left sorted : List Pair) (h k : List Entry) → AreRunBut lists left h k → AreByTag left sorted → length k + length sorted ≡ length h + count_of lists
-room-left lists left sorted h k but tags =
+pub room_left : (lists : List (List Pair)) (left sorted : List Pair) (h k : List Entry) → AreRunBut lists left h k → AreByTag left sorted → length k + length sorted ≡ length h + count_of lists
+room_left lists left sorted h k but tags =
     let a : length k ≡ length h + length but.more = ap length but.history ∙ length-append h but.more in
     let b : length (map line_of but.more ++ left) ≡ count_of lists = length_permutation (flat_map (λ l. l) lists) (map line_of but.more ++ left) but.partly.lines in
     omega (arith, a, b, length-append (map line_of but.more) left, length-map but.more line_of, length_permutation left sorted tags.same)
@@ -178,52 +177,52 @@ module _ (lists : List (List Pair)) (left sorted : List Pair) (h k m : List Entr
   SamePoint d e = point_of d.edit ≡ point_of e.edit → d.tag < e.tag
 
   rising : EachLater (λ (d e : Entry). d.number < e.number) es
-  rising = later-right (λ (d e : Entry). d.number < e.number) h es (numbers-rise 0 [] (h ++ es) (subst IsLegal but.history legal))
+  rising = later_right (λ (d e : Entry). d.number < e.number) h es (numbers_rise 0 [] (h ++ es) (subst IsLegal but.history legal))
 
-  first-part : EachLater SamePoint es
-  first-part = later-weaken (λ (d e : Entry). d.number < e.number) SamePoint es (λ d e i j n same. but.partly.order d e i j n same) rising
+  first_part : EachLater SamePoint es
+  first_part = later_weaken (λ (d e : Entry). d.number < e.number) SamePoint es (λ d e i j n same. but.partly.order d e i j n same) rising
 
-  second-part : EachLater SamePoint fs
-  second-part = later-unmap line_of AscendAtPoint fs (subst (EachLater AscendAtPoint) (sym applied.pairs_are) (pairs-later AscendAtPoint sorted (by-tags left sorted but.partly.later tags)))
+  second_part : EachLater SamePoint fs
+  second_part = later_unmap line_of AscendAtPoint fs (subst (EachLater AscendAtPoint) (sym applied.pairs_are) (pairs_later AscendAtPoint sorted (by_tags left sorted but.partly.later tags)))
 
-  from-left : (e : Entry) → IsIn e fs → IsIn (line_of e) left
-  from-left e i = in_permutation sorted left (line_of e) (IsPermutation-sym left sorted tags.same) (subst (IsIn (line_of e)) applied.pairs_are (mapped_true line_of e fs i))
+  from_left : (e : Entry) → IsIn e fs → IsIn (line_of e) left
+  from_left e i = in_permutation sorted left (line_of e) (IsPermutation-sym left sorted tags.same) (subst (IsIn (line_of e)) applied.pairs_are (mapped_true line_of e fs i))
 
-  both-parts : EachLater SamePoint (es ++ fs)
-  both-parts = later-append SamePoint es fs first-part second-part (λ d e i j same. but.partly.behind d (line_of e) i (from-left e j) same)
+  both_parts : EachLater SamePoint (es ++ fs)
+  both_parts = later_append SamePoint es fs first_part second_part (λ d e i j same. but.partly.behind d (line_of e) i (from_left e j) same)
 
-  all-lines : IsPermutation (flat_map (λ l. l) lists) (map line_of (es ++ fs))
-  all-lines =
+  all_lines : IsPermutation (flat_map (λ l. l) lists) (map line_of (es ++ fs))
+  all_lines =
       let e : map line_of es ++ sorted ≡ map line_of (es ++ fs) = ap (λ (l : List Pair). map line_of es ++ l) (sym applied.pairs_are) ∙ sym (map-append line_of es fs) in
       subst (IsPermutation (flat_map (λ l. l) lists)) e
       (IsPermutation-trans (flat_map (λ l. l) lists) (map line_of es ++ left) (map line_of es ++ sorted) but.partly.lines (IsPermutation-append_right (map line_of es) left sorted tags.same))
 
-  by-workers : All (λ e. e.by < length lists) (es ++ fs)
-  by-workers =
+  by_workers : All (λ e. e.by < length lists) (es ++ fs)
+  by_workers =
       all_of_each (λ (e : Entry). e.by < length lists) (es ++ fs)
       (λ e i. elim (from_append e es fs i) [
         | inl j ↦ each_of_all (λ (e : Entry). e.by < length lists) es but.workers e j
         | inr j ↦ let z = each_of_all (λ (e : Entry). e.by ≡ 0) fs applied.by_none e j in omega (arith, z, some)
       ])
 
-  nothing-left : (l : List Pair) → lists ≡ l ∷ [] → map line_of (es ++ fs) ≡ l
-  nothing-left l e =
+  nothing_left : (l : List Pair) → lists ≡ l ∷ [] → map line_of (es ++ fs) ≡ l
+  nothing_left l e =
       let a = but.alone l e in
-      let none : sorted ≡ [] = no-length sorted (length_permutation left sorted tags.same ∙ ap length a.0) in
+      let none : sorted ≡ [] = no_length sorted (length_permutation left sorted tags.same ∙ ap length a.0) in
       map-append line_of es fs ∙ ap (λ (t : List Pair). map line_of es ++ t) (applied.pairs_are ∙ none) ∙ append-nil (map line_of es) ∙ a.1
     where
-      no-length : (l : List Pair) → length l ≡ 0 → l ≡ []
-      no-length [] e = refl
-      no-length (x ∷ l) e = absurd (omega (arith, e))
+      no_length : (l : List Pair) → length l ≡ 0 → l ≡ []
+      no_length [] e = refl
+      no_length (x ∷ l) e = absurd (omega (arith, e))
 
-  pub whole-run : AreRun lists h m
-  whole-run = record {
+  pub whole_run : AreRun lists h m
+  whole_run = record {
     more = es ++ fs;
     history = applied.history ∙ ap (λ (l : List Entry). l ++ fs) but.history ∙ append_assoc h es fs;
     run = record {
-      lines = all-lines;
-      order = later-pairs SamePoint (es ++ fs) both-parts;
-      workers = by-workers;
-      alone = nothing-left;
+      lines = all_lines;
+      order = later_pairs SamePoint (es ++ fs) both_parts;
+      workers = by_workers;
+      alone = nothing_left;
     };
   }

@@ -6,7 +6,7 @@ use Rattle.std.proofs.lemmas.Bool.{false≢true}
 use Rattle.std.proofs.lemmas.List.{length-map, length-take, map-append, append_assoc, take_all, take-append-drop}
 use Rattle.std.proofs.Math.Seq.{take-suc}
 use Rattle.std.proofs.lemmas.List.Elements.{All-append}
-use Rattle.list_laws.proofs.Cited.{all_of_each, each_of_all, later-append, later-pairs, pairs-later}
+use Rattle.list_laws.proofs.Cited.{all_of_each, each_of_all, later_append, later_pairs, pairs_later}
 use Rattle.point_order.specs.Sets.{IsIn}
 use Rattle.edit_history.specs.declared.history.Edit.{Edit}
 use Rattle.edit_history.specs.declared.history.Entry.{Entry}
@@ -133,7 +133,7 @@ worked_nothing p = record {
   left_is = refl;
   later = λ i j d l m. absurd (omega arith);
   entries = [];
-  made = record { pairs_are = refl; by_pass = all_of_each (λ (e : Entry). e.by ≡ p.first) [] (λ x i. absurd i); ascending = later-pairs (λ (d e : Entry). d.number < e.number) [] tt; later = all_of_each (λ (e : Entry). p.seen ≤ e.number) [] (λ x i. absurd i) };
+  made = record { pairs_are = refl; by_pass = all_of_each (λ (e : Entry). e.by ≡ p.first) [] (λ x i. absurd i); ascending = later_pairs (λ (d e : Entry). d.number < e.number) [] tt; later = all_of_each (λ (e : Entry). p.seen ≤ e.number) [] (λ x i. absurd i) };
   steps = [];
   pass = record {
     new_is = (let l : p.left ≡ p.left - 0 = omega arith in let m = sym (append-nil p.made) in let t = sym (append-nil p.trail) in λ i. record p { left = l i; made = m i; trail = t i });
@@ -206,8 +206,8 @@ entries_more old now new pairs entries steps tag edit a h m =
     record {
       pairs_are = map-append line_of entries (e ∷ []) ∙ ap (λ (l : List Pair). l ++ (tag, edit) ∷ []) a.pairs_are;
       by_pass = All-append (λ (e : Entry). e.by ≡ old.first) entries (e ∷ []) a.by_pass (all_of_each (λ (e : Entry). e.by ≡ old.first) (e ∷ []) (λ d i. by_it d i));
-      ascending = later-pairs (λ (d e : Entry). d.number < e.number) (entries ++ e ∷ [])
-          (later-append (λ (d e : Entry). d.number < e.number) entries (e ∷ []) (pairs-later (λ (d e : Entry). d.number < e.number) entries a.ascending) ((λ y i. absurd i), tt) across);
+      ascending = later_pairs (λ (d e : Entry). d.number < e.number) (entries ++ e ∷ [])
+          (later_append (λ (d e : Entry). d.number < e.number) entries (e ∷ []) (pairs_later (λ (d e : Entry). d.number < e.number) entries a.ascending) ((λ y i. absurd i), tt) across);
       later = All-append (λ (e : Entry). old.seen ≤ e.number) entries (e ∷ []) a.later (all_of_each (λ (e : Entry). old.seen ≤ e.number) (e ∷ []) (λ d i. above d i));
     }
   where

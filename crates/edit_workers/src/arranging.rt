@@ -8,6 +8,7 @@ ghost use Rattle.edit_workers.specs.Arranging.{
   stretch_of as stretch_of_tag,
   place_of as place_of_point,
   key_of as key_of_pair,
+  place_count,
   IsArranged,
   IsInPlace,
 };
@@ -61,7 +62,7 @@ fn stretch_of(tag: u32) -> u32
 // The number by which pairs are arranged: their stretch, then their place behind the
 // one where the worker begins, then their tag.
 fn key_of(pair: &(u32, Edit), begin: u32) -> u64
-    requires { begin < 4096 }
+    requires { begin < place_count }
     ensures { result ≡ key_of_pair begin pair.now }
 {
     let stretch = stretch_of(pair.0) as u64;
@@ -72,7 +73,7 @@ fn key_of(pair: &(u32, Edit), begin: u32) -> u64
 // The place at which the worker with a number begins: those of so many begin far from each other.
 fn beginning(number: u32, count: u32) -> u32
     requires { 0 < count }
-    ensures { result < 4096 }
+    ensures { result < place_count }
 {
     (PLACES / count).wrapping_mul(number) % PLACES
 }

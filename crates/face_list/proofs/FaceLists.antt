@@ -251,7 +251,7 @@ full_ascends [] q a i = absurd i
 full_ascends (c ∷ cells) q a i = elim i [ inl e ↦ subst (λ v. IsAscending (points_of v)) e a.0 | inr j ↦ full_ascends cells q a.1 j ]
 
 -- a part has as many points
-part_length : (k : ℕ) (q p : List ℕ) → IsIn p (subsets k q) → length p ≡ k
+pub part_length : (k : ℕ) (q p : List ℕ) → IsIn p (subsets k q) → length p ≡ k
 part_length zero q p m = elim m [ inl e ↦ ap length (sym e) | inr none ↦ absurd none ]
 part_length (suc k) [] p m = absurd m
 part_length (suc k) (x ∷ q) p m = elim (from_append p (map (λ r. x ∷ r) (subsets k q)) (subsets (suc k) q) m) [

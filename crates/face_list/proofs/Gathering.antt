@@ -9,7 +9,7 @@ use Rattle.std.specs.declared.cmp.Ordering.TheVariants.{Less, Equal, Greater}
 use Rattle.std.proofs.lemmas.Map.Lookups.{CmpEqualImpliesEq}
 use Rattle.std.proofs.lemmas.List.{map-append, get_or_default}
 use Rattle.std.proofs.lemmas.List.Elements.{filter-append}
-use Rattle.list_laws.proofs.Cited.{all_by, at_in, each_by, filtered_from, filtered_true, level, mapped_from, mapped_true}
+use Rattle.list_laws.proofs.Cited.{all_by, at_in, each_by, filtered_from, filtered_true, is_equal, level, mapped_from, mapped_true}
 use Rattle.point_order.specs.declared.cell.Cell.{Cell}
 use Rattle.point_order.specs.declared.cell.Cell.TheVariants.{Full}
 use Rattle.point_order.specs.Sets.{IsIn}
@@ -74,13 +74,8 @@ numbers_rise {K} cmp o exact (i ∷ items) k s = by (numbers_rise cmp o exact it
     above e n m = (
         let f = mapped_from (λ (j : K × ℕ). j.1) n (filter (λ (j : K × ℕ). is_eq (cmp j.0 k)) items) m in
         let g = filtered_from (λ (j : K × ℕ). is_eq (cmp j.0 k)) items f.0 f.1 in
-        subst (λ v. nat_cmp i.1 v ≡ Less) f.2 (tied f.0 (exact f.0.0 k (equal (cmp f.0.0 k) g.1)) (keys_rise cmp i f.0 (each_by (λ z. item_cmp cmp i z ≡ Less) items s.0 f.0 g.0))))
+        subst (λ v. nat_cmp i.1 v ≡ Less) f.2 (tied f.0 (exact f.0.0 k (is_equal (cmp f.0.0 k) g.1)) (keys_rise cmp i f.0 (each_by (λ z. item_cmp cmp i z ≡ Less) items s.0 f.0 g.0))))
       where
-        equal : (r : Ordering) → is_eq r ≡ true → r ≡ Equal
-        equal Less h = cc
-        equal Equal h = refl
-        equal Greater h = cc
-
         tied : (j : K × ℕ) → j.0 ≡ k → (cmp i.0 j.0 ≡ Less) ⊎ ((cmp i.0 j.0 ≡ Equal) × (nat_cmp i.1 j.1 ≡ Less)) → nat_cmp i.1 j.1 ≡ Less
         tied j q (inl l) = (let n : Equal ≡ Less = sym e ∙ subst (λ v. cmp i.0 v ≡ Less) q l in cc)
         tied j q (inr l) = l.1
@@ -95,15 +90,10 @@ pub number_from : {K : Type 0} (cmp : K → K → Ordering) (exact : CmpEqualImp
 number_from {K} cmp exact items k n m = (
     let f = mapped_from (λ (j : K × ℕ). j.1) n (filter (λ (j : K × ℕ). is_eq (cmp j.0 k)) items) m in
     let g = filtered_from (λ (j : K × ℕ). is_eq (cmp j.0 k)) items f.0 f.1 in
-    let a : f.0.0 ≡ k = exact f.0.0 k (equal (cmp f.0.0 k) g.1) in
+    let a : f.0.0 ≡ k = exact f.0.0 k (is_equal (cmp f.0.0 k) g.1) in
     let e : f.0 ≡ (k, n) = both f.0 a f.2 in
     subst (λ (v : K × ℕ). IsIn v items) e g.0)
   where
-    equal : (r : Ordering) → is_eq r ≡ true → r ≡ Equal
-    equal Less h = cc
-    equal Equal h = refl
-    equal Greater h = cc
-
     both : (j : K × ℕ) → j.0 ≡ k → j.1 ≡ n → j ≡ (k, n)
     both (a, b) p q = cc
 

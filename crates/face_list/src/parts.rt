@@ -3,7 +3,6 @@
 ghost use Rattle.std.specs.Prelude.{◌≡◌, ◌<◌, ◌^◌, ◌++◌, length, map, IfOk, OnOk};
 ghost use Rattle.point_order.specs.Facets.{points_of};
 ghost use Rattle.point_order.specs.Subsets.{subsets};
-ghost use Rattle.point_order.specs.Sets.{IsAscending};
 ghost use Rattle.face_list.specs.Gather.{items_from, AreAscending};
 
 use point_order::{Cell, Pair, Point, Tri};
@@ -27,17 +26,6 @@ fn put<K: Copy>(items: &mut Vec<(K, u32)>, parts: &[K], number: u32) -> Result<(
     Ok(())
 }
 
-// The points of a cell, which ascend.
-fn points_in_order(cell: &Cell) -> &[Point]
-    ensures points { result.now ≡ points_of cell.now }
-    ensures ascending { IsAscending (points_of cell.now) }
-{
-    match cell {
-        Cell::Full(quad) => quad.points(),
-        Cell::Open(tri) => tri.points(),
-    }
-}
-
 /// The number of each cell under each of its points, which ascend in each cell.
 pub fn point_items(alloc: Global, cells: &[Cell]) -> Result<Vec<(Point, u32)>, AllocError>
     requires { length cells.now < 2 ^ 32 }
@@ -46,7 +34,7 @@ pub fn point_items(alloc: Global, cells: &[Cell]) -> Result<Vec<(Point, u32)>, A
 {
     let mut items = Vec::with_capacity(alloc, cells.len() * 4)?;
     for number in 0..cells.len() {
-        put(&mut items, points_in_order(&cells[number]), number as u32)?;
+        put(&mut items, cells[number].points(), number as u32)?;
     }
     Ok(items)
 }

@@ -18,7 +18,7 @@ use Rattle.grid_claims.specs.Faces.{buckets_of, opening_of, plain, board_of}
 use Rattle.grid_claims.specs.Rule.{IsSeatInOrder, IsRule}
 use Rattle.grid_claims.specs.Plays.{no_pass}
 use Rattle.grid_claims.proofs.Boarded.{Table, Live}
-use Rattle.grid_claims.proofs.Claims.{IsAlone, on_board, slot_of}
+use Rattle.grid_claims.proofs.Claims.{IsAlone, behind_count, on_board, slot_of}
 use Rattle.grid_claims.proofs.Divides.{empty_hand, empty_once}
 
 nowhere : (b : ℕ) → bucket_at no_pass.held b ≡ None
@@ -47,7 +47,7 @@ all_home k s h id b v r a all nothing inside =
     let shown = on_board k s h id v r a in
     let mine : v.first + v.parts ≤ k.parts = (good.passes (plain v) shown).inside in
     let live = a.live in
-    let words_count : length old.words ≡ buckets_of k = behind s.words (buckets_of k) r.words in
+    let words_count : length old.words ≡ buckets_of k = behind_count s.words (buckets_of k) r.words in
     dite (ℕ_discrete (word_of old b) 0)
     (λ z.
     let c = some_of (bucket_at old.homes b) ((good.home b (omega arith)).0 z) in
@@ -60,10 +60,6 @@ all_home k s h id b v r a all nothing inside =
     let owner = good.owners o.view.first (omega arith) in
     let one : o.view ≡ plain v = owner.only o.view o.live (omega arith, omega arith) ∙ sym (owner.only (plain v) shown (omega arith, omega arith)) in
     absurd (none_there (bucket_at v.held b) (nothing b) (subst (λ (x : Live). IsSome (bucket_at x.held b)) one o.holds)))
-  where
-    behind : (words : List ℕ) (n : ℕ) → length words ≡ n + 1 → length (drop 1 words) ≡ n
-    behind [] n e = absurd (omega arith)
-    behind (w ∷ words) n e = omega arith
 
 -- and the history is the opening entries and what it has made
 pub all_made : (k : Key) (s : Table) (h : List Entry) (id : ℕ) (v : View) → IsRule k s h → IsAlone k s id v → v.parts ≡ k.parts → h ≡ opening_of k ++ v.made

@@ -33,13 +33,13 @@ use Rattle.grid_claims.specs.Faces.{buckets_of, opening_of, plain, plain_child, 
 use Rattle.grid_claims.specs.Trails.{in_hand, in_hand_after, AreStepsFrom, IsStepOf, IsCommitOf, IsExact, AreTouched}
 use Rattle.grid_claims.specs.Rule.{IsSeatInOrder, IsRule}
 use Rattle.grid_claims.specs.Plays.{Seated, commits, Committed, IsReady, HandStands, HandShows, entry_of}
-use Rattle.grid_claims.proofs.Boarded.{Table, Live, firsts, alone, shown, same_firsts, others_from, views_set}
+use Rattle.grid_claims.proofs.Boarded.{Table, Live, firsts, firsts_append, alone, shown, same_firsts, others_from, views_set}
 use Rattle.grid_claims.proofs.Seen.{passes_to, in_firsts}
 use Rattle.grid_claims.specs.declared.view.Child.{Child}
 use Rattle.std.proofs.lemmas.Bool.Decides.{nat_tests}
-use Rattle.list_laws.proofs.Cited.{in_both, rest_distinct}
+use Rattle.list_laws.proofs.Cited.{all_of_each, each_of_all, in_both, rest_distinct}
 use Rattle.grid_claims.proofs.Trailed.{in_hand_snoc, steps_snoc}
-use Rattle.grid_claims.proofs.Claims.{IsAlone, below, on_board, hand_stands, Taken, live_all, live_one}
+use Rattle.grid_claims.proofs.Claims.{IsAlone, below, on_board, hand_stands, Taken}
 
 -- ---- a history with one more entry
 
@@ -107,10 +107,6 @@ front [] x n e = absurd (omega arith)
 front (w ∷ words) x n e = refl
 
 -- ---- seats that differ
-
-pub firsts_append : (l m : List Live) → firsts (l ++ m) ≡ firsts l ++ firsts m
-firsts_append [] m = refl
-firsts_append (y ∷ l) m = ap (λ (n : List ℕ). y.first ∷ n) (firsts_append l m)
 
 -- passes of two seats have two numbers
 pub seats_differ : (count : ℕ) (views : List View) (i j : ℕ) (v u : View) (x y : Live) → i ≢ j → get_elem? views i ≡ some v → get_elem? views j ≡ some u → IsIn x (passes_of count v) → IsIn y (passes_of count u) → AreDistinct (firsts (passes_in count views)) → x.first ≢ y.first
@@ -224,7 +220,7 @@ commits_keep k slots id tag edit reply me s h r a ready some_left key =
     -- an entry by this pass is by no part of another seat's
     let not_theirs : (j : ℕ) (u : View) (y : Live) → j ≢ id → get_elem? s.views j ≡ some u → IsIn y (passes_of count u) → is_by y.first y.parts e ≡ true → ⊥ = λ j u y n at i t.
     let listed_y : IsIn y (passes_in count s.views) = passes_to count s.views j u y at i in
-    let y_below : y.first < k.parts = live_one (λ (z : Live). z.first < k.parts) (passes_in count s.views) y r.below listed_y in
+    let y_below : y.first < k.parts = each_of_all (λ (z : Live). z.first < k.parts) (passes_in count s.views) r.below y listed_y in
     let y_live : view_at old y.first ≡ Some y = shown k s y r.apart y_below listed_y in
     let owner = good.owners v.first inside in
     let one : y ≡ plain v = owner.only y y_live (by_parts y.first y.parts e t) ∙ sym (owner.only (plain v) shows (omega arith, (let q = a.live in omega arith))) in
@@ -248,10 +244,10 @@ commits_keep k slots id tag edit reply me s h r a ready some_left key =
       good = good';
       words = length-set s.words 0 x ∙ r.words;
       apart = subst (λ (l : List ℕ). AreDistinct l) (sym same) r.apart;
-      below = live_all (λ (u : Live). u.first < k.parts) (passes_in count views') (λ u i.
+      below = all_of_each (λ (u : Live). u.first < k.parts) (passes_in count views') (λ u i.
           dite (ℕ_discrete u.first v.first)
           (λ q. omega arith)
-          (λ n. live_one (λ (z : Live). z.first < k.parts) (passes_in count s.views) u r.below
+          (λ n. each_of_all (λ (z : Live). z.first < k.parts) (passes_in count s.views) r.below u
           (others_from count s.views id w u (λ j. elim (subst (λ (l : List Live). IsIn u l) is_w j) [
             | inl q ↦ n (ap (λ (z : Live). z.first) (sym q))
             | inr q ↦ q

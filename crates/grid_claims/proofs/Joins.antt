@@ -11,7 +11,7 @@ use lib.ListN.{get_elem?}
 use Rattle.atomic_table.specs.Table.{Joins}
 use Rattle.atomic_table.proofs.Lists.{at_set, set_else}
 use Rattle.list_laws.specs.Lists.{AreDistinct}
-use Rattle.list_laws.proofs.Cited.{distinct_less}
+use Rattle.list_laws.proofs.Cited.{all_of_each, distinct_less, each_of_all}
 use Rattle.point_order.specs.Sets.{IsIn}
 use Rattle.edit_history.specs.declared.history.Entry.{Entry}
 use Rattle.cell_store.specs.Buckets.{bucket_at}
@@ -27,12 +27,11 @@ use Rattle.grid_claims.specs.Lists.{longer}
 use Rattle.grid_claims.specs.Rule.{IsSeatInOrder, IsRule, Rule}
 use Rattle.grid_claims.specs.Plays.{joins, no_pass}
 use Rattle.grid_claims.proofs.Seen.{numbered_from, same_numbered, at_place, places_count, in_firsts}
-use Rattle.grid_claims.proofs.Boarded.{Table, Live, firsts, alone, others_to, others_from, same_firsts, views_set}
+use Rattle.grid_claims.proofs.Boarded.{Table, Live, firsts, firsts_append, alone, others_to, others_from, same_firsts, views_set}
 use Rattle.grid_claims.proofs.Handled.{Between}
-use Rattle.grid_claims.proofs.Claims.{IsAlone, below, on_board, live_all, live_one}
+use Rattle.grid_claims.proofs.Claims.{IsAlone, below, on_board}
 use Rattle.grid_claims.proofs.Closing.{spent_in_order}
 use Rattle.grid_claims.proofs.United.{made_united}
-use Rattle.grid_claims.proofs.Commits.{firsts_append}
 
 -- ---- a seat without a pass
 
@@ -152,10 +151,10 @@ joins_keep k id other v w live live' lone lone' nothing nothing' next s rule at 
       good = good';
       words = r.words;
       apart = d2;
-      below = live_all (λ (u : Live). u.first < k.parts) (passes_in count views2) (λ u i.
+      below = all_of_each (λ (u : Live). u.first < k.parts) (passes_in count views2) (λ u i.
           dite (ℕ_discrete u.first v.first)
           (λ q. omega arith)
-          (λ n. live_one (λ (z : Live). z.first < k.parts) (passes_in count s.views) u r.below
+          (λ n. each_of_all (λ (z : Live). z.first < k.parts) (passes_in count s.views) r.below u
           (others_from count s.views other no_pass u (λ j. j)
           (others_from count views1 id both u (λ j. elim (subst (λ (l : List Live). IsIn u l) is_both j) [
             | inl q ↦ n (ap (λ (z : Live). z.first) (sym q))

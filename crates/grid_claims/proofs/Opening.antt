@@ -7,7 +7,7 @@ use mathlib.Core.Option.{some, some-injective, some-ne-none}
 use lib.ListN.{get_elem?}
 use Rattle.atomic_table.specs.Table.{opening}
 use Rattle.list_laws.specs.Lists.{AreDistinct}
-use Rattle.list_laws.proofs.Cited.{none_at, none_there}
+use Rattle.list_laws.proofs.Cited.{all_of_each, none_at, none_there}
 use Rattle.point_order.specs.Solid.{is_solid}
 use Rattle.edit_history.specs.declared.history.Entry.{Entry}
 use Rattle.edit_history.specs.Histories.{replay, IsLegal}
@@ -24,7 +24,6 @@ use Rattle.grid_claims.specs.Faces.{buckets_of, opening_of, plain, passes_of, pa
 use Rattle.grid_claims.specs.Rule.{IsSeatInOrder, IsRule, opening_view}
 use Rattle.grid_claims.proofs.Seen.{at_place, places_count}
 use Rattle.grid_claims.proofs.Boarded.{Table, Live, firsts, alone}
-use Rattle.grid_claims.proofs.Claims.{live_all}
 use Rattle.grid_claims.proofs.Divides.{empty_hand, empty_once}
 
 homes_are : (slots : List (Option BucketContent)) → map at_home (map some slots) ≡ slots
@@ -68,7 +67,7 @@ starts k h allowance slots is most size some_part few fits legal keys solid all_
       good = subst (λ (t : BoardState). IsGood t h) (sym event) good;
       words = let zero_word : ℕ = 0 in let q : length (replicate count zero_word) ≡ count = length-replicate count zero_word in omega arith;
       apart = subst (λ (l : List Live). AreDistinct (firsts l)) (sym listed) ((λ i. i), tt);
-      below = subst (λ (l : List Live). All (λ (u : Live). u.first < k.parts) l) (sym listed) (live_all (λ (u : Live). u.first < k.parts) (first ∷ []) (λ u i. elim i [
+      below = subst (λ (l : List Live). All (λ (u : Live). u.first < k.parts) l) (sym listed) (all_of_each (λ (u : Live). u.first < k.parts) (first ∷ []) (λ u i. elim i [
         | inl e ↦ (let q : 0 ≡ u.first = ap (λ (x : Live). x.first) e in omega arith)
         | inr e ↦ absurd e
       ]));

@@ -10,7 +10,7 @@ use Rattle.edit_history.specs.declared.history.Entry.{Entry}
 use Rattle.cell_store.specs.Buckets.{BucketContent, InHand, bucket_at}
 use Rattle.cell_store.specs.Grids.{is_grid_size}
 use Rattle.cell_store.specs.Meshes.{StandsForSome}
-use Rattle.cell_stars.proofs.Cited.{bucket-below}
+use Rattle.cell_stars.proofs.Cited.{bucket_below}
 use Rattle.grid_claims.specs.declared.hands.Hands.{Hands}
 use Rattle.grid_claims.specs.declared.view.Act.TheVariants.{Look}
 use Rattle.grid_claims.specs.declared.view.Key.{Key}
@@ -53,7 +53,7 @@ next_absent id n b old now i =
 pub claiming_ends : (id : TableId) (n count g : ℕ) (old now : Hands) → IsClaimingAll id n old now count → count ≡ n → is_grid_size g ≡ true → count ≡ g * g * g → HasClaimedAll old now
 claiming_ends id n count g old now i all size cube =
     let wide : count ≡ length now.hold.places = all ∙ sym i.hands.places in
-    let first = bucket-below g 0 size in
+    let first = bucket_below g 0 size in
     record {
       claimed = i.claimed;
       order = i.order ∙ ap (range_with_len 0) wide;

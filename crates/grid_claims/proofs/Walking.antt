@@ -4,7 +4,7 @@ use Rattle.std.proofs.Common.{sym, ◌∙◌, subst, arith}
 use Rattle.atomic_table.specs.Seated.{TableId}
 use Rattle.point_order.specs.declared.cell.Cell.{Cell}
 use Rattle.hole_laws.specs.Edits.{GoesFrom}
-use Rattle.cell_stars.proofs.Cited.{bucket-below}
+use Rattle.cell_stars.proofs.Cited.{bucket_below}
 use Rattle.cell_store.specs.Grids.{is_grid_size}
 use Rattle.cell_store.specs.Buckets.{InHand, bucket_at}
 use Rattle.cell_store.specs.Shares.{Shows, points_on}
@@ -69,8 +69,8 @@ module _ (id : TableId) (n p : ℕ) (old now : Hands) where
       (subst (λ (x : ℕ). x < now.hold.grid * now.hold.grid * now.hold.grid) (sym g.1.number) (first_below (points_on g.1.facet)))
     where
       first_below : (l : List ℕ) → bucket_of_first now.hold.grid l < now.hold.grid * now.hold.grid * now.hold.grid
-      first_below [] = let k = bucket-below now.hold.grid 0 size in omega (arith, k)
-      first_below (x ∷ l) = bucket-below now.hold.grid x size
+      first_below [] = let k = bucket_below now.hold.grid 0 size in omega (arith, k)
+      first_below (x ∷ l) = bucket_below now.hold.grid x size
 
 -- ---- answers after claims
 

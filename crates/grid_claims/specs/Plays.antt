@@ -166,8 +166,8 @@ IsOthers v word = (0 < word) × ((word ≤ v.first) ⊎ (v.first + v.parts < wor
 abbrev pub Claimed : At → Seated → ℕ → Seated → Type 0
 Claimed st m found m' =
     (b : ℕ) → st.word ≡ b + 1 →
-    (found ≡ 0 → (c : BucketContent) × (m'.0 ≡ claims m.0 b c) × (m'.1 ≡ (b, Some c) ∷ m.1) × (bucket_at m.0.held b ≡ None)
-    × (c.place ≡ Some (m.0.grid, b)) × ((h : List Entry) × HandStands m'.0 h))
+    (found ≡ 0 → (c : BucketContent) × (m'.0 ≡ claims m.0 b c) × (m'.1 ≡ (b, Some c) ∷ m.1)
+    × (bucket_at m.0.held b ≡ None) × (c.place ≡ Some (m.0.grid, b)) × ((h : List Entry) × HandStands m'.0 h))
     × (found ≢ 0 → (m' ≡ (fails m.0 b found, m.1)) × (bucket_at m.0.held b ≡ None → IsOthers m.0 found))
 
 abbrev pub Released : At → Seated → ℕ → Seated → Type 0

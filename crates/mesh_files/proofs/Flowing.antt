@@ -4,7 +4,7 @@ use Rattle.std.specs.Prelude.{Result, Ok, Err, OnOk, OnErr, Option, codes, decim
 use Rattle.std.specs.Io.KnownBytes.{Appends}
 use Rattle.std.proofs.KnownBytes.{Appends-trans, Appends-nil}
 use Rattle.byte_ends.specs.Ends.{AppendsFront}
-use Rattle.byte_ends.proofs.Cited.{AppendsFront-after}
+use Rattle.byte_ends.proofs.Cited.{AppendsFront_after}
 use Rattle.std.specs.List.{concat}
 use Rattle.mesh_files.specs.Lines.{block}
 use Rattle.mesh_files.specs.Pages.{Flows, FlowsInPart}
@@ -95,10 +95,6 @@ pub fails_err : {T E : Type 0} {a b : Option (List ℕ)} {p q x : List ℕ} (c :
 fails_err c y (Ok v) f g = tt
 fails_err c y (Err e) f g = fails f g
 
-pub on_err : {T E P : Type 0} (r : Result T E) → P → OnErr r P
-on_err (Ok x) p = tt
-on_err (Err e) p = p
-
 -- ---- a text that is put item by item
 
 -- a front of the whole was put, and the rest is not yet
@@ -148,4 +144,4 @@ breaks {X} {a} {b} {c} {p} {q} {whole} text piece of xs i x l e f g =
 
 -- what was put is written, or a front of it
 pub flushed_in_part : {a b : Option (List ℕ)} {q x : List ℕ} (c : Option (List ℕ)) → Flows a b [] q x → AppendsFront b c q → AppendsFront a c x
-flushed_in_part {a} {b} {q} {x} c f w = subst (λ (t : List ℕ). AppendsFront a c t) (sym f.parts) (AppendsFront-after a b c f.written q f.appended w)
+flushed_in_part {a} {b} {q} {x} c f w = subst (λ (t : List ℕ). AppendsFront a c t) (sym f.parts) (AppendsFront_after a b c f.written q f.appended w)

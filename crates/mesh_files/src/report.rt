@@ -1,6 +1,6 @@
 //! The report of a mesh: replies, points, cells, hull, shapes and order.
 
-ghost use Rattle.std.specs.Prelude.{◌≡◌, ℕ, codes, length, map, option_map, Vec, IfOk, IsOk, IsTrue, OnOk, OnErr};
+ghost use Rattle.std.specs.Prelude.{◌≡◌, ℕ, codes, length, map, option_map, Vec, IfOk, IsOk, OnOk, OnErr};
 ghost use Rattle.std.specs.declared.alloc.Global.{Global};
 ghost use Rattle.point_order.specs.Sets.{IsAscending};
 ghost use Rattle.std.specs.Io.KnownBytes.{Appends};
@@ -295,113 +295,5 @@ pub fn mesh_text(alloc: Global, report: &Report) -> Result<Vec<u8>, AllocError>
     match put_report(&mut text, report) {
         Ok(()) => Ok(text.into_bytes()),
         Err(Failed) => Err(AllocError),
-    }
-}
-
-#[cfg(test)]
-mod tests {
-    use super::*;
-    use crate::summary::summary_text;
-    use byte_ends::MemSink;
-    use std::process::Abort;
-    use std::test::Fail;
-
-    const TETRAHEDRON: &str =
-        "mesh3-out 1\nreplies 4\nInserted\nInserted\nInserted\nInserted\npoints 4\n0 0 0\n0 0 2\n0 2 0\n2 0 0\ncells 1\n0 1 2 3\nhull 4\n0 1 2\n0 1 3\n0 2 3\n1 2 3\nend\n";
-
-    const EVERY_WORD: &str =
-        "mesh3-out 1\nreplies 5\nInserted\nDuplicate\nRemoved\nMissing\nFlat\npoints 4\n0 0 0\n0 0 2\n0 2 0\n2 0 0\ncells 1\n0 1 2 3\nhull 4\n0 1 2\n0 1 3\n0 2 3\n1 2 3\norder 3\n10\n0\n4294967295\nend\n";
-
-    const INSERTED_COUNTS: &str =
-        "lines 4\nInserted 4\nDuplicate 0\nRemoved 0\nMissing 0\nFlat 0\npoints 4\ncells 1\nhull 4\n";
-
-    const EVERY_COUNT: &str =
-        "lines 5\nInserted 1\nDuplicate 1\nRemoved 1\nMissing 1\nFlat 1\npoints 4\ncells 1\nhull 4\n";
-
-    // The corners (0,0,0), (0,0,2), (0,2,0), (2,0,0) of the tetrahedron.
-    fn corners() -> Result<[Point; 4], Fail> {
-        let a = Point::new(0, 0, 0)?;
-        let b = Point::new(0, 0, 2)?;
-        let c = Point::new(0, 2, 0)?;
-        let d = Point::new(2, 0, 0)?;
-        Ok([a, b, c, d])
-    }
-
-    // The cells of the tetrahedron.
-    fn tetrahedron(rt: &impl Abort, corners: &[Point; 4]) -> [Cell; 5] {
-        let [a, b, c, d] = *corners;
-        assert!(rt; a < b && b < c && c < d && a < c && a < d && b < d);
-        [
-            Cell::full(a, b, c, d),
-            Cell::hull(a, b, c),
-            Cell::hull(a, b, d),
-            Cell::hull(a, c, d),
-            Cell::hull(b, c, d),
-        ]
-    }
-
-    // A report of the corners and the cells.
-    fn report<'a, 'b>(
-        alloc: Global,
-        replies: &[Reply],
-        corners: &[Point; 4],
-        cells: &'b [Cell],
-        order: Option<Vec<u32>>,
-    ) -> Result<Report<'a, 'b>, Fail> {
-        Ok(Report {
-            replies: Vec::from_slice(alloc, replies)?,
-            points: Vec::from_slice(alloc, corners)?,
-            cells,
-            shapes: Vec::new(alloc),
-            order,
-        })
-    }
-
-    fn is_ascending(points: &[Point]) -> bool
-        ensures { IsTrue result → IsAscending points.now }
-    {
-        match points {
-            [a, b, c, d] => a < b && b < c && c < d,
-            _ => false,
-        }
-    }
-
-    fn has_none(shapes: &[(u64, Shape)]) -> bool
-        ensures { IsTrue result → AreCounted (shapes_seen shapes.now) }
-    {
-        shapes.is_empty()
-    }
-
-    #[test]
-    fn texts(rt: HostRuntime) -> Result<(), Fail> {
-        let alloc = rt.alloc();
-        let inserted = [Reply::Inserted; 4];
-        let words = [
-            Reply::Inserted,
-            Reply::Duplicate,
-            Reply::Removed,
-            Reply::Missing,
-            Reply::Flat,
-        ];
-        let tags = Vec::from_slice(alloc, &[10u32, 0, u32::MAX])?;
-        let corners = corners()?;
-        let cells = tetrahedron(&rt, &corners);
-        let plain = report(alloc, &inserted, &corners, &cells, None)?;
-        let ordered = report(alloc, &words, &corners, &cells, Some(tags))?;
-        for (report, counts) in [(&plain, INSERTED_COUNTS), (&ordered, EVERY_COUNT)] {
-            assert_eq!(rt; summary_text(alloc, report)?.as_slice(), counts.as_bytes());
-        }
-        for (report, text) in [(&plain, TETRAHEDRON), (&ordered, EVERY_WORD)] {
-            assert!(rt; is_ascending(&report.points));
-            assert!(rt; has_none(&report.shapes));
-            assert_eq!(rt; mesh_text(alloc, report)?.as_slice(), text.as_bytes());
-            let mut sink = MemSink::new(alloc, 1000, 7, &[])?;
-            assert_eq!(rt; put_report(&mut sink, report), Ok(()));
-            assert_eq!(rt; sink.bytes(), text.as_bytes());
-            let mut broken = MemSink::new(alloc, 1000, 10, &[3])?;
-            assert_eq!(rt; put_report(&mut broken, report), Err(Failed));
-            assert_eq!(rt; broken.bytes(), b"mesh3-out 1\nreplies ".as_slice());
-        }
-        Ok(())
     }
 }

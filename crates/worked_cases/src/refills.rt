@@ -10,9 +10,9 @@ use crate::cells::{put_cells, put_number};
 use crate::meshes::{keep_only, mesh_of};
 use crate::reading::{list_at, point_of, points_of};
 use cell_store::{Grid, Hold};
-use point_order::{Cell, Point};
+use point_order::{Cell, Point, points_in_order};
 use std::alloc::{AllocError, Global};
-use vertex_removal::{Refill, RefillTurn, points_in_order};
+use vertex_removal::{Refill, RefillTurn};
 
 // Cells in order, by the places of their points.
 fn put_sorted(text: &mut String, points: &[Point], mut cells: Vec<Cell>) -> Result<(), AllocError> {

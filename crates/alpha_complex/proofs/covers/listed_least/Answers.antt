@@ -5,9 +5,10 @@ use Rattle.std.specs.List.Sorted.{IsStrictlySortedBy}
 use Rattle.std.specs.Ordering.{nat_cmp, is_eq}
 use Rattle.std.specs.Cmp.Lexicographic.{slice_cmp}
 use Rattle.std.proofs.lemmas.Cmp.{nat_list_cmp_total}
+use Rattle.list_laws.proofs.Cited.{length_zip}
 use Rattle.alpha_complex.specs.Judged.{is_small_by, is_listed, small_among}
 use Rattle.alpha_complex.specs.Leasts.{IsLeastOf}
-use Rattle.alpha_complex.proofs.Leasts.{never_least, zip_at, zip_length}
+use Rattle.alpha_complex.proofs.Leasts.{never_least, zip_at}
 use Rattle.alpha_complex.proofs.Listing.{found_at, listed_found, listed_none}
 use Rattle.alpha_complex.proofs.Searches.{search_is}
 use Rattle.alpha_complex.proofs.covers.listed_least.Goals as goal
@@ -16,7 +17,7 @@ pub number_at-requires : goal.number_at-requires
 number_at-requires c =
     let own = c.args.own.now in
     let f = found_at own.faces.now.triples c.triples.result.now c.args.tri.now c.in-Ok.index c.triples.ensures c.in-Ok.ensures.bound (c.in-Ok.ensures.position c.args.tri.now) in
-    let z = zip_length (λ x n. IsLeastOf (λ a. is_small_by a x) n) own.faces.now.triples own.triples.items c.requires.own.triples in
+    let z = length_zip (λ x n. IsLeastOf (λ a. is_small_by a x) n) own.faces.now.triples own.triples.items c.requires.own.triples in
     let k = ap length c.deref.ensures.value in
     let h = f.0 in
     omega (arith, h, z, k)

@@ -5,17 +5,18 @@ use denote.Param.Send.{sendable}
 use Rattle.rayon.specs.Numbers.{nat_range}
 use Rattle.rayon.proofs.ListFacts.{IfOk-then}
 use Rattle.rayon.proofs.ToStd.{nat_range-All}
+use Rattle.std.proofs.lemmas.List.{length-map}
 use Rattle.point_order.specs.declared.cell.Cell.{Cell}
 use Rattle.alpha_complex.specs.declared.numbers.FaceAlphas.{FaceAlphas}
 use Rattle.alpha_complex.specs.Leasts.{AreAlphasOf, AreOwn, is_admitted_point}
-use Rattle.alpha_complex.proofs.Leasts.{length_mapped, zip_places}
+use Rattle.alpha_complex.proofs.Leasts.{zip_places}
 use Rattle.alpha_complex.proofs.least.alphas_of_points.Goals as goal
 
 -- one line for each `Send` and `Sync`, the allocator, and then the closure's `requires` at each number of the range
 pub collect-requires : goal.collect-requires
 collect-requires g c κs =
     let ends = c.into_par_iter.ensures in
-    let many = ap length c.points.ensures ∙ length_mapped (λ (f : ℕ × List Cell). f.0) c.args.own.now.faces.now.points in
+    let many = ap length c.points.ensures ∙ length-map c.args.own.now.faces.now.points (λ (f : ℕ × List Cell). f.0) in
     let inside = nat_range-All (λ i. AreOwn c.args.own.now × (i < length c.args.own.now.faces.now.points)) 0 (length c.points.result.now) (λ i low high. (c.requires, (let h = high in omega (arith, h, many)))) in
     (search (sendable, crosses) depth 40, (search (sendable, crosses) depth 40, (search (sendable, crosses) depth 40, (search (sendable, crosses) depth 40, (search (sendable, crosses) depth 40, (frees, rw (c.map.ensures.base, c.map.ensures.f, ends.0, ends.1) (λ k d lt. (inside k d lt, λ y p. tt))))))))
 
@@ -23,7 +24,7 @@ pub returns : goal.returns
 returns g c =
     let ends = c.into_par_iter.ensures in
     let n = length c.points.result.now in
-    let many = ap length c.points.ensures ∙ length_mapped (λ (f : ℕ × List Cell). f.0) c.args.own.now.faces.now.points in
+    let many = ap length c.points.ensures ∙ length-map c.args.own.now.faces.now.points (λ (f : ℕ × List Cell). f.0) in
     let whole : n - 0 ≡ n = omega arith in
     let R = λ (x : ℕ × List Cell) (n : FaceAlphas). AreAlphasOf is_admitted_point x n in
     IfOk-then c.collect.result _ _ c.collect.ensures (λ v h.

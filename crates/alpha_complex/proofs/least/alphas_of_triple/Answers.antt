@@ -2,16 +2,17 @@ use Rattle.std.proofs.Common.{ℕ, List, [], sym, subst, ap, ◌∙◌, get_or, 
 use Rattle.std.specs.Prelude.{◌||◌}
 use Rattle.std.specs.List.{list_any, list_all}
 use Rattle.std.proofs.lemmas.List.{get_or_default}
+use Rattle.list_laws.proofs.Cited.{length_zip}
 use Rattle.point_order.specs.declared.cell.Cell.{Cell}
 use Rattle.alpha_complex.specs.Judged.{is_small_by, is_small_cell}
 use Rattle.alpha_complex.specs.Leasts.{IsLeastOf, face_at}
-use Rattle.alpha_complex.proofs.Leasts.{either_least, zip_at, zip_length}
+use Rattle.alpha_complex.proofs.Leasts.{either_least, zip_at}
 use Rattle.alpha_complex.proofs.least.alphas_of_triple.Goals as goal
 
 pub number_at-requires : goal.number_at-requires
 number_at-requires c =
     let own = c.args.own.now in
-    let z = zip_length (λ x n. IsLeastOf (λ a. is_small_by a x) n) own.faces.now.triples own.triples.items c.requires.own.triples in
+    let z = length_zip (λ x n. IsLeastOf (λ a. is_small_by a x) n) own.faces.now.triples own.triples.items c.requires.own.triples in
     let k = ap length c.deref.ensures.value in
     let h = c.requires.index in
     omega (arith, h, z, k)

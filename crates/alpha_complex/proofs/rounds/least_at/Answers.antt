@@ -1,12 +1,13 @@
 use Rattle.std.proofs.Common.{ℕ, List, sym, ap, ◌∙◌, get_or, length, nat_le, arith}
+use Rattle.list_laws.proofs.Cited.{length_zip}
 use Rattle.alpha_complex.specs.Judged.{is_small_cell}
 use Rattle.alpha_complex.specs.Leasts.{IsLeastOf}
-use Rattle.alpha_complex.proofs.Leasts.{zip_at, zip_length}
+use Rattle.alpha_complex.proofs.Leasts.{zip_at}
 use Rattle.alpha_complex.proofs.rounds.least_at.Goals as goal
 
 pub number_at-requires : goal.number_at-requires
 number_at-requires c =
-    let e = zip_length (λ x n. IsLeastOf (λ a. is_small_cell a x) n) c.args.own.now.faces.now.cells c.args.own.now.cells.items c.requires.own.cells in
+    let e = length_zip (λ x n. IsLeastOf (λ a. is_small_cell a x) n) c.args.own.now.faces.now.cells c.args.own.now.cells.items c.requires.own.cells in
     let h = c.requires.number in
     let k = ap length c.deref.ensures.value in
     omega (arith, e, h, k)

@@ -2,7 +2,7 @@ use Rattle.std.proofs.Common.{◌∙◌, sym, ap, subst, arith, [], List, ℕ, l
 use Rattle.std.specs.Prelude.{All}
 use Rattle.insertion.specs.Opening.{opening_history}
 use Rattle.edit_history.specs.Histories.{IsLegal, entries_from}
-use Rattle.edit_history.proofs.Cited.{length-entries}
+use Rattle.edit_history.proofs.Cited.{length_entries}
 use Rattle.edit_workers.specs.Dealing.{AreApart, AreAscending, count_of}
 use Rattle.delaunay_cli.specs.Made.{tagged_points}
 use Rattle.delaunay_cli.proofs.OpeningLines.{added, added_many, four_many, opening_made, opening_lines}
@@ -33,7 +33,7 @@ run_edits-requires-clause-room g c =
     let t = tagged_points c.args.file.now.points.items c.args.four in
     let h = c.in_ok-mesh.ensures.history ∙ ap (λ (p : List ℕ). opening_history (tagged_points p c.args.four)) c.deref.ensures.value in
     let o = opening_made t (subst IsLegal h c.in_ok-mesh.ensures.legal) in
-    let n = ap length (h ∙ o) ∙ length-entries 0 [] (map added t) in
+    let n = ap length (h ∙ o) ∙ length_entries 0 [] (map added t) in
     let a = added_many t in
     let b = four_many c.args.file.now.points.items c.args.four c.requires.found in
     let k = ap count_of c.in_ok-lists.ensures.dealt in

@@ -10,11 +10,11 @@ use Rattle.delaunay_cli.specs.Drawn.{drawn_file}
 use Rattle.delaunay_cli.specs.PlainText.{plain_text}
 use Rattle.delaunay_cli.specs.Run.{HasFault, history_of, input_limit}
 use Rattle.delaunay_cli.specs.Words.{asks_shape, asks_text, worker_count}
-use Rattle.delaunay_cli.proofs.DrawnFiles.{kept-meshed}
+use Rattle.delaunay_cli.proofs.DrawnFiles.{kept_meshed}
 use Rattle.delaunay_cli.proofs.Ended.{anchored_text, completes, drawn_text, of_bytes, of_file}
 use Rattle.delaunay_cli.specs.Stops.{line_of_end}
-use Rattle.delaunay_cli.proofs.CommandLine.{default-words, mesh-words, mesh_order-words, shape-words, shape_order-words}
-use Rattle.delaunay_cli.proofs.NumberWords.{gen-words, gen_text-words, mesh_workers-words, shape_workers-words}
+use Rattle.delaunay_cli.proofs.CommandLine.{default_words, mesh_words, mesh_order_words, shape_words, shape_order_words}
+use Rattle.delaunay_cli.proofs.NumberWords.{gen_words, gen_text_words, mesh_workers_words, shape_workers_words}
 use Rattle.delaunay_cli.proofs.top.run.Goals as goal
 
 pub returns-clause-told : goal.returns-clause-told
@@ -22,34 +22,34 @@ returns-clause-told g c =
     record { line = line_of_end c.work-ended.result.stop; is_line = c.work-ended.ensures.line; front = c.tell.ensures.front; whole = c.tell.ensures.whole }
 
 pub returns-clause-mesh : goal.returns-clause-mesh
-returns-clause-mesh g c = λ w. (mesh-words c.args.words.now w).0
+returns-clause-mesh g c = λ w. (mesh_words c.args.words.now w).0
 
 pub returns-clause-mesh_order : goal.returns-clause-mesh_order
-returns-clause-mesh_order g c = λ w. (mesh_order-words c.args.words.now w).0
+returns-clause-mesh_order g c = λ w. (mesh_order_words c.args.words.now w).0
 
 pub returns-clause-shape : goal.returns-clause-shape
-returns-clause-shape g c = λ w. (shape-words c.args.words.now w).0
+returns-clause-shape g c = λ w. (shape_words c.args.words.now w).0
 
 pub returns-clause-shape_order : goal.returns-clause-shape_order
-returns-clause-shape_order g c = λ w. (shape_order-words c.args.words.now w).0
+returns-clause-shape_order g c = λ w. (shape_order_words c.args.words.now w).0
 
 pub returns-clause-read : goal.returns-clause-read
-returns-clause-read g c = λ w. (default-words c.args.words.now w).1
+returns-clause-read g c = λ w. (default_words c.args.words.now w).1
 
 pub returns-clause-generator : goal.returns-clause-generator
-returns-clause-generator g c = λ count start few small w. gen-words c.args.words.now count start few small w
+returns-clause-generator g c = λ count start few small w. gen_words c.args.words.now count start few small w
 
 pub returns-clause-generator_text : goal.returns-clause-generator_text
-returns-clause-generator_text g c = λ count start few small w. gen_text-words c.args.words.now count start few small w
+returns-clause-generator_text g c = λ count start few small w. gen_text_words c.args.words.now count start few small w
 
 pub returns-clause-one_worker : goal.returns-clause-one_worker
-returns-clause-one_worker g c = λ w. (default-words c.args.words.now w).0
+returns-clause-one_worker g c = λ w. (default_words c.args.words.now w).0
 
 pub returns-clause-mesh_workers : goal.returns-clause-mesh_workers
-returns-clause-mesh_workers g c = λ workers grid some few size w. mesh_workers-words c.args.words.now workers grid some few size w
+returns-clause-mesh_workers g c = λ workers grid some few size w. mesh_workers_words c.args.words.now workers grid some few size w
 
 pub returns-clause-shape_workers : goal.returns-clause-shape_workers
-returns-clause-shape_workers g c = λ workers grid some few size w. shape_workers-words c.args.words.now workers grid some few size w
+returns-clause-shape_workers g c = λ workers grid some few size w. shape_workers_words c.args.words.now workers grid some few size w
 
 pub returns-clause-too_long : goal.returns-clause-too_long
 returns-clause-too_long g c = let status = c.work-ended.result.run.status in of_bytes c.work-ended.ensures.ends (λ bytes. (status ≡ 7) ↔ (input_limit < length bytes)) (λ bytes v. v.too_long)
@@ -95,7 +95,7 @@ returns-clause-complete g c = completes c.work-ended.ensures.ends
 pub returns-clause-drawn_kept : goal.returns-clause-drawn_kept
 returns-clause-drawn_kept g c =
     let words = c.args.words.now in
-    λ d t s. (kept-meshed (asks_text words) (drawn_file words) (worker_count words) c.work-ended.result.run.kept.items t ((c.work-ended.ensures.ends.made s).drawn d).0).keeps
+    λ d t s. (kept_meshed (asks_text words) (drawn_file words) (worker_count words) c.work-ended.result.run.kept.items t ((c.work-ended.ensures.ends.made s).drawn d).0).keeps
 
 pub returns-clause-drawn_plain : goal.returns-clause-drawn_plain
 returns-clause-drawn_plain g c =

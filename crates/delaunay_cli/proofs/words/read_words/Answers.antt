@@ -2,7 +2,7 @@ use Rattle.std.proofs.Common.{inl, inr, refl, ◌∙◌, sym, ap}
 use Rattle.std.specs.Prelude.{Option, is_some}
 use Rattle.clap.specs.Words.{app_of, kind_of, subcommand_rows_of}
 use Rattle.delaunay_cli.specs.declared.task.Making.{Making}
-use Rattle.delaunay_cli.proofs.CommandLine.{grid-refused, refused, taken}
+use Rattle.delaunay_cli.proofs.CommandLine.{grid_refused, refused, taken}
 use Rattle.delaunay_cli.proofs.words.read_words.Goals as goal
 use Rattle.delaunay_cli.proofs.words.read_words.Goals.{in-OutOfMemory, in_default-kind}
 
@@ -10,7 +10,7 @@ pub returns-in_default-clause-refused : goal.returns-in_default-clause-refused
 returns-in_default-clause-refused c =
     inr (
       refl,
-      grid-refused (app_of c.in_ok-program.program) c.args.words.now (subcommand_rows_of c.in-Ok.matches) c.in_ok-program.ensures (λ s. (c.in-Ok.ensures.matches s).1)
+      grid_refused (app_of c.in_ok-program.program) c.args.words.now (subcommand_rows_of c.in-Ok.matches) c.in_ok-program.ensures (λ s. (c.in-Ok.ensures.matches s).1)
           (sym (ap (λ (o : Option Making). is_some o) c.in_default.is) ∙ c.making_of.ensures.size),
     )
 

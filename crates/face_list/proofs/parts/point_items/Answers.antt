@@ -1,6 +1,7 @@
-use Rattle.std.proofs.Common.{sym, take, arith}
+use Rattle.std.proofs.Common.{subst, sym, take, arith}
 use Rattle.std.proofs.lemmas.List.{take_more, take_all}
 use Rattle.point_order.specs.Facets.{points_of}
+use Rattle.point_order.specs.Sets.{IsAscending}
 use Rattle.face_list.proofs.FaceLists.{items_next, ascending_more}
 use Rattle.face_list.proofs.parts.point_items.Goals as goal
 
@@ -11,8 +12,8 @@ loop-number-preserved c =
     let item = c.index-cells-number.result in
     let t = take_more cells n item c.loop-number-test.true in
     record {
-      items = items_next points_of cells n item item _ _ _ c.loop-number-test.true c.loop-number.invariant.items (sym c.index-cells-number.is) c.points_in_order.ensures.points c.in_ok-put.ensures;
-      ascending = rw (t, ← c.index-cells-number.is) (ascending_more (take n cells) item c.loop-number.invariant.ascending c.points_in_order.ensures.ascending);
+      items = items_next points_of cells n item item _ _ _ c.loop-number-test.true c.loop-number.invariant.items (sym c.index-cells-number.is) c.points.ensures.points c.in_ok-put.ensures;
+      ascending = rw (t, ← c.index-cells-number.is) (ascending_more (take n cells) item c.loop-number.invariant.ascending (subst IsAscending c.points.ensures.points c.points.ensures.ascending));
     }
 
 pub returns-clause-ascending : goal.returns-clause-ascending

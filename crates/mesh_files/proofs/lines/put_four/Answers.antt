@@ -1,4 +1,5 @@
-use Rattle.mesh_files.proofs.Flowing.{fails, fails_err, more, more_two, on_err, then, then_ok}
+use Rattle.list_laws.proofs.Cited.{on_err}
+use Rattle.mesh_files.proofs.Flowing.{fails, fails_err, more, more_two, then, then_ok}
 use Rattle.mesh_files.proofs.lines.put_four.Goals as goal
 
 pub returns-in_err-put_number_and-clause-front : goal.returns-in_err-put_number_and-clause-front

@@ -1,4 +1,5 @@
-use Rattle.mesh_files.proofs.Flowing.{fails_err, more, on_err, then_ok}
+use Rattle.list_laws.proofs.Cited.{on_err}
+use Rattle.mesh_files.proofs.Flowing.{fails_err, more, then_ok}
 use Rattle.mesh_files.proofs.lines.put_number_and.Goals as goal
 
 pub returns-in_err-put_number-clause-front : goal.returns-in_err-put_number-clause-front

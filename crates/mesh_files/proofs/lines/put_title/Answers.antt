@@ -1,4 +1,5 @@
-use Rattle.mesh_files.proofs.Flowing.{fails, fails_err, more, more_two, more_three, on_err, then, then_ok}
+use Rattle.list_laws.proofs.Cited.{on_err}
+use Rattle.mesh_files.proofs.Flowing.{fails, fails_err, more, more_two, more_three, then, then_ok}
 use Rattle.mesh_files.proofs.lines.put_title.Goals as goal
 
 pub returns-in_err-put-clause-front : goal.returns-in_err-put-clause-front

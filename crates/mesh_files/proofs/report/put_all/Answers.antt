@@ -1,5 +1,6 @@
+use Rattle.list_laws.proofs.Cited.{on_err}
 use Rattle.mesh_files.specs.Text.{report_text}
-use Rattle.mesh_files.proofs.Flowing.{fails, fails_err, more, more_four, more_three, more_two, on_err, then, then_ok}
+use Rattle.mesh_files.proofs.Flowing.{fails, fails_err, more, more_four, more_three, more_two, then, then_ok}
 use Rattle.mesh_files.proofs.report.put_all.Goals as goal
 
 pub returns-in_err-put-clause-front : goal.returns-in_err-put-clause-front

@@ -2,11 +2,12 @@ use Rattle.std.proofs.Common.{◌≡◌, ◌∙◌, sym, List, ℕ, length, arit
 use Rattle.std.specs.Prelude.{map, codes}
 use Rattle.std.specs.List.{concat}
 use Rattle.std.proofs.lemmas.List.{length-map}
+use Rattle.list_laws.proofs.Cited.{on_err}
 use Rattle.point_order.specs.declared.cell.Cell.{Cell}
 use Rattle.point_order.specs.declared.cell.Cell.TheVariants.{Full, Open}
 use Rattle.mesh_files.specs.Text.{indices_line, hull_corners}
 use Rattle.mesh_files.proofs.Cells.{hull_piece, hull_items, item_is}
-use Rattle.mesh_files.proofs.Flowing.{breaks, goes_on, nothing, on_err, title_fails}
+use Rattle.mesh_files.proofs.Flowing.{breaks, goes_on, nothing, title_fails}
 use Rattle.mesh_files.proofs.report.put_hull.Goals as goal
 use Rattle.mesh_files.proofs.report.put_hull.Goals.{in-Open+in_ok-put_hull_line-in-Open, in-Full}
 

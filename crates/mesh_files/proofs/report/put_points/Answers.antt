@@ -2,8 +2,9 @@ use Rattle.std.proofs.Common.{List, ℕ, refl, arith, length, sym}
 use Rattle.std.specs.Prelude.{map, codes}
 use Rattle.std.specs.List.{concat}
 use Rattle.std.proofs.lemmas.List.{length-map}
+use Rattle.list_laws.proofs.Cited.{on_err}
 use Rattle.mesh_files.specs.Text.{point_line}
-use Rattle.mesh_files.proofs.Flowing.{breaks, goes_on, on_err, title_fails}
+use Rattle.mesh_files.proofs.Flowing.{breaks, goes_on, title_fails}
 use Rattle.mesh_files.proofs.report.put_points.Goals as goal
 
 pub returns-in_err-put_title-clause-front : goal.returns-in_err-put_title-clause-front

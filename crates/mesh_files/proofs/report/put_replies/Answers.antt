@@ -2,11 +2,12 @@ use Rattle.std.proofs.Common.{List, refl, arith, length, sym, get_or}
 use Rattle.std.specs.Prelude.{map, codes}
 use Rattle.std.specs.List.{concat}
 use Rattle.std.proofs.lemmas.List.{length-map}
+use Rattle.list_laws.proofs.Cited.{on_err}
 use Rattle.edit_history.specs.declared.history.Reply.{Reply}
 use Rattle.edit_history.specs.declared.history.Reply.TheVariants.{Inserted}
 use Rattle.mesh_files.specs.Text.{reply_line}
 use Rattle.mesh_files.proofs.Places.{own_item}
-use Rattle.mesh_files.proofs.Flowing.{breaks, goes_on, on_err, title_fails}
+use Rattle.mesh_files.proofs.Flowing.{breaks, goes_on, title_fails}
 use Rattle.mesh_files.proofs.report.put_replies.Goals as goal
 
 pub returns-in_err-put_title-clause-front : goal.returns-in_err-put_title-clause-front

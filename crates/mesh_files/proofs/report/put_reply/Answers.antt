@@ -1,5 +1,6 @@
 use Rattle.std.proofs.Common.{◌∙◌}
-use Rattle.mesh_files.proofs.Flowing.{fails_err, more, on_err, then_ok}
+use Rattle.list_laws.proofs.Cited.{on_err}
+use Rattle.mesh_files.proofs.Flowing.{fails_err, more, then_ok}
 use Rattle.mesh_files.proofs.report.put_reply.Goals as goal
 
 pub returns-in_err-put-clause-front : goal.returns-in_err-put-clause-front

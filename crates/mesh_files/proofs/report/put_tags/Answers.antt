@@ -2,9 +2,10 @@ use Rattle.std.proofs.Common.{List, ℕ, refl, arith, length, sym, get_or}
 use Rattle.std.specs.Prelude.{map, codes}
 use Rattle.std.specs.List.{concat}
 use Rattle.std.proofs.lemmas.List.{length-map}
+use Rattle.list_laws.proofs.Cited.{on_err}
 use Rattle.mesh_files.specs.Text.{tag_line}
 use Rattle.mesh_files.proofs.Places.{own_item}
-use Rattle.mesh_files.proofs.Flowing.{breaks, goes_on, on_err, title_fails}
+use Rattle.mesh_files.proofs.Flowing.{breaks, goes_on, title_fails}
 use Rattle.mesh_files.proofs.report.put_tags.Goals as goal
 
 pub returns-in_err-put_title-clause-front : goal.returns-in_err-put_title-clause-front

@@ -1,8 +1,9 @@
 use Rattle.std.proofs.Common.{List, ℕ, refl, arith, ◌++◌}
 use Rattle.std.specs.Prelude.{map, codes, decimal}
 use Rattle.std.specs.List.{concat}
+use Rattle.list_laws.proofs.Cited.{on_err}
 use Rattle.mesh_files.specs.Text.{index_of}
-use Rattle.mesh_files.proofs.Flowing.{breaks, goes_on, on_err}
+use Rattle.mesh_files.proofs.Flowing.{breaks, goes_on}
 use Rattle.mesh_files.proofs.shapes.put_indices.Goals as goal
 
 pub returns-in_err-put_number_and-clause-front : goal.returns-in_err-put_number_and-clause-front

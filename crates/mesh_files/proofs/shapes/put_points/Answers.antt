@@ -2,9 +2,10 @@ use Rattle.std.proofs.Common.{◌≡◌, ◌∙◌, sym, ap, List, [], ◌∷◌
 use Rattle.std.specs.Prelude.{map, codes}
 use Rattle.std.specs.List.{concat}
 use Rattle.std.proofs.lemmas.List.{length-map}
+use Rattle.list_laws.proofs.Cited.{on_err}
 use Rattle.alpha_complex.specs.declared.shape.Kind.{Kind}
 use Rattle.mesh_files.specs.Text.{face_line, points_in}
-use Rattle.mesh_files.proofs.Flowing.{breaks, goes_on, on_err, title_fails}
+use Rattle.mesh_files.proofs.Flowing.{breaks, goes_on, title_fails}
 use Rattle.mesh_files.proofs.shapes.put_points.Goals as goal
 
 -- as many points as lines

@@ -1,10 +1,11 @@
 use Rattle.std.proofs.Common.{List, ℕ, refl, arith}
+use Rattle.list_laws.proofs.Cited.{on_err}
 use Rattle.alpha_complex.specs.Slots.{ShapeSlots}
 use Rattle.alpha_complex.specs.Shapes.{ShapeParts, shape_seen}
 use Rattle.alpha_complex.proofs.Cited.{mapped_at}
 use Rattle.mesh_files.specs.Report.{shapes_seen}
 use Rattle.mesh_files.specs.Text.{shape_text, shape_blocks}
-use Rattle.mesh_files.proofs.Flowing.{breaks, goes_on, on_err}
+use Rattle.mesh_files.proofs.Flowing.{breaks, goes_on}
 use Rattle.mesh_files.proofs.shapes.put_shapes.Goals as goal
 
 pub put_shape-requires : goal.put_shape-requires

@@ -2,10 +2,11 @@ use Rattle.std.proofs.Common.{◌≡◌, ◌∙◌, sym, List, ℕ, ◌<◌, len
 use Rattle.std.specs.Prelude.{Option, None, map, codes}
 use Rattle.std.specs.List.{concat}
 use Rattle.std.proofs.lemmas.List.{length-map}
+use Rattle.list_laws.proofs.Cited.{on_err}
 use Rattle.alpha_complex.specs.declared.shape.Kind.{Kind}
 use Rattle.alpha_complex.specs.Slots.{held}
 use Rattle.mesh_files.specs.Text.{face_line, held_line, points_in}
-use Rattle.mesh_files.proofs.Flowing.{breaks, goes_on, on_err, title_fails}
+use Rattle.mesh_files.proofs.Flowing.{breaks, goes_on, title_fails}
 use Rattle.mesh_files.proofs.Places.{own_item}
 use Rattle.mesh_files.proofs.Slots.{held_items}
 use Rattle.mesh_files.proofs.shapes.put_triples.Goals as goal

@@ -1,11 +1,12 @@
 use Rattle.std.proofs.Common.{List, refl, arith, get_or}
 use Rattle.std.specs.Prelude.{map}
 use Rattle.std.specs.List.{concat}
+use Rattle.list_laws.proofs.Cited.{on_err}
 use Rattle.edit_history.specs.declared.history.Reply.{Reply}
 use Rattle.edit_history.specs.declared.history.Reply.TheVariants.{Inserted}
 use Rattle.mesh_files.specs.Summary.{reply_count_line}
 use Rattle.mesh_files.proofs.Places.{own_item}
-use Rattle.mesh_files.proofs.Flowing.{breaks, goes_on, on_err}
+use Rattle.mesh_files.proofs.Flowing.{breaks, goes_on}
 use Rattle.mesh_files.proofs.summary.put_reply_counts.Goals as goal
 
 pub returns-in_err-put_reply_count-clause-front : goal.returns-in_err-put_reply_count-clause-front

@@ -1,11 +1,12 @@
 use Rattle.std.proofs.Common.{List, ℕ, refl, arith}
 use Rattle.std.specs.Prelude.{map}
 use Rattle.std.specs.List.{concat}
+use Rattle.list_laws.proofs.Cited.{on_err}
 use Rattle.alpha_complex.specs.Slots.{ShapeSlots}
 use Rattle.alpha_complex.specs.Shapes.{shape_seen}
 use Rattle.mesh_files.specs.Report.{shapes_seen}
 use Rattle.mesh_files.specs.Summary.{shape_line}
-use Rattle.mesh_files.proofs.Flowing.{breaks, goes_on, on_err}
+use Rattle.mesh_files.proofs.Flowing.{breaks, goes_on}
 use Rattle.mesh_files.proofs.summary.put_shape_lines.Goals as goal
 
 pub returns-in_err-put_shape_line-clause-front : goal.returns-in_err-put_shape_line-clause-front

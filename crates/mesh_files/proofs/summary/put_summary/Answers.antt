@@ -1,6 +1,7 @@
 use Rattle.std.proofs.Common.{◌∙◌}
+use Rattle.list_laws.proofs.Cited.{on_err}
 use Rattle.mesh_files.specs.Summary.{summary_text}
-use Rattle.mesh_files.proofs.Flowing.{fails, fails_err, more, more_three, more_two, on_err, then, then_ok}
+use Rattle.mesh_files.proofs.Flowing.{fails, fails_err, more, more_three, more_two, then, then_ok}
 use Rattle.mesh_files.proofs.summary.put_summary.Goals as goal
 
 pub returns-in_err-put_title-clause-front : goal.returns-in_err-put_title-clause-front

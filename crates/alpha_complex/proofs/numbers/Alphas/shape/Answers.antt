@@ -1,19 +1,20 @@
 use Rattle.std.proofs.Common.{◌≡◌, ◌∙◌, List, ℕ, Bool, ap, sym, length, map, nat_le}
 use Rattle.std.specs.Prelude.{Option, zip}
+use Rattle.std.proofs.lemmas.List.{length-map}
+use Rattle.list_laws.proofs.Cited.{length_zip}
 use Rattle.point_order.specs.declared.cell.Cell.{Cell}
 use Rattle.alpha_complex.specs.declared.numbers.FaceAlphas.{FaceAlphas}
 use Rattle.alpha_complex.specs.declared.shape.Kind.{Kind}
 use Rattle.alpha_complex.specs.Judged.{is_admitted_pair, is_admitted_triple, is_small_cell}
 use Rattle.alpha_complex.specs.Leasts.{AreAlphas, AreAlphasOf, IsLeastOf, is_admitted_point, kind_at, kind_where}
 use Rattle.alpha_complex.specs.Slots.{held, slots_of, cell_slots_of}
-use Rattle.alpha_complex.proofs.Leasts.{length_mapped, zip_length}
 use Rattle.alpha_complex.proofs.KindSteps.{admitted_told, all_told, cells_told}
 use Rattle.alpha_complex.proofs.Shaped.{pair_kinds_are, points_are, triple_kinds_are, cells_are}
 use Rattle.alpha_complex.proofs.numbers.Alphas.shape.Goals as goal
 
 -- as many kinds as faces
 kind_count : {X : Type 0} (admits : ℕ → X × List Cell → Bool) (faces : List (X × List Cell)) (alphas : List FaceAlphas) {K : Type 0} (f : FaceAlphas → K) (kinds : List K) → AreAlphas admits faces alphas → kinds ≡ map f alphas → length kinds ≡ length faces
-kind_count admits faces alphas f kinds z e = ap length e ∙ length_mapped f alphas ∙ sym (zip_length (AreAlphasOf admits) faces alphas z)
+kind_count admits faces alphas f kinds z e = ap length e ∙ length-map alphas f ∙ sym (length_zip (AreAlphasOf admits) faces alphas z)
 
 pub invariant_of-result : goal.invariant_of-result
 invariant_of-result c =
@@ -23,7 +24,7 @@ invariant_of-result c =
       points = kind_count is_admitted_point known.faces.now.points known.points.items (λ a. kind_at a alpha) _ c.requires.known.points (c.in_ok-kinds_of_all.ensures ∙ ap (λ (v : List FaceAlphas). map (λ a. kind_at a alpha) v) c.deref.ensures.value);
       pairs = kind_count (is_admitted_pair known.faces.now.triples) known.faces.now.pairs known.pairs.items (λ a. kind_where a alpha) _ c.requires.known.pairs (c.in_ok-kinds_of_admitted.ensures ∙ ap (λ (v : List FaceAlphas). map (λ a. kind_where a alpha) v) c.deref-2.ensures.value);
       triples = kind_count is_admitted_triple known.faces.now.triples known.triples.items (λ a. kind_where a alpha) _ c.requires.known.triples (c.in_ok-kinds_of_admitted-2.ensures ∙ ap (λ (v : List FaceAlphas). map (λ a. kind_where a alpha) v) c.deref-3.ensures.value);
-      cells = ap length (c.in_ok-marks.ensures ∙ ap (λ (v : List ℕ). map (λ n. nat_le n alpha) v) c.deref-4.ensures.value) ∙ length_mapped (λ n. nat_le n alpha) known.cells.items ∙ sym (zip_length (λ x n. IsLeastOf (λ a. is_small_cell a x) n) known.faces.now.cells known.cells.items c.requires.known.cells);
+      cells = ap length (c.in_ok-marks.ensures ∙ ap (λ (v : List ℕ). map (λ n. nat_le n alpha) v) c.deref-4.ensures.value) ∙ length-map known.cells.items (λ n. nat_le n alpha) ∙ sym (length_zip (λ x n. IsLeastOf (λ a. is_small_cell a x) n) known.faces.now.cells known.cells.items c.requires.known.cells);
     }
 
 pub returns-clause-points : goal.returns-clause-points

@@ -1,4 +1,5 @@
-use Rattle.mesh_files.proofs.Flowing.{on_err, passed_ok, passed_err, stopped}
+use Rattle.list_laws.proofs.Cited.{on_err}
+use Rattle.mesh_files.proofs.Flowing.{passed_ok, passed_err, stopped}
 use Rattle.mesh_files.proofs.page.Page.put.Goals as goal
 
 pub returns-in_err-flush-clause-front : goal.returns-in_err-flush-clause-front
