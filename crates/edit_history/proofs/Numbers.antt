@@ -1,9 +1,10 @@
 -- Numbers in order.
-use Rattle.std.specs.Prelude.{◌≡◌, ℕ, ◌<◌, ◌==◌, nat_eq, List, [], ◌∷◌, length}
-use Rattle.std.specs.List.{range_with_len}
+use Rattle.std.specs.Prelude.{◌≡◌, ℕ, ◌+◌, ◌<◌, ◌==◌, nat_eq, List, [], ◌∷◌, ◌++◌, length, take}
+use Rattle.std.specs.List.{flat_map, range_with_len}
 use Rattle.std.specs.List.Sorted.{IsPermutation, IsNonDecreasing, IsNonDecreasingBy}
-use Rattle.std.proofs.Common.{sym, ◌∙◌, ap, arith, get_or}
-use Rattle.std.proofs.lemmas.List.{length-map, get_or-map}
+use Rattle.std.proofs.Common.{sym, ◌∙◌, ap, arith, get_or, append-nil}
+use Rattle.std.proofs.lemmas.Grind.{flat_map-append}
+use Rattle.std.proofs.lemmas.List.{length-map, get_or-map, take_more}
 use Rattle.std.proofs.lemmas.List.Sorted.{IsPermutation-map, IsPermutation-sym, IsPermutation-trans, list_any-IsPermutation, length_permutation}
 use Rattle.std.proofs.lemmas.Map.Keys.{IsDistinct-IsPermutation}
 use Rattle.std.proofs.lemmas.Bool.Decides.{nat_tests}
@@ -41,3 +42,10 @@ merged_order entries merged a p h =
         let a : get_or (numbers (e ∷ es)) i d ≡ (get_or (e ∷ es) i e).number = get_or-map (λ (e : Entry). e.number) (e ∷ es) i e d (omega arith) in
         let b : get_or (numbers (e ∷ es)) j d ≡ (get_or (e ∷ es) j e).number = get_or-map (λ (e : Entry). e.number) (e ∷ es) j e d k in
         omega (arith, a, b, h i j e l k)
+
+-- one more list is kept behind those before it
+pub one_list_more : {L A : Type 0} (f : L → List A) (lists : List L) (i : ℕ) (list : L) {kept more : List A} → i < length lists → list ≡ get_or lists i list → more ≡ kept ++ f list → kept ≡ flat_map f (take i lists)
+    → more ≡ flat_map f (take (i + 1) lists)
+one_list_more f lists i list {kept} {more} h is_at e before =
+    e ∙ ap (λ s. s ++ f list) before ∙ ap (λ s. flat_map f (take i lists) ++ s) (sym (append-nil (f list)))
+    ∙ sym (flat_map-append f (take i lists) (list ∷ [])) ∙ ap (λ x. flat_map f (take i lists ++ x ∷ [])) is_at ∙ ap (flat_map f) (sym (take_more lists i list h))

@@ -6,4 +6,5 @@ pub use Rattle.point_order.proofs.Keys.{key_is}
 pub use Rattle.point_order.proofs.Perturbation.{out_sign}
 pub use Rattle.point_order.proofs.SetLaws.{ascending_ascending, ascending_is, ascending_self, ascending_with, in_ascending, in_ascending_from, in_with, in_with_new, in_with_old, with_cases}
 pub use Rattle.point_order.proofs.SignRule.{coefficient_e, not_zero, one_of_five, sign_of_tie}
+pub use Rattle.point_order.proofs.Steps.{distance_from, normal_x_from, normal_y_from, normal_z_from, orientation_from}
 pub use Rattle.point_order.proofs.Zero.{not_zero_from, zero_false, zero_from, zero_true}

@@ -7,6 +7,7 @@ pub mod Leading
 pub mod Sizes
 pub mod Perturbation
 pub mod SignRule
+pub mod Steps
 pub mod HeightLaws
 pub mod Zero
 pub mod Cited

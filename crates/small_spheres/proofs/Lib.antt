@@ -1,2 +1,3 @@
 pub mod Normals
 pub mod Leasts
+pub mod ScalarProducts

@@ -1,5 +1,6 @@
 pub mod Bounds
 pub mod Laws
+pub mod Numbers
 pub mod Poly
 pub mod Ring
 pub mod Signs

@@ -1,64 +1,92 @@
-use Rattle.std.proofs.Common.{ℤ, ◌*ℤ◌, ◌+ℤ◌, subst, sym, lit<, w64}
-use Rattle.std.proofs.lemmas.Int.{to_z-of_z}
+use Rattle.std.proofs.Common.{ℤ, ◌*ℤ◌, ◌+ℤ◌, lit<, w64}
 use Rattle.std.specs.Int.RustNames.{FitsSigned}
 use Rattle.whole_ring.specs.Bounds.{IsWithin}
-use Rattle.whole_ring.proofs.Cited.{within_add, within_fits, within_mul}
+use Rattle.whole_ring.proofs.Cited.{
+  fits_as,
+  read,
+  read_as,
+  same_product,
+  same_sum,
+  within_add,
+  within_as,
+  within_fits,
+  within_mul,
+}
+use Rattle.point_order.specs.Sizes.{greatest_difference, greatest_minor}
 use Rattle.point_order.proofs.step.dot.Goals as goal
 
-small : {x : ℤ} → IsWithin 536805378 x → FitsSigned w64 x
-small h = within_fits w64 h (lit< tt)
-
-product : {u x : ℤ} → IsWithin 16383 u → IsWithin 536805378 x → FitsSigned w64 (u *ℤ x)
+-- a product, a sum of two and a sum of three fit
+product : {u x : ℤ} → IsWithin greatest_difference u → IsWithin greatest_minor x → FitsSigned w64 (u *ℤ x)
 product h k = within_fits w64 (within_mul h k) (lit< tt)
 
-pair : {u v x y : ℤ} → IsWithin 16383 u → IsWithin 16383 v → IsWithin 536805378 x → IsWithin 536805378 y → FitsSigned w64 (u *ℤ x +ℤ v *ℤ y)
+pair : {u v x y : ℤ} → IsWithin greatest_difference u → IsWithin greatest_difference v → IsWithin greatest_minor x
+    → IsWithin greatest_minor y → FitsSigned w64 (u *ℤ x +ℤ v *ℤ y)
 pair h k i j = within_fits w64 (within_add (within_mul h i) (within_mul k j)) (lit< tt)
+
+triad : {u v w x y z : ℤ} → IsWithin greatest_difference u → IsWithin greatest_difference v
+    → IsWithin greatest_difference w → IsWithin greatest_minor x → IsWithin greatest_minor y
+    → IsWithin greatest_minor z → FitsSigned w64 (u *ℤ x +ℤ v *ℤ y +ℤ w *ℤ z)
+triad h k l i j m =
+    within_fits w64 (within_add (within_add (within_mul h i) (within_mul k j)) (within_mul l m)) (lit< tt)
+
+pub overflow_mul-result : goal.overflow_mul-result
+overflow_mul-result c =
+    fits_as (same_product (read c.ranges.u) (read c.ranges.x)) (product c.requires.u_bound c.requires.x_bound)
+
+pub overflow_mul-result-2 : goal.overflow_mul-result-2
+overflow_mul-result-2 c =
+    fits_as (same_product (read c.ranges.v) (read c.ranges.y)) (product c.requires.v_bound c.requires.y_bound)
 
 pub overflow_add-result : goal.overflow_add-result
 overflow_add-result c =
-    let fu : FitsSigned w64 c.args.u = c.ranges.u in
-    let fx : FitsSigned w64 c.args.x = c.ranges.x in
-    let fv : FitsSigned w64 c.args.v = c.ranges.v in
-    let fy : FitsSigned w64 c.args.y = c.ranges.y in
-    let ux : FitsSigned w64 (c.args.u *ℤ c.args.x) = product c.requires.u_bound c.requires.x_bound in
-    let vy : FitsSigned w64 (c.args.v *ℤ c.args.y) = product c.requires.v_bound c.requires.y_bound in
-    simp to_z-of_z (pair c.requires.u_bound c.requires.v_bound c.requires.x_bound c.requires.y_bound)
+    let first =
+    read_as (same_product (read c.ranges.u) (read c.ranges.x)) (product c.requires.u_bound c.requires.x_bound) in
+    let second =
+    read_as (same_product (read c.ranges.v) (read c.ranges.y)) (product c.requires.v_bound c.requires.y_bound) in
+    fits_as (same_sum first second) (pair c.requires.u_bound c.requires.v_bound c.requires.x_bound c.requires.y_bound)
 
 pub overflow_mul-result-3 : goal.overflow_mul-result-3
 overflow_mul-result-3 c =
-    let fw : FitsSigned w64 c.args.w = c.ranges.w in
-    let fz : FitsSigned w64 c.args.z = c.ranges.z in
-    simp to_z-of_z (product c.requires.w_bound c.requires.z_bound)
+    fits_as (same_product (read c.ranges.w) (read c.ranges.z)) (product c.requires.w_bound c.requires.z_bound)
 
 pub overflow_add-result-2 : goal.overflow_add-result-2
 overflow_add-result-2 c =
-    let fu : FitsSigned w64 c.args.u = c.ranges.u in
-    let fx : FitsSigned w64 c.args.x = c.ranges.x in
-    let fv : FitsSigned w64 c.args.v = c.ranges.v in
-    let fy : FitsSigned w64 c.args.y = c.ranges.y in
-    let fw : FitsSigned w64 c.args.w = c.ranges.w in
-    let fz : FitsSigned w64 c.args.z = c.ranges.z in
-    let ux : FitsSigned w64 (c.args.u *ℤ c.args.x) = product c.requires.u_bound c.requires.x_bound in
-    let vy : FitsSigned w64 (c.args.v *ℤ c.args.y) = product c.requires.v_bound c.requires.y_bound in
-    let wz : FitsSigned w64 (c.args.w *ℤ c.args.z) = product c.requires.w_bound c.requires.z_bound in
-    let uv : FitsSigned w64 (c.args.u *ℤ c.args.x +ℤ c.args.v *ℤ c.args.y) = pair c.requires.u_bound c.requires.v_bound c.requires.x_bound c.requires.y_bound in
-    simp to_z-of_z (within_fits w64 (within_add (within_add (within_mul c.requires.u_bound c.requires.x_bound) (within_mul c.requires.v_bound c.requires.y_bound)) (within_mul c.requires.w_bound c.requires.z_bound)) (lit< tt))
+    let first =
+    read_as (same_product (read c.ranges.u) (read c.ranges.x)) (product c.requires.u_bound c.requires.x_bound) in
+    let second =
+    read_as (same_product (read c.ranges.v) (read c.ranges.y)) (product c.requires.v_bound c.requires.y_bound) in
+    let third =
+    read_as (same_product (read c.ranges.w) (read c.ranges.z)) (product c.requires.w_bound c.requires.z_bound) in
+    let two =
+    read_as
+    (same_sum first second)
+    (pair c.requires.u_bound c.requires.v_bound c.requires.x_bound c.requires.y_bound) in
+    fits_as
+    (same_sum two third)
+    (triad c.requires.u_bound c.requires.v_bound c.requires.w_bound
+    c.requires.x_bound c.requires.y_bound c.requires.z_bound)
 
 pub returns-clause-value : goal.returns-clause-value
 returns-clause-value c =
-    let fu : FitsSigned w64 c.args.u = c.ranges.u in
-    let fx : FitsSigned w64 c.args.x = c.ranges.x in
-    let fv : FitsSigned w64 c.args.v = c.ranges.v in
-    let fy : FitsSigned w64 c.args.y = c.ranges.y in
-    let fw : FitsSigned w64 c.args.w = c.ranges.w in
-    let fz : FitsSigned w64 c.args.z = c.ranges.z in
-    let ux : FitsSigned w64 (c.args.u *ℤ c.args.x) = product c.requires.u_bound c.requires.x_bound in
-    let vy : FitsSigned w64 (c.args.v *ℤ c.args.y) = product c.requires.v_bound c.requires.y_bound in
-    let wz : FitsSigned w64 (c.args.w *ℤ c.args.z) = product c.requires.w_bound c.requires.z_bound in
-    let uv : FitsSigned w64 (c.args.u *ℤ c.args.x +ℤ c.args.v *ℤ c.args.y) = pair c.requires.u_bound c.requires.v_bound c.requires.x_bound c.requires.y_bound in
-    let all : FitsSigned w64 (c.args.u *ℤ c.args.x +ℤ c.args.v *ℤ c.args.y +ℤ c.args.w *ℤ c.args.z) = within_fits w64 (within_add (within_add (within_mul c.requires.u_bound c.requires.x_bound) (within_mul c.requires.v_bound c.requires.y_bound)) (within_mul c.requires.w_bound c.requires.z_bound)) (lit< tt) in
-    simp to_z-of_z
+    let first =
+    read_as (same_product (read c.ranges.u) (read c.ranges.x)) (product c.requires.u_bound c.requires.x_bound) in
+    let second =
+    read_as (same_product (read c.ranges.v) (read c.ranges.y)) (product c.requires.v_bound c.requires.y_bound) in
+    let third =
+    read_as (same_product (read c.ranges.w) (read c.ranges.z)) (product c.requires.w_bound c.requires.z_bound) in
+    let two =
+    read_as
+    (same_sum first second)
+    (pair c.requires.u_bound c.requires.v_bound c.requires.x_bound c.requires.y_bound) in
+    read_as
+    (same_sum two third)
+    (triad c.requires.u_bound c.requires.v_bound c.requires.w_bound
+    c.requires.x_bound c.requires.y_bound c.requires.z_bound)
 
 pub returns-clause-bound : goal.returns-clause-bound
 returns-clause-bound c =
-    subst (IsWithin 26383447523322) (sym (returns-clause-value c)) (within_add (within_add (within_mul c.requires.u_bound c.requires.x_bound) (within_mul c.requires.v_bound c.requires.y_bound)) (within_mul c.requires.w_bound c.requires.z_bound))
+    within_as
+    (returns-clause-value c)
+    (within_add
+    (within_add (within_mul c.requires.u_bound c.requires.x_bound) (within_mul c.requires.v_bound c.requires.y_bound))
+    (within_mul c.requires.w_bound c.requires.z_bound))

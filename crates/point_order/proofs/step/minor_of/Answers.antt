@@ -1,51 +1,57 @@
-use Rattle.std.proofs.Common.{◌*ℤ◌, ◌-ℤ◌, lit<, w64}
-use Rattle.std.proofs.lemmas.Int.{to_z-of_z}
+use Rattle.std.proofs.Common.{ℤ, ◌*ℤ◌, ◌-ℤ◌, lit<, w64}
 use Rattle.std.specs.Int.RustNames.{FitsSigned}
+use Rattle.whole_ring.specs.Bounds.{IsWithin}
+use Rattle.whole_ring.proofs.Cited.{
+  fits_as,
+  read,
+  read_as,
+  same_difference,
+  same_product,
+  within_as,
+  within_fits,
+  within_mul,
+  within_sub,
+}
 use Rattle.point_order.specs.Orientation.{minor}
-use Rattle.whole_ring.proofs.Cited.{within_fits, within_mul, within_sub}
+use Rattle.point_order.specs.Sizes.{greatest_difference}
 use Rattle.point_order.proofs.step.minor_of.Goals as goal
+
+-- a product and a difference of two fit
+product : {p s : ℤ} → IsWithin greatest_difference p → IsWithin greatest_difference s → FitsSigned w64 (p *ℤ s)
+product h k = within_fits w64 (within_mul h k) (lit< tt)
+
+both : {p q r s : ℤ} → IsWithin greatest_difference p → IsWithin greatest_difference q
+    → IsWithin greatest_difference r → IsWithin greatest_difference s → FitsSigned w64 (p *ℤ s -ℤ q *ℤ r)
+both h k i j = within_fits w64 (within_sub (within_mul h j) (within_mul k i)) (lit< tt)
+
+pub overflow_mul-result : goal.overflow_mul-result
+overflow_mul-result c =
+    fits_as (same_product (read c.ranges.p) (read c.ranges.s)) (product c.requires.first c.requires.fourth)
+
+pub overflow_mul-result-2 : goal.overflow_mul-result-2
+overflow_mul-result-2 c =
+    fits_as (same_product (read c.ranges.q) (read c.ranges.r)) (product c.requires.second c.requires.third)
 
 pub overflow_sub-result : goal.overflow_sub-result
 overflow_sub-result c =
-    let p = c.args.p in
-    let q = c.args.q in
-    let r = c.args.r in
-    let s = c.args.s in
-    let fp : FitsSigned w64 p = c.ranges.p in
-    let fq : FitsSigned w64 q = c.ranges.q in
-    let fr : FitsSigned w64 r = c.ranges.r in
-    let fs : FitsSigned w64 s = c.ranges.s in
-    let ps : FitsSigned w64 (p *ℤ s) = within_fits w64 (within_mul c.requires.first c.requires.fourth) (lit< tt) in
-    let qr : FitsSigned w64 (q *ℤ r) = within_fits w64 (within_mul c.requires.second c.requires.third) (lit< tt) in
-    simp to_z-of_z (within_fits w64 (within_sub (within_mul c.requires.first c.requires.fourth) (within_mul c.requires.second c.requires.third)) (lit< tt))
+    let first =
+    read_as (same_product (read c.ranges.p) (read c.ranges.s)) (product c.requires.first c.requires.fourth) in
+    let second =
+    read_as (same_product (read c.ranges.q) (read c.ranges.r)) (product c.requires.second c.requires.third) in
+    fits_as (same_difference first second) (both c.requires.first c.requires.second c.requires.third c.requires.fourth)
 
 pub returns-clause-value : goal.returns-clause-value
 unfolding minor
 returns-clause-value c =
-    let p = c.args.p in
-    let q = c.args.q in
-    let r = c.args.r in
-    let s = c.args.s in
-    let fp : FitsSigned w64 p = c.ranges.p in
-    let fq : FitsSigned w64 q = c.ranges.q in
-    let fr : FitsSigned w64 r = c.ranges.r in
-    let fs : FitsSigned w64 s = c.ranges.s in
-    let ps : FitsSigned w64 (p *ℤ s) = within_fits w64 (within_mul c.requires.first c.requires.fourth) (lit< tt) in
-    let qr : FitsSigned w64 (q *ℤ r) = within_fits w64 (within_mul c.requires.second c.requires.third) (lit< tt) in
-    let all : FitsSigned w64 (p *ℤ s -ℤ q *ℤ r) = within_fits w64 (within_sub (within_mul c.requires.first c.requires.fourth) (within_mul c.requires.second c.requires.third)) (lit< tt) in
-    simp to_z-of_z
+    let first =
+    read_as (same_product (read c.ranges.p) (read c.ranges.s)) (product c.requires.first c.requires.fourth) in
+    let second =
+    read_as (same_product (read c.ranges.q) (read c.ranges.r)) (product c.requires.second c.requires.third) in
+    read_as (same_difference first second) (both c.requires.first c.requires.second c.requires.third c.requires.fourth)
 
 pub returns-clause-bound : goal.returns-clause-bound
+unfolding minor
 returns-clause-bound c =
-    let p = c.args.p in
-    let q = c.args.q in
-    let r = c.args.r in
-    let s = c.args.s in
-    let fp : FitsSigned w64 p = c.ranges.p in
-    let fq : FitsSigned w64 q = c.ranges.q in
-    let fr : FitsSigned w64 r = c.ranges.r in
-    let fs : FitsSigned w64 s = c.ranges.s in
-    let ps : FitsSigned w64 (p *ℤ s) = within_fits w64 (within_mul c.requires.first c.requires.fourth) (lit< tt) in
-    let qr : FitsSigned w64 (q *ℤ r) = within_fits w64 (within_mul c.requires.second c.requires.third) (lit< tt) in
-    let all : FitsSigned w64 (p *ℤ s -ℤ q *ℤ r) = within_fits w64 (within_sub (within_mul c.requires.first c.requires.fourth) (within_mul c.requires.second c.requires.third)) (lit< tt) in
-    simp to_z-of_z (within_sub (within_mul c.requires.first c.requires.fourth) (within_mul c.requires.second c.requires.third))
+    within_as
+    (returns-clause-value c)
+    (within_sub (within_mul c.requires.first c.requires.fourth) (within_mul c.requires.second c.requires.third))

@@ -1,0 +1,41 @@
+-- Scalar products of numbers that are known by equations.
+use Rattle.std.specs.Prelude.{ℕ, ℤ, ◌≡◌}
+use Rattle.std.proofs.Common.{lit<, refl, w64, to_z, of_z}
+use Rattle.whole_ring.specs.Bounds.{IsWithin}
+use Rattle.whole_ring.proofs.Cited.{read, within_fits}
+use Rattle.point_order.specs.Orientation.{normal_x, normal_y, normal_z, square_of_step, distance}
+use Rattle.point_order.specs.Sizes.{greatest_minor}
+use Rattle.small_spheres.specs.Inside.{dot, square_of_normal}
+use Rattle.small_spheres.specs.Within.{cell_centre_x, cell_centre_y, cell_centre_z}
+
+-- a coordinate of a normal is read as itself
+pub read_minor : {x : ℤ} → IsWithin greatest_minor x → to_z w64 (of_z w64 x) ≡ x
+read_minor h = read (within_fits w64 h (lit< tt))
+
+-- equal numbers have equal scalar products
+pub same_dot : {ux uy uz vx vy vz kx ky kz lx ly lz : ℤ} → ux ≡ kx → uy ≡ ky → uz ≡ kz → vx ≡ lx → vy ≡ ly → vz ≡ lz
+    → dot ux uy uz vx vy vz ≡ dot kx ky kz lx ly lz
+same_dot e f g h i j = cc
+
+-- the scalar product of a normal with itself
+pub normal_with_itself : (a b c : ℕ)
+    → dot (normal_x a b c) (normal_y a b c) (normal_z a b c) (normal_x a b c) (normal_y a b c) (normal_z a b c)
+    ≡ square_of_normal a b c
+unfolding dot square_of_normal square_of_step
+normal_with_itself a b c = refl
+
+-- the coordinates of the centre of a cell
+pub centre_x_from : (a b c d : ℕ) {p q r k l m : ℤ} → p ≡ distance a b → q ≡ distance a c → r ≡ distance a d
+    → k ≡ normal_x a c d → l ≡ normal_x a d b → m ≡ normal_x a b c → dot p q r k l m ≡ cell_centre_x a b c d
+unfolding cell_centre_x
+centre_x_from a b c d = same_dot
+
+pub centre_y_from : (a b c d : ℕ) {p q r k l m : ℤ} → p ≡ distance a b → q ≡ distance a c → r ≡ distance a d
+    → k ≡ normal_y a c d → l ≡ normal_y a d b → m ≡ normal_y a b c → dot p q r k l m ≡ cell_centre_y a b c d
+unfolding cell_centre_y
+centre_y_from a b c d = same_dot
+
+pub centre_z_from : (a b c d : ℕ) {p q r k l m : ℤ} → p ≡ distance a b → q ≡ distance a c → r ≡ distance a d
+    → k ≡ normal_z a c d → l ≡ normal_z a d b → m ≡ normal_z a b c → dot p q r k l m ≡ cell_centre_z a b c d
+unfolding cell_centre_z
+centre_z_from a b c d = same_dot

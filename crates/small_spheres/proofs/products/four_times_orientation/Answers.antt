@@ -1,0 +1,45 @@
+use Rattle.std.proofs.Common.{ℕ, ◌<◌, ◌≡◌, ℤ, pos, ◌*ℤ◌, lit<, ap, to_z, of_z}
+use Rattle.std.specs.Int.{w128}
+use Rattle.std.specs.Int.RustNames.{FitsSigned}
+use Rattle.whole_ring.specs.Bounds.{IsWithin}
+use Rattle.whole_ring.proofs.Cited.{
+  fits_as,
+  read,
+  read_as,
+  same_product,
+  within_below,
+  within_fits,
+  within_mul,
+  within_self,
+}
+use Rattle.small_spheres.specs.Sizes.{greatest_square_of_orientation}
+use Rattle.small_spheres.proofs.products.four_times_orientation.Goals as goal
+
+-- the factors fit, and the products
+four : {z : ℤ} → IsWithin greatest_square_of_orientation z → FitsSigned w128 (pos 4 *ℤ z)
+four h = within_fits w128 (within_mul (within_self 4) h) (lit< tt)
+
+factor : {n : ℕ} → n < 1073741824 → FitsSigned w128 (pos n)
+factor h = within_fits w128 (within_below h) (lit< tt)
+
+both : {z : ℤ} {n : ℕ} → IsWithin greatest_square_of_orientation z → n < 1073741824
+    → FitsSigned w128 (pos 4 *ℤ z *ℤ pos n)
+both h k = within_fits w128 (within_mul (within_mul (within_self 4) h) (within_below k)) (lit< tt)
+
+-- what is read is the product
+reads : {z : ℤ} {n : ℕ} → FitsSigned w128 z → IsWithin greatest_square_of_orientation z → n < 1073741824
+    → (to_z w128 (of_z w128 (pos 4 *ℤ to_z w128 (of_z w128 z))) *ℤ to_z w128 n) ≡ pos 4 *ℤ z *ℤ pos n
+reads f h k = same_product (read_as (ap (λ x. pos 4 *ℤ x) (read f)) (four h)) (read (factor k))
+
+pub overflow_mul-result : goal.overflow_mul-result
+overflow_mul-result c = fits_as (ap (λ x. pos 4 *ℤ x) (read c.ranges.square)) (four c.requires.square)
+
+pub overflow_cast-result : goal.overflow_cast-result
+overflow_cast-result c = factor c.requires.alpha
+
+pub overflow_mul-result-2 : goal.overflow_mul-result-2
+overflow_mul-result-2 c =
+    fits_as (reads c.ranges.square c.requires.square c.requires.alpha) (both c.requires.square c.requires.alpha)
+
+pub returns : goal.returns
+returns c = read_as (reads c.ranges.square c.requires.square c.requires.alpha) (both c.requires.square c.requires.alpha)

@@ -1,0 +1,15 @@
+use Rattle.whole_ring.proofs.Cited.{fits_128, fits_as, product_fits_128, read, read_as, same_product, wide}
+use Rattle.small_spheres.proofs.products.product.Goals as goal
+
+pub overflow_cast-result : goal.overflow_cast-result
+overflow_cast-result c = fits_as (read c.ranges.p) (fits_128 c.ranges.p)
+
+pub overflow_cast-result-2 : goal.overflow_cast-result-2
+overflow_cast-result-2 c = fits_as (read c.ranges.q) (fits_128 c.ranges.q)
+
+pub overflow_mul-result : goal.overflow_mul-result
+overflow_mul-result c =
+    fits_as (same_product (wide c.ranges.p) (wide c.ranges.q)) (product_fits_128 c.ranges.p c.ranges.q)
+
+pub returns : goal.returns
+returns c = read_as (same_product (wide c.ranges.p) (wide c.ranges.q)) (product_fits_128 c.ranges.p c.ranges.q)
