@@ -1,9 +1,9 @@
 -- The cells that fill the hole of a dig that is done.
-use Rattle.std.specs.Prelude.{ℕ, List, map, IsSome}
+use Rattle.std.specs.Prelude.{◌≡◌, ℕ, ◌+◌, ◌<◌, List, [], ◌∷◌, ◌++◌, length, map, slice_index_or, take, IsSome}
 use Rattle.std.specs.List.{flat_map}
-use Rattle.std.proofs.Common.{sym, subst, inl, inr}
-use Rattle.std.proofs.lemmas.List.{take_all}
-use Rattle.list_laws.proofs.Cited.{distinct_map, in_flat, mapped_from, mapped_true}
+use Rattle.std.proofs.Common.{sym, ◌∙◌, ap, subst, inl, inr}
+use Rattle.std.proofs.lemmas.List.{map-append, take_all}
+use Rattle.list_laws.proofs.Cited.{distinct_map, in_flat, mapped_from, mapped_true, take_next}
 use Rattle.point_order.specs.declared.cell.Cell.{Cell}
 use Rattle.point_order.specs.declared.cell.Facet.{Facet}
 use Rattle.point_order.specs.Facets.{facets_of}
@@ -78,3 +78,15 @@ fresh_are_held s p gone fresh hold i n f held here c m e k =
         | inr g ↦ held g.q (f.change.all_gone g.q g.goes.before g.goes.after) e g.has
       ]
     ]
+
+-- the first cells and the next
+pub cells_more : (cells : List Cell) (i : ℕ) (at x : Cell) (before after : List Cell) → i < length cells → at ≡ slice_index_or cells i at → x ≡ at → before ≡ take i cells → after ≡ before ++ x ∷ [] → after ≡ take (i + 1) cells
+cells_more cells i at x before after h e q b a =
+    a ∙ ap (λ l. l ++ x ∷ []) b ∙ ap (λ y. take i cells ++ y ∷ []) q ∙ sym (take_next cells i at h e)
+
+-- the fresh cells of the first facets and of the next
+pub fresh_more : (p : ℕ) (facets : List Facet) (i : ℕ) (at : Facet) (x : Cell) (before after : List Cell) → i < length facets → at ≡ slice_index_or facets i at → x ≡ cell_over at p → before ≡ map (λ f. cell_over f p) (take i facets) → after ≡ before ++ x ∷ [] → after ≡ map (λ f. cell_over f p) (take (i + 1) facets)
+fresh_more p facets i at x before after h e q b a =
+    let over : Facet → Cell = λ f. cell_over f p in
+    a ∙ ap (λ l. l ++ x ∷ []) b ∙ ap (λ y. map over (take i facets) ++ y ∷ []) q
+    ∙ sym (map-append over (take i facets) (at ∷ [])) ∙ ap (map over) (sym (take_next facets i at h e))

@@ -1,12 +1,12 @@
 -- Exchanges that were planned, carried out.
 use Rattle.std.specs.Prelude.{◌≡◌, ℕ, zero, suc, ◌<◌, Bool, true, false, List, [], ◌∷◌, ◌++◌, ◌⊎◌, length, map, Option, None, Some, slice_index_or, slice_set}
-use Rattle.std.proofs.Common.{refl, sym, ◌∙◌, ap, subst, inl, inr, arith}
-use Rattle.std.proofs.lemmas.List.{get_or-set_same, get_or-set_other}
-use Rattle.list_laws.proofs.Cited.{among_from, among_true, len_set, mapped_from, mapped_true}
+use Rattle.std.proofs.Common.{refl, sym, ◌∙◌, ap, subst, inl, inr, arith, append_assoc, take, ◌+◌, ◌≤◌}
+use Rattle.std.proofs.lemmas.List.{get_or-set_same, get_or-set_other, map-append, take_all, take_more}
+use Rattle.list_laws.proofs.Cited.{among_from, among_true, len_set, mapped_from, mapped_true, take_next}
 use Rattle.point_order.specs.declared.cell.Cell.{Cell}
 use Rattle.point_order.specs.Sets.{IsIn, is_among}
 use Rattle.cell_stars.specs.Places.{Placed, AreStars, IsStarred, IsMoved, at, cells_of, touches_in, star_at, swapped_at}
-use Rattle.cell_stars.specs.Plans.{PlanView, IsPlanFor, AreFor, ArePut, AreRewritten, StarsAfter, AreBelow, or_else, set_all, done}
+use Rattle.cell_stars.specs.Plans.{PlanView, Allows, IsPlanFor, AreFor, ArePut, AreRewritten, StarsAfter, AreBelow, or_else, set_all, done}
 use Rattle.cell_stars.specs.Moves.{IsRewriting, AreKeysAfter, AreAgreed, HasSameCells, HasSameStars}
 use Rattle.cell_stars.proofs.KeyLaws.{same_or_not}
 use Rattle.cell_stars.proofs.Moved.{moved_is_swapped, placed_in, in_placed, placed_sorted}
@@ -260,3 +260,46 @@ stars_more old l new s e q h = rw q (record {
     back [] (suc n) i m = refl
     back (x ∷ l) zero i m = refl
     back (x ∷ l) (suc n) i m = back l n i m
+
+-- ---- lists that are made element by element
+
+made_next : {X Y : Type 0} (f : X → Y) (l : List X) (n : ℕ) (x : X) (front list new : List Y) → take (n + 1) l ≡ take n l ++ x ∷ [] → new ≡ list ++ f x ∷ [] → list ≡ front ++ map f (take n l) → new ≡ front ++ map f (take (n + 1) l)
+made_next f l n x front list new t e i =
+    e ∙ ap (λ v. v ++ f x ∷ []) i ∙ append_assoc front (map f (take n l)) (f x ∷ []) ∙ ap (λ v. front ++ v) (sym (map-append f (take n l) (x ∷ [])) ∙ ap (map f) (sym t))
+
+-- one more place is freed
+pub freeing_more : (l : List ℕ) (n : ℕ) (list new : List (ℕ × Option Cell)) → n < length l → new ≡ list ++ (slice_index_or l n 0, None) ∷ [] → list ≡ freeing (take n l) → new ≡ freeing (take (n + 1) l)
+freeing_more l n list new h e i = made_next emptied l n (slice_index_or l n 0) [] list new (take_more l n 0 h) e i
+
+-- one more cell is put
+pub putting_more : (l : List (ℕ × Cell)) (n : ℕ) (x : ℕ × Cell) (front list new : List (ℕ × Option Cell)) → n < length l → x ≡ slice_index_or l n x → new ≡ list ++ (x.0, Some x.1) ∷ [] → list ≡ front ++ putting (take n l) → new ≡ front ++ putting (take (n + 1) l)
+putting_more l n x front list new h s e i = made_next (λ (m : ℕ × Cell). (m.0, Some m.1)) l n x front list new (take_next l n x h s) e i
+
+-- all are
+pub changes_are : (freed us : List ℕ) (placed ps : List (ℕ × Cell)) (n m : ℕ) (list new : List (ℕ × Option Cell)) → us ≡ freed → ps ≡ placed → length us ≤ n → length ps ≤ m → list ≡ freeing (take n us) → new ≡ list ++ putting (take m ps) → new ≡ freeing freed ++ putting placed
+changes_are freed us placed ps n m list new e f h k i j =
+    j ∙ ap (λ (v : List (ℕ × Option Cell)). v ++ putting (take m ps)) (i ∙ ap freeing (take_all n us h ∙ e)) ∙ ap (λ (v : List (ℕ × Cell)). freeing freed ++ putting v) (take_all m ps k ∙ f)
+
+-- one more star is copied
+pub copied_more : {X : Type 0} (l : List X) (n : ℕ) (x y : X) (list new : List X) → n < length l → x ≡ slice_index_or l n x → new ≡ list ++ y ∷ [] → y ≡ x → list ≡ take n l → new ≡ take (n + 1) l
+copied_more l n x y list new h s e q i = e ∙ ap (λ v. v ++ y ∷ []) i ∙ ap (λ v. take n l ++ v ∷ []) q ∙ sym (take_next l n x h s)
+
+-- one more element is put at its place
+pub put_next : {X : Type 0} (w v : List (ℕ × X)) (i : ℕ) (x : X) (l all : List X) → w ≡ (i, x) ∷ v → AreBelow (length l) w → set_all w l ≡ all → AreBelow (length (slice_set l i x)) v × (set_all v (slice_set l i x) ≡ all)
+put_next w v i x l all e b m = (subst (λ n. AreBelow n v) (sym (len_set l i x)) (subst (λ u. AreBelow (length l) u) e b).1, ap (λ u. set_all u l) (sym e) ∙ m)
+
+-- a bucket with the same lists is the same
+pub same_bucket : (p : Option (ℕ × ℕ)) (s s' : List (Option Cell)) (k k' : List (ℕ × ℕ)) (t t' : List (ℕ × List ℕ)) → s ≡ s' → k ≡ k' → t ≡ t' → ◌≡◌ {A = Placed} (record { place = p; slots = s; keys = k; stars = t }) (record { place = p; slots = s'; keys = k'; stars = t' })
+same_bucket p s s' k k' t t' e f g = rw (e, f, g)
+
+-- none is left to put
+pub put_none : {X : Type 0} (w : List (ℕ × X)) (l all : List X) → length w ≡ 0 → set_all w l ≡ all → l ≡ all
+put_none [] l all e m = m
+put_none (x ∷ w) l all e m = absurd (omega (arith, e))
+
+-- a plan and a bucket that are the same
+pub allows_same : (p q : PlanView) (b d : Placed) → p ≡ q → b ≡ d → Allows q d → Allows p b
+allows_same p q b d e f a = subst (λ x. Allows x b) (sym e) (subst (λ y. Allows q y) (sym f) a)
+
+pub done_same : (p q : PlanView) (b d : Placed) → p ≡ q → b ≡ d → done p b ≡ done q d
+done_same p q b d e f = ap (λ x. done x b) e ∙ ap (λ y. done q y) f

@@ -10,7 +10,7 @@ use std::alloc::{AllocError, Global};
 ///
 /// Cells that go are mostly listed as a dig finds them: each across a facet of one before it, those of one cell side
 /// by side.
-#[derive(Debug, Drop)]
+#[derive(Drop)]
 pub(crate) struct Guesses {
     pub(crate) places: Vec<u32>,
     first: usize,

@@ -143,13 +143,10 @@ impl Joins {
         place: u32,
         sides: [Beside; 4],
     ) -> Result<(), AllocError> {
-        let [a, b, c, d] = sides;
-        let around = [
-            self.across(links, gone, places, place, a)?,
-            self.across(links, gone, places, place, b)?,
-            self.across(links, gone, places, place, c)?,
-            self.across(links, gone, places, place, d)?,
-        ];
+        let mut around = [NONE; 4];
+        for (side, beside) in sides.iter().enumerate() {
+            around[side] = self.across(links, gone, places, place, *beside)?;
+        }
         self.fresh.push(Linked { place, around })?;
         Ok(())
     }

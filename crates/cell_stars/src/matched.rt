@@ -23,7 +23,7 @@ pub struct Matched {
 }
 
 // A facet by its number, and the cell, by where it comes in the list of those put, and the side on which it was met.
-#[derive(Clone, Copy, Debug)]
+#[derive(Clone, Copy)]
 struct Met {
     hash: u64,
     cell: usize,
@@ -50,7 +50,7 @@ const TURNS: usize = 8;
 const ENTRIES: usize = 6;
 
 // The facets that were met. One that finds no entry in its turns is left out.
-#[derive(Debug, Drop)]
+#[derive(Drop)]
 struct Table {
     count: usize,
     entries: Vec<Met>,

@@ -38,7 +38,7 @@ use std::alloc::{AllocError, Global};
 const FEW: usize = 32;
 
 // What goes and comes in an exchange: the places that are freed, ascending, and the cells that are put at places.
-#[derive(Debug, Drop)]
+#[derive(Drop)]
 pub(crate) struct Moves {
     pub(crate) freed: Vec<u32>,
     pub(crate) placed: Vec<(u32, Cell)>,
@@ -52,7 +52,7 @@ pub(crate) fn has_number(list: &[u32], i: u32) -> bool
     ensures { result ≡ is_among i list.now }
 {
     if list.len() <= FEW {
-        list.iter().any(|j| *j == i)
+        list.contains(&i)
     } else {
         list.binary_search(&i).is_ok()
     }
@@ -204,14 +204,18 @@ pub(crate) fn places_for(
     Ok(list)
 }
 
-// Each place beside its cell.
-fn pairs(alloc: Global, places: &[u32], cells: &[Cell]) -> Result<Vec<(u32, Cell)>, AllocError>
-    ensures { IfOk result (λ list. list.items ≡ zip places.now cells.now) }
+// Each number beside the element at its place in the other list.
+pub(crate) fn pairs<T: Copy>(
+    alloc: Global,
+    numbers: &[u32],
+    elements: &[T],
+) -> Result<Vec<(u32, T)>, AllocError>
+    ensures { IfOk result (λ list. list.items ≡ zip numbers.now elements.now) }
 {
-    places
+    numbers
         .iter()
-        .zip(cells)
-        .map(|(i, c)| (*i, *c))
+        .zip(elements)
+        .map(|(n, x)| (*n, *x))
         .collect(alloc)
 }
 
@@ -310,12 +314,12 @@ impl Cells {
     // A vertex of the first, the middle and the last of the cells that has no star, if there is one. A new point is
     // such.
     fn new_vertex(&self, cells: &[Cell]) -> Option<Point> {
-        let first = cells.first()?;
-        let middle = cells.get(cells.len() / 2)?;
-        let last = cells.last()?;
-        for p in first.points() {
-            if has_vertex(middle, *p) && has_vertex(last, *p) && !self.has_star(*p) {
-                return Some(*p);
+        let middle = cells.get(cells.len() / 2);
+        if let (Some(first), Some(middle), Some(last)) = (cells.first(), middle, cells.last()) {
+            for p in first.points() {
+                if has_vertex(middle, *p) && has_vertex(last, *p) && !self.has_star(*p) {
+                    return Some(*p);
+                }
             }
         }
         None

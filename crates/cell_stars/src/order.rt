@@ -14,7 +14,12 @@ use std::cmp::Ordering;
 pub(crate) fn touches(grid: Grid, b: u32, cell: &Cell) -> bool
     ensures { result ≡ touches_of grid b cell.now }
 {
-    cell.points().iter().any(|p| grid.bucket_of(*p) == b)
+    for p in cell.points() {
+        if grid.bucket_of(*p) == b {
+            return true;
+        }
+    }
+    false
 }
 
 // How the two stand in the order of cells.

@@ -44,20 +44,32 @@ impl Around {
     }
 }
 
-/// What an exchange makes of the cells of a bucket: what stands at some places after it, and what some stars are then.
+/// What stands at some places after an exchange.
 #[derive(Debug, Drop)]
-pub struct Plan {
+pub(crate) struct PlacesPlan {
     pub(crate) grown: Option<Vec<Option<Cell>>>,
     pub(crate) slots: Vec<(u32, Option<Cell>)>,
+    pub(crate) free: Vec<u32>,
+    pub(crate) used: u32,
+    pub(crate) links: Option<Links>,
+    pub(crate) joins: Joins,
+}
+
+/// What some stars are after an exchange.
+#[derive(Debug, Drop)]
+pub(crate) struct StarsPlan {
     pub(crate) more: Option<Vec<Around>>,
     pub(crate) stars: Vec<(u32, Around)>,
     pub(crate) keys: Option<Vec<(Point, u32)>>,
-    pub(crate) free: Vec<u32>,
     pub(crate) spare: Vec<u32>,
-    pub(crate) used: u32,
     pub(crate) used_stars: u32,
-    pub(crate) links: Option<Links>,
-    pub(crate) joins: Joins,
+}
+
+/// What an exchange makes of the cells of a bucket: what stands at some places after it, and what some stars are then.
+#[derive(Debug, Drop)]
+pub struct Plan {
+    pub(crate) places: PlacesPlan,
+    pub(crate) stars: StarsPlan,
 }
 
 impl Model for Plan {
@@ -67,12 +79,11 @@ impl Model for Plan {
     ghost Value = { PlanView };
 
     ghost view = { λ p. record {
-      grown = option_map (λ v. v.items) p.grown;
-      slots = p.slots.items;
-      more = option_map
-          (λ v. v.items) p.more;
-      stars = p.stars.items;
-      keys = option_map (λ v. v.items) p.keys;
+      grown = option_map (λ v. v.items) p.places.grown;
+      slots = p.places.slots.items;
+      more = option_map (λ v. v.items) p.stars.more;
+      stars = p.stars.stars.items;
+      keys = option_map (λ v. v.items) p.stars.keys;
     } };
 }
 

@@ -3,10 +3,10 @@
 ghost use Rattle.std.specs.Prelude.{◌≡◌, ◌<◌, ◌≤◌, ◌++◌, ℕ, None, Some, List, IfOk, length, map};
 ghost use Rattle.std.specs.Option.{option_map};
 ghost use Rattle.point_order.specs.declared.cell.Cell.{Cell};
-ghost use Rattle.point_order.specs.Sets.{IsIn};
-ghost use Rattle.cell_stars.specs.Places.{at};
+ghost use Rattle.point_order.specs.Sets.{IsIn, IsAscending};
+ghost use Rattle.cell_stars.specs.Places.{AreStars, at};
 ghost use Rattle.cell_stars.specs.Plans.{or_else, IsPlanFor};
-ghost use Rattle.cell_stars.specs.Moves.{HasSameCells, HasSameStars};
+ghost use Rattle.cell_stars.specs.Moves.{AreKeysAfter, HasSameCells, HasSameStars, IsRewriting};
 
 use crate::cells::Cells;
 use crate::joins::Joins;
@@ -15,29 +15,18 @@ use crate::links::Links;
 use crate::marks::Marks;
 use crate::matched::Matched;
 use crate::moves::Moves;
-use crate::plan::{Around, Plan};
+use crate::plan::{Around, PlacesPlan, Plan, StarsPlan};
 use point_order::{Cell, Point};
 use smallvec::SmallVec;
 use std::alloc::{AllocError, Global};
 
-// The first number behind all places.
-fn behind_places(placed: &[(u32, Cell)]) -> usize
-    ensures { (i : ℕ) (c : Cell) → IsIn (i, c) placed.now → i < result }
+// The first number behind those that stand beside the elements.
+fn behind_numbers<T>(list: &[(u32, T)]) -> usize
+    ensures { (i : ℕ) (x : T) → IsIn (i, x) list.now → i < result }
 {
     let mut end: usize = 0;
-    for (i, _) in placed {
+    for (i, _) in list {
         end = end.max(*i as usize + 1);
-    }
-    end
-}
-
-// The first number behind those of all stars.
-fn behind_stars(writes: &[(u32, Around)]) -> usize
-    ensures { (n : ℕ) (s : ℕ × List ℕ) → IsIn (n, s) writes.now → n < result }
-{
-    let mut end: usize = 0;
-    for (n, _) in writes {
-        end = end.max(*n as usize + 1);
     }
     end
 }
@@ -144,18 +133,20 @@ fn changes(alloc: Global, moves: &Moves) -> Result<Vec<(u32, Option<Cell>)>, All
     Ok(list)
 }
 
+// The numbers behind the first so many.
+#[inline]
+fn behind_first(list: &[u32], count: usize) -> &[u32] {
+    &list[count.min(list.len())..]
+}
+
 // The numbers that are likely to be open after the exchange: those that were and are not taken, and those that are
 // freed and not taken.
 fn open_after(alloc: Global, free: &[u32], moves: &Moves) -> Result<Vec<u32>, AllocError> {
     let taken = moves.placed.len();
     let freed = moves.freed.len();
     let mut list = Vec::with_capacity(alloc, free.len().saturating_add(freed))?;
-    for i in free.iter().skip(taken.saturating_sub(freed)) {
-        list.push(*i)?;
-    }
-    for i in moves.freed.iter().skip(taken) {
-        list.push(*i)?;
-    }
+    list.extend_from_slice(behind_first(free, taken.saturating_sub(freed)))?;
+    list.extend_from_slice(behind_first(&moves.freed, taken))?;
     Ok(list)
 }
 
@@ -199,7 +190,15 @@ fn marks_of_written(writes: &[(u32, Around)]) -> Marks {
 
 // Whether the star with the number is one of these, which have these marks.
 fn is_written(writes: &[(u32, Around)], marks: &Marks, n: u32) -> bool {
-    marks[(n % 4096) as usize] && writes.iter().any(|(m, _)| *m == n)
+    if !marks[(n % 4096) as usize] {
+        return false;
+    }
+    for (m, _) in writes {
+        if *m == n {
+            return true;
+        }
+    }
+    false
 }
 
 impl Cells {
@@ -213,6 +212,66 @@ impl Cells {
             Some(slots) => self.links.grown(alloc, slots.len()),
             None => Ok(None),
         }
+    }
+
+    // What becomes of the places.
+    #[inline]
+    fn plan_places(
+        &self,
+        alloc: Global,
+        fresh: &[Cell],
+        matched: &Matched,
+        moves: &Moves,
+    ) -> Result<PlacesPlan, AllocError>
+        ensures same { IfOk result (λ plan. HasSameCells self.now.slots
+            (or_else (option_map (λ v. v.items) plan.grown) self.now.slots)) }
+        ensures long { IfOk result (λ plan. (i : ℕ) (c : Cell) → IsIn (i, c) moves.now.placed.items →
+            i < length (or_else (option_map (λ v. v.items) plan.grown) self.now.slots)) }
+        ensures slots { IfOk result (λ plan. plan.slots.items ≡ map (λ i. (i, None)) moves.now.freed.items ++ map
+            (λ m. (m.0, Some m.1)) moves.now.placed.items) }
+    {
+        let end = behind_numbers(&moves.placed);
+        let grown = grown_slots(alloc, &self.slots, end)?;
+        let links = self.grown_links(alloc, &grown)?;
+        let joins = Joins::of(alloc, &self.links, fresh, matched, moves)?;
+        let slots = changes(alloc, moves)?;
+        Ok(PlacesPlan {
+            grown,
+            slots,
+            free: open_after(alloc, &self.free, moves)?,
+            used: self.used.max(u32::try_from(end).unwrap_or(u32::MAX)),
+            links,
+            joins,
+        })
+    }
+
+    // What becomes of the stars.
+    #[inline]
+    fn plan_stars(&self, alloc: Global, moves: &Moves) -> Result<StarsPlan, AllocError>
+        requires { IsAscending moves.now.freed.items }
+        ensures before { IfOk result (λ plan. AreStars self.now) }
+        ensures stars { IfOk result (λ plan. IsRewriting self.now moves.now.freed.items moves.now.placed.items
+            plan.stars.items) }
+        ensures keys { IfOk result (λ plan. AreKeysAfter self.now.keys plan.stars.items
+            (or_else (option_map (λ v. v.items) plan.keys) self.now.keys)) }
+        ensures same { IfOk result (λ plan. HasSameStars self.now.stars
+            (or_else (option_map (λ v. v.items) plan.more) self.now.stars)) }
+        ensures long { IfOk result (λ plan. (n : ℕ) (s : ℕ × List ℕ) → IsIn (n, s) plan.stars.items →
+            n < length (or_else (option_map (λ v. v.items) plan.more) self.now.stars)) }
+    {
+        let stars = self.writes(alloc, moves)?;
+        let keys = keys_after(alloc, &self.keys, &stars)?;
+        let end = behind_numbers(&stars);
+        let more = grown_stars(alloc, &self.stars, &stars, end)?;
+        let used_stars = self.used_stars.max(u32::try_from(end).unwrap_or(u32::MAX));
+        let spare = spare_after(alloc, &self.spare, &stars, self.used_stars, used_stars)?;
+        Ok(StarsPlan {
+            more,
+            stars,
+            keys,
+            spare,
+            used_stars,
+        })
     }
 
     /// Plans an exchange of the gone for the fresh cells, as far as they touch the bucket. The matches are to be
@@ -230,32 +289,8 @@ impl Cells {
         ensures { IfOk result (λ plan. IsPlanFor gone.now fresh.now self.now plan) }
     {
         let moves = self.moves(alloc, gone, fresh)?;
-        let stars = self.writes(alloc, &moves)?;
-        let keys = keys_after(alloc, &self.keys, &stars)?;
-        let end = behind_places(&moves.placed);
-        let end_stars = behind_stars(&stars);
-        let grown = grown_slots(alloc, &self.slots, end)?;
-        let links = self.grown_links(alloc, &grown)?;
-        let joins = Joins::of(alloc, &self.links, fresh, matched, &moves)?;
-        let more = grown_stars(alloc, &self.stars, &stars, end_stars)?;
-        let slots = changes(alloc, &moves)?;
-        let free = open_after(alloc, &self.free, &moves)?;
-        let used_stars = self
-            .used_stars
-            .max(u32::try_from(end_stars).unwrap_or(u32::MAX));
-        let spare = spare_after(alloc, &self.spare, &stars, self.used_stars, used_stars)?;
-        Ok(Plan {
-            grown,
-            slots,
-            more,
-            stars,
-            keys,
-            free,
-            spare,
-            used: self.used.max(u32::try_from(end).unwrap_or(u32::MAX)),
-            used_stars,
-            links,
-            joins,
-        })
+        let stars = self.plan_stars(alloc, &moves)?;
+        let places = self.plan_places(alloc, fresh, matched, &moves)?;
+        Ok(Plan { places, stars })
     }
 }

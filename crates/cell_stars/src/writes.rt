@@ -17,7 +17,6 @@ ghost use Rattle.std.specs.Prelude.{
   MatchOption,
   IsTrue,
 };
-ghost use Rattle.std.specs.List.{zip};
 ghost use Rattle.point_order.specs.declared.cell.Cell.{Cell};
 ghost use Rattle.point_order.specs.Facets.{points_of};
 ghost use Rattle.point_order.specs.Sets.{IsIn, IsAscending};
@@ -37,7 +36,7 @@ ghost use Rattle.cell_stars.specs.Moves.{
 use crate::cells::{Cells, places_in};
 use crate::links::hash_of;
 use crate::marks::{Marks, has_marked, marks_of};
-use crate::moves::{Moves, behind_last};
+use crate::moves::{Moves, behind_last, pairs};
 use crate::order::{has_vertex, numbers_in_order};
 use crate::plan::Around;
 use crate::star::cell_at;
@@ -134,21 +133,6 @@ fn numbers_for(
     let last = behind_last(&list)?;
     add_spare(&mut list, stars, count, last.max(first))?;
     Ok(list)
-}
-
-// Each number beside its vertex.
-fn pairs(
-    alloc: Global,
-    numbers: &[u32],
-    vertices: &[Point],
-) -> Result<Vec<(u32, Point)>, AllocError>
-    ensures { IfOk result (λ list. list.items ≡ zip numbers.now vertices.now) }
-{
-    numbers
-        .iter()
-        .zip(vertices)
-        .map(|(n, p)| (*n, *p))
-        .collect(alloc)
 }
 
 // For each rest of a division, where in a list of points the last one with this rest is likely to be.

@@ -1,8 +1,9 @@
 -- The points of cells, ascending, each once.
-use Rattle.std.specs.Prelude.{◌≡◌, ℕ, not, ◌==◌, List}
+use Rattle.std.specs.Prelude.{◌≡◌, ℕ, ◌+◌, ◌<◌, not, ◌==◌, List, [], ◌++◌, length, slice_index_or, take}
 use Rattle.std.specs.List.{filter, flat_map}
-use Rattle.std.proofs.Common.{sym, subst}
-use Rattle.list_laws.proofs.Cited.{false_if, filtered_from, filtered_true, flat_from, in_flat, not_both, not_from, not_true, same_from, same_true}
+use Rattle.std.proofs.Common.{sym, ◌∙◌, ap, subst}
+use Rattle.std.proofs.lemmas.List.{flat_map_more}
+use Rattle.list_laws.proofs.Cited.{false_if, filtered_from, filtered_true, flat_from, in_flat, not_both, not_from, not_true, same_from, same_true, take_next}
 use Rattle.point_order.specs.declared.cell.Cell.{Cell}
 use Rattle.point_order.specs.Facets.{points_of}
 use Rattle.point_order.specs.Sets.{IsIn, IsAscending, AreSamePoints}
@@ -21,3 +22,9 @@ points_are cells v all kept points a k same o = record {
         (filtered_true (λ p. not (p == v)) all e (subst (λ (l : List ℕ). IsIn e l) (sym a) (in_flat points_of cells r.0.cell e r.0.among r.0.has)) (not_true (e == v) (false_if (e == v) (λ h. r.1 (same_from e v h)))))),
   );
 }
+
+-- the points of the first cells and of the next
+pub points_more : (cells : List Cell) (i : ℕ) (at : Cell) (ps before after : List ℕ) → i < length cells → at ≡ slice_index_or cells i at → ps ≡ points_of at → before ≡ flat_map points_of (take i cells) → after ≡ before ++ ps → after ≡ flat_map points_of (take (i + 1) cells)
+points_more cells i at ps before after h e q b a =
+    a ∙ ap (λ l. l ++ ps) b ∙ ap (λ l. flat_map points_of (take i cells) ++ l) q
+    ∙ flat_map_more points_of [] (take i cells) at ∙ ap (flat_map points_of) (sym (take_next cells i at h e))

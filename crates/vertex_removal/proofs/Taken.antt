@@ -1,5 +1,5 @@
 -- The cells that a new point takes away from a mesh of one bucket, as they are judged one after another.
-use Rattle.std.specs.Prelude.{◌≡◌, ℕ, ◌*◌, ◌<◌, true, List, [], ◌∷◌, ◌++◌, ◌⊎◌, Some, length}
+use Rattle.std.specs.Prelude.{◌≡◌, ℕ, ◌*◌, ◌<◌, true, List, [], ◌∷◌, ◌++◌, ◌⊎◌, Some, IsSome, length}
 use Rattle.std.specs.List.{filter}
 use Rattle.std.specs.List.Sorted.{IsStrictlySortedBy, IsPermutation}
 use Rattle.std.proofs.Common.{refl, sym, ◌∙◌, subst, inl, inr, arith}
@@ -15,25 +15,19 @@ use Rattle.point_order.specs.Facets.{points_of}
 use Rattle.point_order.specs.Sets.{IsIn, with_point}
 use Rattle.edit_history.specs.Histories.{replay}
 use Rattle.del_laws.proofs.Cited.{complex_is_sorted}
-use Rattle.hole_laws.specs.Edits.{IsNew, GoesFrom, StaysFrom}
+use Rattle.hole_laws.specs.Edits.{GoesFrom, StaysFrom}
 use Rattle.cell_store.specs.Buckets.{InHand, BucketContent, bucket_at}
 use Rattle.cell_store.specs.Grids.{bucket_of, is_grid_size}
-use Rattle.cell_store.specs.Meshes.{IsWhole, MeshView, IsHoldOf}
+use Rattle.cell_store.specs.Meshes.{MeshView, IsHoldOf}
 use Rattle.cell_store.specs.Shares.{Shows, NoneInHand}
 use Rattle.cell_store.specs.Swaps.{touches}
 use Rattle.cell_stars.proofs.Cited.{bucket_below}
 use Rattle.cell_store.proofs.Cited.{point_held, shows_of, touched}
 use Rattle.cell_conflict.proofs.Cited.{none_in, some_point}
-use Rattle.vertex_removal.specs.Near.{AreTaken}
+use Rattle.vertex_removal.specs.Near.{AreTaken, IsSmall}
 use Rattle.vertex_removal.proofs.DistinctCells.{moved_once}
 
--- a whole hold of one bucket that shows the points t, of which v is none
-pub record IsSmall (hold : InHand) (t : List ℕ) (v : ℕ) : Type 0 where
-  pub whole : IsWhole hold
-  pub grid : hold.grid ≡ 1
-  pub new : IsNew t v
-  pub shown : Shows hold t
-
+-- the hold of the small mesh
 pub small_of : (mesh : MeshView) (hold : InHand) (g : ℕ) (t : List ℕ) (v : ℕ) → IsHoldOf mesh hold → mesh.grid ≡ g → g ≡ 1 → replay mesh.history ≡ t → IsKey v → ¬ (IsIn v t) → IsSmall hold t v
 small_of mesh hold g t v i at one e key absent = record {
   whole = i.whole;
@@ -41,6 +35,10 @@ small_of mesh hold g t v i at one e key absent = record {
   new = record { key = key; absent = absent };
   shown = subst (Shows hold) e (shows_of mesh hold i);
 }
+
+-- its bucket is in hand
+pub first_there : (hold : InHand) (t : List ℕ) (v : ℕ) → IsSmall hold t v → IsSome (bucket_at hold.places 0)
+first_there hold t v k = k.whole.all 0 (subst (λ n. 0 < n) (sym k.whole.has.places) (subst (λ g. 0 < g * g * g) (sym k.grid) (omega arith)))
 
 pub some_held : (hold : InHand) (t : List ℕ) (v : ℕ) → IsSmall hold t v → (c : Cell) → IsIn c (complex t) → ¬ (NoneInHand hold (points_of c))
 some_held hold t v k c m none =

@@ -1,7 +1,8 @@
-use Rattle.std.proofs.Common.{subst}
+use Rattle.std.proofs.Common.{sym, ◌∙◌, ◌≡◌, subst}
 use Rattle.edit_history.specs.Histories.{replay}
 use Rattle.cavity.specs.Turns.{TurnGives}
 use Rattle.cavity.specs.declared.dig.DigTurn.{DigTurn}
+use Rattle.cavity.specs.declared.dig.DigTurn.TheVariants.{Done, Need}
 use Rattle.cell_store.proofs.Cited.{shows_of}
 use Rattle.insertion.proofs.growth.dig_in.Goals as goal
 
@@ -21,3 +22,8 @@ advance-requires c =
     let s = replay c.args.mesh.now.history in
     let sh = shows_of c.args.mesh.now c.hold-hold.result.now c.hold-hold.ensures in
     (s, sh, c.in_ok-dig.ensures.digs s (record { absent = c.requires.absent; goes = c.cell_in_conflict-cell.ensures s sh c.requires }))
+
+pub unreachable-requires : goal.unreachable-requires
+unreachable-requires c =
+    let e : Need c.in-Need.field-0 ≡ Done = sym c.in-Need.is ∙ c.in_ok-advance.ensures.all c.hold-hold.ensures.whole.all in
+    (cc)

@@ -4,7 +4,7 @@ use Rattle.point_order.specs.Solid.{is_solid}
 use Rattle.edit_history.specs.Histories.{replay}
 use Rattle.cell_store.proofs.Cited.{held_by, shows_of}
 use Rattle.vertex_removal.specs.Refills.{IsRefilled}
-use Rattle.vertex_removal.specs.Turns.{RefillGives}
+use Rattle.vertex_removal.specs.Turns.{AsksNothing, RefillGives}
 use Rattle.vertex_removal.specs.declared.refill.RefillTurn.{RefillTurn}
 use Rattle.one_mesh.proofs.edits.removal_change.Goals as goal
 
@@ -29,3 +29,7 @@ returns-in-Flat c =
     let t = c.in_ok-change.ensures.turn s (shows_of c.args.mesh.now c.hold-hold.result.now c.hold-hold.ensures) in
     subst (λ (v : ℕ). is_solid (without_point v s) ≡ false) c.in_ok-refill.ensures
     (subst (λ (t : RefillTurn). RefillGives c.hold-hold.result.now s c.in_ok-refill.refill t) c.in-Flat.is t).1
+
+pub unreachable-requires : goal.unreachable-requires
+unreachable-requires c =
+    absurd (subst (λ (t : RefillTurn). AsksNothing t) c.in-Need.is (c.in_ok-change.ensures.all c.hold-hold.ensures.whole.all))

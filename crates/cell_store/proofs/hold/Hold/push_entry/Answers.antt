@@ -8,6 +8,20 @@ use Rattle.cell_store.proofs.Layouts.{shown_is, shown_len, shown_twice}
 use Rattle.cell_store.proofs.NoteLaws.{ready_noted, noted_is, stand_noted}
 use Rattle.cell_store.proofs.hold.Hold.push_entry.Goals as goal
 
+pub index_mut-requires : goal.index_mut-requires
+index_mut-requires c =
+    let i = c.self.inside in
+    let b = c.bucket_of-b.result in
+    let n : b < length (shown i.places.items) = subst (λ n. b < n) (sym (ap (λ h. length h.places) c.self.view_is ∙ c.grid.ensures.places ∙ ap (λ n. n * n * n) (sym c.grid.ensures.grid))) (subst (λ m. m < c.grid.result * c.grid.result * c.grid.result) (sym c.bucket_of-b.ensures.number) c.bucket_of-b.ensures.below) in
+    subst (λ n. b < n) (shown_len i.places.items ∙ sym i.places.ok.0) n
+
+pub index_mut-requires-in-Some-Some : goal.index_mut-requires-in-Some-Some
+index_mut-requires-in-Some-Some c =
+    let i = c.self.inside in
+    let b = c.bucket_of-b.result in
+    let n : b < length (shown i.places.items) = subst (λ n. b < n) (sym (ap (λ h. length h.places) c.self.view_is ∙ c.grid.ensures.places ∙ ap (λ n. n * n * n) (sym c.grid.ensures.grid))) (subst (λ m. m < c.grid.result * c.grid.result * c.grid.result) (sym c.bucket_of-b.ensures.number) c.bucket_of-b.ensures.below) in
+    subst (λ n. b < n) (shown_len i.places.items ∙ sym i.places.ok.0) n
+
 pub invariant_of-self : goal.invariant_of-self
 invariant_of-self c =
     let i = c.self.inside in
