@@ -1,6 +1,7 @@
 -- The least alphas of tests that are put together.
 use Rattle.std.proofs.Common.{◌≡◌, refl, sym, subst, ap, ◌∙◌, ℕ, zero, suc, ◌<◌, ◌+◌, ◌^◌, min, max, Bool, true, false, List, [], ◌∷◌, ◌++◌, map, drop, length, get_or, arith, nat_le}
-use Rattle.std.specs.Prelude.{not, ◌&&◌, ◌||◌}
+use Rattle.std.specs.Prelude.{not, ◌&&◌, ◌||◌, IfOk, Result, Ok, Err, Vec}
+use Rattle.std.specs.declared.alloc.Global.{Global}
 use Rattle.std.specs.List.{range_with_len, AllZip, filter, flat_map, list_all, list_any}
 use Rattle.std.proofs.lemmas.Bool.Decides.{nat_tests}
 use Rattle.std.proofs.lemmas.List.{drop_all, drop_more}
@@ -153,3 +154,9 @@ gabriel_none (a ∷ b ∷ c ∷ d ∷ face) = refl
 -- the points of one cell more
 pub link_more : (face : List ℕ) (c : Cell) (cells : List Cell) → link_of face (c ∷ cells) ≡ filter (λ p. not (is_among p face)) (points_of c) ++ link_of face cells
 link_more face c cells = filter-append (λ p. not (is_among p face)) (points_of c) (flat_map points_of cells)
+
+-- what is made of the places of a list is so of its elements
+pub placed : {X Y E : Type 0} (R : X → Y → Type 0) (d : X) (xs : List X) (n : ℕ) (r : Result (Vec Y Global) E) → n ≡ length xs → IfOk r (λ v. AllZip (λ i y. R (get_or xs i d) y) (range_with_len 0 n) v.items) →
+    IfOk r (λ v. AllZip R xs v.items)
+placed R d xs n (Ok v) e h = zip_places R d xs v.items (subst (λ (m : ℕ). AllZip (λ i y. R (get_or xs i d) y) (range_with_len 0 m) v.items) e h)
+placed R d xs n (Err f) e h = tt

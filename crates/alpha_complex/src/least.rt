@@ -15,6 +15,7 @@ ghost use Rattle.alpha_complex.specs.Leasts.{
 };
 
 use crate::covers::cover_least;
+use crate::each::of_each;
 use crate::numbers::FaceAlphas;
 use crate::owns::{cell_least_of, number_at, own_least};
 use crate::rounds::{all_least, some_least};
@@ -68,15 +69,15 @@ fn own_of_triples<R: Threads + Sync>(
 ) -> Result<Vec<u32>, AllocError>
     ensures { IfOk result (λ v. AreLeastOf is_small_by faces.now.triples v.items) }
 {
-    (0..faces.triples().len())
-        .into_par_iter()
-        .map(
-            |index: usize| -> u32
-                requires { index < length faces.now.triples }
-                ensures { IsLeastOf (λ alpha. is_small_by alpha (face_at faces.entry.now.triples index)) result }
-            { own_of_triple(faces, index) },
-        )
-        .collect(rt, alloc)
+    of_each(
+        rt,
+        alloc,
+        faces.triples().len(),
+        |index: usize| -> u32
+            requires { index < length faces.now.triples }
+            ensures { IsLeastOf (λ alpha. is_small_by alpha (face_at faces.entry.now.triples index)) result }
+        { own_of_triple(faces, index) },
+    )
 }
 
 /// The numbers of cells and triples by themselves, by several threads.
@@ -151,15 +152,15 @@ pub fn alphas_of_points<R: Threads + Sync>(
     requires { AreOwn own.now }
     ensures { IfOk result (λ v. AreAlphas is_admitted_point own.now.faces.now.points v.items) }
 {
-    (0..own.faces.points().len())
-        .into_par_iter()
-        .map(
-            |index: usize| -> FaceAlphas
-                requires { AreOwn own.now × (index < length own.now.faces.now.points) }
-                ensures { AreAlphasOf is_admitted_point (point_at own.entry.now.faces.now.points index) result }
-            { alphas_of_point(own, index) },
-        )
-        .collect(rt, alloc)
+    of_each(
+        rt,
+        alloc,
+        own.faces.points().len(),
+        |index: usize| -> FaceAlphas
+            requires { AreOwn own.now × (index < length own.now.faces.now.points) }
+            ensures { AreAlphasOf is_admitted_point (point_at own.entry.now.faces.now.points index) result }
+        { alphas_of_point(own, index) },
+    )
 }
 
 /// The numbers of all triples.
@@ -171,15 +172,15 @@ pub fn alphas_of_triples<R: Threads + Sync>(
     requires { AreOwn own.now }
     ensures { IfOk result (λ v. AreAlphas is_admitted_triple own.now.faces.now.triples v.items) }
 {
-    (0..own.faces.triples().len())
-        .into_par_iter()
-        .map(
-            |index: usize| -> FaceAlphas
-                requires { AreOwn own.now × (index < length own.now.faces.now.triples) }
-                ensures { AreAlphasOf is_admitted_triple (face_at own.entry.now.faces.now.triples index) result }
-            { alphas_of_triple(own, index) },
-        )
-        .collect(rt, alloc)
+    of_each(
+        rt,
+        alloc,
+        own.faces.triples().len(),
+        |index: usize| -> FaceAlphas
+            requires { AreOwn own.now × (index < length own.now.faces.now.triples) }
+            ensures { AreAlphasOf is_admitted_triple (face_at own.entry.now.faces.now.triples index) result }
+        { alphas_of_triple(own, index) },
+    )
 }
 
 /// The numbers of all pairs.
@@ -192,14 +193,14 @@ pub fn alphas_of_pairs<R: Threads + Sync>(
     ensures { IfOk result (λ v. AreAlphas (is_admitted_pair own.now.faces.now.triples) own.now.faces.now.pairs
         v.items) }
 {
-    (0..own.faces.pairs().len())
-        .into_par_iter()
-        .map(
-            |index: usize| -> FaceAlphas
-                requires { AreOwn own.now × (index < length own.now.faces.now.pairs) }
-                ensures { AreAlphasOf (is_admitted_pair own.entry.now.faces.now.triples)
-                    (face_at own.entry.now.faces.now.pairs index) result }
-            { alphas_of_pair(own, index) },
-        )
-        .collect(rt, alloc)
+    of_each(
+        rt,
+        alloc,
+        own.faces.pairs().len(),
+        |index: usize| -> FaceAlphas
+            requires { AreOwn own.now × (index < length own.now.faces.now.pairs) }
+            ensures { AreAlphasOf (is_admitted_pair own.entry.now.faces.now.triples)
+                (face_at own.entry.now.faces.now.pairs index) result }
+        { alphas_of_pair(own, index) },
+    )
 }

@@ -28,6 +28,7 @@ ghost use Rattle.alpha_complex.specs.Shapes.{shape_of, shape_seen};
 ghost use Rattle.alpha_complex.specs.Told.{TellsFaces};
 
 mod covers;
+mod each;
 mod kinds;
 pub mod laws;
 mod least;

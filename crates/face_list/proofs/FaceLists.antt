@@ -1,5 +1,5 @@
 -- The lists of faces: what is gathered under the parts of cells are the faces, each with its cells.
-use Rattle.std.proofs.Common.{◌≡◌, refl, sym, ap, subst, ◌∙◌, ℕ, zero, suc, ◌+◌, ◌<◌, inl, inr, Bool, true, false, cond, List, [], ◌∷◌, ◌++◌, map, take, length, get_or, arith}
+use Rattle.std.proofs.Common.{◌≡◌, refl, sym, ap, subst, ◌∙◌, ℕ, zero, suc, ◌+◌, ◌<◌, inl, inr, Bool, true, false, cond, List, [], ◌∷◌, ◌++◌, map, take, length, get_or, arith, append_assoc}
 use Rattle.std.specs.List.{filter, list_all}
 use Rattle.std.specs.List.Sorted.{IsStrictlySortedBy}
 use Rattle.std.specs.Cmp.{IsTotalOrder}
@@ -9,7 +9,7 @@ use Rattle.std.specs.declared.cmp.Ordering.{Ordering}
 use Rattle.std.specs.declared.cmp.Ordering.TheVariants.{Less}
 use Rattle.std.proofs.lemmas.Cmp.{nat_cmp_total, nat_list_cmp_total}
 use Rattle.std.proofs.lemmas.Map.Lookups.{CmpEqualImpliesEq, exact_unsigned, exact_bytes}
-use Rattle.std.proofs.lemmas.List.{take_more}
+use Rattle.std.proofs.lemmas.List.{map-append, take_more}
 use Rattle.list_laws.proofs.Cited.{all_by, all_from, all_true, among_from, among_true, at_in, cmp_less, contains_in, from_append, in_left, in_right, mapped_from, mapped_true, one_order}
 use Rattle.point_order.specs.declared.cell.Cell.{Cell}
 use Rattle.point_order.specs.declared.cell.Cell.TheVariants.{Full, Open}
@@ -273,3 +273,14 @@ parts_gathered k cells t a g =
     ))
     (λ p q l m. part_is_listed k cells p (record { q = q; listed = l; part = m }))
     (λ p i. let h = listed_is_part k cells p i in (h.q, h.listed, h.part))
+
+-- ---- parts under a number, one by one
+
+-- one part more
+pub put_more : {K : Type 0} (number : ℕ) (old now new : List (K × ℕ)) (parts : List K) (i : ℕ) (part : K) → i < length parts → part ≡ get_or parts i part →
+    now ≡ old ++ map (λ p. (p, number)) (take i parts) → new ≡ now ++ (part, number) ∷ [] → new ≡ old ++ map (λ p. (p, number)) (take (i + 1) parts)
+put_more {K} number old now new parts i part l is e f =
+    let under : K → K × ℕ = λ p. (p, number) in
+    let t : take (i + 1) parts ≡ take i parts ++ part ∷ [] = take_more parts i part l ∙ ap (λ (v : K). take i parts ++ v ∷ []) (sym is) in
+    f ∙ ap (λ (v : List (K × ℕ)). v ++ (part, number) ∷ []) e ∙ append_assoc old (map under (take i parts)) ((part, number) ∷ [])
+    ∙ ap (λ (v : List (K × ℕ)). old ++ v) (sym (ap (λ (v : List K). map under v) t ∙ map-append under (take i parts) (part ∷ [])))

@@ -1,3 +1,4 @@
+mod Failing
 pub mod Sorting
 pub mod Stretches
 pub mod Gathering

@@ -1,9 +1,11 @@
 -- Text on its way into a sink, a piece after another.
-use Rattle.std.proofs.Common.{◌≡◌, ◌++◌, List, [], ◌∷◌, ℕ, zero, suc, ◌+◌, ◌<◌, length, get_or, drop, arith, sym, ap, subst, ◌∙◌, append_assoc, append-nil}
+use Rattle.std.proofs.Common.{◌≡◌, refl, ◌++◌, List, [], ◌∷◌, ℕ, zero, suc, ◌+◌, ◌<◌, ◌≤◌, length, get_or, drop, arith, sym, ap, subst, ◌∙◌, append_assoc, append-nil}
 use Rattle.std.specs.Prelude.{Result, Ok, Err, OnOk, OnErr, Option, codes, decimal}
 use Rattle.std.specs.Io.KnownBytes.{Appends}
 use Rattle.std.proofs.KnownBytes.{Appends-trans, Appends-nil}
-use Rattle.byte_ends.specs.Ends.{AppendsFront}
+use Rattle.std.specs.Result.{IsErr, IsOk}
+use Rattle.std.proofs.lemmas.List.{at_drop_all}
+use Rattle.byte_ends.specs.Ends.{AppendsFront, HasCause, Rose}
 use Rattle.byte_ends.proofs.Cited.{AppendsFront_after}
 use Rattle.std.specs.List.{concat}
 use Rattle.mesh_files.specs.Lines.{block}
@@ -37,6 +39,18 @@ stopped a b p x f = record {
   rest = f.rest ++ x;
   parts = ap (λ (l : List ℕ). l ++ x) f.parts ∙ append_assoc f.front f.rest x;
   appended = f.appended;
+}
+
+-- the piece waits behind what waits
+pub waits : (a : Option (List ℕ)) (p q x : List ℕ) → q ≡ p ++ x → Flows a a p q x
+waits a p q x e = record { written = []; parts = sym e; appended = Appends-nil a }
+
+-- what waits is written, and the piece waits
+pub waits_after : {a b : Option (List ℕ)} (p m q x : List ℕ) → Appends a b p → m ≡ [] → q ≡ m ++ x → Flows a b p q x
+waits_after p m q x w n e = record {
+  written = p;
+  parts = ap (λ (l : List ℕ). p ++ l) (sym (e ∙ ap (λ (l : List ℕ). l ++ x) n));
+  appended = w;
 }
 
 -- ---- pieces, one after another
@@ -95,6 +109,35 @@ pub fails_err : {T E : Type 0} {a b : Option (List ℕ)} {p q x : List ℕ} (c :
 fails_err c y (Ok v) f g = tt
 fails_err c y (Err e) f g = fails f g
 
+-- what fails owes nothing of Ok
+pub not_ok : {T E : Type 0} (P : Type 0) (r : Result T E) → IsErr r → OnOk r P
+not_ok P (Ok v) f = cc
+not_ok P (Err e) f = tt
+
+-- the cause of an error is that of the call that returns it
+pub caused : {T U E : Type 0} {a b : ℕ} {e : E} (r : Result T E) → HasCause {T = U} a b (Err e) → HasCause a b r
+caused (Ok v) h = record { later = h.later; failed = tt }
+caused (Err e) h = record { later = h.later; failed = h.failed }
+
+rose_after : (a b c : ℕ) → a ≤ b → Rose b c → Rose a c
+rose_after a b c l h = omega arith
+
+-- where the count did not fall before the call
+pub caused_after : {T U E : Type 0} {a b c : ℕ} {e : E} (r : Result T E) → a ≤ b → HasCause {T = U} b c (Err e) → HasCause a c r
+caused_after {a = a} {b = b} {c = c} (Ok v) l h = record { later = omega (arith, l, h.later); failed = tt }
+caused_after {a = a} {b = b} {c = c} (Err e) l h = record { later = omega (arith, l, h.later); failed = rose_after a b c l h.failed }
+
+-- the same of what a call answers, whatever it is
+pub cause_from : {T E : Type 0} {a b c : ℕ} (r : Result T E) → a ≤ b → HasCause b c r → HasCause a c r
+cause_from (Ok v) l h = record { later = omega (arith, l, h.later); failed = tt }
+cause_from (Err e) l h = caused_after (Err e) l h
+
+pub at_once : (a : ℕ) → a ≤ a
+at_once a = omega arith
+
+pub up_to : (a b c : ℕ) → a ≤ b → b ≤ c → a ≤ c
+up_to a b c l m = omega (arith, l, m)
+
 -- ---- a text that is put item by item
 
 -- a front of the whole was put, and the rest is not yet
@@ -102,6 +145,31 @@ pub record FlowsBut (old new : Option (List ℕ)) (before after rest whole : Lis
   pub written : List ℕ
   pub parts : before ++ whole ≡ written ++ (after ++ rest)
   pub appended : Appends old new written
+
+-- a front was put, and the rest is not yet
+pub leaves : {a b : Option (List ℕ)} {p q x : List ℕ} (rest : List ℕ) → Flows a b p q x → FlowsBut a b p q rest (x ++ rest)
+leaves {p = p} {q = q} {x = x} rest f = record {
+  written = f.written;
+  parts = sym (append_assoc p x rest) ∙ ap (λ (l : List ℕ). l ++ rest) f.parts ∙ append_assoc f.written q rest;
+  appended = f.appended;
+}
+
+-- nothing was put yet
+pub leaves_all : (a : Option (List ℕ)) (p whole : List ℕ) → FlowsBut a a p p whole whole
+leaves_all a p whole = record { written = []; parts = refl; appended = Appends-nil a }
+
+-- the first line of a block was put, and the others are not yet
+pub starts : {a b : Option (List ℕ)} {p q : List ℕ} (title : List ℕ) (lines : List (List ℕ)) (n : ℕ) → n ≡ length lines →
+    Flows a b p q (title ++ codes " " ++ decimal n ++ codes "\n") → FlowsBut a b p q (concat lines) (block title lines)
+starts {a} {b} {p} {q} title lines n e f = leaves (concat lines) (subst (λ (k : ℕ). Flows a b p q (title ++ codes " " ++ decimal k ++ codes "\n")) e f)
+
+-- no item is left
+pub ends : {X : Type 0} {a b : Option (List ℕ)} {p q whole : List ℕ} (text : List X → List ℕ) → text [] ≡ [] → (xs : List X) (i : ℕ) → length xs ≤ i → FlowsBut a b p q (text (drop i xs)) whole → Flows a b p q whole
+ends {q = q} text none xs i l f = record {
+  written = f.written;
+  parts = f.parts ∙ ap (λ (t : List ℕ). f.written ++ (q ++ t)) (at_drop_all text xs i l ∙ none) ∙ ap (λ (t : List ℕ). f.written ++ t) (append-nil q);
+  appended = f.appended;
+}
 
 -- a text of items: what it is of an item and those behind it
 abbrev pub IsOfItems : {X : Type 0} → (List X → List ℕ) → (X → List ℕ) → Type 0
@@ -145,3 +213,23 @@ breaks {X} {a} {b} {c} {p} {q} {whole} text piece of xs i x l e f g =
 -- what was put is written, or a front of it
 pub flushed_in_part : {a b : Option (List ℕ)} {q x : List ℕ} (c : Option (List ℕ)) → Flows a b [] q x → AppendsFront b c q → AppendsFront a c x
 flushed_in_part {a} {b} {q} {x} c f w = subst (λ (t : List ℕ). AppendsFront a c t) (sym f.parts) (AppendsFront_after a b c f.written q f.appended w)
+
+-- a front of what was put is written, where nothing waited before
+pub fronted : {a b : Option (List ℕ)} {p x : List ℕ} → p ≡ [] → FlowsInPart a b p x → AppendsFront a b x
+fronted {x = x} n f = record {
+  front = f.written;
+  rest = f.rest;
+  parts = sym (ap (λ (l : List ℕ). l ++ x) n) ∙ f.parts;
+  appended = f.appended;
+}
+
+-- what was put is written, where nothing waited before
+pub flushed : {T E : Type 0} {a b : Option (List ℕ)} {p q x : List ℕ} (c : Option (List ℕ)) (r : Result T E) → p ≡ [] → Flows a b p q x → OnOk r (Appends b c q) → OnOk r (Appends a c x)
+flushed {a = a} {b = b} {q = q} {x = x} c (Ok v) n f w =
+    subst (λ (t : List ℕ). Appends a c t) (sym f.parts ∙ ap (λ (l : List ℕ). l ++ x) n) (Appends-trans a b c f.written q f.appended w)
+flushed c (Err e) n f w = tt
+
+-- a count that did not rise is of a call that went well
+pub went_well : {T E : Type 0} {a b : ℕ} (r : Result T E) → HasCause a b r → (Rose a b → ⊥) → IsOk r
+went_well (Ok v) h n = refl
+went_well (Err e) h n = absurd (n h.failed)

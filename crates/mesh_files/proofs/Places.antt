@@ -39,3 +39,11 @@ pub own_item : {X : Type 0} (d : X) (xs : List X) (i : ℕ) → i < length xs �
 own_item d [] i l = absurd (omega (arith, l))
 own_item d (x ∷ xs) zero l = refl
 own_item d (x ∷ xs) (suc i) l = own_item d xs i (omega (arith, l))
+
+-- where a count tells the end, a place below it
+pub below_end : (i n m : ℕ) → i < n → n ≡ m → i < m
+below_end i n m l e = omega (arith, l, e)
+
+-- where a count tells the end, a place past it
+pub past_end : (i n m : ℕ) → n ≤ i → n ≡ m → m ≤ i
+past_end i n m l e = omega (arith, l, e)

@@ -2,6 +2,7 @@ use Rattle.std.proofs.Common.{◌≡◌, refl, sym, ap, subst, ◌∙◌, inl, i
 use Rattle.std.specs.List.Sorted.{IsStrictlySortedBy}
 use Rattle.std.specs.declared.cmp.Ordering.TheVariants.{Less, Equal}
 use Rattle.face_list.specs.Gather.{item_cmp, numbers_of}
+use Rattle.face_list.proofs.Failing.{no_value, not_ok}
 use Rattle.face_list.proofs.Gathering.{other_key, same_key, none_behind, before_later, sorted_rest, end_joined, end_none}
 use Rattle.face_list.proofs.gather.put_numbers.Goals as goal
 
@@ -38,3 +39,9 @@ loop-first-preserved g c =
       order = sorted_rest cmp first others (subst (IsStrictlySortedBy (item_cmp cmp)) split c.loop-first.invariant.order);
       later = λ k h. sym (ap (λ l. numbers_of cmp l k) split ∙ other_key cmp first others k Less (before_later cmp g.met.K.Ord.total first.0 c.args.key k (inr e) h) refl) ∙ c.loop-first.invariant.later k h;
     }
+
+pub returns-in_err-push-in-Equal : goal.returns-in_err-push-in-Equal
+returns-in_err-push-in-Equal g c =
+    let r = c.from_residual.result in
+    let f = c.from_residual.ensures.0 in
+    record { numbers = not_ok _ r f; order = no_value _ r f; later = no_value _ r f }

@@ -4,6 +4,7 @@ use Rattle.std.proofs.lemmas.List.{take_more, drop_more, map-append, length-appe
 use Rattle.list_laws.proofs.Cited.{before_others, from_append}
 use Rattle.point_order.specs.Sets.{IsIn}
 use Rattle.face_list.specs.Gather.{numbers_of}
+use Rattle.face_list.proofs.Failing.{no_value}
 use Rattle.face_list.proofs.Gathering.{number_of_item}
 use Rattle.face_list.proofs.Stretches.{one_more, stops_more}
 use Rattle.face_list.proofs.gather.with_numbers.Goals as goal
@@ -32,3 +33,30 @@ loop-key-preserved g c =
           ∙ ap (λ l. l ++ more ∷ []) c.loop-key.invariant.lists ∙ sym (map-append (numbers_of cmp items) (take n keys) (key ∷ [])));
       numbers = λ k m. elim (from_append k old more (subst (IsIn k) put m)) [ inl i ↦ c.loop-key.invariant.numbers k i | inr i ↦ number_of_item cmp items key k i ];
     }
+
+pub returns-in_err-ends : goal.returns-in_err-ends
+returns-in_err-ends g c =
+    let r = c.from_residual.result in
+    let f = c.from_residual.ensures.0 in
+    record { keys = no_value _ r f; ends = no_value _ r f; stops = no_value _ r f; lists = no_value _ r f; numbers = no_value _ r f }
+
+pub returns-in_err-numbers : goal.returns-in_err-numbers
+returns-in_err-numbers g c =
+    let r = c.from_residual-in_err-numbers.result in
+    let f = c.from_residual-in_err-numbers.ensures.0 in
+    record { keys = no_value _ r f; ends = no_value _ r f; stops = no_value _ r f; lists = no_value _ r f; numbers = no_value _ r f }
+
+pub returns-in_err-rest : goal.returns-in_err-rest
+returns-in_err-rest g c =
+    let r = c.from_residual-in_err-rest.result in
+    let f = c.from_residual-in_err-rest.ensures.0 in
+    record { keys = no_value _ r f; ends = no_value _ r f; stops = no_value _ r f; lists = no_value _ r f; numbers = no_value _ r f }
+
+pub returns-in_err-put_end : goal.returns-in_err-put_end
+returns-in_err-put_end g c =
+    let r = c.from_residual-in_err-put_end.result in
+    let f = c.from_residual-in_err-put_end.ensures.0 in
+    record { keys = no_value _ r f; ends = no_value _ r f; stops = no_value _ r f; lists = no_value _ r f; numbers = no_value _ r f }
+
+pub put_numbers-requires : goal.put_numbers-requires
+put_numbers-requires g c = c.loop-key.invariant.order

@@ -1,11 +1,11 @@
-use Rattle.std.proofs.Common.{List, ℕ, refl, arith}
-use Rattle.list_laws.proofs.Cited.{on_err}
+use Rattle.std.proofs.Common.{List, ℕ, refl}
 use Rattle.alpha_complex.specs.Slots.{ShapeSlots}
 use Rattle.alpha_complex.specs.Shapes.{ShapeParts, shape_seen}
 use Rattle.alpha_complex.proofs.Cited.{mapped_at}
 use Rattle.mesh_files.specs.Report.{shapes_seen}
 use Rattle.mesh_files.specs.Text.{shape_text, shape_blocks}
-use Rattle.mesh_files.proofs.Flowing.{breaks, goes_on}
+use Rattle.list_laws.proofs.Cited.{on_err}
+use Rattle.mesh_files.proofs.Flowing.{at_once, breaks, caused_after, ends, goes_on, leaves_all, not_ok, up_to}
 use Rattle.mesh_files.proofs.shapes.put_shapes.Goals as goal
 
 pub put_shape-requires : goal.put_shape-requires
@@ -13,11 +13,26 @@ put_shape-requires g c =
     let seen : ℕ × ShapeSlots → ℕ × ShapeParts = λ s. (s.0, shape_seen s.1) in
     c.requires.ascending (seen c.loop-radius-item.result) (mapped_at seen c.args.shapes.now c.loop-radius.radius-index c.loop-radius-item.result c.loop-radius-test.true c.loop-radius-item.is)
 
-pub returns-in_err-put_shape-clause-front : goal.returns-in_err-put_shape-clause-front
-returns-in_err-put_shape-clause-front g c =
-    on_err c.from_residual.result
-    (breaks (λ (xs : List (ℕ × ShapeSlots)). shape_blocks (shapes_seen xs)) (λ (s : ℕ × ShapeSlots). shape_text s.0 (shape_seen s.1)) (λ x xs. refl) c.args.shapes.now c.loop-radius.radius-index c.loop-radius-item.result c.loop-radius-test.true c.loop-radius-item.is c.loop-radius.invariant.0 c.in_err-put_shape.ensures.front)
+pub loop-radius-init : goal.loop-radius-init
+loop-radius-init g c = (leaves_all _ _ _, at_once _)
+
+pub returns-in_err-put_shape : goal.returns-in_err-put_shape
+returns-in_err-put_shape g c =
+    let r = c.from_residual.result in
+    record {
+      flows = not_ok _ r c.from_residual.ensures.0;
+      front = on_err r (breaks (λ (xs : List (ℕ × ShapeSlots)). shape_blocks (shapes_seen xs)) (λ (s : ℕ × ShapeSlots). shape_text s.0 (shape_seen s.1)) (λ x xs. refl) c.args.shapes.now c.loop-radius.radius-index c.loop-radius-item.result c.loop-radius-test.true c.loop-radius-item.is c.loop-radius.invariant.0 c.in_err-put_shape.ensures.front);
+      cause = caused_after r c.loop-radius.invariant.1 c.in_err-put_shape.ensures.cause;
+    }
 
 pub loop-radius-preserved : goal.loop-radius-preserved
 loop-radius-preserved g c =
-    (goes_on (λ (xs : List (ℕ × ShapeSlots)). shape_blocks (shapes_seen xs)) (λ (s : ℕ × ShapeSlots). shape_text s.0 (shape_seen s.1)) (λ x xs. refl) c.args.shapes.now c.loop-radius.radius-index c.loop-radius-item.result c.loop-radius-test.true c.loop-radius-item.is c.loop-radius.invariant.0 c.in_ok-put_shape.ensures.flows, omega (arith, c.loop-radius.invariant.1, c.in_ok-put_shape.ensures.cause.later))
+    (goes_on (λ (xs : List (ℕ × ShapeSlots)). shape_blocks (shapes_seen xs)) (λ (s : ℕ × ShapeSlots). shape_text s.0 (shape_seen s.1)) (λ x xs. refl) c.args.shapes.now c.loop-radius.radius-index c.loop-radius-item.result c.loop-radius-test.true c.loop-radius-item.is c.loop-radius.invariant.0 c.in_ok-put_shape.ensures.flows, up_to _ _ _ c.loop-radius.invariant.1 c.in_ok-put_shape.ensures.cause.later)
+
+pub returns : goal.returns
+returns g c =
+    record {
+      flows = ends (λ (xs : List (ℕ × ShapeSlots)). shape_blocks (shapes_seen xs)) refl c.args.shapes.now c.loop-radius.radius-index c.loop-radius-test.false c.loop-radius.invariant.0;
+      front = tt;
+      cause = record { later = c.loop-radius.invariant.1; failed = tt };
+    }

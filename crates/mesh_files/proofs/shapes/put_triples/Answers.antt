@@ -1,40 +1,51 @@
-use Rattle.std.proofs.Common.{◌≡◌, ◌∙◌, sym, List, ℕ, ◌<◌, length, get_or, arith}
-use Rattle.std.specs.Prelude.{Option, None, map, codes}
-use Rattle.std.specs.List.{concat}
-use Rattle.std.proofs.lemmas.List.{length-map}
+use Rattle.std.proofs.Common.{List, ℕ}
+use Rattle.std.specs.Prelude.{codes}
 use Rattle.list_laws.proofs.Cited.{on_err}
 use Rattle.alpha_complex.specs.declared.shape.Kind.{Kind}
-use Rattle.alpha_complex.specs.Slots.{held}
-use Rattle.mesh_files.specs.Text.{face_line, held_line, points_in}
-use Rattle.mesh_files.proofs.Flowing.{breaks, goes_on, title_fails}
-use Rattle.mesh_files.proofs.Places.{own_item}
-use Rattle.mesh_files.proofs.Slots.{held_items}
+use Rattle.mesh_files.specs.Text.{face_line, points_in}
+use Rattle.mesh_files.proofs.Flowing.{caused, caused_after, not_ok, up_to}
+use Rattle.mesh_files.proofs.Places.{below_end}
+use Rattle.mesh_files.proofs.Slots.{held_breaks, held_ends, held_goes_on, held_starts, held_title_fails}
 use Rattle.mesh_files.proofs.shapes.put_triples.Goals as goal
 
-pub returns-in_err-put_title-clause-front : goal.returns-in_err-put_title-clause-front
-returns-in_err-put_title-clause-front g c =
+pub returns-in_err-put_title : goal.returns-in_err-put_title
+returns-in_err-put_title g c =
     let line = (λ (f : List ℕ × Kind). face_line (points_in c.args.shape.now.points) f.0 f.1) in
-    let slots = c.args.shape.now.triples in
-    let n : c.triple_count.result ≡ length (map line (held slots)) = c.triple_count.ensures ∙ sym (length-map (held slots) line) in
-    on_err c.from_residual.result (title_fails (codes "triangles") (map line (held slots)) c.triple_count.result n c.in_err-put_title.ensures.front)
+    let r = c.from_residual.result in
+    record {
+      flows = not_ok _ r c.from_residual.ensures.0;
+      front = on_err r (held_title_fails (codes "triangles") line c.args.shape.now.triples c.triple_count.result c.triple_count.ensures c.in_err-put_title.ensures.front);
+      cause = caused r c.in_err-put_title.ensures.cause;
+    }
 
-pub returns-in_err-put_triple-clause-front : goal.returns-in_err-put_triple-clause-front
-returns-in_err-put_triple-clause-front g c =
+pub loop-index-init : goal.loop-index-init
+loop-index-init g c =
     let line = (λ (f : List ℕ × Kind). face_line (points_in c.args.shape.now.points) f.0 f.1) in
-    let slots = c.args.shape.now.triples in
-    let i = c.loop-index.index in
-    let t = c.loop-index-test.true in
-    let e = c.triple_slots-index-end.ensures in
-    let h : i < length slots = omega (arith, t, e) in
-    on_err c.from_residual-in_err-put_triple.result
-    (breaks (λ (xs : List (Option (List ℕ × Kind))). concat (map line (held xs))) (held_line line) (held_items line) slots i (get_or slots i None) h (own_item None slots i h) c.loop-index.invariant.0 c.in_err-put_triple.ensures.front)
+    (held_starts (codes "triangles") line c.args.shape.now.triples c.triple_count.result c.triple_count.ensures c.in_ok-put_title.ensures.flows, c.in_ok-put_title.ensures.cause.later)
+
+pub put_triple-requires : goal.put_triple-requires
+put_triple-requires g c = record { points = c.requires; index = below_end _ _ _ c.loop-index-test.true c.triple_slots-index-end.ensures }
+
+pub returns-in_err-put_triple : goal.returns-in_err-put_triple
+returns-in_err-put_triple g c =
+    let line = (λ (f : List ℕ × Kind). face_line (points_in c.args.shape.now.points) f.0 f.1) in
+    let r = c.from_residual-in_err-put_triple.result in
+    record {
+      flows = not_ok _ r c.from_residual-in_err-put_triple.ensures.0;
+      front = on_err r (held_breaks line c.args.shape.now.triples c.loop-index.index _ c.loop-index-test.true c.triple_slots-index-end.ensures c.loop-index.invariant.0 c.in_err-put_triple.ensures.front);
+      cause = caused_after r c.loop-index.invariant.1 c.in_err-put_triple.ensures.cause;
+    }
 
 pub loop-index-preserved : goal.loop-index-preserved
 loop-index-preserved g c =
     let line = (λ (f : List ℕ × Kind). face_line (points_in c.args.shape.now.points) f.0 f.1) in
-    let slots = c.args.shape.now.triples in
-    let i = c.loop-index.index in
-    let t = c.loop-index-test.true in
-    let e = c.triple_slots-index-end.ensures in
-    let h : i < length slots = omega (arith, t, e) in
-    (goes_on (λ (xs : List (Option (List ℕ × Kind))). concat (map line (held xs))) (held_line line) (held_items line) slots i (get_or slots i None) h (own_item None slots i h) c.loop-index.invariant.0 c.in_ok-put_triple.ensures.flows, omega (arith, c.loop-index.invariant.1, c.in_ok-put_triple.ensures.cause.later))
+    (held_goes_on line c.args.shape.now.triples c.loop-index.index _ c.loop-index-test.true c.triple_slots-index-end.ensures c.loop-index.invariant.0 c.in_ok-put_triple.ensures.flows, up_to _ _ _ c.loop-index.invariant.1 c.in_ok-put_triple.ensures.cause.later)
+
+pub returns : goal.returns
+returns g c =
+    let line = (λ (f : List ℕ × Kind). face_line (points_in c.args.shape.now.points) f.0 f.1) in
+    record {
+      flows = held_ends line c.args.shape.now.triples c.loop-index.index _ c.loop-index-test.false c.triple_slots-index-end.ensures c.loop-index.invariant.0;
+      front = tt;
+      cause = record { later = c.loop-index.invariant.1; failed = tt };
+    }
