@@ -1,8 +1,31 @@
 -- A commit of a board that is kept in one hold with words: when its condition holds, and what it makes of the board.
-use Rattle.std.specs.Prelude.{◌≡◌, ◌⊎◌, ℕ, ◌+◌, ◌-◌, ◌*◌, ◌<◌, ◌==◌, List, [], ◌∷◌, ◌++◌, All, Option, None, Some, IsSome, length, slice_index_or, slice_set}
-use Rattle.std.proofs.Common.{refl, sym, ◌∙◌, ap, subst, inl, inr, arith}
+use Rattle.std.specs.Prelude.{
+  ◌≡◌,
+  ◌⊎◌,
+  ℕ,
+  ◌+◌,
+  ◌-◌,
+  ◌*◌,
+  ◌^◌,
+  ◌<◌,
+  ◌≤◌,
+  ◌==◌,
+  List,
+  [],
+  ◌∷◌,
+  ◌++◌,
+  All,
+  Option,
+  None,
+  Some,
+  IsSome,
+  length,
+  slice_index_or,
+  slice_set,
+}
+use Rattle.std.proofs.Common.{Fits, w64, refl, sym, ◌∙◌, ap, subst, inl, inr, arith}
 use Rattle.std.proofs.lemmas.Bool.{eqb-true, eq-eqb}
-use Rattle.list_laws.proofs.Cited.{all_of_each, each_of_all, one_value, same_there, some_and, within_some}
+use Rattle.list_laws.proofs.Cited.{all_of_each, each_of_all, one_value, same_there, some_and, some_of, within_some}
 use Rattle.point_order.specs.declared.cell.Cell.{Cell}
 use Rattle.point_order.specs.Coordinates.{IsKey}
 use Rattle.point_order.specs.Facets.{points_of}
@@ -16,16 +39,16 @@ use Rattle.cell_store.specs.Changes.{IsChange, IsNext, IsSwapped, IsNoted}
 use Rattle.claim_rule.specs.declared.board.Seat.{Seat}
 use Rattle.claim_rule.specs.declared.trial.Trial.{Trial}
 use Rattle.claim_rule.specs.declared.event.Event.TheVariants.{Commit}
-use Rattle.claim_rule.specs.declared.event.Played.TheVariants.{Done}
+use Rattle.claim_rule.specs.declared.event.Played.TheVariants.{Done, Short}
 use Rattle.cell_store.specs.Touches.{HoldTouched}
-use Rattle.claim_rule.specs.Boards.{BoardState, view_at}
+use Rattle.claim_rule.specs.Boards.{BoardState, left_in, view_at}
 use Rattle.claim_rule.specs.Good.{IsGood, Good}
 use Rattle.claim_rule.specs.Events.{Next, CanCommit, entry_after}
 use Rattle.claim_rule.specs.Kept.{held_by, view_of, kept}
 use Rattle.claim_rule.specs.Trials.{IsNamed, IsOnSome, IsTrialOf}
 use Rattle.claim_rule.proofs.Nexts.{next_of}
 use Rattle.claim_rule.proofs.Kept.{if_so, whose_length, whose_at}
-use Rattle.claim_rule.proofs.Moves.{live_view}
+use Rattle.claim_rule.proofs.Moves.{from_view, live_view}
 use Rattle.claim_rule.proofs.Renewals.{so_true, commit_next}
 use Rattle.claim_rule.proofs.Brought.{brought}
 use Rattle.claim_rule.proofs.Whole.{all_are_shares, all_in_hand}
@@ -80,7 +103,63 @@ commit_facts g parts most opening ticket words places seats h n seat edit good l
       subst (λ (j : ℕ). HoldTouched g (replay h) edit (held_by j words places)) first (subst (λ (x : Rattle.claim_rule.specs.Boards.View). HoldTouched g (replay h) edit x.held) same v.2.1),
     )
 
+-- ---- a commit that does nothing
+
+-- there is no such pass
+pub none_commits :
+    (g parts most : ℕ) (opening : List Entry) (ticket : ℕ) (words : List ℕ) (places : List (Option BucketContent))
+    (seats : List (Option Seat)) (h : List Entry) (n : ℕ) (edit : Edit) →
+    ((x : Seat) → slice_index_or seats n None ≡ Some x → ⊥) →
+    CanCommit h (kept g parts most opening ticket words places seats) n edit → ⊥
+none_commits g parts most opening ticket words places seats h n edit none can =
+    let v = some_and (view_at (kept g parts most opening ticket words places seats) n) _ can in
+    let t = some_of (slice_index_or seats n None) (from_view words places seats n v.0 v.1) in
+    none t.0 t.1
+
+none_left : (x : ℕ) → x ≡ 0 → 0 < x → ⊥
+none_left x e l = absurd (omega arith)
+
+-- the pass has nothing left
+pub spent_commits :
+    (g parts most : ℕ) (opening : List Entry) (ticket : ℕ) (words : List ℕ) (places : List (Option BucketContent))
+    (seats : List (Option Seat)) (h : List Entry) (n : ℕ) (seat : Seat) (edit : Edit) →
+    IsGood (kept g parts most opening ticket words places seats) h → slice_index_or seats n None ≡ Some seat →
+    seat.left ≡ 0 → CanCommit h (kept g parts most opening ticket words places seats) n edit → ⊥
+spent_commits g parts most opening ticket words places seats h n seat edit good live spent can =
+    none_left seat.left spent
+    (commit_facts g parts most opening ticket words places seats h n seat edit good live can).0
+
+pub short_answer :
+    (h : List Entry) (s t : BoardState) (n tag : ℕ) (edit : Edit) → s ≡ t → (CanCommit h s n edit → ⊥) →
+    Next h t (Commit n tag edit) Short t
+short_answer h s t n tag edit same cannot =
+    (λ can. cannot (subst (λ (x : BoardState). CanCommit h x n edit) (sym same) can), refl)
+
+-- the hold is as before
+pub same_board :
+    (old new : InHand) (parts most : ℕ) (opening : List Entry) (ticket : ℕ) (words : List ℕ)
+    (seats : List (Option Seat)) → new ≡ old →
+    kept old.grid parts most opening ticket words old.places seats
+    ≡ kept new.grid parts most opening ticket words new.places seats
+same_board old new parts most opening ticket words seats e =
+    ap (λ (x : InHand). kept x.grid parts most opening ticket words x.places seats) (sym e)
+
 -- ---- the change
+
+few_entries : (ticket l left most : ℕ) → ticket ≡ l → l + left ≤ most → most ≤ 2 ^ 32 → ticket ≤ 2 ^ 32
+few_entries ticket l left most t room few = omega arith
+
+-- the next number fits
+pub next_fits : (ticket : ℕ) → ticket ≤ 2 ^ 32 → Fits w64 (ticket + 1)
+next_fits ticket few = omega arith
+
+pub few_so_far :
+    (g parts most : ℕ) (opening : List Entry) (ticket : ℕ) (words : List ℕ) (places : List (Option BucketContent))
+    (seats : List (Option Seat)) (h : List Entry) → IsGood (kept g parts most opening ticket words places seats) h →
+    ticket ≤ 2 ^ 32
+few_so_far g parts most opening ticket words places seats h good =
+    few_entries ticket (length h) (left_in (kept g parts most opening ticket words places seats).views) most good.ticket
+    good.room good.shape.most
 
 -- The board after a commit, over all that the code made of its parts.
 pub committed_next : (old between new : InHand) (parts most : ℕ) (opening : List Entry) (ticket : ℕ) (words : List ℕ) (seats : List (Option Seat)) (h : List Entry) (n tag : ℕ) (edit : Edit) (seat : Seat) (t : Trial) →

@@ -21,3 +21,4 @@ pub mod Gathered
 pub mod Began
 pub mod Committing
 pub mod Cited
+mod Filled

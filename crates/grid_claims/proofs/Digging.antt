@@ -1,6 +1,7 @@
 -- The claims of an insertion.
-use Rattle.std.specs.Prelude.{◌≡◌, ℕ, cond, ◌+◌, List, [], ◌∷◌, ◌++◌, IsSome}
-use Rattle.std.proofs.Common.{sym, ◌∙◌, ap, subst, inl, inr}
+use Rattle.std.specs.Prelude.{◌≡◌, ℕ, cond, ◌+◌, List, [], ◌∷◌, ◌++◌, IsSome, ◌<◌, None}
+use borrow.Author.Count.{below_none}
+use Rattle.std.proofs.Common.{refl, sym, ◌∙◌, ap, subst, inl, inr}
 use Rattle.atomic_table.specs.Seated.{TableId}
 use Rattle.list_laws.proofs.Cited.{among_from, false_if, is_there, one_below, snoc_new, some_of}
 use Rattle.point_order.specs.declared.cell.Cell.{Cell}
@@ -20,14 +21,14 @@ use Rattle.cavity.specs.Fills.{IsFilled}
 use Rattle.cell_conflict.specs.Searching.{ShowsNew}
 use Rattle.cavity.specs.Turns as dig
 use Rattle.cavity.specs.declared.dig.DigTurn.{DigTurn}
-use Rattle.cavity.specs.declared.dig.DigTurn.TheVariants.{Done}
+use Rattle.cavity.specs.declared.dig.DigTurn.TheVariants.{Done, Need}
 use Rattle.cell_store.proofs.Cited.{solid_set}
 use Rattle.grid_claims.specs.declared.hands.Hands.{Hands}
 use Rattle.grid_claims.specs.declared.claiming.Plan.{Plan}
-use Rattle.grid_claims.specs.Claiming.{IsPlan}
+use Rattle.grid_claims.specs.Claiming.{AreHands, IsPlan, ShowsOne}
 use Rattle.grid_claims.specs.Looking.{HasMore, IsNewFor, IsDigFor, HasBucketOf, IsDigging, IsSearching}
 use Rattle.grid_claims.proofs.Ready.{insertion_is_ready}
-use Rattle.grid_claims.proofs.MoreHands.{more_then, shown, still_held}
+use Rattle.grid_claims.proofs.MoreHands.{more_none, more_then, shown, still_held}
 use Rattle.grid_claims.proofs.Refilling.{has_hand}
 
 pub new_still : (id : TableId) (n p : ℕ) (old now : Hands) → HasMore id n old now → IsNewFor old.hold p → IsNewFor now.hold p
@@ -37,6 +38,11 @@ pub shows_new : (id : TableId) (n p : ℕ) (old now : Hands) → HasMore id n ol
 shows_new id n p old now m new = (m.one.0, m.one.1, new_still id n p old now m new m.one.0 m.one.1)
 
 -- ---- in turn
+
+-- no bucket was looked at yet
+pub searching_none : (id : TableId) (n : ℕ) (w : Hands) → AreHands id n w → ShowsOne w.hold → IsSearching id n w w 0
+searching_none id n w a one =
+    record { more = more_none id n w a one; below = below_none (λ (x : ℕ). IsSome (bucket_at w.hold.places x)) }
 
 -- the bucket is in hand
 pub searching_over : (id : TableId) (n b : ℕ) (old now : Hands) → IsSearching id n old now b → IsSome (bucket_at now.hold.places b) → IsSearching id n old now (b + 1)
@@ -66,6 +72,29 @@ searching_on id n b old now next s m order =
     }) (asked_held id n b now next m order)
 
 -- ---- a dig
+
+pub digging_none :
+    (id : TableId) (n : ℕ) (w : Hands) (d : Digging) → AreHands id n w → ShowsOne w.hold → IsDigFor w.hold d →
+    IsDigging id n w w d d
+digging_none id n w d a one digs = record { more = more_none id n w a one; digs = digs; point = refl }
+
+pub digging_shows :
+    (id : TableId) (n : ℕ) (old now : Hands) (before d : Digging) → IsDigging id n old now before d →
+    dig.ShowsDig now.hold d
+digging_shows id n old now before d i = (i.more.one.0, i.more.one.1, i.digs i.more.one.0 i.more.one.1)
+
+pub dig_asks_below : (l b : ℕ) (turn : DigTurn) → turn ≡ Need b → dig.AsksBelow l turn → b < l
+dig_asks_below l b turn is asks = subst (λ (t : DigTurn). dig.AsksBelow l t) is asks
+
+pub dig_asks_absent :
+    (id : TableId) (n b : ℕ) (old now : Hands) (before d d' : Digging) (turn : DigTurn) →
+    IsDigging id n old now before d → turn ≡ Need b →
+    ((s : List ℕ) → Shows now.hold s → IsDigIn s d → dig.TurnGives now.hold s d' turn) →
+    bucket_at now.hold.places b ≡ None
+dig_asks_absent id n b old now before d d' turn i is gives =
+    let s = i.more.one.0 in
+    let st = i.more.one.1 in
+    (subst (λ (t : DigTurn). dig.TurnGives now.hold s d' t) is (gives s st (i.digs s st))).absent
 
 pub digging_goes_on : (id : TableId) (n : ℕ) (old now next : Hands) (before d d' : Digging) → IsDigging id n old now before d → HasMore id n now next → d'.point ≡ d.point → ((s : List ℕ) → Shows now.hold s → IsDigIn s d → IsDigIn s d') → IsDigging id n old next before d'
 digging_goes_on id n old now next before d d' i m point digs = record {

@@ -22,6 +22,7 @@ mod Planning
 mod Finishing
 pub mod Trying
 mod Resting
+mod OpeningSlots
 mod Counted
 mod Showing
 pub mod Snapped

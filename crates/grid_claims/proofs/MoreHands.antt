@@ -1,13 +1,39 @@
 -- Hands with one more bucket, and with a claim that failed.
-use Rattle.std.specs.Prelude.{◌≡◌, ◌⊎◌, ℕ, zero, suc, ◌+◌, ◌<◌, ◌≤◌, List, [], ◌∷◌, ◌++◌, map, length, vec_capacity, Option, None, Some, IsSome, slice_set}
+use Rattle.std.specs.Prelude.{
+  ◌≡◌,
+  ◌⊎◌,
+  ℕ,
+  zero,
+  suc,
+  ◌+◌,
+  ◌*◌,
+  ◌%◌,
+  ◌<◌,
+  ◌≤◌,
+  Bool,
+  false,
+  List,
+  [],
+  ◌∷◌,
+  ◌++◌,
+  map,
+  length,
+  vec_capacity,
+  Option,
+  None,
+  Some,
+  IsSome,
+  is_some,
+  slice_set,
+}
 use Rattle.std.proofs.Common.{refl, sym, ◌∙◌, ap, subst, arith, length-set, get_or-set_other}
 use Rattle.std.proofs.lemmas.List.{append_assoc, append-nil, map-append, length-append}
 use mathlib.Core.Logic.{dite}
 use native.Mathlib.Decide.{ℕ_discrete}
 use Rattle.atomic_table.specs.Seated.{TableId}
-use Rattle.list_laws.proofs.Cited.{is_there, some_of}
+use Rattle.list_laws.proofs.Cited.{is_there, none_is, some_of}
 use Rattle.edit_history.specs.declared.history.Entry.{Entry}
-use Rattle.cell_store.specs.Buckets.{BucketContent, InHand, bucket_at}
+use Rattle.cell_store.specs.Buckets.{BucketContent, InHand, Room, bucket_at}
 use Rattle.cell_store.specs.Shares.{Stands, Shows}
 use Rattle.edit_history.specs.Histories.{replay}
 use Rattle.cell_store.proofs.Cited.{fewer_show, stands_shows}
@@ -176,6 +202,78 @@ still_held w w' p a s =
     let t = some_of (bucket_at w.places (bucket_of w.grid p)) s in
     subst (λ (g : ℕ). IsSome (bucket_at w'.places (bucket_of g p))) a.grid (is_there (bucket_at w'.places (bucket_of w.grid p)) t.0 (a.buckets (bucket_of w.grid p) t.0 t.1))
 
+-- ---- where a loop of claims starts, and how it ends
+
+-- nothing was claimed yet
+pub more_none : (id : TableId) (n : ℕ) (w : Hands) → AreHands id n w → ShowsOne w.hold → HasMore id n w w
+more_none id n w a one = record {
+  hands = a;
+  claimed = record {
+    more = [];
+    order = sym (append-nil w.order.items);
+    view = λ i. record w.place.me.0 { held = a.carries.places_are i; trail = sym (append-nil w.place.me.0.trail) i };
+  };
+  among = record { grid = refl; buckets = λ b c e. e };
+  one = one;
+}
+
+fewer_by : (o o' e e' l l' n : ℕ) → o + e ≡ l → o' + e' ≡ l' → l ≡ n → l' ≡ n → o' ≡ o + 1 → e' < e
+fewer_by o o' e e' l l' n x y p q r = omega arith
+
+-- after a claim there are fewer empty places
+pub fewer_left :
+    (id : TableId) (n b : ℕ) (w w' : Hands) → AreHands id n w → AreHands id n w' →
+    w'.order.items ≡ w.order.items ++ b ∷ [] → empty_places w'.hold.places < empty_places w.hold.places
+fewer_left id n b w w' a a' order =
+    fewer_by (length w.order.items) (length w'.order.items) (empty_places w.hold.places) (empty_places w'.hold.places)
+    (length w.hold.places) (length w'.hold.places) n a.count a'.count a.places a'.places
+    (ap length order ∙ length_snoc w.order.items b)
+
+-- as many buckets as the grid has are in the hold
+cubed :
+    (id : TableId) (n g size count : ℕ) (old now : Hands) → AreHands id n old → AreHands id n now → g ≡ size →
+    count ≡ g * g * g → length old.hold.places ≡ size * size * size → count ≡ length now.hold.places
+cubed id n g size count old now a a' same is wide =
+    is ∙ ap (λ (x : ℕ). x * x * x) same ∙ sym wide ∙ a.places ∙ sym a'.places
+
+-- a bucket of the grid is one of the hold
+pub within_hold :
+    (id : TableId) (n g size count b : ℕ) (old now : Hands) → AreHands id n old → AreHands id n now → g ≡ size →
+    count ≡ g * g * g → length old.hold.places ≡ size * size * size → b < count → b < length now.hold.places
+within_hold id n g size count b old now a a' same is wide l =
+    subst (λ (x : ℕ). b < x) (cubed id n g size count old now a a' same is wide) l
+
+pub above_zero : (i n : ℕ) → i < n → 0 < n
+above_zero i n l = omega arith
+
+pub turned_below : (x i n : ℕ) → i < n → x % n < n
+turned_below x i n l = omega (arith, above_zero i n l)
+
+before_end : (x count end b : ℕ) → count ≡ end → x < end → count ≤ b → x < b
+before_end x count end b e l m = omega arith
+
+-- with all buckets of the grid in hand, all are
+pub all_taken :
+    (id : TableId) (n g size count b : ℕ) (old now : Hands) → AreHands id n old → AreHands id n now → g ≡ size →
+    count ≡ g * g * g → length old.hold.places ≡ size * size * size → count ≤ b →
+    ((x : ℕ) → x < b → IsSome (bucket_at now.hold.places x)) → (x : ℕ) → x < length now.hold.places →
+    IsSome (bucket_at now.hold.places x)
+all_taken id n g size count b old now a a' same is wide end below x l =
+    below x (before_end x count (length now.hold.places) b (cubed id n g size count old now a a' same is wide) l end)
+
+-- a bucket of which the hold says that it is not in hand
+pub lacks_it :
+    (hold : InHand) (b : ℕ) (has : Bool) → has ≡ is_some (bucket_at hold.places b) → has ≡ false →
+    bucket_at hold.places b ≡ None
+lacks_it hold b has e lacks = none_is (bucket_at hold.places b) (sym e ∙ lacks)
+
+-- the bucket of a point, by its number
+pub home_held :
+    (hold : InHand) (p g b : ℕ) → HasBucketOf hold p → g ≡ hold.grid → b ≡ bucket_of g p →
+    IsSome (bucket_at hold.places b)
+home_held hold p g b mine same e =
+    subst (λ (x : ℕ). IsSome (bucket_at hold.places x)) (sym (e ∙ ap (λ (x : ℕ). bucket_of x p) same)) mine
+
 -- no word of the pass's own
 pub others_still : (w w' : Hands) (steps : List Act) (why : Refused) → HasClaimed w w' steps → HasOthersWord w'.place.me.0 why → HasOthersWord w.place.me.0 why
 others_still w w' steps Spent c o = o
@@ -194,3 +292,46 @@ stopped_then id n w w' u why x y = record {
 
 pub out_of_memory : (id : TableId) (n : ℕ) (w w' : Hands) → HasMore id n w w' → HasStopped w w' Memory
 out_of_memory id n w w' x = record { claimed = x.claimed; others = tt }
+
+-- ---- a hold that is as before but for its room
+
+pub hands_with_room :
+    (id : TableId) (n : ℕ) (w : Hands) (hold : InHand) (r : Room) → AreHands id n w →
+    hold ≡ record w.hold { room = r } →
+    AreHands id n (record { place = w.place; hold = hold; order = w.order; first = w.first })
+hands_with_room id n w hold r a e =
+    subst (λ (h : InHand). AreHands id n (record { place = w.place; hold = h; order = w.order; first = w.first }))
+    (sym e) (record {
+      table = a.table;
+      words = a.words;
+      places = a.places;
+      some_part = a.some_part;
+      no_child = a.no_child;
+      first = a.first;
+      grid = a.grid;
+      carries = a.carries;
+      count = a.count;
+      room = a.room;
+    })
+
+pub claimed_with_room :
+    (old w : Hands) (hold : InHand) (r : Room) → HasClaimed old w [] → hold ≡ record w.hold { room = r } →
+    HasClaimed old (record { place = w.place; hold = hold; order = w.order; first = w.first }) []
+claimed_with_room old w hold r k e =
+    subst (λ (h : InHand). HasClaimed old (record { place = w.place; hold = h; order = w.order; first = w.first })
+    []) (sym e)
+    (record { more = k.more; order = k.order; view = k.view })
+
+-- no room was made
+pub hands_same :
+    (id : TableId) (n : ℕ) (w : Hands) (hold : InHand) → AreHands id n w → hold ≡ w.hold →
+    AreHands id n (record { place = w.place; hold = hold; order = w.order; first = w.first })
+hands_same id n w hold a e = subst (λ (h : InHand). AreHands id n
+    (record { place = w.place; hold = h; order = w.order; first = w.first })) (sym e) a
+
+pub no_room_made :
+    (id : TableId) (n : ℕ) (old w : Hands) (hold : InHand) → HasMore id n old w → hold ≡ w.hold →
+    HasStopped old (record { place = w.place; hold = hold; order = w.order; first = w.first }) Memory
+no_room_made id n old w hold m e =
+    subst (λ (h : InHand). HasStopped old (record { place = w.place; hold = h; order = w.order; first = w.first })
+    Memory) (sym e) (out_of_memory id n old w m)

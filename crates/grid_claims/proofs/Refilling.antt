@@ -1,5 +1,5 @@
 -- The claims of a removal.
-use Rattle.std.specs.Prelude.{◌≡◌, ℕ, true, false, cond, List, [], ◌∷◌, ◌++◌}
+use Rattle.std.specs.Prelude.{◌≡◌, ℕ, ◌<◌, None, true, false, cond, List, [], ◌∷◌, ◌++◌}
 use Rattle.std.proofs.Common.{refl, sym, ◌∙◌, ap, subst, inl, inr}
 use Rattle.atomic_table.specs.Seated.{TableId}
 use Rattle.list_laws.proofs.Cited.{among_true, in_snoc}
@@ -13,7 +13,7 @@ use Rattle.edit_history.specs.declared.history.Edit.TheVariants.{Take}
 use Rattle.edit_history.specs.declared.history.Reply.{Reply}
 use Rattle.edit_history.specs.declared.history.Reply.TheVariants.{Removed, Flat, Missing}
 use Rattle.edit_history.specs.Edits.{reply_to, after, changed}
-use Rattle.cell_store.specs.Buckets.{InHand}
+use Rattle.cell_store.specs.Buckets.{InHand, bucket_at}
 use Rattle.cell_store.specs.Changes.{IsChange}
 use Rattle.cell_store.specs.Ready.{AreHeld}
 use Rattle.cell_store.specs.Shares.{Shows}
@@ -26,10 +26,10 @@ use Rattle.cavity.specs.declared.fill_hole.Fresh.{Fresh}
 use Rattle.cell_store.specs.Touches.{IsTouched}
 use Rattle.grid_claims.specs.declared.hands.Hands.{Hands}
 use Rattle.grid_claims.specs.declared.claiming.Plan.{Plan}
-use Rattle.grid_claims.specs.Claiming.{AreHands, IsPlan}
-use Rattle.grid_claims.specs.Looking.{HasMore, IsThereFor, HasBucketOf, IsRefilling}
+use Rattle.grid_claims.specs.Claiming.{AreHands, IsPlan, ShowsOne}
+use Rattle.grid_claims.specs.Looking.{HasMore, IsThereFor, HasBucketOf, OnlyTouched, IsRefilling}
 use Rattle.grid_claims.proofs.Ready.{HasHand, removal_is_ready}
-use Rattle.grid_claims.proofs.MoreHands.{more_then, shown, still_held}
+use Rattle.grid_claims.proofs.MoreHands.{more_none, more_then, shown, still_held}
 
 pub there_still : (id : TableId) (n p : ℕ) (old now : Hands) → HasMore id n old now → IsThereFor old.hold p → IsThereFor now.hold p
 there_still id n p old now m there s st = there s (shown old.hold now.hold s m.among st)
@@ -113,6 +113,29 @@ plan_flat id n p old now plan r there mine reply gone fresh done key =
     }
 
 -- ---- by the turns of a refill
+
+-- the bucket that is asked for is one of the hold, and is not in hand
+pub asks_below : (l b : ℕ) (turn : RefillTurn) → turn ≡ Need b → refill.AsksBelow l turn → b < l
+asks_below l b turn is asks = subst (λ (t : RefillTurn). refill.AsksBelow l t) is asks
+
+pub asks_absent :
+    (hold : InHand) (p b : ℕ) (turn : RefillTurn) → ShowsOne hold → turn ≡ Need b →
+    ((s : List ℕ) → Shows hold s → refill.RefillGives hold s p turn) → bucket_at hold.places b ≡ None
+asks_absent hold p b turn one is gives =
+    (subst (λ (t : RefillTurn). refill.RefillGives hold one.0 p t) is (gives one.0 one.1)).absent
+
+-- only the first buckets are in hand
+pub refilling_none :
+    (id : TableId) (n p r : ℕ) (w : Hands) → AreHands id n w → ShowsOne w.hold → OnlyTouched w.hold p → r ≡ p →
+    (r ≡ p) × IsRefilling id n p w w
+refilling_none id n p r w a one only e = (e, record { more = more_none id n w a one; only = only })
+
+-- the bucket of the point is still in hand
+pub refill_held :
+    (id : TableId) (n p r : ℕ) (old now : Hands) → r ≡ p → HasMore id n old now → HasBucketOf old.hold p →
+    HasBucketOf now.hold r
+refill_held id n p r old now e m mine =
+    subst (λ (x : ℕ). HasBucketOf now.hold x) (sym e) (still_held old.hold now.hold p m.among mine)
 
 pub goes_on_by : (id : TableId) (n p r b : ℕ) (old now next : Hands) (turn : RefillTurn) → r ≡ p → IsRefilling id n p old now → IsThereFor old.hold p → HasMore id n now next → next.order.items ≡ now.order.items ++ b ∷ [] → turn ≡ Need b
     → ((s : List ℕ) → Shows now.hold s → refill.RefillGives now.hold s r turn) → IsRefilling id n p old next

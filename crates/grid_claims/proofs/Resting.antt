@@ -52,6 +52,13 @@ no_steps : in_hand [] ≡ []
 unfolding in_hand
 no_steps = refl
 
+-- what is left of the entries that there may be
+pub left_over : (most count h allowance : ℕ) → most ≡ h + allowance → count ≡ h → most - count ≡ allowance
+left_over most count h allowance e is = omega arith
+
+pub few_more : (h allowance : ℕ) → h + allowance ≤ 2 ^ 32 → allowance ≤ 2 ^ 32
+few_more h allowance l = omega arith
+
 -- the first pass
 pub rests_first : (k : Key) (w : Hands) (allowance : ℕ) → w.place.me ≡ (opening_view k, []) → w.first ≡ 0 → w.hold.grid ≡ k.grid → w.hold.places ≡ replicate (buckets_of k) None → w.order.items ≡ [] → buckets_of k ≤ vec_capacity w.order
     → 0 < k.parts → k.parts ≤ 64 → k.most - length (opening_of k) ≡ allowance → allowance ≤ 2 ^ 32 → HasRest w

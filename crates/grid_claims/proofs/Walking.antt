@@ -9,16 +9,16 @@ use Rattle.cell_store.specs.Grids.{is_grid_size}
 use Rattle.cell_store.specs.Buckets.{InHand, bucket_at}
 use Rattle.cell_store.specs.Shares.{Shows, points_on}
 use Rattle.cell_store.specs.Stars.{bucket_of_first}
-use Rattle.cell_walk.specs.Paths.{Walking, IsWalkIn, ShowsWalk}
+use Rattle.cell_walk.specs.Paths.{Walking, IsWalkIn, ShowsWalk, WalksFor}
 use Rattle.cell_walk.specs.Turns.{TurnGives}
 use Rattle.cell_walk.specs.declared.walk.WalkTurn.{WalkTurn}
 use Rattle.cell_walk.specs.declared.walk.WalkTurn.TheVariants.{Here, Moved, Need}
 use Rattle.cell_walk.proofs.Cited.{walk_stays}
 use Rattle.grid_claims.specs.declared.hands.Hands.{Hands}
-use Rattle.grid_claims.specs.Claiming.{HasStopped}
+use Rattle.grid_claims.specs.Claiming.{AreHands, HasStopped, ShowsOne}
 use Rattle.grid_claims.specs.declared.table.Refused.{Refused}
 use Rattle.grid_claims.specs.Looking.{HasMore, IsNewFor, IsWalking}
-use Rattle.grid_claims.proofs.MoreHands.{more_then, shown, stopped_then}
+use Rattle.grid_claims.proofs.MoreHands.{more_none, more_then, shown, stopped_then}
 use Rattle.grid_claims.proofs.Digging.{new_still, asked_held}
 
 -- what a step gives, of every set that the hold shows and in which this is a walk
@@ -29,6 +29,11 @@ module _ (id : TableId) (n p : ℕ) (old now : Hands) where
   -- in every set that the hold shows it is a walk
   walks_in : (w : Walking) → IsNewFor old.hold p → IsWalking id n p old now w → (s : List ℕ) → Shows now.hold s → IsWalkIn now.hold s w
   walks_in w new i s st = i.walks s st (new_still id n p old now i.more new s st)
+
+  pub walk_begins :
+      (w : Walking) → AreHands id n old → ShowsOne old.hold → w.point ≡ p → WalksFor old.hold p w →
+      IsWalking id n p old old w
+  walk_begins w a one point walks = record { more = more_none id n old a one; point = point; walks = walks }
 
   pub walk_shows : (w : Walking) → IsNewFor old.hold p → IsWalking id n p old now w → ShowsWalk now.hold w
   walk_shows w new i = (i.more.one.0, i.more.one.1, walks_in w new i i.more.one.0 i.more.one.1)

@@ -98,13 +98,7 @@ fn refill_in(board: &Board, hands: &mut Hands, alloc: Global, p: Point) -> Resul
                     fresh,
                 });
             }
-            Ok(RefillTurn::Flat) => {
-                return Ok(Plan {
-                    reply: Reply::Flat,
-                    gone: Vec::new(alloc),
-                    fresh: Vec::new(alloc),
-                });
-            }
+            Ok(RefillTurn::Flat) => return Ok(no_change(alloc, Reply::Flat)),
             Ok(RefillTurn::Need(b)) => match ask(board, hands, b) {
                 Ok(()) => {}
                 Err(why) => return Err(why),

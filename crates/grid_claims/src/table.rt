@@ -10,17 +10,16 @@ use crate::finish::{finish, let_go};
 use crate::gate::{Gate, Moment};
 use crate::hands::Hands;
 use crate::homing::gather;
-use crate::laying::{first_words, laid_out};
+use crate::laying::{board_for, empty_hands};
 use crate::pass::Pass;
 use crate::plays::Together;
 use crate::snapshot::{Snapshot, copy_all, look_and_let_go};
 use crate::steps::{look_at, part};
-use crate::view::{Board, Key};
+use crate::view::Board;
 use cell_store::{Hold, Mesh};
 use edit_history::{Edit, Reply};
 use std::alloc::{AllocError, Global};
 use std::marker::Model;
-use std::snapshot::Snapshot as Told;
 use thiserror::Error;
 
 /// What an edit answers: the number of its entry in the history, from 0, and its reply.
@@ -98,39 +97,23 @@ impl MeshTable {
         ensures pass { IfOk result (λ r. r.1 ≡ opening_pass r.0 allowance) }
     {
         let grid = mesh.grid();
-        let count = grid.count();
-        let ticket = mesh.count();
-        let words = first_words(alloc, ticket, count)?;
+        let seen = mesh.count();
         let hold = Hold::empty(alloc, grid)?;
-        let hands = Hold::empty(alloc, grid)?;
-        let order = Vec::with_capacity(alloc, count as usize)?;
-        let key = Key {
-            grid,
+        let (held, order) = empty_hands(alloc, grid)?;
+        let (board, place) = board_for(alloc, mesh, parts, allowance)?;
+        let table = MeshTable { board, hold };
+        let pass = Pass {
+            hands: Hands {
+                place,
+                hold: held,
+                order,
+                first: 0,
+            },
             parts,
-            most: ticket + allowance,
-            mesh: Told::of(&mesh),
+            left: allowance,
+            seen,
         };
-        let home = mesh.into_hold();
-        let _ = home.grid();
-        let slots = laid_out(alloc, home)?;
-        match Board::new(alloc, &words, slots, &key) {
-            Ok((board, place)) => {
-                let table = MeshTable { board, hold };
-                let pass = Pass {
-                    hands: Hands {
-                        place,
-                        hold: hands,
-                        order,
-                        first: 0,
-                    },
-                    parts,
-                    left: allowance,
-                    seen: ticket,
-                };
-                Ok((table, pass))
-            }
-            Err(_) => Err(AllocError),
-        }
+        Ok((table, pass))
     }
 
     /// Gives the last parts of a pass, so many, and so much of its allowance to a new pass. The pass is to be one of
@@ -151,9 +134,7 @@ impl MeshTable {
         ensures split { IfOk result (λ other. IsSplit parts allowance pass.old pass.new other) }
         ensures refused { OnErr result (pass.new ≡ pass.old) }
     {
-        let grid = pass.hands.hold.grid();
-        let hold = Hold::empty(alloc, grid)?;
-        let order = Vec::with_capacity(alloc, grid.count() as usize)?;
+        let (hold, order) = empty_hands(alloc, pass.hands.hold.grid())?;
         let (found, place) = part(&self.board, &mut pass.hands.place, parts, allowance);
         pass.parts -= parts;
         pass.left -= allowance;

@@ -1,16 +1,32 @@
-use Rattle.std.proofs.Common.{◌<◌, ℕ, None, slice_index_or, refl, sym, ◌∙◌, ap, subst, arith}
+use Rattle.std.proofs.Common.{◌<◌, ℕ, None, Some, slice_index_or, refl, sym, ◌∙◌, ap, subst, arith}
 use Rattle.point_order.specs.Coordinates.{IsKey}
 use Rattle.edit_history.specs.Histories.{replay}
 use Rattle.cell_store.specs.Grids.{bucket_of}
+use Rattle.cell_store.specs.Buckets.{InHand, Room}
 use Rattle.cell_store.proofs.Cited.{all_are_held, point_held, stands_shows}
 use Rattle.claim_rule.specs.declared.event.Event.TheVariants.{Commit}
 use Rattle.claim_rule.specs.declared.event.Played.TheVariants.{Done}
 use Rattle.claim_rule.specs.Boards.{BoardState}
-use Rattle.claim_rule.specs.Good.{IsGood}
+use Rattle.claim_rule.specs.Good.{IsGood, Good}
 use Rattle.claim_rule.specs.Events.{CanCommit}
 use Rattle.claim_rule.proofs.Moves.{good_by, seen_as}
 use Rattle.claim_rule.proofs.Whole.{hold_stands}
-use Rattle.claim_rule.proofs.Committing.{touched_held, held_touched, commit_facts, committed_next, swapped_same, named_same, are_named_same, hold_whole}
+use Rattle.claim_rule.proofs.Committing.{
+  none_commits,
+  spent_commits,
+  short_answer,
+  same_board,
+  next_fits,
+  few_so_far,
+  touched_held,
+  held_touched,
+  commit_facts,
+  committed_next,
+  swapped_same,
+  named_same,
+  are_named_same,
+  hold_whole,
+}
 use Rattle.claim_rule.proofs.board.Board.commit.Goals as goal
 use Rattle.claim_rule.proofs.board.Board.commit.Goals.{then-not-names-via-then-not-names, then-not-names-via-else-not-names+then-not-names_cells}
 
@@ -113,3 +129,52 @@ returns-clause-next c h good =
     (λ j. (ok j).grid) (λ j. (ok j).places) c.swap_cells.ensures.swapped in
     seen_as h _ c.args.self.now (Commit c.args.n c.args.tag c.args.edit) Done _ c.self.view_is
     (committed_next i.hold c.swap_cells.new.self c.push_entry.new.self i.parts i.most i.begun.value.history i.ticket i.words.items i.seats.items h c.args.n c.args.tag c.args.edit t k good' w.0 live key some trial touched swap c.push_entry.ensures.noted)
+
+pub returns-in_default-clause-next : goal.returns-in_default-clause-next
+returns-in_default-clause-next c h good =
+    let i = c.self.inside in
+    let is = c.seat_at.ensures ∙ ap (λ l. slice_index_or l c.args.n None) c.deref.ensures.value in
+    short_answer h _ c.args.self.now c.args.n c.args.tag c.args.edit c.self.view_is
+    (none_commits i.hold.grid i.parts i.most i.begun.value.history i.ticket i.words.items i.hold.places
+    i.seats.items h c.args.n c.args.edit
+    (λ x e. c.in_default.not-Some x (is ∙ e)))
+
+pub returns-then-seat-eq0-clause-next : goal.returns-then-seat-eq0-clause-next
+returns-then-seat-eq0-clause-next c h good =
+    let i = c.self.inside in
+    let live = (ap (λ l. slice_index_or l c.args.n None) (sym c.deref.ensures.value) ∙ sym c.seat_at.ensures ∙
+    c.in-Some.is) in
+    let good' = subst (λ (s : BoardState). IsGood s h) (sym c.self.view_is) good in
+    short_answer h _ c.args.self.now c.args.n c.args.tag c.args.edit c.self.view_is
+    (spent_commits i.hold.grid i.parts i.most i.begun.value.history i.ticket i.words.items i.hold.places
+    i.seats.items h c.args.n c.in-Some.seat c.args.edit
+    good' live c.if-seat-eq0.true)
+
+pub invariant_of-self : goal.invariant_of-self
+invariant_of-self c =
+    let i = c.self.inside in
+    subst Good (same_board i.hold c.reserve.new.self i.parts i.most i.begun.value.history i.ticket i.words.items
+    i.seats.items c.in_err-reserve.ensures.err) c.self.invariant
+
+pub returns-in_err-reserve-clause-good : goal.returns-in_err-reserve-clause-good
+returns-in_err-reserve-clause-good c =
+    let i = c.self.inside in
+    subst Good (same_board i.hold c.reserve.new.self i.parts i.most i.begun.value.history i.ticket i.words.items
+    i.seats.items c.in_err-reserve.ensures.err) c.self.invariant
+
+pub swap_cells-requires : goal.swap_cells-requires
+swap_cells-requires c =
+    let gone = c.deref-3.ensures.value ∙ sym c.deref-5.ensures.value in
+    let fresh = c.deref-4.ensures.value ∙ sym c.deref-6.ensures.value in
+    ap (λ (x : InHand). x.room.swap) c.in_ok-reserve.ensures.ok ∙ (λ j. Some (gone j, fresh j))
+
+pub push_entry-requires : goal.push_entry-requires
+push_entry-requires c =
+    ap (λ (r : Room). r.push) c.swap_cells.ensures.room ∙ ap (λ (x : InHand). x.room.push) c.in_ok-reserve.ensures.ok
+    ∙ (λ j. Some (c.point-point.ensures j))
+
+pub overflow_add-self : goal.overflow_add-self
+overflow_add-self c =
+    let i = c.self.inside in
+    next_fits i.ticket (few_so_far i.hold.grid i.parts i.most i.begun.value.history i.ticket i.words.items
+    i.hold.places i.seats.items c.self.invariant.0 c.self.invariant.1)

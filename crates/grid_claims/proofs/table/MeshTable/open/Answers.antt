@@ -1,54 +1,84 @@
-use Rattle.std.proofs.Common.{◌≡◌, ◌≤◌, ◌^◌, ◌-◌, ◌+◌, ◌*◌, ◌∷◌, ℕ, true, List, [], length, replicate, refl, sym, ◌∙◌, ap, subst, arith}
+use Rattle.std.proofs.Common.{
+  ◌≡◌,
+  ◌<◌,
+  ◌≤◌,
+  ◌-◌,
+  ◌*◌,
+  ℕ,
+  None,
+  [],
+  List,
+  length,
+  replicate,
+  refl,
+  sym,
+  ◌∙◌,
+  ap,
+  subst,
+  vec_capacity,
+}
 use Rattle.edit_history.specs.declared.history.Entry.{Entry}
-use Rattle.cell_store.specs.Grids.{is_grid_size}
-use Rattle.cell_store.specs.Buckets.{InHand}
-use Rattle.cell_store.specs.Meshes.{MeshView}
-use Rattle.atomic_table.specs.Table.{opening}
-use Rattle.claim_rule.specs.Opening.{shares_from}
-use Rattle.claim_rule.proofs.Cited.{as_counted, mesh_shares}
+use Rattle.cell_store.specs.Buckets.{InHand, empty_hold}
+use Rattle.claim_rule.proofs.Cited.{as_counted}
 use Rattle.grid_claims.specs.declared.hands.Hands.{Hands}
 use Rattle.grid_claims.specs.declared.view.Key.{Key}
-use Rattle.grid_claims.specs.Faces.{buckets_of, opening_of}
-use Rattle.grid_claims.specs.Rule.{IsRule, opening_view}
+use Rattle.grid_claims.specs.Faces.{opening_of}
+use Rattle.grid_claims.specs.Passes.{standing}
+use Rattle.grid_claims.specs.Rule.{opening_view}
 use Rattle.grid_claims.specs.Plays.{Seated}
-use Rattle.grid_claims.proofs.Opening.{starts}
-use Rattle.grid_claims.proofs.Resting.{rests_first}
+use Rattle.grid_claims.proofs.Resting.{left_over, few_more, rests_first}
 use Rattle.grid_claims.proofs.table.MeshTable.open.Goals as goal
 
-pub new-requires : goal.new-requires
-new-requires c =
-    let mesh = c.args.mesh in
-    let h : List Entry = mesh.history in
-    let k : Key = record { grid = c.grid-grid.result; parts = c.args.parts; most = c.count-ticket.result + c.args.allowance; mesh = c.of.result } in
-    let t : c.count-ticket.result ≡ length h = as_counted c.count-ticket.result (length h) c.args.allowance c.count-ticket.ensures.count c.requires.room in
-    let g : k.grid ≡ mesh.grid = c.grid-grid.ensures.grid in
-    let is : opening_of k ≡ h = ap (λ (m : MeshView). m.history) c.of.ensures in
-    let size = subst (λ (n : ℕ). is_grid_size n ≡ true) (sym g) c.grid-grid.ensures.size in
-    let st = c.into_hold-home.ensures.stands in
-    let slots = c.in_ok-slots.ensures ∙ mesh_shares mesh c.into_hold-home.result c.into_hold-home.ensures c.grid.ensures.placed ∙ ap (λ (n : ℕ). shares_from n h 0 (n * n * n)) (sym g) in
-    let words : length h ∷ replicate (buckets_of k) 0 ≡ c.deref.result.now =
-    (λ i. sym t i ∷ replicate (sym c.count-count.ensures.value i) 0) ∙ sym c.in_ok-words.ensures ∙ sym c.deref.ensures.value in (
-      h,
-      subst (λ (l : List ℕ). IsRule k (opening l c.in_ok-slots.slots.items (opening_view k)) h) words
-          (starts k h c.args.allowance c.in_ok-slots.slots.items is (ap (λ (n : ℕ). n + c.args.allowance) t) size c.requires.parts.0 c.requires.parts.1 c.requires.room st.legal st.keys st.solid slots),
-    )
+pub invariant_of-table : goal.invariant_of-table
+invariant_of-table c =
+    let e = c.in_ok-board.ensures in
+    (e.words, e.slots, c.in_ok-hold.ensures ∙ ap empty_hold (c.grid-grid.ensures.grid ∙ sym e.grid))
 
 pub invariant_of-pass : goal.invariant_of-pass
 invariant_of-pass c =
-    let mesh = c.args.mesh in
-    let h : List Entry = mesh.history in
-    let k : Key = record { grid = c.grid-grid.result; parts = c.args.parts; most = c.count-ticket.result + c.args.allowance; mesh = c.of.result } in
-    let t : c.count-ticket.result ≡ length h = as_counted c.count-ticket.result (length h) c.args.allowance c.count-ticket.ensures.count c.requires.room in
-    let is : length (opening_of k) ≡ length h = ap (λ (m : MeshView). length m.history) c.of.ensures in
-    let left : k.most - length (opening_of k) ≡ c.args.allowance = omega (arith, t, is) in
-    let few : c.args.allowance ≤ 2 ^ 32 = omega (arith, c.requires.room) in
-    let me : ◌≡◌ {A = Seated} c.in-Ok.place.me (opening_view k, []) = c.in-Ok.ensures.ok.4 in
-    let w : Hands = record { place = c.in-Ok.place; hold = c.in_ok-hands.hands; order = c.in_ok-order.order; first = 0 } in
-    let hold = c.in_ok-hands.ensures in
-    let count : c.count-count.result ≡ buckets_of k = c.count-count.ensures.value in
-    let capacity = c.in_ok-order.ensures.capacity in (
-      rests_first k w c.args.allowance me refl (ap (λ (x : InHand). x.grid) hold) (ap (λ (x : InHand). x.places) hold) c.in_ok-order.ensures.items (omega (arith, count, capacity)) c.requires.parts.0 c.requires.parts.1 left few,
-      sym (ap (λ (m : Seated). m.0.parts) me),
+    let h : List Entry = c.args.mesh.history in
+    let k : Key = c.in_ok-board.board.shared.key in
+    let e = c.in_ok-board.ensures in
+    let order = c.in_ok-held.ensures.order in
+    let hold = c.in_ok-held.ensures.hold in
+    let g : c.grid-grid.result ≡ k.grid = c.grid-grid.ensures.grid ∙ sym e.grid in
+    let t : c.count-seen.result ≡ length h = as_counted c.count-seen.result (length h) c.args.allowance
+    c.count-seen.ensures.count c.requires.room in
+    let is : length (opening_of k) ≡ length h = ap length e.opening in
+    let left : k.most - length (opening_of k) ≡ c.args.allowance = left_over k.most (length (opening_of k))
+    (length h) c.args.allowance e.most is in
+    let some : (0 < k.parts) × (k.parts ≤ 64) = subst (λ (x : ℕ). (0 < x) × (x ≤ 64)) (sym e.parts) c.requires.parts in
+    let me : ◌≡◌ {A = Seated} c.in_ok-board.place.me (opening_view k, []) = e.seat in
+    let w : Hands = record {
+      place = c.in_ok-board.place;
+      hold = c.in_ok-held.held;
+      order = c.in_ok-held.order;
+      first = 0;
+    } in (
+      rests_first k w c.args.allowance me refl (ap (λ (x : InHand). x.grid) hold ∙ g)
+          (ap (λ (x : InHand). x.places) hold ∙ ap (λ (x : ℕ). replicate (x * x * x) None) g)
+          order.0 (subst (λ (x : ℕ). x * x * x ≤ vec_capacity c.in_ok-held.order) g order.1) some.0 some.1 left
+          (few_more (length h) c.args.allowance c.requires.room),
+      sym (ap (λ (m : Seated). m.0.parts) me ∙ e.parts),
       sym (ap (λ (m : Seated). m.0.left) me ∙ left),
       sym (ap (λ (m : Seated). m.0.seen) me ∙ is ∙ sym t),
     )
+
+pub returns-clause-grid : goal.returns-clause-grid
+returns-clause-grid c = c.in_ok-board.ensures.grid
+
+pub returns-clause-parts : goal.returns-clause-parts
+returns-clause-parts c = c.in_ok-board.ensures.parts
+
+pub returns-clause-opening : goal.returns-clause-opening
+returns-clause-opening c = c.in_ok-board.ensures.opening
+
+pub returns-clause-pass : goal.returns-clause-pass
+returns-clause-pass c =
+    let h : List Entry = c.args.mesh.history in
+    let k : Key = c.in_ok-board.board.shared.key in
+    let e = c.in_ok-board.ensures in
+    let left : k.most - length (opening_of k) ≡ c.args.allowance = left_over k.most (length (opening_of k))
+    (length h) c.args.allowance e.most (ap length e.opening) in
+    (λ i. standing (e.table i) (e.seat i).0) ∙ (λ i. record (standing c.in_ok-board.board.shared.table_id
+    (opening_view k)) { left = left i })
