@@ -9,10 +9,12 @@ use Rattle.edit_files.specs.Content.{Content}
 use Rattle.edit_files.specs.Generator.{edit_line, generated}
 use Rattle.edit_files.proofs.Cited.{generated_solid}
 use Rattle.edit_history.specs.declared.history.Entry.{Entry}
+use Rattle.mesh_files.specs.Summary.{summary_text}
+use Rattle.mesh_files.specs.Text.{ReportParts}
 use Rattle.delaunay_cli.specs.declared.made.Made.{Made}
 use Rattle.delaunay_cli.specs.declared.stop.Stop.{Stop}
 use Rattle.delaunay_cli.specs.declared.stop.Stop.TheVariants.{Memory}
-use Rattle.delaunay_cli.specs.Reported.{IsUnmeshed}
+use Rattle.delaunay_cli.specs.Reported.{IsMeshed, IsUnmeshed}
 use Rattle.delaunay_cli.specs.declared.task.Drawn.{Drawn}
 use Rattle.delaunay_cli.specs.declared.task.Making.{Making}
 use Rattle.delaunay_cli.specs.Drawn.{IsDrawn, IsKeptOfDrawn, drawn_file}
@@ -58,3 +60,9 @@ drawn_asked making drawn words h text k x =
 -- what is kept of a drawn file whose text is not asked for
 pub kept_meshed : (text : Bool) (file : Content) (workers : ℕ) (h : List Entry) → text ≡ false → IsKeptOfDrawn text file workers h → IsKept file workers h
 kept_meshed text file workers h t k = subst (λ (b : Bool). IsKeptOfDrawn b file workers h) t k
+
+-- the mesh of a drawn file, where its text is not asked for
+pub drawn_meshed : (text : Bool) (workers : ℕ) (f file : Content) (h : List Entry) (r : ReportParts) → text ≡ false → f ≡ file → IsMeshed workers true false f h r →
+    IsDrawn text workers file h (summary_text r)
+drawn_meshed text workers f file h r t e m =
+    subst (λ (b : Bool). IsDrawn b workers file h (summary_text r)) (sym t) (subst (λ (c : Content). IsDrawn false workers c h (summary_text r)) e (m.kept, ap summary_text m.report_is))

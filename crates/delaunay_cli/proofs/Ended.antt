@@ -2,7 +2,7 @@
 use Rattle.std.specs.declared.alloc.Global.{Global}
 use Rattle.std.specs.Prelude.{Option, None, Some, IfSome, IfOk, IfErr, IsOk, Result, Ok, Err, String}
 use Rattle.std.specs.Io.KnownBytes.{Appends, Keeps, IsAtEnd}
-use Rattle.std.proofs.Common.{◌≡◌, ◌≢◌, ◌⊎◌, ◌↔◌, inl, inr, refl, sym, subst, ap, ◌∙◌, ℕ, ◌≤◌, Bool, List, [], false, arith, ◌<◌, length}
+use Rattle.std.proofs.Common.{◌≡◌, ◌≢◌, ◌⊎◌, ◌↔◌, inl, inr, refl, sym, subst, ap, ◌∙◌, ℕ, ◌≤◌, Bool, List, [], false, true, arith, ◌<◌, length}
 use Rattle.std.proofs.lemmas.Bool.{both_ways, cases_eq}
 use Rattle.list_laws.proofs.Cited.{if_some}
 use Rattle.byte_ends.specs.Ends.{AppendsFront}
@@ -25,11 +25,11 @@ use Rattle.delaunay_cli.specs.declared.task.Task.TheVariants.{Report, Draw}
 use Rattle.delaunay_cli.specs.Ends.{Ends, IsMade, IsPut, IsUnmade, IsVerdict}
 use Rattle.delaunay_cli.specs.Page.{IsSound, text_of_page}
 use Rattle.delaunay_cli.specs.Reported.{IsReported, IsUnreported}
-use Rattle.delaunay_cli.specs.Run.{Reads, IsKept, IsSolidFile, input_limit}
+use Rattle.delaunay_cli.specs.Run.{Reads, IsKept, IsSolidFile, Writes, WritesFront, input_limit}
 use Rattle.delaunay_cli.specs.Statuses.{IsEarly, IsToldLine, plain_line}
 use Rattle.delaunay_cli.specs.Stops.{line_of, line_of_end, status_of, status_of_end, status_of_made}
-use Rattle.delaunay_cli.specs.Words.{AreTaken, DrawsFile, ReadsFile, asks_order, asks_shape, worker_count, asks_drawn}
-use Rattle.delaunay_cli.specs.Drawn.{IsDrawn}
+use Rattle.delaunay_cli.specs.Words.{AreTaken, DrawsFile, ReadsFile, asks_order, asks_shape, asks_text, worker_count, asks_drawn}
+use Rattle.delaunay_cli.specs.Drawn.{IsDrawn, IsKeptOfDrawn, drawn_file}
 use Rattle.delaunay_cli.specs.Tasks.{IsTask}
 use Rattle.delaunay_cli.specs.PlainText.{plain_drawn, plain_text}
 use Rattle.delaunay_cli.specs.Report.{text_of}
@@ -194,6 +194,17 @@ module _ (words : List (String Global)) (left_old left_new : Option (List ℕ)) 
       by (inr (inl w)) = at (Some WriteFault) w.0 refl (λ k. omega (arith, k))
       by (inr (inr w)) = at (Some Memory) w.0 refl (λ k. omega (arith, k))
 
+  -- a status of 2 is one of what was made
+  pub unread : (m : Result Made Stop) (stop : Option Stop) (status : ℕ) (h : List Entry) → status ≡ status_of_end stop
+      → IfOk m (λ made. IsPut write_failed held holds (text_of_page made.page) made.kept.items stop h) → IfErr m (λ s. (stop ≡ Some s) × (h ≡ []) × Keeps held holds) → status ≡ 2 → status_of_made m ≡ 2
+  unread (Err s) stop status h e put stopped_by k = sym (ap status_of_end stopped_by.0) ∙ sym e ∙ k
+  unread (Ok v) stop status h e put stopped_by k = absurd (by put)
+    where
+      by : IsPut write_failed held holds (text_of_page v.page) v.kept.items stop h → ⊥
+      by (inl w) = let z = e ∙ ap status_of_end w.0 in omega (arith, z, k)
+      by (inr (inl w)) = let z = e ∙ ap status_of_end w.0 in omega (arith, z, k)
+      by (inr (inr w)) = let z = e ∙ ap status_of_end w.0 in omega (arith, z, k)
+
 -- ---- what a command makes is what the words ask for
 
 module _ (words : List (String Global)) (left : Option (List ℕ)) (failed : Type 0) (making : Making) (taken : AreTaken words) where
@@ -273,3 +284,35 @@ module _ {words : List (String Global)} {left_old left_new : Option (List ℕ)} 
                 let le = e.statuses in
                 inl (omega (arith, le, ne1, ne2, ne3, ne4, ne5, ne6, ne7))
           ]
+
+  -- what is written of the file that the bytes are
+  pub written : ReadsFile words → status ≡ 0 → IfSome left_old (λ bytes. Writes (asks_shape words) (asks_order words) bytes held holds h)
+  written r s =
+      if_some (IsReported (worker_count words) (asks_shape words) (asks_order words) h e.text) (λ bytes. Writes (asks_shape words) (asks_order words) bytes held holds h)
+      left_old (λ bytes m. (m.file, m.is_file, subst (Appends held holds) m.text_is (e.written s))) ((e.made (inl s)).read r)
+
+  pub written_front : ReadsFile words → status ≡ 4 → IfSome left_old (λ bytes. WritesFront (asks_shape words) (asks_order words) bytes held holds h)
+  written_front r s =
+      if_some (IsReported (worker_count words) (asks_shape words) (asks_order words) h e.text) (λ bytes. WritesFront (asks_shape words) (asks_order words) bytes held holds h)
+      left_old (λ bytes m. (m.file, m.is_file, subst (AppendsFront held holds) m.text_is (e.front s))) ((e.made (inr s)).read r)
+
+  -- where the text of a drawn file is asked for, no history is kept
+  pub drawn_none : DrawsFile words → asks_text words ≡ true → h ≡ []
+  drawn_none d t =
+      let none : (status ≡ 0) ⊎ (status ≡ 4) → h ≡ [] =
+      λ s. subst (λ (b : Bool). IsKeptOfDrawn b (drawn_file words) (worker_count words) h) t ((e.made s).drawn d).0 in
+      elim (cases_eq status 0) [
+        | inl k ↦ none (inl k)
+        | inr n ↦ elim (cases_eq status 4) [ inl k ↦ none (inr k) | inr m ↦ e.none_kept n m ]
+      ]
+
+  -- a drawn file ends a run with status 0 or 1
+  pub drawn_completes : AreTaken words → DrawsFile words → (write_failed → ⊥) → (status ≡ 0) ⊎ (status ≡ 1)
+  drawn_completes w d nw =
+      elim (cases_eq status 1) [
+        | inl k ↦ inr k
+        | inr ne1 ↦
+            let ne2 : status ≢ 2 = λ k. (e.usage ne1).0 k w in
+            let ne4 : status ≢ 4 = λ k. nw (e.write_fault k) in
+            elim (e.drawn_statuses d) [ inl l ↦ inl (omega (arith, l, ne1, ne2)) | inr k ↦ absurd (ne4 k) ]
+      ]

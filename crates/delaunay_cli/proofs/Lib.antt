@@ -8,3 +8,5 @@ pub mod DrawnFiles
 pub mod PlainTexts
 pub mod NumberWords
 pub mod DealtLines
+pub mod Unwritten
+pub mod Commands

@@ -27,7 +27,10 @@ use Rattle.edit_history.specs.Histories.{IsLegal}
 use Rattle.face_list.specs.Seen.{FaceLists}
 use Rattle.alpha_complex.specs.Condition.{AreFacesOf}
 use Rattle.alpha_complex.specs.Shapes.{shape_of}
+use Rattle.mesh_files.specs.Summary.{summary_text}
 use Rattle.mesh_files.specs.Text.{ReportParts, report_text}
+use Rattle.delaunay_cli.specs.declared.made.Form.{Form}
+use Rattle.delaunay_cli.specs.declared.made.Form.TheVariants.{Whole, Summary}
 use Rattle.delaunay_cli.specs.declared.made.Made.{Made}
 use Rattle.delaunay_cli.specs.declared.made.Page.{Page}
 use Rattle.delaunay_cli.specs.declared.made.Page.TheVariants.{Text, Report}
@@ -48,10 +51,15 @@ report_of_parts r =
       order = option_map (λ (tags : Vec ℕ Global). tags.items) r.order;
     }
 
+-- the bytes of a report in a form
+abbrev pub text_of_form : Form → ReportParts → List ℕ
+text_of_form Whole report = report_text report
+text_of_form Summary report = summary_text report
+
 -- the bytes of a page
 abbrev pub text_of_page : Page → List ℕ
 text_of_page (Text text) = text.items
-text_of_page (Report parts) = report_text (report_of_parts parts)
+text_of_page (Report form parts) = text_of_form form (report_of_parts parts)
 
 -- The parts are those of a solid set, its complex, and radii of shapes.
 pub record IsReady (parts : Parts) : Type 0 where
@@ -64,7 +72,7 @@ pub record IsReady (parts : Parts) : Type 0 where
 -- the parts of a report are ready
 abbrev pub IsWritable : Page → Type 0
 IsWritable (Text text) = ⊤
-IsWritable (Report parts) = IsReady parts
+IsWritable (Report form parts) = IsReady parts
 
 -- The history is legal, and the page can be written.
 pub record IsSound (made : Made) : Type 0 where

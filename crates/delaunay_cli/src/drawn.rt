@@ -1,4 +1,4 @@
-//! The command `gen`: from two numbers to the text of a drawn file, or to the summary of its mesh.
+//! The command `gen`: from two numbers to the text of a drawn file, or to the parts of the summary of its mesh.
 
 ghost use Rattle.std.specs.Prelude.{◌≡◌, IfOk, IfErr};
 ghost use Rattle.edit_files.specs.Generator.{generated};
@@ -6,9 +6,8 @@ ghost use Rattle.delaunay_cli.specs.declared.stop.Stop.TheVariants.{Memory};
 ghost use Rattle.delaunay_cli.specs.Drawn.{IsDrawn};
 ghost use Rattle.delaunay_cli.specs.Page.{IsSound, text_of_page};
 
-use crate::made::{Made, Page};
+use crate::made::{Form, Made, Page};
 use crate::mesh::history_and_parts;
-use crate::shapes::summary_of_parts;
 use crate::stop::Stop;
 use crate::task::{Asked, Drawn, Making};
 use edit_files::{file_text, generate};
@@ -16,7 +15,7 @@ use grid_claims::Gate;
 use std::alloc::Global;
 use std::thread::Threads;
 
-/// Draws a file, and makes its text, or the summary of its mesh with a shape for each radius.
+/// Draws a file, and makes its text, or the parts of the summary of its mesh with a shape for each radius.
 ///
 /// # Errors
 ///
@@ -45,6 +44,6 @@ pub fn draw<R: Threads + Sync, G: Gate + Sync>(
         order: false,
     };
     let (kept, parts) = history_and_parts(rt, alloc, &file, making, asked, gate)?;
-    let page = Page::Text(summary_of_parts(rt, alloc, parts)?);
+    let page = Page::Report(Form::Summary, parts);
     Ok(Made { kept, page })
 }

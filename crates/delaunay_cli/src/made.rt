@@ -15,7 +15,7 @@ use std::alloc::Global;
 use std::thread::Threads;
 
 /// What the report of a mesh is made of. Its shapes are made only when it is written, since they stand on these cells.
-#[derive(Debug, Drop)]
+#[derive(Drop)]
 pub struct Parts {
     /// The reply to each line.
     pub replies: Vec<Reply>,
@@ -29,17 +29,26 @@ pub struct Parts {
     pub order: Option<Vec<u32>>,
 }
 
+/// What of a report is to be written.
+#[derive(Clone, Copy)]
+pub enum Form {
+    /// All of it.
+    Whole,
+    /// Its summary.
+    Summary,
+}
+
 /// What is to be written.
-#[derive(Debug, Drop)]
+#[derive(Drop)]
 pub enum Page {
     /// These bytes.
     Text(Vec<u8>),
-    /// The report that these are the parts of.
-    Report(Parts),
+    /// The report that these are the parts of, in this form.
+    Report(Form, Parts),
 }
 
 /// What a command makes.
-#[derive(Debug, Drop)]
+#[derive(Drop)]
 pub struct Made {
     /// The history of the mesh, empty where none is made.
     pub kept: Vec<Entry>,
@@ -47,8 +56,11 @@ pub struct Made {
     pub page: Page,
 }
 
-// Writes bytes.
-fn put_text<O: Sink>(text: &[u8], out: &mut O) -> Result<(), Stop>
+/// Writes bytes.
+///
+/// # Errors
+/// `WriteFault` where the output failed: then it has taken a front of them.
+pub fn put_text<O: Sink>(text: &[u8], out: &mut O) -> Result<(), Stop>
     ensures whole { OnOk result (Appends (O.holds out.old) (O.holds out.new) text.now) }
     ensures stop { IfErr result (IsUnput (Rose (O.faults out.old) (O.faults out.new)) (O.holds out.old)
         (O.holds out.new) text.now) }
@@ -79,6 +91,6 @@ pub fn put_page<R: Threads + Sync, O: Sink>(
 {
     match page {
         Page::Text(text) => put_text(&text, out),
-        Page::Report(parts) => put_parts(rt, alloc, parts, out),
+        Page::Report(form, parts) => put_parts(rt, alloc, form, parts, out),
     }
 }

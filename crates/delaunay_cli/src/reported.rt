@@ -8,7 +8,7 @@ ghost use Rattle.delaunay_cli.specs.Reported.{IsReported, IsUnreported};
 ghost use Rattle.delaunay_cli.specs.Run.{Reads, input_limit};
 ghost use Rattle.delaunay_cli.specs.Stops.{status_of_made};
 
-use crate::made::{Made, Page};
+use crate::made::{Form, Made, Page};
 use crate::mesh::history_and_parts;
 use crate::stop::Stop;
 use crate::task::{Asked, Making};
@@ -40,7 +40,7 @@ fn judge<R: Threads + Sync, G: Gate + Sync>(
     match read_file(alloc, bytes) {
         Ok(file) => {
             let (kept, parts) = history_and_parts(rt, alloc, &file, making, asked, gate)?;
-            let page = Page::Report(parts);
+            let page = Page::Report(Form::Whole, parts);
             Ok(Made { kept, page })
         }
         Err(ReadRefused::Memory) => Err(Stop::Memory),

@@ -13,9 +13,9 @@ ghost use Rattle.mesh_files.specs.Report.{AreCounted, parts_of, shapes_seen};
 ghost use Rattle.mesh_files.specs.Summary.{summary_text as summary_text_of};
 ghost use Rattle.mesh_files.specs.Text.{report_text};
 ghost use Rattle.delaunay_cli.specs.Ends.{IsUnput};
-ghost use Rattle.delaunay_cli.specs.Page.{AreFacesFor, IsReady, report_of_parts};
+ghost use Rattle.delaunay_cli.specs.Page.{AreFacesFor, IsReady, report_of_parts, text_of_form};
 
-use crate::made::Parts;
+use crate::made::{Form, Parts, put_text};
 use crate::stop::Stop;
 use alpha_complex::{Shape, alphas};
 use byte_ends::{Failed, Sink};
@@ -88,7 +88,7 @@ fn shapes<'a, 'b, R: Threads + Sync>(
 }
 
 // Puts a report, and says of a fault that the output failed.
-fn put<O: Sink>(report: &Report, out: &mut O) -> Result<(), Stop>
+fn put_whole<O: Sink>(report: &Report, out: &mut O) -> Result<(), Stop>
     requires points { IsAscending report.now.points.items }
     requires shapes { AreCounted (shapes_seen report.now.shapes.items) }
     ensures whole { OnOk result (Appends (O.holds out.old) (O.holds out.new) (report_text (parts_of report.now))) }
@@ -103,22 +103,54 @@ fn put<O: Sink>(report: &Report, out: &mut O) -> Result<(), Stop>
     }
 }
 
-/// Makes the shapes of a report, and then writes it.
+// Puts the summary of a report, which is made before anything of it is written.
+fn put_summary<O: Sink>(alloc: Global, report: &Report, out: &mut O) -> Result<(), Stop>
+    ensures whole { OnOk result (Appends (O.holds out.old) (O.holds out.new)
+        (summary_text_of (parts_of report.now))) }
+    ensures stop { IfErr result (IsUnput (Rose (O.faults out.old) (O.faults out.new)) (O.holds out.old)
+        (O.holds out.new)
+        (summary_text_of (parts_of report.now))) }
+    ensures later { O.faults out.old ≤ O.faults out.new }
+{
+    let text = summary_text(alloc, report)?;
+    put_text(&text, out)
+}
+
+// Puts a report in a form.
+fn put<O: Sink>(alloc: Global, form: Form, report: &Report, out: &mut O) -> Result<(), Stop>
+    requires points { IsAscending report.now.points.items }
+    requires shapes { AreCounted (shapes_seen report.now.shapes.items) }
+    ensures whole { OnOk result (Appends (O.holds out.old) (O.holds out.new)
+        (text_of_form form (parts_of report.now))) }
+    ensures stop { IfErr result (IsUnput (Rose (O.faults out.old) (O.faults out.new)) (O.holds out.old)
+        (O.holds out.new)
+        (text_of_form form (parts_of report.now))) }
+    ensures later { O.faults out.old ≤ O.faults out.new }
+{
+    match form {
+        Form::Whole => put_whole(report, out),
+        Form::Summary => put_summary(alloc, report, out),
+    }
+}
+
+/// Makes the shapes of a report, and then writes it in a form.
 ///
 /// # Errors
-/// `Memory` where there is none for the shapes: then nothing is written. `WriteFault` where the output failed: then
-/// it has taken a front of the text.
+/// `Memory` where there is none for the shapes or the summary: then nothing is written. `WriteFault` where the output
+/// failed: then it has taken a front of the text.
 pub fn put_parts<R: Threads + Sync, O: Sink>(
     rt: &R,
     alloc: Global,
+    form: Form,
     parts: Parts,
     out: &mut O,
 ) -> Result<(), Stop>
     requires { IsReady parts }
-    ensures whole { OnOk result (Appends (O.holds out.old) (O.holds out.new) (report_text (report_of_parts parts))) }
+    ensures whole { OnOk result (Appends (O.holds out.old) (O.holds out.new)
+        (text_of_form form (report_of_parts parts))) }
     ensures stop { IfErr result (IsUnput (Rose (O.faults out.old) (O.faults out.new)) (O.holds out.old)
         (O.holds out.new)
-        (report_text (report_of_parts parts))) }
+        (text_of_form form (report_of_parts parts))) }
     ensures later { O.faults out.old ≤ O.faults out.new }
 {
     let Parts {
@@ -137,36 +169,5 @@ pub fn put_parts<R: Threads + Sync, O: Sink>(
         shapes,
         order,
     };
-    put(&report, out)
-}
-
-/// The summary of a report, with its shapes.
-///
-/// # Errors
-/// Want of memory.
-pub fn summary_of_parts<R: Threads + Sync>(
-    rt: &R,
-    alloc: Global,
-    parts: Parts,
-) -> Result<Vec<u8>, AllocError>
-    requires { IsReady parts }
-    ensures { IfOk result (λ text. text.items ≡ summary_text_of (report_of_parts parts)) }
-{
-    let Parts {
-        replies,
-        points,
-        cells,
-        radii,
-        order,
-    } = parts;
-    let faces = faces_for(rt, alloc, &points, &cells, &radii)?;
-    let shapes = shapes(rt, alloc, &points, &faces, &radii)?;
-    let report = Report {
-        replies,
-        points,
-        cells: &cells,
-        shapes,
-        order,
-    };
-    summary_text(alloc, &report)
+    put(alloc, form, &report, out)
 }

@@ -8,7 +8,7 @@ use byte_ends::ReadError;
 use std::alloc::AllocError;
 
 /// Why a run ends before its text is written whole.
-#[derive(Debug, Drop)]
+#[derive(Drop)]
 pub enum Stop {
     /// There was no memory for it.
     Memory,

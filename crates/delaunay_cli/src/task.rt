@@ -6,7 +6,7 @@ ghost use Rattle.edit_files.specs.Generator.{most_edits, state_count};
 use cell_store::Grid;
 
 /// How a mesh is made.
-#[derive(Clone, Copy, Debug)]
+#[derive(Clone, Copy)]
 pub struct Making {
     /// How many workers make it, 1 to 64.
     pub workers: u32,
@@ -17,7 +17,7 @@ pub struct Making {
 }
 
 /// What a report is to have.
-#[derive(Clone, Copy, Debug)]
+#[derive(Clone, Copy)]
 pub struct Asked {
     /// Whether the report is to have a shape for each radius.
     pub shape: bool,
@@ -26,7 +26,7 @@ pub struct Asked {
 }
 
 /// What file is to be drawn, and what is to be written of it.
-#[derive(Clone, Copy, Debug)]
+#[derive(Clone, Copy)]
 pub struct Drawn {
     /// How many edits it has, at most 262,140.
     pub count: u32,
@@ -39,7 +39,7 @@ pub struct Drawn {
 }
 
 /// What the words of a run ask for.
-#[derive(Clone, Copy, Debug)]
+#[derive(Clone, Copy)]
 pub enum Task {
     /// The report of a file that is read.
     Report(Making, Asked),

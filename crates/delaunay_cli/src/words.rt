@@ -1,7 +1,7 @@
 //! The words of the command line, read by `clap`.
 
 ghost use Rattle.std.specs.Prelude.{◌≡◌, ◌≤◌, IfOk, IfErr, IfSome, is_some, false, codes};
-ghost use Rattle.clap.specs.Words.{app_of, found_of, rows_of, rule_of, subcommand_rows_of};
+ghost use Rattle.clap.specs.Words.{app_of, found_of, rows_of, rule_of, subcommand_rows_of, with_subcommand};
 ghost use Rattle.clap.specs.declared.builder.command.Command.TheViews.{out-Command};
 ghost use Rattle.cell_store.specs.Grids.{is_grid_size};
 ghost use Rattle.delaunay_cli.specs.Words.{AreTaken, command_of, gen_command as gen_command_of, program as program_of};
@@ -110,18 +110,26 @@ fn gen_command<'a>(alloc: Global) -> Result<Command<'a>, AllocError>
         .arg(flag(alloc, "text"))
 }
 
+// A command line with one command more, of this name, that writes a report.
+fn with_command<'a>(
+    alloc: Global,
+    program: Command<'a>,
+    name: &'a str,
+) -> Result<Command<'a>, AllocError>
+    ensures { IfOk result (λ command. app_of command
+        ≡ with_subcommand (app_of program.entry) (command_of name.now).top) }
+{
+    program.subcommand(command(alloc, name)?)
+}
+
 // The program's command line.
 fn program<'a>(alloc: Global) -> Result<Command<'a>, AllocError>
     ensures { IfOk result (λ command. app_of command ≡ program_of) }
 {
-    let mesh = command(alloc, "mesh")?;
-    let shape = command(alloc, "shape")?;
-    let generator = gen_command(alloc)?;
-    Command::new(alloc, "delaunay")
-        .subcommand_required(true)
-        .subcommand(mesh)?
-        .subcommand(shape)?
-        .subcommand(generator)
+    let program = Command::new(alloc, "delaunay").subcommand_required(true);
+    let program = with_command(alloc, program, "mesh")?;
+    let program = with_command(alloc, program, "shape")?;
+    program.subcommand(gen_command(alloc)?)
 }
 
 // Whether a flag was given to the command.

@@ -1,7 +1,6 @@
-use Rattle.std.proofs.Common.{refl}
 use Rattle.edit_files.specs.Content.{content}
-use Rattle.delaunay_cli.specs.declared.stop.Stop.TheVariants.{Memory}
-use Rattle.delaunay_cli.proofs.DrawnFiles.{drawn_lines, unmeshed_drawn, wanting}
+use Rattle.edit_files.specs.Generator.{generated}
+use Rattle.delaunay_cli.proofs.DrawnFiles.{drawn_lines, drawn_meshed, unmeshed_drawn, wanting}
 use Rattle.delaunay_cli.proofs.drawn.draw.Goals as goal
 
 pub history_and_parts-requires-clause-lines : goal.history_and_parts-requires-clause-lines
@@ -14,5 +13,9 @@ returns-in_err-kept-clause-stop g c =
     wanting c.from_residual-in_err-kept.result stop c.from_residual-in_err-kept.ensures.1
     (unmeshed_drawn (content c.in_ok-file.file) c.args.drawn.count c.args.drawn.start c.in_ok-file.ensures stop c.in_err-kept.ensures.stop)
 
-pub returns-in_err-summary_of_parts-clause-stop : goal.returns-in_err-summary_of_parts-clause-stop
-returns-in_err-summary_of_parts-clause-stop g c = wanting c.from_residual-in_err-summary_of_parts.result Memory c.from_residual-in_err-summary_of_parts.ensures.1 refl
+pub returns-clause-made : goal.returns-clause-made
+returns-clause-made g c =
+    drawn_meshed c.args.drawn.text c.args.making.workers (content c.in_ok-file.file) (generated c.args.drawn.count c.args.drawn.start) c.in_ok-kept.kept.items _ c.if-drawn.false c.in_ok-file.ensures c.in_ok-kept.ensures.made
+
+pub returns-clause-sound : goal.returns-clause-sound
+returns-clause-sound g c = record { legal = c.in_ok-kept.ensures.made.legal; writable = c.in_ok-kept.ensures.ready }

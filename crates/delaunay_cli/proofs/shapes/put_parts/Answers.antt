@@ -1,17 +1,8 @@
-use Rattle.std.proofs.Common.{◌≡◌, inl, sym, subst, ℕ, List}
-use Rattle.std.specs.Prelude.{Option, Result, Ok, Err, IfErr, IsErrAnd}
-use Rattle.std.proofs.KnownBytes.{Keeps-refl}
+use Rattle.std.proofs.Common.{sym, subst}
 use Rattle.mesh_files.specs.Report.{AreCounted, shapes_seen}
-use Rattle.delaunay_cli.specs.declared.stop.Stop.{Stop}
-use Rattle.delaunay_cli.specs.declared.stop.Stop.TheVariants.{Memory}
-use Rattle.delaunay_cli.specs.Ends.{IsUnput}
+use Rattle.delaunay_cli.proofs.Unwritten.{unwritten}
 use Rattle.delaunay_cli.proofs.ShapesOfSet.{shapes_counted, shapes_lent}
 use Rattle.delaunay_cli.proofs.shapes.put_parts.Goals as goal
-
--- nothing was written where memory was wanting
-unwritten : {T : Type 0} (failed : Type 0) (held : Option (List ℕ)) (text : List ℕ) (m : Result T Stop) → IsErrAnd m (λ e. e ≡ Memory) → IfErr m (IsUnput failed held held text)
-unwritten failed held text (Ok v) a = tt
-unwritten failed held text (Err s) a = inl (a, Keeps-refl held)
 
 pub returns-in_err-shapes-clause-stop : goal.returns-in_err-shapes-clause-stop
 returns-in_err-shapes-clause-stop g c = unwritten _ _ _ c.from_residual-in_err-shapes.result c.from_residual-in_err-shapes.ensures.1

@@ -11,7 +11,7 @@ use Rattle.delaunay_cli.specs.PlainText.{plain_text}
 use Rattle.delaunay_cli.specs.Run.{HasFault, history_of, input_limit}
 use Rattle.delaunay_cli.specs.Words.{asks_shape, asks_text, worker_count}
 use Rattle.delaunay_cli.proofs.DrawnFiles.{kept_meshed}
-use Rattle.delaunay_cli.proofs.Ended.{anchored_text, completes, drawn_text, of_bytes, of_file}
+use Rattle.delaunay_cli.proofs.Ended.{anchored_text, completes, drawn_completes, drawn_none, drawn_text, of_bytes, of_file, written, written_front}
 use Rattle.delaunay_cli.specs.Stops.{line_of_end}
 use Rattle.delaunay_cli.proofs.CommandLine.{default_words, mesh_words, mesh_order_words, shape_words, shape_order_words}
 use Rattle.delaunay_cli.proofs.NumberWords.{gen_words, gen_text_words, mesh_workers_words, shape_workers_words}
@@ -106,3 +106,71 @@ pub returns-clause-drawn_plain_front : goal.returns-clause-drawn_plain_front
 returns-clause-drawn_plain_front g c =
     let e = c.work-ended.ensures.ends in
     λ d s. subst (AppendsFront (g.O.Sink.holds c.args.out.now) (g.O.Sink.holds c.work-ended.new.out)) (drawn_text e d (inr s)) (e.front s)
+
+pub returns-clause-drawn_one_thread : goal.returns-clause-drawn_one_thread
+returns-clause-drawn_one_thread g c =
+    let words = c.args.words.now in
+    λ d t one s. (kept_meshed (asks_text words) (drawn_file words) (worker_count words) c.work-ended.result.run.kept.items t ((c.work-ended.ensures.ends.made s).drawn d).0).alone one
+
+pub returns-clause-statuses : goal.returns-clause-statuses
+returns-clause-statuses g c = c.work-ended.ensures.ends.statuses
+
+pub returns-clause-usage : goal.returns-clause-usage
+returns-clause-usage g c = c.work-ended.ensures.ends.usage
+
+pub returns-clause-read_fault : goal.returns-clause-read_fault
+returns-clause-read_fault g c = c.work-ended.ensures.ends.read_fault
+
+pub returns-clause-write_fault : goal.returns-clause-write_fault
+returns-clause-write_fault g c = c.work-ended.ensures.ends.write_fault
+
+pub returns-clause-none_kept : goal.returns-clause-none_kept
+returns-clause-none_kept g c = c.work-ended.ensures.ends.none_kept
+
+pub returns-clause-legal : goal.returns-clause-legal
+returns-clause-legal g c = c.work-ended.ensures.ends.legal
+
+pub returns-clause-nothing : goal.returns-clause-nothing
+returns-clause-nothing g c = c.work-ended.ensures.ends.nothing
+
+pub returns-clause-reads : goal.returns-clause-reads
+returns-clause-reads g c = c.work-ended.ensures.ends.reads
+
+pub returns-clause-to_its_end : goal.returns-clause-to_its_end
+returns-clause-to_its_end g c = c.work-ended.ensures.ends.to_its_end
+
+pub returns-clause-drawn_statuses : goal.returns-clause-drawn_statuses
+returns-clause-drawn_statuses g c = c.work-ended.ensures.ends.drawn_statuses
+
+pub returns-clause-unread : goal.returns-clause-unread
+returns-clause-unread g c = c.work-ended.ensures.unread
+
+pub returns-clause-later_source : goal.returns-clause-later_source
+returns-clause-later_source g c = c.work-ended.ensures.later_source
+
+pub returns-clause-later_output : goal.returns-clause-later_output
+returns-clause-later_output g c = c.work-ended.ensures.later_output
+
+pub returns-clause-later_error : goal.returns-clause-later_error
+returns-clause-later_error g c = c.tell.ensures.later
+
+pub returns-clause-source : goal.returns-clause-source
+returns-clause-source g c = c.work-ended.ensures.source
+
+pub returns-clause-written : goal.returns-clause-written
+returns-clause-written g c = written c.work-ended.ensures.ends
+
+pub returns-clause-front : goal.returns-clause-front
+returns-clause-front g c = written_front c.work-ended.ensures.ends
+
+pub returns-clause-drawn_written : goal.returns-clause-drawn_written
+returns-clause-drawn_written g c = λ d s. subst (Appends (g.O.Sink.holds c.args.out.now) (g.O.Sink.holds c.work-ended.new.out)) ((c.work-ended.ensures.ends.made (inl s)).drawn d).1 (c.work-ended.ensures.ends.written s)
+
+pub returns-clause-drawn_front : goal.returns-clause-drawn_front
+returns-clause-drawn_front g c = λ d s. subst (AppendsFront (g.O.Sink.holds c.args.out.now) (g.O.Sink.holds c.work-ended.new.out)) ((c.work-ended.ensures.ends.made (inr s)).drawn d).1 (c.work-ended.ensures.ends.front s)
+
+pub returns-clause-drawn_text_kept : goal.returns-clause-drawn_text_kept
+returns-clause-drawn_text_kept g c = drawn_none c.work-ended.ensures.ends
+
+pub returns-clause-drawn_complete : goal.returns-clause-drawn_complete
+returns-clause-drawn_complete g c = drawn_completes c.work-ended.ensures.ends

@@ -1,0 +1,12 @@
+-- A page of which nothing is written.
+use Rattle.std.proofs.Common.{◌≡◌, inl, ℕ, List}
+use Rattle.std.specs.Prelude.{Option, Result, Ok, Err, IfErr, IsErrAnd}
+use Rattle.std.proofs.KnownBytes.{Keeps-refl}
+use Rattle.delaunay_cli.specs.declared.stop.Stop.{Stop}
+use Rattle.delaunay_cli.specs.declared.stop.Stop.TheVariants.{Memory}
+use Rattle.delaunay_cli.specs.Ends.{IsUnput}
+
+-- nothing was written where memory was wanting
+pub unwritten : {T : Type 0} (failed : Type 0) (held : Option (List ℕ)) (text : List ℕ) (m : Result T Stop) → IsErrAnd m (λ e. e ≡ Memory) → IfErr m (IsUnput failed held held text)
+unwritten failed held text (Ok v) a = tt
+unwritten failed held text (Err s) a = inl (a, Keeps-refl held)
