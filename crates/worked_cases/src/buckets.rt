@@ -6,9 +6,8 @@ ghost use Rattle.cell_store.specs.Buckets.{bucket_at, points_in};
 ghost use Rattle.cell_store.specs.Shares.{ShowsWith, Stands, share_at};
 ghost use Rattle.cell_store.specs.Meshes.{StandsForSome};
 
-use crate::cells::{put_cell, put_number};
-use crate::meshes::mesh_of;
 use crate::reading::{list_at, points_of};
+use crate::telling::{put_cell, put_number};
 use cell_store::{Across, Bucket, Grid, Hold, Mesh, Star, Steps};
 use point_order::{Cell, Point};
 use std::alloc::{AllocError, Global};
@@ -20,11 +19,8 @@ use std::sync::ledger::{Blank, Ledger};
 /// # Errors
 /// Want of memory.
 pub(crate) fn numbers(alloc: Global, grid: Grid, lists: &str) -> Result<String, AllocError> {
-    let mut text = String::from_str(alloc, "size")?;
-    put_number(&mut text, u64::from(grid.size()))?;
-    text.push_str(" count")?;
-    put_number(&mut text, u64::from(grid.count()))?;
-    text.push_str(" at")?;
+    let (size, count) = (grid.size(), grid.count());
+    let mut text = format!(in alloc; "size {size} count {count} at")?;
     for p in &points_of(alloc, list_at(lists, 0))? {
         put_number(&mut text, u64::from(grid.bucket_of(*p)))?;
     }
@@ -58,10 +54,7 @@ fn count_of(bucket: &Bucket) -> u64 {
 fn put_across(text: &mut String, across: Across<'_>) -> Result<(), AllocError> {
     match across {
         Across::Cell(other) => put_cell(text, other),
-        Across::Need(b) => {
-            text.push_str(" needs")?;
-            put_number(text, u64::from(b))
-        }
+        Across::Need(b) => write!(text, " needs {b}"),
     }
 }
 
@@ -143,12 +136,9 @@ fn put_bucket(alloc: Global, text: &mut String, hold: &Hold, b: u32) -> Result<(
 {
     if hold.has(b) {
         let copy = hold.copy_of(alloc, b)?;
-        put_number(text, copy.points().len() as u64)?;
-        text.push_str(" points")?;
-        put_number(text, count_of(&copy))?;
-        text.push_str(" cells")?;
-        put_number(text, copy.entries().len() as u64)?;
-        text.push_str(" entries")?;
+        let (points, entries) = (copy.points().len(), copy.entries().len());
+        let cells = count_of(&copy);
+        write!(text, " {points} points {cells} cells {entries} entries")?;
         for p in copy.points() {
             text.push_str("; at")?;
             put_star(text, hold, *p)?;
@@ -165,12 +155,8 @@ fn put_bucket(alloc: Global, text: &mut String, hold: &Hold, b: u32) -> Result<(
 ///
 /// # Errors
 /// Want of memory.
-pub(crate) fn answer(alloc: Global, grid: Grid, lists: &str) -> Result<String, AllocError> {
-    let lines = points_of(alloc, list_at(lists, 0))?;
-    let number = list_at(lists, 1).trim().parse::<u32>().unwrap_or(0);
-    let Some(mesh) = mesh_of(alloc, grid, &lines, &[])? else {
-        return String::from_str(alloc, "no four independent points");
-    };
+pub(crate) fn answer(alloc: Global, mesh: Mesh, lists: &str) -> Result<String, AllocError> {
+    let number = list_at(lists, 1).parse::<u32>().unwrap_or(0);
     let mut text = String::new(alloc);
     if number < mesh.grid().count() {
         let hold = moved(alloc, mesh, number)?;

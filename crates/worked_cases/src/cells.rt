@@ -1,116 +1,101 @@
-//! The texts of points and cells, and the faces of a complex.
+//! Keys of points, facets of cells, their order, and complexes by trial.
 
-ghost use Rattle.std.specs.Prelude.{◌<◌, All, length};
-
-use crate::meshes::mesh_of;
-use crate::reading::{list_at, points_of};
-use cell_store::Grid;
-use face_list::faces;
-use one_mesh::{complex, points};
-use point_order::{Cell, Point};
+use crate::reading::{cell_of, list_at, point_at, points_of};
+use complex_trial::complex_by_trial;
+use point_order::{Cell, Point, cells_in_order, points_in_order};
 use std::alloc::{AllocError, Global};
-use std::thread::Threads;
+use std::cmp::Ordering;
 
-// A number, behind a space.
-pub(crate) fn put_number(text: &mut String, number: u64) -> Result<(), AllocError> {
-    write!(text, " {number}")
+// A coordinate at a place of a list of words.
+fn coordinate_at(words: &str, place: usize) -> Option<i64> {
+    words.split_whitespace().nth(place)?.parse::<i64>().ok()
 }
 
-// A point, behind a space.
-pub(crate) fn put_point(text: &mut String, p: Point) -> Result<(), AllocError> {
-    write!(text, " {},{},{}", p.x(), p.y(), p.z())
+// The three coordinates of a list of words.
+fn coordinates_of(words: &str) -> Option<(i64, i64, i64)> {
+    Some((
+        coordinate_at(words, 0)?,
+        coordinate_at(words, 1)?,
+        coordinate_at(words, 2)?,
+    ))
 }
 
-// A cell by its points.
-pub(crate) fn put_cell(text: &mut String, cell: &Cell) -> Result<(), AllocError> {
-    text.push_str(match cell {
-        Cell::Full(_) => " Full",
-        Cell::Open(_) => " Open",
-    })?;
-    for p in cell.points() {
-        put_point(text, *p)?;
-    }
-    Ok(())
-}
-
-// The places of the corners among the points, joined by dashes.
-fn put_places(text: &mut String, points: &[Point], corners: &[Point]) -> Result<(), AllocError> {
-    let mut mark = ' ';
-    for corner in corners {
-        text.push(mark)?;
-        match points.iter().position(|p| p == corner) {
-            Some(i) => write!(text, "{i}")?,
-            None => text.push('?')?,
-        }
-        mark = '-';
-    }
-    Ok(())
-}
-
-// Cells by the places of their points.
-pub(crate) fn put_cells(
-    text: &mut String,
-    points: &[Point],
-    cells: &[Cell],
-) -> Result<(), AllocError> {
-    for cell in cells {
-        put_places(text, points, cell.points())?;
-    }
-    Ok(())
-}
-
-// A face with the cells that contain it, told by their numbers.
-fn put_face(
-    text: &mut String,
-    points: &[Point],
-    corners: &[Point],
-    cells: &[Cell],
-    around: &[u32],
-) -> Result<(), AllocError>
-    requires { All (λ n. n < length cells.now) around.now }
-{
-    put_places(text, points, corners)?;
-    text.push_str(" in")?;
-    for number in around {
-        put_places(text, points, cells[*number as usize].points())?;
-    }
-    text.push(';')
-}
-
-/// The answer to a case of faces.
+/// The answer to a case of a key.
 ///
 /// # Errors
 /// Want of memory.
-pub(crate) fn faces_of<R: Threads + Sync>(
-    rt: &R,
-    alloc: Global,
-    grid: Grid,
-    lists: &str,
-) -> Result<String, AllocError> {
-    let lines = points_of(alloc, list_at(lists, 0))?;
-    let Some(mesh) = mesh_of(alloc, grid, &lines, &[])? else {
-        return String::from_str(alloc, "no four independent points");
+pub(crate) fn key(alloc: Global, lists: &str) -> Result<String, AllocError> {
+    let Some((x, y, z)) = coordinates_of(lists) else {
+        return String::from_str(alloc, "no case");
     };
-    let left = points(alloc, &mesh)?;
-    let cells = complex(alloc, &mesh)?;
-    let faces = faces(rt, alloc, &cells)?;
-    let mut text = String::new(alloc);
-    for index in 0..faces.points().len() {
-        let (point, around) = faces.point(index);
-        put_face(&mut text, &left, &[point], faces.cells(), around)?;
+    match Point::new(x, y, z) {
+        Ok(p) => format!(in alloc; "key {} of {} {} {}", p.key(), p.x(), p.y(), p.z()),
+        Err(refused) => format!(in alloc; "{refused}"),
     }
-    for index in 0..faces.pairs().len() {
-        let (pair, around) = faces.pair(index);
-        put_face(&mut text, &left, pair.points(), faces.cells(), around)?;
+}
+
+/// The answer to a case of a cell.
+///
+/// # Errors
+/// Want of memory.
+pub(crate) fn parts(alloc: Global, lists: &str) -> Result<String, AllocError> {
+    let (Some(cell), Some(p)) = (cell_of(list_at(lists, 0)), point_at(list_at(lists, 1), 0)) else {
+        return String::from_str(alloc, "no case");
+    };
+    let [first, second, third, last] = cell.facets();
+    let is_own = cell.has(p);
+    format!(in alloc; "{cell} with {first} {second} {third} {last}; {p} is its own: {is_own}")
+}
+
+// How two cells stand to each other.
+fn mark_of(a: &Cell, b: &Cell) -> char {
+    if *a < *b {
+        '<'
+    } else if a.compare(b) == Ordering::Equal {
+        '='
+    } else {
+        '>'
     }
-    for index in 0..faces.triples().len() {
-        let (tri, around) = faces.triple(index);
-        put_face(&mut text, &left, tri.points(), faces.cells(), around)?;
+}
+
+// Cells, each behind a space.
+fn put_cells(text: &mut String, cells: &[Cell]) -> Result<(), AllocError> {
+    for cell in cells {
+        write!(text, " {cell}")?;
     }
-    for cell in faces.cells() {
-        if let Cell::Full(quad) = cell {
-            put_places(&mut text, &left, quad.points())?;
+    Ok(())
+}
+
+/// The answer to a case of an order.
+///
+/// # Errors
+/// Want of memory.
+pub(crate) fn order(alloc: Global, lists: &str) -> Result<String, AllocError> {
+    let mut cells = Vec::new(alloc);
+    for words in lists.split(';') {
+        if let Some(cell) = cell_of(words) {
+            cells.push(cell)?;
         }
     }
+    let mut text = String::new(alloc);
+    for a in &cells {
+        for b in &cells {
+            text.push(mark_of(a, b))?;
+        }
+        text.push(' ')?;
+    }
+    text.push_str("in order")?;
+    put_cells(&mut text, &cells_in_order(cells))?;
+    Ok(text)
+}
+
+/// The answer to a case of a trial.
+///
+/// # Errors
+/// Want of memory.
+pub(crate) fn trial(alloc: Global, lists: &str) -> Result<String, AllocError> {
+    let points = points_in_order(points_of(alloc, lists)?);
+    let mut text = String::from_str(alloc, "cells")?;
+    put_cells(&mut text, &complex_by_trial(alloc, &points)?)?;
     Ok(text)
 }

@@ -1,6 +1,5 @@
 //! Entries in buckets.
 
-use crate::cells::put_number;
 use crate::reading::{edits_of, list_at};
 use cell_store::{Bucket, Grid, Hold};
 use edit_history::{Edit, Entry, Reply};
@@ -38,9 +37,8 @@ fn put_counts(alloc: Global, text: &mut String, hold: &Hold, edit: Edit) -> Resu
     let b = hold.grid().bucket_of(edit.point());
     if hold.has(b) {
         let copy = hold.copy_of(alloc, b)?;
-        put_number(text, u64::from(b))?;
-        put_number(text, copy.points().len() as u64)?;
-        put_number(text, copy.entries().len() as u64)?;
+        let (points, entries) = (copy.points().len(), copy.entries().len());
+        write!(text, " {b} {points} {entries}")?;
     }
     Ok(())
 }

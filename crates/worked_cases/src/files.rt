@@ -1,13 +1,14 @@
 //! The texts of edit files. In a case a bar stands for a line feed, and a tilde for a carriage return.
 
-use crate::cells::put_number;
-use crate::reading::list_at;
-use edit_files::{File, ReadRefused, Why, file_text, generate, read_file};
+use crate::reading::{list_at, number_at};
+use crate::telling::put_bytes;
+use edit_files::{File, ReadRefused, file_text, generate, read_file};
 use std::alloc::{AllocError, Global};
 
-// The bytes of a text behind one blank, bars and tildes turned.
-fn put_bytes(bytes: &mut Vec<u8>, text: &str) -> Result<(), AllocError> {
-    for byte in text.strip_prefix(' ').unwrap_or(text).bytes() {
+// Puts the bytes of a part of a case behind others, but for the blank at its front, bars and tildes turned.
+fn put_part(bytes: &mut Vec<u8>, lists: &str, place: usize) -> Result<(), AllocError> {
+    let part = lists.split(';').nth(place).unwrap_or("");
+    for byte in part.strip_prefix(' ').unwrap_or(part).bytes() {
         bytes.push(match byte {
             b'|' => b'\n',
             b'~' => b'\r',
@@ -17,45 +18,20 @@ fn put_bytes(bytes: &mut Vec<u8>, text: &str) -> Result<(), AllocError> {
     Ok(())
 }
 
-// Bytes of a file as the words of a case.
-fn put_text(text: &mut String, bytes: &[u8]) -> Result<(), AllocError> {
-    for byte in bytes {
-        text.push(if *byte == b'\n' {
-            '|'
-        } else {
-            char::from(*byte)
-        })?;
-    }
-    Ok(())
-}
-
-fn name(why: Why) -> &'static str {
-    match why {
-        Why::Section => "Section",
-        Why::Field => "Field",
-        Why::Range => "Range",
-        Why::TooMany => "TooMany",
-        Why::Truncated => "Truncated",
-    }
-}
-
 // How many lines of each kind a file has, and a short file's own text.
 fn put_file(alloc: Global, text: &mut String, file: &File) -> Result<(), AllocError> {
     let mut lines: u64 = 0;
     for _ in file.lines() {
         lines = lines.saturating_add(1);
     }
-    put_number(text, lines)?;
-    text.push_str(" lines")?;
-    put_number(text, file.points.len() as u64)?;
-    text.push_str(" points")?;
-    put_number(text, file.edits.len() as u64)?;
-    text.push_str(" edits")?;
-    put_number(text, file.radii.len() as u64)?;
-    text.push_str(" radii")?;
+    let (points, edits, radii) = (file.points.len(), file.edits.len(), file.radii.len());
+    write!(
+        text,
+        " {lines} lines {points} points {edits} edits {radii} radii"
+    )?;
     if lines < 100 {
         text.push_str(" in ")?;
-        put_text(text, &file_text(alloc, file)?)?;
+        put_bytes(text, &file_text(alloc, file)?)?;
     }
     Ok(())
 }
@@ -64,21 +40,20 @@ fn put_file(alloc: Global, text: &mut String, file: &File) -> Result<(), AllocEr
 ///
 /// # Errors
 /// Want of memory.
-pub(crate) fn read(alloc: Global, times: u32, lists: &str) -> Result<String, AllocError> {
+pub(crate) fn read(alloc: Global, lists: &str) -> Result<String, AllocError> {
+    let times = number_at(list_at(lists, 0), 0).unwrap_or(0);
     let mut bytes = Vec::new(alloc);
-    put_bytes(&mut bytes, list_at(lists, 0))?;
+    put_part(&mut bytes, lists, 1)?;
     for _ in 0..times {
-        put_bytes(&mut bytes, list_at(lists, 1))?;
+        put_part(&mut bytes, lists, 2)?;
     }
-    put_bytes(&mut bytes, list_at(lists, 2))?;
+    put_part(&mut bytes, lists, 3)?;
     let mut text = String::new(alloc);
     match read_file(alloc, &bytes) {
         Ok(file) => put_file(alloc, &mut text, &file)?,
         Err(ReadRefused::Bad(fault)) => {
-            text.push_str("line")?;
-            put_number(&mut text, fault.line)?;
-            text.push_str(": ")?;
-            text.push_str(name(fault.why))?;
+            let (line, why) = (fault.line, fault.why);
+            write!(text, "line {line}: {why:?}")?;
         }
         Err(ReadRefused::Memory) => return Err(AllocError),
     }
@@ -89,16 +64,19 @@ pub(crate) fn read(alloc: Global, times: u32, lists: &str) -> Result<String, All
 ///
 /// # Errors
 /// Want of memory.
-pub(crate) fn drawn(alloc: Global, count: u32, lists: &str) -> Result<String, AllocError> {
+pub(crate) fn drawn(alloc: Global, lists: &str) -> Result<String, AllocError> {
+    let (Some(count), Some(start)) = (
+        number_at(list_at(lists, 0), 0),
+        number_at(list_at(lists, 1), 0),
+    ) else {
+        return String::from_str(alloc, "no case");
+    };
     let mut text = String::new(alloc);
-    match list_at(lists, 0).trim().parse::<u32>() {
-        Ok(start) if count <= 262_140 && start < 1 << 31 => {
-            put_text(
-                &mut text,
-                &file_text(alloc, &generate(alloc, count, start)?)?,
-            )?;
-        }
-        _ => text.push_str("no such file")?,
+    if count <= 262_140 && start < 1 << 31 {
+        let file = generate(alloc, count as u32, start as u32)?;
+        put_bytes(&mut text, &file_text(alloc, &file)?)?;
+    } else {
+        text.push_str("no such file")?;
     }
     Ok(text)
 }

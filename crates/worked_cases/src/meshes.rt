@@ -3,8 +3,8 @@
 ghost use Rattle.std.specs.Prelude.{◌≡◌, ◌<◌, ℕ, List, length, slice_index};
 ghost use Rattle.cell_store.specs.Shares.{Shows};
 
-use crate::cells::{put_cells, put_number, put_point};
-use crate::reading::{edits_of, list_at, numbers_of, points_of};
+use crate::reading::{edits_of, numbers_behind, points_of};
+use crate::telling::{put_cells, put_point};
 use cell_store::{Grid, Hold, Mesh};
 use edit_history::{Edit, PointSet, Reply, find_four};
 use one_mesh::{apply, begin, complex, history, points};
@@ -46,13 +46,14 @@ fn edit(alloc: Global, mesh: &mut Mesh, tag: u32, edit: Edit) -> Result<(), Allo
 pub(crate) fn mesh_of(
     alloc: Global,
     grid: Grid,
-    points: &[Point],
-    edits: &[Edit],
+    points: &str,
+    edits: &str,
 ) -> Result<Option<Mesh>, AllocError> {
-    let Some(mut mesh) = mesh_of_four(alloc, grid, points)? else {
+    let points = points_of(alloc, points)?;
+    let Some(mut mesh) = mesh_of_four(alloc, grid, &points)? else {
         return Ok(None);
     };
-    let Ok(four) = find_four(points) else {
+    let Ok(four) = find_four(&points) else {
         return Ok(None);
     };
     let mut tag: u32 = 0;
@@ -62,7 +63,7 @@ pub(crate) fn mesh_of(
         }
         tag = tag.saturating_add(1);
     }
-    for line in edits {
+    for line in &edits_of(alloc, edits)? {
         edit(alloc, &mut mesh, tag, *line)?;
         tag = tag.saturating_add(1);
     }
@@ -84,8 +85,7 @@ fn put_history(alloc: Global, text: &mut String, mesh: &Mesh) -> Result<(), Allo
     let mut set = PointSet::new(alloc);
     let mut replies = String::new(alloc);
     for entry in &history(alloc, mesh)? {
-        put_number(text, u64::from(entry.tag))?;
-        text.push(letter(entry.reply))?;
+        write!(text, " {}{}", entry.tag, letter(entry.reply))?;
         let reply = set.reply_of(entry.edit);
         replies.push(letter(reply))?;
         set.after(entry.edit)?;
@@ -98,21 +98,16 @@ fn put_history(alloc: Global, text: &mut String, mesh: &Mesh) -> Result<(), Allo
 ///
 /// # Errors
 /// Want of memory.
-pub(crate) fn answer(alloc: Global, grid: Grid, lists: &str) -> Result<String, AllocError> {
-    let lines = points_of(alloc, list_at(lists, 0))?;
-    let edits = edits_of(alloc, list_at(lists, 1))?;
-    let Some(mesh) = mesh_of(alloc, grid, &lines, &edits)? else {
-        return String::from_str(alloc, "no four independent points");
-    };
+pub(crate) fn answer(alloc: Global, mesh: &Mesh) -> Result<String, AllocError> {
     let mut text = String::new(alloc);
-    put_history(alloc, &mut text, &mesh)?;
-    let left = points(alloc, &mesh)?;
+    put_history(alloc, &mut text, mesh)?;
+    let left = points(alloc, mesh)?;
     text.push_str("; points")?;
     for p in &left {
         put_point(&mut text, *p)?;
     }
     text.push_str("; cells")?;
-    put_cells(&mut text, &left, &complex(alloc, &mesh)?)?;
+    put_cells(&mut text, &left, &complex(alloc, mesh)?)?;
     Ok(text)
 }
 
@@ -126,11 +121,11 @@ fn take_out(hold: &mut Hold, b: u32)
 }
 
 // Takes out the buckets whose numbers are among these, or where the flag is not set, are not.
-fn take_those(hold: &mut Hold, numbers: &[u32], among: bool)
+fn take_those(hold: &mut Hold, numbers: &[u64], among: bool)
     ensures { (s : List ℕ) → Shows hold.old s → Shows hold.new s }
 {
     for b in 0..hold.grid().count() {
-        if numbers.contains(&b) == among {
+        if numbers.contains(&u64::from(b)) == among {
             take_out(hold, b);
         }
     }
@@ -140,11 +135,10 @@ fn take_those(hold: &mut Hold, numbers: &[u32], among: bool)
 pub(crate) fn keep_only(alloc: Global, hold: &mut Hold, words: &str) -> Result<(), AllocError>
     ensures { (s : List ℕ) → Shows hold.old s → Shows hold.new s }
 {
-    let words = words.trim();
     if words != "all" {
         match words.strip_prefix("but ") {
-            Some(others) => take_those(hold, &numbers_of(alloc, others)?, true),
-            None => take_those(hold, &numbers_of(alloc, words)?, false),
+            Some(others) => take_those(hold, &numbers_behind(alloc, others, 0)?, true),
+            None => take_those(hold, &numbers_behind(alloc, words, 0)?, false),
         }
     }
     Ok(())

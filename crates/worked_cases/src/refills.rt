@@ -6,11 +6,12 @@ ghost use Rattle.cell_store.specs.Buckets.{bucket_at};
 ghost use Rattle.cell_store.specs.Grids.{bucket_of};
 ghost use Rattle.cell_store.specs.Shares.{Shows, ShowsSome};
 
-use crate::cells::{put_cells, put_number};
-use crate::meshes::{keep_only, mesh_of};
-use crate::reading::{list_at, point_of, points_of};
-use cell_store::{Grid, Hold};
-use point_order::{Cell, Point, points_in_order};
+use crate::meshes::keep_only;
+use crate::reading::{list_at, point_at};
+use crate::telling::put_cells;
+use cell_store::{Hold, Mesh};
+use one_mesh::points;
+use point_order::{Cell, Point};
 use std::alloc::{AllocError, Global};
 use vertex_removal::{Refill, RefillTurn};
 
@@ -50,10 +51,7 @@ fn put_turn(
             put_sorted(text, points, change.fresh)
         }
         RefillTurn::Flat => text.push_str("flat"),
-        RefillTurn::Need(b) => {
-            text.push_str("needs")?;
-            put_number(text, u64::from(b))
-        }
+        RefillTurn::Need(b) => { write!(text, "needs {b}") }
     }
 }
 
@@ -61,17 +59,13 @@ fn put_turn(
 ///
 /// # Errors
 /// Want of memory.
-pub(crate) fn answer(alloc: Global, grid: Grid, lists: &str) -> Result<String, AllocError> {
-    let lines = points_of(alloc, list_at(lists, 0))?;
-    let Some(mesh) = mesh_of(alloc, grid, &lines, &[])? else {
-        return String::from_str(alloc, "no four independent points");
-    };
-    let Some(v) = point_of(list_at(lists, 2).trim()) else {
+pub(crate) fn answer(alloc: Global, mesh: Mesh, lists: &str) -> Result<String, AllocError> {
+    let Some(v) = point_at(list_at(lists, 2), 0) else {
         return String::from_str(alloc, "no point");
     };
+    let points = points(alloc, &mesh)?;
     let mut hold = mesh.into_hold();
     keep_only(alloc, &mut hold, list_at(lists, 1))?;
-    let points = points_in_order(lines);
     let mut text = String::new(alloc);
     put_turn(alloc, &mut text, &hold, &points, v)?;
     Ok(text)

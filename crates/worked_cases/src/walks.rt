@@ -5,10 +5,10 @@ ghost use Rattle.cell_store.specs.Shares.{Shows, ShowsSome};
 ghost use Rattle.hole_laws.specs.Edits.{IsNew};
 ghost use Rattle.cell_walk.specs.Paths.{ShowsWalk};
 
-use crate::cells::put_cell;
-use crate::meshes::{keep_only, mesh_of};
-use crate::reading::{list_at, point_of, points_of};
-use cell_store::{Grid, Hold};
+use crate::meshes::keep_only;
+use crate::reading::{list_at, point_at};
+use crate::telling::put_cell;
+use cell_store::{Hold, Mesh};
 use cell_walk::{Start, Walk, WalkTurn};
 use point_order::Point;
 use std::alloc::{AllocError, Global};
@@ -63,12 +63,8 @@ fn walked(alloc: Global, hold: &Hold, p: Point) -> Result<String, AllocError>
 ///
 /// # Errors
 /// Want of memory.
-pub(crate) fn answer(alloc: Global, grid: Grid, lists: &str) -> Result<String, AllocError> {
-    let points = points_of(alloc, list_at(lists, 0))?;
-    let Some(mesh) = mesh_of(alloc, grid, &points, &[])? else {
-        return String::from_str(alloc, "no four independent points");
-    };
-    let Some(target) = point_of(list_at(lists, 2).trim()) else {
+pub(crate) fn answer(alloc: Global, mesh: Mesh, lists: &str) -> Result<String, AllocError> {
+    let Some(target) = point_at(list_at(lists, 2), 0) else {
         return String::from_str(alloc, "no point");
     };
     let mut hold = mesh.into_hold();

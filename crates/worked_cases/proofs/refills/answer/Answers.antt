@@ -4,5 +4,5 @@ use Rattle.worked_cases.proofs.refills.answer.Goals as goal
 
 pub put_turn-requires : goal.put_turn-requires
 put_turn-requires c =
-    let h = c.in-Some.mesh.history in
+    let h = c.args.mesh.history in
     (replay h, c.keep_only.ensures (replay h) (stands_shows c.into_hold-hold.result h c.into_hold-hold.ensures.stands))

@@ -4,5 +4,5 @@ use Rattle.worked_cases.proofs.walks.answer.Goals as goal
 
 pub walked-requires : goal.walked-requires
 walked-requires c =
-    let h = c.in-Some.mesh.history in
+    let h = c.args.mesh.history in
     (replay h, c.keep_only.ensures (replay h) (stands_shows c.into_hold-hold.result h c.into_hold-hold.ensures.stands))

@@ -57,7 +57,7 @@ fn is_gabriel(points: &[Point], link: &[Point], face: &[u8]) -> Option<bool> {
     }
 }
 
-/// The answer to a case of faces.
+/// The answer to a case of Gabriel faces.
 ///
 /// # Errors
 /// Want of memory.

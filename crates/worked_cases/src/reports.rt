@@ -3,8 +3,9 @@
 ghost use Rattle.point_order.specs.Sets.{IsAscending};
 ghost use Rattle.mesh_files.specs.Report.{AreCounted, shapes_seen};
 
-use crate::ends::{put_bytes, two_numbers};
+use crate::ends::two_numbers;
 use crate::reading::{list_at, numbers_behind, points_of};
+use crate::telling::put_bytes;
 use byte_ends::MemSink;
 use complex_trial::complex_by_trial;
 use edit_history::Reply;

@@ -1,6 +1,7 @@
 //! Ends in memory some of whose calls fail, a pipe, and the standard streams.
 
 use crate::reading::{list_at, number_at, numbers_behind};
+use crate::telling::put_bytes;
 use byte_ends::{
     MemSink, MemSource, Reached, ReadError, Reading, Source, StdSink, StdSource, Writing,
     read_to_limit, write_all,
@@ -8,18 +9,6 @@ use byte_ends::{
 use std::alloc::{AllocError, Global};
 use std::fs::Files;
 use std::io;
-
-// Bytes, with a bar for each line feed.
-pub(crate) fn put_bytes(text: &mut String, bytes: &[u8]) -> Result<(), AllocError> {
-    for byte in bytes {
-        text.push(if *byte == b'\n' {
-            '|'
-        } else {
-            char::from(*byte)
-        })?;
-    }
-    Ok(())
-}
 
 // The two numbers at the front of a list of words, 0 where there is none.
 pub(crate) fn two_numbers(words: &str) -> (usize, usize) {

@@ -32,21 +32,15 @@ pub(crate) fn inside(alloc: Global, lists: &str) -> Result<String, AllocError> {
     }
 }
 
-// Whether the sphere of the cell is within alpha, where that is below 2^30.
-fn cell_judged(a: Point, b: Point, c: Point, d: Point, alpha: u64) -> Option<bool> {
-    if alpha < 1073741824 {
-        Some(cell_within(a, b, c, d, alpha))
-    } else {
-        None
-    }
-}
-
-// Whether the smallest sphere of the edge, triangle or cell is within alpha, and the least alpha of which it is.
+// Whether the smallest sphere of the edge, triangle or cell is within alpha, for a cell one below 2^30, and the least
+// alpha of which it is.
 fn within_of(points: &[Point], alpha: u64) -> Option<(bool, u64)> {
     match *points {
         [a, b] => Some((edge_within(a, b, alpha), edge_least(a, b))),
         [a, b, c] => Some((triangle_within(a, b, c, alpha), triangle_least(a, b, c))),
-        [a, b, c, d] => Some((cell_judged(a, b, c, d, alpha)?, cell_least(a, b, c, d))),
+        [a, b, c, d] if alpha < 1 << 30 => {
+            Some((cell_within(a, b, c, d, alpha), cell_least(a, b, c, d)))
+        }
         _ => None,
     }
 }

@@ -20,14 +20,12 @@ fn four_of(words: &str) -> Option<(Point, Point, Point, Point)> {
     ))
 }
 
-fn orient_of(words: &str) -> Option<i128> {
+fn number_of(asked: &str, words: &str) -> Option<i128> {
     let (a, b, c, d) = four_of(words)?;
-    Some(i128::from(orient(a, b, c, d)))
-}
-
-fn sphere_of(words: &str) -> Option<i128> {
-    let (a, b, c, d) = four_of(words)?;
-    Some(sphere(a, b, c, d, point_at(words, 4)?))
+    match asked {
+        "orient" => Some(i128::from(orient(a, b, c, d))),
+        _ => Some(sphere(a, b, c, d, point_at(words, 4)?)),
+    }
 }
 
 /// The answer to a case whose answer is a number.
@@ -35,11 +33,7 @@ fn sphere_of(words: &str) -> Option<i128> {
 /// # Errors
 /// Want of memory.
 pub(crate) fn number(alloc: Global, asked: &str, words: &str) -> Result<String, AllocError> {
-    let number = match asked {
-        "orient" => orient_of(words),
-        _ => sphere_of(words),
-    };
-    match number {
+    match number_of(asked, words) {
         Some(number) => format!(in alloc; "{number}"),
         None => String::from_str(alloc, "no case"),
     }

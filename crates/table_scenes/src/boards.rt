@@ -1,0 +1,83 @@
+//! Boards, and the events that are played on them.
+
+use crate::meshes::mesh_of;
+use crate::reading::{list_at, number_at, pair_of, points_of};
+use cell_store::Grid;
+use claim_rule::{Board, Event, Played};
+use std::alloc::{AllocError, Global};
+
+/// The board of the mesh of points on a grid of this size, with so many parts and this allowance, if there is one.
+///
+/// # Errors
+/// Want of memory.
+pub(crate) fn opened(alloc: Global, size: u32, lists: &str) -> Result<Option<Board>, AllocError> {
+    let Ok(grid) = Grid::new(size) else {
+        return Ok(None);
+    };
+    let points = points_of(alloc, list_at(lists, 0))?;
+    let parts = number_at(list_at(lists, 1), 0);
+    let allowance = number_at(list_at(lists, 1), 1);
+    let Some(mesh) = mesh_of(alloc, grid, &points)? else {
+        return Ok(None);
+    };
+    if parts == 0 || parts > 64 || allowance > 1024 {
+        return Ok(None);
+    }
+    let board = Board::new(alloc, mesh, parts, u64::from(allowance))?;
+    Ok(Some(board))
+}
+
+// The event of a line.
+fn event_of(line: &str) -> Option<Event> {
+    let by = number_at(line, 1);
+    let second = number_at(line, 2);
+    match line.split_whitespace().next()? {
+        "claim" => Some(Event::Claim(by, second)),
+        "commit" => {
+            let (tag, edit) = pair_of(line.split_whitespace().nth(2)?)?;
+            Some(Event::Commit(by, tag, edit))
+        }
+        "release" => Some(Event::Release(by, second)),
+        "look" => Some(Event::Look(by)),
+        "split" => Some(Event::Split(by, second, u64::from(number_at(line, 3)))),
+        "join" => Some(Event::Join(by, second)),
+        _ => None,
+    }
+}
+
+// The answer of an event, the ticket, and each word that is not 0 behind its bucket's number.
+fn put_played(text: &mut String, answer: Played, board: &Board) -> Result<(), AllocError> {
+    match answer {
+        Played::Done => text.push_str("done")?,
+        Played::Taken { word } => write!(text, "taken {word}")?,
+        Played::Short => text.push_str("short")?,
+    }
+    let ticket = board.ticket();
+    write!(text, " {ticket}")?;
+    for b in 0..board.grid().count() {
+        let word = board.word(b);
+        if word != 0 {
+            write!(text, " {b}:{word}")?;
+        }
+    }
+    Ok(())
+}
+
+/// Plays the event of a line on the board, and puts down what it answers and what the board shows then.
+///
+/// # Errors
+/// Want of memory.
+pub(crate) fn play(
+    alloc: Global,
+    text: &mut String,
+    board: &mut Board,
+    line: &str,
+) -> Result<(), AllocError> {
+    match event_of(line) {
+        Some(event) => {
+            let answer = board.play(alloc, &event)?;
+            put_played(text, answer, board)
+        }
+        None => text.push_str("no scene"),
+    }
+}
