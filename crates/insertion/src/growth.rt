@@ -1,7 +1,7 @@
 //! Meshes that grow point by point.
 
 ghost use Rattle.std.specs.Prelude.{◌≡◌, ◌++◌, ◌∷◌, [], true, ◌<◌, length, slice_index, IfOk, OnOk, OnErr};
-ghost use Rattle.point_order.specs.Sets.{IsAscending};
+ghost use Rattle.point_order.specs.Sets.{IsAscending, IsIn};
 ghost use Rattle.point_order.specs.Solid.{is_solid};
 ghost use Rattle.edit_history.specs.Histories.{replay};
 ghost use Rattle.hole_laws.specs.Edits.{IsNew};
@@ -104,4 +104,30 @@ pub fn mesh_of_points(alloc: Global, grid: Grid, points: &[Point]) -> Result<Mes
         }
     }
     Ok(mesh)
+}
+
+// The grid of one bucket.
+fn one_bucket() -> Grid
+    ensures { result ≡ 1 }
+{
+    match Grid::new(1) {
+        Ok(grid) => grid,
+        Err(_) => unreachable!(),
+    }
+}
+
+/// What a new point changes in the complex of a solid set of points, which ascend: the cells that it takes away, and
+/// those that it brings. They are found in a mesh of these points.
+///
+/// # Errors
+/// Want of memory.
+pub fn change_of_points(alloc: Global, points: &[Point], p: Point) -> Result<Fresh, AllocError>
+    requires ascending { IsAscending points.now }
+    requires solid { is_solid points.now ≡ true }
+    requires absent { ¬ (IsIn p points.now) }
+    ensures { IfOk result (λ f. IsFilled points.now p f.gone.items f.fresh.items) }
+{
+    let _ = p.key();
+    let mesh = mesh_of_points(alloc, one_bucket(), points)?;
+    change_by(alloc, &mesh, p)
 }

@@ -15,6 +15,7 @@
 //!     reply: Reply::Inserted,
 //! })?;                                                        // on want of memory the mesh is as before
 //! let small = mesh_of_points(alloc, Grid::new(1)?, &points)?; // of a solid set, ascending
+//! let change = change_of_points(alloc, &points, p)?;          // what p takes away from its complex and brings
 //! ```
 #![tactic(auto)]
 
@@ -24,5 +25,5 @@ pub mod laws;
 mod opening;
 
 pub use conflict_cell::cell_in_conflict;
-pub use growth::{insert, mesh_of_points};
+pub use growth::{change_of_points, insert, mesh_of_points};
 pub use opening::open_mesh;

@@ -1,11 +1,11 @@
 -- Lists of cells in which each stands once.
 use Rattle.std.specs.Prelude.{◌≡◌, Bool, true, false, List, [], ◌∷◌}
 use Rattle.std.specs.List.{IsDistinct, AllByRecursion}
-use Rattle.std.specs.List.Sorted.{IsStrictlySortedBy, IsPermutation}
+use Rattle.std.specs.List.Sorted.{IsStrictlySortedBy}
 use Rattle.std.specs.Ordering.{eq_by_cmp}
 use Rattle.std.specs.Cmp.{IsEquivalence, eq_by_cmp_equiv}
 use Rattle.std.proofs.Common.{sym, subst, inl, inr}
-use Rattle.std.proofs.lemmas.Map.Keys.{IsDistinct-from_sorted, IsDistinct-IsPermutation}
+use Rattle.std.proofs.lemmas.Map.Keys.{IsDistinct-from_sorted}
 use Rattle.list_laws.specs.Lists.{AreDistinct}
 use Rattle.list_laws.proofs.Cited.{not_both}
 use Rattle.point_order.proofs.Cited.{cell_order}
@@ -30,7 +30,3 @@ same = eq_by_cmp_equiv cell_order
 -- so a list in order has
 pub sorted_once : (xs : List Cell) → IsStrictlySortedBy cell_cmp xs → AreDistinct xs
 sorted_once xs o = apart_once (eq_by_cmp cell_cmp) same.refl xs (IsDistinct-from_sorted cell_cmp xs o)
-
--- and the list in another order
-pub moved_once : (xs ys : List Cell) → IsStrictlySortedBy cell_cmp xs → IsPermutation xs ys → AreDistinct ys
-moved_once xs ys o p = apart_once (eq_by_cmp cell_cmp) same.refl ys (IsDistinct-IsPermutation (eq_by_cmp cell_cmp) same.symm xs ys p (IsDistinct-from_sorted cell_cmp xs o))

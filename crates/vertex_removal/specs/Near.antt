@@ -6,9 +6,8 @@ use Rattle.point_order.specs.declared.cell.Facet.{Facet}
 use Rattle.point_order.specs.Complex.{complex}
 use Rattle.point_order.specs.Facets.{facets_of, points_of}
 use Rattle.point_order.specs.Sets.{IsIn, IsAscending}
-use Rattle.hole_laws.specs.Edits.{GoesFrom, IsNew}
+use Rattle.hole_laws.specs.Edits.{GoesFrom}
 use Rattle.cell_store.specs.Buckets.{InHand}
-use Rattle.cell_store.specs.Meshes.{IsWhole}
 use Rattle.cell_store.specs.Others.{IsOtherOf}
 use Rattle.cell_store.specs.Ready.{AreHeld}
 use Rattle.cell_store.specs.Shares.{Shows}
@@ -55,10 +54,3 @@ IsOfOne cells here f = IsIn here cells × IsIn f (facets_of here)
 pub record AreTaken (t : List ℕ) (v : ℕ) (cells : List Cell) : Type 0 where
   pub goes : (c : Cell) → IsIn c cells ↔ GoesFrom t v c
   pub once : AreDistinct cells
-
--- a whole hold of one bucket that shows the points t, of which v is none
-pub record IsSmall (hold : InHand) (t : List ℕ) (v : ℕ) : Type 0 where
-  pub whole : IsWhole hold
-  pub grid : hold.grid ≡ 1
-  pub new : IsNew t v
-  pub shown : Shows hold t

@@ -23,7 +23,6 @@ mod apex;
 pub mod laws;
 mod near;
 mod refill;
-mod small_mesh;
 mod wrap;
 
 pub use refill::{Refill, RefillTurn};

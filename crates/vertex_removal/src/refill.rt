@@ -10,10 +10,10 @@ ghost use Rattle.vertex_removal.specs.Turns.{ShowsWithPoint, RefillGives, AsksBe
 ghost use Rattle.vertex_removal.specs.Wraps.{IsHole};
 
 use crate::near::{near_set, star_of};
-use crate::small_mesh::cells_taken;
 use crate::wrap::cells_wrapped;
 use cavity::Fresh;
 use cell_store::Hold;
+use insertion::change_of_points;
 use point_order::{Cell, Point};
 use std::alloc::{AllocError, Global};
 use std::marker::Model;
@@ -59,7 +59,10 @@ fn cells_coming(
 {
     match cells_wrapped(alloc, points, v, star)? {
         Some(cells) => Ok(cells),
-        None => cells_taken(alloc, points, v),
+        None => {
+            let change = change_of_points(alloc, points, v)?;
+            Ok(change.gone)
+        }
     }
 }
 

@@ -33,7 +33,7 @@ const MOST_POINTS: usize = 256;
 const MOST_CELLS: usize = 1024;
 
 // A facet that was met from one side, and whether the next cell lies above it, where its orientation is positive.
-#[derive(Clone, Copy, Debug)]
+#[derive(Clone, Copy)]
 pub(crate) struct Side {
     facet: Facet,
     up: bool,
