@@ -1,12 +1,11 @@
 //! Edits of a mesh, one by one.
 
-ghost use Rattle.std.specs.Prelude.{◌≡◌, ◌<◌, ◌^◌, [], ◌∷◌, ◌++◌, false, length, MatchOption, IfOk, OnOk, OnErr};
+ghost use Rattle.std.specs.Prelude.{◌≡◌, ◌<◌, ◌^◌, false, length, MatchOption, IfOk, OnOk, OnErr};
 ghost use Rattle.point_order.specs.Sets.{IsIn, is_among, without_point};
 ghost use Rattle.point_order.specs.Solid.{is_solid};
 ghost use Rattle.edit_history.specs.declared.history.Edit.TheVariants.{Add, Take};
-ghost use Rattle.edit_history.specs.Edits.{reply_to};
+ghost use Rattle.edit_history.specs.Edits.{changed, point_of, reply_to};
 ghost use Rattle.edit_history.specs.Histories.{replay};
-ghost use Rattle.cell_store.specs.Changes.{Follows};
 ghost use Rattle.insertion.specs.Opening.{opening_history, AreIndependent};
 ghost use Rattle.vertex_removal.specs.Refills.{IsRefilled};
 ghost use Rattle.one_mesh.specs.Applied.{edited};
@@ -15,7 +14,7 @@ use cavity::Fresh;
 use cell_store::{Grid, Mesh};
 use edit_history::{Edit, Entry, Reply};
 use insertion::{insert, open_mesh};
-use point_order::{Cell, Point};
+use point_order::Point;
 use std::alloc::{AllocError, Global};
 use vertex_removal::{Refill, RefillTurn};
 
@@ -51,15 +50,24 @@ fn entry_of(number: u64, tag: u32, edit: Edit, reply: Reply) -> Entry
     }
 }
 
-// Notes an edit that changes nothing but the history.
-fn note(alloc: Global, mesh: &mut Mesh, entry: Entry) -> Result<(), AllocError>
-    requires { Follows mesh.old.history entry [] [] }
-    ensures noted { OnOk result (mesh.new ≡ record mesh.old { history = mesh.old.history ++ entry ∷ [] }) }
+// Notes an edit whose reply changes nothing but the history, and answers that reply.
+fn note(
+    alloc: Global,
+    mesh: &mut Mesh,
+    number: u64,
+    tag: u32,
+    edit: Edit,
+    reply: Reply,
+) -> Result<Reply, AllocError>
+    requires number { number ≡ length mesh.old.history }
+    requires reply { reply ≡ reply_to (replay mesh.old.history) edit }
+    requires quiet { changed (replay mesh.old.history) (point_of edit) reply ≡ replay mesh.old.history }
+    ensures applied { OnOk result (mesh.new ≡ edited mesh.old tag edit) }
+    ensures reply { IfOk result (λ reply. reply ≡ reply_to (replay mesh.old.history) edit) }
     ensures refused { OnErr result (mesh.new ≡ mesh.old) }
 {
-    let none: [Cell; 0] = [];
-    mesh.change(alloc, &none, &none, entry)?;
-    Ok(())
+    mesh.change(alloc, &[], &[], entry_of(number, tag, edit, reply))?;
+    Ok(reply)
 }
 
 // Whether the point is one of those that the mesh's history leaves.
@@ -77,12 +85,7 @@ fn add(alloc: Global, mesh: &mut Mesh, number: u64, tag: u32, p: Point) -> Resul
     ensures refused { OnErr result (mesh.new ≡ mesh.old) }
 {
     if has_point(mesh, p) {
-        note(
-            alloc,
-            mesh,
-            entry_of(number, tag, Edit::Add(p), Reply::Duplicate),
-        )?;
-        Ok(Reply::Duplicate)
+        note(alloc, mesh, number, tag, Edit::Add(p), Reply::Duplicate)
     } else {
         insert(
             alloc,
@@ -129,14 +132,7 @@ fn take_there(
             mesh.change(alloc, &f.gone, &f.fresh, entry)?;
             Ok(Reply::Removed)
         }
-        None => {
-            note(
-                alloc,
-                mesh,
-                entry_of(number, tag, Edit::Take(v), Reply::Flat),
-            )?;
-            Ok(Reply::Flat)
-        }
+        None => note(alloc, mesh, number, tag, Edit::Take(v), Reply::Flat),
     }
 }
 
@@ -154,15 +150,9 @@ fn take(
     ensures refused { OnErr result (mesh.new ≡ mesh.old) }
 {
     if has_point(mesh, v) {
-        let reply = take_there(alloc, mesh, number, tag, v)?;
-        Ok(reply)
+        take_there(alloc, mesh, number, tag, v)
     } else {
-        note(
-            alloc,
-            mesh,
-            entry_of(number, tag, Edit::Take(v), Reply::Missing),
-        )?;
-        Ok(Reply::Missing)
+        note(alloc, mesh, number, tag, Edit::Take(v), Reply::Missing)
     }
 }
 
@@ -181,9 +171,10 @@ pub fn apply(alloc: Global, mesh: &mut Mesh, tag: u32, edit: Edit) -> Result<Rec
     ensures refused { OnErr result (mesh.new ≡ mesh.old) }
 {
     let number = mesh.count();
-    let reply = match edit {
-        Edit::Add(p) => add(alloc, mesh, number, tag, p)?,
-        Edit::Take(v) => take(alloc, mesh, number, tag, v)?,
+    let answered = match edit {
+        Edit::Add(p) => add(alloc, mesh, number, tag, p),
+        Edit::Take(v) => take(alloc, mesh, number, tag, v),
     };
+    let reply = answered?;
     Ok(Receipt { number, reply })
 }

@@ -1,10 +1,10 @@
-use Rattle.std.proofs.Common.{sym, refl}
+use Rattle.std.proofs.Common.{sym}
 use Rattle.list_laws.proofs.Cited.{among_true}
 use Rattle.edit_history.specs.declared.history.Edit.TheVariants.{Take}
-use Rattle.edit_history.specs.declared.history.Reply.TheVariants.{Removed, Flat}
+use Rattle.edit_history.specs.declared.history.Reply.TheVariants.{Removed}
 use Rattle.edit_history.specs.Histories.{replay}
 use Rattle.edit_history.proofs.Cited.{flat, reply_there}
-use Rattle.one_mesh.proofs.Edited.{applied, quiet, removal, some_refilled, none_refilled}
+use Rattle.one_mesh.proofs.Edited.{applied, removal, some_refilled, none_refilled}
 use Rattle.one_mesh.proofs.edits.take_there.Goals as goal
 
 pub change-requires : goal.change-requires
@@ -13,11 +13,10 @@ change-requires c =
     let f = some_refilled (replay h) c.args.v c.in_ok-f.field-0 c.in-Some.f c.in-Some.is c.in_ok-f.ensures in
     rw (c.deref.ensures.value, c.deref-in-Some.ensures.value) (removal h c.args.number c.args.tag c.args.v c.entry_of-entry.result c.in-Some.f.gone.items c.in-Some.f.fresh.items c.requires.there c.requires.number c.entry_of-entry.ensures f)
 
-pub note-requires : goal.note-requires
-note-requires c =
+pub note-requires-clause-reply : goal.note-requires-clause-reply
+note-requires-clause-reply c =
     let h = c.args.mesh.now.history in
-    let f = none_refilled (replay h) c.args.v c.in_ok-f.field-0 c.in-None.is c.in_ok-f.ensures in
-    quiet h c.args.number c.args.tag (Take c.args.v) Flat c.entry_of.result c.requires.number (flat (replay h) c.args.v (among_true c.args.v (replay h) c.requires.there) f) refl c.entry_of.ensures
+    sym (flat (replay h) c.args.v (among_true c.args.v (replay h) c.requires.there) (none_refilled (replay h) c.args.v c.in_ok-f.field-0 c.in-None.is c.in_ok-f.ensures))
 
 pub returns-in_ok-change-in-Some-clause-applied : goal.returns-in_ok-change-in-Some-clause-applied
 returns-in_ok-change-in-Some-clause-applied c =
@@ -31,14 +30,3 @@ returns-in_ok-change-in-Some-clause-reply c =
     let h = c.args.mesh.now.history in
     let f = some_refilled (replay h) c.args.v c.in_ok-f.field-0 c.in-Some.f c.in-Some.is c.in_ok-f.ensures in
     sym (reply_there (replay h) c.args.v (among_true c.args.v (replay h) c.requires.there) f.solid)
-
-pub returns-in_ok-note-in-None-clause-applied : goal.returns-in_ok-note-in-None-clause-applied
-returns-in_ok-note-in-None-clause-applied c =
-    let h = c.args.mesh.now.history in
-    let r = flat (replay h) c.args.v (among_true c.args.v (replay h) c.requires.there) (none_refilled (replay h) c.args.v c.in_ok-f.field-0 c.in-None.is c.in_ok-f.ensures) in
-    applied c.args.mesh.now c.note.new.mesh c.args.tag (Take c.args.v) c.args.number Flat c.entry_of.result c.requires.number (sym r) c.entry_of.ensures c.in_ok-note-in-None.ensures.noted
-
-pub returns-in_ok-note-in-None-clause-reply : goal.returns-in_ok-note-in-None-clause-reply
-returns-in_ok-note-in-None-clause-reply c =
-    let h = c.args.mesh.now.history in
-    sym (flat (replay h) c.args.v (among_true c.args.v (replay h) c.requires.there) (none_refilled (replay h) c.args.v c.in_ok-f.field-0 c.in-None.is c.in_ok-f.ensures))
