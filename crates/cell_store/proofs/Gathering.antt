@@ -34,3 +34,14 @@ same_next l n x old new h e s m = (there, back)
 -- the cells of all buckets
 pub same_all : (l : List (Option BucketContent)) (n : ℕ) (cells : List Cell) → length l ≤ n → AreSameCells (flat_map cells_of (take n l)) cells → AreSameCells (flat_map cells_of l) cells
 same_all l n cells h s = subst (λ (m : List (Option BucketContent)). AreSameCells (flat_map cells_of m) cells) (take_all n l h) s
+
+-- a list with the part of one more bucket
+pub list_next : {Y : Type 0} (f : Option BucketContent → List Y) (l : List (Option BucketContent)) (n : ℕ) (x : BucketContent) (old more new : List Y) → n < length l → bucket_at l n ≡ Some x → old ≡ flat_map f (take n l) → more ≡ f (Some x) → new ≡ old ++ more → new ≡ flat_map f (take (n + 1) l)
+list_next {Y} f l n x old more new h e o m k = k ∙ ap (λ (v : List Y). v ++ more) o ∙ ap (λ (v : List Y). flat_map f (take n l) ++ v) (m ∙ ap f (sym e)) ∙ sym next
+  where
+    next : flat_map f (take (n + 1) l) ≡ flat_map f (take n l) ++ f (bucket_at l n)
+    next = rw add-one (next_gathered f l n h)
+
+-- and with those of all
+pub list_all : {Y : Type 0} (f : Option BucketContent → List Y) (l : List (Option BucketContent)) (n : ℕ) (list : List Y) → length l ≤ n → list ≡ flat_map f (take n l) → list ≡ flat_map f l
+list_all f l n list h e = e ∙ ap (flat_map f) (take_all n l h)
