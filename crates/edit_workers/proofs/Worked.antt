@@ -10,6 +10,7 @@ use Rattle.list_laws.proofs.Cited.{all_of_each, each_of_all, later_append, later
 use Rattle.point_order.specs.Sets.{IsIn}
 use Rattle.edit_history.specs.declared.history.Edit.{Edit}
 use Rattle.edit_history.specs.declared.history.Entry.{Entry}
+use Rattle.edit_history.specs.declared.history.Reply.{Reply}
 use Rattle.edit_history.specs.Edits.{point_of}
 use Rattle.edit_history.specs.OneThread.{line_of}
 use Rattle.grid_claims.specs.declared.view.Act.{Act}
@@ -17,7 +18,7 @@ use Rattle.grid_claims.specs.declared.view.Act.TheVariants.{Claim, Miss, Commit,
 use Rattle.grid_claims.specs.Passes.{Opened, Standing}
 use Rattle.grid_claims.specs.Plays.{entry_of}
 use Rattle.grid_claims.specs.Trails.{misses}
-use Rattle.grid_claims.specs.Tries.{AreClaimsAround, IsAsBefore, IsOthersWord}
+use Rattle.grid_claims.specs.Tries.{AreClaimsAround, IsAsBefore, IsOthersWord, IsEdited}
 use Rattle.plain_laws.specs.Running.{Pair}
 use Rattle.edit_workers.specs.Working.{Marked, Stretch, done, left_over, first_ones, AreEntriesOf, HasMade, IsWorked, IsBroken}
 use Rattle.edit_workers.specs.Trying.{OwnsAll, HasMadeOne, HasMissed, FollowsLeft, IsLeftOver, IsDone, IsWorkedOn}
@@ -73,6 +74,14 @@ missed_once old new bucket word o b = record {
   new_is = b.2;
   others = λ z a. not_all old word o a;
 }
+
+-- an edit was made
+pub made_once : (tag : ℕ) (edit : Edit) (number : ℕ) (reply : Reply) (old new : Standing) → IsEdited tag edit number reply old new → HasMadeOne tag edit old new
+made_once tag edit number reply old new e = record { number = number; reply = reply; later = e.later; steps = e.steps; new_is = e.new_is }
+
+-- memory was wanting: no claim is known to have failed
+pub missed_none : (old new : Standing) → IsAsBefore [] old new → HasMissed 0 old new
+missed_none old new b = record { steps = b.0; missed = omega arith; new_is = b.2; others = λ z. absurd (omega (arith, z)) }
 
 -- steps after steps, with the failed claims of both
 pub missed_both : (old now new : Standing) (m n : ℕ) → HasMissed m old now → HasMissed n now new → HasMissed (m + n) old new
