@@ -5,6 +5,7 @@ use Rattle.std.proofs.Common.{
   ◌+◌,
   ◌-◌,
   ◌≤◌,
+  ◌<◌,
   List,
   ◌++◌,
   length,
@@ -14,12 +15,21 @@ use Rattle.std.proofs.Common.{
   sym,
   ◌∙◌,
   append_assoc,
+  append-nil,
+  false,
+  true,
   arith,
+  [],
+  Result,
+  Ok,
+  Err,
+  IsErr,
+  IsErrAnd,
 }
 use Rattle.std.specs.declared.option.Option.{Option}
-use Rattle.std.specs.Io.KnownBytes.{Appends, IsAtEnd}
-use Rattle.std.proofs.KnownBytes.{Appends-trans, Consumes-all, Consumes-trans}
-use Rattle.std.proofs.Common.{take, drop, take-append-drop}
+use Rattle.std.specs.Io.KnownBytes.{Appends, IsAtEnd, Keeps}
+use Rattle.std.proofs.KnownBytes.{Appends-trans, Consumes-all, Consumes-kept, Consumes-nil, Consumes-trans}
+use Rattle.std.proofs.Common.{take, drop, take-append-drop, length-take, min, OnErr}
 use Rattle.std.proofs.lemmas.List.{take_rest, take-append-le, length-take-le}
 use Rattle.byte_ends.specs.Ends.{AppendsFront, TakesInto}
 
@@ -74,3 +84,55 @@ pub longer_by_front : {new now old : ℕ} (buffer rest : List ℕ) (count : ℕ)
 longer_by_front buffer rest count e f h =
     let l : length (take count (buffer ++ rest)) ≡ count = length-take-le count (buffer ++ rest) (omega (arith, length-append buffer rest)) in
     omega (arith, e, f, l)
+
+-- nothing was taken
+pub takes_none : {a b : Option (List ℕ)} {old new : List ℕ} (limit : ℕ) → Keeps a b → new ≡ old → TakesInto a b old new limit
+takes_none {a} {b} {old} limit k e = record {
+  taken = [];
+  consumed = Consumes-kept a a b [] (Consumes-nil a) k;
+  within = omega arith;
+  kept = e ∙ sym (append-nil old);
+}
+
+-- What a reading of a part of a buffer gave, the part being no longer than the room: it is within the room, it fits where the part does,
+-- and there is a part.
+module _ (buffer whole : List ℕ) (count part room : ℕ) (bound : count ≤ length buffer) (read : length buffer ≡ length (take part whole)) where
+  pub within_part : (most : ℕ) → part ≡ min room most → count ≤ room
+  within_part most p = omega (arith, length-take part whole)
+
+  pub fits_front : (rest : List ℕ) (len capacity : ℕ) → len + part ≤ capacity → len + length (take count (buffer ++ rest)) ≤ capacity
+  fits_front rest len capacity h = omega (arith, length-take part whole, length-take count (buffer ++ rest))
+
+  pub some_part : part ≡ min room (length whole) → 0 < room → 0 < length whole → 0 < length buffer
+  some_part p h k = omega (arith, length-take part whole)
+
+-- the front of a buffer is no longer than the room, where its length is not
+pub front_within : (buffer : List ℕ) (count room : ℕ) → count ≤ room → length (take count buffer) ≤ room
+front_within buffer count room h = omega (arith, length-take count buffer)
+
+-- a count is as it was
+pub same_count : (n : ℕ) → n ≤ n
+same_count n = omega arith
+
+-- an error is no value
+pub no_value : {T E : Type 0} {P : Type 0} {v : T} (r : Result T E) → IsErr r → r ≡ Ok v → P
+no_value (Ok x) f e = absurd (cc)
+no_value (Err y) f e = absurd (cc)
+
+-- an error is no other error
+pub no_other : {T E : Type 0} {P : Type 0} {x y : E} (r : Result T E) → IsErrAnd r (λ e. e ≡ x) → (x ≡ y → ⊥) → r ≡ Err y → P
+no_other (Ok v) f differ e = absurd f
+no_other (Err z) f differ e = absurd (differ (cc))
+
+-- what holds in any case holds where there is an error
+pub on_error : {T E P : Type 0} (r : Result T E) → P → OnErr r P
+on_error (Ok x) p = tt
+on_error (Err e) p = p
+
+-- equal values of Ok
+pub same_value : {T E : Type 0} {x y : T} → ◌≡◌ {A = Result T E} (Ok x) (Ok y) → x ≡ y
+same_value e = cc
+
+-- what succeeds is no error
+pub no_error : false ≡ true → ⊥
+no_error e = cc
