@@ -2,6 +2,7 @@ mod Failing
 pub mod Sorting
 pub mod Stretches
 pub mod Gathering
+pub mod Putting
 pub mod OnePart
 pub mod FaceLists
 pub mod FaceLaws
