@@ -1,10 +1,10 @@
 -- The lines that are written of a file are its lines.
-use Rattle.std.proofs.Common.{◌≡◌, ℕ, ◌<◌, ◌^◌, false, List, [], ◌∷◌, ◌++◌, refl, sym, ap, subst, ◌∙◌, arith, append_assoc, map}
+use Rattle.std.proofs.Common.{◌≡◌, ℕ, ◌+◌, ◌<◌, ◌≤◌, ◌^◌, false, List, [], ◌∷◌, ◌++◌, length, get_or, drop, refl, sym, ap, subst, ◌∙◌, arith, append_assoc, append-nil, map}
 use Rattle.std.specs.Prelude.{codes, decimal}
 use Rattle.std.specs.Str.Parse.{IsNumeral, digits_value, starts_with_minus}
 use Rattle.std.proofs.lemmas.Bool.{ne_eqb, both_ways}
 use Rattle.std.proofs.lemmas.Fmt.{decimal_is_IsNumeral}
-use Rattle.std.proofs.lemmas.List.{length-map}
+use Rattle.std.proofs.lemmas.List.{length-map, at_drop_more, at_drop_all}
 use Rattle.std.proofs.lemmas.Str.Parse.{digit_from_value}
 use Rattle.list_laws.proofs.Cited.{length_zip, zip_all, zip_map}
 use Rattle.point_order.specs.Coordinates.{x_of, y_of, z_of, IsKey}
@@ -93,14 +93,30 @@ pushed : (a : List (List ℕ)) (word : List ℕ) (b : List (List ℕ)) → text_
 pushed a word b =
     append_assoc (text_of a) (text_of (word ∷ [])) (text_of b) ∙ ap (λ (t : List ℕ). text_of a ++ t) (sym (text_of_append (word ∷ []) b)) ∙ sym (text_of_append a (word ∷ b))
 
+-- the next of some lines is put
+pub line_put : {A : Type 0} (shown : A → List ℕ) (xs : List A) (i : ℕ) (x : A) (old new whole : List ℕ) → i < length xs → x ≡ get_or xs i x → new ≡ old ++ text_of (shown x ∷ [])
+    → old ++ text_of (map shown (drop i xs)) ≡ whole → new ++ text_of (map shown (drop (i + 1) xs)) ≡ whole
+line_put {A} shown xs i x old new whole lt is put so_far =
+    let left : List A = drop (i + 1) xs in
+    let rest : List ℕ = text_of (map shown left) in
+    ap (λ (t : List ℕ). t ++ rest) put
+    ∙ append_assoc old (text_of (shown x ∷ [])) rest
+    ∙ ap (λ (t : List ℕ). old ++ t) (append_assoc (shown x) (10 ∷ []) rest ∙ ap (λ (y : A). text_of (map shown (y ∷ left))) is ∙ sym (at_drop_more (λ (ys : List A). text_of (map shown ys)) xs i x lt))
+    ∙ so_far
+
+-- no line is left
+pub lines_put : {A : Type 0} (shown : A → List ℕ) (xs : List A) (i : ℕ) (old whole : List ℕ) → length xs ≤ i → old ++ text_of (map shown (drop i xs)) ≡ whole → old ≡ whole
+lines_put {A} shown xs i old whole le so_far =
+    sym (append-nil old) ∙ ap (λ (t : List ℕ). old ++ t) (sym (at_drop_all (λ (ys : List A). text_of (map shown ys)) xs i le)) ∙ so_far
+
 -- what is put list by list is the whole text
-pub pieces : (f : Content) (a b c d e g h i : List ℕ) → a ≡ text_of (codes "mesh3 1" ∷ []) → b ≡ a ++ text_of (codes "points" ∷ []) → c ≡ b ++ text_of (map point_text f.points)
+pub pieces : (f : Content) (b c d e g h i : List ℕ) → b ≡ text_of (codes "mesh3 1" ∷ codes "points" ∷ []) → c ≡ b ++ text_of (map point_text f.points)
     → d ≡ c ++ text_of (codes "edits" ∷ []) → e ≡ d ++ text_of (map edit_text f.edits) → g ≡ e ++ text_of (codes "radii" ∷ []) → h ≡ g ++ text_of (map decimal f.radii) → i ≡ h ++ text_of (codes "end" ∷ []) → i ≡ file_text f
-pieces f a b c d e g h i pa pb pc pd pe pg ph pi =
+pieces f b c d e g h i pb pc pd pe pg ph pi =
     let in_points : List (List ℕ) = codes "mesh3 1" ∷ codes "points" ∷ map point_text f.points in
     let in_edits : List (List ℕ) = in_points ++ codes "edits" ∷ map edit_text f.edits in
     let in_radii : List (List ℕ) = in_edits ++ codes "radii" ∷ map decimal f.radii in
-    let qc : c ≡ text_of in_points = pc ∙ ap (λ (t : List ℕ). t ++ text_of (map point_text f.points)) (pb ∙ ap (λ (t : List ℕ). t ++ text_of (codes "points" ∷ [])) pa) in
+    let qc : c ≡ text_of in_points = pc ∙ ap (λ (t : List ℕ). t ++ text_of (map point_text f.points)) pb in
     let qe : e ≡ text_of in_edits = pe ∙ ap (λ (t : List ℕ). t ++ text_of (map edit_text f.edits)) (pd ∙ ap (λ (t : List ℕ). t ++ text_of (codes "edits" ∷ [])) qc) ∙ pushed in_points (codes "edits") (map edit_text f.edits) in
     let qh : h ≡ text_of in_radii = ph ∙ ap (λ (t : List ℕ). t ++ text_of (map decimal f.radii)) (pg ∙ ap (λ (t : List ℕ). t ++ text_of (codes "radii" ∷ [])) qe) ∙ pushed in_edits (codes "radii") (map decimal f.radii) in
     pi ∙ ap (λ (t : List ℕ). t ++ text_of (codes "end" ∷ [])) qh ∙ sym (text_of_append in_radii (codes "end" ∷ []))

@@ -38,7 +38,7 @@ pub const LINE_LIMIT: u64 = 262_144;
 pub const RADIUS_LIMIT: u64 = 16;
 
 // Where a reader is.
-#[derive(Clone, Copy, Debug, PartialEq, Eq)]
+#[derive(Clone, Copy)]
 enum Place {
     // before the first line
     Title,
@@ -52,7 +52,7 @@ enum Place {
 }
 
 // Why a line was not taken.
-#[derive(Clone, Copy, Debug, PartialEq, Eq)]
+#[derive(Clone, Copy)]
 enum LineRefused {
     Bad(Why),
     Memory,
@@ -97,14 +97,18 @@ struct Reader {
     file: File,
 }
 
+// Is the line this word?
+fn reads(line: &[u8], word: &[u8]) -> bool
+    ensures { result ≡ bytes_eq line.now word.now }
+{
+    line == word
+}
+
 // Is the line one of the four section words?
 fn is_section_word(line: &[u8]) -> bool
     ensures { result ≡ is_word line.now }
 {
-    line == b"points".as_slice()
-        || line == b"edits".as_slice()
-        || line == b"radii".as_slice()
-        || line == b"end".as_slice()
+    reads(line, b"points") || reads(line, b"edits") || reads(line, b"radii") || reads(line, b"end")
 }
 
 // A line of a list may be no section word, and the list may not be full.
@@ -155,7 +159,7 @@ impl Reader {
         ensures { Steps result (state self.new)
             (if bytes_eq line.now word.now then move next (content self.old.file) else Err Section) }
     {
-        if line != word {
+        if !reads(line, word) {
             return Err(LineRefused::Bad(Why::Section));
         }
         self.place = next;
@@ -174,7 +178,7 @@ impl Reader {
         requires { self.old.place ≡ places.Points }
         ensures { Steps result (state self.new) (step_at line_limit places.Points (content self.old.file) line.now) }
     {
-        if line == b"edits".as_slice() {
+        if reads(line, b"edits") {
             self.place = Place::Edits;
             return Ok(());
         }
@@ -188,7 +192,7 @@ impl Reader {
         requires { self.old.place ≡ places.Edits }
         ensures { Steps result (state self.new) (step_at line_limit places.Edits (content self.old.file) line.now) }
     {
-        if line == b"radii".as_slice() {
+        if reads(line, b"radii") {
             self.place = Place::Radii;
             return Ok(());
         }
@@ -202,7 +206,7 @@ impl Reader {
         requires { self.old.place ≡ places.Radii }
         ensures { Steps result (state self.new) (step_at line_limit places.Radii (content self.old.file) line.now) }
     {
-        if line == b"end".as_slice() {
+        if reads(line, b"end") {
             self.place = Place::End;
             return Ok(());
         }

@@ -11,21 +11,13 @@ use itoa::Buffer;
 use point_order::Point;
 use std::alloc::{AllocError, Global};
 
-// Puts a number in decimal behind the text.
-fn put_number(text: &mut Vec<u8>, number: u64) -> Result<(), AllocError>
-    ensures { OnOk result (text.new.items ≡ text.old.items ++ decimal number) }
+// Puts a number in decimal behind the text, and a byte behind that.
+fn put_number(text: &mut Vec<u8>, number: u64, end: u8) -> Result<(), AllocError>
+    ensures { OnOk result (text.new.items ≡ text.old.items ++ (decimal number ++ end ∷ [])) }
 {
     let mut buffer = Buffer::new();
     text.extend_from_slice(buffer.format(number).as_bytes())?;
-    Ok(())
-}
-
-// Puts a section word behind the text, as a line.
-fn put_word(text: &mut Vec<u8>, word: &[u8]) -> Result<(), AllocError>
-    ensures { OnOk result (text.new.items ≡ text.old.items ++ text_of (word.now ∷ [])) }
-{
-    text.extend_from_slice(word)?;
-    text.push(b'\n')?;
+    text.push(end)?;
     Ok(())
 }
 
@@ -33,13 +25,9 @@ fn put_word(text: &mut Vec<u8>, word: &[u8]) -> Result<(), AllocError>
 fn put_point(text: &mut Vec<u8>, point: Point) -> Result<(), AllocError>
     ensures { OnOk result (text.new.items ≡ text.old.items ++ text_of (point_text point ∷ [])) }
 {
-    put_number(text, point.x() as u64)?;
-    text.push(b' ')?;
-    put_number(text, point.y() as u64)?;
-    text.push(b' ')?;
-    put_number(text, point.z() as u64)?;
-    text.push(b'\n')?;
-    Ok(())
+    put_number(text, point.x() as u64, b' ')?;
+    put_number(text, point.y() as u64, b' ')?;
+    put_number(text, point.z() as u64, b'\n')
 }
 
 // Puts an edit behind the text, as an edit line.
@@ -80,8 +68,7 @@ fn put_radii(text: &mut Vec<u8>, radii: &[u64]) -> Result<(), AllocError>
     ensures { OnOk result (text.new.items ≡ text.old.items ++ text_of (map decimal radii.now)) }
 {
     for radius in radii {
-        put_number(text, *radius)?;
-        text.push(b'\n')?;
+        put_number(text, *radius, b'\n')?;
     }
     Ok(())
 }
@@ -95,14 +82,12 @@ fn put_radii(text: &mut Vec<u8>, radii: &[u64]) -> Result<(), AllocError>
 pub fn file_text(alloc: Global, file: &File) -> Result<Vec<u8>, AllocError>
     ensures { IfOk result (λ text. text.items ≡ file_text (content file.now)) }
 {
-    let mut text = Vec::new(alloc);
-    put_word(&mut text, b"mesh3 1")?;
-    put_word(&mut text, b"points")?;
+    let mut text = Vec::from_slice(alloc, b"mesh3 1\npoints\n")?;
     put_points(&mut text, &file.points)?;
-    put_word(&mut text, b"edits")?;
+    text.extend_from_slice(b"edits\n")?;
     put_edits(&mut text, &file.edits)?;
-    put_word(&mut text, b"radii")?;
+    text.extend_from_slice(b"radii\n")?;
     put_radii(&mut text, &file.radii)?;
-    put_word(&mut text, b"end")?;
+    text.extend_from_slice(b"end\n")?;
     Ok(text)
 }
