@@ -1,4 +1,4 @@
-use Rattle.std.proofs.Common.{subst}
+use Rattle.std.proofs.Common.{refl, subst}
 use Rattle.std.proofs.lemmas.Bool.{both_ways}
 use Rattle.byte_ends.specs.Ends.{Rose}
 use Rattle.delaunay_cli.specs.declared.task.Task.{Task}
@@ -42,3 +42,9 @@ pub returns-in-Draw-clause-to_its_end : goal.returns-in-Draw-clause-to_its_end
 returns-in-Draw-clause-to_its_end g c =
     let words = c.args.words.now in
     λ r. absurd (both_ways (asks_drawn words) r (draws_file words c.in-Draw.making c.in-Draw.drawn (subst (λ (t : Task). IsTask words t) c.in-Draw.is c.in_ok-making.ensures.task)).0)
+
+pub returns-in-Draw-clause-source : goal.returns-in-Draw-clause-source
+returns-in-Draw-clause-source g c = λ d. refl
+
+pub returns-in-Draw-clause-unread : goal.returns-in-Draw-clause-unread
+returns-in-Draw-clause-unread g c = λ k. refl
