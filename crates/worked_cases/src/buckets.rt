@@ -6,25 +6,22 @@ ghost use Rattle.cell_store.specs.Buckets.{bucket_at, points_in};
 ghost use Rattle.cell_store.specs.Shares.{ShowsWith, Stands, share_at};
 ghost use Rattle.cell_store.specs.Meshes.{StandsForSome};
 
-use crate::reading::{list_at, points_of};
-use crate::telling::{put_cell, put_number};
+use crate::reading::list_at;
+use crate::telling::{Answer, put_cell};
 use cell_store::{Across, Bucket, Grid, Hold, Mesh, Star, Steps};
 use point_order::{Cell, Point};
 use std::alloc::{AllocError, Global};
 use std::marker::Brand;
 use std::sync::ledger::{Blank, Ledger};
 
-/// The answer to a case of a grid.
-///
-/// # Errors
-/// Want of memory.
-pub(crate) fn numbers(alloc: Global, grid: Grid, lists: &str) -> Result<String, AllocError> {
+/// Answers a case of a grid.
+pub(crate) fn numbers(answer: &mut Answer, grid: Grid, lists: &str) {
     let (size, count) = (grid.size(), grid.count());
-    let mut text = format!(in alloc; "size {size} count {count} at")?;
-    for p in &points_of(alloc, list_at(lists, 0))? {
-        put_number(&mut text, u64::from(grid.bucket_of(*p)))?;
+    write!(answer, "size {size} count {count} at");
+    let points: Vec<Point> = answer.all(list_at(lists, 0));
+    for p in &points {
+        write!(answer, " {}", grid.bucket_of(*p));
     }
-    Ok(text)
 }
 
 // Takes the bucket with the number out of a mesh, and puts it into an empty hold of the grid.
@@ -51,45 +48,33 @@ fn count_of(bucket: &Bucket) -> u64 {
 }
 
 // What lies across a facet.
-fn put_across(text: &mut String, across: Across<'_>) -> Result<(), AllocError> {
+fn put_across(answer: &mut Answer, across: Across<'_>) {
     match across {
-        Across::Cell(other) => put_cell(text, other),
-        Across::Need(b) => write!(text, " needs {b}"),
+        Across::Cell(other) => put_cell(answer, other),
+        Across::Need(b) => write!(answer, " needs {b}"),
     }
 }
 
 // What lies across the facets of a cell.
-fn put_beyond(text: &mut String, hold: &Hold, cell: &Cell) -> Result<(), AllocError>
+fn put_beyond(answer: &mut Answer, hold: &Hold, cell: &Cell)
     requires { ShowsWith hold.now cell.now }
 {
     let [first, second, third, fourth] = cell.facets();
-    put_across(text, hold.across(cell, &first))?;
-    put_across(text, hold.across(cell, &second))?;
-    put_across(text, hold.across(cell, &third))?;
-    put_across(text, hold.across(cell, &fourth))
+    put_across(answer, hold.across(cell, &first));
+    put_across(answer, hold.across(cell, &second));
+    put_across(answer, hold.across(cell, &third));
+    put_across(answer, hold.across(cell, &fourth));
 }
 
 // What lies across the facets of the first cell at a point.
-fn put_first(text: &mut String, hold: &Hold, p: Point) -> Result<(), AllocError>
-    requires { StandsForSome hold.now }
+fn put_first(answer: &mut Answer, hold: &Hold, p: Point)
+    requires stands { StandsForSome hold.now }
+    requires bucket { IsSome (bucket_at hold.now.places (number_of hold.now.grid p)) }
 {
-    if hold.has(hold.grid().bucket_of(p)) {
-        let mut star = hold.cells_at(p);
-        if let Some(cell) = star.next() {
-            put_beyond(text, hold, cell)?;
-        }
+    let mut star = hold.cells_at(p);
+    if let Some(cell) = star.next() {
+        put_beyond(answer, hold, cell);
     }
-    Ok(())
-}
-
-// The cells at a point, in their order.
-fn put_star(text: &mut String, hold: &Hold, p: Point) -> Result<(), AllocError> {
-    if hold.has(hold.grid().bucket_of(p)) {
-        for cell in hold.cells_at(p) {
-            put_cell(text, cell)?;
-        }
-    }
-    Ok(())
 }
 
 // The cells at a point by a search that is counted: with at most four points in the
@@ -102,65 +87,81 @@ fn searched<'a, L: Ledger>(hold: &'a Hold, p: Point, steps: &mut Steps<L>) -> St
     hold.star_counted(p, steps)
 }
 
-// The same cells as above, by that search.
-fn put_searched<L: Ledger>(
-    text: &mut String,
-    blank: Blank,
-    hold: &Hold,
-    p: Point,
-) -> Result<(), AllocError>
+// The cells at a point, in their order.
+fn put_star(answer: &mut Answer, hold: &Hold, p: Point)
+    requires { IsSome (bucket_at hold.now.places (number_of hold.now.grid p)) }
+{
+    for cell in hold.cells_at(p) {
+        put_cell(answer, cell);
+    }
+}
+
+// The same cells by that search.
+fn put_searched<L: Ledger>(answer: &mut Answer, blank: Blank, hold: &Hold, p: Point)
     requires name { blank.name ≡ L.name }
     requires parts { blank.parts ≡ L.parts }
     requires some { 0 < blank.parts }
     requires stands { StandsForSome hold.now }
+    requires bucket { IsSome (bucket_at hold.now.places (number_of hold.now.grid p)) }
 {
-    if hold.has(hold.grid().bucket_of(p)) {
-        let mut steps = Steps::<L>::begin(blank);
-        for cell in searched(hold, p, &mut steps) {
-            put_cell(text, cell)?;
-        }
+    let mut steps = Steps::<L>::begin(blank);
+    for cell in searched(hold, p, &mut steps) {
+        put_cell(answer, cell);
     }
-    Ok(())
 }
 
 // The same, counted in a ledger of its own.
-fn put_counted(text: &mut String, hold: &Hold, p: Point) -> Result<(), AllocError>
+fn put_counted(answer: &mut Answer, hold: &Hold, p: Point)
+    requires stands { StandsForSome hold.now }
+    requires bucket { IsSome (bucket_at hold.now.places (number_of hold.now.grid p)) }
+{
+    put_searched::<Brand>(answer, Blank::new(1), hold, p);
+}
+
+// What is at a point of a bucket in hand.
+fn put_point(answer: &mut Answer, hold: &Hold, p: Point)
     requires { StandsForSome hold.now }
 {
-    put_searched::<Brand>(text, Blank::new(1), hold, p)
+    if hold.has(hold.grid().bucket_of(p)) {
+        answer.put("; at");
+        put_star(answer, hold, p);
+        answer.put(" counted");
+        put_counted(answer, hold, p);
+        answer.put(" across");
+        put_first(answer, hold, p);
+    }
 }
 
 // What the bucket with the number shows, alone in hand.
-fn put_bucket(alloc: Global, text: &mut String, hold: &Hold, b: u32) -> Result<(), AllocError>
+fn put_bucket(alloc: Global, answer: &mut Answer, hold: &Hold, b: u32) -> Result<(), AllocError>
     requires { StandsForSome hold.now }
 {
     if hold.has(b) {
         let copy = hold.copy_of(alloc, b)?;
         let (points, entries) = (copy.points().len(), copy.entries().len());
         let cells = count_of(&copy);
-        write!(text, " {points} points {cells} cells {entries} entries")?;
+        write!(answer, " {points} points {cells} cells {entries} entries");
         for p in copy.points() {
-            text.push_str("; at")?;
-            put_star(text, hold, *p)?;
-            text.push_str(" counted")?;
-            put_counted(text, hold, *p)?;
-            text.push_str(" across")?;
-            put_first(text, hold, *p)?;
+            put_point(answer, hold, *p);
         }
     }
     Ok(())
 }
 
-/// The answer to a case of a bucket.
+/// Answers a case of a bucket.
 ///
 /// # Errors
 /// Want of memory.
-pub(crate) fn answer(alloc: Global, mesh: Mesh, lists: &str) -> Result<String, AllocError> {
+pub(crate) fn put(
+    alloc: Global,
+    answer: &mut Answer,
+    mesh: Mesh,
+    lists: &str,
+) -> Result<(), AllocError> {
     let number = list_at(lists, 1).parse::<u32>().unwrap_or(0);
-    let mut text = String::new(alloc);
     if number < mesh.grid().count() {
         let hold = moved(alloc, mesh, number)?;
-        put_bucket(alloc, &mut text, &hold, number)?;
+        put_bucket(alloc, answer, &hold, number)?;
     }
-    Ok(text)
+    Ok(())
 }

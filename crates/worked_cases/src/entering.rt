@@ -1,6 +1,7 @@
 //! Entries in buckets.
 
-use crate::reading::{edits_of, list_at};
+use crate::reading::list_at;
+use crate::telling::Answer;
 use cell_store::{Bucket, Grid, Hold};
 use edit_history::{Edit, Entry, Reply};
 use point_order::Cell;
@@ -33,26 +34,37 @@ fn enter(alloc: Global, hold: &mut Hold, number: u64, edit: Edit) -> Result<(), 
 }
 
 // How much the bucket of an edit has.
-fn put_counts(alloc: Global, text: &mut String, hold: &Hold, edit: Edit) -> Result<(), AllocError> {
+fn put_counts(
+    alloc: Global,
+    answer: &mut Answer,
+    hold: &Hold,
+    edit: Edit,
+) -> Result<(), AllocError> {
     let b = hold.grid().bucket_of(edit.point());
     if hold.has(b) {
         let copy = hold.copy_of(alloc, b)?;
         let (points, entries) = (copy.points().len(), copy.entries().len());
-        write!(text, " {b} {points} {entries}")?;
+        write!(answer, " {b} {points} {entries}");
     }
     Ok(())
 }
 
-/// The answer to a case of entries.
+/// Answers a case of entries.
 ///
 /// # Errors
 /// Want of memory.
-pub(crate) fn answer(alloc: Global, grid: Grid, lists: &str) -> Result<String, AllocError> {
+pub(crate) fn put(
+    alloc: Global,
+    answer: &mut Answer,
+    grid: Grid,
+    lists: &str,
+) -> Result<(), AllocError> {
     let mut hold = Hold::empty(alloc, grid)?;
-    let mut text = String::from_str(alloc, "entered")?;
-    for (number, edit) in edits_of(alloc, list_at(lists, 0))?.iter().enumerate() {
+    answer.put("entered");
+    let edits: Vec<Edit> = answer.all(list_at(lists, 0));
+    for (number, edit) in edits.iter().enumerate() {
         enter(alloc, &mut hold, number as u64, *edit)?;
-        put_counts(alloc, &mut text, &hold, *edit)?;
+        put_counts(alloc, answer, &hold, *edit)?;
     }
-    Ok(text)
+    Ok(())
 }

@@ -1,26 +1,22 @@
 //! Gabriel edges and triangles of a complex, each judged by its link.
 
-use crate::reading::{list_at, points_of};
+use crate::reading::list_at;
+use crate::telling::Answer;
 use gabriel_faces::{gabriel_edge, gabriel_triangle};
 use point_order::Point;
 use std::alloc::{AllocError, Global};
 
-// The point of a digit.
-fn corner(points: &[Point], digit: u8) -> Option<Point> {
-    points.get(digit.wrapping_sub(b'0') as usize).copied()
-}
-
-// Puts the points of a cell but for those of the face.
-fn put_others(
-    link: &mut Vec<Point>,
+// Puts the points of these digits behind others, but for those of a face.
+fn put_corners(
+    corners: &mut Vec<Point>,
     points: &[Point],
-    cell: &str,
-    face: &[u8],
+    digits: &str,
+    face: &str,
 ) -> Result<(), AllocError> {
-    for digit in cell.bytes() {
-        if !face.contains(&digit) {
-            if let Some(p) = corner(points, digit) {
-                link.push(p)?;
+    for digit in digits.bytes() {
+        if !face.as_bytes().contains(&digit) {
+            if let Some(p) = points.get(digit.wrapping_sub(b'0') as usize) {
+                corners.push(*p)?;
             }
         }
     }
@@ -32,47 +28,46 @@ fn link_of(
     alloc: Global,
     points: &[Point],
     cells: &str,
-    face: &[u8],
+    face: &str,
 ) -> Result<Vec<Point>, AllocError> {
     let mut link = Vec::new(alloc);
     for cell in cells.split_whitespace() {
-        if face.iter().all(|digit| cell.as_bytes().contains(digit)) {
-            put_others(&mut link, points, cell, face)?;
+        if face.bytes().all(|digit| cell.as_bytes().contains(&digit)) {
+            put_corners(&mut link, points, cell, face)?;
         }
     }
     Ok(link)
 }
 
 // Whether the edge or the triangle is Gabriel, by its link.
-fn is_gabriel(points: &[Point], link: &[Point], face: &[u8]) -> Option<bool> {
-    match *face {
-        [a, b] => Some(gabriel_edge(corner(points, a)?, corner(points, b)?, link)),
-        [a, b, c] => Some(gabriel_triangle(
-            corner(points, a)?,
-            corner(points, b)?,
-            corner(points, c)?,
-            link,
-        )),
+fn is_gabriel(
+    alloc: Global,
+    points: &[Point],
+    cells: &str,
+    face: &str,
+) -> Result<Option<bool>, AllocError> {
+    let link = link_of(alloc, points, cells, face)?;
+    let mut own = Vec::new(alloc);
+    put_corners(&mut own, points, face, "")?;
+    Ok(match *own {
+        [a, b] => Some(gabriel_edge(a, b, &link)),
+        [a, b, c] => Some(gabriel_triangle(a, b, c, &link)),
         _ => None,
-    }
+    })
 }
 
-/// The answer to a case of Gabriel faces.
-///
-/// # Errors
-/// Want of memory.
-pub(crate) fn answer(alloc: Global, lists: &str) -> Result<String, AllocError> {
-    let points = points_of(alloc, list_at(lists, 0))?;
-    let mut text = String::from_str(alloc, "not Gabriel")?;
+/// Answers a case of Gabriel faces.
+pub(crate) fn faces(alloc: Global, answer: &mut Answer, lists: &str) -> Option<()> {
+    let points: Vec<Point> = answer.all(list_at(lists, 0));
+    answer.put("not Gabriel");
     let mut count: u64 = 0;
     for face in list_at(lists, 2).split_whitespace() {
-        let link = link_of(alloc, &points, list_at(lists, 1), face.as_bytes())?;
-        match is_gabriel(&points, &link, face.as_bytes()) {
+        match answer.got(is_gabriel(alloc, &points, list_at(lists, 1), face))? {
             Some(true) => count = count.saturating_add(1),
-            Some(false) => write!(text, " {face}")?,
-            None => write!(text, " no face {face}")?,
+            Some(false) => write!(answer, " {face}"),
+            None => write!(answer, " no face {face}"),
         }
     }
-    write!(text, "; {count} are")?;
-    Ok(text)
+    write!(answer, "; {count} are");
+    Some(())
 }

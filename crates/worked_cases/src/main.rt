@@ -4,8 +4,8 @@
 //! A case is what is asked, and lists of words with semicolons between them. A point is written `x,y,z`, a cell is its
 //! four points, or the three of an Open one, and an edit is a point behind `+` or `-`. An end is the number of bytes
 //! that a call gives or takes at most, and the numbers of its calls that fail, counted from 1. A bar stands for a line
-//! feed. A line that begins with `#` is answered by itself, and where a call may not be made of the words the answer is
-//! `no case`.
+//! feed. A line whose first word is `#` is answered by itself, and where a call may not be made of the words the answer
+//! is `no case`.
 //!
 //! - `key X Y Z`: the key of the point and its coordinates, or which of the three is refused.
 //! - `cell CELL; POINT`: the cell's points, its facets in order, and whether the point is one of its own.
@@ -59,98 +59,113 @@ mod walks;
 
 use cell_store::Grid;
 use meshes::mesh_of;
-use reading::list_at;
+use reading::at;
 use std::alloc::{AllocError, Global};
 use std::io;
 use std::thread::Threads;
+use telling::Answer;
 
-// The answer to a case of a mesh: of its points, and where the mesh itself is asked about, of edits behind them.
+// Answers a case of a mesh.
 fn of_a_mesh<R: Threads + Sync>(
     rt: &R,
     alloc: Global,
+    answer: &mut Answer,
     asked: &str,
     grid: Grid,
     lists: &str,
-) -> Result<String, AllocError> {
-    let edits = if asked == "mesh" {
-        list_at(lists, 1)
-    } else {
-        ""
-    };
-    let Some(mesh) = mesh_of(alloc, grid, list_at(lists, 0), edits)? else {
-        return String::from_str(alloc, "no four independent points");
+) -> Result<(), AllocError> {
+    let Some(mesh) = mesh_of(alloc, answer, grid, lists)? else {
+        answer.put("no four independent points");
+        return Ok(());
     };
     match asked {
-        "mesh" => meshes::answer(alloc, &mesh),
-        "faces" => faces::answer(rt, alloc, &mesh),
-        "bucket" => buckets::answer(alloc, mesh, lists),
-        "refill" => refills::answer(alloc, mesh, lists),
-        _ => walks::answer(alloc, mesh, lists),
+        "mesh" => meshes::put(alloc, answer, &mesh),
+        "faces" => faces::put(rt, alloc, answer, &mesh),
+        "bucket" => buckets::put(alloc, answer, mesh, lists),
+        "refill" => refills::put(alloc, answer, mesh, lists),
+        _ => {
+            walks::put(answer, mesh, lists);
+            Ok(())
+        }
     }
 }
 
-// The answer to a case on a grid; the first list is its size.
+// Answers a case on a grid; the first list is its size.
 fn on_a_grid<R: Threads + Sync>(
     rt: &R,
     alloc: Global,
+    answer: &mut Answer,
     asked: &str,
     lists: &str,
-) -> Result<String, AllocError> {
+) -> Result<(), AllocError> {
     let (size, lists) = lists.split_once(';').unwrap_or((lists, ""));
-    let Ok(grid) = Grid::new(size.trim().parse::<u32>().unwrap_or(0)) else {
-        return String::from_str(alloc, "no grid");
+    let Ok(grid) = Grid::new(at(size, 0).unwrap_or(0)) else {
+        answer.put("no grid");
+        return Ok(());
     };
     match asked {
-        "grid" => buckets::numbers(alloc, grid, lists),
-        "enter" => entering::answer(alloc, grid, lists),
-        _ => of_a_mesh(rt, alloc, asked, grid, lists),
+        "grid" => {
+            buckets::numbers(answer, grid, lists);
+            Ok(())
+        }
+        "enter" => entering::put(alloc, answer, grid, lists),
+        _ => of_a_mesh(rt, alloc, answer, asked, grid, lists),
     }
 }
 
-// The answer to a case that needs no more than memory.
-fn answer(alloc: Global, asked: &str, lists: &str) -> Result<String, AllocError> {
+// Answers a case that needs no more than memory; nothing where the words make none.
+fn of_words(alloc: Global, answer: &mut Answer, asked: &str, lists: &str) -> Option<()> {
     match asked {
-        "key" => cells::key(alloc, lists),
-        "cell" => cells::parts(alloc, lists),
-        "order" => cells::order(alloc, lists),
-        "trial" => cells::trial(alloc, lists),
-        "orient" | "sphere" => predicates::number(alloc, asked, lists),
-        "collinear" | "outside" | "conflict" => predicates::truth(alloc, asked, lists),
-        "inside" => spheres::inside(alloc, lists),
-        "within" => spheres::within(alloc, lists),
-        "gabriel" => gabriel::answer(alloc, lists),
-        "read" => ends::read(alloc, lists),
-        "calls" => ends::calls(alloc, lists),
-        "write" => ends::write(alloc, lists),
-        "report" => reports::answer(alloc, lists),
-        "file" => files::read(alloc, lists),
-        "draw" => files::drawn(alloc, lists),
-        _ => String::from_str(alloc, "no case"),
+        "key" => cells::key(answer, lists),
+        "cell" => cells::parts(answer, lists),
+        "order" => cells::order(answer, lists),
+        "trial" => cells::trial(alloc, answer, lists),
+        "orient" | "sphere" => predicates::number(answer, lists),
+        "collinear" | "outside" => predicates::truth(answer, lists),
+        "conflict" => predicates::in_conflict(answer, lists),
+        "inside" => spheres::inside(answer, lists),
+        "within" => spheres::within(answer, lists),
+        "gabriel" => gabriel::faces(alloc, answer, lists),
+        "read" => ends::read(alloc, answer, lists),
+        "calls" => ends::calls(answer, lists),
+        "write" => ends::write(alloc, answer, lists),
+        "report" => reports::put(alloc, answer, lists),
+        "file" => files::read(alloc, answer, lists),
+        "draw" => files::drawn(alloc, answer, lists),
+        _ => None,
     }
 }
 
-// The answer to the case in a line. The host gives the standard streams and pipes.
-fn answer_to<R: Threads + Sync>(rt: &R, host: &HostRuntime, line: &str) -> io::Result<String> {
+// Answers the case in a line. The host gives the standard streams and pipes.
+fn put_answer<R: Threads + Sync>(
+    rt: &R,
+    host: &HostRuntime,
+    answer: &mut Answer,
+    line: &str,
+) -> io::Result<()> {
     let alloc = host.alloc();
-    if line.starts_with('#') {
-        return Ok(String::from_str(alloc, line)?);
-    }
     let (asked, lists) = line.split_once(' ').unwrap_or((line, ""));
     match asked {
-        "pipe" => ends::pipe(host, alloc, lists),
-        "streams" => Ok(ends::streams(host, alloc, lists)?),
+        "#" => answer.put(line),
+        "pipe" => ends::pipe(host, alloc, answer, lists)?,
+        "streams" => ends::streams(host, answer, lists),
         "grid" | "enter" | "mesh" | "faces" | "bucket" | "refill" | "walk" => {
-            Ok(on_a_grid(rt, alloc, asked, lists)?)
+            on_a_grid(rt, alloc, answer, asked, lists)?;
         }
-        _ => Ok(answer(alloc, asked, lists)?),
+        _ => {
+            if of_words(alloc, answer, asked, lists).is_none() {
+                answer.put("no case");
+            }
+        }
     }
+    Ok(())
 }
 
 fn main(rt: HostRuntime) -> io::Result<()> {
     for line in rt.lines(rt.alloc()) {
-        let line = line?;
-        let answer = answer_to(&rt, &rt, line.as_str())?;
-        println!(rt; "{answer}")?;
+        let mut answer = Answer::new(rt.alloc());
+        put_answer(&rt, &rt, &mut answer, line?.as_str())?;
+        println!(rt; "{}", answer.whole()?)?;
     }
     Ok(())
 }

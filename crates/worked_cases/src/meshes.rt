@@ -3,20 +3,25 @@
 ghost use Rattle.std.specs.Prelude.{◌≡◌, ◌<◌, ℕ, List, length, slice_index};
 ghost use Rattle.cell_store.specs.Shares.{Shows};
 
-use crate::reading::{edits_of, numbers_behind, points_of};
-use crate::telling::{put_cells, put_point};
+use crate::reading::list_at;
+use crate::telling::{Answer, put_cells, put_point};
 use cell_store::{Grid, Hold, Mesh};
-use edit_history::{Edit, PointSet, Reply, find_four};
+use edit_history::{Edit, Entry, PointSet, Reply, find_four};
 use one_mesh::{apply, begin, complex, history, points};
 use point_order::Point;
 use std::alloc::{AllocError, Global};
+
+// The tag of the line at a place.
+fn tag_of(place: usize) -> u32 {
+    u32::try_from(place).unwrap_or(u32::MAX)
+}
 
 // The point at a place, with the place for a tag.
 fn line_at(points: &[Point], i: usize) -> (u32, Point)
     requires { i < length points.now }
     ensures { result.1 ≡ slice_index points.now i }
 {
-    (u32::try_from(i).unwrap_or(u32::MAX), points[i])
+    (tag_of(i), points[i])
 }
 
 // The mesh of the first four independent points, if there are four.
@@ -42,31 +47,43 @@ fn edit(alloc: Global, mesh: &mut Mesh, tag: u32, edit: Edit) -> Result<(), Allo
     Ok(())
 }
 
-// The mesh of the points, the first four independent ones first, and of the edits behind them; none where no four are.
+// Adds the points but for the four with which a mesh began, and makes the edits behind them.
+fn edit_all(
+    alloc: Global,
+    mesh: &mut Mesh,
+    four: &[usize],
+    points: &[Point],
+    edits: &[Edit],
+) -> Result<(), AllocError> {
+    for (place, p) in points.iter().enumerate() {
+        if !four.contains(&place) {
+            edit(alloc, mesh, tag_of(place), Edit::Add(*p))?;
+        }
+    }
+    for (place, line) in edits.iter().enumerate() {
+        let tag = tag_of(points.len().saturating_add(place));
+        edit(alloc, mesh, tag, *line)?;
+    }
+    Ok(())
+}
+
+// The mesh of the points of the first list, the first four independent ones first, and of the edits of the second one,
+// which has none where it names buckets; no mesh where no four are.
 pub(crate) fn mesh_of(
     alloc: Global,
+    answer: &mut Answer,
     grid: Grid,
-    points: &str,
-    edits: &str,
+    lists: &str,
 ) -> Result<Option<Mesh>, AllocError> {
-    let points = points_of(alloc, points)?;
-    let Some(mut mesh) = mesh_of_four(alloc, grid, &points)? else {
-        return Ok(None);
-    };
+    let points: Vec<Point> = answer.all(list_at(lists, 0));
+    let edits: Vec<Edit> = answer.all(list_at(lists, 1));
     let Ok(four) = find_four(&points) else {
         return Ok(None);
     };
-    let mut tag: u32 = 0;
-    for (i, p) in points.iter().enumerate() {
-        if !four.contains(&i) {
-            edit(alloc, &mut mesh, tag, Edit::Add(*p))?;
-        }
-        tag = tag.saturating_add(1);
-    }
-    for line in &edits_of(alloc, edits)? {
-        edit(alloc, &mut mesh, tag, *line)?;
-        tag = tag.saturating_add(1);
-    }
+    let Some(mut mesh) = mesh_of_four(alloc, grid, &points)? else {
+        return Ok(None);
+    };
+    edit_all(alloc, &mut mesh, &four, &points, &edits)?;
     Ok(Some(mesh))
 }
 
@@ -81,34 +98,33 @@ fn letter(reply: Reply) -> char {
 }
 
 // The history by tags, each with its reply, and behind it the replies that a set of points gives.
-fn put_history(alloc: Global, text: &mut String, mesh: &Mesh) -> Result<(), AllocError> {
+fn put_history(alloc: Global, answer: &mut Answer, history: &[Entry]) -> Result<(), AllocError> {
+    for entry in history {
+        write!(answer, " {}{}", entry.tag, letter(entry.reply));
+    }
+    answer.put(" by sets ");
     let mut set = PointSet::new(alloc);
-    let mut replies = String::new(alloc);
-    for entry in &history(alloc, mesh)? {
-        write!(text, " {}{}", entry.tag, letter(entry.reply))?;
-        let reply = set.reply_of(entry.edit);
-        replies.push(letter(reply))?;
+    for entry in history {
+        answer.put(letter(set.reply_of(entry.edit)));
         set.after(entry.edit)?;
     }
-    text.push_str(" by sets ")?;
-    text.push_str(&replies)
+    Ok(())
 }
 
-/// The answer to a case of a mesh.
+/// Answers a case of a mesh.
 ///
 /// # Errors
 /// Want of memory.
-pub(crate) fn answer(alloc: Global, mesh: &Mesh) -> Result<String, AllocError> {
-    let mut text = String::new(alloc);
-    put_history(alloc, &mut text, mesh)?;
+pub(crate) fn put(alloc: Global, answer: &mut Answer, mesh: &Mesh) -> Result<(), AllocError> {
+    put_history(alloc, answer, &history(alloc, mesh)?)?;
     let left = points(alloc, mesh)?;
-    text.push_str("; points")?;
+    answer.put("; points");
     for p in &left {
-        put_point(&mut text, *p)?;
+        put_point(answer, *p);
     }
-    text.push_str("; cells")?;
-    put_cells(&mut text, &left, &complex(alloc, mesh)?)?;
-    Ok(text)
+    answer.put("; cells");
+    put_cells(answer, &left, &complex(alloc, mesh)?);
+    Ok(())
 }
 
 // Takes a bucket out, if it is in hand.
@@ -132,14 +148,13 @@ fn take_those(hold: &mut Hold, numbers: &[u64], among: bool)
 }
 
 // Leaves the buckets in hand that the words name.
-pub(crate) fn keep_only(alloc: Global, hold: &mut Hold, words: &str) -> Result<(), AllocError>
+pub(crate) fn keep_only(answer: &mut Answer, hold: &mut Hold, words: &str)
     ensures { (s : List ℕ) → Shows hold.old s → Shows hold.new s }
 {
     if words != "all" {
         match words.strip_prefix("but ") {
-            Some(others) => take_those(hold, &numbers_behind(alloc, others, 0)?, true),
-            None => take_those(hold, &numbers_behind(alloc, words, 0)?, false),
+            Some(others) => take_those(hold, &answer.all(others), true),
+            None => take_those(hold, &answer.all(words), false),
         }
     }
-    Ok(())
 }

@@ -3,48 +3,21 @@
 ghost use Rattle.std.specs.Prelude.{◌≡◌};
 ghost use Rattle.point_order.specs.Orientation.{is_flat};
 
-use crate::reading::{cell_of, list_at, point_at};
+use crate::reading::{Word, are_four, at, list_at};
+use crate::telling::Answer;
 use exact_orient::{collinear, orient};
 use exact_sphere::sphere;
 use point_order::{Cell, Point};
 use sphere_ties::{conflict, outside};
-use std::alloc::{AllocError, Global};
 
-// The first four points of a list of words.
-fn four_of(words: &str) -> Option<(Point, Point, Point, Point)> {
-    Some((
-        point_at(words, 0)?,
-        point_at(words, 1)?,
-        point_at(words, 2)?,
-        point_at(words, 3)?,
-    ))
-}
-
-fn number_of(asked: &str, words: &str) -> Option<i128> {
-    let (a, b, c, d) = four_of(words)?;
-    match asked {
-        "orient" => Some(i128::from(orient(a, b, c, d))),
-        _ => Some(sphere(a, b, c, d, point_at(words, 4)?)),
+/// Answers a case of the orientation of four points or of the sphere of five.
+pub(crate) fn number(answer: &mut Answer, words: &str) -> Option<()> {
+    match *answer.all::<Point>(words) {
+        [a, b, c, d] => answer.put(orient(a, b, c, d)),
+        [a, b, c, d, e] => answer.put(sphere(a, b, c, d, e)),
+        _ => return None,
     }
-}
-
-/// The answer to a case whose answer is a number.
-///
-/// # Errors
-/// Want of memory.
-pub(crate) fn number(alloc: Global, asked: &str, words: &str) -> Result<String, AllocError> {
-    match number_of(asked, words) {
-        Some(number) => format!(in alloc; "{number}"),
-        None => String::from_str(alloc, "no case"),
-    }
-}
-
-fn collinear_of(words: &str) -> Option<bool> {
-    Some(collinear(
-        point_at(words, 0)?,
-        point_at(words, 1)?,
-        point_at(words, 2)?,
-    ))
+    Some(())
 }
 
 // The four lie in one plane.
@@ -56,7 +29,7 @@ fn is_flat_four(a: Point, b: Point, c: Point, d: Point) -> bool
 
 // Whether the last is outside, where the four are independent and it is none of them.
 fn judged(a: Point, b: Point, c: Point, d: Point, e: Point) -> Option<bool> {
-    if is_flat_four(a, b, c, d) || a == b || a == c || a == d || b == c || b == d || c == d {
+    if is_flat_four(a, b, c, d) || !are_four(a, b, c, d) {
         None
     } else if e == a || e == b || e == c || e == d {
         None
@@ -65,9 +38,14 @@ fn judged(a: Point, b: Point, c: Point, d: Point, e: Point) -> Option<bool> {
     }
 }
 
-fn outside_of(words: &str) -> Option<bool> {
-    let (a, b, c, d) = four_of(words)?;
-    judged(a, b, c, d, point_at(words, 4)?)
+/// Answers a case of three points in a line or of a point outside the sphere of four others.
+pub(crate) fn truth(answer: &mut Answer, words: &str) -> Option<()> {
+    match *answer.all::<Point>(words) {
+        [a, b, c] => answer.put(collinear(a, b, c)),
+        [a, b, c, d, e] => answer.put(judged(a, b, c, d, e)?),
+        _ => return None,
+    }
+    Some(())
 }
 
 // Whether the point is in conflict with the cell, as the mate sees it, where that can be judged.
@@ -95,24 +73,10 @@ fn conflict_judged(cell: &Cell, mate: Point, p: Point) -> Option<bool> {
     }
 }
 
-fn conflict_of(lists: &str) -> Option<bool> {
-    let cell = cell_of(list_at(lists, 0))?;
+/// Answers a case of a conflict.
+pub(crate) fn in_conflict(answer: &mut Answer, lists: &str) -> Option<()> {
+    let cell = Cell::of(list_at(lists, 0))?;
     let last = list_at(lists, 1);
-    conflict_judged(&cell, point_at(last, 0)?, point_at(last, 1)?)
-}
-
-/// The answer to a case whose answer is yes or no.
-///
-/// # Errors
-/// Want of memory.
-pub(crate) fn truth(alloc: Global, asked: &str, lists: &str) -> Result<String, AllocError> {
-    let truth = match asked {
-        "collinear" => collinear_of(lists),
-        "outside" => outside_of(lists),
-        _ => conflict_of(lists),
-    };
-    match truth {
-        Some(truth) => format!(in alloc; "{truth}"),
-        None => String::from_str(alloc, "no case"),
-    }
+    answer.put(conflict_judged(&cell, at(last, 0)?, at(last, 1)?)?);
+    Some(())
 }

@@ -1,105 +1,100 @@
 //! Points, cells, edits and numbers in the lines of cases.
 
-use edit_history::Edit;
+ghost use Rattle.std.specs.Prelude.{IsTrue};
+ghost use Rattle.point_order.specs.Sets.{AreFour};
+
+use edit_history::{Edit, Reply};
 use point_order::{Cell, Point};
-use std::alloc::{AllocError, Global};
+
+/// What a word can tell of.
+pub(crate) trait Word: Sized {
+    fn of(word: &str) -> Option<Self>;
+}
+
+impl Word for u32 {
+    fn of(word: &str) -> Option<u32> {
+        word.parse::<u32>().ok()
+    }
+}
+
+impl Word for u64 {
+    fn of(word: &str) -> Option<u64> {
+        word.parse::<u64>().ok()
+    }
+}
+
+// A point is written `x,y,z`.
+impl Word for Point {
+    fn of(word: &str) -> Option<Point> {
+        let (x, y, z) = coordinates_of(word, ',')?;
+        Point::new(x, y, z).ok()
+    }
+}
+
+// An edit is a point behind `+` or `-`.
+impl Word for Edit {
+    fn of(word: &str) -> Option<Edit> {
+        match word.strip_prefix('+') {
+            Some(added) => Point::of(added).map(Edit::Add),
+            None => Point::of(word.strip_prefix('-')?).map(Edit::Take),
+        }
+    }
+}
+
+impl Word for Reply {
+    fn of(word: &str) -> Option<Reply> {
+        match word {
+            "Inserted" => Some(Reply::Inserted),
+            "Duplicate" => Some(Reply::Duplicate),
+            "Removed" => Some(Reply::Removed),
+            "Missing" => Some(Reply::Missing),
+            "Flat" => Some(Reply::Flat),
+            _ => None,
+        }
+    }
+}
+
+// A cell is its points: a Full one where there are four.
+impl Word for Cell {
+    fn of(words: &str) -> Option<Cell> {
+        let a = at(words, 0)?;
+        let b = at(words, 1)?;
+        let c = at(words, 2)?;
+        match at(words, 3) {
+            Some(d) if are_four(a, b, c, d) => Some(Cell::full(a, b, c, d)),
+            None if a != b && a != c && b != c => Some(Cell::hull(a, b, c)),
+            _ => None,
+        }
+    }
+}
+
+// Whether four points are distinct.
+pub(crate) fn are_four(a: Point, b: Point, c: Point, d: Point) -> bool
+    ensures { IsTrue result → AreFour a b c d }
+{
+    a != b && a != c && a != d && b != c && b != d && c != d
+}
+
+// A number at a place of a list with this mark between its words.
+fn coordinate_at(words: &str, mark: char, place: usize) -> Option<i64> {
+    words.split(mark).nth(place)?.parse::<i64>().ok()
+}
+
+// The first three numbers of a list with this mark between its words.
+pub(crate) fn coordinates_of(words: &str, mark: char) -> Option<(i64, i64, i64)> {
+    Some((
+        coordinate_at(words, mark, 0)?,
+        coordinate_at(words, mark, 1)?,
+        coordinate_at(words, mark, 2)?,
+    ))
+}
 
 // The list at a place of lists behind semicolons, without the blanks at its ends; an empty one where there are fewer.
 pub(crate) fn list_at(lists: &str, place: usize) -> &str {
     lists.split(';').nth(place).unwrap_or("").trim()
 }
 
-// The number at a place of a list of words.
-pub(crate) fn number_at(words: &str, place: usize) -> Option<u64> {
-    words.split_whitespace().nth(place)?.parse::<u64>().ok()
-}
-
-// The numbers of a list of words, but for so many at its front; what is no number is left out.
-pub(crate) fn numbers_behind(
-    alloc: Global,
-    words: &str,
-    front: usize,
-) -> Result<Vec<u64>, AllocError> {
-    let mut numbers = Vec::new(alloc);
-    for word in words.split_whitespace().skip(front) {
-        if let Ok(number) = word.parse::<u64>() {
-            numbers.push(number)?;
-        }
-    }
-    Ok(numbers)
-}
-
-// The point that is written `x,y,z`.
-fn point_of(word: &str) -> Option<Point> {
-    let mut parts = word.split(',');
-    let x = parts.next()?.parse::<i64>().ok()?;
-    let y = parts.next()?.parse::<i64>().ok()?;
-    let z = parts.next()?.parse::<i64>().ok()?;
-    Point::new(x, y, z).ok()
-}
-
-// The point at a place of a list of words.
-pub(crate) fn point_at(words: &str, place: usize) -> Option<Point> {
-    point_of(words.split_whitespace().nth(place)?)
-}
-
-// The points of a list of words; what is no point is left out.
-pub(crate) fn points_of(alloc: Global, words: &str) -> Result<Vec<Point>, AllocError> {
-    let mut points = Vec::new(alloc);
-    for word in words.split_whitespace() {
-        if let Some(point) = point_of(word) {
-            points.push(point)?;
-        }
-    }
-    Ok(points)
-}
-
-// The edit that is written as a point behind `+` or `-`.
-fn edit_of(word: &str) -> Option<Edit> {
-    match word.strip_prefix('+') {
-        Some(added) => point_of(added).map(Edit::Add),
-        None => point_of(word.strip_prefix('-')?).map(Edit::Take),
-    }
-}
-
-// The edits of a list of words; what is no edit is left out.
-pub(crate) fn edits_of(alloc: Global, words: &str) -> Result<Vec<Edit>, AllocError> {
-    let mut edits = Vec::new(alloc);
-    for word in words.split_whitespace() {
-        if let Some(edit) = edit_of(word) {
-            edits.push(edit)?;
-        }
-    }
-    Ok(edits)
-}
-
-// The Full cell of four points, where they are distinct.
-fn full_of(a: Point, b: Point, c: Point, d: Point) -> Option<Cell> {
-    if a != b && a != c && a != d && b != c && b != d && c != d {
-        Some(Cell::full(a, b, c, d))
-    } else {
-        None
-    }
-}
-
-// The Open cell of three points, where they are distinct.
-fn open_of(a: Point, b: Point, c: Point) -> Option<Cell> {
-    if a != b && a != c && b != c {
-        Some(Cell::hull(a, b, c))
-    } else {
-        None
-    }
-}
-
-// The cell of a list of words: a Full one where there are four points.
-pub(crate) fn cell_of(words: &str) -> Option<Cell> {
-    let (a, b, c) = (
-        point_at(words, 0)?,
-        point_at(words, 1)?,
-        point_at(words, 2)?,
-    );
-    match point_at(words, 3) {
-        Some(d) => full_of(a, b, c, d),
-        None => open_of(a, b, c),
-    }
+// What the word at a place of a list tells of.
+pub(crate) fn at<T: Word>(words: &str, place: usize) -> Option<T> {
+    T::of(words.split_whitespace().nth(place)?)
 }

@@ -7,8 +7,8 @@ ghost use Rattle.cell_store.specs.Grids.{bucket_of};
 ghost use Rattle.cell_store.specs.Shares.{Shows, ShowsSome};
 
 use crate::meshes::keep_only;
-use crate::reading::{list_at, point_at};
-use crate::telling::put_cells;
+use crate::reading::{at, list_at};
+use crate::telling::{Answer, put_cells};
 use cell_store::{Hold, Mesh};
 use one_mesh::points;
 use point_order::{Cell, Point};
@@ -16,9 +16,9 @@ use std::alloc::{AllocError, Global};
 use vertex_removal::{Refill, RefillTurn};
 
 // Cells in order, by the places of their points.
-fn put_sorted(text: &mut String, points: &[Point], mut cells: Vec<Cell>) -> Result<(), AllocError> {
+fn put_sorted(answer: &mut Answer, points: &[Point], mut cells: Vec<Cell>) {
     cells.sort_unstable();
-    put_cells(text, points, &cells)
+    put_cells(answer, points, &cells);
 }
 
 // Whether the point's bucket is in hand, and the point is there.
@@ -32,7 +32,7 @@ fn is_there(hold: &Hold, v: Point) -> bool
 // What is answered for a point over the buckets in hand.
 fn put_turn(
     alloc: Global,
-    text: &mut String,
+    answer: &mut Answer,
     hold: &Hold,
     points: &[Point],
     v: Point,
@@ -40,33 +40,41 @@ fn put_turn(
     requires { ShowsSome hold.now }
 {
     if !is_there(hold, v) {
-        return text.push_str("no point in hand");
+        answer.put("no point in hand");
+        return Ok(());
     }
     let mut refill = Refill::start(alloc, v)?;
     match refill.advance(alloc, hold)? {
         RefillTurn::Done(change) => {
-            text.push_str("gone")?;
-            put_sorted(text, points, change.gone)?;
-            text.push_str("; fresh")?;
-            put_sorted(text, points, change.fresh)
+            answer.put("gone");
+            put_sorted(answer, points, change.gone);
+            answer.put("; fresh");
+            put_sorted(answer, points, change.fresh);
         }
-        RefillTurn::Flat => text.push_str("flat"),
-        RefillTurn::Need(b) => { write!(text, "needs {b}") }
+        RefillTurn::Flat => answer.put("flat"),
+        RefillTurn::Need(b) => write!(answer, "needs {b}"),
     }
+    Ok(())
 }
 
-/// The answer to a case of a refill.
+/// Answers a case of a refill.
 ///
 /// # Errors
 /// Want of memory.
-pub(crate) fn answer(alloc: Global, mesh: Mesh, lists: &str) -> Result<String, AllocError> {
-    let Some(v) = point_at(list_at(lists, 2), 0) else {
-        return String::from_str(alloc, "no point");
-    };
+pub(crate) fn put(
+    alloc: Global,
+    answer: &mut Answer,
+    mesh: Mesh,
+    lists: &str,
+) -> Result<(), AllocError> {
     let points = points(alloc, &mesh)?;
     let mut hold = mesh.into_hold();
-    keep_only(alloc, &mut hold, list_at(lists, 1))?;
-    let mut text = String::new(alloc);
-    put_turn(alloc, &mut text, &hold, &points, v)?;
-    Ok(text)
+    keep_only(answer, &mut hold, list_at(lists, 1));
+    match at(list_at(lists, 2), 0) {
+        Some(v) => put_turn(alloc, answer, &hold, &points, v),
+        None => {
+            answer.put("no point");
+            Ok(())
+        }
+    }
 }

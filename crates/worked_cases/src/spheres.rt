@@ -1,35 +1,22 @@
 //! Smallest spheres of edges, triangles and cells.
 
-use crate::reading::{list_at, number_at, point_at, points_of};
+use crate::reading::{at, list_at};
+use crate::telling::Answer;
 use point_order::Point;
 use small_spheres::{
     cell_least, cell_within, edge_least, edge_within, inside_edge, inside_triangle, triangle_least,
     triangle_within,
 };
-use std::alloc::{AllocError, Global};
 
-// Whether the point is inside the smallest sphere of the edge or triangle of these points.
-fn inside_of(points: &[Point], e: Point) -> Option<bool> {
-    match *points {
-        [a, b] => Some(inside_edge(a, b, e)),
-        [a, b, c] => Some(inside_triangle(a, b, c, e)),
-        _ => None,
+/// Answers whether a point is inside the smallest sphere of an edge or a triangle.
+pub(crate) fn inside(answer: &mut Answer, lists: &str) -> Option<()> {
+    let e = at(list_at(lists, 1), 0)?;
+    match *answer.all::<Point>(list_at(lists, 0)) {
+        [a, b] => answer.put(inside_edge(a, b, e)),
+        [a, b, c] => answer.put(inside_triangle(a, b, c, e)),
+        _ => return None,
     }
-}
-
-/// The answer to a case of a point inside.
-///
-/// # Errors
-/// Want of memory.
-pub(crate) fn inside(alloc: Global, lists: &str) -> Result<String, AllocError> {
-    let points = points_of(alloc, list_at(lists, 0))?;
-    let Some(e) = point_at(list_at(lists, 1), 0) else {
-        return String::from_str(alloc, "no case");
-    };
-    match inside_of(&points, e) {
-        Some(truth) => format!(in alloc; "{truth}"),
-        None => String::from_str(alloc, "no case"),
-    }
+    Some(())
 }
 
 // Whether the smallest sphere of the edge, triangle or cell is within alpha, for a cell one below 2^30, and the least
@@ -45,17 +32,11 @@ fn within_of(points: &[Point], alpha: u64) -> Option<(bool, u64)> {
     }
 }
 
-/// The answer to a case of an alpha.
-///
-/// # Errors
-/// Want of memory.
-pub(crate) fn within(alloc: Global, lists: &str) -> Result<String, AllocError> {
-    let points = points_of(alloc, list_at(lists, 0))?;
-    let Some(alpha) = number_at(list_at(lists, 1), 0) else {
-        return String::from_str(alloc, "no case");
-    };
-    match within_of(&points, alpha) {
-        Some((truth, least)) => format!(in alloc; "{truth}, least {least}"),
-        None => String::from_str(alloc, "no case"),
-    }
+/// Answers a case of an alpha.
+pub(crate) fn within(answer: &mut Answer, lists: &str) -> Option<()> {
+    let alpha = at(list_at(lists, 1), 0)?;
+    let points = answer.all::<Point>(list_at(lists, 0));
+    let (truth, least) = within_of(&points, alpha)?;
+    write!(answer, "{truth}, least {least}");
+    Some(())
 }

@@ -1,8 +1,8 @@
 use Rattle.edit_history.specs.Histories.{replay}
 use Rattle.cell_store.proofs.Cited.{stands_shows}
-use Rattle.worked_cases.proofs.refills.answer.Goals as goal
+use Rattle.worked_cases.proofs.walks.put.Goals as goal
 
-pub put_turn-requires : goal.put_turn-requires
-put_turn-requires c =
+pub put_walk-requires : goal.put_walk-requires
+put_walk-requires c =
     let h = c.args.mesh.history in
     (replay h, c.keep_only.ensures (replay h) (stands_shows c.into_hold-hold.result h c.into_hold-hold.ensures.stands))

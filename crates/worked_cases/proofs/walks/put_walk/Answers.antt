@@ -1,5 +1,5 @@
 use Rattle.cell_walk.proofs.Cited.{start_is_walk}
-use Rattle.worked_cases.proofs.walks.walked.Goals as goal
+use Rattle.worked_cases.proofs.walks.put_walk.Goals as goal
 
 pub put_steps-requires : goal.put_steps-requires
 put_steps-requires c =
