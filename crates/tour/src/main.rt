@@ -9,7 +9,7 @@ ghost use Rattle.point_order.specs.Sets.{IsAscending};
 
 mod threads;
 
-use alpha_complex::alpha;
+use alpha_complex::{Shape, alpha};
 use anyhow::{Result, bail};
 use cell_store::{Grid, Mesh};
 use edit_history::Edit;
@@ -70,7 +70,27 @@ fn are_ascending(points: &[Point]) -> bool
     }
 }
 
-// The alpha complex at a squared radius below 2^30, and how long its block in a report is.
+// The triangles of an alpha complex, each with its kind.
+fn show_triangles(rt: &impl Print, radius: u64, shape: &Shape) -> Result<()> {
+    println!(rt; "at {radius}: {} tetrahedra", shape.cell_count())?;
+    for index in 0..shape.triple_slots() {
+        if let Some((triple, kind)) = shape.triple(index) {
+            println!(rt; "at {radius}: {triple} {kind:?}")?;
+        }
+    }
+    Ok(())
+}
+
+// How long the block of an alpha complex in a report is.
+fn show_block(rt: &impl Print, alloc: Global, radius: u64, shape: &Shape) -> Result<()> {
+    if are_ascending(shape.points()) {
+        let block = shape_text(alloc, radius, shape)?;
+        println!(rt; "at {radius}: a block of {} bytes", block.len())?;
+    }
+    Ok(())
+}
+
+// The alpha complex at a squared radius below 2^30.
 fn show_shape(
     rt: &(impl Print + Threads + Sync),
     alloc: Global,
@@ -83,17 +103,8 @@ fn show_shape(
     let cells = complex(alloc, mesh)?;
     let faces = faces(rt, alloc, &cells)?;
     let shape = alpha(rt, alloc, &faces, radius)?;
-    println!(rt; "at {radius}: {} tetrahedra", shape.cell_count())?;
-    for index in 0..shape.triple_slots() {
-        if let Some((triple, kind)) = shape.triple(index) {
-            println!(rt; "at {radius}: {triple} {kind:?}")?;
-        }
-    }
-    if are_ascending(shape.points()) {
-        let block = shape_text(alloc, radius, &shape)?;
-        println!(rt; "at {radius}: a block of {} bytes", block.len())?;
-    }
-    Ok(())
+    show_triangles(rt, radius, &shape)?;
+    show_block(rt, alloc, radius, &shape)
 }
 
 // A cell that a new point would take away, found by a walk.
@@ -108,17 +119,22 @@ fn show_conflict(rt: &impl Print, mesh: &Mesh, p: Point) -> Result<()> {
     Ok(())
 }
 
+// Edits a mesh, and looks at it in between.
+fn edit_and_show(rt: &(impl Print + Threads + Sync), alloc: Global, mesh: &mut Mesh) -> Result<()> {
+    let corner = Point::new(20, 20, 20)?;
+    edit(rt, alloc, mesh, 4, Edit::Add(corner))?;
+    edit(rt, alloc, mesh, 5, Edit::Add(corner))?;
+    show_complex(rt, alloc, mesh)?;
+    show_shape(rt, alloc, mesh, 270)?;
+    show_shape(rt, alloc, mesh, 300)?;
+    show_conflict(rt, mesh, Point::new(1, 30, 30)?)?;
+    edit(rt, alloc, mesh, 6, Edit::Take(corner))?;
+    edit(rt, alloc, mesh, 7, Edit::Take(Point::new(0, 0, 0)?))
+}
+
 fn main(rt: HostRuntime) -> Result<()> {
     let alloc = rt.alloc();
     let mut mesh = first_mesh(alloc)?;
-    let corner = Point::new(20, 20, 20)?;
-    edit(&rt, alloc, &mut mesh, 4, Edit::Add(corner))?;
-    edit(&rt, alloc, &mut mesh, 5, Edit::Add(corner))?;
-    show_complex(&rt, alloc, &mesh)?;
-    show_shape(&rt, alloc, &mesh, 270)?;
-    show_shape(&rt, alloc, &mesh, 300)?;
-    show_conflict(&rt, &mesh, Point::new(1, 30, 30)?)?;
-    edit(&rt, alloc, &mut mesh, 6, Edit::Take(corner))?;
-    edit(&rt, alloc, &mut mesh, 7, Edit::Take(Point::new(0, 0, 0)?))?;
+    edit_and_show(&rt, alloc, &mut mesh)?;
     threads::edit_side_by_side(&rt, alloc, mesh)
 }

@@ -112,6 +112,22 @@ fn snapped(table: &MeshTable, alloc: Global, pass: &mut Pass) -> Result<Snapshot
     table.try_snapshot(alloc, pass)
 }
 
+// Takes a snapshot of the whole, and tells how much it has.
+fn show_snapshot(
+    rt: &impl Print,
+    alloc: Global,
+    table: &MeshTable,
+    pass: &mut Pass,
+) -> anyhow::Result<()>
+    requires { pass.old.table ≡ table.now }
+    ensures { IsStill pass.old pass.new }
+{
+    let snapshot = snapped(table, alloc, pass)?;
+    let (entries, cells) = (snapshot.history.len(), snapshot.complex.len());
+    println!(rt; "a snapshot has {entries} entries and {cells} cells")?;
+    Ok(())
+}
+
 /// Adds two cubes to the mesh by two threads side by side, and looks at the whole by a snapshot.
 pub fn edit_side_by_side<R: Threads + Sync + Print>(
     rt: &R,
@@ -124,11 +140,9 @@ pub fn edit_side_by_side<R: Threads + Sync + Print>(
     let (table, mut one) = MeshTable::open(alloc, mesh, 2, 100)?;
     let two = table.split(alloc, &mut one, 1, 50)?;
     let ((mut one, near), (two, far)) = add_cubes(rt, alloc, &table, one, two);
-    println!(rt; "{near} and {far} points were added side by side")?;
     table.join(&mut one, two);
-    let snapshot = snapped(&table, alloc, &mut one)?;
-    let (entries, cells) = (snapshot.history.len(), snapshot.complex.len());
-    println!(rt; "a snapshot has {entries} entries and {cells} cells")?;
+    println!(rt; "{near} and {far} points were added side by side")?;
+    show_snapshot(rt, alloc, &table, &mut one)?;
     let mesh = table.close(one);
     println!(rt; "the mesh has {} entries", mesh.count())?;
     Ok(())
