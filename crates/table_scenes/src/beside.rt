@@ -9,7 +9,8 @@ use crate::gates::{Pace, reaches};
 use crate::judging::is_right;
 use crate::orders::{shown, worked};
 use crate::passes::{ended, opened_two, parted};
-use crate::reading::{list_at, number_at, pairs_of, points_of};
+use crate::reading::{list_at, number_at};
+use crate::telling::Told;
 use cell_store::{Grid, Mesh};
 use edit_history::Entry;
 use edit_workers::List;
@@ -121,11 +122,11 @@ fn read_and_free(
 }
 
 // The lists of edits behind the first two lists of a scene.
-fn lists_of(alloc: Global, lists: &str) -> Result<Vec<List>, AllocError> {
+fn lists_of(alloc: Global, told: &mut Told, lists: &str) -> Result<Vec<List>, AllocError> {
     let mut all = Vec::new(alloc);
     for words in lists.split(';').skip(2) {
         all.push(List {
-            pairs: pairs_of(alloc, words)?,
+            pairs: told.all(words),
         })?;
     }
     Ok(all)
@@ -167,7 +168,7 @@ fn side_by_side<R: Threads + Sync>(
 }
 
 // Puts down how many snapshots were taken, and how many of them were right, and went on with the one before.
-fn put_shots(alloc: Global, text: &mut String, shots: &[Snapshot]) -> Result<(), AllocError> {
+fn put_shots(alloc: Global, told: &mut Told, shots: &[Snapshot]) -> Result<(), AllocError> {
     let (mut right, mut going_on) = (0u32, 0u32);
     let mut before: &[Entry] = &[];
     for shot in shots {
@@ -181,9 +182,10 @@ fn put_shots(alloc: Global, text: &mut String, shots: &[Snapshot]) -> Result<(),
     }
     let taken = shots.len();
     write!(
-        text,
+        told,
         " {taken} snapshots {right} right {going_on} going on;"
-    )
+    );
+    Ok(())
 }
 
 // Has the lists worked on beside a reader, to the end of the table: the mesh, how
@@ -207,21 +209,17 @@ fn write_and_read<R: Threads + Sync>(
 }
 
 // Puts down whether a mesh is right, and how many entries and edits left over there are.
-fn put_end(alloc: Global, text: &mut String, mesh: &Mesh, left: usize) -> Result<(), AllocError> {
-    let (history, complex) = (
-        one_mesh::history(alloc, mesh)?,
-        one_mesh::complex(alloc, mesh)?,
-    );
-    text.push_str(if is_right(alloc, &history, &complex)? {
-        " the end right"
-    } else {
-        " the end wrong"
-    })?;
+fn put_end(alloc: Global, told: &mut Told, mesh: &Mesh, left: usize) -> Result<(), AllocError> {
+    let history = one_mesh::history(alloc, mesh)?;
+    let complex = one_mesh::complex(alloc, mesh)?;
+    let is_right = is_right(alloc, &history, &complex)?;
     write!(
-        text,
-        " {} made or left over",
+        told,
+        " the end {} {} made or left over",
+        if is_right { "right" } else { "wrong" },
         history.len().saturating_add(left)
-    )
+    );
+    Ok(())
 }
 
 /// Plays a scene of a reader beside writers.
@@ -231,22 +229,24 @@ fn put_end(alloc: Global, text: &mut String, mesh: &Mesh, left: usize) -> Result
 pub(crate) fn play<R: Threads + Sync>(
     rt: &R,
     alloc: Global,
-    text: &mut String,
+    told: &mut Told,
     grid: Grid,
     lists: &str,
 ) -> Result<(), AllocError> {
-    let points = points_of(alloc, list_at(lists, 0))?;
+    let points = told.all(list_at(lists, 0));
     let count = number_at(list_at(lists, 1), 0);
-    let all = lists_of(alloc, lists)?;
+    let all = lists_of(alloc, told, lists)?;
     if all.is_empty() || all.len() > 63 {
-        return text.push_str("no lists");
+        told.put("no lists");
+        return Ok(());
     }
     let parts = all.len() as u32 + 1;
-    let two = opened_two(alloc, text, grid, &points, (parts, 1024), (1, 0))?;
+    let two = opened_two(alloc, told, grid, &points, (parts, 1024), (1, 0))?;
     let Some((table, pass, reader)) = two else {
-        return text.push_str("no four independent points");
+        told.put("no four independent points");
+        return Ok(());
     };
     let (mesh, left, shots) = write_and_read(rt, alloc, table, (pass, reader), &all, count)?;
-    put_shots(alloc, text, &shots)?;
-    put_end(alloc, text, &mesh, left)
+    put_shots(alloc, told, &shots)?;
+    put_end(alloc, told, &mesh, left)
 }

@@ -1,7 +1,8 @@
 //! Boards, and the events that are played on them.
 
 use crate::meshes::mesh_of;
-use crate::reading::{list_at, number_at, pair_of, points_of};
+use crate::reading::{Word, list_at, number_at, numbers_at};
+use crate::telling::Told;
 use cell_store::Grid;
 use claim_rule::{Board, Event, Played};
 use std::alloc::{AllocError, Global};
@@ -10,21 +11,23 @@ use std::alloc::{AllocError, Global};
 ///
 /// # Errors
 /// Want of memory.
-pub(crate) fn opened(alloc: Global, size: u32, lists: &str) -> Result<Option<Board>, AllocError> {
+pub(crate) fn opened(
+    alloc: Global,
+    told: &mut Told,
+    size: u32,
+    lists: &str,
+) -> Result<Option<Board>, AllocError> {
+    let (parts, allowance) = numbers_at(lists, 1);
     let Ok(grid) = Grid::new(size) else {
-        return Ok(None);
-    };
-    let points = points_of(alloc, list_at(lists, 0))?;
-    let parts = number_at(list_at(lists, 1), 0);
-    let allowance = number_at(list_at(lists, 1), 1);
-    let Some(mesh) = mesh_of(alloc, grid, &points)? else {
         return Ok(None);
     };
     if parts == 0 || parts > 64 || allowance > 1024 {
         return Ok(None);
     }
-    let board = Board::new(alloc, mesh, parts, u64::from(allowance))?;
-    Ok(Some(board))
+    match mesh_of(alloc, grid, &told.all(list_at(lists, 0)))? {
+        Some(mesh) => Ok(Some(Board::new(alloc, mesh, parts, u64::from(allowance))?)),
+        None => Ok(None),
+    }
 }
 
 // The event of a line.
@@ -34,7 +37,7 @@ fn event_of(line: &str) -> Option<Event> {
     match line.split_whitespace().next()? {
         "claim" => Some(Event::Claim(by, second)),
         "commit" => {
-            let (tag, edit) = pair_of(line.split_whitespace().nth(2)?)?;
+            let (tag, edit) = Word::of(line.split_whitespace().nth(2)?)?;
             Some(Event::Commit(by, tag, edit))
         }
         "release" => Some(Event::Release(by, second)),
@@ -46,21 +49,19 @@ fn event_of(line: &str) -> Option<Event> {
 }
 
 // The answer of an event, the ticket, and each word that is not 0 behind its bucket's number.
-fn put_played(text: &mut String, answer: Played, board: &Board) -> Result<(), AllocError> {
+fn put_played(told: &mut Told, answer: Played, board: &Board) {
     match answer {
-        Played::Done => text.push_str("done")?,
-        Played::Taken { word } => write!(text, "taken {word}")?,
-        Played::Short => text.push_str("short")?,
+        Played::Done => told.put("done"),
+        Played::Taken { word } => write!(told, "taken {word}"),
+        Played::Short => told.put("short"),
     }
-    let ticket = board.ticket();
-    write!(text, " {ticket}")?;
+    write!(told, " {}", board.ticket());
     for b in 0..board.grid().count() {
         let word = board.word(b);
         if word != 0 {
-            write!(text, " {b}:{word}")?;
+            write!(told, " {b}:{word}");
         }
     }
-    Ok(())
 }
 
 /// Plays the event of a line on the board, and puts down what it answers and what the board shows then.
@@ -69,15 +70,16 @@ fn put_played(text: &mut String, answer: Played, board: &Board) -> Result<(), Al
 /// Want of memory.
 pub(crate) fn play(
     alloc: Global,
-    text: &mut String,
+    told: &mut Told,
     board: &mut Board,
     line: &str,
 ) -> Result<(), AllocError> {
     match event_of(line) {
         Some(event) => {
             let answer = board.play(alloc, &event)?;
-            put_played(text, answer, board)
+            put_played(told, answer, board);
         }
-        None => text.push_str("no scene"),
+        None => told.put("no scene"),
     }
+    Ok(())
 }

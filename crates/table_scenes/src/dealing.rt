@@ -3,7 +3,8 @@
 ghost use Rattle.std.specs.Prelude.{◌≡◌, IfSome};
 ghost use Rattle.edit_workers.specs.Dealing.{AreOpening};
 
-use crate::reading::{list_at, pairs_of, points_of};
+use crate::reading::list_at;
+use crate::telling::Told;
 use edit_files::File;
 use edit_history::find_four;
 use edit_workers::deal;
@@ -25,18 +26,16 @@ fn four_of(file: &File) -> Option<[usize; 4]>
 /// Want of memory.
 pub(crate) fn play(
     alloc: Global,
-    text: &mut String,
+    told: &mut Told,
     workers: u32,
     lists: &str,
 ) -> Result<(), AllocError> {
-    let mut edits = Vec::new(alloc);
-    for (_, edit) in &pairs_of(alloc, list_at(lists, 1))? {
-        edits.push(*edit)?;
-    }
-    let points = points_of(alloc, list_at(lists, 0))?;
+    let points = told.all(list_at(lists, 0));
+    let edits = told.all(list_at(lists, 1));
     let radii = Vec::new(alloc);
     if workers == 0 || workers > 64 || points.len() > 1024 || edits.len() > 1024 {
-        return text.push_str("no such lists");
+        told.put("no such lists");
+        return Ok(());
     }
     let file = File {
         points,
@@ -44,15 +43,16 @@ pub(crate) fn play(
         radii,
     };
     let Some(four) = four_of(&file) else {
-        return text.push_str("no four independent points");
+        told.put("no four independent points");
+        return Ok(());
     };
     let lists = deal(alloc, &file, four, workers)?;
     for list in &lists.each {
-        text.push_str(" list")?;
+        told.put(" list");
         for (tag, _) in &list.pairs {
-            write!(text, " {tag}")?;
+            write!(told, " {tag}");
         }
-        text.push(';')?;
+        told.put(';');
     }
     Ok(())
 }

@@ -7,8 +7,8 @@ ghost use Rattle.table_scenes.specs.Two.{AreTwo};
 use crate::gates::{Flags, Keeper, awaits};
 use crate::orders::{edited, follow};
 use crate::passes::{ended, opened_two, put_mesh};
-use crate::reading::{list_at, number_at, pair_of, points_of};
-use crate::telling::put_edited;
+use crate::reading::{Word, list_at, number_at};
+use crate::telling::{Told, put_edited};
 use cell_store::{Grid, Mesh};
 use edit_history::Edit;
 use grid_claims::{MeshTable, Moment, Pass, Receipt, Refused};
@@ -57,18 +57,15 @@ fn free_follow(
     mut pass: Pass,
     orders: &str,
     flags: &Flags,
-) -> (Pass, Result<String, AllocError>)
+) -> (Pass, Told)
     requires { pass.table ≡ table.now }
     ensures { IsStill pass result.0 }
 {
     let _ = awaits(&flags.here);
-    let mut text = String::new(alloc);
-    let answer = follow(alloc, &mut text, table, &mut pass, orders);
+    let mut told = Told::new(alloc);
+    follow(alloc, &mut told, table, &mut pass, orders);
     flags.go.store(true, Ordering::SeqCst);
-    match answer {
-        Ok(()) => (pass, Ok(text)),
-        Err(why) => (pass, Err(why)),
-    }
+    (pass, told)
 }
 
 // An edit by one pass, which is kept, beside orders that another one does.
@@ -82,10 +79,7 @@ fn side_by_side<R: Threads + Sync>(
     orders: &str,
     flags: &Flags,
     moment: Moment,
-) -> (
-    (Pass, Result<Receipt, Refused>),
-    (Pass, Result<String, AllocError>),
-)
+) -> ((Pass, Result<Receipt, Refused>), (Pass, Told))
     requires kept { kept.table ≡ table.now }
     requires free { free.table ≡ table.now }
     ensures kept { IsStill kept result.0.0 }
@@ -98,7 +92,7 @@ fn side_by_side<R: Threads + Sync>(
             requires { kept.table ≡ table.now }
             ensures { IsStill kept result.0 }
         { kept_try(alloc, table, kept, tag, edit, flags, moment) },
-        || -> (Pass, Result<String, AllocError>)
+        || -> (Pass, Told)
             requires { free.table ≡ table.now }
             ensures { IsStill free result.0 }
         { free_follow(alloc, table, free, orders, flags) },
@@ -109,7 +103,7 @@ fn side_by_side<R: Threads + Sync>(
 #[derive(Drop)]
 struct Came {
     kept: Result<Receipt, Refused>,
-    free: Result<String, AllocError>,
+    free: Told,
 }
 
 // The same for the first pass or the other one, whichever is to be kept.
@@ -146,22 +140,22 @@ fn keep_one<R: Threads + Sync>(
 // Has the pass that was free do orders.
 fn follow_free(
     alloc: Global,
-    text: &mut String,
+    told: &mut Told,
     table: &MeshTable,
     zero: &mut Pass,
     one: &mut Pass,
     number: u32,
     orders: &str,
-) -> Result<(), AllocError>
+)
     requires first { zero.old.table ≡ table.now }
     requires other { one.old.table ≡ table.now }
     ensures first { IsStill zero.old zero.new }
     ensures other { IsStill one.old one.new }
 {
     if number == 0 {
-        follow(alloc, text, table, one, orders)
+        follow(alloc, told, table, one, orders);
     } else {
-        follow(alloc, text, table, zero, orders)
+        follow(alloc, told, table, zero, orders);
     }
 }
 
@@ -169,7 +163,7 @@ fn follow_free(
 fn keep_and_follow<R: Threads + Sync>(
     rt: &R,
     alloc: Global,
-    text: &mut String,
+    told: &mut Told,
     table: MeshTable,
     passes: (Pass, Pass),
     number: u32,
@@ -177,26 +171,24 @@ fn keep_and_follow<R: Threads + Sync>(
     moment: Moment,
     orders: &str,
     later: &str,
-) -> Result<Mesh, AllocError>
+) -> Mesh
     requires { AreTwo table passes.0 passes.1 passes.0.parts }
 {
     let flags = Flags::none();
     let (mut zero, mut one, came) = keep_one(
         rt, alloc, &table, passes, number, pair, orders, &flags, moment,
     );
-    put_came(text, &came, flags.seen.load(Ordering::SeqCst))?;
-    follow_free(alloc, text, &table, &mut zero, &mut one, number, later)?;
-    Ok(ended(table, zero, one))
+    put_came(told, came, flags.seen.load(Ordering::SeqCst));
+    follow_free(alloc, told, &table, &mut zero, &mut one, number, later);
+    ended(table, zero, one)
 }
 
 // Puts down what the free pass did meanwhile, and what the kept one answered.
-fn put_came(text: &mut String, came: &Came, seen: bool) -> Result<(), AllocError> {
-    match &came.free {
-        Ok(free) => text.push_str(free)?,
-        Err(_) => return Err(AllocError),
-    }
-    text.push_str(if seen { " kept" } else { " not kept" })?;
-    put_edited(text, &came.kept)
+fn put_came(told: &mut Told, came: Came, seen: bool) {
+    let Came { kept, free } = came;
+    told.put_told(free);
+    told.put(if seen { " kept" } else { " not kept" });
+    put_edited(told, &kept);
 }
 
 /// Plays a scene of a kept pass.
@@ -206,25 +198,27 @@ fn put_came(text: &mut String, came: &Came, seen: bool) -> Result<(), AllocError
 pub(crate) fn play<R: Threads + Sync>(
     rt: &R,
     alloc: Global,
-    text: &mut String,
+    told: &mut Told,
     grid: Grid,
     lists: &str,
 ) -> Result<(), AllocError> {
-    let points = points_of(alloc, list_at(lists, 0))?;
+    let points = told.all(list_at(lists, 0));
     let number = number_at(list_at(lists, 1), 0);
     let moment = moment_of(list_at(lists, 1).split_whitespace().nth(1).unwrap_or(""));
-    let (Some(moment), Some(pair)) = (moment, pair_of(list_at(lists, 2))) else {
-        return text.push_str("no such moment");
+    let (Some(moment), Some(pair)) = (moment, <(u32, Edit)>::of(list_at(lists, 2))) else {
+        told.put("no such moment");
+        return Ok(());
     };
-    let two = opened_two(alloc, text, grid, &points, (2, 16), (1, 8))?;
+    let two = opened_two(alloc, told, grid, &points, (2, 16), (1, 8))?;
     let Some((table, zero, one)) = two else {
-        return text.push_str("no four independent points");
+        told.put("no four independent points");
+        return Ok(());
     };
     let (orders, later) = (list_at(lists, 3), list_at(lists, 4));
     let mesh = keep_and_follow(
         rt,
         alloc,
-        text,
+        told,
         table,
         (zero, one),
         number,
@@ -232,6 +226,6 @@ pub(crate) fn play<R: Threads + Sync>(
         moment,
         orders,
         later,
-    )?;
-    put_mesh(alloc, text, &mesh, points.len())
+    );
+    put_mesh(alloc, told, &mesh, points.len())
 }

@@ -4,8 +4,8 @@
 //! A scene is what is played, a number, and lists of words behind semicolons. A point is written `x,y,z`, and an edit
 //! is its tag, `+` or `-`, and its point. Orders are edits, and `look`, `shot`, and `work`, which has all edits behind
 //! it done as a list. The mesh of a scene has its points, the first four independent ones first, each with its place
-//! for a tag. A line that begins with `#` is answered by itself. Threads wait for each other by gates, so that what is
-//! printed is the same whatever the schedule.
+//! for a tag. A line whose first word is `#` is answered by itself. Threads wait for each other by gates, so that what
+//! is printed is the same whatever the schedule.
 //!
 //! - `board SIZE; POINTS; PARTS ALLOWANCE`: a new board, on which the lines that follow are played: `claim N B`,
 //!   `commit N EDIT`, `release N B`, `look N`, `split N PARTS ALLOWANCE` and `join N M`, of the pass N. After each what it
@@ -46,63 +46,62 @@ use reading::number_at;
 use std::alloc::{AllocError, Global};
 use std::io;
 use std::thread::Threads;
+use telling::Told;
 
 // Plays a scene on a grid, and puts down what it comes to.
 fn play<R: Threads + Sync>(
     rt: &R,
     alloc: Global,
-    text: &mut String,
+    told: &mut Told,
     played: &str,
     grid: Grid,
     lists: &str,
 ) -> Result<(), AllocError> {
     match played {
-        "passes" => passes::play(alloc, text, grid, lists),
-        "kept" => keeping::play(rt, alloc, text, grid, lists),
-        "meet" => meeting::play(rt, alloc, text, grid, lists),
-        _ => beside::play(rt, alloc, text, grid, lists),
+        "passes" => passes::play(alloc, told, grid, lists),
+        "kept" => keeping::play(rt, alloc, told, grid, lists),
+        "meet" => meeting::play(rt, alloc, told, grid, lists),
+        _ => beside::play(rt, alloc, told, grid, lists),
     }
 }
 
-// What the scene in a line comes to, and the board on which later lines are played, if it opens one.
+// Plays the scene in a line, and puts down what it comes to. Later lines are played on the board, if it opens one.
 fn scene<R: Threads + Sync>(
     rt: &R,
     alloc: Global,
+    told: &mut Told,
     board: &mut Option<Board>,
     line: &str,
-) -> Result<String, AllocError> {
-    if line.starts_with('#') {
-        return String::from_str(alloc, line);
-    }
+) -> Result<(), AllocError> {
     let (played, rest) = line.split_once(' ').unwrap_or((line, ""));
     let (size, lists) = rest.split_once(';').unwrap_or((rest, ""));
     let size = number_at(size, 0);
-    let mut text = String::new(alloc);
     match played {
-        "run" => runs::play(rt, alloc, &mut text, rest)?,
-        "deal" => dealing::play(alloc, &mut text, size, lists)?,
+        "#" => told.put(line),
+        "run" => runs::play(rt, alloc, told, rest)?,
+        "deal" => dealing::play(alloc, told, size, lists)?,
         "board" => {
-            *board = boards::opened(alloc, size, lists)?;
-            text.push_str(if board.is_some() { "board" } else { "no board" })?;
+            *board = boards::opened(alloc, told, size, lists)?;
+            told.put(if board.is_some() { "board" } else { "no board" });
         }
         "passes" | "kept" | "meet" | "beside" => match Grid::new(size) {
-            Ok(grid) => play(rt, alloc, &mut text, played, grid, lists)?,
-            Err(_) => text.push_str("no grid")?,
+            Ok(grid) => play(rt, alloc, told, played, grid, lists)?,
+            Err(_) => told.put("no grid"),
         },
         _ => match board {
-            Some(board) => boards::play(alloc, &mut text, board, line)?,
-            None => text.push_str("no board")?,
+            Some(board) => boards::play(alloc, told, board, line)?,
+            None => told.put("no board"),
         },
     }
-    Ok(text)
+    Ok(())
 }
 
 fn main(rt: HostRuntime) -> io::Result<()> {
     let mut board = None;
     for line in rt.lines(rt.alloc()) {
-        let line = line?;
-        let text = scene(&rt, rt.alloc(), &mut board, line.as_str())?;
-        println!(rt; "{text}")?;
+        let mut told = Told::new(rt.alloc());
+        scene(&rt, rt.alloc(), &mut told, &mut board, line?.as_str())?;
+        println!(rt; "{}", told.whole()?)?;
     }
     Ok(())
 }

@@ -7,7 +7,8 @@ ghost use Rattle.edit_workers.specs.Dealing.{lists_of};
 use crate::gates::Meeting;
 use crate::meshes::mesh_of;
 use crate::passes::put_mesh;
-use crate::reading::{list_at, pairs_of, points_of};
+use crate::reading::list_at;
+use crate::telling::Told;
 use cell_store::{Grid, Mesh};
 use edit_history::Edit;
 use edit_workers::{List, Lists, run_edits};
@@ -57,23 +58,27 @@ fn run_two<G: Gate + Sync, R: Threads + Sync>(
 pub(crate) fn play<R: Threads + Sync>(
     rt: &R,
     alloc: Global,
-    text: &mut String,
+    told: &mut Told,
     grid: Grid,
     lists: &str,
 ) -> Result<(), AllocError> {
-    let points = points_of(alloc, list_at(lists, 0))?;
-    let pairs = pairs_of(alloc, list_at(lists, 1))?;
+    let points = told.all(list_at(lists, 0));
+    let pairs: Vec<(u32, Edit)> = told.all(list_at(lists, 1));
     let [one, two] = *pairs.as_slice() else {
-        return text.push_str("not two edits");
+        told.put("not two edits");
+        return Ok(());
     };
     if one.1.point().key() == two.1.point().key() {
-        return text.push_str("edits of one point");
+        told.put("edits of one point");
+        return Ok(());
     }
     let Some(mesh) = mesh_of(alloc, grid, &points)? else {
-        return text.push_str("no four independent points");
+        told.put("no four independent points");
+        return Ok(());
     };
     let meeting = Meeting::new();
     let mesh = run_two(rt, alloc, mesh, one, two, &meeting)?;
     let (zero, one) = meeting.who_saw();
-    write!(text, " {zero} {one} {} entries", mesh.count())
+    write!(told, " {zero} {one} {} entries", mesh.count());
+    Ok(())
 }

@@ -19,7 +19,7 @@ fn line_at(points: &[Point], i: usize) -> (u32, Point)
     (u32::try_from(i).unwrap_or(u32::MAX), points[i])
 }
 
-// The mesh of four points, which are those that `find_four` found.
+// The mesh of the first four independent points, if there are four.
 fn mesh_of_four(alloc: Global, grid: Grid, points: &[Point]) -> Result<Option<Mesh>, AllocError> {
     match find_four(points) {
         Ok(four) => {
@@ -42,10 +42,10 @@ pub(crate) fn mesh_of(
 ) -> Result<Option<Mesh>, AllocError>
     ensures { IfOk result (λ mesh. IfSome mesh (λ m. length m.history ≤ 1024)) }
 {
-    let Some(mut mesh) = mesh_of_four(alloc, grid, points)? else {
+    let Ok(four) = find_four(points) else {
         return Ok(None);
     };
-    let Ok(four) = find_four(points) else {
+    let Some(mut mesh) = mesh_of_four(alloc, grid, points)? else {
         return Ok(None);
     };
     let mut tag: u32 = 0;

@@ -3,8 +3,8 @@
 ghost use Rattle.std.specs.Prelude.{◌≡◌};
 ghost use Rattle.grid_claims.specs.Tries.{IsStill};
 
-use crate::reading::{pair_of, pairs_of};
-use crate::telling::{put_edited, put_shown};
+use crate::reading::Word;
+use crate::telling::{Told, put_edited, put_shown};
 use edit_history::Edit;
 use edit_workers::{Left, List, work};
 use grid_claims::{Gate, MeshTable, OpenGate, Pass, Receipt, Refused, Snapshot};
@@ -83,51 +83,34 @@ pub(crate) fn worked<G: Gate>(
 }
 
 // Has the edits of the words worked on, and puts down the tags of those that are left over.
-fn work_on(
-    alloc: Global,
-    text: &mut String,
-    table: &MeshTable,
-    pass: &mut Pass,
-    words: &str,
-) -> Result<(), AllocError>
+fn work_on(alloc: Global, told: &mut Told, table: &MeshTable, pass: &mut Pass, words: &str)
     requires { pass.old.table ≡ table.now }
     ensures { IsStill pass.old pass.new }
 {
-    let pairs = pairs_of(alloc, words)?;
-    let left = worked(alloc, table, pass, List { pairs }, &OpenGate)?;
-    text.push_str(" left over")?;
-    for (tag, _) in &left.pairs {
-        write!(text, " {tag}")?;
+    let pairs = told.all(words);
+    match worked(alloc, table, pass, List { pairs }, &OpenGate) {
+        Ok(left) => {
+            told.put(" left over");
+            for (tag, _) in &left.pairs {
+                write!(told, " {tag}");
+            }
+            told.put(';');
+        }
+        Err(_) => told.fail(),
     }
-    text.push(';')
 }
 
 // Does what one word says.
-fn follow_word(
-    alloc: Global,
-    text: &mut String,
-    table: &MeshTable,
-    pass: &mut Pass,
-    word: &str,
-) -> Result<(), AllocError>
+fn follow_word(alloc: Global, told: &mut Told, table: &MeshTable, pass: &mut Pass, word: &str)
     requires { pass.old.table ≡ table.now }
     ensures { IsStill pass.old pass.new }
 {
     match word {
-        "look" => {
-            let found = table.look(pass);
-            write!(text, " look {found};")
-        }
-        "shot" => {
-            let answer = shown(alloc, table, pass);
-            put_shown(alloc, text, &answer)
-        }
-        _ => match pair_of(word) {
-            Some(pair) => {
-                let answer = edited(alloc, table, pass, pair, &OpenGate);
-                put_edited(text, &answer)
-            }
-            None => text.push_str(" no order;"),
+        "look" => write!(told, " look {};", table.look(pass)),
+        "shot" => put_shown(alloc, told, &shown(alloc, table, pass)),
+        _ => match <(u32, Edit)>::of(word) {
+            Some(pair) => put_edited(told, &edited(alloc, table, pass, pair, &OpenGate)),
+            None => told.put(" no order;"),
         },
     }
 }
@@ -135,19 +118,19 @@ fn follow_word(
 // Does the orders, one by one, and puts down what each comes to.
 pub(crate) fn follow(
     alloc: Global,
-    text: &mut String,
+    told: &mut Told,
     table: &MeshTable,
     pass: &mut Pass,
     orders: &str,
-) -> Result<(), AllocError>
+)
     requires { pass.old.table ≡ table.now }
     ensures { IsStill pass.old pass.new }
 {
     if let Some(words) = orders.strip_prefix("work ") {
-        return work_on(alloc, text, table, pass, words);
+        work_on(alloc, told, table, pass, words);
+        return;
     }
     for word in orders.split_whitespace() {
-        follow_word(alloc, text, table, pass, word)?;
+        follow_word(alloc, told, table, pass, word);
     }
-    Ok(())
 }

@@ -6,8 +6,8 @@ ghost use Rattle.table_scenes.specs.Two.{AreTwo};
 
 use crate::meshes::mesh_of;
 use crate::orders::follow;
-use crate::reading::{list_at, number_at, points_of};
-use crate::telling::{put_entries, put_pass};
+use crate::reading::{list_at, numbers_at};
+use crate::telling::{Told, put_entries, put_pass};
 use cell_store::{Grid, Mesh};
 use grid_claims::{MeshTable, Pass};
 use point_order::Point;
@@ -75,7 +75,7 @@ pub(crate) fn parted(
 // A table, and its first pass, of which another one is split off. The first pass is told before the split.
 pub(crate) fn opened_two(
     alloc: Global,
-    text: &mut String,
+    told: &mut Told,
     grid: Grid,
     points: &[Point],
     of_all: (u32, u32),
@@ -89,7 +89,7 @@ pub(crate) fn opened_two(
     let Some((table, mut pass)) = opened(alloc, grid, points, parts, allowance)? else {
         return Ok(None);
     };
-    put_pass(text, &pass)?;
+    put_pass(told, &pass);
     let other = parted(alloc, &table, &mut pass, others, u64::from(given))?;
     Ok(Some((table, pass, other)))
 }
@@ -105,34 +105,35 @@ pub(crate) fn ended(table: MeshTable, mut pass: Pass, other: Pass) -> Mesh
 // Puts down what was made of a mesh behind its first entries.
 pub(crate) fn put_mesh(
     alloc: Global,
-    text: &mut String,
+    told: &mut Told,
     mesh: &Mesh,
     from: usize,
 ) -> Result<(), AllocError> {
     let history = one_mesh::history(alloc, mesh)?;
-    put_entries(text, &history, from)
+    put_entries(told, &history, from);
+    Ok(())
 }
 
 // Has the other pass do orders, and then both as one, to the end of the table.
 fn do_both(
     alloc: Global,
-    text: &mut String,
+    told: &mut Told,
     table: MeshTable,
     mut pass: Pass,
     mut other: Pass,
     orders: &str,
     later: &str,
-) -> Result<Mesh, AllocError>
+) -> Mesh
     requires { AreTwo table pass other pass.parts }
 {
-    put_pass(text, &pass)?;
-    put_pass(text, &other)?;
-    follow(alloc, text, &table, &mut other, orders)?;
-    put_pass(text, &other)?;
+    put_pass(told, &pass);
+    put_pass(told, &other);
+    follow(alloc, told, &table, &mut other, orders);
+    put_pass(told, &other);
     table.join(&mut pass, other);
-    put_pass(text, &pass)?;
-    follow(alloc, text, &table, &mut pass, later)?;
-    Ok(table.close(pass))
+    put_pass(told, &pass);
+    follow(alloc, told, &table, &mut pass, later);
+    table.close(pass)
 }
 
 /// Plays a scene of passes.
@@ -141,41 +142,30 @@ fn do_both(
 /// Want of memory.
 pub(crate) fn play(
     alloc: Global,
-    text: &mut String,
+    told: &mut Told,
     grid: Grid,
     lists: &str,
 ) -> Result<(), AllocError> {
-    let points = points_of(alloc, list_at(lists, 0))?;
-    let (parts, allowance) = (
-        number_at(list_at(lists, 1), 0),
-        number_at(list_at(lists, 1), 1),
-    );
-    let (others, given) = (
-        number_at(list_at(lists, 2), 0),
-        number_at(list_at(lists, 2), 1),
-    );
+    let points = told.all(list_at(lists, 0));
+    let (parts, allowance) = numbers_at(lists, 1);
+    let (others, given) = numbers_at(lists, 2);
     if parts > 64 || allowance > MOST || others == 0 || others >= parts || given > allowance {
-        return text.push_str("no such passes");
+        told.put("no such passes");
+        return Ok(());
     }
     let two = opened_two(
         alloc,
-        text,
+        told,
         grid,
         &points,
         (parts, allowance),
         (others, given),
     )?;
     let Some((table, pass, other)) = two else {
-        return text.push_str("no four independent points");
+        told.put("no four independent points");
+        return Ok(());
     };
-    let mesh = do_both(
-        alloc,
-        text,
-        table,
-        pass,
-        other,
-        list_at(lists, 3),
-        list_at(lists, 4),
-    )?;
-    put_mesh(alloc, text, &mesh, points.len())
+    let (orders, later) = (list_at(lists, 3), list_at(lists, 4));
+    let mesh = do_both(alloc, told, table, pass, other, orders, later);
+    put_mesh(alloc, told, &mesh, points.len())
 }

@@ -2,59 +2,69 @@
 
 use edit_history::Edit;
 use point_order::Point;
-use std::alloc::{AllocError, Global};
 
-// The point that is written `x,y,z`.
-fn point_of(word: &str) -> Option<Point> {
-    let mut parts = word.split(',');
-    let x = parts.next()?.parse::<i64>().ok()?;
-    let y = parts.next()?.parse::<i64>().ok()?;
-    let z = parts.next()?.parse::<i64>().ok()?;
-    Point::new(x, y, z).ok()
+/// What a word can tell of.
+pub(crate) trait Word: Sized {
+    fn of(word: &str) -> Option<Self>;
 }
 
-// The points of a list of words; what is no point is left out.
-pub(crate) fn points_of(alloc: Global, words: &str) -> Result<Vec<Point>, AllocError> {
-    let mut points = Vec::new(alloc);
-    for word in words.split_whitespace() {
-        if let Some(point) = point_of(word) {
-            points.push(point)?;
-        }
-    }
-    Ok(points)
-}
-
-// The edit that is written as a tag, `+` or `-`, and a point.
-pub(crate) fn pair_of(word: &str) -> Option<(u32, Edit)> {
-    match word.split_once('+') {
-        Some((tag, added)) => Some((tag.parse::<u32>().ok()?, Edit::Add(point_of(added)?))),
-        None => {
-            let (tag, taken) = word.split_once('-')?;
-            Some((tag.parse::<u32>().ok()?, Edit::Take(point_of(taken)?)))
-        }
+impl Word for u64 {
+    fn of(word: &str) -> Option<u64> {
+        word.parse::<u64>().ok()
     }
 }
 
-// The edits of a list of words; what is no edit is left out.
-pub(crate) fn pairs_of(alloc: Global, words: &str) -> Result<Vec<(u32, Edit)>, AllocError> {
-    let mut pairs = Vec::new(alloc);
-    for word in words.split_whitespace() {
-        if let Some(pair) = pair_of(word) {
-            pairs.push(pair)?;
-        }
+// A number at a place of numbers with commas between them.
+fn coordinate_at(word: &str, place: usize) -> Option<i64> {
+    word.split(',').nth(place)?.parse::<i64>().ok()
+}
+
+// A point is written `x,y,z`.
+impl Word for Point {
+    fn of(word: &str) -> Option<Point> {
+        let x = coordinate_at(word, 0)?;
+        let y = coordinate_at(word, 1)?;
+        let z = coordinate_at(word, 2)?;
+        Point::new(x, y, z).ok()
     }
-    Ok(pairs)
+}
+
+// An edit is written as its tag, `+` or `-`, and its point.
+impl Word for (u32, Edit) {
+    fn of(word: &str) -> Option<(u32, Edit)> {
+        let is_added = word.contains('+');
+        let (tag, point) = word.split_once(if is_added { '+' } else { '-' })?;
+        let point = Point::of(point)?;
+        let edit = if is_added {
+            Edit::Add(point)
+        } else {
+            Edit::Take(point)
+        };
+        Some((tag.parse::<u32>().ok()?, edit))
+    }
+}
+
+// The same without its tag.
+impl Word for Edit {
+    fn of(word: &str) -> Option<Edit> {
+        let (_, edit) = <(u32, Edit)>::of(word)?;
+        Some(edit)
+    }
 }
 
 // The number at a place of a list of words; 0 where there is none.
 pub(crate) fn number_at(words: &str, place: usize) -> u32 {
-    match words.split_whitespace().nth(place) {
-        Some(word) => word.parse::<u32>().unwrap_or(0),
-        None => 0,
-    }
+    let word = words.split_whitespace().nth(place).unwrap_or("");
+    word.parse::<u32>().unwrap_or(0)
 }
 
 // The list at a place of lists behind semicolons; an empty one where there are fewer.
 pub(crate) fn list_at(lists: &str, place: usize) -> &str {
     lists.split(';').nth(place).unwrap_or("").trim()
+}
+
+// The two numbers of the list at a place of lists.
+pub(crate) fn numbers_at(lists: &str, place: usize) -> (u32, u32) {
+    let words = list_at(lists, place);
+    (number_at(words, 0), number_at(words, 1))
 }

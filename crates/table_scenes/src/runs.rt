@@ -1,6 +1,9 @@
 //! Runs of the top call over ends in memory.
 
-use crate::reading::list_at;
+ghost use Rattle.std.specs.Prelude.{◌<◌, IfSome};
+
+use crate::reading::{list_at, number_at};
+use crate::telling::Told;
 use byte_ends::{MemSink, MemSource};
 use delaunay_cli::{Run, run};
 use grid_claims::OpenGate;
@@ -10,72 +13,87 @@ use std::thread::Threads;
 // The most bytes that an end takes.
 const ROOM: usize = 100_000;
 
-// The numbers of a list of words; what is no number is left out.
-fn numbers_of(alloc: Global, words: &str) -> Result<Vec<u64>, AllocError> {
-    let mut numbers = Vec::new(alloc);
-    for word in words.split_whitespace() {
-        if let Ok(number) = word.parse::<u64>() {
-            numbers.push(number)?;
-        }
+// How many bytes an end gives or takes at once, and which of its calls fail, by the numbers that say so.
+fn end_of(numbers: &[u64]) -> Option<(usize, &[u64])>
+    ensures { IfSome result (λ end. 0 < end.0) }
+{
+    match numbers {
+        [step, fails @ ..] if *step > 0 => Some((*step as usize, fails)),
+        _ => None,
     }
-    Ok(numbers)
 }
 
 // The words of a command line, behind the program's name.
 fn words_of(alloc: Global, words: &str) -> Result<Vec<String>, AllocError> {
+    let line = format!(in alloc; "delaunay {words}")?;
     let mut all = Vec::new(alloc);
-    all.push(String::from_str(alloc, "delaunay")?)?;
-    for word in words.split_whitespace() {
+    for word in line.split_whitespace() {
         all.push(String::from_str(alloc, word)?)?;
     }
     Ok(all)
 }
 
-// Puts a part's bytes behind others, but for the blank at its front, its bars turned.
-fn put_part(bytes: &mut Vec<u8>, lists: &str, place: usize) -> Result<(), AllocError> {
+// Puts a part behind others, but for the blank at its front, its bars turned.
+fn put_part(input: &mut Told, lists: &str, place: usize) {
     let part = lists.split(';').nth(place).unwrap_or("");
-    for byte in part.strip_prefix(' ').unwrap_or(part).bytes() {
-        bytes.push(if byte == b'|' { b'\n' } else { byte })?;
+    for letter in part.strip_prefix(' ').unwrap_or(part).chars() {
+        input.put(if letter == '|' { '\n' } else { letter });
     }
-    Ok(())
 }
 
 // The input of a case: the front, the middle so many times, and the end.
-fn input_of(alloc: Global, lists: &str) -> Result<Vec<u8>, AllocError> {
-    let times = list_at(lists, 0).parse::<u32>().unwrap_or(0);
-    let mut bytes = Vec::new(alloc);
-    put_part(&mut bytes, lists, 2)?;
-    for _ in 0..times {
-        put_part(&mut bytes, lists, 3)?;
+fn input_of(alloc: Global, lists: &str) -> Result<String, AllocError> {
+    let mut input = Told::new(alloc);
+    put_part(&mut input, lists, 2);
+    for _ in 0..number_at(list_at(lists, 0), 0) {
+        put_part(&mut input, lists, 3);
     }
-    put_part(&mut bytes, lists, 4)?;
-    Ok(bytes)
+    put_part(&mut input, lists, 4);
+    input.whole()
 }
 
 // Bytes, with a bar for each line feed.
-fn put_bytes(text: &mut String, bytes: &[u8]) -> Result<(), AllocError> {
+fn put_bytes(told: &mut Told, bytes: &[u8]) {
     for byte in bytes {
-        text.push(if *byte == b'\n' {
-            '|'
-        } else {
-            char::from(*byte)
-        })?;
+        told.put(match byte {
+            b'\n' => '|',
+            other => char::from(*other),
+        });
     }
-    Ok(())
 }
 
 // The status, what was told and written, and what is kept.
-fn put_run(text: &mut String, run: &Run, told: &[u8], written: &[u8]) -> Result<(), AllocError> {
-    let status = run.status;
-    write!(text, "{status}; ")?;
-    put_bytes(text, told)?;
-    text.push_str("; ")?;
-    put_bytes(text, written)?;
-    text.push(';')?;
+fn put_run(told: &mut Told, run: &Run, error: &[u8], output: &[u8]) {
+    write!(told, "{}; ", run.status);
+    put_bytes(told, error);
+    told.put("; ");
+    put_bytes(told, output);
+    told.put(';');
     for entry in &run.kept {
-        let (tag, by) = (entry.tag, entry.by);
-        write!(text, " {tag}:{by}")?;
+        write!(told, " {}:{}", entry.tag, entry.by);
     }
+}
+
+// Runs the program over ends in memory, and puts down what came of it.
+fn run_over<R: Threads + Sync>(
+    rt: &R,
+    alloc: Global,
+    told: &mut Told,
+    words: &[String],
+    input: &str,
+    source: (usize, &[u64]),
+    output: (usize, &[u64]),
+    error: (usize, &[u64]),
+) -> Result<(), AllocError>
+    requires source { 0 < source.0 }
+    requires output { 0 < output.0 }
+    requires error { 0 < error.0 }
+{
+    let mut src = MemSource::new(input.as_bytes(), source.0, source.1);
+    let mut out = MemSink::new(alloc, ROOM, output.0, output.1)?;
+    let mut err = MemSink::new(alloc, ROOM, error.0, error.1)?;
+    let run = run(rt, alloc, words, &mut src, &mut out, &mut err, &OpenGate);
+    put_run(told, &run, err.bytes(), out.bytes());
     Ok(())
 }
 
@@ -86,27 +104,21 @@ fn put_run(text: &mut String, run: &Run, told: &[u8], written: &[u8]) -> Result<
 pub(crate) fn play<R: Threads + Sync>(
     rt: &R,
     alloc: Global,
-    text: &mut String,
+    told: &mut Told,
     lists: &str,
 ) -> Result<(), AllocError> {
+    let source = told.all(list_at(lists, 5));
+    let output = told.all(list_at(lists, 6));
+    let error = told.all(list_at(lists, 7));
+    let (Some(source), Some(output), Some(error)) = (
+        end_of(&source),
+        end_of(&output),
+        end_of(&error),
+    ) else {
+        told.put("no ends");
+        return Ok(());
+    };
     let words = words_of(alloc, list_at(lists, 1))?;
     let input = input_of(alloc, lists)?;
-    let source = numbers_of(alloc, list_at(lists, 5))?;
-    let output = numbers_of(alloc, list_at(lists, 6))?;
-    let error = numbers_of(alloc, list_at(lists, 7))?;
-    let ([given, reads @ ..], [taken, writes @ ..], [told, tells @ ..]) = (
-        source.as_slice(),
-        output.as_slice(),
-        error.as_slice(),
-    ) else {
-        return text.push_str("no ends");
-    };
-    if *given == 0 || *taken == 0 || *told == 0 {
-        return text.push_str("no bytes a call");
-    }
-    let mut src = MemSource::new(&input, *given as usize, reads);
-    let mut out = MemSink::new(alloc, ROOM, *taken as usize, writes)?;
-    let mut err = MemSink::new(alloc, ROOM, *told as usize, tells)?;
-    let run = run(rt, alloc, &words, &mut src, &mut out, &mut err, &OpenGate);
-    put_run(text, &run, err.bytes(), out.bytes())
+    run_over(rt, alloc, told, &words, &input, source, output, error)
 }
