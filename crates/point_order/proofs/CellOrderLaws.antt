@@ -10,6 +10,14 @@ use Rattle.list_laws.proofs.Cited.{same_list}
 use Rattle.point_order.specs.declared.cell.Cell.{Cell}
 use Rattle.point_order.specs.declared.cell.Cell.TheVariants.{Full, Open}
 use Rattle.point_order.specs.CellOrder.{cell_cmp}
+use Rattle.point_order.specs.contracts.cell.CellOrd.TheImpl as by_order
+
+-- it is what the derived order answers
+pub cmp_is : (c d : Cell) → cell_cmp c d ≡ by_order.ghosts.cmp c d
+cmp_is (Full q) (Full r) = refl
+cmp_is (Full q) (Open r) = refl
+cmp_is (Open q) (Full r) = refl
+cmp_is (Open q) (Open r) = refl
 
 -- cells that tie are one
 pub cell_same : (c d : Cell) → cell_cmp c d ≡ Equal → c ≡ d

@@ -1,4 +1,5 @@
 pub mod Keys
+pub mod Places
 pub mod SetLaws
 pub mod CellOrderLaws
 pub mod Written
@@ -8,6 +9,7 @@ pub mod Sizes
 pub mod Perturbation
 pub mod SignRule
 pub mod Steps
+pub mod Readings
 pub mod HeightLaws
 pub mod Zero
 pub mod Cited

@@ -15,7 +15,7 @@ use Rattle.point_order.specs.Orientation.{
 }
 
 -- equal numbers have equal determinants and squares
-same_minor : {p q r s k l m n : ℤ} → p ≡ k → q ≡ l → r ≡ m → s ≡ n → minor p q r s ≡ minor k l m n
+pub same_minor : {p q r s k l m n : ℤ} → p ≡ k → q ≡ l → r ≡ m → s ≡ n → minor p q r s ≡ minor k l m n
 same_minor e f g h = cc
 
 same_triple : {ux uy uz vx vy vz wx wy wz kx ky kz lx ly lz mx my mz : ℤ} → ux ≡ kx → uy ≡ ky → uz ≡ kz → vx ≡ lx

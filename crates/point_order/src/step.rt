@@ -53,10 +53,8 @@ impl Step {
         ensures value { result ≡ triple self.x self.y self.z v.x v.y v.z w.x w.y w.z }
         ensures bound { IsWithin greatest_orientation result }
     {
-        let x = minor_of(v.y, v.z, w.y, w.z);
-        let y = minor_of(v.z, v.x, w.z, w.x);
-        let z = minor_of(v.x, v.y, w.x, w.y);
-        dot(self.x, self.y, self.z, x, y, z)
+        let normal = v.cross(w);
+        dot(self.x, self.y, self.z, normal.x, normal.y, normal.z)
     }
 
     /// `self x v`, which is 0 where the two steps lie on one line.

@@ -7,16 +7,9 @@ use Rattle.list_laws.proofs.Cited.{arranged_same, deduped_same, deduped_sorted}
 use Rattle.point_order.specs.declared.cell.Cell.{Cell}
 use Rattle.point_order.specs.declared.cell.Cell.TheVariants.{Full, Open}
 use Rattle.point_order.specs.CellOrder.{cell_cmp}
-use Rattle.point_order.specs.contracts.cell.CellOrd.TheImpl as by_order
 use Rattle.point_order.specs.contracts.cell.CellPartialEq.TheImpl as by_equality
-use Rattle.point_order.proofs.CellOrderLaws.{cell_order, cell_same}
+use Rattle.point_order.proofs.CellOrderLaws.{cell_order, cell_same, cmp_is}
 use Rattle.point_order.proofs.order.cells_in_order.Goals as goal
-
-cmp_is : (x y : Cell) → cell_cmp x y ≡ by_order.ghosts.cmp x y
-cmp_is (Full q) (Full r) = refl
-cmp_is (Full q) (Open r) = refl
-cmp_is (Open q) (Full r) = refl
-cmp_is (Open q) (Open r) = refl
 
 eq_is : (x y : Cell) → by_equality.ghosts.eq x y ≡ eq_by_cmp cell_cmp x y
 eq_is (Full q) (Full r) = sym (is_eq-slice_cmp q r)
