@@ -6,11 +6,12 @@ use Rattle.std.specs.Int.Signed.{lt_z}
 use Rattle.std.specs.Int.RustNames.{FitsSigned}
 use Rattle.std.proofs.lemmas.Int.{ints}
 use Rattle.whole_ring.specs.Bounds.{IsWithin}
-use Rattle.whole_ring.proofs.Cited.{read, read_as, same_difference, within_fits}
+use Rattle.whole_ring.proofs.Cited.{read, read_as, same_difference, within_as, within_fits, within_read}
 use Rattle.point_order.specs.Coordinates.{x_of, y_of, z_of, IsCoordinate, IsNoCoordinate}
 use Rattle.point_order.specs.Orientation.{x_from, y_from, z_from, minor}
 use Rattle.point_order.specs.Sizes.{greatest_difference, greatest_minor}
 use Rattle.point_order.proofs.Keys.{x_of_below, y_of_below, z_of_below}
+use Rattle.point_order.proofs.Sizes.{apart}
 use Rattle.point_order.proofs.Steps.{same_minor}
 
 -- a coordinate
@@ -32,6 +33,12 @@ pub z_read : (a b : ℕ) {u v : ℤ} → u ≡ pos (z_of b) → v ≡ pos (z_of 
     → to_z w64 (of_z w64 u) -ℤ to_z w64 (of_z w64 v) ≡ z_from a b
 unfolding z_from
 z_read a b e f = same_difference (coordinate_read e (z_of_below b)) (coordinate_read f (z_of_below a))
+
+-- which is small, whichever of the two comes first
+pub apart_read : {u v : ℤ} (m n : ℕ) → u ≡ pos n → n < 16384 → v ≡ pos m → m < 16384
+    → IsWithin greatest_difference (to_z w64 (of_z w64 (to_z w64 (of_z w64 u) -ℤ to_z w64 (of_z w64 v))))
+apart_read m n e h f k =
+    within_read w64 (within_as (same_difference (coordinate_read e h) (coordinate_read f k)) (apart m n k h)) (lit< tt)
 
 -- a coordinate of a step
 pub step_read : {x : ℤ} → IsWithin greatest_difference x → to_z w64 (of_z w64 x) ≡ x

@@ -8,7 +8,7 @@ use Rattle.point_order.specs.Orientation.{x_from, y_from, z_from, minor, triple,
 use Rattle.point_order.proofs.Keys.{x_of_below, y_of_below, z_of_below}
 
 -- two coordinates are less than 16384 apart
-apart : (m n : ℕ) → m < 16384 → n < 16384 → IsWithin 16383 (pos n -ℤ pos m)
+pub apart : (m n : ℕ) → m < 16384 → n < 16384 → IsWithin 16383 (pos n -ℤ pos m)
 apart m n h k = record { size = omega (arith, ints) }
 
 -- so a coordinate of a step is at most 16383
