@@ -10,25 +10,15 @@ returns-in_err-i-clause-solid c =
     let found = no_first c.args.absent c.args.points.now (sym c.in_err-i.ensures.place) in
     ap is_some c.from_residual.ensures ∙ found.solid
 
-pub returns-in_err-j-clause-four : goal.returns-in_err-j-clause-four
-returns-in_err-j-clause-four c =
+pub returns-in_err-j : goal.returns-in_err-j
+returns-in_err-j c =
     let absent = c.args.absent in
     let s = c.args.points.now in
     let i = c.in_ok-i.i in
     let first = sym c.in_ok-i.ensures.place in
     let a : c.index-points-i.result ≡ slice_index s i = read_is s i c.index-points-i.result c.in_ok-i.ensures.within c.index-points-i.is in
     let found = no_second absent s i first (second_found absent s i c.index-points-i.result None a c.in_err-j.ensures.place) in
-    c.from_residual-in_err-j.ensures ∙ sym (ap (option_map places) found.four)
-
-pub returns-in_err-j-clause-solid : goal.returns-in_err-j-clause-solid
-returns-in_err-j-clause-solid c =
-    let absent = c.args.absent in
-    let s = c.args.points.now in
-    let i = c.in_ok-i.i in
-    let first = sym c.in_ok-i.ensures.place in
-    let a : c.index-points-i.result ≡ slice_index s i = read_is s i c.index-points-i.result c.in_ok-i.ensures.within c.index-points-i.is in
-    let found = no_second absent s i first (second_found absent s i c.index-points-i.result None a c.in_err-j.ensures.place) in
-    ap is_some c.from_residual-in_err-j.ensures ∙ found.solid
+    record { four = c.from_residual-in_err-j.ensures ∙ sym (ap (option_map places) found.four); solid = ap is_some c.from_residual-in_err-j.ensures ∙ found.solid }
 
 pub prove_ne-unreachable-requires : goal.prove_ne-unreachable-requires
 prove_ne-unreachable-requires c =
@@ -45,8 +35,8 @@ prove_ne-unreachable-requires c =
     let key_b : IsKey (slice_index s j) = subst IsKey b c.key-2.ensures.bound in
     distinct absent s i first m second key_a key_b (sym a ∙ sym c.key.ensures.value ∙ c.if-prove_ne.true ∙ c.key-2.ensures.value ∙ b)
 
-pub returns-in_err-k-clause-four : goal.returns-in_err-k-clause-four
-returns-in_err-k-clause-four c =
+pub returns-in_err-k : goal.returns-in_err-k
+returns-in_err-k c =
     let absent = c.args.absent in
     let s = c.args.points.now in
     let i = c.in_ok-i.i in
@@ -59,26 +49,10 @@ returns-in_err-k-clause-four c =
     let key_a : IsKey (slice_index s i) = subst IsKey a c.key.ensures.bound in
     let key_b : IsKey (slice_index s j) = subst IsKey b c.key-2.ensures.bound in
     let found = no_third absent s i first m second key_a key_b (third_found absent s i j c.index-points-i.result c.index-points-j.result None a b c.in_err-k.ensures.place) in
-    c.from_residual-in_err-k.ensures ∙ sym (ap (option_map places) found.four)
+    record { four = c.from_residual-in_err-k.ensures ∙ sym (ap (option_map places) found.four); solid = ap is_some c.from_residual-in_err-k.ensures ∙ found.solid }
 
-pub returns-in_err-k-clause-solid : goal.returns-in_err-k-clause-solid
-returns-in_err-k-clause-solid c =
-    let absent = c.args.absent in
-    let s = c.args.points.now in
-    let i = c.in_ok-i.i in
-    let first = sym c.in_ok-i.ensures.place in
-    let a : c.index-points-i.result ≡ slice_index s i = read_is s i c.index-points-i.result c.in_ok-i.ensures.within c.index-points-i.is in
-    let m = c.in_ok-j.field-0 in
-    let second = second_found absent s i c.index-points-i.result (Some m) a c.in_ok-j.ensures.place in
-    let j = i + 1 + m in
-    let b : c.index-points-j.result ≡ slice_index s j = read_is s j c.index-points-j.result (omega (arith, c.in_ok-j.ensures.within)) c.index-points-j.is in
-    let key_a : IsKey (slice_index s i) = subst IsKey a c.key.ensures.bound in
-    let key_b : IsKey (slice_index s j) = subst IsKey b c.key-2.ensures.bound in
-    let found = no_third absent s i first m second key_a key_b (third_found absent s i j c.index-points-i.result c.index-points-j.result None a b c.in_err-k.ensures.place) in
-    ap is_some c.from_residual-in_err-k.ensures ∙ found.solid
-
-pub returns-in_err-l-clause-four : goal.returns-in_err-l-clause-four
-returns-in_err-l-clause-four c =
+pub returns-in_err-l : goal.returns-in_err-l
+returns-in_err-l c =
     let absent = c.args.absent in
     let s = c.args.points.now in
     let i = c.in_ok-i.i in
@@ -95,30 +69,10 @@ returns-in_err-l-clause-four c =
     let k = j + 1 + n in
     let d : c.index-points-k.result ≡ slice_index s k = read_is s k c.index-points-k.result (omega (arith, c.in_ok-k.ensures.within)) c.index-points-k.is in
     let found = at_fourth absent s i first m second key_a key_b n third None (fourth_found absent s i j k c.index-points-i.result c.index-points-j.result c.index-points-k.result None a b d c.in_err-l.ensures.place) in
-    c.from_residual-in_err-l.ensures ∙ sym (ap (option_map places) found.four)
+    record { four = c.from_residual-in_err-l.ensures ∙ sym (ap (option_map places) found.four); solid = ap is_some c.from_residual-in_err-l.ensures ∙ found.solid }
 
-pub returns-in_err-l-clause-solid : goal.returns-in_err-l-clause-solid
-returns-in_err-l-clause-solid c =
-    let absent = c.args.absent in
-    let s = c.args.points.now in
-    let i = c.in_ok-i.i in
-    let first = sym c.in_ok-i.ensures.place in
-    let a : c.index-points-i.result ≡ slice_index s i = read_is s i c.index-points-i.result c.in_ok-i.ensures.within c.index-points-i.is in
-    let m = c.in_ok-j.field-0 in
-    let second = second_found absent s i c.index-points-i.result (Some m) a c.in_ok-j.ensures.place in
-    let j = i + 1 + m in
-    let b : c.index-points-j.result ≡ slice_index s j = read_is s j c.index-points-j.result (omega (arith, c.in_ok-j.ensures.within)) c.index-points-j.is in
-    let key_a : IsKey (slice_index s i) = subst IsKey a c.key.ensures.bound in
-    let key_b : IsKey (slice_index s j) = subst IsKey b c.key-2.ensures.bound in
-    let n = c.in_ok-k.field-0 in
-    let third = third_found absent s i j c.index-points-i.result c.index-points-j.result (Some n) a b c.in_ok-k.ensures.place in
-    let k = j + 1 + n in
-    let d : c.index-points-k.result ≡ slice_index s k = read_is s k c.index-points-k.result (omega (arith, c.in_ok-k.ensures.within)) c.index-points-k.is in
-    let found = at_fourth absent s i first m second key_a key_b n third None (fourth_found absent s i j k c.index-points-i.result c.index-points-j.result c.index-points-k.result None a b d c.in_err-l.ensures.place) in
-    ap is_some c.from_residual-in_err-l.ensures ∙ found.solid
-
-pub returns-clause-four : goal.returns-clause-four
-returns-clause-four c =
+pub returns : goal.returns
+returns c =
     let absent = c.args.absent in
     let s = c.args.points.now in
     let i = c.in_ok-i.i in
@@ -135,24 +89,4 @@ returns-clause-four c =
     let k = j + 1 + n in
     let d : c.index-points-k.result ≡ slice_index s k = read_is s k c.index-points-k.result (omega (arith, c.in_ok-k.ensures.within)) c.index-points-k.is in
     let found = at_fourth absent s i first m second key_a key_b n third (Some c.in_ok-l.field-0) (fourth_found absent s i j k c.index-points-i.result c.index-points-j.result c.index-points-k.result (Some c.in_ok-l.field-0) a b d c.in_ok-l.ensures.place) in
-    sym (ap (option_map places) found.four)
-
-pub returns-clause-solid : goal.returns-clause-solid
-returns-clause-solid c =
-    let absent = c.args.absent in
-    let s = c.args.points.now in
-    let i = c.in_ok-i.i in
-    let first = sym c.in_ok-i.ensures.place in
-    let a : c.index-points-i.result ≡ slice_index s i = read_is s i c.index-points-i.result c.in_ok-i.ensures.within c.index-points-i.is in
-    let m = c.in_ok-j.field-0 in
-    let second = second_found absent s i c.index-points-i.result (Some m) a c.in_ok-j.ensures.place in
-    let j = i + 1 + m in
-    let b : c.index-points-j.result ≡ slice_index s j = read_is s j c.index-points-j.result (omega (arith, c.in_ok-j.ensures.within)) c.index-points-j.is in
-    let key_a : IsKey (slice_index s i) = subst IsKey a c.key.ensures.bound in
-    let key_b : IsKey (slice_index s j) = subst IsKey b c.key-2.ensures.bound in
-    let n = c.in_ok-k.field-0 in
-    let third = third_found absent s i j c.index-points-i.result c.index-points-j.result (Some n) a b c.in_ok-k.ensures.place in
-    let k = j + 1 + n in
-    let d : c.index-points-k.result ≡ slice_index s k = read_is s k c.index-points-k.result (omega (arith, c.in_ok-k.ensures.within)) c.index-points-k.is in
-    let found = at_fourth absent s i first m second key_a key_b n third (Some c.in_ok-l.field-0) (fourth_found absent s i j k c.index-points-i.result c.index-points-j.result c.index-points-k.result (Some c.in_ok-l.field-0) a b d c.in_ok-l.ensures.place) in
-    found.solid
+    record { four = sym (ap (option_map places) found.four); solid = found.solid }
