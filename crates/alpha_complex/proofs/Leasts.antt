@@ -15,7 +15,12 @@ use Rattle.point_order.specs.Sets.{is_among}
 use Rattle.gabriel_faces.specs.Gabriel.{is_gabriel}
 use Rattle.gabriel_faces.specs.Links.{link_of}
 use Rattle.small_spheres.specs.Inside.{is_inside_edge, is_inside_triangle}
-use Rattle.alpha_complex.specs.Leasts.{IsLeastOf}
+use Rattle.face_list.specs.Seen.{FaceLists}
+use Rattle.alpha_complex.specs.declared.least.Part.{Part}
+use Rattle.alpha_complex.specs.declared.least.Part.TheVariants.{Points, Pairs, Triples}
+use Rattle.alpha_complex.specs.declared.numbers.FaceAlphas.{FaceAlphas}
+use Rattle.alpha_complex.specs.Judged.{is_admitted_pair, is_admitted_triple}
+use Rattle.alpha_complex.specs.Leasts.{AreAlphasAt, AreAlphasOf, AreAlphasOfFaces, IsLeastOf, face_count, is_admitted_point}
 
 -- ---- two numbers
 
@@ -160,3 +165,11 @@ pub placed : {X Y E : Type 0} (R : X → Y → Type 0) (d : X) (xs : List X) (n 
     IfOk r (λ v. AllZip R xs v.items)
 placed R d xs n (Ok v) e h = zip_places R d xs v.items (subst (λ (m : ℕ). AllZip (λ i y. R (get_or xs i d) y) (range_with_len 0 m) v.items) e h)
 placed R d xs n (Err f) e h = tt
+
+-- and so of the faces of a kind
+pub placed_faces :
+    {E : Type 0} (part : Part) (faces : FaceLists) (n : ℕ) (r : Result (Vec FaceAlphas Global) E) → n ≡ face_count part faces → IfOk r (λ v. AllZip (AreAlphasAt part faces) (range_with_len 0 n) v.items) →
+    IfOk r (λ v. AreAlphasOfFaces part faces v.items)
+placed_faces Points faces n r e h = placed (AreAlphasOf is_admitted_point) (0, []) faces.points n r e h
+placed_faces Pairs faces n r e h = placed (AreAlphasOf (is_admitted_pair faces.triples)) ([], []) faces.pairs n r e h
+placed_faces Triples faces n r e h = placed (AreAlphasOf is_admitted_triple) ([], []) faces.triples n r e h

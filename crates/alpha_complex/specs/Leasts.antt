@@ -9,6 +9,7 @@ use Rattle.std.specs.Prelude.{
   true,
   List,
   [],
+  length,
   map,
   slice_index_or,
   Option,
@@ -21,11 +22,14 @@ use Rattle.std.specs.List.Sorted.{IsStrictlySortedBy}
 use Rattle.std.specs.Ordering.{nat_cmp}
 use Rattle.std.specs.Cmp.Lexicographic.{slice_cmp}
 use Rattle.point_order.specs.declared.cell.Cell.{Cell}
+use Rattle.face_list.specs.Seen.{FaceLists}
 use Rattle.alpha_complex.specs.declared.shape.Kind.{Kind}
 use Rattle.alpha_complex.specs.declared.shape.Kind.TheVariants.{Singular, Regular, Interior}
 use Rattle.alpha_complex.specs.declared.numbers.FaceAlphas.{FaceAlphas}
 use Rattle.alpha_complex.specs.declared.numbers.Alphas.{Alphas}
 use Rattle.alpha_complex.specs.declared.least.OwnAlphas.{OwnAlphas}
+use Rattle.alpha_complex.specs.declared.least.Part.{Part}
+use Rattle.alpha_complex.specs.declared.least.Part.TheVariants.{Points, Pairs, Triples}
 use Rattle.alpha_complex.specs.Judged.{is_small_by, is_small_cell, is_admitted_triple, is_admitted_pair}
 
 -- an alpha passes the test exactly where the number is at most it
@@ -84,3 +88,21 @@ face_at faces i = slice_index_or faces i ([], [])
 -- and the point of an index
 abbrev pub point_at : List (ℕ × List Cell) → ℕ → ℕ × List Cell
 point_at points i = slice_index_or points i (0, [])
+
+-- how many faces of a kind there are
+abbrev pub face_count : Part → FaceLists → ℕ
+face_count Points faces = length faces.points
+face_count Pairs faces = length faces.pairs
+face_count Triples faces = length faces.triples
+
+-- the numbers are those of the face of a kind and an index
+abbrev pub AreAlphasAt : Part → FaceLists → ℕ → FaceAlphas → Type 0
+AreAlphasAt Points faces i a = AreAlphasOf is_admitted_point (point_at faces.points i) a
+AreAlphasAt Pairs faces i a = AreAlphasOf (is_admitted_pair faces.triples) (face_at faces.pairs i) a
+AreAlphasAt Triples faces i a = AreAlphasOf is_admitted_triple (face_at faces.triples i) a
+
+-- those of all faces of a kind
+abbrev pub AreAlphasOfFaces : Part → FaceLists → List FaceAlphas → Type 0
+AreAlphasOfFaces Points faces alphas = AreAlphas is_admitted_point faces.points alphas
+AreAlphasOfFaces Pairs faces alphas = AreAlphas (is_admitted_pair faces.triples) faces.pairs alphas
+AreAlphasOfFaces Triples faces alphas = AreAlphas is_admitted_triple faces.triples alphas

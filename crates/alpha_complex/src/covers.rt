@@ -8,14 +8,15 @@ ghost use Rattle.alpha_complex.specs.Judged.{covers, is_listed, is_listed_around
 ghost use Rattle.alpha_complex.specs.Leasts.{AreOwn, IsLeastOf};
 
 use crate::least::OwnAlphas;
-use crate::owns::{BEYOND, number_at};
+use crate::owns::{BEYOND, is_one_of, number_at};
 use point_order::{Facet, Pair, Tri};
 
 // Whether the triple has both points of the pair.
 fn contains(tri: &Tri, pair: &Pair) -> bool
     ensures { result ≡ contains_all tri.now pair.now }
 {
-    pair.points().iter().all(|p| tri.points().contains(p))
+    let (a, b) = pair.corners();
+    is_one_of(tri.points(), a) && is_one_of(tri.points(), b)
 }
 
 // The least alpha at which a triple that is listed is itself Gabriel and within alpha.

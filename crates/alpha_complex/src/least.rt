@@ -3,13 +3,15 @@
 ghost use Rattle.std.specs.Prelude.{◌≡◌, ◌<◌, ◌^◌, length, IfOk};
 ghost use Rattle.alpha_complex.specs.Judged.{is_small_by, is_small_cell, is_admitted_triple, is_admitted_pair};
 ghost use Rattle.alpha_complex.specs.Leasts.{
-  AreAlphas,
+  AreAlphasAt,
   AreAlphasOf,
+  AreAlphasOfFaces,
   AreLeastOf,
   AreOrdered,
   AreOwn,
   IsLeastOf,
   face_at,
+  face_count,
   is_admitted_point,
   point_at,
 };
@@ -24,6 +26,14 @@ use point_order::Cell;
 use rayon::prelude::*;
 use std::alloc::{AllocError, Global};
 use std::thread::Threads;
+
+/// A kind of faces.
+#[derive(Clone, Copy)]
+pub enum Part {
+    Points,
+    Pairs,
+    Triples,
+}
 
 /// The least alphas at which the cells and the triples of a complex are within alpha, the triples where they are
 /// Gabriel, each by itself.
@@ -143,64 +153,47 @@ fn alphas_of_pair(own: &OwnAlphas, index: usize) -> FaceAlphas
     }
 }
 
-/// The numbers of all points.
-pub fn alphas_of_points<R: Threads + Sync>(
-    rt: &R,
-    alloc: Global,
-    own: &OwnAlphas,
-) -> Result<Vec<FaceAlphas>, AllocError>
-    requires { AreOwn own.now }
-    ensures { IfOk result (λ v. AreAlphas is_admitted_point own.now.faces.now.points v.items) }
+// How many faces of a kind there are.
+fn count_of(faces: &Faces, part: Part) -> usize
+    ensures { result ≡ face_count part faces.now }
 {
-    of_each(
-        rt,
-        alloc,
-        own.faces.points().len(),
-        |index: usize| -> FaceAlphas
-            requires { AreOwn own.now × (index < length own.now.faces.now.points) }
-            ensures { AreAlphasOf is_admitted_point (point_at own.entry.now.faces.now.points index) result }
-        { alphas_of_point(own, index) },
-    )
+    match part {
+        Part::Points => faces.points().len(),
+        Part::Pairs => faces.pairs().len(),
+        Part::Triples => faces.triples().len(),
+    }
 }
 
-/// The numbers of all triples.
-pub fn alphas_of_triples<R: Threads + Sync>(
-    rt: &R,
-    alloc: Global,
-    own: &OwnAlphas,
-) -> Result<Vec<FaceAlphas>, AllocError>
-    requires { AreOwn own.now }
-    ensures { IfOk result (λ v. AreAlphas is_admitted_triple own.now.faces.now.triples v.items) }
+// The numbers of the face of a kind and an index.
+fn alphas_of_face(own: &OwnAlphas, part: Part, index: usize) -> FaceAlphas
+    requires own { AreOwn own.now }
+    requires index { index < face_count part own.now.faces.now }
+    ensures { AreAlphasAt part own.now.faces.now index result }
 {
-    of_each(
-        rt,
-        alloc,
-        own.faces.triples().len(),
-        |index: usize| -> FaceAlphas
-            requires { AreOwn own.now × (index < length own.now.faces.now.triples) }
-            ensures { AreAlphasOf is_admitted_triple (face_at own.entry.now.faces.now.triples index) result }
-        { alphas_of_triple(own, index) },
-    )
+    match part {
+        Part::Points => alphas_of_point(own, index),
+        Part::Pairs => alphas_of_pair(own, index),
+        Part::Triples => alphas_of_triple(own, index),
+    }
 }
 
-/// The numbers of all pairs.
-pub fn alphas_of_pairs<R: Threads + Sync>(
+/// The numbers of all faces of a kind.
+pub fn alphas_of_faces<R: Threads + Sync>(
     rt: &R,
     alloc: Global,
     own: &OwnAlphas,
+    part: Part,
 ) -> Result<Vec<FaceAlphas>, AllocError>
     requires { AreOwn own.now }
-    ensures { IfOk result (λ v. AreAlphas (is_admitted_pair own.now.faces.now.triples) own.now.faces.now.pairs
-        v.items) }
+    ensures { IfOk result (λ v. AreAlphasOfFaces part own.now.faces.now v.items) }
 {
     of_each(
         rt,
         alloc,
-        own.faces.pairs().len(),
+        count_of(own.faces, part),
         |index: usize| -> FaceAlphas
-            requires { AreOwn own.now × (index < length own.now.faces.now.pairs) }
-            ensures { AreAlphasOf (is_admitted_pair own.entry.now.faces.now.triples)
-                (face_at own.entry.now.faces.now.pairs index) result }
-        { alphas_of_pair(own, index) },
+            requires { AreOwn own.now × (index < face_count part own.now.faces.now) }
+            ensures { AreAlphasAt part own.entry.now.faces.now index result }
+        { alphas_of_face(own, part, index) },
     )
 }

@@ -38,6 +38,7 @@ mod rounds;
 pub mod shape;
 
 use face_list::Faces;
+use least::Part;
 pub use numbers::{Alphas, FaceAlphas};
 pub use shape::{Kind, Shape};
 use std::alloc::{AllocError, Global};
@@ -65,9 +66,9 @@ pub fn alphas<'a, 'b, R: Threads + Sync>(
     let own = least::own_alphas(rt, alloc, faces)?;
     Ok(Alphas {
         faces,
-        points: least::alphas_of_points(rt, alloc, &own)?,
-        pairs: least::alphas_of_pairs(rt, alloc, &own)?,
-        triples: least::alphas_of_triples(rt, alloc, &own)?,
+        points: least::alphas_of_faces(rt, alloc, &own, Part::Points)?,
+        pairs: least::alphas_of_faces(rt, alloc, &own, Part::Pairs)?,
+        triples: least::alphas_of_faces(rt, alloc, &own, Part::Triples)?,
         cells: own.cells,
     })
 }

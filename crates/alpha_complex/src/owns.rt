@@ -54,8 +54,8 @@ pub fn cell_least_of(cell: &Cell) -> u32
     }
 }
 
-// Whether the point is one of the face's.
-fn is_one_of(face: &[Point], p: Point) -> bool
+/// Whether the point is one of the face's.
+pub fn is_one_of(face: &[Point], p: Point) -> bool
     ensures { result ≡ is_among p face.now }
 {
     face.contains(&p)

@@ -10,8 +10,8 @@ pub returns-clause-told : goal.returns-clause-told
 returns-clause-told g c s h =
     let e = c.in_ok-own.ensures.faces in
     tells_faces s c.args.faces.now _ h refl (record {
-      points = rw e at c.in_ok-alphas_of_points.ensures;
-      pairs = rw e at c.in_ok-alphas_of_pairs.ensures;
-      triples = rw e at c.in_ok-alphas_of_triples.ensures;
+      points = rw e at c.in_ok-alphas_of_faces.ensures;
+      pairs = rw e at c.in_ok-alphas_of_faces-2.ensures;
+      triples = rw e at c.in_ok-alphas_of_faces-3.ensures;
       cells = rw e at c.in_ok-own.ensures.own.cells;
     })
