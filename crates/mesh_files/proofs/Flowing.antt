@@ -1,14 +1,11 @@
 -- Text on its way into a sink, a piece after another.
-use Rattle.std.proofs.Common.{◌≡◌, refl, ◌++◌, List, [], ◌∷◌, ℕ, zero, suc, ◌+◌, ◌<◌, ◌≤◌, length, get_or, drop, arith, sym, ap, subst, ◌∙◌, append_assoc, append-nil}
-use Rattle.std.specs.Prelude.{Result, Ok, Err, OnOk, OnErr, Option, codes, decimal}
+use Rattle.std.proofs.Common.{◌≡◌, refl, ◌++◌, List, [], ℕ, ◌+◌, ◌≤◌, arith, sym, ap, subst, ◌∙◌, append_assoc, append-nil}
+use Rattle.std.specs.Prelude.{Result, Ok, Err, OnOk, OnErr, Option}
 use Rattle.std.specs.Io.KnownBytes.{Appends}
 use Rattle.std.proofs.KnownBytes.{Appends-trans, Appends-nil}
 use Rattle.std.specs.Result.{IsErr, IsOk}
-use Rattle.std.proofs.lemmas.List.{at_drop_all}
 use Rattle.byte_ends.specs.Ends.{AppendsFront, HasCause, Rose}
 use Rattle.byte_ends.proofs.Cited.{AppendsFront_after}
-use Rattle.std.specs.List.{concat}
-use Rattle.mesh_files.specs.Lines.{block}
 use Rattle.mesh_files.specs.Pages.{Flows, FlowsInPart}
 
 -- ---- a piece and what waits before it
@@ -56,20 +53,20 @@ waits_after p m q x w n e = record {
 -- ---- pieces, one after another
 
 -- nothing is put
-pub nothing : (a : Option (List ℕ)) (p : List ℕ) → Flows a a p p []
-nothing a p = record { written = []; parts = append-nil p; appended = Appends-nil a }
+pub flows_nothing : (a : Option (List ℕ)) (p : List ℕ) → Flows a a p p []
+flows_nothing a p = record { written = []; parts = append-nil p; appended = Appends-nil a }
 
 -- a piece, and then another
-pub then : {a b c : Option (List ℕ)} {p q r x y : List ℕ} → Flows a b p q x → Flows b c q r y → Flows a c p r (x ++ y)
-then {a} {b} {c} {p} {q} {r} {x} {y} f g = record {
+pub flows_then : {a b c : Option (List ℕ)} {p q r x y : List ℕ} → Flows a b p q x → Flows b c q r y → Flows a c p r (x ++ y)
+flows_then {a} {b} {c} {p} {q} {r} {x} {y} f g = record {
   written = f.written ++ g.written;
   parts = sym (append_assoc p x y) ∙ ap (λ (l : List ℕ). l ++ y) f.parts ∙ append_assoc f.written q y ∙ ap (λ (l : List ℕ). f.written ++ l) g.parts ∙ sym (append_assoc f.written g.written r);
   appended = Appends-trans a b c f.written g.written f.appended g.appended;
 }
 
 -- a piece, and then a front of another
-pub fails : {a b c : Option (List ℕ)} {p q x y : List ℕ} → Flows a b p q x → FlowsInPart b c q y → FlowsInPart a c p (x ++ y)
-fails {a} {b} {c} {p} {q} {x} {y} f g = record {
+pub flows_fails : {a b c : Option (List ℕ)} {p q x y : List ℕ} → Flows a b p q x → FlowsInPart b c q y → FlowsInPart a c p (x ++ y)
+flows_fails {a} {b} {c} {p} {q} {x} {y} f g = record {
   written = f.written ++ g.written;
   rest = g.rest;
   parts = sym (append_assoc p x y) ∙ ap (λ (l : List ℕ). l ++ y) f.parts ∙ append_assoc f.written q y ∙ ap (λ (l : List ℕ). f.written ++ l) g.parts ∙ sym (append_assoc f.written g.written g.rest);
@@ -85,29 +82,7 @@ more {a} {b} {p} {x} y f = record {
   appended = f.appended;
 }
 
-pub more_two : {a b : Option (List ℕ)} {p x : List ℕ} (y z : List ℕ) → FlowsInPart a b p x → FlowsInPart a b p (x ++ y ++ z)
-more_two y z f = more z (more y f)
-
-pub more_three : {a b : Option (List ℕ)} {p x : List ℕ} (y z w : List ℕ) → FlowsInPart a b p x → FlowsInPart a b p (x ++ y ++ z ++ w)
-more_three y z w f = more w (more_two y z f)
-
-pub more_four : {a b : Option (List ℕ)} {p x : List ℕ} (y z w v : List ℕ) → FlowsInPart a b p x → FlowsInPart a b p (x ++ y ++ z ++ w ++ v)
-more_four y z w v f = more v (more_three y z w f)
-
--- the first line of a block, in part
-pub title_fails : {a b : Option (List ℕ)} {p : List ℕ} (title : List ℕ) (lines : List (List ℕ)) (n : ℕ) → n ≡ length lines →
-    FlowsInPart a b p (title ++ codes " " ++ decimal n ++ codes "\n") → FlowsInPart a b p (block title lines)
-title_fails {a} {b} {p} title lines n e f = more (concat lines) (subst (λ (k : ℕ). FlowsInPart a b p (title ++ codes " " ++ decimal k ++ codes "\n")) e f)
-
 -- ---- what a call answers
-
-pub then_ok : {T E : Type 0} {a b : Option (List ℕ)} {p q x : List ℕ} (c : Option (List ℕ)) (r y : List ℕ) (o : Result T E) → Flows a b p q x → OnOk o (Flows b c q r y) → OnOk o (Flows a c p r (x ++ y))
-then_ok c r y (Ok v) f g = then f g
-then_ok c r y (Err e) f g = tt
-
-pub fails_err : {T E : Type 0} {a b : Option (List ℕ)} {p q x : List ℕ} (c : Option (List ℕ)) (y : List ℕ) (o : Result T E) → Flows a b p q x → OnErr o (FlowsInPart b c q y) → OnErr o (FlowsInPart a c p (x ++ y))
-fails_err c y (Ok v) f g = tt
-fails_err c y (Err e) f g = fails f g
 
 -- what fails owes nothing of Ok
 pub not_ok : {T E : Type 0} (P : Type 0) (r : Result T E) → IsErr r → OnOk r P
@@ -119,7 +94,7 @@ pub caused : {T U E : Type 0} {a b : ℕ} {e : E} (r : Result T E) → HasCause 
 caused (Ok v) h = record { later = h.later; failed = tt }
 caused (Err e) h = record { later = h.later; failed = h.failed }
 
-rose_after : (a b c : ℕ) → a ≤ b → Rose b c → Rose a c
+pub rose_after : (a b c : ℕ) → a ≤ b → Rose b c → Rose a c
 rose_after a b c l h = omega arith
 
 -- where the count did not fall before the call
@@ -137,76 +112,6 @@ at_once a = omega arith
 
 pub up_to : (a b c : ℕ) → a ≤ b → b ≤ c → a ≤ c
 up_to a b c l m = omega (arith, l, m)
-
--- ---- a text that is put item by item
-
--- a front of the whole was put, and the rest is not yet
-pub record FlowsBut (old new : Option (List ℕ)) (before after rest whole : List ℕ) : Type 0 where
-  pub written : List ℕ
-  pub parts : before ++ whole ≡ written ++ (after ++ rest)
-  pub appended : Appends old new written
-
--- a front was put, and the rest is not yet
-pub leaves : {a b : Option (List ℕ)} {p q x : List ℕ} (rest : List ℕ) → Flows a b p q x → FlowsBut a b p q rest (x ++ rest)
-leaves {p = p} {q = q} {x = x} rest f = record {
-  written = f.written;
-  parts = sym (append_assoc p x rest) ∙ ap (λ (l : List ℕ). l ++ rest) f.parts ∙ append_assoc f.written q rest;
-  appended = f.appended;
-}
-
--- nothing was put yet
-pub leaves_all : (a : Option (List ℕ)) (p whole : List ℕ) → FlowsBut a a p p whole whole
-leaves_all a p whole = record { written = []; parts = refl; appended = Appends-nil a }
-
--- the first line of a block was put, and the others are not yet
-pub starts : {a b : Option (List ℕ)} {p q : List ℕ} (title : List ℕ) (lines : List (List ℕ)) (n : ℕ) → n ≡ length lines →
-    Flows a b p q (title ++ codes " " ++ decimal n ++ codes "\n") → FlowsBut a b p q (concat lines) (block title lines)
-starts {a} {b} {p} {q} title lines n e f = leaves (concat lines) (subst (λ (k : ℕ). Flows a b p q (title ++ codes " " ++ decimal k ++ codes "\n")) e f)
-
--- no item is left
-pub ends : {X : Type 0} {a b : Option (List ℕ)} {p q whole : List ℕ} (text : List X → List ℕ) → text [] ≡ [] → (xs : List X) (i : ℕ) → length xs ≤ i → FlowsBut a b p q (text (drop i xs)) whole → Flows a b p q whole
-ends {q = q} text none xs i l f = record {
-  written = f.written;
-  parts = f.parts ∙ ap (λ (t : List ℕ). f.written ++ (q ++ t)) (at_drop_all text xs i l ∙ none) ∙ ap (λ (t : List ℕ). f.written ++ t) (append-nil q);
-  appended = f.appended;
-}
-
--- a text of items: what it is of an item and those behind it
-abbrev pub IsOfItems : {X : Type 0} → (List X → List ℕ) → (X → List ℕ) → Type 0
-IsOfItems {X} text piece = (x : X) (xs : List X) → text (x ∷ xs) ≡ piece x ++ text xs
-
--- the rest is the next item, and what is behind it
-rest_is : {X : Type 0} (text : List X → List ℕ) (piece : X → List ℕ) → IsOfItems text piece → (xs : List X) (i : ℕ) (x : X) → i < length xs → x ≡ get_or xs i x →
-    text (drop i xs) ≡ piece x ++ text (drop (i + 1) xs)
-rest_is text piece of [] i x l e = absurd (omega (arith, l))
-rest_is text piece of (y ∷ xs) zero x l e = of y xs ∙ ap (λ v. piece v ++ text xs) (sym e)
-rest_is {X} text piece of (y ∷ xs) (suc i) x l e = rest_is text piece of xs i x (omega (arith, l)) e ∙ ap (λ (k : ℕ). piece x ++ text (drop k (y ∷ xs))) (up i)
-  where
-    up : (i : ℕ) → suc (i + 1) ≡ suc i + 1
-    up i = omega arith
-
--- one item more
-pub goes_on : {X : Type 0} {a b c : Option (List ℕ)} {p q r whole : List ℕ} (text : List X → List ℕ) (piece : X → List ℕ) → IsOfItems text piece → (xs : List X) (i : ℕ) (x : X) → i < length xs → x ≡ get_or xs i x →
-    FlowsBut a b p q (text (drop i xs)) whole → Flows b c q r (piece x) → FlowsBut a c p r (text (drop (i + 1) xs)) whole
-goes_on {X} {a} {b} {c} {p} {q} {r} {whole} text piece of xs i x l e f g =
-    let rest = text (drop (i + 1) xs) in
-    record {
-      written = f.written ++ g.written;
-      parts = f.parts ∙ ap (λ (t : List ℕ). f.written ++ (q ++ t)) (rest_is text piece of xs i x l e) ∙ ap (λ (t : List ℕ). f.written ++ t) (sym (append_assoc q (piece x) rest) ∙ ap (λ (t : List ℕ). t ++ rest) g.parts ∙ append_assoc g.written r rest) ∙ sym (append_assoc f.written g.written (r ++ rest));
-      appended = Appends-trans a b c f.written g.written f.appended g.appended;
-    }
-
--- a front of one item more
-pub breaks : {X : Type 0} {a b c : Option (List ℕ)} {p q whole : List ℕ} (text : List X → List ℕ) (piece : X → List ℕ) → IsOfItems text piece → (xs : List X) (i : ℕ) (x : X) → i < length xs → x ≡ get_or xs i x →
-    FlowsBut a b p q (text (drop i xs)) whole → FlowsInPart b c q (piece x) → FlowsInPart a c p whole
-breaks {X} {a} {b} {c} {p} {q} {whole} text piece of xs i x l e f g =
-    let rest = text (drop (i + 1) xs) in
-    record {
-      written = f.written ++ g.written;
-      rest = g.rest ++ rest;
-      parts = f.parts ∙ ap (λ (t : List ℕ). f.written ++ (q ++ t)) (rest_is text piece of xs i x l e) ∙ ap (λ (t : List ℕ). f.written ++ t) (sym (append_assoc q (piece x) rest) ∙ ap (λ (t : List ℕ). t ++ rest) g.parts ∙ append_assoc g.written g.rest rest) ∙ sym (append_assoc f.written g.written (g.rest ++ rest));
-      appended = Appends-trans a b c f.written g.written f.appended g.appended;
-    }
 
 -- ---- the last page
 

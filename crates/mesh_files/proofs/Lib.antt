@@ -1,4 +1,5 @@
 pub mod Places
 pub mod Flowing
+pub mod Sheets
 pub mod Cells
 pub mod Slots

@@ -3,11 +3,11 @@
 ghost use Rattle.std.specs.Prelude.{◌≡◌, OnOk, OnErr};
 ghost use Rattle.point_order.specs.Sets.{IsAscending};
 ghost use Rattle.byte_ends.specs.Ends.{HasCause};
-ghost use Rattle.mesh_files.specs.Pages.{Flows, FlowsInPart};
+ghost use Rattle.mesh_files.specs.Sheets.{Puts};
 ghost use Rattle.mesh_files.specs.Text.{index_of, indices_line};
 
 use crate::lines::{put_four, put_three};
-use crate::page::Page;
+use crate::sheet::Sheet;
 use byte_ends::{Failed, Sink};
 use point_order::{Point, Quad, Tri};
 
@@ -21,50 +21,34 @@ pub fn index(points: &[Point], point: Point) -> u64
 }
 
 // Puts the line of a Full cell.
-pub fn put_full_line<O: Sink>(
-    page: &mut Page,
-    out: &mut O,
-    points: &[Point],
-    quad: Quad,
-) -> Result<(), Failed>
+pub fn put_full_line<O: Sink>(sheet: &mut Sheet, out: &mut O, points: &[Point], quad: Quad)
     requires { IsAscending points.now }
-    ensures flows { OnOk result (Flows (O.holds out.old) (O.holds out.new) page.old page.new
-        (indices_line points.now quad)) }
-    ensures front { OnErr result (FlowsInPart (O.holds out.old) (O.holds out.new) page.old
-        (indices_line points.now quad)) }
-    ensures cause { HasCause (O.faults out.old) (O.faults out.new) result }
+    ensures { Puts (O.holds out.old) (O.holds out.new) (O.faults out.old) (O.faults out.new) sheet.old sheet.new
+        (indices_line points.now quad) }
 {
     let (a, b, c, d) = quad.corners();
     put_four(
-        page,
+        sheet,
         out,
         index(points, a),
         index(points, b),
         index(points, c),
         index(points, d),
-    )
+    );
 }
 
 // Puts the line of a triangle.
-pub fn put_hull_line<O: Sink>(
-    page: &mut Page,
-    out: &mut O,
-    points: &[Point],
-    tri: Tri,
-) -> Result<(), Failed>
+pub fn put_hull_line<O: Sink>(sheet: &mut Sheet, out: &mut O, points: &[Point], tri: Tri)
     requires { IsAscending points.now }
-    ensures flows { OnOk result (Flows (O.holds out.old) (O.holds out.new) page.old page.new
-        (indices_line points.now tri)) }
-    ensures front { OnErr result (FlowsInPart (O.holds out.old) (O.holds out.new) page.old
-        (indices_line points.now tri)) }
-    ensures cause { HasCause (O.faults out.old) (O.faults out.new) result }
+    ensures { Puts (O.holds out.old) (O.holds out.new) (O.faults out.old) (O.faults out.new) sheet.old sheet.new
+        (indices_line points.now tri) }
 {
     let (a, b, c) = tri.corners();
     put_three(
-        page,
+        sheet,
         out,
         index(points, a),
         index(points, b),
         index(points, c),
-    )
+    );
 }

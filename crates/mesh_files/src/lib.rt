@@ -14,6 +14,7 @@ mod lines;
 mod page;
 pub mod report;
 mod shapes;
+mod sheet;
 mod summary;
 mod whole;
 

@@ -6,7 +6,7 @@ ghost use Rattle.point_order.specs.Sets.{IsAscending};
 ghost use Rattle.std.specs.Io.KnownBytes.{Appends};
 ghost use Rattle.byte_ends.specs.Ends.{AppendsFront, HasCause, Rose};
 ghost use Rattle.mesh_files.specs.Lines.{block};
-ghost use Rattle.mesh_files.specs.Pages.{Flows, FlowsInPart};
+ghost use Rattle.mesh_files.specs.Sheets.{Puts};
 ghost use Rattle.mesh_files.specs.Report.{AreCounted, parts_of, shapes_seen};
 ghost use Rattle.mesh_files.specs.Text.{
   reply_line,
@@ -23,8 +23,8 @@ ghost use Rattle.mesh_files.specs.Text.{
 
 use crate::indices::{put_full_line, put_hull_line};
 use crate::lines::{put_number_and, put_three, put_title};
-use crate::page::Page;
 use crate::shapes::put_shapes;
+use crate::sheet::Sheet;
 use crate::whole::WholeText;
 use alpha_complex::Shape;
 use byte_ends::{Failed, Sink};
@@ -50,13 +50,12 @@ pub struct Report<'a, 'b> {
 }
 
 // Puts the line of a reply.
-fn put_reply<O: Sink>(page: &mut Page, out: &mut O, reply: Reply) -> Result<(), Failed>
-    ensures flows { OnOk result (Flows (O.holds out.old) (O.holds out.new) page.old page.new (reply_line reply)) }
-    ensures front { OnErr result (FlowsInPart (O.holds out.old) (O.holds out.new) page.old (reply_line reply)) }
-    ensures cause { HasCause (O.faults out.old) (O.faults out.new) result }
+fn put_reply<O: Sink>(sheet: &mut Sheet, out: &mut O, reply: Reply)
+    ensures { Puts (O.holds out.old) (O.holds out.new) (O.faults out.old) (O.faults out.new) sheet.old sheet.new
+        (reply_line reply) }
 {
-    page.put(out, word_of(reply).as_bytes())?;
-    page.put(out, b"\n")
+    sheet.put(out, word_of(reply).as_bytes());
+    sheet.put(out, b"\n");
 }
 
 pub(crate) fn word_of(reply: Reply) -> &'static str
@@ -72,48 +71,39 @@ pub(crate) fn word_of(reply: Reply) -> &'static str
 }
 
 // Puts the block of the replies.
-fn put_replies<O: Sink>(page: &mut Page, out: &mut O, replies: &[Reply]) -> Result<(), Failed>
-    ensures flows { OnOk result (Flows (O.holds out.old) (O.holds out.new) page.old page.new
-        (block (codes "replies") (map reply_line replies.now))) }
-    ensures front { OnErr result (FlowsInPart (O.holds out.old) (O.holds out.new) page.old
-        (block (codes "replies") (map reply_line replies.now))) }
-    ensures cause { HasCause (O.faults out.old) (O.faults out.new) result }
+fn put_replies<O: Sink>(sheet: &mut Sheet, out: &mut O, replies: &[Reply])
+    ensures { Puts (O.holds out.old) (O.holds out.new) (O.faults out.old) (O.faults out.new) sheet.old sheet.new
+        (block (codes "replies") (map reply_line replies.now)) }
 {
-    put_title(page, out, b"replies", replies.len())?;
+    put_title(sheet, out, b"replies", replies.len());
     for reply in replies {
-        put_reply(page, out, *reply)?;
+        put_reply(sheet, out, *reply);
     }
-    Ok(())
 }
 
 // Puts the line of a point.
-fn put_point<O: Sink>(page: &mut Page, out: &mut O, point: Point) -> Result<(), Failed>
-    ensures flows { OnOk result (Flows (O.holds out.old) (O.holds out.new) page.old page.new (point_line point)) }
-    ensures front { OnErr result (FlowsInPart (O.holds out.old) (O.holds out.new) page.old (point_line point)) }
-    ensures cause { HasCause (O.faults out.old) (O.faults out.new) result }
+fn put_point<O: Sink>(sheet: &mut Sheet, out: &mut O, point: Point)
+    ensures { Puts (O.holds out.old) (O.holds out.new) (O.faults out.old) (O.faults out.new) sheet.old sheet.new
+        (point_line point) }
 {
     put_three(
-        page,
+        sheet,
         out,
         point.x() as u64,
         point.y() as u64,
         point.z() as u64,
-    )
+    );
 }
 
 // Puts the block of the points.
-fn put_points<O: Sink>(page: &mut Page, out: &mut O, points: &[Point]) -> Result<(), Failed>
-    ensures flows { OnOk result (Flows (O.holds out.old) (O.holds out.new) page.old page.new
-        (block (codes "points") (map point_line points.now))) }
-    ensures front { OnErr result (FlowsInPart (O.holds out.old) (O.holds out.new) page.old
-        (block (codes "points") (map point_line points.now))) }
-    ensures cause { HasCause (O.faults out.old) (O.faults out.new) result }
+fn put_points<O: Sink>(sheet: &mut Sheet, out: &mut O, points: &[Point])
+    ensures { Puts (O.holds out.old) (O.holds out.new) (O.faults out.old) (O.faults out.new) sheet.old sheet.new
+        (block (codes "points") (map point_line points.now)) }
 {
-    put_title(page, out, b"points", points.len())?;
+    put_title(sheet, out, b"points", points.len());
     for point in points {
-        put_point(page, out, *point)?;
+        put_point(sheet, out, *point);
     }
-    Ok(())
 }
 
 // How many cells are Full.
@@ -143,121 +133,89 @@ pub(crate) fn hull_count(cells: &[Cell]) -> usize
 }
 
 // Puts the block of the Full cells.
-fn put_cells<O: Sink>(
-    page: &mut Page,
-    out: &mut O,
-    points: &[Point],
-    cells: &[Cell],
-) -> Result<(), Failed>
+fn put_cells<O: Sink>(sheet: &mut Sheet, out: &mut O, points: &[Point], cells: &[Cell])
     requires { IsAscending points.now }
-    ensures flows { OnOk result (Flows (O.holds out.old) (O.holds out.new) page.old page.new
-        (block (codes "cells") (map (indices_line points.now) (full_corners cells.now)))) }
-    ensures front { OnErr result (FlowsInPart (O.holds out.old) (O.holds out.new) page.old
-        (block (codes "cells") (map (indices_line points.now) (full_corners cells.now)))) }
-    ensures cause { HasCause (O.faults out.old) (O.faults out.new) result }
+    ensures { Puts (O.holds out.old) (O.holds out.new) (O.faults out.old) (O.faults out.new) sheet.old sheet.new
+        (block (codes "cells") (map (indices_line points.now) (full_corners cells.now))) }
 {
-    put_title(page, out, b"cells", full_count(cells))?;
+    put_title(sheet, out, b"cells", full_count(cells));
     for cell in cells {
         match *cell {
-            Cell::Full(quad) => put_full_line(page, out, points, quad)?,
+            Cell::Full(quad) => put_full_line(sheet, out, points, quad),
             Cell::Open(_) => {}
         }
     }
-    Ok(())
 }
 
 // Puts the block of the Open cells.
-fn put_hull<O: Sink>(
-    page: &mut Page,
-    out: &mut O,
-    points: &[Point],
-    cells: &[Cell],
-) -> Result<(), Failed>
+fn put_hull<O: Sink>(sheet: &mut Sheet, out: &mut O, points: &[Point], cells: &[Cell])
     requires { IsAscending points.now }
-    ensures flows { OnOk result (Flows (O.holds out.old) (O.holds out.new) page.old page.new
-        (block (codes "hull") (map (indices_line points.now) (hull_corners cells.now)))) }
-    ensures front { OnErr result (FlowsInPart (O.holds out.old) (O.holds out.new) page.old
-        (block (codes "hull") (map (indices_line points.now) (hull_corners cells.now)))) }
-    ensures cause { HasCause (O.faults out.old) (O.faults out.new) result }
+    ensures { Puts (O.holds out.old) (O.holds out.new) (O.faults out.old) (O.faults out.new) sheet.old sheet.new
+        (block (codes "hull") (map (indices_line points.now) (hull_corners cells.now))) }
 {
-    put_title(page, out, b"hull", hull_count(cells))?;
+    put_title(sheet, out, b"hull", hull_count(cells));
     for cell in cells {
         match *cell {
-            Cell::Open(tri) => put_hull_line(page, out, points, tri)?,
+            Cell::Open(tri) => put_hull_line(sheet, out, points, tri),
             Cell::Full(_) => {}
         }
     }
-    Ok(())
 }
 
 // Puts the line of a tag.
-fn put_tag<O: Sink>(page: &mut Page, out: &mut O, tag: u32) -> Result<(), Failed>
-    ensures flows { OnOk result (Flows (O.holds out.old) (O.holds out.new) page.old page.new (tag_line tag)) }
-    ensures front { OnErr result (FlowsInPart (O.holds out.old) (O.holds out.new) page.old (tag_line tag)) }
-    ensures cause { HasCause (O.faults out.old) (O.faults out.new) result }
+fn put_tag<O: Sink>(sheet: &mut Sheet, out: &mut O, tag: u32)
+    ensures { Puts (O.holds out.old) (O.holds out.new) (O.faults out.old) (O.faults out.new) sheet.old sheet.new
+        (tag_line tag) }
 {
-    put_number_and(page, out, u64::from(tag), b"\n")
+    put_number_and(sheet, out, u64::from(tag), b"\n");
 }
 
 // Puts the block of the tags.
-fn put_tags<O: Sink>(page: &mut Page, out: &mut O, tags: &[u32]) -> Result<(), Failed>
-    ensures flows { OnOk result (Flows (O.holds out.old) (O.holds out.new) page.old page.new
-        (block (codes "order") (map tag_line tags.now))) }
-    ensures front { OnErr result (FlowsInPart (O.holds out.old) (O.holds out.new) page.old
-        (block (codes "order") (map tag_line tags.now))) }
-    ensures cause { HasCause (O.faults out.old) (O.faults out.new) result }
+fn put_tags<O: Sink>(sheet: &mut Sheet, out: &mut O, tags: &[u32])
+    ensures { Puts (O.holds out.old) (O.holds out.new) (O.faults out.old) (O.faults out.new) sheet.old sheet.new
+        (block (codes "order") (map tag_line tags.now)) }
 {
-    put_title(page, out, b"order", tags.len())?;
+    put_title(sheet, out, b"order", tags.len());
     for tag in tags {
-        put_tag(page, out, *tag)?;
+        put_tag(sheet, out, *tag);
     }
-    Ok(())
 }
 
 // Puts the block of the tags, where there are any.
-fn put_order<O: Sink>(page: &mut Page, out: &mut O, order: &Option<Vec<u32>>) -> Result<(), Failed>
-    ensures flows { OnOk result (Flows (O.holds out.old) (O.holds out.new) page.old page.new
-        (order_block (option_map (λ (tags : Vec ℕ Global). tags.items) order.now))) }
-    ensures front { OnErr result (FlowsInPart (O.holds out.old) (O.holds out.new) page.old
-        (order_block (option_map (λ (tags : Vec ℕ Global). tags.items) order.now))) }
-    ensures cause { HasCause (O.faults out.old) (O.faults out.new) result }
+fn put_order<O: Sink>(sheet: &mut Sheet, out: &mut O, order: &Option<Vec<u32>>)
+    ensures { Puts (O.holds out.old) (O.holds out.new) (O.faults out.old) (O.faults out.new) sheet.old sheet.new
+        (order_block (option_map (λ (tags : Vec ℕ Global). tags.items) order.now)) }
 {
     match order {
-        Some(tags) => put_tags(page, out, tags),
-        None => Ok(()),
+        Some(tags) => put_tags(sheet, out, tags),
+        None => {}
     }
 }
 
 // Puts what the report tells of the mesh: its replies, points, cells and hull.
-fn put_mesh<O: Sink>(page: &mut Page, out: &mut O, report: &Report) -> Result<(), Failed>
+fn put_mesh<O: Sink>(sheet: &mut Sheet, out: &mut O, report: &Report)
     requires { IsAscending report.now.points.items }
-    ensures flows { OnOk result (Flows (O.holds out.old) (O.holds out.new) page.old page.new
-        (mesh_blocks (parts_of report.now))) }
-    ensures front { OnErr result (FlowsInPart (O.holds out.old) (O.holds out.new) page.old
-        (mesh_blocks (parts_of report.now))) }
-    ensures cause { HasCause (O.faults out.old) (O.faults out.new) result }
+    ensures { Puts (O.holds out.old) (O.holds out.new) (O.faults out.old) (O.faults out.new) sheet.old sheet.new
+        (mesh_blocks (parts_of report.now)) }
 {
-    put_replies(page, out, &report.replies)?;
-    put_points(page, out, &report.points)?;
-    put_cells(page, out, &report.points, report.cells)?;
-    put_hull(page, out, &report.points, report.cells)
+    put_replies(sheet, out, &report.replies);
+    put_points(sheet, out, &report.points);
+    put_cells(sheet, out, &report.points, report.cells);
+    put_hull(sheet, out, &report.points, report.cells);
 }
 
 // Puts the text of the report.
-fn put_all<O: Sink>(page: &mut Page, out: &mut O, report: &Report) -> Result<(), Failed>
+fn put_all<O: Sink>(sheet: &mut Sheet, out: &mut O, report: &Report)
     requires points { IsAscending report.now.points.items }
     requires shapes { AreCounted (shapes_seen report.now.shapes.items) }
-    ensures flows { OnOk result (Flows (O.holds out.old) (O.holds out.new) page.old page.new
-        (report_text (parts_of report.now))) }
-    ensures front { OnErr result (FlowsInPart (O.holds out.old) (O.holds out.new) page.old
-        (report_text (parts_of report.now))) }
-    ensures cause { HasCause (O.faults out.old) (O.faults out.new) result }
+    ensures { Puts (O.holds out.old) (O.holds out.new) (O.faults out.old) (O.faults out.new) sheet.old sheet.new
+        (report_text (parts_of report.now)) }
 {
-    page.put(out, b"mesh3-out 1\n")?;
-    put_mesh(page, out, report)?;
-    put_shapes(page, out, &report.shapes)?;
-    put_order(page, out, &report.order)?;
-    page.put(out, b"end\n")
+    sheet.put(out, b"mesh3-out 1\n");
+    put_mesh(sheet, out, report);
+    put_shapes(sheet, out, &report.shapes);
+    put_order(sheet, out, &report.order);
+    sheet.put(out, b"end\n");
 }
 
 /// Writes the report: its replies, points, cells, hull, shapes and order, one block after another, each line with a
@@ -276,9 +234,9 @@ pub fn put_report<O: Sink>(out: &mut O, report: &Report) -> Result<(), Failed>
     ensures cause { HasCause (O.faults out.old) (O.faults out.new) result }
     ensures done { (Rose (O.faults out.old) (O.faults out.new) → ⊥) → IsOk result }
 {
-    let mut page = Page::new();
-    put_all(&mut page, out, report)?;
-    page.flush(out)
+    let mut sheet = Sheet::new();
+    put_all(&mut sheet, out, report);
+    sheet.close(out)
 }
 
 /// The text that `put_report` writes of the report.

@@ -23,7 +23,7 @@ ghost use Rattle.byte_ends.specs.Ends.{HasCause};
 ghost use Rattle.alpha_complex.specs.Shapes.{shape_seen};
 ghost use Rattle.alpha_complex.specs.Slots.{held};
 ghost use Rattle.mesh_files.specs.Lines.{block};
-ghost use Rattle.mesh_files.specs.Pages.{Flows, FlowsInPart};
+ghost use Rattle.mesh_files.specs.Sheets.{Puts};
 ghost use Rattle.mesh_files.specs.Report.{AreCounted, shapes_seen};
 ghost use Rattle.mesh_files.specs.Text.{
   index_of,
@@ -40,7 +40,7 @@ ghost use Rattle.mesh_files.specs.Text.{
 
 use crate::indices::{index, put_full_line};
 use crate::lines::{put_number_and, put_title};
-use crate::page::Page;
+use crate::sheet::Sheet;
 use crate::whole::WholeText;
 use alpha_complex::{Kind, Shape};
 use byte_ends::{Failed, Sink};
@@ -58,229 +58,154 @@ fn word_of(kind: Kind) -> &'static str
 }
 
 // Puts the points of a face as indices, each with a space behind it.
-fn put_indices<O: Sink>(
-    page: &mut Page,
-    out: &mut O,
-    points: &[Point],
-    corners: &[Point],
-) -> Result<(), Failed>
+fn put_indices<O: Sink>(sheet: &mut Sheet, out: &mut O, points: &[Point], corners: &[Point])
     requires { IsAscending points.now }
-    ensures flows { OnOk result (Flows (O.holds out.old) (O.holds out.new) page.old page.new
-        (concat (map (λ p. decimal (index_of points.now p) ++ codes " ") corners.now))) }
-    ensures front { OnErr result (FlowsInPart (O.holds out.old) (O.holds out.new) page.old
-        (concat (map (λ p. decimal (index_of points.now p) ++ codes " ") corners.now))) }
-    ensures cause { HasCause (O.faults out.old) (O.faults out.new) result }
+    ensures { Puts (O.holds out.old) (O.holds out.new) (O.faults out.old) (O.faults out.new) sheet.old sheet.new
+        (concat (map (λ p. decimal (index_of points.now p) ++ codes " ") corners.now)) }
 {
     for corner in corners {
-        put_number_and(page, out, index(points, *corner), b" ")?;
+        put_number_and(sheet, out, index(points, *corner), b" ");
     }
-    Ok(())
 }
 
 // Puts the line of a face.
 fn put_face<O: Sink>(
-    page: &mut Page,
+    sheet: &mut Sheet,
     out: &mut O,
     points: &[Point],
     corners: &[Point],
     kind: Kind,
-) -> Result<(), Failed>
+)
     requires { IsAscending points.now }
-    ensures flows { OnOk result (Flows (O.holds out.old) (O.holds out.new) page.old page.new
-        (face_line points.now corners.now kind)) }
-    ensures front { OnErr result (FlowsInPart (O.holds out.old) (O.holds out.new) page.old
-        (face_line points.now corners.now kind)) }
-    ensures cause { HasCause (O.faults out.old) (O.faults out.new) result }
+    ensures { Puts (O.holds out.old) (O.holds out.new) (O.faults out.old) (O.faults out.new) sheet.old sheet.new
+        (face_line points.now corners.now kind) }
 {
-    put_indices(page, out, points, corners)?;
-    page.put(out, word_of(kind).as_bytes())?;
-    page.put(out, b"\n")
+    put_indices(sheet, out, points, corners);
+    sheet.put(out, word_of(kind).as_bytes());
+    sheet.put(out, b"\n");
 }
 
 // Puts the block of the points, which count themselves.
-fn put_points<O: Sink>(page: &mut Page, out: &mut O, shape: &Shape) -> Result<(), Failed>
+fn put_points<O: Sink>(sheet: &mut Sheet, out: &mut O, shape: &Shape)
     requires { IsAscending (points_in shape.now.points) }
-    ensures flows { OnOk result (Flows (O.holds out.old) (O.holds out.new) page.old page.new
-        (block (codes "points") (map (λ f. face_line (points_in shape.now.points) (f.0 ∷ []) f.1) shape.now.points))) }
-    ensures front { OnErr result (FlowsInPart (O.holds out.old) (O.holds out.new) page.old
-        (block (codes "points") (map (λ f. face_line (points_in shape.now.points) (f.0 ∷ []) f.1) shape.now.points))) }
-    ensures cause { HasCause (O.faults out.old) (O.faults out.new) result }
+    ensures { Puts (O.holds out.old) (O.holds out.new) (O.faults out.old) (O.faults out.new) sheet.old sheet.new
+        (block (codes "points") (map (λ f. face_line (points_in shape.now.points) (f.0 ∷ []) f.1) shape.now.points)) }
 {
     let points = shape.points();
-    put_title(page, out, b"points", points.len())?;
+    put_title(sheet, out, b"points", points.len());
     for index in 0..points.len() {
         let (point, kind) = shape.point(index);
-        put_face(page, out, points, &[point], kind)?;
+        put_face(sheet, out, points, &[point], kind);
     }
-    Ok(())
 }
 
 // Puts the line of the pair of an index, where it is admitted.
-fn put_pair<O: Sink>(
-    page: &mut Page,
-    out: &mut O,
-    shape: &Shape,
-    index: usize,
-) -> Result<(), Failed>
+fn put_pair<O: Sink>(sheet: &mut Sheet, out: &mut O, shape: &Shape, index: usize)
     requires points { IsAscending (points_in shape.now.points) }
     requires index { index < length shape.now.pairs }
-    ensures flows { OnOk result (Flows (O.holds out.old) (O.holds out.new) page.old page.new
-        (held_line (λ f. face_line (points_in shape.now.points) f.0 f.1) (slice_index_or shape.now.pairs index None))) }
-    ensures front { OnErr result (FlowsInPart (O.holds out.old) (O.holds out.new) page.old
-        (held_line (λ f. face_line (points_in shape.now.points) f.0 f.1) (slice_index_or shape.now.pairs index None))) }
-    ensures cause { HasCause (O.faults out.old) (O.faults out.new) result }
+    ensures { Puts (O.holds out.old) (O.holds out.new) (O.faults out.old) (O.faults out.new) sheet.old sheet.new
+        (held_line (λ f. face_line (points_in shape.now.points) f.0 f.1) (slice_index_or shape.now.pairs index None)) }
 {
     match shape.pair(index) {
-        Some((pair, kind)) => put_face(page, out, shape.points(), pair.points(), kind),
-        None => Ok(()),
+        Some((pair, kind)) => put_face(sheet, out, shape.points(), pair.points(), kind),
+        None => {}
     }
 }
 
 // Puts the block of the edges.
-fn put_pairs<O: Sink>(page: &mut Page, out: &mut O, shape: &Shape) -> Result<(), Failed>
+fn put_pairs<O: Sink>(sheet: &mut Sheet, out: &mut O, shape: &Shape)
     requires { IsAscending (points_in shape.now.points) }
-    ensures flows { OnOk result (Flows (O.holds out.old) (O.holds out.new) page.old page.new
-        (block (codes "edges") (map (λ f. face_line (points_in shape.now.points) f.0 f.1) (held shape.now.pairs)))) }
-    ensures front { OnErr result (FlowsInPart (O.holds out.old) (O.holds out.new) page.old
-        (block (codes "edges") (map (λ f. face_line (points_in shape.now.points) f.0 f.1) (held shape.now.pairs)))) }
-    ensures cause { HasCause (O.faults out.old) (O.faults out.new) result }
+    ensures { Puts (O.holds out.old) (O.holds out.new) (O.faults out.old) (O.faults out.new) sheet.old sheet.new
+        (block (codes "edges") (map (λ f. face_line (points_in shape.now.points) f.0 f.1) (held shape.now.pairs))) }
 {
-    put_title(page, out, b"edges", shape.pair_count())?;
+    put_title(sheet, out, b"edges", shape.pair_count());
     for index in 0..shape.pair_slots() {
-        put_pair(page, out, shape, index)?;
+        put_pair(sheet, out, shape, index);
     }
-    Ok(())
 }
 
 // Puts the line of the triple of an index, where it is admitted.
-fn put_triple<O: Sink>(
-    page: &mut Page,
-    out: &mut O,
-    shape: &Shape,
-    index: usize,
-) -> Result<(), Failed>
+fn put_triple<O: Sink>(sheet: &mut Sheet, out: &mut O, shape: &Shape, index: usize)
     requires points { IsAscending (points_in shape.now.points) }
     requires index { index < length shape.now.triples }
-    ensures flows { OnOk result (Flows (O.holds out.old) (O.holds out.new) page.old page.new
-        (held_line (λ f. face_line (points_in shape.now.points) f.0 f.1)
-        (slice_index_or shape.now.triples index None))) }
-    ensures front { OnErr result (FlowsInPart (O.holds out.old) (O.holds out.new) page.old
-        (held_line (λ f. face_line (points_in shape.now.points) f.0 f.1)
-        (slice_index_or shape.now.triples index None))) }
-    ensures cause { HasCause (O.faults out.old) (O.faults out.new) result }
+    ensures { Puts (O.holds out.old) (O.holds out.new) (O.faults out.old) (O.faults out.new) sheet.old sheet.new
+        (held_line (λ f. face_line (points_in shape.now.points) f.0 f.1) (slice_index_or shape.now.triples index None)) }
 {
     match shape.triple(index) {
-        Some((triple, kind)) => put_face(page, out, shape.points(), triple.points(), kind),
-        None => Ok(()),
+        Some((triple, kind)) => put_face(sheet, out, shape.points(), triple.points(), kind),
+        None => {}
     }
 }
 
 // Puts the block of the triangles.
-fn put_triples<O: Sink>(page: &mut Page, out: &mut O, shape: &Shape) -> Result<(), Failed>
+fn put_triples<O: Sink>(sheet: &mut Sheet, out: &mut O, shape: &Shape)
     requires { IsAscending (points_in shape.now.points) }
-    ensures flows { OnOk result (Flows (O.holds out.old) (O.holds out.new) page.old page.new
-        (block (codes "triangles") (map (λ f. face_line (points_in shape.now.points) f.0 f.1)
-        (held shape.now.triples)))) }
-    ensures front { OnErr result (FlowsInPart (O.holds out.old) (O.holds out.new) page.old
-        (block (codes "triangles") (map (λ f. face_line (points_in shape.now.points) f.0 f.1)
-        (held shape.now.triples)))) }
-    ensures cause { HasCause (O.faults out.old) (O.faults out.new) result }
+    ensures { Puts (O.holds out.old) (O.holds out.new) (O.faults out.old) (O.faults out.new) sheet.old sheet.new
+        (block (codes "triangles") (map (λ f. face_line (points_in shape.now.points) f.0 f.1) (held shape.now.triples))) }
 {
-    put_title(page, out, b"triangles", shape.triple_count())?;
+    put_title(sheet, out, b"triangles", shape.triple_count());
     for index in 0..shape.triple_slots() {
-        put_triple(page, out, shape, index)?;
+        put_triple(sheet, out, shape, index);
     }
-    Ok(())
 }
 
 // Puts the line of the cell of an index, where it is admitted.
-fn put_cell<O: Sink>(
-    page: &mut Page,
-    out: &mut O,
-    shape: &Shape,
-    index: usize,
-) -> Result<(), Failed>
+fn put_cell<O: Sink>(sheet: &mut Sheet, out: &mut O, shape: &Shape, index: usize)
     requires points { IsAscending (points_in shape.now.points) }
     requires index { index < length shape.now.cells }
-    ensures flows { OnOk result (Flows (O.holds out.old) (O.holds out.new) page.old page.new
-        (held_line (indices_line (points_in shape.now.points)) (slice_index_or shape.now.cells index None))) }
-    ensures front { OnErr result (FlowsInPart (O.holds out.old) (O.holds out.new) page.old
-        (held_line (indices_line (points_in shape.now.points)) (slice_index_or shape.now.cells index None))) }
-    ensures cause { HasCause (O.faults out.old) (O.faults out.new) result }
+    ensures { Puts (O.holds out.old) (O.holds out.new) (O.faults out.old) (O.faults out.new) sheet.old sheet.new
+        (held_line (indices_line (points_in shape.now.points)) (slice_index_or shape.now.cells index None)) }
 {
     match shape.cell(index) {
-        Some(quad) => put_full_line(page, out, shape.points(), quad),
-        None => Ok(()),
+        Some(quad) => put_full_line(sheet, out, shape.points(), quad),
+        None => {}
     }
 }
 
 // Puts the block of the cells.
-fn put_cells<O: Sink>(page: &mut Page, out: &mut O, shape: &Shape) -> Result<(), Failed>
+fn put_cells<O: Sink>(sheet: &mut Sheet, out: &mut O, shape: &Shape)
     requires { IsAscending (points_in shape.now.points) }
-    ensures flows { OnOk result (Flows (O.holds out.old) (O.holds out.new) page.old page.new
-        (block (codes "cells") (map (indices_line (points_in shape.now.points)) (held shape.now.cells)))) }
-    ensures front { OnErr result (FlowsInPart (O.holds out.old) (O.holds out.new) page.old
-        (block (codes "cells") (map (indices_line (points_in shape.now.points)) (held shape.now.cells)))) }
-    ensures cause { HasCause (O.faults out.old) (O.faults out.new) result }
+    ensures { Puts (O.holds out.old) (O.holds out.new) (O.faults out.old) (O.faults out.new) sheet.old sheet.new
+        (block (codes "cells") (map (indices_line (points_in shape.now.points)) (held shape.now.cells))) }
 {
-    put_title(page, out, b"cells", shape.cell_count())?;
+    put_title(sheet, out, b"cells", shape.cell_count());
     for index in 0..shape.cell_slots() {
-        put_cell(page, out, shape, index)?;
+        put_cell(sheet, out, shape, index);
     }
-    Ok(())
 }
 
 // Puts the faces of a shape, kind by kind.
-fn put_faces<O: Sink>(page: &mut Page, out: &mut O, shape: &Shape) -> Result<(), Failed>
+fn put_faces<O: Sink>(sheet: &mut Sheet, out: &mut O, shape: &Shape)
     requires { IsAscending (counted (shape_seen shape.now)) }
-    ensures flows { OnOk result (Flows (O.holds out.old) (O.holds out.new) page.old page.new
-        (face_blocks (counted (shape_seen shape.now)) (shape_seen shape.now))) }
-    ensures front { OnErr result (FlowsInPart (O.holds out.old) (O.holds out.new) page.old
-        (face_blocks (counted (shape_seen shape.now)) (shape_seen shape.now))) }
-    ensures cause { HasCause (O.faults out.old) (O.faults out.new) result }
+    ensures { Puts (O.holds out.old) (O.holds out.new) (O.faults out.old) (O.faults out.new) sheet.old sheet.new
+        (face_blocks (counted (shape_seen shape.now)) (shape_seen shape.now)) }
 {
-    put_points(page, out, shape)?;
-    put_pairs(page, out, shape)?;
-    put_triples(page, out, shape)?;
-    put_cells(page, out, shape)
+    put_points(sheet, out, shape);
+    put_pairs(sheet, out, shape);
+    put_triples(sheet, out, shape);
+    put_cells(sheet, out, shape);
 }
 
 // Puts the block of a radius.
-fn put_shape<O: Sink>(
-    page: &mut Page,
-    out: &mut O,
-    radius: u64,
-    shape: &Shape,
-) -> Result<(), Failed>
+fn put_shape<O: Sink>(sheet: &mut Sheet, out: &mut O, radius: u64, shape: &Shape)
     requires { IsAscending (counted (shape_seen shape.now)) }
-    ensures flows { OnOk result (Flows (O.holds out.old) (O.holds out.new) page.old page.new
-        (shape_text_of radius (shape_seen shape.now))) }
-    ensures front { OnErr result (FlowsInPart (O.holds out.old) (O.holds out.new) page.old
-        (shape_text_of radius (shape_seen shape.now))) }
-    ensures cause { HasCause (O.faults out.old) (O.faults out.new) result }
+    ensures { Puts (O.holds out.old) (O.holds out.new) (O.faults out.old) (O.faults out.new) sheet.old sheet.new
+        (shape_text_of radius (shape_seen shape.now)) }
 {
-    page.put(out, b"shape ")?;
-    put_number_and(page, out, radius, b"\n")?;
-    put_faces(page, out, shape)
+    sheet.put(out, b"shape ");
+    put_number_and(sheet, out, radius, b"\n");
+    put_faces(sheet, out, shape);
 }
 
 // Puts one block for each radius.
-pub fn put_shapes<O: Sink>(
-    page: &mut Page,
-    out: &mut O,
-    shapes: &[(u64, Shape)],
-) -> Result<(), Failed>
+pub fn put_shapes<O: Sink>(sheet: &mut Sheet, out: &mut O, shapes: &[(u64, Shape)])
     requires { AreCounted (shapes_seen shapes.now) }
-    ensures flows { OnOk result (Flows (O.holds out.old) (O.holds out.new) page.old page.new
-        (shape_blocks (shapes_seen shapes.now))) }
-    ensures front { OnErr result (FlowsInPart (O.holds out.old) (O.holds out.new) page.old
-        (shape_blocks (shapes_seen shapes.now))) }
-    ensures cause { HasCause (O.faults out.old) (O.faults out.new) result }
+    ensures { Puts (O.holds out.old) (O.holds out.new) (O.faults out.old) (O.faults out.new) sheet.old sheet.new
+        (shape_blocks (shapes_seen shapes.now)) }
 {
     for (radius, shape) in shapes {
-        put_shape(page, out, *radius, shape)?;
+        put_shape(sheet, out, *radius, shape);
     }
-    Ok(())
 }
 
 // Writes the block of a radius.
@@ -288,9 +213,9 @@ fn put_block<O: Sink>(out: &mut O, radius: u64, shape: &Shape) -> Result<(), Fai
     requires { IsAscending (counted (shape_seen shape.now)) }
     ensures { OnOk result (Appends (O.holds out.old) (O.holds out.new) (shape_text_of radius (shape_seen shape.now))) }
 {
-    let mut page = Page::new();
-    put_shape(&mut page, out, radius, shape)?;
-    page.flush(out)
+    let mut sheet = Sheet::new();
+    put_shape(&mut sheet, out, radius, shape);
+    sheet.close(out)
 }
 
 /// The block of a radius: the points of its alpha complex, and the admitted edges, triangles and cells, by the

@@ -5,7 +5,7 @@ ghost use Rattle.std.specs.List.{concat};
 ghost use Rattle.std.specs.Io.KnownBytes.{Appends};
 ghost use Rattle.byte_ends.specs.Ends.{HasCause};
 ghost use Rattle.alpha_complex.specs.Shapes.{shape_seen};
-ghost use Rattle.mesh_files.specs.Pages.{Flows, FlowsInPart};
+ghost use Rattle.mesh_files.specs.Sheets.{Puts};
 ghost use Rattle.mesh_files.specs.Report.{parts_of, shapes_seen};
 ghost use Rattle.mesh_files.specs.Summary.{
   count_of as count_of_word,
@@ -16,8 +16,8 @@ ghost use Rattle.mesh_files.specs.Summary.{
 };
 
 use crate::lines::{put_four, put_title};
-use crate::page::Page;
 use crate::report::{Report, full_count, hull_count, word_of};
+use crate::sheet::Sheet;
 use crate::whole::WholeText;
 use alpha_complex::Shape;
 use byte_ends::{Failed, Sink};
@@ -43,117 +43,78 @@ fn count_of(replies: &[Reply], word: &str) -> usize
 }
 
 // Puts the word of a reply, and how many of the replies have it.
-fn put_reply_count<O: Sink>(
-    page: &mut Page,
-    out: &mut O,
-    replies: &[Reply],
-    reply: Reply,
-) -> Result<(), Failed>
-    ensures flows { OnOk result (Flows (O.holds out.old) (O.holds out.new) page.old page.new
-        (reply_count_line replies.now reply)) }
-    ensures front { OnErr result (FlowsInPart (O.holds out.old) (O.holds out.new) page.old
-        (reply_count_line replies.now reply)) }
-    ensures cause { HasCause (O.faults out.old) (O.faults out.new) result }
+fn put_reply_count<O: Sink>(sheet: &mut Sheet, out: &mut O, replies: &[Reply], reply: Reply)
+    ensures { Puts (O.holds out.old) (O.holds out.new) (O.faults out.old) (O.faults out.new) sheet.old sheet.new
+        (reply_count_line replies.now reply) }
 {
     let word = word_of(reply);
-    put_title(page, out, word.as_bytes(), count_of(replies, word))
+    put_title(sheet, out, word.as_bytes(), count_of(replies, word));
 }
 
 // Puts a line for each of some kinds of reply.
-fn put_reply_counts<O: Sink>(
-    page: &mut Page,
-    out: &mut O,
-    replies: &[Reply],
-    kinds: &[Reply],
-) -> Result<(), Failed>
-    ensures flows { OnOk result (Flows (O.holds out.old) (O.holds out.new) page.old page.new
-        (concat (map (reply_count_line replies.now) kinds.now))) }
-    ensures front { OnErr result (FlowsInPart (O.holds out.old) (O.holds out.new) page.old
-        (concat (map (reply_count_line replies.now) kinds.now))) }
-    ensures cause { HasCause (O.faults out.old) (O.faults out.new) result }
+fn put_reply_counts<O: Sink>(sheet: &mut Sheet, out: &mut O, replies: &[Reply], kinds: &[Reply])
+    ensures { Puts (O.holds out.old) (O.holds out.new) (O.faults out.old) (O.faults out.new) sheet.old sheet.new
+        (concat (map (reply_count_line replies.now) kinds.now)) }
 {
     for kind in kinds {
-        put_reply_count(page, out, replies, *kind)?;
+        put_reply_count(sheet, out, replies, *kind);
     }
-    Ok(())
 }
 
 // Puts how many points, Full cells and Open cells there are.
-fn put_mesh_counts<O: Sink>(page: &mut Page, out: &mut O, report: &Report) -> Result<(), Failed>
-    ensures flows { OnOk result (Flows (O.holds out.old) (O.holds out.new) page.old page.new
-        (mesh_counts (parts_of report.now))) }
-    ensures front { OnErr result (FlowsInPart (O.holds out.old) (O.holds out.new) page.old
-        (mesh_counts (parts_of report.now))) }
-    ensures cause { HasCause (O.faults out.old) (O.faults out.new) result }
+fn put_mesh_counts<O: Sink>(sheet: &mut Sheet, out: &mut O, report: &Report)
+    ensures { Puts (O.holds out.old) (O.holds out.new) (O.faults out.old) (O.faults out.new) sheet.old sheet.new
+        (mesh_counts (parts_of report.now)) }
 {
-    put_title(page, out, b"points", report.points.len())?;
-    put_title(page, out, b"cells", full_count(report.cells))?;
-    put_title(page, out, b"hull", hull_count(report.cells))
+    put_title(sheet, out, b"points", report.points.len());
+    put_title(sheet, out, b"cells", full_count(report.cells));
+    put_title(sheet, out, b"hull", hull_count(report.cells));
 }
 
 // Puts a radius, and how many edges, triangles and cells its shape has.
-fn put_shape_line<O: Sink>(
-    page: &mut Page,
-    out: &mut O,
-    radius: u64,
-    shape: &Shape,
-) -> Result<(), Failed>
-    ensures flows { OnOk result (Flows (O.holds out.old) (O.holds out.new) page.old page.new
-        (shape_line (radius, shape_seen shape.now))) }
-    ensures front { OnErr result (FlowsInPart (O.holds out.old) (O.holds out.new) page.old
-        (shape_line (radius, shape_seen shape.now))) }
-    ensures cause { HasCause (O.faults out.old) (O.faults out.new) result }
+fn put_shape_line<O: Sink>(sheet: &mut Sheet, out: &mut O, radius: u64, shape: &Shape)
+    ensures { Puts (O.holds out.old) (O.holds out.new) (O.faults out.old) (O.faults out.new) sheet.old sheet.new
+        (shape_line (radius, shape_seen shape.now)) }
 {
-    page.put(out, b"shape ")?;
+    sheet.put(out, b"shape ");
     put_four(
-        page,
+        sheet,
         out,
         radius,
         shape.pair_count() as u64,
         shape.triple_count() as u64,
         shape.cell_count() as u64,
-    )
+    );
 }
 
 // Puts a line for each radius.
-fn put_shape_lines<O: Sink>(
-    page: &mut Page,
-    out: &mut O,
-    shapes: &[(u64, Shape)],
-) -> Result<(), Failed>
-    ensures flows { OnOk result (Flows (O.holds out.old) (O.holds out.new) page.old page.new
-        (concat (map shape_line (shapes_seen shapes.now)))) }
-    ensures front { OnErr result (FlowsInPart (O.holds out.old) (O.holds out.new) page.old
-        (concat (map shape_line (shapes_seen shapes.now)))) }
-    ensures cause { HasCause (O.faults out.old) (O.faults out.new) result }
+fn put_shape_lines<O: Sink>(sheet: &mut Sheet, out: &mut O, shapes: &[(u64, Shape)])
+    ensures { Puts (O.holds out.old) (O.holds out.new) (O.faults out.old) (O.faults out.new) sheet.old sheet.new
+        (concat (map shape_line (shapes_seen shapes.now))) }
 {
     for (radius, shape) in shapes {
-        put_shape_line(page, out, *radius, shape)?;
+        put_shape_line(sheet, out, *radius, shape);
     }
-    Ok(())
 }
 
 // Puts the summary of a report.
-fn put_summary<O: Sink>(page: &mut Page, out: &mut O, report: &Report) -> Result<(), Failed>
-    ensures flows { OnOk result (Flows (O.holds out.old) (O.holds out.new) page.old page.new
-        (summary_text_of (parts_of report.now))) }
-    ensures front { OnErr result (FlowsInPart (O.holds out.old) (O.holds out.new) page.old
-        (summary_text_of (parts_of report.now))) }
-    ensures cause { HasCause (O.faults out.old) (O.faults out.new) result }
+fn put_summary<O: Sink>(sheet: &mut Sheet, out: &mut O, report: &Report)
+    ensures { Puts (O.holds out.old) (O.holds out.new) (O.faults out.old) (O.faults out.new) sheet.old sheet.new
+        (summary_text_of (parts_of report.now)) }
 {
-    put_title(page, out, b"lines", report.replies.len())?;
-    put_reply_counts(page, out, &report.replies, &ALL_REPLIES)?;
-    put_mesh_counts(page, out, report)?;
-    put_shape_lines(page, out, &report.shapes)
+    put_title(sheet, out, b"lines", report.replies.len());
+    put_reply_counts(sheet, out, &report.replies, &ALL_REPLIES);
+    put_mesh_counts(sheet, out, report);
+    put_shape_lines(sheet, out, &report.shapes);
 }
 
 // Writes the summary of a report.
 fn put_whole<O: Sink>(out: &mut O, report: &Report) -> Result<(), Failed>
     ensures { OnOk result (Appends (O.holds out.old) (O.holds out.new) (summary_text_of (parts_of report.now))) }
 {
-    let mut page = Page::new();
-    put_summary(&mut page, out, report)?;
-    page.flush(out)
+    let mut sheet = Sheet::new();
+    put_summary(&mut sheet, out, report);
+    sheet.close(out)
 }
 
 /// The summary of a report, a line for each count: its lines, the replies of each word, its points, cells and hull,

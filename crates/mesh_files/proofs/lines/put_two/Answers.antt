@@ -1,20 +1,6 @@
-use Rattle.list_laws.proofs.Cited.{on_err}
-use Rattle.mesh_files.proofs.Flowing.{cause_from, caused, fails_err, more, not_ok, then_ok}
+use Rattle.mesh_files.proofs.Sheets.{then}
 use Rattle.mesh_files.proofs.lines.put_two.Goals as goal
-
-pub returns-in_err-put_number_and : goal.returns-in_err-put_number_and
-returns-in_err-put_number_and g c =
-    let r = c.from_residual.result in
-    record {
-      flows = not_ok _ r c.from_residual.ensures.0;
-      front = on_err r (more _ c.in_err-put_number_and.ensures.front);
-      cause = caused r c.in_err-put_number_and.ensures.cause;
-    }
 
 pub returns : goal.returns
 returns g c =
-    record {
-      flows = then_ok _ _ _ _ c.in_ok-put_number_and.ensures.flows c.put_number.ensures.flows;
-      front = fails_err _ _ _ c.in_ok-put_number_and.ensures.flows c.put_number.ensures.front;
-      cause = cause_from _ c.in_ok-put_number_and.ensures.cause.later c.put_number.ensures.cause;
-    }
+    then c.put_number_and.ensures c.put_number.ensures

@@ -1,15 +1,14 @@
 -- a front of the block was put, and the lines that are left are not yet
-use Rattle.std.proofs.Common.{◌≤◌, drop}
+use Rattle.std.proofs.Common.{drop}
 use Rattle.std.specs.Prelude.{map, codes}
 use Rattle.std.specs.List.{concat}
 use Rattle.mesh_files.specs.Lines.{block}
 use Rattle.mesh_files.specs.Text.{indices_line, full_corners}
-use Rattle.mesh_files.proofs.Flowing.{FlowsBut}
+use Rattle.mesh_files.proofs.Sheets.{PutsBut}
 use Rattle.mesh_files.proofs.report.put_cells.Given as goal
 
 abbrev pub invariant-loop-cell : goal.invariant-loop-cell
 invariant-loop-cell g l =
-    FlowsBut (g.O.Sink.holds l.fn.out) (g.O.Sink.holds l.out) l.fn.page l.page
+    PutsBut (g.O.Sink.holds l.fn.out) (g.O.Sink.holds l.out) (g.O.Sink.faults l.fn.out) (g.O.Sink.faults l.out) l.fn.sheet l.sheet
     (concat (map (indices_line l.points) (full_corners (drop l.cell-index l.cells))))
     (block (codes "cells") (map (indices_line l.points) (full_corners l.cells)))
-    × (g.O.Sink.faults l.fn.out ≤ g.O.Sink.faults l.out)

@@ -2,54 +2,29 @@ use Rattle.std.proofs.Common.{◌≡◌, ◌∙◌, refl, sym, List, ℕ, length
 use Rattle.std.specs.Prelude.{map, codes}
 use Rattle.std.specs.List.{concat}
 use Rattle.std.proofs.lemmas.List.{length-map}
-use Rattle.list_laws.proofs.Cited.{on_err}
 use Rattle.point_order.specs.declared.cell.Cell.{Cell}
 use Rattle.point_order.specs.declared.cell.Cell.TheVariants.{Full, Open}
 use Rattle.mesh_files.specs.Text.{indices_line, hull_corners}
 use Rattle.mesh_files.proofs.Cells.{hull_piece, hull_items, item_is}
-use Rattle.mesh_files.proofs.Flowing.{breaks, caused, caused_after, ends, goes_on, not_ok, nothing, starts, title_fails, up_to}
+use Rattle.mesh_files.proofs.Sheets.{ends, goes_on, nothing, starts}
 use Rattle.mesh_files.proofs.report.put_hull.Goals as goal
-use Rattle.mesh_files.proofs.report.put_hull.Goals.{in-Open+in_ok-put_hull_line-in-Open, in-Full}
-
-pub returns-in_err-put_title : goal.returns-in_err-put_title
-returns-in_err-put_title g c =
-    let lines : List (List ℕ) = map (indices_line c.args.points.now) (hull_corners c.args.cells.now) in
-    let n : c.hull_count.result ≡ length lines = c.hull_count.ensures ∙ sym (length-map (hull_corners c.args.cells.now) (indices_line c.args.points.now)) in
-    let r = c.from_residual.result in
-    record {
-      flows = not_ok _ r c.from_residual.ensures.0;
-      front = on_err r (title_fails (codes "hull") lines c.hull_count.result n c.in_err-put_title.ensures.front);
-      cause = caused r c.in_err-put_title.ensures.cause;
-    }
+use Rattle.mesh_files.proofs.report.put_hull.Goals.{in-Open, in-Full}
 
 pub loop-cell-init : goal.loop-cell-init
 loop-cell-init g c =
     let lines : List (List ℕ) = map (indices_line c.args.points.now) (hull_corners c.args.cells.now) in
     let n : c.hull_count.result ≡ length lines = c.hull_count.ensures ∙ sym (length-map (hull_corners c.args.cells.now) (indices_line c.args.points.now)) in
-    (starts (codes "hull") lines c.hull_count.result n c.in_ok-put_title.ensures.flows, c.in_ok-put_title.ensures.cause.later)
-
-pub returns-in_err-put_hull_line-in-Open : goal.returns-in_err-put_hull_line-in-Open
-returns-in_err-put_hull_line-in-Open g c =
-    let r = c.from_residual-in_err-put_hull_line-in-Open.result in
-    record {
-      flows = not_ok _ r c.from_residual-in_err-put_hull_line-in-Open.ensures.0;
-      front = on_err r (breaks (λ (cells : List Cell). concat (map (indices_line c.args.points.now) (hull_corners cells))) (hull_piece (indices_line c.args.points.now)) (hull_items (indices_line c.args.points.now)) c.args.cells.now c.loop-cell.cell-index (Open c.in-Open.tri) c.loop-cell-test.true (item_is c.args.cells.now c.loop-cell.cell-index c.cell-item.result (Open c.in-Open.tri) c.cell-item.is c.in-Open.is) c.loop-cell.invariant.0 c.in_err-put_hull_line-in-Open.ensures.front);
-      cause = caused_after r c.loop-cell.invariant.1 c.in_err-put_hull_line-in-Open.ensures.cause;
-    }
+    starts (codes "hull") lines c.hull_count.result n c.put_title.ensures
 
 pub loop-cell-preserved : goal.loop-cell-preserved
 loop-cell-preserved g c =
     elim c.match-cell.branch [
-      | in-Open+in_ok-put_hull_line-in-Open w ↦ rw (w.page-is, w.out-is)
-          (goes_on (λ (cells : List Cell). concat (map (indices_line c.args.points.now) (hull_corners cells))) (hull_piece (indices_line c.args.points.now)) (hull_items (indices_line c.args.points.now)) c.args.cells.now c.loop-cell.cell-index (Open w.in-Open.tri) c.loop-cell-test.true (item_is c.args.cells.now c.loop-cell.cell-index c.cell-item.result (Open w.in-Open.tri) c.cell-item.is w.in-Open.is) c.loop-cell.invariant.0 w.in_ok-put_hull_line-in-Open.ensures.flows, up_to _ _ _ c.loop-cell.invariant.1 w.in_ok-put_hull_line-in-Open.ensures.cause.later)
-      | in-Full w ↦ rw (w.page-is, w.out-is)
-          (goes_on (λ (cells : List Cell). concat (map (indices_line c.args.points.now) (hull_corners cells))) (hull_piece (indices_line c.args.points.now)) (hull_items (indices_line c.args.points.now)) c.args.cells.now c.loop-cell.cell-index (Full w.in-Full.field-0) c.loop-cell-test.true (item_is c.args.cells.now c.loop-cell.cell-index c.cell-item.result (Full w.in-Full.field-0) c.cell-item.is w.in-Full.is) c.loop-cell.invariant.0 (nothing _ _), c.loop-cell.invariant.1)
+      | in-Open w ↦ rw (w.sheet-is, w.out-is)
+          (goes_on (λ (cells : List Cell). concat (map (indices_line c.args.points.now) (hull_corners cells))) (hull_piece (indices_line c.args.points.now)) (hull_items (indices_line c.args.points.now)) c.args.cells.now c.loop-cell.cell-index (Open w.in-Open.tri) c.loop-cell-test.true (item_is c.args.cells.now c.loop-cell.cell-index c.cell-item.result (Open w.in-Open.tri) c.cell-item.is w.in-Open.is) c.loop-cell.invariant w.put_hull_line.ensures)
+      | in-Full w ↦ rw (w.sheet-is, w.out-is)
+          (goes_on (λ (cells : List Cell). concat (map (indices_line c.args.points.now) (hull_corners cells))) (hull_piece (indices_line c.args.points.now)) (hull_items (indices_line c.args.points.now)) c.args.cells.now c.loop-cell.cell-index (Full w.in-Full.field-0) c.loop-cell-test.true (item_is c.args.cells.now c.loop-cell.cell-index c.cell-item.result (Full w.in-Full.field-0) c.cell-item.is w.in-Full.is) c.loop-cell.invariant nothing)
     ]
 
 pub returns : goal.returns
 returns g c =
-    record {
-      flows = ends (λ (cells : List Cell). concat (map (indices_line c.args.points.now) (hull_corners cells))) refl c.args.cells.now c.loop-cell.cell-index c.loop-cell-test.false c.loop-cell.invariant.0;
-      front = tt;
-      cause = record { later = c.loop-cell.invariant.1; failed = tt };
-    }
+    ends (λ (cells : List Cell). concat (map (indices_line c.args.points.now) (hull_corners cells))) refl c.args.cells.now c.loop-cell.cell-index c.loop-cell-test.false c.loop-cell.invariant

@@ -1,16 +1,15 @@
 -- a front of the block was put, and the lines of the slots that are left are not yet
-use Rattle.std.proofs.Common.{◌≤◌, drop}
+use Rattle.std.proofs.Common.{drop}
 use Rattle.std.specs.Prelude.{map, codes}
 use Rattle.std.specs.List.{concat}
 use Rattle.alpha_complex.specs.Slots.{held}
 use Rattle.mesh_files.specs.Lines.{block}
 use Rattle.mesh_files.specs.Text.{face_line, points_in}
-use Rattle.mesh_files.proofs.Flowing.{FlowsBut}
+use Rattle.mesh_files.proofs.Sheets.{PutsBut}
 use Rattle.mesh_files.proofs.shapes.put_pairs.Given as goal
 
 abbrev pub invariant-loop-index : goal.invariant-loop-index
 invariant-loop-index g l =
-    FlowsBut (g.O.Sink.holds l.fn.out) (g.O.Sink.holds l.out) l.fn.page l.page
+    PutsBut (g.O.Sink.holds l.fn.out) (g.O.Sink.holds l.out) (g.O.Sink.faults l.fn.out) (g.O.Sink.faults l.out) l.fn.sheet l.sheet
     (concat (map (λ f. face_line (points_in l.shape.points) f.0 f.1) (held (drop l.index l.shape.pairs))))
     (block (codes "edges") (map (λ f. face_line (points_in l.shape.points) f.0 f.1) (held l.shape.pairs)))
-    × (g.O.Sink.faults l.fn.out ≤ g.O.Sink.faults l.out)

@@ -2,11 +2,10 @@ use Rattle.std.proofs.Common.{◌≡◌, ◌∙◌, sym, ap, subst, List, [], �
 use Rattle.std.specs.Prelude.{map, codes}
 use Rattle.std.specs.List.{concat}
 use Rattle.std.proofs.lemmas.List.{length-map}
-use Rattle.list_laws.proofs.Cited.{on_err}
 use Rattle.alpha_complex.specs.declared.shape.Kind.{Kind}
 use Rattle.point_order.specs.Sets.{IsAscending}
 use Rattle.mesh_files.specs.Text.{face_line, points_in}
-use Rattle.mesh_files.proofs.Flowing.{breaks, caused, caused_after, ends, goes_on, not_ok, starts, title_fails, up_to}
+use Rattle.mesh_files.proofs.Sheets.{ends, goes_on, starts}
 use Rattle.mesh_files.proofs.Places.{below_end, past_end}
 use Rattle.mesh_files.proofs.shapes.put_points.Goals as goal
 
@@ -18,22 +17,11 @@ point_count seen points e = ap length e ∙ length-map seen (λ (p : ℕ × Kind
 line_count : (line : ℕ × Kind → List ℕ) (seen : List (ℕ × Kind)) (points : List ℕ) → points ≡ points_in seen → length points ≡ length (map line seen)
 line_count line seen points e = point_count seen points e ∙ sym (length-map seen line)
 
-pub returns-in_err-put_title : goal.returns-in_err-put_title
-returns-in_err-put_title g c =
-    let seen = c.args.shape.now.points in
-    let line = (λ (f : ℕ × Kind). face_line (points_in c.args.shape.now.points) (f.0 ∷ []) f.1) in
-    let r = c.from_residual.result in
-    record {
-      flows = not_ok _ r c.from_residual.ensures.0;
-      front = on_err r (title_fails (codes "points") (map line seen) (length c.points-points.result.now) (line_count line seen c.points-points.result.now c.points-points.ensures) c.in_err-put_title.ensures.front);
-      cause = caused r c.in_err-put_title.ensures.cause;
-    }
-
 pub loop-index-init : goal.loop-index-init
 loop-index-init g c =
     let seen = c.args.shape.now.points in
     let line = (λ (f : ℕ × Kind). face_line (points_in c.args.shape.now.points) (f.0 ∷ []) f.1) in
-    (starts (codes "points") (map line seen) (length c.points-points.result.now) (line_count line seen c.points-points.result.now c.points-points.ensures) c.in_ok-put_title.ensures.flows, c.in_ok-put_title.ensures.cause.later)
+    starts (codes "points") (map line seen) (length c.points-points.result.now) (line_count line seen c.points-points.result.now c.points-points.ensures) c.put_title.ensures
 
 pub point-point-requires : goal.point-point-requires
 point-point-requires g c = below_end c.loop-index.index _ _ c.loop-index-test.true (point_count c.args.shape.now.points c.points-points.result.now c.points-points.ensures)
@@ -41,32 +29,15 @@ point-point-requires g c = below_end c.loop-index.index _ _ c.loop-index-test.tr
 pub put_face-requires : goal.put_face-requires
 put_face-requires g c = subst (λ (v : List ℕ). IsAscending v) (sym c.points-points.ensures) c.requires
 
-pub returns-in_err-put_face : goal.returns-in_err-put_face
-returns-in_err-put_face g c =
-    let seen = c.args.shape.now.points in
-    let line = (λ (f : ℕ × Kind). face_line (points_in c.args.shape.now.points) (f.0 ∷ []) f.1) in
-    let i = c.loop-index.index in
-    let r = c.from_residual-in_err-put_face.result in
-    record {
-      flows = not_ok _ r c.from_residual-in_err-put_face.ensures.0;
-      front = on_err r
-          (breaks (λ (xs : List (ℕ × Kind)). concat (map line xs)) line (λ x xs. refl) seen i c.point-point.result (below_end i _ _ c.loop-index-test.true (point_count seen c.points-points.result.now c.points-points.ensures)) c.point-point.ensures c.loop-index.invariant.0 (rw c.points-points.ensures at c.in_err-put_face.ensures.front));
-      cause = caused_after r c.loop-index.invariant.1 c.in_err-put_face.ensures.cause;
-    }
-
 pub loop-index-preserved : goal.loop-index-preserved
 loop-index-preserved g c =
     let seen = c.args.shape.now.points in
     let line = (λ (f : ℕ × Kind). face_line (points_in c.args.shape.now.points) (f.0 ∷ []) f.1) in
     let i = c.loop-index.index in
-    (goes_on (λ (xs : List (ℕ × Kind)). concat (map line xs)) line (λ x xs. refl) seen i c.point-point.result (below_end i _ _ c.loop-index-test.true (point_count seen c.points-points.result.now c.points-points.ensures)) c.point-point.ensures c.loop-index.invariant.0 (rw c.points-points.ensures at c.in_ok-put_face.ensures.flows), up_to _ _ _ c.loop-index.invariant.1 c.in_ok-put_face.ensures.cause.later)
+    goes_on (λ (xs : List (ℕ × Kind)). concat (map line xs)) line (λ x xs. refl) seen i c.point-point.result (below_end i _ _ c.loop-index-test.true (point_count seen c.points-points.result.now c.points-points.ensures)) c.point-point.ensures c.loop-index.invariant (rw c.points-points.ensures at c.put_face.ensures)
 
 pub returns : goal.returns
 returns g c =
     let seen = c.args.shape.now.points in
     let line = (λ (f : ℕ × Kind). face_line (points_in c.args.shape.now.points) (f.0 ∷ []) f.1) in
-    record {
-      flows = ends (λ (xs : List (ℕ × Kind)). concat (map line xs)) refl seen c.loop-index.index (past_end c.loop-index.index _ _ c.loop-index-test.false (point_count seen c.points-points.result.now c.points-points.ensures)) c.loop-index.invariant.0;
-      front = tt;
-      cause = record { later = c.loop-index.invariant.1; failed = tt };
-    }
+    ends (λ (xs : List (ℕ × Kind)). concat (map line xs)) refl seen c.loop-index.index (past_end c.loop-index.index _ _ c.loop-index-test.false (point_count seen c.points-points.result.now c.points-points.ensures)) c.loop-index.invariant

@@ -1,15 +1,14 @@
 -- a front of the block was put, and the lines that are left are not yet
-use Rattle.std.proofs.Common.{◌≤◌, [], ◌∷◌, drop}
+use Rattle.std.proofs.Common.{[], ◌∷◌, drop}
 use Rattle.std.specs.Prelude.{map, codes}
 use Rattle.std.specs.List.{concat}
 use Rattle.mesh_files.specs.Lines.{block}
 use Rattle.mesh_files.specs.Text.{face_line, points_in}
-use Rattle.mesh_files.proofs.Flowing.{FlowsBut}
+use Rattle.mesh_files.proofs.Sheets.{PutsBut}
 use Rattle.mesh_files.proofs.shapes.put_points.Given as goal
 
 abbrev pub invariant-loop-index : goal.invariant-loop-index
 invariant-loop-index g l =
-    FlowsBut (g.O.Sink.holds l.fn.out) (g.O.Sink.holds l.out) l.fn.page l.page
+    PutsBut (g.O.Sink.holds l.fn.out) (g.O.Sink.holds l.out) (g.O.Sink.faults l.fn.out) (g.O.Sink.faults l.out) l.fn.sheet l.sheet
     (concat (map (λ f. face_line (points_in l.shape.points) (f.0 ∷ []) f.1) (drop l.index l.shape.points)))
     (block (codes "points") (map (λ f. face_line (points_in l.shape.points) (f.0 ∷ []) f.1) l.shape.points))
-    × (g.O.Sink.faults l.fn.out ≤ g.O.Sink.faults l.out)

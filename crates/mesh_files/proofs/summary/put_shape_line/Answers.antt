@@ -1,20 +1,6 @@
-use Rattle.list_laws.proofs.Cited.{on_err}
-use Rattle.mesh_files.proofs.Flowing.{cause_from, caused, fails_err, more, not_ok, then_ok}
+use Rattle.mesh_files.proofs.Sheets.{then}
 use Rattle.mesh_files.proofs.summary.put_shape_line.Goals as goal
-
-pub returns-in_err-put : goal.returns-in_err-put
-returns-in_err-put g c =
-    let r = c.from_residual.result in
-    record {
-      flows = not_ok _ r c.from_residual.ensures.0;
-      front = on_err r (more _ c.in_err-put.ensures.front);
-      cause = caused r c.in_err-put.ensures.cause;
-    }
 
 pub returns : goal.returns
 returns g c =
-    record {
-      flows = then_ok _ _ _ _ c.in_ok-put.ensures.flows (rw (c.pair_count.ensures, c.triple_count.ensures, c.cell_count.ensures) at c.put_four.ensures.flows);
-      front = fails_err _ _ _ c.in_ok-put.ensures.flows (rw (c.pair_count.ensures, c.triple_count.ensures, c.cell_count.ensures) at c.put_four.ensures.front);
-      cause = cause_from _ c.in_ok-put.ensures.cause.later c.put_four.ensures.cause;
-    }
+    then c.put.ensures (rw (c.pair_count.ensures, c.triple_count.ensures, c.cell_count.ensures) at c.put_four.ensures)

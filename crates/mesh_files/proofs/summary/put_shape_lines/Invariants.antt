@@ -1,15 +1,14 @@
 -- a front of the lines was put, and the lines that are left are not yet
-use Rattle.std.proofs.Common.{◌≤◌, drop}
+use Rattle.std.proofs.Common.{drop}
 use Rattle.std.specs.Prelude.{map}
 use Rattle.std.specs.List.{concat}
 use Rattle.mesh_files.specs.Report.{shapes_seen}
 use Rattle.mesh_files.specs.Summary.{shape_line}
-use Rattle.mesh_files.proofs.Flowing.{FlowsBut}
+use Rattle.mesh_files.proofs.Sheets.{PutsBut}
 use Rattle.mesh_files.proofs.summary.put_shape_lines.Given as goal
 
 abbrev pub invariant-loop-radius : goal.invariant-loop-radius
 invariant-loop-radius g l =
-    FlowsBut (g.O.Sink.holds l.fn.out) (g.O.Sink.holds l.out) l.fn.page l.page
+    PutsBut (g.O.Sink.holds l.fn.out) (g.O.Sink.holds l.out) (g.O.Sink.faults l.fn.out) (g.O.Sink.faults l.out) l.fn.sheet l.sheet
     (concat (map shape_line (shapes_seen (drop l.radius-index l.shapes))))
     (concat (map shape_line (shapes_seen l.shapes)))
-    × (g.O.Sink.faults l.fn.out ≤ g.O.Sink.faults l.out)
