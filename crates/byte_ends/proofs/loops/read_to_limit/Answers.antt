@@ -18,6 +18,10 @@ returns-then-count-eq0-clause-taken g c =
     c.read_once.ensures.taken
     (omega (arith, c.loop-room.invariant.2))
 
+pub returns-then-count-eq0-clause-limit : goal.returns-then-count-eq0-clause-limit
+returns-then-count-eq0-clause-limit g c =
+    (λ e. absurd (cc e), λ e. absurd (omega (arith, e, c.loop-room.invariant.1, c.in_ok-count.ensures.count)))
+
 pub returns-then-count-eq0-clause-whole : goal.returns-then-count-eq0-clause-whole
 returns-then-count-eq0-clause-whole g c reached =
     TakesInto_all
