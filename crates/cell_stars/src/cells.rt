@@ -40,11 +40,12 @@ use crate::steps::{Steps, place_counted, place_of};
 use point_order::{Cell, Facet, Point};
 use smallvec::SmallVec;
 use std::alloc::{AllocError, Global};
+use std::fmt::{self, Debug, Formatter};
 use std::marker::Model;
 use std::sync::ledger::Ledger;
 
 /// The cells of a bucket at numbered places, each once, and for each of their vertices in the bucket its star.
-#[derive(Debug, Drop)]
+#[derive(Drop)]
 pub struct Cells {
     place: Option<(Grid, u32)>,
     pub(crate) slots: Vec<Option<Cell>>,
@@ -56,6 +57,12 @@ pub struct Cells {
     pub(crate) used: u32,
     pub(crate) used_stars: u32,
     pub(crate) links: Links,
+}
+
+impl Debug for Cells {
+    fn fmt<W: fmt::Write>(&self, f: &mut Formatter<W>) -> fmt::Result {
+        f.debug_struct("Cells").finish_non_exhaustive()
+    }
 }
 
 impl Model for Cells {

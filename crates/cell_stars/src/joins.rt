@@ -8,7 +8,7 @@ use point_order::Cell;
 use std::alloc::{AllocError, Global};
 
 /// The place across a facet of the cell at a place, which lies outside what was exchanged.
-#[derive(Clone, Copy, Debug)]
+#[derive(Clone, Copy)]
 pub(crate) struct Joint {
     pub(crate) place: u32,
     pub(crate) side: usize,
@@ -16,14 +16,14 @@ pub(crate) struct Joint {
 }
 
 /// A cell that is put at a place, by its place and its links.
-#[derive(Clone, Copy, Debug)]
+#[derive(Clone, Copy)]
 pub(crate) struct Linked {
     pub(crate) place: u32,
     pub(crate) around: Around4,
 }
 
 /// The links that change in an exchange: those of the cells that are put, and those back to them.
-#[derive(Debug, Drop)]
+#[derive(Drop)]
 pub(crate) struct Joins {
     pub(crate) fresh: Vec<Linked>,
     pub(crate) rim: Vec<Joint>,

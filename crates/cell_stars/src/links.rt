@@ -16,7 +16,7 @@ pub(crate) type Around4 = [u32; 4];
 ///
 /// Across each facet that has a point in the bucket the other cell stands in the bucket too, and its place is known
 /// as a rule.
-#[derive(Debug, Drop)]
+#[derive(Drop)]
 pub(crate) struct Links {
     list: Vec<Around4>,
 }

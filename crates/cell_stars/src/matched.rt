@@ -4,9 +4,10 @@
 use crate::links::facet_hashes;
 use point_order::Cell;
 use std::alloc::{AllocError, Global};
+use std::fmt::{self, Debug, Formatter};
 
 /// What lies across a facet of a cell that comes.
-#[derive(Clone, Copy, Debug)]
+#[derive(Clone, Copy)]
 pub(crate) enum Beside {
     /// It was not found.
     Nothing,
@@ -17,9 +18,15 @@ pub(crate) enum Beside {
 }
 
 /// For each cell that comes in an exchange, what lies across its facets, in their order.
-#[derive(Debug, Drop)]
+#[derive(Drop)]
 pub struct Matched {
     pub(crate) sides: Vec<[Beside; 4]>,
+}
+
+impl Debug for Matched {
+    fn fmt<W: fmt::Write>(&self, f: &mut Formatter<W>) -> fmt::Result {
+        f.debug_struct("Matched").finish_non_exhaustive()
+    }
 }
 
 // A facet by its number, and the cell, by where it comes in the list of those put, and the side on which it was met.

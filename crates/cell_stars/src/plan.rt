@@ -9,12 +9,13 @@ use crate::joins::Joins;
 use crate::links::Links;
 use point_order::{Cell, Point};
 use smallvec::SmallVec;
+use std::fmt::{self, Debug, Formatter};
 use std::marker::Model;
 
 /// The places of the cells of a vertex.
 ///
 /// Contracts see it as the vertex and the numbers of the places.
-#[derive(Debug, Drop)]
+#[derive(Drop)]
 pub(crate) struct Around {
     pub(crate) vertex: Point,
     pub(crate) places: SmallVec<u32, 32>,
@@ -45,7 +46,7 @@ impl Around {
 }
 
 /// What stands at some places after an exchange.
-#[derive(Debug, Drop)]
+#[derive(Drop)]
 pub(crate) struct PlacesPlan {
     pub(crate) grown: Option<Vec<Option<Cell>>>,
     pub(crate) slots: Vec<(u32, Option<Cell>)>,
@@ -56,7 +57,7 @@ pub(crate) struct PlacesPlan {
 }
 
 /// What some stars are after an exchange.
-#[derive(Debug, Drop)]
+#[derive(Drop)]
 pub(crate) struct StarsPlan {
     pub(crate) more: Option<Vec<Around>>,
     pub(crate) stars: Vec<(u32, Around)>,
@@ -66,10 +67,16 @@ pub(crate) struct StarsPlan {
 }
 
 /// What an exchange makes of the cells of a bucket: what stands at some places after it, and what some stars are then.
-#[derive(Debug, Drop)]
+#[derive(Drop)]
 pub struct Plan {
     pub(crate) places: PlacesPlan,
     pub(crate) stars: StarsPlan,
+}
+
+impl Debug for Plan {
+    fn fmt<W: fmt::Write>(&self, f: &mut Formatter<W>) -> fmt::Result {
+        f.debug_struct("Plan").finish_non_exhaustive()
+    }
 }
 
 impl Model for Plan {
