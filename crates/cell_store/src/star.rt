@@ -72,7 +72,7 @@ pub(crate) fn is_on(cell: &Cell, facet: &Facet) -> bool
 }
 
 // A cell on a facet, and the place at which it stands in its bucket.
-#[derive(Clone, Copy, Debug)]
+#[derive(Clone, Copy)]
 pub(crate) struct Other<'a> {
     pub(crate) cell: &'a Cell,
     pub(crate) place: u32,

@@ -46,7 +46,7 @@ use std::marker::Model;
 use std::snapshot::Snapshot;
 
 // A live pass, without what it holds.
-#[derive(Clone, Copy, Debug)]
+#[derive(Clone, Copy)]
 struct Seat {
     first: u32,
     parts: u32,

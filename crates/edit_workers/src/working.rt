@@ -20,7 +20,7 @@ const FIRST_PAUSE: u32 = 64;
 const LONGEST_PAUSE: u32 = 4096;
 
 // What came of one try of an edit, or of all.
-#[derive(Clone, Copy, Debug, PartialEq, Eq)]
+#[derive(Clone, Copy)]
 enum Tried {
     Made,
     LeftOver,

@@ -40,7 +40,7 @@ use vertex_removal::{Refill, RefillTurn};
 const STEPS: u64 = 1 << 40;
 
 /// What an edit is to change: its reply, the cells that go, and those that come.
-#[derive(Debug, Drop)]
+#[derive(Drop)]
 pub(crate) struct Plan {
     pub(crate) reply: Reply,
     pub(crate) gone: Vec<Cell>,
