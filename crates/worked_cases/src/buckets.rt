@@ -6,22 +6,25 @@ ghost use Rattle.cell_store.specs.Buckets.{bucket_at, points_in};
 ghost use Rattle.cell_store.specs.Shares.{ShowsWith, Stands, share_at};
 ghost use Rattle.cell_store.specs.Meshes.{StandsForSome};
 
-use crate::reading::list_at;
+use crate::meshes::{grid_of, mesh_of};
+use crate::reading::{at, list_at};
 use crate::telling::{Answer, put_cell};
-use cell_store::{Across, Bucket, Grid, Hold, Mesh, Star, Steps};
+use cell_store::{Across, Bucket, Hold, Mesh, Star, Steps};
 use point_order::{Cell, Point};
 use std::alloc::{AllocError, Global};
 use std::marker::Brand;
 use std::sync::ledger::{Blank, Ledger};
 
 /// Answers a case of a grid.
-pub(crate) fn numbers(answer: &mut Answer, grid: Grid, lists: &str) {
+pub(crate) fn numbers(answer: &mut Answer, lists: &str) -> Option<()> {
+    let grid = grid_of(answer, lists)?;
     let (size, count) = (grid.size(), grid.count());
     write!(answer, "size {size} count {count} at");
-    let points: Vec<Point> = answer.all(list_at(lists, 0));
+    let points: Vec<Point> = answer.all(list_at(lists, 1));
     for p in &points {
         write!(answer, " {}", grid.bucket_of(*p));
     }
+    Some(())
 }
 
 // Takes the bucket with the number out of a mesh, and puts it into an empty hold of the grid.
@@ -133,11 +136,12 @@ fn put_point(answer: &mut Answer, hold: &Hold, p: Point)
 }
 
 // What the bucket with the number shows, alone in hand.
-fn put_bucket(alloc: Global, answer: &mut Answer, hold: &Hold, b: u32) -> Result<(), AllocError>
+fn put_bucket(alloc: Global, answer: &mut Answer, hold: &Hold, b: u32)
     requires { StandsForSome hold.now }
 {
-    if hold.has(b) {
-        let copy = hold.copy_of(alloc, b)?;
+    if hold.has(b)
+        && let Some(copy) = answer.got(hold.copy_of(alloc, b))
+    {
         let (points, entries) = (copy.points().len(), copy.entries().len());
         let cells = count_of(&copy);
         write!(answer, " {points} points {cells} cells {entries} entries");
@@ -145,23 +149,15 @@ fn put_bucket(alloc: Global, answer: &mut Answer, hold: &Hold, b: u32) -> Result
             put_point(answer, hold, *p);
         }
     }
-    Ok(())
 }
 
 /// Answers a case of a bucket.
-///
-/// # Errors
-/// Want of memory.
-pub(crate) fn put(
-    alloc: Global,
-    answer: &mut Answer,
-    mesh: Mesh,
-    lists: &str,
-) -> Result<(), AllocError> {
-    let number = list_at(lists, 1).parse::<u32>().unwrap_or(0);
+pub(crate) fn put(alloc: Global, answer: &mut Answer, lists: &str) -> Option<()> {
+    let number = at(list_at(lists, 2), 0)?;
+    let mesh = mesh_of(alloc, answer, lists)?;
     if number < mesh.grid().count() {
-        let hold = moved(alloc, mesh, number)?;
-        put_bucket(alloc, answer, &hold, number)?;
+        let hold = answer.got(moved(alloc, mesh, number))?;
+        put_bucket(alloc, answer, &hold, number);
     }
-    Ok(())
+    Some(())
 }

@@ -1,15 +1,16 @@
 //! Entries in buckets.
 
+use crate::meshes::grid_of;
 use crate::reading::list_at;
 use crate::telling::Answer;
-use cell_store::{Bucket, Grid, Hold};
+use cell_store::{Bucket, Hold};
 use edit_history::{Edit, Entry, Reply};
 use point_order::Cell;
 use std::alloc::{AllocError, Global};
 
 // Enters an edit as done, with a number that is its place.
 fn enter(alloc: Global, hold: &mut Hold, number: u64, edit: Edit) -> Result<(), AllocError> {
-    let none: [Cell; 0] = [];
+    let none: &[Cell] = &[];
     let b = hold.grid().bucket_of(edit.point());
     if !hold.has(b) {
         hold.put(b, Bucket::new(alloc));
@@ -21,8 +22,8 @@ fn enter(alloc: Global, hold: &mut Hold, number: u64, edit: Edit) -> Result<(), 
         Edit::Take(_) if there => Reply::Removed,
         Edit::Take(_) => Reply::Missing,
     };
-    hold.reserve(alloc, &none, &none, edit.point())?;
-    hold.swap_cells(&none, &none);
+    hold.reserve(alloc, none, none, edit.point())?;
+    hold.swap_cells(none, none);
     hold.push_entry(Entry {
         number,
         by: 0,
@@ -34,37 +35,27 @@ fn enter(alloc: Global, hold: &mut Hold, number: u64, edit: Edit) -> Result<(), 
 }
 
 // How much the bucket of an edit has.
-fn put_counts(
-    alloc: Global,
-    answer: &mut Answer,
-    hold: &Hold,
-    edit: Edit,
-) -> Result<(), AllocError> {
+fn put_counts(alloc: Global, answer: &mut Answer, hold: &Hold, edit: Edit) {
     let b = hold.grid().bucket_of(edit.point());
-    if hold.has(b) {
-        let copy = hold.copy_of(alloc, b)?;
+    if hold.has(b)
+        && let Some(copy) = answer.got(hold.copy_of(alloc, b))
+    {
         let (points, entries) = (copy.points().len(), copy.entries().len());
         write!(answer, " {b} {points} {entries}");
     }
-    Ok(())
 }
 
 /// Answers a case of entries.
-///
-/// # Errors
-/// Want of memory.
-pub(crate) fn put(
-    alloc: Global,
-    answer: &mut Answer,
-    grid: Grid,
-    lists: &str,
-) -> Result<(), AllocError> {
-    let mut hold = Hold::empty(alloc, grid)?;
+pub(crate) fn put(alloc: Global, answer: &mut Answer, lists: &str) -> Option<()> {
+    let grid = grid_of(answer, lists)?;
+    let mut hold = answer.got(Hold::empty(alloc, grid))?;
     answer.put("entered");
-    let edits: Vec<Edit> = answer.all(list_at(lists, 0));
+    let edits: Vec<Edit> = answer.all(list_at(lists, 1));
     for (number, edit) in edits.iter().enumerate() {
-        enter(alloc, &mut hold, number as u64, *edit)?;
-        put_counts(alloc, answer, &hold, *edit)?;
+        if enter(alloc, &mut hold, number as u64, *edit).is_err() {
+            answer.fail();
+        }
+        put_counts(alloc, answer, &hold, *edit);
     }
-    Ok(())
+    Some(())
 }

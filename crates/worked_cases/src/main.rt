@@ -57,64 +57,19 @@ mod spheres;
 mod telling;
 mod walks;
 
-use cell_store::Grid;
-use meshes::mesh_of;
-use reading::at;
 use std::alloc::{AllocError, Global};
 use std::io;
 use std::thread::Threads;
 use telling::Answer;
 
-// Answers a case of a mesh.
-fn of_a_mesh<R: Threads + Sync>(
-    rt: &R,
-    alloc: Global,
-    answer: &mut Answer,
-    asked: &str,
-    grid: Grid,
-    lists: &str,
-) -> Result<(), AllocError> {
-    let Some(mesh) = mesh_of(alloc, answer, grid, lists)? else {
-        answer.put("no four independent points");
-        return Ok(());
-    };
-    match asked {
-        "mesh" => meshes::put(alloc, answer, &mesh),
-        "faces" => faces::put(rt, alloc, answer, &mesh),
-        "bucket" => buckets::put(alloc, answer, mesh, lists),
-        "refill" => refills::put(alloc, answer, mesh, lists),
-        _ => {
-            walks::put(answer, mesh, lists);
-            Ok(())
-        }
-    }
-}
-
-// Answers a case on a grid; the first list is its size.
-fn on_a_grid<R: Threads + Sync>(
+// Answers a case that needs no more than memory and threads. Where its words make none, nothing may be put.
+fn put_case<R: Threads + Sync>(
     rt: &R,
     alloc: Global,
     answer: &mut Answer,
     asked: &str,
     lists: &str,
-) -> Result<(), AllocError> {
-    let (size, lists) = lists.split_once(';').unwrap_or((lists, ""));
-    let Ok(grid) = Grid::new(at(size, 0).unwrap_or(0)) else {
-        answer.put("no grid");
-        return Ok(());
-    };
-    match asked {
-        "grid" => {
-            buckets::numbers(answer, grid, lists);
-            Ok(())
-        }
-        "enter" => entering::put(alloc, answer, grid, lists),
-        _ => of_a_mesh(rt, alloc, answer, asked, grid, lists),
-    }
-}
-
-// Answers a case that needs no more than memory; nothing where the words make none.
-fn of_words(alloc: Global, answer: &mut Answer, asked: &str, lists: &str) -> Option<()> {
+) -> Option<()> {
     match asked {
         "key" => cells::key(answer, lists),
         "cell" => cells::parts(answer, lists),
@@ -132,40 +87,52 @@ fn of_words(alloc: Global, answer: &mut Answer, asked: &str, lists: &str) -> Opt
         "report" => reports::put(alloc, answer, lists),
         "file" => files::read(alloc, answer, lists),
         "draw" => files::drawn(alloc, answer, lists),
+        "grid" => buckets::numbers(answer, lists),
+        "enter" => entering::put(alloc, answer, lists),
+        "mesh" => meshes::put(alloc, answer, lists),
+        "faces" => faces::put(rt, alloc, answer, lists),
+        "bucket" => buckets::put(alloc, answer, lists),
+        "refill" => refills::put(alloc, answer, lists),
+        "walk" => walks::put(alloc, answer, lists),
         _ => None,
     }
 }
 
-// Answers the case in a line. The host gives the standard streams and pipes.
-fn put_answer<R: Threads + Sync>(
-    rt: &R,
-    host: &HostRuntime,
-    answer: &mut Answer,
-    line: &str,
-) -> io::Result<()> {
-    let alloc = host.alloc();
+// Puts down what the case in a line comes to. The host gives the standard streams and pipes.
+fn put_line<R: Threads + Sync>(rt: &R, host: &HostRuntime, answer: &mut Answer, line: &str) {
     let (asked, lists) = line.split_once(' ').unwrap_or((line, ""));
     match asked {
         "#" => answer.put(line),
-        "pipe" => ends::pipe(host, alloc, answer, lists)?,
-        "streams" => ends::streams(host, answer, lists),
-        "grid" | "enter" | "mesh" | "faces" | "bucket" | "refill" | "walk" => {
-            on_a_grid(rt, alloc, answer, asked, lists)?;
-        }
-        _ => {
-            if of_words(alloc, answer, asked, lists).is_none() {
-                answer.put("no case");
+        "pipe" => {
+            if ends::pipe(host, host.alloc(), answer, lists).is_err() {
+                answer.put("no pipe");
             }
         }
+        "streams" => ends::streams(host, answer, lists),
+        _ => {
+            let _ = put_case(rt, host.alloc(), answer, asked, lists);
+        }
     }
-    Ok(())
+}
+
+// The answer of the case in a line.
+fn answered<R: Threads + Sync>(
+    rt: &R,
+    host: &HostRuntime,
+    line: &str,
+) -> Result<String, AllocError> {
+    let mut answer = Answer::new(host.alloc());
+    put_line(rt, host, &mut answer, line);
+    if answer.is_empty() {
+        answer.put("no case");
+    }
+    answer.whole()
 }
 
 fn main(rt: HostRuntime) -> io::Result<()> {
     for line in rt.lines(rt.alloc()) {
-        let mut answer = Answer::new(rt.alloc());
-        put_answer(&rt, &rt, &mut answer, line?.as_str())?;
-        println!(rt; "{}", answer.whole()?)?;
+        let answer = answered(&rt, &rt, &line?)?;
+        println!(rt; "{answer}")?;
     }
     Ok(())
 }

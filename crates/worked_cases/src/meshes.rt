@@ -3,13 +3,13 @@
 ghost use Rattle.std.specs.Prelude.{◌≡◌, ◌<◌, ℕ, List, length, slice_index};
 ghost use Rattle.cell_store.specs.Shares.{Shows};
 
-use crate::reading::list_at;
+use crate::reading::{at, list_at};
 use crate::telling::{Answer, put_cells, put_point};
 use cell_store::{Grid, Hold, Mesh};
 use edit_history::{Edit, Entry, PointSet, Reply, find_four};
 use one_mesh::{apply, begin, complex, history, points};
 use point_order::Point;
-use std::alloc::{AllocError, Global};
+use std::alloc::Global;
 
 // The tag of the line at a place.
 fn tag_of(place: usize) -> u32 {
@@ -24,67 +24,69 @@ fn line_at(points: &[Point], i: usize) -> (u32, Point)
     (tag_of(i), points[i])
 }
 
-// The mesh of the first four independent points, if there are four.
-fn mesh_of_four(alloc: Global, grid: Grid, points: &[Point]) -> Result<Option<Mesh>, AllocError> {
+// The mesh of the first four independent points, and their places, if there are four.
+fn mesh_of_four(
+    alloc: Global,
+    answer: &mut Answer,
+    grid: Grid,
+    points: &[Point],
+) -> Option<(Mesh, [usize; 4])> {
     match find_four(points) {
         Ok(four) => {
             let a = line_at(points, four[0]);
             let b = line_at(points, four[1]);
             let c = line_at(points, four[2]);
             let d = line_at(points, four[3]);
-            let mesh = begin(alloc, grid, [a, b, c, d])?;
-            Ok(Some(mesh))
+            let mesh = answer.got(begin(alloc, grid, [a, b, c, d]))?;
+            Some((mesh, four))
         }
-        Err(_) => Ok(None),
+        Err(_) => {
+            answer.put("no four independent points");
+            None
+        }
     }
 }
 
 // Makes an edit, where the history is not too long for it.
-fn edit(alloc: Global, mesh: &mut Mesh, tag: u32, edit: Edit) -> Result<(), AllocError> {
-    if mesh.count() < 4_294_967_296 {
-        apply(alloc, mesh, tag, edit)?;
+fn edit(alloc: Global, answer: &mut Answer, mesh: &mut Mesh, place: usize, edit: Edit) {
+    if mesh.count() < 4_294_967_296 && apply(alloc, mesh, tag_of(place), edit).is_err() {
+        answer.fail();
     }
-    Ok(())
 }
 
-// Adds the points but for the four with which a mesh began, and makes the edits behind them.
-fn edit_all(
-    alloc: Global,
-    mesh: &mut Mesh,
-    four: &[usize],
-    points: &[Point],
-    edits: &[Edit],
-) -> Result<(), AllocError> {
+// The grid whose size is the first list.
+pub(crate) fn grid_of(answer: &mut Answer, lists: &str) -> Option<Grid> {
+    match Grid::new(at(list_at(lists, 0), 0)?) {
+        Ok(grid) => Some(grid),
+        Err(_) => {
+            answer.put("no grid");
+            None
+        }
+    }
+}
+
+// The mesh on that grid of the points of the second list, the first four independent ones first, and of the edits of the
+// third one, which has none where it names buckets; no mesh where no four are.
+pub(crate) fn mesh_of(alloc: Global, answer: &mut Answer, lists: &str) -> Option<Mesh> {
+    let grid = grid_of(answer, lists)?;
+    let points: Vec<Point> = answer.all(list_at(lists, 1));
+    let edits: Vec<Edit> = answer.all(list_at(lists, 2));
+    let (mut mesh, four) = mesh_of_four(alloc, answer, grid, &points)?;
     for (place, p) in points.iter().enumerate() {
         if !four.contains(&place) {
-            edit(alloc, mesh, tag_of(place), Edit::Add(*p))?;
+            edit(alloc, answer, &mut mesh, place, Edit::Add(*p));
         }
     }
     for (place, line) in edits.iter().enumerate() {
-        let tag = tag_of(points.len().saturating_add(place));
-        edit(alloc, mesh, tag, *line)?;
+        edit(
+            alloc,
+            answer,
+            &mut mesh,
+            points.len().saturating_add(place),
+            *line,
+        );
     }
-    Ok(())
-}
-
-// The mesh of the points of the first list, the first four independent ones first, and of the edits of the second one,
-// which has none where it names buckets; no mesh where no four are.
-pub(crate) fn mesh_of(
-    alloc: Global,
-    answer: &mut Answer,
-    grid: Grid,
-    lists: &str,
-) -> Result<Option<Mesh>, AllocError> {
-    let points: Vec<Point> = answer.all(list_at(lists, 0));
-    let edits: Vec<Edit> = answer.all(list_at(lists, 1));
-    let Ok(four) = find_four(&points) else {
-        return Ok(None);
-    };
-    let Some(mut mesh) = mesh_of_four(alloc, grid, &points)? else {
-        return Ok(None);
-    };
-    edit_all(alloc, &mut mesh, &four, &points, &edits)?;
-    Ok(Some(mesh))
+    Some(mesh)
 }
 
 fn letter(reply: Reply) -> char {
@@ -98,7 +100,7 @@ fn letter(reply: Reply) -> char {
 }
 
 // The history by tags, each with its reply, and behind it the replies that a set of points gives.
-fn put_history(alloc: Global, answer: &mut Answer, history: &[Entry]) -> Result<(), AllocError> {
+fn put_history(alloc: Global, answer: &mut Answer, history: &[Entry]) {
     for entry in history {
         write!(answer, " {}{}", entry.tag, letter(entry.reply));
     }
@@ -106,25 +108,31 @@ fn put_history(alloc: Global, answer: &mut Answer, history: &[Entry]) -> Result<
     let mut set = PointSet::new(alloc);
     for entry in history {
         answer.put(letter(set.reply_of(entry.edit)));
-        set.after(entry.edit)?;
+        if set.after(entry.edit).is_err() {
+            answer.fail();
+        }
     }
-    Ok(())
 }
 
-/// Answers a case of a mesh.
-///
-/// # Errors
-/// Want of memory.
-pub(crate) fn put(alloc: Global, answer: &mut Answer, mesh: &Mesh) -> Result<(), AllocError> {
-    put_history(alloc, answer, &history(alloc, mesh)?)?;
-    let left = points(alloc, mesh)?;
+// The history of a mesh, the points that it leaves, and their cells.
+fn put_mesh(alloc: Global, answer: &mut Answer, mesh: &Mesh) -> Option<()> {
+    let entries = answer.got(history(alloc, mesh))?;
+    let left = answer.got(points(alloc, mesh))?;
+    let cells = answer.got(complex(alloc, mesh))?;
+    put_history(alloc, answer, &entries);
     answer.put("; points");
     for p in &left {
         put_point(answer, *p);
     }
     answer.put("; cells");
-    put_cells(answer, &left, &complex(alloc, mesh)?);
-    Ok(())
+    put_cells(answer, &left, &cells);
+    Some(())
+}
+
+/// Answers a case of a mesh.
+pub(crate) fn put(alloc: Global, answer: &mut Answer, lists: &str) -> Option<()> {
+    let mesh = mesh_of(alloc, answer, lists)?;
+    put_mesh(alloc, answer, &mesh)
 }
 
 // Takes a bucket out, if it is in hand.

@@ -6,13 +6,13 @@ ghost use Rattle.cell_store.specs.Buckets.{bucket_at};
 ghost use Rattle.cell_store.specs.Grids.{bucket_of};
 ghost use Rattle.cell_store.specs.Shares.{Shows, ShowsSome};
 
-use crate::meshes::keep_only;
+use crate::meshes::{keep_only, mesh_of};
 use crate::reading::{at, list_at};
 use crate::telling::{Answer, put_cells};
-use cell_store::{Hold, Mesh};
+use cell_store::Hold;
 use one_mesh::points;
 use point_order::{Cell, Point};
-use std::alloc::{AllocError, Global};
+use std::alloc::Global;
 use vertex_removal::{Refill, RefillTurn};
 
 // Cells in order, by the places of their points.
@@ -36,15 +36,15 @@ fn put_turn(
     hold: &Hold,
     points: &[Point],
     v: Point,
-) -> Result<(), AllocError>
+) -> Option<()>
     requires { ShowsSome hold.now }
 {
     if !is_there(hold, v) {
         answer.put("no point in hand");
-        return Ok(());
+        return None;
     }
-    let mut refill = Refill::start(alloc, v)?;
-    match refill.advance(alloc, hold)? {
+    let mut refill = answer.got(Refill::start(alloc, v))?;
+    match answer.got(refill.advance(alloc, hold))? {
         RefillTurn::Done(change) => {
             answer.put("gone");
             put_sorted(answer, points, change.gone);
@@ -54,27 +54,15 @@ fn put_turn(
         RefillTurn::Flat => answer.put("flat"),
         RefillTurn::Need(b) => write!(answer, "needs {b}"),
     }
-    Ok(())
+    Some(())
 }
 
 /// Answers a case of a refill.
-///
-/// # Errors
-/// Want of memory.
-pub(crate) fn put(
-    alloc: Global,
-    answer: &mut Answer,
-    mesh: Mesh,
-    lists: &str,
-) -> Result<(), AllocError> {
-    let points = points(alloc, &mesh)?;
+pub(crate) fn put(alloc: Global, answer: &mut Answer, lists: &str) -> Option<()> {
+    let v = at(list_at(lists, 3), 0)?;
+    let mesh = mesh_of(alloc, answer, lists)?;
+    let points = answer.got(points(alloc, &mesh))?;
     let mut hold = mesh.into_hold();
-    keep_only(answer, &mut hold, list_at(lists, 1));
-    match at(list_at(lists, 2), 0) {
-        Some(v) => put_turn(alloc, answer, &hold, &points, v),
-        None => {
-            answer.put("no point");
-            Ok(())
-        }
-    }
+    keep_only(answer, &mut hold, list_at(lists, 2));
+    put_turn(alloc, answer, &hold, &points, v)
 }

@@ -32,9 +32,9 @@ fn put_texts(alloc: Global, answer: &mut Answer, report: &Report, end: &str) -> 
 /// Answers a case of a report, whose cells are those of the points by trial.
 pub(crate) fn put(alloc: Global, answer: &mut Answer, lists: &str) -> Option<()> {
     let points = points_in_order(answer.all(list_at(lists, 2)));
+    let cells = answer.got(complex_by_trial(alloc, &points))?;
     let replies = answer.all(list_at(lists, 0));
     let tags = answer.all(list_at(lists, 1));
-    let cells = answer.got(complex_by_trial(alloc, &points))?;
     let report = Report {
         replies,
         points,

@@ -1,5 +1,7 @@
 //! Answers as they are put together.
 
+ghost use Rattle.std.specs.Prelude.{◌≡◌, IfSome, Ok};
+
 use crate::reading::Word;
 use point_order::{Cell, Point};
 use std::alloc::{AllocError, Global};
@@ -57,11 +59,21 @@ impl Answer {
     }
 
     // What was made; nothing where memory was wanting.
-    pub(crate) fn got<T: Drop>(&mut self, made: Result<T, AllocError>) -> Option<T> {
-        if made.is_err() {
-            self.fail();
+    pub(crate) fn got<T: Drop>(&mut self, made: Result<T, AllocError>) -> Option<T>
+        ensures { IfSome result (λ value. made ≡ Ok value) }
+    {
+        match made {
+            Ok(value) => Some(value),
+            Err(_) => {
+                self.fail();
+                None
+            }
         }
-        made.ok()
+    }
+
+    // Nothing was put.
+    pub(crate) fn is_empty(&self) -> bool {
+        self.text.is_empty()
     }
 
     // The text, if there was memory for all of it.

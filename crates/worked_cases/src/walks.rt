@@ -5,12 +5,13 @@ ghost use Rattle.cell_store.specs.Shares.{Shows, ShowsSome};
 ghost use Rattle.hole_laws.specs.Edits.{IsNew};
 ghost use Rattle.cell_walk.specs.Paths.{ShowsWalk};
 
-use crate::meshes::keep_only;
+use crate::meshes::{keep_only, mesh_of};
 use crate::reading::{at, list_at};
 use crate::telling::{Answer, put_cell};
-use cell_store::{Hold, Mesh};
+use cell_store::Hold;
 use cell_walk::{Start, Walk, WalkTurn};
 use point_order::Point;
+use std::alloc::Global;
 
 // Whether the point's bucket is in hand, and the point is not there.
 fn is_new(hold: &Hold, p: Point) -> bool
@@ -59,11 +60,11 @@ fn put_walk(answer: &mut Answer, hold: &Hold, p: Point)
 }
 
 /// Answers a case of a walk.
-pub(crate) fn put(answer: &mut Answer, mesh: Mesh, lists: &str) {
+pub(crate) fn put(alloc: Global, answer: &mut Answer, lists: &str) -> Option<()> {
+    let target = at(list_at(lists, 3), 0)?;
+    let mesh = mesh_of(alloc, answer, lists)?;
     let mut hold = mesh.into_hold();
-    keep_only(answer, &mut hold, list_at(lists, 1));
-    match at(list_at(lists, 2), 0) {
-        Some(target) => put_walk(answer, &hold, target),
-        None => answer.put("no point"),
-    }
+    keep_only(answer, &mut hold, list_at(lists, 2));
+    put_walk(answer, &hold, target);
+    Some(())
 }
