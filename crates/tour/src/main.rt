@@ -4,6 +4,7 @@
 #![tactic(auto)]
 
 ghost use Rattle.std.specs.Prelude.{◌≡◌, ◌<◌, ◌^◌, IfOk, IsTrue};
+ghost use Rattle.alpha_complex.specs.Condition.{AreFaces};
 ghost use Rattle.point_order.specs.Orientation.{is_flat};
 ghost use Rattle.point_order.specs.Sets.{IsAscending};
 
@@ -14,11 +15,11 @@ use anyhow::{Result, bail};
 use cell_store::{Grid, Mesh};
 use edit_history::Edit;
 use exact_orient::orient;
-use face_list::faces;
+use face_list::{Faces, faces};
 use insertion::cell_in_conflict;
 use mesh_files::shape_text;
 use one_mesh::{apply, begin, complex, points};
-use point_order::Point;
+use point_order::{Cell, Point};
 use std::alloc::Global;
 use std::thread::Threads;
 
@@ -52,14 +53,6 @@ fn edit(rt: &impl Print, alloc: Global, mesh: &mut Mesh, tag: u32, edit: Edit) -
     Ok(())
 }
 
-// The complex: its cells in order, tetrahedra first, and then the triangles of the hull.
-fn show_complex(rt: &impl Print, alloc: Global, mesh: &Mesh) -> Result<()> {
-    for cell in &complex(alloc, mesh)? {
-        println!(rt; "cell {cell}")?;
-    }
-    Ok(())
-}
-
 // Whether the five points ascend.
 fn are_ascending(points: &[Point]) -> bool
     ensures { IsTrue result → IsAscending points.now }
@@ -70,41 +63,51 @@ fn are_ascending(points: &[Point]) -> bool
     }
 }
 
-// The triangles of an alpha complex, each with its kind.
-fn show_triangles(rt: &impl Print, radius: u64, shape: &Shape) -> Result<()> {
+// The triangles of an alpha complex, each with its kind, and how long its block in a report is.
+fn show_triangles(rt: &impl Print, alloc: Global, radius: u64, shape: &Shape) -> Result<()> {
     println!(rt; "at {radius}: {} tetrahedra", shape.cell_count())?;
     for index in 0..shape.triple_slots() {
         if let Some((triple, kind)) = shape.triple(index) {
             println!(rt; "at {radius}: {triple} {kind:?}")?;
         }
     }
-    Ok(())
-}
-
-// How long the block of an alpha complex in a report is.
-fn show_block(rt: &impl Print, alloc: Global, radius: u64, shape: &Shape) -> Result<()> {
     if are_ascending(shape.points()) {
-        let block = shape_text(alloc, radius, shape)?;
-        println!(rt; "at {radius}: a block of {} bytes", block.len())?;
+        let block = shape_text(alloc, radius, shape)?.len();
+        println!(rt; "at {radius}: a block of {block} bytes")?;
     }
     Ok(())
 }
 
-// The alpha complex at a squared radius below 2^30.
+// The alpha complex of the faces at a squared radius below 2^30.
 fn show_shape(
     rt: &(impl Print + Threads + Sync),
     alloc: Global,
-    mesh: &Mesh,
+    faces: &Faces,
     radius: u64,
 ) -> Result<()>
-    requires { radius < 2 ^ 30 }
+    requires faces { AreFaces faces.now }
+    requires radius { radius < 2 ^ 30 }
 {
+    let shape = alpha(rt, alloc, faces, radius)?;
+    show_triangles(rt, alloc, radius, &shape)
+}
+
+// Cells in order, tetrahedra first, and then the triangles of the hull.
+fn show_cells(rt: &impl Print, cells: &[Cell]) -> Result<()> {
+    for cell in cells {
+        println!(rt; "cell {cell}")?;
+    }
+    Ok(())
+}
+
+// The complex of the mesh, and two of its alpha complexes, both from the same faces.
+fn show_complex(rt: &(impl Print + Threads + Sync), alloc: Global, mesh: &Mesh) -> Result<()> {
     let _ = points(alloc, mesh)?;
     let cells = complex(alloc, mesh)?;
+    show_cells(rt, &cells)?;
     let faces = faces(rt, alloc, &cells)?;
-    let shape = alpha(rt, alloc, &faces, radius)?;
-    show_triangles(rt, radius, &shape)?;
-    show_block(rt, alloc, radius, &shape)
+    show_shape(rt, alloc, &faces, 270)?;
+    show_shape(rt, alloc, &faces, 300)
 }
 
 // A cell that a new point would take away, found by a walk.
@@ -125,8 +128,6 @@ fn edit_and_show(rt: &(impl Print + Threads + Sync), alloc: Global, mesh: &mut M
     edit(rt, alloc, mesh, 4, Edit::Add(corner))?;
     edit(rt, alloc, mesh, 5, Edit::Add(corner))?;
     show_complex(rt, alloc, mesh)?;
-    show_shape(rt, alloc, mesh, 270)?;
-    show_shape(rt, alloc, mesh, 300)?;
     show_conflict(rt, mesh, Point::new(1, 30, 30)?)?;
     edit(rt, alloc, mesh, 6, Edit::Take(corner))?;
     edit(rt, alloc, mesh, 7, Edit::Take(Point::new(0, 0, 0)?))

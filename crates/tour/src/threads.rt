@@ -41,20 +41,19 @@ fn tried(
     table.try_edit(alloc, pass, tag, edit, &OpenGate)
 }
 
-// Tries an edit until it is made; none where it never is.
-fn made(table: &MeshTable, alloc: Global, pass: &mut Pass, tag: u32, edit: Edit) -> Option<Receipt>
+// Tries to add a point until it is done, and answers whether it was.
+fn added(table: &MeshTable, alloc: Global, pass: &mut Pass, tag: u32, p: Point) -> bool
     requires { pass.old.table ≡ table.now }
     ensures { IsStill pass.old pass.new }
 {
     for _ in 0..TRIES {
-        let again = edit;
-        match tried(table, alloc, pass, tag, again) {
-            Ok(receipt) => return Some(receipt),
+        match tried(table, alloc, pass, tag, Edit::Add(p)) {
+            Ok(_) => return true,
             Err(Refused::Busy { .. }) => {}
-            Err(_) => return None,
+            Err(_) => return false,
         }
     }
-    None
+    false
 }
 
 // Adds the points of a small cube, all by one pass, and answers how many were added.
@@ -70,7 +69,7 @@ fn add_cube(table: &MeshTable, alloc: Global, mut pass: Pass, low: i64) -> (Pass
             low.saturating_add(z),
         );
         if let Ok(p) = corner
-            && made(table, alloc, &mut pass, count, Edit::Add(p)).is_some()
+            && added(table, alloc, &mut pass, count, p)
         {
             count = count.saturating_add(1);
         }
@@ -112,23 +111,27 @@ fn snapped(table: &MeshTable, alloc: Global, pass: &mut Pass) -> Result<Snapshot
     table.try_snapshot(alloc, pass)
 }
 
-// Takes a snapshot of the whole, and tells how much it has.
-fn show_snapshot(
+// Tells how many points each thread added, and how much a snapshot of the whole has.
+fn show_whole(
     rt: &impl Print,
     alloc: Global,
     table: &MeshTable,
     pass: &mut Pass,
+    near: u32,
+    far: u32,
 ) -> anyhow::Result<()>
     requires { pass.old.table ≡ table.now }
     ensures { IsStill pass.old pass.new }
 {
+    println!(rt; "{near} and {far} points were added side by side")?;
     let snapshot = snapped(table, alloc, pass)?;
     let (entries, cells) = (snapshot.history.len(), snapshot.complex.len());
     println!(rt; "a snapshot has {entries} entries and {cells} cells")?;
     Ok(())
 }
 
-/// Adds two cubes to the mesh by two threads side by side, and looks at the whole by a snapshot.
+/// Adds two cubes to the mesh by two threads side by side, and looks at the whole by a snapshot. Whatever comes of that,
+/// the table is closed.
 pub fn edit_side_by_side<R: Threads + Sync + Print>(
     rt: &R,
     alloc: Global,
@@ -141,9 +144,9 @@ pub fn edit_side_by_side<R: Threads + Sync + Print>(
     let two = table.split(alloc, &mut one, 1, 50)?;
     let ((mut one, near), (two, far)) = add_cubes(rt, alloc, &table, one, two);
     table.join(&mut one, two);
-    println!(rt; "{near} and {far} points were added side by side")?;
-    show_snapshot(rt, alloc, &table, &mut one)?;
-    let mesh = table.close(one);
-    println!(rt; "the mesh has {} entries", mesh.count())?;
+    let shown = show_whole(rt, alloc, &table, &mut one, near, far);
+    let count = table.close(one).count();
+    shown?;
+    println!(rt; "the mesh has {count} entries")?;
     Ok(())
 }

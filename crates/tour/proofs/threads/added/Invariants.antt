@@ -1,5 +1,5 @@
 use Rattle.grid_claims.specs.Tries.{IsStill}
-use Rattle.tour.proofs.threads.made.Given as goal
+use Rattle.tour.proofs.threads.added.Given as goal
 
 abbrev pub invariant-loop : goal.invariant-loop
 invariant-loop l = IsStill l.initial.pass l.pass
