@@ -24,7 +24,7 @@ const FACTOR: u64 = 0x9E37_79B9_7F4A_7C15;
 
 // What stands at a place of the table: nothing, or the place of a cell in the
 // list of those that go, or of those that stay.
-#[derive(Clone, Copy, Debug)]
+#[derive(Clone, Copy)]
 pub(crate) enum Mark {
     Free,
     Gone(usize),

@@ -11,6 +11,7 @@ use crate::judged::Judged;
 use cell_store::{Hold, Spot};
 use point_order::{Cell, Facet, Point};
 use std::alloc::{AllocError, Global};
+use std::fmt::{self, Debug, Formatter};
 use std::marker::Model;
 
 // As many rim facets as a dig mostly meets at the most: room for them is made at once.
@@ -20,12 +21,18 @@ const RIM: usize = 64;
 ///
 /// Contracts see it as a plain record: its point, the cells found, how many of them were explored, and the
 /// facets of these behind which a cell stays.
-#[derive(Debug, Drop)]
+#[derive(Drop)]
 pub struct Dig {
     point: Point,
     judged: Judged,
     explored: usize,
     rim: Vec<Facet>,
+}
+
+impl Debug for Dig {
+    fn fmt<W: fmt::Write>(&self, f: &mut Formatter<W>) -> fmt::Result {
+        f.debug_struct("Dig").finish_non_exhaustive()
+    }
 }
 
 impl Model for Dig {

@@ -19,7 +19,7 @@ const MASK: usize = 127;
 
 // The cells that go, in the order in which they were found, and those of which it was kept that they stay. A table
 // leads from a cell to its place in these lists.
-#[derive(Debug, Drop)]
+#[derive(Drop)]
 pub(crate) struct Judged {
     goes: Vec<Spot>,
     stays: Vec<Spot>,
