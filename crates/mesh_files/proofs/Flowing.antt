@@ -1,5 +1,5 @@
 -- Text on its way into a sink, a piece after another.
-use Rattle.std.proofs.Common.{◌≡◌, refl, ◌++◌, List, [], ℕ, ◌+◌, ◌≤◌, arith, sym, ap, subst, ◌∙◌, append_assoc, append-nil}
+use Rattle.std.proofs.Common.{◌≡◌, refl, ◌++◌, List, [], ℕ, ◌≤◌, arith, sym, ap, subst, ◌∙◌, append_assoc, append-nil}
 use Rattle.std.specs.Prelude.{Result, Ok, Err, OnOk, OnErr, Option}
 use Rattle.std.specs.Io.KnownBytes.{Appends}
 use Rattle.std.proofs.KnownBytes.{Appends-trans, Appends-nil}
