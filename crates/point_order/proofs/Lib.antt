@@ -10,6 +10,7 @@ pub mod Perturbation
 pub mod SignRule
 pub mod Steps
 pub mod Readings
+pub mod ManyPoints
 pub mod HeightLaws
 pub mod Zero
 pub mod Cited

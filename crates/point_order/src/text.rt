@@ -1,9 +1,28 @@
 //! How cells and facets are written.
 
-ghost use Rattle.std.specs.Prelude.{◌≡◌};
+ghost use Rattle.std.specs.Prelude.{◌∷◌, ◌++◌, codes};
+ghost use Rattle.std.specs.Fmt.{WritesOnOk};
+ghost use Rattle.point_order.specs.Texts.{points_to};
 
 use crate::cell::{Cell, Facet, Pair, Quad, Tri};
+use crate::point::Point;
 use std::fmt;
+
+// Writes points behind a bracket, with a comma between two: the first, the others, and an end behind them.
+fn put_points<W: fmt::Write>(
+    f: &mut fmt::Formatter<W>,
+    first: Point,
+    others: &[Point],
+    end: &str,
+) -> fmt::Result
+    ensures { WritesOnOk W.write_str_gives f.old result (codes "[" ++ points_to end.now (first ∷ others.now)) f.new }
+{
+    write!(f, "[{first}")?;
+    for p in others {
+        write!(f, ", {p}")?;
+    }
+    f.write_str(end)
+}
 
 impl fmt::Display for Pair {
     ghost use Rattle.point_order.specs.Texts.{points_text};
@@ -14,7 +33,7 @@ impl fmt::Display for Pair {
     /// Writes the two points, as `[(0, 0, 0), (0, 0, 2)]`.
     fn fmt<W: fmt::Write>(&self, f: &mut fmt::Formatter<W>) -> fmt::Result {
         let (a, b) = self.corners();
-        write!(f, "[{a}, {b}]")
+        put_points(f, a, &[b], "]")
     }
 }
 
@@ -27,7 +46,7 @@ impl fmt::Display for Tri {
     /// Writes the three points, as a pair its two.
     fn fmt<W: fmt::Write>(&self, f: &mut fmt::Formatter<W>) -> fmt::Result {
         let (a, b, c) = self.corners();
-        write!(f, "[{a}, {b}, {c}]")
+        put_points(f, a, &[b, c], "]")
     }
 }
 
@@ -40,7 +59,7 @@ impl fmt::Display for Quad {
     /// Writes the four points, as a pair its two.
     fn fmt<W: fmt::Write>(&self, f: &mut fmt::Formatter<W>) -> fmt::Result {
         let (a, b, c, d) = self.corners();
-        write!(f, "[{a}, {b}, {c}, {d}]")
+        put_points(f, a, &[b, c, d], "]")
     }
 }
 
@@ -53,10 +72,10 @@ impl fmt::Display for Cell {
     /// Writes the points, and the word `infinite` behind those of an Open cell.
     fn fmt<W: fmt::Write>(&self, f: &mut fmt::Formatter<W>) -> fmt::Result {
         match self {
-            Cell::Full(quad) => write!(f, "{quad}"),
+            Cell::Full(quad) => quad.fmt(f),
             Cell::Open(tri) => {
                 let (a, b, c) = tri.corners();
-                write!(f, "[{a}, {b}, {c}, infinite]")
+                put_points(f, a, &[b, c], ", infinite]")
             }
         }
     }
@@ -71,10 +90,10 @@ impl fmt::Display for Facet {
     /// Writes the points, and the word `infinite` behind those of a facet with the infinite vertex.
     fn fmt<W: fmt::Write>(&self, f: &mut fmt::Formatter<W>) -> fmt::Result {
         match self {
-            Facet::Three(tri) => write!(f, "{tri}"),
+            Facet::Three(tri) => tri.fmt(f),
             Facet::Two(pair) => {
                 let (a, b) = pair.corners();
-                write!(f, "[{a}, {b}, infinite]")
+                put_points(f, a, &[b], ", infinite]")
             }
         }
     }
