@@ -1,10 +1,9 @@
 -- The least alphas of tests that are put together.
-use Rattle.std.proofs.Common.{◌≡◌, refl, sym, subst, ap, ◌∙◌, ℕ, zero, suc, ◌<◌, ◌+◌, ◌^◌, min, max, Bool, true, false, List, [], ◌∷◌, ◌++◌, map, drop, length, get_or, arith, nat_le}
-use Rattle.std.specs.Prelude.{not, ◌&&◌, ◌||◌, IfOk, Result, Ok, Err, Vec}
-use Rattle.std.specs.declared.alloc.Global.{Global}
-use Rattle.std.specs.List.{range_with_len, AllZip, filter, flat_map, list_all, list_any}
+use Rattle.std.proofs.Common.{◌≡◌, refl, sym, subst, ap, ◌∙◌, ℕ, zero, suc, ◌<◌, ◌+◌, ◌^◌, min, max, Bool, true, false, List, [], ◌∷◌, ◌++◌, map, drop, length, get_or, arith, nat_le, take, append-nil}
+use Rattle.std.specs.Prelude.{not, ◌&&◌, ◌||◌}
+use Rattle.std.specs.List.{AllZip, filter, flat_map, list_all, list_any}
 use Rattle.std.proofs.lemmas.Bool.Decides.{nat_tests}
-use Rattle.std.proofs.lemmas.List.{drop_all, drop_more}
+use Rattle.std.proofs.lemmas.List.{drop_all, drop_more, take_all}
 use Rattle.std.proofs.lemmas.List.Elements.{filter-append}
 use Rattle.std.proofs.lemmas.List.Folds.{list_all-append}
 use Rattle.std.proofs.Math.Bool.{and-true, and_assoc, or-false, or_assoc}
@@ -119,24 +118,29 @@ zip_at R (x ∷ xs) [] i d e z h = absurd z
 zip_at R (x ∷ xs) (y ∷ ys) zero d e z h = z.0
 zip_at R (x ∷ xs) (y ∷ ys) (suc i) d e z h = zip_at R xs ys i d e z.1 (omega (arith, h))
 
--- what holds at each place of a list holds of its elements
-pub zip_places : {X Y : Type 0} (R : X → Y → Type 0) (d : X) (xs : List X) (ys : List Y) → AllZip (λ i y. R (get_or xs i d) y) (range_with_len 0 (length xs)) ys → AllZip R xs ys
-zip_places {X} {Y} R d xs ys z = from xs ys 0 (λ i. get_or xs i d) (λ j. ap (λ n. get_or xs n d) (front j)) z
-  where
-    front : (j : ℕ) → 0 + j ≡ j
-    front j = omega arith
+-- what holds at each place of two lists holds of them in pairs
+pub zip_places : {X Y : Type 0} (R : X → Y → Type 0) (d : X) (e : Y) (xs : List X) (ys : List Y) → length ys ≡ length xs
+    → ((i : ℕ) → i < length xs → R (get_or xs i d) (get_or ys i e)) → AllZip R xs ys
+zip_places R d e [] [] s f = tt
+zip_places R d e [] (y ∷ ys) s f = absurd (omega (arith, s))
+zip_places R d e (x ∷ xs) [] s f = absurd (omega (arith, s))
+zip_places R d e (x ∷ xs) (y ∷ ys) s f =
+    (f 0 (omega arith), zip_places R d e xs ys (omega (arith, s)) (λ i h. f (suc i) (omega (arith, h))))
 
-    here : (k : ℕ) → k ≡ k + 0
-    here k = omega arith
+-- what was written to all places of a list stands in it
+written_back : {Y : Type 0} (n : ℕ) (before ys : List Y) → length before ≡ n → length ys ≡ n
+    → take n (ys ++ drop (length ys) before) ≡ ys
+written_back n before ys k a =
+    ap (λ t. take n (ys ++ t)) (drop_all (length ys) before (omega (arith, k, a))) ∙ ap (take n) (append-nil ys)
+    ∙ take_all n ys (omega (arith, a))
 
-    shift : (k j : ℕ) → k + 1 + j ≡ k + suc j
-    shift k j = omega arith
-
-    from : (xs : List X) (ys : List Y) (k : ℕ) (f : ℕ → X) → ((j : ℕ) → f (k + j) ≡ get_or xs j d) → AllZip (λ i y. R (f i) y) (range_with_len k (length xs)) ys → AllZip R xs ys
-    from [] [] k f e z = tt
-    from [] (y ∷ ys) k f e z = absurd z
-    from (x ∷ xs) [] k f e z = absurd z
-    from (x ∷ xs) (y ∷ ys) k f e z = (subst (λ v. R v y) (ap f (here k) ∙ e 0) z.0, from xs ys (k + 1) f (λ j. ap f (shift k j) ∙ e (suc j)) z.1)
+-- where each place of a list is written to by itself, the two hold in pairs
+pub zip_written : {X Y : Type 0} (R : X → Y → Type 0) (d : X) (e : Y) (xs : List X) (n : ℕ) (slice before ys : List Y)
+    → slice ≡ before → length slice ≡ n → n ≡ length xs → length ys ≡ length slice
+    → ((i : ℕ) → i < length slice → R (get_or xs i d) (get_or ys i e)) → AllZip R xs (take n (ys ++ drop (length ys) before))
+zip_written {X} {Y} R d e xs n slice before ys v k m a f =
+    subst (AllZip R xs) (sym (written_back n before ys (sym (ap length v) ∙ k) (a ∙ k)))
+    (zip_places R d e xs ys (a ∙ k ∙ m) (λ i l. f i (subst (λ j. i < j) (sym (k ∙ m)) l)))
 
 -- ---- Gabriel faces, point by point
 
@@ -160,16 +164,10 @@ gabriel_none (a ∷ b ∷ c ∷ d ∷ face) = refl
 pub link_more : (face : List ℕ) (c : Cell) (cells : List Cell) → link_of face (c ∷ cells) ≡ filter (λ p. not (is_among p face)) (points_of c) ++ link_of face cells
 link_more face c cells = filter-append (λ p. not (is_among p face)) (points_of c) (flat_map points_of cells)
 
--- what is made of the places of a list is so of its elements
-pub placed : {X Y E : Type 0} (R : X → Y → Type 0) (d : X) (xs : List X) (n : ℕ) (r : Result (Vec Y Global) E) → n ≡ length xs → IfOk r (λ v. AllZip (λ i y. R (get_or xs i d) y) (range_with_len 0 n) v.items) →
-    IfOk r (λ v. AllZip R xs v.items)
-placed R d xs n (Ok v) e h = zip_places R d xs v.items (subst (λ (m : ℕ). AllZip (λ i y. R (get_or xs i d) y) (range_with_len 0 m) v.items) e h)
-placed R d xs n (Err f) e h = tt
-
 -- and so of the faces of a kind
-pub placed_faces :
-    {E : Type 0} (part : Part) (faces : FaceLists) (n : ℕ) (r : Result (Vec FaceAlphas Global) E) → n ≡ face_count part faces → IfOk r (λ v. AllZip (AreAlphasAt part faces) (range_with_len 0 n) v.items) →
-    IfOk r (λ v. AreAlphasOfFaces part faces v.items)
-placed_faces Points faces n r e h = placed (AreAlphasOf is_admitted_point) (0, []) faces.points n r e h
-placed_faces Pairs faces n r e h = placed (AreAlphasOf (is_admitted_pair faces.triples)) ([], []) faces.pairs n r e h
-placed_faces Triples faces n r e h = placed (AreAlphasOf is_admitted_triple) ([], []) faces.triples n r e h
+pub faces_written : (part : Part) (faces : FaceLists) (e : FaceAlphas) (n : ℕ) (slice before ys : List FaceAlphas)
+    → slice ≡ before → length slice ≡ n → n ≡ face_count part faces → length ys ≡ length slice
+    → ((i : ℕ) → i < length slice → AreAlphasAt part faces i (get_or ys i e)) → AreAlphasOfFaces part faces (take n (ys ++ drop (length ys) before))
+faces_written Points faces e = zip_written (AreAlphasOf is_admitted_point) (0, []) e faces.points
+faces_written Pairs faces e = zip_written (AreAlphasOf (is_admitted_pair faces.triples)) ([], []) e faces.pairs
+faces_written Triples faces e = zip_written (AreAlphasOf is_admitted_triple) ([], []) e faces.triples

@@ -59,8 +59,8 @@ AreOrdered faces = IsStrictlySortedBy (slice_cmp nat_cmp) (map (λ f. f.0) faces
 -- The numbers are those of the cells and of the triples of the faces, each by itself, and the triples are in order.
 pub record AreOwn (own : OwnAlphas) : Type 0 where
   pub order : AreOrdered own.faces.now.triples
-  pub cells : AreLeastOf is_small_cell own.faces.now.cells own.cells.items
-  pub triples : AreLeastOf is_small_by own.faces.now.triples own.triples.items
+  pub cells : AreLeastOf is_small_cell own.faces.now.cells own.cells.now
+  pub triples : AreLeastOf is_small_by own.faces.now.triples own.triples.now
 
 -- a point is admitted at every alpha
 abbrev pub is_admitted_point : ℕ → ℕ × List Cell → Bool

@@ -25,7 +25,7 @@ fn listed_least(own: &OwnAlphas, tri: &Tri) -> u32
     ensures { IsLeastOf (λ alpha. is_listed (small_among alpha own.now.faces.now.triples) tri.now) result }
 {
     match own.faces.triples().binary_search(tri) {
-        Ok(index) => number_at(&own.triples, index),
+        Ok(index) => number_at(own.triples, index),
         Err(_) => BEYOND,
     }
 }

@@ -1,13 +1,14 @@
 //! The least alphas of the faces of a complex.
 
-ghost use Rattle.std.specs.Prelude.{◌≡◌, ◌<◌, ◌^◌, length, IfOk};
+ghost use Rattle.std.specs.Prelude.{◌≡◌, ◌<◌, length, IfOk};
+ghost use Rattle.face_list.specs.Tables.{cell_at};
+ghost use Rattle.alpha_complex.specs.declared.least.Part.TheVariants.{Points, Pairs, Triples};
 ghost use Rattle.alpha_complex.specs.Judged.{is_small_by, is_small_cell, is_admitted_triple, is_admitted_pair};
 ghost use Rattle.alpha_complex.specs.Leasts.{
   AreAlphasAt,
   AreAlphasOf,
   AreAlphasOfFaces,
   AreLeastOf,
-  AreOrdered,
   AreOwn,
   IsLeastOf,
   face_at,
@@ -17,15 +18,21 @@ ghost use Rattle.alpha_complex.specs.Leasts.{
 };
 
 use crate::covers::cover_least;
-use crate::each::of_each;
 use crate::numbers::FaceAlphas;
-use crate::owns::{cell_least_of, number_at, own_least};
+use crate::owns::{BEYOND, cell_least_of, number_at, own_least};
 use crate::rounds::{all_least, some_least};
 use face_list::Faces;
 use point_order::Cell;
 use rayon::prelude::*;
 use std::alloc::{AllocError, Global};
 use std::thread::Threads;
+
+// Before a face has its numbers.
+const NONE: FaceAlphas = FaceAlphas {
+    admitted: 0,
+    regular: 0,
+    interior: 0,
+};
 
 /// A kind of faces.
 #[derive(Clone, Copy)]
@@ -37,29 +44,33 @@ pub enum Part {
 
 /// The least alphas at which the cells and the triples of a complex are within alpha, the triples where they are
 /// Gabriel, each by itself.
-#[derive(Drop)]
+#[derive(Clone, Copy)]
 pub struct OwnAlphas<'a, 'b> {
     pub faces: &'a Faces<'b>,
-    pub cells: Vec<u32>,
-    pub triples: Vec<u32>,
+    pub cells: &'a [u32],
+    pub triples: &'a [u32],
 }
 
-// The least alpha of each cell.
-fn own_of_cells<R: Threads + Sync>(
+/// The least alpha of each cell, by several threads.
+pub fn own_of_cells<R: Threads + Sync>(
     rt: &R,
     alloc: Global,
     cells: &[Cell],
 ) -> Result<Vec<u32>, AllocError>
     ensures { IfOk result (λ v. AreLeastOf is_small_cell cells.now v.items) }
 {
-    cells
-        .par_iter()
-        .map(
-            |cell: &Cell| -> u32
-                ensures { IsLeastOf (λ alpha. is_small_cell alpha cell.now) result }
-            { cell_least_of(cell) },
-        )
-        .collect(rt, alloc)
+    let mut leasts = vec![in alloc; BEYOND; cells.len()]?;
+    par_for_each_mut(
+        rt,
+        &mut leasts,
+        |index: usize, least: &mut u32|
+            requires { index < length cells.now }
+            ensures { IsLeastOf (λ alpha. is_small_cell alpha (cell_at cells.entry.now index)) least.new }
+        {
+            *least = cell_least_of(&cells[index]);
+        },
+    );
+    Ok(leasts)
 }
 
 // The least alpha at which a triple is itself Gabriel and within alpha.
@@ -71,40 +82,26 @@ fn own_of_triple(faces: &Faces, index: usize) -> u32
     own_least(tri.points(), faces.cells(), around)
 }
 
-// That of each triple.
-fn own_of_triples<R: Threads + Sync>(
+/// That of each triple.
+pub fn own_of_triples<R: Threads + Sync>(
     rt: &R,
     alloc: Global,
     faces: &Faces,
 ) -> Result<Vec<u32>, AllocError>
     ensures { IfOk result (λ v. AreLeastOf is_small_by faces.now.triples v.items) }
 {
-    of_each(
+    let mut leasts = vec![in alloc; BEYOND; faces.triples().len()]?;
+    par_for_each_mut(
         rt,
-        alloc,
-        faces.triples().len(),
-        |index: usize| -> u32
+        &mut leasts,
+        |index: usize, least: &mut u32|
             requires { index < length faces.now.triples }
-            ensures { IsLeastOf (λ alpha. is_small_by alpha (face_at faces.entry.now.triples index)) result }
-        { own_of_triple(faces, index) },
-    )
-}
-
-/// The numbers of cells and triples by themselves, by several threads.
-pub fn own_alphas<'a, 'b, R: Threads + Sync>(
-    rt: &R,
-    alloc: Global,
-    faces: &'a Faces<'b>,
-) -> Result<OwnAlphas<'a, 'b>, AllocError>
-    requires { AreOrdered faces.now.triples }
-    ensures faces { IfOk result (λ own. own.faces.now ≡ faces.now) }
-    ensures own { IfOk result (λ own. AreOwn own) }
-{
-    Ok(OwnAlphas {
-        faces,
-        cells: own_of_cells(rt, alloc, faces.cells())?,
-        triples: own_of_triples(rt, alloc, faces)?,
-    })
+            ensures { IsLeastOf (λ alpha. is_small_by alpha (face_at faces.entry.now.triples index)) least.new }
+        {
+            *least = own_of_triple(faces, index);
+        },
+    );
+    Ok(leasts)
 }
 
 // The numbers of the point of an index.
@@ -130,7 +127,7 @@ fn alphas_of_triple(own: &OwnAlphas, index: usize) -> FaceAlphas
     let (_, around) = own.faces.triple(index);
     let regular = some_least(own, around);
     FaceAlphas {
-        admitted: regular.min(number_at(&own.triples, index)),
+        admitted: regular.min(number_at(own.triples, index)),
         regular,
         interior: all_least(own, around),
     }
@@ -177,8 +174,8 @@ fn alphas_of_face(own: &OwnAlphas, part: Part, index: usize) -> FaceAlphas
     }
 }
 
-/// The numbers of all faces of a kind.
-pub fn alphas_of_faces<R: Threads + Sync>(
+// The numbers of all faces of a kind, by several threads.
+fn alphas_of_faces<R: Threads + Sync>(
     rt: &R,
     alloc: Global,
     own: &OwnAlphas,
@@ -187,13 +184,34 @@ pub fn alphas_of_faces<R: Threads + Sync>(
     requires { AreOwn own.now }
     ensures { IfOk result (λ v. AreAlphasOfFaces part own.now.faces.now v.items) }
 {
-    of_each(
+    let mut alphas = vec![in alloc; NONE; count_of(own.faces, part)]?;
+    par_for_each_mut(
         rt,
-        alloc,
-        count_of(own.faces, part),
-        |index: usize| -> FaceAlphas
+        &mut alphas,
+        |index: usize, alphas: &mut FaceAlphas|
             requires { AreOwn own.now × (index < face_count part own.now.faces.now) }
-            ensures { AreAlphasAt part own.entry.now.faces.now index result }
-        { alphas_of_face(own, part, index) },
-    )
+            ensures { AreAlphasAt part own.entry.now.faces.now index alphas.new }
+        {
+            *alphas = alphas_of_face(own, part, index);
+        },
+    );
+    Ok(alphas)
+}
+
+/// The numbers of the points, of the pairs and of the triples.
+pub fn alphas_of_all<R: Threads + Sync>(
+    rt: &R,
+    alloc: Global,
+    own: &OwnAlphas,
+) -> Result<(Vec<FaceAlphas>, Vec<FaceAlphas>, Vec<FaceAlphas>), AllocError>
+    requires { AreOwn own.now }
+    ensures points { IfOk result (λ all. AreAlphasOfFaces Points own.now.faces.now all.0.items) }
+    ensures pairs { IfOk result (λ all. AreAlphasOfFaces Pairs own.now.faces.now all.1.items) }
+    ensures triples { IfOk result (λ all. AreAlphasOfFaces Triples own.now.faces.now all.2.items) }
+{
+    Ok((
+        alphas_of_faces(rt, alloc, own, Part::Points)?,
+        alphas_of_faces(rt, alloc, own, Part::Pairs)?,
+        alphas_of_faces(rt, alloc, own, Part::Triples)?,
+    ))
 }

@@ -28,7 +28,6 @@ ghost use Rattle.alpha_complex.specs.Shapes.{shape_of, shape_seen};
 ghost use Rattle.alpha_complex.specs.Told.{TellsFaces};
 
 mod covers;
-mod each;
 mod kinds;
 pub mod laws;
 mod least;
@@ -38,7 +37,7 @@ mod rounds;
 pub mod shape;
 
 use face_list::Faces;
-use least::Part;
+use least::{OwnAlphas, alphas_of_all, own_of_cells, own_of_triples};
 pub use numbers::{Alphas, FaceAlphas};
 pub use shape::{Kind, Shape};
 use std::alloc::{AllocError, Global};
@@ -63,13 +62,20 @@ pub fn alphas<'a, 'b, R: Threads + Sync>(
     ensures known { IfOk result (λ known. AreKnown known) }
     ensures told { IfOk result (λ known. (s : List ℕ) → AreFacesOf s faces.now → TellsFaces s known) }
 {
-    let own = least::own_alphas(rt, alloc, faces)?;
+    let cells = own_of_cells(rt, alloc, faces.cells())?;
+    let own_triples = own_of_triples(rt, alloc, faces)?;
+    let own = OwnAlphas {
+        faces,
+        cells: &cells,
+        triples: &own_triples,
+    };
+    let (points, pairs, triples) = alphas_of_all(rt, alloc, &own)?;
     Ok(Alphas {
         faces,
-        points: least::alphas_of_faces(rt, alloc, &own, Part::Points)?,
-        pairs: least::alphas_of_faces(rt, alloc, &own, Part::Pairs)?,
-        triples: least::alphas_of_faces(rt, alloc, &own, Part::Triples)?,
-        cells: own.cells,
+        points,
+        pairs,
+        triples,
+        cells,
     })
 }
 

@@ -15,7 +15,7 @@ fn least_at(own: &OwnAlphas, number: u32) -> u32
     requires number { number < length own.now.faces.now.cells }
     ensures { IsLeastOf (λ alpha. is_small_cell alpha (cell_at own.now.faces.now.cells number)) result }
 {
-    number_at(&own.cells, number as usize)
+    number_at(own.cells, number as usize)
 }
 
 /// The least alpha at which some of the cells of some numbers is Full and within alpha.

@@ -1,4 +1,4 @@
-use Rattle.std.proofs.Common.{◌≡◌, ℕ, List, [], sym, subst, ap, ◌∙◌, get_or, length, nat_le, false, arith}
+use Rattle.std.proofs.Common.{◌≡◌, ℕ, List, [], sym, subst, ap, ◌∙◌, nat_le, false, arith}
 use Rattle.std.specs.Prelude.{Err}
 use Rattle.std.specs.List.{list_any}
 use Rattle.std.specs.List.Sorted.{IsStrictlySortedBy}
@@ -17,20 +17,19 @@ pub number_at-requires : goal.number_at-requires
 number_at-requires c =
     let own = c.args.own.now in
     let f = found_at own.faces.now.triples c.triples.result.now c.args.tri.now c.in-Ok.index c.triples.ensures c.in-Ok.ensures.bound (c.in-Ok.ensures.position c.args.tri.now) in
-    let z = length_zip (λ x n. IsLeastOf (λ a. is_small_by a x) n) own.faces.now.triples own.triples.items c.requires.own.triples in
-    let k = ap length c.deref.ensures.value in
+    let z = length_zip (λ x n. IsLeastOf (λ a. is_small_by a x) n) own.faces.now.triples own.triples.now c.requires.own.triples in
     let h = f.0 in
-    omega (arith, h, z, k)
+    omega (arith, h, z)
 
 pub returns-in-Ok : goal.returns-in-Ok
 returns-in-Ok c a l =
     let own = c.args.own.now in
     let i = c.in-Ok.index in
     let f = found_at own.faces.now.triples c.triples.result.now c.args.tri.now i c.triples.ensures c.in-Ok.ensures.bound (c.in-Ok.ensures.position c.args.tri.now) in
-    let z = zip_at (λ x n. IsLeastOf (λ a. is_small_by a x) n) own.faces.now.triples own.triples.items i ([], []) 0 c.requires.own.triples f.0 in
+    let z = zip_at (λ x n. IsLeastOf (λ a. is_small_by a x) n) own.faces.now.triples own.triples.now i ([], []) 0 c.requires.own.triples f.0 in
     listed_found a own.faces.now.triples c.args.tri.now i ([], []) c.requires.own.order f.0 f.1
     ∙ z a l
-    ∙ ap (λ n. nat_le n a) (sym (c.number_at.ensures ∙ ap (λ (v : List ℕ). get_or v i 0) c.deref.ensures.value))
+    ∙ ap (λ n. nat_le n a) (sym c.number_at.ensures)
 
 pub returns-in-Err : goal.returns-in-Err
 returns-in-Err c a l =

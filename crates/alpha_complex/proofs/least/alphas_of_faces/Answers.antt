@@ -1,13 +1,15 @@
-use Rattle.std.proofs.Common.{◌<◌, subst}
-use Rattle.std.proofs.Crossing.{crosses}
-use denote.Param.Send.{sendable}
-use Rattle.alpha_complex.proofs.Leasts.{placed_faces}
+use Rattle.std.proofs.Common.{◌∙◌, subst}
+use Rattle.alpha_complex.specs.Leasts.{AreAlphasAt}
+use Rattle.alpha_complex.specs.declared.numbers.FaceAlphas.{FaceAlphas}
+use Rattle.alpha_complex.proofs.Leasts.{faces_written}
 use Rattle.alpha_complex.proofs.least.alphas_of_faces.Goals as goal
 
--- one line for each `Send` and `Sync`, and then the closure's `requires` at each number below the count
-pub of_each-requires : goal.of_each-requires
-of_each-requires g c κs =
-    (search (sendable, crosses) depth 40, (search (sendable, crosses) depth 40, (search (sendable, crosses) depth 40, (search (sendable, crosses) depth 40, λ i h. (c.requires, subst (λ n. i < n) c.count_of.ensures h)))))
-
 pub returns : goal.returns
-returns g c = placed_faces c.args.part c.args.own.now.faces.now _ c.of_each.result c.count_of.ensures c.of_each.ensures
+returns g c =
+    let none : FaceAlphas = record { admitted = 0; regular = 0; interior = 0 } in
+    let part = c.args.part in
+    let faces = c.args.own.now.faces.now in
+    faces_written part faces none _ _ _ _
+    c.deref_mut.ensures.value c.deref_mut.ensures.len (c.in_ok-alphas.ensures.len ∙ c.count_of.ensures) c.par_for_each_mut.auto.s (λ i l.
+    let at = (c.par_for_each_mut.ensures i none l).1 in
+    subst (AreAlphasAt part faces i) at.left at.call)

@@ -1,4 +1,4 @@
-use Rattle.std.proofs.Common.{ℕ, List, [], sym, subst, ap, ◌∙◌, get_or, length, arith}
+use Rattle.std.proofs.Common.{ℕ, List, [], sym, subst, ◌∙◌, arith}
 use Rattle.std.specs.Prelude.{◌||◌}
 use Rattle.std.specs.List.{list_any, list_all}
 use Rattle.std.proofs.lemmas.List.{get_or_default}
@@ -12,10 +12,9 @@ use Rattle.alpha_complex.proofs.least.alphas_of_triple.Goals as goal
 pub number_at-requires : goal.number_at-requires
 number_at-requires c =
     let own = c.args.own.now in
-    let z = length_zip (λ x n. IsLeastOf (λ a. is_small_by a x) n) own.faces.now.triples own.triples.items c.requires.own.triples in
-    let k = ap length c.deref.ensures.value in
+    let z = length_zip (λ x n. IsLeastOf (λ a. is_small_by a x) n) own.faces.now.triples own.triples.now c.requires.own.triples in
     let h = c.requires.index in
-    omega (arith, h, z, k)
+    omega (arith, h, z)
 
 pub returns : goal.returns
 returns c =
@@ -26,9 +25,8 @@ returns c =
     let f = c.triple.ensures.face ∙ get_or_default faces i _ ([], []) h in
     let regular = subst (λ (v : List ℕ × List Cell). IsLeastOf (λ a. list_any (is_small_cell a) v.1) c.some_least-regular.result) f c.some_least-regular.ensures in
     let interior = subst (λ (v : List ℕ × List Cell). IsLeastOf (λ a. list_all (is_small_cell a) v.1) c.all_least.result) f c.all_least.ensures in
-    let z = zip_at (λ x n. IsLeastOf (λ a. is_small_by a x) n) faces own.triples.items i ([], []) 0 c.requires.own.triples h in
-    let own_is = c.number_at.ensures ∙ ap (λ (v : List ℕ). get_or v i 0) c.deref.ensures.value in
-    let itself = subst (λ n. IsLeastOf (λ a. is_small_by a (face_at faces i)) n) (sym own_is) z in
+    let z = zip_at (λ x n. IsLeastOf (λ a. is_small_by a x) n) faces own.triples.now i ([], []) 0 c.requires.own.triples h in
+    let itself = subst (λ n. IsLeastOf (λ a. is_small_by a (face_at faces i)) n) (sym c.number_at.ensures) z in
     let both = either_least (λ a. list_any (is_small_cell a) (face_at faces i).1) (λ a. is_small_by a (face_at faces i)) c.some_least-regular.result c.number_at.result regular itself in
     record {
       admitted = subst (λ n. IsLeastOf (λ a. list_any (is_small_cell a) (face_at faces i).1 || is_small_by a (face_at faces i)) n) (sym c.min.ensures) both;

@@ -1,22 +1,16 @@
-use Rattle.std.proofs.Common.{ℕ, ◌<◌, ◌∙◌, List, [], length, ap, subst}
+use Rattle.std.proofs.Common.{◌∙◌, List, [], ℕ, ap, length, subst}
 use Rattle.std.proofs.lemmas.List.{length-map}
-use Rattle.std.proofs.Crossing.{crosses}
-use denote.Param.Send.{sendable}
 use Rattle.point_order.specs.declared.cell.Cell.{Cell}
 use Rattle.alpha_complex.specs.Judged.{is_small_by}
-use Rattle.alpha_complex.specs.Leasts.{IsLeastOf}
-use Rattle.alpha_complex.proofs.Leasts.{placed}
+use Rattle.alpha_complex.specs.Leasts.{IsLeastOf, face_at}
+use Rattle.alpha_complex.proofs.Leasts.{zip_written}
 use Rattle.alpha_complex.proofs.least.own_of_triples.Goals as goal
-
--- one line for each `Send` and `Sync`, and then the closure's `requires` at each number below the count
-pub of_each-requires : goal.of_each-requires
-of_each-requires g c κs =
-    let many = ap length c.triples.ensures ∙ length-map c.args.faces.now.triples (λ (f : List ℕ × List Cell). f.0) in
-    (search (sendable, crosses) depth 40, (search (sendable, crosses) depth 40, (search (sendable, crosses) depth 40, (search (sendable, crosses) depth 40, λ i h. subst (λ n. i < n) many h))))
 
 pub returns : goal.returns
 returns g c =
-    let faces = c.args.faces.now.triples in
-    let R = λ (x : List ℕ × List Cell) (n : ℕ). IsLeastOf (λ a. is_small_by a x) n in
-    let many = ap length c.triples.ensures ∙ length-map faces (λ (f : List ℕ × List Cell). f.0) in
-    placed R ([], []) faces _ c.of_each.result many c.of_each.ensures
+    let triples = c.args.faces.now.triples in
+    let many = ap length c.triples.ensures ∙ length-map triples (λ (f : List ℕ × List Cell). f.0) in
+    zip_written (λ x n. IsLeastOf (λ a. is_small_by a x) n) ([], []) 0 triples _ _ _ _
+    c.deref_mut.ensures.value c.deref_mut.ensures.len (c.in_ok-leasts.ensures.len ∙ many) c.par_for_each_mut.auto.s (λ i l.
+    let at = (c.par_for_each_mut.ensures i 0 l).1 in
+    subst (IsLeastOf (λ a. is_small_by a (face_at triples i))) at.left at.call)

@@ -1,4 +1,4 @@
-use Rattle.std.proofs.Common.{ℕ, List, sym, ap, ◌∙◌, get_or, length, nat_le, arith}
+use Rattle.std.proofs.Common.{sym, ap, ◌∙◌, nat_le, arith}
 use Rattle.list_laws.proofs.Cited.{length_zip}
 use Rattle.alpha_complex.specs.Judged.{is_small_cell}
 use Rattle.alpha_complex.specs.Leasts.{IsLeastOf}
@@ -7,12 +7,11 @@ use Rattle.alpha_complex.proofs.rounds.least_at.Goals as goal
 
 pub number_at-requires : goal.number_at-requires
 number_at-requires c =
-    let e = length_zip (λ x n. IsLeastOf (λ a. is_small_cell a x) n) c.args.own.now.faces.now.cells c.args.own.now.cells.items c.requires.own.cells in
+    let e = length_zip (λ x n. IsLeastOf (λ a. is_small_cell a x) n) c.args.own.now.faces.now.cells c.args.own.now.cells.now c.requires.own.cells in
     let h = c.requires.number in
-    let k = ap length c.deref.ensures.value in
-    omega (arith, e, h, k)
+    omega (arith, e, h)
 
 pub returns : goal.returns
 returns c a l =
-    let z = zip_at (λ x n. IsLeastOf (λ a. is_small_cell a x) n) c.args.own.now.faces.now.cells c.args.own.now.cells.items c.args.number _ 0 c.requires.own.cells c.requires.number in
-    z a l ∙ ap (λ n. nat_le n a) (sym (c.number_at.ensures ∙ ap (λ (v : List ℕ). get_or v c.args.number 0) c.deref.ensures.value))
+    let z = zip_at (λ x n. IsLeastOf (λ a. is_small_cell a x) n) c.args.own.now.faces.now.cells c.args.own.now.cells.now c.args.number _ 0 c.requires.own.cells c.requires.number in
+    z a l ∙ ap (λ n. nat_le n a) (sym c.number_at.ensures)
