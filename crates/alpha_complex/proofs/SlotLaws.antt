@@ -1,11 +1,10 @@
 -- Slots: how many they are, the one of an index, and how many hold a face.
-use Rattle.std.proofs.Common.{◌≡◌, refl, sym, ap, ◌∙◌, ℕ, zero, suc, ◌<◌, Bool, true, false, List, [], ◌∷◌, map, length, get_or, arith}
+use Rattle.std.proofs.Common.{◌≡◌, refl, sym, ap, ◌∙◌, ℕ, zero, suc, ◌+◌, ◌<◌, ◌≤◌, Bool, true, false, List, [], ◌∷◌, map, length, get_or, take, arith}
 use Rattle.std.specs.Prelude.{Option, None, Some, option_map, is_some, count_by, zip}
 use Rattle.std.specs.List.{filter}
-use Rattle.std.proofs.lemmas.List.Sums.{length-filter}
-use Rattle.std.proofs.lemmas.List.{length-map}
+use Rattle.std.proofs.lemmas.List.Sums.{count_by_more_no, count_by_more_yes, length-filter}
+use Rattle.std.proofs.lemmas.List.{length-map, take_all}
 use Rattle.point_order.specs.declared.cell.Cell.{Cell}
-use Rattle.point_order.specs.declared.cell.Cell.TheVariants.{Full, Open}
 use Rattle.alpha_complex.specs.declared.shape.Kind.{Kind}
 use Rattle.alpha_complex.specs.declared.shape.Shape.TheInside.{Inside}
 use Rattle.alpha_complex.specs.Slots.{ShapeSlots, held, slots_of, marked_cell, cell_slots_of}
@@ -33,6 +32,9 @@ zip_item (x ∷ xs) (y ∷ ys) (suc i) d e h k = zip_item xs ys i d e (omega (ar
 
 -- ---- the slot of an index
 
+pub cell_slot_count : (cells : List Cell) (marks : List Bool) → length marks ≡ length cells → length (cell_slots_of cells marks) ≡ length cells
+cell_slot_count cells marks e = length-map (zip cells marks) (λ (c : Cell × Bool). marked_cell c.0 c.1) ∙ zip_count cells marks e ∙ e
+
 pub slot_at : {X : Type 0} (xs : List X) (ks : List (Option Kind)) (i : ℕ) (d : X) (k : Option Kind) → i < length xs → i < length ks → option_map (λ kind. (get_or xs i d, kind)) (get_or ks i k) ≡ get_or (slots_of xs ks) i None
 slot_at [] ks i d k h l = absurd (omega (arith, h))
 slot_at (x ∷ xs) [] i d k h l = absurd (omega (arith, l))
@@ -58,16 +60,28 @@ some_count (x ∷ xs) (Some k ∷ ks) e = ap suc (some_count xs ks (omega (arith
 held_count : {X : Type 0} (xs : List X) (ks : List (Option Kind)) → length ks ≡ length xs → count_by is_some ks ≡ length (held (slots_of xs ks))
 held_count xs ks e = sym (length-filter is_some ks) ∙ some_count xs ks e
 
--- that of a cell, where it is Full and marked
-marked_count : (cells : List Cell) (marks : List Bool) → length (filter (λ c. is_some (marked_cell c.0 c.1)) (zip cells marks)) ≡ length (held (cell_slots_of cells marks))
-marked_count [] marks = refl
-marked_count (c ∷ cells) [] = refl
-marked_count (Full q ∷ cells) (true ∷ marks) = ap suc (marked_count cells marks)
-marked_count (Full q ∷ cells) (false ∷ marks) = marked_count cells marks
-marked_count (Open t ∷ cells) (m ∷ marks) = marked_count cells marks
+-- those that are not empty
+held_filled : {X : Type 0} (slots : List (Option X)) → count_by is_some slots ≡ length (held slots)
+held_filled slots = sym (length-filter is_some slots) ∙ filled slots
+  where
+    filled : {X : Type 0} (slots : List (Option X)) → length (filter is_some slots) ≡ length (held slots)
+    filled [] = refl
+    filled (None ∷ slots) = filled slots
+    filled (Some x ∷ slots) = ap suc (filled slots)
 
-held_marked : (cells : List Cell) (marks : List Bool) → count_by (λ c. is_some (marked_cell c.0 c.1)) (zip cells marks) ≡ length (held (cell_slots_of cells marks))
-held_marked cells marks = sym (length-filter (λ c. is_some (marked_cell c.0 c.1)) (zip cells marks)) ∙ marked_count cells marks
+-- ---- counting
+
+-- one slot more
+pub count_on : {X : Type 0} (slots : List (Option X)) (i : ℕ) (d : Option X) (count : ℕ) → i < length slots → is_some (get_or slots i d) ≡ true
+    → count ≡ count_by is_some (take i slots) → count + 1 ≡ count_by is_some (take (i + 1) slots)
+count_on slots i d count l t e = ap (λ n. n + 1) e ∙ sym (count_by_more_yes is_some slots i d l t)
+
+pub count_past : {X : Type 0} (slots : List (Option X)) (i : ℕ) (d : Option X) (count : ℕ) → i < length slots → is_some (get_or slots i d) ≡ false
+    → count ≡ count_by is_some (take i slots) → count ≡ count_by is_some (take (i + 1) slots)
+count_past slots i d count l t e = e ∙ sym (count_by_more_no is_some slots i d l t)
+
+pub count_of_all : {X : Type 0} (slots : List (Option X)) (i count : ℕ) → length slots ≤ i → count ≡ count_by is_some (take i slots) → count ≡ count_by is_some slots
+count_of_all {X} slots i count l e = e ∙ ap (λ (v : List (Option X)). count_by is_some v) (take_all i slots l)
 
 -- ---- the slots of a shape
 
@@ -106,5 +120,5 @@ pairs_held s v h e = held_count (map (λ f. f.0) s.faces.now.pairs) s.pairs.item
 pub triples_held : (s : Inside) (v : ShapeSlots) → IsShape s → slots_seen s ≡ v → count_by is_some s.triples.items ≡ length (held v.triples)
 triples_held s v h e = held_count (map (λ f. f.0) s.faces.now.triples) s.triples.items (triple_count s h) ∙ ap (λ (w : ShapeSlots). length (held w.triples)) e
 
-pub cells_held : (s : Inside) (v : ShapeSlots) → slots_seen s ≡ v → count_by (λ c. is_some (marked_cell c.0 c.1)) (zip s.faces.now.cells s.cells.items) ≡ length (held v.cells)
-cells_held s v e = held_marked s.faces.now.cells s.cells.items ∙ ap (λ (w : ShapeSlots). length (held w.cells)) e
+pub cells_held : (s : Inside) (v : ShapeSlots) → slots_seen s ≡ v → count_by is_some (cell_slots_of s.faces.now.cells s.cells.items) ≡ length (held v.cells)
+cells_held s v e = held_filled (cell_slots_of s.faces.now.cells s.cells.items) ∙ ap (λ (w : ShapeSlots). length (held w.cells)) e

@@ -96,18 +96,27 @@ fn cell_at(cells: &[Cell], marks: &[bool], index: usize) -> Option<Quad>
 fn kind_count(kinds: &[Option<Kind>]) -> usize
     ensures { result ≡ count_by is_some kinds.now }
 {
-    kinds.iter().filter(|kind| kind.is_some()).count()
+    let mut count = 0;
+    for kind in kinds {
+        if kind.is_some() {
+            count += 1;
+        }
+    }
+    count
 }
 
 // How many cells are Full and marked.
 fn marked_count(cells: &[Cell], marks: &[bool]) -> usize
-    ensures { result ≡ count_by (λ c. is_some (marked_cell c.0 c.1)) (zip cells.now marks.now) }
+    requires { length marks.now ≡ length cells.now }
+    ensures { result ≡ count_by is_some (cell_slots_of cells.now marks.now) }
 {
-    cells
-        .iter()
-        .zip(marks)
-        .filter(|(cell, mark)| marked(**cell, **mark).is_some())
-        .count()
+    let mut count = 0;
+    for index in 0..cells.len() {
+        if cell_at(cells, marks, index).is_some() {
+            count += 1;
+        }
+    }
+    count
 }
 
 impl<'a, 'b> Shape<'a, 'b> {
