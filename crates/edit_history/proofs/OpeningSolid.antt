@@ -131,12 +131,6 @@ module _ (absent : Option ℕ) (s : List ℕ) where
       abbrev j : ℕ
       j = i + 1 + m
 
-      pub distinct : slice_index s i ≢ slice_index s j
-      distinct = is_other (slice_index s i) (slice_index s j) (and_not_from (is_kept absent (slice_index s j)) (slice_index s j == slice_index s i) place.passes).1
-        where
-          place : IsFirst (λ b. is_kept absent b && not (b == slice_index s i)) (i + 1) s j
-          place = let f = next_from (λ b. is_kept absent b && not (b == slice_index s i)) i s (Some m) second in rw f at (next_is (λ b. is_kept absent b && not (b == slice_index s i)) (i + 1) s)
-
       pub no_third : position_from (λ c. is_kept absent c && not (is_collinear (slice_index s i) (slice_index s j) c)) 0 (drop (j + 1) s) ≡ None → Answers absent s None
       no_third e =
           let f = next_from (λ b. is_kept absent b && not (b == slice_index s i)) i s (Some m) second in

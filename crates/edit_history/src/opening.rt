@@ -62,14 +62,24 @@ pub(crate) fn four_but(absent: Option<Point>, points: &[Point]) -> Option<[usize
     ensures solid { is_some result ≡ is_solid (kept absent points.now) }
 {
     let i = first_kept(absent, points)?;
-    let a = points[i];
+    let a = point_at(points, i);
     let j = i + 1 + first_distinct(absent, &points[i + 1..], a)?;
-    let b = points[j];
-    prove_ne!(a.key(), b.key());
+    let b = point_at(points, j);
     let k = j + 1 + first_off_line(absent, &points[j + 1..], a, b)?;
-    let c = points[k];
+    let c = point_at(points, k);
     let l = k + 1 + first_off_plane(absent, &points[k + 1..], a, b, c)?;
     Some([i, j, k, l])
+}
+
+// The point of an index.
+fn point_at(points: &[Point], index: usize) -> Point
+    requires { index < length points.now }
+    ensures point { result ≡ slice_index points.now index }
+    ensures key { IsKey (slice_index points.now index) }
+{
+    let p = points[index];
+    let _ = p.key();
+    p
 }
 
 // Whether the point is not the absent one.

@@ -1,8 +1,7 @@
-use Rattle.std.proofs.Common.{◌∙◌, ap, sym, ◌≡◌, ◌+◌, subst, slice_index, is_some, arith, Some, None}
+use Rattle.std.proofs.Common.{◌∙◌, ap, sym, ◌+◌, is_some, Some, None}
 use Rattle.std.specs.Option.{option_map}
-use Rattle.point_order.specs.Coordinates.{IsKey}
 use Rattle.edit_history.specs.OneThread.{places}
-use Rattle.edit_history.proofs.OpeningSolid.{no_first, no_second, no_third, at_fourth, distinct, read_is, second_found, third_found, fourth_found}
+use Rattle.edit_history.proofs.OpeningSolid.{no_first, no_second, no_third, at_fourth, second_found, third_found, fourth_found}
 use Rattle.edit_history.proofs.opening.four_but.Goals as goal
 
 pub returns-in_err-i-clause-solid : goal.returns-in_err-i-clause-solid
@@ -16,24 +15,9 @@ returns-in_err-j c =
     let s = c.args.points.now in
     let i = c.in_ok-i.i in
     let first = sym c.in_ok-i.ensures.place in
-    let a : c.index-points-i.result ≡ slice_index s i = read_is s i c.index-points-i.result c.in_ok-i.ensures.within c.index-points-i.is in
-    let found = no_second absent s i first (second_found absent s i c.index-points-i.result None a c.in_err-j.ensures.place) in
+    let a = c.point_at-a.ensures.point in
+    let found = no_second absent s i first (second_found absent s i c.point_at-a.result None a c.in_err-j.ensures.place) in
     record { four = c.from_residual-in_err-j.ensures ∙ sym (ap (option_map places) found.four); solid = ap is_some c.from_residual-in_err-j.ensures ∙ found.solid }
-
-pub prove_ne-unreachable-requires : goal.prove_ne-unreachable-requires
-prove_ne-unreachable-requires c =
-    let absent = c.args.absent in
-    let s = c.args.points.now in
-    let i = c.in_ok-i.i in
-    let first = sym c.in_ok-i.ensures.place in
-    let a : c.index-points-i.result ≡ slice_index s i = read_is s i c.index-points-i.result c.in_ok-i.ensures.within c.index-points-i.is in
-    let m = c.in_ok-j.field-0 in
-    let second = second_found absent s i c.index-points-i.result (Some m) a c.in_ok-j.ensures.place in
-    let j = i + 1 + m in
-    let b : c.index-points-j.result ≡ slice_index s j = read_is s j c.index-points-j.result (omega (arith, c.in_ok-j.ensures.within)) c.index-points-j.is in
-    let key_a : IsKey (slice_index s i) = subst IsKey a c.key.ensures.bound in
-    let key_b : IsKey (slice_index s j) = subst IsKey b c.key-2.ensures.bound in
-    distinct absent s i first m second key_a key_b (sym a ∙ sym c.key.ensures.value ∙ c.if-prove_ne.true ∙ c.key-2.ensures.value ∙ b)
 
 pub returns-in_err-k : goal.returns-in_err-k
 returns-in_err-k c =
@@ -41,14 +25,14 @@ returns-in_err-k c =
     let s = c.args.points.now in
     let i = c.in_ok-i.i in
     let first = sym c.in_ok-i.ensures.place in
-    let a : c.index-points-i.result ≡ slice_index s i = read_is s i c.index-points-i.result c.in_ok-i.ensures.within c.index-points-i.is in
+    let a = c.point_at-a.ensures.point in
     let m = c.in_ok-j.field-0 in
-    let second = second_found absent s i c.index-points-i.result (Some m) a c.in_ok-j.ensures.place in
+    let second = second_found absent s i c.point_at-a.result (Some m) a c.in_ok-j.ensures.place in
     let j = i + 1 + m in
-    let b : c.index-points-j.result ≡ slice_index s j = read_is s j c.index-points-j.result (omega (arith, c.in_ok-j.ensures.within)) c.index-points-j.is in
-    let key_a : IsKey (slice_index s i) = subst IsKey a c.key.ensures.bound in
-    let key_b : IsKey (slice_index s j) = subst IsKey b c.key-2.ensures.bound in
-    let found = no_third absent s i first m second key_a key_b (third_found absent s i j c.index-points-i.result c.index-points-j.result None a b c.in_err-k.ensures.place) in
+    let b = c.point_at-b.ensures.point in
+    let key_a = c.point_at-a.ensures.key in
+    let key_b = c.point_at-b.ensures.key in
+    let found = no_third absent s i first m second key_a key_b (third_found absent s i j c.point_at-a.result c.point_at-b.result None a b c.in_err-k.ensures.place) in
     record { four = c.from_residual-in_err-k.ensures ∙ sym (ap (option_map places) found.four); solid = ap is_some c.from_residual-in_err-k.ensures ∙ found.solid }
 
 pub returns-in_err-l : goal.returns-in_err-l
@@ -57,18 +41,18 @@ returns-in_err-l c =
     let s = c.args.points.now in
     let i = c.in_ok-i.i in
     let first = sym c.in_ok-i.ensures.place in
-    let a : c.index-points-i.result ≡ slice_index s i = read_is s i c.index-points-i.result c.in_ok-i.ensures.within c.index-points-i.is in
+    let a = c.point_at-a.ensures.point in
     let m = c.in_ok-j.field-0 in
-    let second = second_found absent s i c.index-points-i.result (Some m) a c.in_ok-j.ensures.place in
+    let second = second_found absent s i c.point_at-a.result (Some m) a c.in_ok-j.ensures.place in
     let j = i + 1 + m in
-    let b : c.index-points-j.result ≡ slice_index s j = read_is s j c.index-points-j.result (omega (arith, c.in_ok-j.ensures.within)) c.index-points-j.is in
-    let key_a : IsKey (slice_index s i) = subst IsKey a c.key.ensures.bound in
-    let key_b : IsKey (slice_index s j) = subst IsKey b c.key-2.ensures.bound in
+    let b = c.point_at-b.ensures.point in
+    let key_a = c.point_at-a.ensures.key in
+    let key_b = c.point_at-b.ensures.key in
     let n = c.in_ok-k.field-0 in
-    let third = third_found absent s i j c.index-points-i.result c.index-points-j.result (Some n) a b c.in_ok-k.ensures.place in
+    let third = third_found absent s i j c.point_at-a.result c.point_at-b.result (Some n) a b c.in_ok-k.ensures.place in
     let k = j + 1 + n in
-    let d : c.index-points-k.result ≡ slice_index s k = read_is s k c.index-points-k.result (omega (arith, c.in_ok-k.ensures.within)) c.index-points-k.is in
-    let found = at_fourth absent s i first m second key_a key_b n third None (fourth_found absent s i j k c.index-points-i.result c.index-points-j.result c.index-points-k.result None a b d c.in_err-l.ensures.place) in
+    let d = c.point_at-c.ensures.point in
+    let found = at_fourth absent s i first m second key_a key_b n third None (fourth_found absent s i j k c.point_at-a.result c.point_at-b.result c.point_at-c.result None a b d c.in_err-l.ensures.place) in
     record { four = c.from_residual-in_err-l.ensures ∙ sym (ap (option_map places) found.four); solid = ap is_some c.from_residual-in_err-l.ensures ∙ found.solid }
 
 pub returns : goal.returns
@@ -77,16 +61,16 @@ returns c =
     let s = c.args.points.now in
     let i = c.in_ok-i.i in
     let first = sym c.in_ok-i.ensures.place in
-    let a : c.index-points-i.result ≡ slice_index s i = read_is s i c.index-points-i.result c.in_ok-i.ensures.within c.index-points-i.is in
+    let a = c.point_at-a.ensures.point in
     let m = c.in_ok-j.field-0 in
-    let second = second_found absent s i c.index-points-i.result (Some m) a c.in_ok-j.ensures.place in
+    let second = second_found absent s i c.point_at-a.result (Some m) a c.in_ok-j.ensures.place in
     let j = i + 1 + m in
-    let b : c.index-points-j.result ≡ slice_index s j = read_is s j c.index-points-j.result (omega (arith, c.in_ok-j.ensures.within)) c.index-points-j.is in
-    let key_a : IsKey (slice_index s i) = subst IsKey a c.key.ensures.bound in
-    let key_b : IsKey (slice_index s j) = subst IsKey b c.key-2.ensures.bound in
+    let b = c.point_at-b.ensures.point in
+    let key_a = c.point_at-a.ensures.key in
+    let key_b = c.point_at-b.ensures.key in
     let n = c.in_ok-k.field-0 in
-    let third = third_found absent s i j c.index-points-i.result c.index-points-j.result (Some n) a b c.in_ok-k.ensures.place in
+    let third = third_found absent s i j c.point_at-a.result c.point_at-b.result (Some n) a b c.in_ok-k.ensures.place in
     let k = j + 1 + n in
-    let d : c.index-points-k.result ≡ slice_index s k = read_is s k c.index-points-k.result (omega (arith, c.in_ok-k.ensures.within)) c.index-points-k.is in
-    let found = at_fourth absent s i first m second key_a key_b n third (Some c.in_ok-l.field-0) (fourth_found absent s i j k c.index-points-i.result c.index-points-j.result c.index-points-k.result (Some c.in_ok-l.field-0) a b d c.in_ok-l.ensures.place) in
+    let d = c.point_at-c.ensures.point in
+    let found = at_fourth absent s i first m second key_a key_b n third (Some c.in_ok-l.field-0) (fourth_found absent s i j k c.point_at-a.result c.point_at-b.result c.point_at-c.result (Some c.in_ok-l.field-0) a b d c.in_ok-l.ensures.place) in
     record { four = sym (ap (option_map places) found.four); solid = found.solid }
