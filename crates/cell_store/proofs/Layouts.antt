@@ -44,9 +44,6 @@ len_none (suc n) = ap suc (len_none n)
 pub empty_places : (l : List (Option Layout)) (i c n : ℕ) → l ≡ replicate i None → c ≤ i → i ≤ c → c ≡ n → l ≡ replicate n None
 empty_places l i c n e h k q = e ∙ ap (λ m. replicate m None) (let t : i ≡ c = omega (arith, h, k) in t ∙ q)
 
-pub shown_twice : (l : List (Option Layout)) (b : ℕ) (x y : Option Layout) → shown (slice_set (slice_set l b x) b y) ≡ slice_set (slice_set (shown l) b (option_map content_of x)) b (option_map content_of y)
-shown_twice l b x y = shown_set (slice_set l b x) b y ∙ ap (λ m. slice_set m b (option_map content_of y)) (shown_set l b x)
-
 -- no bucket stands anywhere
 pub stand_nowhere : (g n : ℕ) → StandAtPlaces g (replicate n None)
 stand_nowhere g n k y q = absurd (none n k q)

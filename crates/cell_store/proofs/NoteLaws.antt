@@ -4,7 +4,7 @@ use Rattle.std.specs.Option.{option_map}
 use Rattle.std.proofs.Common.{refl, sym, ◌∙◌, ap, subst, inl, inr, arith}
 use Rattle.std.proofs.lemmas.List.{get_or-set_same, get_or-set_other}
 use Rattle.std.proofs.lemmas.Bool.{cases_eq, ne_eqb}
-use Rattle.list_laws.proofs.Cited.{below_each, index_in, len_set, len_twice, of_some, one_value, same_true, set_there, to_some}
+use Rattle.list_laws.proofs.Cited.{below_each, index_in, len_set, of_some, one_value, same_true, set_there, to_some}
 use Rattle.point_order.specs.declared.cell.Cell.{Cell}
 use Rattle.point_order.specs.Sets.{IsIn, IsAscending, is_among, with_point, without_point}
 use Rattle.point_order.proofs.Cited.{with_cases}
@@ -50,23 +50,15 @@ found_without s p (Err i) h = without_absent p s (among_gap s p i (record { with
 
 -- ---- one bucket anew
 
--- the bucket itself
-there : (places : List (Option BucketContent)) (b : ℕ) (x y : Option BucketContent) → b < length places → bucket_at (slice_set (slice_set places b x) b y) b ≡ y
-there places b x y h = get_or-set_same (slice_set places b x) b y None (let e = len_set places b x in omega (arith, e, h))
-
--- another
-elsewhere : (places : List (Option BucketContent)) (b k : ℕ) (x y : Option BucketContent) → k ≢ b → bucket_at (slice_set (slice_set places b x) b y) k ≡ bucket_at places k
-elsewhere places b k x y n = get_or-set_other (slice_set places b x) b k y None n ∙ get_or-set_other places b k x None n
-
 -- what is ready for an exchange stays so where a bucket keeps its cells
-pub ready_noted : (g b : ℕ) (gone fresh : List Cell) (places : List (Option Layout)) (plans : List PlanFor) (x : Option Layout) (c d : Layout) → b < length places → layout_at places b ≡ Some c → d.cells ≡ c.cells → IsReady g gone fresh places plans → IsReady g gone fresh (slice_set (slice_set places b x) b (Some d)) plans
-ready_noted g b gone fresh places plans x c d h e f r = record { each = λ l i. by l (r.each l i); apart = r.apart; others = r.others }
+pub ready_noted : (g b : ℕ) (gone fresh : List Cell) (places : List (Option Layout)) (plans : List PlanFor) (c d : Layout) → b < length places → layout_at places b ≡ Some c → d.cells ≡ c.cells → IsReady g gone fresh places plans → IsReady g gone fresh (slice_set places b (Some d)) plans
+ready_noted g b gone fresh places plans c d h e f r = record { each = λ l i. by l (r.each l i); apart = r.apart; others = r.others }
   where
     after : List (Option Layout)
-    after = slice_set (slice_set places b x) b (Some d)
+    after = slice_set places b (Some d)
 
     at_b : layout_at after b ≡ Some d
-    at_b = get_or-set_same (slice_set places b x) b (Some d) None (let e = len_set places b x in omega (arith, e, h))
+    at_b = get_or-set_same places b (Some d) None h
 
     here : (l : PlanFor) → l.number ≡ b → IsReadyFor gone fresh places l → IsReadyFor gone fresh after l
     here l w q =
@@ -76,7 +68,7 @@ ready_noted g b gone fresh places plans x c d h e f r = record { each = λ l i. 
     by : (l : PlanFor) → IsReadyFor gone fresh places l → IsReadyFor gone fresh after l
     by l q = elim (cases_eq l.number b) [
       | inl w ↦ here l w q
-      | inr w ↦ subst (λ o. IsSomeAnd o (λ y. IsPlanFor gone fresh y.cells l.plan)) (sym (get_or-set_other (slice_set places b x) b l.number (Some d) None w ∙ get_or-set_other places b l.number x None w)) q
+      | inr w ↦ subst (λ o. IsSomeAnd o (λ y. IsPlanFor gone fresh y.cells l.plan)) (sym (get_or-set_other places b l.number (Some d) None w)) q
     ]
 
 -- the bucket with the entry
@@ -90,34 +82,26 @@ noted_elsewhere : (g k : ℕ) (e : Entry) (o : Option BucketContent) → k ≢ b
 noted_elsewhere g k e None h = refl
 noted_elsewhere g k e (Some c) h = rw (ne_eqb (bucket_of g (point_of e.edit)) k (λ q. h (sym q))) refl
 
-pub noted_is : (old new : InHand) (g b : ℕ) (places : List (Option BucketContent)) (e : Entry) (x : Option BucketContent) (c d : BucketContent) → g ≡ old.grid → places ≡ old.places → new.grid ≡ g → new.places ≡ slice_set (slice_set places b x) b (Some d) → b ≡ bucket_of g (point_of e.edit) → b < length places → bucket_at places b ≡ Some c → d ≡ with_entry e c → IsNoted e old new
-noted_is old new g b places e x c d e1 e2 e3 e4 h l k f = record {
+pub noted_is : (old new : InHand) (g b : ℕ) (places : List (Option BucketContent)) (e : Entry) (c d : BucketContent) → g ≡ old.grid → places ≡ old.places → new.grid ≡ g → new.places ≡ slice_set places b (Some d) → b ≡ bucket_of g (point_of e.edit) → b < length places → bucket_at places b ≡ Some c → d ≡ with_entry e c → IsNoted e old new
+noted_is old new g b places e c d e1 e2 e3 e4 h l k f = record {
   grid = e3 ∙ e1;
-  count = ap length e4 ∙ len_twice places b x (Some d) ∙ ap length e2;
+  count = ap length e4 ∙ len_set places b (Some d) ∙ ap length e2;
   places = λ n.
       ap (λ m. bucket_at m n) e4 ∙ by n
       ∙ ap (λ m. option_map (noted_in m n e) (bucket_at places n)) e1
       ∙ ap (λ m. option_map (noted_in old.grid n e) (bucket_at m n)) e2;
 }
   where
-    by : (n : ℕ) → bucket_at (slice_set (slice_set places b x) b (Some d)) n ≡ option_map (noted_in g n e) (bucket_at places n)
+    by : (n : ℕ) → bucket_at (slice_set places b (Some d)) n ≡ option_map (noted_in g n e) (bucket_at places n)
     by n = elim (cases_eq n b) [
       | inl w ↦
-          ap (bucket_at (slice_set (slice_set places b x) b (Some d))) w ∙ there places b x (Some d) l
+          ap (bucket_at (slice_set places b (Some d))) w ∙ get_or-set_same places b (Some d) None l
           ∙ ap (λ (y : BucketContent). Some y) (f ∙ sym (noted_here g n e c (w ∙ h)))
           ∙ sym (ap (option_map (noted_in g n e)) (ap (bucket_at places) w ∙ k))
-      | inr w ↦ elsewhere places b n x (Some d) w ∙ sym (noted_elsewhere g n e (bucket_at places n) (λ q. w (q ∙ sym h)))
+      | inr w ↦ get_or-set_other places b n (Some d) None w ∙ sym (noted_elsewhere g n e (bucket_at places n) (λ q. w (q ∙ sym h)))
     ]
 
 -- ---- places
-
-pub stand_noted : (g b : ℕ) (places : List (Option BucketContent)) (x : Option BucketContent) (c d : BucketContent) → b < length places → bucket_at places b ≡ Some c → d.place ≡ c.place → StandAtPlaces g places → StandAtPlaces g (slice_set (slice_set places b x) b (Some d))
-stand_noted g b places x c d h e p st k y q = elim (cases_eq k b) [
-  | inl w ↦ (
-      let u : d ≡ y = one_value d y (sym (there places b x (Some d) h) ∙ ap (bucket_at (slice_set (slice_set places b x) b (Some d))) (sym w) ∙ q) in
-      ap (λ z. z.place) (sym u) ∙ p ∙ st b c e ∙ ap (λ (n : ℕ). Some (g, n)) (sym w))
-  | inr n ↦ st k y (sym (elsewhere places b k x (Some d) n) ∙ q)
-]
 
 pub stand_put : (g b : ℕ) (places : List (Option BucketContent)) (d : BucketContent) → b < length places → d.place ≡ Some (g, b) → StandAtPlaces g places → StandAtPlaces g (slice_set places b (Some d))
 stand_put g b places d h p st k y q = elim (cases_eq k b) [
@@ -126,6 +110,9 @@ stand_put g b places d h p st k y q = elim (cases_eq k b) [
       ap (λ z. z.place) (sym u) ∙ p ∙ ap (λ (n : ℕ). Some (g, n)) (sym w))
   | inr n ↦ st k y (sym (get_or-set_other places b k (Some d) None n) ∙ q)
 ]
+
+pub stand_noted : (g b : ℕ) (places : List (Option BucketContent)) (c d : BucketContent) → b < length places → bucket_at places b ≡ Some c → d.place ≡ c.place → StandAtPlaces g places → StandAtPlaces g (slice_set places b (Some d))
+stand_noted g b places c d h e p st = stand_put g b places d h (p ∙ st b c e) st
 
 pub stand_take : (g b : ℕ) (places : List (Option BucketContent)) → b < length places → StandAtPlaces g places → StandAtPlaces g (slice_set places b None)
 stand_take g b places h st k y q = elim (cases_eq k b) [
@@ -163,7 +150,7 @@ roomier_shown places b c d e r =
     shown_set places b (Some d) ∙ ap (λ (x : BucketContent). slice_set (shown places) b (Some x)) (same_shown c d r) ∙ set_there (shown places) b (content_of c) (shown_is places b c e)
 
 pub roomier_ready : (g b : ℕ) (gone fresh : List Cell) (places : List (Option Layout)) (plans : List PlanFor) (c d : Layout) → b < length places → layout_at places b ≡ Some c → IsRoomier c d → IsReady g gone fresh places plans → IsReady g gone fresh (slice_set places b (Some d)) plans
-roomier_ready g b gone fresh places plans c d h e r q = subst (λ l. IsReady g gone fresh (slice_set l b (Some d)) plans) (set_there places b c e) (ready_noted g b gone fresh places plans (Some c) c d h e r.cells q)
+roomier_ready g b gone fresh places plans c d h e r q = ready_noted g b gone fresh places plans c d h e r.cells q
 
 pub ready_same : (g h : ℕ) (gone fresh eg ef : List Cell) (places qs : List (Option Layout)) (plans : List PlanFor) → g ≡ h → gone ≡ eg → fresh ≡ ef → places ≡ qs → IsReady g gone fresh places plans → IsReady h eg ef qs plans
 ready_same g h gone fresh eg ef places qs plans e1 e2 e3 e4 r =

@@ -9,6 +9,7 @@ use Rattle.std.specs.Prelude.{
   List,
   [],
   ◌∷◌,
+  ◌++◌,
   Option,
   Some,
   IsSome,
@@ -21,9 +22,11 @@ use Rattle.std.specs.Option.{option_map}
 use Rattle.point_order.specs.declared.cell.Cell.{Cell}
 use Rattle.point_order.specs.Facets.{points_of}
 use Rattle.point_order.specs.Sets.{IsIn}
+use Rattle.edit_history.specs.declared.history.Entry.{Entry}
+use Rattle.edit_history.specs.Edits.{point_of, changed}
 use Rattle.cell_store.specs.Grids.{bucket_of}
 use Rattle.cell_stars.specs.Plans.{PlanView, Allows, IsPlanFor, done}
-use Rattle.cell_store.specs.Buckets.{Layout, InHand, bucket_at, layout_at}
+use Rattle.cell_store.specs.Buckets.{Layout, InHand, bucket_at, content_of, layout_at}
 use Rattle.cell_store.specs.Changes.{NoneTouches}
 use Rattle.cell_store.specs.declared.room.PlanFor.{PlanFor}
 
@@ -109,3 +112,13 @@ pub record AreRoomier (old new : Option Layout) : Type 0 where
   pub after : Layout
   pub is : new ≡ Some after
   pub roomier : IsRoomier before after
+
+-- the bucket has the entry last, and its point as the reply says, and keeps its cells
+pub record IsNotedIn (e : Entry) (old new : Option Layout) : Type 0 where
+  pub before : Layout
+  pub was : old ≡ Some before
+  pub after : Layout
+  pub is : new ≡ Some after
+  pub content : content_of after ≡ record (content_of before)
+      { points = changed before.points (point_of e.edit) e.reply; entries = before.entries ++ e ∷ [] }
+  pub cells : after.cells ≡ before.cells

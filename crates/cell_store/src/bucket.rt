@@ -34,7 +34,7 @@ ghost use Rattle.cell_store.specs.Ready.{HasRoom, IsRoomier, carried};
 ghost use Rattle.cell_store.specs.Shares.{points_on};
 ghost use Rattle.cell_store.specs.Stars.{cells_around, cells_left, cells_to_come};
 
-use crate::note::{points_after, with_entry};
+use crate::note::{add_entry, change_points};
 use crate::star::{Other, is_on, other_among};
 use cell_stars::{BucketCells, Cells, Grid, Matched, Plan, Star, StarCells, Steps, are_same};
 use edit_history::Entry;
@@ -199,19 +199,16 @@ impl Bucket {
     }
 
     // Puts the entry last, and its point in or out as its reply says. There is to be room for it. It takes no memory.
-    pub(crate) fn noted(self, entry: Entry) -> Bucket
-        requires { HasRoom self }
-        ensures content { content_of result ≡ record (content_of self)
-            { points = changed self.points (point_of entry.edit) entry.reply; entries = self.entries ++ entry ∷ [] } }
-        ensures cells { result.cells ≡ self.cells }
+    pub(crate) fn note(&mut self, entry: Entry)
+        requires { HasRoom self.old }
+        ensures content { content_of self.new ≡ record (content_of self.old) {
+          points = changed self.old.points (point_of entry.edit) entry.reply;
+          entries = self.old.entries ++ entry ∷ [];
+        } }
+        ensures cells { self.new.cells ≡ self.old.cells }
     {
-        let entries = with_entry(self.entries, entry);
-        let points = points_after(self.points, entry.edit.point(), entry.reply);
-        Bucket {
-            points,
-            cells: self.cells,
-            entries,
-        }
+        add_entry(&mut self.entries, entry);
+        change_points(&mut self.points, entry.edit.point(), entry.reply);
     }
 
     // Whether the point is one of the bucket's.

@@ -49,7 +49,7 @@ ghost use Rattle.cell_store.specs.Ready.{AreHeld};
 ghost use Rattle.cell_store.specs.Stars.{cells_around, cells_left, AcrossGives};
 
 use crate::bucket::Bucket;
-use crate::room::{Exchange, carry_all, make_room};
+use crate::room::{Exchange, bucket_in, carry_all, make_room, note_in};
 use crate::spot::{Spot, SpotAcross};
 use crate::star::Across;
 use cell_stars::{Grid, Star, StarCells, Steps};
@@ -125,7 +125,7 @@ impl Hold {
     pub fn has(&self, b: u32) -> bool
         ensures { result ≡ is_some (bucket_at self.now.places b) }
     {
-        matches!(self.places.get(b as usize), Some(Some(_)))
+        bucket_in(&self.places, b).is_some()
     }
 
     /// The bucket with the number, which is to be in hand.
@@ -134,9 +134,9 @@ impl Hold {
         ensures bucket { bucket_at self.now.places b ≡ Some (content_of result.now) }
         ensures place { (content_of result.now).place ≡ Some (self.now.grid, b) }
     {
-        match self.places.get(b as usize) {
-            Some(Some(bucket)) => bucket,
-            _ => unreachable!(),
+        match bucket_in(&self.places, b) {
+            Some(bucket) => bucket,
+            None => unreachable!(),
         }
     }
 
@@ -284,7 +284,7 @@ impl Hold {
         let grid = self.grid();
         for p in cell.points() {
             let b = grid.bucket_of(*p);
-            if let Some(Some(bucket)) = self.places.get(b as usize) {
+            if let Some(bucket) = bucket_in(&self.places, b) {
                 return Spot::new(*cell, b, bucket.place_at(*p, cell));
             }
         }
@@ -417,8 +417,7 @@ impl Hold {
         ensures room { self.new.room ≡ record self.old.room { push = None } }
     {
         let b = self.grid().bucket_of(entry.edit.point()) as usize;
-        if let (Some(_), Some(bucket)) = (self.note.take(), self.places[b].take()) {
-            self.places[b] = Some(bucket.noted(entry));
-        }
+        note_in(&mut self.places[b], entry);
+        self.note = None;
     }
 }

@@ -9,13 +9,13 @@ ghost use Rattle.edit_history.specs.Edits.{changed};
 use edit_history::{Entry, Reply};
 use point_order::Point;
 
-// The entries with one more, which comes last. It takes no memory.
-pub(crate) fn with_entry(mut entries: Vec<Entry>, entry: Entry) -> Vec<Entry>
-    requires { vec_len entries < vec_capacity entries }
-    ensures { result.items ≡ entries.items ++ entry ∷ [] }
+// Puts the entry last. It takes no memory.
+pub(crate) fn add_entry(entries: &mut Vec<Entry>, entry: Entry)
+    requires { vec_len entries.old < vec_capacity entries.old }
+    ensures { entries.new.items ≡ entries.old.items ++ entry ∷ [] }
 {
     match entries.extend_from_slice(&[entry]) {
-        Ok(()) => entries,
+        Ok(()) => {}
         Err(_) => unreachable!(),
     }
 }
@@ -31,41 +31,39 @@ fn search(points: &[Point], p: Point) -> Result<usize, usize>
     points.binary_search(&p)
 }
 
-// The points with one more, where it is not there. It takes no memory.
-fn points_with(mut points: Vec<Point>, p: Point) -> Vec<Point>
-    requires order { IsAscending points.items }
-    requires room { vec_len points < vec_capacity points }
-    ensures { result.items ≡ with p points.items }
+// Puts the point in, where it is not there. It takes no memory.
+fn put_in(points: &mut Vec<Point>, p: Point)
+    requires order { IsAscending points.old.items }
+    requires room { vec_len points.old < vec_capacity points.old }
+    ensures { points.new.items ≡ with p points.old.items }
 {
-    match search(&points, p) {
-        Ok(_) => points,
-        Err(i) => match points.insert(i, p) {
-            Ok(()) => points,
+    if let Err(i) = search(points, p) {
+        match points.insert(i, p) {
+            Ok(()) => {}
             Err(_) => unreachable!(),
-        },
+        }
     }
 }
 
-// The points without one.
-fn points_without(mut points: Vec<Point>, p: Point) -> Vec<Point>
-    requires { IsAscending points.items }
-    ensures { result.items ≡ without_point p points.items }
+// Takes the point out.
+fn take_out(points: &mut Vec<Point>, p: Point)
+    requires { IsAscending points.old.items }
+    ensures { points.new.items ≡ without_point p points.old.items }
 {
-    if let Ok(i) = search(&points, p) {
+    if let Ok(i) = search(points, p) {
         points.remove(i);
     }
-    points
 }
 
-// The points after a reply. It takes no memory.
-pub(crate) fn points_after(points: Vec<Point>, p: Point, reply: Reply) -> Vec<Point>
-    requires order { IsAscending points.items }
-    requires room { vec_len points < vec_capacity points }
-    ensures { result.items ≡ changed points.items p reply }
+// Changes the points as the reply says. It takes no memory.
+pub(crate) fn change_points(points: &mut Vec<Point>, p: Point, reply: Reply)
+    requires order { IsAscending points.old.items }
+    requires room { vec_len points.old < vec_capacity points.old }
+    ensures { points.new.items ≡ changed points.old.items p reply }
 {
     match reply {
-        Reply::Inserted => points_with(points, p),
-        Reply::Removed => points_without(points, p),
-        Reply::Duplicate | Reply::Missing | Reply::Flat => points,
+        Reply::Inserted => put_in(points, p),
+        Reply::Removed => take_out(points, p),
+        Reply::Duplicate | Reply::Missing | Reply::Flat => {}
     }
 }

@@ -1,6 +1,21 @@
 //! What a hold keeps ready, so that an exchange of cells takes no memory.
 
-ghost use Rattle.std.specs.Prelude.{◌≡◌, ◌↔◌, ◌⊎◌, ℕ, ◌*◌, ◌<◌, IfOk, IsSome, IsSomeAnd, IsTrue, OnOk};
+ghost use Rattle.std.specs.Prelude.{
+  ◌≡◌,
+  ◌↔◌,
+  ◌⊎◌,
+  ℕ,
+  ◌*◌,
+  ◌<◌,
+  IfOk,
+  IsSome,
+  IsSomeAnd,
+  IsTrue,
+  MatchOption,
+  None,
+  OnOk,
+  Some,
+};
 ghost use Rattle.std.specs.Option.{option_map};
 ghost use Rattle.point_order.specs.Sets.{IsIn, IsAscending};
 ghost use Rattle.cell_stars.specs.Gathering.{Gathers};
@@ -13,6 +28,7 @@ ghost use Rattle.cell_store.specs.Ready.{
   HasNumber,
   HasRoom,
   IsAllowed,
+  IsNotedIn,
   IsNumberOf,
   IsReady,
   IsReadyFor,
@@ -24,6 +40,7 @@ ghost use Rattle.cell_store.specs.declared.room.PlanFor.{PlanFor};
 
 use crate::bucket::Bucket;
 use cell_stars::{Grid, Matched, Plan};
+use edit_history::Entry;
 use point_order::{Cell, Point};
 use std::alloc::{AllocError, Global};
 
@@ -40,6 +57,16 @@ pub(crate) struct Exchange {
 pub(crate) struct PlanFor {
     pub(crate) number: u32,
     pub(crate) plan: Plan,
+}
+
+// The bucket with the number, if it is in hand.
+pub(crate) fn bucket_in(places: &[Option<Bucket>], b: u32) -> Option<&Bucket>
+    ensures { MatchOption result (layout_at places.now b ≡ None) (λ c. layout_at places.now b ≡ Some c.now) }
+{
+    match places.get(b as usize) {
+        Some(Some(bucket)) => Some(bucket),
+        _ => None,
+    }
 }
 
 // A number is added once, as long as there are no more than so many.
@@ -109,7 +136,7 @@ fn plan_for(
     ensures number { IfOk result (λ plan. plan.number ≡ b) }
     ensures ready { IfOk result (λ plan. IsReadyFor gone.now fresh.now places.now plan) }
 {
-    let Some(Some(bucket)) = places.get(b as usize) else {
+    let Some(bucket) = bucket_in(places, b) else {
         unreachable!()
     };
     let plan = bucket.plan(alloc, gone, fresh, matched)?;
@@ -169,6 +196,17 @@ pub(crate) fn make_room(place: &mut Option<Bucket>) -> Result<(), AllocError>
 {
     match place {
         Some(bucket) => bucket.make_room(),
+        None => unreachable!(),
+    }
+}
+
+// Puts the entry into the bucket, which is to be there and to have room for it. It takes no memory.
+pub(crate) fn note_in(place: &mut Option<Bucket>, entry: Entry)
+    requires { IsSomeAnd place.old HasRoom }
+    ensures { IsNotedIn entry place.old place.new }
+{
+    match place {
+        Some(bucket) => bucket.note(entry),
         None => unreachable!(),
     }
 }
