@@ -1,37 +1,15 @@
 -- A commit of a board that is kept in one hold with words: when its condition holds, and what it makes of the board.
-use Rattle.std.specs.Prelude.{
-  ◌≡◌,
-  ◌⊎◌,
-  ℕ,
-  ◌+◌,
-  ◌-◌,
-  ◌*◌,
-  ◌^◌,
-  ◌<◌,
-  ◌≤◌,
-  ◌==◌,
-  List,
-  [],
-  ◌∷◌,
-  ◌++◌,
-  All,
-  Option,
-  None,
-  Some,
-  IsSome,
-  length,
-  slice_index_or,
-  slice_set,
-}
+use Rattle.std.specs.Prelude.{◌≡◌, ◌⊎◌, ℕ, ◌+◌, ◌-◌, ◌^◌, ◌<◌, ◌≤◌, ◌==◌, List, All, Option, None, Some, IsSome, IsSomeAnd, true, false, length, slice_index_or, slice_set}
 use Rattle.std.proofs.Common.{Fits, w64, refl, sym, ◌∙◌, ap, subst, inl, inr, arith}
 use Rattle.std.proofs.lemmas.Bool.{eqb-true, eq-eqb}
-use Rattle.list_laws.proofs.Cited.{all_of_each, each_of_all, one_value, same_there, some_and, some_of, within_some}
+use Rattle.list_laws.proofs.Cited.{all_of_each, each_of_all, one_value, same_there, some_and, some_of, to_some, within_some}
 use Rattle.point_order.specs.declared.cell.Cell.{Cell}
 use Rattle.point_order.specs.Coordinates.{IsKey}
+use Rattle.point_order.specs.Complex.{complex}
 use Rattle.point_order.specs.Facets.{points_of}
 use Rattle.edit_history.specs.declared.history.Edit.{Edit}
 use Rattle.edit_history.specs.declared.history.Entry.{Entry}
-use Rattle.edit_history.specs.Edits.{point_of}
+use Rattle.edit_history.specs.Edits.{point_of, after}
 use Rattle.edit_history.specs.Histories.{replay}
 use Rattle.cell_store.specs.Grids.{bucket_of}
 use Rattle.cell_store.specs.Buckets.{BucketContent, InHand, bucket_at}
@@ -51,7 +29,11 @@ use Rattle.claim_rule.proofs.Kept.{if_so, whose_length, whose_at}
 use Rattle.claim_rule.proofs.Moves.{from_view, live_view}
 use Rattle.claim_rule.proofs.Renewals.{so_true, commit_next}
 use Rattle.claim_rule.proofs.Brought.{brought}
-use Rattle.claim_rule.proofs.Whole.{all_are_shares, all_in_hand}
+use Rattle.claim_rule.proofs.Whole.{all_are_shares, all_in_hand, hold_stands}
+use Rattle.claim_rule.specs.Making.{IsExchanged, IsMade, EditGives}
+use Rattle.edit_history.specs.declared.history.Reply.{Reply}
+use Rattle.cell_store.specs.Shares.{Shows}
+use Rattle.cell_store.proofs.Cited.{stands_shows}
 
 -- ---- the condition
 
@@ -105,35 +87,25 @@ commit_facts g parts most opening ticket words places seats h n seat edit good l
 
 -- ---- a commit that does nothing
 
--- there is no such pass
+-- no live pass with the number may make an edit
 pub none_commits :
     (g parts most : ℕ) (opening : List Entry) (ticket : ℕ) (words : List ℕ) (places : List (Option BucketContent))
     (seats : List (Option Seat)) (h : List Entry) (n : ℕ) (edit : Edit) →
-    ((x : Seat) → slice_index_or seats n None ≡ Some x → ⊥) →
+    IsGood (kept g parts most opening ticket words places seats) h →
+    (IsSomeAnd (slice_index_or seats n None) (λ x. 0 < x.left) → ⊥) →
     CanCommit h (kept g parts most opening ticket words places seats) n edit → ⊥
-none_commits g parts most opening ticket words places seats h n edit none can =
+none_commits g parts most opening ticket words places seats h n edit good none can =
     let v = some_and (view_at (kept g parts most opening ticket words places seats) n) _ can in
     let t = some_of (slice_index_or seats n None) (from_view words places seats n v.0 v.1) in
-    none t.0 t.1
+    none (to_some (λ (x : Seat). 0 < x.left) _ t.0 t.1
+    (commit_facts g parts most opening ticket words places seats h n t.0 edit good t.1 can).0)
 
-none_left : (x : ℕ) → x ≡ 0 → 0 < x → ⊥
-none_left x e l = absurd (omega arith)
-
--- the pass has nothing left
-pub spent_commits :
-    (g parts most : ℕ) (opening : List Entry) (ticket : ℕ) (words : List ℕ) (places : List (Option BucketContent))
-    (seats : List (Option Seat)) (h : List Entry) (n : ℕ) (seat : Seat) (edit : Edit) →
-    IsGood (kept g parts most opening ticket words places seats) h → slice_index_or seats n None ≡ Some seat →
-    seat.left ≡ 0 → CanCommit h (kept g parts most opening ticket words places seats) n edit → ⊥
-spent_commits g parts most opening ticket words places seats h n seat edit good live spent can =
-    none_left seat.left spent
-    (commit_facts g parts most opening ticket words places seats h n seat edit good live can).0
-
+-- the board that is seen before is this one, and so is that after it
 pub short_answer :
-    (h : List Entry) (s t : BoardState) (n tag : ℕ) (edit : Edit) → s ≡ t → (CanCommit h s n edit → ⊥) →
-    Next h t (Commit n tag edit) Short t
-short_answer h s t n tag edit same cannot =
-    (λ can. cannot (subst (λ (x : BoardState). CanCommit h x n edit) (sym same) can), refl)
+    (h : List Entry) (s t after : BoardState) (n tag : ℕ) (edit : Edit) → s ≡ t → after ≡ s →
+    (CanCommit h s n edit → ⊥) → Next h t (Commit n tag edit) Short after
+short_answer h s t after n tag edit same stays cannot =
+    (λ can. cannot (subst (λ (x : BoardState). CanCommit h x n edit) (sym same) can), stays ∙ same)
 
 -- the hold is as before
 pub same_board :
@@ -161,49 +133,132 @@ few_so_far g parts most opening ticket words places seats h good =
     few_entries ticket (length h) (left_in (kept g parts most opening ticket words places seats).views) most good.ticket
     good.room good.shape.most
 
--- The board after a commit, over all that the code made of its parts.
-pub committed_next : (old between new : InHand) (parts most : ℕ) (opening : List Entry) (ticket : ℕ) (words : List ℕ) (seats : List (Option Seat)) (h : List Entry) (n tag : ℕ) (edit : Edit) (seat : Seat) (t : Trial) →
-    IsGood (kept old.grid parts most opening ticket words old.places seats) h → length old.places ≡ length words → slice_index_or seats n None ≡ Some seat → IsKey (point_of edit) → 0 < seat.left →
-    IsTrialOf (replay h) edit t → HoldTouched old.grid (replay h) edit (held_by n words old.places) →
-    IsSwapped t.gone.items t.fresh.items old between → IsNoted (record { number = ticket; by = n; tag = tag; edit = edit; reply = t.reply }) between new →
+-- The board after a commit, by what is made of the hold.
+committed_next :
+    (old new : InHand) (parts most : ℕ) (opening : List Entry) (ticket : ℕ) (words : List ℕ)
+    (seats : List (Option Seat)) (h : List Entry) (n tag : ℕ) (edit : Edit) (seat : Seat) →
+    IsGood (kept old.grid parts most opening ticket words old.places seats) h → length old.places ≡ length words →
+    slice_index_or seats n None ≡ Some seat → IsKey (point_of edit) → 0 < seat.left →
+    IsMade words (replay h) ticket n tag edit old new →
     Next h (kept old.grid parts most opening ticket words old.places seats) (Commit n tag edit) Done
     (kept new.grid parts most opening (ticket + 1) words new.places (slice_set seats n (Some (record seat { left = seat.left - 1; seen = ticket + 1 }))))
-committed_next old between new parts most opening ticket words seats h n tag edit seat t good wide live key some trial touched swap note =
+committed_next old new parts most opening ticket words seats h n tag edit seat good wide live key some made =
     let g : ℕ = old.grid in
     let s : BoardState = kept g parts most opening ticket words old.places seats in
-    let e : Entry = record { number = ticket; by = n; tag = tag; edit = edit; reply = t.reply } in
-    let same : e ≡ entry_after h ticket n tag edit = λ i. record { number = ticket; by = n; tag = tag; edit = edit; reply = trial.reply i } in
-    let next : IsNext h e t.gone.items t.fresh.items = subst (λ (x : Entry). IsNext h x t.gone.items t.fresh.items) (sym same) (next_of s h n tag edit t.gone.items t.fresh.items good key trial.change) in
+    let x = made.exchanged in
+    let next : IsNext h (entry_after h ticket n tag edit) made.gone made.fresh =
+    next_of s h n tag edit made.gone made.fresh good key made.change in
     let shares = all_are_shares g parts most opening ticket words old.places seats h good wide in
-    let is = brought g h e t.gone.items t.fresh.items old between new refl shares next swap note
-    ∙ ap (λ (x : Entry). Rattle.claim_rule.specs.Events.renewed_from g (h ++ x ∷ []) 0 old.places) same in
-    let grid : new.grid ≡ g = note.grid ∙ swap.grid in
+    let is = brought g h (entry_after h ticket n tag edit) made.gone made.fresh old x.between new refl shares next
+    x.swapped x.noted in
+    let grid : new.grid ≡ g = x.noted.grid ∙ x.swapped.grid in
     subst (λ (k : ℕ). Next h s (Commit n tag edit) Done (kept k parts most opening (ticket + 1) words new.places (slice_set seats n (Some (record seat { left = seat.left - 1; seen = ticket + 1 }))))) (sym grid)
-    (commit_next g parts most opening ticket words old.places seats h n tag edit seat new.places good live key some touched is)
+    (commit_next g parts most opening ticket words old.places seats h n tag edit seat new.places good live key some
+    made.touched is)
+
+-- the set of the history is one that the hold shows
+shown_set :
+    (hold : InHand) (parts most : ℕ) (opening : List Entry) (ticket : ℕ) (words : List ℕ) (seats : List (Option Seat))
+    (h : List Entry) → IsGood (kept hold.grid parts most opening ticket words hold.places seats) h →
+    length hold.places ≡ length words → Shows hold (replay h)
+shown_set hold parts most opening ticket words seats h good wide =
+    stands_shows hold h (hold_stands hold parts most opening ticket words seats h good wide)
+
+-- so it is next, where the edit is made over words that are those of the board
+pub made_next :
+    (old new : InHand) (parts most : ℕ) (opening : List Entry) (ticket : ℕ) (words words' : List ℕ)
+    (seats : List (Option Seat)) (h : List Entry) (n tag : ℕ) (edit : Edit) (seat : Seat) → words' ≡ words →
+    IsGood (kept old.grid parts most opening ticket words old.places seats) h → length old.places ≡ length words' →
+    (slice_index_or seats n None ≡ Some seat) × (0 < seat.left) → IsKey (point_of edit) →
+    ((s : List ℕ) → Shows old s → EditGives words' s ticket n tag edit old true new) →
+    Next h (kept old.grid parts most opening ticket words old.places seats) (Commit n tag edit) Done
+    (kept new.grid parts most opening (ticket + 1) words new.places (slice_set seats n (Some (record seat { left = seat.left - 1; seen = ticket + 1 }))))
+made_next old new parts most opening ticket words words' seats h n tag edit seat same good wide live key made =
+    let wide' = wide ∙ ap length same in
+    let shows = shown_set old parts most opening ticket words seats h good wide' in
+    committed_next old new parts most opening ticket words seats h n tag edit seat good wide' live.0 key live.1
+    (subst (λ (w : List ℕ). IsMade w (replay h) ticket n tag edit old new) same (made (replay h) shows))
+
+-- and the condition of a commit fails where it is not made
+pub unmade_commits :
+    (old new : InHand) (parts most : ℕ) (opening : List Entry) (ticket : ℕ) (words words' : List ℕ)
+    (seats : List (Option Seat)) (h : List Entry) (n tag : ℕ) (edit : Edit) (seat : Seat) → words' ≡ words →
+    IsGood (kept old.grid parts most opening ticket words old.places seats) h → length old.places ≡ length words' →
+    slice_index_or seats n None ≡ Some seat →
+    ((s : List ℕ) → Shows old s → EditGives words' s ticket n tag edit old false new) →
+    CanCommit h (kept old.grid parts most opening ticket words old.places seats) n edit → ⊥
+unmade_commits old new parts most opening ticket words words' seats h n tag edit seat same good wide live made can =
+    let shows = shown_set old parts most opening ticket words seats h good (wide ∙ ap length same) in
+    made (replay h) shows (subst (λ (w : List ℕ). HoldTouched old.grid (replay h) edit (held_by n w old.places)) (sym same)
+    (commit_facts old.grid parts most opening ticket words old.places seats h n seat edit good live can).1)
 
 -- ---- as the code has it
 
 -- an exchange looks at the buckets alone
-pub swapped_same : (gone fresh gone' fresh' : List Cell) (old old' new : InHand) → gone ≡ gone' → fresh ≡ fresh' → old.grid ≡ old'.grid → old.places ≡ old'.places → IsSwapped gone fresh old new → IsSwapped gone' fresh' old' new
-swapped_same gone fresh gone' fresh' old old' new a b g p s = record {
+pub swapped_same : (gone fresh : List Cell) (old old' new : InHand) → old.grid ≡ old'.grid → old.places ≡ old'.places → IsSwapped gone fresh old new → IsSwapped gone fresh old' new
+swapped_same gone fresh old old' new g p s = record {
   grid = s.grid ∙ g;
   count = s.count ∙ ap length p;
-  places = λ k. s.places k ∙ (λ i. Rattle.std.specs.Option.option_map (Rattle.cell_store.specs.Changes.swapped_in (g i) k (a i) (b i)) (bucket_at (p i) k));
+  places = λ k. s.places k ∙ (λ i. Rattle.std.specs.Option.option_map (Rattle.cell_store.specs.Changes.swapped_in (g i) k gone fresh) (bucket_at (p i) k));
 }
 
 -- the same of the names, over lists that are these
-pub named_same : (n : ℕ) (w w' : List ℕ) (b b' : ℕ) → w ≡ w' → b ≡ b' → IsNamed n w b → IsNamed n w' b'
-named_same n w w' b b' e f x = subst (λ (k : ℕ). IsNamed n w' k) f (subst (λ (l : List ℕ). IsNamed n l b) e x)
+named_same : (n : ℕ) (w : List ℕ) (b b' : ℕ) → b ≡ b' → IsNamed n w b → IsNamed n w b'
+named_same n w b b' f x = subst (λ (k : ℕ). IsNamed n w k) f x
 
-abbrev pub AreNamed : ℕ → List ℕ → ℕ → List Cell → Type 0
+abbrev AreNamed : ℕ → List ℕ → ℕ → List Cell → Type 0
 AreNamed n words g cells = All (λ c. All (λ p. IsNamed n words (bucket_of g p)) (points_of c)) cells
 
-pub are_named_same : (n : ℕ) (w w' : List ℕ) (g g' : ℕ) (l l' : List Cell) → w ≡ w' → g ≡ g' → l ≡ l' → AreNamed n w g l → AreNamed n w' g' l'
-are_named_same n w w' g g' l l' e f k x =
-    subst (λ (m : List Cell). AreNamed n w' g' m) k (subst (λ (d : ℕ). AreNamed n w' d l) f (subst (λ (v : List ℕ). AreNamed n v g l) e x))
+are_named_same : (n : ℕ) (w : List ℕ) (g g' : ℕ) (l l' : List Cell) → g ≡ g' → l ≡ l' → AreNamed n w g l → AreNamed n w g' l'
+are_named_same n w g g' l l' f k x =
+    subst (λ (m : List Cell). AreNamed n w g' m) k (subst (λ (d : ℕ). AreNamed n w d l) f x)
 
 -- all buckets of a good board are in its hold
-pub hold_whole : (hold : InHand) (parts most : ℕ) (opening : List Entry) (ticket : ℕ) (words : List ℕ) (seats : List (Option Seat)) → Good (kept hold.grid parts most opening ticket words hold.places seats) →
-    length hold.places ≡ hold.grid * hold.grid * hold.grid → (length hold.places ≡ length words) × ((b : ℕ) → b < length words → IsSome (bucket_at hold.places b))
-hold_whole hold parts most opening ticket words seats good wide =
-    (wide ∙ sym good.1.shape.words, all_in_hand hold.grid parts most opening ticket words hold.places seats good.0 good.1)
+pub words_whole :
+    (hold : InHand) (parts most : ℕ) (opening : List Entry) (ticket : ℕ) (words words' : List ℕ)
+    (seats : List (Option Seat)) → words' ≡ words →
+    Good (kept hold.grid parts most opening ticket words hold.places seats) →
+    (b : ℕ) → b < length words' → IsSome (bucket_at hold.places b)
+words_whole hold parts most opening ticket words words' seats same good b below =
+    all_in_hand hold.grid parts most opening ticket words hold.places seats good.0 good.1 b
+    (subst (λ (w : List ℕ). b < length w) same below)
+
+-- and all places of a hold are in hand, where a bucket for each word is
+pub places_whole :
+    (words : List ℕ) (places : List (Option BucketContent)) (m : ℕ) → length places ≡ m → length words ≡ m →
+    ((b : ℕ) → b < length words → IsSome (bucket_at places b)) →
+    (b : ℕ) → b < length places → IsSome (bucket_at places b)
+places_whole words places m wide many all b below = all b (subst (λ (k : ℕ). b < k) (wide ∙ sym many) below)
+
+-- what is found and exchanged is what a commit makes of the hold
+pub made_of :
+    (words s : List ℕ) (number n tag : ℕ) (edit : Edit) (t : Trial) (p g : ℕ) (near gone fresh : List Cell)
+    (old new : InHand) → IsTrialOf s edit t → p ≡ point_of edit → g ≡ old.grid → near ≡ t.near.items →
+    gone ≡ t.gone.items → fresh ≡ t.fresh.items →
+    ((b : ℕ) → b < length words → IsSome (bucket_at old.places b)) →
+    IsNamed n words (bucket_of g p) × AreNamed n words g near →
+    IsExchanged gone fresh (record { number = number; by = n; tag = tag; edit = edit; reply = t.reply }) old new →
+    IsMade words s number n tag edit old new
+made_of words s number n tag edit t p g near gone fresh old new trial ep eg en eo ef all own ex = record {
+  touched = touched_held old.grid n s edit t words old.places all trial
+      (named_same n words (bucket_of g p) (bucket_of old.grid (point_of edit)) (λ i. bucket_of (eg i) (ep i)) own.0)
+      (are_named_same n words g old.grid near t.near.items eg en own.1);
+  gone = gone;
+  fresh = fresh;
+  change = subst (λ (l : List Cell). IsChange (complex s) (complex (after s edit)) gone l) (sym ef)
+      (subst (λ (l : List Cell). IsChange (complex s) (complex (after s edit)) l t.fresh.items) (sym eo) trial.change);
+  exchanged = subst (λ (r : Reply). IsExchanged gone fresh (record { number = number; by = n; tag = tag; edit = edit; reply = r }) old new) trial.reply ex;
+}
+
+-- and where the words do not name the pass, it does not hold all that is touched
+pub unmade_of :
+    (words s : List ℕ) (n : ℕ) (edit : Edit) (t : Trial) (p g : ℕ) (near : List Cell) (old : InHand) →
+    IsTrialOf s edit t → p ≡ point_of edit → g ≡ old.grid → near ≡ t.near.items →
+    (IsNamed n words (bucket_of g p) × AreNamed n words g near → ⊥) →
+    HoldTouched old.grid s edit (held_by n words old.places) → ⊥
+unmade_of words s n edit t p g near old trial ep eg en none touched =
+    let own = held_touched old.grid n s edit t words old.places trial touched in
+    none (
+      named_same n words (bucket_of old.grid (point_of edit)) (bucket_of g p) (λ i. bucket_of (sym eg i) (sym ep i)) own.0,
+      are_named_same n words old.grid g t.near.items near (sym eg) (sym en) own.1,
+    )

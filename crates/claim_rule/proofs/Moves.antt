@@ -14,7 +14,7 @@ use Rattle.claim_rule.specs.Good.{IsGood, Good}
 use Rattle.claim_rule.specs.Events.{Next, HasKey, CanRelease, with_view, history_after}
 use Rattle.claim_rule.specs.Kept.{homes_of, held_by, view_of, views_of, kept}
 use Rattle.std.proofs.lemmas.List.{map-set}
-use Rattle.list_laws.proofs.Cited.{eq_same, some_and, to_some, within_some}
+use Rattle.list_laws.proofs.Cited.{eq_same, none_there, some_and, to_some, within_some}
 use Rattle.claim_rule.proofs.Steps.{live_at}
 use Rattle.claim_rule.proofs.Events.{events_keep_good}
 use Rattle.claim_rule.proofs.Kept.{if_so, whose_at, whose_set, whose_same, seen_at, seats_changed}
@@ -108,10 +108,19 @@ holds_named g parts most opening ticket words places seats n b h good can =
     (let l = within_some v.0.held b v.2 in let m = ok.places in omega (arith, l, m), ok.words b v.2 ∙ ap (λ k. k + 1) first)
 
 -- a pass that is not live cannot claim or release
-pub no_release : (words : List ℕ) (places : List (Option BucketContent)) (seats : List (Option Seat)) (n b : ℕ) → (IsSome (slice_index_or seats n None) → ⊥) → IsSomeAnd (slice_index_or (views_of words places seats) n None) (λ v. IsSome (bucket_at v.held b)) → ⊥
-no_release words places seats n b not can =
-    let v = some_and (slice_index_or (views_of words places seats) n None) (λ v. IsSome (bucket_at v.held b)) can in
+pub not_live : (words : List ℕ) (places : List (Option BucketContent)) (seats : List (Option Seat)) (n : ℕ) (P : View → Type 0) → (IsSome (slice_index_or seats n None) → ⊥) → IsSomeAnd (slice_index_or (views_of words places seats) n None) P → ⊥
+not_live words places seats n P not can =
+    let v = some_and (slice_index_or (views_of words places seats) n None) P can in
     not (from_view words places seats n v.0 v.1)
+
+-- a pass cannot both lack a bucket and hold it
+pub held_twice : (o : Option View) (b : ℕ) → IsSomeAnd o (λ v. bucket_at v.held b ≡ None) → IsSomeAnd o (λ v. IsSome (bucket_at v.held b)) → ⊥
+held_twice None b lacks holds = absurd lacks
+held_twice (Some v) b lacks holds = none_there (bucket_at v.held b) lacks holds
+
+-- what the test of a length says
+pub within_length : (b len n : ℕ) → b < len → len ≡ n → b < n
+within_length b len n l e = omega arith
 
 -- ---- release
 

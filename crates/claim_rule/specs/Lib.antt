@@ -6,3 +6,4 @@ pub mod Laws
 pub mod Commuting
 pub mod Kept
 pub mod Trials
+pub mod Making

@@ -7,6 +7,7 @@ ghost use Rattle.std.specs.Prelude.{
   ◌↔◌,
   IsTrue,
   true,
+  false,
   ℕ,
   ◌*◌,
   ◌+◌,
@@ -22,14 +23,23 @@ ghost use Rattle.std.specs.Prelude.{
   length,
   replicate,
   IfOk,
+  OnOk,
   OnErr,
+  MatchOption,
   IsSome,
+  IsSomeAnd,
   slice_index_or,
 };
 ghost use Rattle.edit_history.specs.declared.history.Entry.{Entry};
+ghost use Rattle.edit_history.specs.Edits.{point_of};
+ghost use Rattle.point_order.specs.Coordinates.{IsKey};
 ghost use Rattle.point_order.specs.Facets.{points_of};
+ghost use Rattle.cell_store.specs.Buckets.{bucket_at};
 ghost use Rattle.cell_store.specs.Grids.{is_grid_size, bucket_of};
+ghost use Rattle.cell_store.specs.Meshes.{IsWhole};
+ghost use Rattle.cell_store.specs.Shares.{Shows};
 ghost use Rattle.claim_rule.specs.Boards.{word_of};
+ghost use Rattle.claim_rule.specs.Making.{IsExchanged, EditGives};
 ghost use Rattle.claim_rule.specs.Trials.{IsNamed};
 ghost use Rattle.claim_rule.specs.Good.{IsGood, Good};
 ghost use Rattle.claim_rule.specs.Events.{Next, is_commit};
@@ -131,6 +141,81 @@ fn holds_nothing(words: &[u64], n: u32) -> bool
     ensures { IsTrue result ↔ All (λ w. w ≢ n + 1) words.now }
 {
     words.iter().all(|w| *w != u64::from(n) + 1)
+}
+
+// Whether the words of the buckets of the point and of all points of these cells name the pass.
+fn names_touched(words: &[u64], grid: Grid, n: u32, point: Point, near: &[Cell]) -> bool
+    ensures { IsTrue result ↔ (IsNamed n words.now (bucket_of grid point)
+        × All (λ c. All (λ p. IsNamed n words.now (bucket_of grid p)) (points_of c)) near.now) }
+{
+    names(words, grid.bucket_of(point), n) && names_cells(words, grid, n, near)
+}
+
+// Exchanges the cells in a hold of all buckets, and notes the entry.
+fn exchange(
+    alloc: Global,
+    hold: &mut Hold,
+    gone: &[Cell],
+    fresh: &[Cell],
+    entry: Entry,
+) -> Result<(), AllocError>
+    requires { IsWhole hold.old }
+    ensures exchanged { OnOk result (IsExchanged gone.now fresh.now entry hold.old hold.new) }
+    ensures refused { OnErr result (hold.new ≡ hold.old) }
+{
+    hold.reserve(alloc, gone, fresh, entry.edit.point())?;
+    hold.swap_cells(gone, fresh);
+    hold.push_entry(entry);
+    Ok(())
+}
+
+// Makes the edit in a hold of all buckets, as the entry with the number, where the words of all buckets that it touches
+// name the pass; answers whether they do.
+fn edit_in(
+    alloc: Global,
+    hold: &mut Hold,
+    words: &[u64],
+    number: u64,
+    n: u32,
+    tag: u32,
+    edit: Edit,
+) -> Result<bool, AllocError>
+    requires all { (b : ℕ) → b < length words.now → IsSome (bucket_at hold.old.places b) }
+    requires as_many { length words.now ≡ hold.old.grid * hold.old.grid * hold.old.grid }
+    ensures key { IfOk result (λ made. IsKey (point_of edit)) }
+    ensures places { IfOk result (λ made. length hold.old.places ≡ length words.now) }
+    ensures unmade { IfOk result (λ made. made ≡ false → hold.new ≡ hold.old) }
+    ensures made { IfOk result (λ made. (s : List ℕ) → Shows hold.old s →
+        EditGives words.now s number n tag edit hold.old made hold.new) }
+    ensures refused { OnErr result (hold.new ≡ hold.old) }
+{
+    let grid = hold.grid();
+    let point = edit.point();
+    let _ = point.key();
+    let trial = trial_of(alloc, hold, edit)?;
+    let own = names_touched(words, grid, n, point, &trial.near);
+    if own {
+        let entry = Entry {
+            number,
+            by: n,
+            tag,
+            edit,
+            reply: trial.reply,
+        };
+        exchange(alloc, hold, &trial.gone, &trial.fresh, entry)?;
+    }
+    Ok(own)
+}
+
+// The pass with the number, if it is live and may still make an edit.
+fn spender(seats: &[Option<Seat>], n: u32) -> Option<Seat>
+    ensures { MatchOption result (¬ (IsSomeAnd (slice_index_or seats.now n None) (λ x. 0 < x.left)))
+        (λ x. (slice_index_or seats.now n None ≡ Some x) × (0 < x.left)) }
+{
+    match seat_at(seats, n) {
+        Some(seat) if seat.left > 0 => Some(seat),
+        _ => None,
+    }
 }
 
 // The words of so many buckets, all at home.
@@ -326,30 +411,20 @@ impl Board {
             Next h self.old (Commit n tag edit) answer self.new) }
         ensures refused { OnErr result (self.new ≡ self.old) }
     {
-        let Some(seat) = seat_at(&self.seats, n) else {
+        let Some(seat) = spender(&self.seats, n) else {
             return Ok(Played::Short);
         };
-        if seat.left == 0 {
-            return Ok(Played::Short);
-        }
-        let grid = self.hold.grid();
-        let point = edit.point();
-        let _ = point.key();
-        let trial = trial_of(alloc, &self.hold, edit)?;
-        if !names(&self.words, grid.bucket_of(point), n)
-            || !names_cells(&self.words, grid, n, &trial.near)
-        {
-            return Ok(Played::Short);
-        }
-        self.hold.reserve(alloc, &trial.gone, &trial.fresh, point)?;
-        self.hold.swap_cells(&trial.gone, &trial.fresh);
-        self.hold.push_entry(Entry {
-            number: self.ticket,
-            by: n,
+        if !edit_in(
+            alloc,
+            &mut self.hold,
+            &self.words,
+            self.ticket,
+            n,
             tag,
             edit,
-            reply: trial.reply,
-        });
+        )? {
+            return Ok(Played::Short);
+        }
         self.ticket += 1;
         self.seats[n as usize] = Some(Seat {
             left: seat.left - 1,

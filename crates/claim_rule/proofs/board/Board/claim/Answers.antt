@@ -3,12 +3,14 @@ use Rattle.claim_rule.specs.declared.event.Event.TheVariants.{Claim}
 use Rattle.claim_rule.specs.declared.event.Played.TheVariants.{Done, Taken}
 use Rattle.claim_rule.specs.Boards.{BoardState}
 use Rattle.claim_rule.specs.Good.{IsGood, Good}
-use Rattle.claim_rule.specs.Events.{Next}
+use Rattle.claim_rule.specs.Events.{CanClaim, Next}
 use Rattle.claim_rule.specs.Kept.{kept}
 use Rattle.std.proofs.lemmas.List.{get_or_read}
 use Rattle.list_laws.proofs.Cited.{some_of}
-use Rattle.claim_rule.proofs.Moves.{good_by, seen_as, claim_next, claim_taken}
+use Rattle.cell_store.specs.Buckets.{bucket_at}
+use Rattle.claim_rule.proofs.Moves.{good_by, seen_as, claim_next, claim_taken, held_twice, named_holds, not_live, within_length}
 use Rattle.claim_rule.proofs.board.Board.claim.Goals as goal
+use Rattle.claim_rule.proofs.board.Board.claim.Goals.{then-not-is_live-via-then-not-is_live, then-not-is_live-via-else-not-is_live+then-b-len}
 
 pub returns-then-word-ne0-clause-next : goal.returns-then-word-ne0-clause-next
 returns-then-word-ne0-clause-next c h good =
@@ -46,3 +48,37 @@ returns-clause-next c h good =
     subst (λ k. Next h c.args.self.now (Claim c.args.n c.args.b) Done (kept i.hold.grid i.parts i.most i.begun.value.history i.ticket (slice_set i.words.items c.args.b (k + 1)) i.hold.places i.seats.items)) (sym c.from-2.ensures)
     (seen_as h _ c.args.self.now (Claim c.args.n c.args.b) Done (kept i.hold.grid i.parts i.most i.begun.value.history i.ticket (slice_set i.words.items c.args.b (c.args.n + 1)) i.hold.places i.seats.items) c.self.view_is
     (claim_next i.hold.grid i.parts i.most i.begun.value.history i.ticket i.words.items i.hold.places i.seats.items c.args.n c.args.b live.0 h good' live.1 below (sym word ∙ c.if-word-ne0.false)))
+
+pub returns-then-not-is_live-clause-next : goal.returns-then-not-is_live-clause-next
+returns-then-not-is_live-clause-next c h good =
+    let i = c.self.inside in (
+      λ can.
+          let can' = subst (λ (s : BoardState). CanClaim s c.args.n c.args.b) (sym c.self.view_is) can in
+          elim c.then-not-is_live.branch [
+            | then-not-is_live-via-then-not-is_live w ↦
+                not_live i.words.items i.hold.places i.seats.items c.args.n (λ v. bucket_at v.held c.args.b ≡ None)
+                (λ k. let y = c.is_live.ensures.1 (subst (λ l. IsSome (slice_index_or l c.args.n None)) (sym c.deref.ensures.value) k) in absurd (cc (y, w.if-not-is_live.true))) can'.1
+            | then-not-is_live-via-else-not-is_live+then-b-len w ↦
+                absurd (omega (arith, w.if-b-len.true, w.len.ensures, can'.0, i.words.ok.0))
+          ],
+      refl,
+    )
+
+pub returns-then-word-from-clause-next : goal.returns-then-word-from-clause-next
+returns-then-word-from-clause-next c h good =
+    let i = c.self.inside in
+    let good' = subst (λ (s : BoardState). IsGood s h) (sym c.self.view_is) good in (
+      λ can.
+          let can' = subst (λ (s : BoardState). CanClaim s c.args.n c.args.b) (sym c.self.view_is) can in
+          let word = get_or_read i.words.items _ _ can'.0 c.index-word.ensures 0 in
+          held_twice _ c.args.b can'.1
+          (named_holds i.hold.grid i.parts i.most i.begun.value.history i.ticket i.words.items i.hold.places i.seats.items c.args.n c.args.b h good' can'.0
+          (sym word ∙ c.if-word-from.true ∙ ap (λ k. k + 1) c.from.ensures)),
+      refl,
+    )
+
+pub index-word-requires : goal.index-word-requires
+index-word-requires c = within_length c.args.b _ _ c.if-b-len.false c.len.ensures
+
+pub index_mut-requires : goal.index_mut-requires
+index_mut-requires c = within_length c.args.b _ _ c.if-b-len.false c.len.ensures

@@ -5,10 +5,11 @@ use Rattle.claim_rule.specs.Boards.{BoardState}
 use Rattle.claim_rule.specs.Good.{IsGood, Good}
 use Rattle.claim_rule.specs.Events.{Next, CanJoin}
 use Rattle.claim_rule.specs.Kept.{kept}
-use Rattle.claim_rule.proofs.Moves.{good_by, seen_as}
+use Rattle.list_laws.proofs.Cited.{none_there, within}
+use Rattle.claim_rule.proofs.Moves.{good_by, not_live, seen_as}
 use Rattle.claim_rule.proofs.Seats.{join_facts, join_next, seat_inside}
 use Rattle.claim_rule.proofs.board.Board.join.Goals as goal
-use Rattle.claim_rule.proofs.board.Board.join.Goals.{then-from-via-then-from, then-from-via-else-from+then-not-holds_nothing, then-from-via-else-from+else-not-holds_nothing+then-not-holds_nothing-2}
+use Rattle.claim_rule.proofs.board.Board.join.Goals.{in_default-via-in-Some+in_default, in_default-via-in_default, then-from-via-then-from, then-from-via-else-from+then-not-holds_nothing, then-from-via-else-from+else-not-holds_nothing+then-not-holds_nothing-2}
 
 pub returns-then-from-clause-next : goal.returns-then-from-clause-next
 returns-then-from-clause-next c h good =
@@ -82,3 +83,33 @@ returns-clause-next c h good =
     subst (λ k. Next h c.args.self.now (Join c.args.n c.args.m) Done (kept i.hold.grid i.parts i.most i.begun.value.history i.ticket i.words.items i.hold.places (slice_set (slice_set i.seats.items c.args.m None) c.args.n (Some (record t { parts = t.parts + o.parts; left = t.left + o.left; seen = k }))))) (sym c.max.ensures)
     (seen_as h _ c.args.self.now (Join c.args.n c.args.m) Done (kept i.hold.grid i.parts i.most i.begun.value.history i.ticket i.words.items i.hold.places (slice_set (slice_set i.seats.items c.args.m None) c.args.n (Some (record t { parts = t.parts + o.parts; left = t.left + o.left; seen = max t.seen o.seen })))) c.self.view_is
     (join_next i.hold.grid i.parts i.most i.begun.value.history i.ticket i.words.items i.hold.places i.seats.items h c.args.n c.args.m t o good' live live' nothing nothing' next))
+
+pub returns-in_default-clause-next : goal.returns-in_default-clause-next
+returns-in_default-clause-next c h good =
+    let i = c.self.inside in (
+      λ can.
+          let can' = subst (λ (s : BoardState). CanJoin s c.args.n c.args.m) (sym c.self.view_is) can in
+          elim c.in_default.branch [
+            | in_default-via-in-Some+in_default w ↦
+                not_live i.words.items i.hold.places i.seats.items c.args.m _
+                (none_there _ (ap (λ l. slice_index_or l c.args.m None) (sym c.deref-2.ensures.value) ∙ sym c.seat_at-2.ensures ∙ w.in_default.is-1)) can'.1
+            | in_default-via-in_default w ↦
+                not_live i.words.items i.hold.places i.seats.items c.args.n _
+                (none_there _ (ap (λ l. slice_index_or l c.args.n None) (sym c.deref.ensures.value) ∙ sym c.seat_at.ensures ∙ w.in_default.is-0)) can'.0
+          ],
+      refl,
+    )
+
+pub index_mut-requires : goal.index_mut-requires
+index_mut-requires c =
+    let i = c.self.inside in
+    let live' = (ap (λ l. slice_index_or l c.args.m None) (sym c.deref-2.ensures.value) ∙ sym c.seat_at-2.ensures ∙ c.in-Some-Some.is-1) in
+    let l = within i.seats.items c.args.m _ live' in
+    omega (arith, l, i.seats.ok.0)
+
+pub index_mut-requires-2 : goal.index_mut-requires-2
+index_mut-requires-2 c =
+    let i = c.self.inside in
+    let live = (ap (λ l. slice_index_or l c.args.n None) (sym c.deref.ensures.value) ∙ sym c.seat_at.ensures ∙ c.in-Some-Some.is-0) in
+    let l = within i.seats.items c.args.n _ live in
+    omega (arith, l, i.seats.ok.0)

@@ -6,7 +6,8 @@ use Rattle.claim_rule.specs.Boards.{BoardState}
 use Rattle.claim_rule.specs.Good.{IsGood}
 use Rattle.claim_rule.specs.Events.{CanRelease}
 use Rattle.claim_rule.specs.Kept.{kept}
-use Rattle.claim_rule.proofs.Moves.{good_by, seen_as, release_next, holds_named, no_release}
+use Rattle.cell_store.specs.Buckets.{bucket_at}
+use Rattle.claim_rule.proofs.Moves.{good_by, seen_as, release_next, holds_named, not_live}
 use Rattle.claim_rule.proofs.board.Board.release.Goals as goal
 use Rattle.claim_rule.proofs.board.Board.release.Goals.{then-not-is_live-via-then-not-is_live, then-not-is_live-via-else-not-is_live+then-not-names}
 
@@ -18,7 +19,7 @@ returns-then-not-is_live-clause-next c h good =
           let can' = subst (λ (s : BoardState). CanRelease s c.args.n c.args.b) (sym c.self.view_is) can in
           elim c.then-not-is_live.branch [
             | then-not-is_live-via-then-not-is_live w ↦
-                no_release i.words.items i.hold.places i.seats.items c.args.n c.args.b
+                not_live i.words.items i.hold.places i.seats.items c.args.n (λ v. IsSome (bucket_at v.held c.args.b))
                 (λ k. let y = c.is_live.ensures.1 (subst (λ l. IsSome (slice_index_or l c.args.n None)) (sym c.deref.ensures.value) k) in absurd (cc (y, w.if-not-is_live.true))) can'
             | then-not-is_live-via-else-not-is_live+then-not-names w ↦
                 let r = holds_named i.hold.grid i.parts i.most i.begun.value.history i.ticket i.words.items i.hold.places i.seats.items c.args.n c.args.b h good' can' in

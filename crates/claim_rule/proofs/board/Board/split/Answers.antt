@@ -5,7 +5,8 @@ use Rattle.claim_rule.specs.Boards.{BoardState}
 use Rattle.claim_rule.specs.Good.{IsGood}
 use Rattle.claim_rule.specs.Events.{CanSplit}
 use Rattle.claim_rule.specs.Kept.{kept}
-use Rattle.claim_rule.proofs.Moves.{good_by, seen_as}
+use Rattle.list_laws.proofs.Cited.{some_of, within}
+use Rattle.claim_rule.proofs.Moves.{good_by, not_live, seen_as}
 use Rattle.claim_rule.proofs.Seats.{split_facts, split_next, seat_inside, as_many}
 use Rattle.claim_rule.proofs.board.Board.split.Goals as goal
 use Rattle.claim_rule.proofs.board.Board.split.Goals.{then-parts-eq0-via-then-parts-eq0, then-parts-eq0-via-else-parts-eq0+then-parts-seat, then-parts-eq0-via-else-parts-eq0+else-parts-seat+then-left-seat, then-parts-eq0-via-else-parts-eq0+else-parts-seat+else-left-seat+then-not-holds_nothing}
@@ -73,3 +74,20 @@ returns-clause-next c h good =
     let less : c.args.left ≤ t.left = omega (arith, c.if-left-seat.false) in
     seen_as h _ c.args.self.now (Split c.args.n c.args.parts c.args.left) Done (kept i.hold.grid i.parts i.most i.begun.value.history i.ticket i.words.items i.hold.places (slice_set (slice_set i.seats.items c.args.n (Some (record t { parts = t.parts - c.args.parts; left = t.left - c.args.left; seen = i.ticket }))) (t.first + (t.parts - c.args.parts)) (Some (record { first = t.first + (t.parts - c.args.parts); parts = c.args.parts; left = c.args.left; seen = i.ticket; since = i.ticket })))) c.self.view_is
     (split_next i.hold.grid i.parts i.most i.begun.value.history i.ticket i.words.items i.hold.places i.seats.items h c.args.n t c.args.parts c.args.left good' live nothing some fewer less)
+
+pub returns-in_default-clause-next : goal.returns-in_default-clause-next
+returns-in_default-clause-next c h good =
+    let i = c.self.inside in (
+      λ can.
+          let can' = subst (λ (s : BoardState). CanSplit s c.args.n c.args.parts c.args.left) (sym c.self.view_is) can in
+          not_live i.words.items i.hold.places i.seats.items c.args.n _
+          (λ k. let t = some_of _ k in c.in_default.not-Some t.0 (c.seat_at.ensures ∙ ap (λ l. slice_index_or l c.args.n None) c.deref.ensures.value ∙ t.1)) can',
+      refl,
+    )
+
+pub index_mut-requires : goal.index_mut-requires
+index_mut-requires c =
+    let i = c.self.inside in
+    let live = (ap (λ l. slice_index_or l c.args.n None) (sym c.deref.ensures.value) ∙ sym c.seat_at.ensures ∙ c.in-Some.is) in
+    let l = within i.seats.items c.args.n _ live in
+    omega (arith, l, i.seats.ok.0)
