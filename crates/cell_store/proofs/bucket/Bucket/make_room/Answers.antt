@@ -1,0 +1,11 @@
+use Rattle.std.proofs.Common.{ℕ, ◌+◌, ◌-◌, ◌<◌, ◌≤◌, arith}
+use Rattle.cell_store.proofs.bucket.Bucket.make_room.Goals as goal
+
+room_left : (len cap : ℕ) → len + 1 ≤ cap → 0 < cap - len
+room_left len cap l = omega arith
+
+pub returns-clause-room : goal.returns-clause-room
+returns-clause-room c = record {
+  points = room_left _ _ c.in_ok-reserve.ensures.ok;
+  entries = room_left _ _ c.in_ok-reserve-2.ensures.ok;
+}
