@@ -57,7 +57,7 @@ fn edit(rt: &impl Print, alloc: Global, mesh: &mut Mesh, tag: u32, edit: Edit) -
 fn are_ascending(points: &[Point]) -> bool
     ensures { IsTrue result → IsAscending points.now }
 {
-    match points {
+    match *points {
         [a, b, c, d, e] => a < b && b < c && c < d && d < e,
         _ => false,
     }

@@ -1,8 +1,8 @@
 //! Two threads edit one mesh, each by a pass of its own, and one of them takes a snapshot.
 
-ghost use Rattle.std.specs.Prelude.{◌≡◌};
+ghost use Rattle.std.specs.Prelude.{◌≡◌, ◌≤◌, IfOk};
 ghost use Rattle.grid_claims.specs.Passes.{Opened};
-ghost use Rattle.grid_claims.specs.Tries.{IsStill};
+ghost use Rattle.grid_claims.specs.Tries.{IsStill, opening_pass};
 
 use anyhow::bail;
 use cell_store::Mesh;
@@ -111,22 +111,67 @@ fn snapped(table: &MeshTable, alloc: Global, pass: &mut Pass) -> Result<Snapshot
     table.try_snapshot(alloc, pass)
 }
 
-// Tells how many points each thread added, and how much a snapshot of the whole has.
-fn show_whole(
-    rt: &impl Print,
-    alloc: Global,
-    table: &MeshTable,
-    pass: &mut Pass,
+// How many points were added near and far, and how many entries and cells a snapshot of the whole has.
+#[derive(Drop)]
+struct Whole {
     near: u32,
     far: u32,
-) -> anyhow::Result<()>
-    requires { pass.old.table ≡ table.now }
-    ensures { IsStill pass.old pass.new }
+    entries: usize,
+    cells: usize,
+}
+
+// Splits a pass for two cubes, joins the two passes again, and looks at the whole.
+fn add_and_look<R: Threads + Sync>(
+    rt: &R,
+    alloc: Global,
+    table: &MeshTable,
+    mut one: Pass,
+) -> (Pass, Result<Whole, Refused>)
+    requires table { one.table ≡ table.now }
+    requires parts { one.parts ≡ 2 }
+    requires left { 50 ≤ one.left }
+    ensures { IsStill one result.0 }
 {
+    let two = match table.split(alloc, &mut one, 1, 50) {
+        Ok(two) => two,
+        Err(_) => return (one, Err(Refused::Memory)),
+    };
+    let ((mut one, near), (two, far)) = add_cubes(rt, alloc, table, one, two);
+    table.join(&mut one, two);
+    let whole = match snapped(table, alloc, &mut one) {
+        Ok(Snapshot { history, complex }) => Ok(Whole {
+            near,
+            far,
+            entries: history.len(),
+            cells: complex.len(),
+        }),
+        Err(why) => Err(why),
+    };
+    (one, whole)
+}
+
+// A table for the mesh, and its first pass.
+fn opened(alloc: Global, mesh: Mesh) -> anyhow::Result<(MeshTable, Pass)>
+    ensures parts { IfOk result (λ o. o.0.parts ≡ 2) }
+    ensures pass { IfOk result (λ o. o.1 ≡ opening_pass o.0 100) }
+{
+    if mesh.count() > 1000 {
+        bail!("the history is long");
+    }
+    Ok(MeshTable::open(alloc, mesh, 2, 100)?)
+}
+
+// Tells what came of the edits side by side, and how many entries the mesh has.
+fn show_whole(rt: &impl Print, whole: &Whole, count: u64) -> anyhow::Result<()> {
+    let Whole {
+        near,
+        far,
+        entries,
+        cells,
+    } = whole;
     println!(rt; "{near} and {far} points were added side by side")?;
-    let snapshot = snapped(table, alloc, pass)?;
-    let (entries, cells) = (snapshot.history.len(), snapshot.complex.len());
     println!(rt; "a snapshot has {entries} entries and {cells} cells")?;
+    println!(rt; "the mesh has {count} entries")?;
     Ok(())
 }
 
@@ -137,16 +182,8 @@ pub fn edit_side_by_side<R: Threads + Sync + Print>(
     alloc: Global,
     mesh: Mesh,
 ) -> anyhow::Result<()> {
-    if mesh.count() > 1000 {
-        bail!("the history is long");
-    }
-    let (table, mut one) = MeshTable::open(alloc, mesh, 2, 100)?;
-    let two = table.split(alloc, &mut one, 1, 50)?;
-    let ((mut one, near), (two, far)) = add_cubes(rt, alloc, &table, one, two);
-    table.join(&mut one, two);
-    let shown = show_whole(rt, alloc, &table, &mut one, near, far);
-    let count = table.close(one).count();
-    shown?;
-    println!(rt; "the mesh has {count} entries")?;
-    Ok(())
+    let (table, pass) = opened(alloc, mesh)?;
+    let (pass, whole) = add_and_look(rt, alloc, &table, pass);
+    let count = table.close(pass).count();
+    show_whole(rt, &whole?, count)
 }
