@@ -52,6 +52,13 @@ unmoved a f s x y = record {
   broken = λ e d. never y e;
 }
 
+-- what a sheet seen as s does, by its page p and whether it failed, d
+pub put_on : {T E : Type 0} {a b : Option (List ℕ)} {f g : ℕ} {s : SheetSeen} {p q x : List ℕ} {d v : Bool} (r : Result T E) → record { waits = p; failed = d } ≡ s → d ≡ false → v ≡ is_err r →
+    OnOk r (Flows a b p q x) → OnErr r (FlowsInPart a b p x) → HasCause f g r → Puts a b f g s (record { waits = q; failed = v }) x
+put_on {a = a} {b = b} {f = f} {g = g} {s = s} {p = p} {q = q} {x = x} {v = v} r e n k w i h =
+    subst (λ (o : SheetSeen). Puts a b f g o (record { waits = q; failed = v }) x) (ap (λ (o : Bool). record { waits = p; failed = o }) (sym n) ∙ e)
+    (subst (λ (o : Bool). Puts a b f g (record { waits = p; failed = false }) (record { waits = q; failed = o }) x) (sym k) (tried r w i h))
+
 -- nothing is put
 pub nothing : {a : Option (List ℕ)} {f : ℕ} {s : SheetSeen} → Puts a a f f s s []
 nothing {a} {f} {s} = record {
@@ -136,6 +143,12 @@ shut {f = f} e y = record { later = at_once f; fails = λ k. refl; still = λ k.
 -- before, what waits is written
 pub wrote : {T E : Type 0} {a b : Option (List ℕ)} {f g : ℕ} {s : SheetSeen} (r : Result T E) → s.failed ≡ false → OnOk r (Appends a b s.waits) → AppendsFront a b s.waits → HasCause f g r → Closes a b f g s r
 wrote r n w i h = record { later = h.later; fails = λ y. never y n; still = λ y. never y n; written = λ k. record { whole = w; front = i; cause = h } }
+
+-- so does the closing of a sheet seen as s
+pub closes_on : {T E : Type 0} {a b : Option (List ℕ)} {f g : ℕ} {s : SheetSeen} {p : List ℕ} {d : Bool} (r : Result T E) → record { waits = p; failed = d } ≡ s → d ≡ false →
+    OnOk r (Appends a b p) → AppendsFront a b p → HasCause f g r → Closes a b f g s r
+closes_on {a = a} {b = b} {f = f} {g = g} {p = p} {d = d} r e n w i h =
+    subst (λ (o : SheetSeen). Closes a b f g o r) e (wrote {s = record { waits = p; failed = d }} r n w i h)
 
 -- the whole text was written where the answer is no error
 pub closed : {T E : Type 0} {a b c : Option (List ℕ)} {f g h : ℕ} {s t : SheetSeen} {x : List ℕ} (r : Result T E) → s ≡ blank → Puts a b f g s t x → Closes b c g h t r → OnOk r (Appends a c x)

@@ -198,10 +198,11 @@ fn put_mesh<O: Sink>(sheet: &mut Sheet, out: &mut O, report: &Report)
     ensures { Puts (O.holds out.old) (O.holds out.new) (O.faults out.old) (O.faults out.new) sheet.old sheet.new
         (mesh_blocks (parts_of report.now)) }
 {
+    let points: &[Point] = &report.points;
     put_replies(sheet, out, &report.replies);
-    put_points(sheet, out, &report.points);
-    put_cells(sheet, out, &report.points, report.cells);
-    put_hull(sheet, out, &report.points, report.cells);
+    put_points(sheet, out, points);
+    put_cells(sheet, out, points, report.cells);
+    put_hull(sheet, out, points, report.cells);
 }
 
 // Puts the text of the report.

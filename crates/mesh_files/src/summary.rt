@@ -36,10 +36,13 @@ const ALL_REPLIES: [Reply; 5] = [
 fn count_of(replies: &[Reply], word: &str) -> usize
     ensures { result ≡ count_of_word replies.now word.now }
 {
-    replies
-        .iter()
-        .filter(|reply| word_of(**reply) == word)
-        .count()
+    let mut count: usize = 0;
+    for reply in replies {
+        if word_of(*reply) == word {
+            count += 1;
+        }
+    }
+    count
 }
 
 // Puts the word of a reply, and how many of the replies have it.

@@ -5,7 +5,8 @@ use Rattle.mesh_files.proofs.report.put_mesh.Goals as goal
 pub returns : goal.returns
 unfolding mesh_blocks
 returns g c =
+    let points = c.deref-points.ensures.value in
     let f1 = rw c.deref.ensures.value at c.put_replies.ensures in
-    let f2 = rw c.deref-2.ensures.value at c.put_points.ensures in
-    let f3 = rw c.deref-3.ensures.value at c.put_cells.ensures in
-    then (then (then f1 f2) f3) (rw c.deref-4.ensures.value at c.put_hull.ensures)
+    let f2 = rw points at c.put_points.ensures in
+    let f3 = rw points at c.put_cells.ensures in
+    then (then (then f1 f2) f3) (rw points at c.put_hull.ensures)
