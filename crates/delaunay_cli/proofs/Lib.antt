@@ -9,4 +9,3 @@ pub mod PlainTexts
 pub mod NumberWords
 pub mod DealtLines
 pub mod Unwritten
-pub mod Commands

@@ -2,6 +2,7 @@ pub mod Report
 pub mod Made
 pub mod Statuses
 pub mod Words
+pub mod Built
 pub mod Run
 pub mod Stops
 pub mod Page

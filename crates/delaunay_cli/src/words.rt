@@ -1,9 +1,9 @@
 //! The words of the command line, read by `clap`.
 
 ghost use Rattle.std.specs.Prelude.{◌≡◌, ◌≤◌, IfOk, IfErr, IfSome, is_some, false, codes};
-ghost use Rattle.clap.specs.Words.{app_of, found_of, rows_of, rule_of, subcommand_rows_of, with_subcommand};
-ghost use Rattle.clap.specs.declared.builder.command.Command.TheViews.{out-Command};
+ghost use Rattle.clap.specs.Words.{App, Rule, found_of, rows_of, rule_of, subcommand_rows_of, with_rule, with_subcommand};
 ghost use Rattle.cell_store.specs.Grids.{is_grid_size};
+ghost use Rattle.delaunay_cli.specs.Built.{IsBuilt, IsLine};
 ghost use Rattle.delaunay_cli.specs.Words.{AreTaken, command_of, gen_command as gen_command_of, program as program_of};
 ghost use Rattle.delaunay_cli.specs.Stops.{AreRefused};
 ghost use Rattle.delaunay_cli.specs.Tasks.{IsMakingOf, IsTask, IsTaskOf};
@@ -51,22 +51,30 @@ fn grid<'a>(alloc: Global) -> Arg<'a>
         .value_parser(clap::value_parser!(u32).range(1..=16))
 }
 
+// A command with one argument more, where there is memory for both.
+fn add<'a>(
+    command: Result<Command<'a>, AllocError>,
+    arg: Arg<'a>,
+) -> Result<Command<'a>, AllocError>
+    ensures { (app : App) (rule : Rule) → IsBuilt app command.entry → rule_of arg.entry ≡ rule
+        → arg.entry.global ≡ false → IsBuilt (with_rule app rule) result }
+{
+    command?.arg(arg)
+}
+
 // A command of this name that makes a mesh.
 fn meshing<'a>(alloc: Global, name: &'a str) -> Result<Command<'a>, AllocError>
-    ensures app { IfOk result (λ command. app_of command ≡ meshing_command name.now) }
-    ensures locals { IfOk result (λ command. (out-Command command).has_globals ≡ false) }
+    ensures { IsBuilt (meshing_command name.now) result }
 {
-    Command::new(alloc, name)
-        .arg(workers(alloc))?
-        .arg(grid(alloc))
+    let command = Ok(Command::new(alloc, name));
+    add(add(command, workers(alloc)), grid(alloc))
 }
 
 // The command of this name that writes a report.
 fn command<'a>(alloc: Global, name: &'a str) -> Result<Command<'a>, AllocError>
-    ensures app { IfOk result (λ command. app_of command ≡ command_of name.now) }
-    ensures locals { IfOk result (λ command. (out-Command command).has_globals ≡ false) }
+    ensures { IsBuilt (command_of name.now) result }
 {
-    meshing(alloc, name)?.arg(flag(alloc, "order"))
+    add(meshing(alloc, name), flag(alloc, "order"))
 }
 
 // The option `--count`, how many edits a drawn file has.
@@ -101,35 +109,31 @@ fn flag<'a>(alloc: Global, name: &'a str) -> Arg<'a>
 
 // The command `gen`.
 fn gen_command<'a>(alloc: Global) -> Result<Command<'a>, AllocError>
-    ensures app { IfOk result (λ command. app_of command ≡ gen_command_of) }
-    ensures locals { IfOk result (λ command. (out-Command command).has_globals ≡ false) }
+    ensures { IsBuilt gen_command_of result }
 {
-    meshing(alloc, "gen")?
-        .arg(count(alloc))?
-        .arg(start(alloc))?
-        .arg(flag(alloc, "text"))
+    let command = add(meshing(alloc, "gen"), count(alloc));
+    add(add(command, start(alloc)), flag(alloc, "text"))
 }
 
-// A command line with one command more, of this name, that writes a report.
+// A command line with one command more, where there is memory for both.
 fn with_command<'a>(
-    alloc: Global,
-    program: Command<'a>,
-    name: &'a str,
+    program: Result<Command<'a>, AllocError>,
+    command: Result<Command<'a>, AllocError>,
 ) -> Result<Command<'a>, AllocError>
-    ensures { IfOk result (λ command. app_of command
-        ≡ with_subcommand (app_of program.entry) (command_of name.now).top) }
+    ensures { (line app : App) → IsLine line program.entry → IsBuilt app command.entry
+        → IsLine (with_subcommand line app.top) result }
 {
-    program.subcommand(command(alloc, name)?)
+    program?.subcommand(command?)
 }
 
 // The program's command line.
 fn program<'a>(alloc: Global) -> Result<Command<'a>, AllocError>
-    ensures { IfOk result (λ command. app_of command ≡ program_of) }
+    ensures { IsLine program_of result }
 {
-    let program = Command::new(alloc, "delaunay").subcommand_required(true);
-    let program = with_command(alloc, program, "mesh")?;
-    let program = with_command(alloc, program, "shape")?;
-    program.subcommand(gen_command(alloc)?)
+    let program = Ok(Command::new(alloc, "delaunay").subcommand_required(true));
+    let program = with_command(program, command(alloc, "mesh"));
+    let program = with_command(program, command(alloc, "shape"));
+    with_command(program, gen_command(alloc))
 }
 
 // Whether a flag was given to the command.
