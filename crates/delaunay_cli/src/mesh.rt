@@ -24,7 +24,11 @@ use std::thread::Threads;
 fn tags(alloc: Global, entries: &[Entry]) -> Result<Vec<u32>, AllocError>
     ensures { IfOk result (λ tags. tags.items ≡ tags_of entries.now) }
 {
-    entries.iter().map(|entry| entry.tag).collect(alloc)
+    let mut tags = Vec::with_capacity(alloc, entries.len())?;
+    for entry in entries {
+        tags.push(entry.tag)?;
+    }
+    Ok(tags)
 }
 
 // The tags, where they are asked for.
