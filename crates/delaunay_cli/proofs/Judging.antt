@@ -1,5 +1,5 @@
 -- What the judging of a file says of its bytes.
-use Rattle.std.proofs.Common.{◌≡◌, subst, ap, ◌∙◌, ℕ, ◌+◌, ◌<◌, ◌≤◌, ◌^◌, List, [], ◌∷◌, ◌++◌, length, arith}
+use Rattle.std.proofs.Common.{◌≡◌, refl, subst, ap, ◌∙◌, ℕ, ◌+◌, ◌<◌, ◌≤◌, ◌^◌, List, [], ◌∷◌, ◌++◌, length, arith, inl, inr}
 use Rattle.std.specs.Prelude.{Option, None, Some, IfSome, IfErr, Result, Ok, Err, All}
 use Rattle.std.specs.List.{AllZip}
 use Rattle.list_laws.proofs.Cited.{length_zip}
@@ -11,8 +11,11 @@ use Rattle.delaunay_cli.specs.declared.made.Made.{Made}
 use Rattle.delaunay_cli.specs.declared.stop.Stop.{Stop}
 use Rattle.delaunay_cli.specs.declared.stop.Stop.TheVariants.{Memory, BadLine, Flat, TooLong}
 use Rattle.delaunay_cli.specs.Reported.{IsFlatFile, IsUnreported}
-use Rattle.delaunay_cli.specs.Run.{input_limit}
+use Rattle.delaunay_cli.specs.Run.{Reads, input_limit}
 use Rattle.std.proofs.lemmas.List.Elements.{All-cons}
+use Rattle.std.proofs.lemmas.List.{length-append}
+use Rattle.std.specs.Io.KnownBytes.{IsAtEnd}
+use Rattle.byte_ends.specs.Ends.{TakesInto}
 
 -- a file has at most as many points and edits as lines are allowed
 pub file_small : (limit : ℕ) (bytes : List ℕ) (f : Content) → IsFile limit bytes f → length f.points + length f.edits ≤ limit
@@ -45,3 +48,32 @@ unreported_told left failed old bytes now e f h (Err (BadLine line)) u = (
 unreported_told left failed old bytes now e f h (Err Flat) u = if_told IsFlatFile left old bytes now e f h u
 unreported_told left failed old bytes now e f h (Err TooLong) u = if_told (λ (b : List ℕ). input_limit < length b) left old bytes now e f h u
 unreported_told left failed old bytes now e f h (Err stop) u = absurd u
+
+-- ---- how much was taken of the source
+
+-- a list that grew by the limit, and one more, took so many bytes
+took : {a b : Option (List ℕ)} {old new : List ℕ} {limit : ℕ} (t : TakesInto a b old new limit) → length new ≡ length old + limit → length t.taken ≡ limit
+took {old = old} t l = omega (arith, l, ap length t.kept, length-append old t.taken)
+
+-- then the source had more than the limit left
+pub past_limit : (a b : Option (List ℕ)) (old new : List ℕ) → TakesInto a b old new (input_limit + 1) → length new ≡ length old + (input_limit + 1) → IfSome a (λ bytes. input_limit < length bytes)
+past_limit None b old new t l = tt
+past_limit (Some xs) None old new t l = absurd t.consumed
+past_limit (Some xs) (Some ys) old new t l = over (length t.taken) (length ys) (length xs) (took t l) (ap length t.consumed ∙ length-append t.taken ys)
+  where
+    over : (n m k : ℕ) → n ≡ input_limit + 1 → k ≡ n + m → input_limit < k
+    over n m k e h = omega (arith, e, h)
+
+-- and the input is too long
+pub reads_past : {a b : Option (List ℕ)} {old new : List ℕ} → TakesInto a b old new (input_limit + 1) → length new ≡ length old + (input_limit + 1) → Reads a b 7
+reads_past t l = record { taken = t.taken; consumed = t.consumed; within = t.within; whole = λ n. inr (took t l); past = λ k. inl refl }
+
+-- a list that grew by less took all that the source told
+pub reads_all : {a b : Option (List ℕ)} {new : List ℕ} (old : List ℕ) (status : ℕ) → TakesInto a b old new (input_limit + 1) → IsAtEnd b → (length new ≡ length old + (input_limit + 1) → ⊥) → Reads a b status
+reads_all old status t e n = record {
+  taken = t.taken;
+  consumed = t.consumed;
+  within = t.within;
+  whole = λ k. inl e;
+  past = λ k. absurd (n (ap length t.kept ∙ length-append old t.taken ∙ ap (λ (m : ℕ). length old + m) k));
+}
