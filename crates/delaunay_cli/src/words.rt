@@ -1,7 +1,8 @@
 //! The words of the command line, read by `clap`.
 
 ghost use Rattle.std.specs.Prelude.{◌≡◌, ◌≤◌, IfOk, IfErr, IfSome, is_some, false, codes};
-ghost use Rattle.clap.specs.Words.{App, Rule, found_of, rows_of, rule_of, subcommand_rows_of, with_rule, with_subcommand};
+ghost use Rattle.clap.specs.Words.{App, Rule, found_of, rows_of, rule_of, subcommand_rows_of};
+ghost use Rattle.clap.specs.Words.{with_rule, with_subcommand};
 ghost use Rattle.cell_store.specs.Grids.{is_grid_size};
 ghost use Rattle.delaunay_cli.specs.Built.{IsBuilt, IsLine};
 ghost use Rattle.delaunay_cli.specs.Words.{AreTaken, command_of, gen_command as gen_command_of, program as program_of};
