@@ -1,5 +1,5 @@
 -- Lists that the parts of a pass do, and a pass that is split, worked with and joined.
-use Rattle.std.specs.Prelude.{◌≡◌, ℕ, ◌+◌, ◌-◌, ◌<◌, ◌≤◌, Bool, true, false, not, cond, List, [], ◌∷◌, ◌++◌, map, length, All, IsPermutation}
+use Rattle.std.specs.Prelude.{◌≡◌, ℕ, ◌+◌, ◌-◌, ◌<◌, ◌≤◌, Bool, true, false, not, cond, Result, Ok, Err, IfOk, List, [], ◌∷◌, ◌++◌, map, length, All, IsPermutation}
 use Rattle.std.specs.List.{filter}
 use Rattle.std.proofs.Common.{refl, sym, ◌∙◌, ap, ap₂, subst, inl, inr, arith, get_or, length-append}
 use Rattle.std.proofs.lemmas.List.{append-nil, map-append, length-map}
@@ -18,6 +18,7 @@ use Rattle.plain_laws.specs.Running.{Pair}
 use Rattle.edit_workers.specs.Dealing.{AreAscending, AreApart, count_of}
 use Rattle.edit_workers.specs.Working.{Marked, left_over, done, IsWorked}
 use Rattle.edit_workers.specs.declared.lists.List as lists
+use Rattle.edit_workers.specs.declared.lists.Left.{Left}
 use Rattle.edit_workers.specs.Running.{pairs_in, CanRun, AscendAtPoint, ArePartly, AreWorked, AreRunBut}
 use Rattle.edit_workers.specs.Arranging.{IsArranged, IsInPlace}
 use Rattle.edit_workers.proofs.Marks.{marks_part, done_tags, left_tags, done_first}
@@ -254,6 +255,13 @@ module _ (ls lows highs : List lists.List) (parts allowance : ℕ) (table : Open
 
     pub slice_both : AreWorked (pairs_in ls) (a ++ b) old (joined p q)
     slice_both = subst (λ (l : List (List Pair)). AreWorked l (a ++ b) old (joined p q)) (sym pairs_cut) (worked_both (pairs_in lows) (pairs_in highs) old mid other some_low' some_high' split_cut a b p q fits can_cut.apart low high)
+
+-- what holds of a pass and of what it left over holds of an answer that has these two
+pub of_answer :
+    {E : Type 0} (P : Standing → List Pair → Type 0) (x : Result (Standing × Left) E) (p : Standing) (l : List Pair) → P p l →
+    IfOk x (λ r. r.0 ≡ p) → IfOk x (λ r. r.1.pairs.items ≡ l) → IfOk x (λ r. P r.0 r.1.pairs.items)
+of_answer P (Ok r) p l holds e f = subst (λ (y : Standing × List Pair). P y.0 y.1) (λ i. (sym e i, sym f i)) holds
+of_answer P (Err _) p l holds e f = tt
 
 -- ---- all lists
 

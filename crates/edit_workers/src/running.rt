@@ -1,7 +1,8 @@
 //! All lists at once, each by a worker of its own.
 
-ghost use Rattle.std.specs.Prelude.{◌≡◌, ◌+◌, ◌^◌, ◌<◌, ◌≤◌, IfOk, length, All};
+ghost use Rattle.std.specs.Prelude.{◌≡◌, ◌+◌, ◌^◌, ◌<◌, ◌≤◌, ◌++◌, IfOk, length, All};
 ghost use Rattle.std.specs.Thread.{IsSync};
+ghost use Rattle.grid_claims.specs.Tries.{joined};
 ghost use Rattle.edit_workers.specs.Dealing.{lists_of, AreAscending, AreApart, count_of};
 ghost use Rattle.edit_workers.specs.Running.{AreRun, pairs_in, CanRun, AreWorked, AreRunBut, AreApplied, AreByTag};
 
@@ -27,6 +28,44 @@ fn pair_count(lists: &[List]) -> u64
     count
 }
 
+// Does the one list that there is, by the pass. `count` tells how many parts the table has.
+fn work_alone<G: Gate>(
+    alloc: Global,
+    table: &MeshTable,
+    mut pass: Pass,
+    lists: &[List],
+    count: u32,
+    gate: &G,
+) -> Result<(Pass, Left), AllocError>
+    requires one { length lists.now ≡ 1 }
+    requires run { CanRun table.now (pairs_in lists.now) pass }
+    requires count { (0 < count) × (count ≡ table.now.parts) }
+    ensures { IfOk result (λ r. AreWorked (pairs_in lists.now) r.1.pairs.items pass r.0) }
+{
+    let list = in_place(alloc, &lists[0], pass.first(), count)?;
+    let left = work(alloc, table, &mut pass, &list, gate)?;
+    Ok((pass, left))
+}
+
+// Joins two passes, the second of which comes behind the first, and what they left over.
+fn together(
+    table: &MeshTable,
+    low: (Pass, Left),
+    high: (Pass, Left),
+) -> Result<(Pass, Left), AllocError>
+    requires low { low.0.table ≡ table.now }
+    requires high { high.0.table ≡ table.now }
+    requires next { high.0.first ≡ low.0.first + low.0.parts }
+    ensures pass { IfOk result (λ r. r.0 ≡ joined low.0 high.0) }
+    ensures left { IfOk result (λ r. r.1.pairs.items ≡ low.1.pairs.items ++ high.1.pairs.items) }
+{
+    let (mut pass, mut left) = low;
+    let (other, mut more) = high;
+    table.join(&mut pass, other);
+    left.pairs.append(&mut more.pairs)?;
+    Ok((pass, left))
+}
+
 // Does the lists, each by a part of the pass: halves side by side. `count` tells how many parts the table has.
 fn work_all<G: Gate + Sync, R: Threads + Sync>(
     rt: &R,
@@ -42,9 +81,7 @@ fn work_all<G: Gate + Sync, R: Threads + Sync>(
     ensures { IfOk result (λ r. AreWorked (pairs_in lists.now) r.1.pairs.items pass r.0) }
 {
     if lists.len() == 1 {
-        let list = in_place(alloc, &lists[0], pass.first(), count)?;
-        let left = work(alloc, table, &mut pass, &list, gate)?;
-        return Ok((pass, left));
+        return work_alone(alloc, table, pass, lists, count, gate);
     }
     let (low, high) = lists.split_at(lists.len() / 2);
     let other = table.split(alloc, &mut pass, high.len() as u32, pair_count(high))?;
@@ -61,11 +98,7 @@ fn work_all<G: Gate + Sync, R: Threads + Sync>(
             ensures { IfOk result (λ r. AreWorked (pairs_in high.entry.now) r.1.pairs.items other r.0) }
         { work_all(rt, alloc, table, other, high, count, gate) },
     );
-    let (mut pass, mut left) = a?;
-    let (other, mut more) = b?;
-    table.join(&mut pass, other);
-    left.pairs.append(&mut more.pairs)?;
-    Ok((pass, left))
+    together(table, a?, b?)
 }
 
 // Does the lists side by side on the mesh, all but the pairs that are left over.
