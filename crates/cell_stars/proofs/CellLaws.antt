@@ -7,6 +7,7 @@ use Rattle.std.specs.declared.cmp.Ordering.{Ordering}
 use Rattle.std.specs.declared.cmp.Ordering.TheVariants.{Less, Equal, Greater}
 use Rattle.std.proofs.Common.{refl, sym, ◌∙◌, ap, subst, inl, inr}
 use Rattle.std.proofs.lemmas.List.Kept.{IsStrictlySortedBy-filter}
+use Rattle.del_laws.proofs.Cited.{same_members}
 use Rattle.list_laws.proofs.Cited.{all_by, each_by, filtered_from, filtered_true}
 use Rattle.point_order.proofs.Cited.{cell_after, cell_before, cell_same, cell_self}
 use Rattle.point_order.specs.declared.cell.Cell.{Cell}
@@ -173,3 +174,28 @@ swapped_none g b gone fresh l f h = rw (none fresh h) (rw (none gone f) (all l))
     all : (l : List Cell) → without_cells [] l ≡ l
     all [] = refl
     all (c ∷ l) = ap (λ (t : List Cell). c ∷ t) (all l)
+
+-- an exchange in a list that has the gone cells and none of the fresh ones is undone by the other one
+pub swapped_back : (g b : ℕ) (gone fresh l : List Cell) → IsStrictlySortedBy cell_cmp l → ((c : Cell) → IsIn c gone → touches g b c ≡ true → IsIn c l) → ((c : Cell) → IsIn c fresh → touches g b c ≡ true → IsIn c l → ⊥) →
+    swapped g b fresh gone (swapped g b gone fresh l) ≡ l
+swapped_back g b gone fresh l s there absent =
+    same_members (swapped g b fresh gone (swapped g b gone fresh l)) l (swapped_sorted g b fresh gone (swapped g b gone fresh l) (swapped_sorted g b gone fresh l s)) s forth back
+  where
+    forth : (c : Cell) → IsIn c (swapped g b fresh gone (swapped g b gone fresh l)) → IsIn c l
+    forth c m = elim (swapped_from g b fresh gone (swapped g b gone fresh l) c m) [
+      | inl k ↦ there c k.0 k.1
+      | inr k ↦ elim (swapped_from g b gone fresh l c k.0) [ inl j ↦ absurd (k.1 j.0 j.1) | inr j ↦ j.0 ]
+    ]
+
+    kept_there : (c : Cell) → IsIn c l → (IsIn c gone → touches g b c ≡ true → ⊥) → IsIn c (swapped g b fresh gone (swapped g b gone fresh l))
+    kept_there c m n = swapped_kept g b fresh gone (swapped g b gone fresh l) c (swapped_kept g b gone fresh l c m n) (λ i t. absent c i t m)
+
+    back : (c : Cell) → IsIn c l → IsIn c (swapped g b fresh gone (swapped g b gone fresh l))
+    back c m = elim (in_or_not c gone) [
+      | inl i ↦ by (touches g b c) refl i
+      | inr n ↦ kept_there c m (λ i t. n i)
+    ]
+      where
+        by : (t : Bool) → touches g b c ≡ t → IsIn c gone → IsIn c (swapped g b fresh gone (swapped g b gone fresh l))
+        by true e i = swapped_new g b fresh gone (swapped g b gone fresh l) c i e
+        by false e i = kept_there c m (λ j t. absurd (cc (sym e ∙ t)))

@@ -10,6 +10,7 @@ pub mod Orders
 pub mod Search
 pub mod WriteLaws
 pub mod Planned
+pub mod Turned
 pub mod Rewritten
 pub mod Marked
 pub mod Cited

@@ -15,7 +15,7 @@ use Rattle.del_laws.proofs.Cited.{same_members}
 
 -- ---- lists with other elements at some places
 
-len_all : {X : Type 0} (cs : List (ℕ × X)) (l : List X) → length (set_all cs l) ≡ length l
+pub len_all : {X : Type 0} (cs : List (ℕ × X)) (l : List X) → length (set_all cs l) ≡ length l
 len_all [] l = refl
 len_all (c ∷ cs) l = len_all cs (slice_set l c.0 c.1) ∙ len_set l c.0 c.1
 

@@ -33,7 +33,7 @@ ghost use Rattle.cell_stars.specs.Stars.{cells_left, cells_around, cells_to_come
 use crate::grid::Grid;
 use crate::links::{Links, NONE, side_of};
 use crate::moves::place_among;
-use crate::plan::{Around, PlacesPlan, Plan, StarsPlan, put_all, put_list};
+use crate::plan::{Around, Plan};
 use crate::planner::copied_stars;
 use crate::star::{BucketCells, Star, StarCells, cell_at};
 use crate::steps::{Steps, place_counted, place_of};
@@ -258,31 +258,7 @@ impl Cells {
         requires { Allows plan self.old }
         ensures { self.new ≡ done plan self.old }
     {
-        let Plan { places, stars } = plan;
-        let PlacesPlan {
-            grown,
-            slots,
-            free,
-            used,
-            links,
-            joins,
-        } = places;
-        let StarsPlan {
-            more,
-            stars,
-            keys,
-            spare,
-            used_stars,
-        } = stars;
-        self.links.change(links, &joins);
-        put_list(&mut self.slots, grown);
-        put_all(&mut self.slots, slots);
-        put_list(&mut self.stars, more);
-        put_all(&mut self.stars, stars);
-        put_list(&mut self.keys, keys);
-        self.free = free;
-        self.spare = spare;
-        self.used = used;
-        self.used_stars = used_stars;
+        let mut plan = plan;
+        self.turn(&mut plan);
     }
 }

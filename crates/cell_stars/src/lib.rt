@@ -29,6 +29,7 @@ mod plan;
 mod planner;
 mod star;
 mod steps;
+mod turns;
 mod writes;
 
 pub use cells::Cells;

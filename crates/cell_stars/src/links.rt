@@ -1,9 +1,10 @@
 //! Places that are likely to lie across the facets of cells. No clause speaks of them: a cell is looked at before it
 //! is taken for one.
 
-use crate::joins::Joins;
+use crate::joins::{Joins, Joint, Linked};
 use point_order::{Cell, Facet, Point};
 use std::alloc::{AllocError, Global};
+use std::mem::swap;
 
 /// In place of a place, where there is none.
 pub(crate) const NONE: u32 = u32::MAX;
@@ -129,27 +130,49 @@ impl Links {
         }
     }
 
-    // The place across the facet is this one from now on.
-    fn set(&mut self, place: u32, side: usize, other: u32) {
-        if let Some(around) = self.list.get_mut(place as usize) {
-            if side < 4 {
-                around[side] = other;
+    // Exchanges what a cell that is put at a place has for the links there.
+    fn turn_fresh(&mut self, linked: &mut Linked) {
+        if let Some(around) = self.list.get_mut(linked.place as usize) {
+            swap(around, &mut linked.around);
+        }
+    }
+
+    // Exchanges the place across a facet.
+    fn turn_joint(&mut self, joint: &mut Joint) {
+        if let Some(around) = self.list.get_mut(joint.place as usize) {
+            if joint.side < 4 {
+                swap(&mut around[joint.side], &mut joint.other);
             }
         }
     }
 
-    /// Puts others in their place, if there are any, and makes them those after an exchange. It takes no memory.
-    pub(crate) fn change(&mut self, grown: Option<Links>, joins: &Joins) {
+    // Exchanges them for the others, if there are any.
+    fn turn_list(&mut self, grown: &mut Option<Links>) {
         if let Some(links) = grown {
-            *self = links;
+            swap(self, links);
         }
-        for linked in &joins.fresh {
-            if let Some(around) = self.list.get_mut(linked.place as usize) {
-                *around = linked.around;
-            }
+    }
+
+    /// Makes them those after an exchange, with others in their place if there are any. What they were is kept in
+    /// the joins. It takes no memory.
+    pub(crate) fn turn(&mut self, grown: &mut Option<Links>, joins: &mut Joins) {
+        self.turn_list(grown);
+        for linked in joins.fresh.iter_mut() {
+            self.turn_fresh(linked);
         }
-        for joint in &joins.rim {
-            self.set(joint.place, joint.side, joint.other);
+        for joint in joins.rim.iter_mut() {
+            self.turn_joint(joint);
         }
+    }
+
+    /// Makes them those before the exchange again.
+    pub(crate) fn turn_back(&mut self, grown: &mut Option<Links>, joins: &mut Joins) {
+        for k in (0..joins.rim.len()).rev() {
+            self.turn_joint(&mut joins.rim[k]);
+        }
+        for k in (0..joins.fresh.len()).rev() {
+            self.turn_fresh(&mut joins.fresh[k]);
+        }
+        self.turn_list(grown);
     }
 }

@@ -93,22 +93,3 @@ impl Model for Plan {
       keys = option_map (λ v. v.items) p.stars.keys;
     } };
 }
-
-// Puts the other list in place, if there is one.
-pub(crate) fn put_list<T: Drop>(list: &mut Vec<T>, other: Option<Vec<T>>)
-    ensures { list.new.items ≡ or_else (option_map (λ v. v.items) other) list.old.items }
-{
-    if let Some(other) = other {
-        *list = other;
-    }
-}
-
-// Puts elements at their places.
-pub(crate) fn put_all<T: Drop>(list: &mut Vec<T>, changes: Vec<(u32, T)>)
-    requires { AreBelow (length list.old.items) changes.items }
-    ensures { list.new.items ≡ set_all changes.items list.old.items }
-{
-    for (i, x) in changes {
-        list[i as usize] = x;
-    }
-}

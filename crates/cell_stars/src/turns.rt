@@ -1,0 +1,107 @@
+//! Exchanges that are made and turned back, without memory.
+
+ghost use Rattle.std.specs.Prelude.{◌≡◌, length};
+ghost use Rattle.std.specs.Option.{option_map};
+ghost use Rattle.cell_stars.specs.Plans.{Allows, AreBelow, or_else, set_all};
+ghost use Rattle.cell_stars.specs.Turns.{IsPart, IsTurn, WasPart, WasTurned, kept, stood};
+
+use crate::cells::Cells;
+use crate::plan::Plan;
+use std::mem::swap;
+
+// Exchanges the list for the other, if there is one.
+fn turn_list<T: Drop>(list: &mut Vec<T>, other: &mut Option<Vec<T>>)
+    ensures list { list.new.items ≡ or_else (option_map (λ v. v.items) other.old) list.old.items }
+    ensures other { option_map (λ v. v.items) other.new
+        ≡ kept (option_map (λ v. v.items) other.old) list.old.items }
+{
+    if let Some(other) = other {
+        swap(list, other);
+    }
+}
+
+// Exchanges elements for those at their places, in turn.
+fn turn_all<T: Drop>(list: &mut [T], changes: &mut [(u32, T)])
+    requires { AreBelow (length list.old) changes.old }
+    ensures list { list.new ≡ set_all changes.old list.old }
+    ensures changes { changes.new ≡ stood changes.old list.old }
+{
+    for (i, x) in changes.iter_mut() {
+        swap(&mut list[*i as usize], x);
+    }
+}
+
+// Exchanges them back, the last one first.
+fn turn_back_all<T: Drop>(list: &mut [T], changes: &mut [(u32, T)])
+    requires { AreBelow (length list.old) changes.old }
+    ensures list { set_all changes.new list.new ≡ list.old }
+    ensures changes { stood changes.new list.new ≡ changes.old }
+{
+    for k in (0..changes.len()).rev() {
+        let (i, x) = &mut changes[k];
+        swap(&mut list[*i as usize], x);
+    }
+}
+
+// Makes changes of a list, or of a longer one that comes in its place, and keeps what stood there.
+fn turn_part<T: Drop>(list: &mut Vec<T>, grown: &mut Option<Vec<T>>, changes: &mut Vec<(u32, T)>)
+    requires { AreBelow (length (or_else (option_map (λ v. v.items) grown.old) list.old.items)) changes.old.items }
+    ensures { IsPart (option_map (λ v. v.items) grown.old) changes.old.items list.old.items
+        (option_map (λ v. v.items) grown.new) changes.new.items list.new.items }
+{
+    turn_list(list, grown);
+    turn_all(list, changes);
+}
+
+// Takes them back.
+fn turn_back_part<T: Drop>(
+    list: &mut Vec<T>,
+    grown: &mut Option<Vec<T>>,
+    changes: &mut Vec<(u32, T)>,
+)
+    requires { WasPart (option_map (λ v. v.items) grown.old) changes.old.items list.old.items }
+    ensures { IsPart (option_map (λ v. v.items) grown.new) changes.new.items list.new.items
+        (option_map (λ v. v.items) grown.old) changes.old.items list.old.items }
+{
+    turn_back_all(list, changes);
+    turn_list(list, grown);
+}
+
+impl Cells {
+    /// Carries a plan out, without memory. The plan has then what stood in the places that it changes.
+    pub fn turn(&mut self, plan: &mut Plan)
+        requires { Allows plan.old self.old }
+        ensures { IsTurn plan.old self.old plan.new self.new }
+    {
+        let Plan { places, stars } = plan;
+        self.links.turn(&mut places.links, &mut places.joins);
+        turn_part(&mut self.slots, &mut places.grown, &mut places.slots);
+        turn_part(&mut self.stars, &mut stars.more, &mut stars.stars);
+        turn_list(&mut self.keys, &mut stars.keys);
+        self.turn_numbers(plan);
+    }
+
+    /// Takes back what a plan made, without memory. The plan and the bucket are then as before.
+    pub fn turn_back(&mut self, plan: &mut Plan)
+        requires { WasTurned plan.old self.old }
+        ensures { IsTurn plan.new self.new plan.old self.old }
+    {
+        let Plan { places, stars } = plan;
+        turn_back_part(&mut self.slots, &mut places.grown, &mut places.slots);
+        turn_back_part(&mut self.stars, &mut stars.more, &mut stars.stars);
+        turn_list(&mut self.keys, &mut stars.keys);
+        self.links.turn_back(&mut places.links, &mut places.joins);
+        self.turn_numbers(plan);
+    }
+
+    // Exchanges the numbers of places and stars that are likely to be free for those of the plan.
+    fn turn_numbers(&mut self, plan: &mut Plan)
+        ensures cells { self.new ≡ self.old }
+        ensures plan { plan.new ≡ plan.old }
+    {
+        swap(&mut self.free, &mut plan.places.free);
+        swap(&mut self.used, &mut plan.places.used);
+        swap(&mut self.spare, &mut plan.stars.spare);
+        swap(&mut self.used_stars, &mut plan.stars.used_stars);
+    }
+}
