@@ -6,11 +6,11 @@ use Rattle.list_laws.proofs.Cited.{among_from, filtered_true, from_append, in_fi
 use Rattle.point_order.specs.Sets.{IsIn, IsAscending, is_among, ascending}
 use Rattle.point_order.proofs.Cited.{ascending_is, ascending_with, in_with, in_with_new, in_with_old}
 use Rattle.edit_history.specs.declared.history.Edit.{Edit}
-use Rattle.edit_history.specs.declared.history.Edit.TheVariants.{Add}
+use Rattle.edit_history.specs.declared.history.Edit.TheVariants.{Add, Take, Move}
 use Rattle.edit_history.specs.declared.history.Entry.{Entry}
 use Rattle.edit_history.specs.declared.history.Reply.{Reply}
-use Rattle.edit_history.specs.declared.history.Reply.TheVariants.{Inserted, Duplicate, Removed, Missing, Flat}
-use Rattle.edit_history.specs.Edits.{point_of, reply_to, changed, after}
+use Rattle.edit_history.specs.declared.history.Reply.TheVariants.{Inserted, Duplicate, Removed, Missing, Flat, Moved, Occupied}
+use Rattle.edit_history.specs.Edits.{point_of, reply_to, arrived, changed, after}
 use Rattle.edit_history.specs.Histories.{replay_from, replay, entries_from, IsLegalFrom}
 use Rattle.edit_history.specs.Opening.{Four, opening_four}
 use Rattle.edit_history.specs.OneThread.{is_opening, tagged_lines, opening_first, lines_of_one_thread}
@@ -39,10 +39,26 @@ ascending_changed s p Duplicate a = a
 ascending_changed s p Removed a = ascending_without p s a
 ascending_changed s p Missing a = a
 ascending_changed s p Flat a = a
+ascending_changed s p Moved a = ascending_without p s a
+ascending_changed s p Occupied a = a
+
+ascending_arrived : (s : List ℕ) (edit : Edit) (r : Reply) → IsAscending s → IsAscending (arrived s edit r)
+ascending_arrived s (Add p) r h = h
+ascending_arrived s (Take p) r h = h
+ascending_arrived s (Move a b) Moved h = ascending_with b s h
+ascending_arrived s (Move a b) Inserted h = h
+ascending_arrived s (Move a b) Duplicate h = h
+ascending_arrived s (Move a b) Removed h = h
+ascending_arrived s (Move a b) Missing h = h
+ascending_arrived s (Move a b) Flat h = h
+ascending_arrived s (Move a b) Occupied h = h
+
+pub ascending_after : (s : List ℕ) (edit : Edit) → IsAscending s → IsAscending (after s edit)
+ascending_after s edit h = ascending_changed (arrived s edit (reply_to s edit)) (point_of edit) (reply_to s edit) (ascending_arrived s edit (reply_to s edit) h)
 
 leaves_from : (s : List ℕ) (h : List Entry) → IsAscending s → IsAscending (replay_from s h)
 leaves_from s [] a = a
-leaves_from s (e ∷ h) a = leaves_from (after s e.edit) h (ascending_changed s (point_of e.edit) (reply_to s e.edit) a)
+leaves_from s (e ∷ h) a = leaves_from (after s e.edit) h (ascending_after s e.edit a)
 
 pub leaves_set : LeavesSet
 leaves_set h = leaves_from [] h tt
@@ -96,7 +112,7 @@ set_new s (x ∷ lines) line a (inr i) = set_new (after s x.1) lines line a.1 i
 
 set_ascending : (s : List ℕ) (lines : List (ℕ × Edit)) → IsAscending s → IsAscending (set_after s lines)
 set_ascending s [] a = a
-set_ascending s (line ∷ lines) a = set_ascending (after s line.1) lines (ascending_changed s (point_of line.1) (reply_to s line.1) a)
+set_ascending s (line ∷ lines) a = set_ascending (after s line.1) lines (ascending_after s line.1 a)
 
 -- ---- the lines of points
 

@@ -1,16 +1,16 @@
 -- The history of one thread keeps the file.
-use Rattle.std.specs.Prelude.{◌≡◌, ℕ, suc, ◌+◌, ◌-◌, ◌<◌, ◌≤◌, Bool, true, false, not, List, [], ◌∷◌, ◌++◌, map, length, take, slice_index, Option, None, Some, IfSome, IsPermutation}
+use Rattle.std.specs.Prelude.{◌≡◌, ℕ, suc, ◌+◌, ◌-◌, ◌<◌, ◌≤◌, Bool, true, false, not, ◌==◌, ◌||◌, List, [], ◌∷◌, ◌++◌, map, length, take, slice_index, Option, None, Some, IfSome, IsPermutation}
 use Rattle.std.specs.List.{enumerate_from, filter}
 use Rattle.std.proofs.Common.{refl, sym, ◌∙◌, ap, subst, inl, inr, arith, get_or, length-append}
 use Rattle.std.proofs.lemmas.List.{take-map, take-append-le, length-map, take_all}
 use Rattle.std.proofs.lemmas.List.Sorted.{IsPermutation-filter_both}
 use Rattle.std.proofs.lemmas.Bool.{cases_order}
-use Rattle.list_laws.proofs.Cited.{EachLater, among_from, among_true, at_in, in_filtered, later_append, later_filter, later_pairs, not_from, numbered_from, passes}
+use Rattle.list_laws.proofs.Cited.{EachLater, among_from, among_true, at_in, in_filtered, later_append, later_filter, later_pairs, not_from, numbered_from, passes, same_from}
 use Rattle.point_order.specs.Sets.{IsIn, IsAscending, is_among}
 use Rattle.edit_history.specs.declared.history.Edit.{Edit}
 use Rattle.edit_history.specs.declared.history.Edit.TheVariants.{Add}
 use Rattle.edit_history.specs.declared.history.Entry.{Entry}
-use Rattle.edit_history.specs.Edits.{point_of, after}
+use Rattle.edit_history.specs.Edits.{share_point, after}
 use Rattle.edit_history.specs.Histories.{entries_from}
 use Rattle.edit_history.specs.Opening.{Four, opening_four}
 use Rattle.edit_history.specs.OneThread.{places, is_opening, tagged_lines, lines_of_one_thread, line_of, Keeps}
@@ -38,18 +38,18 @@ entry_by n s (line ∷ lines) e (inr i) = entry_by (n + 1) (after s line.1) line
 
 -- ---- each line before each later one
 
--- of two entries with one point the earlier has the lower tag
+-- of two entries that share a point the earlier has the lower tag
 abbrev pub InOrder : ℕ × Edit → ℕ × Edit → Type 0
-InOrder x y = point_of x.1 ≡ point_of y.1 → x.0 < y.0
+InOrder x y = share_point x.1 y.1 ≡ true → x.0 < y.0
 
-later_entries : (n : ℕ) (s : List ℕ) (lines : List (ℕ × Edit)) → EachLater InOrder lines → EachLater (λ (d e : Entry). point_of d.edit ≡ point_of e.edit → d.tag < e.tag) (entries_from n s lines)
+later_entries : (n : ℕ) (s : List ℕ) (lines : List (ℕ × Edit)) → EachLater InOrder lines → EachLater (λ (d e : Entry). share_point d.edit e.edit ≡ true → d.tag < e.tag) (entries_from n s lines)
 later_entries n s [] h = tt
 later_entries n s (line ∷ lines) h = (first (n + 1) (after s line.1) lines h.0, later_entries (n + 1) (after s line.1) lines h.1)
   where
-    first : (n : ℕ) (s : List ℕ) (ls : List (ℕ × Edit)) → ((y : ℕ × Edit) → IsIn y ls → InOrder line y) → (e : Entry) → IsIn e (entries_from n s ls) → point_of line.1 ≡ point_of e.edit → line.0 < e.tag
+    first : (n : ℕ) (s : List ℕ) (ls : List (ℕ × Edit)) → ((y : ℕ × Edit) → IsIn y ls → InOrder line y) → (e : Entry) → IsIn e (entries_from n s ls) → share_point line.1 e.edit ≡ true → line.0 < e.tag
     first n s [] f e i q = absurd i
     first n s (l ∷ ls) f e (inl g) q =
-        let a : point_of line.1 ≡ point_of l.1 = q ∙ sym (ap (λ (e : Entry). point_of e.edit) g) in
+        let a : share_point line.1 l.1 ≡ true = ap (λ (e : Entry). share_point line.1 e.edit) g ∙ q in
         let b : l.0 ≡ e.tag = ap (λ (e : Entry). e.tag) g in
         subst (λ (m : ℕ). line.0 < m) b (f l (inl refl) a)
     first n s (l ∷ ls) f e (inr i) q = first (n + 1) (after s l.1) ls (λ y j. f y (inr j)) e i q
@@ -60,17 +60,25 @@ numbered_later : (n : ℕ) (xs : List Edit) → EachLater InOrder (enumerate_fro
 numbered_later n [] = tt
 numbered_later n (x ∷ xs) = (λ y i q. omega (arith, numbered_from (n + 1) xs y i), numbered_later (n + 1) xs)
 
--- the point of a line among the first, which add
-point_at_line : (n : ℕ) (points : List ℕ) (edits : List Edit) (line : ℕ × Edit) → IsIn line (enumerate_from n (map Add points ++ edits)) → line.0 < n + length points → point_of line.1 ≡ slice_index points (line.0 - n)
-point_at_line n [] edits line i h = absurd (omega (arith, numbered_from n edits line i))
-point_at_line n (p ∷ points) edits line (inl e) h =
+-- a line among the first adds the point of its place
+pub line_is_add : (n : ℕ) (points : List ℕ) (edits : List Edit) (line : ℕ × Edit) → IsIn line (enumerate_from n (map Add points ++ edits)) → line.0 < n + length points → line.1 ≡ Add (slice_index points (line.0 - n))
+line_is_add n [] edits line i h = absurd (omega (arith, numbered_from n edits line i))
+line_is_add n (p ∷ points) edits line (inl e) h =
     let f : n ≡ line.0 = ap (λ (l : ℕ × Edit). l.0) e in
     let z : line.0 - n ≡ 0 = omega arith in
-    sym (ap (λ (l : ℕ × Edit). point_of l.1) e) ∙ ap (slice_index (p ∷ points)) (sym z)
-point_at_line n (p ∷ points) edits line (inr i) h =
+    sym (ap (λ (l : ℕ × Edit). l.1) e) ∙ ap (λ (k : ℕ). Add (slice_index (p ∷ points) k)) (sym z)
+line_is_add n (p ∷ points) edits line (inr i) h =
     let l : n + 1 ≤ line.0 = numbered_from (n + 1) (map Add points ++ edits) line i in
     let z : suc (line.0 - (n + 1)) ≡ line.0 - n = omega arith in
-    point_at_line (n + 1) points edits line i (omega arith) ∙ ap (slice_index (p ∷ points)) z
+    line_is_add (n + 1) points edits line i (omega arith) ∙ ap (λ (k : ℕ). Add (slice_index (p ∷ points) k)) z
+
+-- two adds that share a point add the same one
+pub share_adds : (p q : ℕ) → share_point (Add p) (Add q) ≡ true → q ≡ p
+share_adds p q e = by (q == p) refl e
+  where
+    by : (b : Bool) → (q == p) ≡ b → ((b || false) || false) ≡ true → q ≡ p
+    by true f e = same_from q p f
+    by false f e = absurd cc
 
 -- ---- the file
 
@@ -102,7 +110,7 @@ module _ (points : List ℕ) (edits : List Edit) (four : Four) (w : AreIndepende
       tags [] = refl
       tags (p ∷ ps) = ap (λ (t : List ℕ). p ∷ t) (tags ps)
 
-  -- a line of the four and another line of the same point
+  -- a line of the four and another line that shares a point with it
   crossing : (x y : ℕ × Edit) → IsIn x (filter opens all) → IsIn y (filter (λ line. not (opens line)) all) → InOrder x y
   crossing x y i j q = sides (x.0) (y.0) refl refl
     where
@@ -115,11 +123,12 @@ module _ (points : List ℕ) (edits : List Edit) (four : Four) (w : AreIndepende
       earlier : y.0 < x.0 → ⊥
       earlier l =
           let f = first_place x.0 chosen in
-          let a = point_at_line 0 points edits x (in_filtered opens all x i) (omega (arith, f.1)) in
-          let b = point_at_line 0 points edits y (in_filtered (λ line. not (opens line)) all y j) (omega (arith, f.1, l)) in
+          let a = line_is_add 0 points edits x (in_filtered opens all x i) (omega (arith, f.1)) in
+          let b = line_is_add 0 points edits y (in_filtered (λ line. not (opens line)) all y j) (omega (arith, f.1, l)) in
           let za : x.0 - 0 ≡ x.0 = omega arith in
           let zb : y.0 - 0 ≡ y.0 = omega arith in
-          f.0 y.0 l (sym (b ∙ ap (slice_index points) zb) ∙ sym q ∙ a ∙ ap (slice_index points) za)
+          let one = share_adds (slice_index points (x.0 - 0)) (slice_index points (y.0 - 0)) (sym (ap (λ e. share_point e y.1) a ∙ ap (λ e. share_point (Add (slice_index points (x.0 - 0))) e) b) ∙ q) in
+          f.0 y.0 l (sym (ap (slice_index points) zb) ∙ one ∙ ap (slice_index points) za)
 
       same : x.0 ≡ y.0 → ⊥
       same e = let g : is_among y.0 (places four) ≡ true = among_true y.0 (places four) (subst (λ (m : ℕ). IsIn m (places four)) e chosen) in let h = other in cc
@@ -145,7 +154,7 @@ module _ (points : List ℕ) (edits : List Edit) (four : Four) (w : AreIndepende
       record {
         opening = subst (λ (o : Option Four). IfSome o (λ f. map (λ (e : Entry). e.tag) (take 4 history) ≡ places f)) (sym found) first_four;
         lines = subst (IsPermutation all) (sym (entry_lines 0 [] (filter opens all ++ filter (λ line. not (opens line)) all))) (IsPermutation-filter_both opens (λ line. not (opens line)) (λ x. refl) all);
-        order = later_pairs (λ (d e : Entry). point_of d.edit ≡ point_of e.edit → d.tag < e.tag) history (later_entries 0 [] (filter opens all ++ filter (λ line. not (opens line)) all) (later_append InOrder (filter opens all) (filter (λ line. not (opens line)) all) (later_filter InOrder opens all (numbered_later 0 (map Add points ++ edits))) (later_filter InOrder (λ line. not (opens line)) all (numbered_later 0 (map Add points ++ edits))) crossing));
+        order = later_pairs (λ (d e : Entry). share_point d.edit e.edit ≡ true → d.tag < e.tag) history (later_entries 0 [] (filter opens all ++ filter (λ line. not (opens line)) all) (later_append InOrder (filter opens all) (filter (λ line. not (opens line)) all) (later_filter InOrder opens all (numbered_later 0 (map Add points ++ edits))) (later_filter InOrder (λ line. not (opens line)) all (numbered_later 0 (map Add points ++ edits))) crossing));
         workers = λ k d h. entry_by 0 [] (filter opens all ++ filter (λ line. not (opens line)) all) (get_or history k d) (at_in history k d h);
       }
 

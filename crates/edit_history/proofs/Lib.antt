@@ -4,6 +4,8 @@ pub mod Places
 pub mod OpeningLaws
 pub mod OpeningSolid
 pub mod SetEdits
+pub mod Beside
+pub mod Moving
 pub mod Lines
 pub mod Numbers
 pub mod OneMore

@@ -11,6 +11,8 @@ pub enum Edit {
     Add(Point),
     /// The point is not to be in the set.
     Take(Point),
+    /// The point at the first place is to be at the second.
+    Move(Point, Point),
 }
 
 /// What an edit answered.
@@ -24,8 +26,12 @@ pub enum Reply {
     Removed,
     /// The point to be taken was not there.
     Missing,
-    /// The set without the point would not be solid, so the point stays.
+    /// The set without the point, or with it at its new place, would not be solid, so the point stays.
     Flat,
+    /// The point was moved.
+    Moved,
+    /// There was a point already at the place to which the point was to be moved, so it stays.
+    Occupied,
 }
 
 /// An edit as a history keeps it.
@@ -44,12 +50,12 @@ pub struct Entry {
 impl Edit {
     ghost use Rattle.edit_history.specs.Edits.{point_of};
 
-    /// The point that is added or taken.
+    /// The point that is added, taken or moved: of a move the place that it leaves.
     pub fn point(&self) -> Point
         ensures { result ≡ point_of self.now }
     {
         match *self {
-            Edit::Add(p) | Edit::Take(p) => p,
+            Edit::Add(p) | Edit::Take(p) | Edit::Move(p, _) => p,
         }
     }
 }

@@ -2,6 +2,8 @@
 
 ghost use Rattle.std.specs.Prelude.{
   ◌≡◌,
+  ◌∷◌,
+  true,
   ◌↔◌,
   ◌+◌,
   ◌<◌,
@@ -69,6 +71,27 @@ pub(crate) fn four_but(absent: Option<Point>, points: &[Point]) -> Option<[usize
     let c = point_at(points, k);
     let l = k + 1 + first_off_plane(absent, &points[k + 1..], a, b, c)?;
     Some([i, j, k, l])
+}
+
+// Whether the point b and the points other than the absent one, which is not b, are solid.
+pub(crate) fn is_solid_with(b: Point, absent: Option<Point>, points: &[Point]) -> bool
+    requires { is_kept_of absent b ≡ true }
+    ensures { result ≡ is_solid (b ∷ kept absent points.now) }
+{
+    three_beside(b, absent, points).is_some()
+}
+
+// The place of a point off the plane of b and the two points that the search finds before it.
+fn three_beside(b: Point, absent: Option<Point>, points: &[Point]) -> Option<usize>
+    requires { is_kept_of absent b ≡ true }
+    ensures { is_some result ≡ is_solid (b ∷ kept absent points.now) }
+{
+    let _ = b.key();
+    let i = first_distinct(absent, points, b)?;
+    let c = point_at(points, i);
+    let j = i + 1 + first_off_line(absent, &points[i + 1..], b, c)?;
+    let d = point_at(points, j);
+    first_off_plane(absent, &points[j + 1..], b, c, d)
 }
 
 // The point of an index.

@@ -1,14 +1,15 @@
 //! Sets of points, kept in order.
 
-ghost use Rattle.std.specs.Prelude.{◌≡◌, ℕ, ◌<◌, ◌≤◌, List, [], length, is_ok, IfOk, IfErr, OnOk, OnErr};
+ghost use Rattle.std.specs.Prelude.{◌≡◌, ℕ, ◌<◌, ◌≤◌, true, false, List, [], length, is_ok, IfOk, IfErr, OnOk, OnErr};
 ghost use Rattle.std.specs.List.{insert, remove};
+ghost use Rattle.std.specs.Vec.{vec_len, vec_capacity};
 ghost use Rattle.point_order.specs.Sets.{IsAscending, is_among, with_point, without_point};
 ghost use Rattle.edit_history.specs.Edits.{reply_to, after as after_of};
-ghost use Rattle.edit_history.specs.declared.history.Edit.TheVariants.{Add, Take};
+ghost use Rattle.edit_history.specs.declared.history.Edit.TheVariants.{Add, Take, Move};
 ghost use Rattle.edit_history.specs.declared.history.Reply.TheVariants.{Inserted};
 
 use crate::history::{Edit, Reply};
-use crate::opening::four_but;
+use crate::opening::{four_but, is_solid_with};
 use point_order::Point;
 use std::alloc::{AllocError, Global};
 use std::marker::Model;
@@ -51,7 +52,9 @@ impl PointSet {
     /// What the edit would answer. It takes no memory.
     ///
     /// An added point is a duplicate where it is there. A taken one is missing where it is not; where it is there, the
-    /// reply is `Flat` if the set without it has no four independent points.
+    /// reply is `Flat` if the set without it has no four independent points. A point to be moved is missing where it is
+    /// not there; where it is, its new place is occupied if a point is there, and the reply is `Flat` if the set with the
+    /// point at its new place has no four independent points.
     pub fn reply_of(&self, edit: Edit) -> Reply
         ensures { result ≡ reply_to self.now edit }
     {
@@ -67,6 +70,26 @@ impl PointSet {
                 },
                 Err(_) => Reply::Missing,
             },
+            Edit::Move(a, b) => self.reply_of_move(a, b),
+        }
+    }
+
+    // What a move would answer.
+    fn reply_of_move(&self, a: Point, b: Point) -> Reply
+        ensures { result ≡ reply_to self.now (Move a b) }
+    {
+        match search(&self.points, a) {
+            Ok(_) => match search(&self.points, b) {
+                Ok(_) => Reply::Occupied,
+                Err(_) => {
+                    if is_solid_with(b, Some(a), &self.points) {
+                        Reply::Moved
+                    } else {
+                        Reply::Flat
+                    }
+                }
+            },
+            Err(_) => Reply::Missing,
         }
     }
 
@@ -83,6 +106,7 @@ impl PointSet {
         match edit {
             Edit::Add(p) => self.add(p),
             Edit::Take(p) => Ok(self.take(p)),
+            Edit::Move(a, b) => Ok(self.shift(a, b)),
         }
     }
 
@@ -117,6 +141,50 @@ impl PointSet {
             }
             Err(_) => Reply::Missing,
         }
+    }
+
+    // Moves the point, where it is there, its new place is free and the set stays solid.
+    fn shift(&mut self, a: Point, b: Point) -> Reply
+        ensures reply { result ≡ reply_to self.old (Move a b) }
+        ensures set { self.new ≡ after_of self.old (Move a b) }
+    {
+        let reply = self.reply_of_move(a, b);
+        if let Reply::Moved = reply {
+            exchange(&mut self.points, a, b);
+        }
+        reply
+    }
+}
+
+// Takes the point a out and puts b in. It takes no memory.
+fn exchange(points: &mut Vec<Point>, a: Point, b: Point)
+    requires order { IsAscending points.old.items }
+    requires there { is_among a points.old.items ≡ true }
+    requires absent { is_among b points.old.items ≡ false }
+    ensures { points.new.items ≡ with_point b (without_point a points.old.items) }
+{
+    match search(points, a) {
+        Ok(i) => {
+            points.remove(i);
+            put_in(points, b);
+        }
+        Err(_) => unreachable!(),
+    }
+}
+
+// Puts in a point that is not there. It takes no memory.
+fn put_in(points: &mut Vec<Point>, p: Point)
+    requires order { IsAscending points.old.items }
+    requires absent { is_among p points.old.items ≡ false }
+    requires room { vec_len points.old < vec_capacity points.old }
+    ensures { points.new.items ≡ with_point p points.old.items }
+{
+    match search(points, p) {
+        Ok(_) => unreachable!(),
+        Err(i) => match points.insert(i, p) {
+            Ok(()) => {}
+            Err(_) => unreachable!(),
+        },
     }
 }
 

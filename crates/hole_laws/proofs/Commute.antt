@@ -31,7 +31,7 @@ point_of (add p) = p
 point_of (take p) = p
 
 -- whether it adds
-is_add : Step → Bool
+pub is_add : Step → Bool
 is_add (add p) = true
 is_add (take p) = false
 
@@ -59,48 +59,48 @@ pub record Commutes (S : PointSet) (e d : Step) : Type 0 where
   pub reach_e : (q : Vertex) → Reach (after S d) e q ↔ Reach S e q
 
 -- e changes nothing, by its own point
-abbrev Idle : PointSet → Step → Type 0
+abbrev pub Idle : PointSet → Step → Type 0
 Idle S e = has S (point_of e) ≡ is_add e
 
 -- e makes T of S
-abbrev Makes : PointSet → Step → PointSet → Type 0
+abbrev pub Makes : PointSet → Step → PointSet → Type 0
 Makes S (add p) T = IsAdd S p T
 Makes S (take p) T = IsAdd T p S × (solid T ≡ true)
 
 -- the reach of an edit that makes T of S, from its lower end
-abbrev Along : PointSet → Step → PointSet → Vertex → Type 0
+abbrev pub Along : PointSet → Step → PointSet → Vertex → Type 0
 Along S (add p) T q = Rho S T p q
 Along S (take p) T q = Rho T S p q
 
 -- it would take the last point that makes the set solid
-abbrev IsFlat : PointSet → Step → Type 0
+abbrev pub IsFlat : PointSet → Step → Type 0
 IsFlat S (add p) = ⊥
 IsFlat S (take p) = (has S p ≡ true) × (solid (minus S p) ≡ false)
 
 -- the reply of an edit that changes the set
-abbrev made : Step → Reply
+abbrev pub made : Step → Reply
 made (add p) = Inserted
 made (take p) = Removed
 
 -- and of one that is idle
-abbrev left : Step → Reply
+abbrev pub left : Step → Reply
 left (add p) = Duplicate
 left (take p) = Missing
 
 -- an idle edit leaves the set
-idle_after : (S : PointSet) (e : Step) → Idle S e → after S e ≡ S
+pub idle_after : (S : PointSet) (e : Step) → Idle S e → after S e ≡ S
 unfolding is_add
 idle_after S (add p) h = cond_true (has S p) S (plus S p) h
 idle_after S (take p) h = cond_false (has S p) (cond (solid (minus S p)) (minus S p) S) S h
 
 -- its reply
-idle_reply : (S : PointSet) (e : Step) → Idle S e → reply S e ≡ left e
+pub idle_reply : (S : PointSet) (e : Step) → Idle S e → reply S e ≡ left e
 unfolding is_add
 idle_reply S (add p) h = cond_true (has S p) Duplicate Inserted h
 idle_reply S (take p) h = cond_false (has S p) (cond (solid (minus S p)) Removed Flat) Missing h
 
 -- it reaches its own point alone
-idle_reach : (S : PointSet) (e : Step) (q : Vertex) → Idle S e → Reach S e q → q ≡ point_of e
+pub idle_reach : (S : PointSet) (e : Step) (q : Vertex) → Idle S e → Reach S e q → q ≡ point_of e
 unfolding is_add
 idle_reach S (add p) q h (inl e) = e
 idle_reach S (add p) q h (inr a) = absurd (false≢true (sym a.0 ∙ h))
@@ -108,17 +108,17 @@ idle_reach S (take p) q h (inl e) = e
 idle_reach S (take p) q h (inr a) = absurd (false≢true (sym h ∙ a.0))
 
 -- every edit reaches its own point
-own_reach : (S : PointSet) (e : Step) (q : Vertex) → q ≡ point_of e → Reach S e q
+pub own_reach : (S : PointSet) (e : Step) (q : Vertex) → q ≡ point_of e → Reach S e q
 own_reach S (add p) q e = inl e
 own_reach S (take p) q e = inl e
 
 -- a flat edit leaves the set
-flat_after : (S : PointSet) (e : Step) → IsFlat S e → after S e ≡ S
+pub flat_after : (S : PointSet) (e : Step) → IsFlat S e → after S e ≡ S
 flat_after S (add p) h = absurd h
 flat_after S (take p) h = cond_true (has S p) (cond (solid (minus S p)) (minus S p) S) S h.0 ∙ cond_false (solid (minus S p)) (minus S p) S h.1
 
 -- a flat removal reaches everything
-flat_reach : (S : PointSet) (e : Step) → solid S ≡ true → IsFlat S e → (q : Vertex) → has S q ≡ true → Reach S e q
+pub flat_reach : (S : PointSet) (e : Step) → solid S ≡ true → IsFlat S e → (q : Vertex) → has S q ≡ true → Reach S e q
 flat_reach S (add p) s h q k = absurd h
 flat_reach S (take p) s h q k = go (cases_vertex q p)
   where
@@ -134,7 +134,7 @@ flat_reach S (take p) s h q k = go (cases_vertex q p)
     )
 
 -- what a real edit does
-makes_after : (S : PointSet) (e : Step) (T : PointSet) → Makes S e T → after S e ≡ T
+pub makes_after : (S : PointSet) (e : Step) (T : PointSet) → Makes S e T → after S e ≡ T
 makes_after S (add p) T m = cond_false (has S p) S (plus S p) m.absent
     ∙ corners.adds_same S (plus S p) T p (corners.plus_adds S p (finite T p m.present) m.absent) m
 makes_after S (take p) T m = cond_true (has S p) (cond (solid (minus S p)) (minus S p) S) S m.0.present
@@ -144,7 +144,7 @@ makes_after S (take p) T m = cond_true (has S p) (cond (solid (minus S p)) (minu
     e = corners.takes_same (minus S p) T S p (corners.minus_adds S p m.0.present) m.0
 
 -- what it answers
-makes_reply : (S : PointSet) (e : Step) (T : PointSet) → Makes S e T → reply S e ≡ made e
+pub makes_reply : (S : PointSet) (e : Step) (T : PointSet) → Makes S e T → reply S e ≡ made e
 makes_reply S (add p) T m = cond_false (has S p) Duplicate Inserted m.absent
 makes_reply S (take p) T m = cond_true (has S p) (cond (solid (minus S p)) Removed Flat) Missing m.0.present
     ∙ cond_true (solid (minus S p)) Removed Flat (ap solid e ∙ m.1)
@@ -153,7 +153,7 @@ makes_reply S (take p) T m = cond_true (has S p) (cond (solid (minus S p)) Remov
     e = corners.takes_same (minus S p) T S p (corners.minus_adds S p m.0.present) m.0
 
 -- and what it reaches, from the end without its point
-makes_reach : (S : PointSet) (e : Step) (T : PointSet) → Makes S e T → (q : Vertex) → Reach S e q ↔ Along S e T q
+pub makes_reach : (S : PointSet) (e : Step) (T : PointSet) → Makes S e T → (q : Vertex) → Reach S e q ↔ Along S e T q
 makes_reach S (add p) T m q = (there, back)
   where
     e : plus S p ≡ T
@@ -176,19 +176,25 @@ makes_reach S (take p) T m q = (there, back)
     back (inl f) = inl f
     back (inr a) = inr (m.0.present, a.finite, at_linked T S p m.1 m.0 q a)
 
+-- it is not idle
+pub makes_busy : (S : PointSet) (e : Step) (T : PointSet) → Makes S e T → Idle S e → ⊥
+unfolding is_add
+makes_busy S (add p) T m i = false≢true (sym m.absent ∙ i)
+makes_busy S (take p) T m i = false≢true (sym i ∙ m.0.present)
+
 -- and the set stays solid
-makes_solid : (S : PointSet) (e : Step) (T : PointSet) → solid S ≡ true → Makes S e T → solid T ≡ true
+pub makes_solid : (S : PointSet) (e : Step) (T : PointSet) → solid S ≡ true → Makes S e T → solid T ≡ true
 makes_solid S (add p) T s m = from.solid_add S T p s m
 makes_solid S (take p) T s m = m.1
 
 -- an edit is idle, or flat, or changes the set
-data Kind (S : PointSet) (e : Step) : Type 0 where
+pub data Kind (S : PointSet) (e : Step) : Type 0 where
   idle : Idle S e → Kind S e
   flat : IsFlat S e → Kind S e
   real : Makes S e (after S e) → Kind S e
 
 -- of which kind an edit is
-kind : (S : PointSet) (e : Step) → is_point (point_of e) ≡ true → Kind S e
+pub kind : (S : PointSet) (e : Step) → is_point (point_of e) ≡ true → Kind S e
 unfolding is_add
 kind S (add p) n = go (has S p) refl
   where
@@ -205,7 +211,7 @@ kind S (take p) n = go (has S p) (solid (minus S p)) refl refl
         real (subst (λ (U : PointSet). IsAdd U p S) (sym m) (corners.minus_adds S p e), ap solid m ∙ f)
 
 -- an edit changes no other point
-others : (S : PointSet) (e : Step) (q : Vertex) → is_point (point_of e) ≡ true → q ≢ point_of e → has (after S e) q ≡ has S q
+pub others : (S : PointSet) (e : Step) (q : Vertex) → is_point (point_of e) ≡ true → q ≢ point_of e → has (after S e) q ≡ has S q
 others S e q n m = go e (kind S e n) m
   where
     go : (e : Step) → Kind S e → q ≢ point_of e → has (after S e) q ≡ has S q
@@ -215,7 +221,7 @@ others S e q n m = go e (kind S e n) m
     go (take p) (real h) m = sym (h.0.same q m)
 
 -- what is not idle reaches a point of the set
-touches : (S : PointSet) (e : Step) → solid S ≡ true → is_point (point_of e) ≡ true → (Idle S e → ⊥) → (q : Vertex) × (has S q ≡ true) × Reach S e q
+pub touches : (S : PointSet) (e : Step) → solid S ≡ true → is_point (point_of e) ≡ true → (Idle S e → ⊥) → (q : Vertex) × (has S q ≡ true) × Reach S e q
 unfolding is_add
 touches S (take p) s n i = (p, yes_has (has S p) i, inl refl)
   where
@@ -245,7 +251,7 @@ touches S (add p) s n i =
     g = and_not (cell S m.t1 m.t2 m.t3 m.rim.lost) (cell (plus S p) m.t1 m.t2 m.t3 m.rim.lost) m.rim.lost_before m.rim.lost_after
 
 -- a real edit reaches a point of the set that it makes
-stays : (S : PointSet) (e : Step) (T : PointSet) → solid S ≡ true → Makes S e T → (q : Vertex) × (has T q ≡ true) × Reach S e q
+pub stays : (S : PointSet) (e : Step) (T : PointSet) → solid S ≡ true → Makes S e T → (q : Vertex) × (has T q ≡ true) × Reach S e q
 stays S (add p) T s m = (p, m.present, inl refl)
 stays S (take p) T s m = (
   k.t3,
@@ -260,12 +266,12 @@ stays S (take p) T s m = (
     n e = (last_apart (cell S) (complex_of S) k.t1 k.t2 k.t3 p k.cell).0 (sym e)
 
 -- the two edits in the other order, along a square
-record Turned (S : PointSet) (e d : Step) (S1 S2 : PointSet) : Type 0 where
-  by : PointSet
-  first : Makes S d by
-  second : Makes by e S2
-  reach_d : (q : Vertex) → Along S d by q ↔ Along S1 d S2 q
-  reach_e : (q : Vertex) → Along by e S2 q ↔ Along S e S1 q
+pub record Turned (S : PointSet) (e d : Step) (S1 S2 : PointSet) : Type 0 where
+  pub by : PointSet
+  pub first : Makes S d by
+  pub second : Makes by e S2
+  pub reach_d : (q : Vertex) → Along S d by q ↔ Along S1 d S2 q
+  pub reach_e : (q : Vertex) → Along by e S2 q ↔ Along S e S1 q
 
 -- so they commute
 from_turned : (S : PointSet) (e d : Step) (S1 S2 : PointSet) → Makes S e S1 → Makes S1 d S2 → after S e ≡ S1 → Turned S e d S1 S2 → Commutes S e d
@@ -295,7 +301,7 @@ flip : {A B : Type 0} → A ↔ B → B ↔ A
 flip f = (f.1, f.0)
 
 -- the other order of the two, for each way around the square
-turn : (S : PointSet) (e d : Step) (S1 S2 : PointSet) → solid S ≡ true → point_of e ≢ point_of d → Makes S e S1 → Makes S1 d S2 →
+pub turn : (S : PointSet) (e d : Step) (S1 S2 : PointSet) → solid S ≡ true → point_of e ≢ point_of d → Makes S e S1 → Makes S1 d S2 →
     Disjoint (Along S e S1) (Along S1 d S2) → Turned S e d S1 S2
 turn R (add x) (add y) A T s n ra at d =
     record { by = B; first = rb; second = bt; reach_d = λ q. rho_both R B A T y q (a.by_y q); reach_e = λ q. rho_both B T R A x q (flip (a.by_x q)) }

@@ -10,9 +10,9 @@ use Rattle.point_order.specs.Complex.{complex}
 use Rattle.point_order.specs.Facets.{points_of}
 use Rattle.point_order.specs.declared.cell.Cell.{Cell}
 use Rattle.edit_history.specs.declared.history.Edit.{Edit}
-use Rattle.edit_history.specs.declared.history.Edit.TheVariants.{Add, Take}
-use Rattle.edit_history.specs.declared.history.Reply.TheVariants.{Inserted, Duplicate, Removed, Missing, Flat}
-use Rattle.edit_history.specs.Edits.{point_of, reply_to, after, changed}
+use Rattle.edit_history.specs.declared.history.Edit.TheVariants.{Add, Take, Move}
+use Rattle.edit_history.specs.declared.history.Reply.TheVariants.{Inserted, Duplicate, Removed, Missing, Flat, Moved, Occupied}
+use Rattle.edit_history.specs.Edits.{HasKeys, moved_to, reply_to, after, arrived, changed}
 use Rattle.del_laws.specs.Cells.{Vertex, point, far}
 use Rattle.del_laws.specs.PointSets.{PointSet, has, solid, cell, plus, minus, is_point}
 use Rattle.del_laws.proofs.Cited.{ascending_of, has_from, has_true, keys_of, minus_points, plus_points, same_point}
@@ -20,7 +20,7 @@ use Rattle.del_laws.specs.Base.{Symmetric}
 use Rattle.hole_laws.specs.Lists.{Goes, AreJoined}
 use Rattle.hole_laws.specs.Edits.{IsSolidSet}
 use Rattle.hole_laws.specs.Laws.{IsReached}
-use Rattle.hole_laws.specs.Commuting.{Reaches, StaysSolid, ChangesReached, DoCommute, EditsCommute, after_all, replies_to, SomeReaches, AllCommute, BatchCommutes}
+use Rattle.hole_laws.specs.Commuting.{Reaches, StaysSolid, ChangesReached, DoCommute, EditsCommute}
 use Rattle.hole_laws.proofs.Tests.{IsComplex, Insertion, AreLinked, IsAtGone}
 use Rattle.hole_laws.proofs.Vertex.{has_vertex, IsOrdered, ListsCells}
 use Rattle.hole_laws.proofs.CellVertices.{all_vertices}
@@ -31,28 +31,35 @@ use Rattle.hole_laws.proofs.Near.{at_gone, joined_of}
 use Rattle.hole_laws.proofs.FromBase.{complex_of, insertion}
 use Rattle.hole_laws.proofs.Corners.{plus_adds}
 use Rattle.hole_laws.proofs.OfSets.{set_of, set_of_points, solid_of, lists_cells}
-use Rattle.hole_laws.proofs.Commute as sets
-use Rattle.hole_laws.proofs.Commute.{Step, add, take}
+use Rattle.hole_laws.proofs.Commute.{add, take}
+use Rattle.hole_laws.proofs.Moves as sets
+use Rattle.hole_laws.proofs.Moves.{Change, step, move}
 
 -- ---- edits of sets and of their lists
 
--- an edit, its point as a vertex
-step_of : Edit → Step
-step_of (Add p) = add (point p)
-step_of (Take p) = take (point p)
+-- an edit, its points as vertices
+step_of : Edit → Change
+step_of (Add p) = step (add (point p))
+step_of (Take p) = step (take (point p))
+step_of (Move a b) = move (point a) (point b)
 
 -- a key is a point
 key_point : (p : ℕ) → IsKey p → is_point (point p) ≡ true
 key_point p k = below_true p (2 ^ 42) k
 
--- the edit's point is a point
-step_point : (a : Edit) → IsKey (point_of a) → is_point (sets.point_of (step_of a)) ≡ true
+-- the edit's points are points
+step_point : (a : Edit) → HasKeys a → sets.ArePoints (step_of a)
 unfolding step_of
 step_point (Add p) k = key_point p k
 step_point (Take p) k = key_point p k
+step_point (Move a b) k = (key_point a k.0, key_point b k.1)
+
+-- the list with b and without a
+both_points : (s : PointSet) (a b : ℕ) → IsKey b → (minus (plus s (point b)) (point a)).points ≡ moved_to a b s.points
+both_points s a b k = minus_points (plus s (point b)) a ∙ ap (without_point a) (plus_points s b k)
 
 -- the list after an edit
-points_after : (s : PointSet) (a : Edit) → IsKey (point_of a) → (sets.after s (step_of a)).points ≡ after s.points a
+points_after : (s : PointSet) (a : Edit) → HasKeys a → (sets.after s (step_of a)).points ≡ after s.points a
 unfolding step_of
 points_after s (Add p) k = by_test (is_among p s.points) refl
   where
@@ -69,16 +76,24 @@ points_after s (Take p) k = by_test (is_among p s.points) (is_solid (without_poi
     by_test false c e f = rw e refl
     by_test true false e f = rw (e, solid_rest, f) refl
     by_test true true e f = rw (e, solid_rest, f) (minus_points s p)
+points_after s (Move a b) k = by_test (is_among a s.points) (is_among b s.points) (is_solid (moved_to a b s.points)) refl refl refl
+  where
+    by_test : (x y z : Bool) → is_among a s.points ≡ x → is_among b s.points ≡ y → is_solid (moved_to a b s.points) ≡ z →
+        (sets.after s (move (point a) (point b))).points ≡ after s.points (Move a b)
+    by_test false y z e f g = rw e refl
+    by_test true true z e f g = rw (e, f) refl
+    by_test true false false e f g = rw (e, f, ap is_solid (both_points s a b k.1), g) refl
+    by_test true false true e f g = rw (e, f, ap is_solid (both_points s a b k.1), g) (both_points s a b k.1)
 
 -- and the reply
-reply_same : (s : PointSet) (a : Edit) → sets.reply s (step_of a) ≡ reply_to s.points a
+reply_same : (s : PointSet) (a : Edit) → HasKeys a → sets.reply s (step_of a) ≡ reply_to s.points a
 unfolding step_of
-reply_same s (Add p) = by_test (is_among p s.points) refl
+reply_same s (Add p) k = by_test (is_among p s.points) refl
   where
     by_test : (b : Bool) → is_among p s.points ≡ b → cond (is_among p s.points) Duplicate Inserted ≡ (if is_among p s.points then Duplicate else Inserted)
     by_test true e = rw e refl
     by_test false e = rw e refl
-reply_same s (Take p) = by_test (is_among p s.points) (is_solid (without_point p s.points)) refl refl
+reply_same s (Take p) k = by_test (is_among p s.points) (is_solid (without_point p s.points)) refl refl
   where
     solid_rest : solid (minus s (point p)) ≡ is_solid (without_point p s.points)
     solid_rest = ap is_solid (minus_points s p)
@@ -88,6 +103,14 @@ reply_same s (Take p) = by_test (is_among p s.points) (is_solid (without_point p
     by_test false c e f = rw e refl
     by_test true false e f = rw (e, solid_rest, f) refl
     by_test true true e f = rw (e, solid_rest, f) refl
+reply_same s (Move a b) k = by_test (is_among a s.points) (is_among b s.points) (is_solid (moved_to a b s.points)) refl refl refl
+  where
+    by_test : (x y z : Bool) → is_among a s.points ≡ x → is_among b s.points ≡ y → is_solid (moved_to a b s.points) ≡ z →
+        sets.reply s (move (point a) (point b)) ≡ reply_to s.points (Move a b)
+    by_test false y z e f g = rw e refl
+    by_test true true z e f g = rw (e, f) refl
+    by_test true false false e f g = rw (e, f, ap is_solid (both_points s a b k.1), g) refl
+    by_test true false true e f g = rw (e, f, ap is_solid (both_points s a b k.1), g) refl
 
 -- ---- what edits reach
 
@@ -134,7 +157,7 @@ reached_same s h p k f e = (
     ins = insertion s (plus s (point p)) (point p) h (plus_adds s (point p) (key_point p k) f)
 
 -- the points that an edit reaches
-reach_same : (s : PointSet) → solid s ≡ true → (a : Edit) → IsKey (point_of a) → (e : ℕ) → sets.Reach s (step_of a) (point e) ↔ Reaches s.points a e
+reach_same : (s : PointSet) → solid s ≡ true → (a : Edit) → HasKeys a → (e : ℕ) → sets.Reach s (step_of a) (point e) ↔ Reaches s.points a e
 unfolding step_of
 reach_same s h (Add p) k e = (
   λ r. elim r [ inl q ↦ inl (same_point e p q) | inr g ↦ inr ((λ m. false≢true (sym g.0 ∙ has_true s p m)), (reached_same s h p k g.0 e).0 g.1) ],
@@ -150,12 +173,36 @@ reach_same s h (Take v) k e = (
     | inr g ↦ elim (cases_eq e v) [ inl q ↦ inl (ap point q) | inr n ↦ inr (has_true s v g.0, (λ q. (cc)), linked_of (cell s) (complex_of s) (complex s.points) (lists_cells s) v e n g.1) ]
   ],
 )
+reach_same s h (Move a b) k e = (there, back)
+  where
+    there : sets.Reach s (move (point a) (point b)) (point e) → Reaches s.points (Move a b) e
+    there (inl q) = inl (same_point e a q)
+    there (inr (inl q)) = inr (inl (same_point e b q))
+    there (inr (inr g)) = inr (inr (
+      has_from s a g.0,
+      (λ m. false≢true (sym g.1 ∙ has_true s b m)),
+      elim g.2 [ inl r ↦ inl ((reached_same s h b k.1 g.1 e).0 r) | inr l ↦ inr (joined_of (cell (plus s (point b))) (complex (with_point b s.points)) (lists_plus s b k.1) a e l.1) ],
+    ))
+
+    back : Reaches s.points (Move a b) e → sets.Reach s (move (point a) (point b)) (point e)
+    back (inl q) = inl (ap point q)
+    back (inr (inl q)) = inr (inl (ap point q))
+    back (inr (inr g)) =
+        let f : has s (point b) ≡ false = false_if (has s (point b)) (λ m. g.1 (has_from s b m)) in
+        elim g.2 [
+          | inl r ↦ inr (inr (has_true s a g.0, f, inl ((reached_same s h b k.1 f e).1 r)))
+          | inr j ↦ elim (cases_eq e a) [
+            | inl q ↦ inl (ap point q)
+            | inr n ↦ inr (inr (has_true s a g.0, f, inr ((λ q. (cc)), linked_of (cell (plus s (point b))) (complex_of (plus s (point b))) (complex (with_point b s.points)) (lists_plus s b k.1) a e n j)))
+          ]
+        ]
 
 -- no edit reaches the infinite vertex
 reach_finite : (s : PointSet) (a : Edit) → sets.Reach s (step_of a) far → ⊥
 unfolding step_of
 reach_finite s (Add p) r = elim r [ inl q ↦ cc | inr g ↦ g.1.finite refl ]
 reach_finite s (Take v) r = elim r [ inl q ↦ cc | inr g ↦ g.1 refl ]
+reach_finite s (Move a b) r = elim r [ inl q ↦ cc | inr x ↦ elim x [ inl q ↦ cc | inr g ↦ elim g.2 [ inl y ↦ y.finite refl | inr y ↦ y.0 refl ] ] ]
 
 -- ---- one set
 
@@ -180,7 +227,7 @@ differs_at s t q g e m =
       there = false_if (cell t a.t1 a.t2 a.t3 (point e)) (λ h. g.after (listed_of (cell t) (complex_of t) (complex t.points) (lists_cells t) q o a.t1 a.t2 a.t3 (point e) a.four a.vertices h));
     }
 
-module _ (s : PointSet) (h : solid s ≡ true) (a : Edit) (ka : IsKey (point_of a)) where
+module _ (s : PointSet) (h : solid s ≡ true) (a : Edit) (ka : HasKeys a) where
   -- the set after the edit
   abbrev next : PointSet
   next = sets.after s (step_of a)
@@ -194,7 +241,7 @@ module _ (s : PointSet) (h : solid s ≡ true) (a : Edit) (ka : IsKey (point_of 
   list_solid = subst IsSolidSet (points_after s a ka) (record { set = record { ascending = ascending_of next; keys = keys_of next }; solid = next_solid })
 
   -- what it reaches there, of the list
-  reach_next : (b : Edit) → IsKey (point_of b) → (e : ℕ) → sets.Reach next (step_of b) (point e) ↔ Reaches (after s.points a) b e
+  reach_next : (b : Edit) → HasKeys b → (e : ℕ) → sets.Reach next (step_of b) (point e) ↔ Reaches (after s.points a) b e
   reach_next b kb e = subst (λ (v : List ℕ). sets.Reach next (step_of b) (point e) ↔ Reaches v b e) (points_after s a ka) (reach_same next next_solid b kb e)
 
   -- a point at which the two sets differ is reached
@@ -212,11 +259,11 @@ module _ (s : PointSet) (h : solid s ≡ true) (a : Edit) (ka : IsKey (point_of 
   ])
 
 -- edits whose reaches are apart commute
-commute_at : (s : PointSet) → solid s ≡ true → (a b : Edit) → IsKey (point_of a) → IsKey (point_of b) → ((e : ℕ) → Reaches s.points a e → ¬ (Reaches (after s.points a) b e)) → DoCommute s.points a b
+commute_at : (s : PointSet) → solid s ≡ true → (a b : Edit) → HasKeys a → HasKeys b → ((e : ℕ) → Reaches s.points a e → ¬ (Reaches (after s.points a) b e)) → DoCommute s.points a b
 commute_at s h a b ka kb apart = record {
   same = sym (points_after (next s h b kb) a ka ∙ ap (λ v. after v a) (points_after s b kb)) ∙ ap (λ (v : PointSet). v.points) c.same ∙ points_after (next s h a ka) b kb ∙ ap (λ v. after v b) (points_after s a ka);
-  reply_a = sym (reply_same (next s h b kb) a ∙ ap (λ v. reply_to v a) (points_after s b kb)) ∙ c.reply_e ∙ reply_same s a;
-  reply_b = sym (reply_same s b) ∙ c.reply_d ∙ reply_same (next s h a ka) b ∙ ap (λ v. reply_to v b) (points_after s a ka);
+  reply_a = sym (reply_same (next s h b kb) a ka ∙ ap (λ v. reply_to v a) (points_after s b kb)) ∙ c.reply_e ∙ reply_same s a ka;
+  reply_b = sym (reply_same s b kb) ∙ c.reply_d ∙ reply_same (next s h a ka) b kb ∙ ap (λ v. reply_to v b) (points_after s a ka);
   reach_a = λ e. (
     λ r. (reach_same s h a ka e).0 ((c.reach_e (point e)).0 ((reach_next s h b kb a ka e).1 r)),
     λ r. (reach_next s h b kb a ka e).0 ((c.reach_e (point e)).1 ((reach_same s h a ka e).1 r)),
@@ -251,22 +298,3 @@ pub edits_commute : EditsCommute
 edits_commute s a b i ka kb =
     subst (λ (v : List ℕ). ((e : ℕ) → Reaches v a e → ¬ (Reaches (after v a) b e)) → DoCommute v a b)
     (set_of_points s i.set) (commute_at (set_of s i.set) (solid_of s i.set i.solid) a b ka kb)
-
--- and so do some edits and one more
-pub batch_commutes : BatchCommutes
-batch_commutes s [] b i ks kb apart = record { same = refl; replies = refl; reply_b = refl; reach = λ e. (λ r. r, λ r. r); reach_b = λ e. (λ r. r, λ r. r) }
-batch_commutes s (a ∷ edits) b i ks kb apart = both (batch_commutes (after s a) edits b (stays_solid s a i ks.0) ks.1 kb (λ e r t. apart e (inr r) t))
-  where
-    both : AllCommute (after s a) edits b → AllCommute s (a ∷ edits) b
-    both r =
-        let c = edits_commute s a b i ks.0 kb (λ e x y. apart e (inl x) ((r.reach_b e).0 y)) in
-        record {
-          same = ap (λ v. after_all v edits) c.same ∙ r.same;
-          replies = ap₂ (λ x xs. x ∷ xs) c.reply_a (ap (λ v. replies_to v edits) c.same ∙ r.replies);
-          reply_b = c.reply_b ∙ r.reply_b;
-          reach = λ e. (
-            λ x. elim x [ inl y ↦ inl ((c.reach_a e).0 y) | inr y ↦ inr ((r.reach e).0 (subst (λ (v : List ℕ). SomeReaches v edits e) c.same y)) ],
-            λ x. elim x [ inl y ↦ inl ((c.reach_a e).1 y) | inr y ↦ inr (subst (λ (v : List ℕ). SomeReaches v edits e) (sym c.same) ((r.reach e).1 y)) ],
-          );
-          reach_b = λ e. (λ x. (r.reach_b e).0 ((c.reach_b e).0 x), λ x. (c.reach_b e).1 ((r.reach_b e).1 x));
-        }

@@ -8,6 +8,7 @@ pub mod FromBase
 pub mod Judged
 pub mod Laws
 pub mod Listed
+pub mod Moves
 pub mod Locality
 pub mod ExchangedLists
 pub mod Near

@@ -6,7 +6,7 @@
 //! `docs/GEOMETRY.md` tells them in order, with their proofs in short.
 #![tactic(auto)]
 
-ghost use Rattle.hole_laws.specs.Commuting.{StaysSolid, ChangesReached, EditsCommute, BatchCommutes};
+ghost use Rattle.hole_laws.specs.Commuting.{StaysSolid, ChangesReached, EditsCommute};
 ghost use Rattle.hole_laws.specs.Laws.{
   StaysWithoutConflict,
   GoesInConflict,
@@ -99,16 +99,16 @@ pub fn flat_rest_shows()
     ensures flat { FlatRestJoined }
 {}
 
-/// An edit changes only cells all of whose points it reaches: its own point, and the points of the cells that an added
-/// point takes away, or of the cells at a taken one. A solid set stays solid.
+/// An edit changes only cells all of whose points it reaches: its own, and the points of the cells that an added point
+/// takes away, or of the cells at a taken one; of both, one after the other, where a point is moved. A solid set stays
+/// solid.
 pub fn edit_is_local()
     ensures solid { StaysSolid }
     ensures near { ChangesReached }
 {}
 
 /// Two edits commute where the first, and the second after it, reach no point in common: in the other order they leave
-/// the same set, answer the same and reach the same points. So do some edits, such as the two of a move, and one more.
+/// the same set, answer the same and reach the same points.
 pub fn edits_commute()
-    ensures two { EditsCommute }
-    ensures batch { BatchCommutes }
+    ensures { EditsCommute }
 {}

@@ -9,9 +9,9 @@ use Rattle.std.proofs.lemmas.List.FromFn.{length-range_with_len}
 use Rattle.std.proofs.lemmas.List.Sorted.{IsPermutation-refl, IsPermutation-sym, IsPermutation-trans, IsPermutation-cons, IsPermutation-middle, IsPermutation-append_right, IsPermutation-filter_both}
 use Rattle.point_order.specs.Sets.{IsIn, is_among}
 use Rattle.edit_history.specs.declared.history.Edit.{Edit}
-use Rattle.edit_history.specs.declared.history.Edit.TheVariants.{Add, Take}
+use Rattle.edit_history.specs.declared.history.Edit.TheVariants.{Add, Take, Move}
 use Rattle.edit_history.specs.declared.history.Entry.{Entry}
-use Rattle.edit_history.specs.Edits.{point_of, reply_to, after}
+use Rattle.edit_history.specs.Edits.{point_of, share_point, is_move, reply_to, after}
 use Rattle.edit_history.specs.Histories.{entries_from, IsLegalFrom, IsLegal}
 use Rattle.edit_history.specs.Opening.{Four, opening_four}
 use Rattle.edit_history.specs.OneThread.{places, tagged_lines, lines_of_one_thread, one_thread, line_of, Keeps}
@@ -126,7 +126,7 @@ module _ {X : Type 0} (t : X → Bool) (k : X → ℕ) (l : List X) where
 -- ---- a file
 
 abbrev InOrder : Pair → Pair → Type 0
-InOrder x y = point_of x.1 ≡ point_of y.1 → x.0 < y.0
+InOrder x y = share_point x.1 y.1 ≡ true → x.0 < y.0
 
 module _ (points : List ℕ) (edits : List Edit) (four : Four) (found : opening_four points ≡ Some four) where
   abbrev all : List Pair
@@ -208,7 +208,7 @@ module _ (points : List ℕ) (edits : List Edit) (four : Four) (found : opening_
         record {
           opening = subst (λ (o : Option Four). IfSome o (λ f. map (λ (e : Entry). e.tag) (take 4 (opening ++ run)) ≡ places f)) (sym found) first_four;
           lines = lines;
-          order = later_pairs (λ (d e : Entry). point_of d.edit ≡ point_of e.edit → d.tag < e.tag) (opening ++ run) order;
+          order = later_pairs (λ (d e : Entry). share_point d.edit e.edit ≡ true → d.tag < e.tag) (opening ++ run) order;
           workers = all_of_each (λ (e : Entry). e.by < workers) (opening ++ run) made_by;
         }
 
@@ -256,7 +256,7 @@ module _ (points : List ℕ) (edits : List Edit) (four : Four) (found : opening_
     record {
       lines = subst (IsPermutation (flat_map (λ l. l) (dealt workers (places four) (tagged_lines points edits)))) (sym sequel_lines)
           (IsPermutation-sym rest (flat_map (λ l. l) (dealt workers (places four) (tagged_lines points edits))) (all_parts (λ (line : Pair). not (is_among line.0 (places four))) (λ (line : Pair). point_of line.1 % workers) (tagged_lines points edits) workers (λ line. mod-lt (point_of line.1) some)));
-      order = later_pairs (λ (d e : Entry). point_of d.edit ≡ point_of e.edit → d.tag < e.tag) sequel (later_unmap line_of InOrder sequel (subst (EachLater InOrder) (sym sequel_lines) (later_right InOrder those rest (one_order points edits four found))));
+      order = later_pairs (λ (d e : Entry). share_point d.edit e.edit ≡ true → d.tag < e.tag) sequel (later_unmap line_of InOrder sequel (subst (EachLater InOrder) (sym sequel_lines) (later_right InOrder those rest (one_order points edits four found))));
       workers = all_of_each (λ (e : Entry). e.by < length (dealt workers (places four) (tagged_lines points edits))) sequel (λ e i. let z = entry_by (0 + length those) (set_after [] those) rest e i in omega (arith, z, some, length-map (range_with_len 0 workers) (dealt_to workers (places four) (tagged_lines points edits)), length-range_with_len 0 workers));
       alone = sequel_alone workers;
     },
@@ -269,11 +269,17 @@ four_found = refl
 
 -- a file that is anchored: the points of a tetrahedron, and an add and a take of another point
 an_anchored_file : IsAnchored (0 ∷ 2 * 268435456 ∷ 2 * 16384 ∷ 2 ∷ []) (Add (268435456 + 16384 + 1) ∷ Take (268435456 + 16384 + 1) ∷ [])
-an_anchored_file = record { four = record { first = 0; second = 1; third = 2; fourth = 3 }; opening = four_found; untaken = spared }
+an_anchored_file = record { four = record { first = 0; second = 1; third = 2; fourth = 3 }; opening = four_found; untaken = spared; unmoved = stays }
   where
     is_take : Edit → Bool
     is_take (Add p) = false
     is_take (Take p) = true
+    is_take (Move a b) = false
+
+    stays : (i b : ℕ) → IsIn i (0 ∷ 1 ∷ 2 ∷ 3 ∷ []) → ¬ (IsIn (Move (slice_index (0 ∷ 2 * 268435456 ∷ 2 * 16384 ∷ 2 ∷ []) i) b) (Add (268435456 + 16384 + 1) ∷ Take (268435456 + 16384 + 1) ∷ []))
+    stays i b j (inl e) = let f = ap is_move e in cc
+    stays i b j (inr (inl e)) = let f = ap is_move e in cc
+    stays i b j (inr (inr k)) = k
 
     apart : (k : ℕ) → IsIn k (0 ∷ 2 * 268435456 ∷ 2 * 16384 ∷ 2 ∷ []) → 268435456 + 16384 + 1 ≡ k → ⊥
     apart k (inl e) f = omega (arith, e, f)

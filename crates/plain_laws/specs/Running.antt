@@ -6,6 +6,7 @@ use Rattle.std.specs.Prelude.{
   ◌<◌,
   ◌==◌,
   ◌&&◌,
+  true,
   not,
   List,
   [],
@@ -22,7 +23,7 @@ use Rattle.std.specs.List.{filter, flat_map, range_with_len}
 use Rattle.point_order.specs.Sets.{is_among}
 use Rattle.edit_history.specs.declared.history.Edit.{Edit}
 use Rattle.edit_history.specs.declared.history.Entry.{Entry}
-use Rattle.edit_history.specs.Edits.{point_of}
+use Rattle.edit_history.specs.Edits.{point_of, share_point}
 use Rattle.edit_history.specs.Histories.{IsLegal, entries_from}
 use Rattle.edit_history.specs.Opening.{Four, opening_four}
 use Rattle.edit_history.specs.OneThread.{Keeps, tagged_lines, one_thread, places, line_of}
@@ -43,11 +44,11 @@ dealt n four lines = map (dealt_to n four lines) (range_with_len 0 n)
 abbrev pub opening_entries : List ℕ → List Pair → List Entry
 opening_entries four lines = entries_from 0 [] (filter (λ line. is_among line.0 four) lines)
 
--- The entries are those of the pairs of the lists, each once, those of one point by their tags, each by the worker of
--- some list. With one list they are in its order.
+-- The entries are those of the pairs of the lists, each once, those that share a point by their tags, each by the worker
+-- of some list. With one list they are in its order.
 pub record IsRun (lists : List (List Pair)) (entries : List Entry) : Type 0 where
   pub lines : IsPermutation (flat_map (λ l. l) lists) (map line_of entries)
-  pub order : AllPairs (λ d e. point_of d.edit ≡ point_of e.edit → d.tag < e.tag) entries
+  pub order : AllPairs (λ d e. share_point d.edit e.edit ≡ true → d.tag < e.tag) entries
   pub workers : All (λ e. e.by < length lists) entries
   pub alone : (l : List Pair) → lists ≡ l ∷ [] → map line_of entries ≡ l
 
