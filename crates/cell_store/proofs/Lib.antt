@@ -1,11 +1,15 @@
 pub mod ShareLaws
 pub mod NextLaws
+pub mod AnyLaws
+pub mod BetweenLaws
 pub mod Layouts
 pub mod RoomLaws
 pub mod NoteLaws
+pub mod SwapLaws
 pub mod HandLaws
 pub mod TouchLaws
 pub mod MeshLaws
+pub mod LookLaws
 pub mod Gathering
 pub mod StarLaws
 pub mod KeyLaws

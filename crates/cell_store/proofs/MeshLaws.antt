@@ -1,22 +1,22 @@
 -- Meshes, their histories, and buckets in hand.
-use Rattle.std.specs.Prelude.{◌≡◌, ◌⊎◌, ltb, ℕ, ◌+◌, ◌-◌, ◌*◌, ◌^◌, zero, suc, ◌<◌, ◌≤◌, ◌==◌, min, nat_lt, Bool, true, false, cond, not, ◌&&◌, List, [], ◌∷◌, ◌++◌, Option, None, Some, IsSome, length, slice_index_or}
+use Rattle.std.specs.Prelude.{◌≡◌, ◌⊎◌, ltb, ℕ, ◌+◌, ◌-◌, ◌*◌, ◌^◌, zero, suc, ◌<◌, ◌≤◌, ◌==◌, min, nat_lt, Bool, true, false, cond, not, ◌&&◌, List, [], ◌∷◌, ◌++◌, Option, None, Some, IfSome, IsSome, length, slice_index_or}
 use Rattle.std.specs.List.{filter, flat_map, range_with_len}
 use Rattle.std.specs.List.Sorted.{IsPermutation, IsNonDecreasingBy}
-use Rattle.std.specs.Option.{option_map_or}
+use Rattle.std.specs.Option.{option_map, option_map_or}
 use Rattle.std.proofs.Common.{refl, sym, ◌∙◌, ap, subst, inl, inr, arith, take, length-append, add-one}
 use Rattle.std.proofs.Math.Seq.{take-length}
 use Rattle.std.proofs.lemmas.Bool.Decides.{nat_tests}
 use Rattle.std.proofs.lemmas.Grind.{flat_map-append}
 use Rattle.std.proofs.lemmas.List.{append-nil}
 use Rattle.std.proofs.lemmas.List.Sorted.{IsPermutation-append, IsPermutation-cons, IsPermutation-middle, IsPermutation-filter_both, IsPermutation-map, IsPermutation-refl, IsPermutation-sym, IsPermutation-trans, length_permutation}
-use Rattle.list_laws.proofs.Cited.{all_pass, below_true, filter_and, filtered_from, filtered_true, from_append, in_left, in_moved, in_right, is_there, none_pass, some_mapped, some_of, take_suc}
+use Rattle.list_laws.proofs.Cited.{all_pass, below_true, filter_and, filtered_from, filtered_true, from_append, if_some, in_left, in_moved, in_right, is_there, none_pass, some_mapped, some_of, take_suc}
 use Rattle.point_order.specs.declared.cell.Cell.{Cell}
 use Rattle.point_order.specs.declared.cell.Cell.TheVariants.{Full, Open}
 use Rattle.point_order.specs.Complex.{complex}
-use Rattle.point_order.specs.Coordinates.{IsKey}
 use Rattle.point_order.specs.Facets.{points_of}
-use Rattle.point_order.specs.Sets.{IsIn}
+use Rattle.point_order.specs.Sets.{IsIn, is_among}
 use Rattle.point_order.specs.CellOrder.{AreSameCells}
+use Rattle.edit_history.specs.Edits.{HasKeys}
 use Rattle.edit_history.specs.declared.history.Entry.{Entry}
 use Rattle.edit_history.specs.Edits.{point_of, after}
 use Rattle.edit_history.specs.Histories.{replay, IsLegalFrom}
@@ -25,14 +25,17 @@ use Rattle.edit_history.proofs.Cited.{merged_order}
 use Rattle.del_laws.specs.Listed.{IsListed}
 use Rattle.del_laws.proofs.Cited.{complex_is_sorted, listed_is_cell, same_members}
 use Rattle.cell_store.specs.Grids.{bucket_of}
-use Rattle.cell_store.specs.Buckets.{BucketContent, InHand, bucket_at}
+use Rattle.cell_store.specs.Buckets.{BucketContent, InHand, bucket_at, points_in}
 use Rattle.cell_store.specs.Shares.{Stands, IsSound, Shows, entries_share}
-use Rattle.cell_store.specs.Changes.{Follows, IsNext, IsSwapped, IsNoted}
+use Rattle.cell_store.specs.Changes.{swapped_in, Follows, IsArrived, IsNext, IsSwapped, IsNoted}
+use Rattle.cell_store.specs.Points.{came, goal_of}
+use Rattle.cell_store.specs.Ready.{CanCome}
+use Rattle.cell_store.proofs.AnyLaws.{any_keeps_hold, came_free}
 use Rattle.cell_store.specs.Swaps.{touches}
 use Rattle.cell_store.specs.Meshes.{AllInHand, HasPlaces, IsWhole, MeshView, IsHoldOf, with_entry, by_number, history_in, mesh_in, counted, all_entries, all_cells, HistoryIs, MeshIs, MeshGathersHistory, MeshGathersComplex, AllAreHeld, MoreAreHeld}
 use Rattle.cell_stars.proofs.Cited.{bucket_below}
-use Rattle.cell_store.proofs.HandLaws.{fewer_stand}
-use Rattle.cell_store.proofs.NextLaws.{entry_keeps_hold, next_entry}
+use Rattle.cell_store.proofs.HandLaws.{fewer_stand, held_point}
+use Rattle.cell_store.proofs.NextLaws.{next_entry}
 use Rattle.cell_store.proofs.ShareLaws.{touched, sound_of, stands_shows}
 
 -- ---- what is in hand
@@ -339,17 +342,18 @@ roomed mesh old new e f i = record {
   stands = fewer_stand new old mesh.history (record { grid = e; buckets = λ b c k. sym (ap (λ l. bucket_at l b) f) ∙ k }) i.stands;
 }
 
--- the hold after the cells were exchanged and the entry noted
-pub changed_hold : (mesh : MeshView) (old between new : InHand) (gone fresh : List Cell) (e : Entry) → IsHoldOf mesh old → IsNext mesh.history e gone fresh → IsSwapped gone fresh old between → IsNoted e between new → IsHoldOf (record mesh { history = mesh.history ++ e ∷ [] }) new
-changed_hold mesh old between new gone fresh e i next sw nd = record {
-  grid = nd.grid ∙ sw.grid ∙ i.grid;
+-- the hold after all that an entry makes of it
+pub changed_hold : (mesh : MeshView) (old swap put new : InHand) (gone fresh : List Cell) (e : Entry) → IsHoldOf mesh old → IsNext mesh.history e gone fresh → IsSwapped gone fresh old swap → IsArrived e swap put → IsNoted e put new → IsHoldOf (record mesh { history = mesh.history ++ e ∷ [] }) new
+changed_hold mesh old swap put new gone fresh e i next sw ar nd = record {
+  grid = nd.grid ∙ ar.grid ∙ sw.grid ∙ i.grid;
   whole = record {
-    has = record { size = rw nd.grid (rw sw.grid i.whole.has.size); places = nd.count ∙ sw.count ∙ i.whole.has.places ∙ ap (λ g. g * g * g) (sym (nd.grid ∙ sw.grid)) };
+    has = record { size = rw nd.grid (rw ar.grid (rw sw.grid i.whole.has.size)); places = nd.count ∙ ar.count ∙ sw.count ∙ i.whole.has.places ∙ ap (λ g. g * g * g) (sym (nd.grid ∙ ar.grid ∙ sw.grid)) };
     all = λ b k.
-        subst IsSome (sym (nd.places b)) (some_mapped _ (bucket_at between.places b)
-        (subst IsSome (sym (sw.places b)) (some_mapped _ (bucket_at old.places b) (i.whole.all b (subst (λ n. b < n) (nd.count ∙ sw.count) k)))));
+        subst IsSome (sym (nd.places b)) (some_mapped _ (bucket_at put.places b)
+        (subst IsSome (sym (ar.places b)) (some_mapped _ (bucket_at swap.places b)
+        (subst IsSome (sym (sw.places b)) (some_mapped _ (bucket_at old.places b) (i.whole.all b (subst (λ n. b < n) (nd.count ∙ ar.count ∙ sw.count) k)))))));
   };
-  stands = entry_keeps_hold mesh.history e gone fresh old between new i.stands next sw nd;
+  stands = any_keeps_hold mesh.history e gone fresh old swap put new i.stands next sw ar nd;
 }
 
 -- one more is counted
@@ -364,12 +368,32 @@ pub mesh_sound : (hold : InHand) (mesh : MeshView) → mesh_in hold ≡ mesh →
 mesh_sound hold mesh v i = subst (λ (m : MeshView). IsSound m.history) v (sound_of hold (history_in hold.places) i.stands)
 
 -- what the change of a mesh makes of its hold and of its count: the mesh with the entry
-pub mesh_changed : (old ready between new : InHand) (mesh : MeshView) (gone fresh : List Cell) (e : Entry) (n count : ℕ) → mesh_in old ≡ mesh → IsHoldOf (mesh_in old) old × (n ≡ counted (length (history_in old.places))) → IsKey (point_of e.edit) → Follows mesh.history e gone fresh → ready.grid ≡ old.grid → ready.places ≡ old.places → IsSwapped gone fresh ready between → IsNoted e between new → count ≡ min (n + 1) (2 ^ 64 - 1)
+pub mesh_changed : (old ready swap put new : InHand) (mesh : MeshView) (gone fresh : List Cell) (e : Entry) (n count : ℕ) → mesh_in old ≡ mesh → IsHoldOf (mesh_in old) old × (n ≡ counted (length (history_in old.places))) → HasKeys e.edit → Follows mesh.history e gone fresh → ready.grid ≡ old.grid → ready.places ≡ old.places → IsSwapped gone fresh ready swap → IsArrived e swap put → IsNoted e put new → count ≡ min (n + 1) (2 ^ 64 - 1)
     → (mesh_in new ≡ record mesh { history = mesh.history ++ e ∷ [] }) × (IsHoldOf (mesh_in new) new × (count ≡ counted (length (history_in new.places))))
-mesh_changed old ready between new mesh gone fresh e n count v i key follows g p sw nd q =
+mesh_changed old ready swap put new mesh gone fresh e n count v i keys follows g p sw ar nd q =
     let own = subst (λ m. IsHoldOf m old) v i.0 in
-    let next = next_entry mesh.history e gone fresh (mesh_sound old mesh v i.0) key follows in
-    let k = changed_hold mesh ready between new gone fresh e (roomed mesh old ready g p own) next sw nd in
+    let next = next_entry mesh.history e gone fresh (mesh_sound old mesh v i.0) keys follows in
+    let k = changed_hold mesh ready swap put new gone fresh e (roomed mesh old ready g p own) next sw ar nd in
     let w = mesh_is (record mesh { history = mesh.history ++ e ∷ [] }) new k in
     let h = ap (λ (m : MeshView). m.history) v in
     (w, (subst (λ m. IsHoldOf m new) (sym w) k, count_more mesh.history e n count (i.1 ∙ ap (λ l. counted (length l)) h) q ∙ ap (λ (m : MeshView). counted (length m.history)) (sym w)))
+
+-- the place to which a point has moved can come, after the cells were exchanged
+pub goal_comes : (mesh : MeshView) (hold ready swap : InHand) (gone fresh : List Cell) (e : Entry) → IsHoldOf mesh hold → Follows mesh.history e gone fresh → ready.grid ≡ hold.grid → ready.places ≡ hold.places → IsSwapped gone fresh ready swap → swap.room.point ≡ goal_of e.edit → IfSome (came e.edit e.reply) (CanCome swap)
+goal_comes mesh hold ready swap gone fresh e i f g p sw room = if_some (λ q. (is_among q (replay mesh.history) ≡ false) × (goal_of e.edit ≡ Some q)) (CanCome swap) (came e.edit e.reply) each (came_free (replay mesh.history) e.edit e.reply f.reply)
+  where
+    same : (b : ℕ) → points_in swap.places b ≡ points_in hold.places b
+    same b = ap (λ o. option_map_or (λ (x : BucketContent). x.points) o []) (sw.places b) ∙ keeps (bucket_at ready.places b) ∙ ap (λ l. points_in l b) p
+      where
+        keeps : (o : Option BucketContent) → option_map_or (λ (x : BucketContent). x.points) (option_map (swapped_in ready.grid b gone fresh) o) [] ≡ option_map_or (λ x. x.points) o []
+        keeps None = refl
+        keeps (Some c) = refl
+
+    each : (q : ℕ) → (is_among q (replay mesh.history) ≡ false) × (goal_of e.edit ≡ Some q) → CanCome swap q
+    each q k = record {
+      room = room ∙ k.1;
+      absent =
+          ap (λ n. is_among q (points_in swap.places (bucket_of n q))) (sw.grid ∙ g)
+          ∙ ap (is_among q) (same (bucket_of hold.grid q))
+          ∙ held_point hold (replay mesh.history) q (shows_of mesh hold i) (held_by mesh hold q i) ∙ k.0;
+    }

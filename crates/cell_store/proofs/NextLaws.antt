@@ -14,10 +14,10 @@ use Rattle.point_order.specs.Sets.{IsIn, IsAscending, with_point, without_point}
 use Rattle.point_order.proofs.Cited.{ascending_with, in_with, in_with_new, in_with_old}
 use Rattle.edit_history.specs.declared.history.Entry.{Entry}
 use Rattle.edit_history.specs.declared.history.Reply.{Reply}
-use Rattle.edit_history.specs.declared.history.Reply.TheVariants.{Inserted, Duplicate, Removed, Missing, Flat}
-use Rattle.edit_history.specs.Edits.{point_of, changed, after}
+use Rattle.edit_history.specs.declared.history.Reply.TheVariants.{Inserted, Duplicate, Removed, Missing, Flat, Moved, Occupied}
+use Rattle.edit_history.specs.Edits.{is_move, point_of, reply_to, changed, after}
 use Rattle.edit_history.specs.Histories.{replay, replay_from, IsLegal, IsLegalFrom}
-use Rattle.edit_history.proofs.Cited.{leaves_set, legal_more, replay_more}
+use Rattle.edit_history.proofs.Cited.{arrived_still, leaves_set, legal_more, replay_more}
 use Rattle.del_laws.proofs.Cited.{complex_is_sorted, same_members}
 use Rattle.hole_laws.specs.Edits.{IsSolidSet}
 use Rattle.hole_laws.proofs.Cited.{stays_solid}
@@ -60,11 +60,11 @@ cells_after g b h k gone fresh ch =
 -- ---- the points
 
 -- the test whether a point lies in a bucket
-abbrev lies : ℕ → ℕ → ℕ → Bool
+abbrev pub lies : ℕ → ℕ → ℕ → Bool
 lies g b p = bucket_of g p == b
 
 -- a filtered set after a change: where the point passes the test, the change of the filtered set
-filter_with : (t : ℕ → Bool) (p : ℕ) (s : List ℕ) → IsAscending s → t p ≡ true → with_point p (filter t s) ≡ filter t (with_point p s)
+pub filter_with : (t : ℕ → Bool) (p : ℕ) (s : List ℕ) → IsAscending s → t p ≡ true → with_point p (filter t s) ≡ filter t (with_point p s)
 filter_with t p s a e =
     same-members (with_point p (filter t s)) (filter t (with_point p s)) (ascending_with p (filter t s) (filtered_ascending t s a)) (filtered_ascending t (with_point p s) (ascending_with p s a))
     (λ q i. elim (in_with p q (filter t s) i) [
@@ -77,7 +77,7 @@ filter_with t p s a e =
     ]))
 
 -- and where it does not, no change
-filter_with_else : (t : ℕ → Bool) (p : ℕ) (s : List ℕ) → IsAscending s → t p ≡ false → filter t s ≡ filter t (with_point p s)
+pub filter_with_else : (t : ℕ → Bool) (p : ℕ) (s : List ℕ) → IsAscending s → t p ≡ false → filter t s ≡ filter t (with_point p s)
 filter_with_else t p s a e =
     same-members (filter t s) (filter t (with_point p s)) (filtered_ascending t s a) (filtered_ascending t (with_point p s) (ascending_with p s a))
     (λ q i. (let r = filtered_from t s q i in filtered_true t (with_point p s) q (in_with_old p q s r.0) r.1))
@@ -107,6 +107,8 @@ points_after t p Duplicate s a e = refl
 points_after t p Removed s a e = filter_swap t (λ q. not (q == p)) s a
 points_after t p Missing s a e = refl
 points_after t p Flat s a e = refl
+points_after t p Moved s a e = filter_swap t (λ q. not (q == p)) s a
+points_after t p Occupied s a e = refl
 
 pub points_stay : (t : ℕ → Bool) (p : ℕ) (r : Reply) (s : List ℕ) → IsAscending s → t p ≡ false → filter t s ≡ filter t (changed s p r)
 points_stay t p Inserted s a e = filter_with_else t p s a e
@@ -114,15 +116,17 @@ points_stay t p Duplicate s a e = refl
 points_stay t p Removed s a e = filter_without_else t p s a e
 points_stay t p Missing s a e = refl
 points_stay t p Flat s a e = refl
+points_stay t p Moved s a e = filter_without_else t p s a e
+points_stay t p Occupied s a e = refl
 
 -- ---- one more entry
 
 -- what a history with an entry leaves
-pub replay_next : (h : List Entry) (e : Entry) → IsLegal (h ++ e ∷ []) → replay (h ++ e ∷ []) ≡ changed (replay h) (point_of e.edit) e.reply
-replay_next h e l = from 0 [] h l
+pub replay_next : (h : List Entry) (e : Entry) → IsLegal (h ++ e ∷ []) → is_move e.edit ≡ false → replay (h ++ e ∷ []) ≡ changed (replay h) (point_of e.edit) e.reply
+replay_next h e l still = from 0 [] h l
   where
     from : (n : ℕ) (s : List ℕ) (h : List Entry) → IsLegalFrom n s (h ++ e ∷ []) → replay_from s (h ++ e ∷ []) ≡ changed (replay_from s h) (point_of e.edit) e.reply
-    from n s [] l = ap (changed s (point_of e.edit)) (sym l.1)
+    from n s [] l = ap (λ t. changed t (point_of e.edit) (reply_to s e.edit)) (arrived_still s e.edit (reply_to s e.edit) still) ∙ ap (changed s (point_of e.edit)) (sym l.1)
     from n s (d ∷ h) l = from (n + 1) (after s d.edit) h l.2
 
 -- the entries of a bucket with one more
@@ -150,7 +154,7 @@ next_entry h e gone fresh sound key f =
     }
 
 pub share_after_entry : ShareAfterEntry
-share_after_entry g b h e gone fresh c next sh = by (lies g b (point_of e.edit)) refl
+share_after_entry g b h e gone fresh c next still sh = by (lies g b (point_of e.edit)) refl
   where
     k : List Entry
     k = h ++ e ∷ []
@@ -160,19 +164,19 @@ share_after_entry g b h e gone fresh c next sh = by (lies g b (point_of e.edit))
 
     by : (o : Bool) → lies g b (point_of e.edit) ≡ o → IsShare g b k (cond o (record (swapped_in g b gone fresh c) { points = changed c.points (point_of e.edit) e.reply; entries = c.entries ++ e ∷ [] }) (swapped_in g b gone fresh c))
     by true t = record {
-      points = ap (λ l. changed l (point_of e.edit) e.reply) sh.points ∙ points_after (lies g b) (point_of e.edit) e.reply (replay h) (leaves_set h) t ∙ ap (filter (lies g b)) (sym (replay_next h e next.legal));
+      points = ap (λ l. changed l (point_of e.edit) e.reply) sh.points ∙ points_after (lies g b) (point_of e.edit) e.reply (replay h) (leaves_set h) t ∙ ap (filter (lies g b)) (sym (replay_next h e next.legal still));
       cells = cells;
       entries = ap (λ l. l ++ e ∷ []) sh.entries ∙ entries_after g b h e t;
     }
     by false t = record {
-      points = sh.points ∙ points_stay (lies g b) (point_of e.edit) e.reply (replay h) (leaves_set h) t ∙ ap (filter (lies g b)) (sym (replay_next h e next.legal));
+      points = sh.points ∙ points_stay (lies g b) (point_of e.edit) e.reply (replay h) (leaves_set h) t ∙ ap (filter (lies g b)) (sym (replay_next h e next.legal still));
       cells = cells;
       entries = sh.entries ∙ entries_stay g b h e t;
     }
 
 pub share_elsewhere : ShareElsewhere
-share_elsewhere g b h e gone fresh c next t f1 f2 sh = record {
-  points = sh.points ∙ points_stay (lies g b) (point_of e.edit) e.reply (replay h) (leaves_set h) t ∙ ap (filter (lies g b)) (sym (replay_next h e next.legal));
+share_elsewhere g b h e gone fresh c next still t f1 f2 sh = record {
+  points = sh.points ∙ points_stay (lies g b) (point_of e.edit) e.reply (replay h) (leaves_set h) t ∙ ap (filter (lies g b)) (sym (replay_next h e next.legal still));
   cells = sym (swapped_none g b gone fresh c.cells f1 f2) ∙ ap (swapped g b gone fresh) sh.cells ∙ cells_after g b h (h ++ e ∷ []) gone fresh next.change;
   entries = sh.entries ∙ entries_stay g b h e t;
 }
@@ -186,12 +190,12 @@ mapped_some {X} f (Some x) y e = (x, refl, same (f x) y e)
     same a b e = cc
 
 pub entry_keeps_hold : EntryKeepsHold
-entry_keeps_hold h e gone fresh old between new st next sw nd = record { legal = next.legal; keys = next.keys; solid = next.solid; shares = each }
+entry_keeps_hold h e gone fresh old between new st next still sw nd = record { legal = next.legal; keys = next.keys; solid = next.solid; shares = each }
   where
     each : (b : ℕ) (c : BucketContent) → bucket_at new.places b ≡ Some c → IsShare new.grid b (h ++ e ∷ []) c
     each b c q =
         let r = mapped_some (noted_in between.grid b e) (bucket_at between.places b) c (sym (nd.places b) ∙ q) in
         let u = mapped_some (swapped_in old.grid b gone fresh) (bucket_at old.places b) r.0 (sym (sw.places b) ∙ r.1) in
-        let s = share_after_entry old.grid b h e gone fresh u.0 next (st.shares b u.0 u.1) in
+        let s = share_after_entry old.grid b h e gone fresh u.0 next still (st.shares b u.0 u.1) in
         let v : noted_in old.grid b e (swapped_in old.grid b gone fresh u.0) ≡ c = ap (noted_in old.grid b e) u.2 ∙ ap (λ g. noted_in g b e r.0) (sym sw.grid) ∙ r.2 in
         subst (λ g. IsShare g b (h ++ e ∷ []) c) (sym (nd.grid ∙ sw.grid)) (subst (IsShare old.grid b (h ++ e ∷ [])) v s)

@@ -1,26 +1,29 @@
 -- What an exchange makes of the buckets of a hold, from the lists that were ready.
-use Rattle.std.specs.Prelude.{◌≡◌, ◌≢◌, ℕ, ◌+◌, zero, suc, ◌<◌, ◌==◌, Bool, true, false, cond, List, [], ◌∷◌, ◌++◌, ◌⊎◌, Option, None, Some, IsSome, IsSomeAnd, length, map, slice_index_or, slice_set}
+use Rattle.std.specs.Prelude.{◌≡◌, ◌≢◌, ℕ, ◌+◌, zero, suc, ◌<◌, ◌==◌, Bool, true, false, not, List, [], ◌∷◌, ◌++◌, ◌⊎◌, Option, None, Some, IsSome, IsSomeAnd, length, map, slice_index_or, slice_set}
 use Rattle.std.specs.List.{dedup}
 use Rattle.std.specs.List.Sorted.{IsPermutation}
-use Rattle.std.specs.Option.{option_map}
-use Rattle.std.proofs.Common.{refl, sym, ◌∙◌, ap, subst, inl, inr, arith, take, eqb, add-one}
-use Rattle.std.proofs.lemmas.List.{get_or-set_same, get_or-set_other}
-use Rattle.list_laws.proofs.Cited.{and_known, any_none, below_each, differ_from, from_append, in_left, in_right, mapped_from, mapped_true, numbers_same, of_some, same_from, take_suc, within_list}
+use Rattle.std.specs.Option.{option_map, option_map_or}
+use Rattle.std.proofs.Common.{refl, sym, ◌∙◌, ap, subst, inl, inr, arith, drop, take, eqb, add-one, ◌≤◌}
+use Rattle.std.proofs.Math.Seq.{drop-cons}
+use Rattle.std.proofs.lemmas.Bool.{cases_eq}
+use Rattle.std.proofs.lemmas.List.{drop-set-lt, take_all, take_more_set}
+use Rattle.list_laws.proofs.Cited.{and_known, any_none, at_place, below_each, from_append, in_left, in_right, mapped_from, mapped_true, numbers_same, of_some, one_value, same_from, take_next, take_suc, to_some, within_list}
 use Rattle.point_order.specs.declared.cell.Cell.{Cell}
 use Rattle.point_order.specs.Facets.{points_of}
 use Rattle.point_order.specs.Sets.{IsIn}
 use Rattle.cell_store.specs.Grids.{bucket_of}
 use Rattle.point_order.specs.Sets.{IsAscending}
-use Rattle.cell_stars.specs.Places.{cells_of, swapped_at}
+use Rattle.cell_stars.specs.Places.{Placed, cells_of, swapped_at}
 use Rattle.cell_stars.specs.Gathering.{Gathers}
-use Rattle.cell_stars.specs.Plans.{Allows, IsPlanFor, done}
-use Rattle.cell_store.specs.Buckets.{BucketContent, Layout, InHand, StandAtPlaces, bucket_at, content_of, layout_at, shown}
+use Rattle.cell_stars.specs.Plans.{PlanView, IsPlanFor}
+use Rattle.cell_stars.specs.Turns.{AreReady}
+use Rattle.cell_store.specs.Buckets.{BucketContent, Layout, InHand, StandAtPlaces, bucket_at, cells_in, content_of, layout_at, shown}
 use Rattle.cell_store.specs.Changes.{NoneTouches, swapped_in, IsSwapped}
-use Rattle.cell_store.specs.Ready.{AreApart, AreHeld, AreInHand, HasNumber, HasRoom, IsNumberOf, IsAllowed, IsNoteReady, IsReady, IsReadyFor, NoneIsFor, carried, given, numbers_of}
+use Rattle.cell_store.specs.Ready.{AreApart, AreExchanged, AreHeld, AreInHand, AreMade, AreTurned, CanTurn, HasNumber, IsAllowed, IsExchange, IsExchanged, IsNumberOf, IsReady, IsReadyFor, IsTurned, IsTurnedIn, NoneIsFor, numbers_of}
 use Rattle.cell_store.specs.declared.room.PlanFor.{PlanFor}
 use Rattle.cell_store.proofs.Layouts.{shown_at, shown_is, shown_some}
-use Rattle.cell_store.specs.Swaps.{swapped}
-use Rattle.cell_stars.proofs.Cited.{swapped_none}
+use Rattle.cell_store.specs.Swaps.{touches}
+use Rattle.cell_stars.proofs.Cited.{swapped_none, turn_is_one, turn_leads_back}
 
 -- ---- the numbers of the touched buckets
 
@@ -49,6 +52,11 @@ pub held_in_hand : (hold : InHand) (g : ℕ) (places : List (Option Layout)) (ce
 held_in_hand hold g places cells eg ep h b i =
     let r = numbers_from g b cells i in
     sym (shown_some places b) ∙ subst (λ l. IsSome (bucket_at l b)) (sym ep) (subst (λ n. IsSome (bucket_at hold.places n)) (ap (λ n. bucket_of n r.point) (sym eg) ∙ r.number) (h r.cell r.listed r.point r.vertex))
+
+-- so is that of a held point
+pub held_there : (hold : InHand) (g p : ℕ) (places : List (Option Layout)) → g ≡ hold.grid → shown places ≡ hold.places → IsSome (bucket_at hold.places (bucket_of hold.grid p)) → IsSome (layout_at places (bucket_of g p))
+held_there hold g p places eg ep h =
+    sym (shown_some places (bucket_of g p)) ∙ subst (λ l. IsSome (bucket_at l (bucket_of g p))) (sym ep) (subst (λ n. IsSome (bucket_at hold.places (bucket_of n p))) (sym eg) h)
 
 -- a bucket whose number is not among them is not touched
 pub not_touched : (g b : ℕ) (cells : List Cell) → (IsIn b (numbers_of g cells) → ⊥) → NoneTouches g b cells
@@ -94,89 +102,250 @@ numbers_are g gone fresh none first second sorted deduped e s t p d n =
 
 -- ---- plans for buckets
 
--- no plan makes a bucket
-given_none : (plans : List PlanFor) (b : ℕ) → given plans b None ≡ None
-given_none [] b = refl
-given_none (l ∷ plans) b = by (l.number == b) (given_none plans b)
-  where
-    by : (t : Bool) → given plans b None ≡ None → given plans b (cond t (option_map (carried l.plan) None) None) ≡ None
-    by true e = e
-    by false e = e
+-- a plan that makes the exchange can be carried out, or turned back
+can_turn : (t : Bool) (gone fresh : List Cell) (b : Placed) (p : PlanView) → IsExchange t gone fresh b p → CanTurn t p b
+can_turn false gone fresh b p e = e.allows
+can_turn true gone fresh b p e = record { plan = e.plan; bucket = e.bucket; turn = e.turn }
 
--- a bucket for which there is no plan stays
-given_same : (plans : List PlanFor) (b : ℕ) (o : Option Layout) → NoneIsFor b plans → given plans b o ≡ o
-given_same [] b o n = refl
-given_same (l ∷ plans) b o n = by (l.number == b) refl (given_same plans b o (λ k i. n k (inr i)))
-  where
-    by : (t : Bool) → (l.number == b) ≡ t → given plans b o ≡ o → given plans b (cond t (option_map (carried l.plan) o) o) ≡ o
-    by true e r = absurd (n l (inl refl) (same_from l.number b e))
-    by false e r = r
+-- what it makes of the bucket
+turn_place : (t : Bool) (p q : PlanView) (b c : Placed) → IsTurned t p b q c → c.place ≡ b.place
+turn_place false p q b c s = ap (λ (x : Placed). x.place) s.bucket
+turn_place true p q b c s = sym (ap (λ (x : Placed). x.place) s.bucket)
 
--- the plan for a bucket, if there is one
-record HasPlan (plans : List PlanFor) (b : ℕ) (c : Layout) : Type 0 where
+turn_cells : (t : Bool) (gone fresh : List Cell) (p q : PlanView) (b c : Placed) → IsExchange t gone fresh b p → IsTurned t p b q c → cells_of c.slots ≡ swapped_at b.place gone fresh (cells_of b.slots)
+turn_cells false gone fresh p q b c e s = ap (λ (x : Placed). cells_of x.slots) s.bucket ∙ e.cells
+turn_cells true gone fresh p q b c e s =
+    let one = turn_is_one q e.plan p c e.bucket b s e.turn in
+    ap (λ (x : Placed). cells_of x.slots) one.1 ∙ e.cells
+
+-- then it makes the exchange back
+turn_ready : (t : Bool) (gone fresh : List Cell) (p q : PlanView) (b c : Placed) → IsExchange t gone fresh b p → IsTurned t p b q c → AreReady b.place gone fresh (cells_of b.slots) → IsExchange (not t) fresh gone c q
+turn_ready false gone fresh p q b c e s r = turn_leads_back gone fresh p q b c e s r
+turn_ready true gone fresh p q b c e s r =
+    let one = turn_is_one q e.plan p c e.bucket b s e.turn in
+    subst (λ (x : Placed). IsPlanFor fresh gone x q) (sym one.1) (subst (λ (x : PlanView). IsPlanFor fresh gone e.bucket x) (sym one.0) e.there)
+
+-- ---- all plans, one after another
+
+-- a plan for the bucket, carried out or turned back, if there is one
+record HasTurn (t : Bool) (plans after : List PlanFor) (b : ℕ) (old new : List (Option Layout)) : Type 0 where
   pub plan : PlanFor
+  pub made : PlanFor
   pub listed : IsIn plan plans
+  pub among : IsIn made after
   pub number : plan.number ≡ b
-  pub made : given plans b (Some c) ≡ Some (carried plan.plan c)
+  pub turned : IsTurnedIn t plan made old new
 
-given_some : (plans : List PlanFor) (b : ℕ) (c : Layout) → AreApart plans → HasPlan plans b c ⊎ NoneIsFor b plans
-given_some [] b c a = inr (λ l i. absurd i)
-given_some (l ∷ plans) b c a = by (l.number == b) refl (given_some plans b c a.1)
+turn_of : (t : Bool) (plans after : List PlanFor) (b : ℕ) (old new : List (Option Layout)) → AreTurned t plans after old new → HasTurn t plans after b old new ⊎ NoneIsFor b plans
+turn_of t [] [] b old new a = inr (λ l i. absurd i)
+turn_of t [] (m ∷ ms) b old new a = absurd a
+turn_of t (l ∷ ls) [] b old new a = absurd a
+turn_of t (l ∷ ls) (m ∷ ms) b old new a = elim (cases_eq l.number b) [
+  | inl e ↦ inl (record { plan = l; made = m; listed = inl refl; among = inl refl; number = e; turned = a.0 })
+  | inr n ↦ elim (turn_of t ls ms b old new a.1) [
+    | inl h ↦ inl (record { plan = h.plan; made = h.made; listed = inr h.listed; among = inr h.among; number = h.number; turned = h.turned })
+    | inr f ↦ inr (λ k i. elim i [ inl q ↦ subst (λ (x : PlanFor). x.number ≢ b) q n | inr j ↦ f k j ])
+  ]
+]
+
+turn_from : (t : Bool) (plans after : List PlanFor) (old new : List (Option Layout)) (m : PlanFor) → AreTurned t plans after old new → IsIn m after → (l : PlanFor) × IsIn l plans × IsTurnedIn t l m old new
+turn_from t [] [] old new m a i = absurd i
+turn_from t [] (n ∷ ms) old new m a i = absurd a
+turn_from t (l ∷ ls) [] old new m a i = absurd a
+turn_from t (l ∷ ls) (n ∷ ms) old new m a (inl e) = (l, inl refl, subst (λ (x : PlanFor). IsTurnedIn t l x old new) e a.0)
+turn_from t (l ∷ ls) (n ∷ ms) old new m a (inr i) = (let r = turn_from t ls ms old new m a.1 i in (r.0, inr r.1, r.2))
+
+-- the plans are for the same buckets
+none_after : (t : Bool) (plans after : List PlanFor) (b : ℕ) (old new : List (Option Layout)) → AreTurned t plans after old new → NoneIsFor b plans → NoneIsFor b after
+none_after t plans after b old new a n m i e = (let r = turn_from t plans after old new m a i in n r.0 r.1 (sym r.2.number ∙ e))
+
+none_before : (t : Bool) (plans after : List PlanFor) (b : ℕ) (old new : List (Option Layout)) → AreTurned t plans after old new → NoneIsFor b after → NoneIsFor b plans
+none_before t plans after b old new a n = elim (turn_of t plans after b old new a) [
+  | inl h ↦ absurd (n h.made h.among (h.turned.number ∙ h.number))
+  | inr f ↦ f
+]
+
+apart_after : (t : Bool) (plans after : List PlanFor) (old new : List (Option Layout)) → AreTurned t plans after old new → AreApart plans → AreApart after
+apart_after t [] [] old new a p = tt
+apart_after t [] (m ∷ ms) old new a p = absurd a
+apart_after t (l ∷ ls) [] old new a p = absurd a
+apart_after t (l ∷ ls) (m ∷ ms) old new a p = (subst (λ (n : ℕ). NoneIsFor n ms) (sym a.0.number) (none_after t ls ms l.number old new a.1 p.0), apart_after t ls ms old new a.1 p.1)
+
+-- the first k plans were made
+pub record AreMadeFirst (t : Bool) (plans after : List PlanFor) (old new : List (Option Layout)) (k : ℕ) : Type 0 where
+  pub count : length new ≡ length old
+  pub turned : AreTurned t (take k plans) (take k after) old new
+  pub rest : drop k after ≡ drop k plans
+  pub others : (b : ℕ) → NoneIsFor b (take k plans) → layout_at new b ≡ layout_at old b
+
+pub made_none : (t : Bool) (plans : List PlanFor) (places : List (Option Layout)) → AreMadeFirst t plans plans places places 0
+made_none t plans places = record { count = refl; turned = tt; rest = refl; others = λ b n. refl }
+
+pub made_all : (t : Bool) (plans after : List PlanFor) (old new : List (Option Layout)) (k : ℕ) → length after ≡ length plans → length after ≤ k → AreMadeFirst t plans after old new k → AreMade t plans after old new
+made_all t plans after old new k e h m =
+    let first = take_all k plans (let q = e in omega arith) in
+    let last = take_all k after h in
+    record {
+      count = m.count;
+      turned = subst (λ ls. AreTurned t ls after old new) first (subst (λ ls. AreTurned t (take k plans) ls old new) last m.turned);
+      others = λ b n. m.others b (subst (NoneIsFor b) (sym first) n);
+    }
+
+turned_moves : (t : Bool) (plans after : List PlanFor) (old new next : List (Option Layout)) → ((l : PlanFor) → IsIn l plans → layout_at next l.number ≡ layout_at new l.number) → AreTurned t plans after old new → AreTurned t plans after old next
+turned_moves t [] [] old new next f a = tt
+turned_moves t [] (m ∷ ms) old new next f a = absurd a
+turned_moves t (l ∷ ls) [] old new next f a = absurd a
+turned_moves t (l ∷ ls) (m ∷ ms) old new next f a = (
+  (let r = a.0 in record { number = r.number; before = r.before; was = r.was; after = r.after; is = f l (inl refl) ∙ r.is; rest = r.rest; turned = r.turned }),
+  turned_moves t ls ms old new next (λ k i. f k (inr i)) a.1,
+)
+
+turned_snoc : (t : Bool) (plans after : List PlanFor) (l m : PlanFor) (old new : List (Option Layout)) → AreTurned t plans after old new → IsTurnedIn t l m old new → AreTurned t (plans ++ l ∷ []) (after ++ m ∷ []) old new
+turned_snoc t [] [] l m old new a r = (r, tt)
+turned_snoc t [] (n ∷ ms) l m old new a r = absurd a
+turned_snoc t (k ∷ ls) [] l m old new a r = absurd a
+turned_snoc t (k ∷ ls) (n ∷ ms) l m old new a r = (a.0, turned_snoc t ls ms l m old new a.1 r)
+
+-- the plans before one are for other buckets
+apart_before : (plans : List PlanFor) (k : ℕ) (l : PlanFor) → k < length plans → l ≡ slice_index_or plans k l → AreApart plans → NoneIsFor l.number (take k plans)
+apart_before [] k l h e a = absurd (omega arith)
+apart_before (x ∷ plans) zero l h e a = λ m i. absurd i
+apart_before (x ∷ plans) (suc k) l h e a = λ m i. elim i [
+  | inl q ↦ subst (λ (y : PlanFor). y.number ≢ l.number) q (λ s. a.0 l (at_place plans k l l (omega arith) e) (sym s))
+  | inr j ↦ apart_before plans k l (omega arith) e a.1 m j
+]
+
+-- the next plan
+next_plan : (t : Bool) (plans after : List PlanFor) (old new : List (Option Layout)) (k : ℕ) (l : PlanFor) → k < length after → length after ≡ length plans → l ≡ slice_index_or after k l → AreMadeFirst t plans after old new k → l ≡ slice_index_or plans k l
+next_plan t plans after old new k l h e q m =
+    let a = drop-cons after k l h in
+    let b = drop-cons plans k l (let r = e in omega arith) in
+    q ∙ cc (a, b, m.rest)
+
+-- it can be made
+pub next_allowed : (t : Bool) (plans after : List PlanFor) (old new : List (Option Layout)) (k : ℕ) (l : PlanFor) → k < length after → length after ≡ length plans → l ≡ slice_index_or after k l → AreApart plans → ((x : PlanFor) → IsIn x plans → IsAllowed t old x) → AreMadeFirst t plans after old new k → IsAllowed t new l
+next_allowed t plans after old new k l h e q a f m =
+    let p = next_plan t plans after old new k l h e q m in
+    let within : k < length plans = (let r = e in omega arith) in
+    subst (λ o. IsSomeAnd o (λ c. CanTurn t l.plan c.cells)) (sym (m.others l.number (apart_before plans k l within p a))) (f l (at_place plans k l l within p))
+
+-- and was
+pub made_next : (t : Bool) (plans after : List PlanFor) (old new next : List (Option Layout)) (k : ℕ) (l m : PlanFor) → k < length after → length after ≡ length plans → l ≡ slice_index_or after k l → AreApart plans → AreMadeFirst t plans after old new k →
+    length next ≡ length new → IsTurnedIn t l m new next → ((b : ℕ) → b ≢ l.number → layout_at next b ≡ layout_at new b) → AreMadeFirst t plans (slice_set after k m) old next (k + 1)
+made_next t plans after old new next k l m h e q a s c r f = record {
+  count = c ∙ s.count;
+  turned = subst (λ ls. AreTurned t ls (take (k + 1) (slice_set after k m)) old next) (sym first) (subst (λ ls. AreTurned t (take k plans ++ l ∷ []) ls old next) (sym last) (turned_snoc t (take k plans) (take k after) l m old next there here));
+  rest = (let u : k < k + 1 = omega arith in drop-set-lt (k + 1) after k m u) ∙ rest;
+  others = λ b n. f b (λ w. n l (subst (IsIn l) (sym first) (in_right l (take k plans) (l ∷ []) (inl refl))) (sym w)) ∙ s.others b (λ x i. n x (subst (IsIn x) (sym first) (in_left x (take k plans) (l ∷ []) i)));
+}
   where
-    by : (t : Bool) → (l.number == b) ≡ t → HasPlan plans b c ⊎ NoneIsFor b plans → HasPlan (l ∷ plans) b c ⊎ NoneIsFor b (l ∷ plans)
-    by true e r = inl (record {
-      plan = l;
-      listed = inl refl;
-      number = same_from l.number b e;
-      made = ap (λ t. given plans b (cond t (Some (carried l.plan c)) (Some c))) e ∙ given_same plans b (Some (carried l.plan c)) (subst (λ n. NoneIsFor n plans) (same_from l.number b e) a.0);
+    p : l ≡ slice_index_or plans k l
+    p = next_plan t plans after old new k l h e q s
+
+    within : k < length plans
+    within = let r = e in omega arith
+
+    apart : NoneIsFor l.number (take k plans)
+    apart = apart_before plans k l within p a
+
+    first : take (k + 1) plans ≡ take k plans ++ l ∷ []
+    first = take_next plans k l within p
+
+    last : take (k + 1) (slice_set after k m) ≡ take k after ++ m ∷ []
+    last = take_more_set after k m h
+
+    rest : drop (k + 1) after ≡ drop (k + 1) plans
+    rest =
+        let u = drop-cons after k l h in
+        let v = drop-cons plans k l within in
+        ap (λ n. drop n after) (add-one k) ∙ cc (u, v, s.rest) ∙ ap (λ n. drop n plans) (sym (add-one k))
+
+    there : AreTurned t (take k plans) (take k after) old next
+    there = turned_moves t (take k plans) (take k after) old new next (λ x i. f x.number (apart x i)) s.turned
+
+    here : IsTurnedIn t l m old next
+    here = record { number = r.number; before = r.before; was = sym (s.others l.number apart) ∙ r.was; after = r.after; is = r.is; rest = r.rest; turned = r.turned }
+
+-- ---- what all plans make of the buckets
+
+-- a plan that makes the exchange can be made
+pub ready_allowed : (t : Bool) (g : ℕ) (gone fresh : List Cell) (places : List (Option Layout)) (plans : List PlanFor) → IsReady t g gone fresh places plans → (l : PlanFor) → IsIn l plans → IsAllowed t places l
+ready_allowed t g gone fresh places plans r l i = by (layout_at places l.number) (r.each l i)
+  where
+    by : (o : Option Layout) → IsSomeAnd o (λ c. IsExchange t gone fresh c.cells l.plan) → IsSomeAnd o (λ c. CanTurn t l.plan c.cells)
+    by None h = h
+    by (Some c) h = can_turn t gone fresh c.cells l.plan h
+
+-- the exchange in one bucket
+ready_at : (t : Bool) (g : ℕ) (gone fresh : List Cell) (places : List (Option Layout)) (plans : List PlanFor) (l : PlanFor) (c : Layout) → IsReady t g gone fresh places plans → IsIn l plans → layout_at places l.number ≡ Some c → IsExchange t gone fresh c.cells l.plan
+ready_at t g gone fresh places plans l c r i e = of_some (λ d. IsExchange t gone fresh d.cells l.plan) (layout_at places l.number) c e (r.each l i)
+
+exchanged_one : (t : Bool) (g b : ℕ) (gone fresh : List Cell) (l m : PlanFor) (old new : List (Option Layout)) (c : Layout) → IsTurnedIn t l m old new → l.number ≡ b → layout_at old b ≡ Some c → c.cells.place ≡ Some (g, b) → IsExchange t gone fresh c.cells l.plan → AreExchanged g b gone fresh (Some c) (layout_at new b)
+exchanged_one t g b gone fresh l m old new c r q e home x =
+    let same : r.before ≡ c = one_value r.before c (sym (ap (layout_at old) (sym q) ∙ r.was) ∙ e) in
+    let turned : IsTurned t l.plan c.cells m.plan r.after.cells = subst (λ (y : Layout). IsTurned t l.plan y.cells m.plan r.after.cells) same r.turned in
+    to_some (λ d. IsExchanged g b gone fresh c d) (layout_at new b) r.after (ap (layout_at new) (sym q) ∙ r.is) (record {
+      rest = r.rest ∙ ap (λ (y : Layout). record y { cells = r.after.cells }) same;
+      place = turn_place t l.plan m.plan c.cells r.after.cells turned;
+      cells = turn_cells t gone fresh l.plan m.plan c.cells r.after.cells x turned ∙ ap (λ o. swapped_at o gone fresh (cells_of c.cells.slots)) home;
     })
-    by false e (inl h) = inl (record { plan = h.plan; listed = inr h.listed; number = h.number; made = ap (λ t. given plans b (cond t (Some (carried l.plan c)) (Some c))) e ∙ h.made })
-    by false e (inr n) = inr (λ k i. elim i [ inl s ↦ subst (λ (x : PlanFor). x.number ≢ b) s (differ_from l.number b e) | inr j ↦ n k j ])
 
--- one plan is carried out, and the others are left
-pub given_next : (items rest : List PlanFor) (l : PlanFor) (places : List (Option Layout)) (n : ℕ) (x y : Option Layout) → items ≡ l ∷ rest → n ≡ l.number → n < length places → x ≡ slice_index_or places n x → y ≡ option_map (carried l.plan) (slice_index_or places n x) → (b : ℕ) → given rest b (layout_at (slice_set places n y) b) ≡ given items b (layout_at places b)
-given_next items rest l places n x y e q h f g b = by (l.number == b) refl ∙ sym (ap (λ ls. given ls b (layout_at places b)) e)
+pub exchanged : (t : Bool) (g : ℕ) (gone fresh : List Cell) (old new : List (Option Layout)) (plans after : List PlanFor) → IsReady t g gone fresh old plans → StandAtPlaces g (shown old) → AreMade t plans after old new → (b : ℕ) → AreExchanged g b gone fresh (layout_at old b) (layout_at new b)
+exchanged t g gone fresh old new plans after r st m b = by (layout_at old b) refl
   where
-    new : Option Layout → Option Layout
-    new o = option_map (carried l.plan) o
-
-    by : (t : Bool) → (l.number == b) ≡ t → given rest b (layout_at (slice_set places n y) b) ≡ given rest b (cond (l.number == b) (new (layout_at places b)) (layout_at places b))
-    by true w =
-        let k = q ∙ same_from l.number b w in
-        ap (given rest b) (ap (layout_at (slice_set places n y)) (sym k) ∙ get_or-set_same places n y None h ∙ g ∙ ap new (sym f ∙ sym (within_list places n x None h f) ∙ ap (layout_at places) k) ∙ ap (λ t. cond t (new (layout_at places b)) (layout_at places b)) (sym w))
-    by false w =
-        ap (given rest b) (get_or-set_other places n b y None (λ k. differ_from l.number b w (sym q ∙ sym k)) ∙ ap (λ t. cond t (new (layout_at places b)) (layout_at places b)) (sym w))
-
--- the others can be carried out then
-pub allowed_next : (items rest : List PlanFor) (l : PlanFor) (places : List (Option Layout)) (n : ℕ) (y : Option Layout) → items ≡ l ∷ rest → n ≡ l.number → AreApart items → ((k : PlanFor) → IsIn k items → IsAllowed places k) → (k : PlanFor) → IsIn k rest → IsAllowed (slice_set places n y) k
-allowed_next items rest l places n y e q a f k i =
-    let d : k.number ≢ l.number = (subst AreApart e a).0 k i in
-    subst (λ o. IsSomeAnd o (λ c. Allows k.plan c.cells)) (sym (get_or-set_other places n k.number y None (λ s. d (s ∙ q)))) (f k (subst (IsIn k) (sym e) (inr i)))
-
-pub apart_next : (items rest : List PlanFor) (l : PlanFor) → items ≡ l ∷ rest → AreApart items → AreApart rest
-apart_next items rest l e a = (subst AreApart e a).1
-
--- every bucket for which there is a plan shows what it has after the exchange
-place_given : (g : ℕ) (gone fresh : List Cell) (places : List (Option Layout)) (plans : List PlanFor) → IsReady g gone fresh places plans → StandAtPlaces g (shown places) → (b : ℕ) → option_map content_of (given plans b (layout_at places b)) ≡ option_map (swapped_in g b gone fresh) (option_map content_of (layout_at places b))
-place_given g gone fresh places plans r st b = by (layout_at places b) refl
-  where
-    by_plan : (c : Layout) (l : PlanFor) → layout_at places b ≡ Some c → IsIn l plans → l.number ≡ b → cells_of (done l.plan c.cells).slots ≡ swapped g b gone fresh (cells_of c.cells.slots)
-    by_plan c l e i q =
-        let p = of_some (λ d. IsPlanFor gone fresh d.cells l.plan) (layout_at places b) c e (subst (λ n. IsSomeAnd (layout_at places n) (λ d. IsPlanFor gone fresh d.cells l.plan)) q (r.each l i)) in
-        let home : c.cells.place ≡ Some (g, b) = st b (content_of c) (shown_is places b c e) in
-        p.cells ∙ ap (λ o. swapped_at o gone fresh (cells_of c.cells.slots)) home
-
-    by : (o : Option Layout) → layout_at places b ≡ o → option_map content_of (given plans b o) ≡ option_map (swapped_in g b gone fresh) (option_map content_of o)
-    by None e = ap (option_map content_of) (given_none plans b)
-    by (Some c) e = elim (given_some plans b c r.apart) [
-      | inl h ↦ ap (option_map content_of) h.made ∙ ap (λ (m : List Cell). Some (record (content_of c) { cells = m })) (by_plan c h.plan e h.listed h.number)
-      | inr n ↦ (let u = r.others b n in ap (option_map content_of) (given_same plans b (Some c) n) ∙ ap (λ (m : List Cell). Some (record (content_of c) { cells = m })) (sym (swapped_none g b gone fresh (cells_of c.cells.slots) u.0 u.1)))
+    by : (o : Option Layout) → layout_at old b ≡ o → AreExchanged g b gone fresh o (layout_at new b)
+    by None e = elim (turn_of t plans after b old new m.turned) [
+      | inl h ↦ absurd (cc (sym e ∙ ap (layout_at old) (sym h.number) ∙ h.turned.was))
+      | inr n ↦ m.others b n ∙ e
+    ]
+    by (Some c) e = elim (turn_of t plans after b old new m.turned) [
+      | inl h ↦ exchanged_one t g b gone fresh h.plan h.made old new c h.turned h.number e (st b (content_of c) (shown_is old b c e)) (ready_at t g gone fresh old plans h.plan c r h.listed (ap (layout_at old) h.number ∙ e))
+      | inr n ↦ (let u = r.others b n in to_some (λ d. IsExchanged g b gone fresh c d) (layout_at new b) c (m.others b n ∙ e) (record { rest = refl; place = refl; cells = sym (swapped_none g b gone fresh (cells_of c.cells.slots) u.0 u.1) }))
     ]
 
--- all places after the plans
-pub swapped_places : (g : ℕ) (gone fresh : List Cell) (places after : List (Option Layout)) (plans : List PlanFor) → IsReady g gone fresh places plans → StandAtPlaces g (shown places) → ((b : ℕ) → layout_at after b ≡ given plans b (layout_at places b)) → (b : ℕ) → bucket_at (shown after) b ≡ option_map (swapped_in g b gone fresh) (bucket_at (shown places) b)
-swapped_places g gone fresh places after plans r st f b =
-    shown_at after b ∙ ap (option_map content_of) (f b) ∙ place_given g gone fresh places plans r st b ∙ ap (option_map (swapped_in g b gone fresh)) (sym (shown_at places b))
+-- a bucket shows what it has after the exchange
+shown_exchanged : (g b : ℕ) (gone fresh : List Cell) (c d : Layout) → IsExchanged g b gone fresh c d → content_of d ≡ swapped_in g b gone fresh (content_of c)
+shown_exchanged g b gone fresh c d x = λ i. record { points = (x.rest i).points; cells = x.cells i; entries = (x.rest i).entries; place = x.place i }
+
+pub swapped_places : (g : ℕ) (gone fresh : List Cell) (old new : List (Option Layout)) → ((b : ℕ) → AreExchanged g b gone fresh (layout_at old b) (layout_at new b)) → (b : ℕ) → bucket_at (shown new) b ≡ option_map (swapped_in g b gone fresh) (bucket_at (shown old) b)
+swapped_places g gone fresh old new f b =
+    shown_at new b ∙ by (layout_at old b) (layout_at new b) (f b) ∙ ap (option_map (swapped_in g b gone fresh)) (sym (shown_at old b))
+  where
+    by : (o n : Option Layout) → AreExchanged g b gone fresh o n → option_map content_of n ≡ option_map (swapped_in g b gone fresh) (option_map content_of o)
+    by None n e = ap (option_map content_of) e
+    by (Some c) None e = absurd e
+    by (Some c) (Some d) e = ap (λ (x : BucketContent). Some x) (shown_exchanged g b gone fresh c d e)
+
+-- it keeps all but its cells
+pub rest_exchanged : (P : Layout → Type 0) (g : ℕ) (gone fresh : List Cell) (old new : List (Option Layout)) → ((c : Layout) (x : Placed) → P c → P (record c { cells = x })) → ((b : ℕ) → AreExchanged g b gone fresh (layout_at old b) (layout_at new b)) → (b : ℕ) → IsSomeAnd (layout_at old b) P → IsSomeAnd (layout_at new b) P
+rest_exchanged P g gone fresh old new keeps f b = by (layout_at old b) (layout_at new b) (f b)
+  where
+    by : (o n : Option Layout) → AreExchanged g b gone fresh o n → IsSomeAnd o P → IsSomeAnd n P
+    by None n e h = absurd h
+    by (Some c) None e h = e
+    by (Some c) (Some d) e h = subst P (sym e.rest) (keeps c d.cells h)
+
+-- and is ready for the exchange back
+pub ready_back : (t : Bool) (g : ℕ) (gone fresh : List Cell) (old new : List (Option Layout)) (plans after : List PlanFor) → IsReady t g gone fresh old plans → StandAtPlaces g (shown old) → AreMade t plans after old new →
+    ((b : ℕ) (c : Cell) → IsIn c gone → touches g b c ≡ true → IsIn c (cells_in (shown old) b)) → ((b : ℕ) (c : Cell) → IsIn c fresh → touches g b c ≡ true → IsIn c (cells_in (shown old) b) → ⊥) → IsReady (not t) g fresh gone new after
+ready_back t g gone fresh old new plans after r st m there absent = record {
+  each = each;
+  apart = apart_after t plans after old new m.turned r.apart;
+  others = λ b n. (let u = r.others b (none_before t plans after b old new m.turned n) in (u.1, u.0));
+}
+  where
+    found : (b : ℕ) (c : Layout) → layout_at old b ≡ Some c → AreReady c.cells.place gone fresh (cells_of c.cells.slots)
+    found b c e =
+        let home : c.cells.place ≡ Some (g, b) = st b (content_of c) (shown_is old b c e) in
+        let in_it : cells_in (shown old) b ≡ cells_of c.cells.slots = ap (λ o. option_map_or (λ (x : BucketContent). x.cells) o []) (shown_is old b c e) in
+        subst (λ o. AreReady o gone fresh (cells_of c.cells.slots)) (sym home) (subst (λ l. AreReady (Some (g, b)) gone fresh l) in_it (record { there = λ d i q. there b d i q; absent = λ d i q. absent b d i q }))
+
+    each : (l : PlanFor) → IsIn l after → IsReadyFor (not t) fresh gone new l
+    each n i =
+        let h = turn_from t plans after old new n m.turned i in
+        let u = h.2 in
+        to_some (λ (d : Layout). IsExchange (not t) fresh gone d.cells n.plan) (layout_at new n.number) u.after (ap (layout_at new) u.number ∙ u.is)
+        (turn_ready t gone fresh h.0.plan n.plan u.before.cells u.after.cells (ready_at t g gone fresh old plans h.0 u.before r h.1 u.was) u.turned (found h.0.number u.before u.was))
 
 pub swap_is : (old new : InHand) (g : ℕ) (places after : List (Option BucketContent)) (gone fresh eg ef : List Cell) → g ≡ old.grid → places ≡ old.places → new.grid ≡ g → new.places ≡ after → length after ≡ length places → eg ≡ gone → ef ≡ fresh → ((b : ℕ) → bucket_at after b ≡ option_map (swapped_in g b eg ef) (bucket_at places b)) → IsSwapped gone fresh old new
 swap_is old new g places after gone fresh eg ef e1 e2 e3 e4 e6 e7 e8 f = record {
@@ -190,20 +359,7 @@ swap_is old new g places after gone fresh eg ef e1 e2 e3 e4 e6 e7 e8 f = record 
       ∙ ap (λ l. option_map (swapped_in old.grid b gone fresh) (bucket_at l b)) e2;
 }
 
--- a bucket keeps its room in an exchange
-given_room : (plans : List PlanFor) (b : ℕ) (o : Option Layout) → IsSomeAnd o HasRoom → IsSomeAnd (given plans b o) HasRoom
-given_room [] b o h = h
-given_room (l ∷ plans) b o h = by (l.number == b) o h (given_room plans b)
-  where
-    by : (t : Bool) (o : Option Layout) → IsSomeAnd o HasRoom → ((o : Option Layout) → IsSomeAnd o HasRoom → IsSomeAnd (given plans b o) HasRoom) → IsSomeAnd (given plans b (cond t (option_map (carried l.plan) o) o)) HasRoom
-    by true None h f = absurd h
-    by true (Some c) h f = f (Some (carried l.plan c)) (record { points = h.points; entries = h.entries })
-    by false o h f = f o h
-
-pub note_swapped : (g : ℕ) (places after : List (Option Layout)) (plans : List PlanFor) (p : ℕ) → ((b : ℕ) → layout_at after b ≡ given plans b (layout_at places b)) → IsNoteReady g places p → IsNoteReady g after p
-note_swapped g places after plans p f h = subst (λ o. IsSomeAnd o HasRoom) (sym (f (bucket_of g p))) (given_room plans (bucket_of g p) (layout_at places (bucket_of g p)) h)
-
--- and its place
+-- a bucket keeps its place in an exchange
 pub stand_swapped : (g : ℕ) (gone fresh : List Cell) (places after : List (Option BucketContent)) → ((b : ℕ) → bucket_at after b ≡ option_map (swapped_in g b gone fresh) (bucket_at places b)) → StandAtPlaces g places → StandAtPlaces g after
 stand_swapped g gone fresh places after f st b d e = by (bucket_at places b) refl (sym (f b) ∙ e)
   where
@@ -222,20 +378,12 @@ layout_below [] b s = absurd (cc s)
 layout_below (o ∷ places) zero s = omega arith
 layout_below (o ∷ places) (suc b) s = let h = layout_below places b s in omega arith
 
-pub allowed_below : (places : List (Option Layout)) (l : PlanFor) → IsAllowed places l → l.number < length places
-allowed_below places l a = layout_below places l.number (and_known (λ c. Allows l.plan c.cells) (layout_at places l.number) a)
+pub allowed_below : (t : Bool) (places : List (Option Layout)) (l : PlanFor) → IsAllowed t places l → l.number < length places
+allowed_below t places l a = layout_below places l.number (and_known (λ c. CanTurn t l.plan c.cells) (layout_at places l.number) a)
 
 -- the bucket in which it can
-pub allowed_there : (places : List (Option Layout)) (l : PlanFor) (x : Option Layout) → IsAllowed places l → x ≡ slice_index_or places l.number x → IsSomeAnd (slice_index_or places l.number x) (λ c. Allows l.plan c.cells)
-allowed_there places l x a e = subst (λ o. IsSomeAnd o (λ c. Allows l.plan c.cells)) (within_list places l.number x None (allowed_below places l a) e ∙ e) a
-
--- a plan that makes the exchange can be carried out
-pub ready_allowed : (g : ℕ) (gone fresh : List Cell) (places : List (Option Layout)) (plans : List PlanFor) → IsReady g gone fresh places plans → (l : PlanFor) → IsIn l plans → IsAllowed places l
-ready_allowed g gone fresh places plans r l i = by (layout_at places l.number) (r.each l i)
-  where
-    by : (o : Option Layout) → IsSomeAnd o (λ c. IsPlanFor gone fresh c.cells l.plan) → IsSomeAnd o (λ c. Allows l.plan c.cells)
-    by None h = h
-    by (Some c) h = h.allows
+pub allowed_there : (t : Bool) (places : List (Option Layout)) (l : PlanFor) (x : Option Layout) → IsAllowed t places l → x ≡ slice_index_or places l.number x → IsSomeAnd (slice_index_or places l.number x) (λ c. CanTurn t l.plan c.cells)
+allowed_there t places l x a e = subst (λ o. IsSomeAnd o (λ c. CanTurn t l.plan c.cells)) (within_list places l.number x None (allowed_below t places l a) e ∙ e) a
 
 -- while more plans are made, they are for the first numbers
 pub numbers_more : (plans next : List PlanFor) (l : PlanFor) (numbers : List ℕ) (i : ℕ) → i < length numbers → next ≡ plans ++ l ∷ [] → l.number ≡ slice_index_or numbers i 0 → map (λ k. k.number) plans ≡ take i numbers → map (λ k. k.number) next ≡ take (i + 1) numbers
@@ -247,10 +395,10 @@ numbers_more plans next l numbers i h e q m =
     last (k ∷ ls) = ap (λ (n : List ℕ). k.number ∷ n) (last ls)
 
 -- and each is ready
-pub ready_more : (gone fresh : List Cell) (places : List (Option Layout)) (plans next : List PlanFor) (l : PlanFor) → next ≡ plans ++ l ∷ [] → ((k : PlanFor) → IsIn k plans → IsReadyFor gone fresh places k) → IsReadyFor gone fresh places l → (k : PlanFor) → IsIn k next → IsReadyFor gone fresh places k
+pub ready_more : (gone fresh : List Cell) (places : List (Option Layout)) (plans next : List PlanFor) (l : PlanFor) → next ≡ plans ++ l ∷ [] → ((k : PlanFor) → IsIn k plans → IsReadyFor false gone fresh places k) → IsReadyFor false gone fresh places l → (k : PlanFor) → IsIn k next → IsReadyFor false gone fresh places k
 ready_more gone fresh places plans next l e f this k i = elim (from_append k plans (l ∷ []) (subst (IsIn k) e i)) [
   | inl j ↦ f k j
-  | inr j ↦ elim j [ inl s ↦ subst (IsReadyFor gone fresh places) s this | inr n ↦ absurd n ]
+  | inr j ↦ elim j [ inl s ↦ subst (IsReadyFor false gone fresh places) s this | inr n ↦ absurd n ]
 ]
 
 -- plans for numbers that ascend are apart
@@ -259,7 +407,7 @@ apart_from [] a = tt
 apart_from (l ∷ plans) a = (λ k i e. (let b = below_each l.number (map (λ (k : PlanFor). k.number) plans) a.0 a.1 k.number (mapped_true (λ (k : PlanFor). k.number) k plans i) in omega (arith, b, e)), apart_from plans a.1)
 
 -- with plans for all the numbers of touched buckets
-pub ready_all : (g : ℕ) (gone fresh : List Cell) (places : List (Option Layout)) (plans : List PlanFor) (numbers : List ℕ) → ((k : PlanFor) → IsIn k plans → IsReadyFor gone fresh places k) → map (λ l. l.number) plans ≡ numbers → IsAscending numbers → ((b : ℕ) → (IsIn b (numbers_of g gone) ⊎ IsIn b (numbers_of g fresh)) → IsIn b numbers) → IsReady g gone fresh places plans
+pub ready_all : (g : ℕ) (gone fresh : List Cell) (places : List (Option Layout)) (plans : List PlanFor) (numbers : List ℕ) → ((k : PlanFor) → IsIn k plans → IsReadyFor false gone fresh places k) → map (λ l. l.number) plans ≡ numbers → IsAscending numbers → ((b : ℕ) → (IsIn b (numbers_of g gone) ⊎ IsIn b (numbers_of g fresh)) → IsIn b numbers) → IsReady false g gone fresh places plans
 ready_all g gone fresh places plans numbers f e a all = record {
   each = f;
   apart = apart_from plans (subst IsAscending (sym e) a);

@@ -1,9 +1,12 @@
 -- What a bucket and a hold show: their lists, without the layout of the code.
-use Rattle.std.specs.Prelude.{◌≡◌, ℕ, ◌*◌, List, [], Option, None, Some, ◌⊎◌, map, replicate, slice_index_or}
+use Rattle.std.specs.Prelude.{◌≡◌, ℕ, Bool, true, false, ◌*◌, List, [], Option, None, Some, ◌⊎◌, map, replicate, slice_index_or}
 use Rattle.std.specs.Option.{option_map, option_map_or}
 use Rattle.point_order.specs.declared.cell.Cell.{Cell}
+use Rattle.edit_history.specs.Edits.{point_of}
+use Rattle.edit_history.specs.declared.history.Edit.{Edit}
 use Rattle.edit_history.specs.declared.history.Entry.{Entry}
 use Rattle.cell_stars.specs.Places.{Placed, cells_of}
+use Rattle.cell_store.specs.Points.{goal_of, last_of}
 
 -- A bucket: its points, the cells with a vertex in it, and the entries whose point lies in it. Its place is none for a
 -- new bucket, else the size of the grid in which it last stood, or from which it was copied, and its number there.
@@ -34,11 +37,13 @@ shown places = map (option_map content_of) places
 abbrev pub layout_at : List (Option Layout) → ℕ → Option Layout
 layout_at places b = slice_index_or places b None
 
--- The room of a hold: the cells that go and come in the exchange for which there is room, and
--- the point of the entry for which there is.
+-- The room of a hold: the cells that go and come in the exchange for which there is room, the point of the entry for
+-- which there is, a point that can come and go, and whether the exchange can be made back and again any number of times.
 pub record Room : Type 0 where
   pub swap : Option (List Cell × List Cell)
   pub push : Option ℕ
+  pub point : Option ℕ
+  pub back : Bool
 
 -- A hold: the size of its grid, for each number the bucket in hand, if it is, and its room.
 pub record InHand : Type 0 where
@@ -48,7 +53,22 @@ pub record InHand : Type 0 where
 
 -- no room
 abbrev pub no_room : Room
-no_room = record { swap = None; push = None }
+no_room = record { swap = None; push = None; point = None; back = false }
+
+-- room for an exchange and for the entry of an edit, and for the point that comes in a move
+abbrev pub room_for : List Cell → List Cell → Edit → Room
+room_for gone fresh edit =
+    record { swap = Some (gone, fresh); push = Some (point_of edit); point = goal_of edit; back = false }
+
+-- room for an exchange there and back, and for the last point of the edit to come and go
+abbrev pub room_both : List Cell → List Cell → Edit → Room
+room_both gone fresh edit =
+    record { swap = Some (gone, fresh); push = None; point = Some (last_of edit); back = true }
+
+-- the exchange that is next after one: the one back, if it can be made
+abbrev pub swap_after : Bool → List Cell → List Cell → Option (List Cell × List Cell)
+swap_after false gone fresh = None
+swap_after true gone fresh = Some (fresh, gone)
 
 -- the hold with no bucket in hand
 abbrev pub empty_hold : ℕ → InHand

@@ -1,5 +1,6 @@
 pub mod Grids
 pub mod Buckets
+pub mod Points
 pub mod Swaps
 pub mod Shares
 pub mod Stars
@@ -10,3 +11,4 @@ pub mod Meshes
 pub mod Ready
 pub mod Missing
 pub mod Touches
+pub mod Between

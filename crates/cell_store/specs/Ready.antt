@@ -3,53 +3,68 @@ use Rattle.std.specs.Prelude.{
   ◌≡◌,
   ◌≢◌,
   ℕ,
+  ◌+◌,
   ◌<◌,
   ◌≤◌,
-  ◌==◌,
+  Bool,
+  true,
+  false,
+  not,
   List,
   [],
   ◌∷◌,
   ◌++◌,
   Option,
+  None,
   Some,
+  length,
   IsSome,
   IsSomeAnd,
   map,
-  if◌then◌else◌,
 }
 use Rattle.std.specs.List.{flat_map}
-use Rattle.std.specs.Option.{option_map}
 use Rattle.point_order.specs.declared.cell.Cell.{Cell}
 use Rattle.point_order.specs.Facets.{points_of}
-use Rattle.point_order.specs.Sets.{IsIn}
+use Rattle.point_order.specs.Sets.{IsIn, is_among, with_point, without_point}
 use Rattle.edit_history.specs.declared.history.Entry.{Entry}
 use Rattle.edit_history.specs.Edits.{point_of, changed}
 use Rattle.cell_store.specs.Grids.{bucket_of}
-use Rattle.cell_stars.specs.Plans.{PlanView, Allows, IsPlanFor, done}
-use Rattle.cell_store.specs.Buckets.{Layout, InHand, bucket_at, content_of, layout_at}
-use Rattle.cell_store.specs.Changes.{NoneTouches}
+use Rattle.cell_stars.specs.Places.{Placed, cells_of}
+use Rattle.cell_stars.specs.Plans.{PlanView, Allows, IsPlanFor}
+use Rattle.cell_stars.specs.Turns.{IsTurn, IsWayBack, WasTurned}
+use Rattle.cell_store.specs.Swaps.{touches, swapped}
+use Rattle.cell_store.specs.Buckets.{Layout, InHand, bucket_at, cells_in, content_of, layout_at, points_in}
+use Rattle.cell_store.specs.Changes.{IsChange, NoneTouches}
+use Rattle.cell_store.specs.Shares.{Shows}
+use Rattle.point_order.specs.Complex.{complex}
+use Rattle.cell_store.specs.declared.room.Exchange.{Exchange}
 use Rattle.cell_store.specs.declared.room.PlanFor.{PlanFor}
 
 -- no cell of the exchange touches the bucket
 abbrev pub IsUntouched : ℕ → ℕ → List Cell → List Cell → Type 0
 IsUntouched g b gone fresh = NoneTouches g b gone × NoneTouches g b fresh
 
--- the bucket after a plan
-abbrev pub carried : PlanView → Layout → Layout
-carried p c = record c { cells = done p c.cells }
+-- A plan is carried out, or it was and is turned back: when that can be done, what becomes of plan and bucket, and
+-- when it makes the exchange of the gone for the fresh cells.
+abbrev pub CanTurn : Bool → PlanView → Placed → Type 0
+CanTurn false p b = Allows p b
+CanTurn true p b = WasTurned p b
 
--- the bucket with a number, after the plan that is for it
-abbrev pub given : List PlanFor → ℕ → Option Layout → Option Layout
-given [] b o = o
-given (l ∷ ls) b o = given ls b (if l.number == b then option_map (carried l.plan) o else o)
+abbrev pub IsTurned : Bool → PlanView → Placed → PlanView → Placed → Type 0
+IsTurned false p b q c = IsTurn p b q c
+IsTurned true p b q c = IsTurn q c p b
+
+abbrev pub IsExchange : Bool → List Cell → List Cell → Placed → PlanView → Type 0
+IsExchange false gone fresh b p = IsPlanFor gone fresh b p
+IsExchange true gone fresh b p = IsWayBack gone fresh b p
 
 -- a plan is for a bucket in hand, and makes the exchange in it
-abbrev pub IsReadyFor : List Cell → List Cell → List (Option Layout) → PlanFor → Type 0
-IsReadyFor gone fresh places l = IsSomeAnd (layout_at places l.number) (λ c. IsPlanFor gone fresh c.cells l.plan)
+abbrev pub IsReadyFor : Bool → List Cell → List Cell → List (Option Layout) → PlanFor → Type 0
+IsReadyFor t gone fresh places l = IsSomeAnd (layout_at places l.number) (λ c. IsExchange t gone fresh c.cells l.plan)
 
--- a plan can be carried out in its bucket, which is in hand
-abbrev pub IsAllowed : List (Option Layout) → PlanFor → Type 0
-IsAllowed places l = IsSomeAnd (layout_at places l.number) (λ c. Allows l.plan c.cells)
+-- a plan can be carried out or turned back in its bucket, which is in hand
+abbrev pub IsAllowed : Bool → List (Option Layout) → PlanFor → Type 0
+IsAllowed t places l = IsSomeAnd (layout_at places l.number) (λ c. CanTurn t l.plan c.cells)
 
 -- none of the plans is for the bucket with the number
 abbrev pub NoneIsFor : ℕ → List PlanFor → Type 0
@@ -61,11 +76,63 @@ AreApart [] = Unit {0}
 AreApart (l ∷ ls) = NoneIsFor l.number ls × AreApart ls
 
 -- what is ready for an exchange: plans for buckets in hand, one for each that the exchange touches
-pub record IsReady (g : ℕ) (gone fresh : List Cell) (places : List (Option Layout))
+pub record IsReady (t : Bool) (g : ℕ) (gone fresh : List Cell) (places : List (Option Layout))
     (plans : List PlanFor) : Type 0 where
-  pub each : (l : PlanFor) → IsIn l plans → IsReadyFor gone fresh places l
+  pub each : (l : PlanFor) → IsIn l plans → IsReadyFor t gone fresh places l
   pub apart : AreApart plans
   pub others : (b : ℕ) → NoneIsFor b plans → IsUntouched g b gone fresh
+
+-- one bucket and its plan, after the plan was carried out or turned back there
+pub record IsTurnedIn (t : Bool) (l m : PlanFor) (old new : List (Option Layout)) : Type 0 where
+  pub number : m.number ≡ l.number
+  pub before : Layout
+  pub was : layout_at old l.number ≡ Some before
+  pub after : Layout
+  pub is : layout_at new l.number ≡ Some after
+  pub rest : after ≡ record before { cells = after.cells }
+  pub turned : IsTurned t l.plan before.cells m.plan after.cells
+
+-- all of them
+abbrev pub AreTurned : Bool → List PlanFor → List PlanFor → List (Option Layout) → List (Option Layout) → Type 0
+AreTurned t [] [] old new = Unit {0}
+AreTurned t [] (m ∷ ms) old new = ⊥
+AreTurned t (l ∷ ls) [] old new = ⊥
+AreTurned t (l ∷ ls) (m ∷ ms) old new = IsTurnedIn t l m old new × AreTurned t ls ms old new
+
+-- and no other bucket changes
+pub record AreMade (t : Bool) (plans after : List PlanFor) (old new : List (Option Layout)) : Type 0 where
+  pub count : length new ≡ length old
+  pub turned : AreTurned t plans after old new
+  pub others : (b : ℕ) → NoneIsFor b plans → layout_at new b ≡ layout_at old b
+
+-- the exchange that is next after one was made: the one back, where it is kept
+abbrev pub NextIs : Bool → Exchange → List PlanFor → Option Exchange → Type 0
+NextIs false x after next = next ≡ None
+NextIs true x after next =
+    (y : Exchange) × (next ≡ Some y) × (y.plans.items ≡ after) × (y.gone.items ≡ x.fresh.items)
+    × (y.fresh.items ≡ x.gone.items) × (y.turned ≡ not x.turned)
+
+-- an exchange was made, and is kept for the way back or not
+pub record IsMade (back : Bool) (x : Exchange) (next : Option Exchange) (old new : List (Option Layout)) : Type 0 where
+  pub after : List PlanFor
+  pub made : AreMade x.turned x.plans.items after old new
+  pub is : NextIs back x after next
+
+-- a bucket after an exchange, as it is kept
+pub record IsExchanged (g b : ℕ) (gone fresh : List Cell) (old new : Layout) : Type 0 where
+  pub rest : new ≡ record old { cells = new.cells }
+  pub place : new.cells.place ≡ old.cells.place
+  pub cells : cells_of new.cells.slots ≡ swapped g b gone fresh (cells_of old.cells.slots)
+
+-- where it is in hand
+abbrev pub AreExchanged : ℕ → ℕ → List Cell → List Cell → Option Layout → Option Layout → Type 0
+AreExchanged g b gone fresh None o = o ≡ None
+AreExchanged g b gone fresh (Some c) o = IsSomeAnd o (λ d. IsExchanged g b gone fresh c d)
+
+-- The exchange finds its cells: in the buckets of their finite vertices the gone ones are there, and no fresh one is.
+pub record FindsCells (hold : InHand) (gone fresh : List Cell) : Type 0 where
+  pub there : (b : ℕ) (c : Cell) → IsIn c gone → touches hold.grid b c ≡ true → IsIn c (cells_in hold.places b)
+  pub absent : (b : ℕ) (c : Cell) → IsIn c fresh → touches hold.grid b c ≡ true → IsIn c (cells_in hold.places b) → ⊥
 
 -- the buckets with these numbers are in hand
 abbrev pub AreInHand : List (Option Layout) → List ℕ → Type 0
@@ -88,6 +155,11 @@ abbrev pub AreHeld : InHand → List Cell → Type 0
 AreHeld hold l =
     (c : Cell) → IsIn c l → (p : ℕ) → IsIn p (points_of c) → IsSome (bucket_at hold.places (bucket_of hold.grid p))
 
+-- the point can come: there is room for it, and it is not there
+pub record CanCome (hold : InHand) (p : ℕ) : Type 0 where
+  pub room : hold.room.point ≡ Some p
+  pub absent : is_among p (points_in hold.places (bucket_of hold.grid p)) ≡ false
+
 -- there is room for one entry in the bucket
 pub record HasRoom (c : Layout) : Type 0 where
   pub points : 0 < c.room_points
@@ -96,6 +168,44 @@ pub record HasRoom (c : Layout) : Type 0 where
 -- the bucket of the point is in hand, and has room for an entry
 abbrev pub IsNoteReady : ℕ → List (Option Layout) → ℕ → Type 0
 IsNoteReady g places p = IsSomeAnd (layout_at places (bucket_of g p)) HasRoom
+
+-- there is room for an entry in the bucket, and for one point more
+pub record HasMuchRoom (c : Layout) : Type 0 where
+  pub points : 1 < c.room_points
+  pub entries : 0 < c.room_entries
+
+-- The point can come into the bucket and go, and there is always room for one point besides.
+pub record HasPlaceFor (p : ℕ) (c : Layout) : Type 0 where
+  pub absent : is_among p c.points ≡ false → 1 < c.room_points
+  pub there : is_among p c.points ≡ true → 0 < c.room_points
+
+-- the bucket of the point is in hand, and the point can come and go
+abbrev pub IsPointReady : ℕ → List (Option Layout) → ℕ → Type 0
+IsPointReady g places p = IsSomeAnd (layout_at places (bucket_of g p)) (HasPlaceFor p)
+
+-- the bucket has the point, and keeps its cells, its entries and its place for the point
+pub record IsPointPut (p : ℕ) (old new : Option Layout) : Type 0 where
+  pub before : Layout
+  pub was : old ≡ Some before
+  pub after : Layout
+  pub is : new ≡ Some after
+  pub points : after.points ≡ with_point p before.points
+  pub cells : after.cells ≡ before.cells
+  pub entries : after.entries ≡ before.entries
+  pub for_points : before.room_points ≤ after.room_points + 1
+  pub for_entries : after.room_entries ≡ before.room_entries
+
+-- the bucket has it no more
+pub record IsPointDropped (p : ℕ) (old new : Option Layout) : Type 0 where
+  pub before : Layout
+  pub was : old ≡ Some before
+  pub after : Layout
+  pub is : new ≡ Some after
+  pub points : after.points ≡ without_point p before.points
+  pub cells : after.cells ≡ before.cells
+  pub entries : after.entries ≡ before.entries
+  pub for_points : before.room_points < after.room_points
+  pub for_entries : after.room_entries ≡ before.room_entries
 
 -- the same bucket, with no less room
 pub record IsRoomier (old new : Layout) : Type 0 where
@@ -106,12 +216,14 @@ pub record IsRoomier (old new : Layout) : Type 0 where
   pub for_entries : old.room_entries ≤ new.room_entries
 
 -- where it is in hand
-pub record AreRoomier (old new : Option Layout) : Type 0 where
-  pub before : Layout
-  pub was : old ≡ Some before
-  pub after : Layout
-  pub is : new ≡ Some after
-  pub roomier : IsRoomier before after
+abbrev pub AreRoomier : Option Layout → Option Layout → Type 0
+AreRoomier None new = new ≡ None
+AreRoomier (Some c) new = IsSomeAnd new (IsRoomier c)
+
+-- so is every bucket
+pub record AllRoomier (old new : List (Option Layout)) : Type 0 where
+  pub count : length new ≡ length old
+  pub each : (b : ℕ) → AreRoomier (layout_at old b) (layout_at new b)
 
 -- the bucket has the entry last, and its point as the reply says, and keeps its cells
 pub record IsNotedIn (e : Entry) (old new : Option Layout) : Type 0 where
@@ -122,3 +234,9 @@ pub record IsNotedIn (e : Entry) (old new : Option Layout) : Type 0 where
   pub content : content_of after ≡ record (content_of before)
       { points = changed before.points (point_of e.edit) e.reply; entries = before.entries ++ e ∷ [] }
   pub cells : after.cells ≡ before.cells
+
+-- An exchange of exactly what is gone and new finds its cells, where those that go are held.
+abbrev pub ChangeFindsCells : Type 0
+ChangeFindsCells =
+    (hold : InHand) (s : List ℕ) (t gone fresh : List Cell) → Shows hold s → IsChange (complex s) t gone fresh →
+    AreHeld hold gone → FindsCells hold gone fresh

@@ -6,6 +6,7 @@ ghost use Rattle.std.specs.Prelude.{
   ◌+◌,
   ◌*◌,
   ◌-◌,
+  ◌<◌,
   ◌≤◌,
   ◌^◌,
   ◌∷◌,
@@ -24,17 +25,17 @@ ghost use Rattle.std.specs.Prelude.{
 ghost use Rattle.std.specs.List.{filter};
 ghost use Rattle.point_order.specs.Facets.{points_of};
 ghost use Rattle.point_order.specs.declared.cell.Cell.{Cell};
-ghost use Rattle.point_order.specs.Sets.{IsIn, IsAscending, is_among};
+ghost use Rattle.point_order.specs.Sets.{IsIn, IsAscending, is_among, with_point as with, without_point};
 ghost use Rattle.edit_history.specs.Edits.{point_of, changed};
 ghost use Rattle.cell_stars.specs.Places.{lies_in, AreStars};
-ghost use Rattle.cell_stars.specs.Plans.{Allows, IsPlanFor};
+ghost use Rattle.cell_stars.specs.Plans.{IsPlanFor};
 ghost use Rattle.cell_store.specs.Buckets.{FitsPlace, content_of};
 ghost use Rattle.cell_store.specs.Others.{HaveNoOther, IsOtherOf};
-ghost use Rattle.cell_store.specs.Ready.{HasRoom, IsRoomier, carried};
+ghost use Rattle.cell_store.specs.Ready.{CanTurn, HasMuchRoom, HasRoom, IsRoomier, IsTurned};
 ghost use Rattle.cell_store.specs.Shares.{points_on};
 ghost use Rattle.cell_store.specs.Stars.{cells_around, cells_left, cells_to_come};
 
-use crate::note::{add_entry, change_points};
+use crate::note::{add_entry, change_points, put_in, take_out};
 use crate::star::{Other, is_on, other_among};
 use cell_stars::{BucketCells, Cells, Grid, Matched, Plan, Star, StarCells, Steps, are_same};
 use edit_history::Entry;
@@ -180,20 +181,49 @@ impl Bucket {
         self.cells.plan(alloc, gone, fresh, matched)
     }
 
-    // Carries a plan out. It takes no memory.
-    pub(crate) fn carry_out(&mut self, plan: Plan)
-        requires { Allows plan self.old.cells }
-        ensures { self.new ≡ carried plan self.old }
+    // Carries a plan out, or turns it back where it was. It takes no memory.
+    pub(crate) fn turn(&mut self, plan: &mut Plan, turned: bool)
+        requires { CanTurn turned plan.old self.old.cells }
+        ensures turned { IsTurned turned plan.old self.old.cells plan.new self.new.cells }
+        ensures rest { self.new ≡ record self.old { cells = self.new.cells } }
     {
-        self.cells.carry_out(plan);
+        if turned {
+            self.cells.turn_back(plan);
+        } else {
+            self.cells.turn(plan);
+        }
     }
 
-    // Makes room for an entry. Without memory there is as much room as before.
+    // Puts a point in, for which there is to be room. It takes no memory.
+    pub(crate) fn put_point(&mut self, p: Point)
+        requires { 0 < self.old.room_points }
+        ensures points { self.new.points ≡ with p self.old.points }
+        ensures cells { self.new.cells ≡ self.old.cells }
+        ensures entries { self.new.entries ≡ self.old.entries }
+        ensures for_points { self.old.room_points ≤ self.new.room_points + 1 }
+        ensures for_entries { self.new.room_entries ≡ self.old.room_entries }
+    {
+        put_in(&mut self.points, p);
+    }
+
+    // Takes a point out, which is to be there. There is room for one more then.
+    pub(crate) fn drop_point(&mut self, p: Point)
+        requires { is_among p self.old.points ≡ true }
+        ensures points { self.new.points ≡ without_point p self.old.points }
+        ensures cells { self.new.cells ≡ self.old.cells }
+        ensures entries { self.new.entries ≡ self.old.entries }
+        ensures for_points { self.old.room_points < self.new.room_points }
+        ensures for_entries { self.new.room_entries ≡ self.old.room_entries }
+    {
+        take_out(&mut self.points, p);
+    }
+
+    // Makes room for an entry, and for one point more. Without memory there is as much room as before.
     pub(crate) fn make_room(&mut self) -> Result<(), AllocError>
         ensures same { IsRoomier self.old self.new }
-        ensures room { OnOk result (HasRoom self.new) }
+        ensures room { OnOk result (HasMuchRoom self.new) }
     {
-        self.points.reserve(1)?;
+        self.points.reserve(2)?;
         self.entries.reserve(1)?;
         Ok(())
     }

@@ -1,7 +1,16 @@
 //! What an entry makes of the buckets of a hold, what buckets say of a history and of a set, and what edits touch.
 //! Each function here does nothing, and its contract is laws.
 
-ghost use Rattle.cell_store.specs.Changes.{NextEntry, EntryKeepsHold, ShareAfterEntry, ShareElsewhere};
+ghost use Rattle.cell_store.specs.Between.{ChangesCompose, EnteredShows, LeftIsSame, SightOutside};
+ghost use Rattle.cell_store.specs.Changes.{
+  AnyKeepsHold,
+  NextEntry,
+  EntryKeepsHold,
+  ShareAfterAny,
+  ShareAfterEntry,
+  ShareElsewhere,
+};
+ghost use Rattle.cell_store.specs.Ready.{ChangeFindsCells};
 ghost use Rattle.cell_store.specs.Shares.{ShareIsOne, StandsShows};
 ghost use Rattle.cell_store.specs.Meshes.{
   HistoryIs,
@@ -80,4 +89,21 @@ pub fn edits_are_local()
     ensures outside { ShareOutsideTouch }
     ensures found { ReachFromHeld }
     ensures commute { CommitsCommute }
+{}
+
+/// With one point more, for a while, a hold shows the set with it, and there and back it is as before. A bucket that
+/// the point does not touch has the same of both sets. Two changes, one after the other, are one.
+pub fn points_come_and_go()
+    ensures entered { EnteredShows }
+    ensures left { LeftIsSame }
+    ensures outside { SightOutside }
+    ensures composed { ChangesCompose }
+{}
+
+/// After any entry, a move too, the share of each bucket is that exact function of the one before, and a hold that
+/// stood for a history stands for the history with the entry. An exchange of what is gone and new finds its cells.
+pub fn any_entry_keeps_hold()
+    ensures share { ShareAfterAny }
+    ensures hold { AnyKeepsHold }
+    ensures found { ChangeFindsCells }
 {}

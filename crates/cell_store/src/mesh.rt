@@ -1,17 +1,24 @@
 //! Meshes: all buckets of a grid.
 
-ghost use Rattle.std.specs.Prelude.{◌≡◌, ◌*◌, ◌<◌, ◌∷◌, ◌++◌, [], true, OnOk, OnErr, length};
+ghost use Rattle.std.specs.Prelude.{◌≡◌, ◌*◌, ◌<◌, ◌∷◌, ◌++◌, [], true, IfOk, OnOk, OnErr, length};
+ghost use Rattle.std.specs.Fn.{FnOnceReturnsAt};
+ghost use Rattle.point_order.specs.Complex.{complex};
+ghost use Rattle.point_order.specs.Sets.{with_point as with};
+ghost use Rattle.edit_history.specs.Histories.{replay};
+ghost use Rattle.hole_laws.specs.Edits.{IsNew};
+ghost use Rattle.cell_store.specs.Between.{ShowsWhole};
 ghost use Rattle.cell_store.specs.Grids.{is_grid_size};
-ghost use Rattle.cell_store.specs.Buckets.{content_of};
+ghost use Rattle.cell_store.specs.Buckets.{InHand, content_of};
 ghost use Rattle.cell_store.specs.Shares.{IsSound, share_at};
-ghost use Rattle.cell_store.specs.Changes.{Follows};
+ghost use Rattle.cell_store.specs.Changes.{Follows, IsChange};
 ghost use Rattle.cell_store.specs.Meshes.{AllInHand, HasPlaces, IsHoldOf, StandsForSome, counted, history_in, mesh_in};
 
 use crate::bucket::Bucket;
 use crate::hold::Hold;
+use crate::note::know_keys;
 use cell_stars::Grid;
-use edit_history::Entry;
-use point_order::Cell;
+use edit_history::{Edit, Entry};
+use point_order::{Cell, Point};
 use std::alloc::{AllocError, Global};
 use std::marker::Model;
 
@@ -93,13 +100,43 @@ impl Mesh {
         ensures changed { OnOk result (self.new ≡ record self.old { history = self.old.history ++ entry ∷ [] }) }
         ensures refused { OnErr result (self.new ≡ self.old) }
     {
-        let p = entry.edit.point();
-        let _ = p.key();
-        self.hold.reserve(alloc, gone, fresh, p)?;
+        know_keys(&entry.edit);
+        self.hold.reserve(alloc, gone, fresh, &entry.edit)?;
         self.hold.swap_cells(gone, fresh);
+        self.hold.put_goal(&entry);
         self.hold.push_entry(entry);
         self.count = self.count.saturating_add(1);
         Ok(())
+    }
+}
+
+impl Mesh {
+    /// Lends the buckets, with one point more, to the function. The point is to be new to those that the history
+    /// leaves, and to change exactly these cells of their complex. The mesh is then as before.
+    ///
+    /// # Errors
+    /// Want of memory. The function was not called then.
+    pub fn with_point<T: Drop, F: FnOnce(&Hold) -> T>(
+        &mut self,
+        alloc: Global,
+        gone: &[Cell],
+        fresh: &[Cell],
+        p: Point,
+        look: F,
+    ) -> Result<T, AllocError>
+        requires new { IsNew (replay self.old.history) p }
+        requires change { IsChange (complex (replay self.old.history)) (complex (with p (replay self.old.history)))
+            gone.now fresh.now }
+        requires look { (hold : _) → ShowsWhole hold.now (with p (replay self.old.history)) → F.pre look hold }
+        ensures same { self.new ≡ self.old }
+        ensures found { IfOk result (λ found. (hold : InHand) × ShowsWhole hold (with p (replay self.old.history))
+            × FnOnceReturnsAt F.FnOnce look hold found) }
+    {
+        self.hold.reserve_both(alloc, gone, fresh, &Edit::Add(p))?;
+        self.hold.enter(gone, fresh, p);
+        let found = look(&self.hold);
+        self.hold.leave(gone, fresh, p);
+        Ok(found)
     }
 }
 

@@ -2,12 +2,17 @@
 
 ghost use Rattle.std.specs.Prelude.{
   ◌≡◌,
+  ◌≢◌,
   ◌↔◌,
   ◌⊎◌,
   ℕ,
   ◌*◌,
   ◌<◌,
+  true,
+  false,
+  not,
   IfOk,
+  IfSome,
   IsSome,
   IsSomeAnd,
   IsTrue,
@@ -16,24 +21,30 @@ ghost use Rattle.std.specs.Prelude.{
   OnOk,
   Some,
 };
-ghost use Rattle.std.specs.Option.{option_map};
-ghost use Rattle.point_order.specs.Sets.{IsIn, IsAscending};
+ghost use Rattle.point_order.specs.Sets.{IsIn, IsAscending, is_among};
 ghost use Rattle.cell_stars.specs.Gathering.{Gathers};
-ghost use Rattle.cell_stars.specs.Plans.{Allows};
 ghost use Rattle.cell_store.specs.Buckets.{layout_at};
+ghost use Rattle.cell_store.specs.Grids.{bucket_of as number_of};
 ghost use Rattle.cell_store.specs.Ready.{
   AreApart,
   AreInHand,
+  AreMade,
+  AllRoomier,
   AreRoomier,
+  HasMuchRoom,
   HasNumber,
   HasRoom,
   IsAllowed,
+  IsMade,
+  IsNoteReady,
   IsNotedIn,
   IsNumberOf,
+  IsPointDropped,
+  IsPointPut,
+  IsPointReady,
   IsReady,
   IsReadyFor,
-  carried,
-  given,
+  IsTurnedIn,
   numbers_of,
 };
 ghost use Rattle.cell_store.specs.declared.room.PlanFor.{PlanFor};
@@ -43,13 +54,16 @@ use cell_stars::{Grid, Matched, Plan};
 use edit_history::Entry;
 use point_order::{Cell, Point};
 use std::alloc::{AllocError, Global};
+use std::mem::swap;
 
-// The cells that go and come in an exchange, and the plan for each bucket that is touched.
+// The cells that go and come in the exchange that is next, and the plan for each bucket that is touched: it is to be
+// carried out there, or it was and is to be turned back.
 #[derive(Debug, Drop)]
 pub(crate) struct Exchange {
     pub(crate) gone: Vec<Cell>,
     pub(crate) fresh: Vec<Cell>,
     pub(crate) plans: Vec<PlanFor>,
+    pub(crate) turned: bool,
 }
 
 // A plan, and the number of the bucket for which it is.
@@ -134,7 +148,7 @@ fn plan_for(
 ) -> Result<PlanFor, AllocError>
     requires { IsSome (layout_at places.now b) }
     ensures number { IfOk result (λ plan. plan.number ≡ b) }
-    ensures ready { IfOk result (λ plan. IsReadyFor gone.now fresh.now places.now plan) }
+    ensures ready { IfOk result (λ plan. IsReadyFor false gone.now fresh.now places.now plan) }
 {
     let Some(bucket) = bucket_in(places, b) else {
         unreachable!()
@@ -153,7 +167,7 @@ fn plans_for(
 ) -> Result<Vec<PlanFor>, AllocError>
     requires gone { AreInHand places.now (numbers_of grid gone.now) }
     requires fresh { AreInHand places.now (numbers_of grid fresh.now) }
-    ensures { IfOk result (λ plans. IsReady grid gone.now fresh.now places.now plans.items) }
+    ensures { IfOk result (λ plans. IsReady false grid gone.now fresh.now places.now plans.items) }
 {
     let matched = Matched::of(alloc, gone, fresh)?;
     let numbers = touched(alloc, grid, gone, fresh)?;
@@ -177,27 +191,90 @@ impl Exchange {
         requires fresh { AreInHand places.now (numbers_of grid fresh.now) }
         ensures gone { IfOk result (λ e. e.gone.items ≡ gone.now) }
         ensures fresh { IfOk result (λ e. e.fresh.items ≡ fresh.now) }
-        ensures ready { IfOk result (λ e. IsReady grid gone.now fresh.now places.now e.plans.items) }
+        ensures ready { IfOk result (λ e. IsReady e.turned grid gone.now fresh.now places.now e.plans.items) }
     {
         let plans = plans_for(alloc, grid, places, gone, fresh)?;
         Ok(Exchange {
             gone: Vec::from_slice(alloc, gone)?,
             fresh: Vec::from_slice(alloc, fresh)?,
             plans,
+            turned: false,
         })
+    }
+
+    // Makes the exchange, and is that back then. It takes no memory.
+    pub(crate) fn make(&mut self, places: &mut [Option<Bucket>])
+        requires allowed { (l : PlanFor) → IsIn l self.old.plans.items → IsAllowed self.old.turned places.old l }
+        requires apart { AreApart self.old.plans.items }
+        ensures made { AreMade self.old.turned self.old.plans.items self.new.plans.items places.old places.new }
+        ensures gone { self.new.gone ≡ self.old.fresh }
+        ensures fresh { self.new.fresh ≡ self.old.gone }
+        ensures turned { self.new.turned ≡ not self.old.turned }
+    {
+        turn_all(places, &mut self.plans, self.turned);
+        swap(&mut self.gone, &mut self.fresh);
+        self.turned = !self.turned;
     }
 }
 
-// Makes room for an entry in the bucket, which is to be there.
-pub(crate) fn make_room(place: &mut Option<Bucket>) -> Result<(), AllocError>
+// Makes an exchange, and gives the one back, if that is wanted.
+pub(crate) fn made(
+    exchange: Exchange,
+    places: &mut [Option<Bucket>],
+    back: bool,
+) -> Option<Exchange>
+    requires allowed { (l : PlanFor) → IsIn l exchange.plans.items → IsAllowed exchange.turned places.old l }
+    requires apart { AreApart exchange.plans.items }
+    ensures { IsMade back exchange result places.old places.new }
+{
+    let mut exchange = exchange;
+    exchange.make(places);
+    if back { Some(exchange) } else { None }
+}
+
+// Makes room for an entry in the bucket, which is to be there, and for one point more.
+fn make_room(place: &mut Option<Bucket>) -> Result<(), AllocError>
     requires { IsSome place.old }
     ensures same { AreRoomier place.old place.new }
-    ensures room { OnOk result (IsSomeAnd place.new HasRoom) }
+    ensures room { OnOk result (IsSomeAnd place.new HasMuchRoom) }
 {
     match place {
         Some(bucket) => bucket.make_room(),
         None => unreachable!(),
     }
+}
+
+// Makes room for an entry in the bucket of the point, if there is one, and for one point more.
+fn make_room_at(
+    places: &mut [Option<Bucket>],
+    grid: Grid,
+    p: &Option<Point>,
+) -> Result<(), AllocError>
+    requires { IfSome p.now (λ p. IsSome (layout_at places.old (number_of grid p))) }
+    ensures same { AllRoomier places.old places.new }
+    ensures room { OnOk result (IfSome p.now (λ p. IsSomeAnd (layout_at places.new (number_of grid p)) HasMuchRoom)) }
+{
+    match p {
+        Some(p) => make_room(&mut places[grid.bucket_of(*p) as usize]),
+        None => Ok(()),
+    }
+}
+
+// Makes room for an entry of the one point, and for the other point to come and go, if there are such.
+pub(crate) fn make_rooms(
+    places: &mut [Option<Bucket>],
+    grid: Grid,
+    note: &Option<Point>,
+    point: &Option<Point>,
+) -> Result<(), AllocError>
+    requires note { IfSome note.now (λ p. IsSome (layout_at places.old (number_of grid p))) }
+    requires point { IfSome point.now (λ p. IsSome (layout_at places.old (number_of grid p))) }
+    ensures same { AllRoomier places.old places.new }
+    ensures note { OnOk result (IfSome note.now (λ p. IsNoteReady grid places.new p)) }
+    ensures point { OnOk result (IfSome point.now (λ p. IsPointReady grid places.new p)) }
+{
+    make_room_at(places, grid, note)?;
+    make_room_at(places, grid, point)
 }
 
 // Puts the entry into the bucket, which is to be there and to have room for it. It takes no memory.
@@ -211,24 +288,47 @@ pub(crate) fn note_in(place: &mut Option<Bucket>, entry: Entry)
     }
 }
 
-// Carries the plan out in the bucket, if it is there.
-fn carry(place: &mut Option<Bucket>, plan: Plan)
-    requires { IsSomeAnd place.old (λ c. Allows plan c.cells) }
-    ensures { place.new ≡ option_map (carried plan) place.old }
+// Puts the point into the bucket, which is to be there and to have room for it. It takes no memory.
+pub(crate) fn put_point_in(place: &mut Option<Bucket>, p: Point)
+    requires { IsSomeAnd place.old (λ c. 0 < c.room_points) }
+    ensures { IsPointPut p place.old place.new }
 {
-    if let Some(bucket) = place {
-        bucket.carry_out(plan);
+    match place {
+        Some(bucket) => bucket.put_point(p),
+        None => unreachable!(),
     }
 }
 
-// Carries each plan out in the bucket for which it is. There is to be one at most for each bucket.
-pub(crate) fn carry_all(places: &mut [Option<Bucket>], plans: Vec<PlanFor>)
-    requires allowed { (l : PlanFor) → IsIn l plans.items → IsAllowed places.old l }
-    requires apart { AreApart plans.items }
-    ensures { (b : ℕ) → layout_at places.new b ≡ given plans.items b (layout_at places.old b) }
+// Takes the point out of the bucket, which is to be there and to have it.
+pub(crate) fn drop_point_in(place: &mut Option<Bucket>, p: Point)
+    requires { IsSomeAnd place.old (λ c. is_among p c.points ≡ true) }
+    ensures { IsPointDropped p place.old place.new }
 {
-    for item in plans {
-        let b = item.number as usize;
-        carry(&mut places[b], item.plan);
+    match place {
+        Some(bucket) => bucket.drop_point(p),
+        None => unreachable!(),
+    }
+}
+
+// Carries the plan out in its bucket, which is to be there, or turns it back.
+fn turn(places: &mut [Option<Bucket>], item: &mut PlanFor, turned: bool)
+    requires { IsAllowed turned places.old item.old }
+    ensures turned { IsTurnedIn turned item.old item.new places.old places.new }
+    ensures others { (b : ℕ) → b ≢ item.old.number → layout_at places.new b ≡ layout_at places.old b }
+{
+    match &mut places[item.number as usize] {
+        Some(bucket) => bucket.turn(&mut item.plan, turned),
+        None => unreachable!(),
+    }
+}
+
+// Carries each plan out in its bucket, or turns each back. There is to be one at most for each bucket.
+fn turn_all(places: &mut [Option<Bucket>], plans: &mut [PlanFor], turned: bool)
+    requires allowed { (l : PlanFor) → IsIn l plans.old → IsAllowed turned places.old l }
+    requires apart { AreApart plans.old }
+    ensures { AreMade turned plans.old plans.new places.old places.new }
+{
+    for item in plans.iter_mut() {
+        turn(places, item, turned);
     }
 }

@@ -1,4 +1,4 @@
-use Rattle.std.proofs.Common.{◌≡◌, map, take}
+use Rattle.std.proofs.Common.{◌≡◌, false, map, take}
 use Rattle.point_order.specs.Sets.{IsIn}
 use Rattle.cell_store.specs.Ready.{IsReadyFor}
 use Rattle.cell_store.specs.declared.room.PlanFor.{PlanFor}
@@ -8,5 +8,5 @@ abbrev pub invariant-loop-b : goal.invariant-loop-b
 invariant-loop-b l =
     record {
       numbers : map (λ (k : PlanFor). k.number) l.plans.items ≡ take l.b-index l.b-items;
-      each : (k : PlanFor) → IsIn k l.plans.items → IsReadyFor l.gone l.fresh l.places k;
+      each : (k : PlanFor) → IsIn k l.plans.items → IsReadyFor false l.gone l.fresh l.places k;
     }

@@ -11,7 +11,7 @@ returns c =
     let b = c.args.b in
     let is = shown_is i.places.items b c.in-Some.bucket.now (ap (λ l. layout_at l b) (sym c.deref.ensures.value) ∙ c.in-Some.ensures) in record {
       bucket = ap (λ h. bucket_at h.places b) (sym c.self.view_is) ∙ is;
-      place = c.self.invariant.3 b (content_of c.in-Some.bucket.now) is ∙ ap (λ g. Some (g, b)) (ap (λ h. h.grid) c.self.view_is);
+      place = c.self.invariant.4 b (content_of c.in-Some.bucket.now) is ∙ ap (λ g. Some (g, b)) (ap (λ h. h.grid) c.self.view_is);
     }
 
 pub unreachable-requires : goal.unreachable-requires

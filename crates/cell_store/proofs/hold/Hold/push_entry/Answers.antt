@@ -39,11 +39,12 @@ invariant_of-self c =
     let h : b < length places = subst (λ n. b < n) (shown_len places) n in
     let was = within_list places b c.index_mut.result.now None h c.index_mut.ensures.value ∙ r.was in (
       len_set places b new ∙ c.self.invariant.0,
-      if_some (λ e. IsReady i.grid e.gone.items e.fresh.items places e.plans.items) (λ e. IsReady i.grid e.gone.items e.fresh.items (slice_set places b new) e.plans.items) i.exchange
-          (λ x q. subst (λ o. IsReady i.grid x.gone.items x.fresh.items (slice_set places b o) x.plans.items) (sym r.is) (ready_noted i.grid b x.gone.items x.fresh.items places x.plans.items r.before r.after h was r.cells q)) c.self.invariant.1,
+      if_some (λ e. IsReady e.turned i.grid e.gone.items e.fresh.items places e.plans.items) (λ e. IsReady e.turned i.grid e.gone.items e.fresh.items (slice_set places b new) e.plans.items) i.exchange
+          (λ x q. subst (λ o. IsReady x.turned i.grid x.gone.items x.fresh.items (slice_set places b o) x.plans.items) (sym r.is) (ready_noted x.turned i.grid b x.gone.items x.fresh.items places x.plans.items r.before r.after h was r.cells q)) c.self.invariant.1,
+      tt,
       tt,
       subst (StandAtPlaces i.grid) (sym (ap (λ o. shown (slice_set places b o)) r.is ∙ shown_set places b (Some r.after)))
-          (stand_noted i.grid b (shown places) (content_of r.before) (content_of r.after) n (shown_is places b r.before was) (ap (λ k. k.place) r.cells) c.self.invariant.3),
+          (stand_noted i.grid b (shown places) (content_of r.before) (content_of r.after) n (shown_is places b r.before was) (ap (λ k. k.place) r.cells) c.self.invariant.4),
     )
 
 pub returns-clause-noted : goal.returns-clause-noted

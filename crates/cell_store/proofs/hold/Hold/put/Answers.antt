@@ -2,9 +2,9 @@ use Rattle.std.proofs.Common.{sym, ◌∙◌, ap, subst, ◌<◌, ◌≡◌, Lis
 use Rattle.std.specs.Prelude.{slice_set}
 use Rattle.list_laws.proofs.Cited.{if_some, len_set}
 use Rattle.cell_store.specs.Buckets.{BucketContent, FitsPlace, StandAtPlaces, at_place, bucket_at, content_of, layout_at, shown}
-use Rattle.cell_store.specs.Ready.{IsNoteReady, IsReady}
+use Rattle.cell_store.specs.Ready.{IsNoteReady, IsPointReady, IsReady}
 use Rattle.cell_store.proofs.Layouts.{map_none, shown_at, shown_set}
-use Rattle.cell_store.proofs.NoteLaws.{hold_keeps, note_put, ready_put, stand_put}
+use Rattle.cell_store.proofs.NoteLaws.{hold_keeps, note_put, point_put, ready_put, stand_put}
 use Rattle.cell_store.proofs.hold.Hold.put.Goals as goal
 
 pub placed-requires : goal.placed-requires
@@ -22,9 +22,10 @@ invariant_of-self c =
     let h : b < length (shown places) = subst (λ (l : List (Option BucketContent)). b < length l) (sym now) c.requires.below in
     let set = shown_set places b x in (
       len_set places b x ∙ c.self.invariant.0,
-      if_some (λ e. IsReady i.grid e.gone.items e.fresh.items places e.plans.items) _ i.exchange (λ e r. ready_put i.grid b e.gone.items e.fresh.items places e.plans.items x absent r) c.self.invariant.1,
+      if_some (λ e. IsReady e.turned i.grid e.gone.items e.fresh.items places e.plans.items) _ i.exchange (λ e r. ready_put e.turned i.grid b e.gone.items e.fresh.items places e.plans.items x absent r) c.self.invariant.1,
       if_some (λ n. IsNoteReady i.grid places n) _ i.note (λ n r. note_put i.grid b places n x absent r) c.self.invariant.2,
-      subst (StandAtPlaces i.grid) (sym set) (stand_put i.grid b (shown places) (content_of c.placed.result) h (ap (λ z. z.cells.place) c.placed.ensures) c.self.invariant.3),
+      if_some (λ n. IsPointReady i.grid places n) _ i.point (λ n r. point_put i.grid b places n x absent r) c.self.invariant.3,
+      subst (StandAtPlaces i.grid) (sym set) (stand_put i.grid b (shown places) (content_of c.placed.result) h (ap (λ z. z.cells.place) c.placed.ensures) c.self.invariant.4),
     )
 
 pub returns : goal.returns

@@ -1,50 +1,99 @@
-use Rattle.std.proofs.Common.{ℕ, ◌≡◌, ◌*◌, refl, sym, ◌∙◌, ap, subst, length, drop, IfSome}
+use Rattle.std.proofs.Common.{◌≡◌, ◌*◌, sym, ◌∙◌, ap, subst, length, drop, true, IfSome}
 use Rattle.std.specs.Option.{option_map}
-use Rattle.list_laws.proofs.Cited.{front_is, if_none, if_some, same_pair, some_holds}
-use Rattle.cell_store.specs.Buckets.{StandAtPlaces, layout_at, shown}
-use Rattle.cell_store.specs.Ready.{IsAllowed, IsNoteReady, IsReady, given}
+use Rattle.list_laws.proofs.Cited.{front_is, same_pair, some_holds}
+use Rattle.cell_store.specs.Buckets.{StandAtPlaces, shown, swap_after}
+use Rattle.cell_store.specs.Ready.{FindsCells, IsAllowed, IsMade, IsNoteReady, IsPointReady, IsReady}
 use Rattle.cell_store.proofs.Layouts.{shown_len}
-use Rattle.cell_store.proofs.RoomLaws.{swap_is, ready_allowed, note_swapped, stand_swapped, swapped_places}
+use Rattle.cell_store.proofs.RoomLaws.{ready_allowed, swap_is}
+use Rattle.cell_store.proofs.SwapLaws.{next_room, room_after, swap_keeps, swap_shown}
 use Rattle.cell_store.proofs.hold.Hold.swap_cells.Goals as goal
+use Rattle.cell_store.proofs.hold.Hold.swap_cells.Goals.{in-Some-1, in-None-1}
 
-pub carry_all-requires-clause-allowed : goal.carry_all-requires-clause-allowed
-carry_all-requires-clause-allowed c =
-    let e = c.in-Some.exchange in
+pub made-requires-clause-allowed : goal.made-requires-clause-allowed
+made-requires-clause-allowed c =
+    let x = c.in-Some.exchange in
     let i = c.self.inside in
-    let r = some_holds (λ e. IsReady i.grid e.gone.items e.fresh.items i.places.items e.plans.items) i.exchange e c.in-Some.ensures.value c.self.invariant.1 in
-    λ l k. subst (λ m. IsAllowed m l) (sym c.deref_mut.ensures.value) (ready_allowed i.grid e.gone.items e.fresh.items i.places.items e.plans.items r l k)
+    let r = some_holds (λ e. IsReady e.turned i.grid e.gone.items e.fresh.items i.places.items e.plans.items) i.exchange x c.in-Some.ensures.value c.self.invariant.1 in
+    λ l k. subst (λ m. IsAllowed x.turned m l) (sym c.deref_mut.ensures.value) (ready_allowed x.turned i.grid x.gone.items x.fresh.items i.places.items x.plans.items r l k)
 
-pub carry_all-requires-clause-apart : goal.carry_all-requires-clause-apart
-carry_all-requires-clause-apart c =
-    let e = c.in-Some.exchange in
+pub made-requires-clause-apart : goal.made-requires-clause-apart
+made-requires-clause-apart c =
+    let x = c.in-Some.exchange in
     let i = c.self.inside in
-    (some_holds (λ e. IsReady i.grid e.gone.items e.fresh.items i.places.items e.plans.items) i.exchange e c.in-Some.ensures.value c.self.invariant.1).apart
+    (some_holds (λ e. IsReady e.turned i.grid e.gone.items e.fresh.items i.places.items e.plans.items) i.exchange x c.in-Some.ensures.value c.self.invariant.1).apart
 
 pub invariant_of-self : goal.invariant_of-self
 invariant_of-self c =
     let x = c.in-Some.exchange in
     let i = c.self.inside in
-    let after = c.carry_all.new.places in
-    let r = some_holds (λ e. IsReady i.grid e.gone.items e.fresh.items i.places.items e.plans.items) i.exchange x c.in-Some.ensures.value c.self.invariant.1 in
-    let given_are = λ (b : ℕ). c.carry_all.ensures b ∙ ap (λ l. given x.plans.items b (layout_at l b)) c.deref_mut.ensures.value in
-    let f = swapped_places i.grid x.gone.items x.fresh.items i.places.items after x.plans.items r c.self.invariant.3 given_are in
-    let e = front_is after (drop (length after) i.places.items) i.places.len (i.places.ok.0 ∙ sym (ap length c.deref_mut.ensures.value) ∙ sym c.carry_all.auto.places) in
-    subst (λ ps. (length ps ≡ i.grid * i.grid * i.grid) × IfSome c.take.new.self (λ y. IsReady i.grid y.gone.items y.fresh.items ps y.plans.items) × IfSome i.note (λ n. IsNoteReady i.grid ps n) × StandAtPlaces i.grid (shown ps)) (sym e) (
-      c.carry_all.auto.places ∙ ap length c.deref_mut.ensures.value ∙ c.self.invariant.0,
-      if_none _ _ c.take.ensures.after,
-      if_some (λ n. IsNoteReady i.grid i.places.items n) (λ n. IsNoteReady i.grid after n) i.note (λ n k. note_swapped i.grid i.places.items after x.plans.items n given_are k) c.self.invariant.2,
-      stand_swapped i.grid x.gone.items x.fresh.items (shown i.places.items) (shown after) f c.self.invariant.3,
-    )
-
-pub returns-in-Some-clause-swapped : goal.returns-in-Some-clause-swapped
-returns-in-Some-clause-swapped c =
-    let e = c.in-Some.exchange in
-    let i = c.self.inside in
-    let after = c.carry_all.new.places in
+    let h = c.args.self.now in
+    let places = i.places.items in
+    let after = c.made.new.places in
     let known = c.in-Some.ensures.value in
-    let r = some_holds (λ e. IsReady i.grid e.gone.items e.fresh.items i.places.items e.plans.items) i.exchange e known c.self.invariant.1 in
-    let f = swapped_places i.grid e.gone.items e.fresh.items i.places.items after e.plans.items r c.self.invariant.3 (λ b. c.carry_all.ensures b ∙ ap (λ l. given e.plans.items b (layout_at l b)) c.deref_mut.ensures.value) in
-    let pair = same_pair e.gone.items c.args.gone.now e.fresh.items c.args.fresh.now (ap (option_map (λ e. (e.gone.items, e.fresh.items))) known ∙ ap (λ h. h.room.swap) c.self.view_is ∙ c.requires) in
-    swap_is c.args.self.now _ i.grid (shown i.places.items) (shown after) c.args.gone.now c.args.fresh.now e.gone.items e.fresh.items
-    (ap (λ h. h.grid) c.self.view_is) (ap (λ h. h.places) c.self.view_is) refl (ap shown (front_is after (drop (length after) i.places.items) i.places.len (i.places.ok.0 ∙ sym (ap length c.deref_mut.ensures.value) ∙ sym c.carry_all.auto.places)))
-    (shown_len after ∙ c.carry_all.auto.places ∙ ap length c.deref_mut.ensures.value ∙ sym (shown_len i.places.items)) pair.0 pair.1 f
+    let ready = some_holds (λ e. IsReady e.turned i.grid e.gone.items e.fresh.items places e.plans.items) i.exchange x known c.self.invariant.1 in
+    let m : IsMade i.back x c.made.result places after = subst (λ l. IsMade i.back x c.made.result l after) c.deref_mut.ensures.value c.made.ensures in
+    let pair = same_pair x.gone.items c.args.gone.now x.fresh.items c.args.fresh.now (ap (option_map (λ e. (e.gone.items, e.fresh.items))) known ∙ ap (λ h. h.room.swap) c.self.view_is ∙ c.requires.room) in
+    let e = front_is after (drop (length after) places) i.places.len (i.places.ok.0 ∙ sym (ap length c.deref_mut.ensures.value) ∙ sym c.made.auto.places) in
+    let found : i.back ≡ true → FindsCells h x.gone.items x.fresh.items = λ s. subst (λ l. FindsCells h l x.fresh.items) (sym pair.0) (subst (λ l. FindsCells h c.args.gone.now l) (sym pair.1) (c.requires.found (sym (ap (λ k. k.room.back) c.self.view_is) ∙ s))) in
+    subst (λ ps. (length ps ≡ i.grid * i.grid * i.grid) × IfSome c.made.result (λ y. IsReady y.turned i.grid y.gone.items y.fresh.items ps y.plans.items) × IfSome i.note (λ n. IsNoteReady i.grid ps n) × IfSome i.point (λ n. IsPointReady i.grid ps n) × StandAtPlaces i.grid (shown ps)) (sym e)
+    (swap_keeps i.grid x c.made.result places after i.back ready c.self.invariant.4 m i.point i.note h (ap (λ k. k.grid) (sym c.self.view_is)) (ap (λ k. k.places) (sym c.self.view_is)) found c.self.invariant.0 c.self.invariant.2 c.self.invariant.3)
+
+pub invariant_of-self-in-Some-2 : goal.invariant_of-self-in-Some-2
+invariant_of-self-in-Some-2 c =
+    let x = c.in-Some.exchange in
+    let i = c.self.inside in
+    let h = c.args.self.now in
+    let places = i.places.items in
+    let after = c.made.new.places in
+    let known = c.in-Some.ensures.value in
+    let ready = some_holds (λ e. IsReady e.turned i.grid e.gone.items e.fresh.items places e.plans.items) i.exchange x known c.self.invariant.1 in
+    let m : IsMade i.back x c.made.result places after = subst (λ l. IsMade i.back x c.made.result l after) c.deref_mut.ensures.value c.made.ensures in
+    let pair = same_pair x.gone.items c.args.gone.now x.fresh.items c.args.fresh.now (ap (option_map (λ e. (e.gone.items, e.fresh.items))) known ∙ ap (λ h. h.room.swap) c.self.view_is ∙ c.requires.room) in
+    let e = front_is after (drop (length after) places) i.places.len (i.places.ok.0 ∙ sym (ap length c.deref_mut.ensures.value) ∙ sym c.made.auto.places) in
+    let found : i.back ≡ true → FindsCells h x.gone.items x.fresh.items = λ s. subst (λ l. FindsCells h l x.fresh.items) (sym pair.0) (subst (λ l. FindsCells h c.args.gone.now l) (sym pair.1) (c.requires.found (sym (ap (λ k. k.room.back) c.self.view_is) ∙ s))) in
+    subst (λ ps. (length ps ≡ i.grid * i.grid * i.grid) × IfSome c.made.result (λ y. IsReady y.turned i.grid y.gone.items y.fresh.items ps y.plans.items) × IfSome i.note (λ n. IsNoteReady i.grid ps n) × IfSome i.point (λ n. IsPointReady i.grid ps n) × StandAtPlaces i.grid (shown ps)) (sym e)
+    (swap_keeps i.grid x c.made.result places after i.back ready c.self.invariant.4 m i.point i.note h (ap (λ k. k.grid) (sym c.self.view_is)) (ap (λ k. k.places) (sym c.self.view_is)) found c.self.invariant.0 c.self.invariant.2 c.self.invariant.3)
+
+pub returns-in-Some : goal.returns-in-Some
+returns-in-Some c = elim c.match-self-made.branch [
+  | in-Some-1 w ↦ (
+      let x = c.in-Some.exchange in
+      let i = c.self.inside in
+      let h = c.args.self.now in
+      let places = i.places.items in
+      let after = c.made.new.places in
+      let known = c.in-Some.ensures.value in
+      let ready = some_holds (λ e. IsReady e.turned i.grid e.gone.items e.fresh.items places e.plans.items) i.exchange x known c.self.invariant.1 in
+      let m : IsMade i.back x c.made.result places after = subst (λ l. IsMade i.back x c.made.result l after) c.deref_mut.ensures.value c.made.ensures in
+      let pair = same_pair x.gone.items c.args.gone.now x.fresh.items c.args.fresh.now (ap (option_map (λ e. (e.gone.items, e.fresh.items))) known ∙ ap (λ h. h.room.swap) c.self.view_is ∙ c.requires.room) in
+      let e = front_is after (drop (length after) places) i.places.len (i.places.ok.0 ∙ sym (ap length c.deref_mut.ensures.value) ∙ sym c.made.auto.places) in
+      let f = swap_shown i.grid x c.made.result places after i.back ready c.self.invariant.4 m in
+      let done = swap_is h _ i.grid (shown places) (shown after) c.args.gone.now c.args.fresh.now x.gone.items x.fresh.items
+      (ap (λ k. k.grid) c.self.view_is) (ap (λ k. k.places) c.self.view_is) (ap (λ k. k.grid) w.self-is) (ap (λ k. k.places) w.self-is ∙ ap shown e)
+      (shown_len after ∙ m.made.count ∙ sym (shown_len places)) pair.0 pair.1 f in
+      record {
+        swapped = done;
+        room = ap (λ k. k.room) w.self-is ∙ room_after c.made.result i.note i.point i.back (next_room i.back x m.after c.made.result c.args.gone.now c.args.fresh.now pair.0 pair.1 m.is) ∙ ap (λ k. record k.room { swap = swap_after k.room.back c.args.gone.now c.args.fresh.now }) c.self.view_is;
+      }
+      )
+  | in-None-1 w ↦ (
+      let x = c.in-Some.exchange in
+      let i = c.self.inside in
+      let h = c.args.self.now in
+      let places = i.places.items in
+      let after = c.made.new.places in
+      let known = c.in-Some.ensures.value in
+      let ready = some_holds (λ e. IsReady e.turned i.grid e.gone.items e.fresh.items places e.plans.items) i.exchange x known c.self.invariant.1 in
+      let m : IsMade i.back x c.made.result places after = subst (λ l. IsMade i.back x c.made.result l after) c.deref_mut.ensures.value c.made.ensures in
+      let pair = same_pair x.gone.items c.args.gone.now x.fresh.items c.args.fresh.now (ap (option_map (λ e. (e.gone.items, e.fresh.items))) known ∙ ap (λ h. h.room.swap) c.self.view_is ∙ c.requires.room) in
+      let e = front_is after (drop (length after) places) i.places.len (i.places.ok.0 ∙ sym (ap length c.deref_mut.ensures.value) ∙ sym c.made.auto.places) in
+      let f = swap_shown i.grid x c.made.result places after i.back ready c.self.invariant.4 m in
+      let done = swap_is h _ i.grid (shown places) (shown after) c.args.gone.now c.args.fresh.now x.gone.items x.fresh.items
+      (ap (λ k. k.grid) c.self.view_is) (ap (λ k. k.places) c.self.view_is) (ap (λ k. k.grid) w.self-is) (ap (λ k. k.places) w.self-is ∙ ap shown e)
+      (shown_len after ∙ m.made.count ∙ sym (shown_len places)) pair.0 pair.1 f in
+      record {
+        swapped = done;
+        room = ap (λ k. k.room) w.self-is ∙ room_after c.made.result i.note i.point i.back (next_room i.back x m.after c.made.result c.args.gone.now c.args.fresh.now pair.0 pair.1 m.is) ∙ ap (λ k. record k.room { swap = swap_after k.room.back c.args.gone.now c.args.fresh.now }) c.self.view_is;
+      }
+      )
+]

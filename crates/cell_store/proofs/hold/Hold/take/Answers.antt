@@ -43,7 +43,8 @@ invariant_of-self c =
       len_set places b _ ∙ c.self.invariant.0,
       tt,
       tt,
-      subst (λ o. StandAtPlaces i.grid (shown (slice_set places b o))) (sym c.take.ensures.after) (subst (StandAtPlaces i.grid) (sym (shown_set places b None)) (stand_take i.grid b (shown places) h c.self.invariant.3)),
+      tt,
+      subst (λ o. StandAtPlaces i.grid (shown (slice_set places b o))) (sym c.take.ensures.after) (subst (StandAtPlaces i.grid) (sym (shown_set places b None)) (stand_take i.grid b (shown places) h c.self.invariant.4)),
     )
 
 pub returns-clause-place : goal.returns-clause-place
@@ -53,7 +54,7 @@ returns-clause-place c =
     let n : b < length (shown i.places.items) = subst (λ (l : List (Option BucketContent)). b < length l) (sym (ap (λ h. h.places) c.self.view_is)) (in_hand_below c.args.self.now.places b c.requires) in
     let h : b < length i.places.items = subst (λ n. b < n) (shown_len i.places.items) n in
     let e = within_list i.places.items b c.index_mut.result.now None h c.index_mut.ensures.value ∙ sym c.in-Some.ensures.value in
-    c.self.invariant.3 b (content_of c.in-Some.bucket) (shown_is i.places.items b c.in-Some.bucket e) ∙ ap (λ g. Some (g, b)) (ap (λ h. h.grid) c.self.view_is)
+    c.self.invariant.4 b (content_of c.in-Some.bucket) (shown_is i.places.items b c.in-Some.bucket e) ∙ ap (λ g. Some (g, b)) (ap (λ h. h.grid) c.self.view_is)
 
 pub returns-clause-after : goal.returns-clause-after
 returns-clause-after c =
