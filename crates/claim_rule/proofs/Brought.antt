@@ -4,7 +4,7 @@ use Rattle.std.specs.Option.{option_map}
 use Rattle.std.proofs.Common.{refl, sym, ◌∙◌, ap, arith, ext_get_or}
 use Rattle.point_order.specs.declared.cell.Cell.{Cell}
 use Rattle.edit_history.specs.declared.history.Entry.{Entry}
-use Rattle.edit_history.specs.Edits.{point_of}
+use Rattle.edit_history.specs.Edits.{is_move, point_of}
 use Rattle.cell_store.specs.Grids.{bucket_of}
 use Rattle.cell_store.specs.Buckets.{BucketContent, InHand, bucket_at}
 use Rattle.cell_store.specs.Shares.{IsShare, share_at}
@@ -25,9 +25,9 @@ place_stays g b e c = by (bucket_of g (point_of e.edit) == b)
 is_share_at : (g b : ℕ) (h : List Entry) (c : BucketContent) → IsShare g b h c → c.place ≡ Some (g, b) → c ≡ share_at g b h
 is_share_at g b h c s p = λ i. record { points = s.points i; cells = s.cells i; entries = s.entries i; place = p i }
 
-pub brought : (g : ℕ) (h : List Entry) (e : Entry) (gone fresh : List Cell) (old between new : InHand) → old.grid ≡ g → AreSharesOf g h old.places → IsNext h e gone fresh → IsSwapped gone fresh old between → IsNoted e between new
+pub brought : (g : ℕ) (h : List Entry) (e : Entry) (gone fresh : List Cell) (old between new : InHand) → old.grid ≡ g → AreSharesOf g h old.places → IsNext h e gone fresh → is_move e.edit ≡ false → IsSwapped gone fresh old between → IsNoted e between new
     → new.places ≡ renewed_from g (h ++ e ∷ []) 0 old.places
-brought g h e gone fresh old between new same shares next swap note =
+brought g h e gone fresh old between new same shares next still swap note =
     let h' : List Entry = h ++ e ∷ [] in
     let wide : length new.places ≡ length (renewed_from g h' 0 old.places) = note.count ∙ swap.count ∙ sym (renewed_length g h' 0 old.places) in
     ext_get_or None new.places (renewed_from g h' 0 old.places) wide (λ b l.
@@ -45,4 +45,4 @@ brought g h e gone fresh old between new same shares next swap note =
         let is : c ≡ share_at g b h = f c refl in
         let s : IsShare g b h c = record { points = ap (λ (x : BucketContent). x.points) is; cells = ap (λ (x : BucketContent). x.cells) is; entries = ap (λ (x : BucketContent). x.entries) is } in
         let p : c.place ≡ Some (g, b) = ap (λ (x : BucketContent). x.place) is in
-        ap (λ (x : BucketContent). Some x) (is_share_at g b (h ++ e ∷ []) (noted_in g b e (swapped_in g b gone fresh c)) (share_after_entry g b h e gone fresh c next s) (place_stays g b e (swapped_in g b gone fresh c) ∙ p))
+        ap (λ (x : BucketContent). Some x) (is_share_at g b (h ++ e ∷ []) (noted_in g b e (swapped_in g b gone fresh c)) (share_after_entry g b h e gone fresh c next still s) (place_stays g b e (swapped_in g b gone fresh c) ∙ p))

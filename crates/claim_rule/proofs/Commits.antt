@@ -5,10 +5,9 @@ use Rattle.std.proofs.Common.{refl, sym, ◌∙◌, ap, subst, inl, inr, arith}
 use Rattle.list_laws.proofs.Cited.{filtered_from, filtered_true, is_there, one_value, same_there, some_mapped, within_some}
 use mathlib.Core.Logic.{dite}
 use native.Mathlib.Decide.{ℕ_discrete}
-use Rattle.point_order.specs.Coordinates.{IsKey}
 use Rattle.edit_history.specs.declared.history.Edit.{Edit}
 use Rattle.edit_history.specs.declared.history.Entry.{Entry}
-use Rattle.edit_history.specs.Edits.{point_of}
+use Rattle.edit_history.specs.Edits.{HasKeys, is_move, point_of}
 use Rattle.edit_history.specs.Histories.{replay}
 use Rattle.cell_store.specs.Buckets.{BucketContent, bucket_at}
 use Rattle.cell_store.specs.Touches.{HoldTouched}
@@ -54,7 +53,7 @@ renewed_back g h l b t = mapped_back (λ c. share_at g (0 + b) h) (bucket_at l b
 
 -- ---- the step
 
-pub commit_keeps : (s : BoardState) (h : List Entry) (n tag : ℕ) (edit : Edit) (v : View) → IsGood s h → view_at s n ≡ Some v → IsKey (point_of edit) → 0 < v.left → HoldTouched s.grid (replay h) edit v.held
+pub commit_keeps : (s : BoardState) (h : List Entry) (n tag : ℕ) (edit : Edit) (v : View) → IsGood s h → view_at s n ≡ Some v → HasKeys edit → 0 < v.left → HoldTouched s.grid (replay h) edit v.held
     → IsGood (committed h s n tag edit) (h ++ entry_after h s.ticket n tag edit ∷ [])
 commit_keeps s h n tag edit v good at key some touched =
     let live : IsLive s v = live_at s h n v good at in

@@ -4,12 +4,11 @@ use Rattle.std.proofs.Common.{Fits, w64, refl, sym, ◌∙◌, ap, subst, inl, i
 use Rattle.std.proofs.lemmas.Bool.{eqb-true, eq-eqb}
 use Rattle.list_laws.proofs.Cited.{all_of_each, each_of_all, one_value, same_there, some_and, some_of, to_some, within_some}
 use Rattle.point_order.specs.declared.cell.Cell.{Cell}
-use Rattle.point_order.specs.Coordinates.{IsKey}
 use Rattle.point_order.specs.Complex.{complex}
 use Rattle.point_order.specs.Facets.{points_of}
 use Rattle.edit_history.specs.declared.history.Edit.{Edit}
 use Rattle.edit_history.specs.declared.history.Entry.{Entry}
-use Rattle.edit_history.specs.Edits.{point_of, after}
+use Rattle.edit_history.specs.Edits.{HasKeys, is_move, point_of, after}
 use Rattle.edit_history.specs.Histories.{replay}
 use Rattle.cell_store.specs.Grids.{bucket_of}
 use Rattle.cell_store.specs.Buckets.{BucketContent, InHand, bucket_at}
@@ -138,18 +137,18 @@ committed_next :
     (old new : InHand) (parts most : ℕ) (opening : List Entry) (ticket : ℕ) (words : List ℕ)
     (seats : List (Option Seat)) (h : List Entry) (n tag : ℕ) (edit : Edit) (seat : Seat) →
     IsGood (kept old.grid parts most opening ticket words old.places seats) h → length old.places ≡ length words →
-    slice_index_or seats n None ≡ Some seat → IsKey (point_of edit) → 0 < seat.left →
+    slice_index_or seats n None ≡ Some seat → HasKeys edit → is_move edit ≡ false → 0 < seat.left →
     IsMade words (replay h) ticket n tag edit old new →
     Next h (kept old.grid parts most opening ticket words old.places seats) (Commit n tag edit) Done
     (kept new.grid parts most opening (ticket + 1) words new.places (slice_set seats n (Some (record seat { left = seat.left - 1; seen = ticket + 1 }))))
-committed_next old new parts most opening ticket words seats h n tag edit seat good wide live key some made =
+committed_next old new parts most opening ticket words seats h n tag edit seat good wide live key still some made =
     let g : ℕ = old.grid in
     let s : BoardState = kept g parts most opening ticket words old.places seats in
     let x = made.exchanged in
     let next : IsNext h (entry_after h ticket n tag edit) made.gone made.fresh =
     next_of s h n tag edit made.gone made.fresh good key made.change in
     let shares = all_are_shares g parts most opening ticket words old.places seats h good wide in
-    let is = brought g h (entry_after h ticket n tag edit) made.gone made.fresh old x.between new refl shares next
+    let is = brought g h (entry_after h ticket n tag edit) made.gone made.fresh old x.between new refl shares next still
     x.swapped x.noted in
     let grid : new.grid ≡ g = x.noted.grid ∙ x.swapped.grid in
     subst (λ (k : ℕ). Next h s (Commit n tag edit) Done (kept k parts most opening (ticket + 1) words new.places (slice_set seats n (Some (record seat { left = seat.left - 1; seen = ticket + 1 }))))) (sym grid)
@@ -169,14 +168,14 @@ pub made_next :
     (old new : InHand) (parts most : ℕ) (opening : List Entry) (ticket : ℕ) (words words' : List ℕ)
     (seats : List (Option Seat)) (h : List Entry) (n tag : ℕ) (edit : Edit) (seat : Seat) → words' ≡ words →
     IsGood (kept old.grid parts most opening ticket words old.places seats) h → length old.places ≡ length words' →
-    (slice_index_or seats n None ≡ Some seat) × (0 < seat.left) → IsKey (point_of edit) →
+    (slice_index_or seats n None ≡ Some seat) × (0 < seat.left) → HasKeys edit → is_move edit ≡ false →
     ((s : List ℕ) → Shows old s → EditGives words' s ticket n tag edit old true new) →
     Next h (kept old.grid parts most opening ticket words old.places seats) (Commit n tag edit) Done
     (kept new.grid parts most opening (ticket + 1) words new.places (slice_set seats n (Some (record seat { left = seat.left - 1; seen = ticket + 1 }))))
-made_next old new parts most opening ticket words words' seats h n tag edit seat same good wide live key made =
+made_next old new parts most opening ticket words words' seats h n tag edit seat same good wide live key still made =
     let wide' = wide ∙ ap length same in
     let shows = shown_set old parts most opening ticket words seats h good wide' in
-    committed_next old new parts most opening ticket words seats h n tag edit seat good wide' live.0 key live.1
+    committed_next old new parts most opening ticket words seats h n tag edit seat good wide' live.0 key still live.1
     (subst (λ (w : List ℕ). IsMade w (replay h) ticket n tag edit old new) same (made (replay h) shows))
 
 -- and the condition of a commit fails where it is not made

@@ -3,11 +3,10 @@ use Rattle.std.specs.Prelude.{◌≡◌, ℕ, List, [], ◌∷◌, ◌++◌}
 use Rattle.std.proofs.Common.{refl, sym, subst}
 use Rattle.point_order.specs.declared.cell.Cell.{Cell}
 use Rattle.point_order.specs.Complex.{complex}
-use Rattle.point_order.specs.Coordinates.{IsKey}
 use Rattle.point_order.specs.Sets.{IsIn}
 use Rattle.edit_history.specs.declared.history.Edit.{Edit}
 use Rattle.edit_history.specs.declared.history.Entry.{Entry}
-use Rattle.edit_history.specs.Edits.{point_of, after}
+use Rattle.edit_history.specs.Edits.{HasKeys, is_move, point_of, after}
 use Rattle.edit_history.specs.Histories.{replay}
 use Rattle.edit_history.proofs.Cited.{leaves_set}
 use Rattle.hole_laws.specs.Edits.{IsSolidSet}
@@ -36,15 +35,15 @@ both_out s t gone fresh g f = record {
 }
 
 -- the entry of an edit is next
-pub next_of : (s : BoardState) (h : List Entry) (by tag : ℕ) (edit : Edit) (gone fresh : List Cell) → IsGood s h → IsKey (point_of edit) → IsChange (complex (replay h)) (complex (after (replay h) edit)) gone fresh → IsNext h (entry_after h s.ticket by tag edit) gone fresh
+pub next_of : (s : BoardState) (h : List Entry) (by tag : ℕ) (edit : Edit) (gone fresh : List Cell) → IsGood s h → HasKeys edit → IsChange (complex (replay h)) (complex (after (replay h) edit)) gone fresh → IsNext h (entry_after h s.ticket by tag edit) gone fresh
 next_of s h by tag edit gone fresh good key change =
     next_entry h (entry_after h s.ticket by tag edit) gone fresh (sound s h good) key (record { number = good.ticket; reply = refl; change = change })
 
 -- so the history with it is legal, and leaves a solid set of keys
-pub some_next : (s : BoardState) (h : List Entry) (by tag : ℕ) (edit : Edit) → IsGood s h → IsKey (point_of edit)
+pub some_next : (s : BoardState) (h : List Entry) (by tag : ℕ) (edit : Edit) → IsGood s h → HasKeys edit
     → IsNext h (entry_after h s.ticket by tag edit) (without_cells (complex (after (replay h) edit)) (complex (replay h))) (without_cells (complex (replay h)) (complex (after (replay h) edit)))
 some_next s h by tag edit good key = next_of s h by tag edit _ _ good key (both_out (complex (replay h)) (complex (after (replay h) edit)) _ _ refl refl)
 
 -- a bucket that the edit does not touch keeps its share
-pub stays_outside : (s : BoardState) (h : List Entry) (b number by tag : ℕ) (edit : Edit) → IsGood s h → IsKey (point_of edit) → ¬ (IsTouched s.grid (replay h) edit b) → share_at s.grid b (h ++ entry_after h number by tag edit ∷ []) ≡ share_at s.grid b h
+pub stays_outside : (s : BoardState) (h : List Entry) (b number by tag : ℕ) (edit : Edit) → IsGood s h → HasKeys edit → ¬ (IsTouched s.grid (replay h) edit b) → share_at s.grid b (h ++ entry_after h number by tag edit ∷ []) ≡ share_at s.grid b h
 stays_outside s h b number by tag edit good key apart = share_outside s.grid b h (entry_after h number by tag edit) (set_of s h good) key apart

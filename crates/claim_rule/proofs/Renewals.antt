@@ -5,10 +5,9 @@ use Rattle.std.proofs.Common.{refl, sym, ◌∙◌, ap, subst, arith, ext_get_or
 use Rattle.std.proofs.lemmas.Bool.{eqb-true}
 use Rattle.std.proofs.lemmas.List.{map-set}
 use Rattle.list_laws.proofs.Cited.{is_there, same_there, set_twice, to_some, within}
-use Rattle.point_order.specs.Coordinates.{IsKey}
 use Rattle.edit_history.specs.declared.history.Edit.{Edit}
 use Rattle.edit_history.specs.declared.history.Entry.{Entry}
-use Rattle.edit_history.specs.Edits.{point_of}
+use Rattle.edit_history.specs.Edits.{HasKeys, is_move, point_of}
 use Rattle.edit_history.specs.Histories.{replay}
 use Rattle.cell_store.specs.Buckets.{BucketContent, bucket_at}
 use Rattle.claim_rule.specs.declared.board.Seat.{Seat}
@@ -68,7 +67,7 @@ others_stay t g ticket words places h n tag edit shares touched apart local =
     ∙ sym (shares b c e))
 
 pub commit_next : (g parts most : ℕ) (opening : List Entry) (ticket : ℕ) (words : List ℕ) (places : List (Option BucketContent)) (seats : List (Option Seat)) (h : List Entry) (n tag : ℕ) (edit : Edit) (seat : Seat) (places' : List (Option BucketContent)) →
-    IsGood (kept g parts most opening ticket words places seats) h → slice_index_or seats n None ≡ Some seat → IsKey (point_of edit) → 0 < seat.left →
+    IsGood (kept g parts most opening ticket words places seats) h → slice_index_or seats n None ≡ Some seat → HasKeys edit → 0 < seat.left →
     HoldTouched g (replay h) edit (held_by n words places) → places' ≡ renewed_from g (h ++ entry_after h ticket n tag edit ∷ []) 0 places →
     Next h (kept g parts most opening ticket words places seats) (Commit n tag edit) Done
     (kept g parts most opening (ticket + 1) words places' (slice_set seats n (Some (record seat { left = seat.left - 1; seen = ticket + 1 }))))

@@ -8,9 +8,9 @@ use Rattle.point_order.specs.Facets.{points_of}
 use Rattle.point_order.specs.Sets.{IsIn, IsAscending, is_among, with_point}
 use Rattle.point_order.proofs.Cited.{in_with, in_with_new, in_with_old}
 use Rattle.edit_history.specs.declared.history.Edit.{Edit}
-use Rattle.edit_history.specs.declared.history.Edit.TheVariants.{Add, Take}
+use Rattle.edit_history.specs.declared.history.Edit.TheVariants.{Add, Take, Move}
 use Rattle.edit_history.specs.declared.history.Reply.TheVariants.{Inserted, Duplicate}
-use Rattle.edit_history.specs.Edits.{point_of, reply_to, changed, after}
+use Rattle.edit_history.specs.Edits.{is_move, point_of, reply_to, changed, after}
 use Rattle.del_laws.proofs.Cited.{listed_inside, listed_is_cell}
 use Rattle.hole_laws.specs.Commuting.{Reaches}
 use Rattle.cell_store.specs.Swaps.{without_cells}
@@ -43,8 +43,9 @@ added p s q = by (is_among p s) refl
     )
 
 -- the cells near an edit have the points that it reaches beside its own
-near_reached : (s : List ℕ) (edit : Edit) (gone fresh near : List Cell) → IsAscending s → IsChange (complex s) (complex (after s edit)) gone fresh → near ≡ near_cells edit (complex s) gone → (p : ℕ) → Reaches s edit p ↔ ((p ≡ point_of edit) ⊎ IsOnSome near p)
-near_reached s (Add v) gone fresh near order change is p = (there, back)
+near_reached : (s : List ℕ) (edit : Edit) (gone fresh near : List Cell) → IsAscending s → is_move edit ≡ false → IsChange (complex s) (complex (after s edit)) gone fresh → near ≡ near_cells edit (complex s) gone → (p : ℕ) → Reaches s edit p ↔ ((p ≡ point_of edit) ⊎ IsOnSome near p)
+near_reached s (Move a b) gone fresh near order still change is p = absurd cc
+near_reached s (Add v) gone fresh near order still change is p = (there, back)
   where
     absent : IsIn v s → complex (after s (Add v)) ≡ complex s
     absent i = ap (λ b. complex (changed s v (if b then Duplicate else Inserted))) (among_true v s i)
@@ -70,7 +71,7 @@ near_reached s (Add v) gone fresh near order change is p = (there, back)
         let k = change.went o.cell (subst (λ (l : List Cell). IsIn o.cell l) is o.listed) in
         let n : IsIn v s → ⊥ = λ i. k.1 (subst (λ (l : List Cell). IsIn o.cell l) (sym (absent i)) k.0) in
         inr (n, record { q = o.cell; goes = record { before = k.0; after = λ i. k.1 (subst (λ (l : List Cell). IsIn o.cell l) (sym (new n)) i) }; has = o.has })
-near_reached s (Take v) gone fresh near order change is p = (there, back)
+near_reached s (Take v) gone fresh near order still change is p = (there, back)
   where
     there : Reaches s (Take v) p → (p ≡ v) ⊎ IsOnSome near p
     there (inl e) = inl e
@@ -88,14 +89,14 @@ near_reached s (Take v) gone fresh near order change is p = (there, back)
         inr (listed_inside s o.cell (listed_is_cell s o.cell order k.0) v h, record { q = o.cell; listed = k.0; has_p = h; has_e = o.has })
 
 -- what was found is the trial of the edit
-pub found_trial : (s : List ℕ) (edit : Edit) (t : Trial) (before next : List Cell) → IsAscending s → t.reply ≡ reply_to s edit → before ≡ complex s → next ≡ complex (after s edit)
+pub found_trial : (s : List ℕ) (edit : Edit) (t : Trial) (before next : List Cell) → IsAscending s → is_move edit ≡ false → t.reply ≡ reply_to s edit → before ≡ complex s → next ≡ complex (after s edit)
     → t.gone.items ≡ without_cells next before → t.fresh.items ≡ without_cells before next → t.near.items ≡ near_cells edit before t.gone.items
     → IsTrialOf s edit t
-found_trial s edit t before next order r b n g f k =
+found_trial s edit t before next order still r b n g f k =
     let change : IsChange (complex s) (complex (after s edit)) t.gone.items t.fresh.items =
     both_out (complex s) (complex (after s edit)) t.gone.items t.fresh.items (g ∙ (λ i. without_cells (n i) (b i))) (f ∙ (λ i. without_cells (b i) (n i))) in
     record {
       reply = r;
       change = change;
-      near = near_reached s edit t.gone.items t.fresh.items t.near.items order change (k ∙ ap (λ l. near_cells edit l t.gone.items) b);
+      near = near_reached s edit t.gone.items t.fresh.items t.near.items order still change (k ∙ ap (λ l. near_cells edit l t.gone.items) b);
     }

@@ -1,11 +1,10 @@
 -- Commits of two passes commute.
 use Rattle.std.specs.Prelude.{◌≡◌, ◌≢◌, ℕ, ◌+◌, List, [], ◌∷◌, ◌++◌, map, Option}
 use Rattle.std.specs.Option.{option_map}
-use Rattle.point_order.specs.Coordinates.{IsKey}
 use Rattle.point_order.specs.declared.cell.Cell.{Cell}
 use Rattle.edit_history.specs.declared.history.Edit.{Edit}
 use Rattle.edit_history.specs.declared.history.Entry.{Entry}
-use Rattle.edit_history.specs.Edits.{point_of}
+use Rattle.edit_history.specs.Edits.{HasKeys}
 use Rattle.cell_store.specs.Buckets.{BucketContent}
 use Rattle.claim_rule.specs.declared.event.Event.TheVariants.{Commit}
 use Rattle.claim_rule.specs.declared.event.Played.TheVariants.{Done}
@@ -55,7 +54,7 @@ pub record ComeSwapped (h : List Entry) (s : BoardState) (n m tag tag' : ℕ) (e
 abbrev pub CommitsCommute : Type 0
 CommitsCommute =
     (h : List Entry) (s : BoardState) (n m tag tag' : ℕ) (edit edit' : Edit) (middle last : BoardState) →
-    IsGood s h → IsKey (point_of edit) → IsKey (point_of edit') → n ≢ m →
+    IsGood s h → HasKeys edit → HasKeys edit' → n ≢ m →
     Next h s (Commit n tag edit) Done middle →
     Next (h ++ entry_after h s.ticket n tag edit ∷ []) middle (Commit m tag' edit') Done last →
     ComeSwapped h s n m tag tag' edit edit' last

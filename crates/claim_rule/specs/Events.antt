@@ -2,6 +2,7 @@
 use Rattle.std.specs.Prelude.{
   ◌≡◌,
   ◌≢◌,
+  false,
   ℕ,
   ◌+◌,
   ◌-◌,
@@ -23,10 +24,9 @@ use Rattle.std.specs.Prelude.{
   slice_index_or,
 }
 use Rattle.std.specs.Option.{option_map, option_map_or, option_and_then}
-use Rattle.point_order.specs.Coordinates.{IsKey}
 use Rattle.edit_history.specs.declared.history.Edit.{Edit}
 use Rattle.edit_history.specs.declared.history.Entry.{Entry}
-use Rattle.edit_history.specs.Edits.{point_of, reply_to}
+use Rattle.edit_history.specs.Edits.{HasKeys, is_move, reply_to}
 use Rattle.edit_history.specs.Histories.{replay}
 use Rattle.cell_store.specs.Buckets.{BucketContent, bucket_at}
 use Rattle.claim_rule.specs.declared.event.Event.{Event}
@@ -179,10 +179,15 @@ abbrev pub history_after : List Entry → BoardState → Event → Played → Li
 history_after h s (Commit n tag edit) Done = h ++ entry_after h s.ticket n tag edit ∷ []
 history_after h s _ _ = h
 
--- the edit of a commit has a point for its point
+-- the points of a commit's edit are points
 abbrev pub HasKey : Event → Type 0
-HasKey (Commit n tag edit) = IsKey (point_of edit)
+HasKey (Commit n tag edit) = HasKeys edit
 HasKey _ = Unit {0}
+
+-- no commit moves a point
+abbrev pub MovesNone : Event → Type 0
+MovesNone (Commit n tag edit) = is_move edit ≡ false
+MovesNone _ = Unit {0}
 
 -- it is a commit
 abbrev pub is_commit : Event → Type 0

@@ -1,12 +1,12 @@
 -- What an edit changes, found by trial: the cells that go and come, and the points that it reaches.
-use Rattle.std.specs.Prelude.{◌≡◌, ◌⊎◌, ◌↔◌, ℕ, ◌+◌, ◌<◌, List, length, slice_index_or}
+use Rattle.std.specs.Prelude.{◌≡◌, ◌⊎◌, ◌↔◌, ℕ, ◌+◌, ◌<◌, List, [], length, slice_index_or}
 use Rattle.std.specs.List.{filter}
 use Rattle.point_order.specs.declared.cell.Cell.{Cell}
 use Rattle.point_order.specs.Complex.{complex}
 use Rattle.point_order.specs.Facets.{points_of}
 use Rattle.point_order.specs.Sets.{IsIn, is_among}
 use Rattle.edit_history.specs.declared.history.Edit.{Edit}
-use Rattle.edit_history.specs.declared.history.Edit.TheVariants.{Add, Take}
+use Rattle.edit_history.specs.declared.history.Edit.TheVariants.{Add, Take, Move}
 use Rattle.edit_history.specs.Edits.{point_of, reply_to, after}
 use Rattle.hole_laws.specs.Commuting.{Reaches}
 use Rattle.cell_store.specs.Changes.{IsChange}
@@ -31,6 +31,7 @@ pub record IsOnSome (cells : List Cell) (p : ℕ) : Type 0 where
 abbrev pub near_cells : Edit → List Cell → List Cell → List Cell
 near_cells (Add p) all gone = gone
 near_cells (Take v) all gone = filter (λ c. is_among v (points_of c)) all
+near_cells (Move a b) all gone = []
 
 -- The edit of s gets this reply, and takes away and brings exactly these cells. It reaches its own
 -- point, and the points of the cells near it.

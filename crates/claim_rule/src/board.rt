@@ -31,7 +31,7 @@ ghost use Rattle.std.specs.Prelude.{
   slice_index_or,
 };
 ghost use Rattle.edit_history.specs.declared.history.Entry.{Entry};
-ghost use Rattle.edit_history.specs.Edits.{point_of};
+ghost use Rattle.edit_history.specs.Edits.{is_move, point_of};
 ghost use Rattle.point_order.specs.Coordinates.{IsKey};
 ghost use Rattle.point_order.specs.Facets.{points_of};
 ghost use Rattle.cell_store.specs.Buckets.{bucket_at};
@@ -42,7 +42,7 @@ ghost use Rattle.claim_rule.specs.Boards.{word_of};
 ghost use Rattle.claim_rule.specs.Making.{IsExchanged, EditGives};
 ghost use Rattle.claim_rule.specs.Trials.{IsNamed};
 ghost use Rattle.claim_rule.specs.Good.{IsGood, Good};
-ghost use Rattle.claim_rule.specs.Events.{Next, is_commit};
+ghost use Rattle.claim_rule.specs.Events.{MovesNone, Next, is_commit};
 ghost use Rattle.claim_rule.specs.declared.event.Event.TheVariants.{Claim, Commit, Release, Look, Split, Join};
 ghost use Rattle.claim_rule.specs.Opening.{opening_board};
 
@@ -163,7 +163,7 @@ fn exchange(
     ensures exchanged { OnOk result (IsExchanged gone.now fresh.now entry hold.old hold.new) }
     ensures refused { OnErr result (hold.new ≡ hold.old) }
 {
-    hold.reserve(alloc, gone, fresh, entry.edit.point())?;
+    hold.reserve(alloc, gone, fresh, &entry.edit)?;
     hold.swap_cells(gone, fresh);
     hold.push_entry(entry);
     Ok(())
@@ -182,6 +182,7 @@ fn edit_in(
 ) -> Result<bool, AllocError>
     requires all { (b : ℕ) → b < length words.now → IsSome (bucket_at hold.old.places b) }
     requires as_many { length words.now ≡ hold.old.grid * hold.old.grid * hold.old.grid }
+    requires still { is_move edit ≡ false }
     ensures key { IfOk result (λ made. IsKey (point_of edit)) }
     ensures places { IfOk result (λ made. length hold.old.places ≡ length words.now) }
     ensures unmade { IfOk result (λ made. made ≡ false → hold.new ≡ hold.old) }
@@ -406,6 +407,7 @@ impl Board {
 
     // A commit.
     fn commit(&mut self, alloc: Global, n: u32, tag: u32, edit: Edit) -> Result<Played, AllocError>
+        requires { is_move edit ≡ false }
         ensures good { Good self.new }
         ensures next { IfOk result (λ answer. (h : List Entry) → IsGood self.old h →
             Next h self.old (Commit n tag edit) answer self.new) }
@@ -450,11 +452,12 @@ impl Board {
         }
     }
 
-    /// Makes an event, and answers whether it was done.
+    /// Makes an event, and answers whether it was done. A commit is to move no point.
     ///
     /// # Errors
     /// Want of memory, which a commit alone can meet. The board is then as before.
     pub fn play(&mut self, alloc: Global, event: &Event) -> Result<Played, AllocError>
+        requires still { MovesNone event.now }
         ensures good { Good self.new }
         ensures next { IfOk result (λ answer. (h : List Entry) → IsGood self.old h →
             Next h self.old event.now answer self.new) }

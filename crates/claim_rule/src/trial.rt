@@ -1,9 +1,10 @@
 //! What an edit changes, found by trial of all quadruples and triples of points.
 
-ghost use Rattle.std.specs.Prelude.{◌≡◌, ◌⊎◌, ◌↔◌, ℕ, List, IfOk, OnOk};
+ghost use Rattle.std.specs.Prelude.{◌≡◌, false, ◌⊎◌, ◌↔◌, ℕ, List, IfOk, OnOk};
 ghost use Rattle.std.specs.List.{filter};
 ghost use Rattle.point_order.specs.Facets.{points_of};
 ghost use Rattle.point_order.specs.Sets.{is_among};
+ghost use Rattle.edit_history.specs.Edits.{is_move};
 ghost use Rattle.cell_store.specs.Shares.{Shows};
 ghost use Rattle.cell_store.specs.Swaps.{is_cell_among, without_cells};
 ghost use Rattle.cell_store.specs.Meshes.{AllInHand};
@@ -75,20 +76,24 @@ fn cells_with(alloc: Global, cells: &[Cell], p: Point) -> Result<Vec<Cell>, Allo
 
 // The cells whose points the edit reaches beside its own.
 fn near(alloc: Global, edit: Edit, all: &[Cell], gone: &[Cell]) -> Result<Vec<Cell>, AllocError>
+    requires { is_move edit ≡ false }
     ensures { IfOk result (λ list. list.items ≡ near_cells edit all.now gone.now) }
 {
     match edit {
         Edit::Add(_) => Vec::from_slice(alloc, gone),
         Edit::Take(v) => cells_with(alloc, all, v),
+        Edit::Move(..) => unreachable!(),
     }
 }
 
-/// What the edit changes of the set that the hold shows, all of whose buckets are to be in hand.
+/// What the edit, which is to move nothing, changes of the set that the hold shows, all of whose buckets are to be in
+/// hand.
 ///
 /// # Errors
 /// Want of memory.
 pub fn trial_of(alloc: Global, hold: &Hold, edit: Edit) -> Result<Trial, AllocError>
-    requires { AllInHand hold.now }
+    requires all { AllInHand hold.now }
+    requires still { is_move edit ≡ false }
     ensures { IfOk result (λ t. (s : List ℕ) → Shows hold.now s → IsTrialOf s edit t) }
 {
     let mut set = all_points(alloc, hold)?;

@@ -5,8 +5,8 @@ use Rattle.claim_rule.proofs.Committing.{places_whole, made_of, unmade_of}
 use Rattle.claim_rule.proofs.board.edit_in.Goals as goal
 use Rattle.claim_rule.proofs.board.edit_in.Goals.{then-own+in_ok-exchange, else-own}
 
-pub trial_of-requires : goal.trial_of-requires
-trial_of-requires c =
+pub trial_of-requires-clause-all : goal.trial_of-requires-clause-all
+trial_of-requires-clause-all c =
     places_whole c.args.words.now c.args.hold.now.places _ c.grid-grid.ensures.places c.requires.as_many c.requires.all
 
 pub exchange-requires : goal.exchange-requires

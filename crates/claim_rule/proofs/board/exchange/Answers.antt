@@ -1,4 +1,4 @@
-use Rattle.std.proofs.Common.{Some, ◌∙◌, ap}
+use Rattle.std.proofs.Common.{◌∙◌, ap}
 use Rattle.cell_store.specs.Buckets.{InHand, Room}
 use Rattle.cell_store.proofs.Cited.{all_are_held, point_held}
 use Rattle.claim_rule.proofs.Committing.{swapped_same}
@@ -10,16 +10,19 @@ reserve-requires-clause-gone c = all_are_held c.args.hold.now c.args.gone.now c.
 pub reserve-requires-clause-fresh : goal.reserve-requires-clause-fresh
 reserve-requires-clause-fresh c = all_are_held c.args.hold.now c.args.fresh.now c.requires.has c.requires.all
 
-pub reserve-requires-clause-point : goal.reserve-requires-clause-point
-reserve-requires-clause-point c = point_held c.args.hold.now c.point.result c.requires.has c.requires.all
+pub reserve-requires-clause-points : goal.reserve-requires-clause-points
+reserve-requires-clause-points c p i = point_held c.args.hold.now p c.requires.has c.requires.all
 
-pub swap_cells-requires : goal.swap_cells-requires
-swap_cells-requires c = ap (λ (x : InHand). x.room.swap) c.in_ok-reserve.ensures.ok
+pub swap_cells-requires-clause-room : goal.swap_cells-requires-clause-room
+swap_cells-requires-clause-room c = ap (λ (x : InHand). x.room.swap) c.in_ok-reserve.ensures.ok
+
+pub swap_cells-requires-clause-found : goal.swap_cells-requires-clause-found
+swap_cells-requires-clause-found c back =
+    absurd (let e = ap (λ (x : InHand). x.room.back) c.in_ok-reserve.ensures.ok in cc (e, back))
 
 pub push_entry-requires : goal.push_entry-requires
 push_entry-requires c =
     ap (λ (r : Room). r.push) c.swap_cells.ensures.room ∙ ap (λ (x : InHand). x.room.push) c.in_ok-reserve.ensures.ok
-    ∙ (λ j. Some (c.point.ensures j))
 
 pub returns-clause-exchanged : goal.returns-clause-exchanged
 returns-clause-exchanged c = record {

@@ -1,6 +1,7 @@
 use Rattle.std.specs.Prelude.{MatchOption}
 use Rattle.std.proofs.Common.{◌≡◌, ◌<◌, Bool, ℕ, List, Option, None, Some, IsSomeAnd, length, slice_index_or, refl, sym, ◌∙◌, ap, subst}
 use Rattle.claim_rule.specs.declared.board.Seat.{Seat}
+use Rattle.edit_history.proofs.Cited.{still_keys}
 use Rattle.list_laws.proofs.Cited.{on_err}
 use Rattle.claim_rule.specs.declared.event.Event.TheVariants.{Commit}
 use Rattle.claim_rule.specs.declared.event.Played.TheVariants.{Done}
@@ -82,11 +83,11 @@ invariant_of-self-2 c =
     let new = c.edit_in.new.hold in
     let h = c.self.invariant.0 in
     let good = c.self.invariant.1 in
-    good_by h _ (Commit c.args.n c.args.tag c.args.edit) Done _ good c.in_ok-edit_in.ensures.key
+    good_by h _ (Commit c.args.n c.args.tag c.args.edit) Done _ good (still_keys c.args.edit c.requires c.in_ok-edit_in.ensures.key)
     (made_next i.hold new i.parts i.most i.begun.value.history i.ticket i.words.items c.deref-2.result.now
     i.seats.items h c.args.n c.args.tag c.args.edit c.in-Some.seat c.deref-2.ensures.value good c.in_ok-edit_in.ensures.places
     (ap (λ l. slice_index_or l c.args.n None) (sym c.deref.ensures.value) ∙ c.in-Some.ensures.0, c.in-Some.ensures.1)
-    c.in_ok-edit_in.ensures.key
+    (still_keys c.args.edit c.requires c.in_ok-edit_in.ensures.key) c.requires
     (λ s shows. subst (λ (b : Bool). EditGives c.deref-2.result.now s i.ticket c.args.n c.args.tag c.args.edit i.hold b new) c.if-not-branch.false
     (c.in_ok-edit_in.ensures.made s shows)))
 
@@ -102,6 +103,6 @@ returns-clause-next c h good =
     i.seats.items h c.args.n c.args.tag c.args.edit c.in-Some.seat c.deref-2.ensures.value
     (subst (λ (s : BoardState). IsGood s h) (sym c.self.view_is) good) c.in_ok-edit_in.ensures.places
     (ap (λ l. slice_index_or l c.args.n None) (sym c.deref.ensures.value) ∙ c.in-Some.ensures.0, c.in-Some.ensures.1)
-    c.in_ok-edit_in.ensures.key
+    (still_keys c.args.edit c.requires c.in_ok-edit_in.ensures.key) c.requires
     (λ s shows. subst (λ (b : Bool). EditGives c.deref-2.result.now s i.ticket c.args.n c.args.tag c.args.edit i.hold b new) c.if-not-branch.false
     (c.in_ok-edit_in.ensures.made s shows)))
