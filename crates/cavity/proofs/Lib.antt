@@ -1,4 +1,5 @@
 pub mod Tables
+pub mod Composing
 pub mod Crossing
 pub mod Filling
 pub mod Exploration

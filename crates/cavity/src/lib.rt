@@ -17,11 +17,13 @@
 #![tactic(auto)]
 
 mod cell_table;
+mod compose;
 mod dig;
 mod explore;
 mod fill_hole;
 mod judged;
 pub mod laws;
 
+pub use compose::composed;
 pub use dig::{Dig, DigTurn};
 pub use fill_hole::{Fresh, fill};

@@ -2,4 +2,6 @@ pub mod FourCells
 pub mod OpeningLaws
 pub mod Insertions
 pub mod MeshGrowth
+pub mod Searches
+pub mod Arrivals
 pub mod Cited

@@ -13,7 +13,7 @@ use Rattle.point_order.specs.Solid.{is_solid}
 use Rattle.point_order.proofs.Cited.{ascending_ascending, ascending_is, ascending_with, in_ascending, in_ascending_from, in_with, in_with_new, in_with_old, last_first, last_second, last_third, swap_first, swap_middle, zero_true}
 use Rattle.edit_history.specs.declared.history.Entry.{Entry}
 use Rattle.edit_history.specs.declared.history.Reply.TheVariants.{Inserted}
-use Rattle.edit_history.specs.Edits.{point_of, reply_to, changed}
+use Rattle.edit_history.specs.Edits.{is_move, point_of, reply_to, changed}
 use Rattle.edit_history.specs.Histories.{replay, replay_from, IsLegal, IsLegalFrom}
 use Rattle.edit_history.proofs.Cited.{leaves_set, solid_from}
 use Rattle.del_laws.specs.Keys.{AreKeys}
@@ -145,20 +145,20 @@ abbrev HasLines : ℕ → ℕ → List Entry → BucketContent → Type 0
 HasLines g b h c = (c.points ≡ points_share g b h) × (c.entries ≡ entries_share g b h) × (c.cells ≡ [])
 
 -- with one more entry
-noted_lines : (g b : ℕ) (h : List Entry) (e : Entry) (c : BucketContent) → IsLegal (h ++ e ∷ []) → HasLines g b h c → HasLines g b (h ++ e ∷ []) (noted_in g b e c)
-noted_lines g b h e c l s = by (bucket_of g (point_of e.edit) == b) refl
+noted_lines : (g b : ℕ) (h : List Entry) (e : Entry) (c : BucketContent) → IsLegal (h ++ e ∷ []) → is_move e.edit ≡ false → HasLines g b h c → HasLines g b (h ++ e ∷ []) (noted_in g b e c)
+noted_lines g b h e c l still s = by (bucket_of g (point_of e.edit) == b) refl
   where
     test : ℕ → Bool
     test = λ p. bucket_of g p == b
 
     by : (o : Bool) → (bucket_of g (point_of e.edit) == b) ≡ o → HasLines g b (h ++ e ∷ []) (cond o (record c { points = changed c.points (point_of e.edit) e.reply; entries = c.entries ++ e ∷ [] }) c)
     by true t = (
-      ap (λ m. changed m (point_of e.edit) e.reply) s.0 ∙ points_after test (point_of e.edit) e.reply (replay h) (leaves_set h) t ∙ ap (filter test) (sym (replay_next h e l)),
+      ap (λ m. changed m (point_of e.edit) e.reply) s.0 ∙ points_after test (point_of e.edit) e.reply (replay h) (leaves_set h) t ∙ ap (filter test) (sym (replay_next h e l still)),
       ap (λ m. m ++ e ∷ []) s.1 ∙ entries_after g b h e t,
       s.2,
     )
     by false t = (
-      s.0 ∙ points_stay test (point_of e.edit) e.reply (replay h) (leaves_set h) t ∙ ap (filter test) (sym (replay_next h e l)),
+      s.0 ∙ points_stay test (point_of e.edit) e.reply (replay h) (leaves_set h) t ∙ ap (filter test) (sym (replay_next h e l still)),
       s.1 ∙ entries_stay g b h e t,
       s.2,
     )
@@ -212,16 +212,16 @@ opening_share g n a b c d w x y z f e k v = record {
     bare = at_place g n nothing
 
     one : HasLines g n (e0 ∷ []) (noted_in g n e0 bare)
-    one = noted_lines g n [] e0 bare (legal_from 0 [] (a ∷ []) (new.0, tt)) (refl, refl, refl)
+    one = noted_lines g n [] e0 bare (legal_from 0 [] (a ∷ []) (new.0, tt)) refl (refl, refl, refl)
 
     two : HasLines g n (e0 ∷ e1 ∷ []) (noted_in g n e1 (noted_in g n e0 bare))
-    two = noted_lines g n (e0 ∷ []) e1 (noted_in g n e0 bare) (legal_from 0 [] (a ∷ b ∷ []) (new.0, (new.1.0, tt))) one
+    two = noted_lines g n (e0 ∷ []) e1 (noted_in g n e0 bare) (legal_from 0 [] (a ∷ b ∷ []) (new.0, (new.1.0, tt))) refl one
 
     three : HasLines g n (e0 ∷ e1 ∷ e2 ∷ []) (noted_in g n e2 (noted_in g n e1 (noted_in g n e0 bare)))
-    three = noted_lines g n (e0 ∷ e1 ∷ []) e2 (noted_in g n e1 (noted_in g n e0 bare)) (legal_from 0 [] (a ∷ b ∷ c ∷ []) (new.0, (new.1.0, (new.1.1.0, tt)))) two
+    three = noted_lines g n (e0 ∷ e1 ∷ []) e2 (noted_in g n e1 (noted_in g n e0 bare)) (legal_from 0 [] (a ∷ b ∷ c ∷ []) (new.0, (new.1.0, (new.1.1.0, tt)))) refl two
 
     four : HasLines g n h (noted_in g n (inserted 3 d) (noted_in g n e2 (noted_in g n e1 (noted_in g n e0 bare))))
-    four = noted_lines g n (e0 ∷ e1 ∷ e2 ∷ []) (inserted 3 d) (noted_in g n e2 (noted_in g n e1 (noted_in g n e0 bare))) (legal_from 0 [] (a ∷ b ∷ c ∷ d ∷ []) new) three
+    four = noted_lines g n (e0 ∷ e1 ∷ e2 ∷ []) (inserted 3 d) (noted_in g n e2 (noted_in g n e1 (noted_in g n e0 bare))) (legal_from 0 [] (a ∷ b ∷ c ∷ d ∷ []) new) refl three
 
 -- a place that has a bucket is one of the list
 has_place : (l : List (Option BucketContent)) (b : ℕ) (c : BucketContent) → bucket_at l b ≡ Some c → b < length l

@@ -1,2 +1,4 @@
 pub mod Opening
 pub mod Growing
+pub mod Searches
+pub mod Arrivals

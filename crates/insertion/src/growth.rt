@@ -5,42 +5,30 @@ ghost use Rattle.point_order.specs.Sets.{IsAscending, IsIn};
 ghost use Rattle.point_order.specs.Solid.{is_solid};
 ghost use Rattle.edit_history.specs.Histories.{replay};
 ghost use Rattle.hole_laws.specs.Edits.{IsNew};
-ghost use Rattle.cavity.specs.Digs.{IsDoneIn};
 ghost use Rattle.cavity.specs.Fills.{IsFilled};
 ghost use Rattle.insertion.specs.Growing.{IsInsertion, AreAmong};
 ghost use Rattle.insertion.specs.Opening.{AreIndependent};
 
-use crate::conflict_cell::cell_in_conflict;
+use crate::arrival::{Arrival, ArrivalTurn};
 use crate::opening::{entry_of, open_mesh};
-use cavity::{Dig, DigTurn, Fresh, fill};
+use cavity::Fresh;
 use cell_store::{Grid, Mesh};
 use edit_history::{Entry, find_four};
 use point_order::Point;
 use std::alloc::{AllocError, Global};
 
-// The dig for a new point in a mesh, which is done.
-fn dig_in(alloc: Global, mesh: &Mesh, p: Point) -> Result<Dig, AllocError>
-    requires { IsNew (replay mesh.now.history) p }
-    ensures point { IfOk result (λ dig. dig.point ≡ p) }
-    ensures done { IfOk result (λ dig. IsDoneIn (replay mesh.now.history) dig) }
-{
-    let hold = mesh.hold();
-    let cell = cell_in_conflict(hold, p);
-    let mut dig = Dig::start(alloc, p, cell)?;
-    match dig.advance(alloc, hold)? {
-        DigTurn::Done => Ok(dig),
-        DigTurn::Need(_) => unreachable!(),
-    }
-}
-
-// The cells that a new point takes away from a mesh, and those that it brings.
-fn change_by(alloc: Global, mesh: &Mesh, p: Point) -> Result<Fresh, AllocError>
+/// The cells that a new point takes away from a mesh, and those that it brings.
+///
+/// # Errors
+/// Want of memory.
+pub fn change_by(alloc: Global, mesh: &Mesh, p: Point) -> Result<Fresh, AllocError>
     requires { IsNew (replay mesh.now.history) p }
     ensures { IfOk result (λ f. IsFilled (replay mesh.now.history) p f.gone.items f.fresh.items) }
 {
-    let dig = dig_in(alloc, mesh, p)?;
-    let filled = fill(alloc, &dig)?;
-    Ok(filled)
+    match Arrival::begin().advance(alloc, mesh.hold(), p)? {
+        ArrivalTurn::Done(change) => Ok(change),
+        ArrivalTurn::Need(_, _) => unreachable!(),
+    }
 }
 
 /// Inserts a new point into a mesh. The entry is to continue the mesh's history with this insertion.

@@ -1,7 +1,8 @@
-//! Insertion into a mesh with every bucket in hand.
+//! Insertion: what a new point changes, from buckets that come in hand, and in a mesh with every bucket in hand.
 //!
-//! A mesh begins with four independent points. A new point's first cell in conflict is found by a walk, the others by a
-//! dig of `cavity`, and the mesh is changed in place. The definitions stand in `specs/`.
+//! A mesh begins with four independent points. A new point's first cell in conflict is found by a walk (`Search`), the
+//! others by a dig of `cavity` (`Arrival`), by turns where buckets come one by one, and the mesh is changed in place. The
+//! definitions stand in `specs/`.
 //!
 //! ```
 //! // four independent points with tags
@@ -19,11 +20,13 @@
 //! ```
 #![tactic(auto)]
 
-mod conflict_cell;
+mod arrival;
 mod growth;
 pub mod laws;
 mod opening;
+mod search;
 
-pub use conflict_cell::cell_in_conflict;
-pub use growth::{change_of_points, insert, mesh_of_points};
+pub use arrival::{Arrival, ArrivalTurn};
+pub use growth::{change_by, change_of_points, insert, mesh_of_points};
 pub use opening::open_mesh;
+pub use search::{Search, SearchTurn, cell_in_conflict};

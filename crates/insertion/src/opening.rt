@@ -69,7 +69,7 @@ fn note(alloc: Global, hold: &mut Hold, number: u64, tag: u32, p: Point) -> Resu
     let none: [Cell; 0] = [];
     let _ = p.key();
     let _ = hold.grid();
-    hold.reserve(alloc, &none, &none, p)?;
+    hold.reserve(alloc, &none, &none, &Edit::Add(p))?;
     hold.push_entry(entry_of(number, tag, p));
     Ok(())
 }
@@ -106,7 +106,7 @@ fn put_cells(
     let (a, b, c, d) = in_order(a, b, c, d);
     let cells = cells_of_four(a, b, c, d);
     let _ = hold.grid();
-    hold.reserve(alloc, &none, &cells, a)?;
+    hold.reserve(alloc, &none, &cells, &Edit::Add(a))?;
     hold.swap_cells(&none, &cells);
     Ok(())
 }
