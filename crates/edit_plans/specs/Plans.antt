@@ -1,0 +1,88 @@
+-- What an edit changes, found by turns over a hold of buckets.
+use Rattle.std.specs.Prelude.{◌≡◌, ℕ, false, List, IsSome}
+use Rattle.point_order.specs.Complex.{complex}
+use Rattle.point_order.specs.Sets.{IsIn}
+use Rattle.edit_history.specs.declared.history.Edit.{Edit}
+use Rattle.edit_history.specs.declared.history.Edit.TheVariants.{Add, Move, Take}
+use Rattle.edit_history.specs.declared.history.Reply.{Reply}
+use Rattle.edit_history.specs.declared.history.Reply.TheVariants.{Duplicate}
+use Rattle.edit_history.specs.Edits.{HasKeys, after, is_move, reply_to}
+use Rattle.cell_store.specs.Grids.{bucket_of}
+use Rattle.cell_store.specs.Buckets.{InHand, bucket_at}
+use Rattle.cell_store.specs.Changes.{IsChange}
+use Rattle.cell_store.specs.Meshes.{AreAmong}
+use Rattle.cell_store.specs.Ready.{AreHeld}
+use Rattle.cell_store.specs.Shares.{Shows}
+use Rattle.cell_store.specs.Touches.{HoldTouched, IsTouched}
+use Rattle.insertion.specs.Arrivals.{IsArrivalIn}
+use Rattle.insertion.specs.Searches.{IsLacking}
+use Rattle.edit_plans.specs.declared.planner.Plan.{Plan}
+use Rattle.edit_plans.specs.declared.planner.Planner.{Planner}
+use Rattle.edit_plans.specs.declared.planner.Planner.TheVariants.{Home, Comes, Goes}
+use Rattle.edit_plans.specs.declared.planner.PlanTurn.{PlanTurn}
+use Rattle.edit_plans.specs.declared.planner.PlanTurn.TheVariants.{Done, Need}
+
+-- The edit claims no more than it touches: it takes a point, or adds one that is there.
+abbrev pub IsExact : Edit → Reply → Type 0
+IsExact (Take p) reply = Unit {0}
+IsExact (Add p) reply = reply ≡ Duplicate
+IsExact (Move a b) reply = ⊥
+
+-- The plan is what the edit, which moves nothing, changes in the set s: its reply, exactly the cells that go and those that come, whose
+-- buckets are in hand, as is every bucket that the edit touches.
+pub record IsPlanIn (hold : InHand) (s : List ℕ) (edit : Edit) (plan : Plan) : Type 0 where
+  pub reply : plan.reply ≡ reply_to s edit
+  pub key : HasKeys edit
+  pub still : is_move edit ≡ false
+  pub change : IsChange (complex s) (complex (after s edit)) plan.gone.items plan.fresh.items
+  pub gone : AreHeld hold plan.gone.items
+  pub fresh : AreHeld hold plan.fresh.items
+  pub touched : HoldTouched hold.grid s edit hold.places
+
+-- it is, of every set that the hold shows
+abbrev pub IsPlan : InHand → Edit → Plan → Type 0
+IsPlan hold edit plan = (s : List ℕ) → Shows hold s → IsPlanIn hold s edit plan
+
+-- the edit that a planner is for
+abbrev pub edit_of : Planner → Edit
+edit_of (Home edit) = edit
+edit_of (Comes p arrival) = Add p
+edit_of (Goes p) = Take p
+
+-- the bucket of the point is in hand
+abbrev pub HoldsHome : InHand → ℕ → Type 0
+HoldsHome hold p = IsSome (bucket_at hold.places (bucket_of hold.grid p))
+
+-- The planner stands right in the set s: the edit to begin with moves nothing; of a point that comes the arrival does, and one that goes is there; the bucket
+-- of either is in hand.
+abbrev pub IsPlannerIn : InHand → List ℕ → Planner → Type 0
+IsPlannerIn hold s (Home edit) = is_move edit ≡ false
+IsPlannerIn hold s (Comes p arrival) = HoldsHome hold p × IsArrivalIn hold s p arrival
+IsPlannerIn hold s (Goes p) = HoldsHome hold p × IsIn p s
+
+-- the hold shows a set in which it does
+abbrev pub ShowsPlanner : InHand → Planner → Type 0
+ShowsPlanner hold planner = (s : List ℕ) × Shows hold s × IsPlannerIn hold s planner
+
+-- Bucket b is lacking, and touched where the edit is exact; with it the next planner goes on.
+pub record IsAsked (hold : InHand) (s : List ℕ) (edit : Edit) (b : ℕ) (next : Planner) : Type 0 where
+  pub lacking : IsLacking hold b
+  pub exact : IsExact edit (reply_to s edit) → IsTouched hold.grid s edit b
+  pub same : edit_of next ≡ edit
+  pub stands : IsPlannerIn hold s next
+
+-- the plan, or a bucket that is asked for
+abbrev pub PlanGives : InHand → List ℕ → Edit → PlanTurn → Type 0
+PlanGives hold s edit (Done plan) = IsPlanIn hold s edit plan
+PlanGives hold s edit (Need b next) = IsAsked hold s edit b next
+
+-- the answer is right for every set that the hold shows
+abbrev pub PlanAnswers : InHand → Planner → PlanTurn → Type 0
+PlanAnswers hold planner turn =
+    (s : List ℕ) → Shows hold s → IsPlannerIn hold s planner → PlanGives hold s (edit_of planner) turn
+
+-- with more buckets in hand a planner stands right
+abbrev pub PlannerStays : Type 0
+PlannerStays =
+    (few many : InHand) (s : List ℕ) (planner : Planner) → AreAmong few many → IsPlannerIn few s planner →
+    IsPlannerIn many s planner
