@@ -1,2 +1,3 @@
 pub mod Applied
 pub mod Gathered
+pub mod Found
