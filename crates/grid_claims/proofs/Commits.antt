@@ -11,7 +11,7 @@ use lib.ListN.{get_elem?}
 use Rattle.atomic_table.specs.Table.{keeps, stepped}
 use Rattle.atomic_table.proofs.Lists.{at_set, at_last}
 use Rattle.list_laws.specs.Lists.{AreDistinct}
-use Rattle.point_order.specs.Coordinates.{IsKey}
+use Rattle.edit_history.specs.Edits.{HasKeys}
 use Rattle.point_order.specs.Sets.{IsIn}
 use Rattle.edit_history.specs.declared.history.Edit.{Edit}
 use Rattle.edit_history.specs.declared.history.Entry.{Entry}
@@ -138,7 +138,7 @@ child_pass count u c e = by (ltb 0 u.parts)
 
 -- ---- the commit
 
-pub commits_keep : (k : Key) (slots id tag : ℕ) (edit : Edit) (reply : Reply) (me : Seated) (s : Table) (h : List Entry) → IsRule k s h → IsAlone k s id me.0 → IsReady me.0 edit reply → 0 < me.0.left → IsKey (point_of edit)
+pub commits_keep : (k : Key) (slots id tag : ℕ) (edit : Edit) (reply : Reply) (me : Seated) (s : Table) (h : List Entry) → IsRule k s h → IsAlone k s id me.0 → IsReady me.0 edit reply → 0 < me.0.left → HasKeys edit
     → Taken k s 0 id me (Committed tag edit reply me (slice_index s.words 0)) ((slice_index s.words 0 + 1) % 2 ^ 64)
 commits_keep k slots id tag edit reply me s h r a ready some_left key =
     let v : View = me.0 in

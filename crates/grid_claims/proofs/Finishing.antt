@@ -19,13 +19,13 @@ use Rattle.cell_store.specs.Shares.{Stands, share_at}
 use Rattle.claim_rule.specs.Events.{renewed_from}
 use Rattle.claim_rule.proofs.Cited.{brought, renewed_at}
 use Rattle.grid_claims.specs.declared.hands.Hands.{Hands}
-use Rattle.grid_claims.specs.declared.claiming.Plan.{Plan}
+use Rattle.edit_plans.specs.declared.planner.Plan.{Plan}
 use Rattle.grid_claims.specs.declared.view.Act.TheVariants.{Commit}
 use Rattle.grid_claims.specs.declared.view.View.{View}
 use Rattle.grid_claims.specs.Trails.{in_hand}
 use Rattle.grid_claims.specs.Passes.{Carries}
 use Rattle.grid_claims.specs.Plays.{Seated, Committed, entry_of}
-use Rattle.grid_claims.specs.Claiming.{AreHands, IsPlan, IsFinished, HasGivenBack, empty_places, releases_of}
+use Rattle.grid_claims.specs.Claiming.{AreHands, IsReadyPlan, IsFinished, HasGivenBack, empty_places, releases_of}
 use Rattle.grid_claims.proofs.MoreHands.{all_empty, stands_in}
 use Rattle.grid_claims.proofs.Trailed.{in_hand_snoc}
 
@@ -60,7 +60,7 @@ mapped_some f None s = absurd (cc s)
 mapped_some f (Some c) s = refl
 
 -- after the ticket step and the change of the hold
-pub hands_committed : (id : TableId) (n tag number : ℕ) (edit : Edit) (reply : Reply) (w w' : Hands) (plan : Plan) (between : InHand) → AreHands id n w → IsPlan w.place.me.0 w.hold edit plan → reply ≡ plan.reply → Committed tag edit reply w.place.me number w'.place.me
+pub hands_committed : (id : TableId) (n tag number : ℕ) (edit : Edit) (reply : Reply) (w w' : Hands) (plan : Plan) (between : InHand) → AreHands id n w → IsReadyPlan w.place.me.0 w.hold edit plan → reply ≡ plan.reply → Committed tag edit reply w.place.me number w'.place.me
     → w'.place.table_id ≡ w.place.table_id → w'.order ≡ w.order → w'.first ≡ w.first
     → IsSwapped plan.gone.items plan.fresh.items w.hold between → IsNoted (entry_of number w.first tag edit reply) between w'.hold → AreHands id n w'
 hands_committed id n tag number edit reply w w' plan between a plan_is reply_is told table order first swap note =
@@ -76,7 +76,7 @@ hands_committed id n tag number edit reply w w' plan between a plan_is reply_is 
     let next : IsNext h e plan.gone.items plan.fresh.items = next_entry h e plan.gone.items plan.fresh.items (sound_of w.hold h st) plan_is.key follows in
     let note' : IsNoted e between w'.hold = subst (λ (x : ℕ). IsNoted (entry_of number x tag edit reply) between w'.hold) a.first note in
     let shares : AreSharesOf w.place.me.0.grid h w.hold.places = subst (λ (l : List (Option BucketContent)). AreSharesOf w.place.me.0.grid h l) places told.shares in
-    let now : w'.hold.places ≡ renewed_from w.place.me.0.grid (h ++ e ∷ []) 0 w.hold.places = brought w.place.me.0.grid h e plan.gone.items plan.fresh.items w.hold between w'.hold a.grid shares next swap note' in
+    let now : w'.hold.places ≡ renewed_from w.place.me.0.grid (h ++ e ∷ []) 0 w.hold.places = brought w.place.me.0.grid h e plan.gone.items plan.fresh.items w.hold between w'.hold a.grid shares next plan_is.still swap note' in
     let g : ℕ = w.place.me.0.grid in
     let wide : length w'.hold.places ≡ length w.hold.places = note.count ∙ swap.count in
     let here : (b : ℕ) → bucket_at w'.hold.places b ≡ option_map (λ c. share_at g (0 + b) (h ++ e ∷ [])) (bucket_at w.hold.places b) = λ b. ap (λ l. bucket_at l b) now ∙ renewed_at g (h ++ e ∷ []) 0 w.hold.places b in
@@ -111,7 +111,7 @@ hands_committed id n tag number edit reply w w' plan between a plan_is reply_is 
     same_empty g h i (None ∷ l) = ap (λ (x : ℕ). x + 1) (same_empty g h (i + 1) l)
     same_empty g h i (Some c ∷ l) = same_empty g h (i + 1) l
 
-pub finished : (id : TableId) (n tag number : ℕ) (edit : Edit) (reply : Reply) (w w' u : Hands) (plan : Plan) → AreHands id n w → IsPlan w.place.me.0 w.hold edit plan → reply ≡ plan.reply → Committed tag edit reply w.place.me number w'.place.me → w'.order ≡ w.order → HasGivenBack w' u → IsFinished tag edit plan.reply number w u
+pub finished : (id : TableId) (n tag number : ℕ) (edit : Edit) (reply : Reply) (w w' u : Hands) (plan : Plan) → AreHands id n w → IsReadyPlan w.place.me.0 w.hold edit plan → reply ≡ plan.reply → Committed tag edit reply w.place.me number w'.place.me → w'.order ≡ w.order → HasGivenBack w' u → IsFinished tag edit plan.reply number w u
 finished id n tag number edit reply w w' u plan a plan_is reply_is told order back =
     let v : View = w.place.me.0 in
     let st = told.stands in

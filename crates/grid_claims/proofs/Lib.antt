@@ -6,7 +6,6 @@ mod Claims
 mod Commits
 mod Divides
 mod Opening
-mod Ready
 mod Looks
 mod Releases
 mod Closing
@@ -15,9 +14,6 @@ mod United
 mod Joins
 mod Carrying
 mod MoreHands
-mod Refilling
-mod Digging
-mod Walking
 mod Planning
 mod Finishing
 pub mod Trying

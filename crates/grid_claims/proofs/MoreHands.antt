@@ -1,37 +1,10 @@
 -- Hands with one more bucket, and with a claim that failed.
-use Rattle.std.specs.Prelude.{
-  ◌≡◌,
-  ◌⊎◌,
-  ℕ,
-  zero,
-  suc,
-  ◌+◌,
-  ◌*◌,
-  ◌%◌,
-  ◌<◌,
-  ◌≤◌,
-  Bool,
-  false,
-  List,
-  [],
-  ◌∷◌,
-  ◌++◌,
-  map,
-  length,
-  vec_capacity,
-  Option,
-  None,
-  Some,
-  IsSome,
-  is_some,
-  slice_set,
-}
+use Rattle.std.specs.Prelude.{◌≡◌, ◌⊎◌, ℕ, zero, suc, ◌+◌, ◌<◌, ◌≤◌, List, [], ◌∷◌, ◌++◌, map, length, vec_capacity, Option, None, Some, IsSome, slice_set}
 use Rattle.std.proofs.Common.{refl, sym, ◌∙◌, ap, subst, arith, length-set, get_or-set_other}
 use Rattle.std.proofs.lemmas.List.{append_assoc, append-nil, map-append, length-append}
 use mathlib.Core.Logic.{dite}
 use native.Mathlib.Decide.{ℕ_discrete}
 use Rattle.atomic_table.specs.Seated.{TableId}
-use Rattle.list_laws.proofs.Cited.{is_there, none_is, some_of}
 use Rattle.edit_history.specs.declared.history.Entry.{Entry}
 use Rattle.cell_store.specs.Buckets.{BucketContent, InHand, Room, bucket_at}
 use Rattle.cell_store.specs.Shares.{Stands, Shows}
@@ -46,7 +19,8 @@ use Rattle.grid_claims.specs.Trails.{in_hand}
 use Rattle.grid_claims.specs.Passes.{Carries}
 use Rattle.grid_claims.specs.Plays.{Seated, claims, fails, HandStands}
 use Rattle.grid_claims.specs.Claiming.{empty_places, AreHands, HasClaimed, HasStopped, HasOthersWord, last_step, ShowsOne}
-use Rattle.grid_claims.specs.Looking.{HasMore, HasBucketOf}
+use Rattle.edit_plans.specs.Plans.{HoldsHome}
+use Rattle.grid_claims.specs.Looking.{HasMore}
 use Rattle.grid_claims.specs.declared.table.Refused.{Refused}
 use Rattle.grid_claims.specs.declared.table.Refused.TheVariants.{Spent, Busy, Memory}
 use Rattle.cell_store.specs.Grids.{bucket_of}
@@ -197,11 +171,6 @@ more_then id n w w' u x y = record {
 pub shown : (w w' : InHand) (s : List ℕ) → AreAmong w w' → Shows w' s → Shows w s
 shown w w' s a sh = fewer_show w w' s a sh
 
-pub still_held : (w w' : InHand) (p : ℕ) → AreAmong w w' → HasBucketOf w p → HasBucketOf w' p
-still_held w w' p a s =
-    let t = some_of (bucket_at w.places (bucket_of w.grid p)) s in
-    subst (λ (g : ℕ). IsSome (bucket_at w'.places (bucket_of g p))) a.grid (is_there (bucket_at w'.places (bucket_of w.grid p)) t.0 (a.buckets (bucket_of w.grid p) t.0 t.1))
-
 -- ---- where a loop of claims starts, and how it ends
 
 -- nothing was claimed yet
@@ -229,47 +198,9 @@ fewer_left id n b w w' a a' order =
     (length w.hold.places) (length w'.hold.places) n a.count a'.count a.places a'.places
     (ap length order ∙ length_snoc w.order.items b)
 
--- as many buckets as the grid has are in the hold
-cubed :
-    (id : TableId) (n g size count : ℕ) (old now : Hands) → AreHands id n old → AreHands id n now → g ≡ size →
-    count ≡ g * g * g → length old.hold.places ≡ size * size * size → count ≡ length now.hold.places
-cubed id n g size count old now a a' same is wide =
-    is ∙ ap (λ (x : ℕ). x * x * x) same ∙ sym wide ∙ a.places ∙ sym a'.places
-
--- a bucket of the grid is one of the hold
-pub within_hold :
-    (id : TableId) (n g size count b : ℕ) (old now : Hands) → AreHands id n old → AreHands id n now → g ≡ size →
-    count ≡ g * g * g → length old.hold.places ≡ size * size * size → b < count → b < length now.hold.places
-within_hold id n g size count b old now a a' same is wide l =
-    subst (λ (x : ℕ). b < x) (cubed id n g size count old now a a' same is wide) l
-
-pub above_zero : (i n : ℕ) → i < n → 0 < n
-above_zero i n l = omega arith
-
-pub turned_below : (x i n : ℕ) → i < n → x % n < n
-turned_below x i n l = omega (arith, above_zero i n l)
-
-before_end : (x count end b : ℕ) → count ≡ end → x < end → count ≤ b → x < b
-before_end x count end b e l m = omega arith
-
--- with all buckets of the grid in hand, all are
-pub all_taken :
-    (id : TableId) (n g size count b : ℕ) (old now : Hands) → AreHands id n old → AreHands id n now → g ≡ size →
-    count ≡ g * g * g → length old.hold.places ≡ size * size * size → count ≤ b →
-    ((x : ℕ) → x < b → IsSome (bucket_at now.hold.places x)) → (x : ℕ) → x < length now.hold.places →
-    IsSome (bucket_at now.hold.places x)
-all_taken id n g size count b old now a a' same is wide end below x l =
-    below x (before_end x count (length now.hold.places) b (cubed id n g size count old now a a' same is wide) l end)
-
--- a bucket of which the hold says that it is not in hand
-pub lacks_it :
-    (hold : InHand) (b : ℕ) (has : Bool) → has ≡ is_some (bucket_at hold.places b) → has ≡ false →
-    bucket_at hold.places b ≡ None
-lacks_it hold b has e lacks = none_is (bucket_at hold.places b) (sym e ∙ lacks)
-
 -- the bucket of a point, by its number
 pub home_held :
-    (hold : InHand) (p g b : ℕ) → HasBucketOf hold p → g ≡ hold.grid → b ≡ bucket_of g p →
+    (hold : InHand) (p g b : ℕ) → HoldsHome hold p → g ≡ hold.grid → b ≡ bucket_of g p →
     IsSome (bucket_at hold.places b)
 home_held hold p g b mine same e =
     subst (λ (x : ℕ). IsSome (bucket_at hold.places x)) (sym (e ∙ ap (λ (x : ℕ). bucket_of x p) same)) mine

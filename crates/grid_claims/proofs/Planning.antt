@@ -1,76 +1,163 @@
--- Plans that change no cell, and plans with room.
-use Rattle.std.specs.Prelude.{◌≡◌, ℕ, Bool, true, false, List, [], Result, Ok, Err, OnOk}
-use Rattle.std.proofs.Common.{sym, ◌∙◌, ap, subst}
+-- The claims of an edit, and its plan.
+use Rattle.std.specs.Prelude.{◌≡◌, ℕ, false, List, [], ◌∷◌, ◌++◌, Option, None, Some, IsSome, Result, Ok, Err, IfErr}
+use Rattle.std.specs.Result.{IsErr, IsErrAnd}
+use Rattle.std.proofs.Common.{refl, sym, ap, subst, inl, inr, arith}
 use Rattle.atomic_table.specs.Seated.{TableId}
-use Rattle.list_laws.proofs.Cited.{among_from, among_true}
-use Rattle.point_order.specs.declared.cell.Cell.{Cell}
-use Rattle.point_order.specs.Complex.{complex}
+use Rattle.list_laws.proofs.Cited.{in_snoc, some_of}
 use Rattle.point_order.specs.Coordinates.{IsKey}
-use Rattle.point_order.specs.Sets.{IsIn, is_among}
+use Rattle.point_order.specs.Coordinates as X3
+use Rattle.point_order.specs.Orientation as X1
+use Rattle.point_order.specs.Sets.{IsIn}
 use Rattle.edit_history.specs.declared.history.Edit.{Edit}
-use Rattle.edit_history.specs.declared.history.Edit.TheVariants.{Add, Take}
+use Rattle.edit_history.specs.declared.history.Edit.TheVariants.{Add, Move, Take}
 use Rattle.edit_history.specs.declared.history.Reply.{Reply}
-use Rattle.edit_history.specs.declared.history.Reply.TheVariants.{Duplicate, Missing}
-use Rattle.edit_history.specs.Edits.{point_of, reply_to, changed, after}
-use Rattle.edit_history.proofs.Cited.{duplicate, missing}
-use Rattle.cell_store.specs.Buckets.{InHand, Room}
-use Rattle.cell_store.specs.Changes.{IsChange}
+use Rattle.edit_history.specs.Edits.{edit_points, is_move, point_of}
+use Rattle.cell_store.specs.Grids.{bucket_of}
+use Rattle.cell_store.specs.Buckets.{BucketContent, InHand, Room, bucket_at}
+use Rattle.cell_store.specs.Missing.{ArePointsHeld}
 use Rattle.cell_store.specs.Shares.{Shows}
+use Rattle.cell_store.specs.Touches.{HoldNoOther, HoldTouched, IsTouched}
+use Rattle.claim_rule.specs.Boards.{in_hand_of}
+use Rattle.edit_plans.specs.Plans.{IsExact, PlanAnswers, PlanGives, ShowsPlanner, edit_of}
+use Rattle.edit_plans.specs.declared.planner.Plan.{Plan}
+use Rattle.edit_plans.specs.declared.planner.Planner.{Planner}
+use Rattle.edit_plans.specs.declared.planner.Planner.TheVariants.{Home}
+use Rattle.edit_plans.specs.declared.planner.PlanTurn.{PlanTurn}
+use Rattle.edit_plans.specs.declared.planner.PlanTurn.TheVariants.{Done, Need}
+use Rattle.edit_plans.proofs.Cited.{home_begins, own_touched, planner_stays}
+use Rattle.insertion.specs.Searches.{IsLacking}
 use Rattle.grid_claims.specs.declared.hands.Hands.{Hands}
-use Rattle.grid_claims.specs.declared.claiming.Plan.{Plan}
-use Rattle.grid_claims.specs.declared.table.Refused.{Refused}
 use Rattle.grid_claims.specs.declared.view.View.{View}
-use Rattle.grid_claims.specs.Claiming.{AreHands, IsPlan}
-use Rattle.grid_claims.specs.Looking.{HasMore, HoldsJust, IsThereFor, IsNewFor}
-use Rattle.grid_claims.specs.Plays.{IsReady}
-use Rattle.grid_claims.proofs.Ready.{duplicate_is_ready, missing_is_ready}
-use Rattle.grid_claims.proofs.MoreHands.{more_then}
-use Rattle.grid_claims.proofs.Refilling.{has_hand, quiet_change}
+use Rattle.grid_claims.specs.Claiming.{AreHands, HasStopped, IsReadyPlan, ShowsOne}
+use Rattle.grid_claims.specs.declared.table.Refused.{Refused}
+use Rattle.grid_claims.specs.Looking.{HasMore, IsPlanning}
+use Rattle.grid_claims.specs.Plays.{HandShows}
+use Rattle.grid_claims.proofs.MoreHands.{more_none, more_then, shown, stopped_then}
 
-abbrev pub TellsWhether : InHand → ℕ → Bool → Type 0
-TellsWhether hold p there = (s : List ℕ) → Shows hold s → there ≡ is_among p s
+-- ---- hands that hold nothing
 
-pub tells_there : (hold : InHand) (p : ℕ) (there : Bool) → TellsWhether hold p there → there ≡ true → IsThereFor hold p
-tells_there hold p there t e s st = among_from p s (sym (t s st) ∙ e)
+-- four points that are independent
+abbrev four : List ℕ
+four = 0 ∷ 1 ∷ 16384 ∷ 268435456 ∷ []
 
-pub tells_new : (hold : InHand) (p : ℕ) (there : Bool) → IsKey p → TellsWhether hold p there → there ≡ false → IsNewFor hold p
-tells_new hold p there key t e s st = record { key = key; absent = λ i. (let a = among_true p s i in let b = sym (t s st) ∙ e in cc (a, b)) }
+four_below : (p : ℕ) → IsIn p four → IsKey p
+four_below p i = elim i [
+  | inl e ↦ omega (arith, e)
+  | inr i ↦ elim i [
+    | inl e ↦ omega (arith, e)
+    | inr i ↦ elim i [ inl e ↦ omega (arith, e) | inr i ↦ elim i [ inl e ↦ omega (arith, e) | inr none ↦ absurd none ] ]
+  ]
+]
 
--- a plan without cells
-quiet_plan : (id : TableId) (n : ℕ) (w : Hands) (edit : Edit) (plan : Plan) → AreHands id n w → HoldsJust w.hold (point_of edit) → IsKey (point_of edit) → plan.gone.items ≡ [] → plan.fresh.items ≡ []
-    → ((s : List ℕ) → Shows w.hold s → plan.reply ≡ reply_to s edit) → ((s : List ℕ) → Shows w.hold s → changed s (point_of edit) (reply_to s edit) ≡ s) → IsReady w.place.me.0 edit plan.reply → IsPlan w.place.me.0 w.hold edit plan
-quiet_plan id n w edit plan a just key gone fresh right same ready = record {
-  ready = ready;
-  key = key;
-  change = λ s st. subst (λ (t : List Cell × List Cell). IsChange (complex s) (complex (after s edit)) t.0 t.1) (λ i. (sym gone i, sym fresh i)) (quiet_change s edit (same s st));
-  gone = λ c i. absurd (subst (λ (l : List Cell). IsIn c l) gone i);
-  fresh = λ c i. absurd (subst (λ (l : List Cell). IsIn c l) fresh i);
-  mine = just.0;
-}
+-- what holds nothing shows every solid set
+none_shows : (hold : InHand) → ((b : ℕ) → bucket_at hold.places b ≡ None) → ShowsOne hold
+unfolding X1.orientation X1.triple X1.x_from X3.x_of X1.minor X1.y_from X3.y_of X1.z_from X3.z_of
+none_shows hold none = (
+  four,
+  record {
+    ascending = (omega arith, (omega arith, (omega arith, (tt, tt))));
+    keys = record { below = four_below };
+    solid = refl;
+    sights = λ b c e. absurd (let n = none b in cc (n, e));
+  },
+)
 
-pub plan_duplicate : (id : TableId) (n p : ℕ) (w : Hands) (plan : Plan) (there : Bool) → AreHands id n w → HoldsJust w.hold p → IsKey p → (plan.reply ≡ Duplicate) × (plan.gone.items ≡ []) × (plan.fresh.items ≡ []) → TellsWhether w.hold p there → there ≡ true → IsPlan w.place.me.0 w.hold (Add p) plan
-plan_duplicate id n p w plan there a just key is t e =
-    let right : (s : List ℕ) → Shows w.hold s → reply_to s (Add p) ≡ Duplicate = λ s st. duplicate s p (sym (t s st) ∙ e) in
-    quiet_plan id n w (Add p) plan a just key is.1 is.2 (λ s st. is.0 ∙ sym (right s st)) (λ s st. ap (λ (r : Reply). changed s p r) (right s st))
-    (subst (λ (r : Reply). IsReady w.place.me.0 (Add p) r) (sym is.0) (duplicate_is_ready w.hold w.place.me.0 p (has_hand id n w a) just (tells_there w.hold p there t e)))
+nothing_held : (id : TableId) (n : ℕ) (w : Hands) → AreHands id n w → w.order.items ≡ [] → (b : ℕ) → bucket_at w.hold.places b ≡ None
+nothing_held id n w a none b = by (bucket_at w.hold.places b) (λ s. subst (λ (l : List ℕ). IsIn b l) none ((a.carries.holds b).0 s))
+  where
+    by : (o : Option BucketContent) → (IsSome o → ⊥) → o ≡ None
+    by None f = refl
+    by (Some c) f = absurd (f refl)
 
-pub plan_missing : (id : TableId) (n p : ℕ) (w : Hands) (plan : Plan) (there : Bool) → AreHands id n w → HoldsJust w.hold p → IsKey p → (plan.reply ≡ Missing) × (plan.gone.items ≡ []) × (plan.fresh.items ≡ []) → TellsWhether w.hold p there → there ≡ false → IsPlan w.place.me.0 w.hold (Take p) plan
-plan_missing id n p w plan there a just key is t e =
-    let right : (s : List ℕ) → Shows w.hold s → reply_to s (Take p) ≡ Missing = λ s st. missing s p (sym (t s st) ∙ e) in
-    quiet_plan id n w (Take p) plan a just key is.1 is.2 (λ s st. is.0 ∙ sym (right s st)) (λ s st. ap (λ (r : Reply). changed s p r) (right s st))
-    (subst (λ (r : Reply). IsReady w.place.me.0 (Take p) r) (sym is.0) (missing_is_ready w.hold w.place.me.0 p (has_hand id n w a) just (λ s st. (tells_new w.hold p there key t e s st).absent)))
+-- ---- the claims
+
+module _ (id : TableId) (n : ℕ) (edit : Edit) (old now : Hands) where
+  pub planning_none : (planner : Planner) → AreHands id n old → old.order.items ≡ [] → is_move edit ≡ false → planner ≡ Home edit → IsPlanning id n edit old old planner
+  planning_none planner a none still is =
+      let nothing = nothing_held id n old a none in
+      record {
+        more = more_none id n old a (none_shows old.hold nothing);
+        same = ap edit_of is;
+        stands = λ s sh. home_begins old.hold s edit planner still is;
+        exact = λ s sh x b held. absurd (let c = some_of (bucket_at old.hold.places b) held in let e = c.1 in let m = nothing b in cc (e, m));
+      }
+
+  pub planning_shows : (planner : Planner) → IsPlanning id n edit old now planner → ShowsPlanner now.hold planner
+  planning_shows planner i = (i.more.one.0, i.more.one.1, i.stands i.more.one.0 i.more.one.1)
+
+  -- what a turn gives in each set that the hold shows
+  turns : (planner : Planner) (turn turn' : PlanTurn) → IsPlanning id n edit old now planner → turn ≡ turn' → PlanAnswers now.hold planner turn → (s : List ℕ) → Shows now.hold s → PlanGives now.hold s edit turn'
+  turns planner turn turn' i is gives s sh =
+      subst (λ (t : Edit × PlanTurn). PlanGives now.hold s t.0 t.1) (λ j. (i.same j, is j)) (gives s sh (i.stands s sh))
+
+  -- a bucket that is asked for is one of the hold, and is not in hand
+  pub planning_lacks : (planner next : Planner) (b : ℕ) (turn : PlanTurn) → IsPlanning id n edit old now planner → turn ≡ Need b next → PlanAnswers now.hold planner turn → IsLacking now.hold b
+  planning_lacks planner next b turn i is gives = (turns planner turn (Need b next) i is gives i.more.one.0 i.more.one.1).lacking
+
+  -- it came
+  pub planning_on : (u : Hands) (planner next : Planner) (b : ℕ) (turn : PlanTurn) → IsPlanning id n edit old now planner → turn ≡ Need b next → PlanAnswers now.hold planner turn → HasMore id n now u → u.order.items ≡ now.order.items ++ b ∷ [] → IsPlanning id n edit old u next
+  planning_on u planner next b turn i is gives m order =
+      let asked = turns planner turn (Need b next) i is gives in
+      let before : (s : List ℕ) → Shows u.hold s → Shows now.hold s = λ s sh. shown now.hold u.hold s m.among sh in
+      record {
+        more = more_then id n old now u i.more m;
+        same = (asked i.more.one.0 i.more.one.1).same;
+        stands = λ s sh. planner_stays now.hold u.hold s next m.among (asked s (before s sh)).stands;
+        exact = λ s sh x c held. subst (λ (g : ℕ). IsTouched g s edit c) m.among.grid
+            (elim (in_snoc now.order.items b c (subst (λ (l : List ℕ). IsIn c l) order ((m.hands.carries.holds c).0 held))) [
+              | inl j ↦ i.exact s (before s sh) x c ((i.more.hands.carries.holds c).1 j)
+              | inr e ↦ subst (λ (y : ℕ). IsTouched now.hold.grid s edit y) e ((asked s (before s sh)).exact x)
+            ]);
+      }
+
+  -- ---- the plan
+
+  -- what the pass holds, as a hold
+  as_hold : AreHands id n now → (s : List ℕ) → HandShows now.place.me.0 s → Shows now.hold s
+  as_hold a s st =
+      let r : Shows (in_hand_of now.hold.grid now.hold.places) s = subst (λ (t : ℕ × List (Option BucketContent)). Shows (in_hand_of t.0 t.1) s) (λ i. (sym a.grid i, a.carries.places_are i)) st in
+      record { ascending = r.ascending; keys = r.keys; solid = r.solid; sights = r.sights }
+
+  pub planned : (planner : Planner) (plan : Plan) (turn : PlanTurn) → IsPlanning id n edit old now planner → turn ≡ Done plan → PlanAnswers now.hold planner turn → IsReadyPlan now.place.me.0 now.hold edit plan
+  planned planner plan turn i is gives =
+      let p = turns planner turn (Done plan) i is gives in
+      let a = i.more.hands in
+      let one = p i.more.one.0 i.more.one.1 in
+      let have : (s : List ℕ) → HandShows now.place.me.0 s → Shows now.hold s = as_hold a in
+      record {
+        ready = record {
+          right = λ s st. (p s (have s st)).reply;
+          touched = λ s st. subst (λ (t : ℕ × List (Option BucketContent)). HoldTouched t.0 s edit t.1) (λ j. (a.grid j, sym a.carries.places_are j)) (p s (have s st)).touched;
+          exact = λ x s st. subst (λ (t : ℕ × List (Option BucketContent)). HoldNoOther t.0 s edit t.1) (λ j. (a.grid j, sym a.carries.places_are j))
+              (i.exact s (have s st) (subst (λ (r : Reply). IsExact edit r) (p s (have s st)).reply x));
+        };
+        key = one.key;
+        still = one.still;
+        change = λ s sh. (p s sh).change;
+        gone = one.gone;
+        fresh = one.fresh;
+        mine = one.touched (bucket_of now.hold.grid (point_of edit)) (own_touched now.hold.grid i.more.one.0 edit);
+      }
+
+-- the points of an edit that moves nothing lie in its bucket
+pub still_held : (hold : InHand) (edit : Edit) → is_move edit ≡ false → IsSome (bucket_at hold.places (bucket_of hold.grid (point_of edit))) → ArePointsHeld hold (edit_points edit)
+still_held hold (Add p) still mine q i = elim i [ inl e ↦ subst (λ (x : ℕ). IsSome (bucket_at hold.places (bucket_of hold.grid x))) e mine | inr none ↦ absurd none ]
+still_held hold (Take p) still mine q i = elim i [ inl e ↦ subst (λ (x : ℕ). IsSome (bucket_at hold.places (bucket_of hold.grid x))) e mine | inr none ↦ absurd none ]
+still_held hold (Move a b) still mine q i = absurd (cc still)
 
 -- the same hold with room
-pub plan_with_room : (v : View) (hold new : InHand) (r : Room) (edit : Edit) (plan : Plan) → IsPlan v hold edit plan → new ≡ record hold { room = r } → IsPlan v new edit plan
-plan_with_room v hold new r edit plan k e = subst (λ (x : InHand). IsPlan v x edit plan) (sym e) (record {
+pub plan_with_room : (v : View) (hold new : InHand) (r : Room) (edit : Edit) (plan : Plan) → IsReadyPlan v hold edit plan → new ≡ record hold { room = r } → IsReadyPlan v new edit plan
+plan_with_room v hold new r edit plan k e = subst (λ (x : InHand). IsReadyPlan v x edit plan) (sym e) (record {
   ready = k.ready;
   key = k.key;
+  still = k.still;
   change = λ s st. k.change s (record { ascending = st.ascending; keys = st.keys; solid = st.solid; sights = st.sights });
   gone = k.gone;
   fresh = k.fresh;
   mine = k.mine;
 })
 
-pub more_on_ok : (id : TableId) (n : ℕ) (w w' u : Hands) (r : Result Plan Refused) → HasMore id n w w' → OnOk r (HasMore id n w' u) → OnOk r (HasMore id n w u)
-more_on_ok id n w w' u (Ok x) m k = more_then id n w w' u m k
-more_on_ok id n w w' u (Err x) m k = tt
+-- a claim that failed stops the try
+pub asked_then : {X : Type 0} (id : TableId) (n : ℕ) (w w' u : Hands) (r : Result X Refused) (why : Refused) → HasMore id n w w' → HasStopped w' u why → IsErr r × IsErrAnd r (λ e. e ≡ why) → IfErr r (λ e. HasStopped w u e)
+asked_then id n w w' u (Ok x) why m s e = tt
+asked_then id n w w' u (Err x) why m s e = subst (λ (y : Refused). HasStopped w u y) (sym e.1) (stopped_then id n w w' u why m s)

@@ -7,6 +7,7 @@ use Rattle.std.specs.Prelude.{
   ◌^◌,
   ◌<◌,
   ◌≤◌,
+  false,
   List,
   [],
   ◌∷◌,
@@ -23,17 +24,16 @@ use Rattle.std.specs.Prelude.{
 use Rattle.atomic_table.specs.Seated.{TableId}
 use Rattle.edit_history.specs.declared.history.Edit.{Edit}
 use Rattle.edit_history.specs.declared.history.Entry.{Entry}
-use Rattle.edit_history.specs.Edits.{point_of, reply_to, after}
+use Rattle.edit_history.specs.Edits.{HasKeys, is_move, point_of, reply_to, after}
 use Rattle.cell_store.specs.Grids.{bucket_of}
-use Rattle.cell_store.specs.Buckets.{BucketContent, InHand, bucket_at}
+use Rattle.cell_store.specs.Buckets.{BucketContent, InHand, bucket_at, room_for}
 use Rattle.cell_store.specs.Changes.{IsChange, IsSwapped, IsNoted}
-use Rattle.point_order.specs.Coordinates.{IsKey}
 use Rattle.point_order.specs.Complex.{complex}
 use Rattle.point_order.specs.declared.cell.Cell.{Cell}
 use Rattle.cell_store.specs.Ready.{AreHeld}
 use Rattle.cell_store.specs.Shares.{Shows}
 use Rattle.grid_claims.specs.declared.hands.Hands.{Hands}
-use Rattle.grid_claims.specs.declared.claiming.Plan.{Plan}
+use Rattle.edit_plans.specs.declared.planner.Plan.{Plan}
 use Rattle.grid_claims.specs.declared.table.Refused.{Refused}
 use Rattle.grid_claims.specs.declared.table.Refused.TheVariants.{Spent, Busy, Memory}
 use Rattle.grid_claims.specs.declared.view.Act.{Act}
@@ -96,10 +96,12 @@ pub record HasStopped (old new : Hands) (why : Refused) : Type 0 where
 abbrev pub ShowsOne : InHand → Type 0
 ShowsOne hold = (s : List ℕ) × Shows hold s
 
--- What an edit is to change is known, of every set that the hold shows, and all buckets of it are in hand.
-pub record IsPlan (v : View) (hold : InHand) (edit : Edit) (plan : Plan) : Type 0 where
+-- What an edit, which moves nothing, is to change is known, of every set that the hold shows, and all buckets of it are
+-- in hand.
+pub record IsReadyPlan (v : View) (hold : InHand) (edit : Edit) (plan : Plan) : Type 0 where
   pub ready : IsReady v edit plan.reply
-  pub key : IsKey (point_of edit)
+  pub key : HasKeys edit
+  pub still : is_move edit ≡ false
   pub change : (s : List ℕ) → Shows hold s →
       IsChange (complex s) (complex (after s edit)) plan.gone.items plan.fresh.items
   pub gone : AreHeld hold plan.gone.items
@@ -119,8 +121,7 @@ pub record IsGivingBack (old : Seated) (claims : List ℕ) (m : Seated) (hold : 
 
 -- there is room for the change
 abbrev pub HasRoomFor : InHand → Edit → Plan → Type 0
-HasRoomFor hold edit plan =
-    hold.room ≡ record { swap = Some (plan.gone.items, plan.fresh.items); push = Some (point_of edit) }
+HasRoomFor hold edit plan = hold.room ≡ room_for plan.gone.items plan.fresh.items edit
 
 -- The edit was made after some history, and all buckets were given back.
 pub record IsFinished (tag : ℕ) (edit : Edit) (reply : Reply) (number : ℕ) (old new : Hands) : Type 0 where

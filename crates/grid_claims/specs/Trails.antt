@@ -5,12 +5,10 @@ use mathlib.Core.Option.{some}
 use lib.ListN.{get_elem?}
 use Rattle.point_order.specs.Sets.{IsIn}
 use Rattle.edit_history.specs.declared.history.Edit.{Edit}
-use Rattle.edit_history.specs.declared.history.Edit.TheVariants.{Add, Take}
 use Rattle.edit_history.specs.declared.history.Entry.{Entry}
-use Rattle.edit_history.specs.declared.history.Reply.{Reply}
-use Rattle.edit_history.specs.declared.history.Reply.TheVariants.{Duplicate}
 use Rattle.edit_history.specs.Histories.{replay}
 use Rattle.cell_store.specs.Touches.{IsTouched}
+pub use Rattle.edit_plans.specs.Plans.{IsExact}
 use Rattle.grid_claims.specs.declared.view.Act.{Act}
 use Rattle.grid_claims.specs.declared.view.Act.TheVariants.{Claim, Miss, Commit, Release, Look}
 
@@ -30,11 +28,6 @@ in_hand_from bs (a ∷ trail) = in_hand_from (in_hand_after bs a) trail
 -- the buckets claimed and not yet released in a trail, in the order of their claims
 unfoldable pub in_hand : List Act → List ℕ
 in_hand trail = in_hand_from [] trail
-
--- The edit claims no more than it touches: it takes a point, or adds one that is there.
-abbrev pub IsExact : Edit → Reply → Type 0
-IsExact (Take p) reply = Unit {0}
-IsExact (Add p) reply = reply ≡ Duplicate
 
 -- these are exactly the buckets that the edit touches
 abbrev pub AreTouched : ℕ → List ℕ → Edit → List ℕ → Type 0
