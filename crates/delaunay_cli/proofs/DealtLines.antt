@@ -1,5 +1,5 @@
 -- The lines that are dealt to workers can be run, and a run of them behind the opening keeps the file.
-use Rattle.std.proofs.Common.{◌≡◌, refl, sym, ◌∙◌, ap, subst, ℕ, suc, ◌+◌, ◌%◌, ◌<◌, ◌≤◌, ◌==◌, Bool, true, false, cond, List, [], ◌∷◌, ◌++◌, length, map, arith, length-append}
+use Rattle.std.proofs.Common.{◌≡◌, refl, sym, ◌∙◌, ap, subst, ℕ, suc, ◌+◌, ◌%◌, ◌<◌, ◌≤◌, ◌==◌, Bool, true, false, cond, List, [], ◌∷◌, ◌++◌, length, map, arith, inl, inr, length-append}
 use Rattle.std.specs.Prelude.{not, ◌&&◌, All}
 use Rattle.std.specs.List.{enumerate_from, filter, flat_map, range_with_len}
 use Rattle.std.proofs.lemmas.Bool.{eqb-true}
@@ -7,17 +7,17 @@ use Rattle.std.proofs.lemmas.List.{length-map}
 use Rattle.std.proofs.lemmas.List.FromFn.{length-range_with_len}
 use Rattle.std.proofs.lemmas.List.Sorted.{length_permutation}
 use Rattle.std.proofs.Math.Nat.{mod-lt}
-use Rattle.list_laws.proofs.Cited.{EachLater, all_of_each, later_filter, later_map, later_pairs, later_weaken, mapped_from, numbered_lower, numbered_places, passes, second_true}
+use Rattle.list_laws.proofs.Cited.{EachLater, all_of_each, each_of_all, from_append, in_filtered, later_filter, later_map, later_pairs, later_weaken, mapped_from, mapped_true, numbered_lower, numbered_map, numbered_places, passes, second_true}
 use Rattle.point_order.specs.Sets.{IsIn, is_among}
 use Rattle.edit_history.specs.declared.history.Edit.{Edit}
 use Rattle.edit_history.specs.declared.history.Edit.TheVariants.{Add}
 use Rattle.edit_history.specs.declared.history.Entry.{Entry}
-use Rattle.edit_history.specs.Edits.{point_of}
+use Rattle.edit_history.specs.Edits.{is_move, point_of}
 use Rattle.edit_history.specs.Histories.{IsLegal}
 use Rattle.edit_history.specs.OneThread.{Keeps, one_thread, places, tagged_lines}
 use Rattle.plain_laws.specs.Running.{Pair, dealt, dealt_to, opening_entries, IsRun}
 use Rattle.plain_laws.proofs.Cited.{all_parts, run_alone, run_keeps}
-use Rattle.edit_workers.specs.Dealing.{AreApart, AreAscending, AreOpening, HaveNoPoint, count_of}
+use Rattle.edit_workers.specs.Dealing.{AreApart, AreAscending, AreStill, AreOpening, HaveNoPoint, count_of}
 use Rattle.edit_workers.specs.Running.{AreRun}
 
 -- ---- what workers can run
@@ -43,6 +43,24 @@ module _ (workers : ℕ) (four : List ℕ) (points : List ℕ) (edits : List Edi
 
       each : (l : List Pair) → ((i : ℕ) × IsIn i (range_with_len 0 workers) × (dealt_to workers four all i ≡ l)) → AreAscending l
       each l k = subst AreAscending k.2 (one k.0)
+
+  -- where no edit moves a point, no line does
+  pub dealt_still : All (λ e. is_move e ≡ false) edits → All AreStill lists
+  dealt_still still = all_of_each AreStill lists (λ l i. each l (mapped_from (dealt_to workers four all) l (range_with_len 0 workers) i))
+    where
+      line_still : (p : Pair) → IsIn p all → is_move p.1 ≡ false
+      line_still p i =
+          elim (from_append p.1 (map Add points) edits (subst (IsIn p.1) (numbered_map 0 (map Add points ++ edits)) (mapped_true (λ (x : Pair). x.1) p all i))) [
+            | inl j ↦ (let r = mapped_from Add p.1 points j in ap is_move (sym r.2))
+            | inr j ↦ each_of_all (λ e. is_move e ≡ false) edits still p.1 j
+          ]
+
+      one : (i : ℕ) → AreStill (dealt_to workers four all i)
+      one i = all_of_each (λ (p : Pair). is_move p.1 ≡ false) (dealt_to workers four all i)
+          (λ p k. line_still p (in_filtered (λ line. not (is_among line.0 four) && (point_of line.1 % workers == i)) all p k))
+
+      each : (l : List Pair) → ((i : ℕ) × IsIn i (range_with_len 0 workers) × (dealt_to workers four all i ≡ l)) → AreStill l
+      each l k = subst AreStill k.2 (one k.0)
 
   -- a line goes to the worker that its point tells
   dealt_by : (i : ℕ) (a : Pair) → IsIn a (dealt_to workers four all i) → point_of a.1 % workers ≡ i

@@ -7,7 +7,8 @@ use Rattle.std.proofs.lemmas.List.FromFn.{length-map-range_with_len}
 use Rattle.point_order.specs.Solid.{is_solid}
 use Rattle.edit_files.specs.Content.{Content}
 use Rattle.edit_files.specs.Generator.{edit_line, generated}
-use Rattle.edit_files.proofs.Cited.{generated_solid}
+use Rattle.edit_files.proofs.Cited.{generated_solid, generated_still}
+use Rattle.edit_history.specs.Edits.{is_move}
 use Rattle.edit_history.specs.declared.history.Entry.{Entry}
 use Rattle.mesh_files.specs.Summary.{summary_text}
 use Rattle.mesh_files.specs.Text.{ReportParts}
@@ -33,6 +34,9 @@ drawn_radii f count start e =
     (All-cons (λ radius. radius < 2 ^ 30) 16384 (262144 ∷ 4194304 ∷ []) (lit< tt)
     (All-cons (λ radius. radius < 2 ^ 30) 262144 (4194304 ∷ []) (lit< tt)
     (All-cons (λ radius. radius < 2 ^ 30) 4194304 [] (lit< tt) (All-nil (λ radius. radius < 2 ^ 30)))))
+
+pub drawn_still : (f : Content) (count start : ℕ) → f ≡ generated count start → All (λ e. is_move e ≡ false) f.edits
+drawn_still f count start e = subst (λ (g : Content). All (λ e. is_move e ≡ false) g.edits) (sym e) (generated_still count start)
 
 drawn_solid : (f : Content) (count start : ℕ) → f ≡ generated count start → is_solid f.points ≡ true
 drawn_solid f count start e = ap (λ (g : Content). is_solid g.points) e ∙ generated_solid count start

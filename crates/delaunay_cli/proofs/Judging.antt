@@ -1,8 +1,11 @@
 -- What the judging of a file says of its bytes.
 use Rattle.std.proofs.Common.{◌≡◌, refl, subst, ap, ◌∙◌, ℕ, ◌+◌, ◌<◌, ◌≤◌, ◌^◌, List, [], ◌∷◌, ◌++◌, length, arith, inl, inr}
-use Rattle.std.specs.Prelude.{Option, None, Some, IfSome, IfErr, Result, Ok, Err, All}
+use Rattle.std.specs.Prelude.{false, Option, None, Some, IfSome, IfErr, Result, Ok, Err, All}
 use Rattle.std.specs.List.{AllZip}
 use Rattle.list_laws.proofs.Cited.{length_zip}
+use Rattle.edit_history.specs.declared.history.Edit.{Edit}
+use Rattle.edit_history.specs.declared.history.Edit.TheVariants.{Add, Take, Move}
+use Rattle.edit_history.specs.Edits.{is_move}
 use Rattle.edit_files.specs.Content.{Content}
 use Rattle.edit_files.specs.Grammar.{line_limit, IsFile}
 use Rattle.edit_files.specs.Forms.{IsPointLine, IsEditLine, IsRadiusLine}
@@ -31,6 +34,21 @@ radii_small limit bytes f h = of_lines h.radii f.radii h.radius_lines
     of_lines [] (r ∷ radii) z = absurd z
     of_lines (l ∷ lines) [] z = absurd z
     of_lines (l ∷ lines) (r ∷ radii) z = All-cons (λ radius. radius < 2 ^ 30) r radii z.0.1 (of_lines lines radii z.1)
+
+-- the edits of a file move no point
+pub edits_still : (limit : ℕ) (bytes : List ℕ) (f : Content) → IsFile limit bytes f → All (λ e. is_move e ≡ false) f.edits
+edits_still limit bytes f h = of_lines h.edits f.edits h.edit_lines
+  where
+    one : (line : List ℕ) (e : Edit) → IsEditLine line e → is_move e ≡ false
+    one line (Add p) s = refl
+    one line (Take p) s = refl
+    one line (Move a b) s = absurd s
+
+    of_lines : (lines : List (List ℕ)) (edits : List Edit) → AllZip IsEditLine lines edits → All (λ e. is_move e ≡ false) edits
+    of_lines [] [] z = λ k d l. absurd (omega arith)
+    of_lines [] (e ∷ edits) z = absurd z
+    of_lines (l ∷ lines) [] z = absurd z
+    of_lines (l ∷ lines) (e ∷ edits) z = All-cons (λ e. is_move e ≡ false) e edits (one l e z.0) (of_lines lines edits z.1)
 
 -- what holds of the bytes that were read to the end holds of those that the source told
 pub if_told : (P : List ℕ → Type 0) (left : Option (List ℕ)) (old bytes now : List ℕ) → old ≡ [] → now ≡ bytes → IfSome left (λ told. bytes ≡ old ++ told) → P now → IfSome left P

@@ -1,7 +1,8 @@
 //! From an accepted file to its mesh, and to the parts of its report.
 
-ghost use Rattle.std.specs.Prelude.{◌≡◌, ◌<◌, ◌+◌, ◌^◌, length, All, IfOk, IfErr, option_map, Vec, ℕ};
+ghost use Rattle.std.specs.Prelude.{◌≡◌, ◌<◌, ◌+◌, ◌^◌, false, length, All, IfOk, IfErr, option_map, Vec, ℕ};
 ghost use Rattle.std.specs.declared.alloc.Global.{Global};
+ghost use Rattle.edit_history.specs.Edits.{is_move};
 ghost use Rattle.edit_files.specs.Content.{content};
 ghost use Rattle.delaunay_cli.specs.Page.{IsReady, radii_of as radii_of_it, report_of_parts};
 ghost use Rattle.delaunay_cli.specs.Report.{order_of as order_of_it, report_of, tags_of};
@@ -97,6 +98,7 @@ pub fn history_and_parts<R: Threads + Sync, G: Gate + Sync>(
     gate: &G,
 ) -> Result<(Vec<Entry>, Parts), Stop>
     requires lines { length file.now.points.items + length file.now.edits.items + 4 < 2 ^ 32 }
+    requires still { All (λ e. is_move e ≡ false) file.now.edits.items }
     requires radii { All (λ radius. radius < 2 ^ 30) file.now.radii.items }
     ensures made { IfOk result (λ made. IsMeshed making.workers asked.shape asked.order
         (content file.now) made.0.items (report_of_parts made.1)) }

@@ -1,4 +1,4 @@
 -- The lemmas that other crates cite.
-pub use Rattle.edit_files.proofs.Generated.{generated_anchored, generated_solid}
+pub use Rattle.edit_files.proofs.Generated.{generated_anchored, generated_solid, generated_still}
 pub use Rattle.edit_files.proofs.Judged.{no_fault_of, one_file_of}
 pub use Rattle.edit_files.proofs.Written.{no_minus}

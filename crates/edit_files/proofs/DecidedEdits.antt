@@ -3,7 +3,7 @@ use Rattle.std.proofs.Common.{◌≡◌, ℕ, ◌<◌, ◌≤◌, ◌^◌, true,
 use Rattle.std.proofs.lemmas.Bool.{cases_lt, lt-ltb, le-ltb}
 use Rattle.std.proofs.lemmas.Bool.Decides.{eqb_tells}
 use Rattle.edit_history.specs.declared.history.Edit.{Edit}
-use Rattle.edit_history.specs.declared.history.Edit.TheVariants.{Add, Take}
+use Rattle.edit_history.specs.declared.history.Edit.TheVariants.{Add, Take, Move}
 use Rattle.edit_files.specs.declared.fault.Why.{Why}
 use Rattle.edit_files.specs.declared.fault.Why.TheVariants.{Field, Range}
 use Rattle.edit_files.specs.Numbers.{IsNumber}
@@ -102,6 +102,7 @@ edit_sound line e h =
 edit_complete : (line : List ℕ) (e : Edit) → IsEditLine line e → edit line ≡ Ok e
 edit_complete line (Add p) s = ap edit s.1 ∙ edit_plus s.0 ∙ ap (edit_from Add) (point_complete s.0 p s.2)
 edit_complete line (Take p) s = ap edit s.1 ∙ edit_minus s.0 ∙ ap (edit_from Take) (point_complete s.0 p s.2)
+edit_complete line (Move a b) s = absurd s
 
 edit_field : (line : List ℕ) → edit line ≡ Err Field → HasEditForm line → ⊥
 edit_field line h f =

@@ -8,10 +8,12 @@ use Rattle.point_order.specs.Orientation.{x_from, y_from, z_from, minor, triple,
 use Rattle.point_order.specs.Sets.{is_among, IsIn}
 use Rattle.point_order.specs.Solid.{is_solid}
 use Rattle.edit_history.specs.declared.history.Edit.{Edit}
-use Rattle.edit_history.specs.declared.history.Edit.TheVariants.{Add, Take}
-use Rattle.edit_history.specs.Edits.{point_of}
+use Rattle.edit_history.specs.declared.history.Edit.TheVariants.{Add, Take, Move}
+use Rattle.edit_history.specs.Edits.{is_move, point_of}
 use Rattle.edit_history.specs.Opening.{opening_four}
 use Rattle.plain_laws.specs.Plain.{IsAnchored}
+use Rattle.std.specs.Prelude.{All}
+use Rattle.list_laws.proofs.Cited.{all_of_each, mapped_from}
 use Rattle.edit_files.specs.Grammar.{line_limit}
 use Rattle.edit_files.specs.Writing.{IsWithin}
 use Rattle.edit_files.specs.Keys.{coordinate_count, key_of}
@@ -102,11 +104,33 @@ none_takes start q a [] i = absurd i
 none_takes start q a (k ∷ is) (inl e) = line_takes start k q a (sym e)
 none_takes start q a (k ∷ is) (inr i) = none_takes start q a is i
 
+-- and none moves a point
+line_still : (start i : ℕ) → is_move (edit_line start i) ≡ false
+line_still start i = by (eqb (i % 4) 0)
+  where
+    back : (p : ℕ) (b : Bool) → is_move (cond b (Add p) (Take p)) ≡ false
+    back p true = refl
+    back p false = refl
+
+    by : (b : Bool) → is_move (cond b (back_to (drawn_by start (i - 2))) (Add (drawn_by start i))) ≡ false
+    by true = back (drawn_by start (i - 2)) (is_among (drawn_by start (i - 2)) corners)
+    by false = refl
+
+pub generated_still : (count start : ℕ) → All (λ e. is_move e ≡ false) (generated count start).edits
+generated_still count start = all_of_each (λ e. is_move e ≡ false) (map (edit_line start) (range_with_len 1 count))
+    (λ e i. let r = mapped_from (edit_line start) e (range_with_len 1 count) i in sym (ap is_move r.2) ∙ line_still start r.0)
+
+none_moves : (start p q : ℕ) (is : List ℕ) → IsIn (Move p q) (map (edit_line start) is) → ⊥
+none_moves start p q [] i = absurd i
+none_moves start p q (k ∷ is) (inl e) = let f = sym (line_still start k) ∙ ap is_move e in absurd cc
+none_moves start p q (k ∷ is) (inr i) = none_moves start p q is i
+
 pub generated_anchored : (count start : ℕ) → IsAnchored (generated count start).points (generated count start).edits
 generated_anchored count start = record {
   four = record { first = 0; second = 1; third = 2; fourth = 3 };
   opening = corners_open;
   untaken = λ i at. none_takes start (slice_index corners i) (corner i at) (range_with_len 1 count);
+  unmoved = λ i b at. none_moves start (slice_index corners i) b (range_with_len 1 count);
 }
   where
     corner : (i : ℕ) → IsIn i (0 ∷ 1 ∷ 2 ∷ 3 ∷ []) → is_among (slice_index corners i) corners ≡ true
@@ -144,9 +168,9 @@ line_key start i = by (eqb (i % 4) 0)
     by true = back (drawn_by start (i - 2)) (is_among (drawn_by start (i - 2)) corners) (drawn_key start (draws_before (i - 2)))
     by false = drawn_key start (draws_before i)
 
-lines_keys : (start : ℕ) (is : List ℕ) → AllByRecursion (λ e. IsKey (point_of e)) (map (edit_line start) is)
+lines_keys : (start : ℕ) (is : List ℕ) → AllByRecursion (λ e. (is_move e ≡ false) × IsKey (point_of e)) (map (edit_line start) is)
 lines_keys start [] = tt
-lines_keys start (i ∷ is) = (line_key start i, lines_keys start is)
+lines_keys start (i ∷ is) = ((line_still start i, line_key start i), lines_keys start is)
 
 pub generated_within : (count start : ℕ) → count ≤ most_edits → IsWithin line_limit (generated count start)
 generated_within count start few = record {

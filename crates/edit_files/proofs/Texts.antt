@@ -3,7 +3,7 @@ use Rattle.std.proofs.Common.{◌≡◌, ℕ, false, eqb, List, [], ◌∷◌, �
 use Rattle.std.specs.Prelude.{codes}
 use Rattle.std.specs.List.{AllByRecursion, AllZip}
 use Rattle.edit_history.specs.declared.history.Edit.{Edit}
-use Rattle.edit_history.specs.declared.history.Edit.TheVariants.{Add, Take}
+use Rattle.edit_history.specs.declared.history.Edit.TheVariants.{Add, Take, Move}
 use Rattle.edit_files.specs.Content.{Content}
 use Rattle.edit_files.specs.Lines.{lines_of, text_of}
 use Rattle.edit_files.specs.Forms.{IsPointLine, IsEditLine, IsRadiusLine}
@@ -37,6 +37,7 @@ point_no_feed line p s =
 edit_no_feed : (line : List ℕ) (e : Edit) → IsEditLine line e → HasNo 10 line
 edit_no_feed line (Add p) s = subst (λ (l : List ℕ). HasNo 10 l) (sym s.1) (refl, (refl, point_no_feed s.0 p s.2))
 edit_no_feed line (Take p) s = subst (λ (l : List ℕ). HasNo 10 l) (sym s.1) (refl, (refl, point_no_feed s.0 p s.2))
+edit_no_feed line (Move a b) s = absurd s
 
 radius_no_feed : (line : List ℕ) (r : ℕ) → IsRadiusLine line r → HasNo 10 line
 radius_no_feed line r s = number_without 10 line (omega arith) s.0.number

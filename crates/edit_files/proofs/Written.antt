@@ -9,8 +9,8 @@ use Rattle.std.proofs.lemmas.Str.Parse.{digit_from_value}
 use Rattle.list_laws.proofs.Cited.{length_zip, zip_all, zip_map}
 use Rattle.point_order.specs.Coordinates.{x_of, y_of, z_of, IsKey}
 use Rattle.edit_history.specs.declared.history.Edit.{Edit}
-use Rattle.edit_history.specs.declared.history.Edit.TheVariants.{Add, Take}
-use Rattle.edit_history.specs.Edits.{point_of}
+use Rattle.edit_history.specs.declared.history.Edit.TheVariants.{Add, Take, Move}
+use Rattle.edit_history.specs.Edits.{is_move, point_of}
 use Rattle.edit_files.specs.Content.{Content}
 use Rattle.edit_files.specs.Lines.{text_of}
 use Rattle.edit_files.specs.Numbers.{IsNumberOf, after_minus}
@@ -50,9 +50,10 @@ point_line p key =
       key = key;
     }
 
-edit_line : (e : Edit) → IsKey (point_of e) → IsEditLine (edit_text e) e
-edit_line (Add p) key = (point_text p, refl, point_line p key)
-edit_line (Take p) key = (point_text p, refl, point_line p key)
+edit_line : (e : Edit) → (is_move e ≡ false) × IsKey (point_of e) → IsEditLine (edit_text e) e
+edit_line (Add p) k = (point_text p, refl, point_line p k.1)
+edit_line (Take p) k = (point_text p, refl, point_line p k.1)
+edit_line (Move a b) k = absurd (cc k.0)
 
 radius_line : (r : ℕ) → r < 2 ^ 30 → IsRadiusLine (decimal r) r
 radius_line r lt = (decimal_is r (omega arith), lt)
@@ -64,20 +65,21 @@ written_is_file limit f w = text_is_file limit (file_lines f) f (record {
   radii = map decimal f.radii;
   order = refl;
   point_lines = zip_map IsPointLine point_text IsKey point_line f.points w.points;
-  edit_lines = zip_map IsEditLine edit_text (λ e. IsKey (point_of e)) edit_line f.edits w.edits;
+  edit_lines = zip_map IsEditLine edit_text (λ e. (is_move e ≡ false) × IsKey (point_of e)) edit_line f.edits w.edits;
   radius_lines = zip_map IsRadiusLine decimal (λ r. r < 2 ^ 30) radius_line f.radii w.radii;
   line_count = omega (arith, w.line_count, length-map f.points point_text, length-map f.edits edit_text);
   radius_count = omega (arith, w.radius_count, length-map f.radii decimal);
 })
 
-edit_key : (line : List ℕ) (e : Edit) → IsEditLine line e → IsKey (point_of e)
-edit_key line (Add p) s = s.2.key
-edit_key line (Take p) s = s.2.key
+edit_key : (line : List ℕ) (e : Edit) → IsEditLine line e → (is_move e ≡ false) × IsKey (point_of e)
+edit_key line (Add p) s = (refl, s.2.key)
+edit_key line (Take p) s = (refl, s.2.key)
+edit_key line (Move a b) s = absurd s
 
 pub file_is_within : (limit : ℕ) (bytes : List ℕ) (f : Content) → IsFile limit bytes f → IsWithin limit f
 file_is_within limit bytes f k = record {
   points = zip_all IsPointLine IsKey (λ line p s. s.key) k.points f.points k.point_lines;
-  edits = zip_all IsEditLine (λ e. IsKey (point_of e)) edit_key k.edits f.edits k.edit_lines;
+  edits = zip_all IsEditLine (λ e. (is_move e ≡ false) × IsKey (point_of e)) edit_key k.edits f.edits k.edit_lines;
   radii = zip_all IsRadiusLine (λ r. r < 2 ^ 30) (λ line r s. s.1) k.radii f.radii k.radius_lines;
   line_count = omega (arith, k.line_count, length_zip IsPointLine k.points f.points k.point_lines, length_zip IsEditLine k.edits f.edits k.edit_lines);
   radius_count = omega (arith, k.radius_count, length_zip IsRadiusLine k.radii f.radii k.radius_lines);

@@ -2,7 +2,7 @@
 use Rattle.std.specs.Prelude.{◌≡◌, ℕ, List, ◌∷◌, ◌++◌, ◌<◌, ◌^◌, ◌⊎◌}
 use Rattle.point_order.specs.Coordinates.{x_of, y_of, z_of, IsKey}
 use Rattle.edit_history.specs.declared.history.Edit.{Edit}
-use Rattle.edit_history.specs.declared.history.Edit.TheVariants.{Add, Take}
+use Rattle.edit_history.specs.declared.history.Edit.TheVariants.{Add, Take, Move}
 use Rattle.edit_files.specs.Numbers.{IsNumber, IsNumberOf}
 
 -- three fields with one space (32) between them
@@ -34,10 +34,11 @@ pub record IsPointLine (line : List ℕ) (point : ℕ) : Type 0 where
 abbrev pub HasEditForm : List ℕ → Type 0
 HasEditForm line = (rest : List ℕ) × ((line ≡ 43 ∷ 32 ∷ rest) ⊎ (line ≡ 45 ∷ 32 ∷ rest)) × HasPointForm rest
 
--- a plus adds the point, and a minus takes it
+-- a plus adds the point, and a minus takes it; no line moves one
 abbrev pub IsEditLine : List ℕ → Edit → Type 0
 IsEditLine line (Add point) = (rest : List ℕ) × (line ≡ 43 ∷ 32 ∷ rest) × IsPointLine rest point
 IsEditLine line (Take point) = (rest : List ℕ) × (line ≡ 45 ∷ 32 ∷ rest) × IsPointLine rest point
+IsEditLine line (Move a b) = ⊥
 
 -- the radius line of a radius, which is 0 to 1073741823; its form is that of one number
 abbrev pub IsRadiusLine : List ℕ → ℕ → Type 0

@@ -21,13 +21,20 @@ fn put_number(text: &mut Vec<u8>, number: u64, end: u8) -> Result<(), AllocError
     Ok(())
 }
 
+// Puts the coordinates of a point behind the text, and a byte behind them.
+fn put_place(text: &mut Vec<u8>, point: Point, end: u8) -> Result<(), AllocError>
+    ensures { OnOk result (text.new.items ≡ text.old.items ++ (point_text point ++ end ∷ [])) }
+{
+    put_number(text, point.x() as u64, b' ')?;
+    put_number(text, point.y() as u64, b' ')?;
+    put_number(text, point.z() as u64, end)
+}
+
 // Puts a point behind the text, as a point line.
 fn put_point(text: &mut Vec<u8>, point: Point) -> Result<(), AllocError>
     ensures { OnOk result (text.new.items ≡ text.old.items ++ text_of (point_text point ∷ [])) }
 {
-    put_number(text, point.x() as u64, b' ')?;
-    put_number(text, point.y() as u64, b' ')?;
-    put_number(text, point.z() as u64, b'\n')
+    put_place(text, point, b'\n')
 }
 
 // Puts an edit behind the text, as an edit line.
@@ -42,6 +49,11 @@ fn put_edit(text: &mut Vec<u8>, edit: Edit) -> Result<(), AllocError>
         Edit::Take(point) => {
             text.extend_from_slice(b"- ")?;
             put_point(text, point)
+        }
+        Edit::Move(from, to) => {
+            text.extend_from_slice(b"= ")?;
+            put_place(text, from, b' ')?;
+            put_point(text, to)
         }
     }
 }

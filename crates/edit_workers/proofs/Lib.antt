@@ -5,6 +5,7 @@ pub mod FirstOnes
 pub mod Halves
 pub mod Marks
 pub mod Partly
+pub mod Still
 pub mod Stretches
 pub mod Worked
 pub mod Cited

@@ -1,5 +1,5 @@
 -- Lists that were done in parts.
-use Rattle.std.specs.Prelude.{◌≡◌, ◌≢◌, ℕ, ◌+◌, ◌<◌, ◌≤◌, Bool, false, ◌&&◌, ◌==◌, List, [], ◌∷◌, ◌++◌, map, length, All, AllPairs, IsPermutation}
+use Rattle.std.specs.Prelude.{◌≡◌, ◌≢◌, ℕ, ◌+◌, ◌<◌, ◌≤◌, Bool, true, false, ◌&&◌, ◌==◌, List, [], ◌∷◌, ◌++◌, map, length, All, AllPairs, IsPermutation}
 use Rattle.std.specs.List.{flat_map}
 use Rattle.std.specs.List.Sorted.{IsNonDecreasingBy}
 use Rattle.std.proofs.Common.{refl, sym, ◌∙◌, ap, subst, inl, inr, arith, get_or, length-append}
@@ -11,11 +11,12 @@ use Rattle.std.proofs.lemmas.Map.Keys.{IsDistinct-from_apart, IsDistinct-IsPermu
 use Rattle.list_laws.proofs.Cited.{EachLater, all_of_each, each_of_all, flat_from, from_append, in_left, in_permutation, in_right, later_across, later_append, later_left, later_pairs, later_right, later_unmap, later_weaken, mapped_true, pairs_later}
 use Rattle.point_order.specs.Sets.{IsIn}
 use Rattle.edit_history.specs.declared.history.Entry.{Entry}
-use Rattle.edit_history.specs.Edits.{point_of, after}
+use Rattle.edit_history.specs.Edits.{is_move, share_point, point_of, after}
 use Rattle.edit_history.specs.Histories.{IsLegalFrom, IsLegal}
 use Rattle.edit_history.specs.OneThread.{line_of}
 use Rattle.plain_laws.specs.Running.{Pair}
-use Rattle.edit_workers.specs.Dealing.{HaveNoPoint, AreApart, count_of}
+use Rattle.edit_workers.specs.Dealing.{HaveNoPoint, AreApart, AreStill, count_of}
+use Rattle.edit_workers.proofs.Still.{all_still, one_point}
 use Rattle.edit_workers.specs.Running.{AreRun, AscendAtPoint, ArePartly, AreRunBut, AreApplied, AreByTag}
 
 -- ---- two parts of the lists
@@ -166,7 +167,7 @@ room_left lists left sorted h k but tags =
     let b : length (map line_of but.more ++ left) ≡ count_of lists = length_permutation (flat_map (λ l. l) lists) (map line_of but.more ++ left) but.partly.lines in
     omega (arith, a, b, length-append (map line_of but.more) left, length-map but.more line_of, length_permutation left sorted tags.same)
 
-module _ (lists : List (List Pair)) (left sorted : List Pair) (h k m : List Entry) (some : 0 < length lists) (but : AreRunBut lists left h k) (tags : AreByTag left sorted) (applied : AreApplied sorted k m) (legal : IsLegal k) where
+module _ (lists : List (List Pair)) (left sorted : List Pair) (h k m : List Entry) (some : 0 < length lists) (but : AreRunBut lists left h k) (tags : AreByTag left sorted) (applied : AreApplied sorted k m) (legal : IsLegal k) (still : All AreStill lists) where
   abbrev es : List Entry
   es = but.more
 
@@ -197,6 +198,9 @@ module _ (lists : List (List Pair)) (left sorted : List Pair) (h k m : List Entr
       subst (IsPermutation (flat_map (λ l. l) lists)) e
       (IsPermutation-trans (flat_map (λ l. l) lists) (map line_of es ++ left) (map line_of es ++ sorted) but.partly.lines (IsPermutation-append_right (map line_of es) left sorted tags.same))
 
+  entry_still : (e : Entry) → IsIn e (es ++ fs) → is_move e.edit ≡ false
+  entry_still e i = all_still lists still (line_of e) (in_permutation (map line_of (es ++ fs)) (flat_map (λ l. l) lists) (line_of e) (IsPermutation-sym (flat_map (λ l. l) lists) (map line_of (es ++ fs)) all_lines) (mapped_true line_of e (es ++ fs) i))
+
   by_workers : All (λ e. e.by < length lists) (es ++ fs)
   by_workers =
       all_of_each (λ (e : Entry). e.by < length lists) (es ++ fs)
@@ -221,7 +225,9 @@ module _ (lists : List (List Pair)) (left sorted : List Pair) (h k m : List Entr
     history = applied.history ∙ ap (λ (l : List Entry). l ++ fs) but.history ∙ append_assoc h es fs;
     run = record {
       lines = all_lines;
-      order = later_pairs SamePoint (es ++ fs) both_parts;
+      order = later_pairs (λ (d e : Entry). share_point d.edit e.edit ≡ true → d.tag < e.tag) (es ++ fs)
+          (later_weaken SamePoint (λ (d e : Entry). share_point d.edit e.edit ≡ true → d.tag < e.tag) (es ++ fs)
+          (λ d e i j same shared. same (one_point d.edit e.edit shared (entry_still d i) (entry_still e j))) both_parts);
       workers = by_workers;
       alone = nothing_left;
     };

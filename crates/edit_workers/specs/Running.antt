@@ -9,7 +9,7 @@ use Rattle.grid_claims.specs.Passes.{Opened, Standing}
 use Rattle.grid_claims.specs.Tries.{IsStill}
 use Rattle.plain_laws.specs.Running.{Pair, IsRun}
 use Rattle.edit_workers.specs.declared.lists.List as lists
-use Rattle.edit_workers.specs.Dealing.{AreAscending, AreApart, count_of}
+use Rattle.edit_workers.specs.Dealing.{AreAscending, AreApart, AreStill, count_of}
 
 -- The history k is h, gone on with a run of the lists.
 pub record AreRun (lists : List (List Pair)) (h k : List Entry) : Type 0 where
@@ -23,8 +23,8 @@ pub record AreRun (lists : List (List Pair)) (h k : List Entry) : Type 0 where
 abbrev pub pairs_in : List lists.List → List (List Pair)
 pairs_in l = map (λ list. list.pairs.items) l
 
--- The pass can do these lists: there are 1 to 64, it has a part for each and allowance for all their pairs, and has
--- made no entry yet.
+-- The pass can do these lists, which move no point: there are 1 to 64, it has a part for each and allowance for all
+-- their pairs, and has made no entry yet.
 pub record CanRun (table : Opened) (lists : List (List Pair)) (pass : Standing) : Type 0 where
   pub some : 0 < length lists
   pub short : length lists ≤ 64
@@ -34,6 +34,7 @@ pub record CanRun (table : Opened) (lists : List (List Pair)) (pass : Standing) 
   pub few : pass.left ≤ 2 ^ 32
   pub fresh : pass.made ≡ []
   pub tags : All AreAscending lists
+  pub still : All AreStill lists
   pub apart : AreApart lists
 
 -- where they are of one point, their tags ascend

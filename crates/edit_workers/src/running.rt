@@ -3,7 +3,7 @@
 ghost use Rattle.std.specs.Prelude.{◌≡◌, ◌+◌, ◌^◌, ◌<◌, ◌≤◌, ◌++◌, IfOk, length, All};
 ghost use Rattle.std.specs.Thread.{IsSync};
 ghost use Rattle.grid_claims.specs.Tries.{joined};
-ghost use Rattle.edit_workers.specs.Dealing.{lists_of, AreAscending, AreApart, count_of};
+ghost use Rattle.edit_workers.specs.Dealing.{lists_of, AreAscending, AreApart, AreStill, count_of};
 ghost use Rattle.edit_workers.specs.Running.{AreRun, pairs_in, CanRun, AreWorked, AreRunBut, AreApplied, AreByTag};
 
 use crate::arranging::in_place;
@@ -111,6 +111,7 @@ fn side_by_side<G: Gate + Sync, R: Threads + Sync>(
 ) -> Result<(Mesh, Left), AllocError>
     requires count { (0 < length lists.now) × (length lists.now ≤ 64) }
     requires tags { All AreAscending (pairs_in lists.now) }
+    requires still { All AreStill (pairs_in lists.now) }
     requires apart { AreApart (pairs_in lists.now) }
     requires room { length mesh.history + count_of (pairs_in lists.now) ≤ 2 ^ 32 }
     ensures run { IfOk result (λ r. AreRunBut (pairs_in lists.now) r.1.pairs.items mesh.history r.0.history) }
@@ -131,7 +132,8 @@ fn sort_by_tag(left: &mut Left)
 
 // Makes the edits of pairs on the mesh, one by one.
 fn apply_all(alloc: Global, mut mesh: Mesh, pairs: &[(u32, Edit)]) -> Result<Mesh, AllocError>
-    requires { length mesh.history + length pairs.now ≤ 2 ^ 32 }
+    requires room { length mesh.history + length pairs.now ≤ 2 ^ 32 }
+    requires still { AreStill pairs.now }
     ensures applied { IfOk result (λ m. AreApplied pairs.now mesh.history m.history) }
     ensures grid { IfOk result (λ m. m.grid ≡ mesh.grid) }
 {
@@ -147,8 +149,8 @@ fn apply_all(alloc: Global, mut mesh: Mesh, pairs: &[(u32, Edit)]) -> Result<Mes
 /// The history goes on with each pair of the lists once, those of one point by their tags, and each entry by a number
 /// below the number of lists; with one list just its pairs in their order. The grid stays.
 ///
-/// There are to be 1 to 64 lists, with ascending tags in each and no point in two of them, and at
-/// most 2^32 entries with all that may come.
+/// There are to be 1 to 64 lists, with ascending tags in each and no point in two of them, none of whose edits moves a
+/// point, and at most 2^32 entries with all that may come.
 ///
 /// # Errors
 /// Want of memory. The mesh is then dropped.
@@ -161,6 +163,7 @@ pub fn run_edits<G: Gate + Sync, R: Threads + Sync>(
 ) -> Result<Mesh, AllocError>
     requires count { (0 < length (lists_of lists.now)) × (length (lists_of lists.now) ≤ 64) }
     requires tags { All AreAscending (lists_of lists.now) }
+    requires still { All AreStill (lists_of lists.now) }
     requires apart { AreApart (lists_of lists.now) }
     requires room { length mesh.history + count_of (lists_of lists.now) ≤ 2 ^ 32 }
     ensures run { IfOk result (λ m. AreRun (lists_of lists.now) mesh.history m.history) }

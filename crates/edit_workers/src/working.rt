@@ -1,6 +1,8 @@
 //! Work on a list.
 
-ghost use Rattle.std.specs.Prelude.{◌≡◌, ◌<◌, ◌≤◌, IfOk, OnOk, OnErr, length};
+ghost use Rattle.std.specs.Prelude.{◌≡◌, ◌<◌, ◌≤◌, false, IfOk, OnOk, OnErr, length};
+ghost use Rattle.edit_history.specs.Edits.{is_move};
+ghost use Rattle.edit_workers.specs.Dealing.{AreStill};
 ghost use Rattle.edit_workers.specs.Trying.{IsTried, HasMissed, IsWorkedOn, has_point as has_point_of};
 ghost use Rattle.edit_workers.specs.Working.{IsWorked, IsBroken};
 
@@ -37,6 +39,7 @@ fn try_once<G: Gate>(
 ) -> Result<Tried, AllocError>
     requires table { pass.old.table ≡ table.now }
     requires left { 0 < pass.old.left }
+    requires still { is_move edit ≡ false }
     ensures tried { IfOk result (λ tried. IsTried 1 tag edit tried pass.old pass.new) }
     ensures broken { OnErr result (HasMissed 0 pass.old pass.new) }
 {
@@ -66,6 +69,7 @@ fn try_often<G: Gate>(
 ) -> Result<Tried, AllocError>
     requires table { pass.old.table ≡ table.now }
     requires left { 0 < pass.old.left }
+    requires still { is_move edit ≡ false }
     ensures tried { IfOk result (λ tried. IsTried 64 tag edit tried pass.old pass.new) }
     ensures broken { OnErr result (HasMissed 0 pass.old pass.new) }
 {
@@ -103,6 +107,7 @@ fn work_on<G: Gate>(
 ) -> Result<(), AllocError>
     requires table { pass.old.table ≡ table.now }
     requires left { 0 < pass.old.left }
+    requires still { is_move pair.1 ≡ false }
     ensures done { OnOk result (IsWorkedOn pair left.old.pairs.items left.new.pairs.items pass.old pass.new) }
     ensures broken { OnErr result (HasMissed 0 pass.old pass.new) }
 {
@@ -121,7 +126,8 @@ fn work_on<G: Gate>(
 }
 
 /// Makes the edits of a list in their order, each tried up to 64 times. What was busy each time is left over, and so
-/// is each later one of its point. The pass is to be one of this table that may make so many edits.
+/// is each later one of its point. The pass is to be one of this table that may make so many edits, and none of them is
+/// to move a point.
 ///
 /// # Errors
 /// Want of memory. Some edits were made then, each at most once.
@@ -134,6 +140,7 @@ pub fn work<G: Gate>(
 ) -> Result<Left, AllocError>
     requires table { pass.old.table ≡ table.now }
     requires left { length list.now.pairs.items ≤ pass.old.left }
+    requires still { AreStill list.now.pairs.items }
     ensures worked { IfOk result (λ left. IsWorked list.now.pairs.items left.pairs.items pass.old pass.new) }
     ensures broken { OnErr result (IsBroken list.now.pairs.items pass.old pass.new) }
 {

@@ -20,7 +20,7 @@ count_of replies word = count_by (λ reply. bytes_eq (reply_word reply) word) re
 abbrev pub reply_count_line : List Reply → Reply → List ℕ
 reply_count_line replies reply = count_line (reply_word reply) (count_of replies (reply_word reply))
 
--- the five replies
+-- the replies that a drawn file can have: none of its edits moves a point
 abbrev pub all_replies : List Reply
 all_replies = Inserted ∷ Duplicate ∷ Removed ∷ Missing ∷ Flat ∷ []
 

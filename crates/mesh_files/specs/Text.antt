@@ -5,7 +5,15 @@ use Rattle.point_order.specs.Coordinates.{x_of, y_of, z_of}
 use Rattle.point_order.specs.declared.cell.Cell.{Cell}
 use Rattle.point_order.specs.declared.cell.Cell.TheVariants.{Full, Open}
 use Rattle.edit_history.specs.declared.history.Reply.{Reply}
-use Rattle.edit_history.specs.declared.history.Reply.TheVariants.{Inserted, Duplicate, Removed, Missing, Flat}
+use Rattle.edit_history.specs.declared.history.Reply.TheVariants.{
+  Inserted,
+  Duplicate,
+  Removed,
+  Missing,
+  Flat,
+  Moved,
+  Occupied,
+}
 use Rattle.alpha_complex.specs.declared.shape.Kind.{Kind}
 use Rattle.alpha_complex.specs.declared.shape.Kind.TheVariants.{Singular, Regular, Interior}
 use Rattle.alpha_complex.specs.Shapes.{ShapeParts}
@@ -26,6 +34,8 @@ reply_word Duplicate = codes "Duplicate"
 reply_word Removed = codes "Removed"
 reply_word Missing = codes "Missing"
 reply_word Flat = codes "Flat"
+reply_word Moved = codes "Moved"
+reply_word Occupied = codes "Occupied"
 
 abbrev pub reply_line : Reply → List ℕ
 reply_line reply = reply_word reply ++ codes "\n"

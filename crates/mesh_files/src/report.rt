@@ -67,6 +67,8 @@ pub(crate) fn word_of(reply: Reply) -> &'static str
         Reply::Removed => "Removed",
         Reply::Missing => "Missing",
         Reply::Flat => "Flat",
+        Reply::Moved => "Moved",
+        Reply::Occupied => "Occupied",
     }
 }
 

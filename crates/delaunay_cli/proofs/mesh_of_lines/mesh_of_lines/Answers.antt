@@ -3,11 +3,11 @@ use Rattle.std.specs.Prelude.{All}
 use Rattle.insertion.specs.Opening.{opening_history}
 use Rattle.edit_history.specs.Histories.{IsLegal, entries_from}
 use Rattle.edit_history.proofs.Cited.{length_entries}
-use Rattle.edit_workers.specs.Dealing.{AreApart, AreAscending, count_of}
+use Rattle.edit_workers.specs.Dealing.{AreApart, AreAscending, AreStill, count_of}
 use Rattle.delaunay_cli.specs.Made.{tagged_points}
 use Rattle.delaunay_cli.proofs.OpeningLines.{added, added_many, four_many, opening_made, opening_lines}
 use Rattle.edit_workers.proofs.Cited.{are_opening}
-use Rattle.delaunay_cli.proofs.DealtLines.{dealt_apart, dealt_ascend, dealt_count, dealt_few, run_kept, run_of_one}
+use Rattle.delaunay_cli.proofs.DealtLines.{dealt_apart, dealt_ascend, dealt_count, dealt_few, dealt_still, run_kept, run_of_one}
 use Rattle.delaunay_cli.proofs.mesh_of_lines.mesh_of_lines.Goals as goal
 
 pub deal-requires-clause-four : goal.deal-requires-clause-four
@@ -23,6 +23,10 @@ run_edits-requires-clause-count g c =
 pub run_edits-requires-clause-tags : goal.run_edits-requires-clause-tags
 run_edits-requires-clause-tags g c =
     λ k l. subst (All AreAscending) (sym c.in_ok-lists.ensures.dealt) (dealt_ascend c.args.making.workers c.args.four c.args.file.now.points.items c.args.file.now.edits.items)
+
+pub run_edits-requires-clause-still : goal.run_edits-requires-clause-still
+run_edits-requires-clause-still g c =
+    λ k l. subst (All AreStill) (sym c.in_ok-lists.ensures.dealt) (dealt_still c.args.making.workers c.args.four c.args.file.now.points.items c.args.file.now.edits.items c.requires.still)
 
 pub run_edits-requires-clause-apart : goal.run_edits-requires-clause-apart
 run_edits-requires-clause-apart g c =
