@@ -21,8 +21,10 @@ fn enter(alloc: Global, hold: &mut Hold, number: u64, edit: Edit) -> Result<(), 
         Edit::Add(_) => Reply::Inserted,
         Edit::Take(_) if there => Reply::Removed,
         Edit::Take(_) => Reply::Missing,
+        Edit::Move(_, _) if there => Reply::Occupied,
+        Edit::Move(_, _) => Reply::Missing,
     };
-    hold.reserve(alloc, none, none, edit.point())?;
+    hold.reserve(alloc, none, none, &edit)?;
     hold.swap_cells(none, none);
     hold.push_entry(Entry {
         number,
