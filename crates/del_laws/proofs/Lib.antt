@@ -15,6 +15,7 @@ pub mod Listed
 pub mod ListedParts
 pub mod Lists
 pub mod Nearness
+pub mod NearestPoints
 pub mod Neighbours
 pub mod Ordered
 pub mod Orders

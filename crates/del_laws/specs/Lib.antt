@@ -3,6 +3,7 @@ pub mod EmptySpheres
 pub mod Keys
 pub mod Kept
 pub mod Laws
+pub mod Nearest
 pub mod Listed
 pub mod ListedParts
 pub mod Parts

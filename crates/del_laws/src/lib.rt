@@ -42,6 +42,7 @@ ghost use Rattle.del_laws.specs.Parts.{StarLaw, ClosedPart, CellsAtAVertex, Empt
 ghost use Rattle.del_laws.specs.Kept.{FullIsKept, OpenIsKept};
 ghost use Rattle.del_laws.specs.EmptySpheres.{CellsAreEmpty, EdgeByCells, TriangleByCells};
 ghost use Rattle.del_laws.specs.Nearness.{NearerAcross, NearerInside, SomeTripleTowards};
+ghost use Rattle.del_laws.specs.Nearest.{NearestByCells};
 ghost use Rattle.del_laws.specs.Listed.{
   DefinitionIsCell,
   ListedIsCell,
@@ -238,4 +239,9 @@ pub fn smallest_spheres()
     ensures cell { CellsAreEmpty }
     ensures edge { EdgeByCells }
     ensures triangle { TriangleByCells }
+{}
+
+/// The cells at a point show whether it is the nearest point of the set to a place, with ties by the lesser key.
+pub fn nearest_by_cells()
+    ensures { NearestByCells }
 {}

@@ -1,7 +1,7 @@
 -- The lemmas that other crates cite.
 pub use Rattle.point_order.proofs.CellOrderLaws.{cell_after, cell_before, cell_order, cell_reverse, cell_same, cell_self}
 pub use Rattle.point_order.proofs.Determinants.{last_first, last_second, last_third, sphere_from_first, swap_first, swap_last, swap_middle}
-pub use Rattle.point_order.proofs.HeightLaws.{never_zero_law}
+pub use Rattle.point_order.proofs.HeightLaws.{height_parts_law, never_zero_law, part_rises}
 pub use Rattle.point_order.proofs.Keys.{key_is}
 pub use Rattle.point_order.proofs.Perturbation.{out_sign}
 pub use Rattle.point_order.proofs.SetLaws.{ascending_ascending, ascending_is, ascending_self, ascending_with, in_ascending, in_ascending_from, in_with, in_with_new, in_with_old, with_cases}
