@@ -1,0 +1,9 @@
+pub mod Boxes
+pub mod Facets
+pub mod Flaws
+pub mod Lists
+pub mod Sides
+pub mod Sorting
+pub mod Turned
+pub mod Triples
+pub mod Verdicts

@@ -1,0 +1,7 @@
+-- the answer for what is left is the answer for all
+use Rattle.std.proofs.Common.{◌≡◌, drop}
+use Rattle.mesh_check.specs.Flaws.{first_flaw, listed}
+use Rattle.mesh_check.proofs.cells.first_flaw.Given as goal
+
+abbrev pub invariant-loop-quad : goal.invariant-loop-quad
+invariant-loop-quad l = first_flaw l.points (listed (drop l.quad-index l.cells) l.hull) ≡ first_flaw l.points (listed l.cells l.hull)

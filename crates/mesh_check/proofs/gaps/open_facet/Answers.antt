@@ -1,0 +1,12 @@
+use Rattle.std.proofs.Common.{subst, sym, List}
+use Rattle.mesh_check.specs.declared.gaps.Side.{Side}
+use Rattle.mesh_check.specs.Flaws.{listed}
+use Rattle.mesh_check.specs.Sides.{AreSides}
+use Rattle.mesh_check.proofs.Sorting.{same_sides}
+use Rattle.mesh_check.proofs.gaps.open_facet.Goals as goal
+
+pub returns : goal.returns
+returns c =
+    let l = listed c.args.cells.now c.args.hull.now in
+    c.first_open.ensures l
+    (subst (λ (v : List Side). AreSides l v) (sym c.deref.ensures.value) (same_sides l c.in_ok-all_sides.field-0.items c.in_order-sides.result.items c.in_ok-all_sides.ensures c.in_order-sides.ensures.same))

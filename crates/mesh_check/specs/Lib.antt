@@ -1,0 +1,4 @@
+pub mod Boxes
+pub mod Flaws
+pub mod Sides
+pub mod Laws

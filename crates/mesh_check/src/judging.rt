@@ -1,0 +1,55 @@
+//! The check of lists of cells.
+
+ghost use Rattle.std.specs.Prelude.{◌≡◌, [], IfOk, MatchBool, Ok};
+ghost use Rattle.point_order.specs.Sets.{IsAscending};
+ghost use Rattle.del_laws.specs.Keys.{AreKeys};
+ghost use Rattle.mesh_check.specs.declared.flaw.Verdict.TheVariants.{Good as IsGood, Bad as IsBad};
+ghost use Rattle.mesh_check.specs.declared.flaw.Flaw.{Flaw as FlawParts};
+ghost use Rattle.mesh_check.specs.Flaws.{AreCells, IsFlaw, IsVerdict, listed};
+ghost use Rattle.mesh_check.specs.Laws.{IsComplex};
+
+use crate::cells::first_flaw;
+use crate::flaw::{Flaw, Verdict};
+use crate::gaps::open_facet;
+use point_order::{Point, Quad, Tri};
+use std::alloc::{AllocError, Global};
+
+// Whether both lists are empty.
+fn are_empty(cells: &[Quad], hull: &[Tri]) -> bool
+    ensures { MatchBool result (listed cells.now hull.now ≡ []) (listed cells.now hull.now ≡ [] → ⊥) }
+{
+    cells.is_empty() && hull.is_empty()
+}
+
+/// Judges whether cells and triples are the complex of the points, by the definitions alone: the first flaw, if there
+/// is one, cell by cell and then by their facets.
+///
+/// The points are to ascend, and the cells and triples to stand in order, each once, with points of these.
+///
+/// # Errors
+/// Want of memory.
+pub fn check(
+    alloc: Global,
+    points: &[Point],
+    cells: &[Quad],
+    hull: &[Tri],
+) -> Result<Verdict, AllocError>
+    requires points { IsAscending points.now }
+    requires keys { AreKeys points.now }
+    requires cells { AreCells points.now (listed cells.now hull.now) }
+    ensures verdict { IfOk result (IsVerdict points.now (listed cells.now hull.now)) }
+    ensures good { result ≡ Ok IsGood → IsComplex points.now (listed cells.now hull.now) }
+    ensures bad { (flaw : FlawParts) → result ≡ Ok (IsBad flaw) → IsFlaw points.now (listed cells.now hull.now) flaw
+        × (IsComplex points.now (listed cells.now hull.now) → ⊥) }
+{
+    if are_empty(cells, hull) {
+        return Ok(Verdict::Bad(Flaw::Empty));
+    }
+    if let Some(flaw) = first_flaw(points, cells, hull) {
+        return Ok(Verdict::Bad(flaw));
+    }
+    match open_facet(alloc, cells, hull)? {
+        Some(facet) => Ok(Verdict::Bad(Flaw::OpenFacet(facet))),
+        None => Ok(Verdict::Good),
+    }
+}
