@@ -1,0 +1,33 @@
+-- The nearest point of a set, and the first of the points that share a cell with a point.
+use Rattle.std.specs.Prelude.{◌≡◌, ℕ, false, List}
+use Rattle.point_order.specs.declared.cell.Cell.{Cell}
+use Rattle.point_order.specs.Complex.{complex}
+use Rattle.point_order.specs.Facets.{points_of}
+use Rattle.point_order.specs.Sets.{IsIn}
+use Rattle.del_laws.specs.Nearest.{comes_before}
+
+-- What a walk shows: the place that it goes to, and the point where it stands.
+pub record Nearing : Type 0 where
+  pub place : ℕ
+  pub point : ℕ
+
+-- x is one of the list, and as seen from q none of it comes before x
+pub record IsFirstOf (q : ℕ) (l : List ℕ) (x : ℕ) : Type 0 where
+  pub among : IsIn x l
+  pub first : (y : ℕ) → IsIn y l → comes_before q y x ≡ false
+
+-- the nearest point of s to q, among those as near the one with the least key
+abbrev pub IsNearest : List ℕ → ℕ → ℕ → Type 0
+IsNearest s q p = IsFirstOf q s p
+
+-- a cell of the complex of s has both points
+pub record IsBeside (s : List ℕ) (p x : ℕ) : Type 0 where
+  pub cell : Cell
+  pub listed : IsIn cell (complex s)
+  pub has : IsIn p (points_of cell)
+  pub other : IsIn x (points_of cell)
+
+-- x shares a cell with p, as p itself does, and as seen from q none that does comes before x
+pub record IsFirstAround (s : List ℕ) (q p x : ℕ) : Type 0 where
+  pub beside : IsBeside s p x
+  pub first : (y : ℕ) → IsBeside s p y → comes_before q y x ≡ false
