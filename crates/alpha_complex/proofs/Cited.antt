@@ -1,2 +1,3 @@
 -- The lemmas that other crates cite.
 pub use Rattle.alpha_complex.proofs.Searches.{mapped_at}
+pub use Rattle.alpha_complex.proofs.Shaped.{cells_are}

@@ -14,7 +14,7 @@ use Rattle.alpha_complex.specs.Leasts.{AreAlphas, AreAlphasOf, AreLeastOf, kind_
 use Rattle.alpha_complex.specs.Slots.{held, slots_of, cell_slots_of}
 
 -- the numbers of a face tell its kind
-pub kind_told : {X : Type 0} (admits : ℕ → X × List Cell → Bool) (f : X × List Cell) (a : FaceAlphas) (alpha : ℕ) → alpha < 2 ^ 30 → AreAlphasOf admits f a → kind_at a alpha ≡ kind_by (is_small_cell alpha) f.1
+pub kind_told : {X : Type 0} (admits : ℕ → X × List Cell → Bool) (f : X × List Cell) (a : FaceAlphas) (alpha : ℕ) → alpha < 2 ^ 34 → AreAlphasOf admits f a → kind_at a alpha ≡ kind_by (is_small_cell alpha) f.1
 kind_told admits f a alpha l h =
     let p : list_all (is_small_cell alpha) f.1 ≡ nat_le a.interior alpha = h.interior alpha l in
     let q : list_any (is_small_cell alpha) f.1 ≡ nat_le a.regular alpha = h.regular alpha l in
@@ -22,7 +22,7 @@ kind_told admits f a alpha l h =
 
 -- all faces with their kinds
 pub all_told :
-    {X : Type 0} (admits : ℕ → X × List Cell → Bool) (alpha : ℕ) (faces : List (X × List Cell)) (alphas : List FaceAlphas) → alpha < 2 ^ 30 → AreAlphas admits faces alphas →
+    {X : Type 0} (admits : ℕ → X × List Cell → Bool) (alpha : ℕ) (faces : List (X × List Cell)) (alphas : List FaceAlphas) → alpha < 2 ^ 34 → AreAlphas admits faces alphas →
     zip (map (λ f. f.0) faces) (map (λ a. kind_at a alpha) alphas) ≡ kinds_by alpha faces
 all_told admits alpha [] alphas l z = refl
 all_told admits alpha (f ∷ faces) [] l z = absurd z
@@ -32,7 +32,7 @@ all_told {X} admits alpha (f ∷ faces) (a ∷ alphas) l z =
 
 -- those that are admitted
 pub admitted_told :
-    {X : Type 0} (admits : ℕ → X × List Cell → Bool) (alpha : ℕ) (faces : List (X × List Cell)) (alphas : List FaceAlphas) → alpha < 2 ^ 30 → AreAlphas admits faces alphas →
+    {X : Type 0} (admits : ℕ → X × List Cell → Bool) (alpha : ℕ) (faces : List (X × List Cell)) (alphas : List FaceAlphas) → alpha < 2 ^ 34 → AreAlphas admits faces alphas →
     held (slots_of (map (λ f. f.0) faces) (map (λ a. kind_where a alpha) alphas)) ≡ kinds_by alpha (filter (admits alpha) faces)
 admitted_told admits alpha [] alphas l z = refl
 admitted_told admits alpha (f ∷ faces) [] l z = absurd z
@@ -50,7 +50,7 @@ admitted_told {X} admits alpha (f ∷ faces) (a ∷ alphas) l z =
 
 -- the Full cells that are within alpha
 pub cells_told :
-    (alpha : ℕ) (cells : List Cell) (leasts : List ℕ) → alpha < 2 ^ 30 → AreLeastOf is_small_cell cells leasts →
+    (alpha : ℕ) (cells : List Cell) (leasts : List ℕ) → alpha < 2 ^ 34 → AreLeastOf is_small_cell cells leasts →
     held (cell_slots_of cells (map (λ n. nat_le n alpha) leasts)) ≡ filter (is_within alpha) (full_cells cells)
 cells_told alpha [] leasts l z = refl
 cells_told alpha (c ∷ cells) [] l z = absurd z

@@ -29,8 +29,8 @@ least_tells m n a = grind (arith, nat_tests)
 most_tells : (m n a : ℕ) → nat_le (max m n) a ≡ (nat_le m a && nat_le n a)
 most_tells m n a = grind (arith, nat_tests)
 
--- no alpha is 2^30 or more
-beyond : (a : ℕ) → a < 2 ^ 30 → nat_le 1073741824 a ≡ false
+-- no alpha is 2^34 or more
+beyond : (a : ℕ) → a < 2 ^ 34 → nat_le 17179869184 a ≡ false
 beyond a l = grind (arith, nat_tests)
 
 -- every number is 0 or more
@@ -38,7 +38,7 @@ from_0 : (a : ℕ) → nat_le 0 a ≡ true
 from_0 a = grind (arith, nat_tests)
 
 -- a test that never passes
-pub never_least : (t : ℕ → Bool) → ((a : ℕ) → a < 2 ^ 30 → t a ≡ false) → IsLeastOf t 1073741824
+pub never_least : (t : ℕ → Bool) → ((a : ℕ) → a < 2 ^ 34 → t a ≡ false) → IsLeastOf t 17179869184
 never_least t f a l = f a l ∙ sym (beyond a l)
 
 -- one that always does
@@ -71,12 +71,12 @@ facets_least t (o ∷ p ∷ q ∷ r ∷ s ∷ facets) a b c d k l m n e x y z w 
 
 -- the least number so far, and the elements that are left
 abbrev pub AnyLeft : {N X : Type 0} → (ℕ → X → Bool) → (N → X) → List N → ℕ → ℕ → Type 0
-AnyLeft t f ns i least = (a : ℕ) → a < 2 ^ 30 → (nat_le least a || list_any (t a) (map f (drop i ns))) ≡ list_any (t a) (map f ns)
+AnyLeft t f ns i least = (a : ℕ) → a < 2 ^ 34 → (nat_le least a || list_any (t a) (map f (drop i ns))) ≡ list_any (t a) (map f ns)
 
 abbrev pub AllLeft : {N X : Type 0} → (ℕ → X → Bool) → (N → X) → List N → ℕ → ℕ → Type 0
-AllLeft t f ns i most = (a : ℕ) → a < 2 ^ 30 → (nat_le most a && list_all (t a) (map f (drop i ns))) ≡ list_all (t a) (map f ns)
+AllLeft t f ns i most = (a : ℕ) → a < 2 ^ 34 → (nat_le most a && list_all (t a) (map f (drop i ns))) ≡ list_all (t a) (map f ns)
 
-pub any_start : {N X : Type 0} (t : ℕ → X → Bool) (f : N → X) (ns : List N) → AnyLeft t f ns 0 1073741824
+pub any_start : {N X : Type 0} (t : ℕ → X → Bool) (f : N → X) (ns : List N) → AnyLeft t f ns 0 17179869184
 any_start t f ns a l = ap (λ b. b || list_any (t a) (map f ns)) (beyond a l)
 
 pub any_step :

@@ -1,4 +1,4 @@
--- The least alphas from which on a test passes. Every alpha is below 2^30.
+-- The least alphas from which on a test passes. Every alpha is below 2^34.
 use Rattle.std.specs.Prelude.{
   ◌≡◌,
   ℕ,
@@ -34,7 +34,7 @@ use Rattle.alpha_complex.specs.Judged.{is_small_by, is_small_cell, is_admitted_t
 
 -- an alpha passes the test exactly where the number is at most it
 abbrev pub IsLeastOf : (ℕ → Bool) → ℕ → Type 0
-IsLeastOf test n = (alpha : ℕ) → alpha < 2 ^ 30 → test alpha ≡ nat_le n alpha
+IsLeastOf test n = (alpha : ℕ) → alpha < 2 ^ 34 → test alpha ≡ nat_le n alpha
 
 -- a number for each element of a list, the least alpha at which it passes the test
 abbrev pub AreLeastOf : {X : Type 0} → (ℕ → X → Bool) → List X → List ℕ → Type 0

@@ -11,7 +11,7 @@ use Rattle.alpha_complex.specs.Leasts.{IsLeastOf, kind_at}
 -- The face of the complex of s is admitted exactly at the alphas from its number on, and its numbers tell its kind.
 pub record TellsFace (s face : List ℕ) (a : FaceAlphas) : Type 0 where
   pub admitted : IsLeastOf (λ alpha. is_admitted s alpha face) a.admitted
-  pub kind : (alpha : ℕ) → alpha < 2 ^ 30 → kind_at a alpha ≡ kind s alpha face
+  pub kind : (alpha : ℕ) → alpha < 2 ^ 34 → kind_at a alpha ≡ kind s alpha face
 
 -- The numbers tell so of all faces of the complex of s, and of its cells from which alpha on each is admitted.
 pub record TellsFaces (s : List ℕ) (known : Alphas) : Type 0 where

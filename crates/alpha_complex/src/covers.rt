@@ -20,7 +20,7 @@ fn contains(tri: &Tri, pair: &Pair) -> bool
 }
 
 // The least alpha at which a triple that is listed is itself Gabriel and within alpha.
-fn listed_least(own: &OwnAlphas, tri: &Tri) -> u32
+fn listed_least(own: &OwnAlphas, tri: &Tri) -> u64
     requires own { AreOwn own.now }
     ensures { IsLeastOf (λ alpha. is_listed (small_among alpha own.now.faces.now.triples) tri.now) result }
 {
@@ -31,7 +31,7 @@ fn listed_least(own: &OwnAlphas, tri: &Tri) -> u32
 }
 
 // That of a facet, where it contains the pair.
-fn facet_least(own: &OwnAlphas, pair: &Pair, facet: &Facet) -> u32
+fn facet_least(own: &OwnAlphas, pair: &Pair, facet: &Facet) -> u64
     requires own { AreOwn own.now }
     ensures { IsLeastOf (λ alpha. is_listed_around (small_among alpha own.now.faces.now.triples) pair.now facet.now)
         result }
@@ -49,7 +49,7 @@ fn facet_least(own: &OwnAlphas, pair: &Pair, facet: &Facet) -> u32
 }
 
 // The least of those of the facets of the cell of a number.
-fn cell_cover_least(own: &OwnAlphas, pair: &Pair, number: u32) -> u32
+fn cell_cover_least(own: &OwnAlphas, pair: &Pair, number: u32) -> u64
     requires own { AreOwn own.now }
     requires number { number < length own.now.faces.now.cells }
     ensures { IsLeastOf (λ alpha. covers (small_among alpha own.now.faces.now.triples) pair.now
@@ -65,7 +65,7 @@ fn cell_cover_least(own: &OwnAlphas, pair: &Pair, number: u32) -> u32
 
 /// The least alpha at which some triple that contains the pair and is a facet of one of the cells of some numbers is
 /// itself Gabriel and within alpha.
-pub fn cover_least(own: &OwnAlphas, pair: &Pair, around: &[u32]) -> u32
+pub fn cover_least(own: &OwnAlphas, pair: &Pair, around: &[u32]) -> u64
     requires own { AreOwn own.now }
     requires numbers { All (λ n. n < length own.now.faces.now.cells) around.now }
     ensures { IsLeastOf (λ alpha. list_any (covers (small_among alpha own.now.faces.now.triples) pair.now)

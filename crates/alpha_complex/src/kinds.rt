@@ -33,11 +33,11 @@ pub fn kinds_of_admitted(
 }
 
 /// Which of the numbers are at most alpha.
-pub fn marks(alloc: Global, leasts: &[u32], alpha: u64) -> Result<Vec<bool>, AllocError>
+pub fn marks(alloc: Global, leasts: &[u64], alpha: u64) -> Result<Vec<bool>, AllocError>
     ensures { IfOk result (λ v. v.items ≡ map (λ n. nat_le n alpha) leasts.now) }
 {
     leasts
         .iter()
-        .map(|least| u64::from(*least) <= alpha)
+        .map(|least| *least <= alpha)
         .collect(alloc)
 }

@@ -47,8 +47,8 @@ pub enum Part {
 #[derive(Clone, Copy)]
 pub struct OwnAlphas<'a, 'b> {
     pub faces: &'a Faces<'b>,
-    pub cells: &'a [u32],
-    pub triples: &'a [u32],
+    pub cells: &'a [u64],
+    pub triples: &'a [u64],
 }
 
 /// The least alpha of each cell, by several threads.
@@ -56,14 +56,14 @@ pub fn own_of_cells<R: Threads + Sync>(
     rt: &R,
     alloc: Global,
     cells: &[Cell],
-) -> Result<Vec<u32>, AllocError>
+) -> Result<Vec<u64>, AllocError>
     ensures { IfOk result (λ v. AreLeastOf is_small_cell cells.now v.items) }
 {
     let mut leasts = vec![in alloc; BEYOND; cells.len()]?;
     par_for_each_mut(
         rt,
         &mut leasts,
-        |index: usize, least: &mut u32|
+        |index: usize, least: &mut u64|
             requires { index < length cells.now }
             ensures { IsLeastOf (λ alpha. is_small_cell alpha (cell_at cells.entry.now index)) least.new }
         {
@@ -74,7 +74,7 @@ pub fn own_of_cells<R: Threads + Sync>(
 }
 
 // The least alpha at which a triple is itself Gabriel and within alpha.
-fn own_of_triple(faces: &Faces, index: usize) -> u32
+fn own_of_triple(faces: &Faces, index: usize) -> u64
     requires { index < length faces.now.triples }
     ensures { IsLeastOf (λ alpha. is_small_by alpha (face_at faces.now.triples index)) result }
 {
@@ -87,14 +87,14 @@ pub fn own_of_triples<R: Threads + Sync>(
     rt: &R,
     alloc: Global,
     faces: &Faces,
-) -> Result<Vec<u32>, AllocError>
+) -> Result<Vec<u64>, AllocError>
     ensures { IfOk result (λ v. AreLeastOf is_small_by faces.now.triples v.items) }
 {
     let mut leasts = vec![in alloc; BEYOND; faces.triples().len()]?;
     par_for_each_mut(
         rt,
         &mut leasts,
-        |index: usize, least: &mut u32|
+        |index: usize, least: &mut u64|
             requires { index < length faces.now.triples }
             ensures { IsLeastOf (λ alpha. is_small_by alpha (face_at faces.entry.now.triples index)) least.new }
         {

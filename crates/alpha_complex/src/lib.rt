@@ -1,13 +1,13 @@
 //! The alpha complex of a set of points: the admitted faces of its Delaunay complex, each with its kind.
 //!
-//! Alpha is a squared radius, as in `Alpha_shape_3` of CGAL. A face of the complex is admitted where some face that
+//! Alpha is a squared radius, as in `Alpha_shape_3` of CGAL, counted in sixteenths. A face of the complex is admitted where some face that
 //! contains it is Gabriel and has a smallest circumscribing sphere of a squared radius of at most alpha (Edelsbrunner
 //! and Mücke, Three-dimensional alpha shapes, 1994). The kinds are judged by cells alone. The definitions stand in
 //! `specs/Admitted.antt`.
 //!
 //! ```
 //! let faces = faces(rt, alloc, &cells)?;       // of the sorted cells of a complex
-//! let shape = alpha(rt, alloc, &faces, 300)?;  // for one squared radius, below 2^30
+//! let shape = alpha(rt, alloc, &faces, 300)?;  // for one squared radius in sixteenths, below 2^34
 //! let known = alphas(rt, alloc, &faces)?;      // for several: the least alphas of all faces, made once
 //! for radius in [100, 200, 300] {
 //!     let shape = known.shape(alloc, radius)?;
@@ -79,8 +79,8 @@ pub fn alphas<'a, 'b, R: Threads + Sync>(
     })
 }
 
-/// The alpha complex for one alpha, a squared radius below 2^30: all points, and the admitted pairs, triples and Full
-/// cells, each list in order, and each point, pair and triple with its kind. It borrows the faces.
+/// The alpha complex for one alpha, a squared radius in sixteenths, below 2^34: all points, and the admitted pairs,
+/// triples and Full cells, each list in order, and each point, pair and triple with its kind. It borrows the faces.
 ///
 /// The faces are what `face_list::faces` gives of the complex of a solid set, its cells in order.
 ///
@@ -96,7 +96,7 @@ pub fn alpha<'a, 'b, R: Threads + Sync>(
     alpha: u64,
 ) -> Result<Shape<'a, 'b>, AllocError>
     requires faces { AreFaces faces.now }
-    requires alpha { alpha < 2 ^ 30 }
+    requires alpha { alpha < 2 ^ 34 }
     ensures points { IfOk result (λ shape. (s : List ℕ) → AreFacesOf s faces.now → (shape_seen shape).points
         ≡ (shape_of s alpha).points) }
     ensures pairs { IfOk result (λ shape. (s : List ℕ) → AreFacesOf s faces.now → (shape_seen shape).pairs

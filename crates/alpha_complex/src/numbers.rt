@@ -10,16 +10,16 @@ use crate::shape::{Kind, Shape};
 use face_list::Faces;
 use std::alloc::{AllocError, Global};
 
-/// The least alphas at which a face is admitted, and some and all of the cells that contain it are. A number of 2^30
+/// The least alphas at which a face is admitted, and some and all of the cells that contain it are. A number of 2^34
 /// or more is no alpha.
 #[derive(Clone, Copy, Debug, PartialEq, Eq)]
 pub struct FaceAlphas {
     /// The face itself.
-    pub admitted: u32,
+    pub admitted: u64,
     /// Some cell that contains it: from here on it is regular, or more.
-    pub regular: u32,
+    pub regular: u64,
     /// All cells that contain it: from here on it is interior.
-    pub interior: u32,
+    pub interior: u64,
 }
 
 impl FaceAlphas {
@@ -27,16 +27,16 @@ impl FaceAlphas {
     pub fn is_admitted(&self, alpha: u64) -> bool
         ensures { result ≡ nat_le self.now.admitted alpha }
     {
-        u64::from(self.admitted) <= alpha
+        self.admitted <= alpha
     }
 
     /// The kind of the face at an alpha at which it is admitted.
     pub fn kind(&self, alpha: u64) -> Kind
         ensures { result ≡ kind_at self.now alpha }
     {
-        if u64::from(self.interior) <= alpha {
+        if self.interior <= alpha {
             Kind::Interior
-        } else if u64::from(self.regular) <= alpha {
+        } else if self.regular <= alpha {
             Kind::Regular
         } else {
             Kind::Singular
@@ -68,18 +68,18 @@ pub struct Alphas<'a, 'b> {
     /// The numbers of the triples.
     pub triples: Vec<FaceAlphas>,
     /// The least alpha at which each cell is Full and within alpha.
-    pub cells: Vec<u32>,
+    pub cells: Vec<u64>,
 }
 
 impl<'a, 'b> Alphas<'a, 'b> {
-    /// The alpha complex for one alpha, a squared radius below 2^30, as `alpha` gives it: a comparison for each face,
+    /// The alpha complex for one alpha, a squared radius in sixteenths, below 2^34, as `alpha` gives it: a comparison for each face,
     /// and two for the kind of each that is admitted. It borrows the faces, and not these numbers.
     ///
     /// # Errors
     /// Want of memory.
     pub fn shape(&self, alloc: Global, alpha: u64) -> Result<Shape<'a, 'b>, AllocError>
         requires known { AreKnown self.now }
-        requires alpha { alpha < 2 ^ 30 }
+        requires alpha { alpha < 2 ^ 34 }
         ensures points { IfOk result (λ shape. (s : List ℕ) → AreFacesOf s self.now.faces.now →
             (shape_seen shape).points ≡ (shape_of s alpha).points) }
         ensures pairs { IfOk result (λ shape. (s : List ℕ) → AreFacesOf s self.now.faces.now →

@@ -1,6 +1,6 @@
 //! The least alphas at which faces are themselves Gabriel and within alpha.
 
-ghost use Rattle.std.specs.Prelude.{◌≡◌, ◌<◌, ◌^◌, ◌∷◌, ℕ, [], nat_le, not, All, length, slice_index_or};
+ghost use Rattle.std.specs.Prelude.{◌≡◌, ◌<◌, ◌∷◌, [], not, All, length, slice_index_or};
 ghost use Rattle.std.specs.List.{filter};
 ghost use Rattle.point_order.specs.Sets.{is_among};
 ghost use Rattle.gabriel_faces.specs.Gabriel.{is_gabriel};
@@ -15,37 +15,30 @@ use point_order::{Cell, Point};
 use small_spheres::{cell_least, edge_least, triangle_least};
 
 /// Every alpha is below this.
-pub const BEYOND: u32 = 1 << 30;
+pub const BEYOND: u64 = 1 << 34;
 
 /// The number of an index.
-pub fn number_at(numbers: &[u32], index: usize) -> u32
+pub fn number_at(numbers: &[u64], index: usize) -> u64
     requires { index < length numbers.now }
     ensures { result ≡ slice_index_or numbers.now index 0 }
 {
     numbers[index]
 }
 
-// The number, but 2^30 where it is more: as the least alpha of a test the two are one.
-fn capped(number: u64) -> u32
-    ensures { (alpha : ℕ) → alpha < 2 ^ 30 → nat_le number alpha ≡ nat_le result alpha }
-{
-    number.min(u64::from(BEYOND)) as u32
-}
-
 // The least alpha that a face is within.
-fn within_least(face: &[Point]) -> u32
+fn within_least(face: &[Point]) -> u64
     ensures { IsLeastOf (λ alpha. is_within alpha face.now) result }
 {
     match face {
-        [a, b] => capped(edge_least(*a, *b)),
-        [a, b, c] => capped(triangle_least(*a, *b, *c)),
-        [a, b, c, d] => capped(cell_least(*a, *b, *c, *d)),
+        [a, b] => edge_least(*a, *b),
+        [a, b, c] => triangle_least(*a, *b, *c),
+        [a, b, c, d] => cell_least(*a, *b, *c, *d),
         _ => 0,
     }
 }
 
 /// The least alpha at which the cell is Full and within alpha.
-pub fn cell_least_of(cell: &Cell) -> u32
+pub fn cell_least_of(cell: &Cell) -> u64
     ensures { IsLeastOf (λ alpha. is_small_cell alpha cell.now) result }
 {
     match cell {
@@ -100,7 +93,7 @@ fn is_gabriel_beside(face: &[Point], cells: &[Cell], around: &[u32]) -> bool
 
 /// The least alpha at which a face, beside the cells that contain it, told by their numbers, is Gabriel and within
 /// alpha.
-pub fn own_least(face: &[Point], cells: &[Cell], around: &[u32]) -> u32
+pub fn own_least(face: &[Point], cells: &[Cell], around: &[u32]) -> u64
     requires { All (λ n. n < length cells.now) around.now }
     ensures { IsLeastOf (λ alpha. is_small_by alpha (face.now, numbered cells.now around.now)) result }
 {

@@ -10,7 +10,7 @@ use crate::least::OwnAlphas;
 use crate::owns::{BEYOND, number_at};
 
 // The least alpha of the cell of a number.
-fn least_at(own: &OwnAlphas, number: u32) -> u32
+fn least_at(own: &OwnAlphas, number: u32) -> u64
     requires own { AreOwn own.now }
     requires number { number < length own.now.faces.now.cells }
     ensures { IsLeastOf (λ alpha. is_small_cell alpha (cell_at own.now.faces.now.cells number)) result }
@@ -19,7 +19,7 @@ fn least_at(own: &OwnAlphas, number: u32) -> u32
 }
 
 /// The least alpha at which some of the cells of some numbers is Full and within alpha.
-pub fn some_least(own: &OwnAlphas, around: &[u32]) -> u32
+pub fn some_least(own: &OwnAlphas, around: &[u32]) -> u64
     requires own { AreOwn own.now }
     requires numbers { All (λ n. n < length own.now.faces.now.cells) around.now }
     ensures { IsLeastOf (λ alpha. list_any (is_small_cell alpha) (numbered own.now.faces.now.cells around.now)) result }
@@ -32,14 +32,14 @@ pub fn some_least(own: &OwnAlphas, around: &[u32]) -> u32
 }
 
 // The greater of two numbers.
-fn greater(m: u32, n: u32) -> u32
+fn greater(m: u64, n: u64) -> u64
     ensures { result ≡ max m n }
 {
     if m < n { n } else { m }
 }
 
 /// The least alpha at which all of the cells of some numbers are Full and within alpha.
-pub fn all_least(own: &OwnAlphas, around: &[u32]) -> u32
+pub fn all_least(own: &OwnAlphas, around: &[u32]) -> u64
     requires own { AreOwn own.now }
     requires numbers { All (λ n. n < length own.now.faces.now.cells) around.now }
     ensures { IsLeastOf (λ alpha. list_all (is_small_cell alpha) (numbered own.now.faces.now.cells around.now)) result }

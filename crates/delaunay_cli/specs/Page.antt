@@ -29,6 +29,7 @@ use Rattle.alpha_complex.specs.Condition.{AreFacesOf}
 use Rattle.alpha_complex.specs.Shapes.{shape_of}
 use Rattle.mesh_files.specs.Summary.{summary_text}
 use Rattle.mesh_files.specs.Text.{ReportParts, report_text}
+use Rattle.delaunay_cli.specs.Report.{alpha_of}
 use Rattle.delaunay_cli.specs.declared.made.Form.{Form}
 use Rattle.delaunay_cli.specs.declared.made.Form.TheVariants.{Whole, Summary}
 use Rattle.delaunay_cli.specs.declared.made.Made.{Made}
@@ -47,7 +48,7 @@ report_of_parts r =
       replies = r.replies.items;
       points = r.points.items;
       cells = r.cells.items;
-      shapes = map (λ radius. (radius, shape_of r.points.items radius)) r.radii.items;
+      shapes = map (λ radius. (radius, shape_of r.points.items (alpha_of radius))) r.radii.items;
       order = option_map (λ (tags : Vec ℕ Global). tags.items) r.order;
     }
 

@@ -1,5 +1,5 @@
 -- What is written of a history.
-use Rattle.std.specs.Prelude.{ℕ, ◌+◌, Bool, length, List, [], map, Option, None, Some, if◌then◌else◌}
+use Rattle.std.specs.Prelude.{ℕ, ◌+◌, ◌*◌, Bool, length, List, [], map, Option, None, Some, if◌then◌else◌}
 use Rattle.point_order.specs.Complex.{complex}
 use Rattle.edit_history.specs.declared.history.Entry.{Entry}
 use Rattle.edit_history.specs.Histories.{replay}
@@ -20,9 +20,13 @@ tags_of h = map (λ e. e.tag) h
 abbrev pub order_of : Bool → List Entry → Option (List ℕ)
 order_of order h = if order then Some (tags_of h) else None
 
+-- the alpha of a file's radius, which is squared: as many sixteenths
+abbrev pub alpha_of : ℕ → ℕ
+alpha_of radius = 16 * radius
+
 -- the alpha complex of a set for each radius, in their order, where they are asked for
 abbrev pub shapes_of : Bool → List ℕ → List ℕ → List (ℕ × ShapeParts)
-shapes_of shape radii s = if shape then map (λ radius. (radius, shape_of s radius)) radii else []
+shapes_of shape radii s = if shape then map (λ radius. (radius, shape_of s (alpha_of radius))) radii else []
 
 -- the report of a history of a file's lines, with a shape for each of the file's radii or none, and with its order
 -- block or not: its replies, the points that it leaves, and the complex of these

@@ -13,6 +13,7 @@ ghost use Rattle.mesh_files.specs.Report.{AreCounted, parts_of, shapes_seen};
 ghost use Rattle.mesh_files.specs.Summary.{summary_text as summary_text_of};
 ghost use Rattle.mesh_files.specs.Text.{report_text};
 ghost use Rattle.delaunay_cli.specs.Ends.{IsUnput};
+ghost use Rattle.delaunay_cli.specs.Report.{alpha_of};
 ghost use Rattle.delaunay_cli.specs.Page.{AreFacesFor, IsReady, report_of_parts, text_of_form};
 
 use crate::made::{Form, Parts, put_text};
@@ -58,12 +59,12 @@ fn shapes_of_faces<'a, 'b, R: Threads + Sync>(
     requires faces { AreFacesOf points.now faces.now }
     requires radii { All (λ radius. radius < 2 ^ 30) radii.now }
     ensures { IfOk result (λ shapes. shapes_seen shapes.items
-        ≡ map (λ radius. (radius, shape_of points.now radius)) radii.now) }
+        ≡ map (λ radius. (radius, shape_of points.now (alpha_of radius))) radii.now) }
 {
     let known = alphas(rt, alloc, faces)?;
     let mut shapes = Vec::new(alloc);
     for radius in radii {
-        shapes.push((*radius, known.shape(alloc, *radius)?))?;
+        shapes.push((*radius, known.shape(alloc, 16 * *radius)?))?;
     }
     Ok(shapes)
 }
@@ -79,7 +80,7 @@ fn shapes<'a, 'b, R: Threads + Sync>(
     requires faces { AreFacesFor radii.now points.now faces.now }
     requires radii { All (λ radius. radius < 2 ^ 30) radii.now }
     ensures { IfOk result (λ shapes. shapes_seen shapes.items
-        ≡ map (λ radius. (radius, shape_of points.now radius)) radii.now) }
+        ≡ map (λ radius. (radius, shape_of points.now (alpha_of radius))) radii.now) }
 {
     match faces {
         Some(faces) => shapes_of_faces(rt, alloc, points, faces, radii),

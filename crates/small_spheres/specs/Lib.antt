@@ -1,3 +1,4 @@
 pub mod Inside
 pub mod Within
 pub mod Sizes
+pub mod Laws

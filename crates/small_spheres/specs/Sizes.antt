@@ -13,6 +13,18 @@ greatest_square_of_scalar = 1681482920032917807514505262763868484
 abbrev pub greatest_power_term : ℕ
 greatest_power_term = 1044129454823828663600873526
 
+-- the sum of three such squares, of the coordinates of a cell's N: 972 16383^8
+abbrev pub greatest_square_of_centre : ℕ
+greatest_square_of_centre = 5044448760098753422543515788291605452
+
+-- the product of two squares of distances: 9 16383^4
+abbrev pub greatest_product_of_squares : ℕ
+greatest_product_of_squares = 648360031161876489
+
+-- and of three, of the sides of a triangle: 27 16383^6
+abbrev pub greatest_product_of_sides : ℕ
+greatest_product_of_sides = 522064727411914331800436763
+
 -- the square of an orientation: 36 16383^6
 abbrev pub greatest_square_of_orientation : ℕ
 greatest_square_of_orientation = 696086303215885775733915684

@@ -2,17 +2,15 @@
 
 ghost use Rattle.std.specs.Prelude.{◌≡◌, ◌<◌, ◌≤ℤ◌, ◌^◌, ◌*◌, ◌*ℤ◌, ℕ, pos, nat_le};
 ghost use Rattle.std.specs.Int.Signed.{le_z};
-ghost use Rattle.whole_ring.specs.Bounds.{IsWithin};
-ghost use Rattle.small_spheres.specs.Sizes.{greatest_scalar, greatest_square_of_orientation};
 
 // Every alpha is below this.
-const BEYOND: u64 = 1 << 30;
+const BEYOND: u64 = 1 << 34;
 
-// The least alpha with `p <= d alpha`, a quotient rounded up, or 2^30 where that is 2^30 or more.
+// The least alpha with `p <= d alpha`, a quotient rounded up, or 2^34 where that is 2^34 or more.
 fn quotient_up(p: u128, d: u128) -> u64
     requires p { 0 < p }
     requires d { 0 < d }
-    ensures { (alpha : ℕ) → alpha < 2 ^ 30 → nat_le p (d * alpha) ≡ nat_le result alpha }
+    ensures { (alpha : ℕ) → alpha < 2 ^ 34 → nat_le p (d * alpha) ≡ nat_le result alpha }
 {
     let below = (p - 1) / d;
     if below < BEYOND as u128 {
@@ -22,10 +20,10 @@ fn quotient_up(p: u128, d: u128) -> u64
     }
 }
 
-/// The least alpha below 2^30 with `p <= d alpha`, and 2^30 where there is none.
+/// The least alpha below 2^34 with `p <= d alpha`, and 2^34 where there is none.
 pub fn least_factor(p: i128, d: i128) -> u64
     requires { pos 0 ≤ℤ d }
-    ensures { (alpha : ℕ) → alpha < 2 ^ 30 → le_z p (d *ℤ pos alpha) ≡ nat_le result alpha }
+    ensures { (alpha : ℕ) → alpha < 2 ^ 34 → le_z p (d *ℤ pos alpha) ≡ nat_le result alpha }
 {
     if p <= 0 {
         0
@@ -34,20 +32,4 @@ pub fn least_factor(p: i128, d: i128) -> u64
     } else {
         quotient_up(p as u128, d as u128)
     }
-}
-
-/// Four times the square of a normal, below 2^63.
-pub fn four_squares_of_normal(square: i64) -> i128
-    requires { IsWithin greatest_scalar square }
-    ensures { result ≡ pos 4 *ℤ square }
-{
-    4 * square as i128
-}
-
-/// Four times the square of an orientation, below 2^92.
-pub fn four_squares_of_orientation(square: i128) -> i128
-    requires { IsWithin greatest_square_of_orientation square }
-    ensures { result ≡ pos 4 *ℤ square }
-{
-    4 * square
 }

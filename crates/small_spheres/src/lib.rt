@@ -3,11 +3,12 @@
 //!
 //! These are the two questions of an alpha complex (Edelsbrunner and Mücke, Three-dimensional alpha shapes;
 //! `Alpha_shape_3` of CGAL): a face is Gabriel where no point lies strictly inside its smallest circumscribing sphere,
-//! and alpha is a squared radius. All of it is whole numbers: fractions are compared by multiplying out.
+//! and alpha is a squared radius, counted in sixteenths. All of it is whole numbers: fractions are compared by
+//! multiplying out.
 //!
 //! ```
 //! let gabriel = points.iter().all(|e| !inside_edge(a, b, *e));
-//! let small = triangle_within(a, b, c, alpha);  // alpha is a squared radius below 2^30
+//! let small = triangle_within(a, b, c, alpha);  // alpha is a squared radius in sixteenths, below 2^34
 //! ```
 #![tactic(auto)]
 
@@ -15,16 +16,18 @@ ghost use Rattle.std.specs.Prelude.{◌≡◌, ◌<◌, ◌^◌, ℕ, nat_le};
 ghost use Rattle.small_spheres.specs.Inside.{is_inside_edge, is_inside_triangle};
 ghost use Rattle.small_spheres.specs.Within.{is_edge_within, is_triangle_within, is_cell_within};
 
+pub mod laws;
 mod least;
 mod powers;
 mod products;
 mod radii;
 
-use least::{four_squares_of_normal, four_squares_of_orientation, least_factor};
+use least::least_factor;
 use point_order::{Point, Step};
 use powers::{power_of_edge, power_of_triangle};
 use products::{
-    four_times_alpha, four_times_normal, four_times_orientation, square_of_orientation,
+    four_times_centre, four_times_sides, four_times_square, normal_times, orientation_times,
+    square_of_orientation,
 };
 use radii::{centre_square, normal_square, product_of_sides};
 
@@ -47,67 +50,64 @@ pub fn inside_triangle(a: Point, b: Point, c: Point, e: Point) -> bool
     power_of_triangle(a, b, c, e) < 0
 }
 
-/// Whether the squared radius of the smallest circumscribing sphere of the edge is at most `alpha`:
-/// `|a - b|^2 <= 4 alpha`.
+/// Whether the squared radius of the smallest circumscribing sphere of the edge is at most `alpha` sixteenths:
+/// `4 |a - b|^2 <= alpha`.
 pub fn edge_within(a: Point, b: Point, alpha: u64) -> bool
     ensures { result ≡ is_edge_within a b alpha }
 {
-    Step::between(a, b).square() as i128 <= four_times_alpha(alpha)
+    four_times_square(Step::between(a, b).square()) <= alpha
 }
 
-/// Whether the squared radius of the smallest circumscribing sphere of the triangle is at most `alpha`:
-/// `|a - b|^2 |a - c|^2 |b - c|^2 <= 4 |n|^2 alpha`, with `n = (b - a) x (c - a)`.
+/// Whether the squared radius of the smallest circumscribing sphere of the triangle is at most `alpha` sixteenths:
+/// `4 |a - b|^2 |a - c|^2 |b - c|^2 <= |n|^2 alpha`, with `n = (b - a) x (c - a)`.
 pub fn triangle_within(a: Point, b: Point, c: Point, alpha: u64) -> bool
     ensures { result ≡ is_triangle_within a b c alpha }
 {
-    product_of_sides(a, b, c) <= four_times_normal(normal_square(a, b, c), alpha)
+    four_times_sides(product_of_sides(a, b, c)) <= normal_times(normal_square(a, b, c), alpha)
 }
 
-/// Whether the squared radius of the circumscribing sphere of the cell is at most `alpha`, which is below 2^30.
+/// Whether the squared radius of the circumscribing sphere of the cell is at most `alpha` sixteenths, below 2^34.
 ///
 /// With `u`, `v`, `w` the steps from `a`, `O = u . (v x w)` and `N = |u|^2 (v x w) + |v|^2 (w x u) + |w|^2 (u x v)`
-/// it is the test `|N|^2 <= 4 O^2 alpha`.
+/// it is the test `4 |N|^2 <= O^2 alpha`.
 pub fn cell_within(a: Point, b: Point, c: Point, d: Point, alpha: u64) -> bool
-    requires { alpha < 2 ^ 30 }
+    requires { alpha < 2 ^ 34 }
     ensures { result ≡ is_cell_within a b c d alpha }
 {
     let u = Step::between(a, b);
     let v = Step::between(a, c);
     let w = Step::between(a, d);
     let square = square_of_orientation(u.triple(v, w));
-    centre_square(a, b, c, d) <= four_times_orientation(square, alpha)
+    four_times_centre(centre_square(a, b, c, d)) <= orientation_times(square, alpha)
 }
 
-/// The least alpha below 2^30 of which the smallest circumscribing sphere of the edge is within, its squared
-/// radius rounded up; 2^30 where there is none.
+/// The least alpha of which the smallest circumscribing sphere of the edge is within: four times its square, below
+/// 2^32.
 pub fn edge_least(a: Point, b: Point) -> u64
-    ensures { (alpha : ℕ) → alpha < 2 ^ 30 → is_edge_within a b alpha ≡ nat_le result alpha }
+    ensures { (alpha : ℕ) → is_edge_within a b alpha ≡ nat_le result alpha }
 {
-    least_factor(Step::between(a, b).square() as i128, 4)
+    four_times_square(Step::between(a, b).square())
 }
 
-/// The least alpha below 2^30 of which the smallest circumscribing sphere of the triangle is within, its squared radius
-/// rounded up; 2^30 where there is none, as for three different points on one line.
+/// The least alpha below 2^34 of which the smallest circumscribing sphere of the triangle is within, its squared radius
+/// in sixteenths rounded up; 2^34 where there is none, as for three different points on one line.
 pub fn triangle_least(a: Point, b: Point, c: Point) -> u64
-    ensures { (alpha : ℕ) → alpha < 2 ^ 30 → is_triangle_within a b c alpha ≡ nat_le result alpha }
+    ensures { (alpha : ℕ) → alpha < 2 ^ 34 → is_triangle_within a b c alpha ≡ nat_le result alpha }
 {
     least_factor(
-        product_of_sides(a, b, c),
-        four_squares_of_normal(normal_square(a, b, c)),
+        four_times_sides(product_of_sides(a, b, c)),
+        normal_square(a, b, c) as i128,
     )
 }
 
-/// The least alpha below 2^30 of which the circumscribing sphere of the cell is within, its squared
-/// radius rounded up; 2^30 where there is none.
+/// The least alpha below 2^34 of which the circumscribing sphere of the cell is within, its squared
+/// radius in sixteenths rounded up; 2^34 where there is none.
 pub fn cell_least(a: Point, b: Point, c: Point, d: Point) -> u64
-    ensures { (alpha : ℕ) → alpha < 2 ^ 30 → is_cell_within a b c d alpha ≡ nat_le result alpha }
+    ensures { (alpha : ℕ) → alpha < 2 ^ 34 → is_cell_within a b c d alpha ≡ nat_le result alpha }
 {
     let u = Step::between(a, b);
     let v = Step::between(a, c);
     let w = Step::between(a, d);
     let square = square_of_orientation(u.triple(v, w));
-    least_factor(
-        centre_square(a, b, c, d),
-        four_squares_of_orientation(square),
-    )
+    least_factor(four_times_centre(centre_square(a, b, c, d)), square)
 }

@@ -1,12 +1,15 @@
 //! Sums and products of numbers of known size, in 64 bits where they fit and else in 128.
 
-ghost use Rattle.std.specs.Prelude.{◌≡◌, ◌<◌, ◌^◌, pos, ◌+ℤ◌, ◌*ℤ◌, ◌-ℤ◌};
+ghost use Rattle.std.specs.Prelude.{◌≡◌, ◌<◌, ◌^◌, pos, ◌+ℤ◌, ◌*ℤ◌, ◌-ℤ◌, ◌≤ℤ◌};
 ghost use Rattle.whole_ring.specs.Bounds.{IsWithin};
 ghost use Rattle.point_order.specs.Sizes.{greatest_minor, greatest_orientation, greatest_square};
 ghost use Rattle.small_spheres.specs.Inside.{dot};
 ghost use Rattle.small_spheres.specs.Sizes.{
   greatest_power_term,
+  greatest_product_of_sides,
+  greatest_product_of_squares,
   greatest_scalar,
+  greatest_square_of_centre,
   greatest_square_of_orientation,
   greatest_square_of_scalar,
 };
@@ -39,14 +42,18 @@ pub fn sum(p: i128, q: i128, r: i128) -> i128
     requires p { IsWithin greatest_square_of_scalar p }
     requires q { IsWithin greatest_square_of_scalar q }
     requires r { IsWithin greatest_square_of_scalar r }
-    ensures { result ≡ p +ℤ q +ℤ r }
+    ensures value { result ≡ p +ℤ q +ℤ r }
+    ensures bound { IsWithin greatest_square_of_centre result }
 {
     p + q + r
 }
 
-/// The product of two numbers, in 128 bits.
+/// The product of a product of two squares of distances and a third such square, below 2^89.
 pub fn product(p: i64, q: i64) -> i128
-    ensures { result ≡ p *ℤ q }
+    requires p { IsWithin greatest_product_of_squares p }
+    requires q { IsWithin greatest_square q }
+    ensures value { result ≡ p *ℤ q }
+    ensures bound { IsWithin greatest_product_of_sides result }
 {
     p as i128 * q as i128
 }
@@ -71,19 +78,37 @@ pub fn difference(p: i128, q: i128, r: i128) -> i128
     p - q - r
 }
 
-/// `4 alpha`, below 2^66.
-pub fn four_times_alpha(alpha: u64) -> i128
-    ensures { result ≡ pos 4 *ℤ pos alpha }
+/// Four times the square of a distance, below 2^32.
+pub fn four_times_square(square: i64) -> u64
+    requires bound { IsWithin greatest_square square }
+    requires sign { pos 0 ≤ℤ square }
+    ensures { pos result ≡ pos 4 *ℤ square }
 {
-    4 * alpha as i128
+    4 * square as u64
 }
 
-/// `4 |n|^2 alpha`, below 2^127, and below 2^92 where alpha is below 2^30 and `n` is the normal of three points.
-pub fn four_times_normal(square: i64, alpha: u64) -> i128
-    requires { IsWithin greatest_scalar square }
-    ensures { result ≡ pos 4 *ℤ square *ℤ pos alpha }
+/// Four times a product of squared sides, below 2^91.
+pub fn four_times_sides(product: i128) -> i128
+    requires { IsWithin greatest_product_of_sides product }
+    ensures { result ≡ pos 4 *ℤ product }
 {
-    4 * square as i128 * alpha as i128
+    4 * product
+}
+
+/// Four times the square of an `N`, below 2^124.
+pub fn four_times_centre(square: i128) -> i128
+    requires { IsWithin greatest_square_of_centre square }
+    ensures { result ≡ pos 4 *ℤ square }
+{
+    4 * square
+}
+
+/// `|n|^2 alpha`, below 2^125, and below 2^94 where alpha is below 2^34 and `n` is the normal of three points.
+pub fn normal_times(square: i64, alpha: u64) -> i128
+    requires { IsWithin greatest_scalar square }
+    ensures { result ≡ square *ℤ pos alpha }
+{
+    square as i128 * alpha as i128
 }
 
 /// The square of an orientation, below 2^90.
@@ -95,11 +120,11 @@ pub fn square_of_orientation(orientation: i64) -> i128
     orientation as i128 * orientation as i128
 }
 
-/// `4 O^2 alpha`, where `O^2` is the square of an orientation, below 2^122.
-pub fn four_times_orientation(square: i128, alpha: u64) -> i128
+/// `O^2 alpha`, where `O^2` is the square of an orientation, below 2^124.
+pub fn orientation_times(square: i128, alpha: u64) -> i128
     requires square { IsWithin greatest_square_of_orientation square }
-    requires alpha { alpha < 2 ^ 30 }
-    ensures { result ≡ pos 4 *ℤ square *ℤ pos alpha }
+    requires alpha { alpha < 2 ^ 34 }
+    ensures { result ≡ square *ℤ pos alpha }
 {
-    4 * square * alpha as i128
+    square * alpha as i128
 }

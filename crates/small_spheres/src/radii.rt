@@ -6,7 +6,12 @@ ghost use Rattle.point_order.specs.Orientation.{distance};
 ghost use Rattle.point_order.specs.Sizes.{greatest_square};
 ghost use Rattle.small_spheres.specs.Inside.{square_of_normal};
 ghost use Rattle.small_spheres.specs.Within.{square_of_centre};
-ghost use Rattle.small_spheres.specs.Sizes.{greatest_scalar};
+ghost use Rattle.small_spheres.specs.Sizes.{
+  greatest_product_of_sides,
+  greatest_product_of_squares,
+  greatest_scalar,
+  greatest_square_of_centre,
+};
 
 use crate::powers::dot_of_normals;
 use crate::products::{product, square, sum, sum_of_products};
@@ -23,7 +28,8 @@ pub fn normal_square(a: Point, b: Point, c: Point) -> i64
 
 /// `|a - b|^2 |a - c|^2 |b - c|^2`, below 2^89.
 pub fn product_of_sides(a: Point, b: Point, c: Point) -> i128
-    ensures { result ≡ distance a b *ℤ distance a c *ℤ distance b c }
+    ensures value { result ≡ distance a b *ℤ distance a c *ℤ distance b c }
+    ensures bound { IsWithin greatest_product_of_sides result }
 {
     let ab = Step::between(a, b).square();
     let ac = Step::between(a, c).square();
@@ -35,14 +41,16 @@ pub fn product_of_sides(a: Point, b: Point, c: Point) -> i128
 fn product_of_squares(p: i64, q: i64) -> i64
     requires p { IsWithin greatest_square p }
     requires q { IsWithin greatest_square q }
-    ensures { result ≡ p *ℤ q }
+    ensures value { result ≡ p *ℤ q }
+    ensures bound { IsWithin greatest_product_of_squares result }
 {
     p * q
 }
 
-/// `|N|^2`, with `N = |u|^2 (v x w) + |v|^2 (w x u) + |w|^2 (u x v)` for the steps `u`, `v`, `w` from `a`.
+/// `|N|^2`, below 2^122, with `N = |u|^2 (v x w) + |v|^2 (w x u) + |w|^2 (u x v)` for the steps `u`, `v`, `w` from `a`.
 pub fn centre_square(a: Point, b: Point, c: Point, d: Point) -> i128
-    ensures { result ≡ square_of_centre a b c d }
+    ensures value { result ≡ square_of_centre a b c d }
+    ensures bound { IsWithin greatest_square_of_centre result }
 {
     let u = Step::between(a, b);
     let v = Step::between(a, c);

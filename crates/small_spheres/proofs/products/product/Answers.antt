@@ -1,4 +1,14 @@
-use Rattle.whole_ring.proofs.Cited.{fits_128, fits_as, product_fits_128, read, read_as, same_product, wide}
+use Rattle.whole_ring.proofs.Cited.{
+  fits_128,
+  fits_as,
+  product_fits_128,
+  read,
+  read_as,
+  same_product,
+  wide,
+  within_as,
+  within_mul,
+}
 use Rattle.small_spheres.proofs.products.product.Goals as goal
 
 pub overflow_cast-result : goal.overflow_cast-result
@@ -11,5 +21,9 @@ pub overflow_mul-result : goal.overflow_mul-result
 overflow_mul-result c =
     fits_as (same_product (wide c.ranges.p) (wide c.ranges.q)) (product_fits_128 c.ranges.p c.ranges.q)
 
-pub returns : goal.returns
-returns c = read_as (same_product (wide c.ranges.p) (wide c.ranges.q)) (product_fits_128 c.ranges.p c.ranges.q)
+pub returns-clause-value : goal.returns-clause-value
+returns-clause-value c =
+    read_as (same_product (wide c.ranges.p) (wide c.ranges.q)) (product_fits_128 c.ranges.p c.ranges.q)
+
+pub returns-clause-bound : goal.returns-clause-bound
+returns-clause-bound c = within_as (returns-clause-value c) (within_mul c.requires.p c.requires.q)

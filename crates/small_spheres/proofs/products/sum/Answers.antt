@@ -2,7 +2,7 @@ use Rattle.std.proofs.Common.{◌≡◌, ℤ, ◌+ℤ◌, lit<, to_z, of_z}
 use Rattle.std.specs.Int.{w128}
 use Rattle.std.specs.Int.RustNames.{FitsSigned}
 use Rattle.whole_ring.specs.Bounds.{IsWithin}
-use Rattle.whole_ring.proofs.Cited.{fits_as, read, read_as, same_sum, within_add, within_fits}
+use Rattle.whole_ring.proofs.Cited.{fits_as, read, read_as, same_sum, within_add, within_as, within_fits}
 use Rattle.small_spheres.specs.Sizes.{greatest_square_of_scalar}
 use Rattle.small_spheres.proofs.products.sum.Goals as goal
 
@@ -30,8 +30,12 @@ overflow_add-result-2 c =
     (reads c.ranges.p c.ranges.q c.ranges.r c.requires.p c.requires.q)
     (three c.requires.p c.requires.q c.requires.r)
 
-pub returns : goal.returns
-returns c =
+pub returns-clause-value : goal.returns-clause-value
+returns-clause-value c =
     read_as
     (reads c.ranges.p c.ranges.q c.ranges.r c.requires.p c.requires.q)
     (three c.requires.p c.requires.q c.requires.r)
+
+pub returns-clause-bound : goal.returns-clause-bound
+returns-clause-bound c =
+    within_as (returns-clause-value c) (within_add (within_add c.requires.p c.requires.q) c.requires.r)

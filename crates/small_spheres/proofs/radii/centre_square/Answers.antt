@@ -80,9 +80,9 @@ sum-requires-clause-q s = within_read w128 s.square-2.ensures.bound (lit< tt)
 pub sum-requires-clause-r : goal.sum-requires-clause-r
 sum-requires-clause-r s = within_read w128 s.square-3.ensures.bound (lit< tt)
 
-pub returns : goal.returns
+pub returns-clause-value : goal.returns-clause-value
 unfolding square_of_centre square_of_step
-returns s =
+returns-clause-value s =
     let a = s.args.a in
     let b = s.args.b in
     let c = s.args.c in
@@ -121,4 +121,7 @@ returns s =
     let yy = read (within_fits w128 s.square-2.ensures.bound (lit< tt)) ∙ s.square-2.ensures.value ∙ same_product y y in
     let zz = read (within_fits w128 s.square-3.ensures.bound (lit< tt)) ∙ s.square-3.ensures.value ∙ same_product z z in
     let fits : FitsSigned w128 s.sum.result = record { sfits = s.sum.type_inv } in
-    read fits ∙ s.sum.ensures ∙ same_sum (same_sum xx yy) zz
+    read fits ∙ s.sum.ensures.value ∙ same_sum (same_sum xx yy) zz
+
+pub returns-clause-bound : goal.returns-clause-bound
+returns-clause-bound s = within_read w128 s.sum.ensures.bound (lit< tt)
