@@ -5,7 +5,7 @@ use Rattle.std.specs.List.{concat}
 use Rattle.point_order.specs.declared.cell.Cell.{Cell}
 use Rattle.point_order.specs.declared.cell.Cell.TheVariants.{Full, Open}
 use Rattle.mesh_files.specs.Text.{full_corners, hull_corners}
-use Rattle.mesh_files.proofs.Sheets.{IsOfItems}
+use Rattle.text_sheets.proofs.Cited.{IsOfItems}
 
 -- the line of a cell where it is Full, and nothing where it is Open
 abbrev pub full_piece : (List ℕ → List ℕ) → Cell → List ℕ

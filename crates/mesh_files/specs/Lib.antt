@@ -1,6 +1,3 @@
-pub mod Lines
 pub mod Text
 pub mod Report
-pub mod Pages
-pub mod Sheets
 pub mod Summary

@@ -5,7 +5,7 @@ use Rattle.std.specs.Str.{bytes_eq}
 use Rattle.edit_history.specs.declared.history.Reply.{Reply}
 use Rattle.edit_history.specs.declared.history.Reply.TheVariants.{Inserted, Duplicate, Removed, Missing, Flat}
 use Rattle.alpha_complex.specs.Shapes.{ShapeParts}
-use Rattle.mesh_files.specs.Lines.{numbers_line}
+use Rattle.text_sheets.specs.Lines.{numbers_line}
 use Rattle.mesh_files.specs.Text.{ReportParts, reply_word, full_corners, hull_corners}
 
 -- a word and a number

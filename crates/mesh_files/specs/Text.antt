@@ -1,6 +1,6 @@
 -- The text of a report.
-use Rattle.std.specs.Prelude.{ℕ, List, [], ◌∷◌, ◌++◌, map, codes, decimal, Option, None, Some, nat_lt}
-use Rattle.std.specs.List.{prefix_len, concat}
+use Rattle.std.specs.Prelude.{ℕ, List, [], ◌∷◌, ◌++◌, map, codes, decimal, Option, None, Some}
+use Rattle.std.specs.List.{concat}
 use Rattle.point_order.specs.Coordinates.{x_of, y_of, z_of}
 use Rattle.point_order.specs.declared.cell.Cell.{Cell}
 use Rattle.point_order.specs.declared.cell.Cell.TheVariants.{Full, Open}
@@ -17,7 +17,8 @@ use Rattle.edit_history.specs.declared.history.Reply.TheVariants.{
 use Rattle.alpha_complex.specs.declared.shape.Kind.{Kind}
 use Rattle.alpha_complex.specs.declared.shape.Kind.TheVariants.{Singular, Regular, Interior}
 use Rattle.alpha_complex.specs.Shapes.{ShapeParts}
-use Rattle.mesh_files.specs.Lines.{numbers_line, block}
+use Rattle.text_sheets.specs.Indices.{index_of, indices_line}
+use Rattle.text_sheets.specs.Lines.{block, numbers_line}
 
 -- what a report tells: the reply to each line, the points ascending, the cells in their order, a shape for each
 -- radius, in order, and the tags of the history where they are asked for
@@ -43,14 +44,6 @@ reply_line reply = reply_word reply ++ codes "\n"
 abbrev pub point_line : ℕ → List ℕ
 point_line p = numbers_line (x_of p ∷ y_of p ∷ z_of p ∷ [])
 
--- the index of a point of an ascending list: how many points, from the front on, stand before it
-abbrev pub index_of : List ℕ → ℕ → ℕ
-index_of points p = prefix_len (λ q. nat_lt q p) points
-
--- a cell's points as indices
-abbrev pub indices_line : List ℕ → List ℕ → List ℕ
-indices_line points corners = numbers_line (map (index_of points) corners)
-
 -- the points of the Full cells, cell by cell
 abbrev pub full_corners : List Cell → List (List ℕ)
 full_corners [] = []
@@ -72,11 +65,6 @@ kind_word Interior = codes "interior"
 abbrev pub face_line : List ℕ → List ℕ → Kind → List ℕ
 face_line points corners kind =
     concat (map (λ p. decimal (index_of points p) ++ codes " ") corners) ++ kind_word kind ++ codes "\n"
-
--- the line of what a slot holds, and nothing where it is empty
-abbrev pub held_line : {X : Type 0} → (X → List ℕ) → Option X → List ℕ
-held_line line None = []
-held_line line (Some x) = line x
 
 -- the points of a list of points with their kinds
 abbrev pub points_in : List (ℕ × Kind) → List ℕ

@@ -9,14 +9,9 @@
 //! ```
 #![tactic(auto)]
 
-mod indices;
-mod lines;
-mod page;
 pub mod report;
 mod shapes;
-mod sheet;
 mod summary;
-mod whole;
 
 pub use report::{Report, mesh_text, put_report};
 pub use shapes::shape_text;

@@ -5,32 +5,21 @@ ghost use Rattle.std.specs.declared.alloc.Global.{Global};
 ghost use Rattle.point_order.specs.Sets.{IsAscending};
 ghost use Rattle.std.specs.Io.KnownBytes.{Appends};
 ghost use Rattle.byte_ends.specs.Ends.{AppendsFront, HasCause, Rose};
-ghost use Rattle.mesh_files.specs.Lines.{block};
-ghost use Rattle.mesh_files.specs.Sheets.{Puts};
+ghost use Rattle.text_sheets.specs.Lines.{block};
+ghost use Rattle.text_sheets.specs.Sheets.{Puts};
 ghost use Rattle.mesh_files.specs.Report.{AreCounted, parts_of, shapes_seen};
-ghost use Rattle.mesh_files.specs.Text.{
-  reply_line,
-  reply_word,
-  point_line,
-  indices_line,
-  full_corners,
-  hull_corners,
-  tag_line,
-  order_block,
-  mesh_blocks,
-  report_text,
-};
+ghost use Rattle.text_sheets.specs.Indices.{indices_line};
+ghost use Rattle.mesh_files.specs.Text.{reply_line, reply_word, point_line, full_corners, hull_corners, tag_line, order_block, mesh_blocks, report_text};
 
-use crate::indices::{put_full_line, put_hull_line};
-use crate::lines::{put_number_and, put_three, put_title};
 use crate::shapes::put_shapes;
-use crate::sheet::Sheet;
-use crate::whole::WholeText;
 use alpha_complex::Shape;
 use byte_ends::{Failed, Sink};
 use edit_history::Reply;
 use point_order::{Cell, Point};
 use std::alloc::{AllocError, Global};
+use text_sheets::{
+    Sheet, WholeText, put_full_line, put_hull_line, put_number_and, put_three, put_title,
+};
 
 /// What a report tells.
 ///

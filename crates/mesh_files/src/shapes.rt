@@ -22,30 +22,18 @@ ghost use Rattle.std.specs.Io.KnownBytes.{Appends};
 ghost use Rattle.byte_ends.specs.Ends.{HasCause};
 ghost use Rattle.alpha_complex.specs.Shapes.{shape_seen};
 ghost use Rattle.alpha_complex.specs.Slots.{held};
-ghost use Rattle.mesh_files.specs.Lines.{block};
-ghost use Rattle.mesh_files.specs.Sheets.{Puts};
+ghost use Rattle.text_sheets.specs.Lines.{block};
+ghost use Rattle.text_sheets.specs.Sheets.{Puts};
 ghost use Rattle.mesh_files.specs.Report.{AreCounted, shapes_seen};
-ghost use Rattle.mesh_files.specs.Text.{
-  index_of,
-  indices_line,
-  kind_word,
-  face_line,
-  face_blocks,
-  held_line,
-  points_in,
-  counted,
-  shape_text as shape_text_of,
-  shape_blocks,
-};
+ghost use Rattle.text_sheets.specs.Indices.{index_of, indices_line};
+ghost use Rattle.text_sheets.specs.Lines.{held_line};
+ghost use Rattle.mesh_files.specs.Text.{kind_word, face_line, face_blocks, points_in, counted, shape_text as shape_text_of, shape_blocks};
 
-use crate::indices::{index, put_full_line};
-use crate::lines::{put_number_and, put_title};
-use crate::sheet::Sheet;
-use crate::whole::WholeText;
 use alpha_complex::{Kind, Shape};
 use byte_ends::{Failed, Sink};
 use point_order::Point;
 use std::alloc::{AllocError, Global};
+use text_sheets::{Sheet, WholeText, put_full_line, put_indices, put_number_and, put_title};
 
 fn word_of(kind: Kind) -> &'static str
     ensures { result.now ≡ kind_word kind }
@@ -54,17 +42,6 @@ fn word_of(kind: Kind) -> &'static str
         Kind::Singular => "singular",
         Kind::Regular => "regular",
         Kind::Interior => "interior",
-    }
-}
-
-// Puts the points of a face as indices, each with a space behind it.
-fn put_indices<O: Sink>(sheet: &mut Sheet, out: &mut O, points: &[Point], corners: &[Point])
-    requires { IsAscending points.now }
-    ensures { Puts (O.holds out.old) (O.holds out.new) (O.faults out.old) (O.faults out.new) sheet.old sheet.new
-        (concat (map (λ p. decimal (index_of points.now p) ++ codes " ") corners.now)) }
-{
-    for corner in corners {
-        put_number_and(sheet, out, index(points, *corner), b" ");
     }
 }
 

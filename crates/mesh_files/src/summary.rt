@@ -5,7 +5,7 @@ ghost use Rattle.std.specs.List.{concat};
 ghost use Rattle.std.specs.Io.KnownBytes.{Appends};
 ghost use Rattle.byte_ends.specs.Ends.{HasCause};
 ghost use Rattle.alpha_complex.specs.Shapes.{shape_seen};
-ghost use Rattle.mesh_files.specs.Sheets.{Puts};
+ghost use Rattle.text_sheets.specs.Sheets.{Puts};
 ghost use Rattle.mesh_files.specs.Report.{parts_of, shapes_seen};
 ghost use Rattle.mesh_files.specs.Summary.{
   count_of as count_of_word,
@@ -15,14 +15,12 @@ ghost use Rattle.mesh_files.specs.Summary.{
   summary_text as summary_text_of,
 };
 
-use crate::lines::{put_four, put_title};
 use crate::report::{Report, full_count, hull_count, word_of};
-use crate::sheet::Sheet;
-use crate::whole::WholeText;
 use alpha_complex::Shape;
 use byte_ends::{Failed, Sink};
 use edit_history::Reply;
 use std::alloc::{AllocError, Global};
+use text_sheets::{Sheet, WholeText, put_four, put_title};
 
 const ALL_REPLIES: [Reply; 5] = [
     Reply::Inserted,

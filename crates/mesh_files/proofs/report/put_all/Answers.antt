@@ -1,5 +1,5 @@
 use Rattle.mesh_files.specs.Text.{report_text}
-use Rattle.mesh_files.proofs.Sheets.{then}
+use Rattle.text_sheets.proofs.Cited.{then}
 use Rattle.mesh_files.proofs.report.put_all.Goals as goal
 
 pub returns : goal.returns

@@ -4,9 +4,10 @@ use Rattle.std.specs.List.{concat}
 use Rattle.std.proofs.lemmas.List.{length-map}
 use Rattle.point_order.specs.declared.cell.Cell.{Cell}
 use Rattle.point_order.specs.declared.cell.Cell.TheVariants.{Full, Open}
-use Rattle.mesh_files.specs.Text.{indices_line, full_corners}
+use Rattle.text_sheets.specs.Indices.{indices_line}
+use Rattle.mesh_files.specs.Text.{full_corners}
 use Rattle.mesh_files.proofs.Cells.{full_piece, full_items, item_is}
-use Rattle.mesh_files.proofs.Sheets.{ends, goes_on, nothing, starts}
+use Rattle.text_sheets.proofs.Cited.{ends, goes_on, nothing, starts}
 use Rattle.mesh_files.proofs.report.put_cells.Goals as goal
 use Rattle.mesh_files.proofs.report.put_cells.Goals.{in-Full, in-Open}
 

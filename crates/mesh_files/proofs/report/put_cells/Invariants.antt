@@ -2,9 +2,10 @@
 use Rattle.std.proofs.Common.{drop}
 use Rattle.std.specs.Prelude.{map, codes}
 use Rattle.std.specs.List.{concat}
-use Rattle.mesh_files.specs.Lines.{block}
-use Rattle.mesh_files.specs.Text.{indices_line, full_corners}
-use Rattle.mesh_files.proofs.Sheets.{PutsBut}
+use Rattle.text_sheets.specs.Lines.{block}
+use Rattle.text_sheets.specs.Indices.{indices_line}
+use Rattle.mesh_files.specs.Text.{full_corners}
+use Rattle.text_sheets.proofs.Cited.{PutsBut}
 use Rattle.mesh_files.proofs.report.put_cells.Given as goal
 
 abbrev pub invariant-loop-cell : goal.invariant-loop-cell

@@ -1,5 +1,5 @@
 use Rattle.mesh_files.specs.Text.{mesh_blocks}
-use Rattle.mesh_files.proofs.Sheets.{then}
+use Rattle.text_sheets.proofs.Cited.{then}
 use Rattle.mesh_files.proofs.report.put_mesh.Goals as goal
 
 pub returns : goal.returns

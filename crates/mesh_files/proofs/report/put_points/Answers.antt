@@ -3,7 +3,7 @@ use Rattle.std.specs.Prelude.{map, codes}
 use Rattle.std.specs.List.{concat}
 use Rattle.std.proofs.lemmas.List.{length-map}
 use Rattle.mesh_files.specs.Text.{point_line}
-use Rattle.mesh_files.proofs.Sheets.{ends, goes_on, starts}
+use Rattle.text_sheets.proofs.Cited.{ends, goes_on, starts}
 use Rattle.mesh_files.proofs.report.put_points.Goals as goal
 
 pub loop-point-init : goal.loop-point-init

@@ -1,5 +1,5 @@
-use Rattle.mesh_files.proofs.Flowing.{went_well}
-use Rattle.mesh_files.proofs.Sheets.{closed, closed_cause, closed_front}
+use Rattle.text_sheets.proofs.Cited.{went_well}
+use Rattle.text_sheets.proofs.Cited.{closed, closed_cause, closed_front}
 use Rattle.mesh_files.proofs.report.put_report.Goals as goal
 
 pub returns : goal.returns

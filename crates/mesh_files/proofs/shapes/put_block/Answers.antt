@@ -1,4 +1,4 @@
-use Rattle.mesh_files.proofs.Sheets.{closed}
+use Rattle.text_sheets.proofs.Cited.{closed}
 use Rattle.mesh_files.proofs.shapes.put_block.Goals as goal
 
 pub returns : goal.returns

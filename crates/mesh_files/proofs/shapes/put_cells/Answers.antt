@@ -1,7 +1,8 @@
 use Rattle.std.specs.Prelude.{codes}
-use Rattle.mesh_files.specs.Text.{indices_line, points_in}
-use Rattle.mesh_files.proofs.Places.{below_end}
-use Rattle.mesh_files.proofs.Slots.{held_ends, held_goes_on, held_starts}
+use Rattle.text_sheets.specs.Indices.{indices_line}
+use Rattle.mesh_files.specs.Text.{points_in}
+use Rattle.text_sheets.proofs.Cited.{below_end}
+use Rattle.text_sheets.proofs.Cited.{held_ends, held_goes_on, held_starts}
 use Rattle.mesh_files.proofs.shapes.put_cells.Goals as goal
 
 pub loop-index-init : goal.loop-index-init

@@ -3,9 +3,9 @@ use Rattle.std.proofs.Common.{drop}
 use Rattle.std.specs.Prelude.{map, codes}
 use Rattle.std.specs.List.{concat}
 use Rattle.alpha_complex.specs.Slots.{held}
-use Rattle.mesh_files.specs.Lines.{block}
+use Rattle.text_sheets.specs.Lines.{block}
 use Rattle.mesh_files.specs.Text.{face_line, points_in}
-use Rattle.mesh_files.proofs.Sheets.{PutsBut}
+use Rattle.text_sheets.proofs.Cited.{PutsBut}
 use Rattle.mesh_files.proofs.shapes.put_pairs.Given as goal
 
 abbrev pub invariant-loop-index : goal.invariant-loop-index

@@ -5,8 +5,8 @@ use Rattle.std.proofs.lemmas.List.{length-map}
 use Rattle.alpha_complex.specs.declared.shape.Kind.{Kind}
 use Rattle.point_order.specs.Sets.{IsAscending}
 use Rattle.mesh_files.specs.Text.{face_line, points_in}
-use Rattle.mesh_files.proofs.Sheets.{ends, goes_on, starts}
-use Rattle.mesh_files.proofs.Places.{below_end, past_end}
+use Rattle.text_sheets.proofs.Cited.{ends, goes_on, starts}
+use Rattle.text_sheets.proofs.Cited.{below_end, past_end}
 use Rattle.mesh_files.proofs.shapes.put_points.Goals as goal
 
 -- as many points as faces

@@ -1,5 +1,5 @@
 use Rattle.mesh_files.specs.Text.{shape_text}
-use Rattle.mesh_files.proofs.Sheets.{then}
+use Rattle.text_sheets.proofs.Cited.{then}
 use Rattle.mesh_files.proofs.shapes.put_shape.Goals as goal
 
 pub returns : goal.returns

@@ -4,7 +4,7 @@ use Rattle.alpha_complex.specs.Shapes.{ShapeParts, shape_seen}
 use Rattle.alpha_complex.proofs.Cited.{mapped_at}
 use Rattle.mesh_files.specs.Report.{shapes_seen}
 use Rattle.mesh_files.specs.Text.{shape_text, shape_blocks}
-use Rattle.mesh_files.proofs.Sheets.{ends, goes_on, leaves_all}
+use Rattle.text_sheets.proofs.Cited.{ends, goes_on, leaves_all}
 use Rattle.mesh_files.proofs.shapes.put_shapes.Goals as goal
 
 pub put_shape-requires : goal.put_shape-requires

@@ -2,7 +2,7 @@
 use Rattle.std.proofs.Common.{drop}
 use Rattle.mesh_files.specs.Report.{shapes_seen}
 use Rattle.mesh_files.specs.Text.{shape_blocks}
-use Rattle.mesh_files.proofs.Sheets.{PutsBut}
+use Rattle.text_sheets.proofs.Cited.{PutsBut}
 use Rattle.mesh_files.proofs.shapes.put_shapes.Given as goal
 
 abbrev pub invariant-loop-radius : goal.invariant-loop-radius

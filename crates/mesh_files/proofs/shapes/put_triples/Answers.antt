@@ -2,8 +2,8 @@ use Rattle.std.proofs.Common.{List, ℕ}
 use Rattle.std.specs.Prelude.{codes}
 use Rattle.alpha_complex.specs.declared.shape.Kind.{Kind}
 use Rattle.mesh_files.specs.Text.{face_line, points_in}
-use Rattle.mesh_files.proofs.Places.{below_end}
-use Rattle.mesh_files.proofs.Slots.{held_ends, held_goes_on, held_starts}
+use Rattle.text_sheets.proofs.Cited.{below_end}
+use Rattle.text_sheets.proofs.Cited.{held_ends, held_goes_on, held_starts}
 use Rattle.mesh_files.proofs.shapes.put_triples.Goals as goal
 
 pub loop-index-init : goal.loop-index-init

@@ -1,6 +1,6 @@
 use Rattle.std.proofs.Common.{◌∙◌}
 use Rattle.mesh_files.specs.Summary.{mesh_counts}
-use Rattle.mesh_files.proofs.Sheets.{then}
+use Rattle.text_sheets.proofs.Cited.{then}
 use Rattle.mesh_files.proofs.summary.put_mesh_counts.Goals as goal
 
 pub returns : goal.returns

@@ -3,7 +3,7 @@ use Rattle.std.proofs.Common.{drop}
 use Rattle.std.specs.Prelude.{map}
 use Rattle.std.specs.List.{concat}
 use Rattle.mesh_files.specs.Summary.{reply_count_line}
-use Rattle.mesh_files.proofs.Sheets.{PutsBut}
+use Rattle.text_sheets.proofs.Cited.{PutsBut}
 use Rattle.mesh_files.proofs.summary.put_reply_counts.Given as goal
 
 abbrev pub invariant-loop-kind : goal.invariant-loop-kind

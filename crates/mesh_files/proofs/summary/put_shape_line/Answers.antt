@@ -1,4 +1,4 @@
-use Rattle.mesh_files.proofs.Sheets.{then}
+use Rattle.text_sheets.proofs.Cited.{then}
 use Rattle.mesh_files.proofs.summary.put_shape_line.Goals as goal
 
 pub returns : goal.returns

@@ -5,7 +5,7 @@ use Rattle.alpha_complex.specs.Slots.{ShapeSlots}
 use Rattle.alpha_complex.specs.Shapes.{shape_seen}
 use Rattle.mesh_files.specs.Report.{shapes_seen}
 use Rattle.mesh_files.specs.Summary.{shape_line}
-use Rattle.mesh_files.proofs.Sheets.{ends, goes_on, leaves_all}
+use Rattle.text_sheets.proofs.Cited.{ends, goes_on, leaves_all}
 use Rattle.mesh_files.proofs.summary.put_shape_lines.Goals as goal
 
 pub loop-radius-init : goal.loop-radius-init

@@ -4,7 +4,7 @@ use Rattle.std.specs.Prelude.{map}
 use Rattle.std.specs.List.{concat}
 use Rattle.mesh_files.specs.Report.{shapes_seen}
 use Rattle.mesh_files.specs.Summary.{shape_line}
-use Rattle.mesh_files.proofs.Sheets.{PutsBut}
+use Rattle.text_sheets.proofs.Cited.{PutsBut}
 use Rattle.mesh_files.proofs.summary.put_shape_lines.Given as goal
 
 abbrev pub invariant-loop-radius : goal.invariant-loop-radius

@@ -1,6 +1,6 @@
 use Rattle.std.proofs.Common.{◌∙◌}
 use Rattle.mesh_files.specs.Summary.{summary_text}
-use Rattle.mesh_files.proofs.Sheets.{then}
+use Rattle.text_sheets.proofs.Cited.{then}
 use Rattle.mesh_files.proofs.summary.put_summary.Goals as goal
 
 pub returns : goal.returns

@@ -1,6 +1,0 @@
-use Rattle.mesh_files.proofs.Sheets.{then}
-use Rattle.mesh_files.proofs.lines.put_number_and.Goals as goal
-
-pub returns : goal.returns
-returns g c =
-    then c.put_number.ensures c.put.ensures

@@ -1,0 +1,5 @@
+pub mod Places
+pub mod Flowing
+pub mod Sheets
+pub mod Slots
+pub mod Cited

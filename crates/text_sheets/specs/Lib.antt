@@ -1,0 +1,4 @@
+pub mod Lines
+pub mod Indices
+pub mod Pages
+pub mod Sheets
