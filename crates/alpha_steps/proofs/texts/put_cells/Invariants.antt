@@ -1,0 +1,14 @@
+-- a front of the block was put, and the lines of the slots that are left are not yet
+use Rattle.std.proofs.Common.{drop}
+use Rattle.std.specs.Prelude.{map, codes}
+use Rattle.std.specs.List.{concat}
+use Rattle.text_sheets.specs.Lines.{block, held}
+use Rattle.text_sheets.proofs.Cited.{PutsBut}
+use Rattle.alpha_steps.specs.Text.{step_line}
+use Rattle.alpha_steps.proofs.texts.put_cells.Given as goal
+
+abbrev pub invariant-loop-index : goal.invariant-loop-index
+invariant-loop-index g l =
+    PutsBut (g.O.Sink.holds l.fn.out) (g.O.Sink.holds l.out) (g.O.Sink.faults l.fn.out) (g.O.Sink.faults l.out) l.fn.sheet l.sheet
+    (concat (map (step_line l.list.points) (held (drop l.index l.list.cells))))
+    (block (codes "cells") (map (step_line l.list.points) (held l.list.cells)))

@@ -1,0 +1,14 @@
+-- a front of the block was put, and the lines that are left are not yet
+use Rattle.std.proofs.Common.{drop}
+use Rattle.std.specs.Prelude.{map, codes}
+use Rattle.std.specs.List.{concat}
+use Rattle.text_sheets.specs.Lines.{block}
+use Rattle.text_sheets.proofs.Cited.{PutsBut}
+use Rattle.alpha_steps.specs.Text.{step_line}
+use Rattle.alpha_steps.proofs.texts.put_triples.Given as goal
+
+abbrev pub invariant-loop-index : goal.invariant-loop-index
+invariant-loop-index g l =
+    PutsBut (g.O.Sink.holds l.fn.out) (g.O.Sink.holds l.out) (g.O.Sink.faults l.fn.out) (g.O.Sink.faults l.out) l.fn.sheet l.sheet
+    (concat (map (step_line l.list.points) (drop l.index l.list.triples)))
+    (block (codes "triangles") (map (step_line l.list.points) l.list.triples))

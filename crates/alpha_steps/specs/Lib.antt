@@ -1,0 +1,3 @@
+pub mod Thresholds
+pub mod Seen
+pub mod Text

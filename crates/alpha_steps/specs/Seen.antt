@@ -1,0 +1,48 @@
+-- Thresholds as contracts see them.
+use Rattle.std.specs.Prelude.{◌≡◌, ℕ, ◌^◌, List, map, length, zip, nat_lt, Option, None, Some, if◌then◌else◌}
+use Rattle.point_order.specs.declared.cell.Cell.{Cell}
+use Rattle.point_order.specs.declared.cell.Cell.TheVariants.{Full, Open}
+use Rattle.alpha_complex.specs.declared.numbers.FaceAlphas.{FaceAlphas}
+use Rattle.alpha_steps.specs.declared.threshold.Threshold.{Threshold}
+use Rattle.alpha_steps.specs.declared.threshold.Threshold.TheVariants.{At, Never}
+use Rattle.alpha_steps.specs.declared.steps.Thresholds.TheInside.{Inside}
+
+-- The points, the pairs and triples, each with its threshold, and a slot for each cell, with its points and its
+-- threshold where it is Full.
+pub record StepSlots : Type 0 where
+  pub points : List ℕ
+  pub pairs : List (List ℕ × Threshold)
+  pub triples : List (List ℕ × Threshold)
+  pub cells : List (Option (List ℕ × Threshold))
+
+-- the threshold that a least alpha tells: none where it is no alpha
+abbrev pub threshold_of : ℕ → Threshold
+threshold_of n = if nat_lt n (2 ^ 34) then At n else Never
+
+-- faces, each with the threshold that its numbers tell
+abbrev pub steps_of : {X : Type 0} → List X → List FaceAlphas → List (X × Threshold)
+steps_of faces alphas = zip faces (map (λ a. threshold_of a.admitted) alphas)
+
+-- a cell with that of its number, where it is Full
+abbrev pub step_of_cell : Cell → ℕ → Option (List ℕ × Threshold)
+step_of_cell (Full q) n = Some (q, threshold_of n)
+step_of_cell (Open t) n = None
+
+-- a slot for each cell
+abbrev pub cell_steps_of : List Cell → List ℕ → List (Option (List ℕ × Threshold))
+cell_steps_of cells numbers = map (λ c. step_of_cell c.0 c.1) (zip cells numbers)
+
+abbrev pub steps_seen : Inside → StepSlots
+steps_seen t =
+    record {
+      points = map (λ f. f.0) t.known.faces.now.points;
+      pairs = steps_of (map (λ f. f.0) t.known.faces.now.pairs) t.known.pairs.items;
+      triples = steps_of (map (λ f. f.0) t.known.faces.now.triples) t.known.triples.items;
+      cells = cell_steps_of t.known.faces.now.cells t.known.cells.items;
+    }
+
+-- As many numbers as faces.
+pub record AreCounted (t : Inside) : Type 0 where
+  pub pairs : length t.known.pairs.items ≡ length t.known.faces.now.pairs
+  pub triples : length t.known.triples.items ≡ length t.known.faces.now.triples
+  pub cells : length t.known.cells.items ≡ length t.known.faces.now.cells

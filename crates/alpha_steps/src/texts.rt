@@ -1,0 +1,145 @@
+//! The text of thresholds.
+
+ghost use Rattle.std.specs.Prelude.{◌≡◌, ◌<◌, ◌++◌, [], None, codes, length, map, slice_index_or, IsOk, OnOk, OnErr};
+ghost use Rattle.std.specs.Io.KnownBytes.{Appends};
+ghost use Rattle.byte_ends.specs.Ends.{AppendsFront, HasCause, Rose};
+ghost use Rattle.point_order.specs.Sets.{IsAscending};
+ghost use Rattle.text_sheets.specs.Lines.{block, held, held_line};
+ghost use Rattle.text_sheets.specs.Sheets.{Puts};
+ghost use Rattle.alpha_steps.specs.declared.threshold.Threshold.TheVariants.{Never};
+ghost use Rattle.alpha_steps.specs.Text.{step_line, steps_text, threshold_word};
+
+use crate::steps::Thresholds;
+use crate::threshold::Threshold;
+use byte_ends::{Failed, Sink};
+use point_order::Point;
+use text_sheets::{Sheet, put_indices, put_number, put_title};
+
+// Puts a threshold.
+fn put_threshold<O: Sink>(sheet: &mut Sheet, out: &mut O, threshold: Threshold)
+    ensures { Puts (O.holds out.old) (O.holds out.new) (O.faults out.old) (O.faults out.new) sheet.old sheet.new
+        (threshold_word threshold) }
+{
+    match threshold {
+        Threshold::At(alpha) => put_number(sheet, out, alpha),
+        Threshold::Never => sheet.put(out, b"none"),
+    }
+}
+
+// Puts the line of a face.
+fn put_step<O: Sink>(
+    sheet: &mut Sheet,
+    out: &mut O,
+    points: &[Point],
+    corners: &[Point],
+    threshold: Threshold,
+)
+    requires { IsAscending points.now }
+    ensures { Puts (O.holds out.old) (O.holds out.new) (O.faults out.old) (O.faults out.new) sheet.old sheet.new
+        (step_line points.now (corners.now, threshold)) }
+{
+    put_indices(sheet, out, points, corners);
+    put_threshold(sheet, out, threshold);
+    sheet.put(out, b"\n");
+}
+
+// Puts the line of the pair of an index.
+fn put_pair<O: Sink>(sheet: &mut Sheet, out: &mut O, list: &Thresholds, index: usize)
+    requires points { IsAscending list.now.points }
+    requires index { index < length list.now.pairs }
+    ensures { Puts (O.holds out.old) (O.holds out.new) (O.faults out.old) (O.faults out.new) sheet.old sheet.new
+        (step_line list.now.points (slice_index_or list.now.pairs index ([], Never))) }
+{
+    let (pair, threshold) = list.pair(index);
+    put_step(sheet, out, list.points(), pair.points(), threshold);
+}
+
+// Puts the block of the pairs.
+fn put_pairs<O: Sink>(sheet: &mut Sheet, out: &mut O, list: &Thresholds)
+    requires { IsAscending list.now.points }
+    ensures { Puts (O.holds out.old) (O.holds out.new) (O.faults out.old) (O.faults out.new) sheet.old sheet.new
+        (block (codes "edges") (map (step_line list.now.points) list.now.pairs)) }
+{
+    put_title(sheet, out, b"edges", list.pair_count());
+    for index in 0..list.pair_count() {
+        put_pair(sheet, out, list, index);
+    }
+}
+
+// Puts the line of the triple of an index.
+fn put_triple<O: Sink>(sheet: &mut Sheet, out: &mut O, list: &Thresholds, index: usize)
+    requires points { IsAscending list.now.points }
+    requires index { index < length list.now.triples }
+    ensures { Puts (O.holds out.old) (O.holds out.new) (O.faults out.old) (O.faults out.new) sheet.old sheet.new
+        (step_line list.now.points (slice_index_or list.now.triples index ([], Never))) }
+{
+    let (triple, threshold) = list.triple(index);
+    put_step(sheet, out, list.points(), triple.points(), threshold);
+}
+
+// Puts the block of the triples.
+fn put_triples<O: Sink>(sheet: &mut Sheet, out: &mut O, list: &Thresholds)
+    requires { IsAscending list.now.points }
+    ensures { Puts (O.holds out.old) (O.holds out.new) (O.faults out.old) (O.faults out.new) sheet.old sheet.new
+        (block (codes "triangles") (map (step_line list.now.points) list.now.triples)) }
+{
+    put_title(sheet, out, b"triangles", list.triple_count());
+    for index in 0..list.triple_count() {
+        put_triple(sheet, out, list, index);
+    }
+}
+
+// Puts the line of the cell of an index, where it is Full.
+fn put_cell<O: Sink>(sheet: &mut Sheet, out: &mut O, list: &Thresholds, index: usize)
+    requires points { IsAscending list.now.points }
+    requires index { index < length list.now.cells }
+    ensures { Puts (O.holds out.old) (O.holds out.new) (O.faults out.old) (O.faults out.new) sheet.old sheet.new
+        (held_line (step_line list.now.points) (slice_index_or list.now.cells index None)) }
+{
+    match list.cell(index) {
+        Some((quad, threshold)) => put_step(sheet, out, list.points(), quad.points(), threshold),
+        None => {}
+    }
+}
+
+// Puts the block of the Full cells.
+fn put_cells<O: Sink>(sheet: &mut Sheet, out: &mut O, list: &Thresholds)
+    requires { IsAscending list.now.points }
+    ensures { Puts (O.holds out.old) (O.holds out.new) (O.faults out.old) (O.faults out.new) sheet.old sheet.new
+        (block (codes "cells") (map (step_line list.now.points) (held list.now.cells))) }
+{
+    put_title(sheet, out, b"cells", list.cell_count());
+    for index in 0..list.cell_slots() {
+        put_cell(sheet, out, list, index);
+    }
+}
+
+// Puts the whole text.
+fn put_all<O: Sink>(sheet: &mut Sheet, out: &mut O, list: &Thresholds)
+    requires { IsAscending list.now.points }
+    ensures { Puts (O.holds out.old) (O.holds out.new) (O.faults out.old) (O.faults out.new) sheet.old sheet.new
+        (steps_text list.now) }
+{
+    sheet.put(out, b"mesh3-steps 1\n");
+    put_pairs(sheet, out, list);
+    put_triples(sheet, out, list);
+    put_cells(sheet, out, list);
+    sheet.put(out, b"end\n");
+}
+
+/// Writes the text of the thresholds. It takes no memory.
+///
+/// # Errors
+///
+/// `Failed` where the sink failed. Then it has taken a front of the text.
+pub fn put_steps<O: Sink>(out: &mut O, list: &Thresholds) -> Result<(), Failed>
+    requires { IsAscending list.now.points }
+    ensures whole { OnOk result (Appends (O.holds out.old) (O.holds out.new) (steps_text list.now)) }
+    ensures front { AppendsFront (O.holds out.old) (O.holds out.new) (steps_text list.now) }
+    ensures cause { HasCause (O.faults out.old) (O.faults out.new) result }
+    ensures done { (Rose (O.faults out.old) (O.faults out.new) → ⊥) → IsOk result }
+{
+    let mut sheet = Sheet::new();
+    put_all(&mut sheet, out, list);
+    sheet.close(out)
+}
