@@ -1,0 +1,45 @@
+-- Numbers in groups, each with the label of its group.
+use Rattle.std.specs.Prelude.{◌≡◌, ◌<◌, ◌⊎◌, ℕ, true, false, Bool, List, map, length, ◌==◌, slice_index_or, if◌then◌else◌}
+use Rattle.list_laws.specs.Lists.{IsIn}
+
+-- the label of a number
+abbrev pub label_at : List ℕ → ℕ → ℕ
+label_at labels i = slice_index_or labels i 0
+
+-- two numbers are in one group
+abbrev pub AreTogether : List ℕ → ℕ → ℕ → Type 0
+AreTogether labels i j = label_at labels i ≡ label_at labels j
+
+-- the label of what had one, where one label goes over into another
+abbrev pub moved : ℕ → ℕ → ℕ → ℕ
+moved from to label = if label == from then to else label
+
+-- the group of one label goes over into that of another
+abbrev pub merged : ℕ → ℕ → List ℕ → List ℕ
+merged from to labels = map (moved from to) labels
+
+-- the groups of two numbers are one from now on, in one way or the other
+abbrev pub AreMerged : ℕ → ℕ → List ℕ → List ℕ → Type 0
+AreMerged i j old new =
+    (new ≡ merged (label_at old i) (label_at old j) old) ⊎ (new ≡ merged (label_at old j) (label_at old i) old)
+
+-- a number is marked
+abbrev pub IsMarked : List Bool → ℕ → Type 0
+IsMarked marks i = slice_index_or marks i false ≡ true
+
+-- a number was in one group with a marked number of a list
+abbrev pub Reaches : List ℕ → List Bool → List ℕ → ℕ → Type 0
+Reaches labels marks numbers i = (u : ℕ) × IsIn u numbers × IsMarked marks u × AreTogether labels i u
+
+-- The groups that the marked numbers of a list reach are one from now on, and nothing else changes.
+pub record AreJoinedAll (marks : List Bool) (numbers old new : List ℕ) : Type 0 where
+  pub count : length new ≡ length old
+  pub kept : (i j : ℕ) → i < length old → j < length old → AreTogether old i j → AreTogether new i j
+  pub joined : (u v : ℕ) → IsIn u numbers → IsIn v numbers → IsMarked marks u → IsMarked marks v → AreTogether new u v
+  pub only : (i j : ℕ) → i < length old → j < length old → AreTogether new i j →
+      AreTogether old i j ⊎ (Reaches old marks numbers i × Reaches old marks numbers j)
+  pub among : (i : ℕ) → i < length old → (j : ℕ) × (j < length old) × (label_at new i ≡ label_at old j)
+
+-- all labels are below a count
+abbrev pub AreLabelsBelow : ℕ → List ℕ → Type 0
+AreLabelsBelow count labels = (i : ℕ) → i < length labels → label_at labels i < count

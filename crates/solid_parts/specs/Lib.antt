@@ -1,0 +1,10 @@
+pub mod Joined
+pub mod Parts
+pub mod Boundary
+pub mod LeastAlpha
+pub mod Groups
+pub mod Labels
+pub mod Gathered
+pub mod Seen
+pub mod Levels
+pub mod Laws

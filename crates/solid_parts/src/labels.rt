@@ -1,0 +1,39 @@
+//! Labels of cells: those that chains join have one.
+
+ghost use Rattle.std.specs.Prelude.{◌≡◌, length, IfOk};
+ghost use Rattle.std.specs.List.{range_with_len};
+ghost use Rattle.solid_parts.specs.Labels.{AreLabels};
+
+use crate::groups::join_all;
+use face_list::Faces;
+use std::alloc::{AllocError, Global};
+
+// The numbers below a count.
+fn numbers_below(alloc: Global, count: usize) -> Result<Vec<u32>, AllocError>
+    ensures { IfOk result (λ v. v.items ≡ range_with_len 0 count) }
+{
+    let mut numbers = Vec::with_capacity(alloc, count)?;
+    for index in 0..count {
+        let Ok(number) = u32::try_from(index) else {
+            return Err(AllocError);
+        };
+        numbers.push(number)?;
+    }
+    Ok(numbers)
+}
+
+/// The labels of the cells: marked ones have one where chains of marked cells join them.
+///
+/// # Errors
+/// Want of memory.
+pub fn labels_of(alloc: Global, faces: &Faces, marks: &[bool]) -> Result<Vec<u32>, AllocError>
+    requires { length marks.now ≡ length faces.now.cells }
+    ensures { IfOk result (λ labels. AreLabels faces.now marks.now (length faces.now.triples) labels.items) }
+{
+    let mut labels = numbers_below(alloc, faces.cells().len())?;
+    for index in 0..faces.triples().len() {
+        let (_, around) = faces.triple(index);
+        join_all(&mut labels, marks, around);
+    }
+    Ok(labels)
+}

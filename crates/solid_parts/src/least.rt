@@ -1,0 +1,41 @@
+//! The numbers of the cells, of which one is the least alpha at which there are few parts.
+
+ghost use Rattle.std.specs.Prelude.{◌≡◌, ◌<◌, ◌^◌, ◌↔◌, ℕ, nat_le, max, length, IsTrue, IfOk};
+ghost use Rattle.std.specs.List.{list_all};
+ghost use Rattle.point_order.specs.Sets.{IsIn};
+ghost use Rattle.alpha_complex.specs.declared.numbers.FaceAlphas.{FaceAlphas};
+ghost use Rattle.solid_parts.specs.Levels.{AreLevels};
+
+use alpha_complex::FaceAlphas;
+use std::alloc::{AllocError, Global};
+
+// The greater of two numbers.
+fn greater(m: u64, n: u64) -> u64
+    ensures { result ≡ max m n }
+{
+    if m < n { n } else { m }
+}
+
+/// The least alpha at which some admitted cell has each of the points, by their numbers.
+pub fn cover_least(points: &[FaceAlphas]) -> u64
+    ensures { (alpha : ℕ) → nat_le result alpha ≡ list_all (λ a. nat_le a.regular alpha) points.now }
+{
+    let mut least = 0;
+    for point in points {
+        least = greater(least, point.regular);
+    }
+    least
+}
+
+/// The numbers in order, each once.
+///
+/// # Errors
+/// Want of memory.
+pub fn in_order(alloc: Global, numbers: &[u64]) -> Result<Vec<u64>, AllocError>
+    ensures { IfOk result (λ v. AreLevels numbers.now v.items) }
+{
+    let mut levels = Vec::from_slice(alloc, numbers)?;
+    levels.sort_unstable();
+    levels.dedup();
+    Ok(levels)
+}

@@ -1,0 +1,127 @@
+//! The solid parts of an alpha complex, their boundaries, and the least alpha at which there are few.
+//!
+//! Two admitted cells are in one part where a chain of admitted cells joins them, each sharing a triple with the next
+//! (`number_of_solid_components` of `Alpha_shape_3` of CGAL counts them). The definitions stand in `specs/Parts.antt`.
+//!
+//! ```
+//! let faces = faces(rt, alloc, &cells)?;             // of the sorted cells of a complex
+//! for part in &parts(alloc, &faces, 4800)? {         // at a squared radius of 300
+//!     let outside = boundary(rt, alloc, part)?;          // triangles, each turned the same way round
+//! }
+//! ```
+#![tactic(auto)]
+
+ghost use Rattle.std.specs.Prelude.{◌≡◌, ◌<◌, ◌≤◌, ◌^◌, ◌↔◌, ℕ, List, IfOk, IsTrue};
+ghost use Rattle.alpha_complex.specs.Condition.{AreFaces, AreFacesOf};
+ghost use Rattle.alpha_complex.specs.Shapes.{shape_of};
+ghost use Rattle.solid_parts.specs.Boundary.{boundary_of};
+ghost use Rattle.solid_parts.specs.LeastAlpha.{IsCompact, IsLeastAlpha, IsStart};
+ghost use Rattle.solid_parts.specs.Parts.{AreParts};
+ghost use Rattle.solid_parts.specs.Seen.{parts_seen};
+
+mod gathering;
+mod groups;
+mod labels;
+pub mod laws;
+mod least;
+mod marks;
+pub mod part;
+mod turning;
+
+use alpha_complex::{Alphas, alphas};
+use face_list::{Faces, faces};
+use gathering::gather;
+use labels::labels_of;
+use least::{cover_least, in_order};
+use marks::marks_of;
+pub use part::Part;
+use point_order::Point;
+use std::alloc::{AllocError, Global};
+use std::thread::Threads;
+use turning::{full_cells, outside_of};
+
+// Every alpha is below this.
+const BEYOND: u64 = 1 << 34;
+
+/// The solid parts of the alpha complex at an alpha, a squared radius in sixteenths, below 2^34, in the order of their
+/// least cells.
+///
+/// The faces are what `face_list::faces` gives of the complex of a solid set, its cells in order.
+///
+/// # Errors
+/// Want of memory.
+pub fn parts(alloc: Global, faces: &Faces, alpha: u64) -> Result<Vec<Part>, AllocError>
+    requires faces { AreFaces faces.now }
+    requires alpha { alpha < 2 ^ 34 }
+    ensures { IfOk result (λ parts. (s : List ℕ) → AreFacesOf s faces.now →
+        AreParts (shape_of s alpha).cells (parts_seen parts.items)) }
+{
+    let marks = marks_of(alloc, faces.cells(), alpha)?;
+    let labels = labels_of(alloc, faces, &marks)?;
+    gather(alloc, faces.cells(), &marks, &labels)
+}
+
+// Whether a number is an alpha at which every point is in an admitted cell and there are at most k parts. From `start`
+// on every point is.
+fn is_compact(
+    alloc: Global,
+    faces: &Faces,
+    start: u64,
+    alpha: u64,
+    k: u32,
+) -> Result<bool, AllocError>
+    requires faces { AreFaces faces.now }
+    requires start { (s : List ℕ) → AreFacesOf s faces.now → alpha < 2 ^ 34 → IsStart s alpha start }
+    ensures { IfOk result (λ b. (s : List ℕ) → AreFacesOf s faces.now → IsTrue b ↔ (alpha < 2 ^ 34 × IsCompact s k alpha)) }
+{
+    if alpha < start || alpha >= BEYOND {
+        return Ok(false);
+    }
+    let parts = parts(alloc, faces, alpha)?;
+    Ok(parts.len() <= k as usize)
+}
+
+/// The least alpha, a squared radius in sixteenths, below 2^34, at which every point is in an admitted cell and there
+/// are at most k parts; none where there is none. The number of parts may rise with alpha.
+///
+/// The faces are what `face_list::faces` gives of the complex of a solid set, its cells in order.
+///
+/// # Errors
+/// Want of memory.
+pub fn least_alpha<R: Threads + Sync>(
+    rt: &R,
+    alloc: Global,
+    faces: &Faces,
+    k: u32,
+) -> Result<Option<u64>, AllocError>
+    requires faces { AreFaces faces.now }
+    requires k { 1 ≤ k }
+    ensures { IfOk result (λ least. (s : List ℕ) → AreFacesOf s faces.now → IsLeastAlpha s k least) }
+{
+    let known = alphas(rt, alloc, faces)?;
+    let start = cover_least(&known.points);
+    let levels = in_order(alloc, &known.cells)?;
+    for level in levels.iter() {
+        if is_compact(alloc, faces, start, *level, k)? {
+            return Ok(Some(*level));
+        }
+    }
+    Ok(None)
+}
+
+/// The boundary of a part: the triples that exactly one of its cells has, in order, each with its least point first and
+/// turned so that its orientation with the fourth point of that cell is negative.
+///
+/// # Errors
+/// Want of memory.
+pub fn boundary<R: Threads + Sync>(
+    rt: &R,
+    alloc: Global,
+    part: &Part,
+) -> Result<Vec<[Point; 3]>, AllocError>
+    ensures { IfOk result (λ v. v.items ≡ boundary_of part.now.cells.items) }
+{
+    let cells = full_cells(alloc, &part.cells)?;
+    let faces = faces(rt, alloc, &cells)?;
+    outside_of(alloc, &faces)
+}
