@@ -1,10 +1,10 @@
 -- Lists that the parts of a pass do, and a pass that is split, worked with and joined.
-use Rattle.std.specs.Prelude.{◌≡◌, ℕ, ◌+◌, ◌-◌, ◌<◌, ◌≤◌, Bool, true, false, not, cond, Result, Ok, Err, IfOk, List, [], ◌∷◌, ◌++◌, map, length, All, IsPermutation}
+use Rattle.std.specs.Prelude.{◌≡◌, ℕ, zero, suc, slice_index_or, ◌+◌, ◌-◌, ◌<◌, ◌≤◌, Bool, true, false, not, cond, Result, Ok, Err, IfOk, List, [], ◌∷◌, ◌++◌, map, length, All, IsPermutation}
 use Rattle.std.specs.List.{filter}
 use Rattle.std.proofs.Common.{refl, sym, ◌∙◌, ap, ap₂, subst, inl, inr, arith, get_or, length-append}
 use Rattle.std.proofs.lemmas.List.{append-nil, map-append, length-map}
 use Rattle.std.proofs.lemmas.List.Sorted.{IsPermutation-sym, IsPermutation-trans}
-use Rattle.list_laws.proofs.Cited.{EachLater, all_of_each, both_later, each_of_all, from_append, in_permutation, later_pairs, later_unmap, mapped_true, pairs_later, related}
+use Rattle.list_laws.proofs.Cited.{EachLater, all_of_each, both_later, each_of_all, from_append, in_left, in_permutation, later_pairs, later_unmap, mapped_true, pairs_later, related}
 use Rattle.point_order.specs.Sets.{IsIn}
 use Rattle.edit_history.specs.declared.history.Entry.{Entry}
 use Rattle.edit_history.specs.Edits.{is_move, point_of}
@@ -19,10 +19,21 @@ use Rattle.edit_workers.specs.Dealing.{AreAscending, AreApart, AreStill, count_o
 use Rattle.edit_workers.specs.Working.{Marked, left_over, done, IsWorked}
 use Rattle.edit_workers.specs.declared.lists.List as lists
 use Rattle.edit_workers.specs.declared.lists.Left.{Left}
-use Rattle.edit_workers.specs.Running.{pairs_in, CanRun, AscendAtPoint, ArePartly, AreWorked, AreRunBut}
+use Rattle.edit_workers.specs.Running.{pairs_in, CanRun, AscendAtPoint, ArePartly, AreWorked, AreRunBut, IsOfWorker}
 use Rattle.edit_workers.specs.Arranging.{IsArranged, IsInPlace}
 use Rattle.edit_workers.proofs.Marks.{marks_part, done_tags, left_tags, done_first}
 use Rattle.edit_workers.proofs.Partly.{count_both, all_low, all_high, apart_low, apart_high, partly_both}
+
+-- ---- a list of lists by places
+
+front_at : (l m : List (List Pair)) (i : ℕ) → i < length l → slice_index_or (l ++ m) i [] ≡ slice_index_or l i []
+front_at [] m i q = absurd (omega (arith, q))
+front_at (x ∷ l) m zero q = refl
+front_at (x ∷ l) m (suc i) q = front_at l m i (omega (arith, q))
+
+behind_at : (l m : List (List Pair)) (i : ℕ) → slice_index_or (l ++ m) (length l + i) [] ≡ slice_index_or m i []
+behind_at [] m i = let e : 0 + i ≡ i = omega arith in ap (λ (n : ℕ). slice_index_or m n []) e
+behind_at (x ∷ l) m i = let e : length (x ∷ l) + i ≡ suc (length l + i) = omega arith in ap (λ (n : ℕ). slice_index_or (x ∷ l ++ m) n []) e ∙ behind_at l m i
 
 -- ---- one list
 
@@ -93,6 +104,14 @@ module _ (list arranged left : List Pair) (old new : Standing) (is : IsArranged 
     later = later_pairs AscendAtPoint left (subst (EachLater AscendAtPoint) (sym w.left_is) (left_tags marked ascending));
   }
 
+  owned : (e : Entry) → IsIn e es → IsOfWorker old.first (list ∷ []) e
+  owned e i =
+      let b = each_of_all (λ (e : Entry). e.by ≡ old.first) es w.made.by_pass e i in
+      let none : e.by - old.first ≡ 0 = omega (arith, b) in
+      subst (λ (n : ℕ). IsIn (line_of e) (slice_index_or (list ∷ []) n [])) (sym none)
+      (subst (IsIn (line_of e)) (append-nil list)
+      (in_permutation (map line_of es ++ left) (list ++ []) (line_of e) (IsPermutation-sym (list ++ []) (map line_of es ++ left) lines) (in_left (line_of e) (map line_of es) left (mapped_true line_of e es i))))
+
   pub worked_one : AreWorked (list ∷ []) left old new
   worked_one = record {
     still = (ap (λ (s : Standing). s.table) w.pass.new_is, ap (λ (s : Standing). s.first) w.pass.new_is, ap (λ (s : Standing). s.parts) w.pass.new_is);
@@ -100,6 +119,7 @@ module _ (list arranged left : List Pair) (old new : Standing) (is : IsArranged 
     workers =
         subst (All (λ (e : Entry). (old.first ≤ e.by) × (e.by < old.first + old.parts))) (sym made_is)
         (all_of_each (λ (e : Entry). (old.first ≤ e.by) × (e.by < old.first + old.parts)) es (λ e i. let b = each_of_all (λ (e : Entry). e.by ≡ old.first) es w.made.by_pass e i in (omega (arith, b), omega (arith, b, one))));
+    owned = subst (λ (l : List Entry). (e : Entry) → IsIn e l → IsOfWorker old.first (list ∷ []) e) (sym made_is) owned;
     alone = λ l e zero all.
         let none : left ≡ [] = w.alone zero all in
         (none, ap (map line_of) made_is ∙ w.made.pairs_are ∙ none_left marked (sym w.left_is ∙ none) ∙ w.parted ∙ own all ∙ only_list list l e);
@@ -216,11 +236,33 @@ module _ (lows highs : List (List Pair)) (old mid other : Standing) (some-low : 
               (omega (arith, l, f), omega (arith, m, f, g, fits))
         ]
 
-    pub worked_both : AreWorked (lows ++ highs) (a ++ b) old (joined p q)
-    worked_both = record {
+    owned_both : old.parts ≡ length lows + length highs → (e : Entry) → IsIn e (by_number (p.made ++ q.made)) → IsOfWorker old.first (lows ++ highs) e
+    owned_both whole e i =
+        elim (from_append e p.made q.made (in_permutation (by_number (p.made ++ q.made)) (p.made ++ q.made) e (IsPermutation-sym (p.made ++ q.made) (by_number (p.made ++ q.made)) (sorted_moves (p.made ++ q.made))) i)) [
+          | inl j ↦
+              let b = each_of_all (λ (e : Entry). (mid.first ≤ e.by) × (e.by < mid.first + mid.parts)) p.made low.workers e j in
+              let f : mid.first ≡ old.first = ap (λ (s : Standing). s.first) split.new_is in
+              let g : mid.parts ≡ old.parts - length highs = ap (λ (s : Standing). s.parts) split.new_is in
+              let l = b.0 in
+              let m = b.1 in
+              let inside : e.by - old.first < length lows = omega (arith, l, m, f, g, whole, fits) in
+              subst (IsIn (line_of e)) (sym (front_at lows highs (e.by - old.first) inside))
+              (subst (λ (n : ℕ). IsIn (line_of e) (slice_index_or lows (e.by - n) [])) f (low.owned e j))
+          | inr j ↦
+              let b = each_of_all (λ (e : Entry). (other.first ≤ e.by) × (e.by < other.first + other.parts)) q.made high.workers e j in
+              let f : other.first ≡ old.first + (old.parts - length highs) = ap (λ (s : Standing). s.first) split.other_is in
+              let l = b.0 in
+              let place : length lows + (e.by - other.first) ≡ e.by - old.first = omega (arith, l, f, whole, fits) in
+              subst (λ (n : ℕ). IsIn (line_of e) (slice_index_or (lows ++ highs) n [])) place
+              (subst (IsIn (line_of e)) (sym (behind_at lows highs (e.by - other.first))) (high.owned e j))
+        ]
+
+    pub worked_both : old.parts ≡ length lows + length highs → AreWorked (lows ++ highs) (a ++ b) old (joined p q)
+    worked_both whole = record {
       still = (table_low, first_p, omega (arith, parts_p, parts_q, fits));
       partly = partly_both lows highs a b p.made q.made (by_number (p.made ++ q.made)) apart low.partly high.partly (sorted_moves (p.made ++ q.made));
       workers = all_of_each IsOurs (by_number (p.made ++ q.made)) ours;
+      owned = owned_both whole;
       alone = λ l e zero all. let n : length (lows ++ highs) ≡ 1 = ap length e in absurd (omega (arith, n, length-append lows highs, some-low, some-high));
     }
 
@@ -264,7 +306,7 @@ module _ (ls lows highs : List lists.List) (parts allowance : ℕ) (table : Open
     )
 
     pub slice_both : AreWorked (pairs_in ls) (a ++ b) old (joined p q)
-    slice_both = subst (λ (l : List (List Pair)). AreWorked l (a ++ b) old (joined p q)) (sym pairs_cut) (worked_both (pairs_in lows) (pairs_in highs) old mid other some_low' some_high' split_cut a b p q fits can_cut.apart low high)
+    slice_both = subst (λ (l : List (List Pair)). AreWorked l (a ++ b) old (joined p q)) (sym pairs_cut) (worked_both (pairs_in lows) (pairs_in highs) old mid other some_low' some_high' split_cut a b p q fits can_cut.apart low high (can_cut.parts ∙ length-append (pairs_in lows) (pairs_in highs)))
 
 -- what holds of a pass and of what it left over holds of an answer that has these two
 pub of_answer :
@@ -281,6 +323,7 @@ all_worked lists left t allowance new parts w = record {
   history = refl;
   partly = w.partly;
   workers = all_of_each (λ (e : Entry). e.by < length lists) new.made (λ e i. let b = each_of_all (λ (e : Entry). (0 ≤ e.by) × (e.by < 0 + t.parts)) new.made w.workers e i in let m = b.1 in omega (arith, m, parts));
+  owned = w.owned;
   alone = λ l e. w.alone l e refl refl;
 }
 

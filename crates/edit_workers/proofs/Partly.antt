@@ -231,4 +231,12 @@ module _ (lists : List (List Pair)) (left sorted : List Pair) (h k m : List Entr
       workers = by_workers;
       alone = nothing_left;
     };
+    ends = record {
+      made = es;
+      late = fs;
+      both = refl;
+      owned = but.owned;
+      by_none = applied.by_none;
+      tags = later_pairs (λ (d e : Entry). d.tag ≤ e.tag) fs (later_unmap line_of (λ (p q : Pair). p.0 ≤ q.0) fs (subst (EachLater (λ (p q : Pair). p.0 ≤ q.0)) (sym applied.pairs_are) (pairs_later (λ (p q : Pair). p.0 ≤ q.0) sorted tags.order)));
+    };
   }

@@ -21,7 +21,7 @@ use Rattle.grid_claims.specs.Trails.{misses}
 use Rattle.grid_claims.specs.Tries.{AreClaimsAround, IsAsBefore, IsOthersWord, IsEdited}
 use Rattle.plain_laws.specs.Running.{Pair}
 use Rattle.edit_workers.specs.Working.{Marked, Stretch, done, left_over, first_ones, AreEntriesOf, HasMade, IsWorked, IsBroken}
-use Rattle.edit_workers.specs.Trying.{OwnsAll, HasMadeOne, HasMissed, FollowsLeft, IsLeftOver, IsDone, IsWorkedOn}
+use Rattle.edit_workers.specs.Trying.{OwnsAll, HasMadeOne, HasMissed, HasMissedSome, FollowsLeft, IsLeftOver, IsDone, IsWorkedOn}
 use Rattle.edit_workers.proofs.Stretches.{flat_more, tried_more}
 use Rattle.edit_workers.proofs.FirstOnes.{points_of, in_points, not_in_points, first_same, first_more, left_more, left_same, done_more, done_same, all_left, all_parted, none_done, done_few, later_more}
 
@@ -35,14 +35,24 @@ misses_both (Commit n ∷ a) b = misses_both a b
 misses_both (Release c ∷ a) b = misses_both a b
 misses_both (Look n ∷ a) b = misses_both a b
 
--- the steps around some have all of their failed claims
-pub misses_around : (middle steps : List Act) → AreClaimsAround middle steps → misses middle ≤ misses steps
+no_claims : (bs : List ℕ) → misses (map Claim bs) ≡ 0
+no_claims [] = refl
+no_claims (b ∷ bs) = no_claims bs
+
+no_releases : (bs : List ℕ) → misses (map Release bs) ≡ 0
+no_releases [] = refl
+no_releases (b ∷ bs) = no_releases bs
+
+-- the steps around some have just their failed claims
+pub misses_around : (middle steps : List Act) → AreClaimsAround middle steps → misses steps ≡ misses middle
 misses_around middle steps a =
     let front = map Claim a.claims in
     let behind = map Release a.releases in
     let e = ap misses a.steps_are ∙ misses_both (front ++ middle) behind in
     let f = misses_both front middle in
-    omega (arith, e, f)
+    let c = no_claims a.claims in
+    let r = no_releases a.releases in
+    omega (arith, e, f, c, r)
 
 -- two passes that agree in all are one
 pub standing_is : (a b : Standing) → a.table ≡ b.table → a.first ≡ b.first → a.parts ≡ b.parts → a.left ≡ b.left → a.seen ≡ b.seen → a.made ≡ b.made → a.known ≡ b.known → a.trail ≡ b.trail → a ≡ b
@@ -53,7 +63,7 @@ standing_is a b t f p l s m k r = λ i. record { table = t i; first = f i; parts
 pub tried_nothing : (p : Standing) → HasMissed 0 p p
 tried_nothing p = record {
   steps = [];
-  missed = omega arith;
+  missed = refl;
   new_is = let e = sym (append-nil p.trail) in λ i. record p { trail = e i };
   others = λ l. absurd (omega (arith, l));
 }
@@ -76,12 +86,19 @@ missed_once old new bucket word o b = record {
 }
 
 -- an edit was made
-pub made_once : (tag : ℕ) (edit : Edit) (number : ℕ) (reply : Reply) (old new : Standing) → IsEdited tag edit number reply old new → HasMadeOne tag edit old new
-made_once tag edit number reply old new e = record { number = number; reply = reply; later = e.later; steps = e.steps; new_is = e.new_is }
+pub made_once : (tag : ℕ) (edit : Edit) (number : ℕ) (reply : Reply) (old new : Standing) → IsEdited tag edit number reply old new → HasMadeOne 1 tag edit old new
+made_once tag edit number reply old new e = record {
+  number = number;
+  reply = reply;
+  later = e.later;
+  steps = e.steps;
+  few = (let m : misses e.steps ≡ 0 = misses_around (Commit number ∷ []) e.steps e.around in omega (arith, m));
+  new_is = e.new_is;
+}
 
--- memory was wanting: no claim is known to have failed
+-- memory was wanting: no claim failed
 pub missed_none : (old new : Standing) → IsAsBefore [] old new → HasMissed 0 old new
-missed_none old new b = record { steps = b.0; missed = omega arith; new_is = b.2; others = λ z. absurd (omega (arith, z)) }
+missed_none old new b = record { steps = b.0; missed = misses_around [] b.0 b.1; new_is = b.2; others = λ z. absurd (omega (arith, z)) }
 
 -- steps after steps, with the failed claims of both
 pub missed_both : (old now new : Standing) (m n : ℕ) → HasMissed m old now → HasMissed n now new → HasMissed (m + n) old new
@@ -105,28 +122,20 @@ missed_both old now new m n h k =
     by zero e z o = k.others (omega (arith, e, z)) (same o)
     by (suc c) e z o = h.others (omega (arith, e)) o
 
--- fewer are told of
-pub missed_fewer : (m n : ℕ) (old new : Standing) → m ≤ n → HasMissed n old new → HasMissed m old new
-missed_fewer m n old new l h = record {
-  steps = h.steps;
-  missed = (let a = h.missed in omega (arith, a, l));
-  new_is = h.new_is;
-  others = λ z. h.others (omega (arith, z, l));
-}
-
 -- memory was wanting, after some tries
-pub broken_after : (old now new : Standing) (m : ℕ) → HasMissed m old now → HasMissed 0 now new → HasMissed 0 old new
-broken_after old now new m h k = missed_fewer 0 (m + 0) old new (omega arith) (missed_both old now new m 0 h k)
+pub broken_after : (old now new : Standing) (m : ℕ) → m ≤ 64 → HasMissed m old now → HasMissed 0 now new → HasMissedSome old new
+broken_after old now new m l h k = (m + 0, omega (arith, l), missed_both old now new m 0 h k)
 
 -- the edit was made, after some tries
-pub made_after : (tag : ℕ) (edit : Edit) (old now new : Standing) (m : ℕ) → HasMissed m old now → HasMadeOne tag edit now new → HasMadeOne tag edit old new
-made_after tag edit old now new m h e =
+pub made_after : (tag : ℕ) (edit : Edit) (old now new : Standing) (m most : ℕ) → m < most → HasMissed m old now → HasMadeOne 1 tag edit now new → HasMadeOne most tag edit old new
+made_after tag edit old now new m most l h e =
     let n_is = h.new_is in
     record {
       number = e.number;
       reply = e.reply;
       later = (let l = e.later in let s = ap (λ (p : Standing). p.seen) n_is in omega (arith, l, s));
       steps = h.steps ++ e.steps;
+      few = (let both = misses_both h.steps e.steps in let a = h.missed in let b = e.few in omega (arith, both, a, b, l));
       new_is = e.new_is
           ∙ (λ i. record (n_is i) { left = (n_is i).left - 1; seen = e.number + 1; made = (n_is i).made ++ entry_of e.number (n_is i).first tag edit e.reply ∷ []; trail = (n_is i).trail ++ e.steps })
           ∙ (let t = append_assoc old.trail h.steps e.steps in λ i. record old { left = old.left - 1; seen = e.number + 1; made = old.made ++ entry_of e.number old.first tag edit e.reply ∷ []; trail = t i });
@@ -178,9 +187,9 @@ made_as_before old now new entries steps n h m =
     }
 
 -- an entry more
-pub made_more : (old now new : Standing) (entries : List Entry) (steps : List Act) (tag : ℕ) (edit : Edit) → HasMade old now entries steps → (m : HasMadeOne tag edit now new) →
+pub made_more : (old now new : Standing) (entries : List Entry) (steps : List Act) (most tag : ℕ) (edit : Edit) → HasMade old now entries steps → (m : HasMadeOne most tag edit now new) →
     HasMade old new (entries ++ entry_of m.number old.first tag edit m.reply ∷ []) (steps ++ m.steps)
-made_more old now new entries steps tag edit h m =
+made_more old now new entries steps most tag edit h m =
     let a = h.new_is in
     let b = m.new_is in
     let e : Entry = entry_of m.number old.first tag edit m.reply in
@@ -208,9 +217,9 @@ made_more old now new entries steps tag edit h m =
     last d (inl q) s = let n = ap (λ (e : Entry). e.number) q in omega (arith, n, s)
     last d (inr i) s = absurd i
 
-pub entries_more : (old now new : Standing) (pairs : List Pair) (entries : List Entry) (steps : List Act) (tag : ℕ) (edit : Edit) → AreEntriesOf old pairs entries → HasMade old now entries steps → (m : HasMadeOne tag edit now new) →
+pub entries_more : (old now new : Standing) (pairs : List Pair) (entries : List Entry) (steps : List Act) (most tag : ℕ) (edit : Edit) → AreEntriesOf old pairs entries → HasMade old now entries steps → (m : HasMadeOne most tag edit now new) →
     AreEntriesOf old (pairs ++ (tag, edit) ∷ []) (entries ++ entry_of m.number old.first tag edit m.reply ∷ [])
-entries_more old now new pairs entries steps tag edit a h m =
+entries_more old now new pairs entries steps most tag edit a h m =
     let e : Entry = entry_of m.number old.first tag edit m.reply in
     record {
       pairs_are = map-append line_of entries (e ∷ []) ∙ ap (λ (l : List Pair). l ++ (tag, edit) ∷ []) a.pairs_are;
@@ -271,7 +280,7 @@ module _ (list left : List Pair) (pair : Pair) (old now new : Standing) (w : IsW
         stretches = w.stretches ++ ((true, pair), []) ∷ [];
         pairs_are = stretched_more true [];
         steps_are = sym (append-nil w.steps) ∙ steps_more true [];
-        tried = tried_more [] w.stretches ((true, pair), []) w.tried (λ t a c. absurd (c (subst (λ (l : List Pair). IsIn (point_of pair.1) (points_of l)) over_is among)));
+        tried = tried_more [] w.stretches ((true, pair), []) w.tried ((λ t a c. absurd (c (subst (λ (l : List Pair). IsIn (point_of pair.1) (points_of l)) over_is among))), omega arith);
         tries = (let t = w.tries in let e = ap (first_ones []) f.behind ∙ first_same [] left pair (inr among) in omega (arith, t, e));
         alone = λ z q. absurd (nothing_has (point_of pair.1) left (w.alone z q) among);
       }
@@ -290,7 +299,7 @@ module _ (list left : List Pair) (pair : Pair) (old now new : Standing) (w : IsW
         stretches = w.stretches ++ ((true, pair), f.missed.steps) ∷ [];
         pairs_are = stretched_more true f.missed.steps;
         steps_are = steps_more true f.missed.steps;
-        tried = tried_more [] w.stretches ((true, pair), f.missed.steps) w.tried (λ t a c. f.missed.missed);
+        tried = tried_more [] w.stretches ((true, pair), f.missed.steps) w.tried ((λ t a c. f.missed.missed), (let m = f.missed.missed in omega (arith, m)));
         tries = (let t = w.tries in let e = ap (first_ones []) f.behind in let l = first_more [] left pair in let m = f.missed.missed in let b = misses_both w.steps f.missed.steps in omega (arith, t, e, l, m, b));
         alone = λ z q. absurd (f.missed.others (omega arith) (still_all old now w.entries w.steps w.pass (z, q)));
       }
@@ -304,13 +313,13 @@ module _ (list left : List Pair) (pair : Pair) (old now new : Standing) (w : IsW
         left_is = f.none ∙ w.left_is ∙ sym (left_same w.marked pair);
         later = later_more w.marked (false, pair) w.later (λ i. absurd (none (subst (λ (l : List Pair). IsIn (point_of pair.1) (points_of l)) (sym w.left_is) i)));
         entries = w.entries ++ entry_of f.made.number old.first pair.0 pair.1 f.made.reply ∷ [];
-        made = subst (λ (l : List Pair). AreEntriesOf old l (w.entries ++ entry_of f.made.number old.first pair.0 pair.1 f.made.reply ∷ [])) (sym (done_more w.marked pair)) (entries_more old now new (done w.marked) w.entries w.steps pair.0 pair.1 w.made w.pass f.made);
+        made = subst (λ (l : List Pair). AreEntriesOf old l (w.entries ++ entry_of f.made.number old.first pair.0 pair.1 f.made.reply ∷ [])) (sym (done_more w.marked pair)) (entries_more old now new (done w.marked) w.entries w.steps 64 pair.0 pair.1 w.made w.pass f.made);
         steps = w.steps ++ f.made.steps;
-        pass = made_more old now new w.entries w.steps pair.0 pair.1 w.pass f.made;
+        pass = made_more old now new w.entries w.steps 64 pair.0 pair.1 w.pass f.made;
         stretches = w.stretches ++ ((false, pair), f.made.steps) ∷ [];
         pairs_are = stretched_more false f.made.steps;
         steps_are = steps_more false f.made.steps;
-        tried = tried_more [] w.stretches ((false, pair), f.made.steps) w.tried (λ t a c. absurd (false≢true t));
+        tried = tried_more [] w.stretches ((false, pair), f.made.steps) w.tried ((λ t a c. absurd (false≢true t)), (let m = f.made.few in omega (arith, m)));
         tries = (let t = w.tries in let e = ap (first_ones []) f.none in let b = misses_both w.steps f.made.steps in omega (arith, t, e, b));
         alone = λ z q. f.none ∙ w.alone z q;
       }
@@ -333,15 +342,15 @@ some_left list left old now n w l a =
 pub same_table : (list left : List Pair) (old now : Standing) (t : Opened) → IsWorked list left old now → old.table ≡ t → now.table ≡ t
 same_table list left old now t w e = ap (λ (p : Standing). p.table) w.pass.new_is ∙ e
 
-pub broken_off : (list left : List Pair) (n : ℕ) (old now new : Standing) → IsWorked (take n list) left old now → HasMissed 0 now new → IsBroken list old new
+pub broken_off : (list left : List Pair) (n : ℕ) (old now new : Standing) → IsWorked (take n list) left old now → HasMissedSome now new → IsBroken list old new
 broken_off list left n old now new w m =
     record {
       marked = w.marked ++ all_left (drop n list);
       parted = map-append (λ (m : Marked). m.1) w.marked (all_left (drop n list)) ∙ (let e = w.parted in let f = all_parted (drop n list) in λ i. e i ++ f i) ∙ take-append-drop n list;
       entries = w.entries;
       made = subst (λ (l : List Pair). AreEntriesOf old l w.entries) (sym (none_done w.marked (drop n list))) w.made;
-      steps = w.steps ++ m.steps;
-      pass = made_as_before old now new w.entries w.steps 0 w.pass m;
+      steps = w.steps ++ m.2.steps;
+      pass = made_as_before old now new w.entries w.steps m.0 w.pass m.2;
     }
 
 -- ---- the loop over a list

@@ -1,5 +1,23 @@
 -- What all workers together make of a mesh.
-use Rattle.std.specs.Prelude.{◌≡◌, ◌+◌, ◌^◌, ◌<◌, ◌≤◌, List, [], ◌∷◌, ◌++◌, map, length, All, AllPairs, IsPermutation}
+use Rattle.std.specs.Prelude.{
+  ◌≡◌,
+  ℕ,
+  ◌+◌,
+  ◌-◌,
+  ◌^◌,
+  ◌<◌,
+  ◌≤◌,
+  List,
+  [],
+  ◌∷◌,
+  ◌++◌,
+  map,
+  length,
+  All,
+  AllPairs,
+  IsPermutation,
+  slice_index_or,
+}
 use Rattle.std.specs.List.{flat_map}
 use Rattle.point_order.specs.Sets.{IsIn}
 use Rattle.edit_history.specs.declared.history.Entry.{Entry}
@@ -11,11 +29,26 @@ use Rattle.plain_laws.specs.Running.{Pair, IsRun}
 use Rattle.edit_workers.specs.declared.lists.List as lists
 use Rattle.edit_workers.specs.Dealing.{AreAscending, AreApart, AreStill, count_of}
 
+-- the entry is of a pair in the list of its worker, where the first of the workers has this number
+abbrev pub IsOfWorker : ℕ → List (List Pair) → Entry → Type 0
+IsOfWorker first lists e = IsIn (line_of e) (slice_index_or lists (e.by - first) [])
+
+-- First come entries of the workers, each of its own list, and then those that were left over, by 0, in the order of
+-- their tags.
+pub record EndsLate (lists : List (List Pair)) (more : List Entry) : Type 0 where
+  pub made : List Entry
+  pub late : List Entry
+  pub both : more ≡ made ++ late
+  pub owned : (e : Entry) → IsIn e made → IsOfWorker 0 lists e
+  pub by_none : All (λ e. e.by ≡ 0) late
+  pub tags : AllPairs (λ d e. d.tag ≤ e.tag) late
+
 -- The history k is h, gone on with a run of the lists.
 pub record AreRun (lists : List (List Pair)) (h k : List Entry) : Type 0 where
   pub more : List Entry
   pub history : k ≡ h ++ more
   pub run : IsRun lists more
+  pub ends : EndsLate lists more
 
 -- ---- workers side by side
 
@@ -60,6 +93,7 @@ pub record AreWorked (lists : List (List Pair)) (left : List Pair) (old new : St
   pub still : IsStill old new
   pub partly : ArePartly lists left new.made
   pub workers : All (λ e. (old.first ≤ e.by) × (e.by < old.first + old.parts)) new.made
+  pub owned : (e : Entry) → IsIn e new.made → IsOfWorker old.first lists e
   pub alone : (l : List Pair) → lists ≡ l ∷ [] → old.first ≡ 0 → old.parts ≡ old.table.parts → IsWhole l left new.made
 
 -- The history k is h, gone on with a run of the lists but for the pairs left over.
@@ -68,6 +102,7 @@ pub record AreRunBut (lists : List (List Pair)) (left : List Pair) (h k : List E
   pub history : k ≡ h ++ more
   pub partly : ArePartly lists left more
   pub workers : All (λ e. e.by < length lists) more
+  pub owned : (e : Entry) → IsIn e more → IsOfWorker 0 lists e
   pub alone : (l : List Pair) → lists ≡ l ∷ [] → IsWhole l left more
 
 -- ---- pairs left over

@@ -16,12 +16,14 @@ use Rattle.edit_workers.specs.declared.working.Tried.TheVariants.{Made, LeftOver
 abbrev pub OwnsAll : Standing → Type 0
 OwnsAll p = (p.first ≡ 0) × (p.parts ≡ p.table.parts)
 
--- The pass made the edit: it has one entry more, whose number it had not seen, and one edit less to make.
-pub record HasMadeOne (tag : ℕ) (edit : Edit) (old new : Standing) : Type 0 where
+-- The pass made the edit, after fewer failed claims than so many: it has one entry more, whose number it had not seen,
+-- and one edit less to make.
+pub record HasMadeOne (most tag : ℕ) (edit : Edit) (old new : Standing) : Type 0 where
   pub number : ℕ
   pub reply : Reply
   pub later : old.seen ≤ number
   pub steps : List Act
+  pub few : misses steps < most
   pub new_is : new ≡ record old {
     left = old.left - 1;
     seen = number + 1;
@@ -29,17 +31,21 @@ pub record HasMadeOne (tag : ℕ) (edit : Edit) (old new : Standing) : Type 0 wh
     trail = old.trail ++ steps;
   }
 
--- So many claims failed, at least, and the pass is as before, but for its trail. Where one failed, some part is of
--- another pass.
+-- Just so many claims failed, and the pass is as before, but for its trail. Where one failed, some part is of another
+-- pass.
 pub record HasMissed (count : ℕ) (old new : Standing) : Type 0 where
   pub steps : List Act
-  pub missed : count ≤ misses steps
+  pub missed : misses steps ≡ count
   pub new_is : new ≡ record old { trail = old.trail ++ steps }
   pub others : 0 < count → ¬ (OwnsAll old)
 
+-- 64 claims failed at most, and the pass is as before, but for its trail
+abbrev pub HasMissedSome : Standing → Standing → Type 0
+HasMissedSome old new = (count : ℕ) × (count ≤ 64) × HasMissed count old new
+
 -- what came of so many tries of an edit
 abbrev pub IsTried : ℕ → ℕ → Edit → Tried → Standing → Standing → Type 0
-IsTried count tag edit Made old new = HasMadeOne tag edit old new
+IsTried count tag edit Made old new = HasMadeOne count tag edit old new
 IsTried count tag edit LeftOver old new = HasMissed count old new
 
 -- some pair of the list has this point
@@ -62,7 +68,7 @@ pub record IsLeftOver (pair : Pair) (before left : List Pair) (old new : Standin
 pub record IsDone (pair : Pair) (before left : List Pair) (old new : Standing) : Type 0 where
   pub first : has_point (point_of pair.1) before ≡ false
   pub none : left ≡ before
-  pub made : HasMadeOne pair.0 pair.1 old new
+  pub made : HasMadeOne 64 pair.0 pair.1 old new
 
 -- one of the three
 abbrev pub IsWorkedOn : Pair → List Pair → List Pair → Standing → Standing → Type 0

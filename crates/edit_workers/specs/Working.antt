@@ -56,12 +56,13 @@ first_ones seen (p ∷ l) =
 abbrev pub Stretch : Type 0
 Stretch = Marked × List Act
 
--- For each pair that is left over by itself 64 claims failed, but where it shares its point with one of
--- these or with an earlier one that is left over.
+-- For no pair more than 64 claims failed, and for each that is left over by itself just so many, but where it shares
+-- its point with one of these or with an earlier one that is left over.
 abbrev pub AreTried : List ℕ → List Stretch → Type 0
 AreTried over [] = Unit {0}
 AreTried over (s ∷ l) =
-    (s.0.0 ≡ true → is_among (point_of s.0.1.1) over ≡ false → 64 ≤ misses s.1)
+    (s.0.0 ≡ true → is_among (point_of s.0.1.1) over ≡ false → misses s.1 ≡ 64)
+    × (misses s.1 ≤ 64)
     × AreTried (if s.0.0 then point_of s.0.1.1 ∷ over else over) l
 
 -- Entries of these pairs, in this order: by the pass, with ascending numbers, none below what it had seen.

@@ -3,7 +3,7 @@
 ghost use Rattle.std.specs.Prelude.{◌≡◌, ◌<◌, ◌≤◌, false, IfOk, OnOk, OnErr, length};
 ghost use Rattle.edit_history.specs.Edits.{is_move};
 ghost use Rattle.edit_workers.specs.Dealing.{AreStill};
-ghost use Rattle.edit_workers.specs.Trying.{IsTried, HasMissed, IsWorkedOn, has_point as has_point_of};
+ghost use Rattle.edit_workers.specs.Trying.{IsTried, HasMissed, HasMissedSome, IsWorkedOn, has_point as has_point_of};
 ghost use Rattle.edit_workers.specs.Working.{IsWorked, IsBroken};
 
 use crate::lists::{Left, List};
@@ -71,7 +71,7 @@ fn try_often<G: Gate>(
     requires left { 0 < pass.old.left }
     requires still { is_move edit ≡ false }
     ensures tried { IfOk result (λ tried. IsTried 64 tag edit tried pass.old pass.new) }
-    ensures broken { OnErr result (HasMissed 0 pass.old pass.new) }
+    ensures broken { OnErr result (HasMissedSome pass.old pass.new) }
 {
     let mut turns = FIRST_PAUSE;
     for _tries in 0..TRIES {
@@ -109,7 +109,7 @@ fn work_on<G: Gate>(
     requires left { 0 < pass.old.left }
     requires still { is_move pair.1 ≡ false }
     ensures done { OnOk result (IsWorkedOn pair left.old.pairs.items left.new.pairs.items pass.old pass.new) }
-    ensures broken { OnErr result (HasMissed 0 pass.old pass.new) }
+    ensures broken { OnErr result (HasMissedSome pass.old pass.new) }
 {
     let (tag, edit) = pair;
     if left.has_point(edit.point()) {

@@ -126,6 +126,7 @@ finished id n tag number edit reply w w' u plan a plan_is reply_is told order ba
       knows = told.known;
       count = told.count;
       right = plan_is.ready.right (replay told.history) sh;
+      touched = λ b t. (a.carries.holds b).0 (subst (λ (l : List (Option BucketContent)). IsSome (bucket_at l b)) a.carries.places_are (plan_is.ready.touched (replay told.history) sh b t));
       exact = λ x b. (
         (λ i. plan_is.ready.exact x (replay told.history) sh b (subst (λ (l : List (Option BucketContent)). IsSome (bucket_at l b)) (sym a.carries.places_are) ((a.carries.holds b).1 i))),
         (λ t. (a.carries.holds b).0 (subst (λ (l : List (Option BucketContent)). IsSome (bucket_at l b)) a.carries.places_are (plan_is.ready.touched (replay told.history) sh b t))),

@@ -15,10 +15,10 @@ use Rattle.claim_rule.specs.Good.{StartsWith}
 use Rattle.claim_rule.proofs.Cited.{stands_for}
 use Rattle.grid_claims.specs.declared.view.Key.{Key}
 use Rattle.grid_claims.specs.declared.view.View.{View}
-use Rattle.grid_claims.specs.Faces.{buckets_of, opening_of}
+use Rattle.grid_claims.specs.Faces.{buckets_of, opening_of, plain}
 use Rattle.grid_claims.specs.Homing.{AllHome, IsGathering}
 use Rattle.grid_claims.specs.Rule.{Rule}
-use Rattle.grid_claims.proofs.Claims.{IsAlone}
+use Rattle.grid_claims.proofs.Claims.{IsAlone, on_board}
 use Rattle.grid_claims.proofs.Closing.{all_home, all_made}
 
 pub at_item : (l : List (Option BucketContent)) (i : ℕ) (x : Option BucketContent) → get_elem? l i ≡ some x → bucket_at l i ≡ x
@@ -31,6 +31,7 @@ pub record IsHomed (k : Key) (v : View) (slots : List (Option BucketContent)) : 
   pub home : AllHome k.grid slots
   pub stands : Stands (in_hand_of k.grid slots) (opening_of k ++ v.made)
   pub known : StartsWith (opening_of k ++ v.made) v.known
+  pub seen : v.seen ≤ length (opening_of k ++ v.made)
 
 pub homed : (k : Key) (id : ℕ) (v : View) (words : List ℕ) (slots : List (Option BucketContent)) → length slots ≡ buckets_of k → Final (Seen (Rule k) id v) words slots → 0 < v.parts → v.child ≡ None → v.parts ≡ k.parts → ((b : ℕ) → bucket_at v.held b ≡ None) → IsHomed k v slots
 homed k id v words slots wide f live lone all nothing =
@@ -45,6 +46,7 @@ homed k id v words slots wide f live lone all nothing =
       stands = subst (λ (l : List Entry). Stands (in_hand_of k.grid slots) l) is
           (stands_for k.grid h slots r.good.legal r.good.keys r.good.solid (λ b c e. one c (share_at k.grid b h) (sym e ∙ here b (within slots b c e))));
       known = subst (λ (l : List Entry). StartsWith l v.known) is (r.seats id v f.1.1).known;
+      seen = subst (λ (l : List Entry). v.seen ≤ length l) is (r.good.passes (plain v) (on_board k s h id v r a)).seen;
     }
   where
     one : (x y : BucketContent) → ◌≡◌ {A = Option BucketContent} (Some x) (Some y) → x ≡ y

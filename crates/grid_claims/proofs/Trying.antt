@@ -1,9 +1,10 @@
 -- A whole try, as contracts see it.
-use Rattle.std.specs.Prelude.{◌≡◌, ℕ, ◌+◌, ◌-◌, ◌<◌, List, [], ◌∷◌, ◌++◌, map, reverse, length, None, Result, Ok, Err, IfOk, IfErr}
+use Rattle.std.specs.Prelude.{◌≡◌, ℕ, ◌+◌, ◌-◌, ◌*◌, ◌<◌, List, [], ◌∷◌, ◌++◌, map, reverse, length, None, Result, Ok, Err, IfOk, IfErr}
 use Rattle.std.proofs.Common.{refl, sym, ◌∙◌, ap, subst}
 use Rattle.std.proofs.lemmas.List.{append_assoc, append-nil}
 use Rattle.std.proofs.lemmas.List.Sorted.{IsPermutation-reverse}
 use Rattle.list_laws.specs.Lists.{AreDistinct}
+use Rattle.list_laws.proofs.Cited.{some_of, within}
 use Rattle.atomic_table.specs.Seated.{TableId}
 use Rattle.edit_history.specs.declared.history.Edit.{Edit}
 use Rattle.edit_history.specs.declared.history.Entry.{Entry}
@@ -11,6 +12,8 @@ use Rattle.edit_history.specs.declared.history.Reply.{Reply}
 use Rattle.edit_history.specs.Histories.{replay}
 use Rattle.claim_rule.specs.Good.{StartsWith}
 use Rattle.cell_store.specs.Buckets.{bucket_at}
+use Rattle.cell_store.specs.Touches.{IsTouched}
+use Rattle.point_order.specs.Sets.{IsIn}
 use Rattle.grid_claims.specs.declared.hands.Hands.{Hands}
 use Rattle.grid_claims.specs.declared.table.Receipt.{Receipt}
 use Rattle.grid_claims.specs.declared.table.Refused.{Refused}
@@ -63,9 +66,9 @@ around id n w mid done middle a none c = record {
   steps_are = refl;
 }
 
-pub tried_edited : (id : TableId) (n tag number : ℕ) (edit : Edit) (reply : Reply) (w mid u : Hands) → 0 < w.place.me.0.left → AreHands id n w → AreHands id n mid → AreHands id n u → w.order.items ≡ [] → HasClaimed w mid [] → IsFinished tag edit reply number mid u
+pub tried_edited : (id : TableId) (n tag number : ℕ) (edit : Edit) (reply : Reply) (w mid u : Hands) → 0 < w.place.me.0.left → n ≡ w.place.me.0.grid * w.place.me.0.grid * w.place.me.0.grid → AreHands id n w → AreHands id n mid → AreHands id n u → w.order.items ≡ [] → HasClaimed w mid [] → IsFinished tag edit reply number mid u
     → IsEdited tag edit number reply (standing w.place.table_id w.place.me.0) (standing u.place.table_id u.place.me.0)
-tried_edited id n tag number edit reply w mid u some a b d none c f =
+tried_edited id n tag number edit reply w mid u some wide a b d none c f =
     let v : View = w.place.me.0 in
     let same : mid.order.items ≡ c.more = claimed_all w mid [] none c in
     let tail : (v.trail ++ (map Claim c.more ++ [])) ++ Commit number ∷ releases_of mid.order.items ≡ v.trail ++ (map Claim c.more ++ (Commit number ∷ []) ++ releases_of c.more) =
@@ -84,12 +87,14 @@ tried_edited id n tag number edit reply w mid u some a b d none c f =
       few = f.few;
       steps = map Claim c.more ++ (Commit number ∷ []) ++ releases_of c.more;
       around = around id n w mid [] (Commit number ∷ []) b none c;
+      below = λ k i. (let x = some_of (bucket_at mid.hold.places k) ((b.carries.holds k).1 (subst (λ (l : List ℕ). IsIn k l) (sym same) i)) in subst (λ (m : ℕ). k < m) (b.places ∙ wide) (within mid.hold.places k x.0 x.1));
       history = f.history;
       after = record {
         legal = f.legal;
         knows = subst (λ (l : List Entry). StartsWith f.history l) (ap (λ (x : View). x.known) c.view) f.knows;
         count = f.count;
         right = f.right;
+        touched = subst (λ (t : ℕ × List ℕ). (b : ℕ) → IsTouched t.0 (replay f.history) edit b → IsIn b t.1) (λ i. ((c.view i).grid, same i)) f.touched;
         exact = λ x. subst (λ (t : ℕ × List ℕ). AreTouched t.0 (replay f.history) edit t.1) (λ i. ((c.view i).grid, same i)) (f.exact x);
       };
       new_is = λ i. standing (table i) (view i);

@@ -32,6 +32,8 @@ use Rattle.point_order.specs.Complex.{complex}
 use Rattle.point_order.specs.declared.cell.Cell.{Cell}
 use Rattle.cell_store.specs.Ready.{AreHeld}
 use Rattle.cell_store.specs.Shares.{Shows}
+use Rattle.cell_store.specs.Touches.{IsTouched}
+use Rattle.point_order.specs.Sets.{IsIn}
 use Rattle.grid_claims.specs.declared.hands.Hands.{Hands}
 use Rattle.edit_plans.specs.declared.planner.Plan.{Plan}
 use Rattle.grid_claims.specs.declared.table.Refused.{Refused}
@@ -132,6 +134,7 @@ pub record IsFinished (tag : ℕ) (edit : Edit) (reply : Reply) (number : ℕ) (
   pub knows : StartsWith history old.place.me.0.known
   pub count : length history ≡ number
   pub right : reply ≡ reply_to (replay history) edit
+  pub touched : (b : ℕ) → IsTouched old.place.me.0.grid (replay history) edit b → IsIn b old.order.items
   pub exact : IsExact edit reply → AreTouched old.place.me.0.grid (replay history) edit old.order.items
   pub view : new.place.me.0 ≡ record old.place.me.0 {
     held = new.hold.places;

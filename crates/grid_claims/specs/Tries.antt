@@ -34,6 +34,8 @@ use Rattle.grid_claims.specs.declared.view.Act.TheVariants.{Claim, Miss, Commit,
 use Rattle.grid_claims.specs.declared.table.Refused.{Refused}
 use Rattle.grid_claims.specs.declared.table.Refused.TheVariants.{Spent, Busy, Memory}
 use Rattle.cell_store.specs.Meshes.{by_number}
+use Rattle.cell_store.specs.Touches.{IsTouched}
+use Rattle.point_order.specs.Sets.{IsIn}
 use Rattle.grid_claims.specs.Lists.{entries_by, longer}
 use Rattle.grid_claims.specs.Trails.{IsExact, AreTouched}
 use Rattle.grid_claims.specs.Passes.{Opened, Standing}
@@ -69,25 +71,27 @@ pub record AreClaimsAround (middle : List Act) (steps : List Act) : Type 0 where
 -- ---- an edit
 
 -- What the history was when an edit was committed. It is legal and begins with what the pass knew, its length is the
--- number of the entry, and the reply is that of the points that it leaves; where the edit is exact, the claimed buckets
--- are just those that it touches.
+-- number of the entry, and the reply is that of the points that it leaves; all buckets that the edit touches were
+-- claimed, and where it is exact no other.
 pub record IsCommittedAfter (g : ℕ) (edit : Edit) (number : ℕ) (reply : Reply) (known : List Entry) (claims : List ℕ)
     (h : List Entry) : Type 0 where
   pub legal : IsLegal h
   pub knows : StartsWith h known
   pub count : length h ≡ number
   pub right : reply ≡ reply_to (replay h) edit
+  pub touched : (b : ℕ) → IsTouched g (replay h) edit b → IsIn b claims
   pub exact : IsExact edit reply → AreTouched g (replay h) edit claims
 
 -- The edit was made: the pass has one entry more, of this number and reply, it has so much less left, it has seen the
 -- entry, and it took these
--- steps: claims, one commit, which found the number, and the releases.
+-- steps: claims of buckets of the table, one commit, which found the number, and the releases.
 pub record IsEdited (tag : ℕ) (edit : Edit) (number : ℕ) (reply : Reply) (old new : Standing) : Type 0 where
   pub some_left : 0 < old.left
   pub later : old.seen ≤ number
   pub few : number < 2 ^ 32
   pub steps : List Act
   pub around : AreClaimsAround (Commit number ∷ []) steps
+  pub below : (b : ℕ) → IsIn b around.claims → b < buckets_of old.table
   pub history : List Entry
   pub after : IsCommittedAfter old.table.grid edit number reply old.known around.claims history
   pub new_is : new ≡ record old {

@@ -271,6 +271,7 @@ impl MeshTable {
         requires all { pass.parts ≡ self.parts }
         ensures mesh { result ≡ record { grid = self.grid; history = self.opening ++ pass.made } }
         ensures known { StartsWith (self.opening ++ pass.made) pass.known }
+        ensures seen { pass.seen ≤ length (self.opening ++ pass.made) }
     {
         let MeshTable { board, mut hold } = self;
         let Pass { hands, .. } = pass;

@@ -1,4 +1,4 @@
-use Rattle.std.proofs.Common.{◌≡◌, ◌++◌, ℕ, List, Option, length, sym, ◌∙◌, ap, subst}
+use Rattle.std.proofs.Common.{◌≡◌, ◌≤◌, ◌++◌, ℕ, List, Option, length, sym, ◌∙◌, ap, subst}
 use Rattle.std.specs.Mem.Slots.{slots_items, slots_counts}
 use Rattle.edit_history.specs.declared.history.Entry.{Entry}
 use Rattle.cell_store.specs.Buckets.{BucketContent, InHand}
@@ -90,3 +90,18 @@ returns-clause-known c =
     let d = homed k place.id v (slots_items closed.words) items wide (last_of told.values) r.some_part r.no_child all r.nothing in
     let grid = ap (λ (h : InHand). h.grid) c.self.invariant.2 in
     subst (λ (t : List Entry × List Entry). StartsWith t.0 t.1) (λ i. ((c.self.view_is i).opening ++ (c.pass.view_is i).made, (c.pass.view_is i).known)) d.known
+
+pub returns-clause-seen : goal.returns-clause-seen
+returns-clause-seen c =
+    let k = c.self.inside.board.shared.key in
+    let place = c.pass.inside.hands.place in
+    let v : View = place.me.0 in
+    let r = c.pass.invariant.0.rest in
+    let told = c.close_with-closed.ensures in
+    let closed = c.close_with-closed.result in
+    let items : List (Option BucketContent) = slots_items closed.slots in
+    let all : v.parts ≡ k.parts = (λ i. (c.pass.view_is i).parts) ∙ c.requires.all ∙ (λ i. (sym c.self.view_is i).parts) in
+    let wide : length items ≡ buckets_of k = sym (slots_counts closed.slots).0 ∙ told.counts.1 ∙ c.self.invariant.1 in
+    let d = homed k place.id v (slots_items closed.words) items wide (last_of told.values) r.some_part r.no_child all r.nothing in
+    let grid = ap (λ (h : InHand). h.grid) c.self.invariant.2 in
+    subst (λ (t : ℕ × List Entry). t.0 ≤ length t.1) (λ i. ((c.pass.view_is i).seen, (c.self.view_is i).opening ++ (c.pass.view_is i).made)) d.seen
