@@ -36,8 +36,5 @@ pub fn kinds_of_admitted(
 pub fn marks(alloc: Global, leasts: &[u64], alpha: u64) -> Result<Vec<bool>, AllocError>
     ensures { IfOk result (λ v. v.items ≡ map (λ n. nat_le n alpha) leasts.now) }
 {
-    leasts
-        .iter()
-        .map(|least| *least <= alpha)
-        .collect(alloc)
+    leasts.iter().map(|least| *least <= alpha).collect(alloc)
 }

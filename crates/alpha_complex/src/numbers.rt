@@ -72,8 +72,8 @@ pub struct Alphas<'a, 'b> {
 }
 
 impl<'a, 'b> Alphas<'a, 'b> {
-    /// The alpha complex for one alpha, a squared radius in sixteenths, below 2^34, as `alpha` gives it: a comparison for each face,
-    /// and two for the kind of each that is admitted. It borrows the faces, and not these numbers.
+    /// The alpha complex for one alpha, a squared radius in sixteenths, below 2^34, as `alpha` gives it: a comparison
+    /// for each face, and two for the kind of each that is admitted. It borrows the faces, and not these numbers.
     ///
     /// # Errors
     /// Want of memory.

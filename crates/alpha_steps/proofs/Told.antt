@@ -1,5 +1,31 @@
 -- Faces with their thresholds, in the order of the faces.
-use Rattle.std.proofs.Common.{◌≡◌, refl, sym, subst, ap, ap₂, ◌∙◌, ℕ, zero, suc, ◌<◌, ◌^◌, inl, inr, Bool, true, false, List, [], ◌∷◌, map, length, get_or, arith, nat_le}
+use Rattle.std.proofs.Common.{
+  ◌≡◌,
+  refl,
+  sym,
+  subst,
+  ap,
+  ap₂,
+  ◌∙◌,
+  ℕ,
+  zero,
+  suc,
+  ◌<◌,
+  ◌^◌,
+  inl,
+  inr,
+  Bool,
+  true,
+  false,
+  List,
+  [],
+  ◌∷◌,
+  map,
+  length,
+  get_or,
+  arith,
+  nat_le,
+}
 use Rattle.std.specs.Prelude.{None, zip, nat_lt, if◌then◌else◌}
 use Rattle.std.specs.List.{AllZip}
 use Rattle.std.proofs.lemmas.Bool.{cases_lt}
@@ -23,7 +49,15 @@ use Rattle.text_sheets.specs.Lines.{held}
 use Rattle.alpha_steps.specs.declared.threshold.Threshold.{Threshold}
 use Rattle.alpha_steps.specs.declared.threshold.Threshold.TheVariants.{At, Never}
 use Rattle.alpha_steps.specs.declared.steps.Thresholds.TheInside.{Inside}
-use Rattle.alpha_steps.specs.Seen.{AreCounted, StepSlots, cell_steps_of, step_of_cell, steps_of, steps_seen, threshold_of}
+use Rattle.alpha_steps.specs.Seen.{
+  AreCounted,
+  StepSlots,
+  cell_steps_of,
+  step_of_cell,
+  steps_of,
+  steps_seen,
+  threshold_of,
+}
 use Rattle.alpha_steps.specs.Thresholds.{AreThresholds, IsStep}
 
 -- ---- lists of the same length
@@ -35,25 +69,31 @@ zip_count (x ∷ xs) [] e = absurd (omega (arith, e))
 zip_count (x ∷ xs) (y ∷ ys) e = ap suc (zip_count xs ys (omega (arith, e)))
 
 -- as many faces with thresholds as numbers
-pub step_count : {X : Type 0} (xs : List X) (alphas : List FaceAlphas) → length alphas ≡ length xs → length alphas ≡ length (steps_of xs alphas)
+pub step_count : {X : Type 0} (xs : List X) (alphas : List FaceAlphas) → length alphas ≡ length xs →
+    length alphas ≡ length (steps_of xs alphas)
 step_count xs alphas e =
     let n = length-map alphas (λ (a : FaceAlphas). threshold_of a.admitted) in
     sym n ∙ sym (zip_count xs (map (λ a. threshold_of a.admitted) alphas) (n ∙ e))
 
-pub cell_step_count : (cells : List Cell) (ns : List ℕ) → length ns ≡ length cells → length ns ≡ length (cell_steps_of cells ns)
-cell_step_count cells ns e = sym (length-map (zip cells ns) (λ (c : Cell × ℕ). step_of_cell c.0 c.1) ∙ zip_count cells ns e)
+pub cell_step_count : (cells : List Cell) (ns : List ℕ) → length ns ≡ length cells →
+    length ns ≡ length (cell_steps_of cells ns)
+cell_step_count cells ns e = sym (length-map (zip cells ns) (λ (c : Cell × ℕ). step_of_cell c.0 c.1) ∙ zip_count cells
+    ns e)
 
 -- the face of an index with its threshold
 pub step_is :
-    {X : Type 0} (xs : List X) (alphas : List FaceAlphas) (i : ℕ) (x : X) (d : FaceAlphas) (t : Threshold) (r : X × Threshold) → i < length xs → i < length alphas →
+    {X : Type 0} (xs : List X) (alphas : List FaceAlphas) (i : ℕ) (x : X) (d : FaceAlphas) (t : Threshold)
+    (r : X × Threshold) → i < length xs → i < length alphas →
     x ≡ get_or xs i x → t ≡ threshold_of (get_or alphas i d).admitted → (x, t) ≡ get_or (steps_of xs alphas) i r
 step_is [] alphas i x d t r h k e f = absurd (omega (arith, h))
 step_is (y ∷ xs) [] i x d t r h k e f = absurd (omega (arith, k))
 step_is (y ∷ xs) (b ∷ alphas) zero x d t r h k e f = ap₂ (λ v w. (v, w)) e f
-step_is (y ∷ xs) (b ∷ alphas) (suc i) x d t r h k e f = step_is xs alphas i x d t r (omega (arith, h)) (omega (arith, k)) e f
+step_is (y ∷ xs) (b ∷ alphas) (suc i) x d t r h k e f = step_is xs alphas i x d t r (omega (arith, h))
+    (omega (arith, k)) e f
 
 -- and the cell of an index
-pub cell_step_is : (cells : List Cell) (ns : List ℕ) (i : ℕ) (c : Cell) (n : ℕ) → i < length cells → i < length ns → step_of_cell (get_or cells i c) (get_or ns i n) ≡ get_or (cell_steps_of cells ns) i None
+pub cell_step_is : (cells : List Cell) (ns : List ℕ) (i : ℕ) (c : Cell) (n : ℕ) → i < length cells → i < length ns →
+    step_of_cell (get_or cells i c) (get_or ns i n) ≡ get_or (cell_steps_of cells ns) i None
 cell_step_is [] ns i c n h k = absurd (omega (arith, h))
 cell_step_is (x ∷ cells) [] i c n h k = absurd (omega (arith, k))
 cell_step_is (x ∷ cells) (y ∷ ns) zero c n h k = refl
@@ -61,14 +101,16 @@ cell_step_is (x ∷ cells) (y ∷ ns) (suc i) c n h k = cell_step_is cells ns i 
 
 -- ---- what is listed
 
-zip_firsts : {X : Type 0} (xs : List X) (alphas : List FaceAlphas) → length alphas ≡ length xs → map (λ f. f.0) (steps_of xs alphas) ≡ xs
+zip_firsts : {X : Type 0} (xs : List X) (alphas : List FaceAlphas) → length alphas ≡ length xs →
+    map (λ f. f.0) (steps_of xs alphas) ≡ xs
 zip_firsts [] [] e = refl
 zip_firsts [] (a ∷ alphas) e = absurd (omega (arith, e))
 zip_firsts (x ∷ xs) [] e = absurd (omega (arith, e))
 zip_firsts {X} (x ∷ xs) (a ∷ alphas) e = ap (λ (v : List X). x ∷ v) (zip_firsts xs alphas (omega (arith, e)))
 
 -- the cells are the Full ones
-pub cell_firsts : (cells : List Cell) (ns : List ℕ) → length ns ≡ length cells → map (λ f. f.0) (held (cell_steps_of cells ns)) ≡ full_cells cells
+pub cell_firsts : (cells : List Cell) (ns : List ℕ) → length ns ≡ length cells →
+    map (λ f. f.0) (held (cell_steps_of cells ns)) ≡ full_cells cells
 cell_firsts [] [] e = refl
 cell_firsts [] (n ∷ ns) e = absurd (omega (arith, e))
 cell_firsts (c ∷ cells) [] e = absurd (omega (arith, e))
@@ -76,14 +118,17 @@ cell_firsts (Full q ∷ cells) (n ∷ ns) e = ap (λ (v : List (List ℕ)). q �
 cell_firsts (Open t ∷ cells) (n ∷ ns) e = cell_firsts cells ns (omega (arith, e))
 
 -- and so they are counted
-pub cell_held : (cells : List Cell) (ns : List ℕ) → length ns ≡ length cells → length (full_cells cells) ≡ length (held (cell_steps_of cells ns))
+pub cell_held : (cells : List Cell) (ns : List ℕ) → length ns ≡ length cells →
+    length (full_cells cells) ≡ length (held (cell_steps_of cells ns))
 cell_held cells ns e =
-    sym (ap length (cell_firsts cells ns e)) ∙ length-map (held (cell_steps_of cells ns)) (λ (f : List ℕ × Threshold). f.0)
+    sym (ap length (cell_firsts cells ns e)) ∙ length-map (held (cell_steps_of cells ns))
+    (λ (f : List ℕ × Threshold). f.0)
 
 -- ---- thresholds
 
 -- what a least alpha tells
-pub step_from : (s face : List ℕ) (n : ℕ) → IsLeastOf (λ alpha. is_admitted s alpha face) n → IsStep s face (threshold_of n)
+pub step_from : (s face : List ℕ) (n : ℕ) → IsLeastOf (λ alpha. is_admitted s alpha face) n →
+    IsStep s face (threshold_of n)
 step_from s face n h = elim (cases_lt n (2 ^ 34)) [
   | inl l ↦
       let e : nat_lt n (2 ^ 34) ≡ true = grind (arith, nat_tests) in
@@ -106,19 +151,23 @@ step_from s face n h = elim (cases_lt n (2 ^ 34)) [
     above alpha k = grind (arith, nat_tests)
 
 -- of faces
-steps_told : (s : List ℕ) (faces : List (List ℕ)) (alphas : List FaceAlphas) → AllZip (TellsFace s) faces alphas → (f : List ℕ × Threshold) → IsIn f (steps_of faces alphas) → IsStep s f.0 f.1
+steps_told : (s : List ℕ) (faces : List (List ℕ)) (alphas : List FaceAlphas) → AllZip (TellsFace s) faces alphas →
+    (f : List ℕ × Threshold) → IsIn f (steps_of faces alphas) → IsStep s f.0 f.1
 steps_told s [] alphas z f i = absurd i
 steps_told s (p ∷ faces) [] z f i = absurd i
-steps_told s (p ∷ faces) (a ∷ alphas) z f (inl e) = subst (λ (v : List ℕ × Threshold). IsStep s v.0 v.1) e (step_from s p a.admitted z.0.admitted)
+steps_told s (p ∷ faces) (a ∷ alphas) z f (inl e) = subst (λ (v : List ℕ × Threshold). IsStep s v.0 v.1) e
+    (step_from s p a.admitted z.0.admitted)
 steps_told s (p ∷ faces) (a ∷ alphas) z f (inr i) = steps_told s faces alphas z.1 f i
 
 -- of cells
 cell_steps_told :
-    (s : List ℕ) (cells : List Cell) (ns : List ℕ) → AllZip (λ c n. IsLeastOf (λ alpha. is_admitted_cell s alpha c) n) cells ns → (f : List ℕ × Threshold) → IsIn f (held (cell_steps_of cells ns)) →
+    (s : List ℕ) (cells : List Cell) (ns : List ℕ) → AllZip (λ c n. IsLeastOf (λ alpha. is_admitted_cell s alpha c) n)
+    cells ns → (f : List ℕ × Threshold) → IsIn f (held (cell_steps_of cells ns)) →
     IsStep s f.0 f.1
 cell_steps_told s [] ns z f i = absurd i
 cell_steps_told s (c ∷ cells) [] z f i = absurd i
-cell_steps_told s (Full q ∷ cells) (n ∷ ns) z f (inl e) = subst (λ (v : List ℕ × Threshold). IsStep s v.0 v.1) e (step_from s q n z.0)
+cell_steps_told s (Full q ∷ cells) (n ∷ ns) z f (inl e) = subst (λ (v : List ℕ × Threshold). IsStep s v.0 v.1) e
+    (step_from s q n z.0)
 cell_steps_told s (Full q ∷ cells) (n ∷ ns) z f (inr i) = cell_steps_told s cells ns z.1 f i
 cell_steps_told s (Open t ∷ cells) (n ∷ ns) z f i = cell_steps_told s cells ns z.1 f i
 
@@ -132,23 +181,35 @@ points_are [] cells = refl
 points_are (p ∷ points) cells = ap (λ l. p ∷ l) (points_are points cells)
 
 -- the thresholds of the complex of a set
-pub thresholds_are : (s : List ℕ) (faces : FaceLists) (known : Alphas) → AreFacesOf s faces → known.faces.now ≡ faces → TellsFaces s known → AreThresholds s (steps_seen (record { known = known }))
+pub thresholds_are : (s : List ℕ) (faces : FaceLists) (known : Alphas) → AreFacesOf s faces → known.faces.now ≡ faces →
+    TellsFaces s known → AreThresholds s (steps_seen (record { known = known }))
 thresholds_are s faces known h e t =
-    let pairs : map (λ f. f.0) known.faces.now.pairs ≡ parts 2 = ap (λ (v : FaceLists). map (λ f. f.0) v.pairs) e ∙ ap (λ (v : List (List ℕ × List Cell)). map (λ f. f.0) v) h.pairs ∙ faces_are (parts 2) (complex s) in
-    let triples : map (λ f. f.0) known.faces.now.triples ≡ parts 3 = ap (λ (v : FaceLists). map (λ f. f.0) v.triples) e ∙ ap (λ (v : List (List ℕ × List Cell)). map (λ f. f.0) v) h.triples ∙ faces_are (parts 3) (complex s) in
+    let pairs : map (λ f. f.0) known.faces.now.pairs ≡ parts 2 = ap (λ (v : FaceLists). map (λ f. f.0) v.pairs) e ∙ ap
+    (λ (v : List (List ℕ × List Cell)). map (λ f. f.0) v) h.pairs ∙ faces_are (parts 2) (complex s) in
+    let triples : map (λ f. f.0) known.faces.now.triples ≡ parts 3 =
+    ap (λ (v : FaceLists). map (λ f. f.0) v.triples) e ∙ ap (λ (v : List (List ℕ × List Cell)). map (λ f. f.0) v)
+    h.triples ∙ faces_are (parts 3) (complex s) in
     let cells : known.faces.now.cells ≡ complex s = ap (λ (v : FaceLists). v.cells) e ∙ h.cells in
     let pair_count = length_zip (TellsFace s) (parts 2) known.pairs.items t.pairs in
     let triple_count = length_zip (TellsFace s) (parts 3) known.triples.items t.triples in
-    let cell_count = length_zip (λ c n. IsLeastOf (λ alpha. is_admitted_cell s alpha c) n) (complex s) known.cells.items t.cells in
+    let cell_count = length_zip (λ c n. IsLeastOf (λ alpha. is_admitted_cell s alpha c) n) (complex s) known.cells.items
+    t.cells in
     record {
-      points = ap (λ (v : FaceLists). map (λ f. f.0) v.points) e ∙ ap (λ (v : List (ℕ × List Cell)). map (λ f. f.0) v) h.points ∙ points_are (points_in (complex s)) (complex s)
+      points = ap (λ (v : FaceLists). map (λ f. f.0) v.points) e ∙ ap (λ (v : List (ℕ × List Cell)). map (λ f. f.0) v)
+          h.points ∙ points_are (points_in (complex s)) (complex s)
           ∙ points_of_complex s h.ascending h.keys h.solid;
-      pairs = ap (λ (v : List (List ℕ)). map (λ f. f.0) (steps_of v known.pairs.items)) pairs ∙ zip_firsts (parts 2) known.pairs.items (sym pair_count);
-      triples = ap (λ (v : List (List ℕ)). map (λ f. f.0) (steps_of v known.triples.items)) triples ∙ zip_firsts (parts 3) known.triples.items (sym triple_count);
-      cells = ap (λ (v : List Cell). map (λ f. f.0) (held (cell_steps_of v known.cells.items))) cells ∙ cell_firsts (complex s) known.cells.items (sym cell_count);
-      of_pairs = λ f i. steps_told s (parts 2) known.pairs.items t.pairs f (subst (λ (v : List (List ℕ)). IsIn f (steps_of v known.pairs.items)) pairs i);
-      of_triples = λ f i. steps_told s (parts 3) known.triples.items t.triples f (subst (λ (v : List (List ℕ)). IsIn f (steps_of v known.triples.items)) triples i);
-      of_cells = λ f i. cell_steps_told s (complex s) known.cells.items t.cells f (subst (λ (v : List Cell). IsIn f (held (cell_steps_of v known.cells.items))) cells i);
+      pairs = ap (λ (v : List (List ℕ)). map (λ f. f.0) (steps_of v known.pairs.items)) pairs ∙ zip_firsts (parts 2)
+          known.pairs.items (sym pair_count);
+      triples = ap (λ (v : List (List ℕ)). map (λ f. f.0) (steps_of v known.triples.items)) triples ∙ zip_firsts
+          (parts 3) known.triples.items (sym triple_count);
+      cells = ap (λ (v : List Cell). map (λ f. f.0) (held (cell_steps_of v known.cells.items))) cells ∙ cell_firsts
+          (complex s) known.cells.items (sym cell_count);
+      of_pairs = λ f i. steps_told s (parts 2) known.pairs.items t.pairs f
+          (subst (λ (v : List (List ℕ)). IsIn f (steps_of v known.pairs.items)) pairs i);
+      of_triples = λ f i. steps_told s (parts 3) known.triples.items t.triples f
+          (subst (λ (v : List (List ℕ)). IsIn f (steps_of v known.triples.items)) triples i);
+      of_cells = λ f i. cell_steps_told s (complex s) known.cells.items t.cells f
+          (subst (λ (v : List Cell). IsIn f (held (cell_steps_of v known.cells.items))) cells i);
     }
   where
     parts : ℕ → List (List ℕ)
@@ -156,18 +217,26 @@ thresholds_are s faces known h e t =
 
 -- ---- as they are seen
 
-pub pairs_as_seen : (t : Inside) (v : StepSlots) → AreCounted t → steps_seen t ≡ v → length t.known.pairs.items ≡ length v.pairs
+pub pairs_as_seen : (t : Inside) (v : StepSlots) → AreCounted t → steps_seen t ≡ v →
+    length t.known.pairs.items ≡ length v.pairs
 pairs_as_seen t v h e =
-    step_count (map (λ f. f.0) t.known.faces.now.pairs) t.known.pairs.items (h.pairs ∙ sym (length-map t.known.faces.now.pairs (λ (f : List ℕ × List Cell). f.0)))
+    step_count (map (λ f. f.0) t.known.faces.now.pairs) t.known.pairs.items
+    (h.pairs ∙ sym (length-map t.known.faces.now.pairs (λ (f : List ℕ × List Cell). f.0)))
     ∙ ap (λ (w : StepSlots). length w.pairs) e
 
-pub triples_as_seen : (t : Inside) (v : StepSlots) → AreCounted t → steps_seen t ≡ v → length t.known.triples.items ≡ length v.triples
+pub triples_as_seen : (t : Inside) (v : StepSlots) → AreCounted t → steps_seen t ≡ v →
+    length t.known.triples.items ≡ length v.triples
 triples_as_seen t v h e =
-    step_count (map (λ f. f.0) t.known.faces.now.triples) t.known.triples.items (h.triples ∙ sym (length-map t.known.faces.now.triples (λ (f : List ℕ × List Cell). f.0)))
+    step_count (map (λ f. f.0) t.known.faces.now.triples) t.known.triples.items
+    (h.triples ∙ sym (length-map t.known.faces.now.triples (λ (f : List ℕ × List Cell). f.0)))
     ∙ ap (λ (w : StepSlots). length w.triples) e
 
-pub cells_as_seen : (t : Inside) (v : StepSlots) → AreCounted t → steps_seen t ≡ v → length t.known.cells.items ≡ length v.cells
-cells_as_seen t v h e = cell_step_count t.known.faces.now.cells t.known.cells.items h.cells ∙ ap (λ (w : StepSlots). length w.cells) e
+pub cells_as_seen : (t : Inside) (v : StepSlots) → AreCounted t → steps_seen t ≡ v →
+    length t.known.cells.items ≡ length v.cells
+cells_as_seen t v h e = cell_step_count t.known.faces.now.cells t.known.cells.items h.cells ∙ ap
+    (λ (w : StepSlots). length w.cells) e
 
-pub cells_held : (t : Inside) (v : StepSlots) → AreCounted t → steps_seen t ≡ v → length (full_cells t.known.faces.now.cells) ≡ length (held v.cells)
-cells_held t v h e = cell_held t.known.faces.now.cells t.known.cells.items h.cells ∙ ap (λ (w : StepSlots). length (held w.cells)) e
+pub cells_held : (t : Inside) (v : StepSlots) → AreCounted t → steps_seen t ≡ v →
+    length (full_cells t.known.faces.now.cells) ≡ length (held v.cells)
+cells_held t v h e = cell_held t.known.faces.now.cells t.known.cells.items h.cells ∙ ap
+    (λ (w : StepSlots). length (held w.cells)) e

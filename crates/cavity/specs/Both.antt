@@ -10,6 +10,7 @@ IsOtherThan others c d = (c ≡ d) × (IsIn c others → ⊥)
 -- The list has exactly the first cells that are none of those beside them, and the second ones that are none of those
 -- beside them.
 pub record AreOfBoth (first but_first second but_second list : List Cell) : Type 0 where
-  pub each : (c : Cell) → IsIn c list → (IsIn c first × (IsIn c but_first → ⊥)) ⊎ (IsIn c second × (IsIn c but_second → ⊥))
+  pub each : (c : Cell) → IsIn c list → (IsIn c first × (IsIn c but_first → ⊥)) ⊎
+      (IsIn c second × (IsIn c but_second → ⊥))
   pub one : (c : Cell) → IsIn c first → (IsIn c but_first → ⊥) → IsIn c list
   pub other : (c : Cell) → IsIn c second → (IsIn c but_second → ⊥) → IsIn c list

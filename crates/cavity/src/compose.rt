@@ -65,7 +65,19 @@ pub fn composed(alloc: Global, first: &Fresh, second: &Fresh) -> Result<Fresh, A
         IsChange t u second.now.gone.items second.now.fresh.items → IsChange s u f.gone.items f.fresh.items) }
 {
     Ok(Fresh {
-        gone: of_both(alloc, &first.gone, &second.fresh, &second.gone, &first.fresh)?,
-        fresh: of_both(alloc, &first.fresh, &second.gone, &second.fresh, &first.gone)?,
+        gone: of_both(
+            alloc,
+            &first.gone,
+            &second.fresh,
+            &second.gone,
+            &first.fresh,
+        )?,
+        fresh: of_both(
+            alloc,
+            &first.fresh,
+            &second.gone,
+            &second.fresh,
+            &first.gone,
+        )?,
     })
 }

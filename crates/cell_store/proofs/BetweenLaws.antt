@@ -1,12 +1,45 @@
 -- A hold with one point more, for a while.
-use Rattle.std.specs.Prelude.{◌≡◌, ℕ, suc, ◌==◌, Bool, true, false, cond, not, List, [], ◌∷◌, ◌++◌, ◌⊎◌, Option, None, Some, IsSome, length}
+use Rattle.std.specs.Prelude.{
+  ◌≡◌,
+  ℕ,
+  suc,
+  ◌==◌,
+  Bool,
+  true,
+  false,
+  cond,
+  not,
+  List,
+  [],
+  ◌∷◌,
+  ◌++◌,
+  ◌⊎◌,
+  Option,
+  None,
+  Some,
+  IsSome,
+  length,
+}
 use Rattle.std.specs.List.{filter}
 use Rattle.std.specs.List.Sorted.{IsStrictlySortedBy}
 use Rattle.std.specs.Option.{option_map, option_map_or}
 use Rattle.std.proofs.Common.{refl, sym, ◌∙◌, ap, subst, inl, inr, arith}
 use Rattle.std.proofs.lemmas.Bool.{eqb-true}
 use Rattle.std.proofs.lemmas.List.Kept.{IsStrictlySortedBy-filter}
-use Rattle.list_laws.proofs.Cited.{among_from, among_true, any_from, false_if, filtered_ascending, filtered_from, filtered_true, from_append, in_left, in_right, some_mapped, same_members as same-members}
+use Rattle.list_laws.proofs.Cited.{
+  among_from,
+  among_true,
+  any_from,
+  false_if,
+  filtered_ascending,
+  filtered_from,
+  filtered_true,
+  from_append,
+  in_left,
+  in_right,
+  some_mapped,
+  same_members as same-members,
+}
 use Rattle.point_order.specs.declared.cell.Cell.{Cell}
 use Rattle.point_order.specs.CellOrder.{cell_cmp}
 use Rattle.point_order.specs.Complex.{complex}
@@ -29,7 +62,15 @@ use Rattle.cell_store.specs.Changes.{dropped_in, put_in, swapped_in, IsChange, I
 use Rattle.cell_store.specs.Ready.{AreHeld, FindsCells}
 use Rattle.cell_store.proofs.HandLaws.{held_point}
 use Rattle.cell_store.specs.Touches.{IsTouched}
-use Rattle.cell_store.specs.Between.{ChangesCompose, Enters, EnteredShows, WasEntered, IsEntered, LeftIsSame, SightOutside}
+use Rattle.cell_store.specs.Between.{
+  ChangesCompose,
+  Enters,
+  EnteredShows,
+  WasEntered,
+  IsEntered,
+  LeftIsSame,
+  SightOutside,
+}
 use Rattle.cell_stars.proofs.Cited.{in_or_not, swapped_back, swapped_none, swapped_sorted}
 use Rattle.cell_store.proofs.AnyLaws.{change_finds_cells, put_points}
 use Rattle.cell_store.proofs.NextLaws.{cells_next, filter_with_else, lies, mapped_some}
@@ -37,16 +78,20 @@ use Rattle.cell_store.proofs.ShareLaws.{solid_set}
 use Rattle.cell_store.proofs.TouchLaws.{all_out, left_out, own_touched}
 
 -- the cells of a complex that touch a bucket, exchanged, are those of the next complex
-pub cells_then : (g b : ℕ) (s t : List ℕ) (gone fresh : List Cell) → IsAscending s → IsAscending t → IsChange (complex s) (complex t) gone fresh → swapped g b gone fresh (filter (touches g b) (complex s)) ≡ filter (touches g b) (complex t)
+pub cells_then : (g b : ℕ) (s t : List ℕ) (gone fresh : List Cell) → IsAscending s → IsAscending t →
+    IsChange (complex s) (complex t) gone fresh → swapped g b gone fresh (filter (touches g b) (complex s)) ≡ filter
+    (touches g b) (complex t)
 cells_then g b s t gone fresh i j ch =
     let r = cells_next g b (complex s) (complex t) gone fresh ch in
     same_members (swapped g b gone fresh (filter (touches g b) (complex s))) (filter (touches g b) (complex t))
-    (swapped_sorted g b gone fresh (filter (touches g b) (complex s)) (IsStrictlySortedBy-filter cell_cmp (touches g b) (complex s) (complex_is_sorted s i)))
+    (swapped_sorted g b gone fresh (filter (touches g b) (complex s))
+    (IsStrictlySortedBy-filter cell_cmp (touches g b) (complex s) (complex_is_sorted s i)))
     (IsStrictlySortedBy-filter cell_cmp (touches g b) (complex t) (complex_is_sorted t j)) r.0 r.1
 
 -- the set with a new point is solid
 pub entered_solid : (s : List ℕ) (p : ℕ) → IsSolidSet s → IsNew s p → IsSolidSet (with_point p s)
-entered_solid s p i n = subst IsSolidSet (ap (λ (r : Reply). changed s p r) (inserts s p (false_if (is_among p s) (λ h. n.absent (among_from p s h))))) (stays_solid s (Add p) i n.key)
+entered_solid s p i n = subst IsSolidSet (ap (λ (r : Reply). changed s p r)
+    (inserts s p (false_if (is_among p s) (λ h. n.absent (among_from p s h))))) (stays_solid s (Add p) i n.key)
 
 pub entered_shows : EnteredShows
 entered_shows hold new s gone fresh p en e =
@@ -57,14 +102,19 @@ entered_shows hold new s gone fresh p en e =
     each b c q =
         let g = hold.grid in
         let r = mapped_some (put_in e.between.grid b p) (bucket_at e.between.places b) c (sym (e.put.places b) ∙ q) in
-        let u = mapped_some (swapped_in g b gone fresh) (bucket_at hold.places b) r.0 (sym (e.swapped.places b) ∙ r.1) in
+        let u = mapped_some (swapped_in g b gone fresh) (bucket_at hold.places b) r.0 (sym (e.swapped.places b) ∙ r.1)
+        in
         let sight = en.shown.sights b u.0 u.1 in
-        let made : put_in g b p (swapped_in g b gone fresh u.0) ≡ c = ap (put_in g b p) u.2 ∙ ap (λ h. put_in h b p r.0) (sym e.swapped.grid) ∙ r.2 in
+        let made : put_in g b p (swapped_in g b gone fresh u.0) ≡ c =
+        ap (put_in g b p) u.2 ∙ ap (λ h. put_in h b p r.0) (sym e.swapped.grid) ∙ r.2 in
         let seen : IsSight g b (with_point p s) (put_in g b p (swapped_in g b gone fresh u.0)) = record {
           points = put_points g b p s (swapped_in g b gone fresh u.0) en.shown.ascending sight.points;
-          cells = cells_kept g b p (swapped_in g b gone fresh u.0) ∙ ap (swapped g b gone fresh) sight.cells ∙ cells_then g b s (with_point p s) gone fresh en.shown.ascending (ascending_with p s en.shown.ascending) en.change;
+          cells = cells_kept g b p (swapped_in g b gone fresh u.0) ∙ ap (swapped g b gone fresh) sight.cells ∙
+              cells_then g b s (with_point p s) gone fresh en.shown.ascending (ascending_with p s en.shown.ascending)
+              en.change;
         } in
-        subst (λ h. IsSight h b (with_point p s) c) (sym (e.put.grid ∙ e.swapped.grid)) (subst (IsSight g b (with_point p s)) made seen)
+        subst (λ h. IsSight h b (with_point p s) c) (sym (e.put.grid ∙ e.swapped.grid))
+        (subst (IsSight g b (with_point p s)) made seen)
       where
         cells_kept : (g b p : ℕ) (c : BucketContent) → (put_in g b p c).cells ≡ c.cells
         cells_kept g b p c = by (lies g b p)
@@ -78,9 +128,12 @@ entered_shows hold new s gone fresh p en e =
 -- a point that was not there, put in and taken out
 with_without : (p : ℕ) (l : List ℕ) → IsAscending l → (IsIn p l → ⊥) → without_point p (with_point p l) ≡ l
 with_without p l a n =
-    same-members (without_point p (with_point p l)) l (filtered_ascending (λ q. not (q == p)) (with_point p l) (ascending_with p l a)) a
-    (λ q i. let r = filtered_from (λ q. not (q == p)) (with_point p l) q i in elim (in_with p q l r.0) [ inl e ↦ absurd (other q r.1 (sym e)) | inr j ↦ j ])
-    (λ q i. filtered_true (λ q. not (q == p)) (with_point p l) q (in_with_old p q l i) (differs q (λ e. n (subst (λ z. IsIn z l) e i))))
+    same-members (without_point p (with_point p l)) l (filtered_ascending (λ q. not (q == p)) (with_point p l)
+    (ascending_with p l a)) a
+    (λ q i. let r = filtered_from (λ q. not (q == p)) (with_point p l) q i in elim (in_with p q l r.0)
+    [ inl e ↦ absurd (other q r.1 (sym e)) | inr j ↦ j ])
+    (λ q i. filtered_true (λ q. not (q == p)) (with_point p l) q (in_with_old p q l i)
+    (differs q (λ e. n (subst (λ z. IsIn z l) e i))))
   where
     other : (q : ℕ) → not (q == p) ≡ true → q ≡ p → ⊥
     other q t e = by (q == p) refl t
@@ -100,17 +153,29 @@ with_without p l a n =
         by false g = refl
 
 -- lists with the same at each place
-places_same : (l m : List (Option BucketContent)) → length l ≡ length m → ((b : ℕ) → bucket_at l b ≡ bucket_at m b) → l ≡ m
+places_same : (l m : List (Option BucketContent)) → length l ≡ length m → ((b : ℕ) → bucket_at l b ≡ bucket_at m b) →
+    l ≡ m
 places_same [] [] e f = refl
 places_same [] (x ∷ m) e f = absurd (omega (arith, e))
 places_same (x ∷ l) [] e f = absurd (omega (arith, e))
-places_same (x ∷ l) (y ∷ m) e f = ap (λ (z : Option BucketContent). z ∷ l) (f 0) ∙ ap (λ (k : List (Option BucketContent)). y ∷ k) (places_same l m (omega (arith, e)) (λ b. f (suc b)))
+places_same (x ∷ l) (y ∷ m) e f = ap (λ (z : Option BucketContent). z ∷ l) (f 0) ∙ ap
+    (λ (k : List (Option BucketContent)). y ∷ k) (places_same l m (omega (arith, e)) (λ b. f (suc b)))
 
 -- one bucket there and back
-back_same : (g b p : ℕ) (gone fresh : List Cell) (c : BucketContent) → swapped g b fresh gone (swapped g b gone fresh c.cells) ≡ c.cells → (lies g b p ≡ true → without_point p (with_point p c.points) ≡ c.points) → swapped_in g b fresh gone (dropped_in g b p (put_in g b p (swapped_in g b gone fresh c))) ≡ c
+back_same : (g b p : ℕ) (gone fresh : List Cell) (c : BucketContent) →
+    swapped g b fresh gone (swapped g b gone fresh c.cells) ≡ c.cells →
+    (lies g b p ≡ true → without_point p (with_point p c.points) ≡ c.points) →
+    swapped_in g b fresh gone (dropped_in g b p (put_in g b p (swapped_in g b gone fresh c))) ≡ c
 back_same g b p gone fresh c e f = by (lies g b p) refl
   where
-    by : (t : Bool) → lies g b p ≡ t → swapped_in g b fresh gone (cond t (record (cond t (record (swapped_in g b gone fresh c) { points = with_point p c.points }) (swapped_in g b gone fresh c)) { points = without_point p (cond t (record (swapped_in g b gone fresh c) { points = with_point p c.points }) (swapped_in g b gone fresh c)).points }) (cond t (record (swapped_in g b gone fresh c) { points = with_point p c.points }) (swapped_in g b gone fresh c))) ≡ c
+    by : (t : Bool) → lies g b p ≡ t → swapped_in g b fresh gone (cond t
+        (record (cond t (record (swapped_in g b gone fresh c) { points = with_point p c.points })
+        (swapped_in g b gone fresh c)) {
+          points = without_point p (cond t
+              (record (swapped_in g b gone fresh c) { points = with_point p c.points })
+              (swapped_in g b gone fresh c)).points;
+        }) (cond t (record (swapped_in g b gone fresh c) { points = with_point p c.points })
+        (swapped_in g b gone fresh c))) ≡ c
     by true q = λ i. record c { points = f q i; cells = e i }
     by false q = λ i. record c { cells = e i }
 
@@ -135,60 +200,104 @@ left_is_same hold mid new s gone fresh p en e l = (grid, places_same new.places 
     each : (b : ℕ) → bucket_at new.places b ≡ bucket_at hold.places b
     each b =
         l.swapped.places b
-        ∙ ap (λ o. option_map (swapped_in l.between.grid b fresh gone) o) (l.dropped.places b ∙ ap (λ o. option_map (dropped_in mid.grid b p) o) (e.put.places b ∙ ap (λ o. option_map (put_in e.between.grid b p) o) (e.swapped.places b)))
-        ∙ ap (λ h. option_map (swapped_in h b fresh gone) (option_map (dropped_in mid.grid b p) (option_map (put_in e.between.grid b p) (option_map (swapped_in g b gone fresh) (bucket_at hold.places b))))) between_grid
-        ∙ ap (λ h. option_map (swapped_in g b fresh gone) (option_map (dropped_in h b p) (option_map (put_in e.between.grid b p) (option_map (swapped_in g b gone fresh) (bucket_at hold.places b))))) mid_grid
-        ∙ ap (λ h. option_map (swapped_in g b fresh gone) (option_map (dropped_in g b p) (option_map (put_in h b p) (option_map (swapped_in g b gone fresh) (bucket_at hold.places b))))) e.swapped.grid
+        ∙ ap (λ o. option_map (swapped_in l.between.grid b fresh gone) o)
+        (l.dropped.places b ∙ ap (λ o. option_map (dropped_in mid.grid b p) o)
+        (e.put.places b ∙ ap (λ o. option_map (put_in e.between.grid b p) o) (e.swapped.places b)))
+        ∙ ap (λ h. option_map (swapped_in h b fresh gone) (option_map (dropped_in mid.grid b p)
+        (option_map (put_in e.between.grid b p) (option_map (swapped_in g b gone fresh)
+        (bucket_at hold.places b))))) between_grid
+        ∙ ap (λ h. option_map (swapped_in g b fresh gone) (option_map (dropped_in h b p)
+        (option_map (put_in e.between.grid b p) (option_map (swapped_in g b gone fresh)
+        (bucket_at hold.places b))))) mid_grid
+        ∙ ap (λ h. option_map (swapped_in g b fresh gone) (option_map (dropped_in g b p)
+        (option_map (put_in h b p) (option_map (swapped_in g b gone fresh) (bucket_at hold.places b)))))
+        e.swapped.grid
         ∙ by (bucket_at hold.places b) refl
       where
-        by : (o : Option BucketContent) → bucket_at hold.places b ≡ o → option_map (swapped_in g b fresh gone) (option_map (dropped_in g b p) (option_map (put_in g b p) (option_map (swapped_in g b gone fresh) o))) ≡ o
+        by : (o : Option BucketContent) → bucket_at hold.places b ≡ o →
+            option_map (swapped_in g b fresh gone) (option_map (dropped_in g b p)
+            (option_map (put_in g b p) (option_map (swapped_in g b gone fresh) o))) ≡ o
         by None q = refl
         by (Some c) q =
             let sight = en.shown.sights b c q in
             let ascending = filtered_ascending (lies g b) s en.shown.ascending in
-            let found = change_finds_cells hold s (complex (with_point p s)) gone fresh en.shown en.change en.gone_held in
-            let here : cells_in hold.places b ≡ c.cells = ap (λ o. option_map_or (λ (x : BucketContent). x.cells) o []) q in
+            let found = change_finds_cells hold s (complex (with_point p s)) gone fresh en.shown en.change en.gone_held
+            in
+            let here : cells_in hold.places b ≡ c.cells = ap (λ o. option_map_or (λ (x : BucketContent). x.cells) o [])
+            q in
             ap (λ (x : BucketContent). Some x) (back_same g b p gone fresh c
             (swapped_back g b gone fresh c.cells
-            (subst (λ l. IsStrictlySortedBy cell_cmp l) (sym sight.cells) (IsStrictlySortedBy-filter cell_cmp (touches g b) (complex s) (complex_is_sorted s en.shown.ascending)))
-            (λ d i t. subst (IsIn d) here (found.there b d i t)) (λ d i t m. found.absent b d i t (subst (IsIn d) (sym here) m)))
-            (λ t. with_without p c.points (subst IsAscending (sym sight.points) ascending) (λ i. en.new.absent (filtered_from (lies g b) s p (subst (IsIn p) sight.points i)).0)))
+            (subst (λ l. IsStrictlySortedBy cell_cmp l) (sym sight.cells)
+            (IsStrictlySortedBy-filter cell_cmp (touches g b) (complex s) (complex_is_sorted s en.shown.ascending)))
+            (λ d i t. subst (IsIn d) here (found.there b d i t)) (λ d i t m. found.absent b d i t
+            (subst (IsIn d) (sym here) m)))
+            (λ t. with_without p c.points (subst IsAscending (sym sight.points) ascending)
+            (λ i. en.new.absent (filtered_from (lies g b) s p (subst (IsIn p) sight.points i)).0)))
 
 -- ---- a bucket that is claimed in between
 
 pub sight_outside : SightOutside
-sight_outside g b s p c sight i n out = record { points = sight.points ∙ filter_with_else (lies g b) p s i.set.ascending here; cells = sight.cells ∙ sym cells }
+sight_outside g b s p c sight i n out = record {
+  points = sight.points ∙ filter_with_else (lies g b) p s i.set.ascending
+      here;
+  cells = sight.cells ∙ sym cells;
+}
   where
     here : lies g b p ≡ false
-    here = false_if (lies g b p) (λ q. out (subst (IsTouched g s (Add p)) (eqb-true (bucket_of g p) b q) (own_touched g s (Add p))))
+    here = false_if (lies g b p) (λ q. out (subst (IsTouched g s (Add p)) (eqb-true (bucket_of g p) b q)
+        (own_touched g s (Add p))))
 
     there : List Cell
     there = complex (with_point p s)
 
     inserted : after s (Add p) ≡ with_point p s
-    inserted = ap (λ (r : Reply). changed s p r) (inserts s p (false_if (is_among p s) (λ h. n.absent (among_from p s h))))
+    inserted = ap (λ (r : Reply). changed s p r) (inserts s p (false_if (is_among p s)
+        (λ h. n.absent (among_from p s h))))
 
-    none : (l : List Cell) → ((q : Cell) → IsIn q l → Goes (complex s) there q ⊎ Goes there (complex s) q) → NoneTouches g b l
+    none : (l : List Cell) → ((q : Cell) → IsIn q l → Goes (complex s) there q ⊎ Goes there (complex s) q) →
+        NoneTouches g b l
     none l f q m = false_if (touches g b q) (λ k.
         let r = any_from (λ p. bucket_of g p == b) (points_of q) k in
-        out (record { point = r.0; reached = changes_reached s (Add p) i n.key q (subst (λ (t : List ℕ). Goes (complex s) (complex t) q ⊎ Goes (complex t) (complex s) q) (sym inserted) (f q m)) r.0 r.1; number = sym (eqb-true (bucket_of g r.0) b r.2) }))
+        out (record {
+          point = r.0;
+          reached = changes_reached s (Add p) i n.key q
+              (subst (λ (t : List ℕ). Goes (complex s) (complex t) q ⊎ Goes (complex t) (complex s) q) (sym inserted)
+              (f q m)) r.0 r.1;
+          number = sym (eqb-true (bucket_of g r.0) b r.2);
+        }))
 
     gone : NoneTouches g b (without_cells there (complex s))
-    gone = none (without_cells there (complex s)) (λ q m. let r = left_out (complex s) there q m in inl (record { before = r.0; after = r.1 }))
+    gone = none (without_cells there (complex s)) (λ q m. let r = left_out (complex s) there q m in inl
+        (record { before = r.0; after = r.1 }))
 
     fresh : NoneTouches g b (without_cells (complex s) there)
-    fresh = none (without_cells (complex s) there) (λ q m. let r = left_out there (complex s) q m in inr (record { before = r.0; after = r.1 }))
+    fresh = none (without_cells (complex s) there) (λ q m. let r =
+        left_out there (complex s) q m in inr (record { before = r.0; after = r.1 }))
 
     cells : filter (touches g b) there ≡ filter (touches g b) (complex s)
     cells =
-        sym (cells_then g b s (with_point p s) (without_cells there (complex s)) (without_cells (complex s) there) i.set.ascending (ascending_with p s i.set.ascending)
-        (record { went = left_out (complex s) there; all_gone = all_out (complex s) there; came = left_out there (complex s); all_fresh = all_out there (complex s) }))
-        ∙ swapped_none g b (without_cells there (complex s)) (without_cells (complex s) there) (filter (touches g b) (complex s)) gone fresh
+        sym (cells_then g b s (with_point p s) (without_cells there (complex s)) (without_cells (complex s) there)
+        i.set.ascending (ascending_with p s i.set.ascending)
+        (record {
+          went = left_out (complex s) there;
+          all_gone = all_out (complex s) there;
+          came =
+              left_out there (complex s);
+          all_fresh = all_out there (complex s);
+        }))
+        ∙ swapped_none g b (without_cells there (complex s)) (without_cells (complex s) there)
+        (filter (touches g b) (complex s)) gone fresh
 
 -- ---- two changes
 
 pub changes_compose : ChangesCompose
-changes_compose s t u gone fresh gone2 fresh2 a b = record { went = went; all_gone = all_gone; came = came; all_fresh = all_fresh }
+changes_compose s t u gone fresh gone2 fresh2 a b = record {
+  went = went;
+  all_gone = all_gone;
+  came = came;
+  all_fresh =
+      all_fresh;
+}
   where
     both : (l m : List Cell) (c : Cell) → IsIn c (l ++ m) → IsIn c l ⊎ IsIn c m
     both l m c i = from_append c l m i
@@ -196,25 +305,31 @@ changes_compose s t u gone fresh gone2 fresh2 a b = record { went = went; all_go
     went : (c : Cell) → IsIn c (without_cells fresh2 gone ++ without_cells fresh gone2) → IsIn c s × (IsIn c u → ⊥)
     went c i = elim (both (without_cells fresh2 gone) (without_cells fresh gone2) c i) [
       | inl j ↦ (let r = left_out gone fresh2 c j in let w = a.went c r.0 in (w.0, λ k. r.1 (b.all_fresh c k w.1)))
-      | inr j ↦ (let r = left_out gone2 fresh c j in let w = b.went c r.0 in (elim (in_or_not c s) [ inl k ↦ k | inr n ↦ absurd (r.1 (a.all_fresh c w.0 n)) ], w.1))
+      | inr j ↦ (let r = left_out gone2 fresh c j in let w = b.went c r.0 in
+          (elim (in_or_not c s) [ inl k ↦ k | inr n ↦ absurd (r.1 (a.all_fresh c w.0 n)) ], w.1))
     ]
 
     all_gone : (c : Cell) → IsIn c s → (IsIn c u → ⊥) → IsIn c (without_cells fresh2 gone ++ without_cells fresh gone2)
     all_gone c i n = elim (in_or_not c t) [
-      | inl k ↦ in_right c (without_cells fresh2 gone) (without_cells fresh gone2) (all_out gone2 fresh c (b.all_gone c k n) (λ f. (a.came c f).1 i))
-      | inr k ↦ in_left c (without_cells fresh2 gone) (without_cells fresh gone2) (all_out gone fresh2 c (a.all_gone c i k) (λ f. n (b.came c f).0))
+      | inl k ↦ in_right c (without_cells fresh2 gone) (without_cells fresh gone2)
+          (all_out gone2 fresh c (b.all_gone c k n) (λ f. (a.came c f).1 i))
+      | inr k ↦ in_left c (without_cells fresh2 gone) (without_cells fresh gone2)
+          (all_out gone fresh2 c (a.all_gone c i k) (λ f. n (b.came c f).0))
     ]
 
     came : (c : Cell) → IsIn c (without_cells gone2 fresh ++ without_cells gone fresh2) → IsIn c u × (IsIn c s → ⊥)
     came c i = elim (both (without_cells gone2 fresh) (without_cells gone fresh2) c i) [
-      | inl j ↦ (let r = left_out fresh gone2 c j in let w = a.came c r.0 in (elim (in_or_not c u) [ inl k ↦ k | inr n ↦ absurd (r.1 (b.all_gone c w.0 n)) ], w.1))
+      | inl j ↦ (let r = left_out fresh gone2 c j in let w = a.came c r.0 in
+          (elim (in_or_not c u) [ inl k ↦ k | inr n ↦ absurd (r.1 (b.all_gone c w.0 n)) ], w.1))
       | inr j ↦ (let r = left_out fresh2 gone c j in let w = b.came c r.0 in (w.0, λ k. r.1 (a.all_gone c k w.1)))
     ]
 
     all_fresh : (c : Cell) → IsIn c u → (IsIn c s → ⊥) → IsIn c (without_cells gone2 fresh ++ without_cells gone fresh2)
     all_fresh c i n = elim (in_or_not c t) [
-      | inl k ↦ in_left c (without_cells gone2 fresh) (without_cells gone fresh2) (all_out fresh gone2 c (a.all_fresh c k n) (λ f. (b.went c f).1 i))
-      | inr k ↦ in_right c (without_cells gone2 fresh) (without_cells gone fresh2) (all_out fresh2 gone c (b.all_fresh c i k) (λ f. n (a.went c f).0))
+      | inl k ↦ in_left c (without_cells gone2 fresh) (without_cells gone fresh2)
+          (all_out fresh gone2 c (a.all_fresh c k n) (λ f. (b.went c f).1 i))
+      | inr k ↦ in_right c (without_cells gone2 fresh) (without_cells gone fresh2)
+          (all_out fresh2 gone c (b.all_fresh c i k) (λ f. n (a.went c f).0))
     ]
 
 -- ---- the steps there and back
@@ -223,42 +338,58 @@ turned_change : (s t gone fresh : List Cell) → IsChange s t gone fresh → IsC
 turned_change s t gone fresh c = record { went = c.came; all_gone = c.all_fresh; came = c.went; all_fresh = c.all_gone }
 
 -- what was in hand is, with the point
-pub held_entered : (hold new : InHand) (gone fresh : List Cell) (p b : ℕ) → IsEntered gone fresh p hold new → IsSome (bucket_at hold.places b) → IsSome (bucket_at new.places b)
-held_entered hold new gone fresh p b e h = subst IsSome (sym (e.put.places b)) (some_mapped _ (bucket_at e.between.places b) (subst IsSome (sym (e.swapped.places b)) (some_mapped _ (bucket_at hold.places b) h)))
+pub held_entered : (hold new : InHand) (gone fresh : List Cell) (p b : ℕ) → IsEntered gone fresh p hold new →
+    IsSome (bucket_at hold.places b) → IsSome (bucket_at new.places b)
+held_entered hold new gone fresh p b e h = subst IsSome (sym (e.put.places b))
+    (some_mapped _ (bucket_at e.between.places b) (subst IsSome (sym (e.swapped.places b))
+    (some_mapped _ (bucket_at hold.places b) h)))
 
-cells_held : (hold new : InHand) (gone fresh l : List Cell) (p : ℕ) → IsEntered gone fresh p hold new → AreHeld hold l → AreHeld new l
+cells_held : (hold new : InHand) (gone fresh l : List Cell) (p : ℕ) → IsEntered gone fresh p hold new → AreHeld hold l →
+    AreHeld new l
 cells_held hold new gone fresh l p e h c i q j =
-    subst (λ g. IsSome (bucket_at new.places (bucket_of g q))) (sym (e.put.grid ∙ e.swapped.grid)) (held_entered hold new gone fresh p (bucket_of hold.grid q) e (h c i q j))
+    subst (λ g. IsSome (bucket_at new.places (bucket_of g q))) (sym (e.put.grid ∙ e.swapped.grid))
+    (held_entered hold new gone fresh p (bucket_of hold.grid q) e (h c i q j))
 
 -- the point is not there before it comes
-pub way_absent : (hold swap : InHand) (s : List ℕ) (gone fresh : List Cell) (p : ℕ) → Enters hold s gone fresh p → IsSwapped gone fresh hold swap → is_among p (points_in swap.places (bucket_of swap.grid p)) ≡ false
+pub way_absent : (hold swap : InHand) (s : List ℕ) (gone fresh : List Cell) (p : ℕ) → Enters hold s gone fresh p →
+    IsSwapped gone fresh hold swap → is_among p (points_in swap.places (bucket_of swap.grid p)) ≡ false
 way_absent hold swap s gone fresh p en sw =
     ap (λ g. is_among p (points_in swap.places (bucket_of g p))) sw.grid
     ∙ ap (is_among p) (same (bucket_of hold.grid p))
     ∙ held_point hold s p en.shown en.held ∙ false_if (is_among p s) (λ t. en.new.absent (among_from p s t))
   where
     same : (b : ℕ) → points_in swap.places b ≡ points_in hold.places b
-    same b = ap (λ o. option_map_or (λ (x : BucketContent). x.points) o []) (sw.places b) ∙ keeps (bucket_at hold.places b)
+    same b = ap (λ o. option_map_or (λ (x : BucketContent). x.points) o []) (sw.places b) ∙ keeps
+        (bucket_at hold.places b)
       where
-        keeps : (o : Option BucketContent) → option_map_or (λ (x : BucketContent). x.points) (option_map (swapped_in hold.grid b gone fresh) o) [] ≡ option_map_or (λ x. x.points) o []
+        keeps : (o : Option BucketContent) → option_map_or (λ (x : BucketContent). x.points)
+            (option_map (swapped_in hold.grid b gone fresh) o) [] ≡ option_map_or (λ x. x.points) o []
         keeps None = refl
         keeps (Some c) = refl
 
 -- and is there then
-pub way_present : (new : InHand) (gone fresh : List Cell) (p : ℕ) → WasEntered gone fresh p new → is_among p (points_in new.places (bucket_of new.grid p)) ≡ true
+pub way_present : (new : InHand) (gone fresh : List Cell) (p : ℕ) → WasEntered gone fresh p new →
+    is_among p (points_in new.places (bucket_of new.grid p)) ≡ true
 way_present new gone fresh p w =
     let t = with_point p w.set in
     held_point new t p (entered_shows w.before new w.set gone fresh p w.enters w.entered)
-    (subst (λ g. IsSome (bucket_at new.places (bucket_of g p))) (sym (w.entered.put.grid ∙ w.entered.swapped.grid)) (held_entered w.before new gone fresh p (bucket_of w.before.grid p) w.entered w.enters.held))
+    (subst (λ g. IsSome (bucket_at new.places (bucket_of g p))) (sym (w.entered.put.grid ∙ w.entered.swapped.grid))
+    (held_entered w.before new gone fresh p (bucket_of w.before.grid p) w.entered w.enters.held))
     ∙ among_true p t (in_with_new p w.set)
 
 -- the exchanges find their cells
-pub way_found : (hold : InHand) (s : List ℕ) (gone fresh : List Cell) (p : ℕ) → Enters hold s gone fresh p → FindsCells hold gone fresh
-way_found hold s gone fresh p en = change_finds_cells hold s (complex (with_point p s)) gone fresh en.shown en.change en.gone_held
+pub way_found : (hold : InHand) (s : List ℕ) (gone fresh : List Cell) (p : ℕ) → Enters hold s gone fresh p →
+    FindsCells hold gone fresh
+way_found hold s gone fresh p en = change_finds_cells hold s (complex (with_point p s)) gone fresh en.shown en.change
+    en.gone_held
 
-pub back_found : (mid low : InHand) (gone fresh : List Cell) (p : ℕ) → WasEntered gone fresh p mid → IsDropped p mid low → FindsCells low fresh gone
+pub back_found : (mid low : InHand) (gone fresh : List Cell) (p : ℕ) → WasEntered gone fresh p mid →
+    IsDropped p mid low → FindsCells low fresh gone
 back_found mid low gone fresh p w d =
-    let f = change_finds_cells mid (with_point p w.set) (complex w.set) fresh gone (entered_shows w.before mid w.set gone fresh p w.enters w.entered) (turned_change (complex w.set) (complex (with_point p w.set)) gone fresh w.enters.change) (cells_held w.before mid gone fresh fresh p w.entered w.enters.fresh_held) in
+    let f = change_finds_cells mid (with_point p w.set) (complex w.set) fresh gone
+    (entered_shows w.before mid w.set gone fresh p w.enters w.entered)
+    (turned_change (complex w.set) (complex (with_point p w.set)) gone fresh w.enters.change)
+    (cells_held w.before mid gone fresh fresh p w.entered w.enters.fresh_held) in
     record {
       there = λ b c i t. subst (IsIn c) (sym (same b)) (f.there b c i (ap (λ g. touches g b c) (sym d.grid) ∙ t));
       absent = λ b c i t m. f.absent b c i (ap (λ g. touches g b c) (sym d.grid) ∙ t) (subst (IsIn c) (same b) m);
@@ -274,6 +405,7 @@ back_found mid low gone fresh p w d =
             by true = refl
             by false = refl
 
-        keeps : (o : Option BucketContent) → option_map_or (λ (x : BucketContent). x.cells) (option_map (dropped_in mid.grid b p) o) [] ≡ option_map_or (λ x. x.cells) o []
+        keeps : (o : Option BucketContent) → option_map_or (λ (x : BucketContent). x.cells)
+            (option_map (dropped_in mid.grid b p) o) [] ≡ option_map_or (λ x. x.cells) o []
         keeps None = refl
         keeps (Some c) = one c

@@ -1,5 +1,21 @@
 -- What a bucket and a hold show: their lists, without the layout of the code.
-use Rattle.std.specs.Prelude.{◌≡◌, ℕ, Bool, true, false, ◌*◌, List, [], Option, None, Some, ◌⊎◌, map, replicate, slice_index_or}
+use Rattle.std.specs.Prelude.{
+  ◌≡◌,
+  ℕ,
+  Bool,
+  true,
+  false,
+  ◌*◌,
+  List,
+  [],
+  Option,
+  None,
+  Some,
+  ◌⊎◌,
+  map,
+  replicate,
+  slice_index_or,
+}
 use Rattle.std.specs.Option.{option_map, option_map_or}
 use Rattle.point_order.specs.declared.cell.Cell.{Cell}
 use Rattle.edit_history.specs.Edits.{point_of}
@@ -38,7 +54,8 @@ abbrev pub layout_at : List (Option Layout) → ℕ → Option Layout
 layout_at places b = slice_index_or places b None
 
 -- The room of a hold: the cells that go and come in the exchange for which there is room, the point of the entry for
--- which there is, a point that can come and go, and whether the exchange can be made back and again any number of times.
+-- which there is, a point that can come and go, and whether the exchange can be made back and again any number of
+-- times.
 pub record Room : Type 0 where
   pub swap : Option (List Cell × List Cell)
   pub push : Option ℕ

@@ -106,14 +106,16 @@ NextEntry =
 abbrev pub EntryKeepsHold : Type 0
 EntryKeepsHold =
     (h : List Entry) (e : Entry) (gone fresh : List Cell) (old between new : InHand) →
-    Stands old h → IsNext h e gone fresh → is_move e.edit ≡ false → IsSwapped gone fresh old between → IsNoted e between new →
+    Stands old h → IsNext h e gone fresh → is_move e.edit ≡ false → IsSwapped gone fresh old between →
+    IsNoted e between new →
     Stands new (h ++ e ∷ [])
 
 -- The share of a bucket in the history with the entry is that exact function of its share before.
 abbrev pub ShareAfterEntry : Type 0
 ShareAfterEntry =
     (g b : ℕ) (h : List Entry) (e : Entry) (gone fresh : List Cell) (c : BucketContent) →
-    IsNext h e gone fresh → is_move e.edit ≡ false → IsShare g b h c → IsShare g b (h ++ e ∷ []) (noted_in g b e (swapped_in g b gone fresh c))
+    IsNext h e gone fresh → is_move e.edit ≡ false → IsShare g b h c →
+    IsShare g b (h ++ e ∷ []) (noted_in g b e (swapped_in g b gone fresh c))
 
 -- No finite vertex of these cells lies in the bucket.
 abbrev pub NoneTouches : ℕ → ℕ → List Cell → Type 0
@@ -123,7 +125,8 @@ NoneTouches g b l = (c : Cell) → IsIn c l → touches g b c ≡ false
 abbrev pub ShareElsewhere : Type 0
 ShareElsewhere =
     (g b : ℕ) (h : List Entry) (e : Entry) (gone fresh : List Cell) (c : BucketContent) →
-    IsNext h e gone fresh → is_move e.edit ≡ false → (bucket_of g (point_of e.edit) == b) ≡ false → NoneTouches g b gone →
+    IsNext h e gone fresh → is_move e.edit ≡ false → (bucket_of g (point_of e.edit) == b) ≡ false →
+    NoneTouches g b gone →
     NoneTouches g b fresh →
     IsShare g b h c → IsShare g b (h ++ e ∷ []) c
 

@@ -516,8 +516,8 @@ impl Hold {
         drop_point_in(&mut self.places[b], p);
     }
 
-    /// Puts the place to which a point has moved into its bucket, if the entry tells of one. There is to be room for it,
-    /// and it is not to be there. It takes no memory.
+    /// Puts the place to which a point has moved into its bucket, if the entry tells of one. There is to be room for
+    /// it, and it is not to be there. It takes no memory.
     pub fn put_goal(&mut self, entry: &Entry)
         requires { IfSome (came entry.now.edit entry.now.reply) (CanCome self.old) }
         ensures arrived { IsArrived entry.now self.old self.new }

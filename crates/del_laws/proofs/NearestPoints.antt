@@ -1,12 +1,53 @@
 -- The cells at a point show whether it is the nearest of the set: the order by distance and key is one by heights.
-use Rattle.std.specs.Prelude.{ℕ, ℤ, pos, neg_ℤ, ◌+ℤ◌, ◌-ℤ◌, ◌*ℤ◌, ◌≡◌, ◌≤ℤ◌, ◌<ℤ◌, ◌<◌, ◌^◌, Bool, true, false, not, ◌&&◌, ◌||◌, nat_lt, List, [], ◌∷◌, ◌⊎◌}
+use Rattle.std.specs.Prelude.{
+  ℕ,
+  ℤ,
+  pos,
+  neg_ℤ,
+  ◌+ℤ◌,
+  ◌-ℤ◌,
+  ◌*ℤ◌,
+  ◌≡◌,
+  ◌≤ℤ◌,
+  ◌<ℤ◌,
+  ◌<◌,
+  ◌^◌,
+  Bool,
+  true,
+  false,
+  not,
+  ◌&&◌,
+  ◌||◌,
+  nat_lt,
+  List,
+  [],
+  ◌∷◌,
+  ◌⊎◌,
+}
 use Rattle.std.specs.Int.Signed.{lt_z}
 use Rattle.std.proofs.Common.{arith, refl, inl, inr, ap, sym, subst, ◌∙◌}
 use Rattle.std.proofs.lemmas.Int.{ints}
 use Rattle.whole_ring.specs.Poly.{Expr, var, lit, ◌⊕◌, ◌⊗◌, minus, ◌⊖◌, nothing, given}
 use Rattle.whole_ring.specs.Signs.{below, at_zero, above}
 use Rattle.whole_ring.proofs.Cited.{mul_nonneg, mul_pos_neg, ring, ring_from, sign}
-use Rattle.list_laws.proofs.Cited.{not_below, not_zero, less_from, less_true, both_true, false_if, first_true, second_true, left_true, right_true, one_true, not_both, not_from, not_true, below_from, below_true}
+use Rattle.list_laws.proofs.Cited.{
+  not_below,
+  not_zero,
+  less_from,
+  less_true,
+  both_true,
+  false_if,
+  first_true,
+  second_true,
+  left_true,
+  right_true,
+  one_true,
+  not_both,
+  not_from,
+  not_true,
+  below_from,
+  below_true,
+}
 use Rattle.conv_laws.specs.Places.{Vector, orient, Lifted, lifted as lifted_determinant, triple, minor}
 use Rattle.conv_laws.specs.Spheres.{sheared}
 use Rattle.conv_laws.proofs.Cited.{affine_change, weights_of_heights}
@@ -40,12 +81,15 @@ abbrev tilted : Vector → ℤ → ℕ → ℤ
 tilted g k x = pos (height x) +ℤ (g.x *ℤ pos (x_of x) +ℤ g.y *ℤ pos (y_of x) +ℤ g.z *ℤ pos (z_of x)) +ℤ k
 
 -- it is carried by the weights, as the height itself
-tilted_carried : (g : Vector) (k : ℤ) (a b c d e : ℕ) → orientation a b c d *ℤ tilted g k e ≡ lifted height a b c d e +ℤ (orientation b d c e *ℤ tilted g k a +ℤ orientation a c d e *ℤ tilted g k b +ℤ orientation a d b e *ℤ tilted g k c +ℤ orientation a b c e *ℤ tilted g k d)
+tilted_carried : (g : Vector) (k : ℤ) (a b c d e : ℕ) → orientation a b c d *ℤ tilted g k e ≡ lifted height a b c d e +ℤ
+    (orientation b d c e *ℤ tilted g k a +ℤ orientation a c d e *ℤ tilted g k b +ℤ orientation a d b e *ℤ tilted g k c
+    +ℤ orientation a b c e *ℤ tilted g k d)
 unfolding lifted lifted_determinant orientation orient triple minor x_from y_from z_from
 tilted_carried g k a b c d e =
     weights_of_heights (lean a) (lean b) (lean c) (lean d) (lean e)
-    ∙ ap (λ l. l +ℤ (orientation b d c e *ℤ tilted g k a +ℤ orientation a c d e *ℤ tilted g k b +ℤ orientation a d b e *ℤ tilted g k c +ℤ orientation a b c e *ℤ tilted g k d))
-      (affine_change g k (raised height a) (raised height b) (raised height c) (raised height d) (raised height e))
+    ∙ ap (λ l. l +ℤ (orientation b d c e *ℤ tilted g k a +ℤ orientation a c d e *ℤ tilted g k b +ℤ orientation a d b e
+    *ℤ tilted g k c +ℤ orientation a b c e *ℤ tilted g k d))
+    (affine_change g k (raised height a) (raised height b) (raised height c) (raised height d) (raised height e))
   where
     -- a point at that height
     lean : ℕ → Lifted
@@ -88,10 +132,13 @@ seen_is q x =
     ⊕ (turned_w 3 ⊗ var 0 ⊕ turned_w 4 ⊗ var 1 ⊕ turned_w 5 ⊗ var 2)
     ⊕ (var 3 ⊗ var 3 ⊕ var 4 ⊗ var 4 ⊕ var 5 ⊗ var 5) ⊗ var 6)
     ((apart_w 0 3 ⊕ apart_w 1 4 ⊕ apart_w 2 5) ⊗ var 6 ⊕ var 7)
-    (pos (x_of x) ∷ pos (y_of x) ∷ pos (z_of x) ∷ pos (x_of q) ∷ pos (y_of q) ∷ pos (z_of q) ∷ great ∷ pos (base ^ x) ∷ []) tt
+    (pos (x_of x) ∷ pos (y_of x) ∷ pos (z_of x) ∷ pos (x_of q) ∷ pos (y_of q) ∷ pos (z_of q) ∷ great ∷ pos (base ^ x) ∷
+    []) tt
 
 -- and carried by the weights
-pub seen_carried : (q a b c d e : ℕ) → orientation a b c d *ℤ seen q e ≡ lifted height a b c d e +ℤ (orientation b d c e *ℤ seen q a +ℤ orientation a c d e *ℤ seen q b +ℤ orientation a d b e *ℤ seen q c +ℤ orientation a b c e *ℤ seen q d)
+pub seen_carried : (q a b c d e : ℕ) → orientation a b c d *ℤ seen q e ≡ lifted height a b c d e +ℤ
+    (orientation b d c e *ℤ seen q a +ℤ orientation a c d e *ℤ seen q b +ℤ orientation a d b e *ℤ seen q c +ℤ
+    orientation a b c e *ℤ seen q d)
 seen_carried q a b c d e =
     rw (sym (seen_is q a), sym (seen_is q b), sym (seen_is q c), sym (seen_is q d), sym (seen_is q e))
     (tilted_carried (slope q) (lift q) a b c d e)
@@ -102,7 +149,8 @@ seen_carried q a b c d e =
 times_great : (m d : ℤ) → pos 0 <ℤ m → pos 0 <ℤ d → m ≤ℤ (d *ℤ m)
 times_great m d hm hd =
     let k : pos 0 ≤ℤ (d -ℤ pos 1) = omega (arith, ints) in
-    let e : d *ℤ m ≡ (d -ℤ pos 1) *ℤ m +ℤ m = ring (var 0 ⊗ var 1) ((var 0 ⊖ lit (pos 1)) ⊗ var 1 ⊕ var 1) (d ∷ m ∷ []) tt in
+    let e : d *ℤ m ≡ (d -ℤ pos 1) *ℤ m +ℤ m = ring (var 0 ⊗ var 1) ((var 0 ⊖ lit (pos 1)) ⊗ var 1 ⊕ var 1) (d ∷ m ∷ [])
+    tt in
     let l : pos 0 ≤ℤ m = omega (arith, ints) in
     omega (arith, ints, e, mul_nonneg (d -ℤ pos 1) m k l)
 
@@ -111,7 +159,8 @@ by_distance : (m da db : ℤ) (ta tb : ℕ) → pos ta <ℤ m → da <ℤ db →
 by_distance m da db ta tb h l =
     let hm : pos 0 <ℤ m = omega (arith, ints) in
     let d : pos 0 <ℤ (db -ℤ da) = omega (arith, ints) in
-    let e : db *ℤ m ≡ (db -ℤ da) *ℤ m +ℤ da *ℤ m = ring (var 0 ⊗ var 1) ((var 0 ⊖ var 2) ⊗ var 1 ⊕ var 2 ⊗ var 1) (db ∷ m ∷ da ∷ []) tt in
+    let e : db *ℤ m ≡ (db -ℤ da) *ℤ m +ℤ da *ℤ m = ring (var 0 ⊗ var 1) ((var 0 ⊖ var 2) ⊗ var 1 ⊕ var 2 ⊗ var 1)
+    (db ∷ m ∷ da ∷ []) tt in
     omega (arith, ints, e, times_great m (db -ℤ da) hm d)
 
 -- so does the same distance with a lesser part
@@ -138,15 +187,19 @@ compare a b = elim (sign (b -ℤ a)) [
 
 -- the first comes before the second, so it is lower
 lower_from : (q a b : ℕ) → IsKey a → comes_before q a b ≡ true → seen q a <ℤ seen q b
-lower_from q a b ka t = elim (one_true (lt_z (distance q a) (distance q b)) (not (lt_z (distance q b) (distance q a)) && nat_lt a b) t) [
-  | inl u ↦ by_distance great (distance q a) (distance q b) (base ^ a) (base ^ b) (part_below a ka) (less_from (distance q a) (distance q b) u)
-  | inr u ↦ elim (compare (distance q a) (distance q b)) [
-    | less l ↦ by_distance great (distance q a) (distance q b) (base ^ a) (base ^ b) (part_below a ka) l
-    | same e ↦ by_key great (distance q a) (distance q b) (base ^ a) (base ^ b) e
-        (part_rises a b (below_from a b (second_true (not (lt_z (distance q b) (distance q a))) (nat_lt a b) u)))
-    | more l ↦ absurd (not_both (lt_z (distance q b) (distance q a)) (less_true (distance q b) (distance q a) l) (not_from (lt_z (distance q b) (distance q a)) (first_true (not (lt_z (distance q b) (distance q a))) (nat_lt a b) u)))
-  ]
-]
+lower_from q a b ka t = elim (one_true (lt_z (distance q a) (distance q b))
+    (not (lt_z (distance q b) (distance q a)) && nat_lt a b) t) [
+      | inl u ↦ by_distance great (distance q a) (distance q b) (base ^ a) (base ^ b) (part_below a ka)
+          (less_from (distance q a) (distance q b) u)
+      | inr u ↦ elim (compare (distance q a) (distance q b)) [
+        | less l ↦ by_distance great (distance q a) (distance q b) (base ^ a) (base ^ b) (part_below a ka) l
+        | same e ↦ by_key great (distance q a) (distance q b) (base ^ a) (base ^ b) e
+            (part_rises a b (below_from a b (second_true (not (lt_z (distance q b) (distance q a))) (nat_lt a b) u)))
+        | more l ↦ absurd (not_both (lt_z (distance q b) (distance q a)) (less_true (distance q b) (distance q a) l)
+            (not_from (lt_z (distance q b) (distance q a)) (first_true (not (lt_z (distance q b) (distance q a)))
+            (nat_lt a b) u)))
+      ]
+    ]
 
 -- no number is less than another that is less than it
 not_both_less : (a b : ℤ) → a <ℤ b → b <ℤ a → ⊥
@@ -156,8 +209,10 @@ not_both_less a b h k = omega (arith, ints)
 key_from : (q a b : ℕ) → distance q a ≡ distance q b → seen q a <ℤ seen q b → a < b
 key_from q a b e l = elim (compare (pos a) (pos b)) [
   | less m ↦ (let h : a < b = omega (arith, ints) in h)
-  | same m ↦ (let h : a ≡ b = omega (arith, ints) in absurd (not_self (seen q b) (subst (λ x. seen q x <ℤ seen q b) h l)))
-  | more m ↦ (let h : b < a = omega (arith, ints) in absurd (not_both_less (seen q a) (seen q b) l (by_key great (distance q b) (distance q a) (base ^ b) (base ^ a) (sym e) (part_rises b a h))))
+  | same m ↦ (let h : a ≡ b = omega (arith, ints) in absurd (not_self (seen q b)
+      (subst (λ x. seen q x <ℤ seen q b) h l)))
+  | more m ↦ (let h : b < a = omega (arith, ints) in absurd (not_both_less (seen q a) (seen q b) l
+      (by_key great (distance q b) (distance q a) (base ^ b) (base ^ a) (sym e) (part_rises b a h))))
 ]
   where
     -- no number is less than itself
@@ -167,12 +222,15 @@ key_from q a b e l = elim (compare (pos a) (pos b)) [
 -- and what is lower comes before
 before_true : (q a b : ℕ) → IsKey b → seen q a <ℤ seen q b → comes_before q a b ≡ true
 before_true q a b kb l = elim (compare (distance q a) (distance q b)) [
-  | less m ↦ left_true (lt_z (distance q a) (distance q b)) (not (lt_z (distance q b) (distance q a)) && nat_lt a b) (less_true (distance q a) (distance q b) m)
+  | less m ↦ left_true (lt_z (distance q a) (distance q b)) (not (lt_z (distance q b) (distance q a)) && nat_lt a b)
+      (less_true (distance q a) (distance q b) m)
   | same e ↦ right_true (lt_z (distance q a) (distance q b)) (not (lt_z (distance q b) (distance q a)) && nat_lt a b)
       (both_true (not (lt_z (distance q b) (distance q a))) (nat_lt a b)
-      (not_true (lt_z (distance q b) (distance q a)) (false_if (lt_z (distance q b) (distance q a)) (λ t. differ (distance q b) (distance q a) (less_from (distance q b) (distance q a) t) (sym e))))
+      (not_true (lt_z (distance q b) (distance q a)) (false_if (lt_z (distance q b) (distance q a))
+      (λ t. differ (distance q b) (distance q a) (less_from (distance q b) (distance q a) t) (sym e))))
       (below_true a b (key_from q a b e l)))
-  | more m ↦ absurd (not_both_less (seen q a) (seen q b) l (by_distance great (distance q b) (distance q a) (base ^ b) (base ^ a) (part_below b kb) m))
+  | more m ↦ absurd (not_both_less (seen q a) (seen q b) l (by_distance great (distance q b) (distance q a) (base ^ b)
+      (base ^ a) (part_below b kb) m))
 ]
   where
     -- a number that is less is another
@@ -182,14 +240,26 @@ before_true q a b kb l = elim (compare (distance q a) (distance q b)) [
 -- ---- the nearest
 
 -- where three others are not lower than the first, what their weights carry is not lower
-none_lower : (o l wa wb wc wd fz fp fb fc fd : ℤ) → o *ℤ fz ≡ l +ℤ (wa *ℤ fp +ℤ wb *ℤ fb +ℤ wc *ℤ fc +ℤ wd *ℤ fd) → wa +ℤ wb +ℤ wc +ℤ wd ≡ o → pos 0 <ℤ o → pos 0 ≤ℤ l → pos 0 ≤ℤ wb → pos 0 ≤ℤ wc → pos 0 ≤ℤ wd → pos 0 ≤ℤ (fb -ℤ fp) → pos 0 ≤ℤ (fc -ℤ fp) → pos 0 ≤ℤ (fd -ℤ fp) → pos 0 ≤ℤ (fz -ℤ fp)
+none_lower : (o l wa wb wc wd fz fp fb fc fd : ℤ) → o *ℤ fz ≡ l +ℤ (wa *ℤ fp +ℤ wb *ℤ fb +ℤ wc *ℤ fc +ℤ wd *ℤ fd) →
+    wa +ℤ wb +ℤ wc +ℤ wd ≡ o → pos 0 <ℤ o → pos 0 ≤ℤ l → pos 0 ≤ℤ wb → pos 0 ≤ℤ wc → pos 0 ≤ℤ wd → pos 0 ≤ℤ (fb -ℤ fp) →
+    pos 0 ≤ℤ (fc -ℤ fp) → pos 0 ≤ℤ (fd -ℤ fp) → pos 0 ≤ℤ (fz -ℤ fp)
 none_lower o l wa wb wc wd fz fp fb fc fd e f ho hl hb hc hd kb kc kd =
-    not_below (fz -ℤ fp) (λ m. omega (arith, ints, i, hl, mul_pos_neg o (fz -ℤ fp) ho m, mul_nonneg wb (fb -ℤ fp) hb kb, mul_nonneg wc (fc -ℤ fp) hc kc, mul_nonneg wd (fd -ℤ fp) hd kd))
+    not_below (fz -ℤ fp) (λ m. omega (
+      arith,
+      ints,
+      i,
+      hl,
+      mul_pos_neg o (fz -ℤ fp) ho m,
+      mul_nonneg wb (fb -ℤ fp) hb kb,
+      mul_nonneg wc (fc -ℤ fp) hc kc,
+      mul_nonneg wd (fd -ℤ fp) hd kd,
+    ))
   where
     -- the first is taken away on both sides
     i : o *ℤ (fz -ℤ fp) ≡ l +ℤ (wb *ℤ (fb -ℤ fp) +ℤ wc *ℤ (fc -ℤ fp) +ℤ wd *ℤ (fd -ℤ fp))
     i =
-        ring_from (var 0 ⊗ (var 6 ⊖ var 7)) (var 1 ⊕ (var 3 ⊗ (var 8 ⊖ var 7) ⊕ var 4 ⊗ (var 9 ⊖ var 7) ⊕ var 5 ⊗ (var 10 ⊖ var 7)))
+        ring_from (var 0 ⊗ (var 6 ⊖ var 7)) (var 1 ⊕ (var 3 ⊗ (var 8 ⊖ var 7) ⊕ var 4 ⊗ (var 9 ⊖ var 7) ⊕ var 5 ⊗
+        (var 10 ⊖ var 7)))
         (given (lit (pos 1)) (var 0 ⊗ var 6) (var 1 ⊕ (var 2 ⊗ var 7 ⊕ var 3 ⊗ var 8 ⊕ var 4 ⊗ var 9 ⊕ var 5 ⊗ var 10))
         (given (var 7) (var 2 ⊕ var 3 ⊕ var 4 ⊕ var 5) (var 0) nothing))
         (o ∷ l ∷ wa ∷ wb ∷ wc ∷ wd ∷ fz ∷ fp ∷ fb ∷ fc ∷ fd ∷ []) (e, (f, tt)) tt
@@ -248,7 +318,11 @@ module _ (s : List ℕ) (k : AreKeys s) (p : ℕ) where
       | inl f ↦ at f (closest_left at_set t)
       | inr u ↦ elim u [
         | inl f ↦ at f (closest_left at_set (closest_left at_set t))
-        | inr v ↦ elim v [ inl f ↦ at f (closest_left at_set (closest_left at_set (closest_right at_set t))) | inr none ↦ absurd none ]
+        | inr v ↦ elim v [
+          | inl f ↦ at f (closest_left at_set (closest_left at_set (closest_right at_set t)))
+          | inr none
+              ↦ absurd none
+        ]
       ]
     ]
   ]
@@ -278,7 +352,9 @@ module _ (s : List ℕ) (k : AreKeys s) (p : ℕ) where
           | inr kc ↦ elim (lower_or_not q g.d p) [
             | inl r ↦ found g.d (inr (inr (inr (inl refl)))) r
             | inr kd ↦ absurd (not_lower (seen q e) (seen q p) l
-                (none_lower (orientation p g.b g.c g.d) (lifted height p g.b g.c g.d e) (orientation g.b g.d g.c e) (orientation p g.c g.d e) (orientation p g.d g.b e) (orientation p g.b g.c e) (seen q e) (seen q p) (seen q g.b) (seen q g.c) (seen q g.d)
+                (none_lower (orientation p g.b g.c g.d) (lifted height p g.b g.c g.d e) (orientation g.b g.d g.c e)
+                (orientation p g.c g.d e) (orientation p g.d g.b e) (orientation p g.b g.c e) (seen q e) (seen q p)
+                (seen q g.b) (seen q g.c) (seen q g.d)
                 (seen_carried q p g.b g.c g.d e) (weights_of p g.b g.c g.d e) (full_turned F) (full_empty F e m)
                 (last_weight e g.c g.d g.b (closest_right at_set g.near) m)
                 (last_weight e g.d g.b g.c (closest_right at_set (closest_right at_set g.near)) m)
@@ -309,7 +385,8 @@ nearest_by_cells s q p z a k i mp mz t =
     let g = some_lower s k p q z i mp mz (lower_from q z p (k.below z mz) t) in
     record {
       cell = cell_of (point p) (point g.b) (point g.c) (point g.d);
-      listed = test_is_listed s a k (point p) (point g.b) (point g.c) (point g.d) (cell_true s k (point p) (point g.b) (point g.c) (point g.d) (inl g.full));
+      listed = test_is_listed s a k (point p) (point g.b) (point g.c) (point g.d)
+          (cell_true s k (point p) (point g.b) (point g.c) (point g.d) (inl g.full));
       has = in_ascending_from (p ∷ g.b ∷ g.c ∷ g.d ∷ []) p (inl refl);
       other = g.other;
       shares = in_ascending_from (p ∷ g.b ∷ g.c ∷ g.d ∷ []) g.other g.one;

@@ -25,7 +25,8 @@ pub record HasNearer (s : List ℕ) (q p : ℕ) : Type 0 where
   pub nearer : comes_before q other p ≡ true
 
 -- Where some point of the set comes before p, a point that shares a cell with p does. So p is the nearest point of the
--- set, among those as near the one with the least key, exactly where no point that shares a cell with it comes before it.
+-- set, among those as near the one with the least key, exactly where no point that shares a cell with it comes before
+-- it.
 abbrev pub NearestByCells : Type 0
 NearestByCells =
     (s : List ℕ) (q p z : ℕ) → IsAscending s → AreKeys s → is_solid s ≡ true → IsIn p s → IsIn z s →

@@ -23,10 +23,12 @@ places_differ a b s e f = ne_eqb b a (λ q. let g = ap (λ x. is_among x s) q in
 -- the points of the set with b and without a
 in_moved : (a b p : ℕ) (s : List ℕ) → (b == a) ≡ false → (b ≡ p) ⊎ IsIn p (without_point a s) → IsIn p (moved_to a b s)
 in_moved a b p s n (inl e) =
-    filtered_true (λ q. not (q == a)) (with_point b s) p (subst (λ (x : ℕ). IsIn x (with_point b s)) e (in_with_new b s))
+    filtered_true (λ q. not (q == a)) (with_point b s) p (subst (λ (x : ℕ). IsIn x (with_point b s)) e
+    (in_with_new b s))
     (subst (λ (x : ℕ). not (x == a) ≡ true) e (ap not n))
 in_moved a b p s n (inr i) =
-    filtered_true (λ q. not (q == a)) (with_point b s) p (in_with_old b p s (in_filtered (λ q. not (q == a)) s p i)) (passes (λ q. not (q == a)) s p i)
+    filtered_true (λ q. not (q == a)) (with_point b s) p (in_with_old b p s (in_filtered (λ q. not (q == a)) s p i))
+    (passes (λ q. not (q == a)) s p i)
 
 from_moved : (a b p : ℕ) (s : List ℕ) → IsIn p (moved_to a b s) → (b ≡ p) ⊎ IsIn p (without_point a s)
 from_moved a b p s i =
@@ -36,22 +38,32 @@ from_moved a b p s i =
     ]
 
 -- whether it is solid, found from the set without a, and b before it
-pub solid_moved : (a b : ℕ) (s : List ℕ) → (b == a) ≡ false → is_solid (b ∷ without_point a s) ≡ is_solid (moved_to a b s)
-solid_moved a b s n = solid_same (b ∷ without_point a s) (moved_to a b s) (λ p i. in_moved a b p s n i) (λ p i. from_moved a b p s i)
+pub solid_moved : (a b : ℕ) (s : List ℕ) → (b == a) ≡ false → is_solid (b ∷ without_point a s) ≡ is_solid
+    (moved_to a b s)
+solid_moved a b s n = solid_same (b ∷ without_point a s) (moved_to a b s) (λ p i. in_moved a b p s n i)
+    (λ p i. from_moved a b p s i)
 
 -- the point is taken out first, or put in first
-pub moved_either : (a b : ℕ) (s : List ℕ) → IsAscending s → (b == a) ≡ false → with_point b (without_point a s) ≡ moved_to a b s
+pub moved_either : (a b : ℕ) (s : List ℕ) → IsAscending s → (b == a) ≡ false →
+    with_point b (without_point a s) ≡ moved_to a b s
 moved_either a b s h n =
     same_members (with_point b (without_point a s)) (moved_to a b s)
-    (ascending_with b (without_point a s) (ascending_without a s h)) (ascending_without a (with_point b s) (ascending_with b s h))
+    (ascending_with b (without_point a s) (ascending_without a s h))
+    (ascending_without a (with_point b s) (ascending_with b s h))
     (λ p i. in_moved a b p s n (in_with b p (without_point a s) i))
-    (λ p i. elim (from_moved a b p s i) [ inl e ↦ subst (λ (x : ℕ). IsIn x (with_point b (without_point a s))) e (in_with_new b (without_point a s)) | inr j ↦ in_with_old b p (without_point a s) j ])
+    (λ p i. elim (from_moved a b p s i) [
+      | inl e ↦ subst (λ (x : ℕ). IsIn x (with_point b (without_point a s))) e
+          (in_with_new b (without_point a s))
+      | inr j ↦ in_with_old b p (without_point a s) j
+    ])
 
 -- a point that is not there is not there without another
-pub absent_removed : (a b i : ℕ) (s t : List ℕ) → t ≡ s → remove t i ≡ without_point a t → is_among b s ≡ false → is_among b (remove s i) ≡ false
+pub absent_removed : (a b i : ℕ) (s t : List ℕ) → t ≡ s → remove t i ≡ without_point a t → is_among b s ≡ false →
+    is_among b (remove s i) ≡ false
 absent_removed a b i s t e f g =
     let r : remove s i ≡ without_point a s = sym (ap (λ (l : List ℕ). remove l i) e) ∙ f ∙ ap (without_point a) e in
-    ap (is_among b) r ∙ false_if (is_among b (without_point a s)) (λ h. let k = among_true b s (in_filtered (λ q. not (q == a)) s b (among_from b (without_point a s) h)) in cc)
+    ap (is_among b) r ∙ false_if (is_among b (without_point a s)) (λ h. let k =
+    among_true b s (in_filtered (λ q. not (q == a)) s b (among_from b (without_point a s) h)) in cc)
 
 -- ---- replies
 
@@ -64,7 +76,8 @@ pub record HasMoved (a b : ℕ) (s : List ℕ) : Type 0 where
 pub has_moved : (a b : ℕ) (s : List ℕ) → reply_to s (Move a b) ≡ Moved → HasMoved a b s
 has_moved a b s e = by (is_among a s) (is_among b s) (is_solid (moved_to a b s)) refl refl refl e
   where
-    by : (x y z : Bool) → is_among a s ≡ x → is_among b s ≡ y → is_solid (moved_to a b s) ≡ z → cond x (cond y Occupied (cond z Moved Flat)) Missing ≡ Moved → HasMoved a b s
+    by : (x y z : Bool) → is_among a s ≡ x → is_among b s ≡ y → is_solid (moved_to a b s) ≡ z →
+        cond x (cond y Occupied (cond z Moved Flat)) Missing ≡ Moved → HasMoved a b s
     by true false true f g h e = record { there = f; free = g; solid = h }
     by true false false f g h e = absurd cc
     by true true z f g h e = absurd cc
@@ -75,7 +88,8 @@ pub does_move : (a b : ℕ) (s : List ℕ) → HasMoved a b s → reply_to s (Mo
 does_move a b s h = rw (h.there, h.free, h.solid) refl
 
 -- or it stays, where the set would not be solid
-pub does_not_move : (a b : ℕ) (s : List ℕ) → is_among a s ≡ true → is_among b s ≡ false → is_solid (moved_to a b s) ≡ false → reply_to s (Move a b) ≡ Flat
+pub does_not_move : (a b : ℕ) (s : List ℕ) → is_among a s ≡ true → is_among b s ≡ false →
+    is_solid (moved_to a b s) ≡ false → reply_to s (Move a b) ≡ Flat
 does_not_move a b s f g h = rw (f, g, h) refl
 
 -- what is no move brings no second place

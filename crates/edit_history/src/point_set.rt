@@ -53,8 +53,8 @@ impl PointSet {
     ///
     /// An added point is a duplicate where it is there. A taken one is missing where it is not; where it is there, the
     /// reply is `Flat` if the set without it has no four independent points. A point to be moved is missing where it is
-    /// not there; where it is, its new place is occupied if a point is there, and the reply is `Flat` if the set with the
-    /// point at its new place has no four independent points.
+    /// not there; where it is, its new place is occupied if a point is there, and the reply is `Flat` if the set with
+    /// the point at its new place has no four independent points.
     pub fn reply_of(&self, edit: Edit) -> Reply
         ensures { result ≡ reply_to self.now edit }
     {

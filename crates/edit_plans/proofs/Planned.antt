@@ -42,8 +42,10 @@ there_or None f = absurd (f refl)
 there_or (Some c) f = refl
 
 -- the bucket of a point by its number
-here_at : (hold : InHand) (p e b : ℕ) → HoldsHome hold p → e ≡ p → b ≡ bucket_of hold.grid e → IsSome (bucket_at hold.places b)
-here_at hold p e b home same number = subst (λ (x : ℕ). IsSome (bucket_at hold.places x)) (sym (number ∙ ap (bucket_of hold.grid) same)) home
+here_at : (hold : InHand) (p e b : ℕ) → HoldsHome hold p → e ≡ p → b ≡ bucket_of hold.grid e →
+    IsSome (bucket_at hold.places b)
+here_at hold p e b home same number = subst (λ (x : ℕ). IsSome (bucket_at hold.places x))
+    (sym (number ∙ ap (bucket_of hold.grid) same)) home
 
 -- the edit touches the bucket of its own point
 pub own_touched : (g : ℕ) (s : List ℕ) (edit : Edit) → IsTouched g s edit (bucket_of g (point_of edit))
@@ -64,29 +66,36 @@ quiet_change s edit same = subst (λ (l : List ℕ). IsChange (complex s) (compl
 abbrev pub IsQuiet : Plan → Reply → Type 0
 IsQuiet plan reply = (plan.reply ≡ reply) × (plan.gone.items ≡ []) × (plan.fresh.items ≡ [])
 
-quiet_plan : (hold : InHand) (s : List ℕ) (edit : Edit) (plan : Plan) (reply : Reply) → IsQuiet plan reply → HasKeys edit → is_move edit ≡ false → reply_to s edit ≡ reply → after s edit ≡ s → HoldTouched hold.grid s edit hold.places → IsPlanIn hold s edit plan
+quiet_plan : (hold : InHand) (s : List ℕ) (edit : Edit) (plan : Plan) (reply : Reply) → IsQuiet plan reply →
+    HasKeys edit → is_move edit ≡ false → reply_to s edit ≡ reply → after s edit ≡ s →
+    HoldTouched hold.grid s edit hold.places → IsPlanIn hold s edit plan
 quiet_plan hold s edit plan reply q key still right same touched = record {
   reply = q.0 ∙ sym right;
   key = key;
   still = still;
-  change = subst (λ (t : List Cell × List Cell). IsChange (complex s) (complex (after s edit)) t.0 t.1) (λ i. (sym q.1 i, sym q.2 i)) (quiet_change s edit same);
+  change = subst (λ (t : List Cell × List Cell). IsChange (complex s) (complex (after s edit)) t.0 t.1)
+      (λ i. (sym q.1 i, sym q.2 i)) (quiet_change s edit same);
   gone = λ c i. absurd (subst (λ (l : List Cell). IsIn c l) q.1 i);
   fresh = λ c i. absurd (subst (λ (l : List Cell). IsIn c l) q.2 i);
   touched = touched;
 }
 
 -- a point to be added that is there
-pub plan_duplicate : (hold : InHand) (s : List ℕ) (p : ℕ) (plan : Plan) → IsQuiet plan Duplicate → IsKey p → HoldsHome hold p → is_among p s ≡ true → IsPlanIn hold s (Add p) plan
+pub plan_duplicate : (hold : InHand) (s : List ℕ) (p : ℕ) (plan : Plan) → IsQuiet plan Duplicate → IsKey p →
+    HoldsHome hold p → is_among p s ≡ true → IsPlanIn hold s (Add p) plan
 plan_duplicate hold s p plan q key home there =
-    quiet_plan hold s (Add p) plan Duplicate q key refl (duplicate s p there) (ap (changed s p) (duplicate s p there)) (λ b t. elim t.reached [
+    quiet_plan hold s (Add p) plan Duplicate q key refl (duplicate s p there) (ap (changed s p) (duplicate s p there))
+    (λ b t. elim t.reached [
       | inl e ↦ here_at hold p t.point b home e t.number
       | inr r ↦ absurd (r.0 (among_from p s there))
     ])
 
 -- a point to be taken that is not
-pub plan_missing : (hold : InHand) (s : List ℕ) (p : ℕ) (plan : Plan) → IsQuiet plan Missing → IsKey p → HoldsHome hold p → is_among p s ≡ false → IsPlanIn hold s (Take p) plan
+pub plan_missing : (hold : InHand) (s : List ℕ) (p : ℕ) (plan : Plan) → IsQuiet plan Missing → IsKey p →
+    HoldsHome hold p → is_among p s ≡ false → IsPlanIn hold s (Take p) plan
 plan_missing hold s p plan q key home lacks =
-    quiet_plan hold s (Take p) plan Missing q key refl (missing s p lacks) (ap (changed s p) (missing s p lacks)) (λ b t. elim t.reached [
+    quiet_plan hold s (Take p) plan Missing q key refl (missing s p lacks) (ap (changed s p) (missing s p lacks))
+    (λ b t. elim t.reached [
       | inl e ↦ here_at hold p t.point b home e t.number
       | inr r ↦ absurd (not_among s p lacks r.0)
     ])
@@ -101,13 +110,17 @@ inserted : (s : List ℕ) (p : ℕ) → IsNew s p → reply_to s (Add p) ≡ Ins
 inserted s p new = inserts s p (false_if (is_among p s) (λ t. new.absent (among_from p s t)))
 
 -- every bucket that the addition touches is in hand
-comes_touched : (hold : InHand) (s : List ℕ) (p : ℕ) → HoldsHome hold p → dig.NoneIsNeeded hold s p → HoldTouched hold.grid s (Add p) hold.places
+comes_touched : (hold : InHand) (s : List ℕ) (p : ℕ) → HoldsHome hold p → dig.NoneIsNeeded hold s p →
+    HoldTouched hold.grid s (Add p) hold.places
 comes_touched hold s p home none b t = elim t.reached [
   | inl e ↦ here_at hold p t.point b home e t.number
-  | inr r ↦ there_or (bucket_at hold.places b) (λ lacks. none b record { absent = lacks; cell = r.1.q; goes = r.1.goes; point = t.point; has = r.1.has; number = t.number })
+  | inr r ↦ there_or (bucket_at hold.places b) (λ lacks. none b record
+      { absent = lacks; cell = r.1.q; goes = r.1.goes; point = t.point; has = r.1.has; number = t.number })
 ]
 
-pub plan_inserted : (hold : InHand) (s : List ℕ) (p : ℕ) (arrival : Arrival) (t : ArrivalTurn) (f : Fresh) → Shows hold s → IsPlannerIn hold s (Coming p arrival) → t ≡ Comes f → ArrivalGives hold s p t → IsPlanIn hold s (Add p) (record { reply = Inserted; gone = f.gone; fresh = f.fresh })
+pub plan_inserted : (hold : InHand) (s : List ℕ) (p : ℕ) (arrival : Arrival) (t : ArrivalTurn) (f : Fresh) →
+    Shows hold s → IsPlannerIn hold s (Coming p arrival) → t ≡ Comes f → ArrivalGives hold s p t →
+    IsPlanIn hold s (Add p) (record { reply = Inserted; gone = f.gone; fresh = f.fresh })
 plan_inserted hold s p arrival t f sh k is gives =
     let g = subst (λ (x : ArrivalTurn). ArrivalGives hold s p x) is gives in
     let new = new_in hold s p arrival k.1 in
@@ -116,37 +129,58 @@ plan_inserted hold s p arrival t f sh k is gives =
       reply = sym right;
       key = new.key;
       still = refl;
-      change = subst (λ (l : List ℕ). IsChange (complex s) (complex l) f.gone.items f.fresh.items) (sym (ap (changed s p) right)) g.1.change;
+      change = subst (λ (l : List ℕ). IsChange (complex s) (complex l) f.gone.items f.fresh.items)
+          (sym (ap (changed s p) right)) g.1.change;
       gone = g.2;
       fresh = fresh_are_held s p f.gone.items f.fresh.items hold (solid_set hold s sh) new g.1 g.2 k.0;
       touched = comes_touched hold s p k.0 g.0;
     }
 
 -- it is asked for a bucket; the addition of a new point is not exact
-pub comes_asks : (hold : InHand) (s : List ℕ) (p b : ℕ) (arrival next : Arrival) (t : ArrivalTurn) → IsPlannerIn hold s (Coming p arrival) → t ≡ Lacks b next → ArrivalGives hold s p t → IsAsked hold s (Add p) b (Coming p next)
+pub comes_asks : (hold : InHand) (s : List ℕ) (p b : ℕ) (arrival next : Arrival) (t : ArrivalTurn) →
+    IsPlannerIn hold s (Coming p arrival) → t ≡ Lacks b next → ArrivalGives hold s p t →
+    IsAsked hold s (Add p) b (Coming p next)
 comes_asks hold s p b arrival next t k is gives =
     let g = subst (λ (x : ArrivalTurn). ArrivalGives hold s p x) is gives in
     let right = inserted s p (new_in hold s p arrival k.1) in
-    record { lacking = g.0; exact = λ x. absurd (let e : Inserted ≡ Duplicate = sym right ∙ x in cc e); same = refl; stands = (k.0, g.1) }
+    record {
+      lacking = g.0;
+      exact = λ x. absurd (let e : Inserted ≡ Duplicate = sym right ∙ x in cc e);
+      same = refl;
+      stands = (k.0, g.1);
+    }
 
 -- ---- a point that goes
 
 -- every bucket that the removal touches is in hand
-goes_touched : (hold : InHand) (s : List ℕ) (p : ℕ) → HoldsHome hold p → refill.NoneIsNeeded hold s p → HoldTouched hold.grid s (Take p) hold.places
+goes_touched : (hold : InHand) (s : List ℕ) (p : ℕ) → HoldsHome hold p → refill.NoneIsNeeded hold s p →
+    HoldTouched hold.grid s (Take p) hold.places
 goes_touched hold s p home none b t = elim t.reached [
   | inl e ↦ here_at hold p t.point b home e t.number
-  | inr r ↦ there_or (bucket_at hold.places b) (λ lacks. none b record { absent = lacks; cell = r.1.q; listed = r.1.listed; has_v = r.1.has_p; point = t.point; has = r.1.has_e; number = t.number })
+  | inr r ↦ there_or (bucket_at hold.places b) (λ lacks. none b record {
+    absent = lacks;
+    cell = r.1.q;
+    listed = r.1.listed;
+    has_v = r.1.has_p;
+    point = t.point;
+    has = r.1.has_e;
+    number =
+        t.number;
+  })
 ]
 
 -- a bucket that is needed is touched
-needed_touched : (hold : InHand) (s : List ℕ) (p b : ℕ) → IsIn p s → refill.IsNeeded hold s p b → IsTouched hold.grid s (Take p) b
+needed_touched : (hold : InHand) (s : List ℕ) (p b : ℕ) → IsIn p s → refill.IsNeeded hold s p b →
+    IsTouched hold.grid s (Take p) b
 needed_touched hold s p b i n = record {
   point = n.point;
   reached = inr (i, record { q = n.cell; listed = n.listed; has_p = n.has_v; has_e = n.has });
   number = n.number;
 }
 
-pub plan_removed : (hold : InHand) (s : List ℕ) (p v : ℕ) (t : RefillTurn) (f : Fresh) → Shows hold s → IsPlannerIn hold s (Going p) → v ≡ p → t ≡ turn.Done f → refill.RefillGives hold s v t → IsPlanIn hold s (Take p) (record { reply = Removed; gone = f.gone; fresh = f.fresh })
+pub plan_removed : (hold : InHand) (s : List ℕ) (p v : ℕ) (t : RefillTurn) (f : Fresh) → Shows hold s →
+    IsPlannerIn hold s (Going p) → v ≡ p → t ≡ turn.Done f → refill.RefillGives hold s v t →
+    IsPlanIn hold s (Take p) (record { reply = Removed; gone = f.gone; fresh = f.fresh })
 plan_removed hold s p v t f sh k same is gives =
     let g = subst (λ (x : ℕ × RefillTurn). refill.RefillGives hold s x.0 x.1) (λ i. (same i, is i)) gives in
     let right : reply_to s (Take p) ≡ Removed = reply_there s p (among_true p s k.1) g.1.solid in
@@ -154,22 +188,32 @@ plan_removed hold s p v t f sh k same is gives =
       reply = sym right;
       key = sh.keys.below p k.1;
       still = refl;
-      change = subst (λ (l : List ℕ). IsChange (complex s) (complex l) f.gone.items f.fresh.items) (sym (ap (changed s p) right)) g.1.change;
+      change = subst (λ (l : List ℕ). IsChange (complex s) (complex l) f.gone.items f.fresh.items)
+          (sym (ap (changed s p) right)) g.1.change;
       gone = g.2;
       fresh = g.3;
       touched = goes_touched hold s p k.0 g.0;
     }
 
-pub plan_flat : (hold : InHand) (s : List ℕ) (p v : ℕ) (t : RefillTurn) (plan : Plan) → Shows hold s → IsPlannerIn hold s (Going p) → v ≡ p → IsQuiet plan Flat → t ≡ turn.Flat → refill.RefillGives hold s v t → IsPlanIn hold s (Take p) plan
+pub plan_flat : (hold : InHand) (s : List ℕ) (p v : ℕ) (t : RefillTurn) (plan : Plan) → Shows hold s →
+    IsPlannerIn hold s (Going p) → v ≡ p → IsQuiet plan Flat → t ≡ turn.Flat → refill.RefillGives hold s v t →
+    IsPlanIn hold s (Take p) plan
 plan_flat hold s p v t plan sh k same q is gives =
     let g = subst (λ (x : ℕ × RefillTurn). refill.RefillGives hold s x.0 x.1) (λ i. (same i, is i)) gives in
-    quiet_plan hold s (Take p) plan Flat q (sh.keys.below p k.1) refl (flat s p (among_true p s k.1) g.1) (ap (changed s p) (flat s p (among_true p s k.1) g.1)) (goes_touched hold s p k.0 g.0)
+    quiet_plan hold s (Take p) plan Flat q (sh.keys.below p k.1) refl (flat s p (among_true p s k.1) g.1)
+    (ap (changed s p) (flat s p (among_true p s k.1) g.1)) (goes_touched hold s p k.0 g.0)
 
-pub goes_asks : (hold : InHand) (s : List ℕ) (p v b : ℕ) (t : RefillTurn) → IsPlannerIn hold s (Going p) → v ≡ p → t ≡ turn.Need b → refill.RefillGives hold s v t → refill.AsksBelow (length hold.places) t → IsAsked hold s (Take p) b (Going p)
+pub goes_asks : (hold : InHand) (s : List ℕ) (p v b : ℕ) (t : RefillTurn) → IsPlannerIn hold s (Going p) → v ≡ p →
+    t ≡ turn.Need b → refill.RefillGives hold s v t → refill.AsksBelow (length hold.places) t →
+    IsAsked hold s (Take p) b (Going p)
 goes_asks hold s p v b t k same is gives below =
     let g = subst (λ (x : ℕ × RefillTurn). refill.RefillGives hold s x.0 x.1) (λ i. (same i, is i)) gives in
     record {
-      lacking = record { below = subst (λ (x : RefillTurn). refill.AsksBelow (length hold.places) x) is below; absent = g.absent };
+      lacking = record {
+        below = subst (λ (x : RefillTurn). refill.AsksBelow (length hold.places) x) is below;
+        absent =
+            g.absent;
+      };
       exact = λ x. needed_touched hold s p b k.1 g;
       same = refl;
       stands = k;
@@ -180,13 +224,18 @@ goes_asks hold s p v b t k same is gives below =
 home_still : (few many : InHand) (p : ℕ) → AreAmong few many → HoldsHome few p → HoldsHome many p
 home_still few many p a h =
     let c = some_of (bucket_at few.places (bucket_of few.grid p)) h in
-    subst (λ (g : ℕ). IsSome (bucket_at many.places (bucket_of g p))) a.grid (is_there (bucket_at many.places (bucket_of few.grid p)) c.0 (a.buckets (bucket_of few.grid p) c.0 c.1))
+    subst (λ (g : ℕ). IsSome (bucket_at many.places (bucket_of g p))) a.grid
+    (is_there (bucket_at many.places (bucket_of few.grid p)) c.0 (a.buckets (bucket_of few.grid p) c.0 c.1))
 
 pub planner_stays : PlannerStays
 planner_stays few many s (Home edit) a k = k
-planner_stays few many s (Coming p arrival) a k = (home_still few many p a k.0, arrival_stays few many s p arrival a k.1)
+planner_stays few many s (Coming p arrival) a k = (
+  home_still few many p a k.0,
+  arrival_stays few many s p arrival a k.1,
+)
 planner_stays few many s (Going p) a k = (home_still few many p a k.0, k.1)
 
 -- a planner that begins
-pub home_begins : (hold : InHand) (s : List ℕ) (edit : Edit) (planner : Planner) → is_move edit ≡ false → planner ≡ Home edit → IsPlannerIn hold s planner
+pub home_begins : (hold : InHand) (s : List ℕ) (edit : Edit) (planner : Planner) → is_move edit ≡ false →
+    planner ≡ Home edit → IsPlannerIn hold s planner
 home_begins hold s edit planner still is = subst (λ (x : Planner). IsPlannerIn hold s x) (sym is) still

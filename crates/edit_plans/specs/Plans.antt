@@ -28,8 +28,8 @@ IsExact (Take p) reply = Unit {0}
 IsExact (Add p) reply = reply ≡ Duplicate
 IsExact (Move a b) reply = ⊥
 
--- The plan is what the edit, which moves nothing, changes in the set s: its reply, exactly the cells that go and those that come, whose
--- buckets are in hand, as is every bucket that the edit touches.
+-- The plan is what the edit, which moves nothing, changes in the set s: its reply, exactly the cells that go and those
+-- that come, whose buckets are in hand, as is every bucket that the edit touches.
 pub record IsPlanIn (hold : InHand) (s : List ℕ) (edit : Edit) (plan : Plan) : Type 0 where
   pub reply : plan.reply ≡ reply_to s edit
   pub key : HasKeys edit
@@ -53,8 +53,8 @@ edit_of (Goes p) = Take p
 abbrev pub HoldsHome : InHand → ℕ → Type 0
 HoldsHome hold p = IsSome (bucket_at hold.places (bucket_of hold.grid p))
 
--- The planner stands right in the set s: the edit to begin with moves nothing; of a point that comes the arrival does, and one that goes is there; the bucket
--- of either is in hand.
+-- The planner stands right in the set s: the edit to begin with moves nothing; of a point that comes the arrival does,
+-- and one that goes is there; the bucket of either is in hand.
 abbrev pub IsPlannerIn : InHand → List ℕ → Planner → Type 0
 IsPlannerIn hold s (Home edit) = is_move edit ≡ false
 IsPlannerIn hold s (Comes p arrival) = HoldsHome hold p × IsArrivalIn hold s p arrival

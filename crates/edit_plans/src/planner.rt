@@ -5,7 +5,11 @@ ghost use Rattle.edit_history.specs.declared.history.Edit.TheVariants.{Add, Take
 ghost use Rattle.edit_history.specs.Edits.{is_move};
 ghost use Rattle.cell_store.specs.Meshes.{AllInHand};
 ghost use Rattle.cell_store.specs.Shares.{ShowsSome};
-ghost use Rattle.edit_plans.specs.declared.planner.Planner.TheVariants.{Home as IsHome, Comes as IsComing, Goes as IsGoing};
+ghost use Rattle.edit_plans.specs.declared.planner.Planner.TheVariants.{
+  Home as IsHome,
+  Comes as IsComing,
+  Goes as IsGoing,
+};
 ghost use Rattle.edit_plans.specs.Plans.{HoldsHome, IsPlan, ShowsPlanner, PlanAnswers};
 
 use cavity::Fresh;

@@ -187,8 +187,8 @@ impl MeshTable {
         pass.seen = pass.seen.max(seen);
     }
 
-    /// Makes an edit, and answers its number and its reply. The pass is to be one of this table, and the edit is to move
-    /// nothing.
+    /// Makes an edit, and answers its number and its reply. The pass is to be one of this table, and the edit is to
+    /// move nothing.
     ///
     /// # Errors
     /// The pass may make no more edits, which is seen first; or a bucket is in another pass's hands; or want of memory.

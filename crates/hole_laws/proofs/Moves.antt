@@ -45,7 +45,8 @@ abbrev pub Reach : PointSet → Change → Vertex → Type 0
 Reach S (step e) q = one.Reach S e q
 Reach S (move a b) q =
     (q ≡ a) ⊎ (q ≡ b)
-    ⊎ (has S a ≡ true) × (has S b ≡ false) × (IsAtGone (cell S) (cell (plus S b)) q ⊎ (q ≢ far) × AreLinked (cell (plus S b)) a q)
+    ⊎ (has S a ≡ true) × (has S b ≡ false) × (IsAtGone (cell S) (cell (plus S b)) q ⊎ (q ≢ far) ×
+    AreLinked (cell (plus S b)) a q)
 
 -- both orders do the same
 pub record Commutes (S : PointSet) (e d : Change) : Type 0 where
@@ -96,10 +97,12 @@ own_along S (add p) T = inl refl
 own_along S (take p) T = inl refl
 
 -- two steps, the second of which comes first now
-turned : (S : PointSet) (e d : Step) (S1 S2 : PointSet) → solid S ≡ true → (m : one.Makes S e S1) → (n : one.Makes S1 d S2) →
+turned : (S : PointSet) (e d : Step) (S1 S2 : PointSet) → solid S ≡ true → (m : one.Makes S e S1) →
+    (n : one.Makes S1 d S2) →
     Disjoint (one.Along S e S1) (one.Along S1 d S2) → one.Turned S e d S1 S2
 turned S e d S1 S2 s m n apart =
-    one.turn S e d S1 S2 s (λ f. apart (one.point_of e) (own_along S e S1) (subst (λ (q : Vertex). one.Along S1 d S2 q) (sym f) (own_along S1 d S2))) m n apart
+    one.turn S e d S1 S2 s (λ f. apart (one.point_of e) (own_along S e S1)
+    (subst (λ (q : Vertex). one.Along S1 d S2 q) (sym f) (own_along S1 d S2))) m n apart
 
 -- a step behind some steps
 record Past (S : PointSet) (e : Step) (S1 : PointSet) (ds : Plan) (S2 : PointSet) (p : Path S1 ds S2) : Type 0 where
@@ -109,14 +112,16 @@ record Past (S : PointSet) (e : Step) (S1 : PointSet) (ds : Plan) (S2 : PointSet
   reach_e : (q : Vertex) → one.Along by e S2 q ↔ one.Along S e S1 q
   reach_ds : (q : Vertex) → Reached S ds by path q ↔ Reached S1 ds S2 p q
 
-past : (S : PointSet) (e : Step) (S1 : PointSet) (ds : Plan) (S2 : PointSet) → solid S ≡ true → one.Makes S e S1 → (p : Path S1 ds S2) →
+past : (S : PointSet) (e : Step) (S1 : PointSet) (ds : Plan) (S2 : PointSet) → solid S ≡ true → one.Makes S e S1 →
+    (p : Path S1 ds S2) →
     Disjoint (one.Along S e S1) (Reached S1 ds S2 p) → Past S e S1 ds S2 p
 past S e S1 (last d) S2 s m p apart =
     let t = turned S e d S1 S2 s m p apart in
     record { by = t.by; path = t.first; final = t.second; reach_e = t.reach_e; reach_ds = t.reach_d }
 past S e S1 (then d ds) S2 s m p apart =
     let t = turned S e d S1 p.0 s m p.1 (λ q a b. apart q a (inl b)) in
-    let r = past t.by e p.0 ds S2 (one.makes_solid S d t.by s t.first) t.second p.2 (λ q a b. apart q ((t.reach_e q).0 a) (inr b)) in
+    let r = past t.by e p.0 ds S2 (one.makes_solid S d t.by s t.first) t.second p.2
+    (λ q a b. apart q ((t.reach_e q).0 a) (inr b)) in
     record {
       by = r.by;
       path = (t.by, t.first, r.path);
@@ -129,14 +134,16 @@ past S e S1 (then d ds) S2 s m p apart =
     }
 
 -- some steps behind some others
-record Swapped (S : PointSet) (es : Plan) (S1 : PointSet) (ds : Plan) (S2 : PointSet) (p : Path S es S1) (r : Path S1 ds S2) : Type 0 where
+record Swapped (S : PointSet) (es : Plan) (S1 : PointSet) (ds : Plan) (S2 : PointSet) (p : Path S es S1)
+    (r : Path S1 ds S2) : Type 0 where
   by : PointSet
   first : Path S ds by
   second : Path by es S2
   reach_ds : (q : Vertex) → Reached S ds by first q ↔ Reached S1 ds S2 r q
   reach_es : (q : Vertex) → Reached by es S2 second q ↔ Reached S es S1 p q
 
-swap : (S : PointSet) (es : Plan) (S1 : PointSet) (ds : Plan) (S2 : PointSet) → solid S ≡ true → (p : Path S es S1) → (r : Path S1 ds S2) →
+swap : (S : PointSet) (es : Plan) (S1 : PointSet) (ds : Plan) (S2 : PointSet) → solid S ≡ true → (p : Path S es S1) →
+    (r : Path S1 ds S2) →
     Disjoint (Reached S es S1 p) (Reached S1 ds S2 r) → Swapped S es S1 ds S2 p r
 swap S (last e) S1 ds S2 s p r apart =
     let x = past S e S1 ds S2 s p r apart in
@@ -165,7 +172,8 @@ module _ (S : PointSet) (a b : Vertex) (T : PointSet) (n : a ≢ b) (p : Path S 
   middle = corners.adds_same S (plus S b) p.0 b (corners.plus_adds S b (finite p.0 b p.1.present) p.1.absent) p.1
 
   ends : minus (plus S b) a ≡ T
-  ends = ap (λ (U : PointSet). minus U a) middle ∙ corners.takes_same (minus p.0 a) T p.0 a (corners.minus_adds p.0 a p.2.0.present) p.2.0
+  ends = ap (λ (U : PointSet). minus U a) middle ∙ corners.takes_same (minus p.0 a) T p.0 a
+      (corners.minus_adds p.0 a p.2.0.present) p.2.0
 
   move_after : after S (move a b) ≡ T
   move_after = cond_true (has S a) (cond (has S b) S (cond (solid (minus (plus S b) a)) (minus (plus S b) a) S)) S had
@@ -197,7 +205,11 @@ module _ (S : PointSet) (a b : Vertex) (T : PointSet) (n : a ≢ b) (p : Path S 
 
       back : Reached S (steps (move a b)) T p q → Reach S (move a b) q
       back (inl x) = elim (added.1 x) [ inl e ↦ inr (inl e) | inr g ↦ inr (inr (had, p.1.absent, inl g.1)) ]
-      back (inr x) = elim (taken.1 x) [ inl e ↦ inl e | inr l ↦ inr (inr (had, p.1.absent, inr (l.1, subst (λ (U : PointSet). AreLinked (cell U) a q) (sym middle) l.2))) ]
+      back (inr x) = elim (taken.1 x) [
+        | inl e ↦ inl e
+        | inr l ↦ inr
+            (inr (had, p.1.absent, inr (l.1, subst (λ (U : PointSet). AreLinked (cell U) a q) (sym middle) l.2)))
+      ]
 
 -- ---- an edit that is made
 
@@ -214,17 +226,20 @@ real_reply : (S : PointSet) (c : Change) (T : PointSet) → IsProper c → Path 
 real_reply S (step e) T n p = one.makes_reply S e T p
 real_reply S (move a b) T n p = move_reply S a b T n p
 
-real_reach : (S : PointSet) (c : Change) (T : PointSet) → IsProper c → (p : Path S (steps c) T) → (q : Vertex) → Reach S c q ↔ Reached S (steps c) T p q
+real_reach : (S : PointSet) (c : Change) (T : PointSet) → IsProper c → (p : Path S (steps c) T) → (q : Vertex) →
+    Reach S c q ↔ Reached S (steps c) T p q
 real_reach S (step e) T n p q = one.makes_reach S e T p q
 real_reach S (move a b) T n p q = move_reach S a b T n p q
 
 -- it reaches a point that was there
-real_touches : (S : PointSet) (c : Change) (T : PointSet) → solid S ≡ true → ArePoints c → IsProper c → Path S (steps c) T → (q : Vertex) × (has S q ≡ true) × Reach S c q
+real_touches : (S : PointSet) (c : Change) (T : PointSet) → solid S ≡ true → ArePoints c → IsProper c →
+    Path S (steps c) T → (q : Vertex) × (has S q ≡ true) × Reach S c q
 real_touches S (step e) T s k n p = one.touches S e s k (one.makes_busy S e T p)
 real_touches S (move a b) T s k n p = (a, had S a b T n p, inl refl)
 
 -- and one that is there then
-real_stays : (S : PointSet) (c : Change) (T : PointSet) → solid S ≡ true → IsProper c → Path S (steps c) T → (q : Vertex) × (has T q ≡ true) × Reach S c q
+real_stays : (S : PointSet) (c : Change) (T : PointSet) → solid S ≡ true → IsProper c → Path S (steps c) T →
+    (q : Vertex) × (has T q ≡ true) × Reach S c q
 real_stays S (step e) T s n p = one.stays S e T s p
 real_stays S (move a b) T s n p = (b, sym (p.2.0.same b (λ e. n (sym e))) ∙ p.1.present, inr (inl refl))
 
@@ -262,14 +277,28 @@ idle_step S e i = record {
 
 flat_step : (S : PointSet) (e : Step) → solid S ≡ true → one.IsFlat S e → IsFlat S (step e)
 flat_step S (add p) s f = absurd f
-flat_step S (take p) s f = record { after = one.flat_after S (take p) f; reach = one.flat_reach S (take p) s f; some = p; there = f.0 }
+flat_step S (take p) s f = record {
+  after = one.flat_after S (take p) f;
+  reach = one.flat_reach S (take p) s f;
+  some =
+      p;
+  there = f.0;
+}
 
 -- a move of a point that is not there
 missing_move : (S : PointSet) (a b : Vertex) → has S a ≡ false → IsIdle S (move a b)
 missing_move S a b f = record {
-  after = λ T g. cond_false (has T a) (cond (has T b) T (cond (solid (minus (plus T b) a)) (minus (plus T b) a) T)) T (lacks T g);
+  after = λ T g. cond_false (has T a) (cond (has T b) T (cond (solid (minus (plus T b) a)) (minus (plus T b) a) T)) T
+      (lacks T g);
   reply = λ T g. answer T (lacks T g) ∙ sym (answer S f);
-  reach = λ T g q r. elim r [ inl e ↦ inl e | inr x ↦ elim x [ inl e ↦ inr e | inr y ↦ absurd (false≢true (sym (lacks T g) ∙ y.0)) ] ];
+  reach = λ T g q r. elim r [
+    | inl e ↦ inl e
+    | inr x ↦ elim x [
+      | inl e ↦ inr e
+      | inr y ↦ absurd
+          (false≢true (sym (lacks T g) ∙ y.0))
+    ]
+  ];
 }
   where
     lacks : (T : PointSet) → Agree (move a b) S T → has T a ≡ false
@@ -281,20 +310,30 @@ missing_move S a b f = record {
 -- a move to a place where a point is
 occupied_move : (S : PointSet) (a b : Vertex) → has S a ≡ true → has S b ≡ true → IsIdle S (move a b)
 occupied_move S a b f h = record {
-  after = λ T g. cond_true (has T a) (cond (has T b) T (cond (solid (minus (plus T b) a)) (minus (plus T b) a) T)) T (g a (inl refl) ∙ f)
+  after = λ T g. cond_true (has T a) (cond (has T b) T (cond (solid (minus (plus T b) a)) (minus (plus T b) a) T)) T
+      (g a (inl refl) ∙ f)
       ∙ cond_true (has T b) T (cond (solid (minus (plus T b) a)) (minus (plus T b) a) T) (there T g);
   reply = λ T g. answer T (g a (inl refl) ∙ f) (there T g) ∙ sym (answer S f h);
-  reach = λ T g q r. elim r [ inl e ↦ inl e | inr x ↦ elim x [ inl e ↦ inr e | inr y ↦ absurd (false≢true (sym y.1 ∙ there T g)) ] ];
+  reach = λ T g q r. elim r [
+    | inl e ↦ inl e
+    | inr x ↦ elim x [
+      | inl e ↦ inr e
+      | inr y ↦ absurd
+          (false≢true (sym y.1 ∙ there T g))
+    ]
+  ];
 }
   where
     there : (T : PointSet) → Agree (move a b) S T → has T b ≡ true
     there T g = g b (inr refl) ∙ h
 
     answer : (T : PointSet) → has T a ≡ true → has T b ≡ true → reply T (move a b) ≡ Occupied
-    answer T e k = cond_true (has T a) (cond (has T b) Occupied (cond (solid (minus (plus T b) a)) Moved Flat)) Missing e
+    answer T e k = cond_true (has T a) (cond (has T b) Occupied (cond (solid (minus (plus T b) a)) Moved Flat)) Missing
+        e
         ∙ cond_true (has T b) Occupied (cond (solid (minus (plus T b) a)) Moved Flat) k
 
-module _ (S : PointSet) (a b : Vertex) (s : solid S ≡ true) (kb : is_point b ≡ true) (f : has S a ≡ true) (h : has S b ≡ false) where
+module _ (S : PointSet) (a b : Vertex) (s : solid S ≡ true) (kb : is_point b ≡ true) (f : has S a ≡ true)
+    (h : has S b ≡ false) where
   differ : a ≢ b
   differ e = false≢true (sym h ∙ ap (has S) (sym e) ∙ f)
 
@@ -310,10 +349,11 @@ module _ (S : PointSet) (a b : Vertex) (s : solid S ≡ true) (kb : is_point b �
     after = cond_true (has S a) (cond (has S b) S (cond (solid (minus (plus S b) a)) (minus (plus S b) a) S)) S f
         ∙ cond_false (has S b) S (cond (solid (minus (plus S b) a)) (minus (plus S b) a) S) h
         ∙ cond_false (solid (minus (plus S b) a)) (minus (plus S b) a) S u;
-    reach = λ q k. elim (one.flat_reach (plus S b) (take a) (from.solid_add S (plus S b) b s adds) (kept a f, u) q (kept q k)) [
-      | inl e ↦ inl e
-      | inr l ↦ inr (inr (f, h, inr (l.1, l.2)))
-    ];
+    reach = λ q k. elim (one.flat_reach (plus S b) (take a) (from.solid_add S (plus S b) b s adds) (kept a f, u) q
+        (kept q k)) [
+          | inl e ↦ inl e
+          | inr l ↦ inr (inr (f, h, inr (l.1, l.2)))
+        ];
     some = a;
     there = f;
   }
@@ -345,7 +385,8 @@ kind S (move a b) s k = by (has S a) (has S b) (solid (minus (plus S b) a)) refl
 -- ---- two edits
 
 -- an edit changes no other point
-others : (S : PointSet) (c : Change) (q : Vertex) → solid S ≡ true → ArePoints c → (Own c q → ⊥) → has (after S c) q ≡ has S q
+others : (S : PointSet) (c : Change) (q : Vertex) → solid S ≡ true → ArePoints c → (Own c q → ⊥) →
+    has (after S c) q ≡ has S q
 others S (step e) q s k free = one.others S e q k free
 others S (move a b) q s k free = by (kind S (move a b) s k)
   where
@@ -363,7 +404,8 @@ solid_after S c s k = by (kind S c s k)
     by (flat f) = ap solid f.after ∙ s
     by (real n p) = path_solid S (steps c) (after S c) s p
 
-module _ (S : PointSet) (e d : Change) (s : solid S ≡ true) (ke : ArePoints e) (kd : ArePoints d) (apart : Disjoint (Reach S e) (Reach (after S e) d)) where
+module _ (S : PointSet) (e d : Change) (s : solid S ≡ true) (ke : ArePoints e) (kd : ArePoints d)
+    (apart : Disjoint (Reach S e) (Reach (after S e) d)) where
   -- where the first changes nothing
   idle_first : IsIdle S e → Commutes S e d
   idle_first i = record {
@@ -371,7 +413,10 @@ module _ (S : PointSet) (e d : Change) (s : solid S ≡ true) (ke : ArePoints e)
     reply_d = ap (λ (U : PointSet). reply U d) (sym p);
     reply_e = i.reply (after S d) agree;
     reach_d = λ x. (subst (λ (U : PointSet). Reach U d x) (sym p), subst (λ (U : PointSet). Reach U d x) p);
-    reach_e = λ x. (λ h. own_reach S e x (i.reach (after S d) agree x h), λ h. own_reach (after S d) e x (i.reach S (λ r o. refl) x h));
+    reach_e = λ x. (
+      λ h. own_reach S e x (i.reach (after S d) agree x h),
+      λ h. own_reach (after S d) e x (i.reach S (λ r o. refl) x h),
+    );
   }
     where
       p : after S e ≡ S
@@ -386,7 +431,10 @@ module _ (S : PointSet) (e d : Change) (s : solid S ≡ true) (ke : ArePoints e)
     same = ap (λ (U : PointSet). after U e) p ∙ sym (i.after (after S e) (λ r o. refl));
     reply_d = i.reply S agree;
     reply_e = ap (λ (U : PointSet). reply U e) p;
-    reach_d = λ x. (λ h. own_reach (after S e) d x (i.reach S agree x h), λ h. own_reach S d x (i.reach (after S e) (λ r o. refl) x h));
+    reach_d = λ x. (
+      λ h. own_reach (after S e) d x (i.reach S agree x h),
+      λ h. own_reach S d x (i.reach (after S e) (λ r o. refl) x h),
+    );
     reach_e = λ x. (subst (λ (U : PointSet). Reach U e x) p, subst (λ (U : PointSet). Reach U e x) (sym p));
   }
     where
@@ -397,23 +445,31 @@ module _ (S : PointSet) (e d : Change) (s : solid S ≡ true) (ke : ArePoints e)
       p = i.after S agree
 
   -- where both do something
-  both_real : IsProper e → Path S (steps e) (after S e) → IsProper d → Path (after S e) (steps d) (after (after S e) d) → Commutes S e d
+  both_real : IsProper e → Path S (steps e) (after S e) → IsProper d →
+      Path (after S e) (steps d) (after (after S e) d) → Commutes S e d
   both_real ne p nd r = record {
     same = ap (λ (U : PointSet). after U e) first ∙ real_after x.by e (after (after S e) d) ne x.second;
     reply_d = real_reply S d x.by nd x.first ∙ sym (real_reply (after S e) d (after (after S e) d) nd r);
-    reply_e = ap (λ (U : PointSet). reply U e) first ∙ real_reply x.by e (after (after S e) d) ne x.second ∙ sym (real_reply S e (after S e) ne p);
+    reply_e = ap (λ (U : PointSet). reply U e) first ∙ real_reply x.by e (after (after S e) d) ne x.second ∙ sym
+        (real_reply S e (after S e) ne p);
     reach_d = λ q. (
-      λ h. (real_reach (after S e) d (after (after S e) d) nd r q).1 ((x.reach_ds q).0 ((real_reach S d x.by nd x.first q).0 h)),
-      λ h. (real_reach S d x.by nd x.first q).1 ((x.reach_ds q).1 ((real_reach (after S e) d (after (after S e) d) nd r q).0 h)),
+      λ h. (real_reach (after S e) d (after (after S e) d) nd r q).1
+          ((x.reach_ds q).0 ((real_reach S d x.by nd x.first q).0 h)),
+      λ h. (real_reach S d x.by nd x.first q).1 ((x.reach_ds q).1 ((real_reach (after S e) d (after (after S e) d) nd r
+          q).0 h)),
     );
     reach_e = λ q. (
-      λ h. (real_reach S e (after S e) ne p q).1 ((x.reach_es q).0 ((real_reach x.by e (after (after S e) d) ne x.second q).0 (subst (λ (U : PointSet). Reach U e q) first h))),
-      λ h. subst (λ (U : PointSet). Reach U e q) (sym first) ((real_reach x.by e (after (after S e) d) ne x.second q).1 ((x.reach_es q).1 ((real_reach S e (after S e) ne p q).0 h))),
+      λ h. (real_reach S e (after S e) ne p q).1 ((x.reach_es q).0
+          ((real_reach x.by e (after (after S e) d) ne x.second q).0 (subst (λ (U : PointSet). Reach U e q) first h))),
+      λ h. subst (λ (U : PointSet). Reach U e q) (sym first) ((real_reach x.by e (after (after S e) d) ne x.second q).1
+          ((x.reach_es q).1 ((real_reach S e (after S e) ne p q).0 h))),
     );
   }
     where
       x : Swapped S (steps e) (after S e) (steps d) (after (after S e) d) p r
-      x = swap S (steps e) (after S e) (steps d) (after (after S e) d) s p r (λ q a b. apart q ((real_reach S e (after S e) ne p q).1 a) ((real_reach (after S e) d (after (after S e) d) nd r q).1 b))
+      x = swap S (steps e) (after S e) (steps d) (after (after S e) d) s p r
+          (λ q a b. apart q ((real_reach S e (after S e) ne p q).1 a)
+          ((real_reach (after S e) d (after (after S e) d) nd r q).1 b))
 
       first : after S d ≡ x.by
       first = real_after S d x.by nd x.first
@@ -426,7 +482,8 @@ module _ (S : PointSet) (e d : Change) (s : solid S ≡ true) (ke : ArePoints e)
       by (idle i) k = idle_first i
       by (flat f) (idle i) = idle_second i
       by (real n p) (idle i) = idle_second i
-      by (flat f) (flat g) = absurd (apart g.some (f.reach g.some (ap (λ (U : PointSet). has U g.some) (sym f.after) ∙ g.there)) (g.reach g.some g.there))
+      by (flat f) (flat g) = absurd (apart g.some (f.reach g.some (ap (λ (U : PointSet). has U g.some) (sym f.after) ∙
+          g.there)) (g.reach g.some g.there))
       by (flat f) (real n p) =
           let t = real_touches (after S e) d (after (after S e) d) (solid_after S e s ke) kd n p in
           absurd (apart t.0 (f.reach t.0 (ap (λ (U : PointSet). has U t.0) (sym f.after) ∙ t.1)) t.2)
@@ -434,22 +491,29 @@ module _ (S : PointSet) (e d : Change) (s : solid S ≡ true) (ke : ArePoints e)
       by (real n p) (real m r) = both_real n p m r
 
 -- a point of a cell that the edit changes is in its reach
-pub locality : (S : PointSet) (c : Change) (w x y z : Vertex) → solid S ≡ true → ArePoints c → cell S w x y z ≢ cell (after S c) w x y z → z ≢ far → Reach S c z
+pub locality : (S : PointSet) (c : Change) (w x y z : Vertex) → solid S ≡ true → ArePoints c →
+    cell S w x y z ≢ cell (after S c) w x y z → z ≢ far → Reach S c z
 locality S (step e) w x y z s k differs f = one.locality S e w x y z s k differs f
 locality S (move a b) w x y z s k differs f = by (kind S (move a b) s k)
   where
     by : Kind S (move a b) → Reach S (move a b) z
     by (idle i) = absurd (differs (ap (λ (U : PointSet). cell U w x y z) (sym (i.after S (λ r o. refl)))))
     by (flat g) = absurd (differs (ap (λ (U : PointSet). cell U w x y z) (sym g.after)))
-    by (real n p) = (move_reach S a b (after S (move a b)) n p z).1 (where_it_changes (cell S w x y z) (cell p.0 w x y z) (cell (after S (move a b)) w x y z) refl refl refl)
+    by (real n p) = (move_reach S a b (after S (move a b)) n p z).1
+        (where_it_changes (cell S w x y z) (cell p.0 w x y z) (cell (after S (move a b)) w x y z) refl refl refl)
       where
         at_add : cell S w x y z ≢ cell p.0 w x y z → one.Along S (add b) p.0 z
-        at_add d = (one.makes_reach S (add b) p.0 p.1 z).0 (one.locality S (add b) w x y z s k.1 (λ q. d (q ∙ ap (λ (U : PointSet). cell U w x y z) (one.makes_after S (add b) p.0 p.1))) f)
+        at_add d = (one.makes_reach S (add b) p.0 p.1 z).0 (one.locality S (add b) w x y z s k.1
+            (λ q. d (q ∙ ap (λ (U : PointSet). cell U w x y z) (one.makes_after S (add b) p.0 p.1))) f)
 
         at_take : cell p.0 w x y z ≢ cell (after S (move a b)) w x y z → one.Along p.0 (take a) (after S (move a b)) z
-        at_take d = (one.makes_reach p.0 (take a) (after S (move a b)) p.2 z).0 (one.locality p.0 (take a) w x y z (one.makes_solid S (add b) p.0 s p.1) k.0 (λ q. d (q ∙ ap (λ (U : PointSet). cell U w x y z) (one.makes_after p.0 (take a) (after S (move a b)) p.2))) f)
+        at_take d = (one.makes_reach p.0 (take a) (after S (move a b)) p.2 z).0
+            (one.locality p.0 (take a) w x y z (one.makes_solid S (add b) p.0 s p.1) k.0
+            (λ q. d (q ∙ ap (λ (U : PointSet). cell U w x y z) (one.makes_after p.0 (take a) (after S (move a b)) p.2)))
+            f)
 
-        where_it_changes : (u v t : Bool) → cell S w x y z ≡ u → cell p.0 w x y z ≡ v → cell (after S (move a b)) w x y z ≡ t → Reached S (steps (move a b)) (after S (move a b)) p z
+        where_it_changes : (u v t : Bool) → cell S w x y z ≡ u → cell p.0 w x y z ≡ v →
+            cell (after S (move a b)) w x y z ≡ t → Reached S (steps (move a b)) (after S (move a b)) p z
         where_it_changes true false t e g h = inl (at_add (λ q. false≢true (sym g ∙ sym q ∙ e)))
         where_it_changes false true t e g h = inl (at_add (λ q. false≢true (sym e ∙ q ∙ g)))
         where_it_changes true true true e g h = absurd (differs (e ∙ sym h))

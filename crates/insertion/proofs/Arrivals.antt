@@ -16,7 +16,9 @@ use Rattle.insertion.specs.declared.arrival.ArrivalTurn.TheVariants.{Done as Com
 use Rattle.insertion.proofs.Searches.{search_stays}
 
 -- with the dig done the hole is filled
-pub dug : (hold : InHand) (s : List ℕ) (p : ℕ) (d : Digging) (turn : DigTurn) (f : Fresh) → d.point ≡ p → turn ≡ Done → TurnGives hold s d turn → f.gone.items ≡ d.found → (IsDoneIn s d → IsFilled s d.point f.gone.items f.fresh.items) → ArrivalGives hold s p (Comes f)
+pub dug : (hold : InHand) (s : List ℕ) (p : ℕ) (d : Digging) (turn : DigTurn) (f : Fresh) → d.point ≡ p → turn ≡ Done →
+    TurnGives hold s d turn → f.gone.items ≡ d.found → (IsDoneIn s d → IsFilled s d.point f.gone.items f.fresh.items) →
+    ArrivalGives hold s p (Comes f)
 dug hold s p d turn f point is gives gone fills =
     let g = subst (λ (t : DigTurn). TurnGives hold s d t) is gives in (
       subst (λ (x : ℕ). NoneIsNeeded hold s x) point g.0,

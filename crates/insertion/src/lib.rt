@@ -1,8 +1,8 @@
 //! Insertion: what a new point changes, from buckets that come in hand, and in a mesh with every bucket in hand.
 //!
 //! A mesh begins with four independent points. A new point's first cell in conflict is found by a walk (`Search`), the
-//! others by a dig of `cavity` (`Arrival`), by turns where buckets come one by one, and the mesh is changed in place. The
-//! definitions stand in `specs/`.
+//! others by a dig of `cavity` (`Arrival`), by turns where buckets come one by one, and the mesh is changed in place.
+//! The definitions stand in `specs/`.
 //!
 //! ```
 //! // four independent points with tags

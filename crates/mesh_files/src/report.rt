@@ -9,7 +9,17 @@ ghost use Rattle.text_sheets.specs.Lines.{block};
 ghost use Rattle.text_sheets.specs.Sheets.{Puts};
 ghost use Rattle.mesh_files.specs.Report.{AreCounted, parts_of, shapes_seen};
 ghost use Rattle.text_sheets.specs.Indices.{indices_line};
-ghost use Rattle.mesh_files.specs.Text.{reply_line, reply_word, point_line, full_corners, hull_corners, tag_line, order_block, mesh_blocks, report_text};
+ghost use Rattle.mesh_files.specs.Text.{
+  reply_line,
+  reply_word,
+  point_line,
+  full_corners,
+  hull_corners,
+  tag_line,
+  order_block,
+  mesh_blocks,
+  report_text,
+};
 
 use crate::shapes::put_shapes;
 use alpha_complex::Shape;

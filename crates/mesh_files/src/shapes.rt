@@ -27,7 +27,15 @@ ghost use Rattle.text_sheets.specs.Sheets.{Puts};
 ghost use Rattle.mesh_files.specs.Report.{AreCounted, shapes_seen};
 ghost use Rattle.text_sheets.specs.Indices.{index_of, indices_line};
 ghost use Rattle.text_sheets.specs.Lines.{held_line};
-ghost use Rattle.mesh_files.specs.Text.{kind_word, face_line, face_blocks, points_in, counted, shape_text as shape_text_of, shape_blocks};
+ghost use Rattle.mesh_files.specs.Text.{
+  kind_word,
+  face_line,
+  face_blocks,
+  points_in,
+  counted,
+  shape_text as shape_text_of,
+  shape_blocks,
+};
 
 use alpha_complex::{Kind, Shape};
 use byte_ends::{Failed, Sink};
@@ -106,7 +114,8 @@ fn put_triple<O: Sink>(sheet: &mut Sheet, out: &mut O, shape: &Shape, index: usi
     requires points { IsAscending (points_in shape.now.points) }
     requires index { index < length shape.now.triples }
     ensures { Puts (O.holds out.old) (O.holds out.new) (O.faults out.old) (O.faults out.new) sheet.old sheet.new
-        (held_line (λ f. face_line (points_in shape.now.points) f.0 f.1) (slice_index_or shape.now.triples index None)) }
+        (held_line (λ f. face_line (points_in shape.now.points) f.0 f.1)
+        (slice_index_or shape.now.triples index None)) }
 {
     match shape.triple(index) {
         Some((triple, kind)) => put_face(sheet, out, shape.points(), triple.points(), kind),
@@ -118,7 +127,8 @@ fn put_triple<O: Sink>(sheet: &mut Sheet, out: &mut O, shape: &Shape, index: usi
 fn put_triples<O: Sink>(sheet: &mut Sheet, out: &mut O, shape: &Shape)
     requires { IsAscending (points_in shape.now.points) }
     ensures { Puts (O.holds out.old) (O.holds out.new) (O.faults out.old) (O.faults out.new) sheet.old sheet.new
-        (block (codes "triangles") (map (λ f. face_line (points_in shape.now.points) f.0 f.1) (held shape.now.triples))) }
+        (block (codes "triangles")
+        (map (λ f. face_line (points_in shape.now.points) f.0 f.1) (held shape.now.triples))) }
 {
     put_title(sheet, out, b"triangles", shape.triple_count());
     for index in 0..shape.triple_slots() {

@@ -40,11 +40,15 @@ at_first q p l rest e = record {
 }
 
 -- one more cell
-pub one_more : (q p : ℕ) (l m rest : List Cell) (d : Cell) (x n : ℕ) → m ≡ d ∷ rest → IsFirstSo q p l m x → IsFirstOf q (x ∷ points_of d) n → IsFirstSo q p l rest n
+pub one_more : (q p : ℕ) (l m rest : List Cell) (d : Cell) (x n : ℕ) → m ≡ d ∷ rest → IsFirstSo q p l m x →
+    IsFirstOf q (x ∷ points_of d) n → IsFirstSo q p l rest n
 one_more q p l m rest d x n e k f = record {
   among = λ c i. k.among c (subst (λ (v : List Cell). IsIn c v) (sym e) (inr i));
   from = elim f.among [
-    | inl g ↦ elim k.from [ inl h ↦ inl (sym g ∙ h) | inr r ↦ inr (r.0, r.1, subst (λ v. IsIn v (points_of r.0)) g r.2) ]
+    | inl g ↦ elim k.from [
+      | inl h ↦ inl (sym g ∙ h)
+      | inr r ↦ inr (r.0, r.1, subst (λ v. IsIn v (points_of r.0)) g r.2)
+    ]
     | inr i ↦ inr (d, k.among d (subst (λ (v : List Cell). IsIn d v) (sym e) (inl refl)), i)
   ];
   own = not_before_chain q p x n k.own (f.first x (inl refl));
@@ -58,25 +62,30 @@ one_more q p l m rest d x n e k f = record {
 }
 
 -- the cells at p, listed, are all that have it
-pub first_of_all : (s : List ℕ) (q p : ℕ) (l rest : List Cell) (x : ℕ) (hold : InHand) → Shows hold s → IsIn p s → ((c : Cell) → IsIn c l ↔ IsIn c (filter (λ c. is_among p (points_of c)) (complex s))) → ((d : Cell) → ¬ (IsIn d rest)) → IsFirstSo q p l rest x → IsFirstAround s q p x
+pub first_of_all : (s : List ℕ) (q p : ℕ) (l rest : List Cell) (x : ℕ) (hold : InHand) → Shows hold s → IsIn p s →
+    ((c : Cell) → IsIn c l ↔ IsIn c (filter (λ c. is_among p (points_of c)) (complex s))) →
+    ((d : Cell) → ¬ (IsIn d rest)) → IsFirstSo q p l rest x → IsFirstAround s q p x
 first_of_all s q p l rest x hold st m all none k = record {
   beside = elim k.from [
     | inl e ↦ subst (λ v. IsBeside s p v) (sym e) itself
     | inr r ↦ (let i = at r.0 r.1 in record { cell = r.0; listed = i.0; has = i.1; other = r.2 })
   ];
-  first = λ y b. elim (k.first b.cell ((all b.cell).1 (filtered_true (λ c. is_among p (points_of c)) (complex s) b.cell b.listed (among_true p (points_of b.cell) b.has)))) [
-    | inl j ↦ absurd (none b.cell j)
-    | inr g ↦ g y b.other
-  ];
+  first = λ y b. elim (k.first b.cell ((all b.cell).1 (filtered_true (λ c. is_among p (points_of c)) (complex s) b.cell
+      b.listed (among_true p (points_of b.cell) b.has)))) [
+        | inl j ↦ absurd (none b.cell j)
+        | inr g ↦ g y b.other
+      ];
 }
   where
     -- a listed cell of the list has p
     at : (c : Cell) → IsIn c l → IsIn c (complex s) × IsIn p (points_of c)
-    at c i = let f = filtered_from (λ c. is_among p (points_of c)) (complex s) c ((all c).0 i) in (f.0, among_from p (points_of c) f.1)
+    at c i = let f = filtered_from (λ c. is_among p (points_of c)) (complex s) c ((all c).0 i) in
+        (f.0, among_from p (points_of c) f.1)
 
     -- p is in some cell
     itself : IsBeside s p p
-    itself = let h = listed_every_point s p st.ascending st.keys st.solid m in record { cell = Full h.q; listed = h.listed; has = h.has; other = h.has }
+    itself = let h = listed_every_point s p st.ascending st.keys st.solid m in record
+        { cell = Full h.q; listed = h.listed; has = h.has; other = h.has }
 
 -- ---- the nearest
 
@@ -85,16 +94,25 @@ pub beside_in : (s : List ℕ) (p x : ℕ) (hold : InHand) → Shows hold s → 
 beside_in s p x hold st b = listed_inside s b.cell (listed_is_cell s b.cell st.ascending b.listed) x b.other
 
 -- where no point that shares a cell with p comes before it, none of the set does
-pub here_nearest : (hold : InHand) (s : List ℕ) (q p : ℕ) → Shows hold s → IsIn p s → IsFirstAround s q p p → IsNearest s q p
+pub here_nearest : (hold : InHand) (s : List ℕ) (q p : ℕ) → Shows hold s → IsIn p s → IsFirstAround s q p p →
+    IsNearest s q p
 here_nearest hold s q p st m f = record {
   among = m;
   first = λ e i. false_if (comes_before q e p) (λ t. (
       let h = nearest_by_cells s q p e st.ascending st.keys st.solid m i t in
-      not_both (comes_before q h.other p) h.nearer (f.first h.other (record { cell = h.cell; listed = h.listed; has = h.has; other = h.shares }))));
+      not_both (comes_before q h.other p) h.nearer (f.first h.other
+      (record { cell = h.cell; listed = h.listed; has = h.has; other = h.shares }))));
 }
 
 -- another first one comes before
-pub moved_before : (s : List ℕ) (q p x : ℕ) (hold : InHand) → Shows hold s → IsIn p s → ¬ (x ≡ p) → IsFirstAround s q p x → comes_before q x p ≡ true
+pub moved_before : (s : List ℕ) (q p x : ℕ) (hold : InHand) → Shows hold s → IsIn p s → ¬ (x ≡ p) →
+    IsFirstAround s q p x → comes_before q x p ≡ true
 moved_before s q p x hold st m n f =
     let h = listed_every_point s p st.ascending st.keys st.solid m in
-    one_before q p x (λ e. n (sym e)) (f.first p (record { cell = Full h.q; listed = h.listed; has = h.has; other = h.has }))
+    one_before q p x (λ e. n (sym e)) (f.first p (record {
+      cell = Full h.q;
+      listed = h.listed;
+      has = h.has;
+      other =
+          h.has;
+    }))

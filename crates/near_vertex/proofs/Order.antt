@@ -1,10 +1,55 @@
 -- The order of points by distance and key.
-use Rattle.std.specs.Prelude.{◌≡◌, refl, ℕ, ℤ, pos, negsuc, ◌≤ℤ◌, ◌<ℤ◌, ◌<◌, ◌≤◌, ◌+◌, ◌*◌, ◌^◌, true, false, not, ◌&&◌, nat_lt, List, [], ◌∷◌, ◌⊎◌, length, take, slice_index_or}
+use Rattle.std.specs.Prelude.{
+  ◌≡◌,
+  refl,
+  ℕ,
+  ℤ,
+  pos,
+  negsuc,
+  ◌≤ℤ◌,
+  ◌<ℤ◌,
+  ◌<◌,
+  ◌≤◌,
+  ◌+◌,
+  ◌*◌,
+  ◌^◌,
+  true,
+  false,
+  not,
+  ◌&&◌,
+  nat_lt,
+  List,
+  [],
+  ◌∷◌,
+  ◌⊎◌,
+  length,
+  take,
+  slice_index_or,
+}
 use Rattle.std.specs.Int.Signed.{lt_z}
 use Rattle.std.proofs.Common.{arith, inl, inr, sym, subst}
 use Rattle.std.proofs.lemmas.Int.{ints}
 use Rattle.whole_ring.proofs.Cited.{square_nonneg}
-use Rattle.list_laws.proofs.Cited.{below_from, below_true, both_true, false_if, first_true, left_true, less_from, less_true, not_both, not_from, not_true, one_true, right_true, second_true, in_left, in_right, in_take_more, take_next}
+use Rattle.list_laws.proofs.Cited.{
+  below_from,
+  below_true,
+  both_true,
+  false_if,
+  first_true,
+  left_true,
+  less_from,
+  less_true,
+  not_both,
+  not_from,
+  not_true,
+  one_true,
+  right_true,
+  second_true,
+  in_left,
+  in_right,
+  in_take_more,
+  take_next,
+}
 use Rattle.point_order.specs.Orientation.{distance, square_of_step, x_from, y_from, z_from}
 use Rattle.point_order.specs.Sets.{IsIn}
 use Rattle.del_laws.specs.Nearest.{comes_before}
@@ -38,20 +83,25 @@ clash da db a b (as_near l k) n = let f = n.late l in omega (arith, f, k)
 
 -- what the test says
 lower_from : (q a b : ℕ) → comes_before q a b ≡ true → IsLower (distance q a) (distance q b) a b
-lower_from q a b t = elim (one_true (lt_z (distance q a) (distance q b)) (not (lt_z (distance q b) (distance q a)) && nat_lt a b) t) [
-  | inl u ↦ nearer (less_from (distance q a) (distance q b) u)
-  | inr u ↦ as_near
-      (at_most (distance q b) (distance q a) (λ l. not_both (lt_z (distance q b) (distance q a)) (less_true (distance q b) (distance q a) l) (not_from (lt_z (distance q b) (distance q a)) (first_true (not (lt_z (distance q b) (distance q a))) (nat_lt a b) u))))
-      (below_from a b (second_true (not (lt_z (distance q b) (distance q a))) (nat_lt a b) u))
-]
+lower_from q a b t = elim (one_true (lt_z (distance q a) (distance q b))
+    (not (lt_z (distance q b) (distance q a)) && nat_lt a b) t) [
+      | inl u ↦ nearer (less_from (distance q a) (distance q b) u)
+      | inr u ↦ as_near
+          (at_most (distance q b) (distance q a) (λ l. not_both (lt_z (distance q b) (distance q a))
+          (less_true (distance q b) (distance q a) l) (not_from (lt_z (distance q b) (distance q a))
+          (first_true (not (lt_z (distance q b) (distance q a))) (nat_lt a b) u))))
+          (below_from a b (second_true (not (lt_z (distance q b) (distance q a))) (nat_lt a b) u))
+    ]
 
 -- and back
 lower_true : (q a b : ℕ) → IsLower (distance q a) (distance q b) a b → comes_before q a b ≡ true
-lower_true q a b (nearer l) = left_true (lt_z (distance q a) (distance q b)) (not (lt_z (distance q b) (distance q a)) && nat_lt a b) (less_true (distance q a) (distance q b) l)
+lower_true q a b (nearer l) = left_true (lt_z (distance q a) (distance q b))
+    (not (lt_z (distance q b) (distance q a)) && nat_lt a b) (less_true (distance q a) (distance q b) l)
 lower_true q a b (as_near l k) =
     right_true (lt_z (distance q a) (distance q b)) (not (lt_z (distance q b) (distance q a)) && nat_lt a b)
     (both_true (not (lt_z (distance q b) (distance q a))) (nat_lt a b)
-    (not_true (lt_z (distance q b) (distance q a)) (false_if (lt_z (distance q b) (distance q a)) (λ t. two (distance q a) (distance q b) l (less_from (distance q b) (distance q a) t))))
+    (not_true (lt_z (distance q b) (distance q a)) (false_if (lt_z (distance q b) (distance q a))
+    (λ t. two (distance q a) (distance q b) l (less_from (distance q b) (distance q a) t))))
     (below_true a b k))
   where
     -- not both ways
@@ -67,7 +117,8 @@ not_lower_from q a b f = record {
 
 -- and back
 not_lower_false : (q a b : ℕ) → IsNotLower (distance q a) (distance q b) a b → comes_before q a b ≡ false
-not_lower_false q a b n = false_if (comes_before q a b) (λ t. clash (distance q a) (distance q b) a b (lower_from q a b t) n)
+not_lower_false q a b n = false_if (comes_before q a b) (λ t. clash (distance q a) (distance q b) a b
+    (lower_from q a b t) n)
 
 -- ---- an order
 
@@ -76,7 +127,8 @@ chain : (da db dc : ℤ) (a b c : ℕ) → IsLower da db a b → IsLower db dc b
 chain da db dc a b c (nearer l) (nearer m) = nearer (let h : da <ℤ dc = omega (arith, ints) in h)
 chain da db dc a b c (nearer l) (as_near m k) = nearer (let h : da <ℤ dc = omega (arith, ints) in h)
 chain da db dc a b c (as_near l i) (nearer m) = nearer (let h : da <ℤ dc = omega (arith, ints) in h)
-chain da db dc a b c (as_near l i) (as_near m k) = as_near (let h : da ≤ℤ dc = omega (arith, ints) in h) (let h : a < c = omega arith in h)
+chain da db dc a b c (as_near l i) (as_near m k) = as_near (let h : da ≤ℤ dc = omega (arith, ints) in h)
+    (let h : a < c = omega arith in h)
 
 -- not lower than what is not lower
 not_chain : (da db dc : ℤ) (a b c : ℕ) → IsNotLower da db a b → IsNotLower db dc b c → IsNotLower da dc a c
@@ -94,7 +146,11 @@ not_chain da db dc a b c m n = record {
 
 -- no point comes before itself
 pub before_self : (q a : ℕ) → comes_before q a a ≡ false
-before_self q a = not_lower_false q a a (record { far = same (distance q a); late = λ m. (let h : a ≤ a = omega arith in h) })
+before_self q a = not_lower_false q a a (record {
+  far = same (distance q a);
+  late =
+      λ m. (let h : a ≤ a = omega arith in h);
+})
   where
     -- a number is at most itself
     same : (x : ℤ) → x ≤ℤ x
@@ -102,11 +158,14 @@ before_self q a = not_lower_false q a a (record { far = same (distance q a); lat
 
 -- what comes before a point that comes before another comes before it
 pub before_chain : (q a b c : ℕ) → comes_before q a b ≡ true → comes_before q b c ≡ true → comes_before q a c ≡ true
-before_chain q a b c t u = lower_true q a c (chain (distance q a) (distance q b) (distance q c) a b c (lower_from q a b t) (lower_from q b c u))
+before_chain q a b c t u = lower_true q a c (chain (distance q a) (distance q b) (distance q c) a b c
+    (lower_from q a b t) (lower_from q b c u))
 
 -- the same of what does not
-pub not_before_chain : (q a b c : ℕ) → comes_before q a b ≡ false → comes_before q b c ≡ false → comes_before q a c ≡ false
-not_before_chain q a b c t u = not_lower_false q a c (not_chain (distance q a) (distance q b) (distance q c) a b c (not_lower_from q a b t) (not_lower_from q b c u))
+pub not_before_chain : (q a b c : ℕ) → comes_before q a b ≡ false → comes_before q b c ≡ false →
+    comes_before q a c ≡ false
+not_before_chain q a b c t u = not_lower_false q a c (not_chain (distance q a) (distance q b) (distance q c) a b c
+    (not_lower_from q a b t) (not_lower_from q b c u))
 
 -- of two points one comes before the other
 pub one_before : (q a b : ℕ) → ¬ (a ≡ b) → comes_before q a b ≡ false → comes_before q b a ≡ true
@@ -127,15 +186,25 @@ one_before q a b n f = lower_true q b a (other (distance q a) (distance q b) (no
 
 -- of one alone
 pub first_alone : (q p : ℕ) → IsFirstOf q (p ∷ []) p
-first_alone q p = record { among = inl refl; first = λ y m. elim m [ inl e ↦ subst (λ v. comes_before q v p ≡ false) e (before_self q p) | inr none ↦ absurd none ] }
+first_alone q p = record {
+  among = inl refl;
+  first = λ y m. elim m
+      [ inl e ↦ subst (λ v. comes_before q v p ≡ false) e (before_self q p) | inr none ↦ absurd none ];
+}
 
 -- one more member that comes before the first so far
-pub one_first : (q p : ℕ) (l : List ℕ) (i x best : ℕ) → i < length l → x ≡ slice_index_or l i x → IsFirstOf q (p ∷ take i l) best → comes_before q x best ≡ true → IsFirstOf q (p ∷ take (i + 1) l) x
+pub one_first : (q p : ℕ) (l : List ℕ) (i x best : ℕ) → i < length l → x ≡ slice_index_or l i x →
+    IsFirstOf q (p ∷ take i l) best → comes_before q x best ≡ true → IsFirstOf q (p ∷ take (i + 1) l) x
 one_first q p l i x best h e k t = record {
-  among = inr (subst (λ (m : List ℕ). IsIn x m) (sym (take_next l i x h e)) (in_right x (take i l) (x ∷ []) (inl refl)));
+  among = inr (subst (λ (m : List ℕ). IsIn x m) (sym (take_next l i x h e))
+      (in_right x (take i l) (x ∷ []) (inl refl)));
   first = λ y m. elim m [
     | inl r ↦ subst (λ v. comes_before q v x ≡ false) r (after p (k.first p (inl refl)))
-    | inr r ↦ elim (in_take_more l i x y h e r) [ inl j ↦ after y (k.first y (inr j)) | inr j ↦ subst (λ v. comes_before q v x ≡ false) j (before_self q x) ]
+    | inr r ↦ elim (in_take_more l i x y h e r) [
+      | inl j ↦ after y (k.first y (inr j))
+      | inr j ↦ subst
+          (λ v. comes_before q v x ≡ false) j (before_self q x)
+    ]
   ];
 }
   where
@@ -144,12 +213,21 @@ one_first q p l i x best h e k t = record {
     after y f = false_if (comes_before q y x) (λ u. not_both (comes_before q y best) (before_chain q y x best u t) f)
 
 -- one more that does not
-pub one_later : (q p : ℕ) (l : List ℕ) (i x best : ℕ) → i < length l → x ≡ slice_index_or l i x → IsFirstOf q (p ∷ take i l) best → comes_before q x best ≡ false → IsFirstOf q (p ∷ take (i + 1) l) best
+pub one_later : (q p : ℕ) (l : List ℕ) (i x best : ℕ) → i < length l → x ≡ slice_index_or l i x →
+    IsFirstOf q (p ∷ take i l) best → comes_before q x best ≡ false → IsFirstOf q (p ∷ take (i + 1) l) best
 one_later q p l i x best h e k f = record {
-  among = elim k.among [ inl r ↦ inl r | inr r ↦ inr (subst (λ (m : List ℕ). IsIn best m) (sym (take_next l i x h e)) (in_left best (take i l) (x ∷ []) r)) ];
+  among = elim k.among [
+    | inl r ↦ inl r
+    | inr r ↦ inr (subst (λ (m : List ℕ). IsIn best m) (sym (take_next l i x h e))
+        (in_left best (take i l) (x ∷ []) r))
+  ];
   first = λ y m. elim m [
     | inl r ↦ k.first y (inl r)
-    | inr r ↦ elim (in_take_more l i x y h e r) [ inl j ↦ k.first y (inr j) | inr j ↦ subst (λ v. comes_before q v best ≡ false) j f ]
+    | inr r ↦ elim (in_take_more l i x y h e r) [
+      | inl j ↦ k.first y (inr j)
+      | inr j ↦ subst
+          (λ v. comes_before q v best ≡ false) j f
+    ]
   ];
 }
 
@@ -167,7 +245,11 @@ later_before q p x (y ∷ l) c m = elim m [
 pub no_point_twice : NoPointTwice
 no_point_twice q [] c = tt
 no_point_twice q (p ∷ []) c = ((λ m. m), tt)
-no_point_twice q (p ∷ x ∷ l) c = ((λ m. not_both (comes_before q p p) (later_before q p p (x ∷ l) c m) (before_self q p)), no_point_twice q (x ∷ l) c.1)
+no_point_twice q (p ∷ x ∷ l) c = (
+  (λ m. not_both (comes_before q p p) (later_before q p p (x ∷ l) c m)
+      (before_self q p)),
+  no_point_twice q (x ∷ l) c.1,
+)
 
 -- ---- a walk ends
 
@@ -183,10 +265,17 @@ rank q p = size (distance q p) * 2 ^ 42 + p
 -- no distance is negative
 not_negative : (q p : ℕ) → pos 0 ≤ℤ distance q p
 unfolding distance square_of_step
-not_negative q p = omega (arith, ints, square_nonneg (x_from q p), square_nonneg (y_from q p), square_nonneg (z_from q p))
+not_negative q p = omega (
+  arith,
+  ints,
+  square_nonneg (x_from q p),
+  square_nonneg (y_from q p),
+  square_nonneg (z_from q p),
+)
 
 -- in numbers
-falls : (da db : ℤ) (a b : ℕ) → pos 0 ≤ℤ da → pos 0 ≤ℤ db → a < 2 ^ 42 → IsLower da db a b → size da * 2 ^ 42 + a < size db * 2 ^ 42 + b
+falls : (da db : ℤ) (a b : ℕ) → pos 0 ≤ℤ da → pos 0 ≤ℤ db → a < 2 ^ 42 → IsLower da db a b →
+    size da * 2 ^ 42 + a < size db * 2 ^ 42 + b
 falls (pos m) (pos n) a b ha hb k (nearer l) = omega (arith, ints, l, k)
 falls (pos m) (pos n) a b ha hb k (as_near l i) = omega (arith, ints, l, i)
 falls (negsuc m) db a b ha hb k l = absurd (let h : ⊥ = omega (arith, ints, ha) in h)
@@ -194,4 +283,5 @@ falls (pos m) (negsuc n) a b ha hb k l = absurd (let h : ⊥ = omega (arith, int
 
 -- it is less where the one comes before the other
 pub rank_falls : (q a b : ℕ) → a < 2 ^ 42 → comes_before q a b ≡ true → rank q a < rank q b
-rank_falls q a b k t = falls (distance q a) (distance q b) a b (not_negative q a) (not_negative q b) k (lower_from q a b t)
+rank_falls q a b k t = falls (distance q a) (distance q b) a b (not_negative q a) (not_negative q b) k
+    (lower_from q a b t)

@@ -1,5 +1,27 @@
 -- The first point of a walk, and the first bucket that is not in hand.
-use Rattle.std.specs.Prelude.{◌≡◌, refl, ℕ, zero, suc, ◌+◌, ◌*◌, ◌%◌, ◌<◌, ◌≤◌, ◌==◌, ◌⊎◌, List, [], ◌∷◌, Option, None, Some, IsSome, length, slice_index_or}
+use Rattle.std.specs.Prelude.{
+  ◌≡◌,
+  refl,
+  ℕ,
+  zero,
+  suc,
+  ◌+◌,
+  ◌*◌,
+  ◌%◌,
+  ◌<◌,
+  ◌≤◌,
+  ◌==◌,
+  ◌⊎◌,
+  List,
+  [],
+  ◌∷◌,
+  Option,
+  None,
+  Some,
+  IsSome,
+  length,
+  slice_index_or,
+}
 use Rattle.std.proofs.Common.{arith, inl, inr, sym, subst}
 use Rattle.list_laws.proofs.Cited.{filtered_from, filtered_true, none_there, one_below, round, same_true, some_of}
 use Rattle.point_order.specs.Sets.{IsIn}
@@ -26,7 +48,8 @@ no_front [] e = refl
 no_front (p ∷ l) e = cc
 
 -- one more bucket without a point
-pub one_bucket : (hold : InHand) (b : ℕ) → NoneBelow hold b → front_of (points_in hold.places b) ≡ None → NoneBelow hold (b + 1)
+pub one_bucket : (hold : InHand) (b : ℕ) → NoneBelow hold b → front_of (points_in hold.places b) ≡ None →
+    NoneBelow hold (b + 1)
 one_bucket hold b k e i l = elim (one_below b i l) [
   | inl h ↦ k i h
   | inr h ↦ subst (λ v. points_in hold.places v ≡ []) (sym h) (no_front (points_in hold.places b) e)
@@ -40,7 +63,11 @@ past_end (o ∷ l) (suc i) h = past_end l i (omega (arith, h))
 
 -- all buckets
 pub none_of_all : (hold : InHand) (n : ℕ) → length hold.places ≤ n → NoneBelow hold n → HasNoPoint hold
-none_of_all hold n e k b = elim (below_or_past b n) [ inl l ↦ k b l | inr l ↦ past_end hold.places b (omega (arith, e, l)) ]
+none_of_all hold n e k b = elim (below_or_past b n) [
+  | inl l ↦ k b l
+  | inr l ↦ past_end hold.places b
+      (omega (arith, e, l))
+]
   where
     -- below or not
     below_or_past : (x y : ℕ) → (x < y) ⊎ (y ≤ x)
@@ -49,14 +76,17 @@ none_of_all hold n e k b = elim (below_or_past b n) [ inl l ↦ k b l | inr l �
 -- ---- the first bucket that is not in hand
 
 -- a point of the set in a bucket in hand is one of the bucket's
-pub point_there : (hold : InHand) (s : List ℕ) (b : ℕ) (x : BucketContent) (p : ℕ) → Shows hold s → bucket_at hold.places b ≡ Some x → b ≡ bucket_of hold.grid p → IsIn p s → IsIn p (points_in hold.places b)
+pub point_there : (hold : InHand) (s : List ℕ) (b : ℕ) (x : BucketContent) (p : ℕ) → Shows hold s →
+    bucket_at hold.places b ≡ Some x → b ≡ bucket_of hold.grid p → IsIn p s → IsIn p (points_in hold.places b)
 point_there hold s b x p st e n m =
     subst (λ (o : Option BucketContent). IsIn p (points_of_bucket o)) (sym e)
-    (subst (λ (l : List ℕ). IsIn p l) (sym (st.sights b x e).points) (filtered_true (λ p. bucket_of hold.grid p == b) s p m (same_true (bucket_of hold.grid p) b (sym n))))
+    (subst (λ (l : List ℕ). IsIn p l) (sym (st.sights b x e).points)
+    (filtered_true (λ p. bucket_of hold.grid p == b) s p m (same_true (bucket_of hold.grid p) b (sym n))))
 
 -- a round over buckets that are all in hand meets a point
 pub none_missing :
-    (hold : InHand) (s : List ℕ) (first count : ℕ) → HasPlaces hold → Shows hold s → HasNoPoint hold → first < count → count ≡ hold.grid * hold.grid * hold.grid →
+    (hold : InHand) (s : List ℕ) (first count : ℕ) → HasPlaces hold → Shows hold s → HasNoPoint hold → first < count →
+    count ≡ hold.grid * hold.grid * hold.grid →
     ((i : ℕ) → i < count → IsSome (bucket_at hold.places ((first + i) % count))) → ⊥
 none_missing hold s first count has st none f e all =
     let i = solid_set hold s st in
@@ -88,11 +118,13 @@ in_set hold s b p st m = go (bucket_at hold.places b) refl m
     -- by the bucket
     go : (o : Option BucketContent) → bucket_at hold.places b ≡ o → IsIn p (points_of_bucket o) → IsIn p s
     go None e i = absurd i
-    go (Some x) e i = (filtered_from (λ p. bucket_of hold.grid p == b) s p (subst (λ (l : List ℕ). IsIn p l) (st.sights b x e).points i)).0
+    go (Some x) e i = (filtered_from (λ p. bucket_of hold.grid p == b) s p
+        (subst (λ (l : List ℕ). IsIn p l) (st.sights b x e).points i)).0
 
 -- the law StartIsWalk
 pub start_is_walk : StartIsWalk
-start_is_walk hold s q w st g = in_set hold s g.1.bucket w.point st (front_in (points_in hold.places g.1.bucket) w.point g.1.least)
+start_is_walk hold s q w st g = in_set hold s g.1.bucket w.point st
+    (front_in (points_in hold.places g.1.bucket) w.point g.1.least)
 
 -- with every bucket in hand some bucket has a point
 pub some_point_held : (hold : InHand) (s : List ℕ) → IsWhole hold → Shows hold s → HasNoPoint hold → ⊥
@@ -111,5 +143,7 @@ pub none_under : (hold : InHand) (p : ℕ) → IsWhole hold → bucket_at hold.p
 none_under hold p w e = none_there (bucket_at hold.places (bucket_of hold.grid p)) e (point_held hold p w.has w.all)
 
 -- a point of a bucket in hand is one of the set
-pub from_bucket : (hold : InHand) (s : List ℕ) (b p : ℕ) (x : BucketContent) → Shows hold s → bucket_at hold.places b ≡ Some x → IsIn p x.points → IsIn p s
-from_bucket hold s b p x st e i = (filtered_from (λ p. bucket_of hold.grid p == b) s p (subst (λ (l : List ℕ). IsIn p l) (st.sights b x e).points i)).0
+pub from_bucket : (hold : InHand) (s : List ℕ) (b p : ℕ) (x : BucketContent) → Shows hold s →
+    bucket_at hold.places b ≡ Some x → IsIn p x.points → IsIn p s
+from_bucket hold s b p x st e i = (filtered_from (λ p. bucket_of hold.grid p == b) s p
+    (subst (λ (l : List ℕ). IsIn p l) (st.sights b x e).points i)).0

@@ -52,7 +52,13 @@ fn entry_of(number: u64, tag: u32, edit: Edit, reply: Reply) -> Entry
 }
 
 // Makes an edit that moves nothing.
-fn by_plan(alloc: Global, mesh: &mut Mesh, number: u64, tag: u32, edit: Edit) -> Result<Reply, AllocError>
+fn by_plan(
+    alloc: Global,
+    mesh: &mut Mesh,
+    number: u64,
+    tag: u32,
+    edit: Edit,
+) -> Result<Reply, AllocError>
     requires number { number ≡ length mesh.old.history }
     requires still { is_move edit ≡ false }
     ensures applied { OnOk result (mesh.new ≡ edited mesh.old tag edit) }
@@ -78,7 +84,8 @@ fn note(
 ) -> Result<Reply, AllocError>
     requires number { number ≡ length mesh.old.history }
     requires reply { reply ≡ reply_to (replay mesh.old.history) edit }
-    requires quiet { changed (arrived (replay mesh.old.history) edit reply) (point_of edit) reply ≡ replay mesh.old.history }
+    requires quiet { changed (arrived (replay mesh.old.history) edit reply) (point_of edit) reply
+        ≡ replay mesh.old.history }
     ensures applied { OnOk result (mesh.new ≡ edited mesh.old tag edit) }
     ensures reply { IfOk result (λ reply. reply ≡ reply_to (replay mesh.old.history) edit) }
     ensures refused { OnErr result (mesh.new ≡ mesh.old) }
@@ -184,9 +191,9 @@ fn shift(
 }
 
 /// Makes an edit of a mesh, as the next entry by 0, and answers its number and its reply: an add is a duplicate where
-/// its point is there, a take is missing where it is not, and flat where the rest would lie in one plane. A move is missing
-/// where its point is not there, else occupied where its new place is taken, else flat where what it leaves would lie in
-/// one plane.
+/// its point is there, a take is missing where it is not, and flat where the rest would lie in one plane. A move is
+/// missing where its point is not there, else occupied where its new place is taken, else flat where what it leaves
+/// would lie in one plane.
 ///
 /// The mesh is to have less than 2^32 entries.
 ///

@@ -1,5 +1,23 @@
 -- Lines that move nothing.
-use Rattle.std.specs.Prelude.{◌≡◌, ℕ, zero, suc, ◌<◌, Bool, true, false, cond, ◌==◌, List, [], ◌∷◌, length, None, Some, All}
+use Rattle.std.specs.Prelude.{
+  ◌≡◌,
+  ℕ,
+  zero,
+  suc,
+  ◌<◌,
+  Bool,
+  true,
+  false,
+  cond,
+  ◌==◌,
+  List,
+  [],
+  ◌∷◌,
+  length,
+  None,
+  Some,
+  All,
+}
 use Rattle.std.specs.List.{filter, last_or}
 use Rattle.std.specs.Option.{option_map_or}
 use Rattle.std.proofs.Common.{refl, sym, ◌∙◌, ap, arith}
@@ -18,27 +36,33 @@ is_of p line = point_of line == p
 abbrev by_last : Bool → List Edit → ℕ → Bool
 by_last there lines p = option_map_or is_add (last_or None (filter (is_of p) lines)) there
 
-last_some : (x : Edit) (xs : List Edit) (b c : Bool) → option_map_or is_add (last_or (Some x) xs) b ≡ option_map_or is_add (last_or (Some x) xs) c
+last_some : (x : Edit) (xs : List Edit) (b c : Bool) → option_map_or is_add (last_or (Some x) xs) b ≡ option_map_or
+    is_add (last_or (Some x) xs) c
 last_some x [] b c = refl
 last_some x (y ∷ xs) b c = last_some y xs b c
 
-last_none : (x : Edit) (xs : List Edit) (b : Bool) → option_map_or is_add (last_or (Some x) xs) b ≡ option_map_or is_add (last_or None xs) (is_add x)
+last_none : (x : Edit) (xs : List Edit) (b : Bool) → option_map_or is_add (last_or (Some x) xs) b ≡ option_map_or is_add
+    (last_or None xs) (is_add x)
 last_none x [] b = refl
 last_none x (y ∷ xs) b = last_some y xs b (is_add x)
 
-last_step : (b : Bool) (line : Edit) (lines : List Edit) (p : ℕ) → by_last b (line ∷ lines) p ≡ by_last (cond (is_of p line) (is_add line) b) lines p
+last_step : (b : Bool) (line : Edit) (lines : List Edit) (p : ℕ) →
+    by_last b (line ∷ lines) p ≡ by_last (cond (is_of p line) (is_add line) b) lines p
 last_step b line lines p = by (is_of p line)
   where
-    by : (t : Bool) → option_map_or is_add (last_or None (cond t (line ∷ filter (is_of p) lines) (filter (is_of p) lines))) b ≡ by_last (cond t (is_add line) b) lines p
+    by : (t : Bool) → option_map_or is_add (last_or None (cond t (line ∷ filter (is_of p) lines)
+        (filter (is_of p) lines))) b ≡ by_last (cond t (is_add line) b) lines p
     by true = last_none line (filter (is_of p) lines) b
     by false = refl
 
-one_step : (there : ℕ → Bool) (line : Edit) (p : ℕ) → is_move line ≡ false → there_after there line p ≡ cond (is_of p line) (is_add line) (there p)
+one_step : (there : ℕ → Bool) (line : Edit) (p : ℕ) → is_move line ≡ false →
+    there_after there line p ≡ cond (is_of p line) (is_add line) (there p)
 one_step there (Add q) p e = refl
 one_step there (Take q) p e = refl
 one_step there (Move a b) p e = absurd cc
 
-all_steps : (there : ℕ → Bool) (lines : List Edit) (p : ℕ) → ((line : Edit) → IsIn line lines → is_move line ≡ false) → there_from there lines p ≡ by_last (there p) lines p
+all_steps : (there : ℕ → Bool) (lines : List Edit) (p : ℕ) → ((line : Edit) → IsIn line lines → is_move line ≡ false) →
+    there_from there lines p ≡ by_last (there p) lines p
 all_steps there [] p f = refl
 all_steps there (line ∷ lines) p f =
     all_steps (λ q. there_after there line q) lines p (λ l i. f l (inr i))

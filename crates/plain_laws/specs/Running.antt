@@ -44,8 +44,8 @@ dealt n four lines = map (dealt_to n four lines) (range_with_len 0 n)
 abbrev pub opening_entries : List ℕ → List Pair → List Entry
 opening_entries four lines = entries_from 0 [] (filter (λ line. is_among line.0 four) lines)
 
--- The entries are those of the pairs of the lists, each once, those that share a point by their tags, each by the worker
--- of some list. With one list they are in its order.
+-- The entries are those of the pairs of the lists, each once, those that share a point by their tags, each by the
+-- worker of some list. With one list they are in its order.
 pub record IsRun (lists : List (List Pair)) (entries : List Entry) : Type 0 where
   pub lines : IsPermutation (flat_map (λ l. l) lists) (map line_of entries)
   pub order : AllPairs (λ d e. share_point d.edit e.edit ≡ true → d.tag < e.tag) entries

@@ -7,9 +7,9 @@
 ghost use Rattle.plain_laws.specs.Plain.{AnchoredIsPlain, SomeFileIsAnchored, ThereByLast};
 ghost use Rattle.plain_laws.specs.Running.{RunKeeps, RunAlone};
 
-/// Where no edit takes one of the opening four, or moves it, every legal history that keeps the file has the same replies, line by
-/// line, and leaves the same points: those that the lines tell by themselves. Without moves these are the points whose
-/// last line adds them.
+/// Where no edit takes one of the opening four, or moves it, every legal history that keeps the file has the same
+/// replies, line by line, and leaves the same points: those that the lines tell by themselves. Without moves these are
+/// the points whose last line adds them.
 pub fn anchored_is_plain()
     ensures plain { AnchoredIsPlain }
     ensures met { SomeFileIsAnchored }

@@ -123,6 +123,7 @@ kept_from q x z i = let f = filtered_from (λ i. not (i == x)) q z i in (f.0, λ
     no : (b : Bool) → not b ≡ true → b ≡ true → ⊥
     no true e f = cc
     no false e f = cc
+
     same_true : (z x : ℕ) → z ≡ x → (z == x) ≡ true
     same_true z x e = grind (arith, nat_tests)
 
@@ -160,15 +161,16 @@ other_two q x y a e i j n =
   where
     count : (k m l : ℕ) → k ≡ 4 → suc m ≡ k → suc l ≡ m → l ≡ 2
     count k m l e f g = omega (arith, e, f, g)
+
     by : (rest : List ℕ) → without y (without x q) ≡ rest → length rest ≡ 2 → OtherTwo q x y
     by [] f l = absurd (omega (arith, l))
     by (z ∷ []) f l = absurd (omega (arith, l))
     by (z ∷ w ∷ []) f l =
         let up = subst IsAscending f (ascends_without (without x q) y (ascends_without q x a)) in
         let at : (k : ℕ) → IsIn k (z ∷ w ∷ []) → IsIn k q × (k ≢ x) × (k ≢ y) = λ k m. (
-          let o = kept_from (without x q) y k (subst (IsIn k) (sym f) m) in
-          let p = kept_from q x k o.0 in
-          (p.0, p.1, o.1)) in
+        let o = kept_from (without x q) y k (subst (IsIn k) (sym f) m) in
+        let p = kept_from q x k o.0 in
+        (p.0, p.1, o.1)) in
         record {
           z = z;
           w = w;
@@ -268,22 +270,28 @@ even_in_cell ts q x y a e g n = elim (true_or_false (is_among x q)) [
   where
     clash : (b : Bool) → b ≡ true → b ≡ false → ⊥
     clash b e f = cc
+
     never : (t : List ℕ) (z : ℕ) → is_among z q ≡ false → (has_both x y t ≡ true → is_among z t ≡ true) → on_both x y q t ≡ false
     never t z f h = elim (true_or_false (has_both x y t && has_all t q)) [
       | inl k ↦ (
-        let r = and_parts (has_both x y t) (has_all t q) k in
-        absurd (clash (is_among z q) (among_true z q (has_all_from t q r.1 z (among_from z t (h r.0)))) f))
+          let r = and_parts (has_both x y t) (has_all t q) k in
+          absurd (clash (is_among z q) (among_true z q (has_all_from t q r.1 z (among_from z t (h r.0)))) f))
       | inr k ↦ k
     ]
+
     passes_test : (t : List ℕ) → IsIn x t → IsIn y t → ((i : ℕ) → IsIn i t → IsIn i q) → on_both x y q t ≡ true
     passes_test t i j f = and_true (has_both x y t) (has_all t q) (and_true (is_among x t) (is_among y t) (among_true x t i) (among_true y t j)) (has_all_true t q f)
+
     less : (q t : List ℕ) (w : ℕ) → ((i : ℕ) → IsIn i t → IsIn i q) → ¬ (IsIn w t) → (i : ℕ) → IsIn i t → IsIn i (without w q)
     less q t w f n i m = kept_true q w i (f i m) (λ h. n (subst (λ k. IsIn k t) h m))
+
     count : (k m : ℕ) → k ≡ 4 → suc m ≡ k → m ≡ 3
     count k m e f = omega (arith, e, f)
+
     is_without : (t : List ℕ) (w : ℕ) → IsIn t ts → IsIn w q → ((i : ℕ) → IsIn i t → IsIn i q) → ¬ (IsIn w t) → t ≡ without w q
     is_without t w m k f n = sym (same_list (without w q) t (ascends_without q w a) (g.ascends t m) (less q t w f n)
         (count (length q) (length (without w q)) e (one_less q w (distinct_ascending q a) k) ∙ sym (g.three t m)))
+
     which : (o : OtherTwo q x y) (t : List ℕ) → IsIn t ts → on_both x y q t ≡ true → (t ≡ without o.w q) ⊎ (t ≡ without o.z q)
     which o t m k =
         let r = and_parts (has_both x y t) (has_all t q) k in
@@ -305,6 +313,7 @@ even_in_cell ts q x y a e g n = elim (true_or_false (is_among x q)) [
             | inr f ↦ elim (o.only i j (differ_from i x e) (differ_from i y f)) [ inl g ↦ subst (λ n. IsIn n t) (sym g) c | inr g ↦ subst (λ n. IsIn n t) (sym g) d ]
           ]
         ]
+
     two : OtherTwo q x y → IsIn x q → IsIn y q → odd (λ t. has_both x y t && has_all t q) ts ≡ false
     two o i j =
         let u = without o.w q in
@@ -321,13 +330,14 @@ full_four : (s q : List ℕ) → IsIn (Full q) (complex s) → length q ≡ 4
 unfolding complex
 full_four s q i = elim (from_append (Full q) (map Full (filter (is_full s) (subsets 4 s))) _ i) [
   | inl j ↦ (
-    let r = mapped_from Full (Full q) (filter (is_full s) (subsets 4 s)) j in
-    subst (λ (v : List ℕ). length v ≡ 4) (same r.0 q r.2) (part_length 4 s r.0 (filtered_from (is_full s) (subsets 4 s) r.0 r.1).0))
+      let r = mapped_from Full (Full q) (filter (is_full s) (subsets 4 s)) j in
+      subst (λ (v : List ℕ). length v ≡ 4) (same r.0 q r.2) (part_length 4 s r.0 (filtered_from (is_full s) (subsets 4 s) r.0 r.1).0))
   | inr j ↦ let r = mapped_from Open (Full q) _ j in absurd (not_open r.0 r.2)
 ]
   where
     same : (q r : List ℕ) → Full q ≡ Full r → q ≡ r
     same q r e = cc
+
     not_open : (t : List ℕ) → Open t ≡ Full q → ⊥
     not_open t e = cc
 
@@ -413,10 +423,13 @@ edges_are_even s cells x y a k d f n =
   where
     p : List ℕ → Bool
     p t = has_both x y t
+
     all : List Cell
     all = map Full cells
+
     ts : List (List ℕ)
     ts = parts_in 3 (map Full cells)
+
     three : (t : List ℕ) → IsIn t (parts_in 3 (map Full cells)) → (length t ≡ 3) × IsAscending t
     three t i =
         let h = listed_is_part 3 (map Full cells) t i in
@@ -426,6 +439,7 @@ edges_are_even s cells x y a k d f n =
       where
         same : (q r : List ℕ) → Full q ≡ Full r → q ≡ r
         same q r e = cc
+
     triples : (q : List ℕ) → IsIn q cells → Triples (parts_in 3 (map Full cells)) q
     triples q i = record {
       distinct = distinct_in_order (parts_in 3 (map Full cells)) (parts_in_order 3 (map Full cells));
@@ -433,12 +447,14 @@ edges_are_even s cells x y a k d f n =
       ascends = λ t m. (three t m).1;
       all = λ t m. part_is_listed 3 (map Full cells) t (record { q = q; listed = mapped_true Full q cells i; part = m });
     }
+
     member : (t q : List ℕ) → IsIn q (filter (has_all t) cells) → IsIn t (parts_in 3 (map Full cells)) → IsIn (Full q) (complex s) × IsIn t (subsets 3 q)
     member t q i m =
         let r = filtered_from (has_all t) cells q i in
         let c = f q r.0 in
         let e = three t m in
         (c, subst (λ k. IsIn t (subsets k q)) e.0 (part_true q t (full_ascends s q a c) e.1 (has_all_from t q r.1)))
+
     counted : (t : List ℕ) → IsIn t (parts_in 3 (map Full cells)) → (l : List (List ℕ)) → AreDistinct l → ((q : List ℕ) → IsIn q l → IsIn q (filter (has_all t) cells)) →
         passes (has_both x y) (outer_of (t, map Full l)) ≡ (has_both x y t && odd (λ q. true) l)
     counted t m [] e g = sym (and_false (has_both x y t))
@@ -449,6 +465,7 @@ edges_are_even s cells x y a k d f n =
         let j = member t r (g r (inr (inl refl))) m in
         let o = member t u (g u (inr (inr (inl refl)))) m in
         absurd (no_third s t q r u a k i.0 j.0 o.0 i.1 j.1 o.1 (λ h. e.0 (inl (sym h))) (λ h. e.0 (inr (inl (sym h)))) (λ h. e.1.0 (inl (sym h))))
+
     single : (t : List ℕ) → IsIn t (parts_in 3 (map Full cells)) → passes (has_both x y) (outer_of (t, cells_with t (map Full cells))) ≡ odd (λ q. has_both x y t && has_all t q) cells
     single t m =
         ap (λ (v : List Cell). passes (has_both x y) (outer_of (t, v))) (with_full t cells)

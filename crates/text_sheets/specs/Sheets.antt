@@ -30,14 +30,16 @@ pub record Puts (old new : Option (List ℕ)) (f g : ℕ) (s t : SheetSeen) (pie
   pub broken : s.failed ≡ false → t.failed ≡ true → Breaks old new f g s.waits piece
 
 -- what waited was written, or a front of it
-pub record Written {T E : Type 0} (old new : Option (List ℕ)) (f g : ℕ) (waits : List ℕ) (result : Result T E) : Type 0 where
-  pub whole : OnOk result (Appends old new waits)
-  pub front : AppendsFront old new waits
-  pub cause : HasCause f g result
+pub record Written {T E : Type 0} (old new : Option (List ℕ)) (f g : ℕ) (waits : List ℕ) (result : Result T E) : Type 0
+  where
+    pub whole : OnOk result (Appends old new waits)
+    pub front : AppendsFront old new waits
+    pub cause : HasCause f g result
 
 -- The sheet was closed: after a failure nothing is written and the answer is an error; before, what waits is written.
-pub record Closes {T E : Type 0} (old new : Option (List ℕ)) (f g : ℕ) (s : SheetSeen) (result : Result T E) : Type 0 where
-  pub later : f ≤ g
-  pub fails : s.failed ≡ true → IsErr result
-  pub still : s.failed ≡ true → old ≡ new
-  pub written : s.failed ≡ false → Written old new f g s.waits result
+pub record Closes {T E : Type 0} (old new : Option (List ℕ)) (f g : ℕ) (s : SheetSeen) (result : Result T E) : Type 0
+  where
+    pub later : f ≤ g
+    pub fails : s.failed ≡ true → IsErr result
+    pub still : s.failed ≡ true → old ≡ new
+    pub written : s.failed ≡ false → Written old new f g s.waits result

@@ -10,10 +10,13 @@ invariant_of-result g c =
     let known = c.in_ok-known.known in
     let k = c.in_ok-known.ensures.known in
     record {
-      pairs = sym (length_zip (AreAlphasOf (is_admitted_pair known.faces.now.triples)) known.faces.now.pairs known.pairs.items k.pairs);
+      pairs = sym (length_zip (AreAlphasOf (is_admitted_pair known.faces.now.triples)) known.faces.now.pairs
+          known.pairs.items k.pairs);
       triples = sym (length_zip (AreAlphasOf is_admitted_triple) known.faces.now.triples known.triples.items k.triples);
-      cells = sym (length_zip (λ x n. IsLeastOf (λ a. is_small_cell a x) n) known.faces.now.cells known.cells.items k.cells);
+      cells = sym (length_zip (λ x n. IsLeastOf (λ a. is_small_cell a x) n) known.faces.now.cells known.cells.items
+          k.cells);
     }
 
 pub returns : goal.returns
-returns g c s h = thresholds_are s c.args.faces.now c.in_ok-known.known h c.in_ok-known.ensures.faces (c.in_ok-known.ensures.told s h)
+returns g c s h = thresholds_are s c.args.faces.now c.in_ok-known.known h c.in_ok-known.ensures.faces
+    (c.in_ok-known.ensures.told s h)

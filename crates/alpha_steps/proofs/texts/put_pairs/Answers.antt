@@ -15,18 +15,24 @@ loop-index-init g c =
     (c.pair_count.ensures ∙ sym (length-map list.pairs (step_line list.points))) c.put_title.ensures
 
 pub put_pair-requires : goal.put_pair-requires
-put_pair-requires g c = record { points = c.requires; index = below_end _ _ _ c.loop-index-test.true c.pair_count-index-end.ensures }
+put_pair-requires g c = record {
+  points = c.requires;
+  index = below_end _ _ _ c.loop-index-test.true
+      c.pair_count-index-end.ensures;
+}
 
 pub loop-index-preserved : goal.loop-index-preserved
 loop-index-preserved g c =
     let list = c.args.list.now in
     let within = below_end _ _ _ c.loop-index-test.true c.pair_count-index-end.ensures in
-    goes_on (λ (xs : List (List ℕ × Threshold)). concat (map (step_line list.points) xs)) (step_line list.points) (λ x xs. refl) list.pairs c.loop-index.index
+    goes_on (λ (xs : List (List ℕ × Threshold)). concat (map (step_line list.points) xs)) (step_line list.points)
+    (λ x xs. refl) list.pairs c.loop-index.index
     _ within (own_item ([], Never) list.pairs c.loop-index.index within) c.loop-index.invariant
     c.put_pair.ensures
 
 pub returns : goal.returns
 returns g c =
     let list = c.args.list.now in
-    ends (λ (xs : List (List ℕ × Threshold)). concat (map (step_line list.points) xs)) refl list.pairs c.loop-index.index
+    ends (λ (xs : List (List ℕ × Threshold)). concat (map (step_line list.points) xs)) refl list.pairs
+    c.loop-index.index
     (past_end _ _ _ c.loop-index-test.false c.pair_count-index-end.ensures) c.loop-index.invariant

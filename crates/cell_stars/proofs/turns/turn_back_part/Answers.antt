@@ -17,8 +17,12 @@ returns g c =
     let r = c.requires in
     let changes = c.args.changes.now in
     let list = c.args.list.now in
-    let e = front_is b.new.changes (drop (length b.new.changes) changes.items) changes.len (changes.ok.0 ∙ sym (ap length c.deref_mut-2.ensures.value) ∙ sym b.auto.changes) in
-    let f = front_is b.new.list (drop (length b.new.list) list.items) list.len (list.ok.0 ∙ sym (ap length c.deref_mut.ensures.value) ∙ sym b.auto.list) in
+    let e = front_is b.new.changes (drop (length b.new.changes) changes.items) changes.len
+    (changes.ok.0 ∙ sym (ap length c.deref_mut-2.ensures.value) ∙ sym b.auto.changes) in
+    let f = front_is b.new.list (drop (length b.new.list) list.items) list.len
+    (list.ok.0 ∙ sym (ap length c.deref_mut.ensures.value) ∙ sym b.auto.list) in
     let other = option_map (λ v. v.items) c.args.grown.now in
-    rw e (part_back r.longer _ other r.before b.new.changes changes.items r.was b.new.list list.items _ r.part (b.auto.list ∙ ap length c.deref_mut.ensures.value) (b.ensures.list ∙ c.deref_mut.ensures.value) (b.ensures.changes ∙ c.deref_mut-2.ensures.value)
+    rw e (part_back r.longer _ other r.before b.new.changes changes.items r.was b.new.list list.items _ r.part
+    (b.auto.list ∙ ap length c.deref_mut.ensures.value) (b.ensures.list ∙ c.deref_mut.ensures.value)
+    (b.ensures.changes ∙ c.deref_mut-2.ensures.value)
     (c.turn_list.ensures.other ∙ ap (kept other) f) (c.turn_list.ensures.list ∙ ap (or_else other) f))

@@ -8,5 +8,13 @@ returns-then-back c =
     record {
       after = c.make.new.self.plans.items;
       made = e.made;
-      is = subst (λ (b : Bool). NextIs b c.args.exchange c.make.new.self.plans.items (Some c.make.new.self)) (sym c.if-back.true) (c.make.new.self, refl, refl, ap (λ v. v.items) e.gone, ap (λ v. v.items) e.fresh, e.turned);
+      is = subst (λ (b : Bool). NextIs b c.args.exchange c.make.new.self.plans.items (Some c.make.new.self))
+          (sym c.if-back.true) (
+            c.make.new.self,
+            refl,
+            refl,
+            ap (λ v. v.items) e.gone,
+            ap (λ v. v.items) e.fresh,
+            e.turned,
+          );
     }

@@ -10,5 +10,6 @@ unreachable-requires c =
     let s = c.requires.shown.0 in
     let hold = c.args.hold.now in
     let g = subst (λ (t : PlanTurn). PlanGives hold s (edit_of c.begin.result) t) c.in-Need.is
-    (c.in_ok-plan.ensures s c.requires.shown.1 (home_begins hold s c.args.edit c.begin.result c.requires.still c.begin.ensures)) in
+    (c.in_ok-plan.ensures s c.requires.shown.1 (home_begins hold s c.args.edit c.begin.result c.requires.still
+    c.begin.ensures)) in
     none_lacks hold c.in-Need.field-0 c.requires.all g.lacking

@@ -12,7 +12,10 @@ go_on-requires c =
 
 pub returns-then-holds_point : goal.returns-then-holds_point
 returns-then-holds_point c =
-    ok_then _ _ c.go_on.result (λ turn k s sh u. k s sh (c.requires.home, among_from c.args.p s (sym (c.holds_point.ensures.in_set s sh) ∙ c.if-holds_point.true)))
+    ok_then _ _ c.go_on.result (λ turn k s sh u. k s sh (
+      c.requires.home,
+      among_from c.args.p s (sym (c.holds_point.ensures.in_set s sh) ∙ c.if-holds_point.true),
+    ))
     c.go_on.ensures
 
 pub returns : goal.returns

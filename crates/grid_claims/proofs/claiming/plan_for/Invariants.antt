@@ -4,7 +4,8 @@ use Rattle.grid_claims.specs.Looking.{IsPlanning}
 use Rattle.grid_claims.proofs.claiming.plan_for.Given as goal
 
 abbrev pub invariant-loop-plan : goal.invariant-loop-plan
-invariant-loop-plan l = IsPlanning l.board.shared.table_id (buckets_of l.board.shared.key) l.fn.edit l.initial.hands l.hands l.planner
+invariant-loop-plan l = IsPlanning l.board.shared.table_id (buckets_of l.board.shared.key) l.fn.edit l.initial.hands
+    l.hands l.planner
 
 abbrev pub decreases-loop-plan : goal.decreases-loop-plan
 decreases-loop-plan l = empty_places l.hands.hold.places

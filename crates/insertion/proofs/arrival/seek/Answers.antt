@@ -7,5 +7,8 @@ pub returns-in_ok-dig-in-Here : goal.returns-in_ok-dig-in-Here
 returns-in_ok-dig-in-Here c =
     let d = c.in_ok-dig-in-Here.ensures in
     ok_then _ _ c.dig_on.result
-    (λ turn k s sh i. k s sh (ap (λ (x : Digging). x.point) d.begun, d.digs s (record { absent = i.0.absent; goes = c.in-Here.ensures s sh i.0 i.1 })))
+    (λ turn k s sh i. k s sh (
+      ap (λ (x : Digging). x.point) d.begun,
+      d.digs s (record { absent = i.0.absent; goes = c.in-Here.ensures s sh i.0 i.1 }),
+    ))
     c.dig_on.ensures

@@ -8,8 +8,11 @@ use Rattle.insertion.proofs.growth.change_by.Goals as goal
 
 pub advance-requires : goal.advance-requires
 advance-requires c =
-    let s = replay c.args.mesh.now.history in
-    (s, shows_of c.args.mesh.now c.hold.result.now c.hold.ensures, c.begin.ensures c.hold.result.now s c.args.p c.requires)
+    let s = replay c.args.mesh.now.history in (
+      s,
+      shows_of c.args.mesh.now c.hold.result.now c.hold.ensures,
+      c.begin.ensures c.hold.result.now s c.args.p c.requires,
+    )
 
 pub unreachable-requires : goal.unreachable-requires
 unreachable-requires c =

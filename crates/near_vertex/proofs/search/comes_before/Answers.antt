@@ -31,7 +31,8 @@ nearer {x} {y} {d} {e} r f g t = t ∙ sym (go (lt_z d e) (sym (both f g) ∙ t)
     go false e = cc
 
 -- where it is not
-farther : {x y d e : ℤ} (q : Bool) → x ≡ d → y ≡ e → lt_z x y ≡ false → lt_z y x ≡ false → q ≡ (lt_z d e || (not (lt_z e d) && q))
+farther : {x y d e : ℤ} (q : Bool) → x ≡ d → y ≡ e → lt_z x y ≡ false → lt_z y x ≡ false →
+    q ≡ (lt_z d e || (not (lt_z e d) && q))
 farther {x} {y} {d} {e} q f g t u = go (lt_z d e) (lt_z e d) (sym (both f g) ∙ t) (sym (turned f g) ∙ u)
   where
     -- the same test
@@ -49,7 +50,8 @@ farther {x} {y} {d} {e} q f g t u = go (lt_z d e) (lt_z e d) (sym (both f g) ∙
     go false false e f = refl
 
 -- where it is farther
-beyond : {x y d e : ℤ} (q : Bool) → x ≡ d → y ≡ e → lt_z x y ≡ false → lt_z y x ≡ true → false ≡ (lt_z d e || (not (lt_z e d) && q))
+beyond : {x y d e : ℤ} (q : Bool) → x ≡ d → y ≡ e → lt_z x y ≡ false → lt_z y x ≡ true →
+    false ≡ (lt_z d e || (not (lt_z e d) && q))
 beyond {x} {y} {d} {e} q f g t u = go (lt_z d e) (lt_z e d) (sym (both f g) ∙ t) (sym (turned f g) ∙ u)
   where
     -- the same test
@@ -68,14 +70,20 @@ beyond {x} {y} {d} {e} q f g t u = go (lt_z d e) (lt_z e d) (sym (both f g) ∙ 
 
 pub returns-then-near-far : goal.returns-then-near-far
 returns-then-near-far c =
-    nearer (not (lt_z (distance c.args.q c.args.b) (distance c.args.q c.args.a)) && nat_lt c.args.a c.args.b) (again c.square_from-near.ensures.bound c.square_from-near.ensures.value) (again c.square_from-far.ensures.bound c.square_from-far.ensures.value) c.if-near-far.true
+    nearer (not (lt_z (distance c.args.q c.args.b) (distance c.args.q c.args.a)) && nat_lt c.args.a c.args.b)
+    (again c.square_from-near.ensures.bound c.square_from-near.ensures.value)
+    (again c.square_from-far.ensures.bound c.square_from-far.ensures.value) c.if-near-far.true
 
 pub returns-then-not-far-near : goal.returns-then-not-far-near
 returns-then-not-far-near c =
     c.lt.ensures ∙ lt_is c.args.a c.args.b
-    ∙ farther (nat_lt c.args.a c.args.b) (again c.square_from-near.ensures.bound c.square_from-near.ensures.value) (again c.square_from-far.ensures.bound c.square_from-far.ensures.value) c.if-near-far.false c.if-not-far-near.true
+    ∙ farther (nat_lt c.args.a c.args.b) (again c.square_from-near.ensures.bound c.square_from-near.ensures.value)
+    (again c.square_from-far.ensures.bound c.square_from-far.ensures.value) c.if-near-far.false
+    c.if-not-far-near.true
 
 pub returns-else-not-far-near : goal.returns-else-not-far-near
 returns-else-not-far-near c =
     ap not c.if-not-far-near.false
-    ∙ beyond (nat_lt c.args.a c.args.b) (again c.square_from-near.ensures.bound c.square_from-near.ensures.value) (again c.square_from-far.ensures.bound c.square_from-far.ensures.value) c.if-near-far.false c.if-not-far-near.false
+    ∙ beyond (nat_lt c.args.a c.args.b) (again c.square_from-near.ensures.bound c.square_from-near.ensures.value)
+    (again c.square_from-far.ensures.bound c.square_from-far.ensures.value) c.if-near-far.false
+    c.if-not-far-near.false

@@ -5,11 +5,14 @@ use Rattle.near_vertex.proofs.search.first_around.Goals as goal
 
 pub loop-cell-preserved : goal.loop-cell-preserved
 loop-cell-preserved c =
-    one_more c.args.q c.args.p (cells_around c.into_iter-cell-iterator.result) (cells_around c.loop-cell.cell-iterator) (cells_around c.next.new.self) c.in-Some.cell.now c.loop-cell.first c.first_of-first.result
+    one_more c.args.q c.args.p (cells_around c.into_iter-cell-iterator.result) (cells_around c.loop-cell.cell-iterator)
+    (cells_around c.next.new.self) c.in-Some.cell.now c.loop-cell.first c.first_of-first.result
     c.in-Some.ensures.steps c.loop-cell.invariant c.first_of-first.ensures
 
 pub returns : goal.returns
 returns c s st m =
-    first_of_all s c.args.q c.args.p (cells_around c.into_iter-cell-iterator.result) (cells_around c.loop-cell.cell-iterator) c.loop-cell.first c.args.hold.now st m
+    first_of_all s c.args.q c.args.p (cells_around c.into_iter-cell-iterator.result)
+    (cells_around c.loop-cell.cell-iterator) c.loop-cell.first c.args.hold.now st m
     (rw c.into_iter-cell-iterator.ensures.into_iter_gives (c.cells_around-cell-items.ensures.in_complex s st))
-    (λ d i. none_in (cells_around c.loop-cell.cell-iterator) d (ap length c.in-None.ensures.steps.0) i) c.loop-cell.invariant
+    (λ d i. none_in (cells_around c.loop-cell.cell-iterator) d (ap length c.in-None.ensures.steps.0) i)
+    c.loop-cell.invariant

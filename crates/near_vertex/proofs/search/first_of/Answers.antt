@@ -9,9 +9,15 @@ loop-x-preserved c =
     let q = c.args.q in
     let i = c.loop-x.x-index in
     let l = c.points-x-items.result.now in
-    let k = subst (λ (m : List ℕ). IsFirstOf q (c.args.p ∷ take i m) c.loop-x.first) (sym c.points-x-items.ensures.points) c.loop-x.invariant in
-    subst (λ (m : List ℕ). IsFirstOf q (c.args.p ∷ take (i + 1) m) c.if-comes_before.first) c.points-x-items.ensures.points
+    let k = subst (λ (m : List ℕ). IsFirstOf q (c.args.p ∷ take i m) c.loop-x.first)
+    (sym c.points-x-items.ensures.points) c.loop-x.invariant in
+    subst (λ (m : List ℕ). IsFirstOf q (c.args.p ∷ take (i + 1) m) c.if-comes_before.first)
+    c.points-x-items.ensures.points
     (elim c.if-comes_before.branch [
-      | then-comes_before w ↦ subst (IsFirstOf q (c.args.p ∷ take (i + 1) l)) (sym w.first-is) (one_first q c.args.p l i c.x-item.result c.loop-x.first c.loop-x-test.true c.x-item.is k (sym c.comes_before.ensures ∙ w.if-comes_before.true))
-      | else-comes_before w ↦ subst (IsFirstOf q (c.args.p ∷ take (i + 1) l)) (sym w.first-is) (one_later q c.args.p l i c.x-item.result c.loop-x.first c.loop-x-test.true c.x-item.is k (sym c.comes_before.ensures ∙ w.if-comes_before.false))
+      | then-comes_before w ↦ subst (IsFirstOf q (c.args.p ∷ take (i + 1) l)) (sym w.first-is)
+          (one_first q c.args.p l i c.x-item.result c.loop-x.first c.loop-x-test.true c.x-item.is k
+          (sym c.comes_before.ensures ∙ w.if-comes_before.true))
+      | else-comes_before w ↦ subst (IsFirstOf q (c.args.p ∷ take (i + 1) l)) (sym w.first-is)
+          (one_later q c.args.p l i c.x-item.result c.loop-x.first c.loop-x-test.true c.x-item.is k
+          (sym c.comes_before.ensures ∙ w.if-comes_before.false))
     ])

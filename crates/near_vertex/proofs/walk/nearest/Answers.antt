@@ -17,7 +17,8 @@ pub loop-p-smaller : goal.loop-p-smaller
 loop-p-smaller c =
     let r = c.requires.shown in
     let m = c.in-Moved.ensures r.0 r.1 (c.loop-p.invariant.1 r.0 r.1) in
-    let f = rank_falls c.loop-p.walk.place c.step.new.self.point c.loop-p.walk.point (r.1.keys.below c.step.new.self.point m.walk) m.before in
+    let f = rank_falls c.loop-p.walk.place c.step.new.self.point c.loop-p.walk.point
+    (r.1.keys.below c.step.new.self.point m.walk) m.before in
     subst (λ q. rank q c.step.new.self.point < rank q c.loop-p.walk.point) c.loop-p.invariant.0 f
 
 pub unreachable-requires : goal.unreachable-requires

@@ -7,7 +7,8 @@ pub change_by-requires : goal.change_by-requires
 change_by-requires c = new_place (replay c.args.mesh.now.history) c.args.b c.key.ensures.bound c.requires.free
 
 pub with_point-requires-clause-new : goal.with_point-requires-clause-new
-with_point-requires-clause-new c = new_place (replay c.args.mesh.now.history) c.args.b c.key.ensures.bound c.requires.free
+with_point-requires-clause-new c = new_place (replay c.args.mesh.now.history) c.args.b c.key.ensures.bound
+    c.requires.free
 
 pub with_point-requires-clause-look : goal.with_point-requires-clause-look
 with_point-requires-clause-look c hold w =

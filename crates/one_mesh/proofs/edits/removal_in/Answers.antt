@@ -13,17 +13,20 @@ advance-requires-clause-shown c =
     (s, c.requires.1.shown, subst (λ (v : ℕ). IsIn v s) (sym c.in_ok-refill.ensures) c.requires.2)
 
 pub advance-requires-clause-held : goal.advance-requires-clause-held
-advance-requires-clause-held c = point_held c.args.hold.now c.in_ok-refill.refill c.requires.1.whole.has c.requires.1.whole.all
+advance-requires-clause-held c = point_held c.args.hold.now c.in_ok-refill.refill c.requires.1.whole.has
+    c.requires.1.whole.all
 
 pub returns-in-Done : goal.returns-in-Done
 returns-in-Done c s sh =
     subst (λ (v : ℕ). IsRefilled s v c.in-Done.change.gone.items c.in-Done.change.fresh.items) c.in_ok-refill.ensures
-    (subst (λ (t : RefillTurn). RefillGives c.args.hold.now s c.in_ok-refill.refill t) c.in-Done.is (c.in_ok-change.ensures.turn s sh)).1
+    (subst (λ (t : RefillTurn). RefillGives c.args.hold.now s c.in_ok-refill.refill t) c.in-Done.is
+    (c.in_ok-change.ensures.turn s sh)).1
 
 pub returns-in-Flat : goal.returns-in-Flat
 returns-in-Flat c s sh =
     subst (λ (v : ℕ). is_solid (without_point v s) ≡ false) c.in_ok-refill.ensures
-    (subst (λ (t : RefillTurn). RefillGives c.args.hold.now s c.in_ok-refill.refill t) c.in-Flat.is (c.in_ok-change.ensures.turn s sh)).1
+    (subst (λ (t : RefillTurn). RefillGives c.args.hold.now s c.in_ok-refill.refill t) c.in-Flat.is
+    (c.in_ok-change.ensures.turn s sh)).1
 
 pub unreachable-requires : goal.unreachable-requires
 unreachable-requires c =

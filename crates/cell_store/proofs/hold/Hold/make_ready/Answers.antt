@@ -11,34 +11,48 @@ use Rattle.cell_store.proofs.hold.Hold.make_ready.Goals as goal
 
 pub new-requires-clause-gone : goal.new-requires-clause-gone
 new-requires-clause-gone c =
-    held_in_hand c.args.self.now c.grid-grid.result c.deref.result.now c.args.gone.now c.grid-grid.ensures.grid (ap shown c.deref.ensures.value ∙ ap (λ h. h.places) c.self.view_is) c.requires.gone
+    held_in_hand c.args.self.now c.grid-grid.result c.deref.result.now c.args.gone.now c.grid-grid.ensures.grid
+    (ap shown c.deref.ensures.value ∙ ap (λ h. h.places) c.self.view_is) c.requires.gone
 
 pub new-requires-clause-fresh : goal.new-requires-clause-fresh
 new-requires-clause-fresh c =
-    held_in_hand c.args.self.now c.grid-grid.result c.deref.result.now c.args.fresh.now c.grid-grid.ensures.grid (ap shown c.deref.ensures.value ∙ ap (λ h. h.places) c.self.view_is) c.requires.fresh
+    held_in_hand c.args.self.now c.grid-grid.result c.deref.result.now c.args.fresh.now c.grid-grid.ensures.grid
+    (ap shown c.deref.ensures.value ∙ ap (λ h. h.places) c.self.view_is) c.requires.fresh
 
 pub make_rooms-requires-clause-note : goal.make_rooms-requires-clause-note
 make_rooms-requires-clause-note c =
     let hold = c.args.self.now in
-    if_some (λ p. IsSome (bucket_at hold.places (bucket_of hold.grid p))) (λ p. IsSome (layout_at c.deref_mut.result.now (bucket_of c.grid-grid.result p))) c.args.note
-    (λ p k. held_there hold c.grid-grid.result p c.deref_mut.result.now c.grid-grid.ensures.grid (ap shown c.deref_mut.ensures.value ∙ ap (λ h. h.places) c.self.view_is) k) c.requires.note
+    if_some (λ p. IsSome (bucket_at hold.places (bucket_of hold.grid p)))
+    (λ p. IsSome (layout_at c.deref_mut.result.now (bucket_of c.grid-grid.result p))) c.args.note
+    (λ p k. held_there hold c.grid-grid.result p c.deref_mut.result.now c.grid-grid.ensures.grid
+    (ap shown c.deref_mut.ensures.value ∙ ap (λ h. h.places) c.self.view_is) k) c.requires.note
 
 pub make_rooms-requires-clause-point : goal.make_rooms-requires-clause-point
 make_rooms-requires-clause-point c =
     let hold = c.args.self.now in
-    if_some (λ p. IsSome (bucket_at hold.places (bucket_of hold.grid p))) (λ p. IsSome (layout_at c.deref_mut.result.now (bucket_of c.grid-grid.result p))) c.args.point
-    (λ p k. held_there hold c.grid-grid.result p c.deref_mut.result.now c.grid-grid.ensures.grid (ap shown c.deref_mut.ensures.value ∙ ap (λ h. h.places) c.self.view_is) k) c.requires.point
+    if_some (λ p. IsSome (bucket_at hold.places (bucket_of hold.grid p)))
+    (λ p. IsSome (layout_at c.deref_mut.result.now (bucket_of c.grid-grid.result p))) c.args.point
+    (λ p k. held_there hold c.grid-grid.result p c.deref_mut.result.now c.grid-grid.ensures.grid
+    (ap shown c.deref_mut.ensures.value ∙ ap (λ h. h.places) c.self.view_is) k) c.requires.point
 
 pub invariant_of-self : goal.invariant_of-self
 invariant_of-self c =
     let i = c.self.inside in
     let places = i.places.items in
     let after = c.make_rooms.new.places in
-    let m : AllRoomier places after = subst (λ l. AllRoomier l after) c.deref_mut.ensures.value c.make_rooms.ensures.same in
-    let e = front_is after (drop (length after) places) i.places.len (i.places.ok.0 ∙ sym (ap length c.deref_mut.ensures.value) ∙ sym c.make_rooms.auto.places) in
-    subst (λ ps. (length ps ≡ i.grid * i.grid * i.grid) × IfSome i.exchange (λ y. IsReady y.turned i.grid y.gone.items y.fresh.items ps y.plans.items) × IfSome i.note (λ n. IsNoteReady i.grid ps n) × IfSome i.point (λ n. IsPointReady i.grid ps n) × StandAtPlaces i.grid (shown ps)) (sym e) (
+    let m : AllRoomier places after = subst (λ l. AllRoomier l after) c.deref_mut.ensures.value
+    c.make_rooms.ensures.same in
+    let e = front_is after (drop (length after) places) i.places.len
+    (i.places.ok.0 ∙ sym (ap length c.deref_mut.ensures.value) ∙ sym c.make_rooms.auto.places) in
+    subst (λ ps. (length ps ≡ i.grid * i.grid * i.grid) × IfSome i.exchange
+    (λ y. IsReady y.turned i.grid y.gone.items y.fresh.items ps y.plans.items) ×
+    IfSome i.note (λ n. IsNoteReady i.grid ps n) × IfSome i.point (λ n. IsPointReady i.grid ps n) ×
+    StandAtPlaces i.grid (shown ps)) (sym e) (
       m.count ∙ c.self.invariant.0,
-      if_some (λ y. IsReady y.turned i.grid y.gone.items y.fresh.items places y.plans.items) (λ y. IsReady y.turned i.grid y.gone.items y.fresh.items after y.plans.items) i.exchange (λ y q. all_ready y.turned i.grid y.gone.items y.fresh.items places after y.plans.items m q) c.self.invariant.1,
+      if_some (λ y. IsReady y.turned i.grid y.gone.items y.fresh.items places y.plans.items)
+          (λ y. IsReady y.turned i.grid y.gone.items y.fresh.items after y.plans.items) i.exchange
+          (λ y q. all_ready y.turned i.grid y.gone.items y.fresh.items places after y.plans.items m q)
+          c.self.invariant.1,
       all_noted i.grid places after i.note m c.self.invariant.2,
       all_pointed i.grid places after i.point m c.self.invariant.3,
       subst (StandAtPlaces i.grid) (sym (all_shown places after m)) c.self.invariant.4,
@@ -49,21 +63,38 @@ returns-in_err-make_rooms-clause-err c =
     let i = c.self.inside in
     let places = i.places.items in
     let after = c.make_rooms.new.places in
-    let m : AllRoomier places after = subst (λ l. AllRoomier l after) c.deref_mut.ensures.value c.make_rooms.ensures.same in
-    let e = front_is after (drop (length after) places) i.places.len (i.places.ok.0 ∙ sym (ap length c.deref_mut.ensures.value) ∙ sym c.make_rooms.auto.places) in
-    on_err c.from_residual-in_err-make_rooms.result (ap (λ (l : List (Option BucketContent)). record { grid = i.grid; places = l; room = record { swap = option_map (λ e. (e.gone.items, e.fresh.items)) i.exchange; push = i.note; point = i.point; back = i.back } }) (ap shown e ∙ all_shown places after m) ∙ c.self.view_is)
+    let m : AllRoomier places after = subst (λ l. AllRoomier l after) c.deref_mut.ensures.value
+    c.make_rooms.ensures.same in
+    let e = front_is after (drop (length after) places) i.places.len
+    (i.places.ok.0 ∙ sym (ap length c.deref_mut.ensures.value) ∙ sym c.make_rooms.auto.places) in
+    on_err c.from_residual-in_err-make_rooms.result (ap (λ (l : List (Option BucketContent)). record {
+      grid = i.grid;
+      places = l;
+      room = record {
+        swap = option_map (λ e. (e.gone.items, e.fresh.items)) i.exchange;
+        push = i.note;
+        point = i.point;
+        back = i.back;
+      };
+    }) (ap shown e ∙ all_shown places after m) ∙ c.self.view_is)
 
 pub invariant_of-self-2 : goal.invariant_of-self-2
 invariant_of-self-2 c =
     let i = c.self.inside in
     let places = i.places.items in
     let after = c.make_rooms.new.places in
-    let m : AllRoomier places after = subst (λ l. AllRoomier l after) c.deref_mut.ensures.value c.make_rooms.ensures.same in
-    let e = front_is after (drop (length after) places) i.places.len (i.places.ok.0 ∙ sym (ap length c.deref_mut.ensures.value) ∙ sym c.make_rooms.auto.places) in
+    let m : AllRoomier places after = subst (λ l. AllRoomier l after) c.deref_mut.ensures.value
+    c.make_rooms.ensures.same in
+    let e = front_is after (drop (length after) places) i.places.len
+    (i.places.ok.0 ∙ sym (ap length c.deref_mut.ensures.value) ∙ sym c.make_rooms.auto.places) in
     let x = c.in_ok-exchange.exchange in
     let grid : c.grid-grid.result ≡ i.grid = c.grid-grid.ensures.grid ∙ sym (ap (λ h. h.grid) c.self.view_is) in
-    let ready = ready_same x.turned c.grid-grid.result i.grid c.args.gone.now c.args.fresh.now x.gone.items x.fresh.items c.deref.result.now places x.plans.items grid (sym c.in_ok-exchange.ensures.gone) (sym c.in_ok-exchange.ensures.fresh) c.deref.ensures.value c.in_ok-exchange.ensures.ready in
-    subst (λ ps. (length ps ≡ i.grid * i.grid * i.grid) × IsReady x.turned i.grid x.gone.items x.fresh.items ps x.plans.items × IfSome c.args.note (λ n. IsNoteReady i.grid ps n) × IfSome c.args.point (λ n. IsPointReady i.grid ps n) × StandAtPlaces i.grid (shown ps)) (sym e) (
+    let ready = ready_same x.turned c.grid-grid.result i.grid c.args.gone.now c.args.fresh.now x.gone.items
+    x.fresh.items c.deref.result.now places x.plans.items grid (sym c.in_ok-exchange.ensures.gone)
+    (sym c.in_ok-exchange.ensures.fresh) c.deref.ensures.value c.in_ok-exchange.ensures.ready in
+    subst (λ ps. (length ps ≡ i.grid * i.grid * i.grid) × IsReady x.turned i.grid x.gone.items x.fresh.items ps
+    x.plans.items × IfSome c.args.note (λ n. IsNoteReady i.grid ps n) ×
+    IfSome c.args.point (λ n. IsPointReady i.grid ps n) × StandAtPlaces i.grid (shown ps)) (sym e) (
       m.count ∙ c.self.invariant.0,
       all_ready x.turned i.grid x.gone.items x.fresh.items places after x.plans.items m ready,
       subst (λ (g : ℕ). IfSome c.args.note (λ n. IsNoteReady g after n)) grid c.in_ok-make_rooms.ensures.note,
@@ -76,10 +107,29 @@ returns-clause-ok c =
     let i = c.self.inside in
     let places = i.places.items in
     let after = c.make_rooms.new.places in
-    let m : AllRoomier places after = subst (λ l. AllRoomier l after) c.deref_mut.ensures.value c.make_rooms.ensures.same in
-    let e = front_is after (drop (length after) places) i.places.len (i.places.ok.0 ∙ sym (ap length c.deref_mut.ensures.value) ∙ sym c.make_rooms.auto.places) in
+    let m : AllRoomier places after = subst (λ l. AllRoomier l after) c.deref_mut.ensures.value
+    c.make_rooms.ensures.same in
+    let e = front_is after (drop (length after) places) i.places.len
+    (i.places.ok.0 ∙ sym (ap length c.deref_mut.ensures.value) ∙ sym c.make_rooms.auto.places) in
     let x = c.in_ok-exchange.exchange in
     let hold = c.args.self.now in
-    hold_with hold i.grid (shown places) _ hold.places _ _ c.self.view_is (ap shown e ∙ all_shown places after m ∙ ap (λ h. h.places) c.self.view_is)
-    ∙ ap (λ (l : List Cell). record hold { room = record { swap = Some (l, x.fresh.items); push = c.args.note; point = c.args.point; back = c.args.back } }) c.in_ok-exchange.ensures.gone
-    ∙ ap (λ (l : List Cell). record hold { room = record { swap = Some (c.args.gone.now, l); push = c.args.note; point = c.args.point; back = c.args.back } }) c.in_ok-exchange.ensures.fresh
+    hold_with hold i.grid (shown places) _ hold.places _ _ c.self.view_is
+    (ap shown e ∙ all_shown places after m ∙ ap (λ h. h.places) c.self.view_is)
+    ∙ ap (λ (l : List Cell). record hold {
+      room = record {
+        swap = Some (l, x.fresh.items);
+        push = c.args.note;
+        point =
+            c.args.point;
+        back = c.args.back;
+      };
+    }) c.in_ok-exchange.ensures.gone
+    ∙ ap (λ (l : List Cell). record hold {
+      room = record {
+        swap = Some (c.args.gone.now, l);
+        push = c.args.note;
+        point =
+            c.args.point;
+        back = c.args.back;
+      };
+    }) c.in_ok-exchange.ensures.fresh

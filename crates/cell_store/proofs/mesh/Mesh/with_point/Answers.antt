@@ -7,16 +7,24 @@ use Rattle.cell_store.proofs.MeshLaws.{all_are_held, point_held}
 use Rattle.cell_store.proofs.mesh.Mesh.with_point.Goals as goal
 
 pub reserve_both-requires-clause-gone : goal.reserve_both-requires-clause-gone
-reserve_both-requires-clause-gone g c = all_are_held c.self.inside.hold c.args.gone.now c.self.invariant.0.whole.has c.self.invariant.0.whole.all
+reserve_both-requires-clause-gone g c = all_are_held c.self.inside.hold c.args.gone.now c.self.invariant.0.whole.has
+    c.self.invariant.0.whole.all
 
 pub reserve_both-requires-clause-fresh : goal.reserve_both-requires-clause-fresh
-reserve_both-requires-clause-fresh g c = all_are_held c.self.inside.hold c.args.fresh.now c.self.invariant.0.whole.has c.self.invariant.0.whole.all
+reserve_both-requires-clause-fresh g c = all_are_held c.self.inside.hold c.args.fresh.now c.self.invariant.0.whole.has
+    c.self.invariant.0.whole.all
 
 pub reserve_both-requires-clause-points : goal.reserve_both-requires-clause-points
-reserve_both-requires-clause-points g c p i = point_held c.self.inside.hold p c.self.invariant.0.whole.has c.self.invariant.0.whole.all
+reserve_both-requires-clause-points g c p i = point_held c.self.inside.hold p c.self.invariant.0.whole.has
+    c.self.invariant.0.whole.all
 
 pub enter-requires-clause-room : goal.enter-requires-clause-room
-enter-requires-clause-room g c = (let room = ap (λ (h : InHand). h.room) c.in_ok-reserve_both.ensures.ok in record { swap = ap (λ (r : Room). r.swap) room; point = ap (λ (r : Room). r.point) room; back = ap (λ (r : Room). r.back) room })
+enter-requires-clause-room g c = (let room = ap (λ (h : InHand). h.room) c.in_ok-reserve_both.ensures.ok in record {
+  swap = ap (λ (r : Room). r.swap) room;
+  point = ap (λ (r : Room). r.point) room;
+  back =
+      ap (λ (r : Room). r.back) room;
+})
 
 pub enter-requires-clause-enters : goal.enter-requires-clause-enters
 enter-requires-clause-enters g c =
@@ -26,7 +34,8 @@ enter-requires-clause-enters g c =
     let grid = ap (λ (h : InHand). h.grid) ok in
     let places = ap (λ (h : InHand). h.places) ok in
     let own = subst (λ (m : MeshView). IsHoldOf m hold) c.self.view_is c.self.invariant.0 in
-    let en = mesh_enters c.args.self.now hold ready c.args.gone.now c.args.fresh.now c.args.p own grid places c.requires.new c.requires.change in
+    let en = mesh_enters c.args.self.now hold ready c.args.gone.now c.args.fresh.now c.args.p own grid places
+    c.requires.new c.requires.change in
     (replay c.args.self.now.history, en)
 
 pub look-found-requires : goal.look-found-requires
@@ -37,14 +46,21 @@ look-found-requires g c =
     let grid = ap (λ (h : InHand). h.grid) ok in
     let places = ap (λ (h : InHand). h.places) ok in
     let own = subst (λ (m : MeshView). IsHoldOf m hold) c.self.view_is c.self.invariant.0 in
-    let en = mesh_enters c.args.self.now hold ready c.args.gone.now c.args.fresh.now c.args.p own grid places c.requires.new c.requires.change in
-    c.requires.look _ (whole_entered c.args.self.now hold ready c.enter.new.self c.args.gone.now c.args.fresh.now c.args.p own grid places en c.enter.ensures.entered)
+    let en = mesh_enters c.args.self.now hold ready c.args.gone.now c.args.fresh.now c.args.p own grid places
+    c.requires.new c.requires.change in
+    c.requires.look _ (whole_entered c.args.self.now hold ready c.enter.new.self c.args.gone.now c.args.fresh.now
+    c.args.p own grid places en c.enter.ensures.entered)
 
 pub leave-requires-clause-room : goal.leave-requires-clause-room
 leave-requires-clause-room g c =
     let room = ap (λ (h : InHand). h.room) c.in_ok-reserve_both.ensures.ok in
     let after = c.enter.ensures.room in
-    record { swap = ap (λ (r : Room). r.swap) after; point = ap (λ (r : Room). r.point) after ∙ ap (λ (r : Room). r.point) room; back = ap (λ (r : Room). r.back) after ∙ ap (λ (r : Room). r.back) room }
+    record {
+      swap = ap (λ (r : Room). r.swap) after;
+      point = ap (λ (r : Room). r.point) after ∙ ap
+          (λ (r : Room). r.point) room;
+      back = ap (λ (r : Room). r.back) after ∙ ap (λ (r : Room). r.back) room;
+    }
 
 pub leave-requires-clause-entered : goal.leave-requires-clause-entered
 leave-requires-clause-entered g c =
@@ -54,7 +70,8 @@ leave-requires-clause-entered g c =
     let grid = ap (λ (h : InHand). h.grid) ok in
     let places = ap (λ (h : InHand). h.places) ok in
     let own = subst (λ (m : MeshView). IsHoldOf m hold) c.self.view_is c.self.invariant.0 in
-    let en = mesh_enters c.args.self.now hold ready c.args.gone.now c.args.fresh.now c.args.p own grid places c.requires.new c.requires.change in
+    let en = mesh_enters c.args.self.now hold ready c.args.gone.now c.args.fresh.now c.args.p own grid places
+    c.requires.new c.requires.change in
     record { before = ready; set = replay c.args.self.now.history; enters = en; entered = c.enter.ensures.entered }
 
 pub invariant_of-self-2 : goal.invariant_of-self-2
@@ -65,8 +82,11 @@ invariant_of-self-2 g c =
     let grid = ap (λ (h : InHand). h.grid) ok in
     let places = ap (λ (h : InHand). h.places) ok in
     let own = subst (λ (m : MeshView). IsHoldOf m hold) c.self.view_is c.self.invariant.0 in
-    let en = mesh_enters c.args.self.now hold ready c.args.gone.now c.args.fresh.now c.args.p own grid places c.requires.new c.requires.change in
-    (mesh_left hold ready c.enter.new.self c.leave.new.self (replay c.args.self.now.history) c.args.gone.now c.args.fresh.now c.args.p c.self.inside.count c.self.invariant grid places en c.enter.ensures.entered c.leave.ensures.left).1
+    let en = mesh_enters c.args.self.now hold ready c.args.gone.now c.args.fresh.now c.args.p own grid places
+    c.requires.new c.requires.change in
+    (mesh_left hold ready c.enter.new.self c.leave.new.self (replay c.args.self.now.history) c.args.gone.now
+    c.args.fresh.now c.args.p c.self.inside.count c.self.invariant grid places en c.enter.ensures.entered
+    c.leave.ensures.left).1
 
 pub returns-clause-same : goal.returns-clause-same
 returns-clause-same g c =
@@ -76,8 +96,11 @@ returns-clause-same g c =
     let grid = ap (λ (h : InHand). h.grid) ok in
     let places = ap (λ (h : InHand). h.places) ok in
     let own = subst (λ (m : MeshView). IsHoldOf m hold) c.self.view_is c.self.invariant.0 in
-    let en = mesh_enters c.args.self.now hold ready c.args.gone.now c.args.fresh.now c.args.p own grid places c.requires.new c.requires.change in
-    (mesh_left hold ready c.enter.new.self c.leave.new.self (replay c.args.self.now.history) c.args.gone.now c.args.fresh.now c.args.p c.self.inside.count c.self.invariant grid places en c.enter.ensures.entered c.leave.ensures.left).0 ∙ c.self.view_is
+    let en = mesh_enters c.args.self.now hold ready c.args.gone.now c.args.fresh.now c.args.p own grid places
+    c.requires.new c.requires.change in
+    (mesh_left hold ready c.enter.new.self c.leave.new.self (replay c.args.self.now.history) c.args.gone.now
+    c.args.fresh.now c.args.p c.self.inside.count c.self.invariant grid places en c.enter.ensures.entered
+    c.leave.ensures.left).0 ∙ c.self.view_is
 
 pub returns-clause-found : goal.returns-clause-found
 returns-clause-found g c =
@@ -87,5 +110,10 @@ returns-clause-found g c =
     let grid = ap (λ (h : InHand). h.grid) ok in
     let places = ap (λ (h : InHand). h.places) ok in
     let own = subst (λ (m : MeshView). IsHoldOf m hold) c.self.view_is c.self.invariant.0 in
-    let en = mesh_enters c.args.self.now hold ready c.args.gone.now c.args.fresh.now c.args.p own grid places c.requires.new c.requires.change in
-    (c.enter.new.self, whole_entered c.args.self.now hold ready c.enter.new.self c.args.gone.now c.args.fresh.now c.args.p own grid places en c.enter.ensures.entered, (_, c.look-found.ensures, refl))
+    let en = mesh_enters c.args.self.now hold ready c.args.gone.now c.args.fresh.now c.args.p own grid places
+    c.requires.new c.requires.change in (
+      c.enter.new.self,
+      whole_entered c.args.self.now hold ready c.enter.new.self c.args.gone.now c.args.fresh.now
+          c.args.p own grid places en c.enter.ensures.entered,
+      (_, c.look-found.ensures, refl),
+    )

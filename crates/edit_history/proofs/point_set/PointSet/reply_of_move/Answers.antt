@@ -13,7 +13,8 @@ returns-then-is_solid_with c =
     let there = sym (c.in-Ok.ensures.there ∙ ap (is_among a) (c.deref.ensures.value ∙ c.self.view_is)) in
     let free = sym (c.in-Err-search.ensures.there ∙ ap (is_among b) (c.deref-in-Ok.ensures.value ∙ c.self.view_is)) in
     let same = c.deref-in-Err-search.ensures.value ∙ c.self.view_is in
-    let solid = sym (c.is_solid_with.ensures ∙ ap (λ l. is_solid (b ∷ without_point a l)) same ∙ solid_moved a b s (places_differ a b s there free)) in
+    let solid = sym (c.is_solid_with.ensures ∙ ap (λ l. is_solid (b ∷ without_point a l)) same ∙ solid_moved a b s
+    (places_differ a b s there free)) in
     sym (does_move a b s (record { there = there; free = free; solid = solid ∙ c.if-is_solid_with.true }))
 
 pub returns-else-is_solid_with : goal.returns-else-is_solid_with
@@ -24,5 +25,6 @@ returns-else-is_solid_with c =
     let there = sym (c.in-Ok.ensures.there ∙ ap (is_among a) (c.deref.ensures.value ∙ c.self.view_is)) in
     let free = sym (c.in-Err-search.ensures.there ∙ ap (is_among b) (c.deref-in-Ok.ensures.value ∙ c.self.view_is)) in
     let same = c.deref-in-Err-search.ensures.value ∙ c.self.view_is in
-    let solid = sym (c.is_solid_with.ensures ∙ ap (λ l. is_solid (b ∷ without_point a l)) same ∙ solid_moved a b s (places_differ a b s there free)) in
+    let solid = sym (c.is_solid_with.ensures ∙ ap (λ l. is_solid (b ∷ without_point a l)) same ∙ solid_moved a b s
+    (places_differ a b s there free)) in
     sym (does_not_move a b s there free (solid ∙ c.if-is_solid_with.false))

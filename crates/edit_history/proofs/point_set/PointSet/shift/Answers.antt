@@ -8,7 +8,8 @@ use Rattle.edit_history.proofs.point_set.PointSet.shift.Goals as goal
 pub invariant_of-self : goal.invariant_of-self
 invariant_of-self c =
     let s = c.self.inside.points.items in
-    rw c.exchange.ensures (ascending_with c.args.b (without_point c.args.a s) (ascending_without c.args.a s c.self.invariant))
+    rw c.exchange.ensures (ascending_with c.args.b (without_point c.args.a s)
+    (ascending_without c.args.a s c.self.invariant))
 
 pub returns-in-Moved-clause-set : goal.returns-in-Moved-clause-set
 returns-in-Moved-clause-set c =

@@ -16,10 +16,13 @@ returns-then-eq c s st w =
     let x = c.first_around-first.result in
     let k = subst (λ (v : Nearing). IsWalkIn s v) (sym c.self.view_is) w in
     let e : x ≡ p = same_from x p (sym c.eq.ensures ∙ c.if-eq.true) in
-    let number : c.bucket_of-b.result ≡ bucket_of hold.grid p = c.bucket_of-b.ensures.number ∙ ap (λ g. bucket_of g p) c.grid.ensures.grid in
+    let number : c.bucket_of-b.result ≡ bucket_of hold.grid p = c.bucket_of-b.ensures.number ∙ ap (λ g. bucket_of g p)
+    c.grid.ensures.grid in
     let held = subst (λ n. IsSome (bucket_at hold.places n)) number (sym c.has.ensures ∙ c.if-not-has.false) in
-    let near = subst (λ v. IsFirstOf q s v) (sym e) (here_nearest hold s q p st k (subst (λ v. IsFirstAround s q p v) e (c.first_around-first.ensures s st k))) in
-    subst (λ (v : Nearing). (v ≡ v) × (x ≡ v.point) × IsSome (bucket_under hold v) × IsFirstOf v.place s x) c.self.view_is (refl, e, held, near)
+    let near = subst (λ v. IsFirstOf q s v) (sym e) (here_nearest hold s q p st k
+    (subst (λ v. IsFirstAround s q p v) e (c.first_around-first.ensures s st k))) in
+    subst (λ (v : Nearing). (v ≡ v) × (x ≡ v.point) × IsSome (bucket_under hold v) × IsFirstOf v.place s x)
+    c.self.view_is (refl, e, held, near)
 
 pub returns : goal.returns
 returns c s st w =
@@ -29,7 +32,8 @@ returns c s st w =
     let x = c.first_around-first.result in
     let k = subst (λ (v : Nearing). IsWalkIn s v) (sym c.self.view_is) w in
     let n : ¬ (x ≡ p) = λ e. not_both (nat_eq x p) (same_true x p e) (sym c.eq.ensures ∙ c.if-eq.false) in
-    let number : c.bucket_of-b.result ≡ bucket_of hold.grid p = c.bucket_of-b.ensures.number ∙ ap (λ g. bucket_of g p) c.grid.ensures.grid in
+    let number : c.bucket_of-b.result ≡ bucket_of hold.grid p = c.bucket_of-b.ensures.number ∙ ap (λ g. bucket_of g p)
+    c.grid.ensures.grid in
     let held = subst (λ n. IsSome (bucket_at hold.places n)) number (sym c.has.ensures ∙ c.if-not-has.false) in
     let f = c.first_around-first.ensures s st k in
     subst (λ (v : Nearing). HasMoved hold s v (record { place = q; point = x })) c.self.view_is (record {
