@@ -17,11 +17,19 @@ const LOOKS: usize = 128;
 
 // The nearest of some points of the list, if it has any. It only makes the walk short, so nothing is promised.
 pub(crate) fn near_point(points: &[Point], p: Point) -> Option<Point> {
-    points
-        .iter()
-        .copied()
-        .step_by(points.len() / LOOKS + 1)
-        .min_by_key(|q| Step::between(p, *q).square())
+    let stride = points.len() / LOOKS + 1;
+    let mut near = None;
+    let mut least = i64::MAX;
+    for look in 0..LOOKS {
+        if let Some(q) = points.get(stride.saturating_mul(look)) {
+            let square = Step::between(p, *q).square();
+            if square < least {
+                least = square;
+                near = Some(*q);
+            }
+        }
+    }
+    near
 }
 
 // Whether the cell is Full, and the buckets of all its points are in hand.
