@@ -16,6 +16,7 @@ MOST_RADII = 16
 GREATEST_RADIUS = 1073741823
 KINDS = ('singular', 'regular', 'interior')
 REPLIES = ('Inserted', 'Duplicate', 'Removed', 'Missing', 'Flat')
+NO_ALPHA = 1 << 34  # a face that no alpha admits: each alpha is below it
 
 
 class Trouble(Exception):
@@ -132,6 +133,18 @@ class Lines:
             values[i] = places[line]
         return values
 
+    def steps(self, count, width):
+        """So many lines of so many indices and a least alpha, or `none`, which is told as NO_ALPHA."""
+        first, block = self.block(count)
+        good = re.compile(rb'[0-9]{1,6}' + rb' [0-9]{1,6}' * (width - 1) + rb' ([0-9]{1,11}|none)')
+        rows = block.split(b'\n')[:count]
+        for i, line in enumerate(rows):
+            if not good.fullmatch(line):
+                raise self.fault(first + i + 1, f'{width} indices and an alpha were expected')
+        text = block.replace(b'none', str(NO_ALPHA).encode())
+        values = np.array(text.split(), dtype=np.int64).reshape(count, width + 1)
+        return values[:, :width], values[:, width]
+
     def faces(self, count, width, most):
         """So many lines of so many indices and a kind."""
         first, block = self.block(count)
@@ -214,6 +227,39 @@ def read_report(name):
     if lines.next != len(lines.ends):
         raise lines.fault(lines.next + 1, 'nothing was expected behind the end')
     return Report(replies, points, cells, hull, shapes, order)
+
+
+class Steps:
+    """What `delaunay steps` writes: the edges, triangles and tetrahedra, arrays of indices of points, each with its least alpha.
+
+    An alpha is a squared radius in sixteenths of the grid's unit; NO_ALPHA where no alpha admits the face.
+    """
+
+    def __init__(self, edges, triangles, cells):
+        self.edges, self.edge_alphas = edges
+        self.triangles, self.triangle_alphas = triangles
+        self.cells, self.cell_alphas = cells
+
+    def point_count(self):
+        """How many points there are: each is a corner of a tetrahedron."""
+        return int(self.cells.max()) + 1 if len(self.cells) else 0
+
+    def kinds(self):
+        """The faces of two, three and four points, each kind with its least alphas."""
+        return [(self.edges, self.edge_alphas), (self.triangles, self.triangle_alphas), (self.cells, self.cell_alphas)]
+
+
+def read_steps(name):
+    lines = Lines(read_bytes(name), name)
+    if lines.line() != b'mesh3-steps 1':
+        raise lines.fault(1, "'mesh3-steps 1' was expected: is this what `delaunay steps` wrote?")
+    kinds = [lines.steps(lines.count(word), width) for word, width in ((b'edges', 2), (b'triangles', 3), (b'cells', 4))]
+    if lines.line() != b'end':
+        raise lines.fault(lines.next, "'end' was expected")
+    if lines.next != len(lines.ends):
+        raise lines.fault(lines.next + 1, 'nothing was expected behind the end')
+    progress_done()
+    return Steps(*kinds)
 
 
 # ---- edit files
