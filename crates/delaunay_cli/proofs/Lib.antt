@@ -2,6 +2,7 @@ pub mod Lines
 pub mod CommandLine
 pub mod Judging
 pub mod Ended
+pub mod Promised
 pub mod OpeningLines
 pub mod ShapesOfSet
 pub mod DrawnFiles

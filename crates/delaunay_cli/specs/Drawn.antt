@@ -1,5 +1,5 @@
 -- What is written of a file that is drawn.
-use Rattle.std.specs.Prelude.{◌≡◌, ℕ, Bool, true, false, List, [], String, if◌then◌else◌}
+use Rattle.std.specs.Prelude.{◌≡◌, ◌⊎◌, ◌≤◌, ℕ, Bool, true, false, List, [], String, if◌then◌else◌}
 use Rattle.std.specs.declared.alloc.Global.{Global}
 use Rattle.edit_history.specs.declared.history.Entry.{Entry}
 use Rattle.edit_files.specs.Content.{Content}
@@ -8,6 +8,7 @@ use Rattle.edit_files.specs.Writing.{file_text}
 use Rattle.mesh_files.specs.Summary.{summary_text}
 use Rattle.delaunay_cli.specs.Report.{report_of}
 use Rattle.delaunay_cli.specs.Run.{IsKept}
+use Rattle.delaunay_cli.specs.Statuses.{HasText}
 use Rattle.delaunay_cli.specs.Words.{asks_text, drawn_count, drawn_start}
 
 -- the summary of a history of a file's lines, with a shape for each of its radii
@@ -35,3 +36,9 @@ drawn_text words h = text_of_drawn (asks_text words) (drawn_file words) h
 -- what is made of a drawn file: the history and the text
 abbrev pub IsDrawn : Bool → ℕ → Content → List Entry → List ℕ → Type 0
 IsDrawn text workers file h written = IsKeptOfDrawn text file workers h × (written ≡ text_of_drawn text file h)
+
+-- What a run that draws a file promises of its end: by the status, the history and the text.
+pub record DrawEnds (text : Bool) (workers : ℕ) (file : Content) (status : ℕ) (h : List Entry)
+    (written : List ℕ) : Type 0 where
+  pub statuses : status ≤ 2 ⊎ (status ≡ 4)
+  pub made : HasText status → IsDrawn text workers file h written

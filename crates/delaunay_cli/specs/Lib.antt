@@ -7,7 +7,9 @@ pub mod Run
 pub mod Stops
 pub mod Page
 pub mod Reported
+pub mod Commands
 pub mod Ends
+pub mod Laws
 pub mod Tasks
 pub mod Drawn
 pub mod PlainText

@@ -36,6 +36,7 @@ use Rattle.delaunay_cli.specs.declared.made.Made.{Made}
 use Rattle.delaunay_cli.specs.declared.made.Page.{Page}
 use Rattle.delaunay_cli.specs.declared.made.Page.TheVariants.{Text, Report}
 use Rattle.delaunay_cli.specs.declared.made.Parts.{Parts}
+use Rattle.delaunay_cli.specs.Stops.{IsLate}
 
 -- the radii of the shapes that are asked for
 abbrev pub radii_of : Bool → List ℕ → List ℕ
@@ -75,10 +76,11 @@ abbrev pub IsWritable : Page → Type 0
 IsWritable (Text text) = ⊤
 IsWritable (Report form parts) = IsReady parts
 
--- The history is legal, and the page can be written.
+-- The history is legal, the page can be written, and what is told of it comes after a whole text.
 pub record IsSound (made : Made) : Type 0 where
   pub legal : IsLegal made.kept.items
   pub writable : IsWritable made.page
+  pub late : IsLate made.after
 
 -- the faces are those of the set, and there are none only where there are no radii
 abbrev pub AreFacesFor : List ℕ → List ℕ → Option FaceLists → Type 0

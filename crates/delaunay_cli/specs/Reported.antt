@@ -1,5 +1,5 @@
 -- The commands `mesh` and `shape`: what is made of a file, and why nothing is.
-use Rattle.std.specs.Prelude.{◌≡◌, ◌≤◌, ◌<◌, ◌⊎◌, ℕ, List, length, Bool, true, false, Option, IfSome, ⊤}
+use Rattle.std.specs.Prelude.{◌≡◌, ◌≢◌, ◌≤◌, ◌<◌, ◌⊎◌, ◌↔◌, ℕ, List, length, Bool, true, false, Option, IfSome, ⊤}
 use Rattle.point_order.specs.Solid.{is_solid}
 use Rattle.edit_history.specs.declared.history.Entry.{Entry}
 use Rattle.edit_history.specs.Histories.{IsLegal}
@@ -9,8 +9,8 @@ use Rattle.mesh_files.specs.Text.{ReportParts}
 use Rattle.delaunay_cli.specs.declared.stop.Stop.{Stop}
 use Rattle.delaunay_cli.specs.declared.stop.Stop.TheVariants.{Memory, ReadFault, BadLine, Flat, TooLong}
 use Rattle.delaunay_cli.specs.Report.{report_of, text_of}
-use Rattle.delaunay_cli.specs.Run.{IsKept, input_limit}
-use Rattle.delaunay_cli.specs.Statuses.{IsFaultLine}
+use Rattle.delaunay_cli.specs.Run.{HasFault, IsKept, input_limit}
+use Rattle.delaunay_cli.specs.Statuses.{HasText, IsEarly, IsFaultLine}
 
 -- The file's points are solid; the history keeps it for a number of workers, and the report is that of the two.
 pub record IsMeshed (workers : ℕ) (shape order : Bool) (file : Content) (h : List Entry)
@@ -47,3 +47,18 @@ IsUnreported left failed (BadLine line) = IsFaultLine left line.items
 IsUnreported left failed Flat = IfSome left IsFlatFile
 IsUnreported left failed TooLong = IfSome left (λ bytes. input_limit < length bytes)
 IsUnreported left failed stop = ⊥
+
+-- The statuses 7, 5 and 6 tell of these bytes.
+pub record IsVerdict (status : ℕ) (bytes : List ℕ) : Type 0 where
+  pub too_long : status ≡ 7 ↔ (input_limit < length bytes)
+  pub bad_line : status ≢ 7 → (status ≡ 5 ↔ HasFault bytes)
+  pub not_solid : status ≢ 7 → (file : Content) → IsFile line_limit bytes file →
+      (status ≡ 6 ↔ (is_solid file.points ≡ false))
+
+-- What a run that is to write a report promises of its end: by what the source had left, the status, the history and
+-- the text.
+pub record ReportEnds (workers : ℕ) (shape order : Bool) (left : Option (List ℕ)) (status : ℕ) (h : List Entry)
+    (text : List ℕ) : Type 0 where
+  pub statuses : status ≤ 7
+  pub verdict : (IsEarly status → ⊥) → IfSome left (IsVerdict status)
+  pub made : HasText status → IfSome left (IsReported workers shape order h text)

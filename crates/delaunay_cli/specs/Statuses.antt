@@ -1,5 +1,20 @@
 -- The statuses of a run, and the line that each has on standard error.
-use Rattle.std.specs.Prelude.{◌≡◌, ◌≢◌, ◌⊎◌, ℕ, ◌==◌, List, [], ◌++◌, codes, decimal, Option, IfSome, if◌then◌else◌}
+use Rattle.std.specs.Prelude.{
+  ◌≡◌,
+  ◌≢◌,
+  ◌⊎◌,
+  ◌<◌,
+  ℕ,
+  ◌==◌,
+  List,
+  [],
+  ◌++◌,
+  codes,
+  decimal,
+  Option,
+  IfSome,
+  if◌then◌else◌,
+}
 use Rattle.edit_files.specs.declared.fault.Why.{Why}
 use Rattle.edit_files.specs.declared.fault.Why.TheVariants.{Section, Field, Range, TooMany, Truncated}
 use Rattle.edit_files.specs.declared.fault.Fault.{Fault}
@@ -13,6 +28,14 @@ use Rattle.edit_files.specs.Faults.{IsFault}
 abbrev pub IsEarly : ℕ → Type 0
 IsEarly status = (status ≡ 1) ⊎ (status ≡ 2) ⊎ (status ≡ 3)
 
+-- the whole text was written: the status is 0, or one above 7, which tells of what was made
+abbrev pub IsWhole : ℕ → Type 0
+IsWhole status = (status ≡ 0) ⊎ (7 < status)
+
+-- a text was made, and written whole or, where the output failed, a front of it
+abbrev pub HasText : ℕ → Type 0
+HasText status = IsWhole status ⊎ (status ≡ 4)
+
 -- the line of a status other than 5
 abbrev pub plain_line : ℕ → List ℕ
 plain_line status =
@@ -22,7 +45,10 @@ plain_line status =
     else (if status == 4 then codes "delaunay: write fault\n"
     else (if status == 6 then codes "delaunay: no four independent points\n"
     else (if status == 7 then codes "delaunay: input too long\n"
-    else [])))))
+    else (if status == 8 then codes "delaunay: no such part\n"
+    else (if status == 9 then codes "delaunay: no such alpha\n"
+    else (if status == 10 then codes "delaunay: bad mesh\n"
+    else []))))))))
 
 abbrev pub why_word : Why → List ℕ
 why_word Section = codes "Section"

@@ -1,5 +1,5 @@
 -- Why a run stops: the status and the line of each stop.
-use Rattle.std.specs.Prelude.{◌≡◌, ◌⊎◌, ℕ, List, [], Option, None, Some, Result, Ok, Err, String}
+use Rattle.std.specs.Prelude.{◌≡◌, ◌⊎◌, ℕ, List, [], Option, None, Some, Result, Ok, Err, String, ⊤}
 use Rattle.std.specs.declared.alloc.Global.{Global}
 use Rattle.byte_ends.specs.declared.loops.ReadError.{ReadError}
 use Rattle.byte_ends.specs.declared.loops.ReadError.TheVariants.{Fault as SourceFault, Memory as NoRoom}
@@ -12,6 +12,9 @@ use Rattle.delaunay_cli.specs.declared.stop.Stop.TheVariants.{
   BadLine,
   Flat,
   TooLong,
+  NoPart,
+  NoAlpha,
+  BadMesh,
 }
 use Rattle.delaunay_cli.specs.Statuses.{plain_line}
 use Rattle.delaunay_cli.specs.Words.{AreTaken}
@@ -24,6 +27,9 @@ status_of WriteFault = 4
 status_of (BadLine line) = 5
 status_of Flat = 6
 status_of TooLong = 7
+status_of NoPart = 8
+status_of NoAlpha = 9
+status_of BadMesh = 10
 
 -- the line of a fault if there is one, and else that of the status
 abbrev pub line_of : Stop → List ℕ
@@ -38,6 +44,14 @@ status_of_end (Some stop) = status_of stop
 abbrev pub line_of_end : Option Stop → List ℕ
 line_of_end None = []
 line_of_end (Some stop) = line_of stop
+
+-- what a command may tell of what it made: the run ends so where the text is written whole
+abbrev pub IsLate : Option Stop → Type 0
+IsLate None = ⊤
+IsLate (Some NoPart) = ⊤
+IsLate (Some NoAlpha) = ⊤
+IsLate (Some BadMesh) = ⊤
+IsLate (Some stop) = ⊥
 
 -- the status where a command has made something or has stopped
 abbrev pub status_of_made : {A : Type 0} → Result A Stop → ℕ

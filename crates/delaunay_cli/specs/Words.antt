@@ -211,10 +211,19 @@ grid_size words = number_of (codes "grid") 1 most_grid (subcommand_of program (t
 unfoldable pub AreTaken : List (String Global) → Type 0
 AreTaken words = (fault_of program (texts_of words) ≡ []) × (is_grid_size (grid_size words) ≡ true)
 
--- a file is read
+-- what a command does: it writes the report of a file that it reads (`mesh` and `shape`), or draws a file (`gen`)
+pub data Kind : Type 0 where
+  Reports : Kind
+  Draws : Kind
+
+-- what the command of the words does
+abbrev pub kind_of : List (String Global) → Kind
+kind_of words = if asks_drawn words then Draws else Reports
+
+-- the source is read
 abbrev pub ReadsFile : List (String Global) → Type 0
 ReadsFile words = asks_drawn words ≡ false
 
--- a file is drawn, and none is read
+-- a file is drawn, and the source is not read
 abbrev pub DrawsFile : List (String Global) → Type 0
 DrawsFile words = asks_drawn words ≡ true

@@ -1,6 +1,6 @@
 //! The command `gen`: from two numbers to the text of a drawn file, or to the parts of the summary of its mesh.
 
-ghost use Rattle.std.specs.Prelude.{◌≡◌, IfOk, IfErr};
+ghost use Rattle.std.specs.Prelude.{◌≡◌, None, IfOk, IfErr};
 ghost use Rattle.edit_files.specs.Generator.{generated};
 ghost use Rattle.delaunay_cli.specs.declared.stop.Stop.TheVariants.{Memory};
 ghost use Rattle.delaunay_cli.specs.Drawn.{IsDrawn};
@@ -30,6 +30,7 @@ pub fn draw<R: Threads + Sync, G: Gate + Sync>(
     ensures made { IfOk result (λ made.
         IsDrawn drawn.text making.workers (generated drawn.count drawn.start) made.kept.items
         (text_of_page made.page)) }
+    ensures plain_end { IfOk result (λ made. made.after ≡ None) }
     ensures sound { IfOk result IsSound }
     ensures stop { IfErr result (λ stop. stop ≡ Memory) }
 {
@@ -37,7 +38,8 @@ pub fn draw<R: Threads + Sync, G: Gate + Sync>(
     if drawn.text {
         let page = Page::Text(file_text(alloc, &file)?);
         let kept = Vec::new(alloc);
-        return Ok(Made { kept, page });
+        let after = None;
+        return Ok(Made { kept, page, after });
     }
     let asked = Asked {
         shape: true,
@@ -45,5 +47,6 @@ pub fn draw<R: Threads + Sync, G: Gate + Sync>(
     };
     let (kept, parts) = history_and_parts(rt, alloc, &file, making, asked, gate)?;
     let page = Page::Report(Form::Summary, parts);
-    Ok(Made { kept, page })
+    let after = None;
+    Ok(Made { kept, page, after })
 }

@@ -8,6 +8,7 @@
 #![tactic(auto)]
 
 mod drawn;
+pub mod laws;
 mod made;
 mod mesh;
 mod mesh_of_lines;

@@ -54,6 +54,8 @@ pub struct Made {
     pub kept: Vec<Entry>,
     /// What is to be written.
     pub page: Page,
+    /// What is told of it: the run ends so where the page is written whole.
+    pub after: Option<Stop>,
 }
 
 /// Writes bytes.

@@ -1,6 +1,6 @@
 //! The commands `mesh` and `shape`: from the bytes of a source to the report of their mesh.
 
-ghost use Rattle.std.specs.Prelude.{◌≡◌, ◌≤◌, length, Some, IfSome, IfOk, IfErr, IsOk};
+ghost use Rattle.std.specs.Prelude.{◌≡◌, ◌≤◌, length, None, Some, IfSome, IfOk, IfErr, IsOk};
 ghost use Rattle.std.specs.Io.KnownBytes.{IsAtEnd};
 ghost use Rattle.byte_ends.specs.Ends.{Rose};
 ghost use Rattle.delaunay_cli.specs.Page.{IsSound, text_of_page};
@@ -34,6 +34,7 @@ fn judge<R: Threads + Sync, G: Gate + Sync>(
     requires { length bytes.now ≤ input_limit }
     ensures made { IfOk result (λ made. IsReported making.workers asked.shape asked.order made.kept.items
         (text_of_page made.page) bytes.now) }
+    ensures plain_end { IfOk result (λ made. made.after ≡ None) }
     ensures sound { IfOk result IsSound }
     ensures stop { IfErr result (IsUnreported (Some bytes.now) ⊥) }
 {
@@ -41,7 +42,8 @@ fn judge<R: Threads + Sync, G: Gate + Sync>(
         Ok(file) => {
             let (kept, parts) = history_and_parts(rt, alloc, &file, making, asked, gate)?;
             let page = Page::Report(Form::Whole, parts);
-            Ok(Made { kept, page })
+            let after = None;
+            Ok(Made { kept, page, after })
         }
         Err(ReadRefused::Memory) => Err(Stop::Memory),
         Err(ReadRefused::Bad(fault)) => Err(Stop::BadLine(fault_line(alloc, fault)?)),
@@ -64,6 +66,7 @@ pub fn report<R: Threads + Sync, S: Source, G: Gate + Sync>(
     ensures made { IfOk result (λ made.
         IfSome (S.left src.old) (IsReported making.workers asked.shape asked.order made.kept.items
         (text_of_page made.page))) }
+    ensures plain_end { IfOk result (λ made. made.after ≡ None) }
     ensures sound { IfOk result IsSound }
     ensures stop { IfErr result (IsUnreported (S.left src.old) (Rose (S.faults src.old) (S.faults src.new))) }
     ensures reads { Reads (S.left src.old) (S.left src.new) (status_of_made result) }

@@ -7,7 +7,7 @@ ghost use Rattle.delaunay_cli.specs.Stops.{line_of, status_of, stop_of_read};
 use byte_ends::ReadError;
 use std::alloc::AllocError;
 
-/// Why a run ends before its text is written whole.
+/// Why a run ends with another status than 0: before its text is written whole, or with what it tells of it.
 #[derive(Drop)]
 pub enum Stop {
     /// There was no memory for it.
@@ -24,6 +24,12 @@ pub enum Stop {
     Flat,
     /// The input is longer than it may be.
     TooLong,
+    /// There is no part of the index.
+    NoPart,
+    /// There is no alpha with at most so many parts.
+    NoAlpha,
+    /// The mesh that was read is no complex.
+    BadMesh,
 }
 
 impl From<AllocError> for Stop {
@@ -59,6 +65,9 @@ impl Stop {
             Stop::BadLine(line) => (5, line),
             Stop::Flat => (6, b"delaunay: no four independent points\n"),
             Stop::TooLong => (7, b"delaunay: input too long\n"),
+            Stop::NoPart => (8, b"delaunay: no such part\n"),
+            Stop::NoAlpha => (9, b"delaunay: no such alpha\n"),
+            Stop::BadMesh => (10, b"delaunay: bad mesh\n"),
         }
     }
 }

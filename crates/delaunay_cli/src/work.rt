@@ -29,7 +29,7 @@ use std::thread::Threads;
 pub struct Ended {
     /// What it gives back.
     pub run: Run,
-    /// Why its text is not written whole, if it is not.
+    /// Why its status is not 0, if it is not.
     pub stop: Option<Stop>,
 }
 
@@ -41,7 +41,8 @@ fn make<R: Threads + Sync, S: Source, G: Gate + Sync>(
     src: &mut S,
     gate: &G,
 ) -> Result<Made, Stop>
-    ensures made { IfOk result (λ made. IsMade words.now (S.left src.old) made.kept.items (text_of_page made.page)) }
+    ensures made { IfOk result (λ made. IsMade words.now (S.left src.old) (status_of_end made.after) made.kept.items
+        (text_of_page made.page)) }
     ensures sound { IfOk result IsSound }
     ensures stop { IfErr result (IsUnmade words.now (S.left src.old) (Rose (S.faults src.old) (S.faults src.new))) }
     ensures reads { ReadsFile words.now → Reads (S.left src.old) (S.left src.new) (status_of_made result) }
@@ -83,14 +84,14 @@ fn end<R: Threads + Sync, O: Sink>(
     ensures status { result.run.status ≡ status_of_end result.stop }
     ensures made { IfOk made (λ made. IsPut (Rose (O.faults out.old) (O.faults out.new)) (O.holds out.old)
         (O.holds out.new)
-        (text_of_page made.page) made.kept.items result.stop result.run.kept.items) }
+        (text_of_page made.page) made.after made.kept.items result.stop result.run.kept.items) }
     ensures stop { IfErr made (λ stop. (result.stop ≡ Some stop) × (result.run.kept.items ≡ [])
         × Keeps (O.holds out.old) (O.holds out.new)) }
     ensures later { O.faults out.old ≤ O.faults out.new }
 {
     match made {
-        Ok(Made { kept, page }) => match put_page(rt, alloc, page, out) {
-            Ok(()) => close(None, kept),
+        Ok(Made { kept, page, after }) => match put_page(rt, alloc, page, out) {
+            Ok(()) => close(after, kept),
             Err(Stop::WriteFault) => close(Some(Stop::WriteFault), kept),
             Err(stop) => close(Some(stop), Vec::new(alloc)),
         },

@@ -21,4 +21,4 @@ returns-clause-made g c =
     drawn_meshed c.args.drawn.text c.args.making.workers (content c.in_ok-file.file) (generated c.args.drawn.count c.args.drawn.start) c.in_ok-kept.kept.items _ c.if-drawn.false c.in_ok-file.ensures c.in_ok-kept.ensures.made
 
 pub returns-clause-sound : goal.returns-clause-sound
-returns-clause-sound g c = record { legal = c.in_ok-kept.ensures.made.legal; writable = c.in_ok-kept.ensures.ready }
+returns-clause-sound g c = record { legal = c.in_ok-kept.ensures.made.legal; writable = c.in_ok-kept.ensures.ready; late = tt }

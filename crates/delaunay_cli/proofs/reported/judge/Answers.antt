@@ -15,4 +15,4 @@ pub history_and_parts-requires-clause-radii : goal.history_and_parts-requires-cl
 history_and_parts-requires-clause-radii g c κs within = radii_small line_limit c.args.bytes.now (content c.in-Ok.file) c.in-Ok.ensures.accepted
 
 pub returns-in_ok-kept-in-Ok-clause-sound : goal.returns-in_ok-kept-in-Ok-clause-sound
-returns-in_ok-kept-in-Ok-clause-sound g c = record { legal = c.in_ok-kept-in-Ok.ensures.made.legal; writable = c.in_ok-kept-in-Ok.ensures.ready }
+returns-in_ok-kept-in-Ok-clause-sound g c = record { legal = c.in_ok-kept-in-Ok.ensures.made.legal; writable = c.in_ok-kept-in-Ok.ensures.ready; late = tt }

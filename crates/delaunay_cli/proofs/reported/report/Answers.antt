@@ -38,6 +38,7 @@ returns g c =
     let t = c.read_to_limit.ensures.taken in
     record {
       made = tt;
+      plain_end = tt;
       sound = tt;
       stop = past_limit _ _ _ _ t l;
       reads = reads_past t l;

@@ -13,7 +13,7 @@ returns-in-Report-clause-made g c =
     let read = c.in_ok-making.ensures in
     let words = c.args.words.now in
     reported_made words (g.S.Source.left c.args.src.now) (Rose (g.S.Source.faults c.args.src.now) (g.S.Source.faults c.report.new.src)) c.in-Report.making read.taken c.in-Report.asked
-    (subst (λ (t : Task). IsTask words t) c.in-Report.is read.task) c.report.result c.report.ensures.made
+    (subst (λ (t : Task). IsTask words t) c.in-Report.is read.task) c.report.result c.report.ensures.made c.report.ensures.plain_end
 
 pub returns-in-Report-clause-stop : goal.returns-in-Report-clause-stop
 returns-in-Report-clause-stop g c =
@@ -31,7 +31,7 @@ pub returns-in-Draw-clause-made : goal.returns-in-Draw-clause-made
 returns-in-Draw-clause-made g c =
     let read = c.in_ok-making.ensures in
     let words = c.args.words.now in
-    drawn_made words (g.S.Source.left c.args.src.now) ⊥ c.in-Draw.making read.taken c.in-Draw.drawn (subst (λ (t : Task). IsTask words t) c.in-Draw.is read.task) c.draw.result c.draw.ensures.made
+    drawn_made words (g.S.Source.left c.args.src.now) ⊥ c.in-Draw.making read.taken c.in-Draw.drawn (subst (λ (t : Task). IsTask words t) c.in-Draw.is read.task) c.draw.result c.draw.ensures.made c.draw.ensures.plain_end
 
 pub returns-in-Draw-clause-reads : goal.returns-in-Draw-clause-reads
 returns-in-Draw-clause-reads g c =

@@ -16,7 +16,7 @@ returns-clause-line g c =
     let made = c.make-made in
     told c.args.words.now (g.S.Source.left c.args.src.now) (g.S.Source.left made.new.src) (Rose (g.S.Source.faults c.args.src.now) (g.S.Source.faults made.new.src))
     (g.O.Sink.holds c.args.out.now) (g.O.Sink.holds c.end.new.out) (Rose (faults c.args.out.now) (faults c.end.new.out)) made.result c.end.result.stop c.end.result.run.status c.end.result.run.kept.items
-    made.ensures.stop c.end.ensures.status c.end.ensures.made c.end.ensures.stop
+    made.ensures.sound made.ensures.stop c.end.ensures.status c.end.ensures.made c.end.ensures.stop
 
 pub returns-clause-source : goal.returns-clause-source
 returns-clause-source g c = c.make-made.ensures.source
@@ -27,7 +27,7 @@ returns-clause-unread g c =
     let made = c.make-made in
     λ k. made.ensures.unread (unread c.args.words.now (g.S.Source.left c.args.src.now) (g.S.Source.left made.new.src) (Rose (g.S.Source.faults c.args.src.now) (g.S.Source.faults made.new.src))
     (g.O.Sink.holds c.args.out.now) (g.O.Sink.holds c.end.new.out) (Rose (faults c.args.out.now) (faults c.end.new.out)) made.result c.end.result.stop c.end.result.run.status c.end.result.run.kept.items
-    c.end.ensures.status c.end.ensures.made c.end.ensures.stop k)
+    made.ensures.sound c.end.ensures.status c.end.ensures.made c.end.ensures.stop k)
 
 pub returns-clause-later_source : goal.returns-clause-later_source
 returns-clause-later_source g c = c.make-made.ensures.later

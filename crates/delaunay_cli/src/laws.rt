@@ -1,0 +1,126 @@
+//! The laws of the words and of the end of a run. Each function does nothing, and its contract is a law.
+
+ghost use Rattle.std.specs.Prelude.{
+  ◌≡◌,
+  ◌≢◌,
+  ◌⊎◌,
+  ◌↔◌,
+  ◌≤◌,
+  ◌<◌,
+  ℕ,
+  List,
+  [],
+  String,
+  false,
+  true,
+  length,
+  codes,
+  IfSome,
+};
+ghost use Rattle.std.specs.Io.KnownBytes.{Appends, Keeps, IsAtEnd};
+ghost use Rattle.std.specs.declared.alloc.Global.{Global};
+ghost use Rattle.byte_ends.specs.Ends.{AppendsFront, Rose};
+ghost use Rattle.point_order.specs.Solid.{is_solid};
+ghost use Rattle.cell_store.specs.Grids.{is_grid_size};
+ghost use Rattle.edit_history.specs.OneThread.{Keeps as FileKeeps};
+ghost use Rattle.edit_files.specs.Content.{Content};
+ghost use Rattle.edit_files.specs.Grammar.{line_limit, IsFile};
+ghost use Rattle.delaunay_cli.specs.Drawn.{drawn_file, drawn_text};
+ghost use Rattle.delaunay_cli.specs.Laws.{ARun};
+ghost use Rattle.delaunay_cli.specs.PlainText.{plain_drawn};
+ghost use Rattle.delaunay_cli.specs.Run.{HasFault, history_of, input_limit};
+ghost use Rattle.delaunay_cli.specs.Statuses.{IsEarly};
+ghost use Rattle.delaunay_cli.specs.Words.{
+  AreGen,
+  AreGenText,
+  AreMesh,
+  AreMeshOrder,
+  AreMeshing,
+  AreShape,
+  AreShapeOrder,
+  AreTaken,
+  DrawsFile,
+  ReadsFile,
+  asks_order,
+  asks_shape,
+  asks_text,
+  drawn_count,
+  drawn_start,
+  grid_size,
+  most_count,
+  most_start,
+  most_workers,
+  worker_count,
+};
+
+/// The words `mesh` and `shape` alone are taken, and ask for no order block; with `--order` they ask for it. Both read
+/// a file, by one worker over a grid of 4. So are `mesh` and `shape` with `--workers=N` and `--grid=M`, for every count
+/// of workers and every size of a grid. The words `gen`, `--count=N` and `--start=M` are taken for every count and
+/// start, and with `--text` ask for the file's text.
+pub fn words_are_taken()
+    ensures mesh { (words : List (String Global)) → AreMesh words → AreTaken words × (asks_shape words ≡ false)
+        × (asks_order words ≡ false) }
+    ensures mesh_order { (words : List (String Global)) → AreMeshOrder words
+        → AreTaken words × (asks_shape words ≡ false) × (asks_order words ≡ true) }
+    ensures shape { (words : List (String Global)) → AreShape words → AreTaken words × (asks_shape words ≡ true)
+        × (asks_order words ≡ false) }
+    ensures shape_order { (words : List (String Global)) → AreShapeOrder words
+        → AreTaken words × (asks_shape words ≡ true) × (asks_order words ≡ true) }
+    ensures one_worker { (words : List (String Global)) →
+        AreMesh words ⊎ AreMeshOrder words ⊎ AreShape words ⊎ AreShapeOrder words
+        → (worker_count words ≡ 1) × (grid_size words ≡ 4) }
+    ensures read { (words : List (String Global)) →
+        AreMesh words ⊎ AreMeshOrder words ⊎ AreShape words ⊎ AreShapeOrder words → ReadsFile words }
+    ensures mesh_workers { (words : List (String Global)) (workers grid : ℕ) → 0 < workers → workers ≤ most_workers
+        → is_grid_size grid ≡ true → AreMeshing (codes "mesh") workers grid words → AreTaken words × ReadsFile words
+        × (worker_count words ≡ workers) × (grid_size words ≡ grid) × (asks_shape words ≡ false) }
+    ensures shape_workers { (words : List (String Global)) (workers grid : ℕ) → 0 < workers → workers ≤ most_workers
+        → is_grid_size grid ≡ true → AreMeshing (codes "shape") workers grid words → AreTaken words × ReadsFile words
+        × (worker_count words ≡ workers) × (grid_size words ≡ grid) × (asks_shape words ≡ true) }
+    ensures generator { (words : List (String Global)) (count start : ℕ) → count ≤ most_count → start ≤ most_start
+        → AreGen count start words → AreTaken words × DrawsFile words × (drawn_count words ≡ count)
+        × (drawn_start words ≡ start) × (asks_text words ≡ false) }
+    ensures generator_text { (words : List (String Global)) (count start : ℕ) → count ≤ most_count
+        → start ≤ most_start → AreGenText count start words → AreTaken words × DrawsFile words
+        × (drawn_count words ≡ count) × (drawn_start words ≡ start) × (asks_text words ≡ true) }
+{}
+
+/// No status above 7 comes. On all but 0 and 4 nothing is kept and nothing is written. A run that reads a file and
+/// ends with 0 has read it to its end.
+pub fn run_by_status()
+    ensures statuses { (r : ARun) → r.status ≤ 7 }
+    ensures none_kept { (r : ARun) → r.status ≢ 0 → r.status ≢ 4 → r.kept ≡ [] }
+    ensures nothing { (r : ARun) → r.status ≢ 0 → r.status ≢ 4 → Keeps r.held r.holds }
+    ensures to_its_end { (r : ARun) → ReadsFile r.words → r.status ≡ 0 → IsAtEnd r.left_after }
+{}
+
+/// A run that reads a file: what its status tells of the bytes.
+pub fn run_that_reads()
+    ensures too_long { (r : ARun) → ReadsFile r.words → (IsEarly r.status → ⊥)
+        → IfSome r.left (λ bytes. r.status ≡ 7 ↔ (input_limit < length bytes)) }
+    ensures bad_line { (r : ARun) → ReadsFile r.words → (IsEarly r.status → ⊥) → r.status ≢ 7
+        → IfSome r.left (λ bytes. r.status ≡ 5 ↔ HasFault bytes) }
+    ensures not_solid { (r : ARun) → ReadsFile r.words → (IsEarly r.status → ⊥) → r.status ≢ 7
+        → IfSome r.left (λ bytes. (file : Content) → IsFile line_limit bytes file
+        → (r.status ≡ 6 ↔ (is_solid file.points ≡ false))) }
+{}
+
+/// A run that is to draw a file: what is written goes by the words alone, and it is written unless memory is wanting or
+/// the output fails.
+pub fn run_that_draws()
+    ensures statuses { (r : ARun) → DrawsFile r.words → r.status ≤ 2 ⊎ (r.status ≡ 4) }
+    ensures kept { (r : ARun) → DrawsFile r.words → asks_text r.words ≡ false → (r.status ≡ 0) ⊎ (r.status ≡ 4)
+        → FileKeeps (drawn_file r.words).points (drawn_file r.words).edits (worker_count r.words) r.kept }
+    ensures one_thread { (r : ARun) → DrawsFile r.words → asks_text r.words ≡ false → worker_count r.words ≡ 1
+        → (r.status ≡ 0) ⊎ (r.status ≡ 4) → r.kept ≡ history_of (drawn_file r.words) }
+    ensures text_kept { (r : ARun) → DrawsFile r.words → asks_text r.words ≡ true → r.kept ≡ [] }
+    ensures written { (r : ARun) → DrawsFile r.words → r.status ≡ 0
+        → Appends r.held r.holds (drawn_text r.words r.kept) }
+    ensures front { (r : ARun) → DrawsFile r.words → r.status ≡ 4
+        → AppendsFront r.held r.holds (drawn_text r.words r.kept) }
+    ensures plain { (r : ARun) → DrawsFile r.words → r.status ≡ 0 → Appends r.held r.holds (plain_drawn r.words) }
+    ensures plain_front { (r : ARun) → DrawsFile r.words → r.status ≡ 4
+        → AppendsFront r.held r.holds (plain_drawn r.words) }
+    ensures complete { (r : ARun) → AreTaken r.words → DrawsFile r.words
+        → (Rose r.write_faults r.write_faults_after → ⊥) → (r.status ≡ 0) ⊎ (r.status ≡ 1) }
+{}
