@@ -1,3 +1,4 @@
 pub mod Applied
+pub mod Opened
 pub mod Gathered
 pub mod Found

@@ -4,43 +4,30 @@
 #![tactic(auto)]
 
 ghost use Rattle.std.specs.Prelude.{◌≡◌, ◌<◌, ◌^◌, IfOk, IsTrue};
-ghost use Rattle.alpha_complex.specs.Condition.{AreFaces};
-ghost use Rattle.point_order.specs.Orientation.{is_flat};
-ghost use Rattle.point_order.specs.Sets.{IsAscending};
+ghost use Rattle.hanskup.specs.Condition.{AreFaces};
+ghost use Rattle.hanskup.specs.Sets.{IsAscending};
 
 mod threads;
 
-use alpha_complex::{Shape, alpha};
 use anyhow::{Result, bail};
-use cell_store::{Grid, Mesh};
-use edit_history::Edit;
-use exact_orient::orient;
-use face_list::{Faces, faces};
-use insertion::cell_in_conflict;
-use mesh_files::shape_text;
-use one_mesh::{apply, begin, complex, points};
-use point_order::{Cell, Point};
+use hanskup::{
+    Cell, Edit, Faces, Grid, Location, Mesh, Point, Shape, alpha, apply, begin, complex, faces, locate, opening_points, points,
+    shape_text,
+};
 use std::alloc::Global;
 use std::thread::Threads;
 
-// Whether four points lie in one plane: then no mesh begins with them.
-fn are_flat(a: Point, b: Point, c: Point, d: Point) -> bool
-    ensures { result ≡ is_flat a b c d }
-{
-    orient(a, b, c, d) == 0
-}
-
-// A mesh begins with four points that do not lie in one plane, each with a tag of the caller's own.
+// A mesh begins with four points that do not lie in one plane, each with a tag: here its place in the list.
 fn first_mesh(alloc: Global) -> Result<Mesh> {
-    let a = Point::new(0, 0, 0)?;
-    let b = Point::new(20, 0, 0)?;
-    let c = Point::new(0, 20, 0)?;
-    let d = Point::new(0, 0, 20)?;
-    if are_flat(a, b, c, d) {
-        bail!("the four points lie in one plane");
-    }
+    let corners = [
+        Point::new(0, 0, 0)?,
+        Point::new(20, 0, 0)?,
+        Point::new(0, 20, 0)?,
+        Point::new(0, 0, 20)?,
+    ];
+    let four = opening_points(&corners)?;
     let grid = Grid::new(4)?;
-    Ok(begin(alloc, grid, [(0, a), (1, b), (2, c), (3, d)])?)
+    Ok(begin(alloc, grid, four)?)
 }
 
 // Adds or takes a point. The reply says what came of it.
@@ -78,7 +65,7 @@ fn show_triangles(rt: &impl Print, alloc: Global, radius: u64, shape: &Shape) ->
     Ok(())
 }
 
-// The alpha complex of the faces at a squared radius below 2^30.
+// The alpha complex of the faces at a whole squared radius, which is below 2^30.
 fn show_shape(
     rt: &(impl Print + Threads + Sync),
     alloc: Global,
@@ -88,7 +75,7 @@ fn show_shape(
     requires faces { AreFaces faces.now }
     requires radius { radius < 2 ^ 30 }
 {
-    let shape = alpha(rt, alloc, faces, radius)?;
+    let shape = alpha(rt, alloc, faces, 16 * radius)?;
     show_triangles(rt, alloc, radius, &shape)
 }
 
@@ -110,15 +97,12 @@ fn show_complex(rt: &(impl Print + Threads + Sync), alloc: Global, mesh: &Mesh) 
     show_shape(rt, alloc, &faces, 300)
 }
 
-// A cell that a new point would take away, found by a walk.
-fn show_conflict(rt: &impl Print, mesh: &Mesh, p: Point) -> Result<()> {
-    let _ = p.key();
-    let hold = mesh.hold();
-    if hold.holds_point(p) {
-        bail!("{p} is there already");
+// Where a place lies: at a point, or in conflict with a cell, found by a walk.
+fn show_place(rt: &impl Print, mesh: &Mesh, p: Point) -> Result<()> {
+    match locate(mesh, p) {
+        Location::Vertex => bail!("{p} is there already"),
+        Location::Inside(cell) => println!(rt; "{p} is in conflict with {cell}")?,
     }
-    let cell = cell_in_conflict(hold, p);
-    println!(rt; "{p} is in conflict with {cell}")?;
     Ok(())
 }
 
@@ -128,7 +112,7 @@ fn edit_and_show(rt: &(impl Print + Threads + Sync), alloc: Global, mesh: &mut M
     edit(rt, alloc, mesh, 4, Edit::Add(corner))?;
     edit(rt, alloc, mesh, 5, Edit::Add(corner))?;
     show_complex(rt, alloc, mesh)?;
-    show_conflict(rt, mesh, Point::new(1, 30, 30)?)?;
+    show_place(rt, mesh, Point::new(1, 30, 30)?)?;
     edit(rt, alloc, mesh, 6, Edit::Take(corner))?;
     edit(rt, alloc, mesh, 7, Edit::Take(Point::new(0, 0, 0)?))
 }

@@ -1,14 +1,13 @@
 //! Two threads edit one mesh, each by a pass of its own, and one of them takes a snapshot.
 
-ghost use Rattle.std.specs.Prelude.{◌≡◌, ◌≤◌, IfOk};
-ghost use Rattle.grid_claims.specs.Passes.{Opened};
-ghost use Rattle.grid_claims.specs.Tries.{IsStill, opening_pass};
+ghost use Rattle.std.specs.Prelude.{◌≡◌, ◌≤◌, false, IfOk};
+ghost use Rattle.hanskup.specs.Edits.{is_move};
+ghost use Rattle.hanskup.specs.Passes.{Opened};
+ghost use Rattle.hanskup.specs.Tries.{IsStill, opening_pass};
 
 use anyhow::bail;
-use cell_store::Mesh;
-use edit_history::Edit;
-use grid_claims::{MeshTable, OpenGate, Pass, Receipt, Refused, Snapshot};
-use point_order::Point;
+use hanskup::table::{MeshTable, OpenGate, Pass, Receipt, Refused, Snapshot};
+use hanskup::{Edit, Mesh, Point};
 use std::alloc::Global;
 use std::thread::{Threads, join};
 
@@ -35,7 +34,8 @@ fn tried(
     tag: u32,
     edit: Edit,
 ) -> Result<Receipt, Refused>
-    requires { pass.old.table ≡ table.now }
+    requires table { pass.old.table ≡ table.now }
+    requires still { is_move edit ≡ false }
     ensures { IsStill pass.old pass.new }
 {
     table.try_edit(alloc, pass, tag, edit, &OpenGate)

@@ -1,4 +1,4 @@
-use Rattle.grid_claims.specs.Tries.{IsStill}
+use Rattle.hanskup.specs.Tries.{IsStill}
 use Rattle.tour.proofs.threads.added.Given as goal
 
 abbrev pub invariant-loop : goal.invariant-loop

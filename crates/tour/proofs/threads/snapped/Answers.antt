@@ -1,4 +1,4 @@
-use Rattle.grid_claims.proofs.Cited.{still_snapped}
+use Rattle.hanskup.proofs.Cited.{still_snapped}
 use Rattle.tour.proofs.threads.snapped.Goals as goal
 
 pub returns : goal.returns

@@ -1,4 +1,4 @@
-use Rattle.grid_claims.proofs.Cited.{still}
+use Rattle.hanskup.proofs.Cited.{still}
 use Rattle.tour.proofs.threads.tried.Goals as goal
 
 pub returns : goal.returns
