@@ -1,4 +1,6 @@
 pub mod Merging
+pub mod Leading
+pub mod Joining
 pub mod Paths
 pub mod Gathered
 pub mod Solid

@@ -1,25 +1,11 @@
 -- Groups that are merged.
-use Rattle.std.proofs.Common.{◌≡◌, refl, sym, subst, ap, ◌∙◌, ℕ, zero, suc, ◌<◌, ◌+◌, inl, inr, Bool, true, false, List, [], ◌∷◌, ◌++◌, All, map, drop, take, length, get_or, arith}
-use Rattle.std.specs.Prelude.{◌⊎◌, ◌==◌, slice_set, Option, None, Some, if◌then◌else◌}
+use Rattle.std.proofs.Common.{◌≡◌, refl, sym, subst, ap, ◌∙◌, ℕ, zero, suc, ◌<◌, ◌+◌, inl, inr, Bool, true, false, List, [], ◌∷◌, ◌++◌, All, take, length, get_or, arith}
+use Rattle.std.specs.Prelude.{◌⊎◌, ◌==◌, Option, None, Some, if◌then◌else◌}
 use Rattle.std.proofs.lemmas.Bool.Decides.{nat_tests}
 use Rattle.std.proofs.lemmas.List.{length-map}
 use Rattle.list_laws.specs.Lists.{IsIn}
 use Rattle.list_laws.proofs.Cited.{each_of_all, in_take, take_next}
 use Rattle.solid_parts.specs.Groups.{AreJoinedAll, AreMerged, AreTogether, IsMarked, Reaches, label_at, merged, moved}
-
--- one place more of a list to which a function is applied from the front on
-pub set_next : (f : ℕ → ℕ) (old now : List ℕ) (i : ℕ) → i < length old → now ≡ map f (take i old) ++ drop i old
-    → slice_set now i (f (get_or now i 0)) ≡ map f (take (i + 1) old) ++ drop (i + 1) old
-set_next f old now i l e = subst (λ (v : List ℕ). slice_set v i (f (get_or v i 0)) ≡ map f (take (i + 1) old) ++ drop (i + 1) old) (sym e) (at old i l)
-  where
-    one : (i : ℕ) → suc (i + 1) ≡ suc i + 1
-    one i = omega arith
-
-    at : (old : List ℕ) (i : ℕ) → i < length old → slice_set (map f (take i old) ++ drop i old) i (f (get_or (map f (take i old) ++ drop i old) i 0)) ≡ map f (take (i + 1) old) ++ drop (i + 1) old
-    at [] i l = absurd (omega (arith, l))
-    at (x ∷ old) zero l = refl
-    at (x ∷ old) (suc i) l =
-        ap (λ (v : List ℕ). f x ∷ v) (at old i (omega (arith, l))) ∙ ap (λ k. map f (take k (x ∷ old)) ++ drop k (x ∷ old)) (one i)
 
 -- ---- one merge
 
@@ -30,10 +16,10 @@ label_moved from to (x ∷ labels) zero l = refl
 label_moved from to (x ∷ labels) (suc i) l = label_moved from to labels i (omega (arith, l))
 
 -- what the one label becomes, and what another does
-moved_is : (from to : ℕ) → moved from to from ≡ to
+pub moved_is : (from to : ℕ) → moved from to from ≡ to
 moved_is from to = let e : (from == from) ≡ true = grind (arith, nat_tests) in rw e refl
 
-moved_to : (from to : ℕ) → moved from to to ≡ to
+pub moved_to : (from to : ℕ) → moved from to to ≡ to
 moved_to from to = by (to == from) refl
   where
     by : (b : Bool) → (to == from) ≡ b → (if b then to else to) ≡ to
@@ -230,7 +216,7 @@ merged_next marks numbers old now new f x within inside mark d e = record {
 -- ---- as the loop tells it
 
 -- a number at its place, whatever stands for a missing one
-own_value : (xs : List ℕ) (j : ℕ) → j < length xs → get_or xs j 0 ≡ get_or xs j (get_or xs j 0)
+pub own_value : (xs : List ℕ) (j : ℕ) → j < length xs → get_or xs j 0 ≡ get_or xs j (get_or xs j 0)
 own_value [] j h = absurd (omega (arith, h))
 own_value (x ∷ xs) zero h = refl
 own_value (x ∷ xs) (suc j) h = own_value xs j (omega (arith, h))
@@ -246,11 +232,3 @@ within_front numbers i n a u k = each_of_all (λ m. m < n) numbers a u (in_take 
 -- a number that is not marked
 pub not_marked_here : (marks : List Bool) (x : ℕ) → get_or marks x false ≡ false → IsMarked marks x → ⊥
 not_marked_here marks x e m = cc
-
--- what holds of the numbers before the next one and that one is the loop's
-pub next_done : (marks : List Bool) (numbers old : List ℕ) (i : ℕ) {now v : List ℕ} {first f : Option ℕ} → i < length numbers → v ≡ now → f ≡ first
-    → DoneSoFar marks (take i numbers ++ get_or numbers i 0 ∷ []) old now first → DoneSoFar marks (take (i + 1) numbers) old v f
-next_done marks numbers old i {now} {v} {first} {f} l e g d =
-    subst (λ (t : List ℕ). DoneSoFar marks t old v f) (sym (take_next numbers i (get_or numbers i 0) l (own_value numbers i l)))
-    (subst (λ (t : List ℕ). DoneSoFar marks (take i numbers ++ get_or numbers i 0 ∷ []) old t f) (sym e)
-    (subst (λ (t : Option ℕ). DoneSoFar marks (take i numbers ++ get_or numbers i 0 ∷ []) old now t) (sym g) d))

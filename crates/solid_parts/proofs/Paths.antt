@@ -1,5 +1,5 @@
 -- Paths over cells that share triples.
-use Rattle.std.proofs.Common.{◌≡◌, sym, subst, ap, ◌∙◌, ℕ, ◌<◌, ◌≤◌, ◌+◌, inl, inr, Bool, List, [], ◌∷◌, ◌++◌, All, append-nil, drop, take, length, get_or, arith}
+use Rattle.std.proofs.Common.{◌≡◌, refl, sym, subst, ap, ◌∙◌, ℕ, ◌<◌, ◌≤◌, ◌+◌, inl, inr, Bool, List, [], ◌∷◌, ◌++◌, All, append-nil, drop, take, length, get_or, arith}
 use Rattle.std.specs.List.{range_with_len}
 use Rattle.std.proofs.lemmas.Bool.{cases_lt}
 use Rattle.std.proofs.lemmas.List.{drop_all, take_all}
@@ -9,8 +9,9 @@ use Rattle.list_laws.proofs.Cited.{at_in, each_of_all}
 use Rattle.point_order.specs.declared.cell.Cell.{Cell}
 use Rattle.face_list.specs.Seen.{FaceLists}
 use Rattle.face_list.specs.Tables.{cell_at, numbered}
-use Rattle.solid_parts.specs.Groups.{AreJoinedAll, IsMarked, Reaches, label_at}
+use Rattle.solid_parts.specs.Groups.{AreAllJoined, AreJoinedAll, IsMarked, LeadDown, LeadTo, Reaches, label_at}
 use Rattle.solid_parts.specs.Labels.{AreAlike, AreBeside, AreLabels, IsPath}
+use Rattle.solid_parts.proofs.Leading.{each_down, each_itself}
 
 -- the other way
 turned_round : (faces : FaceLists) (marks : List Bool) (i j : ℕ) → AreBeside faces marks i j → AreBeside faces marks j i
@@ -117,3 +118,49 @@ labels_next faces marks k numbers old new h e below l j = record {
         let one = l.only i u p (within u r.1) r.3 in
         let two = l.only v m (within v s.1) q (sym s.3) in
         (one.0 ++ v ∷ two.0, path_then faces marks i one.0 u (v ∷ two.0) m one.1 (beside u v r.1 s.1 r.2 s.2, two.1))
+
+-- ---- labels to which numbers lead
+
+-- Numbers lead to labels that are right for the first k triples.
+pub record LeadToLabels (faces : FaceLists) (marks : List Bool) (k : ℕ) (leads : List ℕ) : Type 0 where
+  pub down : LeadDown leads
+  pub labels : List ℕ
+  pub leads_to : LeadTo leads labels
+  pub are_labels : AreLabels faces marks k labels
+
+pub leads_start : (faces : FaceLists) (marks : List Bool) (leads : List ℕ) → leads ≡ range_with_len 0 (length faces.cells)
+    → LeadToLabels faces marks 0 leads
+leads_start faces marks leads e =
+    subst (LeadToLabels faces marks 0) (sym e) (record {
+      down = each_down (length faces.cells);
+      labels = range_with_len 0 (length faces.cells);
+      leads_to = each_itself (length faces.cells);
+      are_labels = labels_start faces marks (range_with_len 0 (length faces.cells)) refl;
+    })
+
+-- as many as there are cells
+pub leads_count : (faces : FaceLists) (marks : List Bool) (k : ℕ) (leads : List ℕ) → LeadToLabels faces marks k leads
+    → length leads ≡ length faces.cells
+leads_count faces marks k leads l = sym l.leads_to.count ∙ l.are_labels.count
+
+pub leads_next :
+    (faces : FaceLists) (marks : List Bool) (k : ℕ) (numbers old new : List ℕ) → k < length faces.triples
+    → numbered faces.cells numbers ≡ (get_or faces.triples k ([], [])).1 → All (λ n. n < length faces.cells) numbers
+    → LeadToLabels faces marks k old → LeadDown new
+    → ((labels : List ℕ) → LeadTo old labels → AreAllJoined marks numbers labels new) → LeadToLabels faces marks (k + 1) new
+leads_next faces marks k numbers old new h e below l d j =
+    let r = j l.labels l.leads_to in
+    record {
+      down = d;
+      labels = r.new;
+      leads_to = r.leads_to;
+      are_labels = labels_next faces marks k numbers l.labels r.new h e below l.are_labels r.joins;
+    }
+
+-- all triples are done
+pub leads_end : (faces : FaceLists) (marks : List Bool) (k : ℕ) (leads new : List ℕ) → length faces.triples ≡ k
+    → LeadToLabels faces marks k leads → ((labels : List ℕ) → LeadTo leads labels → new ≡ labels)
+    → AreLabels faces marks (length faces.triples) new
+leads_end faces marks k leads new e l f =
+    subst (λ n. AreLabels faces marks n new) (sym e)
+    (subst (AreLabels faces marks k) (sym (f l.labels l.leads_to)) l.are_labels)

@@ -1,5 +1,20 @@
 -- Numbers in groups, each with the label of its group.
-use Rattle.std.specs.Prelude.{◌≡◌, ◌<◌, ◌⊎◌, ℕ, true, false, Bool, List, map, length, ◌==◌, slice_index_or, if◌then◌else◌}
+use Rattle.std.specs.Prelude.{
+  ◌≡◌,
+  ◌<◌,
+  ◌≤◌,
+  ◌⊎◌,
+  ℕ,
+  true,
+  false,
+  Bool,
+  List,
+  map,
+  length,
+  ◌==◌,
+  slice_index_or,
+  if◌then◌else◌,
+}
 use Rattle.list_laws.specs.Lists.{IsIn}
 
 -- the label of a number
@@ -23,6 +38,27 @@ abbrev pub AreMerged : ℕ → ℕ → List ℕ → List ℕ → Type 0
 AreMerged i j old new =
     (new ≡ merged (label_at old i) (label_at old j) old) ⊎ (new ≡ merged (label_at old j) (label_at old i) old)
 
+-- each number leads to itself or to a lesser one
+abbrev pub LeadDown : List ℕ → Type 0
+LeadDown leads = (i : ℕ) → i < length leads → label_at leads i ≤ i
+
+-- the number to which that leads to which one leads
+abbrev pub twice : List ℕ → ℕ → ℕ
+twice leads i = label_at leads (label_at leads i)
+
+-- Each number leads to one of its label, and to itself only where it is that.
+pub record LeadTo (leads labels : List ℕ) : Type 0 where
+  pub count : length labels ≡ length leads
+  pub along : (i : ℕ) → i < length leads → label_at labels (label_at leads i) ≡ label_at labels i
+  pub ends : (i : ℕ) → i < length leads → label_at leads i ≡ i → label_at labels i ≡ i
+
+-- The numbers lead to labels after a merge of two groups. Where the two were not apart, they had one label.
+pub record IsMerged (i j : ℕ) (labels : List ℕ) (apart : Bool) (leads : List ℕ) : Type 0 where
+  pub new : List ℕ
+  pub leads_to : LeadTo leads new
+  pub merges : AreMerged i j labels new
+  pub same : apart ≡ false → AreTogether labels i j
+
 -- a number is marked
 abbrev pub IsMarked : List Bool → ℕ → Type 0
 IsMarked marks i = slice_index_or marks i false ≡ true
@@ -39,6 +75,12 @@ pub record AreJoinedAll (marks : List Bool) (numbers old new : List ℕ) : Type 
   pub only : (i j : ℕ) → i < length old → j < length old → AreTogether new i j →
       AreTogether old i j ⊎ (Reaches old marks numbers i × Reaches old marks numbers j)
   pub among : (i : ℕ) → i < length old → (j : ℕ) × (j < length old) × (label_at new i ≡ label_at old j)
+
+-- The numbers lead to such labels.
+pub record AreAllJoined (marks : List Bool) (numbers labels leads : List ℕ) : Type 0 where
+  pub new : List ℕ
+  pub leads_to : LeadTo leads new
+  pub joins : AreJoinedAll marks numbers labels new
 
 -- all labels are below a count
 abbrev pub AreLabelsBelow : ℕ → List ℕ → Type 0

@@ -4,7 +4,7 @@ ghost use Rattle.std.specs.Prelude.{◌≡◌, length, IfOk};
 ghost use Rattle.std.specs.List.{range_with_len};
 ghost use Rattle.solid_parts.specs.Labels.{AreLabels};
 
-use crate::groups::join_all;
+use crate::groups::{flatten, join_all};
 use face_list::Faces;
 use std::alloc::{AllocError, Global};
 
@@ -30,10 +30,11 @@ pub fn labels_of(alloc: Global, faces: &Faces, marks: &[bool]) -> Result<Vec<u32
     requires { length marks.now ≡ length faces.now.cells }
     ensures { IfOk result (λ labels. AreLabels faces.now marks.now (length faces.now.triples) labels.items) }
 {
-    let mut labels = numbers_below(alloc, faces.cells().len())?;
+    let mut leads = numbers_below(alloc, faces.cells().len())?;
     for index in 0..faces.triples().len() {
         let (_, around) = faces.triple(index);
-        join_all(&mut labels, marks, around);
+        join_all(&mut leads, marks, around);
     }
-    Ok(labels)
+    flatten(&mut leads);
+    Ok(leads)
 }
