@@ -51,7 +51,7 @@ first_least (q ∷ part) r s (inr i) = inr (each_by (λ y. slice_cmp nat_cmp q y
 not_both_before : (q r : List ℕ) → slice_cmp nat_cmp q r ≡ Less → slice_cmp nat_cmp r q ≡ Less → ⊥
 not_both_before q r e f = clash (sym (cell_self (Full q)) ∙ cell_before (Full q) (Full r) (Full q) e f)
 
-has_first : (part : List (List ℕ)) → 0 < length part → IsIn (first_of part) part
+pub has_first : (part : List (List ℕ)) → 0 < length part → IsIn (first_of part) part
 has_first [] h = absurd (omega (arith, h))
 has_first (q ∷ part) h = inl refl
 

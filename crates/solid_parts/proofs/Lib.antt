@@ -1,9 +1,12 @@
 pub mod Merging
 pub mod Leading
 pub mod Joining
+pub mod Linking
+pub mod Climbing
 pub mod Paths
 pub mod Gathered
 pub mod Solid
 pub mod Few
+pub mod Counting
 pub mod Outer
 pub mod Even

@@ -80,12 +80,12 @@ marks_of : (alpha : ℕ) (cells : List Cell) → List Bool
 marks_of alpha cells = map (is_small_cell alpha) cells
 
 -- what is marked is a cell of the list
-marked_below : (alpha : ℕ) (cells : List Cell) (i : ℕ) → IsMarked (map (is_small_cell alpha) cells) i → i < length cells
+pub marked_below : (alpha : ℕ) (cells : List Cell) (i : ℕ) → IsMarked (map (is_small_cell alpha) cells) i → i < length cells
 marked_below alpha [] i e = cc
 marked_below alpha (c ∷ cells) zero e = omega arith
 marked_below alpha (c ∷ cells) (suc i) e = let l = marked_below alpha cells i e in omega (arith, l)
 
-mark_is : (alpha : ℕ) (cells : List Cell) (i : ℕ) → i < length cells → get_or (map (is_small_cell alpha) cells) i false ≡ is_small_cell alpha (cell_at cells i)
+pub mark_is : (alpha : ℕ) (cells : List Cell) (i : ℕ) → i < length cells → get_or (map (is_small_cell alpha) cells) i false ≡ is_small_cell alpha (cell_at cells i)
 mark_is alpha cells i l = get_or-map (is_small_cell alpha) cells i (Full []) false l
 
 -- a marked cell is Full
@@ -111,24 +111,25 @@ full_ascends s q a i = elim (from_append (Full q) (map Full (filter (is_full s) 
     not_open : (t : List ℕ) → Open t ≡ Full q → ⊥
     not_open t e = cc
 
--- What is given: the faces of the complex of a set, marks of its cells within alpha, and labels.
-record Given (s : List ℕ) (faces : FaceLists) (alpha : ℕ) (labels : List ℕ) : Type 0 where
+-- What is given: the faces of the complex of a set, marks of its cells within alpha, and labels, which are the same for
+-- marked cells around a triple.
+pub record Given (s : List ℕ) (faces : FaceLists) (alpha : ℕ) (labels : List ℕ) : Type 0 where
   pub faces_of : AreFacesOf s faces
-  pub labelled : AreLabels faces (map (is_small_cell alpha) faces.cells) (length faces.triples) labels
+  pub joined : (t : ℕ) → t < length faces.triples
+      → AreAlike faces (map (is_small_cell alpha) faces.cells) labels (get_or faces.triples t ([], []))
 
 module _ (s : List ℕ) (faces : FaceLists) (alpha : ℕ) (labels : List ℕ) (g : Given s faces alpha labels) where
-  marks : List Bool
+  abbrev pub marks : List Bool
   marks = map (is_small_cell alpha) faces.cells
 
-  admitted : List (List ℕ)
+  abbrev pub admitted : List (List ℕ)
   admitted = filter (is_within alpha) (full_cells faces.cells)
 
   sorted : IsStrictlySortedBy cell_cmp faces.cells
   sorted = subst (IsStrictlySortedBy cell_cmp) (sym g.faces_of.cells) (complex_is_sorted s g.faces_of.ascending)
 
   -- a marked cell is admitted
-  admitted_from : (q : List ℕ) (i : ℕ) → IsNumberOf faces.cells marks q i → IsIn q admitted
-  unfolding marks admitted
+  pub admitted_from : (q : List ℕ) (i : ℕ) → IsNumberOf faces.cells marks q i → IsIn q admitted
   admitted_from q i n =
       let l = marked_below alpha faces.cells i n.marked in
       filtered_true (is_within alpha) (full_cells faces.cells) q
@@ -136,15 +137,13 @@ module _ (s : List ℕ) (faces : FaceLists) (alpha : ℕ) (labels : List ℕ) (g
       (ap (is_small_cell alpha) (sym n.cell) ∙ sym (mark_is alpha faces.cells i l) ∙ n.marked)
 
   -- and an admitted one has a number
-  numbered_from : (q : List ℕ) → IsIn q admitted → (i : ℕ) × (i < length faces.cells) × IsNumberOf faces.cells marks q i
-  unfolding marks admitted
+  pub numbered_from : (q : List ℕ) → IsIn q admitted → (i : ℕ) × (i < length faces.cells) × IsNumberOf faces.cells marks q i
   numbered_from q j =
       let f = filtered_from (is_within alpha) (full_cells faces.cells) q j in
       let p = place_of faces.cells (Full q) (Full []) (listed_is_full_cell faces.cells q f.0) in
       (p.0, p.1, record { marked = mark_is alpha faces.cells p.0 p.1 ∙ ap (is_small_cell alpha) p.2 ∙ f.1; cell = p.2 })
 
   number_below : (q : List ℕ) (i : ℕ) → IsNumberOf faces.cells marks q i → i < length faces.cells
-  unfolding marks
   number_below q i n = marked_below alpha faces.cells i n.marked
 
   ascends : (q : List ℕ) (i : ℕ) → IsNumberOf faces.cells marks q i → IsAscending q
@@ -187,8 +186,7 @@ module _ (s : List ℕ) (faces : FaceLists) (alpha : ℕ) (labels : List ℕ) (g
       )
 
   -- the cell of a marked number
-  marked_cell : (m : ℕ) → IsMarked marks m → (c : List ℕ) × IsNumberOf faces.cells marks c m
-  unfolding marks
+  pub marked_cell : (m : ℕ) → IsMarked marks m → (c : List ℕ) × IsNumberOf faces.cells marks c m
   marked_cell m e =
       let l = marked_below alpha faces.cells m e in
       let f = small_full alpha (cell_at faces.cells m) (sym (mark_is alpha faces.cells m l) ∙ e) in
@@ -214,13 +212,12 @@ module _ (s : List ℕ) (faces : FaceLists) (alpha : ℕ) (labels : List ℕ) (g
 
   -- cells that share a triple have one label
   alike : (q c : List ℕ) (i m : ℕ) → IsNumberOf faces.cells marks q i → IsNumberOf faces.cells marks c m → ShareTriple q c → AreTogether labels i m
-  unfolding marks
   alike q c i m n k t =
       let listed = λ (x : List ℕ) (y : ℕ) (z : IsNumberOf faces.cells marks x y). subst (IsIn (Full x)) g.faces_of.cells (subst (λ (v : Cell). IsIn v faces.cells) z.cell (at_in faces.cells y (Full []) (number_below x y z))) in
       let part = part_is_listed 3 (complex s) t.0 (record { q = q; listed = listed q i n; part = t.1 }) in
       let face = mapped_true (λ x. (x, cells_with x (complex s))) t.0 (parts_in 3 (complex s)) part in
       let place = place_of faces.triples (t.0, cells_with t.0 (complex s)) ([], []) (subst (λ (v : List (List ℕ × List Cell)). IsIn (t.0, cells_with t.0 (complex s)) v) (sym g.faces_of.triples) face) in
-      let a = g.labelled.joined place.0 place.1 in
+      let a = g.joined place.0 place.1 in
       let around = a.around ∙ ap (λ (v : List ℕ × List Cell). v.1) place.2 in
       let u = number_in q a.numbers (subst (λ (v : List Cell). IsIn (Full q) v) (sym around) (has_around t.0 q (listed q i n) t.1)) in
       let v = number_in c a.numbers (subst (λ (v : List Cell). IsIn (Full c) v) (sym around) (has_around t.0 c (listed c m k) t.2)) in
@@ -240,7 +237,7 @@ module _ (s : List ℕ) (faces : FaceLists) (alpha : ℕ) (labels : List ℕ) (g
           }) l2 l
 
   -- so do those that a chain joins
-  alike_along : (q r : List ℕ) (chain : List (List ℕ)) (i j : ℕ) → IsNumberOf faces.cells marks q i → IsNumberOf faces.cells marks r j → IsChain admitted q chain r → AreTogether labels i j
+  pub alike_along : (q r : List ℕ) (chain : List (List ℕ)) (i j : ℕ) → IsNumberOf faces.cells marks q i → IsNumberOf faces.cells marks r j → IsChain admitted q chain r → AreTogether labels i j
   alike_along q r [] i j n k e = ap (label_at labels) (one_number faces.cells marks r i j sorted (subst (λ (v : List ℕ). IsNumberOf faces.cells marks v i) e n) k (number_below q i n) (number_below r j k))
   alike_along q r (c ∷ chain) i j n k t =
       let m = numbered_from c t.0 in
@@ -248,9 +245,9 @@ module _ (s : List ℕ) (faces : FaceLists) (alpha : ℕ) (labels : List ℕ) (g
 
   -- ---- the parts
 
-  are_parts : (parts : List (List (List ℕ))) → IsGathered faces.cells marks labels (length faces.cells) parts → AreParts admitted parts
-  unfolding marks
-  are_parts parts d = record {
+  are_parts : (parts : List (List (List ℕ))) → AreLabels faces marks (length faces.triples) labels
+      → IsGathered faces.cells marks labels (length faces.cells) parts → AreParts admitted parts
+  are_parts parts labelled d = record {
     once = distinct_flat parts (λ p l. distinct_in_order (part_at parts p) (d.ordered p l)) d.once;
     all = λ q. (
       λ i.
@@ -269,7 +266,7 @@ module _ (s : List ℕ) (faces : FaceLists) (alpha : ℕ) (labels : List ℕ) (g
         let o = d.only p.0 q p.1 here in
         let n = numbered_from r j in (
           λ k.
-              let path = g.labelled.only o.0 n.0 o.1 n.1 (d.apart p.0 o.0 n.0 q r p.1 o.1 n.1 o.2 n.2 here (subst (λ (v : List (List ℕ)). IsIn r v) (sym p.2) k)) in
+              let path = labelled.only o.0 n.0 o.1 n.1 (d.apart p.0 o.0 n.0 q r p.1 o.1 n.1 o.2 n.2 here (subst (λ (v : List (List ℕ)). IsIn r v) (sym p.2) k)) in
               chain_from q r o.0 path.0 n.0 o.2 path.1 n.2,
           λ k. subst (λ (v : List (List ℕ)). IsIn r v) p.2 (d.together p.0 o.0 n.0 q r p.1 o.1 n.1 o.2 n.2 here (alike_along q r k.chain o.0 n.0 o.2 n.2 k.joins)),
         );
@@ -281,9 +278,8 @@ module _ (s : List ℕ) (faces : FaceLists) (alpha : ℕ) (labels : List ℕ) (g
 -- the parts of the alpha complex of a set
 pub parts_are : (s : List ℕ) (faces : FaceLists) (alpha : ℕ) (labels : List ℕ) (parts : List (List (List ℕ))) → AreFacesOf s faces → AreLabels faces (map (is_small_cell alpha) faces.cells) (length faces.triples) labels
     → IsGathered faces.cells (map (is_small_cell alpha) faces.cells) labels (length faces.cells) parts → AreParts (shape_of s alpha).cells parts
-unfolding marks admitted
 parts_are s faces alpha labels parts h l d =
-    subst (λ (v : List (List ℕ)). AreParts v parts) (cells_are s faces alpha h) (are_parts s faces alpha labels (record { faces_of = h; labelled = l }) parts d)
+    subst (λ (v : List (List ℕ)). AreParts v parts) (cells_are s faces alpha h) (are_parts s faces alpha labels (record { faces_of = h; joined = l.joined }) parts l d)
 
 -- what holds of an answer where there is one
 pub if_ok : {T E : Type 0} {P Q : T → Type 0} (r : Result T E) → ((x : T) → P x → Q x) → IfOk r P → IfOk r Q

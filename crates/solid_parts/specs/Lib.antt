@@ -7,4 +7,5 @@ pub mod Labels
 pub mod Gathered
 pub mod Seen
 pub mod Levels
+pub mod Links
 pub mod Laws

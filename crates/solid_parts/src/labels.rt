@@ -8,8 +8,11 @@ use crate::groups::{flatten, join_all};
 use face_list::Faces;
 use std::alloc::{AllocError, Global};
 
-// The numbers below a count.
-fn numbers_below(alloc: Global, count: usize) -> Result<Vec<u32>, AllocError>
+/// The numbers below a count.
+///
+/// # Errors
+/// Want of memory.
+pub fn numbers_below(alloc: Global, count: usize) -> Result<Vec<u32>, AllocError>
     ensures { IfOk result (λ v. v.items ≡ range_with_len 0 count) }
 {
     let mut numbers = Vec::with_capacity(alloc, count)?;

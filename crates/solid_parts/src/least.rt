@@ -4,13 +4,15 @@ ghost use Rattle.std.specs.Prelude.{◌≡◌, ◌<◌, ◌^◌, ◌↔◌, ℕ,
 ghost use Rattle.std.specs.List.{list_all};
 ghost use Rattle.point_order.specs.Sets.{IsIn};
 ghost use Rattle.alpha_complex.specs.declared.numbers.FaceAlphas.{FaceAlphas};
+ghost use Rattle.std.specs.List.Sorted.{IsNonDecreasingBy};
 ghost use Rattle.solid_parts.specs.Levels.{AreLevels};
+ghost use Rattle.solid_parts.specs.Links.{count_to};
 
 use alpha_complex::FaceAlphas;
 use std::alloc::{AllocError, Global};
 
-// The greater of two numbers.
-fn greater(m: u64, n: u64) -> u64
+/// The greater of two numbers.
+pub fn greater(m: u64, n: u64) -> u64
     ensures { result ≡ max m n }
 {
     if m < n { n } else { m }
@@ -38,4 +40,17 @@ pub fn in_order(alloc: Global, numbers: &[u64]) -> Result<Vec<u64>, AllocError>
     levels.sort_unstable();
     levels.dedup();
     Ok(levels)
+}
+
+/// The numbers in order.
+///
+/// # Errors
+/// Want of memory.
+pub fn sorted(alloc: Global, numbers: &[u64]) -> Result<Vec<u64>, AllocError>
+    ensures order { IfOk result (λ v. IsNonDecreasingBy (λ n. n) v.items) }
+    ensures same { IfOk result (λ v. (alpha : ℕ) → count_to v.items alpha ≡ count_to numbers.now alpha) }
+{
+    let mut sorted = Vec::from_slice(alloc, numbers)?;
+    sorted.sort_unstable();
+    Ok(sorted)
 }

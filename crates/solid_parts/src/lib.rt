@@ -13,26 +13,34 @@
 
 ghost use Rattle.std.specs.Prelude.{◌≡◌, ◌<◌, ◌≤◌, ◌^◌, ◌↔◌, ℕ, List, IfOk, IsTrue};
 ghost use Rattle.alpha_complex.specs.Condition.{AreFaces, AreFacesOf};
+ghost use Rattle.alpha_complex.specs.Admitted.{is_admitted_cell};
+ghost use Rattle.alpha_complex.specs.Judged.{is_small_cell};
+ghost use Rattle.alpha_complex.specs.Leasts.{AreLeastOf};
 ghost use Rattle.alpha_complex.specs.Shapes.{shape_of};
+ghost use Rattle.point_order.specs.Complex.{complex};
 ghost use Rattle.solid_parts.specs.Boundary.{boundary_of};
 ghost use Rattle.solid_parts.specs.LeastAlpha.{IsCompact, IsLeastAlpha, IsStart};
 ghost use Rattle.solid_parts.specs.Parts.{AreParts};
 ghost use Rattle.solid_parts.specs.Seen.{parts_seen};
 
+mod climb;
 mod gathering;
 mod groups;
 mod labels;
 pub mod laws;
 mod least;
+mod links;
 mod marks;
 pub mod part;
 mod turning;
 
 use alpha_complex::{Alphas, alphas};
+use climb::{Climb, climb_to, count_to};
 use face_list::{Faces, faces};
 use gathering::gather;
-use labels::labels_of;
-use least::{cover_least, in_order};
+use labels::{labels_of, numbers_below};
+use least::{cover_least, in_order, sorted};
+use links::links_of;
 use marks::marks_of;
 pub use part::Part;
 use point_order::Point;
@@ -62,23 +70,59 @@ pub fn parts(alloc: Global, faces: &Faces, alpha: u64) -> Result<Vec<Part>, Allo
 }
 
 // Whether a number is an alpha at which every point is in an admitted cell and there are at most k parts. From `start`
-// on every point is.
+// on every point is, and there are at least `apart` parts.
 fn is_compact(
     alloc: Global,
     faces: &Faces,
     start: u64,
     alpha: u64,
     k: u32,
+    apart: usize,
 ) -> Result<bool, AllocError>
     requires faces { AreFaces faces.now }
     requires start { (s : List ℕ) → AreFacesOf s faces.now → alpha < 2 ^ 34 → IsStart s alpha start }
-    ensures { IfOk result (λ b. (s : List ℕ) → AreFacesOf s faces.now → IsTrue b ↔ (alpha < 2 ^ 34 × IsCompact s k alpha)) }
+    requires apart { (s : List ℕ) → AreFacesOf s faces.now → alpha < 2 ^ 34 → IsCompact s k alpha → apart ≤ k }
+    ensures { IfOk result (λ b. (s : List ℕ) → AreFacesOf s faces.now →
+        IsTrue b ↔ (alpha < 2 ^ 34 × IsCompact s k alpha)) }
 {
     if alpha < start || alpha >= BEYOND {
         return Ok(false);
     }
+    if apart > k as usize {
+        return Ok(false);
+    }
     let parts = parts(alloc, faces, alpha)?;
     Ok(parts.len() <= k as usize)
+}
+
+// The least of the numbers of the cells at which every point is in an admitted cell and there are at most k parts. The
+// cells are joined in the order of their numbers, and the parts are made only where the count says that they are few.
+fn first_compact(
+    alloc: Global,
+    faces: &Faces,
+    leasts: &[u64],
+    start: u64,
+    k: u32,
+) -> Result<Option<u64>, AllocError>
+    requires faces { AreFaces faces.now }
+    requires own { AreLeastOf is_small_cell faces.now.cells leasts.now }
+    requires told { (s : List ℕ) → AreFacesOf s faces.now → AreLeastOf (is_admitted_cell s) (complex s) leasts.now }
+    requires start { (s : List ℕ) → AreFacesOf s faces.now → (alpha : ℕ) → alpha < 2 ^ 34 → IsStart s alpha start }
+    ensures { IfOk result (λ least. (s : List ℕ) → AreFacesOf s faces.now → IsLeastAlpha s k least) }
+{
+    let numbers = sorted(alloc, leasts)?;
+    let levels = in_order(alloc, leasts)?;
+    let links = links_of(alloc, faces, leasts)?;
+    let mut leads = numbers_below(alloc, leasts.len())?;
+    let mut climb = Climb { next: 0, merges: 0 };
+    for level in levels.iter() {
+        climb = climb_to(&mut leads, &links, climb, *level);
+        let apart = count_to(&numbers, *level).saturating_sub(climb.merges);
+        if is_compact(alloc, faces, start, *level, k, apart)? {
+            return Ok(Some(*level));
+        }
+    }
+    Ok(None)
 }
 
 /// The least alpha, a squared radius in sixteenths, below 2^34, at which every point is in an admitted cell and there
@@ -100,13 +144,7 @@ pub fn least_alpha<R: Threads + Sync>(
 {
     let known = alphas(rt, alloc, faces)?;
     let start = cover_least(&known.points);
-    let levels = in_order(alloc, &known.cells)?;
-    for level in levels.iter() {
-        if is_compact(alloc, faces, start, *level, k)? {
-            return Ok(Some(*level));
-        }
-    }
-    Ok(None)
+    first_compact(alloc, faces, &known.cells, start, k)
 }
 
 /// The boundary of a part: the triples that exactly one of its cells has, in order, each with its least point first and
