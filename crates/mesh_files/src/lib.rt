@@ -1,18 +1,22 @@
 //! The texts that the program writes.
 //!
 //! ```
-//! let report = Report { replies, points, cells: &cells, shapes, order: None };  // the points ascend; each radius
-//! stands beside its shape put_report(&mut out, &report)?;               // takes no memory
+//! // the points ascend; each radius stands beside its shape
+//! let report = Report { replies, points, cells: &cells, shapes, order: None };
+//! put_report(&mut out, &report)?;               // takes no memory
 //! let text = mesh_text(alloc, &report)?;        // the same text, in memory
 //! let block = shape_text(alloc, 300, &shape)?;  // the block of one radius
 //! let counts = summary_text(alloc, &report)?;
+//! let surface = off_text(alloc, &points, &triangles)?;
 //! ```
 #![tactic(auto)]
 
+pub mod off;
 pub mod report;
 mod shapes;
 mod summary;
 
+pub use off::{off_text, put_off};
 pub use report::{Report, mesh_text, put_report};
 pub use shapes::shape_text;
 pub use summary::summary_text;

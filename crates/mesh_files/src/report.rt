@@ -83,7 +83,7 @@ fn put_replies<O: Sink>(sheet: &mut Sheet, out: &mut O, replies: &[Reply])
 }
 
 // Puts the line of a point.
-fn put_point<O: Sink>(sheet: &mut Sheet, out: &mut O, point: Point)
+pub(crate) fn put_point<O: Sink>(sheet: &mut Sheet, out: &mut O, point: Point)
     ensures { Puts (O.holds out.old) (O.holds out.new) (O.faults out.old) (O.faults out.new) sheet.old sheet.new
         (point_line point) }
 {

@@ -9,3 +9,4 @@ pub mod Seen
 pub mod Levels
 pub mod Links
 pub mod Laws
+pub mod Text

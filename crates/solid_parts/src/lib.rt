@@ -32,6 +32,8 @@ mod least;
 mod links;
 mod marks;
 pub mod part;
+pub mod sizes;
+mod texts;
 mod turning;
 
 use alpha_complex::{Alphas, alphas};
@@ -43,6 +45,8 @@ use least::{cover_least, in_order, sorted};
 use links::links_of;
 use marks::marks_of;
 pub use part::Part;
+pub use sizes::PartSize;
+pub use texts::put_parts;
 use point_order::Point;
 use std::alloc::{AllocError, Global};
 use std::thread::Threads;

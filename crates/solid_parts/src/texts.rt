@@ -1,0 +1,64 @@
+//! The text of parts.
+
+ghost use Rattle.std.specs.Prelude.{◌≡◌, codes, map, IsOk, OnOk, OnErr};
+ghost use Rattle.std.specs.Io.KnownBytes.{Appends};
+ghost use Rattle.byte_ends.specs.Ends.{AppendsFront, HasCause, Rose};
+ghost use Rattle.text_sheets.specs.Lines.{block};
+ghost use Rattle.text_sheets.specs.Sheets.{Puts};
+ghost use Rattle.solid_parts.specs.Text.{size_line, sizes_text};
+
+use crate::sizes::PartSize;
+use byte_ends::{Failed, Sink};
+use text_sheets::{Sheet, put_number, put_title};
+
+// Puts the line of a part.
+fn put_size<O: Sink>(sheet: &mut Sheet, out: &mut O, size: PartSize)
+    ensures { Puts (O.holds out.old) (O.holds out.new) (O.faults out.old) (O.faults out.new) sheet.old sheet.new
+        (size_line size) }
+{
+    sheet.put(out, b"part ");
+    put_number(sheet, out, size.cells);
+    sheet.put(out, b" ");
+    put_number(sheet, out, size.triangles);
+    sheet.put(out, b"\n");
+}
+
+// Puts the block of the parts.
+fn put_sizes<O: Sink>(sheet: &mut Sheet, out: &mut O, sizes: &[PartSize])
+    ensures { Puts (O.holds out.old) (O.holds out.new) (O.faults out.old) (O.faults out.new) sheet.old sheet.new
+        (block (codes "parts") (map size_line sizes.now)) }
+{
+    put_title(sheet, out, b"parts", sizes.len());
+    for size in sizes {
+        put_size(sheet, out, *size);
+    }
+}
+
+// Puts the whole text.
+fn put_all<O: Sink>(sheet: &mut Sheet, out: &mut O, alpha: u64, sizes: &[PartSize])
+    ensures { Puts (O.holds out.old) (O.holds out.new) (O.faults out.old) (O.faults out.new) sheet.old sheet.new
+        (sizes_text alpha sizes.now) }
+{
+    sheet.put(out, b"mesh3-parts 1\n");
+    sheet.put(out, b"alpha ");
+    put_number(sheet, out, alpha);
+    sheet.put(out, b"\n");
+    put_sizes(sheet, out, sizes);
+    sheet.put(out, b"end\n");
+}
+
+/// Writes the text of the parts at an alpha, by their sizes. It takes no memory.
+///
+/// # Errors
+///
+/// `Failed` where the sink failed. Then it has taken a front of the text.
+pub fn put_parts<O: Sink>(out: &mut O, alpha: u64, sizes: &[PartSize]) -> Result<(), Failed>
+    ensures whole { OnOk result (Appends (O.holds out.old) (O.holds out.new) (sizes_text alpha sizes.now)) }
+    ensures front { AppendsFront (O.holds out.old) (O.holds out.new) (sizes_text alpha sizes.now) }
+    ensures cause { HasCause (O.faults out.old) (O.faults out.new) result }
+    ensures done { (Rose (O.faults out.old) (O.faults out.new) → ⊥) → IsOk result }
+{
+    let mut sheet = Sheet::new();
+    put_all(&mut sheet, out, alpha, sizes);
+    sheet.close(out)
+}
