@@ -1,0 +1,144 @@
+//! What stands in a slot, and what stood there before it was taken out.
+
+ghost use Rattle.std.specs.Prelude.{◌≡◌, ◌↔◌, ◌<◌, ◌∷◌, [], ◌++◌, Some, None, length, IsTrue, MatchOption, OnOk};
+ghost use Rattle.point_order.specs.Sets.{IsIn};
+ghost use Rattle.cloud_cells.specs.Clouds.{HasOther, IsOtherOf};
+ghost use Rattle.cloud_cells.specs.Nets.{AreWith, HasNoOther, HasNoOtherIn, IsOtherOn, IsWithout, live, slot_at};
+
+use crate::facets::{are_same, is_on};
+use crate::net::Spot;
+use point_order::{Cell, Facet};
+use std::alloc::AllocError;
+
+// What stands in a slot; past the end nothing does.
+pub(crate) fn cell_at(slots: &[Option<Cell>], i: usize) -> Option<Cell>
+    ensures { result ≡ slot_at slots.now i }
+{
+    if i < slots.len() { slots[i] } else { None }
+}
+
+// Whether the cell stands in a slot.
+fn stands_at(slots: &[Option<Cell>], i: usize, cell: &Cell) -> bool
+    ensures { IsTrue result ↔ (slot_at slots.now i ≡ Some cell.now) }
+{
+    match cell_at(slots, i) {
+        Some(other) => are_same(&other, cell),
+        None => false,
+    }
+}
+
+// The slot of a cell, which is likely to be the hint.
+fn place_of(slots: &[Option<Cell>], cell: &Cell, hint: usize) -> usize
+    requires { IsIn cell.now (live slots.now) }
+    ensures { slot_at slots.now result ≡ Some cell.now }
+{
+    if stands_at(slots, hint, cell) {
+        return hint;
+    }
+    for i in 0..slots.len() {
+        if stands_at(slots, i, cell) {
+            return i;
+        }
+    }
+    unreachable!()
+}
+
+// Whether the cell is another on the facet.
+fn is_other(other: &Cell, cell: &Cell, facet: &Facet) -> bool
+    ensures { IsTrue result ↔ IsOtherOn cell.now facet.now other.now }
+{
+    is_on(other, facet) && !are_same(other, cell)
+}
+
+// The cell of a slot, where it is another on the facet.
+pub(crate) fn other_at(slots: &[Option<Cell>], i: usize, cell: &Cell, facet: &Facet) -> Option<Cell>
+    ensures { MatchOption result (HasNoOther slots.now i cell.now facet.now)
+        (λ other. IsOtherOf (live slots.now) cell.now facet.now other) }
+{
+    let other = cell_at(slots, i)?;
+    if is_other(&other, cell, facet) {
+        return Some(other);
+    }
+    None
+}
+
+// The cell across a facet of a cell, and its slot, where all are looked at. There is to be one.
+pub(crate) fn other_across(slots: &[Option<Cell>], cell: &Cell, facet: &Facet) -> (Cell, usize)
+    requires { HasOther (live slots.now) cell.now facet.now }
+    ensures { IsOtherOf (live slots.now) cell.now facet.now result.0 }
+{
+    for i in 0..slots.len() {
+        if let Some(other) = other_at(slots, i, cell, facet) {
+            return (other, i);
+        }
+    }
+    unreachable!()
+}
+
+// The cell of those taken out that is another on the facet, likely the one at the hint.
+pub(crate) fn gone_across(gone: &[Spot], cell: &Cell, facet: &Facet, hint: usize) -> Option<Cell>
+    ensures { MatchOption result (HasNoOtherIn gone.now cell.now facet.now)
+        (λ other. IsOtherOf gone.now cell.now facet.now other) }
+{
+    if hint < gone.len() {
+        let other = gone[hint].cell();
+        if is_other(other, cell, facet) {
+            return Some(*other);
+        }
+    }
+    for spot in gone {
+        if is_other(spot.cell(), cell, facet) {
+            return Some(*spot.cell());
+        }
+    }
+    None
+}
+
+// Takes a cell out of its slot, and answers which that was.
+pub(crate) fn take_out(slots: &mut Vec<Option<Cell>>, cell: &Cell, hint: usize) -> usize
+    requires { IsIn cell.now (live slots.old.items) }
+    ensures { IsWithout (live slots.old.items) cell.now (live slots.new.items) }
+{
+    let place = place_of(slots, cell, hint);
+    if place < slots.len() {
+        slots[place] = None;
+    }
+    place
+}
+
+// Whether the slot is there, and free.
+fn is_free(slots: &[Option<Cell>], i: usize) -> bool
+    ensures { IsTrue result → (i < length slots.now) × (slot_at slots.now i ≡ None) }
+{
+    i < slots.len() && cell_at(slots, i).is_none()
+}
+
+// Puts a cell into the slot of the hint, where that is free, or behind all, and answers which that was.
+pub(crate) fn put_in(
+    slots: &mut Vec<Option<Cell>>,
+    cell: Cell,
+    hint: usize,
+) -> Result<usize, AllocError>
+    ensures { OnOk result (AreWith (live slots.old.items) cell (live slots.new.items)) }
+{
+    if is_free(slots, hint) {
+        slots[hint] = Some(cell);
+        return Ok(hint);
+    }
+    let place = slots.len();
+    slots.push(Some(cell))?;
+    Ok(place)
+}
+
+// Puts the cell of a slot, if it has one, behind the cells.
+pub(crate) fn push_slot(cells: &mut Vec<Cell>, slot: Option<Cell>) -> Result<(), AllocError>
+    ensures { OnOk result (cells.new.items ≡ cells.old.items ++ live (slot ∷ [])) }
+{
+    match slot {
+        Some(cell) => {
+            cells.push(cell)?;
+            Ok(())
+        }
+        None => Ok(()),
+    }
+}
