@@ -9,16 +9,98 @@ use crate::facets::{are_same, is_on};
 use crate::net::Spot;
 use point_order::{Cell, Facet};
 use std::alloc::AllocError;
+use std::marker::Model;
+
+// A slot: its cell, if it has one, and what is likely of that: where the cells across its facets stand, and, once it was
+// taken out, the how-manieth that was. Contracts see it as the cell.
+#[derive(Drop)]
+pub(crate) struct Slot {
+    cell: Option<Cell>,
+    links: [u32; 4],
+    taken: u32,
+}
+
+impl Model for Slot {
+    ghost use Rattle.std.specs.Prelude.{Option};
+    ghost use Rattle.point_order.specs.declared.cell.Cell.{Cell};
+
+    ghost Value = { Option Cell };
+
+    ghost view = { λ s. s.cell };
+}
+
+// A number in 32 bits, where it has no more.
+fn short(number: usize) -> u32 {
+    u32::try_from(number).unwrap_or(u32::MAX)
+}
+
+impl Slot {
+    // A slot of a cell of which nothing is known.
+    pub(crate) fn new(cell: Cell) -> Slot
+        ensures { result ≡ Some cell }
+    {
+        Slot {
+            cell: Some(cell),
+            links: [0; 4],
+            taken: 0,
+        }
+    }
+
+    // The cell, if it has one.
+    pub(crate) fn cell(&self) -> Option<Cell>
+        ensures { result ≡ self.now }
+    {
+        self.cell
+    }
+
+    // Where the cell across facet k is likely to stand.
+    pub(crate) fn link(&self, k: usize) -> usize {
+        if k < 4 { self.links[k] as usize } else { 0 }
+    }
+
+    // Notes where the cell across facet k is likely to stand.
+    pub(crate) fn set_link(&mut self, k: usize, to: usize)
+        ensures { self.new ≡ self.old }
+    {
+        if k < 4 {
+            self.links[k] = short(to);
+        }
+    }
+
+    // The how-manieth that was taken out the cell is likely to be.
+    pub(crate) fn taken(&self) -> usize {
+        self.taken as usize
+    }
+
+    // The cell is taken out, so many after the first.
+    fn clear(&mut self, number: usize)
+        ensures { self.new ≡ None }
+    {
+        self.cell = None;
+        self.taken = short(number);
+    }
+
+    // A cell is put in.
+    fn fill(&mut self, cell: Cell)
+        ensures { self.new ≡ Some cell }
+    {
+        self.cell = Some(cell);
+    }
+}
 
 // What stands in a slot; past the end nothing does.
-pub(crate) fn cell_at(slots: &[Option<Cell>], i: usize) -> Option<Cell>
+pub(crate) fn cell_at(slots: &[Slot], i: usize) -> Option<Cell>
     ensures { result ≡ slot_at slots.now i }
 {
-    if i < slots.len() { slots[i] } else { None }
+    if i < slots.len() {
+        slots[i].cell()
+    } else {
+        None
+    }
 }
 
 // Whether the cell stands in a slot.
-fn stands_at(slots: &[Option<Cell>], i: usize, cell: &Cell) -> bool
+fn stands_at(slots: &[Slot], i: usize, cell: &Cell) -> bool
     ensures { IsTrue result ↔ (slot_at slots.now i ≡ Some cell.now) }
 {
     match cell_at(slots, i) {
@@ -28,7 +110,7 @@ fn stands_at(slots: &[Option<Cell>], i: usize, cell: &Cell) -> bool
 }
 
 // The slot of a cell, which is likely to be the hint.
-fn place_of(slots: &[Option<Cell>], cell: &Cell, hint: usize) -> usize
+fn place_of(slots: &[Slot], cell: &Cell, hint: usize) -> usize
     requires { IsIn cell.now (live slots.now) }
     ensures { slot_at slots.now result ≡ Some cell.now }
 {
@@ -51,7 +133,7 @@ fn is_other(other: &Cell, cell: &Cell, facet: &Facet) -> bool
 }
 
 // The cell of a slot, where it is another on the facet.
-pub(crate) fn other_at(slots: &[Option<Cell>], i: usize, cell: &Cell, facet: &Facet) -> Option<Cell>
+pub(crate) fn other_at(slots: &[Slot], i: usize, cell: &Cell, facet: &Facet) -> Option<Cell>
     ensures { MatchOption result (HasNoOther slots.now i cell.now facet.now)
         (λ other. IsOtherOf (live slots.now) cell.now facet.now other) }
 {
@@ -63,7 +145,7 @@ pub(crate) fn other_at(slots: &[Option<Cell>], i: usize, cell: &Cell, facet: &Fa
 }
 
 // The cell across a facet of a cell, and its slot, where all are looked at. There is to be one.
-pub(crate) fn other_across(slots: &[Option<Cell>], cell: &Cell, facet: &Facet) -> (Cell, usize)
+pub(crate) fn other_across(slots: &[Slot], cell: &Cell, facet: &Facet) -> (Cell, usize)
     requires { HasOther (live slots.now) cell.now facet.now }
     ensures { IsOtherOf (live slots.now) cell.now facet.now result.0 }
 {
@@ -94,47 +176,43 @@ pub(crate) fn gone_across(gone: &[Spot], cell: &Cell, facet: &Facet, hint: usize
     None
 }
 
-// Takes a cell out of its slot, and answers which that was.
-pub(crate) fn take_out(slots: &mut Vec<Option<Cell>>, cell: &Cell, hint: usize) -> usize
+// Takes a cell out of its slot, so many after the first, and answers which that was.
+pub(crate) fn take_out(slots: &mut Vec<Slot>, cell: &Cell, hint: usize, number: usize) -> usize
     requires { IsIn cell.now (live slots.old.items) }
     ensures { IsWithout (live slots.old.items) cell.now (live slots.new.items) }
 {
     let place = place_of(slots, cell, hint);
     if place < slots.len() {
-        slots[place] = None;
+        slots[place].clear(number);
     }
     place
 }
 
 // Whether the slot is there, and free.
-fn is_free(slots: &[Option<Cell>], i: usize) -> bool
+fn is_free(slots: &[Slot], i: usize) -> bool
     ensures { IsTrue result → (i < length slots.now) × (slot_at slots.now i ≡ None) }
 {
     i < slots.len() && cell_at(slots, i).is_none()
 }
 
 // Puts a cell into the slot of the hint, where that is free, or behind all, and answers which that was.
-pub(crate) fn put_in(
-    slots: &mut Vec<Option<Cell>>,
-    cell: Cell,
-    hint: usize,
-) -> Result<usize, AllocError>
+pub(crate) fn put_in(slots: &mut Vec<Slot>, cell: Cell, hint: usize) -> Result<usize, AllocError>
     ensures { OnOk result (AreWith (live slots.old.items) cell (live slots.new.items)) }
 {
     if is_free(slots, hint) {
-        slots[hint] = Some(cell);
+        slots[hint].fill(cell);
         return Ok(hint);
     }
     let place = slots.len();
-    slots.push(Some(cell))?;
+    slots.push(Slot::new(cell))?;
     Ok(place)
 }
 
 // Puts the cell of a slot, if it has one, behind the cells.
-pub(crate) fn push_slot(cells: &mut Vec<Cell>, slot: Option<Cell>) -> Result<(), AllocError>
-    ensures { OnOk result (cells.new.items ≡ cells.old.items ++ live (slot ∷ [])) }
+pub(crate) fn push_slot(cells: &mut Vec<Cell>, slot: &Slot) -> Result<(), AllocError>
+    ensures { OnOk result (cells.new.items ≡ cells.old.items ++ live (slot.now ∷ [])) }
 {
-    match slot {
+    match slot.cell() {
         Some(cell) => {
             cells.push(cell)?;
             Ok(())
