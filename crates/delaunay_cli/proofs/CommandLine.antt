@@ -1,5 +1,29 @@
 -- What `clap` makes of the program's words.
-use Rattle.std.proofs.Common.{◌≡◌, ◌≢◌, ◌⊎◌, inl, inr, refl, sym, ap, ◌∙◌, subst, ℕ, ◌<◌, ◌≤◌, ◌^◌, arith, List, [], ◌∷◌, Bool, true, false, cond, codes}
+use Rattle.std.proofs.Common.{
+  ◌≡◌,
+  ◌≢◌,
+  ◌⊎◌,
+  inl,
+  inr,
+  refl,
+  sym,
+  ap,
+  ◌∙◌,
+  subst,
+  ℕ,
+  ◌<◌,
+  ◌≤◌,
+  ◌^◌,
+  arith,
+  List,
+  [],
+  ◌∷◌,
+  Bool,
+  true,
+  false,
+  cond,
+  codes,
+}
 use Rattle.std.specs.Prelude.{String, Option, Some, None}
 use Rattle.std.specs.declared.alloc.Global.{Global}
 use Rattle.std.specs.Option.{option_map_or}
@@ -10,18 +34,58 @@ use Rattle.clap.proofs.ValueTestLemmas.{accepts-Accepts, Accepts-accepts}
 use Rattle.clap.specs.declared.builder.value_parser.ValueParser.TheVariants.{Unsigned}
 use Rattle.clap.specs.declared.parser.matches.Found.{Found}
 use Rattle.clap.proofs.WalkLemmas.{first_value-rows}
-use Rattle.clap.specs.Words.{App, Text, Row, IsAmong, Kinds, fault_of, first_value, rows_of, is_simple, is_simple_and_free, subcommand_of}
+use Rattle.clap.specs.Words.{
+  App,
+  Text,
+  Row,
+  IsAmong,
+  Kinds,
+  fault_of,
+  first_value,
+  rows_of,
+  is_simple,
+  is_simple_and_free,
+  subcommand_of,
+}
 use Rattle.clap.specs.declared.error.kind.ErrorKind.{ErrorKind}
 use Rattle.clap.specs.declared.error.kind.ErrorKind.TheVariants.{OutOfMemory}
 use Rattle.clap.proofs.OnLiterals.{clap_on_literals}
 use Rattle.cell_store.specs.Grids.{is_grid_size}
-use Rattle.delaunay_cli.specs.Words.{AreMesh, AreMeshOrder, AreShape, AreShapeOrder, AreTaken, DrawsFile, ReadsFile, asks_text, drawn_count, drawn_start, asks_drawn, asks_order, asks_shape, flag_in, has_flag, is_command, grid_size, most_grid, most_workers, number_between, number_in, number_of, program, worker_count, texts_of}
+use Rattle.delaunay_cli.specs.Words.{
+  AreMesh,
+  AreMeshOrder,
+  AreShape,
+  AreShapeOrder,
+  AreSteps,
+  AreTaken,
+  DrawsFile,
+  ReadsFile,
+  asks_text,
+  drawn_count,
+  drawn_start,
+  asks_drawn,
+  asks_order,
+  asks_shape,
+  asks_steps,
+  flag_in,
+  has_flag,
+  is_command,
+  grid_size,
+  most_grid,
+  most_workers,
+  number_between,
+  number_in,
+  number_of,
+  program,
+  worker_count,
+  texts_of,
+}
 use Rattle.delaunay_cli.specs.Tasks.{IsTask, IsTaskOf}
 use Rattle.delaunay_cli.specs.declared.task.Asked.{Asked}
 use Rattle.delaunay_cli.specs.declared.task.Drawn.{Drawn}
 use Rattle.delaunay_cli.specs.declared.task.Making.{Making}
 use Rattle.delaunay_cli.specs.declared.task.Task.{Task}
-use Rattle.delaunay_cli.specs.declared.task.Task.TheVariants.{Report, Draw}
+use Rattle.delaunay_cli.specs.declared.task.Task.TheVariants.{Report, Step, Draw}
 
 program_is_simple_and_free : is_simple_and_free program ≡ true
 unfolding clap_on_literals
@@ -31,81 +95,106 @@ program_is_simple : is_simple program ≡ true
 unfolding clap_on_literals
 program_is_simple = refl
 
--- what words are found to be: with no fault, `shape` or not, with `--order` or not, one worker, a grid of 4, and not `gen`
-abbrev AreFound : List Text → Bool → Bool → Type 0
-AreFound words shape order =
-    (fault_of program words ≡ []) × (is_command (codes "shape") (subcommand_of program words) ≡ shape) × (has_flag (codes "order") (subcommand_of program words) ≡ order)
-    × (number_of (codes "workers") 1 most_workers (subcommand_of program words) ≡ 1) × (number_of (codes "grid") 1 most_grid (subcommand_of program words) ≡ 4)
-    × (is_command (codes "gen") (subcommand_of program words) ≡ false)
+-- what words are found to be: with no fault, `shape` or not, with `--order` or not, one worker, a grid of 4, not `gen`,
+-- and `steps` or not
+abbrev AreFound : List Text → Bool → Bool → Bool → Type 0
+AreFound words shape order steps =
+    (fault_of program words ≡ []) × (is_command (codes "shape") (subcommand_of program words) ≡ shape) ×
+    (has_flag (codes "order") (subcommand_of program words) ≡ order)
+    × (number_of (codes "workers") 1 most_workers (subcommand_of program words) ≡ 1) ×
+    (number_of (codes "grid") 1 most_grid (subcommand_of program words) ≡ 4)
+    × (is_command (codes "gen") (subcommand_of program words) ≡ false) ×
+    (is_command (codes "steps") (subcommand_of program words) ≡ steps)
 
-mesh_found : (name : Text) → AreFound (name ∷ codes "mesh" ∷ []) false false
+mesh_found : (name : Text) → AreFound (name ∷ codes "mesh" ∷ []) false false false
 unfolding clap_on_literals
-mesh_found name = (refl, refl, refl, refl, refl, refl)
+mesh_found name = (refl, refl, refl, refl, refl, refl, refl)
 
-mesh_order_found : (name : Text) → AreFound (name ∷ codes "mesh" ∷ codes "--order" ∷ []) false true
+mesh_order_found : (name : Text) → AreFound (name ∷ codes "mesh" ∷ codes "--order" ∷ []) false true false
 unfolding clap_on_literals
-mesh_order_found name = (refl, refl, refl, refl, refl, refl)
+mesh_order_found name = (refl, refl, refl, refl, refl, refl, refl)
 
-shape_found : (name : Text) → AreFound (name ∷ codes "shape" ∷ []) true false
+shape_found : (name : Text) → AreFound (name ∷ codes "shape" ∷ []) true false false
 unfolding clap_on_literals
-shape_found name = (refl, refl, refl, refl, refl, refl)
+shape_found name = (refl, refl, refl, refl, refl, refl, refl)
 
-shape_order_found : (name : Text) → AreFound (name ∷ codes "shape" ∷ codes "--order" ∷ []) true true
+shape_order_found : (name : Text) → AreFound (name ∷ codes "shape" ∷ codes "--order" ∷ []) true true false
 unfolding clap_on_literals
-shape_order_found name = (refl, refl, refl, refl, refl, refl)
+shape_order_found name = (refl, refl, refl, refl, refl, refl, refl)
+
+steps_found : (name : Text) → AreFound (name ∷ codes "steps" ∷ []) false false true
+unfolding clap_on_literals
+steps_found name = (refl, refl, refl, refl, refl, refl, refl)
 
 -- so they are taken, ask for these and for the defaults, and read a file
-abbrev AreAsked : List (String Global) → Bool → Bool → Type 0
-AreAsked words shape order =
-    (AreTaken words × (asks_shape words ≡ shape) × (asks_order words ≡ order)) × ((worker_count words ≡ 1) × (grid_size words ≡ 4)) × ReadsFile words
+abbrev AreAsked : List (String Global) → Bool → Bool → Bool → Type 0
+AreAsked words shape order steps =
+    (AreTaken words × (asks_shape words ≡ shape) × (asks_order words ≡ order)) ×
+    ((worker_count words ≡ 1) × (grid_size words ≡ 4)) × ReadsFile words × (asks_steps words ≡ steps)
 
-asked : (words : List (String Global)) (texts : List Text) (shape order : Bool) → texts_of words ≡ texts → AreFound texts shape order → AreAsked words shape order
-unfolding AreTaken asks_order asks_shape asks_drawn worker_count grid_size
-asked words texts shape order e found =
-    let f = subst (λ (w : List Text). AreFound w shape order) (sym e) found in (((f.0, ap is_grid_size f.4), f.1, f.2), (f.3, f.4), f.5)
+asked : (words : List (String Global)) (texts : List Text) (shape order steps : Bool) → texts_of words ≡ texts →
+    AreFound texts shape order steps → AreAsked words shape order steps
+unfolding AreTaken asks_order asks_shape asks_drawn asks_steps worker_count grid_size
+asked words texts shape order steps e found =
+    let f = subst (λ (w : List Text). AreFound w shape order steps) (sym e) found in
+    (((f.0, ap is_grid_size f.4), f.1, f.2), (f.3, f.4), f.5, f.6)
 
-pub mesh_words : (words : List (String Global)) → AreMesh words → AreAsked words false false
-mesh_words words m = asked words (m.0 ∷ codes "mesh" ∷ []) false false m.1 (mesh_found m.0)
+pub mesh_words : (words : List (String Global)) → AreMesh words → AreAsked words false false false
+mesh_words words m = asked words (m.0 ∷ codes "mesh" ∷ []) false false false m.1 (mesh_found m.0)
 
-pub mesh_order_words : (words : List (String Global)) → AreMeshOrder words → AreAsked words false true
-mesh_order_words words m = asked words (m.0 ∷ codes "mesh" ∷ codes "--order" ∷ []) false true m.1 (mesh_order_found m.0)
+pub mesh_order_words : (words : List (String Global)) → AreMeshOrder words → AreAsked words false true false
+mesh_order_words words m = asked words (m.0 ∷ codes "mesh" ∷ codes "--order" ∷ []) false true false m.1
+    (mesh_order_found m.0)
 
-pub shape_words : (words : List (String Global)) → AreShape words → AreAsked words true false
-shape_words words m = asked words (m.0 ∷ codes "shape" ∷ []) true false m.1 (shape_found m.0)
+pub shape_words : (words : List (String Global)) → AreShape words → AreAsked words true false false
+shape_words words m = asked words (m.0 ∷ codes "shape" ∷ []) true false false m.1 (shape_found m.0)
 
-pub shape_order_words : (words : List (String Global)) → AreShapeOrder words → AreAsked words true true
-shape_order_words words m = asked words (m.0 ∷ codes "shape" ∷ codes "--order" ∷ []) true true m.1 (shape_order_found m.0)
+pub shape_order_words : (words : List (String Global)) → AreShapeOrder words → AreAsked words true true false
+shape_order_words words m = asked words (m.0 ∷ codes "shape" ∷ codes "--order" ∷ []) true true false m.1
+    (shape_order_found m.0)
 
-pub default_words : (words : List (String Global)) → AreMesh words ⊎ AreMeshOrder words ⊎ AreShape words ⊎ AreShapeOrder words → ((worker_count words ≡ 1) × (grid_size words ≡ 4)) × ReadsFile words
-default_words words (inl m) = let a = mesh_words words m in (a.1, a.2)
-default_words words (inr (inl m)) = let a = mesh_order_words words m in (a.1, a.2)
-default_words words (inr (inr (inl m))) = let a = shape_words words m in (a.1, a.2)
-default_words words (inr (inr (inr m))) = let a = shape_order_words words m in (a.1, a.2)
+pub steps_words : (words : List (String Global)) → AreSteps words → AreAsked words false false true
+steps_words words m = asked words (m.0 ∷ codes "steps" ∷ []) false false true m.1 (steps_found m.0)
+
+pub default_words : (words : List (String Global)) → AreMesh words ⊎ AreMeshOrder words ⊎ AreShape words ⊎
+    AreShapeOrder words
+    → ((worker_count words ≡ 1) × (grid_size words ≡ 4)) × ReadsFile words × (asks_steps words ≡ false)
+default_words words (inl m) = let a = mesh_words words m in (a.1, a.2, a.3)
+default_words words (inr (inl m)) = let a = mesh_order_words words m in (a.1, a.2, a.3)
+default_words words (inr (inr (inl m))) = let a = shape_words words m in (a.1, a.2, a.3)
+default_words words (inr (inr (inr m))) = let a = shape_order_words words m in (a.1, a.2, a.3)
 
 -- what a parse met is what the words name
-pub met_is : (a : App) (words : List (String Global)) (met : Option (Text × List Row)) → a ≡ program → (is_simple a ≡ true → met ≡ subcommand_of a (texts_of words)) → met ≡ subcommand_of program (texts_of words)
+pub met_is : (a : App) (words : List (String Global)) (met : Option (Text × List Row)) → a ≡ program →
+    (is_simple a ≡ true → met ≡ subcommand_of a (texts_of words)) → met ≡ subcommand_of program (texts_of words)
 met_is a words met e h = h (ap is_simple e ∙ program_is_simple) ∙ ap (λ (p : App). subcommand_of p (texts_of words)) e
 
 -- a parse that succeeds, with a grid of one of the sizes, takes the words
-pub taken : (a : App) (words : List (String Global)) (met : Option (Text × List Row)) → a ≡ program → (is_simple_and_free a ≡ true → fault_of a (texts_of words) ≡ [])
-    → (is_simple a ≡ true → met ≡ subcommand_of a (texts_of words)) → is_grid_size (number_of (codes "grid") 1 most_grid met) ≡ true → AreTaken words
+pub taken : (a : App) (words : List (String Global)) (met : Option (Text × List Row)) → a ≡ program →
+    (is_simple_and_free a ≡ true → fault_of a (texts_of words) ≡ [])
+    → (is_simple a ≡ true → met ≡ subcommand_of a (texts_of words)) →
+    is_grid_size (number_of (codes "grid") 1 most_grid met) ≡ true → AreTaken words
 unfolding AreTaken grid_size
 taken a words met e h k g = (
   subst (λ (p : App). fault_of p (texts_of words) ≡ []) e (h (ap is_simple_and_free e ∙ program_is_simple_and_free)),
-  subst (λ (m : Option (Text × List Row)). is_grid_size (number_of (codes "grid") 1 most_grid m) ≡ true) (met_is a words met e k) g,
+  subst (λ (m : Option (Text × List Row)). is_grid_size (number_of (codes "grid") 1 most_grid m) ≡ true)
+      (met_is a words met e k) g,
 )
 
 -- and its matches tell the task
-pub task_is : (a : App) (words : List (String Global)) (met : Option (Text × List Row)) (task : Task) → a ≡ program → IsTaskOf met task
+pub task_is : (a : App) (words : List (String Global)) (met : Option (Text × List Row)) (task : Task) → a ≡ program →
+    IsTaskOf met task
     → (is_simple a ≡ true → met ≡ subcommand_of a (texts_of words)) → IsTask words task
 task_is a words met task e k h = subst (λ (m : Option (Text × List Row)). IsTaskOf m task) (met_is a words met e h) k
 
 -- a parse that succeeds with a grid of another size refuses them
-pub grid_refused : (a : App) (words : List (String Global)) (met : Option (Text × List Row)) → a ≡ program → (is_simple a ≡ true → met ≡ subcommand_of a (texts_of words))
+pub grid_refused : (a : App) (words : List (String Global)) (met : Option (Text × List Row)) → a ≡ program →
+    (is_simple a ≡ true → met ≡ subcommand_of a (texts_of words))
     → false ≡ is_grid_size (number_of (codes "grid") 1 most_grid met) → AreTaken words → ⊥
 unfolding AreTaken grid_size
 grid_refused a words met e k g t =
-    let f = ap (λ (m : Option (Text × List Row)). is_grid_size (number_of (codes "grid") 1 most_grid m)) (met_is a words met e k) in
+    let f = ap (λ (m : Option (Text × List Row)). is_grid_size (number_of (codes "grid") 1 most_grid m))
+    (met_is a words met e k) in
     clash (g ∙ f ∙ t.1)
   where
     clash : false ≡ true → ⊥
@@ -117,7 +206,8 @@ none_among k (x ∷ kinds) e h = absurd (cc)
 
 -- a parse that fails otherwise than for want of memory refuses them
 pub refused : (a : App) (words : List (String Global)) (k : ErrorKind) → a ≡ program
-    → (is_simple_and_free a ≡ true → (k ≡ OutOfMemory) ⊎ IsAmong k (fault_of a (texts_of words))) → k ≢ OutOfMemory → AreTaken words → ⊥
+    → (is_simple_and_free a ≡ true → (k ≡ OutOfMemory) ⊎ IsAmong k (fault_of a (texts_of words))) → k ≢ OutOfMemory →
+    AreTaken words → ⊥
 unfolding AreTaken
 refused a words k e h n t =
     elim (h (ap is_simple_and_free e ∙ program_is_simple_and_free)) [
@@ -126,43 +216,64 @@ refused a words k e h n t =
     ]
 
 -- a flag, where its text is there and where it is not
-pub flag_some : (f : Found) (flag t : Text) (r : Bool) → Some t ≡ first_value f flag → r ≡ bytes_eq t (codes "true") → r ≡ flag_in flag (rows_of f)
-flag_some f flag t r e q = q ∙ ap (λ (o : Option Text). option_map_or (λ text. bytes_eq text (codes "true")) o false) (e ∙ first_value-rows f flag)
+pub flag_some : (f : Found) (flag t : Text) (r : Bool) → Some t ≡ first_value f flag → r ≡ bytes_eq t (codes "true") →
+    r ≡ flag_in flag (rows_of f)
+flag_some f flag t r e q = q ∙ ap (λ (o : Option Text). option_map_or (λ text. bytes_eq text (codes "true")) o false)
+    (e ∙ first_value-rows f flag)
 
 pub flag_none : (f : Found) (flag : Text) → None ≡ first_value f flag → false ≡ flag_in flag (rows_of f)
-flag_none f flag e = ap (λ (o : Option Text). option_map_or (λ text. bytes_eq text (codes "true")) o false) (e ∙ first_value-rows f flag)
+flag_none f flag e = ap (λ (o : Option Text). option_map_or (λ text. bytes_eq text (codes "true")) o false)
+    (e ∙ first_value-rows f flag)
 
 -- a number, where its text is there and where it is not
-pub number_some : (f : Found) (option t : Text) (least most n : ℕ) → Some t ≡ first_value f option → n ≡ number_between least most t → n ≡ number_in option least most (rows_of f)
-number_some f option t least most n e q = q ∙ ap (λ (o : Option Text). option_map_or (number_between least most) o least) (e ∙ first_value-rows f option)
+pub number_some : (f : Found) (option t : Text) (least most n : ℕ) → Some t ≡ first_value f option →
+    n ≡ number_between least most t → n ≡ number_in option least most (rows_of f)
+number_some f option t least most n e q = q ∙ ap (λ (o : Option Text). option_map_or (number_between least most) o
+    least) (e ∙ first_value-rows f option)
 
-pub number_none : (f : Found) (option : Text) (least most : ℕ) → None ≡ first_value f option → least ≡ number_in option least most (rows_of f)
-number_none f option least most e = ap (λ (o : Option Text). option_map_or (number_between least most) o least) (e ∙ first_value-rows f option)
+pub number_none : (f : Found) (option : Text) (least most : ℕ) → None ≡ first_value f option →
+    least ≡ number_in option least most (rows_of f)
+number_none f option least most e = ap (λ (o : Option Text). option_map_or (number_between least most) o least)
+    (e ∙ first_value-rows f option)
 
 -- ---- the number of a text
 
 -- a text that is read as a number from the least to the most names it
-pub number_read : (text : Text) (least most n : ℕ) → IsNumeral 10 (without_leading_plus text) → digits_value 10 (without_leading_plus text) < 2 ^ 32 → n ≡ digits_value 10 (without_leading_plus text) → least ≤ n → n ≤ most → n ≡ number_between least most text
+pub number_read : (text : Text) (least most n : ℕ) → IsNumeral 10 (without_leading_plus text) →
+    digits_value 10 (without_leading_plus text) < 2 ^ 32 → n ≡ digits_value 10 (without_leading_plus text) → least ≤ n →
+    n ≤ most → n ≡ number_between least most text
 number_read text least most n numeral small e from within =
-    let taken : is_unsigned_in least most text ≡ true = Accepts-accepts false (Unsigned least most) text (numeral, omega arith, omega arith, omega arith) in
+    let taken : is_unsigned_in least most text ≡ true = Accepts-accepts false (Unsigned least most) text
+    (numeral, omega arith, omega arith, omega arith) in
     e ∙ sym (ap (λ (b : Bool). cond b (digits_value 10 (without_leading_plus text)) least) taken)
 
 -- any other names none, where the most is below 2^32
-pub number_not_read : (text : Text) (least most : ℕ) → most < 2 ^ 32 → (IsNumeral 10 (without_leading_plus text) → digits_value 10 (without_leading_plus text) < 2 ^ 32 → least ≤ digits_value 10 (without_leading_plus text) → digits_value 10 (without_leading_plus text) ≤ most → ⊥) → least ≡ number_between least most text
+pub number_not_read : (text : Text) (least most : ℕ) → most < 2 ^ 32 →
+    (IsNumeral 10 (without_leading_plus text) → digits_value 10 (without_leading_plus text) < 2 ^ 32 →
+    least ≤ digits_value 10 (without_leading_plus text) → digits_value 10 (without_leading_plus text) ≤ most → ⊥) →
+    least ≡ number_between least most text
 number_not_read text least most small none = by (is_unsigned_in least most text) refl
   where
     by : (b : Bool) → is_unsigned_in least most text ≡ b → least ≡ number_between least most text
-    by true t = let a = accepts-Accepts false (Unsigned least most) text t in absurd (none a.0 (omega (arith, a.3)) a.2 a.3)
+    by true t = let a = accepts-Accepts false (Unsigned least most) text t in absurd
+        (none a.0 (omega (arith, a.3)) a.2 a.3)
     by false t = sym (ap (λ (b : Bool). cond b (digits_value 10 (without_leading_plus text)) least) t)
 
 -- ---- the task and the words
 
 pub reads_file : (words : List (String Global)) (making : Making) (asked : Asked) → IsTask words (Report making asked) →
-    ReadsFile words × (asked.shape ≡ asks_shape words) × (asked.order ≡ asks_order words) × (making.workers ≡ worker_count words)
-unfolding asks_drawn asks_shape asks_order worker_count
-reads_file words making asked k = (k.1, k.2, k.3, k.0.workers)
+    ReadsFile words × (asks_steps words ≡ false) × (asked.shape ≡ asks_shape words) × (asked.order ≡ asks_order words) ×
+    (making.workers ≡ worker_count words)
+unfolding asks_drawn asks_steps asks_shape asks_order worker_count
+reads_file words making asked k = (k.1, k.2, k.3, k.4, k.0.workers)
+
+pub steps_file : (words : List (String Global)) (making : Making) → IsTask words (Step making) → ReadsFile words ×
+    (asks_steps words ≡ true) × (making.workers ≡ worker_count words)
+unfolding asks_drawn asks_steps worker_count
+steps_file words making k = (k.1, k.2, k.0.workers)
 
 pub draws_file : (words : List (String Global)) (making : Making) (drawn : Drawn) → IsTask words (Draw making drawn) →
-    DrawsFile words × (drawn.count ≡ drawn_count words) × (drawn.start ≡ drawn_start words) × (drawn.text ≡ asks_text words) × (making.workers ≡ worker_count words)
+    DrawsFile words × (drawn.count ≡ drawn_count words) × (drawn.start ≡ drawn_start words) ×
+    (drawn.text ≡ asks_text words) × (making.workers ≡ worker_count words)
 unfolding asks_drawn drawn_count drawn_start asks_text worker_count
 draws_file words making drawn k = (k.1, k.2, k.3, k.4, k.0.workers)

@@ -2,35 +2,66 @@
 use Rattle.std.specs.declared.alloc.Global.{Global}
 use Rattle.std.specs.Prelude.{Option, None, Some, IfSome, IfOk, IfErr, IsOk, Result, Ok, Err, String, Vec}
 use Rattle.std.specs.Io.KnownBytes.{Appends, Keeps, IsAtEnd}
-use Rattle.std.proofs.Common.{◌≡◌, ◌≢◌, ◌⊎◌, ◌↔◌, inl, inr, refl, sym, subst, ap, ◌∙◌, ℕ, ◌≤◌, Bool, List, [], false, cond, arith, ◌<◌}
+use Rattle.std.proofs.Common.{◌≡◌, ◌≢◌, ◌⊎◌, ◌↔◌, inl, inr, refl, sym, subst, ap, ◌∙◌, ℕ, ◌≤◌, Bool, List, [], false, true, cond, arith, ◌<◌}
+use Rattle.std.proofs.lemmas.Bool.{cases_Bool}
 use Rattle.list_laws.proofs.Cited.{if_some}
 use Rattle.byte_ends.specs.Ends.{AppendsFront}
 use Rattle.point_order.specs.Solid.{is_solid}
 use Rattle.edit_history.specs.declared.history.Entry.{Entry}
-use Rattle.edit_history.specs.Histories.{IsLegal}
+use Rattle.edit_history.specs.Histories.{IsLegal, replay}
 use Rattle.edit_files.specs.Content.{Content}
 use Rattle.edit_files.specs.Grammar.{line_limit}
 use Rattle.edit_files.specs.Generator.{generated}
 use Rattle.edit_files.proofs.Cited.{no_fault_of, one_file_of}
 use Rattle.delaunay_cli.specs.declared.made.Made.{Made}
 use Rattle.delaunay_cli.specs.declared.stop.Stop.{Stop}
-use Rattle.delaunay_cli.specs.declared.stop.Stop.TheVariants.{Memory, Usage, ReadFault, WriteFault, BadLine, Flat, TooLong, NoPart, NoAlpha, BadMesh}
+use Rattle.delaunay_cli.specs.declared.stop.Stop.TheVariants.{
+  Memory,
+  Usage,
+  ReadFault,
+  WriteFault,
+  BadLine,
+  Flat,
+  TooLong,
+  NoPart,
+  NoAlpha,
+  BadMesh,
+}
 use Rattle.delaunay_cli.specs.declared.task.Asked.{Asked}
 use Rattle.delaunay_cli.specs.declared.task.Drawn.{Drawn}
 use Rattle.delaunay_cli.specs.declared.task.Making.{Making}
-use Rattle.delaunay_cli.specs.declared.task.Task.TheVariants.{Report, Draw}
+use Rattle.delaunay_cli.specs.declared.task.Task.TheVariants.{Report, Step, Draw}
 use Rattle.delaunay_cli.specs.Commands.{Makes, MakesNone, Promise}
 use Rattle.delaunay_cli.specs.Ends.{Ends, IsMade, IsPut, IsUnmade}
 use Rattle.delaunay_cli.specs.Page.{IsSound, text_of_page}
-use Rattle.delaunay_cli.specs.Reported.{IsReported, IsUnreported, IsVerdict}
+use Rattle.delaunay_cli.specs.Files.{FileEnds, HasNoMesh, IsOfFile, IsVerdict}
+use Rattle.delaunay_cli.specs.Reported.{IsReported}
+use Rattle.delaunay_cli.specs.Stepped.{IsStepped, IsSteppedFile}
 use Rattle.delaunay_cli.specs.Run.{Reads}
 use Rattle.delaunay_cli.specs.Statuses.{HasText, IsEarly, IsWhole, IsFaultLine, IsToldLine, plain_line}
 use Rattle.delaunay_cli.specs.Stops.{IsLate, line_of, line_of_end, status_of, status_of_end, status_of_made}
-use Rattle.delaunay_cli.specs.Words.{AreTaken, DrawsFile, Draws, Kind, ReadsFile, Reports, asks_order, asks_shape, kind_of, worker_count}
+use Rattle.delaunay_cli.specs.Words.{
+  AreTaken,
+  DrawsFile,
+  Draws,
+  Kind,
+  ReadsFile,
+  Reports,
+  Steps,
+  WritesReport,
+  WritesSteps,
+  asks_drawn,
+  asks_order,
+  asks_shape,
+  asks_steps,
+  kind_of,
+  worker_count,
+}
 use Rattle.delaunay_cli.specs.Drawn.{IsDrawn}
 use Rattle.delaunay_cli.specs.Tasks.{IsTask}
+use Rattle.delaunay_cli.specs.Report.{text_of}
 use Rattle.delaunay_cli.proofs.DrawnFiles.{drawn_asked}
-use Rattle.delaunay_cli.proofs.CommandLine.{draws_file, reads_file}
+use Rattle.delaunay_cli.proofs.CommandLine.{draws_file, reads_file, steps_file}
 
 -- a status with a text is 0, 4 or above 7
 no_other : (status : ℕ) → HasText status → (k : ℕ) → 0 < k → k ≤ 7 → 4 ≢ k → status ≡ k → ⊥
@@ -51,57 +82,91 @@ early_only : (status : ℕ) → (status ≡ 1) ⊎ (status ≡ 2) → HasText st
 early_only status (inl z) k = no_other status k 1 (omega arith) (omega arith) (λ e. omega (arith, e)) z
 early_only status (inr z) k = no_other status k 2 (omega arith) (omega arith) (λ e. omega (arith, e)) z
 
--- of bytes with a report, none of the statuses 5, 6 and 7 comes
-verdict_reported : (status workers : ℕ) (shape order : Bool) (h : List Entry) (text bytes : List ℕ) → HasText status → IsReported workers shape order h text bytes → IsVerdict status bytes
-verdict_reported status workers shape order h text bytes s r =
+-- of bytes of which a text is made, none of the statuses 5, 6 and 7 comes
+verdict_made : (status workers : ℕ) (h : List Entry) (P : Content → Type 0) (bytes : List ℕ) → HasText status →
+    IsOfFile workers h P bytes → IsVerdict status bytes
+verdict_made status workers h P bytes s r =
     record {
-      too_long = (λ e. absurd (no_other status s 7 (omega arith) (omega arith) (λ k. omega (arith, k)) e), λ l. absurd (let w = r.within in omega (arith, l, w)));
-      bad_line = λ n. (λ e. absurd (no_other status s 5 (omega arith) (omega arith) (λ k. omega (arith, k)) e), λ k. absurd (no_fault_of line_limit bytes r.file k.0 r.is_file k.1));
-      not_solid = λ n file is. (λ e. absurd (no_other status s 6 (omega arith) (omega arith) (λ k. omega (arith, k)) e), λ flat. absurd (let w = ap (λ (f : Content). is_solid f.points) (one_file_of line_limit bytes r.file file r.is_file is) in let t = r.solid in cc));
+      too_long = (
+        λ e. absurd (no_other status s 7 (omega arith) (omega arith) (λ k. omega (arith, k)) e),
+        λ l. absurd (let w = r.within in omega (arith, l, w)),
+      );
+      bad_line = λ n. (
+        λ e. absurd (no_other status s 5 (omega arith) (omega arith) (λ k. omega (arith, k)) e),
+        λ k. absurd (no_fault_of line_limit bytes r.file k.0 r.is_file k.1),
+      );
+      not_solid = λ n file is. (
+        λ e. absurd (no_other status s 6 (omega arith) (omega arith) (λ k. omega (arith, k)) e),
+        λ flat. absurd (let w = ap (λ (f : Content). is_solid f.points)
+            (one_file_of line_limit bytes r.file file r.is_file is) in let t = r.solid in cc),
+      );
     }
 
 -- of bytes without one, each comes with its cause
-verdict_unreported : (left : Option (List ℕ)) (failed : Type 0) (stop : Stop) → IsUnreported left failed stop → (IsEarly (status_of stop) → ⊥) → IfSome left (IsVerdict (status_of stop))
-verdict_unreported None failed stop s late = tt
-verdict_unreported (Some bytes) failed Memory s late = absurd (late (inl refl))
-verdict_unreported (Some bytes) failed Usage s late = absurd s
-verdict_unreported (Some bytes) failed ReadFault s late = absurd (late (inr (inr refl)))
-verdict_unreported (Some bytes) failed WriteFault s late = absurd s
-verdict_unreported (Some bytes) failed NoPart s late = absurd s
-verdict_unreported (Some bytes) failed NoAlpha s late = absurd s
-verdict_unreported (Some bytes) failed BadMesh s late = absurd s
-verdict_unreported (Some bytes) failed (BadLine line) s late =
+verdict_unmade : (left : Option (List ℕ)) (failed : Type 0) (stop : Stop) → HasNoMesh left failed stop →
+    (IsEarly (status_of stop) → ⊥) → IfSome left (IsVerdict (status_of stop))
+verdict_unmade None failed stop s late = tt
+verdict_unmade (Some bytes) failed Memory s late = absurd (late (inl refl))
+verdict_unmade (Some bytes) failed Usage s late = absurd s
+verdict_unmade (Some bytes) failed ReadFault s late = absurd (late (inr (inr refl)))
+verdict_unmade (Some bytes) failed WriteFault s late = absurd s
+verdict_unmade (Some bytes) failed NoPart s late = absurd s
+verdict_unmade (Some bytes) failed NoAlpha s late = absurd s
+verdict_unmade (Some bytes) failed BadMesh s late = absurd s
+verdict_unmade (Some bytes) failed (BadLine line) s late =
     record {
       too_long = (λ e. absurd (omega (arith, e)), λ l. absurd (let w = s.1 in omega (arith, l, w)));
       bad_line = λ n. (λ e. (s.0.fault, s.0.cause), λ k. refl);
-      not_solid = λ n file is. (λ e. absurd (omega (arith, e)), λ flat. absurd (no_fault_of line_limit bytes file s.0.fault is s.0.cause));
+      not_solid = λ n file is. (
+        λ e. absurd (omega (arith, e)),
+        λ flat. absurd
+            (no_fault_of line_limit bytes file s.0.fault is s.0.cause),
+      );
     }
-verdict_unreported (Some bytes) failed Flat s late =
+verdict_unmade (Some bytes) failed Flat s late =
     record {
       too_long = (λ e. absurd (omega (arith, e)), λ l. absurd (let w = s.0 in omega (arith, l, w)));
       bad_line = λ n. (λ e. absurd (omega (arith, e)), λ k. absurd (no_fault_of line_limit bytes s.1.0 k.0 s.1.1 k.1));
-      not_solid = λ n file is. (λ e. subst (λ (f : Content). is_solid f.points ≡ false) (one_file_of line_limit bytes s.1.0 file s.1.1 is) s.1.2, λ flat. refl);
+      not_solid = λ n file is. (
+        λ e. subst (λ (f : Content). is_solid f.points ≡ false)
+            (one_file_of line_limit bytes s.1.0 file s.1.1 is) s.1.2,
+        λ flat. refl,
+      );
     }
-verdict_unreported (Some bytes) failed TooLong s late =
+verdict_unmade (Some bytes) failed TooLong s late =
     record { too_long = (λ e. s, λ l. refl); bad_line = λ n. absurd (n refl); not_solid = λ n. absurd (n refl) }
 
--- where there is no report, the status is one of 1, 3, 5, 6 and 7, and 3 where the source failed
-status_unreported : (left : Option (List ℕ)) (failed : Type 0) (stop : Stop) → IsUnreported left failed stop →
-    (status_of stop ≤ 7) × (status_of stop ≢ 0) × (status_of stop ≢ 2) × (status_of stop ≢ 4) × (status_of stop ≡ 3 → failed)
-status_unreported left failed Usage s = absurd s
-status_unreported left failed WriteFault s = absurd s
-status_unreported left failed NoPart s = absurd s
-status_unreported left failed NoAlpha s = absurd s
-status_unreported left failed BadMesh s = absurd s
-status_unreported left failed ReadFault s = (omega arith, λ e. omega (arith, e), λ e. omega (arith, e), λ e. omega (arith, e), λ e. s)
-status_unreported left failed stop s = (omega arith, λ e. omega (arith, e), λ e. omega (arith, e), λ e. omega (arith, e), λ e. absurd (omega (arith, e)))
+-- where there is no mesh, the status is one of 1, 3, 5, 6 and 7, and 3 where the source failed
+status_unmeshed : (left : Option (List ℕ)) (failed : Type 0) (stop : Stop) → HasNoMesh left failed stop →
+    (status_of stop ≤ 7) × (status_of stop ≢ 0) × (status_of stop ≢ 2) × (status_of stop ≢ 4) ×
+    (status_of stop ≡ 3 → failed)
+status_unmeshed left failed Usage s = absurd s
+status_unmeshed left failed WriteFault s = absurd s
+status_unmeshed left failed NoPart s = absurd s
+status_unmeshed left failed NoAlpha s = absurd s
+status_unmeshed left failed BadMesh s = absurd s
+status_unmeshed left failed ReadFault s = (
+  omega arith,
+  λ e. omega (arith, e),
+  λ e. omega (arith, e),
+  λ e. omega (arith, e),
+  λ e. s,
+)
+status_unmeshed left failed stop s = (
+  omega arith,
+  λ e. omega (arith, e),
+  λ e. omega (arith, e),
+  λ e. omega (arith, e),
+  λ e. absurd (omega (arith, e)),
+)
 
 -- where nothing is told of what was made, the status is 0 or 4
 plain_end : (status late : ℕ) → late ≡ 0 → (status ≡ late) ⊎ (status ≡ 4) → (status ≡ 0) ⊎ (status ≡ 4)
 plain_end status late e s = elim s [ inl z ↦ inl (z ∙ e) | inr z ↦ inr z ]
 
 -- what is told of it has a status of a whole text, and its own line
-late_whole : (after : Option Stop) → IsLate after → IsWhole (status_of_end after) × (status_of_end after ≤ 10) × (line_of_end after ≡ plain_line (status_of_end after))
+late_whole : (after : Option Stop) → IsLate after → IsWhole (status_of_end after) × (status_of_end after ≤ 10) ×
+    (line_of_end after ≡ plain_line (status_of_end after))
 late_whole None l = (inl refl, omega arith, refl)
 late_whole (Some NoPart) l = (inr (omega arith), omega arith, refl)
 late_whole (Some NoAlpha) l = (inr (omega arith), omega arith, refl)
@@ -113,45 +178,86 @@ whole_only : (status k : ℕ) → IsWhole status → 0 < k → k ≤ 7 → statu
 whole_only status k (inl z) a b e = omega (arith, a, z, e)
 whole_only status k (inr l) a b e = omega (arith, b, l, e)
 
--- ---- the promise of each command: of what it made, of why it made nothing, and of an early end
-
-pub promise_made : (kind : Kind) (words : List (String Global)) (left : Option (List ℕ)) (late : ℕ) (h : List Entry) (text : List ℕ) → Makes kind words left late h text → (status : ℕ) → (status ≡ late) ⊎ (status ≡ 4)
-    → Promise kind words left status h text
-promise_made Reports words left late h text m status s =
-    let t = plain_end status late m.0 s in
-    record {
-      statuses = elim t [ inl z ↦ omega (arith, z) | inr z ↦ omega (arith, z) ];
-      verdict = λ early.
-          if_some (IsReported (worker_count words) (asks_shape words) (asks_order words) h text) (IsVerdict status) left
-          (λ bytes. verdict_reported status (worker_count words) (asks_shape words) (asks_order words) h text bytes (has_text status t)) m.1;
-      made = λ k. m.1;
-    }
-promise_made Draws words left late h text m status s = record { statuses = elim (plain_end status late m.0 s) [ inl z ↦ inl (omega (arith, z)) | inr z ↦ inr z ]; made = λ k. m.1 }
-
-promise_unmade : (kind : Kind) (words : List (String Global)) (left : Option (List ℕ)) (failed : Type 0) (stop : Stop) → MakesNone kind left failed stop → Promise kind words left (status_of stop) [] []
-promise_unmade Reports words left failed stop u =
-    let n = status_unreported left failed stop u in
-    record { statuses = n.0; verdict = λ late. verdict_unreported left failed stop u late; made = λ k. absurd (stopped_only (status_of stop) n.0 n.1 n.3 k) }
-promise_unmade Draws words left failed stop u = absurd u
-
-promise_early : (kind : Kind) (words : List (String Global)) (left : Option (List ℕ)) (status : ℕ) → (status ≡ 1) ⊎ (status ≡ 2) → Promise kind words left status [] []
-promise_early Reports words left status s =
+-- what is promised where something was made of a file, where no mesh was, and of an early end
+file_made : (workers : ℕ) (h : List Entry) (P : Content → Type 0) (left : Option (List ℕ)) (status : ℕ) →
+    IfSome left (IsOfFile workers h P) → (status ≡ 0) ⊎ (status ≡ 4) → FileEnds (IsOfFile workers h P) left status
+file_made workers h P left status m s =
     record {
       statuses = elim s [ inl z ↦ omega (arith, z) | inr z ↦ omega (arith, z) ];
-      verdict = λ late. absurd (late (elim s [ inl z ↦ inl z | inr z ↦ inr (inl z) ]));
+      verdict = λ early. if_some (IsOfFile workers h P) (IsVerdict status) left
+          (λ bytes. verdict_made status workers h P bytes (has_text status s)) m;
+      made = λ k. m;
+    }
+
+file_unmade : (P : List ℕ → Type 0) (left : Option (List ℕ)) (failed : Type 0) (stop : Stop) →
+    HasNoMesh left failed stop → FileEnds P left (status_of stop)
+file_unmade P left failed stop u =
+    let n = status_unmeshed left failed stop u in
+    record {
+      statuses = n.0;
+      verdict = λ early. verdict_unmade left failed stop u early;
+      made =
+          λ k. absurd (stopped_only (status_of stop) n.0 n.1 n.3 k);
+    }
+
+file_early : (P : List ℕ → Type 0) (left : Option (List ℕ)) (status : ℕ) → (status ≡ 1) ⊎ (status ≡ 2) →
+    FileEnds P left status
+file_early P left status s =
+    record {
+      statuses = elim s [ inl z ↦ omega (arith, z) | inr z ↦ omega (arith, z) ];
+      verdict = λ early. absurd (early (elim s [ inl z ↦ inl z | inr z ↦ inr (inl z) ]));
       made = λ k. absurd (early_only status s k);
     }
-promise_early Draws words left status s = record { statuses = inl (elim s [ inl z ↦ omega (arith, z) | inr z ↦ omega (arith, z) ]); made = λ k. absurd (early_only status s k) }
+
+-- ---- the promise of each command: of what it made, of why it made nothing, and of an early end
+
+pub promise_made : (kind : Kind) (words : List (String Global)) (left : Option (List ℕ)) (late : ℕ) (h : List Entry)
+    (text : List ℕ) → Makes kind words left late h text → (status : ℕ) → (status ≡ late) ⊎ (status ≡ 4)
+    → Promise kind words left status h text
+promise_made Reports words left late h text m status s =
+    file_made (worker_count words) h (λ file. text ≡ text_of (asks_shape words) (asks_order words) file h) left status
+    m.1 (plain_end status late m.0 s)
+promise_made Steps words left late h text m status s = file_made (worker_count words) h
+    (λ file. IsStepped (replay h) text) left status m.1 (plain_end status late m.0 s)
+promise_made Draws words left late h text m status s = record {
+  statuses =
+      elim (plain_end status late m.0 s) [ inl z ↦ inl (omega (arith, z)) | inr z ↦ inr z ];
+  made = λ k. m.1;
+}
+
+promise_unmade : (kind : Kind) (words : List (String Global)) (left : Option (List ℕ)) (failed : Type 0) (stop : Stop) →
+    MakesNone kind left failed stop → Promise kind words left (status_of stop) [] []
+promise_unmade Reports words left failed stop u = file_unmade (IsReported (worker_count words) (asks_shape words)
+    (asks_order words) [] []) left failed stop u
+promise_unmade Steps words left failed stop u = file_unmade (IsSteppedFile (worker_count words) [] []) left failed stop
+    u
+promise_unmade Draws words left failed stop u = absurd u
+
+promise_early : (kind : Kind) (words : List (String Global)) (left : Option (List ℕ)) (status : ℕ) → (status ≡ 1) ⊎
+    (status ≡ 2) → Promise kind words left status [] []
+promise_early Reports words left status s = file_early (IsReported (worker_count words) (asks_shape words)
+    (asks_order words) [] []) left status s
+promise_early Steps words left status s = file_early (IsSteppedFile (worker_count words) [] []) left status s
+promise_early Draws words left status s = record {
+  statuses = inl (elim s
+      [ inl z ↦ omega (arith, z) | inr z ↦ omega (arith, z) ]);
+  made = λ k. absurd (early_only status s k);
+}
 
 -- what its stops are: one of 1, 3, 5, 6 and 7
-status_unmade : (kind : Kind) (left : Option (List ℕ)) (failed : Type 0) (stop : Stop) → MakesNone kind left failed stop →
-    (status_of stop ≤ 7) × (status_of stop ≢ 0) × (status_of stop ≢ 2) × (status_of stop ≢ 4) × (status_of stop ≡ 3 → failed)
-status_unmade Reports left failed stop u = status_unreported left failed stop u
+status_unmade : (kind : Kind) (left : Option (List ℕ)) (failed : Type 0) (stop : Stop) →
+    MakesNone kind left failed stop →
+    (status_of stop ≤ 7) × (status_of stop ≢ 0) × (status_of stop ≢ 2) × (status_of stop ≢ 4) ×
+    (status_of stop ≡ 3 → failed)
+status_unmade Reports left failed stop u = status_unmeshed left failed stop u
+status_unmade Steps left failed stop u = status_unmeshed left failed stop u
 status_unmade Draws left failed stop u = absurd u
 
 -- where a line is told to be bad, it is that of a fault of the bytes
-fault_told : (kind : Kind) (left : Option (List ℕ)) (failed : Type 0) (line : Vec ℕ Global) → MakesNone kind left failed (BadLine line) → IsFaultLine left line.items
+fault_told : (kind : Kind) (left : Option (List ℕ)) (failed : Type 0) (line : Vec ℕ Global) →
+    MakesNone kind left failed (BadLine line) → IsFaultLine left line.items
 fault_told Reports left failed line u = u.0
+fault_told Steps left failed line u = u.0
 fault_told Draws left failed line u = absurd u
 
 -- ---- the end
@@ -163,18 +269,32 @@ reads_front old new status r =
       taken = r.taken;
       consumed = r.consumed;
       within = r.within;
-      whole = λ late. r.whole (λ e. elim e [ inl a ↦ omega (arith, a) | inr t ↦ elim t [ inl a ↦ omega (arith, a) | inr a ↦ omega (arith, a) ] ]);
+      whole = λ late. r.whole (λ e. elim e [
+        | inl a ↦ omega (arith, a)
+        | inr t ↦ elim t
+            [ inl a ↦ omega (arith, a) | inr a ↦ omega (arith, a) ]
+      ]);
       past = λ e. absurd (elim (r.past e) [ inl a ↦ omega (arith, a) | inr a ↦ omega (arith, a) ]);
     }
 
 -- and so where memory is wanting then
 reads_stopped : (old new : Option (List ℕ)) → Reads old new 0 → Reads old new 1
-reads_stopped old new r = record { taken = r.taken; consumed = r.consumed; within = r.within; whole = λ late. absurd (late (inl refl)); past = λ e. inr refl }
+reads_stopped old new r = record {
+  taken = r.taken;
+  consumed = r.consumed;
+  within = r.within;
+  whole =
+      λ late. absurd (late (inl refl));
+  past = λ e. inr refl;
+}
 
-module _ (words : List (String Global)) (left_old left_new : Option (List ℕ)) (read_failed : Type 0) (held holds : Option (List ℕ)) (write_failed : Type 0) where
+module _ (words : List (String Global)) (left_old left_new : Option (List ℕ)) (read_failed : Type 0)
+    (held holds : Option (List ℕ)) (write_failed : Type 0) where
   -- a run that stopped before a write
-  unmade : (status : ℕ) → (status ≤ 7) × (status ≢ 0) × (status ≢ 4) → (status ≢ 1 → status ≡ 2 ↔ (AreTaken words → ⊥)) → (status ≡ 3 → read_failed)
-      → Promise (kind_of words) words left_old status [] [] → (ReadsFile words → Reads left_old left_new status) → Keeps held holds
+  unmade : (status : ℕ) → (status ≤ 7) × (status ≢ 0) × (status ≢ 4) →
+      (status ≢ 1 → status ≡ 2 ↔ (AreTaken words → ⊥)) → (status ≡ 3 → read_failed)
+      → Promise (kind_of words) words left_old status [] [] → (ReadsFile words → Reads left_old left_new status) →
+      Keeps held holds
       → Ends words left_old left_new read_failed held holds write_failed status []
   unmade status n usage read promise reads keeps =
       record {
@@ -193,24 +313,34 @@ module _ (words : List (String Global)) (left_old left_new : Option (List ℕ)) 
         nothing = λ k. keeps;
       }
 
-  stopped : (stop : Stop) → IsUnmade words left_old read_failed stop → (ReadsFile words → Reads left_old left_new (status_of stop)) → Keeps held holds
+  stopped : (stop : Stop) → IsUnmade words left_old read_failed stop →
+      (ReadsFile words → Reads left_old left_new (status_of stop)) → Keeps held holds
       → Ends words left_old left_new read_failed held holds write_failed (status_of stop) []
   stopped Memory s reads keeps =
-      unmade 1 (omega arith, λ e. omega (arith, e), λ e. omega (arith, e)) (λ n. absurd (n refl)) (λ e. absurd (omega (arith, e))) (promise_early (kind_of words) words left_old 1 (inl refl)) reads keeps
+      unmade 1 (omega arith, λ e. omega (arith, e), λ e. omega (arith, e)) (λ n. absurd (n refl))
+      (λ e. absurd (omega (arith, e))) (promise_early (kind_of words) words left_old 1 (inl refl)) reads keeps
   stopped Usage s reads keeps =
-      unmade 2 (omega arith, λ e. omega (arith, e), λ e. omega (arith, e)) (λ n. (λ e. s, λ k. refl)) (λ e. absurd (omega (arith, e))) (promise_early (kind_of words) words left_old 2 (inr refl)) reads keeps
+      unmade 2 (omega arith, λ e. omega (arith, e), λ e. omega (arith, e)) (λ n. (λ e. s, λ k. refl))
+      (λ e. absurd (omega (arith, e))) (promise_early (kind_of words) words left_old 2 (inr refl)) reads keeps
   stopped stop s reads keeps =
       let n = status_unmade (kind_of words) left_old read_failed stop s.1 in
-      unmade (status_of stop) (n.0, n.1, n.3) (λ k. (λ e. absurd (n.2 e), λ t. absurd (t s.0))) n.4 (promise_unmade (kind_of words) words left_old read_failed stop s.1) reads keeps
+      unmade (status_of stop) (n.0, n.1, n.3) (λ k. (λ e. absurd (n.2 e), λ t. absurd (t s.0))) n.4
+      (promise_unmade (kind_of words) words left_old read_failed stop s.1) reads keeps
 
   -- a run that wrote
-  made : (late : ℕ) (h : List Entry) (text : List ℕ) → IsLegal h → IsMade words left_old late h text → (ReadsFile words → IsAtEnd left_new) → (status : ℕ) → (status ≡ late) ⊎ (status ≡ 4) → HasText status → status ≤ 10
-      → (ReadsFile words → Reads left_old left_new status) → (status ≡ 4 → write_failed) → (IsWhole status → Appends held holds text) → (status ≡ 4 → AppendsFront held holds text)
+  made : (late : ℕ) (h : List Entry) (text : List ℕ) → IsLegal h → IsMade words left_old late h text →
+      (ReadsFile words → IsAtEnd left_new) → (status : ℕ) → (status ≡ late) ⊎ (status ≡ 4) → HasText status →
+      status ≤ 10
+      → (ReadsFile words → Reads left_old left_new status) → (status ≡ 4 → write_failed) →
+      (IsWhole status → Appends held holds text) → (status ≡ 4 → AppendsFront held holds text)
       → Ends words left_old left_new read_failed held holds write_failed status h
   made late h text legal m end status s has small reads failed whole front =
       record {
         statuses = small;
-        usage = λ n. (λ e. absurd (no_other status has 2 (omega arith) (omega arith) (λ k. omega (arith, k)) e), λ k. absurd (k m.0));
+        usage = λ n. (
+          λ e. absurd (no_other status has 2 (omega arith) (omega arith) (λ k. omega (arith, k)) e),
+          λ k. absurd (k m.0),
+        );
         read_fault = λ e. absurd (no_other status has 3 (omega arith) (omega arith) (λ k. omega (arith, k)) e);
         write_fault = failed;
         reads = reads;
@@ -225,99 +355,194 @@ module _ (words : List (String Global)) (left_old left_new : Option (List ℕ)) 
       }
 
   -- the end of a run, of what was made and how the write ended
-  pub ends : (m : Result Made Stop) (stop : Option Stop) (status : ℕ) (h : List Entry) → IfOk m IsSound → IfOk m (λ made. IsMade words left_old (status_of_end made.after) made.kept.items (text_of_page made.page)) → IfErr m (IsUnmade words left_old read_failed)
-      → (ReadsFile words → Reads left_old left_new (status_of_made m)) → (ReadsFile words → IsOk m → IsAtEnd left_new) → status ≡ status_of_end stop
-      → IfOk m (λ made. IsPut write_failed held holds (text_of_page made.page) made.after made.kept.items stop h) → IfErr m (λ s. (stop ≡ Some s) × (h ≡ []) × Keeps held holds)
+  pub ends : (m : Result Made Stop) (stop : Option Stop) (status : ℕ) (h : List Entry) → IfOk m IsSound →
+      IfOk m (λ made. IsMade words left_old (status_of_end made.after) made.kept.items (text_of_page made.page)) →
+      IfErr m (IsUnmade words left_old read_failed)
+      → (ReadsFile words → Reads left_old left_new (status_of_made m)) → (ReadsFile words → IsOk m → IsAtEnd left_new) →
+      status ≡ status_of_end stop
+      → IfOk m (λ made. IsPut write_failed held holds (text_of_page made.page) made.after made.kept.items stop h) →
+      IfErr m (λ s. (stop ≡ Some s) × (h ≡ []) × Keeps held holds)
       → Ends words left_old left_new read_failed held holds write_failed status h
   ends (Err s) stop status h sound m u reads end e put stopped_by =
-      subst (λ (n : ℕ). Ends words left_old left_new read_failed held holds write_failed n h) (sym (e ∙ ap status_of_end stopped_by.0))
-      (subst (λ (k : List Entry). Ends words left_old left_new read_failed held holds write_failed (status_of s) k) (sym stopped_by.1) (stopped s u reads stopped_by.2))
+      subst (λ (n : ℕ). Ends words left_old left_new read_failed held holds write_failed n h)
+      (sym (e ∙ ap status_of_end stopped_by.0))
+      (subst (λ (k : List Entry). Ends words left_old left_new read_failed held holds write_failed (status_of s) k)
+      (sym stopped_by.1) (stopped s u reads stopped_by.2))
   ends (Ok v) stop status h sound m u reads end e put stopped_by = by put
     where
-      kept : h ≡ v.kept.items → Ends words left_old left_new read_failed held holds write_failed status v.kept.items → Ends words left_old left_new read_failed held holds write_failed status h
-      kept k d = subst (λ (l : List Entry). Ends words left_old left_new read_failed held holds write_failed status l) (sym k) d
+      kept : h ≡ v.kept.items → Ends words left_old left_new read_failed held holds write_failed status v.kept.items →
+          Ends words left_old left_new read_failed held holds write_failed status h
+      kept k d = subst (λ (l : List Entry). Ends words left_old left_new read_failed held holds write_failed status l)
+          (sym k) d
 
-      by : IsPut write_failed held holds (text_of_page v.page) v.after v.kept.items stop h → Ends words left_old left_new read_failed held holds write_failed status h
+      by : IsPut write_failed held holds (text_of_page v.page) v.after v.kept.items stop h →
+          Ends words left_old left_new read_failed held holds write_failed status h
       by (inl w) =
           let z = e ∙ ap status_of_end w.0 in
           let l = late_whole v.after sound.late in
           let k = subst IsWhole (sym z) l.0 in
-          kept w.1 (made (status_of_end v.after) v.kept.items (text_of_page v.page) sound.legal m (λ r. end r refl) status (inl z) (inl k) (subst (λ (n : ℕ). n ≤ 10) (sym z) l.1)
-          (λ r. reads_front left_old left_new status (reads r)) (λ f. absurd (whole_only status 4 k (omega arith) (omega arith) f)) (λ f. w.2) (λ f. absurd (whole_only status 4 k (omega arith) (omega arith) f)))
+          kept w.1 (made (status_of_end v.after) v.kept.items (text_of_page v.page) sound.legal m (λ r. end r refl)
+          status (inl z) (inl k) (subst (λ (n : ℕ). n ≤ 10) (sym z) l.1)
+          (λ r. reads_front left_old left_new status (reads r)) (λ f. absurd
+          (whole_only status 4 k (omega arith) (omega arith) f)) (λ f. w.2)
+          (λ f. absurd (whole_only status 4 k (omega arith) (omega arith) f)))
       by (inr (inl w)) =
           let z = e ∙ ap status_of_end w.0 in
-          kept w.1 (made (status_of_end v.after) v.kept.items (text_of_page v.page) sound.legal m (λ r. end r refl) status (inr z) (inr z) (omega (arith, z))
-          (λ r. reads_front left_old left_new status (reads r)) (λ f. w.2) (λ f. absurd (whole_only status 4 f (omega arith) (omega arith) z)) (λ f. w.3))
+          kept w.1 (made (status_of_end v.after) v.kept.items (text_of_page v.page) sound.legal m (λ r. end r refl)
+          status (inr z) (inr z) (omega (arith, z))
+          (λ r. reads_front left_old left_new status (reads r)) (λ f. w.2)
+          (λ f. absurd (whole_only status 4 f (omega arith) (omega arith) z)) (λ f. w.3))
       by (inr (inr w)) =
-          subst (λ (n : ℕ). Ends words left_old left_new read_failed held holds write_failed n h) (sym (e ∙ ap status_of_end w.0))
-          (subst (λ (l : List Entry). Ends words left_old left_new read_failed held holds write_failed 1 l) (sym w.1) (stopped Memory tt (λ r. reads_stopped left_old left_new (reads r)) w.2))
+          subst (λ (n : ℕ). Ends words left_old left_new read_failed held holds write_failed n h)
+          (sym (e ∙ ap status_of_end w.0))
+          (subst (λ (l : List Entry). Ends words left_old left_new read_failed held holds write_failed 1 l) (sym w.1)
+          (stopped Memory tt (λ r. reads_stopped left_old left_new (reads r)) w.2))
 
   -- and its line
-  pub told : (m : Result Made Stop) (stop : Option Stop) (status : ℕ) (h : List Entry) → IfOk m IsSound → IfErr m (IsUnmade words left_old read_failed) → status ≡ status_of_end stop
-      → IfOk m (λ made. IsPut write_failed held holds (text_of_page made.page) made.after made.kept.items stop h) → IfErr m (λ s. (stop ≡ Some s) × (h ≡ []) × Keeps held holds) → IsToldLine left_old status (line_of_end stop)
+  pub told : (m : Result Made Stop) (stop : Option Stop) (status : ℕ) (h : List Entry) → IfOk m IsSound →
+      IfErr m (IsUnmade words left_old read_failed) → status ≡ status_of_end stop
+      → IfOk m (λ made. IsPut write_failed held holds (text_of_page made.page) made.after made.kept.items stop h) →
+      IfErr m (λ s. (stop ≡ Some s) × (h ≡ []) × Keeps held holds) → IsToldLine left_old status (line_of_end stop)
   told (Err s) stop status h sound u e put stopped_by =
-      subst (λ (n : ℕ). IsToldLine left_old n (line_of_end stop)) (sym e) (subst (λ (o : Option Stop). IsToldLine left_old (status_of_end o) (line_of_end o)) (sym stopped_by.0) (by s u))
+      subst (λ (n : ℕ). IsToldLine left_old n (line_of_end stop)) (sym e)
+      (subst (λ (o : Option Stop). IsToldLine left_old (status_of_end o) (line_of_end o)) (sym stopped_by.0)
+      (by s u))
     where
       by : (s : Stop) → IsUnmade words left_old read_failed s → IsToldLine left_old (status_of s) (line_of s)
-      by (BadLine line) u = record { plain = λ n. absurd (n refl); bad = λ k. fault_told (kind_of words) left_old read_failed line u.1 }
+      by (BadLine line) u = record {
+        plain = λ n. absurd (n refl);
+        bad =
+            λ k. fault_told (kind_of words) left_old read_failed line u.1;
+      }
       by s u = record { plain = λ n. refl; bad = λ k. absurd (omega (arith, k)) }
-  told (Ok v) stop status h sound u e put stopped_by = subst (λ (n : ℕ). IsToldLine left_old n (line_of_end stop)) (sym e) (by put)
+  told (Ok v) stop status h sound u e put stopped_by = subst (λ (n : ℕ). IsToldLine left_old n (line_of_end stop))
+      (sym e) (by put)
     where
-      at : (o : Option Stop) → stop ≡ o → line_of_end o ≡ plain_line (status_of_end o) → status_of_end o ≢ 5 → IsToldLine left_old (status_of_end stop) (line_of_end stop)
-      at o z l n = subst (λ (p : Option Stop). IsToldLine left_old (status_of_end p) (line_of_end p)) (sym z) (record { plain = λ k. l; bad = λ k. absurd (n k) })
+      at : (o : Option Stop) → stop ≡ o → line_of_end o ≡ plain_line (status_of_end o) → status_of_end o ≢ 5 →
+          IsToldLine left_old (status_of_end stop) (line_of_end stop)
+      at o z l n = subst (λ (p : Option Stop). IsToldLine left_old (status_of_end p) (line_of_end p)) (sym z)
+          (record { plain = λ k. l; bad = λ k. absurd (n k) })
 
-      by : IsPut write_failed held holds (text_of_page v.page) v.after v.kept.items stop h → IsToldLine left_old (status_of_end stop) (line_of_end stop)
-      by (inl w) = let l = late_whole v.after sound.late in at v.after w.0 l.2 (λ k. whole_only (status_of_end v.after) 5 l.0 (omega arith) (omega arith) k)
+      by : IsPut write_failed held holds (text_of_page v.page) v.after v.kept.items stop h →
+          IsToldLine left_old (status_of_end stop) (line_of_end stop)
+      by (inl w) = let l = late_whole v.after sound.late in at v.after w.0 l.2
+          (λ k. whole_only (status_of_end v.after) 5 l.0 (omega arith) (omega arith) k)
       by (inr (inl w)) = at (Some WriteFault) w.0 refl (λ k. omega (arith, k))
       by (inr (inr w)) = at (Some Memory) w.0 refl (λ k. omega (arith, k))
 
   -- a status of 2 is one of what was made
-  pub unread : (m : Result Made Stop) (stop : Option Stop) (status : ℕ) (h : List Entry) → IfOk m IsSound → status ≡ status_of_end stop
-      → IfOk m (λ made. IsPut write_failed held holds (text_of_page made.page) made.after made.kept.items stop h) → IfErr m (λ s. (stop ≡ Some s) × (h ≡ []) × Keeps held holds) → status ≡ 2 → status_of_made m ≡ 2
+  pub unread : (m : Result Made Stop) (stop : Option Stop) (status : ℕ) (h : List Entry) → IfOk m IsSound →
+      status ≡ status_of_end stop
+      → IfOk m (λ made. IsPut write_failed held holds (text_of_page made.page) made.after made.kept.items stop h) →
+      IfErr m (λ s. (stop ≡ Some s) × (h ≡ []) × Keeps held holds) → status ≡ 2 → status_of_made m ≡ 2
   unread (Err s) stop status h sound e put stopped_by k = sym (ap status_of_end stopped_by.0) ∙ sym e ∙ k
   unread (Ok v) stop status h sound e put stopped_by k = absurd (by put)
     where
       by : IsPut write_failed held holds (text_of_page v.page) v.after v.kept.items stop h → ⊥
-      by (inl w) = whole_only (status_of_end v.after) 2 (late_whole v.after sound.late).0 (omega arith) (omega arith) (sym (e ∙ ap status_of_end w.0) ∙ k)
+      by (inl w) = whole_only (status_of_end v.after) 2 (late_whole v.after sound.late).0 (omega arith) (omega arith)
+          (sym (e ∙ ap status_of_end w.0) ∙ k)
       by (inr (inl w)) = let z = e ∙ ap status_of_end w.0 in omega (arith, z, k)
       by (inr (inr w)) = let z = e ∙ ap status_of_end w.0 in omega (arith, z, k)
 
 -- ---- what a command makes is what the words ask for
 
-pub reports : (words : List (String Global)) → ReadsFile words → kind_of words ≡ Reports
-reports words r = ap (λ (b : Bool). cond b Draws Reports) r
-
+-- the kind of words that draw, and of words that read
 pub draws : (words : List (String Global)) → DrawsFile words → kind_of words ≡ Draws
-draws words d = ap (λ (b : Bool). cond b Draws Reports) d
+draws words d = ap (λ (b : Bool). cond b Draws (cond (asks_steps words) Steps Reports)) d
 
-module _ (words : List (String Global)) (left : Option (List ℕ)) (failed : Type 0) (making : Making) (taken : AreTaken words) where
+pub read_kind : (words : List (String Global)) (b : Bool) → ReadsFile words → asks_steps words ≡ b →
+    kind_of words ≡ cond b Steps Reports
+read_kind words b r t = ap (λ (d : Bool). cond d Draws (cond (asks_steps words) Steps Reports)) r ∙ ap
+    (λ (d : Bool). cond d Steps Reports) t
+
+pub kind_read : (words : List (String Global)) → ReadsFile words → WritesReport words ⊎ WritesSteps words
+kind_read words r =
+    elim (cases_Bool (asks_steps words)) [
+      | inl t ↦ inr (read_kind words true r t)
+      | inr t ↦ inl (read_kind words false r t)
+    ]
+
+-- a file is read for a report, and for the least alphas
+pub reading : (words : List (String Global)) → WritesReport words ⊎ WritesSteps words → ReadsFile words
+reading words k = elim (cases_Bool (asks_drawn words)) [ inl d ↦ absurd (drawn (draws words d) k) | inr r ↦ r ]
+  where
+    drawn : kind_of words ≡ Draws → WritesReport words ⊎ WritesSteps words → ⊥
+    drawn e (inl w) = let z : Draws ≡ Reports = sym e ∙ w in cc
+    drawn e (inr w) = let z : Draws ≡ Steps = sym e ∙ w in cc
+
+module _ (words : List (String Global)) (left : Option (List ℕ)) (failed : Type 0) (making : Making)
+    (taken : AreTaken words) where
   -- `mesh` and `shape`
   pub reported_made : (asked : Asked) → IsTask words (Report making asked) → (m : Result Made Stop)
-      → IfOk m (λ made. IfSome left (IsReported making.workers asked.shape asked.order made.kept.items (text_of_page made.page))) → IfOk m (λ made. made.after ≡ None) → IfOk m (λ made. IsMade words left (status_of_end made.after) made.kept.items (text_of_page made.page))
+      → IfOk m (λ made. IfSome left (IsReported making.workers asked.shape asked.order made.kept.items
+      (text_of_page made.page))) → IfOk m (λ made. made.after ≡ None) →
+      IfOk m (λ made. IsMade words left (status_of_end made.after) made.kept.items (text_of_page made.page))
   reported_made asked t (Err stop) r n = tt
   reported_made asked t (Ok made) r n =
       let k = reads_file words making asked t in
       let h = made.kept.items in
       let text = text_of_page made.page in (
         taken,
-        subst (λ (kind : Kind). Makes kind words left (status_of_end made.after) h text) (sym (reports words k.0)) (
-          ap status_of_end n,
-          subst (λ (n : ℕ). IfSome left (IsReported n (asks_shape words) (asks_order words) h text)) k.3
-              (subst (λ (b : Bool). IfSome left (IsReported making.workers (asks_shape words) b h text)) k.2
-              (subst (λ (b : Bool). IfSome left (IsReported making.workers b asked.order h text)) k.1 r)),
-        ),
+        subst (λ (kind : Kind). Makes kind words left (status_of_end made.after) h text)
+            (sym (read_kind words false k.0 k.1)) (
+              ap status_of_end n,
+              subst (λ (n : ℕ). IfSome left (IsReported n (asks_shape words) (asks_order words) h text)) k.4
+                  (subst (λ (b : Bool). IfSome left (IsReported making.workers (asks_shape words) b h text)) k.3
+                  (subst (λ (b : Bool). IfSome left (IsReported making.workers b asked.order h text)) k.2 r)),
+            ),
       )
 
-  pub reported_unmade : (asked : Asked) → IsTask words (Report making asked) → (m : Result Made Stop) → IfErr m (IsUnreported left failed) → IfErr m (IsUnmade words left failed)
-  reported_unmade asked t (Ok made) u = tt
-  reported_unmade asked t (Err Memory) u = tt
-  reported_unmade asked t (Err Usage) u = absurd u
-  reported_unmade asked t (Err stop) u = (taken, subst (λ (kind : Kind). MakesNone kind left failed stop) (sym (reports words (reads_file words making asked t).0)) u)
+  -- and where no mesh is made
+  unmade_as : {A : Type 0} (kind : Kind) → kind_of words ≡ kind → (MakesNone kind left failed ≡ HasNoMesh left failed) →
+      (m : Result A Stop) → IfErr m (HasNoMesh left failed) → IfErr m (IsUnmade words left failed)
+  unmade_as kind k same (Ok made) u = tt
+  unmade_as kind k same (Err Memory) u = tt
+  unmade_as kind k same (Err Usage) u = absurd u
+  unmade_as kind k same (Err stop) u = (
+    taken,
+    subst (λ (kind : Kind). MakesNone kind left failed stop) (sym k)
+        (subst (λ (P : Stop → Type 0). P stop) (sym same) u),
+  )
+
+  pub reported_unmade : {A : Type 0} (asked : Asked) → IsTask words (Report making asked) → (m : Result A Stop) →
+      IfErr m (HasNoMesh left failed) → IfErr m (IsUnmade words left failed)
+  reported_unmade asked t m u = let k = reads_file words making asked t in unmade_as Reports
+      (read_kind words false k.0 k.1) refl m u
+
+  -- `steps`
+  pub stepped_made : IsTask words (Step making) → (m : Result Made Stop)
+      → IfOk m (λ made. IfSome left (IsSteppedFile making.workers made.kept.items (text_of_page made.page))) →
+      IfOk m (λ made. made.after ≡ None) → IfOk m (λ made. IsMade words left (status_of_end made.after)
+      made.kept.items (text_of_page made.page))
+  stepped_made t (Err stop) r n = tt
+  stepped_made t (Ok made) r n =
+      let k = steps_file words making t in
+      let h = made.kept.items in
+      let text = text_of_page made.page in (
+        taken,
+        subst (λ (kind : Kind). Makes kind words left (status_of_end made.after) h text)
+            (sym (read_kind words true k.0 k.1)) (
+              ap status_of_end n,
+              subst (λ (n : ℕ). IfSome left (IsSteppedFile n h text)) k.2 r,
+            ),
+      )
+
+  pub stepped_unmade : {A : Type 0} → IsTask words (Step making) → (m : Result A Stop) →
+      IfErr m (HasNoMesh left failed) → IfErr m (IsUnmade words left failed)
+  stepped_unmade t m u = let k = steps_file words making t in unmade_as Steps (read_kind words true k.0 k.1) refl m u
 
   -- `gen`
   pub drawn_made : (drawn : Drawn) → IsTask words (Draw making drawn) → (m : Result Made Stop)
-      → IfOk m (λ made. IsDrawn drawn.text making.workers (generated drawn.count drawn.start) made.kept.items (text_of_page made.page)) → IfOk m (λ made. made.after ≡ None) → IfOk m (λ made. IsMade words left (status_of_end made.after) made.kept.items (text_of_page made.page))
+      → IfOk m (λ made. IsDrawn drawn.text making.workers (generated drawn.count drawn.start) made.kept.items
+      (text_of_page made.page)) → IfOk m (λ made. made.after ≡ None) →
+      IfOk m (λ made. IsMade words left (status_of_end made.after) made.kept.items (text_of_page made.page))
   drawn_made drawn t (Err stop) d n = tt
   drawn_made drawn t (Ok made) d n =
-      let k = draws_file words making drawn t in
-      (taken, subst (λ (kind : Kind). Makes kind words left (status_of_end made.after) made.kept.items (text_of_page made.page)) (sym (draws words k.0)) (ap status_of_end n, drawn_asked making drawn words made.kept.items (text_of_page made.page) k d))
+      let k = draws_file words making drawn t in (
+        taken,
+        subst (λ (kind : Kind). Makes kind words left (status_of_end made.after) made.kept.items
+            (text_of_page made.page)) (sym (draws words k.0)) (
+              ap status_of_end n,
+              drawn_asked making drawn words made.kept.items (text_of_page made.page) k d,
+            ),
+      )

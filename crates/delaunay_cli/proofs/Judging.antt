@@ -1,5 +1,24 @@
 -- What the judging of a file says of its bytes.
-use Rattle.std.proofs.Common.{◌≡◌, refl, subst, ap, ◌∙◌, ℕ, ◌+◌, ◌<◌, ◌≤◌, ◌^◌, List, [], ◌∷◌, ◌++◌, length, arith, inl, inr}
+use Rattle.std.proofs.Common.{
+  ◌≡◌,
+  refl,
+  subst,
+  ap,
+  ◌∙◌,
+  ℕ,
+  ◌+◌,
+  ◌<◌,
+  ◌≤◌,
+  ◌^◌,
+  List,
+  [],
+  ◌∷◌,
+  ◌++◌,
+  length,
+  arith,
+  inl,
+  inr,
+}
 use Rattle.std.specs.Prelude.{false, Option, None, Some, IfSome, IfErr, Result, Ok, Err, All}
 use Rattle.std.specs.List.{AllZip}
 use Rattle.list_laws.proofs.Cited.{length_zip}
@@ -10,10 +29,9 @@ use Rattle.edit_files.specs.Content.{Content}
 use Rattle.edit_files.specs.Grammar.{line_limit, IsFile}
 use Rattle.edit_files.specs.Forms.{IsPointLine, IsEditLine, IsRadiusLine}
 use Rattle.edit_files.specs.Faults.{IsFault}
-use Rattle.delaunay_cli.specs.declared.made.Made.{Made}
 use Rattle.delaunay_cli.specs.declared.stop.Stop.{Stop}
 use Rattle.delaunay_cli.specs.declared.stop.Stop.TheVariants.{Memory, BadLine, Flat, TooLong}
-use Rattle.delaunay_cli.specs.Reported.{IsFlatFile, IsUnreported}
+use Rattle.delaunay_cli.specs.Files.{HasNoMesh, IsFlatFile}
 use Rattle.delaunay_cli.specs.Run.{Reads, input_limit}
 use Rattle.std.proofs.lemmas.List.Elements.{All-cons}
 use Rattle.std.proofs.lemmas.List.{length-append}
@@ -21,22 +39,31 @@ use Rattle.std.specs.Io.KnownBytes.{IsAtEnd}
 use Rattle.byte_ends.specs.Ends.{TakesInto}
 
 -- a file has at most as many points and edits as lines are allowed
-pub file_small : (limit : ℕ) (bytes : List ℕ) (f : Content) → IsFile limit bytes f → length f.points + length f.edits ≤ limit
+pub file_small : (limit : ℕ) (bytes : List ℕ) (f : Content) → IsFile limit bytes f →
+    length f.points + length f.edits ≤ limit
 file_small limit bytes f h =
-    omega (arith, length_zip IsPointLine h.points f.points h.point_lines, length_zip IsEditLine h.edits f.edits h.edit_lines, h.line_count)
+    omega (
+      arith,
+      length_zip IsPointLine h.points f.points h.point_lines,
+      length_zip IsEditLine h.edits f.edits h.edit_lines,
+      h.line_count,
+    )
 
 -- the radii of a file are below 2^30
-pub radii_small : (limit : ℕ) (bytes : List ℕ) (f : Content) → IsFile limit bytes f → All (λ radius. radius < 2 ^ 30) f.radii
+pub radii_small : (limit : ℕ) (bytes : List ℕ) (f : Content) → IsFile limit bytes f →
+    All (λ radius. radius < 2 ^ 30) f.radii
 radii_small limit bytes f h = of_lines h.radii f.radii h.radius_lines
   where
-    of_lines : (lines : List (List ℕ)) (radii : List ℕ) → AllZip IsRadiusLine lines radii → All (λ radius. radius < 2 ^ 30) radii
+    of_lines : (lines : List (List ℕ)) (radii : List ℕ) → AllZip IsRadiusLine lines radii →
+        All (λ radius. radius < 2 ^ 30) radii
     of_lines [] [] z = λ k d l. absurd (omega arith)
     of_lines [] (r ∷ radii) z = absurd z
     of_lines (l ∷ lines) [] z = absurd z
     of_lines (l ∷ lines) (r ∷ radii) z = All-cons (λ radius. radius < 2 ^ 30) r radii z.0.1 (of_lines lines radii z.1)
 
 -- the edits of a file move no point
-pub edits_still : (limit : ℕ) (bytes : List ℕ) (f : Content) → IsFile limit bytes f → All (λ e. is_move e ≡ false) f.edits
+pub edits_still : (limit : ℕ) (bytes : List ℕ) (f : Content) → IsFile limit bytes f →
+    All (λ e. is_move e ≡ false) f.edits
 edits_still limit bytes f h = of_lines h.edits f.edits h.edit_lines
   where
     one : (line : List ℕ) (e : Edit) → IsEditLine line e → is_move e ≡ false
@@ -44,50 +71,74 @@ edits_still limit bytes f h = of_lines h.edits f.edits h.edit_lines
     one line (Take p) s = refl
     one line (Move a b) s = absurd s
 
-    of_lines : (lines : List (List ℕ)) (edits : List Edit) → AllZip IsEditLine lines edits → All (λ e. is_move e ≡ false) edits
+    of_lines : (lines : List (List ℕ)) (edits : List Edit) → AllZip IsEditLine lines edits →
+        All (λ e. is_move e ≡ false) edits
     of_lines [] [] z = λ k d l. absurd (omega arith)
     of_lines [] (e ∷ edits) z = absurd z
     of_lines (l ∷ lines) [] z = absurd z
-    of_lines (l ∷ lines) (e ∷ edits) z = All-cons (λ e. is_move e ≡ false) e edits (one l e z.0) (of_lines lines edits z.1)
+    of_lines (l ∷ lines) (e ∷ edits) z = All-cons (λ e. is_move e ≡ false) e edits (one l e z.0)
+        (of_lines lines edits z.1)
 
 -- what holds of the bytes that were read to the end holds of those that the source told
-pub if_told : (P : List ℕ → Type 0) (left : Option (List ℕ)) (old bytes now : List ℕ) → old ≡ [] → now ≡ bytes → IfSome left (λ told. bytes ≡ old ++ told) → P now → IfSome left P
+pub if_told : (P : List ℕ → Type 0) (left : Option (List ℕ)) (old bytes now : List ℕ) → old ≡ [] → now ≡ bytes →
+    IfSome left (λ told. bytes ≡ old ++ told) → P now → IfSome left P
 if_told P None old bytes now e f h p = tt
 if_told P (Some told) old bytes now e f h p = subst P (f ∙ h ∙ ap (λ (v : List ℕ). v ++ told) e) p
 
--- why there is no report of these bytes tells why there is none of what the source told
-pub unreported_told : (left : Option (List ℕ)) (failed : Type 0) (old bytes now : List ℕ) → old ≡ [] → now ≡ bytes → IfSome left (λ told. bytes ≡ old ++ told) → (m : Result Made Stop) → IfErr m (IsUnreported (Some now) ⊥) → IfErr m (IsUnreported left failed)
-unreported_told left failed old bytes now e f h (Ok made) u = tt
-unreported_told left failed old bytes now e f h (Err Memory) u = tt
-unreported_told left failed old bytes now e f h (Err (BadLine line)) u = (
-  record { fault = u.0.fault; line_is = u.0.line_is; cause = if_told (λ (b : List ℕ). IsFault line_limit b u.0.fault) left old bytes now e f h u.0.cause },
+-- why there is no mesh of these bytes tells why there is none of what the source told
+pub unmeshed_told : {A : Type 0} (left : Option (List ℕ)) (failed : Type 0) (old bytes now : List ℕ) → old ≡ [] →
+    now ≡ bytes → IfSome left (λ told. bytes ≡ old ++ told) → (m : Result A Stop) → IfErr m (HasNoMesh (Some now) ⊥) →
+    IfErr m (HasNoMesh left failed)
+unmeshed_told left failed old bytes now e f h (Ok made) u = tt
+unmeshed_told left failed old bytes now e f h (Err Memory) u = tt
+unmeshed_told left failed old bytes now e f h (Err (BadLine line)) u = (
+  record {
+    fault = u.0.fault;
+    line_is = u.0.line_is;
+    cause = if_told (λ (b : List ℕ). IsFault line_limit b u.0.fault)
+        left old bytes now e f h u.0.cause;
+  },
   if_told (λ (b : List ℕ). length b ≤ input_limit) left old bytes now e f h u.1,
 )
-unreported_told left failed old bytes now e f h (Err Flat) u = if_told IsFlatFile left old bytes now e f h u
-unreported_told left failed old bytes now e f h (Err TooLong) u = if_told (λ (b : List ℕ). input_limit < length b) left old bytes now e f h u
-unreported_told left failed old bytes now e f h (Err stop) u = absurd u
+unmeshed_told left failed old bytes now e f h (Err Flat) u = if_told IsFlatFile left old bytes now e f h u
+unmeshed_told left failed old bytes now e f h (Err TooLong) u = if_told (λ (b : List ℕ). input_limit < length b) left
+    old bytes now e f h u
+unmeshed_told left failed old bytes now e f h (Err stop) u = absurd u
 
 -- ---- how much was taken of the source
 
 -- a list that grew by the limit, and one more, took so many bytes
-took : {a b : Option (List ℕ)} {old new : List ℕ} {limit : ℕ} (t : TakesInto a b old new limit) → length new ≡ length old + limit → length t.taken ≡ limit
+took : {a b : Option (List ℕ)} {old new : List ℕ} {limit : ℕ} (t : TakesInto a b old new limit) →
+    length new ≡ length old + limit → length t.taken ≡ limit
 took {old = old} t l = omega (arith, l, ap length t.kept, length-append old t.taken)
 
 -- then the source had more than the limit left
-pub past_limit : (a b : Option (List ℕ)) (old new : List ℕ) → TakesInto a b old new (input_limit + 1) → length new ≡ length old + (input_limit + 1) → IfSome a (λ bytes. input_limit < length bytes)
+pub past_limit : (a b : Option (List ℕ)) (old new : List ℕ) → TakesInto a b old new (input_limit + 1) →
+    length new ≡ length old + (input_limit + 1) → IfSome a (λ bytes. input_limit < length bytes)
 past_limit None b old new t l = tt
 past_limit (Some xs) None old new t l = absurd t.consumed
-past_limit (Some xs) (Some ys) old new t l = over (length t.taken) (length ys) (length xs) (took t l) (ap length t.consumed ∙ length-append t.taken ys)
+past_limit (Some xs) (Some ys) old new t l = over (length t.taken) (length ys) (length xs) (took t l)
+    (ap length t.consumed ∙ length-append t.taken ys)
   where
     over : (n m k : ℕ) → n ≡ input_limit + 1 → k ≡ n + m → input_limit < k
     over n m k e h = omega (arith, e, h)
 
 -- and the input is too long
-pub reads_past : {a b : Option (List ℕ)} {old new : List ℕ} → TakesInto a b old new (input_limit + 1) → length new ≡ length old + (input_limit + 1) → Reads a b 7
-reads_past t l = record { taken = t.taken; consumed = t.consumed; within = t.within; whole = λ n. inr (took t l); past = λ k. inl refl }
+pub reads_past : {a b : Option (List ℕ)} {old new : List ℕ} → TakesInto a b old new (input_limit + 1) →
+    length new ≡ length old + (input_limit + 1) → Reads a b 7
+reads_past t l = record {
+  taken = t.taken;
+  consumed = t.consumed;
+  within = t.within;
+  whole = λ n. inr (took t l);
+  past =
+      λ k. inl refl;
+}
 
 -- a list that grew by less took all that the source told
-pub reads_all : {a b : Option (List ℕ)} {new : List ℕ} (old : List ℕ) (status : ℕ) → TakesInto a b old new (input_limit + 1) → IsAtEnd b → (length new ≡ length old + (input_limit + 1) → ⊥) → Reads a b status
+pub reads_all : {a b : Option (List ℕ)} {new : List ℕ} (old : List ℕ) (status : ℕ) →
+    TakesInto a b old new (input_limit + 1) → IsAtEnd b → (length new ≡ length old + (input_limit + 1) → ⊥) →
+    Reads a b status
 reads_all old status t e n = record {
   taken = t.taken;
   consumed = t.consumed;

@@ -1,10 +1,41 @@
 -- Words with numbers: what `clap` makes of their decimal texts.
-use Rattle.std.proofs.Common.{◌≡◌, refl, sym, ap, ap₂, subst, ◌∙◌, ℕ, ◌<◌, ◌≤◌, ◌^◌, ◌==◌, arith, List, [], ◌∷◌, ◌++◌, Bool, true, false, cond, codes, drop, ne_eqb}
+use Rattle.std.proofs.Common.{
+  ◌≡◌,
+  refl,
+  sym,
+  ap,
+  ap₂,
+  subst,
+  ◌∙◌,
+  ℕ,
+  ◌<◌,
+  ◌≤◌,
+  ◌^◌,
+  ◌==◌,
+  arith,
+  List,
+  [],
+  ◌∷◌,
+  ◌++◌,
+  Bool,
+  true,
+  false,
+  cond,
+  codes,
+  drop,
+  ne_eqb,
+}
 use Rattle.std.specs.Prelude.{ℤ, pos, neg_ℤ, ◌≤ℤ◌, FitsSigned, decimal, String}
 use Rattle.std.specs.declared.alloc.Global.{Global}
 use Rattle.std.specs.Int.{w64}
 use Rattle.std.specs.Char.{digit_value}
-use Rattle.std.specs.Str.Parse.{IsNumeral, digits_value, signed_digits_value, without_leading_plus, without_leading_sign}
+use Rattle.std.specs.Str.Parse.{
+  IsNumeral,
+  digits_value,
+  signed_digits_value,
+  without_leading_plus,
+  without_leading_sign,
+}
 use Rattle.std.proofs.lemmas.Bool.{le-leb}
 use Rattle.std.proofs.lemmas.Fmt.{decimal_is_IsNumeral}
 use lib.Dec.{T}
@@ -19,7 +50,32 @@ use Rattle.clap.specs.declared.builder.value_parser.ValueParser.TheVariants.{Sig
 use Rattle.std.proofs.lemmas.Bool.Decides.{nat_tests}
 use Rattle.edit_files.proofs.Cited.{no_minus}
 use Rattle.cell_store.specs.Grids.{is_grid_size}
-use Rattle.delaunay_cli.specs.Words.{AreGen, AreGenText, AreMeshing, AreTaken, DrawsFile, ReadsFile, asks_drawn, asks_shape, asks_text, drawn_count, drawn_start, grid_size, has_flag, is_command, most_count, most_grid, most_start, most_workers, number_between, number_of, program, texts_of, worker_count}
+use Rattle.delaunay_cli.specs.Words.{
+  AreGen,
+  AreGenText,
+  AreMeshing,
+  AreTaken,
+  DrawsFile,
+  ReadsFile,
+  asks_drawn,
+  asks_shape,
+  asks_steps,
+  asks_text,
+  drawn_count,
+  drawn_start,
+  grid_size,
+  has_flag,
+  is_command,
+  most_count,
+  most_grid,
+  most_start,
+  most_workers,
+  number_between,
+  number_of,
+  program,
+  texts_of,
+  worker_count,
+}
 
 -- ---- the decimal text of a number
 
@@ -36,7 +92,8 @@ no_sign ds h = ap (λ (b : Bool). cond b (drop 1 ds) (without_leading_plus ds)) 
 
 signed : (ds : List ℕ) → IsNumeral 10 ds → signed_digits_value 10 ds ≡ pos (digits_value 10 ds)
 signed ds h =
-    ap (λ (b : Bool). cond b (neg_ℤ (pos (digits_value 10 (without_leading_sign ds)))) (pos (digits_value 10 (without_leading_sign ds)))) (no_minus ds h)
+    ap (λ (b : Bool). cond b (neg_ℤ (pos (digits_value 10 (without_leading_sign ds))))
+    (pos (digits_value 10 (without_leading_sign ds)))) (no_minus ds h)
     ∙ ap (λ (l : List ℕ). pos (digits_value 10 l)) (no_sign ds h)
 
 in_order : (a b : ℕ) → a ≤ b → pos a ≤ℤ pos b
@@ -60,15 +117,22 @@ module _ (least most n : ℕ) (above : least ≤ n) (below : n ≤ most) (small 
   -- and it names that number
   pub decimal_named : number_between least most (decimal n) ≡ n
   decimal_named =
-      let e : digits_value 10 (without_leading_plus (decimal n)) ≡ n = ap (digits_value 10) (no_plus (decimal n) numeral.0) ∙ numeral.1 in
-      let t : is_unsigned_in least most (decimal n) ≡ true = Accepts-accepts false (Unsigned least most) (decimal n) (subst (IsNumeral 10) (sym (no_plus (decimal n) numeral.0)) numeral.0, omega (arith, e, below, small), omega (arith, e, above), omega (arith, e, below)) in
+      let e : digits_value 10 (without_leading_plus (decimal n)) ≡ n =
+      ap (digits_value 10) (no_plus (decimal n) numeral.0) ∙ numeral.1 in
+      let t : is_unsigned_in least most (decimal n) ≡ true = Accepts-accepts false (Unsigned least most) (decimal n) (
+        subst (IsNumeral 10) (sym (no_plus (decimal n) numeral.0)) numeral.0,
+        omega (arith, e, below, small),
+        omega (arith, e, above),
+        omega (arith, e, below),
+      ) in
       ap (λ (b : Bool). cond b (digits_value 10 (without_leading_plus (decimal n))) least) t ∙ e
 
 -- ---- two options with texts
 
 -- the faults of a word with a text that an option takes or not
 word_faults : ℕ → ℕ → Bool → Kinds
-word_faults least most taken = or_else (or_else (cond taken [] (refused_kind (Signed (pos least) (pos most)) ∷ [])) []) []
+word_faults least most taken = or_else (or_else (cond taken [] (refused_kind (Signed (pos least) (pos most)) ∷ [])) [])
+    []
 
 -- those of two such words, one after another
 both_faults : Kinds → Kinds → Kinds
@@ -77,30 +141,55 @@ both_faults a b = or_else (or_else (or_else a (or_else b [])) []) []
 gen_texts : Text → Text → Text → List Text → List Text
 gen_texts name count start rest = name ∷ codes "gen" ∷ (codes "--count=" ++ count) ∷ (codes "--start=" ++ start) ∷ rest
 
--- what the words are found to be: with no fault, a grid of 4, the command `gen`, its count and start, and with `--text` or not
+-- what the words are found to be: with no fault, a grid of 4, the command `gen`, its count and start, and with `--text`
+-- or not
 abbrev AreFoundGen : List Text → Text → Text → Bool → Type 0
 AreFoundGen words c s text =
-    (is_signed_in (pos 0) (pos most_count) c ≡ true → is_signed_in (pos 0) (pos most_start) s ≡ true → fault_of program words ≡ [])
-    × (number_of (codes "grid") 1 most_grid (subcommand_of program words) ≡ 4) × (is_command (codes "gen") (subcommand_of program words) ≡ true)
+    (is_signed_in (pos 0) (pos most_count) c ≡ true → is_signed_in (pos 0) (pos most_start) s ≡ true →
+    fault_of program words ≡ [])
+    × (number_of (codes "grid") 1 most_grid (subcommand_of program words) ≡ 4) ×
+    (is_command (codes "gen") (subcommand_of program words) ≡ true)
     × (number_of (codes "count") 0 most_count (subcommand_of program words) ≡ number_between 0 most_count c)
     × (number_of (codes "start") 0 most_start (subcommand_of program words) ≡ number_between 0 most_start s)
     × (has_flag (codes "text") (subcommand_of program words) ≡ text)
 
 gen_found : (name c s : Text) → AreFoundGen (gen_texts name c s []) c s false
 unfolding clap_on_literals word_faults both_faults gen_texts
-gen_found name c s = (λ e k. ap₂ (λ (x y : Bool). both_faults (word_faults 0 most_count x) (word_faults 0 most_start y)) e k, refl, refl, refl, refl, refl)
+gen_found name c s = (
+  λ e k. ap₂ (λ (x y : Bool). both_faults (word_faults 0 most_count x) (word_faults 0 most_start y))
+      e k,
+  refl,
+  refl,
+  refl,
+  refl,
+  refl,
+)
 
 gen_text_found : (name c s : Text) → AreFoundGen (gen_texts name c s (codes "--text" ∷ [])) c s true
 unfolding clap_on_literals word_faults both_faults gen_texts
-gen_text_found name c s = (λ e k. ap₂ (λ (x y : Bool). both_faults (word_faults 0 most_count x) (word_faults 0 most_start y)) e k, refl, refl, refl, refl, refl)
+gen_text_found name c s = (
+  λ e k. ap₂ (λ (x y : Bool). both_faults (word_faults 0 most_count x)
+      (word_faults 0 most_start y)) e k,
+  refl,
+  refl,
+  refl,
+  refl,
+  refl,
+)
 
 -- so they are taken, and ask for the file of the count and the start
-gen_asked : (words : List (String Global)) (texts : List Text) (count start : ℕ) (text : Bool) → count ≤ most_count → start ≤ most_start → texts_of words ≡ texts → AreFoundGen texts (decimal count) (decimal start) text →
-    AreTaken words × DrawsFile words × (drawn_count words ≡ count) × (drawn_start words ≡ start) × (asks_text words ≡ text)
+gen_asked : (words : List (String Global)) (texts : List Text) (count start : ℕ) (text : Bool) → count ≤ most_count →
+    start ≤ most_start → texts_of words ≡ texts → AreFoundGen texts (decimal count) (decimal start) text →
+    AreTaken words × DrawsFile words × (drawn_count words ≡ count) × (drawn_start words ≡ start) ×
+    (asks_text words ≡ text)
 unfolding AreTaken grid_size asks_drawn drawn_count drawn_start asks_text
 gen_asked words texts count start text few small e found =
     let f = subst (λ (w : List Text). AreFoundGen w (decimal count) (decimal start) text) (sym e) found in (
-      (f.0 (decimal_taken 0 most_count count (omega arith) few (omega arith)) (decimal_taken 0 most_start start (omega arith) small (omega arith)), ap is_grid_size f.1),
+      (
+        f.0 (decimal_taken 0 most_count count (omega arith) few (omega arith))
+            (decimal_taken 0 most_start start (omega arith) small (omega arith)),
+        ap is_grid_size f.1,
+      ),
       f.2,
       f.3 ∙ decimal_named 0 most_count count (omega arith) few (omega arith),
       f.4 ∙ decimal_named 0 most_start start (omega arith) small (omega arith),
@@ -108,15 +197,21 @@ gen_asked words texts count start text few small e found =
     )
 
 -- the words `gen`, `--count=N` and `--start=M` ask for the file of N and M, and with `--text` for its text
-pub gen_words : (words : List (String Global)) (count start : ℕ) → count ≤ most_count → start ≤ most_start → AreGen count start words →
-    AreTaken words × DrawsFile words × (drawn_count words ≡ count) × (drawn_start words ≡ start) × (asks_text words ≡ false)
+pub gen_words : (words : List (String Global)) (count start : ℕ) → count ≤ most_count → start ≤ most_start →
+    AreGen count start words →
+    AreTaken words × DrawsFile words × (drawn_count words ≡ count) × (drawn_start words ≡ start) ×
+    (asks_text words ≡ false)
 unfolding gen_texts
-gen_words words count start few small m = gen_asked words (gen_texts m.0 (decimal count) (decimal start) []) count start false few small m.1 (gen_found m.0 (decimal count) (decimal start))
+gen_words words count start few small m = gen_asked words (gen_texts m.0 (decimal count) (decimal start) []) count start
+    false few small m.1 (gen_found m.0 (decimal count) (decimal start))
 
-pub gen_text_words : (words : List (String Global)) (count start : ℕ) → count ≤ most_count → start ≤ most_start → AreGenText count start words →
-    AreTaken words × DrawsFile words × (drawn_count words ≡ count) × (drawn_start words ≡ start) × (asks_text words ≡ true)
+pub gen_text_words : (words : List (String Global)) (count start : ℕ) → count ≤ most_count → start ≤ most_start →
+    AreGenText count start words →
+    AreTaken words × DrawsFile words × (drawn_count words ≡ count) × (drawn_start words ≡ start) ×
+    (asks_text words ≡ true)
 unfolding gen_texts
-gen_text_words words count start few small m = gen_asked words (gen_texts m.0 (decimal count) (decimal start) (codes "--text" ∷ [])) count start true few small m.1 (gen_text_found m.0 (decimal count) (decimal start))
+gen_text_words words count start few small m = gen_asked words (gen_texts m.0 (decimal count) (decimal start)
+    (codes "--text" ∷ [])) count start true few small m.1 (gen_text_found m.0 (decimal count) (decimal start))
 
 -- ---- the words `--workers=N` and `--grid=M`
 
@@ -128,46 +223,99 @@ grid_below : (g : ℕ) → is_grid_size g ≡ true → g ≤ 16
 grid_below g h = grind (arith, nat_tests)
 
 meshing_texts : Text → Text → Text → Text → List Text
-meshing_texts name command workers grid = name ∷ command ∷ (codes "--workers=" ++ workers) ∷ (codes "--grid=" ++ grid) ∷ []
+meshing_texts name command workers grid = name ∷ command ∷ (codes "--workers=" ++ workers) ∷ (codes "--grid=" ++ grid) ∷
+    []
 
--- what the words are found to be: with no fault, a command that reads a file, its workers and its grid, and `shape` or not
-abbrev AreFoundMeshing : List Text → Text → Text → Bool → Type 0
-AreFoundMeshing words w g shape =
-    (is_signed_in (pos 1) (pos most_workers) w ≡ true → is_signed_in (pos 1) (pos most_grid) g ≡ true → fault_of program words ≡ [])
+-- what the words are found to be: with no fault, a command that reads a file, its workers and its grid, `shape` or not,
+-- and `steps` or not
+abbrev AreFoundMeshing : List Text → Text → Text → Bool → Bool → Type 0
+AreFoundMeshing words w g shape steps =
+    (is_signed_in (pos 1) (pos most_workers) w ≡ true → is_signed_in (pos 1) (pos most_grid) g ≡ true →
+    fault_of program words ≡ [])
     × (is_command (codes "gen") (subcommand_of program words) ≡ false)
     × (number_of (codes "workers") 1 most_workers (subcommand_of program words) ≡ number_between 1 most_workers w)
     × (number_of (codes "grid") 1 most_grid (subcommand_of program words) ≡ number_between 1 most_grid g)
     × (is_command (codes "shape") (subcommand_of program words) ≡ shape)
+    × (is_command (codes "steps") (subcommand_of program words) ≡ steps)
 
-mesh_found : (name w g : Text) → AreFoundMeshing (meshing_texts name (codes "mesh") w g) w g false
+mesh_found : (name w g : Text) → AreFoundMeshing (meshing_texts name (codes "mesh") w g) w g false false
 unfolding clap_on_literals word_faults both_faults meshing_texts
-mesh_found name w g = (λ e k. ap₂ (λ (x y : Bool). both_faults (word_faults 1 most_workers x) (word_faults 1 most_grid y)) e k, refl, refl, refl, refl)
+mesh_found name w g = (
+  λ e k. ap₂ (λ (x y : Bool). both_faults (word_faults 1 most_workers x)
+      (word_faults 1 most_grid y)) e k,
+  refl,
+  refl,
+  refl,
+  refl,
+  refl,
+)
 
-shape_found : (name w g : Text) → AreFoundMeshing (meshing_texts name (codes "shape") w g) w g true
+shape_found : (name w g : Text) → AreFoundMeshing (meshing_texts name (codes "shape") w g) w g true false
 unfolding clap_on_literals word_faults both_faults meshing_texts
-shape_found name w g = (λ e k. ap₂ (λ (x y : Bool). both_faults (word_faults 1 most_workers x) (word_faults 1 most_grid y)) e k, refl, refl, refl, refl)
+shape_found name w g = (
+  λ e k. ap₂ (λ (x y : Bool). both_faults (word_faults 1 most_workers x)
+      (word_faults 1 most_grid y)) e k,
+  refl,
+  refl,
+  refl,
+  refl,
+  refl,
+)
+
+steps_found : (name w g : Text) → AreFoundMeshing (meshing_texts name (codes "steps") w g) w g false true
+unfolding clap_on_literals word_faults both_faults meshing_texts
+steps_found name w g = (
+  λ e k. ap₂ (λ (x y : Bool). both_faults (word_faults 1 most_workers x)
+      (word_faults 1 most_grid y)) e k,
+  refl,
+  refl,
+  refl,
+  refl,
+  refl,
+)
 
 -- so they are taken, and ask for these workers and this grid
-meshing_asked : (words : List (String Global)) (texts : List Text) (workers grid : ℕ) (shape : Bool) → 0 < workers → workers ≤ most_workers → is_grid_size grid ≡ true → texts_of words ≡ texts → AreFoundMeshing texts (decimal workers) (decimal grid) shape →
-    AreTaken words × ReadsFile words × (worker_count words ≡ workers) × (grid_size words ≡ grid) × (asks_shape words ≡ shape)
-unfolding AreTaken asks_drawn worker_count grid_size asks_shape
-meshing_asked words texts workers grid shape some few size e found =
-    let f = subst (λ (w : List Text). AreFoundMeshing w (decimal workers) (decimal grid) shape) (sym e) found in
+abbrev AreAskedMeshing : List (String Global) → ℕ → ℕ → Bool → Bool → Type 0
+AreAskedMeshing words workers grid shape steps =
+    AreTaken words × (worker_count words ≡ workers) × (grid_size words ≡ grid) × (asks_shape words ≡ shape) ×
+    ReadsFile words × (asks_steps words ≡ steps)
+
+meshing_asked : (words : List (String Global)) (texts : List Text) (workers grid : ℕ) (shape steps : Bool) →
+    0 < workers → workers ≤ most_workers → is_grid_size grid ≡ true → texts_of words ≡ texts
+    → AreFoundMeshing texts (decimal workers) (decimal grid) shape steps →
+    AreAskedMeshing words workers grid shape steps
+unfolding AreTaken asks_drawn worker_count grid_size asks_shape asks_steps
+meshing_asked words texts workers grid shape steps some few size e found =
+    let f = subst (λ (w : List Text). AreFoundMeshing w (decimal workers) (decimal grid) shape steps) (sym e) found in
     let sized = f.3 ∙ decimal_named 1 most_grid grid (grid_above grid size) (grid_below grid size) (omega arith) in (
-      (f.0 (decimal_taken 1 most_workers workers (omega (arith, some)) few (omega arith)) (decimal_taken 1 most_grid grid (grid_above grid size) (grid_below grid size) (omega arith)), ap is_grid_size sized ∙ size),
-      f.1,
+      (
+        f.0 (decimal_taken 1 most_workers workers (omega (arith, some)) few (omega arith))
+            (decimal_taken 1 most_grid grid (grid_above grid size) (grid_below grid size) (omega arith)),
+        ap is_grid_size sized ∙ size,
+      ),
       f.2 ∙ decimal_named 1 most_workers workers (omega (arith, some)) few (omega arith),
       sized,
       f.4,
+      f.1,
+      f.5,
     )
 
--- the words `mesh` or `shape`, `--workers=N` and `--grid=M` ask for N workers and a grid of size M
-pub mesh_workers_words : (words : List (String Global)) (workers grid : ℕ) → 0 < workers → workers ≤ most_workers → is_grid_size grid ≡ true → AreMeshing (codes "mesh") workers grid words →
-    AreTaken words × ReadsFile words × (worker_count words ≡ workers) × (grid_size words ≡ grid) × (asks_shape words ≡ false)
-unfolding meshing_texts
-mesh_workers_words words workers grid some few size m = meshing_asked words (meshing_texts m.0 (codes "mesh") (decimal workers) (decimal grid)) workers grid false some few size m.1 (mesh_found m.0 (decimal workers) (decimal grid))
+-- the words `mesh`, `shape` or `steps`, `--workers=N` and `--grid=M` ask for N workers and a grid of size M
+module _ (words : List (String Global)) (workers grid : ℕ) (some : 0 < workers) (few : workers ≤ most_workers)
+    (size : is_grid_size grid ≡ true) where
+  pub mesh_workers_words : AreMeshing (codes "mesh") workers grid words → AreAskedMeshing words workers grid false false
+  unfolding meshing_texts
+  mesh_workers_words m = meshing_asked words (meshing_texts m.0 (codes "mesh") (decimal workers) (decimal grid)) workers
+      grid false false some few size m.1 (mesh_found m.0 (decimal workers) (decimal grid))
 
-pub shape_workers_words : (words : List (String Global)) (workers grid : ℕ) → 0 < workers → workers ≤ most_workers → is_grid_size grid ≡ true → AreMeshing (codes "shape") workers grid words →
-    AreTaken words × ReadsFile words × (worker_count words ≡ workers) × (grid_size words ≡ grid) × (asks_shape words ≡ true)
-unfolding meshing_texts
-shape_workers_words words workers grid some few size m = meshing_asked words (meshing_texts m.0 (codes "shape") (decimal workers) (decimal grid)) workers grid true some few size m.1 (shape_found m.0 (decimal workers) (decimal grid))
+  pub shape_workers_words : AreMeshing (codes "shape") workers grid words →
+      AreAskedMeshing words workers grid true false
+  unfolding meshing_texts
+  shape_workers_words m = meshing_asked words (meshing_texts m.0 (codes "shape") (decimal workers) (decimal grid))
+      workers grid true false some few size m.1 (shape_found m.0 (decimal workers) (decimal grid))
+
+  pub steps_workers_words : AreMeshing (codes "steps") workers grid words →
+      AreAskedMeshing words workers grid false true
+  unfolding meshing_texts
+  steps_workers_words m = meshing_asked words (meshing_texts m.0 (codes "steps") (decimal workers) (decimal grid))
+      workers grid false true some few size m.1 (steps_found m.0 (decimal workers) (decimal grid))

@@ -6,7 +6,9 @@ pub mod Built
 pub mod Run
 pub mod Stops
 pub mod Page
+pub mod Files
 pub mod Reported
+pub mod Stepped
 pub mod Commands
 pub mod Ends
 pub mod Laws

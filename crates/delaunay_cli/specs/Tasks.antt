@@ -4,7 +4,7 @@ use Rattle.std.specs.declared.alloc.Global.{Global}
 use Rattle.clap.specs.Words.{Row, Text, subcommand_of}
 use Rattle.delaunay_cli.specs.declared.task.Making.{Making}
 use Rattle.delaunay_cli.specs.declared.task.Task.{Task}
-use Rattle.delaunay_cli.specs.declared.task.Task.TheVariants.{Report, Draw}
+use Rattle.delaunay_cli.specs.declared.task.Task.TheVariants.{Report, Step, Draw}
 use Rattle.delaunay_cli.specs.Words.{
   has_flag,
   is_command,
@@ -25,8 +25,10 @@ pub record IsMakingOf (met : Option (Text × List Row)) (making : Making) : Type
 -- the task of the command that was met, by its name and its matches
 abbrev pub IsTaskOf : Option (Text × List Row) → Task → Type 0
 IsTaskOf met (Report making asked) =
-    IsMakingOf met making × (is_command (codes "gen") met ≡ false) × (asked.shape ≡ is_command (codes "shape") met)
-    × (asked.order ≡ has_flag (codes "order") met)
+    IsMakingOf met making × (is_command (codes "gen") met ≡ false) × (is_command (codes "steps") met ≡ false)
+    × (asked.shape ≡ is_command (codes "shape") met) × (asked.order ≡ has_flag (codes "order") met)
+IsTaskOf met (Step making) =
+    IsMakingOf met making × (is_command (codes "gen") met ≡ false) × (is_command (codes "steps") met ≡ true)
 IsTaskOf met (Draw making drawn) =
     IsMakingOf met making × (is_command (codes "gen") met ≡ true)
     × (drawn.count ≡ number_of (codes "count") 0 most_count met)

@@ -101,15 +101,17 @@ gen_command =
     (number_option (codes "start") most_start))
     (flag_of (codes "text"))
 
--- the program: it takes the word of a command, and has the three
+-- the program: it takes the word of a command, and has the four
 abbrev pub program : App
 program =
     with_subcommand
     (with_subcommand
+    (with_subcommand
     (with_subcommand (on_top (λ top. record top { subcommand_required = true }) (new_app (codes "delaunay")))
     (command_of (codes "mesh")).top)
     (command_of (codes "shape")).top)
-    gen_command.top
+    gen_command.top)
+    (meshing_command (codes "steps")).top
 
 -- the words of a command line as texts
 abbrev pub texts_of : List (String Global) → List Text
@@ -134,6 +136,10 @@ AreShape words = AreNameAnd (codes "shape" ∷ []) words
 -- the words are the program's name, `shape` and `--order`
 abbrev pub AreShapeOrder : List (String Global) → Type 0
 AreShapeOrder words = AreNameAnd (codes "shape" ∷ codes "--order" ∷ []) words
+
+-- the words are the program's name and `steps`
+abbrev pub AreSteps : List (String Global) → Type 0
+AreSteps words = AreNameAnd (codes "steps" ∷ []) words
 
 -- the words are the program's name, the name of a command, `--workers=` with a number and `--grid=` with a number
 abbrev pub AreMeshing : Text → ℕ → ℕ → List (String Global) → Type 0
@@ -170,6 +176,10 @@ is_command name met = option_map_or (λ found. bytes_eq found.0 name) met false
 -- the words ask for the shapes
 unfoldable pub asks_shape : List (String Global) → Bool
 asks_shape words = is_command (codes "shape") (subcommand_of program (texts_of words))
+
+-- the words ask for the least alphas
+unfoldable pub asks_steps : List (String Global) → Bool
+asks_steps words = is_command (codes "steps") (subcommand_of program (texts_of words))
 
 -- the words ask for a file that is drawn, and not for one that is read
 unfoldable pub asks_drawn : List (String Global) → Bool
@@ -211,14 +221,24 @@ grid_size words = number_of (codes "grid") 1 most_grid (subcommand_of program (t
 unfoldable pub AreTaken : List (String Global) → Type 0
 AreTaken words = (fault_of program (texts_of words) ≡ []) × (is_grid_size (grid_size words) ≡ true)
 
--- what a command does: it writes the report of a file that it reads (`mesh` and `shape`), or draws a file (`gen`)
+-- what a command does: it writes the report of a file that it reads (`mesh` and `shape`), or the least alphas (`steps`),
+-- or draws a file (`gen`)
 pub data Kind : Type 0 where
   Reports : Kind
+  Steps : Kind
   Draws : Kind
 
 -- what the command of the words does
 abbrev pub kind_of : List (String Global) → Kind
-kind_of words = if asks_drawn words then Draws else Reports
+kind_of words = if asks_drawn words then Draws else (if asks_steps words then Steps else Reports)
+
+-- the report of a file is written
+abbrev pub WritesReport : List (String Global) → Type 0
+WritesReport words = kind_of words ≡ Reports
+
+-- the least alphas of a file are written
+abbrev pub WritesSteps : List (String Global) → Type 0
+WritesSteps words = kind_of words ≡ Steps
 
 -- the source is read
 abbrev pub ReadsFile : List (String Global) → Type 0

@@ -38,9 +38,12 @@ ghost use Rattle.delaunay_cli.specs.Words.{
   AreMeshing,
   AreShape,
   AreShapeOrder,
+  AreSteps,
   AreTaken,
   DrawsFile,
   ReadsFile,
+  WritesReport,
+  WritesSteps,
   asks_order,
   asks_shape,
   asks_text,
@@ -53,10 +56,10 @@ ghost use Rattle.delaunay_cli.specs.Words.{
   worker_count,
 };
 
-/// The words `mesh` and `shape` alone are taken, and ask for no order block; with `--order` they ask for it. Both read
-/// a file, by one worker over a grid of 4. So are `mesh` and `shape` with `--workers=N` and `--grid=M`, for every count
-/// of workers and every size of a grid. The words `gen`, `--count=N` and `--start=M` are taken for every count and
-/// start, and with `--text` ask for the file's text.
+/// The words `mesh` and `shape` alone are taken, and ask for no order block; with `--order` they ask for it. Both write
+/// the report of a file, by one worker over a grid of 4, as `steps` writes its least alphas. So are `mesh`, `shape` and
+/// `steps` with `--workers=N` and `--grid=M`, for every count of workers and every size of a grid. The words `gen`,
+/// `--count=N` and `--start=M` are taken for every count and start, and with `--text` ask for the file's text.
 pub fn words_are_taken()
     ensures mesh { (words : List (String Global)) → AreMesh words → AreTaken words × (asks_shape words ≡ false)
         × (asks_order words ≡ false) }
@@ -69,20 +72,28 @@ pub fn words_are_taken()
     ensures one_worker { (words : List (String Global)) →
         AreMesh words ⊎ AreMeshOrder words ⊎ AreShape words ⊎ AreShapeOrder words
         → (worker_count words ≡ 1) × (grid_size words ≡ 4) }
-    ensures read { (words : List (String Global)) →
-        AreMesh words ⊎ AreMeshOrder words ⊎ AreShape words ⊎ AreShapeOrder words → ReadsFile words }
+    ensures report { (words : List (String Global)) →
+        AreMesh words ⊎ AreMeshOrder words ⊎ AreShape words ⊎ AreShapeOrder words → WritesReport words }
+    ensures steps { (words : List (String Global)) → AreSteps words → AreTaken words × WritesSteps words
+        × (worker_count words ≡ 1) × (grid_size words ≡ 4) }
     ensures mesh_workers { (words : List (String Global)) (workers grid : ℕ) → 0 < workers → workers ≤ most_workers
-        → is_grid_size grid ≡ true → AreMeshing (codes "mesh") workers grid words → AreTaken words × ReadsFile words
-        × (worker_count words ≡ workers) × (grid_size words ≡ grid) × (asks_shape words ≡ false) }
+        → is_grid_size grid ≡ true → AreMeshing (codes "mesh") workers grid words → AreTaken words
+        × (worker_count words ≡ workers) × (grid_size words ≡ grid) × (asks_shape words ≡ false)
+        × WritesReport words }
     ensures shape_workers { (words : List (String Global)) (workers grid : ℕ) → 0 < workers → workers ≤ most_workers
-        → is_grid_size grid ≡ true → AreMeshing (codes "shape") workers grid words → AreTaken words × ReadsFile words
-        × (worker_count words ≡ workers) × (grid_size words ≡ grid) × (asks_shape words ≡ true) }
+        → is_grid_size grid ≡ true → AreMeshing (codes "shape") workers grid words → AreTaken words
+        × (worker_count words ≡ workers) × (grid_size words ≡ grid) × (asks_shape words ≡ true)
+        × WritesReport words }
+    ensures steps_workers { (words : List (String Global)) (workers grid : ℕ) → 0 < workers → workers ≤ most_workers
+        → is_grid_size grid ≡ true → AreMeshing (codes "steps") workers grid words → AreTaken words
+        × (worker_count words ≡ workers) × (grid_size words ≡ grid) × WritesSteps words }
     ensures generator { (words : List (String Global)) (count start : ℕ) → count ≤ most_count → start ≤ most_start
         → AreGen count start words → AreTaken words × DrawsFile words × (drawn_count words ≡ count)
         × (drawn_start words ≡ start) × (asks_text words ≡ false) }
     ensures generator_text { (words : List (String Global)) (count start : ℕ) → count ≤ most_count
         → start ≤ most_start → AreGenText count start words → AreTaken words × DrawsFile words
         × (drawn_count words ≡ count) × (drawn_start words ≡ start) × (asks_text words ≡ true) }
+    ensures read { (words : List (String Global)) → WritesReport words ⊎ WritesSteps words → ReadsFile words }
 {}
 
 /// No status above 7 comes. On all but 0 and 4 nothing is kept and nothing is written. A run that reads a file and

@@ -1,5 +1,5 @@
-//! The program's top call: from the bytes of an edit file to the text of its mesh and of its shapes, and from two
-//! numbers to the text of a drawn file or the summary of its mesh.
+//! The program's top call: from the bytes of an edit file to the text of its mesh, of its shapes or of the least alphas
+//! of its faces, and from two numbers to the text of a drawn file or the summary of its mesh.
 //!
 //! ```
 //! let run = run(&rt, alloc, &words, &mut input, &mut output, &mut error, &OpenGate);
@@ -12,10 +12,12 @@ pub mod laws;
 mod made;
 mod mesh;
 mod mesh_of_lines;
+mod mesh_of_source;
 mod outcome;
 mod replies;
 mod reported;
 mod shapes;
+mod stepped;
 mod stop;
 mod task;
 mod telling;

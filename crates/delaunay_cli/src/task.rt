@@ -43,6 +43,8 @@ pub struct Drawn {
 pub enum Task {
     /// The report of a file that is read.
     Report(Making, Asked),
+    /// The least alphas of a file that is read.
+    Step(Making),
     /// A file that is drawn.
     Draw(Making, Drawn),
 }

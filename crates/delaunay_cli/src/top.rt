@@ -13,7 +13,15 @@ ghost use Rattle.delaunay_cli.specs.PlainText.{plain_text};
 ghost use Rattle.delaunay_cli.specs.Run.{IsSolidFile, Writes, WritesFront, history_of};
 ghost use Rattle.delaunay_cli.specs.Statuses.{Tells};
 ghost use Rattle.delaunay_cli.specs.Stops.{line_of_end};
-ghost use Rattle.delaunay_cli.specs.Words.{AreTaken, DrawsFile, ReadsFile, asks_order, asks_shape, worker_count};
+ghost use Rattle.delaunay_cli.specs.Words.{
+  AreTaken,
+  DrawsFile,
+  ReadsFile,
+  WritesReport,
+  asks_order,
+  asks_shape,
+  worker_count,
+};
 
 use crate::outcome::Run;
 use crate::stop::Stop;
@@ -26,15 +34,16 @@ use std::thread::Threads;
 /// Does what the words ask for, and tells in one line on `err` what went wrong.
 ///
 /// `rt` is the runtime, and `words` are those of the command line: the program's name, and what `clap` takes for the
-/// three commands. `mesh` and `shape`, each with `--order`, read an edit file from `src` and write the report of its
-/// mesh to `out`; with `shape` the report has a block for each radius of the file, in its order. `gen`, with
-/// `--count`, `--start` and `--text`, reads nothing: it draws an edit file, and writes the summary of its mesh or the
-/// file's text. Each takes `--workers`, 1 to 64, and `--grid`, 1, 2, 4, 8 or 16: so many workers make the edits side
-/// by side, over buckets of this grid. `gate` is told of the moments of their edits.
+/// four commands. `mesh` and `shape`, each with `--order`, read an edit file from `src` and write the report of its
+/// mesh to `out`; with `shape` the report has a block for each radius of the file, in its order. `steps` reads one too,
+/// and writes the least alpha, in sixteenths of a squared distance, of each face of its mesh. `gen`, with `--count`,
+/// `--start` and `--text`, reads nothing: it draws an edit file, and writes the summary of its mesh or the file's text.
+/// Each takes `--workers`, 1 to 64, and `--grid`, 1, 2, 4, 8 or 16: so many workers make the edits side by side, over
+/// buckets of this grid. `gate` is told of the moments of their edits.
 ///
-/// The clauses by name are those of `mesh` and `shape`. `Ends` in specs/ says how each run ends; what a command
-/// promises is its line of `Promise`, the field `promise`. Which words are taken, and what else follows of a run, is in
-/// `laws`.
+/// The clauses by name are those of the files that are read and of their reports. `Ends` in specs/ says how each run
+/// ends; what a command promises is its line of `Promise`, the field `promise`. Which words are taken, and what else
+/// follows of a run, is in `laws`.
 pub fn run<R: Threads + Sync, S: Source, O: Sink, E: Sink, G: Gate + Sync>(
     rt: &R,
     alloc: Global,
@@ -50,7 +59,7 @@ pub fn run<R: Threads + Sync, S: Source, O: Sink, E: Sink, G: Gate + Sync>(
     ensures told { Tells (S.left src.old) (E.holds err.old) (E.holds err.new) (E.faults err.old)
         (E.faults err.new) result.status }
 
-    // What is kept and written, where a file is read.
+    // What is kept where a file is read, and written where that is its report.
     ensures legal { IsLegal result.kept.items }
     ensures kept { ReadsFile words.now → (result.status ≡ 0) ⊎ (result.status ≡ 4)
         → IfSome (S.left src.old) (λ bytes. (file : Content) → IsFile line_limit bytes file
@@ -58,20 +67,20 @@ pub fn run<R: Threads + Sync, S: Source, O: Sink, E: Sink, G: Gate + Sync>(
     ensures one_thread { ReadsFile words.now → worker_count words.now ≡ 1 → (result.status ≡ 0) ⊎ (result.status ≡ 4)
         → IfSome (S.left src.old) (λ bytes. (file : Content) → IsFile line_limit bytes file
         → result.kept.items ≡ history_of file) }
-    ensures written { ReadsFile words.now → result.status ≡ 0
+    ensures written { WritesReport words.now → result.status ≡ 0
         → IfSome (S.left src.old) (λ bytes. Writes (asks_shape words.now) (asks_order words.now) bytes
         (O.holds out.old) (O.holds out.new) result.kept.items) }
-    ensures front { ReadsFile words.now → result.status ≡ 4
+    ensures front { WritesReport words.now → result.status ≡ 4
         → IfSome (S.left src.old) (λ bytes. WritesFront (asks_shape words.now) (asks_order words.now) bytes
         (O.holds out.old) (O.holds out.new) result.kept.items) }
 
     // Where no edit takes one of the opening four and no order block is asked for, what is written goes by the file
     // and the command.
-    ensures plain { ReadsFile words.now → asks_order words.now ≡ false → result.status ≡ 0
+    ensures plain { WritesReport words.now → asks_order words.now ≡ false → result.status ≡ 0
         → IfSome (S.left src.old) (λ bytes. (file : Content) → IsFile line_limit bytes file →
         IsAnchored file.points file.edits
         → Appends (O.holds out.old) (O.holds out.new) (plain_text (asks_shape words.now) file)) }
-    ensures plain_front { ReadsFile words.now → asks_order words.now ≡ false → result.status ≡ 4
+    ensures plain_front { WritesReport words.now → asks_order words.now ≡ false → result.status ≡ 4
         → IfSome (S.left src.old) (λ bytes. (file : Content) → IsFile line_limit bytes file →
         IsAnchored file.points file.edits
         → AppendsFront (O.holds out.old) (O.holds out.new) (plain_text (asks_shape words.now) file)) }

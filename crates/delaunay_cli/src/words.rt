@@ -134,7 +134,8 @@ fn program<'a>(alloc: Global) -> Result<Command<'a>, AllocError>
     let program = Ok(Command::new(alloc, "delaunay").subcommand_required(true));
     let program = with_command(program, command(alloc, "mesh"));
     let program = with_command(program, command(alloc, "shape"));
-    with_command(program, gen_command(alloc))
+    let program = with_command(program, gen_command(alloc));
+    with_command(program, meshing(alloc, "steps"))
 }
 
 // Whether a flag was given to the command.
@@ -214,6 +215,8 @@ fn task_of(matches: &ArgMatches, making: Making) -> Task
                     text: flag_in(command, "text"),
                 };
                 Task::Draw(making, drawn)
+            } else if name == "steps" {
+                Task::Step(making)
             } else {
                 let asked = Asked {
                     shape: name == "shape",

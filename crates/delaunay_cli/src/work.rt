@@ -15,6 +15,7 @@ use crate::drawn::draw;
 use crate::made::{Made, put_page};
 use crate::outcome::Run;
 use crate::reported::report;
+use crate::stepped::step;
 use crate::stop::Stop;
 use crate::task::Task;
 use crate::words::read_words;
@@ -53,6 +54,7 @@ fn make<R: Threads + Sync, S: Source, G: Gate + Sync>(
 {
     match read_words(alloc, words)? {
         Task::Report(making, asked) => report(rt, alloc, making, asked, src, gate),
+        Task::Step(making) => step(rt, alloc, making, src, gate),
         Task::Draw(making, drawn) => draw(rt, alloc, making, drawn, gate),
     }
 }

@@ -1,5 +1,20 @@
-use Rattle.delaunay_cli.proofs.CommandLine.{default_words, mesh_words, mesh_order_words, shape_words, shape_order_words}
-use Rattle.delaunay_cli.proofs.NumberWords.{gen_words, gen_text_words, mesh_workers_words, shape_workers_words}
+use Rattle.std.proofs.Common.{true, false}
+use Rattle.delaunay_cli.proofs.CommandLine.{
+  default_words,
+  mesh_words,
+  mesh_order_words,
+  shape_words,
+  shape_order_words,
+  steps_words,
+}
+use Rattle.delaunay_cli.proofs.Ended.{read_kind, reading}
+use Rattle.delaunay_cli.proofs.NumberWords.{
+  gen_words,
+  gen_text_words,
+  mesh_workers_words,
+  shape_workers_words,
+  steps_workers_words,
+}
 use Rattle.delaunay_cli.proofs.laws.words_are_taken.Goals as goal
 
 pub returns-clause-mesh : goal.returns-clause-mesh
@@ -17,17 +32,35 @@ returns-clause-shape_order c = λ words w. (shape_order_words words w).0
 pub returns-clause-one_worker : goal.returns-clause-one_worker
 returns-clause-one_worker c = λ words w. (default_words words w).0
 
-pub returns-clause-read : goal.returns-clause-read
-returns-clause-read c = λ words w. (default_words words w).1
+pub returns-clause-report : goal.returns-clause-report
+returns-clause-report c = λ words w. let a = default_words words w in read_kind words false a.1 a.2
+
+pub returns-clause-steps : goal.returns-clause-steps
+returns-clause-steps c = λ words w. let a = steps_words words w in (a.0.0, read_kind words true a.2 a.3, a.1.0, a.1.1)
 
 pub returns-clause-mesh_workers : goal.returns-clause-mesh_workers
-returns-clause-mesh_workers c = λ words workers grid some few size w. mesh_workers_words words workers grid some few size w
+returns-clause-mesh_workers c =
+    λ words workers grid some few size w.
+    let a = mesh_workers_words words workers grid some few size w in
+    (a.0, a.1, a.2, a.3, read_kind words false a.4 a.5)
 
 pub returns-clause-shape_workers : goal.returns-clause-shape_workers
-returns-clause-shape_workers c = λ words workers grid some few size w. shape_workers_words words workers grid some few size w
+returns-clause-shape_workers c =
+    λ words workers grid some few size w.
+    let a = shape_workers_words words workers grid some few size w in
+    (a.0, a.1, a.2, a.3, read_kind words false a.4 a.5)
+
+pub returns-clause-steps_workers : goal.returns-clause-steps_workers
+returns-clause-steps_workers c =
+    λ words workers grid some few size w.
+    let a = steps_workers_words words workers grid some few size w in
+    (a.0, a.1, a.2, read_kind words true a.4 a.5)
 
 pub returns-clause-generator : goal.returns-clause-generator
 returns-clause-generator c = λ words count start few small w. gen_words words count start few small w
 
 pub returns-clause-generator_text : goal.returns-clause-generator_text
 returns-clause-generator_text c = λ words count start few small w. gen_text_words words count start few small w
+
+pub returns-clause-read : goal.returns-clause-read
+returns-clause-read c = reading

@@ -7,7 +7,7 @@ use Rattle.delaunay_cli.specs.PlainText.{plain_text}
 use Rattle.delaunay_cli.specs.Run.{history_of}
 use Rattle.delaunay_cli.specs.Stops.{line_of_end}
 use Rattle.delaunay_cli.specs.Words.{asks_shape, worker_count}
-use Rattle.delaunay_cli.proofs.Promised.{anchored_text, completes, of_file, written, written_front}
+use Rattle.delaunay_cli.proofs.Promised.{anchored_text, completes, of_file, of_kept, written, written_front}
 use Rattle.delaunay_cli.proofs.top.run.Goals as goal
 
 pub returns-clause-ends : goal.returns-clause-ends
@@ -15,16 +15,25 @@ returns-clause-ends g c = c.work-ended.ensures.ends
 
 pub returns-clause-told : goal.returns-clause-told
 returns-clause-told g c =
-    record { line = line_of_end c.work-ended.result.stop; is_line = c.work-ended.ensures.line; front = c.tell.ensures.front; whole = c.tell.ensures.whole }
+    record {
+      line = line_of_end c.work-ended.result.stop;
+      is_line = c.work-ended.ensures.line;
+      front =
+          c.tell.ensures.front;
+      whole = c.tell.ensures.whole;
+    }
 
 pub returns-clause-legal : goal.returns-clause-legal
 returns-clause-legal g c = c.work-ended.ensures.ends.legal
 
 pub returns-clause-kept : goal.returns-clause-kept
-returns-clause-kept g c = let e = c.work-ended.ensures.ends in of_file e (λ file. Keeps file.points file.edits (worker_count c.args.words.now) c.work-ended.result.run.kept.items) (λ file k t. k.keeps)
+returns-clause-kept g c = let e = c.work-ended.ensures.ends in of_kept e
+    (λ file. Keeps file.points file.edits (worker_count c.args.words.now) c.work-ended.result.run.kept.items)
+    (λ file k. k.keeps)
 
 pub returns-clause-one_thread : goal.returns-clause-one_thread
-returns-clause-one_thread g c = let e = c.work-ended.ensures.ends in λ w one s. of_file e (λ file. c.work-ended.result.run.kept.items ≡ history_of file) (λ file k t. k.alone one) w s
+returns-clause-one_thread g c = let e = c.work-ended.ensures.ends in λ w one s. of_kept e
+    (λ file. c.work-ended.result.run.kept.items ≡ history_of file) (λ file k. k.alone one) w s
 
 pub returns-clause-written : goal.returns-clause-written
 returns-clause-written g c = written c.work-ended.ensures.ends
@@ -37,14 +46,16 @@ returns-clause-plain g c =
     let e = c.work-ended.ensures.ends in
     let appends = Appends (g.O.Sink.holds c.args.out.now) (g.O.Sink.holds c.work-ended.new.out) in
     let text = plain_text (asks_shape c.args.words.now) in
-    λ w o s. of_file e (λ file. IsAnchored file.points file.edits → appends (text file)) (λ file k t a. subst appends (anchored_text e file k t o a) (e.whole (inl s))) w (inl s)
+    λ w o s. of_file e (λ file. IsAnchored file.points file.edits → appends (text file))
+    (λ file k t a. subst appends (anchored_text e file k t o a) (e.whole (inl s))) w (inl s)
 
 pub returns-clause-plain_front : goal.returns-clause-plain_front
 returns-clause-plain_front g c =
     let e = c.work-ended.ensures.ends in
     let appends = AppendsFront (g.O.Sink.holds c.args.out.now) (g.O.Sink.holds c.work-ended.new.out) in
     let text = plain_text (asks_shape c.args.words.now) in
-    λ w o s. of_file e (λ file. IsAnchored file.points file.edits → appends (text file)) (λ file k t a. subst appends (anchored_text e file k t o a) (e.front s)) w (inr s)
+    λ w o s. of_file e (λ file. IsAnchored file.points file.edits → appends (text file))
+    (λ file k t a. subst appends (anchored_text e file k t o a) (e.front s)) w (inr s)
 
 pub returns-clause-complete : goal.returns-clause-complete
 returns-clause-complete g c = completes c.work-ended.ensures.ends

@@ -4,44 +4,75 @@ use Rattle.byte_ends.specs.Ends.{Rose}
 use Rattle.delaunay_cli.specs.declared.task.Task.{Task}
 use Rattle.delaunay_cli.specs.Tasks.{IsTask}
 use Rattle.delaunay_cli.specs.Words.{asks_drawn}
-use Rattle.delaunay_cli.proofs.CommandLine.{draws_file, reads_file}
-use Rattle.delaunay_cli.proofs.Ended.{drawn_made, reported_made, reported_unmade}
+use Rattle.delaunay_cli.proofs.CommandLine.{draws_file, reads_file, steps_file}
+use Rattle.delaunay_cli.proofs.Ended.{drawn_made, reported_made, reported_unmade, stepped_made, stepped_unmade}
 use Rattle.delaunay_cli.proofs.work.make.Goals as goal
 
 pub returns-in-Report-clause-made : goal.returns-in-Report-clause-made
 returns-in-Report-clause-made g c =
     let read = c.in_ok-making.ensures in
     let words = c.args.words.now in
-    reported_made words (g.S.Source.left c.args.src.now) (Rose (g.S.Source.faults c.args.src.now) (g.S.Source.faults c.report.new.src)) c.in-Report.making read.taken c.in-Report.asked
-    (subst (λ (t : Task). IsTask words t) c.in-Report.is read.task) c.report.result c.report.ensures.made c.report.ensures.plain_end
+    reported_made words (g.S.Source.left c.args.src.now) (Rose (g.S.Source.faults c.args.src.now)
+    (g.S.Source.faults c.report.new.src)) c.in-Report.making read.taken c.in-Report.asked
+    (subst (λ (t : Task). IsTask words t) c.in-Report.is read.task) c.report.result c.report.ensures.made
+    c.report.ensures.plain_end
 
 pub returns-in-Report-clause-stop : goal.returns-in-Report-clause-stop
 returns-in-Report-clause-stop g c =
     let read = c.in_ok-making.ensures in
     let words = c.args.words.now in
-    reported_unmade words (g.S.Source.left c.args.src.now) (Rose (g.S.Source.faults c.args.src.now) (g.S.Source.faults c.report.new.src)) c.in-Report.making read.taken c.in-Report.asked
+    reported_unmade words (g.S.Source.left c.args.src.now) (Rose (g.S.Source.faults c.args.src.now)
+    (g.S.Source.faults c.report.new.src)) c.in-Report.making read.taken c.in-Report.asked
     (subst (λ (t : Task). IsTask words t) c.in-Report.is read.task) c.report.result c.report.ensures.stop
 
 pub returns-in-Report-clause-source : goal.returns-in-Report-clause-source
 returns-in-Report-clause-source g c =
     let words = c.args.words.now in
-    λ d. absurd (both_ways (asks_drawn words) (reads_file words c.in-Report.making c.in-Report.asked (subst (λ (t : Task). IsTask words t) c.in-Report.is c.in_ok-making.ensures.task)).0 d)
+    λ d. absurd (both_ways (asks_drawn words) (reads_file words c.in-Report.making c.in-Report.asked
+    (subst (λ (t : Task). IsTask words t) c.in-Report.is c.in_ok-making.ensures.task)).0 d)
+
+pub returns-in-Step-clause-made : goal.returns-in-Step-clause-made
+returns-in-Step-clause-made g c =
+    let read = c.in_ok-making.ensures in
+    let words = c.args.words.now in
+    stepped_made words (g.S.Source.left c.args.src.now) (Rose (g.S.Source.faults c.args.src.now)
+    (g.S.Source.faults c.step.new.src)) c.in-Step.making read.taken
+    (subst (λ (t : Task). IsTask words t) c.in-Step.is read.task) c.step.result c.step.ensures.made
+    c.step.ensures.plain_end
+
+pub returns-in-Step-clause-stop : goal.returns-in-Step-clause-stop
+returns-in-Step-clause-stop g c =
+    let read = c.in_ok-making.ensures in
+    let words = c.args.words.now in
+    stepped_unmade words (g.S.Source.left c.args.src.now) (Rose (g.S.Source.faults c.args.src.now)
+    (g.S.Source.faults c.step.new.src)) c.in-Step.making read.taken
+    (subst (λ (t : Task). IsTask words t) c.in-Step.is read.task) c.step.result c.step.ensures.stop
+
+pub returns-in-Step-clause-source : goal.returns-in-Step-clause-source
+returns-in-Step-clause-source g c =
+    let words = c.args.words.now in
+    λ d. absurd (both_ways (asks_drawn words) (steps_file words c.in-Step.making
+    (subst (λ (t : Task). IsTask words t) c.in-Step.is c.in_ok-making.ensures.task)).0 d)
 
 pub returns-in-Draw-clause-made : goal.returns-in-Draw-clause-made
 returns-in-Draw-clause-made g c =
     let read = c.in_ok-making.ensures in
     let words = c.args.words.now in
-    drawn_made words (g.S.Source.left c.args.src.now) ⊥ c.in-Draw.making read.taken c.in-Draw.drawn (subst (λ (t : Task). IsTask words t) c.in-Draw.is read.task) c.draw.result c.draw.ensures.made c.draw.ensures.plain_end
+    drawn_made words (g.S.Source.left c.args.src.now) ⊥ c.in-Draw.making read.taken c.in-Draw.drawn
+    (subst (λ (t : Task). IsTask words t) c.in-Draw.is read.task) c.draw.result c.draw.ensures.made
+    c.draw.ensures.plain_end
 
 pub returns-in-Draw-clause-reads : goal.returns-in-Draw-clause-reads
 returns-in-Draw-clause-reads g c =
     let words = c.args.words.now in
-    λ r. absurd (both_ways (asks_drawn words) r (draws_file words c.in-Draw.making c.in-Draw.drawn (subst (λ (t : Task). IsTask words t) c.in-Draw.is c.in_ok-making.ensures.task)).0)
+    λ r. absurd (both_ways (asks_drawn words) r (draws_file words c.in-Draw.making c.in-Draw.drawn
+    (subst (λ (t : Task). IsTask words t) c.in-Draw.is c.in_ok-making.ensures.task)).0)
 
 pub returns-in-Draw-clause-to_its_end : goal.returns-in-Draw-clause-to_its_end
 returns-in-Draw-clause-to_its_end g c =
     let words = c.args.words.now in
-    λ r. absurd (both_ways (asks_drawn words) r (draws_file words c.in-Draw.making c.in-Draw.drawn (subst (λ (t : Task). IsTask words t) c.in-Draw.is c.in_ok-making.ensures.task)).0)
+    λ r. absurd (both_ways (asks_drawn words) r (draws_file words c.in-Draw.making c.in-Draw.drawn
+    (subst (λ (t : Task). IsTask words t) c.in-Draw.is c.in_ok-making.ensures.task)).0)
 
 pub returns-in-Draw-clause-source : goal.returns-in-Draw-clause-source
 returns-in-Draw-clause-source g c = λ d. refl

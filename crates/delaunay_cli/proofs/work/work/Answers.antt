@@ -6,16 +6,21 @@ pub returns-clause-ends : goal.returns-clause-ends
 returns-clause-ends g c =
     let faults = g.O.Sink.faults in
     let made = c.make-made in
-    ends c.args.words.now (g.S.Source.left c.args.src.now) (g.S.Source.left made.new.src) (Rose (g.S.Source.faults c.args.src.now) (g.S.Source.faults made.new.src))
-    (g.O.Sink.holds c.args.out.now) (g.O.Sink.holds c.end.new.out) (Rose (faults c.args.out.now) (faults c.end.new.out)) made.result c.end.result.stop c.end.result.run.status c.end.result.run.kept.items
-    made.ensures.sound made.ensures.made made.ensures.stop made.ensures.reads made.ensures.to_its_end c.end.ensures.status c.end.ensures.made c.end.ensures.stop
+    ends c.args.words.now (g.S.Source.left c.args.src.now) (g.S.Source.left made.new.src)
+    (Rose (g.S.Source.faults c.args.src.now) (g.S.Source.faults made.new.src))
+    (g.O.Sink.holds c.args.out.now) (g.O.Sink.holds c.end.new.out) (Rose (faults c.args.out.now) (faults c.end.new.out))
+    made.result c.end.result.stop c.end.result.run.status c.end.result.run.kept.items
+    made.ensures.sound made.ensures.made made.ensures.stop made.ensures.reads made.ensures.to_its_end
+    c.end.ensures.status c.end.ensures.made c.end.ensures.stop
 
 pub returns-clause-line : goal.returns-clause-line
 returns-clause-line g c =
     let faults = g.O.Sink.faults in
     let made = c.make-made in
-    told c.args.words.now (g.S.Source.left c.args.src.now) (g.S.Source.left made.new.src) (Rose (g.S.Source.faults c.args.src.now) (g.S.Source.faults made.new.src))
-    (g.O.Sink.holds c.args.out.now) (g.O.Sink.holds c.end.new.out) (Rose (faults c.args.out.now) (faults c.end.new.out)) made.result c.end.result.stop c.end.result.run.status c.end.result.run.kept.items
+    told c.args.words.now (g.S.Source.left c.args.src.now) (g.S.Source.left made.new.src)
+    (Rose (g.S.Source.faults c.args.src.now) (g.S.Source.faults made.new.src))
+    (g.O.Sink.holds c.args.out.now) (g.O.Sink.holds c.end.new.out) (Rose (faults c.args.out.now) (faults c.end.new.out))
+    made.result c.end.result.stop c.end.result.run.status c.end.result.run.kept.items
     made.ensures.sound made.ensures.stop c.end.ensures.status c.end.ensures.made c.end.ensures.stop
 
 pub returns-clause-source : goal.returns-clause-source
@@ -25,8 +30,10 @@ pub returns-clause-unread : goal.returns-clause-unread
 returns-clause-unread g c =
     let faults = g.O.Sink.faults in
     let made = c.make-made in
-    λ k. made.ensures.unread (unread c.args.words.now (g.S.Source.left c.args.src.now) (g.S.Source.left made.new.src) (Rose (g.S.Source.faults c.args.src.now) (g.S.Source.faults made.new.src))
-    (g.O.Sink.holds c.args.out.now) (g.O.Sink.holds c.end.new.out) (Rose (faults c.args.out.now) (faults c.end.new.out)) made.result c.end.result.stop c.end.result.run.status c.end.result.run.kept.items
+    λ k. made.ensures.unread (unread c.args.words.now (g.S.Source.left c.args.src.now) (g.S.Source.left made.new.src)
+    (Rose (g.S.Source.faults c.args.src.now) (g.S.Source.faults made.new.src))
+    (g.O.Sink.holds c.args.out.now) (g.O.Sink.holds c.end.new.out) (Rose (faults c.args.out.now) (faults c.end.new.out))
+    made.result c.end.result.stop c.end.result.run.status c.end.result.run.kept.items
     made.ensures.sound c.end.ensures.status c.end.ensures.made c.end.ensures.stop k)
 
 pub returns-clause-later_source : goal.returns-clause-later_source

@@ -2,17 +2,16 @@ use Rattle.std.proofs.Common.{arith}
 use Rattle.edit_files.specs.Content.{content}
 use Rattle.edit_files.specs.Grammar.{line_limit}
 use Rattle.delaunay_cli.proofs.Judging.{edits_still, file_small, radii_small}
-use Rattle.delaunay_cli.proofs.reported.judge.Goals as goal
+use Rattle.delaunay_cli.proofs.mesh_of_source.judge.Goals as goal
 
 pub history_and_parts-requires-clause-lines : goal.history_and_parts-requires-clause-lines
 history_and_parts-requires-clause-lines g c κs within =
     omega (arith, file_small line_limit c.args.bytes.now (content c.in-Ok.file) c.in-Ok.ensures.accepted)
 
 pub history_and_parts-requires-clause-still : goal.history_and_parts-requires-clause-still
-history_and_parts-requires-clause-still g c κs within = edits_still line_limit c.args.bytes.now (content c.in-Ok.file) c.in-Ok.ensures.accepted
+history_and_parts-requires-clause-still g c κs within = edits_still line_limit c.args.bytes.now (content c.in-Ok.file)
+    c.in-Ok.ensures.accepted
 
 pub history_and_parts-requires-clause-radii : goal.history_and_parts-requires-clause-radii
-history_and_parts-requires-clause-radii g c κs within = radii_small line_limit c.args.bytes.now (content c.in-Ok.file) c.in-Ok.ensures.accepted
-
-pub returns-in_ok-kept-in-Ok-clause-sound : goal.returns-in_ok-kept-in-Ok-clause-sound
-returns-in_ok-kept-in-Ok-clause-sound g c = record { legal = c.in_ok-kept-in-Ok.ensures.made.legal; writable = c.in_ok-kept-in-Ok.ensures.ready; late = tt }
+history_and_parts-requires-clause-radii g c κs within = radii_small line_limit c.args.bytes.now (content c.in-Ok.file)
+    c.in-Ok.ensures.accepted

@@ -1,0 +1,80 @@
+//! The command `steps`: from the bytes of a source to the least alphas of the faces of their mesh.
+
+ghost use Rattle.std.specs.Prelude.{◌≡◌, ◌≤◌, None, true, IfSome, IfOk, IfErr, IsOk};
+ghost use Rattle.std.specs.Io.KnownBytes.{IsAtEnd};
+ghost use Rattle.byte_ends.specs.Ends.{Rose};
+ghost use Rattle.point_order.specs.Complex.{complex};
+ghost use Rattle.point_order.specs.Sets.{IsAscending};
+ghost use Rattle.point_order.specs.Solid.{is_solid};
+ghost use Rattle.del_laws.specs.Keys.{AreKeys};
+ghost use Rattle.delaunay_cli.specs.Files.{HasNoMesh};
+ghost use Rattle.delaunay_cli.specs.Page.{IsSound, text_of_page};
+ghost use Rattle.delaunay_cli.specs.Run.{Reads};
+ghost use Rattle.delaunay_cli.specs.Stepped.{IsStepped, IsSteppedFile};
+ghost use Rattle.delaunay_cli.specs.Stops.{status_of_made};
+
+use crate::made::{Made, Page};
+use crate::mesh_of_source::mesh_of_source;
+use crate::stop::Stop;
+use crate::task::{Asked, Making};
+use alpha_steps::{put_steps, thresholds};
+use byte_ends::{Failed, Source};
+use face_list::faces;
+use grid_claims::Gate;
+use point_order::{Cell, Point};
+use std::alloc::{AllocError, Global};
+use std::thread::Threads;
+use text_sheets::WholeText;
+
+// The text of the least alphas of the faces of a set, whose complex these cells are.
+fn steps_text<R: Threads + Sync>(
+    rt: &R,
+    alloc: Global,
+    points: &[Point],
+    cells: &[Cell],
+) -> Result<Vec<u8>, AllocError>
+    requires ascending { IsAscending points.now }
+    requires keys { AreKeys points.now }
+    requires solid { is_solid points.now ≡ true }
+    requires cells { cells.now ≡ complex points.now }
+    ensures { IfOk result (λ text. IsStepped points.now text.items) }
+{
+    let faces = faces(rt, alloc, cells)?;
+    let list = thresholds(rt, alloc, &faces)?;
+    let mut text = WholeText::new(alloc);
+    match put_steps(&mut text, &list) {
+        Ok(()) => Ok(text.into_bytes()),
+        Err(Failed) => Err(AllocError),
+    }
+}
+
+/// Reads a file from the source, and makes the text of the least alphas of the faces of its mesh.
+///
+/// # Errors
+///
+/// `ReadFault`, `TooLong`, `BadLine`, `Flat` and `Memory`.
+pub fn step<R: Threads + Sync, S: Source, G: Gate + Sync>(
+    rt: &R,
+    alloc: Global,
+    making: Making,
+    src: &mut S,
+    gate: &G,
+) -> Result<Made, Stop>
+    ensures made { IfOk result (λ made.
+        IfSome (S.left src.old) (IsSteppedFile making.workers made.kept.items (text_of_page made.page))) }
+    ensures plain_end { IfOk result (λ made. made.after ≡ None) }
+    ensures sound { IfOk result IsSound }
+    ensures stop { IfErr result (HasNoMesh (S.left src.old) (Rose (S.faults src.old) (S.faults src.new))) }
+    ensures reads { Reads (S.left src.old) (S.left src.new) (status_of_made result) }
+    ensures to_its_end { IsOk result → IsAtEnd (S.left src.new) }
+    ensures later { S.faults src.old ≤ S.faults src.new }
+{
+    let asked = Asked {
+        shape: false,
+        order: false,
+    };
+    let (kept, parts) = mesh_of_source(rt, alloc, making, asked, src, gate)?;
+    let page = Page::Text(steps_text(rt, alloc, &parts.points, &parts.cells)?);
+    let after = None;
+    Ok(Made { kept, page, after })
+}
