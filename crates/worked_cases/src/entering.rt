@@ -8,8 +8,11 @@ use edit_history::{Edit, Entry, Reply};
 use point_order::Cell;
 use std::alloc::{AllocError, Global};
 
-// Enters an edit as done, with a number that is its place.
+// Enters an edit as done, with a number that is its place; of a move nothing, since two buckets have a part in it.
 fn enter(alloc: Global, hold: &mut Hold, number: u64, edit: Edit) -> Result<(), AllocError> {
+    if let Edit::Move(_, _) = edit {
+        return Ok(());
+    }
     let none: &[Cell] = &[];
     let b = hold.grid().bucket_of(edit.point());
     if !hold.has(b) {
@@ -21,7 +24,6 @@ fn enter(alloc: Global, hold: &mut Hold, number: u64, edit: Edit) -> Result<(), 
         Edit::Add(_) => Reply::Inserted,
         Edit::Take(_) if there => Reply::Removed,
         Edit::Take(_) => Reply::Missing,
-        Edit::Move(_, _) if there => Reply::Occupied,
         Edit::Move(_, _) => Reply::Missing,
     };
     hold.reserve(alloc, none, none, &edit)?;

@@ -2,8 +2,8 @@
 //! standard output.
 //!
 //! A case is what is asked, and lists of words with semicolons between them. A point is written `x,y,z`, a cell is its
-//! four points, or the three of an Open one, and an edit is a point behind `+` or `-`. An end is the number of bytes
-//! that a call gives or takes at most, and the numbers of its calls that fail, counted from 1. A bar stands for a line
+//! four points, or the three of an Open one, and an edit is a point behind `+` or `-`, or behind `=` the place that a
+//! point leaves, `>` and its new place. An end is the number of bytes that a call gives or takes at most, and the numbers of its calls that fail, counted from 1. A bar stands for a line
 //! feed. A line whose first word is `#` is answered by itself, and where a call may not be made of the words the answer
 //! is `no case`.
 //!
@@ -32,7 +32,7 @@
 //!
 //! - `grid SIZE; POINTS`: how many buckets the grid has, and those of the points.
 //! - `enter SIZE; EDITS`: an empty bucket at each point of the edits; after each entry how many points and entries its
-//!   bucket has. Every edit is entered as done.
+//!   bucket has. Every edit is entered as done, but for moves.
 //! - `mesh SIZE; POINTS; EDITS`: the history by tags, what a set of points replies, the points left, and the cells.
 //! - `faces SIZE; POINTS`: each face of the complex with the cells that contain it, by the places of the sorted points.
 //! - `bucket SIZE; POINTS; B`: the bucket in a hold of its own; its counts, the cells at each of its points, the same

@@ -47,12 +47,8 @@ fn mesh_of_four(
     }
 }
 
-// Makes an edit that moves no point, where the history is not too long for it.
+// Makes an edit, where the history is not too long for it.
 fn edit(alloc: Global, answer: &mut Answer, mesh: &mut Mesh, place: usize, edit: Edit) {
-    if let Edit::Move(_, _) = edit {
-        answer.fail();
-        return;
-    }
     if mesh.count() < 4_294_967_296 && apply(alloc, mesh, tag_of(place), edit).is_err() {
         answer.fail();
     }

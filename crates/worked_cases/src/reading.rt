@@ -31,11 +31,17 @@ impl Word for Point {
     }
 }
 
-// An edit is a point behind `+` or `-`.
+// An edit is a point behind `+` or `-`, or behind `=` a place and, behind `>`, where its point moves.
 impl Word for Edit {
     fn of(word: &str) -> Option<Edit> {
-        match word.strip_prefix('+') {
-            Some(added) => Point::of(added).map(Edit::Add),
+        if let Some(added) = word.strip_prefix('+') {
+            return Point::of(added).map(Edit::Add);
+        }
+        match word.strip_prefix('=') {
+            Some(places) => {
+                let (from, to) = places.split_once('>')?;
+                Some(Edit::Move(Point::of(from)?, Point::of(to)?))
+            }
             None => Point::of(word.strip_prefix('-')?).map(Edit::Take),
         }
     }
@@ -49,6 +55,8 @@ impl Word for Reply {
             "Removed" => Some(Reply::Removed),
             "Missing" => Some(Reply::Missing),
             "Flat" => Some(Reply::Flat),
+            "Moved" => Some(Reply::Moved),
+            "Occupied" => Some(Reply::Occupied),
             _ => None,
         }
     }

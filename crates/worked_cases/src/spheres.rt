@@ -19,13 +19,13 @@ pub(crate) fn inside(answer: &mut Answer, lists: &str) -> Option<()> {
     Some(())
 }
 
-// Whether the smallest sphere of the edge, triangle or cell is within alpha, for a cell one below 2^30, and the least
+// Whether the smallest sphere of the edge, triangle or cell is within alpha, for a cell one below 2^34, and the least
 // alpha of which it is.
 fn within_of(points: &[Point], alpha: u64) -> Option<(bool, u64)> {
     match *points {
         [a, b] => Some((edge_within(a, b, alpha), edge_least(a, b))),
         [a, b, c] => Some((triangle_within(a, b, c, alpha), triangle_least(a, b, c))),
-        [a, b, c, d] if alpha < 1 << 30 => {
+        [a, b, c, d] if alpha < 1 << 34 => {
             Some((cell_within(a, b, c, d, alpha), cell_least(a, b, c, d)))
         }
         _ => None,
