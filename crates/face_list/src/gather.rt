@@ -16,8 +16,8 @@ use std::alloc::{AllocError, Global};
 use std::cmp::Ordering;
 use std::thread::Threads;
 
-// Items in order, each once.
-fn each_once<K: Ord + Copy>(mut items: Vec<(K, u32)>) -> Vec<(K, u32)>
+/// Items in order, each once.
+pub fn each_once<K: Ord + Copy>(mut items: Vec<(K, u32)>) -> Vec<(K, u32)>
     requires exact { CmpEqualImpliesEq K.cmp }
     requires order { IsSorted (item_cmp K.cmp) items.items }
     ensures order { IsStrictlySortedBy (item_cmp K.cmp) result.items }
@@ -67,8 +67,8 @@ fn put_key<K: Ord + Copy>(keys: &mut Vec<K>, key: K) -> Result<(), AllocError>
     Ok(())
 }
 
-// The keys of the items of Full cells, each once.
-fn keys_of_full<K: Ord + Copy>(
+/// The keys of the items of Full cells, each once.
+pub fn keys_of_full<K: Ord + Copy>(
     alloc: Global,
     cells: &[Cell],
     items: &[(K, u32)],
@@ -124,8 +124,8 @@ fn put_end(ends: &mut Vec<u32>, count: usize) -> Result<(), AllocError>
     Ok(())
 }
 
-// The keys, each with the numbers of its items.
-fn with_numbers<K: Ord + Copy>(
+/// The keys, each with the numbers of its items.
+pub fn with_numbers<K: Ord + Copy>(
     alloc: Global,
     keys: Vec<K>,
     items: &[(K, u32)],

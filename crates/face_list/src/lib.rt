@@ -18,6 +18,7 @@
 ghost use Rattle.std.specs.Prelude.{◌≡◌, IfOk};
 ghost use Rattle.face_list.specs.Faces.{points_in, parts_in, points_with_cells, with_cells};
 
+mod alone;
 pub mod face;
 mod gather;
 pub mod laws;
@@ -25,6 +26,7 @@ mod lists;
 mod parts;
 mod table;
 
+pub use alone::few_faces;
 pub use face::Faces;
 use point_order::Cell;
 use std::alloc::{AllocError, Global};

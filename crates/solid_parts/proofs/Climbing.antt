@@ -1,57 +1,16 @@
 -- Links taken one after another, as far as their alphas are at most a number.
-use Rattle.std.proofs.Common.{
-  ◌≡◌,
-  ◌≢◌,
-  refl,
-  sym,
-  subst,
-  ap,
-  ap₂,
-  ◌∙◌,
-  ℕ,
-  zero,
-  suc,
-  ◌<◌,
-  ◌≤◌,
-  ◌+◌,
-  inl,
-  inr,
-  Bool,
-  true,
-  false,
-  List,
-  [],
-  ◌∷◌,
-  ◌++◌,
-  All,
-  length,
-  get_or,
-  arith,
-  nat_le,
-}
+use Rattle.std.proofs.Common.{◌≡◌, ◌≢◌, refl, sym, subst, ap, ◌∙◌, ℕ, zero, suc, ◌<◌, ◌≤◌, ◌+◌, inl, inr, Bool, true, false, List, [], ◌∷◌, ◌++◌, length, arith, nat_le}
 use Rattle.std.specs.Prelude.{◌⊎◌, ◌==◌, IsPermutation, cond, if◌then◌else◌}
 use Rattle.std.specs.List.{AllWithin, filter, range_with_len}
 use Rattle.std.specs.List.Sorted.{IsPartitionPoint}
 use Rattle.std.proofs.lemmas.Bool.{cases_lt}
 use Rattle.std.proofs.lemmas.Bool.Decides.{nat_tests}
-use Rattle.std.proofs.lemmas.List.{get_or_default, length-append, length-map}
+use Rattle.std.proofs.lemmas.List.{length-append, length-map}
 use Rattle.std.proofs.lemmas.List.Sorted.{sum_by-IsPermutation}
 use Rattle.std.proofs.lemmas.List.Sums.{length-filter}
 use Rattle.std.proofs.lemmas.List.FromFn.{get_or-range_with_len, length-range_with_len}
-use Rattle.list_laws.specs.Lists.{AreDistinct, IsIn}
-use Rattle.list_laws.proofs.Cited.{
-  at_in,
-  at_most,
-  counted_below,
-  distinct_ascending,
-  distinct_filter,
-  each_of_all,
-  filtered_from,
-  filtered_true,
-  in_left,
-  in_right,
-  range_ascending,
-}
+use Rattle.list_laws.specs.Lists.{IsIn}
+use Rattle.list_laws.proofs.Cited.{at_most, counted_below, distinct_ascending, distinct_filter, filtered_from, filtered_true, in_left, in_right, range_ascending}
 use Rattle.solid_parts.specs.declared.links.Link.{Link}
 use Rattle.solid_parts.specs.declared.climb.Climb.{Climb}
 use Rattle.solid_parts.specs.Groups.{AreMerged, AreTogether, IsMerged, LeadDown, LeadTo, label_at, merged, moved}

@@ -30,11 +30,11 @@ use Rattle.std.proofs.Common.{
   arith,
   nat_le,
 }
-use Rattle.std.specs.Prelude.{◌⊎◌, ◌==◌, cond, not}
-use Rattle.std.specs.List.{AllZip, filter, range_with_len}
+use Rattle.std.specs.Prelude.{◌==◌, cond, not}
+use Rattle.std.specs.List.{filter, range_with_len}
 use Rattle.std.proofs.lemmas.Bool.{cases_lt}
 use Rattle.std.proofs.lemmas.Bool.Decides.{nat_tests}
-use Rattle.std.proofs.lemmas.List.{length-append, length-map}
+use Rattle.std.proofs.lemmas.List.{length-append}
 use Rattle.std.proofs.lemmas.List.Filters.{length-filter_both}
 use Rattle.std.proofs.lemmas.List.FromFn.{length-range_with_len}
 use Rattle.std.proofs.lemmas.List.Sums.{length-filter}
@@ -58,7 +58,6 @@ use Rattle.face_list.specs.Tables.{cell_at}
 use Rattle.alpha_complex.specs.Condition.{AreFacesOf}
 use Rattle.alpha_complex.specs.Judged.{is_small_cell}
 use Rattle.alpha_complex.specs.Leasts.{AreLeastOf, IsLeastOf}
-use Rattle.alpha_complex.specs.Shapes.{shape_of}
 use Rattle.alpha_complex.proofs.Cited.{cells_are}
 use Rattle.solid_parts.specs.declared.links.Link.{Link}
 use Rattle.solid_parts.specs.declared.climb.Climb.{Climb}
@@ -66,7 +65,7 @@ use Rattle.solid_parts.specs.Gathered.{IsNumberOf}
 use Rattle.solid_parts.specs.Groups.{AreTogether, IsMarked, LeadDown, LeadTo, label_at}
 use Rattle.solid_parts.specs.Labels.{AreAlike}
 use Rattle.solid_parts.specs.LeastAlpha.{IsCompact}
-use Rattle.solid_parts.specs.Links.{AreLinked, ClimbsTo, IsClimbed, IsLinked, IsPast, IsWithin, count_to, link_at, link_of, own_count}
+use Rattle.solid_parts.specs.Links.{AreLinked, ClimbsTo, IsClimbed, IsPast, IsWithin, count_to, link_of}
 use Rattle.solid_parts.specs.Parts.{AreParts, first_of}
 use Rattle.solid_parts.proofs.Climbing.{first_climb}
 use Rattle.solid_parts.proofs.Few.{has_first}

@@ -1,21 +1,5 @@
 -- Links between cells around triples, taken in the order of the alphas at which both cells are admitted.
-use Rattle.std.specs.Prelude.{
-  ◌≡◌,
-  ◌<◌,
-  ◌≤◌,
-  ◌+◌,
-  ◌==◌,
-  ℕ,
-  Bool,
-  false,
-  max,
-  All,
-  List,
-  [],
-  length,
-  nat_le,
-  slice_index_or,
-}
+use Rattle.std.specs.Prelude.{◌≡◌, ◌<◌, ◌≤◌, ◌+◌, ◌==◌, ℕ, max, All, List, [], length, nat_le, slice_index_or}
 use Rattle.std.specs.List.{count_by, filter, range_with_len}
 use Rattle.std.specs.List.Sorted.{IsNonDecreasingBy}
 use Rattle.list_laws.specs.Lists.{IsIn}

@@ -1,7 +1,7 @@
 -- The text of solid parts.
 use Rattle.std.specs.Prelude.{ℕ, List, ◌++◌, map, length, codes, decimal}
 use Rattle.text_sheets.specs.Lines.{block}
-use Rattle.solid_parts.specs.declared.sizes.PartSize.{PartSize}
+use Rattle.solid_parts.specs.declared.part.PartSize.{PartSize}
 use Rattle.solid_parts.specs.Boundary.{boundary_of}
 
 -- how many cells a part has, and how many triangles its boundary

@@ -1,6 +1,7 @@
 //! Labels of cells: those that chains join have one.
 
-ghost use Rattle.std.specs.Prelude.{◌≡◌, length, IfOk};
+ghost use Rattle.std.specs.Prelude.{◌≡◌, ◌<◌, [], All, length, slice_index_or, IfOk};
+ghost use Rattle.face_list.specs.Tables.{numbered};
 ghost use Rattle.std.specs.List.{range_with_len};
 ghost use Rattle.solid_parts.specs.Labels.{AreLabels};
 
@@ -25,6 +26,16 @@ pub fn numbers_below(alloc: Global, count: usize) -> Result<Vec<u32>, AllocError
     Ok(numbers)
 }
 
+/// The numbers of the cells around the triple of an index.
+pub fn around<'a>(faces: &'a Faces<'_>, index: usize) -> &'a [u32]
+    requires { index < length faces.now.triples }
+    ensures cells { numbered faces.now.cells result.now ≡ (slice_index_or faces.now.triples index ([], [])).1 }
+    ensures below { All (λ n. n < length faces.now.cells) result.now }
+{
+    let (_, numbers) = faces.triple(index);
+    numbers
+}
+
 /// The labels of the cells: marked ones have one where chains of marked cells join them.
 ///
 /// # Errors
@@ -35,8 +46,7 @@ pub fn labels_of(alloc: Global, faces: &Faces, marks: &[bool]) -> Result<Vec<u32
 {
     let mut leads = numbers_below(alloc, faces.cells().len())?;
     for index in 0..faces.triples().len() {
-        let (_, around) = faces.triple(index);
-        join_all(&mut leads, marks, around);
+        join_all(&mut leads, marks, around(faces, index));
     }
     flatten(&mut leads);
     Ok(leads)

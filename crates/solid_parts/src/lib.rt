@@ -5,13 +5,16 @@
 //!
 //! ```
 //! let faces = faces(rt, alloc, &cells)?;             // of the sorted cells of a complex
-//! for part in &parts(alloc, &faces, 4800)? {         // at a squared radius of 300
-//!     let outside = boundary(rt, alloc, part)?;          // triangles, each turned the same way round
+//! let parts = parts(alloc, &faces, 4800)?;            // at a squared radius of 300
+//! for part in &parts {
+//!     let outside = boundary(alloc, part)?;           // triangles, each turned the same way round
 //! }
+//! put_parts(&mut out, 4800, &sizes(alloc, &parts)?)?;
+//! let least = least_alpha(rt, alloc, &faces, 1)?;     // at which all points are in one part
 //! ```
 #![tactic(auto)]
 
-ghost use Rattle.std.specs.Prelude.{◌≡◌, ◌<◌, ◌≤◌, ◌^◌, ◌↔◌, ℕ, List, IfOk, IsTrue};
+ghost use Rattle.std.specs.Prelude.{◌≡◌, ◌<◌, ◌≤◌, ◌^◌, ◌↔◌, ℕ, List, IfOk, IsTrue, map};
 ghost use Rattle.alpha_complex.specs.Condition.{AreFaces, AreFacesOf};
 ghost use Rattle.alpha_complex.specs.Admitted.{is_admitted_cell};
 ghost use Rattle.alpha_complex.specs.Judged.{is_small_cell};
@@ -22,6 +25,7 @@ ghost use Rattle.solid_parts.specs.Boundary.{boundary_of};
 ghost use Rattle.solid_parts.specs.LeastAlpha.{IsCompact, IsLeastAlpha, IsStart};
 ghost use Rattle.solid_parts.specs.Parts.{AreParts};
 ghost use Rattle.solid_parts.specs.Seen.{parts_seen};
+ghost use Rattle.solid_parts.specs.Text.{size_of};
 
 mod climb;
 mod gathering;
@@ -32,24 +36,23 @@ mod least;
 mod links;
 mod marks;
 pub mod part;
-pub mod sizes;
 mod texts;
 mod turning;
 
 use alpha_complex::{Alphas, alphas};
 use climb::{Climb, climb_to, count_to};
-use face_list::{Faces, faces};
+use face_list::{Faces, few_faces};
 use gathering::gather;
 use labels::{labels_of, numbers_below};
 use least::{cover_least, in_order, sorted};
 use links::links_of;
 use marks::marks_of;
-pub use part::Part;
-pub use sizes::PartSize;
-pub use texts::put_parts;
+use part::size;
+pub use part::{Part, PartSize};
 use point_order::Point;
 use std::alloc::{AllocError, Global};
 use std::thread::Threads;
+pub use texts::put_parts;
 use turning::{full_cells, outside_of};
 
 // Every alpha is below this.
@@ -156,14 +159,25 @@ pub fn least_alpha<R: Threads + Sync>(
 ///
 /// # Errors
 /// Want of memory.
-pub fn boundary<R: Threads + Sync>(
-    rt: &R,
-    alloc: Global,
-    part: &Part,
-) -> Result<Vec<[Point; 3]>, AllocError>
+pub fn boundary(alloc: Global, part: &Part) -> Result<Vec<[Point; 3]>, AllocError>
     ensures { IfOk result (λ v. v.items ≡ boundary_of part.now.cells.items) }
 {
     let cells = full_cells(alloc, &part.cells)?;
-    let faces = faces(rt, alloc, &cells)?;
+    let faces = few_faces(alloc, &cells)?;
     outside_of(alloc, &faces)
+}
+
+/// The size of each part, in their order.
+///
+/// # Errors
+/// Want of memory.
+pub fn sizes(alloc: Global, parts: &[Part]) -> Result<Vec<PartSize>, AllocError>
+    ensures { IfOk result (λ v. v.items ≡ map size_of (parts_seen parts.now)) }
+{
+    let mut sizes = Vec::with_capacity(alloc, parts.len())?;
+    for part in parts {
+        let outside = boundary(alloc, part)?;
+        sizes.push(size(part.cells.len(), outside.len()))?;
+    }
+    Ok(sizes)
 }

@@ -4,6 +4,7 @@ ghost use Rattle.std.specs.Prelude.{◌≡◌, ◌∷◌, ◌<◌, [], All, leng
 ghost use Rattle.solid_parts.specs.Groups.{label_at};
 ghost use Rattle.solid_parts.specs.Links.{AreBelow, AreLinked, HasLinks, Keeps, Rise, link_of};
 
+use crate::labels::around;
 use crate::least::greater;
 use face_list::Faces;
 use std::alloc::{AllocError, Global};
@@ -81,8 +82,7 @@ fn all_links(alloc: Global, faces: &Faces, leasts: &[u64]) -> Result<Vec<Link>, 
 {
     let mut links = Vec::new(alloc);
     for index in 0..faces.triples().len() {
-        let (_, around) = faces.triple(index);
-        put_links_around(&mut links, leasts, around)?;
+        put_links_around(&mut links, leasts, around(faces, index))?;
     }
     Ok(links)
 }

@@ -7,7 +7,7 @@ ghost use Rattle.text_sheets.specs.Lines.{block};
 ghost use Rattle.text_sheets.specs.Sheets.{Puts};
 ghost use Rattle.solid_parts.specs.Text.{size_line, sizes_text};
 
-use crate::sizes::PartSize;
+use crate::part::PartSize;
 use byte_ends::{Failed, Sink};
 use text_sheets::{Sheet, put_number, put_title};
 

@@ -1,5 +1,4 @@
-use Rattle.std.proofs.Common.{◌∙◌, ap, get_or, length, List, ℕ, refl, subst, sym}
-use Rattle.std.specs.List.{range_with_len}
+use Rattle.std.proofs.Common.{get_or, length, refl, subst, sym}
 use Rattle.solid_parts.proofs.Counting.{IsClimbing, apart_at_least, climbs_on, least_count, starts_climbing}
 use Rattle.solid_parts.proofs.Few.{found, lent_levels, none_more, not_found}
 use Rattle.solid_parts.proofs.Paths.{written_back}

@@ -1,5 +1,5 @@
 -- none of the numbers before the place does, and links were taken
-use Rattle.std.proofs.Common.{◌≡◌, List, ℕ, length}
+use Rattle.std.proofs.Common.{List, ℕ, length}
 use Rattle.alpha_complex.specs.Condition.{AreFacesOf}
 use Rattle.solid_parts.proofs.Few.{NoneBefore}
 use Rattle.solid_parts.proofs.Counting.{IsClimbing}

@@ -1,4 +1,4 @@
-use Rattle.std.proofs.Common.{List, ℕ, subst, sym}
+use Rattle.std.proofs.Common.{List, subst, sym}
 use Rattle.face_list.specs.Seen.{FaceLists}
 use Rattle.point_order.specs.Complex.{complex}
 use Rattle.alpha_complex.specs.declared.numbers.FaceAlphas.{FaceAlphas}

@@ -1,6 +1,6 @@
-use Rattle.std.proofs.Common.{ℕ, ◌≡◌, ◌+◌, Bool, true, false, refl, ap, ◌∙◌, sym, arith}
+use Rattle.std.proofs.Common.{ℕ, ◌≡◌, ◌+◌, ap, ◌∙◌, sym, arith}
 use Rattle.solid_parts.specs.declared.climb.Climb.{Climb}
-use Rattle.solid_parts.proofs.Climbing.{added, all_past, none_climbed, none_left, one_taken}
+use Rattle.solid_parts.proofs.Climbing.{added, none_climbed, one_taken}
 use Rattle.solid_parts.proofs.climb.climb_to.Goals.{then-merge, else-merge}
 use Rattle.solid_parts.proofs.climb.climb_to.Goals as goal
 

@@ -1,7 +1,7 @@
-use Rattle.std.proofs.Common.{◌∙◌, ◌≡◌, arith, ap, sym, subst, List, ℕ, [], length, ◌<◌, ◌+◌}
+use Rattle.std.proofs.Common.{◌∙◌, ◌≡◌, arith, ap, sym, subst, List, ℕ, length, ◌<◌, ◌+◌}
 use Rattle.point_order.specs.declared.cell.Cell.{Cell}
 use Rattle.std.specs.List.{range_with_len}
-use Rattle.std.proofs.lemmas.List.{get_or_default, length-map}
+use Rattle.std.proofs.lemmas.List.{length-map}
 use Rattle.solid_parts.specs.Labels.{AreLabels}
 use Rattle.solid_parts.proofs.Paths.{LeadToLabels, leads_end, leads_next, leads_start, written_back}
 use Rattle.solid_parts.proofs.labels.labels_of.Goals as goal
@@ -17,11 +17,9 @@ loop-index-preserved c =
     let old = c.loop-index.leads.items in
     let k = c.loop-index.index in
     let within = subst (λ n. k < n) (ap length c.triples-index-end.ensures ∙ length-map faces.triples (λ (f : List ℕ × List Cell). f.0)) c.loop-index-test.true in
-    let around = ap (λ (f : List ℕ × List Cell). f.1) c.triple.ensures.face
-    ∙ ap (λ (f : List ℕ × List Cell). f.1) (get_or_default faces.triples k _ ([], []) within) in
     let lent = c.deref_mut.ensures.value in
     subst (LeadToLabels faces marks (k + 1)) (sym (written_back c.loop-index.leads.len old c.deref_mut.result.now c.join_all.new.leads lent c.deref_mut.ensures.len c.join_all.auto.leads))
-    (leads_next faces marks k c.triple.result.1.now c.deref_mut.result.now c.join_all.new.leads within around c.triple.ensures.numbers
+    (leads_next faces marks k c.around.result.now c.deref_mut.result.now c.join_all.new.leads within c.around.ensures.cells c.around.ensures.below
     (subst (LeadToLabels faces marks k) (sym lent) c.loop-index.invariant) c.join_all.ensures.down c.join_all.ensures.joined)
 
 pub returns : goal.returns

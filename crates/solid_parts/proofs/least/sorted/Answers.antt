@@ -1,4 +1,4 @@
-use Rattle.std.proofs.Common.{ap, sym, ◌∙◌, subst, List, ℕ, ◌≡◌}
+use Rattle.std.proofs.Common.{ap, ◌∙◌, List, ℕ}
 use Rattle.std.proofs.lemmas.List.Sorted.{IsNonDecreasingBy-from_sort}
 use Rattle.solid_parts.specs.Links.{count_to}
 use Rattle.solid_parts.proofs.Climbing.{sorted_count}

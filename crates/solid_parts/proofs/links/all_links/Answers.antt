@@ -1,5 +1,5 @@
-use Rattle.std.proofs.Common.{◌∙◌, ◌≡◌, ◌<◌, arith, ap, sym, subst, List, ℕ, [], length}
-use Rattle.std.proofs.lemmas.List.{get_or_default, length-map}
+use Rattle.std.proofs.Common.{◌∙◌, ◌≡◌, ◌<◌, arith, ap, subst, List, ℕ, length}
+use Rattle.std.proofs.lemmas.List.{length-map}
 use Rattle.point_order.specs.declared.cell.Cell.{Cell}
 use Rattle.solid_parts.specs.Links.{AreLinked}
 use Rattle.solid_parts.proofs.Linking.{no_triples, triple_more}
@@ -13,9 +13,7 @@ loop-index-preserved c =
     let faces = c.args.faces.now in
     let k = c.loop-index.index in
     let within = subst (λ n. k < n) (ap length c.triples-index-end.ensures ∙ length-map faces.triples (λ (f : List ℕ × List Cell). f.0)) c.loop-index-test.true in
-    let around = ap (λ (f : List ℕ × List Cell). f.1) c.triple.ensures.face
-    ∙ ap (λ (f : List ℕ × List Cell). f.1) (get_or_default faces.triples k _ ([], []) within) in
-    triple_more faces c.args.leasts.now k c.triple.result.1.now c.loop-index.links.items _ around c.triple.ensures.numbers c.loop-index.invariant
+    triple_more faces c.args.leasts.now k c.around.result.now c.loop-index.links.items _ c.around.ensures.cells c.around.ensures.below c.loop-index.invariant
     c.in_ok-put_links_around.ensures.keeps c.in_ok-put_links_around.ensures.has c.in_ok-put_links_around.ensures.below
 
 pub returns-clause-linked : goal.returns-clause-linked

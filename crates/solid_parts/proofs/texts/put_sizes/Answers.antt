@@ -1,9 +1,9 @@
-use Rattle.std.proofs.Common.{List, ℕ, refl, length, sym, get_or}
+use Rattle.std.proofs.Common.{List, refl, length, sym, get_or}
 use Rattle.std.specs.Prelude.{map, codes}
 use Rattle.std.specs.List.{concat}
 use Rattle.std.proofs.lemmas.List.{length-map}
 use Rattle.text_sheets.proofs.Cited.{ends, goes_on, own_item, starts}
-use Rattle.solid_parts.specs.declared.sizes.PartSize.{PartSize}
+use Rattle.solid_parts.specs.declared.part.PartSize.{PartSize}
 use Rattle.solid_parts.specs.Text.{size_line}
 use Rattle.solid_parts.proofs.texts.put_sizes.Goals as goal
 

@@ -1,0 +1,19 @@
+use Rattle.std.proofs.Common.{subst, sym, ℕ, List}
+use Rattle.std.specs.Ordering.{nat_cmp}
+use Rattle.std.specs.Cmp.Lexicographic.{slice_cmp}
+use Rattle.point_order.specs.Subsets.{subsets}
+use Rattle.std.proofs.lemmas.Map.Lookups.{exact_bytes}
+use Rattle.std.proofs.lemmas.Result.{IfOk-weaker}
+use Rattle.point_order.specs.Facets.{points_of}
+use Rattle.face_list.specs.Gather.{AreItems, Gathers}
+use Rattle.face_list.proofs.FaceLists.{items_name, parts_gathered}
+use Rattle.face_list.proofs.alone.pair_table.Goals as goal
+
+pub gather-requires-clause-exact : goal.gather-requires-clause-exact
+gather-requires-clause-exact c = exact_bytes
+
+pub gather-requires-clause-numbers : goal.gather-requires-clause-numbers
+gather-requires-clause-numbers c = subst (AreItems _) (sym c.in_ok-items.ensures) (items_name (λ c. subsets 2 (points_of c)) c.args.cells.now)
+
+pub returns-clause-faces : goal.returns-clause-faces
+returns-clause-faces c = IfOk-weaker c.gather.result _ _ (λ t g. parts_gathered 2 c.args.cells.now t c.requires.ascending (subst (λ (l : List (List ℕ × ℕ)). Gathers (slice_cmp nat_cmp) c.args.cells.now l t) c.in_ok-items.ensures g)) c.gather.ensures.gathers

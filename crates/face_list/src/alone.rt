@@ -1,0 +1,98 @@
+//! The faces of cells, gathered by one thread.
+
+ghost use Rattle.std.specs.Prelude.{◌≡◌, ◌<◌, ◌^◌, ◌↔◌, ℕ, length, IfOk, OnOk};
+ghost use Rattle.std.specs.List.Sorted.{IsStrictlySortedBy};
+ghost use Rattle.std.proofs.lemmas.Map.Lookups.{CmpEqualImpliesEq};
+ghost use Rattle.point_order.specs.Sets.{IsIn};
+ghost use Rattle.face_list.specs.Faces.{parts_in, points_in, points_with_cells, with_cells};
+ghost use Rattle.face_list.specs.Gather.{AreAscending, AreItems, Gathers, item_cmp};
+ghost use Rattle.face_list.specs.Tables.{IsTable, table_seen};
+
+use crate::face::Faces;
+use crate::gather::{each_once, keys_of_full, with_numbers};
+use crate::parts::{pair_items, point_items, triple_items};
+use crate::table::Table;
+use point_order::{Cell, Pair, Point, Tri};
+use std::alloc::{AllocError, Global};
+
+// The items in order, each once.
+fn in_order<K: Ord + Copy>(mut items: Vec<(K, u32)>) -> Vec<(K, u32)>
+    requires { CmpEqualImpliesEq K.cmp }
+    ensures order { IsStrictlySortedBy (item_cmp K.cmp) result.items }
+    ensures same { (i : K × ℕ) → IsIn i result.items ↔ IsIn i items.items }
+{
+    items.sort_unstable();
+    each_once(items)
+}
+
+// Each key of a Full cell, in order, with the numbers of the cells of its items, in order. It is refused as want of
+// memory where there are more numbers than 32 bits count.
+fn gather<K: Ord + Copy>(
+    alloc: Global,
+    cells: &[Cell],
+    items: Vec<(K, u32)>,
+) -> Result<Table<K>, AllocError>
+    requires exact { CmpEqualImpliesEq K.cmp }
+    requires numbers { AreItems (length cells.now) items.items }
+    ensures gathers { IfOk result (λ t. Gathers K.cmp cells.now items.items t) }
+    ensures table { IfOk result (λ t. IsTable (length cells.now) t) }
+{
+    let items = in_order(items);
+    let keys = keys_of_full(alloc, cells, &items)?;
+    let table = with_numbers(alloc, keys, &items)?;
+    Ok(table)
+}
+
+// The points of Full cells, with the cells that have them. The points of each cell ascend.
+fn point_table(alloc: Global, cells: &[Cell]) -> Result<Table<Point>, AllocError>
+    requires { length cells.now < 2 ^ 32 }
+    ensures faces { IfOk result (λ t. table_seen cells.now t ≡ points_with_cells (points_in cells.now) cells.now) }
+    ensures table { IfOk result (λ t. IsTable (length cells.now) t) }
+    ensures ascending { OnOk result (AreAscending cells.now) }
+{
+    let items = point_items(alloc, cells)?;
+    gather(alloc, cells, items)
+}
+
+// The pairs inside Full cells, with the cells that have both points.
+fn pair_table(alloc: Global, cells: &[Cell]) -> Result<Table<Pair>, AllocError>
+    requires few { length cells.now < 2 ^ 32 }
+    requires ascending { AreAscending cells.now }
+    ensures faces { IfOk result (λ t. table_seen cells.now t ≡ with_cells (parts_in 2 cells.now) cells.now) }
+    ensures table { IfOk result (λ t. IsTable (length cells.now) t) }
+{
+    let items = pair_items(alloc, cells)?;
+    gather(alloc, cells, items)
+}
+
+// The triples inside Full cells, with the cells that have all three points.
+fn triple_table(alloc: Global, cells: &[Cell]) -> Result<Table<Tri>, AllocError>
+    requires few { length cells.now < 2 ^ 32 }
+    requires ascending { AreAscending cells.now }
+    ensures faces { IfOk result (λ t. table_seen cells.now t ≡ with_cells (parts_in 3 cells.now) cells.now) }
+    ensures table { IfOk result (λ t. IsTable (length cells.now) t) }
+{
+    let items = triple_items(alloc, cells)?;
+    gather(alloc, cells, items)
+}
+
+/// The faces that `faces` gives of the cells, gathered by the thread that calls: for few cells.
+///
+/// # Errors
+/// Want of memory. Where 32 bits do not count the cells around all faces, there is none.
+pub fn few_faces(alloc: Global, cells: &[Cell]) -> Result<Faces<'_>, AllocError>
+    ensures points { IfOk result (λ f. f.points ≡ points_with_cells (points_in cells.now) cells.now) }
+    ensures pairs { IfOk result (λ f. f.pairs ≡ with_cells (parts_in 2 cells.now) cells.now) }
+    ensures triples { IfOk result (λ f. f.triples ≡ with_cells (parts_in 3 cells.now) cells.now) }
+    ensures cells { IfOk result (λ f. f.cells ≡ cells.now) }
+{
+    if u32::try_from(cells.len()).is_err() {
+        return Err(AllocError);
+    }
+    Ok(Faces {
+        cells,
+        points: point_table(alloc, cells)?,
+        pairs: pair_table(alloc, cells)?,
+        triples: triple_table(alloc, cells)?,
+    })
+}
