@@ -11,22 +11,29 @@ use point_order::{Cell, Facet};
 use std::alloc::AllocError;
 use std::marker::Model;
 
-// A slot: its cell, if it has one, and what is likely of that: where the cells across its facets stand, and, once it was
-// taken out, the how-manieth that was. Contracts see it as the cell.
+// Whether a slot has a cell. That of a free slot was likely the so manieth of those that were taken out.
+#[derive(Clone, Copy)]
+pub(crate) enum State {
+    Kept(Cell),
+    Free(u32),
+}
+
+// A slot, and where the cells across the facets of its cell are likely to stand. They are kept where the cell is taken
+// out. Contracts see it as the cell.
 #[derive(Drop)]
 pub(crate) struct Slot {
-    cell: Option<Cell>,
+    state: State,
     links: [u32; 4],
-    taken: u32,
 }
 
 impl Model for Slot {
     ghost use Rattle.std.specs.Prelude.{Option};
     ghost use Rattle.point_order.specs.declared.cell.Cell.{Cell};
+    ghost use Rattle.cloud_cells.specs.States.{cell_in};
 
     ghost Value = { Option Cell };
 
-    ghost view = { λ s. s.cell };
+    ghost view = { λ s. cell_in s.state };
 }
 
 // A number in 32 bits, where it has no more.
@@ -40,9 +47,8 @@ impl Slot {
         ensures { result ≡ Some cell }
     {
         Slot {
-            cell: Some(cell),
+            state: State::Kept(cell),
             links: [0; 4],
-            taken: 0,
         }
     }
 
@@ -50,7 +56,10 @@ impl Slot {
     pub(crate) fn cell(&self) -> Option<Cell>
         ensures { result ≡ self.now }
     {
-        self.cell
+        match self.state {
+            State::Kept(cell) => Some(cell),
+            State::Free(_) => None,
+        }
     }
 
     // Where the cell across facet k is likely to stand.
@@ -69,22 +78,24 @@ impl Slot {
 
     // The how-manieth that was taken out the cell is likely to be.
     pub(crate) fn taken(&self) -> usize {
-        self.taken as usize
+        match self.state {
+            State::Kept(_) => 0,
+            State::Free(number) => number as usize,
+        }
     }
 
     // The cell is taken out, so many after the first.
     fn clear(&mut self, number: usize)
         ensures { self.new ≡ None }
     {
-        self.cell = None;
-        self.taken = short(number);
+        self.state = State::Free(short(number));
     }
 
     // A cell is put in.
     fn fill(&mut self, cell: Cell)
         ensures { self.new ≡ Some cell }
     {
-        self.cell = Some(cell);
+        self.state = State::Kept(cell);
     }
 }
 
