@@ -221,8 +221,8 @@ grid_size words = number_of (codes "grid") 1 most_grid (subcommand_of program (t
 unfoldable pub AreTaken : List (String Global) → Type 0
 AreTaken words = (fault_of program (texts_of words) ≡ []) × (is_grid_size (grid_size words) ≡ true)
 
--- what a command does: it writes the report of a file that it reads (`mesh` and `shape`), or the least alphas (`steps`),
--- or draws a file (`gen`)
+-- what a command does: it writes the report of a file that it reads (`mesh` and `shape`), or its least alphas
+-- (`steps`), or it draws a file (`gen`)
 pub data Kind : Type 0 where
   Reports : Kind
   Steps : Kind
