@@ -27,19 +27,26 @@ pub still_in : (l : List Pair) (p : Pair) → AreStill l → IsIn p l → is_mov
 still_in l p h i = each_of_all (λ (q : Pair). is_move q.1 ≡ false) l h p i
 
 -- the pair at a place
-pub still_at : (l m : List Pair) (k : ℕ) (x : Pair) → m ≡ l → k < length m → x ≡ get_or m k x → AreStill l → is_move x.1 ≡ false
-still_at l m k x e lt is h = still_in l x h (subst (IsIn x) e (subst (λ (y : Pair). IsIn y m) (sym is) (at_in m k x lt)))
+pub still_at : (l m : List Pair) (k : ℕ) (x : Pair) → m ≡ l → k < length m → x ≡ get_or m k x → AreStill l →
+    is_move x.1 ≡ false
+still_at l m k x e lt is h = still_in l x h (subst (IsIn x) e (subst (λ (y : Pair). IsIn y m) (sym is)
+    (at_in m k x lt)))
 
 -- pairs of lists
-pub all_still : (lists : List (List Pair)) → All AreStill lists → (p : Pair) → IsIn p (flat_map (λ l. l) lists) → is_move p.1 ≡ false
+pub all_still : (lists : List (List Pair)) → All AreStill lists → (p : Pair) → IsIn p (flat_map (λ l. l) lists) →
+    is_move p.1 ≡ false
 all_still lists h p i = from lists (λ l j. each_of_all AreStill lists h l j) i
   where
-    from : (lists : List (List Pair)) → ((l : List Pair) → IsIn l lists → AreStill l) → IsIn p (flat_map (λ l. l) lists) → is_move p.1 ≡ false
+    from : (lists : List (List Pair)) → ((l : List Pair) → IsIn l lists → AreStill l) →
+        IsIn p (flat_map (λ l. l) lists) → is_move p.1 ≡ false
     from [] f i = absurd i
-    from (l ∷ ls) f i = elim (from_append p l (flat_map (λ l. l) ls) i) [ inl j ↦ still_in l p (f l (inl refl)) j | inr j ↦ from ls (λ m k. f m (inr k)) j ]
+    from (l ∷ ls) f i = elim (from_append p l (flat_map (λ l. l) ls) i)
+        [ inl j ↦ still_in l p (f l (inl refl)) j | inr j ↦ from ls (λ m k. f m (inr k)) j ]
 
 -- those left over, in another order
-pub sorted_still : (lists : List (List Pair)) (made left sorted : List Pair) → All AreStill lists → IsPermutation (flat_map (λ l. l) lists) (made ++ left) → IsPermutation left sorted → AreStill sorted
+pub sorted_still : (lists : List (List Pair)) (made left sorted : List Pair) → All AreStill lists →
+    IsPermutation (flat_map (λ l. l) lists) (made ++ left) → IsPermutation left sorted → AreStill sorted
 sorted_still lists made left sorted h a b = all_of_each (λ (p : Pair). is_move p.1 ≡ false) sorted
-    (λ p i. all_still lists h p (in_permutation (made ++ left) (flat_map (λ l. l) lists) p (IsPermutation-sym (flat_map (λ l. l) lists) (made ++ left) a)
+    (λ p i. all_still lists h p (in_permutation (made ++ left) (flat_map (λ l. l) lists) p
+    (IsPermutation-sym (flat_map (λ l. l) lists) (made ++ left) a)
     (in_right p made left (in_permutation sorted left p (IsPermutation-sym left sorted b) i))))

@@ -1,23 +1,19 @@
 //! Hanskup: the Delaunay triangulation of points in space, and its alpha complexes, from one crate.
 //!
-//! Points have whole coordinates from 0 to 16383; ties are broken by one fixed rule; all is exact and proved. This crate
-//! passes on what a program needs of the library, and adds `locate`. The program `tour` calls it, and runs as it stands.
+//! Points have whole coordinates from 0 to 16383; ties are broken by one fixed rule; all is exact and proved. This
+//! crate passes on what a program needs of the library, and adds `locate`. The program `tour` calls it, and runs as it
+//! stands.
 //!
-//! | I want | call |
-//! |---|---|
-//! | a point; the side of a plane, of a sphere | `Point::new`; `orient`, `outside` |
-//! | a mesh of points | `opening_points` for four of them, `begin`, then `apply` an `Edit::Add` for each other point |
-//! | to add, take or move a point | `apply`, which answers the reply and the number of the entry |
-//! | the cells; the points; what was done | `complex`; `points`; `history` |
-//! | where a place lies; the nearest point | `locate`; `nearest(mesh.hold(), q)` |
-//! | edges and triangles with their cells | `faces` of the cells |
-//! | an alpha complex, with kinds of faces | `alpha`; for several alphas `alphas`, then `Alphas::shape` |
-//! | the least alpha of every face | `thresholds`, and `put_steps` for its text |
-//! | solid parts, their boundaries, the least alpha for so many | `parts`, `boundary`, `least_alpha` |
-//! | to judge cells from elsewhere | `check` |
-//! | several threads on one mesh | `table::MeshTable::open`; `split` a pass for each; `try_edit`, `try_snapshot`; `close` |
-//! | texts | `mesh_text`, `shape_text`, and `put_report` to a sink |
-//! | edit files | `read_file`, `file_text` |
+//! | I want | call | |---|---| | a point; the side of a plane, of a sphere | `Point::new`; `orient`, `outside` | | a
+//! mesh of points | `opening_points` for four of them, `begin`, then `apply` an `Edit::Add` for each other point | | to
+//! add, take or move a point | `apply`, which answers the reply and the number of the entry | | the cells; the points;
+//! what was done | `complex`; `points`; `history` | | where a place lies; the nearest point | `locate`;
+//! `nearest(mesh.hold(), q)` | | edges and triangles with their cells | `faces` of the cells | | an alpha complex, with
+//! kinds of faces | `alpha`; for several alphas `alphas`, then `Alphas::shape` | | the least alpha of every face |
+//! `thresholds`, and `put_steps` for its text | | solid parts, their boundaries, the least alpha for so many | `parts`,
+//! `boundary`, `least_alpha` | | to judge cells from elsewhere | `check` | | several threads on one mesh |
+//! `table::MeshTable::open`; `split` a pass for each; `try_edit`, `try_snapshot`; `close` | | texts | `mesh_text`,
+//! `shape_text`, and `put_report` to a sink | | edit files | `read_file`, `file_text` |
 //!
 //! An alpha is a squared radius in sixteenths of the square of the unit of the grid.
 //!

@@ -11,8 +11,8 @@ mod threads;
 
 use anyhow::{Result, bail};
 use hanskup::{
-    Cell, Edit, Faces, Grid, Location, Mesh, Point, Shape, alpha, apply, begin, complex, faces, locate, opening_points, points,
-    shape_text,
+    Cell, Edit, Faces, Grid, Location, Mesh, Point, Shape, alpha, apply, begin, complex, faces,
+    locate, opening_points, points, shape_text,
 };
 use std::alloc::Global;
 use std::thread::Threads;

@@ -3,9 +3,9 @@
 //!
 //! A case is what is asked, and lists of words with semicolons between them. A point is written `x,y,z`, a cell is its
 //! four points, or the three of an Open one, and an edit is a point behind `+` or `-`, or behind `=` the place that a
-//! point leaves, `>` and its new place. An end is the number of bytes that a call gives or takes at most, and the numbers of its calls that fail, counted from 1. A bar stands for a line
-//! feed. A line whose first word is `#` is answered by itself, and where a call may not be made of the words the answer
-//! is `no case`.
+//! point leaves, `>` and its new place. An end is the number of bytes that a call gives or takes at most, and the
+//! numbers of its calls that fail, counted from 1. A bar stands for a line feed. A line whose first word is `#` is
+//! answered by itself, and where a call may not be made of the words the answer is `no case`.
 //!
 //! - `key X Y Z`: the key of the point and its coordinates, or which of the three is refused.
 //! - `cell CELL; POINT`: the cell's points, its facets in order, and whether the point is one of its own.

@@ -65,8 +65,8 @@ pub(crate) fn grid_of(answer: &mut Answer, lists: &str) -> Option<Grid> {
     }
 }
 
-// The mesh on that grid of the points of the second list, the first four independent ones first, and of the edits of the
-// third one, which has none where it names buckets; no mesh where no four are.
+// The mesh on that grid of the points of the second list, the first four independent ones first, and of the edits of
+// the third one, which has none where it names buckets; no mesh where no four are.
 pub(crate) fn mesh_of(alloc: Global, answer: &mut Answer, lists: &str) -> Option<Mesh> {
     let grid = grid_of(answer, lists)?;
     let points: Vec<Point> = answer.all(list_at(lists, 1));

@@ -3,7 +3,8 @@ use Rattle.insertion.proofs.Cited.{four_found}
 use Rattle.one_mesh.proofs.opening.opening_points.Goals as goal
 
 pub tagged_point-requires-3-clause-place : goal.tagged_point-requires-3-clause-place
-tagged_point-requires-3-clause-place c = (four_found c.args.points.now c.in_ok-four.four c.in_ok-four.ensures.found).third
+tagged_point-requires-3-clause-place c = (four_found c.args.points.now c.in_ok-four.four
+    c.in_ok-four.ensures.found).third
 
 pub tagged_point-requires-3-clause-small : goal.tagged_point-requires-3-clause-small
 tagged_point-requires-3-clause-small c =
@@ -12,7 +13,8 @@ tagged_point-requires-3-clause-small c =
     omega (arith, f, s)
 
 pub tagged_point-requires-4-clause-place : goal.tagged_point-requires-4-clause-place
-tagged_point-requires-4-clause-place c = (four_found c.args.points.now c.in_ok-four.four c.in_ok-four.ensures.found).fourth
+tagged_point-requires-4-clause-place c = (four_found c.args.points.now c.in_ok-four.four
+    c.in_ok-four.ensures.found).fourth
 
 pub tagged_point-requires-4-clause-small : goal.tagged_point-requires-4-clause-small
 tagged_point-requires-4-clause-small c =
