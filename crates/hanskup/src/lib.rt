@@ -4,16 +4,22 @@
 //! crate passes on what a program needs of the library, and adds `locate`. The program `tour` calls it, and runs as it
 //! stands.
 //!
-//! | I want | call | |---|---| | a point; the side of a plane, of a sphere | `Point::new`; `orient`, `outside` | | a
-//! mesh of points | `opening_points` for four of them, `begin`, then `apply` an `Edit::Add` for each other point | | to
-//! add, take or move a point | `apply`, which answers the reply and the number of the entry | | the cells; the points;
-//! what was done | `complex`; `points`; `history` | | where a place lies; the nearest point | `locate`;
-//! `nearest(mesh.hold(), q)` | | edges and triangles with their cells | `faces` of the cells | | an alpha complex, with
-//! kinds of faces | `alpha`; for several alphas `alphas`, then `Alphas::shape` | | the least alpha of every face |
-//! `thresholds`, and `put_steps` for its text | | solid parts, their boundaries, the least alpha for so many | `parts`,
-//! `boundary`, `least_alpha` | | to judge cells from elsewhere | `check` | | several threads on one mesh |
-//! `table::MeshTable::open`; `split` a pass for each; `try_edit`, `try_snapshot`; `close` | | texts | `mesh_text`,
-//! `shape_text`, and `put_report` to a sink | | edit files | `read_file`, `file_text` |
+//! | I want | call |
+//! |---|---|
+//! | a point; the side of a plane, of a sphere | `Point::new`; `orient`, `outside` |
+//! | a mesh of points | `opening_points`, `begin`, then `apply` of `Edit::Add` for each other point |
+//! | to add, take or move a point | `apply`, which answers the reply and the number of the entry |
+//! | the cells; the points; what was done | `complex`; `points`; `history` |
+//! | where a place lies; the nearest point | `locate`; `nearest(mesh.hold(), q)` |
+//! | edges and triangles with their cells | `faces` of the cells; by one thread `few_faces` |
+//! | an alpha complex, with kinds of faces | `alpha`; for several alphas `alphas`, then `Alphas::shape` |
+//! | the least alpha of every face | `thresholds`, and `put_steps` for its text |
+//! | solid parts, their boundaries, the least alpha for so many | `parts`, `boundary`, `least_alpha` |
+//! | the cells of a cloud, without a mesh | `complex_of_points` |
+//! | to judge cells from elsewhere | `check` |
+//! | several threads on one mesh | `table::MeshTable`: `open`, `split`, `try_edit`, `try_snapshot`, `close` |
+//! | texts | `mesh_text`, `shape_text`, `off_text`, and `put_report` to a sink |
+//! | edit files | `read_file`, `file_text` |
 //!
 //! An alpha is a squared radius in sixteenths of the square of the unit of the grid.
 //!
@@ -34,16 +40,17 @@ pub use alpha_complex::{Alphas, Kind, Shape, alpha, alphas};
 pub use alpha_steps::{Threshold, Thresholds, put_steps, thresholds};
 pub use byte_ends::{Failed, MemSink, MemSource, Sink, Source, StdSink, StdSource};
 pub use cell_store::{BadGrid, Grid, Hold, Mesh};
+pub use cloud_cells::complex_of_points;
 pub use edit_files::{File, ReadRefused, file_text, read_file};
 pub use edit_history::{Edit, Entry, NotSolid, PointSet, Reply};
 pub use exact_orient::{collinear, orient};
 pub use exact_sphere::sphere;
-pub use face_list::{Faces, faces};
+pub use face_list::{Faces, faces, few_faces};
 pub use mesh_check::{Flaw, Verdict, check};
-pub use mesh_files::{Report, mesh_text, put_report, shape_text, summary_text};
+pub use mesh_files::{Report, mesh_text, off_text, put_report, shape_text, summary_text};
 pub use near_vertex::{NearStart, NearTurn, NearWalk, nearest};
 pub use one_mesh::{Receipt, apply, begin, complex, history, opening_points, points};
 pub use place::{Location, locate};
 pub use point_order::{Cell, Facet, OutOfRange, Pair, Point, Quad, Tri};
-pub use solid_parts::{Part, boundary, least_alpha, parts};
+pub use solid_parts::{Part, PartSize, boundary, least_alpha, parts, put_parts, sizes};
 pub use sphere_ties::{conflict, outside};
