@@ -1,0 +1,50 @@
+// The peer of bench/steps: CGAL's alpha shape of all alphas of the points that an edit file leaves. The triangulation is made once, of
+// the final points (CGAL sorts them along a curve). With the word `mesh` that is all; with `double` an Alpha_shape_3 in GENERAL mode is
+// made of it, which finds the alphas at which each face comes in floating point, and with `exact` one that compares them exactly.
+// Nothing is written but counts.
+#include <CGAL/Alpha_shape_3.h>
+#include <CGAL/Alpha_shape_cell_base_3.h>
+#include <CGAL/Alpha_shape_vertex_base_3.h>
+#include <CGAL/Delaunay_triangulation_3.h>
+#include <CGAL/Exact_predicates_inexact_constructions_kernel.h>
+
+#include <array>
+#include <cstdio>
+#include <cstring>
+#include <set>
+#include <vector>
+
+using Kernel = CGAL::Exact_predicates_inexact_constructions_kernel;
+
+template <typename Exact> void shape(const std::vector<Kernel::Point_3> &points, bool alone) {
+    using Vertex = CGAL::Alpha_shape_vertex_base_3<Kernel, CGAL::Default, Exact>;
+    using Cell = CGAL::Alpha_shape_cell_base_3<Kernel, CGAL::Default, Exact>;
+    using Triangulation = CGAL::Delaunay_triangulation_3<Kernel, CGAL::Triangulation_data_structure_3<Vertex, Cell>>;
+    using Shape = CGAL::Alpha_shape_3<Triangulation, Exact>;
+    Triangulation mesh(points.begin(), points.end());
+    std::printf("%zu cells\n", mesh.number_of_finite_cells());
+    if (alone) return;
+    Shape shape(mesh, 0, Shape::GENERAL);
+    std::printf("%ld alphas\n", static_cast<long>(shape.number_of_alphas()));
+}
+
+int main(int count, char **words) {
+    std::set<std::array<int, 3>> places;
+    char line[128];
+    while (std::fgets(line, sizeof line, stdin) && std::strcmp(line, "radii\n") != 0) {
+        const bool edit = line[0] == '+' || line[0] == '-';
+        std::array<int, 3> p;
+        if (std::sscanf(line + (edit ? 1 : 0), "%d %d %d", &p[0], &p[1], &p[2]) != 3) continue;
+        if (line[0] == '-')
+            places.erase(p);
+        else
+            places.insert(p);
+    }
+    std::vector<Kernel::Point_3> points;
+    for (const auto &p : places) points.emplace_back(p[0], p[1], p[2]);
+    const char *word = count > 1 ? words[1] : "double";
+    if (std::strcmp(word, "exact") == 0)
+        shape<CGAL::Tag_true>(points, false);
+    else
+        shape<CGAL::Tag_false>(points, std::strcmp(word, "mesh") == 0);
+}
