@@ -27,7 +27,8 @@ last_distinct [] m d = d
 last_distinct (y ∷ l) m d = last_distinct l m d.1
 
 -- two parts that are apart
-joined : (l m : List Cell) → AreDistinct l → AreDistinct m → ((q : Cell) → IsIn q l → IsIn q m → ⊥) → AreDistinct (l ++ m)
+joined : (l m : List Cell) → AreDistinct l → AreDistinct m → ((q : Cell) → IsIn q l → IsIn q m → ⊥) →
+    AreDistinct (l ++ m)
 joined [] m d e a = e
 joined (y ∷ l) m d e a = (
   λ i. elim (from_append y l m i) [ inl j ↦ d.0 j | inr j ↦ a y (inl refl) j ],
@@ -35,7 +36,8 @@ joined (y ∷ l) m d e a = (
 )
 
 -- one more cell is gone
-pub taken : (s : List ℕ) (l gone rest : List Cell) (c : Cell) → AreCellsOf s (l ++ gone) → IsWithout l c rest → AreCellsOf s (rest ++ (gone ++ c ∷ []))
+pub taken : (s : List ℕ) (l gone rest : List Cell) (c : Cell) → AreCellsOf s (l ++ gone) → IsWithout l c rest →
+    AreCellsOf s (rest ++ (gone ++ c ∷ []))
 taken s l gone rest c k w =
     let here = (w.members c).1 (inr refl) in
     let d = w.once (first_distinct l gone k.once) in
@@ -71,14 +73,17 @@ with_none s l gone k e = subst (AreCellsOf s) (sym (ap (λ (g : List Cell). l ++
 -- ---- across a facet
 
 -- another on the facet in one part is so in the whole
-pub other_left : (l gone : List Cell) (c : Cell) (f : Facet) (o : Cell) → IsOtherOf l c f o → IsOtherOf (l ++ gone) c f o
+pub other_left : (l gone : List Cell) (c : Cell) (f : Facet) (o : Cell) → IsOtherOf l c f o →
+    IsOtherOf (l ++ gone) c f o
 other_left l gone c f o r = record { listed = in_left o l gone r.listed; has = r.has; differs = r.differs }
 
-pub other_right : (l gone : List Cell) (c : Cell) (f : Facet) (o : Cell) → IsOtherOf gone c f o → IsOtherOf (l ++ gone) c f o
+pub other_right : (l gone : List Cell) (c : Cell) (f : Facet) (o : Cell) → IsOtherOf gone c f o →
+    IsOtherOf (l ++ gone) c f o
 other_right l gone c f o r = record { listed = in_right o l gone r.listed; has = r.has; differs = r.differs }
 
 -- where none is gone, one is in the net
-pub other_kept : (l gone : List Cell) (c : Cell) (f : Facet) → HasOther (l ++ gone) c f → ((o : Cell) → ¬ (IsOtherOf gone c f o)) → HasOther l c f
+pub other_kept : (l gone : List Cell) (c : Cell) (f : Facet) → HasOther (l ++ gone) c f →
+    ((o : Cell) → ¬ (IsOtherOf gone c f o)) → HasOther l c f
 other_kept l gone c f h n = (
   h.0,
   elim (from_append h.0 l gone h.1.listed) [
@@ -88,6 +93,7 @@ other_kept l gone c f h n = (
 )
 
 -- a search that found none
-pub none_other : (gone : List Cell) (c : Cell) (f : Facet) (r : Option Cell) → MatchOption r (HasNoOtherIn gone c f) (IsOtherOf gone c f) → false ≡ is_some r → HasNoOtherIn gone c f
+pub none_other : (gone : List Cell) (c : Cell) (f : Facet) (r : Option Cell) →
+    MatchOption r (HasNoOtherIn gone c f) (IsOtherOf gone c f) → false ≡ is_some r → HasNoOtherIn gone c f
 none_other gone c f None m e = m
 none_other gone c f (Some o) m e = absurd (cc e)
