@@ -1,5 +1,31 @@
 -- Links taken one after another, as far as their alphas are at most a number.
-use Rattle.std.proofs.Common.{◌≡◌, ◌≢◌, refl, sym, subst, ap, ◌∙◌, ℕ, zero, suc, ◌<◌, ◌≤◌, ◌+◌, inl, inr, Bool, true, false, List, [], ◌∷◌, ◌++◌, length, arith, nat_le}
+use Rattle.std.proofs.Common.{
+  ◌≡◌,
+  ◌≢◌,
+  refl,
+  sym,
+  subst,
+  ap,
+  ◌∙◌,
+  ℕ,
+  zero,
+  suc,
+  ◌<◌,
+  ◌≤◌,
+  ◌+◌,
+  inl,
+  inr,
+  Bool,
+  true,
+  false,
+  List,
+  [],
+  ◌∷◌,
+  ◌++◌,
+  length,
+  arith,
+  nat_le,
+}
 use Rattle.std.specs.Prelude.{◌⊎◌, ◌==◌, IsPermutation, cond, if◌then◌else◌}
 use Rattle.std.specs.List.{AllWithin, filter, range_with_len}
 use Rattle.std.specs.List.Sorted.{IsPartitionPoint}
@@ -10,7 +36,17 @@ use Rattle.std.proofs.lemmas.List.Sorted.{sum_by-IsPermutation}
 use Rattle.std.proofs.lemmas.List.Sums.{length-filter}
 use Rattle.std.proofs.lemmas.List.FromFn.{get_or-range_with_len, length-range_with_len}
 use Rattle.list_laws.specs.Lists.{IsIn}
-use Rattle.list_laws.proofs.Cited.{at_most, counted_below, distinct_ascending, distinct_filter, filtered_from, filtered_true, in_left, in_right, range_ascending}
+use Rattle.list_laws.proofs.Cited.{
+  at_most,
+  counted_below,
+  distinct_ascending,
+  distinct_filter,
+  filtered_from,
+  filtered_true,
+  in_left,
+  in_right,
+  range_ascending,
+}
 use Rattle.solid_parts.specs.declared.links.Link.{Link}
 use Rattle.solid_parts.specs.declared.climb.Climb.{Climb}
 use Rattle.solid_parts.specs.Groups.{AreMerged, AreTogether, IsMerged, LeadDown, LeadTo, label_at, merged, moved}
@@ -33,7 +69,8 @@ own_from labels i e = grind (arith, nat_tests)
 
 -- numbers that were their own labels still are, but for some
 own_but : (old new extra : List ℕ) → length new ≡ length old
-    → ((i : ℕ) → i < length old → label_at old i ≡ i → IsIn i extra ⊎ (label_at new i ≡ i)) → own_count old ≤ length extra + own_count new
+    → ((i : ℕ) → i < length old → label_at old i ≡ i → IsIn i extra ⊎ (label_at new i ≡ i)) →
+    own_count old ≤ length extra + own_count new
 unfolding is_own
 own_but old new extra e f =
     let n = length old in
@@ -69,7 +106,8 @@ onto_itself from to i f = by (i == from) refl
 -- how many are left after one label goes over into another
 left_after : (labels : List ℕ) (from to : ℕ) → own_count labels ≤ 1 + own_count (merged from to labels)
 left_after labels from to =
-    own_but labels (merged from to labels) (from ∷ []) (length-map labels (moved from to)) (λ i l e. elim (equal_or_not i from) [
+    own_but labels (merged from to labels) (from ∷ []) (length-map labels (moved from to))
+    (λ i l e. elim (equal_or_not i from) [
       | inl f ↦ inl (inl (sym f))
       | inr n ↦ inr (label_moved from to labels i l ∙ ap (moved from to) e ∙ unmoved from to i n)
     ])
@@ -84,15 +122,20 @@ same_after labels from to f =
 -- after a merge
 own_left : (i j : ℕ) (labels new : List ℕ) → AreMerged i j labels new → own_count labels ≤ 1 + own_count new
 own_left i j labels new (inl e) =
-    subst (λ (v : List ℕ). own_count labels ≤ 1 + own_count v) (sym e) (left_after labels (label_at labels i) (label_at labels j))
+    subst (λ (v : List ℕ). own_count labels ≤ 1 + own_count v) (sym e)
+    (left_after labels (label_at labels i) (label_at labels j))
 own_left i j labels new (inr e) =
-    subst (λ (v : List ℕ). own_count labels ≤ 1 + own_count v) (sym e) (left_after labels (label_at labels j) (label_at labels i))
+    subst (λ (v : List ℕ). own_count labels ≤ 1 + own_count v) (sym e)
+    (left_after labels (label_at labels j) (label_at labels i))
 
-own_same : (i j : ℕ) (labels new : List ℕ) → AreMerged i j labels new → AreTogether labels i j → own_count labels ≤ own_count new
+own_same : (i j : ℕ) (labels new : List ℕ) → AreMerged i j labels new → AreTogether labels i j →
+    own_count labels ≤ own_count new
 own_same i j labels new (inl e) t =
-    subst (λ (v : List ℕ). own_count labels ≤ own_count v) (sym e) (same_after labels (label_at labels i) (label_at labels j) t)
+    subst (λ (v : List ℕ). own_count labels ≤ own_count v) (sym e)
+    (same_after labels (label_at labels i) (label_at labels j) t)
 own_same i j labels new (inr e) t =
-    subst (λ (v : List ℕ). own_count labels ≤ own_count v) (sym e) (same_after labels (label_at labels j) (label_at labels i) (sym t))
+    subst (λ (v : List ℕ). own_count labels ≤ own_count v) (sym e)
+    (same_after labels (label_at labels j) (label_at labels i) (sym t))
 
 -- ---- one link more
 
@@ -100,18 +143,23 @@ own_same i j labels new (inr e) t =
 abbrev pub added : Bool → ℕ
 added apart = if apart then 1 else 0
 
-count_after : (apart : Bool) (i j : ℕ) (labels new : List ℕ) (count : ℕ) → length new ≡ length labels → AreMerged i j labels new
-    → (apart ≡ false → AreTogether labels i j) → length labels ≤ own_count labels + count → length new ≤ own_count new + (count + added apart)
+count_after : (apart : Bool) (i j : ℕ) (labels new : List ℕ) (count : ℕ) → length new ≡ length labels →
+    AreMerged i j labels new
+    → (apart ≡ false → AreTogether labels i j) → length labels ≤ own_count labels + count →
+    length new ≤ own_count new + (count + added apart)
 count_after true i j labels new count e m f l = let k = own_left i j labels new m in omega (arith, e, l, k)
 count_after false i j labels new count e m f l = let k = own_same i j labels new m (f refl) in omega (arith, e, l, k)
 
 module _ (links : List Link) (climb : Climb) (labels leads : List ℕ) (apart : Bool) (within : climb.next < length links)
-    (below : AreBelow (length labels) links) (m : IsMerged (link_at links climb.next).one (link_at links climb.next).other labels apart leads)
+    (below : AreBelow (length labels) links) (m : IsMerged (link_at links climb.next).one
+    (link_at links climb.next).other labels apart leads)
     (c : IsClimbed links climb labels) where
-  inside : (t : ℕ) → t < length links → ((link_at links t).one < length labels) × ((link_at links t).other < length labels)
+  inside : (t : ℕ) → t < length links → ((link_at links t).one < length labels) ×
+      ((link_at links t).other < length labels)
   inside t l = below t (record { alpha = 0; one = 0; other = 0 }) l
 
-  pub climb_more : (now : Climb) → now.next ≡ climb.next + 1 → now.merges ≡ climb.merges + added apart → IsClimbed links now m.new
+  pub climb_more : (now : Climb) → now.next ≡ climb.next + 1 → now.merges ≡ climb.merges + added apart →
+      IsClimbed links now m.new
   climb_more now e f =
       let z = merges _ _ labels m.new m.merges in
       let here = inside climb.next within in
@@ -120,7 +168,8 @@ module _ (links : List Link) (climb : Climb) (labels leads : List ℕ) (apart : 
           | inl k ↦
               let i = inside t (omega (arith, k, within)) in
               z.kept _ _ i.0 i.1 (c.together t k)
-          | inr k ↦ subst (λ t. AreTogether m.new (link_at links t).one (link_at links t).other) (last t l k e) (z.both here.0 here.1)
+          | inr k ↦ subst (λ t. AreTogether m.new (link_at links t).one (link_at links t).other) (last t l k e)
+              (z.both here.0 here.1)
         ];
         counted = subst (λ n. length m.new ≤ own_count m.new + n) (sym f)
             (count_after apart _ _ labels m.new climb.merges z.count m.merges m.same c.counted);
@@ -147,9 +196,11 @@ none_climbed leads links climb w d = record {
   climbs = λ labels t c. record { labels = labels; leads_to = t; climbed = c };
 }
 
-pub one_taken : (old leads new : List ℕ) (links : List Link) (climb now more : Climb) (apart : Bool) → now.next < length links
+pub one_taken : (old leads new : List ℕ) (links : List Link) (climb now more : Climb) (apart : Bool) →
+    now.next < length links
     → AreBelow (length old) links → more.next ≡ now.next + 1 → more.merges ≡ now.merges + added apart
-    → length new ≡ length leads → LeadDown new → ((labels : List ℕ) → LeadTo leads labels → IsMerged (link_at links now.next).one (link_at links now.next).other labels apart new)
+    → length new ≡ length leads → LeadDown new → ((labels : List ℕ) → LeadTo leads labels →
+    IsMerged (link_at links now.next).one (link_at links now.next).other labels apart new)
     → ClimbSoFar old leads links climb now → ClimbSoFar old new links climb more
 one_taken old leads new links climb now more apart h below f g c d m s = record {
   count = c ∙ s.count;
@@ -188,7 +239,8 @@ passing : (p : ℕ → Bool) (xs : List ℕ) (i : ℕ) → i ≤ length xs → A
 passing p [] i h t f = omega (arith, h)
 passing p (x ∷ xs) zero h t f =
     let e : p x ≡ false = f 0 x (omega arith) (omega arith) in
-    let r = passing p xs 0 (omega arith) (λ k d l m. absurd (omega (arith, m))) (λ k d l m. f (suc k) d (omega arith) (omega (arith, m))) in
+    let r = passing p xs 0 (omega arith) (λ k d l m. absurd (omega (arith, m)))
+    (λ k d l m. f (suc k) d (omega arith) (omega (arith, m))) in
     rw e r
 passing p (x ∷ xs) (suc i) h t f =
     let e : p x ≡ true = t 0 x (omega arith) (omega arith) in
@@ -223,7 +275,8 @@ first_climb links n = record {
     all_own : length (range_with_len 0 n) ≤ own_count (range_with_len 0 n) + 0
     all_own =
         let all = length-range_with_len 0 n in
-        let most = at_most (range_with_len 0 n) (filter (λ i. label_at (range_with_len 0 n) i == i) (range_with_len 0 n))
+        let most = at_most (range_with_len 0 n) (filter (λ i. label_at (range_with_len 0 n) i == i)
+        (range_with_len 0 n))
         (distinct_ascending (range_with_len 0 n) (range_ascending 0 n))
         (λ i j. filtered_true (λ i. label_at (range_with_len 0 n) i == i) (range_with_len 0 n) i j
         (test (label_at (range_with_len 0 n) i) i (own_label i (counted_below 0 n i j)))) in

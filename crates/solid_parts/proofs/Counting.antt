@@ -91,7 +91,8 @@ least_is (c ∷ cells) [] z i l = absurd z
 least_is (c ∷ cells) (n ∷ leasts) z zero l = z.0
 least_is (c ∷ cells) (n ∷ leasts) z (suc i) l = least_is cells leasts z.1 i (omega (arith, l))
 
-pub least_count : (cells : List Cell) (leasts : List ℕ) → AreLeastOf is_small_cell cells leasts → length leasts ≡ length cells
+pub least_count : (cells : List Cell) (leasts : List ℕ) → AreLeastOf is_small_cell cells leasts →
+    length leasts ≡ length cells
 least_count [] [] z = refl
 least_count [] (n ∷ leasts) z = absurd z
 least_count (c ∷ cells) [] z = absurd z
@@ -101,14 +102,17 @@ le_from : (m n : ℕ) → nat_le m n ≡ true → m ≤ n
 le_from m n e = grind (arith, nat_tests)
 
 -- a marked cell is admitted from its number on
-marked_least : (cells : List Cell) (leasts : List ℕ) (alpha i : ℕ) → AreLeastOf is_small_cell cells leasts → alpha < 2 ^ 34
+marked_least : (cells : List Cell) (leasts : List ℕ) (alpha i : ℕ) → AreLeastOf is_small_cell cells leasts →
+    alpha < 2 ^ 34
     → IsMarked (map (is_small_cell alpha) cells) i → label_at leasts i ≤ alpha
 marked_least cells leasts alpha i z small m =
     let l = marked_below alpha cells i m in
-    le_from (label_at leasts i) alpha (sym (least_is cells leasts z i l alpha small) ∙ sym (mark_is alpha cells i l) ∙ m)
+    le_from (label_at leasts i) alpha (sym (least_is cells leasts z i l alpha small) ∙ sym (mark_is alpha cells i l) ∙
+    m)
 
 -- and what is admitted by its number is marked
-least_marked : (cells : List Cell) (leasts : List ℕ) (alpha i : ℕ) → AreLeastOf is_small_cell cells leasts → alpha < 2 ^ 34
+least_marked : (cells : List Cell) (leasts : List ℕ) (alpha i : ℕ) → AreLeastOf is_small_cell cells leasts →
+    alpha < 2 ^ 34
     → i < length cells → nat_le (label_at leasts i) alpha ≡ true → IsMarked (map (is_small_cell alpha) cells) i
 least_marked cells leasts alpha i z small l e = mark_is alpha cells i l ∙ least_is cells leasts z i l alpha small ∙ e
 
@@ -188,7 +192,8 @@ same_step false true x y xs ys e f = cc
 shifted : (q r : ℕ → Bool) (n a b : ℕ) → b ≡ suc a → ((i : ℕ) → q (suc i) ≡ r i)
     → length (filter q (range_with_len b n)) ≡ length (filter r (range_with_len a n))
 shifted q r zero a b e f = refl
-shifted q r (suc n) a b e f = same_step (q b) (r a) b a _ _ (ap q e ∙ f a) (shifted q r n (a + 1) (b + 1) (omega (arith, e)) f)
+shifted q r (suc n) a b e f = same_step (q b) (r a) b a _ _ (ap q e ∙ f a)
+    (shifted q r n (a + 1) (b + 1) (omega (arith, e)) f)
 
 -- how many pass is how many places there are of such
 by_places : (p : ℕ → Bool) (xs : List ℕ)
@@ -196,18 +201,21 @@ by_places : (p : ℕ → Bool) (xs : List ℕ)
 by_places p [] = refl
 by_places p (x ∷ xs) =
     same_step (p x) (p x) x 0 (filter p xs) _ refl
-    (by_places p xs ∙ sym (shifted (λ i. p (get_or (x ∷ xs) i 0)) (λ i. p (get_or xs i 0)) (length xs) 0 1 refl (λ i. refl)))
+    (by_places p xs ∙ sym (shifted (λ i. p (get_or (x ∷ xs) i 0)) (λ i. p (get_or xs i 0)) (length xs) 0 1 refl
+    (λ i. refl)))
 
 -- the label of the first cell of a part
-record IsLabelOf (cells : List Cell) (marks : List Bool) (labels : List ℕ) (part : List (List ℕ)) (label : ℕ) : Type 0 where
-  pub number : ℕ
-  pub is_number : IsNumberOf cells marks (first_of part) number
-  pub is_label : label_at labels number ≡ label
+record IsLabelOf (cells : List Cell) (marks : List Bool) (labels : List ℕ) (part : List (List ℕ)) (label : ℕ) : Type 0
+  where
+    pub number : ℕ
+    pub is_number : IsNumberOf cells marks (first_of part) number
+    pub is_label : label_at labels number ≡ label
 
 module _ (s : List ℕ) (faces : FaceLists) (labels : List ℕ) (alpha : ℕ) (g : Given s faces alpha labels)
     (parts : List (List (List ℕ))) (a : AreParts (admitted s faces alpha labels g) parts) where
   first_in : (part : List (List ℕ)) → IsIn part parts → IsIn (first_of part) (admitted s faces alpha labels g)
-  first_in part i = (a.all (first_of part)).0 (in_flat (λ v. v) parts part (first_of part) i (has_first part (a.filled part i)))
+  first_in part i = (a.all (first_of part)).0 (in_flat (λ v. v) parts part (first_of part) i
+      (has_first part (a.filled part i)))
 
   label_of_part : (part : List (List ℕ)) → IsIn part parts
       → (n : ℕ) × IsLabelOf faces.cells (map (is_small_cell alpha) faces.cells) labels part n
@@ -226,16 +234,24 @@ module _ (s : List ℕ) (faces : FaceLists) (labels : List ℕ) (alpha : ℕ) (g
       let first = first_in p.0 p.1 in
       let joined = (a.joined p.0 q.0 (first_of p.0) p.1 p.2 first).0 (has_first p.0 (a.filled p.0 p.1)) in
       let n = f p.0 p.1 in
-      let same = alike_along s faces alpha labels g q.0 (first_of p.0) joined.chain i n.2.number q.1 n.2.is_number joined.joins in
+      let same = alike_along s faces alpha labels g q.0 (first_of p.0) joined.chain i n.2.number q.1 n.2.is_number
+      joined.joins in
       subst (λ x. IsIn x ns) (sym n.2.is_label ∙ sym same ∙ e) n.1
 
-pub at_least : (s : List ℕ) (faces : FaceLists) (leasts : List ℕ) (links : List Link) (climb : Climb) (labels : List ℕ) (alpha k : ℕ)
-    → AreFacesOf s faces → AreLeastOf is_small_cell faces.cells leasts → AreLinked faces leasts (length faces.triples) links
+pub at_least : (s : List ℕ) (faces : FaceLists) (leasts : List ℕ) (links : List Link) (climb : Climb) (labels : List ℕ)
+    (alpha k : ℕ)
+    → AreFacesOf s faces → AreLeastOf is_small_cell faces.cells leasts →
+    AreLinked faces leasts (length faces.triples) links
     → IsClimbed links climb labels → length labels ≡ length faces.cells → IsPast links climb alpha → alpha < 2 ^ 34
     → IsCompact s k alpha → count_to leasts alpha ≤ k + climb.merges
 at_least s faces leasts links climb labels alpha k h z linked c n past small compact =
-    let g : Given s faces alpha labels = record { faces_of = h; joined = all_alike faces leasts alpha links climb labels z small linked c past } in
-    let a = subst (λ (v : List (List ℕ)). AreParts v compact.parts) (sym (cells_are s faces alpha h)) compact.are_parts in
+    let g : Given s faces alpha labels = record {
+      faces_of = h;
+      joined =
+          all_alike faces leasts alpha links climb labels z small linked c past;
+    } in
+    let a = subst (λ (v : List (List ℕ)). AreParts v compact.parts) (sym (cells_are s faces alpha h)) compact.are_parts
+    in
     let ns = chosen (IsLabelOf faces.cells (map (is_small_cell alpha) faces.cells) labels) compact.parts
     (label_of_part s faces labels alpha g compact.parts a) in
     let most = at_most (filter low places) (ns.0 ++ filter (λ i. not (own i)) places)
@@ -244,7 +260,8 @@ at_least s faces leasts links climb labels alpha k h z linked c n past small com
     let r = filtered_from low places i j in
     let within = inside i (counted_below 0 (length leasts) i r.0) in
     covered i (own i) refl
-    (λ e. in_left i ns.0 (filter (λ i. not (own i)) places) (own_is_label s faces labels alpha g compact.parts a ns.0 ns.2 i
+    (λ e. in_left i ns.0 (filter (λ i. not (own i)) places) (own_is_label s faces labels alpha g compact.parts a ns.0
+    ns.2 i
     (least_marked faces.cells leasts alpha i z small within r.1) (equal (label_at labels i) i e)))
     (λ e. in_right i ns.0 (filter (λ i. not (own i)) places)
     (filtered_true (λ i. not (own i)) places i r.0 (ap not e))))) in
@@ -296,8 +313,10 @@ starts_climbing n links leads e = subst (IsClimbing n links (record { next = 0; 
 })
 
 -- what is made of it by the links up to a number
-pub climbs_on : (count : ℕ) (links taken : List Link) (climb now : Climb) (leads lent new : List ℕ) → taken ≡ links → lent ≡ leads
-    → IsWithin taken now → LeadDown new → ((labels : List ℕ) → LeadTo lent labels → IsClimbed taken climb labels → ClimbsTo taken now new)
+pub climbs_on : (count : ℕ) (links taken : List Link) (climb now : Climb) (leads lent new : List ℕ) → taken ≡ links →
+    lent ≡ leads
+    → IsWithin taken now → LeadDown new → ((labels : List ℕ) → LeadTo lent labels → IsClimbed taken climb labels →
+    ClimbsTo taken now new)
     → length new ≡ length lent → IsClimbing count links climb leads → IsClimbing count links now new
 climbs_on count links taken climb now leads lent new f e w d m l s =
     subst (λ (v : List Link). IsClimbing count v now new) f (record {
@@ -309,12 +328,15 @@ climbs_on count links taken climb now leads lent new f e w d m l s =
     })
 
 -- so there are at least as many parts as were counted
-pub apart_at_least : (s : List ℕ) (faces : FaceLists) (leasts : List ℕ) (links taken : List Link) (climb : Climb) (leads numbers lent : List ℕ)
+pub apart_at_least : (s : List ℕ) (faces : FaceLists) (leasts : List ℕ) (links taken : List Link) (climb : Climb)
+    (leads numbers lent : List ℕ)
     (alpha k count apart : ℕ) → AreFacesOf s faces → AreLeastOf is_small_cell faces.cells leasts
     → AreLinked faces leasts (length faces.triples) links → taken ≡ links → IsClimbing (length leasts) links climb leads
-    → IsPast taken climb alpha → alpha < 2 ^ 34 → IsCompact s k alpha → lent ≡ numbers → count_to numbers alpha ≡ count_to leasts alpha
+    → IsPast taken climb alpha → alpha < 2 ^ 34 → IsCompact s k alpha → lent ≡ numbers →
+    count_to numbers alpha ≡ count_to leasts alpha
     → count ≡ count_to lent alpha → apart ≡ count - climb.merges → apart ≤ k
-apart_at_least s faces leasts links taken climb leads numbers lent alpha k count apart h z linked f c past small compact e same n m =
+apart_at_least s faces leasts links taken climb leads numbers lent alpha k count apart h z linked f c past small compact
+    e same n m =
     let most = at_least s faces leasts links climb c.climbs.labels alpha k h z linked c.climbs.climbed
     (c.climbs.leads_to.count ∙ c.count_is ∙ least_count faces.cells leasts z)
     (subst (λ (v : List Link). IsPast v climb alpha) f past) small compact in

@@ -1,13 +1,55 @@
 -- Every pair lies in an even number of the triangles of a boundary: pairs are counted with the triples and cells that
 -- have them, by cells and by triples.
-use Rattle.std.proofs.Common.{◌≡◌, ◌≢◌, refl, sym, subst, ap, ap₂, ◌∙◌, ℕ, zero, suc, ◌<◌, inl, inr, Bool, true, false, List, [], ◌∷◌, map, length, arith, pos}
+use Rattle.std.proofs.Common.{
+  ◌≡◌,
+  ◌≢◌,
+  refl,
+  sym,
+  subst,
+  ap,
+  ap₂,
+  ◌∙◌,
+  ℕ,
+  zero,
+  suc,
+  ◌<◌,
+  inl,
+  inr,
+  Bool,
+  true,
+  false,
+  List,
+  [],
+  ◌∷◌,
+  map,
+  length,
+  arith,
+  pos,
+}
 use Rattle.std.specs.Prelude.{◌⊎◌, ◌&&◌, ◌||◌, ◌==◌, not, Option, None, Some, filter_map}
 use Rattle.std.specs.List.{filter, list_all}
 use Rattle.std.specs.Int.Signed.{lt_z}
 use Rattle.std.proofs.lemmas.Bool.Decides.{nat_tests}
 use Rattle.list_laws.specs.Laws.{odd, xor}
 use Rattle.list_laws.specs.Lists.{AreDistinct, IsIn}
-use Rattle.list_laws.proofs.Cited.{all_from, all_true, among_from, among_true, differ_from, distinct_ascending, filtered_ascending, filtered_from, filtered_true, from_append, mapped_from, mapped_true, none_even, same_from, true_or_false, two_even}
+use Rattle.list_laws.proofs.Cited.{
+  all_from,
+  all_true,
+  among_from,
+  among_true,
+  differ_from,
+  distinct_ascending,
+  filtered_ascending,
+  filtered_from,
+  filtered_true,
+  from_append,
+  mapped_from,
+  mapped_true,
+  none_even,
+  same_from,
+  true_or_false,
+  two_even,
+}
 use Rattle.point_order.specs.declared.cell.Cell.{Cell}
 use Rattle.point_order.specs.declared.cell.Cell.TheVariants.{Full, Open}
 use Rattle.point_order.specs.declared.cell.Facet.TheVariants.{Three}
@@ -47,7 +89,8 @@ odd_on p q [] f = refl
 odd_on p q (x ∷ xs) f = ap₂ xor (f x (inl refl)) (odd_on p q xs (λ y i. f y (inr i)))
 
 -- counted by the one list or by the other
-odd_swap : {X Y : Type 0} (m : X → Y → Bool) (xs : List X) (ys : List Y) → odd (λ x. odd (m x) ys) xs ≡ odd (λ y. odd (λ x. m x y) xs) ys
+odd_swap : {X Y : Type 0} (m : X → Y → Bool) (xs : List X) (ys : List Y) →
+    odd (λ x. odd (m x) ys) xs ≡ odd (λ y. odd (λ x. m x y) xs) ys
 odd_swap m [] ys = sym (none_even (λ y. false) ys (λ y i. refl))
 odd_swap m (x ∷ xs) ys = ap (xor (odd (m x) ys)) (odd_swap m xs ys) ∙ sym (odd_sum (m x) (λ y. odd (λ z. m z y) xs) ys)
 
@@ -67,7 +110,8 @@ turned_has (a ∷ []) d x e = absurd (omega (arith, e))
 turned_has (a ∷ b ∷ []) d x e = absurd (omega (arith, e))
 turned_has (a ∷ b ∷ c ∷ []) d x e = by (lt_z (orientation a b c d) (pos 0)) refl
   where
-    by : (r : Bool) → lt_z (orientation a b c d) (pos 0) ≡ r → is_among x (turned (a ∷ b ∷ c ∷ []) d) ≡ is_among x (a ∷ b ∷ c ∷ [])
+    by : (r : Bool) → lt_z (orientation a b c d) (pos 0) ≡ r → is_among x (turned (a ∷ b ∷ c ∷ []) d) ≡ is_among x
+        (a ∷ b ∷ c ∷ [])
     by true f = rw f refl
     by false f = rw f (or_swap (a == x) (c == x) (b == x))
 turned_has (a ∷ b ∷ c ∷ f ∷ t) d x e = absurd (omega (arith, e))
@@ -80,7 +124,8 @@ abbrev passes : (List ℕ → Bool) → Option (List ℕ) → Bool
 passes p None = false
 passes p (Some f) = p f
 
-odd_given : {X : Type 0} (p : List ℕ → Bool) (g : X → Option (List ℕ)) (xs : List X) → odd p (filter_map g xs) ≡ odd (λ x. passes p (g x)) xs
+odd_given : {X : Type 0} (p : List ℕ → Bool) (g : X → Option (List ℕ)) (xs : List X) →
+    odd p (filter_map g xs) ≡ odd (λ x. passes p (g x)) xs
 odd_given p g [] = refl
 odd_given {X} p g (x ∷ xs) = by (g x) refl (odd_given p g xs)
   where
@@ -112,8 +157,10 @@ unfolding without
 one_less [] x d i = absurd i
 one_less (a ∷ q) x d i = by (a == x) refl (one_less q x d.1)
   where
-    by : (b : Bool) → (a == x) ≡ b → (IsIn x q → suc (length (without x q)) ≡ length q) → suc (length (without x (a ∷ q))) ≡ suc (length q)
-    by true e h = rw e (ap (λ (v : List ℕ). suc (length v)) (unlike_kept q x (λ j. d.0 (subst (λ n. IsIn n q) (sym (same_from a x e)) j))))
+    by : (b : Bool) → (a == x) ≡ b → (IsIn x q → suc (length (without x q)) ≡ length q) →
+        suc (length (without x (a ∷ q))) ≡ suc (length q)
+    by true e h = rw e (ap (λ (v : List ℕ). suc (length v)) (unlike_kept q x
+        (λ j. d.0 (subst (λ n. IsIn n q) (sym (same_from a x e)) j))))
     by false e h = rw e (ap suc (h (elim i [ inl f ↦ absurd (differ_from a x e f) | inr j ↦ j ])))
 
 kept_from : (q : List ℕ) (x z : ℕ) → IsIn z (without x q) → IsIn z q × (z ≢ x)
@@ -203,16 +250,19 @@ no_longer (suc k) (x ∷ t) p l m = elim (from_append p (map (λ r. x ∷ r) (su
 whole_only : (t p : List ℕ) → IsIn p (subsets (length t) t) → t ≡ p
 whole_only [] p m = elim m [ inl e ↦ e | inr none ↦ absurd none ]
 whole_only (x ∷ t) p m = elim (from_append p (map (λ r. x ∷ r) (subsets (length t) t)) (subsets (suc (length t)) t) m) [
-  | inl i ↦ (let r = mapped_from (λ r. x ∷ r) p (subsets (length t) t) i in ap (λ v. x ∷ v) (whole_only t r.0 r.1) ∙ r.2)
+  | inl i ↦ (let r = mapped_from (λ r. x ∷ r) p (subsets (length t) t) i in ap (λ v. x ∷ v) (whole_only t r.0 r.1) ∙
+      r.2)
   | inr i ↦ absurd (no_longer (suc (length t)) t p (omega arith) i)
 ]
 
 -- ascending lists of one length, of which the one has the members of the other, are one
-same_list : (t p : List ℕ) → IsAscending t → IsAscending p → ((i : ℕ) → IsIn i p → IsIn i t) → length t ≡ length p → t ≡ p
+same_list : (t p : List ℕ) → IsAscending t → IsAscending p → ((i : ℕ) → IsIn i p → IsIn i t) → length t ≡ length p →
+    t ≡ p
 same_list t p a b f e = whole_only t p (subst (λ n. IsIn p (subsets n t)) (sym e) (part_true t p a b f))
 
 -- four do not stand in three
-too_many : (t q : List ℕ) → IsAscending t → IsAscending q → length t ≡ 3 → length q ≡ 4 → ((i : ℕ) → IsIn i q → IsIn i t) → ⊥
+too_many : (t q : List ℕ) → IsAscending t → IsAscending q → length t ≡ 3 → length q ≡ 4 →
+    ((i : ℕ) → IsIn i q → IsIn i t) → ⊥
 too_many t q a b e f g = no_longer (length q) t q (omega (arith, e, f)) (part_true t q a b g)
 
 -- ---- the triples of one cell
@@ -246,10 +296,13 @@ pub record Triples (ts : List (List ℕ)) (q : List ℕ) : Type 0 where
   pub all : (t : List ℕ) → IsIn t (subsets 3 q) → IsIn t ts
 
 -- the triple of a cell without one of its points
-lacks : (q : List ℕ) (w : ℕ) → IsAscending q → length q ≡ 4 → IsIn w q → (ts : List (List ℕ)) → Triples ts q → IsIn (without w q) ts
+lacks : (q : List ℕ) (w : ℕ) → IsAscending q → length q ≡ 4 → IsIn w q → (ts : List (List ℕ)) → Triples ts q →
+    IsIn (without w q) ts
 lacks q w a e i ts g =
-    let three : length (without w q) ≡ 3 = count (length q) (length (without w q)) e (one_less q w (distinct_ascending q a) i) in
-    g.all (without w q) (subst (λ n. IsIn (without w q) (subsets n q)) three (part_true q (without w q) a (ascends_without q w a) (λ k m. (kept_from q w k m).0)))
+    let three : length (without w q) ≡ 3 = count (length q) (length (without w q)) e
+    (one_less q w (distinct_ascending q a) i) in
+    g.all (without w q) (subst (λ n. IsIn (without w q) (subsets n q)) three
+    (part_true q (without w q) a (ascends_without q w a) (λ k m. (kept_from q w k m).0)))
   where
     count : (k m : ℕ) → k ≡ 4 → suc m ≡ k → m ≡ 3
     count k m e f = omega (arith, e, f)
@@ -259,7 +312,8 @@ abbrev on_both : ℕ → ℕ → List ℕ → List ℕ → Bool
 on_both x y q t = has_both x y t && has_all t q
 
 -- evenly many of the triples have both points and are in the cell
-pub even_in_cell : (ts : List (List ℕ)) (q : List ℕ) (x y : ℕ) → IsAscending q → length q ≡ 4 → Triples ts q → x ≢ y → odd (λ t. has_both x y t && has_all t q) ts ≡ false
+pub even_in_cell : (ts : List (List ℕ)) (q : List ℕ) (x y : ℕ) → IsAscending q → length q ≡ 4 → Triples ts q → x ≢ y →
+    odd (λ t. has_both x y t && has_all t q) ts ≡ false
 even_in_cell ts q x y a e g n = elim (true_or_false (is_among x q)) [
   | inl i ↦ elim (true_or_false (is_among y q)) [
     | inl j ↦ two (other_two q x y a e (among_from x q i) (among_from y q j) n) (among_from x q i) (among_from y q j)
@@ -271,7 +325,8 @@ even_in_cell ts q x y a e g n = elim (true_or_false (is_among x q)) [
     clash : (b : Bool) → b ≡ true → b ≡ false → ⊥
     clash b e f = cc
 
-    never : (t : List ℕ) (z : ℕ) → is_among z q ≡ false → (has_both x y t ≡ true → is_among z t ≡ true) → on_both x y q t ≡ false
+    never : (t : List ℕ) (z : ℕ) → is_among z q ≡ false → (has_both x y t ≡ true → is_among z t ≡ true) →
+        on_both x y q t ≡ false
     never t z f h = elim (true_or_false (has_both x y t && has_all t q)) [
       | inl k ↦ (
           let r = and_parts (has_both x y t) (has_all t q) k in
@@ -280,19 +335,23 @@ even_in_cell ts q x y a e g n = elim (true_or_false (is_among x q)) [
     ]
 
     passes_test : (t : List ℕ) → IsIn x t → IsIn y t → ((i : ℕ) → IsIn i t → IsIn i q) → on_both x y q t ≡ true
-    passes_test t i j f = and_true (has_both x y t) (has_all t q) (and_true (is_among x t) (is_among y t) (among_true x t i) (among_true y t j)) (has_all_true t q f)
+    passes_test t i j f = and_true (has_both x y t) (has_all t q) (and_true (is_among x t) (is_among y t)
+        (among_true x t i) (among_true y t j)) (has_all_true t q f)
 
-    less : (q t : List ℕ) (w : ℕ) → ((i : ℕ) → IsIn i t → IsIn i q) → ¬ (IsIn w t) → (i : ℕ) → IsIn i t → IsIn i (without w q)
+    less : (q t : List ℕ) (w : ℕ) → ((i : ℕ) → IsIn i t → IsIn i q) → ¬ (IsIn w t) → (i : ℕ) → IsIn i t →
+        IsIn i (without w q)
     less q t w f n i m = kept_true q w i (f i m) (λ h. n (subst (λ k. IsIn k t) h m))
 
     count : (k m : ℕ) → k ≡ 4 → suc m ≡ k → m ≡ 3
     count k m e f = omega (arith, e, f)
 
-    is_without : (t : List ℕ) (w : ℕ) → IsIn t ts → IsIn w q → ((i : ℕ) → IsIn i t → IsIn i q) → ¬ (IsIn w t) → t ≡ without w q
+    is_without : (t : List ℕ) (w : ℕ) → IsIn t ts → IsIn w q → ((i : ℕ) → IsIn i t → IsIn i q) → ¬ (IsIn w t) →
+        t ≡ without w q
     is_without t w m k f n = sym (same_list (without w q) t (ascends_without q w a) (g.ascends t m) (less q t w f n)
         (count (length q) (length (without w q)) e (one_less q w (distinct_ascending q a) k) ∙ sym (g.three t m)))
 
-    which : (o : OtherTwo q x y) (t : List ℕ) → IsIn t ts → on_both x y q t ≡ true → (t ≡ without o.w q) ⊎ (t ≡ without o.z q)
+    which : (o : OtherTwo q x y) (t : List ℕ) → IsIn t ts → on_both x y q t ≡ true → (t ≡ without o.w q) ⊎
+        (t ≡ without o.z q)
     which o t m k =
         let r = and_parts (has_both x y t) (has_all t q) k in
         let s = and_parts (is_among x t) (is_among y t) r.0 in
@@ -301,7 +360,8 @@ even_in_cell ts q x y a e g n = elim (true_or_false (is_among x q)) [
           | inr h ↦ inl (is_without t o.w m o.has_w f (λ i. clash (is_among o.w t) (among_true o.w t i) h))
           | inl h ↦ elim (true_or_false (is_among o.z t)) [
             | inr l ↦ inr (is_without t o.z m o.has_z f (λ i. clash (is_among o.z t) (among_true o.z t i) l))
-            | inl l ↦ absurd (too_many t q (g.ascends t m) a (g.three t m) e (λ i j. every i j (among_from x t s.0) (among_from y t s.1) (among_from o.z t l) (among_from o.w t h)))
+            | inl l ↦ absurd (too_many t q (g.ascends t m) a (g.three t m) e
+                (λ i j. every i j (among_from x t s.0) (among_from y t s.1) (among_from o.z t l) (among_from o.w t h)))
           ]
         ]
       where
@@ -310,7 +370,8 @@ even_in_cell ts q x y a e g n = elim (true_or_false (is_among x q)) [
           | inl e ↦ subst (λ n. IsIn n t) (sym (same_from i x e)) a
           | inr e ↦ elim (true_or_false (i == y)) [
             | inl f ↦ subst (λ n. IsIn n t) (sym (same_from i y f)) b
-            | inr f ↦ elim (o.only i j (differ_from i x e) (differ_from i y f)) [ inl g ↦ subst (λ n. IsIn n t) (sym g) c | inr g ↦ subst (λ n. IsIn n t) (sym g) d ]
+            | inr f ↦ elim (o.only i j (differ_from i x e) (differ_from i y f))
+                [ inl g ↦ subst (λ n. IsIn n t) (sym g) c | inr g ↦ subst (λ n. IsIn n t) (sym g) d ]
           ]
         ]
 
@@ -320,8 +381,10 @@ even_in_cell ts q x y a e g n = elim (true_or_false (is_among x q)) [
         let v = without o.z q in
         two_even (on_both x y q) u v ts g.distinct (lacks q o.w a e o.has_w ts g) (lacks q o.z a e o.has_z ts g)
         (λ f. (kept_from q o.z o.z (subst (IsIn o.z) f (kept_true q o.w o.z o.has_z o.apart))).1 refl)
-        (passes_test u (kept_true q o.w x i (λ f. o.w_x (sym f))) (kept_true q o.w y j (λ f. o.w_y (sym f))) (λ k m. (kept_from q o.w k m).0))
-        (passes_test v (kept_true q o.z x i (λ f. o.z_x (sym f))) (kept_true q o.z y j (λ f. o.z_y (sym f))) (λ k m. (kept_from q o.z k m).0))
+        (passes_test u (kept_true q o.w x i (λ f. o.w_x (sym f))) (kept_true q o.w y j (λ f. o.w_y (sym f)))
+        (λ k m. (kept_from q o.w k m).0))
+        (passes_test v (kept_true q o.z x i (λ f. o.z_x (sym f))) (kept_true q o.z y j (λ f. o.z_y (sym f)))
+        (λ k m. (kept_from q o.z k m).0))
         (λ t m k. which o t m k)
 
 -- ---- the cells of one triple
@@ -331,7 +394,8 @@ unfolding complex
 full_four s q i = elim (from_append (Full q) (map Full (filter (is_full s) (subsets 4 s))) _ i) [
   | inl j ↦ (
       let r = mapped_from Full (Full q) (filter (is_full s) (subsets 4 s)) j in
-      subst (λ (v : List ℕ). length v ≡ 4) (same r.0 q r.2) (part_length 4 s r.0 (filtered_from (is_full s) (subsets 4 s) r.0 r.1).0))
+      subst (λ (v : List ℕ). length v ≡ 4) (same r.0 q r.2) (part_length 4 s r.0
+      (filtered_from (is_full s) (subsets 4 s) r.0 r.1).0))
   | inr j ↦ let r = mapped_from Open (Full q) _ j in absurd (not_open r.0 r.2)
 ]
   where
@@ -373,7 +437,8 @@ odd_filter : {X : Type 0} (r : X → Bool) (xs : List X) → odd r xs ≡ odd (�
 odd_filter r [] = refl
 odd_filter {X} r (x ∷ xs) = by (r x) refl (odd_filter r xs)
   where
-    by : (b : Bool) → r x ≡ b → odd r xs ≡ odd (λ y. true) (filter r xs) → odd r (x ∷ xs) ≡ odd (λ y. true) (filter r (x ∷ xs))
+    by : (b : Bool) → r x ≡ b → odd r xs ≡ odd (λ y. true) (filter r xs) →
+        odd r (x ∷ xs) ≡ odd (λ y. true) (filter r (x ∷ xs))
     by true e h = rw e (ap (xor true) h)
     by false e h = rw e h
 
@@ -398,7 +463,8 @@ and_one true = refl
 and_one false = refl
 
 -- one of three different cells on a triple would be too many
-no_third : (s t q r u : List ℕ) → IsAscending s → AreKeys s → IsIn (Full q) (complex s) → IsIn (Full r) (complex s) → IsIn (Full u) (complex s) →
+no_third : (s t q r u : List ℕ) → IsAscending s → AreKeys s → IsIn (Full q) (complex s) → IsIn (Full r) (complex s) →
+    IsIn (Full u) (complex s) →
     IsIn t (subsets 3 q) → IsIn t (subsets 3 r) → IsIn t (subsets 3 u) → q ≢ r → q ≢ u → r ≢ u → ⊥
 no_third s t q r u a k i j l f g h m n o =
     let other = listed_facets s (Full q) (Three t) a k i (three_facet q t (full_four s q i) f) in
@@ -419,7 +485,8 @@ edges_are_even s cells x y a k d f n =
     ∙ odd_mapped (λ (v : List ℕ × List Cell). passes p (outer_of v)) (λ t. (t, cells_with t all)) ts
     ∙ odd_on (λ t. passes p (outer_of (t, cells_with t all))) (λ t. odd (λ q. p t && has_all t q) cells) ts single
     ∙ odd_swap (λ t q. p t && has_all t q) ts cells
-    ∙ none_even (λ q. odd (λ t. p t && has_all t q) ts) cells (λ q i. even_in_cell ts q x y (full_ascends s q a (f q i)) (full_four s q (f q i)) (triples q i) n)
+    ∙ none_even (λ q. odd (λ t. p t && has_all t q) ts) cells (λ q i. even_in_cell ts q x y (full_ascends s q a (f q i))
+    (full_four s q (f q i)) (triples q i) n)
   where
     p : List ℕ → Bool
     p t = has_both x y t
@@ -445,17 +512,24 @@ edges_are_even s cells x y a k d f n =
       distinct = distinct_in_order (parts_in 3 (map Full cells)) (parts_in_order 3 (map Full cells));
       three = λ t m. (three t m).0;
       ascends = λ t m. (three t m).1;
-      all = λ t m. part_is_listed 3 (map Full cells) t (record { q = q; listed = mapped_true Full q cells i; part = m });
+      all = λ t m. part_is_listed 3 (map Full cells) t (record {
+        q = q;
+        listed = mapped_true Full q cells i;
+        part =
+            m;
+      });
     }
 
-    member : (t q : List ℕ) → IsIn q (filter (has_all t) cells) → IsIn t (parts_in 3 (map Full cells)) → IsIn (Full q) (complex s) × IsIn t (subsets 3 q)
+    member : (t q : List ℕ) → IsIn q (filter (has_all t) cells) → IsIn t (parts_in 3 (map Full cells)) →
+        IsIn (Full q) (complex s) × IsIn t (subsets 3 q)
     member t q i m =
         let r = filtered_from (has_all t) cells q i in
         let c = f q r.0 in
         let e = three t m in
         (c, subst (λ k. IsIn t (subsets k q)) e.0 (part_true q t (full_ascends s q a c) e.1 (has_all_from t q r.1)))
 
-    counted : (t : List ℕ) → IsIn t (parts_in 3 (map Full cells)) → (l : List (List ℕ)) → AreDistinct l → ((q : List ℕ) → IsIn q l → IsIn q (filter (has_all t) cells)) →
+    counted : (t : List ℕ) → IsIn t (parts_in 3 (map Full cells)) → (l : List (List ℕ)) → AreDistinct l →
+        ((q : List ℕ) → IsIn q l → IsIn q (filter (has_all t) cells)) →
         passes (has_both x y) (outer_of (t, map Full l)) ≡ (has_both x y t && odd (λ q. true) l)
     counted t m [] e g = sym (and_false (has_both x y t))
     counted t m (q ∷ []) e g = both_turned t (apex_of t q) x y (three t m).0 ∙ sym (and_one (has_both x y t))
@@ -464,9 +538,12 @@ edges_are_even s cells x y a k d f n =
         let i = member t q (g q (inl refl)) m in
         let j = member t r (g r (inr (inl refl))) m in
         let o = member t u (g u (inr (inr (inl refl)))) m in
-        absurd (no_third s t q r u a k i.0 j.0 o.0 i.1 j.1 o.1 (λ h. e.0 (inl (sym h))) (λ h. e.0 (inr (inl (sym h)))) (λ h. e.1.0 (inl (sym h))))
+        absurd (no_third s t q r u a k i.0 j.0 o.0 i.1 j.1 o.1 (λ h. e.0 (inl (sym h))) (λ h. e.0 (inr (inl (sym h))))
+        (λ h. e.1.0 (inl (sym h))))
 
-    single : (t : List ℕ) → IsIn t (parts_in 3 (map Full cells)) → passes (has_both x y) (outer_of (t, cells_with t (map Full cells))) ≡ odd (λ q. has_both x y t && has_all t q) cells
+    single : (t : List ℕ) → IsIn t (parts_in 3 (map Full cells)) →
+        passes (has_both x y) (outer_of (t, cells_with t (map Full cells))) ≡ odd (λ q. has_both x y t && has_all t q)
+        cells
     single t m =
         ap (λ (v : List Cell). passes (has_both x y) (outer_of (t, v))) (with_full t cells)
         ∙ counted t m (filter (has_all t) cells) (distinct_kept (has_all t) cells d) (λ q i. i)

@@ -1,5 +1,33 @@
 -- When there are few parts, and at which alphas that can come.
-use Rattle.std.proofs.Common.{◌≡◌, refl, sym, subst, ap, ◌∙◌, ℕ, zero, suc, ◌<◌, ◌≤◌, ◌+◌, ◌^◌, inl, inr, Bool, true, false, List, [], ◌∷◌, map, take, length, get_or, arith, nat_le}
+use Rattle.std.proofs.Common.{
+  ◌≡◌,
+  refl,
+  sym,
+  subst,
+  ap,
+  ◌∙◌,
+  ℕ,
+  zero,
+  suc,
+  ◌<◌,
+  ◌≤◌,
+  ◌+◌,
+  ◌^◌,
+  inl,
+  inr,
+  Bool,
+  true,
+  false,
+  List,
+  [],
+  ◌∷◌,
+  map,
+  take,
+  length,
+  get_or,
+  arith,
+  nat_le,
+}
 use Rattle.std.specs.Prelude.{◌⊎◌, ◌↔◌, IsTrue}
 use Rattle.std.specs.List.{AllZip, list_all, list_any}
 use Rattle.std.specs.List.Sorted.{IsStrictlySortedBy}
@@ -10,7 +38,25 @@ use Rattle.std.proofs.lemmas.Bool.{cases_lt}
 use Rattle.std.proofs.lemmas.Bool.Decides.{nat_tests}
 use Rattle.std.proofs.lemmas.List.{length-map, take_all}
 use Rattle.list_laws.specs.Lists.{IsAscending, IsIn}
-use Rattle.list_laws.proofs.Cited.{all_from, all_true, among_from, among_true, any_from, any_true, each_by, filtered_from, filtered_true, flat_from, in_flat, in_take_more, mapped_from, mapped_true, rises, same_filter, sorted_map}
+use Rattle.list_laws.proofs.Cited.{
+  all_from,
+  all_true,
+  among_from,
+  among_true,
+  any_from,
+  any_true,
+  each_by,
+  filtered_from,
+  filtered_true,
+  flat_from,
+  in_flat,
+  in_take_more,
+  mapped_from,
+  mapped_true,
+  rises,
+  same_filter,
+  sorted_map,
+}
 use Rattle.point_order.specs.declared.cell.Cell.{Cell}
 use Rattle.point_order.specs.declared.cell.Cell.TheVariants.{Full}
 use Rattle.point_order.specs.CellOrder.{cell_cmp}
@@ -42,7 +88,8 @@ clash : Equal ≡ Less → ⊥
 clash e = cc
 
 -- the first cell of a list in order is the least
-first_least : (part : List (List ℕ)) (r : List ℕ) → InOrder part → IsIn r part → (first_of part ≡ r) ⊎ (slice_cmp nat_cmp (first_of part) r ≡ Less)
+first_least : (part : List (List ℕ)) (r : List ℕ) → InOrder part → IsIn r part → (first_of part ≡ r) ⊎
+    (slice_cmp nat_cmp (first_of part) r ≡ Less)
 unfolding IsStrictlySortedBy
 first_least [] r s i = absurd i
 first_least (q ∷ part) r s (inl e) = inl e
@@ -56,7 +103,8 @@ has_first [] h = absurd (omega (arith, h))
 has_first (q ∷ part) h = inl refl
 
 -- the first cell of a part is that of one in any other such list
-first_again : (cells : List (List ℕ)) (ps qs : List (List (List ℕ))) → AreParts cells ps → AreParts cells qs → (x : List ℕ) → IsIn x (map first_of ps) → IsIn x (map first_of qs)
+first_again : (cells : List (List ℕ)) (ps qs : List (List (List ℕ))) → AreParts cells ps → AreParts cells qs →
+    (x : List ℕ) → IsIn x (map first_of ps) → IsIn x (map first_of qs)
 first_again cells ps qs a b x i =
     let p = mapped_from first_of x ps i in
     let there = subst (λ (v : List ℕ). IsIn v p.0) p.2 (has_first p.0 (a.filled p.0 p.1)) in
@@ -83,12 +131,17 @@ unmapped : (xs ys : List (List ℕ)) → map Full xs ≡ map Full ys → length 
 unmapped xs ys e = sym (length-map xs Full) ∙ ap length e ∙ length-map ys Full
 
 -- so any two such lists are equally long
-pub same_count : (cells : List (List ℕ)) (ps qs : List (List (List ℕ))) → AreParts cells ps → AreParts cells qs → length ps ≡ length qs
+pub same_count : (cells : List (List ℕ)) (ps qs : List (List (List ℕ))) → AreParts cells ps → AreParts cells qs →
+    length ps ≡ length qs
 same_count cells ps qs a b =
-    let order = λ (xs : List (List ℕ)) (s : InOrder xs). sorted_map (slice_cmp nat_cmp) cell_cmp Full xs s (λ q r e. e) in
-    let one = same_members (map Full (map first_of ps)) (map Full (map first_of qs)) (order (map first_of ps) a.order) (order (map first_of qs) b.order)
-    (λ c i. let r = full_only (map first_of ps) c i in subst (λ (v : Cell). IsIn v (map Full (map first_of qs))) r.2 (mapped_true Full r.0 (map first_of qs) (first_again cells ps qs a b r.0 r.1)))
-    (λ c i. let r = full_only (map first_of qs) c i in subst (λ (v : Cell). IsIn v (map Full (map first_of ps))) r.2 (mapped_true Full r.0 (map first_of ps) (first_again cells qs ps b a r.0 r.1))) in
+    let order = λ (xs : List (List ℕ)) (s : InOrder xs). sorted_map (slice_cmp nat_cmp) cell_cmp Full xs s (λ q r e. e)
+    in
+    let one = same_members (map Full (map first_of ps)) (map Full (map first_of qs)) (order (map first_of ps) a.order)
+    (order (map first_of qs) b.order)
+    (λ c i. let r = full_only (map first_of ps) c i in subst (λ (v : Cell). IsIn v (map Full (map first_of qs))) r.2
+    (mapped_true Full r.0 (map first_of qs) (first_again cells ps qs a b r.0 r.1)))
+    (λ c i. let r = full_only (map first_of qs) c i in subst (λ (v : Cell). IsIn v (map Full (map first_of ps))) r.2
+    (mapped_true Full r.0 (map first_of ps) (first_again cells qs ps b a r.0 r.1))) in
     sym (length-map ps first_of) ∙ unmapped (map first_of ps) (map first_of qs) one ∙ length-map qs first_of
 
 -- ---- the test
@@ -103,15 +156,27 @@ le_false : (m n : ℕ) → n < m → nat_le m n ≡ false
 le_false m n l = grind (arith, nat_tests)
 
 pub compact_test :
-    (s : List ℕ) (k alpha start n : ℕ) (parts : List (List (List ℕ))) → alpha < 2 ^ 34 → start ≤ alpha → IsStart s alpha start → AreParts (shape_of s alpha).cells parts → n ≡ length parts →
+    (s : List ℕ) (k alpha start n : ℕ) (parts : List (List (List ℕ))) → alpha < 2 ^ 34 → start ≤ alpha →
+    IsStart s alpha start → AreParts (shape_of s alpha).cells parts → n ≡ length parts →
     IsTrue (nat_le n k) ↔ ((alpha < 2 ^ 34) × IsCompact s k alpha)
 compact_test s k alpha start n parts small from at a e = (
-  λ t. (small, record { covered = at.0 from; parts = parts; are_parts = a; few = subst (λ m. m ≤ k) e (le_from n k t) }),
-  λ c. le_true n k (subst (λ m. m ≤ k) (sym (e ∙ same_count (shape_of s alpha).cells parts c.1.parts a c.1.are_parts)) c.1.few),
+  λ t. (
+    small,
+    record {
+      covered = at.0 from;
+      parts = parts;
+      are_parts = a;
+      few =
+          subst (λ m. m ≤ k) e (le_from n k t);
+    },
+  ),
+  λ c. le_true n k (subst (λ m. m ≤ k) (sym (e ∙ same_count (shape_of s alpha).cells parts c.1.parts a c.1.are_parts))
+      c.1.few),
 )
 
 -- before every point is covered it fails
-pub too_early : (s : List ℕ) (k alpha start : ℕ) → alpha < start → (alpha < 2 ^ 34 → IsStart s alpha start) → (alpha < 2 ^ 34) × IsCompact s k alpha → ⊥
+pub too_early : (s : List ℕ) (k alpha start : ℕ) → alpha < start → (alpha < 2 ^ 34 → IsStart s alpha start) →
+    (alpha < 2 ^ 34) × IsCompact s k alpha → ⊥
 too_early s k alpha start l at c = let f = (at c.0).1 c.1.covered in omega (arith, l, f)
 
 -- ---- where every point is covered
@@ -127,48 +192,61 @@ module _ (s : List ℕ) (faces : FaceLists) (alpha : ℕ) (h : AreFacesOf s face
       let there = subst (λ (v : Cell). list_all (λ q. is_among q (points_of v)) (p ∷ []) ≡ true) f.1 m.1 in (
         f.0,
         subst (λ (v : List (List ℕ)). IsIn f.0 v) (cells_are s faces alpha h)
-            (filtered_true (is_within alpha) (full_cells faces.cells) f.0 (subst (λ (v : List Cell). IsIn f.0 (full_cells v)) (sym h.cells) (full_cell_is_listed (complex s) f.0 listed)) f.2),
+            (filtered_true (is_within alpha) (full_cells faces.cells) f.0
+            (subst (λ (v : List Cell). IsIn f.0 (full_cells v)) (sym h.cells)
+            (full_cell_is_listed (complex s) f.0 listed)) f.2),
         among_from p f.0 (all_from (λ q. is_among q f.0) (p ∷ []) there p (inl refl)),
       )
 
   covered_true : (p : ℕ) → IsCovered s alpha p → list_any (is_small_cell alpha) (cells_with (p ∷ []) (complex s)) ≡ true
   covered_true p c =
-      let f = filtered_from (is_within alpha) (full_cells faces.cells) c.0 (subst (λ (v : List (List ℕ)). IsIn c.0 v) (sym (cells_are s faces alpha h)) c.1) in
-      let listed = listed_is_full_cell (complex s) c.0 (subst (λ (v : List Cell). IsIn c.0 (full_cells v)) h.cells f.0) in
+      let f = filtered_from (is_within alpha) (full_cells faces.cells) c.0
+      (subst (λ (v : List (List ℕ)). IsIn c.0 v) (sym (cells_are s faces alpha h)) c.1) in
+      let listed = listed_is_full_cell (complex s) c.0 (subst (λ (v : List Cell). IsIn c.0 (full_cells v)) h.cells f.0)
+      in
       any_true (is_small_cell alpha) (cells_with (p ∷ []) (complex s)) (Full c.0)
       (filtered_true (λ c. list_all (λ q. is_among q (points_of c)) (p ∷ [])) (complex s) (Full c.0) listed
-      (all_true (λ q. is_among q c.0) (p ∷ []) (λ q i. among_true q c.0 (elim i [ inl e ↦ subst (λ n. IsIn n c.0) e c.2 | inr none ↦ absurd none ]))))
+      (all_true (λ q. is_among q c.0) (p ∷ []) (λ q i. among_true q c.0
+      (elim i [ inl e ↦ subst (λ n. IsIn n c.0) e c.2 | inr none ↦ absurd none ]))))
       f.1
 
   -- the numbers of points tell whether all are
-  all_covered : (ps : List ℕ) (alphas : List FaceAlphas) → alpha < 2 ^ 34 → AreAlphas is_admitted_point (points_with_cells ps (complex s)) alphas →
+  all_covered : (ps : List ℕ) (alphas : List FaceAlphas) → alpha < 2 ^ 34 →
+      AreAlphas is_admitted_point (points_with_cells ps (complex s)) alphas →
       (list_all (λ a. nat_le a.regular alpha) alphas ≡ true) ↔ ((p : ℕ) → IsIn p ps → IsCovered s alpha p)
   all_covered [] [] l z = (λ t p i. absurd i, λ f. refl)
   all_covered [] (a ∷ alphas) l z = absurd z
   all_covered (p ∷ ps) [] l z = absurd z
   all_covered (p ∷ ps) (a ∷ alphas) l z = (
     λ t q i. elim i [
-      | inl e ↦ subst (IsCovered s alpha) e (covered_from p (z.0.regular alpha l ∙ all_from (λ x. nat_le x.regular alpha) (a ∷ alphas) t a (inl refl)))
-      | inr j ↦ (all_covered ps alphas l z.1).0 (all_true (λ x. nat_le x.regular alpha) alphas (λ x k. all_from (λ x. nat_le x.regular alpha) (a ∷ alphas) t x (inr k))) q j
+      | inl e ↦ subst (IsCovered s alpha) e (covered_from p (z.0.regular alpha l ∙ all_from
+          (λ x. nat_le x.regular alpha) (a ∷ alphas) t a (inl refl)))
+      | inr j ↦ (all_covered ps alphas l z.1).0 (all_true (λ x. nat_le x.regular alpha) alphas
+          (λ x k. all_from (λ x. nat_le x.regular alpha) (a ∷ alphas) t x (inr k))) q j
     ],
     λ f. all_true (λ x. nat_le x.regular alpha) (a ∷ alphas) (λ x k. elim k [
-      | inl e ↦ subst (λ (x : FaceAlphas). nat_le x.regular alpha ≡ true) e (sym (z.0.regular alpha l) ∙ covered_true p (f p (inl refl)))
+      | inl e ↦ subst (λ (x : FaceAlphas). nat_le x.regular alpha ≡ true) e
+          (sym (z.0.regular alpha l) ∙ covered_true p (f p (inl refl)))
       | inr j ↦ all_from (λ x. nat_le x.regular alpha) alphas ((all_covered ps alphas l z.1).1 (λ q m. f q (inr m))) x j
     ]),
   )
 
 pub start_is :
-    (s : List ℕ) (faces : FaceLists) (points : List FaceAlphas) (start alpha : ℕ) → AreFacesOf s faces → AreAlphas is_admitted_point faces.points points →
+    (s : List ℕ) (faces : FaceLists) (points : List FaceAlphas) (start alpha : ℕ) → AreFacesOf s faces →
+    AreAlphas is_admitted_point faces.points points →
     ((a : ℕ) → nat_le start a ≡ list_all (λ x. nat_le x.regular a) points) → alpha < 2 ^ 34 → IsStart s alpha start
 start_is s faces points start alpha h z e l =
-    let p = h.points ∙ ap (λ (v : List ℕ). points_with_cells v (complex s)) (points_of_complex s h.ascending h.keys h.solid) in
-    let c = all_covered s faces alpha h s points l (subst (λ (v : List (ℕ × List Cell)). AreAlphas is_admitted_point v points) p z) in
+    let p = h.points ∙ ap (λ (v : List ℕ). points_with_cells v (complex s))
+    (points_of_complex s h.ascending h.keys h.solid) in
+    let c = all_covered s faces alpha h s points l (subst (λ (v : List (ℕ × List Cell)). AreAlphas is_admitted_point v
+    points) p z) in
     (λ m. c.0 (sym (e alpha) ∙ le_true start alpha m), λ f. le_from start alpha (e alpha ∙ c.1 f))
 
 -- ---- only the numbers of cells matter
 
 -- the greatest of some numbers that is at most b
-greatest : (ns : List ℕ) (b : ℕ) → ((n : ℕ) → IsIn n ns → n ≤ b → ⊥) ⊎ ((a : ℕ) × IsIn a ns × (a ≤ b) × ((n : ℕ) → IsIn n ns → n ≤ b → n ≤ a))
+greatest : (ns : List ℕ) (b : ℕ) → ((n : ℕ) → IsIn n ns → n ≤ b → ⊥) ⊎
+    ((a : ℕ) × IsIn a ns × (a ≤ b) × ((n : ℕ) → IsIn n ns → n ≤ b → n ≤ a))
 greatest [] b = inl (λ n i. absurd i)
 greatest (m ∷ ns) b = elim (greatest ns b) [
   | inl none ↦ elim (cases_lt b m) [
@@ -178,7 +256,16 @@ greatest (m ∷ ns) b = elim (greatest ns b) [
   | inr r ↦ elim (cases_lt b m) [
     | inl over ↦ inr (r.0, inr r.1, r.2, λ n i k. elim i [ inl e ↦ absurd (high n e over k) | inr j ↦ r.3 n j k ])
     | inr l ↦ elim (cases_lt r.0 m) [
-      | inl up ↦ inr (m, inl refl, l, λ n i k. elim i [ inl e ↦ omega (arith, e) | inr j ↦ (let t = r.3 n j k in omega (arith, t, up)) ])
+      | inl up ↦ inr (
+        m,
+        inl refl,
+        l,
+        λ n i k. elim i [
+          | inl e ↦ omega (arith, e)
+          | inr j ↦
+              (let t = r.3 n j k in omega (arith, t, up))
+        ],
+      )
       | inr down ↦ inr (r.0, inr r.1, r.2, λ n i k. elim i [ inl e ↦ omega (arith, e, down) | inr j ↦ r.3 n j k ])
     ]
   ]
@@ -188,11 +275,17 @@ greatest (m ∷ ns) b = elim (greatest ns b) [
     high n e o l = omega (arith, e, o, l)
 
 -- the number of a Full cell
-number_for : (s : List ℕ) (cells : List Cell) (ns : List ℕ) → AllZip (λ c n. IsLeastOf (λ alpha. is_admitted_cell s alpha c) n) cells ns → (q : List ℕ) → IsIn (Full q) cells
+number_for : (s : List ℕ) (cells : List Cell) (ns : List ℕ) → AllZip
+    (λ c n. IsLeastOf (λ alpha. is_admitted_cell s alpha c) n) cells ns → (q : List ℕ) → IsIn (Full q) cells
     → (n : ℕ) × IsIn n ns × IsLeastOf (λ alpha. is_admitted s alpha q) n
 number_for s [] ns z q i = absurd i
 number_for s (c ∷ cells) [] z q i = absurd z
-number_for s (c ∷ cells) (n ∷ ns) z q (inl e) = (n, inl refl, subst (λ (v : Cell). IsLeastOf (λ alpha. is_admitted_cell s alpha v) n) e z.0)
+number_for s (c ∷ cells) (n ∷ ns) z q (inl e) = (
+  n,
+  inl refl,
+  subst
+      (λ (v : Cell). IsLeastOf (λ alpha. is_admitted_cell s alpha v) n) e z.0,
+)
 number_for s (c ∷ cells) (n ∷ ns) z q (inr i) = let r = number_for s cells ns z.1 q i in (r.0, inr r.1, r.2)
 
 not_empty : (s : List ℕ) → is_solid s ≡ true → (p : ℕ) × IsIn p s
@@ -201,7 +294,8 @@ not_empty (p ∷ s) e = (p, inl refl)
 
 -- at an alpha and at the greatest number of a cell that is at most it the same holds
 pub from_number :
-    (s : List ℕ) (ns : List ℕ) (k b : ℕ) → is_solid s ≡ true → AllZip (λ c n. IsLeastOf (λ alpha. is_admitted_cell s alpha c) n) (complex s) ns → b < 2 ^ 34 → IsCompact s k b →
+    (s : List ℕ) (ns : List ℕ) (k b : ℕ) → is_solid s ≡ true → AllZip
+    (λ c n. IsLeastOf (λ alpha. is_admitted_cell s alpha c) n) (complex s) ns → b < 2 ^ 34 → IsCompact s k b →
     (a : ℕ) × IsIn a ns × (a ≤ b) × IsCompact s k a
 from_number s ns k b solid z l c = elim (greatest ns b) [
   | inl none ↦
@@ -219,7 +313,8 @@ from_number s ns k b solid z l c = elim (greatest ns b) [
       | inr under ↦ le_true n a (best n i under) ∙ sym (le_true n b under)
     ]
 
-    one : (a : ℕ) → a ≤ b → ((n : ℕ) → IsIn n ns → n ≤ b → n ≤ a) → (q : List ℕ) → IsIn q (full_cells (complex s)) → is_admitted s b q ≡ is_admitted s a q
+    one : (a : ℕ) → a ≤ b → ((n : ℕ) → IsIn n ns → n ≤ b → n ≤ a) → (q : List ℕ) → IsIn q (full_cells (complex s)) →
+        is_admitted s b q ≡ is_admitted s a q
     one a below best q i =
         let n = number_for s (complex s) ns z q (listed_is_full_cell (complex s) q i) in
         n.2 b l ∙ sym (alike a below best n.0 n.1) ∙ sym (n.2 a (omega (arith, below, l)))
@@ -240,7 +335,8 @@ from_number s ns k b solid z l c = elim (greatest ns b) [
 -- ---- the first number at which it holds
 
 -- a member of an ascending list that is less than that of an index stands before it
-stands_before : (xs : List ℕ) (i a : ℕ) → IsAscending xs → i < length xs → IsIn a xs → a < get_or xs i 0 → IsIn a (take i xs)
+stands_before : (xs : List ℕ) (i a : ℕ) → IsAscending xs → i < length xs → IsIn a xs → a < get_or xs i 0 →
+    IsIn a (take i xs)
 stands_before xs i a up h m l =
     let p = place_of xs a 0 m in
     elim (cases_lt p.0 i) [
@@ -257,7 +353,8 @@ stands_before xs i a up h m l =
     late : (j : ℕ) → get_or xs j 0 ≡ a → i ≤ j → j < length xs → ⊥
     late j e b k = elim (cases_lt i j) [
       | inl c ↦ (let r = rises xs i j 0 up c k in omega (arith, r, e, l))
-      | inr c ↦ (let same : i ≡ j = omega (arith, b, c) in let f = ap (λ n. get_or xs n 0) same in omega (arith, e, f, l))
+      | inr c ↦ (let same : i ≡ j = omega (arith, b, c) in let f =
+          ap (λ n. get_or xs n 0) same in omega (arith, e, f, l))
     ]
 
 -- none of the numbers before the place does
@@ -265,15 +362,19 @@ abbrev pub NoneBefore : List ℕ → ℕ → List ℕ → ℕ → Type 0
 NoneBefore s k levels i = (n : ℕ) → IsIn n (take i levels) → (n < 2 ^ 34) × IsCompact s k n → ⊥
 
 pub found :
-    (s : List ℕ) (ns levels : List ℕ) (k i level : ℕ) → is_solid s ≡ true → AllZip (λ c n. IsLeastOf (λ alpha. is_admitted_cell s alpha c) n) (complex s) ns → AreLevels ns levels → i < length levels →
-    level ≡ get_or levels i 0 → NoneBefore s k levels i → (level < 2 ^ 34) × IsCompact s k level → (level < 2 ^ 34) × IsCompact s k level × ((b : ℕ) → b < level → IsCompact s k b → ⊥)
+    (s : List ℕ) (ns levels : List ℕ) (k i level : ℕ) → is_solid s ≡ true →
+    AllZip (λ c n. IsLeastOf (λ alpha. is_admitted_cell s alpha c) n) (complex s) ns → AreLevels ns levels →
+    i < length levels →
+    level ≡ get_or levels i 0 → NoneBefore s k levels i → (level < 2 ^ 34) × IsCompact s k level → (level < 2 ^ 34) ×
+    IsCompact s k level × ((b : ℕ) → b < level → IsCompact s k b → ⊥)
 found s ns levels k i level solid z v h e none c = (
   c.0,
   c.1,
   λ b l d.
       let small = under b l c.0 in
       let r = from_number s ns k b solid z small d in
-      none r.0 (stands_before levels i r.0 v.ascending h ((v.same r.0).1 r.1) (first r.0 b r.2 l)) (less r.0 b r.2 small, r.3),
+      none r.0 (stands_before levels i r.0 v.ascending h ((v.same r.0).1 r.1) (first r.0 b r.2 l))
+      (less r.0 b r.2 small, r.3),
 )
   where
     under : (b : ℕ) → b < level → level < 2 ^ 34 → b < 2 ^ 34
@@ -286,7 +387,9 @@ found s ns levels k i level solid z v h e none c = (
     first a b l m = subst (λ n. a < n) e (omega (arith, l, m))
 
 pub not_found :
-    (s : List ℕ) (ns levels : List ℕ) (k i : ℕ) → is_solid s ≡ true → AllZip (λ c n. IsLeastOf (λ alpha. is_admitted_cell s alpha c) n) (complex s) ns → AreLevels ns levels → length levels ≤ i →
+    (s : List ℕ) (ns levels : List ℕ) (k i : ℕ) → is_solid s ≡ true →
+    AllZip (λ c n. IsLeastOf (λ alpha. is_admitted_cell s alpha c) n) (complex s) ns → AreLevels ns levels →
+    length levels ≤ i →
     NoneBefore s k levels i → (b : ℕ) → b < 2 ^ 34 → IsCompact s k b → ⊥
 not_found s ns levels k i solid z v h none b l d =
     let r = from_number s ns k b solid z l d in
@@ -306,12 +409,17 @@ own_value (x ∷ xs) zero h = refl
 own_value (x ∷ xs) (suc j) h = own_value xs j (omega (arith, h))
 
 -- one number more at which it does not hold
-pub none_more : (s : List ℕ) (k : ℕ) (levels : List ℕ) (i : ℕ) (b : Bool) → i < length levels → b ≡ false → (IsTrue b ↔ ((get_or levels i 0 < 2 ^ 34) × IsCompact s k (get_or levels i 0))) → NoneBefore s k levels i → NoneBefore s k levels (i + 1)
-none_more s k levels i b h e t none n m c = elim (in_take_more levels i (get_or levels i 0) n h (own_value levels i h) m) [
-  | inl j ↦ none n j c
-  | inr f ↦ not_false b e (t.1 (subst (λ x. (x < 2 ^ 34) × IsCompact s k x) (sym f) c))
-]
+pub none_more : (s : List ℕ) (k : ℕ) (levels : List ℕ) (i : ℕ) (b : Bool) → i < length levels → b ≡ false →
+    (IsTrue b ↔ ((get_or levels i 0 < 2 ^ 34) × IsCompact s k (get_or levels i 0))) → NoneBefore s k levels i →
+    NoneBefore s k levels (i + 1)
+none_more s k levels i b h e t none n m c = elim (in_take_more levels i (get_or levels i 0) n h (own_value levels i h)
+    m) [
+      | inl j ↦ none n j c
+      | inr f ↦ not_false b e (t.1 (subst (λ x. (x < 2 ^ 34) × IsCompact s k x) (sym f) c))
+    ]
 
 -- what is told of the cells, by lists that are lent
-pub lent_levels : (numbers levels lent_numbers lent : List ℕ) → lent_numbers ≡ numbers → lent ≡ levels → AreLevels lent_numbers levels → AreLevels numbers lent
-lent_levels numbers levels lent_numbers lent e f a = subst (AreLevels numbers) (sym f) (subst (λ (v : List ℕ). AreLevels v levels) e a)
+pub lent_levels : (numbers levels lent_numbers lent : List ℕ) → lent_numbers ≡ numbers → lent ≡ levels →
+    AreLevels lent_numbers levels → AreLevels numbers lent
+lent_levels numbers levels lent_numbers lent e f a = subst (AreLevels numbers) (sym f)
+    (subst (λ (v : List ℕ). AreLevels v levels) e a)

@@ -1,5 +1,28 @@
 -- The groups of marked numbers, made one in a loop.
-use Rattle.std.proofs.Common.{◌≡◌, refl, sym, subst, ◌∙◌, ℕ, ◌<◌, ◌≤◌, ◌+◌, Bool, true, false, inl, inr, List, [], ◌∷◌, ◌++◌, All, take, length, get_or}
+use Rattle.std.proofs.Common.{
+  ◌≡◌,
+  refl,
+  sym,
+  subst,
+  ◌∙◌,
+  ℕ,
+  ◌<◌,
+  ◌≤◌,
+  ◌+◌,
+  Bool,
+  true,
+  false,
+  inl,
+  inr,
+  List,
+  [],
+  ◌∷◌,
+  ◌++◌,
+  All,
+  take,
+  length,
+  get_or,
+}
 use Rattle.std.specs.Prelude.{Option, None, Some}
 use Rattle.std.proofs.lemmas.List.{take_all}
 use Rattle.list_laws.specs.Lists.{IsIn}
@@ -69,12 +92,14 @@ module _ (marks : List Bool) (numbers old leads : List ℕ) (i : ℕ) (below : A
       → ((labels : List ℕ) → LeadTo old labels → IsDoneTo marks (take i numbers ++ x ∷ []) labels now first)
       → IsFirst marks (take i numbers ++ x ∷ []) first → JoinSoFar marks (take (i + 1) numbers) old now f
   next_state now first f e c d labels g =
-      subst (λ (v : List ℕ). JoinSoFar marks v old now f) (sym (take_next numbers i (get_or numbers i 0) h (own_value numbers i h)))
+      subst (λ (v : List ℕ). JoinSoFar marks v old now f) (sym (take_next numbers i (get_or numbers i 0) h
+      (own_value numbers i h)))
       (subst (JoinSoFar marks (take i numbers ++ get_or numbers i 0 ∷ []) old now) (sym e)
       (record { count = c; down = d; is_first = g; labels = labels }))
 
   -- a number that is not marked
-  pub over : (first f : Option ℕ) (now : List ℕ) → f ≡ first → now ≡ leads → (mark : Bool) → mark ≡ get_or marks x false → mark ≡ false
+  pub over : (first f : Option ℕ) (now : List ℕ) → f ≡ first → now ≡ leads → (mark : Bool) →
+      mark ≡ get_or marks x false → mark ≡ false
       → JoinSoFar marks (take i numbers) old leads first → JoinSoFar marks (take (i + 1) numbers) old now f
   over first f now e g mark m n s =
       let none = not_marked_here marks (get_or numbers i 0) (sym m ∙ n) in
@@ -88,7 +113,8 @@ module _ (marks : List Bool) (numbers old leads : List ℕ) (i : ℕ) (below : A
       (first_over marks (take i numbers) (get_or numbers i 0) first none s.is_first))
 
   -- the first that is marked
-  pub here : (f : Option ℕ) (now : List ℕ) → f ≡ Some x → now ≡ leads → (mark : Bool) → mark ≡ get_or marks x false → mark ≡ true
+  pub here : (f : Option ℕ) (now : List ℕ) → f ≡ Some x → now ≡ leads → (mark : Bool) → mark ≡ get_or marks x false →
+      mark ≡ true
       → JoinSoFar marks (take i numbers) old leads None → JoinSoFar marks (take (i + 1) numbers) old now f
   here f now e g mark m n s =
       subst (λ (v : List ℕ). JoinSoFar marks (take (i + 1) numbers) old v f) (sym g)
@@ -101,7 +127,8 @@ module _ (marks : List Bool) (numbers old leads : List ℕ) (i : ℕ) (below : A
       (in_last (take i numbers) (get_or numbers i 0), sym m ∙ n))
 
   -- one that is merged with the first
-  pub with_first : (other : ℕ) (f : Option ℕ) (now new : List ℕ) (apart : Bool) → f ≡ Some other → now ≡ new → (mark : Bool)
+  pub with_first : (other : ℕ) (f : Option ℕ) (now new : List ℕ) (apart : Bool) → f ≡ Some other → now ≡ new →
+      (mark : Bool)
       → mark ≡ get_or marks x false → mark ≡ true → length new ≡ length leads → LeadDown new
       → ((labels : List ℕ) → LeadTo leads labels → IsMerged other x labels apart new)
       → JoinSoFar marks (take i numbers) old leads (Some other) → JoinSoFar marks (take (i + 1) numbers) old now f
@@ -114,13 +141,15 @@ module _ (marks : List Bool) (numbers old leads : List ℕ) (i : ℕ) (below : A
       record {
         now = z.new;
         leads_to = z.leads_to;
-        done = merged_next marks (take i numbers) labels r.now z.new other x (λ u k. subst (λ b. u < b) (sym t.count) (front_below u k))
+        done = merged_next marks (take i numbers) labels r.now z.new other x
+            (λ u k. subst (λ b. u < b) (sym t.count) (front_below u k))
             (subst (λ b. x < b) (sym t.count) next_below) (sym m ∙ n) r.done z.merges;
       }))
       (in_front (take i numbers) (get_or numbers i 0) other s.is_first.0, s.is_first.1))
 
 -- the number that was met first is below the count
-pub first_below : (marks : List Bool) (numbers old leads : List ℕ) (i u : ℕ) (first : Option ℕ) → All (λ n. n < length old) numbers
+pub first_below : (marks : List Bool) (numbers old leads : List ℕ) (i u : ℕ) (first : Option ℕ) →
+    All (λ n. n < length old) numbers
     → first ≡ Some u → JoinSoFar marks (take i numbers) old leads first → u < length leads
 first_below marks numbers old leads i u first a e s =
     let f = subst (IsFirst marks (take i numbers)) e s.is_first in

@@ -136,7 +136,8 @@ step old leads now number at next c d h k same e f =
 
 pub first_step : (old now : List ℕ) (number next : ℕ) → LeadDown old → number < length old → next ≡ twice old number
     → now ≡ slice_set old number (twice old number) → IsOnWay old now number number next
-first_step old now number next d h e f = step old old now number number next refl d h (λ labels t. t) (λ labels t. refl) e f
+first_step old now number next d h e f = step old old now number number next refl d h (λ labels t. t) (λ labels t. refl)
+    e f
 
 pub next_step : (old leads now : List ℕ) (number at next further : ℕ) → IsOnWay old leads number at next
     → further ≡ twice leads next → now ≡ slice_set leads next (twice leads next) → IsOnWay old now number next further
@@ -153,7 +154,8 @@ found_label old leads number at next w e labels t =
 -- ---- a merge
 
 -- the label that a number has where it leads to another label from now on
-led : (leads labels : List ℕ) (from to : ℕ) → from < length leads → to < length leads → LeadDown leads → LeadTo leads labels
+led : (leads labels : List ℕ) (from to : ℕ) → from < length leads → to < length leads → LeadDown leads →
+    LeadTo leads labels
     → label_at labels from ≡ from → label_at labels to ≡ to → LeadTo (slice_set leads from to) (merged from to labels)
 led leads labels from to h k d t f g = record {
   count = length-map labels (moved from to) ∙ t.count ∙ sym (len_set leads from to);
@@ -167,7 +169,8 @@ led leads labels from to h k d t f g = record {
   ends = λ i l e. elim (equal_or_not i from) [
     | inl d ↦ new_label i d ∙ sym (here i d) ∙ e
     | inr n ↦
-        label_moved from to labels i (in_labels i (less i l)) ∙ ap (moved from to) (t.ends i (less i l) (sym (there i n) ∙ e))
+        label_moved from to labels i (in_labels i (less i l)) ∙ ap (moved from to)
+        (t.ends i (less i l) (sym (there i n) ∙ e))
         ∙ unmoved i n
   ];
 }
@@ -204,7 +207,8 @@ led leads labels from to h k d t f g = record {
         ∙ ap (moved from to) (t.along i l) ∙ sym (label_moved from to labels i (in_labels i l))
 
 -- the first label goes over into the second
-pub merged_into_second : (leads labels : List ℕ) (i j a b : ℕ) (apart : Bool) → LeadDown leads → LeadTo leads labels → a < length leads
+pub merged_into_second : (leads labels : List ℕ) (i j a b : ℕ) (apart : Bool) → LeadDown leads → LeadTo leads labels →
+    a < length leads
     → b < length leads → a ≡ label_at labels i → b ≡ label_at labels j → label_at labels a ≡ a → label_at labels b ≡ b
     → (apart ≡ false → a ≡ b) → IsMerged i j labels apart (slice_set leads a b)
 merged_into_second leads labels i j a b apart d t h k e f m n g = record {
@@ -215,7 +219,8 @@ merged_into_second leads labels i j a b apart d t h k e f m n g = record {
 }
 
 -- or the second into the first
-pub merged_into_first : (leads labels : List ℕ) (i j a b : ℕ) (apart : Bool) → LeadDown leads → LeadTo leads labels → a < length leads
+pub merged_into_first : (leads labels : List ℕ) (i j a b : ℕ) (apart : Bool) → LeadDown leads → LeadTo leads labels →
+    a < length leads
     → b < length leads → a ≡ label_at labels i → b ≡ label_at labels j → label_at labels a ≡ a → label_at labels b ≡ b
     → (apart ≡ false → a ≡ b) → IsMerged i j labels apart (slice_set leads b a)
 merged_into_first leads labels i j a b apart d t h k e f m n g = record {

@@ -62,7 +62,8 @@ next_others : (leasts : List ℕ) (one : ℕ) (others : List ℕ) (i : ℕ) (old
     → LinkedSoFar leasts (one ∷ []) (take i others ++ get_or others i 0 ∷ []) old now
     → LinkedSoFar leasts (one ∷ []) (take (i + 1) others) old now
 next_others leasts one others i old now h s =
-    subst (λ (v : List ℕ). LinkedSoFar leasts (one ∷ []) v old now) (sym (take_next others i (get_or others i 0) h (own_value others i h))) s
+    subst (λ (v : List ℕ). LinkedSoFar leasts (one ∷ []) v old now)
+    (sym (take_next others i (get_or others i 0) h (own_value others i h))) s
 
 -- one that is not greater is passed over
 pub other_over : (leasts : List ℕ) (one : ℕ) (others : List ℕ) (i : ℕ) (old now new : List Link) → i < length others
@@ -84,7 +85,8 @@ other_over leasts one others i old now new h l e s =
     never u v (inr none) n m = none
 
 -- the link to a greater one is put
-pub other_put : (leasts : List ℕ) (one : ℕ) (others : List ℕ) (i : ℕ) (old now new : List Link) (link : Link) → i < length others
+pub other_put : (leasts : List ℕ) (one : ℕ) (others : List ℕ) (i : ℕ) (old now new : List Link) (link : Link) →
+    i < length others
     → one < length leasts → All (λ n. n < length leasts) others → link ≡ link_of leasts one (get_or others i 0)
     → new ≡ now ++ link ∷ [] → LinkedSoFar leasts (one ∷ []) (take i others) old now
     → LinkedSoFar leasts (one ∷ []) (take (i + 1) others) old new
@@ -96,18 +98,21 @@ other_put leasts one others i old now new link h low high f e s =
         | inl n ↦ in_left (link_of leasts u v) now (link_of leasts one (get_or others i 0) ∷ []) (s.has u v j n m)
         | inr n ↦ in_right (link_of leasts u v) now (link_of leasts one (get_or others i 0) ∷ []) (last u v j n)
       ];
-      below = all_of_each (λ (l : Link). (l.one < length leasts) × (l.other < length leasts)) (now ++ link_of leasts one (get_or others i 0) ∷ [])
+      below = all_of_each (λ (l : Link). (l.one < length leasts) × (l.other < length leasts))
+          (now ++ link_of leasts one (get_or others i 0) ∷ [])
           (λ l j. elim (from_append l now (link_of leasts one (get_or others i 0) ∷ []) j) [
             | inl k ↦ each_of_all (λ (l : Link). (l.one < length leasts) × (l.other < length leasts)) now s.below l k
             | inr k ↦ within l k
           ]);
     }))
   where
-    last : (u v : ℕ) → IsIn u (one ∷ []) → get_or others i 0 ≡ v → IsIn (link_of leasts u v) (link_of leasts one (get_or others i 0) ∷ [])
+    last : (u v : ℕ) → IsIn u (one ∷ []) → get_or others i 0 ≡ v →
+        IsIn (link_of leasts u v) (link_of leasts one (get_or others i 0) ∷ [])
     last u v (inl g) n = inl (ap (λ m. link_of leasts m (get_or others i 0)) g ∙ ap (λ m. link_of leasts u m) n)
     last u v (inr none) n = absurd none
 
-    within : (l : Link) → IsIn l (link_of leasts one (get_or others i 0) ∷ []) → (l.one < length leasts) × (l.other < length leasts)
+    within : (l : Link) → IsIn l (link_of leasts one (get_or others i 0) ∷ []) → (l.one < length leasts) ×
+        (l.other < length leasts)
     within l (inl g) = subst (λ (m : Link). (m.one < length leasts) × (m.other < length leasts)) g (low, high i 0 h)
     within l (inr none) = absurd none
 
@@ -122,7 +127,8 @@ pub one_more : (leasts ones : List ℕ) (i : ℕ) (old now new : List Link) → 
     → LinkedSoFar leasts (take i ones) ones old now → Keeps now new → HasLinks leasts (get_or ones i 0 ∷ []) ones new
     → AreBelow (length leasts) new → LinkedSoFar leasts (take (i + 1) ones) ones old new
 one_more leasts ones i old now new h s keeps has below =
-    subst (λ (v : List ℕ). LinkedSoFar leasts v ones old new) (sym (take_next ones i (get_or ones i 0) h (own_value ones i h)))
+    subst (λ (v : List ℕ). LinkedSoFar leasts v ones old new) (sym
+    (take_next ones i (get_or ones i 0) h (own_value ones i h)))
     (record {
       keeps = λ l j. keeps l (s.keeps l j);
       has = λ u v j k m. elim (from_append u (take i ones) (get_or ones i 0 ∷ []) j) [
@@ -143,7 +149,8 @@ pub record TriplesSoFar (faces : FaceLists) (leasts : List ℕ) (k : ℕ) (links
   pub linked : AreLinked faces leasts k links
   pub below : AreBelow (length leasts) links
 
-pub no_triples : (faces : FaceLists) (leasts : List ℕ) (links : List Link) → links ≡ [] → TriplesSoFar faces leasts 0 links
+pub no_triples : (faces : FaceLists) (leasts : List ℕ) (links : List Link) → links ≡ [] →
+    TriplesSoFar faces leasts 0 links
 no_triples faces leasts links e = record {
   linked = λ t l. absurd (omega (arith, l));
   below = subst (AreBelow (length leasts)) (sym e)
@@ -161,7 +168,8 @@ still_linked faces leasts old new triple keeps l = record {
 
 pub triple_more : (faces : FaceLists) (leasts : List ℕ) (k : ℕ) (numbers : List ℕ) (old new : List Link)
     → numbered faces.cells numbers ≡ (get_or faces.triples k ([], [])).1 → All (λ n. n < length faces.cells) numbers
-    → TriplesSoFar faces leasts k old → Keeps old new → HasLinks leasts numbers numbers new → AreBelow (length leasts) new
+    → TriplesSoFar faces leasts k old → Keeps old new → HasLinks leasts numbers numbers new →
+    AreBelow (length leasts) new
     → TriplesSoFar faces leasts (k + 1) new
 triple_more faces leasts k numbers old new e below s keeps has b = record {
   linked = λ t l. elim (cases_lt t k) [

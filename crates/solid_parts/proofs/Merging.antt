@@ -1,5 +1,31 @@
 -- Groups that are merged.
-use Rattle.std.proofs.Common.{◌≡◌, refl, sym, subst, ap, ◌∙◌, ℕ, zero, suc, ◌<◌, ◌+◌, inl, inr, Bool, true, false, List, [], ◌∷◌, ◌++◌, All, take, length, get_or, arith}
+use Rattle.std.proofs.Common.{
+  ◌≡◌,
+  refl,
+  sym,
+  subst,
+  ap,
+  ◌∙◌,
+  ℕ,
+  zero,
+  suc,
+  ◌<◌,
+  ◌+◌,
+  inl,
+  inr,
+  Bool,
+  true,
+  false,
+  List,
+  [],
+  ◌∷◌,
+  ◌++◌,
+  All,
+  take,
+  length,
+  get_or,
+  arith,
+}
 use Rattle.std.specs.Prelude.{◌⊎◌, ◌==◌, Option, None, Some, if◌then◌else◌}
 use Rattle.std.proofs.lemmas.Bool.Decides.{nat_tests}
 use Rattle.std.proofs.lemmas.List.{length-map}
@@ -10,7 +36,8 @@ use Rattle.solid_parts.specs.Groups.{AreJoinedAll, AreMerged, AreTogether, IsMar
 -- ---- one merge
 
 -- the label of a number afterwards
-pub label_moved : (from to : ℕ) (labels : List ℕ) (i : ℕ) → i < length labels → label_at (merged from to labels) i ≡ moved from to (label_at labels i)
+pub label_moved : (from to : ℕ) (labels : List ℕ) (i : ℕ) → i < length labels →
+    label_at (merged from to labels) i ≡ moved from to (label_at labels i)
 label_moved from to [] i l = absurd (omega (arith, l))
 label_moved from to (x ∷ labels) zero l = refl
 label_moved from to (x ∷ labels) (suc i) l = label_moved from to labels i (omega (arith, l))
@@ -27,13 +54,15 @@ moved_to from to = by (to == from) refl
     by false e = refl
 
 -- labels that become one were one, or both are the two
-moved_same : (from to l m : ℕ) → moved from to l ≡ moved from to m → (l ≡ m) ⊎ (((l ≡ from) ⊎ (l ≡ to)) × ((m ≡ from) ⊎ (m ≡ to)))
+moved_same : (from to l m : ℕ) → moved from to l ≡ moved from to m → (l ≡ m) ⊎
+    (((l ≡ from) ⊎ (l ≡ to)) × ((m ≡ from) ⊎ (m ≡ to)))
 moved_same from to l m = by (l == from) (m == from) refl refl
   where
     equal : (n : ℕ) → (n == from) ≡ true → n ≡ from
     equal n e = grind (arith, nat_tests)
 
-    by : (a b : Bool) → (l == from) ≡ a → (m == from) ≡ b → (if a then to else l) ≡ (if b then to else m) → (l ≡ m) ⊎ (((l ≡ from) ⊎ (l ≡ to)) × ((m ≡ from) ⊎ (m ≡ to)))
+    by : (a b : Bool) → (l == from) ≡ a → (m == from) ≡ b → (if a then to else l) ≡ (if b then to else m) → (l ≡ m) ⊎
+        (((l ≡ from) ⊎ (l ≡ to)) × ((m ≡ from) ⊎ (m ≡ to)))
     by true true e f g = inl (equal l e ∙ sym (equal m f))
     by true false e f g = inr (inl (equal l e), inr (sym g))
     by false true e f g = inr (inr g, inl (equal m f))
@@ -53,8 +82,10 @@ pub record Merges (u v : ℕ) (old new : List ℕ) : Type 0 where
   pub kept : (i j : ℕ) → i < length old → j < length old → AreTogether old i j → AreTogether new i j
   pub both : u < length old → v < length old → AreTogether new u v
   pub only : (i j : ℕ) → i < length old → j < length old → AreTogether new i j
-      → AreTogether old i j ⊎ ((AreTogether old i u ⊎ AreTogether old i v) × (AreTogether old j u ⊎ AreTogether old j v))
-  pub among : u < length old → v < length old → (i : ℕ) → i < length old → (j : ℕ) × (j < length old) × (label_at new i ≡ label_at old j)
+      → AreTogether old i j ⊎ ((AreTogether old i u ⊎ AreTogether old i v) ×
+      (AreTogether old j u ⊎ AreTogether old j v))
+  pub among : u < length old → v < length old → (i : ℕ) → i < length old → (j : ℕ) × (j < length old) ×
+      (label_at new i ≡ label_at old j)
 
 one_way : (u v : ℕ) (old : List ℕ) → Merges u v old (merged (label_at old u) (label_at old v) old)
 one_way u v old =
@@ -63,8 +94,10 @@ one_way u v old =
     record {
       count = length-map old (moved from to);
       kept = λ i j h k e. label_moved from to old i h ∙ ap (moved from to) e ∙ sym (label_moved from to old j k);
-      both = λ h k. label_moved from to old u h ∙ moved_is from to ∙ sym (moved_to from to) ∙ sym (label_moved from to old v k);
-      only = λ i j h k e. moved_same from to (label_at old i) (label_at old j) (sym (label_moved from to old i h) ∙ e ∙ label_moved from to old j k);
+      both = λ h k. label_moved from to old u h ∙ moved_is from to ∙ sym (moved_to from to) ∙ sym
+          (label_moved from to old v k);
+      only = λ i j h k e. moved_same from to (label_at old i) (label_at old j)
+          (sym (label_moved from to old i h) ∙ e ∙ label_moved from to old j k);
       among = λ h k i l. elim (moved_is_one from to (label_at old i)) [
         | inl e ↦ (v, k, label_moved from to old i l ∙ e)
         | inr e ↦ (i, l, label_moved from to old i l ∙ e)
@@ -104,7 +137,14 @@ pub record DoneSoFar (marks : List Bool) (numbers old now : List ℕ) (first : O
 pub none_done : (marks : List Bool) (old : List ℕ) → DoneSoFar marks [] old old None
 none_done marks old = record {
   is_first = λ u i m. i;
-  joins = record { count = refl; kept = λ i j h k e. e; joined = λ u v i. absurd i; only = λ i j h k e. inl e; among = λ i h. (i, h, refl) };
+  joins = record {
+    count = refl;
+    kept = λ i j h k e. e;
+    joined = λ u v i. absurd i;
+    only = λ i j h k e. inl e;
+    among =
+        λ i h. (i, h, refl);
+  };
 }
 
 -- the members of a list with one more behind
@@ -123,38 +163,53 @@ pub in_last : {X : Type 0} (xs : List X) (x : X) → IsIn x (xs ++ x ∷ [])
 in_last [] x = inl refl
 in_last (z ∷ xs) x = inr (in_last xs x)
 
-reaches_more : (old : List ℕ) (marks : List Bool) (numbers : List ℕ) (x i : ℕ) → Reaches old marks numbers i → Reaches old marks (numbers ++ x ∷ []) i
+reaches_more : (old : List ℕ) (marks : List Bool) (numbers : List ℕ) (x i : ℕ) → Reaches old marks numbers i →
+    Reaches old marks (numbers ++ x ∷ []) i
 reaches_more old marks numbers x i r = (r.0, in_front numbers x r.0 r.1, r.2, r.3)
 
 -- a number that is not marked is passed over
-pub passed_over : (marks : List Bool) (numbers old now : List ℕ) (first : Option ℕ) (x : ℕ) → (IsMarked marks x → ⊥) → DoneSoFar marks numbers old now first → DoneSoFar marks (numbers ++ x ∷ []) old now first
+pub passed_over : (marks : List Bool) (numbers old now : List ℕ) (first : Option ℕ) (x : ℕ) → (IsMarked marks x → ⊥) →
+    DoneSoFar marks numbers old now first → DoneSoFar marks (numbers ++ x ∷ []) old now first
 passed_over marks numbers old now first x none d = record {
   is_first = still first d.is_first;
   joins = record {
     count = d.joins.count;
     kept = d.joins.kept;
     joined = λ u v i j m n. d.joins.joined u v (before u i m) (before v j n) m n;
-    only = λ i j h k e. elim (d.joins.only i j h k e) [ inl s ↦ inl s | inr t ↦ inr (reaches_more old marks numbers x i t.0, reaches_more old marks numbers x j t.1) ];
+    only = λ i j h k e. elim (d.joins.only i j h k e) [
+      | inl s ↦ inl s
+      | inr t ↦ inr
+          (reaches_more old marks numbers x i t.0, reaches_more old marks numbers x j t.1)
+    ];
     among = d.joins.among;
   };
 }
   where
     before : (u : ℕ) → IsIn u (numbers ++ x ∷ []) → IsMarked marks u → IsIn u numbers
-    before u i m = elim (in_front_or_last numbers x u i) [ inl j ↦ j | inr e ↦ absurd (none (subst (λ n. IsMarked marks n) (sym e) m)) ]
+    before u i m = elim (in_front_or_last numbers x u i) [
+      | inl j ↦ j
+      | inr e ↦ absurd
+          (none (subst (λ n. IsMarked marks n) (sym e) m))
+    ]
 
     still : (f : Option ℕ) → IsFirst marks numbers f → IsFirst marks (numbers ++ x ∷ []) f
     still None never = λ u i m. never u (before u i m) m
     still (Some u) some = (in_front numbers x u some.0, some.1)
 
 -- the first that is marked is kept
-pub kept_first : (marks : List Bool) (numbers old now : List ℕ) (x : ℕ) → IsMarked marks x → DoneSoFar marks numbers old now None → DoneSoFar marks (numbers ++ x ∷ []) old now (Some x)
+pub kept_first : (marks : List Bool) (numbers old now : List ℕ) (x : ℕ) → IsMarked marks x →
+    DoneSoFar marks numbers old now None → DoneSoFar marks (numbers ++ x ∷ []) old now (Some x)
 kept_first marks numbers old now x mark d = record {
   is_first = (in_last numbers x, mark);
   joins = record {
     count = d.joins.count;
     kept = d.joins.kept;
     joined = λ u v i j m n. ap (label_at now) (sym (itself u i m) ∙ itself v j n);
-    only = λ i j h k e. elim (d.joins.only i j h k e) [ inl s ↦ inl s | inr t ↦ inr (reaches_more old marks numbers x i t.0, reaches_more old marks numbers x j t.1) ];
+    only = λ i j h k e. elim (d.joins.only i j h k e) [
+      | inl s ↦ inl s
+      | inr t ↦ inr
+          (reaches_more old marks numbers x i t.0, reaches_more old marks numbers x j t.1)
+    ];
     among = d.joins.among;
   };
 }
@@ -163,7 +218,9 @@ kept_first marks numbers old now x mark d = record {
     itself u i m = elim (in_front_or_last numbers x u i) [ inl j ↦ absurd (d.is_first u j m) | inr e ↦ e ]
 
 -- one that is marked is merged with the first
-pub merged_next : (marks : List Bool) (numbers old now new : List ℕ) (f x : ℕ) → ((u : ℕ) → IsIn u numbers → u < length old) → x < length old → IsMarked marks x → DoneSoFar marks numbers old now (Some f) → AreMerged f x now new
+pub merged_next : (marks : List Bool) (numbers old now new : List ℕ) (f x : ℕ) →
+    ((u : ℕ) → IsIn u numbers → u < length old) → x < length old → IsMarked marks x →
+    DoneSoFar marks numbers old now (Some f) → AreMerged f x now new
     → DoneSoFar marks (numbers ++ x ∷ []) old new (Some f)
 merged_next marks numbers old now new f x within inside mark d e = record {
   is_first = (in_front numbers x f d.is_first.0, d.is_first.1);
@@ -172,7 +229,11 @@ merged_next marks numbers old now new f x within inside mark d e = record {
     kept = λ i j h k t. m.kept i j (up i h) (up j k) (d.joins.kept i j h k t);
     joined = λ u v i j p q. with_first u i p ∙ sym (with_first v j q);
     only = λ i j h k t. elim (m.only i j (up i h) (up j k) t) [
-      | inl s ↦ elim (d.joins.only i j h k s) [ inl r ↦ inl r | inr r ↦ inr (reaches_more old marks numbers x i r.0, reaches_more old marks numbers x j r.1) ]
+      | inl s ↦ elim (d.joins.only i j h k s) [
+        | inl r ↦ inl r
+        | inr r ↦ inr
+            (reaches_more old marks numbers x i r.0, reaches_more old marks numbers x j r.1)
+      ]
       | inr s ↦ inr (reached i h s.0, reached j k s.1)
     ];
     among = λ i h.
@@ -209,7 +270,8 @@ merged_next marks numbers old now new f x within inside mark d e = record {
       | inr r ↦ reaches_more old marks numbers x i r.0
     ]
 
-    reached : (i : ℕ) → i < length old → AreTogether now i f ⊎ AreTogether now i x → Reaches old marks (numbers ++ x ∷ []) i
+    reached : (i : ℕ) → i < length old → AreTogether now i f ⊎ AreTogether now i x →
+        Reaches old marks (numbers ++ x ∷ []) i
     reached i h (inl t) = to_first i h t
     reached i h (inr t) = to_last i h t
 
@@ -223,7 +285,9 @@ own_value (x ∷ xs) (suc j) h = own_value xs j (omega (arith, h))
 
 -- the next number is among those up to it
 pub in_next : (numbers : List ℕ) (i : ℕ) → i < length numbers → IsIn (get_or numbers i 0) (take (i + 1) numbers)
-in_next numbers i l = subst (λ (v : List ℕ). IsIn (get_or numbers i 0) v) (sym (take_next numbers i (get_or numbers i 0) l (own_value numbers i l))) (in_last (take i numbers) (get_or numbers i 0))
+in_next numbers i l = subst (λ (v : List ℕ). IsIn (get_or numbers i 0) v)
+    (sym (take_next numbers i (get_or numbers i 0) l (own_value numbers i l)))
+    (in_last (take i numbers) (get_or numbers i 0))
 
 -- numbers of a front are below what all are below
 pub within_front : (numbers : List ℕ) (i n : ℕ) → All (λ m. m < n) numbers → (u : ℕ) → IsIn u (take i numbers) → u < n

@@ -1,5 +1,30 @@
 -- Paths over cells that share triples.
-use Rattle.std.proofs.Common.{◌≡◌, refl, sym, subst, ap, ◌∙◌, ℕ, ◌<◌, ◌≤◌, ◌+◌, inl, inr, Bool, List, [], ◌∷◌, ◌++◌, All, append-nil, drop, take, length, get_or, arith}
+use Rattle.std.proofs.Common.{
+  ◌≡◌,
+  refl,
+  sym,
+  subst,
+  ap,
+  ◌∙◌,
+  ℕ,
+  ◌<◌,
+  ◌≤◌,
+  ◌+◌,
+  inl,
+  inr,
+  Bool,
+  List,
+  [],
+  ◌∷◌,
+  ◌++◌,
+  All,
+  append-nil,
+  drop,
+  take,
+  length,
+  get_or,
+  arith,
+}
 use Rattle.std.specs.List.{range_with_len}
 use Rattle.std.proofs.lemmas.Bool.{cases_lt}
 use Rattle.std.proofs.lemmas.List.{drop_all, take_all}
@@ -25,12 +50,14 @@ turned_round faces marks i j b = record {
 }
 
 -- one path and then another
-pub path_then : (faces : FaceLists) (marks : List Bool) (i : ℕ) (path : List ℕ) (j : ℕ) (more : List ℕ) (k : ℕ) → IsPath faces marks i path j → IsPath faces marks j more k → IsPath faces marks i (path ++ more) k
+pub path_then : (faces : FaceLists) (marks : List Bool) (i : ℕ) (path : List ℕ) (j : ℕ) (more : List ℕ) (k : ℕ) →
+    IsPath faces marks i path j → IsPath faces marks j more k → IsPath faces marks i (path ++ more) k
 path_then faces marks i [] j more k e q = subst (λ n. IsPath faces marks n more k) (sym e) q
 path_then faces marks i (m ∷ path) j more k p q = (p.0, path_then faces marks m path j more k p.1 q)
 
 -- the cell of a number is among the cells of some numbers
-pub cell_in : (cells : List Cell) (numbers : List ℕ) (u : ℕ) → IsIn u numbers → IsIn (cell_at cells u) (numbered cells numbers)
+pub cell_in : (cells : List Cell) (numbers : List ℕ) (u : ℕ) → IsIn u numbers →
+    IsIn (cell_at cells u) (numbered cells numbers)
 cell_in cells [] u i = absurd i
 cell_in cells (n ∷ numbers) u (inl e) = inl (ap (cell_at cells) e)
 cell_in cells (n ∷ numbers) u (inr i) = inr (cell_in cells numbers u i)
@@ -44,16 +71,19 @@ own_label n i l = get_or-range_with_len 0 n i 0 l ∙ none_more i
     none_more : (m : ℕ) → 0 + m ≡ m
     none_more m = omega arith
 
-pub labels_start : (faces : FaceLists) (marks : List Bool) (labels : List ℕ) → labels ≡ range_with_len 0 (length faces.cells) → AreLabels faces marks 0 labels
+pub labels_start : (faces : FaceLists) (marks : List Bool) (labels : List ℕ) →
+    labels ≡ range_with_len 0 (length faces.cells) → AreLabels faces marks 0 labels
 labels_start faces marks labels e = subst (AreLabels faces marks 0) (sym e) (record {
   count = length-range_with_len 0 (length faces.cells);
-  below = λ i h. let l = subst (λ n. i < n) (length-range_with_len 0 (length faces.cells)) h in subst (λ n. n < length faces.cells) (sym (own_label (length faces.cells) i l)) l;
+  below = λ i h. let l = subst (λ n. i < n) (length-range_with_len 0 (length faces.cells)) h in subst
+      (λ n. n < length faces.cells) (sym (own_label (length faces.cells) i l)) l;
   joined = λ t l. absurd (omega (arith, l));
   only = λ i j h k s. ([], sym (own_label (length faces.cells) i h) ∙ s ∙ own_label (length faces.cells) j k);
 })
 
 -- what is written back to all of a list stands in it
-pub written_back : (n : ℕ) (before lent ys : List ℕ) → lent ≡ before → length lent ≡ n → length ys ≡ length lent → take n (ys ++ drop (length ys) before) ≡ ys
+pub written_back : (n : ℕ) (before lent ys : List ℕ) → lent ≡ before → length lent ≡ n → length ys ≡ length lent →
+    take n (ys ++ drop (length ys) before) ≡ ys
 written_back n before lent ys v k a =
     let m : length ys ≡ length before = a ∙ ap length v in
     ap (λ t. take n (ys ++ t)) (drop_all (length ys) before (omega (arith, m))) ∙ ap (take n) (append-nil ys)
@@ -62,7 +92,9 @@ written_back n before lent ys v k a =
 -- ---- one triple more
 
 -- marked cells that shared a label still do
-alike_after : (faces : FaceLists) (marks : List Bool) (numbers old new : List ℕ) (triple : List ℕ × List Cell) → length old ≡ length faces.cells → AreJoinedAll marks numbers old new → AreAlike faces marks old triple → AreAlike faces marks new triple
+alike_after : (faces : FaceLists) (marks : List Bool) (numbers old new : List ℕ) (triple : List ℕ × List Cell) →
+    length old ≡ length faces.cells → AreJoinedAll marks numbers old new → AreAlike faces marks old triple →
+    AreAlike faces marks new triple
 alike_after faces marks numbers old new triple n j a = record {
   numbers = a.numbers;
   around = a.around;
@@ -74,11 +106,14 @@ alike_after faces marks numbers old new triple n j a = record {
     within u i = subst (λ c. u < c) (sym n) (each_of_all (λ c. c < length faces.cells) a.numbers a.below u i)
 
 pub labels_next :
-    (faces : FaceLists) (marks : List Bool) (k : ℕ) (numbers old new : List ℕ) → k < length faces.triples → numbered faces.cells numbers ≡ (get_or faces.triples k ([], [])).1 →
-    All (λ n. n < length faces.cells) numbers → AreLabels faces marks k old → AreJoinedAll marks numbers old new → AreLabels faces marks (k + 1) new
+    (faces : FaceLists) (marks : List Bool) (k : ℕ) (numbers old new : List ℕ) → k < length faces.triples →
+    numbered faces.cells numbers ≡ (get_or faces.triples k ([], [])).1 →
+    All (λ n. n < length faces.cells) numbers → AreLabels faces marks k old → AreJoinedAll marks numbers old new →
+    AreLabels faces marks (k + 1) new
 labels_next faces marks k numbers old new h e below l j = record {
   count = j.count ∙ l.count;
-  below = λ i h. let a = j.among i (subst (λ n. i < n) j.count h) in subst (λ n. n < length faces.cells) (sym a.2) (l.below a.0 a.1);
+  below = λ i h. let a = j.among i (subst (λ n. i < n) j.count h) in subst (λ n. n < length faces.cells) (sym a.2)
+      (l.below a.0 a.1);
   joined = λ t m. elim (cases_lt t k) [
     | inl b ↦ alike_after faces marks numbers old new _ l.count j (l.joined t b)
     | inr b ↦ subst (λ t. AreAlike faces marks new (get_or faces.triples t ([], []))) (last t m b) here
@@ -101,7 +136,8 @@ labels_next faces marks k numbers old new h e below l j = record {
     here : AreAlike faces marks new (get_or faces.triples k ([], []))
     here = record { numbers = numbers; around = e; below = below; alike = j.joined }
 
-    beside : (u v : ℕ) → IsIn u numbers → IsIn v numbers → IsMarked marks u → IsMarked marks v → AreBeside faces marks u v
+    beside : (u v : ℕ) → IsIn u numbers → IsIn v numbers → IsMarked marks u → IsMarked marks v →
+        AreBeside faces marks u v
     beside u v i m p q = record {
       triple = get_or faces.triples k ([], []);
       listed = at_in faces.triples k ([], []) h;
@@ -111,7 +147,8 @@ labels_next faces marks k numbers old new h e below l j = record {
       second_marked = q;
     }
 
-    across : (i m : ℕ) → i < length faces.cells → m < length faces.cells → Reaches old marks numbers i → Reaches old marks numbers m → (path : List ℕ) × IsPath faces marks i path m
+    across : (i m : ℕ) → i < length faces.cells → m < length faces.cells → Reaches old marks numbers i →
+        Reaches old marks numbers m → (path : List ℕ) × IsPath faces marks i path m
     across i m p q r s =
         let u = r.0 in
         let v = s.0 in
@@ -128,7 +165,8 @@ pub record LeadToLabels (faces : FaceLists) (marks : List Bool) (k : ℕ) (leads
   pub leads_to : LeadTo leads labels
   pub are_labels : AreLabels faces marks k labels
 
-pub leads_start : (faces : FaceLists) (marks : List Bool) (leads : List ℕ) → leads ≡ range_with_len 0 (length faces.cells)
+pub leads_start : (faces : FaceLists) (marks : List Bool) (leads : List ℕ) →
+    leads ≡ range_with_len 0 (length faces.cells)
     → LeadToLabels faces marks 0 leads
 leads_start faces marks leads e =
     subst (LeadToLabels faces marks 0) (sym e) (record {
@@ -147,7 +185,8 @@ pub leads_next :
     (faces : FaceLists) (marks : List Bool) (k : ℕ) (numbers old new : List ℕ) → k < length faces.triples
     → numbered faces.cells numbers ≡ (get_or faces.triples k ([], [])).1 → All (λ n. n < length faces.cells) numbers
     → LeadToLabels faces marks k old → LeadDown new
-    → ((labels : List ℕ) → LeadTo old labels → AreAllJoined marks numbers labels new) → LeadToLabels faces marks (k + 1) new
+    → ((labels : List ℕ) → LeadTo old labels → AreAllJoined marks numbers labels new) →
+    LeadToLabels faces marks (k + 1) new
 leads_next faces marks k numbers old new h e below l d j =
     let r = j l.labels l.leads_to in
     record {

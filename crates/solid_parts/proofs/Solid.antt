@@ -1,5 +1,29 @@
 -- What is gathered by labels are the solid parts.
-use Rattle.std.proofs.Common.{◌≡◌, refl, sym, subst, ap, ◌∙◌, ℕ, zero, suc, ◌<◌, inl, inr, Bool, true, false, List, [], ◌∷◌, ◌++◌, map, length, get_or, arith}
+use Rattle.std.proofs.Common.{
+  ◌≡◌,
+  refl,
+  sym,
+  subst,
+  ap,
+  ◌∙◌,
+  ℕ,
+  zero,
+  suc,
+  ◌<◌,
+  inl,
+  inr,
+  Bool,
+  true,
+  false,
+  List,
+  [],
+  ◌∷◌,
+  ◌++◌,
+  map,
+  length,
+  get_or,
+  arith,
+}
 use Rattle.std.specs.Prelude.{IfOk, Result, Ok, Err}
 use Rattle.std.specs.List.{filter, list_all}
 use Rattle.std.specs.List.Sorted.{IsStrictlySortedBy}
@@ -8,7 +32,22 @@ use Rattle.std.specs.Cmp.Lexicographic.{slice_cmp}
 use Rattle.std.specs.declared.cmp.Ordering.TheVariants.{Less, Equal}
 use Rattle.std.proofs.lemmas.List.{get_or-map}
 use Rattle.list_laws.specs.Lists.{AreDistinct, IsIn}
-use Rattle.list_laws.proofs.Cited.{all_from, all_true, among_from, among_true, at_in, each_by, each_of_all, filtered_from, filtered_true, flat_from, from_append, in_flat, mapped_from, mapped_true}
+use Rattle.list_laws.proofs.Cited.{
+  all_from,
+  all_true,
+  among_from,
+  among_true,
+  at_in,
+  each_by,
+  each_of_all,
+  filtered_from,
+  filtered_true,
+  flat_from,
+  from_append,
+  in_flat,
+  mapped_from,
+  mapped_true,
+}
 use Rattle.point_order.specs.declared.cell.Cell.{Cell}
 use Rattle.point_order.specs.declared.cell.Cell.TheVariants.{Full, Open}
 use Rattle.point_order.specs.CellOrder.{cell_cmp}
@@ -21,7 +60,13 @@ use Rattle.del_laws.proofs.Cited.{complex_is_sorted, part_ascending, part_inside
 use Rattle.face_list.specs.Faces.{cells_with, full_cells, parts_in}
 use Rattle.face_list.specs.Seen.{FaceLists}
 use Rattle.face_list.specs.Tables.{cell_at, numbered}
-use Rattle.face_list.proofs.Cited.{full_cell_is_listed, listed_is_full_cell, listed_is_part, part_is_listed, part_length}
+use Rattle.face_list.proofs.Cited.{
+  full_cell_is_listed,
+  listed_is_full_cell,
+  listed_is_part,
+  part_is_listed,
+  part_length,
+}
 use Rattle.alpha_complex.specs.Admitted.{is_within}
 use Rattle.alpha_complex.specs.Condition.{AreFacesOf}
 use Rattle.alpha_complex.specs.Judged.{is_small_cell}
@@ -48,7 +93,8 @@ distinct_in_order (q ∷ part) s = (
     clash : Equal ≡ Less → ⊥
     clash e = cc
 
-distinct_append : {X : Type 0} (l m : List X) → AreDistinct l → AreDistinct m → ((x : X) → IsIn x l → IsIn x m → ⊥) → AreDistinct (l ++ m)
+distinct_append : {X : Type 0} (l m : List X) → AreDistinct l → AreDistinct m → ((x : X) → IsIn x l → IsIn x m → ⊥) →
+    AreDistinct (l ++ m)
 distinct_append [] m a b f = b
 distinct_append (x ∷ l) m a b f = (
   λ i. elim (from_append x l m i) [ inl j ↦ a.0 j | inr j ↦ f x (inl refl) j ],
@@ -58,15 +104,18 @@ distinct_append (x ∷ l) m a b f = (
 -- lists of which each has no cell twice, and no two a cell in common
 distinct_flat :
     (parts : List (List (List ℕ))) → ((p : ℕ) → p < length parts → AreDistinct (part_at parts p)) →
-    ((p y : ℕ) (q : List ℕ) → p < length parts → y < length parts → IsIn q (part_at parts p) → IsIn q (part_at parts y) → p ≡ y) → AreDistinct (all_cells parts)
+    ((p y : ℕ) (q : List ℕ) → p < length parts → y < length parts → IsIn q (part_at parts p) →
+    IsIn q (part_at parts y) → p ≡ y) → AreDistinct (all_cells parts)
 distinct_flat [] d f = tt
 distinct_flat (part ∷ parts) d f =
     distinct_append part (all_cells parts) (d 0 (omega arith))
-    (distinct_flat parts (λ p l. d (suc p) (omega (arith, l))) (λ p y q l h i j. less (f (suc p) (suc y) q (omega (arith, l)) (omega (arith, h)) i j)))
+    (distinct_flat parts (λ p l. d (suc p) (omega (arith, l))) (λ p y q l h i j. less
+    (f (suc p) (suc y) q (omega (arith, l)) (omega (arith, h)) i j)))
     (λ q i j.
     let r = flat_from (λ v. v) parts q j in
     let p = place_of parts r.0 [] r.1 in
-    never p.0 (f 0 (suc p.0) q (omega arith) (omega (arith, p.1)) i (subst (λ (v : List (List ℕ)). IsIn q v) (sym p.2) r.2)))
+    never p.0 (f 0 (suc p.0) q (omega arith) (omega (arith, p.1)) i
+    (subst (λ (v : List (List ℕ)). IsIn q v) (sym p.2) r.2)))
   where
     less : {p y : ℕ} → suc p ≡ suc y → p ≡ y
     less e = omega (arith, e)
@@ -80,16 +129,19 @@ marks_of : (alpha : ℕ) (cells : List Cell) → List Bool
 marks_of alpha cells = map (is_small_cell alpha) cells
 
 -- what is marked is a cell of the list
-pub marked_below : (alpha : ℕ) (cells : List Cell) (i : ℕ) → IsMarked (map (is_small_cell alpha) cells) i → i < length cells
+pub marked_below : (alpha : ℕ) (cells : List Cell) (i : ℕ) → IsMarked (map (is_small_cell alpha) cells) i →
+    i < length cells
 marked_below alpha [] i e = cc
 marked_below alpha (c ∷ cells) zero e = omega arith
 marked_below alpha (c ∷ cells) (suc i) e = let l = marked_below alpha cells i e in omega (arith, l)
 
-pub mark_is : (alpha : ℕ) (cells : List Cell) (i : ℕ) → i < length cells → get_or (map (is_small_cell alpha) cells) i false ≡ is_small_cell alpha (cell_at cells i)
+pub mark_is : (alpha : ℕ) (cells : List Cell) (i : ℕ) → i < length cells →
+    get_or (map (is_small_cell alpha) cells) i false ≡ is_small_cell alpha (cell_at cells i)
 mark_is alpha cells i l = get_or-map (is_small_cell alpha) cells i (Full []) false l
 
 -- a marked cell is Full
-pub small_full : (alpha : ℕ) (c : Cell) → is_small_cell alpha c ≡ true → (q : List ℕ) × (c ≡ Full q) × (is_within alpha q ≡ true)
+pub small_full : (alpha : ℕ) (c : Cell) → is_small_cell alpha c ≡ true → (q : List ℕ) × (c ≡ Full q) ×
+    (is_within alpha q ≡ true)
 small_full alpha (Full q) e = (q, refl, e)
 small_full alpha (Open t) e = cc
 
@@ -133,11 +185,13 @@ module _ (s : List ℕ) (faces : FaceLists) (alpha : ℕ) (labels : List ℕ) (g
   admitted_from q i n =
       let l = marked_below alpha faces.cells i n.marked in
       filtered_true (is_within alpha) (full_cells faces.cells) q
-      (full_cell_is_listed faces.cells q (subst (λ (c : Cell). IsIn c faces.cells) n.cell (at_in faces.cells i (Full []) l)))
+      (full_cell_is_listed faces.cells q (subst (λ (c : Cell). IsIn c faces.cells) n.cell
+      (at_in faces.cells i (Full []) l)))
       (ap (is_small_cell alpha) (sym n.cell) ∙ sym (mark_is alpha faces.cells i l) ∙ n.marked)
 
   -- and an admitted one has a number
-  pub numbered_from : (q : List ℕ) → IsIn q admitted → (i : ℕ) × (i < length faces.cells) × IsNumberOf faces.cells marks q i
+  pub numbered_from : (q : List ℕ) → IsIn q admitted → (i : ℕ) × (i < length faces.cells) ×
+      IsNumberOf faces.cells marks q i
   numbered_from q j =
       let f = filtered_from (is_within alpha) (full_cells faces.cells) q j in
       let p = place_of faces.cells (Full q) (Full []) (listed_is_full_cell faces.cells q f.0) in
@@ -149,25 +203,31 @@ module _ (s : List ℕ) (faces : FaceLists) (alpha : ℕ) (labels : List ℕ) (g
   ascends : (q : List ℕ) (i : ℕ) → IsNumberOf faces.cells marks q i → IsAscending q
   ascends q i n =
       full_ascends s q g.faces_of.ascending
-      (subst (IsIn (Full q)) g.faces_of.cells (subst (λ (c : Cell). IsIn c faces.cells) n.cell (at_in faces.cells i (Full []) (number_below q i n))))
+      (subst (IsIn (Full q)) g.faces_of.cells (subst (λ (c : Cell). IsIn c faces.cells) n.cell
+      (at_in faces.cells i (Full []) (number_below q i n))))
 
   -- ---- triples
 
   -- a listed triple is one of the complex, with the cells that have it
-  triple_from : (f : List ℕ × List Cell) → IsIn f faces.triples → (t : List ℕ) × IsIn t (parts_in 3 (complex s)) × ((t, cells_with t (complex s)) ≡ f)
-  triple_from f i = mapped_from (λ t. (t, cells_with t (complex s))) f (parts_in 3 (complex s)) (subst (λ (v : List (List ℕ × List Cell)). IsIn f v) g.faces_of.triples i)
+  triple_from : (f : List ℕ × List Cell) → IsIn f faces.triples → (t : List ℕ) × IsIn t (parts_in 3 (complex s)) ×
+      ((t, cells_with t (complex s)) ≡ f)
+  triple_from f i = mapped_from (λ t. (t, cells_with t (complex s))) f (parts_in 3 (complex s))
+      (subst (λ (v : List (List ℕ × List Cell)). IsIn f v) g.faces_of.triples i)
 
   -- a cell around it has it
-  around_has : (t q : List ℕ) → IsIn t (parts_in 3 (complex s)) → IsAscending q → IsIn (Full q) (cells_with t (complex s)) → IsIn t (subsets 3 q)
+  around_has : (t q : List ℕ) → IsIn t (parts_in 3 (complex s)) → IsAscending q →
+      IsIn (Full q) (cells_with t (complex s)) → IsIn t (subsets 3 q)
   around_has t q i a m =
       let h = listed_is_part 3 (complex s) t i in
       let three = part_length 3 h.q t h.part in
       let f = filtered_from (λ c. list_all (λ p. is_among p (points_of c)) t) (complex s) (Full q) m in
       subst (λ n. IsIn t (subsets n q)) three
-      (part_true q t a (part_ascending 3 h.q t (full_ascends s h.q g.faces_of.ascending h.listed) h.part) (λ p k. among_from p q (all_from (λ p. is_among p q) t f.1 p k)))
+      (part_true q t a (part_ascending 3 h.q t (full_ascends s h.q g.faces_of.ascending h.listed) h.part)
+      (λ p k. among_from p q (all_from (λ p. is_among p q) t f.1 p k)))
 
   -- and a cell that has it is around it
-  has_around : (t q : List ℕ) → IsIn (Full q) (complex s) → IsIn t (subsets 3 q) → IsIn (Full q) (cells_with t (complex s))
+  has_around : (t q : List ℕ) → IsIn (Full q) (complex s) → IsIn t (subsets 3 q) →
+      IsIn (Full q) (cells_with t (complex s))
   has_around t q i m =
       filtered_true (λ c. list_all (λ p. is_among p (points_of c)) t) (complex s) (Full q) i
       (all_true (λ p. is_among p q) t (λ p k. among_true p q (part_inside 3 q t m p k)))
@@ -175,7 +235,8 @@ module _ (s : List ℕ) (faces : FaceLists) (alpha : ℕ) (labels : List ℕ) (g
   -- ---- paths and chains
 
   -- a cell beside another, told by its number
-  step_from : (q c : List ℕ) (i m : ℕ) → IsNumberOf faces.cells marks q i → IsNumberOf faces.cells marks c m → AreBeside faces marks i m → ShareTriple q c
+  step_from : (q c : List ℕ) (i m : ℕ) → IsNumberOf faces.cells marks q i → IsNumberOf faces.cells marks c m →
+      AreBeside faces marks i m → ShareTriple q c
   step_from q c i m n k b =
       let r = triple_from b.triple b.listed in
       let first = subst (λ (v : List ℕ × List Cell). IsIn (cell_at faces.cells i) v.1) (sym r.2) b.first in
@@ -192,14 +253,16 @@ module _ (s : List ℕ) (faces : FaceLists) (alpha : ℕ) (labels : List ℕ) (g
       let f = small_full alpha (cell_at faces.cells m) (sym (mark_is alpha faces.cells m l) ∙ e) in
       (f.0, record { marked = e; cell = f.1 })
 
-  same_cell : (q r : List ℕ) (i j : ℕ) → IsNumberOf faces.cells marks q i → IsNumberOf faces.cells marks r j → i ≡ j → q ≡ r
+  same_cell : (q r : List ℕ) (i j : ℕ) → IsNumberOf faces.cells marks q i → IsNumberOf faces.cells marks r j → i ≡ j →
+      q ≡ r
   same_cell q r i j n k e = same (sym n.cell ∙ ap (cell_at faces.cells) e ∙ k.cell)
     where
       same : Full q ≡ Full r → q ≡ r
       same f = cc
 
   -- a path over numbers is a chain of cells
-  chain_from : (q r : List ℕ) (i : ℕ) (path : List ℕ) (j : ℕ) → IsNumberOf faces.cells marks q i → IsPath faces marks i path j → IsNumberOf faces.cells marks r j → AreJoined admitted q r
+  chain_from : (q r : List ℕ) (i : ℕ) (path : List ℕ) (j : ℕ) → IsNumberOf faces.cells marks q i →
+      IsPath faces marks i path j → IsNumberOf faces.cells marks r j → AreJoined admitted q r
   chain_from q r i [] j n e k = record { chain = []; joins = same_cell q r i j n k e }
   chain_from q r i (m ∷ path) j n p k =
       let c = marked_cell m p.0.second_marked in
@@ -207,38 +270,51 @@ module _ (s : List ℕ) (faces : FaceLists) (alpha : ℕ) (labels : List ℕ) (g
       record { chain = c.0 ∷ rest.chain; joins = (admitted_from c.0 m c.1, step_from q c.0 i m n c.1 p.0, rest.joins) }
 
   -- the number of a cell among some numbers
-  number_in : (q : List ℕ) (numbers : List ℕ) → IsIn (Full q) (numbered faces.cells numbers) → (u : ℕ) × IsIn u numbers × (cell_at faces.cells u ≡ Full q)
+  number_in : (q : List ℕ) (numbers : List ℕ) → IsIn (Full q) (numbered faces.cells numbers) → (u : ℕ) ×
+      IsIn u numbers × (cell_at faces.cells u ≡ Full q)
   number_in q numbers i = mapped_from (cell_at faces.cells) (Full q) numbers i
 
   -- cells that share a triple have one label
-  alike : (q c : List ℕ) (i m : ℕ) → IsNumberOf faces.cells marks q i → IsNumberOf faces.cells marks c m → ShareTriple q c → AreTogether labels i m
+  alike : (q c : List ℕ) (i m : ℕ) → IsNumberOf faces.cells marks q i → IsNumberOf faces.cells marks c m →
+      ShareTriple q c → AreTogether labels i m
   alike q c i m n k t =
-      let listed = λ (x : List ℕ) (y : ℕ) (z : IsNumberOf faces.cells marks x y). subst (IsIn (Full x)) g.faces_of.cells (subst (λ (v : Cell). IsIn v faces.cells) z.cell (at_in faces.cells y (Full []) (number_below x y z))) in
+      let listed = λ (x : List ℕ) (y : ℕ) (z : IsNumberOf faces.cells marks x y). subst (IsIn (Full x)) g.faces_of.cells
+      (subst (λ (v : Cell). IsIn v faces.cells) z.cell (at_in faces.cells y (Full []) (number_below x y z))) in
       let part = part_is_listed 3 (complex s) t.0 (record { q = q; listed = listed q i n; part = t.1 }) in
       let face = mapped_true (λ x. (x, cells_with x (complex s))) t.0 (parts_in 3 (complex s)) part in
-      let place = place_of faces.triples (t.0, cells_with t.0 (complex s)) ([], []) (subst (λ (v : List (List ℕ × List Cell)). IsIn (t.0, cells_with t.0 (complex s)) v) (sym g.faces_of.triples) face) in
+      let place = place_of faces.triples (t.0, cells_with t.0 (complex s)) ([], [])
+      (subst (λ (v : List (List ℕ × List Cell)). IsIn (t.0, cells_with t.0 (complex s)) v) (sym g.faces_of.triples)
+      face) in
       let a = g.joined place.0 place.1 in
       let around = a.around ∙ ap (λ (v : List ℕ × List Cell). v.1) place.2 in
-      let u = number_in q a.numbers (subst (λ (v : List Cell). IsIn (Full q) v) (sym around) (has_around t.0 q (listed q i n) t.1)) in
-      let v = number_in c a.numbers (subst (λ (v : List Cell). IsIn (Full c) v) (sym around) (has_around t.0 c (listed c m k) t.2)) in
+      let u = number_in q a.numbers (subst (λ (v : List Cell). IsIn (Full q) v) (sym around)
+      (has_around t.0 q (listed q i n) t.1)) in
+      let v = number_in c a.numbers (subst (λ (v : List Cell). IsIn (Full c) v) (sym around)
+      (has_around t.0 c (listed c m k) t.2)) in
       let first = same_number q i u.0 n u.2 (below a u.0 u.1) in
       let second = same_number c m v.0 k v.2 (below a v.0 v.1) in
-      ap (label_at labels) first ∙ a.alike u.0 v.0 u.1 v.1 (subst (IsMarked marks) first n.marked) (subst (IsMarked marks) second k.marked) ∙ ap (label_at labels) (sym second)
+      ap (label_at labels) first ∙ a.alike u.0 v.0 u.1 v.1 (subst (IsMarked marks) first n.marked)
+      (subst (IsMarked marks) second k.marked) ∙ ap (label_at labels) (sym second)
     where
-      below : {f : List ℕ × List Cell} → (a : AreAlike faces marks labels f) → (u : ℕ) → IsIn u a.numbers → u < length faces.cells
+      below : {f : List ℕ × List Cell} → (a : AreAlike faces marks labels f) → (u : ℕ) → IsIn u a.numbers →
+          u < length faces.cells
       below a u i = each_of_all (λ n. n < length faces.cells) a.numbers a.below u i
 
-      same_number : (x : List ℕ) (y z : ℕ) → IsNumberOf faces.cells marks x y → cell_at faces.cells z ≡ Full x → z < length faces.cells → y ≡ z
+      same_number : (x : List ℕ) (y z : ℕ) → IsNumberOf faces.cells marks x y → cell_at faces.cells z ≡ Full x →
+          z < length faces.cells → y ≡ z
       same_number x y z n e l =
           let l2 = number_below x y n in
           one_number faces.cells marks x y z sorted n (record {
-            marked = mark_is alpha faces.cells z l ∙ ap (is_small_cell alpha) (e ∙ sym n.cell) ∙ sym (mark_is alpha faces.cells y l2) ∙ n.marked;
+            marked = mark_is alpha faces.cells z l ∙ ap (is_small_cell alpha) (e ∙ sym n.cell) ∙ sym
+                (mark_is alpha faces.cells y l2) ∙ n.marked;
             cell = e;
           }) l2 l
 
   -- so do those that a chain joins
-  pub alike_along : (q r : List ℕ) (chain : List (List ℕ)) (i j : ℕ) → IsNumberOf faces.cells marks q i → IsNumberOf faces.cells marks r j → IsChain admitted q chain r → AreTogether labels i j
-  alike_along q r [] i j n k e = ap (label_at labels) (one_number faces.cells marks r i j sorted (subst (λ (v : List ℕ). IsNumberOf faces.cells marks v i) e n) k (number_below q i n) (number_below r j k))
+  pub alike_along : (q r : List ℕ) (chain : List (List ℕ)) (i j : ℕ) → IsNumberOf faces.cells marks q i →
+      IsNumberOf faces.cells marks r j → IsChain admitted q chain r → AreTogether labels i j
+  alike_along q r [] i j n k e = ap (label_at labels) (one_number faces.cells marks r i j sorted
+      (subst (λ (v : List ℕ). IsNumberOf faces.cells marks v i) e n) k (number_below q i n) (number_below r j k))
   alike_along q r (c ∷ chain) i j n k t =
       let m = numbered_from c t.0 in
       alike q c i m.0 n m.2 t.1 ∙ alike_along c r chain m.0 j m.2 k t.2
@@ -266,20 +342,26 @@ module _ (s : List ℕ) (faces : FaceLists) (alpha : ℕ) (labels : List ℕ) (g
         let o = d.only p.0 q p.1 here in
         let n = numbered_from r j in (
           λ k.
-              let path = labelled.only o.0 n.0 o.1 n.1 (d.apart p.0 o.0 n.0 q r p.1 o.1 n.1 o.2 n.2 here (subst (λ (v : List (List ℕ)). IsIn r v) (sym p.2) k)) in
+              let path = labelled.only o.0 n.0 o.1 n.1 (d.apart p.0 o.0 n.0 q r p.1 o.1 n.1 o.2 n.2 here
+              (subst (λ (v : List (List ℕ)). IsIn r v) (sym p.2) k)) in
               chain_from q r o.0 path.0 n.0 o.2 path.1 n.2,
-          λ k. subst (λ (v : List (List ℕ)). IsIn r v) p.2 (d.together p.0 o.0 n.0 q r p.1 o.1 n.1 o.2 n.2 here (alike_along q r k.chain o.0 n.0 o.2 n.2 k.joins)),
+          λ k. subst (λ (v : List (List ℕ)). IsIn r v) p.2 (d.together p.0 o.0 n.0 q r p.1 o.1 n.1 o.2 n.2 here
+              (alike_along q r k.chain o.0 n.0 o.2 n.2 k.joins)),
         );
-    filled = λ part m. let p = place_of parts part [] m in subst (λ (v : List (List ℕ)). 0 < length v) p.2 (d.filled p.0 p.1);
+    filled = λ part m. let p = place_of parts part [] m in subst (λ (v : List (List ℕ)). 0 < length v) p.2
+        (d.filled p.0 p.1);
     ordered = λ part m. let p = place_of parts part [] m in subst InOrder p.2 (d.ordered p.0 p.1);
     order = d.order;
   }
 
 -- the parts of the alpha complex of a set
-pub parts_are : (s : List ℕ) (faces : FaceLists) (alpha : ℕ) (labels : List ℕ) (parts : List (List (List ℕ))) → AreFacesOf s faces → AreLabels faces (map (is_small_cell alpha) faces.cells) (length faces.triples) labels
-    → IsGathered faces.cells (map (is_small_cell alpha) faces.cells) labels (length faces.cells) parts → AreParts (shape_of s alpha).cells parts
+pub parts_are : (s : List ℕ) (faces : FaceLists) (alpha : ℕ) (labels : List ℕ) (parts : List (List (List ℕ))) →
+    AreFacesOf s faces → AreLabels faces (map (is_small_cell alpha) faces.cells) (length faces.triples) labels
+    → IsGathered faces.cells (map (is_small_cell alpha) faces.cells) labels (length faces.cells) parts →
+    AreParts (shape_of s alpha).cells parts
 parts_are s faces alpha labels parts h l d =
-    subst (λ (v : List (List ℕ)). AreParts v parts) (cells_are s faces alpha h) (are_parts s faces alpha labels (record { faces_of = h; joined = l.joined }) parts l d)
+    subst (λ (v : List (List ℕ)). AreParts v parts) (cells_are s faces alpha h)
+    (are_parts s faces alpha labels (record { faces_of = h; joined = l.joined }) parts l d)
 
 -- what holds of an answer where there is one
 pub if_ok : {T E : Type 0} {P Q : T → Type 0} (r : Result T E) → ((x : T) → P x → Q x) → IfOk r P → IfOk r Q

@@ -9,7 +9,8 @@ use Rattle.face_list.specs.Faces.{parts_in, with_cells}
 
 -- the fourth point of a cell that has the three
 abbrev pub apex_of : List ℕ → List ℕ → ℕ
-apex_of t (a ∷ b ∷ c ∷ d ∷ []) = if is_among a t then (if is_among b t then (if is_among c t then d else c) else b) else a
+apex_of t (a ∷ b ∷ c ∷ d ∷ []) = if is_among a t then (if is_among b t then (if is_among c t then d else c) else b) else
+    a
 apex_of t _ = 0
 
 -- A triple with its least point first, turned so that the orientation with d is negative.

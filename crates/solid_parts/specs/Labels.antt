@@ -21,11 +21,12 @@ IsPath faces marks i [] j = i ≡ j
 IsPath faces marks i (m ∷ path) j = AreBeside faces marks i m × IsPath faces marks m path j
 
 -- The numbers are those of the cells around a triple, and all marked ones have one label.
-pub record AreAlike (faces : FaceLists) (marks : List Bool) (labels : List ℕ) (triple : List ℕ × List Cell) : Type 0 where
-  pub numbers : List ℕ
-  pub around : numbered faces.cells numbers ≡ triple.1
-  pub below : All (λ n. n < length faces.cells) numbers
-  pub alike : (u v : ℕ) → IsIn u numbers → IsIn v numbers → IsMarked marks u → IsMarked marks v → AreTogether labels u v
+pub record AreAlike (faces : FaceLists) (marks : List Bool) (labels : List ℕ) (triple : List ℕ × List Cell) : Type 0
+  where
+    pub numbers : List ℕ
+    pub around : numbered faces.cells numbers ≡ triple.1
+    pub below : All (λ n. n < length faces.cells) numbers
+    pub alike : (u v : ℕ) → IsIn u numbers → IsIn v numbers → IsMarked marks u → IsMarked marks v → AreTogether labels u v
 
 -- Where the first k triples are done: marked cells around one of them have one label, and where two cells have one
 -- label a path leads from one to the other.

@@ -14,7 +14,8 @@ size_line size = codes "part " ++ decimal size.cells ++ codes " " ++ decimal siz
 -- the text of the sizes of the parts at an alpha, version 1
 unfoldable pub sizes_text : ℕ → List PartSize → List ℕ
 sizes_text alpha sizes =
-    codes "mesh3-parts 1\n" ++ codes "alpha " ++ decimal alpha ++ codes "\n" ++ block (codes "parts") (map size_line sizes)
+    codes "mesh3-parts 1\n" ++ codes "alpha " ++ decimal alpha ++ codes "\n" ++ block (codes "parts")
+    (map size_line sizes)
     ++ codes "end\n"
 
 -- the text of the parts at an alpha

@@ -9,11 +9,14 @@ use Rattle.solid_parts.proofs.least_alpha.Goals as goal
 
 pub first_compact-requires-clause-told : goal.first_compact-requires-clause-told
 first_compact-requires-clause-told g c s h =
-    subst (AreLeastOf (is_admitted_cell s) (complex s)) (sym c.deref-2.ensures.value) (c.in_ok-known.ensures.told s h).cells
+    subst (AreLeastOf (is_admitted_cell s) (complex s)) (sym c.deref-2.ensures.value)
+    (c.in_ok-known.ensures.told s h).cells
 
 pub first_compact-requires-clause-start : goal.first_compact-requires-clause-start
 first_compact-requires-clause-start g c s h alpha l =
     let known = c.in_ok-known.known in
-    let points = subst (λ (v : FaceLists). AreAlphas is_admitted_point v.points known.points.items) c.in_ok-known.ensures.faces c.in_ok-known.ensures.known.points in
+    let points = subst (λ (v : FaceLists). AreAlphas is_admitted_point v.points known.points.items)
+    c.in_ok-known.ensures.faces c.in_ok-known.ensures.known.points in
     start_is s c.args.faces.now c.deref.result.now c.cover_least-start.result alpha h
-    (subst (λ (v : List FaceAlphas). AreAlphas is_admitted_point c.args.faces.now.points v) (sym c.deref.ensures.value) points) c.cover_least-start.ensures l
+    (subst (λ (v : List FaceAlphas). AreAlphas is_admitted_point c.args.faces.now.points v) (sym c.deref.ensures.value)
+    points) c.cover_least-start.ensures l

@@ -20,10 +20,14 @@ returns c =
     let faces = c.args.faces.now in
     let alpha = c.args.alpha in
     let marks = c.in_ok-marks.ensures ∙ ap (map (is_small_cell alpha)) c.cells.ensures in
-    let labels = subst (λ (m : List Bool). AreLabels faces m (length faces.triples) c.in_ok-labels.labels.items) (c.deref.ensures.value ∙ marks) c.in_ok-labels.ensures in
+    let labels = subst (λ (m : List Bool). AreLabels faces m (length faces.triples) c.in_ok-labels.labels.items)
+    (c.deref.ensures.value ∙ marks) c.in_ok-labels.ensures in
     if_ok c.gather.result (λ parts d s h.
     parts_are s faces alpha c.in_ok-labels.labels.items (parts_seen parts.items) h labels
-    (subst (λ (v : List Cell). IsGathered v (map (is_small_cell alpha) faces.cells) c.in_ok-labels.labels.items (length v) (parts_seen parts.items)) c.cells-2.ensures
-    (subst (λ (v : List Bool). IsGathered c.cells-2.result.now v c.in_ok-labels.labels.items (length c.cells-2.result.now) (parts_seen parts.items)) (c.deref-2.ensures.value ∙ marks)
-    (subst (λ (v : List ℕ). IsGathered c.cells-2.result.now c.deref-2.result.now v (length c.cells-2.result.now) (parts_seen parts.items)) c.deref-3.ensures.value d))))
+    (subst (λ (v : List Cell). IsGathered v (map (is_small_cell alpha) faces.cells) c.in_ok-labels.labels.items
+    (length v) (parts_seen parts.items)) c.cells-2.ensures
+    (subst (λ (v : List Bool). IsGathered c.cells-2.result.now v c.in_ok-labels.labels.items
+    (length c.cells-2.result.now) (parts_seen parts.items)) (c.deref-2.ensures.value ∙ marks)
+    (subst (λ (v : List ℕ). IsGathered c.cells-2.result.now c.deref-2.result.now v (length c.cells-2.result.now)
+    (parts_seen parts.items)) c.deref-3.ensures.value d))))
     c.gather.ensures

@@ -10,10 +10,12 @@ loop-point-init g c = leaves_all
 
 pub loop-point-preserved : goal.loop-point-preserved
 loop-point-preserved g c =
-    goes_on (λ (xs : List ℕ). concat (map point_line xs)) point_line (λ x xs. refl) c.args.points.now c.loop-point.point-index
+    goes_on (λ (xs : List ℕ). concat (map point_line xs)) point_line (λ x xs. refl) c.args.points.now
+    c.loop-point.point-index
     c.point-item.result c.loop-point-test.true c.point-item.is c.loop-point.invariant c.put_point.ensures
 
 pub returns : goal.returns
 returns g c =
-    ends (λ (xs : List ℕ). concat (map point_line xs)) refl c.args.points.now c.loop-point.point-index c.loop-point-test.false
+    ends (λ (xs : List ℕ). concat (map point_line xs)) refl c.args.points.now c.loop-point.point-index
+    c.loop-point-test.false
     c.loop-point.invariant

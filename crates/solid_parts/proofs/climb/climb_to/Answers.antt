@@ -18,13 +18,16 @@ loop-now-preserved c =
     let now = c.if-merge.now in
     elim c.if-merge.branch [
       | then-merge w ↦
-          one_taken start c.loop-now.leads c.merge.new.leads links c.args.climb before (record { next = now.next + 1; merges = now.merges }) c.merge.result
+          one_taken start c.loop-now.leads c.merge.new.leads links c.args.climb before
+          (record { next = now.next + 1; merges = now.merges }) c.merge.result
           c.loop-now-test.true c.requires.below (ap (λ (v : Climb). v.next + 1) w.now-is)
           (ap (λ (v : Climb). v.merges) w.now-is ∙ ap (λ b. before.merges + added b) (sym w.if-merge.true))
           c.merge.auto.leads c.merge.ensures.down c.merge.ensures.merged c.loop-now.invariant
       | else-merge w ↦
-          one_taken start c.loop-now.leads c.merge.new.leads links c.args.climb before (record { next = now.next + 1; merges = now.merges }) c.merge.result
+          one_taken start c.loop-now.leads c.merge.new.leads links c.args.climb before
+          (record { next = now.next + 1; merges = now.merges }) c.merge.result
           c.loop-now-test.true c.requires.below (ap (λ (v : Climb). v.next + 1) w.now-is)
-          (ap (λ (v : Climb). v.merges) w.now-is ∙ none_added before.merges ∙ ap (λ b. before.merges + added b) (sym w.if-merge.false))
+          (ap (λ (v : Climb). v.merges) w.now-is ∙ none_added before.merges ∙ ap (λ b. before.merges + added b)
+          (sym w.if-merge.false))
           c.merge.auto.leads c.merge.ensures.down c.merge.ensures.merged c.loop-now.invariant
     ]

@@ -8,5 +8,6 @@ returns c =
     let numbers = c.args.numbers.now in
     let alpha = c.args.alpha in
     counted_to numbers alpha c.partition_point.result c.partition_point.ensures.bound
-    (IsPartitionPoint-from_clause (λ (n : ℕ). nat_le n alpha) numbers c.partition_point.result c.partition_point.ensures.partitioned
+    (IsPartitionPoint-from_clause (λ (n : ℕ). nat_le n alpha) numbers c.partition_point.result
+    c.partition_point.ensures.partitioned
     (IsPartitionedBy-leb (λ n. n) numbers alpha c.requires) (λ x b f k. search rules))

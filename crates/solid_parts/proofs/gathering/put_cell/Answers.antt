@@ -11,9 +11,17 @@ pub returns-in_ok-push-in-Some : goal.returns-in_ok-push-in-Some
 returns-in_ok-push-in-Some c =
     let parts = c.args.parts.now.items in
     let p = c.in-Some.place in
-    let told = ap (λ (v : List (Option ℕ)). place_at v c.args.label) (sym c.deref.ensures.value) ∙ sym c.place_of.ensures ∙ c.in-Some.is in
+    let told = ap (λ (v : List (Option ℕ)). place_at v c.args.label) (sym c.deref.ensures.value) ∙ sym
+    c.place_of.ensures ∙ c.in-Some.is in
     let there = c.requires.place p told in
     let pushed = c.in_ok-push-in-Some.ensures.items
     ∙ ap (λ (v : List (List ℕ)). v ++ c.args.quad ∷ [])
-    (ap (λ (v : Part). v.cells.items) c.index_mut.ensures.value ∙ sym (get_or-map (λ (v : Part). v.cells.items) parts p c.index_mut.result.now [] there)) in
-    inl (p, told, refl, map_set (λ (v : Part). v.cells.items) parts p (record { cells = c.push.new.self }) ∙ ap (slice_set (parts_seen parts) p) pushed)
+    (ap (λ (v : Part). v.cells.items) c.index_mut.ensures.value ∙ sym
+    (get_or-map (λ (v : Part). v.cells.items) parts p c.index_mut.result.now [] there)) in
+    inl (
+      p,
+      told,
+      refl,
+      map_set (λ (v : Part). v.cells.items) parts p (record { cells = c.push.new.self }) ∙ ap
+          (slice_set (parts_seen parts) p) pushed,
+    )

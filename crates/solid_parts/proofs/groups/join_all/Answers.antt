@@ -1,6 +1,15 @@
 use Rattle.std.proofs.Common.{◌<◌, ◌≤◌, get_or, sym, subst, length, take, arith, ℕ}
 use Rattle.std.specs.Prelude.{Option}
-use Rattle.solid_parts.proofs.Joining.{JoinSoFar, all_joined, first_below, here, next_below, none_joined, over, with_first}
+use Rattle.solid_parts.proofs.Joining.{
+  JoinSoFar,
+  all_joined,
+  first_below,
+  here,
+  next_below,
+  none_joined,
+  over,
+  with_first,
+}
 use Rattle.solid_parts.proofs.groups.join_all.Goals.{then-is_marked+in-Some, then-is_marked+in-None, else-is_marked}
 use Rattle.solid_parts.proofs.groups.join_all.Goals as goal
 
@@ -9,13 +18,15 @@ loop-number-init c = none_joined c.args.marks.now c.args.leads.now c.requires.do
 
 pub merge-apart-requires-clause-i : goal.merge-apart-requires-clause-i
 merge-apart-requires-clause-i c =
-    first_below c.args.marks.now c.args.numbers.now c.args.leads.now c.loop-number.leads c.loop-number.number-index _ _ c.requires.numbers
+    first_below c.args.marks.now c.args.numbers.now c.args.leads.now c.loop-number.leads c.loop-number.number-index _ _
+    c.requires.numbers
     c.in-Some.is c.loop-number.invariant
 
 pub merge-apart-requires-clause-j : goal.merge-apart-requires-clause-j
 merge-apart-requires-clause-j c =
     subst (λ n. get_or c.args.numbers.now c.loop-number.number-index 0 < n) (sym c.loop-number.invariant.count)
-    (next_below c.args.marks.now c.args.numbers.now c.args.leads.now c.loop-number.leads c.loop-number.number-index c.requires.numbers
+    (next_below c.args.marks.now c.args.numbers.now c.args.leads.now c.loop-number.leads c.loop-number.number-index
+    c.requires.numbers
     c.loop-number-test.true)
 
 pub merge-apart-requires-clause-down : goal.merge-apart-requires-clause-down
@@ -32,14 +43,18 @@ loop-number-preserved c =
     let done = c.loop-number.invariant in
     elim c.if-is_marked.branch [
       | then-is_marked+in-Some w ↦
-          with_first marks numbers old now i c.requires.numbers within w.in-Some.other _ _ w.merge-apart.new.leads _ w.first-is w.leads-is
-          _ c.is_marked.ensures w.if-is_marked.true w.merge-apart.auto.leads w.merge-apart.ensures.down w.merge-apart.ensures.merged
+          with_first marks numbers old now i c.requires.numbers within w.in-Some.other _ _ w.merge-apart.new.leads _
+          w.first-is w.leads-is
+          _ c.is_marked.ensures w.if-is_marked.true w.merge-apart.auto.leads w.merge-apart.ensures.down
+          w.merge-apart.ensures.merged
           (subst (λ (f : Option ℕ). JoinSoFar marks (take i numbers) old now f) w.in-Some.is done)
       | then-is_marked+in-None w ↦
-          here marks numbers old now i c.requires.numbers within _ _ w.first-is w.leads-is _ c.is_marked.ensures w.if-is_marked.true
+          here marks numbers old now i c.requires.numbers within _ _ w.first-is w.leads-is _ c.is_marked.ensures
+          w.if-is_marked.true
           (subst (λ (f : Option ℕ). JoinSoFar marks (take i numbers) old now f) w.in-None.is done)
       | else-is_marked w ↦
-          over marks numbers old now i c.requires.numbers within c.loop-number.first _ _ w.first-is w.leads-is _ c.is_marked.ensures
+          over marks numbers old now i c.requires.numbers within c.loop-number.first _ _ w.first-is w.leads-is _
+          c.is_marked.ensures
           w.if-is_marked.false done
     ]
 
@@ -49,5 +64,6 @@ returns-clause-down c = c.loop-number.invariant.down
 pub returns-clause-joined : goal.returns-clause-joined
 returns-clause-joined c =
     let past : length c.args.numbers.now ≤ c.loop-number.number-index = omega (arith, c.loop-number-test.false) in
-    all_joined c.args.marks.now c.args.numbers.now c.args.leads.now c.loop-number.leads c.loop-number.number-index c.loop-number.first past
+    all_joined c.args.marks.now c.args.numbers.now c.args.leads.now c.loop-number.leads c.loop-number.number-index
+    c.loop-number.first past
     c.loop-number.invariant

@@ -18,9 +18,13 @@ returns-clause-merged c labels t =
     let within : a.result < length b.new.leads = omega (arith, a.ensures.within, b.auto.leads) in
     elim c.if-a-b.branch [
       | then-a-b w ↦ subst (IsMerged c.args.i c.args.j labels (not (a.result == b.result))) (sym w.leads-is)
-          (merged_into_first b.new.leads labels c.args.i c.args.j a.result b.result _ b.ensures.down two within b.ensures.within
-          (a.ensures.label labels t) (b.ensures.label labels one) (a.ensures.least labels t) (b.ensures.least labels one) (equal a.result b.result))
+          (merged_into_first b.new.leads labels c.args.i c.args.j a.result b.result _ b.ensures.down two within
+          b.ensures.within
+          (a.ensures.label labels t) (b.ensures.label labels one) (a.ensures.least labels t)
+          (b.ensures.least labels one) (equal a.result b.result))
       | else-a-b w ↦ subst (IsMerged c.args.i c.args.j labels (not (a.result == b.result))) (sym w.leads-is)
-          (merged_into_second b.new.leads labels c.args.i c.args.j a.result b.result _ b.ensures.down two within b.ensures.within
-          (a.ensures.label labels t) (b.ensures.label labels one) (a.ensures.least labels t) (b.ensures.least labels one) (equal a.result b.result))
+          (merged_into_second b.new.leads labels c.args.i c.args.j a.result b.result _ b.ensures.down two within
+          b.ensures.within
+          (a.ensures.label labels t) (b.ensures.label labels one) (a.ensures.least labels t)
+          (b.ensures.least labels one) (equal a.result b.result))
     ]

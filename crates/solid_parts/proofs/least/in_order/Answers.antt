@@ -10,6 +10,8 @@ returns c =
     let sorted = c.sort_unstable.new.self.items in
     let d = dedup_is _ _ _ c.dedup.ensures.filtered in
     record {
-      same = λ n. subst (λ (v : List ℕ). IsIn n c.dedup.new.self.items ↔ IsIn n v) c.in_ok-levels.ensures.items (numbers_same c.in_ok-levels.levels.items sorted c.dedup.new.self.items c.sort_unstable.ensures.permutation d n);
+      same = λ n. subst (λ (v : List ℕ). IsIn n c.dedup.new.self.items ↔ IsIn n v) c.in_ok-levels.ensures.items
+          (numbers_same c.in_ok-levels.levels.items sorted c.dedup.new.self.items c.sort_unstable.ensures.permutation d
+          n);
       ascending = numbers_ascend sorted c.dedup.new.self.items c.sort_unstable.ensures.sorted d;
     }

@@ -5,7 +5,8 @@ use Rattle.solid_parts.proofs.Climbing.{sorted_count}
 use Rattle.solid_parts.proofs.least.sorted.Goals as goal
 
 pub returns-clause-order : goal.returns-clause-order
-returns-clause-order c = IsNonDecreasingBy-from_sort (λ n. n) c.sort_unstable.new.self.items c.sort_unstable.ensures.sorted
+returns-clause-order c = IsNonDecreasingBy-from_sort (λ n. n) c.sort_unstable.new.self.items
+    c.sort_unstable.ensures.sorted
 
 pub returns-clause-same : goal.returns-clause-same
 returns-clause-same c alpha =

@@ -12,8 +12,10 @@ pub loop-index-preserved : goal.loop-index-preserved
 loop-index-preserved c =
     let faces = c.args.faces.now in
     let k = c.loop-index.index in
-    let within = subst (λ n. k < n) (ap length c.triples-index-end.ensures ∙ length-map faces.triples (λ (f : List ℕ × List Cell). f.0)) c.loop-index-test.true in
-    triple_more faces c.args.leasts.now k c.around.result.now c.loop-index.links.items _ c.around.ensures.cells c.around.ensures.below c.loop-index.invariant
+    let within = subst (λ n. k < n) (ap length c.triples-index-end.ensures ∙ length-map faces.triples
+    (λ (f : List ℕ × List Cell). f.0)) c.loop-index-test.true in
+    triple_more faces c.args.leasts.now k c.around.result.now c.loop-index.links.items _ c.around.ensures.cells
+    c.around.ensures.below c.loop-index.invariant
     c.in_ok-put_links_around.ensures.keeps c.in_ok-put_links_around.ensures.has c.in_ok-put_links_around.ensures.below
 
 pub returns-clause-linked : goal.returns-clause-linked

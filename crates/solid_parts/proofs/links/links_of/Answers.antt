@@ -11,10 +11,12 @@ returns-clause-linked c =
 
 pub returns-clause-below : goal.returns-clause-below
 returns-clause-below c =
-    All-permutation (λ (l : Link). (l.one < length c.args.leasts.now) × (l.other < length c.args.leasts.now)) c.in_ok-links.links.items
+    All-permutation (λ (l : Link). (l.one < length c.args.leasts.now) × (l.other < length c.args.leasts.now))
+    c.in_ok-links.links.items
     c.sort_unstable_by_key.new.self.items c.sort_unstable_by_key.ensures.permutation c.in_ok-links.ensures.below
 
 pub returns-clause-rise : goal.returns-clause-rise
 returns-clause-rise c =
-    IsNonDecreasingBy-from_sort_by_key (λ (l : Link). l.alpha) c.sort_unstable_by_key.new.self.items c.sort_unstable_by_key.ensures.sorted
+    IsNonDecreasingBy-from_sort_by_key (λ (l : Link). l.alpha) c.sort_unstable_by_key.new.self.items
+    c.sort_unstable_by_key.ensures.sorted
     (λ a r q k. search rules)

@@ -9,7 +9,8 @@ use Rattle.solid_parts.proofs.texts.put_sizes.Goals as goal
 
 pub loop-size-init : goal.loop-size-init
 loop-size-init g c =
-    starts (codes "parts") (map size_line c.args.sizes.now) (length c.args.sizes.now) (sym (length-map c.args.sizes.now size_line))
+    starts (codes "parts") (map size_line c.args.sizes.now) (length c.args.sizes.now)
+    (sym (length-map c.args.sizes.now size_line))
     c.put_title.ensures
 
 pub loop-size-preserved : goal.loop-size-preserved
@@ -17,10 +18,12 @@ loop-size-preserved g c =
     let sizes = c.args.sizes.now in
     let i = c.loop-size.size-index in
     let none : PartSize = record { cells = 0; triangles = 0 } in
-    goes_on (λ (xs : List PartSize). concat (map size_line xs)) size_line (λ x xs. refl) sizes i (get_or sizes i none) c.loop-size-test.true
+    goes_on (λ (xs : List PartSize). concat (map size_line xs)) size_line (λ x xs. refl) sizes i (get_or sizes i none)
+    c.loop-size-test.true
     (own_item none sizes i c.loop-size-test.true) c.loop-size.invariant c.put_size.ensures
 
 pub returns : goal.returns
 returns g c =
-    ends (λ (xs : List PartSize). concat (map size_line xs)) refl c.args.sizes.now c.loop-size.size-index c.loop-size-test.false
+    ends (λ (xs : List PartSize). concat (map size_line xs)) refl c.args.sizes.now c.loop-size.size-index
+    c.loop-size-test.false
     c.loop-size.invariant
