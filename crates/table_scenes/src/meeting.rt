@@ -1,7 +1,7 @@
 //! Two workers that are to see each other.
 
-ghost use Rattle.std.specs.Prelude.{◌≡◌, ◌≢◌, ◌+◌, ◌^◌, ◌≤◌, ◌∷◌, [], IfOk, length};
-ghost use Rattle.edit_history.specs.Edits.{point_of};
+ghost use Rattle.std.specs.Prelude.{◌≡◌, ◌≢◌, ◌+◌, ◌^◌, ◌≤◌, ◌∷◌, [], false, IfOk, length};
+ghost use Rattle.edit_history.specs.Edits.{is_move, point_of};
 ghost use Rattle.edit_workers.specs.Dealing.{lists_of};
 
 use crate::gates::Meeting;
@@ -15,6 +15,13 @@ use edit_workers::{List, Lists, run_edits};
 use grid_claims::Gate;
 use std::alloc::{AllocError, Global};
 use std::thread::Threads;
+
+// Whether the edit moves a point.
+fn moves(edit: Edit) -> bool
+    ensures { result ≡ is_move edit }
+{
+    matches!(edit, Edit::Move(_, _))
+}
 
 // A list of one pair.
 fn list_of(alloc: Global, pair: (u32, Edit)) -> Result<List, AllocError>
@@ -46,6 +53,8 @@ fn run_two<G: Gate + Sync, R: Threads + Sync>(
 ) -> Result<Mesh, AllocError>
     requires room { length mesh.history + 2 ≤ 2 ^ 32 }
     requires apart { point_of one.1 ≢ point_of two.1 }
+    requires one_still { is_move one.1 ≡ false }
+    requires two_still { is_move two.1 ≡ false }
 {
     let lists = two_lists(alloc, one, two)?;
     run_edits(rt, alloc, mesh, &lists, gate)
@@ -70,6 +79,10 @@ pub(crate) fn play<R: Threads + Sync>(
     };
     if one.1.point().key() == two.1.point().key() {
         told.put("edits of one point");
+        return Ok(());
+    }
+    if moves(one.1) || moves(two.1) {
+        told.put("workers move no point");
         return Ok(());
     }
     let Some(mesh) = mesh_of(alloc, grid, &points)? else {

@@ -1,6 +1,7 @@
 //! What a pass is told to do.
 
-ghost use Rattle.std.specs.Prelude.{◌≡◌};
+ghost use Rattle.std.specs.Prelude.{◌≡◌, IsTrue};
+ghost use Rattle.edit_workers.specs.Dealing.{AreStill};
 ghost use Rattle.grid_claims.specs.Tries.{IsStill};
 
 use crate::reading::Word;
@@ -10,7 +11,19 @@ use edit_workers::{Left, List, work};
 use grid_claims::{Gate, MeshTable, OpenGate, Pass, Receipt, Refused, Snapshot};
 use std::alloc::{AllocError, Global};
 
-// Tries an edit.
+// Whether no edit of the pairs moves a point.
+fn are_still(pairs: &[(u32, Edit)]) -> bool
+    ensures { IsTrue result → AreStill pairs.now }
+{
+    for pair in pairs {
+        if let Edit::Move(_, _) = pair.1 {
+            return false;
+        }
+    }
+    true
+}
+
+// Tries an edit. One that moves a point is refused: passes make none.
 fn try_edit_once<G: Gate>(
     alloc: Global,
     table: &MeshTable,
@@ -22,6 +35,9 @@ fn try_edit_once<G: Gate>(
     requires { pass.old.table ≡ table.now }
     ensures { IsStill pass.old pass.new }
 {
+    if let Edit::Move(_, _) = edit {
+        return Err(Refused::Spent);
+    }
     table.try_edit(alloc, pass, tag, edit, gate)
 }
 
@@ -63,7 +79,7 @@ pub(crate) fn shown(alloc: Global, table: &MeshTable, pass: &mut Pass) -> Result
     }
 }
 
-// Has a list worked on, if the pass may make so many edits; else all of it is left over.
+// Has a list worked on, if the pass may make so many edits and none moves a point; else all of it is left over.
 pub(crate) fn worked<G: Gate>(
     alloc: Global,
     table: &MeshTable,
@@ -74,7 +90,7 @@ pub(crate) fn worked<G: Gate>(
     requires { pass.old.table ≡ table.now }
     ensures { IsStill pass.old pass.new }
 {
-    if list.pairs.len() as u64 <= pass.left() {
+    if list.pairs.len() as u64 <= pass.left() && are_still(&list.pairs) {
         work(alloc, table, pass, &list, gate)
     } else {
         let List { pairs } = list;

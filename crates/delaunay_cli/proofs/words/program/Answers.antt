@@ -6,7 +6,7 @@ use Rattle.delaunay_cli.proofs.words.program.Goals as goal
 pub returns : goal.returns
 returns c =
     let begun : app_of c.subcommand_required.result ≡ on_top (λ top. record top { subcommand_required = true })
-        (new_app (codes "delaunay")) = search rules in
+    (new_app (codes "delaunay")) = search rules in
     let meshed = c.with_command-program.ensures _ _ begun c.command.ensures in
     let shaped = c.with_command-program-2.ensures _ _ meshed c.command-2.ensures in
     let drawn = c.with_command-program-3.ensures _ _ shaped c.gen_command.ensures in
