@@ -1,5 +1,4 @@
 pub mod Lines
-pub mod Meshed
 pub mod CommandLine
 pub mod Judging
 pub mod Ended
