@@ -1,8 +1,10 @@
-//! Keys of points, facets of cells, their order, and complexes by trial.
+//! Keys of points, facets of cells, their order, and complexes by trial and at once.
 
 use crate::reading::{Word, at, coordinates_of, list_at};
 use crate::telling::Answer;
+use cloud_cells::complex_of_points;
 use complex_trial::complex_by_trial;
+use edit_history::find_four;
 use point_order::{Cell, Point, cells_in_order, points_in_order};
 use std::alloc::Global;
 use std::cmp::Ordering;
@@ -66,6 +68,18 @@ pub(crate) fn order(answer: &mut Answer, lists: &str) -> Option<()> {
 pub(crate) fn trial(alloc: Global, answer: &mut Answer, lists: &str) -> Option<()> {
     let points = points_in_order(answer.all(lists));
     let cells = answer.got(complex_by_trial(alloc, &points))?;
+    answer.put("cells");
+    put_cells(answer, &cells);
+    Some(())
+}
+
+/// Answers a case of a cloud. Points of a plane are none.
+pub(crate) fn cloud(alloc: Global, answer: &mut Answer, lists: &str) -> Option<()> {
+    let points = points_in_order(answer.all(lists));
+    if find_four(&points).is_err() {
+        return None;
+    }
+    let cells = answer.got(complex_of_points(alloc, &points))?;
     answer.put("cells");
     put_cells(answer, &cells);
     Some(())

@@ -11,6 +11,7 @@
 //! - `cell CELL; POINT`: the cell's points, its facets in order, and whether the point is one of its own.
 //! - `order CELL; CELL; ..`: how each of the cells stands to each, and then the cells in their order, each once.
 //! - `trial POINTS`: the cells of the complex of the points by trial.
+//! - `cloud POINTS`: the same of points that are not of one plane, made at once.
 //! - `orient` of four points, `collinear` of three, `sphere` and `outside` of five, `conflict CELL; MATE POINT`.
 //! - `inside POINTS; POINT`: whether the last point is inside the smallest sphere of the edge or triangle.
 //! - `within POINTS; ALPHA`: whether the smallest sphere of the edge, triangle or cell is within, and the least alpha.
@@ -75,6 +76,7 @@ fn put_case<R: Threads + Sync>(
         "cell" => cells::parts(answer, lists),
         "order" => cells::order(answer, lists),
         "trial" => cells::trial(alloc, answer, lists),
+        "cloud" => cells::cloud(alloc, answer, lists),
         "orient" | "sphere" => predicates::number(answer, lists),
         "collinear" | "outside" => predicates::truth(answer, lists),
         "conflict" => predicates::in_conflict(answer, lists),
