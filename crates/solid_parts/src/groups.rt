@@ -45,7 +45,7 @@ fn find(leads: &mut [u32], number: u32) -> u32
     at
 }
 
-// Makes the groups of two numbers one. Whether they were apart.
+/// Makes the groups of two numbers one. Whether they were apart.
 pub fn merge(leads: &mut [u32], i: u32, j: u32) -> bool
     requires i { i < length leads.old }
     requires j { j < length leads.old }

@@ -1,7 +1,6 @@
-use Rattle.std.proofs.Common.{◌≡◌, ◌∙◌, List, ℕ, [], ◌∷◌, ap, subst, length, get_or, arith}
+use Rattle.std.proofs.Common.{◌≡◌, ◌∙◌, List, ℕ, [], ◌∷◌, ap, length, get_or, arith}
 use Rattle.text_sheets.specs.Indices.{index_of, indices_line}
 use Rattle.text_sheets.specs.Lines.{numbers_line}
-use Rattle.text_sheets.specs.Sheets.{Puts}
 use Rattle.text_sheets.proofs.Cited.{then}
 use Rattle.mesh_files.proofs.off.put_face.Goals as goal
 
