@@ -1,4 +1,5 @@
 pub mod Lines
+pub mod Clouds
 pub mod CommandLine
 pub mod Judging
 pub mod Ended

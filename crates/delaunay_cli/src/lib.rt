@@ -7,6 +7,7 @@
 //! ```
 #![tactic(auto)]
 
+mod cloud;
 mod drawn;
 pub mod laws;
 mod made;
@@ -14,6 +15,7 @@ mod mesh;
 mod mesh_of_lines;
 mod mesh_of_source;
 mod outcome;
+mod parts;
 mod replies;
 mod reported;
 mod shapes;

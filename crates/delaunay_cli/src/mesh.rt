@@ -1,16 +1,16 @@
-//! From an accepted file to its mesh, and to the parts of its report.
+//! From an accepted file to its history, and to the parts of its report.
 
-ghost use Rattle.std.specs.Prelude.{◌≡◌, ◌<◌, ◌+◌, ◌^◌, false, length, All, IfOk, IfErr, option_map, Vec, ℕ};
-ghost use Rattle.std.specs.declared.alloc.Global.{Global};
+ghost use Rattle.std.specs.Prelude.{◌≡◌, ◌<◌, ◌+◌, ◌^◌, false, length, All, IfOk, IfErr};
 ghost use Rattle.edit_history.specs.Edits.{is_move};
 ghost use Rattle.edit_files.specs.Content.{content};
-ghost use Rattle.delaunay_cli.specs.Page.{IsReady, radii_of as radii_of_it, report_of_parts};
-ghost use Rattle.delaunay_cli.specs.Report.{order_of as order_of_it, report_of, tags_of};
+ghost use Rattle.delaunay_cli.specs.Page.{IsReady, report_of_parts};
+ghost use Rattle.delaunay_cli.specs.Report.{report_of};
 ghost use Rattle.delaunay_cli.specs.Reported.{IsMeshed, IsUnmeshed};
 
+use crate::cloud::made_of_points;
 use crate::made::Parts;
 use crate::mesh_of_lines::mesh_of_lines;
-use crate::replies::replies_by_tag;
+use crate::parts::parts_of;
 use crate::stop::Stop;
 use crate::task::{Asked, Making};
 use cell_store::Mesh;
@@ -20,40 +20,6 @@ use grid_claims::Gate;
 use one_mesh::{complex, find_four, history, points};
 use std::alloc::{AllocError, Global};
 use std::thread::Threads;
-
-// The tags of a history, in its order.
-fn tags(alloc: Global, entries: &[Entry]) -> Result<Vec<u32>, AllocError>
-    ensures { IfOk result (λ tags. tags.items ≡ tags_of entries.now) }
-{
-    let mut tags = Vec::with_capacity(alloc, entries.len())?;
-    for entry in entries {
-        tags.push(entry.tag)?;
-    }
-    Ok(tags)
-}
-
-// The tags, where they are asked for.
-fn order_of(alloc: Global, order: bool, entries: &[Entry]) -> Result<Option<Vec<u32>>, AllocError>
-    ensures { IfOk result (λ tags. option_map (λ (tags : Vec ℕ Global). tags.items) tags
-        ≡ order_of_it order entries.now) }
-{
-    if order {
-        Ok(Some(tags(alloc, entries)?))
-    } else {
-        Ok(None)
-    }
-}
-
-// The radii, where shapes are asked for.
-fn radii_of(alloc: Global, shape: bool, radii: &[u64]) -> Result<Vec<u64>, AllocError>
-    ensures { IfOk result (λ v. v.items ≡ radii_of_it shape radii.now) }
-{
-    if shape {
-        Vec::from_slice(alloc, radii)
-    } else {
-        Ok(Vec::new(alloc))
-    }
-}
 
 // The parts of the report of the mesh of a file's lines, and of its history. The mesh is let go before the shapes are
 // made.
@@ -74,17 +40,12 @@ fn parts(
     let points = points(alloc, &mesh)?;
     let cells = complex(alloc, &mesh)?;
     drop(mesh);
-    Ok(Parts {
-        replies: replies_by_tag(alloc, file.points.len() + file.edits.len(), kept)?,
-        points,
-        cells,
-        radii: radii_of(alloc, asked.shape, &file.radii)?,
-        order: order_of(alloc, asked.order, kept)?,
-    })
+    parts_of(alloc, asked, file, points, cells, kept)
 }
 
 /// Makes the mesh of the file's lines by workers, its history, and the parts of the report of what that leaves, with
-/// a shape for each radius and with the tags of the history, each where it is asked for.
+/// a shape for each radius and with the tags of the history, each where it is asked for. Of a file without edit lines
+/// no mesh is made: its history is that of one thread, for every number of workers, and its cells are made at once.
 ///
 /// # Errors
 ///
@@ -108,6 +69,9 @@ pub fn history_and_parts<R: Threads + Sync, G: Gate + Sync>(
     let Ok(four) = find_four(&file.points) else {
         return Err(Stop::Flat);
     };
+    if file.edits.is_empty() {
+        return Ok(made_of_points(alloc, asked, file, four)?);
+    }
     let mesh = mesh_of_lines(rt, alloc, file, four, making, gate)?;
     let kept = history(alloc, &mesh)?;
     let parts = parts(alloc, asked, file, mesh, &kept)?;

@@ -1,0 +1,54 @@
+-- The history of one thread of a file keeps it for every number of workers.
+use Rattle.std.specs.Prelude.{◌≡◌, ℕ, ◌<◌, List, [], All, Option, None, Some, IfSome}
+use Rattle.std.specs.Option.{option_map}
+use Rattle.std.proofs.Common.{sym, ◌∙◌, ap, subst, arith}
+use Rattle.list_laws.proofs.Cited.{all_of_each, each_of_all}
+use Rattle.point_order.specs.Sets.{AreSamePoints, IsAscending, ascending}
+use Rattle.point_order.proofs.Cited.{ascending_is}
+use Rattle.edit_history.specs.declared.history.Edit.{Edit}
+use Rattle.edit_history.specs.declared.history.Entry.{Entry}
+use Rattle.edit_history.specs.Histories.{replay}
+use Rattle.edit_history.specs.Laws.{KeepsLaw, ReplayLaw}
+use Rattle.edit_history.specs.Opening.{Four, opening_four}
+use Rattle.edit_history.specs.OneThread.{Keeps, one_thread, places}
+use Rattle.edit_files.specs.Content.{Content}
+use Rattle.delaunay_cli.specs.Run.{IsKept}
+
+-- what follows of an opening four, where there is one
+found : {P : Type 0} (o : Option Four) (four : List ℕ) → option_map places o ≡ Some four → IfSome o (λ _. P) → P
+found None four e k = absurd (cc e)
+found (Some f) four e k = k
+
+-- entries by 0 are entries by one of some workers
+any_workers : (points : List ℕ) (edits : List Edit) (workers : ℕ) (h : List Entry) → 0 < workers →
+    Keeps points edits 1 h → Keeps points edits workers h
+any_workers points edits workers h some k =
+    record {
+      opening = k.opening;
+      lines = k.lines;
+      order = k.order;
+      workers = all_of_each (λ (e : Entry). e.by < workers) h (λ e i. let b =
+          each_of_all (λ (e : Entry). e.by < 1) h k.workers e i in omega (arith, b, some));
+    }
+
+-- without edits it is the history of the points alone
+pub kept_by_any : (file : Content) (four : List ℕ) (h : List Entry) → KeepsLaw →
+    option_map places (opening_four file.points) ≡ Some four → file.edits ≡ []
+    → h ≡ one_thread file.points [] → (workers : ℕ) → 0 < workers → IsKept file workers h
+kept_by_any file four h law e none is workers some =
+    let same : h ≡ one_thread file.points file.edits = is ∙ ap (one_thread file.points) (sym none) in
+    record {
+      keeps = subst (Keeps file.points file.edits workers) (sym same)
+          (any_workers file.points file.edits workers (one_thread file.points file.edits) some
+          (found (opening_four file.points) four e (law file.points file.edits)));
+      alone = λ one. same;
+    }
+
+-- and it leaves the set of the points
+pub leaves_points : (points four : List ℕ) (h : List Entry) → ReplayLaw →
+    option_map places (opening_four points) ≡ Some four → h ≡ one_thread points [] → replay h ≡ ascending points
+leaves_points points four h law e is = ap replay is ∙ found (opening_four points) four e (law points)
+
+-- the ascending list of the points of a list
+pub set_is : (list points : List ℕ) → IsAscending points → AreSamePoints list points → points ≡ ascending list
+set_is list points a same = ascending_is points list a (λ p i. (same p).1 i) (λ p i. (same p).0 i)
