@@ -1,6 +1,7 @@
 //! What a pass is told to do.
 
-ghost use Rattle.std.specs.Prelude.{◌≡◌, IsTrue};
+ghost use Rattle.std.specs.Prelude.{◌≡◌, false, IsTrue};
+ghost use Rattle.edit_history.specs.Edits.{is_move};
 ghost use Rattle.edit_workers.specs.Dealing.{AreStill};
 ghost use Rattle.grid_claims.specs.Tries.{IsStill};
 
@@ -11,12 +12,22 @@ use edit_workers::{Left, List, work};
 use grid_claims::{Gate, MeshTable, OpenGate, Pass, Receipt, Refused, Snapshot};
 use std::alloc::{AllocError, Global};
 
+// Whether an edit moves no point.
+pub(crate) fn is_still(edit: Edit) -> bool
+    ensures { IsTrue result → is_move edit ≡ false }
+{
+    match edit {
+        Edit::Add(_) | Edit::Take(_) => true,
+        Edit::Move(_, _) => false,
+    }
+}
+
 // Whether no edit of the pairs moves a point.
 fn are_still(pairs: &[(u32, Edit)]) -> bool
     ensures { IsTrue result → AreStill pairs.now }
 {
     for pair in pairs {
-        if let Edit::Move(_, _) = pair.1 {
+        if !is_still(pair.1) {
             return false;
         }
     }
