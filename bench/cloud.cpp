@@ -1,6 +1,6 @@
-// The peer of bench/cloud: CGAL's Delaunay triangulation of the points of an edit file, handed in at once, so that they are put in an
-// order along a curve. It prints how many points, cells and hull triangles there are; with the word `text`, what `delaunay mesh` writes
-// from the line of the points on. Ties it settles in its own way.
+// The peer of bench/cloud: CGAL's Delaunay triangulation of the points of an edit file, handed in at once, so that they
+// are put in an order along a curve. It prints how many points, cells and hull triangles there are; with the word
+// `text`, what `delaunay mesh` writes from the line of the points on. Ties it settles in its own way.
 #include <CGAL/Delaunay_triangulation_3.h>
 #include <CGAL/Exact_predicates_inexact_constructions_kernel.h>
 #include <CGAL/Triangulation_vertex_base_with_info_3.h>

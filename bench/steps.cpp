@@ -1,7 +1,7 @@
-// The peer of bench/steps: CGAL's alpha shape of all alphas of the points that an edit file leaves. The triangulation is made once, of
-// the final points (CGAL sorts them along a curve). With the word `mesh` that is all; with `double` an Alpha_shape_3 in GENERAL mode is
-// made of it, which finds the alphas at which each face comes in floating point, and with `exact` one that compares them exactly.
-// Nothing is written but counts.
+// The peer of bench/steps: CGAL's alpha shape of all alphas of the points that an edit file leaves. The triangulation
+// is made once, of the final points (CGAL sorts them along a curve). With the word `mesh` that is all; with `double` an
+// Alpha_shape_3 in GENERAL mode is made of it, which finds the alphas at which each face comes in floating point, and
+// with `exact` one that compares them exactly. Nothing is written but counts.
 #include <CGAL/Alpha_shape_3.h>
 #include <CGAL/Alpha_shape_cell_base_3.h>
 #include <CGAL/Alpha_shape_vertex_base_3.h>
