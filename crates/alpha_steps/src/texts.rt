@@ -13,7 +13,7 @@ use crate::steps::Thresholds;
 use crate::threshold::Threshold;
 use byte_ends::{Failed, Sink};
 use point_order::Point;
-use text_sheets::{Sheet, put_indices, put_number, put_title};
+use text_sheets::{Indices, Sheet, put_indices, put_number, put_title};
 
 // Puts a threshold.
 fn put_threshold<O: Sink>(sheet: &mut Sheet, out: &mut O, threshold: Threshold)
@@ -30,87 +30,98 @@ fn put_threshold<O: Sink>(sheet: &mut Sheet, out: &mut O, threshold: Threshold)
 fn put_step<O: Sink>(
     sheet: &mut Sheet,
     out: &mut O,
-    points: &[Point],
+    indices: &Indices,
     corners: &[Point],
     threshold: Threshold,
 )
-    requires { IsAscending points.now }
     ensures { Puts (O.holds out.old) (O.holds out.new) (O.faults out.old) (O.faults out.new) sheet.old sheet.new
-        (step_line points.now (corners.now, threshold)) }
+        (step_line indices.now (corners.now, threshold)) }
 {
-    put_indices(sheet, out, points, corners);
+    put_indices(sheet, out, indices, corners);
     put_threshold(sheet, out, threshold);
     sheet.put(out, b"\n");
 }
 
 // Puts the line of the pair of an index.
-fn put_pair<O: Sink>(sheet: &mut Sheet, out: &mut O, list: &Thresholds, index: usize)
-    requires points { IsAscending list.now.points }
-    requires index { index < length list.now.pairs }
+fn put_pair<O: Sink>(
+    sheet: &mut Sheet,
+    out: &mut O,
+    indices: &Indices,
+    list: &Thresholds,
+    index: usize,
+)
+    requires { index < length list.now.pairs }
     ensures { Puts (O.holds out.old) (O.holds out.new) (O.faults out.old) (O.faults out.new) sheet.old sheet.new
-        (step_line list.now.points (slice_index_or list.now.pairs index ([], Never))) }
+        (step_line indices.now (slice_index_or list.now.pairs index ([], Never))) }
 {
     let (pair, threshold) = list.pair(index);
-    put_step(sheet, out, list.points(), pair.points(), threshold);
+    put_step(sheet, out, indices, pair.points(), threshold);
 }
 
 // Puts the block of the pairs.
-fn put_pairs<O: Sink>(sheet: &mut Sheet, out: &mut O, list: &Thresholds)
-    requires { IsAscending list.now.points }
+fn put_pairs<O: Sink>(sheet: &mut Sheet, out: &mut O, indices: &Indices, list: &Thresholds)
     ensures { Puts (O.holds out.old) (O.holds out.new) (O.faults out.old) (O.faults out.new) sheet.old sheet.new
-        (block (codes "edges") (map (step_line list.now.points) list.now.pairs)) }
+        (block (codes "edges") (map (step_line indices.now) list.now.pairs)) }
 {
     put_title(sheet, out, b"edges", list.pair_count());
     for index in 0..list.pair_count() {
-        put_pair(sheet, out, list, index);
+        put_pair(sheet, out, indices, list, index);
     }
 }
 
 // Puts the line of the triple of an index.
-fn put_triple<O: Sink>(sheet: &mut Sheet, out: &mut O, list: &Thresholds, index: usize)
-    requires points { IsAscending list.now.points }
-    requires index { index < length list.now.triples }
+fn put_triple<O: Sink>(
+    sheet: &mut Sheet,
+    out: &mut O,
+    indices: &Indices,
+    list: &Thresholds,
+    index: usize,
+)
+    requires { index < length list.now.triples }
     ensures { Puts (O.holds out.old) (O.holds out.new) (O.faults out.old) (O.faults out.new) sheet.old sheet.new
-        (step_line list.now.points (slice_index_or list.now.triples index ([], Never))) }
+        (step_line indices.now (slice_index_or list.now.triples index ([], Never))) }
 {
     let (triple, threshold) = list.triple(index);
-    put_step(sheet, out, list.points(), triple.points(), threshold);
+    put_step(sheet, out, indices, triple.points(), threshold);
 }
 
 // Puts the block of the triples.
-fn put_triples<O: Sink>(sheet: &mut Sheet, out: &mut O, list: &Thresholds)
-    requires { IsAscending list.now.points }
+fn put_triples<O: Sink>(sheet: &mut Sheet, out: &mut O, indices: &Indices, list: &Thresholds)
     ensures { Puts (O.holds out.old) (O.holds out.new) (O.faults out.old) (O.faults out.new) sheet.old sheet.new
-        (block (codes "triangles") (map (step_line list.now.points) list.now.triples)) }
+        (block (codes "triangles") (map (step_line indices.now) list.now.triples)) }
 {
     put_title(sheet, out, b"triangles", list.triple_count());
     for index in 0..list.triple_count() {
-        put_triple(sheet, out, list, index);
+        put_triple(sheet, out, indices, list, index);
     }
 }
 
 // Puts the line of the cell of an index, where it is Full.
-fn put_cell<O: Sink>(sheet: &mut Sheet, out: &mut O, list: &Thresholds, index: usize)
-    requires points { IsAscending list.now.points }
-    requires index { index < length list.now.cells }
+fn put_cell<O: Sink>(
+    sheet: &mut Sheet,
+    out: &mut O,
+    indices: &Indices,
+    list: &Thresholds,
+    index: usize,
+)
+    requires { index < length list.now.cells }
     ensures { Puts (O.holds out.old) (O.holds out.new) (O.faults out.old) (O.faults out.new) sheet.old sheet.new
-        (held_line (step_line list.now.points) (slice_index_or list.now.cells index None)) }
+        (held_line (step_line indices.now) (slice_index_or list.now.cells index None)) }
 {
     match list.cell(index) {
-        Some((quad, threshold)) => put_step(sheet, out, list.points(), quad.points(), threshold),
+        Some((quad, threshold)) => put_step(sheet, out, indices, quad.points(), threshold),
         None => {}
     }
 }
 
 // Puts the block of the Full cells.
-fn put_cells<O: Sink>(sheet: &mut Sheet, out: &mut O, list: &Thresholds)
-    requires { IsAscending list.now.points }
+fn put_cells<O: Sink>(sheet: &mut Sheet, out: &mut O, indices: &Indices, list: &Thresholds)
     ensures { Puts (O.holds out.old) (O.holds out.new) (O.faults out.old) (O.faults out.new) sheet.old sheet.new
-        (block (codes "cells") (map (step_line list.now.points) (held list.now.cells))) }
+        (block (codes "cells") (map (step_line indices.now) (held list.now.cells))) }
 {
     put_title(sheet, out, b"cells", list.cell_count());
     for index in 0..list.cell_slots() {
-        put_cell(sheet, out, list, index);
+        put_cell(sheet, out, indices, list, index);
     }
 }
 
@@ -121,9 +132,10 @@ fn put_all<O: Sink>(sheet: &mut Sheet, out: &mut O, list: &Thresholds)
         (steps_text list.now) }
 {
     sheet.put(out, b"mesh3-steps 1\n");
-    put_pairs(sheet, out, list);
-    put_triples(sheet, out, list);
-    put_cells(sheet, out, list);
+    let indices = Indices::new(list.points());
+    put_pairs(sheet, out, &indices, list);
+    put_triples(sheet, out, &indices, list);
+    put_cells(sheet, out, &indices, list);
     sheet.put(out, b"end\n");
 }
 

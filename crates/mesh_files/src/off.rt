@@ -13,7 +13,7 @@ use crate::report::put_point;
 use byte_ends::{Failed, Sink};
 use point_order::Point;
 use std::alloc::{AllocError, Global};
-use text_sheets::{Sheet, WholeText, index, put_three};
+use text_sheets::{Indices, Sheet, WholeText, put_three};
 
 // Puts the lines of the points.
 fn put_vertices<O: Sink>(sheet: &mut Sheet, out: &mut O, points: &[Point])
@@ -26,30 +26,28 @@ fn put_vertices<O: Sink>(sheet: &mut Sheet, out: &mut O, points: &[Point])
 }
 
 // Puts the line of a triangle.
-fn put_face<O: Sink>(sheet: &mut Sheet, out: &mut O, points: &[Point], face: &[Point; 3])
-    requires { IsAscending points.now }
+fn put_face<O: Sink>(sheet: &mut Sheet, out: &mut O, indices: &Indices, face: &[Point; 3])
     ensures { Puts (O.holds out.old) (O.holds out.new) (O.faults out.old) (O.faults out.new) sheet.old sheet.new
-        (off_line points.now face.now) }
+        (off_line indices.now face.now) }
 {
     let [a, b, c] = *face;
     sheet.put(out, b"3 ");
     put_three(
         sheet,
         out,
-        index(points, a),
-        index(points, b),
-        index(points, c),
+        indices.index(a),
+        indices.index(b),
+        indices.index(c),
     );
 }
 
 // Puts the lines of the triangles.
-fn put_faces<O: Sink>(sheet: &mut Sheet, out: &mut O, points: &[Point], faces: &[[Point; 3]])
-    requires { IsAscending points.now }
+fn put_faces<O: Sink>(sheet: &mut Sheet, out: &mut O, indices: &Indices, faces: &[[Point; 3]])
     ensures { Puts (O.holds out.old) (O.holds out.new) (O.faults out.old) (O.faults out.new) sheet.old sheet.new
-        (concat (map (off_line points.now) faces.now)) }
+        (concat (map (off_line indices.now) faces.now)) }
 {
     for face in faces {
-        put_face(sheet, out, points, face);
+        put_face(sheet, out, indices, face);
     }
 }
 
@@ -62,7 +60,7 @@ fn put_all<O: Sink>(sheet: &mut Sheet, out: &mut O, points: &[Point], faces: &[[
     sheet.put(out, b"OFF\n");
     put_three(sheet, out, points.len() as u64, faces.len() as u64, 0);
     put_vertices(sheet, out, points);
-    put_faces(sheet, out, points, faces);
+    put_faces(sheet, out, &Indices::new(points), faces);
 }
 
 /// Writes points and triangles as OFF: how many there are, each point by its coordinates, and each triangle by the

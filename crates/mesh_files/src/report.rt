@@ -28,7 +28,7 @@ use edit_history::Reply;
 use point_order::{Cell, Point};
 use std::alloc::{AllocError, Global};
 use text_sheets::{
-    Sheet, WholeText, put_full_line, put_hull_line, put_number_and, put_three, put_title,
+    Indices, Sheet, WholeText, put_full_line, put_hull_line, put_number_and, put_three, put_title,
 };
 
 /// What a report tells.
@@ -134,30 +134,28 @@ pub(crate) fn hull_count(cells: &[Cell]) -> usize
 }
 
 // Puts the block of the Full cells.
-fn put_cells<O: Sink>(sheet: &mut Sheet, out: &mut O, points: &[Point], cells: &[Cell])
-    requires { IsAscending points.now }
+fn put_cells<O: Sink>(sheet: &mut Sheet, out: &mut O, indices: &Indices, cells: &[Cell])
     ensures { Puts (O.holds out.old) (O.holds out.new) (O.faults out.old) (O.faults out.new) sheet.old sheet.new
-        (block (codes "cells") (map (indices_line points.now) (full_corners cells.now))) }
+        (block (codes "cells") (map (indices_line indices.now) (full_corners cells.now))) }
 {
     put_title(sheet, out, b"cells", full_count(cells));
     for cell in cells {
         match *cell {
-            Cell::Full(quad) => put_full_line(sheet, out, points, quad),
+            Cell::Full(quad) => put_full_line(sheet, out, indices, quad),
             Cell::Open(_) => {}
         }
     }
 }
 
 // Puts the block of the Open cells.
-fn put_hull<O: Sink>(sheet: &mut Sheet, out: &mut O, points: &[Point], cells: &[Cell])
-    requires { IsAscending points.now }
+fn put_hull<O: Sink>(sheet: &mut Sheet, out: &mut O, indices: &Indices, cells: &[Cell])
     ensures { Puts (O.holds out.old) (O.holds out.new) (O.faults out.old) (O.faults out.new) sheet.old sheet.new
-        (block (codes "hull") (map (indices_line points.now) (hull_corners cells.now))) }
+        (block (codes "hull") (map (indices_line indices.now) (hull_corners cells.now))) }
 {
     put_title(sheet, out, b"hull", hull_count(cells));
     for cell in cells {
         match *cell {
-            Cell::Open(tri) => put_hull_line(sheet, out, points, tri),
+            Cell::Open(tri) => put_hull_line(sheet, out, indices, tri),
             Cell::Full(_) => {}
         }
     }
@@ -200,10 +198,11 @@ fn put_mesh<O: Sink>(sheet: &mut Sheet, out: &mut O, report: &Report)
         (mesh_blocks (parts_of report.now)) }
 {
     let points: &[Point] = &report.points;
+    let indices = Indices::new(points);
     put_replies(sheet, out, &report.replies);
     put_points(sheet, out, points);
-    put_cells(sheet, out, points, report.cells);
-    put_hull(sheet, out, points, report.cells);
+    put_cells(sheet, out, &indices, report.cells);
+    put_hull(sheet, out, &indices, report.cells);
 }
 
 // Puts the text of the report.

@@ -41,7 +41,9 @@ use alpha_complex::{Kind, Shape};
 use byte_ends::{Failed, Sink};
 use point_order::Point;
 use std::alloc::{AllocError, Global};
-use text_sheets::{Sheet, WholeText, put_full_line, put_indices, put_number_and, put_title};
+use text_sheets::{
+    Indices, Sheet, WholeText, put_full_line, put_indices, put_number_and, put_title,
+};
 
 fn word_of(kind: Kind) -> &'static str
     ensures { result.now ≡ kind_word kind }
@@ -57,107 +59,105 @@ fn word_of(kind: Kind) -> &'static str
 fn put_face<O: Sink>(
     sheet: &mut Sheet,
     out: &mut O,
-    points: &[Point],
+    indices: &Indices,
     corners: &[Point],
     kind: Kind,
 )
-    requires { IsAscending points.now }
     ensures { Puts (O.holds out.old) (O.holds out.new) (O.faults out.old) (O.faults out.new) sheet.old sheet.new
-        (face_line points.now corners.now kind) }
+        (face_line indices.now corners.now kind) }
 {
-    put_indices(sheet, out, points, corners);
+    put_indices(sheet, out, indices, corners);
     sheet.put(out, word_of(kind).as_bytes());
     sheet.put(out, b"\n");
 }
 
 // Puts the block of the points, which count themselves.
-fn put_points<O: Sink>(sheet: &mut Sheet, out: &mut O, shape: &Shape)
-    requires { IsAscending (points_in shape.now.points) }
+fn put_points<O: Sink>(sheet: &mut Sheet, out: &mut O, indices: &Indices, shape: &Shape)
     ensures { Puts (O.holds out.old) (O.holds out.new) (O.faults out.old) (O.faults out.new) sheet.old sheet.new
-        (block (codes "points") (map (λ f. face_line (points_in shape.now.points) (f.0 ∷ []) f.1) shape.now.points)) }
+        (block (codes "points") (map (λ f. face_line indices.now (f.0 ∷ []) f.1) shape.now.points)) }
 {
-    let points = shape.points();
-    put_title(sheet, out, b"points", points.len());
-    for index in 0..points.len() {
+    let count = shape.points().len();
+    put_title(sheet, out, b"points", count);
+    for index in 0..count {
         let (point, kind) = shape.point(index);
-        put_face(sheet, out, points, &[point], kind);
+        put_face(sheet, out, indices, &[point], kind);
     }
 }
 
 // Puts the line of the pair of an index, where it is admitted.
-fn put_pair<O: Sink>(sheet: &mut Sheet, out: &mut O, shape: &Shape, index: usize)
-    requires points { IsAscending (points_in shape.now.points) }
-    requires index { index < length shape.now.pairs }
+fn put_pair<O: Sink>(sheet: &mut Sheet, out: &mut O, indices: &Indices, shape: &Shape, index: usize)
+    requires { index < length shape.now.pairs }
     ensures { Puts (O.holds out.old) (O.holds out.new) (O.faults out.old) (O.faults out.new) sheet.old sheet.new
-        (held_line (λ f. face_line (points_in shape.now.points) f.0 f.1) (slice_index_or shape.now.pairs index None)) }
+        (held_line (λ f. face_line indices.now f.0 f.1) (slice_index_or shape.now.pairs index None)) }
 {
     match shape.pair(index) {
-        Some((pair, kind)) => put_face(sheet, out, shape.points(), pair.points(), kind),
+        Some((pair, kind)) => put_face(sheet, out, indices, pair.points(), kind),
         None => {}
     }
 }
 
 // Puts the block of the edges.
-fn put_pairs<O: Sink>(sheet: &mut Sheet, out: &mut O, shape: &Shape)
-    requires { IsAscending (points_in shape.now.points) }
+fn put_pairs<O: Sink>(sheet: &mut Sheet, out: &mut O, indices: &Indices, shape: &Shape)
     ensures { Puts (O.holds out.old) (O.holds out.new) (O.faults out.old) (O.faults out.new) sheet.old sheet.new
-        (block (codes "edges") (map (λ f. face_line (points_in shape.now.points) f.0 f.1) (held shape.now.pairs))) }
+        (block (codes "edges") (map (λ f. face_line indices.now f.0 f.1) (held shape.now.pairs))) }
 {
     put_title(sheet, out, b"edges", shape.pair_count());
     for index in 0..shape.pair_slots() {
-        put_pair(sheet, out, shape, index);
+        put_pair(sheet, out, indices, shape, index);
     }
 }
 
 // Puts the line of the triple of an index, where it is admitted.
-fn put_triple<O: Sink>(sheet: &mut Sheet, out: &mut O, shape: &Shape, index: usize)
-    requires points { IsAscending (points_in shape.now.points) }
-    requires index { index < length shape.now.triples }
+fn put_triple<O: Sink>(
+    sheet: &mut Sheet,
+    out: &mut O,
+    indices: &Indices,
+    shape: &Shape,
+    index: usize,
+)
+    requires { index < length shape.now.triples }
     ensures { Puts (O.holds out.old) (O.holds out.new) (O.faults out.old) (O.faults out.new) sheet.old sheet.new
-        (held_line (λ f. face_line (points_in shape.now.points) f.0 f.1)
+        (held_line (λ f. face_line indices.now f.0 f.1)
         (slice_index_or shape.now.triples index None)) }
 {
     match shape.triple(index) {
-        Some((triple, kind)) => put_face(sheet, out, shape.points(), triple.points(), kind),
+        Some((triple, kind)) => put_face(sheet, out, indices, triple.points(), kind),
         None => {}
     }
 }
 
 // Puts the block of the triangles.
-fn put_triples<O: Sink>(sheet: &mut Sheet, out: &mut O, shape: &Shape)
-    requires { IsAscending (points_in shape.now.points) }
+fn put_triples<O: Sink>(sheet: &mut Sheet, out: &mut O, indices: &Indices, shape: &Shape)
     ensures { Puts (O.holds out.old) (O.holds out.new) (O.faults out.old) (O.faults out.new) sheet.old sheet.new
         (block (codes "triangles")
-        (map (λ f. face_line (points_in shape.now.points) f.0 f.1) (held shape.now.triples))) }
+        (map (λ f. face_line indices.now f.0 f.1) (held shape.now.triples))) }
 {
     put_title(sheet, out, b"triangles", shape.triple_count());
     for index in 0..shape.triple_slots() {
-        put_triple(sheet, out, shape, index);
+        put_triple(sheet, out, indices, shape, index);
     }
 }
 
 // Puts the line of the cell of an index, where it is admitted.
-fn put_cell<O: Sink>(sheet: &mut Sheet, out: &mut O, shape: &Shape, index: usize)
-    requires points { IsAscending (points_in shape.now.points) }
-    requires index { index < length shape.now.cells }
+fn put_cell<O: Sink>(sheet: &mut Sheet, out: &mut O, indices: &Indices, shape: &Shape, index: usize)
+    requires { index < length shape.now.cells }
     ensures { Puts (O.holds out.old) (O.holds out.new) (O.faults out.old) (O.faults out.new) sheet.old sheet.new
-        (held_line (indices_line (points_in shape.now.points)) (slice_index_or shape.now.cells index None)) }
+        (held_line (indices_line indices.now) (slice_index_or shape.now.cells index None)) }
 {
     match shape.cell(index) {
-        Some(quad) => put_full_line(sheet, out, shape.points(), quad),
+        Some(quad) => put_full_line(sheet, out, indices, quad),
         None => {}
     }
 }
 
 // Puts the block of the cells.
-fn put_cells<O: Sink>(sheet: &mut Sheet, out: &mut O, shape: &Shape)
-    requires { IsAscending (points_in shape.now.points) }
+fn put_cells<O: Sink>(sheet: &mut Sheet, out: &mut O, indices: &Indices, shape: &Shape)
     ensures { Puts (O.holds out.old) (O.holds out.new) (O.faults out.old) (O.faults out.new) sheet.old sheet.new
-        (block (codes "cells") (map (indices_line (points_in shape.now.points)) (held shape.now.cells))) }
+        (block (codes "cells") (map (indices_line indices.now) (held shape.now.cells))) }
 {
     put_title(sheet, out, b"cells", shape.cell_count());
     for index in 0..shape.cell_slots() {
-        put_cell(sheet, out, shape, index);
+        put_cell(sheet, out, indices, shape, index);
     }
 }
 
@@ -167,10 +167,11 @@ fn put_faces<O: Sink>(sheet: &mut Sheet, out: &mut O, shape: &Shape)
     ensures { Puts (O.holds out.old) (O.holds out.new) (O.faults out.old) (O.faults out.new) sheet.old sheet.new
         (face_blocks (counted (shape_seen shape.now)) (shape_seen shape.now)) }
 {
-    put_points(sheet, out, shape);
-    put_pairs(sheet, out, shape);
-    put_triples(sheet, out, shape);
-    put_cells(sheet, out, shape);
+    let indices = Indices::new(shape.points());
+    put_points(sheet, out, &indices, shape);
+    put_pairs(sheet, out, &indices, shape);
+    put_triples(sheet, out, &indices, shape);
+    put_cells(sheet, out, &indices, shape);
 }
 
 // Puts the block of a radius.

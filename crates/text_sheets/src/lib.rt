@@ -19,7 +19,7 @@ mod page;
 pub mod sheet;
 pub mod whole;
 
-pub use indices::{index, put_full_line, put_hull_line, put_indices};
+pub use indices::{Indices, put_full_line, put_hull_line, put_indices};
 pub use lines::{put_four, put_number, put_number_and, put_three, put_title};
 pub use sheet::Sheet;
 pub use whole::WholeText;

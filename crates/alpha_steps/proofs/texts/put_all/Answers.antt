@@ -1,3 +1,4 @@
+use Rattle.std.proofs.Common.{◌∙◌}
 use Rattle.text_sheets.proofs.Cited.{then}
 use Rattle.alpha_steps.specs.Text.{steps_text}
 use Rattle.alpha_steps.proofs.texts.put_all.Goals as goal
@@ -5,5 +6,8 @@ use Rattle.alpha_steps.proofs.texts.put_all.Goals as goal
 pub returns : goal.returns
 unfolding steps_text
 returns g c =
-    then (then (then (then c.put.ensures c.put_pairs.ensures) c.put_triples.ensures) c.put_cells.ensures)
-    c.put-2.ensures
+    let points = c.new-indices.ensures ∙ c.points.ensures in
+    let edges = rw points at c.put_pairs.ensures in
+    let triangles = rw points at c.put_triples.ensures in
+    let cells = rw points at c.put_cells.ensures in
+    then (then (then (then c.put.ensures edges) triangles) cells) c.put-2.ensures

@@ -6,24 +6,21 @@ use Rattle.alpha_steps.proofs.texts.put_cells.Goals as goal
 pub loop-index-init : goal.loop-index-init
 loop-index-init g c =
     let list = c.args.list.now in
-    held_starts (codes "cells") (step_line list.points) list.cells c.cell_count.result c.cell_count.ensures
+    held_starts (codes "cells") (step_line c.args.indices.now) list.cells c.cell_count.result c.cell_count.ensures
     c.put_title.ensures
 
 pub put_cell-requires : goal.put_cell-requires
-put_cell-requires g c = record {
-  points = c.requires;
-  index = below_end _ _ _ c.loop-index-test.true
-      c.cell_slots-index-end.ensures;
-}
+put_cell-requires g c = below_end _ _ _ c.loop-index-test.true
+    c.cell_slots-index-end.ensures
 
 pub loop-index-preserved : goal.loop-index-preserved
 loop-index-preserved g c =
     let list = c.args.list.now in
-    held_goes_on (step_line list.points) list.cells c.loop-index.index _ c.loop-index-test.true
+    held_goes_on (step_line c.args.indices.now) list.cells c.loop-index.index _ c.loop-index-test.true
     c.cell_slots-index-end.ensures c.loop-index.invariant c.put_cell.ensures
 
 pub returns : goal.returns
 returns g c =
     let list = c.args.list.now in
-    held_ends (step_line list.points) list.cells c.loop-index.index _ c.loop-index-test.false
+    held_ends (step_line c.args.indices.now) list.cells c.loop-index.index _ c.loop-index-test.false
     c.cell_slots-index-end.ensures c.loop-index.invariant

@@ -11,5 +11,5 @@ abbrev pub invariant-loop-index : goal.invariant-loop-index
 invariant-loop-index g l =
     PutsBut (g.O.Sink.holds l.fn.out) (g.O.Sink.holds l.out) (g.O.Sink.faults l.fn.out) (g.O.Sink.faults l.out)
     l.fn.sheet l.sheet
-    (concat (map (step_line l.list.points) (held (drop l.index l.list.cells))))
-    (block (codes "cells") (map (step_line l.list.points) (held l.list.cells)))
+    (concat (map (step_line l.indices) (held (drop l.index l.list.cells))))
+    (block (codes "cells") (map (step_line l.indices) (held l.list.cells)))

@@ -11,21 +11,18 @@ use Rattle.alpha_steps.proofs.texts.put_triples.Goals as goal
 pub loop-index-init : goal.loop-index-init
 loop-index-init g c =
     let list = c.args.list.now in
-    starts (codes "triangles") (map (step_line list.points) list.triples) c.triple_count.result
-    (c.triple_count.ensures ∙ sym (length-map list.triples (step_line list.points))) c.put_title.ensures
+    starts (codes "triangles") (map (step_line c.args.indices.now) list.triples) c.triple_count.result
+    (c.triple_count.ensures ∙ sym (length-map list.triples (step_line c.args.indices.now))) c.put_title.ensures
 
 pub put_triple-requires : goal.put_triple-requires
-put_triple-requires g c = record {
-  points = c.requires;
-  index = below_end _ _ _ c.loop-index-test.true
-      c.triple_count-index-end.ensures;
-}
+put_triple-requires g c = below_end _ _ _ c.loop-index-test.true
+    c.triple_count-index-end.ensures
 
 pub loop-index-preserved : goal.loop-index-preserved
 loop-index-preserved g c =
     let list = c.args.list.now in
     let within = below_end _ _ _ c.loop-index-test.true c.triple_count-index-end.ensures in
-    goes_on (λ (xs : List (List ℕ × Threshold)). concat (map (step_line list.points) xs)) (step_line list.points)
+    goes_on (λ (xs : List (List ℕ × Threshold)). concat (map (step_line c.args.indices.now) xs)) (step_line c.args.indices.now)
     (λ x xs. refl) list.triples c.loop-index.index
     _ within (own_item ([], Never) list.triples c.loop-index.index within) c.loop-index.invariant
     c.put_triple.ensures
@@ -33,6 +30,6 @@ loop-index-preserved g c =
 pub returns : goal.returns
 returns g c =
     let list = c.args.list.now in
-    ends (λ (xs : List (List ℕ × Threshold)). concat (map (step_line list.points) xs)) refl list.triples
+    ends (λ (xs : List (List ℕ × Threshold)). concat (map (step_line c.args.indices.now) xs)) refl list.triples
     c.loop-index.index
     (past_end _ _ _ c.loop-index-test.false c.triple_count-index-end.ensures) c.loop-index.invariant

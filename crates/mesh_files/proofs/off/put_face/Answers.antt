@@ -18,7 +18,7 @@ line_is points (a ∷ b ∷ c ∷ x ∷ face) d e f i j k n p q r = absurd (omeg
 
 pub returns : goal.returns
 returns g c =
-    let line = line_is c.args.points.now c.args.face.now c.index-face-0.result c.index-face-1.result
+    let line = line_is c.args.indices.now c.args.face.now c.index-face-0.result c.index-face-1.result
     c.index-face-2.result c.index.result
     c.index-2.result c.index-3.result c.told-face c.index.ensures c.index-2.ensures c.index-3.ensures in
     then c.put.ensures (rw line at c.put_three.ensures)

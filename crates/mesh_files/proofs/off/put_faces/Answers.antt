@@ -10,7 +10,7 @@ loop-face-init g c = leaves_all
 
 pub loop-face-preserved : goal.loop-face-preserved
 loop-face-preserved g c =
-    let points = c.args.points.now in
+    let points = c.args.indices.now in
     goes_on (λ (xs : List (List ℕ)). concat (map (off_line points) xs)) (off_line points) (λ x xs. refl)
     c.args.faces.now
     c.loop-face.face-index c.face-item.result c.loop-face-test.true c.face-item.is c.loop-face.invariant
@@ -18,7 +18,7 @@ loop-face-preserved g c =
 
 pub returns : goal.returns
 returns g c =
-    let points = c.args.points.now in
+    let points = c.args.indices.now in
     ends (λ (xs : List (List ℕ)). concat (map (off_line points) xs)) refl c.args.faces.now c.loop-face.face-index
     c.loop-face-test.false
     c.loop-face.invariant

@@ -10,4 +10,4 @@ abbrev pub invariant-loop-face : goal.invariant-loop-face
 invariant-loop-face g l =
     PutsBut (g.O.Sink.holds l.fn.out) (g.O.Sink.holds l.out) (g.O.Sink.faults l.fn.out) (g.O.Sink.faults l.out)
     l.fn.sheet l.sheet
-    (concat (map (off_line l.points) (drop l.face-index l.faces))) (concat (map (off_line l.points) l.faces))
+    (concat (map (off_line l.indices) (drop l.face-index l.faces))) (concat (map (off_line l.indices) l.faces))

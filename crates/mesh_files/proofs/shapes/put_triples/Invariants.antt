@@ -11,5 +11,5 @@ use Rattle.mesh_files.proofs.shapes.put_triples.Given as goal
 abbrev pub invariant-loop-index : goal.invariant-loop-index
 invariant-loop-index g l =
     PutsBut (g.O.Sink.holds l.fn.out) (g.O.Sink.holds l.out) (g.O.Sink.faults l.fn.out) (g.O.Sink.faults l.out) l.fn.sheet l.sheet
-    (concat (map (λ f. face_line (points_in l.shape.points) f.0 f.1) (held (drop l.index l.shape.triples))))
-    (block (codes "triangles") (map (λ f. face_line (points_in l.shape.points) f.0 f.1) (held l.shape.triples)))
+    (concat (map (λ f. face_line l.indices f.0 f.1) (held (drop l.index l.shape.triples))))
+    (block (codes "triangles") (map (λ f. face_line l.indices f.0 f.1) (held l.shape.triples)))
