@@ -1,8 +1,9 @@
 //! The search for the first cell of a walk.
 
-ghost use Rattle.std.specs.Prelude.{◌≡◌, ◌↔◌, ◌⊎◌, List, [], None, Some, IsTrue, IsSome, IfSome, MatchBool};
+ghost use Rattle.std.specs.Prelude.{◌≡◌, ◌↔◌, ◌⊎◌, List, [], None, Some, IsTrue, IsSome, IfSome, MatchBool, MatchOption};
 ghost use Rattle.std.specs.declared.cmp.Ordering.TheVariants.{Less};
 ghost use Rattle.point_order.specs.CellOrder.{cell_cmp};
+ghost use Rattle.point_order.specs.Sets.{IsIn};
 ghost use Rattle.cell_store.specs.Buckets.{bucket_at, cells_in};
 ghost use Rattle.cell_walk.specs.Searching.{IsInside, IsFitting, IsLessened, IsLeastOf};
 ghost use Rattle.cell_store.specs.Shares.{ShowsSome};
@@ -15,21 +16,23 @@ use std::cmp::Ordering;
 // How many points of a bucket are looked at for one that is near.
 const LOOKS: usize = 128;
 
-// The nearest of some points of the list, if it has any. It only makes the walk short, so nothing is promised.
-pub(crate) fn near_point(points: &[Point], p: Point) -> Option<Point> {
+// The nearest of some points of the list; none where it has none. Which ones are looked at only makes the walk short.
+pub(crate) fn near_point(points: &[Point], p: Point) -> Option<Point>
+    ensures { MatchOption result (points.now ≡ []) (λ q. IsIn q points.now) }
+{
+    let mut near = *points.first()?;
+    let mut least = Step::between(p, near).square();
     let stride = points.len() / LOOKS + 1;
-    let mut near = None;
-    let mut least = i64::MAX;
-    for look in 0..LOOKS {
+    for look in 1..LOOKS {
         if let Some(q) = points.get(stride.saturating_mul(look)) {
             let square = Step::between(p, *q).square();
             if square < least {
                 least = square;
-                near = Some(*q);
+                near = *q;
             }
         }
     }
-    near
+    Some(near)
 }
 
 // Whether the cell is Full, and the buckets of all its points are in hand.

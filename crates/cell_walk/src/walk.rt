@@ -1,9 +1,9 @@
 //! Walks.
 
-ghost use Rattle.std.specs.Prelude.{◌≡◌, ◌&&◌, ◌||◌, ℕ, List, IsSome, IfSome, pos};
+ghost use Rattle.std.specs.Prelude.{◌≡◌, ◌&&◌, ◌||◌, ℕ, List, [], IsSome, IfSome, pos};
 ghost use Rattle.point_order.specs.Conflicts.{are_opposite as lie_opposite};
 ghost use Rattle.cell_store.specs.Shares.{Shows, ShowsSome};
-ghost use Rattle.cell_store.specs.Buckets.{bucket_at};
+ghost use Rattle.cell_store.specs.Buckets.{bucket_at, points_in};
 ghost use Rattle.cell_walk.specs.Paths.{ShowsWalk, IsWalkIn, WalksFor, facet_towards as towards};
 ghost use Rattle.cell_walk.specs.Turns.{StartGives, TurnGives};
 
@@ -112,14 +112,15 @@ impl Walk {
         Start::Need(first_missing(hold, p))
     }
 
-    /// A walk to a new point from a cell at a point of the bucket with the number that lies near; none where the bucket
-    /// shows no such point. The bucket is to be in hand.
+    /// A walk to a new point from a cell at a point of the bucket with the number that lies near. The bucket is to be in
+    /// hand. Where the hold shows some set and the bucket has a point, there is such a walk.
     ///
     /// Which points are looked at is not promised. It takes no memory.
     pub fn near(hold: &Hold, b: u32, p: Point) -> Option<Walk>
         requires { IsSome (bucket_at hold.now.places b) }
         ensures point { IfSome result (λ w. w.point ≡ p) }
         ensures walks { IfSome result (WalksFor hold.now p) }
+        ensures some { ShowsSome hold.now → (points_in hold.now.places b ≡ [] → ⊥) → IsSome result }
     {
         let q = near_point(hold.bucket(b).points(), p)?;
         if !hold.has(hold.grid().bucket_of(q)) {
