@@ -5,7 +5,7 @@ use Rattle.std.specs.Option.{option_map, option_map_or}
 use Rattle.std.proofs.Common.{refl, sym, ◌∙◌, ap, subst, inl, inr, arith, length-set}
 use Rattle.std.proofs.Math.Nat.{mod-eq_of_lt}
 use mathlib.Core.Logic.{dite}
-use mathlib.Core.Option.{some, some-injective, some-ne-none}
+use mathlib.Core.Option.{some, some-injective}
 use native.Mathlib.Decide.{ℕ_discrete}
 use lib.ListN.{get_elem?}
 use Rattle.atomic_table.specs.Table.{keeps, stepped}
@@ -33,12 +33,13 @@ use Rattle.grid_claims.specs.Faces.{buckets_of, opening_of, plain, plain_child, 
 use Rattle.grid_claims.specs.Trails.{in_hand, in_hand_after, AreStepsFrom, IsStepOf, IsCommitOf, IsExact, AreTouched}
 use Rattle.grid_claims.specs.Rule.{IsSeatInOrder, IsRule}
 use Rattle.grid_claims.specs.Plays.{Seated, commits, Committed, IsReady, HandStands, HandShows, entry_of}
-use Rattle.grid_claims.proofs.Boarded.{Table, Live, firsts, firsts_append, alone, shown, same_firsts, others_from, views_set}
-use Rattle.grid_claims.proofs.Seen.{passes_to, in_firsts}
+use Rattle.grid_claims.proofs.Boarded.{Table, Live, firsts, alone, shown, same_firsts, others_from, views_set, seats_differ, own_pass}
+use Rattle.grid_claims.proofs.Seen.{passes_to}
 use Rattle.grid_claims.specs.declared.view.Child.{Child}
-use Rattle.std.proofs.lemmas.Bool.Decides.{nat_tests}
-use Rattle.list_laws.proofs.Cited.{all_of_each, each_of_all, in_both, rest_distinct}
+use Rattle.list_laws.proofs.Cited.{all_of_each, each_of_all}
 use Rattle.grid_claims.proofs.Trailed.{in_hand_snoc, steps_snoc}
+use Rattle.grid_claims.specs.Reached.{IsReached}
+use Rattle.grid_claims.proofs.Reached.{reached_commit}
 use Rattle.grid_claims.proofs.Claims.{IsAlone, below, on_board, hand_stands, Taken}
 
 -- ---- a history with one more entry
@@ -107,27 +108,6 @@ front [] x n e = absurd (omega arith)
 front (w ∷ words) x n e = refl
 
 -- ---- seats that differ
-
--- passes of two seats have two numbers
-pub seats_differ : (count : ℕ) (views : List View) (i j : ℕ) (v u : View) (x y : Live) → i ≢ j → get_elem? views i ≡ some v → get_elem? views j ≡ some u → IsIn x (passes_of count v) → IsIn y (passes_of count u) → AreDistinct (firsts (passes_in count views)) → x.first ≢ y.first
-seats_differ count [] i j v u x y n a b p q d e = absurd (some-ne-none v (sym a))
-seats_differ count (z ∷ views) zero zero v u x y n a b p q d e = n refl
-seats_differ count (z ∷ views) zero (suc j) v u x y n a b p q d e =
-    in_both (firsts (passes_of count z)) (firsts (passes_in count views)) x.first (subst (λ (l : List ℕ). AreDistinct l) (firsts_append (passes_of count z) (passes_in count views)) d)
-    (in_firsts (passes_of count z) x (subst (λ (t : View). IsIn x (passes_of count t)) (sym (some-injective z v a)) p))
-    (subst (λ (k : ℕ). IsIn k (firsts (passes_in count views))) (sym e) (in_firsts (passes_in count views) y (passes_to count views j u y b q)))
-seats_differ count (z ∷ views) (suc i) zero v u x y n a b p q d e =
-    in_both (firsts (passes_of count z)) (firsts (passes_in count views)) y.first (subst (λ (l : List ℕ). AreDistinct l) (firsts_append (passes_of count z) (passes_in count views)) d)
-    (in_firsts (passes_of count z) y (subst (λ (t : View). IsIn y (passes_of count t)) (sym (some-injective z u b)) q))
-    (subst (λ (k : ℕ). IsIn k (firsts (passes_in count views))) e (in_firsts (passes_in count views) x (passes_to count views i v x a p)))
-seats_differ count (z ∷ views) (suc i) (suc j) v u x y n a b p q d e =
-    seats_differ count views i j v u x y (λ f. n (ap suc f)) a b p q
-    (rest_distinct (firsts (passes_of count z)) (firsts (passes_in count views)) (subst (λ (l : List ℕ). AreDistinct l) (firsts_append (passes_of count z) (passes_in count views)) d)) e
-
-own_pass : (count : ℕ) (u : View) → 0 < u.parts → IsIn (plain u) (passes_of count u)
-own_pass count u live =
-    let t : ltb 0 u.parts ≡ true = grind (arith, nat_tests) in
-    subst (λ (l : List Live). IsIn (plain u) (l ++ option_map_or (λ c. plain_child count c ∷ []) u.child [])) (λ i. cond (sym t i) (plain u ∷ []) []) (inl refl)
 
 child_pass : (count : ℕ) (u : View) (c : Child) → u.child ≡ Some c → IsIn (plain_child count c) (passes_of count u)
 child_pass count u c e = by (ltb 0 u.parts)
@@ -256,6 +236,7 @@ commits_keep k slots id tag edit reply me s h r a ready some_left key =
         | inl y ↦ subst (IsSeatInOrder k h') y.1 mine
         | inr y ↦ other j u y.0 y.1
       ];
+      reached = subst (λ (x : Entry). IsReached k s' (h ++ x ∷ [])) (sym same_entry) (reached_commit k s s' h id tag edit v w r.reached record { apart = r.apart; there = a.there; live = a.live; views = refl; first = refl } refl shows key some_left touched event);
     } in (
       w,
       keeps,

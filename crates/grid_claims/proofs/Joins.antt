@@ -31,6 +31,7 @@ use Rattle.grid_claims.proofs.Boarded.{Table, Live, firsts, firsts_append, alone
 use Rattle.grid_claims.proofs.Handled.{Between}
 use Rattle.grid_claims.proofs.Claims.{IsAlone, below, on_board}
 use Rattle.grid_claims.proofs.Closing.{spent_in_order}
+use Rattle.grid_claims.proofs.Reached.{reached_join}
 use Rattle.grid_claims.proofs.United.{made_united}
 
 -- ---- a seat without a pass
@@ -167,5 +168,6 @@ joins_keep k id other v w live live' lone lone' nothing nothing' next s rule at 
           | inr z ↦ r.seats j u z.1
         ]
       ];
+      reached = reached_join k s s2 h id other v both w r.reached r.apart at live refl refl (sym swapped) shown shown' nothing nothing' next (event ∙ sym is_joined);
     } in
     (h, subst (λ (l : List View). IsRule k record { words = s.words; homes = s.homes; views = l } h) (sym swapped) result)

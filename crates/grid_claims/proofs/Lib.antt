@@ -2,6 +2,7 @@ mod Seen
 mod Boarded
 mod Handled
 mod Trailed
+mod Reached
 mod Claims
 mod Commits
 mod Divides

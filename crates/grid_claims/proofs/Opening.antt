@@ -25,6 +25,8 @@ use Rattle.grid_claims.specs.Rule.{IsSeatInOrder, IsRule, opening_view}
 use Rattle.grid_claims.proofs.Seen.{at_place, places_count}
 use Rattle.grid_claims.proofs.Boarded.{Table, Live, firsts, alone}
 use Rattle.grid_claims.proofs.Divides.{empty_hand, empty_once}
+use Rattle.grid_claims.specs.Reached.{opened_as}
+use Rattle.grid_claims.proofs.Reached.{reached_first}
 
 homes_are : (slots : List (Option BucketContent)) → map at_home (map some slots) ≡ slots
 homes_are [] = refl
@@ -51,6 +53,7 @@ starts k h allowance slots is most size some_part few fits legal keys solid all_
     (λ i l. let c = places_count k.parts passes in at_place k.parts passes i (omega arith) ∙ ap (numbered i) listed ∙ shows first i) in
     let event : board_of k s ≡ opened =
     (λ i. record { grid = k.grid; parts = k.parts; most = most i; opening = is i; ticket = length h; words = replicate count 0; homes = (homes_are slots ∙ all_shares) i; views = views i }) in
+    let began : opened ≡ opened_as k = (λ i. opening_board k.grid k.parts (sym left i) (sym is i)) in
     let good : IsGood opened h = opening_is_good k.grid k.parts allowance h size some_part few fits legal keys solid in
     let ok : IsSeatInOrder k h v = record {
       table = λ q. (refl, refl, refl);
@@ -72,6 +75,7 @@ starts k h allowance slots is most size some_part few fits legal keys solid all_
         | inr e ↦ absurd e
       ]));
       seats = λ j u e. subst (IsSeatInOrder k h) (only v u j e) ok;
+      reached = reached_first k s h (sym is) (event ∙ began) (subst (λ (t : BoardState). IsGood t h) (sym event) good) (λ j u e. ap (λ (x : View). x.trail) (sym (only v u j e)));
     }
   where
     nowhere : Live → Option Live

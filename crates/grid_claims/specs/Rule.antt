@@ -32,6 +32,7 @@ use Rattle.grid_claims.specs.declared.view.View.{View}
 use Rattle.grid_claims.specs.declared.view.Child.{Child}
 use Rattle.grid_claims.specs.Faces.{buckets_of, opening_of, passes_in, board_of}
 use Rattle.grid_claims.specs.Trails.{in_hand, AreSteps}
+use Rattle.grid_claims.specs.Reached.{IsReached}
 
 -- what a pass that was split off and has no seat has made
 pub record IsChildInOrder (k : Key) (h : List Entry) (c : Child) : Type 0 where
@@ -54,13 +55,14 @@ pub record IsSeatInOrder (k : Key) (h : List Entry) (v : View) : Type 0 where
 
 -- The rule, with this history: seen as a board the table is good; no two live passes have one number, and each is
 -- below the number of
--- parts, so the board shows them all; and each seat is in order.
+-- parts, so the board shows them all; each seat is in order; and events led here from the board with which it began.
 pub record IsRule (k : Key) (s : State (Option BucketContent) View) (h : List Entry) : Type 0 where
   pub good : IsGood (board_of k s) h
   pub words : length s.words ≡ buckets_of k + 1
   pub apart : AreDistinct (map (λ (v : board.View). v.first) (passes_in (buckets_of k) s.views))
   pub below : All (λ (v : board.View). v.first < k.parts) (passes_in (buckets_of k) s.views)
   pub seats : (j : ℕ) (v : View) → get_elem? s.views j ≡ some v → IsSeatInOrder k h v
+  pub reached : IsReached k s h
 
 abbrev pub Rule : Key → State (Option BucketContent) View → Type 0
 Rule k s = (h : List Entry) × IsRule k s h

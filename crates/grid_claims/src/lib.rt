@@ -23,6 +23,7 @@ mod finish;
 mod gate;
 mod hands;
 mod homing;
+pub mod laws;
 mod laying;
 mod pass;
 mod plays;

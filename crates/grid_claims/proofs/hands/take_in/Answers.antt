@@ -1,7 +1,7 @@
 use Rattle.std.proofs.Common.{◌≡◌, ◌∷◌, None, Some, ℕ, slice_set, refl, sym, ◌∙◌, ap}
 use Rattle.atomic_table.specs.Table.{rest}
 use Rattle.list_laws.proofs.Cited.{one_value}
-use Rattle.cell_store.specs.Buckets.{BucketContent, at_place}
+use Rattle.cell_store.specs.Buckets.{BucketContent, at_place, bucket_at}
 use Rattle.grid_claims.specs.Plays.{claims}
 use Rattle.grid_claims.proofs.Carrying.{carries_more, first_slot}
 use Rattle.grid_claims.proofs.hands.take_in.Goals as goal
@@ -24,3 +24,6 @@ returns-clause-carries c =
     (ap (λ y. y.1) now ∙ ap (λ l. (c.args.b, None) ∷ rest l) t.2)
     (ap (λ (y : BucketContent). y.place) (sym same) ∙ t.4 ∙ ap (λ (g : ℕ). Some (g, c.args.b)) (sym c.requires.grid))
     (ap (λ h. h.places) c.put.ensures ∙ ap (λ (y : BucketContent). slice_set c.args.hold.now.places c.args.b (Some (at_place c.args.hold.now.grid c.args.b y))) c.into_bucket.ensures) c.push_reserved.ensures.items c.requires.below c.requires.absent
+
+pub claim_at-found-requires-clause-absent : goal.claim_at-found-requires-clause-absent
+claim_at-found-requires-clause-absent c = ap (λ l. bucket_at l c.args.b) c.requires.carries.places_are ∙ c.requires.absent
