@@ -1,5 +1,6 @@
 //! Gates by which threads wait for each other.
 
+use crate::telling::Told;
 use grid_claims::{Gate, Moment};
 use std::sync::atomic::{AtomicBool, AtomicU64, Ordering};
 
@@ -137,6 +138,62 @@ impl Gate for Pace {
                 self.made.fetch_add(1, Ordering::SeqCst);
             }
             Moment::Ready | Moment::Done => {}
+        }
+    }
+}
+
+/// Notes the moments that it is told of: those of pass 0, and those of another one.
+#[derive(Drop)]
+pub(crate) struct Watcher {
+    zero: AtomicU64,
+    other: AtomicU64,
+}
+
+// A note has three bits a moment, the last one lowest, and this many bits at most.
+const NOTED: u32 = 60;
+
+impl Watcher {
+    pub(crate) fn new() -> Watcher {
+        Watcher {
+            zero: AtomicU64::new(0),
+            other: AtomicU64::new(0),
+        }
+    }
+
+    // Puts down the moments of pass 0.
+    pub(crate) fn put_zero(&self, told: &mut Told) {
+        put_moments(told, self.zero.load(Ordering::SeqCst));
+    }
+
+    // Puts down those of another pass.
+    pub(crate) fn put_other(&self, told: &mut Told) {
+        put_moments(told, self.other.load(Ordering::SeqCst));
+    }
+}
+
+impl Gate for Watcher {
+    fn pass(&self, who: u32, moment: Moment) {
+        let note = if who == 0 { &self.zero } else { &self.other };
+        let code = match moment {
+            Moment::Start => 1,
+            Moment::Ready => 2,
+            Moment::Committed => 3,
+            Moment::Done => 4,
+        };
+        let noted = note.load(Ordering::SeqCst) % (1 << (NOTED - 3));
+        note.store(noted * 8 + code, Ordering::SeqCst);
+    }
+}
+
+// Puts down the moments of a note, the first one first.
+fn put_moments(told: &mut Told, noted: u64) {
+    for place in (0..NOTED / 3).rev() {
+        match (noted >> (3 * place)) % 8 {
+            1 => told.put(" Start"),
+            2 => told.put(" Ready"),
+            3 => told.put(" Committed"),
+            4 => told.put(" Done"),
+            _ => {}
         }
     }
 }

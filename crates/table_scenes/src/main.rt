@@ -4,7 +4,7 @@
 //! A scene is what is played, a number, and lists of words behind semicolons. A point is written `x,y,z`, and an edit
 //! is its tag, `+` or `-`, and its point. Orders are edits, and `look`, `shot`, and `work`, which has all edits behind
 //! it done as a list. The mesh of a scene has its points, the first four independent ones first, each with its place
-//! for a tag. A line whose first word is `#` is answered by itself. Threads wait for each other by gates, so that what
+//! for a tag. Behind the answer of an edit stand the moments of which its gate was told. A line whose first word is `#` is answered by itself. Threads wait for each other by gates, so that what
 //! is printed is the same whatever the schedule.
 //!
 //! - `board SIZE; POINTS; PARTS ALLOWANCE`: a new board, on which the lines that follow are played: `claim N B`,
@@ -24,6 +24,7 @@
 //!   the end; a bar stands for a line feed. Each end is the number of bytes that a call gives or takes at most, and
 //!   then the numbers of its calls that fail, counted from 1. What came of it is the status, what was told and written,
 //!   and of each entry that is kept the tag and the worker.
+//! - `watched ..`: the same, and then the moments of which the run told its gate, of worker 0 and of the other one.
 #![tactic(auto)]
 
 mod beside;
@@ -79,6 +80,7 @@ fn scene<R: Threads + Sync>(
     match played {
         "#" => told.put(line),
         "run" => runs::play(rt, alloc, told, rest)?,
+        "watched" => runs::watch(rt, alloc, told, rest)?,
         "deal" => dealing::play(alloc, told, size, lists)?,
         "board" => {
             *board = boards::opened(alloc, told, size, lists)?;

@@ -5,6 +5,7 @@ ghost use Rattle.edit_history.specs.Edits.{is_move};
 ghost use Rattle.edit_workers.specs.Dealing.{AreStill};
 ghost use Rattle.grid_claims.specs.Tries.{IsStill};
 
+use crate::gates::Watcher;
 use crate::reading::Word;
 use crate::telling::{Told, put_edited, put_shown};
 use edit_history::Edit;
@@ -136,7 +137,14 @@ fn follow_word(alloc: Global, told: &mut Told, table: &MeshTable, pass: &mut Pas
         "look" => write!(told, " look {};", table.look(pass)),
         "shot" => put_shown(alloc, told, &shown(alloc, table, pass)),
         _ => match <(u32, Edit)>::of(word) {
-            Some(pair) => put_edited(told, &edited(alloc, table, pass, pair, &OpenGate)),
+            Some(pair) => {
+                let watcher = Watcher::new();
+                put_edited(told, &edited(alloc, table, pass, pair, &watcher));
+                told.put(" told");
+                watcher.put_zero(told);
+                watcher.put_other(told);
+                told.put(";");
+            }
             None => told.put(" no order;"),
         },
     }

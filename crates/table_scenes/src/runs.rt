@@ -2,11 +2,12 @@
 
 ghost use Rattle.std.specs.Prelude.{◌<◌, IfSome};
 
+use crate::gates::Watcher;
 use crate::reading::{list_at, number_at};
 use crate::telling::Told;
 use byte_ends::{MemSink, MemSource};
 use delaunay_cli::{Run, run};
-use grid_claims::OpenGate;
+use grid_claims::{Gate, OpenGate};
 use std::alloc::{AllocError, Global};
 use std::thread::Threads;
 
@@ -75,7 +76,7 @@ fn put_run(told: &mut Told, run: &Run, error: &[u8], output: &[u8]) {
 }
 
 // Runs the program over ends in memory, and puts down what came of it.
-fn run_over<R: Threads + Sync>(
+fn run_over<R: Threads + Sync, G: Gate + Sync>(
     rt: &R,
     alloc: Global,
     told: &mut Told,
@@ -84,6 +85,7 @@ fn run_over<R: Threads + Sync>(
     source: (usize, &[u64]),
     output: (usize, &[u64]),
     error: (usize, &[u64]),
+    gate: &G,
 ) -> Result<(), AllocError>
     requires source { 0 < source.0 }
     requires output { 0 < output.0 }
@@ -92,20 +94,18 @@ fn run_over<R: Threads + Sync>(
     let mut src = MemSource::new(input.as_bytes(), source.0, source.1);
     let mut out = MemSink::new(alloc, ROOM, output.0, output.1)?;
     let mut err = MemSink::new(alloc, ROOM, error.0, error.1)?;
-    let run = run(rt, alloc, words, &mut src, &mut out, &mut err, &OpenGate);
+    let run = run(rt, alloc, words, &mut src, &mut out, &mut err, gate);
     put_run(told, &run, err.bytes(), out.bytes());
     Ok(())
 }
 
-/// Runs a case, and puts down what came of it.
-///
-/// # Errors
-/// Want of memory.
-pub(crate) fn play<R: Threads + Sync>(
+// Runs a case through a gate, and puts down what came of it.
+fn play_through<R: Threads + Sync, G: Gate + Sync>(
     rt: &R,
     alloc: Global,
     told: &mut Told,
     lists: &str,
+    gate: &G,
 ) -> Result<(), AllocError> {
     let source = told.all(list_at(lists, 5));
     let output = told.all(list_at(lists, 6));
@@ -120,5 +120,40 @@ pub(crate) fn play<R: Threads + Sync>(
     };
     let words = words_of(alloc, list_at(lists, 1))?;
     let input = input_of(alloc, lists)?;
-    run_over(rt, alloc, told, &words, &input, source, output, error)
+    run_over(
+        rt, alloc, told, &words, &input, source, output, error, gate,
+    )
+}
+
+/// Runs a case, and puts down what came of it.
+///
+/// # Errors
+/// Want of memory.
+pub(crate) fn play<R: Threads + Sync>(
+    rt: &R,
+    alloc: Global,
+    told: &mut Told,
+    lists: &str,
+) -> Result<(), AllocError> {
+    play_through(rt, alloc, told, lists, &OpenGate)
+}
+
+/// Runs a case with a gate that notes what it is told, and puts down what came of it, and the moments of worker 0 and of
+/// the other one.
+///
+/// # Errors
+/// Want of memory.
+pub(crate) fn watch<R: Threads + Sync>(
+    rt: &R,
+    alloc: Global,
+    told: &mut Told,
+    lists: &str,
+) -> Result<(), AllocError> {
+    let watcher = Watcher::new();
+    play_through(rt, alloc, told, lists, &watcher)?;
+    told.put("; zero");
+    watcher.put_zero(told);
+    told.put("; other");
+    watcher.put_other(told);
+    Ok(())
 }
