@@ -2,6 +2,7 @@ pub mod Boxes
 pub mod Facets
 pub mod Flaws
 pub mod Lists
+pub mod Matches
 pub mod Sides
 pub mod Sorting
 pub mod Turned

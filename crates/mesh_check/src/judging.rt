@@ -11,6 +11,7 @@ ghost use Rattle.mesh_check.specs.Laws.{IsComplex};
 use crate::cells::first_flaw;
 use crate::flaw::{Flaw, Verdict};
 use crate::gaps::open_facet;
+use crate::matching::are_as_made;
 use point_order::{Point, Quad, Tri};
 use std::alloc::{AllocError, Global};
 
@@ -21,8 +22,11 @@ fn are_empty(cells: &[Quad], hull: &[Tri]) -> bool
     cells.is_empty() && hull.is_empty()
 }
 
-/// Judges whether cells and triples are the complex of the points, by the definitions alone: the first flaw, if there
-/// is one, cell by cell and then by their facets.
+/// Judges whether cells and triples are the complex of the points: the first flaw, if there is one, cell by cell and
+/// then by their facets.
+///
+/// Where the lists equal the complex that is made of the points at once, there is none. Else each cell is tried against
+/// each point.
 ///
 /// The points are to ascend, and the cells and triples to stand in order, each once, with points of these.
 ///
@@ -44,6 +48,9 @@ pub fn check(
 {
     if are_empty(cells, hull) {
         return Ok(Verdict::Bad(Flaw::Empty));
+    }
+    if are_as_made(alloc, points, cells, hull)? {
+        return Ok(Verdict::Good);
     }
     if let Some(flaw) = first_flaw(points, cells, hull) {
         return Ok(Verdict::Bad(flaw));

@@ -1,6 +1,8 @@
-//! Whether lists of cells and triples are the complex of a set of points, by the definitions alone.
+//! Whether lists of cells and triples are the complex of a set of points.
 //!
-//! It shares nothing with the programs that make a complex: it judges what they, or others, have written.
+//! It judges what a program, this one or another, has written. A mesh without a flaw is known at once, since it equals
+//! the complex that `cloud_cells` makes of the points; in any other each cell is tried against each point. No code of
+//! the mesh by buckets takes part.
 //!
 //! ```
 //! match check(alloc, &points, &cells, &hull)? {
@@ -15,6 +17,7 @@ mod flaw;
 mod gaps;
 mod judging;
 pub mod laws;
+mod matching;
 
 pub use flaw::{Flaw, Verdict};
 pub use judging::check;

@@ -10,6 +10,11 @@ use Rattle.mesh_check.proofs.judging.check.Goals as goal
 pub returns-then-are_empty-clause-bad : goal.returns-then-are_empty-clause-bad
 returns-then-are_empty-clause-bad c flaw e = bad_says c.args.points.now (listed c.args.cells.now c.args.hull.now) Empty flaw c.requires.points c.requires.keys c.if-are_empty.ensures e
 
+pub returns-then-branch-clause-verdict : goal.returns-then-branch-clause-verdict
+returns-then-branch-clause-verdict c =
+    (good_is_complex c.args.points.now (listed c.args.cells.now c.args.hull.now) c.requires.points c.requires.keys c.requires.cells).1
+    (c.in_ok-are_as_made.ensures c.if-branch.true)
+
 pub returns-in-Some-clause-verdict : goal.returns-in-Some-clause-verdict
 returns-in-Some-clause-verdict c = by_cell c.args.points.now (listed c.args.cells.now c.args.hull.now) c.in-Some.flaw (sym c.first_flaw.ensures ∙ c.in-Some.is)
 
