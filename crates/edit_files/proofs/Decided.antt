@@ -30,11 +30,11 @@ HasNo c bs = AllByRecursion (λ b. eqb b c ≡ false) bs
 abbrev pub HasNoSpace : List ℕ → Type 0
 HasNoSpace bs = HasNo 32 bs
 
-fields_front : (x rest : List ℕ) → HasNoSpace x → fields_of (x ++ 32 ∷ rest) ≡ x ∷ fields_of rest
+pub fields_front : (x rest : List ℕ) → HasNoSpace x → fields_of (x ++ 32 ∷ rest) ≡ x ∷ fields_of rest
 fields_front [] rest h = refl
 fields_front (b ∷ bs) rest h = let e = fields_front bs rest h.1 in let f : eqb b 32 ≡ false = h.0 in rw (f, e) refl
 
-fields_last : (x : List ℕ) → HasNoSpace x → fields_of x ≡ x ∷ []
+pub fields_last : (x : List ℕ) → HasNoSpace x → fields_of x ≡ x ∷ []
 fields_last [] h = refl
 fields_last (b ∷ bs) h = let e = fields_last bs h.1 in let f : eqb b 32 ≡ false = h.0 in rw (f, e) refl
 
@@ -51,7 +51,7 @@ pub number_without : (low : ℕ) (bs : List ℕ) → low < 45 → IsNumber bs �
 number_without low [] lt h = tt
 number_without low (b ∷ bs) lt h = signed_without low (eqb b 45) b bs lt (eqb-true b 45) h.1
 
-number_no_space : (bs : List ℕ) → IsNumber bs → HasNoSpace bs
+pub number_no_space : (bs : List ℕ) → IsNumber bs → HasNoSpace bs
 number_no_space bs h = number_without 32 bs (omega arith) h
 
 three_fields : (x y z : List ℕ) → IsNumber x → IsNumber y → IsNumber z → fields_of (spaced x y z) ≡ x ∷ y ∷ z ∷ []

@@ -21,7 +21,7 @@ some_first false b [] = (b ∷ [], [], refl)
 some_first false b (f ∷ fs) = (b ∷ f, fs, refl)
 
 -- a line has a field
-some_field : (line : List ℕ) → (f : List ℕ) × (fs : List (List ℕ)) × (fields_of line ≡ f ∷ fs)
+pub some_field : (line : List ℕ) → (f : List ℕ) × (fs : List (List ℕ)) × (fields_of line ≡ f ∷ fs)
 some_field [] = ([], [], refl)
 some_field (b ∷ bs) = some_first (eqb b 32) b (fields_of bs)
 

@@ -11,11 +11,11 @@ use Rattle.edit_files.specs.Grammar.{AreFileLines, IsFile}
 use Rattle.edit_files.specs.Faults.{AreFirstLines}
 use Rattle.edit_files.proofs.Decided.{HasNo, number_without}
 
-without_append : (c : ℕ) (a b : List ℕ) → HasNo c a → HasNo c b → HasNo c (a ++ b)
+pub without_append : (c : ℕ) (a b : List ℕ) → HasNo c a → HasNo c b → HasNo c (a ++ b)
 without_append c [] b p q = q
 without_append c (x ∷ a) b p q = (p.0, without_append c a b p.1 q)
 
-line_first : (line rest : List ℕ) → HasNo 10 line → lines_of (line ++ 10 ∷ rest) ≡ line ∷ lines_of rest
+pub line_first : (line rest : List ℕ) → HasNo 10 line → lines_of (line ++ 10 ∷ rest) ≡ line ∷ lines_of rest
 line_first [] rest h = refl
 line_first (b ∷ bs) rest h = let e = line_first bs rest h.1 in let f : eqb b 10 ≡ false = h.0 in rw (f, e) refl
 

@@ -25,7 +25,7 @@ pub no_minus : (ds : List ℕ) → IsNumeral 10 ds → starts_with_minus ds ≡ 
 no_minus [] h = absurd (omega (arith, h.0))
 no_minus (c ∷ cs) h = let w = digit_from_value c h.1.0 in ne_eqb c 45 (λ e. absurd (omega (arith, w.0)))
 
-decimal_is : (n : ℕ) → n < 2 ^ 64 → IsNumberOf (decimal n) n
+pub decimal_is : (n : ℕ) → n < 2 ^ 64 → IsNumberOf (decimal n) n
 decimal_is n lt =
     let d = decimal_is_IsNumeral n lt in
     let plain : starts_with_minus (decimal n) ≡ false = no_minus (decimal n) d.0 in
@@ -36,7 +36,7 @@ decimal_is n lt =
       minus = λ t. absurd (both_ways _ plain t);
     }
 
-point_line : (p : ℕ) → IsKey p → IsPointLine (point_text p) p
+pub point_line : (p : ℕ) → IsKey p → IsPointLine (point_text p) p
 point_line p key =
     let below = coordinate_below p in
     record {

@@ -10,6 +10,7 @@
 //!     Err(ReadRefused::Memory) => ..,
 //! }
 //! let text = file_text(alloc, &generate(alloc, 2000, 7)?)?;
+//! let (line, rest) = first_line(&text)?;       // for readers of other texts: lines, fields, numbers and points
 //! ```
 #![tactic(auto)]
 
@@ -25,5 +26,7 @@ mod writing;
 pub use fault::{Fault, ReadRefused, Why};
 pub use file::{File, Lines};
 pub use generator::generate;
+pub use line::point_of;
 pub use reader::{LINE_LIMIT, RADIUS_LIMIT, read_file};
+pub use scan::{first_field, first_line, number_of};
 pub use writing::file_text;

@@ -29,7 +29,10 @@ fn three_of(line: &[u8]) -> Option<(u64, u64, u64)>
     Some((x, y, z))
 }
 
-// The point of a point line.
+/// The point of a point line: three numbers with one space between them, each 0 to 16383.
+///
+/// # Errors
+/// `Field` where it is not of that form, else `Range` where a number is out of its range.
 pub fn point_of(line: &[u8]) -> Result<Point, Why>
     ensures { result ≡ point line.now }
 {

@@ -37,7 +37,7 @@ fn place_of(bytes: &[u8], wanted: u8) -> Option<usize>
     None
 }
 
-// The first line, without its line feed, and what follows it; none where no byte is left.
+/// The first line, without its line feed, and what follows it; none where no byte is left.
 pub fn first_line(bytes: &[u8]) -> Option<(&[u8], &[u8])>
     ensures lines { MatchOption result (lines_of bytes.now ≡ [])
         (λ x. lines_of bytes.now ≡ x.0.now ∷ lines_of x.1.now) }
@@ -52,7 +52,7 @@ pub fn first_line(bytes: &[u8]) -> Option<(&[u8], &[u8])>
     }
 }
 
-// The first field of a line, up to its first space, and what follows the space.
+/// The first field of a line, up to its first space, and what follows the space.
 pub fn first_field(line: &[u8]) -> (&[u8], Option<&[u8]>)
     ensures { MatchOption result.1 (fields_of line.now ≡ result.0.now ∷ [])
         (λ rest. fields_of line.now ≡ result.0.now ∷ fields_of rest.now) }
@@ -93,7 +93,8 @@ fn sign_of(text: &[u8]) -> (bool, &[u8])
     }
 }
 
-// The value of a number, or `FAR` where it is more, or below 0.
+/// The value of a number: an optional `-` and one or more digits, leading zeros among them. A value above 2^40, or
+/// below 0, is given as 2^40. None where the text is no number.
 pub fn number_of(text: &[u8]) -> Option<u64>
     ensures value { result ≡ number text.now }
     ensures bound { IfSome result (λ n. n ≤ far) }

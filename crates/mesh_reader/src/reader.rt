@@ -1,0 +1,283 @@
+//! Reading the text of a mesh, line by line.
+
+ghost use Rattle.std.specs.Prelude.{◌≡◌, IfOk, Err, nat_lt};
+ghost use Rattle.std.specs.Prelude.{if◌then◌else◌};
+ghost use Rattle.std.specs.Str.{bytes_eq};
+ghost use Rattle.edit_files.specs.declared.fault.Fault.{Fault};
+ghost use Rattle.edit_files.specs.declared.fault.Why.TheVariants.{Section};
+ghost use Rattle.edit_files.specs.declared.fault.ReadRefused.TheVariants.{Bad};
+ghost use Rattle.mesh_reader.specs.declared.place.Part.TheVariants as lists;
+ghost use Rattle.mesh_reader.specs.Grammar.{IsMeshText, at_title, parts};
+ghost use Rattle.mesh_reader.specs.Faults.{IsMeshFault};
+ghost use Rattle.mesh_reader.specs.Order.{IsInOrder};
+ghost use Rattle.mesh_reader.specs.Judging.{
+  Gives,
+  Steps,
+  announced as announced_by,
+  ended,
+  headed,
+  is_after,
+  is_less,
+  judge as judge_from,
+  move,
+  reached,
+  refused_at,
+  step,
+  taken,
+};
+ghost use Rattle.edit_files.specs.Lines.{lines_of};
+
+use crate::line::{announced, quad_of, reads, reply_of, tri_of};
+use crate::mesh_file::MeshFile;
+use crate::place::{Due, Part, limit_of, lines_due};
+use edit_files::{Fault, ReadRefused, Why, first_line, point_of};
+use point_order::{Cell, Point, Quad, Tri};
+use std::alloc::{AllocFailed, Global};
+use std::cmp::Ordering;
+
+// Why a line was not taken.
+#[derive(Clone, Copy)]
+enum LineRefused {
+    Bad(Why),
+    Memory,
+}
+
+impl LineRefused {
+    // Why the text was not read, where this line has that number.
+    fn of_line(self, line: u64) -> ReadRefused
+        ensures { result ≡ refused_at line self }
+    {
+        match self {
+            LineRefused::Bad(why) => ReadRefused::Bad(Fault { line, why }),
+            LineRefused::Memory => ReadRefused::Memory,
+        }
+    }
+}
+
+impl From<Why> for LineRefused {
+    ghost use Rattle.mesh_reader.specs.declared.reader.LineRefused.TheVariants as line_refusals;
+
+    ghost from_gives = { λ why e. e ≡ line_refusals.Bad why };
+
+    fn from(why: Why) -> LineRefused {
+        LineRefused::Bad(why)
+    }
+}
+
+impl<T: Drop> From<AllocFailed<T>> for LineRefused {
+    ghost use Rattle.mesh_reader.specs.declared.reader.LineRefused.TheVariants as line_refusals;
+
+    ghost from_gives = { λ _ e. e ≡ line_refusals.Memory };
+
+    fn from(_e: AllocFailed<T>) -> LineRefused {
+        LineRefused::Memory
+    }
+}
+
+// A reader: what is due, and what it took so far.
+#[derive(Drop)]
+struct Reader {
+    due: Due,
+    file: MeshFile,
+}
+
+// Whether the last of the points is before p.
+fn is_after_points(points: &[Point], p: Point) -> bool
+    ensures { result ≡ is_after nat_lt points.now p }
+{
+    match points.split_last() {
+        Some((last, _)) => *last < p,
+        None => true,
+    }
+}
+
+// Whether the last of the cells is before this one.
+fn is_after_cells(cells: &[Quad], quad: Quad) -> bool
+    ensures { result ≡ is_after is_less cells.now quad }
+{
+    match cells.split_last() {
+        Some((last, _)) => match Cell::Full(*last).compare(&Cell::Full(quad)) {
+            Ordering::Less => true,
+            _ => false,
+        },
+        None => true,
+    }
+}
+
+// Whether the last of the triples is before this one.
+fn is_after_triples(triples: &[Tri], tri: Tri) -> bool
+    ensures { result ≡ is_after is_less triples.now tri }
+{
+    match triples.split_last() {
+        Some((last, _)) => match Cell::Open(*last).compare(&Cell::Open(tri)) {
+            Ordering::Less => true,
+            _ => false,
+        },
+        None => true,
+    }
+}
+
+impl MeshFile {
+    // Takes a reply.
+    fn take_reply(&mut self, line: &[u8]) -> Result<(), LineRefused>
+        ensures { Steps result (parts self.new) (taken lists.Replies (parts self.old) line.now) }
+    {
+        self.replies.push(reply_of(line)?)?;
+        Ok(())
+    }
+
+    // Takes a point.
+    fn take_point(&mut self, line: &[u8]) -> Result<(), LineRefused>
+        ensures { Steps result (parts self.new) (taken lists.Points (parts self.old) line.now) }
+    {
+        let point = point_of(line)?;
+        if !is_after_points(&self.points, point) {
+            return Err(LineRefused::Bad(Why::Range));
+        }
+        self.points.push(point)?;
+        Ok(())
+    }
+
+    // Takes a cell.
+    fn take_cell(&mut self, line: &[u8]) -> Result<(), LineRefused>
+        ensures { Steps result (parts self.new) (taken lists.Cells (parts self.old) line.now) }
+    {
+        let quad = quad_of(&self.points, line)?;
+        if !is_after_cells(&self.cells, quad) {
+            return Err(LineRefused::Bad(Why::Range));
+        }
+        self.cells.push(quad)?;
+        Ok(())
+    }
+
+    // Takes a triple.
+    fn take_triple(&mut self, line: &[u8]) -> Result<(), LineRefused>
+        ensures { Steps result (parts self.new) (taken lists.Hull (parts self.old) line.now) }
+    {
+        let tri = tri_of(&self.points, line)?;
+        if !is_after_triples(&self.hull, tri) {
+            return Err(LineRefused::Bad(Why::Range));
+        }
+        self.hull.push(tri)?;
+        Ok(())
+    }
+
+    // Takes a line of a list.
+    fn take(&mut self, part: Part, line: &[u8]) -> Result<(), LineRefused>
+        ensures { Steps result (parts self.new) (taken part (parts self.old) line.now) }
+    {
+        match part {
+            Part::Replies => self.take_reply(line),
+            Part::Points => self.take_point(line),
+            Part::Cells => self.take_cell(line),
+            Part::Hull => self.take_triple(line),
+        }
+    }
+}
+
+impl Reader {
+    fn new(alloc: Global) -> Reader
+        ensures { reached result ≡ at_title }
+    {
+        let file = MeshFile {
+            replies: Vec::new(alloc),
+            points: Vec::new(alloc),
+            cells: Vec::new(alloc),
+            hull: Vec::new(alloc),
+        };
+        Reader {
+            due: Due::Title,
+            file,
+        }
+    }
+
+    // Takes the line that follows.
+    fn take_line(&mut self, line: &[u8]) -> Result<(), LineRefused>
+        ensures { Steps result (reached self.new) (step (reached self.old) line.now) }
+    {
+        match self.due {
+            Due::Title => self.take_word(line, b"mesh3-out 1", Due::Head(Part::Replies)),
+            Due::Head(part) => self.take_head(part, line),
+            Due::Body(part, more) => {
+                self.file.take(part, line)?;
+                self.due = lines_due(part, more);
+                Ok(())
+            }
+            Due::Last => self.take_word(line, b"end", Due::Nothing),
+            Due::Nothing => Err(LineRefused::Bad(Why::Section)),
+        }
+    }
+
+    // Takes a line that is to be this word, and goes on to what is due then.
+    fn take_word(&mut self, line: &[u8], word: &[u8], next: Due) -> Result<(), LineRefused>
+        ensures { Steps result (reached self.new)
+            (if bytes_eq line.now word.now then move next (parts self.old.file) else Err Section) }
+    {
+        if !reads(line, word) {
+            return Err(LineRefused::Bad(Why::Section));
+        }
+        self.due = next;
+        Ok(())
+    }
+
+    // Takes the head of a list.
+    fn take_head(&mut self, part: Part, line: &[u8]) -> Result<(), LineRefused>
+        ensures { Steps result (reached self.new)
+            (headed part (parts self.old.file) (announced_by part line.now)) }
+    {
+        let Some(count) = announced(part, line) else {
+            return Err(LineRefused::Bad(Why::Section));
+        };
+        if count > limit_of(part) {
+            return Err(LineRefused::Bad(Why::TooMany));
+        }
+        self.due = lines_due(part, count);
+        Ok(())
+    }
+
+    // The mesh, where its end was read; `line` is the number of the line that would follow.
+    fn finish(self, line: u64) -> Result<MeshFile, ReadRefused>
+        ensures { Gives parts result (ended line self.due (parts self.file)) }
+    {
+        match self.due {
+            Due::Nothing => Ok(self.file),
+            _ => Err(ReadRefused::Bad(Fault {
+                line,
+                why: Why::Truncated,
+            })),
+        }
+    }
+}
+
+// Judges a text line by line.
+fn judge(alloc: Global, bytes: &[u8]) -> Result<MeshFile, ReadRefused>
+    ensures { Gives parts result (judge_from 1 at_title (lines_of bytes.now)) }
+{
+    let mut reader = Reader::new(alloc);
+    let mut number = 1;
+    let mut rest = bytes;
+    while let Some((line, after)) = first_line(rest) {
+        match reader.take_line(line) {
+            Ok(()) => {}
+            Err(refused) => return Err(refused.of_line(number)),
+        }
+        number += 1;
+        rest = after;
+    }
+    reader.finish(number)
+}
+
+/// The mesh that a text is of: that of a report without shapes and without an order block. Its points ascend, and its
+/// cells and triples stand in order, each once, with points of these (`order`), as the check of a mesh asks for.
+///
+/// It takes memory in proportion to what the text names.
+///
+/// # Errors
+/// Where it is of none, its one fault; and where there is no memory for what it names, that.
+pub fn read_mesh(alloc: Global, bytes: &[u8]) -> Result<MeshFile, ReadRefused>
+    ensures accepted { IfOk result (λ mesh. IsMeshText bytes.now (parts mesh)) }
+    ensures order { IfOk result (λ mesh. IsInOrder (parts mesh)) }
+    ensures fault { (fault : Fault) → result ≡ Err (Bad fault) → IsMeshFault bytes.now fault }
+{
+    judge(alloc, bytes)
+}
