@@ -27,8 +27,8 @@ use rayon::prelude::*;
 use std::alloc::{AllocError, Global};
 use std::thread::Threads;
 
-// Before a face has its numbers.
-const NONE: FaceAlphas = FaceAlphas {
+/// Before a face has its numbers.
+pub const NONE: FaceAlphas = FaceAlphas {
     admitted: 0,
     regular: 0,
     interior: 0,
@@ -73,8 +73,8 @@ pub fn own_of_cells<R: Threads + Sync>(
     Ok(leasts)
 }
 
-// The least alpha at which a triple is itself Gabriel and within alpha.
-fn own_of_triple(faces: &Faces, index: usize) -> u64
+/// The least alpha at which a triple is itself Gabriel and within alpha.
+pub fn own_of_triple(faces: &Faces, index: usize) -> u64
     requires { index < length faces.now.triples }
     ensures { IsLeastOf (λ alpha. is_small_by alpha (face_at faces.now.triples index)) result }
 {
@@ -150,8 +150,8 @@ fn alphas_of_pair(own: &OwnAlphas, index: usize) -> FaceAlphas
     }
 }
 
-// How many faces of a kind there are.
-fn count_of(faces: &Faces, part: Part) -> usize
+/// How many faces of a kind there are.
+pub fn count_of(faces: &Faces, part: Part) -> usize
     ensures { result ≡ face_count part faces.now }
 {
     match part {
@@ -161,8 +161,8 @@ fn count_of(faces: &Faces, part: Part) -> usize
     }
 }
 
-// The numbers of the face of a kind and an index.
-fn alphas_of_face(own: &OwnAlphas, part: Part, index: usize) -> FaceAlphas
+/// The numbers of the face of a kind and an index.
+pub fn alphas_of_face(own: &OwnAlphas, part: Part, index: usize) -> FaceAlphas
     requires own { AreOwn own.now }
     requires index { index < face_count part own.now.faces.now }
     ensures { AreAlphasAt part own.now.faces.now index result }

@@ -9,6 +9,7 @@
 //! let faces = faces(rt, alloc, &cells)?;       // of the sorted cells of a complex
 //! let shape = alpha(rt, alloc, &faces, 300)?;  // for one squared radius in sixteenths, below 2^34
 //! let known = alphas(rt, alloc, &faces)?;      // for several: the least alphas of all faces, made once
+//! // `alphas_alone(alloc, &faces)` and `alpha_alone` give the same without threads, over `face_list::few_faces`
 //! for radius in [100, 200, 300] {
 //!     let shape = known.shape(alloc, radius)?;
 //!     println!(rt; "{radius}: {} edges, {} cells", shape.pair_count(), shape.cell_count())?;
@@ -27,6 +28,7 @@ ghost use Rattle.alpha_complex.specs.Leasts.{AreKnown};
 ghost use Rattle.alpha_complex.specs.Shapes.{shape_of, shape_seen};
 ghost use Rattle.alpha_complex.specs.Told.{TellsFaces};
 
+mod alone;
 mod covers;
 mod kinds;
 pub mod laws;
@@ -79,6 +81,36 @@ pub fn alphas<'a, 'b, R: Threads + Sync>(
     })
 }
 
+/// What `alphas` gives, made by the thread that calls.
+///
+/// # Errors
+/// Want of memory.
+pub fn alphas_alone<'a, 'b>(
+    alloc: Global,
+    faces: &'a Faces<'b>,
+) -> Result<Alphas<'a, 'b>, AllocError>
+    requires { AreFaces faces.now }
+    ensures faces { IfOk result (λ known. known.faces.now ≡ faces.now) }
+    ensures known { IfOk result (λ known. AreKnown known) }
+    ensures told { IfOk result (λ known. (s : List ℕ) → AreFacesOf s faces.now → TellsFaces s known) }
+{
+    let cells = alone::own_of_cells(alloc, faces.cells())?;
+    let own_triples = alone::own_of_triples(alloc, faces)?;
+    let own = OwnAlphas {
+        faces,
+        cells: &cells,
+        triples: &own_triples,
+    };
+    let (points, pairs, triples) = alone::alphas_of_all(alloc, &own)?;
+    Ok(Alphas {
+        faces,
+        points,
+        pairs,
+        triples,
+        cells,
+    })
+}
+
 /// The alpha complex for one alpha, a squared radius in sixteenths, below 2^34: all points, and the admitted pairs,
 /// triples and Full cells, each list in order, and each point, pair and triple with its kind. It borrows the faces.
 ///
@@ -107,5 +139,29 @@ pub fn alpha<'a, 'b, R: Threads + Sync>(
         ≡ (shape_of s alpha).cells) }
 {
     let known = alphas(rt, alloc, faces)?;
+    known.shape(alloc, alpha)
+}
+
+/// What `alpha` gives, made by the thread that calls.
+///
+/// # Errors
+/// Want of memory.
+pub fn alpha_alone<'a, 'b>(
+    alloc: Global,
+    faces: &'a Faces<'b>,
+    alpha: u64,
+) -> Result<Shape<'a, 'b>, AllocError>
+    requires faces { AreFaces faces.now }
+    requires alpha { alpha < 2 ^ 34 }
+    ensures points { IfOk result (λ shape. (s : List ℕ) → AreFacesOf s faces.now → (shape_seen shape).points
+        ≡ (shape_of s alpha).points) }
+    ensures pairs { IfOk result (λ shape. (s : List ℕ) → AreFacesOf s faces.now → (shape_seen shape).pairs
+        ≡ (shape_of s alpha).pairs) }
+    ensures triples { IfOk result (λ shape. (s : List ℕ) → AreFacesOf s faces.now → (shape_seen shape).triples
+        ≡ (shape_of s alpha).triples) }
+    ensures cells { IfOk result (λ shape. (s : List ℕ) → AreFacesOf s faces.now → (shape_seen shape).cells
+        ≡ (shape_of s alpha).cells) }
+{
+    let known = alphas_alone(alloc, faces)?;
     known.shape(alloc, alpha)
 }

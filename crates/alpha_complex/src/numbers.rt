@@ -12,6 +12,7 @@ use std::alloc::{AllocError, Global};
 
 /// The least alphas at which a face is admitted, and some and all of the cells that contain it are. A number of 2^34
 /// or more is no alpha.
+#[repr(C)]
 #[derive(Clone, Copy, Debug, PartialEq, Eq)]
 pub struct FaceAlphas {
     /// The face itself.

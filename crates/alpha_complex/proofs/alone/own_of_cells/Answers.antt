@@ -1,0 +1,15 @@
+use Rattle.std.proofs.Common.{[], subst}
+use Rattle.point_order.specs.declared.cell.Cell.TheVariants.{Full}
+use Rattle.face_list.specs.Tables.{cell_at}
+use Rattle.alpha_complex.specs.Judged.{is_small_cell}
+use Rattle.alpha_complex.specs.Leasts.{IsLeastOf}
+use Rattle.alpha_complex.proofs.Leasts.{zip_written}
+use Rattle.alpha_complex.proofs.alone.own_of_cells.Goals as goal
+
+pub returns : goal.returns
+returns c =
+    let cells = c.args.cells.now in
+    zip_written (λ x n. IsLeastOf (λ a. is_small_cell a x) n) (Full []) 0 cells _ _ _ _
+    c.deref_mut.ensures.value c.deref_mut.ensures.len c.in_ok-leasts.ensures.len c.each_in_turn.auto.s (λ i l.
+    let at = (c.each_in_turn.ensures i 0 l).1 in
+    subst (IsLeastOf (λ a. is_small_cell a (cell_at cells i))) at.left at.call)
