@@ -8,29 +8,29 @@ use Rattle.list_laws.proofs.Cited.{among_from, each_more, each_none, each_taken}
 use Rattle.point_order.specs.Sets.{is_among}
 use Rattle.cell_stars.specs.Moves.{AreMarked}
 
-pub marked_none : (marks : List Bool) (list : List ℕ) → length marks ≡ 4096 → AreMarked marks (take 0 list)
-marked_none marks list e = record { count = e; each = each_none (λ i. slice_index_or marks (i % 4096) false ≡ true) list }
+pub marked_none : (marks : List Bool) (list : List ℕ) → length marks ≡ 512 → AreMarked marks (take 0 list)
+marked_none marks list e = record { count = e; each = each_none (λ i. slice_index_or marks (i % 512) false ≡ true) list }
 
-pub marked_more : (marks : List Bool) (list : List ℕ) (n x : ℕ) → n < length list → x ≡ slice_index_or list n 0 → AreMarked marks (take n list) → AreMarked (slice_set marks (x % 4096) true) (take (n + 1) list)
+pub marked_more : (marks : List Bool) (list : List ℕ) (n x : ℕ) → n < length list → x ≡ slice_index_or list n 0 → AreMarked marks (take n list) → AreMarked (slice_set marks (x % 512) true) (take (n + 1) list)
 marked_more marks list n x h e m = record {
-  count = length-set marks (x % 4096) true ∙ m.count;
-  each = each_more (λ i. slice_index_or (slice_set marks (x % 4096) true) (i % 4096) false ≡ true) list n x 0 h e (λ y k. kept y (m.each y k)) here;
+  count = length-set marks (x % 512) true ∙ m.count;
+  each = each_more (λ i. slice_index_or (slice_set marks (x % 512) true) (i % 512) false ≡ true) list n x 0 h e (λ y k. kept y (m.each y k)) here;
 }
   where
-    here : slice_index_or (slice_set marks (x % 4096) true) (x % 4096) false ≡ true
-    here = get_or-set_same marks (x % 4096) true false (let c = m.count in omega (arith, c))
+    here : slice_index_or (slice_set marks (x % 512) true) (x % 512) false ≡ true
+    here = get_or-set_same marks (x % 512) true false (let c = m.count in omega (arith, c))
 
-    kept : (y : ℕ) → slice_index_or marks (y % 4096) false ≡ true → slice_index_or (slice_set marks (x % 4096) true) (y % 4096) false ≡ true
-    kept y k = elim (cases_eq (y % 4096) (x % 4096)) [
-      | inl w ↦ ap (λ i. slice_index_or (slice_set marks (x % 4096) true) i false) w ∙ here
-      | inr w ↦ get_or-set_other marks (x % 4096) (y % 4096) true false w ∙ k
+    kept : (y : ℕ) → slice_index_or marks (y % 512) false ≡ true → slice_index_or (slice_set marks (x % 512) true) (y % 512) false ≡ true
+    kept y k = elim (cases_eq (y % 512) (x % 512)) [
+      | inl w ↦ ap (λ i. slice_index_or (slice_set marks (x % 512) true) i false) w ∙ here
+      | inr w ↦ get_or-set_other marks (x % 512) (y % 512) true false w ∙ k
     ]
 
 pub marked_all : (marks : List Bool) (list : List ℕ) (n : ℕ) → length list ≤ n → AreMarked marks (take n list) → AreMarked marks list
-marked_all marks list n h m = record { count = m.count; each = each_taken (λ i. slice_index_or marks (i % 4096) false ≡ true) list n h m.each }
+marked_all marks list n h m = record { count = m.count; each = each_taken (λ i. slice_index_or marks (i % 512) false ≡ true) list n h m.each }
 
 -- a number without a mark is not in the list
-pub not_marked : (marks : List Bool) (list : List ℕ) (i : ℕ) → AreMarked marks list → slice_index_or marks (i % 4096) false ≡ false → false ≡ is_among i list
+pub not_marked : (marks : List Bool) (list : List ℕ) (i : ℕ) → AreMarked marks list → slice_index_or marks (i % 512) false ≡ false → false ≡ is_among i list
 not_marked marks list i m e = by (is_among i list) refl
   where
     by : (t : Bool) → is_among i list ≡ t → false ≡ t

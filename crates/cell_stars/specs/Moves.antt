@@ -138,5 +138,5 @@ pub record HasSameStars (old new : List (ℕ × List ℕ)) : Type 0 where
 
 -- each number of the list has its mark
 pub record AreMarked (marks : List Bool) (list : List ℕ) : Type 0 where
-  pub count : length marks ≡ 4096
-  pub each : (i : ℕ) → IsIn i list → slice_index_or marks (i % 4096) false ≡ true
+  pub count : length marks ≡ 512
+  pub each : (i : ℕ) → IsIn i list → slice_index_or marks (i % 512) false ≡ true

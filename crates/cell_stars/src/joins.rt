@@ -102,9 +102,9 @@ impl Joins {
         match beside {
             Beside::Nothing => Ok(NONE),
             Beside::Fresh(other) => Ok(number_at(places, other)),
-            Beside::Behind(cell, side) => {
-                let freed = number_at(gone, cell);
-                let outside = links.across(freed, side);
+            Beside::Behind(behind) => {
+                let freed = number_at(gone, behind.cell);
+                let outside = links.across(freed, behind.side);
                 self.add_rim(links, freed, outside, place)?;
                 Ok(outside)
             }

@@ -22,37 +22,9 @@ pub(crate) struct Links {
     list: Vec<Around4>,
 }
 
-// A number for the point that depends on all of its bits.
+// A number of 32 bits for the point that depends on all of its bits.
 pub(crate) fn hash_of(p: Point) -> u64 {
-    let x = p.key().wrapping_mul(0x9E37_79B9_7F4A_7C15);
-    (x ^ (x >> 29)).wrapping_mul(0xBF58_476D_1CE4_E5B9)
-}
-
-// The numbers of a cell's points, 0 for infinity.
-fn point_hashes(cell: &Cell) -> [u64; 4] {
-    match cell {
-        Cell::Full(quad) => {
-            let (a, b, c, d) = quad.corners();
-            [hash_of(a), hash_of(b), hash_of(c), hash_of(d)]
-        }
-        Cell::Open(tri) => {
-            let (a, b, c) = tri.corners();
-            [hash_of(a), hash_of(b), hash_of(c), 0]
-        }
-    }
-}
-
-/// Numbers for the facets of the cell, in their order. A facet has the same number in both of its cells.
-pub(crate) fn facet_hashes(cell: &Cell) -> [u64; 4] {
-    let [a, b, c, d] = point_hashes(cell);
-    let first = a.wrapping_add(b);
-    let last = c.wrapping_add(d);
-    [
-        last.wrapping_add(b),
-        last.wrapping_add(a),
-        first.wrapping_add(d),
-        first.wrapping_add(c),
-    ]
+    p.key().wrapping_mul(0x9E37_79B9_7F4A_7C15) >> 32
 }
 
 /// Which facet of the cell this one is, if it is one, counted from 0.

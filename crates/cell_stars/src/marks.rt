@@ -6,16 +6,16 @@ ghost use Rattle.cell_stars.specs.Moves.{AreMarked};
 
 use crate::moves::has_number;
 
-// The marks of numbers, each at the rest of a division by 4096.
-pub(crate) type Marks = [bool; 4096];
+// The marks of numbers, each at the rest of a division by 512.
+pub(crate) type Marks = [bool; 512];
 
 // The marks of the numbers of a list.
 pub(crate) fn marks_of(list: &[u32]) -> Marks
     ensures { AreMarked result list.now }
 {
-    let mut marks = [false; 4096];
+    let mut marks = [false; 512];
     for i in list {
-        marks[(*i % 4096) as usize] = true;
+        marks[(*i % 512) as usize] = true;
     }
     marks
 }
@@ -26,7 +26,7 @@ pub(crate) fn has_marked(list: &[u32], marks: &Marks, i: u32) -> bool
     requires marks { AreMarked marks.now list.now }
     ensures { result ≡ is_among i list.now }
 {
-    if !marks[(i % 4096) as usize] {
+    if !marks[(i % 512) as usize] {
         return false;
     }
     has_number(list, i)

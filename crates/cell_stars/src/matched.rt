@@ -1,8 +1,8 @@
-//! Which cells lie across the facets of the cells that come, found once for an exchange. It is only a hint, and no
-//! clause speaks of it.
+//! Which cells lie across the facets of the cells that go and come, found once for an exchange. It is only a hint,
+//! and no clause speaks of it.
 
-use crate::links::facet_hashes;
-use point_order::Cell;
+use crate::links::{NONE, hash_of};
+use point_order::{Cell, Point};
 use std::alloc::{AllocError, Global};
 use std::fmt::{self, Debug, Formatter};
 
@@ -14,13 +14,22 @@ pub(crate) enum Beside {
     /// Another cell that comes, by where it stands in their list.
     Fresh(usize),
     /// What lay across this side of a cell that goes, by where it stands in their list.
-    Behind(usize, usize),
+    Behind(Side),
 }
 
-/// For each cell that comes in an exchange, what lies across its facets, in their order.
+/// A side of a cell that goes, by where the cell stands in their list.
+#[derive(Clone, Copy)]
+pub(crate) struct Side {
+    pub(crate) cell: usize,
+    pub(crate) side: usize,
+}
+
+/// For each cell that comes in an exchange, what lies across its facets, in their order. For each that goes, the sides
+/// of cells before it that it lies across.
 #[derive(Drop)]
 pub struct Matched {
     pub(crate) sides: Vec<[Beside; 4]>,
+    pub(crate) before: Vec<[Option<Side>; 4]>,
 }
 
 impl Debug for Matched {
@@ -29,32 +38,128 @@ impl Debug for Matched {
     }
 }
 
-// A facet by its number, and the cell, by where it comes in the list of those put, and the side on which it was met.
-#[derive(Clone, Copy)]
-struct Met {
-    hash: u64,
-    cell: usize,
-    side: usize,
+// Something is looked for in so many entries of a table from its first one on.
+const TURNS: usize = 12;
+
+// The entry of a table of so many with which a search begins.
+fn first_entry(hash: u64, count: usize) -> usize {
+    ((hash & 0xFFFF_FFFF).wrapping_mul(count as u64) >> 32) as usize
 }
 
-// In place of a cell.
-const NO_CELL: usize = usize::MAX;
+// The vertices of an exchange by numbers. One that finds no entry in its turns gets more than one.
+#[derive(Drop)]
+struct Numbers {
+    count: usize,
+    table: Vec<u32>,
+    vertices: Vec<Point>,
+}
+
+impl Numbers {
+    // None, with a table for the vertices of so many cells.
+    fn new(alloc: Global, cells: usize) -> Result<Numbers, AllocError> {
+        let count = cells.saturating_mul(2).saturating_add(TURNS);
+        let mut table = Vec::new(alloc);
+        table.resize(count.saturating_add(TURNS), NONE)?;
+        Ok(Numbers {
+            count,
+            table,
+            vertices: Vec::with_capacity(alloc, cells)?,
+        })
+    }
+
+    // The number at an entry, none where it is free.
+    fn entry(&self, at: usize) -> u32 {
+        match self.table.get(at) {
+            Some(number) => *number,
+            None => NONE,
+        }
+    }
+
+    // Whether it is the number of the vertex.
+    fn is_at(&self, number: u32, p: Point) -> bool {
+        match self.vertices.get(number as usize) {
+            Some(vertex) => *vertex == p,
+            None => false,
+        }
+    }
+
+    // Adds the vertex, at an entry if there is one.
+    fn add(&mut self, at: usize, p: Point) -> Result<u32, AllocError> {
+        let number = u32::try_from(self.vertices.len()).unwrap_or(NONE);
+        if let Some(entry) = self.table.get_mut(at) {
+            *entry = number;
+        }
+        self.vertices.push(p)?;
+        Ok(number)
+    }
+
+    // The number of the vertex, which is a new one where it was not found.
+    fn number(&mut self, p: Point) -> Result<u32, AllocError> {
+        let first = first_entry(hash_of(p), self.count);
+        for turn in 0..TURNS {
+            let at = first.saturating_add(turn);
+            let number = self.entry(at);
+            if number == NONE {
+                return self.add(at, p);
+            }
+            if self.is_at(number, p) {
+                return Ok(number);
+            }
+        }
+        let end = self.table.len();
+        self.add(end, p)
+    }
+
+    // Numbers for the facets of the cell, in their order. A facet has the same number in both of its cells.
+    fn facets(&mut self, cell: &Cell) -> Result<[u64; 4], AllocError> {
+        let [a, b, c, d] = match cell {
+            Cell::Full(quad) => {
+                let (a, b, c, d) = quad.corners();
+                [
+                    self.number(a)?,
+                    self.number(b)?,
+                    self.number(c)?,
+                    self.number(d)?,
+                ]
+            }
+            Cell::Open(tri) => {
+                let (a, b, c) = tri.corners();
+                [self.number(a)?, self.number(b)?, self.number(c)?, NONE]
+            }
+        };
+        Ok([
+            facet_number(b, c, d),
+            facet_number(a, c, d),
+            facet_number(a, b, d),
+            facet_number(a, b, c),
+        ])
+    }
+}
+
+// A number for the facet with these vertices.
+fn facet_number(a: u32, b: u32, c: u32) -> u64 {
+    (u64::from(a) << 42) ^ (u64::from(b) << 21) ^ u64::from(c)
+}
+
+// A facet by its number, and the cell by which it was met, with its side: one that goes or one that comes.
+#[derive(Clone, Copy)]
+struct Met {
+    facet: u64,
+    cell: u32,
+    side: u8,
+    goes: bool,
+}
 
 // In place of a facet.
 const EMPTY: Met = Met {
-    hash: 0,
-    cell: NO_CELL,
+    facet: u64::MAX,
+    cell: 0,
     side: 0,
+    goes: false,
 };
 
-// In place of a side, where both cells on the facet were met.
-const BOTH: usize = 4;
-
-// A facet is looked for in so many entries from its first one on.
-const TURNS: usize = 8;
-
 // As many entries as there are for the facets of one cell.
-const ENTRIES: usize = 6;
+const ENTRIES: usize = 5;
 
 // The facets that were met. One that finds no entry in its turns is left out.
 #[derive(Drop)]
@@ -72,105 +177,114 @@ impl Table {
         Ok(Table { count, entries })
     }
 
-    // Where the facet with the number stands, or else the first free entry in its turns.
-    fn place(&self, hash: u64) -> Option<usize> {
-        let first = ((hash >> 32).wrapping_mul(self.count as u64) >> 32) as usize;
+    // The cell by which the facet was met before. Else it was met by this one.
+    fn meet(&mut self, met: Met) -> Option<Met> {
+        let hash = met.facet.wrapping_mul(0x9E37_79B9_7F4A_7C15) >> 32;
+        let first = first_entry(hash, self.count);
         for turn in 0..TURNS {
-            let at = first.saturating_add(turn);
-            let met = self.entries.get(at)?;
-            if met.hash == hash || met.cell == NO_CELL {
-                return Some(at);
+            let entry = self.entries.get_mut(first.saturating_add(turn))?;
+            if entry.facet == met.facet {
+                return Some(*entry);
+            }
+            if entry.facet == EMPTY.facet {
+                *entry = met;
+                return None;
             }
         }
         None
-    }
-
-    // The other cell on the facet, where it was met before. Else this one was met.
-    fn meet(&mut self, hash: u64, cell: usize, side: usize) -> Option<Met> {
-        let at = self.place(hash)?;
-        let met = self.entries.get_mut(at)?;
-        let before = *met;
-        if before.cell == NO_CELL {
-            *met = Met { hash, cell, side };
-            return None;
-        }
-        met.side = BOTH;
-        Some(before)
-    }
-
-    // The one cell that was met on the facet.
-    fn one(&self, hash: u64) -> Option<Met> {
-        let met = self.entries.get(self.place(hash)?)?;
-        if met.cell == NO_CELL || met.side == BOTH {
-            return None;
-        }
-        Some(*met)
-    }
-}
-
-// The sides with another one.
-fn with_side(sides: [Beside; 4], side: usize, beside: Beside) -> [Beside; 4] {
-    let [a, b, c, d] = sides;
-    match side {
-        0 => [beside, b, c, d],
-        1 => [a, beside, c, d],
-        2 => [a, b, beside, d],
-        3 => [a, b, c, beside],
-        _ => sides,
     }
 }
 
 impl Matched {
     // This lies across a side of a cell that comes.
-    fn set(&mut self, cell: usize, side: usize, beside: Beside) {
-        if let Some(sides) = self.sides.get_mut(cell) {
-            *sides = with_side(*sides, side, beside);
-        }
-    }
-
-    // Matches a facet of a cell that comes with the one that was met before.
-    fn join(&mut self, table: &mut Table, hash: u64, cell: usize, side: usize) {
-        if let Some(met) = table.meet(hash, cell, side) {
-            self.set(cell, side, Beside::Fresh(met.cell));
-            self.set(met.cell, met.side, Beside::Fresh(cell));
-        }
-    }
-
-    // Adds a cell that comes.
-    fn add(&mut self, table: &mut Table, cell: &Cell) -> Result<(), AllocError> {
-        let number = self.sides.len();
-        self.sides.push([Beside::Nothing; 4])?;
-        let [a, b, c, d] = facet_hashes(cell);
-        self.join(table, a, number, 0);
-        self.join(table, b, number, 1);
-        self.join(table, c, number, 2);
-        self.join(table, d, number, 3);
-        Ok(())
-    }
-
-    // Matches the facets of a cell that goes with those of cells that come.
-    fn add_rim(&mut self, table: &Table, number: usize, cell: &Cell) {
-        for (side, hash) in facet_hashes(cell).iter().enumerate() {
-            if let Some(met) = table.one(*hash) {
-                self.set(met.cell, met.side, Beside::Behind(number, side));
+    fn set(&mut self, cell: u32, side: u8, beside: Beside) {
+        if let Some(sides) = self.sides.get_mut(cell as usize) {
+            if let Some(old) = sides.get_mut(side as usize) {
+                *old = beside;
             }
         }
     }
 
-    /// What lies across the facets of the fresh cells, where the gone ones make room for them.
+    // Matches a facet of a cell that comes with the one that was met before.
+    fn join(&mut self, table: &mut Table, facet: u64, cell: u32, side: u8) {
+        let goes = false;
+        if let Some(met) = table.meet(Met {
+            facet,
+            cell,
+            side,
+            goes,
+        }) {
+            self.set(cell, side, Beside::Fresh(met.cell as usize));
+            self.set(met.cell, met.side, Beside::Fresh(cell as usize));
+        }
+    }
+
+    // Adds a cell that comes.
+    fn add(&mut self, table: &mut Table, facets: [u64; 4]) -> Result<(), AllocError> {
+        let cell = u32::try_from(self.sides.len()).unwrap_or(NONE);
+        self.sides.push([Beside::Nothing; 4])?;
+        let [a, b, c, d] = facets;
+        self.join(table, a, cell, 0);
+        self.join(table, b, cell, 1);
+        self.join(table, c, cell, 2);
+        self.join(table, d, cell, 3);
+        Ok(())
+    }
+
+    // Matches a facet of a cell that goes with that of a cell that comes, or gives that of one that goes.
+    fn join_gone(&mut self, table: &mut Table, facet: u64, cell: u32, side: u8) -> Option<Side> {
+        let goes = true;
+        let met = table.meet(Met {
+            facet,
+            cell,
+            side,
+            goes,
+        })?;
+        if met.goes {
+            return Some(Side {
+                cell: met.cell as usize,
+                side: met.side as usize,
+            });
+        }
+        let behind = Side {
+            cell: cell as usize,
+            side: side as usize,
+        };
+        self.set(met.cell, met.side, Beside::Behind(behind));
+        None
+    }
+
+    // Adds a cell that goes.
+    fn add_gone(&mut self, table: &mut Table, facets: [u64; 4]) -> Result<(), AllocError> {
+        let cell = u32::try_from(self.before.len()).unwrap_or(NONE);
+        let [a, b, c, d] = facets;
+        let before = [
+            self.join_gone(table, a, cell, 0),
+            self.join_gone(table, b, cell, 1),
+            self.join_gone(table, c, cell, 2),
+            self.join_gone(table, d, cell, 3),
+        ];
+        self.before.push(before)?;
+        Ok(())
+    }
+
+    /// What lies across the facets of the fresh and the gone cells, where the gone ones make room for the fresh ones.
     ///
     /// # Errors
     /// Want of memory.
     pub fn of(alloc: Global, gone: &[Cell], fresh: &[Cell]) -> Result<Matched, AllocError> {
         let mut matched = Matched {
             sides: Vec::with_capacity(alloc, fresh.len())?,
+            before: Vec::with_capacity(alloc, gone.len())?,
         };
-        let mut table = Table::new(alloc, fresh.len())?;
+        let cells = fresh.len().saturating_add(gone.len());
+        let mut numbers = Numbers::new(alloc, cells)?;
+        let mut table = Table::new(alloc, cells)?;
         for cell in fresh {
-            matched.add(&mut table, cell)?;
+            matched.add(&mut table, numbers.facets(cell)?)?;
         }
-        for (number, cell) in gone.iter().enumerate() {
-            matched.add_rim(&table, number, cell);
+        for cell in gone {
+            matched.add_gone(&mut table, numbers.facets(cell)?)?;
         }
         Ok(matched)
     }

@@ -29,6 +29,7 @@ ghost use Rattle.cell_stars.specs.Moves.{IsStarFor, AreFreed, AreComing, IsVacan
 
 use crate::cells::Cells;
 use crate::guesses::Guesses;
+use crate::matched::Matched;
 use crate::order::{are_same, cells_once, has_vertex, numbers_in_order, touches};
 use crate::star::cell_at;
 use point_order::{Cell, Point};
@@ -74,7 +75,7 @@ pub(crate) fn place_among(slots: &[Option<Cell>], star: &[u32], cell: &Cell) -> 
 }
 
 // Whether the cell stands at the place.
-fn stands_at(slots: &[Option<Cell>], i: u32, cell: &Cell) -> bool
+pub(crate) fn stands_at(slots: &[Option<Cell>], i: u32, cell: &Cell) -> bool
     ensures { IsTrue result → at slots.now i ≡ Some cell.now }
 {
     match cell_at(slots, i) {
@@ -269,15 +270,14 @@ impl Cells {
         }
     }
 
-    // The place of the cell, if it stands at one.
-    fn place_of_cell(&self, cell: &Cell, guesses: &mut Guesses) -> Option<u32>
+    // The place of the cell, which is likely to be the one that is guessed, if it stands at one.
+    fn place_of_cell(&self, cell: &Cell, guess: u32) -> Option<u32>
         ensures { MatchOption result ((i : ℕ) → at self.now.slots i ≡ Some cell.now →
             touches_in self.now.place cell.now ≡ true → ⊥) (λ i. at self.now.slots i ≡ Some cell.now) }
     {
         if !self.is_touched_by(cell) {
             return None;
         }
-        let guess = guesses.guess(&self.slots, &self.links, cell);
         if stands_at(&self.slots, guess, cell) {
             return Some(guess);
         }
@@ -289,6 +289,7 @@ impl Cells {
         &self,
         alloc: Global,
         gone: &[Cell],
+        matched: &Matched,
         guesses: &mut Guesses,
     ) -> Result<Vec<u32>, AllocError>
         ensures order { IfOk result (λ freed. IsAscending freed.items) }
@@ -297,8 +298,9 @@ impl Cells {
         let _ = &self.slots;
         let mut freed = Vec::with_capacity(alloc, gone.len())?;
         for c in gone {
+            let guess = guesses.guess(&self.slots, &self.links, matched, c);
             guesses.add()?;
-            if let Some(i) = self.place_of_cell(c, guesses) {
+            if let Some(i) = self.place_of_cell(c, guess) {
                 freed.push(i)?;
                 guesses.put(i);
             }
@@ -462,12 +464,13 @@ impl Cells {
         alloc: Global,
         gone: &[Cell],
         fresh: &[Cell],
+        matched: &Matched,
     ) -> Result<Moves, AllocError>
         ensures order { IfOk result (λ moves. IsAscending moves.freed.items) }
         ensures made { IfOk result (λ moves. AreFor gone.now fresh.now moves.freed.items moves.placed.items self.now) }
     {
         let mut guesses = Guesses::new(alloc, gone.len())?;
-        let freed = self.freed_by(alloc, gone, &mut guesses)?;
+        let freed = self.freed_by(alloc, gone, matched, &mut guesses)?;
         let coming = self.coming_by(alloc, fresh, &freed)?;
         let places = places_for(
             alloc,

@@ -181,16 +181,16 @@ fn spare_after(
 
 // The marks of the numbers of these stars.
 fn marks_of_written(writes: &[(u32, Around)]) -> Marks {
-    let mut marks = [false; 4096];
+    let mut marks = [false; 512];
     for (n, _) in writes {
-        marks[(*n % 4096) as usize] = true;
+        marks[(*n % 512) as usize] = true;
     }
     marks
 }
 
 // Whether the star with the number is one of these, which have these marks.
 fn is_written(writes: &[(u32, Around)], marks: &Marks, n: u32) -> bool {
-    if !marks[(n % 4096) as usize] {
+    if !marks[(n % 512) as usize] {
         return false;
     }
     for (m, _) in writes {
@@ -288,7 +288,7 @@ impl Cells {
     ) -> Result<Plan, AllocError>
         ensures { IfOk result (λ plan. IsPlanFor gone.now fresh.now self.now plan) }
     {
-        let moves = self.moves(alloc, gone, fresh)?;
+        let moves = self.moves(alloc, gone, fresh, matched)?;
         let stars = self.plan_stars(alloc, &moves)?;
         let places = self.plan_places(alloc, fresh, matched, &moves)?;
         Ok(Plan { places, stars })
