@@ -120,9 +120,7 @@ fn play_through<R: Threads + Sync, G: Gate + Sync>(
     };
     let words = words_of(alloc, list_at(lists, 1))?;
     let input = input_of(alloc, lists)?;
-    run_over(
-        rt, alloc, told, &words, &input, source, output, error, gate,
-    )
+    run_over(rt, alloc, told, &words, &input, source, output, error, gate)
 }
 
 /// Runs a case, and puts down what came of it.
