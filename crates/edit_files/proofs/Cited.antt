@@ -1,5 +1,15 @@
 -- The lemmas that other crates cite.
-pub use Rattle.edit_files.proofs.Decided.{Decides, HasNo, HasNoSpace, err_same, fields_front, fields_last, number_no_space, number_without, points_decided}
+pub use Rattle.edit_files.proofs.Decided.{
+  Decides,
+  HasNo,
+  HasNoSpace,
+  err_same,
+  fields_front,
+  fields_last,
+  number_no_space,
+  number_without,
+  points_decided,
+}
 pub use Rattle.edit_files.proofs.Generated.{generated_anchored, generated_solid, generated_still}
 pub use Rattle.edit_files.proofs.Judged.{no_fault_of, one_file_of}
 pub use Rattle.edit_files.proofs.Points.{some_field, third_last, third_more}

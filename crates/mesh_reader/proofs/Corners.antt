@@ -1,5 +1,36 @@
 -- The lines of cells and triples: indices in range, of points that ascend.
-use Rattle.std.proofs.Common.{◌≡◌, ℕ, zero, suc, ◌<◌, ◌≤◌, Bool, true, false, cond, ltb, ◌&&◌, List, [], ◌∷◌, length, Option, Some, None, Result, Ok, Err, refl, sym, ap, subst, ◌∙◌, arith, inl, inr}
+use Rattle.std.proofs.Common.{
+  ◌≡◌,
+  ℕ,
+  zero,
+  suc,
+  ◌<◌,
+  ◌≤◌,
+  Bool,
+  true,
+  false,
+  cond,
+  ltb,
+  ◌&&◌,
+  List,
+  [],
+  ◌∷◌,
+  length,
+  Option,
+  Some,
+  None,
+  Result,
+  Ok,
+  Err,
+  refl,
+  sym,
+  ap,
+  subst,
+  ◌∙◌,
+  arith,
+  inl,
+  inr,
+}
 use Rattle.std.specs.Prelude.{◌⊎◌, ⊤, slice_index_or, MatchOption}
 use Rattle.std.proofs.lemmas.Bool.{cases_Bool, and_parts, and_from, ltb-true, lt-ltb}
 use Rattle.list_laws.specs.Lists.{IsIn, IsAscending}
@@ -11,14 +42,29 @@ use Rattle.edit_files.specs.Judging.{fields_of, number}
 use Rattle.edit_files.proofs.Cited.{Decides, number_of, of_number}
 use Rattle.mesh_reader.specs.Grammar.{AreIndices, HasNumbers, IsIndexLine, IsIndexOf, point_limit}
 use Rattle.mesh_reader.specs.Judging.{ascends, corners, corners_from, in_front, in_order, numbers, point_at, points_at}
-use Rattle.mesh_reader.proofs.Fields.{AreNumbers, AreRead, form_read, front_some, joined_fields, not_none, numbers_some, read_form, read_numbers, same_value}
+use Rattle.mesh_reader.proofs.Fields.{
+  AreNumbers,
+  AreRead,
+  form_read,
+  front_some,
+  joined_fields,
+  not_none,
+  numbers_some,
+  read_form,
+  read_numbers,
+  same_value,
+}
 
 -- ---- the order of the points
 
 pub ascends_says : (q : List ℕ) → ascends q ≡ true → IsAscending q
 ascends_says [] h = tt
 ascends_says (x ∷ []) h = (tt, tt)
-ascends_says (x ∷ y ∷ l) h = let p = and_parts (ltb x y) (ascends (y ∷ l)) h in (ltb-true x y p.0, ascends_says (y ∷ l) p.1)
+ascends_says (x ∷ y ∷ l) h = let p = and_parts (ltb x y) (ascends (y ∷ l)) h in (
+  ltb-true x y p.0,
+  ascends_says
+      (y ∷ l) p.1,
+)
 
 pub says_ascends : (q : List ℕ) → IsAscending q → ascends q ≡ true
 says_ascends [] h = refl
@@ -49,7 +95,8 @@ says_index s x p h =
     (number_of x h.0 h.1 (omega (arith, low)), rw (a, b) (ap (λ (v : ℕ). Some v) h.4))
 
 -- indices that are read
-indices_say : (s : List ℕ) (fields : List (List ℕ)) (ns q : List ℕ) → AreRead fields ns → points_at s ns ≡ Some q → AreIndices s fields q
+indices_say : (s : List ℕ) (fields : List (List ℕ)) (ns q : List ℕ) → AreRead fields ns → points_at s ns ≡ Some q
+    → AreIndices s fields q
 unfolding points_at
 indices_say s [] [] [] r h = tt
 indices_say s [] [] (p ∷ q) r h = absurd cc
@@ -64,8 +111,11 @@ indices_say s (x ∷ fields) (n ∷ ns) [] r h =
 indices_say s (x ∷ fields) (n ∷ ns) (p ∷ q) r h =
     let f = front_some (point_at s n) (points_at s ns) (p ∷ q) h in
     let first : f.0 ≡ p = firsts p f.0 q f.1 f.4 in
-    let others : f.1 ≡ q = rests p f.0 q f.1 f.4 in
-    (index_says s x n p r.0 (f.2 ∙ ap (λ (k : ℕ). Some k) first), indices_say s fields ns q r.1 (f.3 ∙ ap (λ (l : List ℕ). Some l) others))
+    let others : f.1 ≡ q = rests p f.0 q f.1 f.4 in (
+      index_says s x n p r.0 (f.2 ∙ ap (λ (k : ℕ). Some k) first),
+      indices_say s fields ns q r.1 (f.3 ∙ ap (λ
+          (l : List ℕ). Some l) others),
+    )
   where
     -- equal lists have one first
     firsts : (m n : ℕ) (l r : List ℕ) → m ∷ l ≡ n ∷ r → n ≡ m
@@ -76,15 +126,20 @@ indices_say s (x ∷ fields) (n ∷ ns) (p ∷ q) r h =
     rests m n l r e = cc
 
 -- and those that are right are read
-say_indices : (s : List ℕ) (fields : List (List ℕ)) (q : List ℕ) → AreIndices s fields q → (ns : List ℕ) × AreRead fields ns × (points_at s ns ≡ Some q)
+say_indices : (s : List ℕ) (fields : List (List ℕ)) (q : List ℕ) → AreIndices s fields q → (ns : List ℕ)
+    × AreRead fields ns × (points_at s ns ≡ Some q)
 unfolding points_at
 say_indices s [] [] h = ([], tt, refl)
 say_indices s [] (p ∷ q) h = absurd h
 say_indices s (x ∷ fields) [] h = absurd h
 say_indices s (x ∷ fields) (p ∷ q) h =
     let one = says_index s x p h.0 in
-    let rest = say_indices s fields q h.1 in
-    (h.0.0 ∷ rest.0, (one.0, rest.1), ap (λ (o : Option ℕ). in_front o (points_at s rest.0)) one.1 ∙ ap (λ (o : Option (List ℕ)). in_front (Some p) o) rest.2)
+    let rest = say_indices s fields q h.1 in (
+      h.0.0 ∷ rest.0,
+      (one.0, rest.1),
+      ap (λ (o : Option ℕ). in_front o (points_at s rest.0)) one.1 ∙ ap (λ (o : Option
+          (List ℕ)). in_front (Some p) o) rest.2,
+    )
 
 -- indices are numbers
 indices_numbers : (s : List ℕ) (fields : List (List ℕ)) (q : List ℕ) → AreIndices s fields q → AreNumbers fields
@@ -99,19 +154,26 @@ indices_numbers s (y ∷ fields) (p ∷ q) h x m = elim m [
 
 -- a line of indices has its form
 pub index_form : (n : ℕ) (s line q : List ℕ) → IsIndexLine n s line q → HasNumbers n line
-index_form n s line q h = record { fields = h.fields; count = h.count; each = indices_numbers s h.fields q h.indices; is = h.is }
+index_form n s line q h = record {
+  fields = h.fields;
+  count = h.count;
+  each = indices_numbers s h.fields q h.indices;
+  is = h.is;
+}
 
 order_some : (o : Option (List ℕ)) (q : List ℕ) → in_order o ≡ Ok q → (o ≡ Some q) × (ascends q ≡ true)
 order_some None q h = absurd cc
 order_some (Some r) q h = order_kept r q (ascends r) refl h
   where
     -- by the test
-    order_kept : (r q : List ℕ) (t : Bool) → ascends r ≡ t → cond t (Ok r) (Err Range) ≡ Ok q → (Some r ≡ Some q) × (ascends q ≡ true)
+    order_kept : (r q : List ℕ) (t : Bool) → ascends r ≡ t → cond t (Ok r) (Err Range) ≡ Ok q → (Some r ≡ Some q) ×
+        (ascends q ≡ true)
     order_kept r q true e h = let same : r ≡ q = cc in (ap (λ (l : List ℕ). Some l) same, ap ascends (sym same) ∙ e)
     order_kept r q false e h = absurd cc
 
 -- what was read, where corners were
-from_some : (s : List ℕ) (o : Option (List ℕ)) (q : List ℕ) → corners_from s o ≡ Ok q → (ns : List ℕ) × (o ≡ Some ns) × (points_at s ns ≡ Some q) × (ascends q ≡ true)
+from_some : (s : List ℕ) (o : Option (List ℕ)) (q : List ℕ) → corners_from s o ≡ Ok q → (ns : List ℕ) × (o ≡ Some ns)
+    × (points_at s ns ≡ Some q) × (ascends q ≡ true)
 from_some s None q h = absurd cc
 from_some s (Some ns) q h = let k = order_some (points_at s ns) q h in (ns, refl, k.0, k.1)
 
@@ -137,7 +199,8 @@ corners_complete n s line q h =
     let say = say_indices s h.fields q h.indices in
     let each = indices_numbers s h.fields q h.indices in
     let read : numbers (suc n) (fields_of line) ≡ Some say.0 =
-    ap (numbers (suc n)) (joined_fields n line h.fields h.count each h.is) ∙ read_numbers (suc n) h.fields say.0 h.count say.1 in
+    ap (numbers (suc n)) (joined_fields n line h.fields h.count each h.is) ∙ read_numbers
+    (suc n) h.fields say.0 h.count say.1 in
     ap (corners_from s) read ∙ ap in_order say.2 ∙ order_is q (says_ascends q h.ascending)
 
 -- an order is refused for one reason
@@ -158,7 +221,8 @@ field_not_range : Field ≡ Range → ⊥
 field_not_range h = cc
 
 -- why corners were refused
-from_err : (s : List ℕ) (o : Option (List ℕ)) (why : Why) → corners_from s o ≡ Err why → ((o ≡ None) × (why ≡ Field)) ⊎ ((ns : List ℕ) × (o ≡ Some ns) × (why ≡ Range))
+from_err : (s : List ℕ) (o : Option (List ℕ)) (why : Why) → corners_from s o ≡ Err why → ((o ≡ None) × (why
+    ≡ Field)) ⊎ ((ns : List ℕ) × (o ≡ Some ns) × (why ≡ Range))
 from_err s None why h = inl (refl, refused why h)
   where
     -- equal refusals
@@ -166,7 +230,8 @@ from_err s None why h = inl (refl, refused why h)
     refused why h = cc
 from_err s (Some ns) why h = inr (ns, refl, order_refused (points_at s ns) why h)
 
-corners_err : (n : ℕ) (s line : List ℕ) (why : Why) → corners n s line ≡ Err why → ((numbers n (fields_of line) ≡ None) × (why ≡ Field)) ⊎ ((ns : List ℕ) × (numbers n (fields_of line) ≡ Some ns) × (why ≡ Range))
+corners_err : (n : ℕ) (s line : List ℕ) (why : Why) → corners n s line ≡ Err why → ((numbers n (fields_of line)
+    ≡ None) × (why ≡ Field)) ⊎ ((ns : List ℕ) × (numbers n (fields_of line) ≡ Some ns) × (why ≡ Range))
 unfolding corners
 corners_err n s line why h = from_err s (numbers n (fields_of line)) why h
 
@@ -218,20 +283,25 @@ missing_others s i rest h = ap (λ (o : Option (List ℕ)). in_front (point_at s
     none (Some n) = refl
 
 -- with both there are
-pub with_point : (s : List ℕ) (i p : ℕ) (rest q : List ℕ) → point_at s i ≡ Some p → points_at s rest ≡ Some q → points_at s (i ∷ rest) ≡ Some (p ∷ q)
+pub with_point : (s : List ℕ) (i p : ℕ) (rest q : List ℕ) → point_at s i ≡ Some p → points_at s rest ≡ Some q
+    → points_at s (i ∷ rest) ≡ Some (p ∷ q)
 unfolding points_at
-with_point s i p rest q h k = ap (λ (o : Option ℕ). in_front o (points_at s rest)) h ∙ ap (λ (o : Option (List ℕ)). in_front (Some p) o) k
+with_point s i p rest q h k = ap (λ (o : Option ℕ). in_front o (points_at s rest)) h ∙ ap (λ (o : Option
+    (List ℕ)). in_front (Some p) o) k
 
 pub no_points : (s : List ℕ) → points_at s [] ≡ Some []
 unfolding points_at
 no_points s = refl
 
 -- in order they are what was made of them
-pub order_made : (o : Option (List ℕ)) (q : List ℕ) (r : Option (List ℕ)) → o ≡ Some q → r ≡ cond (ascends q) (Some q) None → MatchOption r (in_order o ≡ Err Range) (λ t. in_order o ≡ Ok t)
-order_made o q r h e = subst (λ (v : Option (List ℕ)). MatchOption v (in_order o ≡ Err Range) (λ t. in_order o ≡ Ok t)) (sym e) (by_test (ascends q) refl)
+pub order_made : (o : Option (List ℕ)) (q : List ℕ) (r : Option (List ℕ)) → o ≡ Some q → r ≡ cond (ascends q)
+    (Some q) None → MatchOption r (in_order o ≡ Err Range) (λ t. in_order o ≡ Ok t)
+order_made o q r h e = subst (λ (v : Option (List ℕ)). MatchOption v (in_order o ≡ Err Range) (λ t. in_order o
+    ≡ Ok t)) (sym e) (by_test (ascends q) refl)
   where
     -- by the test
-    by_test : (t : Bool) → ascends q ≡ t → MatchOption (cond t (Some q) None) (in_order o ≡ Err Range) (λ p. in_order o ≡ Ok p)
+    by_test : (t : Bool) → ascends q ≡ t → MatchOption (cond t (Some q) None) (in_order o ≡ Err Range)
+        (λ p. in_order o ≡ Ok p)
     by_test true a = ap in_order h ∙ order_is q a
     by_test false a = ap in_order h ∙ rw a refl
 
@@ -241,6 +311,7 @@ unfolding corners
 corners_none n s line h = ap (corners_from s) h
 
 -- and one of so many
-pub corners_some : (n : ℕ) (s line ns : List ℕ) (r : Result (List ℕ) Why) → numbers n (fields_of line) ≡ Some ns → in_order (points_at s ns) ≡ r → corners n s line ≡ r
+pub corners_some : (n : ℕ) (s line ns : List ℕ) (r : Result (List ℕ) Why) → numbers n (fields_of line) ≡ Some ns
+    → in_order (points_at s ns) ≡ r → corners n s line ≡ r
 unfolding corners
 corners_some n s line ns r h e = ap (corners_from s) h ∙ e

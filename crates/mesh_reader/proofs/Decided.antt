@@ -1,5 +1,37 @@
 -- Judging a line finds whether it leads on where a reading is, and why it does not.
-use Rattle.std.proofs.Common.{◌≡◌, ℕ, ◌<◌, ◌≤◌, Bool, true, false, cond, eqb, ltb, leb, List, [], ◌∷◌, ◌++◌, length, Option, Some, None, Result, Ok, Err, refl, sym, ap, subst, ◌∙◌, arith, inl, inr, eq-eqb}
+use Rattle.std.proofs.Common.{
+  ◌≡◌,
+  ℕ,
+  ◌<◌,
+  ◌≤◌,
+  Bool,
+  true,
+  false,
+  cond,
+  eqb,
+  ltb,
+  leb,
+  List,
+  [],
+  ◌∷◌,
+  ◌++◌,
+  length,
+  Option,
+  Some,
+  None,
+  Result,
+  Ok,
+  Err,
+  refl,
+  sym,
+  ap,
+  subst,
+  ◌∙◌,
+  arith,
+  inl,
+  inr,
+  eq-eqb,
+}
 use Rattle.std.specs.Prelude.{◌⊎◌, ⊤, ◌≢◌, codes, MatchOption}
 use Rattle.std.specs.Borrow.{Bor}
 use Rattle.std.specs.Str.{bytes_eq}
@@ -14,7 +46,18 @@ use Rattle.mesh_reader.specs.declared.place.Part.{Part}
 use Rattle.mesh_reader.specs.declared.place.Part.TheVariants.{Replies, Points, Cells, Hull}
 use Rattle.mesh_reader.specs.declared.place.Due.{Due}
 use Rattle.mesh_reader.specs.declared.place.Due.TheVariants.{Title, Head, Body, Last, Nothing}
-use Rattle.mesh_reader.specs.Grammar.{HasFormOf, HasHeadForm, IsHead, IsTaken, Leads, MeshParts, Reached, lines_due, most_of, word_of}
+use Rattle.mesh_reader.specs.Grammar.{
+  HasFormOf,
+  HasHeadForm,
+  IsHead,
+  IsTaken,
+  Leads,
+  MeshParts,
+  Reached,
+  lines_due,
+  most_of,
+  word_of,
+}
 use Rattle.mesh_reader.specs.Faults.{IsReason}
 use Rattle.mesh_reader.specs.Judging.{announced, headed, moved, number_in, step, step_at, stripped, taken}
 use Rattle.mesh_reader.proofs.Fields.{not_none, same_value}
@@ -33,12 +76,15 @@ strip_back (w ∷ word) [] rest h = absurd (not_none rest h)
 strip_back (w ∷ word) (b ∷ line) rest h = by_test (eqb b w) refl (strip_back word line rest) h
   where
     -- by the test
-    by_test : (t : Bool) → eqb b w ≡ t → (stripped word line ≡ Some rest → line ≡ word ++ rest) → cond t (stripped word line) None ≡ Some rest → b ∷ line ≡ w ∷ (word ++ rest)
+    by_test : (t : Bool) → eqb b w ≡ t → (stripped word line ≡ Some rest → line ≡ word ++ rest) → cond t
+        (stripped word line) None ≡ Some rest → b ∷ line ≡ w ∷ (word ++ rest)
     by_test true e next k = let first : b ≡ w = eqb-true b w e in let back : line ≡ word ++ rest = next k in cc
     by_test false e next k = absurd (not_none rest k)
 
 -- what the search for a word came to
-pub strip_cases : (word line : List ℕ) (r : Option (Bor (List ℕ))) → MatchOption r ((rest : List ℕ) → line ≢ word ++ rest) (λ x. line ≡ word ++ x.now) → MatchOption r (stripped word line ≡ None) (λ x. stripped word line ≡ Some x.now)
+pub strip_cases : (word line : List ℕ) (r : Option (Bor (List ℕ))) → MatchOption r ((rest : List ℕ)
+    → line ≢ word ++ rest) (λ x. line ≡ word ++ x.now) → MatchOption r (stripped word line ≡ None)
+    (λ x. stripped word line ≡ Some x.now)
 strip_cases word line None h = by_result (stripped word line) refl
   where
     -- by what follows the word
@@ -50,21 +96,25 @@ strip_cases word line (Some x) h = ap (stripped word) h ∙ strip_front word x.n
 -- ---- a head
 
 -- by the word as it was searched for
-pub announced_by : (p : Part) (line word : List ℕ) (o : Option (List ℕ)) → word ≡ word_of p → stripped word line ≡ o → announced p line ≡ number_in o
+pub announced_by : (p : Part) (line word : List ℕ) (o : Option (List ℕ)) → word ≡ word_of p → stripped word line ≡ o
+    → announced p line ≡ number_in o
 unfolding announced
 announced_by p line word o e h = ap number_in (ap (λ (w : List ℕ). stripped w line) (sym e) ∙ h)
 
 -- what a head announces is the number behind its word
 announced_is : (p : Part) (line digits : List ℕ) → line ≡ word_of p ++ digits → announced p line ≡ number digits
 unfolding announced
-announced_is p line digits h = ap (λ (l : List ℕ). number_in (stripped (word_of p) l)) h ∙ ap number_in (strip_front (word_of p) digits)
+announced_is p line digits h = ap (λ (l : List ℕ). number_in (stripped (word_of p) l)) h ∙ ap number_in (strip_front
+    (word_of p) digits)
 
 -- a number that was read, with what it was read of
-in_some : (o : Option (List ℕ)) (n : ℕ) → number_in o ≡ Some n → (digits : List ℕ) × (o ≡ Some digits) × (number digits ≡ Some n)
+in_some : (o : Option (List ℕ)) (n : ℕ) → number_in o ≡ Some n → (digits : List ℕ) × (o ≡ Some digits) ×
+    (number digits ≡ Some n)
 in_some None n h = absurd (not_none n h)
 in_some (Some digits) n h = (digits, refl, h)
 
-announced_some : (p : Part) (line : List ℕ) (n : ℕ) → announced p line ≡ Some n → (digits : List ℕ) × (line ≡ word_of p ++ digits) × (number digits ≡ Some n)
+announced_some : (p : Part) (line : List ℕ) (n : ℕ) → announced p line ≡ Some n → (digits : List ℕ) × (line
+    ≡ word_of p ++ digits) × (number digits ≡ Some n)
 unfolding announced
 announced_some p line n h =
     let k = in_some (stripped (word_of p) line) n h in
@@ -83,31 +133,42 @@ head_read p n line h le =
     record { digits = k.0; fields = k.1; value = of_number k.0 n k.2 (omega (arith, le, most_below p)); most = le }
 
 read_head : (p : Part) (n : ℕ) (line : List ℕ) → IsHead p n line → announced p line ≡ Some n
-read_head p n line h = announced_is p line h.digits h.fields ∙ number_of h.digits n h.value (omega (arith, h.most, most_below p))
+read_head p n line h = announced_is p line h.digits h.fields ∙ number_of h.digits n h.value (omega
+    (arith, h.most, most_below p))
 
 form_some : (p : Part) (line : List ℕ) → HasHeadForm p line → (n : ℕ) × (announced p line ≡ Some n)
 form_some p line h = (reading h.digits, announced_is p line h.digits h.fields ∙ number_read h.digits h.number)
 
 some_form : (p : Part) (line : List ℕ) (n : ℕ) → announced p line ≡ Some n → HasHeadForm p line
-some_form p line n h = let k = announced_some p line n h in record { digits = k.0; fields = k.1; number = number_some k.0 n k.2 }
+some_form p line n h = let k = announced_some p line n h in record {
+  digits = k.0;
+  fields = k.1;
+  number = number_some
+      k.0 n k.2;
+}
 
 -- where the number is, is the reading
-headed_ok : (p : Part) (f : MeshParts) (o : Option ℕ) (b : Reached) → headed p f o ≡ Ok b → (n : ℕ) × (o ≡ Some n) × (n ≤ most_of p) × (b ≡ record { due = lines_due p n; taken = f })
+headed_ok : (p : Part) (f : MeshParts) (o : Option ℕ) (b : Reached) → headed p f o ≡ Ok b → (n : ℕ) × (o ≡ Some n) ×
+    (n ≤ most_of p) × (b ≡ record { due = lines_due p n; taken = f })
 headed_ok p f None b h = absurd (ok_err b Section (sym h))
 headed_ok p f (Some n) b h = by_test (leb n (most_of p)) refl h
   where
     -- by the test
-    by_test : (t : Bool) → leb n (most_of p) ≡ t → cond t (Ok (record { due = lines_due p n; taken = f })) (Err TooMany) ≡ Ok b → (m : ℕ) × (◌≡◌ {A = Option ℕ} (Some n) (Some m)) × (m ≤ most_of p) × (b ≡ record { due = lines_due p m; taken = f })
+    by_test : (t : Bool) → leb n (most_of p) ≡ t → cond t (Ok (record { due = lines_due p n; taken = f }))
+        (Err TooMany) ≡ Ok b → (m : ℕ) × (◌≡◌ {A = Option ℕ} (Some n) (Some m)) × (m ≤ most_of p) × (b
+        ≡ record { due = lines_due p m; taken = f })
     by_test true e k = (n, refl, leb-true n (most_of p) e, sym (ok_one (record { due = lines_due p n; taken = f }) b k))
     by_test false e k = absurd (ok_err b TooMany (sym k))
 
-headed_is : (p : Part) (f : MeshParts) (n : ℕ) → n ≤ most_of p → headed p f (Some n) ≡ Ok (record { due = lines_due p n; taken = f })
+headed_is : (p : Part) (f : MeshParts) (n : ℕ) → n ≤ most_of p → headed p f (Some n) ≡ Ok
+    (record { due = lines_due p n; taken = f })
 headed_is p f n le = let e : leb n (most_of p) ≡ true = le-leb n (most_of p) le in rw e refl
 
 headed_many : (p : Part) (f : MeshParts) (n : ℕ) → most_of p < n → headed p f (Some n) ≡ Err TooMany
 headed_many p f n lt = let e : leb n (most_of p) ≡ false = lt-leb n (most_of p) lt in rw e refl
 
-headed_err : (p : Part) (f : MeshParts) (o : Option ℕ) (why : Why) → headed p f o ≡ Err why → ((o ≡ None) × (why ≡ Section)) ⊎ ((n : ℕ) × (o ≡ Some n) × (most_of p < n) × (why ≡ TooMany))
+headed_err : (p : Part) (f : MeshParts) (o : Option ℕ) (why : Why) → headed p f o ≡ Err why → ((o ≡ None) × (why
+    ≡ Section)) ⊎ ((n : ℕ) × (o ≡ Some n) × (most_of p < n) × (why ≡ TooMany))
 headed_err p f None why h = inl (refl, sym (err_one {A = Reached} Section why h))
 headed_err p f (Some n) why h = elim (cases_lt (most_of p) n) [
   | inl lt ↦ inr (n, refl, lt, sym (err_one {A = Reached} TooMany why (sym (headed_many p f n lt) ∙ h)))
@@ -116,7 +177,8 @@ headed_err p f (Some n) why h = elim (cases_lt (most_of p) n) [
 
 -- ---- a word that is due
 
-word_ok : (line word : List ℕ) (next b : Reached) → cond (bytes_eq line word) (Ok next) (Err Section) ≡ Ok b → (line ≡ word) × (b ≡ next)
+word_ok : (line word : List ℕ) (next b : Reached) → cond (bytes_eq line word) (Ok next) (Err Section) ≡ Ok b → (line
+    ≡ word) × (b ≡ next)
 word_ok line word next b h = by_test (bytes_eq line word) refl h
   where
     -- by the test
@@ -124,28 +186,38 @@ word_ok line word next b h = by_test (bytes_eq line word) refl h
     by_test true e k = ((bytes_eq-Decides line word).0 e, sym (ok_one next b k))
     by_test false e k = absurd (ok_err b Section (sym k))
 
-word_is : (line word : List ℕ) (next : Reached) → line ≡ word → ◌≡◌ {A = Result Reached Why} (cond (bytes_eq line word) (Ok next) (Err Section)) (Ok next)
+word_is : (line word : List ℕ) (next : Reached) → line ≡ word → ◌≡◌ {A = Result Reached Why} (cond
+    (bytes_eq line word) (Ok next) (Err Section)) (Ok next)
 word_is line word next h = let e : bytes_eq line word ≡ true = (bytes_eq-Decides line word).1 h in rw e refl
 
-word_err : (line word : List ℕ) (next : Reached) (why : Why) → cond (bytes_eq line word) (Ok next) (Err Section) ≡ Err why → (line ≢ word) × (why ≡ Section)
+word_err : (line word : List ℕ) (next : Reached) (why : Why) → cond (bytes_eq line word) (Ok next) (Err Section)
+    ≡ Err why → (line ≢ word) × (why ≡ Section)
 word_err line word next why h = by_test (bytes_eq line word) refl h
   where
     -- by the test
-    by_test : (t : Bool) → bytes_eq line word ≡ t → cond t (Ok next) (Err Section) ≡ Err why → (line ≢ word) × (why ≡ Section)
+    by_test : (t : Bool) → bytes_eq line word ≡ t → cond t (Ok next) (Err Section) ≡ Err why → (line ≢ word) × (why
+        ≡ Section)
     by_test true e k = absurd (ok_err next why k)
-    by_test false e k = (λ same. ok_err next why (sym (word_is line word next same) ∙ h), sym (err_one {A = Reached} Section why k))
+    by_test false e k = (
+      λ same. ok_err next why (sym (word_is line word next same) ∙ h),
+      sym
+          (err_one {A = Reached} Section why k),
+    )
 
-word_not : (line word : List ℕ) (next : Reached) → line ≢ word → ◌≡◌ {A = Result Reached Why} (cond (bytes_eq line word) (Ok next) (Err Section)) (Err Section)
+word_not : (line word : List ℕ) (next : Reached) → line ≢ word → ◌≡◌ {A = Result Reached Why} (cond
+    (bytes_eq line word) (Ok next) (Err Section)) (Err Section)
 word_not line word next h = by_test (bytes_eq line word) refl
   where
     -- by the test
-    by_test : (t : Bool) → bytes_eq line word ≡ t → ◌≡◌ {A = Result Reached Why} (cond t (Ok next) (Err Section)) (Err Section)
+    by_test : (t : Bool) → bytes_eq line word ≡ t → ◌≡◌ {A = Result Reached Why} (cond t (Ok next) (Err Section))
+        (Err Section)
     by_test true e = absurd (h ((bytes_eq-Decides line word).0 e))
     by_test false e = refl
 
 -- ---- a line of a list
 
-moved_ok : (due : Due) (r : Result MeshParts Why) (b : Reached) → moved due r ≡ Ok b → (g : MeshParts) × (r ≡ Ok g) × (b ≡ record { due = due; taken = g })
+moved_ok : (due : Due) (r : Result MeshParts Why) (b : Reached) → moved due r ≡ Ok b → (g : MeshParts) × (r ≡ Ok g) ×
+    (b ≡ record { due = due; taken = g })
 moved_ok due (Err why) b h = absurd (ok_err b why (sym h))
 moved_ok due (Ok g) b h = (g, refl, sym (ok_one (record { due = due; taken = g }) b h))
 
@@ -167,34 +239,48 @@ at_sound Last f line b h = word_ok line (codes "end") (record { due = Nothing; t
 at_sound Nothing f line b h = absurd (ok_err b Section (sym h))
 
 at_complete : (due : Due) (f : MeshParts) (line : List ℕ) (b : Reached) → Leads due f line b → step_at due f line ≡ Ok b
-at_complete Title f line b h = word_is line (codes "mesh3-out 1") (record { due = Head Replies; taken = f }) h.0 ∙ ap (λ (r : Reached). Ok r) (sym h.1)
+at_complete Title f line b h = word_is line (codes "mesh3-out 1") (record { due = Head Replies; taken = f }) h.0 ∙ ap
+    (λ (r : Reached). Ok r) (sym h.1)
 at_complete (Head p) f line b h =
     ap (headed p f) (read_head p h.0 line h.1) ∙ headed_is p f h.0 h.1.most ∙ ap (λ (r : Reached). Ok r) (sym h.2)
 at_complete (Body p n) f line b h =
     ap (moved (lines_due p n)) ((taken_decided p f).complete line h.0 h.1) ∙ ap (λ (r : Reached). Ok r) (sym h.2)
-at_complete Last f line b h = word_is line (codes "end") (record { due = Nothing; taken = f }) h.0 ∙ ap (λ (r : Reached). Ok r) (sym h.1)
+at_complete Last f line b h = word_is line (codes "end") (record { due = Nothing; taken = f }) h.0 ∙ ap (λ
+    (r : Reached). Ok r) (sym h.1)
 at_complete Nothing f line b h = absurd h
 
 -- a line that leads on is not refused
-no_reason : (due : Due) (f : MeshParts) (line : List ℕ) (b : Reached) (why : Why) → step_at due f line ≡ Err why → Leads due f line b → ⊥
+no_reason : (due : Due) (f : MeshParts) (line : List ℕ) (b : Reached) (why : Why) → step_at due f line ≡ Err why
+    → Leads due f line b → ⊥
 no_reason due f line b why h leads = ok_err b why (sym (at_complete due f line b leads) ∙ h)
 
-head_reason : (p : Part) (f : MeshParts) (line : List ℕ) (why : Why) → headed p f (announced p line) ≡ Err why → IsReason (Head p) f line why
+head_reason : (p : Part) (f : MeshParts) (line : List ℕ) (why : Why) → headed p f (announced p line) ≡ Err why
+    → IsReason (Head p) f line why
 head_reason p f line why h = elim (headed_err p f (announced p line) why h) [
-  | inl k ↦ subst (λ (w : Why). IsReason (Head p) f line w) (sym k.1) (λ form. let s = form_some p line form in not_none s.0 (sym k.0 ∙ s.1))
-  | inr k ↦ subst (λ (w : Why). IsReason (Head p) f line w) (sym k.3)
-      (some_form p line k.0 k.1, λ n head. no_reason (Head p) f line (record { due = lines_due p n; taken = f }) why h (n, head, refl))
+  | inl k ↦ subst (λ (w : Why). IsReason (Head p) f line w) (sym k.1) (λ form. let s = form_some p line form in
+      not_none s.0 (sym k.0 ∙ s.1))
+  | inr k ↦ subst (λ (w : Why). IsReason (Head p) f line w) (sym k.3) (
+    some_form p line k.0 k.1,
+    λ n head. no_reason (Head p) f line (record { due = lines_due p n; taken = f }) why h
+        (n, head, refl),
+  )
 ]
 
-body_reason : (p : Part) (n : ℕ) (f : MeshParts) (line : List ℕ) (why : Why) → taken p f line ≡ Err why → IsReason (Body p n) f line why
+body_reason : (p : Part) (n : ℕ) (f : MeshParts) (line : List ℕ) (why : Why) → taken p f line ≡ Err why → IsReason
+    (Body p n) f line why
 body_reason p n f line why h = elim ((taken_decided p f).only line why h) [
-  | inl k ↦ subst (λ (w : Why). IsReason (Body p n) f line w) (sym k) (λ form. (taken_decided p f).field line (h ∙ ap (λ (w : Why). Err w) k) form)
-  | inr k ↦ subst (λ (w : Why). IsReason (Body p n) f line w) (sym k)
-      ((taken_decided p f).range line (h ∙ ap (λ (w : Why). Err w) k), λ g is. ok_err g why (sym ((taken_decided p f).complete line g is) ∙ h))
+  | inl k ↦ subst (λ (w : Why). IsReason (Body p n) f line w) (sym k) (λ form. (taken_decided p f).field line (h ∙ ap
+      (λ (w : Why). Err w) k) form)
+  | inr k ↦ subst (λ (w : Why). IsReason (Body p n) f line w) (sym k) (
+    (taken_decided p f).range line (h ∙ ap (λ (w : Why). Err w) k),
+    λ g is. ok_err g why (sym
+        ((taken_decided p f).complete line g is) ∙ h),
+  )
 ]
 
 -- why a line was refused
-at_reason : (due : Due) (f : MeshParts) (line : List ℕ) (why : Why) → step_at due f line ≡ Err why → IsReason due f line why
+at_reason : (due : Due) (f : MeshParts) (line : List ℕ) (why : Why) → step_at due f line ≡ Err why
+    → IsReason due f line why
 at_reason Title f line why h =
     let k = word_err line (codes "mesh3-out 1") (record { due = Head Replies; taken = f }) why h in
     subst (λ (w : Why). IsReason Title f line w) (sym k.1) k.0
@@ -208,12 +294,14 @@ at_reason Nothing f line why h = subst (λ (w : Why). IsReason Nothing f line w)
 -- ---- the other way round
 
 -- a head that is none is refused
-none_head : (p : Part) (f : MeshParts) (line : List ℕ) (o : Option ℕ) → announced p line ≡ o → ¬ (HasHeadForm p line) → headed p f o ≡ Err Section
+none_head : (p : Part) (f : MeshParts) (line : List ℕ) (o : Option ℕ) → announced p line ≡ o → ¬ (HasHeadForm p line)
+    → headed p f o ≡ Err Section
 none_head p f line None e h = refl
 none_head p f line (Some n) e h = absurd (h (some_form p line n e))
 
 -- and one that announces too many
-many_head : (p : Part) (f : MeshParts) (line : List ℕ) → HasHeadForm p line → ((n : ℕ) → ¬ (IsHead p n line)) → headed p f (announced p line) ≡ Err TooMany
+many_head : (p : Part) (f : MeshParts) (line : List ℕ) → HasHeadForm p line → ((n : ℕ) → ¬ (IsHead p n line))
+    → headed p f (announced p line) ≡ Err TooMany
 many_head p f line form h =
     let s = form_some p line form in
     elim (cases_lt (most_of p) s.0) [
@@ -222,7 +310,8 @@ many_head p f line form h =
     ]
 
 -- a line that is not of its list's form
-off_form : (p : Part) (f : MeshParts) (line : List ℕ) (r : Result MeshParts Why) → taken p f line ≡ r → ¬ (HasFormOf p line) → r ≡ Err Field
+off_form : (p : Part) (f : MeshParts) (line : List ℕ) (r : Result MeshParts Why) → taken p f line ≡ r → ¬
+    (HasFormOf p line) → r ≡ Err Field
 off_form p f line (Ok g) e h = absurd (h (taken_form p f line g ((taken_decided p f).sound line g e)))
 off_form p f line (Err why) e h = elim ((taken_decided p f).only line why e) [
   | inl k ↦ ap (λ (w : Why). Err w) k
@@ -230,7 +319,8 @@ off_form p f line (Err why) e h = elim ((taken_decided p f).only line why e) [
 ]
 
 -- and one that is, and is not taken
-off_range : (p : Part) (f : MeshParts) (line : List ℕ) (r : Result MeshParts Why) → taken p f line ≡ r → HasFormOf p line → ((g : MeshParts) → ¬ (IsTaken p f line g)) → r ≡ Err Range
+off_range : (p : Part) (f : MeshParts) (line : List ℕ) (r : Result MeshParts Why) → taken p f line ≡ r
+    → HasFormOf p line → ((g : MeshParts) → ¬ (IsTaken p f line g)) → r ≡ Err Range
 off_range p f line (Ok g) e form h = absurd (h g ((taken_decided p f).sound line g e))
 off_range p f line (Err why) e form h = elim ((taken_decided p f).only line why e) [
   | inl k ↦ absurd ((taken_decided p f).field line (e ∙ ap (λ (w : Why). Err w) k) form)
@@ -238,7 +328,8 @@ off_range p f line (Err why) e form h = elim ((taken_decided p f).only line why 
 ]
 
 -- where a line is wrong, it is refused, and for this reason
-reason_at : (due : Due) (f : MeshParts) (line : List ℕ) (why : Why) → IsReason due f line why → step_at due f line ≡ Err why
+reason_at : (due : Due) (f : MeshParts) (line : List ℕ) (why : Why) → IsReason due f line why → step_at due f line
+    ≡ Err why
 reason_at Title f line Section h = word_not line (codes "mesh3-out 1") (record { due = Head Replies; taken = f }) h
 reason_at (Head p) f line Section h = none_head p f line (announced p line) refl h
 reason_at (Body p n) f line Section h = absurd h

@@ -1,12 +1,42 @@
 -- The numbers of a line's fields.
-use Rattle.std.proofs.Common.{◌≡◌, ℕ, zero, suc, ◌<◌, List, [], ◌∷◌, ◌++◌, length, Option, Some, None, refl, sym, ap, subst, ◌∙◌, arith, inl, inr}
+use Rattle.std.proofs.Common.{
+  ◌≡◌,
+  ℕ,
+  zero,
+  suc,
+  ◌<◌,
+  List,
+  [],
+  ◌∷◌,
+  ◌++◌,
+  length,
+  Option,
+  Some,
+  None,
+  refl,
+  sym,
+  ap,
+  subst,
+  ◌∙◌,
+  arith,
+  inl,
+  inr,
+}
 use Rattle.std.specs.Prelude.{◌⊎◌, ⊤}
 use Rattle.std.specs.List.{join_with_byte}
 use Rattle.std.proofs.lemmas.List.Splits.{join_with_byte-slice_split}
 use Rattle.list_laws.specs.Lists.{IsIn}
 use Rattle.edit_files.specs.Numbers.{IsNumber}
 use Rattle.edit_files.specs.Judging.{fields_of, number}
-use Rattle.edit_files.proofs.Cited.{fields_front, fields_last, number_no_space, number_read, number_some, reading, some_field}
+use Rattle.edit_files.proofs.Cited.{
+  fields_front,
+  fields_last,
+  number_no_space,
+  number_read,
+  number_some,
+  reading,
+  some_field,
+}
 use Rattle.mesh_reader.specs.Grammar.{HasNumbers}
 use Rattle.mesh_reader.specs.Judging.{in_front, numbers}
 
@@ -33,7 +63,8 @@ front_some (Some n) None ns h = absurd (not_none ns h)
 front_some (Some n) (Some rest) ns h = (n, rest, refl, refl, sym (same_value (n ∷ rest) ns h))
 
 -- fields that are read each by itself are read together
-pub read_numbers : (n : ℕ) (fields : List (List ℕ)) (ns : List ℕ) → length fields ≡ n → AreRead fields ns → numbers n fields ≡ Some ns
+pub read_numbers : (n : ℕ) (fields : List (List ℕ)) (ns : List ℕ) → length fields ≡ n → AreRead fields ns
+    → numbers n fields ≡ Some ns
 unfolding numbers
 read_numbers zero [] [] e h = refl
 read_numbers (suc n) [] [] e h = absurd (let g : ⊥ = omega (arith, e) in g)
@@ -45,7 +76,8 @@ read_numbers (suc n) (x ∷ fields) (m ∷ ns) e h =
     ∙ ap (λ (o : Option (List ℕ)). in_front (Some m) o) (read_numbers n fields ns (omega (arith, e)) h.1)
 
 -- and the other way round
-pub numbers_some : (n : ℕ) (fields : List (List ℕ)) (ns : List ℕ) → numbers n fields ≡ Some ns → (length fields ≡ n) × AreRead fields ns
+pub numbers_some : (n : ℕ) (fields : List (List ℕ)) (ns : List ℕ) → numbers n fields ≡ Some ns → (length fields ≡ n)
+    × AreRead fields ns
 unfolding numbers
 numbers_some zero [] [] h = (refl, tt)
 numbers_some zero [] (m ∷ ns) h = absurd cc
@@ -93,22 +125,28 @@ read_all (y ∷ fields) (n ∷ ns) h x m = elim m [
 ]
 
 -- the fields of numbers that are joined are these
-pub fields_joined : (x : List ℕ) (fields : List (List ℕ)) → AreNumbers (x ∷ fields) → fields_of (join_with_byte 32 (x ∷ fields)) ≡ x ∷ fields
+pub fields_joined : (x : List ℕ) (fields : List (List ℕ)) → AreNumbers (x ∷ fields) → fields_of (join_with_byte 32
+    (x ∷ fields)) ≡ x ∷ fields
 fields_joined x [] h = fields_last x (number_no_space x (h x (inl refl)))
 fields_joined x (y ∷ fields) h =
     fields_front x (join_with_byte 32 (y ∷ fields)) (number_no_space x (h x (inl refl)))
     ∙ ap (λ (l : List (List ℕ)). x ∷ l) (fields_joined y fields (λ z m. h z (inr m)))
 
 -- so they are read of a line of the form
-pub joined_fields : (n : ℕ) (line : List ℕ) (fields : List (List ℕ)) → length fields ≡ suc n → AreNumbers fields → line ≡ join_with_byte 32 fields → fields_of line ≡ fields
+pub joined_fields : (n : ℕ) (line : List ℕ) (fields : List (List ℕ)) → length fields ≡ suc n → AreNumbers fields
+    → line ≡ join_with_byte 32 fields → fields_of line ≡ fields
 joined_fields n line [] e h is = absurd (let g : ⊥ = omega (arith, e) in g)
 joined_fields n line (x ∷ fields) e h is = ap fields_of is ∙ fields_joined x fields h
 
 -- the numbers of a line of the form
-pub form_read : (n : ℕ) (line : List ℕ) → HasNumbers (suc n) line → (ns : List ℕ) × (numbers (suc n) (fields_of line) ≡ Some ns)
+pub form_read : (n : ℕ) (line : List ℕ) → HasNumbers (suc n) line → (ns : List ℕ) × (numbers (suc n) (fields_of line)
+    ≡ Some ns)
 form_read n line h =
-    let read = all_read h.fields h.each in
-    (read.0, ap (numbers (suc n)) (joined_fields n line h.fields h.count h.each h.is) ∙ read_numbers (suc n) h.fields read.0 h.count read.1)
+    let read = all_read h.fields h.each in (
+      read.0,
+      ap (numbers (suc n)) (joined_fields n line h.fields h.count h.each h.is) ∙ read_numbers
+          (suc n) h.fields read.0 h.count read.1,
+    )
 
 -- a line that is read has the form
 pub read_form : (n : ℕ) (line ns : List ℕ) → numbers n (fields_of line) ≡ Some ns → HasNumbers n line
@@ -133,17 +171,20 @@ unfolding numbers
 one_alone n line x e = ap (numbers (suc (suc n))) e ∙ front_none (number x)
 
 -- the first field and the others
-pub first_and_others : (n : ℕ) (line x rest : List ℕ) → fields_of line ≡ x ∷ fields_of rest → numbers (suc n) (fields_of line) ≡ in_front (number x) (numbers n (fields_of rest))
+pub first_and_others : (n : ℕ) (line x rest : List ℕ) → fields_of line ≡ x ∷ fields_of rest → numbers (suc n)
+    (fields_of line) ≡ in_front (number x) (numbers n (fields_of rest))
 unfolding numbers
 first_and_others n line x rest e = ap (numbers (suc n)) e
 
 -- two fields
-pub two_fields : (line x rest y : List ℕ) → fields_of line ≡ x ∷ fields_of rest → fields_of rest ≡ y ∷ [] → numbers 2 (fields_of line) ≡ in_front (number x) (in_front (number y) (Some []))
+pub two_fields : (line x rest y : List ℕ) → fields_of line ≡ x ∷ fields_of rest → fields_of rest ≡ y ∷ [] → numbers 2
+    (fields_of line) ≡ in_front (number x) (in_front (number y) (Some []))
 unfolding numbers
 two_fields line x rest y e f = ap (numbers 2) (e ∙ ap (λ (l : List (List ℕ)). x ∷ l) f)
 
 -- and more than two
-pub more_fields : (line x rest y more : List ℕ) → fields_of line ≡ x ∷ fields_of rest → fields_of rest ≡ y ∷ fields_of more → numbers 2 (fields_of line) ≡ None
+pub more_fields : (line x rest y more : List ℕ) → fields_of line ≡ x ∷ fields_of rest → fields_of rest
+    ≡ y ∷ fields_of more → numbers 2 (fields_of line) ≡ None
 unfolding numbers
 more_fields line x rest y more e f =
     let some = some_field more in
@@ -151,14 +192,20 @@ more_fields line x rest y more e f =
     ∙ ap (λ (o : Option (List ℕ)). in_front (number x) o) (front_none (number y)) ∙ front_none (number x)
 
 -- without the first number there are none
-pub no_first : (n : ℕ) (line x rest : List ℕ) → fields_of line ≡ x ∷ fields_of rest → number x ≡ None → numbers (suc n) (fields_of line) ≡ None
-no_first n line x rest e h = first_and_others n line x rest e ∙ ap (λ (o : Option ℕ). in_front o (numbers n (fields_of rest))) h
+pub no_first : (n : ℕ) (line x rest : List ℕ) → fields_of line ≡ x ∷ fields_of rest → number x ≡ None → numbers
+    (suc n) (fields_of line) ≡ None
+no_first n line x rest e h = first_and_others n line x rest e ∙ ap (λ (o : Option ℕ). in_front o (numbers n
+    (fields_of rest))) h
 
 -- nor without the others
-pub no_others : (n : ℕ) (line x rest : List ℕ) → fields_of line ≡ x ∷ fields_of rest → numbers n (fields_of rest) ≡ None → numbers (suc n) (fields_of line) ≡ None
-no_others n line x rest e h = first_and_others n line x rest e ∙ ap (λ (o : Option (List ℕ)). in_front (number x) o) h ∙ front_none (number x)
+pub no_others : (n : ℕ) (line x rest : List ℕ) → fields_of line ≡ x ∷ fields_of rest → numbers n (fields_of rest)
+    ≡ None → numbers (suc n) (fields_of line) ≡ None
+no_others n line x rest e h = first_and_others n line x rest e ∙ ap (λ (o : Option (List ℕ)). in_front (number x) o) h
+    ∙ front_none (number x)
 
 -- with both there are
-pub with_first : (n : ℕ) (line x rest : List ℕ) (k : ℕ) (ns : List ℕ) → fields_of line ≡ x ∷ fields_of rest → number x ≡ Some k → numbers n (fields_of rest) ≡ Some ns → numbers (suc n) (fields_of line) ≡ Some (k ∷ ns)
+pub with_first : (n : ℕ) (line x rest : List ℕ) (k : ℕ) (ns : List ℕ) → fields_of line ≡ x ∷ fields_of rest → number x
+    ≡ Some k → numbers n (fields_of rest) ≡ Some ns → numbers (suc n) (fields_of line) ≡ Some (k ∷ ns)
 with_first n line x rest k ns e h g =
-    first_and_others n line x rest e ∙ ap (λ (o : Option ℕ). in_front o (numbers n (fields_of rest))) h ∙ ap (λ (o : Option (List ℕ)). in_front (Some k) o) g
+    first_and_others n line x rest e ∙ ap (λ (o : Option ℕ). in_front o (numbers n (fields_of rest))) h ∙ ap (λ
+    (o : Option (List ℕ)). in_front (Some k) o) g

@@ -1,5 +1,26 @@
 -- Judging all lines decides the grammar and finds the fault.
-use Rattle.std.proofs.Common.{◌≡◌, ℕ, ◌+◌, List, [], ◌∷◌, ◌++◌, length, Result, Ok, Err, refl, sym, ap, ap₂, subst, ◌∙◌, arith, inl, inr}
+use Rattle.std.proofs.Common.{
+  ◌≡◌,
+  ℕ,
+  ◌+◌,
+  List,
+  [],
+  ◌∷◌,
+  ◌++◌,
+  length,
+  Result,
+  Ok,
+  Err,
+  refl,
+  sym,
+  ap,
+  ap₂,
+  subst,
+  ◌∙◌,
+  arith,
+  inl,
+  inr,
+}
 use Rattle.std.specs.Prelude.{◌⊎◌, ◌≢◌, IfOk}
 use Rattle.edit_files.specs.declared.fault.Why.{Why}
 use Rattle.edit_files.specs.declared.fault.Why.TheVariants.{Truncated}
@@ -41,7 +62,8 @@ not_body p m h = cc
 abbrev cut_at : ℕ → Fault
 cut_at n = record { line = n; why = Truncated }
 
-ended_err : (n : ℕ) (due : Due) (f : MeshParts) (fault : Fault) → ended n due f ≡ Err fault → (due ≢ Nothing) × (fault ≡ cut_at n)
+ended_err : (n : ℕ) (due : Due) (f : MeshParts) (fault : Fault) → ended n due f ≡ Err fault → (due ≢ Nothing) × (fault
+    ≡ cut_at n)
 ended_err n Nothing f fault h = absurd (ok_err f fault h)
 ended_err n Title f fault h = (not_title, sym (err_one {A = MeshParts} (cut_at n) fault h))
 ended_err n (Head p) f fault h = (not_head p, sym (err_one {A = MeshParts} (cut_at n) fault h))
@@ -57,17 +79,26 @@ ended_cut n Last f h = refl
 
 -- ---- what a turn came to
 
-on_ok : (n : ℕ) (r : Result Reached Why) (rest : Reached → Result MeshParts Fault) (f : MeshParts) → go_on n r rest ≡ Ok f → (b : Reached) × (r ≡ Ok b) × (rest b ≡ Ok f)
+on_ok : (n : ℕ) (r : Result Reached Why) (rest : Reached → Result MeshParts Fault) (f : MeshParts) → go_on n r rest
+    ≡ Ok f → (b : Reached) × (r ≡ Ok b) × (rest b ≡ Ok f)
 on_ok n (Err why) rest f h = absurd (ok_err f _ (sym h))
 on_ok n (Ok b) rest f h = (b, refl, h)
 
-on_err : (n : ℕ) (r : Result Reached Why) (rest : Reached → Result MeshParts Fault) (fault : Fault) → go_on n r rest ≡ Err fault → ((why : Why) × (r ≡ Err why) × (fault ≡ record { line = n; why = why })) ⊎ ((b : Reached) × (r ≡ Ok b) × (rest b ≡ Err fault))
-on_err n (Err why) rest fault h = inl (why, refl, sym (err_one {A = MeshParts} (record { line = n; why = why }) fault h))
+on_err : (n : ℕ) (r : Result Reached Why) (rest : Reached → Result MeshParts Fault) (fault : Fault) → go_on n r rest
+    ≡ Err fault → ((why : Why) × (r ≡ Err why) × (fault ≡ record { line = n; why = why })) ⊎ ((b : Reached) × (r
+    ≡ Ok b) × (rest b ≡ Err fault))
+on_err n (Err why) rest fault h = inl (
+  why,
+  refl,
+  sym (err_one {A = MeshParts}
+      (record { line = n; why = why }) fault h),
+)
 on_err n (Ok b) rest fault h = inr (b, refl, h)
 
 -- ---- the mesh
 
-leads_all : (n : ℕ) (a : Reached) (lines : List (List ℕ)) (f : MeshParts) → judge n a lines ≡ Ok f → AllLead lines a (at_end f)
+leads_all : (n : ℕ) (a : Reached) (lines : List (List ℕ)) (f : MeshParts) → judge n a lines ≡ Ok f → AllLead lines a
+    (at_end f)
 unfolding judge
 leads_all n a [] f h = let e = ended_ok n a.due a.taken f h in same_place a f e.0 e.1
   where
@@ -79,7 +110,8 @@ leads_all n a (line ∷ lines) f h =
     (k.0, step_sound a line k.0 k.1, leads_all (n + 1) k.0 lines f k.2)
 
 -- lines that lead somewhere are judged from there
-all_judged : (front rest : List (List ℕ)) (n : ℕ) (a b : Reached) → AllLead front a b → judge n a (front ++ rest) ≡ judge (n + length front) b rest
+all_judged : (front rest : List (List ℕ)) (n : ℕ) (a b : Reached) → AllLead front a b → judge n a (front ++ rest)
+    ≡ judge (n + length front) b rest
 all_judged [] rest n a b h = ap (λ (r : Reached). judge n r rest) h ∙ ap (λ (k : ℕ). judge k b rest) (omega arith)
 all_judged (line ∷ front) rest n a b h =
     judge_on n a h.0 (line ∷ front ++ rest) line (front ++ rest) refl (step_complete a line h.0 h.1)
@@ -90,7 +122,8 @@ nothing_behind : (lines : List (List ℕ)) → lines ++ [] ≡ lines
 nothing_behind [] = refl
 nothing_behind (l ∷ lines) = ap (λ (v : List (List ℕ)). l ∷ v) (nothing_behind lines)
 
-judged_all : (lines : List (List ℕ)) (n : ℕ) (a b : Reached) → AllLead lines a b → judge n a lines ≡ ended (n + length lines) b.due b.taken
+judged_all : (lines : List (List ℕ)) (n : ℕ) (a b : Reached) → AllLead lines a b → judge n a lines ≡ ended
+    (n + length lines) b.due b.taken
 judged_all lines n a b h =
     ap (judge n a) (sym (nothing_behind lines)) ∙ all_judged lines [] n a b h ∙ judge_end (n + length lines) b [] refl
 
@@ -108,11 +141,13 @@ record Faulty (n : ℕ) (a : Reached) (lines : List (List ℕ)) (fault : Fault) 
   at : Reached
   right : AllLead front a at
   number : fault.line ≡ n + length front
-  rest : ((line : List ℕ) × (behind : List (List ℕ)) × (lines ≡ front ++ line ∷ behind) × IsReason at.due at.taken line fault.why)
+  rest : ((line : List ℕ) × (behind : List (List ℕ)) × (lines ≡ front ++ line ∷ behind)
+      × IsReason at.due at.taken line fault.why)
       ⊎ ((lines ≡ front) × (at.due ≢ Nothing) × (fault.why ≡ Truncated))
 
 -- one line more in front
-one_more : (n : ℕ) (a b : Reached) (line : List ℕ) (lines : List (List ℕ)) (fault : Fault) → step a line ≡ Ok b → Faulty (n + 1) b lines fault → Faulty n a (line ∷ lines) fault
+one_more : (n : ℕ) (a b : Reached) (line : List ℕ) (lines : List (List ℕ)) (fault : Fault) → step a line ≡ Ok b
+    → Faulty (n + 1) b lines fault → Faulty n a (line ∷ lines) fault
 one_more n a b line lines fault h k = record {
   front = line ∷ k.front;
   at = k.at;
@@ -124,7 +159,8 @@ one_more n a b line lines fault h k = record {
   ];
 }
 
-faulty : (n : ℕ) (a : Reached) (lines : List (List ℕ)) (fault : Fault) → judge n a lines ≡ Err fault → Faulty n a lines fault
+faulty : (n : ℕ) (a : Reached) (lines : List (List ℕ)) (fault : Fault) → judge n a lines ≡ Err fault
+    → Faulty n a lines fault
 unfolding judge
 faulty n a [] fault h =
     let e = ended_err n a.due a.taken fault h in
@@ -141,12 +177,19 @@ faulty n a (line ∷ lines) fault h = elim (on_err n (step a line) (λ b. judge 
     at = a;
     right = refl;
     number = ap (λ (v : Fault). v.line) k.2 ∙ omega arith;
-    rest = inl (line, lines, refl, subst (λ (w : Why). IsReason a.due a.taken line w) (sym (ap (λ (v : Fault). v.why) k.2)) (step_reason a line k.0 k.1));
+    rest = inl (
+      line,
+      lines,
+      refl,
+      subst (λ (w : Why). IsReason a.due a.taken line w) (sym (ap (λ
+          (v : Fault). v.why) k.2)) (step_reason a line k.0 k.1),
+    );
   }
   | inr k ↦ one_more n a k.0 line lines fault k.1 (faulty (n + 1) k.0 lines fault k.2)
 ]
 
-faulty_is : (lines : List (List ℕ)) (fault : Fault) → Faulty 1 at_title lines fault → IsWrongLine lines fault ⊎ IsCutOff lines fault
+faulty_is : (lines : List (List ℕ)) (fault : Fault) → Faulty 1 at_title lines fault
+    → IsWrongLine lines fault ⊎ IsCutOff lines fault
 faulty_is lines fault k = elim k.rest [
   | inl w ↦ inl (record {
     front = k.front;
@@ -162,30 +205,36 @@ faulty_is lines fault k = elim k.rest [
     at = k.at;
     right = subst (λ (v : List (List ℕ)). AllLead v at_title k.at) (sym w.0) k.right;
     more = w.1;
-    number = let e : length lines ≡ length k.front = ap (λ (v : List (List ℕ)). length v) w.0 in omega (arith, k.number, e);
+    number = let e : length lines ≡ length k.front = ap (λ (v : List (List ℕ)). length v) w.0 in omega
+        (arith, k.number, e);
     truncated = w.2;
   })
 ]
 
-pub judged_fault : (bytes : List ℕ) (fault : Fault) → judge 1 at_title (lines_of bytes) ≡ Err fault → IsMeshFault bytes fault
+pub judged_fault : (bytes : List ℕ) (fault : Fault) → judge 1 at_title (lines_of bytes) ≡ Err fault
+    → IsMeshFault bytes fault
 judged_fault bytes fault h = faulty_is (lines_of bytes) fault (faulty 1 at_title (lines_of bytes) fault h)
 
 -- a fault by its two parts
-fault_is : (fault : Fault) (n : ℕ) (why : Why) → fault.line ≡ n → fault.why ≡ why → fault ≡ record { line = n; why = why }
+fault_is : (fault : Fault) (n : ℕ) (why : Why) → fault.line ≡ n → fault.why ≡ why → fault
+    ≡ record { line = n; why = why }
 fault_is fault n why a b = ap₂ (λ (x : ℕ) (y : Why). record { line = x; why = y }) a b
 
 wrong_judged : (lines : List (List ℕ)) (fault : Fault) → IsWrongLine lines fault → judge 1 at_title lines ≡ Err fault
 wrong_judged lines fault w =
     ap (judge 1 at_title) w.place ∙ all_judged w.front (w.line ∷ w.rest) 1 at_title w.at w.right_so_far
-    ∙ judge_bad (1 + length w.front) w.at fault.why (w.line ∷ w.rest) w.line w.rest refl (reason_step w.at w.line fault.why w.reason)
+    ∙ judge_bad (1 + length w.front) w.at fault.why (w.line ∷ w.rest) w.line w.rest refl
+    (reason_step w.at w.line fault.why w.reason)
     ∙ ap (λ (v : Fault). Err v) (sym (fault_is fault (1 + length w.front) fault.why (omega (arith, w.number)) refl))
 
 cut_judged : (lines : List (List ℕ)) (fault : Fault) → IsCutOff lines fault → judge 1 at_title lines ≡ Err fault
 cut_judged lines fault w =
     judged_all lines 1 at_title w.at w.right ∙ ended_cut (1 + length lines) w.at.due w.at.taken w.more
-    ∙ ap (λ (v : Fault). Err v) (sym (fault_is fault (1 + length lines) Truncated (omega (arith, w.number)) w.truncated))
+    ∙ ap (λ (v : Fault). Err v) (sym (fault_is fault (1 + length lines) Truncated (omega
+    (arith, w.number)) w.truncated))
 
-pub fault_judged : (bytes : List ℕ) (fault : Fault) → IsMeshFault bytes fault → judge 1 at_title (lines_of bytes) ≡ Err fault
+pub fault_judged : (bytes : List ℕ) (fault : Fault) → IsMeshFault bytes fault → judge 1 at_title (lines_of bytes)
+    ≡ Err fault
 fault_judged bytes fault h = elim h [
   | inl w ↦ wrong_judged (lines_of bytes) fault w
   | inr w ↦ cut_judged (lines_of bytes) fault w
@@ -193,29 +242,35 @@ fault_judged bytes fault h = elim h [
 
 -- ---- what a call gave
 
-pub given_mesh : (bytes : List ℕ) (r : Result MeshFile ReadRefused) → Gives parts r (judge 1 at_title (lines_of bytes)) → IfOk r (λ m. IsMeshText bytes (parts m))
+pub given_mesh : (bytes : List ℕ) (r : Result MeshFile ReadRefused) → Gives parts r (judge 1 at_title
+    (lines_of bytes)) → IfOk r (λ m. IsMeshText bytes (parts m))
 given_mesh bytes (Ok m) h = judged_mesh bytes (parts m) h
 given_mesh bytes (Err e) h = tt
 
-pub given_fault : (bytes : List ℕ) (r : Result MeshFile ReadRefused) (fault : Fault) → Gives parts r (judge 1 at_title (lines_of bytes)) → r ≡ Err (refusals.Bad fault) → IsMeshFault bytes fault
+pub given_fault : (bytes : List ℕ) (r : Result MeshFile ReadRefused) (fault : Fault) → Gives parts r (judge 1 at_title
+    (lines_of bytes)) → r ≡ Err (refusals.Bad fault) → IsMeshFault bytes fault
 given_fault bytes r fault h e =
-    judged_fault bytes fault (subst (λ (v : Result MeshFile ReadRefused). Gives parts v (judge 1 at_title (lines_of bytes))) e h)
+    judged_fault bytes fault (subst (λ (v : Result MeshFile ReadRefused). Gives parts v (judge 1 at_title
+    (lines_of bytes))) e h)
 
 -- ---- laws
 
 pub one_mesh_of : (bytes : List ℕ) (f g : MeshParts) → IsMeshText bytes f → IsMeshText bytes g → f ≡ g
 one_mesh_of bytes f g h k = ok_one {E = Fault} f g (sym (mesh_judged bytes f h) ∙ mesh_judged bytes g k)
 
-pub no_fault_of_mesh : (bytes : List ℕ) (f : MeshParts) (fault : Fault) → IsMeshText bytes f → IsMeshFault bytes fault → ⊥
+pub no_fault_of_mesh : (bytes : List ℕ) (f : MeshParts) (fault : Fault) → IsMeshText bytes f → IsMeshFault bytes fault
+    → ⊥
 no_fault_of_mesh bytes f fault h k = ok_err f fault (sym (mesh_judged bytes f h) ∙ fault_judged bytes fault k)
 
 pub one_fault_of : (bytes : List ℕ) (a b : Fault) → IsMeshFault bytes a → IsMeshFault bytes b → a ≡ b
 one_fault_of bytes a b h k = err_one {A = MeshParts} a b (sym (fault_judged bytes a h) ∙ fault_judged bytes b k)
 
-pub mesh_or_fault_of : (bytes : List ℕ) → ((f : MeshParts) × IsMeshText bytes f) ⊎ ((fault : Fault) × IsMeshFault bytes fault)
+pub mesh_or_fault_of : (bytes : List ℕ) → ((f : MeshParts) × IsMeshText bytes f) ⊎ ((fault : Fault)
+    × IsMeshFault bytes fault)
 mesh_or_fault_of bytes = by_result (judge 1 at_title (lines_of bytes)) refl
   where
     -- by what judging gives
-    by_result : (r : Result MeshParts Fault) → judge 1 at_title (lines_of bytes) ≡ r → ((f : MeshParts) × IsMeshText bytes f) ⊎ ((fault : Fault) × IsMeshFault bytes fault)
+    by_result : (r : Result MeshParts Fault) → judge 1 at_title (lines_of bytes) ≡ r → ((f : MeshParts)
+        × IsMeshText bytes f) ⊎ ((fault : Fault) × IsMeshFault bytes fault)
     by_result (Ok f) e = inl (f, judged_mesh bytes f e)
     by_result (Err fault) e = inr (fault, judged_fault bytes fault e)

@@ -1,5 +1,34 @@
 -- What is taken of a line of a list, and why it is not.
-use Rattle.std.proofs.Common.{◌≡◌, ℕ, ◌<◌, ◌≤◌, Bool, true, false, cond, ltb, List, [], ◌∷◌, ◌++◌, length, Option, Some, None, Result, Ok, Err, refl, sym, ap, subst, ◌∙◌, arith, inl, inr}
+use Rattle.std.proofs.Common.{
+  ◌≡◌,
+  ℕ,
+  ◌<◌,
+  ◌≤◌,
+  Bool,
+  true,
+  false,
+  cond,
+  ltb,
+  List,
+  [],
+  ◌∷◌,
+  ◌++◌,
+  length,
+  Option,
+  Some,
+  None,
+  Result,
+  Ok,
+  Err,
+  refl,
+  sym,
+  ap,
+  subst,
+  ◌∙◌,
+  arith,
+  inl,
+  inr,
+}
 use Rattle.std.specs.Prelude.{◌⊎◌, ⊤, codes, nat_lt}
 use Rattle.std.specs.Str.{bytes_eq}
 use Rattle.std.specs.Cmp.Lexicographic.{slice_cmp}
@@ -10,7 +39,15 @@ use Rattle.std.specs.Cmp.{nat_cmp_is}
 use Rattle.std.proofs.lemmas.Bool.{cases_Bool, cases_lt, le-ltb, ltb-true, lt-ltb}
 use Rattle.std.proofs.lemmas.Slice.Eq.{bytes_eq-Decides}
 use Rattle.edit_history.specs.declared.history.Reply.{Reply}
-use Rattle.edit_history.specs.declared.history.Reply.TheVariants.{Inserted, Duplicate, Removed, Missing, Flat, Moved, Occupied}
+use Rattle.edit_history.specs.declared.history.Reply.TheVariants.{
+  Inserted,
+  Duplicate,
+  Removed,
+  Missing,
+  Flat,
+  Moved,
+  Occupied,
+}
 use Rattle.edit_files.specs.declared.fault.Why.{Why}
 use Rattle.edit_files.specs.declared.fault.Why.TheVariants.{Section, Field, Range, TooMany, Truncated}
 use Rattle.edit_files.specs.Forms.{HasPointForm, IsPointLine}
@@ -18,7 +55,16 @@ use Rattle.edit_files.specs.Judging.{point}
 use Rattle.edit_files.proofs.Cited.{Decides, points_decided}
 use Rattle.mesh_reader.specs.declared.place.Part.{Part}
 use Rattle.mesh_reader.specs.declared.place.Part.TheVariants.{Replies, Points, Cells, Hull}
-use Rattle.mesh_reader.specs.Grammar.{HasFormOf, HasNumbers, IsAfter, IsIndexLine, IsLess, IsTaken, MeshParts, reply_word}
+use Rattle.mesh_reader.specs.Grammar.{
+  HasFormOf,
+  HasNumbers,
+  IsAfter,
+  IsIndexLine,
+  IsLess,
+  IsTaken,
+  MeshParts,
+  reply_word,
+}
 use Rattle.mesh_reader.specs.Judging.{corners, is_after, is_less, reply_among, reply_of, taken, with_one}
 use Rattle.mesh_reader.proofs.Corners.{corners_decided, index_form}
 
@@ -37,12 +83,14 @@ field_not_range h = cc
 -- ---- the last of a list
 
 -- where the test decides the order, it decides it of the last
-pub after_says : {X : Type 0} (before : X → X → Bool) (Before : X → X → Type 0) → ((a b : X) → before a b ≡ true → Before a b) → (l : List X) (q : X) → is_after before l q ≡ true → IsAfter Before l q
+pub after_says : {X : Type 0} (before : X → X → Bool) (Before : X → X → Type 0) → ((a b : X) → before a b ≡ true
+    → Before a b) → (l : List X) (q : X) → is_after before l q ≡ true → IsAfter Before l q
 after_says before Before f [] q h = tt
 after_says before Before f (r ∷ []) q h = f r q h
 after_says before Before f (r ∷ o ∷ l) q h = after_says before Before f (o ∷ l) q h
 
-pub says_after : {X : Type 0} (before : X → X → Bool) (Before : X → X → Type 0) → ((a b : X) → Before a b → before a b ≡ true) → (l : List X) (q : X) → IsAfter Before l q → is_after before l q ≡ true
+pub says_after : {X : Type 0} (before : X → X → Bool) (Before : X → X → Type 0) → ((a b : X) → Before a b → before a b
+    ≡ true) → (l : List X) (q : X) → IsAfter Before l q → is_after before l q ≡ true
 says_after before Before f [] q h = refl
 says_after before Before f (r ∷ []) q h = f r q h
 says_after before Before f (r ∷ o ∷ l) q h = says_after before Before f (o ∷ l) q h
@@ -69,7 +117,8 @@ among_sound [] line r h = absurd cc
 among_sound (x ∷ rs) line r h = by_test (bytes_eq line (reply_word x)) refl (among_sound rs line r) h
   where
     -- by the test
-    by_test : (t : Bool) → bytes_eq line (reply_word x) ≡ t → (reply_among rs line ≡ Ok r → IsReplyLine line r) → cond t (Ok x) (reply_among rs line) ≡ Ok r → IsReplyLine line r
+    by_test : (t : Bool) → bytes_eq line (reply_word x) ≡ t → (reply_among rs line ≡ Ok r → IsReplyLine line r)
+        → cond t (Ok x) (reply_among rs line) ≡ Ok r → IsReplyLine line r
     by_test true e next k = (bytes_eq-Decides line (reply_word x)).0 e ∙ ap reply_word (ok_one x r k)
     by_test false e next k = next k
 
@@ -78,7 +127,8 @@ among_only [] line why h = err_one {A = Reply} why Field (sym h)
 among_only (x ∷ rs) line why h = by_test (bytes_eq line (reply_word x)) (among_only rs line why) h
   where
     -- by the test
-    by_test : (t : Bool) → (reply_among rs line ≡ Err why → why ≡ Field) → cond t (Ok x) (reply_among rs line) ≡ Err why → why ≡ Field
+    by_test : (t : Bool) → (reply_among rs line ≡ Err why → why ≡ Field) → cond t (Ok x) (reply_among rs line)
+        ≡ Err why → why ≡ Field
     by_test true next k = absurd (ok_err x why k)
     by_test false next k = next k
 
@@ -116,25 +166,30 @@ replies_decided = record {
 -- ---- one line of a list
 
 -- what is added of a line that was read, and why not
-record Adds {A : Type 0} (read : List ℕ → Result A Why) (may : A → Bool) (add : A → MeshParts) (Says : List ℕ → A → Type 0) (Form : List ℕ → Type 0) : Type 0 where
-  sound : (line : List ℕ) (g : MeshParts) → with_one may add (read line) ≡ Ok g → (a : A) × Says line a × (may a ≡ true) × (g ≡ add a)
+record Adds {A : Type 0} (read : List ℕ → Result A Why) (may : A → Bool) (add : A → MeshParts) (Says : List ℕ → A
+    → Type 0) (Form : List ℕ → Type 0) : Type 0 where
+  sound : (line : List ℕ) (g : MeshParts) → with_one may add (read line) ≡ Ok g → (a : A) × Says line a × (may a
+      ≡ true) × (g ≡ add a)
   complete : (line : List ℕ) (a : A) → Says line a → may a ≡ true → with_one may add (read line) ≡ Ok (add a)
   field : (line : List ℕ) → with_one may add (read line) ≡ Err Field → Form line → ⊥
   range : (line : List ℕ) → with_one may add (read line) ≡ Err Range → Form line
   only : (line : List ℕ) (why : Why) → with_one may add (read line) ≡ Err why → (why ≡ Field) ⊎ (why ≡ Range)
 
 -- what was added
-added_ok : {A : Type 0} (may : A → Bool) (add : A → MeshParts) (r : Result A Why) (g : MeshParts) → with_one may add r ≡ Ok g → (a : A) × (r ≡ Ok a) × (may a ≡ true) × (g ≡ add a)
+added_ok : {A : Type 0} (may : A → Bool) (add : A → MeshParts) (r : Result A Why) (g : MeshParts) → with_one may add r
+    ≡ Ok g → (a : A) × (r ≡ Ok a) × (may a ≡ true) × (g ≡ add a)
 added_ok may add (Err why) g h = absurd (ok_err g why (sym h))
 added_ok {A} may add (Ok a) g h = by_test (may a) refl h
   where
     -- by the test
-    by_test : (t : Bool) → may a ≡ t → cond t (Ok (add a)) (Err Range) ≡ Ok g → (b : A) × (◌≡◌ {A = Result A Why} (Ok a) (Ok b)) × (may b ≡ true) × (g ≡ add b)
+    by_test : (t : Bool) → may a ≡ t → cond t (Ok (add a)) (Err Range) ≡ Ok g → (b : A) × (◌≡◌ {A = Result A Why}
+        (Ok a) (Ok b)) × (may b ≡ true) × (g ≡ add b)
     by_test true e k = (a, refl, e, sym (ok_one (add a) g k))
     by_test false e k = absurd (ok_err g Range (sym k))
 
 -- why nothing was
-added_err : {A : Type 0} (may : A → Bool) (add : A → MeshParts) (r : Result A Why) (why : Why) → with_one may add r ≡ Err why → (r ≡ Err why) ⊎ ((a : A) × (r ≡ Ok a) × (why ≡ Range))
+added_err : {A : Type 0} (may : A → Bool) (add : A → MeshParts) (r : Result A Why) (why : Why) → with_one may add r
+    ≡ Err why → (r ≡ Err why) ⊎ ((a : A) × (r ≡ Ok a) × (why ≡ Range))
 added_err may add (Err w) why h = inl (ap (λ v. Err v) (err_one w why h))
 added_err {A} may add (Ok a) why h = inr (a, refl, by_test (may a) h)
   where
@@ -143,10 +198,13 @@ added_err {A} may add (Ok a) why h = inr (a, refl, by_test (may a) h)
     by_test true k = absurd (ok_err (add a) why k)
     by_test false k = sym (err_one Range why k)
 
-adds : {A : Type 0} (read : List ℕ → Result A Why) (may : A → Bool) (add : A → MeshParts) (Says : List ℕ → A → Type 0) (Form : List ℕ → Type 0) → Decides read Says Form → ((line : List ℕ) (a : A) → Says line a → Form line) → Adds read may add Says Form
+adds : {A : Type 0} (read : List ℕ → Result A Why) (may : A → Bool) (add : A → MeshParts) (Says : List ℕ → A → Type 0)
+    (Form : List ℕ → Type 0) → Decides read Says Form → ((line : List ℕ) (a : A) → Says line a → Form line)
+    → Adds read may add Says Form
 adds {A} read may add Says Form d form = record {
   sound = λ line g h. let k = added_ok may add (read line) g h in (k.0, d.sound line k.0 k.1, k.2, k.3);
-  complete = λ line a says fits. ap (with_one may add) (d.complete line a says) ∙ ap (λ (t : Bool). cond t (Ok (add a)) (Err Range)) fits;
+  complete = λ line a says fits. ap (with_one may add) (d.complete line a says) ∙ ap (λ (t : Bool). cond t (Ok
+      (add a)) (Err Range)) fits;
   field = λ line h has. elim (added_err may add (read line) Field h) [
     | inl k ↦ d.field line k has
     | inr k ↦ field_not_range k.2
@@ -163,33 +221,66 @@ adds {A} read may add Says Form d form = record {
 
 -- a point line has its form
 point_form : (line : List ℕ) (p : ℕ) → IsPointLine line p → HasPointForm line
-point_form line p s = record { x = s.x; y = s.y; z = s.z; fields = s.fields; x_number = s.x_value.number; y_number = s.y_value.number; z_number = s.z_value.number }
+point_form line p s = record {
+  x = s.x;
+  y = s.y;
+  z = s.z;
+  fields = s.fields;
+  x_number = s.x_value.number;
+  y_number =
+      s.y_value.number;
+  z_number = s.z_value.number;
+}
 
-reply_adds : (f : MeshParts) → Adds reply_of (λ r. true) (λ r. record f { replies = f.replies ++ r ∷ [] }) IsReplyLine (HasFormOf Replies)
-reply_adds f = adds reply_of (λ r. true) (λ r. record f { replies = f.replies ++ r ∷ [] }) IsReplyLine (HasFormOf Replies) replies_decided (λ line r h. (r, h))
+reply_adds : (f : MeshParts) → Adds reply_of (λ r. true) (λ r. record f { replies = f.replies ++ r ∷ [] }) IsReplyLine
+    (HasFormOf Replies)
+reply_adds f = adds reply_of (λ r. true) (λ r. record f { replies = f.replies ++ r ∷ [] }) IsReplyLine
+    (HasFormOf Replies) replies_decided (λ line r h. (r, h))
 
-point_adds : (f : MeshParts) → Adds point (is_after nat_lt f.points) (λ p. record f { points = f.points ++ p ∷ [] }) IsPointLine HasPointForm
-point_adds f = adds point (is_after nat_lt f.points) (λ p. record f { points = f.points ++ p ∷ [] }) IsPointLine HasPointForm points_decided point_form
+point_adds : (f : MeshParts) → Adds point (is_after nat_lt f.points) (λ p. record f { points = f.points ++ p ∷ [] })
+    IsPointLine HasPointForm
+point_adds f = adds point (is_after nat_lt f.points) (λ p. record f { points = f.points ++ p ∷ [] }) IsPointLine
+    HasPointForm points_decided point_form
 
-cell_adds : (f : MeshParts) → Adds (corners 4 f.points) (is_after is_less f.cells) (λ q. record f { cells = f.cells ++ q ∷ [] }) (IsIndexLine 4 f.points) (HasNumbers 4)
-cell_adds f = adds (corners 4 f.points) (is_after is_less f.cells) (λ q. record f { cells = f.cells ++ q ∷ [] }) (IsIndexLine 4 f.points) (HasNumbers 4) (corners_decided 3 f.points) (λ line q h. index_form 4 f.points line q h)
+cell_adds : (f : MeshParts) → Adds (corners 4 f.points) (is_after is_less f.cells)
+    (λ q. record f { cells = f.cells ++ q ∷ [] }) (IsIndexLine 4 f.points) (HasNumbers 4)
+cell_adds f = adds (corners 4 f.points) (is_after is_less f.cells) (λ q. record f { cells = f.cells ++ q ∷ [] })
+    (IsIndexLine 4 f.points) (HasNumbers 4) (corners_decided 3 f.points) (λ line q h. index_form 4 f.points line q h)
 
-triple_adds : (f : MeshParts) → Adds (corners 3 f.points) (is_after is_less f.hull) (λ q. record f { hull = f.hull ++ q ∷ [] }) (IsIndexLine 3 f.points) (HasNumbers 3)
-triple_adds f = adds (corners 3 f.points) (is_after is_less f.hull) (λ q. record f { hull = f.hull ++ q ∷ [] }) (IsIndexLine 3 f.points) (HasNumbers 3) (corners_decided 2 f.points) (λ line q h. index_form 3 f.points line q h)
+triple_adds : (f : MeshParts) → Adds (corners 3 f.points) (is_after is_less f.hull)
+    (λ q. record f { hull = f.hull ++ q ∷ [] }) (IsIndexLine 3 f.points) (HasNumbers 3)
+triple_adds f = adds (corners 3 f.points) (is_after is_less f.hull) (λ q. record f { hull = f.hull ++ q ∷ [] })
+    (IsIndexLine 3 f.points) (HasNumbers 3) (corners_decided 2 f.points) (λ line q h. index_form 3 f.points line q h)
 
 -- ---- all lists
 
 taken_sound : (p : Part) (f : MeshParts) (line : List ℕ) (g : MeshParts) → taken p f line ≡ Ok g → IsTaken p f line g
 taken_sound Replies f line g h = let k = (reply_adds f).sound line g h in (k.0, k.1, k.3)
-taken_sound Points f line g h = let k = (point_adds f).sound line g h in (k.0, k.1, after_says nat_lt (λ r q. r < q) (λ a b e. ltb-true a b e) f.points k.0 k.2, k.3)
-taken_sound Cells f line g h = let k = (cell_adds f).sound line g h in (k.0, k.1, after_says is_less IsLess less_says f.cells k.0 k.2, k.3)
-taken_sound Hull f line g h = let k = (triple_adds f).sound line g h in (k.0, k.1, after_says is_less IsLess less_says f.hull k.0 k.2, k.3)
+taken_sound Points f line g h = let k = (point_adds f).sound line g h in (
+  k.0,
+  k.1,
+  after_says nat_lt (λ r q. r < q)
+      (λ a b e. ltb-true a b e) f.points k.0 k.2,
+  k.3,
+)
+taken_sound Cells f line g h = let k = (cell_adds f).sound line g h in (
+  k.0,
+  k.1,
+  after_says is_less IsLess less_says
+      f.cells k.0 k.2,
+  k.3,
+)
+taken_sound Hull f line g h = let k = (triple_adds f).sound line g h in
+    (k.0, k.1, after_says is_less IsLess less_says f.hull k.0 k.2, k.3)
 
 taken_complete : (p : Part) (f : MeshParts) (line : List ℕ) (g : MeshParts) → IsTaken p f line g → taken p f line ≡ Ok g
 taken_complete Replies f line g h = (reply_adds f).complete line h.0 h.1 refl ∙ ap (λ (m : MeshParts). Ok m) (sym h.2)
-taken_complete Points f line g h = (point_adds f).complete line h.0 h.1 (says_after nat_lt (λ r q. r < q) (λ a b e. lt-ltb a b e) f.points h.0 h.2) ∙ ap (λ (m : MeshParts). Ok m) (sym h.3)
-taken_complete Cells f line g h = (cell_adds f).complete line h.0 h.1 (says_after is_less IsLess says_less f.cells h.0 h.2) ∙ ap (λ (m : MeshParts). Ok m) (sym h.3)
-taken_complete Hull f line g h = (triple_adds f).complete line h.0 h.1 (says_after is_less IsLess says_less f.hull h.0 h.2) ∙ ap (λ (m : MeshParts). Ok m) (sym h.3)
+taken_complete Points f line g h = (point_adds f).complete line h.0 h.1 (says_after nat_lt (λ r q. r < q)
+    (λ a b e. lt-ltb a b e) f.points h.0 h.2) ∙ ap (λ (m : MeshParts). Ok m) (sym h.3)
+taken_complete Cells f line g h = (cell_adds f).complete line h.0 h.1 (says_after is_less IsLess says_less f.cells h.0
+    h.2) ∙ ap (λ (m : MeshParts). Ok m) (sym h.3)
+taken_complete Hull f line g h = (triple_adds f).complete line h.0 h.1 (says_after is_less IsLess says_less f.hull h.0
+    h.2) ∙ ap (λ (m : MeshParts). Ok m) (sym h.3)
 
 taken_field : (p : Part) (f : MeshParts) (line : List ℕ) → taken p f line ≡ Err Field → HasFormOf p line → ⊥
 taken_field Replies f line h = (reply_adds f).field line h
@@ -203,7 +294,8 @@ taken_range Points f line h = (point_adds f).range line h
 taken_range Cells f line h = (cell_adds f).range line h
 taken_range Hull f line h = (triple_adds f).range line h
 
-taken_only : (p : Part) (f : MeshParts) (line : List ℕ) (why : Why) → taken p f line ≡ Err why → (why ≡ Field) ⊎ (why ≡ Range)
+taken_only : (p : Part) (f : MeshParts) (line : List ℕ) (why : Why) → taken p f line ≡ Err why → (why ≡ Field) ⊎ (why
+    ≡ Range)
 taken_only Replies f line why h = (reply_adds f).only line why h
 taken_only Points f line why h = (point_adds f).only line why h
 taken_only Cells f line why h = (cell_adds f).only line why h
@@ -228,7 +320,8 @@ taken_form Hull f line g h = index_form 3 f.points line h.0 h.1
 
 -- ---- the last of a list, as it is found
 
-pub after_last : {X : Type 0} (before : X → X → Bool) (front : List X) (r q : X) → is_after before (front ++ r ∷ []) q ≡ before r q
+pub after_last : {X : Type 0} (before : X → X → Bool) (front : List X) (r q : X) → is_after before (front ++ r ∷ []) q
+    ≡ before r q
 after_last before [] r q = refl
 after_last before (x ∷ []) r q = refl
 after_last before (x ∷ y ∷ front) r q = after_last before (y ∷ front) r q

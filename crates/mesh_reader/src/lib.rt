@@ -16,7 +16,7 @@
 pub mod laws;
 mod line;
 mod mesh_file;
-mod place;
+pub mod place;
 mod reader;
 
 pub use mesh_file::MeshFile;

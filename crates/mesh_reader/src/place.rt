@@ -1,4 +1,4 @@
-//! What is due in the text of a mesh.
+//! What is due in the text of a mesh. The grammar speaks of it; no caller has to.
 
 ghost use Rattle.std.specs.Prelude.{◌≡◌};
 ghost use Rattle.mesh_reader.specs.Grammar.{behind as behind_of, lines_due as due_of, most_of, word_of as letters_of};
@@ -10,8 +10,8 @@ pub(crate) const POINT_LIMIT: u64 = 262_144;
 const CELL_LIMIT: u64 = 16_777_216;
 
 /// A list of the text.
-#[derive(Clone, Copy)]
-pub(crate) enum Part {
+#[derive(Clone, Copy, Debug)]
+pub enum Part {
     Replies,
     Points,
     Cells,
@@ -19,8 +19,8 @@ pub(crate) enum Part {
 }
 
 /// What is due.
-#[derive(Clone, Copy)]
-pub(crate) enum Due {
+#[derive(Clone, Copy, Debug)]
+pub enum Due {
     /// The first line.
     Title,
     /// The head of a list.

@@ -21,7 +21,8 @@ pub returns-then-reads-3 : goal.returns-then-reads-3
 unfolding reply_of
 returns-then-reads-3 c =
     let a : bytes_eq c.args.line.now (codes "Inserted") ≡ false = sym c.reads.ensures ∙ c.if-reads.false in
-    let b : bytes_eq c.args.line.now (codes "Duplicate") ≡ false = sym c.reads-else-reads.ensures ∙ c.if-reads-2.false in
+    let b : bytes_eq c.args.line.now (codes "Duplicate") ≡ false = sym c.reads-else-reads.ensures
+    ∙ c.if-reads-2.false in
     let d : bytes_eq c.args.line.now (codes "Removed") ≡ true = sym c.reads-else-reads-2.ensures ∙ c.if-reads-3.true in
     rw (a, b, d) refl
 
@@ -29,8 +30,10 @@ pub returns-then-reads-4 : goal.returns-then-reads-4
 unfolding reply_of
 returns-then-reads-4 c =
     let a : bytes_eq c.args.line.now (codes "Inserted") ≡ false = sym c.reads.ensures ∙ c.if-reads.false in
-    let b : bytes_eq c.args.line.now (codes "Duplicate") ≡ false = sym c.reads-else-reads.ensures ∙ c.if-reads-2.false in
-    let d : bytes_eq c.args.line.now (codes "Removed") ≡ false = sym c.reads-else-reads-2.ensures ∙ c.if-reads-3.false in
+    let b : bytes_eq c.args.line.now (codes "Duplicate") ≡ false = sym c.reads-else-reads.ensures
+    ∙ c.if-reads-2.false in
+    let d : bytes_eq c.args.line.now (codes "Removed") ≡ false = sym c.reads-else-reads-2.ensures
+    ∙ c.if-reads-3.false in
     let e : bytes_eq c.args.line.now (codes "Missing") ≡ true = sym c.reads-else-reads-3.ensures ∙ c.if-reads-4.true in
     rw (a, b, d, e) refl
 
@@ -38,9 +41,12 @@ pub returns-then-reads-5 : goal.returns-then-reads-5
 unfolding reply_of
 returns-then-reads-5 c =
     let a : bytes_eq c.args.line.now (codes "Inserted") ≡ false = sym c.reads.ensures ∙ c.if-reads.false in
-    let b : bytes_eq c.args.line.now (codes "Duplicate") ≡ false = sym c.reads-else-reads.ensures ∙ c.if-reads-2.false in
-    let d : bytes_eq c.args.line.now (codes "Removed") ≡ false = sym c.reads-else-reads-2.ensures ∙ c.if-reads-3.false in
-    let e : bytes_eq c.args.line.now (codes "Missing") ≡ false = sym c.reads-else-reads-3.ensures ∙ c.if-reads-4.false in
+    let b : bytes_eq c.args.line.now (codes "Duplicate") ≡ false = sym c.reads-else-reads.ensures
+    ∙ c.if-reads-2.false in
+    let d : bytes_eq c.args.line.now (codes "Removed") ≡ false = sym c.reads-else-reads-2.ensures
+    ∙ c.if-reads-3.false in
+    let e : bytes_eq c.args.line.now (codes "Missing") ≡ false = sym c.reads-else-reads-3.ensures
+    ∙ c.if-reads-4.false in
     let f : bytes_eq c.args.line.now (codes "Flat") ≡ true = sym c.reads-else-reads-4.ensures ∙ c.if-reads-5.true in
     rw (a, b, d, e, f) refl
 
@@ -48,9 +54,12 @@ pub returns-then-reads-6 : goal.returns-then-reads-6
 unfolding reply_of
 returns-then-reads-6 c =
     let a : bytes_eq c.args.line.now (codes "Inserted") ≡ false = sym c.reads.ensures ∙ c.if-reads.false in
-    let b : bytes_eq c.args.line.now (codes "Duplicate") ≡ false = sym c.reads-else-reads.ensures ∙ c.if-reads-2.false in
-    let d : bytes_eq c.args.line.now (codes "Removed") ≡ false = sym c.reads-else-reads-2.ensures ∙ c.if-reads-3.false in
-    let e : bytes_eq c.args.line.now (codes "Missing") ≡ false = sym c.reads-else-reads-3.ensures ∙ c.if-reads-4.false in
+    let b : bytes_eq c.args.line.now (codes "Duplicate") ≡ false = sym c.reads-else-reads.ensures
+    ∙ c.if-reads-2.false in
+    let d : bytes_eq c.args.line.now (codes "Removed") ≡ false = sym c.reads-else-reads-2.ensures
+    ∙ c.if-reads-3.false in
+    let e : bytes_eq c.args.line.now (codes "Missing") ≡ false = sym c.reads-else-reads-3.ensures
+    ∙ c.if-reads-4.false in
     let f : bytes_eq c.args.line.now (codes "Flat") ≡ false = sym c.reads-else-reads-4.ensures ∙ c.if-reads-5.false in
     let g : bytes_eq c.args.line.now (codes "Moved") ≡ true = sym c.reads-else-reads-5.ensures ∙ c.if-reads-6.true in
     rw (a, b, d, e, f, g) refl
@@ -59,9 +68,12 @@ pub returns-then-reads-7 : goal.returns-then-reads-7
 unfolding reply_of
 returns-then-reads-7 c =
     let a : bytes_eq c.args.line.now (codes "Inserted") ≡ false = sym c.reads.ensures ∙ c.if-reads.false in
-    let b : bytes_eq c.args.line.now (codes "Duplicate") ≡ false = sym c.reads-else-reads.ensures ∙ c.if-reads-2.false in
-    let d : bytes_eq c.args.line.now (codes "Removed") ≡ false = sym c.reads-else-reads-2.ensures ∙ c.if-reads-3.false in
-    let e : bytes_eq c.args.line.now (codes "Missing") ≡ false = sym c.reads-else-reads-3.ensures ∙ c.if-reads-4.false in
+    let b : bytes_eq c.args.line.now (codes "Duplicate") ≡ false = sym c.reads-else-reads.ensures
+    ∙ c.if-reads-2.false in
+    let d : bytes_eq c.args.line.now (codes "Removed") ≡ false = sym c.reads-else-reads-2.ensures
+    ∙ c.if-reads-3.false in
+    let e : bytes_eq c.args.line.now (codes "Missing") ≡ false = sym c.reads-else-reads-3.ensures
+    ∙ c.if-reads-4.false in
     let f : bytes_eq c.args.line.now (codes "Flat") ≡ false = sym c.reads-else-reads-4.ensures ∙ c.if-reads-5.false in
     let g : bytes_eq c.args.line.now (codes "Moved") ≡ false = sym c.reads-else-reads-5.ensures ∙ c.if-reads-6.false in
     let h : bytes_eq c.args.line.now (codes "Occupied") ≡ true = sym c.reads-else-reads-6.ensures ∙ c.if-reads-7.true in
@@ -71,10 +83,14 @@ pub returns-else-reads-7 : goal.returns-else-reads-7
 unfolding reply_of
 returns-else-reads-7 c =
     let a : bytes_eq c.args.line.now (codes "Inserted") ≡ false = sym c.reads.ensures ∙ c.if-reads.false in
-    let b : bytes_eq c.args.line.now (codes "Duplicate") ≡ false = sym c.reads-else-reads.ensures ∙ c.if-reads-2.false in
-    let d : bytes_eq c.args.line.now (codes "Removed") ≡ false = sym c.reads-else-reads-2.ensures ∙ c.if-reads-3.false in
-    let e : bytes_eq c.args.line.now (codes "Missing") ≡ false = sym c.reads-else-reads-3.ensures ∙ c.if-reads-4.false in
+    let b : bytes_eq c.args.line.now (codes "Duplicate") ≡ false = sym c.reads-else-reads.ensures
+    ∙ c.if-reads-2.false in
+    let d : bytes_eq c.args.line.now (codes "Removed") ≡ false = sym c.reads-else-reads-2.ensures
+    ∙ c.if-reads-3.false in
+    let e : bytes_eq c.args.line.now (codes "Missing") ≡ false = sym c.reads-else-reads-3.ensures
+    ∙ c.if-reads-4.false in
     let f : bytes_eq c.args.line.now (codes "Flat") ≡ false = sym c.reads-else-reads-4.ensures ∙ c.if-reads-5.false in
     let g : bytes_eq c.args.line.now (codes "Moved") ≡ false = sym c.reads-else-reads-5.ensures ∙ c.if-reads-6.false in
-    let h : bytes_eq c.args.line.now (codes "Occupied") ≡ false = sym c.reads-else-reads-6.ensures ∙ c.if-reads-7.false in
+    let h : bytes_eq c.args.line.now (codes "Occupied") ≡ false = sym c.reads-else-reads-6.ensures
+    ∙ c.if-reads-7.false in
     rw (a, b, d, e, f, g, h) refl

@@ -6,7 +6,8 @@ use Rattle.mesh_reader.proofs.line.tri_at.Goals as goal
 
 pub returns-in_err-a : goal.returns-in_err-a
 returns-in_err-a c =
-    rw c.from_residual.ensures (ap in_order (missing_point c.args.points.now c.args.i (c.args.j ∷ c.args.k ∷ []) (sym c.in_err-a.ensures)))
+    rw c.from_residual.ensures (ap in_order (missing_point c.args.points.now c.args.i (c.args.j ∷ c.args.k ∷ [])
+    (sym c.in_err-a.ensures)))
 
 pub returns-in_err-b : goal.returns-in_err-b
 returns-in_err-b c =
@@ -18,12 +19,15 @@ pub returns-in_err-c : goal.returns-in_err-c
 returns-in_err-c c =
     rw c.from_residual-in_err-c.ensures
     (ap in_order (missing_others c.args.points.now c.args.i (c.args.j ∷ c.args.k ∷ [])
-    (missing_others c.args.points.now c.args.j (c.args.k ∷ []) (missing_point c.args.points.now c.args.k [] (sym c.in_err-c.ensures)))))
+    (missing_others c.args.points.now c.args.j (c.args.k ∷ []) (missing_point c.args.points.now c.args.k []
+    (sym c.in_err-c.ensures)))))
 
 pub returns : goal.returns
 returns c =
     let s = c.args.points.now in
-    order_made (points_at s (c.args.i ∷ c.args.j ∷ c.args.k ∷ [])) (c.in_ok-a.a ∷ c.in_ok-b.b ∷ c.in_ok-c.c ∷ []) c.tri_from.result
-    (with_point s c.args.i c.in_ok-a.a (c.args.j ∷ c.args.k ∷ []) (c.in_ok-b.b ∷ c.in_ok-c.c ∷ []) (sym c.in_ok-a.ensures)
+    order_made (points_at s (c.args.i ∷ c.args.j ∷ c.args.k ∷ [])) (c.in_ok-a.a ∷ c.in_ok-b.b ∷ c.in_ok-c.c ∷ [])
+    c.tri_from.result
+    (with_point s c.args.i c.in_ok-a.a (c.args.j ∷ c.args.k ∷ []) (c.in_ok-b.b ∷ c.in_ok-c.c ∷ [])
+    (sym c.in_ok-a.ensures)
     (with_point s c.args.j c.in_ok-b.b (c.args.k ∷ []) (c.in_ok-c.c ∷ []) (sym c.in_ok-b.ensures)
     (with_point s c.args.k c.in_ok-c.c [] [] (sym c.in_ok-c.ensures) (no_points s)))) c.tri_from.ensures

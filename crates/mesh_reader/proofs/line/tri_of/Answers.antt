@@ -9,8 +9,10 @@ returns-in_default c = sym (corners_none 3 c.args.points.now c.args.line.now c.i
 
 pub returns-in-Some-tri_at : goal.returns-in-Some-tri_at
 returns-in-Some-tri_at c =
-    sym (corners_some 3 c.args.points.now c.args.line.now (c.in-Some.i ∷ c.in-Some.j ∷ c.in-Some.k ∷ []) (Ok c.in-Some-tri_at.tri) c.in-Some.ensures c.in-Some-tri_at.ensures)
+    sym (corners_some 3 c.args.points.now c.args.line.now (c.in-Some.i ∷ c.in-Some.j ∷ c.in-Some.k ∷ [])
+    (Ok c.in-Some-tri_at.tri) c.in-Some.ensures c.in-Some-tri_at.ensures)
 
 pub returns-in-None : goal.returns-in-None
 returns-in-None c =
-    sym (corners_some 3 c.args.points.now c.args.line.now (c.in-Some.i ∷ c.in-Some.j ∷ c.in-Some.k ∷ []) (Err Range) c.in-Some.ensures c.in-None.ensures)
+    sym (corners_some 3 c.args.points.now c.args.line.now (c.in-Some.i ∷ c.in-Some.j ∷ c.in-Some.k ∷ [])
+    (Err Range) c.in-Some.ensures c.in-None.ensures)

@@ -8,16 +8,22 @@ use Rattle.mesh_reader.proofs.Turns.{judge_on, judge_refused, judge_end}
 pub returns-in-Err : goal.returns-in-Err
 returns-in-Err c =
     rw c.of_line.ensures
-    (judge_refused c.in-Err.refused c.loop-line.number (reached c.loop-line.reader) (lines_of c.loop-line.rest.now) c.in-Some.line.now (lines_of c.in-Some.after.now) _ c.in-Some.ensures.lines c.in-Err.ensures c.loop-line.invariant.judged)
+    (judge_refused c.in-Err.refused c.loop-line.number (reached c.loop-line.reader)
+    (lines_of c.loop-line.rest.now) c.in-Some.line.now (lines_of c.in-Some.after.now) _ c.in-Some.ensures.lines
+    c.in-Err.ensures c.loop-line.invariant.judged)
 
 pub loop-line-preserved : goal.loop-line-preserved
 loop-line-preserved c = record {
-  judged = sym (judge_on c.loop-line.number (reached c.loop-line.reader) (reached c.take_line.new.self) (lines_of c.loop-line.rest.now) c.in-Some.line.now (lines_of c.in-Some.after.now) c.in-Some.ensures.lines c.in-Ok.ensures) ∙ c.loop-line.invariant.judged;
+  judged = sym (judge_on c.loop-line.number (reached c.loop-line.reader) (reached c.take_line.new.self)
+      (lines_of c.loop-line.rest.now) c.in-Some.line.now (lines_of c.in-Some.after.now) c.in-Some.ensures.lines
+      c.in-Ok.ensures) ∙ c.loop-line.invariant.judged;
   count = omega (arith, c.in-Some.ensures.shorter);
 }
 
 pub returns : goal.returns
 returns c =
-    let e : judge 1 at_title (lines_of c.args.bytes.now) ≡ ended c.loop-line.number c.loop-line.reader.due (parts c.loop-line.reader.file) =
-    sym c.loop-line.invariant.judged ∙ judge_end c.loop-line.number (reached c.loop-line.reader) (lines_of c.loop-line.rest.now) c.in_default.ensures.lines in
+    let e : judge 1 at_title (lines_of c.args.bytes.now) ≡ ended c.loop-line.number c.loop-line.reader.due
+    (parts c.loop-line.reader.file) =
+    sym c.loop-line.invariant.judged ∙ judge_end c.loop-line.number (reached c.loop-line.reader)
+    (lines_of c.loop-line.rest.now) c.in_default.ensures.lines in
     rw e c.finish.ensures
