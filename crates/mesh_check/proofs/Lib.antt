@@ -1,6 +1,8 @@
 pub mod Boxes
+pub mod Cited
 pub mod Facets
 pub mod Flaws
+pub mod Listed
 pub mod Lists
 pub mod Matches
 pub mod Sides

@@ -9,4 +9,5 @@ loop-quad-preserved c =
     c.in_ok-first.ensures.cases.0 (c.is_same.ensures c.if-not-is_same.false)
 
 pub returns : goal.returns
-returns c = all_there Full c.args.made.now c.loop-quad.rest.now c.args.cells.now c.loop-quad.quad-index c.loop-quad-test.false c.loop-quad.invariant
+returns c = all_there Full c.args.made.now c.loop-quad.rest.now c.args.cells.now c.loop-quad.quad-index
+    c.loop-quad-test.false c.loop-quad.invariant

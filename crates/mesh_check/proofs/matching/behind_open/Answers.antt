@@ -9,4 +9,5 @@ loop-tri-preserved c =
     c.in_ok-first.ensures.cases.0 (c.is_same.ensures c.if-not-is_same.false)
 
 pub returns : goal.returns
-returns c = all_there Open c.args.made.now c.loop-tri.rest.now c.args.hull.now c.loop-tri.tri-index c.loop-tri-test.false c.loop-tri.invariant
+returns c = all_there Open c.args.made.now c.loop-tri.rest.now c.args.hull.now c.loop-tri.tri-index
+    c.loop-tri-test.false c.loop-tri.invariant
