@@ -2,3 +2,4 @@ pub mod Text
 pub mod Report
 pub mod Summary
 pub mod Off
+pub mod Reading

@@ -1,4 +1,4 @@
-//! The texts that the program writes.
+//! The texts that the program writes; and that of a mesh, read again.
 //!
 //! ```
 //! // the points ascend; each radius stands beside its shape
@@ -8,14 +8,17 @@
 //! let block = shape_text(alloc, 300, &shape)?;  // the block of one radius
 //! let counts = summary_text(alloc, &report)?;
 //! let surface = off_text(alloc, &points, &triangles)?;
+//! let mesh = read_mesh(alloc, &text)?;          // of a report without shapes and order
 //! ```
 #![tactic(auto)]
 
+pub mod laws;
 pub mod off;
 pub mod report;
 mod shapes;
 mod summary;
 
+pub use mesh_reader::{MeshFile, read_mesh};
 pub use off::{off_text, put_off};
 pub use report::{Report, mesh_text, put_report};
 pub use shapes::shape_text;
