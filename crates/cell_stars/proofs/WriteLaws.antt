@@ -7,9 +7,9 @@ use Rattle.point_order.specs.declared.cell.Cell.{Cell}
 use Rattle.point_order.specs.Facets.{points_of}
 use Rattle.point_order.specs.Sets.{IsIn, IsAscending, is_among}
 use Rattle.cell_stars.specs.Places.{Placed, IsStarred, at, lies_in, star_at}
-use Rattle.cell_stars.specs.Plans.{StarsAfter}
+use Rattle.cell_stars.specs.Plans.{AreFor, AreVertices, StarsAfter}
 use Rattle.cell_stars.specs.Moves.{AreTouched, AreNumbered, AreStarsAfter, IsOwnNumber, IsSpare}
-use Rattle.cell_stars.specs.Gathering.{Gathers, FromPoint, FromPlace, FromPut}
+use Rattle.cell_stars.specs.Gathering.{FromCell, FromPoint, Gathers}
 use Rattle.cell_stars.proofs.KeyLaws.{owned_by, in_owned, owned_in, Keys, vertices, BelongsAt, one_key, at_key, no_key}
 
 -- ---- vertices that are touched
@@ -26,29 +26,25 @@ points_added c ps n old new e h g p = (
   λ m. elim m [ inl k ↦ g.kept p k | inr r ↦ gather_all FromPoint ps n old new h g p (subst (λ (l : List ℕ). IsIn p l) (sym e) r) p refl ],
 )
 
-one_cell : (slots : List (Option Cell)) (i : ℕ) (c d : Cell) → at slots i ≡ Some c → at slots i ≡ Some d → c ≡ d
-one_cell slots i c d e f = (let t : Some c ≡ Some d = sym e ∙ f in cc t)
+pub cell_step : (cells : List Cell) (n : ℕ) (old list new : List ℕ) (x d : Cell) → n < length cells → x ≡ slice_index_or cells n d → AddsPoints x list new → Gathered FromCell cells n old list → Gathered FromCell cells (n + 1) old new
+cell_step cells n old list new x d h e g s = gather_step FromCell cells n old list new x d h e (λ p m. (g p).0 m) (λ p m. (g p).1 (inl m)) (λ p r. (g p).1 (inr r)) s
 
-pub freed_step : (b : Placed) (slots : List (Option Cell)) (freed : List ℕ) (n : ℕ) (old list new : List ℕ) (x : ℕ) (c : Cell) → slots ≡ b.slots → n < length freed → x ≡ slice_index_or freed n 0 → at slots x ≡ Some c → AddsPoints c list new → Gathered (FromPlace b) freed n old list → Gathered (FromPlace b) freed (n + 1) old new
-freed_step b slots freed n old list new x c es h e f g s =
-    let t : at b.slots x ≡ Some c = ap (λ l. at l x) (sym es) ∙ f in
-    gather_step (FromPlace b) freed n old list new x 0 h e
-    (λ p m. elim ((g p).0 m) [ inl k ↦ inl k | inr r ↦ inr (record { cell = c; there = t; has = r }) ])
-    (λ p m. (g p).1 (inl m)) (λ p r. (g p).1 (inr (subst (λ d. IsIn p (points_of d)) (one_cell b.slots x r.cell c r.there t) r.has))) s
+-- all vertices of an exchange
+pub are_vertices : (gone fresh : List Cell) (none first second all : List ℕ) → none ≡ [] → Gathers FromCell gone none first → Gathers FromCell fresh first second → ((p : ℕ) → (IsIn p all → IsIn p second) × (IsIn p second → IsIn p all)) → AreVertices gone fresh all
+are_vertices gone fresh none first second all e f g o = record {
+  each = λ p i. elim (g.each p ((o p).0 i)) [
+    | inl j ↦ elim (f.each p j) [ inl k ↦ absurd (subst (λ (l : List ℕ). IsIn p l) e k) | inr r ↦ (r.0, inl r.1, r.2) ]
+    | inr r ↦ (r.0, inr r.1, r.2)
+  ];
+  all = λ p c i k. (o p).1 (elim i [ inl j ↦ g.kept p (f.all c j p k) | inr j ↦ g.all c j p k ]);
+}
 
-pub freed_skip : (b : Placed) (slots : List (Option Cell)) (freed : List ℕ) (n : ℕ) (old list : List ℕ) (x : ℕ) → slots ≡ b.slots → n < length freed → x ≡ slice_index_or freed n 0 → at slots x ≡ None → Gathered (FromPlace b) freed n old list → Gathered (FromPlace b) freed (n + 1) old list
-freed_skip b slots freed n old list x es h e f s =
-    gather_skip (FromPlace b) freed n old list x 0 h e (λ p r. (let t = sym f ∙ ap (λ l. at l x) es ∙ r.there in absurd (cc t))) s
-
-pub placed_step : (placed : List (ℕ × Cell)) (n : ℕ) (old list new : List ℕ) (x d : ℕ × Cell) → n < length placed → x ≡ slice_index_or placed n d → AddsPoints x.1 list new → Gathered FromPut placed n old list → Gathered FromPut placed (n + 1) old new
-placed_step placed n old list new x d h e g s = gather_step FromPut placed n old list new x d h e (λ p m. (g p).0 m) (λ p m. (g p).1 (inl m)) (λ p r. (g p).1 (inr r)) s
-
--- all of them that lie in the bucket
-pub are_touched : (b : Placed) (freed : List ℕ) (placed : List (ℕ × Cell)) (none first second here all : List ℕ) → Gathers (FromPlace b) freed none first → Gathers FromPut placed first second → here ≡ filter (lies_in b.place) second → ((p : ℕ) → (IsIn p all → IsIn p here) × (IsIn p here → IsIn p all)) → AreTouched b freed placed all
-are_touched b freed placed none first second here all f g k o = record {
-  inside = λ p i. (filtered_from (lies_in b.place) second p (subst (λ (l : List ℕ). IsIn p l) k ((o p).0 i))).1;
-  gone = λ i p c j t q l. (o p).1 (subst (λ (m : List ℕ). IsIn p m) (sym k) (filtered_true (lies_in b.place) second p (g.kept p (f.all i j p (record { cell = c; there = t; has = q }))) l));
-  fresh = λ i p c j q l. (o p).1 (subst (λ (m : List ℕ). IsIn p m) (sym k) (filtered_true (lies_in b.place) second p (g.all (i, c) j p q) l));
+-- those of them that lie in the bucket are touched
+pub are_touched : (gone fresh : List Cell) (b : Placed) (freed : List ℕ) (placed : List (ℕ × Cell)) (vertices : List ℕ) → AreFor gone fresh freed placed b → AreVertices gone fresh vertices → AreTouched b freed placed (filter (lies_in b.place) vertices)
+are_touched gone fresh b freed placed vertices f v = record {
+  inside = λ p i. (filtered_from (lies_in b.place) vertices p i).1;
+  gone = λ i p c j t q l. filtered_true (lies_in b.place) vertices p (v.all p c (inl (f.freed_gone i c j t).0) q) l;
+  fresh = λ i p c j q l. filtered_true (lies_in b.place) vertices p (v.all p c (inr (f.placed_fresh i c j).0) q) l;
 }
 
 -- ---- the places of a star

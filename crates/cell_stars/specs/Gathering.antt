@@ -1,9 +1,8 @@
 -- What is gathered from the elements of a list, and what is made of them.
-use Rattle.std.specs.Prelude.{◌≡◌, ℕ, List, ◌⊎◌, Some}
+use Rattle.std.specs.Prelude.{◌≡◌, ℕ, List, ◌⊎◌}
 use Rattle.point_order.specs.declared.cell.Cell.{Cell}
 use Rattle.point_order.specs.Facets.{points_of}
 use Rattle.point_order.specs.Sets.{IsIn}
-use Rattle.cell_stars.specs.Places.{Placed, at}
 
 -- Beside what was there, all that the elements give, and nothing else.
 pub record Gathers {X Y : Type 0} (R : X → Y → Type 0) (xs : List X) (old list : List Y) : Type 0 where
@@ -15,12 +14,6 @@ pub record Gathers {X Y : Type 0} (R : X → Y → Type 0) (xs : List X) (old li
 abbrev pub FromPoint : ℕ → ℕ → Type 0
 FromPoint p q = p ≡ q
 
--- a vertex of the cell at the place
-pub record FromPlace (b : Placed) (i p : ℕ) : Type 0 where
-  pub cell : Cell
-  pub there : at b.slots i ≡ Some cell
-  pub has : IsIn p (points_of cell)
-
--- and of the cell that is put
-abbrev pub FromPut : ℕ × Cell → ℕ → Type 0
-FromPut x p = IsIn p (points_of x.1)
+-- a vertex of the cell
+abbrev pub FromCell : Cell → ℕ → Type 0
+FromCell c p = IsIn p (points_of c)

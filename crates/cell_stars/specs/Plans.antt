@@ -48,6 +48,11 @@ pub record IsPlanFor (gone fresh : List Cell) (b : Placed) (p : PlanView) : Type
   pub allows : Allows p b
   pub cells : cells_of (done p b).slots ≡ swapped_at b.place gone fresh (cells_of b.slots)
 
+-- the points of a list are the vertices of the cells of an exchange
+pub record AreVertices (gone fresh : List Cell) (vertices : List ℕ) : Type 0 where
+  pub each : (p : ℕ) → IsIn p vertices → (c : Cell) × (IsIn c gone ⊎ IsIn c fresh) × IsIn p (points_of c)
+  pub all : (p : ℕ) (c : Cell) → IsIn c gone ⊎ IsIn c fresh → IsIn p (points_of c) → IsIn p vertices
+
 -- ---- what the planner finds
 
 -- some cell of the list is put at the place, and has the point, which lies in the bucket

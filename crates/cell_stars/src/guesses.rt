@@ -1,7 +1,7 @@
 //! Where the cells that go are likely to stand: across the facets of those before them.
 
 use crate::links::{Links, NONE};
-use crate::matched::{Matched, Side};
+use crate::matched::{Joined, Side};
 use crate::moves::stands_at;
 use point_order::Cell;
 use std::alloc::{AllocError, Global};
@@ -27,10 +27,10 @@ impl Guesses {
         &self,
         slots: &[Option<Cell>],
         links: &Links,
-        matched: &Matched,
+        joined: &Joined,
         cell: &Cell,
     ) -> u32 {
-        let Some(sides) = matched.before.get(self.places.len()) else {
+        let Some(sides) = joined.before.get(self.places.len()) else {
             return NONE;
         };
         for side in sides.iter().flatten() {

@@ -1,7 +1,7 @@
 //! The links of the cells that are put at places in an exchange: among each other, and with the cells around them.
 
 use crate::links::{Around4, Links, NONE};
-use crate::matched::{Beside, Matched};
+use crate::matched::{Beside, Joined};
 use crate::moves::Moves;
 use crate::order::are_same;
 use point_order::Cell;
@@ -156,7 +156,7 @@ impl Joins {
         alloc: Global,
         links: &Links,
         fresh: &[Cell],
-        matched: &Matched,
+        joined: &Joined,
         moves: &Moves,
     ) -> Result<Joins, AllocError> {
         let places = places_of(alloc, fresh, &moves.placed)?;
@@ -164,7 +164,7 @@ impl Joins {
             fresh: Vec::with_capacity(alloc, moves.placed.len())?,
             rim: Vec::with_capacity(alloc, moves.placed.len())?,
         };
-        for (place, sides) in places.iter().zip(&matched.sides) {
+        for (place, sides) in places.iter().zip(&joined.sides) {
             if *place != NONE {
                 joins.add(links, &moves.gone, &places, *place, *sides)?;
             }

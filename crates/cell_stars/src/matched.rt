@@ -1,10 +1,16 @@
-//! Which cells lie across the facets of the cells that go and come, found once for an exchange. It is only a hint,
-//! and no clause speaks of it.
+//! What is found once for an exchange: the vertices of its cells, and which cells lie across the facets of those that
+//! go and come. The latter is only a hint, and no clause speaks of it.
+
+ghost use Rattle.std.specs.Prelude.{◌≡◌, IfOk};
+ghost use Rattle.point_order.specs.Sets.{IsAscending};
+ghost use Rattle.cell_stars.specs.Plans.{AreVertices};
 
 use crate::links::{NONE, hash_of};
-use point_order::{Cell, Point};
+use crate::writes::add_vertices;
+use point_order::{Cell, Point, points_in_order};
 use std::alloc::{AllocError, Global};
 use std::fmt::{self, Debug, Formatter};
+use std::marker::Model;
 
 /// What lies across a facet of a cell that comes.
 #[derive(Clone, Copy)]
@@ -24,10 +30,19 @@ pub(crate) struct Side {
     pub(crate) side: usize,
 }
 
+/// The vertices of the cells of an exchange, ascending, and what lies across the facets of its cells.
+///
+/// Contracts see it as the vertices.
+#[derive(Drop)]
+pub struct Matched {
+    vertices: Vec<Point>,
+    pub(crate) joined: Joined,
+}
+
 /// For each cell that comes in an exchange, what lies across its facets, in their order. For each that goes, the sides
 /// of cells before it that it lies across.
 #[derive(Drop)]
-pub struct Matched {
+pub(crate) struct Joined {
     pub(crate) sides: Vec<[Beside; 4]>,
     pub(crate) before: Vec<[Option<Side>; 4]>,
 }
@@ -37,6 +52,20 @@ impl Debug for Matched {
         f.debug_struct("Matched").finish_non_exhaustive()
     }
 }
+
+impl Model for Matched {
+    ghost use Rattle.std.specs.Prelude.{List, ℕ};
+    ghost use Rattle.point_order.specs.Sets.{IsAscending};
+
+    ghost Value = { List ℕ };
+
+    ghost view = { λ m. m.vertices.items };
+
+    ghost invariant = { λ m. IsAscending m.vertices.items };
+}
+
+// As many vertices as an exchange mostly has.
+const FEW: usize = 48;
 
 // Something is looked for in so many entries of a table from its first one on.
 const TURNS: usize = 12;
@@ -195,7 +224,7 @@ impl Table {
     }
 }
 
-impl Matched {
+impl Joined {
     // This lies across a side of a cell that comes.
     fn set(&mut self, cell: u32, side: u8, beside: Beside) {
         if let Some(sides) = self.sides.get_mut(cell as usize) {
@@ -268,12 +297,9 @@ impl Matched {
         Ok(())
     }
 
-    /// What lies across the facets of the fresh and the gone cells, where the gone ones make room for the fresh ones.
-    ///
-    /// # Errors
-    /// Want of memory.
-    pub fn of(alloc: Global, gone: &[Cell], fresh: &[Cell]) -> Result<Matched, AllocError> {
-        let mut matched = Matched {
+    // What lies across the facets of the cells.
+    fn of(alloc: Global, gone: &[Cell], fresh: &[Cell]) -> Result<Joined, AllocError> {
+        let mut joined = Joined {
             sides: Vec::with_capacity(alloc, fresh.len())?,
             before: Vec::with_capacity(alloc, gone.len())?,
         };
@@ -281,11 +307,46 @@ impl Matched {
         let mut numbers = Numbers::new(alloc, cells)?;
         let mut table = Table::new(alloc, cells)?;
         for cell in fresh {
-            matched.add(&mut table, numbers.facets(cell)?)?;
+            joined.add(&mut table, numbers.facets(cell)?)?;
         }
         for cell in gone {
-            matched.add_gone(&mut table, numbers.facets(cell)?)?;
+            joined.add_gone(&mut table, numbers.facets(cell)?)?;
         }
-        Ok(matched)
+        Ok(joined)
     }
+}
+
+impl Matched {
+    /// The vertices of the cells, and what lies across their facets, where the gone ones make room for the fresh ones.
+    ///
+    /// # Errors
+    /// Want of memory.
+    pub fn of(alloc: Global, gone: &[Cell], fresh: &[Cell]) -> Result<Matched, AllocError>
+        ensures { IfOk result (λ matched. AreVertices gone.now fresh.now matched) }
+    {
+        Ok(Matched {
+            vertices: vertices_of(alloc, gone, fresh)?,
+            joined: Joined::of(alloc, gone, fresh)?,
+        })
+    }
+
+    /// The vertices of the cells, ascending.
+    pub fn vertices(&self) -> &[Point]
+        ensures vertices { result.now ≡ self.now }
+        ensures order { IsAscending self.now }
+    {
+        &self.vertices
+    }
+}
+
+// The vertices of the cells, ascending.
+fn vertices_of(alloc: Global, gone: &[Cell], fresh: &[Cell]) -> Result<Vec<Point>, AllocError>
+    ensures order { IfOk result (λ list. IsAscending list.items) }
+    ensures vertices { IfOk result (λ list. AreVertices gone.now fresh.now list.items) }
+{
+    let mut list = Vec::with_capacity(alloc, FEW)?;
+    let mut seen = [0usize; 64];
+    add_vertices(&mut list, &mut seen, gone)?;
+    add_vertices(&mut list, &mut seen, fresh)?;
+    Ok(points_in_order(list))
 }

@@ -29,7 +29,7 @@ ghost use Rattle.cell_stars.specs.Moves.{IsStarFor, AreFreed, AreComing, IsVacan
 
 use crate::cells::Cells;
 use crate::guesses::Guesses;
-use crate::matched::Matched;
+use crate::matched::Joined;
 use crate::order::{are_same, cells_once, has_vertex, numbers_in_order, touches};
 use crate::star::cell_at;
 use point_order::{Cell, Point};
@@ -289,7 +289,7 @@ impl Cells {
         &self,
         alloc: Global,
         gone: &[Cell],
-        matched: &Matched,
+        joined: &Joined,
         guesses: &mut Guesses,
     ) -> Result<Vec<u32>, AllocError>
         ensures order { IfOk result (λ freed. IsAscending freed.items) }
@@ -298,7 +298,7 @@ impl Cells {
         let _ = &self.slots;
         let mut freed = Vec::with_capacity(alloc, gone.len())?;
         for c in gone {
-            let guess = guesses.guess(&self.slots, &self.links, matched, c);
+            let guess = guesses.guess(&self.slots, &self.links, joined, c);
             guesses.add()?;
             if let Some(i) = self.place_of_cell(c, guess) {
                 freed.push(i)?;
@@ -464,13 +464,13 @@ impl Cells {
         alloc: Global,
         gone: &[Cell],
         fresh: &[Cell],
-        matched: &Matched,
+        joined: &Joined,
     ) -> Result<Moves, AllocError>
         ensures order { IfOk result (λ moves. IsAscending moves.freed.items) }
         ensures made { IfOk result (λ moves. AreFor gone.now fresh.now moves.freed.items moves.placed.items self.now) }
     {
         let mut guesses = Guesses::new(alloc, gone.len())?;
-        let freed = self.freed_by(alloc, gone, matched, &mut guesses)?;
+        let freed = self.freed_by(alloc, gone, joined, &mut guesses)?;
         let coming = self.coming_by(alloc, fresh, &freed)?;
         let places = places_for(
             alloc,

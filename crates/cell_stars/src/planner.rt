@@ -1,19 +1,20 @@
 //! Exchanges are planned, with memory.
 
 ghost use Rattle.std.specs.Prelude.{◌≡◌, ◌<◌, ◌≤◌, ◌++◌, ℕ, None, Some, List, IfOk, length, map};
+ghost use Rattle.std.specs.List.{filter};
 ghost use Rattle.std.specs.Option.{option_map};
 ghost use Rattle.point_order.specs.declared.cell.Cell.{Cell};
 ghost use Rattle.point_order.specs.Sets.{IsIn, IsAscending};
-ghost use Rattle.cell_stars.specs.Places.{AreStars, at};
-ghost use Rattle.cell_stars.specs.Plans.{or_else, IsPlanFor};
-ghost use Rattle.cell_stars.specs.Moves.{AreKeysAfter, HasSameCells, HasSameStars, IsRewriting};
+ghost use Rattle.cell_stars.specs.Places.{AreStars, at, lies_in};
+ghost use Rattle.cell_stars.specs.Plans.{or_else, AreVertices, IsPlanFor};
+ghost use Rattle.cell_stars.specs.Moves.{AreKeysAfter, AreTouched, HasSameCells, HasSameStars, IsRewriting};
 
 use crate::cells::Cells;
 use crate::joins::Joins;
 use crate::keys::keys_after;
 use crate::links::Links;
 use crate::marks::Marks;
-use crate::matched::Matched;
+use crate::matched::{Joined, Matched};
 use crate::moves::Moves;
 use crate::plan::{Around, PlacesPlan, Plan, StarsPlan};
 use point_order::{Cell, Point};
@@ -220,7 +221,7 @@ impl Cells {
         &self,
         alloc: Global,
         fresh: &[Cell],
-        matched: &Matched,
+        joined: &Joined,
         moves: &Moves,
     ) -> Result<PlacesPlan, AllocError>
         ensures same { IfOk result (λ plan. HasSameCells self.now.slots
@@ -233,7 +234,7 @@ impl Cells {
         let end = behind_numbers(&moves.placed);
         let grown = grown_slots(alloc, &self.slots, end)?;
         let links = self.grown_links(alloc, &grown)?;
-        let joins = Joins::of(alloc, &self.links, fresh, matched, moves)?;
+        let joins = Joins::of(alloc, &self.links, fresh, joined, moves)?;
         let slots = changes(alloc, moves)?;
         Ok(PlacesPlan {
             grown,
@@ -247,8 +248,16 @@ impl Cells {
 
     // What becomes of the stars.
     #[inline]
-    fn plan_stars(&self, alloc: Global, moves: &Moves) -> Result<StarsPlan, AllocError>
-        requires { IsAscending moves.now.freed.items }
+    fn plan_stars(
+        &self,
+        alloc: Global,
+        moves: &Moves,
+        vertices: &[Point],
+    ) -> Result<StarsPlan, AllocError>
+        requires order { IsAscending moves.now.freed.items }
+        requires vertices { IsAscending vertices.now }
+        requires touched { AreTouched self.now moves.now.freed.items moves.now.placed.items
+            (filter (lies_in self.now.place) vertices.now) }
         ensures before { IfOk result (λ plan. AreStars self.now) }
         ensures stars { IfOk result (λ plan. IsRewriting self.now moves.now.freed.items moves.now.placed.items
             plan.stars.items) }
@@ -259,7 +268,7 @@ impl Cells {
         ensures long { IfOk result (λ plan. (n : ℕ) (s : ℕ × List ℕ) → IsIn (n, s) plan.stars.items →
             n < length (or_else (option_map (λ v. v.items) plan.more) self.now.stars)) }
     {
-        let stars = self.writes(alloc, moves)?;
+        let stars = self.writes(alloc, moves, vertices)?;
         let keys = keys_after(alloc, &self.keys, &stars)?;
         let end = behind_numbers(&stars);
         let more = grown_stars(alloc, &self.stars, &stars, end)?;
@@ -274,8 +283,8 @@ impl Cells {
         })
     }
 
-    /// Plans an exchange of the gone for the fresh cells, as far as they touch the bucket. The matches are to be
-    /// those of these cells; else the plan is as good, and searches are longer.
+    /// Plans an exchange of the gone for the fresh cells, as far as they touch the bucket. What was found once is to
+    /// be of these cells.
     ///
     /// # Errors
     /// Want of memory, or of a number of 32 bits for a place or a star.
@@ -286,11 +295,12 @@ impl Cells {
         fresh: &[Cell],
         matched: &Matched,
     ) -> Result<Plan, AllocError>
+        requires { AreVertices gone.now fresh.now matched.now }
         ensures { IfOk result (λ plan. IsPlanFor gone.now fresh.now self.now plan) }
     {
-        let moves = self.moves(alloc, gone, fresh, matched)?;
-        let stars = self.plan_stars(alloc, &moves)?;
-        let places = self.plan_places(alloc, fresh, matched, &moves)?;
+        let moves = self.moves(alloc, gone, fresh, &matched.joined)?;
+        let stars = self.plan_stars(alloc, &moves, matched.vertices())?;
+        let places = self.plan_places(alloc, fresh, &matched.joined, &moves)?;
         Ok(Plan { places, stars })
     }
 }

@@ -17,12 +17,13 @@ ghost use Rattle.std.specs.Prelude.{
   MatchOption,
   IsTrue,
 };
+ghost use Rattle.std.specs.List.{filter};
 ghost use Rattle.point_order.specs.declared.cell.Cell.{Cell};
 ghost use Rattle.point_order.specs.Facets.{points_of};
 ghost use Rattle.point_order.specs.Sets.{IsIn, IsAscending};
 ghost use Rattle.cell_stars.specs.Places.{at, lies_in, star_at, IsStarred};
 ghost use Rattle.cell_stars.specs.Plans.{StarsAfter};
-ghost use Rattle.cell_stars.specs.Gathering.{Gathers, FromPlace, FromPut};
+ghost use Rattle.cell_stars.specs.Gathering.{FromCell, Gathers};
 ghost use Rattle.cell_stars.specs.Moves.{
   AreMarked,
   AreTouched,
@@ -39,14 +40,10 @@ use crate::marks::{Marks, has_marked, marks_of};
 use crate::moves::{Moves, behind_last, pairs};
 use crate::order::{has_vertex, numbers_in_order};
 use crate::plan::Around;
-use crate::star::cell_at;
 use crate::steps::place_of;
-use point_order::{Cell, Point, points_in_order};
+use point_order::{Cell, Point};
 use smallvec::SmallVec;
 use std::alloc::{AllocError, Global};
-
-// As many vertices as an exchange mostly has in a bucket.
-const FEW: usize = 24;
 
 // Whether no place is in the star with the number.
 fn is_spare(stars: &[Around], n: u32) -> bool
@@ -136,7 +133,7 @@ fn numbers_for(
 }
 
 // For each rest of a division, where in a list of points the last one with this rest is likely to be.
-type Seen = [usize; 64];
+pub(crate) type Seen = [usize; 64];
 
 // The rest of the point.
 fn rest_of(p: Point) -> usize
@@ -177,50 +174,30 @@ fn add_points(list: &mut Vec<Point>, seen: &mut Seen, cell: &Cell) -> Result<(),
     Ok(())
 }
 
-// Adds those of the cells that are put at places.
-fn add_placed(
+// Adds those of the cells.
+pub(crate) fn add_vertices(
     list: &mut Vec<Point>,
     seen: &mut Seen,
-    placed: &[(u32, Cell)],
+    cells: &[Cell],
 ) -> Result<(), AllocError>
-    ensures { OnOk result (Gathers FromPut placed.now list.old.items list.new.items) }
+    ensures { OnOk result (Gathers FromCell cells.now list.old.items list.new.items) }
 {
-    for (_, cell) in placed {
+    for cell in cells {
         add_points(list, seen, cell)?;
     }
     Ok(())
 }
 
 impl Cells {
-    // Adds those of the cells at freed places.
-    fn add_freed(
-        &self,
-        list: &mut Vec<Point>,
-        seen: &mut Seen,
-        freed: &[u32],
-    ) -> Result<(), AllocError>
-        ensures { OnOk result (Gathers (FromPlace self.now) freed.now list.old.items list.new.items) }
-    {
-        for i in freed {
-            if let Some(cell) = cell_at(&self.slots, *i) {
-                add_points(list, seen, cell)?;
-            }
-        }
-        Ok(())
-    }
-
-    // The vertices in the bucket of the cells that go and come, ascending.
-    fn vertices_of(&self, alloc: Global, moves: &Moves) -> Result<Vec<Point>, AllocError>
+    // Those of the vertices that lie in the bucket, where they are ascending.
+    fn vertices_here(&self, alloc: Global, vertices: &[Point]) -> Result<Vec<Point>, AllocError>
+        requires { IsAscending vertices.now }
         ensures order { IfOk result (λ list. IsAscending list.items) }
-        ensures touched { IfOk result (λ list. AreTouched self.now moves.now.freed.items moves.now.placed.items
-            list.items) }
+        ensures here { IfOk result (λ list. list.items ≡ filter (lies_in self.now.place) vertices.now) }
     {
-        let mut list: Vec<Point> = Vec::with_capacity(alloc, FEW)?;
-        let mut seen = [0usize; 64];
-        self.add_freed(&mut list, &mut seen, &moves.freed)?;
-        add_placed(&mut list, &mut seen, &moves.placed)?;
+        let mut list = Vec::from_slice(alloc, vertices)?;
         list.retain(|p| self.has_here(*p));
-        Ok(points_in_order(list))
+        Ok(list)
     }
 
     // The number of the vertex's star, if it has one with places.
@@ -363,12 +340,16 @@ impl Cells {
         &self,
         alloc: Global,
         moves: &Moves,
+        vertices: &[Point],
     ) -> Result<Vec<(u32, Around)>, AllocError>
-        requires { IsAscending moves.now.freed.items }
+        requires order { IsAscending moves.now.freed.items }
+        requires vertices { IsAscending vertices.now }
+        requires touched { AreTouched self.now moves.now.freed.items moves.now.placed.items
+            (filter (lies_in self.now.place) vertices.now) }
         ensures { IfOk result (λ writes. IsRewriting self.now moves.now.freed.items moves.now.placed.items
             writes.items) }
     {
-        let vertices = self.vertices_of(alloc, moves)?;
+        let vertices = self.vertices_here(alloc, vertices)?;
         let turns = self.turns(alloc, &vertices)?;
         self.stars_after(alloc, &turns, moves)
     }

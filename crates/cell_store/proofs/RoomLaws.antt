@@ -15,11 +15,11 @@ use Rattle.cell_store.specs.Grids.{bucket_of}
 use Rattle.point_order.specs.Sets.{IsAscending}
 use Rattle.cell_stars.specs.Places.{Placed, cells_of, swapped_at}
 use Rattle.cell_stars.specs.Gathering.{Gathers}
-use Rattle.cell_stars.specs.Plans.{PlanView, IsPlanFor}
+use Rattle.cell_stars.specs.Plans.{AreVertices, PlanView, IsPlanFor}
 use Rattle.cell_stars.specs.Turns.{AreReady}
 use Rattle.cell_store.specs.Buckets.{BucketContent, Layout, InHand, StandAtPlaces, bucket_at, cells_in, content_of, layout_at, shown}
 use Rattle.cell_store.specs.Changes.{NoneTouches, swapped_in, IsSwapped}
-use Rattle.cell_store.specs.Ready.{AreApart, AreExchanged, AreHeld, AreInHand, AreMade, AreTurned, CanTurn, HasNumber, IsAllowed, IsExchange, IsExchanged, IsNumberOf, IsReady, IsReadyFor, IsTurned, IsTurnedIn, NoneIsFor, numbers_of}
+use Rattle.cell_store.specs.Ready.{AreApart, AreExchanged, AreHeld, AreInHand, AreMade, AreTurned, CanTurn, IsAllowed, IsExchange, IsExchanged, IsNumberOf, IsReady, IsReadyFor, IsTurned, IsTurnedIn, NoneIsFor, numbers_of}
 use Rattle.cell_store.specs.declared.room.PlanFor.{PlanFor}
 use Rattle.cell_store.proofs.Layouts.{shown_at, shown_is, shown_some}
 use Rattle.cell_store.specs.Swaps.{touches}
@@ -66,39 +66,34 @@ not_touched g b cells n c i = any_none (λ p. bucket_of g p == b) (points_of c) 
     by p true e j = absurd (n (subst (λ m. IsIn m (numbers_of g cells)) (same_from (bucket_of g p) b e) (in_numbers g cells c p i j)))
     by p false e j = e
 
--- the numbers of the points of a cell
-pub numbers_step : (g : ℕ) (c : Cell) (ps list new : List ℕ) → ps ≡ points_of c → Gathers (IsNumberOf g) ps list new →
-    ((n : ℕ) → IsIn n new → IsIn n list ⊎ HasNumber g c n) × ((n : ℕ) → IsIn n list → IsIn n new) × ((n : ℕ) → HasNumber g c n → IsIn n new)
-numbers_step g c ps list new e s = (
-  λ n m. elim (s.each n m) [ inl k ↦ inl k | inr r ↦ inr (subst (λ (l : List ℕ). IsIn n (map (bucket_of g) l)) e (subst (λ k. IsIn k (map (bucket_of g) ps)) r.2 (mapped_true (bucket_of g) r.0 ps r.1))) ],
-  s.kept,
-  λ n h. (let r = mapped_from (bucket_of g) n ps (subst (λ (l : List ℕ). IsIn n (map (bucket_of g) l)) (sym e) h) in s.all r.0 r.1 n r.2),
-)
+-- the numbers of the points of a list
+pub numbers_are : (g : ℕ) (points none list sorted deduped : List ℕ) → none ≡ [] → Gathers (IsNumberOf g) points none list → IsPermutation list sorted → deduped ≡ dedup eqb sorted →
+    (n : ℕ) → (IsIn n deduped → IsIn n (map (bucket_of g) points)) × (IsIn n (map (bucket_of g) points) → IsIn n deduped)
+numbers_are g points none list sorted deduped e s p d n =
+    let k = numbers_same list sorted deduped p d n in (
+      λ i. elim (s.each n (k.0 i)) [
+        | inl m ↦ absurd (subst (IsIn n) e m)
+        | inr r ↦ subst (λ m. IsIn m (map (bucket_of g) points)) r.2 (mapped_true (bucket_of g) r.0 points r.1)
+      ],
+      λ i. (let r = mapped_from (bucket_of g) n points i in k.1 (s.all r.0 r.1 n r.2)),
+    )
 
-number_in : (g n : ℕ) (cells : List Cell) (c : Cell) → IsIn c cells → HasNumber g c n → IsIn n (numbers_of g cells)
-number_in g n cells c i h = (let r = mapped_from (bucket_of g) n (points_of c) h in subst (λ m. IsIn m (numbers_of g cells)) r.2 (in_numbers g cells c r.0 i r.1))
-
-gathered_are : (g : ℕ) (cells : List Cell) (old list : List ℕ) (n : ℕ) → Gathers (HasNumber g) cells old list → (IsIn n list → IsIn n old ⊎ IsIn n (numbers_of g cells)) × (IsIn n old ⊎ IsIn n (numbers_of g cells) → IsIn n list)
-gathered_are g cells old list n s = (
-  λ i. elim (s.each n i) [ inl j ↦ inl j | inr r ↦ inr (number_in g n cells r.0 r.1 r.2) ],
+-- those of the vertices of an exchange are those of its cells
+pub vertex_numbers : (g : ℕ) (gone fresh : List Cell) (vertices : List ℕ) → AreVertices gone fresh vertices →
+    (n : ℕ) → (IsIn n (map (bucket_of g) vertices) → IsIn n (numbers_of g gone) ⊎ IsIn n (numbers_of g fresh)) × (IsIn n (numbers_of g gone) ⊎ IsIn n (numbers_of g fresh) → IsIn n (map (bucket_of g) vertices))
+vertex_numbers g gone fresh vertices v n = (
+  λ i.
+      let r = mapped_from (bucket_of g) n vertices i in
+      let x = v.each r.0 r.1 in
+      elim x.1 [
+        | inl j ↦ inl (subst (λ m. IsIn m (numbers_of g gone)) r.2 (in_numbers g gone x.0 r.0 j x.2))
+        | inr j ↦ inr (subst (λ m. IsIn m (numbers_of g fresh)) r.2 (in_numbers g fresh x.0 r.0 j x.2))
+      ],
   λ i. elim i [
-    | inl j ↦ s.kept n j
-    | inr j ↦ (let r = numbers_from g n cells j in s.all r.cell r.listed n (subst (λ m. IsIn m (map (bucket_of g) (points_of r.cell))) r.number (mapped_true (bucket_of g) r.point (points_of r.cell) r.vertex)))
+    | inl j ↦ (let r = numbers_from g n gone j in subst (λ m. IsIn m (map (bucket_of g) vertices)) r.number (mapped_true (bucket_of g) r.point vertices (v.all r.point r.cell (inl r.listed) r.vertex)))
+    | inr j ↦ (let r = numbers_from g n fresh j in subst (λ m. IsIn m (map (bucket_of g) vertices)) r.number (mapped_true (bucket_of g) r.point vertices (v.all r.point r.cell (inr r.listed) r.vertex)))
   ],
 )
-
-pub numbers_are : (g : ℕ) (gone fresh : List Cell) (none first second sorted deduped : List ℕ) → none ≡ [] → Gathers (HasNumber g) gone none first → Gathers (HasNumber g) fresh first second → IsPermutation second sorted → deduped ≡ dedup eqb sorted →
-    (n : ℕ) → (IsIn n deduped → IsIn n (numbers_of g gone) ⊎ IsIn n (numbers_of g fresh)) × (IsIn n (numbers_of g gone) ⊎ IsIn n (numbers_of g fresh) → IsIn n deduped)
-numbers_are g gone fresh none first second sorted deduped e s t p d n =
-    let f = gathered_are g gone none first n s in
-    let h = gathered_are g fresh first second n t in
-    let k = numbers_same second sorted deduped p d n in (
-      λ i. elim (h.0 (k.0 i)) [
-        | inl j ↦ elim (f.0 j) [ inl m ↦ absurd (subst (IsIn n) e m) | inr m ↦ inl m ]
-        | inr j ↦ inr j
-      ],
-      λ i. k.1 (elim i [ inl j ↦ h.1 (inl (f.1 (inr j))) | inr j ↦ h.1 (inr j) ]),
-    )
 
 -- ---- plans for buckets
 

@@ -146,10 +146,6 @@ numbers_of g cells = flat_map (λ c. map (bucket_of g) (points_of c)) cells
 abbrev pub IsNumberOf : ℕ → ℕ → ℕ → Type 0
 IsNumberOf g p n = bucket_of g p ≡ n
 
--- and of a finite vertex of the cell
-abbrev pub HasNumber : ℕ → Cell → ℕ → Type 0
-HasNumber g c n = IsIn n (map (bucket_of g) (points_of c))
-
 -- the buckets of all finite vertices of the cells are in hand
 abbrev pub AreHeld : InHand → List Cell → Type 0
 AreHeld hold l =

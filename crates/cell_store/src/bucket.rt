@@ -28,7 +28,7 @@ ghost use Rattle.point_order.specs.declared.cell.Cell.{Cell};
 ghost use Rattle.point_order.specs.Sets.{IsIn, IsAscending, is_among, with_point as with, without_point};
 ghost use Rattle.edit_history.specs.Edits.{point_of, changed};
 ghost use Rattle.cell_stars.specs.Places.{lies_in, AreStars};
-ghost use Rattle.cell_stars.specs.Plans.{IsPlanFor};
+ghost use Rattle.cell_stars.specs.Plans.{AreVertices, IsPlanFor};
 ghost use Rattle.cell_store.specs.Buckets.{FitsPlace, content_of};
 ghost use Rattle.cell_store.specs.Others.{HaveNoOther, IsOtherOf};
 ghost use Rattle.cell_store.specs.Ready.{CanTurn, HasMuchRoom, HasRoom, IsRoomier, IsTurned};
@@ -168,7 +168,7 @@ impl Bucket {
         self.cells.place_at(p, cell)
     }
 
-    // Plans an exchange of cells, as far as they touch the bucket.
+    // Plans an exchange of cells, as far as they touch the bucket. What was found once is to be of these cells.
     pub(crate) fn plan(
         &self,
         alloc: Global,
@@ -176,6 +176,7 @@ impl Bucket {
         fresh: &[Cell],
         matched: &Matched,
     ) -> Result<Plan, AllocError>
+        requires { AreVertices gone.now fresh.now matched.now }
         ensures { IfOk result (λ plan. IsPlanFor gone.now fresh.now self.now.cells plan) }
     {
         self.cells.plan(alloc, gone, fresh, matched)

@@ -384,6 +384,9 @@ impl Hold {
         requires held { ¬ (NoneInHand self.now (points_on facet.now)) }
         ensures { (s : List ℕ) → Shows self.now s → IsIn spot.now (complex s) → IsAcross s spot.now facet.now result }
     {
+        if let Some(other) = self.linked(spot, facet) {
+            return other;
+        }
         match self.across_spot(spot, facet) {
             SpotAcross::Spot(other) => other,
             SpotAcross::Need(_) => unreachable!(),

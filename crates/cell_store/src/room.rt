@@ -20,9 +20,11 @@ ghost use Rattle.std.specs.Prelude.{
   None,
   OnOk,
   Some,
+  map,
 };
 ghost use Rattle.point_order.specs.Sets.{IsIn, IsAscending, is_among};
 ghost use Rattle.cell_stars.specs.Gathering.{Gathers};
+ghost use Rattle.cell_stars.specs.Plans.{AreVertices};
 ghost use Rattle.cell_store.specs.Buckets.{layout_at};
 ghost use Rattle.cell_store.specs.Grids.{bucket_of as number_of};
 ghost use Rattle.cell_store.specs.Ready.{
@@ -32,7 +34,6 @@ ghost use Rattle.cell_store.specs.Ready.{
   AllRoomier,
   AreRoomier,
   HasMuchRoom,
-  HasNumber,
   HasRoom,
   IsAllowed,
   IsMade,
@@ -113,25 +114,14 @@ fn add_numbers_at(numbers: &mut Vec<u32>, grid: Grid, points: &[Point]) -> Resul
     Ok(())
 }
 
-// Adds the numbers of the buckets of all finite vertices of the cells.
-fn add_numbers(numbers: &mut Vec<u32>, grid: Grid, cells: &[Cell]) -> Result<(), AllocError>
-    ensures { OnOk result (Gathers (HasNumber grid) cells.now numbers.old.items numbers.new.items) }
-{
-    for c in cells {
-        add_numbers_at(numbers, grid, c.points())?;
-    }
-    Ok(())
-}
-
-// The numbers of the buckets that an exchange touches, ascending.
-fn touched(alloc: Global, grid: Grid, gone: &[Cell], fresh: &[Cell]) -> Result<Vec<u32>, AllocError>
+// The numbers of the buckets of the points, ascending.
+fn numbers_at(alloc: Global, grid: Grid, points: &[Point]) -> Result<Vec<u32>, AllocError>
     ensures order { IfOk result (λ numbers. IsAscending numbers.items) }
-    ensures numbers { IfOk result (λ numbers. (b : ℕ) → IsIn b numbers.items
-        ↔ (IsIn b (numbers_of grid gone.now) ⊎ IsIn b (numbers_of grid fresh.now))) }
+    ensures numbers { IfOk result (λ numbers. (b : ℕ) → IsIn b numbers.items ↔ IsIn b
+        (map (number_of grid) points.now)) }
 {
     let mut numbers = Vec::with_capacity(alloc, EARLY)?;
-    add_numbers(&mut numbers, grid, gone)?;
-    add_numbers(&mut numbers, grid, fresh)?;
+    add_numbers_at(&mut numbers, grid, points)?;
     numbers.sort_unstable();
     numbers.dedup();
     Ok(numbers)
@@ -146,7 +136,8 @@ fn plan_for(
     fresh: &[Cell],
     matched: &Matched,
 ) -> Result<PlanFor, AllocError>
-    requires { IsSome (layout_at places.now b) }
+    requires held { IsSome (layout_at places.now b) }
+    requires vertices { AreVertices gone.now fresh.now matched.now }
     ensures number { IfOk result (λ plan. plan.number ≡ b) }
     ensures ready { IfOk result (λ plan. IsReadyFor false gone.now fresh.now places.now plan) }
 {
@@ -170,7 +161,7 @@ fn plans_for(
     ensures { IfOk result (λ plans. IsReady false grid gone.now fresh.now places.now plans.items) }
 {
     let matched = Matched::of(alloc, gone, fresh)?;
-    let numbers = touched(alloc, grid, gone, fresh)?;
+    let numbers = numbers_at(alloc, grid, matched.vertices())?;
     let mut plans = Vec::with_capacity(alloc, numbers.len())?;
     for b in &numbers {
         plans.push(plan_for(alloc, *b, places, gone, fresh, &matched)?)?;

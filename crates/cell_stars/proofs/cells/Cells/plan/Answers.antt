@@ -1,5 +1,20 @@
+use Rattle.std.proofs.Common.{subst, sym}
+use Rattle.cell_stars.specs.Plans.{AreVertices}
+use Rattle.cell_stars.specs.Moves.{AreTouched}
+use Rattle.cell_stars.specs.Places.{lies_in}
+use Rattle.std.specs.List.{filter}
+use Rattle.std.proofs.Common.{List, ℕ}
 use Rattle.cell_stars.proofs.Planned.{is_plan}
+use Rattle.cell_stars.proofs.WriteLaws.{are_touched}
 use Rattle.cell_stars.proofs.cells.Cells.plan.Goals as goal
+
+pub plan_stars-requires-clause-touched : goal.plan_stars-requires-clause-touched
+plan_stars-requires-clause-touched c =
+    let b = c.args.self.now in
+    let freed = c.in_ok-moves.moves.freed.items in
+    let placed = c.in_ok-moves.moves.placed.items in
+    are_touched c.args.gone.now c.args.fresh.now b freed placed c.vertices.result.now c.in_ok-moves.ensures.made
+    (subst (λ (l : List ℕ). AreVertices c.args.gone.now c.args.fresh.now l) (sym c.vertices.ensures.vertices) c.requires)
 
 pub returns : goal.returns
 returns c =
