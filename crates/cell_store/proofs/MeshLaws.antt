@@ -18,7 +18,7 @@ use Rattle.point_order.specs.Sets.{IsIn, is_among}
 use Rattle.point_order.specs.CellOrder.{AreSameCells}
 use Rattle.edit_history.specs.Edits.{HasKeys}
 use Rattle.edit_history.specs.declared.history.Entry.{Entry}
-use Rattle.edit_history.specs.Edits.{point_of, after}
+use Rattle.edit_history.specs.Edits.{point_of, reply_to, after}
 use Rattle.edit_history.specs.Histories.{replay, IsLegalFrom}
 use Rattle.edit_history.specs.Merging.{numbers}
 use Rattle.edit_history.proofs.Cited.{merged_order}
@@ -378,22 +378,41 @@ mesh_changed old ready swap put new mesh gone fresh e n count v i keys follows g
     let h = ap (λ (m : MeshView). m.history) v in
     (w, (subst (λ m. IsHoldOf m new) (sym w) k, count_more mesh.history e n count (i.1 ∙ ap (λ l. counted (length l)) h) q ∙ ap (λ (m : MeshView). counted (length m.history)) (sym w)))
 
--- the place to which a point has moved can come, after the cells were exchanged
-pub goal_comes : (mesh : MeshView) (hold ready swap : InHand) (gone fresh : List Cell) (e : Entry) → IsHoldOf mesh hold → Follows mesh.history e gone fresh → ready.grid ≡ hold.grid → ready.places ≡ hold.places → IsSwapped gone fresh ready swap → swap.room.point ≡ goal_of e.edit → IfSome (came e.edit e.reply) (CanCome swap)
-goal_comes mesh hold ready swap gone fresh e i f g p sw room = if_some (λ q. (is_among q (replay mesh.history) ≡ false) × (goal_of e.edit ≡ Some q)) (CanCome swap) (came e.edit e.reply) each (came_free (replay mesh.history) e.edit e.reply f.reply)
+-- the place to which a point has moved can come into a hold that shows the set, after the cells were exchanged
+pub goal_free :
+    (hold ready swap : InHand) (s : List ℕ) (gone fresh : List Cell) (e : Entry) → Shows hold s →
+    ((q : ℕ) → goal_of e.edit ≡ Some q → IsSome (bucket_at hold.places (bucket_of hold.grid q))) →
+    e.reply ≡ reply_to s e.edit → ready.grid ≡ hold.grid → ready.places ≡ hold.places →
+    IsSwapped gone fresh ready swap → swap.room.point ≡ goal_of e.edit → IfSome (came e.edit e.reply) (CanCome swap)
+goal_free hold ready swap s gone fresh e shows held right g p sw room =
+    if_some (λ q. (is_among q s ≡ false) × (goal_of e.edit ≡ Some q)) (CanCome swap) (came e.edit e.reply) each
+    (came_free s e.edit e.reply right)
   where
     same : (b : ℕ) → points_in swap.places b ≡ points_in hold.places b
-    same b = ap (λ o. option_map_or (λ (x : BucketContent). x.points) o []) (sw.places b) ∙ keeps (bucket_at ready.places b) ∙ ap (λ l. points_in l b) p
+    same b =
+        ap (λ o. option_map_or (λ (x : BucketContent). x.points) o []) (sw.places b)
+        ∙ keeps (bucket_at ready.places b) ∙ ap (λ l. points_in l b) p
       where
-        keeps : (o : Option BucketContent) → option_map_or (λ (x : BucketContent). x.points) (option_map (swapped_in ready.grid b gone fresh) o) [] ≡ option_map_or (λ x. x.points) o []
+        keeps : (o : Option BucketContent) →
+            option_map_or (λ (x : BucketContent). x.points) (option_map (swapped_in ready.grid b gone fresh) o) []
+            ≡ option_map_or (λ x. x.points) o []
         keeps None = refl
         keeps (Some c) = refl
 
-    each : (q : ℕ) → (is_among q (replay mesh.history) ≡ false) × (goal_of e.edit ≡ Some q) → CanCome swap q
+    each : (q : ℕ) → (is_among q s ≡ false) × (goal_of e.edit ≡ Some q) → CanCome swap q
     each q k = record {
       room = room ∙ k.1;
       absent =
           ap (λ n. is_among q (points_in swap.places (bucket_of n q))) (sw.grid ∙ g)
           ∙ ap (is_among q) (same (bucket_of hold.grid q))
-          ∙ held_point hold (replay mesh.history) q (shows_of mesh hold i) (held_by mesh hold q i) ∙ k.0;
+          ∙ held_point hold s q shows (held q k.1) ∙ k.0;
     }
+
+-- so with the hold of a mesh
+pub goal_comes :
+    (mesh : MeshView) (hold ready swap : InHand) (gone fresh : List Cell) (e : Entry) → IsHoldOf mesh hold →
+    Follows mesh.history e gone fresh → ready.grid ≡ hold.grid → ready.places ≡ hold.places →
+    IsSwapped gone fresh ready swap → swap.room.point ≡ goal_of e.edit → IfSome (came e.edit e.reply) (CanCome swap)
+goal_comes mesh hold ready swap gone fresh e i f g p sw room =
+    goal_free hold ready swap (replay mesh.history) gone fresh e (shows_of mesh hold i) (λ q k. held_by mesh hold q i)
+    f.reply g p sw room

@@ -1,6 +1,6 @@
 -- The lemmas that other crates cite.
 pub use Rattle.claim_rule.proofs.Began.{as_counted, mesh_shares}
-pub use Rattle.claim_rule.proofs.Brought.{brought}
+pub use Rattle.claim_rule.proofs.Brought.{any_brought, brought}
 pub use Rattle.claim_rule.proofs.Commits.{commit_keeps, renewed_at, renewed_back, renewed_length, renewed_there}
 pub use Rattle.claim_rule.proofs.Events.{events_keep_good}
 pub use Rattle.claim_rule.proofs.Histories.{by_parts, dropped_all, length_more, parts_by, starts_more}

@@ -6,13 +6,14 @@ use Rattle.list_laws.proofs.Cited.{all_of_each, each_of_all, one_value, same_the
 use Rattle.point_order.specs.declared.cell.Cell.{Cell}
 use Rattle.point_order.specs.Complex.{complex}
 use Rattle.point_order.specs.Facets.{points_of}
+use Rattle.point_order.specs.Sets.{IsIn}
 use Rattle.edit_history.specs.declared.history.Edit.{Edit}
 use Rattle.edit_history.specs.declared.history.Entry.{Entry}
-use Rattle.edit_history.specs.Edits.{HasKeys, is_move, point_of, after}
+use Rattle.edit_history.specs.Edits.{HasKeys, edit_points, after}
 use Rattle.edit_history.specs.Histories.{replay}
 use Rattle.cell_store.specs.Grids.{bucket_of}
 use Rattle.cell_store.specs.Buckets.{BucketContent, InHand, bucket_at}
-use Rattle.cell_store.specs.Changes.{IsChange, IsNext, IsSwapped, IsNoted}
+use Rattle.cell_store.specs.Changes.{IsChange, IsNext, IsSwapped}
 use Rattle.claim_rule.specs.declared.board.Seat.{Seat}
 use Rattle.claim_rule.specs.declared.trial.Trial.{Trial}
 use Rattle.claim_rule.specs.declared.event.Event.TheVariants.{Commit}
@@ -27,7 +28,7 @@ use Rattle.claim_rule.proofs.Nexts.{next_of}
 use Rattle.claim_rule.proofs.Kept.{if_so, whose_length, whose_at}
 use Rattle.claim_rule.proofs.Moves.{from_view, live_view}
 use Rattle.claim_rule.proofs.Renewals.{so_true, commit_next}
-use Rattle.claim_rule.proofs.Brought.{brought}
+use Rattle.claim_rule.proofs.Brought.{any_brought}
 use Rattle.claim_rule.proofs.Whole.{all_are_shares, all_in_hand, hold_stands}
 use Rattle.claim_rule.specs.Making.{IsExchanged, IsMade, EditGives}
 use Rattle.edit_history.specs.declared.history.Reply.{Reply}
@@ -50,25 +51,42 @@ held_named words places n b s =
           (same_there (bucket_at (held_by n words places) b) _ (whose_at (λ w. w == n + 1) words places b below) s)),
     )
 
+-- the words of the buckets of these points, and of all points of these cells, name the pass
+abbrev ArePointsNamed : ℕ → List ℕ → ℕ → List ℕ → Type 0
+ArePointsNamed n words g points = All (λ p. IsNamed n words (bucket_of g p)) points
+
+abbrev AreNamed : ℕ → List ℕ → ℕ → List Cell → Type 0
+AreNamed n words g cells = All (λ c. All (λ p. IsNamed n words (bucket_of g p)) (points_of c)) cells
+
 -- the words of all buckets that are found name the pass: it holds all that is touched
-pub touched_held : (g n : ℕ) (s : List ℕ) (edit : Edit) (t : Trial) (words : List ℕ) (places : List (Option BucketContent)) → ((b : ℕ) → b < length words → IsSome (bucket_at places b)) → IsTrialOf s edit t
-    → IsNamed n words (bucket_of g (point_of edit)) → All (λ c. All (λ p. IsNamed n words (bucket_of g p)) (points_of c)) t.near.items → HoldTouched g s edit (held_by n words places)
+pub touched_held :
+    (g n : ℕ) (s : List ℕ) (edit : Edit) (t : Trial) (words : List ℕ) (places : List (Option BucketContent)) →
+    ((b : ℕ) → b < length words → IsSome (bucket_at places b)) → IsTrialOf s edit t →
+    ArePointsNamed n words g (edit_points edit) → AreNamed n words g t.near.items →
+    HoldTouched g s edit (held_by n words places)
 touched_held g n s edit t words places all trial own near b touched =
-    let named : IsNamed n words b = subst (IsNamed n words) (sym touched.number) (elim ((trial.near touched.point).0 touched.reached) [
-      | inl e ↦ subst (λ (p : ℕ). IsNamed n words (bucket_of g p)) (sym e) own
-      | inr o ↦ each_of_all (λ p. IsNamed n words (bucket_of g p)) (points_of o.cell) (each_of_all (λ c. All (λ p. IsNamed n words (bucket_of g p)) (points_of c)) t.near.items near o.cell o.listed) touched.point o.has
+    let is_named : ℕ → Type 0 = λ p. IsNamed n words (bucket_of g p) in
+    let named : IsNamed n words b = subst (IsNamed n words) (sym touched.number)
+    (elim ((trial.near touched.point).0 touched.reached) [
+      | inl i ↦ each_of_all is_named (edit_points edit) own touched.point i
+      | inr o ↦ each_of_all is_named (points_of o.cell)
+          (each_of_all (λ c. All is_named (points_of c)) t.near.items near o.cell o.listed) touched.point o.has
     ]) in
     named_held words places n b (all b named.0) named
 
 -- and the other way round
-pub held_touched : (g n : ℕ) (s : List ℕ) (edit : Edit) (t : Trial) (words : List ℕ) (places : List (Option BucketContent)) → IsTrialOf s edit t → HoldTouched g s edit (held_by n words places)
-    → IsNamed n words (bucket_of g (point_of edit)) × All (λ c. All (λ p. IsNamed n words (bucket_of g p)) (points_of c)) t.near.items
+pub held_touched :
+    (g n : ℕ) (s : List ℕ) (edit : Edit) (t : Trial) (words : List ℕ) (places : List (Option BucketContent)) →
+    IsTrialOf s edit t → HoldTouched g s edit (held_by n words places) →
+    ArePointsNamed n words g (edit_points edit) × AreNamed n words g t.near.items
 held_touched g n s edit t words places trial touched =
-    let named : (p : ℕ) → (p ≡ point_of edit) ⊎ IsOnSome t.near.items p → IsNamed n words (bucket_of g p) = λ p k.
-    held_named words places n (bucket_of g p) (touched (bucket_of g p) (record { point = p; reached = (trial.near p).1 k; number = refl })) in (
-      named (point_of edit) (inl refl),
-      all_of_each (λ c. All (λ p. IsNamed n words (bucket_of g p)) (points_of c)) t.near.items (λ c i.
-          all_of_each (λ p. IsNamed n words (bucket_of g p)) (points_of c) (λ p j. named p (inr record { cell = c; listed = i; has = j }))),
+    let is_named : ℕ → Type 0 = λ p. IsNamed n words (bucket_of g p) in
+    let named : (p : ℕ) → IsIn p (edit_points edit) ⊎ IsOnSome t.near.items p → IsNamed n words (bucket_of g p) = λ p k.
+    held_named words places n (bucket_of g p)
+    (touched (bucket_of g p) (record { point = p; reached = (trial.near p).1 k; number = refl })) in (
+      all_of_each is_named (edit_points edit) (λ p i. named p (inl i)),
+      all_of_each (λ c. All is_named (points_of c)) t.near.items (λ c i.
+          all_of_each is_named (points_of c) (λ p j. named p (inr record { cell = c; listed = i; has = j }))),
     )
 
 -- what the condition of a commit says of the seat and the words
@@ -137,26 +155,26 @@ committed_next :
     (old new : InHand) (parts most : ℕ) (opening : List Entry) (ticket : ℕ) (words : List ℕ)
     (seats : List (Option Seat)) (h : List Entry) (n tag : ℕ) (edit : Edit) (seat : Seat) →
     IsGood (kept old.grid parts most opening ticket words old.places seats) h → length old.places ≡ length words →
-    slice_index_or seats n None ≡ Some seat → HasKeys edit → is_move edit ≡ false → 0 < seat.left →
+    slice_index_or seats n None ≡ Some seat → HasKeys edit → 0 < seat.left →
     IsMade words (replay h) ticket n tag edit old new →
     Next h (kept old.grid parts most opening ticket words old.places seats) (Commit n tag edit) Done
     (kept new.grid parts most opening (ticket + 1) words new.places (slice_set seats n (Some (record seat { left = seat.left - 1; seen = ticket + 1 }))))
-committed_next old new parts most opening ticket words seats h n tag edit seat good wide live key still some made =
+committed_next old new parts most opening ticket words seats h n tag edit seat good wide live key some made =
     let g : ℕ = old.grid in
     let s : BoardState = kept g parts most opening ticket words old.places seats in
     let x = made.exchanged in
     let next : IsNext h (entry_after h ticket n tag edit) made.gone made.fresh =
     next_of s h n tag edit made.gone made.fresh good key made.change in
     let shares = all_are_shares g parts most opening ticket words old.places seats h good wide in
-    let is = brought g h (entry_after h ticket n tag edit) made.gone made.fresh old x.between new refl shares next still
-    x.swapped x.noted in
-    let grid : new.grid ≡ g = x.noted.grid ∙ x.swapped.grid in
+    let is = any_brought g h (entry_after h ticket n tag edit) made.gone made.fresh old x.between x.with_goal new refl
+    shares next x.swapped x.arrived x.noted in
+    let grid : new.grid ≡ g = x.noted.grid ∙ x.arrived.grid ∙ x.swapped.grid in
     subst (λ (k : ℕ). Next h s (Commit n tag edit) Done (kept k parts most opening (ticket + 1) words new.places (slice_set seats n (Some (record seat { left = seat.left - 1; seen = ticket + 1 }))))) (sym grid)
     (commit_next g parts most opening ticket words old.places seats h n tag edit seat new.places good live key some
     made.touched is)
 
 -- the set of the history is one that the hold shows
-shown_set :
+pub shown_set :
     (hold : InHand) (parts most : ℕ) (opening : List Entry) (ticket : ℕ) (words : List ℕ) (seats : List (Option Seat))
     (h : List Entry) → IsGood (kept hold.grid parts most opening ticket words hold.places seats) h →
     length hold.places ≡ length words → Shows hold (replay h)
@@ -168,14 +186,14 @@ pub made_next :
     (old new : InHand) (parts most : ℕ) (opening : List Entry) (ticket : ℕ) (words words' : List ℕ)
     (seats : List (Option Seat)) (h : List Entry) (n tag : ℕ) (edit : Edit) (seat : Seat) → words' ≡ words →
     IsGood (kept old.grid parts most opening ticket words old.places seats) h → length old.places ≡ length words' →
-    (slice_index_or seats n None ≡ Some seat) × (0 < seat.left) → HasKeys edit → is_move edit ≡ false →
+    (slice_index_or seats n None ≡ Some seat) × (0 < seat.left) → HasKeys edit →
     ((s : List ℕ) → Shows old s → EditGives words' s ticket n tag edit old true new) →
     Next h (kept old.grid parts most opening ticket words old.places seats) (Commit n tag edit) Done
     (kept new.grid parts most opening (ticket + 1) words new.places (slice_set seats n (Some (record seat { left = seat.left - 1; seen = ticket + 1 }))))
-made_next old new parts most opening ticket words words' seats h n tag edit seat same good wide live key still made =
+made_next old new parts most opening ticket words words' seats h n tag edit seat same good wide live key made =
     let wide' = wide ∙ ap length same in
     let shows = shown_set old parts most opening ticket words seats h good wide' in
-    committed_next old new parts most opening ticket words seats h n tag edit seat good wide' live.0 key still live.1
+    committed_next old new parts most opening ticket words seats h n tag edit seat good wide' live.0 key live.1
     (subst (λ (w : List ℕ). IsMade w (replay h) ticket n tag edit old new) same (made (replay h) shows))
 
 -- and the condition of a commit fails where it is not made
@@ -202,11 +220,9 @@ swapped_same gone fresh old old' new g p s = record {
 }
 
 -- the same of the names, over lists that are these
-named_same : (n : ℕ) (w : List ℕ) (b b' : ℕ) → b ≡ b' → IsNamed n w b → IsNamed n w b'
-named_same n w b b' f x = subst (λ (k : ℕ). IsNamed n w k) f x
-
-abbrev AreNamed : ℕ → List ℕ → ℕ → List Cell → Type 0
-AreNamed n words g cells = All (λ c. All (λ p. IsNamed n words (bucket_of g p)) (points_of c)) cells
+points_named_same : (n : ℕ) (w : List ℕ) (g g' : ℕ) (l : List ℕ) → g ≡ g' → ArePointsNamed n w g l →
+    ArePointsNamed n w g' l
+points_named_same n w g g' l f x = subst (λ (d : ℕ). ArePointsNamed n w d l) f x
 
 are_named_same : (n : ℕ) (w : List ℕ) (g g' : ℕ) (l l' : List Cell) → g ≡ g' → l ≡ l' → AreNamed n w g l → AreNamed n w g' l'
 are_named_same n w g g' l l' f k x =
@@ -231,16 +247,16 @@ places_whole words places m wide many all b below = all b (subst (λ (k : ℕ). 
 
 -- what is found and exchanged is what a commit makes of the hold
 pub made_of :
-    (words s : List ℕ) (number n tag : ℕ) (edit : Edit) (t : Trial) (p g : ℕ) (near gone fresh : List Cell)
-    (old new : InHand) → IsTrialOf s edit t → p ≡ point_of edit → g ≡ old.grid → near ≡ t.near.items →
+    (words s : List ℕ) (number n tag : ℕ) (edit : Edit) (t : Trial) (g : ℕ) (near gone fresh : List Cell)
+    (old new : InHand) → IsTrialOf s edit t → g ≡ old.grid → near ≡ t.near.items →
     gone ≡ t.gone.items → fresh ≡ t.fresh.items →
     ((b : ℕ) → b < length words → IsSome (bucket_at old.places b)) →
-    IsNamed n words (bucket_of g p) × AreNamed n words g near →
+    ArePointsNamed n words g (edit_points edit) × AreNamed n words g near →
     IsExchanged gone fresh (record { number = number; by = n; tag = tag; edit = edit; reply = t.reply }) old new →
     IsMade words s number n tag edit old new
-made_of words s number n tag edit t p g near gone fresh old new trial ep eg en eo ef all own ex = record {
+made_of words s number n tag edit t g near gone fresh old new trial eg en eo ef all own ex = record {
   touched = touched_held old.grid n s edit t words old.places all trial
-      (named_same n words (bucket_of g p) (bucket_of old.grid (point_of edit)) (λ i. bucket_of (eg i) (ep i)) own.0)
+      (points_named_same n words g old.grid (edit_points edit) eg own.0)
       (are_named_same n words g old.grid near t.near.items eg en own.1);
   gone = gone;
   fresh = fresh;
@@ -251,13 +267,13 @@ made_of words s number n tag edit t p g near gone fresh old new trial ep eg en e
 
 -- and where the words do not name the pass, it does not hold all that is touched
 pub unmade_of :
-    (words s : List ℕ) (n : ℕ) (edit : Edit) (t : Trial) (p g : ℕ) (near : List Cell) (old : InHand) →
-    IsTrialOf s edit t → p ≡ point_of edit → g ≡ old.grid → near ≡ t.near.items →
-    (IsNamed n words (bucket_of g p) × AreNamed n words g near → ⊥) →
+    (words s : List ℕ) (n : ℕ) (edit : Edit) (t : Trial) (g : ℕ) (near : List Cell) (old : InHand) →
+    IsTrialOf s edit t → g ≡ old.grid → near ≡ t.near.items →
+    (ArePointsNamed n words g (edit_points edit) × AreNamed n words g near → ⊥) →
     HoldTouched old.grid s edit (held_by n words old.places) → ⊥
-unmade_of words s n edit t p g near old trial ep eg en none touched =
+unmade_of words s n edit t g near old trial eg en none touched =
     let own = held_touched old.grid n s edit t words old.places trial touched in
     none (
-      named_same n words (bucket_of old.grid (point_of edit)) (bucket_of g p) (λ i. bucket_of (sym eg i) (sym ep i)) own.0,
+      points_named_same n words old.grid g (edit_points edit) (sym eg) own.0,
       are_named_same n words old.grid g t.near.items near (sym eg) (sym en) own.1,
     )

@@ -2,7 +2,6 @@
 use Rattle.std.specs.Prelude.{
   ◌≡◌,
   ◌≢◌,
-  false,
   ℕ,
   ◌+◌,
   ◌-◌,
@@ -26,7 +25,7 @@ use Rattle.std.specs.Prelude.{
 use Rattle.std.specs.Option.{option_map, option_map_or, option_and_then}
 use Rattle.edit_history.specs.declared.history.Edit.{Edit}
 use Rattle.edit_history.specs.declared.history.Entry.{Entry}
-use Rattle.edit_history.specs.Edits.{HasKeys, is_move, reply_to}
+use Rattle.edit_history.specs.Edits.{HasKeys, reply_to}
 use Rattle.edit_history.specs.Histories.{replay}
 use Rattle.cell_store.specs.Buckets.{BucketContent, bucket_at}
 use Rattle.claim_rule.specs.declared.event.Event.{Event}
@@ -183,11 +182,6 @@ history_after h s _ _ = h
 abbrev pub HasKey : Event → Type 0
 HasKey (Commit n tag edit) = HasKeys edit
 HasKey _ = Unit {0}
-
--- no commit moves a point
-abbrev pub MovesNone : Event → Type 0
-MovesNone (Commit n tag edit) = is_move edit ≡ false
-MovesNone _ = Unit {0}
 
 -- it is a commit
 abbrev pub is_commit : Event → Type 0

@@ -6,15 +6,18 @@ use Rattle.edit_history.specs.declared.history.Edit.{Edit}
 use Rattle.edit_history.specs.declared.history.Entry.{Entry}
 use Rattle.edit_history.specs.Edits.{reply_to, after}
 use Rattle.cell_store.specs.Buckets.{InHand}
-use Rattle.cell_store.specs.Changes.{IsChange, IsSwapped, IsNoted}
+use Rattle.cell_store.specs.Changes.{IsArrived, IsChange, IsSwapped, IsNoted}
 use Rattle.cell_store.specs.Touches.{HoldTouched}
 use Rattle.claim_rule.specs.Kept.{held_by}
 
--- the cells are exchanged, and then the entry is noted
+-- the cells are exchanged, then the place comes to which a point has moved, if the entry tells of one, and then the
+-- entry is noted
 pub record IsExchanged (gone fresh : List Cell) (e : Entry) (old new : InHand) : Type 0 where
   pub between : InHand
   pub swapped : IsSwapped gone fresh old between
-  pub noted : IsNoted e between new
+  pub with_goal : InHand
+  pub arrived : IsArrived e between with_goal
+  pub noted : IsNoted e with_goal new
 
 -- the pass's words are on all buckets that the edit of the set touches, and the hold has what the edit changes, and its
 -- entry

@@ -31,8 +31,7 @@ ghost use Rattle.std.specs.Prelude.{
   slice_index_or,
 };
 ghost use Rattle.edit_history.specs.declared.history.Entry.{Entry};
-ghost use Rattle.edit_history.specs.Edits.{is_move, point_of};
-ghost use Rattle.point_order.specs.Coordinates.{IsKey};
+ghost use Rattle.edit_history.specs.Edits.{HasKeys, edit_points, reply_to};
 ghost use Rattle.point_order.specs.Facets.{points_of};
 ghost use Rattle.cell_store.specs.Buckets.{bucket_at};
 ghost use Rattle.cell_store.specs.Grids.{is_grid_size, bucket_of};
@@ -42,7 +41,7 @@ ghost use Rattle.claim_rule.specs.Boards.{word_of};
 ghost use Rattle.claim_rule.specs.Making.{IsExchanged, EditGives};
 ghost use Rattle.claim_rule.specs.Trials.{IsNamed};
 ghost use Rattle.claim_rule.specs.Good.{IsGood, Good};
-ghost use Rattle.claim_rule.specs.Events.{MovesNone, Next, is_commit};
+ghost use Rattle.claim_rule.specs.Events.{Next, is_commit};
 ghost use Rattle.claim_rule.specs.declared.event.Event.TheVariants.{Claim, Commit, Release, Look, Split, Join};
 ghost use Rattle.claim_rule.specs.Opening.{opening_board};
 
@@ -143,15 +142,40 @@ fn holds_nothing(words: &[u64], n: u32) -> bool
     words.iter().all(|w| *w != u64::from(n) + 1)
 }
 
-// Whether the words of the buckets of the point and of all points of these cells name the pass.
-fn names_touched(words: &[u64], grid: Grid, n: u32, point: Point, near: &[Cell]) -> bool
-    ensures { IsTrue result ↔ (IsNamed n words.now (bucket_of grid point)
-        × All (λ c. All (λ p. IsNamed n words.now (bucket_of grid p)) (points_of c)) near.now) }
+// Whether the words of the buckets of the edit's points name the pass.
+fn names_own(words: &[u64], grid: Grid, n: u32, edit: &Edit) -> bool
+    ensures { IsTrue result ↔ All (λ p. IsNamed n words.now (bucket_of grid p)) (edit_points edit.now) }
 {
-    names(words, grid.bucket_of(point), n) && names_cells(words, grid, n, near)
+    match *edit {
+        Edit::Add(p) | Edit::Take(p) => names_points(words, grid, n, &[p]),
+        Edit::Move(a, b) => names_points(words, grid, n, &[a, b]),
+    }
 }
 
-// Exchanges the cells in a hold of all buckets, and notes the entry.
+// Whether the words of the buckets of the edit's points and of all points of these cells name the pass.
+fn names_touched(words: &[u64], grid: Grid, n: u32, edit: &Edit, near: &[Cell]) -> bool
+    ensures { IsTrue result ↔ (All (λ p. IsNamed n words.now (bucket_of grid p)) (edit_points edit.now)
+        × All (λ c. All (λ p. IsNamed n words.now (bucket_of grid p)) (points_of c)) near.now) }
+{
+    names_own(words, grid, n, edit) && names_cells(words, grid, n, near)
+}
+
+// The points of an edit are keys of points.
+fn know_keys(edit: &Edit)
+    ensures { HasKeys edit.now }
+{
+    match *edit {
+        Edit::Add(p) | Edit::Take(p) => {
+            let _ = p.key();
+        }
+        Edit::Move(a, b) => {
+            let _ = a.key();
+            let _ = b.key();
+        }
+    }
+}
+
+// Exchanges the cells in a hold of all buckets, puts in the place to which a point has moved, and notes the entry.
 fn exchange(
     alloc: Global,
     hold: &mut Hold,
@@ -159,12 +183,14 @@ fn exchange(
     fresh: &[Cell],
     entry: Entry,
 ) -> Result<(), AllocError>
-    requires { IsWhole hold.old }
+    requires whole { IsWhole hold.old }
+    requires right { (s : List ℕ) × Shows hold.old s × (entry.reply ≡ reply_to s entry.edit) }
     ensures exchanged { OnOk result (IsExchanged gone.now fresh.now entry hold.old hold.new) }
     ensures refused { OnErr result (hold.new ≡ hold.old) }
 {
     hold.reserve(alloc, gone, fresh, &entry.edit)?;
     hold.swap_cells(gone, fresh);
+    hold.put_goal(&entry);
     hold.push_entry(entry);
     Ok(())
 }
@@ -182,19 +208,17 @@ fn edit_in(
 ) -> Result<bool, AllocError>
     requires all { (b : ℕ) → b < length words.now → IsSome (bucket_at hold.old.places b) }
     requires as_many { length words.now ≡ hold.old.grid * hold.old.grid * hold.old.grid }
-    requires still { is_move edit ≡ false }
-    ensures key { IfOk result (λ made. IsKey (point_of edit)) }
-    ensures places { IfOk result (λ made. length hold.old.places ≡ length words.now) }
+    requires shows { (s : List ℕ) × Shows hold.old s }
+    ensures keys { IfOk result (λ made. HasKeys edit) }
     ensures unmade { IfOk result (λ made. made ≡ false → hold.new ≡ hold.old) }
     ensures made { IfOk result (λ made. (s : List ℕ) → Shows hold.old s →
         EditGives words.now s number n tag edit hold.old made hold.new) }
     ensures refused { OnErr result (hold.new ≡ hold.old) }
 {
     let grid = hold.grid();
-    let point = edit.point();
-    let _ = point.key();
+    know_keys(&edit);
     let trial = trial_of(alloc, hold, edit)?;
-    let own = names_touched(words, grid, n, point, &trial.near);
+    let own = names_touched(words, grid, n, &edit, &trial.near);
     if own {
         let entry = Entry {
             number,
@@ -407,7 +431,6 @@ impl Board {
 
     // A commit.
     fn commit(&mut self, alloc: Global, n: u32, tag: u32, edit: Edit) -> Result<Played, AllocError>
-        requires { is_move edit ≡ false }
         ensures good { Good self.new }
         ensures next { IfOk result (λ answer. (h : List Entry) → IsGood self.old h →
             Next h self.old (Commit n tag edit) answer self.new) }
@@ -416,6 +439,7 @@ impl Board {
         let Some(seat) = spender(&self.seats, n) else {
             return Ok(Played::Short);
         };
+        let _ = self.hold.grid();
         if !edit_in(
             alloc,
             &mut self.hold,
@@ -452,12 +476,11 @@ impl Board {
         }
     }
 
-    /// Makes an event, and answers whether it was done. A commit is to move no point.
+    /// Makes an event, and answers whether it was done.
     ///
     /// # Errors
     /// Want of memory, which a commit alone can meet. The board is then as before.
     pub fn play(&mut self, alloc: Global, event: &Event) -> Result<Played, AllocError>
-        requires still { MovesNone event.now }
         ensures good { Good self.new }
         ensures next { IfOk result (λ answer. (h : List Entry) → IsGood self.old h →
             Next h self.old event.now answer self.new) }

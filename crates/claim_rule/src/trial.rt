@@ -1,14 +1,16 @@
 //! What an edit changes, found by trial of all quadruples and triples of points.
 
-ghost use Rattle.std.specs.Prelude.{◌≡◌, false, ◌⊎◌, ◌↔◌, ℕ, List, IfOk, OnOk};
+ghost use Rattle.std.specs.Prelude.{◌≡◌, ◌⊎◌, ◌↔◌, ℕ, List, IfOk, OnOk};
 ghost use Rattle.std.specs.List.{filter};
 ghost use Rattle.point_order.specs.Facets.{points_of};
 ghost use Rattle.point_order.specs.Sets.{is_among};
-ghost use Rattle.edit_history.specs.Edits.{is_move};
+ghost use Rattle.point_order.specs.Complex.{complex};
+ghost use Rattle.edit_history.specs.declared.history.Edit.TheVariants.{Add};
+ghost use Rattle.edit_history.specs.Edits.{after, reply_to};
 ghost use Rattle.cell_store.specs.Shares.{Shows};
 ghost use Rattle.cell_store.specs.Swaps.{is_cell_among, without_cells};
 ghost use Rattle.cell_store.specs.Meshes.{AllInHand};
-ghost use Rattle.claim_rule.specs.Trials.{HasBoth, IsTrialOf, near_cells};
+ghost use Rattle.claim_rule.specs.Trials.{HasBoth, IsTrialOf, cells_beside, near_cells, near_move};
 
 use cell_store::Hold;
 use complex_trial::complex_by_trial;
@@ -74,26 +76,72 @@ fn cells_with(alloc: Global, cells: &[Cell], p: Point) -> Result<Vec<Cell>, Allo
     cells.iter().filter(|c| c.has(p)).copied().collect(alloc)
 }
 
-// The cells whose points the edit reaches beside its own.
-fn near(alloc: Global, edit: Edit, all: &[Cell], gone: &[Cell]) -> Result<Vec<Cell>, AllocError>
-    requires { is_move edit ≡ false }
-    ensures { IfOk result (λ list. list.items ≡ near_cells edit all.now gone.now) }
+// The cells beside a move from a to b, of all those of the set that the hold shows.
+fn beside(
+    alloc: Global,
+    hold: &Hold,
+    a: Point,
+    b: Point,
+    all: &[Cell],
+) -> Result<Vec<Cell>, AllocError>
+    requires { AllInHand hold.now }
+    ensures { IfOk result (λ list. (s : List ℕ) → Shows hold.now s →
+        list.items ≡ cells_beside a all.now (complex (after s (Add b)))) }
+{
+    let mut set = all_points(alloc, hold)?;
+    set.after(Edit::Add(b))?;
+    let with_goal = complex_by_trial(alloc, set.points())?;
+    let mut list = others(alloc, all, &with_goal)?;
+    let mut at_a = cells_with(alloc, &with_goal, a)?;
+    list.append(&mut at_a)?;
+    Ok(list)
+}
+
+// The cells near a move from a to b with this reply.
+fn cells_near_move(
+    alloc: Global,
+    hold: &Hold,
+    a: Point,
+    b: Point,
+    reply: Reply,
+    all: &[Cell],
+) -> Result<Vec<Cell>, AllocError>
+    requires { AllInHand hold.now }
+    ensures { IfOk result (λ list. (s : List ℕ) → Shows hold.now s →
+        list.items ≡ near_move reply (cells_beside a all.now (complex (after s (Add b))))) }
+{
+    match reply {
+        Reply::Missing | Reply::Occupied => Ok(Vec::new(alloc)),
+        _ => beside(alloc, hold, a, b, all),
+    }
+}
+
+// The cells whose points the edit, which has this reply, reaches beside its own.
+fn near(
+    alloc: Global,
+    hold: &Hold,
+    edit: Edit,
+    reply: Reply,
+    all: &[Cell],
+    gone: &[Cell],
+) -> Result<Vec<Cell>, AllocError>
+    requires { AllInHand hold.now }
+    ensures { IfOk result (λ list. (s : List ℕ) → Shows hold.now s → reply ≡ reply_to s edit →
+        list.items ≡ near_cells s edit all.now gone.now) }
 {
     match edit {
         Edit::Add(_) => Vec::from_slice(alloc, gone),
         Edit::Take(v) => cells_with(alloc, all, v),
-        Edit::Move(..) => unreachable!(),
+        Edit::Move(a, b) => cells_near_move(alloc, hold, a, b, reply, all),
     }
 }
 
-/// What the edit, which is to move nothing, changes of the set that the hold shows, all of whose buckets are to be in
-/// hand.
+/// What the edit changes of the set that the hold shows, all of whose buckets are to be in hand.
 ///
 /// # Errors
 /// Want of memory.
 pub fn trial_of(alloc: Global, hold: &Hold, edit: Edit) -> Result<Trial, AllocError>
-    requires all { AllInHand hold.now }
-    requires still { is_move edit ≡ false }
+    requires { AllInHand hold.now }
     ensures { IfOk result (λ t. (s : List ℕ) → Shows hold.now s → IsTrialOf s edit t) }
 {
     let mut set = all_points(alloc, hold)?;
@@ -103,7 +151,7 @@ pub fn trial_of(alloc: Global, hold: &Hold, edit: Edit) -> Result<Trial, AllocEr
     let after = complex_by_trial(alloc, set.points())?;
     let gone = others(alloc, &before, &after)?;
     let fresh = others(alloc, &after, &before)?;
-    let near = near(alloc, edit, &before, &gone)?;
+    let near = near(alloc, hold, edit, reply, &before, &gone)?;
     Ok(Trial {
         reply,
         gone,

@@ -1,10 +1,6 @@
 //! Boards, and the events that are played on them.
 
-ghost use Rattle.std.specs.Prelude.{IsTrue};
-ghost use Rattle.claim_rule.specs.Events.{MovesNone};
-
 use crate::meshes::mesh_of;
-use crate::orders::is_still;
 use crate::reading::{Word, list_at, number_at, numbers_at};
 use crate::telling::Told;
 use cell_store::Grid;
@@ -68,16 +64,6 @@ fn put_played(told: &mut Told, answer: Played, board: &Board) {
     }
 }
 
-// Whether the event moves no point.
-fn moves_none(event: &Event) -> bool
-    ensures { IsTrue result → MovesNone event.now }
-{
-    match *event {
-        Event::Commit(_, _, edit) => is_still(edit),
-        _ => true,
-    }
-}
-
 /// Plays the event of a line on the board, and puts down what it answers and what the board shows then.
 ///
 /// # Errors
@@ -89,11 +75,11 @@ pub(crate) fn play(
     line: &str,
 ) -> Result<(), AllocError> {
     match event_of(line) {
-        Some(event) if moves_none(&event) => {
+        Some(event) => {
             let answer = board.play(alloc, &event)?;
             put_played(told, answer, board);
         }
-        _ => told.put("no scene"),
+        None => told.put("no scene"),
     }
     Ok(())
 }

@@ -14,7 +14,7 @@ use grid_claims::{Gate, MeshTable, OpenGate, Pass, Receipt, Refused, Snapshot};
 use std::alloc::{AllocError, Global};
 
 // Whether an edit moves no point.
-pub(crate) fn is_still(edit: Edit) -> bool
+fn is_still(edit: Edit) -> bool
     ensures { IsTrue result → is_move edit ≡ false }
 {
     match edit {

@@ -1,7 +1,7 @@
 use Rattle.std.specs.Prelude.{MatchOption}
 use Rattle.std.proofs.Common.{◌≡◌, ◌<◌, Bool, ℕ, List, Option, None, Some, IsSomeAnd, length, slice_index_or, refl, sym, ◌∙◌, ap, subst}
 use Rattle.claim_rule.specs.declared.board.Seat.{Seat}
-use Rattle.edit_history.proofs.Cited.{still_keys}
+use Rattle.edit_history.specs.Histories.{replay}
 use Rattle.list_laws.proofs.Cited.{on_err}
 use Rattle.claim_rule.specs.declared.event.Event.TheVariants.{Commit}
 use Rattle.claim_rule.specs.declared.event.Played.TheVariants.{Done}
@@ -9,7 +9,17 @@ use Rattle.claim_rule.specs.Boards.{BoardState}
 use Rattle.claim_rule.specs.Good.{IsGood, Good}
 use Rattle.claim_rule.specs.Making.{EditGives}
 use Rattle.claim_rule.proofs.Moves.{good_by, seen_as}
-use Rattle.claim_rule.proofs.Committing.{few_so_far, made_next, next_fits, none_commits, same_board, short_answer, unmade_commits, words_whole}
+use Rattle.claim_rule.proofs.Committing.{
+  few_so_far,
+  made_next,
+  next_fits,
+  none_commits,
+  same_board,
+  short_answer,
+  shown_set,
+  unmade_commits,
+  words_whole,
+}
 use Rattle.claim_rule.proofs.board.Board.commit.Goals as goal
 
 none_case : {X : Type 0} (o : Option X) (P : Type 0) (Q : X → Type 0) → MatchOption o P Q → ((x : X) → o ≡ Some x → ⊥) → P
@@ -27,6 +37,16 @@ edit_in-requires-clause-all c =
 
 pub edit_in-requires-clause-as_many : goal.edit_in-requires-clause-as_many
 edit_in-requires-clause-as_many c = ap length c.deref-2.ensures.value ∙ c.self.invariant.1.shape.words
+
+pub edit_in-requires-clause-shows : goal.edit_in-requires-clause-shows
+edit_in-requires-clause-shows c =
+    let i = c.self.inside in
+    let h = c.self.invariant.0 in
+    let good = c.self.invariant.1 in (
+      replay h,
+      shown_set i.hold i.parts i.most i.begun.value.history i.ticket i.words.items i.seats.items h good
+          (c.grid.ensures.places ∙ sym good.shape.words),
+    )
 
 pub returns-in_default-clause-next : goal.returns-in_default-clause-next
 returns-in_default-clause-next c h good =
@@ -66,7 +86,8 @@ returns-then-not-branch-clause-next c h good =
     short_answer h _ c.args.self.now _ c.args.n c.args.tag c.args.edit c.self.view_is stays
     (unmade_commits i.hold new i.parts i.most i.begun.value.history i.ticket i.words.items c.deref-2.result.now
     i.seats.items h c.args.n c.args.tag c.args.edit c.in-Some.seat c.deref-2.ensures.value
-    (subst (λ (s : BoardState). IsGood s h) (sym c.self.view_is) good) c.in_ok-edit_in.ensures.places
+    (subst (λ (s : BoardState). IsGood s h) (sym c.self.view_is) good)
+    (c.grid.ensures.places ∙ sym (ap length c.deref-2.ensures.value ∙ c.self.invariant.1.shape.words))
     (ap (λ l. slice_index_or l c.args.n None) (sym c.deref.ensures.value) ∙ c.in-Some.ensures.0)
     (λ s shows. subst (λ (b : Bool). EditGives c.deref-2.result.now s i.ticket c.args.n c.args.tag c.args.edit i.hold b new) c.if-not-branch.true
     (c.in_ok-edit_in.ensures.made s shows)))
@@ -83,11 +104,12 @@ invariant_of-self-2 c =
     let new = c.edit_in.new.hold in
     let h = c.self.invariant.0 in
     let good = c.self.invariant.1 in
-    good_by h _ (Commit c.args.n c.args.tag c.args.edit) Done _ good (still_keys c.args.edit c.requires c.in_ok-edit_in.ensures.key)
+    good_by h _ (Commit c.args.n c.args.tag c.args.edit) Done _ good c.in_ok-edit_in.ensures.keys
     (made_next i.hold new i.parts i.most i.begun.value.history i.ticket i.words.items c.deref-2.result.now
-    i.seats.items h c.args.n c.args.tag c.args.edit c.in-Some.seat c.deref-2.ensures.value good c.in_ok-edit_in.ensures.places
+    i.seats.items h c.args.n c.args.tag c.args.edit c.in-Some.seat c.deref-2.ensures.value good
+    (c.grid.ensures.places ∙ sym (ap length c.deref-2.ensures.value ∙ c.self.invariant.1.shape.words))
     (ap (λ l. slice_index_or l c.args.n None) (sym c.deref.ensures.value) ∙ c.in-Some.ensures.0, c.in-Some.ensures.1)
-    (still_keys c.args.edit c.requires c.in_ok-edit_in.ensures.key) c.requires
+    c.in_ok-edit_in.ensures.keys
     (λ s shows. subst (λ (b : Bool). EditGives c.deref-2.result.now s i.ticket c.args.n c.args.tag c.args.edit i.hold b new) c.if-not-branch.false
     (c.in_ok-edit_in.ensures.made s shows)))
 
@@ -101,8 +123,9 @@ returns-clause-next c h good =
     seen_as h _ c.args.self.now (Commit c.args.n c.args.tag c.args.edit) Done _ c.self.view_is
     (made_next i.hold new i.parts i.most i.begun.value.history i.ticket i.words.items c.deref-2.result.now
     i.seats.items h c.args.n c.args.tag c.args.edit c.in-Some.seat c.deref-2.ensures.value
-    (subst (λ (s : BoardState). IsGood s h) (sym c.self.view_is) good) c.in_ok-edit_in.ensures.places
+    (subst (λ (s : BoardState). IsGood s h) (sym c.self.view_is) good)
+    (c.grid.ensures.places ∙ sym (ap length c.deref-2.ensures.value ∙ c.self.invariant.1.shape.words))
     (ap (λ l. slice_index_or l c.args.n None) (sym c.deref.ensures.value) ∙ c.in-Some.ensures.0, c.in-Some.ensures.1)
-    (still_keys c.args.edit c.requires c.in_ok-edit_in.ensures.key) c.requires
+    c.in_ok-edit_in.ensures.keys
     (λ s shows. subst (λ (b : Bool). EditGives c.deref-2.result.now s i.ticket c.args.n c.args.tag c.args.edit i.hold b new) c.if-not-branch.false
     (c.in_ok-edit_in.ensures.made s shows)))
