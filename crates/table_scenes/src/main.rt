@@ -2,10 +2,11 @@
 //! input, and what it comes to a line on standard output.
 //!
 //! A scene is what is played, a number, and lists of words behind semicolons. A point is written `x,y,z`, and an edit
-//! is its tag, `+` or `-`, and its point. Orders are edits, and `look`, `shot`, and `work`, which has all edits behind
-//! it done as a list. The mesh of a scene has its points, the first four independent ones first, each with its place
-//! for a tag. Behind the answer of an edit stand the moments of which its gate was told. A line whose first word is `#` is answered by itself. Threads wait for each other by gates, so that what
-//! is printed is the same whatever the schedule.
+//! is its tag, `+` or `-`, and its point, or its tag, `=`, and the two places of a move with `>` between them. Orders
+//! are edits, and `look`, `shot`, and `work`, which has all edits behind it done as a list. The mesh of a scene has its
+//! points, the first four independent ones first, each with its place for a tag. Behind the answer of an edit stand the
+//! moments of which its gate was told. A line whose first word is `#` is answered by itself. Threads wait for each other
+//! by gates, so that what is printed is the same whatever the schedule.
 //!
 //! - `board SIZE; POINTS; PARTS ALLOWANCE`: a new board, on which the lines that follow are played: `claim N B`,
 //!   `commit N EDIT`, `release N B`, `look N`, `split N PARTS ALLOWANCE` and `join N M`, of the pass N. After each what it

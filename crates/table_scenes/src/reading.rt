@@ -29,17 +29,24 @@ impl Word for Point {
     }
 }
 
-// An edit is written as its tag, `+` or `-`, and its point.
+// What stands behind the sign of an edit: a point, or behind `=` both places of a move, with `>` between them.
+fn edit_behind(sign: char, places: &str) -> Option<Edit> {
+    match sign {
+        '+' => Point::of(places).map(Edit::Add),
+        '-' => Point::of(places).map(Edit::Take),
+        _ => {
+            let (from, to) = places.split_once('>')?;
+            Some(Edit::Move(Point::of(from)?, Point::of(to)?))
+        }
+    }
+}
+
+// An edit is written as its tag, `+`, `-` or `=`, and its point or places.
 impl Word for (u32, Edit) {
     fn of(word: &str) -> Option<(u32, Edit)> {
-        let is_added = word.contains('+');
-        let (tag, point) = word.split_once(if is_added { '+' } else { '-' })?;
-        let point = Point::of(point)?;
-        let edit = if is_added {
-            Edit::Add(point)
-        } else {
-            Edit::Take(point)
-        };
+        let sign = word.chars().find(|c| matches!(c, '+' | '-' | '='))?;
+        let (tag, places) = word.split_once(sign)?;
+        let edit = edit_behind(sign, places)?;
         Some((tag.parse::<u32>().ok()?, edit))
     }
 }
