@@ -7,10 +7,9 @@ use lib.ListN.{get_elem?}
 use Rattle.atomic_table.proofs.Lists.{at_set}
 use Rattle.list_laws.specs.Lists.{AreDistinct}
 use Rattle.list_laws.proofs.Cited.{is_there}
-use Rattle.point_order.specs.Coordinates.{IsKey}
 use Rattle.edit_history.specs.declared.history.Edit.{Edit}
 use Rattle.edit_history.specs.declared.history.Entry.{Entry}
-use Rattle.edit_history.specs.Edits.{point_of}
+use Rattle.edit_history.specs.Edits.{HasKeys}
 use Rattle.edit_history.specs.Histories.{replay}
 use Rattle.cell_store.specs.Buckets.{bucket_at}
 use Rattle.cell_store.specs.Touches.{HoldTouched}
@@ -131,7 +130,7 @@ pub reached_miss : (k : Key) (s s' : Table) (h : List Entry) (id b word : ℕ) (
 reached_miss k s s' h id b word v w r one trail there inside lacks away is event =
     reached_by k s s' h id v w (Claim v.first b) (Taken word) r one tt tt refl trail ((inside, said (view_at (board_of k s) v.first) (plain v) (λ u. bucket_at u.held b ≡ None) there lacks), away, is, event)
 
-pub reached_commit : (k : Key) (s s' : Table) (h : List Entry) (id tag : ℕ) (edit : Edit) (v w : View) → IsReached k s h → IsOneSet k s s' id v w → w.trail ≡ v.trail ++ DidCommit (board_of k s).ticket ∷ [] → view_at (board_of k s) v.first ≡ Some (plain v) → IsKey (point_of edit) → 0 < v.left → HoldTouched k.grid (replay h) edit v.held
+pub reached_commit : (k : Key) (s s' : Table) (h : List Entry) (id tag : ℕ) (edit : Edit) (v w : View) → IsReached k s h → IsOneSet k s s' id v w → w.trail ≡ v.trail ++ DidCommit (board_of k s).ticket ∷ [] → view_at (board_of k s) v.first ≡ Some (plain v) → HasKeys edit → 0 < v.left → HoldTouched k.grid (replay h) edit v.held
     → board_of k s' ≡ committed h (board_of k s) v.first tag edit → IsReached k s' (h ++ entry_after h (board_of k s).ticket v.first tag edit ∷ [])
 reached_commit k s s' h id tag edit v w r one trail there key left touched event =
     reached_by k s s' h id v w (Commit v.first tag edit) Done r one key tt refl trail (said (view_at (board_of k s) v.first) (plain v) (λ u. (0 < u.left) × HoldTouched k.grid (replay h) edit u.held) there (left, touched), event)
