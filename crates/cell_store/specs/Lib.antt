@@ -8,6 +8,7 @@ pub mod Spots
 pub mod Others
 pub mod Changes
 pub mod Meshes
+pub mod Gathered
 pub mod Ready
 pub mod Missing
 pub mod Touches

@@ -1,15 +1,17 @@
 //! What all buckets of a grid have together.
 
-ghost use Rattle.std.specs.Prelude.{◌≡◌, ℕ, List, IfOk, OnOk};
+ghost use Rattle.std.specs.Prelude.{◌≡◌, ◌∷◌, ◌++◌, [], ℕ, List, length, IfOk, OnOk};
+ghost use Rattle.std.specs.List.{filter};
 ghost use Rattle.point_order.specs.Complex.{complex as complex_of};
-ghost use Rattle.point_order.specs.CellOrder.{AreSameCells};
 ghost use Rattle.edit_history.specs.declared.history.Entry.{Entry};
 ghost use Rattle.cell_store.specs.Buckets.{content_of};
 ghost use Rattle.cell_store.specs.Shares.{Stands, Shows};
-ghost use Rattle.cell_store.specs.Meshes.{AllInHand, IsWhole, StandsForSome, HasMore, all_entries, all_cells};
+ghost use Rattle.cell_store.specs.Meshes.{AllInHand, IsWhole, StandsForSome, all_entries};
+ghost use Rattle.cell_store.specs.Gathered.{AreGathered, HasHome, home_of, is_home};
 
 use crate::bucket::Bucket;
 use crate::hold::Hold;
+use cell_stars::Grid;
 use edit_history::{Entry, merge};
 use point_order::{Cell, cells_in_order};
 use std::alloc::{AllocError, Global};
@@ -54,26 +56,70 @@ impl Hold {
         Ok(list)
     }
 
-    // The cells of all buckets.
+    // How many cells there are in all buckets, where each is counted in the bucket of its first point.
+    fn count_cells(&self) -> usize
+        requires { AllInHand self.now }
+    {
+        let grid = self.grid();
+        let mut count: usize = 0;
+        for b in 0..grid.count() {
+            for cell in self.bucket(b).cells() {
+                if is_at_home(grid, b, cell) {
+                    count = count.saturating_add(1);
+                }
+            }
+        }
+        count
+    }
+
+    // The cells of all buckets, each from the bucket of its first point.
     fn all_cells(&self, alloc: Global) -> Result<Vec<Cell>, AllocError>
         requires { AllInHand self.now }
-        ensures list { IfOk result (λ list. AreSameCells (all_cells self.now.places) list.items) }
+        ensures list { IfOk result (λ list. AreGathered self.now (length self.now.places) list.items) }
         ensures whole { OnOk result (IsWhole self.now) }
     {
-        let mut list = Vec::new(alloc);
-        for b in 0..self.grid().count() {
-            push_cells(&mut list, self.bucket(b))?;
+        let grid = self.grid();
+        let mut list = Vec::with_capacity(alloc, self.count_cells())?;
+        for b in 0..grid.count() {
+            push_cells(&mut list, grid, b, self.bucket(b))?;
         }
         Ok(list)
     }
 }
 
-// Puts the cells of a bucket behind the cells, in any order.
-fn push_cells(list: &mut Vec<Cell>, bucket: &Bucket) -> Result<(), AllocError>
-    ensures { OnOk result (HasMore (content_of bucket.now).cells list.old.items list.new.items) }
+// The number of the bucket of the cell's first point.
+fn home(grid: Grid, cell: &Cell) -> u32
+    ensures { result ≡ home_of grid cell.now }
+{
+    match cell.points() {
+        [first, ..] => grid.bucket_of(*first),
+        [] => 0,
+    }
+}
+
+// Whether that is this one.
+fn is_at_home(grid: Grid, b: u32, cell: &Cell) -> bool
+    ensures { result ≡ is_home grid b cell.now }
+{
+    home(grid, cell) == b
+}
+
+// Puts the cell behind the others, if that is its bucket.
+fn push_cell(list: &mut Vec<Cell>, grid: Grid, b: u32, cell: &Cell) -> Result<(), AllocError>
+    ensures { OnOk result (list.new.items ≡ list.old.items ++ filter (is_home grid b) (cell.now ∷ [])) }
+{
+    if is_at_home(grid, b, cell) {
+        list.push(*cell)?;
+    }
+    Ok(())
+}
+
+// Puts the cells of a bucket that have their first point there behind the cells, in any order.
+fn push_cells(list: &mut Vec<Cell>, grid: Grid, b: u32, bucket: &Bucket) -> Result<(), AllocError>
+    ensures { OnOk result (HasHome grid b (content_of bucket.now).cells list.old.items list.new.items) }
 {
     for cell in bucket.cells() {
-        list.push(*cell)?;
+        push_cell(list, grid, b, cell)?;
     }
     Ok(())
 }
