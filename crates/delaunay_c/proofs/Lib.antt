@@ -1,0 +1,7 @@
+mod FullFirst
+mod Others
+mod Places
+mod Clouds
+mod RowLaws
+mod Alphas
+mod Rooms

@@ -1,0 +1,80 @@
+/* Each allocation of a call is refused in turn: the call answers DELAUNAY_C_MEMORY and leaves all rooms as before. To
+ * be linked with -Wl,--wrap=malloc,--wrap=realloc. It prints how many refusals there were. */
+#include "delaunay_c.h"
+#include <stdio.h>
+#include <stdlib.h>
+#include <string.h>
+
+void *__real_malloc(size_t size);
+void *__real_realloc(void *block, size_t size);
+
+static long refuse_at = -1;
+
+static int refuses(void) { return refuse_at >= 0 && refuse_at-- == 0; }
+
+void *__wrap_malloc(size_t size) { return refuses() ? NULL : __real_malloc(size); }
+
+void *__wrap_realloc(void *block, size_t size) { return refuses() ? NULL : __real_realloc(block, size); }
+
+enum { COUNT = 30, ROOM = 400 };
+
+static struct rooms {
+    struct delaunay_c_place points[ROOM];
+    struct delaunay_c_cell cells[ROOM], neighbours[ROOM];
+    struct delaunay_c_triangle hull[ROOM], triangles[ROOM];
+    struct delaunay_c_edge edges[ROOM];
+    struct delaunay_c_alphas point_alphas[ROOM], edge_alphas[ROOM], triangle_alphas[ROOM];
+    uint64_t cell_alphas[ROOM];
+    struct delaunay_c_mesh_sizes mesh;
+    struct delaunay_c_face_sizes faces;
+} rooms, before;
+
+static struct delaunay_c_place given[COUNT];
+
+static int mesh(void) {
+    struct rooms *r = &rooms;
+    return delaunay_c_mesh(given, COUNT, r->points, ROOM, r->cells, ROOM, r->neighbours, ROOM, r->hull, ROOM, &r->mesh);
+}
+
+static int alphas(void) {
+    struct rooms *r = &rooms;
+    return delaunay_c_alphas(given, COUNT, r->point_alphas, ROOM, r->edges, ROOM, r->edge_alphas, ROOM, r->triangles,
+                             ROOM, r->triangle_alphas, ROOM, r->cell_alphas, ROOM, &r->faces);
+}
+
+/* How many allocations a call makes, each refused once; -1 where an answer is wrong. */
+static long refused(int (*call)(void)) {
+    for (long n = 0;; n++) {
+        memset(&rooms, 0x5a, sizeof rooms);
+        memcpy(&before, &rooms, sizeof rooms);
+        refuse_at = n;
+        int status = call();
+        int was_refused = refuse_at < 0;
+        refuse_at = -1;
+        if (!was_refused) {
+            return status == DELAUNAY_C_OK ? n : -1;
+        }
+        if (status != DELAUNAY_C_MEMORY || memcmp(&before, &rooms, sizeof rooms) != 0) {
+            return -1;
+        }
+    }
+}
+
+int main(void) {
+    uint32_t drawn = 1;
+    for (int i = 0; i < COUNT; i++) {
+        int64_t v[3];
+        for (int k = 0; k < 3; k++) {
+            drawn = drawn * 1664525u + 1013904223u;
+            v[k] = drawn >> 26;
+        }
+        given[i] = (struct delaunay_c_place){v[0], v[1], v[2]};
+    }
+    long of_mesh = refused(mesh), of_alphas = refused(alphas);
+    if (of_mesh <= 0 || of_alphas <= 0) {
+        printf("a wrong answer after a refusal: %ld %ld\n", of_mesh, of_alphas);
+        return 1;
+    }
+    printf("refusals: %ld of a mesh, %ld of alphas\n", of_mesh, of_alphas);
+    return 0;
+}
