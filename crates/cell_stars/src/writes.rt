@@ -133,13 +133,13 @@ fn numbers_for(
 }
 
 // For each rest of a division, where in a list of points the last one with this rest is likely to be.
-pub(crate) type Seen = [usize; 64];
+pub(crate) type Seen = [usize; 512];
 
 // The rest of the point.
 fn rest_of(p: Point) -> usize
-    ensures { result < 64 }
+    ensures { result < 512 }
 {
-    (hash_of(p) % 64) as usize
+    (hash_of(p) % 512) as usize
 }
 
 // Whether the point is where the last one with its rest was put.
