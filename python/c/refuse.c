@@ -1,5 +1,6 @@
-/* Each allocation of a call is refused in turn: the call answers DELAUNAY_C_MEMORY and leaves all rooms as before. To
- * be linked with -Wl,--wrap=malloc,--wrap=realloc. It prints how many refusals there were. */
+/* Each allocation of a call is refused in turn: the call answers DELAUNAY_C_MEMORY and leaves all rooms as before, or
+ * does without that block and answers as with it. To be linked with -Wl,--wrap=malloc,--wrap=realloc. It prints how
+ * many refusals there were. */
 #include "delaunay_c.h"
 #include <stdio.h>
 #include <stdlib.h>
@@ -27,7 +28,7 @@ static struct rooms {
     uint64_t cell_alphas[ROOM];
     struct delaunay_c_mesh_sizes mesh;
     struct delaunay_c_face_sizes faces;
-} rooms, before;
+} rooms, before, want;
 
 static struct delaunay_c_place given[COUNT];
 
@@ -44,18 +45,26 @@ static int alphas(void) {
 
 /* How many allocations a call makes, each refused once; -1 where an answer is wrong. */
 static long refused(int (*call)(void)) {
+    memset(&rooms, 0x5a, sizeof rooms);
+    memcpy(&before, &rooms, sizeof rooms);
+    if (call() != DELAUNAY_C_OK) {
+        return -1;
+    }
+    memcpy(&want, &rooms, sizeof rooms);
     for (long n = 0;; n++) {
-        memset(&rooms, 0x5a, sizeof rooms);
-        memcpy(&before, &rooms, sizeof rooms);
+        memcpy(&rooms, &before, sizeof rooms);
         refuse_at = n;
         int status = call();
         int was_refused = refuse_at < 0;
         refuse_at = -1;
+        if (status != DELAUNAY_C_OK && status != DELAUNAY_C_MEMORY) {
+            return -1;
+        }
+        if (memcmp(status == DELAUNAY_C_OK ? &want : &before, &rooms, sizeof rooms) != 0) {
+            return -1;
+        }
         if (!was_refused) {
             return status == DELAUNAY_C_OK ? n : -1;
-        }
-        if (status != DELAUNAY_C_MEMORY || memcmp(&before, &rooms, sizeof rooms) != 0) {
-            return -1;
         }
     }
 }

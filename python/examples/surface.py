@@ -16,7 +16,7 @@ shape = mesh.alpha(0.3)
 triangles = shape.boundary()
 print(f'{len(points)} points, rounded by {mesh.rounding:.1g}: {len(shape.tetrahedra)} tetrahedra, '
       f'{len(triangles)} triangles of the boundary')
-if len(sys.argv) > 1 and importlib.util.find_spec('matplotlib'):
+if __name__ == '__main__' and len(sys.argv) > 1 and importlib.util.find_spec('matplotlib'):
     from matplotlib import pyplot
     axes = pyplot.figure().add_subplot(projection='3d')
     axes.plot_trisurf(*points.T, triangles=triangles)
