@@ -1,13 +1,13 @@
 -- The faces of a complex, and the least alphas of its Full cells, which stand in front of those of all its cells.
 use Rattle.std.proofs.Common.{◌≡◌, ◌∙◌, ℕ, ap, refl, sym, subst, List, [], ◌∷◌, length, map, take}
-use Rattle.std.specs.List.{AllZip, filter}
+use Rattle.std.specs.List.{AllZip}
 use Rattle.point_order.specs.declared.cell.Cell.{Cell}
 use Rattle.point_order.specs.declared.cell.Cell.TheVariants.{Full}
 use Rattle.point_order.specs.Complex.{complex}
-use Rattle.face_list.specs.Faces.{cells_with, full_cells, parts_in, points_in, points_with_cells, with_cells}
+use Rattle.face_list.specs.Faces.{full_cells, parts_in, points_in, points_with_cells, with_cells}
 use Rattle.face_list.specs.Seen.{FaceLists}
 use Rattle.alpha_complex.specs.Condition.{AreFacesOf}
-use Rattle.alpha_complex.specs.Admitted.{is_admitted, is_admitted_cell}
+use Rattle.alpha_complex.specs.Admitted.{is_admitted_cell}
 use Rattle.alpha_complex.specs.Leasts.{IsLeastOf}
 use Rattle.hole_laws.specs.Edits.{IsSet}
 use Rattle.delaunay_c.specs.Meshes.{AreCellAlphas, IsCloud}

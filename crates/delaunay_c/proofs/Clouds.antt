@@ -23,13 +23,11 @@ use Rattle.std.proofs.Common.{
 }
 use Rattle.std.proofs.lemmas.List.{get_or_default}
 use Rattle.std.specs.Prelude.{Result, Ok, Err, IfErr, IsErrAnd}
-use Rattle.std.specs.Prelude.{◌↔◌}
 use Rattle.list_laws.proofs.Cited.{at_in, from_append, take_next}
 use Rattle.point_order.specs.declared.point.OutOfRange.{OutOfRange}
 use Rattle.point_order.specs.Coordinates.{IsFirstOutside, IsKey, IsNoCoordinate}
 use Rattle.point_order.specs.Sets.{IsIn, IsAscending, AreSamePoints}
 use Rattle.del_laws.specs.Keys.{AreKeys}
-use Rattle.hole_laws.specs.Edits.{IsSet}
 use Rattle.delaunay_c.specs.declared.rows.Place.{Place}
 use Rattle.delaunay_c.specs.declared.stop.Stop.{Stop}
 use Rattle.delaunay_c.specs.Rows.{place_of, IsOutside}

@@ -1,29 +1,11 @@
 -- The other cell on a facet of a cell of a complex, and what is told of it.
-use Rattle.std.proofs.Common.{
-  ◌≡◌,
-  ◌≢◌,
-  ◌∙◌,
-  ℕ,
-  ◌<◌,
-  refl,
-  sym,
-  ap,
-  subst,
-  inl,
-  inr,
-  arith,
-  List,
-  [],
-  ◌∷◌,
-  length,
-}
+use Rattle.std.proofs.Common.{◌≡◌, ◌≢◌, ◌∙◌, ℕ, ◌<◌, refl, sym, ap, subst, inl, inr, List, [], ◌∷◌, length}
 use Rattle.std.proofs.lemmas.List.{get_or_default}
 use Rattle.list_laws.proofs.Cited.{at_in, contains_in}
 use Rattle.point_order.specs.declared.cell.Cell.{Cell}
 use Rattle.point_order.specs.declared.cell.Cell.TheVariants.{Full, Open}
 use Rattle.point_order.specs.declared.cell.Facet.{Facet}
-use Rattle.point_order.specs.declared.cell.Facet.TheVariants.{Three, Two}
-use Rattle.point_order.specs.Complex.{complex}
+use Rattle.point_order.specs.declared.cell.Facet.TheVariants.{Three}
 use Rattle.point_order.specs.Facets.{facets_of, full_facets, open_facets}
 use Rattle.point_order.specs.Sets.{IsIn}
 use Rattle.del_laws.proofs.Cited.{listed_facets}

@@ -54,6 +54,7 @@ pub extern "C" fn delaunay_c_mesh(
 ) -> u8
     ensures done { result ≡ 0 → IsMesh given.now (take sizes.new.points points.new) (take sizes.new.cells cells.new)
         (take sizes.new.cells neighbours.new) (take sizes.new.hull hull.new) }
+    ensures sized { result ≡ 0 → AreSizesOfMesh given.now sizes.new }
     ensures outside { result ≡ 2 → HasOutside given.now }
     ensures flat { result ≡ 3 → AreFlat given.now }
     ensures wanted { result ≡ 4 → AreSizesOfMesh given.now sizes.new }
@@ -102,6 +103,7 @@ pub extern "C" fn delaunay_c_alphas(
         (take sizes.new.edges edges.new) (take sizes.new.edges edge_alphas.new)
         (take sizes.new.triangles triangles.new) (take sizes.new.triangles triangle_alphas.new)
         (take sizes.new.cells cell_alphas.new) }
+    ensures sized { result ≡ 0 → AreSizesOfFaces given.now sizes.new }
     ensures outside { result ≡ 2 → HasOutside given.now }
     ensures flat { result ≡ 3 → AreFlat given.now }
     ensures wanted { result ≡ 4 → AreSizesOfFaces given.now sizes.new }
