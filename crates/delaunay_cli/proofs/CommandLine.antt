@@ -26,7 +26,7 @@ use Rattle.std.proofs.Common.{
 }
 use Rattle.std.specs.Prelude.{String, Option, Some, None}
 use Rattle.std.specs.declared.alloc.Global.{Global}
-use Rattle.std.specs.Option.{option_map_or}
+use Rattle.std.specs.Option.{option_map, option_map_or}
 use Rattle.std.specs.Str.{bytes_eq}
 use Rattle.std.specs.Str.Parse.{IsNumeral, digits_value, without_leading_plus}
 use Rattle.clap.specs.ValueTests.{is_unsigned_in}
@@ -55,6 +55,7 @@ use Rattle.delaunay_cli.specs.Words.{
   AreMesh,
   AreMeshOrder,
   AreShape,
+  AreParts,
   AreShapeOrder,
   AreSteps,
   AreTaken,
@@ -63,15 +64,23 @@ use Rattle.delaunay_cli.specs.Words.{
   asks_text,
   drawn_count,
   drawn_start,
+  asked_alpha,
+  asked_index,
+  asked_most,
   asks_drawn,
   asks_order,
+  asks_parts,
   asks_shape,
   asks_steps,
   flag_in,
   has_flag,
   is_command,
+  given_in,
+  given_of,
   grid_size,
+  most_alpha,
   most_grid,
+  most_index,
   most_workers,
   number_between,
   number_in,
@@ -85,7 +94,8 @@ use Rattle.delaunay_cli.specs.declared.task.Asked.{Asked}
 use Rattle.delaunay_cli.specs.declared.task.Drawn.{Drawn}
 use Rattle.delaunay_cli.specs.declared.task.Making.{Making}
 use Rattle.delaunay_cli.specs.declared.task.Task.{Task}
-use Rattle.delaunay_cli.specs.declared.task.Task.TheVariants.{Report, Step, Draw}
+use Rattle.delaunay_cli.specs.declared.task.Task.TheVariants.{Report, Step, Part, Draw}
+use Rattle.delaunay_cli.specs.declared.task.Wanted.{Wanted}
 
 program_is_simple_and_free : is_simple_and_free program ≡ true
 unfolding clap_on_literals
@@ -96,73 +106,100 @@ unfolding clap_on_literals
 program_is_simple = refl
 
 -- what words are found to be: with no fault, `shape` or not, with `--order` or not, one worker, a grid of 4, not `gen`,
--- and `steps` or not
-abbrev AreFound : List Text → Bool → Bool → Bool → Type 0
-AreFound words shape order steps =
+-- and `steps` or not, and `parts` or not
+abbrev AreFound : List Text → Bool → Bool → Bool → Bool → Type 0
+AreFound words shape order steps parts =
     (fault_of program words ≡ []) × (is_command (codes "shape") (subcommand_of program words) ≡ shape) ×
     (has_flag (codes "order") (subcommand_of program words) ≡ order)
     × (number_of (codes "workers") 1 most_workers (subcommand_of program words) ≡ 1) ×
     (number_of (codes "grid") 1 most_grid (subcommand_of program words) ≡ 4)
     × (is_command (codes "gen") (subcommand_of program words) ≡ false) ×
-    (is_command (codes "steps") (subcommand_of program words) ≡ steps)
+    (is_command (codes "steps") (subcommand_of program words) ≡ steps) ×
+    (is_command (codes "parts") (subcommand_of program words) ≡ parts)
 
-mesh_found : (name : Text) → AreFound (name ∷ codes "mesh" ∷ []) false false false
+mesh_found : (name : Text) → AreFound (name ∷ codes "mesh" ∷ []) false false false false
 unfolding clap_on_literals
-mesh_found name = (refl, refl, refl, refl, refl, refl, refl)
+mesh_found name = (refl, refl, refl, refl, refl, refl, refl, refl)
 
-mesh_order_found : (name : Text) → AreFound (name ∷ codes "mesh" ∷ codes "--order" ∷ []) false true false
+mesh_order_found : (name : Text) → AreFound (name ∷ codes "mesh" ∷ codes "--order" ∷ []) false true false false
 unfolding clap_on_literals
-mesh_order_found name = (refl, refl, refl, refl, refl, refl, refl)
+mesh_order_found name = (refl, refl, refl, refl, refl, refl, refl, refl)
 
-shape_found : (name : Text) → AreFound (name ∷ codes "shape" ∷ []) true false false
+shape_found : (name : Text) → AreFound (name ∷ codes "shape" ∷ []) true false false false
 unfolding clap_on_literals
-shape_found name = (refl, refl, refl, refl, refl, refl, refl)
+shape_found name = (refl, refl, refl, refl, refl, refl, refl, refl)
 
-shape_order_found : (name : Text) → AreFound (name ∷ codes "shape" ∷ codes "--order" ∷ []) true true false
+shape_order_found : (name : Text) → AreFound (name ∷ codes "shape" ∷ codes "--order" ∷ []) true true false false
 unfolding clap_on_literals
-shape_order_found name = (refl, refl, refl, refl, refl, refl, refl)
+shape_order_found name = (refl, refl, refl, refl, refl, refl, refl, refl)
 
-steps_found : (name : Text) → AreFound (name ∷ codes "steps" ∷ []) false false true
+steps_found : (name : Text) → AreFound (name ∷ codes "steps" ∷ []) false false true false
 unfolding clap_on_literals
-steps_found name = (refl, refl, refl, refl, refl, refl, refl)
+steps_found name = (refl, refl, refl, refl, refl, refl, refl, refl)
+
+parts_found : (name : Text) → AreFound (name ∷ codes "parts" ∷ []) false false false true
+unfolding clap_on_literals
+parts_found name = (refl, refl, refl, refl, refl, refl, refl, refl)
+
+-- the defaults of the options of `parts`
+abbrev HasDefaults : List Text → Type 0
+HasDefaults words =
+    (number_of (codes "alpha") 0 most_alpha (subcommand_of program words) ≡ 0) ×
+    (number_of (codes "most") 0 most_index (subcommand_of program words) ≡ 0)
+    × (given_of (codes "off") most_index (subcommand_of program words) ≡ None)
+
+parts_defaults : (name : Text) → HasDefaults (name ∷ codes "parts" ∷ [])
+unfolding clap_on_literals
+parts_defaults name = (refl, refl, refl)
 
 -- so they are taken, ask for these and for the defaults, and read a file
-abbrev AreAsked : List (String Global) → Bool → Bool → Bool → Type 0
-AreAsked words shape order steps =
+abbrev AreAsked : List (String Global) → Bool → Bool → Bool → Bool → Type 0
+AreAsked words shape order steps parts =
     (AreTaken words × (asks_shape words ≡ shape) × (asks_order words ≡ order)) ×
     ((worker_count words ≡ 1) × (grid_size words ≡ 4)) × ReadsFile words × (asks_steps words ≡ steps)
+    × (asks_parts words ≡ parts)
 
-asked : (words : List (String Global)) (texts : List Text) (shape order steps : Bool) → texts_of words ≡ texts →
-    AreFound texts shape order steps → AreAsked words shape order steps
-unfolding AreTaken asks_order asks_shape asks_drawn asks_steps worker_count grid_size
-asked words texts shape order steps e found =
-    let f = subst (λ (w : List Text). AreFound w shape order steps) (sym e) found in
-    (((f.0, ap is_grid_size f.4), f.1, f.2), (f.3, f.4), f.5, f.6)
+asked : (words : List (String Global)) (texts : List Text) (shape order steps parts : Bool) → texts_of words ≡ texts →
+    AreFound texts shape order steps parts → AreAsked words shape order steps parts
+unfolding AreTaken asks_order asks_shape asks_drawn asks_steps asks_parts worker_count grid_size
+asked words texts shape order steps parts e found =
+    let f = subst (λ (w : List Text). AreFound w shape order steps parts) (sym e) found in
+    (((f.0, ap is_grid_size f.4), f.1, f.2), (f.3, f.4), f.5, f.6, f.7)
 
-pub mesh_words : (words : List (String Global)) → AreMesh words → AreAsked words false false false
-mesh_words words m = asked words (m.0 ∷ codes "mesh" ∷ []) false false false m.1 (mesh_found m.0)
+pub mesh_words : (words : List (String Global)) → AreMesh words → AreAsked words false false false false
+mesh_words words m = asked words (m.0 ∷ codes "mesh" ∷ []) false false false false m.1 (mesh_found m.0)
 
-pub mesh_order_words : (words : List (String Global)) → AreMeshOrder words → AreAsked words false true false
-mesh_order_words words m = asked words (m.0 ∷ codes "mesh" ∷ codes "--order" ∷ []) false true false m.1
+pub mesh_order_words : (words : List (String Global)) → AreMeshOrder words → AreAsked words false true false false
+mesh_order_words words m = asked words (m.0 ∷ codes "mesh" ∷ codes "--order" ∷ []) false true false false m.1
     (mesh_order_found m.0)
 
-pub shape_words : (words : List (String Global)) → AreShape words → AreAsked words true false false
-shape_words words m = asked words (m.0 ∷ codes "shape" ∷ []) true false false m.1 (shape_found m.0)
+pub shape_words : (words : List (String Global)) → AreShape words → AreAsked words true false false false
+shape_words words m = asked words (m.0 ∷ codes "shape" ∷ []) true false false false m.1 (shape_found m.0)
 
-pub shape_order_words : (words : List (String Global)) → AreShapeOrder words → AreAsked words true true false
-shape_order_words words m = asked words (m.0 ∷ codes "shape" ∷ codes "--order" ∷ []) true true false m.1
+pub shape_order_words : (words : List (String Global)) → AreShapeOrder words → AreAsked words true true false false
+shape_order_words words m = asked words (m.0 ∷ codes "shape" ∷ codes "--order" ∷ []) true true false false m.1
     (shape_order_found m.0)
 
-pub steps_words : (words : List (String Global)) → AreSteps words → AreAsked words false false true
-steps_words words m = asked words (m.0 ∷ codes "steps" ∷ []) false false true m.1 (steps_found m.0)
+pub steps_words : (words : List (String Global)) → AreSteps words → AreAsked words false false true false
+steps_words words m = asked words (m.0 ∷ codes "steps" ∷ []) false false true false m.1 (steps_found m.0)
+
+pub parts_words : (words : List (String Global)) → AreParts words → AreAsked words false false false true
+parts_words words m = asked words (m.0 ∷ codes "parts" ∷ []) false false false true m.1 (parts_found m.0)
+
+-- what `parts` alone asks for
+pub parts_asked : (words : List (String Global)) → AreParts words →
+    (asked_alpha words ≡ 0) × (asked_most words ≡ 0) × (asked_index words ≡ None)
+unfolding asked_alpha asked_most asked_index
+parts_asked words m = subst HasDefaults (sym m.1) (parts_defaults m.0)
 
 pub default_words : (words : List (String Global)) → AreMesh words ⊎ AreMeshOrder words ⊎ AreShape words ⊎
     AreShapeOrder words
     → ((worker_count words ≡ 1) × (grid_size words ≡ 4)) × ReadsFile words × (asks_steps words ≡ false)
-default_words words (inl m) = let a = mesh_words words m in (a.1, a.2, a.3)
-default_words words (inr (inl m)) = let a = mesh_order_words words m in (a.1, a.2, a.3)
-default_words words (inr (inr (inl m))) = let a = shape_words words m in (a.1, a.2, a.3)
-default_words words (inr (inr (inr m))) = let a = shape_order_words words m in (a.1, a.2, a.3)
+    × (asks_parts words ≡ false)
+default_words words (inl m) = let a = mesh_words words m in (a.1, a.2, a.3, a.4)
+default_words words (inr (inl m)) = let a = mesh_order_words words m in (a.1, a.2, a.3, a.4)
+default_words words (inr (inr (inl m))) = let a = shape_words words m in (a.1, a.2, a.3, a.4)
+default_words words (inr (inr (inr m))) = let a = shape_order_words words m in (a.1, a.2, a.3, a.4)
 
 -- what a parse met is what the words name
 pub met_is : (a : App) (words : List (String Global)) (met : Option (Text × List Row)) → a ≡ program →
@@ -236,20 +273,32 @@ pub number_none : (f : Found) (option : Text) (least most : ℕ) → None ≡ fi
 number_none f option least most e = ap (λ (o : Option Text). option_map_or (number_between least most) o least)
     (e ∙ first_value-rows f option)
 
+-- a number that may be left out, where its text is there and where it is not
+pub given_some : (f : Found) (option t : Text) (most n : ℕ) → Some t ≡ first_value f option →
+    n ≡ number_between 0 most t → Some n ≡ given_in option most (rows_of f)
+given_some f option t most n e q =
+    ap (λ (m : ℕ). Some m) q ∙ ap (λ (o : Option Text). option_map (number_between 0 most) o)
+    (e ∙ first_value-rows f option)
+
+pub given_none : (f : Found) (option : Text) (most : ℕ) → None ≡ first_value f option →
+    None ≡ given_in option most (rows_of f)
+given_none f option most e = ap (λ (o : Option Text). option_map (number_between 0 most) o)
+    (e ∙ first_value-rows f option)
+
 -- ---- the number of a text
 
 -- a text that is read as a number from the least to the most names it
 pub number_read : (text : Text) (least most n : ℕ) → IsNumeral 10 (without_leading_plus text) →
-    digits_value 10 (without_leading_plus text) < 2 ^ 32 → n ≡ digits_value 10 (without_leading_plus text) → least ≤ n →
+    digits_value 10 (without_leading_plus text) < 2 ^ 64 → n ≡ digits_value 10 (without_leading_plus text) → least ≤ n →
     n ≤ most → n ≡ number_between least most text
 number_read text least most n numeral small e from within =
     let taken : is_unsigned_in least most text ≡ true = Accepts-accepts false (Unsigned least most) text
     (numeral, omega arith, omega arith, omega arith) in
     e ∙ sym (ap (λ (b : Bool). cond b (digits_value 10 (without_leading_plus text)) least) taken)
 
--- any other names none, where the most is below 2^32
-pub number_not_read : (text : Text) (least most : ℕ) → most < 2 ^ 32 →
-    (IsNumeral 10 (without_leading_plus text) → digits_value 10 (without_leading_plus text) < 2 ^ 32 →
+-- any other names none
+pub number_not_read : (text : Text) (least most : ℕ) → most < 2 ^ 64 →
+    (IsNumeral 10 (without_leading_plus text) → digits_value 10 (without_leading_plus text) < 2 ^ 64 →
     least ≤ digits_value 10 (without_leading_plus text) → digits_value 10 (without_leading_plus text) ≤ most → ⊥) →
     least ≡ number_between least most text
 number_not_read text least most small none = by (is_unsigned_in least most text) refl
@@ -262,15 +311,21 @@ number_not_read text least most small none = by (is_unsigned_in least most text)
 -- ---- the task and the words
 
 pub reads_file : (words : List (String Global)) (making : Making) (asked : Asked) → IsTask words (Report making asked) →
-    ReadsFile words × (asks_steps words ≡ false) × (asked.shape ≡ asks_shape words) × (asked.order ≡ asks_order words) ×
-    (making.workers ≡ worker_count words)
-unfolding asks_drawn asks_steps asks_shape asks_order worker_count
-reads_file words making asked k = (k.1, k.2, k.3, k.4, k.0.workers)
+    ReadsFile words × (asks_steps words ≡ false) × (asks_parts words ≡ false) × (asked.shape ≡ asks_shape words) ×
+    (asked.order ≡ asks_order words) × (making.workers ≡ worker_count words)
+unfolding asks_drawn asks_steps asks_parts asks_shape asks_order worker_count
+reads_file words making asked k = (k.1, k.2, k.3, k.4, k.5, k.0.workers)
 
 pub steps_file : (words : List (String Global)) (making : Making) → IsTask words (Step making) → ReadsFile words ×
     (asks_steps words ≡ true) × (making.workers ≡ worker_count words)
 unfolding asks_drawn asks_steps worker_count
 steps_file words making k = (k.1, k.2, k.0.workers)
+
+pub parts_file : (words : List (String Global)) (making : Making) (wanted : Wanted) → IsTask words (Part making wanted) →
+    ReadsFile words × (asks_steps words ≡ false) × (asks_parts words ≡ true) × (wanted.alpha ≡ asked_alpha words) ×
+    (wanted.most ≡ asked_most words) × (wanted.off ≡ asked_index words) × (making.workers ≡ worker_count words)
+unfolding asks_drawn asks_steps asks_parts asked_alpha asked_most asked_index worker_count
+parts_file words making wanted k = (k.1, k.2, k.3, k.4, k.5, k.6, k.0.workers)
 
 pub draws_file : (words : List (String Global)) (making : Making) (drawn : Drawn) → IsTask words (Draw making drawn) →
     DrawsFile words × (drawn.count ≡ drawn_count words) × (drawn.start ≡ drawn_start words) ×

@@ -52,11 +52,13 @@ use Rattle.delaunay_cli.specs.declared.stop.Stop.TheVariants.{
 use Rattle.delaunay_cli.specs.declared.task.Asked.{Asked}
 use Rattle.delaunay_cli.specs.declared.task.Drawn.{Drawn}
 use Rattle.delaunay_cli.specs.declared.task.Making.{Making}
-use Rattle.delaunay_cli.specs.declared.task.Task.TheVariants.{Report, Step, Draw}
+use Rattle.delaunay_cli.specs.declared.task.Wanted.{Wanted}
+use Rattle.delaunay_cli.specs.declared.task.Task.TheVariants.{Report, Step, Part, Draw}
 use Rattle.delaunay_cli.specs.Commands.{Makes, MakesNone, Promise}
 use Rattle.delaunay_cli.specs.Ends.{Ends, IsMade, IsPut, IsUnmade}
 use Rattle.delaunay_cli.specs.Page.{IsSound, text_of_page}
 use Rattle.delaunay_cli.specs.Files.{FileEnds, HasNoMesh, IsOfFile, IsVerdict}
+use Rattle.delaunay_cli.specs.Parted.{IsParted, IsPartedFile, PartEnds, TellsParts}
 use Rattle.delaunay_cli.specs.Reported.{IsReported}
 use Rattle.delaunay_cli.specs.Stepped.{IsStepped, IsSteppedFile}
 use Rattle.delaunay_cli.specs.Run.{Reads}
@@ -67,13 +69,19 @@ use Rattle.delaunay_cli.specs.Words.{
   DrawsFile,
   Draws,
   Kind,
+  Parts,
   ReadsFile,
   Reports,
   Steps,
+  WritesParts,
   WritesReport,
   WritesSteps,
+  asked_alpha,
+  asked_index,
+  asked_most,
   asks_drawn,
   asks_order,
+  asks_parts,
   asks_shape,
   asks_steps,
   kind_of,
@@ -83,7 +91,7 @@ use Rattle.delaunay_cli.specs.Drawn.{IsDrawn}
 use Rattle.delaunay_cli.specs.Tasks.{IsTask}
 use Rattle.delaunay_cli.specs.Report.{text_of}
 use Rattle.delaunay_cli.proofs.DrawnFiles.{drawn_asked}
-use Rattle.delaunay_cli.proofs.CommandLine.{draws_file, reads_file, steps_file}
+use Rattle.delaunay_cli.proofs.CommandLine.{draws_file, parts_file, reads_file, steps_file}
 
 -- a status with a text is 0, 4 or above 7
 no_other : (status : ℕ) → HasText status → (k : ℕ) → 0 < k → k ≤ 7 → 4 ≢ k → status ≡ k → ⊥
@@ -183,8 +191,9 @@ status_unmeshed left failed stop s = (
 )
 
 -- where nothing is told of what was made, the status is 0 or 4
-plain_end : (status late : ℕ) → late ≡ 0 → (status ≡ late) ⊎ (status ≡ 4) → (status ≡ 0) ⊎ (status ≡ 4)
-plain_end status late e s = elim s [ inl z ↦ inl (z ∙ e) | inr z ↦ inr z ]
+plain_end : (status late : ℕ) (text : List ℕ) → late ≡ 0 → (status ≡ late) ⊎ ((status ≡ 4) × (text ≢ [])) →
+    (status ≡ 0) ⊎ (status ≡ 4)
+plain_end status late text e s = elim s [ inl z ↦ inl (z ∙ e) | inr z ↦ inr z.0 ]
 
 -- what is told of it has a status of a whole text, and its own line
 late_whole : (after : Option Stop) → IsLate after → IsWhole (status_of_end after) × (status_of_end after ≤ 10) ×
@@ -231,19 +240,92 @@ file_early P left status s =
       made = λ k. absurd (early_only status s k);
     }
 
+-- what is told of parts has a status of a whole text
+tells_whole : (late : ℕ) (text : List ℕ) → TellsParts late text → IsWhole late × (late ≤ 9)
+tells_whole late text (inl z) = (inl z, omega (arith, z))
+tells_whole late text (inr (inl e, n)) = (inr (omega (arith, e)), omega (arith, e))
+tells_whole late text (inr (inr e, n)) = (inr (omega (arith, e)), omega (arith, e))
+
+-- what is promised of parts where they were told or a text of them was cut off, where no mesh was, and of an early end
+module _ (workers alpha most : ℕ) (index : Option ℕ) (left : Option (List ℕ)) where
+  part_verdict : (status late : ℕ) (h : List Entry) (text : List ℕ) → HasText status →
+      IfSome left (IsPartedFile workers alpha most index late h text) → IfSome left (IsVerdict status)
+  part_verdict status late h text has m =
+      if_some (IsPartedFile workers alpha most index late h text) (IsVerdict status) left
+      (λ bytes. verdict_made status workers h (λ file. IsParted (replay h) alpha most index late text) bytes has) m
+
+  part_whole : (late : ℕ) (h : List Entry) (text : List ℕ) → TellsParts late text →
+      IfSome left (IsPartedFile workers alpha most index late h text) →
+      PartEnds workers alpha most index left late h text
+  part_whole late h text t m =
+      let whole = tells_whole late text t in
+      record {
+        statuses = whole.1;
+        verdict = λ early. part_verdict late late h text (inl whole.0) m;
+        made = λ k. m;
+        cut = λ k. absurd (whole_only late 4 whole.0 (omega arith) (omega arith) k);
+        nothing = λ l. elim t [ inl z ↦ absurd (omega (arith, l, z)) | inr k ↦ k.1 ];
+      }
+
+  part_cut : (status : ℕ) (h : List Entry) (text : List ℕ) →
+      IfSome left (IsPartedFile workers alpha most index 0 h text) → status ≡ 4 →
+      PartEnds workers alpha most index left status h text
+  part_cut status h text m e =
+      record {
+        statuses = omega (arith, e);
+        verdict = λ early. part_verdict status 0 h text (inr e) m;
+        made = λ k. absurd (whole_only status 4 k (omega arith) (omega arith) e);
+        cut = λ k. m;
+        nothing = λ l. absurd (omega (arith, l, e));
+      }
+
+  part_made : (late : ℕ) (h : List Entry) (text : List ℕ) → TellsParts late text →
+      IfSome left (IsPartedFile workers alpha most index late h text) → (status : ℕ) →
+      (status ≡ late) ⊎ ((status ≡ 4) × (text ≢ [])) → PartEnds workers alpha most index left status h text
+  part_made late h text t m status (inl e) =
+      subst (λ (n : ℕ). PartEnds workers alpha most index left n h text) (sym e) (part_whole late h text t m)
+  part_made late h text (inl z) m status (inr f) =
+      part_cut status h text
+      (subst (λ (n : ℕ). IfSome left (IsPartedFile workers alpha most index n h text)) z m) f.0
+  part_made late h text (inr t) m status (inr f) = absurd (f.1 t.1)
+
+  part_unmade : (failed : Type 0) (stop : Stop) → HasNoMesh left failed stop →
+      PartEnds workers alpha most index left (status_of stop) [] []
+  part_unmade failed stop u =
+      let n = status_unmeshed left failed stop u in
+      record {
+        statuses = let l = n.0 in omega (arith, l);
+        verdict = λ early. verdict_unmade left failed stop u early;
+        made = λ k. absurd (stopped_only (status_of stop) n.0 n.1 n.3 (inl k));
+        cut = λ k. absurd (n.3 k);
+        nothing = λ l. refl;
+      }
+
+  part_early : (status : ℕ) → (status ≡ 1) ⊎ (status ≡ 2) → PartEnds workers alpha most index left status [] []
+  part_early status s =
+      record {
+        statuses = elim s [ inl z ↦ omega (arith, z) | inr z ↦ omega (arith, z) ];
+        verdict = λ early. absurd (early (elim s [ inl z ↦ inl z | inr z ↦ inr (inl z) ]));
+        made = λ k. absurd (early_only status s (inl k));
+        cut = λ k. absurd (early_only status s (inr k));
+        nothing = λ l. refl;
+      }
+
 -- ---- the promise of each command: of what it made, of why it made nothing, and of an early end
 
 pub promise_made : (kind : Kind) (words : List (String Global)) (left : Option (List ℕ)) (late : ℕ) (h : List Entry)
-    (text : List ℕ) → Makes kind words left late h text → (status : ℕ) → (status ≡ late) ⊎ (status ≡ 4)
-    → Promise kind words left status h text
+    (text : List ℕ) → Makes kind words left late h text → (status : ℕ) →
+    (status ≡ late) ⊎ ((status ≡ 4) × (text ≢ [])) → Promise kind words left status h text
 promise_made Reports words left late h text m status s =
     file_made (worker_count words) h (λ file. text ≡ text_of (asks_shape words) (asks_order words) file h) left status
-    m.1 (plain_end status late m.0 s)
+    m.1 (plain_end status late text m.0 s)
 promise_made Steps words left late h text m status s = file_made (worker_count words) h
-    (λ file. IsStepped (replay h) text) left status m.1 (plain_end status late m.0 s)
+    (λ file. IsStepped (replay h) text) left status m.1 (plain_end status late text m.0 s)
+promise_made Parts words left late h text m status s = part_made (worker_count words) (asked_alpha words)
+    (asked_most words) (asked_index words) left late h text m.0 m.1 status s
 promise_made Draws words left late h text m status s = record {
   statuses =
-      elim (plain_end status late m.0 s) [ inl z ↦ inl (omega (arith, z)) | inr z ↦ inr z ];
+      elim (plain_end status late text m.0 s) [ inl z ↦ inl (omega (arith, z)) | inr z ↦ inr z ];
   made = λ k. m.1;
 }
 
@@ -253,6 +335,8 @@ promise_unmade Reports words left failed stop u = file_unmade (IsReported (worke
     (asks_order words) [] []) left failed stop u
 promise_unmade Steps words left failed stop u = file_unmade (IsSteppedFile (worker_count words) [] []) left failed stop
     u
+promise_unmade Parts words left failed stop u = part_unmade (worker_count words) (asked_alpha words)
+    (asked_most words) (asked_index words) left failed stop u
 promise_unmade Draws words left failed stop u = absurd u
 
 promise_early : (kind : Kind) (words : List (String Global)) (left : Option (List ℕ)) (status : ℕ) → (status ≡ 1) ⊎
@@ -260,6 +344,8 @@ promise_early : (kind : Kind) (words : List (String Global)) (left : Option (Lis
 promise_early Reports words left status s = file_early (IsReported (worker_count words) (asks_shape words)
     (asks_order words) [] []) left status s
 promise_early Steps words left status s = file_early (IsSteppedFile (worker_count words) [] []) left status s
+promise_early Parts words left status s = part_early (worker_count words) (asked_alpha words) (asked_most words)
+    (asked_index words) left status s
 promise_early Draws words left status s = record {
   statuses = inl (elim s
       [ inl z ↦ omega (arith, z) | inr z ↦ omega (arith, z) ]);
@@ -273,6 +359,7 @@ status_unmade : (kind : Kind) (left : Option (List ℕ)) (failed : Type 0) (stop
     (status_of stop ≡ 3 → failed)
 status_unmade Reports left failed stop u = status_unmeshed left failed stop u
 status_unmade Steps left failed stop u = status_unmeshed left failed stop u
+status_unmade Parts left failed stop u = status_unmeshed left failed stop u
 status_unmade Draws left failed stop u = absurd u
 
 -- where a line is told to be bad, it is that of a fault of the bytes
@@ -280,6 +367,7 @@ fault_told : (kind : Kind) (left : Option (List ℕ)) (failed : Type 0) (line : 
     MakesNone kind left failed (BadLine line) → IsFaultLine left line.items
 fault_told Reports left failed line u = u.0
 fault_told Steps left failed line u = u.0
+fault_told Parts left failed line u = u.0
 fault_told Draws left failed line u = absurd u
 
 -- ---- the end
@@ -351,8 +439,8 @@ module _ (words : List (String Global)) (left_old left_new : Option (List ℕ)) 
 
   -- a run that wrote
   made : (late : ℕ) (h : List Entry) (text : List ℕ) → IsLegal h → IsMade words left_old late h text →
-      (ReadsFile words → IsAtEnd left_new) → (status : ℕ) → (status ≡ late) ⊎ (status ≡ 4) → HasText status →
-      status ≤ 10
+      (ReadsFile words → IsAtEnd left_new) → (status : ℕ) → (status ≡ late) ⊎ ((status ≡ 4) × (text ≢ [])) →
+      HasText status → status ≤ 10
       → (ReadsFile words → Reads left_old left_new status) → (status ≡ 4 → write_failed) →
       (IsWhole status → Appends held holds text) → (status ≡ 4 → AppendsFront held holds text)
       → Ends words left_old left_new read_failed held holds write_failed status h
@@ -411,7 +499,7 @@ module _ (words : List (String Global)) (left_old left_new : Option (List ℕ)) 
       by (inr (inl w)) =
           let z = e ∙ ap status_of_end w.0 in
           kept w.1 (made (status_of_end v.after) v.kept.items (text_of_page v.page) sound.legal m (λ r. end r refl)
-          status (inr z) (inr z) (omega (arith, z))
+          status (inr (z, w.4)) (inr z) (omega (arith, z))
           (λ r. reads_front left_old left_new status (reads r)) (λ f. w.2)
           (λ f. absurd (whole_only status 4 f (omega arith) (omega arith) z)) (λ f. w.3))
       by (inr (inr w)) =
@@ -470,27 +558,41 @@ module _ (words : List (String Global)) (left_old left_new : Option (List ℕ)) 
 
 -- the kind of words that draw, and of words that read
 pub draws : (words : List (String Global)) → DrawsFile words → kind_of words ≡ Draws
-draws words d = ap (λ (b : Bool). cond b Draws (cond (asks_steps words) Steps Reports)) d
+draws words d =
+    ap (λ (b : Bool). cond b Draws (cond (asks_steps words) Steps (cond (asks_parts words) Parts Reports))) d
 
-pub read_kind : (words : List (String Global)) (b : Bool) → ReadsFile words → asks_steps words ≡ b →
-    kind_of words ≡ cond b Steps Reports
-read_kind words b r t = ap (λ (d : Bool). cond d Draws (cond (asks_steps words) Steps Reports)) r ∙ ap
-    (λ (d : Bool). cond d Steps Reports) t
+pub steps_kind : (words : List (String Global)) → ReadsFile words → asks_steps words ≡ true → kind_of words ≡ Steps
+steps_kind words r t =
+    ap (λ (b : Bool). cond b Draws (cond (asks_steps words) Steps (cond (asks_parts words) Parts Reports))) r
+    ∙ ap (λ (b : Bool). cond b Steps (cond (asks_parts words) Parts Reports)) t
 
-pub kind_read : (words : List (String Global)) → ReadsFile words → WritesReport words ⊎ WritesSteps words
+pub read_kind : (words : List (String Global)) (b : Bool) → ReadsFile words → asks_steps words ≡ false →
+    asks_parts words ≡ b → kind_of words ≡ cond b Parts Reports
+read_kind words b r t p =
+    ap (λ (d : Bool). cond d Draws (cond (asks_steps words) Steps (cond (asks_parts words) Parts Reports))) r
+    ∙ ap (λ (d : Bool). cond d Steps (cond (asks_parts words) Parts Reports)) t
+    ∙ ap (λ (d : Bool). cond d Parts Reports) p
+
+pub kind_read : (words : List (String Global)) → ReadsFile words →
+    WritesReport words ⊎ WritesSteps words ⊎ WritesParts words
 kind_read words r =
     elim (cases_Bool (asks_steps words)) [
-      | inl t ↦ inr (read_kind words true r t)
-      | inr t ↦ inl (read_kind words false r t)
+      | inl t ↦ inr (inl (steps_kind words r t))
+      | inr t ↦ elim (cases_Bool (asks_parts words)) [
+        | inl p ↦ inr (inr (read_kind words true r t p))
+        | inr p ↦ inl (read_kind words false r t p)
+      ]
     ]
 
--- a file is read for a report, and for the least alphas
-pub reading : (words : List (String Global)) → WritesReport words ⊎ WritesSteps words → ReadsFile words
+-- a file is read for a report, for the least alphas, and for the parts
+pub reading : (words : List (String Global)) → WritesReport words ⊎ WritesSteps words ⊎ WritesParts words →
+    ReadsFile words
 reading words k = elim (cases_Bool (asks_drawn words)) [ inl d ↦ absurd (drawn (draws words d) k) | inr r ↦ r ]
   where
-    drawn : kind_of words ≡ Draws → WritesReport words ⊎ WritesSteps words → ⊥
+    drawn : kind_of words ≡ Draws → WritesReport words ⊎ WritesSteps words ⊎ WritesParts words → ⊥
     drawn e (inl w) = let z : Draws ≡ Reports = sym e ∙ w in cc
-    drawn e (inr w) = let z : Draws ≡ Steps = sym e ∙ w in cc
+    drawn e (inr (inl w)) = let z : Draws ≡ Steps = sym e ∙ w in cc
+    drawn e (inr (inr w)) = let z : Draws ≡ Parts = sym e ∙ w in cc
 
 module _ (words : List (String Global)) (left : Option (List ℕ)) (failed : Type 0) (making : Making)
     (taken : AreTaken words) where
@@ -506,11 +608,11 @@ module _ (words : List (String Global)) (left : Option (List ℕ)) (failed : Typ
       let text = text_of_page made.page in (
         taken,
         subst (λ (kind : Kind). Makes kind words left (status_of_end made.after) h text)
-            (sym (read_kind words false k.0 k.1)) (
+            (sym (read_kind words false k.0 k.1 k.2)) (
               ap status_of_end n,
-              subst (λ (n : ℕ). IfSome left (IsReported n (asks_shape words) (asks_order words) h text)) k.4
-                  (subst (λ (b : Bool). IfSome left (IsReported making.workers (asks_shape words) b h text)) k.3
-                  (subst (λ (b : Bool). IfSome left (IsReported making.workers b asked.order h text)) k.2 r)),
+              subst (λ (n : ℕ). IfSome left (IsReported n (asks_shape words) (asks_order words) h text)) k.5
+                  (subst (λ (b : Bool). IfSome left (IsReported making.workers (asks_shape words) b h text)) k.4
+                  (subst (λ (b : Bool). IfSome left (IsReported making.workers b asked.order h text)) k.3 r)),
             ),
       )
 
@@ -529,7 +631,7 @@ module _ (words : List (String Global)) (left : Option (List ℕ)) (failed : Typ
   pub reported_unmade : {A : Type 0} (asked : Asked) → IsTask words (Report making asked) → (m : Result A Stop) →
       IfErr m (HasNoMesh left failed) → IfErr m (IsUnmade words left failed)
   reported_unmade asked t m u = let k = reads_file words making asked t in unmade_as Reports
-      (read_kind words false k.0 k.1) refl m u
+      (read_kind words false k.0 k.1 k.2) refl m u
 
   -- `steps`
   pub stepped_made : IsTask words (Step making) → (m : Result Made Stop)
@@ -543,7 +645,7 @@ module _ (words : List (String Global)) (left : Option (List ℕ)) (failed : Typ
       let text = text_of_page made.page in (
         taken,
         subst (λ (kind : Kind). Makes kind words left (status_of_end made.after) h text)
-            (sym (read_kind words true k.0 k.1)) (
+            (sym (steps_kind words k.0 k.1)) (
               ap status_of_end n,
               subst (λ (n : ℕ). IfSome left (IsSteppedFile n h text)) k.2 r,
             ),
@@ -551,7 +653,36 @@ module _ (words : List (String Global)) (left : Option (List ℕ)) (failed : Typ
 
   pub stepped_unmade : {A : Type 0} → IsTask words (Step making) → (m : Result A Stop) →
       IfErr m (HasNoMesh left failed) → IfErr m (IsUnmade words left failed)
-  stepped_unmade t m u = let k = steps_file words making t in unmade_as Steps (read_kind words true k.0 k.1) refl m u
+  stepped_unmade t m u = let k = steps_file words making t in unmade_as Steps (steps_kind words k.0 k.1) refl m u
+
+  -- `parts`
+  pub parted_made : (wanted : Wanted) → IsTask words (Part making wanted) → (m : Result Made Stop)
+      → IfOk m (λ made. IfSome left (IsPartedFile making.workers wanted.alpha wanted.most wanted.off
+      (status_of_end made.after) made.kept.items (text_of_page made.page))) →
+      IfOk m (λ made. TellsParts (status_of_end made.after) (text_of_page made.page)) →
+      IfOk m (λ made. IsMade words left (status_of_end made.after) made.kept.items (text_of_page made.page))
+  parted_made wanted t (Err stop) r n = tt
+  parted_made wanted t (Ok made) r n =
+      let k = parts_file words making wanted t in
+      let late = status_of_end made.after in
+      let h = made.kept.items in
+      let text = text_of_page made.page in
+      let told : ℕ → ℕ → ℕ → Option ℕ → Type 0 =
+      λ workers alpha most index. IfSome left (IsPartedFile workers alpha most index late h text) in (
+        taken,
+        subst (λ (kind : Kind). Makes kind words left late h text) (sym (read_kind words true k.0 k.1 k.2)) (
+          n,
+          subst (λ (w : ℕ). told w (asked_alpha words) (asked_most words) (asked_index words)) k.6
+              (subst (λ (a : ℕ). told making.workers a (asked_most words) (asked_index words)) k.3
+              (subst (λ (b : ℕ). told making.workers wanted.alpha b (asked_index words)) k.4
+              (subst (λ (i : Option ℕ). told making.workers wanted.alpha wanted.most i) k.5 r))),
+        ),
+      )
+
+  pub parted_unmade : {A : Type 0} (wanted : Wanted) → IsTask words (Part making wanted) → (m : Result A Stop) →
+      IfErr m (HasNoMesh left failed) → IfErr m (IsUnmade words left failed)
+  parted_unmade wanted t m u = let k = parts_file words making wanted t in unmade_as Parts
+      (read_kind words true k.0 k.1 k.2) refl m u
 
   -- `gen`
   pub drawn_made : (drawn : Drawn) → IsTask words (Draw making drawn) → (m : Result Made Stop)

@@ -11,3 +11,4 @@ pub mod PlainTexts
 pub mod NumberWords
 pub mod DealtLines
 pub mod Unwritten
+pub mod PartsTold

@@ -25,7 +25,7 @@ use Rattle.std.proofs.Common.{
   drop,
   ne_eqb,
 }
-use Rattle.std.specs.Prelude.{ℤ, pos, neg_ℤ, ◌≤ℤ◌, FitsSigned, decimal, String}
+use Rattle.std.specs.Prelude.{ℤ, pos, neg_ℤ, ◌≤ℤ◌, FitsSigned, Option, Some, decimal, String}
 use Rattle.std.specs.declared.alloc.Global.{Global}
 use Rattle.std.specs.Int.{w64}
 use Rattle.std.specs.Char.{digit_value}
@@ -54,20 +54,28 @@ use Rattle.delaunay_cli.specs.Words.{
   AreGen,
   AreGenText,
   AreMeshing,
+  ArePartsAt,
   AreTaken,
   DrawsFile,
   ReadsFile,
+  asked_alpha,
+  asked_index,
+  asked_most,
   asks_drawn,
+  asks_parts,
   asks_shape,
   asks_steps,
   asks_text,
   drawn_count,
   drawn_start,
+  given_of,
   grid_size,
   has_flag,
   is_command,
+  most_alpha,
   most_count,
   most_grid,
+  most_index,
   most_start,
   most_workers,
   number_between,
@@ -114,18 +122,23 @@ module _ (least most n : ℕ) (above : least ≤ n) (below : n ≤ most) (small 
         subst (λ (x : ℤ). x ≤ℤ pos most) (sym z) (in_order n most below),
       )
 
+  value : digits_value 10 (without_leading_plus (decimal n)) ≡ n
+  value = ap (digits_value 10) (no_plus (decimal n) numeral.0) ∙ numeral.1
+
+  -- so does one of 64 bits without a sign
+  pub decimal_passed : is_unsigned_in least most (decimal n) ≡ true
+  decimal_passed =
+      Accepts-accepts false (Unsigned least most) (decimal n) (
+        subst (IsNumeral 10) (sym (no_plus (decimal n) numeral.0)) numeral.0,
+        omega (arith, value, below, small),
+        omega (arith, value, above),
+        omega (arith, value, below),
+      )
+
   -- and it names that number
   pub decimal_named : number_between least most (decimal n) ≡ n
   decimal_named =
-      let e : digits_value 10 (without_leading_plus (decimal n)) ≡ n =
-      ap (digits_value 10) (no_plus (decimal n) numeral.0) ∙ numeral.1 in
-      let t : is_unsigned_in least most (decimal n) ≡ true = Accepts-accepts false (Unsigned least most) (decimal n) (
-        subst (IsNumeral 10) (sym (no_plus (decimal n) numeral.0)) numeral.0,
-        omega (arith, e, below, small),
-        omega (arith, e, above),
-        omega (arith, e, below),
-      ) in
-      ap (λ (b : Bool). cond b (digits_value 10 (without_leading_plus (decimal n))) least) t ∙ e
+      ap (λ (b : Bool). cond b (digits_value 10 (without_leading_plus (decimal n))) least) decimal_passed ∙ value
 
 -- ---- two options with texts
 
@@ -213,6 +226,89 @@ unfolding gen_texts
 gen_text_words words count start few small m = gen_asked words (gen_texts m.0 (decimal count) (decimal start)
     (codes "--text" ∷ [])) count start true few small m.1 (gen_text_found m.0 (decimal count) (decimal start))
 
+-- ---- three options with texts
+
+-- the faults of the text of `--alpha`, and those of three words
+alpha_faults : Bool → Kinds
+alpha_faults taken = or_else (or_else (cond taken [] (refused_kind (Unsigned 0 most_alpha) ∷ [])) []) []
+
+three_faults : Kinds → Kinds → Kinds → Kinds
+three_faults a b c = or_else (or_else (or_else a (or_else b (or_else c []))) []) []
+
+parts_texts : Text → Text → Text → Text → List Text
+parts_texts name alpha most index = name ∷ codes "parts" ∷ (codes "--alpha=" ++ alpha) ∷ (codes "--most=" ++ most) ∷
+    (codes "--off=" ++ index) ∷ []
+
+-- what the words are found to be: with no fault, one worker, a grid of 4, the command `parts`, its alpha, its most parts
+-- and its index
+abbrev AreFoundParts : List Text → Text → Text → Text → Type 0
+AreFoundParts words a m i =
+    (is_unsigned_in 0 most_alpha a ≡ true → is_signed_in (pos 0) (pos most_index) m ≡ true →
+    is_signed_in (pos 0) (pos most_index) i ≡ true → fault_of program words ≡ [])
+    × (number_of (codes "workers") 1 most_workers (subcommand_of program words) ≡ 1)
+    × (number_of (codes "grid") 1 most_grid (subcommand_of program words) ≡ 4)
+    × (is_command (codes "gen") (subcommand_of program words) ≡ false)
+    × (is_command (codes "steps") (subcommand_of program words) ≡ false)
+    × (is_command (codes "parts") (subcommand_of program words) ≡ true)
+    × (number_of (codes "alpha") 0 most_alpha (subcommand_of program words) ≡ number_between 0 most_alpha a)
+    × (number_of (codes "most") 0 most_index (subcommand_of program words) ≡ number_between 0 most_index m)
+    × (given_of (codes "off") most_index (subcommand_of program words) ≡ Some (number_between 0 most_index i))
+
+parts_at_found : (name a m i : Text) → AreFoundParts (parts_texts name a m i) a m i
+unfolding clap_on_literals word_faults alpha_faults three_faults parts_texts
+parts_at_found name a m i = (
+  λ e k l. ap (λ (x : Bool). three_faults (alpha_faults x) (word_faults 0 most_index
+      (is_signed_in (pos 0) (pos most_index) m)) (word_faults 0 most_index
+      (is_signed_in (pos 0) (pos most_index) i))) e
+      ∙ ap₂ (λ (x y : Bool). three_faults (alpha_faults true) (word_faults 0 most_index x)
+      (word_faults 0 most_index y)) k l,
+  refl,
+  refl,
+  refl,
+  refl,
+  refl,
+  refl,
+  refl,
+  refl,
+)
+
+-- so they are taken, and ask for the parts at the alpha, the most parts and the index
+parts_asked_at : (words : List (String Global)) (texts : List Text) (alpha most index : ℕ) → alpha ≤ most_alpha →
+    most ≤ most_index → index ≤ most_index → texts_of words ≡ texts →
+    AreFoundParts texts (decimal alpha) (decimal most) (decimal index) →
+    AreTaken words × (worker_count words ≡ 1) × (grid_size words ≡ 4) × ReadsFile words × (asks_steps words ≡ false)
+    × (asks_parts words ≡ true) × (asked_alpha words ≡ alpha) × (asked_most words ≡ most)
+    × (asked_index words ≡ Some index)
+unfolding AreTaken grid_size worker_count asks_drawn asks_steps asks_parts asked_alpha asked_most asked_index
+parts_asked_at words texts alpha most index a m i e found =
+    let f = subst (λ (w : List Text). AreFoundParts w (decimal alpha) (decimal most) (decimal index)) (sym e) found in (
+      (
+        f.0 (decimal_passed 0 most_alpha alpha (omega arith) a (omega arith))
+            (decimal_taken 0 most_index most (omega arith) m (omega arith))
+            (decimal_taken 0 most_index index (omega arith) i (omega arith)),
+        ap is_grid_size f.2,
+      ),
+      f.1,
+      f.2,
+      f.3,
+      f.4,
+      f.5,
+      f.6 ∙ decimal_named 0 most_alpha alpha (omega arith) a (omega arith),
+      f.7 ∙ decimal_named 0 most_index most (omega arith) m (omega arith),
+      f.8 ∙ ap (λ (n : ℕ). Some n) (decimal_named 0 most_index index (omega arith) i (omega arith)),
+    )
+
+-- the words `parts`, `--alpha=A`, `--most=K` and `--off=I` ask for A, K and I
+pub parts_at_words : (words : List (String Global)) (alpha most index : ℕ) → alpha ≤ most_alpha → most ≤ most_index →
+    index ≤ most_index → ArePartsAt alpha most index words →
+    AreTaken words × (worker_count words ≡ 1) × (grid_size words ≡ 4) × ReadsFile words × (asks_steps words ≡ false)
+    × (asks_parts words ≡ true) × (asked_alpha words ≡ alpha) × (asked_most words ≡ most)
+    × (asked_index words ≡ Some index)
+unfolding parts_texts
+parts_at_words words alpha most index a m i w = parts_asked_at words
+    (parts_texts w.0 (decimal alpha) (decimal most) (decimal index)) alpha most index a m i w.1
+    (parts_at_found w.0 (decimal alpha) (decimal most) (decimal index))
+
 -- ---- the words `--workers=N` and `--grid=M`
 
 -- a size of a grid is a number that the option takes
@@ -227,9 +323,9 @@ meshing_texts name command workers grid = name ∷ command ∷ (codes "--workers
     []
 
 -- what the words are found to be: with no fault, a command that reads a file, its workers and its grid, `shape` or not,
--- and `steps` or not
-abbrev AreFoundMeshing : List Text → Text → Text → Bool → Bool → Type 0
-AreFoundMeshing words w g shape steps =
+-- `steps` or not, and `parts` or not
+abbrev AreFoundMeshing : List Text → Text → Text → Bool → Bool → Bool → Type 0
+AreFoundMeshing words w g shape steps parts =
     (is_signed_in (pos 1) (pos most_workers) w ≡ true → is_signed_in (pos 1) (pos most_grid) g ≡ true →
     fault_of program words ≡ [])
     × (is_command (codes "gen") (subcommand_of program words) ≡ false)
@@ -237,8 +333,9 @@ AreFoundMeshing words w g shape steps =
     × (number_of (codes "grid") 1 most_grid (subcommand_of program words) ≡ number_between 1 most_grid g)
     × (is_command (codes "shape") (subcommand_of program words) ≡ shape)
     × (is_command (codes "steps") (subcommand_of program words) ≡ steps)
+    × (is_command (codes "parts") (subcommand_of program words) ≡ parts)
 
-mesh_found : (name w g : Text) → AreFoundMeshing (meshing_texts name (codes "mesh") w g) w g false false
+mesh_found : (name w g : Text) → AreFoundMeshing (meshing_texts name (codes "mesh") w g) w g false false false
 unfolding clap_on_literals word_faults both_faults meshing_texts
 mesh_found name w g = (
   λ e k. ap₂ (λ (x y : Bool). both_faults (word_faults 1 most_workers x)
@@ -248,9 +345,10 @@ mesh_found name w g = (
   refl,
   refl,
   refl,
+  refl,
 )
 
-shape_found : (name w g : Text) → AreFoundMeshing (meshing_texts name (codes "shape") w g) w g true false
+shape_found : (name w g : Text) → AreFoundMeshing (meshing_texts name (codes "shape") w g) w g true false false
 unfolding clap_on_literals word_faults both_faults meshing_texts
 shape_found name w g = (
   λ e k. ap₂ (λ (x y : Bool). both_faults (word_faults 1 most_workers x)
@@ -260,9 +358,10 @@ shape_found name w g = (
   refl,
   refl,
   refl,
+  refl,
 )
 
-steps_found : (name w g : Text) → AreFoundMeshing (meshing_texts name (codes "steps") w g) w g false true
+steps_found : (name w g : Text) → AreFoundMeshing (meshing_texts name (codes "steps") w g) w g false true false
 unfolding clap_on_literals word_faults both_faults meshing_texts
 steps_found name w g = (
   λ e k. ap₂ (λ (x y : Bool). both_faults (word_faults 1 most_workers x)
@@ -272,21 +371,36 @@ steps_found name w g = (
   refl,
   refl,
   refl,
+  refl,
+)
+
+parts_found : (name w g : Text) → AreFoundMeshing (meshing_texts name (codes "parts") w g) w g false false true
+unfolding clap_on_literals word_faults both_faults meshing_texts
+parts_found name w g = (
+  λ e k. ap₂ (λ (x y : Bool). both_faults (word_faults 1 most_workers x)
+      (word_faults 1 most_grid y)) e k,
+  refl,
+  refl,
+  refl,
+  refl,
+  refl,
+  refl,
 )
 
 -- so they are taken, and ask for these workers and this grid
-abbrev AreAskedMeshing : List (String Global) → ℕ → ℕ → Bool → Bool → Type 0
-AreAskedMeshing words workers grid shape steps =
+abbrev AreAskedMeshing : List (String Global) → ℕ → ℕ → Bool → Bool → Bool → Type 0
+AreAskedMeshing words workers grid shape steps parts =
     AreTaken words × (worker_count words ≡ workers) × (grid_size words ≡ grid) × (asks_shape words ≡ shape) ×
-    ReadsFile words × (asks_steps words ≡ steps)
+    ReadsFile words × (asks_steps words ≡ steps) × (asks_parts words ≡ parts)
 
-meshing_asked : (words : List (String Global)) (texts : List Text) (workers grid : ℕ) (shape steps : Bool) →
+meshing_asked : (words : List (String Global)) (texts : List Text) (workers grid : ℕ) (shape steps parts : Bool) →
     0 < workers → workers ≤ most_workers → is_grid_size grid ≡ true → texts_of words ≡ texts
-    → AreFoundMeshing texts (decimal workers) (decimal grid) shape steps →
-    AreAskedMeshing words workers grid shape steps
-unfolding AreTaken asks_drawn worker_count grid_size asks_shape asks_steps
-meshing_asked words texts workers grid shape steps some few size e found =
-    let f = subst (λ (w : List Text). AreFoundMeshing w (decimal workers) (decimal grid) shape steps) (sym e) found in
+    → AreFoundMeshing texts (decimal workers) (decimal grid) shape steps parts →
+    AreAskedMeshing words workers grid shape steps parts
+unfolding AreTaken asks_drawn worker_count grid_size asks_shape asks_steps asks_parts
+meshing_asked words texts workers grid shape steps parts some few size e found =
+    let f = subst (λ (w : List Text). AreFoundMeshing w (decimal workers) (decimal grid) shape steps parts) (sym e)
+    found in
     let sized = f.3 ∙ decimal_named 1 most_grid grid (grid_above grid size) (grid_below grid size) (omega arith) in (
       (
         f.0 (decimal_taken 1 most_workers workers (omega (arith, some)) few (omega arith))
@@ -298,24 +412,32 @@ meshing_asked words texts workers grid shape steps some few size e found =
       f.4,
       f.1,
       f.5,
+      f.6,
     )
 
--- the words `mesh`, `shape` or `steps`, `--workers=N` and `--grid=M` ask for N workers and a grid of size M
+-- the words `mesh`, `shape`, `steps` or `parts`, `--workers=N` and `--grid=M` ask for N workers and a grid of size M
 module _ (words : List (String Global)) (workers grid : ℕ) (some : 0 < workers) (few : workers ≤ most_workers)
     (size : is_grid_size grid ≡ true) where
-  pub mesh_workers_words : AreMeshing (codes "mesh") workers grid words → AreAskedMeshing words workers grid false false
+  pub mesh_workers_words : AreMeshing (codes "mesh") workers grid words →
+      AreAskedMeshing words workers grid false false false
   unfolding meshing_texts
-  mesh_workers_words m = meshing_asked words (meshing_texts m.0 (codes "mesh") (decimal workers) (decimal grid)) workers
-      grid false false some few size m.1 (mesh_found m.0 (decimal workers) (decimal grid))
+  mesh_workers_words m = meshing_asked words (meshing_texts m.0 (codes "mesh") (decimal workers) (decimal grid))
+      workers grid false false false some few size m.1 (mesh_found m.0 (decimal workers) (decimal grid))
 
   pub shape_workers_words : AreMeshing (codes "shape") workers grid words →
-      AreAskedMeshing words workers grid true false
+      AreAskedMeshing words workers grid true false false
   unfolding meshing_texts
   shape_workers_words m = meshing_asked words (meshing_texts m.0 (codes "shape") (decimal workers) (decimal grid))
-      workers grid true false some few size m.1 (shape_found m.0 (decimal workers) (decimal grid))
+      workers grid true false false some few size m.1 (shape_found m.0 (decimal workers) (decimal grid))
 
   pub steps_workers_words : AreMeshing (codes "steps") workers grid words →
-      AreAskedMeshing words workers grid false true
+      AreAskedMeshing words workers grid false true false
   unfolding meshing_texts
   steps_workers_words m = meshing_asked words (meshing_texts m.0 (codes "steps") (decimal workers) (decimal grid))
-      workers grid false true some few size m.1 (steps_found m.0 (decimal workers) (decimal grid))
+      workers grid false true false some few size m.1 (steps_found m.0 (decimal workers) (decimal grid))
+
+  pub parts_workers_words : AreMeshing (codes "parts") workers grid words →
+      AreAskedMeshing words workers grid false false true
+  unfolding meshing_texts
+  parts_workers_words m = meshing_asked words (meshing_texts m.0 (codes "parts") (decimal workers) (decimal grid))
+      workers grid false false true some few size m.1 (parts_found m.0 (decimal workers) (decimal grid))

@@ -1,15 +1,18 @@
 -- What follows of a run that ended, command by command.
-use Rattle.std.specs.Prelude.{Option, None, Some, IfSome, String}
+use Rattle.std.specs.Prelude.{Option, None, Some, IfSome, String, suc, zero}
 use Rattle.std.specs.declared.alloc.Global.{Global}
 use Rattle.edit_history.specs.declared.history.Entry.{Entry}
 use Rattle.edit_history.specs.Histories.{replay}
-use Rattle.std.specs.Io.KnownBytes.{Appends}
+use Rattle.std.specs.Io.KnownBytes.{Appends, Keeps}
 use Rattle.std.proofs.Common.{
   ◌≡◌,
   ◌≢◌,
   ◌⊎◌,
+  ◌↔◌,
   inl,
   inr,
+  refl,
+  sym,
   subst,
   ap,
   ◌∙◌,
@@ -18,6 +21,8 @@ use Rattle.std.proofs.Common.{
   Bool,
   List,
   [],
+  ◌++◌,
+  append-nil,
   false,
   true,
   arith,
@@ -25,6 +30,7 @@ use Rattle.std.proofs.Common.{
   length,
 }
 use Rattle.std.proofs.lemmas.Bool.{cases_eq}
+use Rattle.std.proofs.lemmas.Bool.{cases_lt}
 use Rattle.list_laws.proofs.Cited.{if_some}
 use Rattle.byte_ends.specs.Ends.{AppendsFront}
 use Rattle.edit_files.specs.Content.{Content}
@@ -32,51 +38,164 @@ use Rattle.edit_files.specs.Grammar.{line_limit, IsFile}
 use Rattle.edit_files.proofs.Cited.{no_fault_of, one_file_of}
 use Rattle.mesh_files.specs.Text.{report_text}
 use Rattle.plain_laws.specs.Plain.{IsAnchored}
+use Rattle.solid_parts.specs.Parts.{AreParts}
+use Rattle.solid_parts.proofs.Cited.{same_count}
+use Rattle.alpha_complex.specs.Shapes.{shape_of}
 use Rattle.delaunay_cli.specs.Commands.{Promise}
 use Rattle.delaunay_cli.specs.Drawn.{DrawEnds, IsKeptOfDrawn, drawn_file}
 use Rattle.delaunay_cli.specs.Ends.{Ends}
 use Rattle.delaunay_cli.specs.PlainText.{plain_drawn, plain_text}
 use Rattle.delaunay_cli.specs.Report.{text_of}
 use Rattle.delaunay_cli.specs.Files.{IsOfFile, IsVerdict}
+use Rattle.delaunay_cli.specs.Parted.{
+  HasNoAlpha,
+  HasNoPart,
+  HasParts,
+  IsAsked,
+  IsParted,
+  IsPartedFile,
+  PartEnds,
+  TellsAt,
+}
 use Rattle.delaunay_cli.specs.Reported.{IsReported, ReportEnds}
 use Rattle.delaunay_cli.specs.Stepped.{IsStepped, StepEnds}
 use Rattle.delaunay_cli.specs.Run.{IsKept, IsSolidFile, Writes, WritesFront, input_limit}
-use Rattle.delaunay_cli.specs.Statuses.{HasText, IsEarly}
+use Rattle.delaunay_cli.specs.Statuses.{HasText, IsEarly, IsWhole}
 use Rattle.delaunay_cli.specs.Words.{
   AreTaken,
   Draws,
   DrawsFile,
   Kind,
+  Parts,
   ReadsFile,
   Reports,
   Steps,
+  WritesParts,
   WritesReport,
   WritesSteps,
+  asked_alpha,
+  asked_index,
+  asked_most,
   asks_order,
   asks_shape,
   asks_text,
   kind_of,
   worker_count,
 }
-use Rattle.delaunay_cli.proofs.Ended.{draws, has_text, kind_read, stopped_only}
+use Rattle.delaunay_cli.proofs.Ended.{draws, has_text, kind_read, reading, stopped_only}
 use Rattle.delaunay_cli.proofs.PlainTexts.{drawn_is_plain, kept_is_plain}
 
--- no command of now tells anything of what it made
-pub up_to_7 : (kind : Kind) (words : List (String Global)) (left : Option (List ℕ)) (status : ℕ) (h : List Entry)
-    (text : List ℕ) → Promise kind words left status h text → status ≤ 7
-up_to_7 Reports words left status h text p = p.statuses
-up_to_7 Steps words left status h text p = p.statuses
-up_to_7 Draws words left status h text p = elim p.statuses [ inl l ↦ omega (arith, l) | inr e ↦ omega (arith, e) ]
+-- no status above 9 comes, and none above 7 but of `parts`
+pub up_to_9 : (kind : Kind) (words : List (String Global)) (left : Option (List ℕ)) (status : ℕ) (h : List Entry)
+    (text : List ℕ) → Promise kind words left status h text → (status ≤ 9) × (7 < status → kind ≡ Parts)
+up_to_9 Reports words left status h text p =
+    let l = p.statuses in (omega (arith, l), λ k. absurd (omega (arith, l, k)))
+up_to_9 Steps words left status h text p =
+    let l = p.statuses in (omega (arith, l), λ k. absurd (omega (arith, l, k)))
+up_to_9 Parts words left status h text p = (p.statuses, λ k. refl)
+up_to_9 Draws words left status h text p = elim p.statuses [
+  | inl l ↦ (omega (arith, l), λ k. absurd (omega (arith, l, k)))
+  | inr e ↦ (omega (arith, e), λ k. absurd (omega (arith, e, k)))
+]
+
+-- ---- what is told of parts
+
+-- at one alpha alone the parts are taken
+one_alpha : (s : List ℕ) (alpha most : ℕ) (a b : Option ℕ) → IsAsked s alpha most a → IsAsked s alpha most b → a ≡ b
+one_alpha s alpha zero a b p q = p ∙ sym q
+one_alpha s alpha (suc k) None None p q = refl
+one_alpha s alpha (suc k) None (Some b) p q = absurd (p b q.0 q.1)
+one_alpha s alpha (suc k) (Some a) None p q = absurd (q a p.0 p.1)
+one_alpha s alpha (suc k) (Some a) (Some b) p q = elim (cases_lt a b) [
+  | inl l ↦ absurd (q.2 a l p.1)
+  | inr l ↦ elim (cases_lt b a) [
+    | inl m ↦ absurd (p.2 b m q.1)
+    | inr m ↦ ap (λ (n : ℕ). Some n) (omega (arith, l, m))
+  ]
+]
+
+-- where no alpha is asked for, a most of parts is, and there is none for it
+asked_none : (s : List ℕ) (alpha most : ℕ) → IsAsked s alpha most None → HasNoAlpha s most
+asked_none s alpha zero e = absurd (cc)
+asked_none s alpha (suc k) p = (omega arith, p)
+
+none_asked : (s : List ℕ) (alpha most : ℕ) → HasNoAlpha s most → IsAsked s alpha most None
+none_asked s alpha zero p = absurd (let l = p.0 in omega (arith, l))
+none_asked s alpha (suc k) p = p.1
+
+-- what is told at an alpha has status 0 or 8
+told_at : (s : List ℕ) (at : ℕ) (index : Option ℕ) (status : ℕ) (text : List ℕ) → HasParts s at index status text →
+    (status ≡ 0) ⊎ (status ≡ 8)
+told_at s at None status text p = inl p.told.0
+told_at s at (Some i) status text p = elim p.told [ inl t ↦ inl t.1 | inr t ↦ inr t.1 ]
+
+not_some : (at : ℕ) (o : Option ℕ) → o ≡ None → o ≡ Some at → ⊥
+not_some at o e f = cc
+
+-- status 9 comes exactly where there is no alpha
+pub nine_is : (s : List ℕ) (alpha most : ℕ) (index : Option ℕ) (status : ℕ) (text : List ℕ) →
+    IsParted s alpha most index status text → (status ≡ 9) ↔ HasNoAlpha s most
+nine_is s alpha most index status text p = by p.at p.asked p.told
+  where
+    by : (at : Option ℕ) → IsAsked s alpha most at → TellsAt s at index status text → (status ≡ 9) ↔ HasNoAlpha s most
+    by None a t = (λ e. asked_none s alpha most a, λ n. t.0)
+    by (Some at) a t = (
+      λ e. absurd (elim (told_at s at index status text t) [ inl z ↦ omega (arith, z, e) | inr z ↦ omega (arith, z, e) ]),
+      λ n. absurd (not_some at (Some at) (one_alpha s alpha most (Some at) None a (none_asked s alpha most n)) refl),
+    )
+
+-- status 8 comes exactly where there is no part of the index
+pub eight_is : (s : List ℕ) (alpha most i status : ℕ) (text : List ℕ) →
+    IsParted s alpha most (Some i) status text → (status ≡ 8) ↔ HasNoPart s alpha most i
+eight_is s alpha most i status text p = by p.at p.asked p.told
+  where
+    counted : (a b : ℕ) (ps qs : List (List (List ℕ))) → Some a ≡ Some b → AreParts (shape_of s a).cells ps →
+        AreParts (shape_of s b).cells qs → length ps ≡ length qs
+    counted a b ps qs e p q =
+        let same : a ≡ b = cc in
+        same_count (shape_of s b).cells ps qs (subst (λ (n : ℕ). AreParts (shape_of s n).cells ps) same p) q
+
+    by : (at : Option ℕ) → IsAsked s alpha most at → TellsAt s at (Some i) status text →
+        (status ≡ 8) ↔ HasNoPart s alpha most i
+    by None a t = (
+      λ e. absurd (let z = t.0 in omega (arith, z, e)),
+      λ n. absurd (not_some n.at (Some n.at) (one_alpha s alpha most (Some n.at) None n.asked a) refl),
+    )
+    by (Some at) a t = (
+      λ e. elim t.told [
+        | inl k ↦ absurd (let z = k.1 in omega (arith, z, e))
+        | inr k ↦ record { at = at; asked = a; parts = t.parts; are_parts = t.are_parts; past = k.0 }
+      ],
+      λ n. elim t.told [
+        | inl k ↦
+            absurd (let l = k.0 in let m = n.past in let c = counted at n.at t.parts n.parts
+            (one_alpha s alpha most (Some at) (Some n.at) a n.asked) t.are_parts n.are_parts in omega (arith, l, m, c))
+        | inr k ↦ k.1
+      ],
+    )
+
+-- without an index it never comes
+pub never_eight : (s : List ℕ) (alpha most status : ℕ) (text : List ℕ) →
+    IsParted s alpha most None status text → status ≢ 8
+never_eight s alpha most status text p e = by p.at p.told
+  where
+    by : (at : Option ℕ) → TellsAt s at None status text → ⊥
+    by None t = let z = t.0 in omega (arith, z, e)
+    by (Some at) t = let z = t.told.0 in omega (arith, z, e)
 
 -- what the end of a run says of it
 module _ {words : List (String Global)} {left left_after : Option (List ℕ)} {read_failed : Type 0}
     {held holds : Option (List ℕ)} {write_failed : Type 0} {status : ℕ} {kept : List Entry}
     (e : Ends words left left_after read_failed held holds write_failed status kept) where
-  -- the status is none of a text
-  pub no_text : status ≢ 0 → status ≢ 4 → HasText status → ⊥
-  no_text a b = stopped_only status (up_to_7 (kind_of words) words left status kept e.text e.promise) a b
+  -- how high the status is
+  pub highest : (status ≤ 9) × (7 < status → WritesParts words)
+  highest = up_to_9 (kind_of words) words left status kept e.text e.promise
 
-  -- what is promised of a report, of the least alphas, and of a drawn file
+  -- the status is none of a text
+  pub no_text : status ≢ 0 → status ≢ 4 → status ≤ 7 → HasText status → ⊥
+  no_text a b l = stopped_only status l a b
+
+  -- what is promised of a report, of the least alphas, of parts, and of a drawn file
   pub of_report : WritesReport words → ReportEnds (worker_count words) (asks_shape words) (asks_order words) left status
       kept e.text
   of_report w = subst (λ (kind : Kind). Promise kind words left status kept e.text) w e.promise
@@ -84,12 +203,20 @@ module _ {words : List (String Global)} {left left_after : Option (List ℕ)} {r
   pub of_steps : WritesSteps words → StepEnds (worker_count words) left status kept e.text
   of_steps w = subst (λ (kind : Kind). Promise kind words left status kept e.text) w e.promise
 
+  pub of_parts : WritesParts words → PartEnds (worker_count words) (asked_alpha words) (asked_most words)
+      (asked_index words) left status kept e.text
+  of_parts w = subst (λ (kind : Kind). Promise kind words left status kept e.text) w e.promise
+
   pub of_drawn : DrawsFile words → DrawEnds (asks_text words) (worker_count words) (drawn_file words) status kept e.text
   of_drawn d = subst (λ (kind : Kind). Promise kind words left status kept e.text) (draws words d) e.promise
 
   -- what the statuses tell of the bytes
   verdict : ReadsFile words → (IsEarly status → ⊥) → IfSome left (IsVerdict status)
-  verdict w late = elim (kind_read words w) [ inl k ↦ (of_report k).verdict late | inr k ↦ (of_steps k).verdict late ]
+  verdict w late = elim (kind_read words w) [
+    | inl k ↦ (of_report k).verdict late
+    | inr (inl k) ↦ (of_steps k).verdict late
+    | inr (inr k) ↦ (of_parts k).verdict late
+  ]
 
   pub of_bytes : (P : List ℕ → Type 0) → ((bytes : List ℕ) → IsVerdict status bytes → P bytes) → ReadsFile words →
       (IsEarly status → ⊥) → IfSome left P
@@ -106,15 +233,21 @@ module _ {words : List (String Global)} {left left_after : Option (List ℕ)} {r
       (f m.file m.kept m.text_is)) m
 
   pub of_kept : (P : Content → Type 0) → ((file : Content) → IsKept file (worker_count words) kept → P file)
-      → ReadsFile words → (status ≡ 0) ⊎ (status ≡ 4) → IfSome left
+      → ReadsFile words → HasText status → IfSome left
       (λ bytes. (file : Content) → IsFile line_limit bytes file → P file)
   of_kept P f w s =
       elim (kind_read words w) [
         | inl k ↦ of_one P (λ file. e.text ≡ text_of (asks_shape words) (asks_order words) file kept)
-            (λ file k t. f file k) ((of_report k).made (has_text status s))
-        | inr k ↦ of_one P (λ file. IsStepped (replay kept) e.text) (λ file k t. f file k)
-            ((of_steps k).made (has_text status s))
+            (λ file k t. f file k) ((of_report k).made s)
+        | inr (inl k) ↦ of_one P (λ file. IsStepped (replay kept) e.text) (λ file k t. f file k) ((of_steps k).made s)
+        | inr (inr k) ↦ elim s [
+          | inl whole ↦ of_one P (λ file. told status) (λ file k t. f file k) ((of_parts k).made whole)
+          | inr four ↦ of_one P (λ file. told 0) (λ file k t. f file k) ((of_parts k).cut four)
+        ]
       ]
+    where
+      told : ℕ → Type 0
+      told n = IsParted (replay kept) (asked_alpha words) (asked_most words) (asked_index words) n e.text
 
   -- and what is written of it
   pub of_file : (P : Content → Type 0) → ((file : Content) → IsKept file (worker_count words) kept →
@@ -137,13 +270,13 @@ module _ {words : List (String Global)} {left left_after : Option (List ℕ)} {r
   plain_of_drawn d s = let m = (of_drawn d).made (has_text status s) in m.1 ∙ drawn_is_plain words (worker_count words)
       kept e.legal m.0
 
-  -- a solid file within the limit ends a run with status 0 or 1
+  -- of a solid file within the limit a run ends with status 1 or one of a whole text
   pub completes : AreTaken words → ReadsFile words → IfSome left (λ bytes. IsSolidFile bytes → (read_failed → ⊥) →
-      (write_failed → ⊥) → (status ≡ 0) ⊎ (status ≡ 1))
+      (write_failed → ⊥) → IsWhole status ⊎ (status ≡ 1))
   completes w k = by left (verdict k)
     where
       by : (left : Option (List ℕ)) → ((IsEarly status → ⊥) → IfSome left (IsVerdict status)) →
-          IfSome left (λ bytes. IsSolidFile bytes → (read_failed → ⊥) → (write_failed → ⊥) → (status ≡ 0) ⊎
+          IfSome left (λ bytes. IsSolidFile bytes → (read_failed → ⊥) → (write_failed → ⊥) → IsWhole status ⊎
           (status ≡ 1))
       by None v = tt
       by (Some bytes) v =
@@ -162,9 +295,98 @@ module _ {words : List (String Global)} {left left_after : Option (List ℕ)} {r
                 f.0 solid.1.1 f.1 in
                 let ne6 : status ≢ 6 = λ k. let flat = (told.not_solid ne7 solid.1.0 solid.1.1).0 k in let q =
                 solid.1.2 in cc in
-                let le = up_to_7 (kind_of words) words left status kept e.text e.promise in
-                inl (omega (arith, le, ne1, ne2, ne3, ne4, ne5, ne6, ne7))
+                inl (elim (cases_lt 7 status) [
+                  | inl above ↦ inr above
+                  | inr le ↦ inl (omega (arith, le, ne1, ne2, ne3, ne4, ne5, ne6, ne7))
+                ])
           ]
+
+  -- and of a command other than `parts` with 0 or 1
+  pub completes_plainly : AreTaken words → WritesReport words ⊎ WritesSteps words →
+      IfSome left (λ bytes. IsSolidFile bytes → (read_failed → ⊥) → (write_failed → ⊥) → (status ≡ 0) ⊎ (status ≡ 1))
+  completes_plainly w k =
+      let few : status ≤ 7 = elim k [ inl r ↦ (of_report r).statuses | inr r ↦ (of_steps r).statuses ] in
+      let reads : ReadsFile words = reading words (elim k [ inl r ↦ inl r | inr r ↦ inr (inl r) ]) in
+      if_some (λ bytes. IsSolidFile bytes → (read_failed → ⊥) → (write_failed → ⊥) → IsWhole status ⊎ (status ≡ 1))
+      (λ bytes. IsSolidFile bytes → (read_failed → ⊥) → (write_failed → ⊥) → (status ≡ 0) ⊎ (status ≡ 1)) left
+      (λ bytes f solid nr nw. elim (f solid nr nw) [
+        | inl (inl z) ↦ inl z
+        | inl (inr l) ↦ absurd (omega (arith, l, few))
+        | inr z ↦ inr z
+      ]) (completes w reads)
+
+  -- what follows of what a run tells of parts, by a status of a whole text, and where a text of status 0 is cut off
+  abbrev Told : ℕ → Type 0
+  Told n = IsParted (replay kept) (asked_alpha words) (asked_most words) (asked_index words) n e.text
+
+  abbrev ToldFile : ℕ → List ℕ → Type 0
+  ToldFile n bytes =
+      IsPartedFile (worker_count words) (asked_alpha words) (asked_most words) (asked_index words) n kept e.text bytes
+
+  of_told : (P : Type 0) → (Told status → P) → (status ≡ 4 → Told 0 → P) → WritesParts words → HasText status →
+      IfSome left (λ bytes. P)
+  of_told P f g w s = elim s [
+    | inl whole ↦ if_some (ToldFile status) (λ bytes. P) left (λ bytes m. f m.text_is) ((of_parts w).made whole)
+    | inr four ↦ if_some (ToldFile 0) (λ bytes. P) left (λ bytes m. g four m.text_is) ((of_parts w).cut four)
+  ]
+
+  pub no_alpha : WritesParts words → HasText status →
+      IfSome left (λ bytes. status ≡ 9 ↔ HasNoAlpha (replay kept) (asked_most words))
+  no_alpha = of_told (status ≡ 9 ↔ HasNoAlpha (replay kept) (asked_most words))
+      (λ t. nine_is (replay kept) (asked_alpha words) (asked_most words) (asked_index words) status e.text t)
+      (λ four t. (
+        λ n. absurd (omega (arith, four, n)),
+        λ h. absurd (let z = (nine_is (replay kept) (asked_alpha words) (asked_most words) (asked_index words) 0 e.text
+            t).1 h in omega (arith, z)),
+      ))
+
+  pub no_part : (i : ℕ) → WritesParts words → HasText status → asked_index words ≡ Some i →
+      IfSome left (λ bytes. status ≡ 8 ↔ HasNoPart (replay kept) (asked_alpha words) (asked_most words) i)
+  no_part i w s o = of_told (status ≡ 8 ↔ HasNoPart (replay kept) (asked_alpha words) (asked_most words) i)
+      (λ t. eight_is (replay kept) (asked_alpha words) (asked_most words) i status e.text (at status t))
+      (λ four t. (
+        λ n. absurd (omega (arith, four, n)),
+        λ h. absurd (let z = (eight_is (replay kept) (asked_alpha words) (asked_most words) i 0 e.text (at 0 t)).1 h in
+            omega (arith, z)),
+      )) w s
+    where
+      at : (n : ℕ) → Told n → IsParted (replay kept) (asked_alpha words) (asked_most words) (Some i) n e.text
+      at n t = subst (λ (v : Option ℕ). IsParted (replay kept) (asked_alpha words) (asked_most words) v n e.text) o t
+
+  pub no_index : WritesParts words → HasText status → asked_index words ≡ None → IfSome left (λ bytes. status ≢ 8)
+  no_index w s o = of_told (status ≢ 8)
+      (λ t. never_eight (replay kept) (asked_alpha words) (asked_most words) status e.text
+      (subst (λ (v : Option ℕ). IsParted (replay kept) (asked_alpha words) (asked_most words) v status e.text) o t))
+      (λ four t n. omega (arith, four, n)) w s
+
+  -- and what is written of it
+  pub parts_written : WritesParts words → status ≡ 0 →
+      IfSome left (λ bytes. (text : List ℕ) × IsParted (replay kept) (asked_alpha words) (asked_most words)
+      (asked_index words) 0 text × Appends held holds text)
+  parts_written w z = if_some (ToldFile status)
+      (λ bytes. (text : List ℕ) × IsParted (replay kept) (asked_alpha words) (asked_most words) (asked_index words) 0
+      text × Appends held holds text) left
+      (λ bytes m. (e.text, subst Told z m.text_is, e.whole (inl z))) ((of_parts w).made (inl z))
+
+  pub parts_front : WritesParts words → status ≡ 4 →
+      IfSome left (λ bytes. (text : List ℕ) × IsParted (replay kept) (asked_alpha words) (asked_most words)
+      (asked_index words) 0 text × AppendsFront held holds text)
+  parts_front w z = if_some (ToldFile 0)
+      (λ bytes. (text : List ℕ) × IsParted (replay kept) (asked_alpha words) (asked_most words) (asked_index words) 0
+      text × AppendsFront held holds text) left
+      (λ bytes m. (e.text, m.text_is, e.front z)) ((of_parts w).cut z)
+
+  -- of no text nothing is written
+  pub unchanged : status ≢ 0 → status ≢ 4 → Keeps held holds
+  unchanged a b = elim (cases_lt 7 status) [
+    | inl l ↦ kept_by held holds e.text ((of_parts (highest.1 l)).nothing l) (e.whole (inr l))
+    | inr l ↦ e.nothing (no_text a b l)
+  ]
+    where
+      kept_by : (old new : Option (List ℕ)) (text : List ℕ) → text ≡ [] → Appends old new text → Keeps old new
+      kept_by None new text n w = tt
+      kept_by (Some x) None text n w = absurd w
+      kept_by (Some x) (Some y) text n w = w ∙ ap (λ (l : List ℕ). x ++ l) n ∙ append-nil x
 
   -- what is written of the file that the bytes are
   pub written : WritesReport words → status ≡ 0 → IfSome left (λ bytes. Writes (asks_shape words) (asks_order words)
@@ -191,7 +413,11 @@ module _ {words : List (String Global)} {left left_after : Option (List ℕ)} {r
       ((of_drawn d).made (has_text status s)).0 in
       elim (cases_eq status 0) [
         | inl k ↦ none (inl k)
-        | inr n ↦ elim (cases_eq status 4) [ inl k ↦ none (inr k) | inr m ↦ e.none_kept (no_text n m) ]
+        | inr n ↦ elim (cases_eq status 4) [
+          | inl k ↦ none (inr k)
+          | inr m ↦ e.none_kept (no_text n m (elim (of_drawn d).statuses
+              [ inl l ↦ omega (arith, l) | inr k ↦ omega (arith, k) ]))
+        ]
       ]
 
   -- a drawn file ends a run with status 0 or 1

@@ -29,12 +29,13 @@ IsUnput failed held holds text stop =
     ((stop ≡ Memory) × Keeps held holds) ⊎ ((stop ≡ WriteFault) × failed × AppendsFront held holds text)
 
 -- The end of what was made, with its history: the output gained the text where the run ends with what is told of it,
--- and a front of it where the output failed. Where memory was wanting it is as before, and there is no history.
+-- and a front of it, which is not empty, where the output failed. Where memory was wanting the output is as before, and
+-- there is no history.
 abbrev pub IsPut : Type 0 → Option (List ℕ) → Option (List ℕ) → List ℕ → Option Stop → List Entry → Option Stop
     → List Entry → Type 0
 IsPut failed held holds text after kept stop h =
     ((stop ≡ after) × (h ≡ kept) × Appends held holds text)
-    ⊎ ((stop ≡ Some WriteFault) × (h ≡ kept) × failed × AppendsFront held holds text)
+    ⊎ ((stop ≡ Some WriteFault) × (h ≡ kept) × failed × AppendsFront held holds text × (text ≢ []))
     ⊎ ((stop ≡ Some Memory) × (h ≡ []) × Keeps held holds)
 
 -- The end of a run: its status and history, by what the source told before and after, what the output held and holds,

@@ -9,6 +9,7 @@ pub mod Page
 pub mod Files
 pub mod Reported
 pub mod Stepped
+pub mod Parted
 pub mod Commands
 pub mod Ends
 pub mod Laws

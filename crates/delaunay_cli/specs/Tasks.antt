@@ -4,12 +4,15 @@ use Rattle.std.specs.declared.alloc.Global.{Global}
 use Rattle.clap.specs.Words.{Row, Text, subcommand_of}
 use Rattle.delaunay_cli.specs.declared.task.Making.{Making}
 use Rattle.delaunay_cli.specs.declared.task.Task.{Task}
-use Rattle.delaunay_cli.specs.declared.task.Task.TheVariants.{Report, Step, Draw}
+use Rattle.delaunay_cli.specs.declared.task.Task.TheVariants.{Report, Step, Part, Draw}
 use Rattle.delaunay_cli.specs.Words.{
+  given_of,
   has_flag,
   is_command,
+  most_alpha,
   most_count,
   most_grid,
+  most_index,
   most_start,
   most_workers,
   number_of,
@@ -26,9 +29,13 @@ pub record IsMakingOf (met : Option (Text × List Row)) (making : Making) : Type
 abbrev pub IsTaskOf : Option (Text × List Row) → Task → Type 0
 IsTaskOf met (Report making asked) =
     IsMakingOf met making × (is_command (codes "gen") met ≡ false) × (is_command (codes "steps") met ≡ false)
-    × (asked.shape ≡ is_command (codes "shape") met) × (asked.order ≡ has_flag (codes "order") met)
+    × (is_command (codes "parts") met ≡ false) × (asked.shape ≡ is_command (codes "shape") met) × (asked.order ≡ has_flag (codes "order") met)
 IsTaskOf met (Step making) =
     IsMakingOf met making × (is_command (codes "gen") met ≡ false) × (is_command (codes "steps") met ≡ true)
+IsTaskOf met (Part making wanted) =
+    IsMakingOf met making × (is_command (codes "gen") met ≡ false) × (is_command (codes "steps") met ≡ false)
+    × (is_command (codes "parts") met ≡ true) × (wanted.alpha ≡ number_of (codes "alpha") 0 most_alpha met)
+    × (wanted.most ≡ number_of (codes "most") 0 most_index met) × (wanted.off ≡ given_of (codes "off") most_index met)
 IsTaskOf met (Draw making drawn) =
     IsMakingOf met making × (is_command (codes "gen") met ≡ true)
     × (drawn.count ≡ number_of (codes "count") 0 most_count met)

@@ -11,6 +11,7 @@ use Rattle.std.specs.Prelude.{
   false,
   pos,
   Option,
+  None,
   Some,
   codes,
   decimal,
@@ -19,7 +20,7 @@ use Rattle.std.specs.Prelude.{
   String,
   if◌then◌else◌,
 }
-use Rattle.std.specs.Option.{option_map_or}
+use Rattle.std.specs.Option.{option_map, option_map_or}
 use Rattle.std.specs.Str.{bytes_eq}
 use Rattle.std.specs.Str.Parse.{digits_value, without_leading_plus}
 use Rattle.std.specs.declared.alloc.Global.{Global}
@@ -39,7 +40,7 @@ use Rattle.clap.specs.Words.{
 use Rattle.clap.specs.Simple.{on_top}
 use Rattle.clap.specs.ValueTests.{is_unsigned_in}
 use Rattle.clap.specs.declared.builder.action.ArgAction.TheVariants.{SetTrue}
-use Rattle.clap.specs.declared.builder.value_parser.ValueParser.TheVariants.{Signed}
+use Rattle.clap.specs.declared.builder.value_parser.ValueParser.TheVariants.{Signed, Unsigned}
 use Rattle.cell_store.specs.Grids.{is_grid_size}
 
 -- the most workers that there may be, and the greatest size of a grid
@@ -101,17 +102,54 @@ gen_command =
     (number_option (codes "start") most_start))
     (flag_of (codes "text"))
 
--- the program: it takes the word of a command, and has the four
+-- the most that `--alpha` takes, one less than 2^34, and the most that `--most` and `--off` take
+abbrev pub most_alpha : ℕ
+most_alpha = 17179869183
+
+abbrev pub most_index : ℕ
+most_index = 16777216
+
+-- the option `--alpha`, which is 0 where it is left out
+abbrev pub alpha_option : Rule
+alpha_option = record (new_rule (codes "alpha")) {
+  long = Some (codes "alpha");
+  defaults = codes "0" ∷ [];
+  parser = Some (Unsigned 0 most_alpha);
+}
+
+-- the option `--most`, which is 0 where it is left out
+abbrev pub most_option : Rule
+most_option = record (new_rule (codes "most")) {
+  long = Some (codes "most");
+  defaults = codes "0" ∷ [];
+  parser = Some (Signed (pos 0) (pos most_index));
+}
+
+-- the option `--off`, which may be left out
+abbrev pub index_option : Rule
+index_option = record (new_rule (codes "off")) {
+  long = Some (codes "off");
+  parser = Some (Signed (pos 0) (pos most_index));
+}
+
+-- the command `parts`
+abbrev pub parts_command : App
+parts_command =
+    with_rule (with_rule (with_rule (meshing_command (codes "parts")) alpha_option) most_option) index_option
+
+-- the program: it takes the word of a command, and has the five
 abbrev pub program : App
 program =
     with_subcommand
+    (with_subcommand
     (with_subcommand
     (with_subcommand
     (with_subcommand (on_top (λ top. record top { subcommand_required = true }) (new_app (codes "delaunay")))
     (command_of (codes "mesh")).top)
     (command_of (codes "shape")).top)
     gen_command.top)
-    (meshing_command (codes "steps")).top
+    (meshing_command (codes "steps")).top)
+    parts_command.top
 
 -- the words of a command line as texts
 abbrev pub texts_of : List (String Global) → List Text
@@ -140,6 +178,16 @@ AreShapeOrder words = AreNameAnd (codes "shape" ∷ codes "--order" ∷ []) word
 -- the words are the program's name and `steps`
 abbrev pub AreSteps : List (String Global) → Type 0
 AreSteps words = AreNameAnd (codes "steps" ∷ []) words
+
+-- the words are the program's name and `parts`
+abbrev pub AreParts : List (String Global) → Type 0
+AreParts words = AreNameAnd (codes "parts" ∷ []) words
+
+-- the words are the program's name, `parts`, `--alpha=` with a number, `--most=` with a number and `--off=` with one
+abbrev pub ArePartsAt : ℕ → ℕ → ℕ → List (String Global) → Type 0
+ArePartsAt alpha most index words =
+    AreNameAnd (codes "parts" ∷ (codes "--alpha=" ++ decimal alpha) ∷ (codes "--most=" ++ decimal most)
+    ∷ (codes "--off=" ++ decimal index) ∷ []) words
 
 -- the words are the program's name, the name of a command, `--workers=` with a number and `--grid=` with a number
 abbrev pub AreMeshing : Text → ℕ → ℕ → List (String Global) → Type 0
@@ -181,6 +229,10 @@ asks_shape words = is_command (codes "shape") (subcommand_of program (texts_of w
 unfoldable pub asks_steps : List (String Global) → Bool
 asks_steps words = is_command (codes "steps") (subcommand_of program (texts_of words))
 
+-- the words ask for the solid parts
+unfoldable pub asks_parts : List (String Global) → Bool
+asks_parts words = is_command (codes "parts") (subcommand_of program (texts_of words))
+
 -- the words ask for a file that is drawn, and not for one that is read
 unfoldable pub asks_drawn : List (String Global) → Bool
 asks_drawn words = is_command (codes "gen") (subcommand_of program (texts_of words))
@@ -203,6 +255,24 @@ number_in option least most rows = option_map_or (number_between least most) (fi
 abbrev pub number_of : Text → ℕ → ℕ → Option (Text × List Row) → ℕ
 number_of option least most met = option_map_or (λ found. number_in option least most found.1) met least
 
+-- the number that was given to an option, if one was, by the matches of the command
+abbrev pub given_in : Text → ℕ → List Row → Option ℕ
+given_in option most rows = option_map (number_between 0 most) (first_of option rows)
+
+-- and by the name and the matches of the command that was met
+abbrev pub given_of : Text → ℕ → Option (Text × List Row) → Option ℕ
+given_of option most met = option_map_or (λ found. given_in option most found.1) met None
+
+-- the alpha that the words ask for, the most parts, and the index of a part, if one
+unfoldable pub asked_alpha : List (String Global) → ℕ
+asked_alpha words = number_of (codes "alpha") 0 most_alpha (subcommand_of program (texts_of words))
+
+unfoldable pub asked_most : List (String Global) → ℕ
+asked_most words = number_of (codes "most") 0 most_index (subcommand_of program (texts_of words))
+
+unfoldable pub asked_index : List (String Global) → Option ℕ
+asked_index words = given_of (codes "off") most_index (subcommand_of program (texts_of words))
+
 -- how many edits the words ask for, and the start of the draws
 unfoldable pub drawn_count : List (String Global) → ℕ
 drawn_count words = number_of (codes "count") 0 most_count (subcommand_of program (texts_of words))
@@ -221,16 +291,19 @@ grid_size words = number_of (codes "grid") 1 most_grid (subcommand_of program (t
 unfoldable pub AreTaken : List (String Global) → Type 0
 AreTaken words = (fault_of program (texts_of words) ≡ []) × (is_grid_size (grid_size words) ≡ true)
 
--- what a command does: it writes the report of a file that it reads (`mesh` and `shape`), or its least alphas
--- (`steps`), or it draws a file (`gen`)
+-- what a command does: it writes the report of a file that it reads (`mesh` and `shape`), its least alphas (`steps`),
+-- or its solid parts (`parts`), or it draws a file (`gen`)
 pub data Kind : Type 0 where
   Reports : Kind
   Steps : Kind
+  Parts : Kind
   Draws : Kind
 
 -- what the command of the words does
 abbrev pub kind_of : List (String Global) → Kind
-kind_of words = if asks_drawn words then Draws else (if asks_steps words then Steps else Reports)
+kind_of words =
+    if asks_drawn words then Draws
+    else (if asks_steps words then Steps else (if asks_parts words then Parts else Reports))
 
 -- the report of a file is written
 abbrev pub WritesReport : List (String Global) → Type 0
@@ -239,6 +312,10 @@ WritesReport words = kind_of words ≡ Reports
 -- the least alphas of a file are written
 abbrev pub WritesSteps : List (String Global) → Type 0
 WritesSteps words = kind_of words ≡ Steps
+
+-- the solid parts of a file are written, or the boundary of one
+abbrev pub WritesParts : List (String Global) → Type 0
+WritesParts words = kind_of words ≡ Parts
 
 -- the source is read
 abbrev pub ReadsFile : List (String Global) → Type 0

@@ -8,6 +8,9 @@ ghost use Rattle.std.specs.Prelude.{
   ◌≤◌,
   ◌<◌,
   ℕ,
+  Option,
+  None,
+  Some,
   List,
   [],
   String,
@@ -22,44 +25,56 @@ ghost use Rattle.std.specs.declared.alloc.Global.{Global};
 ghost use Rattle.byte_ends.specs.Ends.{AppendsFront, Rose};
 ghost use Rattle.point_order.specs.Solid.{is_solid};
 ghost use Rattle.cell_store.specs.Grids.{is_grid_size};
+ghost use Rattle.edit_history.specs.Histories.{replay};
 ghost use Rattle.edit_history.specs.OneThread.{Keeps as FileKeeps};
 ghost use Rattle.edit_files.specs.Content.{Content};
 ghost use Rattle.edit_files.specs.Grammar.{line_limit, IsFile};
 ghost use Rattle.delaunay_cli.specs.Drawn.{drawn_file, drawn_text};
 ghost use Rattle.delaunay_cli.specs.Laws.{ARun};
+ghost use Rattle.delaunay_cli.specs.Parted.{HasNoAlpha, HasNoPart, IsParted};
 ghost use Rattle.delaunay_cli.specs.PlainText.{plain_drawn};
-ghost use Rattle.delaunay_cli.specs.Run.{HasFault, history_of, input_limit};
-ghost use Rattle.delaunay_cli.specs.Statuses.{IsEarly};
+ghost use Rattle.delaunay_cli.specs.Run.{HasFault, IsSolidFile, history_of, input_limit};
+ghost use Rattle.delaunay_cli.specs.Statuses.{HasText, IsEarly, IsWhole};
 ghost use Rattle.delaunay_cli.specs.Words.{
   AreGen,
   AreGenText,
   AreMesh,
   AreMeshOrder,
   AreMeshing,
+  AreParts,
+  ArePartsAt,
   AreShape,
   AreShapeOrder,
   AreSteps,
   AreTaken,
   DrawsFile,
   ReadsFile,
+  WritesParts,
   WritesReport,
   WritesSteps,
+  asked_alpha,
+  asked_index,
+  asked_most,
   asks_order,
   asks_shape,
   asks_text,
   drawn_count,
   drawn_start,
   grid_size,
+  most_alpha,
   most_count,
+  most_index,
   most_start,
   most_workers,
   worker_count,
 };
 
 /// The words `mesh` and `shape` alone are taken, and ask for no order block; with `--order` they ask for it. Both write
-/// the report of a file, by one worker over a grid of 4, as `steps` writes its least alphas. So are `mesh`, `shape` and
-/// `steps` with `--workers=N` and `--grid=M`, for every count of workers and every size of a grid. The words `gen`,
-/// `--count=N` and `--start=M` are taken for every count and start, and with `--text` ask for the file's text.
+/// the report of a file, by one worker over a grid of 4, as `steps` writes its least alphas and `parts` its parts at
+/// alpha 0. So are `mesh`, `shape`, `steps` and `parts` with `--workers=N` and `--grid=M`, for every count of workers and
+/// every size of a grid, and `parts` with `--alpha=A`, `--most=K` and `--off=I` for every A, K and I of their ranges. The
+/// words `gen`, `--count=N` and `--start=M` are taken for every count and start, and with `--text` ask for the file's
+/// text.
 pub fn words_are_taken()
     ensures mesh { (words : List (String Global)) → AreMesh words → AreTaken words × (asks_shape words ≡ false)
         × (asks_order words ≡ false) }
@@ -76,6 +91,13 @@ pub fn words_are_taken()
         AreMesh words ⊎ AreMeshOrder words ⊎ AreShape words ⊎ AreShapeOrder words → WritesReport words }
     ensures steps { (words : List (String Global)) → AreSteps words → AreTaken words × WritesSteps words
         × (worker_count words ≡ 1) × (grid_size words ≡ 4) }
+    ensures parts { (words : List (String Global)) → AreParts words → AreTaken words × WritesParts words
+        × (worker_count words ≡ 1) × (grid_size words ≡ 4) × (asked_alpha words ≡ 0) × (asked_most words ≡ 0)
+        × (asked_index words ≡ None) }
+    ensures parts_at { (words : List (String Global)) (alpha most index : ℕ) → alpha ≤ most_alpha
+        → most ≤ most_index → index ≤ most_index → ArePartsAt alpha most index words
+        → AreTaken words × WritesParts words × (worker_count words ≡ 1) × (grid_size words ≡ 4)
+        × (asked_alpha words ≡ alpha) × (asked_most words ≡ most) × (asked_index words ≡ Some index) }
     ensures mesh_workers { (words : List (String Global)) (workers grid : ℕ) → 0 < workers → workers ≤ most_workers
         → is_grid_size grid ≡ true → AreMeshing (codes "mesh") workers grid words → AreTaken words
         × (worker_count words ≡ workers) × (grid_size words ≡ grid) × (asks_shape words ≡ false)
@@ -87,22 +109,27 @@ pub fn words_are_taken()
     ensures steps_workers { (words : List (String Global)) (workers grid : ℕ) → 0 < workers → workers ≤ most_workers
         → is_grid_size grid ≡ true → AreMeshing (codes "steps") workers grid words → AreTaken words
         × (worker_count words ≡ workers) × (grid_size words ≡ grid) × WritesSteps words }
+    ensures parts_workers { (words : List (String Global)) (workers grid : ℕ) → 0 < workers → workers ≤ most_workers
+        → is_grid_size grid ≡ true → AreMeshing (codes "parts") workers grid words → AreTaken words
+        × (worker_count words ≡ workers) × (grid_size words ≡ grid) × WritesParts words }
     ensures generator { (words : List (String Global)) (count start : ℕ) → count ≤ most_count → start ≤ most_start
         → AreGen count start words → AreTaken words × DrawsFile words × (drawn_count words ≡ count)
         × (drawn_start words ≡ start) × (asks_text words ≡ false) }
     ensures generator_text { (words : List (String Global)) (count start : ℕ) → count ≤ most_count
         → start ≤ most_start → AreGenText count start words → AreTaken words × DrawsFile words
         × (drawn_count words ≡ count) × (drawn_start words ≡ start) × (asks_text words ≡ true) }
-    ensures read { (words : List (String Global)) → WritesReport words ⊎ WritesSteps words → ReadsFile words }
+    ensures read { (words : List (String Global)) → WritesReport words ⊎ WritesSteps words ⊎ WritesParts words
+        → ReadsFile words }
 {}
 
-/// No status above 7 comes. On all but 0 and 4 nothing is kept and nothing is written. A run that reads a file and
-/// ends with 0 has read it to its end.
+/// No status above 9 comes, and 8 and 9 only of `parts`. On all but 0 and 4 nothing is written, and on all but 0, 4, 8 and
+/// 9 nothing is kept. A run that reads a file and ends with 0, 8 or 9 has read it to its end.
 pub fn run_by_status()
-    ensures statuses { (r : ARun) → r.status ≤ 7 }
-    ensures none_kept { (r : ARun) → r.status ≢ 0 → r.status ≢ 4 → r.kept ≡ [] }
+    ensures statuses { (r : ARun) → r.status ≤ 9 }
+    ensures of_parts { (r : ARun) → 7 < r.status → WritesParts r.words }
+    ensures none_kept { (r : ARun) → r.status ≢ 0 → r.status ≢ 4 → r.status ≤ 7 → r.kept ≡ [] }
     ensures nothing { (r : ARun) → r.status ≢ 0 → r.status ≢ 4 → Keeps r.held r.holds }
-    ensures to_its_end { (r : ARun) → ReadsFile r.words → r.status ≡ 0 → IsAtEnd r.left_after }
+    ensures to_its_end { (r : ARun) → ReadsFile r.words → IsWhole r.status → IsAtEnd r.left_after }
 {}
 
 /// A run that reads a file: what its status tells of the bytes.
@@ -114,6 +141,28 @@ pub fn run_that_reads()
     ensures not_solid { (r : ARun) → ReadsFile r.words → (IsEarly r.status → ⊥) → r.status ≢ 7
         → IfSome r.left (λ bytes. (file : Content) → IsFile line_limit bytes file
         → (r.status ≡ 6 ↔ (is_solid file.points ≡ false))) }
+{}
+
+/// A run that is to tell of solid parts. Of the points that its history leaves, status 9 comes exactly where there is no
+/// alpha with so few parts, and 8 exactly where there is an alpha and no part of the index. On 0 the whole text is
+/// written, and on 4 a front of it.
+pub fn run_that_parts()
+    ensures no_alpha { (r : ARun) → WritesParts r.words → HasText r.status
+        → IfSome r.left (λ bytes. r.status ≡ 9 ↔ HasNoAlpha (replay r.kept) (asked_most r.words)) }
+    ensures no_part { (r : ARun) (i : ℕ) → WritesParts r.words → HasText r.status → asked_index r.words ≡ Some i
+        → IfSome r.left (λ bytes. r.status ≡ 8
+        ↔ HasNoPart (replay r.kept) (asked_alpha r.words) (asked_most r.words) i) }
+    ensures no_index { (r : ARun) → WritesParts r.words → HasText r.status → asked_index r.words ≡ None
+        → IfSome r.left (λ bytes. r.status ≢ 8) }
+    ensures written { (r : ARun) → WritesParts r.words → r.status ≡ 0
+        → IfSome r.left (λ bytes. (text : List ℕ) × IsParted (replay r.kept) (asked_alpha r.words)
+        (asked_most r.words) (asked_index r.words) 0 text × Appends r.held r.holds text) }
+    ensures front { (r : ARun) → WritesParts r.words → r.status ≡ 4
+        → IfSome r.left (λ bytes. (text : List ℕ) × IsParted (replay r.kept) (asked_alpha r.words)
+        (asked_most r.words) (asked_index r.words) 0 text × AppendsFront r.held r.holds text) }
+    ensures complete { (r : ARun) → AreTaken r.words → WritesParts r.words
+        → IfSome r.left (λ bytes. IsSolidFile bytes → (Rose r.read_faults r.read_faults_after → ⊥)
+        → (Rose r.write_faults r.write_faults_after → ⊥) → IsWhole r.status ⊎ (r.status ≡ 1)) }
 {}
 
 /// A run that is to draw a file: what is written goes by the words alone, and it is written unless memory is wanting or

@@ -1,9 +1,9 @@
-//! The program's top call: from the bytes of an edit file to the text of its mesh, of its shapes or of the least alphas
-//! of its faces, and from two numbers to the text of a drawn file or the summary of its mesh.
+//! The program's top call: from the bytes of an edit file to the text of its mesh, of its shapes, of the least alphas
+//! of its faces or of its solid parts, and from two numbers to the text of a drawn file or the summary of its mesh.
 //!
 //! ```
 //! let run = run(&rt, alloc, &words, &mut input, &mut output, &mut error, &OpenGate);
-//! ExitCode::from(run.status)  // `run.kept` is the history, on 0 and 4
+//! ExitCode::from(run.status)  // `run.kept` is the history, on 0, 4, 8 and 9
 //! ```
 #![tactic(auto)]
 
@@ -15,6 +15,7 @@ mod mesh;
 mod mesh_of_lines;
 mod mesh_of_source;
 mod outcome;
+mod parted;
 mod parts;
 mod replies;
 mod reported;

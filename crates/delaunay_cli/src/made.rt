@@ -1,6 +1,6 @@
 //! What a command makes, before anything is written.
 
-ghost use Rattle.std.specs.Prelude.{◌≤◌, IfErr, OnOk};
+ghost use Rattle.std.specs.Prelude.{◌≡◌, ◌≤◌, ◌↔◌, [], IfErr, IsTrue, OnOk};
 ghost use Rattle.std.specs.Io.KnownBytes.{Appends};
 ghost use Rattle.byte_ends.specs.Ends.{Rose};
 ghost use Rattle.delaunay_cli.specs.Ends.{IsUnput};
@@ -45,6 +45,18 @@ pub enum Page {
     Text(Vec<u8>),
     /// The report that these are the parts of, in this form.
     Report(Form, Parts),
+}
+
+impl Page {
+    /// Whether it has no bytes.
+    pub fn is_empty(&self) -> bool
+        ensures { IsTrue result ↔ (text_of_page self.now ≡ []) }
+    {
+        match self {
+            Page::Text(text) => text.is_empty(),
+            Page::Report(..) => false,
+        }
+    }
 }
 
 /// What a command makes.

@@ -7,6 +7,6 @@ use edit_history::Entry;
 pub struct Run {
     /// 0 where the whole text was written; docs/FORMATS.md has a table of all.
     pub status: u8,
-    /// The history of the run on 0 and 4, and else empty.
+    /// The history of the run on 0, 4, 8 and 9, and else empty.
     pub kept: Vec<Entry>,
 }

@@ -1,6 +1,6 @@
 //! What a run is asked to do.
 
-ghost use Rattle.std.specs.Prelude.{◌<◌, ◌≤◌};
+ghost use Rattle.std.specs.Prelude.{◌<◌, ◌≤◌, ◌^◌};
 ghost use Rattle.edit_files.specs.Generator.{most_edits, state_count};
 
 use cell_store::Grid;
@@ -38,6 +38,18 @@ pub struct Drawn {
     pub ghost small: { start < state_count },
 }
 
+/// What parts of a mesh are wanted.
+#[derive(Clone, Copy)]
+pub struct Wanted {
+    /// The alpha at which they are taken, a squared radius in sixteenths, below 2^34.
+    pub alpha: u64,
+    /// Where it is above 0, they are taken at the least alpha at which there are at most so many.
+    pub most: u32,
+    /// The index of the part whose boundary alone is to be written.
+    pub off: Option<u32>,
+    pub ghost small: { alpha < 2 ^ 34 },
+}
+
 /// What the words of a run ask for.
 #[derive(Clone, Copy)]
 pub enum Task {
@@ -45,6 +57,8 @@ pub enum Task {
     Report(Making, Asked),
     /// The least alphas of a file that is read.
     Step(Making),
+    /// The solid parts of a file that is read.
+    Part(Making, Wanted),
     /// A file that is drawn.
     Draw(Making, Drawn),
 }

@@ -11,13 +11,14 @@ ghost use Rattle.plain_laws.specs.Plain.{IsAnchored};
 ghost use Rattle.delaunay_cli.specs.Ends.{Ends};
 ghost use Rattle.delaunay_cli.specs.PlainText.{plain_text};
 ghost use Rattle.delaunay_cli.specs.Run.{IsSolidFile, Writes, WritesFront, history_of};
-ghost use Rattle.delaunay_cli.specs.Statuses.{Tells};
+ghost use Rattle.delaunay_cli.specs.Statuses.{HasText, Tells};
 ghost use Rattle.delaunay_cli.specs.Stops.{line_of_end};
 ghost use Rattle.delaunay_cli.specs.Words.{
   AreTaken,
   DrawsFile,
   ReadsFile,
   WritesReport,
+  WritesSteps,
   asks_order,
   asks_shape,
   worker_count,
@@ -34,12 +35,13 @@ use std::thread::Threads;
 /// Does what the words ask for, and tells in one line on `err` what went wrong.
 ///
 /// `rt` is the runtime, and `words` are those of the command line: the program's name, and what `clap` takes for the
-/// four commands. `mesh` and `shape`, each with `--order`, read an edit file from `src` and write the report of its
+/// five commands. `mesh` and `shape`, each with `--order`, read an edit file from `src` and write the report of its
 /// mesh to `out`; with `shape` the report has a block for each radius of the file, in its order. `steps` reads one too,
-/// and writes the least alpha, in sixteenths of a squared distance, of each face of its mesh. `gen`, with `--count`,
-/// `--start` and `--text`, reads nothing: it draws an edit file, and writes the summary of its mesh or the file's text.
-/// Each takes `--workers`, 1 to 64, and `--grid`, 1, 2, 4, 8 or 16: so many workers make the edits side by side, over
-/// buckets of this grid. `gate` is told of the moments of their edits.
+/// and writes the least alpha, in sixteenths of a squared distance, of each face of its mesh. `parts`, with `--alpha`,
+/// `--most` and `--off`, reads one and writes its solid parts, or the boundary of one. `gen`, with `--count`, `--start`
+/// and `--text`, reads nothing: it draws an edit file, and writes the summary of its mesh or the file's text. Each takes
+/// `--workers`, 1 to 64, and `--grid`, 1, 2, 4, 8 or 16: so many workers make the edits side by side, over buckets of
+/// this grid. `gate` is told of the moments of their edits.
 ///
 /// The clauses by name are those of the files that are read and of their reports. `Ends` in specs/ says how each run
 /// ends; what a command promises is its line of `Promise`, the field `promise`. Which words are taken, and what else
@@ -61,10 +63,10 @@ pub fn run<R: Threads + Sync, S: Source, O: Sink, E: Sink, G: Gate + Sync>(
 
     // What is kept where a file is read, and written where that is its report.
     ensures legal { IsLegal result.kept.items }
-    ensures kept { ReadsFile words.now → (result.status ≡ 0) ⊎ (result.status ≡ 4)
+    ensures kept { ReadsFile words.now → HasText result.status
         → IfSome (S.left src.old) (λ bytes. (file : Content) → IsFile line_limit bytes file
         → FileKeeps file.points file.edits (worker_count words.now) result.kept.items) }
-    ensures one_thread { ReadsFile words.now → worker_count words.now ≡ 1 → (result.status ≡ 0) ⊎ (result.status ≡ 4)
+    ensures one_thread { ReadsFile words.now → worker_count words.now ≡ 1 → HasText result.status
         → IfSome (S.left src.old) (λ bytes. (file : Content) → IsFile line_limit bytes file
         → result.kept.items ≡ history_of file) }
     ensures written { WritesReport words.now → result.status ≡ 0
@@ -85,8 +87,9 @@ pub fn run<R: Threads + Sync, S: Source, O: Sink, E: Sink, G: Gate + Sync>(
         IsAnchored file.points file.edits
         → AppendsFront (O.holds out.old) (O.holds out.new) (plain_text (asks_shape words.now) file)) }
 
-    // A solid file within the limit is meshed, unless memory is wanting or the source or the output fails.
-    ensures complete { AreTaken words.now → ReadsFile words.now
+    // The whole text of a solid file within the limit is written, unless memory is wanting or the source or the output
+    // fails.
+    ensures complete { AreTaken words.now → WritesReport words.now ⊎ WritesSteps words.now
         → IfSome (S.left src.old) (λ bytes. IsSolidFile bytes
         → (Rose (S.faults src.old) (S.faults src.new) → ⊥) → (Rose (O.faults out.old) (O.faults out.new) → ⊥)
         → (result.status ≡ 0) ⊎ (result.status ≡ 1)) }

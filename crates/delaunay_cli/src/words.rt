@@ -1,6 +1,6 @@
 //! The words of the command line, read by `clap`.
 
-ghost use Rattle.std.specs.Prelude.{◌≡◌, ◌≤◌, IfOk, IfErr, IfSome, is_some, false, codes};
+ghost use Rattle.std.specs.Prelude.{◌≡◌, ◌≤◌, ◌<◌, ◌^◌, IfOk, IfErr, IfSome, is_some, false, codes};
 ghost use Rattle.clap.specs.Words.{App, Rule, found_of, rows_of, rule_of, subcommand_rows_of};
 ghost use Rattle.clap.specs.Words.{with_rule, with_subcommand};
 ghost use Rattle.cell_store.specs.Grids.{is_grid_size};
@@ -9,22 +9,29 @@ ghost use Rattle.delaunay_cli.specs.Words.{AreTaken, command_of, gen_command as 
 ghost use Rattle.delaunay_cli.specs.Stops.{AreRefused};
 ghost use Rattle.delaunay_cli.specs.Tasks.{IsMakingOf, IsTask, IsTaskOf};
 ghost use Rattle.delaunay_cli.specs.Words.{
+  alpha_option,
   flag_in as flag_in_of,
   flag_of,
+  given_in as given_in_of,
   grid_option,
+  index_option,
+  most_alpha,
   most_count,
   most_grid,
+  most_index,
+  most_option,
   most_start,
   meshing_command,
   number_option,
   number_between as number_between_of,
   number_in as number_in_of,
   number_of as number_of_it,
+  parts_command as parts_command_of,
   workers_option,
 };
 
 use crate::stop::Stop;
-use crate::task::{Asked, Drawn, Making, Task};
+use crate::task::{Asked, Drawn, Making, Task, Wanted};
 use cell_store::Grid;
 use clap::error::ErrorKind;
 use clap::{Arg, ArgAction, ArgMatches, Command};
@@ -100,6 +107,38 @@ fn start<'a>(alloc: Global) -> Arg<'a>
         .value_parser(clap::value_parser!(u32).range(0..=2_147_483_647))
 }
 
+// The option `--alpha`, a squared radius in sixteenths.
+fn alpha<'a>(alloc: Global) -> Arg<'a>
+    ensures rule { rule_of result ≡ alpha_option }
+    ensures local { result.global ≡ false }
+{
+    Arg::new(alloc, "alpha")
+        .long("alpha")
+        .default_value("0")
+        .value_parser(clap::value_parser!(u64).range(0..=17_179_869_183))
+}
+
+// The option `--most`, how many parts there may be.
+fn most_parts<'a>(alloc: Global) -> Arg<'a>
+    ensures rule { rule_of result ≡ most_option }
+    ensures local { result.global ≡ false }
+{
+    Arg::new(alloc, "most")
+        .long("most")
+        .default_value("0")
+        .value_parser(clap::value_parser!(u32).range(0..=16_777_216))
+}
+
+// The option `--off`, the index of a part.
+fn index<'a>(alloc: Global) -> Arg<'a>
+    ensures rule { rule_of result ≡ index_option }
+    ensures local { result.global ≡ false }
+{
+    Arg::new(alloc, "off")
+        .long("off")
+        .value_parser(clap::value_parser!(u32).range(0..=16_777_216))
+}
+
 // A flag of this name.
 fn flag<'a>(alloc: Global, name: &'a str) -> Arg<'a>
     ensures rule { rule_of result ≡ flag_of name.now }
@@ -114,6 +153,14 @@ fn gen_command<'a>(alloc: Global) -> Result<Command<'a>, AllocError>
 {
     let command = add(meshing(alloc, "gen"), count(alloc));
     add(add(command, start(alloc)), flag(alloc, "text"))
+}
+
+// The command `parts`.
+fn parts_command<'a>(alloc: Global) -> Result<Command<'a>, AllocError>
+    ensures { IsBuilt parts_command_of result }
+{
+    let command = add(meshing(alloc, "parts"), alpha(alloc));
+    add(add(command, most_parts(alloc)), index(alloc))
 }
 
 // A command line with one command more, where there is memory for both.
@@ -135,7 +182,8 @@ fn program<'a>(alloc: Global) -> Result<Command<'a>, AllocError>
     let program = with_command(program, command(alloc, "mesh"));
     let program = with_command(program, command(alloc, "shape"));
     let program = with_command(program, gen_command(alloc));
-    with_command(program, meshing(alloc, "steps"))
+    let program = with_command(program, meshing(alloc, "steps"));
+    with_command(program, parts_command(alloc))
 }
 
 // Whether a flag was given to the command.
@@ -149,20 +197,20 @@ fn flag_in(command: &ArgMatches, flag: &str) -> bool
 }
 
 // The number that a text names, if it names one from `least` to `most`, and else `least`.
-fn number_between(text: &str, least: u32, most: u32) -> u32
+fn number_between(text: &str, least: u64, most: u64) -> u64
     requires { least ≤ most }
     ensures value { result ≡ number_between_of least most text.now }
     ensures from { least ≤ result }
     ensures within { result ≤ most }
 {
-    match text.parse::<u32>() {
+    match text.parse::<u64>() {
         Ok(number) if least <= number && number <= most => number,
         _ => least,
     }
 }
 
 // The number that was given to an option of the command. `clap` takes none below `least` or above `most`.
-fn number_in(command: &ArgMatches, option: &str, least: u32, most: u32) -> u32
+fn number_in(command: &ArgMatches, option: &str, least: u64, most: u64) -> u64
     requires { least ≤ most }
     ensures value { result ≡ number_in_of option.now least most (rows_of (found_of command.now)) }
     ensures from { least ≤ result }
@@ -174,8 +222,19 @@ fn number_in(command: &ArgMatches, option: &str, least: u32, most: u32) -> u32
     }
 }
 
+// The number that was given to an option of the command, if one was.
+fn given_in(command: &ArgMatches, option: &str, most: u64) -> Option<u32>
+    requires { most < 2 ^ 32 }
+    ensures { result ≡ given_in_of option.now most (rows_of (found_of command.now)) }
+{
+    match command.get_str(option) {
+        Some(text) => Some(number_between(text, 0, most) as u32),
+        None => None,
+    }
+}
+
 // The number that was given to an option of the command that was met.
-fn number_of(matches: &ArgMatches, option: &str, least: u32, most: u32) -> u32
+fn number_of(matches: &ArgMatches, option: &str, least: u64, most: u64) -> u64
     requires { least ≤ most }
     ensures value { result ≡ number_of_it option.now least most (subcommand_rows_of matches.now) }
     ensures from { least ≤ result }
@@ -193,11 +252,24 @@ fn making_of(matches: &ArgMatches) -> Option<Making>
     ensures size { is_some result ≡ is_grid_size (number_of_it (codes "grid") 1 most_grid
         (subcommand_rows_of matches.now)) }
 {
-    let workers = number_of(matches, "workers", 1, 64);
-    let size = number_of(matches, "grid", 1, 16);
+    let workers = number_of(matches, "workers", 1, 64) as u32;
+    let size = number_of(matches, "grid", 1, 16) as u32;
     match Grid::new(size) {
         Ok(grid) => Some(Making { workers, grid }),
         Err(_) => None,
+    }
+}
+
+// What parts the command asks for.
+fn wanted_in(command: &ArgMatches) -> Wanted
+    ensures alpha { result.alpha ≡ number_in_of (codes "alpha") 0 most_alpha (rows_of (found_of command.now)) }
+    ensures most { result.most ≡ number_in_of (codes "most") 0 most_index (rows_of (found_of command.now)) }
+    ensures off { result.off ≡ given_in_of (codes "off") most_index (rows_of (found_of command.now)) }
+{
+    Wanted {
+        alpha: number_in(command, "alpha", 0, 17_179_869_183),
+        most: number_in(command, "most", 0, 16_777_216) as u32,
+        off: given_in(command, "off", 16_777_216),
     }
 }
 
@@ -210,13 +282,15 @@ fn task_of(matches: &ArgMatches, making: Making) -> Task
         Some((name, command)) => {
             if name == "gen" {
                 let drawn = Drawn {
-                    count: number_in(command, "count", 0, 262_140),
-                    start: number_in(command, "start", 0, 2_147_483_647),
+                    count: number_in(command, "count", 0, 262_140) as u32,
+                    start: number_in(command, "start", 0, 2_147_483_647) as u32,
                     text: flag_in(command, "text"),
                 };
                 Task::Draw(making, drawn)
             } else if name == "steps" {
                 Task::Step(making)
+            } else if name == "parts" {
+                Task::Part(making, wanted_in(command))
             } else {
                 let asked = Asked {
                     shape: name == "shape",

@@ -14,6 +14,7 @@ ghost use Rattle.delaunay_cli.specs.Words.{DrawsFile, ReadsFile};
 use crate::drawn::draw;
 use crate::made::{Made, put_page};
 use crate::outcome::Run;
+use crate::parted::part;
 use crate::reported::report;
 use crate::stepped::step;
 use crate::stop::Stop;
@@ -55,6 +56,7 @@ fn make<R: Threads + Sync, S: Source, G: Gate + Sync>(
     match read_words(alloc, words)? {
         Task::Report(making, asked) => report(rt, alloc, making, asked, src, gate),
         Task::Step(making) => step(rt, alloc, making, src, gate),
+        Task::Part(making, wanted) => part(rt, alloc, making, wanted, src, gate),
         Task::Draw(making, drawn) => draw(rt, alloc, making, drawn, gate),
     }
 }
@@ -75,7 +77,7 @@ fn close(stop: Option<Stop>, kept: Vec<Entry>) -> Ended
     }
 }
 
-// Writes what was made, and ends the run.
+// Writes what was made, and ends the run. Of a page without bytes nothing is written, so that no write can fail.
 fn end<R: Threads + Sync, O: Sink>(
     rt: &R,
     alloc: Global,
@@ -92,11 +94,16 @@ fn end<R: Threads + Sync, O: Sink>(
     ensures later { O.faults out.old ≤ O.faults out.new }
 {
     match made {
-        Ok(Made { kept, page, after }) => match put_page(rt, alloc, page, out) {
-            Ok(()) => close(after, kept),
-            Err(Stop::WriteFault) => close(Some(Stop::WriteFault), kept),
-            Err(stop) => close(Some(stop), Vec::new(alloc)),
-        },
+        Ok(Made { kept, page, after }) => {
+            if page.is_empty() {
+                return close(after, kept);
+            }
+            match put_page(rt, alloc, page, out) {
+                Ok(()) => close(after, kept),
+                Err(Stop::WriteFault) => close(Some(Stop::WriteFault), kept),
+                Err(stop) => close(Some(stop), Vec::new(alloc)),
+            }
+        }
         Err(stop) => close(Some(stop), Vec::new(alloc)),
     }
 }

@@ -10,3 +10,4 @@ pub mod Few
 pub mod Counting
 pub mod Outer
 pub mod Even
+pub mod Cited

@@ -7,7 +7,7 @@ use Rattle.delaunay_cli.specs.PlainText.{plain_text}
 use Rattle.delaunay_cli.specs.Run.{history_of}
 use Rattle.delaunay_cli.specs.Stops.{line_of_end}
 use Rattle.delaunay_cli.specs.Words.{asks_shape, worker_count}
-use Rattle.delaunay_cli.proofs.Promised.{anchored_text, completes, of_file, of_kept, written, written_front}
+use Rattle.delaunay_cli.proofs.Promised.{anchored_text, completes_plainly, of_file, of_kept, written, written_front}
 use Rattle.delaunay_cli.proofs.top.run.Goals as goal
 
 pub returns-clause-ends : goal.returns-clause-ends
@@ -58,7 +58,7 @@ returns-clause-plain_front g c =
     (λ file k t a. subst appends (anchored_text e file k t o a) (e.front s)) w (inr s)
 
 pub returns-clause-complete : goal.returns-clause-complete
-returns-clause-complete g c = completes c.work-ended.ensures.ends
+returns-clause-complete g c = completes_plainly c.work-ended.ensures.ends
 
 pub returns-clause-source : goal.returns-clause-source
 returns-clause-source g c = c.work-ended.ensures.source

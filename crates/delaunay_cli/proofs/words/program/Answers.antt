@@ -10,4 +10,5 @@ returns c =
     let meshed = c.with_command-program.ensures _ _ begun c.command.ensures in
     let shaped = c.with_command-program-2.ensures _ _ meshed c.command-2.ensures in
     let drawn = c.with_command-program-3.ensures _ _ shaped c.gen_command.ensures in
-    c.with_command.ensures _ _ drawn c.meshing.ensures
+    let stepped = c.with_command-program-4.ensures _ _ drawn c.meshing.ensures in
+    c.with_command.ensures _ _ stepped c.parts_command.ensures

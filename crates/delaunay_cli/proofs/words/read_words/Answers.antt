@@ -2,7 +2,7 @@ use Rattle.std.proofs.Common.{inl, inr, refl, ◌∙◌, sym, ap}
 use Rattle.std.specs.Prelude.{Option, is_some}
 use Rattle.clap.specs.Words.{app_of, kind_of, subcommand_rows_of}
 use Rattle.delaunay_cli.specs.declared.task.Making.{Making}
-use Rattle.delaunay_cli.proofs.CommandLine.{grid_refused, refused, taken}
+use Rattle.delaunay_cli.proofs.CommandLine.{grid_refused, refused, taken, task_is}
 use Rattle.delaunay_cli.proofs.words.read_words.Goals as goal
 use Rattle.delaunay_cli.proofs.words.read_words.Goals.{in-OutOfMemory, in_default-kind}
 
@@ -18,6 +18,11 @@ pub returns-in-Some-clause-taken : goal.returns-in-Some-clause-taken
 returns-in-Some-clause-taken c =
     taken (app_of c.in_ok-program.program) c.args.words.now (subcommand_rows_of c.in-Ok.matches) c.in_ok-program.ensures c.in-Ok.ensures.kinds
     (λ s. (c.in-Ok.ensures.matches s).1) (sym c.making_of.ensures.size ∙ ap (λ (o : Option Making). is_some o) c.in-Some.is)
+
+pub returns-in-Some-clause-task : goal.returns-in-Some-clause-task
+returns-in-Some-clause-task c =
+    task_is (app_of c.in_ok-program.program) c.args.words.now (subcommand_rows_of c.in-Ok.matches) c.task_of.result
+    c.in_ok-program.ensures c.task_of.ensures (λ s. (c.in-Ok.ensures.matches s).1)
 
 pub returns-after-kind-clause-refused : goal.returns-after-kind-clause-refused
 returns-after-kind-clause-refused c =

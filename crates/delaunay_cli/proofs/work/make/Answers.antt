@@ -4,8 +4,16 @@ use Rattle.byte_ends.specs.Ends.{Rose}
 use Rattle.delaunay_cli.specs.declared.task.Task.{Task}
 use Rattle.delaunay_cli.specs.Tasks.{IsTask}
 use Rattle.delaunay_cli.specs.Words.{asks_drawn}
-use Rattle.delaunay_cli.proofs.CommandLine.{draws_file, reads_file, steps_file}
-use Rattle.delaunay_cli.proofs.Ended.{drawn_made, reported_made, reported_unmade, stepped_made, stepped_unmade}
+use Rattle.delaunay_cli.proofs.CommandLine.{draws_file, parts_file, reads_file, steps_file}
+use Rattle.delaunay_cli.proofs.Ended.{
+  drawn_made,
+  parted_made,
+  parted_unmade,
+  reported_made,
+  reported_unmade,
+  stepped_made,
+  stepped_unmade,
+}
 use Rattle.delaunay_cli.proofs.work.make.Goals as goal
 
 pub returns-in-Report-clause-made : goal.returns-in-Report-clause-made
@@ -53,6 +61,29 @@ returns-in-Step-clause-source g c =
     let words = c.args.words.now in
     λ d. absurd (both_ways (asks_drawn words) (steps_file words c.in-Step.making
     (subst (λ (t : Task). IsTask words t) c.in-Step.is c.in_ok-making.ensures.task)).0 d)
+
+pub returns-in-Part-clause-made : goal.returns-in-Part-clause-made
+returns-in-Part-clause-made g c =
+    let read = c.in_ok-making.ensures in
+    let words = c.args.words.now in
+    parted_made words (g.S.Source.left c.args.src.now) (Rose (g.S.Source.faults c.args.src.now)
+    (g.S.Source.faults c.part.new.src)) c.in-Part.making read.taken c.in-Part.wanted
+    (subst (λ (t : Task). IsTask words t) c.in-Part.is read.task) c.part.result c.part.ensures.made
+    c.part.ensures.told
+
+pub returns-in-Part-clause-stop : goal.returns-in-Part-clause-stop
+returns-in-Part-clause-stop g c =
+    let read = c.in_ok-making.ensures in
+    let words = c.args.words.now in
+    parted_unmade words (g.S.Source.left c.args.src.now) (Rose (g.S.Source.faults c.args.src.now)
+    (g.S.Source.faults c.part.new.src)) c.in-Part.making read.taken c.in-Part.wanted
+    (subst (λ (t : Task). IsTask words t) c.in-Part.is read.task) c.part.result c.part.ensures.stop
+
+pub returns-in-Part-clause-source : goal.returns-in-Part-clause-source
+returns-in-Part-clause-source g c =
+    let words = c.args.words.now in
+    λ d. absurd (both_ways (asks_drawn words) (parts_file words c.in-Part.making c.in-Part.wanted
+    (subst (λ (t : Task). IsTask words t) c.in-Part.is c.in_ok-making.ensures.task)).0 d)
 
 pub returns-in-Draw-clause-made : goal.returns-in-Draw-clause-made
 returns-in-Draw-clause-made g c =
