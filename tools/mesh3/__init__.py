@@ -199,8 +199,50 @@ class Report:
         raise Trouble(f'the report has no shape for {radius}')
 
 
+class Surface:
+    """What `delaunay parts --off` writes: all points, and the triangles that bound a part, turned outwards."""
+
+    def __init__(self, points, triangles):
+        self.points = points
+        self.triangles = triangles
+
+
+def is_surface(lines):
+    return lines.data.startswith(b'OFF\n')
+
+
+def surface_of(lines):
+    if lines.line() != b'OFF':
+        raise lines.fault(1, "'OFF' was expected: is this what `delaunay parts --off` wrote?")
+    counts = re.fullmatch(rb'([0-9]{1,6}) ([0-9]{1,7}) 0', lines.line())
+    if not counts:
+        raise lines.fault(2, "'POINTS TRIANGLES 0' was expected")
+    points = lines.numbers(int(counts.group(1)), 3, GREATEST + 1)
+    first = lines.next
+    rows = lines.numbers(int(counts.group(2)), 4, max(len(points), 4))
+    wrong = np.flatnonzero((rows[:, 0] != 3) | (rows[:, 1:] >= len(points)).any(axis=1))
+    if len(wrong):
+        raise lines.fault(first + int(wrong[0]) + 1, "'3 I J K' was expected, with the indices of three points")
+    if lines.next != len(lines.ends):
+        raise lines.fault(lines.next + 1, 'nothing was expected behind the triangles')
+    return Surface(points, rows[:, 1:])
+
+
+def read_surface(name):
+    return surface_of(Lines(read_bytes(name), name))
+
+
 def read_report(name):
+    return report_of(Lines(read_bytes(name), name))
+
+
+def read_drawable(name):
+    """A report, or a surface where the text is OFF."""
     lines = Lines(read_bytes(name), name)
+    return surface_of(lines) if is_surface(lines) else report_of(lines)
+
+
+def report_of(lines):
     if lines.line() != b'mesh3-out 1':
         raise lines.fault(1, "'mesh3-out 1' was expected: is this a report?")
     replies = lines.words(lines.count(b'replies'), REPLIES)

@@ -29,7 +29,8 @@ pub record IsMakingOf (met : Option (Text × List Row)) (making : Making) : Type
 abbrev pub IsTaskOf : Option (Text × List Row) → Task → Type 0
 IsTaskOf met (Report making asked) =
     IsMakingOf met making × (is_command (codes "gen") met ≡ false) × (is_command (codes "steps") met ≡ false)
-    × (is_command (codes "parts") met ≡ false) × (asked.shape ≡ is_command (codes "shape") met) × (asked.order ≡ has_flag (codes "order") met)
+    × (is_command (codes "parts") met ≡ false) × (asked.shape ≡ is_command (codes "shape") met)
+    × (asked.order ≡ has_flag (codes "order") met)
 IsTaskOf met (Step making) =
     IsMakingOf met making × (is_command (codes "gen") met ≡ false) × (is_command (codes "steps") met ≡ true)
 IsTaskOf met (Part making wanted) =
