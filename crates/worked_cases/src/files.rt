@@ -6,7 +6,7 @@ use edit_files::{File, ReadRefused, file_text, generate, read_file};
 use std::alloc::Global;
 
 // Puts a part of a case behind others, but for the blank at its front, its bars and tildes turned.
-fn put_part(file: &mut Answer, lists: &str, place: usize) {
+pub(crate) fn put_part(file: &mut Answer, lists: &str, place: usize) {
     let part = lists.split(';').nth(place).unwrap_or("");
     for letter in part.strip_prefix(' ').unwrap_or(part).chars() {
         file.put(match letter {

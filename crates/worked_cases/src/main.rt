@@ -23,6 +23,7 @@
 //! - `pipe TEXT`: the text through a pipe, and what becomes of it where nobody reads.
 //! - `streams TEXT`: the text to standard error and standard output, and a read of no byte from standard input.
 //! - `report REPLIES; TAGS; POINTS; ROOM STEP FAILS`: the report's summary and text, and how its writing ends.
+//! - `check TEXT`: the lists of the mesh that the text is of, and the verdict on them; or the text's fault.
 //! - `file TIMES; FRONT; MIDDLE; END`: the lines of the file that the text is, the middle standing there so many times,
 //!   and the file's own text; or the text's fault.
 //! - `draw COUNT; START`: the text of the file that is drawn from the two numbers.
@@ -44,6 +45,7 @@
 
 mod buckets;
 mod cells;
+mod checks;
 mod ends;
 mod entering;
 mod faces;
@@ -87,6 +89,7 @@ fn put_case<R: Threads + Sync>(
         "calls" => ends::calls(answer, lists),
         "write" => ends::write(alloc, answer, lists),
         "report" => reports::put(alloc, answer, lists),
+        "check" => checks::judge(alloc, answer, lists),
         "file" => files::read(alloc, answer, lists),
         "draw" => files::drawn(alloc, answer, lists),
         "grid" => buckets::numbers(answer, lists),

@@ -1,0 +1,92 @@
+//! Texts of meshes, and whether their lists are the complex of their points. In a case a bar stands for a line feed, and
+//! a tilde for a carriage return.
+
+ghost use Rattle.mesh_reader.specs.Grammar.{parts};
+ghost use Rattle.mesh_reader.specs.Order.{IsInOrder};
+
+use crate::files::put_part;
+use crate::telling::{Answer, put_places, put_point};
+use edit_files::ReadRefused;
+use mesh_check::{Flaw, Verdict, check};
+use mesh_reader::{MeshFile, read_mesh};
+use point_order::Point;
+use std::alloc::{AllocError, Global};
+
+// What is wrong, with the places of the points among all.
+fn put_flaw(answer: &mut Answer, points: &[Point], flaw: &Flaw) {
+    match flaw {
+        Flaw::Empty => answer.put(" bad empty"),
+        Flaw::FlatCell(cell) => {
+            answer.put(" bad flat");
+            put_places(answer, points, cell.points());
+        }
+        Flaw::Sides { tri, e, f } => {
+            answer.put(" bad sides");
+            put_places(answer, points, tri.points());
+            put_places(answer, points, &[*e, *f]);
+        }
+        Flaw::Inside { cell, point } => {
+            answer.put(" bad inside");
+            put_places(answer, points, cell.points());
+            put_places(answer, points, &[*point]);
+        }
+        Flaw::OpenFacet(facet) => {
+            answer.put(" bad facet");
+            put_places(answer, points, facet.points());
+        }
+    }
+}
+
+// What a check of the lists comes to.
+fn judged(alloc: Global, mesh: &MeshFile) -> Result<Verdict, AllocError>
+    requires { IsInOrder (parts mesh.now) }
+{
+    check(alloc, &mesh.points, &mesh.cells, &mesh.hull)
+}
+
+// The same, put down.
+fn put_judged(alloc: Global, answer: &mut Answer, mesh: &MeshFile)
+    requires { IsInOrder (parts mesh.now) }
+{
+    match judged(alloc, mesh) {
+        Ok(Verdict::Good) => answer.put(" good"),
+        Ok(Verdict::Bad(flaw)) => put_flaw(answer, &mesh.points, &flaw),
+        Err(_) => answer.fail(),
+    }
+}
+
+// The lists of a mesh, and what a check of them comes to.
+fn put_mesh(alloc: Global, answer: &mut Answer, mesh: &MeshFile)
+    requires { IsInOrder (parts mesh.now) }
+{
+    for reply in &mesh.replies {
+        write!(answer, " {reply:?}");
+    }
+    answer.put("; points");
+    for p in &mesh.points {
+        put_point(answer, *p);
+    }
+    answer.put("; cells");
+    for quad in &mesh.cells {
+        put_places(answer, &mesh.points, quad.points());
+    }
+    answer.put("; hull");
+    for tri in &mesh.hull {
+        put_places(answer, &mesh.points, tri.points());
+    }
+    answer.put(";");
+    put_judged(alloc, answer, mesh);
+}
+
+/// Answers a case of a mesh's text: its lists and the verdict on them, or the text's fault.
+pub(crate) fn judge(alloc: Global, answer: &mut Answer, lists: &str) -> Option<()> {
+    let mut text = Answer::new(alloc);
+    put_part(&mut text, lists, 0);
+    let text = answer.got(text.whole())?;
+    match read_mesh(alloc, text.as_bytes()) {
+        Ok(mesh) => put_mesh(alloc, answer, &mesh),
+        Err(ReadRefused::Bad(fault)) => write!(answer, "line {}: {:?}", fault.line, fault.why),
+        Err(ReadRefused::Memory) => answer.fail(),
+    }
+    Some(())
+}
