@@ -1,5 +1,5 @@
-//! Texts of meshes, and whether their lists are the complex of their points. In a case a bar stands for a line feed, and
-//! a tilde for a carriage return.
+//! Texts of meshes, and whether their lists are the complex of their points. In a case a bar stands for a line feed,
+//! and a tilde for a carriage return.
 
 ghost use Rattle.mesh_reader.specs.Grammar.{parts};
 ghost use Rattle.mesh_reader.specs.Order.{IsInOrder};
