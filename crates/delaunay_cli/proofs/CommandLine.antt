@@ -321,7 +321,8 @@ pub steps_file : (words : List (String Global)) (making : Making) → IsTask wor
 unfolding asks_drawn asks_steps worker_count
 steps_file words making k = (k.1, k.2, k.0.workers)
 
-pub parts_file : (words : List (String Global)) (making : Making) (wanted : Wanted) → IsTask words (Part making wanted) →
+pub parts_file : (words : List (String Global)) (making : Making) (wanted : Wanted) →
+    IsTask words (Part making wanted) →
     ReadsFile words × (asks_steps words ≡ false) × (asks_parts words ≡ true) × (wanted.alpha ≡ asked_alpha words) ×
     (wanted.most ≡ asked_most words) × (wanted.off ≡ asked_index words) × (making.workers ≡ worker_count words)
 unfolding asks_drawn asks_steps asks_parts asked_alpha asked_most asked_index worker_count

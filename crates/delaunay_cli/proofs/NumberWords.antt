@@ -25,7 +25,7 @@ use Rattle.std.proofs.Common.{
   drop,
   ne_eqb,
 }
-use Rattle.std.specs.Prelude.{ℤ, pos, neg_ℤ, ◌≤ℤ◌, FitsSigned, Option, Some, decimal, String}
+use Rattle.std.specs.Prelude.{ℤ, pos, neg_ℤ, ◌≤ℤ◌, FitsSigned, Some, decimal, String}
 use Rattle.std.specs.declared.alloc.Global.{Global}
 use Rattle.std.specs.Int.{w64}
 use Rattle.std.specs.Char.{digit_value}
@@ -239,8 +239,8 @@ parts_texts : Text → Text → Text → Text → List Text
 parts_texts name alpha most index = name ∷ codes "parts" ∷ (codes "--alpha=" ++ alpha) ∷ (codes "--most=" ++ most) ∷
     (codes "--off=" ++ index) ∷ []
 
--- what the words are found to be: with no fault, one worker, a grid of 4, the command `parts`, its alpha, its most parts
--- and its index
+-- what the words are found to be: with no fault, one worker, a grid of 4, the command `parts`, its alpha, its most
+-- parts and its index
 abbrev AreFoundParts : List Text → Text → Text → Text → Type 0
 AreFoundParts words a m i =
     (is_unsigned_in 0 most_alpha a ≡ true → is_signed_in (pos 0) (pos most_index) m ≡ true →

@@ -140,7 +140,8 @@ nine_is s alpha most index status text p = by p.at p.asked p.told
     by : (at : Option ℕ) → IsAsked s alpha most at → TellsAt s at index status text → (status ≡ 9) ↔ HasNoAlpha s most
     by None a t = (λ e. asked_none s alpha most a, λ n. t.0)
     by (Some at) a t = (
-      λ e. absurd (elim (told_at s at index status text t) [ inl z ↦ omega (arith, z, e) | inr z ↦ omega (arith, z, e) ]),
+      λ e. absurd (elim (told_at s at index status text t)
+          [ inl z ↦ omega (arith, z, e) | inr z ↦ omega (arith, z, e) ]),
       λ n. absurd (not_some at (Some at) (one_alpha s alpha most (Some at) None a (none_asked s alpha most n)) refl),
     )
 

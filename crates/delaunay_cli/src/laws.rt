@@ -71,10 +71,10 @@ ghost use Rattle.delaunay_cli.specs.Words.{
 
 /// The words `mesh` and `shape` alone are taken, and ask for no order block; with `--order` they ask for it. Both write
 /// the report of a file, by one worker over a grid of 4, as `steps` writes its least alphas and `parts` its parts at
-/// alpha 0. So are `mesh`, `shape`, `steps` and `parts` with `--workers=N` and `--grid=M`, for every count of workers and
-/// every size of a grid, and `parts` with `--alpha=A`, `--most=K` and `--off=I` for every A, K and I of their ranges. The
-/// words `gen`, `--count=N` and `--start=M` are taken for every count and start, and with `--text` ask for the file's
-/// text.
+/// alpha 0. So are `mesh`, `shape`, `steps` and `parts` with `--workers=N` and `--grid=M`, for every count of workers
+/// and every size of a grid, and `parts` with `--alpha=A`, `--most=K` and `--off=I` for every A, K and I of their
+/// ranges. The words `gen`, `--count=N` and `--start=M` are taken for every count and start, and with `--text` ask for
+/// the file's text.
 pub fn words_are_taken()
     ensures mesh { (words : List (String Global)) → AreMesh words → AreTaken words × (asks_shape words ≡ false)
         × (asks_order words ≡ false) }
@@ -122,8 +122,8 @@ pub fn words_are_taken()
         → ReadsFile words }
 {}
 
-/// No status above 9 comes, and 8 and 9 only of `parts`. On all but 0 and 4 nothing is written, and on all but 0, 4, 8 and
-/// 9 nothing is kept. A run that reads a file and ends with 0, 8 or 9 has read it to its end.
+/// No status above 9 comes, and 8 and 9 only of `parts`. On all but 0 and 4 nothing is written, and on all but 0, 4, 8
+/// and 9 nothing is kept. A run that reads a file and ends with 0, 8 or 9 has read it to its end.
 pub fn run_by_status()
     ensures statuses { (r : ARun) → r.status ≤ 9 }
     ensures of_parts { (r : ARun) → 7 < r.status → WritesParts r.words }
@@ -143,8 +143,8 @@ pub fn run_that_reads()
         → (r.status ≡ 6 ↔ (is_solid file.points ≡ false))) }
 {}
 
-/// A run that is to tell of solid parts. Of the points that its history leaves, status 9 comes exactly where there is no
-/// alpha with so few parts, and 8 exactly where there is an alpha and no part of the index. On 0 the whole text is
+/// A run that is to tell of solid parts. Of the points that its history leaves, status 9 comes exactly where there is
+/// no alpha with so few parts, and 8 exactly where there is an alpha and no part of the index. On 0 the whole text is
 /// written, and on 4 a front of it.
 pub fn run_that_parts()
     ensures no_alpha { (r : ARun) → WritesParts r.words → HasText r.status

@@ -122,8 +122,8 @@ fn parted<R: Threads + Sync>(
     told_of(alloc, points, alpha, &parts, wanted.off)
 }
 
-/// Reads a file from the source, and tells of the solid parts of its mesh. Where there is no alpha with so few parts, or
-/// no part of the index, the text is empty and the run ends with that.
+/// Reads a file from the source, and tells of the solid parts of its mesh. Where there is no alpha with so few parts,
+/// or no part of the index, the text is empty and the run ends with that.
 ///
 /// # Errors
 ///

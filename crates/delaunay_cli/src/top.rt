@@ -39,9 +39,9 @@ use std::thread::Threads;
 /// mesh to `out`; with `shape` the report has a block for each radius of the file, in its order. `steps` reads one too,
 /// and writes the least alpha, in sixteenths of a squared distance, of each face of its mesh. `parts`, with `--alpha`,
 /// `--most` and `--off`, reads one and writes its solid parts, or the boundary of one. `gen`, with `--count`, `--start`
-/// and `--text`, reads nothing: it draws an edit file, and writes the summary of its mesh or the file's text. Each takes
-/// `--workers`, 1 to 64, and `--grid`, 1, 2, 4, 8 or 16: so many workers make the edits side by side, over buckets of
-/// this grid. `gate` is told of the moments of their edits.
+/// and `--text`, reads nothing: it draws an edit file, and writes the summary of its mesh or the file's text. Each
+/// takes `--workers`, 1 to 64, and `--grid`, 1, 2, 4, 8 or 16: so many workers make the edits side by side, over
+/// buckets of this grid. `gate` is told of the moments of their edits.
 ///
 /// The clauses by name are those of the files that are read and of their reports. `Ends` in specs/ says how each run
 /// ends; what a command promises is its line of `Promise`, the field `promise`. Which words are taken, and what else

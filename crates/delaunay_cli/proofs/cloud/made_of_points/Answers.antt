@@ -1,4 +1,4 @@
-use Rattle.std.proofs.Common.{◌≡◌, ◌∙◌, [], sym, ap, subst, List, ℕ}
+use Rattle.std.proofs.Common.{◌∙◌, [], sym, ap, subst, List, ℕ}
 use Rattle.point_order.specs.Complex.{complex}
 use Rattle.point_order.specs.Sets.{IsAscending, ascending}
 use Rattle.point_order.specs.Solid.{is_solid}

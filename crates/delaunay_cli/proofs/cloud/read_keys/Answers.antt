@@ -1,4 +1,3 @@
-use Rattle.std.proofs.Common.{subst, sym}
 use Rattle.list_laws.proofs.Cited.{each_more, each_none, each_taken}
 use Rattle.point_order.specs.Coordinates.{IsKey}
 use Rattle.delaunay_cli.proofs.cloud.read_keys.Goals as goal
