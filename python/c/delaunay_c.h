@@ -22,7 +22,8 @@
 extern "C" {
 #endif
 
-/* What a call answers. Where it is not DELAUNAY_C_OK, all rooms are as before. */
+/* What a call answers. Where it is not DELAUNAY_C_OK, all rooms are as before: that is proved. That the sizes are as
+ * before is the library's way, and tested for want of memory; no clause says it. */
 enum delaunay_c_status {
     DELAUNAY_C_OK = 0,      /* all rows are written, and the sizes tell how many */
     DELAUNAY_C_MEMORY = 1,  /* malloc or realloc failed, or there are more cells than 32 bits count; sizes as before */
