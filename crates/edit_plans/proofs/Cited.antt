@@ -1,2 +1,2 @@
 -- The lemmas that other crates cite.
-pub use Rattle.edit_plans.proofs.Planned.{home_begins, own_touched, planner_stays}
+pub use Rattle.edit_plans.proofs.Planned.{home_begins, planner_stays}

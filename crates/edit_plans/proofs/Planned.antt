@@ -1,7 +1,7 @@
 -- Plans, by what arrivals and refills answer.
 use Rattle.std.specs.Prelude.{◌≡◌, ℕ, true, false, List, [], length, Option, None, Some, IsSome}
 use Rattle.std.proofs.Common.{refl, sym, ◌∙◌, ap, subst, inl, inr}
-use Rattle.list_laws.proofs.Cited.{among_from, among_true, false_if, is_there, not_among, some_of}
+use Rattle.list_laws.proofs.Cited.{among_from, among_true, false_if, is_there, none_or, not_among, some_of}
 use Rattle.point_order.specs.declared.cell.Cell.{Cell}
 use Rattle.point_order.specs.Complex.{complex}
 use Rattle.point_order.specs.Coordinates.{IsKey}
@@ -10,13 +10,14 @@ use Rattle.edit_history.specs.declared.history.Edit.{Edit}
 use Rattle.edit_history.specs.declared.history.Edit.TheVariants.{Add, Move, Take}
 use Rattle.edit_history.specs.declared.history.Reply.{Reply}
 use Rattle.edit_history.specs.declared.history.Reply.TheVariants.{Inserted, Duplicate, Removed, Missing, Flat}
-use Rattle.edit_history.specs.Edits.{HasKeys, point_of, is_move, reply_to, changed, after}
+use Rattle.edit_history.specs.Edits.{HasKeys, point_of, reply_to, changed, after}
 use Rattle.edit_history.proofs.Cited.{duplicate, flat, inserts, missing, reply_there}
 use Rattle.hole_laws.specs.Edits.{IsNew}
 use Rattle.cell_store.specs.Grids.{bucket_of}
 use Rattle.cell_store.specs.Buckets.{BucketContent, InHand, bucket_at}
 use Rattle.cell_store.specs.Changes.{IsChange}
 use Rattle.cell_store.specs.Meshes.{AreAmong}
+use Rattle.cell_store.specs.Ready.{AreHeld}
 use Rattle.cell_store.specs.Shares.{Shows}
 use Rattle.cell_store.specs.Touches.{HoldTouched, IsTouched}
 use Rattle.cell_store.proofs.Cited.{solid_set}
@@ -34,15 +35,22 @@ use Rattle.vertex_removal.specs.declared.refill.RefillTurn.{RefillTurn}
 use Rattle.vertex_removal.specs.declared.refill.RefillTurn.TheVariants as turn
 use Rattle.edit_plans.specs.declared.planner.Plan.{Plan}
 use Rattle.edit_plans.specs.declared.planner.Planner.{Planner}
-use Rattle.edit_plans.specs.declared.planner.Planner.TheVariants.{Home, Comes as Coming, Goes as Going}
-use Rattle.edit_plans.specs.Plans.{IsPlanIn, IsPlannerIn, IsAsked, HoldsHome, PlannerStays}
+use Rattle.edit_plans.specs.declared.planner.Planner.TheVariants.{
+  Home,
+  Comes as Coming,
+  Goes as Going,
+  Lands as Landing,
+  Leaves as Leaving,
+}
+use Rattle.edit_plans.specs.Leaving.{IsQuiet}
+use Rattle.edit_plans.specs.Plans.{IsPlanFor, IsPlanIn, IsPlannerIn, IsAsked, HoldsHome, PlannerStays}
 
-there_or : (o : Option BucketContent) → (o ≡ None → ⊥) → IsSome o
+pub there_or : (o : Option BucketContent) → (o ≡ None → ⊥) → IsSome o
 there_or None f = absurd (f refl)
 there_or (Some c) f = refl
 
 -- the bucket of a point by its number
-here_at : (hold : InHand) (p e b : ℕ) → HoldsHome hold p → e ≡ p → b ≡ bucket_of hold.grid e →
+pub here_at : (hold : InHand) (p e b : ℕ) → HoldsHome hold p → e ≡ p → b ≡ bucket_of hold.grid e →
     IsSome (bucket_at hold.places b)
 here_at hold p e b home same number = subst (λ (x : ℕ). IsSome (bucket_at hold.places x))
     (sym (number ∙ ap (bucket_of hold.grid) same)) home
@@ -63,18 +71,20 @@ quiet_change s edit same = subst (λ (l : List ℕ). IsChange (complex s) (compl
   all_fresh = λ c i n. absurd (n i);
 })
 
-abbrev pub IsQuiet : Plan → Reply → Type 0
-IsQuiet plan reply = (plan.reply ≡ reply) × (plan.gone.items ≡ []) × (plan.fresh.items ≡ [])
-
-quiet_plan : (hold : InHand) (s : List ℕ) (edit : Edit) (plan : Plan) (reply : Reply) → IsQuiet plan reply →
-    HasKeys edit → is_move edit ≡ false → reply_to s edit ≡ reply → after s edit ≡ s →
-    HoldTouched hold.grid s edit hold.places → IsPlanIn hold s edit plan
-quiet_plan hold s edit plan reply q key still right same touched = record {
+pub quiet_for : (s : List ℕ) (edit : Edit) (plan : Plan) (reply : Reply) → IsQuiet plan reply →
+    reply_to s edit ≡ reply → after s edit ≡ s → IsPlanFor s edit plan
+quiet_for s edit plan reply q right same = record {
   reply = q.0 ∙ sym right;
-  key = key;
-  still = still;
   change = subst (λ (t : List Cell × List Cell). IsChange (complex s) (complex (after s edit)) t.0 t.1)
       (λ i. (sym q.1 i, sym q.2 i)) (quiet_change s edit same);
+}
+
+pub quiet_plan : (hold : InHand) (s : List ℕ) (edit : Edit) (plan : Plan) (reply : Reply) → IsQuiet plan reply →
+    HasKeys edit → reply_to s edit ≡ reply → after s edit ≡ s → HoldTouched hold.grid s edit hold.places →
+    IsPlanIn hold s edit plan
+quiet_plan hold s edit plan reply q key right same touched = record {
+  is = quiet_for s edit plan reply q right same;
+  key = key;
   gone = λ c i. absurd (subst (λ (l : List Cell). IsIn c l) q.1 i);
   fresh = λ c i. absurd (subst (λ (l : List Cell). IsIn c l) q.2 i);
   touched = touched;
@@ -84,7 +94,7 @@ quiet_plan hold s edit plan reply q key still right same touched = record {
 pub plan_duplicate : (hold : InHand) (s : List ℕ) (p : ℕ) (plan : Plan) → IsQuiet plan Duplicate → IsKey p →
     HoldsHome hold p → is_among p s ≡ true → IsPlanIn hold s (Add p) plan
 plan_duplicate hold s p plan q key home there =
-    quiet_plan hold s (Add p) plan Duplicate q key refl (duplicate s p there) (ap (changed s p) (duplicate s p there))
+    quiet_plan hold s (Add p) plan Duplicate q key (duplicate s p there) (ap (changed s p) (duplicate s p there))
     (λ b t. elim t.reached [
       | inl e ↦ here_at hold p t.point b home e t.number
       | inr r ↦ absurd (r.0 (among_from p s there))
@@ -94,7 +104,7 @@ plan_duplicate hold s p plan q key home there =
 pub plan_missing : (hold : InHand) (s : List ℕ) (p : ℕ) (plan : Plan) → IsQuiet plan Missing → IsKey p →
     HoldsHome hold p → is_among p s ≡ false → IsPlanIn hold s (Take p) plan
 plan_missing hold s p plan q key home lacks =
-    quiet_plan hold s (Take p) plan Missing q key refl (missing s p lacks) (ap (changed s p) (missing s p lacks))
+    quiet_plan hold s (Take p) plan Missing q key (missing s p lacks) (ap (changed s p) (missing s p lacks))
     (λ b t. elim t.reached [
       | inl e ↦ here_at hold p t.point b home e t.number
       | inr r ↦ absurd (not_among s p lacks r.0)
@@ -102,7 +112,7 @@ plan_missing hold s p plan q key home lacks =
 
 -- ---- a point that comes
 
-new_in : (hold : InHand) (s : List ℕ) (p : ℕ) (arrival : Arrival) → IsArrivalIn hold s p arrival → IsNew s p
+pub new_in : (hold : InHand) (s : List ℕ) (p : ℕ) (arrival : Arrival) → IsArrivalIn hold s p arrival → IsNew s p
 new_in hold s p (Seeks search) k = k.0
 new_in hold s p (Digs d) k = subst (λ (x : ℕ). IsNew s x) k.0 k.1.new
 
@@ -126,11 +136,12 @@ plan_inserted hold s p arrival t f sh k is gives =
     let new = new_in hold s p arrival k.1 in
     let right = inserted s p new in
     record {
-      reply = sym right;
+      is = record {
+        reply = sym right;
+        change = subst (λ (l : List ℕ). IsChange (complex s) (complex l) f.gone.items f.fresh.items)
+            (sym (ap (changed s p) right)) g.1.change;
+      };
       key = new.key;
-      still = refl;
-      change = subst (λ (l : List ℕ). IsChange (complex s) (complex l) f.gone.items f.fresh.items)
-          (sym (ap (changed s p) right)) g.1.change;
       gone = g.2;
       fresh = fresh_are_held s p f.gone.items f.fresh.items hold (solid_set hold s sh) new g.1 g.2 k.0;
       touched = comes_touched hold s p k.0 g.0;
@@ -185,11 +196,12 @@ plan_removed hold s p v t f sh k same is gives =
     let g = subst (λ (x : ℕ × RefillTurn). refill.RefillGives hold s x.0 x.1) (λ i. (same i, is i)) gives in
     let right : reply_to s (Take p) ≡ Removed = reply_there s p (among_true p s k.1) g.1.solid in
     record {
-      reply = sym right;
+      is = record {
+        reply = sym right;
+        change = subst (λ (l : List ℕ). IsChange (complex s) (complex l) f.gone.items f.fresh.items)
+            (sym (ap (changed s p) right)) g.1.change;
+      };
       key = sh.keys.below p k.1;
-      still = refl;
-      change = subst (λ (l : List ℕ). IsChange (complex s) (complex l) f.gone.items f.fresh.items)
-          (sym (ap (changed s p) right)) g.1.change;
       gone = g.2;
       fresh = g.3;
       touched = goes_touched hold s p k.0 g.0;
@@ -200,7 +212,7 @@ pub plan_flat : (hold : InHand) (s : List ℕ) (p v : ℕ) (t : RefillTurn) (pla
     IsPlanIn hold s (Take p) plan
 plan_flat hold s p v t plan sh k same q is gives =
     let g = subst (λ (x : ℕ × RefillTurn). refill.RefillGives hold s x.0 x.1) (λ i. (same i, is i)) gives in
-    quiet_plan hold s (Take p) plan Flat q (sh.keys.below p k.1) refl (flat s p (among_true p s k.1) g.1)
+    quiet_plan hold s (Take p) plan Flat q (sh.keys.below p k.1) (flat s p (among_true p s k.1) g.1)
     (ap (changed s p) (flat s p (among_true p s k.1) g.1)) (goes_touched hold s p k.0 g.0)
 
 pub goes_asks : (hold : InHand) (s : List ℕ) (p v b : ℕ) (t : RefillTurn) → IsPlannerIn hold s (Going p) → v ≡ p →
@@ -227,15 +239,51 @@ home_still few many p a h =
     subst (λ (g : ℕ). IsSome (bucket_at many.places (bucket_of g p))) a.grid
     (is_there (bucket_at many.places (bucket_of few.grid p)) c.0 (a.buckets (bucket_of few.grid p) c.0 c.1))
 
+cells_still : (few many : InHand) (l : List Cell) → AreAmong few many → AreHeld few l → AreHeld many l
+cells_still few many l a h c i p j = home_still few many p a (h c i p j)
+
+-- a bucket that is not there was not before
+lacks_still : (few many : InHand) (b : ℕ) → AreAmong few many → bucket_at many.places b ≡ None →
+    bucket_at few.places b ≡ None
+lacks_still few many b a none = none_or (bucket_at few.places b) (λ h.
+    let c = some_of (bucket_at few.places b) h in
+    let there = a.buckets b c.0 c.1 in
+    cc (there, none))
+
+none_still : (few many : InHand) (s : List ℕ) (p : ℕ) → AreAmong few many → dig.NoneIsNeeded few s p →
+    dig.NoneIsNeeded many s p
+none_still few many s p a none b n = none b (record {
+  absent = lacks_still few many b a n.absent;
+  cell = n.cell;
+  goes = n.goes;
+  point = n.point;
+  has = n.has;
+  number = n.number ∙ ap (λ (g : ℕ). bucket_of g n.point) (sym a.grid);
+})
+
 pub planner_stays : PlannerStays
-planner_stays few many s (Home edit) a k = k
+planner_stays few many s (Home edit) a k = tt
 planner_stays few many s (Coming p arrival) a k = (
   home_still few many p a k.0,
   arrival_stays few many s p arrival a k.1,
 )
 planner_stays few many s (Going p) a k = (home_still few many p a k.0, k.1)
+planner_stays few many s (Landing p q arrival) a k = (
+  home_still few many p a k.0,
+  home_still few many q a k.1,
+  k.2,
+  arrival_stays few many s q arrival a k.3,
+)
+planner_stays few many s (Leaving l) a k = record {
+  is = k.is;
+  home = home_still few many l.from a k.home;
+  goal = home_still few many l.to a k.goal;
+  gone = cells_still few many l.came.gone.items a k.gone;
+  fresh = cells_still few many l.came.fresh.items a k.fresh;
+  none = none_still few many s l.to a k.none;
+}
 
 -- a planner that begins
-pub home_begins : (hold : InHand) (s : List ℕ) (edit : Edit) (planner : Planner) → is_move edit ≡ false →
-    planner ≡ Home edit → IsPlannerIn hold s planner
-home_begins hold s edit planner still is = subst (λ (x : Planner). IsPlannerIn hold s x) (sym is) still
+pub home_begins : (hold : InHand) (s : List ℕ) (edit : Edit) (planner : Planner) → planner ≡ Home edit →
+    IsPlannerIn hold s planner
+home_begins hold s edit planner is = subst (λ (x : Planner). IsPlannerIn hold s x) (sym is) tt

@@ -5,7 +5,7 @@
 //! ```
 //! let mut planner = Planner::begin(edit);
 //! let plan = loop {
-//!     match planner.advance(alloc, &hold)? {
+//!     match planner.advance(alloc, &mut hold)? {
 //!         PlanTurn::Done(plan) => break plan,  // its reply, the cells that go, and those that come
 //!         PlanTurn::Need(b, next) => {         // a bucket that is needed
 //!             hold.put(b, ..);
@@ -13,11 +13,14 @@
 //!         }
 //!     }
 //! };
-//! let plan = plan_of(alloc, mesh.hold(), edit)?; // where every bucket is in hand
+//! let plan = plan_of(alloc, &mut mesh, edit)?; // where every bucket is in hand: the mesh is then as before
 //! ```
 #![tactic(auto)]
 
 pub mod laws;
+mod leaving;
+mod moving;
 mod planner;
 
-pub use planner::{Plan, PlanTurn, Planner, plan_of};
+pub use leaving::plan_of;
+pub use planner::{Landed, Plan, PlanTurn, Planner};

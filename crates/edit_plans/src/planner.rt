@@ -1,17 +1,18 @@
 //! Planners, and the plans that they come to.
 
-ghost use Rattle.std.specs.Prelude.{◌≡◌, [], false, IfOk};
+ghost use Rattle.std.specs.Prelude.{◌≡◌, IfOk};
 ghost use Rattle.edit_history.specs.declared.history.Edit.TheVariants.{Add, Take};
-ghost use Rattle.edit_history.specs.Edits.{is_move};
-ghost use Rattle.cell_store.specs.Meshes.{AllInHand};
 ghost use Rattle.cell_store.specs.Shares.{ShowsSome};
 ghost use Rattle.edit_plans.specs.declared.planner.Planner.TheVariants.{
   Home as IsHome,
   Comes as IsComing,
   Goes as IsGoing,
 };
-ghost use Rattle.edit_plans.specs.Plans.{HoldsHome, IsPlan, ShowsPlanner, PlanAnswers};
+ghost use Rattle.edit_plans.specs.Leaving.{IsQuiet};
+ghost use Rattle.edit_plans.specs.Plans.{HoldsHome, ShowsPlanner, PlanAnswers, LookAnswers};
 
+use crate::leaving::leave_on;
+use crate::moving::{land_on, move_home};
 use cavity::Fresh;
 use cell_store::Hold;
 use edit_history::{Edit, Reply};
@@ -28,15 +29,28 @@ pub struct Plan {
     pub fresh: Vec<Cell>,
 }
 
+/// The new place of a point that moves, found to be free, with what it changes: the cells that go when it comes, and
+/// those that come.
+#[derive(Debug, Drop)]
+pub struct Landed {
+    pub from: Point,
+    pub to: Point,
+    pub came: Fresh,
+}
+
 /// The search for what an edit changes: where it stands.
 #[derive(Debug, Drop)]
 pub enum Planner {
-    /// Before the bucket of the edit's point, which comes first.
+    /// Before the bucket of the edit's point, which comes first; of a move, before those of both places.
     Home(Edit),
     /// The point is new, and comes.
     Comes(Point, Arrival),
     /// The point is there, and goes.
     Goes(Point),
+    /// The point is there and moves to a free place: what the new place changes is looked for.
+    Lands(Point, Point, Arrival),
+    /// That is known, and the point leaves its place: the rest is looked for while the new place is there.
+    Leaves(Landed),
 }
 
 /// What a turn of a planner comes to.
@@ -48,6 +62,13 @@ pub enum PlanTurn {
     Need(u32, Planner),
 }
 
+// What a look over the buckets in hand, as they are, comes to.
+pub(crate) enum Look {
+    Turn(PlanTurn),
+    // The rest is to be found while the new place is there.
+    Beside(Landed),
+}
+
 impl Planner {
     /// The planner for an edit.
     pub fn begin(edit: Edit) -> Planner
@@ -56,36 +77,51 @@ impl Planner {
         Planner::Home(edit)
     }
 
-    /// Looks on over the buckets in hand for what the edit changes. Between two turns buckets may come to the hold. The
-    /// answer is right for each set that the hold shows.
-    ///
-    /// # Errors
-    /// Want of memory.
-    pub fn advance(self, alloc: Global, hold: &Hold) -> Result<PlanTurn, AllocError>
+    // Looks over the buckets in hand, as they are.
+    pub(crate) fn look(self, alloc: Global, hold: &Hold) -> Result<Look, AllocError>
         requires { ShowsPlanner hold.now self }
-        ensures { IfOk result (PlanAnswers hold.now self) }
+        ensures { IfOk result (LookAnswers hold.now self) }
     {
         match self {
             Planner::Home(edit) => at_home(alloc, hold, edit),
-            Planner::Comes(p, arrival) => come_on(alloc, hold, p, arrival),
-            Planner::Goes(p) => go_on(alloc, hold, p),
+            Planner::Comes(p, arrival) => Ok(Look::Turn(come_on(alloc, hold, p, arrival)?)),
+            Planner::Goes(p) => Ok(Look::Turn(go_on(alloc, hold, p)?)),
+            Planner::Lands(a, b, arrival) => land_on(alloc, hold, a, b, arrival),
+            Planner::Leaves(landed) => Ok(Look::Beside(landed)),
+        }
+    }
+
+    /// Looks on over the buckets in hand for what the edit changes. Between two turns buckets may come to the hold. The
+    /// answer is right for each set that the hold shows. The hold is then as before, but for its room: the new place of
+    /// a move is put in while it is looked beside it, and is taken out at once.
+    ///
+    /// # Errors
+    /// Want of memory.
+    pub fn advance(self, alloc: Global, hold: &mut Hold) -> Result<PlanTurn, AllocError>
+        requires { ShowsPlanner hold.old self }
+        ensures same { hold.new ≡ record hold.old { room = hold.new.room } }
+        ensures answers { IfOk result (PlanAnswers hold.old self) }
+    {
+        match self.look(alloc, hold)? {
+            Look::Turn(turn) => Ok(turn),
+            Look::Beside(landed) => leave_on(alloc, hold, landed),
         }
     }
 }
 
 // Looks for the bucket of the edit's point, and whether the point is there.
-fn at_home(alloc: Global, hold: &Hold, edit: Edit) -> Result<PlanTurn, AllocError>
+fn at_home(alloc: Global, hold: &Hold, edit: Edit) -> Result<Look, AllocError>
     requires { ShowsPlanner hold.now (IsHome edit) }
-    ensures { IfOk result (PlanAnswers hold.now (IsHome edit)) }
+    ensures { IfOk result (LookAnswers hold.now (IsHome edit)) }
 {
     let home = hold.grid().bucket_of(edit.point());
     if !hold.has(home) {
-        return Ok(PlanTurn::Need(home, Planner::Home(edit)));
+        return Ok(Look::Turn(PlanTurn::Need(home, Planner::Home(edit))));
     }
     match edit {
-        Edit::Add(p) => add_home(alloc, hold, p),
-        Edit::Take(p) => take_home(alloc, hold, p),
-        Edit::Move(..) => unreachable!(),
+        Edit::Add(p) => Ok(Look::Turn(add_home(alloc, hold, p)?)),
+        Edit::Take(p) => Ok(Look::Turn(take_home(alloc, hold, p)?)),
+        Edit::Move(a, b) => move_home(alloc, hold, a, b),
     }
 }
 
@@ -148,28 +184,12 @@ fn go_on(alloc: Global, hold: &Hold, p: Point) -> Result<PlanTurn, AllocError>
 }
 
 // The plan of an edit that changes no cell.
-fn no_change(alloc: Global, reply: Reply) -> Plan
-    ensures { (result.reply ≡ reply) × (result.gone.items ≡ []) × (result.fresh.items ≡ []) }
+pub(crate) fn no_change(alloc: Global, reply: Reply) -> Plan
+    ensures { IsQuiet result reply }
 {
     Plan {
         reply,
         gone: Vec::new(alloc),
         fresh: Vec::new(alloc),
-    }
-}
-
-/// What an edit changes, which is to move nothing, with every bucket in hand.
-///
-/// # Errors
-/// Want of memory.
-pub fn plan_of(alloc: Global, hold: &Hold, edit: Edit) -> Result<Plan, AllocError>
-    requires all { AllInHand hold.now }
-    requires shown { ShowsSome hold.now }
-    requires still { is_move edit ≡ false }
-    ensures { IfOk result (IsPlan hold.now edit) }
-{
-    match Planner::begin(edit).advance(alloc, hold)? {
-        PlanTurn::Done(plan) => Ok(plan),
-        PlanTurn::Need(_, _) => unreachable!(),
     }
 }

@@ -11,13 +11,14 @@ use Rattle.edit_history.specs.declared.history.Reply.{Reply}
 use Rattle.edit_history.specs.Histories.{replay}
 use Rattle.point_order.specs.Sets.{IsIn}
 use Rattle.cell_store.specs.Buckets.{BucketContent, InHand, bucket_at}
-use Rattle.cell_store.specs.Changes.{IsNext, Follows, IsSwapped, IsNoted}
+use Rattle.cell_store.specs.Changes.{IsArrived, IsNext, Follows, IsSwapped, IsNoted}
 use Rattle.cell_store.proofs.Cited.{next_entry, sound_of, stands_shows}
 use Rattle.claim_rule.specs.Boards.{in_hand_of}
 use Rattle.claim_rule.specs.Good.{AreSharesOf}
 use Rattle.cell_store.specs.Shares.{Stands, share_at}
 use Rattle.claim_rule.specs.Events.{renewed_from}
-use Rattle.claim_rule.proofs.Cited.{brought, renewed_at}
+use Rattle.claim_rule.proofs.Cited.{renewed_at}
+use Rattle.grid_claims.proofs.Bringing.{brought}
 use Rattle.grid_claims.specs.declared.hands.Hands.{Hands}
 use Rattle.edit_plans.specs.declared.planner.Plan.{Plan}
 use Rattle.grid_claims.specs.declared.view.Act.TheVariants.{Commit}
@@ -60,10 +61,10 @@ mapped_some f None s = absurd (cc s)
 mapped_some f (Some c) s = refl
 
 -- after the ticket step and the change of the hold
-pub hands_committed : (id : TableId) (n tag number : ℕ) (edit : Edit) (reply : Reply) (w w' : Hands) (plan : Plan) (between : InHand) → AreHands id n w → IsReadyPlan w.place.me.0 w.hold edit plan → reply ≡ plan.reply → Committed tag edit reply w.place.me number w'.place.me
+pub hands_committed : (id : TableId) (n tag number : ℕ) (edit : Edit) (reply : Reply) (w w' : Hands) (plan : Plan) (between goal : InHand) → AreHands id n w → IsReadyPlan w.place.me.0 w.hold edit plan → reply ≡ plan.reply → Committed tag edit reply w.place.me number w'.place.me
     → w'.place.table_id ≡ w.place.table_id → w'.order ≡ w.order → w'.first ≡ w.first
-    → IsSwapped plan.gone.items plan.fresh.items w.hold between → IsNoted (entry_of number w.first tag edit reply) between w'.hold → AreHands id n w'
-hands_committed id n tag number edit reply w w' plan between a plan_is reply_is told table order first swap note =
+    → IsSwapped plan.gone.items plan.fresh.items w.hold between → IsArrived (entry_of number w.first tag edit reply) between goal → IsNoted (entry_of number w.first tag edit reply) goal w'.hold → AreHands id n w'
+hands_committed id n tag number edit reply w w' plan between goal a plan_is reply_is told table order first swap arrived note =
     let h : List Entry = told.history in
     let e : Entry = entry_of number w.place.me.0.first tag edit reply in
     let places = a.carries.places_are in
@@ -74,11 +75,12 @@ hands_committed id n tag number edit reply w w' plan between a plan_is reply_is 
       change = plan_is.change (replay h) (stands_shows w.hold h st);
     } in
     let next : IsNext h e plan.gone.items plan.fresh.items = next_entry h e plan.gone.items plan.fresh.items (sound_of w.hold h st) plan_is.key follows in
-    let note' : IsNoted e between w'.hold = subst (λ (x : ℕ). IsNoted (entry_of number x tag edit reply) between w'.hold) a.first note in
+    let arrived' : IsArrived e between goal = subst (λ (x : ℕ). IsArrived (entry_of number x tag edit reply) between goal) a.first arrived in
+    let note' : IsNoted e goal w'.hold = subst (λ (x : ℕ). IsNoted (entry_of number x tag edit reply) goal w'.hold) a.first note in
     let shares : AreSharesOf w.place.me.0.grid h w.hold.places = subst (λ (l : List (Option BucketContent)). AreSharesOf w.place.me.0.grid h l) places told.shares in
-    let now : w'.hold.places ≡ renewed_from w.place.me.0.grid (h ++ e ∷ []) 0 w.hold.places = brought w.place.me.0.grid h e plan.gone.items plan.fresh.items w.hold between w'.hold a.grid shares next plan_is.still swap note' in
+    let now : w'.hold.places ≡ renewed_from w.place.me.0.grid (h ++ e ∷ []) 0 w.hold.places = brought w.place.me.0.grid h e plan.gone.items plan.fresh.items w.hold between goal w'.hold a.grid shares next swap arrived' note' in
     let g : ℕ = w.place.me.0.grid in
-    let wide : length w'.hold.places ≡ length w.hold.places = note.count ∙ swap.count in
+    let wide : length w'.hold.places ≡ length w.hold.places = note.count ∙ arrived.count ∙ swap.count in
     let here : (b : ℕ) → bucket_at w'.hold.places b ≡ option_map (λ c. share_at g (0 + b) (h ++ e ∷ [])) (bucket_at w.hold.places b) = λ b. ap (λ l. bucket_at l b) now ∙ renewed_at g (h ++ e ∷ []) 0 w.hold.places b in
     let k = a.carries in
     let empty : empty_places w'.hold.places ≡ empty_places w.hold.places = ap empty_places now ∙ same_empty g (h ++ e ∷ []) 0 w.hold.places in
@@ -91,7 +93,7 @@ hands_committed id n tag number edit reply w w' plan between a plan_is reply_is 
       some_part = subst (λ (x : ℕ). Prim.Native.Nat.◌<◌ 0 x) (sym (ap (λ (v : View). v.parts) told.view)) a.some_part;
       no_child = ap (λ (v : View). v.child) told.view ∙ a.no_child;
       first = first ∙ a.first ∙ sym (ap (λ (v : View). v.first) told.view);
-      grid = note.grid ∙ swap.grid ∙ a.grid ∙ sym (ap (λ (v : View). v.grid) told.view);
+      grid = note.grid ∙ arrived.grid ∙ swap.grid ∙ a.grid ∙ sym (ap (λ (v : View). v.grid) told.view);
       carries = record {
         places_are = ap (λ (v : View). v.held) told.view ∙ ap (λ l. renewed_from g (h ++ e ∷ []) 0 l) places ∙ sym now;
         order_is = ap (λ (v : View). in_hand v.trail) told.view ∙ in_hand_snoc w.place.me.0.trail (Commit number) ∙ k.order_is ∙ sym (ap (λ o. o.items) order);

@@ -25,3 +25,4 @@ mod Showing
 pub mod Snapped
 mod Homecoming
 pub mod Cited
+mod Bringing

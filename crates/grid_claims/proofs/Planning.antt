@@ -1,20 +1,25 @@
 -- The claims of an edit, and its plan.
 use Rattle.std.specs.Prelude.{◌≡◌, ℕ, false, List, [], ◌∷◌, ◌++◌, Option, None, Some, IsSome, Result, Ok, Err, IfErr}
 use Rattle.std.specs.Result.{IsErr, IsErrAnd}
-use Rattle.std.proofs.Common.{refl, sym, ap, subst, inl, inr, arith}
+use Rattle.std.proofs.Common.{refl, sym, ◌∙◌, ap, subst, inl, inr, arith}
+use Rattle.std.proofs.lemmas.List.{append-nil}
 use Rattle.atomic_table.specs.Seated.{TableId}
-use Rattle.list_laws.proofs.Cited.{in_snoc, some_of}
+use Rattle.list_laws.proofs.Cited.{if_some, in_snoc, some_of}
 use Rattle.point_order.specs.Coordinates.{IsKey}
 use Rattle.point_order.specs.Coordinates as X3
 use Rattle.point_order.specs.Orientation as X1
-use Rattle.point_order.specs.Sets.{IsIn}
+use Rattle.point_order.specs.Sets.{IsIn, is_among}
 use Rattle.edit_history.specs.declared.history.Edit.{Edit}
 use Rattle.edit_history.specs.declared.history.Edit.TheVariants.{Add, Move, Take}
 use Rattle.edit_history.specs.declared.history.Reply.{Reply}
-use Rattle.edit_history.specs.Edits.{edit_points, is_move, point_of}
+use Rattle.edit_history.specs.Edits.{edit_points}
 use Rattle.cell_store.specs.Grids.{bucket_of}
 use Rattle.cell_store.specs.Buckets.{BucketContent, InHand, Room, bucket_at}
 use Rattle.cell_store.specs.Missing.{ArePointsHeld}
+use Rattle.cell_store.specs.Points.{came, goal_of}
+use Rattle.cell_store.proofs.AnyLaws.{came_free}
+use Rattle.cell_store.proofs.HandLaws.{held_point}
+use Rattle.cell_store.proofs.TouchLaws.{points_touched}
 use Rattle.cell_store.specs.Shares.{Shows}
 use Rattle.cell_store.specs.Touches.{HoldNoOther, HoldTouched, IsTouched}
 use Rattle.claim_rule.specs.Boards.{in_hand_of}
@@ -24,15 +29,16 @@ use Rattle.edit_plans.specs.declared.planner.Planner.{Planner}
 use Rattle.edit_plans.specs.declared.planner.Planner.TheVariants.{Home}
 use Rattle.edit_plans.specs.declared.planner.PlanTurn.{PlanTurn}
 use Rattle.edit_plans.specs.declared.planner.PlanTurn.TheVariants.{Done, Need}
-use Rattle.edit_plans.proofs.Cited.{home_begins, own_touched, planner_stays}
+use Rattle.edit_plans.proofs.Cited.{home_begins, planner_stays}
 use Rattle.insertion.specs.Searches.{IsLacking}
 use Rattle.grid_claims.specs.declared.hands.Hands.{Hands}
 use Rattle.grid_claims.specs.declared.view.View.{View}
-use Rattle.grid_claims.specs.Claiming.{AreHands, HasStopped, IsReadyPlan, ShowsOne}
+use Rattle.grid_claims.specs.Claiming.{AreHands, HasStopped, IsFree, IsReadyPlan, ShowsOne}
 use Rattle.grid_claims.specs.declared.table.Refused.{Refused}
+use Rattle.grid_claims.specs.declared.table.Refused.TheVariants.{Memory}
 use Rattle.grid_claims.specs.Looking.{HasMore, IsPlanning}
 use Rattle.grid_claims.specs.Plays.{HandShows}
-use Rattle.grid_claims.proofs.MoreHands.{more_none, more_then, shown, stopped_then}
+use Rattle.grid_claims.proofs.MoreHands.{hands_with_room, more_none, more_then, out_of_memory, shown, stopped_then}
 
 -- ---- hands that hold nothing
 
@@ -69,16 +75,44 @@ nothing_held id n w a none b = by (bucket_at w.hold.places b) (λ s. subst (λ (
     by None f = refl
     by (Some c) f = absurd (f refl)
 
+-- the new place is one of the points of a move
+goal_among : (edit : Edit) (q : ℕ) → goal_of edit ≡ Some q → IsIn q (edit_points edit)
+goal_among (Add p) q e = absurd (cc e)
+goal_among (Take p) q e = absurd (cc e)
+goal_among (Move a b) q e = inr (inl (cc e))
+
+-- ---- a turn, after which the hold is as before but for its room
+
+-- the hands with this hold
+abbrev pub hands_with : Hands → InHand → Hands
+hands_with w hold = record { place = w.place; hold = hold; order = w.order; first = w.first }
+
+pub turned : (id : TableId) (n : ℕ) (w : Hands) (hold : InHand) (r : Room) → AreHands id n w → ShowsOne w.hold →
+    hold ≡ record w.hold { room = r } → HasMore id n w (hands_with w hold)
+turned id n w hold r a one e = subst (λ (h : InHand). HasMore id n w (hands_with w h)) (sym e) (record {
+  hands = hands_with_room id n w (record w.hold { room = r }) r a refl;
+  claimed = record {
+    more = [];
+    order = sym (append-nil w.order.items);
+    view = λ i. record w.place.me.0 { held = a.carries.places_are i; trail = sym (append-nil w.place.me.0.trail) i };
+  };
+  among = record { grid = refl; buckets = λ b c q. q };
+  one = (
+    one.0,
+    record { ascending = one.1.ascending; keys = one.1.keys; solid = one.1.solid; sights = one.1.sights },
+  );
+})
+
 -- ---- the claims
 
 module _ (id : TableId) (n : ℕ) (edit : Edit) (old now : Hands) where
-  pub planning_none : (planner : Planner) → AreHands id n old → old.order.items ≡ [] → is_move edit ≡ false → planner ≡ Home edit → IsPlanning id n edit old old planner
-  planning_none planner a none still is =
+  pub planning_none : (planner : Planner) → AreHands id n old → old.order.items ≡ [] → planner ≡ Home edit → IsPlanning id n edit old old planner
+  planning_none planner a none is =
       let nothing = nothing_held id n old a none in
       record {
         more = more_none id n old a (none_shows old.hold nothing);
         same = ap edit_of is;
-        stands = λ s sh. home_begins old.hold s edit planner still is;
+        stands = λ s sh. home_begins old.hold s edit planner is;
         exact = λ s sh x b held. absurd (let c = some_of (bucket_at old.hold.places b) held in let e = c.1 in let m = nothing b in cc (e, m));
       }
 
@@ -124,38 +158,74 @@ module _ (id : TableId) (n : ℕ) (edit : Edit) (old now : Hands) where
       let a = i.more.hands in
       let one = p i.more.one.0 i.more.one.1 in
       let have : (s : List ℕ) → HandShows now.place.me.0 s → Shows now.hold s = as_hold a in
+      let held : ArePointsHeld now.hold (edit_points edit) = λ q j. one.touched (bucket_of now.hold.grid q) (points_touched now.hold.grid i.more.one.0 edit q j) in
       record {
         ready = record {
-          right = λ s st. (p s (have s st)).reply;
+          right = λ s st. (p s (have s st)).is.reply;
           touched = λ s st. subst (λ (t : ℕ × List (Option BucketContent)). HoldTouched t.0 s edit t.1) (λ j. (a.grid j, sym a.carries.places_are j)) (p s (have s st)).touched;
           exact = λ x s st. subst (λ (t : ℕ × List (Option BucketContent)). HoldNoOther t.0 s edit t.1) (λ j. (a.grid j, sym a.carries.places_are j))
-              (i.exact s (have s st) (subst (λ (r : Reply). IsExact edit r) (p s (have s st)).reply x));
+              (i.exact s (have s st) (subst (λ (r : Reply). IsExact edit r) (p s (have s st)).is.reply x));
         };
         key = one.key;
-        still = one.still;
-        change = λ s sh. (p s sh).change;
+        change = λ s sh. (p s sh).is.change;
         gone = one.gone;
         fresh = one.fresh;
-        mine = one.touched (bucket_of now.hold.grid (point_of edit)) (own_touched now.hold.grid i.more.one.0 edit);
+        mine = held;
+        goal = if_some (λ q. (is_among q i.more.one.0 ≡ false) × (goal_of edit ≡ Some q)) (IsFree now.hold edit) (came edit plan.reply)
+            (λ q k. (k.1, held_point now.hold i.more.one.0 q i.more.one.1 (held q (goal_among edit q k.1)) ∙ k.0))
+            (came_free i.more.one.0 edit plan.reply one.is.reply);
       }
-
--- the points of an edit that moves nothing lie in its bucket
-pub still_held : (hold : InHand) (edit : Edit) → is_move edit ≡ false → IsSome (bucket_at hold.places (bucket_of hold.grid (point_of edit))) → ArePointsHeld hold (edit_points edit)
-still_held hold (Add p) still mine q i = elim i [ inl e ↦ subst (λ (x : ℕ). IsSome (bucket_at hold.places (bucket_of hold.grid x))) e mine | inr none ↦ absurd none ]
-still_held hold (Take p) still mine q i = elim i [ inl e ↦ subst (λ (x : ℕ). IsSome (bucket_at hold.places (bucket_of hold.grid x))) e mine | inr none ↦ absurd none ]
-still_held hold (Move a b) still mine q i = absurd (cc still)
 
 -- the same hold with room
 pub plan_with_room : (v : View) (hold new : InHand) (r : Room) (edit : Edit) (plan : Plan) → IsReadyPlan v hold edit plan → new ≡ record hold { room = r } → IsReadyPlan v new edit plan
 plan_with_room v hold new r edit plan k e = subst (λ (x : InHand). IsReadyPlan v x edit plan) (sym e) (record {
   ready = k.ready;
   key = k.key;
-  still = k.still;
   change = λ s st. k.change s (record { ascending = st.ascending; keys = st.keys; solid = st.solid; sights = st.sights });
   gone = k.gone;
   fresh = k.fresh;
   mine = k.mine;
+  goal = k.goal;
 })
+
+-- ---- after a turn
+
+module _ (id : TableId) (n : ℕ) (edit : Edit) (old now : Hands) (hold : InHand) (r : Room) where
+  -- the turn found the plan
+  pub planned_after : (planner : Planner) (plan : Plan) (turn : PlanTurn) → IsPlanning id n edit old now planner →
+      turn ≡ Done plan → PlanAnswers now.hold planner turn → hold ≡ record now.hold { room = r } →
+      IsReadyPlan now.place.me.0 hold edit plan
+  planned_after planner plan turn i is gives e =
+      plan_with_room now.place.me.0 now.hold hold r edit plan (planned id n edit old now planner plan turn i is gives) e
+
+  -- all claims so far
+  pub more_after : (planner : Planner) → IsPlanning id n edit old now planner → hold ≡ record now.hold { room = r } →
+      HasMore id n old (hands_with now hold)
+  more_after planner i e = more_then id n old now (hands_with now hold) i.more
+      (turned id n now hold r i.more.hands i.more.one e)
+
+  -- a bucket that is asked for is one of the hold, and is not in hand
+  pub lacks_after : (planner next : Planner) (b : ℕ) (turn : PlanTurn) → IsPlanning id n edit old now planner →
+      turn ≡ Need b next → PlanAnswers now.hold planner turn → hold ≡ record now.hold { room = r } → IsLacking hold b
+  lacks_after planner next b turn i is gives e =
+      let k = planning_lacks id n edit old now planner next b turn i is gives in
+      subst (λ (h : InHand). IsLacking h b) (sym e) (record { below = k.below; absent = k.absent })
+
+  -- it came
+  pub on_after : (u : Hands) (planner next : Planner) (b : ℕ) (turn : PlanTurn) → IsPlanning id n edit old now planner →
+      turn ≡ Need b next → PlanAnswers now.hold planner turn → hold ≡ record now.hold { room = r } →
+      HasMore id n (hands_with now hold) u → u.order.items ≡ now.order.items ++ b ∷ [] →
+      IsPlanning id n edit old u next
+  on_after u planner next b turn i is gives e m order =
+      planning_on id n edit old now u planner next b turn i is gives
+      (more_then id n now (hands_with now hold) u (turned id n now hold r i.more.hands i.more.one e) m) order
+
+-- want of memory stops the try
+pub starved : {X : Type 0} (id : TableId) (n : ℕ) (old w : Hands) (r : Result X Refused) → HasMore id n old w →
+    IsErr r × IsErrAnd r (λ e. e ≡ Memory) → IfErr r (λ why. HasStopped old w why)
+starved id n old w (Ok x) m e = tt
+starved id n old w (Err why) m e =
+    subst (λ (y : Refused). HasStopped old w y) (sym e.1) (out_of_memory id n old w m)
 
 -- a claim that failed stops the try
 pub asked_then : {X : Type 0} (id : TableId) (n : ℕ) (w w' u : Hands) (r : Result X Refused) (why : Refused) → HasMore id n w w' → HasStopped w' u why → IsErr r × IsErrAnd r (λ e. e ≡ why) → IfErr r (λ e. HasStopped w u e)

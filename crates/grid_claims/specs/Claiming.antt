@@ -7,7 +7,6 @@ use Rattle.std.specs.Prelude.{
   ◌^◌,
   ◌<◌,
   ◌≤◌,
-  false,
   List,
   [],
   ◌∷◌,
@@ -19,21 +18,23 @@ use Rattle.std.specs.Prelude.{
   Option,
   None,
   Some,
-  IsSome,
+  IfSome,
 }
 use Rattle.atomic_table.specs.Seated.{TableId}
 use Rattle.edit_history.specs.declared.history.Edit.{Edit}
 use Rattle.edit_history.specs.declared.history.Entry.{Entry}
-use Rattle.edit_history.specs.Edits.{HasKeys, is_move, point_of, reply_to, after}
+use Rattle.edit_history.specs.Edits.{HasKeys, edit_points, reply_to, after}
 use Rattle.cell_store.specs.Grids.{bucket_of}
-use Rattle.cell_store.specs.Buckets.{BucketContent, InHand, bucket_at, room_for}
-use Rattle.cell_store.specs.Changes.{IsChange, IsSwapped, IsNoted}
+use Rattle.cell_store.specs.Buckets.{BucketContent, InHand, points_in, room_for}
+use Rattle.cell_store.specs.Changes.{IsArrived, IsChange, IsSwapped, IsNoted}
+use Rattle.cell_store.specs.Missing.{ArePointsHeld}
+use Rattle.cell_store.specs.Points.{came, goal_of}
 use Rattle.point_order.specs.Complex.{complex}
 use Rattle.point_order.specs.declared.cell.Cell.{Cell}
 use Rattle.cell_store.specs.Ready.{AreHeld}
 use Rattle.cell_store.specs.Shares.{Shows}
 use Rattle.cell_store.specs.Touches.{IsTouched}
-use Rattle.point_order.specs.Sets.{IsIn}
+use Rattle.point_order.specs.Sets.{IsIn, is_among}
 use Rattle.grid_claims.specs.declared.hands.Hands.{Hands}
 use Rattle.edit_plans.specs.declared.planner.Plan.{Plan}
 use Rattle.grid_claims.specs.declared.table.Refused.{Refused}
@@ -98,17 +99,22 @@ pub record HasStopped (old new : Hands) (why : Refused) : Type 0 where
 abbrev pub ShowsOne : InHand → Type 0
 ShowsOne hold = (s : List ℕ) × Shows hold s
 
--- What an edit, which moves nothing, is to change is known, of every set that the hold shows, and all buckets of it are
--- in hand.
+-- the point is the new place of the edit, and is not in its bucket
+abbrev pub IsFree : InHand → Edit → ℕ → Type 0
+IsFree hold edit p =
+    (goal_of edit ≡ Some p) × (is_among p (points_in hold.places (bucket_of hold.grid p)) ≡ false)
+
+-- What an edit is to change is known, of every set that the hold shows, all buckets of it are in hand, and the place to
+-- which a point moves is free.
 pub record IsReadyPlan (v : View) (hold : InHand) (edit : Edit) (plan : Plan) : Type 0 where
   pub ready : IsReady v edit plan.reply
   pub key : HasKeys edit
-  pub still : is_move edit ≡ false
   pub change : (s : List ℕ) → Shows hold s →
       IsChange (complex s) (complex (after s edit)) plan.gone.items plan.fresh.items
   pub gone : AreHeld hold plan.gone.items
   pub fresh : AreHeld hold plan.fresh.items
-  pub mine : IsSome (bucket_at hold.places (bucket_of hold.grid (point_of edit)))
+  pub mine : ArePointsHeld hold (edit_points edit)
+  pub goal : IfSome (came edit plan.reply) (IsFree hold edit)
 
 -- the steps that release these buckets, the last one first
 abbrev pub releases_of : List ℕ → List Act
@@ -151,11 +157,13 @@ pub record HasGivenBack (old new : Hands) : Type 0 where
     trail = old.place.me.0.trail ++ releases_of old.order.items;
   }
 
--- The cells were exchanged, and then the entry was put in.
+-- The cells were exchanged, the place came to which a point has moved, and then the entry was put in.
 pub record IsBrought (gone fresh : List Cell) (e : Entry) (old new : InHand) : Type 0 where
   pub between : InHand
+  pub goal : InHand
   pub swapped : IsSwapped gone fresh old between
-  pub noted : IsNoted e between new
+  pub arrived : IsArrived e between goal
+  pub noted : IsNoted e goal new
 
 -- The hands of a pass between two calls: it holds nothing, and there is room in the order for all buckets.
 pub record HasRest (w : Hands) : Type 0 where

@@ -1,9 +1,8 @@
 //! The claims of a try.
 
-ghost use Rattle.std.specs.Prelude.{◌≡◌, ◌<◌, ◌++◌, ◌∷◌, [], false, None, length, OnOk, IfOk, IfErr};
+ghost use Rattle.std.specs.Prelude.{◌≡◌, ◌<◌, ◌++◌, ◌∷◌, [], None, length, OnOk, IfOk, IfErr};
 ghost use Rattle.cell_store.specs.Buckets.{bucket_at};
 ghost use Rattle.cell_store.specs.Meshes.{StandsForSome};
-ghost use Rattle.edit_history.specs.Edits.{is_move};
 ghost use Rattle.grid_claims.specs.Faces.{buckets_of};
 ghost use Rattle.grid_claims.specs.Claiming.{AreHands, HasClaimed, HasStopped, IsReadyPlan, HasRoomFor};
 ghost use Rattle.grid_claims.specs.Looking.{HasMore};
@@ -42,7 +41,6 @@ pub(crate) fn ask(board: &Board, hands: &mut Hands, b: u32) -> Result<(), Refuse
 
 // What an edit changes. Every bucket that its planner needs is claimed.
 fn plan_for(board: &Board, hands: &mut Hands, alloc: Global, edit: Edit) -> Result<Plan, Refused>
-    requires still { is_move edit ≡ false }
     requires hands { AreHands board.now.shared.table_id (buckets_of board.now.shared.key) hands.old }
     requires none { hands.old.order.items ≡ [] }
     ensures hands { AreHands board.now.shared.table_id (buckets_of board.now.shared.key) hands.new }
@@ -53,7 +51,7 @@ fn plan_for(board: &Board, hands: &mut Hands, alloc: Global, edit: Edit) -> Resu
 {
     let mut planner = Planner::begin(edit);
     loop {
-        match planner.advance(alloc, &hands.hold)? {
+        match planner.advance(alloc, &mut hands.hold)? {
             PlanTurn::Done(plan) => return Ok(plan),
             PlanTurn::Need(b, next) => {
                 ask(board, hands, b)?;
@@ -70,7 +68,6 @@ pub(crate) fn prepare(
     alloc: Global,
     edit: Edit,
 ) -> Result<Plan, Refused>
-    requires still { is_move edit ≡ false }
     requires hands { AreHands board.now.shared.table_id (buckets_of board.now.shared.key) hands.old }
     requires none { hands.old.order.items ≡ [] }
     ensures hands { AreHands board.now.shared.table_id (buckets_of board.now.shared.key) hands.new }

@@ -1,7 +1,6 @@
 //! The table.
 
-ghost use Rattle.std.specs.Prelude.{◌≡◌, ◌+◌, ◌^◌, ◌<◌, ◌≤◌, ◌∷◌, ◌++◌, [], false, length, IfOk, IfErr, OnErr};
-ghost use Rattle.edit_history.specs.Edits.{is_move};
+ghost use Rattle.std.specs.Prelude.{◌≡◌, ◌+◌, ◌^◌, ◌<◌, ◌≤◌, ◌∷◌, ◌++◌, [], length, IfOk, IfErr, OnErr};
 ghost use Rattle.claim_rule.specs.Good.{StartsWith};
 ghost use Rattle.grid_claims.specs.declared.view.Act.TheVariants.{Look};
 ghost use Rattle.grid_claims.specs.Tries.{opening_pass, IsSplit, joined, IsEdited, IsRefused, IsShown, IsUnshown};
@@ -187,8 +186,8 @@ impl MeshTable {
         pass.seen = pass.seen.max(seen);
     }
 
-    /// Makes an edit, and answers its number and its reply. The pass is to be one of this table, and the edit is to
-    /// move nothing.
+    /// Makes an edit, and answers its number and its reply. The pass is to be one of this table. A move is one entry:
+    /// it claims the bucket of the place that the point leaves, then that of its new place, then what it needs more.
     ///
     /// # Errors
     /// The pass may make no more edits, which is seen first; or a bucket is in another pass's hands; or want of memory.
@@ -202,7 +201,6 @@ impl MeshTable {
         gate: &G,
     ) -> Result<Receipt, Refused>
         requires table { pass.old.table ≡ self.now }
-        requires still { is_move edit ≡ false }
         ensures edited { IfOk result (λ r. IsEdited tag edit r.number r.reply pass.old pass.new) }
         ensures refused { IfErr result (λ why. IsRefused pass.old why pass.new) }
     {

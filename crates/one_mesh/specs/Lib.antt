@@ -1,4 +1,3 @@
 pub mod Applied
 pub mod Opened
 pub mod Gathered
-pub mod Found

@@ -3,7 +3,7 @@ use Rattle.edit_workers.proofs.Worked.{made_once, missed_once, missed_none}
 use Rattle.edit_workers.proofs.working.try_once.Goals as goal
 
 pub try_edit-requires : goal.try_edit-requires
-try_edit-requires g c = record { table = c.requires.table; still = c.requires.still }
+try_edit-requires g c = record { table = c.requires.table }
 
 pub unreachable-requires : goal.unreachable-requires
 unreachable-requires g c = let r = rw c.in-Err-Spent.field-0-is at c.in-Err-Spent.ensures.refused in let l = c.requires.left in omega (arith, r.0, l)
