@@ -16,7 +16,7 @@ use Rattle.point_order.specs.Sets.{IsIn}
 use Rattle.edit_history.specs.declared.history.Edit.{Edit}
 use Rattle.edit_history.specs.declared.history.Entry.{Entry}
 use Rattle.edit_history.specs.declared.history.Reply.{Reply}
-use Rattle.edit_history.specs.Edits.{point_of, reply_to}
+use Rattle.edit_history.specs.Edits.{reply_to}
 use Rattle.edit_history.specs.Histories.{replay}
 use Rattle.claim_rule.specs.Boards.{BoardState, view_at, is_by, made_by, left_in}
 use Rattle.claim_rule.specs.Good.{IsGood, StartsWith, AreSharesOf}

@@ -25,4 +25,3 @@ mod Showing
 pub mod Snapped
 mod Homecoming
 pub mod Cited
-mod Bringing

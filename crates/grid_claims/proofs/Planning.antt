@@ -1,24 +1,20 @@
 -- The claims of an edit, and its plan.
-use Rattle.std.specs.Prelude.{◌≡◌, ℕ, false, List, [], ◌∷◌, ◌++◌, Option, None, Some, IsSome, Result, Ok, Err, IfErr}
+use Rattle.std.specs.Prelude.{◌≡◌, ℕ, List, [], ◌∷◌, ◌++◌, Option, None, Some, IsSome, Result, Ok, Err, IfErr}
 use Rattle.std.specs.Result.{IsErr, IsErrAnd}
-use Rattle.std.proofs.Common.{refl, sym, ◌∙◌, ap, subst, inl, inr, arith}
+use Rattle.std.proofs.Common.{refl, sym, ap, subst, inl, inr, arith}
 use Rattle.std.proofs.lemmas.List.{append-nil}
 use Rattle.atomic_table.specs.Seated.{TableId}
-use Rattle.list_laws.proofs.Cited.{if_some, in_snoc, some_of}
+use Rattle.list_laws.proofs.Cited.{in_snoc, some_of}
 use Rattle.point_order.specs.Coordinates.{IsKey}
 use Rattle.point_order.specs.Coordinates as X3
 use Rattle.point_order.specs.Orientation as X1
-use Rattle.point_order.specs.Sets.{IsIn, is_among}
+use Rattle.point_order.specs.Sets.{IsIn}
 use Rattle.edit_history.specs.declared.history.Edit.{Edit}
-use Rattle.edit_history.specs.declared.history.Edit.TheVariants.{Add, Move, Take}
 use Rattle.edit_history.specs.declared.history.Reply.{Reply}
 use Rattle.edit_history.specs.Edits.{edit_points}
 use Rattle.cell_store.specs.Grids.{bucket_of}
 use Rattle.cell_store.specs.Buckets.{BucketContent, InHand, Room, bucket_at}
 use Rattle.cell_store.specs.Missing.{ArePointsHeld}
-use Rattle.cell_store.specs.Points.{came, goal_of}
-use Rattle.cell_store.proofs.AnyLaws.{came_free}
-use Rattle.cell_store.proofs.HandLaws.{held_point}
 use Rattle.cell_store.proofs.TouchLaws.{points_touched}
 use Rattle.cell_store.specs.Shares.{Shows}
 use Rattle.cell_store.specs.Touches.{HoldNoOther, HoldTouched, IsTouched}
@@ -33,7 +29,7 @@ use Rattle.edit_plans.proofs.Cited.{home_begins, planner_stays}
 use Rattle.insertion.specs.Searches.{IsLacking}
 use Rattle.grid_claims.specs.declared.hands.Hands.{Hands}
 use Rattle.grid_claims.specs.declared.view.View.{View}
-use Rattle.grid_claims.specs.Claiming.{AreHands, HasStopped, IsFree, IsReadyPlan, ShowsOne}
+use Rattle.grid_claims.specs.Claiming.{AreHands, HasStopped, IsReadyPlan, ShowsOne}
 use Rattle.grid_claims.specs.declared.table.Refused.{Refused}
 use Rattle.grid_claims.specs.declared.table.Refused.TheVariants.{Memory}
 use Rattle.grid_claims.specs.Looking.{HasMore, IsPlanning}
@@ -68,18 +64,14 @@ none_shows hold none = (
   },
 )
 
-nothing_held : (id : TableId) (n : ℕ) (w : Hands) → AreHands id n w → w.order.items ≡ [] → (b : ℕ) → bucket_at w.hold.places b ≡ None
-nothing_held id n w a none b = by (bucket_at w.hold.places b) (λ s. subst (λ (l : List ℕ). IsIn b l) none ((a.carries.holds b).0 s))
+nothing_held : (id : TableId) (n : ℕ) (w : Hands) → AreHands id n w → w.order.items ≡ [] → (b : ℕ) →
+    bucket_at w.hold.places b ≡ None
+nothing_held id n w a none b =
+    by (bucket_at w.hold.places b) (λ s. subst (λ (l : List ℕ). IsIn b l) none ((a.carries.holds b).0 s))
   where
     by : (o : Option BucketContent) → (IsSome o → ⊥) → o ≡ None
     by None f = refl
     by (Some c) f = absurd (f refl)
-
--- the new place is one of the points of a move
-goal_among : (edit : Edit) (q : ℕ) → goal_of edit ≡ Some q → IsIn q (edit_points edit)
-goal_among (Add p) q e = absurd (cc e)
-goal_among (Take p) q e = absurd (cc e)
-goal_among (Move a b) q e = inr (inl (cc e))
 
 -- ---- a turn, after which the hold is as before but for its room
 
@@ -106,30 +98,39 @@ turned id n w hold r a one e = subst (λ (h : InHand). HasMore id n w (hands_wit
 -- ---- the claims
 
 module _ (id : TableId) (n : ℕ) (edit : Edit) (old now : Hands) where
-  pub planning_none : (planner : Planner) → AreHands id n old → old.order.items ≡ [] → planner ≡ Home edit → IsPlanning id n edit old old planner
+  pub planning_none : (planner : Planner) → AreHands id n old → old.order.items ≡ [] → planner ≡ Home edit →
+      IsPlanning id n edit old old planner
   planning_none planner a none is =
       let nothing = nothing_held id n old a none in
       record {
         more = more_none id n old a (none_shows old.hold nothing);
         same = ap edit_of is;
         stands = λ s sh. home_begins old.hold s edit planner is;
-        exact = λ s sh x b held. absurd (let c = some_of (bucket_at old.hold.places b) held in let e = c.1 in let m = nothing b in cc (e, m));
+        exact = λ s sh x b held. absurd
+            (let e = (some_of (bucket_at old.hold.places b) held).1 in
+            let m = nothing b in
+            cc (e, m));
       }
 
   pub planning_shows : (planner : Planner) → IsPlanning id n edit old now planner → ShowsPlanner now.hold planner
   planning_shows planner i = (i.more.one.0, i.more.one.1, i.stands i.more.one.0 i.more.one.1)
 
   -- what a turn gives in each set that the hold shows
-  turns : (planner : Planner) (turn turn' : PlanTurn) → IsPlanning id n edit old now planner → turn ≡ turn' → PlanAnswers now.hold planner turn → (s : List ℕ) → Shows now.hold s → PlanGives now.hold s edit turn'
+  turns : (planner : Planner) (turn turn' : PlanTurn) → IsPlanning id n edit old now planner → turn ≡ turn' →
+      PlanAnswers now.hold planner turn → (s : List ℕ) → Shows now.hold s → PlanGives now.hold s edit turn'
   turns planner turn turn' i is gives s sh =
       subst (λ (t : Edit × PlanTurn). PlanGives now.hold s t.0 t.1) (λ j. (i.same j, is j)) (gives s sh (i.stands s sh))
 
   -- a bucket that is asked for is one of the hold, and is not in hand
-  pub planning_lacks : (planner next : Planner) (b : ℕ) (turn : PlanTurn) → IsPlanning id n edit old now planner → turn ≡ Need b next → PlanAnswers now.hold planner turn → IsLacking now.hold b
-  planning_lacks planner next b turn i is gives = (turns planner turn (Need b next) i is gives i.more.one.0 i.more.one.1).lacking
+  pub planning_lacks : (planner next : Planner) (b : ℕ) (turn : PlanTurn) → IsPlanning id n edit old now planner →
+      turn ≡ Need b next → PlanAnswers now.hold planner turn → IsLacking now.hold b
+  planning_lacks planner next b turn i is gives =
+      (turns planner turn (Need b next) i is gives i.more.one.0 i.more.one.1).lacking
 
   -- it came
-  pub planning_on : (u : Hands) (planner next : Planner) (b : ℕ) (turn : PlanTurn) → IsPlanning id n edit old now planner → turn ≡ Need b next → PlanAnswers now.hold planner turn → HasMore id n now u → u.order.items ≡ now.order.items ++ b ∷ [] → IsPlanning id n edit old u next
+  pub planning_on : (u : Hands) (planner next : Planner) (b : ℕ) (turn : PlanTurn) →
+      IsPlanning id n edit old now planner → turn ≡ Need b next → PlanAnswers now.hold planner turn →
+      HasMore id n now u → u.order.items ≡ now.order.items ++ b ∷ [] → IsPlanning id n edit old u next
   planning_on u planner next b turn i is gives m order =
       let asked = turns planner turn (Need b next) i is gives in
       let before : (s : List ℕ) → Shows u.hold s → Shows now.hold s = λ s sh. shown now.hold u.hold s m.among sh in
@@ -138,7 +139,8 @@ module _ (id : TableId) (n : ℕ) (edit : Edit) (old now : Hands) where
         same = (asked i.more.one.0 i.more.one.1).same;
         stands = λ s sh. planner_stays now.hold u.hold s next m.among (asked s (before s sh)).stands;
         exact = λ s sh x c held. subst (λ (g : ℕ). IsTouched g s edit c) m.among.grid
-            (elim (in_snoc now.order.items b c (subst (λ (l : List ℕ). IsIn c l) order ((m.hands.carries.holds c).0 held))) [
+            (elim (in_snoc now.order.items b c
+            (subst (λ (l : List ℕ). IsIn c l) order ((m.hands.carries.holds c).0 held))) [
               | inl j ↦ i.exact s (before s sh) x c ((i.more.hands.carries.holds c).1 j)
               | inr e ↦ subst (λ (y : ℕ). IsTouched now.hold.grid s edit y) e ((asked s (before s sh)).exact x)
             ]);
@@ -149,21 +151,27 @@ module _ (id : TableId) (n : ℕ) (edit : Edit) (old now : Hands) where
   -- what the pass holds, as a hold
   as_hold : AreHands id n now → (s : List ℕ) → HandShows now.place.me.0 s → Shows now.hold s
   as_hold a s st =
-      let r : Shows (in_hand_of now.hold.grid now.hold.places) s = subst (λ (t : ℕ × List (Option BucketContent)). Shows (in_hand_of t.0 t.1) s) (λ i. (sym a.grid i, a.carries.places_are i)) st in
+      let r : Shows (in_hand_of now.hold.grid now.hold.places) s =
+      subst (λ (t : ℕ × List (Option BucketContent)). Shows (in_hand_of t.0 t.1) s)
+      (λ i. (sym a.grid i, a.carries.places_are i)) st in
       record { ascending = r.ascending; keys = r.keys; solid = r.solid; sights = r.sights }
 
-  pub planned : (planner : Planner) (plan : Plan) (turn : PlanTurn) → IsPlanning id n edit old now planner → turn ≡ Done plan → PlanAnswers now.hold planner turn → IsReadyPlan now.place.me.0 now.hold edit plan
+  pub planned : (planner : Planner) (plan : Plan) (turn : PlanTurn) → IsPlanning id n edit old now planner →
+      turn ≡ Done plan → PlanAnswers now.hold planner turn → IsReadyPlan now.place.me.0 now.hold edit plan
   planned planner plan turn i is gives =
       let p = turns planner turn (Done plan) i is gives in
       let a = i.more.hands in
       let one = p i.more.one.0 i.more.one.1 in
       let have : (s : List ℕ) → HandShows now.place.me.0 s → Shows now.hold s = as_hold a in
-      let held : ArePointsHeld now.hold (edit_points edit) = λ q j. one.touched (bucket_of now.hold.grid q) (points_touched now.hold.grid i.more.one.0 edit q j) in
+      let held : ArePointsHeld now.hold (edit_points edit) =
+      λ q j. one.touched (bucket_of now.hold.grid q) (points_touched now.hold.grid i.more.one.0 edit q j) in
       record {
         ready = record {
           right = λ s st. (p s (have s st)).is.reply;
-          touched = λ s st. subst (λ (t : ℕ × List (Option BucketContent)). HoldTouched t.0 s edit t.1) (λ j. (a.grid j, sym a.carries.places_are j)) (p s (have s st)).touched;
-          exact = λ x s st. subst (λ (t : ℕ × List (Option BucketContent)). HoldNoOther t.0 s edit t.1) (λ j. (a.grid j, sym a.carries.places_are j))
+          touched = λ s st. subst (λ (t : ℕ × List (Option BucketContent)). HoldTouched t.0 s edit t.1)
+              (λ j. (a.grid j, sym a.carries.places_are j)) (p s (have s st)).touched;
+          exact = λ x s st. subst (λ (t : ℕ × List (Option BucketContent)). HoldNoOther t.0 s edit t.1)
+              (λ j. (a.grid j, sym a.carries.places_are j))
               (i.exact s (have s st) (subst (λ (r : Reply). IsExact edit r) (p s (have s st)).is.reply x));
         };
         key = one.key;
@@ -171,21 +179,19 @@ module _ (id : TableId) (n : ℕ) (edit : Edit) (old now : Hands) where
         gone = one.gone;
         fresh = one.fresh;
         mine = held;
-        goal = if_some (λ q. (is_among q i.more.one.0 ≡ false) × (goal_of edit ≡ Some q)) (IsFree now.hold edit) (came edit plan.reply)
-            (λ q k. (k.1, held_point now.hold i.more.one.0 q i.more.one.1 (held q (goal_among edit q k.1)) ∙ k.0))
-            (came_free i.more.one.0 edit plan.reply one.is.reply);
       }
 
 -- the same hold with room
-pub plan_with_room : (v : View) (hold new : InHand) (r : Room) (edit : Edit) (plan : Plan) → IsReadyPlan v hold edit plan → new ≡ record hold { room = r } → IsReadyPlan v new edit plan
+pub plan_with_room : (v : View) (hold new : InHand) (r : Room) (edit : Edit) (plan : Plan) →
+    IsReadyPlan v hold edit plan → new ≡ record hold { room = r } → IsReadyPlan v new edit plan
 plan_with_room v hold new r edit plan k e = subst (λ (x : InHand). IsReadyPlan v x edit plan) (sym e) (record {
   ready = k.ready;
   key = k.key;
-  change = λ s st. k.change s (record { ascending = st.ascending; keys = st.keys; solid = st.solid; sights = st.sights });
+  change = λ s st. k.change s
+      (record { ascending = st.ascending; keys = st.keys; solid = st.solid; sights = st.sights });
   gone = k.gone;
   fresh = k.fresh;
   mine = k.mine;
-  goal = k.goal;
 })
 
 -- ---- after a turn
@@ -228,6 +234,8 @@ starved id n old w (Err why) m e =
     subst (λ (y : Refused). HasStopped old w y) (sym e.1) (out_of_memory id n old w m)
 
 -- a claim that failed stops the try
-pub asked_then : {X : Type 0} (id : TableId) (n : ℕ) (w w' u : Hands) (r : Result X Refused) (why : Refused) → HasMore id n w w' → HasStopped w' u why → IsErr r × IsErrAnd r (λ e. e ≡ why) → IfErr r (λ e. HasStopped w u e)
+pub asked_then : {X : Type 0} (id : TableId) (n : ℕ) (w w' u : Hands) (r : Result X Refused) (why : Refused) →
+    HasMore id n w w' → HasStopped w' u why → IsErr r × IsErrAnd r (λ e. e ≡ why) → IfErr r (λ e. HasStopped w u e)
 asked_then id n w w' u (Ok x) why m s e = tt
-asked_then id n w w' u (Err x) why m s e = subst (λ (y : Refused). HasStopped w u y) (sym e.1) (stopped_then id n w w' u why m s)
+asked_then id n w w' u (Err x) why m s e =
+    subst (λ (y : Refused). HasStopped w u y) (sym e.1) (stopped_then id n w w' u why m s)

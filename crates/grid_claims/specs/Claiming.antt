@@ -18,23 +18,19 @@ use Rattle.std.specs.Prelude.{
   Option,
   None,
   Some,
-  IfSome,
 }
 use Rattle.atomic_table.specs.Seated.{TableId}
 use Rattle.edit_history.specs.declared.history.Edit.{Edit}
 use Rattle.edit_history.specs.declared.history.Entry.{Entry}
 use Rattle.edit_history.specs.Edits.{HasKeys, edit_points, reply_to, after}
-use Rattle.cell_store.specs.Grids.{bucket_of}
-use Rattle.cell_store.specs.Buckets.{BucketContent, InHand, points_in, room_for}
-use Rattle.cell_store.specs.Changes.{IsArrived, IsChange, IsSwapped, IsNoted}
+use Rattle.cell_store.specs.Buckets.{BucketContent, InHand, room_for}
+use Rattle.cell_store.specs.Changes.{IsChange}
 use Rattle.cell_store.specs.Missing.{ArePointsHeld}
-use Rattle.cell_store.specs.Points.{came, goal_of}
 use Rattle.point_order.specs.Complex.{complex}
-use Rattle.point_order.specs.declared.cell.Cell.{Cell}
 use Rattle.cell_store.specs.Ready.{AreHeld}
 use Rattle.cell_store.specs.Shares.{Shows}
 use Rattle.cell_store.specs.Touches.{IsTouched}
-use Rattle.point_order.specs.Sets.{IsIn, is_among}
+use Rattle.point_order.specs.Sets.{IsIn}
 use Rattle.grid_claims.specs.declared.hands.Hands.{Hands}
 use Rattle.edit_plans.specs.declared.planner.Plan.{Plan}
 use Rattle.grid_claims.specs.declared.table.Refused.{Refused}
@@ -99,13 +95,11 @@ pub record HasStopped (old new : Hands) (why : Refused) : Type 0 where
 abbrev pub ShowsOne : InHand → Type 0
 ShowsOne hold = (s : List ℕ) × Shows hold s
 
--- the point is the new place of the edit, and is not in its bucket
-abbrev pub IsFree : InHand → Edit → ℕ → Type 0
-IsFree hold edit p =
-    (goal_of edit ≡ Some p) × (is_among p (points_in hold.places (bucket_of hold.grid p)) ≡ false)
+-- it shows one of which this is the edit's reply
+abbrev pub IsRightIn : InHand → Edit → Reply → Type 0
+IsRightIn hold edit reply = (s : List ℕ) × Shows hold s × (reply ≡ reply_to s edit)
 
--- What an edit is to change is known, of every set that the hold shows, all buckets of it are in hand, and the place to
--- which a point moves is free.
+-- What an edit is to change is known, of every set that the hold shows, and all buckets of it are in hand.
 pub record IsReadyPlan (v : View) (hold : InHand) (edit : Edit) (plan : Plan) : Type 0 where
   pub ready : IsReady v edit plan.reply
   pub key : HasKeys edit
@@ -114,7 +108,6 @@ pub record IsReadyPlan (v : View) (hold : InHand) (edit : Edit) (plan : Plan) : 
   pub gone : AreHeld hold plan.gone.items
   pub fresh : AreHeld hold plan.fresh.items
   pub mine : ArePointsHeld hold (edit_points edit)
-  pub goal : IfSome (came edit plan.reply) (IsFree hold edit)
 
 -- the steps that release these buckets, the last one first
 abbrev pub releases_of : List ℕ → List Act
@@ -156,14 +149,6 @@ pub record HasGivenBack (old new : Hands) : Type 0 where
     held = new.hold.places;
     trail = old.place.me.0.trail ++ releases_of old.order.items;
   }
-
--- The cells were exchanged, the place came to which a point has moved, and then the entry was put in.
-pub record IsBrought (gone fresh : List Cell) (e : Entry) (old new : InHand) : Type 0 where
-  pub between : InHand
-  pub goal : InHand
-  pub swapped : IsSwapped gone fresh old between
-  pub arrived : IsArrived e between goal
-  pub noted : IsNoted e goal new
 
 -- The hands of a pass between two calls: it holds nothing, and there is room in the order for all buckets.
 pub record HasRest (w : Hands) : Type 0 where

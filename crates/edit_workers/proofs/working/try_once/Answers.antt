@@ -6,10 +6,15 @@ pub try_edit-requires : goal.try_edit-requires
 try_edit-requires g c = record { table = c.requires.table }
 
 pub unreachable-requires : goal.unreachable-requires
-unreachable-requires g c = let r = rw c.in-Err-Spent.field-0-is at c.in-Err-Spent.ensures.refused in let l = c.requires.left in omega (arith, r.0, l)
+unreachable-requires g c =
+    let r = rw c.in-Err-Spent.field-0-is at c.in-Err-Spent.ensures.refused in
+    let l = c.requires.left in
+    omega (arith, r.0, l)
 
 pub returns-in-Ok-clause-tried : goal.returns-in-Ok-clause-tried
-returns-in-Ok-clause-tried g c = made_once c.args.tag c.args.edit c.in-Ok.field-0.number c.in-Ok.field-0.reply c.args.pass.now c.try_edit.new.pass c.in-Ok.ensures.edited
+returns-in-Ok-clause-tried g c =
+    made_once c.args.tag c.args.edit c.in-Ok.field-0.number c.in-Ok.field-0.reply c.args.pass.now c.try_edit.new.pass
+    c.in-Ok.ensures.edited
 
 pub returns-in-Err-Busy-clause-tried : goal.returns-in-Err-Busy-clause-tried
 returns-in-Err-Busy-clause-tried g c =

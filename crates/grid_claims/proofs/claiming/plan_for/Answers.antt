@@ -1,5 +1,14 @@
 use Rattle.grid_claims.specs.Faces.{buckets_of}
-use Rattle.grid_claims.proofs.Planning.{asked_then, lacks_after, more_after, on_after, planned_after, planning_none, starved}
+use Rattle.grid_claims.proofs.Planning.{
+  asked_then,
+  hands_with,
+  lacks_after,
+  more_after,
+  on_after,
+  planned_after,
+  planning_none,
+  starved,
+}
 use Rattle.grid_claims.proofs.claiming.plan_for.Goals as goal
 
 pub loop-plan-init : goal.loop-plan-init
@@ -34,7 +43,7 @@ returns-in_err-plan-clause-hands c =
 pub returns-in_err-plan-clause-stopped : goal.returns-in_err-plan-clause-stopped
 returns-in_err-plan-clause-stopped c =
     starved c.args.board.now.shared.table_id (buckets_of c.args.board.now.shared.key) c.args.hands.now
-    (record { place = c.loop-plan.hands.place; hold = c.advance.new.hold; order = c.loop-plan.hands.order; first = c.loop-plan.hands.first })
+    (hands_with c.loop-plan.hands c.advance.new.hold)
     c.from_residual.result
     (more_after c.args.board.now.shared.table_id (buckets_of c.args.board.now.shared.key) c.args.edit c.args.hands.now
     c.loop-plan.hands c.advance.new.hold c.advance.new.hold.room c.loop-plan.planner c.loop-plan.invariant
@@ -49,20 +58,24 @@ ask-requires-clause-hands c =
 
 pub ask-requires-clause-below : goal.ask-requires-clause-below
 ask-requires-clause-below c =
-    (lacks_after c.args.board.now.shared.table_id (buckets_of c.args.board.now.shared.key) c.args.edit c.args.hands.now
-    c.loop-plan.hands c.advance.new.hold c.advance.new.hold.room c.loop-plan.planner c.in-Need.next c.in-Need.b
-    c.in_ok-plan.field-0 c.loop-plan.invariant c.in-Need.is c.in_ok-plan.ensures.answers c.in_ok-plan.ensures.same).below
+    let lacks = lacks_after c.args.board.now.shared.table_id (buckets_of c.args.board.now.shared.key) c.args.edit
+    c.args.hands.now c.loop-plan.hands c.advance.new.hold c.advance.new.hold.room c.loop-plan.planner c.in-Need.next
+    c.in-Need.b c.in_ok-plan.field-0 c.loop-plan.invariant c.in-Need.is c.in_ok-plan.ensures.answers c.in_ok-plan.ensures.same
+    in
+    lacks.below
 
 pub ask-requires-clause-absent : goal.ask-requires-clause-absent
 ask-requires-clause-absent c =
-    (lacks_after c.args.board.now.shared.table_id (buckets_of c.args.board.now.shared.key) c.args.edit c.args.hands.now
-    c.loop-plan.hands c.advance.new.hold c.advance.new.hold.room c.loop-plan.planner c.in-Need.next c.in-Need.b
-    c.in_ok-plan.field-0 c.loop-plan.invariant c.in-Need.is c.in_ok-plan.ensures.answers c.in_ok-plan.ensures.same).absent
+    let lacks = lacks_after c.args.board.now.shared.table_id (buckets_of c.args.board.now.shared.key) c.args.edit
+    c.args.hands.now c.loop-plan.hands c.advance.new.hold c.advance.new.hold.room c.loop-plan.planner c.in-Need.next
+    c.in-Need.b c.in_ok-plan.field-0 c.loop-plan.invariant c.in-Need.is c.in_ok-plan.ensures.answers c.in_ok-plan.ensures.same
+    in
+    lacks.absent
 
 pub returns-in_err-ask-in-Need-clause-stopped : goal.returns-in_err-ask-in-Need-clause-stopped
 returns-in_err-ask-in-Need-clause-stopped c =
     asked_then c.args.board.now.shared.table_id (buckets_of c.args.board.now.shared.key) c.args.hands.now
-    (record { place = c.loop-plan.hands.place; hold = c.advance.new.hold; order = c.loop-plan.hands.order; first = c.loop-plan.hands.first })
+    (hands_with c.loop-plan.hands c.advance.new.hold)
     c.ask.new.hands c.from_residual-in_err-ask-in-Need.result c.in_err-ask-in-Need.field-0.0
     (more_after c.args.board.now.shared.table_id (buckets_of c.args.board.now.shared.key) c.args.edit c.args.hands.now
     c.loop-plan.hands c.advance.new.hold c.advance.new.hold.room c.loop-plan.planner c.loop-plan.invariant
