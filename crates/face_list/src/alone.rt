@@ -8,6 +8,7 @@ ghost use Rattle.face_list.specs.Faces.{parts_in, points_in, points_with_cells, 
 ghost use Rattle.face_list.specs.Gather.{AreAscending, AreItems, Gathers, item_cmp};
 ghost use Rattle.face_list.specs.Tables.{IsTable, table_seen};
 
+use crate::counts::number_of;
 use crate::face::Faces;
 use crate::gather::{each_once, keys_of_full, with_numbers};
 use crate::parts::{pair_items, point_items, triple_items};
@@ -86,9 +87,7 @@ pub fn few_faces(alloc: Global, cells: &[Cell]) -> Result<Faces<'_>, AllocError>
     ensures triples { IfOk result (λ f. f.triples ≡ with_cells (parts_in 3 cells.now) cells.now) }
     ensures cells { IfOk result (λ f. f.cells ≡ cells.now) }
 {
-    if u32::try_from(cells.len()).is_err() {
-        return Err(AllocError);
-    }
+    number_of(cells.len())?;
     Ok(Faces {
         cells,
         points: point_table(alloc, cells)?,

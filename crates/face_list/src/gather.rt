@@ -9,6 +9,7 @@ ghost use Rattle.point_order.specs.Sets.{IsIn};
 ghost use Rattle.face_list.specs.Gather.{item_cmp, numbers_of, full_keys, is_full as is_full_cell, AreItems, Gathers};
 ghost use Rattle.face_list.specs.Tables.{AreStops, IsTable, stretches};
 
+use crate::counts::number_of;
 use crate::table::Table;
 use point_order::Cell;
 use rayon::slice::par_sort_unstable;
@@ -117,9 +118,7 @@ fn put_numbers<'a, K: Ord + Copy>(
 fn put_end(ends: &mut Vec<u32>, count: usize) -> Result<(), AllocError>
     ensures { OnOk result (ends.new.items ≡ ends.old.items ++ count ∷ []) }
 {
-    let Ok(end) = u32::try_from(count) else {
-        return Err(AllocError);
-    };
+    let end = number_of(count)?;
     ends.push(end)?;
     Ok(())
 }

@@ -19,6 +19,7 @@ ghost use Rattle.std.specs.Prelude.{◌≡◌, IfOk};
 ghost use Rattle.face_list.specs.Faces.{points_in, parts_in, points_with_cells, with_cells};
 
 mod alone;
+mod counts;
 pub mod face;
 mod gather;
 pub mod laws;
@@ -27,6 +28,7 @@ mod parts;
 mod table;
 
 pub use alone::few_faces;
+pub use counts::number_of;
 pub use face::Faces;
 use point_order::Cell;
 use std::alloc::{AllocError, Global};
@@ -55,9 +57,7 @@ pub fn faces<'a, R: Threads + Sync>(
     ensures triples { IfOk result (λ f. f.triples ≡ with_cells (parts_in 3 cells.now) cells.now) }
     ensures cells { IfOk result (λ f. f.cells ≡ cells.now) }
 {
-    if u32::try_from(cells.len()).is_err() {
-        return Err(AllocError);
-    }
+    number_of(cells.len())?;
     Ok(Faces {
         cells,
         points: lists::point_table(rt, alloc, cells)?,

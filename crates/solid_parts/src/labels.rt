@@ -6,7 +6,7 @@ ghost use Rattle.std.specs.List.{range_with_len};
 ghost use Rattle.solid_parts.specs.Labels.{AreLabels};
 
 use crate::groups::{flatten, join_all};
-use face_list::Faces;
+use face_list::{Faces, number_of};
 use std::alloc::{AllocError, Global};
 
 /// The numbers below a count.
@@ -18,9 +18,7 @@ pub fn numbers_below(alloc: Global, count: usize) -> Result<Vec<u32>, AllocError
 {
     let mut numbers = Vec::with_capacity(alloc, count)?;
     for index in 0..count {
-        let Ok(number) = u32::try_from(index) else {
-            return Err(AllocError);
-        };
+        let number = number_of(index)?;
         numbers.push(number)?;
     }
     Ok(numbers)

@@ -1,10 +1,16 @@
 use Rattle.face_list.proofs.Failing.{no_value}
 use Rattle.face_list.proofs.alone.few_faces.Goals as goal
 
-pub returns-in_err-point_table : goal.returns-in_err-point_table
-returns-in_err-point_table c =
+pub returns-in_err-number_of : goal.returns-in_err-number_of
+returns-in_err-number_of c =
     let r = c.from_residual.result in
     let f = c.from_residual.ensures.0 in
+    record { points = no_value _ r f; pairs = no_value _ r f; triples = no_value _ r f; cells = no_value _ r f }
+
+pub returns-in_err-point_table : goal.returns-in_err-point_table
+returns-in_err-point_table c =
+    let r = c.from_residual-in_err-point_table.result in
+    let f = c.from_residual-in_err-point_table.ensures.0 in
     record { points = no_value _ r f; pairs = no_value _ r f; triples = no_value _ r f; cells = no_value _ r f }
 
 pub returns-in_err-pair_table : goal.returns-in_err-pair_table
