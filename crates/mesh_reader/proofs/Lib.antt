@@ -5,3 +5,5 @@ pub mod Decided
 pub mod Judged
 pub mod Turns
 pub mod Order
+pub mod Pieced
+pub mod Cited

@@ -10,14 +10,19 @@
 //!     Err(ReadRefused::Bad(fault)) => ..,          // its first wrong line, and why it is wrong
 //!     Err(ReadRefused::Memory) => ..,
 //! }
+//! let mut reader = MeshReader::new(alloc);         // the same of a text that comes in pieces
+//! reader = reader.take(&piece)?;                   // however it is cut
+//! let mesh = reader.finish()?;
 //! ```
 #![tactic(auto)]
 
+mod counted;
 pub mod laws;
 mod line;
 mod mesh_file;
+mod pieces;
 pub mod place;
 mod reader;
 
 pub use mesh_file::MeshFile;
-pub use reader::read_mesh;
+pub use pieces::{MeshReader, read_mesh};

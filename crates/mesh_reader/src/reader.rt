@@ -1,15 +1,11 @@
 //! Reading the text of a mesh, line by line.
 
-ghost use Rattle.std.specs.Prelude.{◌≡◌, IfOk, Err, nat_lt};
+ghost use Rattle.std.specs.Prelude.{◌≡◌, Err, nat_lt};
 ghost use Rattle.std.specs.Prelude.{if◌then◌else◌};
 ghost use Rattle.std.specs.Str.{bytes_eq};
-ghost use Rattle.edit_files.specs.declared.fault.Fault.{Fault};
 ghost use Rattle.edit_files.specs.declared.fault.Why.TheVariants.{Section};
-ghost use Rattle.edit_files.specs.declared.fault.ReadRefused.TheVariants.{Bad};
 ghost use Rattle.mesh_reader.specs.declared.place.Part.TheVariants as lists;
-ghost use Rattle.mesh_reader.specs.Grammar.{IsMeshText, at_title, parts};
-ghost use Rattle.mesh_reader.specs.Faults.{IsMeshFault};
-ghost use Rattle.mesh_reader.specs.Order.{IsInOrder};
+ghost use Rattle.mesh_reader.specs.Grammar.{at_title, parts};
 ghost use Rattle.mesh_reader.specs.Judging.{
   Gives,
   Steps,
@@ -18,33 +14,31 @@ ghost use Rattle.mesh_reader.specs.Judging.{
   headed,
   is_after,
   is_less,
-  judge as judge_from,
   move,
   reached,
   refused_at,
   step,
   taken,
 };
-ghost use Rattle.edit_files.specs.Lines.{lines_of};
 
 use crate::line::{announced, quad_of, reads, reply_of, tri_of};
 use crate::mesh_file::MeshFile;
 use crate::place::{Due, Part, limit_of, lines_due};
-use edit_files::{Fault, ReadRefused, Why, first_line, point_of};
+use edit_files::{Fault, ReadRefused, Why, point_of};
 use point_order::{Cell, Point, Quad, Tri};
 use std::alloc::{AllocFailed, Global};
 use std::cmp::Ordering;
 
 // Why a line was not taken.
 #[derive(Clone, Copy)]
-enum LineRefused {
+pub(crate) enum LineRefused {
     Bad(Why),
     Memory,
 }
 
 impl LineRefused {
     // Why the text was not read, where this line has that number.
-    fn of_line(self, line: u64) -> ReadRefused
+    pub(crate) fn of_line(self, line: u64) -> ReadRefused
         ensures { result ≡ refused_at line self }
     {
         match self {
@@ -76,8 +70,8 @@ impl<T: Drop> From<AllocFailed<T>> for LineRefused {
 
 // A reader: what is due, and what it took so far.
 #[derive(Drop)]
-struct Reader {
-    due: Due,
+pub(crate) struct Reader {
+    pub(crate) due: Due,
     file: MeshFile,
 }
 
@@ -176,7 +170,7 @@ impl MeshFile {
 }
 
 impl Reader {
-    fn new(alloc: Global) -> Reader
+    pub(crate) fn new(alloc: Global) -> Reader
         ensures { reached result ≡ at_title }
     {
         let file = MeshFile {
@@ -192,7 +186,7 @@ impl Reader {
     }
 
     // Takes the line that follows.
-    fn take_line(&mut self, line: &[u8]) -> Result<(), LineRefused>
+    pub(crate) fn take_line(&mut self, line: &[u8]) -> Result<(), LineRefused>
         ensures { Steps result (reached self.new) (step (reached self.old) line.now) }
     {
         match self.due {
@@ -236,7 +230,7 @@ impl Reader {
     }
 
     // The mesh, where its end was read; `line` is the number of the line that would follow.
-    fn finish(self, line: u64) -> Result<MeshFile, ReadRefused>
+    pub(crate) fn finish(self, line: u64) -> Result<MeshFile, ReadRefused>
         ensures { Gives parts result (ended line self.due (parts self.file)) }
     {
         match self.due {
@@ -247,37 +241,4 @@ impl Reader {
             })),
         }
     }
-}
-
-// Judges a text line by line.
-fn judge(alloc: Global, bytes: &[u8]) -> Result<MeshFile, ReadRefused>
-    ensures { Gives parts result (judge_from 1 at_title (lines_of bytes.now)) }
-{
-    let mut reader = Reader::new(alloc);
-    let mut number = 1;
-    let mut rest = bytes;
-    while let Some((line, after)) = first_line(rest) {
-        match reader.take_line(line) {
-            Ok(()) => {}
-            Err(refused) => return Err(refused.of_line(number)),
-        }
-        number += 1;
-        rest = after;
-    }
-    reader.finish(number)
-}
-
-/// The mesh that a text is of: that of a report without shapes and without an order block. Its points ascend, and its
-/// cells and triples stand in order, each once, with points of these (`order`), as the check of a mesh asks for.
-///
-/// It takes memory in proportion to what the text names.
-///
-/// # Errors
-/// Where it is of none, its one fault; and where there is no memory for what it names, that.
-pub fn read_mesh(alloc: Global, bytes: &[u8]) -> Result<MeshFile, ReadRefused>
-    ensures accepted { IfOk result (λ mesh. IsMeshText bytes.now (parts mesh)) }
-    ensures order { IfOk result (λ mesh. IsInOrder (parts mesh)) }
-    ensures fault { (fault : Fault) → result ≡ Err (Bad fault) → IsMeshFault bytes.now fault }
-{
-    judge(alloc, bytes)
 }

@@ -1,0 +1,254 @@
+-- A text that comes in pieces: its lines are counted, and what is left of it is judged as all of it.
+use Rattle.std.proofs.Common.{
+  ◌≡◌,
+  ℕ,
+  zero,
+  suc,
+  ◌+◌,
+  ◌<◌,
+  ◌≤◌,
+  ◌≢◌,
+  List,
+  [],
+  ◌∷◌,
+  ◌++◌,
+  append_assoc,
+  append-nil,
+  add-one,
+  length,
+  take,
+  drop,
+  take-append-drop,
+  get_or,
+  eqb,
+  ◌==◌,
+  ne_eqb,
+  false,
+  true,
+  vec_len,
+  Result,
+  Ok,
+  Err,
+  refl,
+  sym,
+  ap,
+  subst,
+  ◌∙◌,
+  arith,
+}
+use Rattle.std.specs.List.{onto_first}
+use Rattle.std.proofs.lemmas.Bool.{eqb-false, eqb-true}
+use Rattle.std.proofs.Math.Seq.{drop-cons, take-suc}
+use Rattle.edit_files.specs.declared.fault.Fault.{Fault}
+use Rattle.edit_files.specs.declared.fault.ReadRefused.{ReadRefused}
+use Rattle.edit_files.specs.declared.fault.ReadRefused.TheVariants as refusals
+use Rattle.edit_files.specs.Lines.{lines_of}
+use Rattle.edit_files.proofs.Cited.{line_first, without_append}
+use Rattle.mesh_reader.specs.declared.counted.Counted.{Counted}
+use Rattle.mesh_reader.specs.declared.mesh_file.MeshFile.{MeshFile}
+use Rattle.mesh_reader.specs.declared.place.Part.{Part}
+use Rattle.mesh_reader.specs.declared.place.Part.TheVariants.{Replies, Points, Cells, Hull}
+use Rattle.mesh_reader.specs.declared.place.Due.{Due}
+use Rattle.mesh_reader.specs.declared.place.Due.TheVariants.{Title, Head, Body, Last, Nothing}
+use Rattle.mesh_reader.specs.declared.reader.LineRefused.{LineRefused}
+use Rattle.mesh_reader.specs.declared.reader.LineRefused.TheVariants as line_refusals
+use Rattle.mesh_reader.specs.declared.pieces.MeshReader.{MeshReader}
+use Rattle.mesh_reader.specs.declared.pieces.State.{State}
+use Rattle.mesh_reader.specs.Grammar.{Leads, MeshParts, Reached, at_title, behind, lines_due, most_of, parts}
+use Rattle.mesh_reader.specs.Judging.{Gives, Refuses, judge, refused_at, step}
+use Rattle.mesh_reader.specs.LinesLeft.{most_behind, most_left}
+use Rattle.mesh_reader.specs.Pieces.{HasNoFeed, HasTaken, LeavesOf, comes_to}
+use Rattle.mesh_reader.proofs.Decided.{step_sound}
+use Rattle.mesh_reader.proofs.Turns.{judge_bad}
+
+-- ---- how many lines may follow
+
+behind_left : (p : Part) → most_left (behind p) ≤ most_behind p
+behind_left Replies = omega arith
+behind_left Points = omega arith
+behind_left Cells = omega arith
+behind_left Hull = omega arith
+
+due_left : (p : Part) (n m : ℕ) → n ≤ m → most_left (lines_due p n) + 1 ≤ 1 + m + most_behind p
+due_left p zero m l = let b = behind_left p in omega (arith, b)
+due_left p (suc n) m l = omega (arith, l)
+
+lead_left : (due : Due) (f : MeshParts) (line : List ℕ) (next : Reached) → Leads due f line next
+    → most_left next.due + 1 ≤ most_left due
+lead_left Title f line next h =
+    subst (λ (d : Due). most_left d + 1 ≤ most_left Title) (sym (ap (λ (r : Reached). r.due) h.1)) (omega arith)
+lead_left (Head p) f line next h =
+    subst (λ (d : Due). most_left d + 1 ≤ most_left (Head p)) (sym (ap (λ (r : Reached). r.due) h.2))
+    (due_left p h.0 (most_of p) h.1.most)
+lead_left (Body p n) f line next h =
+    subst (λ (d : Due). most_left d + 1 ≤ most_left (Body p n)) (sym (ap (λ (r : Reached). r.due) h.2))
+    (due_left p n n (omega arith))
+lead_left Last f line next h =
+    subst (λ (d : Due). most_left d + 1 ≤ most_left Last) (sym (ap (λ (r : Reached). r.due) h.1)) (omega arith)
+lead_left Nothing f line next h = absurd h
+
+-- behind a right line there may be fewer
+pub fewer_left : (a : Reached) (line : List ℕ) (b : Reached) → step a line ≡ Ok b
+    → most_left b.due + 1 ≤ most_left a.due
+fewer_left a line b h = lead_left a.due a.taken line b (step_sound a line b h)
+
+-- ---- a wrong line
+
+-- a refusal by its fault
+pub bad_one : (e : ReadRefused) (fault : Fault) → ◌≡◌ {A = Result Counted ReadRefused} (Err e) (Err (refusals.Bad fault))
+    → e ≡ refusals.Bad fault
+bad_one e fault h = cc
+
+-- then its fault is that of the text, whatever follows
+pub wrong_line : (e : LineRefused) (n : ℕ) (a : Reached) (line : List ℕ) (fault : Fault) → Refuses e (step a line)
+    → refused_at n e ≡ refusals.Bad fault → (lines : List (List ℕ)) → judge n a (line ∷ lines) ≡ Err fault
+wrong_line line_refusals.Memory n a line fault h e lines = absurd (cc)
+wrong_line (line_refusals.Bad why) n a line fault h e lines =
+    let same : ◌≡◌ {A = Fault} (record { line = n; why = why }) fault = cc in
+    judge_bad n a why (line ∷ lines) line lines refl h ∙ ap (λ (f : Fault). Err f) same
+
+-- ---- lines of bytes
+
+-- a front without a line feed, and one byte more
+pub no_feed_more : (bytes : List ℕ) (i : ℕ) → i < length bytes → HasNoFeed (take i bytes) → get_or bytes i 0 ≢ 10
+    → HasNoFeed (take (i + 1) bytes)
+no_feed_more bytes i l h n =
+    rw (add-one, take-suc bytes i 0 l)
+    (without_append 10 (take i bytes) (get_or bytes i 0 ∷ []) h (ne_eqb (get_or bytes i 0) 10 n, tt))
+
+-- bytes about a line feed
+pub feed_at : (bytes : List ℕ) (i : ℕ) → i < length bytes → get_or bytes i 0 ≡ 10
+    → bytes ≡ take i bytes ++ 10 ∷ drop (i + 1) bytes
+feed_at bytes i l e =
+    sym (take-append-drop i bytes)
+    ∙ ap (λ (rest : List ℕ). take i bytes ++ rest) (drop-cons bytes i 0 l ∙ ap (λ (b : ℕ). b ∷ drop (suc i) bytes) e)
+    ∙ ap (λ (k : ℕ). take i bytes ++ 10 ∷ drop k bytes) (sym (add-one i))
+
+-- bytes without a line feed are one line
+pub last_line : (bytes : List ℕ) → HasNoFeed bytes → 0 < length bytes → lines_of bytes ≡ bytes ∷ []
+last_line [] h l = absurd (omega arith)
+last_line (b ∷ []) h l = let e : eqb b 10 ≡ false = h.0 in rw e refl
+last_line (b ∷ c ∷ bytes) h l =
+    let e : eqb b 10 ≡ false = h.0 in
+    let rest = last_line (c ∷ bytes) h.1 (omega arith) in
+    rw e (ap (onto_first b) rest)
+
+-- ---- pieces
+
+-- a line that ends is the first of the text that it begins
+pub line_cut : (begun line rest piece more : List ℕ) → HasNoFeed begun → HasNoFeed line → piece ≡ line ++ 10 ∷ rest
+    → lines_of (begun ++ (piece ++ more)) ≡ (begun ++ line) ∷ lines_of (rest ++ more)
+line_cut begun line rest piece more b l e =
+    ap (λ (p : List ℕ). lines_of (begun ++ (p ++ more))) e
+    ∙ ap (λ (t : List ℕ). lines_of (begun ++ t)) (append_assoc line (10 ∷ rest) more)
+    ∙ ap lines_of (sym (append_assoc begun line (10 ∷ (rest ++ more))))
+    ∙ line_first (begun ++ line) (rest ++ more) (without_append 10 begun line b l)
+
+-- where a whole line is taken, what is left comes to the same
+pub line_taken : (before state next : State) (all rest line behind : List ℕ) → LeavesOf before all state rest
+    → ((lines : List (List ℕ)) → comes_to next lines ≡ comes_to state (line ∷ lines))
+    → (rest ≡ line ++ 10 ∷ behind) × HasNoFeed line → LeavesOf before all next behind
+line_taken before state next all rest line behind h t p more =
+    t (lines_of (behind ++ more)) ∙ ap (comes_to state) (sym (line_cut [] line behind rest more tt p.1 p.0)) ∙ h more
+
+-- ---- what a reader has taken
+
+-- then it makes of the line that is begun what is to be made of the text
+pub taken_all : (r : MeshReader) (bytes : List ℕ) → HasTaken r bytes → comes_to r.state (lines_of r.begun.items)
+    ≡ judge 1 at_title (lines_of bytes)
+taken_all r bytes h =
+    ap (λ (l : List ℕ). comes_to r.state (lines_of l)) (sym (append-nil r.begun.items)) ∙ h.same []
+    ∙ ap (λ (l : List ℕ). judge 1 at_title (lines_of l)) (append-nil bytes)
+
+-- no line is begun
+pub none_begun : (r : MeshReader) (bytes : List ℕ) → HasTaken r bytes → r.begun.items ≡ []
+    → comes_to r.state [] ≡ judge 1 at_title (lines_of bytes)
+none_begun r bytes h e = ap (λ (l : List ℕ). comes_to r.state (lines_of l)) (sym e) ∙ taken_all r bytes h
+
+-- the line that is begun is the last
+pub last_taken : (r : MeshReader) (bytes : List ℕ) (next : State) → HasTaken r bytes → 0 < length r.begun.items
+    → ((lines : List (List ℕ)) → comes_to next lines ≡ comes_to r.state (r.begun.items ∷ lines))
+    → comes_to next [] ≡ judge 1 at_title (lines_of bytes)
+last_taken r bytes next h l t =
+    t [] ∙ ap (comes_to r.state) (sym (last_line r.begun.items h.begun l)) ∙ taken_all r bytes h
+
+-- the line that is taken is the one that was begun
+pub line_begun : (state next : State) (line whole : List ℕ) → line ≡ whole
+    → ((lines : List (List ℕ)) → comes_to next lines ≡ comes_to state (line ∷ lines))
+    → (lines : List (List ℕ)) → comes_to next lines ≡ comes_to state (whole ∷ lines)
+line_begun state next line whole e t =
+    subst (λ (l : List ℕ). (lines : List (List ℕ)) → comes_to next lines ≡ comes_to state (l ∷ lines)) e t
+
+-- a piece behind a wrong line
+pub piece_ignored : (r now : MeshReader) (piece : List ℕ)
+    → ((lines others : List (List ℕ)) → comes_to r.state lines ≡ comes_to r.state others)
+    → ◌≡◌ {A = State} now.state r.state → now.begun.items ≡ [] → (bytes : List ℕ) → HasTaken r bytes
+    → HasTaken now (bytes ++ piece)
+piece_ignored r now piece any s b bytes h =
+    record {
+      begun = subst HasNoFeed (sym b) tt;
+      same = λ more.
+          ap (λ (v : State). comes_to v (lines_of (now.begun.items ++ more))) s
+          ∙ any (lines_of (now.begun.items ++ more)) (lines_of (r.begun.items ++ (piece ++ more)))
+          ∙ h.same (piece ++ more)
+          ∙ ap (λ (l : List ℕ). judge 1 at_title (lines_of l)) (sym (append_assoc bytes piece more));
+    }
+
+-- a piece that ends no line
+pub piece_begun : (r now : MeshReader) (piece : List ℕ) → HasNoFeed piece → ◌≡◌ {A = State} now.state r.state
+    → now.begun.items ≡ r.begun.items ++ piece → (bytes : List ℕ) → HasTaken r bytes → HasTaken now (bytes ++ piece)
+piece_begun r now piece n s b bytes h =
+    record {
+      begun = subst HasNoFeed (sym b) (without_append 10 r.begun.items piece h.begun n);
+      same = λ more.
+          ap (λ (v : State). comes_to v (lines_of (now.begun.items ++ more))) s
+          ∙ ap (λ (l : List ℕ). comes_to r.state (lines_of (l ++ more))) b
+          ∙ ap (λ (l : List ℕ). comes_to r.state (lines_of l)) (append_assoc r.begun.items piece more)
+          ∙ h.same (piece ++ more)
+          ∙ ap (λ (l : List ℕ). judge 1 at_title (lines_of l)) (sym (append_assoc bytes piece more));
+    }
+
+-- and one that ends a line
+pub piece_taken : (r now : MeshReader) (next : State) (piece line behind rest : List ℕ)
+    → (piece ≡ line ++ 10 ∷ behind) × HasNoFeed line
+    → ((lines : List (List ℕ)) → comes_to next lines ≡ comes_to r.state ((r.begun.items ++ line) ∷ lines))
+    → LeavesOf next behind now.state rest → HasNoFeed rest → now.begun.items ≡ rest → (bytes : List ℕ)
+    → HasTaken r bytes → HasTaken now (bytes ++ piece)
+piece_taken r now next piece line behind rest p t l n b bytes h =
+    record {
+      begun = subst HasNoFeed (sym b) n;
+      same = λ more.
+          ap (λ (v : List ℕ). comes_to now.state (lines_of (v ++ more))) b ∙ l more ∙ t (lines_of (behind ++ more))
+          ∙ ap (comes_to r.state) (sym (line_cut r.begun.items line behind piece more h.begun p.1 p.0))
+          ∙ h.same (piece ++ more)
+          ∙ ap (λ (v : List ℕ). judge 1 at_title (lines_of v)) (sym (append_assoc bytes piece more));
+    }
+
+-- ---- what a call gave
+
+-- an end of a text that begins no line
+pub none_given : (r : MeshReader) (bytes : List ℕ) → HasTaken r bytes → (vec_len r.begun == 0) ≡ true
+    → (given : Result MeshFile ReadRefused) → Gives parts given (comes_to r.state [])
+    → Gives parts given (judge 1 at_title (lines_of bytes))
+none_given r bytes h z given g =
+    let k : vec_len r.begun ≡ 0 = eqb-true (vec_len r.begun) 0 z in
+    let none : length r.begun.items ≡ 0 = omega (arith, k, r.begun.ok.0) in
+    subst (λ (v : Result MeshParts Fault). Gives parts given v)
+    (none_begun r bytes h (empty_list r.begun.items none)) g
+  where
+    empty_list : (l : List ℕ) → length l ≡ 0 → l ≡ []
+    empty_list [] e = refl
+    empty_list (x ∷ l) e = absurd (omega (arith, e))
+
+-- and of one whose last line ends without a line feed
+pub last_given : (r : MeshReader) (bytes : List ℕ) → HasTaken r bytes → (vec_len r.begun == 0) ≡ false
+    → (line : List ℕ) → line ≡ r.begun.items → (next : State)
+    → ((lines : List (List ℕ)) → comes_to next lines ≡ comes_to r.state (line ∷ lines))
+    → (given : Result MeshFile ReadRefused) → Gives parts given (comes_to next [])
+    → Gives parts given (judge 1 at_title (lines_of bytes))
+last_given r bytes h z line e next t given g =
+    let k = eqb-false (vec_len r.begun) 0 z in
+    let some : 0 < length r.begun.items = omega (arith, k, r.begun.ok.0) in
+    subst (λ (v : Result MeshParts Fault). Gives parts given v)
+    (last_taken r bytes next h some
+    (subst (λ (l : List ℕ). (lines : List (List ℕ)) → comes_to next lines ≡ comes_to r.state (l ∷ lines)) e t)) g

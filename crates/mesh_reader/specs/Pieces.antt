@@ -1,0 +1,31 @@
+-- A text that is read piece by piece, as far as its pieces came.
+use Rattle.std.specs.Prelude.{◌≡◌, ℕ, ◌==◌, false, List, [], ◌∷◌, ◌++◌, Result, Ok, Err}
+use Rattle.std.specs.List.{AllByRecursion}
+use Rattle.edit_files.specs.declared.fault.Fault.{Fault}
+use Rattle.edit_files.specs.Lines.{lines_of}
+use Rattle.mesh_reader.specs.declared.pieces.MeshReader.{MeshReader}
+use Rattle.mesh_reader.specs.declared.pieces.State.{State}
+use Rattle.mesh_reader.specs.declared.pieces.State.TheVariants.{Right, Wrong}
+use Rattle.mesh_reader.specs.Grammar.{MeshParts, at_title}
+use Rattle.mesh_reader.specs.Judging.{judge, reached}
+
+-- no line feed (10) is among the bytes
+abbrev pub HasNoFeed : List ℕ → Type 0
+HasNoFeed bytes = AllByRecursion (λ b. (b == 10) ≡ false) bytes
+
+-- what is made of the lines that follow
+abbrev pub comes_to : State → List (List ℕ) → Result MeshParts Fault
+comes_to (Right counted) lines = judge counted.number (reached counted.reader) lines
+comes_to (Wrong fault) lines = Err fault
+
+-- the same is made of what is left, whatever follows it, as of all of it
+abbrev pub LeavesOf : State → List ℕ → State → List ℕ → Type 0
+LeavesOf before all now left =
+    (more : List ℕ) → comes_to now (lines_of (left ++ more)) ≡ comes_to before (lines_of (all ++ more))
+
+-- The reader has taken these bytes: whatever follows them, it makes of the line that is begun and of what follows the
+-- same as is made of the whole text.
+pub record HasTaken (r : MeshReader) (bytes : List ℕ) : Type 0 where
+  pub begun : HasNoFeed r.begun.items
+  pub same : (more : List ℕ) → comes_to r.state (lines_of (r.begun.items ++ more))
+      ≡ judge 1 at_title (lines_of (bytes ++ more))

@@ -1,0 +1,60 @@
+//! A reader that counts its lines.
+
+ghost use Rattle.std.specs.Prelude.{◌≡◌, ◌+◌, ◌≤◌, ◌∷◌, [], List, ℕ, IfOk, Err};
+ghost use Rattle.edit_files.specs.declared.fault.Fault.{Fault as FaultParts};
+ghost use Rattle.edit_files.specs.declared.fault.ReadRefused.TheVariants.{Bad};
+ghost use Rattle.mesh_reader.specs.Grammar.{at_title, parts};
+ghost use Rattle.mesh_reader.specs.Judging.{Gives, judge, reached};
+ghost use Rattle.mesh_reader.specs.LinesLeft.{line_count, most_left};
+
+use crate::mesh_file::MeshFile;
+use crate::reader::Reader;
+use edit_files::ReadRefused;
+use std::alloc::Global;
+
+/// A reader whose lines were right so far.
+#[derive(Drop)]
+pub(crate) struct Counted {
+    pub(crate) reader: Reader,
+    /// The number of the line that is due, from 1.
+    pub(crate) number: u64,
+    ghost few: { number + most_left reader.due ≤ line_count },
+}
+
+impl Counted {
+    pub(crate) fn new(alloc: Global) -> Counted
+        ensures number { result.number ≡ 1 }
+        ensures reader { reached result.reader ≡ at_title }
+    {
+        Counted {
+            reader: Reader::new(alloc),
+            number: 1,
+        }
+    }
+
+    // Takes the line that is due.
+    pub(crate) fn take_line(self, line: &[u8]) -> Result<Counted, ReadRefused>
+        ensures right { IfOk result (λ next. (lines : List (List ℕ)) →
+            judge next.number (reached next.reader) lines
+            ≡ judge self.number (reached self.reader) (line.now ∷ lines)) }
+        ensures wrong { (fault : FaultParts) → result ≡ Err (Bad fault) → (lines : List (List ℕ)) →
+            judge self.number (reached self.reader) (line.now ∷ lines) ≡ Err fault }
+    {
+        let Counted { mut reader, number } = self;
+        match reader.take_line(line) {
+            Ok(()) => Ok(Counted {
+                reader,
+                number: number + 1,
+            }),
+            Err(refused) => Err(refused.of_line(number)),
+        }
+    }
+
+    // The mesh, where its end was read.
+    pub(crate) fn finish(self) -> Result<MeshFile, ReadRefused>
+        ensures { Gives parts result (judge self.number (reached self.reader) []) }
+    {
+        let Counted { reader, number } = self;
+        reader.finish(number)
+    }
+}
