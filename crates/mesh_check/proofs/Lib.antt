@@ -10,3 +10,4 @@ pub mod Sorting
 pub mod Turned
 pub mod Triples
 pub mod Verdicts
+pub mod Places

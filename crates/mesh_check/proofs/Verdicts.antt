@@ -24,7 +24,7 @@ use Rattle.mesh_check.specs.declared.flaw.Flaw.TheVariants.{Empty, FlatCell, Sid
 use Rattle.mesh_check.specs.declared.flaw.Verdict.{Verdict}
 use Rattle.mesh_check.specs.declared.flaw.Verdict.TheVariants.{Good, Bad}
 use Rattle.mesh_check.specs.Flaws.{is_flat_cell, are_apart, is_inside, IsFacet, IsInTwo, first_flaw, IsFlaw, IsVerdict, AreCells, listed}
-use Rattle.mesh_check.specs.Laws.{IsComplex, GoodIsComplex, FlawIsTrue, FlawShows}
+use Rattle.mesh_check.specs.Laws.{AreMade, AreSound, IsComplex, GoodIsComplex, FlawIsTrue, FlawShows}
 use Rattle.mesh_check.proofs.Flaws.{IsSound, first_of_cell, first_true, none_flawed, sound}
 use Rattle.mesh_check.proofs.Triples.{open_is_sound, sound_is_open}
 use Rattle.mesh_check.proofs.Turned.{flat_front, flat_second, flat_third}
@@ -225,6 +225,17 @@ module _ (s : List ℕ) (l : List Cell) (g : AreCells s l) (none : first_flaw s 
     empty = λ d i. definition_is_cell s d (g.ascending d i) (g.inside d i) (each_passes d i);
     closed = λ d f i h. each_second d f i h;
   }
+
+-- cells that were made have no flaw
+pub made_sound : (s : List ℕ) (made : List Cell) → IsAscending s → AreKeys s → AreMade s made → AreSound s made
+made_sound s made a k (inl w) c i =
+    none_flawed s (complex s) (none_first s a k w.0) c (subst (λ (m : List Cell). IsIn c m) w.1 i)
+made_sound s made a k (inr e) c i = absurd (subst (λ (m : List Cell). IsIn c m) e i)
+
+-- lists that are those that were made, and not empty, are the complex
+pub listed_made : (s : List ℕ) (l made : List Cell) → ¬ (l ≡ []) → l ≡ made → AreMade s made → IsComplex s l
+listed_made s l made n e (inl w) = (w.0, e ∙ w.1)
+listed_made s l made n e (inr z) = absurd (n (e ∙ z))
 
 -- a list that is not empty has a member
 first_member : {X : Type 0} (l : List X) → ¬ (l ≡ []) → (c : X) × IsIn c l

@@ -8,8 +8,10 @@ ghost use Rattle.point_order.specs.Sets.{AreThree, AreFour, is_among};
 ghost use Rattle.point_order.specs.Spheres.{is_outside};
 ghost use Rattle.point_order.specs.declared.cell.Cell.TheVariants.{Full, Open};
 ghost use Rattle.mesh_check.specs.Flaws.{first_flaw as flaw_in, flaw_of, is_inside_with, listed};
+ghost use Rattle.mesh_check.specs.Laws.{AreSound};
 
 use crate::flaw::Flaw;
+use crate::matching::is_made;
 use exact_orient::{collinear, orient};
 use point_order::{Cell, Point, Quad, Tri};
 use sphere_ties::outside;
@@ -150,26 +152,56 @@ fn flaw_of_open(points: &[Point], tri: Tri) -> Option<Flaw>
     }
 }
 
+// The same, where a cell that was made is known to have none.
+fn flaw_of_triple(points: &[Point], made: &[Cell], tri: Tri) -> Option<Flaw>
+    requires { AreSound points.now made.now }
+    ensures { result ≡ flaw_of points.now (Open tri) }
+{
+    if is_made(made, &Cell::Open(tri)) {
+        None
+    } else {
+        flaw_of_open(points, tri)
+    }
+}
+
+fn flaw_of_quad(points: &[Point], made: &[Cell], quad: Quad) -> Option<Flaw>
+    requires { AreSound points.now made.now }
+    ensures { result ≡ flaw_of points.now (Full quad) }
+{
+    if is_made(made, &Cell::Full(quad)) {
+        None
+    } else {
+        flaw_of_full(points, quad)
+    }
+}
+
 // The first flaw of the triples.
-fn flaw_of_triples(points: &[Point], hull: &[Tri]) -> Option<Flaw>
+fn flaw_of_triples(points: &[Point], made: &[Cell], hull: &[Tri]) -> Option<Flaw>
+    requires { AreSound points.now made.now }
     ensures { result ≡ flaw_in points.now (map Open hull.now) }
 {
     for tri in hull {
-        if let Some(flaw) = flaw_of_open(points, *tri) {
+        if let Some(flaw) = flaw_of_triple(points, made, *tri) {
             return Some(flaw);
         }
     }
     None
 }
 
-// The first flaw of the cells, those of four points first.
-pub(crate) fn first_flaw(points: &[Point], cells: &[Quad], hull: &[Tri]) -> Option<Flaw>
+// The first flaw of the cells, those of four points first. Cells that were made are passed over: they have none.
+pub(crate) fn first_flaw(
+    points: &[Point],
+    made: &[Cell],
+    cells: &[Quad],
+    hull: &[Tri],
+) -> Option<Flaw>
+    requires { AreSound points.now made.now }
     ensures { result ≡ flaw_in points.now (listed cells.now hull.now) }
 {
     for quad in cells {
-        if let Some(flaw) = flaw_of_full(points, *quad) {
+        if let Some(flaw) = flaw_of_quad(points, made, *quad) {
             return Some(flaw);
         }
     }
-    flaw_of_triples(points, hull)
+    flaw_of_triples(points, made, hull)
 }

@@ -1,11 +1,11 @@
 //! Lists beside the complex that is made of the points.
 
 ghost use Rattle.std.specs.Prelude.{◌≡◌, ◌++◌, true, map, IfOk, IfSome};
-ghost use Rattle.point_order.specs.Sets.{IsAscending};
+ghost use Rattle.point_order.specs.Sets.{IsAscending, IsIn};
 ghost use Rattle.point_order.specs.Solid.{is_solid as is_solid_of};
 ghost use Rattle.point_order.specs.declared.cell.Cell.TheVariants.{Full, Open};
 ghost use Rattle.mesh_check.specs.Flaws.{listed};
-ghost use Rattle.mesh_check.specs.Laws.{IsComplex};
+ghost use Rattle.mesh_check.specs.Laws.{AreMade};
 
 use cloud_cells::complex_of_points;
 use edit_history::find_four;
@@ -54,7 +54,7 @@ fn behind_open<'a>(made: &'a [Cell], hull: &[Tri]) -> Option<&'a [Cell]>
 }
 
 // Whether the list is that of the cells and triples.
-fn are_listed(made: &[Cell], cells: &[Quad], hull: &[Tri]) -> bool
+pub(crate) fn are_listed(made: &[Cell], cells: &[Quad], hull: &[Tri]) -> bool
     ensures { result ≡ true → listed cells.now hull.now ≡ made.now }
 {
     let Some(rest) = behind_full(made, cells) else {
@@ -73,20 +73,25 @@ fn is_solid(points: &[Point]) -> bool
     find_four(points).is_ok()
 }
 
-// Whether the points are solid and the lists are the complex that is made of them. It is far faster than a search for
-// a flaw, and that the complex is made right is proved: the lists take no part in it.
-pub(crate) fn are_as_made(
-    alloc: Global,
-    points: &[Point],
-    cells: &[Quad],
-    hull: &[Tri],
-) -> Result<bool, AllocError>
-    requires { IsAscending points.now }
-    ensures { IfOk result (λ same. same ≡ true → IsComplex points.now (listed cells.now hull.now)) }
+// Whether the cell is one of those that were made.
+pub(crate) fn is_made(made: &[Cell], cell: &Cell) -> bool
+    ensures { result ≡ true → IsIn cell.now made.now }
 {
-    if !is_solid(points) {
-        return Ok(false);
+    match made.binary_search(cell) {
+        Ok(at) => is_same(&made[at], cell),
+        Err(_) => false,
     }
-    let made = complex_of_points(alloc, points)?;
-    Ok(are_listed(&made, cells, hull))
+}
+
+// The complex that is made of the points where they are solid, and else no cell. It is far faster than a search for a
+// flaw, and that it is made right is proved: the lists take no part in it.
+pub(crate) fn complex_made(alloc: Global, points: &[Point]) -> Result<Vec<Cell>, AllocError>
+    requires { IsAscending points.now }
+    ensures { IfOk result (λ made. AreMade points.now made.items) }
+{
+    if is_solid(points) {
+        complex_of_points(alloc, points)
+    } else {
+        Ok(Vec::new(alloc))
+    }
 }

@@ -10,7 +10,7 @@ returns-in-Some c =
     let l = c.args.cells.now in
     let h = c.args.hull.now in
     let i = c.loop-quad.quad-index in
-    sym (with_flaw s (listed (drop (i + 1) l) h) (Full c.quad-item.result) c.in-Some.flaw (sym c.flaw_of_full.ensures ∙ c.in-Some.is))
+    sym (with_flaw s (listed (drop (i + 1) l) h) (Full c.quad-item.result) c.in-Some.flaw (sym c.flaw_of_quad.ensures ∙ c.in-Some.is))
     ∙ sym (cells_front s l h i c.quad-item.result c.loop-quad-test.true c.quad-item.is) ∙ c.loop-quad.invariant
 
 pub loop-quad-preserved : goal.loop-quad-preserved
@@ -19,7 +19,7 @@ loop-quad-preserved c =
     let l = c.args.cells.now in
     let h = c.args.hull.now in
     let i = c.loop-quad.quad-index in
-    sym (without_flaw s (listed (drop (i + 1) l) h) (Full c.quad-item.result) (sym c.flaw_of_full.ensures ∙ c.in_default.is))
+    sym (without_flaw s (listed (drop (i + 1) l) h) (Full c.quad-item.result) (sym c.flaw_of_quad.ensures ∙ c.in_default.is))
     ∙ sym (cells_front s l h i c.quad-item.result c.loop-quad-test.true c.quad-item.is) ∙ c.loop-quad.invariant
 
 pub returns : goal.returns

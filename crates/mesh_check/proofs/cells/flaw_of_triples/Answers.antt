@@ -9,7 +9,7 @@ returns-in-Some c =
     let s = c.args.points.now in
     let l = c.args.hull.now in
     let i = c.loop-tri.tri-index in
-    sym (with_flaw s (map Open (drop (i + 1) l)) (Open c.tri-item.result) c.in-Some.flaw (sym c.flaw_of_open.ensures ∙ c.in-Some.is))
+    sym (with_flaw s (map Open (drop (i + 1) l)) (Open c.tri-item.result) c.in-Some.flaw (sym c.flaw_of_triple.ensures ∙ c.in-Some.is))
     ∙ sym (triples_front s l i c.tri-item.result c.loop-tri-test.true c.tri-item.is) ∙ c.loop-tri.invariant
 
 pub loop-tri-preserved : goal.loop-tri-preserved
@@ -17,7 +17,7 @@ loop-tri-preserved c =
     let s = c.args.points.now in
     let l = c.args.hull.now in
     let i = c.loop-tri.tri-index in
-    sym (without_flaw s (map Open (drop (i + 1) l)) (Open c.tri-item.result) (sym c.flaw_of_open.ensures ∙ c.in_default.is))
+    sym (without_flaw s (map Open (drop (i + 1) l)) (Open c.tri-item.result) (sym c.flaw_of_triple.ensures ∙ c.in_default.is))
     ∙ sym (triples_front s l i c.tri-item.result c.loop-tri-test.true c.tri-item.is) ∙ c.loop-tri.invariant
 
 pub returns : goal.returns
