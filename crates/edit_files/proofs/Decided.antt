@@ -67,6 +67,25 @@ from_fields line x y z e =
     let back : line ≡ join_with_byte 32 (x ∷ y ∷ z ∷ []) = sym (join_with_byte-slice_split 32 line) ∙ ap (join_with_byte 32) e in
     back ∙ sym (append_assoc x (32 ∷ y) (32 ∷ z))
 
+-- three fields and what follows them
+pub four_fields : (x y z rest : List ℕ) → IsNumber x → IsNumber y → IsNumber z →
+    fields_of (spaced x y z ++ 32 ∷ rest) ≡ x ∷ y ∷ z ∷ fields_of rest
+four_fields x y z rest a b c =
+    let whole : spaced x y z ++ 32 ∷ rest ≡ x ++ (32 ∷ (y ++ (32 ∷ (z ++ 32 ∷ rest)))) =
+    append_assoc (x ++ 32 ∷ y) (32 ∷ z) (32 ∷ rest) ∙ append_assoc x (32 ∷ y) (32 ∷ (z ++ 32 ∷ rest)) in
+    ap fields_of whole
+    ∙ fields_front x (y ++ (32 ∷ (z ++ 32 ∷ rest))) (number_no_space x a)
+    ∙ ap (λ (fs : List (List ℕ)). x ∷ fs) (fields_front y (z ++ 32 ∷ rest) (number_no_space y b))
+    ∙ ap (λ (fs : List (List ℕ)). x ∷ y ∷ fs) (fields_front z rest (number_no_space z c))
+
+pub from_four : (line x y z u : List ℕ) (fs : List (List ℕ)) → fields_of line ≡ x ∷ y ∷ z ∷ u ∷ fs →
+    line ≡ spaced x y z ++ 32 ∷ join_with_byte 32 (u ∷ fs)
+from_four line x y z u fs e =
+    let rest : List ℕ = join_with_byte 32 (u ∷ fs) in
+    let back : line ≡ join_with_byte 32 (x ∷ y ∷ z ∷ u ∷ fs) =
+    sym (join_with_byte-slice_split 32 line) ∙ ap (join_with_byte 32) e in
+    back ∙ sym (append_assoc (x ++ 32 ∷ y) (32 ∷ z) (32 ∷ rest) ∙ append_assoc x (32 ∷ y) (32 ∷ (z ++ 32 ∷ rest)))
+
 -- ---- points
 
 point_at_cases : (a b c : ℕ) → ((a < 16384) × (b < 16384) × (c < 16384) × (point_at a b c ≡ Ok (a * 268435456 + b * 16384 + c))) ⊎ (point_at a b c ≡ Err Range)

@@ -1,110 +1,167 @@
 -- Where the reader is says what lines it took.
-use Rattle.std.proofs.Common.{◌≡◌, ℕ, ◌+◌, ◌≤◌, List, [], ◌∷◌, ◌++◌, length, refl, sym, ap, ◌∙◌, arith, append_assoc}
+use Rattle.std.proofs.Common.{◌≡◌, ℕ, ◌+◌, ◌≤◌, true, false, List, [], ◌∷◌, ◌++◌, length, refl, sym, ap, ◌∙◌, arith, append_assoc}
 use Rattle.std.specs.Prelude.{codes}
 use Rattle.std.specs.List.{AllZip}
 use Rattle.std.proofs.lemmas.List.{append-nil}
 use Rattle.edit_files.specs.declared.reader.Place.{Place}
 use Rattle.edit_files.specs.declared.reader.Place.TheVariants as places
+use Rattle.edit_files.specs.declared.version.Version.{Version}
+use Rattle.edit_files.specs.declared.version.Version.TheVariants.{One, Two, Three, Four}
 use Rattle.edit_files.specs.Content.{Content}
 use Rattle.edit_files.specs.Forms.{IsPointLine, IsEditLine, IsRadiusLine}
-use Rattle.edit_files.specs.Grammar.{AreFileLines, radius_limit}
+use Rattle.edit_files.specs.Grammar.{AreFileLines, IsWithinNewest, Limits, query_limit, query_section, radius_limit}
+use Rattle.edit_files.specs.Versions.{row}
 use Rattle.edit_files.specs.Faults.{AreFirstLines}
 use Rattle.edit_files.specs.Judging.{nothing}
 use Rattle.edit_files.proofs.Texts.{first_lines_of}
 
+-- the lines of the lists, up to each
+abbrev pub to_points : Version → List (List ℕ) → List (List ℕ)
+to_points v pls = (row v).title ∷ codes "points" ∷ pls
+
+abbrev pub to_edits : Version → List (List ℕ) → List (List ℕ) → List (List ℕ)
+to_edits v pls els = to_points v pls ++ codes "edits" ∷ els
+
+abbrev pub to_radii : Version → List (List ℕ) → List (List ℕ) → List (List ℕ) → List (List ℕ)
+to_radii v pls els rls = to_edits v pls els ++ codes "radii" ∷ rls
+
 -- the lines that lead to a place
-abbrev pub front_at : Place → List (List ℕ) → List (List ℕ) → List (List ℕ) → List (List ℕ)
-front_at places.Title pls els rls = []
-front_at places.Heading pls els rls = codes "mesh3 1" ∷ []
-front_at places.Points pls els rls = codes "mesh3 1" ∷ codes "points" ∷ pls
-front_at places.Edits pls els rls = codes "mesh3 1" ∷ codes "points" ∷ pls ++ codes "edits" ∷ els
-front_at places.Radii pls els rls = codes "mesh3 1" ∷ codes "points" ∷ pls ++ codes "edits" ∷ els ++ codes "radii" ∷ rls
-front_at places.End pls els rls = codes "mesh3 1" ∷ codes "points" ∷ pls ++ codes "edits" ∷ els ++ codes "radii" ∷ rls ++ codes "end" ∷ []
+abbrev pub front_at : Version → Place → List (List ℕ) → List (List ℕ) → List (List ℕ) → List (List ℕ) → List (List ℕ)
+front_at v places.Title pls els rls qls = []
+front_at v places.Heading pls els rls qls = (row v).title ∷ []
+front_at v places.Points pls els rls qls = to_points v pls
+front_at v places.Edits pls els rls qls = to_edits v pls els
+front_at v places.Radii pls els rls qls = to_radii v pls els rls
+front_at v places.Queries pls els rls qls = to_radii v pls els rls ++ codes "queries" ∷ qls
+front_at v places.End pls els rls qls = to_radii v pls els rls ++ query_section v qls ++ codes "end" ∷ []
 
 -- the words that are still to come
-abbrev pub words_from : Place → List (List ℕ)
-words_from places.Title = codes "mesh3 1" ∷ codes "points" ∷ codes "edits" ∷ codes "radii" ∷ codes "end" ∷ []
-words_from places.Heading = codes "points" ∷ codes "edits" ∷ codes "radii" ∷ codes "end" ∷ []
-words_from places.Points = codes "edits" ∷ codes "radii" ∷ codes "end" ∷ []
-words_from places.Edits = codes "radii" ∷ codes "end" ∷ []
-words_from places.Radii = codes "end" ∷ []
-words_from places.End = []
+abbrev pub words_behind : Version → List (List ℕ)
+words_behind v = query_section v [] ++ codes "end" ∷ []
 
--- the lists that a place has not come to
-abbrev pub AreUnmet : Place → List (List ℕ) → List (List ℕ) → List (List ℕ) → Type 0
-AreUnmet places.Title pls els rls = (pls ≡ []) × (els ≡ []) × (rls ≡ [])
-AreUnmet places.Heading pls els rls = (pls ≡ []) × (els ≡ []) × (rls ≡ [])
-AreUnmet places.Points pls els rls = (els ≡ []) × (rls ≡ [])
-AreUnmet places.Edits pls els rls = rls ≡ []
-AreUnmet places.Radii pls els rls = Unit {0}
-AreUnmet places.End pls els rls = Unit {0}
+abbrev pub words_from : Version → Place → List (List ℕ)
+words_from v places.Title = (row v).title ∷ codes "points" ∷ codes "edits" ∷ codes "radii" ∷ words_behind v
+words_from v places.Heading = codes "points" ∷ codes "edits" ∷ codes "radii" ∷ words_behind v
+words_from v places.Points = codes "edits" ∷ codes "radii" ∷ words_behind v
+words_from v places.Edits = codes "radii" ∷ words_behind v
+words_from v places.Radii = words_behind v
+words_from v places.Queries = codes "end" ∷ []
+words_from v places.End = []
+
+-- the lists that a place has not come to; that of queries is there only where the version has it
+abbrev pub AreUnmet : Version → Place → List (List ℕ) → List (List ℕ) → List (List ℕ) → List (List ℕ) → Type 0
+AreUnmet v places.Title pls els rls qls = (pls ≡ []) × (els ≡ []) × (rls ≡ []) × (qls ≡ [])
+AreUnmet v places.Heading pls els rls qls = (pls ≡ []) × (els ≡ []) × (rls ≡ []) × (qls ≡ [])
+AreUnmet v places.Points pls els rls qls = (els ≡ []) × (rls ≡ []) × (qls ≡ [])
+AreUnmet v places.Edits pls els rls qls = (rls ≡ []) × (qls ≡ [])
+AreUnmet v places.Radii pls els rls qls = qls ≡ []
+AreUnmet v places.Queries pls els rls qls = (row v).queries ≡ true
+AreUnmet v places.End pls els rls qls = Unit {0}
 
 -- the lines lead to the place, and say what was taken
-pub record Leads (limit : ℕ) (front : List (List ℕ)) (place : Place) (taken : Content) : Type 0 where
+pub record Leads (limits : Limits) (front : List (List ℕ)) (place : Place) (taken : Content) : Type 0 where
+  pub version : IsWithinNewest limits taken.version
   pub points : List (List ℕ)
   pub edits : List (List ℕ)
   pub radii : List (List ℕ)
-  pub order : front ≡ front_at place points edits radii
-  pub unmet : AreUnmet place points edits radii
+  pub queries : List (List ℕ)
+  pub order : front ≡ front_at taken.version place points edits radii queries
+  pub unmet : AreUnmet taken.version place points edits radii queries
+  pub unasked : (row taken.version).queries ≡ false → queries ≡ []
   pub point_lines : AllZip IsPointLine points taken.points
-  pub edit_lines : AllZip IsEditLine edits taken.edits
-  pub radius_lines : AllZip IsRadiusLine radii taken.radii
-  pub line_count : length points + length edits ≤ limit
+  pub edit_lines : AllZip (IsEditLine taken.version) edits taken.edits
+  pub radius_lines : AllZip (IsRadiusLine taken.version) radii taken.radii
+  pub query_lines : AllZip IsPointLine queries taken.queries
+  pub line_count : length points + length edits ≤ limits.lines
   pub radius_count : length radii ≤ radius_limit
+  pub query_count : length queries ≤ query_limit
 
-join_two : (front : List (List ℕ)) (a b : List ℕ) → front ++ (a ∷ b ∷ []) ≡ front ++ a ∷ [] ++ b ∷ []
-join_two front a b = sym (append_assoc front (a ∷ []) (b ∷ []))
+join_two : (front rest : List (List ℕ)) (a : List ℕ) → front ++ (a ∷ rest) ≡ front ++ a ∷ [] ++ rest
+join_two front rest a = sym (append_assoc front (a ∷ []) rest)
 
-join_three : (front : List (List ℕ)) (a b c : List ℕ) → front ++ (a ∷ b ∷ c ∷ []) ≡ front ++ a ∷ [] ++ b ∷ [] ++ c ∷ []
-join_three front a b c = sym (append_assoc (front ++ a ∷ []) (b ∷ []) (c ∷ []) ∙ append_assoc front (a ∷ []) (b ∷ c ∷ []))
+join_three : (front rest : List (List ℕ)) (a b : List ℕ) → front ++ (a ∷ b ∷ rest) ≡ front ++ a ∷ [] ++ b ∷ [] ++ rest
+join_three front rest a b =
+    sym (append_assoc (front ++ a ∷ []) (b ∷ []) rest ∙ append_assoc front (a ∷ []) (b ∷ rest))
 
-whole_is : (place : Place) (pls els rls : List (List ℕ)) → AreUnmet place pls els rls → front_at place pls els rls ++ words_from place ≡ front_at places.End pls els rls
-whole_is places.Title pls els rls h = rw (h.0, h.1, h.2) refl
-whole_is places.Heading pls els rls h = rw (h.0, h.1, h.2) refl
-whole_is places.Points pls els rls h = rw (h.0, h.1) (join_three (codes "mesh3 1" ∷ codes "points" ∷ pls) (codes "edits") (codes "radii") (codes "end"))
-whole_is places.Edits pls els rls h = rw h (join_two (codes "mesh3 1" ∷ codes "points" ∷ pls ++ codes "edits" ∷ els) (codes "radii") (codes "end"))
-whole_is places.Radii pls els rls h = refl
-whole_is places.End pls els rls h = append-nil _
+-- the end behind the section of queries
+ended_by : (v : Version) (front : List (List ℕ)) → front ++ words_behind v ≡ front ++ query_section v [] ++ codes "end" ∷ []
+ended_by v front = sym (append_assoc front (query_section v []) (codes "end" ∷ []))
+
+whole_is : (v : Version) (place : Place) (pls els rls qls : List (List ℕ)) → AreUnmet v place pls els rls qls
+    → front_at v place pls els rls qls ++ words_from v place ≡ front_at v places.End pls els rls qls
+whole_is v places.Title pls els rls qls h = rw (h.0, h.1, h.2, h.3) refl
+whole_is v places.Heading pls els rls qls h = rw (h.0, h.1, h.2, h.3) refl
+whole_is v places.Points pls els rls qls h =
+    rw (h.0, h.1, h.2) (join_three (to_points v pls) (words_behind v) (codes "edits") (codes "radii")
+    ∙ ended_by v (to_radii v pls [] []))
+whole_is v places.Edits pls els rls qls h =
+    rw (h.0, h.1) (join_two (to_edits v pls els) (words_behind v) (codes "radii") ∙ ended_by v (to_radii v pls els []))
+whole_is v places.Radii pls els rls qls h = rw h (ended_by v (to_radii v pls els rls))
+whole_is v places.Queries pls els rls qls h = rw h refl
+whole_is v places.End pls els rls qls h = append-nil _
 
 -- lines that lead to a place are the first of a file
-pub first_lines : (limit : ℕ) (front : List (List ℕ)) (place : Place) (t : Content) → Leads limit front place t → AreFirstLines limit front
-first_lines limit front place t k =
-    first_lines_of limit front (words_from place) t (record {
+pub first_lines : (limits : Limits) (front : List (List ℕ)) (place : Place) (t : Content) → Leads limits front place t → AreFirstLines limits front
+first_lines limits front place t k =
+    first_lines_of limits front (words_from t.version place) t (record {
+      version = k.version;
       points = k.points;
       edits = k.edits;
       radii = k.radii;
-      order = ap (λ (ls : List (List ℕ)). ls ++ words_from place) k.order ∙ whole_is place k.points k.edits k.radii k.unmet;
+      queries = k.queries;
+      order = ap (λ (ls : List (List ℕ)). ls ++ words_from t.version place) k.order
+          ∙ whole_is t.version place k.points k.edits k.radii k.queries k.unmet;
       point_lines = k.point_lines;
       edit_lines = k.edit_lines;
       radius_lines = k.radius_lines;
+      query_lines = k.query_lines;
+      unasked = k.unasked;
       line_count = k.line_count;
       radius_count = k.radius_count;
+      query_count = k.query_count;
     })
 
 -- at the end they are all lines of a file
-pub all_lines : (limit : ℕ) (front : List (List ℕ)) (t : Content) → Leads limit front places.End t → AreFileLines limit front t
-all_lines limit front t k = record {
+pub all_lines : (limits : Limits) (front : List (List ℕ)) (t : Content) → Leads limits front places.End t → AreFileLines limits front t
+all_lines limits front t k = record {
+  version = k.version;
   points = k.points;
   edits = k.edits;
   radii = k.radii;
+  queries = k.queries;
   order = k.order;
   point_lines = k.point_lines;
   edit_lines = k.edit_lines;
   radius_lines = k.radius_lines;
+  query_lines = k.query_lines;
+  unasked = k.unasked;
   line_count = k.line_count;
   radius_count = k.radius_count;
+  query_count = k.query_count;
 }
 
-pub at_start : (limit : ℕ) → Leads limit [] places.Title nothing
-at_start limit = record {
+-- no version is before the first
+first_within : (newest : Version) → (row One).number ≤ (row newest).number
+first_within One = omega arith
+first_within Two = omega arith
+first_within Three = omega arith
+first_within Four = omega arith
+
+pub at_start : (limits : Limits) → Leads limits [] places.Title nothing
+at_start limits = record {
+  version = first_within limits.newest;
   points = [];
   edits = [];
   radii = [];
+  queries = [];
   order = refl;
-  unmet = (refl, refl, refl);
+  unmet = (refl, refl, refl, refl);
+  unasked = λ none. refl;
   point_lines = tt;
   edit_lines = tt;
   radius_lines = tt;
+  query_lines = tt;
   line_count = omega arith;
   radius_count = omega arith;
+  query_count = omega arith;
 }

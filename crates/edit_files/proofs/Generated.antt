@@ -1,7 +1,7 @@
 -- The lines of a generated file, one after another, and its laws.
 use Rattle.std.proofs.Common.{◌≡◌, ◌≢◌, ◌∙◌, refl, sym, ap, subst, ℕ, suc, ◌+◌, ◌-◌, ◌*◌, ◌/◌, ◌%◌, ◌<◌, ◌≤◌, Bool, true, false, cond, eqb, List, [], ◌∷◌, ◌++◌, map, get_or, length, arith, eq-eqb, inl, inr, Some, lit<, lit≤, slice_index, add-one}
 use Rattle.std.specs.List.{range_with_len, AllByRecursion}
-use Rattle.std.proofs.lemmas.Bool.{ne_eqb}
+use Rattle.std.proofs.lemmas.Bool.{both_ways, ne_eqb}
 use Rattle.std.proofs.lemmas.List.FromFn.{map-range_with_len_more, get_or-map-range_with_len, length-map-range_with_len}
 use Rattle.point_order.specs.Coordinates.{x_of, y_of, z_of, IsKey}
 use Rattle.point_order.specs.Orientation.{x_from, y_from, z_from, minor, triple, orientation, normal_x, normal_y, normal_z}
@@ -9,13 +9,14 @@ use Rattle.point_order.specs.Sets.{is_among, IsIn}
 use Rattle.point_order.specs.Solid.{is_solid}
 use Rattle.edit_history.specs.declared.history.Edit.{Edit}
 use Rattle.edit_history.specs.declared.history.Edit.TheVariants.{Add, Take, Move}
-use Rattle.edit_history.specs.Edits.{is_move, point_of}
+use Rattle.edit_history.specs.Edits.{HasKeys, is_move, point_of}
 use Rattle.edit_history.specs.Opening.{opening_four}
 use Rattle.plain_laws.specs.Plain.{IsAnchored}
 use Rattle.std.specs.Prelude.{All}
 use Rattle.list_laws.proofs.Cited.{all_of_each, mapped_from}
-use Rattle.edit_files.specs.Grammar.{line_limit}
-use Rattle.edit_files.specs.Writing.{IsWithin}
+use Rattle.edit_files.specs.Grammar.{up_to}
+use Rattle.edit_files.specs.declared.version.Version.TheVariants.{One}
+use Rattle.edit_files.specs.Writing.{IsEditOf, IsWithin}
 use Rattle.edit_files.specs.Keys.{coordinate_count, key_of}
 use Rattle.edit_files.specs.Generator.{next_state, state_after, draw, draw_of, drawn_point, most_edits, point_behind, draws_before, drawn_by, corners, back_to, edit_line, generated}
 
@@ -157,26 +158,30 @@ drawn_key start m =
     let k : IsKey (point_behind s) = omega (arith, a, b, d) in
     subst IsKey (sym (drawn_behind start m)) k
 
-line_key : (start i : ℕ) → IsKey (point_of (edit_line start i))
+line_key : (start i : ℕ) → HasKeys (edit_line start i)
 line_key start i = by (eqb (i % 4) 0)
   where
-    back : (p : ℕ) (b : Bool) → IsKey p → IsKey (point_of (cond b (Add p) (Take p)))
+    back : (p : ℕ) (b : Bool) → IsKey p → HasKeys (cond b (Add p) (Take p))
     back p true k = k
     back p false k = k
 
-    by : (b : Bool) → IsKey (point_of (cond b (back_to (drawn_by start (i - 2))) (Add (drawn_by start i))))
+    by : (b : Bool) → HasKeys (cond b (back_to (drawn_by start (i - 2))) (Add (drawn_by start i)))
     by true = back (drawn_by start (i - 2)) (is_among (drawn_by start (i - 2)) corners) (drawn_key start (draws_before (i - 2)))
     by false = drawn_key start (draws_before i)
 
-lines_keys : (start : ℕ) (is : List ℕ) → AllByRecursion (λ e. (is_move e ≡ false) × IsKey (point_of e)) (map (edit_line start) is)
+lines_keys : (start : ℕ) (is : List ℕ) → AllByRecursion (IsEditOf One) (map (edit_line start) is)
 lines_keys start [] = tt
-lines_keys start (i ∷ is) = ((line_still start i, line_key start i), lines_keys start is)
+lines_keys start (i ∷ is) = ((line_key start i, λ moves. absurd (both_ways _ (line_still start i) moves)), lines_keys start is)
 
-pub generated_within : (count start : ℕ) → count ≤ most_edits → IsWithin line_limit (generated count start)
+pub generated_within : (count start : ℕ) → count ≤ most_edits → IsWithin (up_to One) (generated count start)
 generated_within count start few = record {
+  version = lit≤ tt;
   points = (lit< tt, (lit< tt, (lit< tt, (lit< tt, tt))));
   edits = lines_keys start (range_with_len 1 count);
   radii = (lit< tt, (lit< tt, (lit< tt, tt)));
+  queries = tt;
+  unasked = λ none. refl;
   line_count = omega (arith, few, length-map-range_with_len (edit_line start) 1 count);
   radius_count = lit≤ tt;
+  query_count = lit≤ tt;
 }

@@ -4,6 +4,7 @@ pub mod Points
 pub mod Turns
 pub mod Values
 pub mod Decided
+pub mod Pairs
 pub mod DecidedEdits
 pub mod Texts
 pub mod Words

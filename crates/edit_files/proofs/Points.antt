@@ -5,7 +5,9 @@ use Rattle.point_order.specs.Coordinates.{x_of, y_of, z_of, IsKey}
 use Rattle.std.proofs.lemmas.Bool.{ne_eqb, lt-ltb}
 use Rattle.std.specs.List.{onto_first}
 use Rattle.edit_files.specs.declared.fault.Why.TheVariants.{Field}
-use Rattle.edit_files.specs.Judging.{number, point, point_at, point_from, point_from_fields, fields_of, edit, edit_at}
+use Rattle.edit_files.specs.declared.version.Version.{Version}
+use Rattle.edit_files.specs.Versions.{row}
+use Rattle.edit_files.specs.Judging.{number, point, point_at, point_from, point_from_fields, fields_of, halves, move_of, edit, edit_at}
 
 pub point_one : (line x : List ℕ) → fields_of line ≡ x ∷ [] → point line ≡ Err Field
 unfolding point
@@ -48,23 +50,40 @@ third_last None q z h t = h
 third_last (Some s) q z h t = absurd cc
 
 -- an edit line, by its first two bytes
-pub edit_is : (line : List ℕ) → 2 ≤ length line → get_or line 1 0 ≡ 32 → edit line ≡ edit_at (get_or line 0 0) (drop 2 line)
+pub edit_is : (v : Version) (line : List ℕ) → 2 ≤ length line → get_or line 1 0 ≡ 32 → edit v line ≡ edit_at v (get_or line 0 0) (drop 2 line)
 unfolding edit
-edit_is [] len space = absurd (omega arith)
-edit_is (s ∷ []) len space = absurd (omega arith)
-edit_is (s ∷ b ∷ rest) len space = let e : eqb b 32 ≡ true = eq-eqb b 32 space in rw e refl
+edit_is v [] len space = absurd (omega arith)
+edit_is v (s ∷ []) len space = absurd (omega arith)
+edit_is v (s ∷ b ∷ rest) len space = let e : eqb b 32 ≡ true = eq-eqb b 32 space in rw e refl
 
-pub edit_short : (line : List ℕ) → suc (length line) ≤ 2 → edit line ≡ Err Field
+pub edit_short : (v : Version) (line : List ℕ) → suc (length line) ≤ 2 → edit v line ≡ Err Field
 unfolding edit
-edit_short [] len = refl
-edit_short (s ∷ []) len = refl
-edit_short (s ∷ b ∷ rest) len = absurd (omega arith)
+edit_short v [] len = refl
+edit_short v (s ∷ []) len = refl
+edit_short v (s ∷ b ∷ rest) len = absurd (omega arith)
 
-pub edit_other : (line : List ℕ) → 2 ≤ length line → get_or line 1 0 ≢ 32 → edit line ≡ Err Field
+pub edit_other : (v : Version) (line : List ℕ) → 2 ≤ length line → get_or line 1 0 ≢ 32 → edit v line ≡ Err Field
 unfolding edit
-edit_other [] len space = absurd (omega arith)
-edit_other (s ∷ []) len space = absurd (omega arith)
-edit_other (s ∷ b ∷ rest) len space = let e : eqb b 32 ≡ false = ne_eqb b 32 space in rw e refl
+edit_other v [] len space = absurd (omega arith)
+edit_other v (s ∷ []) len space = absurd (omega arith)
+edit_other v (s ∷ b ∷ rest) len space = let e : eqb b 32 ≡ false = ne_eqb b 32 space in rw e refl
+
+-- what an equals sign and other signs do
+pub at_equals : (v : Version) (sign : ℕ) (rest : List ℕ) → sign ≡ 61 → (row v).moves ≡ true →
+    edit_at v sign rest ≡ move_of (halves rest)
+at_equals v sign rest e may = rw (e, may) refl
+
+pub at_equals_unmoved : (v : Version) (sign : ℕ) (rest : List ℕ) → sign ≡ 61 → (row v).moves ≡ false →
+    edit_at v sign rest ≡ Err Field
+at_equals_unmoved v sign rest e may = rw (e, may) refl
+
+pub at_other : (v : Version) (sign : ℕ) (rest : List ℕ) → sign ≢ 43 → sign ≢ 45 → sign ≢ 61 →
+    edit_at v sign rest ≡ Err Field
+at_other v sign rest plus minus equals =
+    let p : eqb sign 43 ≡ false = ne_eqb _ _ plus in
+    let m : eqb sign 45 ≡ false = ne_eqb _ _ minus in
+    let e : eqb sign 61 ≡ false = ne_eqb _ _ equals in
+    rw (p, m, e) refl
 
 pub coordinate_below : (p : ℕ) → (x_of p < 16384) × (y_of p < 16384) × (z_of p < 16384)
 unfolding x_of y_of z_of

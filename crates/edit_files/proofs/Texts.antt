@@ -1,13 +1,16 @@
 -- Lines with no line feed are the lines of the text that is made of them; those of a file have none.
-use Rattle.std.proofs.Common.{◌≡◌, ℕ, false, eqb, List, [], ◌∷◌, ◌++◌, refl, sym, ap, subst, ◌∙◌, arith}
+use Rattle.std.proofs.Common.{◌≡◌, ℕ, Bool, true, false, cond, eqb, List, [], ◌∷◌, ◌++◌, refl, sym, ap, subst, ◌∙◌, arith}
 use Rattle.std.specs.Prelude.{codes}
 use Rattle.std.specs.List.{AllByRecursion, AllZip}
 use Rattle.edit_history.specs.declared.history.Edit.{Edit}
 use Rattle.edit_history.specs.declared.history.Edit.TheVariants.{Add, Take, Move}
 use Rattle.edit_files.specs.Content.{Content}
 use Rattle.edit_files.specs.Lines.{lines_of, text_of}
-use Rattle.edit_files.specs.Forms.{IsPointLine, IsEditLine, IsRadiusLine}
-use Rattle.edit_files.specs.Grammar.{AreFileLines, IsFile}
+use Rattle.edit_files.specs.declared.version.Version.{Version}
+use Rattle.edit_files.specs.declared.version.Version.TheVariants.{One, Two, Three, Four}
+use Rattle.edit_files.specs.Versions.{row}
+use Rattle.edit_files.specs.Forms.{IsPointLine, IsPairLine, IsEditLine, IsRadiusLine}
+use Rattle.edit_files.specs.Grammar.{AreFileLines, IsFile, Limits, query_section}
 use Rattle.edit_files.specs.Faults.{AreFirstLines}
 use Rattle.edit_files.proofs.Decided.{HasNo, number_without}
 
@@ -34,13 +37,25 @@ point_no_feed line p s =
     let both : HasNo 10 (s.x ++ 32 ∷ s.y) = without_append 10 s.x (32 ∷ s.y) x (refl, y) in
     subst (λ (l : List ℕ). HasNo 10 l) (sym s.fields) (without_append 10 (s.x ++ 32 ∷ s.y) (32 ∷ s.z) both (refl, z))
 
-edit_no_feed : (line : List ℕ) (e : Edit) → IsEditLine line e → HasNo 10 line
-edit_no_feed line (Add p) s = subst (λ (l : List ℕ). HasNo 10 l) (sym s.1) (refl, (refl, point_no_feed s.0 p s.2))
-edit_no_feed line (Take p) s = subst (λ (l : List ℕ). HasNo 10 l) (sym s.1) (refl, (refl, point_no_feed s.0 p s.2))
-edit_no_feed line (Move a b) s = absurd s
+pair_no_feed : (line : List ℕ) (a b : ℕ) → IsPairLine line a b → HasNo 10 line
+pair_no_feed line a b s =
+    subst (λ (l : List ℕ). HasNo 10 l) (sym s.fields)
+    (without_append 10 s.from (32 ∷ s.to) (point_no_feed s.from a s.from_point) (refl, point_no_feed s.to b s.to_point))
 
-radius_no_feed : (line : List ℕ) (r : ℕ) → IsRadiusLine line r → HasNo 10 line
-radius_no_feed line r s = number_without 10 line (omega arith) s.0.number
+edit_no_feed : (v : Version) (line : List ℕ) (e : Edit) → IsEditLine v line e → HasNo 10 line
+edit_no_feed v line (Add p) s = subst (λ (l : List ℕ). HasNo 10 l) (sym s.1) (refl, (refl, point_no_feed s.0 p s.2))
+edit_no_feed v line (Take p) s = subst (λ (l : List ℕ). HasNo 10 l) (sym s.1) (refl, (refl, point_no_feed s.0 p s.2))
+edit_no_feed v line (Move a b) s =
+    subst (λ (l : List ℕ). HasNo 10 l) (sym s.1) (refl, (refl, pair_no_feed s.0 a b s.3))
+
+radius_no_feed : (v : Version) (line : List ℕ) (r : ℕ) → IsRadiusLine v line r → HasNo 10 line
+radius_no_feed v line r s = number_without 10 line (omega arith) s.0.number
+
+title_no_feed : (v : Version) → HasNo 10 (row v).title
+title_no_feed One = (refl, (refl, (refl, (refl, (refl, (refl, (refl, tt)))))))
+title_no_feed Two = (refl, (refl, (refl, (refl, (refl, (refl, (refl, tt)))))))
+title_no_feed Three = (refl, (refl, (refl, (refl, (refl, (refl, (refl, tt)))))))
+title_no_feed Four = (refl, (refl, (refl, (refl, (refl, (refl, (refl, tt)))))))
 
 zip_no_feed : {A : Type 0} (Says : List ℕ → A → Type 0) → ((line : List ℕ) (a : A) → Says line a → HasNo 10 line) → (lines : List (List ℕ)) (vs : List A) → AllZip Says lines vs → HaveNoFeed lines
 zip_no_feed Says h [] vs z = tt
@@ -51,33 +66,48 @@ all_append : (a b : List (List ℕ)) → HaveNoFeed a → HaveNoFeed b → HaveN
 all_append [] b p q = q
 all_append (x ∷ a) b p q = (p.0, all_append a b p.1 q)
 
-file_no_feed : (limit : ℕ) (lines : List (List ℕ)) (f : Content) → AreFileLines limit lines f → HaveNoFeed lines
-file_no_feed limit lines f k =
-    let title : HasNo 10 (codes "mesh3 1") = (refl, (refl, (refl, (refl, (refl, (refl, (refl, tt))))))) in
+queries_no_feed : (v : Version) (lines : List (List ℕ)) → HaveNoFeed lines → HaveNoFeed (query_section v lines)
+queries_no_feed v lines h = by (row v).queries
+  where
+    by : (b : Bool) → HaveNoFeed (cond b (codes "queries" ∷ lines) [])
+    by true = ((refl, (refl, (refl, (refl, (refl, (refl, (refl, tt))))))), h)
+    by false = tt
+
+file_no_feed : (limits : Limits) (lines : List (List ℕ)) (f : Content) → AreFileLines limits lines f → HaveNoFeed lines
+file_no_feed limits lines f k =
+    let v : Version = f.version in
     let points : HasNo 10 (codes "points") = (refl, (refl, (refl, (refl, (refl, (refl, tt)))))) in
     let edits : HasNo 10 (codes "edits") = (refl, (refl, (refl, (refl, (refl, tt))))) in
     let radii : HasNo 10 (codes "radii") = (refl, (refl, (refl, (refl, (refl, tt))))) in
     let ends : HasNo 10 (codes "end") = (refl, (refl, (refl, tt))) in
-    let a : HaveNoFeed (codes "mesh3 1" ∷ codes "points" ∷ k.points) = (title, (points, zip_no_feed IsPointLine point_no_feed k.points f.points k.point_lines)) in
-    let b : HaveNoFeed (codes "edits" ∷ k.edits) = (edits, zip_no_feed IsEditLine edit_no_feed k.edits f.edits k.edit_lines) in
-    let c : HaveNoFeed (codes "radii" ∷ k.radii) = (radii, zip_no_feed IsRadiusLine radius_no_feed k.radii f.radii k.radius_lines) in
-    let d : HaveNoFeed (codes "end" ∷ []) = (ends, tt) in
-    let in_points : List (List ℕ) = codes "mesh3 1" ∷ codes "points" ∷ k.points in
+    let in_points : List (List ℕ) = (row v).title ∷ codes "points" ∷ k.points in
     let in_edits : List (List ℕ) = in_points ++ codes "edits" ∷ k.edits in
     let in_radii : List (List ℕ) = in_edits ++ codes "radii" ∷ k.radii in
-    let all : HaveNoFeed (in_radii ++ codes "end" ∷ []) =
-    all_append in_radii (codes "end" ∷ []) (all_append in_edits (codes "radii" ∷ k.radii) (all_append in_points (codes "edits" ∷ k.edits) a b) c) d in
+    let in_queries : List (List ℕ) = in_radii ++ query_section v k.queries in
+    let a : HaveNoFeed in_points =
+    (title_no_feed v, (points, zip_no_feed IsPointLine point_no_feed k.points f.points k.point_lines)) in
+    let b : HaveNoFeed (codes "edits" ∷ k.edits) =
+    (edits, zip_no_feed (IsEditLine v) (edit_no_feed v) k.edits f.edits k.edit_lines) in
+    let c : HaveNoFeed (codes "radii" ∷ k.radii) =
+    (radii, zip_no_feed (IsRadiusLine v) (radius_no_feed v) k.radii f.radii k.radius_lines) in
+    let d : HaveNoFeed (query_section v k.queries) =
+    queries_no_feed v k.queries (zip_no_feed IsPointLine point_no_feed k.queries f.queries k.query_lines) in
+    let e : HaveNoFeed (codes "end" ∷ []) = (ends, tt) in
+    let all : HaveNoFeed (in_queries ++ codes "end" ∷ []) =
+    all_append in_queries (codes "end" ∷ [])
+    (all_append in_radii (query_section v k.queries)
+    (all_append in_edits (codes "radii" ∷ k.radii) (all_append in_points (codes "edits" ∷ k.edits) a b) c) d) e in
     subst (λ (ls : List (List ℕ)). HaveNoFeed ls) (sym k.order) all
 
 -- the text of a file's lines is of that file
-pub text_is_file : (limit : ℕ) (lines : List (List ℕ)) (f : Content) → AreFileLines limit lines f → IsFile limit (text_of lines) f
-text_is_file limit lines f are = subst (λ (ls : List (List ℕ)). AreFileLines limit ls f) (sym (lines_of_text lines (file_no_feed limit lines f are))) are
+pub text_is_file : (limits : Limits) (lines : List (List ℕ)) (f : Content) → AreFileLines limits lines f → IsFile limits (text_of lines) f
+text_is_file limits lines f are = subst (λ (ls : List (List ℕ)). AreFileLines limits ls f) (sym (lines_of_text lines (file_no_feed limits lines f are))) are
 
 -- first lines of a file's lines are the first lines of a text
-pub first_lines_of : (limit : ℕ) (front rest : List (List ℕ)) (f : Content) → AreFileLines limit (front ++ rest) f → AreFirstLines limit front
-first_lines_of limit front rest f are =
-    (text_of (front ++ rest), f, text_is_file limit (front ++ rest) f are, rest, lines_of_text (front ++ rest) (file_no_feed limit (front ++ rest) f are))
+pub first_lines_of : (limits : Limits) (front rest : List (List ℕ)) (f : Content) → AreFileLines limits (front ++ rest) f → AreFirstLines limits front
+first_lines_of limits front rest f are =
+    (text_of (front ++ rest), f, text_is_file limits (front ++ rest) f are, rest, lines_of_text (front ++ rest) (file_no_feed limits (front ++ rest) f are))
 
 -- and the other way
-pub file_from_first : (limit : ℕ) (front : List (List ℕ)) (h : AreFirstLines limit front) → AreFileLines limit (front ++ h.3) h.1
-file_from_first limit front h = subst (λ (ls : List (List ℕ)). AreFileLines limit ls h.1) h.4 h.2
+pub file_from_first : (limits : Limits) (front : List (List ℕ)) (h : AreFirstLines limits front) → AreFileLines limits (front ++ h.3) h.1
+file_from_first limits front h = subst (λ (ls : List (List ℕ)). AreFileLines limits ls h.1) h.4 h.2

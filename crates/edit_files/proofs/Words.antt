@@ -1,5 +1,5 @@
 -- Section words, and lists of lines that have none.
-use Rattle.std.proofs.Common.{◌≡◌, ℕ, true, false, cond, ◌||◌, not, List, [], ◌∷◌, ◌++◌, length, Result, Ok, Err, refl, sym, ap, ◌∙◌, arith}
+use Rattle.std.proofs.Common.{◌≡◌, ℕ, Bool, true, false, cond, ◌||◌, ◌&&◌, not, List, [], ◌∷◌, ◌++◌, length, Result, Ok, Err, refl, sym, ap, ◌∙◌, arith}
 use Rattle.std.specs.Prelude.{codes}
 use Rattle.std.specs.List.{AllByRecursion, AllZip, count_by}
 use Rattle.std.specs.Str.{bytes_eq}
@@ -8,6 +8,8 @@ use Rattle.std.proofs.lemmas.Slice.Eq.{bytes_eq-Decides}
 use Rattle.std.proofs.lemmas.List.Sums.{sum_by-cons}
 use Rattle.edit_files.specs.declared.fault.Why.{Why}
 use Rattle.edit_files.specs.declared.fault.Why.TheVariants.{Field}
+use Rattle.edit_files.specs.declared.version.Version.{Version}
+use Rattle.edit_files.specs.Versions.{row}
 use Rattle.edit_files.specs.Forms.{IsPointLine, IsEditLine, IsRadiusLine}
 use Rattle.edit_files.specs.Faults.{has, is_word, lines_after}
 use Rattle.edit_files.specs.Judging.{point, edit, radius, number, digits, digits_from}
@@ -19,68 +21,78 @@ record ReadsNoWord {A : Type 0} (read : List ℕ → Result A Why) : Type 0 wher
   points : read (codes "points") ≡ Err Field
   edits : read (codes "edits") ≡ Err Field
   radii : read (codes "radii") ≡ Err Field
+  queries : read (codes "queries") ≡ Err Field
   end : read (codes "end") ≡ Err Field
 
 words_point : ReadsNoWord point
 unfolding point number digits digits_from
-words_point = record { points = refl; edits = refl; radii = refl; end = refl }
+words_point = record { points = refl; edits = refl; radii = refl; queries = refl; end = refl }
 
-words_edit : ReadsNoWord edit
+words_edit : (v : Version) → ReadsNoWord (edit v)
 unfolding edit point number digits digits_from
-words_edit = record { points = refl; edits = refl; radii = refl; end = refl }
+words_edit v = record { points = refl; edits = refl; radii = refl; queries = refl; end = refl }
 
-words_radius : ReadsNoWord radius
+words_radius : (v : Version) → ReadsNoWord (radius v)
 unfolding radius number digits digits_from
-words_radius = record { points = refl; edits = refl; radii = refl; end = refl }
+words_radius v = record { points = refl; edits = refl; radii = refl; queries = refl; end = refl }
 
 other : {A : Type 0} (read : List ℕ → Result A Why) (line word : List ℕ) (a : A) → read line ≡ Ok a → read word ≡ Err Field → bytes_eq line word ≡ false
 other read line word a h w = false_from_ne_true (bytes_eq line word) (λ t. let same : line ≡ word = (bytes_eq-Decides line word).0 t in let e : read word ≡ Ok a = sym (ap read same) ∙ h in absurd cc)
 
-no_word : {A : Type 0} (read : List ℕ → Result A Why) (r : ReadsNoWord read) (line : List ℕ) (a : A) → read line ≡ Ok a → is_word line ≡ false
-no_word read r line a h =
-    or_from _ _ (or_from _ _ (or_from _ _ (other read line (codes "points") a h r.points) (other read line (codes "edits") a h r.edits)) (other read line (codes "radii") a h r.radii)) (other read line (codes "end") a h r.end)
-
-pub point_no_word : (line : List ℕ) (p : ℕ) → IsPointLine line p → is_word line ≡ false
-point_no_word line p s = no_word point words_point line p (points_decided.complete line p s)
-
-pub edit_no_word : (line : List ℕ) (e : _) → IsEditLine line e → is_word line ≡ false
-edit_no_word line e s = no_word edit words_edit line e (edits_decided.complete line e s)
-
-pub radius_no_word : (line : List ℕ) (r : ℕ) → IsRadiusLine line r → is_word line ≡ false
-radius_no_word line r s = no_word radius words_radius line r (radii_decided.complete line r s)
-
--- what is no section word is none of the four
+-- a line that is no section word of any version
 pub record IsNone (line : List ℕ) : Type 0 where
   pub points : bytes_eq line (codes "points") ≡ false
   pub edits : bytes_eq line (codes "edits") ≡ false
   pub radii : bytes_eq line (codes "radii") ≡ false
+  pub queries : bytes_eq line (codes "queries") ≡ false
   pub end : bytes_eq line (codes "end") ≡ false
 
-pub none_is : (line : List ℕ) → is_word line ≡ false → IsNone line
-none_is line h =
-    let a = or_parts (bytes_eq line (codes "points") || bytes_eq line (codes "edits") || bytes_eq line (codes "radii")) (bytes_eq line (codes "end")) h in
-    let b = or_parts (bytes_eq line (codes "points") || bytes_eq line (codes "edits")) (bytes_eq line (codes "radii")) a.0 in
-    let c = or_parts (bytes_eq line (codes "points")) (bytes_eq line (codes "edits")) b.0 in
-    record { points = c.0; edits = c.1; radii = b.1; end = a.1 }
+no_word : {A : Type 0} (read : List ℕ → Result A Why) (r : ReadsNoWord read) (line : List ℕ) (a : A) → read line ≡ Ok a → IsNone line
+no_word read r line a h = record {
+  points = other read line (codes "points") a h r.points;
+  edits = other read line (codes "edits") a h r.edits;
+  radii = other read line (codes "radii") a h r.radii;
+  queries = other read line (codes "queries") a h r.queries;
+  end = other read line (codes "end") a h r.end;
+}
+
+pub point_no_word : (line : List ℕ) (p : ℕ) → IsPointLine line p → IsNone line
+point_no_word line p s = no_word point words_point line p (points_decided.complete line p s)
+
+pub edit_no_word : (v : Version) (line : List ℕ) (e : _) → IsEditLine v line e → IsNone line
+edit_no_word v line e s = no_word (edit v) (words_edit v) line e ((edits_decided v).complete line e s)
+
+pub radius_no_word : (v : Version) (line : List ℕ) (r : ℕ) → IsRadiusLine v line r → IsNone line
+radius_no_word v line r s = no_word (radius v) (words_radius v) line r ((radii_decided v).complete line r s)
+
+-- it is none of a version
+pub none_word : (v : Version) (line : List ℕ) → IsNone line → is_word v line ≡ false
+none_word v line n =
+    let queries : ((row v).queries && bytes_eq line (codes "queries")) ≡ false = rw n.queries (by (row v).queries) in
+    or_from _ _ (or_from _ _ (or_from _ _ (or_from _ _ n.points n.edits) n.radii) n.end) queries
+  where
+    by : (b : Bool) → (b && false) ≡ false
+    by true = refl
+    by false = refl
 
 abbrev pub HaveNoWord : List (List ℕ) → Type 0
-HaveNoWord lines = AllByRecursion (λ line. is_word line ≡ false) lines
+HaveNoWord lines = AllByRecursion IsNone lines
 
-pub said_no_word : {A : Type 0} (Says : List ℕ → A → Type 0) → ((line : List ℕ) (a : A) → Says line a → is_word line ≡ false) → (lines : List (List ℕ)) (vs : List A) → AllZip Says lines vs → HaveNoWord lines
+pub said_no_word : {A : Type 0} (Says : List ℕ → A → Type 0) → ((line : List ℕ) (a : A) → Says line a → IsNone line) → (lines : List (List ℕ)) (vs : List A) → AllZip Says lines vs → HaveNoWord lines
 said_no_word Says h [] vs z = tt
 said_no_word Says h (l ∷ ls) [] z = absurd z
 said_no_word Says h (l ∷ ls) (v ∷ vs) z = (h l v z.0, said_no_word Says h ls vs z.1)
 
 pub has_none : (word : List ℕ) → ((line : List ℕ) → IsNone line → bytes_eq line word ≡ false) → (lines : List (List ℕ)) → HaveNoWord lines → has word lines ≡ false
 has_none word h [] z = refl
-has_none word h (l ∷ ls) z = or_from _ _ (h l (none_is l z.0)) (has_none word h ls z.1)
+has_none word h (l ∷ ls) z = or_from _ _ (h l z.0) (has_none word h ls z.1)
 
-pub count_all : (lines : List (List ℕ)) → HaveNoWord lines → count_by (λ line. not (is_word line)) lines ≡ length lines
-count_all [] z = refl
-count_all (l ∷ ls) z =
-    let f : List ℕ → ℕ = λ line. cond (not (is_word line)) 1 0 in
-    let here : f l ≡ 1 = rw z.0 refl in
-    sum_by-cons f l ls ∙ omega (arith, here, count_all ls z.1)
+pub count_all : (v : Version) (lines : List (List ℕ)) → HaveNoWord lines → count_by (λ line. not (is_word v line)) lines ≡ length lines
+count_all v [] z = refl
+count_all v (l ∷ ls) z =
+    let f : List ℕ → ℕ = λ line. cond (not (is_word v line)) 1 0 in
+    let here : f l ≡ 1 = rw (none_word v l z.0) refl in
+    sum_by-cons f l ls ∙ omega (arith, here, count_all v ls z.1)
 
 pub lines_after_at : (word : List ℕ) (front rest : List (List ℕ)) → bytes_eq word word ≡ true → has word front ≡ false → lines_after word (front ++ word ∷ rest) ≡ rest
 lines_after_at word [] rest w h = rw w refl

@@ -1,5 +1,5 @@
 -- The lines that are written of a file are its lines.
-use Rattle.std.proofs.Common.{◌≡◌, ℕ, ◌+◌, ◌<◌, ◌≤◌, ◌^◌, false, List, [], ◌∷◌, ◌++◌, length, get_or, drop, refl, sym, ap, subst, ◌∙◌, arith, append_assoc, append-nil, map}
+use Rattle.std.proofs.Common.{◌≡◌, ℕ, ◌+◌, ◌<◌, ◌≤◌, ◌^◌, true, false, List, [], ◌∷◌, ◌++◌, length, get_or, drop, refl, sym, ap, subst, ◌∙◌, arith, append_assoc, append-nil, map}
 use Rattle.std.specs.Prelude.{codes, decimal}
 use Rattle.std.specs.Str.Parse.{IsNumeral, digits_value, starts_with_minus}
 use Rattle.std.proofs.lemmas.Bool.{ne_eqb, both_ways}
@@ -10,15 +10,19 @@ use Rattle.list_laws.proofs.Cited.{length_zip, zip_all, zip_map}
 use Rattle.point_order.specs.Coordinates.{x_of, y_of, z_of, IsKey}
 use Rattle.edit_history.specs.declared.history.Edit.{Edit}
 use Rattle.edit_history.specs.declared.history.Edit.TheVariants.{Add, Take, Move}
-use Rattle.edit_history.specs.Edits.{is_move, point_of}
 use Rattle.edit_files.specs.Content.{Content}
 use Rattle.edit_files.specs.Lines.{text_of}
 use Rattle.edit_files.specs.Numbers.{IsNumberOf, after_minus}
 use Rattle.edit_files.specs.Forms.{IsPointLine, IsEditLine, IsRadiusLine}
-use Rattle.edit_files.specs.Grammar.{IsFile}
-use Rattle.edit_files.specs.Writing.{point_text, edit_text, file_lines, file_text, IsWithin}
+use Rattle.edit_files.specs.Grammar.{IsFile, Limits, query_section}
+use Rattle.edit_files.specs.Versions.{row}
+use Rattle.edit_files.specs.declared.version.Version.{Version}
+use Rattle.std.specs.List.{AllZip}
+use Rattle.edit_files.specs.Writing.{point_text, edit_text, file_lines, file_text, IsEditOf, IsWithin}
 use Rattle.edit_files.proofs.Points.{coordinate_below}
 use Rattle.edit_files.proofs.Texts.{text_is_file}
+use Rattle.edit_files.proofs.DecidedEdits.{end_far}
+use Rattle.edit_files.proofs.Fronts.{to_points, to_edits, to_radii}
 
 -- digits begin with no minus
 pub no_minus : (ds : List ℕ) → IsNumeral 10 ds → starts_with_minus ds ≡ false
@@ -50,39 +54,68 @@ point_line p key =
       key = key;
     }
 
-edit_line : (e : Edit) → (is_move e ≡ false) × IsKey (point_of e) → IsEditLine (edit_text e) e
-edit_line (Add p) k = (point_text p, refl, point_line p k.1)
-edit_line (Take p) k = (point_text p, refl, point_line p k.1)
-edit_line (Move a b) k = absurd (cc k.0)
+edit_line : (v : Version) (e : Edit) → IsEditOf v e → IsEditLine v (edit_text e) e
+edit_line v (Add p) k = (point_text p, refl, point_line p k.0)
+edit_line v (Take p) k = (point_text p, refl, point_line p k.0)
+edit_line v (Move a b) k = (
+  point_text a ++ codes " " ++ point_text b,
+  refl,
+  k.1 refl,
+  record {
+    from = point_text a;
+    to = point_text b;
+    fields = append_assoc (point_text a) (codes " ") (point_text b);
+    from_point = point_line a k.0.0;
+    to_point = point_line b k.0.1;
+  },
+)
 
-radius_line : (r : ℕ) → r < 2 ^ 30 → IsRadiusLine (decimal r) r
-radius_line r lt = (decimal_is r (omega arith), lt)
+radius_line : (v : Version) (r : ℕ) → r < (row v).radius_end → IsRadiusLine v (decimal r) r
+radius_line v r lt = (decimal_is r (omega (arith, lt, end_far v)), lt)
 
-pub written_is_file : (limit : ℕ) (f : Content) → IsWithin limit f → IsFile limit (file_text f) f
-written_is_file limit f w = text_is_file limit (file_lines f) f (record {
+-- what is written of no queries is nothing
+none_written : (v : Version) (queries : List ℕ) → ((row v).queries ≡ false → queries ≡ []) → (row v).queries ≡ false → map point_text queries ≡ []
+none_written v queries h none = ap (map point_text) (h none)
+
+pub written_is_file : (limits : Limits) (f : Content) → IsWithin limits f → IsFile limits (file_text f) f
+written_is_file limits f w = text_is_file limits (file_lines f) f (record {
+  version = w.version;
   points = map point_text f.points;
   edits = map edit_text f.edits;
   radii = map decimal f.radii;
+  queries = map point_text f.queries;
   order = refl;
   point_lines = zip_map IsPointLine point_text IsKey point_line f.points w.points;
-  edit_lines = zip_map IsEditLine edit_text (λ e. (is_move e ≡ false) × IsKey (point_of e)) edit_line f.edits w.edits;
-  radius_lines = zip_map IsRadiusLine decimal (λ r. r < 2 ^ 30) radius_line f.radii w.radii;
+  edit_lines = zip_map (IsEditLine f.version) edit_text (IsEditOf f.version) (edit_line f.version) f.edits w.edits;
+  radius_lines = zip_map (IsRadiusLine f.version) decimal (λ r. r < (row f.version).radius_end) (radius_line f.version) f.radii w.radii;
+  query_lines = zip_map IsPointLine point_text IsKey point_line f.queries w.queries;
+  unasked = none_written f.version f.queries w.unasked;
   line_count = omega (arith, w.line_count, length-map f.points point_text, length-map f.edits edit_text);
   radius_count = omega (arith, w.radius_count, length-map f.radii decimal);
+  query_count = omega (arith, w.query_count, length-map f.queries point_text);
 })
 
-edit_key : (line : List ℕ) (e : Edit) → IsEditLine line e → (is_move e ≡ false) × IsKey (point_of e)
-edit_key line (Add p) s = (refl, s.2.key)
-edit_key line (Take p) s = (refl, s.2.key)
-edit_key line (Move a b) s = absurd s
+edit_key : (v : Version) (line : List ℕ) (e : Edit) → IsEditLine v line e → IsEditOf v e
+edit_key v line (Add p) s = (s.2.key, λ moves. absurd cc)
+edit_key v line (Take p) s = (s.2.key, λ moves. absurd cc)
+edit_key v line (Move a b) s = ((s.3.from_point.key, s.3.to_point.key), λ moves. s.2)
 
-pub file_is_within : (limit : ℕ) (bytes : List ℕ) (f : Content) → IsFile limit bytes f → IsWithin limit f
-file_is_within limit bytes f k = record {
+none_read : (lines : List (List ℕ)) (queries : List ℕ) → AllZip IsPointLine lines queries → lines ≡ [] → queries ≡ []
+none_read [] [] z e = refl
+none_read [] (q ∷ queries) z e = absurd z
+none_read (l ∷ lines) queries z e = absurd cc
+
+pub file_is_within : (limits : Limits) (bytes : List ℕ) (f : Content) → IsFile limits bytes f → IsWithin limits f
+file_is_within limits bytes f k = record {
+  version = k.version;
   points = zip_all IsPointLine IsKey (λ line p s. s.key) k.points f.points k.point_lines;
-  edits = zip_all IsEditLine (λ e. (is_move e ≡ false) × IsKey (point_of e)) edit_key k.edits f.edits k.edit_lines;
-  radii = zip_all IsRadiusLine (λ r. r < 2 ^ 30) (λ line r s. s.1) k.radii f.radii k.radius_lines;
-  line_count = omega (arith, k.line_count, length_zip IsPointLine k.points f.points k.point_lines, length_zip IsEditLine k.edits f.edits k.edit_lines);
-  radius_count = omega (arith, k.radius_count, length_zip IsRadiusLine k.radii f.radii k.radius_lines);
+  edits = zip_all (IsEditLine f.version) (IsEditOf f.version) (edit_key f.version) k.edits f.edits k.edit_lines;
+  radii = zip_all (IsRadiusLine f.version) (λ r. r < (row f.version).radius_end) (λ line r s. s.1) k.radii f.radii k.radius_lines;
+  queries = zip_all IsPointLine IsKey (λ line q s. s.key) k.queries f.queries k.query_lines;
+  unasked = λ none. none_read k.queries f.queries k.query_lines (k.unasked none);
+  line_count = omega (arith, k.line_count, length_zip IsPointLine k.points f.points k.point_lines, length_zip (IsEditLine f.version) k.edits f.edits k.edit_lines);
+  radius_count = omega (arith, k.radius_count, length_zip (IsRadiusLine f.version) k.radii f.radii k.radius_lines);
+  query_count = omega (arith, k.query_count, length_zip IsPointLine k.queries f.queries k.query_lines);
 }
 
 -- ---- the text, list by list
@@ -111,14 +144,38 @@ pub lines_put : {A : Type 0} (shown : A → List ℕ) (xs : List A) (i : ℕ) (o
 lines_put {A} shown xs i old whole le so_far =
     sym (append-nil old) ∙ ap (λ (t : List ℕ). old ++ t) (sym (at_drop_all (λ (ys : List A). text_of (map shown ys)) xs i le)) ∙ so_far
 
--- what is put list by list is the whole text
-pub pieces : (f : Content) (b c d e g h i : List ℕ) → b ≡ text_of (codes "mesh3 1" ∷ codes "points" ∷ []) → c ≡ b ++ text_of (map point_text f.points)
-    → d ≡ c ++ text_of (codes "edits" ∷ []) → e ≡ d ++ text_of (map edit_text f.edits) → g ≡ e ++ text_of (codes "radii" ∷ []) → h ≡ g ++ text_of (map decimal f.radii) → i ≡ h ++ text_of (codes "end" ∷ []) → i ≡ file_text f
-pieces f b c d e g h i pb pc pd pe pg ph pi =
-    let in_points : List (List ℕ) = codes "mesh3 1" ∷ codes "points" ∷ map point_text f.points in
-    let in_edits : List (List ℕ) = in_points ++ codes "edits" ∷ map edit_text f.edits in
-    let in_radii : List (List ℕ) = in_edits ++ codes "radii" ∷ map decimal f.radii in
-    let qc : c ≡ text_of in_points = pc ∙ ap (λ (t : List ℕ). t ++ text_of (map point_text f.points)) pb in
+-- what is put list by list, up to the radii
+pub to_radii_put : (f : Content) (b c d e g h : List ℕ) → b ≡ text_of ((row f.version).title ∷ codes "points" ∷ []) → c ≡ b ++ text_of (map point_text f.points)
+    → d ≡ c ++ text_of (codes "edits" ∷ []) → e ≡ d ++ text_of (map edit_text f.edits) → g ≡ e ++ text_of (codes "radii" ∷ []) → h ≡ g ++ text_of (map decimal f.radii)
+    → h ≡ text_of (to_radii f.version (map point_text f.points) (map edit_text f.edits) (map decimal f.radii))
+to_radii_put f b c d e g h pb pc pd pe pg ph =
+    let in_points : List (List ℕ) = to_points f.version (map point_text f.points) in
+    let in_edits : List (List ℕ) = to_edits f.version (map point_text f.points) (map edit_text f.edits) in
+    let qc : c ≡ text_of in_points = pc ∙ ap (λ (t : List ℕ). t ++ text_of (map point_text f.points)) pb
+    ∙ sym (text_of_append ((row f.version).title ∷ codes "points" ∷ []) (map point_text f.points)) in
     let qe : e ≡ text_of in_edits = pe ∙ ap (λ (t : List ℕ). t ++ text_of (map edit_text f.edits)) (pd ∙ ap (λ (t : List ℕ). t ++ text_of (codes "edits" ∷ [])) qc) ∙ pushed in_points (codes "edits") (map edit_text f.edits) in
-    let qh : h ≡ text_of in_radii = ph ∙ ap (λ (t : List ℕ). t ++ text_of (map decimal f.radii)) (pg ∙ ap (λ (t : List ℕ). t ++ text_of (codes "radii" ∷ [])) qe) ∙ pushed in_edits (codes "radii") (map decimal f.radii) in
-    pi ∙ ap (λ (t : List ℕ). t ++ text_of (codes "end" ∷ [])) qh ∙ sym (text_of_append in_radii (codes "end" ∷ []))
+    ph ∙ ap (λ (t : List ℕ). t ++ text_of (map decimal f.radii)) (pg ∙ ap (λ (t : List ℕ). t ++ text_of (codes "radii" ∷ [])) qe) ∙ pushed in_edits (codes "radii") (map decimal f.radii)
+
+-- the title, and the line feed that ends it with the word behind it
+pub title_put : (title a : List ℕ) (b : List ℕ) → a ≡ title → b ≡ a ++ codes "\npoints\n" → b ≡ text_of (title ∷ codes "points" ∷ [])
+title_put title a b e h = h ∙ ap (λ (t : List ℕ). t ++ codes "\npoints\n") e
+
+-- and the end, where there are no queries
+pub ended_put : (f : Content) (h i : List ℕ) → (row f.version).queries ≡ false → h ≡ text_of (to_radii f.version (map point_text f.points) (map edit_text f.edits) (map decimal f.radii)) → i ≡ h ++ text_of (codes "end" ∷ []) → i ≡ file_text f
+ended_put f h i none qh pi =
+    let before : List (List ℕ) = to_radii f.version (map point_text f.points) (map edit_text f.edits) (map decimal f.radii) in
+    let section : query_section f.version (map point_text f.queries) ≡ [] = rw none refl in
+    pi ∙ ap (λ (t : List ℕ). t ++ text_of (codes "end" ∷ [])) qh ∙ sym (text_of_append before (codes "end" ∷ []))
+    ∙ ap (λ (ls : List (List ℕ)). text_of (ls ++ codes "end" ∷ [])) (sym (append-nil before))
+    ∙ ap (λ (ls : List (List ℕ)). text_of (before ++ ls ++ codes "end" ∷ [])) (sym section)
+
+-- and where there are
+pub queries_put : (f : Content) (h j k i : List ℕ) → (row f.version).queries ≡ true → h ≡ text_of (to_radii f.version (map point_text f.points) (map edit_text f.edits) (map decimal f.radii))
+    → j ≡ h ++ text_of (codes "queries" ∷ []) → k ≡ j ++ text_of (map point_text f.queries) → i ≡ k ++ text_of (codes "end" ∷ []) → i ≡ file_text f
+queries_put f h j k i has qh pj pk pi =
+    let before : List (List ℕ) = to_radii f.version (map point_text f.points) (map edit_text f.edits) (map decimal f.radii) in
+    let in_queries : List (List ℕ) = before ++ codes "queries" ∷ map point_text f.queries in
+    let section : query_section f.version (map point_text f.queries) ≡ codes "queries" ∷ map point_text f.queries = rw has refl in
+    let qk : k ≡ text_of in_queries = pk ∙ ap (λ (t : List ℕ). t ++ text_of (map point_text f.queries)) (pj ∙ ap (λ (t : List ℕ). t ++ text_of (codes "queries" ∷ [])) qh) ∙ pushed before (codes "queries") (map point_text f.queries) in
+    pi ∙ ap (λ (t : List ℕ). t ++ text_of (codes "end" ∷ [])) qk ∙ sym (text_of_append in_queries (codes "end" ∷ []))
+    ∙ ap (λ (ls : List (List ℕ)). text_of (before ++ ls ++ codes "end" ∷ [])) (sym section)

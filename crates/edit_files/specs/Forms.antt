@@ -1,9 +1,11 @@
 -- The lines of an edit file that are not section words: what form each has, and what it says.
-use Rattle.std.specs.Prelude.{◌≡◌, ℕ, List, ◌∷◌, ◌++◌, ◌<◌, ◌^◌, ◌⊎◌}
+use Rattle.std.specs.Prelude.{◌≡◌, ℕ, List, ◌∷◌, ◌++◌, ◌<◌, ◌⊎◌, IsTrue}
 use Rattle.point_order.specs.Coordinates.{x_of, y_of, z_of, IsKey}
 use Rattle.edit_history.specs.declared.history.Edit.{Edit}
 use Rattle.edit_history.specs.declared.history.Edit.TheVariants.{Add, Take, Move}
 use Rattle.edit_files.specs.Numbers.{IsNumber, IsNumberOf}
+use Rattle.edit_files.specs.Versions.{row}
+use Rattle.edit_files.specs.declared.version.Version.{Version}
 
 -- three fields with one space (32) between them
 abbrev pub spaced : List ℕ → List ℕ → List ℕ → List ℕ
@@ -30,16 +32,37 @@ pub record IsPointLine (line : List ℕ) (point : ℕ) : Type 0 where
   pub z_value : IsNumberOf z (z_of point)
   pub key : IsKey point
 
--- a line of the form of an edit line: a plus (43) or a minus (45), one space, and the form of a point line
-abbrev pub HasEditForm : List ℕ → Type 0
-HasEditForm line = (rest : List ℕ) × ((line ≡ 43 ∷ 32 ∷ rest) ⊎ (line ≡ 45 ∷ 32 ∷ rest)) × HasPointForm rest
+-- a line of the form of two point lines, with one space between them
+pub record HasPairForm (line : List ℕ) : Type 0 where
+  pub from : List ℕ
+  pub to : List ℕ
+  pub fields : line ≡ from ++ 32 ∷ to
+  pub from_form : HasPointForm from
+  pub to_form : HasPointForm to
 
--- a plus adds the point, and a minus takes it; no line moves one
-abbrev pub IsEditLine : List ℕ → Edit → Type 0
-IsEditLine line (Add point) = (rest : List ℕ) × (line ≡ 43 ∷ 32 ∷ rest) × IsPointLine rest point
-IsEditLine line (Take point) = (rest : List ℕ) × (line ≡ 45 ∷ 32 ∷ rest) × IsPointLine rest point
-IsEditLine line (Move a b) = ⊥
+-- the point lines of two points, with one space between them
+pub record IsPairLine (line : List ℕ) (a b : ℕ) : Type 0 where
+  pub from : List ℕ
+  pub to : List ℕ
+  pub fields : line ≡ from ++ 32 ∷ to
+  pub from_point : IsPointLine from a
+  pub to_point : IsPointLine to b
 
--- the radius line of a radius, which is 0 to 1073741823; its form is that of one number
-abbrev pub IsRadiusLine : List ℕ → ℕ → Type 0
-IsRadiusLine line radius = IsNumberOf line radius × (radius < 2 ^ 30)
+-- A line of the form of an edit line: a plus (43) or a minus (45), one space, and the form of a point line. In a
+-- version with moves also an equals sign (61), one space, and the form of two point lines.
+abbrev pub HasEditForm : Version → List ℕ → Type 0
+HasEditForm version line =
+    (rest : List ℕ)
+    × ((((line ≡ 43 ∷ 32 ∷ rest) ⊎ (line ≡ 45 ∷ 32 ∷ rest)) × HasPointForm rest)
+    ⊎ ((line ≡ 61 ∷ 32 ∷ rest) × IsTrue (row version).moves × HasPairForm rest))
+
+-- a plus adds the point, a minus takes it, and an equals sign moves the first point to the second
+abbrev pub IsEditLine : Version → List ℕ → Edit → Type 0
+IsEditLine version line (Add point) = (rest : List ℕ) × (line ≡ 43 ∷ 32 ∷ rest) × IsPointLine rest point
+IsEditLine version line (Take point) = (rest : List ℕ) × (line ≡ 45 ∷ 32 ∷ rest) × IsPointLine rest point
+IsEditLine version line (Move a b) =
+    (rest : List ℕ) × (line ≡ 61 ∷ 32 ∷ rest) × IsTrue (row version).moves × IsPairLine rest a b
+
+-- the radius line of a radius, which is in the range of the version; its form is that of one number
+abbrev pub IsRadiusLine : Version → List ℕ → ℕ → Type 0
+IsRadiusLine version line radius = IsNumberOf line radius × (radius < (row version).radius_end)

@@ -4,6 +4,7 @@ use Rattle.std.specs.List.{range_with_len}
 use Rattle.point_order.specs.Sets.{is_among}
 use Rattle.edit_history.specs.declared.history.Edit.{Edit}
 use Rattle.edit_history.specs.declared.history.Edit.TheVariants.{Add, Take}
+use Rattle.edit_files.specs.declared.version.Version.TheVariants.{One}
 use Rattle.edit_files.specs.Content.{Content}
 use Rattle.edit_files.specs.Keys.{key_of, greatest_coordinate}
 
@@ -79,11 +80,13 @@ drawn_radii = 16384 ∷ 262144 ∷ 4194304 ∷ []
 abbrev pub most_edits : ℕ
 most_edits = 262140
 
--- the file of a count and a start
+-- the file of a count and a start, of version 1
 abbrev pub generated : ℕ → ℕ → Content
 generated count start =
     record {
+      version = One;
       points = corners;
       edits = map (edit_line start) (range_with_len 1 count);
       radii = drawn_radii;
+      queries = [];
     }

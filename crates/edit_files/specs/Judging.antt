@@ -26,12 +26,12 @@ use Rattle.std.specs.Prelude.{
   Ok,
   Err,
 }
-use Rattle.std.specs.List.{slice_split}
+use Rattle.std.specs.List.{join_with_byte, slice_split}
 use Rattle.std.specs.Char.{is_ascii_digit}
 use Rattle.std.specs.Str.{bytes_eq}
 use Rattle.std.specs.Str.Parse.{starts_with_minus}
 use Rattle.edit_history.specs.declared.history.Edit.{Edit}
-use Rattle.edit_history.specs.declared.history.Edit.TheVariants.{Add, Take}
+use Rattle.edit_history.specs.declared.history.Edit.TheVariants.{Add, Take, Move}
 use Rattle.edit_files.specs.declared.fault.Why.{Why}
 use Rattle.edit_files.specs.declared.fault.Why.TheVariants.{Section, Field, Range, TooMany, Truncated}
 use Rattle.edit_files.specs.declared.fault.Fault.{Fault}
@@ -47,7 +47,11 @@ use Rattle.edit_files.specs.Lines.{lines_of}
 use Rattle.edit_files.specs.Numbers.{after_minus}
 use Rattle.edit_files.specs.Faults.{is_word}
 use Rattle.edit_files.specs.Keys.{coordinate_count, key_of}
-use Rattle.edit_files.specs.Grammar.{radius_limit}
+use Rattle.edit_files.specs.Forms.{spaced}
+use Rattle.edit_files.specs.Grammar.{Limits, query_limit, radius_limit}
+use Rattle.edit_files.specs.Versions.{row, titled}
+use Rattle.edit_files.specs.declared.version.Version.{Version}
+use Rattle.edit_files.specs.declared.version.Version.TheVariants.{One}
 
 -- beyond every range
 abbrev pub far : ℕ
@@ -103,22 +107,50 @@ abbrev pub edit_from : (ℕ → Edit) → Result ℕ Why → Result Edit Why
 edit_from kind (Ok p) = Ok (kind p)
 edit_from kind (Err why) = Err why
 
--- what a sign does with a point line
-abbrev pub edit_at : ℕ → List ℕ → Result Edit Why
-edit_at sign rest =
-    if sign == 43 then edit_from Add (point rest) else (if sign == 45 then edit_from Take (point rest) else Err Field)
+-- the first three fields of a line, and the others
+abbrev pub halves_of : List (List ℕ) → Option (List ℕ × List ℕ)
+halves_of [] = None
+halves_of (x ∷ []) = None
+halves_of (x ∷ y ∷ []) = None
+halves_of (x ∷ y ∷ z ∷ []) = None
+halves_of (x ∷ y ∷ z ∷ u ∷ rest) = Some (spaced x y z, join_with_byte 32 (u ∷ rest))
 
-unfoldable pub edit : List ℕ → Result Edit Why
-edit [] = Err Field
-edit (sign ∷ []) = Err Field
-edit (sign ∷ space ∷ rest) = if space == 32 then edit_at sign rest else Err Field
+unfoldable pub halves : List ℕ → Option (List ℕ × List ℕ)
+halves line = halves_of (fields_of line)
 
-abbrev pub radius_from : Option ℕ → Result ℕ Why
-radius_from None = Err Field
-radius_from (Some n) = if nat_lt n (2 ^ 30) then Ok n else Err Range
+-- of two places that are not read: one that is not of its form comes before one that is out of range
+abbrev pub worse : Why → Result ℕ Why → Why
+worse why (Ok point) = why
+worse why (Err Field) = Field
+worse why (Err other) = why
 
-unfoldable pub radius : List ℕ → Result ℕ Why
-radius line = radius_from (number line)
+-- a move of two points as they were read
+abbrev pub move_from : Result ℕ Why → Result ℕ Why → Result Edit Why
+move_from (Ok a) to = edit_from (Move a) to
+move_from (Err why) to = Err (worse why to)
+
+abbrev pub move_of : Option (List ℕ × List ℕ) → Result Edit Why
+move_of None = Err Field
+move_of (Some places) = move_from (point places.0) (point places.1)
+
+-- what a sign does with what follows it, in a file of a version
+abbrev pub edit_at : Version → ℕ → List ℕ → Result Edit Why
+edit_at version sign rest =
+    if sign == 43 then edit_from Add (point rest)
+    else (if sign == 45 then edit_from Take (point rest)
+    else (if sign == 61 && (row version).moves then move_of (halves rest) else Err Field))
+
+unfoldable pub edit : Version → List ℕ → Result Edit Why
+edit version [] = Err Field
+edit version (sign ∷ []) = Err Field
+edit version (sign ∷ space ∷ rest) = if space == 32 then edit_at version sign rest else Err Field
+
+abbrev pub radius_from : Version → Option ℕ → Result ℕ Why
+radius_from version None = Err Field
+radius_from version (Some n) = if nat_lt n (row version).radius_end then Ok n else Err Range
+
+unfoldable pub radius : Version → List ℕ → Result ℕ Why
+radius version line = radius_from version (number line)
 
 -- where the reader is, and what it took so far
 pub record State : Type 0 where
@@ -143,28 +175,52 @@ abbrev pub with_radius : Content → Result ℕ Why → Result State Why
 with_radius taken (Err why) = Err why
 with_radius taken (Ok r) = move places.Radii (record taken { radii = taken.radii ++ r ∷ [] })
 
+abbrev pub with_query : Content → Result ℕ Why → Result State Why
+with_query taken (Err why) = Err why
+with_query taken (Ok q) = move places.Queries (record taken { queries = taken.queries ++ q ∷ [] })
+
+-- the first line, which tells the version; it is to be none after the newest
+abbrev pub with_title : Version → Content → Option Version → Result State Why
+with_title newest taken None = Err Section
+with_title newest taken (Some version) =
+    if nat_le (row version).number (row newest).number
+    then move places.Heading (record taken { version = version })
+    else Err Section
+
+-- the word behind the radii, and where it leads
+abbrev pub word_behind : Version → List ℕ
+word_behind version = if (row version).queries then codes "queries" else codes "end"
+
+abbrev pub place_behind : Version → Place
+place_behind version = if (row version).queries then places.Queries else places.End
+
 -- a line of a list: it may be no word, and the list may not be full
-abbrev pub listed : List ℕ → Bool → Result State Why → Result State Why
-listed line full taken = if is_word line then Err Section else (if full then Err TooMany else taken)
+abbrev pub listed : Version → List ℕ → Bool → Result State Why → Result State Why
+listed version line full taken = if is_word version line then Err Section else (if full then Err TooMany else taken)
 
-abbrev pub step_at : ℕ → Place → Content → List ℕ → Result State Why
-step_at limit places.Title taken line =
-    if bytes_eq line (codes "mesh3 1") then move places.Heading taken else Err Section
-step_at limit places.Heading taken line =
+abbrev pub step_at : Limits → Place → Content → List ℕ → Result State Why
+step_at limits places.Title taken line = with_title limits.newest taken (titled line)
+step_at limits places.Heading taken line =
     if bytes_eq line (codes "points") then move places.Points taken else Err Section
-step_at limit places.Points taken line =
+step_at limits places.Points taken line =
     if bytes_eq line (codes "edits") then move places.Edits taken
-    else listed line (nat_le limit (length taken.points + length taken.edits)) (with_point taken (point line))
-step_at limit places.Edits taken line =
+    else listed taken.version line (nat_le limits.lines (length taken.points + length taken.edits))
+    (with_point taken (point line))
+step_at limits places.Edits taken line =
     if bytes_eq line (codes "radii") then move places.Radii taken
-    else listed line (nat_le limit (length taken.points + length taken.edits)) (with_edit taken (edit line))
-step_at limit places.Radii taken line =
+    else listed taken.version line (nat_le limits.lines (length taken.points + length taken.edits))
+    (with_edit taken (edit taken.version line))
+step_at limits places.Radii taken line =
+    if bytes_eq line (word_behind taken.version) then move (place_behind taken.version) taken
+    else listed taken.version line (nat_le radius_limit (length taken.radii))
+    (with_radius taken (radius taken.version line))
+step_at limits places.Queries taken line =
     if bytes_eq line (codes "end") then move places.End taken
-    else listed line (nat_le radius_limit (length taken.radii)) (with_radius taken (radius line))
-step_at limit places.End taken line = Err Section
+    else listed taken.version line (nat_le query_limit (length taken.queries)) (with_query taken (point line))
+step_at limits places.End taken line = Err Section
 
-unfoldable pub step : ℕ → State → List ℕ → Result State Why
-step limit s line = step_at limit s.place s.taken line
+unfoldable pub step : Limits → State → List ℕ → Result State Why
+step limits s line = step_at limits s.place s.taken line
 
 -- the end of the lines; n is the number of the line that is missing
 abbrev pub ended : ℕ → Place → Content → Result Content Fault
@@ -173,6 +229,7 @@ ended n places.Heading taken = Err (record { line = n; why = Truncated })
 ended n places.Points taken = Err (record { line = n; why = Truncated })
 ended n places.Edits taken = Err (record { line = n; why = Truncated })
 ended n places.Radii taken = Err (record { line = n; why = Truncated })
+ended n places.Queries taken = Err (record { line = n; why = Truncated })
 ended n places.End taken = Ok taken
 
 -- what follows a line: the rest is judged, or the line was bad
@@ -181,19 +238,19 @@ go_on n (Err why) rest = Err (record { line = n; why = why })
 go_on n (Ok s) rest = rest s
 
 -- the lines from line n on
-unfoldable pub judge : ℕ → ℕ → State → List (List ℕ) → Result Content Fault
-judge limit n s [] = ended n s.place s.taken
-judge limit n s (line ∷ lines) = go_on n (step limit s line) (λ t. judge limit (n + 1) t lines)
+unfoldable pub judge : Limits → ℕ → State → List (List ℕ) → Result Content Fault
+judge limits n s [] = ended n s.place s.taken
+judge limits n s (line ∷ lines) = go_on n (step limits s line) (λ t. judge limits (n + 1) t lines)
 
 abbrev pub nothing : Content
-nothing = record { points = []; edits = []; radii = [] }
+nothing = record { version = One; points = []; edits = []; radii = []; queries = [] }
 
 abbrev pub start : State
 start = record { place = places.Title; taken = nothing }
 
 -- all lines
-abbrev pub judged : ℕ → List ℕ → Result Content Fault
-judged limit bytes = judge limit 1 start (lines_of bytes)
+abbrev pub judged : Limits → List ℕ → Result Content Fault
+judged limits bytes = judge limits 1 start (lines_of bytes)
 
 -- What a function returned, seen by view, is what judging gives, unless memory ran out.
 abbrev pub Fails : {Y : Type 0} → ReadRefused → Result Y Fault → Type 0

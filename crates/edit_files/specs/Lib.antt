@@ -1,3 +1,4 @@
+pub mod Versions
 pub mod Content
 pub mod LinesLeft
 pub mod Lines

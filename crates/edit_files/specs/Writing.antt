@@ -1,14 +1,16 @@
 -- The text that is written of a file: numbers with no leading zeros, and each line with its line feed.
-use Rattle.std.specs.Prelude.{◌≡◌, ℕ, false, List, [], ◌∷◌, ◌++◌, ◌+◌, ◌≤◌, ◌<◌, ◌^◌, length, map, codes, decimal}
+use Rattle.std.specs.Prelude.{◌≡◌, ℕ, false, List, [], ◌∷◌, ◌++◌, ◌+◌, ◌≤◌, ◌<◌, length, map, codes, decimal, IsTrue}
 use Rattle.std.specs.List.{AllByRecursion}
 use Rattle.point_order.specs.Coordinates.{x_of, y_of, z_of, IsKey}
 use Rattle.edit_history.specs.declared.history.Edit.{Edit}
 use Rattle.edit_history.specs.declared.history.Edit.TheVariants.{Add, Take, Move}
-use Rattle.edit_history.specs.Edits.{is_move, point_of}
+use Rattle.edit_history.specs.Edits.{HasKeys, is_move}
 use Rattle.edit_files.specs.Content.{Content}
 use Rattle.edit_files.specs.Lines.{text_of}
 use Rattle.edit_files.specs.Forms.{spaced}
-use Rattle.edit_files.specs.Grammar.{radius_limit}
+use Rattle.edit_files.specs.Grammar.{IsWithinNewest, Limits, query_limit, query_section, radius_limit}
+use Rattle.edit_files.specs.Versions.{row}
+use Rattle.edit_files.specs.declared.version.Version.{Version}
 
 -- the point line that is written of a point
 abbrev pub point_text : ℕ → List ℕ
@@ -23,16 +25,25 @@ edit_text (Move a b) = codes "= " ++ point_text a ++ codes " " ++ point_text b
 -- the lines that are written of a file
 abbrev pub file_lines : Content → List (List ℕ)
 file_lines f =
-    codes "mesh3 1" ∷ codes "points" ∷ map point_text f.points ++ codes "edits" ∷ map edit_text f.edits
-    ++ codes "radii" ∷ map decimal f.radii ++ codes "end" ∷ []
+    (row f.version).title ∷ codes "points" ∷ map point_text f.points ++ codes "edits" ∷ map edit_text f.edits
+    ++ codes "radii" ∷ map decimal f.radii ++ query_section f.version (map point_text f.queries) ++ codes "end" ∷ []
 
 abbrev pub file_text : Content → List ℕ
 file_text f = text_of (file_lines f)
 
--- what a file may hold: points, edits that move nothing, radii in their range, and no more lines than there may be
-pub record IsWithin (limit : ℕ) (f : Content) : Type 0 where
+-- an edit that a file of a version may have: its points are keys, and it moves one only where the version has moves
+abbrev pub IsEditOf : Version → Edit → Type 0
+IsEditOf version e = HasKeys e × (IsTrue (is_move e) → IsTrue (row version).moves)
+
+-- What a file may hold: a version that is taken, points, edits and radii of the version, queries where it has them,
+-- and no more lines than there may be.
+pub record IsWithin (limits : Limits) (f : Content) : Type 0 where
+  pub version : IsWithinNewest limits f.version
   pub points : AllByRecursion IsKey f.points
-  pub edits : AllByRecursion (λ e. (is_move e ≡ false) × IsKey (point_of e)) f.edits
-  pub radii : AllByRecursion (λ r. r < 2 ^ 30) f.radii
-  pub line_count : length f.points + length f.edits ≤ limit
+  pub edits : AllByRecursion (IsEditOf f.version) f.edits
+  pub radii : AllByRecursion (λ r. r < (row f.version).radius_end) f.radii
+  pub queries : AllByRecursion IsKey f.queries
+  pub unasked : (row f.version).queries ≡ false → f.queries ≡ []
+  pub line_count : length f.points + length f.edits ≤ limits.lines
   pub radius_count : length f.radii ≤ radius_limit
+  pub query_count : length f.queries ≤ query_limit

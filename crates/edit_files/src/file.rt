@@ -2,18 +2,24 @@
 
 ghost use Rattle.std.specs.Prelude.{◌≡◌};
 
+use crate::version::Version;
 use edit_history::Edit;
 use point_order::Point;
 
-/// The points, edits and radii that a text names.
+/// The points, edits, radii and queries that a text names.
 #[derive(Debug, Drop)]
 pub struct File {
+    /// The version of its form: in the first no edit moves a point.
+    pub version: Version,
     /// The points of the point lines, in their order.
     pub points: Vec<Point>,
     /// The edits of the edit lines, in their order.
     pub edits: Vec<Edit>,
-    /// The radii, squared, of the radius lines, each 0 to 1073741823, in their order.
+    /// The radii, squared, of the radius lines, in their order: in versions 1 and 2 each is 0 to 1073741823, and from
+    /// version 3 on each counts sixteenths, 0 to 17179869183.
     pub radii: Vec<u64>,
+    /// The points of the query lines, in their order; none before version 4.
+    pub queries: Vec<Point>,
 }
 
 /// The point lines of a file as adds, then its edit lines.

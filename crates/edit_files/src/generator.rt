@@ -17,6 +17,7 @@ ghost use Rattle.edit_files.specs.Generator.{
 };
 
 use crate::file::File;
+use crate::version::Version;
 use edit_history::Edit;
 use point_order::Point;
 use std::alloc::{AllocError, Global};
@@ -110,7 +111,7 @@ fn edits(alloc: Global, count: u32, start: u32) -> Result<Vec<Edit>, AllocError>
     Ok(edits)
 }
 
-/// The file of a count and a start: four points, so many edits, and the radii 16384, 262144 and 4194304.
+/// The file of a count and a start, of version 1: four points, so many edits, and the radii 16384, 262144 and 4194304.
 ///
 /// Every fourth edit takes the point that the edit before the last added, or adds it again where it is one of the four
 /// points. All others add a point that is drawn, from the state `start` on. `count` is
@@ -125,8 +126,10 @@ pub fn generate(alloc: Global, count: u32, start: u32) -> Result<File, AllocErro
     ensures { IfOk result (λ file. content file ≡ generated count start) }
 {
     Ok(File {
+        version: Version::One,
         points: Vec::from_slice(alloc, &corners())?,
         edits: edits(alloc, count, start)?,
         radii: Vec::from_slice(alloc, &RADII)?,
+        queries: Vec::new(alloc),
     })
 }

@@ -4,42 +4,43 @@ ghost use Rattle.std.specs.Prelude.{◌≡◌, ◌≤◌, ◌⊎◌, ℕ, List, 
 ghost use Rattle.point_order.specs.Solid.{is_solid};
 ghost use Rattle.plain_laws.specs.Plain.{IsAnchored};
 ghost use Rattle.edit_files.specs.Content.{Content};
-ghost use Rattle.edit_files.specs.Grammar.{line_limit, IsFile};
+ghost use Rattle.edit_files.specs.Grammar.{IsFile, Limits, up_to};
 ghost use Rattle.edit_files.specs.Generator.{generated, most_edits};
 ghost use Rattle.edit_files.specs.Faults.{IsFault};
 ghost use Rattle.edit_files.specs.Writing.{IsWithin, file_text};
 ghost use Rattle.edit_files.specs.declared.fault.Fault.{Fault};
+ghost use Rattle.edit_files.specs.declared.version.Version.TheVariants.{One};
 
 /// A text is of at most one file.
 pub fn one_file()
-    ensures { (limit : ℕ) (bytes : List ℕ) (f g : Content) → IsFile limit bytes f → IsFile limit bytes g → f ≡ g }
+    ensures { (limits : Limits) (bytes : List ℕ) (f g : Content) → IsFile limits bytes f → IsFile limits bytes g → f ≡ g }
 {}
 
 /// A text that is of a file has no fault.
 pub fn file_has_no_fault()
-    ensures { (limit : ℕ) (bytes : List ℕ) (f : Content) (fault : Fault) → IsFile limit bytes f →
-        IsFault limit bytes fault → ⊥ }
+    ensures { (limits : Limits) (bytes : List ℕ) (f : Content) (fault : Fault) → IsFile limits bytes f →
+        IsFault limits bytes fault → ⊥ }
 {}
 
 /// A text is of a file, or it has a fault.
 pub fn file_or_fault()
-    ensures { (limit : ℕ) (bytes : List ℕ) →
-        ((f : Content) × IsFile limit bytes f) ⊎ ((fault : Fault) × IsFault limit bytes fault) }
+    ensures { (limits : Limits) (bytes : List ℕ) →
+        ((f : Content) × IsFile limits bytes f) ⊎ ((fault : Fault) × IsFault limits bytes fault) }
 {}
 
 /// A text has at most one fault.
 pub fn one_fault()
-    ensures { (limit : ℕ) (bytes : List ℕ) (a b : Fault) → IsFault limit bytes a → IsFault limit bytes b → a ≡ b }
+    ensures { (limits : Limits) (bytes : List ℕ) (a b : Fault) → IsFault limits bytes a → IsFault limits bytes b → a ≡ b }
 {}
 
 /// The text that is written of a file is of that file, where the file is within what a text may hold.
 pub fn written_is_read()
-    ensures { (limit : ℕ) (f : Content) → IsWithin limit f → IsFile limit (file_text f) f }
+    ensures { (limits : Limits) (f : Content) → IsWithin limits f → IsFile limits (file_text f) f }
 {}
 
 /// What a text can be of is within what a text may hold.
 pub fn file_is_within()
-    ensures { (limit : ℕ) (bytes : List ℕ) (f : Content) → IsFile limit bytes f → IsWithin limit f }
+    ensures { (limits : Limits) (bytes : List ℕ) (f : Content) → IsFile limits bytes f → IsWithin limits f }
 {}
 
 /// The file of a count and a start has independent points, and no edit takes one of its opening four.
@@ -54,5 +55,5 @@ pub fn generated_is_solid()
 
 /// With at most 262,140 edits it is within what a text may hold.
 pub fn generated_is_within()
-    ensures { (count start : ℕ) → count ≤ most_edits → IsWithin line_limit (generated count start) }
+    ensures { (count start : ℕ) → count ≤ most_edits → IsWithin (up_to One) (generated count start) }
 {}

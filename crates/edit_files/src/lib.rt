@@ -1,11 +1,13 @@
-//! Edit files: the points, edits and radii that a text names, and the one fault of a text that names none.
+//! Edit files: the points, edits, radii and queries that a text names, and the one fault of a text that names none.
 //!
 //! A text is lines: `mesh3 1`, `points`, point lines `X Y Z`, `edits`, edit lines `+ X Y Z` and `- X Y Z`, `radii`,
-//! radius lines `R`, and `end`. The grammar stands in `specs/Grammar.antt`, and the faults in `specs/Faults.antt`.
+//! radius lines `R`, and `end`. From `mesh3 2` on edit lines `= X Y Z X Y Z` move points, from `mesh3 3` on radii count
+//! sixteenths, and in `mesh3 4` the word `queries` and point lines stand before `end`. The versions are a table in
+//! `specs/Versions.antt`; the grammar stands in `specs/Grammar.antt`, and the faults in `specs/Faults.antt`.
 //!
 //! ```
 //! match read_file(alloc, &bytes) {
-//!     Ok(file) => ..,                              // points, edits, radii; `file.lines()` in order of their tags
+//!     Ok(file) => ..,                              // version, points, edits, radii, queries; `file.lines()` in order of their tags
 //!     Err(ReadRefused::Bad(fault)) => ..,          // its first bad line, and why it is bad
 //!     Err(ReadRefused::Memory) => ..,
 //! }
@@ -21,12 +23,14 @@ pub mod laws;
 mod line;
 mod reader;
 mod scan;
+mod version;
 mod writing;
 
 pub use fault::{Fault, ReadRefused, Why};
 pub use file::{File, Lines};
 pub use generator::generate;
 pub use line::point_of;
-pub use reader::{LINE_LIMIT, RADIUS_LIMIT, read_file};
+pub use reader::{LINE_LIMIT, QUERY_LIMIT, RADIUS_LIMIT, read_file, read_file_up_to};
 pub use scan::{first_field, first_line, number_of};
+pub use version::Version;
 pub use writing::file_text;

@@ -1,16 +1,14 @@
 //! Point lines, edit lines and radius lines.
 
-ghost use Rattle.std.specs.Prelude.{◌≡◌, ◌≤◌, MatchOption, IfSome, Err};
-ghost use Rattle.edit_files.specs.Judging.{far, point, point_at, edit, radius};
+ghost use Rattle.std.specs.Prelude.{◌≡◌, ◌≤◌, MatchOption, IfSome, Err, None, Some};
+ghost use Rattle.edit_files.specs.Judging.{far, point, point_at, halves, move_of, edit, radius};
 ghost use Rattle.edit_files.specs.declared.fault.Why.TheVariants.{Field};
 
 use crate::fault::Why;
 use crate::scan::{first_field, number_of};
+use crate::version::Version;
 use edit_history::Edit;
 use point_order::Point;
-
-// The greatest radius, squared.
-const GREATEST_RADIUS: u64 = 1_073_741_823;
 
 // Three numbers with one space between them.
 fn three_of(line: &[u8]) -> Option<(u64, u64, u64)>
@@ -45,9 +43,38 @@ pub fn point_of(line: &[u8]) -> Result<Point, Why>
     }
 }
 
-// The edit of an edit line.
-pub fn edit_of(line: &[u8]) -> Result<Edit, Why>
-    ensures { result ≡ edit line.now }
+// The first three fields of a line, with the spaces between them, and what follows the space behind them.
+fn halves(line: &[u8]) -> Option<(&[u8], &[u8])>
+    ensures { MatchOption result (halves line.now ≡ None) (λ h. halves line.now ≡ Some (h.0.now, h.1.now)) }
+{
+    let (_, behind_x) = first_field(line);
+    let (_, behind_y) = first_field(behind_x?);
+    let (_, behind_z) = first_field(behind_y?);
+    let to = behind_z?;
+    Some((&line[..line.len() - to.len() - 1], to))
+}
+
+// The move of two points with one space between them: a place that is not of its form comes before one that is out of
+// range.
+fn move_of(line: &[u8]) -> Result<Edit, Why>
+    ensures { result ≡ move_of (halves line.now) }
+{
+    let Some((from, to)) = halves(line) else {
+        return Err(Why::Field);
+    };
+    let to = point_of(to);
+    match point_of(from) {
+        Ok(from) => to.map(|to| Edit::Move(from, to)),
+        Err(why) => match to {
+            Err(Why::Field) => Err(Why::Field),
+            _ => Err(why),
+        },
+    }
+}
+
+// The edit of an edit line of a file of this version.
+pub fn edit_of(line: &[u8], version: Version) -> Result<Edit, Why>
+    ensures { result ≡ edit version line.now }
 {
     if line.len() < 2 || line[1] != b' ' {
         return Err(Why::Field);
@@ -56,17 +83,18 @@ pub fn edit_of(line: &[u8]) -> Result<Edit, Why>
     match line[0] {
         b'+' => point_of(rest).map(Edit::Add),
         b'-' => point_of(rest).map(Edit::Take),
+        b'=' if version.row().moves => move_of(rest),
         _ => Err(Why::Field),
     }
 }
 
-// The radius of a radius line.
-pub fn radius_of(line: &[u8]) -> Result<u64, Why>
-    ensures { result ≡ radius line.now }
+// The radius of a radius line of a file of this version.
+pub fn radius_of(line: &[u8], version: Version) -> Result<u64, Why>
+    ensures { result ≡ radius version line.now }
 {
     match number_of(line) {
         None => Err(Why::Field),
-        Some(radius) if radius > GREATEST_RADIUS => Err(Why::Range),
-        Some(radius) => Ok(radius),
+        Some(radius) if radius < version.row().radius_end => Ok(radius),
+        Some(_) => Err(Why::Range),
     }
 }

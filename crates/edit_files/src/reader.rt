@@ -3,7 +3,7 @@
 ghost use Rattle.std.specs.Prelude.{◌≡◌, ◌+◌, IfOk, MatchResult, Err, Result, ℕ, length, nat_le, if◌then◌else◌};
 ghost use Rattle.std.specs.Str.{bytes_eq};
 ghost use Rattle.edit_files.specs.Content.{Content, content};
-ghost use Rattle.edit_files.specs.Grammar.{IsFile, line_limit};
+ghost use Rattle.edit_files.specs.Grammar.{IsFile, line_limit, up_to};
 ghost use Rattle.edit_files.specs.Faults.{IsFault, is_word};
 ghost use Rattle.edit_files.specs.Judging.{
   State,
@@ -18,7 +18,13 @@ ghost use Rattle.edit_files.specs.Judging.{
   refused_at,
   Gives,
   Steps,
+  with_title,
+  word_behind,
+  place_behind,
 };
+ghost use Rattle.edit_files.specs.Versions.{titled};
+ghost use Rattle.edit_files.specs.declared.version.Version.{Version};
+ghost use Rattle.edit_files.specs.declared.version.Version.TheVariants.{Four};
 ghost use Rattle.edit_files.specs.declared.fault.Fault.{Fault};
 ghost use Rattle.edit_files.specs.declared.fault.Why.{Why};
 ghost use Rattle.edit_files.specs.declared.fault.Why.TheVariants.{Section};
@@ -29,6 +35,7 @@ use crate::fault::{Fault, ReadRefused, Why};
 use crate::file::File;
 use crate::line::{edit_of, point_of, radius_of};
 use crate::scan::first_line;
+use crate::version::Version;
 use std::alloc::{AllocFailed, Global};
 
 /// How many point and edit lines a file may have together.
@@ -36,6 +43,9 @@ pub const LINE_LIMIT: u64 = 262_144;
 
 /// How many radius lines a file may have.
 pub const RADIUS_LIMIT: u64 = 16;
+
+/// How many query lines a file may have.
+pub const QUERY_LIMIT: u64 = 65_536;
 
 // Where a reader is.
 #[derive(Clone, Copy)]
@@ -47,6 +57,7 @@ enum Place {
     Points,
     Edits,
     Radii,
+    Queries,
     // after the word `end`
     End,
 }
@@ -104,19 +115,24 @@ fn reads(line: &[u8], word: &[u8]) -> bool
     line == word
 }
 
-// Is the line one of the four section words?
-fn is_section_word(line: &[u8]) -> bool
-    ensures { result ≡ is_word line.now }
+// Is the line one of the section words of this version?
+fn is_section_word(line: &[u8], version: Version) -> bool
+    ensures { result ≡ is_word version line.now }
 {
-    reads(line, b"points") || reads(line, b"edits") || reads(line, b"radii") || reads(line, b"end")
+    reads(line, b"points")
+        || reads(line, b"edits")
+        || reads(line, b"radii")
+        || reads(line, b"end")
+        || (version.row().queries && reads(line, b"queries"))
 }
 
 // A line of a list may be no section word, and the list may not be full.
-fn admit(line: &[u8], is_full: bool) -> Result<(), Why>
+fn admit(line: &[u8], version: Version, is_full: bool) -> Result<(), Why>
     ensures { (r : Result State Why) →
-        MatchResult result (λ _. listed line.now is_full r ≡ r) (λ why. listed line.now is_full r ≡ Err why) }
+        MatchResult result (λ _. listed version line.now is_full r ≡ r)
+            (λ why. listed version line.now is_full r ≡ Err why) }
 {
-    if is_section_word(line) {
+    if is_section_word(line, version) {
         return Err(Why::Section);
     }
     if is_full {
@@ -125,14 +141,34 @@ fn admit(line: &[u8], is_full: bool) -> Result<(), Why>
     Ok(())
 }
 
+// The word behind the radii of a file of this version.
+fn word_behind(version: Version) -> &'static [u8]
+    ensures { result.now ≡ word_behind version }
+{
+    if version.row().queries { b"queries" } else { b"end" }
+}
+
+// Where that word leads.
+fn place_behind(version: Version) -> Place
+    ensures { result ≡ place_behind version }
+{
+    if version.row().queries {
+        Place::Queries
+    } else {
+        Place::End
+    }
+}
+
 impl Reader {
     fn new(alloc: Global) -> Reader
         ensures { state result ≡ start }
     {
         let file = File {
+            version: Version::One,
             points: Vec::new(alloc),
             edits: Vec::new(alloc),
             radii: Vec::new(alloc),
+            queries: Vec::new(alloc),
         };
         Reader {
             place: Place::Title,
@@ -141,17 +177,33 @@ impl Reader {
     }
 
     // Takes the line that follows.
-    fn take_line(&mut self, line: &[u8]) -> Result<(), LineRefused>
-        ensures { Steps result (state self.new) (step line_limit (state self.old) line.now) }
+    fn take_line(&mut self, line: &[u8], newest: Version) -> Result<(), LineRefused>
+        ensures { Steps result (state self.new) (step (up_to newest) (state self.old) line.now) }
     {
         match self.place {
-            Place::Title => self.take_word(line, b"mesh3 1", Place::Heading),
+            Place::Title => self.take_title(line, newest),
             Place::Heading => self.take_word(line, b"points", Place::Points),
             Place::Points => self.take_point(line),
             Place::Edits => self.take_edit(line),
             Place::Radii => self.take_radius(line),
+            Place::Queries => self.take_query(line),
             Place::End => Err(LineRefused::Bad(Why::Section)),
         }
+    }
+
+    // Takes the first line, which tells the version.
+    fn take_title(&mut self, line: &[u8], newest: Version) -> Result<(), LineRefused>
+        ensures { Steps result (state self.new) (with_title newest (content self.old.file) (titled line.now)) }
+    {
+        let Some(version) = Version::of_title(line) else {
+            return Err(LineRefused::Bad(Why::Section));
+        };
+        if newest.row().number < version.row().number {
+            return Err(LineRefused::Bad(Why::Section));
+        }
+        self.file.version = version;
+        self.place = Place::Heading;
+        Ok(())
     }
 
     // Takes a line that is to be this word, and goes on to the next place.
@@ -176,13 +228,14 @@ impl Reader {
     // Takes a line in the points.
     fn take_point(&mut self, line: &[u8]) -> Result<(), LineRefused>
         requires { self.old.place ≡ places.Points }
-        ensures { Steps result (state self.new) (step_at line_limit places.Points (content self.old.file) line.now) }
+        ensures { (newest : Version) → Steps result (state self.new)
+            (step_at (up_to newest) places.Points (content self.old.file) line.now) }
     {
         if reads(line, b"edits") {
             self.place = Place::Edits;
             return Ok(());
         }
-        admit(line, self.is_full())?;
+        admit(line, self.file.version, self.is_full())?;
         self.file.points.push(point_of(line)?)?;
         Ok(())
     }
@@ -190,28 +243,46 @@ impl Reader {
     // Takes a line in the edits.
     fn take_edit(&mut self, line: &[u8]) -> Result<(), LineRefused>
         requires { self.old.place ≡ places.Edits }
-        ensures { Steps result (state self.new) (step_at line_limit places.Edits (content self.old.file) line.now) }
+        ensures { (newest : Version) → Steps result (state self.new)
+            (step_at (up_to newest) places.Edits (content self.old.file) line.now) }
     {
         if reads(line, b"radii") {
             self.place = Place::Radii;
             return Ok(());
         }
-        admit(line, self.is_full())?;
-        self.file.edits.push(edit_of(line)?)?;
+        admit(line, self.file.version, self.is_full())?;
+        self.file.edits.push(edit_of(line, self.file.version)?)?;
         Ok(())
     }
 
     // Takes a line in the radii.
     fn take_radius(&mut self, line: &[u8]) -> Result<(), LineRefused>
         requires { self.old.place ≡ places.Radii }
-        ensures { Steps result (state self.new) (step_at line_limit places.Radii (content self.old.file) line.now) }
+        ensures { (newest : Version) → Steps result (state self.new)
+            (step_at (up_to newest) places.Radii (content self.old.file) line.now) }
+    {
+        let version = self.file.version;
+        if reads(line, word_behind(version)) {
+            self.place = place_behind(version);
+            return Ok(());
+        }
+        admit(line, version, RADIUS_LIMIT <= self.file.radii.len() as u64)?;
+        self.file.radii.push(radius_of(line, version)?)?;
+        Ok(())
+    }
+
+    // Takes a line in the queries.
+    fn take_query(&mut self, line: &[u8]) -> Result<(), LineRefused>
+        requires { self.old.place ≡ places.Queries }
+        ensures { (newest : Version) → Steps result (state self.new)
+            (step_at (up_to newest) places.Queries (content self.old.file) line.now) }
     {
         if reads(line, b"end") {
             self.place = Place::End;
             return Ok(());
         }
-        admit(line, RADIUS_LIMIT <= self.file.radii.len() as u64)?;
-        self.file.radii.push(radius_of(line)?)?;
+        admit(line, self.file.version, QUERY_LIMIT <= self.file.queries.len() as u64)?;
+        self.file.queries.push(point_of(line)?)?;
         Ok(())
     }
 
@@ -230,14 +301,14 @@ impl Reader {
 }
 
 // Judges a text line by line.
-fn judge(alloc: Global, bytes: &[u8]) -> Result<File, ReadRefused>
-    ensures { Gives content result (judged line_limit bytes.now) }
+fn judge(alloc: Global, bytes: &[u8], newest: Version) -> Result<File, ReadRefused>
+    ensures { Gives content result (judged (up_to newest) bytes.now) }
 {
     let mut reader = Reader::new(alloc);
     let mut number = 1;
     let mut rest = bytes;
     while let Some((line, after)) = first_line(rest) {
-        match reader.take_line(line) {
+        match reader.take_line(line, newest) {
             Ok(()) => {}
             Err(refused) => return Err(refused.of_line(number)),
         }
@@ -247,13 +318,29 @@ fn judge(alloc: Global, bytes: &[u8]) -> Result<File, ReadRefused>
     reader.finish(number)
 }
 
-/// The file that a text is.
+/// The file that a text is, where its version is none after the newest that is to be taken: the first line of a later
+/// version is bad, as one of no version is.
+///
+/// # Errors
+/// Where it is none, its one fault; and where there is no memory for what it names, that.
+pub fn read_file_up_to(
+    alloc: Global,
+    bytes: &[u8],
+    newest: Version,
+) -> Result<File, ReadRefused>
+    ensures accepted { IfOk result (λ f. IsFile (up_to newest) bytes.now (content f)) }
+    ensures fault { (fault : Fault) → result ≡ Err (Bad fault) → IsFault (up_to newest) bytes.now fault }
+{
+    judge(alloc, bytes, newest)
+}
+
+/// The file that a text is, of whatever version.
 ///
 /// # Errors
 /// Where it is none, its one fault; and where there is no memory for what it names, that.
 pub fn read_file(alloc: Global, bytes: &[u8]) -> Result<File, ReadRefused>
-    ensures accepted { IfOk result (λ f. IsFile line_limit bytes.now (content f)) }
-    ensures fault { (fault : Fault) → result ≡ Err (Bad fault) → IsFault line_limit bytes.now fault }
+    ensures accepted { IfOk result (λ f. IsFile (up_to Four) bytes.now (content f)) }
+    ensures fault { (fault : Fault) → result ≡ Err (Bad fault) → IsFault (up_to Four) bytes.now fault }
 {
-    judge(alloc, bytes)
+    read_file_up_to(alloc, bytes, Version::Four)
 }

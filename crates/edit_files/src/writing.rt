@@ -94,12 +94,18 @@ fn put_radii(text: &mut Vec<u8>, radii: &[u64]) -> Result<(), AllocError>
 pub fn file_text(alloc: Global, file: &File) -> Result<Vec<u8>, AllocError>
     ensures { IfOk result (λ text. text.items ≡ file_text (content file.now)) }
 {
-    let mut text = Vec::from_slice(alloc, b"mesh3 1\npoints\n")?;
+    let row = file.version.row();
+    let mut text = Vec::from_slice(alloc, row.title)?;
+    text.extend_from_slice(b"\npoints\n")?;
     put_points(&mut text, &file.points)?;
     text.extend_from_slice(b"edits\n")?;
     put_edits(&mut text, &file.edits)?;
     text.extend_from_slice(b"radii\n")?;
     put_radii(&mut text, &file.radii)?;
+    if row.queries {
+        text.extend_from_slice(b"queries\n")?;
+        put_points(&mut text, &file.queries)?;
+    }
     text.extend_from_slice(b"end\n")?;
     Ok(text)
 }

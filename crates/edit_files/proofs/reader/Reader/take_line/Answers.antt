@@ -12,15 +12,19 @@ returns-in-Heading c = search rules
 
 pub returns-in-Points : goal.returns-in-Points
 unfolding step
-returns-in-Points c = search rules
+returns-in-Points c = rw c.in-Points.is (c.take_point.ensures c.args.newest)
 
 pub returns-in-Edits : goal.returns-in-Edits
 unfolding step
-returns-in-Edits c = search rules
+returns-in-Edits c = rw c.in-Edits.is (c.take_edit.ensures c.args.newest)
 
 pub returns-in-Radii : goal.returns-in-Radii
 unfolding step
-returns-in-Radii c = search rules
+returns-in-Radii c = rw c.in-Radii.is (c.take_radius.ensures c.args.newest)
+
+pub returns-in-Queries : goal.returns-in-Queries
+unfolding step
+returns-in-Queries c = rw c.in-Queries.is (c.take_query.ensures c.args.newest)
 
 pub returns-in-End : goal.returns-in-End
 unfolding step

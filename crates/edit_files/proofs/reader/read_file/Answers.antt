@@ -1,9 +1,0 @@
-use Rattle.edit_files.specs.Grammar.{line_limit}
-use Rattle.edit_files.proofs.Judged.{given_is_file, given_is_fault}
-use Rattle.edit_files.proofs.reader.read_file.Goals as goal
-
-pub returns-clause-accepted : goal.returns-clause-accepted
-returns-clause-accepted c = given_is_file line_limit c.args.bytes.now c.judge.result c.judge.ensures
-
-pub returns-clause-fault : goal.returns-clause-fault
-returns-clause-fault c = λ fault e. given_is_fault line_limit c.args.bytes.now c.judge.result fault c.judge.ensures e
