@@ -15,6 +15,7 @@ use Rattle.mesh_files.specs.Text.{ReportParts}
 use Rattle.delaunay_cli.specs.declared.made.Made.{Made}
 use Rattle.delaunay_cli.specs.declared.stop.Stop.{Stop}
 use Rattle.delaunay_cli.specs.declared.stop.Stop.TheVariants.{Memory}
+use Rattle.delaunay_cli.specs.Report.{AreRadii}
 use Rattle.delaunay_cli.specs.Reported.{IsMeshed, IsUnmeshed}
 use Rattle.delaunay_cli.specs.declared.task.Drawn.{Drawn}
 use Rattle.delaunay_cli.specs.declared.task.Making.{Making}
@@ -28,9 +29,9 @@ drawn_lines f count start few e =
     let edits : length f.edits ≡ count = ap (λ (g : Content). length g.edits) e ∙ length-map-range_with_len (edit_line start) 1 count in
     omega arith
 
-pub drawn_radii : (f : Content) (count start : ℕ) → f ≡ generated count start → All (λ radius. radius < 2 ^ 30) f.radii
+pub drawn_radii : (f : Content) (count start : ℕ) → f ≡ generated count start → AreRadii f.version f.radii
 drawn_radii f count start e =
-    subst (λ (g : Content). All (λ radius. radius < 2 ^ 30) g.radii) (sym e)
+    subst (λ (g : Content). AreRadii g.version g.radii) (sym e)
     (All-cons (λ radius. radius < 2 ^ 30) 16384 (262144 ∷ 4194304 ∷ []) (lit< tt)
     (All-cons (λ radius. radius < 2 ^ 30) 262144 (4194304 ∷ []) (lit< tt)
     (All-cons (λ radius. radius < 2 ^ 30) 4194304 [] (lit< tt) (All-nil (λ radius. radius < 2 ^ 30)))))

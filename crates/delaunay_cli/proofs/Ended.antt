@@ -32,7 +32,7 @@ use Rattle.point_order.specs.Solid.{is_solid}
 use Rattle.edit_history.specs.declared.history.Entry.{Entry}
 use Rattle.edit_history.specs.Histories.{IsLegal, replay}
 use Rattle.edit_files.specs.Content.{Content}
-use Rattle.edit_files.specs.Grammar.{line_limit}
+use Rattle.delaunay_cli.specs.Taken.{file_limits}
 use Rattle.edit_files.specs.Generator.{generated}
 use Rattle.edit_files.proofs.Cited.{no_fault_of, one_file_of}
 use Rattle.delaunay_cli.specs.declared.made.Made.{Made}
@@ -123,12 +123,12 @@ verdict_made status workers h P bytes s r =
       );
       bad_line = λ n. (
         λ e. absurd (no_other status s 5 (omega arith) (omega arith) (λ k. omega (arith, k)) e),
-        λ k. absurd (no_fault_of line_limit bytes r.file k.0 r.is_file k.1),
+        λ k. absurd (no_fault_of file_limits bytes r.file k.0 r.is_file k.1),
       );
       not_solid = λ n file is. (
         λ e. absurd (no_other status s 6 (omega arith) (omega arith) (λ k. omega (arith, k)) e),
         λ flat. absurd (let w = ap (λ (f : Content). is_solid f.points)
-            (one_file_of line_limit bytes r.file file r.is_file is) in let t = r.solid in cc),
+            (one_file_of file_limits bytes r.file file r.is_file is) in let t = r.solid in cc),
       );
     }
 
@@ -150,16 +150,16 @@ verdict_unmade (Some bytes) failed (BadLine line) s late =
       not_solid = λ n file is. (
         λ e. absurd (omega (arith, e)),
         λ flat. absurd
-            (no_fault_of line_limit bytes file s.0.fault is s.0.cause),
+            (no_fault_of file_limits bytes file s.0.fault is s.0.cause),
       );
     }
 verdict_unmade (Some bytes) failed Flat s late =
     record {
       too_long = (λ e. absurd (omega (arith, e)), λ l. absurd (let w = s.0 in omega (arith, l, w)));
-      bad_line = λ n. (λ e. absurd (omega (arith, e)), λ k. absurd (no_fault_of line_limit bytes s.1.0 k.0 s.1.1 k.1));
+      bad_line = λ n. (λ e. absurd (omega (arith, e)), λ k. absurd (no_fault_of file_limits bytes s.1.0 k.0 s.1.1 k.1));
       not_solid = λ n file is. (
         λ e. subst (λ (f : Content). is_solid f.points ≡ false)
-            (one_file_of line_limit bytes s.1.0 file s.1.1 is) s.1.2,
+            (one_file_of file_limits bytes s.1.0 file s.1.1 is) s.1.2,
         λ flat. refl,
       );
     }

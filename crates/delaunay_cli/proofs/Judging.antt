@@ -9,7 +9,6 @@ use Rattle.std.proofs.Common.{
   ◌+◌,
   ◌<◌,
   ◌≤◌,
-  ◌^◌,
   List,
   [],
   ◌∷◌,
@@ -19,14 +18,19 @@ use Rattle.std.proofs.Common.{
   inl,
   inr,
 }
-use Rattle.std.specs.Prelude.{false, Option, None, Some, IfSome, IfErr, Result, Ok, Err, All}
+use Rattle.std.specs.Prelude.{true, false, Option, None, Some, IfSome, IfErr, Result, Ok, Err, All}
 use Rattle.std.specs.List.{AllZip}
 use Rattle.list_laws.proofs.Cited.{length_zip}
 use Rattle.edit_history.specs.declared.history.Edit.{Edit}
 use Rattle.edit_history.specs.declared.history.Edit.TheVariants.{Add, Take, Move}
 use Rattle.edit_history.specs.Edits.{is_move}
 use Rattle.edit_files.specs.Content.{Content}
-use Rattle.edit_files.specs.Grammar.{line_limit, IsFile}
+use Rattle.edit_files.specs.Grammar.{IsFile, Limits}
+use Rattle.edit_files.specs.Versions.{row}
+use Rattle.edit_files.specs.declared.version.Version.{Version}
+use Rattle.edit_files.specs.declared.version.Version.TheVariants.{One, Two, Three, Four}
+use Rattle.delaunay_cli.specs.Report.{AreRadii}
+use Rattle.delaunay_cli.specs.Taken.{file_limits}
 use Rattle.edit_files.specs.Forms.{IsPointLine, IsEditLine, IsRadiusLine}
 use Rattle.edit_files.specs.Faults.{IsFault}
 use Rattle.delaunay_cli.specs.declared.stop.Stop.{Stop}
@@ -39,39 +43,46 @@ use Rattle.std.specs.Io.KnownBytes.{IsAtEnd}
 use Rattle.byte_ends.specs.Ends.{TakesInto}
 
 -- a file has at most as many points and edits as lines are allowed
-pub file_small : (limit : ℕ) (bytes : List ℕ) (f : Content) → IsFile limit bytes f →
-    length f.points + length f.edits ≤ limit
-file_small limit bytes f h =
+pub file_small : (limits : Limits) (bytes : List ℕ) (f : Content) → IsFile limits bytes f →
+    length f.points + length f.edits ≤ limits.lines
+file_small limits bytes f h =
     omega (
       arith,
       length_zip IsPointLine h.points f.points h.point_lines,
-      length_zip IsEditLine h.edits f.edits h.edit_lines,
+      length_zip (IsEditLine f.version) h.edits f.edits h.edit_lines,
       h.line_count,
     )
 
--- the radii of a file are below 2^30
-pub radii_small : (limit : ℕ) (bytes : List ℕ) (f : Content) → IsFile limit bytes f →
-    All (λ radius. radius < 2 ^ 30) f.radii
-radii_small limit bytes f h = of_lines h.radii f.radii h.radius_lines
+-- the radii of a file are in the range of its version
+pub radii_small : (limits : Limits) (bytes : List ℕ) (f : Content) → IsFile limits bytes f →
+    AreRadii f.version f.radii
+radii_small limits bytes f h = of_lines h.radii f.radii h.radius_lines
   where
-    of_lines : (lines : List (List ℕ)) (radii : List ℕ) → AllZip IsRadiusLine lines radii →
-        All (λ radius. radius < 2 ^ 30) radii
+    of_lines : (lines : List (List ℕ)) (radii : List ℕ) → AllZip (IsRadiusLine f.version) lines radii →
+        AreRadii f.version radii
     of_lines [] [] z = λ k d l. absurd (omega arith)
     of_lines [] (r ∷ radii) z = absurd z
     of_lines (l ∷ lines) [] z = absurd z
-    of_lines (l ∷ lines) (r ∷ radii) z = All-cons (λ radius. radius < 2 ^ 30) r radii z.0.1 (of_lines lines radii z.1)
+    of_lines (l ∷ lines) (r ∷ radii) z = All-cons (λ radius. radius < (row f.version).radius_end) r radii z.0.1
+        (of_lines lines radii z.1)
 
--- the edits of a file move no point
-pub edits_still : (limit : ℕ) (bytes : List ℕ) (f : Content) → IsFile limit bytes f →
-    All (λ e. is_move e ≡ false) f.edits
-edits_still limit bytes f h = of_lines h.edits f.edits h.edit_lines
+-- the first version has no moves
+one_still : (v : Version) → (row v).number ≤ 1 → (row v).moves ≡ true → ⊥
+one_still One le has = absurd cc
+one_still Two le has = absurd (omega (arith, le))
+one_still Three le has = absurd (omega (arith, le))
+one_still Four le has = absurd (omega (arith, le))
+
+-- the edits of a file that is taken move no point
+pub edits_still : (bytes : List ℕ) (f : Content) → IsFile file_limits bytes f → All (λ e. is_move e ≡ false) f.edits
+edits_still bytes f h = of_lines h.edits f.edits h.edit_lines
   where
-    one : (line : List ℕ) (e : Edit) → IsEditLine line e → is_move e ≡ false
+    one : (line : List ℕ) (e : Edit) → IsEditLine f.version line e → is_move e ≡ false
     one line (Add p) s = refl
     one line (Take p) s = refl
-    one line (Move a b) s = absurd s
+    one line (Move a b) s = absurd (one_still f.version h.version s.2)
 
-    of_lines : (lines : List (List ℕ)) (edits : List Edit) → AllZip IsEditLine lines edits →
+    of_lines : (lines : List (List ℕ)) (edits : List Edit) → AllZip (IsEditLine f.version) lines edits →
         All (λ e. is_move e ≡ false) edits
     of_lines [] [] z = λ k d l. absurd (omega arith)
     of_lines [] (e ∷ edits) z = absurd z
@@ -95,7 +106,7 @@ unmeshed_told left failed old bytes now e f h (Err (BadLine line)) u = (
   record {
     fault = u.0.fault;
     line_is = u.0.line_is;
-    cause = if_told (λ (b : List ℕ). IsFault line_limit b u.0.fault)
+    cause = if_told (λ (b : List ℕ). IsFault file_limits b u.0.fault)
         left old bytes now e f h u.0.cause;
   },
   if_told (λ (b : List ℕ). length b ≤ input_limit) left old bytes now e f h u.1,

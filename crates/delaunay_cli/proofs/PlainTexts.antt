@@ -20,7 +20,7 @@ use Rattle.delaunay_cli.specs.Words.{asks_text, drawn_count, drawn_start}
 -- the report of a plain history is that of the lines
 report_is : (shape : Bool) (file : Content) (h : List Entry) → IsPlain file.points file.edits h → report_of shape false file h ≡ plain_report shape file
 report_is shape file h p =
-    λ i. record { replies = p.replies i; points = p.set i; cells = complex (p.set i); shapes = shapes_of shape file.radii (p.set i); order = None }
+    λ i. record { replies = p.replies i; points = p.set i; cells = complex (p.set i); shapes = shapes_of shape file.version file.radii (p.set i); order = None }
 
 -- every legal history that keeps an anchored file has the report of its lines
 pub kept_is_plain : (shape : Bool) (file : Content) (workers : ℕ) (h : List Entry) → IsAnchored file.points file.edits → Keeps file.points file.edits workers h → IsLegal h →

@@ -34,7 +34,8 @@ use Rattle.std.proofs.lemmas.Bool.{cases_lt}
 use Rattle.list_laws.proofs.Cited.{if_some}
 use Rattle.byte_ends.specs.Ends.{AppendsFront}
 use Rattle.edit_files.specs.Content.{Content}
-use Rattle.edit_files.specs.Grammar.{line_limit, IsFile}
+use Rattle.edit_files.specs.Grammar.{IsFile}
+use Rattle.delaunay_cli.specs.Taken.{file_limits}
 use Rattle.edit_files.proofs.Cited.{no_fault_of, one_file_of}
 use Rattle.mesh_files.specs.Text.{report_text}
 use Rattle.plain_laws.specs.Plain.{IsAnchored}
@@ -227,15 +228,15 @@ module _ {words : List (String Global)} {left left_after : Option (List ℕ)} {r
   of_one : (P : Content → Type 0) (Q : Content → Type 0) → ((file : Content) → IsKept file (worker_count words) kept →
       Q file → P file)
       → IfSome left (IsOfFile (worker_count words) kept Q) → IfSome left
-      (λ bytes. (file : Content) → IsFile line_limit bytes file → P file)
+      (λ bytes. (file : Content) → IsFile file_limits bytes file → P file)
   of_one P Q f m =
-      if_some (IsOfFile (worker_count words) kept Q) (λ bytes. (file : Content) → IsFile line_limit bytes file → P file)
-      left (λ bytes m file is. subst P (one_file_of line_limit bytes m.file file m.is_file is)
+      if_some (IsOfFile (worker_count words) kept Q) (λ bytes. (file : Content) → IsFile file_limits bytes file → P file)
+      left (λ bytes m file is. subst P (one_file_of file_limits bytes m.file file m.is_file is)
       (f m.file m.kept m.text_is)) m
 
   pub of_kept : (P : Content → Type 0) → ((file : Content) → IsKept file (worker_count words) kept → P file)
       → ReadsFile words → HasText status → IfSome left
-      (λ bytes. (file : Content) → IsFile line_limit bytes file → P file)
+      (λ bytes. (file : Content) → IsFile file_limits bytes file → P file)
   of_kept P f w s =
       elim (kind_read words w) [
         | inl k ↦ of_one P (λ file. e.text ≡ text_of (asks_shape words) (asks_order words) file kept)
@@ -254,7 +255,7 @@ module _ {words : List (String Global)} {left left_after : Option (List ℕ)} {r
   pub of_file : (P : Content → Type 0) → ((file : Content) → IsKept file (worker_count words) kept →
       e.text ≡ text_of (asks_shape words) (asks_order words) file kept → P file)
       → WritesReport words → (status ≡ 0) ⊎ (status ≡ 4) → IfSome left
-      (λ bytes. (file : Content) → IsFile line_limit bytes file → P file)
+      (λ bytes. (file : Content) → IsFile file_limits bytes file → P file)
   of_file P f w s = of_one P (λ file. e.text ≡ text_of (asks_shape words) (asks_order words) file kept) f
       ((of_report w).made (has_text status s))
 
@@ -292,7 +293,7 @@ module _ {words : List (String Global)} {left left_after : Option (List ℕ)} {r
                 [ inl k ↦ ne1 k | inr t ↦ elim t [ inl k ↦ ne2 k | inr k ↦ ne3 k ] ]) in
                 let ne7 : status ≢ 7 = λ k. let l : input_limit < length bytes = told.too_long.0 k in let m =
                 solid.0 in omega (arith, l, m) in
-                let ne5 : status ≢ 5 = λ k. let f = (told.bad_line ne7).0 k in no_fault_of line_limit bytes solid.1.0
+                let ne5 : status ≢ 5 = λ k. let f = (told.bad_line ne7).0 k in no_fault_of file_limits bytes solid.1.0
                 f.0 solid.1.1 f.1 in
                 let ne6 : status ≢ 6 = λ k. let flat = (told.not_solid ne7 solid.1.0 solid.1.1).0 k in let q =
                 solid.1.2 in cc in

@@ -3,7 +3,8 @@ use Rattle.std.specs.Prelude.{◌≡◌, ◌≢◌, ◌≤◌, ◌<◌, ◌↔�
 use Rattle.point_order.specs.Solid.{is_solid}
 use Rattle.edit_history.specs.declared.history.Entry.{Entry}
 use Rattle.edit_files.specs.Content.{Content}
-use Rattle.edit_files.specs.Grammar.{line_limit, IsFile}
+use Rattle.edit_files.specs.Grammar.{IsFile}
+use Rattle.delaunay_cli.specs.Taken.{file_limits}
 use Rattle.delaunay_cli.specs.declared.stop.Stop.{Stop}
 use Rattle.delaunay_cli.specs.declared.stop.Stop.TheVariants.{Memory, ReadFault, BadLine, Flat, TooLong}
 use Rattle.delaunay_cli.specs.Run.{HasFault, IsKept, input_limit}
@@ -14,7 +15,7 @@ use Rattle.delaunay_cli.specs.Statuses.{HasText, IsEarly, IsFaultLine}
 pub record IsOfFile (workers : ℕ) (h : List Entry) (P : Content → Type 0) (bytes : List ℕ) : Type 0 where
   pub within : length bytes ≤ input_limit
   pub file : Content
-  pub is_file : IsFile line_limit bytes file
+  pub is_file : IsFile file_limits bytes file
   pub solid : is_solid file.points ≡ true
   pub kept : IsKept file workers h
   pub text_is : P file
@@ -22,7 +23,7 @@ pub record IsOfFile (workers : ℕ) (h : List Entry) (P : Content → Type 0) (b
 -- the bytes are within the limit, and a file whose points lie in one plane
 abbrev pub IsFlatFile : List ℕ → Type 0
 IsFlatFile bytes =
-    (length bytes ≤ input_limit) × ((file : Content) × IsFile line_limit bytes file × (is_solid file.points ≡ false))
+    (length bytes ≤ input_limit) × ((file : Content) × IsFile file_limits bytes file × (is_solid file.points ≡ false))
 
 -- why there is no mesh of a file, where the source had these bytes left, and by whether it failed
 abbrev pub HasNoMesh : Option (List ℕ) → Type 0 → Stop → Type 0
@@ -37,7 +38,7 @@ HasNoMesh left failed stop = ⊥
 pub record IsVerdict (status : ℕ) (bytes : List ℕ) : Type 0 where
   pub too_long : status ≡ 7 ↔ (input_limit < length bytes)
   pub bad_line : status ≢ 7 → (status ≡ 5 ↔ HasFault bytes)
-  pub not_solid : status ≢ 7 → (file : Content) → IsFile line_limit bytes file →
+  pub not_solid : status ≢ 7 → (file : Content) → IsFile file_limits bytes file →
       (status ≡ 6 ↔ (is_solid file.points ≡ false))
 
 -- What a run that makes something of a file promises of its end, where `P` says of what bytes it is made: by what the

@@ -16,3 +16,4 @@ pub mod Laws
 pub mod Tasks
 pub mod Drawn
 pub mod PlainText
+pub mod Taken

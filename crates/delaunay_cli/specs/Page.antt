@@ -2,11 +2,8 @@
 use Rattle.std.specs.Prelude.{
   ◌≡◌,
   ℕ,
-  ◌<◌,
-  ◌^◌,
   Bool,
   true,
-  All,
   List,
   [],
   map,
@@ -29,7 +26,8 @@ use Rattle.alpha_complex.specs.Condition.{AreFacesOf}
 use Rattle.alpha_complex.specs.Shapes.{shape_of}
 use Rattle.mesh_files.specs.Summary.{summary_text}
 use Rattle.mesh_files.specs.Text.{ReportParts, report_text}
-use Rattle.delaunay_cli.specs.Report.{alpha_of}
+use Rattle.edit_files.specs.Versions.{alpha_of}
+use Rattle.delaunay_cli.specs.Report.{AreRadii}
 use Rattle.delaunay_cli.specs.declared.made.Form.{Form}
 use Rattle.delaunay_cli.specs.declared.made.Form.TheVariants.{Whole, Summary}
 use Rattle.delaunay_cli.specs.declared.made.Made.{Made}
@@ -49,7 +47,7 @@ report_of_parts r =
       replies = r.replies.items;
       points = r.points.items;
       cells = r.cells.items;
-      shapes = map (λ radius. (radius, shape_of r.points.items (alpha_of radius))) r.radii.items;
+      shapes = map (λ radius. (radius, shape_of r.points.items (alpha_of r.version radius))) r.radii.items;
       order = option_map (λ (tags : Vec ℕ Global). tags.items) r.order;
     }
 
@@ -63,13 +61,13 @@ abbrev pub text_of_page : Page → List ℕ
 text_of_page (Text text) = text.items
 text_of_page (Report form parts) = text_of_form form (report_of_parts parts)
 
--- The parts are those of a solid set, its complex, and radii of shapes.
+-- The parts are those of a solid set, its complex, and radii of their version.
 pub record IsReady (parts : Parts) : Type 0 where
   pub ascending : IsAscending parts.points.items
   pub keys : AreKeys parts.points.items
   pub solid : is_solid parts.points.items ≡ true
   pub cells : parts.cells.items ≡ complex parts.points.items
-  pub radii : All (λ radius. radius < 2 ^ 30) parts.radii.items
+  pub radii : AreRadii parts.version parts.radii.items
 
 -- the parts of a report are ready
 abbrev pub IsWritable : Page → Type 0

@@ -23,7 +23,7 @@ plain_report shape file =
       replies = plain_replies (lines_of file.points file.edits);
       points = plain_points file;
       cells = complex (plain_points file);
-      shapes = shapes_of shape file.radii (plain_points file);
+      shapes = shapes_of shape file.version file.radii (plain_points file);
       order = None;
     }
 

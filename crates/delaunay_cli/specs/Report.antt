@@ -1,10 +1,12 @@
 -- What is written of a history.
-use Rattle.std.specs.Prelude.{ℕ, ◌+◌, ◌*◌, Bool, length, List, [], map, Option, None, Some, if◌then◌else◌}
+use Rattle.std.specs.Prelude.{ℕ, ◌+◌, ◌<◌, All, Bool, length, List, [], map, Option, None, Some, if◌then◌else◌}
 use Rattle.point_order.specs.Complex.{complex}
 use Rattle.edit_history.specs.declared.history.Entry.{Entry}
 use Rattle.edit_history.specs.Histories.{replay}
 use Rattle.plain_laws.specs.Plain.{replies_by_tag}
 use Rattle.edit_files.specs.Content.{Content}
+use Rattle.edit_files.specs.Versions.{alpha_of, row}
+use Rattle.edit_files.specs.declared.version.Version.{Version}
 use Rattle.alpha_complex.specs.Shapes.{ShapeParts, shape_of}
 use Rattle.mesh_files.specs.Text.{ReportParts, report_text}
 
@@ -20,13 +22,15 @@ tags_of h = map (λ e. e.tag) h
 abbrev pub order_of : Bool → List Entry → Option (List ℕ)
 order_of order h = if order then Some (tags_of h) else None
 
--- the alpha of a file's radius, which is squared: as many sixteenths
-abbrev pub alpha_of : ℕ → ℕ
-alpha_of radius = 16 * radius
+-- the radii are in the range of the version
+abbrev pub AreRadii : Version → List ℕ → Type 0
+AreRadii version radii = All (λ radius. radius < (row version).radius_end) radii
 
--- the alpha complex of a set for each radius, in their order, where they are asked for
-abbrev pub shapes_of : Bool → List ℕ → List ℕ → List (ℕ × ShapeParts)
-shapes_of shape radii s = if shape then map (λ radius. (radius, shape_of s (alpha_of radius))) radii else []
+-- the alpha complex of a set for each radius of a file of the version, in their order, where they are asked for; each
+-- stands with the number of its radius line
+abbrev pub shapes_of : Bool → Version → List ℕ → List ℕ → List (ℕ × ShapeParts)
+shapes_of shape version radii s =
+    if shape then map (λ radius. (radius, shape_of s (alpha_of version radius))) radii else []
 
 -- the report of a history of a file's lines, with a shape for each of the file's radii or none, and with its order
 -- block or not: its replies, the points that it leaves, and the complex of these
@@ -36,7 +40,7 @@ report_of shape order file h =
       replies = replies_by_tag (line_count file) h;
       points = replay h;
       cells = complex (replay h);
-      shapes = shapes_of shape file.radii (replay h);
+      shapes = shapes_of shape file.version file.radii (replay h);
       order = order_of order h;
     }
 

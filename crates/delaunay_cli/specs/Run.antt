@@ -6,7 +6,8 @@ use Rattle.point_order.specs.Solid.{is_solid}
 use Rattle.edit_history.specs.declared.history.Entry.{Entry}
 use Rattle.edit_history.specs.OneThread.{Keeps, one_thread}
 use Rattle.edit_files.specs.Content.{Content}
-use Rattle.edit_files.specs.Grammar.{line_limit, IsFile}
+use Rattle.edit_files.specs.Grammar.{IsFile}
+use Rattle.delaunay_cli.specs.Taken.{file_limits}
 use Rattle.edit_files.specs.Faults.{IsFault}
 use Rattle.edit_files.specs.declared.fault.Fault.{Fault}
 use Rattle.delaunay_cli.specs.Report.{text_of}
@@ -38,18 +39,18 @@ pub record Reads (left_old left_new : Option (List ℕ)) (status : ℕ) : Type 0
 -- order block or not
 abbrev pub Writes : Bool → Bool → List ℕ → Option (List ℕ) → Option (List ℕ) → List Entry → Type 0
 Writes shape order bytes old new kept =
-    (file : Content) × IsFile line_limit bytes file × Appends old new (text_of shape order file kept)
+    (file : Content) × IsFile file_limits bytes file × Appends old new (text_of shape order file kept)
 
 -- the output gained a front of it
 abbrev pub WritesFront : Bool → Bool → List ℕ → Option (List ℕ) → Option (List ℕ) → List Entry → Type 0
 WritesFront shape order bytes old new kept =
-    (file : Content) × IsFile line_limit bytes file × AppendsFront old new (text_of shape order file kept)
+    (file : Content) × IsFile file_limits bytes file × AppendsFront old new (text_of shape order file kept)
 
 -- the bytes are a solid file within the limit
 abbrev pub IsSolidFile : List ℕ → Type 0
 IsSolidFile bytes =
-    (length bytes ≤ input_limit) × ((file : Content) × IsFile line_limit bytes file × (is_solid file.points ≡ true))
+    (length bytes ≤ input_limit) × ((file : Content) × IsFile file_limits bytes file × (is_solid file.points ≡ true))
 
 -- the bytes are no file, and have a fault
 abbrev pub HasFault : List ℕ → Type 0
-HasFault bytes = (fault : Fault) × IsFault line_limit bytes fault
+HasFault bytes = (fault : Fault) × IsFault file_limits bytes fault

@@ -20,7 +20,7 @@ use Rattle.edit_files.specs.declared.fault.Why.TheVariants.{Section, Field, Rang
 use Rattle.edit_files.specs.declared.fault.Fault.{Fault}
 use Rattle.std.specs.Io.KnownBytes.{Appends}
 use Rattle.byte_ends.specs.Ends.{AppendsFront, Rose}
-use Rattle.edit_files.specs.Grammar.{line_limit}
+use Rattle.delaunay_cli.specs.Taken.{file_limits}
 use Rattle.edit_files.specs.Faults.{IsFault}
 
 -- the run ended before the input was read to its end or its limit: for want of memory, for its words, or by a fault
@@ -65,7 +65,7 @@ fault_line fault = codes "delaunay: line " ++ decimal fault.line ++ codes ": " +
 pub record IsFaultLine (left : Option (List ℕ)) (line : List ℕ) : Type 0 where
   pub fault : Fault
   pub line_is : line ≡ fault_line fault
-  pub cause : IfSome left (λ bytes. IsFault line_limit bytes fault)
+  pub cause : IfSome left (λ bytes. IsFault file_limits bytes fault)
 
 -- The line that a run tells at its end, where the source had these bytes left, if it tells them.
 pub record IsToldLine (left : Option (List ℕ)) (status : ℕ) (line : List ℕ) : Type 0 where

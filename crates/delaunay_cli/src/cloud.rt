@@ -9,7 +9,7 @@ ghost use Rattle.edit_history.specs.OneThread.{places};
 ghost use Rattle.edit_history.specs.Opening.{opening_four};
 ghost use Rattle.edit_files.specs.Content.{content};
 ghost use Rattle.delaunay_cli.specs.Page.{IsReady, report_of_parts};
-ghost use Rattle.delaunay_cli.specs.Report.{report_of};
+ghost use Rattle.delaunay_cli.specs.Report.{AreRadii, report_of};
 ghost use Rattle.delaunay_cli.specs.Run.{IsKept};
 
 use crate::made::Parts;
@@ -58,7 +58,7 @@ pub fn made_of_points(
     requires found { option_map places (opening_four file.now.points.items) ≡ Some four }
     requires solid { is_solid file.now.points.items ≡ true }
     requires no_edits { file.now.edits.items ≡ [] }
-    requires radii { All (λ radius. radius < 2 ^ 30) file.now.radii.items }
+    requires radii { AreRadii file.now.version file.now.radii.items }
     requires lines { length file.now.points.items + length file.now.edits.items + 4 < 2 ^ 32 }
     ensures kept { IfOk result (λ made. (workers : ℕ) → 0 < workers →
         IsKept (content file.now) workers made.0.items) }

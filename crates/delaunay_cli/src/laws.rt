@@ -28,7 +28,8 @@ ghost use Rattle.cell_store.specs.Grids.{is_grid_size};
 ghost use Rattle.edit_history.specs.Histories.{replay};
 ghost use Rattle.edit_history.specs.OneThread.{Keeps as FileKeeps};
 ghost use Rattle.edit_files.specs.Content.{Content};
-ghost use Rattle.edit_files.specs.Grammar.{line_limit, IsFile};
+ghost use Rattle.edit_files.specs.Grammar.{IsFile};
+ghost use Rattle.delaunay_cli.specs.Taken.{file_limits};
 ghost use Rattle.delaunay_cli.specs.Drawn.{drawn_file, drawn_text};
 ghost use Rattle.delaunay_cli.specs.Laws.{ARun};
 ghost use Rattle.delaunay_cli.specs.Parted.{HasNoAlpha, HasNoPart, IsParted};
@@ -139,7 +140,7 @@ pub fn run_that_reads()
     ensures bad_line { (r : ARun) → ReadsFile r.words → (IsEarly r.status → ⊥) → r.status ≢ 7
         → IfSome r.left (λ bytes. r.status ≡ 5 ↔ HasFault bytes) }
     ensures not_solid { (r : ARun) → ReadsFile r.words → (IsEarly r.status → ⊥) → r.status ≢ 7
-        → IfSome r.left (λ bytes. (file : Content) → IsFile line_limit bytes file
+        → IfSome r.left (λ bytes. (file : Content) → IsFile file_limits bytes file
         → (r.status ≡ 6 ↔ (is_solid file.points ≡ false))) }
 {}
 

@@ -9,6 +9,7 @@ ghost use Rattle.delaunay_cli.specs.Page.{IsWritable, text_of_page};
 use crate::shapes::put_parts;
 use crate::stop::Stop;
 use byte_ends::{Failed, Sink, write_all};
+use edit_files::Version;
 use edit_history::{Entry, Reply};
 use point_order::{Cell, Point};
 use std::alloc::Global;
@@ -23,7 +24,9 @@ pub struct Parts {
     pub points: Vec<Point>,
     /// Its cells, in their order.
     pub cells: Vec<Cell>,
-    /// The radii of the shapes that are asked for, each below 2^30.
+    /// The version of the file, by which its radii count.
+    pub version: Version,
+    /// The radii of the shapes that are asked for, each in the range of the version.
     pub radii: Vec<u64>,
     /// The tags of the history, where they are asked for.
     pub order: Option<Vec<u32>>,

@@ -4,7 +4,7 @@ ghost use Rattle.std.specs.Prelude.{◌≡◌, ◌<◌, ◌+◌, ◌^◌, false,
 ghost use Rattle.edit_history.specs.Edits.{is_move};
 ghost use Rattle.edit_files.specs.Content.{content};
 ghost use Rattle.delaunay_cli.specs.Page.{IsReady, report_of_parts};
-ghost use Rattle.delaunay_cli.specs.Report.{report_of};
+ghost use Rattle.delaunay_cli.specs.Report.{AreRadii, report_of};
 ghost use Rattle.delaunay_cli.specs.Reported.{IsMeshed, IsUnmeshed};
 
 use crate::cloud::made_of_points;
@@ -31,7 +31,7 @@ fn parts(
     kept: &[Entry],
 ) -> Result<Parts, AllocError>
     requires history { mesh.history ≡ kept.now }
-    requires radii { All (λ radius. radius < 2 ^ 30) file.now.radii.items }
+    requires radii { AreRadii file.now.version file.now.radii.items }
     requires lines { length file.now.points.items + length file.now.edits.items < 2 ^ 32 }
     ensures report { IfOk result (λ parts. report_of_parts parts
         ≡ report_of asked.shape asked.order (content file.now) kept.now) }
@@ -60,7 +60,7 @@ pub fn history_and_parts<R: Threads + Sync, G: Gate + Sync>(
 ) -> Result<(Vec<Entry>, Parts), Stop>
     requires lines { length file.now.points.items + length file.now.edits.items + 4 < 2 ^ 32 }
     requires still { All (λ e. is_move e ≡ false) file.now.edits.items }
-    requires radii { All (λ radius. radius < 2 ^ 30) file.now.radii.items }
+    requires radii { AreRadii file.now.version file.now.radii.items }
     ensures made { IfOk result (λ made. IsMeshed making.workers asked.shape asked.order
         (content file.now) made.0.items (report_of_parts made.1)) }
     ensures ready { IfOk result (λ made. IsReady made.1) }

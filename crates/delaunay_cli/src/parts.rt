@@ -9,7 +9,7 @@ ghost use Rattle.del_laws.specs.Keys.{AreKeys};
 ghost use Rattle.edit_history.specs.Histories.{replay};
 ghost use Rattle.edit_files.specs.Content.{content};
 ghost use Rattle.delaunay_cli.specs.Page.{IsReady, radii_of as radii_of_it, report_of_parts};
-ghost use Rattle.delaunay_cli.specs.Report.{order_of as order_of_it, report_of, tags_of};
+ghost use Rattle.delaunay_cli.specs.Report.{AreRadii, order_of as order_of_it, report_of, tags_of};
 
 use crate::made::Parts;
 use crate::replies::replies_by_tag;
@@ -71,7 +71,7 @@ pub fn parts_of(
     requires ascending { IsAscending (replay kept.now) }
     requires keys { AreKeys (replay kept.now) }
     requires solid { is_solid (replay kept.now) ≡ true }
-    requires radii { All (λ radius. radius < 2 ^ 30) file.now.radii.items }
+    requires radii { AreRadii file.now.version file.now.radii.items }
     requires lines { length file.now.points.items + length file.now.edits.items < 2 ^ 32 }
     ensures report { IfOk result (λ parts. report_of_parts parts
         ≡ report_of asked.shape asked.order (content file.now) kept.now) }
@@ -81,6 +81,7 @@ pub fn parts_of(
         replies: replies_by_tag(alloc, file.points.len() + file.edits.len(), kept)?,
         points,
         cells,
+        version: file.version,
         radii: radii_of(alloc, asked.shape, &file.radii)?,
         order: order_of(alloc, asked.order, kept)?,
     })

@@ -1,6 +1,6 @@
 //! The shapes of a mesh, one for each radius, and the texts that have them.
 
-ghost use Rattle.std.specs.Prelude.{◌≡◌, ◌≤◌, ◌<◌, ◌^◌, true, map, All, IfOk, IfErr, OnOk};
+ghost use Rattle.std.specs.Prelude.{◌≡◌, ◌≤◌, true, map, IfOk, IfErr, OnOk};
 ghost use Rattle.std.specs.Io.KnownBytes.{Appends};
 ghost use Rattle.byte_ends.specs.Ends.{Rose};
 ghost use Rattle.point_order.specs.Complex.{complex};
@@ -13,13 +13,15 @@ ghost use Rattle.mesh_files.specs.Report.{AreCounted, parts_of, shapes_seen};
 ghost use Rattle.mesh_files.specs.Summary.{summary_text as summary_text_of};
 ghost use Rattle.mesh_files.specs.Text.{report_text};
 ghost use Rattle.delaunay_cli.specs.Ends.{IsUnput};
-ghost use Rattle.delaunay_cli.specs.Report.{alpha_of};
+ghost use Rattle.edit_files.specs.Versions.{alpha_of};
+ghost use Rattle.delaunay_cli.specs.Report.{AreRadii};
 ghost use Rattle.delaunay_cli.specs.Page.{AreFacesFor, IsReady, report_of_parts, text_of_form};
 
 use crate::made::{Form, Parts, put_text};
 use crate::stop::Stop;
 use alpha_complex::{Shape, alphas};
 use byte_ends::{Failed, Sink};
+use edit_files::Version;
 use face_list::{Faces, faces};
 use mesh_files::{Report, put_report, summary_text};
 use point_order::{Cell, Point};
@@ -47,24 +49,25 @@ fn faces_for<'b, R: Threads + Sync>(
     Ok(Some(faces))
 }
 
-// The alpha complex for each of the radii, in their order, of the set whose faces these are. Their least alphas are
-// made once.
+// The alpha complex for each of the radii of a file of this version, in their order, of the set whose faces these are.
+// Their least alphas are made once.
 fn shapes_of_faces<'a, 'b, R: Threads + Sync>(
     rt: &R,
     alloc: Global,
     points: &[Point],
     faces: &'a Faces<'b>,
+    version: Version,
     radii: &[u64],
 ) -> Result<Vec<(u64, Shape<'a, 'b>)>, AllocError>
     requires faces { AreFacesOf points.now faces.now }
-    requires radii { All (λ radius. radius < 2 ^ 30) radii.now }
+    requires radii { AreRadii version radii.now }
     ensures { IfOk result (λ shapes. shapes_seen shapes.items
-        ≡ map (λ radius. (radius, shape_of points.now (alpha_of radius))) radii.now) }
+        ≡ map (λ radius. (radius, shape_of points.now (alpha_of version radius))) radii.now) }
 {
     let known = alphas(rt, alloc, faces)?;
     let mut shapes = Vec::new(alloc);
     for radius in radii {
-        shapes.push((*radius, known.shape(alloc, 16 * *radius)?))?;
+        shapes.push((*radius, known.shape(alloc, version.alpha(*radius))?))?;
     }
     Ok(shapes)
 }
@@ -75,15 +78,16 @@ fn shapes<'a, 'b, R: Threads + Sync>(
     alloc: Global,
     points: &[Point],
     faces: &'a Option<Faces<'b>>,
+    version: Version,
     radii: &[u64],
 ) -> Result<Vec<(u64, Shape<'a, 'b>)>, AllocError>
     requires faces { AreFacesFor radii.now points.now faces.now }
-    requires radii { All (λ radius. radius < 2 ^ 30) radii.now }
+    requires radii { AreRadii version radii.now }
     ensures { IfOk result (λ shapes. shapes_seen shapes.items
-        ≡ map (λ radius. (radius, shape_of points.now (alpha_of radius))) radii.now) }
+        ≡ map (λ radius. (radius, shape_of points.now (alpha_of version radius))) radii.now) }
 {
     match faces {
-        Some(faces) => shapes_of_faces(rt, alloc, points, faces, radii),
+        Some(faces) => shapes_of_faces(rt, alloc, points, faces, version, radii),
         None => Ok(Vec::new(alloc)),
     }
 }
@@ -158,11 +162,12 @@ pub fn put_parts<R: Threads + Sync, O: Sink>(
         replies,
         points,
         cells,
+        version,
         radii,
         order,
     } = parts;
     let faces = faces_for(rt, alloc, &points, &cells, &radii)?;
-    let shapes = shapes(rt, alloc, &points, &faces, &radii)?;
+    let shapes = shapes(rt, alloc, &points, &faces, version, &radii)?;
     let report = Report {
         replies,
         points,

@@ -6,7 +6,8 @@ ghost use Rattle.byte_ends.specs.Ends.{AppendsFront, Rose};
 ghost use Rattle.edit_history.specs.Histories.{IsLegal};
 ghost use Rattle.edit_history.specs.OneThread.{Keeps as FileKeeps};
 ghost use Rattle.edit_files.specs.Content.{Content};
-ghost use Rattle.edit_files.specs.Grammar.{line_limit, IsFile};
+ghost use Rattle.edit_files.specs.Grammar.{IsFile};
+ghost use Rattle.delaunay_cli.specs.Taken.{file_limits};
 ghost use Rattle.plain_laws.specs.Plain.{IsAnchored};
 ghost use Rattle.delaunay_cli.specs.Ends.{Ends};
 ghost use Rattle.delaunay_cli.specs.PlainText.{plain_text};
@@ -64,10 +65,10 @@ pub fn run<R: Threads + Sync, S: Source, O: Sink, E: Sink, G: Gate + Sync>(
     // What is kept where a file is read, and written where that is its report.
     ensures legal { IsLegal result.kept.items }
     ensures kept { ReadsFile words.now → HasText result.status
-        → IfSome (S.left src.old) (λ bytes. (file : Content) → IsFile line_limit bytes file
+        → IfSome (S.left src.old) (λ bytes. (file : Content) → IsFile file_limits bytes file
         → FileKeeps file.points file.edits (worker_count words.now) result.kept.items) }
     ensures one_thread { ReadsFile words.now → worker_count words.now ≡ 1 → HasText result.status
-        → IfSome (S.left src.old) (λ bytes. (file : Content) → IsFile line_limit bytes file
+        → IfSome (S.left src.old) (λ bytes. (file : Content) → IsFile file_limits bytes file
         → result.kept.items ≡ history_of file) }
     ensures written { WritesReport words.now → result.status ≡ 0
         → IfSome (S.left src.old) (λ bytes. Writes (asks_shape words.now) (asks_order words.now) bytes
@@ -79,11 +80,11 @@ pub fn run<R: Threads + Sync, S: Source, O: Sink, E: Sink, G: Gate + Sync>(
     // Where no edit takes one of the opening four and no order block is asked for, what is written goes by the file
     // and the command.
     ensures plain { WritesReport words.now → asks_order words.now ≡ false → result.status ≡ 0
-        → IfSome (S.left src.old) (λ bytes. (file : Content) → IsFile line_limit bytes file →
+        → IfSome (S.left src.old) (λ bytes. (file : Content) → IsFile file_limits bytes file →
         IsAnchored file.points file.edits
         → Appends (O.holds out.old) (O.holds out.new) (plain_text (asks_shape words.now) file)) }
     ensures plain_front { WritesReport words.now → asks_order words.now ≡ false → result.status ≡ 4
-        → IfSome (S.left src.old) (λ bytes. (file : Content) → IsFile line_limit bytes file →
+        → IfSome (S.left src.old) (λ bytes. (file : Content) → IsFile file_limits bytes file →
         IsAnchored file.points file.edits
         → AppendsFront (O.holds out.old) (O.holds out.new) (plain_text (asks_shape words.now) file)) }
 

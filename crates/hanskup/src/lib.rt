@@ -19,7 +19,7 @@
 //! | to judge cells from elsewhere | `read_mesh` of a report, `check` |
 //! | several threads on one mesh | `table::MeshTable`: `open`, `split`, `try_edit`, `try_snapshot`, `close` |
 //! | texts | `mesh_text`, `shape_text`, `off_text`, and `put_report` to a sink |
-//! | edit files | `read_file`, `file_text` |
+//! | edit files, of all versions or up to one | `read_file`, `read_file_up_to`, `file_text` |
 //!
 //! An alpha is a squared radius in sixteenths of the square of the unit of the grid.
 //!
@@ -41,7 +41,7 @@ pub use alpha_steps::{Threshold, Thresholds, put_steps, thresholds};
 pub use byte_ends::{Failed, MemSink, MemSource, Sink, Source, StdSink, StdSource};
 pub use cell_store::{BadGrid, Grid, Hold, Mesh};
 pub use cloud_cells::complex_of_points;
-pub use edit_files::{File, ReadRefused, file_text, read_file};
+pub use edit_files::{File, ReadRefused, Version, file_text, read_file, read_file_up_to};
 pub use edit_history::{Edit, Entry, NotSolid, PointSet, Reply};
 pub use exact_orient::{collinear, orient};
 pub use exact_sphere::sphere;

@@ -5,7 +5,7 @@ ghost use Rattle.edit_workers.specs.Dealing.{AreOpening};
 
 use crate::reading::list_at;
 use crate::telling::Told;
-use edit_files::File;
+use edit_files::{File, Version};
 use edit_history::find_four;
 use edit_workers::deal;
 use std::alloc::{AllocError, Global};
@@ -38,9 +38,11 @@ pub(crate) fn play(
         return Ok(());
     }
     let file = File {
+        version: Version::One,
         points,
         edits,
         radii,
+        queries: Vec::new(alloc),
     };
     let Some(four) = four_of(&file) else {
         told.put("no four independent points");

@@ -24,11 +24,12 @@ fn put_file(alloc: Global, answer: &mut Answer, file: &File) {
         lines = lines.saturating_add(1);
     }
     let (points, edits, radii) = (file.points.len(), file.edits.len(), file.radii.len());
+    let queries = file.queries.len();
     write!(
         answer,
-        " {lines} lines {points} points {edits} edits {radii} radii"
+        " {lines} lines {points} points {edits} edits {radii} radii {queries} queries"
     );
-    if lines < 100 {
+    if lines < 100 && queries < 100 {
         answer.put(" in ");
         put_made(answer, file_text(alloc, file));
     }

@@ -1,6 +1,6 @@
 use Rattle.edit_files.specs.Content.{content}
 use Rattle.edit_files.specs.Generator.{generated}
-use Rattle.delaunay_cli.proofs.DrawnFiles.{drawn_lines, drawn_meshed, drawn_still, unmeshed_drawn, wanting}
+use Rattle.delaunay_cli.proofs.DrawnFiles.{drawn_lines, drawn_meshed, drawn_radii, drawn_still, unmeshed_drawn, wanting}
 use Rattle.delaunay_cli.proofs.drawn.draw.Goals as goal
 
 pub history_and_parts-requires-clause-lines : goal.history_and_parts-requires-clause-lines
@@ -9,6 +9,10 @@ history_and_parts-requires-clause-lines g c κs within =
 
 pub history_and_parts-requires-clause-still : goal.history_and_parts-requires-clause-still
 history_and_parts-requires-clause-still g c κs within = drawn_still (content c.in_ok-file.file) c.args.drawn.count
+    c.args.drawn.start c.in_ok-file.ensures
+
+pub history_and_parts-requires-clause-radii : goal.history_and_parts-requires-clause-radii
+history_and_parts-requires-clause-radii g c κs within = drawn_radii (content c.in_ok-file.file) c.args.drawn.count
     c.args.drawn.start c.in_ok-file.ensures
 
 pub returns-in_err-kept-clause-stop : goal.returns-in_err-kept-clause-stop

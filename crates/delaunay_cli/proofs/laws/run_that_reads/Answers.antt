@@ -1,7 +1,8 @@
 use Rattle.std.proofs.Common.{◌≡◌, ◌↔◌, ◌<◌, false, length}
 use Rattle.point_order.specs.Solid.{is_solid}
 use Rattle.edit_files.specs.Content.{Content}
-use Rattle.edit_files.specs.Grammar.{line_limit, IsFile}
+use Rattle.edit_files.specs.Grammar.{IsFile}
+use Rattle.delaunay_cli.specs.Taken.{file_limits}
 use Rattle.delaunay_cli.specs.Run.{HasFault, input_limit}
 use Rattle.delaunay_cli.proofs.Promised.{of_bytes}
 use Rattle.delaunay_cli.proofs.laws.run_that_reads.Goals as goal
@@ -15,5 +16,5 @@ returns-clause-bad_line c = λ r w late n. of_bytes r.ends (λ bytes. (r.status 
     (λ bytes v. v.bad_line n) w late
 
 pub returns-clause-not_solid : goal.returns-clause-not_solid
-returns-clause-not_solid c = λ r w late n. of_bytes r.ends (λ bytes. (file : Content) → IsFile line_limit bytes file →
+returns-clause-not_solid c = λ r w late n. of_bytes r.ends (λ bytes. (file : Content) → IsFile file_limits bytes file →
     (r.status ≡ 6) ↔ (is_solid file.points ≡ false)) (λ bytes v. v.not_solid n) w late

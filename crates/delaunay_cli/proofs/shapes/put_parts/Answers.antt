@@ -10,17 +10,17 @@ returns-in_err-shapes-clause-stop g c = unwritten _ _ _ c.from_residual-in_err-s
 pub put-requires-clause-shapes : goal.put-requires-clause-shapes
 put-requires-clause-shapes g c =
     let parts = c.args.parts in
-    let e = shapes_lent (shapes_seen c.in_ok-shapes.shapes.items) parts.points.items c.deref-4.result.now parts.radii.items c.deref-5.result.now c.in_ok-shapes.ensures c.deref-4.ensures.value c.deref-5.ensures.value in
-    subst AreCounted (sym e) (shapes_counted parts.radii.items parts.points.items c.requires.ascending)
+    let e = shapes_lent parts.version (shapes_seen c.in_ok-shapes.shapes.items) parts.points.items c.deref-4.result.now parts.radii.items c.deref-5.result.now c.in_ok-shapes.ensures c.deref-4.ensures.value c.deref-5.ensures.value in
+    subst AreCounted (sym e) (shapes_counted parts.version parts.radii.items parts.points.items c.requires.ascending)
 
 pub returns-clause-whole : goal.returns-clause-whole
 returns-clause-whole g c =
     let parts = c.args.parts in
-    let e = shapes_lent (shapes_seen c.in_ok-shapes.shapes.items) parts.points.items c.deref-4.result.now parts.radii.items c.deref-5.result.now c.in_ok-shapes.ensures c.deref-4.ensures.value c.deref-5.ensures.value in
+    let e = shapes_lent parts.version (shapes_seen c.in_ok-shapes.shapes.items) parts.points.items c.deref-4.result.now parts.radii.items c.deref-5.result.now c.in_ok-shapes.ensures c.deref-4.ensures.value c.deref-5.ensures.value in
     rw (e, c.deref-6.ensures.value) at c.put.ensures.whole
 
 pub returns-clause-stop : goal.returns-clause-stop
 returns-clause-stop g c =
     let parts = c.args.parts in
-    let e = shapes_lent (shapes_seen c.in_ok-shapes.shapes.items) parts.points.items c.deref-4.result.now parts.radii.items c.deref-5.result.now c.in_ok-shapes.ensures c.deref-4.ensures.value c.deref-5.ensures.value in
+    let e = shapes_lent parts.version (shapes_seen c.in_ok-shapes.shapes.items) parts.points.items c.deref-4.result.now parts.radii.items c.deref-5.result.now c.in_ok-shapes.ensures c.deref-4.ensures.value c.deref-5.ensures.value in
     rw (e, c.deref-6.ensures.value) at c.put.ensures.stop
