@@ -1,21 +1,10 @@
 /* Reads lines of three whole numbers, and writes the mesh as the command `mesh` does behind its replies, or with the
  * word `steps` the least alphas as the command `steps` does. */
-#include "delaunay_c.h"
-#include <inttypes.h>
-#include <stdio.h>
-#include <stdlib.h>
+#include "put.h"
 #include <string.h>
 
 static struct delaunay_c_place *given;
 static size_t count;
-
-static void *room(uint64_t rows, size_t size) {
-    void *block = calloc(rows + 1, size);
-    if (!block) {
-        exit(9);
-    }
-    return block;
-}
 
 static void read_places(void) {
     size_t kept = 1024;
@@ -50,19 +39,7 @@ static int mesh(void) {
     if (status != DELAUNAY_C_OK) {
         return status;
     }
-    printf("points %" PRIu64 "\n", n.points);
-    for (uint64_t i = 0; i < n.points; i++) {
-        printf("%" PRId64 " %" PRId64 " %" PRId64 "\n", points[i].x, points[i].y, points[i].z);
-    }
-    printf("cells %" PRIu64 "\n", n.cells);
-    for (uint64_t i = 0; i < n.cells; i++) {
-        printf("%u %u %u %u\n", cells[i].a, cells[i].b, cells[i].c, cells[i].d);
-    }
-    printf("hull %" PRIu64 "\n", n.hull);
-    for (uint64_t i = 0; i < n.hull; i++) {
-        printf("%u %u %u\n", hull[i].a, hull[i].b, hull[i].c);
-    }
-    printf("end\n");
+    put_mesh(points, cells, hull, &n);
     return 0;
 }
 

@@ -1,4 +1,5 @@
-/* The Delaunay complex of points with whole coordinates, and the least alphas of its faces: crates/delaunay_c.
+/* The Delaunay complex of points with whole coordinates, the least alphas of its faces, and a mesh that is edited:
+ * crates/delaunay_c.
  *
  * Link libdelaunay_c.a with liblibc_c.a of the Rattle kit (its folder c), or the shared object that python/build makes.
  *
@@ -12,7 +13,8 @@
  * - malloc, realloc and free are one allocator, and align a block to each power of two up to 16 that divides its size.
  * - No call comes from a signal handler, nor in the forked child of a process with threads.
  *
- * A call keeps nothing when it has returned. None prints, aborts or changes a global state.
+ * A call keeps nothing when it has returned, but for the mesh of a handle. None prints, aborts or changes a global
+ * state.
  */
 #ifndef DELAUNAY_C_H
 #define DELAUNAY_C_H
@@ -22,14 +24,15 @@
 extern "C" {
 #endif
 
-/* What a call answers. Where it is not DELAUNAY_C_OK, all rooms are as before: that is proved. That the sizes are as
- * before is the library's way, and tested for want of memory; no clause says it. */
+/* What a call answers. Where it is not DELAUNAY_C_OK, all that the call would write is as before, but for the sizes at
+ * DELAUNAY_C_ROOM, and the mesh of a handle is as before: that is proved. */
 enum delaunay_c_status {
-    DELAUNAY_C_OK = 0,      /* all rows are written, and the sizes tell how many */
-    DELAUNAY_C_MEMORY = 1,  /* malloc or realloc failed, or there are more cells than 32 bits count; sizes as before */
-    DELAUNAY_C_OUTSIDE = 2, /* a coordinate is not 0 to 16383; sizes as before */
-    DELAUNAY_C_FLAT = 3,    /* no four of the points are independent: all lie in one plane; sizes as before */
-    DELAUNAY_C_ROOM = 4     /* a room has too few rows; the sizes tell how many rows are wanted of each */
+    DELAUNAY_C_OK = 0,      /* all is written, and the sizes tell how many rows */
+    DELAUNAY_C_MEMORY = 1,  /* malloc or realloc failed, or there are more cells or edits than 32 bits count */
+    DELAUNAY_C_OUTSIDE = 2, /* a coordinate is not 0 to 16383 */
+    DELAUNAY_C_FLAT = 3,    /* no four of the points are independent: all lie in one plane */
+    DELAUNAY_C_ROOM = 4,    /* a room has too few rows; the sizes tell how many rows are wanted of each */
+    DELAUNAY_C_EMPTY = 5    /* the handle has no mesh */
 };
 
 /* In the place of a neighbour where a triangle of the hull is. */
@@ -99,6 +102,76 @@ uint8_t delaunay_c_alphas(const struct delaunay_c_place *given, size_t given_len
                           size_t edge_alphas_len, struct delaunay_c_triangle *triangles, size_t triangles_len,
                           struct delaunay_c_alphas *triangle_alphas, size_t triangle_alphas_len,
                           uint64_t *cell_alphas, size_t cell_alphas_len, struct delaunay_c_face_sizes *sizes);
+
+/* A mesh that is edited. The caller keeps this struct anywhere, begins with {0}, which is the handle with no mesh, and
+ * gives its address to the calls below. What the caller owes, no one checks:
+ *
+ * - `mesh` is written by these calls alone, after the {0}: it is null, or a mesh that delaunay_c_open made.
+ * - The struct is not copied while it has a mesh, or the copy is not given to a call; it may be moved.
+ * - One call at a time has the handle, and all from one thread, also those that only look. Calls with other handles may
+ *   run at once on other threads.
+ *
+ * delaunay_c_close frees the mesh. */
+struct delaunay_c_handle {
+    void *mesh;
+};
+
+/* What an edit did. */
+enum delaunay_c_reply {
+    DELAUNAY_C_INSERTED = 0,  /* add: the point came */
+    DELAUNAY_C_DUPLICATE = 1, /* add: it was there */
+    DELAUNAY_C_REMOVED = 2,   /* take: the point went */
+    DELAUNAY_C_MISSING = 3,   /* take, move: no point stands there */
+    DELAUNAY_C_STAYS = 4,     /* take, move: what is left would lie in one plane, so the point stays */
+    DELAUNAY_C_MOVED = 5,     /* move: the point went to its new place */
+    DELAUNAY_C_OCCUPIED = 6   /* move: a point stands at the new place, or it is the old one */
+};
+
+/* Puts the mesh of the points at the given places, in any order, of which some may be equal, into the handle. A mesh
+ * that was there is freed. OK, MEMORY, OUTSIDE or FLAT. */
+uint8_t delaunay_c_open(struct delaunay_c_handle *handle, const struct delaunay_c_place *given, size_t given_len);
+
+/* Frees the mesh, if there is one, and leaves the handle with none. */
+void delaunay_c_close(struct delaunay_c_handle *handle);
+
+/* Edits, each with its reply. The mesh is then that of the points that all edits since delaunay_c_open leave; it does
+ * not go by their order otherwise. OK, MEMORY, OUTSIDE or EMPTY. A move takes the point away and adds it at the other
+ * place in one step: no one sees the mesh without it. */
+uint8_t delaunay_c_add(struct delaunay_c_handle *handle, const struct delaunay_c_place *place, uint8_t *reply);
+uint8_t delaunay_c_take(struct delaunay_c_handle *handle, const struct delaunay_c_place *place, uint8_t *reply);
+uint8_t delaunay_c_move(struct delaunay_c_handle *handle, const struct delaunay_c_place *from,
+                        const struct delaunay_c_place *to, uint8_t *reply);
+
+/* How many points, cells and triangles of the hull the mesh has, in the time of delaunay_c_complex. OK, MEMORY or
+ * EMPTY. */
+uint8_t delaunay_c_counts(struct delaunay_c_handle *handle, struct delaunay_c_mesh_sizes *sizes);
+
+/* The points, cells, neighbours and hull of the mesh, as delaunay_c_mesh writes them. OK, MEMORY, ROOM or EMPTY. */
+uint8_t delaunay_c_complex(struct delaunay_c_handle *handle, struct delaunay_c_place *points, size_t points_len,
+                           struct delaunay_c_cell *cells, size_t cells_len, struct delaunay_c_cell *neighbours,
+                           size_t neighbours_len, struct delaunay_c_triangle *hull, size_t hull_len,
+                           struct delaunay_c_mesh_sizes *sizes);
+
+/* Where a place lies, found by a walk. */
+enum delaunay_c_kind {
+    DELAUNAY_C_POINT = 0, /* a point of the mesh stands there: all four places are this one */
+    DELAUNAY_C_CELL = 1,  /* inside the sphere of the tetrahedron a b c d, which is not always the one that has it */
+    DELAUNAY_C_BEYOND_HULL = 2 /* beyond the hull: the triangle a b c of the hull is seen from there; d is the place */
+};
+struct delaunay_c_located {
+    uint32_t kind;
+    struct delaunay_c_place a, b, c, d;
+};
+
+/* OK, OUTSIDE or EMPTY; it takes no memory. A point that were added there would take this cell away. On the sphere, or
+ * in the plane of a triangle, the one rule by which ties are broken decides. */
+uint8_t delaunay_c_locate(struct delaunay_c_handle *handle, const struct delaunay_c_place *place,
+                          struct delaunay_c_located *located);
+
+/* The point of the mesh that is nearest to a place, among those as near the one that comes first by x, then y, then z.
+ * OK, OUTSIDE or EMPTY; it takes no memory. */
+uint8_t delaunay_c_nearest(struct delaunay_c_handle *handle, const struct delaunay_c_place *place,
+                           struct delaunay_c_place *nearest);
 
 #ifdef __cplusplus
 }

@@ -1,6 +1,6 @@
-/* Each allocation of a call is refused in turn: the call answers DELAUNAY_C_MEMORY and leaves all rooms as before, or
- * does without that block and answers as with it. To be linked with -Wl,--wrap=malloc,--wrap=realloc. It prints how
- * many refusals there were. */
+/* Each allocation of a call is refused in turn: the call answers DELAUNAY_C_MEMORY and leaves all rooms and the mesh
+ * of its handle as before, or does without that block and answers as with it. To be linked with
+ * -Wl,--wrap=malloc,--wrap=realloc. It prints how many refusals there were. */
 #include "delaunay_c.h"
 #include <stdio.h>
 #include <stdlib.h>
@@ -69,6 +69,67 @@ static long refused(int (*call)(void)) {
     }
 }
 
+static struct delaunay_c_handle handle = {0};
+
+static int edited(void) {
+    struct rooms *r = &rooms;
+    return delaunay_c_complex(&handle, r->points, ROOM, r->cells, ROOM, r->neighbours, ROOM, r->hull, ROOM, &r->mesh);
+}
+
+/* The rows of the handle's mesh, and nothing else. */
+static int look(struct rooms *kept) {
+    memset(&rooms, 0x5a, sizeof rooms);
+    int status = edited();
+    memcpy(kept, &rooms, sizeof rooms);
+    return status;
+}
+
+static uint8_t reply;
+
+static int opens(void) { return delaunay_c_open(&handle, given, COUNT); }
+
+static int adds(void) {
+    struct delaunay_c_place p = {31, 32, 33};
+    return delaunay_c_add(&handle, &p, &reply);
+}
+
+static int takes(void) { return delaunay_c_take(&handle, &given[3], &reply); }
+
+static int moves(void) {
+    struct delaunay_c_place p = {31, 32, 33};
+    return delaunay_c_move(&handle, &given[3], &p, &reply);
+}
+
+/* The same of a call that changes the mesh of the handle, which has the first points before. */
+static long refused_edit(int (*call)(void), int wanted) {
+    for (long n = -1;; n++) {
+        if (delaunay_c_open(&handle, given, COUNT - 5) != DELAUNAY_C_OK || look(&before) != DELAUNAY_C_OK) {
+            return -1;
+        }
+        reply = 99;
+        refuse_at = n;
+        int status = call();
+        int was_refused = n >= 0 && refuse_at < 0;
+        refuse_at = -1;
+        if (reply != (status == DELAUNAY_C_OK ? wanted : 99)) {
+            return -1;
+        }
+        struct rooms now;
+        if (look(&now) != DELAUNAY_C_OK || (status != DELAUNAY_C_OK && status != DELAUNAY_C_MEMORY)) {
+            return -1;
+        }
+        if (n < 0) {
+            memcpy(&want, &now, sizeof now);
+        }
+        if (memcmp(status == DELAUNAY_C_OK ? &want : &before, &now, sizeof now) != 0) {
+            return -1;
+        }
+        if (n >= 0 && !was_refused) {
+            return status == DELAUNAY_C_OK ? n : -1;
+        }
+    }
+}
+
 int main(void) {
     uint32_t drawn = 1;
     for (int i = 0; i < COUNT; i++) {
@@ -85,5 +146,15 @@ int main(void) {
         return 1;
     }
     printf("refusals: %ld of a mesh, %ld of alphas\n", of_mesh, of_alphas);
+    long of_open = refused_edit(opens, 99), of_add = refused_edit(adds, DELAUNAY_C_INSERTED);
+    long of_take = refused_edit(takes, DELAUNAY_C_REMOVED), of_move = refused_edit(moves, DELAUNAY_C_MOVED);
+    long of_complex = refused(edited);
+    delaunay_c_close(&handle);
+    if (of_open <= 0 || of_add <= 0 || of_take <= 0 || of_move <= 0 || of_complex <= 0) {
+        printf("a wrong answer after a refusal: %ld %ld %ld %ld %ld\n", of_open, of_add, of_take, of_move, of_complex);
+        return 1;
+    }
+    printf("refusals: %ld of opening, %ld of an add, %ld of a take, %ld of a move, %ld of a complex\n", of_open, of_add,
+           of_take, of_move, of_complex);
     return 0;
 }

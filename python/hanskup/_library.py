@@ -3,7 +3,8 @@ from __future__ import annotations
 
 import ctypes
 import os
-from typing import NamedTuple
+import threading
+from typing import Callable, NamedTuple
 
 import numpy as np
 
@@ -17,7 +18,13 @@ class HanskupError(Exception):
 
 
 class WantOfMemory(HanskupError, MemoryError):
-    """There was no memory for the answer, or it has more cells than 32 bits count."""
+    """There was no memory for the answer, or it has more cells or edits than 32 bits count.
+
+    Attributes:
+        replies: where a call made several edits, what those before the refused one did; they stay made.
+    """
+
+    replies: np.ndarray | None = None
 
 
 class OutOfRange(HanskupError, ValueError):
@@ -34,6 +41,7 @@ _REFUSALS = {
     3: (Flat, 'no four of the points are independent: all lie in one plane'),
 }
 _ROOM = 4
+REPLIES = ('inserted', 'duplicate', 'removed', 'missing', 'flat', 'moved', 'occupied')
 
 
 class _MeshSizes(ctypes.Structure):
@@ -43,6 +51,18 @@ class _MeshSizes(ctypes.Structure):
 class _FaceSizes(ctypes.Structure):
     _fields_ = [('points', ctypes.c_uint64), ('edges', ctypes.c_uint64), ('triangles', ctypes.c_uint64),
                 ('cells', ctypes.c_uint64)]
+
+
+class _Handle(ctypes.Structure):
+    _fields_ = [('mesh', ctypes.c_void_p)]
+
+
+class _Place(ctypes.Structure):
+    _fields_ = [('x', ctypes.c_int64), ('y', ctypes.c_int64), ('z', ctypes.c_int64)]
+
+
+class _Located(ctypes.Structure):
+    _fields_ = [('kind', ctypes.c_uint32), ('corners', _Place * 4)]
 
 
 def _load() -> ctypes.CDLL:
@@ -57,6 +77,14 @@ def _load() -> ctypes.CDLL:
     library.delaunay_c_mesh.argtypes = slices * 5 + [ctypes.POINTER(_MeshSizes)]
     library.delaunay_c_alphas.restype = ctypes.c_uint8
     library.delaunay_c_alphas.argtypes = slices * 7 + [ctypes.POINTER(_FaceSizes)]
+    handle, place = ctypes.POINTER(_Handle), ctypes.POINTER(_Place)
+    reply, sizes = ctypes.POINTER(ctypes.c_uint8), ctypes.POINTER(_MeshSizes)
+    for name, rest in (('open', slices), ('close', []), ('add', [place, reply]), ('take', [place, reply]),
+                       ('move', [place, place, reply]), ('counts', [sizes]), ('complex', slices * 4 + [sizes]),
+                       ('locate', [place, ctypes.POINTER(_Located)]), ('nearest', [place, place])):
+        call = getattr(library, f'delaunay_c_{name}')
+        call.restype = None if name == 'close' else ctypes.c_uint8
+        call.argtypes = [handle] + rest
     return library
 
 
@@ -105,22 +133,27 @@ def _given(places: np.ndarray) -> np.ndarray:
     return room
 
 
-def mesh_rows(places: np.ndarray) -> MeshRows:
-    """The mesh of places, (n, 3) whole numbers, in any order and with equal ones.
-
-    Raises WantOfMemory, OutOfRange or Flat.
-    """
-    given, n = _given(places), len(places)
+def _rows(n: int, call: Callable[..., int]) -> MeshRows:
+    """The rows that a call writes of n points or less, in a second try into the rooms that it wants."""
     sizes = _MeshSizes(n, 7 * n + 64, n + 64)
     for _ in range(2):
         rooms = (_room(sizes.points, 3, np.int64), _room(sizes.cells, 4, np.uint32),
                  _room(sizes.cells, 4, np.uint32), _room(sizes.hull, 3, np.uint32))
-        status = _library.delaunay_c_mesh(*_slices(given, *rooms), ctypes.byref(sizes))
+        status = call(*_slices(*rooms), ctypes.byref(sizes))
         if status != _ROOM:
             break
     _check(status)
     points, cells, neighbours, hull = rooms
     return MeshRows(points[:sizes.points], cells[:sizes.cells], neighbours[:sizes.cells], hull[:sizes.hull])
+
+
+def mesh_rows(places: np.ndarray) -> MeshRows:
+    """The mesh of places, (n, 3) whole numbers, in any order and with equal ones.
+
+    Raises WantOfMemory, OutOfRange or Flat.
+    """
+    given = _given(places)
+    return _rows(len(places), lambda *rooms: _library.delaunay_c_mesh(*_slices(given), *rooms))
 
 
 def face_rows(places: np.ndarray, cells: int, hull: int) -> FaceRows:
@@ -142,3 +175,73 @@ def face_rows(places: np.ndarray, cells: int, hull: int) -> FaceRows:
     counts = (sizes.points, sizes.edges, sizes.edges, sizes.triangles, sizes.triangles, sizes.cells)
     kept = [room[:count] for room, count in zip(rooms, counts)]
     return FaceRows(*kept[:5], kept[5][:, 0])
+
+
+def _place(place: np.ndarray) -> _Place:
+    return _Place(*map(int, place))
+
+
+class Edited:
+    """A mesh that is edited, of places as whole numbers. One call at a time has it: a lock sees to that.
+
+    Each call can raise WantOfMemory, and OutOfRange where it is given a place; the mesh is then as before.
+    """
+
+    def __init__(self, places: np.ndarray) -> None:
+        """The mesh of places, (n, 3), in any order and with equal ones. Raises Flat too."""
+        self._handle, self._lock = _Handle(), threading.Lock()
+        self._count = len(places)
+        given = _given(places)
+        _check(_library.delaunay_c_open(self._handle, *_slices(given)))
+
+    def __del__(self) -> None:
+        if getattr(self, '_handle', None) and self._handle.mesh:
+            _library.delaunay_c_close(self._handle)
+
+    def _edit(self, call: Callable[..., int], *places: np.ndarray) -> str:
+        reply = ctypes.c_uint8()
+        with self._lock:
+            _check(call(self._handle, *map(_place, places), reply))
+        return REPLIES[reply.value]
+
+    def add(self, place: np.ndarray) -> str:
+        """Adds the point at a place: 'inserted' or 'duplicate'."""
+        reply = self._edit(_library.delaunay_c_add, place)
+        self._count += reply == 'inserted'
+        return reply
+
+    def take(self, place: np.ndarray) -> str:
+        """Takes the point at a place away: 'removed', 'missing' or 'flat'."""
+        return self._edit(_library.delaunay_c_take, place)
+
+    def move(self, old: np.ndarray, new: np.ndarray) -> str:
+        """Moves the point at a place to another: 'moved', 'missing', 'occupied' or 'flat'."""
+        return self._edit(_library.delaunay_c_move, old, new)
+
+    def counts(self) -> tuple[int, int, int]:
+        """How many points, cells and triangles of the hull there are."""
+        sizes = _MeshSizes()
+        with self._lock:
+            _check(_library.delaunay_c_counts(self._handle, sizes))
+        return sizes.points, sizes.cells, sizes.hull
+
+    def rows(self) -> MeshRows:
+        """The mesh, as mesh_rows gives it."""
+        with self._lock:
+            return _rows(self._count, lambda *rooms: _library.delaunay_c_complex(self._handle, *rooms))
+
+    def locate(self, place: np.ndarray) -> tuple[int, list[tuple[int, int, int]]]:
+        """Where a place lies: 0 and a point that stands there; 1 and the four corners of a cell whose sphere it is
+        inside; or 2 and the three of a triangle of the hull that it sees."""
+        located = _Located()
+        with self._lock:
+            _check(_library.delaunay_c_locate(self._handle, _place(place), located))
+        corners = located.corners[:(1, 4, 3)[located.kind]]
+        return located.kind, [(corner.x, corner.y, corner.z) for corner in corners]
+
+    def nearest(self, place: np.ndarray) -> tuple[int, int, int]:
+        """Where the point lies that is nearest to a place; of those as near the first by x, then y, then z."""
+        near = _Place()
+        with self._lock:
+            _check(_library.delaunay_c_nearest(self._handle, _place(place), near))
+        return near.x, near.y, near.z

@@ -1,224 +1,284 @@
 """Meshes of points as numpy has them."""
 from __future__ import annotations
 
-import math
+import importlib.util
 import warnings
-from dataclasses import dataclass
+from collections import Counter
 from functools import cached_property
-from typing import NamedTuple
+from typing import Callable, Iterable, NamedTuple
 
 import numpy as np
 
 from . import _library
-from ._library import BEYOND, GREATEST, NONE
-
-# The three other corners of each corner of a tetrahedron.
-_OTHERS = np.array([[1, 2, 3], [0, 2, 3], [0, 1, 3], [0, 1, 2]])
+from ._arrays import Arrays
+from ._grid import Placing, behind, keys, placed
+from ._library import GREATEST
 
 
 class RoundingWarning(UserWarning):
     """Points fell together on the grid, or were moved by more than a thousandth of an axis' extent."""
 
 
-@dataclass(frozen=True)
-class Placing:
-    """How real points lie on the grid: grid = round((point - origin) / unit), with one unit for all axes."""
-    origin: np.ndarray  #: (3,) the point at the grid's (0, 0, 0)
-    unit: float  #: the length of a step of the grid, in the unit of the points
-
-    def to_grid(self, points: np.ndarray) -> np.ndarray:
-        """The nearest place of the grid to each point, (n, 3) int64."""
-        return np.rint((points - self.origin) / self.unit).astype(np.int64)
-
-    def to_user(self, grid: np.ndarray) -> np.ndarray:
-        """Where places of the grid lie, (n, 3) floats."""
-        return grid * self.unit + self.origin
+POINT, CELL, BEYOND_HULL = 0, 1, 2  #: kinds of Located
 
 
-class Filtration(NamedTuple):
-    """The faces of a mesh, with the least alphas at which they are admitted, regular and interior.
+class Located(NamedTuple):
+    """Where places lie in a mesh, one after another.
 
-    An alpha is a squared radius in the unit of the points; infinity where there is none. Rows are indices of the given
-    points; each face stands once. Faces are in the order of the grid's points, not of the indices.
+    Of kind POINT a point of the mesh stands there. Of kind CELL the place is inside the sphere of a tetrahedron, which
+    need not be the one that has it: find_simplex tells that one. Of kind BEYOND_HULL it lies beyond the hull, and sees
+    one of its triangles.
     """
-    points: np.ndarray  #: (m,) indices
-    point_alphas: np.ndarray  #: (m, 3) floats
-    edges: np.ndarray  #: (e, 2) indices
-    edge_alphas: np.ndarray  #: (e, 3) floats
-    triangles: np.ndarray  #: (t, 3) indices
-    triangle_alphas: np.ndarray  #: (t, 3) floats
-    tetrahedra: np.ndarray  #: (c, 4) indices
-    tetrahedron_alphas: np.ndarray  #: (c,) floats: that at which it is admitted
+    kinds: np.ndarray  #: (k,) POINT, CELL or BEYOND_HULL
+    corners: np.ndarray  #: (k, 4) indices of the point, the tetrahedron or the triangle; -1 behind them
 
 
-def _volumes(grid: np.ndarray, cells: np.ndarray) -> np.ndarray:
-    """Six times the signed volumes of cells, exact: below 2^45."""
-    a, b, c, d = (grid[cells[:, i]] for i in range(4))
-    return np.einsum('ij,ij->i', np.cross(b - a, c - a), d - a)
-
-
-def _outwards(grid: np.ndarray, triangles: np.ndarray, inner: np.ndarray) -> np.ndarray:
-    """The triangles, turned so that their inner points lie behind them."""
-    a, b, c = (grid[triangles[:, i]] for i in range(3))
-    turned = np.einsum('ij,ij->i', np.cross(b - a, c - a), inner - a) > 0
-    triangles = triangles.copy()
-    triangles[turned] = triangles[turned][:, [1, 0, 2]]
-    return triangles
-
-
-class Mesh:
+class Mesh(Arrays):
     """The Delaunay triangulation of points. Fields with names of scipy.spatial.Delaunay mean what they mean there.
 
     What is proved speaks of `grid`, `cells`, `across` and `hull`, whose numbers count the points of the grid.
 
+    Points come, go and move by `add`, `take` and `move`. A point keeps its index: one that comes is put behind the
+    others, and the index of one that went is in no simplex. One thread at a time has a mesh.
+
     Attributes:
-        points: (n, 3) the points that were given.
-        grid: (m, 3) int64, their places on the grid, each once, ascending by x, then y, then z.
-        cells: (c, 4) int64, the tetrahedra by numbers of rows of grid, ascending.
-        across: (c, 4) int64, the cells across from those points, -1 where a triangle of the hull is.
-        hull: (h, 3) int64, the triangles of the hull by numbers of rows of grid, ascending.
+        points: (n, 3) the points that were given, and those that came; where a point was moved, its new place.
+        living: (n,) whether the point is there; False once it was taken.
         placing: how the points were placed, or None where they were whole numbers.
-        rounding: the greatest move of a coordinate by that, in the unit of the points.
     """
 
     def __init__(self, points: np.ndarray, places: np.ndarray, placing: Placing | None) -> None:
-        self.points, self.placing = points, placing
-        rows = _library.mesh_rows(places)
-        self.grid = rows.points
-        self.cells, self.hull = rows.cells.astype(np.int64), rows.hull.astype(np.int64)
-        self.across = rows.neighbours.astype(np.int64)
-        self.across[self.across == NONE] = -1
-        self.rounding = float(np.abs(placing.to_user(places) - points).max()) if placing else 0.0
-        keys = (places[:, 0] << 28) + (places[:, 1] << 14) + places[:, 2]
-        _, first, inverse = np.unique(keys, return_index=True, return_inverse=True)
-        self._given = first  # the first given point of each point of the grid
-        self._inverse = inverse.reshape(-1)
+        self.points, self.placing, self._places = points, placing, places
+        self.living = np.ones(len(points), bool)
+        self._edited: _library.Edited | None = None
+        self._rows = _library.mesh_rows(places)
 
     @cached_property
-    def _turned(self) -> np.ndarray:
-        return _volumes(self.grid, self.cells) < 0
+    def _rows(self) -> _library.MeshRows:
+        return self._handle.rows()
 
-    @cached_property
-    def simplices(self) -> np.ndarray:
-        """(c, 4) the tetrahedra, by indices of points, turned positively."""
-        cells = self.cells.copy()
-        cells[self._turned] = cells[self._turned][:, [1, 0, 2, 3]]
-        return self._given[cells]
-
-    @cached_property
-    def neighbors(self) -> np.ndarray:
-        """(c, 4) the simplex across from each corner of each simplex, -1 outside."""
-        across = self.across.copy()
-        across[self._turned] = across[self._turned][:, [1, 0, 2, 3]]
-        return across
-
-    @cached_property
-    def convex_hull(self) -> np.ndarray:
-        """(h, 3) the triangles of the hull, by indices of points, turned outwards."""
-        i, k = np.nonzero(self.across < 0)
-        triangles = self.cells[i[:, None], _OTHERS[k]]
-        return self._given[_outwards(self.grid, triangles, self.grid[self.cells[i, k]])]
-
-    @cached_property
-    def coplanar(self) -> np.ndarray:
-        """(k, 3) the points that fell together with an earlier one: its index, a simplex that has the other, the other.
-
-        No other points are left out, as scipy may leave out nearly coplanar ones.
-        """
-        stands = self._given[self._inverse]
-        others = np.flatnonzero(stands != np.arange(len(stands)))
-        some = np.zeros(len(self.grid), np.int64)
-        some[self.cells.reshape(-1)] = np.repeat(np.arange(len(self.cells)), 4)
-        return np.column_stack([others, some[self._inverse[others]], stands[others]])
-
-    @cached_property
-    def _faces(self) -> _library.FaceRows:
-        return _library.face_rows(self.grid, len(self.cells), len(self.hull))
+    # ---- edits
 
     @property
-    def _square(self) -> float:
-        return (self.placing.unit if self.placing else 1.0) ** 2 / 16
+    def _handle(self) -> _library.Edited:
+        # Made once, for the first edit or look: the library makes the mesh again, point by point.
+        if self._edited is None:
+            self._edited = _library.Edited(self._places[self.living])
+        return self._edited
 
-    def _user(self, alphas: np.ndarray) -> np.ndarray:
-        return np.where(alphas < BEYOND, alphas * self._square, np.inf)
+    @cached_property
+    def _together(self) -> Counter[int]:
+        # How many points that are there have each place, from the first edit on.
+        return Counter(keys(self._places[self.living]).tolist())
 
-    def filtration(self) -> Filtration:
-        """All faces with their least alphas, as GUDHI's AlphaComplex has them.
+    def _to_places(self, points: np.typing.ArrayLike) -> tuple[np.ndarray, np.ndarray]:
+        """Points as this mesh has them, (k, 3), and their places. Raises ValueError and OutOfRange."""
+        points = np.atleast_2d(points)
+        if points.ndim != 2 or points.shape[1] != 3:
+            raise ValueError(f'points are an array of shape (k, 3), and not {points.shape}')
+        if self.placing is None and not np.issubdtype(points.dtype, np.integer):
+            raise ValueError('the mesh has whole coordinates')
+        if not np.isfinite(points).all():
+            raise ValueError('a coordinate is not finite')
+        places = self.placing.to_grid(points.astype(float)) if self.placing else points.astype(np.int64)
+        if ((points if self.placing is None else places) > GREATEST).any() or (places < 0).any():
+            raise _library.OutOfRange(f'a point lies outside of the grid, 0 to {GREATEST}')
+        return points, places
 
-        On the grid alphas are whole sixteenths: that of a face is its squared radius, rounded up to one.
+    def _indices(self, indices: np.typing.ArrayLike) -> np.ndarray:
+        indices = np.atleast_1d(indices)
+        if indices.ndim != 1 or not np.issubdtype(indices.dtype, np.integer):
+            raise ValueError('indices are whole numbers')
+        if ((indices < 0) | (indices >= len(self.points))).any():
+            raise IndexError(f'an index is not below {len(self.points)}')
+        return indices
 
+    def _key(self, i: int) -> int:
+        return int(keys(self._places[i:i + 1])[0])
+
+    def _each(self, count: int, edit: Callable[[int], str], progress: bool) -> np.ndarray:
+        """The replies of edits one by one; those before a want of memory stay made."""
+        replies = np.full(count, '', dtype='<U9')
+        steps: Iterable[int] = range(count)
+        if progress and importlib.util.find_spec('tqdm'):
+            from tqdm import tqdm
+            steps = tqdm(steps, unit='edit', delay=1, disable=None)
+        self._handle, self._together  # both from what is there before
+        self._forget()
+        for k in steps:
+            try:
+                replies[k] = edit(k)
+            except _library.WantOfMemory as want:
+                want.replies = replies[:k]
+                raise
+        return replies
+
+    def add(self, points: np.typing.ArrayLike, progress: bool = True) -> np.ndarray:
+        """Adds points behind those that are there.
+
+        Args:
+            points: (k, 3), or (3,) for one; whole numbers or floats, as the mesh was made of.
+            progress: with a bar, where tqdm is installed, a terminal is there and it takes more than a second.
+
+        Returns:
+            (k,) 'inserted', or 'duplicate' where one of the same place is there; it has an index all the same.
         Raises:
-            WantOfMemory: there was no memory for the faces.
+            ValueError: the shape is another, a coordinate is not finite, or floats come to whole numbers.
+            OutOfRange: a point lies outside of the grid. Nothing is added.
+            WantOfMemory: as its `replies` tell, those before are added.
         """
-        faces = self._faces
-        return Filtration(self._given, self._user(faces.point_alphas), self._given[faces.edges],
-                          self._user(faces.edge_alphas), self._given[faces.triangles],
-                          self._user(faces.triangle_alphas), self._given[self.cells], self._user(faces.cell_alphas))
+        points, places = self._to_places(points)
 
-    def alpha(self, radius: float) -> Shape:
-        """The alpha complex at a radius, in the unit of the points.
+        at = keys(places).tolist()
 
+        def edit(k: int) -> str:
+            reply = self._handle.add(places[k])
+            self._together[at[k]] += 1
+            return reply
+
+        try:
+            replies = self._each(len(points), edit, progress)
+        except _library.WantOfMemory as want:
+            self._append(points[:len(want.replies)], places[:len(want.replies)])
+            raise
+        self._append(points, places)
+        return replies
+
+    def _append(self, points: np.ndarray, places: np.ndarray) -> None:
+        self.points = np.concatenate([self.points, points])
+        self._places = np.concatenate([self._places, places])
+        self.living = np.concatenate([self.living, np.ones(len(points), bool)])
+
+    def take(self, indices: np.typing.ArrayLike, progress: bool = True) -> np.ndarray:
+        """Takes points away.
+
+        Args:
+            indices: (k,) or one; of points that are there.
+            progress: as of add.
+
+        Returns:
+            (k,) 'removed'; 'missing' where it went before; or 'flat' where the others would lie in one plane, and so
+            the point stays.
         Raises:
-            ValueError: the radius is negative or not a number.
-            WantOfMemory: there was no memory for the faces.
+            IndexError: there never was such a point. Nothing is taken.
+            WantOfMemory: as its `replies` tell, those before are taken.
         """
-        if not radius >= 0:
-            raise ValueError('a radius is 0 or more')
-        sixteenths = radius * radius / self._square
-        return Shape(self, min(math.floor(sixteenths), BEYOND - 1) if sixteenths < BEYOND else BEYOND - 1)
+        indices = self._indices(indices)
 
+        def edit(k: int) -> str:
+            i = indices[k]
+            if not self.living[i]:
+                return 'missing'
+            key = self._key(i)
+            reply = 'removed' if self._together[key] > 1 else self._handle.take(self._places[i])
+            if reply == 'removed':
+                self.living[i] = False
+                self._together[key] -= 1
+            return reply
 
-class Shape:
-    """An alpha complex: the faces that are admitted at an alpha, each with its kind.
+        return self._each(len(indices), edit, progress)
 
-    Attributes:
-        mesh: the mesh.
-        sixteenths: the alpha on the grid, in sixteenths.
-        points: (m,) indices of points; all are admitted.
-        point_kinds: (m,) SINGULAR, REGULAR or INTERIOR.
-        edges, edge_kinds: (e, 2) indices of points, (e,) kinds.
-        triangles, triangle_kinds: (t, 3) indices of points, (t,) kinds.
-        tetrahedra: (c, 4) indices of points.
-    """
+    def move(self, indices: np.typing.ArrayLike, points: np.typing.ArrayLike, progress: bool = True) -> np.ndarray:
+        """Moves points to other places. A point keeps its index.
 
-    def __init__(self, mesh: Mesh, sixteenths: int) -> None:
-        self.mesh, self.sixteenths = mesh, sixteenths
-        faces, given = mesh._faces, mesh._given
-        self._cells = mesh.cells[faces.cell_alphas <= sixteenths]
-        self.points, self.point_kinds = given, self._kinds(faces.point_alphas)
-        self.edges, self.edge_kinds = self._of(faces.edges, faces.edge_alphas)
-        self.triangles, self.triangle_kinds = self._of(faces.triangles, faces.triangle_alphas)
-        self.tetrahedra = given[self._cells]
+        Args:
+            indices: (k,) or one; of points that are there.
+            points: (k, 3), or (3,) for one; where they go.
+            progress: as of add.
 
-    def _kinds(self, alphas: np.ndarray) -> np.ndarray:
-        # An interior face is regular too.
-        interior = alphas[:, 2] <= self.sixteenths
-        return np.where(interior, 2, (alphas[:, 1] <= self.sixteenths).astype(np.int64))
+        Returns:
+            (k,) 'moved'; 'occupied' where a point of the new place is there, itself too; 'missing' where it went; or
+            'flat' where all would lie in one plane. But for 'moved' the point stays where it is.
+        Raises:
+            ValueError, OutOfRange: as of add. Nothing is moved.
+            IndexError: there never was such a point. Nothing is moved.
+            WantOfMemory: as its `replies` tell, those before are moved.
+        """
+        indices = self._indices(indices)
+        points, places = self._to_places(points)
+        if len(indices) != len(points):
+            raise ValueError(f'{len(indices)} points go to {len(points)} places')
+        self.points, self._places = self.points.copy(), self._places.copy()
 
-    def _of(self, faces: np.ndarray, alphas: np.ndarray) -> tuple[np.ndarray, np.ndarray]:
-        kept = alphas[:, 0] <= self.sixteenths
-        return self.mesh._given[faces[kept]], self._kinds(alphas[kept])
+        def edit(k: int) -> str:
+            i = indices[k]
+            if not self.living[i]:
+                return 'missing'
+            key = self._key(i)
+            if self._together[key] > 1:
+                reply = {'inserted': 'moved', 'duplicate': 'occupied'}[self._handle.add(places[k])]
+            else:
+                reply = self._handle.move(self._places[i], places[k])
+            if reply == 'moved':
+                self.points[i], self._places[i] = points[k], places[k]
+                self._together[key] -= 1
+                self._together[self._key(i)] += 1
+            return reply
 
-    def boundary(self) -> np.ndarray:
-        """(b, 3) indices: the triangles with an admitted tetrahedron on just one side, turned away from it."""
-        cells, grid = self._cells, self.mesh.grid
-        corners = cells[:, _OTHERS].reshape(-1, 3)
-        _, first, count = np.unique(corners, axis=0, return_index=True, return_counts=True)
-        first = first[count == 1]
-        return self.mesh._given[_outwards(grid, corners[first], grid[cells.reshape(-1)[first]])]
+        return self._each(len(indices), edit, progress)
 
+    # ---- looks
 
-def _placed(points: np.ndarray, unit: float | None) -> Placing:
-    """The given unit, or the least that fits all points onto the grid, from their least coordinates on."""
-    low, high = points.min(axis=0), points.max(axis=0)
-    extent = float((high - low).max())
-    if unit is None:
-        unit = extent / GREATEST if extent > 0 else 1.0
-    elif not unit > 0:
-        raise ValueError('a unit is more than 0')
-    elif round(extent / unit) > GREATEST:
-        raise _library.OutOfRange(f'the points take {round(extent / unit)} steps of {unit}, but there are {GREATEST}')
-    return Placing(low, float(unit))
+    def _index_at(self, places: np.ndarray) -> np.ndarray:
+        """The index of the first point at each place of the grid."""
+        return self._given[np.searchsorted(keys(self.grid), keys(np.asarray(places, np.int64).reshape(-1, 3)))]
+
+    def complex(self) -> tuple[np.ndarray, np.ndarray]:
+        """The whole complex: (c, 4) the simplices, and (h, 3) the triangles of the hull, by indices of points."""
+        return self.simplices, self.convex_hull
+
+    def counts(self) -> tuple[int, int, int]:
+        """How many points of the grid, simplices and triangles of the hull there are."""
+        return len(self.grid), len(self._rows.cells), len(self._rows.hull)
+
+    def locate(self, points: np.typing.ArrayLike) -> Located:
+        """Where places lie, found by walks over the cells.
+
+        Args:
+            points: (k, 3), or (3,) for one; whole numbers or floats, as the mesh was made of.
+        Raises:
+            ValueError, OutOfRange: as of add.
+        """
+        _, places = self._to_places(points)
+        kinds, corners = np.zeros(len(places), np.int64), np.full((len(places), 4), -1)
+        for k, place in enumerate(places):
+            kinds[k], found = self._handle.locate(place)
+            corners[k, :len(found)] = self._index_at(found)
+        return Located(kinds, corners)
+
+    def nearest(self, points: np.typing.ArrayLike) -> np.ndarray:
+        """(k,) the index of the point that is nearest to each place, on the grid: of those as near the first by x, then
+        y, then z.
+
+        Args:
+            points: (k, 3), or (3,) for one; whole numbers or floats, as the mesh was made of.
+        Raises:
+            ValueError, OutOfRange: as of add.
+        """
+        _, places = self._to_places(points)
+        near = [self._handle.nearest(place) for place in places]
+        return self._index_at(near)
+
+    def find_simplex(self, points: np.typing.ArrayLike) -> np.ndarray:
+        """(k,) the simplex that has each place, -1 outside of the hull, as scipy's find_simplex; on the grid. Where
+        several have it, in a shared side, one of them.
+
+        Args:
+            points: (k, 3), or (3,) for one; whole numbers or floats, as the mesh was made of.
+        Raises:
+            ValueError, OutOfRange: as of add.
+        """
+        _, places = self._to_places(points)
+        cells = self.cells.copy()
+        cells[self._turned] = cells[self._turned][:, [1, 0, 2, 3]]
+        at, going = np.zeros(len(places), np.int64), np.arange(len(places))
+        while len(going):  # through a side behind which the place lies: in a Delaunay complex no cell comes twice
+            corners = self.grid[cells[at[going]]]
+            sides = np.column_stack([behind(corners, k, places[going]) for k in range(4)])
+            going, sides = going[sides.any(axis=1)], sides[sides.any(axis=1)]
+            at[going] = self.neighbors[at[going], sides.argmax(axis=1)]
+            going = going[at[going] >= 0]
+        return at
 
 
 def _warn(mesh: Mesh) -> None:
@@ -263,7 +323,7 @@ def delaunay(points: np.typing.ArrayLike, unit: float | None = None) -> Mesh:
     bad = np.flatnonzero(~np.isfinite(points).all(axis=1))
     if len(bad):
         raise ValueError(f'point {bad[0]} is not finite')
-    placing = _placed(points, unit)
+    placing = placed(points, unit)
     mesh = Mesh(points, placing.to_grid(points), placing)
     _warn(mesh)
     return mesh

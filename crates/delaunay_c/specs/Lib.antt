@@ -1,5 +1,2 @@
-pub mod Rows
-pub mod Across
-pub mod Linked
-pub mod Meshes
-pub mod Rooms
+pub mod Codes
+pub mod Sizes

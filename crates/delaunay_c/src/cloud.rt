@@ -1,100 +1,133 @@
-//! The points at given places, and the cells of their complex.
+//! The mesh of a cloud of places, and the least alphas of its faces.
 
-ghost use Rattle.std.specs.Prelude.{◌≡◌, ◌<◌, ◌^◌, ◌∷◌, ◌++◌, [], map, length, IfOk, IfErr, IsTrue, OnOk};
-ghost use Rattle.point_order.specs.Coordinates.{IsKey};
-ghost use Rattle.point_order.specs.Solid.{is_solid};
-ghost use Rattle.del_laws.specs.Keys.{AreKeys};
-ghost use Rattle.delaunay_c.specs.Rows.{place_of, IsOutside};
-ghost use Rattle.delaunay_c.specs.Meshes.{IsCause, IsCloud, IsSetOf};
-ghost use Rattle.delaunay_c.specs.declared.stop.Stop.TheVariants.{Outside};
+ghost use Rattle.std.specs.Prelude.{◌≡◌, ◌<◌, ◌≤◌, take, length};
+ghost use Rattle.mesh_rows.specs.Meshes.{
+  AreFiltered,
+  AreFlat,
+  AreSizesOfFaces,
+  AreSizesOfMesh,
+  HasOutside,
+  IsMesh,
+};
+ghost use Rattle.mesh_rows.specs.Rooms.{LacksFaceRoom, LacksMeshRoom};
 
-use crate::rows::Place;
-use crate::stop::Stop;
-use cloud_cells::complex_of_points;
-use edit_history::find_four;
-use point_order::{Cell, Point, points_in_order};
-use std::alloc::{AllocError, Global};
+use alpha_complex::FaceAlphas;
+use mesh_rows::{
+    CellRow, EdgeRow, FaceSizes, MeshSizes, Place, Stop, TriangleRow, face_sizes, lacks_face_room,
+    lacks_mesh_room, levels_of, mesh_of, mesh_sizes, put_faces, put_mesh,
+};
+use std::alloc::Global;
 
-/// The points, ascending, each once, and the cells of their complex, in order: Full ones first.
-#[derive(Drop)]
-pub struct Cloud {
-    pub points: Vec<Point>,
-    pub cells: Vec<Cell>,
-}
-
-// The point at a place.
-fn point_at(place: &Place) -> Result<Point, Stop>
-    ensures place { IfOk result (λ p. place_of p ≡ place.now) }
-    ensures key { IfOk result (λ p. IsKey p) }
-    ensures refused { IfErr result (λ stop. (stop ≡ Outside) × IsOutside place.now) }
-{
-    match Point::new(place.x, place.y, place.z) {
-        Ok(p) => Ok(p),
-        Err(_) => Err(Stop::Outside),
-    }
-}
-
-// Puts a point behind the others.
-fn put_point(points: &mut Vec<Point>, p: Point) -> Result<(), AllocError>
-    ensures { OnOk result (points.new.items ≡ points.old.items ++ p ∷ []) }
-{
-    points.push(p)?;
-    Ok(())
-}
-
-// The points at the places, in the order of those.
-fn points_of(alloc: Global, given: &[Place]) -> Result<Vec<Point>, Stop>
-    ensures points { IfOk result (λ points. map place_of points.items ≡ given.now) }
-    ensures keys { IfOk result (λ points. AreKeys points.items) }
-    ensures refused { IfErr result (λ stop. IsCause given.now stop) }
-{
-    let mut points = Vec::with_capacity(alloc, given.len())?;
-    for place in given {
-        put_point(&mut points, point_at(place)?)?;
-    }
-    Ok(points)
-}
-
-// The points at the places, ascending, each once.
-fn set_of(alloc: Global, given: &[Place]) -> Result<Vec<Point>, Stop>
-    ensures set { IfOk result (λ points. IsSetOf given.now points.items) }
-    ensures refused { IfErr result (λ stop. IsCause given.now stop) }
-{
-    let points = points_of(alloc, given)?;
-    Ok(points_in_order(points))
-}
-
-// Whether 32 bits number the points and the cells.
-fn are_few(points: &[Point], cells: &[Cell]) -> bool
-    ensures points { IsTrue result → length points.now < 2 ^ 32 }
-    ensures cells { IsTrue result → length cells.now < 2 ^ 32 }
-{
-    points.len() < 1 << 32 && cells.len() < 1 << 32
-}
-
-// Whether four of the points are independent.
-fn are_solid(points: &[Point]) -> bool
-    ensures { result ≡ is_solid points.now }
-{
-    find_four(points).is_ok()
-}
-
-/// The points at the given places, and the cells of their complex.
+/// The mesh of the points at the given places, in any order, of which some may be equal: the points, ascending, each
+/// once; the tetrahedra by the numbers of their points; the tetrahedra across from those points, or 2^32 - 1; and the
+/// triangles of the hull.
 ///
-/// # Errors
-/// Each `Stop`.
-pub fn cloud_of(alloc: Global, given: &[Place]) -> Result<Cloud, Stop>
-    ensures set { IfOk result (λ cloud. IsSetOf given.now cloud.points.items) }
-    ensures cloud { IfOk result (λ cloud. IsCloud cloud.points.items cloud.cells.items) }
-    ensures refused { IfErr result (λ stop. IsCause given.now stop) }
+/// Answers 0 where all is done; else 1: want of memory, 2: a coordinate is not 0 to 16383, 3: no four of the points
+/// are independent, 4: a room has too few rows, and the sizes tell how many are wanted. Then the rooms are as before.
+#[unsafe(no_mangle)]
+pub extern "C" fn delaunay_c_mesh(
+    alloc: Global,
+    given: &[Place],
+    points: &mut [Place],
+    cells: &mut [CellRow],
+    neighbours: &mut [CellRow],
+    hull: &mut [TriangleRow],
+    sizes: &mut MeshSizes,
+) -> u8
+    ensures done { result ≡ 0 → IsMesh given.now (take sizes.new.points points.new) (take sizes.new.cells cells.new)
+        (take sizes.new.cells neighbours.new) (take sizes.new.hull hull.new) }
+    ensures sized { result ≡ 0 → AreSizesOfMesh given.now sizes.new }
+    ensures outside { result ≡ 2 → HasOutside given.now }
+    ensures flat { result ≡ 3 → AreFlat given.now }
+    ensures wanted { result ≡ 4 → AreSizesOfMesh given.now sizes.new }
+    ensures lacks { result ≡ 4 → LacksMeshRoom sizes.new (length points.old) (length cells.old)
+        (length neighbours.old) (length hull.old) }
+    ensures statuses { result ≤ 4 }
+    ensures sizes { 0 < result → result < 4 → sizes.new ≡ sizes.old }
+    ensures points { 0 < result → points.new ≡ points.old }
+    ensures cells { 0 < result → cells.new ≡ cells.old }
+    ensures neighbours { 0 < result → neighbours.new ≡ neighbours.old }
+    ensures hull { 0 < result → hull.new ≡ hull.old }
 {
-    let points = set_of(alloc, given)?;
-    if !are_solid(&points) {
-        return Err(Stop::Flat);
+    match mesh_of(alloc, given) {
+        Ok(made) => {
+            *sizes = mesh_sizes(&made);
+            if lacks_mesh_room(sizes, points, cells, neighbours, hull) {
+                return 4;
+            }
+            put_mesh(&made, points, cells, neighbours, hull);
+            0
+        }
+        Err(Stop::Memory) => 1,
+        Err(Stop::Outside) => 2,
+        Err(Stop::Flat) => 3,
     }
-    let cells = complex_of_points(alloc, &points)?;
-    if !are_few(&points, &cells) {
-        return Err(Stop::Memory);
+}
+
+/// The faces of the complex of the points at the given places, each by the numbers of its points, with the least alphas
+/// at which it is admitted, at which some cell around it is, and at which all are: squared radii in sixteenths, 2^34 or
+/// more where there is none. The points are numbered as those of `delaunay_c_mesh`, and the tetrahedra, of which each
+/// has one number, are in its order.
+///
+/// Answers as `delaunay_c_mesh` does.
+#[unsafe(no_mangle)]
+pub extern "C" fn delaunay_c_alphas(
+    alloc: Global,
+    given: &[Place],
+    point_alphas: &mut [FaceAlphas],
+    edges: &mut [EdgeRow],
+    edge_alphas: &mut [FaceAlphas],
+    triangles: &mut [TriangleRow],
+    triangle_alphas: &mut [FaceAlphas],
+    cell_alphas: &mut [u64],
+    sizes: &mut FaceSizes,
+) -> u8
+    ensures done { result ≡ 0 → AreFiltered given.now (take sizes.new.points point_alphas.new)
+        (take sizes.new.edges edges.new) (take sizes.new.edges edge_alphas.new)
+        (take sizes.new.triangles triangles.new) (take sizes.new.triangles triangle_alphas.new)
+        (take sizes.new.cells cell_alphas.new) }
+    ensures sized { result ≡ 0 → AreSizesOfFaces given.now sizes.new }
+    ensures outside { result ≡ 2 → HasOutside given.now }
+    ensures flat { result ≡ 3 → AreFlat given.now }
+    ensures wanted { result ≡ 4 → AreSizesOfFaces given.now sizes.new }
+    ensures lacks { result ≡ 4 → LacksFaceRoom sizes.new (length point_alphas.old) (length edges.old)
+        (length edge_alphas.old) (length triangles.old) (length triangle_alphas.old) (length cell_alphas.old) }
+    ensures statuses { result ≤ 4 }
+    ensures sizes { 0 < result → result < 4 → sizes.new ≡ sizes.old }
+    ensures point_alphas { 0 < result → point_alphas.new ≡ point_alphas.old }
+    ensures edges { 0 < result → edges.new ≡ edges.old }
+    ensures edge_alphas { 0 < result → edge_alphas.new ≡ edge_alphas.old }
+    ensures triangles { 0 < result → triangles.new ≡ triangles.old }
+    ensures triangle_alphas { 0 < result → triangle_alphas.new ≡ triangle_alphas.old }
+    ensures cell_alphas { 0 < result → cell_alphas.new ≡ cell_alphas.old }
+{
+    match levels_of(alloc, given) {
+        Ok(levels) => {
+            *sizes = face_sizes(&levels);
+            if lacks_face_room(
+                sizes,
+                point_alphas,
+                edges,
+                edge_alphas,
+                triangles,
+                triangle_alphas,
+                cell_alphas,
+            ) {
+                return 4;
+            }
+            put_faces(
+                &levels,
+                point_alphas,
+                edges,
+                edge_alphas,
+                triangles,
+                triangle_alphas,
+                cell_alphas,
+            );
+            0
+        }
+        Err(Stop::Memory) => 1,
+        Err(Stop::Outside) => 2,
+        Err(Stop::Flat) => 3,
     }
-    Ok(Cloud { points, cells })
 }

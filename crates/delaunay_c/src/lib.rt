@@ -1,149 +1,18 @@
-//! The Delaunay complex of points, and the least alphas of its faces, for C and whatever calls C.
+//! The Delaunay complex of points, the least alphas of its faces, and a mesh that is edited, for C and whatever calls C.
 //!
 //! The header is `python/c/delaunay_c.h`. A slice crosses as a pointer and a length, and `Global` as nothing.
 //!
 //! ```c
 //! uint8_t status = delaunay_c_mesh(given, n, points, n, cells, c, neighbours, c, hull, h, &sizes);
+//!
+//! struct delaunay_c_handle handle = {0};
+//! status = delaunay_c_open(&handle, given, n);
+//! status = delaunay_c_add(&handle, &place, &reply);
+//! delaunay_c_close(&handle);
 //! ```
 #![tactic(auto)]
 
-ghost use Rattle.std.specs.Prelude.{◌≡◌, ◌<◌, ◌≤◌, take, length};
-ghost use Rattle.delaunay_c.specs.Meshes.{
-  AreFiltered,
-  AreFlat,
-  AreSizesOfFaces,
-  AreSizesOfMesh,
-  HasOutside,
-  IsMesh,
-};
-ghost use Rattle.delaunay_c.specs.Rooms.{LacksFaceRoom, LacksMeshRoom};
-
-mod across;
 mod cloud;
-mod hints;
-mod levels;
-mod mesh;
-mod numbers;
-mod room;
-pub mod rows;
-mod stop;
-
-use alpha_complex::FaceAlphas;
-use levels::levels_of;
-use mesh::mesh_of;
-use room::{face_sizes, lacks_face_room, lacks_mesh_room, mesh_sizes, put_faces, put_mesh};
-use rows::{CellRow, EdgeRow, FaceSizes, MeshSizes, Place, TriangleRow};
-use std::alloc::Global;
-use stop::Stop;
-
-/// The mesh of the points at the given places, in any order, of which some may be equal: the points, ascending, each
-/// once; the tetrahedra by the numbers of their points; the tetrahedra across from those points, or 2^32 - 1; and the
-/// triangles of the hull.
-///
-/// Answers 0 where all is done; else 1: want of memory, 2: a coordinate is not 0 to 16383, 3: no four of the points
-/// are independent, 4: a room has too few rows, and the sizes tell how many are wanted. Then the rooms are as before.
-#[unsafe(no_mangle)]
-pub extern "C" fn delaunay_c_mesh(
-    alloc: Global,
-    given: &[Place],
-    points: &mut [Place],
-    cells: &mut [CellRow],
-    neighbours: &mut [CellRow],
-    hull: &mut [TriangleRow],
-    sizes: &mut MeshSizes,
-) -> u8
-    ensures done { result ≡ 0 → IsMesh given.now (take sizes.new.points points.new) (take sizes.new.cells cells.new)
-        (take sizes.new.cells neighbours.new) (take sizes.new.hull hull.new) }
-    ensures sized { result ≡ 0 → AreSizesOfMesh given.now sizes.new }
-    ensures outside { result ≡ 2 → HasOutside given.now }
-    ensures flat { result ≡ 3 → AreFlat given.now }
-    ensures wanted { result ≡ 4 → AreSizesOfMesh given.now sizes.new }
-    ensures lacks { result ≡ 4 → LacksMeshRoom sizes.new (length points.old) (length cells.old)
-        (length neighbours.old) (length hull.old) }
-    ensures statuses { result ≤ 4 }
-    ensures points { 0 < result → points.new ≡ points.old }
-    ensures cells { 0 < result → cells.new ≡ cells.old }
-    ensures neighbours { 0 < result → neighbours.new ≡ neighbours.old }
-    ensures hull { 0 < result → hull.new ≡ hull.old }
-{
-    match mesh_of(alloc, given) {
-        Ok(made) => {
-            *sizes = mesh_sizes(&made);
-            if lacks_mesh_room(sizes, points, cells, neighbours, hull) {
-                return 4;
-            }
-            put_mesh(&made, points, cells, neighbours, hull);
-            0
-        }
-        Err(Stop::Memory) => 1,
-        Err(Stop::Outside) => 2,
-        Err(Stop::Flat) => 3,
-    }
-}
-
-/// The faces of the complex of the points at the given places, each by the numbers of its points, with the least alphas
-/// at which it is admitted, at which some cell around it is, and at which all are: squared radii in sixteenths, 2^34 or
-/// more where there is none. The points are numbered as those of `delaunay_c_mesh`, and the tetrahedra, of which each
-/// has one number, are in its order.
-///
-/// Answers as `delaunay_c_mesh` does.
-#[unsafe(no_mangle)]
-pub extern "C" fn delaunay_c_alphas(
-    alloc: Global,
-    given: &[Place],
-    point_alphas: &mut [FaceAlphas],
-    edges: &mut [EdgeRow],
-    edge_alphas: &mut [FaceAlphas],
-    triangles: &mut [TriangleRow],
-    triangle_alphas: &mut [FaceAlphas],
-    cell_alphas: &mut [u64],
-    sizes: &mut FaceSizes,
-) -> u8
-    ensures done { result ≡ 0 → AreFiltered given.now (take sizes.new.points point_alphas.new)
-        (take sizes.new.edges edges.new) (take sizes.new.edges edge_alphas.new)
-        (take sizes.new.triangles triangles.new) (take sizes.new.triangles triangle_alphas.new)
-        (take sizes.new.cells cell_alphas.new) }
-    ensures sized { result ≡ 0 → AreSizesOfFaces given.now sizes.new }
-    ensures outside { result ≡ 2 → HasOutside given.now }
-    ensures flat { result ≡ 3 → AreFlat given.now }
-    ensures wanted { result ≡ 4 → AreSizesOfFaces given.now sizes.new }
-    ensures lacks { result ≡ 4 → LacksFaceRoom sizes.new (length point_alphas.old) (length edges.old)
-        (length edge_alphas.old) (length triangles.old) (length triangle_alphas.old) (length cell_alphas.old) }
-    ensures statuses { result ≤ 4 }
-    ensures point_alphas { 0 < result → point_alphas.new ≡ point_alphas.old }
-    ensures edges { 0 < result → edges.new ≡ edges.old }
-    ensures edge_alphas { 0 < result → edge_alphas.new ≡ edge_alphas.old }
-    ensures triangles { 0 < result → triangles.new ≡ triangles.old }
-    ensures triangle_alphas { 0 < result → triangle_alphas.new ≡ triangle_alphas.old }
-    ensures cell_alphas { 0 < result → cell_alphas.new ≡ cell_alphas.old }
-{
-    match levels_of(alloc, given) {
-        Ok(levels) => {
-            *sizes = face_sizes(&levels);
-            if lacks_face_room(
-                sizes,
-                point_alphas,
-                edges,
-                edge_alphas,
-                triangles,
-                triangle_alphas,
-                cell_alphas,
-            ) {
-                return 4;
-            }
-            put_faces(
-                &levels,
-                point_alphas,
-                edges,
-                edge_alphas,
-                triangles,
-                triangle_alphas,
-                cell_alphas,
-            );
-            0
-        }
-        Err(Stop::Memory) => 1,
-        Err(Stop::Outside) => 2,
-        Err(Stop::Flat) => 3,
-    }
-}
+mod codes;
+mod edited;
+mod looks;

@@ -1,9 +1,0 @@
-use Rattle.std.proofs.Common.{subst, sym}
-use Rattle.delaunay_c.specs.Across.{IsAcross}
-use Rattle.delaunay_c.proofs.Others.{told_across}
-use Rattle.delaunay_c.proofs.across.across.Goals as goal
-
-pub returns : goal.returns
-returns c =
-    subst (IsAcross c.args.cells.now c.args.n c.args.tri.now) (sym c.told_of.ensures)
-    (told_across c.args.cells.now c.requires.cells c.args.n c.args.tri.now c.other.result c.other.ensures)

@@ -1,8 +1,0 @@
-use Rattle.std.proofs.Common.{◌≡◌, map, take}
-use Rattle.del_laws.specs.Keys.{AreKeys}
-use Rattle.delaunay_c.specs.Rows.{place_of}
-use Rattle.delaunay_c.proofs.cloud.points_of.Given as goal
-
--- the points at a front of the places
-abbrev pub invariant-loop-place : goal.invariant-loop-place
-invariant-loop-place l = (map place_of l.points.items ≡ take l.place-index l.given) × AreKeys l.points.items

@@ -1,0 +1,3 @@
+pub mod Pointers
+pub mod Locating
+pub mod Handles

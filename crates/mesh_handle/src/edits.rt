@@ -1,0 +1,107 @@
+//! Edits of the mesh of a handle, by places.
+
+ghost use Rattle.std.specs.Prelude.{◌≡◌, ◌∷◌, [], IfErr, IfOk, OnErr, OnOk};
+ghost use Rattle.edit_history.specs.declared.history.Edit.TheVariants.{Add, Take, Move};
+ghost use Rattle.edit_history.specs.Edits.{reply_to};
+ghost use Rattle.edit_history.specs.Histories.{replay};
+ghost use Rattle.mesh_rows.specs.Rows.{IsOutside};
+ghost use Rattle.one_mesh.specs.Applied.{edited};
+ghost use Rattle.mesh_handle.specs.Handles.{IsCause, WasAdded, WasEdited, WasMoved, WasTaken, IsLack, IsPointAt};
+ghost use Rattle.mesh_handle.specs.declared.refusal.Refusal.TheVariants.{Memory, Empty, Outside};
+
+use crate::handle::MeshHandle;
+use crate::refusal::Refusal;
+use cell_store::Mesh;
+use edit_history::{Edit, Reply};
+use mesh_rows::{Place, point_at};
+use one_mesh::apply;
+use point_order::Point;
+use std::alloc::Global;
+
+// The point at a place.
+pub(crate) fn point_of(place: &Place) -> Result<Point, Refusal>
+    ensures point { IfOk result (λ p. IsPointAt place.now p) }
+    ensures refused { IfErr result (λ r. (r ≡ Outside) × IsOutside place.now) }
+{
+    match point_at(place) {
+        Ok(p) => Ok(p),
+        Err(_) => Err(Refusal::Outside),
+    }
+}
+
+// Makes an edit of a mesh.
+fn edit_mesh(alloc: Global, mesh: &mut Mesh, edit: Edit) -> Result<Reply, Refusal>
+    ensures applied { OnOk result (mesh.new ≡ edited mesh.old 0 edit) }
+    ensures reply { IfOk result (λ reply. reply ≡ reply_to (replay mesh.old.history) edit) }
+    ensures refused { OnErr result (mesh.new ≡ mesh.old) }
+    ensures cause { IfErr result (λ r. r ≡ Memory) }
+{
+    if mesh.count() >= 1 << 32 {
+        return Err(Refusal::Memory);
+    }
+    match apply(alloc, mesh, 0, edit) {
+        Ok(receipt) => Ok(receipt.reply),
+        Err(_) => Err(Refusal::Memory),
+    }
+}
+
+// Makes an edit of the mesh of a handle.
+fn edit(alloc: Global, handle: &mut MeshHandle, edit: Edit) -> Result<Reply, Refusal>
+    ensures done { IfOk result (λ reply. WasEdited handle.old.mesh edit handle.new.mesh reply) }
+    ensures refused { OnErr result (handle.new.mesh ≡ handle.old.mesh) }
+    ensures cause { IfErr result (λ r. IsLack handle.old.mesh r) }
+{
+    match handle.take(alloc) {
+        Some(mut mesh) => {
+            let answered = edit_mesh(alloc, &mut mesh, edit);
+            handle.put(alloc, mesh);
+            answered
+        }
+        None => Err(Refusal::Empty),
+    }
+}
+
+/// Adds the point at a place.
+///
+/// # Errors
+/// Each `Refusal`. The mesh is then as before.
+pub fn add(alloc: Global, handle: &mut MeshHandle, place: &Place) -> Result<Reply, Refusal>
+    ensures done { IfOk result (λ reply. WasAdded handle.old.mesh place.now handle.new.mesh reply) }
+    ensures refused { OnErr result (handle.new.mesh ≡ handle.old.mesh) }
+    ensures cause { IfErr result (λ r. IsCause handle.old.mesh (place.now ∷ []) r) }
+{
+    let p = point_of(place)?;
+    edit(alloc, handle, Edit::Add(p))
+}
+
+/// Takes the point at a place away.
+///
+/// # Errors
+/// Each `Refusal`. The mesh is then as before.
+pub fn take(alloc: Global, handle: &mut MeshHandle, place: &Place) -> Result<Reply, Refusal>
+    ensures done { IfOk result (λ reply. WasTaken handle.old.mesh place.now handle.new.mesh reply) }
+    ensures refused { OnErr result (handle.new.mesh ≡ handle.old.mesh) }
+    ensures cause { IfErr result (λ r. IsCause handle.old.mesh (place.now ∷ []) r) }
+{
+    let p = point_of(place)?;
+    edit(alloc, handle, Edit::Take(p))
+}
+
+/// Moves the point at a place to another place.
+///
+/// # Errors
+/// Each `Refusal`. The mesh is then as before.
+pub fn shift(
+    alloc: Global,
+    handle: &mut MeshHandle,
+    from: &Place,
+    to: &Place,
+) -> Result<Reply, Refusal>
+    ensures done { IfOk result (λ reply. WasMoved handle.old.mesh from.now to.now handle.new.mesh reply) }
+    ensures refused { OnErr result (handle.new.mesh ≡ handle.old.mesh) }
+    ensures cause { IfErr result (λ r. IsCause handle.old.mesh (from.now ∷ to.now ∷ []) r) }
+{
+    let a = point_of(from)?;
+    let b = point_of(to)?;
+    edit(alloc, handle, Edit::Move(a, b))
+}

@@ -1,0 +1,29 @@
+//! A mesh of one thread that a caller in another language holds by a pointer, and its edits one by one.
+//!
+//! The caller keeps a `MeshHandle`, which is one pointer: null, or a mesh on the heap. A call takes the mesh out, works
+//! on it and puts it back, so every call but `open` and `close` finds a mesh there or says that there is none. Only
+//! `loose` and `handle` see a pointer; their proofs are by hand.
+//!
+//! ```
+//! let mut handle = MeshHandle::empty();
+//! open(alloc, &mut handle, &places)?;              // in any order; of which some may be equal
+//! let reply = add(alloc, &mut handle, &place)?;    // want of memory leaves the mesh as before
+//! let made = rows(alloc, &mut handle)?;            // points, cells, neighbours, hull
+//! close(alloc, handle);
+//! ```
+#![tactic(auto)]
+
+mod edits;
+mod handle;
+mod looks;
+mod loose;
+mod opening;
+mod place;
+mod refusal;
+
+pub use edits::{add, shift, take};
+pub use handle::MeshHandle;
+pub use looks::{Located, find, nearest_to, rows};
+pub use opening::{close, open};
+pub use place::{Location, locate};
+pub use refusal::Refusal;

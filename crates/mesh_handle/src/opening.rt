@@ -1,0 +1,73 @@
+//! The mesh of places, in a handle, and its end.
+
+ghost use Rattle.std.specs.Prelude.{◌≡◌, true, IfErr, IfOk, None, OnErr, OnOk};
+ghost use Rattle.cell_store.specs.Grids.{is_grid_size};
+ghost use Rattle.edit_history.specs.Histories.{replay};
+ghost use Rattle.mesh_rows.specs.Meshes.{IsCause as IsStop, IsSetOf};
+ghost use Rattle.mesh_handle.specs.Handles.{HoldsPoints};
+
+use crate::handle::{MeshHandle, free};
+use cell_store::{Grid, Mesh};
+use insertion::mesh_of_points;
+use mesh_rows::{Place, Stop, are_solid, set_of};
+use std::alloc::Global;
+
+// The grid of a size that a grid may have.
+fn grid_of(size: u32) -> Grid
+    requires { is_grid_size size ≡ true }
+{
+    match Grid::new(size) {
+        Ok(grid) => grid,
+        Err(_) => unreachable!(),
+    }
+}
+
+// A grid on which so many points lie a few to a bucket.
+fn grid_for(count: usize) -> Grid {
+    if count < 512 {
+        grid_of(1)
+    } else if count < 16384 {
+        grid_of(4)
+    } else {
+        grid_of(16)
+    }
+}
+
+// The mesh of the points at some places.
+fn mesh_at(alloc: Global, given: &[Place]) -> Result<Mesh, Stop>
+    ensures points { IfOk result (λ mesh. IsSetOf given.now (replay mesh.history)) }
+    ensures refused { IfErr result (λ stop. IsStop given.now stop) }
+{
+    let points = set_of(alloc, given)?;
+    if !are_solid(&points) {
+        return Err(Stop::Flat);
+    }
+    let mesh = mesh_of_points(alloc, grid_for(points.len()), &points)?;
+    Ok(mesh)
+}
+
+/// Puts the mesh of the points at some places into a handle. A mesh that was there is freed.
+///
+/// # Errors
+/// Each `Stop`. The handle is then as before.
+pub fn open(alloc: Global, handle: &mut MeshHandle, given: &[Place]) -> Result<(), Stop>
+    ensures done { OnOk result (HoldsPoints given.now handle.new.mesh) }
+    ensures refused { OnErr result (handle.new.mesh ≡ handle.old.mesh) }
+    ensures cause { IfErr result (λ stop. IsStop given.now stop) }
+{
+    let mesh = mesh_at(alloc, given)?;
+    match Box::new(alloc, mesh) {
+        Ok(boxed) => {
+            handle.put(alloc, boxed);
+            Ok(())
+        }
+        Err(_) => Err(Stop::Memory),
+    }
+}
+
+/// Frees the mesh of a handle, if there is one, and leaves the handle with none.
+pub fn close(alloc: Global, handle: &mut MeshHandle)
+    ensures { handle.new.mesh ≡ None }
+{
+    drop(handle.take(alloc));
+}

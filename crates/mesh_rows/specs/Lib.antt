@@ -1,0 +1,5 @@
+pub mod Rows
+pub mod Across
+pub mod Linked
+pub mod Meshes
+pub mod Rooms

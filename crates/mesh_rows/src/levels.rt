@@ -1,0 +1,86 @@
+//! The faces of a complex, and the least alphas of each.
+
+ghost use Rattle.std.specs.Prelude.{◌≡◌, ◌≤◌, ◌∷◌, [], length, IfErr, IfOk};
+ghost use Rattle.face_list.specs.Faces.{full_cells};
+ghost use Rattle.mesh_rows.specs.Meshes.{AreFaceRows, AreFiltered, IsCause, IsCloud};
+
+use crate::cloud::cloud_of;
+use crate::numbers::{edges, triangles};
+use crate::rows::{EdgeRow, FaceSizes, Place, TriangleRow};
+use crate::stop::Stop;
+use alpha_complex::{FaceAlphas, alphas_alone};
+use face_list::few_faces;
+use point_order::{Cell, Point};
+use std::alloc::{AllocError, Global};
+
+/// The rows of the faces of a complex, and the least alphas of each.
+#[derive(Drop)]
+pub struct Levels {
+    pub point_alphas: Vec<FaceAlphas>,
+    pub edges: Vec<EdgeRow>,
+    pub edge_alphas: Vec<FaceAlphas>,
+    pub triangles: Vec<TriangleRow>,
+    pub triangle_alphas: Vec<FaceAlphas>,
+    pub cell_alphas: Vec<u64>,
+}
+
+// One for a Full cell.
+fn full_one(cell: &Cell) -> usize
+    ensures count { result ≡ length (full_cells (cell.now ∷ [])) }
+    ensures most { result ≤ 1 }
+{
+    match cell {
+        Cell::Full(_) => 1,
+        Cell::Open(_) => 0,
+    }
+}
+
+// How many Full cells there are.
+fn full_count(cells: &[Cell]) -> usize
+    ensures { result ≡ length (full_cells cells.now) }
+{
+    let mut count = 0;
+    for cell in cells {
+        count += full_one(cell);
+    }
+    count
+}
+
+// Those of a set and its cells.
+fn face_rows(alloc: Global, set: &[Point], all: &[Cell]) -> Result<Levels, AllocError>
+    requires { IsCloud set.now all.now }
+    ensures rows { IfOk result (λ l. AreFaceRows set.now l.point_alphas.items l.edges.items l.edge_alphas.items
+        l.triangles.items l.triangle_alphas.items l.cell_alphas.items) }
+    ensures edge_count { IfOk result (λ l. length l.edge_alphas.items ≡ length l.edges.items) }
+    ensures triangle_count { IfOk result (λ l. length l.triangle_alphas.items ≡ length l.triangles.items) }
+{
+    let faces = few_faces(alloc, all)?;
+    let pairs = edges(alloc, set, faces.pairs())?;
+    let triples = triangles(alloc, set, faces.triples())?;
+    let mut known = alphas_alone(alloc, &faces)?;
+    known.cells.truncate(full_count(all));
+    Ok(Levels {
+        point_alphas: known.points,
+        edges: pairs,
+        edge_alphas: known.pairs,
+        triangles: triples,
+        triangle_alphas: known.triples,
+        cell_alphas: known.cells,
+    })
+}
+
+/// The faces of the complex of the points at the given places.
+///
+/// # Errors
+/// Each `Stop`.
+pub fn levels_of(alloc: Global, given: &[Place]) -> Result<Levels, Stop>
+    ensures levels { IfOk result (λ l. AreFiltered given.now l.point_alphas.items l.edges.items l.edge_alphas.items
+        l.triangles.items l.triangle_alphas.items l.cell_alphas.items) }
+    ensures edge_count { IfOk result (λ l. length l.edge_alphas.items ≡ length l.edges.items) }
+    ensures triangle_count { IfOk result (λ l. length l.triangle_alphas.items ≡ length l.triangles.items) }
+    ensures refused { IfErr result (λ stop. IsCause given.now stop) }
+{
+    let cloud = cloud_of(alloc, given)?;
+    let levels = face_rows(alloc, &cloud.points, &cloud.cells)?;
+    Ok(levels)
+}

@@ -1,0 +1,32 @@
+//! Meshes and their faces as rows of numbers, for callers who keep plain arrays: places in, and out of them the points,
+//! the cells by numbers of points, what lies across their facets, the hull, and the least alphas of all faces.
+//!
+//! It starts no threads. `delaunay_c` passes it on to C.
+//!
+//! ```
+//! let made = mesh_of(alloc, &places)?;       // places in any order, of which some may be equal
+//! let sizes = mesh_sizes(&made);
+//! if !lacks_mesh_room(&sizes, points, cells, neighbours, hull) {
+//!     put_mesh(&made, points, cells, neighbours, hull);
+//! }
+//! let levels = levels_of(alloc, &places)?;   // every face with its least alphas
+//! ```
+#![tactic(auto)]
+
+mod across;
+mod cloud;
+mod hints;
+mod levels;
+mod mesh;
+mod numbers;
+mod room;
+mod rows;
+mod stop;
+
+pub use cloud::{are_few, are_solid, point_at, set_of};
+pub use levels::{Levels, levels_of};
+pub use mesh::{Made, mesh_of, rows_of};
+pub use numbers::place_at;
+pub use room::{face_sizes, lacks_face_room, lacks_mesh_room, mesh_sizes, put_faces, put_mesh};
+pub use rows::{CellRow, EdgeRow, FaceSizes, MeshSizes, Place, TriangleRow};
+pub use stop::Stop;
