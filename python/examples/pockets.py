@@ -1,5 +1,9 @@
-"""A protein to its voids: what the alpha complex of atom centres encloses and a probe cannot leave."""
+"""A protein to its pockets: what the alpha complex of atom centres encloses and a probe cannot leave; its picture."""
+import sys
+
 import numpy as np
+from scipy.sparse import coo_matrix
+from scipy.sparse.csgraph import connected_components
 
 import hanskup
 
@@ -12,30 +16,37 @@ def shell(count, radius, hole=1.0):
     return radius * np.column_stack([ring * np.cos(turn), ring * np.sin(turn), height])[height <= hole]
 
 
-def voids(atoms, reach):
-    """How many parts of the rest the atoms enclose, if atom and probe together have this radius."""
+def pockets(atoms, reach):
+    """The tetrahedra that a probe fits into and cannot leave, and the number of the pocket of each, if atom and probe
+    together have this radius."""
     mesh = hanskup.delaunay(atoms)
-    told = mesh.filtration()
-    is_shut = dict(zip(map(tuple, np.sort(told.triangles).tolist()), told.triangle_alphas[:, 0] <= reach ** 2))
-    free = told.tetrahedron_alphas > reach ** 2
-    seen, found = np.zeros(len(free), bool), 0
-    for start in np.flatnonzero(free):
-        reaches_out, stack = False, [] if seen[start] else [start]
-        found += not seen[start]
-        seen[start] = True
-        while stack:
-            at = stack.pop()
-            for k, other in enumerate(mesh.neighbors[at]):
-                if not is_shut[tuple(np.sort(np.delete(mesh.simplices[at], k)).tolist())]:
-                    reaches_out |= other < 0
-                    if other >= 0 and not seen[other]:
-                        seen[other] = True
-                        stack.append(other)
-        found -= reaches_out
-    return found
+    told, cells, n = mesh.filtration(), mesh.simplices, len(atoms)
+    key = lambda faces: np.sort(faces, axis=-1) @ [n * n, n, 1]
+    known = np.argsort(key(told.triangles))
+    sides = key(cells[:, [[1, 2, 3], [0, 2, 3], [0, 1, 3], [0, 1, 2]]])  # across from each corner
+    least = told.triangle_alphas[known, 0][np.searchsorted(key(told.triangles)[known], sides)]
+    i, k = np.nonzero(least > reach ** 2)  # a probe goes through this side
+    beyond = np.where(mesh.neighbors[i, k] < 0, len(cells), mesh.neighbors[i, k])
+    ways = coo_matrix((np.ones(len(i)), (i, beyond)), [len(cells) + 1] * 2)
+    _, part = connected_components(ways, directed=False)
+    held = (told.tetrahedron_alphas > reach ** 2) & (part[:-1] != part[-1])
+    return cells[held], np.unique(part[:-1][held], return_inverse=True)[1]
 
 
 sets = {'closed shell': shell(400, 9.0), 'open shell': shell(400, 9.0, 0.7),
         'two shells': np.concatenate([shell(400, 9.0), shell(400, 9.0) + [30.0, 0.0, 0.0]])}
-counts = {name: int(voids(atoms, 1.8)) for name, atoms in sets.items()}
+found = {name: pockets(atoms, 1.8) for name, atoms in sets.items()}
+counts = {name: len(np.unique(numbers)) for name, (_, numbers) in found.items()}
 print(counts)
+if __name__ == '__main__' and len(sys.argv) > 1:
+    from matplotlib import collections, pyplot
+    axes = pyplot.figure(figsize=(6, 3)).add_subplot()
+    atoms, (cells, numbers) = sets['two shells'], found['two shells']
+    for x, _, z in atoms[abs(atoms[:, 1]) < 1]:  # a slice of the atoms
+        axes.add_patch(pyplot.Circle((x, z), 1.8, color='lightgray'))
+    for number, colour in enumerate(('tab:cyan', 'tab:pink')):  # all of the pockets, seen from the side
+        sides = atoms[cells[numbers == number]][:, [[1, 2, 3], [0, 2, 3], [0, 1, 3], [0, 1, 2]]][..., [0, 2]]
+        axes.add_collection(collections.PolyCollection(sides.reshape(-1, 3, 2), facecolor=colour, alpha=0.05))
+    axes.autoscale()
+    axes.set_aspect('equal')
+    pyplot.savefig(sys.argv[1], bbox_inches='tight')

@@ -1,5 +1,4 @@
 """A scan to a surface: the boundary of an alpha complex of points on a bumpy torus, and its picture."""
-import importlib.util
 import pathlib
 import subprocess
 import sys
@@ -12,13 +11,14 @@ scan = pathlib.Path(__file__).resolve().parents[2] / 'tools/example-surface'  # 
 text = subprocess.run([sys.executable, scan], capture_output=True, check=True).stdout
 points = np.array(text.split(), dtype=float).reshape(-1, 3)
 mesh = hanskup.delaunay(points)
-shape = mesh.alpha(0.3)
+shape = mesh.alpha(0.45)
 triangles = shape.boundary()
 print(f'{len(points)} points, rounded by {mesh.rounding:.1g}: {len(shape.tetrahedra)} tetrahedra, '
       f'{len(triangles)} triangles of the boundary')
-if __name__ == '__main__' and len(sys.argv) > 1 and importlib.util.find_spec('matplotlib'):
+if __name__ == '__main__' and len(sys.argv) > 1:
     from matplotlib import pyplot
-    axes = pyplot.figure().add_subplot(projection='3d')
+    axes = pyplot.figure(figsize=(6, 4)).add_subplot(projection='3d', proj_type='ortho')
     axes.plot_trisurf(*points.T, triangles=triangles)
     axes.set_aspect('equal')
-    pyplot.savefig(sys.argv[1])
+    axes.axis('off')
+    pyplot.savefig(sys.argv[1], bbox_inches='tight')

@@ -40,8 +40,9 @@ _REFUSALS = {
     2: (OutOfRange, f'a coordinate is not 0 to {GREATEST}'),
     3: (Flat, 'no four of the points are independent: all lie in one plane'),
 }
-_ROOM = 4
+_FLAT, _ROOM = 3, 4
 REPLIES = ('inserted', 'duplicate', 'removed', 'missing', 'flat', 'moved', 'occupied')
+_COMES = {0: 1, 2: -1}  # how many points more there are after a reply
 
 
 class _MeshSizes(ctypes.Structure):
@@ -190,9 +191,18 @@ class Edited:
     def __init__(self, places: np.ndarray) -> None:
         """The mesh of places, (n, 3), in any order and with equal ones. Raises Flat too."""
         self._handle, self._lock = _Handle(), threading.Lock()
-        self._count = len(places)
-        given = _given(places)
-        _check(_library.delaunay_c_open(self._handle, *_slices(given)))
+        places = np.unique(places, axis=0)
+        # Points that come in order make long walks: a few are opened, if they are solid, and the others come as drawn.
+        drawn = places[np.random.default_rng(0).permutation(len(places))]
+        for few in (1000, len(places)):
+            given = _given(drawn[:few])
+            status = _library.delaunay_c_open(self._handle, *_slices(given))
+            if status != _FLAT:
+                break
+        _check(status)
+        self._count = min(few, len(places))
+        for place in drawn[few:]:
+            self.add(place)
 
     def __del__(self) -> None:
         if getattr(self, '_handle', None) and self._handle.mesh:
@@ -202,13 +212,12 @@ class Edited:
         reply = ctypes.c_uint8()
         with self._lock:
             _check(call(self._handle, *map(_place, places), reply))
+            self._count += _COMES.get(reply.value, 0)
         return REPLIES[reply.value]
 
     def add(self, place: np.ndarray) -> str:
         """Adds the point at a place: 'inserted' or 'duplicate'."""
-        reply = self._edit(_library.delaunay_c_add, place)
-        self._count += reply == 'inserted'
-        return reply
+        return self._edit(_library.delaunay_c_add, place)
 
     def take(self, place: np.ndarray) -> str:
         """Takes the point at a place away: 'removed', 'missing' or 'flat'."""

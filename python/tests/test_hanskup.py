@@ -270,8 +270,10 @@ class Examples(unittest.TestCase):
         triangles = made['triangles']
         edges = np.sort(triangles[:, [[0, 1], [1, 2], [2, 0]]].reshape(-1, 2))
         edges, counts = np.unique(edges, axis=0, return_counts=True)
-        self.assertTrue((counts % 2 == 0).all())  # closed
+        self.assertTrue((counts == 2).all())  # closed
+        self.assertEqual(len(np.unique(triangles)) - len(edges) + len(triangles), 0)  # a torus
 
+    @unittest.skipUnless(has('scipy'), 'scipy is not installed')
     def test_pockets(self):
         made = runpy.run_path(str(TOP / 'python/examples/pockets.py'))
         self.assertEqual(made['counts'], {'closed shell': 1, 'open shell': 0, 'two shells': 2})

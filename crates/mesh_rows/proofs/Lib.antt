@@ -4,4 +4,3 @@ mod Places
 mod Clouds
 mod RowLaws
 mod Alphas
-mod Rooms
