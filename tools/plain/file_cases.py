@@ -1,5 +1,4 @@
-#!/usr/bin/env python3
-"""Makes the cases of edit files of all versions, which `tools/worked-cases` puts into the input of the program
+"""Makes the cases of edit files of all versions, which `tools/make cases` puts into the input of the program
 `worked_cases`, and the text that is to be printed, from the definition alone.
 
 The first line of a text tells its version, a row of the table here. A text is accepted where its lines are the first
@@ -7,7 +6,7 @@ line, and the lists of that version behind their words, each line of its form an
 before it begin an accepted text and with it they do not; so the fault is found by completing lines with words, and not
 by reading on.
 
-usage: tools/file-cases [DRAWN [SEED]]
+usage: tools/make files [DRAWN [SEED]]
 prints each case with its answer below it; with a number, so many drawn cases and nothing else
 """
 import random

@@ -1,24 +1,17 @@
-#!/usr/bin/env python3
-"""Makes the cases of the lowest layers, which `tools/worked-cases` puts into the input of the program `worked_cases`, and the text that
+"""Makes the cases of the lowest layers, which `tools/make cases` puts into the input of the program `worked_cases`, and the text that
 is to be printed, from the definitions alone.
 
 Keys are counted, orientations and spheres are determinants of whole numbers, squared radii are fractions, complexes and what
-is Gabriel in them are those of the plain program of `tools/random-cases`, and ends are played call by call. Most cases have besides
+is Gabriel in them are those of the plain program of `tools/try random`, and ends are played call by call. Most cases have besides
 what was worked by hand, or by another program, when they were written: the two must agree.
 
-usage: tools/layer-cases
+usage: tools/make layers
 prints each case with its answer below it
 """
-import importlib.machinery
-import importlib.util
 import math
-import os
 from itertools import combinations, product
 
-TOP = os.path.join(os.path.dirname(os.path.realpath(__file__)), '..')
-loader = importlib.machinery.SourceFileLoader('random_cases', os.path.join(TOP, 'tools', 'random-cases'))
-plain = importlib.util.module_from_spec(importlib.util.spec_from_loader('random_cases', loader))
-loader.exec_module(plain)
+from plain import random_cases as plain
 
 NONE, FAR = 1 << 34, 16383
 LAST, MAX = (FAR, FAR, FAR), (1 << 64) - 1

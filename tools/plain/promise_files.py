@@ -1,4 +1,3 @@
-#!/usr/bin/env python3
 """Lists the files of definitions that the promise of the top call rests on, lowest first, with their numbers of lines.
 
 It begins with what the contract of `run` and the laws of its end cite, and follows the imports of each file. Types that
@@ -6,10 +5,9 @@ the compiler declares from the sources, and the words of the standard library, a
 """
 import os
 import re
-import sys
 
 PROMISES = ['crates/delaunay_cli/src/top.rt', 'crates/delaunay_cli/src/laws.rt']
-TOP = os.path.join(os.path.dirname(os.path.realpath(__file__)), '..')
+TOP = os.path.join(os.path.dirname(os.path.realpath(__file__)), '../..')
 CITED = re.compile(r'^\s*(?:ghost |pub )?use Rattle\.(\w+)\.specs\.([\w.]+?)(?:\.\{| as |$)')
 IMPORT = re.compile(r'^(?:pub )?use [^{\n]*(?:\{[^}]*\})?.*\n', re.M)
 

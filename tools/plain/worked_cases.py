@@ -1,35 +1,21 @@
-#!/usr/bin/env python3
 """Makes the input of the program `worked_cases`, and the text that it is to print, from the definitions alone.
 
-What a mesh, its faces, a bucket and a refill are to say is found by the plain program of `tools/random-cases`, which
+What a mesh, its faces, a bucket and a refill are to say is found by the plain program of `tools/try random`, which
 was written from the definitions and not from the code, and tries all quadruples and triples. Edits are played on
 sets of points, moves among them. The cases of walks were worked by hand, and some of texts. Those of the lowest
-layers are made by `tools/layer-cases`, those of edit files of all versions by `tools/file-cases`, and those of meshes
-that are read and checked by `tools/mesh-cases`.
+layers are made by `tools/make layers`, those of edit files of all versions by `tools/make files`, and those of meshes
+that are read and checked by `tools/make meshes`.
 
-usage: tools/worked-cases
+usage: tools/make cases
 writes crates/worked_cases/stdin and crates/worked_cases/stdout
 """
-import importlib.machinery
-import importlib.util
 import os
 import random
 from itertools import combinations
 
-TOP = os.path.join(os.path.dirname(os.path.realpath(__file__)), '..')
+from plain import file_cases as files, layer_cases as layers, mesh_cases as meshes, random_cases as plain
 
-
-def load(name):
-    loader = importlib.machinery.SourceFileLoader(name, os.path.join(TOP, 'tools', name.replace('_', '-')))
-    module = importlib.util.module_from_spec(importlib.util.spec_from_loader(name, loader))
-    loader.exec_module(module)
-    return module
-
-
-plain = load('random_cases')
-layers = load('layer_cases')
-meshes = load('mesh_cases')
-files = load('file_cases')
+TOP = os.path.join(os.path.dirname(os.path.realpath(__file__)), '../..')
 FOUR = [(0, 0, 0), (2, 0, 0), (0, 2, 0), (0, 0, 2)]
 CUBE = [(x, y, z) for x in (0, 2) for y in (0, 2) for z in (0, 2)]
 INNER = [*FOUR, (1, 1, 1)]

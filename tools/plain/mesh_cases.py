@@ -1,26 +1,20 @@
-#!/usr/bin/env python3
-"""Makes the cases of meshes that are read and checked, which `tools/worked-cases` puts into the input of the program
+"""Makes the cases of meshes that are read and checked, which `tools/make cases` puts into the input of the program
 `worked_cases`, and the text that is to be printed, from the definitions alone.
 
-The reader is one of its own, and cells, sides and spheres are those of the plain program of `tools/random-cases`. Some
+The reader is one of its own, and cells, sides and spheres are those of the plain program of `tools/try random`. Some
 answers were worked by hand besides.
 
-usage: tools/mesh-cases [DRAWN [SEED]]
+usage: tools/make meshes [DRAWN [SEED]]
 prints each case with its answer below it; with a number, so many drawn cases and nothing else
 """
-import importlib.machinery
-import importlib.util
-import os
 import random
 import re
 import sys
 from itertools import combinations, product
 
+from plain import random_cases as plain
+
 sys.dont_write_bytecode = True
-TOP = os.path.join(os.path.dirname(os.path.realpath(__file__)), '..')
-loader = importlib.machinery.SourceFileLoader('random_cases', os.path.join(TOP, 'tools', 'random-cases'))
-plain = importlib.util.module_from_spec(importlib.util.spec_from_loader('random_cases', loader))
-loader.exec_module(plain)
 
 A, B, C, D = FOUR = [(0, 0, 0), (0, 0, 2), (0, 2, 0), (2, 0, 0)]
 CUBE = [(x, y, z) for x in (0, 2) for y in (0, 2) for z in (0, 2)]

@@ -1,16 +1,15 @@
-#!/usr/bin/env python3
 """Gives the built program inputs that are long and hard, and looks at its status, its line, its time and its memory.
 
 Each is to be answered with its status and line, within ten seconds of processor time and 200 MB. The last line is 'N passed, M failed'.
 
-usage: tools/hard-inputs [PROGRAM]
+usage: tools/try long [PROGRAM]
 """
 import os
 import resource
 import subprocess
 import sys
 
-TOP = os.path.join(os.path.dirname(os.path.realpath(__file__)), '..')
+TOP = os.path.join(os.path.dirname(os.path.realpath(__file__)), '../..')
 LIMIT = 16 * 1024 * 1024
 HEAD, EMPTY = b'mesh3 1\npoints\n', b'mesh3 1\npoints\nedits\nradii\n'
 REST = b'0 0 1\n0 1 0\n1 0 0\nedits\nradii\nend\n'

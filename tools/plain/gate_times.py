@@ -1,7 +1,6 @@
-#!/usr/bin/env python3
 """Tells what the gate costs: processor seconds of each crate's proof, tests, seeds and must-fail edits.
 
-    tools/gate-times [COMMAND ..]       runs the command at the top of the repository (without one: rt ci), and then prints the table
+    tools/measure gate [COMMAND ..]       runs the command at the top of the repository (without one: rt ci), and then prints the table
 
 A seed is the second proof of a crate over which its edits are tried, and what shows at the end that the seed is still one. Some kits
 make no seed by itself: there a crate's first edit is tried from nothing, and its whole check is counted as the seed. Nothing is asked
@@ -17,7 +16,7 @@ import subprocess
 import sys
 import time
 
-TOP = os.path.dirname(os.path.dirname(os.path.realpath(__file__)))
+TOP = os.path.dirname(os.path.dirname(os.path.dirname(os.path.realpath(__file__))))
 TICK = os.sysconf("SC_CLK_TCK")
 KINDS = ("proof", "tests", "seeds", "edits")
 

@@ -1,31 +1,19 @@
-#!/usr/bin/env python3
 """Makes the input of the program `table_scenes`, and the text that it is to print, from the definitions alone.
 
 A model of a table and its passes, written from docs/DEFINITIONS.md and not from the code, says what each scene comes to: which edit meets
 which bucket, the numbers and the replies, what is left over, and the lists that are dealt. Cells and touched buckets are found by the plain
-program of `tools/random-cases`, by trial of all quadruples and triples. Boards come from `tools/board-events`, runs of the top call from
-`tools/run-cases`.
+program of `tools/try random`, by trial of all quadruples and triples. Boards come from `tools/make boards`, runs of the top call from
+`tools/make runs`.
 
-usage: tools/table-scenes
+usage: tools/make scenes
 writes crates/table_scenes/stdin and crates/table_scenes/stdout
 """
-import importlib.machinery
-import importlib.util
 import os
 import random
 
-TOP = os.path.join(os.path.dirname(os.path.realpath(__file__)), '..')
+from plain import board_events as boards, random_cases as plain, run_cases as runs
 
-
-def load(name):
-    loader = importlib.machinery.SourceFileLoader(name, os.path.join(TOP, 'tools', name.replace('_', '-')))
-    module = importlib.util.module_from_spec(importlib.util.spec_from_loader(name, loader))
-    loader.exec_module(module)
-    return module
-
-
-plain, boards, runs = map(load, ('random_cases', 'board_events', 'run_cases'))
-
+TOP = os.path.join(os.path.dirname(os.path.realpath(__file__)), '../..')
 FOUR = [(0, 0, 0), (2, 0, 0), (0, 2, 0), (0, 0, 2)]
 FIRST = [(100, 100, 100), (100, 100, 120), (100, 120, 100), (120, 100, 100)]
 EIGHT = [(x, y, z) for x in (100, 120) for y in (100, 120) for z in (100, 120)]

@@ -1,5 +1,4 @@
-#!/usr/bin/env python3
-"""Makes the boards and events that `tools/table-scenes` puts into the input of the program `table_scenes`, and the text that is to be
+"""Makes the boards and events that `tools/make scenes` puts into the input of the program `table_scenes`, and the text that is to be
 printed, from the definitions alone.
 
 The model below was written from docs/DEFINITIONS.md and not from the code: a board, what each event makes of it, and when it is good.
@@ -7,7 +6,7 @@ It tries all quadruples and triples of points for a complex. After every event i
 commits by two passes whether they commute. The first three boards are worked by hand; the others are drawn, with few points, many of
 them at the borders of buckets.
 
-usage: tools/board-events [BOARDS] [SEED]   (24 1)
+usage: tools/make boards [BOARDS] [SEED]   (24 1)
 prints each line with its answer below it, and what was played
 """
 import copy

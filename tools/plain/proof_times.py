@@ -1,7 +1,6 @@
-#!/usr/bin/env python3
 """Tells which functions of a crate are dear to prove: checks the crate from nothing with one job, and prints the seconds of each.
 
-    tools/proof-times CRATE [COUNT]     the COUNT dearest functions and files of proofs (30), and the sums by kind of module
+    tools/measure proof CRATE [COUNT]     the COUNT dearest functions and files of proofs (30), and the sums by kind of module
 
 The crates below are to be proved already (`rt lib` in the crate's folder). The checker writes each module when it has proved it, so the
 time of one is that since the one before it was written: on a busy machine all are too great, and only the proportions count. The
@@ -16,7 +15,7 @@ import subprocess
 import sys
 import tempfile
 
-TOP = os.path.dirname(os.path.dirname(os.path.realpath(__file__)))
+TOP = os.path.dirname(os.path.dirname(os.path.dirname(os.path.realpath(__file__))))
 sys.path.insert(0, os.path.dirname(os.path.realpath(shutil.which("rt") or sys.exit("no rt on the path"))))
 import rtlib  # noqa: E402 (the kit's own, beside rt)
 

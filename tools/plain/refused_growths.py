@@ -1,4 +1,3 @@
-#!/usr/bin/env python3
 """Refuses one allocation of the built program after another, and looks at what it answers.
 
 A small library stands before the C library's allocator and refuses the Nth call for memory, for N of 1, 2, .. until a
@@ -8,14 +7,14 @@ thread's passes of `table_scenes`, which makes a refused call of the table once 
 undisturbed one, or with another status than 0 and a front of its output. The last line is 'N passed, M failed'. Needs a
 C compiler. By hand, not part of the gate.
 
-usage: tools/refused-growths [PROGRAM [SCENES]]
+usage: tools/try memory [PROGRAM [SCENES]]
 """
 import os
 import subprocess
 import sys
 import tempfile
 
-TOP = os.path.join(os.path.dirname(os.path.realpath(__file__)), '..')
+TOP = os.path.join(os.path.dirname(os.path.realpath(__file__)), '../..')
 LINE = b'delaunay: out of memory\n'
 MOST = 5000  # refusals tried of one command
 SHIM = r'''

@@ -1,4 +1,3 @@
-#!/usr/bin/env python3
 """Runs the built program over drawn edit files and compares every byte with a plain program over the definitions.
 
 The files are small and full of ties: few points, few coordinates, at borders of the grid's cubes. The plain program
@@ -16,7 +15,7 @@ one worker and with one choice of more: what is compared most is the shapes, or 
 file has points alone, some of them twice. With --moves it is of a version with moves, and most edits move a point;
 its radii count sixteenths from version 3 on, and in version 4 it has queries, which are read and not used.
 
-usage: tools/random-cases [--radii | --takes | --points | --moves] [FILES] [SEED]   (200 1)
+usage: tools/try random [--radii | --takes | --points | --moves] [FILES] [SEED]   (200 1)
 """
 import os
 import random
@@ -25,7 +24,7 @@ import sys
 from fractions import Fraction
 from itertools import combinations
 
-PROGRAM = os.path.join(os.path.dirname(os.path.realpath(__file__)), '../crates/delaunay/out/delaunay')
+PROGRAM = os.path.join(os.path.dirname(os.path.realpath(__file__)), '../../crates/delaunay/out/delaunay')
 
 
 def minus(a, b):

@@ -1,31 +1,17 @@
-#!/usr/bin/env python3
-"""Has eight threads edit one mesh where its buckets meet, and judges what they leave by the plain program of `tools/random-cases`.
+"""Has eight threads edit one mesh where its buckets meet, and judges what they leave by the plain program of `tools/try random`.
 
 Each file has a thousand edits of a score of points in small boxes at corners of buckets, so that nearly every edit touches buckets of
 others and many claims fail. The order that the program tells must keep the file; the replies, the points that are left and the cells
 must be those of the lines in that order, by trial of all quadruples and triples. For each file it is told how many lines stand in
 another place than by one worker. The last line is 'N passed, M failed'. By hand, not part of the gate.
 
-usage: tools/stress-threads [FILES] [SEED] [WORKERS]   (20 1 8)
+usage: tools/try threads [FILES] [SEED] [WORKERS]   (20 1 8)
 """
-import importlib.machinery
-import importlib.util
-import os
 import random
 import subprocess
 import sys
 
-HERE = os.path.dirname(os.path.realpath(__file__))
-
-
-def load(name):
-    loader = importlib.machinery.SourceFileLoader(name, os.path.join(HERE, 'random-cases'))
-    module = importlib.util.module_from_spec(importlib.util.spec_from_loader(name, loader))
-    loader.exec_module(module)
-    return module
-
-
-plain = load('random_cases')
+from plain import random_cases as plain
 
 
 def drawn_file(grid):

@@ -1,23 +1,16 @@
-#!/usr/bin/env python3
-"""Makes the runs that `tools/table-scenes` puts into the input of the program `table_scenes`, and the text that is to be printed, from the
+"""Makes the runs that `tools/make scenes` puts into the input of the program `table_scenes`, and the text that is to be printed, from the
 definitions and formats alone.
 
 A run's status and its fault go by docs/FORMATS.md, written here anew; its text is that of the plain program of
-`tools/random-cases`, which tries all quadruples and triples. An end gives or takes so many bytes a call, so the numbers of its
+`tools/try random`, which tries all quadruples and triples. An end gives or takes so many bytes a call, so the numbers of its
 calls, and what it has taken before one of them fails, are counted. The program reads 4,096 bytes at a time.
 
-usage: tools/run-cases
+usage: tools/make runs
 prints each run with its answer below it
 """
-import importlib.machinery
-import importlib.util
-import os
 import re
 
-TOP = os.path.join(os.path.dirname(os.path.realpath(__file__)), '..')
-loader = importlib.machinery.SourceFileLoader('random_cases', os.path.join(TOP, 'tools', 'random-cases'))
-plain = importlib.util.module_from_spec(importlib.util.spec_from_loader('random_cases', loader))
-loader.exec_module(plain)
+from plain import random_cases as plain
 
 PAGE, LIMIT = 4096, 16_777_216
 LINES = {0: '', 2: 'usage', 3: 'read fault', 4: 'write fault', 6: 'no four independent points', 7: 'input too long'}

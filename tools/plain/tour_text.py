@@ -1,25 +1,14 @@
-#!/usr/bin/env python3
-"""Makes the text that the program `tour` is to print, from the definitions alone, by the plain program of `tools/random-cases`.
+"""Makes the text that the program `tour` is to print, from the definitions alone, by the plain program of `tools/try random`.
 
-usage: tools/tour-text
+usage: tools/make tour
 writes crates/tour/stdout
 """
-import importlib.machinery
-import importlib.util
 import os
 from itertools import product
 
-TOP = os.path.join(os.path.dirname(os.path.realpath(__file__)), '..')
+from plain import random_cases as plain
 
-
-def load(name):
-    loader = importlib.machinery.SourceFileLoader(name, os.path.join(TOP, 'tools', 'random-cases'))
-    module = importlib.util.module_from_spec(importlib.util.spec_from_loader(name, loader))
-    loader.exec_module(module)
-    return module
-
-
-plain = load('random_cases')
+TOP = os.path.join(os.path.dirname(os.path.realpath(__file__)), '../..')
 FOUR = [(0, 0, 0), (20, 0, 0), (0, 20, 0), (0, 0, 20)]
 CORNER = (20, 20, 20)
 BESIDE = (1, 30, 30)
