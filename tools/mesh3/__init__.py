@@ -129,3 +129,8 @@ def _write(name, mesh):
 
 
 meshio.register_format('mesh3', ['.mesh3'], _read, {'mesh3': _write})
+
+# What callers find here too.
+from mesh3.faces import against, boundary_of, hull_of, keys_of, neighbours_of  # noqa: E402,F401
+from mesh3.faces import triangles_of, turned_outwards  # noqa: E402,F401
+from mesh3.placing import Placing  # noqa: E402,F401
