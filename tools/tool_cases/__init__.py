@@ -44,9 +44,11 @@ def library(name):
 
 
 def is_built():
-    if os.access(PROGRAM, os.X_OK):
+    """Whether the program is there and as new as its sources; no case is to build it."""
+    told = subprocess.run([os.path.join(TOP, 'delaunay'), '--version'], capture_output=True, check=False).stdout
+    if b'\nbuilt' in told:
         return True
-    skip('the program is not built')
+    skip('the program is not built, or older than its sources')
     return False
 
 
