@@ -108,8 +108,8 @@ uint8_t delaunay_c_alphas(const struct delaunay_c_place *given, size_t given_len
  *
  * - `mesh` is written by these calls alone, after the {0}: it is null, or a mesh that delaunay_c_open made.
  * - The struct is not copied while it has a mesh, or the copy is not given to a call; it may be moved.
- * - One call at a time has the handle, and all from one thread, also those that only look. Calls with other handles may
- *   run at once on other threads.
+ * - One call at a time has the handle, also those that only look. It may go from one thread to another, by a lock, a
+ *   thread's start or join, or a sequentially consistent atomic. Calls with other handles may run at once.
  *
  * delaunay_c_close frees the mesh. */
 struct delaunay_c_handle {

@@ -1,8 +1,7 @@
 //! Hanskup: the Delaunay triangulation of points in space, and its alpha complexes, from one crate.
 //!
 //! Points have whole coordinates from 0 to 16383; ties are broken by one fixed rule; all is exact and proved. This
-//! crate passes on what a program needs of the library, and adds `locate`. The program `tour` calls it, and runs as it
-//! stands.
+//! crate passes on what a program needs of the library. The program `tour` calls it, and runs as it stands.
 //!
 //! | I want | call |
 //! |---|---|
@@ -33,7 +32,6 @@
 //! ```
 #![tactic(auto)]
 
-mod place;
 pub mod table;
 
 pub use alpha_complex::{Alphas, Kind, Shape, alpha, alphas};
@@ -50,9 +48,9 @@ pub use mesh_check::{Flaw, Verdict, check};
 pub use mesh_files::{
     MeshFile, Report, mesh_text, off_text, put_report, read_mesh, shape_text, summary_text,
 };
+pub use mesh_handle::{Location, locate};
 pub use near_vertex::{NearStart, NearTurn, NearWalk, nearest};
 pub use one_mesh::{Receipt, apply, begin, complex, history, opening_points, points};
-pub use place::{Location, locate};
 pub use point_order::{Cell, Facet, OutOfRange, Pair, Point, Quad, Tri};
 pub use solid_parts::{Part, PartSize, boundary, least_alpha, parts, put_parts, sizes};
 pub use sphere_ties::{conflict, outside};

@@ -27,6 +27,9 @@ impl Model for MeshHandle {
     ghost also_owns = { λ h. keeps h.at h.mesh };
 }
 
+// What it owns, a block of the heap with a mesh, may go from one thread to another: `proofs` shows it.
+unsafe impl Send for MeshHandle {}
+
 impl MeshHandle {
     /// The handle with no mesh.
     pub fn empty() -> MeshHandle
@@ -79,8 +82,8 @@ impl MeshHandle {
     }
 }
 
-/// Frees the mesh of a handle, if there is one.
-pub(crate) fn free(alloc: Global, handle: MeshHandle) {
+/// Lets a handle go, and frees its mesh, if there is one.
+pub fn free(alloc: Global, handle: MeshHandle) {
     if let Some(loose) = handle.into_loose(alloc) {
         drop(loose.into_box());
     }

@@ -9,7 +9,7 @@
 //! open(alloc, &mut handle, &places)?;              // in any order; of which some may be equal
 //! let reply = add(alloc, &mut handle, &place)?;    // want of memory leaves the mesh as before
 //! let made = rows(alloc, &mut handle)?;            // points, cells, neighbours, hull
-//! close(alloc, handle);
+//! free(alloc, handle);                          // a handle is not dropped
 //! ```
 #![tactic(auto)]
 
@@ -22,7 +22,7 @@ mod place;
 mod refusal;
 
 pub use edits::{add, shift, take};
-pub use handle::MeshHandle;
+pub use handle::{MeshHandle, free};
 pub use looks::{Located, find, nearest_to, rows};
 pub use opening::{close, open};
 pub use place::{Location, locate};
