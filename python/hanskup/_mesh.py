@@ -1,7 +1,6 @@
 """Meshes of points as numpy has them."""
 from __future__ import annotations
 
-import importlib.util
 import warnings
 from collections import Counter
 from functools import cached_property
@@ -31,6 +30,15 @@ class Located(NamedTuple):
     """
     kinds: np.ndarray  #: (k,) POINT, CELL or BEYOND_HULL
     corners: np.ndarray  #: (k, 4) indices of the point, the tetrahedron or the triangle; -1 behind them
+
+
+def _with_bar(steps: range) -> Iterable[int]:
+    """The steps, with a bar on a terminal where tqdm is installed and they take more than a second."""
+    try:
+        from tqdm import tqdm
+    except ImportError:
+        return steps
+    return tqdm(steps, unit='edit', delay=1, disable=None)
 
 
 class Mesh(Arrays):
@@ -99,10 +107,7 @@ class Mesh(Arrays):
     def _each(self, count: int, edit: Callable[[int], str], progress: bool) -> np.ndarray:
         """The replies of edits one by one; those before a want of memory stay made."""
         replies = np.full(count, '', dtype='<U9')
-        steps: Iterable[int] = range(count)
-        if progress and importlib.util.find_spec('tqdm'):
-            from tqdm import tqdm
-            steps = tqdm(steps, unit='edit', delay=1, disable=None)
+        steps = _with_bar(range(count)) if progress else range(count)
         self._handle, self._together  # both from what is there before
         self._forget()
         for k in steps:

@@ -3,7 +3,9 @@ are left, and from scipy."""
 import pathlib
 import sys
 import threading
+import types
 import unittest
+from unittest import mock
 
 import numpy as np
 
@@ -241,6 +243,24 @@ class Refused(unittest.TestCase):
         self.assertEqual(caught.exception.replies.tolist(), ['inserted', 'inserted'])
         self.assertEqual(len(mesh.points), 52)
         same_mesh(self, mesh)
+
+
+class Progress(unittest.TestCase):
+    def test_bar(self):
+        bars = []
+
+        def tqdm(steps, **words):
+            bars.append((len(steps), words['unit']))
+            return steps
+
+        with mock.patch.dict(sys.modules, tqdm=types.SimpleNamespace(tqdm=tqdm)):
+            mesh = hanskup.delaunay(drawn(20))
+            mesh.add(drawn(7, seed=8))
+            mesh.take([0, 1])
+            mesh.move([2, 3], [[1, 2, 3], [4, 5, 6]], progress=False)
+        self.assertEqual(bars, [(7, 'edit'), (2, 'edit')])
+        with mock.patch.dict(sys.modules, tqdm=None):  # so that it cannot be imported
+            self.assertEqual(mesh.add([9, 9, 9]).tolist(), ['inserted'])
 
 
 class Threads(unittest.TestCase):
