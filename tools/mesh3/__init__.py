@@ -21,9 +21,10 @@ except ImportError as missing:
 GREATEST = 16383
 MOST_LINES = 262144
 MOST_RADII = 16
-GREATEST_RADIUS = 1073741823
+GREATEST_RADIUS = 1073741823  # a squared radius, as versions 1 and 2 count it
+SIXTEENTHS = 16  # of a squared radius, as version 3 counts it
 KINDS = ('singular', 'regular', 'interior')
-REPLIES = ('Inserted', 'Duplicate', 'Removed', 'Missing', 'Flat')
+REPLIES = ('Inserted', 'Duplicate', 'Removed', 'Missing', 'Flat', 'Moved', 'Occupied')
 NO_ALPHA = 1 << 34  # a face that no alpha admits: each alpha is below it
 
 
@@ -73,9 +74,10 @@ def read_bytes(name):
 # ---- edit files
 
 
-def write_edit_file(file, points, radii=()):
-    """An edit file of whole points and squared radii, to a file that takes text."""
-    file.write('mesh3 1\npoints\n')
+def write_edit_file(file, points, radii=(), version=1):
+    """An edit file of whole points, shape (n, 3), to a file that takes text. Its radii are squared, in the square of the
+    grid's unit, and from version 3 on in sixteenths of it."""
+    file.write(f'mesh3 {version}\npoints\n')
     for start in range(0, len(points), 65536):
         rows = points[start:start + 65536].tolist()
         file.write(''.join(f'{x} {y} {z}\n' for x, y, z in rows))
@@ -91,7 +93,7 @@ def lines_of_points(name, report):
         index[tuple(p)] = i
     number = 0
     for number, line in enumerate(read_bytes(name).decode('ascii', 'replace').split('\n'), 1):
-        if line in ('points', 'edits', 'radii', 'end'):
+        if line in ('points', 'edits', 'radii', 'queries', 'end'):
             section = line
         elif section in ('points', 'edits') and line:
             try:
@@ -99,9 +101,11 @@ def lines_of_points(name, report):
                 word = REPLIES[next(reply)]
             except (ValueError, StopIteration):
                 raise Trouble(f'{name}: line {number}: this is not the edit file of the report') from None
-            if word == 'Inserted':
+            if word in ('Inserted', 'Moved'):
                 bringing[point] = number
-            elif word == 'Removed':
+            if word == 'Moved':
+                point = tuple(int(word) for word in line.split()[1:4])
+            if word in ('Removed', 'Moved'):
                 bringing.pop(point, None)
     if set(bringing) != set(index):
         raise Trouble(f'{name}: this is not the edit file of the report')

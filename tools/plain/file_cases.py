@@ -109,6 +109,8 @@ def file_of(lines, newest=4):
 def begins(lines, newest=4):
     """Whether some file begins with these lines: all lists may be empty, so the words that are missing end one."""
     for title, row in VERSIONS.items():
+        if lines and lines[0] != title:
+            continue
         words = [title, *words_of(row)]
         for missing in range(len(words) + 1):
             if file_of([*lines, *words[len(words) - missing:]], newest) is not None:
@@ -137,7 +139,9 @@ def read(text, newest=4):
     file = file_of(lines, newest)
     if file is not None:
         return file
-    low, high = 0, len(lines) + 1  # of these first lines the first begin a file, and the second do not
+    low, high = 0, 1  # of these first lines the first begin a file, and the second do not
+    while high <= len(lines) and begins(lines[:high], newest):
+        low, high = high, min(2 * high, len(lines) + 1)
     while high - low > 1:
         middle = (low + high) // 2
         low, high = (middle, high) if begins(lines[:middle], newest) else (low, middle)

@@ -1,63 +1,20 @@
 """Makes the runs that `tools/make scenes` puts into the input of the program `table_scenes`, and the text that is to be printed, from the
 definitions and formats alone.
 
-A run's status and its fault go by docs/FORMATS.md, written here anew; its text is that of the plain program of
+A run's status goes by docs/FORMATS.md, and its fault by the model of `tools/make files`; its text is that of the plain program of
 `tools/try random`, which tries all quadruples and triples. An end gives or takes so many bytes a call, so the numbers of its
 calls, and what it has taken before one of them fails, are counted. The program reads 4,096 bytes at a time.
 
 usage: tools/make runs
 prints each run with its answer below it
 """
-import re
-
+from plain import file_cases as files
 from plain import random_cases as plain
 
 PAGE, LIMIT = 4096, 16_777_216
 LINES = {0: '', 2: 'usage', 3: 'read fault', 4: 'write fault', 6: 'no four independent points', 7: 'input too long'}
 FOUR = [(0, 0, 0), (2, 0, 0), (0, 2, 0), (0, 0, 2)]
 TETRAHEDRON = plain.text_of(FOUR, [], [])
-
-
-# ---- edit files
-
-def fault_of(text):
-    """The number of the bad line and the word, or none."""
-    lines = text.split('\n')
-    lines = lines[:-1] if lines[-1] == '' else lines
-    sections, place, taken = ('points', 'edits', 'radii', 'end'), 0, 0
-    for number, line in enumerate(lines, 1):
-        if number == 1:
-            if line != 'mesh3 1':
-                return 1, 'Section'
-        elif place == 4 or (number == 2 and line != 'points'):
-            return number, 'Section'
-        elif line in sections:
-            if line != sections[place]:
-                return number, 'Section'
-            place, taken = place + 1, 0 if line == 'radii' else taken
-        elif taken == (16 if place == 3 else 262_144):
-            return number, 'TooMany'
-        else:
-            form = {1: r'-?\d+ -?\d+ -?\d+', 2: r'[+-] -?\d+ -?\d+ -?\d+', 3: r'-?\d+'}[place]
-            if not re.fullmatch(form, line):
-                return number, 'Field'
-            most = 1_073_741_823 if place == 3 else 16_383
-            for word in line.split(' ')[place == 2:]:
-                digits = word.lstrip('-').lstrip('0')
-                if digits and (word[0] == '-' or len(digits) > 10 or int(digits) > most):
-                    return number, 'Range'
-            taken += 1
-    return None if place == 4 else (len(lines) + 1, 'Truncated')
-
-
-def file_of(text):
-    points, edits, radii = re.fullmatch(r'mesh3 1\npoints\n(.*?)edits\n(.*?)radii\n(.*?)end\n?', text, re.S).groups()
-
-    def numbers(line):
-        return tuple(int(word.lstrip('-0') or '0') for word in line.split())
-
-    return ([numbers(x) for x in points.splitlines()], [(x[0] == '+', numbers(x[2:])) for x in edits.splitlines()],
-            [int(x) for x in radii.splitlines()])
 
 
 # ---- runs
@@ -98,6 +55,11 @@ def bar(text):
     return text.replace('\n', '|')
 
 
+def edit_of(sign, numbers):
+    """An edit as the plain program has it."""
+    return (None, numbers[:3], numbers[3:]) if sign == '=' else (sign == '+', numbers)
+
+
 def outcome(words, text, source, output, kept, written=None):
     """The status, what is told and written, and what is kept. A text that is given is that of a reader, and no file is read."""
     reads = words.split()[:1] in (['mesh'], ['shape'])
@@ -108,14 +70,14 @@ def outcome(words, text, source, output, kept, written=None):
             return 3, '', ''
         if len(text) > LIMIT:
             return 7, '', ''
-        fault = fault_of(text)
-        if fault:
-            return 5, f'line {fault[0]}: {fault[1]}', ''
-        points, edits, radii = file_of(text)
+        file = files.read(text)
+        if not isinstance(file, files.File):
+            return 5, f'line {file[0]}: {file[1]}', ''
+        points, edits = file.points, [edit_of(*edit) for edit in file.edits]
         if not plain.is_solid(points):
             return 6, '', ''
-        radii = radii if words.startswith('shape') else []
-        written = plain.report(points, edits, radii, plain.order_of_one(points, edits), '--order' in words)
+        radii = file.radii if words.startswith('shape') else []
+        written = plain.report(points, edits, radii, plain.order_of_one(points, edits), '--order' in words, file.row.number)
     taken, failed = output.takes(written)
     return (4 if failed else 0), '', taken + '\0' + kept
 
@@ -170,6 +132,13 @@ def all_cases():
     yield 'a duplicate, and three points on a line: one worker begins with four that are independent', case(
         'mesh', plain.text_of([FOUR[0], *FOUR[:2], (4, 0, 0), *FOUR[2:]], [], []), kept=' 0:0 2:0 4:0 5:0 1:0 3:0')
     yield 'a file that is refused', case('mesh', 'mesh3 1\npoints\n16384 0 0\n')
+    moves = [(None, (9, 9, 9), (1, 1, 1)), (None, (0, 0, 0), (0, 0, 0)), (None, (0, 0, 0), (1, 1, 0)), (None, (0, 0, 0), (1, 1, 1)),
+             (True, (0, 0, 0))]
+    yield 'moves out of a corner, with each of their replies', case(
+        'mesh --order', plain.text_of(FOUR, moves, [], 2), kept=OF_FOUR + ' 4:0 5:0 6:0 7:0 8:0')
+    yield 'radii in sixteenths, and queries that are not used', case(
+        'shape', plain.text_of([(0, 0, 0), (1, 0, 0), (0, 1, 0), (0, 0, 1)], [], [3, 4, 8, 11, 12], 4, [(1, 1, 1)]), kept=OF_FOUR)
+    yield 'a version that is none', case('mesh', 'mesh3 5\npoints\n')
     yield 'points in a plane', case('mesh', plain.text_of([(0, 0, 0), (2, 0, 0), (0, 2, 0), (2, 2, 0), (1, 1, 0)], [], []))
     corners = 'mesh3 1\npoints\n0 0 0\n16383 0 0\n0 16383 0\n0 0 16383\nedits\n'
     drawn = corners + '+ 8419 2879 5056\nradii\n16384\n262144\n4194304\nend\n'

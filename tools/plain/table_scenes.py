@@ -31,8 +31,9 @@ def words(points):
 
 
 def pair_word(pair):
-    tag, adds, p = pair
-    return f'{tag}{"+" if adds else "-"}{word(p)}'
+    """A pair is its tag, whether it adds, and its point; a move has None there, and behind its point the new place."""
+    tag, adds, p, *goal = pair
+    return f'{tag}={word(p)}>{word(*goal)}' if goal else f'{tag}{"+" if adds else "-"}{word(p)}'
 
 
 def pair_words(pairs):
@@ -49,15 +50,21 @@ def cells_of(points):
     return [*plain.full_cells(points), *plain.open_cells(points)]
 
 
-def touched(grid, points, adds, p):
-    """The buckets of the point and of the points of all cells that the edit takes away."""
-    reached = {p}
-    if adds != (p in points):
-        before = set(cells_of(points))
-        later = set(cells_of(points | {p} if adds else points - {p})) if adds else {c for c in before if p not in c}
-        for cell in before - later:
-            reached |= set(cell)
-    return {bucket_of(grid, q) for q in reached}
+def lost(points, adds, p):
+    """The cells that go where a new point comes, or those at a point that goes."""
+    before = set(cells_of(points))
+    return before - set(cells_of(points | {p})) if adds else {c for c in before if p in c}
+
+
+def touched(grid, points, adds, p, *goal):
+    """The buckets of the edit's points, and of the points of all cells that it takes away; a move is found as its new place that comes, and
+    then the old one that goes."""
+    cells = set()
+    if not goal:
+        cells = lost(points, adds, p) if adds != (p in points) else cells
+    elif p in points and goal[0] not in points:
+        cells = lost(points, True, goal[0]) | lost(points | {goal[0]}, False, p)
+    return {bucket_of(grid, q) for q in {p, *goal}.union(*cells)}
 
 
 class Table:
@@ -68,18 +75,23 @@ class Table:
         self.history = [None] * len(points)
         self.first = len(points)
 
-    def reply(self, adds, p):
+    def reply(self, adds, p, *goal):
         if adds:
             return 'Duplicate' if p in self.points else 'Inserted'
         if p not in self.points:
             return 'Missing'
-        return 'Removed' if plain.is_solid(self.points - {p}) else 'Flat'
+        if self.points & set(goal):
+            return 'Occupied'
+        if not plain.is_solid(self.points - {p} | set(goal)):
+            return 'Flat'
+        return 'Moved' if goal else 'Removed'
 
     def commit(self, who, pair):
         """The number and the reply of an edit that is made."""
-        tag, adds, p = pair
-        number, reply = len(self.history), self.reply(adds, p)
-        self.points = self.points | {p} if adds else self.points - {p} if reply == 'Removed' else self.points
+        tag, adds, p, *goal = pair
+        number, reply = len(self.history), self.reply(adds, p, *goal)
+        if reply in ('Inserted', 'Removed', 'Moved'):
+            self.points = self.points | {p} if adds else self.points - {p} | set(goal)
         self.history.append((number, who, tag, reply))
         return number, reply
 
@@ -107,17 +119,16 @@ class Pass:
         self.parts, self.left, self.seen = self.parts + other.parts, self.left + other.left, max(self.seen, other.seen)
 
     def busy(self, own, buckets):
-        """The bucket of another pass that a claim of these meets. The point's own comes first; the order of the others no clause tells, so
-        no more than one of them may be held."""
-        met = [b for b in buckets if b in self.table.held]
-        met = [own] if own in met else met
-        assert len(met) < 2
+        """The bucket of another pass that a claim of these meets. Those of the edit's own points come first, in their order; the order of the
+        others no clause tells, so no more than one of them may be held."""
+        met = [b for b in (*own, *sorted(buckets)) if b in self.table.held]
+        assert len(set(met)) < 2 or met[0] in own
         return f' busy {met[0]} word {self.table.held[met[0]] + 1};' if met else None
 
     def edit(self, pair):
         if self.left == 0:
             return ' spent;'
-        busy = self.busy(bucket_of(self.table.grid, pair[2]), touched(self.table.grid, self.table.points, pair[1], pair[2]))
+        busy = self.busy([bucket_of(self.table.grid, p) for p in pair[2:]], touched(self.table.grid, self.table.points, *pair[1:]))
         if busy:
             return busy
         number, reply = self.table.commit(self.first, pair)
@@ -141,9 +152,9 @@ class Pass:
     def work(self, pairs):
         over, points = [], set()
         for pair in pairs:
-            if pair[2] in points or self.edit(pair).startswith(' busy'):
+            if points & set(pair[2:]) or self.edit(pair).startswith(' busy'):
                 over.append(pair[0])
-                points.add(pair[2])
+                points |= set(pair[2:])
         return ' left over' + ''.join(f' {tag}' for tag in over) + ';'
 
     def follow(self, orders):
@@ -183,7 +194,7 @@ def kept_scene(grid, points, number, moment, pair, meanwhile, later):
     passes = zero, zero.split(1, 8)
     kept, free = passes[number], passes[1 - number]
     early = moment in ('Committed', 'Done')
-    buckets = touched(grid, table.points, pair[1], pair[2])
+    buckets = touched(grid, table.points, *pair[1:])
     told = kept.edit(pair) if early else None
     if moment in ('Ready', 'Committed'):
         table.held = {b: kept.first for b in buckets}
@@ -200,17 +211,54 @@ def meet_scene(grid, points, one, two):
     yield f' true true {len(points) + 2} entries'
 
 
+def segments_of(pairs):
+    """Pairs cut into segments: one that shares a point with an earlier one of the present segment begins a new one where either moves."""
+    segments = [[]]
+    for pair in pairs:
+        if any(set(pair[2:]) & set(other[2:]) and None in (pair[1], other[1]) for other in segments[-1]):
+            segments.append([])
+        segments[-1].append(pair)
+    return segments
+
+
+def lines_of(points, edits):
+    """The places of the opening four, and the lines of a file: its points as adds, and its edits, each with its place."""
+    return plain.opening_four(points), [(tag, *line) for tag, line in enumerate([*((True, p) for p in points), *edits])]
+
+
 def deal_scene(workers, points, edits):
-    """The lines but the opening four, each to the worker that the key of its point modulo their number names."""
-    lines = points + [p for _, p in edits]
-    four = plain.opening_four(points)
-    lists = [[] for _ in range(workers)]
-    for tag, (x, y, z) in enumerate(lines):
-        if tag not in four:
+    """The lines but the opening four, cut into segments, each line to the worker that the key of its point modulo their number names."""
+    four, lines = lines_of(points, edits)
+    text = ''
+    for segment in segments_of([line for line in lines if line[0] not in four]):
+        lists = [[] for _ in range(workers)]
+        for tag, _, (x, y, z), *_ in segment:
             lists[(x * 2**28 + y * 2**14 + z) % workers].append(tag)
-    pairs = [(len(points) + i, adds, p) for i, (adds, p) in enumerate(edits)]
-    yield f'deal {workers}; {words(points)}; {pair_words(pairs)}'
-    yield ''.join(' list' + ''.join(f' {tag}' for tag in tags) + ';' for tags in lists)
+        text += ' segment' + ''.join(' list' + ''.join(f' {tag}' for tag in tags) + ';' for tags in lists)
+    yield f'deal {workers}; {words(points)}; {pair_words(lines[len(points):])}'
+    yield text
+
+
+def make_scene(grid, points, workers, edits):
+    """The replies and the set of one thread, which all workers have where the file is anchored or each segment has one order."""
+    four, lines = lines_of(points, edits)
+    table = Table(grid, [])
+    replies = {}
+    for line in sorted(lines, key=lambda line: line[0] not in four):
+        replies[line[0]] = table.commit(0, line)[1]
+    yield f'make {grid}; {words(points)}; {workers}; {pair_words(lines[len(points):])}'
+    yield ''.join(f' {replies[line[0]]}' for line in lines) + ';' + table.shot()
+
+
+def drawn_moves(seed, corners, side, count):
+    """Points and edits of an anchored file: corners that stay, and adds, takes and moves among a few places of a small box between them."""
+    draw = random.Random(seed)
+    places = draw.sample([(x, y, z) for x in range(1, side) for y in range(1, side) for z in range(1, side)], 9)
+    edits = []
+    for _ in range(count):
+        kind = draw.choice((True, True, False, None, None, None))
+        edits.append((kind, *(draw.choice(places) for _ in range(1 if kind is not None else 2))))
+    return [*corners, *places[:4]], edits
 
 
 def beside_scene(grid, points, count, lists):
@@ -220,8 +268,8 @@ def beside_scene(grid, points, count, lists):
            f'{len(points) + pairs} made or left over')
 
 
-def drawn_lists(seed, workers, length, box):
-    """A list of edits for each worker, over points of its own in a small box at the corner of eight buckets."""
+def drawn_lists(seed, workers, length, box, moves=False):
+    """A list of edits for each worker, over points of its own in a small box at the corner of eight buckets; half of them moves, if asked."""
     draw = random.Random(seed)
     low, side = box
     points = draw.sample([(low + x, low + y, low + z) for x in range(side) for y in range(side) for z in range(side)], 3 * workers)
@@ -229,7 +277,10 @@ def drawn_lists(seed, workers, length, box):
     for worker in range(workers):
         own, pairs = points[3 * worker:3 * worker + 3], []
         for _ in range(length):
-            pairs.append((tag, draw.random() < 0.6, draw.choice(own)))
+            if moves and draw.random() < 0.5:
+                pairs.append(move(tag, draw.choice(own), draw.choice(own)))
+            else:
+                pairs.append((tag, draw.random() < 0.6, draw.choice(own)))
             tag += 1
         lists.append(pairs)
     return lists
@@ -241,6 +292,10 @@ def take(tag, p):
 
 def add(tag, p):
     return tag, True, p
+
+
+def move(tag, a, b):
+    return tag, None, a, b
 
 
 def all_scenes():
@@ -269,10 +324,46 @@ def all_scenes():
         2, SIXTEEN, 1, 'Ready', add(0, NEAR), ['work', add(20, BESIDE), take(21, BESIDE), add(22, AWAY)], [])
     yield 'work that nothing is in the way of', kept_scene(
         2, SIXTEEN, 0, 'Done', add(0, NEAR), ['work', add(20, BESIDE), take(21, BESIDE), add(22, AWAY)], [])
+    yield 'every reply of a move', passes_scene(
+        2, [*FOUR, NEAR], 2, 20, 1, 10,
+        [move(1, AWAY, NEAR), move(2, NEAR, FOUR[0]), move(3, NEAR, NEAR), move(4, NEAR, AWAY), 'shot'],
+        [take(5, AWAY), move(6, FOUR[3], (1, 1, 0)), move(7, FOUR[3], (3, 3, 3)), 'shot', 'look'])
+    yield 'moves across buckets, and back', passes_scene(
+        4, [(100, 100, 100), (100, 100, 9000), (100, 9000, 100), (9000, 100, 100), (200, 200, 200)], 2, 20, 1, 10,
+        [move(1, (200, 200, 200), (9000, 9000, 9000)), move(2, (9000, 100, 100), (16383, 1, 5000)), 'shot'],
+        [move(3, (9000, 9000, 9000), (200, 200, 200)), move(4, (100, 100, 100), (5000, 5000, 5000)), 'shot'])
+    there = (16005, 16005, 16005)
+    yield 'a move into a bucket of a kept pass, and again when that one has ended', kept_scene(
+        2, SIXTEEN, 1, 'Ready', add(0, AWAY), [move(1, SIXTEEN[0], there), 'look'], [move(1, SIXTEEN[0], there), 'shot'])
+    yield 'a move out of a bucket of a kept pass, and again when that one has ended', kept_scene(
+        2, SIXTEEN, 0, 'Ready', add(0, NEAR), [move(1, SIXTEEN[0], there)], [move(1, SIXTEEN[0], there), move(2, there, SIXTEEN[0])])
+    yield 'a move within a bucket beside a kept pass, and moves that change nothing', kept_scene(
+        2, SIXTEEN, 0, 'Ready', add(0, NEAR), [move(1, FAR[7], AWAY), move(2, FAR[7], AWAY), move(3, AWAY, FAR[0]), move(4, NEAR, AWAY)],
+        [move(5, NEAR, BESIDE), 'shot'])
+    yield 'a move kept at Ready: edits of both its buckets meet it', kept_scene(
+        2, SIXTEEN, 1, 'Ready', move(0, SIXTEEN[7], there), [add(1, NEAR), add(2, AWAY), 'shot', 'look'], [add(1, NEAR), add(2, AWAY), 'shot'])
+    yield 'a kept move that the ticket tells of', kept_scene(
+        2, SIXTEEN, 0, 'Committed', move(0, SIXTEEN[7], BESIDE), ['look', add(1, NEAR), move(2, FAR[0], AWAY)], [add(1, NEAR), 'shot'])
+    yield 'what shares a point with a pair left over is left over too, whichever of them moves', kept_scene(
+        2, SIXTEEN, 1, 'Ready', add(0, NEAR),
+        ['work', add(20, BESIDE), move(21, AWAY, BESIDE), add(22, AWAY), move(23, FAR[7], there), move(24, there, AWAY), take(25, there),
+         take(26, FAR[6])], [])
     yield 'two workers that see each other at Ready', meet_scene(2, SIXTEEN, add(16, NEAR), add(17, AWAY))
     edits = [(True, (1, 1, 1)), (False, (1, 1, 1)), (True, (5, 5, 5)), (True, (0, 0, 7)), (False, (0, 0, 2))]
     for workers in (1, 2, 3, 64):
         yield 'lines that are dealt', deal_scene(workers, [(0, 0, 0), *FOUR, (4, 0, 0)], edits)
+    five = [(None, (9, 9, 9), (1, 1, 1)), (None, FOUR[0], FOUR[0]), (None, FOUR[0], (1, 1, 0)), (None, FOUR[0], (1, 1, 1)), (True, FOUR[0])]
+    for workers in (1, 8):
+        yield 'moves are dealt in segments', deal_scene(workers, FOUR, five)
+        yield 'moves of one point, by one worker and by many', make_scene(1, FOUR, workers, five)
+    corners = [(0, 0, 0), (0, 0, 40), (0, 40, 0), (40, 0, 0)]
+    for seed in range(20, 28):
+        workers = (1, 2, 3, 5, 8, 16, 33, 64)[seed - 20]
+        points, edits = drawn_moves(seed, corners, 5, 14)
+        yield 'drawn moves are dealt in segments', deal_scene(workers, points, edits)
+        yield 'drawn moves are made', make_scene((1, 2, 4, 8, 16)[seed % 5], points, workers, edits)
+    yield 'two workers that move points and see each other at Ready', meet_scene(
+        2, [*SIXTEEN, NEAR, AWAY], move(18, NEAR, BESIDE), move(19, AWAY, there))
     box = [(8190, 8190, 8190), (8190, 8190, 8196), (8190, 8196, 8190), (8196, 8190, 8190)]
     apart = [(100, 100, 100), (100, 100, 16000), (100, 16000, 100), (16000, 100, 100)]
     yield 'four writers far apart, and a reader beside them', beside_scene(
@@ -281,6 +372,9 @@ def all_scenes():
         grid = (1, 2, 4, 8, 16, 2)[seed - 1]
         yield 'four writers where buckets meet, and a reader beside them', beside_scene(
             grid, box, 8, drawn_lists(seed, 4, 10, (8189, 8)))
+    for seed in range(7, 11):
+        yield 'four writers that move points where buckets meet, and a reader beside them', beside_scene(
+            2 ** (seed - 6), box, 8, drawn_lists(seed, 4, 10, (8189, 8), moves=True))
 
 
 def all_lines():

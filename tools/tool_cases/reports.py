@@ -32,6 +32,10 @@ def tetrahedra(work):
     expect(f'the line of each point: {err}', status == 0 and lines == list(range(3, 11)))
     refused('another edit file', 'export', CUBE, name, '--edits', os.path.join(CASES, '01-tetrahedron.in'),
             said='not the edit file')
+    moves = os.path.join(CASES, '70-moves-out-of-a-corner')
+    status, out, err = tool('export', f'{moves}.mesh', name, '--edits', f'{moves}.in')
+    lines = meshio.read(name).point_data['line'].ravel().tolist()
+    expect(f'the line of a point that was moved: {lines}, {err}', status == 0 and lines == [12, 6, 5, 11, 4])
 
 
 def triangles(work):

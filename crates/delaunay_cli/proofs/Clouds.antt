@@ -1,18 +1,19 @@
 -- The history of one thread of a file keeps it for every number of workers.
-use Rattle.std.specs.Prelude.{◌≡◌, ℕ, ◌<◌, List, [], Option, None, Some, IfSome}
+use Rattle.std.specs.Prelude.{◌≡◌, ◌⊎◌, ℕ, ◌%◌, ◌<◌, List, [], Option, None, Some, IfSome}
 use Rattle.std.specs.Option.{option_map}
-use Rattle.std.proofs.Common.{sym, ◌∙◌, ap, subst, arith}
+use Rattle.std.proofs.Common.{sym, ◌∙◌, ap, subst, inl, arith}
 use Rattle.list_laws.proofs.Cited.{all_of_each, each_of_all}
 use Rattle.point_order.specs.Sets.{AreSamePoints, IsAscending, ascending}
 use Rattle.point_order.proofs.Cited.{ascending_is}
 use Rattle.edit_history.specs.declared.history.Edit.{Edit}
 use Rattle.edit_history.specs.declared.history.Entry.{Entry}
+use Rattle.edit_history.specs.Edits.{point_of}
 use Rattle.edit_history.specs.Histories.{replay}
 use Rattle.edit_history.specs.Laws.{KeepsLaw, ReplayLaw}
 use Rattle.edit_history.specs.Opening.{Four, opening_four}
 use Rattle.edit_history.specs.OneThread.{Keeps, one_thread, places}
 use Rattle.edit_files.specs.Content.{Content}
-use Rattle.delaunay_cli.specs.Run.{IsKept}
+use Rattle.delaunay_cli.specs.Run.{AreDealt, IsKept}
 
 -- what follows of an opening four, where there is one
 found : {P : Type 0} (o : Option Four) (four : List ℕ) → option_map places o ≡ Some four → IfSome o (λ _. P) → P
@@ -37,11 +38,15 @@ pub kept_by_any : (file : Content) (four : List ℕ) (h : List Entry) → KeepsL
     → h ≡ one_thread file.points [] → (workers : ℕ) → 0 < workers → IsKept file workers h
 kept_by_any file four h law e none is workers some =
     let same : h ≡ one_thread file.points file.edits = is ∙ ap (one_thread file.points) (sym none) in
+    let one = found (opening_four file.points) four e (law file.points file.edits) in
     record {
       keeps = subst (Keeps file.points file.edits workers) (sym same)
-          (any_workers file.points file.edits workers (one_thread file.points file.edits) some
-          (found (opening_four file.points) four e (law file.points file.edits)));
+          (any_workers file.points file.edits workers (one_thread file.points file.edits) some one);
       alone = λ one. same;
+      dealt = subst (AreDealt workers) (sym same) (all_of_each
+          (λ (e : Entry). (e.by ≡ 0) ⊎ (e.by ≡ point_of e.edit % workers)) (one_thread file.points file.edits) (λ e i.
+          let b = each_of_all (λ (e : Entry). e.by < 1) (one_thread file.points file.edits) one.workers e i in
+          inl (omega (arith, b))));
     }
 
 -- and it leaves the set of the points

@@ -1,96 +1,148 @@
--- The lines that are dealt to workers can be run, and a run of them behind the opening keeps the file.
-use Rattle.std.proofs.Common.{◌≡◌, refl, sym, ◌∙◌, ap, subst, ℕ, suc, ◌+◌, ◌%◌, ◌<◌, ◌≤◌, ◌==◌, Bool, true, false, cond, List, [], ◌∷◌, ◌++◌, length, map, arith, inl, inr, length-append}
-use Rattle.std.specs.Prelude.{not, ◌&&◌, All}
+-- The lines that are dealt to workers can be done, and runs of them behind the opening keep the file.
+use Rattle.std.proofs.Common.{
+  ◌≡◌,
+  refl,
+  sym,
+  ◌∙◌,
+  ap,
+  subst,
+  ℕ,
+  suc,
+  ◌+◌,
+  ◌-◌,
+  ◌%◌,
+  ◌<◌,
+  ◌≤◌,
+  ◌==◌,
+  Bool,
+  true,
+  false,
+  cond,
+  List,
+  [],
+  ◌∷◌,
+  ◌++◌,
+  length,
+  map,
+  arith,
+  inl,
+  inr,
+  length-append,
+}
+use Rattle.std.specs.Prelude.{not, All, slice_index_or, ◌⊎◌}
 use Rattle.std.specs.List.{enumerate_from, filter, flat_map, range_with_len}
 use Rattle.std.proofs.lemmas.Bool.{eqb-true}
 use Rattle.std.proofs.lemmas.List.{length-map}
-use Rattle.std.proofs.lemmas.List.FromFn.{length-range_with_len}
+use Rattle.std.proofs.lemmas.List.FromFn.{get_or-map-range_with_len, length-range_with_len}
 use Rattle.std.proofs.lemmas.List.Sorted.{length_permutation}
-use Rattle.std.proofs.Math.Nat.{mod-lt}
-use Rattle.list_laws.proofs.Cited.{EachLater, all_of_each, each_of_all, from_append, in_filtered, later_filter, later_map, later_pairs, later_weaken, mapped_from, mapped_true, numbered_lower, numbered_map, numbered_places, passes, second_true}
+use Rattle.list_laws.proofs.Cited.{
+  EachLater,
+  all_of_each,
+  each_of_all,
+  from_append,
+  later_filter,
+  later_left,
+  later_pairs,
+  later_right,
+  mapped_from,
+  numbered_lower,
+  passes,
+}
 use Rattle.point_order.specs.Sets.{IsIn, is_among}
 use Rattle.edit_history.specs.declared.history.Edit.{Edit}
 use Rattle.edit_history.specs.declared.history.Edit.TheVariants.{Add}
 use Rattle.edit_history.specs.declared.history.Entry.{Entry}
-use Rattle.edit_history.specs.Edits.{is_move, point_of}
-use Rattle.edit_history.specs.Histories.{IsLegal}
-use Rattle.edit_history.specs.OneThread.{Keeps, one_thread, places, tagged_lines}
-use Rattle.plain_laws.specs.Running.{Pair, dealt, dealt_to, opening_entries, IsRun}
-use Rattle.plain_laws.proofs.Cited.{all_parts, run_alone, run_keeps}
-use Rattle.edit_workers.specs.Dealing.{AreApart, AreAscending, AreStill, AreOpening, HaveNoPoint, count_of}
-use Rattle.edit_workers.specs.Running.{AreRun}
+use Rattle.edit_history.specs.Edits.{point_of, after}
+use Rattle.edit_history.specs.Histories.{IsLegal, entries_from}
+use Rattle.edit_history.specs.OneThread.{Keeps, line_of, one_thread, places, tagged_lines}
+use Rattle.plain_laws.specs.Running.{
+  Pair,
+  AreRuns,
+  IsRun,
+  dealt,
+  dealt_out,
+  dealt_to,
+  opening_entries,
+  other_lines,
+  segments,
+}
+use Rattle.plain_laws.proofs.Cited.{
+  alone_in_any_order,
+  dealt_all,
+  run_alone,
+  run_keeps,
+  segments_apart,
+  segments_keep,
+}
+use Rattle.edit_workers.specs.Dealing.{AreAscending, AreOpening, CanBeDone, all_of, count_of, count_all}
+use Rattle.edit_workers.specs.Running.{AreRun, EndsLate}
+use Rattle.edit_workers.proofs.Cited.{done_each, done_runs}
+use Rattle.delaunay_cli.specs.Run.{AreDealt}
 
--- ---- what workers can run
+-- ---- what workers can do
 
-module _ (workers : ℕ) (four : List ℕ) (points : List ℕ) (edits : List Edit) where
-  abbrev all : List Pair
-  all = tagged_lines points edits
+-- what holds of each and each later element of all lists holds in each of them
+later_within : {X : Type 0} (R : X → X → Type 0) (lists : List (List X)) (l : List X) → IsIn l lists →
+    EachLater R (flat_map (λ l. l) lists) → EachLater R l
+later_within R [] l i h = absurd i
+later_within {X} R (m ∷ lists) l (inl e) h = subst (EachLater R) e (later_left R m (flat_map (λ l. l) lists) h)
+later_within {X} R (m ∷ lists) l (inr i) h = later_within R lists l i (later_right R m (flat_map (λ l. l) lists) h)
 
-  abbrev lists : List (List Pair)
-  lists = dealt workers four all
+dealt_count : (n : ℕ) (lines : List Pair) → length (dealt_out n lines) ≡ n
+dealt_count n lines = length-map (range_with_len 0 n) (dealt_to n lines) ∙ length-range_with_len 0 n
 
-  pub dealt_count : length lists ≡ workers
-  dealt_count = length-map (range_with_len 0 workers) (dealt_to workers four all) ∙ length-range_with_len 0 workers
+-- the pairs of all segments are their lines
+count_dealt : (n : ℕ) (parts : List (List Pair)) → 0 < n →
+    count_all (map (dealt_out n) parts) ≡ length (flat_map (λ l. l) parts)
+count_dealt n [] some = refl
+count_dealt n (part ∷ parts) some =
+    let a = length_permutation part (all_of (dealt_out n part)) (dealt_all n part some) in
+    let b = count_dealt n parts some in
+    omega (arith, a, b, length-append part (flat_map (λ l. l) parts),
+    length-append (all_of (dealt_out n part)) (flat_map all_of (map (dealt_out n) parts)))
 
-  -- the tags of each list ascend
-  pub dealt_ascend : All AreAscending lists
-  dealt_ascend = all_of_each AreAscending lists (λ l i. each l (mapped_from (dealt_to workers four all) l (range_with_len 0 workers) i))
+module _ (workers : ℕ) (four points : List ℕ) (edits : List Edit) (some : 0 < workers) where
+  abbrev lines : List Pair
+  lines = other_lines four (tagged_lines points edits)
+
+  lower : EachLater (λ (a b : Pair). a.0 < b.0) lines
+  lower =
+      later_filter (λ (a b : Pair). a.0 < b.0) (λ line. not (is_among line.0 four)) (tagged_lines points edits)
+      (numbered_lower 0 (map Add points ++ edits))
+
+  -- the lists of a segment
+  segment_done : workers ≤ 64 → (segment : List Pair) → IsIn segment (segments lines) →
+      CanBeDone (dealt_out workers segment)
+  segment_done few segment i = record {
+    some = let n = dealt_count workers segment in omega (arith, n, some);
+    short = let n = dealt_count workers segment in omega (arith, n, few);
+    tags = all_of_each AreAscending (dealt_out workers segment) (λ l j.
+        let k = mapped_from (dealt_to workers segment) l (range_with_len 0 workers) j in
+        subst AreAscending k.2 (one k.0));
+    apart = (segments_apart lines segment workers i).1;
+    alone = alone_in_any_order segment (all_of (dealt_out workers segment)) (dealt_all workers segment some)
+        (segments_apart lines segment workers i).0;
+  }
     where
-      one : (i : ℕ) → AreAscending (dealt_to workers four all i)
-      one i =
-          later_pairs (λ (a b : Pair). a.0 < b.0) (dealt_to workers four all i)
-          (later_filter (λ (a b : Pair). a.0 < b.0) (λ line. not (is_among line.0 four) && (point_of line.1 % workers == i)) all (numbered_lower 0 (map Add points ++ edits)))
+      one : (j : ℕ) → AreAscending (dealt_to workers segment j)
+      one j =
+          later_pairs (λ (a b : Pair). a.0 < b.0) (dealt_to workers segment j)
+          (later_filter (λ (a b : Pair). a.0 < b.0) (λ line. point_of line.1 % workers == j) segment
+          (later_within (λ (a b : Pair). a.0 < b.0) (segments lines) segment i
+          (subst (EachLater (λ (a b : Pair). a.0 < b.0)) (sym (segments_keep lines)) lower)))
 
-      each : (l : List Pair) → ((i : ℕ) × IsIn i (range_with_len 0 workers) × (dealt_to workers four all i ≡ l)) → AreAscending l
-      each l k = subst AreAscending k.2 (one k.0)
-
-  -- where no edit moves a point, no line does
-  pub dealt_still : All (λ e. is_move e ≡ false) edits → All AreStill lists
-  dealt_still still = all_of_each AreStill lists (λ l i. each l (mapped_from (dealt_to workers four all) l (range_with_len 0 workers) i))
-    where
-      line_still : (p : Pair) → IsIn p all → is_move p.1 ≡ false
-      line_still p i =
-          elim (from_append p.1 (map Add points) edits (subst (IsIn p.1) (numbered_map 0 (map Add points ++ edits)) (mapped_true (λ (x : Pair). x.1) p all i))) [
-            | inl j ↦ (let r = mapped_from Add p.1 points j in ap is_move (sym r.2))
-            | inr j ↦ each_of_all (λ e. is_move e ≡ false) edits still p.1 j
-          ]
-
-      one : (i : ℕ) → AreStill (dealt_to workers four all i)
-      one i = all_of_each (λ (p : Pair). is_move p.1 ≡ false) (dealt_to workers four all i)
-          (λ p k. line_still p (in_filtered (λ line. not (is_among line.0 four) && (point_of line.1 % workers == i)) all p k))
-
-      each : (l : List Pair) → ((i : ℕ) × IsIn i (range_with_len 0 workers) × (dealt_to workers four all i ≡ l)) → AreStill l
-      each l k = subst AreStill k.2 (one k.0)
-
-  -- a line goes to the worker that its point tells
-  dealt_by : (i : ℕ) (a : Pair) → IsIn a (dealt_to workers four all i) → point_of a.1 % workers ≡ i
-  dealt_by i a k =
-      eqb-true (point_of a.1 % workers) i (second_true (not (is_among a.0 four)) (point_of a.1 % workers == i) (passes (λ line. not (is_among line.0 four) && (point_of line.1 % workers == i)) all a k))
-
-  numbers_ascend : EachLater (λ (i j : ℕ). i < j) (range_with_len 0 workers)
-  numbers_ascend =
-      subst (EachLater (λ (i j : ℕ). i < j)) (numbered_places 0 (range_with_len 0 workers) ∙ ap (range_with_len 0) (length-range_with_len 0 workers))
-      (later_map (λ (x : ℕ × ℕ). x.0) (λ (i j : ℕ). i < j) (enumerate_from 0 (range_with_len 0 workers)) (numbered_lower 0 (range_with_len 0 workers)))
-
-  -- no point stands in two of the lists
-  pub dealt_apart : AreApart lists
-  dealt_apart =
-      later_pairs HaveNoPoint lists
-      (later_map (dealt_to workers four all) HaveNoPoint (range_with_len 0 workers)
-      (later_weaken (λ (i j : ℕ). i < j) (λ (i j : ℕ). HaveNoPoint (dealt_to workers four all i) (dealt_to workers four all j)) (range_with_len 0 workers) (λ i j m n l. two i j l) numbers_ascend))
-    where
-      two : (i j : ℕ) → i < j → HaveNoPoint (dealt_to workers four all i) (dealt_to workers four all j)
-      two i j l a b m n e =
-          let p = dealt_by i a m in
-          let q = dealt_by j b n in
-          let r : i ≡ j = sym p ∙ ap (λ (x : ℕ). x % workers) e ∙ q in
-          omega (arith, l, r)
+  pub dealt_done : workers ≤ 64 → All CanBeDone (dealt workers four (tagged_lines points edits))
+  dealt_done few =
+      all_of_each CanBeDone (dealt workers four (tagged_lines points edits)) (λ l i.
+      let k = mapped_from (dealt_out workers) l (segments lines) i in
+      subst CanBeDone k.2 (segment_done few k.0 k.1))
 
   few_pass : {X : Type 0} (t : X → Bool) (xs : List X) → length (filter t xs) ≤ length xs
   few_pass t [] = omega arith
   few_pass {X} t (x ∷ xs) = by (t x) (few_pass t xs)
     where
-      by : (b : Bool) → length (filter t xs) ≤ length xs → length (cond b (x ∷ filter t xs) (filter t xs)) ≤ suc (length xs)
+      by : (b : Bool) → length (filter t xs) ≤ length xs →
+          length (cond b (x ∷ filter t xs) (filter t xs)) ≤ suc (length xs)
       by true l = omega (arith, l)
       by false l = omega (arith, l)
 
@@ -99,33 +151,84 @@ module _ (workers : ℕ) (four : List ℕ) (points : List ℕ) (edits : List Edi
   numbered_length n (x ∷ xs) = ap suc (numbered_length (n + 1) xs)
 
   -- all together they have at most as many pairs as the file has lines
-  pub dealt_few : 0 < workers → count_of lists ≤ length points + length edits
-  dealt_few some =
-      let e = length_permutation (filter (λ (line : Pair). not (is_among line.0 four)) all) (flat_map (λ l. l) lists)
-      (all_parts (λ (line : Pair). not (is_among line.0 four)) (λ (line : Pair). point_of line.1 % workers) all workers (λ line. mod-lt (point_of line.1) some)) in
-      let f = few_pass (λ (line : Pair). not (is_among line.0 four)) all in
+  pub dealt_few : count_all (dealt workers four (tagged_lines points edits)) ≤ length points + length edits
+  dealt_few =
+      let e = count_dealt workers (segments lines) some in
+      let k = ap length (segments_keep lines) in
+      let f = few_pass (λ (line : Pair). not (is_among line.0 four)) (tagged_lines points edits) in
       let n = numbered_length 0 (map Add points ++ edits) in
-      omega (arith, e, f, n, length-append (map Add points) edits, length-map points Add)
+      omega (arith, e, k, f, n, length-append (map Add points) edits, length-map points Add)
 
--- ---- what a run of them leaves
+-- ---- what runs of them leave
 
-module _ (points : List ℕ) (edits : List Edit) (workers : ℕ) (four : List ℕ) (found : AreOpening points four) (some : 0 < workers)
-    (ls : List (List Pair)) (deals : ls ≡ dealt workers four (tagged_lines points edits)) (h k : List Entry) (opens : h ≡ opening_entries four (tagged_lines points edits)) (run : AreRun ls h k) where
-  is_run : IsRun (dealt workers (places found.0) (tagged_lines points edits)) run.more
-  is_run =
-      subst (λ (f : List ℕ). IsRun (dealt workers f (tagged_lines points edits)) run.more) found.2
-      (subst (λ (l : List (List Pair)). IsRun l run.more) deals run.run)
+-- one thread makes entries by 0
+by_none : (n : ℕ) (s : List ℕ) (rest : List Pair) (e : Entry) → IsIn e (entries_from n s rest) → e.by ≡ 0
+by_none n s [] e i = absurd i
+by_none n s (line ∷ rest) e (inl q) = sym (ap (λ (e : Entry). e.by) q)
+by_none n s (line ∷ rest) e (inr i) = by_none (n + 1) (after s line.1) rest e i
+
+-- an entry of a segment is by 0 or by the worker that its point names
+named : (n : ℕ) (parts : List (List Pair)) (lists : List (List Pair)) (made : List Entry) →
+    IsIn lists (map (dealt_out n) parts) → IsRun lists made → EndsLate lists made → (e : Entry) → IsIn e made →
+    (e.by ≡ 0) ⊎ (e.by ≡ point_of e.edit % n)
+named n parts lists made i run ends e j =
+    let part = mapped_from (dealt_out n) lists parts i in
+    elim (from_append e ends.made ends.late (subst (IsIn e) ends.both j)) [
+      | inl k ↦ inr (
+          let below : e.by < n = (
+            let b = each_of_all (λ (e : Entry). e.by < length lists) made run.workers e j in
+            let c = ap length part.2 in
+            omega (arith, b, c, dealt_count n part.0)
+          ) in
+          let own : IsIn (line_of e) (slice_index_or (dealt_out n part.0) (e.by - 0) []) =
+              subst (λ (l : List (List Pair)). IsIn (line_of e) (slice_index_or l (e.by - 0) [])) (sym part.2)
+              (ends.owned e k) in
+          let first : e.by - 0 ≡ e.by = omega arith in
+          let from_0 : 0 + e.by ≡ e.by = omega arith in
+          let there : IsIn (line_of e) (dealt_to n part.0 e.by) =
+              subst (IsIn (line_of e)) (ap (λ (m : ℕ). slice_index_or (dealt_out n part.0) m []) first
+              ∙ get_or-map-range_with_len (dealt_to n part.0) 0 n e.by e.by [] below from_0) own in
+          sym (eqb-true (point_of e.edit % n) e.by
+          (passes (λ (line : Pair). point_of line.1 % n == e.by) part.0 (line_of e) there))
+        )
+      | inr k ↦ inl (each_of_all (λ (e : Entry). e.by ≡ 0) ends.late ends.by_none e k)
+    ]
+
+module _ (points : List ℕ) (edits : List Edit) (workers : ℕ) (four : List ℕ) (found : AreOpening points four)
+    (some : 0 < workers) (ls : List (List (List Pair))) (deals : ls ≡ dealt workers four (tagged_lines points edits))
+    (h k : List Entry) (opens : h ≡ opening_entries four (tagged_lines points edits)) (run : AreRun ls h k) where
+  are_runs : AreRuns (dealt workers (places found.0) (tagged_lines points edits)) run.more
+  are_runs =
+      subst (λ (f : List ℕ). AreRuns (dealt workers f (tagged_lines points edits)) run.more) found.2
+      (subst (λ (l : List (List (List Pair))). AreRuns l run.more) deals (done_runs ls run.more run.done))
 
   history_is : k ≡ opening_entries (places found.0) (tagged_lines points edits) ++ run.more
   history_is =
-      run.history ∙ ap (λ (l : List Entry). l ++ run.more) opens ∙ ap (λ (f : List ℕ). opening_entries f (tagged_lines points edits) ++ run.more) found.2
+      run.history ∙ ap (λ (l : List Entry). l ++ run.more) opens
+      ∙ ap (λ (f : List ℕ). opening_entries f (tagged_lines points edits) ++ run.more) found.2
 
-  -- it keeps the file
+  -- they keep the file
   pub run_kept : Keeps points edits workers k
-  run_kept = subst (Keeps points edits workers) (sym history_is) (run_keeps points edits workers found.0 run.more found.1 some is_run)
+  run_kept =
+      subst (Keeps points edits workers) (sym history_is)
+      (run_keeps points edits workers found.0 run.more found.1 some are_runs)
 
-  -- of one worker it is the history of one thread, where it is legal
+  -- of one worker they are the history of one thread, where they are legal
   pub run_of_one : workers ≡ 1 → IsLegal k → k ≡ one_thread points edits
   run_of_one e legal =
-      let one : IsRun (dealt 1 (places found.0) (tagged_lines points edits)) run.more = subst (λ (n : ℕ). IsRun (dealt n (places found.0) (tagged_lines points edits)) run.more) e is_run in
+      let one : AreRuns (dealt 1 (places found.0) (tagged_lines points edits)) run.more =
+          subst (λ (n : ℕ). AreRuns (dealt n (places found.0) (tagged_lines points edits)) run.more) e are_runs in
       history_is ∙ run_alone points edits found.0 run.more found.1 one (subst IsLegal history_is legal)
+
+  -- each entry is by 0 or by the worker that its point names
+  pub run_dealt : AreDealt workers k
+  run_dealt =
+      let parts = segments (other_lines four (tagged_lines points edits)) in
+      let P : Entry → Type 0 = λ e. (e.by ≡ 0) ⊎ (e.by ≡ point_of e.edit % workers) in
+      let later = done_each ls run.more P run.done (λ lists made i.
+          named workers parts lists made (subst (λ (l : List (List (List Pair))). IsIn lists l) deals i)) in
+      subst (AreDealt workers) (sym run.history) (all_of_each P (h ++ run.more) (λ e i. elim (from_append e h run.more i) [
+        | inl j ↦ inl (by_none 0 [] (filter (λ line. is_among line.0 four) (tagged_lines points edits)) e
+            (subst (IsIn e) opens j))
+        | inr j ↦ each_of_all P run.more later e j
+      ]))

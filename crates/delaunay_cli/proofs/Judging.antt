@@ -18,17 +18,12 @@ use Rattle.std.proofs.Common.{
   inl,
   inr,
 }
-use Rattle.std.specs.Prelude.{true, false, Option, None, Some, IfSome, IfErr, Result, Ok, Err, All}
+use Rattle.std.specs.Prelude.{Option, None, Some, IfSome, IfErr, Result, Ok, Err, All}
 use Rattle.std.specs.List.{AllZip}
 use Rattle.list_laws.proofs.Cited.{length_zip}
-use Rattle.edit_history.specs.declared.history.Edit.{Edit}
-use Rattle.edit_history.specs.declared.history.Edit.TheVariants.{Add, Take, Move}
-use Rattle.edit_history.specs.Edits.{is_move}
 use Rattle.edit_files.specs.Content.{Content}
 use Rattle.edit_files.specs.Grammar.{IsFile, Limits}
 use Rattle.edit_files.specs.Versions.{row}
-use Rattle.edit_files.specs.declared.version.Version.{Version}
-use Rattle.edit_files.specs.declared.version.Version.TheVariants.{One, Two, Three, Four}
 use Rattle.delaunay_cli.specs.Report.{AreRadii}
 use Rattle.delaunay_cli.specs.Taken.{file_limits}
 use Rattle.edit_files.specs.Forms.{IsPointLine, IsEditLine, IsRadiusLine}
@@ -65,30 +60,6 @@ radii_small limits bytes f h = of_lines h.radii f.radii h.radius_lines
     of_lines (l ∷ lines) [] z = absurd z
     of_lines (l ∷ lines) (r ∷ radii) z = All-cons (λ radius. radius < (row f.version).radius_end) r radii z.0.1
         (of_lines lines radii z.1)
-
--- the first version has no moves
-one_still : (v : Version) → (row v).number ≤ 1 → (row v).moves ≡ true → ⊥
-one_still One le has = absurd cc
-one_still Two le has = absurd (omega (arith, le))
-one_still Three le has = absurd (omega (arith, le))
-one_still Four le has = absurd (omega (arith, le))
-
--- the edits of a file that is taken move no point
-pub edits_still : (bytes : List ℕ) (f : Content) → IsFile file_limits bytes f → All (λ e. is_move e ≡ false) f.edits
-edits_still bytes f h = of_lines h.edits f.edits h.edit_lines
-  where
-    one : (line : List ℕ) (e : Edit) → IsEditLine f.version line e → is_move e ≡ false
-    one line (Add p) s = refl
-    one line (Take p) s = refl
-    one line (Move a b) s = absurd (one_still f.version h.version s.2)
-
-    of_lines : (lines : List (List ℕ)) (edits : List Edit) → AllZip (IsEditLine f.version) lines edits →
-        All (λ e. is_move e ≡ false) edits
-    of_lines [] [] z = λ k d l. absurd (omega arith)
-    of_lines [] (e ∷ edits) z = absurd z
-    of_lines (l ∷ lines) [] z = absurd z
-    of_lines (l ∷ lines) (e ∷ edits) z = All-cons (λ e. is_move e ≡ false) e edits (one l e z.0)
-        (of_lines lines edits z.1)
 
 -- what holds of the bytes that were read to the end holds of those that the source told
 pub if_told : (P : List ℕ → Type 0) (left : Option (List ℕ)) (old bytes now : List ℕ) → old ≡ [] → now ≡ bytes →

@@ -18,20 +18,33 @@ use Rattle.delaunay_cli.specs.Report.{report_of, shapes_of}
 use Rattle.delaunay_cli.specs.Words.{asks_text, drawn_count, drawn_start}
 
 -- the report of a plain history is that of the lines
-report_is : (shape : Bool) (file : Content) (h : List Entry) → IsPlain file.points file.edits h → report_of shape false file h ≡ plain_report shape file
+report_is : (shape : Bool) (file : Content) (h : List Entry) → IsPlain file.points file.edits h →
+    report_of shape false file h ≡ plain_report shape file
 report_is shape file h p =
-    λ i. record { replies = p.replies i; points = p.set i; cells = complex (p.set i); shapes = shapes_of shape file.version file.radii (p.set i); order = None }
+    λ i. record {
+      replies = p.replies i;
+      points = p.set i;
+      cells = complex (p.set i);
+      shapes =
+          shapes_of shape file.version file.radii (p.set i);
+      order = None;
+    }
 
 -- every legal history that keeps an anchored file has the report of its lines
-pub kept_is_plain : (shape : Bool) (file : Content) (workers : ℕ) (h : List Entry) → IsAnchored file.points file.edits → Keeps file.points file.edits workers h → IsLegal h →
+pub kept_is_plain : (shape : Bool) (file : Content) (workers : ℕ) (h : List Entry) → IsAnchored file.points file.edits →
+    Keeps file.points file.edits workers h → IsLegal h →
     report_of shape false file h ≡ plain_report shape file
-kept_is_plain shape file workers h anchored keeps legal = report_is shape file h (anchored_is_plain file.points file.edits workers h anchored keeps legal)
+kept_is_plain shape file workers h anchored keeps legal =
+    report_is shape file h (anchored_is_plain file.points file.edits workers h anchored keeps legal)
 
 -- what is written of a drawn file
-pub drawn_is_plain : (words : List (String Global)) (workers : ℕ) (kept : List Entry) → IsLegal kept → IsKeptOfDrawn (asks_text words) (drawn_file words) workers kept → drawn_text words kept ≡ plain_drawn words
+pub drawn_is_plain : (words : List (String Global)) (workers : ℕ) (kept : List Entry) → IsLegal kept →
+    IsKeptOfDrawn (asks_text words) (drawn_file words) workers kept → drawn_text words kept ≡ plain_drawn words
 drawn_is_plain words workers kept legal e = by (asks_text words) e
   where
     by : (text : Bool) → IsKeptOfDrawn text (drawn_file words) workers kept →
-        cond text (file_text (drawn_file words)) (summary_text (report_of true false (drawn_file words) kept)) ≡ cond text (file_text (drawn_file words)) (summary_text (plain_report true (drawn_file words)))
+        cond text (file_text (drawn_file words)) (summary_text (report_of true false (drawn_file words) kept)) ≡ cond
+        text (file_text (drawn_file words)) (summary_text (plain_report true (drawn_file words)))
     by true k = refl
-    by false k = ap summary_text (kept_is_plain true (drawn_file words) workers kept (generated_anchored (drawn_count words) (drawn_start words)) k.keeps legal)
+    by false k = ap summary_text (kept_is_plain true (drawn_file words) workers kept (generated_anchored
+        (drawn_count words) (drawn_start words)) k.keeps legal)

@@ -1,9 +1,10 @@
 -- The promise of a run.
-use Rattle.std.specs.Prelude.{◌≡◌, ◌⊎◌, ◌+◌, ◌≤◌, ℕ, List, length, Bool, true, Option}
+use Rattle.std.specs.Prelude.{◌≡◌, ◌⊎◌, ◌+◌, ◌%◌, ◌≤◌, ℕ, All, List, length, Bool, true, Option}
 use Rattle.std.specs.Io.KnownBytes.{Appends, Consumes, IsAtEnd}
 use Rattle.byte_ends.specs.Ends.{AppendsFront}
 use Rattle.point_order.specs.Solid.{is_solid}
 use Rattle.edit_history.specs.declared.history.Entry.{Entry}
+use Rattle.edit_history.specs.Edits.{point_of}
 use Rattle.edit_history.specs.OneThread.{Keeps, one_thread}
 use Rattle.edit_files.specs.Content.{Content}
 use Rattle.edit_files.specs.Grammar.{IsFile}
@@ -21,10 +22,15 @@ input_limit = 16777216
 abbrev pub history_of : Content → List Entry
 history_of file = one_thread file.points file.edits
 
--- The history keeps the file for a number of workers; for one it is the history of one thread.
+-- each entry is by 0, or by the worker that its point names: its key modulo the number of workers
+abbrev pub AreDealt : ℕ → List Entry → Type 0
+AreDealt workers h = All (λ e. (e.by ≡ 0) ⊎ (e.by ≡ point_of e.edit % workers)) h
+
+-- The history keeps the file for a number of workers, its lines dealt to them; for one it is the history of one thread.
 pub record IsKept (file : Content) (workers : ℕ) (h : List Entry) : Type 0 where
   pub keeps : Keeps file.points file.edits workers h
   pub alone : workers ≡ 1 → h ≡ history_of file
+  pub dealt : AreDealt workers h
 
 -- Bytes that were taken of a source, one more than the limit at most; all that it told, unless it was left early.
 -- Where it was one more, the input is too long, or memory is wanting.

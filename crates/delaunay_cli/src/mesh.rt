@@ -1,7 +1,6 @@
 //! From an accepted file to its history, and to the parts of its report.
 
 ghost use Rattle.std.specs.Prelude.{◌≡◌, ◌<◌, ◌+◌, ◌^◌, false, length, All, IfOk, IfErr};
-ghost use Rattle.edit_history.specs.Edits.{is_move};
 ghost use Rattle.edit_files.specs.Content.{content};
 ghost use Rattle.delaunay_cli.specs.Page.{IsReady, report_of_parts};
 ghost use Rattle.delaunay_cli.specs.Report.{AreRadii, report_of};
@@ -59,7 +58,6 @@ pub fn history_and_parts<R: Threads + Sync, G: Gate + Sync>(
     gate: &G,
 ) -> Result<(Vec<Entry>, Parts), Stop>
     requires lines { length file.now.points.items + length file.now.edits.items + 4 < 2 ^ 32 }
-    requires still { All (λ e. is_move e ≡ false) file.now.edits.items }
     requires radii { AreRadii file.now.version file.now.radii.items }
     ensures made { IfOk result (λ made. IsMeshed making.workers asked.shape asked.order
         (content file.now) made.0.items (report_of_parts made.1)) }

@@ -1,7 +1,6 @@
 //! The mesh of a file's lines, made by workers.
 
-ghost use Rattle.std.specs.Prelude.{◌≡◌, ◌<◌, ◌≤◌, ◌+◌, ◌^◌, false, All, Some, length, slice_index, option_map, IfOk};
-ghost use Rattle.edit_history.specs.Edits.{is_move};
+ghost use Rattle.std.specs.Prelude.{◌≡◌, ◌<◌, ◌≤◌, ◌+◌, ◌^◌, Some, length, slice_index, option_map, IfOk};
 ghost use Rattle.edit_history.specs.OneThread.{places};
 ghost use Rattle.edit_history.specs.Opening.{opening_four};
 ghost use Rattle.edit_history.specs.Histories.{IsLegal};
@@ -53,7 +52,7 @@ fn opening(
 }
 
 /// The mesh of a file's lines: the opening four of its points, and then all other lines, which are dealt to the
-/// workers. `four` are the places of the opening four. No edit is to move a point.
+/// workers. `four` are the places of the opening four.
 ///
 /// # Errors
 /// Want of memory.
@@ -67,7 +66,6 @@ pub fn mesh_of_lines<R: Threads + Sync, G: Gate + Sync>(
 ) -> Result<Mesh, AllocError>
     requires found { option_map places (opening_four file.now.points.items) ≡ Some four }
     requires small { length file.now.points.items + length file.now.edits.items + 4 < 2 ^ 32 }
-    requires still { All (λ e. is_move e ≡ false) file.now.edits.items }
     ensures grid { IfOk result (λ mesh. mesh.grid ≡ making.grid) }
     ensures legal { IfOk result (λ mesh. IsLegal mesh.history) }
     ensures kept { IfOk result (λ mesh. IsKept (content file.now) making.workers mesh.history) }

@@ -16,7 +16,7 @@ use crate::stop::Stop;
 use crate::task::{Asked, Making};
 use crate::telling::fault_line;
 use byte_ends::{Reached, Source, read_to_limit};
-use edit_files::{ReadRefused, Version, read_file_up_to};
+use edit_files::{ReadRefused, read_file};
 use edit_history::Entry;
 use grid_claims::Gate;
 use std::alloc::Global;
@@ -24,10 +24,6 @@ use std::thread::Threads;
 
 // One more byte than an input may have.
 const TOO_MANY: usize = 16_777_217;
-
-// The newest version of an edit file that a run takes. From the second on edit lines may move points, and the workers
-// move none: the first line of such a file is bad.
-const NEWEST: Version = Version::One;
 
 // Judges the bytes of a file, and makes the parts of the report of its mesh.
 fn judge<R: Threads + Sync, G: Gate + Sync>(
@@ -45,7 +41,7 @@ fn judge<R: Threads + Sync, G: Gate + Sync>(
     ensures ready { IfOk result (λ made. IsReady made.1) }
     ensures stop { IfErr result (HasNoMesh (Some bytes.now) ⊥) }
 {
-    match read_file_up_to(alloc, bytes, NEWEST) {
+    match read_file(alloc, bytes) {
         Ok(file) => {
             let (kept, parts) = history_and_parts(rt, alloc, &file, making, asked, gate)?;
             Ok((kept, parts))

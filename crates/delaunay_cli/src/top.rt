@@ -11,7 +11,7 @@ ghost use Rattle.delaunay_cli.specs.Taken.{file_limits};
 ghost use Rattle.plain_laws.specs.Plain.{IsAnchored};
 ghost use Rattle.delaunay_cli.specs.Ends.{Ends};
 ghost use Rattle.delaunay_cli.specs.PlainText.{plain_text};
-ghost use Rattle.delaunay_cli.specs.Run.{IsSolidFile, Writes, WritesFront, history_of};
+ghost use Rattle.delaunay_cli.specs.Run.{AreDealt, IsSolidFile, Writes, WritesFront, history_of};
 ghost use Rattle.delaunay_cli.specs.Statuses.{HasText, Tells};
 ghost use Rattle.delaunay_cli.specs.Stops.{line_of_end};
 ghost use Rattle.delaunay_cli.specs.Words.{
@@ -70,6 +70,9 @@ pub fn run<R: Threads + Sync, S: Source, O: Sink, E: Sink, G: Gate + Sync>(
     ensures one_thread { ReadsFile words.now → worker_count words.now ≡ 1 → HasText result.status
         → IfSome (S.left src.old) (λ bytes. (file : Content) → IsFile file_limits bytes file
         → result.kept.items ≡ history_of file) }
+    ensures dealt { ReadsFile words.now → HasText result.status
+        → IfSome (S.left src.old) (λ bytes. (file : Content) → IsFile line_limit bytes file
+        → AreDealt (worker_count words.now) result.kept.items) }
     ensures written { WritesReport words.now → result.status ≡ 0
         → IfSome (S.left src.old) (λ bytes. Writes (asks_shape words.now) (asks_order words.now) bytes
         (O.holds out.old) (O.holds out.new) result.kept.items) }

@@ -1,5 +1,37 @@
 -- What is read of a line is what the line says, and a line that is not read is not of its form or out of range.
-use Rattle.std.proofs.Common.{◌≡◌, ℕ, ◌+◌, ◌*◌, ◌<◌, Bool, true, false, cond, eqb, ltb, ◌⊎◌, List, [], ◌∷◌, ◌++◌, Option, Some, None, Result, Ok, Err, refl, sym, ap, subst, ◌∙◌, arith, inl, inr, append_assoc}
+use Rattle.std.proofs.Common.{
+  ◌≡◌,
+  ℕ,
+  ◌+◌,
+  ◌*◌,
+  ◌<◌,
+  Bool,
+  true,
+  false,
+  cond,
+  eqb,
+  ltb,
+  ◌⊎◌,
+  List,
+  [],
+  ◌∷◌,
+  ◌++◌,
+  Option,
+  Some,
+  None,
+  Result,
+  Ok,
+  Err,
+  refl,
+  sym,
+  ap,
+  subst,
+  ◌∙◌,
+  arith,
+  inl,
+  inr,
+  append_assoc,
+}
 use Rattle.std.specs.List.{AllByRecursion, join_with_byte}
 use Rattle.std.specs.Str.Parse.{AllDigits}
 use Rattle.std.proofs.lemmas.Bool.{cases_lt, ne_eqb, eqb-true, lt-ltb, le-ltb}
@@ -15,7 +47,8 @@ use Rattle.edit_files.proofs.Values.{number_read, number_some, number_of, of_num
 use Rattle.edit_files.proofs.Points.{point_at_own, coordinate_below}
 
 -- A function reads the lines of a list, and says where one is not of its form or out of range.
-pub record Decides {A : Type 0} (read : List ℕ → Result A Why) (Says : List ℕ → A → Type 0) (Form : List ℕ → Type 0) : Type 0 where
+pub record Decides {A : Type 0} (read : List ℕ → Result A Why) (Says : List ℕ → A → Type 0) (Form : List ℕ →
+    Type 0) : Type 0 where
   pub sound : (line : List ℕ) (a : A) → read line ≡ Ok a → Says line a
   pub complete : (line : List ℕ) (a : A) → Says line a → read line ≡ Ok a
   pub field : (line : List ℕ) → read line ≡ Err Field → Form line → ⊥
@@ -40,10 +73,18 @@ fields_last (b ∷ bs) h = let e = fields_last bs h.1 in let f : eqb b 32 ≡ fa
 
 digits_without : (low : ℕ) (ds : List ℕ) → low < 45 → AllDigits 10 ds → HasNo low ds
 digits_without low [] lt h = tt
-digits_without low (c ∷ cs) lt h = (let w = digit_from_value c h.0 in ne_eqb c low (λ e. absurd (omega (arith, w.0))), digits_without low cs lt h.1)
+digits_without low (c ∷ cs) lt h = (
+  let w = digit_from_value c h.0 in ne_eqb c low (λ e. absurd (omega (arith, w.0))),
+  digits_without low cs lt h.1,
+)
 
-signed_without : (low : ℕ) (t : Bool) (b : ℕ) (bs : List ℕ) → low < 45 → (t ≡ true → b ≡ 45) → AllDigits 10 (cond t bs (b ∷ bs)) → HasNo low (b ∷ bs)
-signed_without low true b bs lt h all = (ne_eqb b low (λ e. absurd (omega (arith, h refl))), digits_without low bs lt all)
+signed_without : (low : ℕ) (t : Bool) (b : ℕ) (bs : List ℕ) → low < 45 → (t ≡ true → b ≡ 45) →
+    AllDigits 10 (cond t bs (b ∷ bs)) → HasNo low (b ∷ bs)
+signed_without low true b bs lt h all = (
+  ne_eqb b low (λ e. absurd (omega (arith, h refl))),
+  digits_without low bs lt
+      all,
+)
 signed_without low false b bs lt h all = digits_without low (b ∷ bs) lt all
 
 -- no space or line feed stands in a number
@@ -57,14 +98,17 @@ number_no_space bs h = number_without 32 bs (omega arith) h
 three_fields : (x y z : List ℕ) → IsNumber x → IsNumber y → IsNumber z → fields_of (spaced x y z) ≡ x ∷ y ∷ z ∷ []
 three_fields x y z a b c =
     let whole : spaced x y z ≡ x ++ (32 ∷ (y ++ 32 ∷ z)) = append_assoc x (32 ∷ y) (32 ∷ z) in
-    let first : fields_of (x ++ (32 ∷ (y ++ 32 ∷ z))) ≡ x ∷ fields_of (y ++ 32 ∷ z) = fields_front x (y ++ 32 ∷ z) (number_no_space x a) in
+    let first : fields_of (x ++ (32 ∷ (y ++ 32 ∷ z))) ≡ x ∷ fields_of (y ++ 32 ∷ z) =
+    fields_front x (y ++ 32 ∷ z) (number_no_space x a) in
     let second : fields_of (y ++ 32 ∷ z) ≡ y ∷ fields_of z = fields_front y z (number_no_space y b) in
     let third : fields_of z ≡ z ∷ [] = fields_last z (number_no_space z c) in
-    ap fields_of whole ∙ first ∙ ap (λ (fs : List (List ℕ)). x ∷ fs) (second ∙ ap (λ (fs : List (List ℕ)). y ∷ fs) third)
+    ap fields_of whole ∙ first ∙ ap (λ (fs : List (List ℕ)). x ∷ fs) (second
+    ∙ ap (λ (fs : List (List ℕ)). y ∷ fs) third)
 
 from_fields : (line x y z : List ℕ) → fields_of line ≡ x ∷ y ∷ z ∷ [] → line ≡ spaced x y z
 from_fields line x y z e =
-    let back : line ≡ join_with_byte 32 (x ∷ y ∷ z ∷ []) = sym (join_with_byte-slice_split 32 line) ∙ ap (join_with_byte 32) e in
+    let back : line ≡ join_with_byte 32 (x ∷ y ∷ z ∷ []) = sym (join_with_byte-slice_split 32 line)
+    ∙ ap (join_with_byte 32) e in
     back ∙ sym (append_assoc x (32 ∷ y) (32 ∷ z))
 
 -- three fields and what follows them
@@ -88,15 +132,19 @@ from_four line x y z u fs e =
 
 -- ---- points
 
-point_at_cases : (a b c : ℕ) → ((a < 16384) × (b < 16384) × (c < 16384) × (point_at a b c ≡ Ok (a * 268435456 + b * 16384 + c))) ⊎ (point_at a b c ≡ Err Range)
+point_at_cases : (a b c : ℕ) → ((a < 16384) × (b < 16384) × (c < 16384) × (point_at a b c ≡ Ok (a * 268435456 + b *
+    16384 + c))) ⊎ (point_at a b c ≡ Err Range)
 point_at_cases a b c =
     elim (cases_lt a 16384) [
       | inr le ↦ let e : ltb a 16384 ≡ false = le-ltb _ _ le in inr (rw e refl)
       | inl p ↦ elim (cases_lt b 16384) [
-        | inr le ↦ let d : ltb a 16384 ≡ true = lt-ltb _ _ p in let e : ltb b 16384 ≡ false = le-ltb _ _ le in inr (rw (d, e) refl)
+        | inr le ↦ let d : ltb a 16384 ≡ true = lt-ltb _ _ p in let e : ltb b 16384 ≡ false =
+            le-ltb _ _ le in inr (rw (d, e) refl)
         | inl q ↦ elim (cases_lt c 16384) [
-          | inr le ↦ let d : ltb a 16384 ≡ true = lt-ltb _ _ p in let e : ltb b 16384 ≡ true = lt-ltb _ _ q in let f : ltb c 16384 ≡ false = le-ltb _ _ le in inr (rw (d, e, f) refl)
-          | inl r ↦ let d : ltb a 16384 ≡ true = lt-ltb _ _ p in let e : ltb b 16384 ≡ true = lt-ltb _ _ q in let f : ltb c 16384 ≡ true = lt-ltb _ _ r in inl (p, q, r, rw (d, e, f) refl)
+          | inr le ↦ let d : ltb a 16384 ≡ true = lt-ltb _ _ p in let e : ltb b 16384 ≡ true =
+              lt-ltb _ _ q in let f : ltb c 16384 ≡ false = le-ltb _ _ le in inr (rw (d, e, f) refl)
+          | inl r ↦ let d : ltb a 16384 ≡ true = lt-ltb _ _ p in let e : ltb b 16384 ≡ true =
+              lt-ltb _ _ q in let f : ltb c 16384 ≡ true = lt-ltb _ _ r in inl (p, q, r, rw (d, e, f) refl)
         ]
       ]
     ]
@@ -162,12 +210,17 @@ three_form line t = record {
 }
 
 -- what is read of three fields
-numbers_view : (line x y z : List ℕ) (i j k : Option ℕ) → fields_of line ≡ x ∷ y ∷ z ∷ [] → number x ≡ i → number y ≡ j → number z ≡ k → (point line ≡ Err Field) ⊎ Three line
-numbers_view line x y z None j k e p q r = inl (point_fields line (x ∷ y ∷ z ∷ []) e ∙ ap (λ (o : Option ℕ). point_from o (number y) (number z)) p)
+numbers_view : (line x y z : List ℕ) (i j k : Option ℕ) → fields_of line ≡ x ∷ y ∷ z ∷ [] → number x ≡ i →
+    number y ≡ j → number z ≡ k → (point line ≡ Err Field) ⊎ Three line
+numbers_view line x y z None j k e p q r = inl (point_fields line (x ∷ y ∷ z ∷ []) e
+    ∙ ap (λ (o : Option ℕ). point_from o (number y) (number z)) p)
 numbers_view line x y z (Some a) None k e p q r =
-    inl (point_fields line (x ∷ y ∷ z ∷ []) e ∙ ap (λ (o : Option ℕ). point_from o (number y) (number z)) p ∙ ap (λ (o : Option ℕ). point_from (Some a) o (number z)) q)
+    inl (point_fields line (x ∷ y ∷ z ∷ []) e ∙ ap (λ (o : Option ℕ). point_from o (number y) (number z)) p
+    ∙ ap (λ (o : Option ℕ). point_from (Some a) o (number z)) q)
 numbers_view line x y z (Some a) (Some b) None e p q r =
-    inl (point_fields line (x ∷ y ∷ z ∷ []) e ∙ ap (λ (o : Option ℕ). point_from o (number y) (number z)) p ∙ ap (λ (o : Option ℕ). point_from (Some a) o (number z)) q ∙ ap (λ (o : Option ℕ). point_from (Some a) (Some b) o) r)
+    inl (point_fields line (x ∷ y ∷ z ∷ []) e ∙ ap (λ (o : Option ℕ). point_from o (number y) (number z)) p
+    ∙ ap (λ (o : Option ℕ). point_from (Some a) o (number z)) q
+    ∙ ap (λ (o : Option ℕ). point_from (Some a) (Some b) o) r)
 numbers_view line x y z (Some a) (Some b) (Some c) e p q r = inr (record {
   x = x;
   y = y;
@@ -179,7 +232,9 @@ numbers_view line x y z (Some a) (Some b) (Some c) e p q r = inr (record {
   x_read = p;
   y_read = q;
   z_read = r;
-  point_read = point_fields line (x ∷ y ∷ z ∷ []) e ∙ ap (λ (o : Option ℕ). point_from o (number y) (number z)) p ∙ ap (λ (o : Option ℕ). point_from (Some a) o (number z)) q ∙ ap (λ (o : Option ℕ). point_from (Some a) (Some b) o) r;
+  point_read = point_fields line (x ∷ y ∷ z ∷ []) e ∙ ap (λ (o : Option ℕ). point_from o (number y) (number z)) p
+      ∙ ap (λ (o : Option ℕ). point_from (Some a) o (number z)) q
+      ∙ ap (λ (o : Option ℕ). point_from (Some a) (Some b) o) r;
 })
 
 fields_view : (line : List ℕ) (fs : List (List ℕ)) → fields_of line ≡ fs → (point line ≡ Err Field) ⊎ Three line
@@ -193,7 +248,8 @@ point_view : (line : List ℕ) → (point line ≡ Err Field) ⊎ Three line
 point_view line = fields_view line (fields_of line) refl
 
 -- the coordinates of a packed point
-packed_coordinates : (a b c : ℕ) → a < 16384 → b < 16384 → c < 16384 → (x_of (a * 268435456 + b * 16384 + c) ≡ a) × (y_of (a * 268435456 + b * 16384 + c) ≡ b) × (z_of (a * 268435456 + b * 16384 + c) ≡ c)
+packed_coordinates : (a b c : ℕ) → a < 16384 → b < 16384 → c < 16384 → (x_of (a * 268435456 + b * 16384 + c) ≡ a) ×
+    (y_of (a * 268435456 + b * 16384 + c) ≡ b) × (z_of (a * 268435456 + b * 16384 + c) ≡ c)
 unfolding x_of y_of z_of
 packed_coordinates a b c p q r = (omega arith, omega arith, omega arith)
 
@@ -210,9 +266,21 @@ three_says line t p h =
             y = t.y;
             z = t.z;
             fields = t.fields;
-            x_value = of_number t.x (x_of packed) (t.x_read ∙ ap (λ (n : ℕ). Some n) (sym at.0)) (omega (arith, at.0, k.0));
-            y_value = of_number t.y (y_of packed) (t.y_read ∙ ap (λ (n : ℕ). Some n) (sym at.1)) (omega (arith, at.1, k.1));
-            z_value = of_number t.z (z_of packed) (t.z_read ∙ ap (λ (n : ℕ). Some n) (sym at.2)) (omega (arith, at.2, k.2));
+            x_value = of_number t.x (x_of packed) (t.x_read ∙ ap (λ (n : ℕ). Some n) (sym at.0)) (omega (
+              arith,
+              at.0,
+              k.0,
+            ));
+            y_value = of_number t.y (y_of packed) (t.y_read ∙ ap (λ (n : ℕ). Some n) (sym at.1)) (omega (
+              arith,
+              at.1,
+              k.1,
+            ));
+            z_value = of_number t.z (z_of packed) (t.z_read ∙ ap (λ (n : ℕ). Some n) (sym at.2)) (omega (
+              arith,
+              at.2,
+              k.2,
+            ));
             key = omega (arith, k.0, k.1, k.2);
           })
     ]
@@ -227,11 +295,23 @@ point_sound line p h =
 pub point_complete : (line : List ℕ) (p : ℕ) → IsPointLine line p → point line ≡ Ok p
 point_complete line p s =
     let below = coordinate_below p in
-    let f : HasPointForm line = record { x = s.x; y = s.y; z = s.z; fields = s.fields; x_number = s.x_value.number; y_number = s.y_value.number; z_number = s.z_value.number } in
+    let f : HasPointForm line = record {
+      x = s.x;
+      y = s.y;
+      z = s.z;
+      fields = s.fields;
+      x_number =
+          s.x_value.number;
+      y_number = s.y_value.number;
+      z_number = s.z_value.number;
+    } in
     point_fields line (s.x ∷ s.y ∷ s.z ∷ []) (form_fields line f)
-    ∙ ap (λ (o : Option ℕ). point_from o (number s.y) (number s.z)) (number_of s.x (x_of p) s.x_value (omega (arith, below.0)))
-    ∙ ap (λ (o : Option ℕ). point_from (Some (x_of p)) o (number s.z)) (number_of s.y (y_of p) s.y_value (omega (arith, below.1)))
-    ∙ ap (λ (o : Option ℕ). point_from (Some (x_of p)) (Some (y_of p)) o) (number_of s.z (z_of p) s.z_value (omega (arith, below.2)))
+    ∙ ap (λ (o : Option ℕ). point_from o (number s.y) (number s.z)) (number_of s.x (x_of p) s.x_value
+    (omega (arith, below.0)))
+    ∙ ap (λ (o : Option ℕ). point_from (Some (x_of p)) o (number s.z)) (number_of s.y (y_of p) s.y_value
+    (omega (arith, below.1)))
+    ∙ ap (λ (o : Option ℕ). point_from (Some (x_of p)) (Some (y_of p)) o) (number_of s.z (z_of p) s.z_value
+    (omega (arith, below.2)))
     ∙ point_at_own p s.key
 
 point_at_field : (a b c : ℕ) → point_at a b c ≡ Err Field → ⊥
@@ -254,4 +334,11 @@ point_only line why h =
     ]
 
 pub points_decided : Decides point IsPointLine HasPointForm
-points_decided = record { sound = point_sound; complete = point_complete; field = point_field; range = point_range; only = point_only }
+points_decided = record {
+  sound = point_sound;
+  complete = point_complete;
+  field = point_field;
+  range =
+      point_range;
+  only = point_only;
+}

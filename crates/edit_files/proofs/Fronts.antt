@@ -1,5 +1,23 @@
 -- Where the reader is says what lines it took.
-use Rattle.std.proofs.Common.{◌≡◌, ℕ, ◌+◌, ◌≤◌, true, false, List, [], ◌∷◌, ◌++◌, length, refl, sym, ap, ◌∙◌, arith, append_assoc}
+use Rattle.std.proofs.Common.{
+  ◌≡◌,
+  ℕ,
+  ◌+◌,
+  ◌≤◌,
+  true,
+  false,
+  List,
+  [],
+  ◌∷◌,
+  ◌++◌,
+  length,
+  refl,
+  sym,
+  ap,
+  ◌∙◌,
+  arith,
+  append_assoc,
+}
 use Rattle.std.specs.Prelude.{codes}
 use Rattle.std.specs.List.{AllZip}
 use Rattle.std.proofs.lemmas.List.{append-nil}
@@ -84,7 +102,8 @@ join_three front rest a b =
     sym (append_assoc (front ++ a ∷ []) (b ∷ []) rest ∙ append_assoc front (a ∷ []) (b ∷ rest))
 
 -- the end behind the section of queries
-ended_by : (v : Version) (front : List (List ℕ)) → front ++ words_behind v ≡ front ++ query_section v [] ++ codes "end" ∷ []
+ended_by : (v : Version) (front : List (List ℕ)) → front ++ words_behind v ≡ front ++ query_section v [] ++ codes "end"
+    ∷ []
 ended_by v front = sym (append_assoc front (query_section v []) (codes "end" ∷ []))
 
 whole_is : (v : Version) (place : Place) (pls els rls qls : List (List ℕ)) → AreUnmet v place pls els rls qls
@@ -101,7 +120,8 @@ whole_is v places.Queries pls els rls qls h = rw h refl
 whole_is v places.End pls els rls qls h = append-nil _
 
 -- lines that lead to a place are the first of a file
-pub first_lines : (limits : Limits) (front : List (List ℕ)) (place : Place) (t : Content) → Leads limits front place t → AreFirstLines limits front
+pub first_lines : (limits : Limits) (front : List (List ℕ)) (place : Place) (t : Content) → Leads limits front place t →
+    AreFirstLines limits front
 first_lines limits front place t k =
     first_lines_of limits front (words_from t.version place) t (record {
       version = k.version;
@@ -122,7 +142,8 @@ first_lines limits front place t k =
     })
 
 -- at the end they are all lines of a file
-pub all_lines : (limits : Limits) (front : List (List ℕ)) (t : Content) → Leads limits front places.End t → AreFileLines limits front t
+pub all_lines : (limits : Limits) (front : List (List ℕ)) (t : Content) → Leads limits front places.End t →
+    AreFileLines limits front t
 all_lines limits front t k = record {
   version = k.version;
   points = k.points;

@@ -1,10 +1,58 @@
 -- The lines of a generated file, one after another, and its laws.
-use Rattle.std.proofs.Common.{◌≡◌, ◌≢◌, ◌∙◌, refl, sym, ap, subst, ℕ, suc, ◌+◌, ◌-◌, ◌*◌, ◌/◌, ◌%◌, ◌<◌, ◌≤◌, Bool, true, false, cond, eqb, List, [], ◌∷◌, ◌++◌, map, get_or, length, arith, eq-eqb, inl, inr, Some, lit<, lit≤, slice_index, add-one}
+use Rattle.std.proofs.Common.{
+  ◌≡◌,
+  ◌≢◌,
+  ◌∙◌,
+  refl,
+  sym,
+  ap,
+  subst,
+  ℕ,
+  suc,
+  ◌+◌,
+  ◌-◌,
+  ◌*◌,
+  ◌/◌,
+  ◌%◌,
+  ◌<◌,
+  ◌≤◌,
+  Bool,
+  true,
+  false,
+  cond,
+  eqb,
+  List,
+  [],
+  ◌∷◌,
+  ◌++◌,
+  map,
+  get_or,
+  length,
+  arith,
+  eq-eqb,
+  inl,
+  inr,
+  Some,
+  lit<,
+  lit≤,
+  slice_index,
+  add-one,
+}
 use Rattle.std.specs.List.{range_with_len, AllByRecursion}
 use Rattle.std.proofs.lemmas.Bool.{both_ways, ne_eqb}
 use Rattle.std.proofs.lemmas.List.FromFn.{map-range_with_len_more, get_or-map-range_with_len, length-map-range_with_len}
 use Rattle.point_order.specs.Coordinates.{x_of, y_of, z_of, IsKey}
-use Rattle.point_order.specs.Orientation.{x_from, y_from, z_from, minor, triple, orientation, normal_x, normal_y, normal_z}
+use Rattle.point_order.specs.Orientation.{
+  x_from,
+  y_from,
+  z_from,
+  minor,
+  triple,
+  orientation,
+  normal_x,
+  normal_y,
+  normal_z,
+}
 use Rattle.point_order.specs.Sets.{is_among, IsIn}
 use Rattle.point_order.specs.Solid.{is_solid}
 use Rattle.edit_history.specs.declared.history.Edit.{Edit}
@@ -18,7 +66,21 @@ use Rattle.edit_files.specs.Grammar.{up_to}
 use Rattle.edit_files.specs.declared.version.Version.TheVariants.{One}
 use Rattle.edit_files.specs.Writing.{IsEditOf, IsWithin}
 use Rattle.edit_files.specs.Keys.{coordinate_count, key_of}
-use Rattle.edit_files.specs.Generator.{next_state, state_after, draw, draw_of, drawn_point, most_edits, point_behind, draws_before, drawn_by, corners, back_to, edit_line, generated}
+use Rattle.edit_files.specs.Generator.{
+  next_state,
+  state_after,
+  draw,
+  draw_of,
+  drawn_point,
+  most_edits,
+  point_behind,
+  draws_before,
+  drawn_by,
+  corners,
+  back_to,
+  edit_line,
+  generated,
+}
 
 -- ---- draws
 
@@ -37,40 +99,55 @@ drawn_behind start m =
 -- ---- one line more
 
 -- all lines and the next are the first lines, one more
-pub more_lines : (start n : ℕ) (edits new : List Edit) (edit : Edit) → edits ≡ map (edit_line start) (range_with_len 1 n) → edit ≡ edit_line start (n + 1) → new ≡ edits ++ edit ∷ [] → new ≡ map (edit_line start) (range_with_len 1 (n + 1))
+pub more_lines : (start n : ℕ) (edits new : List Edit) (edit : Edit) →
+    edits ≡ map (edit_line start) (range_with_len 1 n) → edit ≡ edit_line start (n + 1) → new ≡ edits ++ edit ∷ [] →
+    new ≡ map (edit_line start) (range_with_len 1 (n + 1))
 more_lines start n edits new edit lines e k =
     let at : 1 + n ≡ n + 1 = omega arith in
-    k ∙ ap (λ (es : List Edit). es ++ edit ∷ []) lines ∙ ap (λ (x : Edit). map (edit_line start) (range_with_len 1 n) ++ x ∷ []) e ∙ sym (map-range_with_len_more (edit_line start) 1 n (n + 1) at)
+    k ∙ ap (λ (es : List Edit). es ++ edit ∷ []) lines ∙ ap (λ (x : Edit). map (edit_line start) (range_with_len 1 n) ++
+    x ∷ []) e ∙ sym (map-range_with_len_more (edit_line start) 1 n (n + 1) at)
 
-pub count_lines : (start n : ℕ) (edits : List Edit) → edits ≡ map (edit_line start) (range_with_len 1 n) → length edits ≡ n
+pub count_lines : (start n : ℕ) (edits : List Edit) → edits ≡ map (edit_line start) (range_with_len 1 n) →
+    length edits ≡ n
 count_lines start n edits lines = ap length lines ∙ length-map-range_with_len (edit_line start) 1 n
 
 -- a line that goes back
-pub goes_back : (start n : ℕ) (edits : List Edit) (older edit : Edit) (p : ℕ) → edits ≡ map (edit_line start) (range_with_len 1 n) → n % 4 ≡ 3 →
+pub goes_back : (start n : ℕ) (edits : List Edit) (older edit : Edit) (p : ℕ) →
+    edits ≡ map (edit_line start) (range_with_len 1 n) → n % 4 ≡ 3 →
     older ≡ get_or edits (n - 2) older → p ≡ point_of older → edit ≡ back_to p → edit ≡ edit_line start (n + 1)
 goes_back start n edits older edit p lines m o q e =
     let at : 1 + (n - 2) ≡ n + 1 - 2 = omega arith in
     let below : n - 2 < n = omega arith in
     let drew : eqb ((n + 1 - 2) % 4) 0 ≡ false = ne_eqb ((n + 1 - 2) % 4) 0 (λ z. absurd (omega (arith, z))) in
     let back : eqb ((n + 1) % 4) 0 ≡ true = eq-eqb ((n + 1) % 4) 0 (omega arith) in
-    let line : older ≡ edit_line start (n + 1 - 2) = o ∙ ap (λ (es : List Edit). get_or es (n - 2) older) lines ∙ get_or-map-range_with_len (edit_line start) 1 n (n - 2) (n + 1 - 2) older below at in
-    let adds : older ≡ Add (drawn_by start (n + 1 - 2)) = line ∙ ap (λ (b : Bool). cond b (back_to (drawn_by start (n + 1 - 2 - 2))) (Add (drawn_by start (n + 1 - 2)))) drew in
-    e ∙ ap back_to (q ∙ ap point_of adds) ∙ sym (ap (λ (b : Bool). cond b (back_to (drawn_by start (n + 1 - 2))) (Add (drawn_by start (n + 1)))) back)
+    let line : older ≡ edit_line start (n + 1 - 2) = o ∙ ap (λ (es : List Edit). get_or es (n - 2) older) lines
+    ∙ get_or-map-range_with_len (edit_line start) 1 n (n - 2) (n + 1 - 2) older below at in
+    let adds : older ≡ Add (drawn_by start (n + 1 - 2)) = line
+    ∙ ap (λ (b : Bool). cond b (back_to (drawn_by start (n + 1 - 2 - 2))) (Add (drawn_by start (n + 1 - 2))))
+    drew in
+    e ∙ ap back_to (q ∙ ap point_of adds)
+    ∙ sym (ap (λ (b : Bool). cond b (back_to (drawn_by start (n + 1 - 2))) (Add (drawn_by start (n + 1)))) back)
 
 -- a line that draws
-pub draws_line : (start n s p : ℕ) (edit : Edit) → s ≡ state_after start (3 * (n - n / 4)) → n % 4 ≢ 3 → p ≡ point_behind s → edit ≡ Add p → edit ≡ edit_line start (n + 1)
+pub draws_line : (start n s p : ℕ) (edit : Edit) → s ≡ state_after start (3 * (n - n / 4)) → n % 4 ≢ 3 →
+    p ≡ point_behind s → edit ≡ Add p → edit ≡ edit_line start (n + 1)
 draws_line start n s p edit state m q e =
     let adds : eqb ((n + 1) % 4) 0 ≡ false = ne_eqb ((n + 1) % 4) 0 (λ z. m (omega (arith, z))) in
     let behind : 3 * (n - n / 4) ≡ draws_before (n + 1) = omega arith in
-    let drawn : p ≡ drawn_by start (n + 1) = q ∙ ap point_behind state ∙ sym (drawn_behind start (3 * (n - n / 4))) ∙ ap (drawn_point start) behind in
-    e ∙ ap Add drawn ∙ sym (ap (λ (b : Bool). cond b (back_to (drawn_by start (n + 1 - 2))) (Add (drawn_by start (n + 1)))) adds)
+    let drawn : p ≡ drawn_by start (n + 1) = q ∙ ap point_behind state ∙ sym (drawn_behind start (3 * (n - n / 4)))
+    ∙ ap (drawn_point start) behind in
+    e ∙ ap Add drawn ∙ sym (ap (λ (b : Bool). cond b (back_to (drawn_by start (n + 1 - 2)))
+    (Add (drawn_by start (n + 1)))) adds)
 
 -- the state behind a line that goes back
-pub same_state : (start n s : ℕ) → s ≡ state_after start (3 * (n - n / 4)) → n % 4 ≡ 3 → s ≡ state_after start (3 * (n + 1 - (n + 1) / 4))
-same_state start n s state m = let e : 3 * (n - n / 4) ≡ 3 * (n + 1 - (n + 1) / 4) = omega arith in state ∙ ap (state_after start) e
+pub same_state : (start n s : ℕ) → s ≡ state_after start (3 * (n - n / 4)) → n % 4 ≡ 3 →
+    s ≡ state_after start (3 * (n + 1 - (n + 1) / 4))
+same_state start n s state m = let e : 3 * (n - n / 4) ≡ 3 * (n + 1 - (n + 1) / 4) = omega arith in state
+    ∙ ap (state_after start) e
 
 -- the state behind a line that draws
-pub third_state : (start n s t : ℕ) → s ≡ state_after start (3 * (n - n / 4)) → n % 4 ≢ 3 → t ≡ next_state (next_state (next_state s)) → t ≡ state_after start (3 * (n + 1 - (n + 1) / 4))
+pub third_state : (start n s t : ℕ) → s ≡ state_after start (3 * (n - n / 4)) → n % 4 ≢ 3 →
+    t ≡ next_state (next_state (next_state s)) → t ≡ state_after start (3 * (n + 1 - (n + 1) / 4))
 third_state start n s t state m k =
     let e : suc (suc (suc (3 * (n - n / 4)))) ≡ 3 * (n + 1 - (n + 1) / 4) = omega arith in
     k ∙ ap (λ (u : ℕ). next_state (next_state (next_state u))) state ∙ ap (state_after start) e
@@ -97,8 +174,10 @@ line_takes : (start i q : ℕ) → is_among q corners ≡ true → Take q ≡ ed
 line_takes start i q a e = by (eqb (i % 4) 0) refl
   where
     by : (b : Bool) → eqb (i % 4) 0 ≡ b → ⊥
-    by true m = back_takes (drawn_by start (i - 2)) q a (e ∙ ap (λ (b : Bool). cond b (back_to (drawn_by start (i - 2))) (Add (drawn_by start i))) m)
-    by false m = let k : Take q ≡ Add (drawn_by start i) = e ∙ ap (λ (b : Bool). cond b (back_to (drawn_by start (i - 2))) (Add (drawn_by start i))) m in absurd cc
+    by true m = back_takes (drawn_by start (i - 2)) q a (e ∙ ap (λ (b : Bool). cond b (back_to (drawn_by start (i - 2)))
+        (Add (drawn_by start i))) m)
+    by false m = let k : Take q ≡ Add (drawn_by start i) = e
+        ∙ ap (λ (b : Bool). cond b (back_to (drawn_by start (i - 2))) (Add (drawn_by start i))) m in absurd cc
 
 none_takes : (start q : ℕ) → is_among q corners ≡ true → (is : List ℕ) → IsIn (Take q) (map (edit_line start) is) → ⊥
 none_takes start q a [] i = absurd i
@@ -119,7 +198,8 @@ line_still start i = by (eqb (i % 4) 0)
 
 pub generated_still : (count start : ℕ) → All (λ e. is_move e ≡ false) (generated count start).edits
 generated_still count start = all_of_each (λ e. is_move e ≡ false) (map (edit_line start) (range_with_len 1 count))
-    (λ e i. let r = mapped_from (edit_line start) e (range_with_len 1 count) i in sym (ap is_move r.2) ∙ line_still start r.0)
+    (λ e i. let r = mapped_from (edit_line start) e (range_with_len 1 count) i in sym (ap is_move r.2)
+    ∙ line_still start r.0)
 
 none_moves : (start p q : ℕ) (is : List ℕ) → IsIn (Move p q) (map (edit_line start) is) → ⊥
 none_moves start p q [] i = absurd i
@@ -166,12 +246,17 @@ line_key start i = by (eqb (i % 4) 0)
     back p false k = k
 
     by : (b : Bool) → HasKeys (cond b (back_to (drawn_by start (i - 2))) (Add (drawn_by start i)))
-    by true = back (drawn_by start (i - 2)) (is_among (drawn_by start (i - 2)) corners) (drawn_key start (draws_before (i - 2)))
+    by true = back (drawn_by start (i - 2)) (is_among (drawn_by start (i - 2)) corners) (drawn_key start
+        (draws_before (i - 2)))
     by false = drawn_key start (draws_before i)
 
 lines_keys : (start : ℕ) (is : List ℕ) → AllByRecursion (IsEditOf One) (map (edit_line start) is)
 lines_keys start [] = tt
-lines_keys start (i ∷ is) = ((line_key start i, λ moves. absurd (both_ways _ (line_still start i) moves)), lines_keys start is)
+lines_keys start (i ∷ is) = (
+  (line_key start i, λ moves. absurd (both_ways _ (line_still start i) moves)),
+  lines_keys
+      start is,
+)
 
 pub generated_within : (count start : ℕ) → count ≤ most_edits → IsWithin (up_to One) (generated count start)
 generated_within count start few = record {

@@ -1,5 +1,27 @@
 -- Numbers, points and edits as they are read.
-use Rattle.std.proofs.Common.{◌≡◌, ℕ, ◌+◌, ◌*◌, ◌-◌, ◌<◌, min, true, false, cond, ltb, ◌&&◌, ap, List, [], ◌∷◌, length, Some, None, refl, arith}
+use Rattle.std.proofs.Common.{
+  ◌≡◌,
+  ℕ,
+  ◌+◌,
+  ◌*◌,
+  ◌-◌,
+  ◌<◌,
+  min,
+  true,
+  false,
+  cond,
+  ltb,
+  ◌&&◌,
+  ap,
+  List,
+  [],
+  ◌∷◌,
+  length,
+  Some,
+  None,
+  refl,
+  arith,
+}
 use Rattle.std.specs.Char.{is_ascii_digit}
 use Rattle.std.specs.Str.Parse.{starts_with_minus}
 use Rattle.edit_files.specs.Numbers.{after_minus}
@@ -14,7 +36,8 @@ pub digits_from_nil : (n : ℕ) → digits_from n [] ≡ Some n
 unfolding digits_from
 digits_from_nil n = refl
 
-pub digits_from_digit : (n c : ℕ) (cs : List ℕ) → is_ascii_digit c ≡ true → digits_from n (c ∷ cs) ≡ digits_from (min (n * 10 + (c - 48)) far) cs
+pub digits_from_digit : (n c : ℕ) (cs : List ℕ) → is_ascii_digit c ≡ true →
+    digits_from n (c ∷ cs) ≡ digits_from (min (n * 10 + (c - 48)) far) cs
 unfolding digits_from
 digits_from_digit n c cs h = rw h refl
 
@@ -27,7 +50,8 @@ unfolding digits
 digits_nil = refl
 
 -- a number is read from its digits and its minus
-pub number_is : (bs : List ℕ) (n : ℕ) → digits (after_minus bs) ≡ Some n → number bs ≡ Some (cond (starts_with_minus bs && ltb 0 n) far n)
+pub number_is : (bs : List ℕ) (n : ℕ) → digits (after_minus bs) ≡ Some n →
+    number bs ≡ Some (cond (starts_with_minus bs && ltb 0 n) far n)
 unfolding number
 number_is bs n h = ap (signed (starts_with_minus bs)) h
 

@@ -1,5 +1,33 @@
 -- Lines of two places, as a move has them.
-use Rattle.std.proofs.Common.{◌≡◌, ℕ, ◌+◌, ◌-◌, ◌<◌, ◌≤◌, ◌⊎◌, List, [], ◌∷◌, ◌++◌, length, take, Option, Some, None, Result, Ok, Err, refl, sym, ap, subst, ◌∙◌, arith, inl, inr}
+use Rattle.std.proofs.Common.{
+  ◌≡◌,
+  ℕ,
+  ◌+◌,
+  ◌-◌,
+  ◌<◌,
+  ◌≤◌,
+  ◌⊎◌,
+  List,
+  [],
+  ◌∷◌,
+  ◌++◌,
+  length,
+  take,
+  Option,
+  Some,
+  None,
+  Result,
+  Ok,
+  Err,
+  refl,
+  sym,
+  ap,
+  subst,
+  ◌∙◌,
+  arith,
+  inl,
+  inr,
+}
 use Rattle.std.specs.List.{join_with_byte}
 use Rattle.std.proofs.Math.Seq.{take-append_seam}
 use Rattle.std.proofs.lemmas.List.{length-append}
@@ -11,7 +39,15 @@ use Rattle.edit_files.specs.declared.fault.Why.TheVariants.{Section, Field, Rang
 use Rattle.edit_files.specs.Forms.{spaced, HasPointForm, HasPairForm, IsPairLine}
 use Rattle.edit_files.specs.Judging.{point, fields_of, halves, halves_of, worse, move_from, move_of, edit_from}
 use Rattle.edit_files.proofs.Points.{some_field}
-use Rattle.edit_files.proofs.Decided.{four_fields, from_four, point_sound, point_complete, point_field, point_range, point_only}
+use Rattle.edit_files.proofs.Decided.{
+  four_fields,
+  from_four,
+  point_sound,
+  point_complete,
+  point_field,
+  point_range,
+  point_only,
+}
 
 -- ---- two places
 
@@ -172,8 +208,7 @@ pair_sound line e h =
     elim (cut_view line (fields_of line) refl) [
       | inl none ↦ (let k : move_line line ≡ Err Field = ap move_of none in absurd cc)
       | inr c ↦
-          let m = move_ok (point c.from) (point c.to) e (sym c.reads ∙ h) in
-          (
+          let m = move_ok (point c.from) (point c.to) e (sym c.reads ∙ h) in (
             m.0,
             m.1,
             record {

@@ -1,5 +1,37 @@
 -- The point of a line, from its fields.
-use Rattle.std.proofs.Common.{◌≡◌, ◌≢◌, ℕ, suc, ◌+◌, ◌*◌, ◌<◌, ◌≤◌, ltb, length, get_or, drop, arith, Bor, eq-eqb, Bool, true, false, cond, eqb, List, [], ◌∷◌, Option, Some, None, Ok, Err, refl, ap, ◌∙◌}
+use Rattle.std.proofs.Common.{
+  ◌≡◌,
+  ◌≢◌,
+  ℕ,
+  suc,
+  ◌+◌,
+  ◌*◌,
+  ◌<◌,
+  ◌≤◌,
+  ltb,
+  length,
+  get_or,
+  drop,
+  arith,
+  Bor,
+  eq-eqb,
+  Bool,
+  true,
+  false,
+  cond,
+  eqb,
+  List,
+  [],
+  ◌∷◌,
+  Option,
+  Some,
+  None,
+  Ok,
+  Err,
+  refl,
+  ap,
+  ◌∙◌,
+}
 use Rattle.std.specs.Prelude.{MatchOption, is_some}
 use Rattle.point_order.specs.Coordinates.{x_of, y_of, z_of, IsKey}
 use Rattle.std.proofs.lemmas.Bool.{ne_eqb, lt-ltb}
@@ -7,7 +39,18 @@ use Rattle.std.specs.List.{onto_first}
 use Rattle.edit_files.specs.declared.fault.Why.TheVariants.{Field}
 use Rattle.edit_files.specs.declared.version.Version.{Version}
 use Rattle.edit_files.specs.Versions.{row}
-use Rattle.edit_files.specs.Judging.{number, point, point_at, point_from, point_from_fields, fields_of, halves, move_of, edit, edit_at}
+use Rattle.edit_files.specs.Judging.{
+  number,
+  point,
+  point_at,
+  point_from,
+  point_from_fields,
+  fields_of,
+  halves,
+  move_of,
+  edit,
+  edit_at,
+}
 
 pub point_one : (line x : List ℕ) → fields_of line ≡ x ∷ [] → point line ≡ Err Field
 unfolding point
@@ -17,7 +60,8 @@ pub point_two : (line x r y : List ℕ) → fields_of line ≡ x ∷ fields_of r
 unfolding point
 point_two line x r y a b = ap point_from_fields (a ∙ ap (λ (fs : List (List ℕ)). x ∷ fs) b)
 
-some_first : (t : Bool) (b : ℕ) (fs : List (List ℕ)) → (g : List ℕ) × (gs : List (List ℕ)) × (cond t ([] ∷ fs) (onto_first b fs) ≡ g ∷ gs)
+some_first : (t : Bool) (b : ℕ) (fs : List (List ℕ)) → (g : List ℕ) × (gs : List (List ℕ)) × (cond t ([] ∷ fs)
+    (onto_first b fs) ≡ g ∷ gs)
 some_first true b fs = ([], fs, refl)
 some_first false b [] = (b ∷ [], [], refl)
 some_first false b (f ∷ fs) = (b ∷ f, fs, refl)
@@ -27,30 +71,37 @@ pub some_field : (line : List ℕ) → (f : List ℕ) × (fs : List (List ℕ)) 
 some_field [] = ([], [], refl)
 some_field (b ∷ bs) = some_first (eqb b 32) b (fields_of bs)
 
-joined : (line x r y q z : List ℕ) (fs : List (List ℕ)) → fields_of line ≡ x ∷ fields_of r → fields_of r ≡ y ∷ fields_of q → fields_of q ≡ z ∷ fs → fields_of line ≡ x ∷ y ∷ z ∷ fs
+joined : (line x r y q z : List ℕ) (fs : List (List ℕ)) → fields_of line ≡ x ∷ fields_of r →
+    fields_of r ≡ y ∷ fields_of q → fields_of q ≡ z ∷ fs → fields_of line ≡ x ∷ y ∷ z ∷ fs
 joined line x r y q z fs a b c = cc
 
-pub point_four : (line x r y q z s : List ℕ) → fields_of line ≡ x ∷ fields_of r → fields_of r ≡ y ∷ fields_of q → fields_of q ≡ z ∷ fields_of s → point line ≡ Err Field
+pub point_four : (line x r y q z s : List ℕ) → fields_of line ≡ x ∷ fields_of r → fields_of r ≡ y ∷ fields_of q →
+    fields_of q ≡ z ∷ fields_of s → point line ≡ Err Field
 unfolding point
 point_four line x r y q z s a b c =
     let more = some_field s in
-    ap point_from_fields (joined line x r y q z (fields_of s) a b c ∙ ap (λ (fs : List (List ℕ)). x ∷ y ∷ z ∷ fs) more.2)
+    ap point_from_fields (joined line x r y q z (fields_of s) a b c ∙ ap (λ (fs : List (List ℕ)). x ∷ y ∷ z ∷ fs)
+    more.2)
 
-pub point_is : (line x r y q z : List ℕ) → fields_of line ≡ x ∷ fields_of r → fields_of r ≡ y ∷ fields_of q → fields_of q ≡ z ∷ [] → point line ≡ point_from (number x) (number y) (number z)
+pub point_is : (line x r y q z : List ℕ) → fields_of line ≡ x ∷ fields_of r → fields_of r ≡ y ∷ fields_of q →
+    fields_of q ≡ z ∷ [] → point line ≡ point_from (number x) (number y) (number z)
 unfolding point
 point_is line x r y q z a b c = ap point_from_fields (joined line x r y q z [] a b c)
 
 -- what follows the third field, as it was found
-pub third_more : (o : Option (Bor (List ℕ))) (q z : List ℕ) → MatchOption o (fields_of q ≡ z ∷ []) (λ s. fields_of q ≡ z ∷ fields_of s.now) → is_some o ≡ true → (s : List ℕ) × (fields_of q ≡ z ∷ fields_of s)
+pub third_more : (o : Option (Bor (List ℕ))) (q z : List ℕ) → MatchOption o (fields_of q ≡ z ∷ []) (λ s. fields_of q ≡ z
+    ∷ fields_of s.now) → is_some o ≡ true → (s : List ℕ) × (fields_of q ≡ z ∷ fields_of s)
 third_more None q z h t = absurd cc
 third_more (Some s) q z h t = (s.now, h)
 
-pub third_last : (o : Option (Bor (List ℕ))) (q z : List ℕ) → MatchOption o (fields_of q ≡ z ∷ []) (λ s. fields_of q ≡ z ∷ fields_of s.now) → is_some o ≡ false → fields_of q ≡ z ∷ []
+pub third_last : (o : Option (Bor (List ℕ))) (q z : List ℕ) → MatchOption o (fields_of q ≡ z ∷ []) (λ s. fields_of q ≡ z
+    ∷ fields_of s.now) → is_some o ≡ false → fields_of q ≡ z ∷ []
 third_last None q z h t = h
 third_last (Some s) q z h t = absurd cc
 
 -- an edit line, by its first two bytes
-pub edit_is : (v : Version) (line : List ℕ) → 2 ≤ length line → get_or line 1 0 ≡ 32 → edit v line ≡ edit_at v (get_or line 0 0) (drop 2 line)
+pub edit_is : (v : Version) (line : List ℕ) → 2 ≤ length line → get_or line 1 0 ≡ 32 →
+    edit v line ≡ edit_at v (get_or line 0 0) (drop 2 line)
 unfolding edit
 edit_is v [] len space = absurd (omega arith)
 edit_is v (s ∷ []) len space = absurd (omega arith)

@@ -1,5 +1,37 @@
 -- Why a line that is not taken is bad.
-use Rattle.std.proofs.Common.{◌≡◌, ℕ, ◌+◌, ◌≤◌, Bool, true, false, cond, leb, not, ◌⊎◌, List, [], ◌∷◌, ◌++◌, length, drop, Option, Some, None, Result, Ok, Err, refl, sym, ap, subst, ◌∙◌, arith, inl, inr}
+use Rattle.std.proofs.Common.{
+  ◌≡◌,
+  ℕ,
+  ◌+◌,
+  ◌≤◌,
+  Bool,
+  true,
+  false,
+  cond,
+  leb,
+  not,
+  ◌⊎◌,
+  List,
+  [],
+  ◌∷◌,
+  ◌++◌,
+  length,
+  drop,
+  Option,
+  Some,
+  None,
+  Result,
+  Ok,
+  Err,
+  refl,
+  sym,
+  ap,
+  subst,
+  ◌∙◌,
+  arith,
+  inl,
+  inr,
+}
 use Rattle.std.specs.Prelude.{codes}
 use Rattle.std.specs.List.{count_by}
 use Rattle.std.specs.Str.{bytes_eq}
@@ -20,16 +52,51 @@ use Rattle.edit_files.specs.Grammar.{Limits, query_limit, query_section, radius_
 use Rattle.edit_files.specs.Versions.{row, titled}
 use Rattle.edit_files.specs.declared.version.Version.{Version}
 use Rattle.edit_files.specs.declared.version.Version.TheVariants.{One, Two, Three, Four}
-use Rattle.edit_files.specs.Faults.{has, is_word, lines_after, is_full, told_or_first, version_in, IsForWords, HasForm, IsReason}
-use Rattle.edit_files.specs.Judging.{State, step, step_at, with_title, with_point, with_edit, with_radius, with_query, word_behind, place_behind, point, edit, radius}
+use Rattle.edit_files.specs.Faults.{
+  has,
+  is_word,
+  lines_after,
+  is_full,
+  told_or_first,
+  version_in,
+  IsForWords,
+  HasForm,
+  IsReason,
+}
+use Rattle.edit_files.specs.Judging.{
+  State,
+  step,
+  step_at,
+  with_title,
+  with_point,
+  with_edit,
+  with_radius,
+  with_query,
+  word_behind,
+  place_behind,
+  point,
+  edit,
+  radius,
+}
 use Rattle.edit_files.proofs.Decided.{err_same, points_decided}
 use Rattle.edit_files.proofs.DecidedEdits.{edits_decided, radii_decided}
-use Rattle.edit_files.proofs.Words.{HaveNoWord, IsNone, said_no_word, has_none, count_all, lines_after_at, point_no_word, edit_no_word, radius_no_word}
+use Rattle.edit_files.proofs.Words.{
+  HaveNoWord,
+  IsNone,
+  said_no_word,
+  has_none,
+  count_all,
+  lines_after_at,
+  point_no_word,
+  edit_no_word,
+  radius_no_word,
+}
 use Rattle.edit_files.proofs.Completes.{at, of_version, titled_title}
 use Rattle.edit_files.proofs.Fronts.{Leads, to_points, to_edits, to_radii}
 
 -- where a front stands in a list: what version it tells, whether the list is full, and what form a line is to have
-record InList (limits : Limits) (v : Version) (front : List (List ℕ)) (line : List ℕ) (full : Bool) (Form : Type 0) : Type 0 where
+record InList (limits : Limits) (v : Version) (front : List (List ℕ)) (line : List ℕ) (full : Bool) (Form : Type 0)
+    : Type 0 where
   told : version_in front ≡ v
   long : 2 ≤ length front
   unended : has (codes "end") front ≡ false
@@ -37,26 +104,49 @@ record InList (limits : Limits) (v : Version) (front : List (List ℕ)) (line : 
   to : HasForm front line → Form
   from : Form → HasForm front line
 
-not_for_words : (limits : Limits) (v : Version) (front : List (List ℕ)) (line : List ℕ) (full : Bool) (Form : Type 0) → InList limits v front line full Form → is_word v line ≡ false → IsForWords front line → ⊥
+not_for_words : (limits : Limits) (v : Version) (front : List (List ℕ)) (line : List ℕ) (full : Bool) (Form : Type 0) →
+    InList limits v front line full Form → is_word v line ≡ false → IsForWords front line → ⊥
 not_for_words limits v front line full Form l w h =
     elim h [
       | inl lt ↦ absurd (omega (arith, l.long))
-      | inr k ↦ elim k [ inl e ↦ both_ways _ l.unended e | inr e ↦ both_ways _ (ap (λ (u : Version). is_word u line) l.told ∙ w) e ]
+      | inr k ↦ elim k [
+        | inl e ↦ both_ways _ l.unended e
+        | inr e ↦ both_ways _ (ap (λ (u : Version). is_word u line)
+            l.told ∙ w) e
+      ]
     ]
 
-reason_by : (limits : Limits) (v : Version) (front : List (List ℕ)) (line : List ℕ) (full word : Bool) (Form : Type 0) (w : Result State Why) (why : Why)
-    → InList limits v front line full Form → (w ≡ Err Field → Form → ⊥) → (w ≡ Err Range → Form) → ((x : Why) → w ≡ Err x → (x ≡ Field) ⊎ (x ≡ Range))
-    → is_word v line ≡ word → cond word (Err Section) (cond full (Err TooMany) w) ≡ Err why → IsReason limits front line why
+reason_by : (limits : Limits) (v : Version) (front : List (List ℕ)) (line : List ℕ) (full word : Bool) (Form : Type 0)
+    (w : Result State Why) (why : Why)
+    → InList limits v front line full Form → (w ≡ Err Field → Form → ⊥) → (w ≡ Err Range → Form) →
+    ((x : Why) → w ≡ Err x → (x ≡ Field) ⊎ (x ≡ Range))
+    → is_word v line ≡ word → cond word (Err Section) (cond full (Err TooMany) w) ≡ Err why →
+    IsReason limits front line why
 reason_by limits v front line full true Form w why l field range only word h =
-    subst (λ (x : Why). IsReason limits front line x) (err_same Section why h) (inr (inr (ap (λ (u : Version). is_word u line) l.told ∙ word)))
+    subst (λ (x : Why). IsReason limits front line x) (err_same Section why h)
+    (inr (inr (ap (λ (u : Version). is_word u line) l.told ∙ word)))
 reason_by limits v front line true false Form w why l field range only word h =
-    subst (λ (x : Why). IsReason limits front line x) (err_same TooMany why h) (not_for_words limits v front line true Form l word, l.full_is)
+    subst (λ (x : Why). IsReason limits front line x) (err_same TooMany why h) (
+      not_for_words limits v front line true
+          Form l word,
+      l.full_is,
+    )
 reason_by limits v front line false false Form w why l field range only word h =
     let here = not_for_words limits v front line false Form l word in
     let room : not (is_full limits front) ≡ true = rw l.full_is refl in
     elim (only why h) [
-      | inl e ↦ subst (λ (x : Why). IsReason limits front line x) (sym e) (here, room, λ f. field (h ∙ ap (λ (x : Why). Err x) e) (l.to f))
-      | inr e ↦ subst (λ (x : Why). IsReason limits front line x) (sym e) (here, room, l.from (range (h ∙ ap (λ (x : Why). Err x) e)))
+      | inl e ↦ subst (λ (x : Why). IsReason limits front line x) (sym e) (
+        here,
+        room,
+        λ f. field (h
+            ∙ ap (λ (x : Why). Err x) e) (l.to f),
+      )
+      | inr e ↦ subst (λ (x : Why). IsReason limits front line x) (sym e) (
+        here,
+        room,
+        l.from (range (h
+            ∙ ap (λ (x : Why). Err x) e)),
+      )
     ]
 
 -- a line of a list that was not taken
@@ -97,8 +187,10 @@ record IsLater (word : List ℕ) : Type 0 where
   heading : bytes_eq (codes "points") word ≡ false
   none : (line : List ℕ) → IsNone line → bytes_eq line word ≡ false
 
-has_lead : (v : Version) (word : List ℕ) → IsLater word → (pls : List (List ℕ)) → HaveNoWord pls → has word (to_points v pls) ≡ false
-has_lead v word w pls z = or_from _ _ (w.none (row v).title (title_no_word v)) (or_from _ _ w.heading (has_none word w.none pls z))
+has_lead : (v : Version) (word : List ℕ) → IsLater word → (pls : List (List ℕ)) → HaveNoWord pls →
+    has word (to_points v pls) ≡ false
+has_lead v word w pls z = or_from _ _ (w.none (row v).title (title_no_word v)) (or_from _ _ w.heading (has_none word
+    w.none pls z))
 
 has_both : (word : List ℕ) (a b : List (List ℕ)) → has word a ≡ false → has word b ≡ false → has word (a ++ b) ≡ false
 has_both word a b p q = list_any-append (λ line. bytes_eq line word) a b ∙ or_from _ _ p q
@@ -120,7 +212,8 @@ ends_later : IsLater (codes "end")
 ends_later = record { heading = refl; none = λ l n. n.end }
 
 -- a list behind its word has no later word
-has_list : (word here : List ℕ) (lines : List (List ℕ)) → IsLater word → bytes_eq here word ≡ false → HaveNoWord lines → has word (here ∷ lines) ≡ false
+has_list : (word here : List ℕ) (lines : List (List ℕ)) → IsLater word → bytes_eq here word ≡ false → HaveNoWord lines →
+    has word (here ∷ lines) ≡ false
 has_list word here lines w e z = or_from _ _ e (has_none word w.none lines z)
 
 abbrev counted : Version → List (List ℕ) → ℕ
@@ -135,20 +228,28 @@ count_points v pls z = sum_by-cons (counts v) (codes "points") pls ∙ omega (ar
 count_edits : (v : Version) (els : List (List ℕ)) → HaveNoWord els → counted v (codes "edits" ∷ els) ≡ length els
 count_edits v els z = sum_by-cons (counts v) (codes "edits") els ∙ omega (arith, count_all v els z)
 
-count_both : (v : Version) (pls els : List (List ℕ)) → HaveNoWord pls → HaveNoWord els → counted v ((codes "points" ∷ pls) ++ (codes "edits" ∷ els)) ≡ length pls + length els
-count_both v pls els p q = sum_by-append (counts v) (codes "points" ∷ pls) (codes "edits" ∷ els) ∙ omega (arith, count_points v pls p, count_edits v els q)
+count_both : (v : Version) (pls els : List (List ℕ)) → HaveNoWord pls → HaveNoWord els →
+    counted v ((codes "points" ∷ pls) ++ (codes "edits" ∷ els)) ≡ length pls + length els
+count_both v pls els p q = sum_by-append (counts v) (codes "points" ∷ pls) (codes "edits" ∷ els)
+    ∙ omega (arith, count_points v pls p, count_edits v els q)
 
 -- which form a line is to have
-form_points : (front : List (List ℕ)) (line : List ℕ) → has (codes "queries") front ≡ false → has (codes "radii") front ≡ false → has (codes "edits") front ≡ false → (HasForm front line → HasPointForm line) × (HasPointForm line → HasForm front line)
+form_points : (front : List (List ℕ)) (line : List ℕ) → has (codes "queries") front ≡ false →
+    has (codes "radii") front ≡ false → has (codes "edits") front ≡ false → (HasForm front line →
+    HasPointForm line) × (HasPointForm line → HasForm front line)
 form_points front line q r e = (λ h. rw (q, r, e) at h, λ f. rw (q, r, e) f)
 
-form_edits : (v : Version) (front : List (List ℕ)) (line : List ℕ) → version_in front ≡ v → has (codes "queries") front ≡ false → has (codes "radii") front ≡ false → has (codes "edits") front ≡ true → (HasForm front line → HasEditForm v line) × (HasEditForm v line → HasForm front line)
+form_edits : (v : Version) (front : List (List ℕ)) (line : List ℕ) → version_in front ≡ v →
+    has (codes "queries") front ≡ false → has (codes "radii") front ≡ false → has (codes "edits") front ≡ true →
+    (HasForm front line → HasEditForm v line) × (HasEditForm v line → HasForm front line)
 form_edits v front line t q r e = (λ h. rw (t, q, r, e) at h, λ f. rw (t, q, r, e) f)
 
-form_radii : (front : List (List ℕ)) (line : List ℕ) → has (codes "queries") front ≡ false → has (codes "radii") front ≡ true → (HasForm front line → IsNumber line) × (IsNumber line → HasForm front line)
+form_radii : (front : List (List ℕ)) (line : List ℕ) → has (codes "queries") front ≡ false →
+    has (codes "radii") front ≡ true → (HasForm front line → IsNumber line) × (IsNumber line → HasForm front line)
 form_radii front line q r = (λ h. rw (q, r) at h, λ f. rw (q, r) f)
 
-form_queries : (front : List (List ℕ)) (line : List ℕ) → has (codes "queries") front ≡ true → (HasForm front line → HasPointForm line) × (HasPointForm line → HasForm front line)
+form_queries : (front : List (List ℕ)) (line : List ℕ) → has (codes "queries") front ≡ true → (HasForm front line →
+    HasPointForm line) × (HasPointForm line → HasForm front line)
 form_queries front line q = (λ h. rw q at h, λ f. rw q f)
 
 -- the version that lines tell which begin with its title
@@ -156,13 +257,15 @@ told_by : (v : Version) (front rest : List (List ℕ)) → front ≡ (row v).tit
 told_by v front rest e = ap version_in e ∙ ap told_or_first (titled_title v)
 
 -- what the lines of a list say of words
-record Known {limits : Limits} {front : List (List ℕ)} {place : Place} {t : Content} (k : Leads limits front place t) : Type 0 where
+record Known {limits : Limits} {front : List (List ℕ)} {place : Place} {t : Content} (k : Leads limits front place t)
+    : Type 0 where
   points : HaveNoWord k.points
   edits : HaveNoWord k.edits
   radii : HaveNoWord k.radii
   queries : HaveNoWord k.queries
 
-known : {limits : Limits} {front : List (List ℕ)} {place : Place} {t : Content} (k : Leads limits front place t) → Known k
+known : {limits : Limits} {front : List (List ℕ)} {place : Place} {t : Content} (k : Leads limits front place t) →
+    Known k
 known {t = t} k = record {
   points = said_no_word IsPointLine point_no_word k.points t.points k.point_lines;
   edits = said_no_word (IsEditLine t.version) (edit_no_word t.version) k.edits t.edits k.edit_lines;
@@ -171,30 +274,48 @@ known {t = t} k = record {
 }
 
 -- no word behind the edits stands in the points and edits
-no_later : {limits : Limits} {front : List (List ℕ)} {place : Place} {t : Content} (k : Leads limits front place t) (word : List ℕ) → IsLater word → bytes_eq (codes "edits") word ≡ false → has word (to_edits t.version k.points k.edits) ≡ false
+no_later : {limits : Limits} {front : List (List ℕ)} {place : Place} {t : Content} (k : Leads limits front place t)
+    (word : List ℕ) → IsLater word → bytes_eq (codes "edits") word ≡ false →
+    has word (to_edits t.version k.points k.edits) ≡ false
 no_later {t = t} k word w e =
-    has_both word (to_points t.version k.points) (codes "edits" ∷ k.edits) (has_lead t.version word w k.points (known k).points)
+    has_both word (to_points t.version k.points) (codes "edits" ∷ k.edits) (has_lead t.version word w k.points
+    (known k).points)
     (has_list word (codes "edits") k.edits w e (known k).edits)
 
 -- nor one behind the radii in these and the radii
-no_last : {limits : Limits} {front : List (List ℕ)} {place : Place} {t : Content} (k : Leads limits front place t) (word : List ℕ) → IsLater word → bytes_eq (codes "edits") word ≡ false → bytes_eq (codes "radii") word ≡ false
+no_last : {limits : Limits} {front : List (List ℕ)} {place : Place} {t : Content} (k : Leads limits front place t)
+    (word : List ℕ) → IsLater word → bytes_eq (codes "edits") word ≡ false → bytes_eq (codes "radii") word ≡ false
     → has word (to_radii t.version k.points k.edits k.radii) ≡ false
 no_last {t = t} k word w e r =
-    has_both word (to_edits t.version k.points k.edits) (codes "radii" ∷ k.radii) (no_later k word w e) (has_list word (codes "radii") k.radii w r (known k).radii)
+    has_both word (to_edits t.version k.points k.edits) (codes "radii" ∷ k.radii) (no_later k word w e) (has_list word
+    (codes "radii") k.radii w r (known k).radii)
 
-in_points : (limits : Limits) (front : List (List ℕ)) (t : Content) (line : List ℕ) → Leads limits front places.Points t → InList limits t.version front line (leb limits.lines (length t.points + length t.edits)) (HasPointForm line)
+in_points : (limits : Limits) (front : List (List ℕ)) (t : Content) (line : List ℕ) →
+    Leads limits front places.Points t → InList limits t.version front line (leb limits.lines (length t.points + length
+    t.edits)) (HasPointForm line)
 in_points limits front t line k =
     let v : Version = t.version in
     let told : version_in front ≡ v = told_by v front (codes "points" ∷ k.points) k.order in
     let z : HaveNoWord k.points = (known k).points in
-    let queries : has (codes "queries") front ≡ false = ap (has (codes "queries")) k.order ∙ has_lead v (codes "queries") queries_later k.points z in
-    let radii : has (codes "radii") front ≡ false = ap (has (codes "radii")) k.order ∙ has_lead v (codes "radii") radii_later k.points z in
-    let edits : has (codes "edits") front ≡ false = ap (has (codes "edits")) k.order ∙ has_lead v (codes "edits") edits_later k.points z in
-    let ends : has (codes "end") front ≡ false = ap (has (codes "end")) k.order ∙ has_lead v (codes "end") ends_later k.points z in
+    let queries : has (codes "queries") front ≡ false = ap (has (codes "queries")) k.order
+    ∙ has_lead v (codes "queries") queries_later k.points z in
+    let radii : has (codes "radii") front ≡ false = ap (has (codes "radii")) k.order
+    ∙ has_lead v (codes "radii") radii_later k.points z in
+    let edits : has (codes "edits") front ≡ false = ap (has (codes "edits")) k.order
+    ∙ has_lead v (codes "edits") edits_later k.points z in
+    let ends : has (codes "end") front ≡ false = ap (has (codes "end")) k.order
+    ∙ has_lead v (codes "end") ends_later k.points z in
     let none : length k.edits ≡ 0 = ap length k.unmet.0 in
     let count : counted (version_in front) (drop 1 front) ≡ length t.points + length t.edits =
-    ap (λ (u : Version). counted u (drop 1 front)) told ∙ ap (λ (ls : List (List ℕ)). counted v (drop 1 ls)) k.order ∙ count_points v k.points z
-    ∙ omega (arith, none, length_zip IsPointLine k.points t.points k.point_lines, length_zip (IsEditLine v) k.edits t.edits k.edit_lines) in
+    ap (λ (u : Version). counted u (drop 1 front)) told ∙ ap (λ (ls : List (List ℕ)). counted v (drop 1 ls)) k.order
+    ∙ count_points v k.points z
+    ∙ omega (
+      arith,
+      none,
+      length_zip IsPointLine k.points t.points k.point_lines,
+      length_zip (IsEditLine v) k.edits
+          t.edits k.edit_lines,
+    ) in
     let form = form_points front line queries radii edits in
     record {
       told = told;
@@ -205,18 +326,30 @@ in_points limits front t line k =
       from = form.1;
     }
 
-in_edits : (limits : Limits) (front : List (List ℕ)) (t : Content) (line : List ℕ) → Leads limits front places.Edits t → InList limits t.version front line (leb limits.lines (length t.points + length t.edits)) (HasEditForm t.version line)
+in_edits : (limits : Limits) (front : List (List ℕ)) (t : Content) (line : List ℕ) → Leads limits front places.Edits t →
+    InList limits t.version front line (leb limits.lines (length t.points + length t.edits)) (HasEditForm t.version
+    line)
 in_edits limits front t line k =
     let v : Version = t.version in
     let tail : List (List ℕ) = codes "edits" ∷ k.edits in
     let told : version_in front ≡ v = told_by v front (codes "points" ∷ k.points ++ tail) k.order in
-    let queries : has (codes "queries") front ≡ false = ap (has (codes "queries")) k.order ∙ no_later k (codes "queries") queries_later refl in
-    let radii : has (codes "radii") front ≡ false = ap (has (codes "radii")) k.order ∙ no_later k (codes "radii") radii_later refl in
-    let edits : has (codes "edits") front ≡ true = ap (has (codes "edits")) k.order ∙ has_second (codes "edits") (to_points v k.points) tail refl in
-    let ends : has (codes "end") front ≡ false = ap (has (codes "end")) k.order ∙ no_later k (codes "end") ends_later refl in
+    let queries : has (codes "queries") front ≡ false = ap (has (codes "queries")) k.order
+    ∙ no_later k (codes "queries") queries_later refl in
+    let radii : has (codes "radii") front ≡ false = ap (has (codes "radii")) k.order
+    ∙ no_later k (codes "radii") radii_later refl in
+    let edits : has (codes "edits") front ≡ true = ap (has (codes "edits")) k.order
+    ∙ has_second (codes "edits") (to_points v k.points) tail refl in
+    let ends : has (codes "end") front ≡ false = ap (has (codes "end")) k.order
+    ∙ no_later k (codes "end") ends_later refl in
     let count : counted (version_in front) (drop 1 front) ≡ length t.points + length t.edits =
-    ap (λ (u : Version). counted u (drop 1 front)) told ∙ ap (λ (ls : List (List ℕ)). counted v (drop 1 ls)) k.order ∙ count_both v k.points k.edits (known k).points (known k).edits
-    ∙ omega (arith, length_zip IsPointLine k.points t.points k.point_lines, length_zip (IsEditLine v) k.edits t.edits k.edit_lines) in
+    ap (λ (u : Version). counted u (drop 1 front)) told ∙ ap (λ (ls : List (List ℕ)). counted v (drop 1 ls)) k.order
+    ∙ count_both v k.points k.edits (known k).points (known k).edits
+    ∙ omega (
+      arith,
+      length_zip IsPointLine k.points t.points k.point_lines,
+      length_zip (IsEditLine v) k.edits t.edits
+          k.edit_lines,
+    ) in
     let form = form_edits v front line told queries radii edits in
     record {
       told = told;
@@ -227,38 +360,57 @@ in_edits limits front t line k =
       from = form.1;
     }
 
-in_radii : (limits : Limits) (front : List (List ℕ)) (t : Content) (line : List ℕ) → Leads limits front places.Radii t → InList limits t.version front line (leb radius_limit (length t.radii)) (IsNumber line)
+in_radii : (limits : Limits) (front : List (List ℕ)) (t : Content) (line : List ℕ) → Leads limits front places.Radii t →
+    InList limits t.version front line (leb radius_limit (length t.radii)) (IsNumber line)
 in_radii limits front t line k =
     let v : Version = t.version in
     let before : List (List ℕ) = to_edits v k.points k.edits in
-    let told : version_in front ≡ v = told_by v front (codes "points" ∷ k.points ++ codes "edits" ∷ k.edits ++ codes "radii" ∷ k.radii) k.order in
-    let queries : has (codes "queries") front ≡ false = ap (has (codes "queries")) k.order ∙ no_last k (codes "queries") queries_later refl refl in
-    let radii : has (codes "radii") front ≡ true = ap (has (codes "radii")) k.order ∙ has_second (codes "radii") before (codes "radii" ∷ k.radii) refl in
-    let ends : has (codes "end") front ≡ false = ap (has (codes "end")) k.order ∙ no_last k (codes "end") ends_later refl refl in
+    let told : version_in front ≡ v = told_by v front (codes "points" ∷ k.points ++ codes "edits" ∷ k.edits ++ codes
+    "radii" ∷ k.radii) k.order in
+    let queries : has (codes "queries") front ≡ false = ap (has (codes "queries")) k.order
+    ∙ no_last k (codes "queries") queries_later refl refl in
+    let radii : has (codes "radii") front ≡ true = ap (has (codes "radii")) k.order
+    ∙ has_second (codes "radii") before (codes "radii" ∷ k.radii) refl in
+    let ends : has (codes "end") front ≡ false = ap (has (codes "end")) k.order
+    ∙ no_last k (codes "end") ends_later refl refl in
     let after : length (lines_after (codes "radii") front) ≡ length t.radii =
-    ap (λ (ls : List (List ℕ)). length (lines_after (codes "radii") ls)) k.order ∙ ap length (lines_after_at (codes "radii") before k.radii refl (no_later k (codes "radii") radii_later refl))
+    ap (λ (ls : List (List ℕ)). length (lines_after (codes "radii") ls)) k.order
+    ∙ ap length (lines_after_at (codes "radii") before k.radii refl (no_later k (codes "radii") radii_later refl))
     ∙ length_zip (IsRadiusLine v) k.radii t.radii k.radius_lines in
     let form = form_radii front line queries radii in
     record {
       told = told;
-      long = omega (arith, ap length k.order, length-append before (codes "radii" ∷ k.radii), length-append (to_points v k.points) (codes "edits" ∷ k.edits));
+      long = omega (
+        arith,
+        ap length k.order,
+        length-append before (codes "radii" ∷ k.radii),
+        length-append
+            (to_points v k.points) (codes "edits" ∷ k.edits),
+      );
       unended = ends;
       full_is = rw (queries, radii, after) refl;
       to = form.0;
       from = form.1;
     }
 
-in_queries : (limits : Limits) (front : List (List ℕ)) (t : Content) (line : List ℕ) → Leads limits front places.Queries t → InList limits t.version front line (leb query_limit (length t.queries)) (HasPointForm line)
+in_queries : (limits : Limits) (front : List (List ℕ)) (t : Content) (line : List ℕ) →
+    Leads limits front places.Queries t → InList limits t.version front line (leb query_limit (length t.queries))
+    (HasPointForm line)
 in_queries limits front t line k =
     let v : Version = t.version in
     let before : List (List ℕ) = to_radii v k.points k.edits k.radii in
     let tail : List (List ℕ) = codes "queries" ∷ k.queries in
-    let told : version_in front ≡ v = told_by v front (codes "points" ∷ k.points ++ codes "edits" ∷ k.edits ++ codes "radii" ∷ k.radii ++ tail) k.order in
-    let queries : has (codes "queries") front ≡ true = ap (has (codes "queries")) k.order ∙ has_second (codes "queries") before tail refl in
+    let told : version_in front ≡ v = told_by v front (codes "points" ∷ k.points ++ codes "edits" ∷ k.edits ++ codes
+    "radii" ∷ k.radii ++ tail) k.order in
+    let queries : has (codes "queries") front ≡ true = ap (has (codes "queries")) k.order
+    ∙ has_second (codes "queries") before tail refl in
     let ends : has (codes "end") front ≡ false = ap (has (codes "end")) k.order
-    ∙ has_both (codes "end") before tail (no_last k (codes "end") ends_later refl refl) (has_list (codes "end") (codes "queries") k.queries ends_later refl (known k).queries) in
+    ∙ has_both (codes "end") before tail (no_last k (codes "end") ends_later refl refl) (has_list (codes "end")
+    (codes "queries") k.queries ends_later refl (known k).queries) in
     let after : length (lines_after (codes "queries") front) ≡ length t.queries =
-    ap (λ (ls : List (List ℕ)). length (lines_after (codes "queries") ls)) k.order ∙ ap length (lines_after_at (codes "queries") before k.queries refl (no_last k (codes "queries") queries_later refl refl))
+    ap (λ (ls : List (List ℕ)). length (lines_after (codes "queries") ls)) k.order
+    ∙ ap length (lines_after_at (codes "queries") before k.queries refl (no_last k (codes "queries") queries_later
+    refl refl))
     ∙ length_zip IsPointLine k.queries t.queries k.query_lines in
     let form = form_queries front line queries in
     record {
@@ -281,41 +433,56 @@ word_err : (b : Bool) (x : State) (why : Why) → cond b (Ok x) (Err Section) �
 word_err true x why h = absurd cc
 word_err false x why h = err_same Section why h
 
-title_err : (newest : Version) (t : Content) (o : Option Version) (why : Why) → with_title newest t o ≡ Err why → Section ≡ why
+title_err : (newest : Version) (t : Content) (o : Option Version) (why : Why) → with_title newest t o ≡ Err why →
+    Section ≡ why
 title_err newest t None why h = err_same Section why h
-title_err newest t (Some v) why h = word_err (leb (row v).number (row newest).number) (at places.Heading (of_version v t)) why h
+title_err newest t (Some v) why h = word_err (leb (row v).number (row newest).number) (at places.Heading
+    (of_version v t)) why h
 
-reason_at : (limits : Limits) (front : List (List ℕ)) (place : Place) (t : Content) (line : List ℕ) (why : Why) → Leads limits front place t → step_at limits place t line ≡ Err why → IsReason limits front line why
+reason_at : (limits : Limits) (front : List (List ℕ)) (place : Place) (t : Content) (line : List ℕ) (why : Why) →
+    Leads limits front place t → step_at limits place t line ≡ Err why → IsReason limits front line why
 reason_at limits front places.Title t line why k h =
-    subst (λ (v : Why). IsReason limits front line v) (title_err limits.newest t (titled line) why h) (inl (omega (arith, ap length k.order)))
+    subst (λ (v : Why). IsReason limits front line v) (title_err limits.newest t (titled line) why h)
+    (inl (omega (arith, ap length k.order)))
 reason_at limits front places.Heading t line why k h =
-    subst (λ (v : Why). IsReason limits front line v) (word_err (bytes_eq line (codes "points")) (at places.Points t) why h) (inl (omega (arith, ap length k.order)))
+    subst (λ (v : Why). IsReason limits front line v) (word_err (bytes_eq line (codes "points")) (at places.Points t)
+    why h) (inl (omega (arith, ap length k.order)))
 reason_at limits front places.Points t line why k h =
-    reason_by limits t.version front line (leb limits.lines (length t.points + length t.edits)) (is_word t.version line) (HasPointForm line) (with_point t (point line)) why (in_points limits front t line k)
-    (λ e. points_decided.field line (point_err t (point line) Field e)) (λ e. points_decided.range line (point_err t (point line) Range e)) (λ v e. points_decided.only line v (point_err t (point line) v e))
+    reason_by limits t.version front line (leb limits.lines (length t.points + length t.edits)) (is_word t.version line)
+    (HasPointForm line) (with_point t (point line)) why (in_points limits front t line k)
+    (λ e. points_decided.field line (point_err t (point line) Field e)) (λ e. points_decided.range line
+    (point_err t (point line) Range e)) (λ v e. points_decided.only line v (point_err t (point line) v e))
     refl (refused (bytes_eq line (codes "edits")) (at places.Edits t) _ why h)
 reason_at limits front places.Edits t line why k h =
     let d = edits_decided t.version in
     let read = edit t.version line in
-    reason_by limits t.version front line (leb limits.lines (length t.points + length t.edits)) (is_word t.version line) (HasEditForm t.version line) (with_edit t read) why (in_edits limits front t line k)
-    (λ e. d.field line (edit_err t read Field e)) (λ e. d.range line (edit_err t read Range e)) (λ v e. d.only line v (edit_err t read v e))
+    reason_by limits t.version front line (leb limits.lines (length t.points + length t.edits)) (is_word t.version line)
+    (HasEditForm t.version line) (with_edit t read) why (in_edits limits front t line k)
+    (λ e. d.field line (edit_err t read Field e)) (λ e. d.range line (edit_err t read Range e)) (λ v e. d.only line v
+    (edit_err t read v e))
     refl (refused (bytes_eq line (codes "radii")) (at places.Radii t) _ why h)
 reason_at limits front places.Radii t line why k h =
     let d = radii_decided t.version in
     let read = radius t.version line in
-    reason_by limits t.version front line (leb radius_limit (length t.radii)) (is_word t.version line) (IsNumber line) (with_radius t read) why (in_radii limits front t line k)
-    (λ e. d.field line (radius_err t read Field e)) (λ e. d.range line (radius_err t read Range e)) (λ v e. d.only line v (radius_err t read v e))
+    reason_by limits t.version front line (leb radius_limit (length t.radii)) (is_word t.version line) (IsNumber line)
+    (with_radius t read) why (in_radii limits front t line k)
+    (λ e. d.field line (radius_err t read Field e)) (λ e. d.range line (radius_err t read Range e)) (λ v e. d.only line
+    v (radius_err t read v e))
     refl (refused (bytes_eq line (word_behind t.version)) (at (place_behind t.version) t) _ why h)
 reason_at limits front places.Queries t line why k h =
-    reason_by limits t.version front line (leb query_limit (length t.queries)) (is_word t.version line) (HasPointForm line) (with_query t (point line)) why (in_queries limits front t line k)
-    (λ e. points_decided.field line (query_err t (point line) Field e)) (λ e. points_decided.range line (query_err t (point line) Range e)) (λ v e. points_decided.only line v (query_err t (point line) v e))
+    reason_by limits t.version front line (leb query_limit (length t.queries)) (is_word t.version line)
+    (HasPointForm line) (with_query t (point line)) why (in_queries limits front t line k)
+    (λ e. points_decided.field line (query_err t (point line) Field e)) (λ e. points_decided.range line
+    (query_err t (point line) Range e)) (λ v e. points_decided.only line v (query_err t (point line) v e))
     refl (refused (bytes_eq line (codes "end")) (at places.End t) _ why h)
 reason_at limits front places.End t line why k h =
     let ends : has (codes "end") front ≡ true = ap (has (codes "end")) k.order
-    ∙ has_second (codes "end") (to_radii t.version k.points k.edits k.radii ++ query_section t.version k.queries) (codes "end" ∷ []) refl in
+    ∙ has_second (codes "end") (to_radii t.version k.points k.edits k.radii ++ query_section t.version k.queries)
+    (codes "end" ∷ []) refl in
     subst (λ (v : Why). IsReason limits front line v) (err_same Section why h) (inr (inl ends))
 
 -- a line that is not taken is bad, for this reason
-pub reason_is : (limits : Limits) (front : List (List ℕ)) (s : State) (line : List ℕ) (why : Why) → Leads limits front s.place s.taken → step limits s line ≡ Err why → IsReason limits front line why
+pub reason_is : (limits : Limits) (front : List (List ℕ)) (s : State) (line : List ℕ) (why : Why) →
+    Leads limits front s.place s.taken → step limits s line ≡ Err why → IsReason limits front line why
 unfolding step
 reason_is limits front s line why k h = reason_at limits front s.place s.taken line why k h

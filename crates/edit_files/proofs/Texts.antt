@@ -1,5 +1,23 @@
 -- Lines with no line feed are the lines of the text that is made of them; those of a file have none.
-use Rattle.std.proofs.Common.{◌≡◌, ℕ, Bool, true, false, cond, eqb, List, [], ◌∷◌, ◌++◌, refl, sym, ap, subst, ◌∙◌, arith}
+use Rattle.std.proofs.Common.{
+  ◌≡◌,
+  ℕ,
+  Bool,
+  true,
+  false,
+  cond,
+  eqb,
+  List,
+  [],
+  ◌∷◌,
+  ◌++◌,
+  refl,
+  sym,
+  ap,
+  subst,
+  ◌∙◌,
+  arith,
+}
 use Rattle.std.specs.Prelude.{codes}
 use Rattle.std.specs.List.{AllByRecursion, AllZip}
 use Rattle.edit_history.specs.declared.history.Edit.{Edit}
@@ -57,7 +75,8 @@ title_no_feed Two = (refl, (refl, (refl, (refl, (refl, (refl, (refl, tt)))))))
 title_no_feed Three = (refl, (refl, (refl, (refl, (refl, (refl, (refl, tt)))))))
 title_no_feed Four = (refl, (refl, (refl, (refl, (refl, (refl, (refl, tt)))))))
 
-zip_no_feed : {A : Type 0} (Says : List ℕ → A → Type 0) → ((line : List ℕ) (a : A) → Says line a → HasNo 10 line) → (lines : List (List ℕ)) (vs : List A) → AllZip Says lines vs → HaveNoFeed lines
+zip_no_feed : {A : Type 0} (Says : List ℕ → A → Type 0) → ((line : List ℕ) (a : A) → Says line a → HasNo 10 line) →
+    (lines : List (List ℕ)) (vs : List A) → AllZip Says lines vs → HaveNoFeed lines
 zip_no_feed Says h [] vs z = tt
 zip_no_feed Says h (l ∷ ls) [] z = absurd z
 zip_no_feed Says h (l ∷ ls) (v ∷ vs) z = (h l v z.0, zip_no_feed Says h ls vs z.1)
@@ -100,14 +119,24 @@ file_no_feed limits lines f k =
     subst (λ (ls : List (List ℕ)). HaveNoFeed ls) (sym k.order) all
 
 -- the text of a file's lines is of that file
-pub text_is_file : (limits : Limits) (lines : List (List ℕ)) (f : Content) → AreFileLines limits lines f → IsFile limits (text_of lines) f
-text_is_file limits lines f are = subst (λ (ls : List (List ℕ)). AreFileLines limits ls f) (sym (lines_of_text lines (file_no_feed limits lines f are))) are
+pub text_is_file : (limits : Limits) (lines : List (List ℕ)) (f : Content) → AreFileLines limits lines f →
+    IsFile limits (text_of lines) f
+text_is_file limits lines f are = subst (λ (ls : List (List ℕ)). AreFileLines limits ls f)
+    (sym (lines_of_text lines (file_no_feed limits lines f are))) are
 
 -- first lines of a file's lines are the first lines of a text
-pub first_lines_of : (limits : Limits) (front rest : List (List ℕ)) (f : Content) → AreFileLines limits (front ++ rest) f → AreFirstLines limits front
-first_lines_of limits front rest f are =
-    (text_of (front ++ rest), f, text_is_file limits (front ++ rest) f are, rest, lines_of_text (front ++ rest) (file_no_feed limits (front ++ rest) f are))
+pub first_lines_of : (limits : Limits) (front rest : List (List ℕ)) (f : Content) →
+    AreFileLines limits (front ++ rest) f → AreFirstLines limits front
+first_lines_of limits front rest f are = (
+  text_of (front ++ rest),
+  f,
+  text_is_file limits (front ++ rest) f are,
+  rest,
+  lines_of_text (front ++ rest)
+      (file_no_feed limits (front ++ rest) f are),
+)
 
 -- and the other way
-pub file_from_first : (limits : Limits) (front : List (List ℕ)) (h : AreFirstLines limits front) → AreFileLines limits (front ++ h.3) h.1
+pub file_from_first : (limits : Limits) (front : List (List ℕ)) (h : AreFirstLines limits front) →
+    AreFileLines limits (front ++ h.3) h.1
 file_from_first limits front h = subst (λ (ls : List (List ℕ)). AreFileLines limits ls h.1) h.4 h.2

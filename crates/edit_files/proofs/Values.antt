@@ -1,5 +1,34 @@
 -- A number that is read is a number, and its value is what was read.
-use Rattle.std.proofs.Common.{◌≡◌, ℕ, ◌+◌, ◌*◌, ◌-◌, ◌<◌, ◌≤◌, min, Bool, true, false, cond, ltb, leb, ◌&&◌, List, [], ◌∷◌, Option, Some, None, refl, sym, ap, ◌∙◌, arith, inl, inr}
+use Rattle.std.proofs.Common.{
+  ◌≡◌,
+  ℕ,
+  ◌+◌,
+  ◌*◌,
+  ◌-◌,
+  ◌<◌,
+  ◌≤◌,
+  min,
+  Bool,
+  true,
+  false,
+  cond,
+  ltb,
+  leb,
+  ◌&&◌,
+  List,
+  [],
+  ◌∷◌,
+  Option,
+  Some,
+  None,
+  refl,
+  sym,
+  ap,
+  ◌∙◌,
+  arith,
+  inl,
+  inr,
+}
 use Rattle.std.specs.Char.{is_ascii_digit, digit_value}
 use Rattle.std.specs.Str.Parse.{AllDigits, IsNumeral, digits_value, digits_value_after, starts_with_minus}
 use Rattle.std.proofs.lemmas.Bool.{cases_lt, cases_Bool, and_parts, and_from, leb-true, le-leb, lt-ltb, le-ltb}
@@ -7,7 +36,14 @@ use Rattle.std.proofs.lemmas.Str.Parse.{digit_from_value}
 use Rattle.list_laws.proofs.Cited.{one_value}
 use Rattle.edit_files.specs.Numbers.{after_minus, IsNumber, IsNumberOf}
 use Rattle.edit_files.specs.Judging.{far, digits, digits_from, signed, number}
-use Rattle.edit_files.proofs.Numerals.{digits_from_nil, digits_from_digit, digits_from_other, digits_is, digits_nil, number_is}
+use Rattle.edit_files.proofs.Numerals.{
+  digits_from_nil,
+  digits_from_digit,
+  digits_from_other,
+  digits_is,
+  digits_nil,
+  number_is,
+}
 
 -- ---- digits
 
@@ -46,20 +82,27 @@ kept_far n ds =
           omega arith
     ]
 
-digits_from_all : (n : ℕ) (ds : List ℕ) → n ≤ far → AllDigits 10 ds → digits_from n ds ≡ Some (min (digits_value_after 10 n ds) far)
+digits_from_all : (n : ℕ) (ds : List ℕ) → n ≤ far → AllDigits 10 ds →
+    digits_from n ds ≡ Some (min (digits_value_after 10 n ds) far)
 digits_from_all n [] le all = digits_from_nil n ∙ ap (λ (m : ℕ). Some m) (omega arith)
 digits_from_all n (c ∷ cs) le all =
     let test = digit_test c all.0 in
     let m : ℕ = n * 10 + (c - 48) in
-    let rest : digits_from (min m far) cs ≡ Some (min (digits_value_after 10 (min m far) cs) far) = digits_from_all (min m far) cs (omega arith) all.1 in
+    let rest : digits_from (min m far) cs ≡ Some (min (digits_value_after 10 (min m far) cs) far) =
+    digits_from_all (min m far) cs (omega arith) all.1 in
     let same : m ≡ n * 10 + digit_value c = ap (λ (d : ℕ). n * 10 + d) (sym test.1) in
-    digits_from_digit n c cs test.0 ∙ rest ∙ ap (λ (v : ℕ). Some v) (kept_far m cs ∙ ap (λ (v : ℕ). min (digits_value_after 10 v cs) far) same)
+    digits_from_digit n c cs test.0 ∙ rest ∙ ap (λ (v : ℕ). Some v) (kept_far m cs
+    ∙ ap (λ (v : ℕ). min (digits_value_after 10 v cs) far) same)
 
 digits_from_some : (n : ℕ) (ds : List ℕ) (v : ℕ) → digits_from n ds ≡ Some v → AllDigits 10 ds
 digits_from_some n [] v h = tt
 digits_from_some n (c ∷ cs) v h =
     elim (cases_Bool (is_ascii_digit c)) [
-      | inl is ↦ (digit_from_test c is, digits_from_some (min (n * 10 + (c - 48)) far) cs v (sym (digits_from_digit n c cs is) ∙ h))
+      | inl is ↦ (
+        digit_from_test c is,
+        digits_from_some (min (n * 10 + (c - 48)) far) cs v
+            (sym (digits_from_digit n c cs is) ∙ h),
+      )
       | inr isnt ↦ let e : digits_from n (c ∷ cs) ≡ None = digits_from_other n c cs isnt in absurd cc
     ]
 
@@ -74,7 +117,8 @@ digits_some (c ∷ cs) v h = (omega arith, digits_from_some 0 (c ∷ cs) v (sym 
 
 -- what is read of a number: its value, or the bound where it is more, or below 0
 abbrev pub reading : List ℕ → ℕ
-reading bs = cond (starts_with_minus bs && ltb 0 (min (digits_value 10 (after_minus bs)) far)) far (min (digits_value 10 (after_minus bs)) far)
+reading bs = cond (starts_with_minus bs && ltb 0 (min (digits_value 10 (after_minus bs)) far)) far
+    (min (digits_value 10 (after_minus bs)) far)
 
 pub number_read : (bs : List ℕ) → IsNumber bs → number bs ≡ Some (reading bs)
 number_read bs h = number_is bs (min (digits_value 10 (after_minus bs)) far) (digits_all (after_minus bs) h)
@@ -86,21 +130,26 @@ some_digits (Some v) minus n h = (v, refl)
 
 pub number_some : (bs : List ℕ) (n : ℕ) → number bs ≡ Some n → IsNumber bs
 unfolding number
-number_some bs n h = let d = some_digits (digits (after_minus bs)) (starts_with_minus bs) n h in digits_some (after_minus bs) d.0 d.1
+number_some bs n h = let d = some_digits (digits (after_minus bs)) (starts_with_minus bs) n h in digits_some
+    (after_minus bs) d.0 d.1
 
 pub number_none_not : (bs : List ℕ) → number bs ≡ None → IsNumber bs → ⊥
 number_none_not bs h is = let e = number_read bs is in absurd cc
 
 -- below the bound the reading is the value
-reading_value : (minus : Bool) (v n : ℕ) → cond (minus && ltb 0 (min v far)) far (min v far) ≡ n → n < far → (v ≡ n) × (minus ≡ true → n ≡ 0)
+reading_value : (minus : Bool) (v n : ℕ) → cond (minus && ltb 0 (min v far)) far (min v far) ≡ n → n < far →
+    (v ≡ n) × (minus ≡ true → n ≡ 0)
 reading_value true v n h lt =
     elim (cases_lt 0 (min v far)) [
-      | inl some ↦ let e : ltb 0 (min v far) ≡ true = lt-ltb _ _ some in let k : far ≡ n = sym (rw e refl) ∙ h in absurd (omega arith)
-      | inr none ↦ let e : ltb 0 (min v far) ≡ false = le-ltb _ _ none in let k : min v far ≡ n = sym (rw e refl) ∙ h in (omega arith, λ _. omega arith)
+      | inl some ↦ let e : ltb 0 (min v far) ≡ true = lt-ltb _ _ some in let k : far ≡ n = sym (rw e refl)
+          ∙ h in absurd (omega arith)
+      | inr none ↦ let e : ltb 0 (min v far) ≡ false = le-ltb _ _ none in let k : min v far ≡ n = sym (rw e refl)
+          ∙ h in (omega arith, λ _. omega arith)
     ]
 reading_value false v n h lt = (omega arith, λ t. absurd cc)
 
-value_reading : (minus : Bool) (v n : ℕ) → v ≡ n → (minus ≡ true → n ≡ 0) → n < far → cond (minus && ltb 0 (min v far)) far (min v far) ≡ n
+value_reading : (minus : Bool) (v n : ℕ) → v ≡ n → (minus ≡ true → n ≡ 0) → n < far →
+    cond (minus && ltb 0 (min v far)) far (min v far) ≡ n
 value_reading true v n e z lt =
     let none : ltb 0 (min v far) ≡ false = le-ltb _ _ (omega (arith, z refl)) in
     rw none (omega arith)
@@ -108,7 +157,8 @@ value_reading false v n e z lt = omega arith
 
 pub number_of : (bs : List ℕ) (n : ℕ) → IsNumberOf bs n → n < far → number bs ≡ Some n
 number_of bs n h lt =
-    number_read bs h.number ∙ ap (λ (m : ℕ). Some m) (value_reading (starts_with_minus bs) (digits_value 10 (after_minus bs)) n h.value h.minus lt)
+    number_read bs h.number ∙ ap (λ (m : ℕ). Some m) (value_reading (starts_with_minus bs) (digits_value 10
+    (after_minus bs)) n h.value h.minus lt)
 
 pub of_number : (bs : List ℕ) (n : ℕ) → number bs ≡ Some n → n < far → IsNumberOf bs n
 of_number bs n h lt =

@@ -1,5 +1,28 @@
 -- Section words, and lists of lines that have none.
-use Rattle.std.proofs.Common.{◌≡◌, ℕ, Bool, true, false, cond, ◌||◌, ◌&&◌, not, List, [], ◌∷◌, ◌++◌, length, Result, Ok, Err, refl, sym, ap, ◌∙◌, arith}
+use Rattle.std.proofs.Common.{
+  ◌≡◌,
+  ℕ,
+  Bool,
+  true,
+  false,
+  cond,
+  ◌||◌,
+  ◌&&◌,
+  not,
+  List,
+  [],
+  ◌∷◌,
+  ◌++◌,
+  length,
+  Result,
+  Ok,
+  Err,
+  refl,
+  sym,
+  ap,
+  ◌∙◌,
+  arith,
+}
 use Rattle.std.specs.Prelude.{codes}
 use Rattle.std.specs.List.{AllByRecursion, AllZip, count_by}
 use Rattle.std.specs.Str.{bytes_eq}
@@ -36,8 +59,10 @@ words_radius : (v : Version) → ReadsNoWord (radius v)
 unfolding radius number digits digits_from
 words_radius v = record { points = refl; edits = refl; radii = refl; queries = refl; end = refl }
 
-other : {A : Type 0} (read : List ℕ → Result A Why) (line word : List ℕ) (a : A) → read line ≡ Ok a → read word ≡ Err Field → bytes_eq line word ≡ false
-other read line word a h w = false_from_ne_true (bytes_eq line word) (λ t. let same : line ≡ word = (bytes_eq-Decides line word).0 t in let e : read word ≡ Ok a = sym (ap read same) ∙ h in absurd cc)
+other : {A : Type 0} (read : List ℕ → Result A Why) (line word : List ℕ) (a : A) → read line ≡ Ok a →
+    read word ≡ Err Field → bytes_eq line word ≡ false
+other read line word a h w = false_from_ne_true (bytes_eq line word) (λ t. let same : line ≡ word =
+    (bytes_eq-Decides line word).0 t in let e : read word ≡ Ok a = sym (ap read same) ∙ h in absurd cc)
 
 -- a line that is no section word of any version
 pub record IsNone (line : List ℕ) : Type 0 where
@@ -47,7 +72,8 @@ pub record IsNone (line : List ℕ) : Type 0 where
   pub queries : bytes_eq line (codes "queries") ≡ false
   pub end : bytes_eq line (codes "end") ≡ false
 
-no_word : {A : Type 0} (read : List ℕ → Result A Why) (r : ReadsNoWord read) (line : List ℕ) (a : A) → read line ≡ Ok a → IsNone line
+no_word : {A : Type 0} (read : List ℕ → Result A Why) (r : ReadsNoWord read) (line : List ℕ) (a : A) →
+    read line ≡ Ok a → IsNone line
 no_word read r line a h = record {
   points = other read line (codes "points") a h r.points;
   edits = other read line (codes "edits") a h r.edits;
@@ -78,23 +104,27 @@ none_word v line n =
 abbrev pub HaveNoWord : List (List ℕ) → Type 0
 HaveNoWord lines = AllByRecursion IsNone lines
 
-pub said_no_word : {A : Type 0} (Says : List ℕ → A → Type 0) → ((line : List ℕ) (a : A) → Says line a → IsNone line) → (lines : List (List ℕ)) (vs : List A) → AllZip Says lines vs → HaveNoWord lines
+pub said_no_word : {A : Type 0} (Says : List ℕ → A → Type 0) → ((line : List ℕ) (a : A) → Says line a → IsNone line) →
+    (lines : List (List ℕ)) (vs : List A) → AllZip Says lines vs → HaveNoWord lines
 said_no_word Says h [] vs z = tt
 said_no_word Says h (l ∷ ls) [] z = absurd z
 said_no_word Says h (l ∷ ls) (v ∷ vs) z = (h l v z.0, said_no_word Says h ls vs z.1)
 
-pub has_none : (word : List ℕ) → ((line : List ℕ) → IsNone line → bytes_eq line word ≡ false) → (lines : List (List ℕ)) → HaveNoWord lines → has word lines ≡ false
+pub has_none : (word : List ℕ) → ((line : List ℕ) → IsNone line → bytes_eq line word ≡ false) →
+    (lines : List (List ℕ)) → HaveNoWord lines → has word lines ≡ false
 has_none word h [] z = refl
 has_none word h (l ∷ ls) z = or_from _ _ (h l z.0) (has_none word h ls z.1)
 
-pub count_all : (v : Version) (lines : List (List ℕ)) → HaveNoWord lines → count_by (λ line. not (is_word v line)) lines ≡ length lines
+pub count_all : (v : Version) (lines : List (List ℕ)) → HaveNoWord lines →
+    count_by (λ line. not (is_word v line)) lines ≡ length lines
 count_all v [] z = refl
 count_all v (l ∷ ls) z =
     let f : List ℕ → ℕ = λ line. cond (not (is_word v line)) 1 0 in
     let here : f l ≡ 1 = rw (none_word v l z.0) refl in
     sum_by-cons f l ls ∙ omega (arith, here, count_all v ls z.1)
 
-pub lines_after_at : (word : List ℕ) (front rest : List (List ℕ)) → bytes_eq word word ≡ true → has word front ≡ false → lines_after word (front ++ word ∷ rest) ≡ rest
+pub lines_after_at : (word : List ℕ) (front rest : List (List ℕ)) → bytes_eq word word ≡ true → has word front ≡ false →
+    lines_after word (front ++ word ∷ rest) ≡ rest
 lines_after_at word [] rest w h = rw w refl
 lines_after_at word (l ∷ ls) rest w h =
     let p = or_parts (bytes_eq l word) (has word ls) h in

@@ -1,5 +1,30 @@
 -- The lines that are written of a file are its lines.
-use Rattle.std.proofs.Common.{◌≡◌, ℕ, ◌+◌, ◌<◌, ◌≤◌, ◌^◌, true, false, List, [], ◌∷◌, ◌++◌, length, get_or, drop, refl, sym, ap, subst, ◌∙◌, arith, append_assoc, append-nil, map}
+use Rattle.std.proofs.Common.{
+  ◌≡◌,
+  ℕ,
+  ◌+◌,
+  ◌<◌,
+  ◌≤◌,
+  ◌^◌,
+  true,
+  false,
+  List,
+  [],
+  ◌∷◌,
+  ◌++◌,
+  length,
+  get_or,
+  drop,
+  refl,
+  sym,
+  ap,
+  subst,
+  ◌∙◌,
+  arith,
+  append_assoc,
+  append-nil,
+  map,
+}
 use Rattle.std.specs.Prelude.{codes, decimal}
 use Rattle.std.specs.Str.Parse.{IsNumeral, digits_value, starts_with_minus}
 use Rattle.std.proofs.lemmas.Bool.{ne_eqb, both_ways}
@@ -74,7 +99,8 @@ radius_line : (v : Version) (r : ℕ) → r < (row v).radius_end → IsRadiusLin
 radius_line v r lt = (decimal_is r (omega (arith, lt, end_far v)), lt)
 
 -- what is written of no queries is nothing
-none_written : (v : Version) (queries : List ℕ) → ((row v).queries ≡ false → queries ≡ []) → (row v).queries ≡ false → map point_text queries ≡ []
+none_written : (v : Version) (queries : List ℕ) → ((row v).queries ≡ false → queries ≡ []) → (row v).queries ≡ false →
+    map point_text queries ≡ []
 none_written v queries h none = ap (map point_text) (h none)
 
 pub written_is_file : (limits : Limits) (f : Content) → IsWithin limits f → IsFile limits (file_text f) f
@@ -87,7 +113,8 @@ written_is_file limits f w = text_is_file limits (file_lines f) f (record {
   order = refl;
   point_lines = zip_map IsPointLine point_text IsKey point_line f.points w.points;
   edit_lines = zip_map (IsEditLine f.version) edit_text (IsEditOf f.version) (edit_line f.version) f.edits w.edits;
-  radius_lines = zip_map (IsRadiusLine f.version) decimal (λ r. r < (row f.version).radius_end) (radius_line f.version) f.radii w.radii;
+  radius_lines = zip_map (IsRadiusLine f.version) decimal (λ r. r < (row f.version).radius_end) (radius_line f.version)
+      f.radii w.radii;
   query_lines = zip_map IsPointLine point_text IsKey point_line f.queries w.queries;
   unasked = none_written f.version f.queries w.unasked;
   line_count = omega (arith, w.line_count, length-map f.points point_text, length-map f.edits edit_text);
@@ -110,10 +137,17 @@ file_is_within limits bytes f k = record {
   version = k.version;
   points = zip_all IsPointLine IsKey (λ line p s. s.key) k.points f.points k.point_lines;
   edits = zip_all (IsEditLine f.version) (IsEditOf f.version) (edit_key f.version) k.edits f.edits k.edit_lines;
-  radii = zip_all (IsRadiusLine f.version) (λ r. r < (row f.version).radius_end) (λ line r s. s.1) k.radii f.radii k.radius_lines;
+  radii = zip_all (IsRadiusLine f.version) (λ r. r < (row f.version).radius_end) (λ line r s. s.1) k.radii f.radii
+      k.radius_lines;
   queries = zip_all IsPointLine IsKey (λ line q s. s.key) k.queries f.queries k.query_lines;
   unasked = λ none. none_read k.queries f.queries k.query_lines (k.unasked none);
-  line_count = omega (arith, k.line_count, length_zip IsPointLine k.points f.points k.point_lines, length_zip (IsEditLine f.version) k.edits f.edits k.edit_lines);
+  line_count = omega (
+    arith,
+    k.line_count,
+    length_zip IsPointLine k.points f.points k.point_lines,
+    length_zip
+        (IsEditLine f.version) k.edits f.edits k.edit_lines,
+  );
   radius_count = omega (arith, k.radius_count, length_zip (IsRadiusLine f.version) k.radii f.radii k.radius_lines);
   query_count = omega (arith, k.query_count, length_zip IsPointLine k.queries f.queries k.query_lines);
 }
@@ -122,60 +156,84 @@ file_is_within limits bytes f k = record {
 
 text_of_append : (a b : List (List ℕ)) → text_of (a ++ b) ≡ text_of a ++ text_of b
 text_of_append [] b = refl
-text_of_append (l ∷ a) b = ap (λ (t : List ℕ). l ++ 10 ∷ t) (text_of_append a b) ∙ sym (append_assoc l (10 ∷ text_of a) (text_of b))
+text_of_append (l ∷ a) b = ap (λ (t : List ℕ). l ++ 10 ∷ t) (text_of_append a b)
+    ∙ sym (append_assoc l (10 ∷ text_of a) (text_of b))
 
-pushed : (a : List (List ℕ)) (word : List ℕ) (b : List (List ℕ)) → text_of a ++ text_of (word ∷ []) ++ text_of b ≡ text_of (a ++ word ∷ b)
+pushed : (a : List (List ℕ)) (word : List ℕ) (b : List (List ℕ)) → text_of a ++ text_of (word ∷ []) ++ text_of b ≡
+    text_of (a ++ word ∷ b)
 pushed a word b =
-    append_assoc (text_of a) (text_of (word ∷ [])) (text_of b) ∙ ap (λ (t : List ℕ). text_of a ++ t) (sym (text_of_append (word ∷ []) b)) ∙ sym (text_of_append a (word ∷ b))
+    append_assoc (text_of a) (text_of (word ∷ [])) (text_of b)
+    ∙ ap (λ (t : List ℕ). text_of a ++ t) (sym (text_of_append (word ∷ []) b)) ∙ sym (text_of_append a (word ∷ b))
 
 -- the next of some lines is put
-pub line_put : {A : Type 0} (shown : A → List ℕ) (xs : List A) (i : ℕ) (x : A) (old new whole : List ℕ) → i < length xs → x ≡ get_or xs i x → new ≡ old ++ text_of (shown x ∷ [])
+pub line_put : {A : Type 0} (shown : A → List ℕ) (xs : List A) (i : ℕ) (x : A) (old new whole : List ℕ) →
+    i < length xs → x ≡ get_or xs i x → new ≡ old ++ text_of (shown x ∷ [])
     → old ++ text_of (map shown (drop i xs)) ≡ whole → new ++ text_of (map shown (drop (i + 1) xs)) ≡ whole
 line_put {A} shown xs i x old new whole lt is put so_far =
     let left : List A = drop (i + 1) xs in
     let rest : List ℕ = text_of (map shown left) in
     ap (λ (t : List ℕ). t ++ rest) put
     ∙ append_assoc old (text_of (shown x ∷ [])) rest
-    ∙ ap (λ (t : List ℕ). old ++ t) (append_assoc (shown x) (10 ∷ []) rest ∙ ap (λ (y : A). text_of (map shown (y ∷ left))) is ∙ sym (at_drop_more (λ (ys : List A). text_of (map shown ys)) xs i x lt))
+    ∙ ap (λ (t : List ℕ). old ++ t) (append_assoc (shown x) (10 ∷ []) rest
+    ∙ ap (λ (y : A). text_of (map shown (y ∷ left))) is
+    ∙ sym (at_drop_more (λ (ys : List A). text_of (map shown ys)) xs i x lt))
     ∙ so_far
 
 -- no line is left
-pub lines_put : {A : Type 0} (shown : A → List ℕ) (xs : List A) (i : ℕ) (old whole : List ℕ) → length xs ≤ i → old ++ text_of (map shown (drop i xs)) ≡ whole → old ≡ whole
+pub lines_put : {A : Type 0} (shown : A → List ℕ) (xs : List A) (i : ℕ) (old whole : List ℕ) → length xs ≤ i →
+    old ++ text_of (map shown (drop i xs)) ≡ whole → old ≡ whole
 lines_put {A} shown xs i old whole le so_far =
-    sym (append-nil old) ∙ ap (λ (t : List ℕ). old ++ t) (sym (at_drop_all (λ (ys : List A). text_of (map shown ys)) xs i le)) ∙ so_far
+    sym (append-nil old) ∙ ap (λ (t : List ℕ). old ++ t) (sym (at_drop_all (λ (ys : List A). text_of (map shown ys)) xs
+    i le)) ∙ so_far
 
 -- what is put list by list, up to the radii
-pub to_radii_put : (f : Content) (b c d e g h : List ℕ) → b ≡ text_of ((row f.version).title ∷ codes "points" ∷ []) → c ≡ b ++ text_of (map point_text f.points)
-    → d ≡ c ++ text_of (codes "edits" ∷ []) → e ≡ d ++ text_of (map edit_text f.edits) → g ≡ e ++ text_of (codes "radii" ∷ []) → h ≡ g ++ text_of (map decimal f.radii)
+pub to_radii_put : (f : Content) (b c d e g h : List ℕ) → b ≡ text_of ((row f.version).title ∷ codes "points" ∷ []) →
+    c ≡ b ++ text_of (map point_text f.points)
+    → d ≡ c ++ text_of (codes "edits" ∷ []) → e ≡ d ++ text_of (map edit_text f.edits) →
+    g ≡ e ++ text_of (codes "radii" ∷ []) → h ≡ g ++ text_of (map decimal f.radii)
     → h ≡ text_of (to_radii f.version (map point_text f.points) (map edit_text f.edits) (map decimal f.radii))
 to_radii_put f b c d e g h pb pc pd pe pg ph =
     let in_points : List (List ℕ) = to_points f.version (map point_text f.points) in
     let in_edits : List (List ℕ) = to_edits f.version (map point_text f.points) (map edit_text f.edits) in
     let qc : c ≡ text_of in_points = pc ∙ ap (λ (t : List ℕ). t ++ text_of (map point_text f.points)) pb
     ∙ sym (text_of_append ((row f.version).title ∷ codes "points" ∷ []) (map point_text f.points)) in
-    let qe : e ≡ text_of in_edits = pe ∙ ap (λ (t : List ℕ). t ++ text_of (map edit_text f.edits)) (pd ∙ ap (λ (t : List ℕ). t ++ text_of (codes "edits" ∷ [])) qc) ∙ pushed in_points (codes "edits") (map edit_text f.edits) in
-    ph ∙ ap (λ (t : List ℕ). t ++ text_of (map decimal f.radii)) (pg ∙ ap (λ (t : List ℕ). t ++ text_of (codes "radii" ∷ [])) qe) ∙ pushed in_edits (codes "radii") (map decimal f.radii)
+    let qe : e ≡ text_of in_edits = pe ∙ ap (λ (t : List ℕ). t ++ text_of (map edit_text f.edits)) (pd
+    ∙ ap (λ (t : List ℕ). t ++ text_of (codes "edits" ∷ [])) qc)
+    ∙ pushed in_points (codes "edits") (map edit_text f.edits) in
+    ph ∙ ap (λ (t : List ℕ). t ++ text_of (map decimal f.radii)) (pg
+    ∙ ap (λ (t : List ℕ). t ++ text_of (codes "radii" ∷ [])) qe)
+    ∙ pushed in_edits (codes "radii") (map decimal f.radii)
 
 -- the title, and the line feed that ends it with the word behind it
-pub title_put : (title a : List ℕ) (b : List ℕ) → a ≡ title → b ≡ a ++ codes "\npoints\n" → b ≡ text_of (title ∷ codes "points" ∷ [])
+pub title_put : (title a : List ℕ) (b : List ℕ) → a ≡ title → b ≡ a ++ codes "\npoints\n" →
+    b ≡ text_of (title ∷ codes "points" ∷ [])
 title_put title a b e h = h ∙ ap (λ (t : List ℕ). t ++ codes "\npoints\n") e
 
 -- and the end, where there are no queries
-pub ended_put : (f : Content) (h i : List ℕ) → (row f.version).queries ≡ false → h ≡ text_of (to_radii f.version (map point_text f.points) (map edit_text f.edits) (map decimal f.radii)) → i ≡ h ++ text_of (codes "end" ∷ []) → i ≡ file_text f
+pub ended_put : (f : Content) (h i : List ℕ) → (row f.version).queries ≡ false →
+    h ≡ text_of (to_radii f.version (map point_text f.points) (map edit_text f.edits) (map decimal f.radii)) →
+    i ≡ h ++ text_of (codes "end" ∷ []) → i ≡ file_text f
 ended_put f h i none qh pi =
-    let before : List (List ℕ) = to_radii f.version (map point_text f.points) (map edit_text f.edits) (map decimal f.radii) in
+    let before : List (List ℕ) = to_radii f.version (map point_text f.points) (map edit_text f.edits)
+    (map decimal f.radii) in
     let section : query_section f.version (map point_text f.queries) ≡ [] = rw none refl in
     pi ∙ ap (λ (t : List ℕ). t ++ text_of (codes "end" ∷ [])) qh ∙ sym (text_of_append before (codes "end" ∷ []))
     ∙ ap (λ (ls : List (List ℕ)). text_of (ls ++ codes "end" ∷ [])) (sym (append-nil before))
     ∙ ap (λ (ls : List (List ℕ)). text_of (before ++ ls ++ codes "end" ∷ [])) (sym section)
 
 -- and where there are
-pub queries_put : (f : Content) (h j k i : List ℕ) → (row f.version).queries ≡ true → h ≡ text_of (to_radii f.version (map point_text f.points) (map edit_text f.edits) (map decimal f.radii))
-    → j ≡ h ++ text_of (codes "queries" ∷ []) → k ≡ j ++ text_of (map point_text f.queries) → i ≡ k ++ text_of (codes "end" ∷ []) → i ≡ file_text f
+pub queries_put : (f : Content) (h j k i : List ℕ) → (row f.version).queries ≡ true →
+    h ≡ text_of (to_radii f.version (map point_text f.points) (map edit_text f.edits) (map decimal f.radii))
+    → j ≡ h ++ text_of (codes "queries" ∷ []) → k ≡ j ++ text_of (map point_text f.queries) →
+    i ≡ k ++ text_of (codes "end" ∷ []) → i ≡ file_text f
 queries_put f h j k i has qh pj pk pi =
-    let before : List (List ℕ) = to_radii f.version (map point_text f.points) (map edit_text f.edits) (map decimal f.radii) in
+    let before : List (List ℕ) = to_radii f.version (map point_text f.points) (map edit_text f.edits)
+    (map decimal f.radii) in
     let in_queries : List (List ℕ) = before ++ codes "queries" ∷ map point_text f.queries in
-    let section : query_section f.version (map point_text f.queries) ≡ codes "queries" ∷ map point_text f.queries = rw has refl in
-    let qk : k ≡ text_of in_queries = pk ∙ ap (λ (t : List ℕ). t ++ text_of (map point_text f.queries)) (pj ∙ ap (λ (t : List ℕ). t ++ text_of (codes "queries" ∷ [])) qh) ∙ pushed before (codes "queries") (map point_text f.queries) in
+    let section : query_section f.version (map point_text f.queries) ≡ codes "queries" ∷ map point_text f.queries =
+    rw has refl in
+    let qk : k ≡ text_of in_queries = pk ∙ ap (λ (t : List ℕ). t ++ text_of (map point_text f.queries)) (pj
+    ∙ ap (λ (t : List ℕ). t ++ text_of (codes "queries" ∷ [])) qh)
+    ∙ pushed before (codes "queries") (map point_text f.queries) in
     pi ∙ ap (λ (t : List ℕ). t ++ text_of (codes "end" ∷ [])) qk ∙ sym (text_of_append in_queries (codes "end" ∷ []))
     ∙ ap (λ (ls : List (List ℕ)). text_of (before ++ ls ++ codes "end" ∷ [])) (sym section)

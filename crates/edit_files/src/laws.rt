@@ -13,7 +13,8 @@ ghost use Rattle.edit_files.specs.declared.version.Version.TheVariants.{One};
 
 /// A text is of at most one file.
 pub fn one_file()
-    ensures { (limits : Limits) (bytes : List ℕ) (f g : Content) → IsFile limits bytes f → IsFile limits bytes g → f ≡ g }
+    ensures { (limits : Limits) (bytes : List ℕ) (f g : Content) → IsFile limits bytes f → IsFile limits bytes g →
+        f ≡ g }
 {}
 
 /// A text that is of a file has no fault.
@@ -30,7 +31,8 @@ pub fn file_or_fault()
 
 /// A text has at most one fault.
 pub fn one_fault()
-    ensures { (limits : Limits) (bytes : List ℕ) (a b : Fault) → IsFault limits bytes a → IsFault limits bytes b → a ≡ b }
+    ensures { (limits : Limits) (bytes : List ℕ) (a b : Fault) → IsFault limits bytes a → IsFault limits bytes b →
+        a ≡ b }
 {}
 
 /// The text that is written of a file is of that file, where the file is within what a text may hold.

@@ -7,7 +7,7 @@
 //!
 //! ```
 //! match read_file(alloc, &bytes) {
-//!     Ok(file) => ..,                              // version, points, edits, radii, queries; `file.lines()` in order of their tags
+//!     Ok(file) => ..,                              // version, points, edits, radii, queries; `file.lines()`
 //!     Err(ReadRefused::Bad(fault)) => ..,          // its first bad line, and why it is bad
 //!     Err(ReadRefused::Memory) => ..,
 //! }

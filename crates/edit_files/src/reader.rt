@@ -130,7 +130,7 @@ fn is_section_word(line: &[u8], version: Version) -> bool
 fn admit(line: &[u8], version: Version, is_full: bool) -> Result<(), Why>
     ensures { (r : Result State Why) →
         MatchResult result (λ _. listed version line.now is_full r ≡ r)
-            (λ why. listed version line.now is_full r ≡ Err why) }
+        (λ why. listed version line.now is_full r ≡ Err why) }
 {
     if is_section_word(line, version) {
         return Err(Why::Section);
@@ -141,21 +141,15 @@ fn admit(line: &[u8], version: Version, is_full: bool) -> Result<(), Why>
     Ok(())
 }
 
-// The word behind the radii of a file of this version.
-fn word_behind(version: Version) -> &'static [u8]
-    ensures { result.now ≡ word_behind version }
-{
-    if version.row().queries { b"queries" } else { b"end" }
-}
-
-// Where that word leads.
-fn place_behind(version: Version) -> Place
-    ensures { result ≡ place_behind version }
+// The word behind the radii of a file of this version, and where it leads.
+fn behind_radii(version: Version) -> (&'static [u8], Place)
+    ensures word { result.0.now ≡ word_behind version }
+    ensures place { result.1 ≡ place_behind version }
 {
     if version.row().queries {
-        Place::Queries
+        (b"queries", Place::Queries)
     } else {
-        Place::End
+        (b"end", Place::End)
     }
 }
 
@@ -262,8 +256,9 @@ impl Reader {
             (step_at (up_to newest) places.Radii (content self.old.file) line.now) }
     {
         let version = self.file.version;
-        if reads(line, word_behind(version)) {
-            self.place = place_behind(version);
+        let (word, place) = behind_radii(version);
+        if reads(line, word) {
+            self.place = place;
             return Ok(());
         }
         admit(line, version, RADIUS_LIMIT <= self.file.radii.len() as u64)?;
@@ -281,7 +276,11 @@ impl Reader {
             self.place = Place::End;
             return Ok(());
         }
-        admit(line, self.file.version, QUERY_LIMIT <= self.file.queries.len() as u64)?;
+        admit(
+            line,
+            self.file.version,
+            QUERY_LIMIT <= self.file.queries.len() as u64,
+        )?;
         self.file.queries.push(point_of(line)?)?;
         Ok(())
     }
@@ -323,11 +322,7 @@ fn judge(alloc: Global, bytes: &[u8], newest: Version) -> Result<File, ReadRefus
 ///
 /// # Errors
 /// Where it is none, its one fault; and where there is no memory for what it names, that.
-pub fn read_file_up_to(
-    alloc: Global,
-    bytes: &[u8],
-    newest: Version,
-) -> Result<File, ReadRefused>
+pub fn read_file_up_to(alloc: Global, bytes: &[u8], newest: Version) -> Result<File, ReadRefused>
     ensures accepted { IfOk result (λ f. IsFile (up_to newest) bytes.now (content f)) }
     ensures fault { (fault : Fault) → result ≡ Err (Bad fault) → IsFault (up_to newest) bytes.now fault }
 {

@@ -3,8 +3,7 @@ use Rattle.std.specs.Prelude.{◌≡◌, ℕ, zero, suc, ◌+◌, ◌<◌, ◌�
 use Rattle.std.specs.List.{flat_map}
 use Rattle.std.proofs.Common.{ap, arith, get_or, length-append}
 use Rattle.edit_workers.specs.declared.lists.List as lists
-use Rattle.edit_workers.specs.Dealing.{count_of}
-use Rattle.edit_workers.specs.Running.{pairs_in}
+use Rattle.edit_workers.specs.Dealing.{count_of, pairs_in}
 
 -- the lists before one, and that one, have no more pairs than all
 pub count_within : (ls : List lists.List) (i : ℕ) (x : lists.List) → i < length ls → x ≡ get_or ls i x → count_of (pairs_in (take i ls)) + length x.pairs.items ≤ count_of (pairs_in ls)

@@ -7,21 +7,21 @@ use Rattle.std.proofs.lemmas.List.Sorted.{IsPermutation-sym, IsPermutation-trans
 use Rattle.list_laws.proofs.Cited.{EachLater, all_of_each, both_later, each_of_all, from_append, in_left, in_permutation, later_pairs, later_unmap, mapped_true, pairs_later, related}
 use Rattle.point_order.specs.Sets.{IsIn}
 use Rattle.edit_history.specs.declared.history.Entry.{Entry}
-use Rattle.edit_history.specs.Edits.{is_move, point_of}
+use Rattle.edit_history.specs.Edits.{point_of}
 use Rattle.edit_history.specs.OneThread.{line_of}
 use Rattle.cell_store.specs.Meshes.{by_number}
 use Rattle.cell_store.proofs.Cited.{sorted_moves}
 use Rattle.grid_claims.specs.Passes.{Opened, Standing}
 use Rattle.grid_claims.specs.Lists.{entries_by}
 use Rattle.grid_claims.specs.Tries.{opening_pass, IsSplit, joined}
-use Rattle.plain_laws.specs.Running.{Pair}
-use Rattle.edit_workers.specs.Dealing.{AreAscending, AreApart, AreStill, count_of}
+use Rattle.plain_laws.specs.Running.{Pair, AreApart}
+use Rattle.edit_workers.specs.Dealing.{AreAscending, count_of, pairs_in}
 use Rattle.edit_workers.specs.Working.{Marked, left_over, done, IsWorked}
 use Rattle.edit_workers.specs.declared.lists.List as lists
 use Rattle.edit_workers.specs.declared.lists.Left.{Left}
-use Rattle.edit_workers.specs.Running.{pairs_in, CanRun, AscendAtPoint, ArePartly, AreWorked, AreRunBut, IsOfWorker}
+use Rattle.edit_workers.specs.Running.{CanRun, AscendAtPoint, ArePartly, AreWorked, AreRunBut, IsOfWorker}
 use Rattle.edit_workers.specs.Arranging.{IsArranged, IsInPlace}
-use Rattle.edit_workers.proofs.Marks.{marks_part, done_tags, left_tags, done_first}
+use Rattle.edit_workers.proofs.Marks.{marks_part, done_tags, left_tags, done_first, point_later}
 use Rattle.edit_workers.proofs.Partly.{count_both, all_low, all_high, apart_low, apart_high, partly_both}
 
 -- ---- a list of lists by places
@@ -93,7 +93,7 @@ module _ (list arranged left : List Pair) (old new : Standing) (is : IsArranged 
 
   behind : (d : Entry) (p : Pair) → IsIn d es → IsIn p left → AscendAtPoint (line_of d) p
   behind d p i j same =
-      done_first marked ascending (pairs_later (λ (x y : Marked). x.0 ≡ true → point_of x.1.1 ≡ point_of y.1.1 → y.0 ≡ true) marked w.later)
+      done_first marked ascending (point_later marked ascending w.later)
       (line_of d) p (subst (IsIn (line_of d)) w.made.pairs_are (mapped_true line_of d es i)) (subst (IsIn p) w.left_is j) same
 
   partly : ArePartly (list ∷ []) left es
@@ -144,14 +144,6 @@ slice_tags ls x table old l e can =
     let g : CanRun table (x.pairs.items ∷ []) old = subst (λ (t : List (List Pair)). CanRun table t old) f can in
     g.tags 0 x.pairs.items (omega arith)
 
-pub slice_still : (ls : List lists.List) (x : lists.List) (arranged : List Pair) (table : Opened) (old : Standing) → length ls ≡ 1 → x ≡ get_or ls 0 x → CanRun table (pairs_in ls) old → IsPermutation x.pairs.items arranged → AreStill arranged
-slice_still ls x arranged table old l e can same =
-    let f : pairs_in ls ≡ x.pairs.items ∷ [] = ap pairs_in (one_of ls x l e) in
-    let g : CanRun table (x.pairs.items ∷ []) old = subst (λ (t : List (List Pair)). CanRun table t old) f can in
-    let h : AreStill x.pairs.items = g.still 0 x.pairs.items (omega arith) in
-    all_of_each (λ (p : Pair). is_move p.1 ≡ false) arranged
-    (λ p i. each_of_all (λ (p : Pair). is_move p.1 ≡ false) x.pairs.items h p (in_permutation arranged x.pairs.items p (IsPermutation-sym x.pairs.items arranged same) i))
-
 pub slice_allowance : (ls : List lists.List) (x : lists.List) (table : Opened) (old : Standing) → length ls ≡ 1 → x ≡ get_or ls 0 x → CanRun table (pairs_in ls) old → length x.pairs.items ≤ old.left
 slice_allowance ls x table old l e can =
     let f : pairs_in ls ≡ x.pairs.items ∷ [] = ap pairs_in (one_of ls x l e) in
@@ -177,7 +169,6 @@ module _ (lows highs : List (List Pair)) (old mid other : Standing) (some-low : 
       few = let e : mid.left ≡ old.left - count_of highs = ap (λ (s : Standing). s.left) split.new_is in let f = can.few in omega (arith, e, f);
       fresh = ap (λ (s : Standing). s.made) split.new_is ∙ no_entries old.first (old.parts - length highs) old.made can.fresh;
       tags = all_low AreAscending lows highs can.tags;
-      still = all_low AreStill lows highs can.still;
       apart = apart_low lows highs can.apart;
     }
 
@@ -191,7 +182,6 @@ module _ (lows highs : List (List Pair)) (old mid other : Standing) (some-low : 
       few = let e : other.left ≡ count_of highs = ap (λ (s : Standing). s.left) split.other_is in let f = can.left in let g = can.few in omega (arith, e, f, g, count_both lows highs);
       fresh = ap (λ (s : Standing). s.made) split.other_is ∙ no_entries (old.first + (old.parts - length highs)) (length highs) old.made can.fresh;
       tags = all_high AreAscending lows highs can.tags;
-      still = all_high AreStill lows highs can.still;
       apart = apart_high lows highs can.apart;
     }
 

@@ -1,11 +1,13 @@
 pub mod ByKeys
 pub mod Counts
+pub mod Cuts
 pub mod Deals
 pub mod FirstOnes
 pub mod Halves
 pub mod Marks
 pub mod Partly
-pub mod Still
+pub mod Segments
+pub mod Sharing
 pub mod Stretches
 pub mod Worked
 pub mod Cited

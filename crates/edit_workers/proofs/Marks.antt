@@ -4,12 +4,27 @@ use Rattle.std.specs.List.{filter}
 use Rattle.std.proofs.Common.{refl, sym, ◌∙◌, ap, subst, inl, inr}
 use Rattle.std.proofs.lemmas.List.{map-append}
 use Rattle.std.proofs.lemmas.List.Sorted.{IsPermutation-map, IsPermutation-filter_both}
-use Rattle.list_laws.proofs.Cited.{EachLater, both_later, in_filtered, later_filter, later_map, later_unmap, mapped_from, not_both, not_from, passes, related}
+use Rattle.list_laws.proofs.Cited.{
+  EachLater,
+  both_later,
+  in_filtered,
+  later_filter,
+  later_map,
+  later_unmap,
+  later_weaken,
+  mapped_from,
+  not_both,
+  not_from,
+  pairs_later,
+  passes,
+  related,
+}
 use Rattle.point_order.specs.Sets.{IsIn}
-use Rattle.edit_history.specs.Edits.{point_of}
+use Rattle.edit_history.specs.Edits.{point_of, share_point}
 use Rattle.plain_laws.specs.Running.{Pair}
-use Rattle.edit_workers.specs.Working.{Marked, left_over, done}
+use Rattle.edit_workers.specs.Working.{Marked, LeavesLater, left_over, done}
 use Rattle.edit_workers.specs.Running.{AscendAtPoint}
+use Rattle.edit_workers.proofs.Sharing.{same_shares}
 
 -- ---- marks
 
@@ -32,6 +47,14 @@ module _ (l : List Marked) (tags : EachLater AscendAtPoint (map (λ x. x.1) l)) 
 
   pub left_tags : EachLater AscendAtPoint (left_over l)
   left_tags = later_map (λ (x : Marked). x.1) AscendAtPoint (filter (λ x. x.0) l) (later_filter (λ (x y : Marked). AscendAtPoint x.1 y.1) (λ x. x.0) l tagged)
+
+  -- what is of one point with an earlier one left over is left over
+  pub point_later : LeavesLater l → EachLater (λ (x y : Marked). x.0 ≡ true → point_of x.1.1 ≡ point_of y.1.1 → y.0 ≡ true) l
+  point_later h =
+      later_weaken (λ (x y : Marked). x.0 ≡ true → share_point x.1.1 y.1.1 ≡ true → y.0 ≡ true)
+      (λ (x y : Marked). x.0 ≡ true → point_of x.1.1 ≡ point_of y.1.1 → y.0 ≡ true) l
+      (λ x y i j f t same. f t (same_shares x.1.1 y.1.1 same))
+      (pairs_later (λ (x y : Marked). x.0 ≡ true → share_point x.1.1 y.1.1 ≡ true → y.0 ≡ true) l h)
 
   -- a pair that is done has a lower tag than one of its point that is left over
   pub done_first : EachLater (λ (x y : Marked). x.0 ≡ true → point_of x.1.1 ≡ point_of y.1.1 → y.0 ≡ true) l

@@ -8,16 +8,37 @@ use Rattle.std.proofs.lemmas.Grind.{flat_map-append}
 use Rattle.std.proofs.lemmas.List.{map-append, append_assoc, append-nil, length-map}
 use Rattle.std.proofs.lemmas.List.Sorted.{IsPermutation-sym, IsPermutation-trans, IsPermutation-map, IsPermutation-append, IsPermutation-append_left, IsPermutation-append_right, IsPermutation-append_comm, length_permutation}
 use Rattle.std.proofs.lemmas.Map.Keys.{IsDistinct-from_apart, IsDistinct-IsPermutation, apart_from_distinct}
-use Rattle.list_laws.proofs.Cited.{EachLater, all_of_each, each_of_all, flat_from, from_append, in_left, in_permutation, in_right, later_across, later_append, later_left, later_pairs, later_right, later_unmap, later_weaken, mapped_true, pairs_later}
+use Rattle.list_laws.proofs.Cited.{
+  EachLater,
+  all_of_each,
+  both_later,
+  each_of_all,
+  flat_from,
+  from_append,
+  in_left,
+  in_permutation,
+  in_right,
+  later_across,
+  later_append,
+  later_left,
+  later_pairs,
+  later_right,
+  later_unmap,
+  later_weaken,
+  mapped_true,
+  not_both,
+  pairs_later,
+}
 use Rattle.point_order.specs.Sets.{IsIn}
 use Rattle.edit_history.specs.declared.history.Entry.{Entry}
-use Rattle.edit_history.specs.Edits.{is_move, share_point, point_of, after}
+use Rattle.edit_history.specs.Edits.{share_point, point_of, after}
 use Rattle.edit_history.specs.Histories.{IsLegalFrom, IsLegal}
 use Rattle.edit_history.specs.OneThread.{line_of}
-use Rattle.plain_laws.specs.Running.{Pair}
-use Rattle.edit_workers.specs.Dealing.{HaveNoPoint, AreApart, AreStill, count_of}
-use Rattle.edit_workers.proofs.Still.{all_still, one_point}
-use Rattle.edit_workers.specs.Running.{AreRun, AscendAtPoint, ArePartly, AreRunBut, AreApplied, AreByTag}
+use Rattle.plain_laws.specs.Running.{Pair, HaveNoPoint, AreApart, MovesAlone, clash}
+use Rattle.plain_laws.proofs.Cited.{alone_in_any_order, one_point}
+use Rattle.edit_workers.specs.Dealing.{all_of, count_of}
+use Rattle.edit_workers.specs.Running.{IsSegmentRun, AscendAtPoint, ArePartly, AreRunBut, AreApplied, AreByTag}
+use Rattle.edit_workers.proofs.Sharing.{same_shares}
 
 -- ---- two parts of the lists
 
@@ -44,7 +65,8 @@ module _ (low high : List (List Pair)) (apart : AreApart (low ++ high)) where
   apart_across p q i j =
       let l = flat_from (λ (l : List Pair). l) low p i in
       let m = flat_from (λ (l : List Pair). l) high q j in
-      later_across HaveNoPoint low high later l.0 m.0 l.1 m.1 p q l.2 m.2
+      λ e. not_both (share_point p.1 q.1) (same_shares p.1 q.1 e)
+      (later_across HaveNoPoint low high later l.0 m.0 l.1 m.1 p q l.2 m.2)
 
 -- exchanged in the middle
 exchanged : {X : Type 0} (a b c d : List X) → IsPermutation ((a ++ b) ++ (c ++ d)) ((a ++ c) ++ (b ++ d))
@@ -167,7 +189,9 @@ room_left lists left sorted h k but tags =
     let b : length (map line_of but.more ++ left) ≡ count_of lists = length_permutation (flat_map (λ l. l) lists) (map line_of but.more ++ left) but.partly.lines in
     omega (arith, a, b, length-append (map line_of but.more) left, length-map but.more line_of, length_permutation left sorted tags.same)
 
-module _ (lists : List (List Pair)) (left sorted : List Pair) (h k m : List Entry) (some : 0 < length lists) (but : AreRunBut lists left h k) (tags : AreByTag left sorted) (applied : AreApplied sorted k m) (legal : IsLegal k) (still : All AreStill lists) where
+module _ (lists : List (List Pair)) (left sorted : List Pair) (h k m : List Entry) (some : 0 < length lists)
+    (but : AreRunBut lists left h k) (tags : AreByTag left sorted) (applied : AreApplied sorted k m)
+    (legal : IsLegal k) (alone : MovesAlone (all_of lists)) where
   abbrev es : List Entry
   es = but.more
 
@@ -198,8 +222,14 @@ module _ (lists : List (List Pair)) (left sorted : List Pair) (h k m : List Entr
       subst (IsPermutation (flat_map (λ l. l) lists)) e
       (IsPermutation-trans (flat_map (λ l. l) lists) (map line_of es ++ left) (map line_of es ++ sorted) but.partly.lines (IsPermutation-append_right (map line_of es) left sorted tags.same))
 
-  entry_still : (e : Entry) → IsIn e (es ++ fs) → is_move e.edit ≡ false
-  entry_still e i = all_still lists still (line_of e) (in_permutation (map line_of (es ++ fs)) (flat_map (λ l. l) lists) (line_of e) (IsPermutation-sym (flat_map (λ l. l) lists) (map line_of (es ++ fs)) all_lines) (mapped_true line_of e (es ++ fs) i))
+  -- those that move share no point with another
+  abbrev Calm : Pair → Pair → Type 0
+  Calm x y = clash x y ≡ false
+
+  calm : EachLater (λ (d e : Entry). Calm (line_of d) (line_of e)) (es ++ fs)
+  calm =
+      later_unmap line_of Calm (es ++ fs)
+      (pairs_later Calm (map line_of (es ++ fs)) (alone_in_any_order (all_of lists) (map line_of (es ++ fs)) all_lines alone))
 
   by_workers : All (λ e. e.by < length lists) (es ++ fs)
   by_workers =
@@ -219,15 +249,17 @@ module _ (lists : List (List Pair)) (left sorted : List Pair) (h k m : List Entr
       no_length [] e = refl
       no_length (x ∷ l) e = absurd (omega (arith, e))
 
-  pub whole_run : AreRun lists h m
+  pub whole_run : IsSegmentRun lists h m
   whole_run = record {
     more = es ++ fs;
     history = applied.history ∙ ap (λ (l : List Entry). l ++ fs) but.history ∙ append_assoc h es fs;
     run = record {
       lines = all_lines;
       order = later_pairs (λ (d e : Entry). share_point d.edit e.edit ≡ true → d.tag < e.tag) (es ++ fs)
-          (later_weaken SamePoint (λ (d e : Entry). share_point d.edit e.edit ≡ true → d.tag < e.tag) (es ++ fs)
-          (λ d e i j same shared. same (one_point d.edit e.edit shared (entry_still d i) (entry_still e j))) both_parts);
+          (later_weaken (λ (d e : Entry). SamePoint d e × Calm (line_of d) (line_of e))
+          (λ (d e : Entry). share_point d.edit e.edit ≡ true → d.tag < e.tag) (es ++ fs)
+          (λ d e i j r shared. r.0 (one_point (line_of d) (line_of e) shared r.1))
+          (both_later SamePoint (λ (d e : Entry). Calm (line_of d) (line_of e)) (es ++ fs) both_parts calm));
       workers = by_workers;
       alone = nothing_left;
     };

@@ -6,12 +6,11 @@ use Rattle.std.proofs.lemmas.Bool.{false≢true}
 use Rattle.std.proofs.lemmas.List.{length-map, length-take, map-append, append_assoc, take_all, take-append-drop}
 use Rattle.std.proofs.Math.Seq.{take-suc}
 use Rattle.std.proofs.lemmas.List.Elements.{All-append}
-use Rattle.list_laws.proofs.Cited.{all_of_each, each_of_all, later_append, later_pairs, pairs_later}
+use Rattle.list_laws.proofs.Cited.{all_of_each, each_of_all, later_append, later_pairs, not_both, pairs_later}
 use Rattle.point_order.specs.Sets.{IsIn}
 use Rattle.edit_history.specs.declared.history.Edit.{Edit}
 use Rattle.edit_history.specs.declared.history.Entry.{Entry}
 use Rattle.edit_history.specs.declared.history.Reply.{Reply}
-use Rattle.edit_history.specs.Edits.{point_of}
 use Rattle.edit_history.specs.OneThread.{line_of}
 use Rattle.grid_claims.specs.declared.view.Act.{Act}
 use Rattle.grid_claims.specs.declared.view.Act.TheVariants.{Claim, Miss, Commit, Release, Look}
@@ -21,9 +20,31 @@ use Rattle.grid_claims.specs.Trails.{misses}
 use Rattle.grid_claims.specs.Tries.{AreClaimsAround, IsAsBefore, IsOthersWord, IsEdited}
 use Rattle.plain_laws.specs.Running.{Pair}
 use Rattle.edit_workers.specs.Working.{Marked, Stretch, done, left_over, first_ones, AreEntriesOf, HasMade, IsWorked, IsBroken}
-use Rattle.edit_workers.specs.Trying.{OwnsAll, HasMadeOne, HasMissed, HasMissedSome, FollowsLeft, IsLeftOver, IsDone, IsWorkedOn}
+use Rattle.edit_workers.specs.Trying.{
+  OwnsAll,
+  HasMadeOne,
+  HasMissed,
+  HasMissedSome,
+  FollowsLeft,
+  IsLeftOver,
+  IsDone,
+  IsWorkedOn,
+  shares_with,
+}
 use Rattle.edit_workers.proofs.Stretches.{flat_more, tried_more}
-use Rattle.edit_workers.proofs.FirstOnes.{points_of, in_points, not_in_points, first_same, first_more, left_more, left_same, done_more, done_same, all_left, all_parted, none_done, done_few, later_more}
+use Rattle.edit_workers.proofs.FirstOnes.{
+  first_same,
+  first_more,
+  left_more,
+  left_same,
+  done_more,
+  done_same,
+  all_left,
+  all_parted,
+  none_done,
+  done_few,
+  later_more,
+}
 
 -- ---- trails
 
@@ -243,8 +264,8 @@ entries_more old now new pairs entries steps most tag edit a h m =
 
 -- ---- one pair more
 
-nothing_has : (p : ℕ) (l : List Pair) → l ≡ [] → IsIn p (points_of l) → ⊥
-nothing_has p l e i = subst (λ (l : List Pair). IsIn p (points_of l)) e i
+nothing_shares : (edit : Edit) (l : List Pair) → l ≡ [] → shares_with edit l ≡ true → ⊥
+nothing_shares edit l e s = false≢true (sym (ap (shares_with edit) e) ∙ s)
 
 still_all : (old now : Standing) (entries : List Entry) (steps : List Act) → HasMade old now entries steps → OwnsAll old → OwnsAll now
 still_all old now entries steps h o =
@@ -266,7 +287,6 @@ module _ (list left : List Pair) (pair : Pair) (old now new : Standing) (w : IsW
 
   pub worked_follows : (after : List Pair) → FollowsLeft pair left after now new → IsWorked (list ++ pair ∷ []) after old new
   worked_follows after f =
-      let among = in_points (point_of pair.1) left f.shared in
       let same = f.as_before in
       record {
         marked = w.marked ++ (true, pair) ∷ [];
@@ -280,9 +300,16 @@ module _ (list left : List Pair) (pair : Pair) (old now new : Standing) (w : IsW
         stretches = w.stretches ++ ((true, pair), []) ∷ [];
         pairs_are = stretched_more true [];
         steps_are = sym (append-nil w.steps) ∙ steps_more true [];
-        tried = tried_more [] w.stretches ((true, pair), []) w.tried ((λ t a c. absurd (c (subst (λ (l : List Pair). IsIn (point_of pair.1) (points_of l)) over_is among))), omega arith);
-        tries = (let t = w.tries in let e = ap (first_ones []) f.behind ∙ first_same [] left pair (inr among) in omega (arith, t, e));
-        alone = λ z q. absurd (nothing_has (point_of pair.1) left (w.alone z q) among);
+        tried = tried_more [] w.stretches ((true, pair), []) w.tried (
+          (λ t a c. absurd (not_both (shares_with pair.1 left) f.shared (ap (shares_with pair.1) over_is ∙ c))),
+          omega arith,
+        );
+        tries = (
+          let t = w.tries in
+          let e = ap (first_ones []) f.behind ∙ first_same [] left pair (inr f.shared) in
+          omega (arith, t, e)
+        );
+        alone = λ z q. absurd (nothing_shares pair.1 left (w.alone z q) f.shared);
       }
 
   pub worked_left : (after : List Pair) → IsLeftOver pair left after now new → IsWorked (list ++ pair ∷ []) after old new
@@ -306,12 +333,12 @@ module _ (list left : List Pair) (pair : Pair) (old now new : Standing) (w : IsW
 
   pub worked_done : (after : List Pair) → IsDone pair left after now new → IsWorked (list ++ pair ∷ []) after old new
   worked_done after f =
-      let none = not_in_points (point_of pair.1) left f.first in
       record {
         marked = w.marked ++ (false, pair) ∷ [];
         parted = parted_more false;
         left_is = f.none ∙ w.left_is ∙ sym (left_same w.marked pair);
-        later = later_more w.marked (false, pair) w.later (λ i. absurd (none (subst (λ (l : List Pair). IsIn (point_of pair.1) (points_of l)) (sym w.left_is) i)));
+        later = later_more w.marked (false, pair) w.later (λ i. absurd
+            (not_both (shares_with pair.1 left) (ap (shares_with pair.1) w.left_is ∙ i) f.first));
         entries = w.entries ++ entry_of f.made.number old.first pair.0 pair.1 f.made.reply ∷ [];
         made = subst (λ (l : List Pair). AreEntriesOf old l (w.entries ++ entry_of f.made.number old.first pair.0 pair.1 f.made.reply ∷ [])) (sym (done_more w.marked pair)) (entries_more old now new (done w.marked) w.entries w.steps 64 pair.0 pair.1 w.made w.pass f.made);
         steps = w.steps ++ f.made.steps;

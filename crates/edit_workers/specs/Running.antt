@@ -18,16 +18,14 @@ use Rattle.std.specs.Prelude.{
   IsPermutation,
   slice_index_or,
 }
-use Rattle.std.specs.List.{flat_map}
 use Rattle.point_order.specs.Sets.{IsIn}
 use Rattle.edit_history.specs.declared.history.Entry.{Entry}
 use Rattle.edit_history.specs.Edits.{point_of}
 use Rattle.edit_history.specs.OneThread.{line_of}
 use Rattle.grid_claims.specs.Passes.{Opened, Standing}
 use Rattle.grid_claims.specs.Tries.{IsStill}
-use Rattle.plain_laws.specs.Running.{Pair, IsRun}
-use Rattle.edit_workers.specs.declared.lists.List as lists
-use Rattle.edit_workers.specs.Dealing.{AreAscending, AreApart, AreStill, count_of}
+use Rattle.plain_laws.specs.Running.{Pair, AreApart, IsRun}
+use Rattle.edit_workers.specs.Dealing.{AreAscending, all_of, count_of}
 
 -- the entry is of a pair in the list of its worker, where the first of the workers has this number
 abbrev pub IsOfWorker : ℕ → List (List Pair) → Entry → Type 0
@@ -43,21 +41,31 @@ pub record EndsLate (lists : List (List Pair)) (more : List Entry) : Type 0 wher
   pub by_none : All (λ e. e.by ≡ 0) late
   pub tags : AllPairs (λ d e. d.tag ≤ e.tag) late
 
--- The history k is h, gone on with a run of the lists.
-pub record AreRun (lists : List (List Pair)) (h k : List Entry) : Type 0 where
+-- The history k is h, gone on with a run of the lists of a segment.
+pub record IsSegmentRun (lists : List (List Pair)) (h k : List Entry) : Type 0 where
   pub more : List Entry
   pub history : k ≡ h ++ more
   pub run : IsRun lists more
   pub ends : EndsLate lists more
 
+-- The entries are a run of the lists of each segment, those of one segment in front of those of the next, and those of
+-- a segment end with what was left over in it.
+abbrev pub AreDone : List (List (List Pair)) → List Entry → Type 0
+AreDone [] entries = entries ≡ []
+AreDone (lists ∷ others) entries =
+    (front : List Entry) × (behind : List Entry)
+    × (entries ≡ front ++ behind) × IsRun lists front × EndsLate lists front × AreDone others behind
+
+-- The history k is h, gone on with runs of the segments.
+pub record AreRun (segments : List (List (List Pair))) (h k : List Entry) : Type 0 where
+  pub more : List Entry
+  pub history : k ≡ h ++ more
+  pub done : AreDone segments more
+
 -- ---- workers side by side
 
--- lists, as lists of pairs
-abbrev pub pairs_in : List lists.List → List (List Pair)
-pairs_in l = map (λ list. list.pairs.items) l
-
--- The pass can do these lists, which move no point: there are 1 to 64, it has a part for each and allowance for all
--- their pairs, and has made no entry yet.
+-- The pass can do these lists: there are 1 to 64, it has a part for each and allowance for all their pairs, and has made
+-- no entry yet.
 pub record CanRun (table : Opened) (lists : List (List Pair)) (pass : Standing) : Type 0 where
   pub some : 0 < length lists
   pub short : length lists ≤ 64
@@ -67,7 +75,6 @@ pub record CanRun (table : Opened) (lists : List (List Pair)) (pass : Standing) 
   pub few : pass.left ≤ 2 ^ 32
   pub fresh : pass.made ≡ []
   pub tags : All AreAscending lists
-  pub still : All AreStill lists
   pub apart : AreApart lists
 
 -- where they are of one point, their tags ascend
@@ -77,7 +84,7 @@ AscendAtPoint p q = point_of p.1 ≡ point_of q.1 → p.0 < q.0
 -- Each pair of the lists was made or is left over, once. Of the pairs of one point those made come by their tags, also
 -- by number, then come those left over, by their tags.
 pub record ArePartly (lists : List (List Pair)) (left : List Pair) (entries : List Entry) : Type 0 where
-  pub lines : IsPermutation (flat_map (λ l. l) lists) (map line_of entries ++ left)
+  pub lines : IsPermutation (all_of lists) (map line_of entries ++ left)
   pub order : (d e : Entry) → IsIn d entries → IsIn e entries → d.number < e.number →
       AscendAtPoint (line_of d) (line_of e)
   pub behind : (d : Entry) (p : Pair) → IsIn d entries → IsIn p left → AscendAtPoint (line_of d) p

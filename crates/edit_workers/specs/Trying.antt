@@ -1,9 +1,9 @@
 -- The tries of one edit, and what they make of the pairs that are left over.
-use Rattle.std.specs.Prelude.{◌≡◌, ◌⊎◌, ℕ, ◌+◌, ◌-◌, ◌<◌, ◌≤◌, ◌==◌, Bool, true, false, List, [], ◌∷◌, ◌++◌}
+use Rattle.std.specs.Prelude.{◌≡◌, ◌⊎◌, ℕ, ◌+◌, ◌-◌, ◌<◌, ◌≤◌, Bool, true, false, List, [], ◌∷◌, ◌++◌}
 use Rattle.std.specs.List.{list_any}
 use Rattle.edit_history.specs.declared.history.Edit.{Edit}
 use Rattle.edit_history.specs.declared.history.Reply.{Reply}
-use Rattle.edit_history.specs.Edits.{point_of}
+use Rattle.edit_history.specs.Edits.{share_point}
 use Rattle.grid_claims.specs.declared.view.Act.{Act}
 use Rattle.grid_claims.specs.Trails.{misses}
 use Rattle.grid_claims.specs.Passes.{Standing}
@@ -48,25 +48,25 @@ abbrev pub IsTried : ℕ → ℕ → Edit → Tried → Standing → Standing �
 IsTried count tag edit Made old new = HasMadeOne count tag edit old new
 IsTried count tag edit LeftOver old new = HasMissed count old new
 
--- some pair of the list has this point
-abbrev pub has_point : ℕ → List Pair → Bool
-has_point p l = list_any (λ x. point_of x.1 == p) l
+-- some pair of the list shares a point with this edit
+abbrev pub shares_with : Edit → List Pair → Bool
+shares_with edit l = list_any (λ x. share_point x.1 edit) l
 
--- A pair that shares its point with one left over was put behind them, and not tried.
+-- A pair that shares a point with one left over was put behind them, and not tried.
 pub record FollowsLeft (pair : Pair) (before left : List Pair) (old new : Standing) : Type 0 where
-  pub shared : has_point (point_of pair.1) before ≡ true
+  pub shared : shares_with pair.1 before ≡ true
   pub behind : left ≡ before ++ pair ∷ []
   pub as_before : new ≡ old
 
--- One that shares it with none was tried to the end.
+-- One that shares none with them was tried to the end.
 pub record IsLeftOver (pair : Pair) (before left : List Pair) (old new : Standing) : Type 0 where
-  pub first : has_point (point_of pair.1) before ≡ false
+  pub first : shares_with pair.1 before ≡ false
   pub behind : left ≡ before ++ pair ∷ []
   pub missed : HasMissed 64 old new
 
 -- Or it was made.
 pub record IsDone (pair : Pair) (before left : List Pair) (old new : Standing) : Type 0 where
-  pub first : has_point (point_of pair.1) before ≡ false
+  pub first : shares_with pair.1 before ≡ false
   pub none : left ≡ before
   pub made : HasMadeOne 64 pair.0 pair.1 old new
 

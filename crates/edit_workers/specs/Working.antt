@@ -22,14 +22,14 @@ use Rattle.std.specs.Prelude.{
   if◌then◌else◌,
 }
 use Rattle.std.specs.List.{filter, flat_map}
-use Rattle.point_order.specs.Sets.{is_among}
 use Rattle.edit_history.specs.declared.history.Entry.{Entry}
-use Rattle.edit_history.specs.Edits.{point_of}
+use Rattle.edit_history.specs.Edits.{share_point}
 use Rattle.edit_history.specs.OneThread.{line_of}
 use Rattle.grid_claims.specs.declared.view.Act.{Act}
 use Rattle.grid_claims.specs.Trails.{misses}
 use Rattle.grid_claims.specs.Passes.{Standing}
 use Rattle.plain_laws.specs.Running.{Pair}
+use Rattle.edit_workers.specs.Trying.{shares_with}
 
 -- a pair, and whether it is left over
 abbrev pub Marked : Type 0
@@ -44,26 +44,25 @@ done l = map (λ x. x.1) (filter (λ x. not x.0) l)
 
 -- what shares a point with an earlier pair that is left over is left over too
 abbrev pub LeavesLater : List Marked → Type 0
-LeavesLater l = AllPairs (λ x y. x.0 ≡ true → point_of x.1.1 ≡ point_of y.1.1 → y.0 ≡ true) l
+LeavesLater l = AllPairs (λ x y. x.0 ≡ true → share_point x.1.1 y.1.1 ≡ true → y.0 ≡ true) l
 
--- how many pairs of a list share no point with an earlier one, nor with these points
-abbrev pub first_ones : List ℕ → List Pair → ℕ
+-- how many pairs of a list share no point with an earlier one, nor with these
+abbrev pub first_ones : List Pair → List Pair → ℕ
 first_ones seen [] = 0
-first_ones seen (p ∷ l) =
-    if is_among (point_of p.1) seen then first_ones seen l else first_ones (point_of p.1 ∷ seen) l + 1
+first_ones seen (p ∷ l) = if shares_with p.1 seen then first_ones (p ∷ seen) l else first_ones (p ∷ seen) l + 1
 
 -- a pair of the list and its mark, with the steps that were taken for it
 abbrev pub Stretch : Type 0
 Stretch = Marked × List Act
 
 -- For no pair more than 64 claims failed, and for each that is left over by itself just so many, but where it shares
--- its point with one of these or with an earlier one that is left over.
-abbrev pub AreTried : List ℕ → List Stretch → Type 0
+-- a point with one of these or with an earlier one that is left over.
+abbrev pub AreTried : List Pair → List Stretch → Type 0
 AreTried over [] = Unit {0}
 AreTried over (s ∷ l) =
-    (s.0.0 ≡ true → is_among (point_of s.0.1.1) over ≡ false → misses s.1 ≡ 64)
+    (s.0.0 ≡ true → shares_with s.0.1.1 over ≡ false → misses s.1 ≡ 64)
     × (misses s.1 ≤ 64)
-    × AreTried (if s.0.0 then point_of s.0.1.1 ∷ over else over) l
+    × AreTried (if s.0.0 then s.0.1 ∷ over else over) l
 
 -- Entries of these pairs, in this order: by the pass, with ascending numbers, none below what it had seen.
 pub record AreEntriesOf (old : Standing) (pairs : List Pair) (entries : List Entry) : Type 0 where
@@ -83,9 +82,10 @@ pub record HasMade (old new : Standing) (entries : List Entry) (steps : List Act
   pub later : old.seen ≤ new.seen
   pub seen_all : All (λ e. e.number < new.seen) entries
 
--- The work is done: each pair of the list was made or is left over, once; what follows one left over of its point is
--- left over. The steps are those of the pairs one after another, and for each that is the first one left over of its
--- point 64 claims failed, so that all in all as many failed. A pass that owns all parts leaves nothing over.
+-- The work is done: each pair of the list was made or is left over, once; what shares a point with an earlier one left
+-- over is left over. The steps are those of the pairs one after another, and for each that is left over and shares no
+-- point with an earlier such one 64 claims failed, so that all in all as many failed. A pass that owns all parts leaves
+-- nothing over.
 pub record IsWorked (list left : List Pair) (old new : Standing) : Type 0 where
   pub marked : List Marked
   pub parted : map (λ x. x.1) marked ≡ list

@@ -1,47 +1,16 @@
 //! Dealing a file's lines.
 
-ghost use Rattle.std.specs.Prelude.{◌≡◌, ◌+◌, ◌^◌, ◌<◌, ◌≤◌, ◌∷◌, ◌++◌, [], map, replicate, length, slice_get};
-ghost use Rattle.std.specs.Prelude.{Some, IfOk, OnOk};
+ghost use Rattle.std.specs.Prelude.{◌≡◌, ◌+◌, ◌^◌, ◌<◌, ◌≤◌, ◌++◌, map, length, slice_get, Some, IfOk};
 ghost use Rattle.edit_history.specs.declared.history.Edit.TheVariants.{Add};
 ghost use Rattle.edit_history.specs.OneThread.{tagged_lines};
 ghost use Rattle.plain_laws.specs.Running.{dealt};
-ghost use Rattle.edit_workers.specs.Dealing.{lists_of, with_pair, AreOpening};
+ghost use Rattle.edit_workers.specs.Dealing.{segments_of, AreOpening};
 
-use crate::lists::{List, Lists};
+use crate::cutting::Cutter;
+use crate::lists::Lists;
 use edit_files::File;
 use edit_history::Edit;
 use std::alloc::{AllocError, Global};
-
-// So many empty lists.
-fn empty_lists(alloc: Global, count: u32) -> Result<Lists, AllocError>
-    ensures { IfOk result (λ lists. lists_of lists ≡ replicate count []) }
-{
-    let mut each = Vec::new(alloc);
-    for _worker in 0..count {
-        each.push(List {
-            pairs: Vec::new(alloc),
-        })?;
-    }
-    Ok(Lists { each })
-}
-
-// Puts a pair at the end of a list.
-fn put_last(list: &mut List, tag: u32, edit: Edit) -> Result<(), AllocError>
-    ensures { OnOk result (list.new.pairs.items ≡ list.old.pairs.items ++ (tag, edit) ∷ []) }
-{
-    list.pairs.push((tag, edit))?;
-    Ok(())
-}
-
-// Puts a pair at the end of the list of its worker.
-fn put(lists: &mut Lists, tag: u32, edit: Edit) -> Result<(), AllocError>
-    requires some { 0 < length lists.old.each.items }
-    ensures { OnOk result (lists_of lists.new ≡ with_pair (tag, edit) (lists_of lists.old)) }
-{
-    let worker = edit.point().key() % lists.each.len() as u64;
-    put_last(&mut lists.each[worker as usize], tag, edit)?;
-    Ok(())
-}
 
 // The line of a file at a place.
 fn line_at(file: &File, place: usize) -> Edit
@@ -56,8 +25,12 @@ fn line_at(file: &File, place: usize) -> Edit
     }
 }
 
-/// The lines of a file but for the opening four, each in the list of the worker whose number is the key of its point
-/// modulo the number of workers. In each list the lines stand in the order of the file, each with its place for a tag.
+/// The lines of a file but for the opening four, in segments: a line begins a new segment where it shares a point with
+/// an earlier line of the present one and either of the two moves. So a file that moves no point is one segment.
+///
+/// In its segment each line stands in the list of the worker whose number is the key of its point modulo the number of
+/// workers; the point of a move is the place that it leaves. In each list the lines stand in the order of the file, each
+/// with its place for a tag. For n lines it takes about n steps.
 ///
 /// There are to be 1 to 64 workers, at most 2^32 lines, and `four` is to be what `find_four` gives.
 ///
@@ -68,13 +41,13 @@ pub fn deal(alloc: Global, file: &File, four: [usize; 4], workers: u32) -> Resul
     requires lines { length file.now.points.items + length file.now.edits.items ≤ 2 ^ 32 }
     requires four { AreOpening file.now.points.items four }
     ensures dealt { IfOk result (λ lists.
-        lists_of lists ≡ dealt workers four (tagged_lines file.now.points.items file.now.edits.items)) }
+        segments_of lists ≡ dealt workers four (tagged_lines file.now.points.items file.now.edits.items)) }
 {
-    let mut lists = empty_lists(alloc, workers)?;
+    let mut cutter = Cutter::new(alloc, workers)?;
     for place in 0..file.points.len() + file.edits.len() {
         if !four.contains(&place) {
-            put(&mut lists, place as u32, line_at(file, place))?;
+            cutter.put(alloc, workers, place as u32, line_at(file, place))?;
         }
     }
-    Ok(lists)
+    cutter.finish()
 }

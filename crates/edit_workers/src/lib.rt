@@ -1,20 +1,21 @@
-//! Workers: the lines of a file are dealt to them by their points, and each makes its own on one table.
+//! Workers: the lines of a file are dealt to them by their points, in segments, and each makes its own on one table.
 //!
 //! ```
 //! let four = find_four(&file.points)?;                     // a mesh has begun with these four lines
-//! let lists = deal(alloc, &file, four, 8)?;                // eight lists: the lines of one point in one of them
-//! let mesh = run_edits(rt, alloc, mesh, &lists, &gate)?;   // eight threads; what was busy too often comes at the end
+//! let lists = deal(alloc, &file, four, 8)?;                // eight lists a segment: the lines of one point in one of them
+//! let mesh = run_edits(rt, alloc, mesh, &lists, &gate)?;   // eight threads a segment; what was busy too often ends it
 //! let kept = mesh.count();                                 // each line of the lists stands in the history once
 //! ```
 #![tactic(auto)]
 
 mod arranging;
+mod cutting;
 mod dealing;
 mod lists;
 mod running;
 mod working;
 
 pub use dealing::deal;
-pub use lists::{Left, List, Lists};
+pub use lists::{Left, List, Lists, Segment};
 pub use running::run_edits;
-pub use working::work;
+pub use working::{share_a_point, work};

@@ -8,10 +8,16 @@ pub struct List {
     pub pairs: Vec<(u32, Edit)>,
 }
 
-/// A list for each worker.
+/// A list for each worker, of edits of which none that moves shares a point with another.
+#[derive(Debug, Drop)]
+pub struct Segment {
+    pub each: Vec<List>,
+}
+
+/// Segments that are done one after another.
 #[derive(Debug, Drop)]
 pub struct Lists {
-    pub each: Vec<List>,
+    pub segments: Vec<Segment>,
 }
 
 /// The edits of a list that were not made, each with its tag.

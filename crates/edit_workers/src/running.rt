@@ -1,10 +1,18 @@
-//! All lists at once, each by a worker of its own.
+//! Segment after segment, the lists of each at once, each by a worker of its own.
 
-ghost use Rattle.std.specs.Prelude.{◌≡◌, ◌+◌, ◌^◌, ◌<◌, ◌≤◌, ◌++◌, IfOk, length, All};
+ghost use Rattle.std.specs.Prelude.{◌≡◌, ◌+◌, ◌^◌, ◌<◌, ◌≤◌, ◌++◌, IfOk, OnOk, length, All};
 ghost use Rattle.std.specs.Thread.{IsSync};
 ghost use Rattle.grid_claims.specs.Tries.{joined};
-ghost use Rattle.edit_workers.specs.Dealing.{lists_of, AreAscending, AreApart, AreStill, count_of};
-ghost use Rattle.edit_workers.specs.Running.{AreRun, pairs_in, CanRun, AreWorked, AreRunBut, AreApplied, AreByTag};
+ghost use Rattle.edit_workers.specs.Dealing.{segments_of, pairs_in, CanBeDone, all_of, count_of, count_all};
+ghost use Rattle.edit_workers.specs.Running.{
+  AreRun,
+  IsSegmentRun,
+  CanRun,
+  AreWorked,
+  AreRunBut,
+  AreApplied,
+  AreByTag,
+};
 
 use crate::arranging::in_place;
 use crate::lists::{Left, List, Lists};
@@ -109,10 +117,7 @@ fn side_by_side<G: Gate + Sync, R: Threads + Sync>(
     lists: &[List],
     gate: &G,
 ) -> Result<(Mesh, Left), AllocError>
-    requires count { (0 < length lists.now) × (length lists.now ≤ 64) }
-    requires tags { All AreAscending (pairs_in lists.now) }
-    requires still { All AreStill (pairs_in lists.now) }
-    requires apart { AreApart (pairs_in lists.now) }
+    requires lists { CanBeDone (pairs_in lists.now) }
     requires room { length mesh.history + count_of (pairs_in lists.now) ≤ 2 ^ 32 }
     ensures run { IfOk result (λ r. AreRunBut (pairs_in lists.now) r.1.pairs.items mesh.history r.0.history) }
     ensures grid { IfOk result (λ r. r.0.grid ≡ mesh.grid) }
@@ -131,26 +136,81 @@ fn sort_by_tag(left: &mut Left)
 }
 
 // Makes the edits of pairs on the mesh, one by one.
-fn apply_all(alloc: Global, mut mesh: Mesh, pairs: &[(u32, Edit)]) -> Result<Mesh, AllocError>
-    requires room { length mesh.history + length pairs.now ≤ 2 ^ 32 }
-    requires still { AreStill pairs.now }
-    ensures applied { IfOk result (λ m. AreApplied pairs.now mesh.history m.history) }
-    ensures grid { IfOk result (λ m. m.grid ≡ mesh.grid) }
+fn apply_all(alloc: Global, mesh: &mut Mesh, pairs: &[(u32, Edit)]) -> Result<(), AllocError>
+    requires room { length mesh.old.history + length pairs.now ≤ 2 ^ 32 }
+    ensures applied { OnOk result (AreApplied pairs.now mesh.old.history mesh.new.history) }
+    ensures grid { OnOk result (mesh.new.grid ≡ mesh.old.grid) }
 {
     for (tag, edit) in pairs {
-        apply(alloc, &mut mesh, *tag, *edit)?;
+        apply(alloc, mesh, *tag, *edit)?;
     }
+    Ok(())
+}
+
+// Makes the edits of lists on the mesh, one by one.
+fn apply_lists(alloc: Global, mesh: &mut Mesh, lists: &[List]) -> Result<(), AllocError>
+    requires room { length mesh.old.history + count_of (pairs_in lists.now) ≤ 2 ^ 32 }
+    ensures applied { OnOk result (AreApplied (all_of (pairs_in lists.now)) mesh.old.history mesh.new.history) }
+    ensures grid { OnOk result (mesh.new.grid ≡ mesh.old.grid) }
+{
+    for list in lists {
+        apply_all(alloc, mesh, &list.pairs)?;
+    }
+    Ok(())
+}
+
+// Does the lists side by side on the mesh, and then what they leave over.
+fn run_beside<G: Gate + Sync, R: Threads + Sync>(
+    rt: &R,
+    alloc: Global,
+    mesh: Mesh,
+    lists: &[List],
+    gate: &G,
+) -> Result<Mesh, AllocError>
+    requires lists { CanBeDone (pairs_in lists.now) }
+    requires room { length mesh.history + count_of (pairs_in lists.now) ≤ 2 ^ 32 }
+    ensures run { IfOk result (λ m. IsSegmentRun (pairs_in lists.now) mesh.history m.history) }
+    ensures grid { IfOk result (λ m. m.grid ≡ mesh.grid) }
+{
+    let (mut mesh, mut left) = side_by_side(rt, alloc, mesh, lists, gate)?;
+    sort_by_tag(&mut left);
+    let _ = mesh.count();
+    apply_all(alloc, &mut mesh, &left.pairs)?;
     Ok(mesh)
 }
 
-/// Makes the edits of all lists on the mesh: each list by a worker of its own, side by side, and then what they leave
-/// over, in the order of its tags.
+// Does the lists of a segment on the mesh. One pair alone needs no table.
+fn run_segment<G: Gate + Sync, R: Threads + Sync>(
+    rt: &R,
+    alloc: Global,
+    mesh: Mesh,
+    lists: &[List],
+    gate: &G,
+) -> Result<Mesh, AllocError>
+    requires lists { CanBeDone (pairs_in lists.now) }
+    requires room { length mesh.history + count_of (pairs_in lists.now) ≤ 2 ^ 32 }
+    ensures run { IfOk result (λ m. IsSegmentRun (pairs_in lists.now) mesh.history m.history) }
+    ensures grid { IfOk result (λ m. m.grid ≡ mesh.grid) }
+{
+    if pair_count(lists) != 1 {
+        return run_beside(rt, alloc, mesh, lists, gate);
+    }
+    let mut mesh = mesh;
+    apply_lists(alloc, &mut mesh, lists)?;
+    Ok(mesh)
+}
+
+/// Makes the edits of all segments on the mesh, one segment after another. Each list of a segment is done by a worker of
+/// its own, side by side, and then what they leave over, in the order of its tags; a segment of one pair needs no
+/// workers.
 ///
-/// The history goes on with each pair of the lists once, those of one point by their tags, and each entry by a number
-/// below the number of lists; with one list just its pairs in their order. The grid stays.
+/// The history goes on with each pair of the segments once: those of a segment before those of the next, those of a
+/// segment that share a point by their tags, and each entry by a number below the number of lists of its segment; with
+/// one list in each segment just the pairs in their order. In a segment first come entries by the worker of their list,
+/// and then what was left over, by 0. The grid stays.
 ///
-/// There are to be 1 to 64 lists, with ascending tags in each and no point in two of them, none of whose edits moves a
-/// point, and at most 2^32 entries with all that may come.
+/// In each segment there are to be 1 to 64 lists, with ascending tags in each and no point in two of them, and a pair that
+/// moves is to share no point with another one. There are to be at most 2^32 entries with all that may come.
 ///
 /// # Errors
 /// Want of memory. The mesh is then dropped.
@@ -161,16 +221,14 @@ pub fn run_edits<G: Gate + Sync, R: Threads + Sync>(
     lists: &Lists,
     gate: &G,
 ) -> Result<Mesh, AllocError>
-    requires count { (0 < length (lists_of lists.now)) × (length (lists_of lists.now) ≤ 64) }
-    requires tags { All AreAscending (lists_of lists.now) }
-    requires still { All AreStill (lists_of lists.now) }
-    requires apart { AreApart (lists_of lists.now) }
-    requires room { length mesh.history + count_of (lists_of lists.now) ≤ 2 ^ 32 }
-    ensures run { IfOk result (λ m. AreRun (lists_of lists.now) mesh.history m.history) }
+    requires segments { All CanBeDone (segments_of lists.now) }
+    requires room { length mesh.history + count_all (segments_of lists.now) ≤ 2 ^ 32 }
+    ensures run { IfOk result (λ m. AreRun (segments_of lists.now) mesh.history m.history) }
     ensures grid { IfOk result (λ m. m.grid ≡ mesh.grid) }
 {
-    let (mesh, mut left) = side_by_side(rt, alloc, mesh, &lists.each, gate)?;
-    sort_by_tag(&mut left);
-    let _ = mesh.count();
-    apply_all(alloc, mesh, &left.pairs)
+    let mut mesh = mesh;
+    for segment in &lists.segments {
+        mesh = run_segment(rt, alloc, mesh, &segment.each, gate)?;
+    }
+    Ok(mesh)
 }

@@ -1,9 +1,15 @@
 //! Work on a list.
 
-ghost use Rattle.std.specs.Prelude.{◌≡◌, ◌<◌, ◌≤◌, false, IfOk, OnOk, OnErr, length};
-ghost use Rattle.edit_history.specs.Edits.{is_move};
-ghost use Rattle.edit_workers.specs.Dealing.{AreStill};
-ghost use Rattle.edit_workers.specs.Trying.{IsTried, HasMissed, HasMissedSome, IsWorkedOn, has_point as has_point_of};
+ghost use Rattle.std.specs.Prelude.{◌≡◌, ◌<◌, ◌≤◌, IfOk, OnOk, OnErr, length};
+ghost use Rattle.point_order.specs.Sets.{is_among};
+ghost use Rattle.edit_history.specs.Edits.{edit_points, share_point};
+ghost use Rattle.edit_workers.specs.Trying.{
+  IsTried,
+  HasMissed,
+  HasMissedSome,
+  IsWorkedOn,
+  shares_with as shares_with_any,
+};
 ghost use Rattle.edit_workers.specs.Working.{IsWorked, IsBroken};
 
 use crate::lists::{Left, List};
@@ -39,7 +45,6 @@ fn try_once<G: Gate>(
 ) -> Result<Tried, AllocError>
     requires table { pass.old.table ≡ table.now }
     requires left { 0 < pass.old.left }
-    requires still { is_move edit ≡ false }
     ensures tried { IfOk result (λ tried. IsTried 1 tag edit tried pass.old pass.new) }
     ensures broken { OnErr result (HasMissed 0 pass.old pass.new) }
 {
@@ -69,7 +74,6 @@ fn try_often<G: Gate>(
 ) -> Result<Tried, AllocError>
     requires table { pass.old.table ≡ table.now }
     requires left { 0 < pass.old.left }
-    requires still { is_move edit ≡ false }
     ensures tried { IfOk result (λ tried. IsTried 64 tag edit tried pass.old pass.new) }
     ensures broken { OnErr result (HasMissedSome pass.old pass.new) }
 {
@@ -87,16 +91,39 @@ fn try_often<G: Gate>(
     Ok(Tried::LeftOver)
 }
 
-impl Left {
-    // Whether one of the pairs has this point.
-    fn has_point(&self, p: Point) -> bool
-        ensures { result ≡ has_point_of p self.now.pairs.items }
-    {
-        self.pairs.iter().any(|pair| pair.1.point() == p)
+// Whether the point is one of the edit's.
+fn is_of(p: Point, edit: &Edit) -> bool
+    ensures { result ≡ is_among p (edit_points edit.now) }
+{
+    match *edit {
+        Edit::Add(q) => q == p,
+        Edit::Take(q) => q == p,
+        Edit::Move(from, to) => from == p || to == p,
     }
 }
 
-// Tries an edit, unless an earlier one of its point is left over. Then it is left over too, as where it was not made.
+/// Whether some point is one of both edits; of a move both places are its points.
+pub fn share_a_point(one: &Edit, other: &Edit) -> bool
+    ensures { result ≡ share_point one.now other.now }
+{
+    match *one {
+        Edit::Add(p) => is_of(p, other),
+        Edit::Take(p) => is_of(p, other),
+        Edit::Move(from, to) => is_of(from, other) || is_of(to, other),
+    }
+}
+
+impl Left {
+    // Whether one of the pairs shares a point with this edit.
+    fn shares_with(&self, edit: &Edit) -> bool
+        ensures { result ≡ shares_with_any edit.now self.now.pairs.items }
+    {
+        self.pairs.iter().any(|pair| share_a_point(&pair.1, edit))
+    }
+}
+
+// Tries an edit, unless an earlier one that shares a point with it is left over. Then it is left over too, as where it
+// was not made.
 fn work_on<G: Gate>(
     alloc: Global,
     table: &MeshTable,
@@ -107,15 +134,14 @@ fn work_on<G: Gate>(
 ) -> Result<(), AllocError>
     requires table { pass.old.table ≡ table.now }
     requires left { 0 < pass.old.left }
-    requires still { is_move pair.1 ≡ false }
     ensures done { OnOk result (IsWorkedOn pair left.old.pairs.items left.new.pairs.items pass.old pass.new) }
     ensures broken { OnErr result (HasMissedSome pass.old pass.new) }
 {
-    let (tag, edit) = pair;
-    if left.has_point(edit.point()) {
+    if left.shares_with(&pair.1) {
         left.pairs.push(pair)?;
         return Ok(());
     }
+    let (tag, edit) = pair;
     match try_often(alloc, table, pass, tag, edit, gate)? {
         Tried::Made => Ok(()),
         Tried::LeftOver => {
@@ -126,8 +152,8 @@ fn work_on<G: Gate>(
 }
 
 /// Makes the edits of a list in their order, each tried up to 64 times. What was busy each time is left over, and so
-/// is each later one of its point. The pass is to be one of this table that may make so many edits, and none of them is
-/// to move a point.
+/// is each later one that shares a point with one left over. The pass is to be one of this table that may make so many
+/// edits.
 ///
 /// # Errors
 /// Want of memory. Some edits were made then, each at most once.
@@ -140,7 +166,6 @@ pub fn work<G: Gate>(
 ) -> Result<Left, AllocError>
     requires table { pass.old.table ≡ table.now }
     requires left { length list.now.pairs.items ≤ pass.old.left }
-    requires still { AreStill list.now.pairs.items }
     ensures worked { IfOk result (λ left. IsWorked list.now.pairs.items left.pairs.items pass.old pass.new) }
     ensures broken { OnErr result (IsBroken list.now.pairs.items pass.old pass.new) }
 {

@@ -1,28 +1,111 @@
--- The opening four and a run of the dealt lines keep the file.
-use Rattle.std.specs.Prelude.{◌≡◌, ℕ, zero, suc, ◌+◌, ◌%◌, ◌<◌, ◌≤◌, Bool, true, false, cond, not, ◌&&◌, ◌||◌, ◌==◌, nat_lt, List, [], ◌∷◌, ◌++◌, map, length, take, slice_index, Option, Some, IfSome, IsPermutation}
+-- The opening four and runs of the dealt lines keep the file.
+use Rattle.std.specs.Prelude.{
+  ◌≡◌,
+  ℕ,
+  zero,
+  suc,
+  ◌+◌,
+  ◌*◌,
+  ◌%◌,
+  ◌<◌,
+  ◌≤◌,
+  Bool,
+  true,
+  false,
+  cond,
+  not,
+  ◌&&◌,
+  ◌||◌,
+  ◌==◌,
+  nat_lt,
+  List,
+  [],
+  ◌∷◌,
+  ◌++◌,
+  map,
+  length,
+  take,
+  slice_index,
+  Option,
+  Some,
+  IfSome,
+  IsPermutation,
+}
 use Rattle.std.specs.List.{filter, flat_map, range_with_len}
 use Rattle.std.proofs.Common.{refl, sym, ◌∙◌, ap, subst, inl, inr, arith, length-append, append-nil}
 use Rattle.std.proofs.lemmas.Bool.Decides.{nat_tests}
 use Rattle.std.proofs.Math.Nat.{mod-lt}
 use Rattle.std.proofs.lemmas.List.{length-map, take-map, map-append, append_assoc}
 use Rattle.std.proofs.lemmas.List.FromFn.{length-range_with_len}
-use Rattle.std.proofs.lemmas.List.Sorted.{IsPermutation-refl, IsPermutation-sym, IsPermutation-trans, IsPermutation-cons, IsPermutation-middle, IsPermutation-append_right, IsPermutation-filter_both}
+use Rattle.std.proofs.lemmas.List.Sorted.{
+  IsPermutation-refl,
+  IsPermutation-sym,
+  IsPermutation-trans,
+  IsPermutation-cons,
+  IsPermutation-middle,
+  IsPermutation-append,
+  IsPermutation-append_right,
+  IsPermutation-filter_both,
+}
 use Rattle.point_order.specs.Sets.{IsIn, is_among}
 use Rattle.edit_history.specs.declared.history.Edit.{Edit}
 use Rattle.edit_history.specs.declared.history.Edit.TheVariants.{Add, Take, Move}
 use Rattle.edit_history.specs.declared.history.Entry.{Entry}
-use Rattle.edit_history.specs.Edits.{point_of, share_point, is_move, reply_to, after}
+use Rattle.edit_history.specs.Edits.{is_move, point_of, share_point, reply_to, after}
 use Rattle.edit_history.specs.Histories.{entries_from, IsLegalFrom, IsLegal}
 use Rattle.edit_history.specs.Opening.{Four, opening_four}
 use Rattle.edit_history.specs.OneThread.{places, tagged_lines, lines_of_one_thread, one_thread, line_of, Keeps}
 use Rattle.edit_history.specs.Laws.{AreIndependent}
-use Rattle.edit_history.proofs.Cited.{entry_lines, four_law, keeps_law, legal_law, line_at, picked, set_after}
-use Rattle.std.specs.Prelude.{◌*◌}
-use Rattle.list_laws.proofs.Cited.{EachLater, all_of_each, each_of_all, from_append, in_permutation, later_across, later_append, later_left, later_map, later_pairs, later_right, later_unmap, mapped_true, none_pass, pairs_later, same_filter, same_true}
+use Rattle.edit_history.proofs.Cited.{entry_lines, four_law, keeps_law, line_at, picked}
+use Rattle.list_laws.proofs.Cited.{
+  EachLater,
+  IsLower,
+  all_of_each,
+  all_pass,
+  each_of_all,
+  from_append,
+  in_permutation,
+  later_across,
+  later_append,
+  later_filter,
+  later_left,
+  later_map,
+  later_pairs,
+  later_right,
+  later_unmap,
+  mapped_true,
+  none_pass,
+  numbered_lower,
+  pairs_later,
+  same_filter,
+  same_true,
+}
 use Rattle.point_order.specs.Coordinates.{x_of, y_of, z_of}
-use Rattle.point_order.specs.Orientation.{x_from, y_from, z_from, minor, triple, orientation, normal_x, normal_y, normal_z}
+use Rattle.point_order.specs.Orientation.{
+  x_from,
+  y_from,
+  z_from,
+  minor,
+  triple,
+  orientation,
+  normal_x,
+  normal_y,
+  normal_z,
+}
 use Rattle.plain_laws.specs.Plain.{lines_of, IsAnchored, SomeFileIsAnchored}
-use Rattle.plain_laws.specs.Running.{Pair, dealt_to, dealt, opening_entries, IsRun, RunKeeps, RunAlone}
+use Rattle.plain_laws.specs.Running.{
+  Pair,
+  segments,
+  dealt_to,
+  dealt_out,
+  dealt,
+  opening_entries,
+  IsRun,
+  AreRuns,
+  RunKeeps,
+  RunAlone,
+}
+use Rattle.plain_laws.proofs.Segments.{segments_keep}
 
 -- ---- entries of lines
 
@@ -123,10 +206,71 @@ module _ {X : Type 0} (t : X → Bool) (k : X → ℕ) (l : List X) where
       last true m h = past m h
       last false m h = refl
 
+-- the lists of the workers have all lines
+pub dealt_all : (n : ℕ) (lines : List Pair) → 0 < n → IsPermutation lines (flat_map (λ l. l) (dealt_out n lines))
+dealt_all n lines some =
+    subst (λ (l : List Pair). IsPermutation l (flat_map (λ l. l) (dealt_out n lines)))
+    (all_pass (λ line. true) lines (λ line. refl))
+    (all_parts (λ (line : Pair). true) (λ (line : Pair). point_of line.1 % n) lines n
+    (λ line. mod-lt (point_of line.1) some))
+
 -- ---- a file
 
 abbrev InOrder : Pair → Pair → Type 0
 InOrder x y = share_point x.1 y.1 ≡ true → x.0 < y.0
+
+-- ---- runs of segments
+
+-- what the runs of some segments have: their lines, by workers below n, those that share a point by their tags
+record AreKept (lines : List Pair) (n : ℕ) (h : List Entry) : Type 0 where
+  pub lines_are : IsPermutation lines (map line_of h)
+  pub order : EachLater (λ (d e : Entry). InOrder (line_of d) (line_of e)) h
+  pub workers : (e : Entry) → IsIn e h → e.by < n
+
+-- of one segment
+one_kept : (n : ℕ) (lines : List Pair) (h : List Entry) → 0 < n → IsRun (dealt_out n lines) h → AreKept lines n h
+one_kept n lines h some r = record {
+  lines_are = IsPermutation-trans lines (flat_map (λ l. l) (dealt_out n lines)) (map line_of h)
+      (dealt_all n lines some) r.lines;
+  order = pairs_later (λ (d e : Entry). InOrder (line_of d) (line_of e)) h r.order;
+  workers = λ e i.
+      let l = each_of_all (λ (d : Entry). d.by < length (dealt_out n lines)) h r.workers e i in
+      omega (arith, l, length-map (range_with_len 0 n) (dealt_to n lines), length-range_with_len 0 n);
+}
+
+-- of all of them, where the places of the lines rise
+all_kept : (n : ℕ) (parts : List (List Pair)) (h : List Entry) → 0 < n → EachLater IsLower (flat_map (λ l. l) parts) →
+    AreRuns (map (dealt_out n) parts) h → AreKept (flat_map (λ l. l) parts) n h
+all_kept n [] h some low r =
+    subst (AreKept [] n) (sym r)
+    (record { lines_are = IsPermutation-refl []; order = tt; workers = λ e i. absurd i })
+all_kept n (part ∷ parts) h some low r =
+    let rest : List Pair = flat_map (λ l. l) parts in
+    let a = one_kept n part r.0 some r.3 in
+    let b = all_kept n parts r.1 some (later_right IsLower part rest low) r.4 in
+    let inside : (d : Entry) → IsIn d r.0 → IsIn (line_of d) part = λ d i.
+    in_permutation (map line_of r.0) part (line_of d) (IsPermutation-sym part (map line_of r.0) a.lines_are)
+    (mapped_true line_of d r.0 i) in
+    let behind : (e : Entry) → IsIn e r.1 → IsIn (line_of e) rest = λ e i.
+    in_permutation (map line_of r.1) rest (line_of e) (IsPermutation-sym rest (map line_of r.1) b.lines_are)
+    (mapped_true line_of e r.1 i) in
+    subst (AreKept (part ++ rest) n) (sym r.2) (record {
+      lines_are = subst (IsPermutation (part ++ rest)) (sym (map-append line_of r.0 r.1))
+          (IsPermutation-append part (map line_of r.0) rest (map line_of r.1) a.lines_are b.lines_are);
+      order = later_append (λ (d e : Entry). InOrder (line_of d) (line_of e)) r.0 r.1 a.order b.order
+          (λ d e i j s. later_across IsLower part rest low (line_of d) (line_of e) (inside d i) (behind e j));
+      workers = λ e i. elim (from_append e r.0 r.1 i) [ inl j ↦ a.workers e j | inr j ↦ b.workers e j ];
+    })
+
+-- with one worker the entries are those of the lines in their order
+alone_lines : (parts : List (List Pair)) (h : List Entry) → AreRuns (map (dealt_out 1) parts) h →
+    map line_of h ≡ flat_map (λ l. l) parts
+alone_lines [] h r = ap (map line_of) r
+alone_lines (part ∷ parts) h r =
+    let e : dealt_to 1 part 0 ≡ part =
+    all_pass (λ (line : Pair). point_of line.1 % 1 == 0) part (λ line. whole true (point_of line.1)) in
+    ap (map line_of) r.2 ∙ map-append line_of r.0 r.1
+    ∙ (λ i. (r.3.alone (dealt_to 1 part 0) refl ∙ e) i ++ alone_lines parts r.1 r.4 i)
 
 module _ (points : List ℕ) (edits : List Edit) (four : Four) (found : opening_four points ≡ Some four) where
   abbrev all : List Pair
@@ -167,11 +311,18 @@ module _ (points : List ℕ) (edits : List Edit) (four : Four) (found : opening_
       subst (EachLater InOrder) (entry_lines 0 [] (opening_lines ++ others))
       (later_map line_of InOrder (entries_from 0 [] (opening_lines ++ others)) (pairs_later (λ (d e : Entry). InOrder (line_of d) (line_of e)) (entries_from 0 [] (opening_lines ++ others)) kept.order))
 
-  module _ (workers : ℕ) (some : 0 < workers) (run : List Entry) (is_run : IsRun (dealt workers (places four) all) run) where
-    run_lines : IsPermutation others (map line_of run)
-    run_lines =
-        IsPermutation-trans others (flat_map (λ l. l) (dealt workers (places four) all)) (map line_of run)
-        (all_parts (λ (line : Pair). not (opens line)) (λ (line : Pair). point_of line.1 % workers) all workers (λ line. mod-lt (point_of line.1) some)) is_run.lines
+  -- the places of the others rise, and they are the lines of the segments
+  rises : EachLater IsLower (flat_map (λ l. l) (segments others))
+  rises =
+      subst (EachLater IsLower) (sym (segments_keep others))
+      (later_filter IsLower (λ line. not (opens line)) all (numbered_lower 0 (lines_of points edits)))
+
+  module _ (workers : ℕ) (some : 0 < workers) (run : List Entry)
+      (is_run : AreRuns (dealt workers (places four) all) run) where
+    kept : AreKept others workers run
+    kept =
+        subst (λ (l : List Pair). AreKept l workers run) (segments_keep others)
+        (all_kept workers (segments others) run some rises is_run)
 
     lines_are : map line_of (opening ++ run) ≡ opening_lines ++ map line_of run
     lines_are = map-append line_of opening run ∙ ap (λ (l : List Pair). l ++ map line_of run) (entry_lines 0 [] opening_lines)
@@ -179,7 +330,9 @@ module _ (points : List ℕ) (edits : List Edit) (four : Four) (found : opening_
     lines : IsPermutation all (map line_of (opening ++ run))
     lines =
         subst (IsPermutation all) (sym lines_are)
-        (IsPermutation-trans all (opening_lines ++ others) (opening_lines ++ map line_of run) (IsPermutation-filter_both opens (λ line. not (opens line)) (λ x. refl) all) (IsPermutation-append_right opening_lines others (map line_of run) run_lines))
+        (IsPermutation-trans all (opening_lines ++ others) (opening_lines ++ map line_of run)
+        (IsPermutation-filter_both opens (λ line. not (opens line)) (λ x. refl) all)
+        (IsPermutation-append_right opening_lines others (map line_of run) kept.lines_are))
 
     first_four : map (λ (e : Entry). e.tag) (take 4 (opening ++ run)) ≡ places four
     first_four =
@@ -191,16 +344,17 @@ module _ (points : List ℕ) (edits : List Edit) (four : Four) (found : opening_
     order =
         later_append (λ (d e : Entry). InOrder (line_of d) (line_of e)) opening run
         (later_unmap line_of InOrder opening (subst (EachLater InOrder) (sym (entry_lines 0 [] opening_lines)) (later_left InOrder opening_lines others one_order)))
-        (pairs_later (λ (d e : Entry). InOrder (line_of d) (line_of e)) run is_run.order)
+        kept.order
         (λ x y i j. later_across InOrder opening_lines others one_order (line_of x) (line_of y)
         (subst (IsIn (line_of x)) (entry_lines 0 [] opening_lines) (mapped_true line_of x opening i))
-        (in_permutation (map line_of run) others (line_of y) (IsPermutation-sym others (map line_of run) run_lines) (mapped_true line_of y run j)))
+        (in_permutation (map line_of run) others (line_of y)
+        (IsPermutation-sym others (map line_of run) kept.lines_are) (mapped_true line_of y run j)))
 
     pub made_by : (e : Entry) → IsIn e (opening ++ run) → e.by < workers
     made_by e i =
         elim (from_append e opening run i) [
           | inl j ↦ let z = entry_by 0 [] opening_lines e j in omega (arith, z, some)
-          | inr j ↦ let l = each_of_all (λ (d : Entry). d.by < length (dealt workers (places four) all)) run is_run.workers e j in omega (arith, l, length-map (range_with_len 0 workers) (dealt_to workers (places four) all), length-range_with_len 0 workers)
+          | inr j ↦ kept.workers e j
         ]
 
     pub keeps : Keeps points edits workers (opening ++ run)
@@ -214,54 +368,17 @@ module _ (points : List ℕ) (edits : List Edit) (four : Four) (found : opening_
 
   -- ---- one worker
 
-  pub alone : (run : List Entry) → IsRun (dealt 1 (places four) all) run → IsLegal (opening ++ run) → opening ++ run ≡ one_thread points edits
+  pub alone : (run : List Entry) → AreRuns (dealt 1 (places four) all) run → IsLegal (opening ++ run) →
+      opening ++ run ≡ one_thread points edits
   alone run is_run legal =
-      let e : dealt_to 1 (places four) all 0 ≡ others = same_filter (λ (line : Pair). not (opens line) && (point_of line.1 % 1 == 0)) (λ line. not (opens line)) all (λ line m. whole (not (opens line)) (point_of line.1)) in
-      let f : map line_of (opening ++ run) ≡ opening_lines ++ others = lines_are 1 (omega arith) run is_run ∙ ap (λ (l : List Pair). opening_lines ++ l) (is_run.alone (dealt_to 1 (places four) all 0) refl ∙ e) in
+      let f : map line_of (opening ++ run) ≡ opening_lines ++ others =
+          lines_are 1 (omega arith) run is_run ∙ ap (λ (l : List Pair). opening_lines ++ l)
+          (alone_lines (segments others) run is_run ∙ segments_keep others) in
       legal_is 0 [] (opening ++ run) legal (λ d i. let l = made_by 1 (omega arith) run is_run d i in omega (arith, l))
       ∙ ap (entries_from 0 []) f
       ∙ ap (λ (o : Option Four). entries_from 0 [] (lines_of_one_thread o all)) (sym found)
 
--- ---- there is a run for every number of workers: the premises can be met
-
-entries_append : (n : ℕ) (s : List ℕ) (a b : List Pair) → entries_from n s (a ++ b) ≡ entries_from n s a ++ entries_from (n + length a) (set_after s a) b
-entries_append n s [] b = let e : n ≡ n + 0 = omega arith in ap (λ (m : ℕ). entries_from m s b) e
-entries_append n s (x ∷ a) b =
-    let e : n + 1 + length a ≡ n + suc (length a) = omega arith in
-    let first : Entry = record { number = n; by = 0; tag = x.0; edit = x.1; reply = reply_to s x.1 } in
-    ap (λ (h : List Entry). record { number = n; by = 0; tag = x.0; edit = x.1; reply = reply_to s x.1 } ∷ h) (entries_append (n + 1) (after s x.1) a b ∙ ap (λ (m : ℕ). entries_from (n + 1) (after s x.1) a ++ entries_from m (set_after (after s x.1) a) b) e)
-
-module _ (points : List ℕ) (edits : List Edit) (four : Four) (found : opening_four points ≡ Some four) where
-  abbrev those : List Pair
-  those = opening_lines points edits four found
-
-  abbrev rest : List Pair
-  rest = others points edits four found
-
-  abbrev sequel : List Entry
-  sequel = entries_from (0 + length those) (set_after [] those) rest
-
-  sequel_lines : map line_of sequel ≡ rest
-  sequel_lines = entry_lines (0 + length those) (set_after [] those) rest
-
-  sequel_alone : (workers : ℕ) (l : List Pair) → dealt workers (places four) (tagged_lines points edits) ≡ l ∷ [] → map line_of sequel ≡ l
-  sequel_alone workers l e =
-      let n : workers ≡ 1 = sym (length-range_with_len 0 workers) ∙ sym (length-map (range_with_len 0 workers) (dealt_to workers (places four) (tagged_lines points edits))) ∙ ap length e in
-      let f : dealt 1 (places four) (tagged_lines points edits) ≡ l ∷ [] = subst (λ (m : ℕ). dealt m (places four) (tagged_lines points edits) ≡ l ∷ []) n e in
-      let g : dealt_to 1 (places four) (tagged_lines points edits) 0 ≡ l = cc in
-      sequel_lines ∙ sym (same_filter (λ (line : Pair). not (is_among line.0 (places four)) && (point_of line.1 % 1 == 0)) (λ line. not (is_among line.0 (places four))) (tagged_lines points edits) (λ line m. whole (not (is_among line.0 (places four))) (point_of line.1))) ∙ g
-
-  pub some_run : (workers : ℕ) → 0 < workers → IsRun (dealt workers (places four) (tagged_lines points edits)) sequel × IsLegal (opening_entries (places four) (tagged_lines points edits) ++ sequel)
-  some_run workers some = (
-    record {
-      lines = subst (IsPermutation (flat_map (λ l. l) (dealt workers (places four) (tagged_lines points edits)))) (sym sequel_lines)
-          (IsPermutation-sym rest (flat_map (λ l. l) (dealt workers (places four) (tagged_lines points edits))) (all_parts (λ (line : Pair). not (is_among line.0 (places four))) (λ (line : Pair). point_of line.1 % workers) (tagged_lines points edits) workers (λ line. mod-lt (point_of line.1) some)));
-      order = later_pairs (λ (d e : Entry). share_point d.edit e.edit ≡ true → d.tag < e.tag) sequel (later_unmap line_of InOrder sequel (subst (EachLater InOrder) (sym sequel_lines) (later_right InOrder those rest (one_order points edits four found))));
-      workers = all_of_each (λ (e : Entry). e.by < length (dealt workers (places four) (tagged_lines points edits))) sequel (λ e i. let z = entry_by (0 + length those) (set_after [] those) rest e i in omega (arith, z, some, length-map (range_with_len 0 workers) (dealt_to workers (places four) (tagged_lines points edits)), length-range_with_len 0 workers));
-      alone = sequel_alone workers;
-    },
-    subst IsLegal (ap (λ (o : Option Four). entries_from 0 [] (lines_of_one_thread o (tagged_lines points edits))) found ∙ entries_append 0 [] those rest) (legal_law points edits),
-  )
+-- ---- there is an anchored file
 
 four_found : opening_four (0 ∷ 2 * 268435456 ∷ 2 * 16384 ∷ 2 ∷ []) ≡ Some (record { first = 0; second = 1; third = 2; fourth = 3 })
 unfolding orientation triple minor normal_x normal_y normal_z x_from y_from z_from x_of y_of z_of

@@ -5,7 +5,7 @@
 #![tactic(auto)]
 
 ghost use Rattle.plain_laws.specs.Plain.{AnchoredIsPlain, SomeFileIsAnchored, ThereByLast};
-ghost use Rattle.plain_laws.specs.Running.{RunKeeps, RunAlone};
+ghost use Rattle.plain_laws.specs.Running.{OneSegment, RunAlone, RunKeeps, SegmentsApart, SegmentsKeepLines};
 
 /// Where no edit takes one of the opening four, or moves it, every legal history that keeps the file has the same
 /// replies, line by line, and leaves the same points: those that the lines tell by themselves. Without moves these are
@@ -16,8 +16,17 @@ pub fn anchored_is_plain()
     ensures last { ThereByLast }
 {}
 
-/// The opening four and what workers make of the lines dealt to them keep the file; with one worker they are the
-/// history of one thread.
+/// A line begins a new segment where it shares a point with an earlier line of the present one and either of the two
+/// moves. The segments have all lines, in their order. In a segment a line that moves shares no point with another, and
+/// no point stands in the lists of two workers. Lines that move no point are one segment.
+pub fn lines_are_cut()
+    ensures keeps { SegmentsKeepLines }
+    ensures apart { SegmentsApart }
+    ensures one { OneSegment }
+{}
+
+/// The opening four and what workers make of the lines dealt to them, segment after segment, keep the file; with one
+/// worker they are the history of one thread.
 pub fn run_keeps_file()
     ensures keeps { RunKeeps }
     ensures alone { RunAlone }

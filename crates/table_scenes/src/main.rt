@@ -17,7 +17,9 @@
 //! - `kept SIZE; POINTS; NUMBER MOMENT; EDIT; ORDERS; ORDERS`: of two passes the one of this number is kept at a moment
 //!   of an edit; meanwhile the other one does orders on a thread of its own, and more of them afterwards.
 //! - `meet SIZE; POINTS; EDIT EDIT`: two workers, an edit each, that are to see each other at Ready.
-//! - `deal WORKERS; POINTS; EDITS`: the lists that are dealt, by their tags.
+//! - `deal WORKERS; POINTS; EDITS`: the lists that are dealt, by their tags, segment by segment.
+//! - `make SIZE; POINTS; WORKERS; EDITS`: so many workers make the lines, and what is told is the reply of each line, how
+//!   many entries there are, and the cells.
 //! - `beside SIZE; POINTS; COUNT; EDITS; EDITS; ..`: a worker a list, and beside them a reader that takes so many
 //!   snapshots. Each is judged by the replies of sets of points and by trial of all quadruples and triples.
 //! - `run TIMES; WORDS; FRONT; MIDDLE; END; SOURCE; OUTPUT; ERROR`: a run of the top call over ends in memory, some of
@@ -63,6 +65,7 @@ fn play<R: Threads + Sync>(
         "passes" => passes::play(alloc, told, grid, lists),
         "kept" => keeping::play(rt, alloc, told, grid, lists),
         "meet" => meeting::play(rt, alloc, told, grid, lists),
+        "make" => dealing::make(rt, alloc, told, grid, lists),
         _ => beside::play(rt, alloc, told, grid, lists),
     }
 }
@@ -87,7 +90,7 @@ fn scene<R: Threads + Sync>(
             *board = boards::opened(alloc, told, size, lists)?;
             told.put(if board.is_some() { "board" } else { "no board" });
         }
-        "passes" | "kept" | "meet" | "beside" => match Grid::new(size) {
+        "passes" | "kept" | "meet" | "make" | "beside" => match Grid::new(size) {
             Ok(grid) => play(rt, alloc, told, played, grid, lists)?,
             Err(_) => told.put("no grid"),
         },

@@ -1,8 +1,8 @@
 //! Two workers that are to see each other.
 
-ghost use Rattle.std.specs.Prelude.{◌≡◌, ◌≢◌, ◌+◌, ◌^◌, ◌≤◌, ◌∷◌, [], false, IfOk, length};
-ghost use Rattle.edit_history.specs.Edits.{is_move, point_of};
-ghost use Rattle.edit_workers.specs.Dealing.{lists_of};
+ghost use Rattle.std.specs.Prelude.{◌≡◌, ◌+◌, ◌^◌, ◌≤◌, ◌∷◌, [], false, IfOk, length};
+ghost use Rattle.edit_history.specs.Edits.{share_point};
+ghost use Rattle.edit_workers.specs.Dealing.{segments_of};
 
 use crate::gates::Meeting;
 use crate::meshes::mesh_of;
@@ -11,17 +11,10 @@ use crate::reading::list_at;
 use crate::telling::Told;
 use cell_store::{Grid, Mesh};
 use edit_history::Edit;
-use edit_workers::{List, Lists, run_edits};
+use edit_workers::{List, Lists, Segment, run_edits, share_a_point};
 use grid_claims::Gate;
 use std::alloc::{AllocError, Global};
 use std::thread::Threads;
-
-// Whether the edit moves a point.
-fn moves(edit: Edit) -> bool
-    ensures { result ≡ is_move edit }
-{
-    matches!(edit, Edit::Move(_, _))
-}
 
 // A list of one pair.
 fn list_of(alloc: Global, pair: (u32, Edit)) -> Result<List, AllocError>
@@ -32,17 +25,19 @@ fn list_of(alloc: Global, pair: (u32, Edit)) -> Result<List, AllocError>
     Ok(List { pairs })
 }
 
-// Two lists of one pair each.
+// One segment of two lists of one pair each.
 fn two_lists(alloc: Global, one: (u32, Edit), two: (u32, Edit)) -> Result<Lists, AllocError>
-    ensures { IfOk result (λ lists. lists_of lists ≡ (one ∷ []) ∷ (two ∷ []) ∷ []) }
+    ensures { IfOk result (λ lists. segments_of lists ≡ ((one ∷ []) ∷ (two ∷ []) ∷ []) ∷ []) }
 {
     let mut each = Vec::new(alloc);
     each.push(list_of(alloc, one)?)?;
     each.push(list_of(alloc, two)?)?;
-    Ok(Lists { each })
+    let mut segments = Vec::new(alloc);
+    segments.push(Segment { each })?;
+    Ok(Lists { segments })
 }
 
-// Makes two edits of different points, each by a worker of its own.
+// Makes two edits that share no point, each by a worker of its own.
 fn run_two<G: Gate + Sync, R: Threads + Sync>(
     rt: &R,
     alloc: Global,
@@ -52,9 +47,7 @@ fn run_two<G: Gate + Sync, R: Threads + Sync>(
     gate: &G,
 ) -> Result<Mesh, AllocError>
     requires room { length mesh.history + 2 ≤ 2 ^ 32 }
-    requires apart { point_of one.1 ≢ point_of two.1 }
-    requires one_still { is_move one.1 ≡ false }
-    requires two_still { is_move two.1 ≡ false }
+    requires apart { share_point one.1 two.1 ≡ false }
 {
     let lists = two_lists(alloc, one, two)?;
     run_edits(rt, alloc, mesh, &lists, gate)
@@ -77,12 +70,8 @@ pub(crate) fn play<R: Threads + Sync>(
         told.put("not two edits");
         return Ok(());
     };
-    if one.1.point().key() == two.1.point().key() {
-        told.put("edits of one point");
-        return Ok(());
-    }
-    if moves(one.1) || moves(two.1) {
-        told.put("workers move no point");
+    if share_a_point(&one.1, &two.1) {
+        told.put("edits that share a point");
         return Ok(());
     }
     let Some(mesh) = mesh_of(alloc, grid, &points)? else {

@@ -20,7 +20,11 @@ fn line_at(points: &[Point], i: usize) -> (u32, Point)
 }
 
 // The mesh of the first four independent points, if there are four.
-fn mesh_of_four(alloc: Global, grid: Grid, points: &[Point]) -> Result<Option<Mesh>, AllocError> {
+pub(crate) fn mesh_of_four(
+    alloc: Global,
+    grid: Grid,
+    points: &[Point],
+) -> Result<Option<Mesh>, AllocError> {
     match find_four(points) {
         Ok(four) => {
             let a = line_at(points, four[0]);

@@ -1,8 +1,6 @@
 //! What a pass is told to do.
 
-ghost use Rattle.std.specs.Prelude.{◌≡◌, false, IsTrue};
-ghost use Rattle.edit_history.specs.Edits.{is_move};
-ghost use Rattle.edit_workers.specs.Dealing.{AreStill};
+ghost use Rattle.std.specs.Prelude.{◌≡◌};
 ghost use Rattle.grid_claims.specs.Tries.{IsStill};
 
 use crate::gates::Watcher;
@@ -13,29 +11,7 @@ use edit_workers::{Left, List, work};
 use grid_claims::{Gate, MeshTable, OpenGate, Pass, Receipt, Refused, Snapshot};
 use std::alloc::{AllocError, Global};
 
-// Whether an edit moves no point.
-fn is_still(edit: Edit) -> bool
-    ensures { IsTrue result → is_move edit ≡ false }
-{
-    match edit {
-        Edit::Add(_) | Edit::Take(_) => true,
-        Edit::Move(_, _) => false,
-    }
-}
-
-// Whether no edit of the pairs moves a point.
-fn are_still(pairs: &[(u32, Edit)]) -> bool
-    ensures { IsTrue result → AreStill pairs.now }
-{
-    for pair in pairs {
-        if !is_still(pair.1) {
-            return false;
-        }
-    }
-    true
-}
-
-// Tries an edit. One that moves a point is refused: passes make none.
+// Tries an edit.
 fn try_edit_once<G: Gate>(
     alloc: Global,
     table: &MeshTable,
@@ -47,9 +23,6 @@ fn try_edit_once<G: Gate>(
     requires { pass.old.table ≡ table.now }
     ensures { IsStill pass.old pass.new }
 {
-    if let Edit::Move(_, _) = edit {
-        return Err(Refused::Spent);
-    }
     table.try_edit(alloc, pass, tag, edit, gate)
 }
 
@@ -91,7 +64,7 @@ pub(crate) fn shown(alloc: Global, table: &MeshTable, pass: &mut Pass) -> Result
     }
 }
 
-// Has a list worked on, if the pass may make so many edits and none moves a point; else all of it is left over.
+// Has a list worked on, if the pass may make so many edits; else all of it is left over.
 pub(crate) fn worked<G: Gate>(
     alloc: Global,
     table: &MeshTable,
@@ -102,7 +75,7 @@ pub(crate) fn worked<G: Gate>(
     requires { pass.old.table ≡ table.now }
     ensures { IsStill pass.old pass.new }
 {
-    if list.pairs.len() as u64 <= pass.left() && are_still(&list.pairs) {
+    if list.pairs.len() as u64 <= pass.left() {
         work(alloc, table, pass, &list, gate)
     } else {
         let List { pairs } = list;

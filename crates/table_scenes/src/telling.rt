@@ -135,6 +135,18 @@ pub(crate) fn put_shown(alloc: Global, told: &mut Told, answer: &Result<Snapshot
     }
 }
 
+// The replies of a history in the order of its tags, of which each stands once.
+pub(crate) fn put_replies(told: &mut Told, history: &[Entry]) {
+    for tag in 0..history.len() {
+        for entry in history {
+            if entry.tag as usize == tag {
+                write!(told, " {:?}", entry.reply);
+            }
+        }
+    }
+    told.put(';');
+}
+
 // The entries from a place on: the number, who made it, its tag and its reply.
 pub(crate) fn put_entries(told: &mut Told, history: &[Entry], from: usize) {
     told.put(" made");

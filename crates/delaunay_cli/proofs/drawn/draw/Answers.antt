@@ -1,15 +1,11 @@
 use Rattle.edit_files.specs.Content.{content}
 use Rattle.edit_files.specs.Generator.{generated}
-use Rattle.delaunay_cli.proofs.DrawnFiles.{drawn_lines, drawn_meshed, drawn_radii, drawn_still, unmeshed_drawn, wanting}
+use Rattle.delaunay_cli.proofs.DrawnFiles.{drawn_lines, drawn_meshed, drawn_radii, unmeshed_drawn, wanting}
 use Rattle.delaunay_cli.proofs.drawn.draw.Goals as goal
 
 pub history_and_parts-requires-clause-lines : goal.history_and_parts-requires-clause-lines
 history_and_parts-requires-clause-lines g c κs within =
     drawn_lines (content c.in_ok-file.file) c.args.drawn.count c.args.drawn.start c.args.drawn.few c.in_ok-file.ensures
-
-pub history_and_parts-requires-clause-still : goal.history_and_parts-requires-clause-still
-history_and_parts-requires-clause-still g c κs within = drawn_still (content c.in_ok-file.file) c.args.drawn.count
-    c.args.drawn.start c.in_ok-file.ensures
 
 pub history_and_parts-requires-clause-radii : goal.history_and_parts-requires-clause-radii
 history_and_parts-requires-clause-radii g c κs within = drawn_radii (content c.in_ok-file.file) c.args.drawn.count

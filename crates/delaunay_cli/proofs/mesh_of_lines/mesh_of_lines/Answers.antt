@@ -3,34 +3,21 @@ use Rattle.std.specs.Prelude.{All}
 use Rattle.insertion.specs.Opening.{opening_history}
 use Rattle.edit_history.specs.Histories.{IsLegal, entries_from}
 use Rattle.edit_history.proofs.Cited.{length_entries}
-use Rattle.edit_workers.specs.Dealing.{AreApart, AreAscending, AreStill, count_of}
+use Rattle.edit_workers.specs.Dealing.{CanBeDone, count_all}
 use Rattle.delaunay_cli.specs.Made.{tagged_points}
 use Rattle.delaunay_cli.proofs.OpeningLines.{added, added_many, four_many, opening_made, opening_lines}
 use Rattle.edit_workers.proofs.Cited.{are_opening}
-use Rattle.delaunay_cli.proofs.DealtLines.{dealt_apart, dealt_ascend, dealt_count, dealt_few, dealt_still, run_kept, run_of_one}
+use Rattle.delaunay_cli.proofs.DealtLines.{dealt_done, dealt_few, run_dealt, run_kept, run_of_one}
 use Rattle.delaunay_cli.proofs.mesh_of_lines.mesh_of_lines.Goals as goal
 
 pub deal-requires-clause-four : goal.deal-requires-clause-four
 deal-requires-clause-four g c = are_opening c.args.file.now.points.items c.args.four c.requires.found
 
-pub run_edits-requires-clause-count : goal.run_edits-requires-clause-count
-run_edits-requires-clause-count g c =
-    let n = ap length c.in_ok-lists.ensures.dealt ∙ dealt_count c.args.making.workers c.args.four c.args.file.now.points.items c.args.file.now.edits.items in
-    let some = c.args.making.some in
-    let few = c.args.making.few in
-    λ k l. (omega (arith, n, some), omega (arith, n, few))
-
-pub run_edits-requires-clause-tags : goal.run_edits-requires-clause-tags
-run_edits-requires-clause-tags g c =
-    λ k l. subst (All AreAscending) (sym c.in_ok-lists.ensures.dealt) (dealt_ascend c.args.making.workers c.args.four c.args.file.now.points.items c.args.file.now.edits.items)
-
-pub run_edits-requires-clause-still : goal.run_edits-requires-clause-still
-run_edits-requires-clause-still g c =
-    λ k l. subst (All AreStill) (sym c.in_ok-lists.ensures.dealt) (dealt_still c.args.making.workers c.args.four c.args.file.now.points.items c.args.file.now.edits.items c.requires.still)
-
-pub run_edits-requires-clause-apart : goal.run_edits-requires-clause-apart
-run_edits-requires-clause-apart g c =
-    λ k l. subst AreApart (sym c.in_ok-lists.ensures.dealt) (dealt_apart c.args.making.workers c.args.four c.args.file.now.points.items c.args.file.now.edits.items)
+pub run_edits-requires-clause-segments : goal.run_edits-requires-clause-segments
+run_edits-requires-clause-segments g c =
+    λ k l. subst (All CanBeDone) (sym c.in_ok-lists.ensures.dealt)
+    (dealt_done c.args.making.workers c.args.four c.args.file.now.points.items c.args.file.now.edits.items
+    c.args.making.some c.args.making.few)
 
 pub run_edits-requires-clause-room : goal.run_edits-requires-clause-room
 run_edits-requires-clause-room g c =
@@ -40,8 +27,9 @@ run_edits-requires-clause-room g c =
     let n = ap length (h ∙ o) ∙ length_entries 0 [] (map added t) in
     let a = added_many t in
     let b = four_many c.args.file.now.points.items c.args.four c.requires.found in
-    let k = ap count_of c.in_ok-lists.ensures.dealt in
-    let d = dealt_few c.args.making.workers c.args.four c.args.file.now.points.items c.args.file.now.edits.items c.args.making.some in
+    let k = ap count_all c.in_ok-lists.ensures.dealt in
+    let d = dealt_few c.args.making.workers c.args.four c.args.file.now.points.items c.args.file.now.edits.items
+    c.args.making.some in
     let s = c.requires.small in
     omega (arith, n, a, b, k, d, s)
 
@@ -59,7 +47,11 @@ returns-clause-kept g c =
     let opens = h ∙ o ∙ ap (entries_from 0 []) (opening_lines points edits four c.requires.found) in
     let found = are_opening points four c.requires.found in
     let run = c.in_ok-mesh-2.ensures.run in
+    let workers = c.args.making.workers in
+    let some = c.args.making.some in
+    let deals = c.in_ok-lists.ensures.dealt in
     record {
-      keeps = run_kept points edits c.args.making.workers four found c.args.making.some _ c.in_ok-lists.ensures.dealt _ _ opens run;
-      alone = λ e. run_of_one points edits c.args.making.workers four found c.args.making.some _ c.in_ok-lists.ensures.dealt _ _ opens run e c.hold.ensures.stands.legal;
+      keeps = run_kept points edits workers four found some _ deals _ _ opens run;
+      alone = λ e. run_of_one points edits workers four found some _ deals _ _ opens run e c.hold.ensures.stands.legal;
+      dealt = run_dealt points edits workers four found some _ deals _ _ opens run;
     }

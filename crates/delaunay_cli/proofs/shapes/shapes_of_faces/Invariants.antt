@@ -7,5 +7,6 @@ use Rattle.delaunay_cli.proofs.shapes.shapes_of_faces.Given as goal
 
 abbrev pub invariant-loop-radius : goal.invariant-loop-radius
 invariant-loop-radius g l =
-    shapes_seen l.shapes.items ++ map (λ radius. (radius, shape_of l.points (alpha_of l.version radius))) (drop l.radius-index l.radii)
+    shapes_seen l.shapes.items ++ map (λ radius. (radius, shape_of l.points (alpha_of l.version radius)))
+    (drop l.radius-index l.radii)
     ≡ map (λ radius. (radius, shape_of l.points (alpha_of l.version radius))) l.radii

@@ -4,7 +4,7 @@ use Rattle.byte_ends.specs.Ends.{AppendsFront}
 use Rattle.edit_history.specs.OneThread.{Keeps}
 use Rattle.plain_laws.specs.Plain.{IsAnchored}
 use Rattle.delaunay_cli.specs.PlainText.{plain_text}
-use Rattle.delaunay_cli.specs.Run.{history_of}
+use Rattle.delaunay_cli.specs.Run.{AreDealt, history_of}
 use Rattle.delaunay_cli.specs.Stops.{line_of_end}
 use Rattle.delaunay_cli.specs.Words.{asks_shape, worker_count}
 use Rattle.delaunay_cli.proofs.Promised.{anchored_text, completes_plainly, of_file, of_kept, written, written_front}
@@ -34,6 +34,10 @@ returns-clause-kept g c = let e = c.work-ended.ensures.ends in of_kept e
 pub returns-clause-one_thread : goal.returns-clause-one_thread
 returns-clause-one_thread g c = let e = c.work-ended.ensures.ends in λ w one s. of_kept e
     (λ file. c.work-ended.result.run.kept.items ≡ history_of file) (λ file k. k.alone one) w s
+
+pub returns-clause-dealt : goal.returns-clause-dealt
+returns-clause-dealt g c = let e = c.work-ended.ensures.ends in of_kept e
+    (λ file. AreDealt (worker_count c.args.words.now) c.work-ended.result.run.kept.items) (λ file k. k.dealt)
 
 pub returns-clause-written : goal.returns-clause-written
 returns-clause-written g c = written c.work-ended.ensures.ends

@@ -4,7 +4,11 @@ use Rattle.edit_files.proofs.generator.edits.Goals as goal
 use Rattle.edit_files.proofs.generator.edits.Goals.{then-before-eq3, else-before-eq3}
 
 pub index-requires : goal.index-requires
-index-requires c = omega (arith, count_lines c.args.start c.loop-before.before c.loop-before.edits.items c.loop-before.invariant.lines)
+index-requires c = omega (
+  arith,
+  count_lines c.args.start c.loop-before.before c.loop-before.edits.items
+      c.loop-before.invariant.lines,
+)
 
 pub loop-before-preserved : goal.loop-before-preserved
 loop-before-preserved c =
@@ -13,14 +17,18 @@ loop-before-preserved c =
     elim c.if-before-eq3.branch [
       | then-before-eq3 w ↦ record {
         lines = more_lines c.args.start n edits _ c.if-before-eq3.edit c.loop-before.invariant.lines
-            (goes_back c.args.start n edits w.index.result.now c.if-before-eq3.edit w.point.result c.loop-before.invariant.lines w.if-before-eq3.true w.index.ensures w.point.ensures (w.edit-is ∙ w.back_to-edit.ensures))
+            (goes_back c.args.start n edits w.index.result.now c.if-before-eq3.edit w.point.result
+            c.loop-before.invariant.lines w.if-before-eq3.true w.index.ensures w.point.ensures (w.edit-is
+            ∙ w.back_to-edit.ensures))
             c.in_ok-push.ensures.items;
         state = rw w.draws-is (same_state c.args.start n _ c.loop-before.invariant.state w.if-before-eq3.true);
       }
       | else-before-eq3 w ↦ record {
         lines = more_lines c.args.start n edits _ c.if-before-eq3.edit c.loop-before.invariant.lines
-            (draws_line c.args.start n c.loop-before.draws.state w.point-else-before-eq3.result c.if-before-eq3.edit c.loop-before.invariant.state w.if-before-eq3.false w.point-else-before-eq3.ensures.point w.edit-is)
+            (draws_line c.args.start n c.loop-before.draws.state w.point-else-before-eq3.result c.if-before-eq3.edit
+            c.loop-before.invariant.state w.if-before-eq3.false w.point-else-before-eq3.ensures.point w.edit-is)
             c.in_ok-push.ensures.items;
-        state = rw w.draws-is (third_state c.args.start n c.loop-before.draws.state _ c.loop-before.invariant.state w.if-before-eq3.false w.point-else-before-eq3.ensures.state);
+        state = rw w.draws-is (third_state c.args.start n c.loop-before.draws.state _ c.loop-before.invariant.state
+            w.if-before-eq3.false w.point-else-before-eq3.ensures.state);
       }
     ]

@@ -21,5 +21,6 @@ unfolding radius
 returns-in-Some-2 c =
     let v = c.args.version in
     let e = c.row.ensures.radius_end in
-    let above : ltb c.in-Some.radius (row v).radius_end ≡ false = le-ltb _ _ (omega (arith, e, c.if-radius-row.false)) in
+    let above : ltb c.in-Some.radius (row v).radius_end ≡ false = le-ltb _ _ (omega (arith, e, c.if-radius-row.false))
+    in
     sym (ap (radius_from v) (sym c.in-Some.ensures.value) ∙ rw above refl)

@@ -7,7 +7,8 @@ use Rattle.edit_files.proofs.reader.judge.Given as goal
 
 abbrev pub invariant-loop-line : goal.invariant-loop-line
 invariant-loop-line l = record {
-  judged : judge (up_to l.fn.newest) l.number (state l.reader) (lines_of l.rest) ≡ judged (up_to l.fn.newest) l.fn.bytes;
+  judged : judge (up_to l.fn.newest) l.number (state l.reader) (lines_of l.rest) ≡ judged (up_to l.fn.newest)
+      l.fn.bytes;
   count : l.number + length l.rest ≤ length l.fn.bytes + 1;
 }
 

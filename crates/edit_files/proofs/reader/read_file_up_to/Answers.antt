@@ -6,4 +6,5 @@ pub returns-clause-accepted : goal.returns-clause-accepted
 returns-clause-accepted c = given_is_file (up_to c.args.newest) c.args.bytes.now c.judge.result c.judge.ensures
 
 pub returns-clause-fault : goal.returns-clause-fault
-returns-clause-fault c = λ fault e. given_is_fault (up_to c.args.newest) c.args.bytes.now c.judge.result fault c.judge.ensures e
+returns-clause-fault c = λ fault e. given_is_fault (up_to c.args.newest) c.args.bytes.now c.judge.result fault
+    c.judge.ensures e

@@ -5,18 +5,23 @@ use Rattle.edit_files.specs.Judging.{digits}
 use Rattle.edit_files.specs.Numbers.{after_minus}
 use Rattle.edit_files.proofs.Numerals.{number_is, number_none}
 use Rattle.edit_files.proofs.scan.number_of.Goals as goal
-use Rattle.edit_files.proofs.scan.number_of.Goals.{else-is_negative-via-then-is_negative+else-value-gt0, else-is_negative-via-else-is_negative}
+use Rattle.edit_files.proofs.scan.number_of.Goals.{
+  else-is_negative-via-then-is_negative+else-value-gt0,
+  else-is_negative-via-else-is_negative,
+}
 
 pub returns-in_err-value-clause-value : goal.returns-in_err-value-clause-value
 returns-in_err-value-clause-value c =
-    let read : None ≡ digits (after_minus c.args.text.now) = c.in_err-value.ensures.value ∙ ap digits c.sign_of-is_negative.ensures.rest in
+    let read : None ≡ digits (after_minus c.args.text.now) = c.in_err-value.ensures.value
+    ∙ ap digits c.sign_of-is_negative.ensures.rest in
     rw c.from_residual.ensures (sym (number_none c.args.text.now (sym read)))
 
 pub returns-then-value-gt0-clause-value : goal.returns-then-value-gt0-clause-value
 returns-then-value-gt0-clause-value c =
     let bs : List ℕ = c.args.text.now in
     let n : ℕ = c.in_ok-value.value in
-    let read : Some n ≡ digits (after_minus bs) = c.in_ok-value.ensures.value ∙ ap digits c.sign_of-is_negative.ensures.rest in
+    let read : Some n ≡ digits (after_minus bs) = c.in_ok-value.ensures.value
+    ∙ ap digits c.sign_of-is_negative.ensures.rest in
     let minus : starts_with_minus bs ≡ true = sym c.sign_of-is_negative.ensures.minus ∙ c.if-is_negative.true in
     let above : ltb 0 n ≡ true = lt-ltb 0 n (omega arith) in
     sym (number_is bs n (sym read) ∙ rw (minus, above) refl)
@@ -25,7 +30,8 @@ pub returns-else-is_negative-clause-value : goal.returns-else-is_negative-clause
 returns-else-is_negative-clause-value c =
     let bs : List ℕ = c.args.text.now in
     let n : ℕ = c.in_ok-value.value in
-    let read : Some n ≡ digits (after_minus bs) = c.in_ok-value.ensures.value ∙ ap digits c.sign_of-is_negative.ensures.rest in
+    let read : Some n ≡ digits (after_minus bs) = c.in_ok-value.ensures.value
+    ∙ ap digits c.sign_of-is_negative.ensures.rest in
     elim c.else-is_negative.branch [
       | else-is_negative-via-then-is_negative+else-value-gt0 w ↦
           let minus : starts_with_minus bs ≡ true = sym c.sign_of-is_negative.ensures.minus ∙ w.if-is_negative.true in

@@ -7,4 +7,5 @@ use Rattle.edit_files.proofs.writing.put_edits.Given as goal
 
 abbrev pub invariant-loop-edit : goal.invariant-loop-edit
 invariant-loop-edit l =
-    l.text.items ++ text_of (map edit_text (drop l.edit-index l.edits)) ≡ l.fn.text.items ++ text_of (map edit_text l.edits)
+    l.text.items ++ text_of (map edit_text (drop l.edit-index l.edits)) ≡ l.fn.text.items ++ text_of (map edit_text
+    l.edits)

@@ -7,4 +7,5 @@ use Rattle.edit_files.proofs.writing.put_points.Given as goal
 
 abbrev pub invariant-loop-point : goal.invariant-loop-point
 invariant-loop-point l =
-    l.text.items ++ text_of (map point_text (drop l.point-index l.points)) ≡ l.fn.text.items ++ text_of (map point_text l.points)
+    l.text.items ++ text_of (map point_text (drop l.point-index l.points)) ≡ l.fn.text.items ++ text_of (map point_text
+    l.points)

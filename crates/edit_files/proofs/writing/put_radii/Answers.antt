@@ -8,7 +8,10 @@ pub loop-radius-preserved : goal.loop-radius-preserved
 loop-radius-preserved c =
     let radii = c.args.radii.now in
     let i = c.loop-radius.radius-index in
-    line_put decimal radii i (get_or radii i 0) c.loop-radius.text.items c.put_number.new.text.items _ c.loop-radius-test.true (get_or_default radii i 0 _ c.loop-radius-test.true) c.in_ok-put_number.ensures c.loop-radius.invariant
+    line_put decimal radii i (get_or radii i 0) c.loop-radius.text.items c.put_number.new.text.items _
+    c.loop-radius-test.true (get_or_default radii i 0 _ c.loop-radius-test.true) c.in_ok-put_number.ensures
+    c.loop-radius.invariant
 
 pub returns : goal.returns
-returns c = lines_put decimal c.args.radii.now c.loop-radius.radius-index c.loop-radius.text.items _ c.loop-radius-test.false c.loop-radius.invariant
+returns c = lines_put decimal c.args.radii.now c.loop-radius.radius-index c.loop-radius.text.items _
+    c.loop-radius-test.false c.loop-radius.invariant

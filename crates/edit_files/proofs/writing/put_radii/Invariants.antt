@@ -6,4 +6,5 @@ use Rattle.edit_files.proofs.writing.put_radii.Given as goal
 
 abbrev pub invariant-loop-radius : goal.invariant-loop-radius
 invariant-loop-radius l =
-    l.text.items ++ text_of (map decimal (drop l.radius-index l.radii)) ≡ l.fn.text.items ++ text_of (map decimal l.radii)
+    l.text.items ++ text_of (map decimal (drop l.radius-index l.radii)) ≡ l.fn.text.items ++ text_of
+    (map decimal l.radii)

@@ -1,13 +1,10 @@
 use Rattle.std.proofs.Common.{arith}
 use Rattle.std.proofs.lemmas.List.Sorted.{length_permutation}
-use Rattle.edit_workers.proofs.Halves.{slice_worked, slice_still, slice_tags, slice_allowance}
+use Rattle.edit_workers.proofs.Halves.{slice_worked, slice_tags, slice_allowance}
 use Rattle.edit_workers.proofs.running.work_alone.Goals as goal
 
 pub in_place-requires-clause-tags : goal.in_place-requires-clause-tags
 in_place-requires-clause-tags g c = slice_tags c.args.lists.now c.index-lists-0.result c.args.table.now c.args.pass c.requires.one c.index-lists-0.is c.requires.run
-
-pub work-requires-clause-still : goal.work-requires-clause-still
-work-requires-clause-still g c = slice_still c.args.lists.now c.index-lists-0.result c.in_ok-list.list.pairs.items c.args.table.now c.args.pass c.requires.one c.index-lists-0.is c.requires.run c.in_ok-list.ensures.is_arranged.same
 
 pub work-requires-clause-left : goal.work-requires-clause-left
 work-requires-clause-left g c =

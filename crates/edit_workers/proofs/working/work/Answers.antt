@@ -1,6 +1,5 @@
 use Rattle.edit_workers.proofs.Worked.{worked_first, worked_next, worked_all, left_inside, same_table, broken_off}
 use Rattle.std.proofs.Common.{take}
-use Rattle.edit_workers.proofs.Still.{still_at}
 use Rattle.list_laws.proofs.Cited.{on_err}
 use Rattle.edit_workers.proofs.working.work.Goals as goal
 
@@ -10,10 +9,6 @@ loop-pair-init g c = worked_first c.new.result.items c.args.pass.now c.new.ensur
 pub work_on-requires-clause-table : goal.work_on-requires-clause-table
 work_on-requires-clause-table g c =
     same_table (take c.loop-pair.pair-index c.args.list.now.pairs.items) c.loop-pair.left.pairs.items c.args.pass.now c.loop-pair.pass c.args.table.now c.loop-pair.invariant c.requires.table
-
-pub work_on-requires-clause-still : goal.work_on-requires-clause-still
-work_on-requires-clause-still g c =
-    still_at c.args.list.now.pairs.items c.deref-pair-items.result.now c.loop-pair.pair-index c.pair-item.result c.deref-pair-items.ensures.value c.loop-pair-test.true c.pair-item.is c.requires.still
 
 pub work_on-requires-clause-left : goal.work_on-requires-clause-left
 work_on-requires-clause-left g c =

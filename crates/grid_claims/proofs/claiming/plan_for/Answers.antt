@@ -60,7 +60,8 @@ pub ask-requires-clause-below : goal.ask-requires-clause-below
 ask-requires-clause-below c =
     let lacks = lacks_after c.args.board.now.shared.table_id (buckets_of c.args.board.now.shared.key) c.args.edit
     c.args.hands.now c.loop-plan.hands c.advance.new.hold c.advance.new.hold.room c.loop-plan.planner c.in-Need.next
-    c.in-Need.b c.in_ok-plan.field-0 c.loop-plan.invariant c.in-Need.is c.in_ok-plan.ensures.answers c.in_ok-plan.ensures.same
+    c.in-Need.b c.in_ok-plan.field-0 c.loop-plan.invariant c.in-Need.is c.in_ok-plan.ensures.answers
+    c.in_ok-plan.ensures.same
     in
     lacks.below
 
@@ -68,7 +69,8 @@ pub ask-requires-clause-absent : goal.ask-requires-clause-absent
 ask-requires-clause-absent c =
     let lacks = lacks_after c.args.board.now.shared.table_id (buckets_of c.args.board.now.shared.key) c.args.edit
     c.args.hands.now c.loop-plan.hands c.advance.new.hold c.advance.new.hold.room c.loop-plan.planner c.in-Need.next
-    c.in-Need.b c.in_ok-plan.field-0 c.loop-plan.invariant c.in-Need.is c.in_ok-plan.ensures.answers c.in_ok-plan.ensures.same
+    c.in-Need.b c.in_ok-plan.field-0 c.loop-plan.invariant c.in-Need.is c.in_ok-plan.ensures.answers
+    c.in_ok-plan.ensures.same
     in
     lacks.absent
 

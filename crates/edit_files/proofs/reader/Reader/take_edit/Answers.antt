@@ -14,8 +14,11 @@ returns c = λ newest.
     let v : Version = taken.version in
     let other : bytes_eq line (codes "radii") ≡ false = search rules in
     let full : c.is_full.result ≡ nat_le line_limit (length taken.points + length taken.edits) = c.is_full.ensures in
-    let in_list : listed v line (nat_le line_limit (length taken.points + length taken.edits)) (with_edit taken (edit v line)) ≡ with_edit taken (edit v line) =
-    ap (λ (f : Bool). listed v line f (with_edit taken (edit v line))) (sym full) ∙ c.in_ok-admit.ensures (with_edit taken (edit v line)) in
+    let in_list : listed v line (nat_le line_limit (length taken.points + length taken.edits)) (with_edit taken
+    (edit v line)) ≡ with_edit taken (edit v line) =
+    ap (λ (f : Bool). listed v line f (with_edit taken (edit v line))) (sym full)
+    ∙ c.in_ok-admit.ensures (with_edit taken (edit v line)) in
     let read : edit v line ≡ Ok c.in_ok-edit_of.field-0 = sym c.in_ok-edit_of.ensures in
-    let items : c.push.new.self.items ≡ c.args.self.now.file.edits.items ++ c.in_ok-edit_of.field-0 ∷ [] = c.in_ok-push.ensures.items in
+    let items : c.push.new.self.items ≡ c.args.self.now.file.edits.items ++ c.in_ok-edit_of.field-0 ∷ [] =
+    c.in_ok-push.ensures.items in
     rw (in_list, other, read, c.requires, items) refl)

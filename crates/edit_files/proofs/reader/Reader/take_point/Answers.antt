@@ -14,8 +14,11 @@ returns c = λ newest.
     let v : Version = taken.version in
     let other : bytes_eq line (codes "edits") ≡ false = search rules in
     let full : c.is_full.result ≡ nat_le line_limit (length taken.points + length taken.edits) = c.is_full.ensures in
-    let in_list : listed v line (nat_le line_limit (length taken.points + length taken.edits)) (with_point taken (point line)) ≡ with_point taken (point line) =
-    ap (λ (f : Bool). listed v line f (with_point taken (point line))) (sym full) ∙ c.in_ok-admit.ensures (with_point taken (point line)) in
+    let in_list : listed v line (nat_le line_limit (length taken.points + length taken.edits)) (with_point taken
+    (point line)) ≡ with_point taken (point line) =
+    ap (λ (f : Bool). listed v line f (with_point taken (point line))) (sym full)
+    ∙ c.in_ok-admit.ensures (with_point taken (point line)) in
     let read : point line ≡ Ok c.in_ok-point_of.field-0 = sym c.in_ok-point_of.ensures in
-    let items : c.push.new.self.items ≡ c.args.self.now.file.points.items ++ c.in_ok-point_of.field-0 ∷ [] = c.in_ok-push.ensures.items in
+    let items : c.push.new.self.items ≡ c.args.self.now.file.points.items ++ c.in_ok-point_of.field-0 ∷ [] =
+    c.in_ok-push.ensures.items in
     rw (in_list, other, read, c.requires, items) refl)

@@ -1,0 +1,29 @@
+-- Lines that are cut into segments as they come.
+use Rattle.std.specs.Prelude.{◌≡◌, ℕ, ◌==◌, ◌&&◌, Bool, List, [], ◌∷◌, ◌++◌, map}
+use Rattle.std.specs.List.{list_any}
+use Rattle.std.specs.HashSet.{HashSet, contains}
+use Rattle.point_order.specs.Sets.{is_among}
+use Rattle.edit_history.specs.Edits.{edit_points, is_move}
+use Rattle.plain_laws.specs.Running.{Pair, dealt_out, segments}
+use Rattle.edit_workers.specs.declared.cutting.Marks.{Marks}
+use Rattle.edit_workers.specs.declared.cutting.Cutter.{Cutter}
+use Rattle.edit_workers.specs.Dealing.{lists_of}
+
+-- a set of keys has a point
+abbrev pub has : {S : Type 0} → HashSet ℕ S → ℕ → Bool
+has keys p = contains (λ a b. a == b) keys p
+
+-- One set has the points of all lines of a segment, the other those of the lines that move.
+pub record AreMarks (lines : List Pair) (marks : Marks) : Type 0 where
+  pub seen : (p : ℕ) → has marks.seen p ≡ list_any (λ line. is_among p (edit_points line.1)) lines
+  pub moved : (p : ℕ) → has marks.moved p ≡ list_any (λ line. is_move line.1 && is_among p (edit_points line.1)) lines
+
+-- The lines are cut and dealt to n workers: the segments in front of the present one, and the present one, with its
+-- marks.
+pub record AreCut (n : ℕ) (lines : List Pair) (cutter : Cutter) : Type 0 where
+  pub front : List (List Pair)
+  pub present : List Pair
+  pub segments_are : segments lines ≡ front ++ present ∷ []
+  pub front_is : map lists_of cutter.finished.items ≡ map (dealt_out n) front
+  pub present_is : lists_of cutter.present ≡ dealt_out n present
+  pub marks : AreMarks present cutter.marks
