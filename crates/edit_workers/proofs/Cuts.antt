@@ -1,37 +1,16 @@
 -- Marks of a segment, and lines that are cut one by one.
-use Rattle.std.specs.Prelude.{
-  ◌≡◌,
-  ℕ,
-  ◌<◌,
-  Bool,
-  true,
-  false,
-  cond,
-  ◌&&◌,
-  ◌||◌,
-  ◌==◌,
-  List,
-  [],
-  ◌∷◌,
-  ◌++◌,
-  map,
-  length,
-  replicate,
-}
+use Rattle.std.specs.Prelude.{◌≡◌, ℕ, ◌<◌, Bool, true, false, ◌&&◌, ◌||◌, ◌==◌, List, [], ◌∷◌, ◌++◌, map, replicate}
 use Rattle.std.specs.List.{list_any}
-use Rattle.std.specs.HashSet.{HashSet, contains}
-use Rattle.std.proofs.Common.{refl, sym, ◌∙◌, ap, subst}
+use Rattle.std.proofs.Common.{refl, sym, ◌∙◌, ap}
 use Rattle.std.proofs.lemmas.Bool.{false≢true}
-use Rattle.std.proofs.lemmas.List.{append_assoc, map-append}
+use Rattle.std.proofs.lemmas.List.{map-append}
 use Rattle.std.proofs.lemmas.List.Folds.{list_any-append}
-use Rattle.list_laws.proofs.Cited.{true_or_false}
 use Rattle.point_order.specs.Sets.{is_among}
 use Rattle.edit_history.specs.declared.history.Edit.{Edit}
 use Rattle.edit_history.specs.declared.history.Edit.TheVariants.{Add, Take, Move}
-use Rattle.edit_history.specs.Edits.{edit_points, is_move, share_point}
+use Rattle.edit_history.specs.Edits.{edit_points, is_move}
 use Rattle.plain_laws.specs.Running.{Pair, clash, dealt_out, segments}
 use Rattle.plain_laws.proofs.Cited.{segments_begin, segments_go_on, share_flips}
-use Rattle.edit_workers.specs.declared.lists.Segment.{Segment}
 use Rattle.edit_workers.specs.declared.cutting.Marks.{Marks}
 use Rattle.edit_workers.specs.declared.cutting.Cutter.{Cutter}
 use Rattle.edit_workers.specs.Cutting.{AreCut, AreMarks, has}

@@ -29,7 +29,7 @@ use Rattle.std.specs.Prelude.{
   Some,
   replicate,
 }
-use Rattle.std.specs.List.{enumerate_from, filter, range_with_len}
+use Rattle.std.specs.List.{enumerate_from, range_with_len}
 use Rattle.std.specs.Option.{option_map}
 use Rattle.std.proofs.Common.{refl, sym, ◌∙◌, ap, arith}
 use Rattle.std.proofs.Math.Nat.{mod-lt}
@@ -90,10 +90,10 @@ module _ (n : ℕ) (lines : List Pair) (line : Pair) where
       let count = length-map (range_with_len 0 n) f ∙ length-range_with_len 0 n in
       let there = get_or-map-range_with_len f 0 n w w [] below from_0 in
       let value : g (0 + w) ≡ slice_index_or (dealt_out n lines) w [] ++ line ∷ [] =
-          ap g from_0 ∙ more_is w ∙ one_more (w == w) (eq_same w) (f w)
-          ∙ ap (λ (t : List Pair). t ++ line ∷ []) (sym there) in
+      ap g from_0 ∙ more_is w ∙ one_more (w == w) (eq_same w) (f w)
+      ∙ ap (λ (t : List Pair). t ++ line ∷ []) (sym there) in
       let others : (i : ℕ) → i ≢ 0 + w → g i ≡ f i =
-          λ i d. more_is i ∙ nothing_more (w == i) (ne_eqb w i (λ q. d (sym q ∙ sym from_0))) (f i) in
+      λ i d. more_is i ∙ nothing_more (w == i) (ne_eqb w i (λ q. d (sym q ∙ sym from_0))) (f i) in
       map_but_one f g 0 n w (slice_index_or (dealt_out n lines) w [] ++ line ∷ []) below value others
       ∙ ap (λ (c : ℕ). set (dealt_out n lines) (point_of line.1 % c)
       (slice_index_or (dealt_out n lines) (point_of line.1 % c) [] ++ line ∷ [])) (sym count)

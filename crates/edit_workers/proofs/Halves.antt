@@ -7,7 +7,6 @@ use Rattle.std.proofs.lemmas.List.Sorted.{IsPermutation-sym, IsPermutation-trans
 use Rattle.list_laws.proofs.Cited.{EachLater, all_of_each, both_later, each_of_all, from_append, in_left, in_permutation, later_pairs, later_unmap, mapped_true, pairs_later, related}
 use Rattle.point_order.specs.Sets.{IsIn}
 use Rattle.edit_history.specs.declared.history.Entry.{Entry}
-use Rattle.edit_history.specs.Edits.{point_of}
 use Rattle.edit_history.specs.OneThread.{line_of}
 use Rattle.cell_store.specs.Meshes.{by_number}
 use Rattle.cell_store.proofs.Cited.{sorted_moves}

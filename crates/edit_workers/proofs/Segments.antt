@@ -64,8 +64,15 @@ done_count (lists ∷ segments) entries r =
     let a : length (map line_of r.0) ≡ count_of lists = length_permutation (all_of lists) (map line_of r.0) r.3.lines in
     let b = done_count segments r.1 r.5 in
     let e = ap length r.2 in
-    omega (arith, a, b, e, length-append r.0 r.1, length-map r.0 line_of,
-    length-append (all_of lists) (flat_map all_of segments))
+    omega (
+      arith,
+      a,
+      b,
+      e,
+      length-append r.0 r.1,
+      length-map r.0 line_of,
+      length-append (all_of lists) (flat_map all_of segments),
+    )
 
 -- segments that are done have runs
 pub done_runs : (segments : List (List (List Pair))) (entries : List Entry) → AreDone segments entries →
@@ -145,8 +152,12 @@ count_within (s ∷ segments) zero x b e =
     omega (arith, f, length-append (all_of (lists_of s)) (flat_map all_of (map lists_of segments)))
 count_within (s ∷ segments) (suc n) x b e =
     let r = count_within segments n x (omega (arith, b)) e in
-    omega (arith, r, length-append (all_of (lists_of s)) (flat_map all_of (map lists_of segments)),
-    length-append (all_of (lists_of s)) (flat_map all_of (front_of n segments)))
+    omega (
+      arith,
+      r,
+      length-append (all_of (lists_of s)) (flat_map all_of (map lists_of segments)),
+      length-append (all_of (lists_of s)) (flat_map all_of (front_of n segments)),
+    )
 
 -- there is room for the next segment
 pub room_next : (segments : List Segment) (n : ℕ) (x : Segment) (h k : List Entry) (most : ℕ) →
@@ -207,10 +218,10 @@ pub applied_next : (ls : List lists.List) (n : ℕ) (x : lists.List) (h k m : Li
     AreApplied (all_of (pairs_in (take (n + 1) ls))) h m
 applied_next ls n x h k m b e a f =
     let next : pairs_in (take (n + 1) ls) ≡ pairs_in (take n ls) ++ x.pairs.items ∷ [] =
-        ap pairs_in (take_next ls n x b e) ∙ map-append (λ (l : lists.List). l.pairs.items) (take n ls) (x ∷ []) in
+    ap pairs_in (take_next ls n x b e) ∙ map-append (λ (l : lists.List). l.pairs.items) (take n ls) (x ∷ []) in
     let all : all_of (pairs_in (take (n + 1) ls)) ≡ all_of (pairs_in (take n ls)) ++ x.pairs.items =
-        ap all_of next ∙ flat_map-append (λ (l : List Pair). l) (pairs_in (take n ls)) (x.pairs.items ∷ [])
-        ∙ ap (λ (l : List Pair). all_of (pairs_in (take n ls)) ++ l) (append-nil x.pairs.items) in
+    ap all_of next ∙ flat_map-append (λ (l : List Pair). l) (pairs_in (take n ls)) (x.pairs.items ∷ [])
+    ∙ ap (λ (l : List Pair). all_of (pairs_in (take n ls)) ++ l) (append-nil x.pairs.items) in
     subst (λ (l : List Pair). AreApplied l h m) (sym all)
     (applied_both (all_of (pairs_in (take n ls))) x.pairs.items h k m a f)
 

@@ -1,5 +1,5 @@
 -- Edits that share a point.
-use Rattle.std.specs.Prelude.{◌≡◌, ℕ, true, List, ◌||◌}
+use Rattle.std.specs.Prelude.{◌≡◌, true}
 use Rattle.std.proofs.Common.{refl, inl, sym, subst}
 use Rattle.list_laws.proofs.Cited.{among_true, any_true}
 use Rattle.point_order.specs.Sets.{IsIn, is_among}

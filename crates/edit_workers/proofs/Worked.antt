@@ -305,10 +305,10 @@ module _ (list left : List Pair) (pair : Pair) (old now new : Standing) (w : IsW
           omega arith,
         );
         tries = (
-          let t = w.tries in
-          let e = ap (first_ones []) f.behind ∙ first_same [] left pair (inr f.shared) in
-          omega (arith, t, e)
-        );
+            let t = w.tries in
+            let e = ap (first_ones []) f.behind ∙ first_same [] left pair (inr f.shared) in
+            omega (arith, t, e)
+            );
         alone = λ z q. absurd (nothing_shares pair.1 left (w.alone z q) f.shared);
       }
 

@@ -226,9 +226,9 @@ pub fn run_edits<G: Gate + Sync, R: Threads + Sync>(
     ensures run { IfOk result (λ m. AreRun (segments_of lists.now) mesh.history m.history) }
     ensures grid { IfOk result (λ m. m.grid ≡ mesh.grid) }
 {
-    let mut mesh = mesh;
+    let mut made = mesh;
     for segment in &lists.segments {
-        mesh = run_segment(rt, alloc, mesh, &segment.each, gate)?;
+        made = run_segment(rt, alloc, made, &segment.each, gate)?;
     }
-    Ok(mesh)
+    Ok(made)
 }

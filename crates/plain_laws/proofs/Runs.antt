@@ -372,8 +372,8 @@ module _ (points : List ℕ) (edits : List Edit) (four : Four) (found : opening_
       opening ++ run ≡ one_thread points edits
   alone run is_run legal =
       let f : map line_of (opening ++ run) ≡ opening_lines ++ others =
-          lines_are 1 (omega arith) run is_run ∙ ap (λ (l : List Pair). opening_lines ++ l)
-          (alone_lines (segments others) run is_run ∙ segments_keep others) in
+      lines_are 1 (omega arith) run is_run ∙ ap (λ (l : List Pair). opening_lines ++ l)
+      (alone_lines (segments others) run is_run ∙ segments_keep others) in
       legal_is 0 [] (opening ++ run) legal (λ d i. let l = made_by 1 (omega arith) run is_run d i in omega (arith, l))
       ∙ ap (entries_from 0 []) f
       ∙ ap (λ (o : Option Four). entries_from 0 [] (lines_of_one_thread o all)) (sym found)

@@ -25,10 +25,10 @@ lines_count points edits =
 all_taken : (points : List ℕ) (edits : List Edit) (n : ℕ) → length points + length edits ≤ n →
     take n (tagged_lines points edits) ≡ tagged_lines points edits
 all_taken points edits n l = take_all n (tagged_lines points edits) (
-  let a = length-enumerate_from 0 (map Add points ++ edits) in
-  let b = lines_count points edits in
-  omega (arith, l, a, b)
-)
+    let a = length-enumerate_from 0 (map Add points ++ edits) in
+    let b = lines_count points edits in
+    omega (arith, l, a, b)
+    )
 
 pub put-requires : goal.put-requires
 put-requires c =

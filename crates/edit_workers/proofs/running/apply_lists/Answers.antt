@@ -1,5 +1,5 @@
 use Rattle.std.proofs.Common.{length, arith, ap}
-use Rattle.edit_workers.proofs.Segments.{applied_all, applied_next, room_for}
+use Rattle.edit_workers.proofs.Segments.{room_for}
 use Rattle.edit_workers.proofs.running.apply_lists.Goals as goal
 
 pub apply_all-requires : goal.apply_all-requires

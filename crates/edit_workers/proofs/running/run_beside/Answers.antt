@@ -1,5 +1,4 @@
 use Rattle.std.proofs.Common.{length, arith, ap, subst, List}
-use Rattle.edit_history.proofs.Cited.{ok_then}
 use Rattle.plain_laws.specs.Running.{Pair}
 use Rattle.edit_workers.specs.Dealing.{pairs_in}
 use Rattle.edit_workers.specs.Running.{AreApplied}

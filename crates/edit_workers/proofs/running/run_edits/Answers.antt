@@ -25,7 +25,7 @@ run_segment-requires-clause-room g c κs within =
     let segments = c.args.lists.now.segments.items in
     let n = c.loop-segment.segment-index in
     let x = c.segment-item.result in
-    let room = room_next segments n x c.args.mesh.history c.loop-segment.mesh.history 4294967296
+    let room = room_next segments n x c.args.mesh.history c.loop-segment.made.history 4294967296
     (subst (λ (l : List Segment). n < length l) c.deref-segment-items.ensures.value c.loop-segment-test.true)
     (subst (λ (l : List Segment). x ≡ get_or l n x) c.deref-segment-items.ensures.value c.segment-item.is)
     c.loop-segment.invariant.run c.requires.room in
@@ -37,18 +37,18 @@ loop-segment-preserved g c =
     let n = c.loop-segment.segment-index in
     let x = c.segment-item.result in
     record {
-      run = run_next segments n x c.args.mesh.history c.loop-segment.mesh.history c.in_ok-mesh.mesh.history
+      run = run_next segments n x c.args.mesh.history c.loop-segment.made.history c.in_ok-made.made.history
           (subst (λ (l : List Segment). n < length l) c.deref-segment-items.ensures.value c.loop-segment-test.true)
           (subst (λ (l : List Segment). x ≡ get_or l n x) c.deref-segment-items.ensures.value c.segment-item.is)
           c.loop-segment.invariant.run
-          (subst (λ (l : List lists.List). IsSegmentRun (pairs_in l) c.loop-segment.mesh.history c.in_ok-mesh.mesh.history)
-          c.deref.ensures.value c.in_ok-mesh.ensures.run);
-      grid = c.in_ok-mesh.ensures.grid ∙ c.loop-segment.invariant.grid;
+          (subst (λ (l : List lists.List). IsSegmentRun (pairs_in l) c.loop-segment.made.history c.in_ok-made.made.history)
+          c.deref.ensures.value c.in_ok-made.ensures.run);
+      grid = c.in_ok-made.ensures.grid ∙ c.loop-segment.invariant.grid;
     }
 
 pub returns-clause-run : goal.returns-clause-run
 returns-clause-run g c =
     run_all c.args.lists.now.segments.items c.loop-segment.segment-index c.args.mesh.history
-    c.loop-segment.mesh.history
+    c.loop-segment.made.history
     (let e = c.deref-segment-items.ensures.value in let f = c.loop-segment-test.false in omega (arith, f, ap length e))
     c.loop-segment.invariant.run
