@@ -74,7 +74,7 @@ use Rattle.plain_laws.proofs.Cited.{
   segments_apart,
   segments_keep,
 }
-use Rattle.edit_workers.specs.Dealing.{AreAscending, AreOpening, CanBeDone, all_of, count_of, count_all}
+use Rattle.edit_workers.specs.Dealing.{AreAscending, AreOpening, CanBeDone, all_of, count_all}
 use Rattle.edit_workers.specs.Running.{AreRun, EndsLate}
 use Rattle.edit_workers.proofs.Cited.{done_each, done_runs}
 use Rattle.delaunay_cli.specs.Run.{AreDealt}
@@ -98,8 +98,13 @@ count_dealt n [] some = refl
 count_dealt n (part ∷ parts) some =
     let a = length_permutation part (all_of (dealt_out n part)) (dealt_all n part some) in
     let b = count_dealt n parts some in
-    omega (arith, a, b, length-append part (flat_map (λ l. l) parts),
-    length-append (all_of (dealt_out n part)) (flat_map all_of (map (dealt_out n) parts)))
+    omega (
+      arith,
+      a,
+      b,
+      length-append part (flat_map (λ l. l) parts),
+      length-append (all_of (dealt_out n part)) (flat_map all_of (map (dealt_out n) parts)),
+    )
 
 module _ (workers : ℕ) (four points : List ℕ) (edits : List Edit) (some : 0 < workers) where
   abbrev lines : List Pair
@@ -176,21 +181,21 @@ named n parts lists made i run ends e j =
     elim (from_append e ends.made ends.late (subst (IsIn e) ends.both j)) [
       | inl k ↦ inr (
           let below : e.by < n = (
-            let b = each_of_all (λ (e : Entry). e.by < length lists) made run.workers e j in
-            let c = ap length part.2 in
-            omega (arith, b, c, dealt_count n part.0)
+          let b = each_of_all (λ (e : Entry). e.by < length lists) made run.workers e j in
+          let c = ap length part.2 in
+          omega (arith, b, c, dealt_count n part.0)
           ) in
           let own : IsIn (line_of e) (slice_index_or (dealt_out n part.0) (e.by - 0) []) =
-              subst (λ (l : List (List Pair)). IsIn (line_of e) (slice_index_or l (e.by - 0) [])) (sym part.2)
-              (ends.owned e k) in
+          subst (λ (l : List (List Pair)). IsIn (line_of e) (slice_index_or l (e.by - 0) [])) (sym part.2)
+          (ends.owned e k) in
           let first : e.by - 0 ≡ e.by = omega arith in
           let from_0 : 0 + e.by ≡ e.by = omega arith in
           let there : IsIn (line_of e) (dealt_to n part.0 e.by) =
-              subst (IsIn (line_of e)) (ap (λ (m : ℕ). slice_index_or (dealt_out n part.0) m []) first
-              ∙ get_or-map-range_with_len (dealt_to n part.0) 0 n e.by e.by [] below from_0) own in
+          subst (IsIn (line_of e)) (ap (λ (m : ℕ). slice_index_or (dealt_out n part.0) m []) first
+          ∙ get_or-map-range_with_len (dealt_to n part.0) 0 n e.by e.by [] below from_0) own in
           sym (eqb-true (point_of e.edit % n) e.by
           (passes (λ (line : Pair). point_of line.1 % n == e.by) part.0 (line_of e) there))
-        )
+          )
       | inr k ↦ inl (each_of_all (λ (e : Entry). e.by ≡ 0) ends.late ends.by_none e k)
     ]
 
@@ -217,7 +222,7 @@ module _ (points : List ℕ) (edits : List Edit) (workers : ℕ) (four : List �
   pub run_of_one : workers ≡ 1 → IsLegal k → k ≡ one_thread points edits
   run_of_one e legal =
       let one : AreRuns (dealt 1 (places found.0) (tagged_lines points edits)) run.more =
-          subst (λ (n : ℕ). AreRuns (dealt n (places found.0) (tagged_lines points edits)) run.more) e are_runs in
+      subst (λ (n : ℕ). AreRuns (dealt n (places found.0) (tagged_lines points edits)) run.more) e are_runs in
       history_is ∙ run_alone points edits found.0 run.more found.1 one (subst IsLegal history_is legal)
 
   -- each entry is by 0 or by the worker that its point names
@@ -226,8 +231,9 @@ module _ (points : List ℕ) (edits : List Edit) (workers : ℕ) (four : List �
       let parts = segments (other_lines four (tagged_lines points edits)) in
       let P : Entry → Type 0 = λ e. (e.by ≡ 0) ⊎ (e.by ≡ point_of e.edit % workers) in
       let later = done_each ls run.more P run.done (λ lists made i.
-          named workers parts lists made (subst (λ (l : List (List (List Pair))). IsIn lists l) deals i)) in
-      subst (AreDealt workers) (sym run.history) (all_of_each P (h ++ run.more) (λ e i. elim (from_append e h run.more i) [
+      named workers parts lists made (subst (λ (l : List (List (List Pair))). IsIn lists l) deals i)) in
+      subst (AreDealt workers) (sym run.history) (all_of_each P (h ++ run.more)
+      (λ e i. elim (from_append e h run.more i) [
         | inl j ↦ inl (by_none 0 [] (filter (λ line. is_among line.0 four) (tagged_lines points edits)) e
             (subst (IsIn e) opens j))
         | inr j ↦ each_of_all P run.more later e j

@@ -178,7 +178,8 @@ module _ (n : ℕ) (lines : List Pair) (line : Pair) (some : 0 < n) (old new : C
     present = line ∷ [];
     segments_are = segments_begin lines was.front was.present line was.segments_are h;
     front_is =
-        f ∙ (λ i. was.front_is i ++ was.present_is i ∷ []) ∙ sym (map-append (dealt_out n) was.front (was.present ∷ []));
+        f ∙ (λ i. was.front_is i ++ was.present_is i ∷ [])
+        ∙ sym (map-append (dealt_out n) was.front (was.present ∷ []));
     present_is = p ∙ ap (with_pair line) (e ∙ sym (dealt_nothing n)) ∙ sym (dealt_more n [] line some);
     marks = m;
   }

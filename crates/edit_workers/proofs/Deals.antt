@@ -138,7 +138,8 @@ module _ (four : List ℕ) (lines : List Edit) (tag : ℕ) (edit : Edit) (there 
       other_lines four (take tag (enumerate_from 0 lines)) ++ cond (not (is_among tag four)) ((tag, edit) ∷ []) []
   next_is =
       ap (other_lines four) (lines_more lines tag edit there)
-      ∙ filter-append (λ (line : Pair). not (is_among line.0 four)) (take tag (enumerate_from 0 lines)) ((tag, edit) ∷ [])
+      ∙ filter-append (λ (line : Pair). not (is_among line.0 four)) (take tag (enumerate_from 0 lines))
+      ((tag, edit) ∷ [])
 
   -- it is not: it comes next
   pub next_comes : is_among tag four ≡ false →

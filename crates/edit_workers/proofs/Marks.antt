@@ -49,7 +49,8 @@ module _ (l : List Marked) (tags : EachLater AscendAtPoint (map (λ x. x.1) l)) 
   left_tags = later_map (λ (x : Marked). x.1) AscendAtPoint (filter (λ x. x.0) l) (later_filter (λ (x y : Marked). AscendAtPoint x.1 y.1) (λ x. x.0) l tagged)
 
   -- what is of one point with an earlier one left over is left over
-  pub point_later : LeavesLater l → EachLater (λ (x y : Marked). x.0 ≡ true → point_of x.1.1 ≡ point_of y.1.1 → y.0 ≡ true) l
+  pub point_later : LeavesLater l →
+      EachLater (λ (x y : Marked). x.0 ≡ true → point_of x.1.1 ≡ point_of y.1.1 → y.0 ≡ true) l
   point_later h =
       later_weaken (λ (x y : Marked). x.0 ≡ true → share_point x.1.1 y.1.1 ≡ true → y.0 ≡ true)
       (λ (x y : Marked). x.0 ≡ true → point_of x.1.1 ≡ point_of y.1.1 → y.0 ≡ true) l

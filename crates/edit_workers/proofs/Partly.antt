@@ -229,7 +229,8 @@ module _ (lists : List (List Pair)) (left sorted : List Pair) (h k m : List Entr
   calm : EachLater (λ (d e : Entry). Calm (line_of d) (line_of e)) (es ++ fs)
   calm =
       later_unmap line_of Calm (es ++ fs)
-      (pairs_later Calm (map line_of (es ++ fs)) (alone_in_any_order (all_of lists) (map line_of (es ++ fs)) all_lines alone))
+      (pairs_later Calm (map line_of (es ++ fs))
+      (alone_in_any_order (all_of lists) (map line_of (es ++ fs)) all_lines alone))
 
   by_workers : All (λ e. e.by < length lists) (es ++ fs)
   by_workers =

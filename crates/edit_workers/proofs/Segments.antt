@@ -44,7 +44,8 @@ use Rattle.edit_workers.proofs.Counts.{count_within as counted}
 
 -- a segment more is done behind the others
 done_more : (segments : List (List (List Pair))) (lists : List (List Pair)) (entries more : List Entry) →
-    AreDone segments entries → IsRun lists more → EndsLate lists more → AreDone (segments ++ lists ∷ []) (entries ++ more)
+    AreDone segments entries → IsRun lists more → EndsLate lists more →
+    AreDone (segments ++ lists ∷ []) (entries ++ more)
 done_more [] lists entries more e run ends =
     (more, [], ap (λ (l : List Entry). l ++ more) e ∙ sym (append-nil more), run, ends, refl)
 done_more (s ∷ segments) lists entries more r run ends = (
@@ -115,7 +116,8 @@ run_count segments h k r =
     let n = done_count segments r.more r.done in
     omega (arith, e, n, length-append h r.more)
 
-take_next : {X : Type 0} (l : List X) (n : ℕ) (x : X) → n < length l → x ≡ get_or l n x → take (n + 1) l ≡ take n l ++ x ∷ []
+take_next : {X : Type 0} (l : List X) (n : ℕ) (x : X) → n < length l → x ≡ get_or l n x →
+    take (n + 1) l ≡ take n l ++ x ∷ []
 take_next {X} l n x b e =
     let up : n + 1 ≡ suc n = omega arith in
     ap (λ (k : ℕ). take k l) up ∙ take-suc l n x b ∙ ap (λ (y : X). take n l ++ y ∷ []) (sym e)

@@ -64,8 +64,8 @@ pub record AreRun (segments : List (List (List Pair))) (h k : List Entry) : Type
 
 -- ---- workers side by side
 
--- The pass can do these lists: there are 1 to 64, it has a part for each and allowance for all their pairs, and has made
--- no entry yet.
+-- The pass can do these lists: there are 1 to 64, it has a part for each and allowance for all their pairs, and has
+-- made no entry yet.
 pub record CanRun (table : Opened) (lists : List (List Pair)) (pass : Standing) : Type 0 where
   pub some : 0 < length lists
   pub short : length lists ≤ 64

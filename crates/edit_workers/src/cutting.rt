@@ -1,6 +1,7 @@
 //! Lines that are cut into segments as they come, and dealt to workers.
 
-ghost use Rattle.std.specs.Prelude.{◌≡◌, ℕ, ◌<◌, ◌∷◌, ◌++◌, ◌||◌, [], List as ListOf, map, replicate, length, IfOk, OnOk};
+ghost use Rattle.std.specs.Prelude.{◌≡◌, ℕ, ◌<◌, ◌∷◌, ◌++◌, ◌||◌, [], List as ListOf, map, replicate, length};
+ghost use Rattle.std.specs.Prelude.{IfOk, OnOk};
 ghost use Rattle.std.specs.List.{list_any};
 ghost use Rattle.point_order.specs.Sets.{is_among};
 ghost use Rattle.edit_history.specs.Edits.{edit_points, is_move};

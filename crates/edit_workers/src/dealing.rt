@@ -29,8 +29,8 @@ fn line_at(file: &File, place: usize) -> Edit
 /// an earlier line of the present one and either of the two moves. So a file that moves no point is one segment.
 ///
 /// In its segment each line stands in the list of the worker whose number is the key of its point modulo the number of
-/// workers; the point of a move is the place that it leaves. In each list the lines stand in the order of the file, each
-/// with its place for a tag. For n lines it takes about n steps.
+/// workers; the point of a move is the place that it leaves. In each list the lines stand in the order of the file,
+/// each with its place for a tag. For n lines it takes about n steps.
 ///
 /// There are to be 1 to 64 workers, at most 2^32 lines, and `four` is to be what `find_four` gives.
 ///

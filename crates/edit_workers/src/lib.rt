@@ -2,7 +2,7 @@
 //!
 //! ```
 //! let four = find_four(&file.points)?;                     // a mesh has begun with these four lines
-//! let lists = deal(alloc, &file, four, 8)?;                // eight lists a segment: the lines of one point in one of them
+//! let lists = deal(alloc, &file, four, 8)?;                // eight lists a segment: lines of one point in one of them
 //! let mesh = run_edits(rt, alloc, mesh, &lists, &gate)?;   // eight threads a segment; what was busy too often ends it
 //! let kept = mesh.count();                                 // each line of the lists stands in the history once
 //! ```

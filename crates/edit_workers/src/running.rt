@@ -200,8 +200,8 @@ fn run_segment<G: Gate + Sync, R: Threads + Sync>(
     Ok(mesh)
 }
 
-/// Makes the edits of all segments on the mesh, one segment after another. Each list of a segment is done by a worker of
-/// its own, side by side, and then what they leave over, in the order of its tags; a segment of one pair needs no
+/// Makes the edits of all segments on the mesh, one segment after another. Each list of a segment is done by a worker
+/// of its own, side by side, and then what they leave over, in the order of its tags; a segment of one pair needs no
 /// workers.
 ///
 /// The history goes on with each pair of the segments once: those of a segment before those of the next, those of a
@@ -209,8 +209,8 @@ fn run_segment<G: Gate + Sync, R: Threads + Sync>(
 /// one list in each segment just the pairs in their order. In a segment first come entries by the worker of their list,
 /// and then what was left over, by 0. The grid stays.
 ///
-/// In each segment there are to be 1 to 64 lists, with ascending tags in each and no point in two of them, and a pair that
-/// moves is to share no point with another one. There are to be at most 2^32 entries with all that may come.
+/// In each segment there are to be 1 to 64 lists, with ascending tags in each and no point in two of them, and a pair
+/// that moves is to share no point with another one. There are to be at most 2^32 entries with all that may come.
 ///
 /// # Errors
 /// Want of memory. The mesh is then dropped.

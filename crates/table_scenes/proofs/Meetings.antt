@@ -1,5 +1,23 @@
 -- Two edits that share no point can be done side by side.
-use Rattle.std.specs.Prelude.{◌≡◌, ℕ, zero, suc, ◌<◌, ◌≤◌, ◌||◌, ◌&&◌, Bool, false, List, [], ◌∷◌, ◌++◌, All, AllPairs, length}
+use Rattle.std.specs.Prelude.{
+  ◌≡◌,
+  ℕ,
+  zero,
+  suc,
+  ◌<◌,
+  ◌≤◌,
+  ◌||◌,
+  ◌&&◌,
+  Bool,
+  false,
+  List,
+  [],
+  ◌∷◌,
+  ◌++◌,
+  All,
+  AllPairs,
+  length,
+}
 use Rattle.std.proofs.Common.{refl, sym, ◌∙◌, subst, inl, inr, arith, ap}
 use Rattle.list_laws.proofs.Cited.{all_of_each, later_pairs}
 use Rattle.point_order.specs.Sets.{IsIn}

@@ -18,8 +18,8 @@
 //!   of an edit; meanwhile the other one does orders on a thread of its own, and more of them afterwards.
 //! - `meet SIZE; POINTS; EDIT EDIT`: two workers, an edit each, that are to see each other at Ready.
 //! - `deal WORKERS; POINTS; EDITS`: the lists that are dealt, by their tags, segment by segment.
-//! - `make SIZE; POINTS; WORKERS; EDITS`: so many workers make the lines, and what is told is the reply of each line, how
-//!   many entries there are, and the cells.
+//! - `make SIZE; POINTS; WORKERS; EDITS`: so many workers make the lines, and what is told is the reply of each line,
+//!   how many entries there are, and the cells.
 //! - `beside SIZE; POINTS; COUNT; EDITS; EDITS; ..`: a worker a list, and beside them a reader that takes so many
 //!   snapshots. Each is judged by the replies of sets of points and by trial of all quadruples and triples.
 //! - `run TIMES; WORDS; FRONT; MIDDLE; END; SOURCE; OUTPUT; ERROR`: a run of the top call over ends in memory, some of

@@ -10,6 +10,12 @@ pub returns : goal.returns
 returns c =
     let count : c.len.result ≡ length c.args.segment.now.each.items = c.len.ensures ∙ c.args.segment.now.each.ok.0 in
     let point : c.key.result ≡ point_of c.args.edit = c.key.ensures.value ∙ c.point.ensures in
-    let worker : c.key.result % c.len.result ≡ point_of c.args.edit % length c.args.segment.now.each.items = λ i. point i % count i in
-    let below : c.key.result % c.len.result < length c.args.segment.now.each.items = (let a = mod-lt (point_of c.args.edit) c.requires.some in omega (arith, a, worker)) in
-    put_last_is (λ (l : List). l.pairs.items) c.args.segment.now.each.items (c.key.result % c.len.result) c.index_mut.result.now c.put_last.new.list (c.args.tag, c.args.edit) below worker c.index_mut.ensures.value c.in_ok-put_last.ensures
+    let worker : c.key.result % c.len.result ≡ point_of c.args.edit % length c.args.segment.now.each.items =
+    λ i. point i % count i in
+    let below : c.key.result % c.len.result < length c.args.segment.now.each.items = (
+    let a = mod-lt (point_of c.args.edit) c.requires.some in
+    omega (arith, a, worker)
+    ) in
+    put_last_is (λ (l : List). l.pairs.items) c.args.segment.now.each.items (c.key.result % c.len.result)
+    c.index_mut.result.now c.put_last.new.list (c.args.tag, c.args.edit) below worker c.index_mut.ensures.value
+    c.in_ok-put_last.ensures

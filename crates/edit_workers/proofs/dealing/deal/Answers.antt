@@ -69,7 +69,8 @@ returns c =
     let cutter = c.loop-place.cutter in
     let whole = all_taken points edits c.loop-place.place-counter
     (let b = c.loop-place-test.false in omega (arith, b)) in
-    let are = subst (λ (l : List Pair). AreCut c.args.workers (other_lines four l) cutter) whole c.loop-place.invariant in
+    let are =
+    subst (λ (l : List Pair). AreCut c.args.workers (other_lines four l) cutter) whole c.loop-place.invariant in
     record {
       dealt = ok_then (λ l. segments_of l ≡ map lists_of cutter.finished.items ++ lists_of cutter.present ∷ [])
           (λ l. segments_of l ≡ dealt c.args.workers four (tagged_lines points edits)) c.finish.result

@@ -36,13 +36,15 @@ loop-segment-preserved g c =
     let segments = c.args.lists.now.segments.items in
     let n = c.loop-segment.segment-index in
     let x = c.segment-item.result in
+    let old = c.loop-segment.made.history in
+    let new = c.in_ok-made.made.history in
     record {
-      run = run_next segments n x c.args.mesh.history c.loop-segment.made.history c.in_ok-made.made.history
+      run = run_next segments n x c.args.mesh.history old new
           (subst (λ (l : List Segment). n < length l) c.deref-segment-items.ensures.value c.loop-segment-test.true)
           (subst (λ (l : List Segment). x ≡ get_or l n x) c.deref-segment-items.ensures.value c.segment-item.is)
           c.loop-segment.invariant.run
-          (subst (λ (l : List lists.List). IsSegmentRun (pairs_in l) c.loop-segment.made.history c.in_ok-made.made.history)
-          c.deref.ensures.value c.in_ok-made.ensures.run);
+          (subst (λ (l : List lists.List). IsSegmentRun (pairs_in l) old new) c.deref.ensures.value
+          c.in_ok-made.ensures.run);
       grid = c.in_ok-made.ensures.grid ∙ c.loop-segment.invariant.grid;
     }
 

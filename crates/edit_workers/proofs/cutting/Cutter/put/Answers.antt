@@ -16,7 +16,8 @@ returns c = λ lines cut.
     elim c.if-clash.branch [
       | then-clash+in_ok-begin w ↦
           let begun = sym w.self-is in
-          cut_begins c.args.workers lines (c.args.tag, c.args.edit) c.requires.some was new cut (clash ∙ w.if-clash.true)
+          cut_begins c.args.workers lines (c.args.tag, c.args.edit) c.requires.some was new cut
+          (clash ∙ w.if-clash.true)
           (subst (λ (k : Cutter). map lists_of k.finished.items ≡ map lists_of was.finished.items
           ++ lists_of was.present ∷ []) begun w.in_ok-begin.ensures.finished)
           (lists_of now.present)
@@ -26,9 +27,11 @@ returns c = λ lines cut.
           (subst (λ (k : Cutter). AreMarks [] k.marks) begun w.in_ok-begin.ensures.marks))
       | else-clash w ↦
           let same = sym w.self-is in
-          cut_goes_on c.args.workers lines (c.args.tag, c.args.edit) c.requires.some was new cut (clash ∙ w.if-clash.false)
+          cut_goes_on c.args.workers lines (c.args.tag, c.args.edit) c.requires.some was new cut
+          (clash ∙ w.if-clash.false)
           (subst (λ (k : Cutter). k.finished.items ≡ was.finished.items) same refl)
           (subst (λ (k : Cutter). lists_of new.present ≡ with_pair (c.args.tag, c.args.edit) (lists_of k.present))
           w.self-is c.in_ok-put.ensures)
-          (c.in_ok-note.ensures cut.present c.args.tag (subst (λ (k : Cutter). AreMarks cut.present k.marks) same cut.marks))
+          (c.in_ok-note.ensures cut.present c.args.tag
+          (subst (λ (k : Cutter). AreMarks cut.present k.marks) same cut.marks))
     ]
