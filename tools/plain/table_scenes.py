@@ -57,8 +57,8 @@ def lost(points, adds, p):
 
 
 def touched(grid, points, adds, p, *goal):
-    """The buckets of the edit's points, and of the points of all cells that it takes away; a move is found as its new place that comes, and
-    then the old one that goes."""
+    """The buckets of the edit's points, and of the points of all cells that it takes away; a move is found as its new
+    place that comes, and then the old one that goes."""
     cells = set()
     if not goal:
         cells = lost(points, adds, p) if adds != (p in points) else cells
@@ -119,8 +119,8 @@ class Pass:
         self.parts, self.left, self.seen = self.parts + other.parts, self.left + other.left, max(self.seen, other.seen)
 
     def busy(self, own, buckets):
-        """The bucket of another pass that a claim of these meets. Those of the edit's own points come first, in their order; the order of the
-        others no clause tells, so no more than one of them may be held."""
+        """The bucket of another pass that a claim of these meets. Those of the edit's own points come first, in their
+        order; the order of the others no clause tells, so no more than one of them may be held."""
         met = [b for b in (*own, *sorted(buckets)) if b in self.table.held]
         assert len(set(met)) < 2 or met[0] in own
         return f' busy {met[0]} word {self.table.held[met[0]] + 1};' if met else None
@@ -128,7 +128,8 @@ class Pass:
     def edit(self, pair):
         if self.left == 0:
             return ' spent;'
-        busy = self.busy([bucket_of(self.table.grid, p) for p in pair[2:]], touched(self.table.grid, self.table.points, *pair[1:]))
+        own = [bucket_of(self.table.grid, p) for p in pair[2:]]
+        busy = self.busy(own, touched(self.table.grid, self.table.points, *pair[1:]))
         if busy:
             return busy
         number, reply = self.table.commit(self.first, pair)
@@ -269,7 +270,8 @@ def beside_scene(grid, points, count, lists):
 
 
 def drawn_lists(seed, workers, length, box, moves=False):
-    """A list of edits for each worker, over points of its own in a small box at the corner of eight buckets; half of them moves, if asked."""
+    """A list of edits for each worker, over points of its own in a small box at the corner of eight buckets; half of them
+    moves, if asked."""
     draw = random.Random(seed)
     low, side = box
     points = draw.sample([(low + x, low + y, low + z) for x in range(side) for y in range(side) for z in range(side)], 3 * workers)
@@ -334,20 +336,25 @@ def all_scenes():
         [move(3, (9000, 9000, 9000), (200, 200, 200)), move(4, (100, 100, 100), (5000, 5000, 5000)), 'shot'])
     there = (16005, 16005, 16005)
     yield 'a move into a bucket of a kept pass, and again when that one has ended', kept_scene(
-        2, SIXTEEN, 1, 'Ready', add(0, AWAY), [move(1, SIXTEEN[0], there), 'look'], [move(1, SIXTEEN[0], there), 'shot'])
+        2, SIXTEEN, 1, 'Ready', add(0, AWAY), [move(1, SIXTEEN[0], there), 'look'],
+        [move(1, SIXTEEN[0], there), 'shot'])
     yield 'a move out of a bucket of a kept pass, and again when that one has ended', kept_scene(
-        2, SIXTEEN, 0, 'Ready', add(0, NEAR), [move(1, SIXTEEN[0], there)], [move(1, SIXTEEN[0], there), move(2, there, SIXTEEN[0])])
+        2, SIXTEEN, 0, 'Ready', add(0, NEAR), [move(1, SIXTEEN[0], there)],
+        [move(1, SIXTEEN[0], there), move(2, there, SIXTEEN[0])])
     yield 'a move within a bucket beside a kept pass, and moves that change nothing', kept_scene(
-        2, SIXTEEN, 0, 'Ready', add(0, NEAR), [move(1, FAR[7], AWAY), move(2, FAR[7], AWAY), move(3, AWAY, FAR[0]), move(4, NEAR, AWAY)],
+        2, SIXTEEN, 0, 'Ready', add(0, NEAR),
+        [move(1, FAR[7], AWAY), move(2, FAR[7], AWAY), move(3, AWAY, FAR[0]), move(4, NEAR, AWAY)],
         [move(5, NEAR, BESIDE), 'shot'])
     yield 'a move kept at Ready: edits of both its buckets meet it', kept_scene(
-        2, SIXTEEN, 1, 'Ready', move(0, SIXTEEN[7], there), [add(1, NEAR), add(2, AWAY), 'shot', 'look'], [add(1, NEAR), add(2, AWAY), 'shot'])
+        2, SIXTEEN, 1, 'Ready', move(0, SIXTEEN[7], there), [add(1, NEAR), add(2, AWAY), 'shot', 'look'],
+        [add(1, NEAR), add(2, AWAY), 'shot'])
     yield 'a kept move that the ticket tells of', kept_scene(
-        2, SIXTEEN, 0, 'Committed', move(0, SIXTEEN[7], BESIDE), ['look', add(1, NEAR), move(2, FAR[0], AWAY)], [add(1, NEAR), 'shot'])
+        2, SIXTEEN, 0, 'Committed', move(0, SIXTEEN[7], BESIDE), ['look', add(1, NEAR), move(2, FAR[0], AWAY)],
+        [add(1, NEAR), 'shot'])
     yield 'what shares a point with a pair left over is left over too, whichever of them moves', kept_scene(
         2, SIXTEEN, 1, 'Ready', add(0, NEAR),
-        ['work', add(20, BESIDE), move(21, AWAY, BESIDE), add(22, AWAY), move(23, FAR[7], there), move(24, there, AWAY), take(25, there),
-         take(26, FAR[6])], [])
+        ['work', add(20, BESIDE), move(21, AWAY, BESIDE), add(22, AWAY), move(23, FAR[7], there), move(24, there, AWAY),
+         take(25, there), take(26, FAR[6])], [])
     yield 'two workers that see each other at Ready', meet_scene(2, SIXTEEN, add(16, NEAR), add(17, AWAY))
     edits = [(True, (1, 1, 1)), (False, (1, 1, 1)), (True, (5, 5, 5)), (True, (0, 0, 7)), (False, (0, 0, 2))]
     for workers in (1, 2, 3, 64):
@@ -372,7 +379,7 @@ def all_scenes():
         grid = (1, 2, 4, 8, 16, 2)[seed - 1]
         yield 'four writers where buckets meet, and a reader beside them', beside_scene(
             grid, box, 8, drawn_lists(seed, 4, 10, (8189, 8)))
-    for seed in range(7, 11):
+    for seed in range(7, 10):
         yield 'four writers that move points where buckets meet, and a reader beside them', beside_scene(
             2 ** (seed - 6), box, 8, drawn_lists(seed, 4, 10, (8189, 8), moves=True))
 
