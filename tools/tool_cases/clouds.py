@@ -291,8 +291,8 @@ def placings(work):
            [str(pair['line']) for pair in kept['radii']] == lines[lines.index('radii') + 1:-2])
     status, out, err = xyz('0 0 0\n1 2 3\n', '--scale', '10', '--origin', '-1', '0', '0')
     expect('a placing that is given', grid_of(out) == ['10 0 0', '20 20 30'])
-    for lengths, title, squares in ((('.5',), 'mesh3 1', ['25']), (('.05',), 'mesh3 3', ['4']), (('.5', '.05'), 'mesh3 3', ['400', '4']),
-                                    (('.03',), 'mesh3 3', ['1']), ((), 'mesh3 1', [])):
+    for lengths, title, squares in ((('.5',), 'mesh3 1', ['25']), (('.05',), 'mesh3 3', ['4']), ((), 'mesh3 1', []),
+                                    (('.5', '.05'), 'mesh3 3', ['400', '4']), (('.03',), 'mesh3 3', ['1'])):
         words = [word for length in lengths for word in ('--radius', length)]
         lines = xyz('0 0 0\n1 2 3\n', '--scale', '10', '--origin', '0', '0', '0', *words)[1].decode().split('\n')
         expect(f'radii {lengths}: {lines}', lines[0] == title and lines[lines.index('radii') + 1:-2] == squares)
