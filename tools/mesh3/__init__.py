@@ -75,8 +75,10 @@ def read_bytes(name):
 
 
 def write_edit_file(file, points, radii=(), version=1):
-    """An edit file of whole points, shape (n, 3), to a file that takes text. Its radii are squared, in the square of the
-    grid's unit, and from version 3 on in sixteenths of it."""
+    """An edit file of whole points, shape (n, 3), to a file that takes text.
+
+    Its radii are squared, in the square of the grid's unit, and from version 3 on in sixteenths of it.
+    """
     file.write(f'mesh3 {version}\npoints\n')
     for start in range(0, len(points), 65536):
         rows = points[start:start + 65536].tolist()
