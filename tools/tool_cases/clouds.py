@@ -1,4 +1,5 @@
 """Cases of tools/points: files that libraries of others wrote, texts that are read, texts that are refused."""
+import csv
 import json
 import os
 
@@ -98,6 +99,19 @@ def texts_refused():
     bad_text('a header that names an axis twice', 'x,y,z,x\n1,2,3,4\n', said='--columns')
     bad_text('a column that is not there', '1 2 3\n', '--columns', '2', '3', '4', said='--columns 4')
     bad_text('a file that is no text', '1 2 3\n\0\n', said='--format')
+
+
+def by_csv(work):
+    """Tables as Python's csv writes them, with the words of a header and all words quoted, or none."""
+    for name, words in (('excel.csv', {}), ('quoted.csv', {'quoting': csv.QUOTE_ALL}),
+                        ('tabs.tsv', {'dialect': 'excel-tab'}), ('european.csv', {'delimiter': ';'})):
+        name = os.path.join(work, name)
+        with open(name, 'w', encoding='ascii', newline='') as file:
+            writer = csv.writer(file, **words)
+            writer.writerow(['name', 'x', 'y', 'z'])
+            writer.writerows([f'p{i}', *point] for i, point in enumerate(POINTS))
+        taken(f'csv: {name}', name)
+        refused(f'csv: no such column, {name}', 'points', name, '--columns', 'x', 'y', 'w', said='--columns w')
 
 
 def by_numpy(work, np):
@@ -314,6 +328,7 @@ def run(work):
     import numpy as np
     texts()
     texts_refused()
+    by_csv(work)
     by_numpy(work, np)
     by_meshio(work, np)
     by_open3d(work, np)
