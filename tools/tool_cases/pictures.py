@@ -31,6 +31,8 @@ def pictures(work):
     expect(f'faces with their kinds: {err}', status == 0 and share_of(name, BLUE) > 0.1)
     status, out, err = tool('draw', CUBE, name, '--what', 'hull')
     expect(f'the hull: {err}', status == 0 and share_of(name, BLUE) > 0.1)
+    status, out, err = tool('draw', CUBE, name, '--what', 'points')
+    expect(f'the points alone: {err}', status == 0 and share_of(name, BLUE) < 0.01)
     for suffix, mark in (('svg', b'<svg'), ('pdf', b'%PDF')):
         name = os.path.join(work, f'one.{suffix}')
         status, out, err = tool('draw', CUBE, name, '--radius', '3')
