@@ -13,7 +13,7 @@ With --radii every file has many radii, 0, the greatest and equal ones among the
 of a lattice, a sphere, a prism or a plane with few points beside it, and most edits take one. Then each is run with
 one worker and with one choice of more: what is compared most is the shapes, or what a take leaves. With --points a
 file has points alone, some of them twice. With --moves it is of a version with moves, and most edits move a point;
-its radii count sixteenths from version 3 on, and in version 4 it has queries, which are read and not used.
+its radii count sixteenths from version 3 on.
 
 usage: tools/try random [--radii | --takes | --points | --moves] [FILES] [SEED]   (200 1)
 """
@@ -321,7 +321,7 @@ def drawn_file():
 
 def with_many_radii(points, edits, radii):
     """The file with up to 16 radii, as many as a file may have: those of small faces of its points, and those at the ends of the range."""
-    near = [dot(minus(a, b), minus(a, b)) // random.choice([2, 3, 4]) + random.randrange(2) for a, b in zip(points, points[1:])]
+    near = [dot(minus(a, b), minus(a, b)) // random.choice([2, 3]) + random.randrange(2) for a, b in zip(points, points[1:])]
     radii = radii + near + [random.randrange(2 * max(near) + 2) for _ in range(3)]
     radii = [min(radius, 1073741823) for radius in radii] + [0, 1073741823]
     radii += [random.choice(radii), random.choice(radii)]
@@ -391,7 +391,7 @@ def edit_line(edit):
 
 
 def file_of_moves():
-    """A file of version 2, 3 or 4 whose edits move points by small steps, to places that are taken and from places that are empty too,
+    """A file of version 2 or 3 whose edits move points by small steps, to places that are taken and from places that are empty too,
     among adds and takes of the same few places; its points have many ties."""
     kind = random.choice([lattice_points, sphere_points, prism_points, nearly_flat_points, None])
     side = random.choice([2, 3, 5, 16384])
@@ -409,9 +409,9 @@ def file_of_moves():
     if random.random() < 0.5 and is_solid(points):
         four = [points[i] for i in opening_four(points)]
         edits = [edit for edit in edits if edit[0] or edit[1] not in four]
-    version = random.choice([2, 3, 4])
+    version = random.choice([2, 3])
     radii = [random.randrange(40 * (16 if version > 2 else 1)) for _ in range(random.randrange(3))]
-    return points, edits, radii, version, [random.choice(whole) for _ in range(random.randrange(3) if version > 3 else 0)]
+    return points, edits, radii, version
 
 
 def text_of(points, edits, radii, version=1, queries=()):

@@ -12,6 +12,8 @@ from plain import file_cases as files
 from plain import random_cases as plain
 
 PAGE, LIMIT = 4096, 16_777_216
+# The newest version of edit files that the program takes.
+NEWEST = 3
 LINES = {0: '', 2: 'usage', 3: 'read fault', 4: 'write fault', 6: 'no four independent points', 7: 'input too long'}
 FOUR = [(0, 0, 0), (2, 0, 0), (0, 2, 0), (0, 0, 2)]
 TETRAHEDRON = plain.text_of(FOUR, [], [])
@@ -70,7 +72,7 @@ def outcome(words, text, source, output, kept, written=None):
             return 3, '', ''
         if len(text) > LIMIT:
             return 7, '', ''
-        file = files.read(text)
+        file = files.read(text, NEWEST)
         if not isinstance(file, files.File):
             return 5, f'line {file[0]}: {file[1]}', ''
         points, edits = file.points, [edit_of(*edit) for edit in file.edits]
@@ -136,9 +138,10 @@ def all_cases():
              (True, (0, 0, 0))]
     yield 'moves out of a corner, with each of their replies', case(
         'mesh --order', plain.text_of(FOUR, moves, [], 2), kept=OF_FOUR + ' 4:0 5:0 6:0 7:0 8:0')
-    yield 'radii in sixteenths, and queries that are not used', case(
-        'shape', plain.text_of([(0, 0, 0), (1, 0, 0), (0, 1, 0), (0, 0, 1)], [], [3, 4, 8, 11, 12], 4, [(1, 1, 1)]), kept=OF_FOUR)
+    yield 'radii in sixteenths', case(
+        'shape', plain.text_of([(0, 0, 0), (1, 0, 0), (0, 1, 0), (0, 0, 1)], [], [3, 4, 8, 11, 12], 3), kept=OF_FOUR)
     yield 'a version that is none', case('mesh', 'mesh3 5\npoints\n')
+    yield 'a version that no command is for', case('mesh', 'mesh3 4\npoints\n')
     yield 'points in a plane', case('mesh', plain.text_of([(0, 0, 0), (2, 0, 0), (0, 2, 0), (2, 2, 0), (1, 1, 0)], [], []))
     corners = 'mesh3 1\npoints\n0 0 0\n16383 0 0\n0 16383 0\n0 0 16383\nedits\n'
     drawn = corners + '+ 8419 2879 5056\nradii\n16384\n262144\n4194304\nend\n'

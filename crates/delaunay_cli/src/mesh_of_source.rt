@@ -16,7 +16,7 @@ use crate::stop::Stop;
 use crate::task::{Asked, Making};
 use crate::telling::fault_line;
 use byte_ends::{Reached, Source, read_to_limit};
-use edit_files::{ReadRefused, read_file};
+use edit_files::{ReadRefused, Version, read_file_up_to};
 use edit_history::Entry;
 use grid_claims::Gate;
 use std::alloc::Global;
@@ -41,7 +41,7 @@ fn judge<R: Threads + Sync, G: Gate + Sync>(
     ensures ready { IfOk result (λ made. IsReady made.1) }
     ensures stop { IfErr result (HasNoMesh (Some bytes.now) ⊥) }
 {
-    match read_file(alloc, bytes) {
+    match read_file_up_to(alloc, bytes, Version::Three) {
         Ok(file) => {
             let (kept, parts) = history_and_parts(rt, alloc, &file, making, asked, gate)?;
             Ok((kept, parts))
