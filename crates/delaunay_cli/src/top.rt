@@ -71,7 +71,7 @@ pub fn run<R: Threads + Sync, S: Source, O: Sink, E: Sink, G: Gate + Sync>(
         → IfSome (S.left src.old) (λ bytes. (file : Content) → IsFile file_limits bytes file
         → result.kept.items ≡ history_of file) }
     ensures dealt { ReadsFile words.now → HasText result.status
-        → IfSome (S.left src.old) (λ bytes. (file : Content) → IsFile line_limit bytes file
+        → IfSome (S.left src.old) (λ bytes. (file : Content) → IsFile file_limits bytes file
         → AreDealt (worker_count words.now) result.kept.items) }
     ensures written { WritesReport words.now → result.status ≡ 0
         → IfSome (S.left src.old) (λ bytes. Writes (asks_shape words.now) (asks_order words.now) bytes
