@@ -16,127 +16,105 @@ use point_order::Point;
 use text_sheets::{Indices, Sheet, put_indices, put_number, put_title};
 
 // Puts a threshold.
-fn put_threshold<O: Sink>(sheet: &mut Sheet, out: &mut O, threshold: Threshold)
-    ensures { Puts (O.holds out.old) (O.holds out.new) (O.faults out.old) (O.faults out.new) sheet.old sheet.new
-        (threshold_word threshold) }
+fn put_threshold<O: Sink>(sheet: &mut Sheet<O>, threshold: Threshold)
+    ensures { Puts O.holds O.faults sheet.old sheet.new (threshold_word threshold) }
 {
     match threshold {
-        Threshold::At(alpha) => put_number(sheet, out, alpha),
-        Threshold::Never => sheet.put(out, b"none"),
+        Threshold::At(alpha) => put_number(sheet, alpha),
+        Threshold::Never => sheet.put(b"none"),
     }
 }
 
 // Puts the line of a face.
 fn put_step<O: Sink>(
-    sheet: &mut Sheet,
-    out: &mut O,
+    sheet: &mut Sheet<O>,
     indices: &Indices,
     corners: &[Point],
     threshold: Threshold,
 )
-    ensures { Puts (O.holds out.old) (O.holds out.new) (O.faults out.old) (O.faults out.new) sheet.old sheet.new
-        (step_line indices.now (corners.now, threshold)) }
+    ensures { Puts O.holds O.faults sheet.old sheet.new (step_line indices.now (corners.now, threshold)) }
 {
-    put_indices(sheet, out, indices, corners);
-    put_threshold(sheet, out, threshold);
-    sheet.put(out, b"\n");
+    put_indices(sheet, indices, corners);
+    put_threshold(sheet, threshold);
+    sheet.put(b"\n");
 }
 
 // Puts the line of the pair of an index.
-fn put_pair<O: Sink>(
-    sheet: &mut Sheet,
-    out: &mut O,
-    indices: &Indices,
-    list: &Thresholds,
-    index: usize,
-)
+fn put_pair<O: Sink>(sheet: &mut Sheet<O>, indices: &Indices, list: &Thresholds, index: usize)
     requires { index < length list.now.pairs }
-    ensures { Puts (O.holds out.old) (O.holds out.new) (O.faults out.old) (O.faults out.new) sheet.old sheet.new
+    ensures { Puts O.holds O.faults sheet.old sheet.new
         (step_line indices.now (slice_index_or list.now.pairs index ([], Never))) }
 {
     let (pair, threshold) = list.pair(index);
-    put_step(sheet, out, indices, pair.points(), threshold);
+    put_step(sheet, indices, pair.points(), threshold);
 }
 
 // Puts the block of the pairs.
-fn put_pairs<O: Sink>(sheet: &mut Sheet, out: &mut O, indices: &Indices, list: &Thresholds)
-    ensures { Puts (O.holds out.old) (O.holds out.new) (O.faults out.old) (O.faults out.new) sheet.old sheet.new
+fn put_pairs<O: Sink>(sheet: &mut Sheet<O>, indices: &Indices, list: &Thresholds)
+    ensures { Puts O.holds O.faults sheet.old sheet.new
         (block (codes "edges") (map (step_line indices.now) list.now.pairs)) }
 {
-    put_title(sheet, out, b"edges", list.pair_count());
+    put_title(sheet, b"edges", list.pair_count());
     for index in 0..list.pair_count() {
-        put_pair(sheet, out, indices, list, index);
+        put_pair(sheet, indices, list, index);
     }
 }
 
 // Puts the line of the triple of an index.
-fn put_triple<O: Sink>(
-    sheet: &mut Sheet,
-    out: &mut O,
-    indices: &Indices,
-    list: &Thresholds,
-    index: usize,
-)
+fn put_triple<O: Sink>(sheet: &mut Sheet<O>, indices: &Indices, list: &Thresholds, index: usize)
     requires { index < length list.now.triples }
-    ensures { Puts (O.holds out.old) (O.holds out.new) (O.faults out.old) (O.faults out.new) sheet.old sheet.new
+    ensures { Puts O.holds O.faults sheet.old sheet.new
         (step_line indices.now (slice_index_or list.now.triples index ([], Never))) }
 {
     let (triple, threshold) = list.triple(index);
-    put_step(sheet, out, indices, triple.points(), threshold);
+    put_step(sheet, indices, triple.points(), threshold);
 }
 
 // Puts the block of the triples.
-fn put_triples<O: Sink>(sheet: &mut Sheet, out: &mut O, indices: &Indices, list: &Thresholds)
-    ensures { Puts (O.holds out.old) (O.holds out.new) (O.faults out.old) (O.faults out.new) sheet.old sheet.new
+fn put_triples<O: Sink>(sheet: &mut Sheet<O>, indices: &Indices, list: &Thresholds)
+    ensures { Puts O.holds O.faults sheet.old sheet.new
         (block (codes "triangles") (map (step_line indices.now) list.now.triples)) }
 {
-    put_title(sheet, out, b"triangles", list.triple_count());
+    put_title(sheet, b"triangles", list.triple_count());
     for index in 0..list.triple_count() {
-        put_triple(sheet, out, indices, list, index);
+        put_triple(sheet, indices, list, index);
     }
 }
 
 // Puts the line of the cell of an index, where it is Full.
-fn put_cell<O: Sink>(
-    sheet: &mut Sheet,
-    out: &mut O,
-    indices: &Indices,
-    list: &Thresholds,
-    index: usize,
-)
+fn put_cell<O: Sink>(sheet: &mut Sheet<O>, indices: &Indices, list: &Thresholds, index: usize)
     requires { index < length list.now.cells }
-    ensures { Puts (O.holds out.old) (O.holds out.new) (O.faults out.old) (O.faults out.new) sheet.old sheet.new
+    ensures { Puts O.holds O.faults sheet.old sheet.new
         (held_line (step_line indices.now) (slice_index_or list.now.cells index None)) }
 {
     match list.cell(index) {
-        Some((quad, threshold)) => put_step(sheet, out, indices, quad.points(), threshold),
+        Some((quad, threshold)) => put_step(sheet, indices, quad.points(), threshold),
         None => {}
     }
 }
 
 // Puts the block of the Full cells.
-fn put_cells<O: Sink>(sheet: &mut Sheet, out: &mut O, indices: &Indices, list: &Thresholds)
-    ensures { Puts (O.holds out.old) (O.holds out.new) (O.faults out.old) (O.faults out.new) sheet.old sheet.new
+fn put_cells<O: Sink>(sheet: &mut Sheet<O>, indices: &Indices, list: &Thresholds)
+    ensures { Puts O.holds O.faults sheet.old sheet.new
         (block (codes "cells") (map (step_line indices.now) (held list.now.cells))) }
 {
-    put_title(sheet, out, b"cells", list.cell_count());
+    put_title(sheet, b"cells", list.cell_count());
     for index in 0..list.cell_slots() {
-        put_cell(sheet, out, indices, list, index);
+        put_cell(sheet, indices, list, index);
     }
 }
 
 // Puts the whole text.
-fn put_all<O: Sink>(sheet: &mut Sheet, out: &mut O, list: &Thresholds)
+fn put_all<O: Sink>(sheet: &mut Sheet<O>, list: &Thresholds)
     requires { IsAscending list.now.points }
-    ensures { Puts (O.holds out.old) (O.holds out.new) (O.faults out.old) (O.faults out.new) sheet.old sheet.new
-        (steps_text list.now) }
+    ensures { Puts O.holds O.faults sheet.old sheet.new (steps_text list.now) }
 {
-    sheet.put(out, b"mesh3-steps 1\n");
+    sheet.put(b"mesh3-steps 1\n");
     let indices = Indices::new(list.points());
-    put_pairs(sheet, out, &indices, list);
-    put_triples(sheet, out, &indices, list);
-    put_cells(sheet, out, &indices, list);
-    sheet.put(out, b"end\n");
+    put_pairs(sheet, &indices, list);
+    put_triples(sheet, &indices, list);
+    put_cells(sheet, &indices, list);
+    sheet.put(b"end\n");
 }
 
 /// Writes the text of the thresholds. It takes no memory.
@@ -151,7 +129,7 @@ pub fn put_steps<O: Sink>(out: &mut O, list: &Thresholds) -> Result<(), Failed>
     ensures cause { HasCause (O.faults out.old) (O.faults out.new) result }
     ensures done { (Rose (O.faults out.old) (O.faults out.new) → ⊥) → IsOk result }
 {
-    let mut sheet = Sheet::new();
-    put_all(&mut sheet, out, list);
-    sheet.close(out)
+    let mut sheet = Sheet::new(out);
+    put_all(&mut sheet, list);
+    sheet.close()
 }

@@ -16,51 +16,41 @@ use std::alloc::{AllocError, Global};
 use text_sheets::{Indices, Sheet, WholeText, put_three};
 
 // Puts the lines of the points.
-fn put_vertices<O: Sink>(sheet: &mut Sheet, out: &mut O, points: &[Point])
-    ensures { Puts (O.holds out.old) (O.holds out.new) (O.faults out.old) (O.faults out.new) sheet.old sheet.new
-        (concat (map point_line points.now)) }
+fn put_vertices<O: Sink>(sheet: &mut Sheet<O>, points: &[Point])
+    ensures { Puts O.holds O.faults sheet.old sheet.new (concat (map point_line points.now)) }
 {
     for point in points {
-        put_point(sheet, out, *point);
+        put_point(sheet, *point);
     }
 }
 
 // Puts the line of a triangle.
-fn put_face<O: Sink>(sheet: &mut Sheet, out: &mut O, indices: &Indices, face: &[Point; 3])
-    ensures { Puts (O.holds out.old) (O.holds out.new) (O.faults out.old) (O.faults out.new) sheet.old sheet.new
-        (off_line indices.now face.now) }
+fn put_face<O: Sink>(sheet: &mut Sheet<O>, indices: &Indices, face: &[Point; 3])
+    ensures { Puts O.holds O.faults sheet.old sheet.new (off_line indices.now face.now) }
 {
     let [a, b, c] = *face;
-    sheet.put(out, b"3 ");
-    put_three(
-        sheet,
-        out,
-        indices.index(a),
-        indices.index(b),
-        indices.index(c),
-    );
+    sheet.put(b"3 ");
+    put_three(sheet, indices.index(a), indices.index(b), indices.index(c));
 }
 
 // Puts the lines of the triangles.
-fn put_faces<O: Sink>(sheet: &mut Sheet, out: &mut O, indices: &Indices, faces: &[[Point; 3]])
-    ensures { Puts (O.holds out.old) (O.holds out.new) (O.faults out.old) (O.faults out.new) sheet.old sheet.new
-        (concat (map (off_line indices.now) faces.now)) }
+fn put_faces<O: Sink>(sheet: &mut Sheet<O>, indices: &Indices, faces: &[[Point; 3]])
+    ensures { Puts O.holds O.faults sheet.old sheet.new (concat (map (off_line indices.now) faces.now)) }
 {
     for face in faces {
-        put_face(sheet, out, indices, face);
+        put_face(sheet, indices, face);
     }
 }
 
 // Puts the whole text.
-fn put_all<O: Sink>(sheet: &mut Sheet, out: &mut O, points: &[Point], faces: &[[Point; 3]])
+fn put_all<O: Sink>(sheet: &mut Sheet<O>, points: &[Point], faces: &[[Point; 3]])
     requires { IsAscending points.now }
-    ensures { Puts (O.holds out.old) (O.holds out.new) (O.faults out.old) (O.faults out.new) sheet.old sheet.new
-        (off_text_of points.now faces.now) }
+    ensures { Puts O.holds O.faults sheet.old sheet.new (off_text_of points.now faces.now) }
 {
-    sheet.put(out, b"OFF\n");
-    put_three(sheet, out, points.len() as u64, faces.len() as u64, 0);
-    put_vertices(sheet, out, points);
-    put_faces(sheet, out, &Indices::new(points), faces);
+    sheet.put(b"OFF\n");
+    put_three(sheet, points.len() as u64, faces.len() as u64, 0);
+    put_vertices(sheet, points);
+    put_faces(sheet, &Indices::new(points), faces);
 }
 
 /// Writes points and triangles as OFF: how many there are, each point by its coordinates, and each triangle by the
@@ -76,9 +66,9 @@ pub fn put_off<O: Sink>(out: &mut O, points: &[Point], faces: &[[Point; 3]]) -> 
     ensures cause { HasCause (O.faults out.old) (O.faults out.new) result }
     ensures done { (Rose (O.faults out.old) (O.faults out.new) → ⊥) → IsOk result }
 {
-    let mut sheet = Sheet::new();
-    put_all(&mut sheet, out, points, faces);
-    sheet.close(out)
+    let mut sheet = Sheet::new(out);
+    put_all(&mut sheet, points, faces);
+    sheet.close()
 }
 
 /// The text that `put_off` writes of points and triangles.

@@ -49,12 +49,11 @@ pub struct Report<'a, 'b> {
 }
 
 // Puts the line of a reply.
-fn put_reply<O: Sink>(sheet: &mut Sheet, out: &mut O, reply: Reply)
-    ensures { Puts (O.holds out.old) (O.holds out.new) (O.faults out.old) (O.faults out.new) sheet.old sheet.new
-        (reply_line reply) }
+fn put_reply<O: Sink>(sheet: &mut Sheet<O>, reply: Reply)
+    ensures { Puts O.holds O.faults sheet.old sheet.new (reply_line reply) }
 {
-    sheet.put(out, word_of(reply).as_bytes());
-    sheet.put(out, b"\n");
+    sheet.put(word_of(reply).as_bytes());
+    sheet.put(b"\n");
 }
 
 pub(crate) fn word_of(reply: Reply) -> &'static str
@@ -72,38 +71,29 @@ pub(crate) fn word_of(reply: Reply) -> &'static str
 }
 
 // Puts the block of the replies.
-fn put_replies<O: Sink>(sheet: &mut Sheet, out: &mut O, replies: &[Reply])
-    ensures { Puts (O.holds out.old) (O.holds out.new) (O.faults out.old) (O.faults out.new) sheet.old sheet.new
-        (block (codes "replies") (map reply_line replies.now)) }
+fn put_replies<O: Sink>(sheet: &mut Sheet<O>, replies: &[Reply])
+    ensures { Puts O.holds O.faults sheet.old sheet.new (block (codes "replies") (map reply_line replies.now)) }
 {
-    put_title(sheet, out, b"replies", replies.len());
+    put_title(sheet, b"replies", replies.len());
     for reply in replies {
-        put_reply(sheet, out, *reply);
+        put_reply(sheet, *reply);
     }
 }
 
 // Puts the line of a point.
-pub(crate) fn put_point<O: Sink>(sheet: &mut Sheet, out: &mut O, point: Point)
-    ensures { Puts (O.holds out.old) (O.holds out.new) (O.faults out.old) (O.faults out.new) sheet.old sheet.new
-        (point_line point) }
+pub(crate) fn put_point<O: Sink>(sheet: &mut Sheet<O>, point: Point)
+    ensures { Puts O.holds O.faults sheet.old sheet.new (point_line point) }
 {
-    put_three(
-        sheet,
-        out,
-        point.x() as u64,
-        point.y() as u64,
-        point.z() as u64,
-    );
+    put_three(sheet, point.x() as u64, point.y() as u64, point.z() as u64);
 }
 
 // Puts the block of the points.
-fn put_points<O: Sink>(sheet: &mut Sheet, out: &mut O, points: &[Point])
-    ensures { Puts (O.holds out.old) (O.holds out.new) (O.faults out.old) (O.faults out.new) sheet.old sheet.new
-        (block (codes "points") (map point_line points.now)) }
+fn put_points<O: Sink>(sheet: &mut Sheet<O>, points: &[Point])
+    ensures { Puts O.holds O.faults sheet.old sheet.new (block (codes "points") (map point_line points.now)) }
 {
-    put_title(sheet, out, b"points", points.len());
+    put_title(sheet, b"points", points.len());
     for point in points {
-        put_point(sheet, out, *point);
+        put_point(sheet, *point);
     }
 }
 
@@ -134,89 +124,85 @@ pub(crate) fn hull_count(cells: &[Cell]) -> usize
 }
 
 // Puts the block of the Full cells.
-fn put_cells<O: Sink>(sheet: &mut Sheet, out: &mut O, indices: &Indices, cells: &[Cell])
-    ensures { Puts (O.holds out.old) (O.holds out.new) (O.faults out.old) (O.faults out.new) sheet.old sheet.new
+fn put_cells<O: Sink>(sheet: &mut Sheet<O>, indices: &Indices, cells: &[Cell])
+    ensures { Puts O.holds O.faults sheet.old sheet.new
         (block (codes "cells") (map (indices_line indices.now) (full_corners cells.now))) }
 {
-    put_title(sheet, out, b"cells", full_count(cells));
+    put_title(sheet, b"cells", full_count(cells));
     for cell in cells {
         match *cell {
-            Cell::Full(quad) => put_full_line(sheet, out, indices, quad),
+            Cell::Full(quad) => put_full_line(sheet, indices, quad),
             Cell::Open(_) => {}
         }
     }
 }
 
 // Puts the block of the Open cells.
-fn put_hull<O: Sink>(sheet: &mut Sheet, out: &mut O, indices: &Indices, cells: &[Cell])
-    ensures { Puts (O.holds out.old) (O.holds out.new) (O.faults out.old) (O.faults out.new) sheet.old sheet.new
+fn put_hull<O: Sink>(sheet: &mut Sheet<O>, indices: &Indices, cells: &[Cell])
+    ensures { Puts O.holds O.faults sheet.old sheet.new
         (block (codes "hull") (map (indices_line indices.now) (hull_corners cells.now))) }
 {
-    put_title(sheet, out, b"hull", hull_count(cells));
+    put_title(sheet, b"hull", hull_count(cells));
     for cell in cells {
         match *cell {
-            Cell::Open(tri) => put_hull_line(sheet, out, indices, tri),
+            Cell::Open(tri) => put_hull_line(sheet, indices, tri),
             Cell::Full(_) => {}
         }
     }
 }
 
 // Puts the line of a tag.
-fn put_tag<O: Sink>(sheet: &mut Sheet, out: &mut O, tag: u32)
-    ensures { Puts (O.holds out.old) (O.holds out.new) (O.faults out.old) (O.faults out.new) sheet.old sheet.new
-        (tag_line tag) }
+fn put_tag<O: Sink>(sheet: &mut Sheet<O>, tag: u32)
+    ensures { Puts O.holds O.faults sheet.old sheet.new (tag_line tag) }
 {
-    put_number_and(sheet, out, u64::from(tag), b"\n");
+    put_number_and(sheet, u64::from(tag), b"\n");
 }
 
 // Puts the block of the tags.
-fn put_tags<O: Sink>(sheet: &mut Sheet, out: &mut O, tags: &[u32])
-    ensures { Puts (O.holds out.old) (O.holds out.new) (O.faults out.old) (O.faults out.new) sheet.old sheet.new
-        (block (codes "order") (map tag_line tags.now)) }
+fn put_tags<O: Sink>(sheet: &mut Sheet<O>, tags: &[u32])
+    ensures { Puts O.holds O.faults sheet.old sheet.new (block (codes "order") (map tag_line tags.now)) }
 {
-    put_title(sheet, out, b"order", tags.len());
+    put_title(sheet, b"order", tags.len());
     for tag in tags {
-        put_tag(sheet, out, *tag);
+        put_tag(sheet, *tag);
     }
 }
 
 // Puts the block of the tags, where there are any.
-fn put_order<O: Sink>(sheet: &mut Sheet, out: &mut O, order: &Option<Vec<u32>>)
-    ensures { Puts (O.holds out.old) (O.holds out.new) (O.faults out.old) (O.faults out.new) sheet.old sheet.new
+fn put_order<O: Sink>(sheet: &mut Sheet<O>, order: &Option<Vec<u32>>)
+    ensures { Puts O.holds O.faults sheet.old sheet.new
         (order_block (option_map (λ (tags : Vec ℕ Global). tags.items) order.now)) }
 {
     match order {
-        Some(tags) => put_tags(sheet, out, tags),
+        Some(tags) => put_tags(sheet, tags),
         None => {}
     }
 }
 
 // Puts what the report tells of the mesh: its replies, points, cells and hull.
-fn put_mesh<O: Sink>(sheet: &mut Sheet, out: &mut O, report: &Report)
+fn put_mesh<O: Sink>(sheet: &mut Sheet<O>, report: &Report)
     requires { IsAscending report.now.points.items }
-    ensures { Puts (O.holds out.old) (O.holds out.new) (O.faults out.old) (O.faults out.new) sheet.old sheet.new
-        (mesh_blocks (parts_of report.now)) }
+    ensures { Puts O.holds O.faults sheet.old sheet.new (mesh_blocks (parts_of report.now)) }
 {
     let points: &[Point] = &report.points;
     let indices = Indices::new(points);
-    put_replies(sheet, out, &report.replies);
-    put_points(sheet, out, points);
-    put_cells(sheet, out, &indices, report.cells);
-    put_hull(sheet, out, &indices, report.cells);
+    put_replies(sheet, &report.replies);
+    put_points(sheet, points);
+    put_cells(sheet, &indices, report.cells);
+    put_hull(sheet, &indices, report.cells);
 }
 
 // Puts the text of the report.
-fn put_all<O: Sink>(sheet: &mut Sheet, out: &mut O, report: &Report)
+fn put_all<O: Sink>(sheet: &mut Sheet<O>, report: &Report)
     requires points { IsAscending report.now.points.items }
     requires shapes { AreCounted (shapes_seen report.now.shapes.items) }
-    ensures { Puts (O.holds out.old) (O.holds out.new) (O.faults out.old) (O.faults out.new) sheet.old sheet.new
-        (report_text (parts_of report.now)) }
+    ensures { Puts O.holds O.faults sheet.old sheet.new (report_text (parts_of report.now)) }
 {
-    sheet.put(out, b"mesh3-out 1\n");
-    put_mesh(sheet, out, report);
-    put_shapes(sheet, out, &report.shapes);
-    put_order(sheet, out, &report.order);
-    sheet.put(out, b"end\n");
+    sheet.put(b"mesh3-out 1\n");
+    put_mesh(sheet, report);
+    put_shapes(sheet, &report.shapes);
+    put_order(sheet, &report.order);
+    sheet.put(b"end\n");
 }
 
 /// Writes the report: its replies, points, cells, hull, shapes and order, one block after another, each line with a
@@ -235,9 +221,9 @@ pub fn put_report<O: Sink>(out: &mut O, report: &Report) -> Result<(), Failed>
     ensures cause { HasCause (O.faults out.old) (O.faults out.new) result }
     ensures done { (Rose (O.faults out.old) (O.faults out.new) → ⊥) → IsOk result }
 {
-    let mut sheet = Sheet::new();
-    put_all(&mut sheet, out, report);
-    sheet.close(out)
+    let mut sheet = Sheet::new(out);
+    put_all(&mut sheet, report);
+    sheet.close()
 }
 
 /// The text that `put_report` writes of the report.

@@ -56,143 +56,126 @@ fn word_of(kind: Kind) -> &'static str
 }
 
 // Puts the line of a face.
-fn put_face<O: Sink>(
-    sheet: &mut Sheet,
-    out: &mut O,
-    indices: &Indices,
-    corners: &[Point],
-    kind: Kind,
-)
-    ensures { Puts (O.holds out.old) (O.holds out.new) (O.faults out.old) (O.faults out.new) sheet.old sheet.new
-        (face_line indices.now corners.now kind) }
+fn put_face<O: Sink>(sheet: &mut Sheet<O>, indices: &Indices, corners: &[Point], kind: Kind)
+    ensures { Puts O.holds O.faults sheet.old sheet.new (face_line indices.now corners.now kind) }
 {
-    put_indices(sheet, out, indices, corners);
-    sheet.put(out, word_of(kind).as_bytes());
-    sheet.put(out, b"\n");
+    put_indices(sheet, indices, corners);
+    sheet.put(word_of(kind).as_bytes());
+    sheet.put(b"\n");
 }
 
 // Puts the block of the points, which count themselves.
-fn put_points<O: Sink>(sheet: &mut Sheet, out: &mut O, indices: &Indices, shape: &Shape)
-    ensures { Puts (O.holds out.old) (O.holds out.new) (O.faults out.old) (O.faults out.new) sheet.old sheet.new
+fn put_points<O: Sink>(sheet: &mut Sheet<O>, indices: &Indices, shape: &Shape)
+    ensures { Puts O.holds O.faults sheet.old sheet.new
         (block (codes "points") (map (λ f. face_line indices.now (f.0 ∷ []) f.1) shape.now.points)) }
 {
     let count = shape.points().len();
-    put_title(sheet, out, b"points", count);
+    put_title(sheet, b"points", count);
     for index in 0..count {
         let (point, kind) = shape.point(index);
-        put_face(sheet, out, indices, &[point], kind);
+        put_face(sheet, indices, &[point], kind);
     }
 }
 
 // Puts the line of the pair of an index, where it is admitted.
-fn put_pair<O: Sink>(sheet: &mut Sheet, out: &mut O, indices: &Indices, shape: &Shape, index: usize)
+fn put_pair<O: Sink>(sheet: &mut Sheet<O>, indices: &Indices, shape: &Shape, index: usize)
     requires { index < length shape.now.pairs }
-    ensures { Puts (O.holds out.old) (O.holds out.new) (O.faults out.old) (O.faults out.new) sheet.old sheet.new
+    ensures { Puts O.holds O.faults sheet.old sheet.new
         (held_line (λ f. face_line indices.now f.0 f.1) (slice_index_or shape.now.pairs index None)) }
 {
     match shape.pair(index) {
-        Some((pair, kind)) => put_face(sheet, out, indices, pair.points(), kind),
+        Some((pair, kind)) => put_face(sheet, indices, pair.points(), kind),
         None => {}
     }
 }
 
 // Puts the block of the edges.
-fn put_pairs<O: Sink>(sheet: &mut Sheet, out: &mut O, indices: &Indices, shape: &Shape)
-    ensures { Puts (O.holds out.old) (O.holds out.new) (O.faults out.old) (O.faults out.new) sheet.old sheet.new
+fn put_pairs<O: Sink>(sheet: &mut Sheet<O>, indices: &Indices, shape: &Shape)
+    ensures { Puts O.holds O.faults sheet.old sheet.new
         (block (codes "edges") (map (λ f. face_line indices.now f.0 f.1) (held shape.now.pairs))) }
 {
-    put_title(sheet, out, b"edges", shape.pair_count());
+    put_title(sheet, b"edges", shape.pair_count());
     for index in 0..shape.pair_slots() {
-        put_pair(sheet, out, indices, shape, index);
+        put_pair(sheet, indices, shape, index);
     }
 }
 
 // Puts the line of the triple of an index, where it is admitted.
-fn put_triple<O: Sink>(
-    sheet: &mut Sheet,
-    out: &mut O,
-    indices: &Indices,
-    shape: &Shape,
-    index: usize,
-)
+fn put_triple<O: Sink>(sheet: &mut Sheet<O>, indices: &Indices, shape: &Shape, index: usize)
     requires { index < length shape.now.triples }
-    ensures { Puts (O.holds out.old) (O.holds out.new) (O.faults out.old) (O.faults out.new) sheet.old sheet.new
-        (held_line (λ f. face_line indices.now f.0 f.1)
+    ensures { Puts O.holds O.faults sheet.old sheet.new (held_line (λ f. face_line indices.now f.0 f.1)
         (slice_index_or shape.now.triples index None)) }
 {
     match shape.triple(index) {
-        Some((triple, kind)) => put_face(sheet, out, indices, triple.points(), kind),
+        Some((triple, kind)) => put_face(sheet, indices, triple.points(), kind),
         None => {}
     }
 }
 
 // Puts the block of the triangles.
-fn put_triples<O: Sink>(sheet: &mut Sheet, out: &mut O, indices: &Indices, shape: &Shape)
-    ensures { Puts (O.holds out.old) (O.holds out.new) (O.faults out.old) (O.faults out.new) sheet.old sheet.new
-        (block (codes "triangles")
+fn put_triples<O: Sink>(sheet: &mut Sheet<O>, indices: &Indices, shape: &Shape)
+    ensures { Puts O.holds O.faults sheet.old sheet.new (block (codes "triangles")
         (map (λ f. face_line indices.now f.0 f.1) (held shape.now.triples))) }
 {
-    put_title(sheet, out, b"triangles", shape.triple_count());
+    put_title(sheet, b"triangles", shape.triple_count());
     for index in 0..shape.triple_slots() {
-        put_triple(sheet, out, indices, shape, index);
+        put_triple(sheet, indices, shape, index);
     }
 }
 
 // Puts the line of the cell of an index, where it is admitted.
-fn put_cell<O: Sink>(sheet: &mut Sheet, out: &mut O, indices: &Indices, shape: &Shape, index: usize)
+fn put_cell<O: Sink>(sheet: &mut Sheet<O>, indices: &Indices, shape: &Shape, index: usize)
     requires { index < length shape.now.cells }
-    ensures { Puts (O.holds out.old) (O.holds out.new) (O.faults out.old) (O.faults out.new) sheet.old sheet.new
+    ensures { Puts O.holds O.faults sheet.old sheet.new
         (held_line (indices_line indices.now) (slice_index_or shape.now.cells index None)) }
 {
     match shape.cell(index) {
-        Some(quad) => put_full_line(sheet, out, indices, quad),
+        Some(quad) => put_full_line(sheet, indices, quad),
         None => {}
     }
 }
 
 // Puts the block of the cells.
-fn put_cells<O: Sink>(sheet: &mut Sheet, out: &mut O, indices: &Indices, shape: &Shape)
-    ensures { Puts (O.holds out.old) (O.holds out.new) (O.faults out.old) (O.faults out.new) sheet.old sheet.new
+fn put_cells<O: Sink>(sheet: &mut Sheet<O>, indices: &Indices, shape: &Shape)
+    ensures { Puts O.holds O.faults sheet.old sheet.new
         (block (codes "cells") (map (indices_line indices.now) (held shape.now.cells))) }
 {
-    put_title(sheet, out, b"cells", shape.cell_count());
+    put_title(sheet, b"cells", shape.cell_count());
     for index in 0..shape.cell_slots() {
-        put_cell(sheet, out, indices, shape, index);
+        put_cell(sheet, indices, shape, index);
     }
 }
 
 // Puts the faces of a shape, kind by kind.
-fn put_faces<O: Sink>(sheet: &mut Sheet, out: &mut O, shape: &Shape)
+fn put_faces<O: Sink>(sheet: &mut Sheet<O>, shape: &Shape)
     requires { IsAscending (counted (shape_seen shape.now)) }
-    ensures { Puts (O.holds out.old) (O.holds out.new) (O.faults out.old) (O.faults out.new) sheet.old sheet.new
+    ensures { Puts O.holds O.faults sheet.old sheet.new
         (face_blocks (counted (shape_seen shape.now)) (shape_seen shape.now)) }
 {
     let indices = Indices::new(shape.points());
-    put_points(sheet, out, &indices, shape);
-    put_pairs(sheet, out, &indices, shape);
-    put_triples(sheet, out, &indices, shape);
-    put_cells(sheet, out, &indices, shape);
+    put_points(sheet, &indices, shape);
+    put_pairs(sheet, &indices, shape);
+    put_triples(sheet, &indices, shape);
+    put_cells(sheet, &indices, shape);
 }
 
 // Puts the block of a radius.
-fn put_shape<O: Sink>(sheet: &mut Sheet, out: &mut O, radius: u64, shape: &Shape)
+fn put_shape<O: Sink>(sheet: &mut Sheet<O>, radius: u64, shape: &Shape)
     requires { IsAscending (counted (shape_seen shape.now)) }
-    ensures { Puts (O.holds out.old) (O.holds out.new) (O.faults out.old) (O.faults out.new) sheet.old sheet.new
-        (shape_text_of radius (shape_seen shape.now)) }
+    ensures { Puts O.holds O.faults sheet.old sheet.new (shape_text_of radius (shape_seen shape.now)) }
 {
-    sheet.put(out, b"shape ");
-    put_number_and(sheet, out, radius, b"\n");
-    put_faces(sheet, out, shape);
+    sheet.put(b"shape ");
+    put_number_and(sheet, radius, b"\n");
+    put_faces(sheet, shape);
 }
 
 // Puts one block for each radius.
-pub fn put_shapes<O: Sink>(sheet: &mut Sheet, out: &mut O, shapes: &[(u64, Shape)])
+pub fn put_shapes<O: Sink>(sheet: &mut Sheet<O>, shapes: &[(u64, Shape)])
     requires { AreCounted (shapes_seen shapes.now) }
-    ensures { Puts (O.holds out.old) (O.holds out.new) (O.faults out.old) (O.faults out.new) sheet.old sheet.new
-        (shape_blocks (shapes_seen shapes.now)) }
+    ensures { Puts O.holds O.faults sheet.old sheet.new (shape_blocks (shapes_seen shapes.now)) }
 {
     for (radius, shape) in shapes {
-        put_shape(sheet, out, *radius, shape);
+        put_shape(sheet, *radius, shape);
     }
 }
 
@@ -201,9 +184,9 @@ fn put_block<O: Sink>(out: &mut O, radius: u64, shape: &Shape) -> Result<(), Fai
     requires { IsAscending (counted (shape_seen shape.now)) }
     ensures { OnOk result (Appends (O.holds out.old) (O.holds out.new) (shape_text_of radius (shape_seen shape.now))) }
 {
-    let mut sheet = Sheet::new();
-    put_shape(&mut sheet, out, radius, shape);
-    sheet.close(out)
+    let mut sheet = Sheet::new(out);
+    put_shape(&mut sheet, radius, shape);
+    sheet.close()
 }
 
 /// The block of a radius: the points of its alpha complex, and the admitted edges, triangles and cells, by the

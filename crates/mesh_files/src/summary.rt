@@ -44,43 +44,38 @@ fn count_of(replies: &[Reply], word: &str) -> usize
 }
 
 // Puts the word of a reply, and how many of the replies have it.
-fn put_reply_count<O: Sink>(sheet: &mut Sheet, out: &mut O, replies: &[Reply], reply: Reply)
-    ensures { Puts (O.holds out.old) (O.holds out.new) (O.faults out.old) (O.faults out.new) sheet.old sheet.new
-        (reply_count_line replies.now reply) }
+fn put_reply_count<O: Sink>(sheet: &mut Sheet<O>, replies: &[Reply], reply: Reply)
+    ensures { Puts O.holds O.faults sheet.old sheet.new (reply_count_line replies.now reply) }
 {
     let word = word_of(reply);
-    put_title(sheet, out, word.as_bytes(), count_of(replies, word));
+    put_title(sheet, word.as_bytes(), count_of(replies, word));
 }
 
 // Puts a line for each of some kinds of reply.
-fn put_reply_counts<O: Sink>(sheet: &mut Sheet, out: &mut O, replies: &[Reply], kinds: &[Reply])
-    ensures { Puts (O.holds out.old) (O.holds out.new) (O.faults out.old) (O.faults out.new) sheet.old sheet.new
-        (concat (map (reply_count_line replies.now) kinds.now)) }
+fn put_reply_counts<O: Sink>(sheet: &mut Sheet<O>, replies: &[Reply], kinds: &[Reply])
+    ensures { Puts O.holds O.faults sheet.old sheet.new (concat (map (reply_count_line replies.now) kinds.now)) }
 {
     for kind in kinds {
-        put_reply_count(sheet, out, replies, *kind);
+        put_reply_count(sheet, replies, *kind);
     }
 }
 
 // Puts how many points, Full cells and Open cells there are.
-fn put_mesh_counts<O: Sink>(sheet: &mut Sheet, out: &mut O, report: &Report)
-    ensures { Puts (O.holds out.old) (O.holds out.new) (O.faults out.old) (O.faults out.new) sheet.old sheet.new
-        (mesh_counts (parts_of report.now)) }
+fn put_mesh_counts<O: Sink>(sheet: &mut Sheet<O>, report: &Report)
+    ensures { Puts O.holds O.faults sheet.old sheet.new (mesh_counts (parts_of report.now)) }
 {
-    put_title(sheet, out, b"points", report.points.len());
-    put_title(sheet, out, b"cells", full_count(report.cells));
-    put_title(sheet, out, b"hull", hull_count(report.cells));
+    put_title(sheet, b"points", report.points.len());
+    put_title(sheet, b"cells", full_count(report.cells));
+    put_title(sheet, b"hull", hull_count(report.cells));
 }
 
 // Puts a radius, and how many edges, triangles and cells its shape has.
-fn put_shape_line<O: Sink>(sheet: &mut Sheet, out: &mut O, radius: u64, shape: &Shape)
-    ensures { Puts (O.holds out.old) (O.holds out.new) (O.faults out.old) (O.faults out.new) sheet.old sheet.new
-        (shape_line (radius, shape_seen shape.now)) }
+fn put_shape_line<O: Sink>(sheet: &mut Sheet<O>, radius: u64, shape: &Shape)
+    ensures { Puts O.holds O.faults sheet.old sheet.new (shape_line (radius, shape_seen shape.now)) }
 {
-    sheet.put(out, b"shape ");
+    sheet.put(b"shape ");
     put_four(
         sheet,
-        out,
         radius,
         shape.pair_count() as u64,
         shape.triple_count() as u64,
@@ -89,33 +84,31 @@ fn put_shape_line<O: Sink>(sheet: &mut Sheet, out: &mut O, radius: u64, shape: &
 }
 
 // Puts a line for each radius.
-fn put_shape_lines<O: Sink>(sheet: &mut Sheet, out: &mut O, shapes: &[(u64, Shape)])
-    ensures { Puts (O.holds out.old) (O.holds out.new) (O.faults out.old) (O.faults out.new) sheet.old sheet.new
-        (concat (map shape_line (shapes_seen shapes.now))) }
+fn put_shape_lines<O: Sink>(sheet: &mut Sheet<O>, shapes: &[(u64, Shape)])
+    ensures { Puts O.holds O.faults sheet.old sheet.new (concat (map shape_line (shapes_seen shapes.now))) }
 {
     for (radius, shape) in shapes {
-        put_shape_line(sheet, out, *radius, shape);
+        put_shape_line(sheet, *radius, shape);
     }
 }
 
 // Puts the summary of a report.
-fn put_summary<O: Sink>(sheet: &mut Sheet, out: &mut O, report: &Report)
-    ensures { Puts (O.holds out.old) (O.holds out.new) (O.faults out.old) (O.faults out.new) sheet.old sheet.new
-        (summary_text_of (parts_of report.now)) }
+fn put_summary<O: Sink>(sheet: &mut Sheet<O>, report: &Report)
+    ensures { Puts O.holds O.faults sheet.old sheet.new (summary_text_of (parts_of report.now)) }
 {
-    put_title(sheet, out, b"lines", report.replies.len());
-    put_reply_counts(sheet, out, &report.replies, &ALL_REPLIES);
-    put_mesh_counts(sheet, out, report);
-    put_shape_lines(sheet, out, &report.shapes);
+    put_title(sheet, b"lines", report.replies.len());
+    put_reply_counts(sheet, &report.replies, &ALL_REPLIES);
+    put_mesh_counts(sheet, report);
+    put_shape_lines(sheet, &report.shapes);
 }
 
 // Writes the summary of a report.
 fn put_whole<O: Sink>(out: &mut O, report: &Report) -> Result<(), Failed>
     ensures { OnOk result (Appends (O.holds out.old) (O.holds out.new) (summary_text_of (parts_of report.now))) }
 {
-    let mut sheet = Sheet::new();
-    put_summary(&mut sheet, out, report);
-    sheet.close(out)
+    let mut sheet = Sheet::new(out);
+    put_summary(&mut sheet, report);
+    sheet.close()
 }
 
 /// The summary of a report, a line for each count: its lines, the replies of each word, its points, cells and hull,

@@ -12,39 +12,36 @@ use byte_ends::{Failed, Sink};
 use text_sheets::{Sheet, put_number, put_title};
 
 // Puts the line of a part.
-fn put_size<O: Sink>(sheet: &mut Sheet, out: &mut O, size: PartSize)
-    ensures { Puts (O.holds out.old) (O.holds out.new) (O.faults out.old) (O.faults out.new) sheet.old sheet.new
-        (size_line size) }
+fn put_size<O: Sink>(sheet: &mut Sheet<O>, size: PartSize)
+    ensures { Puts O.holds O.faults sheet.old sheet.new (size_line size) }
 {
-    sheet.put(out, b"part ");
-    put_number(sheet, out, size.cells);
-    sheet.put(out, b" ");
-    put_number(sheet, out, size.triangles);
-    sheet.put(out, b"\n");
+    sheet.put(b"part ");
+    put_number(sheet, size.cells);
+    sheet.put(b" ");
+    put_number(sheet, size.triangles);
+    sheet.put(b"\n");
 }
 
 // Puts the block of the parts.
-fn put_sizes<O: Sink>(sheet: &mut Sheet, out: &mut O, sizes: &[PartSize])
-    ensures { Puts (O.holds out.old) (O.holds out.new) (O.faults out.old) (O.faults out.new) sheet.old sheet.new
-        (block (codes "parts") (map size_line sizes.now)) }
+fn put_sizes<O: Sink>(sheet: &mut Sheet<O>, sizes: &[PartSize])
+    ensures { Puts O.holds O.faults sheet.old sheet.new (block (codes "parts") (map size_line sizes.now)) }
 {
-    put_title(sheet, out, b"parts", sizes.len());
+    put_title(sheet, b"parts", sizes.len());
     for size in sizes {
-        put_size(sheet, out, *size);
+        put_size(sheet, *size);
     }
 }
 
 // Puts the whole text.
-fn put_all<O: Sink>(sheet: &mut Sheet, out: &mut O, alpha: u64, sizes: &[PartSize])
-    ensures { Puts (O.holds out.old) (O.holds out.new) (O.faults out.old) (O.faults out.new) sheet.old sheet.new
-        (sizes_text alpha sizes.now) }
+fn put_all<O: Sink>(sheet: &mut Sheet<O>, alpha: u64, sizes: &[PartSize])
+    ensures { Puts O.holds O.faults sheet.old sheet.new (sizes_text alpha sizes.now) }
 {
-    sheet.put(out, b"mesh3-parts 1\n");
-    sheet.put(out, b"alpha ");
-    put_number(sheet, out, alpha);
-    sheet.put(out, b"\n");
-    put_sizes(sheet, out, sizes);
-    sheet.put(out, b"end\n");
+    sheet.put(b"mesh3-parts 1\n");
+    sheet.put(b"alpha ");
+    put_number(sheet, alpha);
+    sheet.put(b"\n");
+    put_sizes(sheet, sizes);
+    sheet.put(b"end\n");
 }
 
 /// Writes the text of the parts at an alpha, by their sizes. It takes no memory.
@@ -58,7 +55,7 @@ pub fn put_parts<O: Sink>(out: &mut O, alpha: u64, sizes: &[PartSize]) -> Result
     ensures cause { HasCause (O.faults out.old) (O.faults out.new) result }
     ensures done { (Rose (O.faults out.old) (O.faults out.new) → ⊥) → IsOk result }
 {
-    let mut sheet = Sheet::new();
-    put_all(&mut sheet, out, alpha, sizes);
-    sheet.close(out)
+    let mut sheet = Sheet::new(out);
+    put_all(&mut sheet, alpha, sizes);
+    sheet.close()
 }

@@ -11,7 +11,8 @@ use Rattle.text_sheets.specs.Pages.{Flows, FlowsInPart}
 -- ---- a piece and what waits before it
 
 -- what waits is written, and then the piece
-pub passed_ok : {T E : Type 0} (a b c : Option (List ℕ)) (p q x : List ℕ) (o : Result T E) → Appends a b p → q ≡ [] → OnOk o (Appends b c x) → OnOk o (Flows a c p q x)
+pub passed_ok : {T E : Type 0} (a b c : Option (List ℕ)) (p q x : List ℕ) (o : Result T E) → Appends a b p → q ≡ [] →
+    OnOk o (Appends b c x) → OnOk o (Flows a c p q x)
 passed_ok a b c p q x (Ok v) w n g = record {
   written = p ++ x;
   parts = sym (append-nil (p ++ x)) ∙ ap (λ (l : List ℕ). (p ++ x) ++ l) (sym n);
@@ -20,7 +21,8 @@ passed_ok a b c p q x (Ok v) w n g = record {
 passed_ok a b c p q x (Err e) w n g = tt
 
 -- what waits is written, and then a front of the piece
-pub passed_err : {T E : Type 0} (a b c : Option (List ℕ)) (p x : List ℕ) (o : Result T E) → Appends a b p → AppendsFront b c x → OnErr o (FlowsInPart a c p x)
+pub passed_err : {T E : Type 0} (a b c : Option (List ℕ)) (p x : List ℕ) (o : Result T E) → Appends a b p →
+    AppendsFront b c x → OnErr o (FlowsInPart a c p x)
 passed_err a b c p x (Ok v) w g = tt
 passed_err a b c p x (Err e) w g = record {
   written = p ++ g.front;
@@ -57,19 +59,23 @@ pub flows_nothing : (a : Option (List ℕ)) (p : List ℕ) → Flows a a p p []
 flows_nothing a p = record { written = []; parts = append-nil p; appended = Appends-nil a }
 
 -- a piece, and then another
-pub flows_then : {a b c : Option (List ℕ)} {p q r x y : List ℕ} → Flows a b p q x → Flows b c q r y → Flows a c p r (x ++ y)
+pub flows_then : {a b c : Option (List ℕ)} {p q r x y : List ℕ} → Flows a b p q x → Flows b c q r y →
+    Flows a c p r (x ++ y)
 flows_then {a} {b} {c} {p} {q} {r} {x} {y} f g = record {
   written = f.written ++ g.written;
-  parts = sym (append_assoc p x y) ∙ ap (λ (l : List ℕ). l ++ y) f.parts ∙ append_assoc f.written q y ∙ ap (λ (l : List ℕ). f.written ++ l) g.parts ∙ sym (append_assoc f.written g.written r);
+  parts = sym (append_assoc p x y) ∙ ap (λ (l : List ℕ). l ++ y) f.parts ∙ append_assoc f.written q y ∙
+      ap (λ (l : List ℕ). f.written ++ l) g.parts ∙ sym (append_assoc f.written g.written r);
   appended = Appends-trans a b c f.written g.written f.appended g.appended;
 }
 
 -- a piece, and then a front of another
-pub flows_fails : {a b c : Option (List ℕ)} {p q x y : List ℕ} → Flows a b p q x → FlowsInPart b c q y → FlowsInPart a c p (x ++ y)
+pub flows_fails : {a b c : Option (List ℕ)} {p q x y : List ℕ} → Flows a b p q x → FlowsInPart b c q y →
+    FlowsInPart a c p (x ++ y)
 flows_fails {a} {b} {c} {p} {q} {x} {y} f g = record {
   written = f.written ++ g.written;
   rest = g.rest;
-  parts = sym (append_assoc p x y) ∙ ap (λ (l : List ℕ). l ++ y) f.parts ∙ append_assoc f.written q y ∙ ap (λ (l : List ℕ). f.written ++ l) g.parts ∙ sym (append_assoc f.written g.written g.rest);
+  parts = sym (append_assoc p x y) ∙ ap (λ (l : List ℕ). l ++ y) f.parts ∙ append_assoc f.written q y ∙
+      ap (λ (l : List ℕ). f.written ++ l) g.parts ∙ sym (append_assoc f.written g.written g.rest);
   appended = Appends-trans a b c f.written g.written f.appended g.appended;
 }
 
@@ -98,9 +104,14 @@ pub rose_after : (a b c : ℕ) → a ≤ b → Rose b c → Rose a c
 rose_after a b c l h = omega arith
 
 -- where the count did not fall before the call
-pub caused_after : {T U E : Type 0} {a b c : ℕ} {e : E} (r : Result T E) → a ≤ b → HasCause {T = U} b c (Err e) → HasCause a c r
+pub caused_after : {T U E : Type 0} {a b c : ℕ} {e : E} (r : Result T E) → a ≤ b → HasCause {T = U} b c (Err e) →
+    HasCause a c r
 caused_after {a = a} {b = b} {c = c} (Ok v) l h = record { later = omega (arith, l, h.later); failed = tt }
-caused_after {a = a} {b = b} {c = c} (Err e) l h = record { later = omega (arith, l, h.later); failed = rose_after a b c l h.failed }
+caused_after {a = a} {b = b} {c = c} (Err e) l h = record {
+  later = omega (arith, l, h.later);
+  failed =
+      rose_after a b c l h.failed;
+}
 
 -- the same of what a call answers, whatever it is
 pub cause_from : {T E : Type 0} {a b c : ℕ} (r : Result T E) → a ≤ b → HasCause b c r → HasCause a c r
@@ -116,8 +127,10 @@ up_to a b c l m = omega (arith, l, m)
 -- ---- the last page
 
 -- what was put is written, or a front of it
-pub flushed_in_part : {a b : Option (List ℕ)} {q x : List ℕ} (c : Option (List ℕ)) → Flows a b [] q x → AppendsFront b c q → AppendsFront a c x
-flushed_in_part {a} {b} {q} {x} c f w = subst (λ (t : List ℕ). AppendsFront a c t) (sym f.parts) (AppendsFront_after a b c f.written q f.appended w)
+pub flushed_in_part : {a b : Option (List ℕ)} {q x : List ℕ} (c : Option (List ℕ)) → Flows a b [] q x →
+    AppendsFront b c q → AppendsFront a c x
+flushed_in_part {a} {b} {q} {x} c f w = subst (λ (t : List ℕ). AppendsFront a c t) (sym f.parts)
+    (AppendsFront_after a b c f.written q f.appended w)
 
 -- a front of what was put is written, where nothing waited before
 pub fronted : {a b : Option (List ℕ)} {p x : List ℕ} → p ≡ [] → FlowsInPart a b p x → AppendsFront a b x
@@ -129,9 +142,11 @@ fronted {x = x} n f = record {
 }
 
 -- what was put is written, where nothing waited before
-pub flushed : {T E : Type 0} {a b : Option (List ℕ)} {p q x : List ℕ} (c : Option (List ℕ)) (r : Result T E) → p ≡ [] → Flows a b p q x → OnOk r (Appends b c q) → OnOk r (Appends a c x)
+pub flushed : {T E : Type 0} {a b : Option (List ℕ)} {p q x : List ℕ} (c : Option (List ℕ)) (r : Result T E) →
+    p ≡ [] → Flows a b p q x → OnOk r (Appends b c q) → OnOk r (Appends a c x)
 flushed {a = a} {b = b} {q = q} {x = x} c (Ok v) n f w =
-    subst (λ (t : List ℕ). Appends a c t) (sym f.parts ∙ ap (λ (l : List ℕ). l ++ x) n) (Appends-trans a b c f.written q f.appended w)
+    subst (λ (t : List ℕ). Appends a c t) (sym f.parts ∙ ap (λ (l : List ℕ). l ++ x) n)
+    (Appends-trans a b c f.written q f.appended w)
 flushed c (Err e) n f w = tt
 
 -- a count that did not rise is of a call that went well

@@ -1,5 +1,26 @@
 -- The place of a point in an ascending list.
-use Rattle.std.proofs.Common.{◌≡◌, refl, subst, ℕ, zero, suc, ◌<◌, ◌≤◌, ◌-◌, List, [], ◌∷◌, Bool, true, false, length, get_or, arith, inl, inr}
+use Rattle.std.proofs.Common.{
+  ◌≡◌,
+  refl,
+  subst,
+  ℕ,
+  zero,
+  suc,
+  ◌<◌,
+  ◌≤◌,
+  ◌-◌,
+  List,
+  [],
+  ◌∷◌,
+  Bool,
+  true,
+  false,
+  length,
+  get_or,
+  arith,
+  inl,
+  inr,
+}
 use Rattle.std.specs.Prelude.{nat_lt}
 use Rattle.std.specs.List.{prefix_len, AllWithin}
 use Rattle.std.specs.List.Sorted.{IsPartitionedBy}
@@ -10,7 +31,8 @@ use Rattle.point_order.specs.Sets.{IsAscending}
 use Rattle.text_sheets.specs.Indices.{IsBetween}
 
 -- where the first i pass and the others fail, the front that passes is i long
-pub prefix_is : {X : Type 0} (p : X → Bool) (xs : List X) (i : ℕ) → i ≤ length xs → AllWithin (λ y. p y ≡ true) xs 0 i → AllWithin (λ y. p y ≡ false) xs i (length xs) → prefix_len p xs ≡ i
+pub prefix_is : {X : Type 0} (p : X → Bool) (xs : List X) (i : ℕ) → i ≤ length xs →
+    AllWithin (λ y. p y ≡ true) xs 0 i → AllWithin (λ y. p y ≡ false) xs i (length xs) → prefix_len p xs ≡ i
 prefix_is p [] i h t f = omega (arith, h)
 prefix_is p (x ∷ xs) zero h t f =
     let e : p x ≡ false = f 0 x (omega arith) (omega arith) in
@@ -18,7 +40,8 @@ prefix_is p (x ∷ xs) zero h t f =
 prefix_is p (x ∷ xs) (suc i) h t f =
     let e : p x ≡ true = t 0 x (omega arith) (omega arith) in
     let r : prefix_len p xs ≡ i =
-    prefix_is p xs i (omega (arith, h)) (λ k d l m. t (suc k) d (omega arith) (omega (arith, m))) (λ k d l m. f (suc k) d (omega (arith, l)) (omega (arith, m))) in
+    prefix_is p xs i (omega (arith, h)) (λ k d l m. t (suc k) d (omega arith) (omega (arith, m))) (λ k d l m. f
+    (suc k) d (omega (arith, l)) (omega (arith, m))) in
     rw e (omega (arith, r))
 
 -- the points below p are at the front
@@ -52,7 +75,8 @@ place_between s p i h b = prefix_is (λ q. nat_lt q p) s i b.inside before from
         elim b.below [
           | inl e ↦ absurd (omega (arith, e, m))
           | inr u ↦
-              let v : get_or s k 0 ≤ get_or s (i - 1) 0 = later k (i - 1) (omega (arith, m)) (omega (arith, m, b.inside)) in
+              let v : get_or s k 0 ≤ get_or s (i - 1) 0 = later k (i - 1) (omega (arith, m)) (omega
+              (arith, m, b.inside)) in
               let w : get_or s k d ≡ get_or s k 0 = default_free s k d 0 (omega (arith, m, b.inside)) in
               grind (arith, nat_tests)
         ]

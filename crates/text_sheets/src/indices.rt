@@ -124,14 +124,12 @@ impl<'a> Indices<'a> {
 }
 
 /// Puts the line of a Full cell.
-pub fn put_full_line<O: Sink>(sheet: &mut Sheet, out: &mut O, indices: &Indices, quad: Quad)
-    ensures { Puts (O.holds out.old) (O.holds out.new) (O.faults out.old) (O.faults out.new) sheet.old sheet.new
-        (indices_line indices.now quad) }
+pub fn put_full_line<O: Sink>(sheet: &mut Sheet<O>, indices: &Indices, quad: Quad)
+    ensures { Puts O.holds O.faults sheet.old sheet.new (indices_line indices.now quad) }
 {
     let (a, b, c, d) = quad.corners();
     put_four(
         sheet,
-        out,
         indices.index(a),
         indices.index(b),
         indices.index(c),
@@ -140,26 +138,19 @@ pub fn put_full_line<O: Sink>(sheet: &mut Sheet, out: &mut O, indices: &Indices,
 }
 
 /// Puts the line of a triangle.
-pub fn put_hull_line<O: Sink>(sheet: &mut Sheet, out: &mut O, indices: &Indices, tri: Tri)
-    ensures { Puts (O.holds out.old) (O.holds out.new) (O.faults out.old) (O.faults out.new) sheet.old sheet.new
-        (indices_line indices.now tri) }
+pub fn put_hull_line<O: Sink>(sheet: &mut Sheet<O>, indices: &Indices, tri: Tri)
+    ensures { Puts O.holds O.faults sheet.old sheet.new (indices_line indices.now tri) }
 {
     let (a, b, c) = tri.corners();
-    put_three(
-        sheet,
-        out,
-        indices.index(a),
-        indices.index(b),
-        indices.index(c),
-    );
+    put_three(sheet, indices.index(a), indices.index(b), indices.index(c));
 }
 
 /// Puts the points of a face as indices, each with a space behind it.
-pub fn put_indices<O: Sink>(sheet: &mut Sheet, out: &mut O, indices: &Indices, corners: &[Point])
-    ensures { Puts (O.holds out.old) (O.holds out.new) (O.faults out.old) (O.faults out.new) sheet.old sheet.new
+pub fn put_indices<O: Sink>(sheet: &mut Sheet<O>, indices: &Indices, corners: &[Point])
+    ensures { Puts O.holds O.faults sheet.old sheet.new
         (concat (map (λ p. decimal (index_of indices.now p) ++ codes " ") corners.now)) }
 {
     for corner in corners {
-        put_number_and(sheet, out, indices.index(*corner), b" ");
+        put_number_and(sheet, indices.index(*corner), b" ");
     }
 }

@@ -1,12 +1,12 @@
 //! Text put piece by piece on a sheet, which goes into a sink a page at a time.
 //!
 //! ```
-//! let mut sheet = Sheet::new();
-//! put_title(&mut sheet, out, b"points", points.len());
+//! let mut sheet = Sheet::new(out);
+//! put_title(&mut sheet, b"points", points.len());
 //! for point in points {
-//!     put_three(&mut sheet, out, x, y, z);
+//!     put_three(&mut sheet, x, y, z);
 //! }
-//! sheet.close(out)?;   // Failed where the sink failed, at any piece
+//! sheet.close()?;   // Failed where the sink failed, at any piece
 //! ```
 //!
 //! A sheet takes no memory: digits and words wait on a page of 4,096 bytes. It remembers whether the sink failed, so

@@ -10,67 +10,60 @@ use byte_ends::{Failed, Sink};
 use itoa::Buffer;
 
 /// Puts a number in decimal.
-pub fn put_number<O: Sink>(sheet: &mut Sheet, out: &mut O, number: u64)
-    ensures { Puts (O.holds out.old) (O.holds out.new) (O.faults out.old) (O.faults out.new) sheet.old sheet.new
-        (decimal number) }
+pub fn put_number<O: Sink>(sheet: &mut Sheet<O>, number: u64)
+    ensures { Puts O.holds O.faults sheet.old sheet.new (decimal number) }
 {
     let mut buffer = Buffer::new();
-    sheet.put(out, buffer.format(number).as_bytes());
+    sheet.put(buffer.format(number).as_bytes());
 }
 
 /// Puts a number in decimal, and a piece behind it.
-pub fn put_number_and<O: Sink>(sheet: &mut Sheet, out: &mut O, number: u64, piece: &[u8])
-    ensures { Puts (O.holds out.old) (O.holds out.new) (O.faults out.old) (O.faults out.new) sheet.old sheet.new
-        (decimal number ++ piece.now) }
+pub fn put_number_and<O: Sink>(sheet: &mut Sheet<O>, number: u64, piece: &[u8])
+    ensures { Puts O.holds O.faults sheet.old sheet.new (decimal number ++ piece.now) }
 {
-    put_number(sheet, out, number);
-    sheet.put(out, piece);
+    put_number(sheet, number);
+    sheet.put(piece);
 }
 
 // Puts two numbers, parted by a space.
-fn put_two<O: Sink>(sheet: &mut Sheet, out: &mut O, a: u64, b: u64)
-    ensures { Puts (O.holds out.old) (O.holds out.new) (O.faults out.old) (O.faults out.new) sheet.old sheet.new
-        (spaced (a ∷ b ∷ [])) }
+fn put_two<O: Sink>(sheet: &mut Sheet<O>, a: u64, b: u64)
+    ensures { Puts O.holds O.faults sheet.old sheet.new (spaced (a ∷ b ∷ [])) }
 {
-    put_number_and(sheet, out, a, b" ");
-    put_number(sheet, out, b);
+    put_number_and(sheet, a, b" ");
+    put_number(sheet, b);
 }
 
 // Puts three numbers, parted by one space each.
-fn put_spaced<O: Sink>(sheet: &mut Sheet, out: &mut O, a: u64, b: u64, c: u64)
-    ensures { Puts (O.holds out.old) (O.holds out.new) (O.faults out.old) (O.faults out.new) sheet.old sheet.new
-        (spaced (a ∷ b ∷ c ∷ [])) }
+fn put_spaced<O: Sink>(sheet: &mut Sheet<O>, a: u64, b: u64, c: u64)
+    ensures { Puts O.holds O.faults sheet.old sheet.new (spaced (a ∷ b ∷ c ∷ [])) }
 {
-    put_number_and(sheet, out, a, b" ");
-    put_two(sheet, out, b, c);
+    put_number_and(sheet, a, b" ");
+    put_two(sheet, b, c);
 }
 
 /// Puts three numbers, as a line.
-pub fn put_three<O: Sink>(sheet: &mut Sheet, out: &mut O, a: u64, b: u64, c: u64)
-    ensures { Puts (O.holds out.old) (O.holds out.new) (O.faults out.old) (O.faults out.new) sheet.old sheet.new
-        (numbers_line (a ∷ b ∷ c ∷ [])) }
+pub fn put_three<O: Sink>(sheet: &mut Sheet<O>, a: u64, b: u64, c: u64)
+    ensures { Puts O.holds O.faults sheet.old sheet.new (numbers_line (a ∷ b ∷ c ∷ [])) }
 {
-    put_spaced(sheet, out, a, b, c);
-    sheet.put(out, b"\n");
+    put_spaced(sheet, a, b, c);
+    sheet.put(b"\n");
 }
 
 /// Puts four numbers, as a line.
-pub fn put_four<O: Sink>(sheet: &mut Sheet, out: &mut O, a: u64, b: u64, c: u64, d: u64)
-    ensures { Puts (O.holds out.old) (O.holds out.new) (O.faults out.old) (O.faults out.new) sheet.old sheet.new
-        (numbers_line (a ∷ b ∷ c ∷ d ∷ [])) }
+pub fn put_four<O: Sink>(sheet: &mut Sheet<O>, a: u64, b: u64, c: u64, d: u64)
+    ensures { Puts O.holds O.faults sheet.old sheet.new (numbers_line (a ∷ b ∷ c ∷ d ∷ [])) }
 {
-    put_number_and(sheet, out, a, b" ");
-    put_spaced(sheet, out, b, c, d);
-    sheet.put(out, b"\n");
+    put_number_and(sheet, a, b" ");
+    put_spaced(sheet, b, c, d);
+    sheet.put(b"\n");
 }
 
 /// Puts the first line of a block: its title, and how many lines follow.
-pub fn put_title<O: Sink>(sheet: &mut Sheet, out: &mut O, title: &[u8], count: usize)
-    ensures { Puts (O.holds out.old) (O.holds out.new) (O.faults out.old) (O.faults out.new) sheet.old sheet.new
-        (title.now ++ codes " " ++ decimal count ++ codes "\n") }
+pub fn put_title<O: Sink>(sheet: &mut Sheet<O>, title: &[u8], count: usize)
+    ensures { Puts O.holds O.faults sheet.old sheet.new (title.now ++ codes " " ++ decimal count ++ codes "\n") }
 {
-    sheet.put(out, title);
-    sheet.put(out, b" ");
-    put_number(sheet, out, count as u64);
-    sheet.put(out, b"\n");
+    sheet.put(title);
+    sheet.put(b" ");
+    put_number(sheet, count as u64);
+    sheet.put(b"\n");
 }

@@ -9,7 +9,6 @@ use Rattle.alpha_steps.proofs.texts.put_pairs.Given as goal
 
 abbrev pub invariant-loop-index : goal.invariant-loop-index
 invariant-loop-index g l =
-    PutsBut (g.O.Sink.holds l.fn.out) (g.O.Sink.holds l.out) (g.O.Sink.faults l.fn.out) (g.O.Sink.faults l.out)
-    l.fn.sheet l.sheet
+    PutsBut g.O.Sink.holds g.O.Sink.faults l.fn.sheet l.sheet
     (concat (map (step_line l.indices) (drop l.index l.list.pairs)))
     (block (codes "edges") (map (step_line l.indices) l.list.pairs))

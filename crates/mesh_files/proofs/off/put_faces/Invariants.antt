@@ -8,6 +8,5 @@ use Rattle.mesh_files.proofs.off.put_faces.Given as goal
 
 abbrev pub invariant-loop-face : goal.invariant-loop-face
 invariant-loop-face g l =
-    PutsBut (g.O.Sink.holds l.fn.out) (g.O.Sink.holds l.out) (g.O.Sink.faults l.fn.out) (g.O.Sink.faults l.out)
-    l.fn.sheet l.sheet
+    PutsBut g.O.Sink.holds g.O.Sink.faults l.fn.sheet l.sheet
     (concat (map (off_line l.indices) (drop l.face-index l.faces))) (concat (map (off_line l.indices) l.faces))

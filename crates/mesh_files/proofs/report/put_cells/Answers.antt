@@ -14,18 +14,28 @@ use Rattle.mesh_files.proofs.report.put_cells.Goals.{in-Full, in-Open}
 pub loop-cell-init : goal.loop-cell-init
 loop-cell-init g c =
     let lines : List (List ℕ) = map (indices_line c.args.indices.now) (full_corners c.args.cells.now) in
-    let n : c.full_count.result ≡ length lines = c.full_count.ensures ∙ sym (length-map (full_corners c.args.cells.now) (indices_line c.args.indices.now)) in
+    let n : c.full_count.result ≡ length lines = c.full_count.ensures ∙
+    sym (length-map (full_corners c.args.cells.now) (indices_line c.args.indices.now)) in
     starts (codes "cells") lines c.full_count.result n c.put_title.ensures
 
 pub loop-cell-preserved : goal.loop-cell-preserved
 loop-cell-preserved g c =
     elim c.match-cell.branch [
-      | in-Full w ↦ rw (w.sheet-is, w.out-is)
-          (goes_on (λ (cells : List Cell). concat (map (indices_line c.args.indices.now) (full_corners cells))) (full_piece (indices_line c.args.indices.now)) (full_items (indices_line c.args.indices.now)) c.args.cells.now c.loop-cell.cell-index (Full w.in-Full.quad) c.loop-cell-test.true (item_is c.args.cells.now c.loop-cell.cell-index c.cell-item.result (Full w.in-Full.quad) c.cell-item.is w.in-Full.is) c.loop-cell.invariant w.put_full_line.ensures)
-      | in-Open w ↦ rw (w.sheet-is, w.out-is)
-          (goes_on (λ (cells : List Cell). concat (map (indices_line c.args.indices.now) (full_corners cells))) (full_piece (indices_line c.args.indices.now)) (full_items (indices_line c.args.indices.now)) c.args.cells.now c.loop-cell.cell-index (Open w.in-Open.field-0) c.loop-cell-test.true (item_is c.args.cells.now c.loop-cell.cell-index c.cell-item.result (Open w.in-Open.field-0) c.cell-item.is w.in-Open.is) c.loop-cell.invariant nothing)
+      | in-Full w ↦ rw w.sheet-is
+          (goes_on (λ (cells : List Cell). concat (map (indices_line c.args.indices.now) (full_corners cells)))
+          (full_piece (indices_line c.args.indices.now)) (full_items (indices_line c.args.indices.now))
+          c.args.cells.now c.loop-cell.cell-index (Full w.in-Full.quad) c.loop-cell-test.true
+          (item_is c.args.cells.now c.loop-cell.cell-index c.cell-item.result (Full w.in-Full.quad)
+          c.cell-item.is w.in-Full.is) c.loop-cell.invariant w.put_full_line.ensures)
+      | in-Open w ↦ rw w.sheet-is
+          (goes_on (λ (cells : List Cell). concat (map (indices_line c.args.indices.now) (full_corners cells)))
+          (full_piece (indices_line c.args.indices.now)) (full_items (indices_line c.args.indices.now))
+          c.args.cells.now c.loop-cell.cell-index (Open w.in-Open.field-0) c.loop-cell-test.true
+          (item_is c.args.cells.now c.loop-cell.cell-index c.cell-item.result (Open w.in-Open.field-0)
+          c.cell-item.is w.in-Open.is) c.loop-cell.invariant nothing)
     ]
 
 pub returns : goal.returns
 returns g c =
-    ends (λ (cells : List Cell). concat (map (indices_line c.args.indices.now) (full_corners cells))) refl c.args.cells.now c.loop-cell.cell-index c.loop-cell-test.false c.loop-cell.invariant
+    ends (λ (cells : List Cell). concat (map (indices_line c.args.indices.now) (full_corners cells)))
+    refl c.args.cells.now c.loop-cell.cell-index c.loop-cell-test.false c.loop-cell.invariant

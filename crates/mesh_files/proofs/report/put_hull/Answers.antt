@@ -14,18 +14,28 @@ use Rattle.mesh_files.proofs.report.put_hull.Goals.{in-Open, in-Full}
 pub loop-cell-init : goal.loop-cell-init
 loop-cell-init g c =
     let lines : List (List ℕ) = map (indices_line c.args.indices.now) (hull_corners c.args.cells.now) in
-    let n : c.hull_count.result ≡ length lines = c.hull_count.ensures ∙ sym (length-map (hull_corners c.args.cells.now) (indices_line c.args.indices.now)) in
+    let n : c.hull_count.result ≡ length lines = c.hull_count.ensures ∙
+    sym (length-map (hull_corners c.args.cells.now) (indices_line c.args.indices.now)) in
     starts (codes "hull") lines c.hull_count.result n c.put_title.ensures
 
 pub loop-cell-preserved : goal.loop-cell-preserved
 loop-cell-preserved g c =
     elim c.match-cell.branch [
-      | in-Open w ↦ rw (w.sheet-is, w.out-is)
-          (goes_on (λ (cells : List Cell). concat (map (indices_line c.args.indices.now) (hull_corners cells))) (hull_piece (indices_line c.args.indices.now)) (hull_items (indices_line c.args.indices.now)) c.args.cells.now c.loop-cell.cell-index (Open w.in-Open.tri) c.loop-cell-test.true (item_is c.args.cells.now c.loop-cell.cell-index c.cell-item.result (Open w.in-Open.tri) c.cell-item.is w.in-Open.is) c.loop-cell.invariant w.put_hull_line.ensures)
-      | in-Full w ↦ rw (w.sheet-is, w.out-is)
-          (goes_on (λ (cells : List Cell). concat (map (indices_line c.args.indices.now) (hull_corners cells))) (hull_piece (indices_line c.args.indices.now)) (hull_items (indices_line c.args.indices.now)) c.args.cells.now c.loop-cell.cell-index (Full w.in-Full.field-0) c.loop-cell-test.true (item_is c.args.cells.now c.loop-cell.cell-index c.cell-item.result (Full w.in-Full.field-0) c.cell-item.is w.in-Full.is) c.loop-cell.invariant nothing)
+      | in-Open w ↦ rw w.sheet-is
+          (goes_on (λ (cells : List Cell). concat (map (indices_line c.args.indices.now) (hull_corners cells)))
+          (hull_piece (indices_line c.args.indices.now)) (hull_items (indices_line c.args.indices.now))
+          c.args.cells.now c.loop-cell.cell-index (Open w.in-Open.tri) c.loop-cell-test.true
+          (item_is c.args.cells.now c.loop-cell.cell-index c.cell-item.result (Open w.in-Open.tri)
+          c.cell-item.is w.in-Open.is) c.loop-cell.invariant w.put_hull_line.ensures)
+      | in-Full w ↦ rw w.sheet-is
+          (goes_on (λ (cells : List Cell). concat (map (indices_line c.args.indices.now) (hull_corners cells)))
+          (hull_piece (indices_line c.args.indices.now)) (hull_items (indices_line c.args.indices.now))
+          c.args.cells.now c.loop-cell.cell-index (Full w.in-Full.field-0) c.loop-cell-test.true
+          (item_is c.args.cells.now c.loop-cell.cell-index c.cell-item.result (Full w.in-Full.field-0)
+          c.cell-item.is w.in-Full.is) c.loop-cell.invariant nothing)
     ]
 
 pub returns : goal.returns
 returns g c =
-    ends (λ (cells : List Cell). concat (map (indices_line c.args.indices.now) (hull_corners cells))) refl c.args.cells.now c.loop-cell.cell-index c.loop-cell-test.false c.loop-cell.invariant
+    ends (λ (cells : List Cell). concat (map (indices_line c.args.indices.now) (hull_corners cells)))
+    refl c.args.cells.now c.loop-cell.cell-index c.loop-cell-test.false c.loop-cell.invariant

@@ -10,6 +10,6 @@ use Rattle.mesh_files.proofs.report.put_hull.Given as goal
 
 abbrev pub invariant-loop-cell : goal.invariant-loop-cell
 invariant-loop-cell g l =
-    PutsBut (g.O.Sink.holds l.fn.out) (g.O.Sink.holds l.out) (g.O.Sink.faults l.fn.out) (g.O.Sink.faults l.out) l.fn.sheet l.sheet
+    PutsBut g.O.Sink.holds g.O.Sink.faults l.fn.sheet l.sheet
     (concat (map (indices_line l.indices) (hull_corners (drop l.cell-index l.cells))))
     (block (codes "hull") (map (indices_line l.indices) (hull_corners l.cells)))

@@ -9,6 +9,6 @@ use Rattle.mesh_files.proofs.report.put_replies.Given as goal
 
 abbrev pub invariant-loop-reply : goal.invariant-loop-reply
 invariant-loop-reply g l =
-    PutsBut (g.O.Sink.holds l.fn.out) (g.O.Sink.holds l.out) (g.O.Sink.faults l.fn.out) (g.O.Sink.faults l.out) l.fn.sheet l.sheet
+    PutsBut g.O.Sink.holds g.O.Sink.faults l.fn.sheet l.sheet
     (concat (map reply_line (drop l.reply-index l.replies)))
     (block (codes "replies") (map reply_line l.replies))

@@ -9,6 +9,6 @@ use Rattle.mesh_files.proofs.report.put_tags.Given as goal
 
 abbrev pub invariant-loop-tag : goal.invariant-loop-tag
 invariant-loop-tag g l =
-    PutsBut (g.O.Sink.holds l.fn.out) (g.O.Sink.holds l.out) (g.O.Sink.faults l.fn.out) (g.O.Sink.faults l.out) l.fn.sheet l.sheet
+    PutsBut g.O.Sink.holds g.O.Sink.faults l.fn.sheet l.sheet
     (concat (map tag_line (drop l.tag-index l.tags)))
     (block (codes "order") (map tag_line l.tags))

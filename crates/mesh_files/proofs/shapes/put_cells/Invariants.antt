@@ -11,6 +11,6 @@ use Rattle.mesh_files.proofs.shapes.put_cells.Given as goal
 
 abbrev pub invariant-loop-index : goal.invariant-loop-index
 invariant-loop-index g l =
-    PutsBut (g.O.Sink.holds l.fn.out) (g.O.Sink.holds l.out) (g.O.Sink.faults l.fn.out) (g.O.Sink.faults l.out) l.fn.sheet l.sheet
+    PutsBut g.O.Sink.holds g.O.Sink.faults l.fn.sheet l.sheet
     (concat (map (indices_line l.indices) (held (drop l.index l.shape.cells))))
     (block (codes "cells") (map (indices_line l.indices) (held l.shape.cells)))

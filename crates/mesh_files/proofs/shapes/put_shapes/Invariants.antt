@@ -7,6 +7,6 @@ use Rattle.mesh_files.proofs.shapes.put_shapes.Given as goal
 
 abbrev pub invariant-loop-radius : goal.invariant-loop-radius
 invariant-loop-radius g l =
-    PutsBut (g.O.Sink.holds l.fn.out) (g.O.Sink.holds l.out) (g.O.Sink.faults l.fn.out) (g.O.Sink.faults l.out) l.fn.sheet l.sheet
+    PutsBut g.O.Sink.holds g.O.Sink.faults l.fn.sheet l.sheet
     (shape_blocks (shapes_seen (drop l.radius-index l.shapes)))
     (shape_blocks (shapes_seen l.shapes))

@@ -10,6 +10,6 @@ use Rattle.mesh_files.proofs.shapes.put_triples.Given as goal
 
 abbrev pub invariant-loop-index : goal.invariant-loop-index
 invariant-loop-index g l =
-    PutsBut (g.O.Sink.holds l.fn.out) (g.O.Sink.holds l.out) (g.O.Sink.faults l.fn.out) (g.O.Sink.faults l.out) l.fn.sheet l.sheet
+    PutsBut g.O.Sink.holds g.O.Sink.faults l.fn.sheet l.sheet
     (concat (map (λ f. face_line l.indices f.0 f.1) (held (drop l.index l.shape.triples))))
     (block (codes "triangles") (map (λ f. face_line l.indices f.0 f.1) (held l.shape.triples)))

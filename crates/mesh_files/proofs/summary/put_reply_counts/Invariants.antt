@@ -8,6 +8,6 @@ use Rattle.mesh_files.proofs.summary.put_reply_counts.Given as goal
 
 abbrev pub invariant-loop-kind : goal.invariant-loop-kind
 invariant-loop-kind g l =
-    PutsBut (g.O.Sink.holds l.fn.out) (g.O.Sink.holds l.out) (g.O.Sink.faults l.fn.out) (g.O.Sink.faults l.out) l.fn.sheet l.sheet
+    PutsBut g.O.Sink.holds g.O.Sink.faults l.fn.sheet l.sheet
     (concat (map (reply_count_line l.replies) (drop l.kind-index l.kinds)))
     (concat (map (reply_count_line l.replies) l.kinds))

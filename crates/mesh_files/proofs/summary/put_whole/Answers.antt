@@ -1,5 +1,9 @@
+use Rattle.std.proofs.Common.{◌≡◌, ◌∙◌, rules}
 use Rattle.text_sheets.proofs.Cited.{closed}
 use Rattle.mesh_files.proofs.summary.put_whole.Goals as goal
 
 pub returns : goal.returns
-returns g c = closed c.close.result c.new-sheet.ensures c.put_summary.ensures c.close.ensures
+returns g c =
+    let name = c.close.ensures.lent ∙ c.put_summary.ensures.lent ∙ c.new-sheet.ensures.lent in
+    let left : c.close.new.self.out.now ≡ c.out-1.given.0 = search (rules, name) in
+    closed c.close.result left c.new-sheet.ensures c.put_summary.ensures c.close.ensures

@@ -9,6 +9,5 @@ use Rattle.solid_parts.proofs.texts.put_sizes.Given as goal
 
 abbrev pub invariant-loop-size : goal.invariant-loop-size
 invariant-loop-size g l =
-    PutsBut (g.O.Sink.holds l.fn.out) (g.O.Sink.holds l.out) (g.O.Sink.faults l.fn.out) (g.O.Sink.faults l.out)
-    l.fn.sheet l.sheet
+    PutsBut g.O.Sink.holds g.O.Sink.faults l.fn.sheet l.sheet
     (concat (map size_line (drop l.size-index l.sizes))) (block (codes "parts") (map size_line l.sizes))

@@ -8,6 +8,6 @@ use Rattle.text_sheets.proofs.indices.put_indices.Given as goal
 
 abbrev pub invariant-loop-corner : goal.invariant-loop-corner
 invariant-loop-corner g l =
-    PutsBut (g.O.Sink.holds l.fn.out) (g.O.Sink.holds l.out) (g.O.Sink.faults l.fn.out) (g.O.Sink.faults l.out) l.fn.sheet l.sheet
+    PutsBut g.O.Sink.holds g.O.Sink.faults l.fn.sheet l.sheet
     (concat (map (λ p. decimal (index_of l.indices p) ++ codes " ") (drop l.corner-index l.corners)))
     (concat (map (λ p. decimal (index_of l.indices p) ++ codes " ") l.corners))

@@ -7,4 +7,5 @@ pub returns : goal.returns
 returns c =
     let b = c.loop-low.invariant in
     let e : c.loop-low.high ≡ c.loop-low.low = omega (arith, b.order, c.loop-low-test.false) in
-    sym (place_between c.args.points.now c.args.key c.loop-low.low c.requires.ascending (subst (λ (h : ℕ). IsBetween c.args.points.now c.args.key c.loop-low.low h) e b))
+    sym (place_between c.args.points.now c.args.key c.loop-low.low c.requires.ascending (subst (λ
+    (h : ℕ). IsBetween c.args.points.now c.args.key c.loop-low.low h) e b))

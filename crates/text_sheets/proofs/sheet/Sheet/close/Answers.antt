@@ -1,5 +1,7 @@
-use Rattle.text_sheets.proofs.Sheets.{closes_on}
+use Rattle.std.proofs.Common.{refl}
+use Rattle.text_sheets.proofs.Sheets.{wrote}
 use Rattle.text_sheets.proofs.sheet.Sheet.close.Goals as goal
 
 pub returns : goal.returns
-returns g c = closes_on c.flush.result c.self.view_is c.if-self.false c.flush.ensures.whole c.flush.ensures.front c.flush.ensures.cause
+returns g c = wrote c.flush.result c.if-self.false refl c.flush.ensures.whole c.flush.ensures.front
+    c.flush.ensures.cause
