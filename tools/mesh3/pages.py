@@ -97,7 +97,8 @@ def page_of(points, scenes, colours, most_dotted):
     """The text of a page that shows the scenes one by one, by a slider; points (n, 3) are kept to 24 bits."""
     from plotly.offline import get_plotlyjs
     dotted = len(points) <= most_dotted or not any(len(scene.triangles) for scene in scenes)
-    data = {'points': columns(points, '<f4'), 'dotted': dotted, 'scenes': [scene_of(scene, colours) for scene in scenes]}
+    told = [scene_of(scene, colours) for scene in scenes]
+    data = {'points': columns(points, '<f4'), 'dotted': dotted, 'scenes': told}
     title = html.escape(', '.join(scene.title for scene in scenes))
     return PAGE.format(title=title, plotly=get_plotlyjs(), last=len(scenes) - 1, data=json.dumps(data),
                        hidden='' if len(scenes) > 1 else ' hidden')
