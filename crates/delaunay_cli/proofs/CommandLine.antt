@@ -52,6 +52,7 @@ use Rattle.clap.specs.declared.error.kind.ErrorKind.TheVariants.{OutOfMemory}
 use Rattle.clap.proofs.OnLiterals.{clap_on_literals}
 use Rattle.cell_store.specs.Grids.{is_grid_size}
 use Rattle.delaunay_cli.specs.Words.{
+  AreCheck,
   AreMesh,
   AreMeshOrder,
   AreShape,
@@ -61,12 +62,14 @@ use Rattle.delaunay_cli.specs.Words.{
   AreTaken,
   DrawsFile,
   ReadsFile,
+  ReadsSource,
   asks_text,
   drawn_count,
   drawn_start,
   asked_alpha,
   asked_index,
   asked_most,
+  asks_check,
   asks_drawn,
   asks_order,
   asks_parts,
@@ -94,7 +97,7 @@ use Rattle.delaunay_cli.specs.declared.task.Asked.{Asked}
 use Rattle.delaunay_cli.specs.declared.task.Drawn.{Drawn}
 use Rattle.delaunay_cli.specs.declared.task.Making.{Making}
 use Rattle.delaunay_cli.specs.declared.task.Task.{Task}
-use Rattle.delaunay_cli.specs.declared.task.Task.TheVariants.{Report, Step, Part, Draw}
+use Rattle.delaunay_cli.specs.declared.task.Task.TheVariants.{Report, Step, Part, Check, Draw}
 use Rattle.delaunay_cli.specs.declared.task.Wanted.{Wanted}
 
 program_is_simple_and_free : is_simple_and_free program ≡ true
@@ -105,41 +108,42 @@ program_is_simple : is_simple program ≡ true
 unfolding clap_on_literals
 program_is_simple = refl
 
--- what words are found to be: with no fault, `shape` or not, with `--order` or not, one worker, a grid of 4, not `gen`,
--- and `steps` or not, and `parts` or not
+-- what words are found to be: with no fault, `shape` or not, with `--order` or not, one worker, a grid of 4, neither
+-- `gen` nor `check`, and `steps` or not, and `parts` or not
 abbrev AreFound : List Text → Bool → Bool → Bool → Bool → Type 0
 AreFound words shape order steps parts =
     (fault_of program words ≡ []) × (is_command (codes "shape") (subcommand_of program words) ≡ shape) ×
     (has_flag (codes "order") (subcommand_of program words) ≡ order)
     × (number_of (codes "workers") 1 most_workers (subcommand_of program words) ≡ 1) ×
     (number_of (codes "grid") 1 most_grid (subcommand_of program words) ≡ 4)
-    × (is_command (codes "gen") (subcommand_of program words) ≡ false) ×
+    × (is_command (codes "gen") (subcommand_of program words) ≡ false)
+    × (is_command (codes "check") (subcommand_of program words) ≡ false) ×
     (is_command (codes "steps") (subcommand_of program words) ≡ steps) ×
     (is_command (codes "parts") (subcommand_of program words) ≡ parts)
 
 mesh_found : (name : Text) → AreFound (name ∷ codes "mesh" ∷ []) false false false false
 unfolding clap_on_literals
-mesh_found name = (refl, refl, refl, refl, refl, refl, refl, refl)
+mesh_found name = (refl, refl, refl, refl, refl, refl, refl, refl, refl)
 
 mesh_order_found : (name : Text) → AreFound (name ∷ codes "mesh" ∷ codes "--order" ∷ []) false true false false
 unfolding clap_on_literals
-mesh_order_found name = (refl, refl, refl, refl, refl, refl, refl, refl)
+mesh_order_found name = (refl, refl, refl, refl, refl, refl, refl, refl, refl)
 
 shape_found : (name : Text) → AreFound (name ∷ codes "shape" ∷ []) true false false false
 unfolding clap_on_literals
-shape_found name = (refl, refl, refl, refl, refl, refl, refl, refl)
+shape_found name = (refl, refl, refl, refl, refl, refl, refl, refl, refl)
 
 shape_order_found : (name : Text) → AreFound (name ∷ codes "shape" ∷ codes "--order" ∷ []) true true false false
 unfolding clap_on_literals
-shape_order_found name = (refl, refl, refl, refl, refl, refl, refl, refl)
+shape_order_found name = (refl, refl, refl, refl, refl, refl, refl, refl, refl)
 
 steps_found : (name : Text) → AreFound (name ∷ codes "steps" ∷ []) false false true false
 unfolding clap_on_literals
-steps_found name = (refl, refl, refl, refl, refl, refl, refl, refl)
+steps_found name = (refl, refl, refl, refl, refl, refl, refl, refl, refl)
 
 parts_found : (name : Text) → AreFound (name ∷ codes "parts" ∷ []) false false false true
 unfolding clap_on_literals
-parts_found name = (refl, refl, refl, refl, refl, refl, refl, refl)
+parts_found name = (refl, refl, refl, refl, refl, refl, refl, refl, refl)
 
 -- the defaults of the options of `parts`
 abbrev HasDefaults : List Text → Type 0
@@ -161,10 +165,10 @@ AreAsked words shape order steps parts =
 
 asked : (words : List (String Global)) (texts : List Text) (shape order steps parts : Bool) → texts_of words ≡ texts →
     AreFound texts shape order steps parts → AreAsked words shape order steps parts
-unfolding AreTaken asks_order asks_shape asks_drawn asks_steps asks_parts worker_count grid_size
+unfolding AreTaken asks_order asks_shape asks_drawn asks_check asks_steps asks_parts worker_count grid_size
 asked words texts shape order steps parts e found =
     let f = subst (λ (w : List Text). AreFound w shape order steps parts) (sym e) found in
-    (((f.0, ap is_grid_size f.4), f.1, f.2), (f.3, f.4), f.5, f.6, f.7)
+    (((f.0, ap is_grid_size f.4), f.1, f.2), (f.3, f.4), (f.5, f.6), f.7, f.8)
 
 pub mesh_words : (words : List (String Global)) → AreMesh words → AreAsked words false false false false
 mesh_words words m = asked words (m.0 ∷ codes "mesh" ∷ []) false false false false m.1 (mesh_found m.0)
@@ -191,6 +195,25 @@ pub parts_asked : (words : List (String Global)) → AreParts words →
     (asked_alpha words ≡ 0) × (asked_most words ≡ 0) × (asked_index words ≡ None)
 unfolding asked_alpha asked_most asked_index
 parts_asked words m = subst HasDefaults (sym m.1) (parts_defaults m.0)
+
+-- what `check` is found to be: with no fault, a grid of 1 where none is asked for, and not `gen`
+check_found : (name : Text) → (fault_of program (name ∷ codes "check" ∷ []) ≡ []) ×
+    (number_of (codes "grid") 1 most_grid (subcommand_of program (name ∷ codes "check" ∷ [])) ≡ 1) ×
+    (is_command (codes "gen") (subcommand_of program (name ∷ codes "check" ∷ [])) ≡ false) ×
+    (is_command (codes "check") (subcommand_of program (name ∷ codes "check" ∷ [])) ≡ true)
+unfolding clap_on_literals
+check_found name = (refl, refl, refl, refl)
+
+-- so it is taken, and asks for a verdict
+pub check_words : (words : List (String Global)) → AreCheck words →
+    AreTaken words × ReadsSource words × (asks_check words ≡ true)
+unfolding AreTaken asks_drawn asks_check grid_size
+check_words words m =
+    let f = subst (λ (w : List Text). (fault_of program w ≡ []) ×
+    (number_of (codes "grid") 1 most_grid (subcommand_of program w) ≡ 1) ×
+    (is_command (codes "gen") (subcommand_of program w) ≡ false) ×
+    (is_command (codes "check") (subcommand_of program w) ≡ true)) (sym m.1) (check_found m.0) in
+    ((f.0, ap is_grid_size f.1), f.2, f.3)
 
 pub default_words : (words : List (String Global)) → AreMesh words ⊎ AreMeshOrder words ⊎ AreShape words ⊎
     AreShapeOrder words
@@ -313,20 +336,24 @@ number_not_read text least most small none = by (is_unsigned_in least most text)
 pub reads_file : (words : List (String Global)) (making : Making) (asked : Asked) → IsTask words (Report making asked) →
     ReadsFile words × (asks_steps words ≡ false) × (asks_parts words ≡ false) × (asked.shape ≡ asks_shape words) ×
     (asked.order ≡ asks_order words) × (making.workers ≡ worker_count words)
-unfolding asks_drawn asks_steps asks_parts asks_shape asks_order worker_count
+unfolding asks_drawn asks_check asks_steps asks_parts asks_shape asks_order worker_count
 reads_file words making asked k = (k.1, k.2, k.3, k.4, k.5, k.0.workers)
 
 pub steps_file : (words : List (String Global)) (making : Making) → IsTask words (Step making) → ReadsFile words ×
     (asks_steps words ≡ true) × (making.workers ≡ worker_count words)
-unfolding asks_drawn asks_steps worker_count
+unfolding asks_drawn asks_check asks_steps worker_count
 steps_file words making k = (k.1, k.2, k.0.workers)
 
 pub parts_file : (words : List (String Global)) (making : Making) (wanted : Wanted) →
     IsTask words (Part making wanted) →
     ReadsFile words × (asks_steps words ≡ false) × (asks_parts words ≡ true) × (wanted.alpha ≡ asked_alpha words) ×
     (wanted.most ≡ asked_most words) × (wanted.off ≡ asked_index words) × (making.workers ≡ worker_count words)
-unfolding asks_drawn asks_steps asks_parts asked_alpha asked_most asked_index worker_count
+unfolding asks_drawn asks_check asks_steps asks_parts asked_alpha asked_most asked_index worker_count
 parts_file words making wanted k = (k.1, k.2, k.3, k.4, k.5, k.6, k.0.workers)
+
+pub check_mesh : (words : List (String Global)) → IsTask words Check → ReadsSource words × (asks_check words ≡ true)
+unfolding asks_drawn asks_check
+check_mesh words k = k
 
 pub draws_file : (words : List (String Global)) (making : Making) (drawn : Drawn) → IsTask words (Draw making drawn) →
     DrawsFile words × (drawn.count ≡ drawn_count words) × (drawn.start ≡ drawn_start words) ×

@@ -53,7 +53,8 @@ use Rattle.delaunay_cli.specs.declared.task.Asked.{Asked}
 use Rattle.delaunay_cli.specs.declared.task.Drawn.{Drawn}
 use Rattle.delaunay_cli.specs.declared.task.Making.{Making}
 use Rattle.delaunay_cli.specs.declared.task.Wanted.{Wanted}
-use Rattle.delaunay_cli.specs.declared.task.Task.TheVariants.{Report, Step, Part, Draw}
+use Rattle.delaunay_cli.specs.declared.task.Task.TheVariants.{Report, Step, Part, Check, Draw}
+use Rattle.delaunay_cli.specs.Checked.{IsChecked, IsUnchecked, TellsVerdict}
 use Rattle.delaunay_cli.specs.Commands.{Makes, MakesNone, Promise}
 use Rattle.delaunay_cli.specs.Ends.{Ends, IsMade, IsPut, IsUnmade}
 use Rattle.delaunay_cli.specs.Page.{IsSound, text_of_page}
@@ -61,16 +62,19 @@ use Rattle.delaunay_cli.specs.Files.{FileEnds, HasNoMesh, IsOfFile, IsVerdict}
 use Rattle.delaunay_cli.specs.Parted.{IsParted, IsPartedFile, PartEnds, TellsParts}
 use Rattle.delaunay_cli.specs.Reported.{IsReported}
 use Rattle.delaunay_cli.specs.Stepped.{IsStepped, IsSteppedFile}
-use Rattle.delaunay_cli.specs.Run.{Reads}
-use Rattle.delaunay_cli.specs.Statuses.{HasText, IsEarly, IsWhole, IsFaultLine, IsToldLine, plain_line}
+use Rattle.delaunay_cli.specs.Run.{Reads, ReadsTo, input_limit, limit_of, mesh_limit}
+use Rattle.delaunay_cli.specs.Statuses.{HasText, IsEarly, IsFaultFor, IsLineOf, IsToldLine, IsWhole, plain_line}
 use Rattle.delaunay_cli.specs.Stops.{IsLate, line_of, line_of_end, status_of, status_of_end, status_of_made}
 use Rattle.delaunay_cli.specs.Words.{
   AreTaken,
+  Checks,
   DrawsFile,
   Draws,
   Kind,
   Parts,
   ReadsFile,
+  ReadsMesh,
+  ReadsSource,
   Reports,
   Steps,
   WritesParts,
@@ -79,6 +83,7 @@ use Rattle.delaunay_cli.specs.Words.{
   asked_alpha,
   asked_index,
   asked_most,
+  asks_check,
   asks_drawn,
   asks_order,
   asks_parts,
@@ -90,27 +95,10 @@ use Rattle.delaunay_cli.specs.Words.{
 use Rattle.delaunay_cli.specs.Drawn.{IsDrawn}
 use Rattle.delaunay_cli.specs.Tasks.{IsTask}
 use Rattle.delaunay_cli.specs.Report.{text_of}
+use Rattle.delaunay_cli.proofs.ChecksEnded.{check_early, check_made, check_unmade, status_unchecked}
 use Rattle.delaunay_cli.proofs.DrawnFiles.{drawn_asked}
-use Rattle.delaunay_cli.proofs.CommandLine.{draws_file, parts_file, reads_file, steps_file}
-
--- a status with a text is 0, 4 or above 7
-no_other : (status : ℕ) → HasText status → (k : ℕ) → 0 < k → k ≤ 7 → 4 ≢ k → status ≡ k → ⊥
-no_other status (inl (inl z)) k a b n e = omega (arith, a, z, e)
-no_other status (inl (inr l)) k a b n e = omega (arith, b, l, e)
-no_other status (inr z) k a b n e = n (sym z ∙ e)
-
--- a status that is 0 or 4 is one with a text
-pub has_text : (status : ℕ) → (status ≡ 0) ⊎ (status ≡ 4) → HasText status
-has_text status s = elim s [ inl z ↦ inl (inl z) | inr z ↦ inr z ]
-
-pub stopped_only : (status : ℕ) → status ≤ 7 → status ≢ 0 → status ≢ 4 → HasText status → ⊥
-stopped_only status l a b (inl (inl z)) = a z
-stopped_only status l a b (inl (inr m)) = omega (arith, l, m)
-stopped_only status l a b (inr z) = b z
-
-early_only : (status : ℕ) → (status ≡ 1) ⊎ (status ≡ 2) → HasText status → ⊥
-early_only status (inl z) k = no_other status k 1 (omega arith) (omega arith) (λ e. omega (arith, e)) z
-early_only status (inr z) k = no_other status k 2 (omega arith) (omega arith) (λ e. omega (arith, e)) z
+use Rattle.delaunay_cli.proofs.TextStatuses.{early_only, has_text, no_other, stopped_only, whole_only}
+use Rattle.delaunay_cli.proofs.CommandLine.{check_mesh, draws_file, parts_file, reads_file, steps_file}
 
 -- of bytes of which a text is made, none of the statuses 5, 6 and 7 comes
 verdict_made : (status workers : ℕ) (h : List Entry) (P : Content → Type 0) (bytes : List ℕ) → HasText status →
@@ -203,11 +191,6 @@ late_whole (Some NoPart) l = (inr (omega arith), omega arith, refl)
 late_whole (Some NoAlpha) l = (inr (omega arith), omega arith, refl)
 late_whole (Some BadMesh) l = (inr (omega arith), omega arith, refl)
 late_whole (Some stop) l = absurd l
-
--- a status of a whole text is none from 1 to 7
-whole_only : (status k : ℕ) → IsWhole status → 0 < k → k ≤ 7 → status ≡ k → ⊥
-whole_only status k (inl z) a b e = omega (arith, a, z, e)
-whole_only status k (inr l) a b e = omega (arith, b, l, e)
 
 -- what is promised where something was made of a file, where no mesh was, and of an early end
 file_made : (workers : ℕ) (h : List Entry) (P : Content → Type 0) (left : Option (List ℕ)) (status : ℕ) →
@@ -323,6 +306,7 @@ promise_made Steps words left late h text m status s = file_made (worker_count w
     (λ file. IsStepped (replay h) text) left status m.1 (plain_end status late text m.0 s)
 promise_made Parts words left late h text m status s = part_made (worker_count words) (asked_alpha words)
     (asked_most words) (asked_index words) left late h text m.0 m.1 status s
+promise_made Checks words left late h text m status s = check_made left late h text m.0 m.1 m.2 status s
 promise_made Draws words left late h text m status s = record {
   statuses =
       elim (plain_end status late text m.0 s) [ inl z ↦ inl (omega (arith, z)) | inr z ↦ inr z ];
@@ -337,6 +321,7 @@ promise_unmade Steps words left failed stop u = file_unmade (IsSteppedFile (work
     u
 promise_unmade Parts words left failed stop u = part_unmade (worker_count words) (asked_alpha words)
     (asked_most words) (asked_index words) left failed stop u
+promise_unmade Checks words left failed stop u = check_unmade left failed stop u
 promise_unmade Draws words left failed stop u = absurd u
 
 promise_early : (kind : Kind) (words : List (String Global)) (left : Option (List ℕ)) (status : ℕ) → (status ≡ 1) ⊎
@@ -346,6 +331,7 @@ promise_early Reports words left status s = file_early (IsReported (worker_count
 promise_early Steps words left status s = file_early (IsSteppedFile (worker_count words) [] []) left status s
 promise_early Parts words left status s = part_early (worker_count words) (asked_alpha words) (asked_most words)
     (asked_index words) left status s
+promise_early Checks words left status s = check_early left status s
 promise_early Draws words left status s = record {
   statuses = inl (elim s
       [ inl z ↦ omega (arith, z) | inr z ↦ omega (arith, z) ]);
@@ -360,21 +346,24 @@ status_unmade : (kind : Kind) (left : Option (List ℕ)) (failed : Type 0) (stop
 status_unmade Reports left failed stop u = status_unmeshed left failed stop u
 status_unmade Steps left failed stop u = status_unmeshed left failed stop u
 status_unmade Parts left failed stop u = status_unmeshed left failed stop u
+status_unmade Checks left failed stop u = status_unchecked left failed stop u
 status_unmade Draws left failed stop u = absurd u
 
 -- where a line is told to be bad, it is that of a fault of the bytes
 fault_told : (kind : Kind) (left : Option (List ℕ)) (failed : Type 0) (line : Vec ℕ Global) →
-    MakesNone kind left failed (BadLine line) → IsFaultLine left line.items
+    MakesNone kind left failed (BadLine line) → IsLineOf (IsFaultFor kind) left line.items
 fault_told Reports left failed line u = u.0
 fault_told Steps left failed line u = u.0
 fault_told Parts left failed line u = u.0
+fault_told Checks left failed line u = u.0
 fault_told Draws left failed line u = absurd u
 
 -- ---- the end
 
 -- where all is read, what comes behind it changes nothing of that
-reads_front : (old new : Option (List ℕ)) (status : ℕ) → Reads old new 0 → Reads old new status
-reads_front old new status r =
+reads_front : (limit : ℕ) (old new : Option (List ℕ)) (status : ℕ) → ReadsTo limit old new 0 →
+    ReadsTo limit old new status
+reads_front limit old new status r =
     record {
       taken = r.taken;
       consumed = r.consumed;
@@ -388,8 +377,8 @@ reads_front old new status r =
     }
 
 -- and so where memory is wanting then
-reads_stopped : (old new : Option (List ℕ)) → Reads old new 0 → Reads old new 1
-reads_stopped old new r = record {
+reads_stopped : (limit : ℕ) (old new : Option (List ℕ)) → ReadsTo limit old new 0 → ReadsTo limit old new 1
+reads_stopped limit old new r = record {
   taken = r.taken;
   consumed = r.consumed;
   within = r.within;
@@ -400,10 +389,14 @@ reads_stopped old new r = record {
 
 module _ (words : List (String Global)) (left_old left_new : Option (List ℕ)) (read_failed : Type 0)
     (held holds : Option (List ℕ)) (write_failed : Type 0) where
+  -- how much was read, where the source is
+  abbrev HasRead : ℕ → Type 0
+  HasRead status = ReadsSource words → ReadsTo (limit_of (kind_of words)) left_old left_new status
+
   -- a run that stopped before a write
   unmade : (status : ℕ) → (status ≤ 7) × (status ≢ 0) × (status ≢ 4) →
       (status ≢ 1 → status ≡ 2 ↔ (AreTaken words → ⊥)) → (status ≡ 3 → read_failed)
-      → Promise (kind_of words) words left_old status [] [] → (ReadsFile words → Reads left_old left_new status) →
+      → Promise (kind_of words) words left_old status [] [] → HasRead status →
       Keeps held holds
       → Ends words left_old left_new read_failed held holds write_failed status []
   unmade status n usage read promise reads keeps =
@@ -424,7 +417,7 @@ module _ (words : List (String Global)) (left_old left_new : Option (List ℕ)) 
       }
 
   stopped : (stop : Stop) → IsUnmade words left_old read_failed stop →
-      (ReadsFile words → Reads left_old left_new (status_of stop)) → Keeps held holds
+      HasRead (status_of stop) → Keeps held holds
       → Ends words left_old left_new read_failed held holds write_failed (status_of stop) []
   stopped Memory s reads keeps =
       unmade 1 (omega arith, λ e. omega (arith, e), λ e. omega (arith, e)) (λ n. absurd (n refl))
@@ -439,9 +432,9 @@ module _ (words : List (String Global)) (left_old left_new : Option (List ℕ)) 
 
   -- a run that wrote
   made : (late : ℕ) (h : List Entry) (text : List ℕ) → IsLegal h → IsMade words left_old late h text →
-      (ReadsFile words → IsAtEnd left_new) → (status : ℕ) → (status ≡ late) ⊎ ((status ≡ 4) × (text ≢ [])) →
+      (ReadsSource words → IsAtEnd left_new) → (status : ℕ) → (status ≡ late) ⊎ ((status ≡ 4) × (text ≢ [])) →
       HasText status → status ≤ 10
-      → (ReadsFile words → Reads left_old left_new status) → (status ≡ 4 → write_failed) →
+      → HasRead status → (status ≡ 4 → write_failed) →
       (IsWhole status → Appends held holds text) → (status ≡ 4 → AppendsFront held holds text)
       → Ends words left_old left_new read_failed held holds write_failed status h
   made late h text legal m end status s has small reads failed whole front =
@@ -468,7 +461,7 @@ module _ (words : List (String Global)) (left_old left_new : Option (List ℕ)) 
   pub ends : (m : Result Made Stop) (stop : Option Stop) (status : ℕ) (h : List Entry) → IfOk m IsSound →
       IfOk m (λ made. IsMade words left_old (status_of_end made.after) made.kept.items (text_of_page made.page)) →
       IfErr m (IsUnmade words left_old read_failed)
-      → (ReadsFile words → Reads left_old left_new (status_of_made m)) → (ReadsFile words → IsOk m → IsAtEnd left_new) →
+      → HasRead (status_of_made m) → (ReadsSource words → IsOk m → IsAtEnd left_new) →
       status ≡ status_of_end stop
       → IfOk m (λ made. IsPut write_failed held holds (text_of_page made.page) made.after made.kept.items stop h) →
       IfErr m (λ s. (stop ≡ Some s) × (h ≡ []) × Keeps held holds)
@@ -493,48 +486,51 @@ module _ (words : List (String Global)) (left_old left_new : Option (List ℕ)) 
           let k = subst IsWhole (sym z) l.0 in
           kept w.1 (made (status_of_end v.after) v.kept.items (text_of_page v.page) sound.legal m (λ r. end r refl)
           status (inl z) (inl k) (subst (λ (n : ℕ). n ≤ 10) (sym z) l.1)
-          (λ r. reads_front left_old left_new status (reads r)) (λ f. absurd
+          (λ r. reads_front (limit_of (kind_of words)) left_old left_new status (reads r)) (λ f. absurd
           (whole_only status 4 k (omega arith) (omega arith) f)) (λ f. w.2)
           (λ f. absurd (whole_only status 4 k (omega arith) (omega arith) f)))
       by (inr (inl w)) =
           let z = e ∙ ap status_of_end w.0 in
           kept w.1 (made (status_of_end v.after) v.kept.items (text_of_page v.page) sound.legal m (λ r. end r refl)
           status (inr (z, w.4)) (inr z) (omega (arith, z))
-          (λ r. reads_front left_old left_new status (reads r)) (λ f. w.2)
+          (λ r. reads_front (limit_of (kind_of words)) left_old left_new status (reads r)) (λ f. w.2)
           (λ f. absurd (whole_only status 4 f (omega arith) (omega arith) z)) (λ f. w.3))
       by (inr (inr w)) =
           subst (λ (n : ℕ). Ends words left_old left_new read_failed held holds write_failed n h)
           (sym (e ∙ ap status_of_end w.0))
           (subst (λ (l : List Entry). Ends words left_old left_new read_failed held holds write_failed 1 l) (sym w.1)
-          (stopped Memory tt (λ r. reads_stopped left_old left_new (reads r)) w.2))
+          (stopped Memory tt (λ r. reads_stopped (limit_of (kind_of words)) left_old left_new (reads r)) w.2))
 
   -- and its line
+  abbrev TheLine : ℕ → List ℕ → Type 0
+  TheLine status line = IsToldLine (kind_of words) left_old status line
+
   pub told : (m : Result Made Stop) (stop : Option Stop) (status : ℕ) (h : List Entry) → IfOk m IsSound →
       IfErr m (IsUnmade words left_old read_failed) → status ≡ status_of_end stop
       → IfOk m (λ made. IsPut write_failed held holds (text_of_page made.page) made.after made.kept.items stop h) →
-      IfErr m (λ s. (stop ≡ Some s) × (h ≡ []) × Keeps held holds) → IsToldLine left_old status (line_of_end stop)
+      IfErr m (λ s. (stop ≡ Some s) × (h ≡ []) × Keeps held holds) → TheLine status (line_of_end stop)
   told (Err s) stop status h sound u e put stopped_by =
-      subst (λ (n : ℕ). IsToldLine left_old n (line_of_end stop)) (sym e)
-      (subst (λ (o : Option Stop). IsToldLine left_old (status_of_end o) (line_of_end o)) (sym stopped_by.0)
+      subst (λ (n : ℕ). IsToldLine (kind_of words) left_old n (line_of_end stop)) (sym e)
+      (subst (λ (o : Option Stop). TheLine (status_of_end o) (line_of_end o)) (sym stopped_by.0)
       (by s u))
     where
-      by : (s : Stop) → IsUnmade words left_old read_failed s → IsToldLine left_old (status_of s) (line_of s)
+      by : (s : Stop) → IsUnmade words left_old read_failed s → TheLine (status_of s) (line_of s)
       by (BadLine line) u = record {
         plain = λ n. absurd (n refl);
         bad =
             λ k. fault_told (kind_of words) left_old read_failed line u.1;
       }
       by s u = record { plain = λ n. refl; bad = λ k. absurd (omega (arith, k)) }
-  told (Ok v) stop status h sound u e put stopped_by = subst (λ (n : ℕ). IsToldLine left_old n (line_of_end stop))
+  told (Ok v) stop status h sound u e put stopped_by = subst (λ (n : ℕ). TheLine n (line_of_end stop))
       (sym e) (by put)
     where
       at : (o : Option Stop) → stop ≡ o → line_of_end o ≡ plain_line (status_of_end o) → status_of_end o ≢ 5 →
-          IsToldLine left_old (status_of_end stop) (line_of_end stop)
-      at o z l n = subst (λ (p : Option Stop). IsToldLine left_old (status_of_end p) (line_of_end p)) (sym z)
+          IsToldLine (kind_of words) left_old (status_of_end stop) (line_of_end stop)
+      at o z l n = subst (λ (p : Option Stop). TheLine (status_of_end p) (line_of_end p)) (sym z)
           (record { plain = λ k. l; bad = λ k. absurd (n k) })
 
       by : IsPut write_failed held holds (text_of_page v.page) v.after v.kept.items stop h →
-          IsToldLine left_old (status_of_end stop) (line_of_end stop)
+          IsToldLine (kind_of words) left_old (status_of_end stop) (line_of_end stop)
       by (inl w) = let l = late_whole v.after sound.late in at v.after w.0 l.2
           (λ k. whole_only (status_of_end v.after) 5 l.0 (omega arith) (omega arith) k)
       by (inr (inl w)) = at (Some WriteFault) w.0 refl (λ k. omega (arith, k))
@@ -557,21 +553,32 @@ module _ (words : List (String Global)) (left_old left_new : Option (List ℕ)) 
 -- ---- what a command makes is what the words ask for
 
 -- the kind of words that draw, and of words that read
+abbrev kind_by : Bool → Bool → Bool → Bool → Kind
+kind_by drawn check steps parts =
+    cond drawn Draws (cond check Checks (cond steps Steps (cond parts Parts Reports)))
+
 pub draws : (words : List (String Global)) → DrawsFile words → kind_of words ≡ Draws
-draws words d =
-    ap (λ (b : Bool). cond b Draws (cond (asks_steps words) Steps (cond (asks_parts words) Parts Reports))) d
+draws words d = ap (λ (b : Bool). kind_by b (asks_check words) (asks_steps words) (asks_parts words)) d
+
+pub checks_kind : (words : List (String Global)) → ReadsSource words → asks_check words ≡ true → ReadsMesh words
+checks_kind words r t =
+    ap (λ (b : Bool). kind_by b (asks_check words) (asks_steps words) (asks_parts words)) r
+    ∙ ap (λ (b : Bool). kind_by false b (asks_steps words) (asks_parts words)) t
+
+file_kind : (words : List (String Global)) → ReadsFile words →
+    kind_of words ≡ kind_by false false (asks_steps words) (asks_parts words)
+file_kind words r =
+    ap (λ (b : Bool). kind_by b (asks_check words) (asks_steps words) (asks_parts words)) r.0
+    ∙ ap (λ (b : Bool). kind_by false b (asks_steps words) (asks_parts words)) r.1
 
 pub steps_kind : (words : List (String Global)) → ReadsFile words → asks_steps words ≡ true → kind_of words ≡ Steps
-steps_kind words r t =
-    ap (λ (b : Bool). cond b Draws (cond (asks_steps words) Steps (cond (asks_parts words) Parts Reports))) r
-    ∙ ap (λ (b : Bool). cond b Steps (cond (asks_parts words) Parts Reports)) t
+steps_kind words r t = file_kind words r ∙ ap (λ (b : Bool). kind_by false false b (asks_parts words)) t
 
 pub read_kind : (words : List (String Global)) (b : Bool) → ReadsFile words → asks_steps words ≡ false →
     asks_parts words ≡ b → kind_of words ≡ cond b Parts Reports
 read_kind words b r t p =
-    ap (λ (d : Bool). cond d Draws (cond (asks_steps words) Steps (cond (asks_parts words) Parts Reports))) r
-    ∙ ap (λ (d : Bool). cond d Steps (cond (asks_parts words) Parts Reports)) t
-    ∙ ap (λ (d : Bool). cond d Parts Reports) p
+    file_kind words r ∙ ap (λ (d : Bool). kind_by false false d (asks_parts words)) t
+    ∙ ap (λ (d : Bool). kind_by false false false d) p
 
 pub kind_read : (words : List (String Global)) → ReadsFile words →
     WritesReport words ⊎ WritesSteps words ⊎ WritesParts words
@@ -587,12 +594,51 @@ kind_read words r =
 -- a file is read for a report, for the least alphas, and for the parts
 pub reading : (words : List (String Global)) → WritesReport words ⊎ WritesSteps words ⊎ WritesParts words →
     ReadsFile words
-reading words k = elim (cases_Bool (asks_drawn words)) [ inl d ↦ absurd (drawn (draws words d) k) | inr r ↦ r ]
+reading words k =
+    elim (cases_Bool (asks_drawn words)) [
+      | inl d ↦ absurd (drawn (draws words d) k)
+      | inr r ↦ elim (cases_Bool (asks_check words)) [
+        | inl t ↦ absurd (checks (checks_kind words r t) k)
+        | inr f ↦ (r, f)
+      ]
+    ]
   where
     drawn : kind_of words ≡ Draws → WritesReport words ⊎ WritesSteps words ⊎ WritesParts words → ⊥
     drawn e (inl w) = let z : Draws ≡ Reports = sym e ∙ w in cc
     drawn e (inr (inl w)) = let z : Draws ≡ Steps = sym e ∙ w in cc
     drawn e (inr (inr w)) = let z : Draws ≡ Parts = sym e ∙ w in cc
+
+    checks : kind_of words ≡ Checks → WritesReport words ⊎ WritesSteps words ⊎ WritesParts words → ⊥
+    checks e (inl w) = let z : Checks ≡ Reports = sym e ∙ w in cc
+    checks e (inr (inl w)) = let z : Checks ≡ Steps = sym e ∙ w in cc
+    checks e (inr (inr w)) = let z : Checks ≡ Parts = sym e ∙ w in cc
+
+-- and for a verdict the source is
+pub mesh_reading : (words : List (String Global)) → ReadsMesh words → ReadsSource words
+mesh_reading words w =
+    elim (cases_Bool (asks_drawn words)) [
+      | inl d ↦ absurd (let e = draws words d in let z : Draws ≡ Checks = sym e ∙ w in cc)
+      | inr r ↦ r
+    ]
+
+-- what an edit file may have of bytes
+pub file_limit : (words : List (String Global)) → ReadsFile words → limit_of (kind_of words) ≡ input_limit
+file_limit words r = elim (kind_read words r) [
+  | inl k ↦ ap limit_of k
+  | inr (inl k) ↦ ap limit_of k
+  | inr (inr k) ↦ ap limit_of k
+]
+
+-- how much was read is as it may be
+pub reads_within : (words : List (String Global)) (old new : Option (List ℕ)) (status : ℕ) → ReadsFile words →
+    Reads old new status → ReadsTo (limit_of (kind_of words)) old new status
+reads_within words old new status r k =
+    subst (λ (limit : ℕ). ReadsTo limit old new status) (sym (file_limit words r)) k
+
+pub mesh_within : (words : List (String Global)) (old new : Option (List ℕ)) (status : ℕ) → ReadsMesh words →
+    ReadsTo mesh_limit old new status → ReadsTo (limit_of (kind_of words)) old new status
+mesh_within words old new status r k =
+    subst (λ (kind : Kind). ReadsTo (limit_of kind) old new status) (sym r) k
 
 module _ (words : List (String Global)) (left : Option (List ℕ)) (failed : Type 0) (making : Making)
     (taken : AreTaken words) where
@@ -699,3 +745,27 @@ module _ (words : List (String Global)) (left : Option (List ℕ)) (failed : Typ
               drawn_asked making drawn words made.kept.items (text_of_page made.page) k d,
             ),
       )
+
+-- `check`
+module _ (words : List (String Global)) (left : Option (List ℕ)) (failed : Type 0) (taken : AreTaken words)
+    (t : IsTask words Check) where
+  pub reads_mesh : ReadsMesh words
+  reads_mesh = let k = check_mesh words t in checks_kind words k.0 k.1
+
+  pub checked_made : (m : Result Made Stop)
+      → IfOk m (λ made. IfSome left (IsChecked (status_of_end made.after) (text_of_page made.page))) →
+      IfOk m (λ made. TellsVerdict (status_of_end made.after)) → IfOk m (λ made. made.kept.items ≡ []) →
+      IfOk m (λ made. IsMade words left (status_of_end made.after) made.kept.items (text_of_page made.page))
+  checked_made (Err stop) r v n = tt
+  checked_made (Ok made) r v n = (
+    taken,
+    subst (λ (kind : Kind). Makes kind words left (status_of_end made.after) made.kept.items (text_of_page made.page))
+        (sym reads_mesh) (v, n, r),
+  )
+
+  pub checked_unmade : {A : Type 0} (m : Result A Stop) → IfErr m (IsUnchecked left failed) →
+      IfErr m (IsUnmade words left failed)
+  checked_unmade (Ok made) u = tt
+  checked_unmade (Err Memory) u = tt
+  checked_unmade (Err Usage) u = absurd u
+  checked_unmade (Err stop) u = (taken, subst (λ (kind : Kind). MakesNone kind left failed stop) (sym reads_mesh) u)

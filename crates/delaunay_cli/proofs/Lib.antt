@@ -2,6 +2,8 @@ pub mod Lines
 pub mod Clouds
 pub mod CommandLine
 pub mod Judging
+pub mod TextStatuses
+pub mod ChecksEnded
 pub mod Ended
 pub mod Promised
 pub mod OpeningLines
@@ -12,3 +14,6 @@ pub mod NumberWords
 pub mod DealtLines
 pub mod Unwritten
 pub mod PartsTold
+pub mod MeshJudged
+pub mod ChecksTold
+pub mod PiecesRead

@@ -61,6 +61,7 @@ use Rattle.delaunay_cli.specs.Words.{
   asked_alpha,
   asked_index,
   asked_most,
+  asks_check,
   asks_drawn,
   asks_parts,
   asks_shape,
@@ -248,6 +249,7 @@ AreFoundParts words a m i =
     × (number_of (codes "workers") 1 most_workers (subcommand_of program words) ≡ 1)
     × (number_of (codes "grid") 1 most_grid (subcommand_of program words) ≡ 4)
     × (is_command (codes "gen") (subcommand_of program words) ≡ false)
+    × (is_command (codes "check") (subcommand_of program words) ≡ false)
     × (is_command (codes "steps") (subcommand_of program words) ≡ false)
     × (is_command (codes "parts") (subcommand_of program words) ≡ true)
     × (number_of (codes "alpha") 0 most_alpha (subcommand_of program words) ≡ number_between 0 most_alpha a)
@@ -270,6 +272,7 @@ parts_at_found name a m i = (
   refl,
   refl,
   refl,
+  refl,
 )
 
 -- so they are taken, and ask for the parts at the alpha, the most parts and the index
@@ -279,7 +282,7 @@ parts_asked_at : (words : List (String Global)) (texts : List Text) (alpha most 
     AreTaken words × (worker_count words ≡ 1) × (grid_size words ≡ 4) × ReadsFile words × (asks_steps words ≡ false)
     × (asks_parts words ≡ true) × (asked_alpha words ≡ alpha) × (asked_most words ≡ most)
     × (asked_index words ≡ Some index)
-unfolding AreTaken grid_size worker_count asks_drawn asks_steps asks_parts asked_alpha asked_most asked_index
+unfolding AreTaken grid_size worker_count asks_drawn asks_check asks_steps asks_parts asked_alpha asked_most asked_index
 parts_asked_at words texts alpha most index a m i e found =
     let f = subst (λ (w : List Text). AreFoundParts w (decimal alpha) (decimal most) (decimal index)) (sym e) found in (
       (
@@ -290,12 +293,12 @@ parts_asked_at words texts alpha most index a m i e found =
       ),
       f.1,
       f.2,
-      f.3,
-      f.4,
+      (f.3, f.4),
       f.5,
-      f.6 ∙ decimal_named 0 most_alpha alpha (omega arith) a (omega arith),
-      f.7 ∙ decimal_named 0 most_index most (omega arith) m (omega arith),
-      f.8 ∙ ap (λ (n : ℕ). Some n) (decimal_named 0 most_index index (omega arith) i (omega arith)),
+      f.6,
+      f.7 ∙ decimal_named 0 most_alpha alpha (omega arith) a (omega arith),
+      f.8 ∙ decimal_named 0 most_index most (omega arith) m (omega arith),
+      f.9 ∙ ap (λ (n : ℕ). Some n) (decimal_named 0 most_index index (omega arith) i (omega arith)),
     )
 
 -- the words `parts`, `--alpha=A`, `--most=K` and `--off=I` ask for A, K and I
@@ -329,6 +332,7 @@ AreFoundMeshing words w g shape steps parts =
     (is_signed_in (pos 1) (pos most_workers) w ≡ true → is_signed_in (pos 1) (pos most_grid) g ≡ true →
     fault_of program words ≡ [])
     × (is_command (codes "gen") (subcommand_of program words) ≡ false)
+    × (is_command (codes "check") (subcommand_of program words) ≡ false)
     × (number_of (codes "workers") 1 most_workers (subcommand_of program words) ≡ number_between 1 most_workers w)
     × (number_of (codes "grid") 1 most_grid (subcommand_of program words) ≡ number_between 1 most_grid g)
     × (is_command (codes "shape") (subcommand_of program words) ≡ shape)
@@ -340,6 +344,7 @@ unfolding clap_on_literals word_faults both_faults meshing_texts
 mesh_found name w g = (
   λ e k. ap₂ (λ (x y : Bool). both_faults (word_faults 1 most_workers x)
       (word_faults 1 most_grid y)) e k,
+  refl,
   refl,
   refl,
   refl,
@@ -359,6 +364,7 @@ shape_found name w g = (
   refl,
   refl,
   refl,
+  refl,
 )
 
 steps_found : (name w g : Text) → AreFoundMeshing (meshing_texts name (codes "steps") w g) w g false true false
@@ -366,6 +372,7 @@ unfolding clap_on_literals word_faults both_faults meshing_texts
 steps_found name w g = (
   λ e k. ap₂ (λ (x y : Bool). both_faults (word_faults 1 most_workers x)
       (word_faults 1 most_grid y)) e k,
+  refl,
   refl,
   refl,
   refl,
@@ -385,6 +392,7 @@ parts_found name w g = (
   refl,
   refl,
   refl,
+  refl,
 )
 
 -- so they are taken, and ask for these workers and this grid
@@ -397,22 +405,22 @@ meshing_asked : (words : List (String Global)) (texts : List Text) (workers grid
     0 < workers → workers ≤ most_workers → is_grid_size grid ≡ true → texts_of words ≡ texts
     → AreFoundMeshing texts (decimal workers) (decimal grid) shape steps parts →
     AreAskedMeshing words workers grid shape steps parts
-unfolding AreTaken asks_drawn worker_count grid_size asks_shape asks_steps asks_parts
+unfolding AreTaken asks_drawn asks_check worker_count grid_size asks_shape asks_steps asks_parts
 meshing_asked words texts workers grid shape steps parts some few size e found =
     let f = subst (λ (w : List Text). AreFoundMeshing w (decimal workers) (decimal grid) shape steps parts) (sym e)
     found in
-    let sized = f.3 ∙ decimal_named 1 most_grid grid (grid_above grid size) (grid_below grid size) (omega arith) in (
+    let sized = f.4 ∙ decimal_named 1 most_grid grid (grid_above grid size) (grid_below grid size) (omega arith) in (
       (
         f.0 (decimal_taken 1 most_workers workers (omega (arith, some)) few (omega arith))
             (decimal_taken 1 most_grid grid (grid_above grid size) (grid_below grid size) (omega arith)),
         ap is_grid_size sized ∙ size,
       ),
-      f.2 ∙ decimal_named 1 most_workers workers (omega (arith, some)) few (omega arith),
+      f.3 ∙ decimal_named 1 most_workers workers (omega (arith, some)) few (omega arith),
       sized,
-      f.4,
-      f.1,
       f.5,
+      (f.1, f.2),
       f.6,
+      f.7,
     )
 
 -- the words `mesh`, `shape`, `steps` or `parts`, `--workers=N` and `--grid=M` ask for N workers and a grid of size M

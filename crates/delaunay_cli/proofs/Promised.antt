@@ -42,6 +42,7 @@ use Rattle.plain_laws.specs.Plain.{IsAnchored}
 use Rattle.solid_parts.specs.Parts.{AreParts}
 use Rattle.solid_parts.proofs.Cited.{same_count}
 use Rattle.alpha_complex.specs.Shapes.{shape_of}
+use Rattle.delaunay_cli.specs.Checked.{CheckEnds}
 use Rattle.delaunay_cli.specs.Commands.{Promise}
 use Rattle.delaunay_cli.specs.Drawn.{DrawEnds, IsKeptOfDrawn, drawn_file}
 use Rattle.delaunay_cli.specs.Ends.{Ends}
@@ -64,11 +65,13 @@ use Rattle.delaunay_cli.specs.Run.{IsKept, IsSolidFile, Writes, WritesFront, inp
 use Rattle.delaunay_cli.specs.Statuses.{HasText, IsEarly, IsWhole}
 use Rattle.delaunay_cli.specs.Words.{
   AreTaken,
+  Checks,
   Draws,
   DrawsFile,
   Kind,
   Parts,
   ReadsFile,
+  ReadsMesh,
   Reports,
   Steps,
   WritesParts,
@@ -83,20 +86,42 @@ use Rattle.delaunay_cli.specs.Words.{
   kind_of,
   worker_count,
 }
-use Rattle.delaunay_cli.proofs.Ended.{draws, has_text, kind_read, reading, stopped_only}
+use Rattle.delaunay_cli.proofs.Ended.{draws, kind_read, reading}
+use Rattle.delaunay_cli.proofs.TextStatuses.{has_text, stopped_only}
 use Rattle.delaunay_cli.proofs.PlainTexts.{drawn_is_plain, kept_is_plain}
 
--- no status above 9 comes, and none above 7 but of `parts`
-pub up_to_9 : (kind : Kind) (words : List (String Global)) (left : Option (List ℕ)) (status : ℕ) (h : List Entry)
-    (text : List ℕ) → Promise kind words left status h text → (status ≤ 9) × (7 < status → kind ≡ Parts)
-up_to_9 Reports words left status h text p =
-    let l = p.statuses in (omega (arith, l), λ k. absurd (omega (arith, l, k)))
-up_to_9 Steps words left status h text p =
-    let l = p.statuses in (omega (arith, l), λ k. absurd (omega (arith, l, k)))
-up_to_9 Parts words left status h text p = (p.statuses, λ k. refl)
-up_to_9 Draws words left status h text p = elim p.statuses [
-  | inl l ↦ (omega (arith, l), λ k. absurd (omega (arith, l, k)))
-  | inr e ↦ (omega (arith, e), λ k. absurd (omega (arith, e, k)))
+-- no status above 10 comes, 8 and 9 only of `parts`, and 10 only of `check`
+IsUpTo : Kind → ℕ → Type 0
+IsUpTo kind status =
+    (status ≤ 10) × ((status ≡ 8) ⊎ (status ≡ 9) → kind ≡ Parts) × (status ≡ 10 → kind ≡ Checks)
+
+few : (kind : Kind) (status : ℕ) → status ≤ 7 → IsUpTo kind status
+unfolding IsUpTo
+few kind status l = (
+  omega (arith, l),
+  λ k. absurd (elim k [ inl e ↦ omega (arith, l, e) | inr e ↦ omega (arith, l, e) ]),
+  λ e. absurd (omega (arith, l, e)),
+)
+
+up_to_10 : (kind : Kind) (words : List (String Global)) (left : Option (List ℕ)) (status : ℕ) (h : List Entry)
+    (text : List ℕ) → Promise kind words left status h text → IsUpTo kind status
+unfolding IsUpTo
+up_to_10 Reports words left status h text p = few Reports status p.statuses
+up_to_10 Steps words left status h text p = few Steps status p.statuses
+up_to_10 Parts words left status h text p =
+    let l = p.statuses in (omega (arith, l), λ k. refl, λ e. absurd (omega (arith, l, e)))
+up_to_10 Checks words left status h text p = elim p.statuses [
+  | inl l ↦ few Checks status (omega (arith, l))
+  | inr (inl e) ↦ few Checks status (omega (arith, e))
+  | inr (inr e) ↦ (
+    omega (arith, e),
+    λ k. absurd (elim k [ inl z ↦ omega (arith, e, z) | inr z ↦ omega (arith, e, z) ]),
+    λ k. refl,
+  )
+]
+up_to_10 Draws words left status h text p = elim p.statuses [
+  | inl l ↦ few Draws status (omega (arith, l))
+  | inr e ↦ few Draws status (omega (arith, e))
 ]
 
 -- ---- what is told of parts
@@ -189,9 +214,10 @@ never_eight s alpha most status text p e = by p.at p.told
 module _ {words : List (String Global)} {left left_after : Option (List ℕ)} {read_failed : Type 0}
     {held holds : Option (List ℕ)} {write_failed : Type 0} {status : ℕ} {kept : List Entry}
     (e : Ends words left left_after read_failed held holds write_failed status kept) where
-  -- how high the status is
-  pub highest : (status ≤ 9) × (7 < status → WritesParts words)
-  highest = up_to_9 (kind_of words) words left status kept e.text e.promise
+  -- how high the status is, and of what command
+  pub highest : (status ≤ 10) × ((status ≡ 8) ⊎ (status ≡ 9) → WritesParts words) × (status ≡ 10 → ReadsMesh words)
+  unfolding IsUpTo
+  highest = up_to_10 (kind_of words) words left status kept e.text e.promise
 
   -- the status is none of a text
   pub no_text : status ≢ 0 → status ≢ 4 → status ≤ 7 → HasText status → ⊥
@@ -208,6 +234,9 @@ module _ {words : List (String Global)} {left left_after : Option (List ℕ)} {r
   pub of_parts : WritesParts words → PartEnds (worker_count words) (asked_alpha words) (asked_most words)
       (asked_index words) left status kept e.text
   of_parts w = subst (λ (kind : Kind). Promise kind words left status kept e.text) w e.promise
+
+  pub of_check : ReadsMesh words → CheckEnds left status kept e.text
+  of_check w = subst (λ (kind : Kind). Promise kind words left status kept e.text) w e.promise
 
   pub of_drawn : DrawsFile words → DrawEnds (asks_text words) (worker_count words) (drawn_file words) status kept e.text
   of_drawn d = subst (λ (kind : Kind). Promise kind words left status kept e.text) (draws words d) e.promise
@@ -230,8 +259,8 @@ module _ {words : List (String Global)} {left left_after : Option (List ℕ)} {r
       → IfSome left (IsOfFile (worker_count words) kept Q) → IfSome left
       (λ bytes. (file : Content) → IsFile file_limits bytes file → P file)
   of_one P Q f m =
-      if_some (IsOfFile (worker_count words) kept Q) (λ bytes. (file : Content) → IsFile file_limits bytes file → P file)
-      left (λ bytes m file is. subst P (one_file_of file_limits bytes m.file file m.is_file is)
+      if_some (IsOfFile (worker_count words) kept Q)
+      (λ bytes. (file : Content) → IsFile file_limits bytes file → P file) left (λ bytes m file is. subst P (one_file_of file_limits bytes m.file file m.is_file is)
       (f m.file m.kept m.text_is)) m
 
   pub of_kept : (P : Content → Type 0) → ((file : Content) → IsKept file (worker_count words) kept → P file)
@@ -378,10 +407,27 @@ module _ {words : List (String Global)} {left left_after : Option (List ℕ)} {r
       text × AppendsFront held holds text) left
       (λ bytes m. (e.text, m.text_is, e.front z)) ((of_parts w).cut z)
 
+  -- above 7 it is 8, 9 or 10
+  above : 7 < status → status ≢ 10 → (status ≡ 8) ⊎ (status ≡ 9)
+  above l n = elim (cases_eq status 8) [
+    | inl k ↦ inl k
+    | inr m ↦ inr (let t = highest.0 in omega (arith, l, n, m, t))
+  ]
+
+  -- where none of them comes with a history, none is kept
+  pub none_kept : status ≢ 0 → status ≢ 4 → status ≢ 8 → status ≢ 9 → kept ≡ []
+  none_kept a b c d = elim (cases_lt 7 status) [
+    | inl l ↦ elim (cases_eq status 10) [
+      | inl t ↦ (of_check (highest.2 t)).no_history
+      | inr n ↦ absurd (elim (above l n) [ inl k ↦ c k | inr k ↦ d k ])
+    ]
+    | inr l ↦ e.none_kept (no_text a b l)
+  ]
+
   -- of no text nothing is written
-  pub unchanged : status ≢ 0 → status ≢ 4 → Keeps held holds
-  unchanged a b = elim (cases_lt 7 status) [
-    | inl l ↦ kept_by held holds e.text ((of_parts (highest.1 l)).nothing l) (e.whole (inr l))
+  pub unchanged : status ≢ 0 → status ≢ 4 → status ≢ 10 → Keeps held holds
+  unchanged a b n = elim (cases_lt 7 status) [
+    | inl l ↦ kept_by held holds e.text ((of_parts (highest.1 (above l n))).nothing l) (e.whole (inr l))
     | inr l ↦ e.nothing (no_text a b l)
   ]
     where

@@ -1,14 +1,16 @@
 -- Command by command: what is made, why nothing is, and what is promised of the end of a run.
-use Rattle.std.specs.Prelude.{◌≡◌, ℕ, List, Option, IfSome, String}
+use Rattle.std.specs.Prelude.{◌≡◌, ℕ, List, [], Option, IfSome, String}
 use Rattle.std.specs.declared.alloc.Global.{Global}
 use Rattle.edit_history.specs.declared.history.Entry.{Entry}
 use Rattle.delaunay_cli.specs.declared.stop.Stop.{Stop}
+use Rattle.delaunay_cli.specs.Checked.{CheckEnds, IsChecked, IsUnchecked, TellsVerdict}
 use Rattle.delaunay_cli.specs.Drawn.{DrawEnds, IsDrawn, drawn_file}
 use Rattle.delaunay_cli.specs.Files.{HasNoMesh}
 use Rattle.delaunay_cli.specs.Parted.{IsPartedFile, PartEnds, TellsParts}
 use Rattle.delaunay_cli.specs.Reported.{IsReported, ReportEnds}
 use Rattle.delaunay_cli.specs.Stepped.{IsSteppedFile, StepEnds}
 use Rattle.delaunay_cli.specs.Words.{
+  Checks,
   Draws,
   Kind,
   Parts,
@@ -32,6 +34,8 @@ Makes Steps words left late h text = (late ≡ 0) × IfSome left (IsSteppedFile 
 Makes Parts words left late h text =
     TellsParts late text × IfSome left (IsPartedFile (worker_count words) (asked_alpha words) (asked_most words)
     (asked_index words) late h text)
+Makes Checks words left late h text =
+    TellsVerdict late × (h ≡ []) × IfSome left (IsChecked late text)
 Makes Draws words left late h text =
     (late ≡ 0) × IsDrawn (asks_text words) (worker_count words) (drawn_file words) h text
 
@@ -40,6 +44,7 @@ abbrev pub MakesNone : Kind → Option (List ℕ) → Type 0 → Stop → Type 0
 MakesNone Reports left failed stop = HasNoMesh left failed stop
 MakesNone Steps left failed stop = HasNoMesh left failed stop
 MakesNone Parts left failed stop = HasNoMesh left failed stop
+MakesNone Checks left failed stop = IsUnchecked left failed stop
 MakesNone Draws left failed stop = ⊥
 
 -- what it promises of the end of a run: by what the source had left, the status, the history and the text
@@ -49,5 +54,6 @@ Promise Reports words left status h text =
 Promise Steps words left status h text = StepEnds (worker_count words) left status h text
 Promise Parts words left status h text =
     PartEnds (worker_count words) (asked_alpha words) (asked_most words) (asked_index words) left status h text
+Promise Checks words left status h text = CheckEnds left status h text
 Promise Draws words left status h text =
     DrawEnds (asks_text words) (worker_count words) (drawn_file words) status h text

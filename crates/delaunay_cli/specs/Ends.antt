@@ -8,9 +8,9 @@ use Rattle.edit_history.specs.Histories.{IsLegal}
 use Rattle.delaunay_cli.specs.declared.stop.Stop.{Stop}
 use Rattle.delaunay_cli.specs.declared.stop.Stop.TheVariants.{Memory, Usage, WriteFault}
 use Rattle.delaunay_cli.specs.Commands.{Makes, MakesNone, Promise}
-use Rattle.delaunay_cli.specs.Run.{Reads}
+use Rattle.delaunay_cli.specs.Run.{ReadsTo, limit_of}
 use Rattle.delaunay_cli.specs.Statuses.{HasText, IsWhole}
-use Rattle.delaunay_cli.specs.Words.{AreTaken, ReadsFile, kind_of}
+use Rattle.delaunay_cli.specs.Words.{AreTaken, ReadsSource, kind_of}
 
 -- the words are taken, and this is the history and the text that their command makes
 abbrev pub IsMade : List (String Global) → Option (List ℕ) → ℕ → List Entry → List ℕ → Type 0
@@ -46,8 +46,8 @@ pub record Ends (words : List (String Global)) (left_old left_new : Option (List
   pub usage : status ≢ 1 → (status ≡ 2 ↔ (AreTaken words → ⊥))
   pub read_fault : status ≡ 3 → read_failed
   pub write_fault : status ≡ 4 → write_failed
-  pub reads : ReadsFile words → Reads left_old left_new status
-  pub to_its_end : ReadsFile words → IsWhole status → IsAtEnd left_new
+  pub reads : ReadsSource words → ReadsTo (limit_of (kind_of words)) left_old left_new status
+  pub to_its_end : ReadsSource words → IsWhole status → IsAtEnd left_new
   pub legal : IsLegal h
   pub text : List ℕ
   pub promise : Promise (kind_of words) words left_old status h text

@@ -13,10 +13,23 @@ use Rattle.edit_files.specs.Faults.{IsFault}
 use Rattle.edit_files.specs.declared.fault.Fault.{Fault}
 use Rattle.delaunay_cli.specs.Report.{text_of}
 use Rattle.delaunay_cli.specs.Statuses.{IsEarly}
+use Rattle.delaunay_cli.specs.Words.{Checks, Draws, Kind, Parts, Reports, Steps}
 
 -- how many bytes an input may have: 16,777,216
 abbrev pub input_limit : ℕ
 input_limit = 16777216
+
+-- how many the text of a mesh may have, since reports are longer: 1,073,741,824
+abbrev pub mesh_limit : ℕ
+mesh_limit = 1073741824
+
+-- how many bytes what a command reads may have
+abbrev pub limit_of : Kind → ℕ
+limit_of Reports = input_limit
+limit_of Steps = input_limit
+limit_of Parts = input_limit
+limit_of Checks = mesh_limit
+limit_of Draws = input_limit
 
 -- the history of one thread that makes the file's lines its edits
 abbrev pub history_of : Content → List Entry
@@ -32,14 +45,18 @@ pub record IsKept (file : Content) (workers : ℕ) (h : List Entry) : Type 0 whe
   pub alone : workers ≡ 1 → h ≡ history_of file
   pub dealt : AreDealt workers h
 
--- Bytes that were taken of a source, one more than the limit at most; all that it told, unless it was left early.
+-- Bytes that were taken of a source, one more than a limit at most; all that it told, unless it was left early.
 -- Where it was one more, the input is too long, or memory is wanting.
-pub record Reads (left_old left_new : Option (List ℕ)) (status : ℕ) : Type 0 where
+pub record ReadsTo (limit : ℕ) (left_old left_new : Option (List ℕ)) (status : ℕ) : Type 0 where
   pub taken : List ℕ
   pub consumed : Consumes left_old left_new taken
-  pub within : length taken ≤ input_limit + 1
-  pub whole : (IsEarly status → ⊥) → IsAtEnd left_new ⊎ (length taken ≡ input_limit + 1)
-  pub past : length taken ≡ input_limit + 1 → (status ≡ 7) ⊎ (status ≡ 1)
+  pub within : length taken ≤ limit + 1
+  pub whole : (IsEarly status → ⊥) → IsAtEnd left_new ⊎ (length taken ≡ limit + 1)
+  pub past : length taken ≡ limit + 1 → (status ≡ 7) ⊎ (status ≡ 1)
+
+-- the same for an edit file
+abbrev pub Reads : Option (List ℕ) → Option (List ℕ) → ℕ → Type 0
+Reads left_old left_new status = ReadsTo input_limit left_old left_new status
 
 -- the output gained the text of the file that the bytes are, and of the history, with shapes or without, and with its
 -- order block or not

@@ -22,6 +22,8 @@ use Rattle.std.specs.Io.KnownBytes.{Appends}
 use Rattle.byte_ends.specs.Ends.{AppendsFront, Rose}
 use Rattle.delaunay_cli.specs.Taken.{file_limits}
 use Rattle.edit_files.specs.Faults.{IsFault}
+use Rattle.mesh_reader.specs.Faults.{IsMeshFault}
+use Rattle.delaunay_cli.specs.Words.{Checks, Draws, Kind, Parts, Reports, Steps}
 
 -- the run ended before the input was read to its end or its limit: for want of memory, for its words, or by a fault
 -- of the source
@@ -61,20 +63,32 @@ why_word Truncated = codes "Truncated"
 abbrev pub fault_line : Fault → List ℕ
 fault_line fault = codes "delaunay: line " ++ decimal fault.line ++ codes ": " ++ why_word fault.why ++ codes "\n"
 
--- the line of a fault, and where the source told its bytes, of their fault
-pub record IsFaultLine (left : Option (List ℕ)) (line : List ℕ) : Type 0 where
+-- the line of a fault, and where the source told its bytes, of their fault, where `P` says what a fault of bytes is
+pub record IsLineOf (P : List ℕ → Fault → Type 0) (left : Option (List ℕ)) (line : List ℕ) : Type 0 where
   pub fault : Fault
   pub line_is : line ≡ fault_line fault
-  pub cause : IfSome left (λ bytes. IsFault file_limits bytes fault)
+  pub cause : IfSome left (λ bytes. P bytes fault)
 
--- The line that a run tells at its end, where the source had these bytes left, if it tells them.
-pub record IsToldLine (left : Option (List ℕ)) (status : ℕ) (line : List ℕ) : Type 0 where
+-- the same of an edit file
+abbrev pub IsFaultLine : Option (List ℕ) → List ℕ → Type 0
+IsFaultLine left line = IsLineOf (IsFault file_limits) left line
+
+-- the fault of the bytes that a command reads
+abbrev pub IsFaultFor : Kind → List ℕ → Fault → Type 0
+IsFaultFor Reports bytes fault = IsFault file_limits bytes fault
+IsFaultFor Steps bytes fault = IsFault file_limits bytes fault
+IsFaultFor Parts bytes fault = IsFault file_limits bytes fault
+IsFaultFor Checks bytes fault = IsMeshFault bytes fault
+IsFaultFor Draws bytes fault = ⊥
+
+-- The line that a run of a command tells at its end, where the source had these bytes left, if it tells them.
+pub record IsToldLine (kind : Kind) (left : Option (List ℕ)) (status : ℕ) (line : List ℕ) : Type 0 where
   pub plain : status ≢ 5 → line ≡ plain_line status
-  pub bad : status ≡ 5 → IsFaultLine left line
+  pub bad : status ≡ 5 → IsLineOf (IsFaultFor kind) left line
 
 -- a front of that line was told, and all of it where the count of faults did not rise
-pub record Tells (left old new : Option (List ℕ)) (faults_old faults_new status : ℕ) : Type 0 where
+pub record Tells (kind : Kind) (left old new : Option (List ℕ)) (faults_old faults_new status : ℕ) : Type 0 where
   pub line : List ℕ
-  pub is_line : IsToldLine left status line
+  pub is_line : IsToldLine kind left status line
   pub front : AppendsFront old new line
   pub whole : (Rose faults_old faults_new → ⊥) → Appends old new line

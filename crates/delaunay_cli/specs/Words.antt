@@ -137,10 +137,11 @@ abbrev pub parts_command : App
 parts_command =
     with_rule (with_rule (with_rule (meshing_command (codes "parts")) alpha_option) most_option) index_option
 
--- the program: it takes the word of a command, and has the five
+-- the program: it takes the word of a command, and has the six; `check` takes no option
 abbrev pub program : App
 program =
     with_subcommand
+    (with_subcommand
     (with_subcommand
     (with_subcommand
     (with_subcommand
@@ -149,7 +150,8 @@ program =
     (command_of (codes "shape")).top)
     gen_command.top)
     (meshing_command (codes "steps")).top)
-    parts_command.top
+    parts_command.top)
+    (new_app (codes "check")).top
 
 -- the words of a command line as texts
 abbrev pub texts_of : List (String Global) → List Text
@@ -182,6 +184,10 @@ AreSteps words = AreNameAnd (codes "steps" ∷ []) words
 -- the words are the program's name and `parts`
 abbrev pub AreParts : List (String Global) → Type 0
 AreParts words = AreNameAnd (codes "parts" ∷ []) words
+
+-- the words are the program's name and `check`
+abbrev pub AreCheck : List (String Global) → Type 0
+AreCheck words = AreNameAnd (codes "check" ∷ []) words
 
 -- the words are the program's name, `parts`, `--alpha=` with a number, `--most=` with a number and `--off=` with one
 abbrev pub ArePartsAt : ℕ → ℕ → ℕ → List (String Global) → Type 0
@@ -232,6 +238,10 @@ asks_steps words = is_command (codes "steps") (subcommand_of program (texts_of w
 -- the words ask for the solid parts
 unfoldable pub asks_parts : List (String Global) → Bool
 asks_parts words = is_command (codes "parts") (subcommand_of program (texts_of words))
+
+-- the words ask for a verdict on a mesh
+unfoldable pub asks_check : List (String Global) → Bool
+asks_check words = is_command (codes "check") (subcommand_of program (texts_of words))
 
 -- the words ask for a file that is drawn, and not for one that is read
 unfoldable pub asks_drawn : List (String Global) → Bool
@@ -292,18 +302,20 @@ unfoldable pub AreTaken : List (String Global) → Type 0
 AreTaken words = (fault_of program (texts_of words) ≡ []) × (is_grid_size (grid_size words) ≡ true)
 
 -- what a command does: it writes the report of a file that it reads (`mesh` and `shape`), its least alphas (`steps`),
--- or its solid parts (`parts`), or it draws a file (`gen`)
+-- or its solid parts (`parts`), it judges a mesh that it reads (`check`), or it draws a file (`gen`)
 pub data Kind : Type 0 where
   Reports : Kind
   Steps : Kind
   Parts : Kind
+  Checks : Kind
   Draws : Kind
 
 -- what the command of the words does
 abbrev pub kind_of : List (String Global) → Kind
 kind_of words =
     if asks_drawn words then Draws
-    else (if asks_steps words then Steps else (if asks_parts words then Parts else Reports))
+    else (if asks_check words then Checks
+    else (if asks_steps words then Steps else (if asks_parts words then Parts else Reports)))
 
 -- the report of a file is written
 abbrev pub WritesReport : List (String Global) → Type 0
@@ -318,8 +330,16 @@ abbrev pub WritesParts : List (String Global) → Type 0
 WritesParts words = kind_of words ≡ Parts
 
 -- the source is read
+abbrev pub ReadsSource : List (String Global) → Type 0
+ReadsSource words = asks_drawn words ≡ false
+
+-- an edit file is read
 abbrev pub ReadsFile : List (String Global) → Type 0
-ReadsFile words = asks_drawn words ≡ false
+ReadsFile words = ReadsSource words × (asks_check words ≡ false)
+
+-- the text of a mesh is read, and judged
+abbrev pub ReadsMesh : List (String Global) → Type 0
+ReadsMesh words = kind_of words ≡ Checks
 
 -- a file is drawn, and the source is not read
 abbrev pub DrawsFile : List (String Global) → Type 0

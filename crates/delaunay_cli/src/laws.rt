@@ -29,14 +29,20 @@ ghost use Rattle.edit_history.specs.Histories.{replay};
 ghost use Rattle.edit_history.specs.OneThread.{Keeps as FileKeeps};
 ghost use Rattle.edit_files.specs.Content.{Content};
 ghost use Rattle.edit_files.specs.Grammar.{IsFile};
+ghost use Rattle.mesh_reader.specs.Grammar.{IsMeshText, MeshParts};
+ghost use Rattle.mesh_check.specs.declared.flaw.Verdict.{Verdict};
+ghost use Rattle.mesh_check.specs.Flaws.{IsVerdict, listed};
+ghost use Rattle.mesh_check.specs.Text.{verdict_text};
+ghost use Rattle.delaunay_cli.specs.Checked.{HasMeshFault, IsGood, IsMeshWithin};
 ghost use Rattle.delaunay_cli.specs.Taken.{file_limits};
 ghost use Rattle.delaunay_cli.specs.Drawn.{drawn_file, drawn_text};
 ghost use Rattle.delaunay_cli.specs.Laws.{ARun};
 ghost use Rattle.delaunay_cli.specs.Parted.{HasNoAlpha, HasNoPart, IsParted};
 ghost use Rattle.delaunay_cli.specs.PlainText.{plain_drawn};
-ghost use Rattle.delaunay_cli.specs.Run.{HasFault, IsSolidFile, history_of, input_limit};
+ghost use Rattle.delaunay_cli.specs.Run.{HasFault, IsSolidFile, history_of, input_limit, mesh_limit};
 ghost use Rattle.delaunay_cli.specs.Statuses.{HasText, IsEarly, IsWhole};
 ghost use Rattle.delaunay_cli.specs.Words.{
+  AreCheck,
   AreGen,
   AreGenText,
   AreMesh,
@@ -50,6 +56,8 @@ ghost use Rattle.delaunay_cli.specs.Words.{
   AreTaken,
   DrawsFile,
   ReadsFile,
+  ReadsMesh,
+  ReadsSource,
   WritesParts,
   WritesReport,
   WritesSteps,
@@ -74,8 +82,8 @@ ghost use Rattle.delaunay_cli.specs.Words.{
 /// the report of a file, by one worker over a grid of 4, as `steps` writes its least alphas and `parts` its parts at
 /// alpha 0. So are `mesh`, `shape`, `steps` and `parts` with `--workers=N` and `--grid=M`, for every count of workers
 /// and every size of a grid, and `parts` with `--alpha=A`, `--most=K` and `--off=I` for every A, K and I of their
-/// ranges. The words `gen`, `--count=N` and `--start=M` are taken for every count and start, and with `--text` ask for
-/// the file's text.
+/// ranges. The word `check` alone is taken, and asks for the verdict on a mesh. The words `gen`, `--count=N` and
+/// `--start=M` are taken for every count and start, and with `--text` ask for the file's text.
 pub fn words_are_taken()
     ensures mesh { (words : List (String Global)) → AreMesh words → AreTaken words × (asks_shape words ≡ false)
         × (asks_order words ≡ false) }
@@ -95,6 +103,7 @@ pub fn words_are_taken()
     ensures parts { (words : List (String Global)) → AreParts words → AreTaken words × WritesParts words
         × (worker_count words ≡ 1) × (grid_size words ≡ 4) × (asked_alpha words ≡ 0) × (asked_most words ≡ 0)
         × (asked_index words ≡ None) }
+    ensures check { (words : List (String Global)) → AreCheck words → AreTaken words × ReadsMesh words }
     ensures parts_at { (words : List (String Global)) (alpha most index : ℕ) → alpha ≤ most_alpha
         → most ≤ most_index → index ≤ most_index → ArePartsAt alpha most index words
         → AreTaken words × WritesParts words × (worker_count words ≡ 1) × (grid_size words ≡ 4)
@@ -121,16 +130,19 @@ pub fn words_are_taken()
         × (drawn_count words ≡ count) × (drawn_start words ≡ start) × (asks_text words ≡ true) }
     ensures read { (words : List (String Global)) → WritesReport words ⊎ WritesSteps words ⊎ WritesParts words
         → ReadsFile words }
+    ensures read_mesh { (words : List (String Global)) → ReadsMesh words → ReadsSource words }
 {}
 
-/// No status above 9 comes, and 8 and 9 only of `parts`. On all but 0 and 4 nothing is written, and on all but 0, 4, 8
-/// and 9 nothing is kept. A run that reads a file and ends with 0, 8 or 9 has read it to its end.
+/// No status above 10 comes, 8 and 9 only of `parts`, and 10 only of `check`. On all but 0, 4 and 10 nothing is
+/// written, and on all but 0, 4, 8 and 9 nothing is kept. A run that reads and ends with 0, 8, 9 or 10 has read to the
+/// end.
 pub fn run_by_status()
-    ensures statuses { (r : ARun) → r.status ≤ 9 }
-    ensures of_parts { (r : ARun) → 7 < r.status → WritesParts r.words }
-    ensures none_kept { (r : ARun) → r.status ≢ 0 → r.status ≢ 4 → r.status ≤ 7 → r.kept ≡ [] }
-    ensures nothing { (r : ARun) → r.status ≢ 0 → r.status ≢ 4 → Keeps r.held r.holds }
-    ensures to_its_end { (r : ARun) → ReadsFile r.words → IsWhole r.status → IsAtEnd r.left_after }
+    ensures statuses { (r : ARun) → r.status ≤ 10 }
+    ensures of_parts { (r : ARun) → (r.status ≡ 8) ⊎ (r.status ≡ 9) → WritesParts r.words }
+    ensures of_check { (r : ARun) → r.status ≡ 10 → ReadsMesh r.words }
+    ensures none_kept { (r : ARun) → r.status ≢ 0 → r.status ≢ 4 → r.status ≢ 8 → r.status ≢ 9 → r.kept ≡ [] }
+    ensures nothing { (r : ARun) → r.status ≢ 0 → r.status ≢ 4 → r.status ≢ 10 → Keeps r.held r.holds }
+    ensures to_its_end { (r : ARun) → ReadsSource r.words → IsWhole r.status → IsAtEnd r.left_after }
 {}
 
 /// A run that reads a file: what its status tells of the bytes.
@@ -163,6 +175,35 @@ pub fn run_that_parts()
         (asked_most r.words) (asked_index r.words) 0 text × AppendsFront r.held r.holds text) }
     ensures complete { (r : ARun) → AreTaken r.words → WritesParts r.words
         → IfSome r.left (λ bytes. IsSolidFile bytes → (Rose r.read_faults r.read_faults_after → ⊥)
+        → (Rose r.write_faults r.write_faults_after → ⊥) → IsWhole r.status ⊎ (r.status ≡ 1)) }
+{}
+
+/// A run that is to judge a mesh. Of the bytes that it reads 7 comes exactly where they are more than they may be, and
+/// else 5 exactly where they are the text of no mesh; 6, 8 and 9 never come, and nothing is kept. Where the whole text
+/// is written, the status is 0 exactly where the mesh is the complex of its points, which are solid, and else 10. That
+/// text is the verdict's, and on 4 a front of it is written.
+pub fn run_that_checks()
+    ensures statuses { (r : ARun) → ReadsMesh r.words → (r.status ≤ 5) ⊎ (r.status ≡ 7) ⊎ (r.status ≡ 10) }
+    ensures none_kept { (r : ARun) → ReadsMesh r.words → r.kept ≡ [] }
+    ensures too_long { (r : ARun) → ReadsMesh r.words → (IsEarly r.status → ⊥)
+        → IfSome r.left (λ bytes. r.status ≡ 7 ↔ (mesh_limit < length bytes)) }
+    ensures bad_line { (r : ARun) → ReadsMesh r.words → (IsEarly r.status → ⊥) → r.status ≢ 7
+        → IfSome r.left (λ bytes. r.status ≡ 5 ↔ HasMeshFault bytes) }
+    ensures bad_mesh { (r : ARun) → ReadsMesh r.words → IsWhole r.status
+        → IfSome r.left (λ bytes. (mesh : MeshParts) → IsMeshText bytes mesh
+        → (r.status ≡ 10 ↔ (IsGood mesh → ⊥))) }
+    ensures good { (r : ARun) → ReadsMesh r.words → IsWhole r.status
+        → IfSome r.left (λ bytes. (mesh : MeshParts) → IsMeshText bytes mesh → (r.status ≡ 0 ↔ IsGood mesh)) }
+    ensures written { (r : ARun) → ReadsMesh r.words → IsWhole r.status
+        → IfSome r.left (λ bytes. (mesh : MeshParts) → IsMeshText bytes mesh
+        → (verdict : Verdict) × IsVerdict mesh.points (listed mesh.cells mesh.hull) verdict
+        × Appends r.held r.holds (verdict_text mesh.points verdict)) }
+    ensures front { (r : ARun) → ReadsMesh r.words → r.status ≡ 4
+        → IfSome r.left (λ bytes. (mesh : MeshParts) → IsMeshText bytes mesh
+        → (verdict : Verdict) × IsVerdict mesh.points (listed mesh.cells mesh.hull) verdict
+        × AppendsFront r.held r.holds (verdict_text mesh.points verdict)) }
+    ensures complete { (r : ARun) → AreTaken r.words → ReadsMesh r.words
+        → IfSome r.left (λ bytes. IsMeshWithin bytes → (Rose r.read_faults r.read_faults_after → ⊥)
         → (Rose r.write_faults r.write_faults_after → ⊥) → IsWhole r.status ⊎ (r.status ≡ 1)) }
 {}
 

@@ -1,5 +1,6 @@
 //! The program's top call: from the bytes of an edit file to the text of its mesh, of its shapes, of the least alphas
-//! of its faces or of its solid parts, and from two numbers to the text of a drawn file or the summary of its mesh.
+//! of its faces or of its solid parts; from the text of a mesh to the verdict on it; and from two numbers to the text
+//! of a drawn file or the summary of its mesh.
 //!
 //! ```
 //! let run = run(&rt, alloc, &words, &mut input, &mut output, &mut error, &OpenGate);
@@ -7,6 +8,7 @@
 //! ```
 #![tactic(auto)]
 
+mod checked;
 mod cloud;
 mod drawn;
 pub mod laws;

@@ -22,6 +22,7 @@ ghost use Rattle.delaunay_cli.specs.Words.{
   WritesSteps,
   asks_order,
   asks_shape,
+  kind_of,
   worker_count,
 };
 
@@ -36,13 +37,14 @@ use std::thread::Threads;
 /// Does what the words ask for, and tells in one line on `err` what went wrong.
 ///
 /// `rt` is the runtime, and `words` are those of the command line: the program's name, and what `clap` takes for the
-/// five commands. `mesh` and `shape`, each with `--order`, read an edit file from `src` and write the report of its
+/// six commands. `mesh` and `shape`, each with `--order`, read an edit file from `src` and write the report of its
 /// mesh to `out`; with `shape` the report has a block for each radius of the file, in its order. `steps` reads one too,
 /// and writes the least alpha, in sixteenths of a squared distance, of each face of its mesh. `parts`, with `--alpha`,
 /// `--most` and `--off`, reads one and writes its solid parts, or the boundary of one. `gen`, with `--count`, `--start`
-/// and `--text`, reads nothing: it draws an edit file, and writes the summary of its mesh or the file's text. Each
-/// takes `--workers`, 1 to 64, and `--grid`, 1, 2, 4, 8 or 16: so many workers make the edits side by side, over
-/// buckets of this grid. `gate` is told of the moments of their edits.
+/// and `--text`, reads nothing: it draws an edit file, and writes the summary of its mesh or the file's text. Each of
+/// these takes `--workers`, 1 to 64, and `--grid`, 1, 2, 4, 8 or 16: so many workers make the edits side by side, over
+/// buckets of this grid. `gate` is told of the moments of their edits. `check` makes no edit and takes no option: it
+/// reads the text of a mesh, which may be longer, and writes the verdict on it.
 ///
 /// The clauses by name are those of the files that are read and of their reports. `Ends` in specs/ says how each run
 /// ends; what a command promises is its line of `Promise`, the field `promise`. Which words are taken, and what else
@@ -59,7 +61,7 @@ pub fn run<R: Threads + Sync, S: Source, O: Sink, E: Sink, G: Gate + Sync>(
     ensures ends { Ends words.now (S.left src.old) (S.left src.new) (Rose (S.faults src.old) (S.faults src.new))
         (O.holds out.old) (O.holds out.new) (Rose (O.faults out.old) (O.faults out.new)) result.status
         result.kept.items }
-    ensures told { Tells (S.left src.old) (E.holds err.old) (E.holds err.new) (E.faults err.old)
+    ensures told { Tells (kind_of words.now) (S.left src.old) (E.holds err.old) (E.holds err.new) (E.faults err.old)
         (E.faults err.new) result.status }
 
     // What is kept where a file is read, and written where that is its report.

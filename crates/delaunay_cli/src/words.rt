@@ -183,7 +183,8 @@ fn program<'a>(alloc: Global) -> Result<Command<'a>, AllocError>
     let program = with_command(program, command(alloc, "shape"));
     let program = with_command(program, gen_command(alloc));
     let program = with_command(program, meshing(alloc, "steps"));
-    with_command(program, parts_command(alloc))
+    let program = with_command(program, parts_command(alloc));
+    with_command(program, Ok(Command::new(alloc, "check")))
 }
 
 // Whether a flag was given to the command.
@@ -287,6 +288,8 @@ fn task_of(matches: &ArgMatches, making: Making) -> Task
                     text: flag_in(command, "text"),
                 };
                 Task::Draw(making, drawn)
+            } else if name == "check" {
+                Task::Check
             } else if name == "steps" {
                 Task::Step(making)
             } else if name == "parts" {

@@ -6,11 +6,12 @@ ghost use Rattle.std.specs.Io.KnownBytes.{Keeps, IsAtEnd};
 ghost use Rattle.byte_ends.specs.Ends.{Rose};
 ghost use Rattle.delaunay_cli.specs.Ends.{Ends, IsMade, IsPut, IsUnmade};
 ghost use Rattle.delaunay_cli.specs.Page.{IsSound, text_of_page};
-ghost use Rattle.delaunay_cli.specs.Run.{Reads};
+ghost use Rattle.delaunay_cli.specs.Run.{ReadsTo, limit_of};
 ghost use Rattle.delaunay_cli.specs.Statuses.{IsToldLine};
 ghost use Rattle.delaunay_cli.specs.Stops.{line_of_end, status_of_end, status_of_made};
-ghost use Rattle.delaunay_cli.specs.Words.{DrawsFile, ReadsFile};
+ghost use Rattle.delaunay_cli.specs.Words.{DrawsFile, ReadsSource, kind_of};
 
+use crate::checked::check_source;
 use crate::drawn::draw;
 use crate::made::{Made, put_page};
 use crate::outcome::Run;
@@ -47,8 +48,9 @@ fn make<R: Threads + Sync, S: Source, G: Gate + Sync>(
         (text_of_page made.page)) }
     ensures sound { IfOk result IsSound }
     ensures stop { IfErr result (IsUnmade words.now (S.left src.old) (Rose (S.faults src.old) (S.faults src.new))) }
-    ensures reads { ReadsFile words.now → Reads (S.left src.old) (S.left src.new) (status_of_made result) }
-    ensures to_its_end { ReadsFile words.now → IsOk result → IsAtEnd (S.left src.new) }
+    ensures reads { ReadsSource words.now → ReadsTo (limit_of (kind_of words.now)) (S.left src.old) (S.left src.new)
+        (status_of_made result) }
+    ensures to_its_end { ReadsSource words.now → IsOk result → IsAtEnd (S.left src.new) }
     ensures source { DrawsFile words.now → src.new ≡ src.old }
     ensures unread { status_of_made result ≡ 2 → src.new ≡ src.old }
     ensures later { S.faults src.old ≤ S.faults src.new }
@@ -57,6 +59,7 @@ fn make<R: Threads + Sync, S: Source, G: Gate + Sync>(
         Task::Report(making, asked) => report(rt, alloc, making, asked, src, gate),
         Task::Step(making) => step(rt, alloc, making, src, gate),
         Task::Part(making, wanted) => part(rt, alloc, making, wanted, src, gate),
+        Task::Check => check_source(alloc, src),
         Task::Draw(making, drawn) => draw(rt, alloc, making, drawn, gate),
     }
 }
@@ -120,7 +123,7 @@ pub fn work<R: Threads + Sync, S: Source, O: Sink, G: Gate + Sync>(
     ensures ends { Ends words.now (S.left src.old) (S.left src.new) (Rose (S.faults src.old) (S.faults src.new))
         (O.holds out.old) (O.holds out.new) (Rose (O.faults out.old) (O.faults out.new)) result.run.status
         result.run.kept.items }
-    ensures line { IsToldLine (S.left src.old) result.run.status (line_of_end result.stop) }
+    ensures line { IsToldLine (kind_of words.now) (S.left src.old) result.run.status (line_of_end result.stop) }
     ensures source { DrawsFile words.now → src.new ≡ src.old }
     ensures unread { result.run.status ≡ 2 → src.new ≡ src.old }
     ensures later_source { S.faults src.old ≤ S.faults src.new }

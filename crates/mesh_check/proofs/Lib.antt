@@ -11,3 +11,4 @@ pub mod Turned
 pub mod Triples
 pub mod Verdicts
 pub mod Places
+pub mod Telling

@@ -1,8 +1,8 @@
 //! Whether lists of cells and triples are the complex of a set of points.
 //!
 //! It judges what a program, this one or another, has written. A mesh without a flaw is known at once, since it equals
-//! the complex that `cloud_cells` makes of the points; in any other the first cell that is none of that complex is tried
-//! against each point. No code of the mesh by buckets takes part.
+//! the complex that `cloud_cells` makes of the points; in any other the first cell that is none of that complex is
+//! tried against each point. No code of the mesh by buckets takes part.
 //!
 //! ```
 //! match check(alloc, &points, &cells, &hull)? {
@@ -23,4 +23,4 @@ mod text;
 
 pub use flaw::{Flaw, Verdict};
 pub use judging::check;
-pub use text::verdict_text;
+pub use text::{Told, tell, verdict_text};

@@ -2,11 +2,21 @@
 
 ghost use Rattle.std.specs.Prelude.{◌≡◌, ◌++◌, IfOk, OnOk};
 ghost use Rattle.point_order.specs.Sets.{IsAscending};
-ghost use Rattle.mesh_check.specs.Text.{flaw_words, places, verdict_text as verdict_text_of, verdict_words};
+ghost use Rattle.del_laws.specs.Keys.{AreKeys};
+ghost use Rattle.mesh_check.specs.Flaws.{AreCells, listed};
+ghost use Rattle.mesh_check.specs.Text.{
+  IsTold,
+  flaw_words,
+  is_good as is_good_of,
+  places,
+  verdict_text as verdict_text_of,
+  verdict_words,
+};
 
 use crate::flaw::{Flaw, Verdict};
+use crate::judging::check;
 use itoa::Buffer;
-use point_order::Point;
+use point_order::{Point, Quad, Tri};
 use std::alloc::{AllocError, Global};
 use text_sheets::Indices;
 
@@ -77,4 +87,55 @@ pub fn verdict_text(
     put_verdict(&mut text, points, verdict)?;
     text.extend_from_slice(b"\n")?;
     Ok(text)
+}
+
+// Whether the verdict names no flaw.
+fn is_good(verdict: &Verdict) -> bool
+    ensures { result ≡ is_good_of verdict.now }
+{
+    match verdict {
+        Verdict::Good => true,
+        Verdict::Bad(_) => false,
+    }
+}
+
+/// What is told of lists of cells.
+#[derive(Drop)]
+pub struct Told {
+    /// Whether they are the complex of the points.
+    pub good: bool,
+    /// The text of the verdict.
+    pub text: Vec<u8>,
+}
+
+// What is told of a verdict.
+fn told_of(alloc: Global, points: &[Point], verdict: &Verdict) -> Result<Told, AllocError>
+    requires { IsAscending points.now }
+    ensures good { IfOk result (λ told. told.good ≡ is_good_of verdict.now) }
+    ensures text { IfOk result (λ told. told.text.items ≡ verdict_text_of points.now verdict.now) }
+{
+    let good = is_good(verdict);
+    let text = verdict_text(alloc, points, verdict)?;
+    Ok(Told { good, text })
+}
+
+/// Judges lists of cells, as `check` does, and tells of the verdict.
+///
+/// # Errors
+/// Want of memory.
+pub fn tell(
+    alloc: Global,
+    points: &[Point],
+    cells: &[Quad],
+    hull: &[Tri],
+) -> Result<Told, AllocError>
+    requires points { IsAscending points.now }
+    requires keys { AreKeys points.now }
+    requires cells { AreCells points.now (listed cells.now hull.now) }
+    ensures { IfOk result (λ told. IsTold points.now (listed cells.now hull.now) told.good told.text.items) }
+{
+    match check(alloc, points, cells, hull) {
+        Ok(verdict) => told_of(alloc, points, &verdict),
+        Err(refused) => Err(refused),
+    }
 }

@@ -8,7 +8,7 @@ use crate::files::put_part;
 use crate::telling::{Answer, put_places, put_point};
 use edit_files::ReadRefused;
 use mesh_check::{Flaw, Verdict, check};
-use mesh_reader::{MeshFile, read_mesh};
+use mesh_reader::{MeshFile, MeshReader, read_mesh};
 use point_order::Point;
 use std::alloc::{AllocError, Global};
 
@@ -78,12 +78,44 @@ fn put_mesh(alloc: Global, answer: &mut Answer, mesh: &MeshFile)
     put_judged(alloc, answer, mesh);
 }
 
-/// Answers a case of a mesh's text: its lists and the verdict on them, or the text's fault.
+// The same text, read in two pieces, cut in its middle.
+fn read_in_two(alloc: Global, bytes: &[u8]) -> Result<MeshFile, ReadRefused> {
+    let (front, back) = bytes.split_at(bytes.len() / 2);
+    let Ok(reader) = MeshReader::new(alloc).take(front) else {
+        return Err(ReadRefused::Memory);
+    };
+    match reader.take(back) {
+        Ok(reader) => reader.finish(),
+        Err(_) => Err(ReadRefused::Memory),
+    }
+}
+
+// Whether two readings came to the same.
+fn are_same(one: &Result<MeshFile, ReadRefused>, other: &Result<MeshFile, ReadRefused>) -> bool {
+    match (one, other) {
+        (Ok(one), Ok(other)) => {
+            one.replies == other.replies
+                && one.points == other.points
+                && one.cells == other.cells
+                && one.hull == other.hull
+        }
+        (Err(one), Err(other)) => one == other,
+        _ => false,
+    }
+}
+
+/// Answers a case of a mesh's text: its lists and the verdict on them, or the text's fault; and whether a reading in
+/// two pieces comes to another.
 pub(crate) fn judge(alloc: Global, answer: &mut Answer, lists: &str) -> Option<()> {
     let mut text = Answer::new(alloc);
     put_part(&mut text, lists, 0);
     let text = answer.got(text.whole())?;
-    match read_mesh(alloc, text.as_bytes()) {
+    let whole = read_mesh(alloc, text.as_bytes());
+    let in_two = read_in_two(alloc, text.as_bytes());
+    if !are_same(&whole, &in_two) {
+        answer.put(" another in two pieces: ");
+    }
+    match whole {
         Ok(mesh) => put_mesh(alloc, answer, &mesh),
         Err(ReadRefused::Bad(fault)) => write!(answer, "line {}: {:?}", fault.line, fault.why),
         Err(ReadRefused::Memory) => answer.fail(),

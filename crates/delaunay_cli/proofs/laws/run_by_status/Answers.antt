@@ -1,4 +1,4 @@
-use Rattle.delaunay_cli.proofs.Promised.{highest, no_text, unchanged}
+use Rattle.delaunay_cli.proofs.Promised.{highest, none_kept, unchanged}
 use Rattle.delaunay_cli.proofs.laws.run_by_status.Goals as goal
 
 pub returns-clause-statuses : goal.returns-clause-statuses
@@ -7,8 +7,11 @@ returns-clause-statuses c = λ r. (highest r.ends).0
 pub returns-clause-of_parts : goal.returns-clause-of_parts
 returns-clause-of_parts c = λ r. (highest r.ends).1
 
+pub returns-clause-of_check : goal.returns-clause-of_check
+returns-clause-of_check c = λ r. (highest r.ends).2
+
 pub returns-clause-none_kept : goal.returns-clause-none_kept
-returns-clause-none_kept c = λ r a b l. r.ends.none_kept (no_text r.ends a b l)
+returns-clause-none_kept c = λ r. none_kept r.ends
 
 pub returns-clause-nothing : goal.returns-clause-nothing
 returns-clause-nothing c = λ r. unchanged r.ends

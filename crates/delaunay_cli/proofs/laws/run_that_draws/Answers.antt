@@ -4,7 +4,7 @@ use Rattle.byte_ends.specs.Ends.{AppendsFront}
 use Rattle.delaunay_cli.specs.Drawn.{drawn_file}
 use Rattle.delaunay_cli.specs.Words.{asks_text, worker_count}
 use Rattle.delaunay_cli.proofs.DrawnFiles.{kept_meshed}
-use Rattle.delaunay_cli.proofs.Ended.{has_text}
+use Rattle.delaunay_cli.proofs.TextStatuses.{has_text}
 use Rattle.delaunay_cli.proofs.Promised.{drawn_completes, drawn_none, of_drawn, plain_of_drawn}
 use Rattle.delaunay_cli.proofs.laws.run_that_draws.Goals as goal
 

@@ -1,5 +1,6 @@
 use Rattle.std.proofs.Common.{true, false}
 use Rattle.delaunay_cli.proofs.CommandLine.{
+  check_words,
   default_words,
   mesh_words,
   mesh_order_words,
@@ -9,7 +10,7 @@ use Rattle.delaunay_cli.proofs.CommandLine.{
   parts_asked,
   parts_words,
 }
-use Rattle.delaunay_cli.proofs.Ended.{read_kind, reading, steps_kind}
+use Rattle.delaunay_cli.proofs.Ended.{checks_kind, mesh_reading, read_kind, reading, steps_kind}
 use Rattle.delaunay_cli.proofs.NumberWords.{
   gen_words,
   gen_text_words,
@@ -49,6 +50,9 @@ returns-clause-parts c =
     let d = parts_asked words w in
     (a.0.0, read_kind words true a.2 a.3 a.4, a.1.0, a.1.1, d.0, d.1, d.2)
 
+pub returns-clause-check : goal.returns-clause-check
+returns-clause-check c = λ words w. let a = check_words words w in (a.0, checks_kind words a.1 a.2)
+
 pub returns-clause-parts_at : goal.returns-clause-parts_at
 returns-clause-parts_at c =
     λ words alpha most index s t u w.
@@ -87,3 +91,6 @@ returns-clause-generator_text c = λ words count start few small w. gen_text_wor
 
 pub returns-clause-read : goal.returns-clause-read
 returns-clause-read c = reading
+
+pub returns-clause-read_mesh : goal.returns-clause-read_mesh
+returns-clause-read_mesh c = mesh_reading

@@ -1,0 +1,112 @@
+//! The command `check`: from the bytes of a source to the verdict on the mesh that they are of.
+
+ghost use Rattle.std.specs.Prelude.{◌≡◌, ◌≤◌, [], IfSome, IfOk, IfErr, IsOk, if◌then◌else◌};
+ghost use Rattle.std.specs.Io.KnownBytes.{IsAtEnd};
+ghost use Rattle.byte_ends.specs.Ends.{Rose};
+ghost use Rattle.mesh_reader.specs.Grammar.{parts};
+ghost use Rattle.mesh_reader.specs.Order.{IsInOrder};
+ghost use Rattle.delaunay_cli.specs.Checked.{HasTakenAll, IsChecked, IsJudged, IsMeshOf, IsUnchecked, TellsVerdict};
+ghost use Rattle.delaunay_cli.specs.Page.{IsSound, text_of_page};
+ghost use Rattle.delaunay_cli.specs.Run.{ReadsTo, mesh_limit};
+ghost use Rattle.delaunay_cli.specs.Stops.{IsLate, status_of_end, status_of_made};
+
+use crate::made::{Made, Page};
+use crate::stop::Stop;
+use crate::telling::fault_line;
+use byte_ends::{Reached, Source, read_to_limit};
+use edit_files::ReadRefused;
+use mesh_check::tell;
+use mesh_reader::{MeshFile, MeshReader};
+use std::alloc::{AllocError, Global};
+
+// One more byte than the text of a mesh may have.
+const TOO_MANY: usize = 1_073_741_825;
+
+// How many bytes are read at once.
+const PIECE: usize = 65_536;
+
+// Reads the text of a mesh to its end, piece by piece.
+fn read_pieces<S: Source>(alloc: Global, src: &mut S) -> Result<MeshReader, Stop>
+    ensures taken { IfOk result (HasTakenAll (S.left src.old)) }
+    ensures stop { IfErr result (IsUnchecked (S.left src.old) (Rose (S.faults src.old) (S.faults src.new))) }
+    ensures reads { ReadsTo mesh_limit (S.left src.old) (S.left src.new) (status_of_made result) }
+    ensures to_its_end { IsOk result → IsAtEnd (S.left src.new) }
+    ensures later { S.faults src.old ≤ S.faults src.new }
+{
+    let mut reader = MeshReader::new(alloc);
+    let mut piece = Vec::new(alloc);
+    let mut room = TOO_MANY;
+    while room > 0 {
+        let most = room.min(PIECE);
+        piece.clear();
+        let reached = read_to_limit(src, most, &mut piece)?;
+        reader = reader.take(&piece)?;
+        match reached {
+            Reached::End => return Ok(reader),
+            Reached::Limit => room -= most,
+        }
+    }
+    Err(Stop::TooLong)
+}
+
+// Reads a mesh from the source.
+fn mesh_of_text<S: Source>(alloc: Global, src: &mut S) -> Result<MeshFile, Stop>
+    ensures mesh { IfOk result (λ mesh. IsMeshOf (S.left src.old) (parts mesh)) }
+    ensures stop { IfErr result (IsUnchecked (S.left src.old) (Rose (S.faults src.old) (S.faults src.new))) }
+    ensures reads { ReadsTo mesh_limit (S.left src.old) (S.left src.new) (status_of_made result) }
+    ensures to_its_end { IsOk result → IsAtEnd (S.left src.new) }
+    ensures later { S.faults src.old ≤ S.faults src.new }
+{
+    let reader = read_pieces(alloc, src)?;
+    match reader.finish() {
+        Ok(mesh) => Ok(mesh),
+        Err(ReadRefused::Memory) => Err(Stop::Memory),
+        Err(ReadRefused::Bad(fault)) => Err(Stop::BadLine(fault_line(alloc, fault)?)),
+    }
+}
+
+// How a run ends that has told of a mesh.
+fn end_of(good: bool) -> Option<Stop>
+    ensures status { status_of_end result ≡ (if good then 0 else 10) }
+    ensures late { IsLate result }
+{
+    if good { None } else { Some(Stop::BadMesh) }
+}
+
+// The verdict on a mesh, as it is told.
+fn judge(alloc: Global, mesh: &MeshFile) -> Result<Made, AllocError>
+    requires { IsInOrder (parts mesh.now) }
+    ensures judged { IfOk result (λ made. IsJudged (parts mesh.now) (status_of_end made.after)
+        (text_of_page made.page)) }
+    ensures no_history { IfOk result (λ made. made.kept.items ≡ []) }
+    ensures sound { IfOk result IsSound }
+{
+    let found = tell(alloc, &mesh.points, &mesh.cells, &mesh.hull)?;
+    let after = end_of(found.good);
+    Ok(Made {
+        kept: Vec::new(alloc),
+        page: Page::Text(found.text),
+        after,
+    })
+}
+
+/// Reads the text of a mesh from the source, and judges whether it is the complex of its points. Where it is not, the
+/// run ends with that.
+///
+/// # Errors
+///
+/// `ReadFault`, `TooLong`, `BadLine` and `Memory`.
+pub fn check_source<S: Source>(alloc: Global, src: &mut S) -> Result<Made, Stop>
+    ensures made { IfOk result (λ made.
+        IfSome (S.left src.old) (IsChecked (status_of_end made.after) (text_of_page made.page))) }
+    ensures told { IfOk result (λ made. TellsVerdict (status_of_end made.after)) }
+    ensures no_history { IfOk result (λ made. made.kept.items ≡ []) }
+    ensures sound { IfOk result IsSound }
+    ensures stop { IfErr result (IsUnchecked (S.left src.old) (Rose (S.faults src.old) (S.faults src.new))) }
+    ensures reads { ReadsTo mesh_limit (S.left src.old) (S.left src.new) (status_of_made result) }
+    ensures to_its_end { IsOk result → IsAtEnd (S.left src.new) }
+    ensures later { S.faults src.old ≤ S.faults src.new }
+{
+    let mesh = mesh_of_text(alloc, src)?;
+    Ok(judge(alloc, &mesh)?)
+}
