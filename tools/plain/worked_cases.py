@@ -8,10 +8,15 @@ that are read and checked by `tools/make meshes`.
 
 usage: tools/make cases
 writes crates/worked_cases/stdin and crates/worked_cases/stdout
+
+usage: tools/make cases --drawn COUNT [SEED [PROGRAM]]     by hand, not part of the gate
+gives the built program so many drawn edit lists, half of whose edits are moves, and compares its answers
 """
 import os
 import random
-from itertools import combinations
+import subprocess
+import sys
+from itertools import combinations, islice
 
 from plain import file_cases as files, layer_cases as layers, mesh_cases as meshes, random_cases as plain
 
@@ -253,15 +258,37 @@ def drawn_edits(draw, places, points):
         yield move(a, draw.choice(places)) if kind is None else (kind, a)
 
 
-def drawn_meshes():
+def drawn_meshes(seed=20240229):
     """Meshes of a lattice of few places, near and far, so that many replies and ties come."""
-    draw = random.Random(20240229)
+    draw = random.Random(seed)
     for step in (1, 8000):
         places = [(x * step, y * step, z * step) for x in range(3) for y in range(3) for z in range(3)]
         for count in (5, 7, 9):
             points = draw.sample(places, count)
             if plain.is_solid(points):
                 yield points, list(drawn_edits(draw, places, points))
+
+
+def drawn_cases(seed):
+    """Such meshes without end, each on a drawn grid."""
+    draw = random.Random(seed)
+    while True:
+        for points, edits in drawn_meshes(draw.random()):
+            yield mesh_case(draw.choice((1, 2, 4, 8, 16)), points, edits)
+
+
+def compare_drawn(count, seed=1, program=os.path.join(TOP, 'crates/worked_cases/out/worked_cases')):
+    """Tells which drawn lists the program answers in another way, and how many replies of each kind there were."""
+    asked, told = zip(*islice(drawn_cases(seed), count))
+    done = subprocess.run([program], input='\n'.join([*asked, '']), capture_output=True, text=True, check=True)
+    answers = done.stdout.split('\n')[:-1]
+    wrong = [i for i in range(count) if i >= len(answers) or answers[i] != told[i]]
+    for i in wrong[:10]:
+        print(f'{asked[i]}\nis to be {told[i]}\nand is {answers[i] if i < len(answers) else "missing"}')
+    replies = ''.join(line.split(';')[0].split(' by sets ')[1] for line in told)
+    print(', '.join(f'{replies.count(letter)} {word}' for word, letter in LETTERS.items()))
+    print(f'{count - len(wrong)} passed, {len(wrong)} failed')
+    return len(wrong) > 0
 
 
 def all_cases():
@@ -321,4 +348,6 @@ def main():
 
 
 if __name__ == '__main__':
+    if sys.argv[1:2] == ['--drawn']:
+        sys.exit(compare_drawn(*map(int, sys.argv[2:4]), *sys.argv[4:]))
     main()
