@@ -47,10 +47,15 @@ fn mesh_of_four(
     }
 }
 
-// Makes an edit, where the history is not too long for it.
+// Makes an edit, where the history is not too long for it, and once more where memory was wanting.
 fn edit(alloc: Global, answer: &mut Answer, mesh: &mut Mesh, place: usize, edit: Edit) {
-    if mesh.count() < 4_294_967_296 && apply(alloc, mesh, tag_of(place), edit).is_err() {
-        answer.fail();
+    if mesh.count() < 4_294_967_296 {
+        let again = edit;
+        if apply(alloc, mesh, tag_of(place), again).is_err()
+            && apply(alloc, mesh, tag_of(place), edit).is_err()
+        {
+            answer.fail();
+        }
     }
 }
 
