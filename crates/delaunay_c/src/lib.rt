@@ -1,4 +1,4 @@
-//! The Delaunay complex of points, the least alphas of its faces, and a mesh that is edited, for C and whatever calls C.
+//! The Delaunay complex of points, the least alphas of its faces, and a mesh that is edited, for whatever calls C.
 //!
 //! The header is `python/c/delaunay_c.h`. A slice crosses as a pointer and a length, and `Global` as nothing.
 //!

@@ -1,17 +1,14 @@
 -- The machine value of a handle, and what its pointer owns.
-use Rattle.std.proofs.Common.{◌≡◌, ◌∙◌, ℕ, List, [], ◌∷◌, ◌++◌, ap, refl, subst}
-use lib.Dec.{T}
+use Rattle.std.proofs.Common.{◌≡◌, ℕ, List, [], ◌∷◌, ◌++◌, refl, subst}
 use seplogic.Ra.Ura.{Ura}
-use mathlib.Core.Bool.{true, ◌&&◌}
 use mir.Raw.{raw as bare}
-use mir.Val.{Val, vstruct, vcons, vnil, of_list, has_ty, WT}
+use mir.Val.{Val, vstruct, vcons, vnil, of_list, has_ty}
 use base.Fraction.{full_share}
 use base.Logic.{SProp, ent, via, never, fst∗, snd∗, guard, guard_i}
-use base.Fml.{Fml}
 use types.Logic.{Logic, sem}
-use types.Kit.{Item, Goal, Seq, Step, step, Soaks, given, learn, ‵, ◌$◌, move, drop, fsplit, fjoin, fpick, fpack, use1, feq_i, feq_l}
+use types.Kit.{Item, Goal, Seq, Step, step, given, learn, ‵, ◌$◌, drop, fsplit, fjoin, fpick, fpack, use1, feq_i, feq_l}
 use contract.Monad.{fact_use}
-use denote.RattleType.{RattleType, Valss}
+use denote.RattleType.{Valss}
 use denote.Builtin.{RawPtr}
 use denote.Memory.{lone}
 use denote.RawPtr.{Ptr, block_ptr, null_ptr, ptr_val, in_a_block, lies_at, Testable, rawptr_Lawful}
@@ -48,17 +45,21 @@ module _ {M : Type 1} {𝓤 : Ura M} (𝓛 : Logic 𝓤) where
   tested heap p mesh =
       let B : SProp 𝓤 = sem 𝓛 (box_owns (ghosts.dealloc_token heap) mesh_row p mesh) in
       fact_use 𝓤 (Testable p)
-      (via 𝓤 _ (snd∗ 𝓤 (sem 𝓛 (lies_at mesh_row full_share p mesh)) (sem 𝓛 (ghosts.dealloc_token heap (bare (lone mesh_row.mir)) p)))
+      (via 𝓤 _ (snd∗ 𝓤 (sem 𝓛 (lies_at mesh_row full_share p mesh)) (sem 𝓛 (ghosts.dealloc_token heap (bare
+      (lone mesh_row.mir)) p)))
       (dealloc_token-Testable 𝓛 heap (bare (lone mesh_row.mir)) p))
       (guard_i 𝓤 (Testable p) B)
 
 module _ {M : Type 1} {𝓤 : Ura M} {𝓛 : Logic 𝓤} {K : Type 0} {Γ : List (Item 𝓤)} {G : Goal 𝓤 𝓛.H} where
   -- the handle is put together
   pub held_in : K → (p : Ptr) (mesh : Option MeshView)
-      → Step K 𝓛 (‵ ((handle.the_row).own_val (record { at = p; mesh = mesh }) (held_val p ∷ [])) ∷ Γ) G (‵ (keeps p mesh) ∷ Γ) G
+      → Step K 𝓛 (‵ ((handle.the_row).own_val (record { at = p; mesh = mesh }) (held_val p ∷ [])) ∷
+      Γ) G (‵ (keeps p mesh) ∷ Γ) G
   held_in t p mesh = step (λ s.
-      nothing t $ feq_i t (List Val) (ptr_val p ∷ []) (ptr_val p ∷ []) refl $ fjoin t $ feq_i t (List Val) (held_val p ∷ []) (held_val p ∷ []) refl $ fjoin t $
-      fpack t (Valss (RawPtr ∷ [])) (within (shape handle.the_type) (p, tt) (held_val p ∷ [])) (ptr_val p ∷ [], tt) $ fjoin t $ s)
+      nothing t $ feq_i t (List Val) (ptr_val p ∷ []) (ptr_val p ∷ []) refl $ fjoin t $
+      feq_i t (List Val) (held_val p ∷ []) (held_val p ∷ []) refl $ fjoin t $
+      fpack t (Valss (RawPtr ∷ [])) (within (shape handle.the_type) (p, tt) (held_val p ∷ [])) (ptr_val p ∷ [], tt) $
+      fjoin t $ s)
 
   -- and taken apart
   pub held_out : K → (h : (handle.the_row).Denot) (vs : List Val)
@@ -76,5 +77,8 @@ module _ {M : Type 1} {𝓤 : Ura M} {𝓛 : Logic 𝓤} {K : Type 0} {Γ : List
       → Seq K 𝓛 (‵ (keeps p mesh) ∷ Γ) G
   either_kept t p None none one = feq_l t (λ e. none e refl)
   either_kept t p (Some x) none one =
-      fpick t (λ heap. in_a_block t p (λ q. box_owns (ghosts.dealloc_token heap) mesh_row q x) (fst∗ 𝓤 (never 𝓤) (sem 𝓛 (ghosts.dealloc_token heap (bare (lone mesh_row.mir)) null_ptr))) (λ b o e.
-      use1 𝓛 (given (Testable (block_ptr b o)) (‵ (box_owns (ghosts.dealloc_token heap) mesh_row (block_ptr b o) x))) (tested 𝓛 heap (block_ptr b o) x) $ learn t (λ ok. one b o x heap e refl ok)))
+      fpick t (λ heap. in_a_block t p
+      (λ q. box_owns (ghosts.dealloc_token heap) mesh_row q x) (fst∗ 𝓤 (never 𝓤) (sem 𝓛 (ghosts.dealloc_token heap
+      (bare (lone mesh_row.mir)) null_ptr))) (λ b o e.
+      use1 𝓛 (given (Testable (block_ptr b o)) (‵ (box_owns (ghosts.dealloc_token heap) mesh_row (block_ptr b o) x)))
+      (tested 𝓛 heap (block_ptr b o) x) $ learn t (λ ok. one b o x heap e refl ok)))

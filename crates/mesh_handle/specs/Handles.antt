@@ -1,5 +1,5 @@
 -- What the calls on a handle answer. What a handle holds is seen as the mesh, if there is one.
-use Rattle.std.specs.Prelude.{◌≡◌, ℕ, List, [], ◌∷◌, Option, None, Some, pos}
+use Rattle.std.specs.Prelude.{◌≡◌, ℕ, List, [], ◌∷◌, Option, None, Some}
 use Rattle.point_order.specs.Coordinates.{IsKey}
 use Rattle.point_order.specs.Sets.{IsIn}
 use Rattle.point_order.specs.declared.cell.Cell.TheVariants.{Full, Open}

@@ -20,7 +20,10 @@ returns-in-Inside c =
     let s = replay c.args.mesh.now.history in (
       Inside c.in-Inside.cell,
       (
-        (λ i. let e = c.locate.ensures.vertex.1 (among_true c.args.p s i) in let d = c.in-Inside.is in absurd (cc (e, d))),
+        (λ i.
+            let e = c.locate.ensures.vertex.1 (among_true c.args.p s i) in
+            let d = c.in-Inside.is in
+            absurd (cc (e, d))),
         c.locate.ensures.inside c.in-Inside.cell c.in-Inside.is,
       ),
       c.cell_at.ensures,
