@@ -12,6 +12,7 @@ writes crates/worked_cases/stdin and crates/worked_cases/stdout
 usage: tools/make cases --drawn COUNT [SEED [PROGRAM]]     by hand, not part of the gate
 gives the built program so many drawn edit lists, half of whose edits are moves, and compares its answers
 """
+import math
 import os
 import random
 import subprocess
@@ -118,6 +119,61 @@ def faces_case(grid, points):
             inside = [places(left, c) for c in cells if set(face) <= set(c)]
             text += f' {places(left, face)} in {" ".join(inside)};'
     yield text + ''.join(f' {places(left, c)}' for c in full)
+
+
+def joined(numbers):
+    return '-'.join('.' if n is None else str(n) for n in numbers)
+
+
+def row_words(left):
+    """The rows of a mesh: cells and the hull by numbers of points, and what lies across the facets of the cells."""
+    full, hull = list(plain.full_cells(left)), plain.open_cells(left)
+    beside = {}
+    for number, cell in enumerate(full):
+        for facet in combinations(cell, 3):
+            beside.setdefault(facet, []).append(number)
+    others = []
+    for number, cell in enumerate(full):
+        facets = [tuple(p for p in cell if p != corner) for corner in cell]
+        others.append(joined(next((m for m in beside[f] if m != number), None) for f in facets))
+    cells = [joined(map(left.index, cell)) for cell in full]
+    triangles = [joined(map(left.index, cell)) for cell in hull]
+    lists = (('points', words(left)), ('cells', ' '.join(cells)), ('across', ' '.join(others)),
+             ('hull', ' '.join(triangles)))
+    return '; '.join(f'{name} {rows}' for name, rows in lists)
+
+
+def nearest_to(left, q):
+    return min(left, key=lambda p: (sum((x - y) ** 2 for x, y in zip(p, q)), p))
+
+
+def handle_case(points, edits, looks):
+    left, replies = set(points), ''
+    for edit in edits:
+        reply, left = edited(left, edit)
+        replies += LETTERS[reply]
+    left = sorted(left)
+    told = ''.join(f' {"at" if q in left else "off"} {word(nearest_to(left, q))}' for q in looks)
+    yield f'handle {words(points)}; {" ".join(map(edit_word, edits))}; {words(looks)}'
+    yield f'replies {replies}; {row_words(left)}; looks{told} empty'
+
+
+def least_words(points, full, size):
+    """The faces of a size with the least alphas at which they are admitted, in sixteenths: their own, or a larger one's."""
+    for face in sorted({s for q in full for s in combinations(q, size)}):
+        around = {s for q in full for k in range(size, 5) for s in combinations(q, k) if set(face) <= set(s)}
+        squares = [plain.least_of(points, t) for t in around]
+        least = math.ceil(16 * min(square for square in squares if square is not None))
+        yield joined(map(points.index, face)), least
+
+
+def levels_case(points):
+    left = sorted(set(points))
+    full = list(plain.full_cells(left))
+    edges, triangles = (' '.join(f'{t}:{least}' for t, least in least_words(left, full, size)) for size in (2, 3))
+    cells = ' '.join(str(math.ceil(16 * plain.least_of(left, q))) for q in full)
+    yield f'levels {words(points)}'
+    yield f'edges {edges}; triangles {triangles}; cells {cells}'
 
 
 def across(grid, points, cells, cell, facet, b):
@@ -298,6 +354,16 @@ def all_cases():
     for points, edits in drawn_meshes():
         for grid in (1, 4, 16):
             yield 'drawn edits', mesh_case(grid, points, edits)
+    for name, points, edits in MESHES[:6]:
+        if plain.is_solid(points):
+            yield 'a handle, ' + name, handle_case(points, edits, [*points[:2], (1, 1, 1), (16383, 0, 7)])
+    for points, edits in drawn_meshes():
+        yield 'handles and drawn edits', handle_case([*points, points[0]], edits, [*points[:2], (1, 0, 1), (9000, 8000, 9)])
+    yield 'handles that stay empty', ('handle 0,0,0 2,0,0 0,2,0 2,2,0; ; ', 'flat')
+    yield 'handles that stay empty', ('handle 0,0,0 2,0,0 0,2,0 2,2,16384; ; ', 'outside')
+    for points in (FOUR, CUBE, [*INNER, FOUR[1]]):
+        yield 'least alphas', levels_case(points)
+    yield 'least alphas of no mesh', ('levels 0,0,0 2,0,0 0,2,0 2,2,0', 'flat')
     for flat in ([], [(0, 0, 0), (2, 0, 0), (0, 2, 0), (2, 2, 0), (1, 1, 0)]):
         yield 'points of a plane have no four', (f'mesh 4; {words(flat)};', 'no four independent points')
     for name, points in (('a tetrahedron and its faces', FOUR), ('a cube and its faces', CUBE)):

@@ -17,6 +17,11 @@
 //! - `within POINTS; ALPHA`: whether the smallest sphere of the edge, triangle or cell is within, and the least alpha.
 //! - `gabriel POINTS; CELLS; FACES`: the faces that are not Gabriel, each judged by its link; cells and faces are the
 //!   digits of their points.
+//! - `handle PLACES; EDITS; LOOKS`: a handle is given the mesh of the places. The replies of the edits, the rows of the
+//!   mesh that they leave, and of each look whether a point stands there and where the nearest one does; or why there
+//!   is no mesh.
+//! - `levels PLACES`: the edges, triangles and cells of the mesh of the places, each by the numbers of its points with
+//!   the least alpha at which it is admitted.
 //! - `read LIMIT STEP FAILS; TEXT`: where the reading ends, and what was read.
 //! - `calls TIMES STEP FAILS; TEXT`: what so many reads into three bytes answer, and what the three bytes are then.
 //! - `write ROOM STEP FAILS; TEXT`: how the writing ends, and what was written.
@@ -51,6 +56,7 @@ mod entering;
 mod faces;
 mod files;
 mod gabriel;
+mod handles;
 mod meshes;
 mod predicates;
 mod reading;
@@ -85,6 +91,8 @@ fn put_case<R: Threads + Sync>(
         "inside" => spheres::inside(answer, lists),
         "within" => spheres::within(answer, lists),
         "gabriel" => gabriel::faces(alloc, answer, lists),
+        "handle" => handles::put(alloc, answer, lists),
+        "levels" => handles::put_levels(alloc, answer, lists),
         "read" => ends::read(alloc, answer, lists),
         "calls" => ends::calls(answer, lists),
         "write" => ends::write(alloc, answer, lists),

@@ -94,7 +94,8 @@ pub(crate) fn mesh_of(alloc: Global, answer: &mut Answer, lists: &str) -> Option
     Some(mesh)
 }
 
-fn letter(reply: Reply) -> char {
+// How a reply is told.
+pub(crate) fn letter(reply: Reply) -> char {
     match reply {
         Reply::Inserted => 'I',
         Reply::Duplicate => 'D',
