@@ -9,6 +9,8 @@ pub mod Moved
 pub mod Orders
 pub mod Search
 pub mod WriteLaws
+pub mod AddLaws
+pub mod StayLaws
 pub mod Planned
 pub mod Turned
 pub mod Rewritten

@@ -1,18 +1,20 @@
 -- What goes and comes in an exchange.
-use Rattle.std.specs.Prelude.{◌≡◌, ℕ, ◌+◌, ◌<◌, ◌≤◌, Bool, true, false, List, [], ◌∷◌, ◌++◌, ◌⊎◌, length, slice_index_or, Option, None, Some, MatchOption, MatchBool, not, ◌==◌}
+use Rattle.std.specs.Prelude.{◌≡◌, ℕ, zero, suc, ◌+◌, ◌<◌, ◌≤◌, Bool, true, false, List, [], ◌∷◌, ◌++◌, ◌⊎◌, length, slice_index_or, Option, None, Some, MatchOption, MatchBool, not, ◌==◌}
 use Rattle.std.specs.List.{zip}
-use Rattle.std.proofs.Common.{refl, sym, ◌∙◌, ap, subst, inl, inr, arith, take, length-append}
-use Rattle.list_laws.proofs.Cited.{among_from, among_true, any_from, ascend_more, at_place, below_each, each_more, each_none, each_taken, in_pushed, in_right, not_both, pushed_new, pushed_old}
+use Rattle.std.proofs.Common.{add-one, refl, sym, ◌∙◌, ap, subst, inl, inr, arith, take, length-append}
+use Rattle.list_laws.proofs.Cited.{among_from, among_true, any_from, ascend_more, at_place, below_each, each_more, each_none, each_taken, in_pushed, in_right, last_one, more_one, not_both, pushed_new, pushed_old}
 use Rattle.point_order.specs.declared.cell.Cell.{Cell}
 use Rattle.point_order.specs.Facets.{points_of}
 use Rattle.point_order.specs.Sets.{IsIn, IsAscending}
-use Rattle.cell_stars.specs.Places.{Placed, AreStars, IsStarred, at, lies_in, touches_in}
-use Rattle.cell_stars.specs.Moves.{IsStarFor, AreFreed, IsFreed, AreComing, IsComing, Stays, IsVacant, IsClear}
+use Rattle.cell_stars.specs.Places.{Placed, AreStars, IsStarred, at, cells_of, lies_in, touches_in}
+use Rattle.cell_stars.specs.Moves.{IsStarFor, AreFreed, IsFreed, AreComing, AreNew, IsComing, Stays, IsVacant, IsClear}
 use Rattle.point_order.specs.Sets.{is_among}
 use Rattle.cell_stars.specs.Grids.{bucket_of}
 use Rattle.cell_stars.specs.Plans.{AreFor}
 use Rattle.point_order.specs.CellOrder.{AreSameCells}
 use Rattle.cell_stars.specs.Swaps.{Differ}
+use Rattle.cell_stars.specs.Turns.{AreReady}
+use Rattle.cell_stars.proofs.Moved.{placed_in}
 
 -- another cell stands at the place
 pub another : (slots : List (Option Cell)) (i : ℕ) (c d : Cell) → at slots i ≡ Some c → (c ≡ d → ⊥) → at slots i ≡ Some d → ⊥
@@ -134,6 +136,46 @@ coming_all b freed fresh n coming new h f s = record {
   each = λ c m. s.each c (f.1 c m);
   all = λ c m t. elim (each_taken (λ c. touches_in b.place c ≡ true → IsIn c coming ⊎ Stays b freed c) fresh n h s.all c m t) [ inl k ↦ inl (f.0 c k) | inr k ↦ inr k ];
 }
+
+-- ---- each once
+
+-- an element is none of those before it
+not_before : (l : List Cell) (n : ℕ) (x : Cell) → Differ l → n < length l → x ≡ slice_index_or l n x → IsIn x (take n l) → ⊥
+not_before [] n x d h e i = absurd (omega arith)
+not_before (y ∷ l) zero x d h e i = absurd i
+not_before (y ∷ l) (suc n) x d h e (inl q) = d.0 (subst (λ (z : Cell). IsIn z l) (sym q) (at_place l n x x (omega arith) e))
+not_before (y ∷ l) (suc n) x d h e (inr m) = not_before l n x d.1 (omega arith) e m
+
+differ_pushed : (l : List Cell) (x : Cell) → Differ l → (IsIn x l → ⊥) → Differ (l ++ x ∷ [])
+differ_pushed [] x d n = (λ i. i, tt)
+differ_pushed (y ∷ l) x d n = (
+  λ i. elim (in_pushed l (l ++ x ∷ []) x y refl i) [ inl k ↦ d.0 k | inr q ↦ n (inl (sym q)) ],
+  differ_pushed l x d.1 (λ i. n (inr i)),
+)
+
+-- those that come so far are some of the first ones, each once
+pub record SingleSoFar (fresh : List Cell) (n : ℕ) (coming : List Cell) : Type 0 where
+  pub differ : Differ coming
+  pub from : (c : Cell) → IsIn c coming → IsIn c (take n fresh)
+
+pub single_none : (fresh coming : List Cell) → coming ≡ [] → SingleSoFar fresh 0 coming
+single_none fresh coming e = record { differ = subst Differ (sym e) tt; from = λ c m. absurd (subst (IsIn c) e m) }
+
+pub single_more : (fresh : List Cell) (n : ℕ) (coming new : List Cell) (x : Cell) → Differ fresh → n < length fresh → x ≡ slice_index_or fresh n x → new ≡ coming ++ x ∷ [] → SingleSoFar fresh n coming → SingleSoFar fresh (n + 1) new
+single_more fresh n coming new x d h e p s = record {
+  differ = subst Differ (sym p) (differ_pushed coming x s.differ (λ i. not_before fresh n x d h e (s.from x i)));
+  from = λ c m. rw add-one (elim (in_pushed coming new x c p m) [
+    | inl k ↦ more_one fresh n c (s.from c k)
+    | inr q ↦ subst (λ (y : Cell). IsIn y (take (suc n) fresh)) q (last_one fresh n x x h e)
+  ]);
+}
+
+pub single_same : (fresh : List Cell) (n : ℕ) (coming : List Cell) → SingleSoFar fresh n coming → SingleSoFar fresh (n + 1) coming
+single_same fresh n coming s = record { differ = s.differ; from = λ c m. rw add-one (more_one fresh n c (s.from c m)) }
+
+-- what an exchange finds not there is new
+pub are_new : (b : Placed) (gone fresh : List Cell) → AreReady b.place gone fresh (cells_of b.slots) → AreNew b fresh
+are_new b gone fresh r c m t i e = r.absent c m t (placed_in b.slots i c e)
 
 -- ---- places for what comes
 

@@ -47,49 +47,6 @@ are_touched gone fresh b freed placed vertices f v = record {
   fresh = λ i p c j q l. filtered_true (lies_in b.place) vertices p (v.all p c (inr (f.placed_fresh i c j).0) q) l;
 }
 
--- ---- the places of a star
-
--- a place that is not freed
-abbrev pub NotFreed : List ℕ → ℕ → ℕ → Type 0
-NotFreed freed i j = (i ≡ j) × (IsIn j freed → ⊥)
-
-pub stay_step : (freed items : List ℕ) (n : ℕ) (old list new : List ℕ) (x : ℕ) (r : Bool) → n < length items → x ≡ slice_index_or items n 0 → r ≡ is_among x freed → r ≡ false → new ≡ list ++ x ∷ [] → Gathered (NotFreed freed) items n old list → Gathered (NotFreed freed) items (n + 1) old new
-stay_step freed items n old list new x r h e a b p s = gather_push (NotFreed freed) items n old list new x 0 x h e (refl, λ m. (let t = among_true x freed m in absurd (cc (a, b, t)))) (λ z q. q.0) p s
-
-pub stay_skip : (freed items : List ℕ) (n : ℕ) (old list : List ℕ) (x : ℕ) (r : Bool) → n < length items → x ≡ slice_index_or items n 0 → r ≡ is_among x freed → r ≡ true → Gathered (NotFreed freed) items n old list → Gathered (NotFreed freed) items (n + 1) old list
-stay_skip freed items n old list x r h e a b s = gather_skip (NotFreed freed) items n old list x 0 h e (λ z q. q.1 (subst (λ (y : ℕ). IsIn y freed) q.0 (among_from x freed (sym a ∙ b)))) s
-
-pub stayed : (b : Placed) (freed items : List ℕ) (p n : ℕ) (none list : List ℕ) → none ≡ [] → length items ≤ n → ((i : ℕ) → (IsIn i items → IsStarred b.keys b.stars p i) × (IsStarred b.keys b.stars p i → IsIn i items)) → Gathered (NotFreed freed) items n none list →
-    (i : ℕ) → (IsIn i list → IsStarred b.keys b.stars p i × (IsIn i freed → ⊥)) × (IsStarred b.keys b.stars p i × (IsIn i freed → ⊥) → IsIn i list)
-stayed b freed items p n none list e h f g i = (
-  λ m. elim (g.each i m) [ inl q ↦ absurd (subst (λ (l : List ℕ). IsIn i l) e q) | inr r ↦ ((f i).0 (subst (λ j. IsIn j items) r.2.0 r.1), r.2.1) ],
-  λ m. gather_all (NotFreed freed) items n none list h g i ((f i).1 m.0) i (refl, m.1),
-)
-
--- the place of a cell with the vertex
-abbrev pub PutWith : ℕ → ℕ × Cell → ℕ → Type 0
-PutWith p x j = (x.0 ≡ j) × IsIn p (points_of x.1)
-
-pub put_step : (p : ℕ) (placed : List (ℕ × Cell)) (n : ℕ) (old list new : List ℕ) (x d : ℕ × Cell) (r : Bool) → n < length placed → x ≡ slice_index_or placed n d → r ≡ is_among p (points_of x.1) → r ≡ true → new ≡ list ++ x.0 ∷ [] → Gathered (PutWith p) placed n old list → Gathered (PutWith p) placed (n + 1) old new
-put_step p placed n old list new x d r h e a b q s = gather_push (PutWith p) placed n old list new x d x.0 h e (refl, among_from p (points_of x.1) (sym a ∙ b)) (λ z t. t.0) q s
-
-pub put_skip : (p : ℕ) (placed : List (ℕ × Cell)) (n : ℕ) (old list : List ℕ) (x d : ℕ × Cell) (r : Bool) → n < length placed → x ≡ slice_index_or placed n d → r ≡ is_among p (points_of x.1) → r ≡ false → Gathered (PutWith p) placed n old list → Gathered (PutWith p) placed (n + 1) old list
-put_skip p placed n old list x d r h e a b s = gather_skip (PutWith p) placed n old list x d h e (λ z t. (let u = among_true p (points_of x.1) t.1 in absurd (cc (a, b, u)))) s
-
-pub places_are : (b : Placed) (freed : List ℕ) (placed : List (ℕ × Cell)) (p n : ℕ) (first list : List ℕ) → lies_in b.place p ≡ true → length placed ≤ n →
-    ((i : ℕ) → (IsIn i first → IsStarred b.keys b.stars p i × (IsIn i freed → ⊥)) × (IsStarred b.keys b.stars p i × (IsIn i freed → ⊥) → IsIn i first)) → Gathered (PutWith p) placed n first list →
-    (i : ℕ) → (IsIn i list → StarsAfter freed placed b p i) × (StarsAfter freed placed b p i → IsIn i list)
-places_are b freed placed p n first list l h f g i = (
-  λ m. elim (g.each i m) [
-    | inl k ↦ inl ((f i).0 k)
-    | inr r ↦ inr (record { cell = r.0.1; put = subst (λ j. IsIn (j, r.0.1) placed) r.2.0 r.1; has = r.2.1; inside = l })
-  ],
-  λ m. elim m [
-    | inl k ↦ g.kept i ((f i).1 k)
-    | inr r ↦ gather_all (PutWith p) placed n first list h g (i, r.cell) r.put i (refl, r.has)
-  ],
-)
-
 -- ---- the numbers of stars
 
 pub full_by : (s : ℕ × List ℕ) (p : ℕ) (l : List ℕ) (r : Bool) → l ≡ owned_by p s → r ≡ (length l == 0) → MatchBool (not r) ((s.0 ≡ p) × ((i : ℕ) × IsIn i s.1)) (s.0 ≡ p → (i : ℕ) → IsIn i s.1 → ⊥)
@@ -166,20 +123,3 @@ are_numbered b stars us ps pairs turns n es ak au ap' l sp e h m = record {
     own_of : (k p q x : ℕ) → From k p → (star_at b.stars k).0 ≡ q → IsIn x (star_at b.stars k).1 → q ≡ p
     own_of k p q x (u, i, inl o) f g = sym f ∙ o.owned
     own_of k p q x (u, i, inr o) f g = absurd (empty u (in_zip us ps u p i).0 x (subst (λ y. IsIn x (star_at b.stars y).1) o.0 g))
-
--- ---- the stars that are written
-
-abbrev pub HasStar : Placed → List ℕ → List (ℕ × Cell) → ℕ × ℕ → ℕ × (ℕ × List ℕ) → Type 0
-HasStar b freed placed x y = (x.0 ≡ y.0) × (x.1 ≡ y.1.0) × ((i : ℕ) → (IsIn i y.1.1 → StarsAfter freed placed b y.1.0 i) × (StarsAfter freed placed b y.1.0 i → IsIn i y.1.1))
-
-pub has_star : (b : Placed) (freed : List ℕ) (placed : List (ℕ × Cell)) (x : ℕ × ℕ) (s : ℕ × List ℕ) → s.0 ≡ x.1 → ((i : ℕ) → (IsIn i s.1 → StarsAfter freed placed b x.1 i) × (StarsAfter freed placed b x.1 i → IsIn i s.1)) → HasStar b freed placed x (x.0, s)
-has_star b freed placed x s e f = (refl, sym e, subst (λ p. (i : ℕ) → (IsIn i s.1 → StarsAfter freed placed b p i) × (StarsAfter freed placed b p i → IsIn i s.1)) (sym e) f)
-
-pub are_after : (b : Placed) (freed : List ℕ) (placed : List (ℕ × Cell)) (turns : List (ℕ × ℕ)) (n : ℕ) (writes : List (ℕ × (ℕ × List ℕ))) → length turns ≤ n → Made (HasStar b freed placed) turns n writes → AreStarsAfter b freed placed turns writes
-are_after b freed placed turns n writes h m = record {
-  each = λ k s i. (let r = m.each (k, s) i in subst (λ (q : ℕ × ℕ). IsIn q turns) (ap (λ (a : ℕ). (a, r.0.1)) r.2.0 ∙ ap (λ (a : ℕ). (k, a)) r.2.1) r.1);
-  all = λ k p i. (
-      let r = made_all (HasStar b freed placed) turns n writes h m (k, p) i in
-      (r.0.1.1, subst (λ (y : ℕ × (ℕ × List ℕ)). IsIn y writes) (ap (λ (a : ℕ). (a, r.0.1)) (sym r.2.0) ∙ ap (λ (a : ℕ). (k, (a, r.0.1.1))) (sym r.2.1)) r.1));
-  places = λ k i s j. (m.each (k, s) j).2.2 i;
-}

@@ -6,3 +6,4 @@ pub mod Plans
 pub mod Turns
 pub mod Moves
 pub mod Gathering
+pub mod Adding

@@ -43,6 +43,10 @@ pub record AreComing (b : Placed) (freed : List ℕ) (fresh coming : List Cell) 
   pub each : (c : Cell) → IsIn c coming → IsComing b freed fresh c
   pub all : (c : Cell) → IsIn c fresh → touches_in b.place c ≡ true → IsIn c coming ⊎ Stays b freed c
 
+-- no fresh cell that touches the bucket stands there
+abbrev pub AreNew : Placed → List Cell → Type 0
+AreNew b fresh = (c : Cell) → IsIn c fresh → touches_in b.place c ≡ true → (i : ℕ) → at b.slots i ≡ Some c → ⊥
+
 -- a vertex in the bucket, around which no cell has the point
 pub record IsClear (b : Placed) (p q : ℕ) : Type 0 where
   pub inside : lies_in b.place q ≡ true

@@ -1,9 +1,10 @@
 -- Exchanges that are planned, and then carried out without memory.
-use Rattle.std.specs.Prelude.{◌≡◌, ◌<◌, ◌↔◌, ◌⊎◌, ℕ, true, List, [], ◌∷◌, length, map, Option, None, Some, slice_set}
+use Rattle.std.specs.Prelude.{◌≡◌, ◌<◌, ◌↔◌, ◌⊎◌, ℕ, Bool, true, List, [], ◌∷◌, length, map, Option, None, Some, slice_set}
 use Rattle.point_order.specs.declared.cell.Cell.{Cell}
 use Rattle.point_order.specs.Facets.{points_of}
 use Rattle.point_order.specs.Sets.{IsIn, IsAscending}
 use Rattle.cell_stars.specs.Places.{Placed, AreStars, IsMoved, IsStarred, at, cells_of, lies_in, touches_in, swapped_at}
+use Rattle.cell_stars.specs.Swaps.{Differ}
 
 -- A plan: the places and the stars in longer lists, where there are too few; for each place that changes what stands
 -- there after, for each star that changes the star after it; the keys where they change.
@@ -52,6 +53,16 @@ pub record IsPlanFor (gone fresh : List Cell) (b : Placed) (p : PlanView) : Type
 pub record AreVertices (gone fresh : List Cell) (vertices : List ℕ) : Type 0 where
   pub each : (p : ℕ) → IsIn p vertices → (c : Cell) × (IsIn c gone ⊎ IsIn c fresh) × IsIn p (points_of c)
   pub all : (p : ℕ) (c : Cell) → IsIn c gone ⊎ IsIn c fresh → IsIn p (points_of c) → IsIn p vertices
+
+-- What is found once for an exchange: its vertices, and whether it is known that no fresh cell is listed twice.
+pub record Once : Type 0 where
+  pub vertices : List ℕ
+  pub single : Bool
+
+-- it is of these cells
+pub record IsOnceFor (gone fresh : List Cell) (m : Once) : Type 0 where
+  pub vertices : AreVertices gone fresh m.vertices
+  pub single : m.single ≡ true → Differ fresh
 
 -- ---- what the planner finds
 

@@ -1,5 +1,8 @@
 //! Where the cells that go are likely to stand: across the facets of those before them.
 
+ghost use Rattle.std.specs.Prelude.{◌≡◌, IfSome, Some};
+ghost use Rattle.cell_stars.specs.Places.{at};
+
 use crate::links::{Links, NONE};
 use crate::matched::{Joined, Side};
 use crate::moves::stands_at;
@@ -29,37 +32,30 @@ impl Guesses {
         links: &Links,
         joined: &Joined,
         cell: &Cell,
-    ) -> u32 {
-        let Some(sides) = joined.before.get(self.places.len()) else {
-            return NONE;
-        };
+    ) -> Option<u32>
+        ensures { IfSome result (λ i. at slots.now i ≡ Some cell.now) }
+    {
+        let sides = joined.before.get(self.places.len())?;
         for side in sides.iter().flatten() {
             let place = self.place_across(links, *side);
             if stands_at(slots, place, cell) {
-                return place;
+                return Some(place);
             }
         }
-        NONE
+        None
     }
 
     // The place across the side of a cell before, if that was found.
     fn place_across(&self, links: &Links, side: Side) -> u32 {
-        match self.places.get(side.cell) {
-            Some(found) => links.across(*found, side.side),
+        match self.places.get(side.cell as usize) {
+            Some(found) => links.across(*found, usize::from(side.side)),
             None => NONE,
         }
     }
 
-    /// The next cell is looked for.
-    pub(crate) fn add(&mut self) -> Result<(), AllocError> {
-        self.places.push(NONE)?;
+    /// The next cell was looked for: where it stands, if it was found.
+    pub(crate) fn add(&mut self, place: Option<u32>) -> Result<(), AllocError> {
+        self.places.push(place.unwrap_or(NONE))?;
         Ok(())
-    }
-
-    /// It stands at the place.
-    pub(crate) fn put(&mut self, place: u32) {
-        if let Some(last) = self.places.last_mut() {
-            *last = place;
-        }
     }
 }

@@ -33,8 +33,8 @@ pub(crate) struct Joins {
 const FEW: usize = 32;
 
 // One of the numbers, or none.
-fn number_at(list: &[u32], at: usize) -> u32 {
-    match list.get(at) {
+fn number_at(list: &[u32], at: u32) -> u32 {
+    match list.get(at as usize) {
         Some(number) => *number,
         None => NONE,
     }
@@ -69,15 +69,11 @@ fn note_next<'a>(
 }
 
 // The places of the cells that come, none for those that are not put.
-fn places_of(
-    alloc: Global,
-    fresh: &[Cell],
-    placed: &[(u32, Cell)],
-) -> Result<Vec<u32>, AllocError> {
+fn places_of(alloc: Global, fresh: &[Cell], moves: &Moves) -> Result<Vec<u32>, AllocError> {
     let mut places = Vec::new(alloc);
     places.resize(fresh.len(), NONE)?;
-    let mut rest = placed;
-    if placed.len() > FEW {
+    let mut rest: &[(u32, Cell)] = &moves.placed;
+    if !moves.listed && rest.len() > FEW {
         for (cell, at) in &in_order(alloc, fresh)? {
             rest = note_next(&mut places, rest, cell, *at);
         }
@@ -104,7 +100,7 @@ impl Joins {
             Beside::Fresh(other) => Ok(number_at(places, other)),
             Beside::Behind(behind) => {
                 let freed = number_at(gone, behind.cell);
-                let outside = links.across(freed, behind.side);
+                let outside = links.across(freed, usize::from(behind.side));
                 self.add_rim(links, freed, outside, place)?;
                 Ok(outside)
             }
@@ -159,7 +155,7 @@ impl Joins {
         joined: &Joined,
         moves: &Moves,
     ) -> Result<Joins, AllocError> {
-        let places = places_of(alloc, fresh, &moves.placed)?;
+        let places = places_of(alloc, fresh, moves)?;
         let mut joins = Joins {
             fresh: Vec::with_capacity(alloc, moves.placed.len())?,
             rim: Vec::with_capacity(alloc, moves.placed.len())?,

@@ -7,7 +7,7 @@
 //! let grid = Grid::new(4)?;
 //! let mut cells = Cells::new(alloc).placed(grid, grid.bucket_of(a));
 //! let matched = Matched::of(alloc, &[], &[cell])?;
-//! let plan = cells.plan(alloc, &[], &[cell], &matched)?;  // all memory is taken here
+//! let plan = cells.plan(alloc, &[], &[cell], &matched, false)?;  // all memory is taken here
 //! cells.carry_out(plan);                        // the cell is there, if it has a point in the bucket
 //! for cell in cells.cells_at(a) {               // ascending; `cells_around` gives them at once, in any order
 //!     ..
@@ -15,6 +15,7 @@
 //! ```
 #![tactic(auto)]
 
+mod adding;
 mod cells;
 mod grid;
 mod guesses;

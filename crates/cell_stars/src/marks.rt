@@ -1,10 +1,10 @@
 //! Marks of numbers, by which most numbers that are not in a list are told at once.
 
-ghost use Rattle.std.specs.Prelude.{◌≡◌};
+ghost use Rattle.std.specs.Prelude.{◌≡◌, not};
 ghost use Rattle.point_order.specs.Sets.{IsAscending, is_among};
 ghost use Rattle.cell_stars.specs.Moves.{AreMarked};
 
-use crate::moves::has_number;
+use crate::moves::is_listed;
 
 // The marks of numbers, each at the rest of a division by 512.
 pub(crate) type Marks = [bool; 512];
@@ -20,14 +20,12 @@ pub(crate) fn marks_of(list: &[u32]) -> Marks
     marks
 }
 
-// Whether the number is one of the list, which has these marks.
-pub(crate) fn has_marked(list: &[u32], marks: &Marks, i: u32) -> bool
-    requires order { IsAscending list.now }
-    requires marks { AreMarked marks.now list.now }
-    ensures { result ≡ is_among i list.now }
+// Whether the number is none of the list, if that ascends and has these marks.
+pub(crate) fn is_unmarked(list: &[u32], marks: &Marks, i: u32) -> bool
+    ensures { IsAscending list.now → AreMarked marks.now list.now → result ≡ not (is_among i list.now) }
 {
     if !marks[(i % 512) as usize] {
-        return false;
+        return true;
     }
-    has_number(list, i)
+    !is_listed(list, i)
 }

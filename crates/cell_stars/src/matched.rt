@@ -3,9 +3,10 @@
 
 ghost use Rattle.std.specs.Prelude.{◌≡◌, IfOk};
 ghost use Rattle.point_order.specs.Sets.{IsAscending};
-ghost use Rattle.cell_stars.specs.Plans.{AreVertices};
+ghost use Rattle.cell_stars.specs.Plans.{AreVertices, IsOnceFor};
 
-use crate::links::{NONE, hash_of};
+use crate::links::NONE;
+use crate::order::do_differ;
 use crate::writes::add_vertices;
 use point_order::{Cell, Point, points_in_order};
 use std::alloc::{AllocError, Global};
@@ -18,7 +19,7 @@ pub(crate) enum Beside {
     /// It was not found.
     Nothing,
     /// Another cell that comes, by where it stands in their list.
-    Fresh(usize),
+    Fresh(u32),
     /// What lay across this side of a cell that goes, by where it stands in their list.
     Behind(Side),
 }
@@ -26,16 +27,17 @@ pub(crate) enum Beside {
 /// A side of a cell that goes, by where the cell stands in their list.
 #[derive(Clone, Copy)]
 pub(crate) struct Side {
-    pub(crate) cell: usize,
-    pub(crate) side: usize,
+    pub(crate) cell: u32,
+    pub(crate) side: u8,
 }
 
 /// The vertices of the cells of an exchange, ascending, and what lies across the facets of its cells.
 ///
-/// Contracts see it as the vertices.
+/// Contracts see it as the vertices, and whether it is known that no cell that comes is listed twice.
 #[derive(Drop)]
 pub struct Matched {
     vertices: Vec<Point>,
+    single: bool,
     pub(crate) joined: Joined,
 }
 
@@ -54,18 +56,21 @@ impl Debug for Matched {
 }
 
 impl Model for Matched {
-    ghost use Rattle.std.specs.Prelude.{List, ℕ};
     ghost use Rattle.point_order.specs.Sets.{IsAscending};
+    ghost use Rattle.cell_stars.specs.Plans.{Once};
 
-    ghost Value = { List ℕ };
+    ghost Value = { Once };
 
-    ghost view = { λ m. m.vertices.items };
+    ghost view = { λ m. record { vertices = m.vertices.items; single = m.single } };
 
     ghost invariant = { λ m. IsAscending m.vertices.items };
 }
 
 // As many vertices as an exchange mostly has.
 const FEW: usize = 48;
+
+// Of more cells than so many it is not looked whether one is listed twice.
+const PAIRS: usize = 64;
 
 // Something is looked for in so many entries of a table from its first one on.
 const TURNS: usize = 12;
@@ -75,99 +80,42 @@ fn first_entry(hash: u64, count: usize) -> usize {
     ((hash & 0xFFFF_FFFF).wrapping_mul(count as u64) >> 32) as usize
 }
 
-// The vertices of an exchange by numbers. One that finds no entry in its turns gets more than one.
-#[derive(Drop)]
-struct Numbers {
-    count: usize,
-    table: Vec<u32>,
-    vertices: Vec<Point>,
+// An odd number whose product with another depends in its upper bits on all bits of that.
+const FACTOR: u64 = 0x9E37_79B9_7F4A_7C15;
+
+// A number for the point, of which all bits depend on all of its.
+fn mixed(p: Point) -> u64 {
+    let product = p.key().wrapping_mul(FACTOR);
+    (product ^ (product >> 32)).wrapping_mul(FACTOR)
 }
 
-impl Numbers {
-    // None, with a table for the vertices of so many cells.
-    fn new(alloc: Global, cells: usize) -> Result<Numbers, AllocError> {
-        let count = cells.saturating_mul(2).saturating_add(TURNS);
-        let mut table = Vec::new(alloc);
-        table.resize(count.saturating_add(TURNS), NONE)?;
-        Ok(Numbers {
-            count,
-            table,
-            vertices: Vec::with_capacity(alloc, cells)?,
-        })
-    }
-
-    // The number at an entry, none where it is free.
-    fn entry(&self, at: usize) -> u32 {
-        match self.table.get(at) {
-            Some(number) => *number,
-            None => NONE,
+// Numbers for the facets of the cell, in their order: the sums of those of their points. A facet has the same number
+// in both of its cells, and hardly another has it.
+fn facets_of(cell: &Cell) -> [u64; 4] {
+    match cell {
+        Cell::Full(quad) => {
+            let (a, b, c, d) = quad.corners();
+            let (a, b, c, d) = (mixed(a), mixed(b), mixed(c), mixed(d));
+            let (first, last) = (a.wrapping_add(b), c.wrapping_add(d));
+            [
+                last.wrapping_add(b),
+                last.wrapping_add(a),
+                first.wrapping_add(d),
+                first.wrapping_add(c),
+            ]
+        }
+        Cell::Open(tri) => {
+            let (a, b, c) = tri.corners();
+            let (a, b, c) = (mixed(a), mixed(b), mixed(c));
+            let first = a.wrapping_add(b);
+            [
+                b.wrapping_add(c),
+                a.wrapping_add(c),
+                first,
+                first.wrapping_add(c),
+            ]
         }
     }
-
-    // Whether it is the number of the vertex.
-    fn is_at(&self, number: u32, p: Point) -> bool {
-        match self.vertices.get(number as usize) {
-            Some(vertex) => *vertex == p,
-            None => false,
-        }
-    }
-
-    // Adds the vertex, at an entry if there is one.
-    fn add(&mut self, at: usize, p: Point) -> Result<u32, AllocError> {
-        let number = u32::try_from(self.vertices.len()).unwrap_or(NONE);
-        if let Some(entry) = self.table.get_mut(at) {
-            *entry = number;
-        }
-        self.vertices.push(p)?;
-        Ok(number)
-    }
-
-    // The number of the vertex, which is a new one where it was not found.
-    fn number(&mut self, p: Point) -> Result<u32, AllocError> {
-        let first = first_entry(hash_of(p), self.count);
-        for turn in 0..TURNS {
-            let at = first.saturating_add(turn);
-            let number = self.entry(at);
-            if number == NONE {
-                return self.add(at, p);
-            }
-            if self.is_at(number, p) {
-                return Ok(number);
-            }
-        }
-        let end = self.table.len();
-        self.add(end, p)
-    }
-
-    // Numbers for the facets of the cell, in their order. A facet has the same number in both of its cells.
-    fn facets(&mut self, cell: &Cell) -> Result<[u64; 4], AllocError> {
-        let [a, b, c, d] = match cell {
-            Cell::Full(quad) => {
-                let (a, b, c, d) = quad.corners();
-                [
-                    self.number(a)?,
-                    self.number(b)?,
-                    self.number(c)?,
-                    self.number(d)?,
-                ]
-            }
-            Cell::Open(tri) => {
-                let (a, b, c) = tri.corners();
-                [self.number(a)?, self.number(b)?, self.number(c)?, NONE]
-            }
-        };
-        Ok([
-            facet_number(b, c, d),
-            facet_number(a, c, d),
-            facet_number(a, b, d),
-            facet_number(a, b, c),
-        ])
-    }
-}
-
-// A number for the facet with these vertices.
-fn facet_number(a: u32, b: u32, c: u32) -> u64 {
-    (u64::from(a) << 42) ^ (u64::from(b) << 21) ^ u64::from(c)
 }
 
 // A facet by its number, and the cell by which it was met, with its side: one that goes or one that comes.
@@ -208,8 +156,7 @@ impl Table {
 
     // The cell by which the facet was met before. Else it was met by this one.
     fn meet(&mut self, met: Met) -> Option<Met> {
-        let hash = met.facet.wrapping_mul(0x9E37_79B9_7F4A_7C15) >> 32;
-        let first = first_entry(hash, self.count);
+        let first = first_entry(met.facet >> 32, self.count);
         for turn in 0..TURNS {
             let entry = self.entries.get_mut(first.saturating_add(turn))?;
             if entry.facet == met.facet {
@@ -243,8 +190,8 @@ impl Joined {
             side,
             goes,
         }) {
-            self.set(cell, side, Beside::Fresh(met.cell as usize));
-            self.set(met.cell, met.side, Beside::Fresh(cell as usize));
+            self.set(cell, side, Beside::Fresh(met.cell));
+            self.set(met.cell, met.side, Beside::Fresh(cell));
         }
     }
 
@@ -271,15 +218,11 @@ impl Joined {
         })?;
         if met.goes {
             return Some(Side {
-                cell: met.cell as usize,
-                side: met.side as usize,
+                cell: met.cell,
+                side: met.side,
             });
         }
-        let behind = Side {
-            cell: cell as usize,
-            side: side as usize,
-        };
-        self.set(met.cell, met.side, Beside::Behind(behind));
+        self.set(met.cell, met.side, Beside::Behind(Side { cell, side }));
         None
     }
 
@@ -304,13 +247,12 @@ impl Joined {
             before: Vec::with_capacity(alloc, gone.len())?,
         };
         let cells = fresh.len().saturating_add(gone.len());
-        let mut numbers = Numbers::new(alloc, cells)?;
         let mut table = Table::new(alloc, cells)?;
         for cell in fresh {
-            joined.add(&mut table, numbers.facets(cell)?)?;
+            joined.add(&mut table, facets_of(cell))?;
         }
         for cell in gone {
-            joined.add_gone(&mut table, numbers.facets(cell)?)?;
+            joined.add_gone(&mut table, facets_of(cell))?;
         }
         Ok(joined)
     }
@@ -322,20 +264,28 @@ impl Matched {
     /// # Errors
     /// Want of memory.
     pub fn of(alloc: Global, gone: &[Cell], fresh: &[Cell]) -> Result<Matched, AllocError>
-        ensures { IfOk result (λ matched. AreVertices gone.now fresh.now matched) }
+        ensures { IfOk result (λ matched. IsOnceFor gone.now fresh.now matched) }
     {
         Ok(Matched {
             vertices: vertices_of(alloc, gone, fresh)?,
+            single: fresh.len() <= PAIRS && do_differ(fresh),
             joined: Joined::of(alloc, gone, fresh)?,
         })
     }
 
     /// The vertices of the cells, ascending.
     pub fn vertices(&self) -> &[Point]
-        ensures vertices { result.now ≡ self.now }
-        ensures order { IsAscending self.now }
+        ensures vertices { result.now ≡ self.now.vertices }
+        ensures order { IsAscending self.now.vertices }
     {
         &self.vertices
+    }
+
+    // Whether it is known that no cell that comes is listed twice.
+    pub(crate) fn is_single(&self) -> bool
+        ensures { result ≡ self.now.single }
+    {
+        self.single
     }
 }
 

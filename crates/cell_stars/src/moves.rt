@@ -23,13 +23,13 @@ ghost use Rattle.point_order.specs.declared.cell.Cell.{Cell};
 ghost use Rattle.point_order.specs.Facets.{points_of};
 ghost use Rattle.point_order.specs.Sets.{IsIn, IsAscending, is_among};
 ghost use Rattle.cell_stars.specs.Places.{at, lies_in, touches_in};
-ghost use Rattle.cell_stars.specs.Plans.{AreFor};
+ghost use Rattle.cell_stars.specs.Plans.{AreFor, IsOnceFor};
 ghost use Rattle.cell_stars.specs.Swaps.{Differ};
-ghost use Rattle.cell_stars.specs.Moves.{IsStarFor, AreFreed, AreComing, IsVacant, IsClear, Stays};
+ghost use Rattle.cell_stars.specs.Moves.{IsStarFor, AreFreed, AreComing, AreNew, IsVacant, IsClear, Stays};
 
 use crate::cells::Cells;
 use crate::guesses::Guesses;
-use crate::matched::Joined;
+use crate::matched::{Joined, Matched};
 use crate::order::{are_same, cells_once, has_vertex, numbers_in_order, touches};
 use crate::star::cell_at;
 use point_order::{Cell, Point};
@@ -45,12 +45,21 @@ pub(crate) struct Moves {
     pub(crate) placed: Vec<(u32, Cell)>,
     // Where each of the gone cells is likely to stand.
     pub(crate) gone: Vec<u32>,
+    // Whether the cells are put as they are listed; else in order, where they are many.
+    pub(crate) listed: bool,
 }
 
 // Whether the number is one of these.
 pub(crate) fn has_number(list: &[u32], i: u32) -> bool
     requires { IsAscending list.now }
     ensures { result ≡ is_among i list.now }
+{
+    is_listed(list, i)
+}
+
+// The same of any list, as far as it ascends.
+pub(crate) fn is_listed(list: &[u32], i: u32) -> bool
+    ensures { IsAscending list.now → result ≡ is_among i list.now }
 {
     if list.len() <= FEW {
         list.contains(&i)
@@ -270,18 +279,26 @@ impl Cells {
         }
     }
 
-    // The place of the cell, which is likely to be the one that is guessed, if it stands at one.
-    fn place_of_cell(&self, cell: &Cell, guess: u32) -> Option<u32>
+    // The place of the cell, if it stands at one.
+    fn place_of_cell(&self, cell: &Cell) -> Option<u32>
         ensures { MatchOption result ((i : ℕ) → at self.now.slots i ≡ Some cell.now →
             touches_in self.now.place cell.now ≡ true → ⊥) (λ i. at self.now.slots i ≡ Some cell.now) }
     {
         if !self.is_touched_by(cell) {
             return None;
         }
-        if stands_at(&self.slots, guess, cell) {
-            return Some(guess);
-        }
         self.place_in_star(cell)
+    }
+
+    // The same, where it is likely to stand across a facet of one that was found before.
+    fn place_by(&self, cell: &Cell, joined: &Joined, guesses: &Guesses) -> Option<u32>
+        ensures { MatchOption result ((i : ℕ) → at self.now.slots i ≡ Some cell.now →
+            touches_in self.now.place cell.now ≡ true → ⊥) (λ i. at self.now.slots i ≡ Some cell.now) }
+    {
+        match guesses.guess(&self.slots, &self.links, joined, cell) {
+            Some(place) => Some(place),
+            None => self.place_of_cell(cell),
+        }
     }
 
     // The places of the gone cells, ascending.
@@ -298,11 +315,10 @@ impl Cells {
         let _ = &self.slots;
         let mut freed = Vec::with_capacity(alloc, gone.len())?;
         for c in gone {
-            let guess = guesses.guess(&self.slots, &self.links, joined, c);
-            guesses.add()?;
-            if let Some(i) = self.place_of_cell(c, guess) {
+            let place = self.place_by(c, joined, guesses);
+            guesses.add(place)?;
+            if let Some(i) = place {
                 freed.push(i)?;
-                guesses.put(i);
             }
         }
         Ok(numbers_in_order(freed))
@@ -420,19 +436,25 @@ impl Cells {
         freed: &[u32],
         p: &Option<Point>,
         clear: &mut Vec<Point>,
+        found: bool,
     ) -> Result<bool, AllocError>
         requires order { IsAscending freed.now }
+        requires found { found ≡ true → touches_in self.now.place cell.now ≡ true → (i : ℕ) →
+            at self.now.slots i ≡ Some cell.now → ⊥ }
         requires clear { IfSome p.now (λ p. (q : ℕ) → IsIn q clear.old.items → IsClear self.now p q) }
         ensures clear { OnOk result (IfSome p.now (λ p. (q : ℕ) → IsIn q clear.new.items → IsClear self.now p q)) }
         ensures comes { IfOk result (λ r. MatchBool r ((touches_in self.now.place cell.now ≡ true)
             × ((i : ℕ) → at self.now.slots i ≡ Some cell.now → IsIn i freed.now)) (touches_in self.now.place cell.now
             ≡ true → Stays self.now freed.now cell.now)) }
     {
-        if self.is_touched_by(cell) {
-            let is_new = self.is_new_by(cell, p, clear)?;
-            return Ok(is_new || !self.stays(cell, freed));
+        if !self.is_touched_by(cell) {
+            return Ok(false);
         }
-        Ok(false)
+        if found {
+            return Ok(true);
+        }
+        let is_new = self.is_new_by(cell, p, clear)?;
+        Ok(is_new || !self.stays(cell, freed))
     }
 
     // The fresh cells that touch the bucket and do not stay there, each once.
@@ -441,19 +463,26 @@ impl Cells {
         alloc: Global,
         fresh: &[Cell],
         freed: &[u32],
+        single: bool,
+        found: bool,
     ) -> Result<Vec<Cell>, AllocError>
-        requires { IsAscending freed.now }
+        requires order { IsAscending freed.now }
+        requires single { single ≡ true → Differ fresh.now }
+        requires found { found ≡ true → AreNew self.now fresh.now }
         ensures once { IfOk result (λ coming. Differ coming.items) }
         ensures coming { IfOk result (λ coming. AreComing self.now freed.now fresh.now coming.items) }
     {
-        let p = self.new_vertex(fresh);
+        let p = if found { None } else { self.new_vertex(fresh) };
         let mut clear = self.clear_point(alloc, &p)?;
         let mut coming = Vec::with_capacity(alloc, fresh.len())?;
         for c in fresh {
-            let comes = self.comes(c, freed, &p, &mut clear)?;
+            let comes = self.comes(c, freed, &p, &mut clear, found)?;
             if comes {
                 coming.push(*c)?;
             }
+        }
+        if single {
+            return Ok(coming);
         }
         Ok(cells_once(coming))
     }
@@ -464,14 +493,17 @@ impl Cells {
         alloc: Global,
         gone: &[Cell],
         fresh: &[Cell],
-        joined: &Joined,
+        matched: &Matched,
+        found: bool,
     ) -> Result<Moves, AllocError>
+        requires matched { IsOnceFor gone.now fresh.now matched.now }
+        requires found { found ≡ true → AreNew self.now fresh.now }
         ensures order { IfOk result (λ moves. IsAscending moves.freed.items) }
         ensures made { IfOk result (λ moves. AreFor gone.now fresh.now moves.freed.items moves.placed.items self.now) }
     {
         let mut guesses = Guesses::new(alloc, gone.len())?;
-        let freed = self.freed_by(alloc, gone, joined, &mut guesses)?;
-        let coming = self.coming_by(alloc, fresh, &freed)?;
+        let freed = self.freed_by(alloc, gone, &matched.joined, &mut guesses)?;
+        let coming = self.coming_by(alloc, fresh, &freed, matched.is_single(), found)?;
         let places = places_for(
             alloc,
             &self.slots,
@@ -485,6 +517,7 @@ impl Cells {
             freed,
             placed,
             gone: guesses.places,
+            listed: matched.is_single(),
         })
     }
 }

@@ -90,7 +90,7 @@ fn has_cell(list: &[Cell], cell: &Cell) -> bool
 }
 
 // Whether no cell is there twice.
-fn do_differ(list: &[Cell]) -> bool
+pub(crate) fn do_differ(list: &[Cell]) -> bool
     ensures { IsTrue result → Differ list.now }
 {
     let mut rest = list;

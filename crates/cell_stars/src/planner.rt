@@ -1,12 +1,13 @@
 //! Exchanges are planned, with memory.
 
-ghost use Rattle.std.specs.Prelude.{◌≡◌, ◌<◌, ◌≤◌, ◌++◌, ℕ, None, Some, List, IfOk, length, map};
+ghost use Rattle.std.specs.Prelude.{◌≡◌, ◌<◌, ◌≤◌, ◌++◌, ℕ, true, None, Some, List, IfOk, length, map};
 ghost use Rattle.std.specs.List.{filter};
 ghost use Rattle.std.specs.Option.{option_map};
 ghost use Rattle.point_order.specs.declared.cell.Cell.{Cell};
 ghost use Rattle.point_order.specs.Sets.{IsIn, IsAscending};
-ghost use Rattle.cell_stars.specs.Places.{AreStars, at, lies_in};
-ghost use Rattle.cell_stars.specs.Plans.{or_else, AreVertices, IsPlanFor};
+ghost use Rattle.cell_stars.specs.Places.{AreStars, at, cells_of, lies_in};
+ghost use Rattle.cell_stars.specs.Plans.{or_else, IsOnceFor, IsPlanFor};
+ghost use Rattle.cell_stars.specs.Turns.{AreReady};
 ghost use Rattle.cell_stars.specs.Moves.{AreKeysAfter, AreTouched, HasSameCells, HasSameStars, IsRewriting};
 
 use crate::cells::Cells;
@@ -284,7 +285,8 @@ impl Cells {
     }
 
     /// Plans an exchange of the gone for the fresh cells, as far as they touch the bucket. What was found once is to
-    /// be of these cells.
+    /// be of these cells. Where it is told that the exchange finds its cells, it is to do so, and no fresh cell is
+    /// looked for.
     ///
     /// # Errors
     /// Want of memory, or of a number of 32 bits for a place or a star.
@@ -294,11 +296,13 @@ impl Cells {
         gone: &[Cell],
         fresh: &[Cell],
         matched: &Matched,
+        found: bool,
     ) -> Result<Plan, AllocError>
-        requires { AreVertices gone.now fresh.now matched.now }
+        requires matched { IsOnceFor gone.now fresh.now matched.now }
+        requires found { found ≡ true → AreReady self.now.place gone.now fresh.now (cells_of self.now.slots) }
         ensures { IfOk result (λ plan. IsPlanFor gone.now fresh.now self.now plan) }
     {
-        let moves = self.moves(alloc, gone, fresh, &matched.joined)?;
+        let moves = self.moves(alloc, gone, fresh, matched, found)?;
         let stars = self.plan_stars(alloc, &moves, matched.vertices())?;
         let places = self.plan_places(alloc, fresh, &matched.joined, &moves)?;
         Ok(Plan { places, stars })

@@ -13,6 +13,8 @@ ghost use Rattle.std.specs.Prelude.{
   IfOk,
   OnOk,
   length,
+  List,
+  map,
   MatchBool,
   MatchOption,
   IsTrue,
@@ -22,7 +24,7 @@ ghost use Rattle.point_order.specs.declared.cell.Cell.{Cell};
 ghost use Rattle.point_order.specs.Facets.{points_of};
 ghost use Rattle.point_order.specs.Sets.{IsIn, IsAscending};
 ghost use Rattle.cell_stars.specs.Places.{at, lies_in, star_at, IsStarred};
-ghost use Rattle.cell_stars.specs.Plans.{StarsAfter};
+ghost use Rattle.cell_stars.specs.Adding.{head_of, IsStaying};
 ghost use Rattle.cell_stars.specs.Gathering.{FromCell, Gathers};
 ghost use Rattle.cell_stars.specs.Moves.{
   AreMarked,
@@ -36,7 +38,7 @@ ghost use Rattle.cell_stars.specs.Moves.{
 
 use crate::cells::{Cells, places_in};
 use crate::links::hash_of;
-use crate::marks::{Marks, has_marked, marks_of};
+use crate::marks::{Marks, is_unmarked, marks_of};
 use crate::moves::{Moves, behind_last, pairs};
 use crate::order::{has_vertex, numbers_in_order};
 use crate::plan::Around;
@@ -136,7 +138,7 @@ fn numbers_for(
 pub(crate) type Seen = [usize; 512];
 
 // The rest of the point.
-fn rest_of(p: Point) -> usize
+pub(crate) fn rest_of(p: Point) -> usize
     ensures { result < 512 }
 {
     (hash_of(p) % 512) as usize
@@ -232,7 +234,8 @@ impl Cells {
     // The numbers that the stars of the vertices have after an exchange.
     fn turns(&self, alloc: Global, vertices: &[Point]) -> Result<Vec<(u32, Point)>, AllocError>
         requires { IsAscending vertices.now }
-        ensures { IfOk result (λ turns. AreNumbered self.now vertices.now turns.items) }
+        ensures numbered { IfOk result (λ turns. AreNumbered self.now vertices.now turns.items) }
+        ensures vertices { IfOk result (λ turns. map (λ t. t.1) turns.items ≡ vertices.now) }
     {
         let numbers = numbers_for(
             alloc,
@@ -262,57 +265,49 @@ impl Cells {
         ensures { IfOk result (λ list. (i : ℕ) → IsIn i list.items
             ↔ (IsStarred self.now.keys self.now.stars p i × (IsIn i freed.now → ⊥))) }
     {
-        let mut list = SmallVec::new(alloc);
-        for i in self.star_of(p) {
-            if !has_marked(freed, marks, *i) {
-                list.push(*i)?;
-            }
-        }
+        let mut list = SmallVec::from_slice(alloc, self.star_of(p))?;
+        list.retain(|i| is_unmarked(freed, marks, *i));
         Ok(list)
     }
 
-    // The places of the star of a vertex after an exchange.
-    fn places_after(
+    // The star of a vertex without the freed places.
+    fn star_staying(
         &self,
         alloc: Global,
         p: Point,
-        moves: &Moves,
-        marks: &Marks,
-    ) -> Result<SmallVec<u32, 32>, AllocError>
-        requires order { IsAscending moves.now.freed.items }
-        requires marks { AreMarked marks.now moves.now.freed.items }
-        requires inside { lies_in self.now.place p ≡ true }
-        ensures { IfOk result (λ list. (i : ℕ) → IsIn i list.items
-            ↔ StarsAfter moves.now.freed.items moves.now.placed.items self.now p i) }
-    {
-        let mut list = self.staying(alloc, p, &moves.freed, marks)?;
-        for (i, c) in &moves.placed {
-            if has_vertex(c, p) {
-                list.push(*i)?;
-            }
-        }
-        Ok(list)
-    }
-
-    // The star of a vertex after an exchange.
-    fn star_after(
-        &self,
-        alloc: Global,
-        p: Point,
-        moves: &Moves,
+        freed: &[u32],
         marks: &Marks,
     ) -> Result<Around, AllocError>
-        requires order { IsAscending moves.now.freed.items }
-        requires marks { AreMarked marks.now moves.now.freed.items }
-        requires inside { lies_in self.now.place p ≡ true }
+        requires order { IsAscending freed.now }
+        requires marks { AreMarked marks.now freed.now }
         ensures vertex { IfOk result (λ star. star.0 ≡ p) }
         ensures places { IfOk result (λ star. (i : ℕ) → IsIn i star.1
-            ↔ StarsAfter moves.now.freed.items moves.now.placed.items self.now p i) }
+            ↔ (IsStarred self.now.keys self.now.stars p i × (IsIn i freed.now → ⊥))) }
     {
         Ok(Around {
             vertex: p,
-            places: self.places_after(alloc, p, moves, marks)?,
+            places: self.staying(alloc, p, freed, marks)?,
         })
+    }
+
+    // The stars of the vertices with these numbers, without the freed places.
+    fn stars_staying(
+        &self,
+        alloc: Global,
+        turns: &[(u32, Point)],
+        freed: &[u32],
+    ) -> Result<Vec<(u32, Around)>, AllocError>
+        requires { IsAscending freed.now }
+        ensures heads { IfOk result (λ writes. map head_of writes.items ≡ turns.now) }
+        ensures stars { IfOk result (λ writes. (w : ℕ × (ℕ × List ℕ)) → IsIn w writes.items →
+            IsStaying self.now freed.now w) }
+    {
+        let marks = marks_of(freed);
+        let mut writes = Vec::with_capacity(alloc, turns.len())?;
+        for (n, p) in turns {
+            writes.push((*n, self.star_staying(alloc, *p, freed, &marks)?))?;
+        }
+        Ok(writes)
     }
 
     // The stars after an exchange of the vertices with these numbers.
@@ -323,15 +318,13 @@ impl Cells {
         moves: &Moves,
     ) -> Result<Vec<(u32, Around)>, AllocError>
         requires order { IsAscending moves.now.freed.items }
+        requires vertices { IsAscending (map (λ t. t.1) turns.now) }
         requires inside { (n p : ℕ) → IsIn (n, p) turns.now → lies_in self.now.place p ≡ true }
         ensures { IfOk result (λ writes. AreStarsAfter self.now moves.now.freed.items moves.now.placed.items turns.now
             writes.items) }
     {
-        let marks = marks_of(&moves.freed);
-        let mut writes = Vec::with_capacity(alloc, turns.len())?;
-        for (n, p) in turns {
-            writes.push((*n, self.star_after(alloc, *p, moves, &marks)?))?;
-        }
+        let mut writes = self.stars_staying(alloc, turns, &moves.freed)?;
+        self.add_placed(&mut writes, &moves.placed)?;
         Ok(writes)
     }
 

@@ -1,5 +1,5 @@
 -- The lemmas that other crates cite.
-pub use Rattle.cell_store.proofs.AnyLaws.{arrived_none, arrived_rest, share_after_any}
+pub use Rattle.cell_store.proofs.AnyLaws.{arrived_none, arrived_rest, change_finds_cells, share_after_any}
 pub use Rattle.cell_store.proofs.BucketPoints.{points_are, points_of_bucket}
 pub use Rattle.cell_store.proofs.HandLaws.{empty_stands, fewer_show, put_stands}
 pub use Rattle.cell_store.proofs.Held.{cell_missing, cells_all, cells_more, none_missing}

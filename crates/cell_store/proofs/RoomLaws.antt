@@ -19,7 +19,7 @@ use Rattle.cell_stars.specs.Plans.{AreVertices, PlanView, IsPlanFor}
 use Rattle.cell_stars.specs.Turns.{AreReady}
 use Rattle.cell_store.specs.Buckets.{BucketContent, Layout, InHand, StandAtPlaces, bucket_at, cells_in, content_of, layout_at, shown}
 use Rattle.cell_store.specs.Changes.{NoneTouches, swapped_in, IsSwapped}
-use Rattle.cell_store.specs.Ready.{AreApart, AreExchanged, AreHeld, AreInHand, AreMade, AreTurned, CanTurn, IsAllowed, IsExchange, IsExchanged, IsNumberOf, IsReady, IsReadyFor, IsTurned, IsTurnedIn, NoneIsFor, numbers_of}
+use Rattle.cell_store.specs.Ready.{AreApart, AreExchanged, AreFound, AreHeld, FindsCells, AreInHand, AreMade, AreTurned, CanTurn, IsAllowed, IsExchange, IsExchanged, IsNumberOf, IsReady, IsReadyFor, IsTurned, IsTurnedIn, NoneIsFor, numbers_of}
 use Rattle.cell_store.specs.declared.room.PlanFor.{PlanFor}
 use Rattle.cell_store.proofs.Layouts.{shown_at, shown_is, shown_some}
 use Rattle.cell_store.specs.Swaps.{touches}
@@ -320,6 +320,29 @@ rest_exchanged P g gone fresh old new keeps f b = by (layout_at old b) (layout_a
     by (Some c) None e h = e
     by (Some c) (Some d) e h = subst P (sym e.rest) (keeps c d.cells h)
 
+-- what the hold finds its buckets have
+found_in : (g : ℕ) (old : List (Option Layout)) (gone fresh : List Cell) → StandAtPlaces g (shown old) →
+    ((b : ℕ) (c : Cell) → IsIn c gone → touches g b c ≡ true → IsIn c (cells_in (shown old) b)) →
+    ((b : ℕ) (c : Cell) → IsIn c fresh → touches g b c ≡ true → IsIn c (cells_in (shown old) b) → ⊥) →
+    AreFound gone fresh old
+found_in g old gone fresh st there absent b c e =
+    let home : c.cells.place ≡ Some (g, b) = st b (content_of c) (shown_is old b c e) in
+    let in_it : cells_in (shown old) b ≡ cells_of c.cells.slots =
+    ap (λ o. option_map_or (λ (x : BucketContent). x.cells) o []) (shown_is old b c e) in
+    subst (λ o. AreReady o gone fresh (cells_of c.cells.slots)) (sym home)
+    (subst (λ l. AreReady (Some (g, b)) gone fresh l) in_it
+    (record { there = λ d i q. there b d i q; absent = λ d i q. absent b d i q }))
+
+pub hold_finds : (hold : InHand) (g : ℕ) (places : List (Option Layout)) (gone fresh : List Cell) → g ≡ hold.grid →
+    shown places ≡ hold.places → StandAtPlaces g (shown places) → FindsCells hold gone fresh →
+    AreFound gone fresh places
+hold_finds hold g places gone fresh eg ep st f =
+    found_in g places gone fresh st
+    (λ b c i t. subst (λ l. IsIn c (cells_in l b)) (sym ep)
+    (f.there b c i (subst (λ (n : ℕ). touches n b c ≡ true) eg t)))
+    (λ b c i t m. f.absent b c i (subst (λ (n : ℕ). touches n b c ≡ true) eg t)
+    (subst (λ l. IsIn c (cells_in l b)) ep m))
+
 -- and is ready for the exchange back
 pub ready_back : (t : Bool) (g : ℕ) (gone fresh : List Cell) (old new : List (Option Layout)) (plans after : List PlanFor) → IsReady t g gone fresh old plans → StandAtPlaces g (shown old) → AreMade t plans after old new →
     ((b : ℕ) (c : Cell) → IsIn c gone → touches g b c ≡ true → IsIn c (cells_in (shown old) b)) → ((b : ℕ) (c : Cell) → IsIn c fresh → touches g b c ≡ true → IsIn c (cells_in (shown old) b) → ⊥) → IsReady (not t) g fresh gone new after
@@ -329,18 +352,12 @@ ready_back t g gone fresh old new plans after r st m there absent = record {
   others = λ b n. (let u = r.others b (none_before t plans after b old new m.turned n) in (u.1, u.0));
 }
   where
-    found : (b : ℕ) (c : Layout) → layout_at old b ≡ Some c → AreReady c.cells.place gone fresh (cells_of c.cells.slots)
-    found b c e =
-        let home : c.cells.place ≡ Some (g, b) = st b (content_of c) (shown_is old b c e) in
-        let in_it : cells_in (shown old) b ≡ cells_of c.cells.slots = ap (λ o. option_map_or (λ (x : BucketContent). x.cells) o []) (shown_is old b c e) in
-        subst (λ o. AreReady o gone fresh (cells_of c.cells.slots)) (sym home) (subst (λ l. AreReady (Some (g, b)) gone fresh l) in_it (record { there = λ d i q. there b d i q; absent = λ d i q. absent b d i q }))
-
     each : (l : PlanFor) → IsIn l after → IsReadyFor (not t) fresh gone new l
     each n i =
         let h = turn_from t plans after old new n m.turned i in
         let u = h.2 in
         to_some (λ (d : Layout). IsExchange (not t) fresh gone d.cells n.plan) (layout_at new n.number) u.after (ap (layout_at new) u.number ∙ u.is)
-        (turn_ready t gone fresh h.0.plan n.plan u.before.cells u.after.cells (ready_at t g gone fresh old plans h.0 u.before r h.1 u.was) u.turned (found h.0.number u.before u.was))
+        (turn_ready t gone fresh h.0.plan n.plan u.before.cells u.after.cells (ready_at t g gone fresh old plans h.0 u.before r h.1 u.was) u.turned (found_in g old gone fresh st there absent h.0.number u.before u.was))
 
 pub swap_is : (old new : InHand) (g : ℕ) (places after : List (Option BucketContent)) (gone fresh eg ef : List Cell) → g ≡ old.grid → places ≡ old.places → new.grid ≡ g → new.places ≡ after → length after ≡ length places → eg ≡ gone → ef ≡ fresh → ((b : ℕ) → bucket_at after b ≡ option_map (swapped_in g b eg ef) (bucket_at places b)) → IsSwapped gone fresh old new
 swap_is old new g places after gone fresh eg ef e1 e2 e3 e4 e6 e7 e8 f = record {

@@ -31,7 +31,7 @@ use Rattle.edit_history.specs.Edits.{point_of, changed}
 use Rattle.cell_store.specs.Grids.{bucket_of}
 use Rattle.cell_stars.specs.Places.{Placed, cells_of}
 use Rattle.cell_stars.specs.Plans.{PlanView, Allows, IsPlanFor}
-use Rattle.cell_stars.specs.Turns.{IsTurn, IsWayBack, WasTurned}
+use Rattle.cell_stars.specs.Turns.{AreReady, IsTurn, IsWayBack, WasTurned}
 use Rattle.cell_store.specs.Swaps.{touches, swapped}
 use Rattle.cell_store.specs.Buckets.{Layout, InHand, bucket_at, cells_in, content_of, layout_at, points_in}
 use Rattle.cell_store.specs.Changes.{IsChange, NoneTouches}
@@ -133,6 +133,12 @@ AreExchanged g b gone fresh (Some c) o = IsSomeAnd o (λ d. IsExchanged g b gone
 pub record FindsCells (hold : InHand) (gone fresh : List Cell) : Type 0 where
   pub there : (b : ℕ) (c : Cell) → IsIn c gone → touches hold.grid b c ≡ true → IsIn c (cells_in hold.places b)
   pub absent : (b : ℕ) (c : Cell) → IsIn c fresh → touches hold.grid b c ≡ true → IsIn c (cells_in hold.places b) → ⊥
+
+-- it finds its cells in every bucket
+abbrev pub AreFound : List Cell → List Cell → List (Option Layout) → Type 0
+AreFound gone fresh places =
+    (b : ℕ) (c : Layout) → layout_at places b ≡ Some c →
+    AreReady c.cells.place gone fresh (cells_of c.cells.slots)
 
 -- the buckets with these numbers are in hand
 abbrev pub AreInHand : List (Option Layout) → List ℕ → Type 0

@@ -27,8 +27,9 @@ ghost use Rattle.point_order.specs.Facets.{points_of};
 ghost use Rattle.point_order.specs.declared.cell.Cell.{Cell};
 ghost use Rattle.point_order.specs.Sets.{IsIn, IsAscending, is_among, with_point as with, without_point};
 ghost use Rattle.edit_history.specs.Edits.{point_of, changed};
-ghost use Rattle.cell_stars.specs.Places.{lies_in, AreStars};
-ghost use Rattle.cell_stars.specs.Plans.{AreVertices, IsPlanFor};
+ghost use Rattle.cell_stars.specs.Places.{lies_in, cells_of, AreStars};
+ghost use Rattle.cell_stars.specs.Plans.{IsOnceFor, IsPlanFor};
+ghost use Rattle.cell_stars.specs.Turns.{AreReady};
 ghost use Rattle.cell_store.specs.Buckets.{FitsPlace, content_of};
 ghost use Rattle.cell_store.specs.Others.{HaveNoOther, IsOtherOf};
 ghost use Rattle.cell_store.specs.Ready.{CanTurn, HasMuchRoom, HasRoom, IsRoomier, IsTurned};
@@ -168,18 +169,22 @@ impl Bucket {
         self.cells.place_at(p, cell)
     }
 
-    // Plans an exchange of cells, as far as they touch the bucket. What was found once is to be of these cells.
+    // Plans an exchange of cells, as far as they touch the bucket. What was found once is to be of these cells. Where
+    // it is told that the exchange finds its cells, it is to do so.
     pub(crate) fn plan(
         &self,
         alloc: Global,
         gone: &[Cell],
         fresh: &[Cell],
         matched: &Matched,
+        found: bool,
     ) -> Result<Plan, AllocError>
-        requires { AreVertices gone.now fresh.now matched.now }
+        requires matched { IsOnceFor gone.now fresh.now matched.now }
+        requires found { found ≡ true → AreReady self.now.cells.place gone.now fresh.now
+            (cells_of self.now.cells.slots) }
         ensures { IfOk result (λ plan. IsPlanFor gone.now fresh.now self.now.cells plan) }
     {
-        self.cells.plan(alloc, gone, fresh, matched)
+        self.cells.plan(alloc, gone, fresh, matched, found)
     }
 
     // Carries a plan out, or turns it back where it was. It takes no memory.

@@ -387,9 +387,9 @@ impl Hold {
         if let Some(other) = self.linked(spot, facet) {
             return other;
         }
-        match self.across_spot(spot, facet) {
-            SpotAcross::Spot(other) => other,
-            SpotAcross::Need(_) => unreachable!(),
+        match self.point_among(facet.points()) {
+            Some(p) => self.spot_at(p, spot, facet),
+            None => unreachable!(),
         }
     }
 
@@ -412,7 +412,45 @@ impl Hold {
         ensures ok { OnOk result (self.new ≡ record self.old { room = room_for gone.now fresh.now edit.now }) }
         ensures err { OnErr result (self.new ≡ self.old) }
     {
-        self.make_ready(alloc, gone, fresh, Some(edit.point()), goal(edit), false)
+        self.make_ready(
+            alloc,
+            gone,
+            fresh,
+            Some(edit.point()),
+            goal(edit),
+            false,
+            false,
+        )
+    }
+
+    /// Makes the room that `reserve` makes, for an exchange that is to find its cells: in the buckets in hand all gone
+    /// cells that touch them are there, and no fresh one is. It looks for no fresh cell.
+    ///
+    /// # Errors
+    /// Want of memory. The room is then as before.
+    pub fn reserve_found(
+        &mut self,
+        alloc: Global,
+        gone: &[Cell],
+        fresh: &[Cell],
+        edit: &Edit,
+    ) -> Result<(), AllocError>
+        requires gone { AreHeld self.old gone.now }
+        requires fresh { AreHeld self.old fresh.now }
+        requires points { ArePointsHeld self.old (edit_points edit.now) }
+        requires found { FindsCells self.old gone.now fresh.now }
+        ensures ok { OnOk result (self.new ≡ record self.old { room = room_for gone.now fresh.now edit.now }) }
+        ensures err { OnErr result (self.new ≡ self.old) }
+    {
+        self.make_ready(
+            alloc,
+            gone,
+            fresh,
+            Some(edit.point()),
+            goal(edit),
+            false,
+            true,
+        )
     }
 
     /// Makes room for exchanges of the gone for the fresh cells there and back, and for the last point of the edit to
@@ -434,10 +472,11 @@ impl Hold {
         ensures ok { OnOk result (self.new ≡ record self.old { room = room_both gone.now fresh.now edit.now }) }
         ensures err { OnErr result (self.new ≡ self.old) }
     {
-        self.make_ready(alloc, gone, fresh, None, Some(last(edit)), true)
+        self.make_ready(alloc, gone, fresh, None, Some(last(edit)), true, false)
     }
 
     // Makes room for an exchange, there or there and back, for an entry of a point, and for a point to come and go.
+    // Where it is told that the exchange finds its cells, it is to do so.
     fn make_ready(
         &mut self,
         alloc: Global,
@@ -446,11 +485,13 @@ impl Hold {
         note: Option<Point>,
         point: Option<Point>,
         back: bool,
+        found: bool,
     ) -> Result<(), AllocError>
         requires gone { AreHeld self.old gone.now }
         requires fresh { AreHeld self.old fresh.now }
         requires note { IfSome note (λ p. IsSome (bucket_at self.old.places (number_of self.old.grid p))) }
         requires point { IfSome point (λ p. IsSome (bucket_at self.old.places (number_of self.old.grid p))) }
+        requires found { found ≡ true → FindsCells self.old gone.now fresh.now }
         ensures ok { OnOk result (self.new ≡ record self.old {
           room = record
               { swap = Some (gone.now, fresh.now); push = note; point = point; back = back };
@@ -458,7 +499,7 @@ impl Hold {
         ensures err { OnErr result (self.new ≡ self.old) }
     {
         let grid = self.grid();
-        let exchange = Exchange::new(alloc, grid, &self.places, gone, fresh)?;
+        let exchange = Exchange::new(alloc, grid, &self.places, gone, fresh, found)?;
         make_rooms(&mut self.places, grid, &note, &point)?;
         self.exchange = Some(exchange);
         self.note = note;

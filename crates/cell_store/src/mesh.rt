@@ -101,7 +101,7 @@ impl Mesh {
         ensures refused { OnErr result (self.new ≡ self.old) }
     {
         know_keys(&entry.edit);
-        self.hold.reserve(alloc, gone, fresh, &entry.edit)?;
+        self.hold.reserve_found(alloc, gone, fresh, &entry.edit)?;
         self.hold.swap_cells(gone, fresh);
         self.hold.put_goal(&entry);
         self.hold.push_entry(entry);

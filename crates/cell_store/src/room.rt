@@ -24,11 +24,12 @@ ghost use Rattle.std.specs.Prelude.{
 };
 ghost use Rattle.point_order.specs.Sets.{IsIn, IsAscending, is_among};
 ghost use Rattle.cell_stars.specs.Gathering.{Gathers};
-ghost use Rattle.cell_stars.specs.Plans.{AreVertices};
+ghost use Rattle.cell_stars.specs.Plans.{IsOnceFor};
 ghost use Rattle.cell_store.specs.Buckets.{layout_at};
 ghost use Rattle.cell_store.specs.Grids.{bucket_of as number_of};
 ghost use Rattle.cell_store.specs.Ready.{
   AreApart,
+  AreFound,
   AreInHand,
   AreMade,
   AllRoomier,
@@ -135,16 +136,18 @@ fn plan_for(
     gone: &[Cell],
     fresh: &[Cell],
     matched: &Matched,
+    found: bool,
 ) -> Result<PlanFor, AllocError>
     requires held { IsSome (layout_at places.now b) }
-    requires vertices { AreVertices gone.now fresh.now matched.now }
+    requires matched { IsOnceFor gone.now fresh.now matched.now }
+    requires found { found ≡ true → AreFound gone.now fresh.now places.now }
     ensures number { IfOk result (λ plan. plan.number ≡ b) }
     ensures ready { IfOk result (λ plan. IsReadyFor false gone.now fresh.now places.now plan) }
 {
     let Some(bucket) = bucket_in(places, b) else {
         unreachable!()
     };
-    let plan = bucket.plan(alloc, gone, fresh, matched)?;
+    let plan = bucket.plan(alloc, gone, fresh, matched, found)?;
     Ok(PlanFor { number: b, plan })
 }
 
@@ -155,36 +158,40 @@ fn plans_for(
     places: &[Option<Bucket>],
     gone: &[Cell],
     fresh: &[Cell],
+    found: bool,
 ) -> Result<Vec<PlanFor>, AllocError>
     requires gone { AreInHand places.now (numbers_of grid gone.now) }
     requires fresh { AreInHand places.now (numbers_of grid fresh.now) }
+    requires found { found ≡ true → AreFound gone.now fresh.now places.now }
     ensures { IfOk result (λ plans. IsReady false grid gone.now fresh.now places.now plans.items) }
 {
     let matched = Matched::of(alloc, gone, fresh)?;
     let numbers = numbers_at(alloc, grid, matched.vertices())?;
     let mut plans = Vec::with_capacity(alloc, numbers.len())?;
     for b in &numbers {
-        plans.push(plan_for(alloc, *b, places, gone, fresh, &matched)?)?;
+        plans.push(plan_for(alloc, *b, places, gone, fresh, &matched, found)?)?;
     }
     Ok(plans)
 }
 
 impl Exchange {
-    // The plans of an exchange. The buckets that it touches are to be in hand.
+    // The plans of an exchange. The buckets that it touches are to be in hand, and have its cells where that is told.
     pub(crate) fn new(
         alloc: Global,
         grid: Grid,
         places: &[Option<Bucket>],
         gone: &[Cell],
         fresh: &[Cell],
+        found: bool,
     ) -> Result<Exchange, AllocError>
         requires gone { AreInHand places.now (numbers_of grid gone.now) }
         requires fresh { AreInHand places.now (numbers_of grid fresh.now) }
+        requires found { found ≡ true → AreFound gone.now fresh.now places.now }
         ensures gone { IfOk result (λ e. e.gone.items ≡ gone.now) }
         ensures fresh { IfOk result (λ e. e.fresh.items ≡ fresh.now) }
         ensures ready { IfOk result (λ e. IsReady e.turned grid gone.now fresh.now places.now e.plans.items) }
     {
-        let plans = plans_for(alloc, grid, places, gone, fresh)?;
+        let plans = plans_for(alloc, grid, places, gone, fresh, found)?;
         Ok(Exchange {
             gone: Vec::from_slice(alloc, gone)?,
             fresh: Vec::from_slice(alloc, fresh)?,

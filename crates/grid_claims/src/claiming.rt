@@ -77,7 +77,10 @@ pub(crate) fn prepare(
     ensures stopped { IfErr result (λ why. HasStopped hands.old hands.new why) }
 {
     match plan_for(board, hands, alloc, edit) {
-        Ok(plan) => match hands.hold.reserve(alloc, &plan.gone, &plan.fresh, &edit) {
+        Ok(plan) => match hands
+            .hold
+            .reserve_found(alloc, &plan.gone, &plan.fresh, &edit)
+        {
             Ok(()) => Ok(plan),
             Err(_) => Err(Refused::Memory),
         },

@@ -4,6 +4,7 @@ use Rattle.cell_stars.specs.Moves.{AreTouched}
 use Rattle.cell_stars.specs.Places.{lies_in}
 use Rattle.std.specs.List.{filter}
 use Rattle.std.proofs.Common.{List, ℕ}
+use Rattle.cell_stars.proofs.MoveLaws.{are_new}
 use Rattle.cell_stars.proofs.Planned.{is_plan}
 use Rattle.cell_stars.proofs.WriteLaws.{are_touched}
 use Rattle.cell_stars.proofs.cells.Cells.plan.Goals as goal
@@ -14,7 +15,10 @@ plan_stars-requires-clause-touched c =
     let freed = c.in_ok-moves.moves.freed.items in
     let placed = c.in_ok-moves.moves.placed.items in
     are_touched c.args.gone.now c.args.fresh.now b freed placed c.vertices.result.now c.in_ok-moves.ensures.made
-    (subst (λ (l : List ℕ). AreVertices c.args.gone.now c.args.fresh.now l) (sym c.vertices.ensures.vertices) c.requires)
+    (subst (λ (l : List ℕ). AreVertices c.args.gone.now c.args.fresh.now l) (sym c.vertices.ensures.vertices) c.requires.matched.vertices)
+
+pub moves-requires-clause-found : goal.moves-requires-clause-found
+moves-requires-clause-found c t = are_new c.args.self.now c.args.gone.now c.args.fresh.now (c.requires.found t)
 
 pub returns : goal.returns
 returns c =

@@ -1,23 +1,23 @@
-use Rattle.list_laws.proofs.Cited.{at_place, made_more, made_none}
-use Rattle.cell_stars.proofs.WriteLaws.{HasStar, has_star, are_after}
+use Rattle.std.proofs.Common.{subst, List, ℕ}
+use Rattle.point_order.specs.declared.cell.Cell.{Cell}
+use Rattle.point_order.specs.Facets.{points_of}
+use Rattle.point_order.specs.Sets.{IsIn}
+use Rattle.cell_stars.specs.Adding.{AddsPlaces, IsStaying, Numbered}
+use Rattle.cell_stars.proofs.AddLaws.{added_after, stars_here}
 use Rattle.cell_stars.proofs.cells.Cells.stars_after.Goals as goal
 
-pub loop-n-init : goal.loop-n-init
-loop-n-init c = made_none (HasStar c.args.self.now c.args.moves.now.freed.items c.args.moves.now.placed.items) c.args.turns.now c.in_ok-writes.writes.items c.in_ok-writes.ensures.items
-
-pub star_after-requires-clause-inside : goal.star_after-requires-clause-inside
-star_after-requires-clause-inside c =
-    let x = c.loop-n-item.result in
-    c.requires.inside x.0 x.1 (at_place c.args.turns.now c.loop-n.n-index x x c.loop-n-test.true c.loop-n-item.is)
-
-pub loop-n-preserved : goal.loop-n-preserved
-loop-n-preserved c =
-    let b = c.args.self.now in
-    let freed = c.args.moves.now.freed.items in
-    let placed = c.args.moves.now.placed.items in
-    let x = c.loop-n-item.result in
-    let s = c.in_ok-star_after.field-0 in
-    made_more (HasStar b freed placed) c.args.turns.now c.loop-n.n-index c.loop-n.writes.items c.push.new.self.items x x (x.0, s) c.loop-n-test.true c.loop-n-item.is (has_star b freed placed x s c.in_ok-star_after.ensures.vertex c.in_ok-star_after.ensures.places) c.in_ok-push.ensures.items c.loop-n.invariant
+pub add_placed-requires : goal.add_placed-requires
+add_placed-requires c = stars_here c.args.self.now.place c.args.turns.now c.in_ok-writes.writes.items
+    c.in_ok-writes.ensures.heads c.requires.vertices c.requires.inside
 
 pub returns : goal.returns
-returns c = are_after c.args.self.now c.args.moves.now.freed.items c.args.moves.now.placed.items c.args.turns.now c.loop-n.n-index c.loop-n.writes.items c.loop-n-test.false c.loop-n.invariant
+returns c =
+    let b = c.args.self.now in
+    let old = c.in_ok-writes.writes.items in
+    let new = c.add_placed.new.writes.items in
+    added_after b c.args.moves.now.freed.items c.args.moves.now.placed.items c.args.turns.now old new
+    c.requires.inside c.in_ok-writes.ensures.heads
+    (subst (λ (l : List ℕ). (w : Numbered) → IsIn w old →
+    IsStaying b l w) c.deref.ensures.value c.in_ok-writes.ensures.stars)
+    (subst (λ (l : List (ℕ × Cell)). AddsPlaces (λ q j. (x : Cell) × IsIn (j, x) l × IsIn q
+    (points_of x)) old new) c.deref-2.ensures.value c.in_ok-add_placed.ensures)

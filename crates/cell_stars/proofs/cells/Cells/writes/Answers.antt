@@ -1,10 +1,20 @@
-use Rattle.std.proofs.Common.{subst, ◌∙◌, List, ℕ}
+use Rattle.std.proofs.Common.{subst, sym, ◌∙◌, List, ℕ, map}
 use Rattle.list_laws.proofs.Cited.{filtered_from}
-use Rattle.point_order.specs.Sets.{IsIn}
+use Rattle.point_order.specs.Sets.{IsIn, IsAscending}
 use Rattle.cell_stars.specs.Places.{lies_in}
 use Rattle.cell_stars.proofs.cells.Cells.writes.Goals as goal
 
 pub stars_after-requires-clause-inside : goal.stars_after-requires-clause-inside
 stars_after-requires-clause-inside c n p m =
     c.requires.touched.inside p
-    (subst (λ (l : List ℕ). IsIn p l) (c.deref.ensures.value ∙ c.in_ok-vertices.ensures.here) (c.in_ok-turns.ensures.each n p (subst (λ (l : List (ℕ × ℕ)). IsIn (n, p) l) c.deref-2.ensures.value m)))
+    (subst (λ (l : List ℕ). IsIn p l) (c.deref.ensures.value ∙ c.in_ok-vertices.ensures.here)
+    (c.in_ok-turns.ensures.numbered.each n p (subst (λ (l : List (ℕ × ℕ)). IsIn (
+      n,
+      p,
+    ) l) c.deref-2.ensures.value m)))
+
+pub stars_after-requires-clause-vertices : goal.stars_after-requires-clause-vertices
+stars_after-requires-clause-vertices c =
+    subst (λ (l : List (ℕ × ℕ)). IsAscending (map (λ t. t.1) l)) (sym c.deref-2.ensures.value)
+    (subst IsAscending (sym c.in_ok-turns.ensures.vertices) (subst IsAscending
+    (sym c.deref.ensures.value) c.in_ok-vertices.ensures.order))

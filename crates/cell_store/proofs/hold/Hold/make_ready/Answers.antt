@@ -6,7 +6,7 @@ use Rattle.cell_store.specs.Buckets.{BucketContent, StandAtPlaces, bucket_at, la
 use Rattle.cell_store.specs.Grids.{bucket_of}
 use Rattle.cell_store.specs.Ready.{AllRoomier, IsNoteReady, IsPointReady, IsReady}
 use Rattle.cell_store.proofs.NoteLaws.{all_noted, all_pointed, all_ready, all_shown, hold_with, ready_same}
-use Rattle.cell_store.proofs.RoomLaws.{held_in_hand, held_there}
+use Rattle.cell_store.proofs.RoomLaws.{held_in_hand, held_there, hold_finds}
 use Rattle.cell_store.proofs.hold.Hold.make_ready.Goals as goal
 
 pub new-requires-clause-gone : goal.new-requires-clause-gone
@@ -18,6 +18,16 @@ pub new-requires-clause-fresh : goal.new-requires-clause-fresh
 new-requires-clause-fresh c =
     held_in_hand c.args.self.now c.grid-grid.result c.deref.result.now c.args.fresh.now c.grid-grid.ensures.grid
     (ap shown c.deref.ensures.value ∙ ap (λ h. h.places) c.self.view_is) c.requires.fresh
+
+pub new-requires-clause-found : goal.new-requires-clause-found
+new-requires-clause-found c t =
+    let e = ap shown c.deref.ensures.value ∙ ap (λ h. h.places) c.self.view_is in
+    let i = c.self.inside in
+    let grid : c.grid-grid.result ≡ i.grid = c.grid-grid.ensures.grid ∙ sym (ap (λ h. h.grid) c.self.view_is) in
+    hold_finds c.args.self.now c.grid-grid.result c.deref.result.now c.args.gone.now c.args.fresh.now
+    c.grid-grid.ensures.grid e
+    (subst (λ (g : ℕ). StandAtPlaces g (shown c.deref.result.now)) (sym grid)
+    (subst (StandAtPlaces i.grid) (sym (ap shown c.deref.ensures.value)) c.self.invariant.4)) (c.requires.found t)
 
 pub make_rooms-requires-clause-note : goal.make_rooms-requires-clause-note
 make_rooms-requires-clause-note c =
