@@ -1,4 +1,4 @@
-/* Reads lines of three whole numbers, the line `edits`, and edits behind it: `+` or `-` and a place, or `>` and two
+/* Reads lines of three whole numbers, the line `edits`, and edits behind it: `+` or `-` and a place, or `=` and two
  * places. Writes the reply of each edit, and the mesh that they leave. Exits with 1 where a look at the mesh answers
  * wrong, and else with the status that is not 0. */
 #include "put.h"
@@ -35,7 +35,7 @@ static int edit(void) {
             status = delaunay_c_add(&handle, &a, &reply);
         } else if (*sign == '-') {
             status = delaunay_c_take(&handle, &a, &reply);
-        } else if (*sign == '>' && read_place(&b)) {
+        } else if (*sign == '=' && read_place(&b)) {
             status = delaunay_c_move(&handle, &a, &b, &reply);
         }
         if (status != DELAUNAY_C_OK) {
