@@ -1,20 +1,23 @@
 -- Marks of a segment, and lines that are cut one by one.
-use Rattle.std.specs.Prelude.{◌≡◌, ℕ, ◌<◌, Bool, true, false, ◌&&◌, ◌||◌, ◌==◌, List, [], ◌∷◌, ◌++◌, map, replicate}
-use Rattle.std.specs.List.{list_any}
-use Rattle.std.proofs.Common.{refl, sym, ◌∙◌, ap}
+use Rattle.std.specs.Prelude.{◌≡◌, ℕ, ◌<◌, Bool, true, false, ◌&&◌, ◌||◌, ◌==◌, List, [], ◌∷◌, ◌++◌, map, replicate, length, take, ◌+◌}
+use Rattle.std.specs.List.{flat_map, list_any}
+use Rattle.std.proofs.Common.{refl, sym, ◌∙◌, ap, get_or}
 use Rattle.std.proofs.lemmas.Bool.{false≢true}
-use Rattle.std.proofs.lemmas.List.{map-append}
+use Rattle.std.proofs.lemmas.List.{append-nil, map-append}
 use Rattle.std.proofs.lemmas.List.Folds.{list_any-append}
+use Rattle.std.proofs.lemmas.List.Sorted.{list_any-IsPermutation}
+use Rattle.std.proofs.lemmas.Grind.{flat_map-append}
+use Rattle.list_laws.proofs.Cited.{take_next}
 use Rattle.point_order.specs.Sets.{is_among}
 use Rattle.edit_history.specs.declared.history.Edit.{Edit}
 use Rattle.edit_history.specs.declared.history.Edit.TheVariants.{Add, Take, Move}
 use Rattle.edit_history.specs.Edits.{edit_points, is_move}
 use Rattle.plain_laws.specs.Running.{Pair, clash, dealt_out, segments}
-use Rattle.plain_laws.proofs.Cited.{segments_begin, segments_go_on, share_flips}
+use Rattle.plain_laws.proofs.Cited.{dealt_all, segments_begin, segments_go_on, share_flips}
 use Rattle.edit_workers.specs.declared.cutting.Marks.{Marks}
 use Rattle.edit_workers.specs.declared.cutting.Cutter.{Cutter}
-use Rattle.edit_workers.specs.Cutting.{AreCut, AreMarks, has}
-use Rattle.edit_workers.specs.Dealing.{lists_of, with_pair}
+use Rattle.edit_workers.specs.Cutting.{AreCut, AreMarks, HasSeen, has, has_place}
+use Rattle.edit_workers.specs.Dealing.{all_of, lists_of, with_pair}
 use Rattle.edit_workers.proofs.Deals.{dealt_more, dealt_nothing}
 
 -- ---- tests of the members of a list
@@ -98,12 +101,12 @@ module _ (lines : List Pair) (tag : ℕ) (keys : ℕ → Bool) where
 
 -- the marks tell it
 pub move_clash : (lines : List Pair) (tag : ℕ) (edit : Edit) (marks : Marks) (found : Bool) → is_move edit ≡ true →
-    AreMarks lines marks → found ≡ list_any (has marks.seen) (edit_points edit) →
+    HasSeen lines marks → found ≡ list_any (has marks.seen) (edit_points edit) →
     found ≡ list_any (λ earlier. clash earlier (tag, edit)) lines
 move_clash lines tag (Add p) marks found m are f = absurd (false≢true m)
 move_clash lines tag (Take p) marks found m are f = absurd (false≢true m)
 move_clash lines tag (Move a b) marks found m are f =
-    f ∙ two_clash lines tag (has marks.seen) a b (are.seen a) (are.seen b)
+    let seen = are.are_marks.seen are.are_seen in f ∙ two_clash lines tag (has marks.seen) a b (seen a) (seen b)
 
 pub still_clash : (lines : List Pair) (tag : ℕ) (edit : Edit) (marks : Marks) (found : Bool) → is_move edit ≡ false →
     AreMarks lines marks → found ≡ list_any (has marks.moved) (edit_points edit) →
@@ -119,19 +122,47 @@ still_clash lines tag (Move a b) marks found m are f = absurd (false≢true (sym
 -- marks of no line
 pub no_marks : (marks : Marks) → marks.seen.keys ≡ [] → marks.moved.keys ≡ [] → AreMarks [] marks
 no_marks marks s m = record {
-  seen = λ p. ap (list_any (λ q. p == q)) s;
   moved = λ p. ap (list_any (λ q. p == q)) m;
+  seen = λ are p. ap (list_any (λ q. p == q)) s;
 }
+
+-- marks that see the points of all lists of lines that were dealt
+pub marks_see : (n : ℕ) (lines : List Pair) (lists : List (List Pair)) (old new : Marks) → 0 < n →
+    lists ≡ dealt_out n lines → AreMarks lines old → ((p : ℕ) → has new.moved p ≡ has old.moved p) →
+    new.are_seen ≡ true →
+    ((p : ℕ) → has new.seen p ≡ list_any (has_place p) (all_of lists)) → HasSeen lines new
+marks_see n lines lists old new some dealt are moved seen points = record {
+  are_marks = record {
+    moved = λ p. moved p ∙ are.moved p;
+    seen = λ is p.
+        points p ∙ ap (λ (l : List (List Pair)). list_any (has_place p) (all_of l)) dealt
+        ∙ sym (list_any-IsPermutation (has_place p) lines (all_of (dealt_out n lines)) (dealt_all n lines some));
+  };
+  are_seen = seen;
+}
+
+-- the points of the lines of one list more
+pub points_more : {X : Type 0} (f : X → List Pair) (ls : List X) (i : ℕ) (x : X) (p : ℕ) (old new : Bool) → i < length ls →
+    x ≡ get_or ls i x → old ≡ list_any (has_place p) (flat_map f (take i ls)) →
+    new ≡ (old || list_any (has_place p) (f x)) → new ≡ list_any (has_place p) (flat_map f (take (i + 1) ls))
+points_more f ls i x p old new b e o m =
+    m ∙ ap (λ (c : Bool). c || list_any (has_place p) (f x)) o
+    ∙ sym (list_any-append (has_place p) (flat_map f (take i ls)) (f x))
+    ∙ ap (list_any (has_place p)) (
+    ap (λ (l : List Pair). flat_map f (take i ls) ++ l) (sym (append-nil (f x)))
+    ∙ sym (flat_map-append f (take i ls) (x ∷ []))
+    ∙ ap (flat_map f) (sym (take_next ls i x b e)))
 
 -- those of lines with one more
 pub marks_more : (lines : List Pair) (tag : ℕ) (edit : Edit) (old new : Marks) → AreMarks lines old →
-    ((p : ℕ) → has new.seen p ≡ (has old.seen p || is_among p (edit_points edit))) →
+    new.are_seen ≡ old.are_seen →
+    (old.are_seen ≡ true → (p : ℕ) → has new.seen p ≡ (has old.seen p || is_among p (edit_points edit))) →
     ((p : ℕ) → has new.moved p ≡ (has old.moved p || (is_move edit && is_among p (edit_points edit)))) →
     AreMarks (lines ++ (tag, edit) ∷ []) new
-marks_more lines tag edit old new are s m = record {
-  seen = λ p.
-      s p ∙ ap (λ (b : Bool). b || is_among p (edit_points edit)) (are.seen p)
-      ∙ sym (last (λ line. is_among p (edit_points line.1)));
+marks_more lines tag edit old new are same s m = record {
+  seen = λ new_seen p.
+      let seen = sym same ∙ new_seen in
+      s seen p ∙ ap (λ (b : Bool). b || is_among p (edit_points edit)) (are.seen seen p) ∙ sym (last (has_place p));
   moved = λ p.
       m p ∙ ap (λ (b : Bool). b || (is_move edit && is_among p (edit_points edit))) (are.moved p)
       ∙ sym (last (λ line. is_move line.1 && is_among p (edit_points line.1)));

@@ -1,5 +1,5 @@
 -- Lines that are cut into segments as they come.
-use Rattle.std.specs.Prelude.{◌≡◌, ℕ, ◌==◌, ◌&&◌, Bool, List, [], ◌∷◌, ◌++◌, map}
+use Rattle.std.specs.Prelude.{◌≡◌, ℕ, ◌==◌, ◌&&◌, Bool, true, List, [], ◌∷◌, ◌++◌, map}
 use Rattle.std.specs.List.{list_any}
 use Rattle.std.specs.HashSet.{HashSet, contains}
 use Rattle.point_order.specs.Sets.{is_among}
@@ -13,10 +13,19 @@ use Rattle.edit_workers.specs.Dealing.{lists_of}
 abbrev pub has : {S : Type 0} → HashSet ℕ S → ℕ → Bool
 has keys p = contains (λ a b. a == b) keys p
 
--- One set has the points of all lines of a segment, the other those of the lines that move.
+-- the line has the point, as one of its places
+abbrev pub has_place : ℕ → Pair → Bool
+has_place p line = is_among p (edit_points line.1)
+
+-- One set has the points of the lines of a segment that move, the other one, where it says so, those of all its lines.
 pub record AreMarks (lines : List Pair) (marks : Marks) : Type 0 where
-  pub seen : (p : ℕ) → has marks.seen p ≡ list_any (λ line. is_among p (edit_points line.1)) lines
-  pub moved : (p : ℕ) → has marks.moved p ≡ list_any (λ line. is_move line.1 && is_among p (edit_points line.1)) lines
+  pub moved : (p : ℕ) → has marks.moved p ≡ list_any (λ line. is_move line.1 && has_place p line) lines
+  pub seen : marks.are_seen ≡ true → (p : ℕ) → has marks.seen p ≡ list_any (has_place p) lines
+
+-- They are, and the other set says so.
+pub record HasSeen (lines : List Pair) (marks : Marks) : Type 0 where
+  pub are_marks : AreMarks lines marks
+  pub are_seen : marks.are_seen ≡ true
 
 -- The lines are cut and dealt to n workers: the segments in front of the present one, and the present one, with its
 -- marks.

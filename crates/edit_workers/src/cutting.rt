@@ -1,13 +1,13 @@
 //! Lines that are cut into segments as they come, and dealt to workers.
 
-ghost use Rattle.std.specs.Prelude.{◌≡◌, ℕ, ◌<◌, ◌∷◌, ◌++◌, ◌||◌, [], List as ListOf, map, replicate, length};
+ghost use Rattle.std.specs.Prelude.{◌≡◌, ℕ, ◌%◌, ◌<◌, ◌∷◌, ◌++◌, ◌||◌, [], List as ListOf, map, replicate, length};
 ghost use Rattle.std.specs.Prelude.{IfOk, OnOk};
 ghost use Rattle.std.specs.List.{list_any};
 ghost use Rattle.point_order.specs.Sets.{is_among};
-ghost use Rattle.edit_history.specs.Edits.{edit_points, is_move};
-ghost use Rattle.plain_laws.specs.Running.{Pair, clash as clash_of};
-ghost use Rattle.edit_workers.specs.Dealing.{lists_of, segments_of, with_pair};
-ghost use Rattle.edit_workers.specs.Cutting.{AreCut, AreMarks, has};
+ghost use Rattle.edit_history.specs.Edits.{edit_points, is_move, point_of};
+ghost use Rattle.plain_laws.specs.Running.{Pair, clash as clash_of, dealt_out};
+ghost use Rattle.edit_workers.specs.Dealing.{all_of, lists_of, pairs_in, segments_of, with_pair};
+ghost use Rattle.edit_workers.specs.Cutting.{AreCut, AreMarks, HasSeen, has, has_place};
 
 use crate::lists::{List, Lists, Segment};
 use edit_history::Edit;
@@ -15,11 +15,13 @@ use std::alloc::{AllocError, Global};
 use std::collections::HashSet;
 use std::mem::replace;
 
-// The keys of the points of a segment's lines: those of all lines, and those of the lines that move.
+// The keys of the points of a segment's lines: those of the lines that move, and, from the first that moves on, those
+// of all lines.
 #[derive(Drop)]
 struct Marks {
-    seen: HashSet<u64>,
     moved: HashSet<u64>,
+    seen: HashSet<u64>,
+    are_seen: bool,
 }
 
 // The segments of the lines that have come: those that are finished, and the present one.
@@ -59,27 +61,62 @@ fn put_points(keys: &mut HashSet<u64>, edit: &Edit) -> Result<(), AllocError>
     Ok(())
 }
 
+// Puts the points of the edits of a list into the set.
+fn put_list(keys: &mut HashSet<u64>, pairs: &[(u32, Edit)]) -> Result<(), AllocError>
+    ensures { OnOk result ((p : ℕ) → has keys.new p ≡ (has keys.old p || list_any (has_place p) pairs.now)) }
+{
+    for pair in pairs {
+        put_points(keys, &pair.1)?;
+    }
+    Ok(())
+}
+
+// The points of the edits of all lists.
+fn points_of(alloc: Global, lists: &[List]) -> Result<HashSet<u64>, AllocError>
+    ensures { IfOk result (λ keys. (p : ℕ) → has keys p ≡ list_any (has_place p) (all_of (pairs_in lists.now))) }
+{
+    let mut keys = HashSet::new(alloc);
+    for list in lists {
+        put_list(&mut keys, &list.pairs)?;
+    }
+    Ok(keys)
+}
+
 impl Marks {
     // Those of no line.
     fn new(alloc: Global) -> Marks
         ensures { AreMarks [] result }
     {
         Marks {
-            seen: HashSet::new(alloc),
             moved: HashSet::new(alloc),
+            seen: HashSet::new(alloc),
+            are_seen: false,
         }
     }
 
+    // Takes the points of all lines of the segment in, unless they are there.
+    fn see(&mut self, alloc: Global, segment: &Segment) -> Result<(), AllocError>
+        ensures { OnOk result ((n : ℕ) (lines : ListOf Pair) → 0 < n → lists_of segment.now ≡ dealt_out n lines →
+            AreMarks lines self.old → HasSeen lines self.new) }
+    {
+        if !self.are_seen {
+            self.seen = points_of(alloc, &segment.each)?;
+            self.are_seen = true;
+        }
+        Ok(())
+    }
+
     // Whether a line of this edit shares a point with a line of the segment, and either of the two moves.
-    fn clash(&self, edit: &Edit) -> bool
-        ensures { (lines : ListOf Pair) (tag : ℕ) → AreMarks lines self.now →
-            result ≡ list_any (λ earlier. clash_of earlier (tag, edit.now)) lines }
+    fn clash(&mut self, alloc: Global, segment: &Segment, edit: &Edit) -> Result<bool, AllocError>
+        ensures { IfOk result (λ found. (n : ℕ) (lines : ListOf Pair) (tag : ℕ) → 0 < n →
+            lists_of segment.now ≡ dealt_out n lines → AreMarks lines self.old →
+            (found ≡ list_any (λ earlier. clash_of earlier (tag, edit.now)) lines) × AreMarks lines self.new) }
     {
         if moves(edit) {
-            has_point(&self.seen, edit)
-        } else {
-            has_point(&self.moved, edit)
+            self.see(alloc, segment)?;
+            return Ok(has_point(&self.seen, edit));
         }
+        Ok(has_point(&self.moved, edit))
     }
 
     // Notes a line of this edit.
@@ -87,7 +124,9 @@ impl Marks {
         ensures { OnOk result ((lines : ListOf Pair) (tag : ℕ) → AreMarks lines self.old →
             AreMarks (lines ++ (tag, edit.now) ∷ []) self.new) }
     {
-        put_points(&mut self.seen, edit)?;
+        if self.are_seen {
+            put_points(&mut self.seen, edit)?;
+        }
         if moves(edit) {
             put_points(&mut self.moved, edit)?;
         }
@@ -116,13 +155,21 @@ fn put_last(list: &mut List, tag: u32, edit: Edit) -> Result<(), AllocError>
     Ok(())
 }
 
+// The worker of an edit, of so many: the key of its point says which.
+fn worker_of(edit: &Edit, count: usize) -> usize
+    requires some { 0 < count }
+    ensures { result ≡ point_of edit.now % count }
+{
+    (edit.point().key() % count as u64) as usize
+}
+
 // Puts a pair at the end of the list of its worker.
 fn put(segment: &mut Segment, tag: u32, edit: Edit) -> Result<(), AllocError>
     requires some { 0 < length segment.old.each.items }
     ensures { OnOk result (lists_of segment.new ≡ with_pair (tag, edit) (lists_of segment.old)) }
 {
-    let worker = edit.point().key() % segment.each.len() as u64;
-    put_last(&mut segment.each[worker as usize], tag, edit)?;
+    let worker = worker_of(&edit, segment.each.len());
+    put_last(&mut segment.each[worker], tag, edit)?;
     Ok(())
 }
 
@@ -165,7 +212,8 @@ impl Cutter {
         ensures { OnOk result ((lines : ListOf Pair) → AreCut workers lines self.old →
             AreCut workers (lines ++ (tag, edit) ∷ []) self.new) }
     {
-        if self.marks.clash(&edit) {
+        let clashes = self.marks.clash(alloc, &self.present, &edit)?;
+        if clashes {
             self.begin(alloc, workers)?;
         }
         self.marks.note(&edit)?;

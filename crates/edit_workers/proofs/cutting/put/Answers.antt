@@ -1,4 +1,4 @@
-use Rattle.std.proofs.Common.{◌≡◌, ◌∙◌, ◌<◌, length, arith}
+use Rattle.std.proofs.Common.{◌≡◌, ◌∙◌, ◌<◌, ap, length, arith, ℕ}
 use Rattle.std.specs.Prelude.{◌%◌}
 use Rattle.std.proofs.Math.Nat.{mod-lt}
 use Rattle.edit_history.specs.Edits.{point_of}
@@ -9,13 +9,12 @@ use Rattle.edit_workers.proofs.cutting.put.Goals as goal
 pub returns : goal.returns
 returns c =
     let count : c.len.result ≡ length c.args.segment.now.each.items = c.len.ensures ∙ c.args.segment.now.each.ok.0 in
-    let point : c.key.result ≡ point_of c.args.edit = c.key.ensures.value ∙ c.point.ensures in
-    let worker : c.key.result % c.len.result ≡ point_of c.args.edit % length c.args.segment.now.each.items =
-    λ i. point i % count i in
-    let below : c.key.result % c.len.result < length c.args.segment.now.each.items = (
+    let worker : c.worker_of-worker.result ≡ point_of c.args.edit % length c.args.segment.now.each.items =
+    c.worker_of-worker.ensures ∙ ap (λ (n : ℕ). point_of c.args.edit % n) count in
+    let below : c.worker_of-worker.result < length c.args.segment.now.each.items = (
     let a = mod-lt (point_of c.args.edit) c.requires.some in
     omega (arith, a, worker)
     ) in
-    put_last_is (λ (l : List). l.pairs.items) c.args.segment.now.each.items (c.key.result % c.len.result)
+    put_last_is (λ (l : List). l.pairs.items) c.args.segment.now.each.items c.worker_of-worker.result
     c.index_mut.result.now c.put_last.new.list (c.args.tag, c.args.edit) below worker c.index_mut.ensures.value
     c.in_ok-put_last.ensures
