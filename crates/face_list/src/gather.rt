@@ -68,6 +68,27 @@ fn put_key<K: Ord + Copy>(keys: &mut Vec<K>, key: K) -> Result<(), AllocError>
     Ok(())
 }
 
+// Whether a key comes behind the last one, if there is one.
+fn is_next<K: Ord>(last: Option<&K>, key: &K) -> bool {
+    match last {
+        Some(last) => is_before(last, key),
+        None => true,
+    }
+}
+
+// How many keys the items of Full cells have, so that their list takes no more room than it needs.
+fn key_count<K: Ord>(cells: &[Cell], items: &[(K, u32)]) -> usize {
+    let mut count: usize = 0;
+    let mut last = None;
+    for (key, number) in items {
+        if is_next(last, key) && cells.get(*number as usize).is_some_and(is_full) {
+            count = count.saturating_add(1);
+            last = Some(key);
+        }
+    }
+    count
+}
+
 /// The keys of the items of Full cells, each once.
 pub fn keys_of_full<K: Ord + Copy>(
     alloc: Global,
@@ -80,7 +101,7 @@ pub fn keys_of_full<K: Ord + Copy>(
     ensures order { IfOk result (λ keys. IsStrictlySortedBy K.cmp keys.items) }
     ensures keys { IfOk result (λ keys. (k : K) → IsIn k keys.items ↔ IsIn k (full_keys cells.now items.now)) }
 {
-    let mut keys = Vec::new(alloc);
+    let mut keys = Vec::with_capacity(alloc, key_count(cells, items))?;
     for (key, number) in items {
         if is_full(&cells[*number as usize]) {
             put_key(&mut keys, *key)?;

@@ -12,8 +12,8 @@ use Rattle.face_list.proofs.gather.keys_of_full.Goals.{then-is_full+in_ok-put_ke
 
 pub loop-key-init : goal.loop-key-init
 loop-key-init g c = record {
-  order = subst (IsStrictlySortedBy g.K.Ord.cmp) (sym c.new-keys.ensures.items) (sorted_none g.K.Ord.cmp);
-  keys = λ k. (λ i. subst (IsIn k) c.new-keys.ensures.items i, λ i. absurd i);
+  order = subst (IsStrictlySortedBy g.K.Ord.cmp) (sym c.in_ok-keys.ensures.items) (sorted_none g.K.Ord.cmp);
+  keys = λ k. (λ i. subst (IsIn k) c.in_ok-keys.ensures.items i, λ i. absurd i);
 }
 
 pub bounds-cells-number : goal.bounds-cells-number
