@@ -5,6 +5,7 @@
     mesh.simplices, mesh.neighbors, mesh.convex_hull
     shape = mesh.alpha(0.3)                        # a radius in the unit of the points
     triangles = shape.boundary()
+    shape.parts(), shape.voids()                   # of the solid, and what it encloses (scipy)
     mesh.add(more), mesh.take(indices), mesh.move(indices, places)      # edits, each with its reply
     mesh.locate(places), mesh.nearest(places), mesh.find_simplex(places)
 
@@ -16,7 +17,7 @@ from ._grid import Placing
 from ._kinds import INTERIOR, REGULAR, SINGULAR
 from ._library import Flat, HanskupError, OutOfRange, WantOfMemory
 from ._mesh import BEYOND_HULL, CELL, POINT, Located, Mesh, RoundingWarning, delaunay
-from ._shape import Filtration, Shape
+from ._shape import Filtration, Shape, Voids
 
-__all__ = ['delaunay', 'Mesh', 'Shape', 'Filtration', 'Located', 'Placing', 'RoundingWarning', 'HanskupError', 'Flat',
-           'OutOfRange', 'WantOfMemory', 'SINGULAR', 'REGULAR', 'INTERIOR', 'POINT', 'CELL', 'BEYOND_HULL']
+__all__ = ['delaunay', 'Mesh', 'Shape', 'Voids', 'Filtration', 'Located', 'Placing', 'RoundingWarning', 'HanskupError',
+           'Flat', 'OutOfRange', 'WantOfMemory', 'SINGULAR', 'REGULAR', 'INTERIOR', 'POINT', 'CELL', 'BEYOND_HULL']

@@ -27,6 +27,13 @@ class Filtration(NamedTuple):
     tetrahedron_alphas: np.ndarray  #: (c,) floats: that at which it is admitted
 
 
+class Voids(NamedTuple):
+    """What an alpha complex encloses: the tetrahedra that are not in it and from which no way leads outside but through
+    one of its triangles."""
+    tetrahedra: np.ndarray  #: (v, 4) indices of points
+    numbers: np.ndarray  #: (v,) the void that each is of, from 0
+
+
 class Shape:
     """An alpha complex: the faces that are admitted at an alpha, each with its kind.
 
@@ -65,3 +72,42 @@ class Shape:
         _, first, count = np.unique(corners, axis=0, return_index=True, return_counts=True)
         first = first[count == 1]
         return self.mesh._given[outwards(grid, corners[first], grid[cells.reshape(-1)[first]])]
+
+    def parts(self) -> np.ndarray:
+        """(c,) the solid part that each of `tetrahedra` is of, from 0; those that share a triangle are of one part.
+
+        It needs scipy.
+        """
+        within = self.mesh._faces.cell_alphas <= self.sixteenths
+        return _numbers(self._joined(within[:, None] & self._neighbours_among(within))[:-1][within])
+
+    def voids(self) -> Voids:
+        """What the complex encloses. With a radius of atom and probe together these are the pockets of a molecule that
+        a probe fits into and cannot leave.
+
+        It needs scipy.
+        """
+        faces, cells = self.mesh._faces, self.mesh.cells
+        _, side = np.unique(cells[:, OTHERS].reshape(-1, 3), axis=0, return_inverse=True)
+        passed = faces.triangle_alphas[side.reshape(-1, 4), 0] > self.sixteenths
+        group = self._joined(passed)
+        held = (faces.cell_alphas > self.sixteenths) & (group[:-1] != group[-1])
+        return Voids(self.mesh._given[cells[held]], _numbers(group[:-1][held]))
+
+    def _neighbours_among(self, cells: np.ndarray) -> np.ndarray:
+        # (c, 4) whether the cell across from each corner is one of these; none of them is outside.
+        return np.append(cells, False)[self.mesh.across]
+
+    def _joined(self, sides: np.ndarray) -> np.ndarray:
+        # (c + 1,) the groups of the cells, and of what is outside, that are joined through these of their sides.
+        from scipy.sparse import coo_matrix
+        from scipy.sparse.csgraph import connected_components
+        i, k = np.nonzero(sides)
+        count = len(self.mesh.cells) + 1
+        others = self.mesh.across[i, k] % count
+        return connected_components(coo_matrix((np.ones(len(i)), (i, others)), [count, count]), directed=False)[1]
+
+
+def _numbers(groups: np.ndarray) -> np.ndarray:
+    # The groups numbered from 0.
+    return np.unique(groups, return_inverse=True)[1].reshape(-1)

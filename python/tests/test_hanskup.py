@@ -222,6 +222,52 @@ class Placed(unittest.TestCase):
         self.assertRaises(ValueError, mesh.alpha, -1.0)
 
 
+def flooded(rows, sides, outside=()):
+    """The rows of indices in groups, those that share one of these sides in one; without those that have a side of the
+    outside, nor what they share a side with."""
+    known = collections.defaultdict(list)
+    for i, row in enumerate(rows):
+        for side in itertools.combinations(sorted(row), 3):
+            known[side].append(i)
+    group = {}
+    for first in range(len(rows)):
+        ahead = [] if first in group else [first]
+        while ahead:
+            i = ahead.pop()
+            if i not in group:
+                group[i] = first
+                near = [side for side in itertools.combinations(sorted(rows[i]), 3) if side in sides]
+                ahead += [k for side in near for k in known[side]]
+    lost = {group[i] for i, row in enumerate(rows)
+            if any(side in outside for side in itertools.combinations(sorted(row), 3))}
+    return collections.Counter(frozenset(map(tuple, (sorted(rows[i]) for i in group if group[i] == first)))
+                               for first in set(group.values()) - lost)
+
+
+def grouped(rows, numbers):
+    return collections.Counter(frozenset(tuple(sorted(row)) for row, number in zip(rows.tolist(), numbers)
+                                         if number == one) for one in range(numbers.max(initial=-1) + 1))
+
+
+@unittest.skipUnless(has('scipy'), 'scipy is not installed')
+class Pieces(unittest.TestCase):
+    def test_parts_and_voids(self):
+        voids = 0
+        for seed, radius in itertools.product(range(6), (0.05, 0.11, 0.14, 0.2, 10.0)):
+            mesh = hanskup.delaunay(np.random.default_rng(seed).random((150, 3)))
+            shape, told = mesh.alpha(radius), mesh.filtration()
+            rows = shape.tetrahedra.tolist()
+            every = {side for row in rows for side in itertools.combinations(sorted(row), 3)}
+            self.assertEqual(grouped(shape.tetrahedra, shape.parts()), flooded(rows, every))
+            beyond = told.triangle_alphas[:, 0] > radius ** 2
+            passed = set(map(tuple, np.sort(told.triangles[beyond]).tolist()))
+            out = [row for row, alpha in zip(told.tetrahedra.tolist(), told.tetrahedron_alphas) if alpha > radius ** 2]
+            found = shape.voids()
+            self.assertEqual(grouped(*found), flooded(out, passed, passed & cells_of(mesh.convex_hull)))
+            voids += len(found.numbers)
+        self.assertGreater(voids, 0)
+
+
 class Refused(unittest.TestCase):
     def test_refusals(self):
         plane = np.array([[x, y, 0] for x in range(4) for y in range(4)])
