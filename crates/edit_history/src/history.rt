@@ -47,6 +47,29 @@ pub struct Entry {
     pub reply: Reply,
 }
 
+/// What an edit was answered by whoever keeps the history.
+#[derive(Clone, Copy, Debug, PartialEq, Eq)]
+pub struct Receipt {
+    /// The place of its entry in the history, from 0.
+    pub number: u64,
+    pub reply: Reply,
+}
+
+impl Receipt {
+    /// The entry that it is the receipt of: who made the edit, the caller's own word for it, and the edit.
+    pub fn entry(self, by: u32, tag: u32, edit: Edit) -> Entry
+        ensures { result ≡ record { number = self.number; by = by; tag = tag; edit = edit; reply = self.reply } }
+    {
+        Entry {
+            number: self.number,
+            by,
+            tag,
+            edit,
+            reply: self.reply,
+        }
+    }
+}
+
 impl Edit {
     ghost use Rattle.edit_history.specs.Edits.{point_of};
 

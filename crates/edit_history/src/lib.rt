@@ -16,7 +16,7 @@ mod merging;
 pub mod opening;
 mod point_set;
 
-pub use history::{Edit, Entry, Reply};
+pub use history::{Edit, Entry, Receipt, Reply};
 pub use merging::merge;
 pub use opening::{NotSolid, find_four};
 pub use point_set::PointSet;

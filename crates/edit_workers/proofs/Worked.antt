@@ -100,9 +100,9 @@ not_all p word o a = by o.others
 -- a claim failed
 pub missed_once : (old new : Standing) (bucket word : ℕ) → IsOthersWord old word → IsAsBefore (Miss bucket word ∷ []) old new → HasMissed 1 old new
 missed_once old new bucket word o b = record {
-  steps = b.0;
-  missed = (let m = misses_around (Miss bucket word ∷ []) b.0 b.1 in omega (arith, m));
-  new_is = b.2;
+  steps = b.steps;
+  missed = (let m = misses_around (Miss bucket word ∷ []) b.steps b.around in omega (arith, m));
+  new_is = b.new_is;
   others = λ z a. not_all old word o a;
 }
 
@@ -119,7 +119,12 @@ made_once tag edit number reply old new e = record {
 
 -- memory was wanting: no claim failed
 pub missed_none : (old new : Standing) → IsAsBefore [] old new → HasMissed 0 old new
-missed_none old new b = record { steps = b.0; missed = misses_around [] b.0 b.1; new_is = b.2; others = λ z. absurd (omega (arith, z)) }
+missed_none old new b = record {
+  steps = b.steps;
+  missed = misses_around [] b.steps b.around;
+  new_is = b.new_is;
+  others = λ z. absurd (omega (arith, z));
+}
 
 -- steps after steps, with the failed claims of both
 pub missed_both : (old now new : Standing) (m n : ℕ) → HasMissed m old now → HasMissed n now new → HasMissed (m + n) old new

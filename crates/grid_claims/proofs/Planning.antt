@@ -233,9 +233,13 @@ starved id n old w (Ok x) m e = tt
 starved id n old w (Err why) m e =
     subst (λ (y : Refused). HasStopped old w y) (sym e.1) (out_of_memory id n old w m)
 
+-- what stopped a part of the try stops it
+pub stopped_so : {X : Type 0} (w u : Hands) (r : Result X Refused) (why : Refused) → HasStopped w u why →
+    IsErr r × IsErrAnd r (λ e. e ≡ why) → IfErr r (λ e. HasStopped w u e)
+stopped_so w u (Ok x) why s e = tt
+stopped_so w u (Err x) why s e = subst (λ (y : Refused). HasStopped w u y) (sym e.1) s
+
 -- a claim that failed stops the try
 pub asked_then : {X : Type 0} (id : TableId) (n : ℕ) (w w' u : Hands) (r : Result X Refused) (why : Refused) →
     HasMore id n w w' → HasStopped w' u why → IsErr r × IsErrAnd r (λ e. e ≡ why) → IfErr r (λ e. HasStopped w u e)
-asked_then id n w w' u (Ok x) why m s e = tt
-asked_then id n w w' u (Err x) why m s e =
-    subst (λ (y : Refused). HasStopped w u y) (sym e.1) (stopped_then id n w w' u why m s)
+asked_then id n w w' u r why m s e = stopped_so w u r why (stopped_then id n w w' u why m s) e

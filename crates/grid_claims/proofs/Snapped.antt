@@ -56,13 +56,19 @@ snapshot_shown id n found entries cells w mid u a b d none cube all lists f =
       new_is = λ i. standing (table i) (view i);
     })
 
-pub tried_unshown : (id : TableId) (n : ℕ) (w mid u : Hands) (why : Refused) → AreHands id n w → AreHands id n mid → AreHands id n u → w.order.items ≡ [] → HasStopped w mid why → HasGivenBack mid u
-    → IsUnshown (standing w.place.table_id w.place.me.0) why (standing u.place.table_id u.place.me.0)
-tried_unshown id n w mid u Spent a b d none s back = s.others
-tried_unshown id n w mid u (Busy bucket word) a b d none s back =
-    let o = s.others in
-    (record { some_pass = o.0; of_parts = o.2; others = o.1 }, back_as_before id n w mid u (Miss bucket word ∷ []) a b d none s.claimed back)
-tried_unshown id n w mid u Memory a b d none s back = back_as_before id n w mid u [] a b d none s.claimed back
+pub tried_unshown :
+    (id : TableId) (n : ℕ) (w mid u : Hands) (why : Refused) →
+    n ≡ w.place.me.0.grid * w.place.me.0.grid * w.place.me.0.grid → AreHands id n w → AreHands id n mid →
+    AreHands id n u → w.order.items ≡ [] → HasStopped w mid why → HasGivenBack mid u →
+    IsUnshown (standing w.place.table_id w.place.me.0) why (standing u.place.table_id u.place.me.0)
+tried_unshown id n w mid u Spent wide a b d none s back = s.others
+tried_unshown id n w mid u (Busy bucket word) wide a b d none s back =
+    let o = s.others in (
+      record { some_pass = o.0; of_parts = o.2; others = o.1 },
+      back_as_before id n w mid u (Miss bucket word ∷ []) wide a b d none s.claimed back,
+    )
+tried_unshown id n w mid u Memory wide a b d none s back =
+    back_as_before id n w mid u [] wide a b d none s.claimed back
 
 -- ---- whatever the answer is
 

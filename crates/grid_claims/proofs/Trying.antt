@@ -15,7 +15,7 @@ use Rattle.cell_store.specs.Buckets.{bucket_at}
 use Rattle.cell_store.specs.Touches.{IsTouched}
 use Rattle.point_order.specs.Sets.{IsIn}
 use Rattle.grid_claims.specs.declared.hands.Hands.{Hands}
-use Rattle.grid_claims.specs.declared.table.Receipt.{Receipt}
+use Rattle.edit_history.specs.declared.history.Receipt.{Receipt}
 use Rattle.grid_claims.specs.declared.table.Refused.{Refused}
 use Rattle.grid_claims.specs.declared.table.Refused.TheVariants.{Spent, Busy, Memory}
 use Rattle.grid_claims.specs.declared.view.Act.{Act}
@@ -100,8 +100,13 @@ tried_edited id n tag number edit reply w mid u some wide a b d none c f =
       new_is = λ i. standing (table i) (view i);
     }
 
-pub back_as_before : (id : TableId) (n : ℕ) (w mid u : Hands) (middle : List Act) → AreHands id n w → AreHands id n mid → AreHands id n u → w.order.items ≡ [] → HasClaimed w mid middle → HasGivenBack mid u → IsAsBefore middle (standing w.place.table_id w.place.me.0) (standing u.place.table_id u.place.me.0)
-back_as_before id n w mid u middle a b d none c back =
+-- what was claimed is given back: the claims are those of buckets in hand, and so of the table
+pub back_as_before :
+    (id : TableId) (n : ℕ) (w mid u : Hands) (middle : List Act) →
+    n ≡ w.place.me.0.grid * w.place.me.0.grid * w.place.me.0.grid → AreHands id n w → AreHands id n mid →
+    AreHands id n u → w.order.items ≡ [] → HasClaimed w mid middle → HasGivenBack mid u →
+    IsAsBefore middle (standing w.place.table_id w.place.me.0) (standing u.place.table_id u.place.me.0)
+back_as_before id n w mid u middle wide a b d none c back =
     let v : View = w.place.me.0 in
     let same : mid.order.items ≡ c.more = claimed_all w mid middle none c in
     let tail : (v.trail ++ (map Claim c.more ++ middle)) ++ releases_of mid.order.items ≡ v.trail ++ (map Claim c.more ++ middle ++ releases_of c.more) =
@@ -112,20 +117,40 @@ back_as_before id n w mid u middle a b d none c back =
     back.view
     ∙ (λ i. record (c.view i) { held = u.hold.places; trail = (c.view i).trail ++ releases_of mid.order.items })
     ∙ (λ i. record v { held = u.hold.places; trail = tail i }) in
-    (map Claim c.more ++ middle ++ releases_of c.more, around id n w mid middle middle b none c, (λ i. standing (table i) (view i)))
+    record {
+      steps = map Claim c.more ++ middle ++ releases_of c.more;
+      around = around id n w mid middle middle b none c;
+      below = λ k i. (
+          let x = some_of (bucket_at mid.hold.places k)
+          ((b.carries.holds k).1 (subst (λ (l : List ℕ). IsIn k l) (sym same) i)) in
+          subst (λ (m : ℕ). k < m) (b.places ∙ wide) (within mid.hold.places k x.0 x.1)
+          );
+      new_is = λ i. standing (table i) (view i);
+    }
 
-pub tried_refused : (id : TableId) (n : ℕ) (w mid u : Hands) (why : Refused) → 0 < w.place.me.0.left → AreHands id n w → AreHands id n mid → AreHands id n u → w.order.items ≡ [] → HasStopped w mid why → HasGivenBack mid u
-    → IsRefused (standing w.place.table_id w.place.me.0) why (standing u.place.table_id u.place.me.0)
-tried_refused id n w mid u Spent some a b d none s back = absurd s.others
-tried_refused id n w mid u (Busy bucket word) some a b d none s back =
-    let o = s.others in
-    (some, record { some_pass = o.0; of_parts = o.2; others = o.1 }, back_as_before id n w mid u (Miss bucket word ∷ []) a b d none s.claimed back)
-tried_refused id n w mid u Memory some a b d none s back = (some, back_as_before id n w mid u [] a b d none s.claimed back)
+pub tried_refused :
+    (id : TableId) (n : ℕ) (w mid u : Hands) (why : Refused) → 0 < w.place.me.0.left →
+    n ≡ w.place.me.0.grid * w.place.me.0.grid * w.place.me.0.grid → AreHands id n w → AreHands id n mid →
+    AreHands id n u → w.order.items ≡ [] → HasStopped w mid why → HasGivenBack mid u →
+    IsRefused (standing w.place.table_id w.place.me.0) why (standing u.place.table_id u.place.me.0)
+tried_refused id n w mid u Spent some wide a b d none s back = absurd s.others
+tried_refused id n w mid u (Busy bucket word) some wide a b d none s back =
+    let o = s.others in (
+      some,
+      record { some_pass = o.0; of_parts = o.2; others = o.1 },
+      back_as_before id n w mid u (Miss bucket word ∷ []) wide a b d none s.claimed back,
+    )
+tried_refused id n w mid u Memory some wide a b d none s back =
+    (some, back_as_before id n w mid u [] wide a b d none s.claimed back)
 
 -- ---- whatever the answer is
 
 pub still_as : (old new : Standing) (middle : List Act) → IsAsBefore middle old new → IsStill old new
-still_as old new middle k = (ap (λ (s : Standing). s.table) k.2, ap (λ (s : Standing). s.first) k.2, ap (λ (s : Standing). s.parts) k.2)
+still_as old new middle k = (
+  ap (λ (s : Standing). s.table) k.new_is,
+  ap (λ (s : Standing). s.first) k.new_is,
+  ap (λ (s : Standing). s.parts) k.new_is,
+)
 
 still_why : (old new : Standing) (why : Refused) → IsRefused old why new → IsStill old new
 still_why old new Spent k = (ap (λ (s : Standing). s.table) k.1, ap (λ (s : Standing). s.first) k.1, ap (λ (s : Standing). s.parts) k.1)

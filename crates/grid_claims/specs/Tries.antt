@@ -105,10 +105,12 @@ pub record IsEdited (tag : ℕ) (edit : Edit) (number : ℕ) (reply : Reply) (ol
 abbrev pub IsStill : Standing → Standing → Type 0
 IsStill old new = (new.table ≡ old.table) × (new.first ≡ old.first) × (new.parts ≡ old.parts)
 
--- the pass took steps, and is else as before
-abbrev pub IsAsBefore : List Act → Standing → Standing → Type 0
-IsAsBefore middle old new =
-    (steps : List Act) × AreClaimsAround middle steps × (new ≡ record old { trail = old.trail ++ steps })
+-- The pass took steps, and is else as before: claims of buckets of the table, these steps, and the releases.
+pub record IsAsBefore (middle : List Act) (old new : Standing) : Type 0 where
+  pub steps : List Act
+  pub around : AreClaimsAround middle steps
+  pub below : (b : ℕ) → IsIn b around.claims → b < buckets_of old.table
+  pub new_is : new ≡ record old { trail = old.trail ++ steps }
 
 -- The word is that of a pass whose number is below the number of parts, and none of these.
 pub record IsOthersWord (old : Standing) (word : ℕ) : Type 0 where

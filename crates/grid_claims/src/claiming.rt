@@ -76,14 +76,9 @@ pub(crate) fn prepare(
     ensures room { IfOk result (λ plan. HasRoomFor hands.new.hold edit plan) }
     ensures stopped { IfErr result (λ why. HasStopped hands.old hands.new why) }
 {
-    match plan_for(board, hands, alloc, edit) {
-        Ok(plan) => match hands
-            .hold
-            .reserve_found(alloc, &plan.gone, &plan.fresh, &edit)
-        {
-            Ok(()) => Ok(plan),
-            Err(_) => Err(Refused::Memory),
-        },
-        Err(why) => Err(why),
-    }
+    let plan = plan_for(board, hands, alloc, edit)?;
+    hands
+        .hold
+        .reserve_found(alloc, &plan.gone, &plan.fresh, &edit)?;
+    Ok(plan)
 }

@@ -33,7 +33,8 @@ mod steps;
 mod table;
 mod view;
 
+pub use edit_history::Receipt;
 pub use gate::{Gate, Moment, OpenGate};
 pub use pass::Pass;
 pub use snapshot::Snapshot;
-pub use table::{MeshTable, Receipt, Refused};
+pub use table::{MeshTable, Refused};

@@ -35,10 +35,7 @@ fn claim_all(board: &Board, hands: &mut Hands) -> Result<(), Refused>
     ensures stopped { IfErr result (λ why. HasStopped hands.old hands.new why) }
 {
     for b in 0..hands.hold.grid().count() {
-        match ask(board, hands, b) {
-            Ok(()) => {}
-            Err(why) => return Err(why),
-        }
+        ask(board, hands, b)?;
     }
     Ok(())
 }
@@ -63,13 +60,8 @@ pub(crate) fn copy_all(board: &Board, hands: &mut Hands, alloc: Global) -> Resul
     ensures lists { IfOk result (λ s. AreListsOf hands.new.hold s.history.items s.complex.items) }
     ensures stopped { IfErr result (λ why. HasStopped hands.old hands.new why) }
 {
-    match claim_all(board, hands) {
-        Ok(()) => match lists_of(&hands.hold, alloc) {
-            Ok(snapshot) => Ok(snapshot),
-            Err(_) => Err(Refused::Memory),
-        },
-        Err(why) => Err(why),
-    }
+    claim_all(board, hands)?;
+    Ok(lists_of(&hands.hold, alloc)?)
 }
 
 // Looks at the ticket with every bucket in hand, and gives them back.

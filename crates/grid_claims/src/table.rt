@@ -17,17 +17,10 @@ use crate::snapshot::{Snapshot, copy_all, look_and_let_go};
 use crate::steps::{look_at, part};
 use crate::view::Board;
 use cell_store::{Hold, Mesh};
-use edit_history::{Edit, Reply};
+use edit_history::{Edit, Receipt};
 use std::alloc::{AllocError, Global};
 use std::marker::Model;
 use thiserror::Error;
-
-/// What an edit answers: the number of its entry in the history, from 0, and its reply.
-#[derive(Clone, Copy, Debug, PartialEq, Eq)]
-pub struct Receipt {
-    pub number: u64,
-    pub reply: Reply,
-}
 
 /// Why a call did nothing.
 #[derive(Debug, Drop, Error)]

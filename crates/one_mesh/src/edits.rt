@@ -7,18 +7,11 @@ ghost use Rattle.insertion.specs.Opening.{opening_history, AreIndependent};
 ghost use Rattle.one_mesh.specs.Applied.{edited};
 
 use cell_store::{Grid, Mesh};
-use edit_history::{Edit, Entry, Reply};
+use edit_history::{Edit, Receipt};
 use edit_plans::plan_of;
 use insertion::open_mesh;
 use point_order::Point;
 use std::alloc::{AllocError, Global};
-
-/// What an edit of a mesh answers: the number of its entry in the history, from 0, and its reply.
-#[derive(Clone, Copy, Debug, PartialEq, Eq)]
-pub struct Receipt {
-    pub number: u64,
-    pub reply: Reply,
-}
 
 /// The mesh of four independent points, each with a tag. Its history has them as entries
 /// 0 to 3 by 0, in this order, all inserted.
@@ -30,19 +23,6 @@ pub fn begin(alloc: Global, grid: Grid, four: [(u32, Point); 4]) -> Result<Mesh,
     ensures { IfOk result (λ mesh. mesh ≡ record { grid = grid; history = opening_history four }) }
 {
     open_mesh(alloc, grid, four)
-}
-
-// The entry of an edit that one thread makes.
-fn entry_of(number: u64, tag: u32, edit: Edit, reply: Reply) -> Entry
-    ensures { result ≡ record { number = number; by = 0; tag = tag; edit = edit; reply = reply } }
-{
-    Entry {
-        number,
-        by: 0,
-        tag,
-        edit,
-        reply,
-    }
 }
 
 /// Makes an edit of a mesh, as the next entry by 0, and answers its number and its reply: an add is a duplicate where
@@ -65,7 +45,8 @@ pub fn apply(alloc: Global, mesh: &mut Mesh, tag: u32, edit: Edit) -> Result<Rec
     let again = edit;
     let plan = plan_of(alloc, mesh, again)?;
     let reply = plan.reply;
-    let entry = entry_of(number, tag, edit, reply);
+    let receipt = Receipt { number, reply };
+    let entry = receipt.entry(0, tag, edit);
     mesh.change(alloc, &plan.gone, &plan.fresh, entry)?;
-    Ok(Receipt { number, reply })
+    Ok(receipt)
 }

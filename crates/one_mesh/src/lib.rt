@@ -13,7 +13,7 @@ mod edits;
 mod lists;
 mod opening;
 
-pub use edit_history::{NotSolid, find_four};
-pub use edits::{Receipt, apply, begin};
+pub use edit_history::{NotSolid, Receipt, find_four};
+pub use edits::{apply, begin};
 pub use lists::{complex, history, points};
 pub use opening::opening_points;

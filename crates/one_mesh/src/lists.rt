@@ -24,12 +24,16 @@ pub fn history(alloc: Global, mesh: &Mesh) -> Result<Vec<Entry>, AllocError>
     mesh.hold().history(alloc)
 }
 
-/// The complex of the points that the mesh's history leaves: its cells, sorted.
+/// The complex of the points that the mesh's history leaves: its cells, sorted. The points ascend, four of them are
+/// independent, and each is the key of a point.
 ///
 /// # Errors
 /// Want of memory.
 pub fn complex(alloc: Global, mesh: &Mesh) -> Result<Vec<Cell>, AllocError>
-    ensures { IfOk result (λ cells. cells.items ≡ complex_of (replay mesh.now.history)) }
+    ensures cells { IfOk result (λ cells. cells.items ≡ complex_of (replay mesh.now.history)) }
+    ensures ascending { IsAscending (replay mesh.now.history) }
+    ensures solid { is_solid (replay mesh.now.history) ≡ true }
+    ensures keys { AreKeys (replay mesh.now.history) }
 {
     mesh.hold().complex(alloc)
 }

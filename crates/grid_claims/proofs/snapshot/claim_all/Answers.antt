@@ -9,7 +9,7 @@ ask-requires-clause-absent c = next_absent c.args.board.now.shared.table_id (buc
 pub loop-b-preserved : goal.loop-b-preserved
 loop-b-preserved c =
     claiming_goes_on c.args.board.now.shared.table_id (buckets_of c.args.board.now.shared.key) c.loop-b.b c.args.hands.now c.loop-b.hands c.ask.new.hands c.loop-b.invariant
-    c.in-Ok.ensures.more c.in-Ok.ensures.order c.in-Ok.ensures.stands
+    c.in_ok-ask.ensures.more c.in_ok-ask.ensures.order c.in_ok-ask.ensures.stands
 
 pub returns-clause-all : goal.returns-clause-all
 returns-clause-all c =

@@ -7,9 +7,9 @@ pub change-requires : goal.change-requires
 change-requires c =
     let h = c.args.mesh.now.history in
     rw (c.deref.ensures.value, c.deref-2.ensures.value, c.in_ok-plan.ensures.same)
-    (planned h c.count-number.result c.args.tag c.args.edit c.in_ok-plan.plan c.entry_of-entry.result
+    (planned h c.count-number.result c.args.tag c.args.edit c.in_ok-plan.plan c.entry-entry.result
     (numbered (length h) c.count-number.result c.count-number.ensures.count c.requires)
-    c.entry_of-entry.ensures c.in_ok-plan.ensures.plan)
+    c.entry-entry.ensures c.in_ok-plan.ensures.plan)
 
 pub returns-clause-number : goal.returns-clause-number
 returns-clause-number c =
@@ -21,9 +21,9 @@ returns-clause-reply c = c.in_ok-plan.ensures.plan.reply
 pub returns-clause-applied : goal.returns-clause-applied
 returns-clause-applied c =
     let h = c.args.mesh.now.history in
-    let e = c.entry_of-entry.result in
+    let e = c.entry-entry.result in
     applied c.args.mesh.now c.change.new.self c.args.tag c.args.edit c.count-number.result c.in_ok-plan.plan.reply
     e (numbered (length h) c.count-number.result c.count-number.ensures.count c.requires)
-    c.in_ok-plan.ensures.plan.reply c.entry_of-entry.ensures
+    c.in_ok-plan.ensures.plan.reply c.entry-entry.ensures
     (c.in_ok-change.ensures.changed ∙ ap (λ (m : MeshView). record m { history = m.history ++ e ∷ [] })
     c.in_ok-plan.ensures.same)

@@ -35,4 +35,4 @@ returns-in-Err-clause-refused c =
     (c.grid.ensures.places ∙ ap (λ (x : ℕ). x * x * x) grid) in
     subst (λ (old : Standing). IsUnshown old c.in-Err.why (Rattle.grid_claims.specs.Passes.standing c.let_go.new.hands.place.table_id c.let_go.new.hands.place.me.0)) c.pass.view_is
     (tried_unshown c.self.inside.board.shared.table_id (buckets_of c.self.inside.board.shared.key) c.pass.inside.hands c.copy_all.new.hands c.let_go.new.hands c.in-Err.why
-    hands c.in-Err.ensures.hands c.let_go.ensures.hands r.order c.in-Err.ensures.stopped c.let_go.ensures.back)
+    (sym (ap (λ (t : Opened). t.grid * t.grid * t.grid) e)) hands c.in-Err.ensures.hands c.let_go.ensures.hands r.order c.in-Err.ensures.stopped c.let_go.ensures.back)
