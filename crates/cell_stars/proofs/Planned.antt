@@ -281,6 +281,17 @@ changes_are freed us placed ps n m list new e f h k i j =
     j ∙ ap (λ (v : List (ℕ × Option Cell)). v ++ putting (take m ps)) (i ∙ ap freeing (take_all n us h ∙ e)) ∙ ap (λ (v : List (ℕ × Cell)). freeing freed ++ putting v) (take_all m ps k ∙ f)
 
 -- one more star is copied
+-- one more open place is put at the end
+pub slots_more : (old l new : List (Option Cell)) (s : Option Cell) → s ≡ None → new ≡ l ++ s ∷ [] →
+    HasSameCells old l → HasSameCells old new
+slots_more old l new s e q h i = ap (λ v. at v i) (q ∙ ap (λ x. l ++ x ∷ []) e) ∙ there l i ∙ h i
+  where
+    there : (l : List (Option Cell)) (i : ℕ) → at (l ++ None ∷ []) i ≡ at l i
+    there [] zero = refl
+    there [] (suc i) = refl
+    there (x ∷ l) zero = refl
+    there (x ∷ l) (suc i) = there l i
+
 pub copied_more : {X : Type 0} (l : List X) (n : ℕ) (x y : X) (list new : List X) → n < length l → x ≡ slice_index_or l n x → new ≡ list ++ y ∷ [] → y ≡ x → list ≡ take n l → new ≡ take (n + 1) l
 copied_more l n x y list new h s e q i = e ∙ ap (λ v. v ++ y ∷ []) i ∙ ap (λ v. take n l ++ v ∷ []) q ∙ sym (take_next l n x h s)
 

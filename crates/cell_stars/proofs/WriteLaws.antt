@@ -1,14 +1,14 @@
 -- The stars after an exchange.
-use Rattle.std.specs.Prelude.{◌≡◌, ℕ, ◌+◌, ◌<◌, ◌≤◌, Bool, true, false, not, List, [], ◌∷◌, ◌++◌, ◌⊎◌, length, slice_index, slice_index_or, Option, None, Some, MatchBool, ◌==◌}
+use Rattle.std.specs.Prelude.{◌≡◌, ℕ, ◌+◌, ◌<◌, ◌≤◌, Bool, true, false, not, List, [], ◌∷◌, ◌⊎◌, length, slice_index, slice_index_or, MatchBool, ◌==◌}
 use Rattle.std.specs.List.{filter, zip}
 use Rattle.std.proofs.Common.{refl, sym, ◌∙◌, ap, subst, inl, inr, arith}
-use Rattle.list_laws.proofs.Cited.{Gathered, Made, among_from, among_true, filtered_from, filtered_true, gather_all, gather_push, gather_skip, gather_step, in_zip, made_all, same_from, zip_apart, zip_has, zip_single}
+use Rattle.list_laws.proofs.Cited.{Gathered, Made, filtered_from, filtered_true, gather_all, gather_step, in_zip, made_all, same_from, zip_apart, zip_has, zip_single}
 use Rattle.point_order.specs.declared.cell.Cell.{Cell}
 use Rattle.point_order.specs.Facets.{points_of}
-use Rattle.point_order.specs.Sets.{IsIn, IsAscending, is_among}
-use Rattle.cell_stars.specs.Places.{Placed, IsStarred, at, lies_in, star_at}
-use Rattle.cell_stars.specs.Plans.{AreFor, AreVertices, StarsAfter}
-use Rattle.cell_stars.specs.Moves.{AreTouched, AreNumbered, AreStarsAfter, IsOwnNumber, IsSpare}
+use Rattle.point_order.specs.Sets.{IsIn, IsAscending}
+use Rattle.cell_stars.specs.Places.{Placed, IsStarred, lies_in, star_at}
+use Rattle.cell_stars.specs.Plans.{AreFor, AreVertices}
+use Rattle.cell_stars.specs.Moves.{AreTouched, AreNumbered, IsOwnNumber, IsSpare}
 use Rattle.cell_stars.specs.Gathering.{FromCell, FromPoint, Gathers}
 use Rattle.cell_stars.proofs.KeyLaws.{owned_by, in_owned, owned_in, Keys, vertices, BelongsAt, one_key, at_key, no_key}
 

@@ -31,11 +31,11 @@ ghost use Rattle.cell_stars.specs.Plans.{done, Allows, IsPlanFor};
 ghost use Rattle.cell_stars.specs.Stars.{cells_left, cells_around, cells_to_come};
 
 use crate::grid::Grid;
-use crate::links::{Links, NONE, side_of};
 use crate::moves::place_among;
 use crate::plan::{Around, Plan};
-use crate::planner::copied_stars;
-use crate::star::{BucketCells, Star, StarCells, cell_at};
+use crate::planner::{copied_slots, copied_stars};
+use crate::slots::{NONE, Slot, across, cell_at, side_of};
+use crate::star::{BucketCells, Star, StarCells};
 use crate::steps::{Steps, place_counted, place_of};
 use point_order::{Cell, Facet, Point};
 use smallvec::SmallVec;
@@ -48,7 +48,7 @@ use std::sync::ledger::Ledger;
 #[derive(Drop)]
 pub struct Cells {
     place: Option<(Grid, u32)>,
-    pub(crate) slots: Vec<Option<Cell>>,
+    pub(crate) slots: Vec<Slot>,
     pub(crate) keys: Vec<(Point, u32)>,
     pub(crate) stars: Vec<Around>,
     // Places and stars that are likely to be free, and the first number of either from which on all are.
@@ -56,7 +56,6 @@ pub struct Cells {
     pub(crate) spare: Vec<u32>,
     pub(crate) used: u32,
     pub(crate) used_stars: u32,
-    pub(crate) links: Links,
 }
 
 impl Debug for Cells {
@@ -115,7 +114,6 @@ impl Cells {
             spare: Vec::new(alloc),
             used: 0,
             used_stars: 0,
-            links: Links::new(alloc),
         }
     }
 
@@ -212,7 +210,7 @@ impl Cells {
 
     /// The place at which the other cell on a facet is likely to stand, where the given cell stands at the given place.
     pub fn place_across(&self, place: u32, cell: &Cell, facet: &Facet) -> u32 {
-        self.links.across(place, side_of(cell, facet))
+        across(&self.slots, place, side_of(cell, facet))
     }
 
     /// The cell at a place, if there is one.
@@ -242,14 +240,13 @@ impl Cells {
     {
         Ok(Cells {
             place: self.place,
-            slots: Vec::from_slice(alloc, &self.slots)?,
+            slots: copied_slots(alloc, &self.slots, self.slots.len())?,
             keys: Vec::from_slice(alloc, &self.keys)?,
             stars: copied_stars(alloc, &self.stars, self.stars.len())?,
             free: Vec::from_slice(alloc, &self.free)?,
             spare: Vec::from_slice(alloc, &self.spare)?,
             used: self.used,
             used_stars: self.used_stars,
-            links: self.links.copied(alloc)?,
         })
     }
 

@@ -3,9 +3,8 @@
 ghost use Rattle.std.specs.Prelude.{◌≡◌, IfSome, Some};
 ghost use Rattle.cell_stars.specs.Places.{at};
 
-use crate::links::{Links, NONE};
 use crate::matched::{Joined, Side};
-use crate::moves::stands_at;
+use crate::slots::{NONE, Slot, across, stands_at};
 use point_order::Cell;
 use std::alloc::{AllocError, Global};
 
@@ -26,18 +25,12 @@ impl Guesses {
     }
 
     /// Where the next cell stands, if that is across a facet of one that was found.
-    pub(crate) fn guess(
-        &self,
-        slots: &[Option<Cell>],
-        links: &Links,
-        joined: &Joined,
-        cell: &Cell,
-    ) -> Option<u32>
+    pub(crate) fn guess(&self, slots: &[Slot], joined: &Joined, cell: &Cell) -> Option<u32>
         ensures { IfSome result (λ i. at slots.now i ≡ Some cell.now) }
     {
         let sides = joined.before.get(self.places.len())?;
         for side in sides.iter().flatten() {
-            let place = self.place_across(links, *side);
+            let place = self.place_across(slots, *side);
             if stands_at(slots, place, cell) {
                 return Some(place);
             }
@@ -46,9 +39,9 @@ impl Guesses {
     }
 
     // The place across the side of a cell before, if that was found.
-    fn place_across(&self, links: &Links, side: Side) -> u32 {
+    fn place_across(&self, slots: &[Slot], side: Side) -> u32 {
         match self.places.get(side.cell as usize) {
-            Some(found) => links.across(*found, usize::from(side.side)),
+            Some(found) => across(slots, *found, usize::from(side.side)),
             None => NONE,
         }
     }

@@ -1,9 +1,11 @@
 //! The links of the cells that are put at places in an exchange: among each other, and with the cells around them.
 
-use crate::links::{Around4, Links, NONE};
+ghost use Rattle.std.specs.Prelude.{◌≡◌, OnOk};
+
 use crate::matched::{Beside, Joined};
 use crate::moves::Moves;
 use crate::order::are_same;
+use crate::slots::{NONE, Slot, across, around};
 use point_order::Cell;
 use std::alloc::{AllocError, Global};
 
@@ -13,20 +15,6 @@ pub(crate) struct Joint {
     pub(crate) place: u32,
     pub(crate) side: usize,
     pub(crate) other: u32,
-}
-
-/// A cell that is put at a place, by its place and its links.
-#[derive(Clone, Copy)]
-pub(crate) struct Linked {
-    pub(crate) place: u32,
-    pub(crate) around: Around4,
-}
-
-/// The links that change in an exchange: those of the cells that are put, and those back to them.
-#[derive(Drop)]
-pub(crate) struct Joins {
-    pub(crate) fresh: Vec<Linked>,
-    pub(crate) rim: Vec<Joint>,
 }
 
 // More cells than so many come in order.
@@ -50,58 +38,80 @@ fn in_order(alloc: Global, fresh: &[Cell]) -> Result<Vec<(Cell, usize)>, AllocEr
     Ok(list)
 }
 
-// Notes the place of a cell that comes, if it is put next, and gives those that are put after it.
-fn note_next<'a>(
-    places: &mut [u32],
-    rest: &'a [(u32, Cell)],
-    cell: &Cell,
-    at: usize,
-) -> &'a [(u32, Cell)] {
-    if let Some(((place, next), others)) = rest.split_first() {
-        if are_same(next, cell) {
-            if let Some(known) = places.get_mut(at) {
-                *known = *place;
-            }
-            return others;
-        }
-    }
-    rest
+// The cells that are put, from one on, beside where the first of them stands among all.
+#[derive(Drop)]
+struct Rest<'a> {
+    cells: &'a [(u32, Cell)],
+    first: u32,
 }
 
-// The places of the cells that come, none for those that are not put.
-fn places_of(alloc: Global, fresh: &[Cell], moves: &Moves) -> Result<Vec<u32>, AllocError> {
-    let mut places = Vec::new(alloc);
-    places.resize(fresh.len(), NONE)?;
-    let mut rest: &[(u32, Cell)] = &moves.placed;
-    if !moves.listed && rest.len() > FEW {
+impl Rest<'_> {
+    // Where the cell stands among those that are put, if it is the next one.
+    fn next(&mut self, cell: &Cell) -> u32 {
+        if let Some(((_, next), others)) = self.cells.split_first() {
+            if are_same(next, cell) {
+                self.cells = others;
+                self.first = self.first.wrapping_add(1);
+                return self.first.wrapping_sub(1);
+            }
+        }
+        NONE
+    }
+}
+
+// Where each of the cells that come stands among those that are put, none for those that are not.
+fn positions(alloc: Global, fresh: &[Cell], moves: &Moves) -> Result<Vec<u32>, AllocError> {
+    let mut positions = Vec::new(alloc);
+    positions.resize(fresh.len(), NONE)?;
+    let mut rest = Rest {
+        cells: &moves.placed,
+        first: 0,
+    };
+    if !moves.listed && rest.cells.len() > FEW {
         for (cell, at) in &in_order(alloc, fresh)? {
-            rest = note_next(&mut places, rest, cell, *at);
+            if let Some(position) = positions.get_mut(*at) {
+                *position = rest.next(cell);
+            }
         }
     } else {
-        for (at, cell) in fresh.iter().enumerate() {
-            rest = note_next(&mut places, rest, cell, at);
+        for (position, cell) in positions.iter_mut().zip(fresh) {
+            *position = rest.next(cell);
         }
     }
-    Ok(places)
+    Ok(positions)
 }
 
-impl Joins {
+// What links are found by: the places before the exchange, what goes and comes, and where the cells that come stand
+// among those that are put.
+#[derive(Clone, Copy)]
+struct Joins<'a> {
+    slots: &'a [Slot],
+    moves: &'a Moves,
+    positions: &'a [u32],
+}
+
+impl Joins<'_> {
+    // The place of a cell that comes, by where it stands in their list.
+    fn place_of(&self, fresh: u32) -> u32 {
+        match self
+            .moves
+            .placed
+            .get(number_at(self.positions, fresh) as usize)
+        {
+            Some((place, _)) => *place,
+            None => NONE,
+        }
+    }
+
     // The place across a side of the cell that is put at the place.
-    fn across(
-        &mut self,
-        links: &Links,
-        gone: &[u32],
-        places: &[u32],
-        place: u32,
-        beside: Beside,
-    ) -> Result<u32, AllocError> {
+    fn across(&self, rim: &mut Vec<Joint>, place: u32, beside: Beside) -> Result<u32, AllocError> {
         match beside {
             Beside::Nothing => Ok(NONE),
-            Beside::Fresh(other) => Ok(number_at(places, other)),
+            Beside::Fresh(other) => Ok(self.place_of(other)),
             Beside::Behind(behind) => {
-                let freed = number_at(gone, behind.cell);
-                let outside = links.across(freed, usize::from(behind.side));
-                self.add_rim(links, freed, outside, place)?;
+                let freed = number_at(&self.moves.gone, behind.cell);
+                let outside = across(self.slots, freed, usize::from(behind.side));
+                self.add_rim(rim, freed, outside, place)?;
                 Ok(outside)
             }
         }
@@ -109,8 +119,8 @@ impl Joins {
 
     // Links the cell outside, which was linked with the freed place, with the one that is put.
     fn add_rim(
-        &mut self,
-        links: &Links,
+        &self,
+        rim: &mut Vec<Joint>,
         freed: u32,
         outside: u32,
         other: u32,
@@ -118,9 +128,9 @@ impl Joins {
         if outside == NONE {
             return Ok(());
         }
-        for (side, place) in links.at(outside).iter().enumerate() {
+        for (side, place) in around(self.slots, outside).iter().enumerate() {
             if *place == freed {
-                self.rim.push(Joint {
+                rim.push(Joint {
                     place: outside,
                     side,
                     other,
@@ -130,41 +140,64 @@ impl Joins {
         Ok(())
     }
 
-    // Adds the cell that is put at the place.
-    fn add(
-        &mut self,
-        links: &Links,
-        gone: &[u32],
-        places: &[u32],
-        place: u32,
+    // Links the cell that is put at the place.
+    fn link(
+        &self,
+        rim: &mut Vec<Joint>,
+        put: &mut (u32, Slot),
         sides: [Beside; 4],
-    ) -> Result<(), AllocError> {
-        let mut around = [NONE; 4];
-        for (side, beside) in sides.iter().enumerate() {
-            around[side] = self.across(links, gone, places, place, *beside)?;
-        }
-        self.fresh.push(Linked { place, around })?;
+    ) -> Result<(), AllocError>
+        ensures { OnOk result (put.new ≡ put.old) }
+    {
+        let [a, b, c, d] = sides;
+        let place = put.0;
+        let around = [
+            self.across(rim, place, a)?,
+            self.across(rim, place, b)?,
+            self.across(rim, place, c)?,
+            self.across(rim, place, d)?,
+        ];
+        put.1.link(around);
         Ok(())
     }
 
-    /// The links that change where the cells move so.
-    pub(crate) fn of(
-        alloc: Global,
-        links: &Links,
-        fresh: &[Cell],
+    // Links the cells that are put.
+    fn link_all(
+        &self,
+        rim: &mut Vec<Joint>,
+        puts: &mut [(u32, Slot)],
         joined: &Joined,
-        moves: &Moves,
-    ) -> Result<Joins, AllocError> {
-        let places = places_of(alloc, fresh, moves)?;
-        let mut joins = Joins {
-            fresh: Vec::with_capacity(alloc, moves.placed.len())?,
-            rim: Vec::with_capacity(alloc, moves.placed.len())?,
-        };
-        for (place, sides) in places.iter().zip(&joined.sides) {
-            if *place != NONE {
-                joins.add(links, &moves.gone, &places, *place, *sides)?;
+    ) -> Result<(), AllocError>
+        ensures { OnOk result (puts.new ≡ puts.old) }
+    {
+        for (position, sides) in self.positions.iter().zip(&joined.sides) {
+            let at = *position as usize;
+            if at < puts.len() {
+                self.link(rim, &mut puts[at], *sides)?;
             }
         }
-        Ok(joins)
+        Ok(())
     }
+}
+
+/// Links the cells that are put, where cells move so, and gives the links back to them.
+pub(crate) fn join(
+    alloc: Global,
+    slots: &[Slot],
+    fresh: &[Cell],
+    joined: &Joined,
+    moves: &Moves,
+    puts: &mut [(u32, Slot)],
+) -> Result<Vec<Joint>, AllocError>
+    ensures { OnOk result (puts.new ≡ puts.old) }
+{
+    let positions = positions(alloc, fresh, moves)?;
+    let joins = Joins {
+        slots,
+        moves,
+        positions: &positions,
+    };
+    let mut rim = Vec::with_capacity(alloc, moves.placed.len())?;
+    joins.link_all(&mut rim, puts, joined)?;
+    Ok(rim)
 }

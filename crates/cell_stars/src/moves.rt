@@ -31,7 +31,7 @@ use crate::cells::Cells;
 use crate::guesses::Guesses;
 use crate::matched::{Joined, Matched};
 use crate::order::{are_same, cells_once, has_vertex, numbers_in_order, touches};
-use crate::star::cell_at;
+use crate::slots::{Slot, cell_at, is_open};
 use point_order::{Cell, Point};
 use std::alloc::{AllocError, Global};
 
@@ -69,7 +69,7 @@ pub(crate) fn is_listed(list: &[u32], i: u32) -> bool
 }
 
 // The place of the cell among these, if it stands at one of them.
-pub(crate) fn place_among(slots: &[Option<Cell>], star: &[u32], cell: &Cell) -> Option<u32>
+pub(crate) fn place_among(slots: &[Slot], star: &[u32], cell: &Cell) -> Option<u32>
     ensures { MatchOption result ((i : ℕ) → IsIn i star.now → at slots.now i ≡ Some cell.now → ⊥) (λ i. at slots.now i
         ≡ Some cell.now) }
 {
@@ -83,18 +83,8 @@ pub(crate) fn place_among(slots: &[Option<Cell>], star: &[u32], cell: &Cell) -> 
     None
 }
 
-// Whether the cell stands at the place.
-pub(crate) fn stands_at(slots: &[Option<Cell>], i: u32, cell: &Cell) -> bool
-    ensures { IsTrue result → at slots.now i ≡ Some cell.now }
-{
-    match cell_at(slots, i) {
-        Some(other) => are_same(other, cell),
-        None => false,
-    }
-}
-
 // Whether no cell at these places has the point.
-fn none_has(slots: &[Option<Cell>], star: &[u32], p: Point) -> bool
+fn none_has(slots: &[Slot], star: &[u32], p: Point) -> bool
     ensures { IsTrue result → (i : ℕ) → IsIn i star.now → (c : Cell) → at slots.now i ≡ Some c → IsIn p (points_of c)
         → ⊥ }
 {
@@ -120,24 +110,8 @@ fn meets(cell: &Cell, points: &[Point]) -> bool
     false
 }
 
-// Whether no cell stands at the place.
-fn is_open(slots: &[Option<Cell>], i: u32) -> bool
-    ensures open { IsTrue result → at slots.now i ≡ None }
-    ensures behind { length slots.now ≤ i → result ≡ true }
-{
-    match slots.get(i as usize) {
-        Some(slot) => slot.is_none(),
-        None => true,
-    }
-}
-
 // Adds open places from a number on, until there are so many places. All that are there are to be before it.
-fn add_open(
-    list: &mut Vec<u32>,
-    slots: &[Option<Cell>],
-    count: usize,
-    first: u32,
-) -> Result<(), AllocError>
+fn add_open(list: &mut Vec<u32>, slots: &[Slot], count: usize, first: u32) -> Result<(), AllocError>
     requires order { IsAscending list.old.items }
     requires before { (i : ℕ) → IsIn i list.old.items → i < first }
     requires few { length list.old.items ≤ count }
@@ -161,7 +135,7 @@ fn add_open(
 // Places that are likely to be open, and those that are freed, as far as so many are wanted.
 fn likely_places(
     alloc: Global,
-    slots: &[Option<Cell>],
+    slots: &[Slot],
     free: &[u32],
     freed: &[u32],
     count: usize,
@@ -197,7 +171,7 @@ pub(crate) fn behind_last(list: &[u32]) -> Result<u32, AllocError>
 // So many places, ascending, each freed or open. New ones begin at the first number or behind it.
 pub(crate) fn places_for(
     alloc: Global,
-    slots: &[Option<Cell>],
+    slots: &[Slot],
     free: &[u32],
     freed: &[u32],
     count: usize,
@@ -295,7 +269,7 @@ impl Cells {
         ensures { MatchOption result ((i : ℕ) → at self.now.slots i ≡ Some cell.now →
             touches_in self.now.place cell.now ≡ true → ⊥) (λ i. at self.now.slots i ≡ Some cell.now) }
     {
-        match guesses.guess(&self.slots, &self.links, joined, cell) {
+        match guesses.guess(&self.slots, joined, cell) {
             Some(place) => Some(place),
             None => self.place_of_cell(cell),
         }

@@ -5,9 +5,9 @@ ghost use Rattle.std.specs.Option.{option_map};
 ghost use Rattle.point_order.specs.Sets.{IsIn};
 ghost use Rattle.cell_stars.specs.Plans.{set_all, or_else, AreBelow};
 
-use crate::joins::Joins;
-use crate::links::Links;
-use point_order::{Cell, Point};
+use crate::joins::Joint;
+use crate::slots::Slot;
+use point_order::Point;
 use smallvec::SmallVec;
 use std::fmt::{self, Debug, Formatter};
 use std::marker::Model;
@@ -48,12 +48,11 @@ impl Around {
 /// What stands at some places after an exchange.
 #[derive(Drop)]
 pub(crate) struct PlacesPlan {
-    pub(crate) grown: Option<Vec<Option<Cell>>>,
-    pub(crate) slots: Vec<(u32, Option<Cell>)>,
+    pub(crate) grown: Option<Vec<Slot>>,
+    pub(crate) slots: Vec<(u32, Slot)>,
     pub(crate) free: Vec<u32>,
     pub(crate) used: u32,
-    pub(crate) links: Option<Links>,
-    pub(crate) joins: Joins,
+    pub(crate) rim: Vec<Joint>,
 }
 
 /// What some stars are after an exchange.

@@ -1,6 +1,6 @@
 //! Exchanges are planned, with memory.
 
-ghost use Rattle.std.specs.Prelude.{◌≡◌, ◌<◌, ◌≤◌, ◌++◌, ℕ, true, None, Some, List, IfOk, length, map};
+ghost use Rattle.std.specs.Prelude.{◌≡◌, ◌<◌, ◌≤◌, ◌++◌, ℕ, true, None, Some, List, IfOk, OnOk, length, map};
 ghost use Rattle.std.specs.List.{filter};
 ghost use Rattle.std.specs.Option.{option_map};
 ghost use Rattle.point_order.specs.declared.cell.Cell.{Cell};
@@ -11,13 +11,13 @@ ghost use Rattle.cell_stars.specs.Turns.{AreReady};
 ghost use Rattle.cell_stars.specs.Moves.{AreKeysAfter, AreTouched, HasSameCells, HasSameStars, IsRewriting};
 
 use crate::cells::Cells;
-use crate::joins::Joins;
+use crate::joins::{Joint, join};
 use crate::keys::keys_after;
-use crate::links::Links;
 use crate::marks::Marks;
 use crate::matched::{Joined, Matched};
 use crate::moves::Moves;
 use crate::plan::{Around, PlacesPlan, Plan, StarsPlan};
+use crate::slots::Slot;
 use point_order::{Cell, Point};
 use smallvec::SmallVec;
 use std::alloc::{AllocError, Global};
@@ -33,12 +33,34 @@ fn behind_numbers<T>(list: &[(u32, T)]) -> usize
     end
 }
 
-// The places in a longer list, where there are fewer than so many. A list that grows doubles.
-fn grown_slots(
+// A copy of the places, with room for so many.
+pub(crate) fn copied_slots(
     alloc: Global,
-    slots: &[Option<Cell>],
-    end: usize,
-) -> Result<Option<Vec<Option<Cell>>>, AllocError>
+    slots: &[Slot],
+    count: usize,
+) -> Result<Vec<Slot>, AllocError>
+    ensures { IfOk result (λ list. list.items ≡ slots.now) }
+{
+    let mut list = Vec::with_capacity(alloc, count)?;
+    for slot in slots {
+        list.push(slot.copied())?;
+    }
+    Ok(list)
+}
+
+// Adds open places until there are so many.
+fn add_slots(list: &mut Vec<Slot>, count: usize) -> Result<(), AllocError>
+    ensures long { OnOk result (count ≤ length list.new.items) }
+    ensures same { OnOk result (HasSameCells list.old.items list.new.items) }
+{
+    while list.len() < count {
+        list.push(Slot::new(None))?;
+    }
+    Ok(())
+}
+
+// The places in a longer list, where there are fewer than so many. A list that grows does so by a quarter.
+fn grown_slots(alloc: Global, slots: &[Slot], end: usize) -> Result<Option<Vec<Slot>>, AllocError>
     ensures long { IfOk result (λ list. end ≤ length (or_else (option_map (λ v. v.items) list) slots.now)) }
     ensures same { IfOk result (λ list. HasSameCells slots.now (or_else (option_map (λ v. v.items) list) slots.now)) }
 {
@@ -46,9 +68,8 @@ fn grown_slots(
         return Ok(None);
     }
     let count = end.max(slots.len().saturating_add(slots.len() / 4));
-    let mut list = Vec::with_capacity(alloc, count)?;
-    list.extend_from_slice(slots)?;
-    list.resize(count, None)?;
+    let mut list = copied_slots(alloc, slots, count)?;
+    add_slots(&mut list, count)?;
     Ok(Some(list))
 }
 
@@ -121,18 +142,33 @@ fn grown_stars(
 }
 
 // What stands at places after the exchange: nothing at those that are freed, and then the cells that are put.
-fn changes(alloc: Global, moves: &Moves) -> Result<Vec<(u32, Option<Cell>)>, AllocError>
+fn changes(alloc: Global, moves: &Moves) -> Result<Vec<(u32, Slot)>, AllocError>
     ensures { IfOk result (λ list. list.items ≡ map (λ i. (i, None)) moves.now.freed.items ++ map
         (λ m. (m.0, Some m.1)) moves.now.placed.items) }
 {
     let mut list = Vec::with_capacity(alloc, moves.freed.len().saturating_add(moves.placed.len()))?;
     for i in &moves.freed {
-        list.push((*i, None))?;
+        list.push((*i, Slot::new(None)))?;
     }
     for (n, c) in &moves.placed {
-        list.push((*n, Some(*c)))?;
+        list.push((*n, Slot::new(Some(*c))))?;
     }
     Ok(list)
+}
+
+// Links the cells that are put, which are the last of the changes.
+fn join_puts(
+    alloc: Global,
+    slots: &[Slot],
+    fresh: &[Cell],
+    joined: &Joined,
+    moves: &Moves,
+    changes: &mut Vec<(u32, Slot)>,
+) -> Result<Vec<Joint>, AllocError>
+    ensures { OnOk result (changes.new.items ≡ changes.old.items) }
+{
+    let first = moves.freed.len().min(changes.len());
+    join(alloc, slots, fresh, joined, moves, &mut changes[first..])
 }
 
 // The numbers behind the first so many.
@@ -204,18 +240,6 @@ fn is_written(writes: &[(u32, Around)], marks: &Marks, n: u32) -> bool {
 }
 
 impl Cells {
-    // The links of the places in a longer list, where there is one.
-    fn grown_links(
-        &self,
-        alloc: Global,
-        grown: &Option<Vec<Option<Cell>>>,
-    ) -> Result<Option<Links>, AllocError> {
-        match grown {
-            Some(slots) => self.links.grown(alloc, slots.len()),
-            None => Ok(None),
-        }
-    }
-
     // What becomes of the places.
     #[inline]
     fn plan_places(
@@ -234,16 +258,14 @@ impl Cells {
     {
         let end = behind_numbers(&moves.placed);
         let grown = grown_slots(alloc, &self.slots, end)?;
-        let links = self.grown_links(alloc, &grown)?;
-        let joins = Joins::of(alloc, &self.links, fresh, joined, moves)?;
-        let slots = changes(alloc, moves)?;
+        let mut slots = changes(alloc, moves)?;
+        let rim = join_puts(alloc, &self.slots, fresh, joined, moves, &mut slots)?;
         Ok(PlacesPlan {
             grown,
             slots,
             free: open_after(alloc, &self.free, moves)?,
             used: self.used.max(u32::try_from(end).unwrap_or(u32::MAX)),
-            links,
-            joins,
+            rim,
         })
     }
 

@@ -6,12 +6,13 @@ ghost use Rattle.point_order.specs.CellOrder.{cell_cmp};
 ghost use Rattle.cell_stars.specs.Places.{is_after, at, IsLeastOf, HaveNone};
 
 use crate::order::compare;
+use crate::slots::{Slot, cell_at};
 use point_order::Cell;
 
 /// The cells at a point, in ascending order. Each is found by a look at all of them.
 #[derive(Clone, Copy, Debug)]
 pub struct Star<'a> {
-    pub(crate) slots: &'a [Option<Cell>],
+    pub(crate) slots: &'a [Slot],
     pub(crate) star: &'a [u32],
     pub(crate) bound: Option<Cell>,
 }
@@ -19,7 +20,7 @@ pub struct Star<'a> {
 /// The cells at a point, each once, in any order.
 #[derive(Clone, Copy, Debug)]
 pub struct StarCells<'a> {
-    pub(crate) slots: &'a [Option<Cell>],
+    pub(crate) slots: &'a [Slot],
     pub(crate) star: &'a [u32],
     pub(crate) last: u32,
 }
@@ -27,17 +28,7 @@ pub struct StarCells<'a> {
 /// The cells of a bucket, each once, in any order.
 #[derive(Clone, Copy, Debug)]
 pub struct BucketCells<'a> {
-    pub(crate) slots: &'a [Option<Cell>],
-}
-
-// The cell at a place, if it is not free.
-pub(crate) fn cell_at(slots: &[Option<Cell>], i: u32) -> Option<&Cell>
-    ensures { MatchOption result (at slots.now i ≡ None) (λ c. at slots.now i ≡ Some c.now) }
-{
-    match slots.get(i as usize) {
-        Some(Some(cell)) => Some(cell),
-        _ => None,
-    }
+    pub(crate) slots: &'a [Slot],
 }
 
 // Whether the cell is behind the bound.
@@ -61,11 +52,7 @@ fn is_before(least: Option<&Cell>, cell: &Cell) -> bool
 }
 
 // The least cell behind the bound at one of the places.
-fn least_behind<'a>(
-    slots: &'a [Option<Cell>],
-    star: &[u32],
-    bound: &Option<Cell>,
-) -> Option<&'a Cell>
+fn least_behind<'a>(slots: &'a [Slot], star: &[u32], bound: &Option<Cell>) -> Option<&'a Cell>
     ensures { MatchOption result (HaveNone slots.now star.now bound.now)
         (λ c. IsLeastOf slots.now star.now bound.now c.now) }
 {
@@ -141,7 +128,7 @@ impl<'a> Iterator for BucketCells<'a> {
     fn next(&mut self) -> Option<&'a Cell> {
         while let Some((first, others)) = self.slots.split_first() {
             self.slots = others;
-            if let Some(cell) = first {
+            if let Some(cell) = first.cell() {
                 return Some(cell);
             }
         }

@@ -6,7 +6,9 @@ ghost use Rattle.cell_stars.specs.Plans.{Allows, AreBelow, or_else, set_all};
 ghost use Rattle.cell_stars.specs.Turns.{IsPart, IsTurn, WasPart, WasTurned, kept, stood};
 
 use crate::cells::Cells;
-use crate::plan::Plan;
+use crate::joins::Joint;
+use crate::plan::{PlacesPlan, Plan};
+use crate::slots::Slot;
 use std::mem::swap;
 
 // Exchanges the list for the other, if there is one.
@@ -67,6 +69,55 @@ fn turn_back_part<T: Drop>(
     turn_list(list, grown);
 }
 
+// Exchanges the place across a facet.
+fn turn_joint(slots: &mut [Slot], joint: &mut Joint)
+    ensures { slots.new ≡ slots.old }
+{
+    let at = joint.place as usize;
+    if at < slots.len() {
+        slots[at].turn_side(joint.side, &mut joint.other);
+    }
+}
+
+// Exchanges the places across some facets.
+fn turn_rim(slots: &mut [Slot], rim: &mut [Joint])
+    ensures { slots.new ≡ slots.old }
+{
+    for joint in rim.iter_mut() {
+        turn_joint(slots, joint);
+    }
+}
+
+// Exchanges them back, the last one first.
+fn turn_back_rim(slots: &mut [Slot], rim: &mut [Joint])
+    ensures { slots.new ≡ slots.old }
+{
+    for k in (0..rim.len()).rev() {
+        turn_joint(slots, &mut rim[k]);
+    }
+}
+
+// Makes changes of places as planned, and keeps what stood there.
+fn turn_slots(slots: &mut Vec<Slot>, plan: &mut PlacesPlan)
+    requires { AreBelow (length (or_else (option_map (λ v. v.items) plan.old.grown) slots.old.items))
+        plan.old.slots.items }
+    ensures { IsPart (option_map (λ v. v.items) plan.old.grown) plan.old.slots.items slots.old.items
+        (option_map (λ v. v.items) plan.new.grown) plan.new.slots.items slots.new.items }
+{
+    turn_part(slots, &mut plan.grown, &mut plan.slots);
+    turn_rim(slots, &mut plan.rim);
+}
+
+// Takes them back.
+fn turn_back_slots(slots: &mut Vec<Slot>, plan: &mut PlacesPlan)
+    requires { WasPart (option_map (λ v. v.items) plan.old.grown) plan.old.slots.items slots.old.items }
+    ensures { IsPart (option_map (λ v. v.items) plan.new.grown) plan.new.slots.items slots.new.items
+        (option_map (λ v. v.items) plan.old.grown) plan.old.slots.items slots.old.items }
+{
+    turn_back_rim(slots, &mut plan.rim);
+    turn_back_part(slots, &mut plan.grown, &mut plan.slots);
+}
+
 impl Cells {
     /// Carries a plan out, without memory. The plan has then what stood in the places that it changes.
     pub fn turn(&mut self, plan: &mut Plan)
@@ -74,8 +125,7 @@ impl Cells {
         ensures { IsTurn plan.old self.old plan.new self.new }
     {
         let Plan { places, stars } = plan;
-        self.links.turn(&mut places.links, &mut places.joins);
-        turn_part(&mut self.slots, &mut places.grown, &mut places.slots);
+        turn_slots(&mut self.slots, places);
         turn_part(&mut self.stars, &mut stars.more, &mut stars.stars);
         turn_list(&mut self.keys, &mut stars.keys);
         self.turn_numbers(plan);
@@ -87,10 +137,9 @@ impl Cells {
         ensures { IsTurn plan.new self.new plan.old self.old }
     {
         let Plan { places, stars } = plan;
-        turn_back_part(&mut self.slots, &mut places.grown, &mut places.slots);
+        turn_back_slots(&mut self.slots, places);
         turn_back_part(&mut self.stars, &mut stars.more, &mut stars.stars);
         turn_list(&mut self.keys, &mut stars.keys);
-        self.links.turn_back(&mut places.links, &mut places.joins);
         self.turn_numbers(plan);
     }
 

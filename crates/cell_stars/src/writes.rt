@@ -37,7 +37,6 @@ ghost use Rattle.cell_stars.specs.Moves.{
 };
 
 use crate::cells::{Cells, places_in};
-use crate::links::hash_of;
 use crate::marks::{Marks, is_unmarked, marks_of};
 use crate::moves::{Moves, behind_last, pairs};
 use crate::order::{has_vertex, numbers_in_order};
@@ -132,6 +131,11 @@ fn numbers_for(
     let last = behind_last(&list)?;
     add_spare(&mut list, stars, count, last.max(first))?;
     Ok(list)
+}
+
+// A number of 32 bits for the point that depends on all of its bits.
+fn hash_of(p: Point) -> u64 {
+    p.key().wrapping_mul(0x9E37_79B9_7F4A_7C15) >> 32
 }
 
 // For each rest of a division, where in a list of points the last one with this rest is likely to be.

@@ -1,4 +1,4 @@
-use Rattle.std.proofs.Common.{◌∙◌, ap, not, sym}
+use Rattle.std.proofs.Common.{ap, not}
 use Rattle.cell_stars.proofs.Marked.{not_marked}
 use Rattle.cell_stars.proofs.marks.is_unmarked.Goals as goal
 

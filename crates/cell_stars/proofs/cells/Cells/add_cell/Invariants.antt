@@ -1,4 +1,4 @@
-use Rattle.std.proofs.Common.{◌≡◌, ℕ, take}
+use Rattle.std.proofs.Common.{◌≡◌, take}
 use Rattle.point_order.specs.Sets.{IsIn}
 use Rattle.cell_stars.specs.Adding.{AddsPlaces}
 use Rattle.cell_stars.proofs.cells.Cells.add_cell.Given as goal

@@ -1,4 +1,4 @@
-use Rattle.std.proofs.Common.{◌≡◌, ◌∙◌, ap, drop, length, List, ℕ, subst, sym}
+use Rattle.std.proofs.Common.{◌≡◌, ◌∙◌, ap, drop, length, List, subst, sym}
 use Rattle.list_laws.proofs.Cited.{front_is}
 use Rattle.point_order.specs.Sets.{IsIn}
 use Rattle.cell_stars.specs.Adding.{AreStarsHere, HasStarAt, IsOneMore, Numbered}

@@ -1,8 +1,5 @@
 use Rattle.std.proofs.Common.{subst, sym}
 use Rattle.cell_stars.specs.Plans.{AreVertices}
-use Rattle.cell_stars.specs.Moves.{AreTouched}
-use Rattle.cell_stars.specs.Places.{lies_in}
-use Rattle.std.specs.List.{filter}
 use Rattle.std.proofs.Common.{List, ℕ}
 use Rattle.cell_stars.proofs.MoveLaws.{are_new}
 use Rattle.cell_stars.proofs.Planned.{is_plan}

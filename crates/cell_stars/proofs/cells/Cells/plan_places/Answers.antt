@@ -19,4 +19,4 @@ returns-clause-long c i d m =
     omega (arith, t, u)
 
 pub returns-clause-slots : goal.returns-clause-slots
-returns-clause-slots c = c.in_ok-slots.ensures
+returns-clause-slots c = c.in_ok-rim.ensures ∙ c.in_ok-slots.ensures

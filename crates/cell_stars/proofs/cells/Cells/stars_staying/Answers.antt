@@ -1,7 +1,7 @@
-use Rattle.std.proofs.Common.{◌∙◌, [], ap, map, subst, sym}
+use Rattle.std.proofs.Common.{◌∙◌, ap, map, subst}
 use Rattle.std.proofs.lemmas.List.{take_all}
 use Rattle.point_order.specs.Sets.{IsIn}
-use Rattle.cell_stars.specs.Adding.{Numbered, head_of}
+use Rattle.cell_stars.specs.Adding.{head_of}
 use Rattle.cell_stars.proofs.AddLaws.{heads_more, staying_more}
 use Rattle.cell_stars.proofs.cells.Cells.stars_staying.Goals as goal
 

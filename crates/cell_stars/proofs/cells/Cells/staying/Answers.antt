@@ -1,4 +1,4 @@
-use Rattle.std.proofs.Common.{rules, not, ◌∙◌, ap, refl, List, ℕ}
+use Rattle.std.proofs.Common.{rules, not, ◌∙◌, ap}
 use Rattle.std.specs.List.{filter}
 use Rattle.point_order.specs.Sets.{is_among}
 use Rattle.cell_stars.proofs.StayLaws.{retained, stays_are}

@@ -1,7 +1,5 @@
 use Rattle.std.proofs.Common.{subst, sym, ◌∙◌, List, ℕ, map}
-use Rattle.list_laws.proofs.Cited.{filtered_from}
 use Rattle.point_order.specs.Sets.{IsIn, IsAscending}
-use Rattle.cell_stars.specs.Places.{lies_in}
 use Rattle.cell_stars.proofs.cells.Cells.writes.Goals as goal
 
 pub stars_after-requires-clause-inside : goal.stars_after-requires-clause-inside
