@@ -8,7 +8,7 @@ use Rattle.point_order.specs.Facets.{points_of}
 use Rattle.point_order.specs.Sets.{IsIn, IsAscending}
 use Rattle.cell_stars.specs.Places.{Placed, IsStarred, lies_in, star_at}
 use Rattle.cell_stars.specs.Plans.{AreFor, AreVertices}
-use Rattle.cell_stars.specs.Moves.{AreTouched, AreNumbered, IsOwnNumber, IsSpare}
+use Rattle.cell_stars.specs.Moves.{AreTouched, AreNumbered, IsNumberFor, IsOwnNumber, IsSpare}
 use Rattle.cell_stars.specs.Gathering.{FromCell, FromPoint, Gathers}
 use Rattle.cell_stars.proofs.KeyLaws.{owned_by, in_owned, owned_in, Keys, vertices, BelongsAt, one_key, at_key, no_key}
 
@@ -97,6 +97,7 @@ are_numbered b stars us ps pairs turns n es ak au ap' l sp e h m = record {
   apart = λ k p q i j. (let r = from k p i in let s = from k q j in together k p q r s);
   single = λ k j p i o. (let r = from k p i in let s = from j p o in alone k j p r s);
   vacant = λ k p q x i f g. (let r = from k p i in own_of k p q x r f g);
+  held = λ k p i. (let r = from k p i in held k p r);
 }
   where
     From : ℕ → ℕ → Type 0
@@ -107,6 +108,13 @@ are_numbered b stars us ps pairs turns n es ak au ap' l sp e h m = record {
 
     empty : (u : ℕ) → IsIn u us → (x : ℕ) → IsIn x (star_at b.stars u).1 → ⊥
     empty u i x j = sp u i x (subst (λ (l : List (ℕ × List ℕ)). IsIn x (star_at l u).1) (sym es) j)
+
+    held : (k p : ℕ) → From k p → IsNumberFor b p k
+    held k p (u, i, inl o) = inl o
+    held k p (u, i, inr o) = inr (
+      λ x j. empty u (in_zip us ps u p i).0 x (subst (λ y. IsIn x (star_at b.stars y).1) o.0 j),
+      o.1,
+    )
 
     together : (k p q : ℕ) → From k p → From k q → p ≡ q
     together k p q (u, i, inl o) (v, j, inl s) = sym o.owned ∙ s.owned
@@ -123,3 +131,26 @@ are_numbered b stars us ps pairs turns n es ak au ap' l sp e h m = record {
     own_of : (k p q x : ℕ) → From k p → (star_at b.stars k).0 ≡ q → IsIn x (star_at b.stars k).1 → q ≡ p
     own_of k p q x (u, i, inl o) f g = sym f ∙ o.owned
     own_of k p q x (u, i, inr o) f g = absurd (empty u (in_zip us ps u p i).0 x (subst (λ y. IsIn x (star_at b.stars y).1) o.0 g))
+
+-- the star with the number of a vertex has the places of that
+pub held_places : (b : Placed) (p n : ℕ) (items : List ℕ) → IsAscending (vertices b.keys) →
+    items ≡ owned_by p (star_at b.stars n) → IsNumberFor b p n → (i : ℕ) →
+    (IsIn i items → IsStarred b.keys b.stars p i) × (IsStarred b.keys b.stars p i → IsIn i items)
+held_places b p n items a e (inl o) i = (
+  λ m. (
+      let r = in_owned p i (star_at b.stars n) (subst (λ (l : List ℕ). IsIn i l) e m) in
+      record { number = n; key = o.key; owned = r.0; listed = r.1 }),
+  λ s. (
+      let q : s.number ≡ n = ap (λ y. y.1) (one_key b.keys (p, s.number) (p, n) a s.key o.key refl) in
+      subst (λ (l : List ℕ). IsIn i l) (sym e)
+      (owned_in p i (star_at b.stars n) o.owned (subst (λ y. IsIn i (star_at b.stars y).1) q s.listed))),
+)
+held_places b p n items a e (inr o) i = (
+  λ m. absurd (o.0 i (in_owned p i (star_at b.stars n) (subst (λ (l : List ℕ). IsIn i l) e m)).1),
+  λ s. absurd (o.1 i s),
+)
+
+-- where it has places, the vertex has a key with it
+pub held_key : (b : Placed) (p n : ℕ) → IsNumberFor b p n → (i : ℕ) × IsIn i (star_at b.stars n).1 → IsIn (p, n) b.keys
+held_key b p n (inl o) m = o.key
+held_key b p n (inr o) m = absurd (o.0 m.0 m.1)

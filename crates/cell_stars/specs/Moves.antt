@@ -1,10 +1,11 @@
 -- What goes and comes in an exchange, and where.
-use Rattle.std.specs.Prelude.{◌≡◌, ◌⊎◌, ◌%◌, ℕ, Bool, true, false, List, length, Option, Some, map, slice_index_or}
+use Rattle.std.specs.Prelude.{◌≡◌, ◌⊎◌, ◌%◌, ◌<◌, ℕ, Bool, true, false, List, length, Option, Some, map, slice_index_or}
 use Rattle.point_order.specs.declared.cell.Cell.{Cell}
 use Rattle.point_order.specs.Facets.{points_of}
 use Rattle.point_order.specs.Sets.{IsIn, IsAscending}
 use Rattle.cell_stars.specs.Places.{Placed, IsStarred, at, lies_in, touches_in, star_at}
 use Rattle.cell_stars.specs.Plans.{StarsAfter}
+use Rattle.cell_stars.specs.Swaps.{cell_rest}
 
 -- a list is the star of some vertex of the cell in the bucket
 pub record IsStarFor (b : Placed) (c : Cell) (star : List ℕ) : Type 0 where
@@ -64,6 +65,21 @@ pub record AreTouched (b : Placed) (freed : List ℕ) (placed : List (ℕ × Cel
   pub fresh : (i p : ℕ) (c : Cell) → IsIn (i, c) placed → IsIn p (points_of c) → lies_in b.place p ≡ true →
       IsIn p vertices
 
+-- the number stands beside the vertex, and the star with it is the vertex's own and has a place
+pub record IsOwnNumber (b : Placed) (p n : ℕ) : Type 0 where
+  pub key : IsIn (p, n) b.keys
+  pub owned : (star_at b.stars n).0 ≡ p
+  pub place : ℕ
+  pub filled : IsIn place (star_at b.stars n).1
+
+-- no place is in the star with the number
+abbrev pub IsSpare : List (ℕ × List ℕ) → ℕ → Type 0
+IsSpare stars n = (i : ℕ) → IsIn i (star_at stars n).1 → ⊥
+
+-- it is the vertex's own, or spare where the vertex has no star
+abbrev pub IsNumberFor : Placed → ℕ → ℕ → Type 0
+IsNumberFor b p n = IsOwnNumber b p n ⊎ (IsSpare b.stars n × ((i : ℕ) → IsStarred b.keys b.stars p i → ⊥))
+
 -- The numbers of the stars of these vertices after an exchange: one for each, which had its star or none.
 pub record AreNumbered (b : Placed) (vertices : List ℕ) (turns : List (ℕ × ℕ)) : Type 0 where
   pub each : (n p : ℕ) → IsIn (n, p) turns → IsIn p vertices
@@ -71,6 +87,7 @@ pub record AreNumbered (b : Placed) (vertices : List ℕ) (turns : List (ℕ × 
   pub apart : (n p q : ℕ) → IsIn (n, p) turns → IsIn (n, q) turns → p ≡ q
   pub single : (n m p : ℕ) → IsIn (n, p) turns → IsIn (m, p) turns → n ≡ m
   pub vacant : (n p q i : ℕ) → IsIn (n, p) turns → (star_at b.stars n).0 ≡ q → IsIn i (star_at b.stars n).1 → q ≡ p
+  pub held : (n p : ℕ) → IsIn (n, p) turns → IsNumberFor b p n
 
 -- the stars of the vertices after an exchange, at their numbers
 pub record AreStarsAfter (b : Placed) (freed : List ℕ) (placed : List (ℕ × Cell)) (turns : List (ℕ × ℕ))
@@ -94,17 +111,6 @@ pub record AreKeysAfter (old : List (ℕ × ℕ)) (writes : List (ℕ × (ℕ ×
       IsWritten writes p n ⊎ (IsIn (p, n) old × ((m : ℕ) (s : List ℕ) → IsIn (m, (p, s)) writes → ⊥))
   pub kept : (p n : ℕ) → IsIn (p, n) old → ((m : ℕ) (s : List ℕ) → IsIn (m, (p, s)) writes → ⊥) → IsIn (p, n) new
   pub written : (p n : ℕ) → IsWritten writes p n → IsIn (p, n) new
-
--- the number stands beside the vertex, and the star with it is the vertex's own and has a place
-pub record IsOwnNumber (b : Placed) (p n : ℕ) : Type 0 where
-  pub key : IsIn (p, n) b.keys
-  pub owned : (star_at b.stars n).0 ≡ p
-  pub place : ℕ
-  pub filled : IsIn place (star_at b.stars n).1
-
--- no place is in the star with the number
-abbrev pub IsSpare : List (ℕ × List ℕ) → ℕ → Type 0
-IsSpare stars n = (i : ℕ) → IsIn i (star_at stars n).1 → ⊥
 
 -- the stars of all vertices of an exchange after it, at their numbers
 pub record IsRewriting (b : Placed) (freed : List ℕ) (placed : List (ℕ × Cell))
@@ -140,7 +146,12 @@ pub record HasSameStars (old new : List (ℕ × List ℕ)) : Type 0 where
   pub there : (n i : ℕ) → IsIn i (star_at old n).1 → star_at new n ≡ star_at old n
   pub back : (n i : ℕ) → IsIn i (star_at new n).1 → star_at new n ≡ star_at old n
 
--- each number of the list has its mark
-pub record AreMarked (marks : List Bool) (list : List ℕ) : Type 0 where
+-- each cell of the list has a mark at its rest
+pub record AreCellsMarked (marks : List Bool) (list : List Cell) : Type 0 where
+  pub count : length marks ≡ 509
+  pub each : (c : Cell) → IsIn c list → slice_index_or marks (cell_rest c) false ≡ true
+
+-- each number of the list has a mark other than 0
+pub record AreMarked (marks list : List ℕ) : Type 0 where
   pub count : length marks ≡ 512
-  pub each : (i : ℕ) → IsIn i list → slice_index_or marks (i % 512) false ≡ true
+  pub each : (i : ℕ) → IsIn i list → 0 < slice_index_or marks (i % 512) 0

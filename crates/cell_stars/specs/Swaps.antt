@@ -1,5 +1,5 @@
 -- Exchanges of cells in the buckets of their vertices.
-use Rattle.std.specs.Prelude.{◌≡◌, ℕ, Bool, not, ◌==◌, List, [], ◌∷◌}
+use Rattle.std.specs.Prelude.{◌≡◌, ℕ, Bool, not, ◌==◌, List, [], ◌∷◌, sum, ◌%◌}
 use Rattle.std.specs.List.{list_any, filter}
 use Rattle.std.specs.Ordering.{is_eq, match_ordering}
 use Rattle.std.specs.declared.cmp.Ordering.TheVariants.{Less}
@@ -12,6 +12,10 @@ use Rattle.cell_stars.specs.Grids.{bucket_of}
 -- one of the finite vertices of the cell lies in the bucket
 abbrev pub touches : ℕ → ℕ → Cell → Bool
 touches g b c = list_any (λ p. bucket_of g p == b) (points_of c)
+
+-- the rest of a division of the sum of its points
+abbrev pub cell_rest : Cell → ℕ
+cell_rest c = sum (points_of c) % 509
 
 -- the cell is one of the list
 abbrev pub is_cell_among : Cell → List Cell → Bool

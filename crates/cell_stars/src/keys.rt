@@ -4,10 +4,12 @@ ghost use Rattle.std.specs.Prelude.{◌≡◌, ◌↔◌, ◌⊎◌, ℕ, List, 
 ghost use Rattle.std.specs.Option.{option_map};
 ghost use Rattle.point_order.specs.Sets.{IsIn, IsAscending};
 ghost use Rattle.cell_stars.specs.Plans.{or_else};
-ghost use Rattle.cell_stars.specs.Moves.{AreKeysAfter, AreAgreed, IsKeyed, IsKeyAfter};
+ghost use Rattle.cell_stars.specs.Moves.{AreKeysAfter, AreAgreed, IsKeyed, IsKeyAfter, IsNumberFor};
 
+use crate::cells::Cells;
 use crate::plan::Around;
 use crate::steps::place_of;
+use crate::writes::is_own;
 use point_order::Point;
 use std::alloc::{AllocError, Global};
 
@@ -28,19 +30,6 @@ fn is_keyed(keys: &[(Point, u32)], n: u32, around: &Around) -> bool
     ensures { IsTrue result → IsKeyed keys.now n around.now }
 {
     around.has_places() && has_key(keys, around.vertex(), n)
-}
-
-// Whether that is so of all.
-fn are_keyed(keys: &[(Point, u32)], writes: &[(u32, Around)]) -> bool
-    requires { IsAscending (map (λ k. k.0) keys.now) }
-    ensures { IsTrue result → (n : ℕ) (s : ℕ × List ℕ) → IsIn (n, s) writes.now → IsKeyed keys.now n s }
-{
-    for (n, around) in writes {
-        if !is_keyed(keys, *n, around) {
-            return false;
-        }
-    }
-    true
 }
 
 // Takes the vertex out.
@@ -107,19 +96,43 @@ fn changed_keys(
     Ok(list)
 }
 
-// The same, or none where they stay.
-pub(crate) fn keys_after(
-    alloc: Global,
-    keys: &[(Point, u32)],
-    writes: &[(u32, Around)],
-) -> Result<Option<Vec<(Point, u32)>>, AllocError>
-    requires order { IsAscending (map (λ k. k.0) keys.now) }
-    requires agreed { AreAgreed writes.now }
-    ensures { IfOk result (λ list. AreKeysAfter keys.now writes.now
-        (or_else (option_map (λ v. v.items) list) keys.now)) }
-{
-    if are_keyed(keys, writes) {
-        return Ok(None);
+impl Cells {
+    // Whether the star, which has this number, has a place, and had one before.
+    fn is_keyed(&self, n: u32, around: &Around) -> bool
+        requires { IsNumberFor self.now around.now.0 n }
+        ensures { IsTrue result → IsKeyed self.now.keys n around.now }
+    {
+        around.has_places() && is_own(&self.stars, n, around.vertex())
     }
-    Ok(Some(changed_keys(alloc, keys, writes)?))
+
+    // Whether that is so of all.
+    fn are_keyed(&self, writes: &[(u32, Around)]) -> bool
+        requires { (n : ℕ) (s : ℕ × List ℕ) → IsIn (n, s) writes.now → IsNumberFor self.now s.0 n }
+        ensures { IsTrue result → (n : ℕ) (s : ℕ × List ℕ) → IsIn (n, s) writes.now → IsKeyed self.now.keys n s }
+    {
+        for (n, around) in writes {
+            if !self.is_keyed(*n, around) {
+                return false;
+            }
+        }
+        true
+    }
+
+    // The vertices with a star after the stars were written, or none where they stay.
+    pub(crate) fn keys_after(
+        &self,
+        alloc: Global,
+        writes: &[(u32, Around)],
+    ) -> Result<Option<Vec<(Point, u32)>>, AllocError>
+        requires numbers { (n : ℕ) (s : ℕ × List ℕ) → IsIn (n, s) writes.now → IsNumberFor self.now s.0 n }
+        requires agreed { AreAgreed writes.now }
+        ensures { IfOk result (λ list. AreKeysAfter self.now.keys writes.now
+            (or_else (option_map (λ v. v.items) list) self.now.keys)) }
+    {
+        let _ = &self.keys;
+        if self.are_keyed(writes) {
+            return Ok(None);
+        }
+        Ok(Some(changed_keys(alloc, &self.keys, writes)?))
+    }
 }

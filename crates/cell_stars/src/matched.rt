@@ -70,14 +70,14 @@ impl Model for Matched {
 const FEW: usize = 48;
 
 // Of more cells than so many it is not looked whether one is listed twice.
-const PAIRS: usize = 64;
+const PAIRS: usize = 256;
 
 // Something is looked for in so many entries of a table from its first one on.
 const TURNS: usize = 12;
 
 // The entry of a table of so many with which a search begins.
-fn first_entry(hash: u64, count: usize) -> usize {
-    ((hash & 0xFFFF_FFFF).wrapping_mul(count as u64) >> 32) as usize
+fn first_entry(facet: u32, count: usize) -> usize {
+    (u64::from(facet).wrapping_mul(count as u64) >> 32) as usize
 }
 
 // An odd number whose product with another depends in its upper bits on all bits of that.
@@ -89,19 +89,24 @@ fn mixed(p: Point) -> u64 {
     (product ^ (product >> 32)).wrapping_mul(FACTOR)
 }
 
-// Numbers for the facets of the cell, in their order: the sums of those of their points. A facet has the same number
-// in both of its cells, and hardly another has it.
-fn facets_of(cell: &Cell) -> [u64; 4] {
+// The upper half of the number.
+fn upper(number: u64) -> u32 {
+    (number >> 32) as u32
+}
+
+// Numbers for the facets of the cell, in their order: the upper halves of the sums of those of their points. A facet has
+// the same number in both of its cells, and hardly another has it.
+fn facets_of(cell: &Cell) -> [u32; 4] {
     match cell {
         Cell::Full(quad) => {
             let (a, b, c, d) = quad.corners();
             let (a, b, c, d) = (mixed(a), mixed(b), mixed(c), mixed(d));
             let (first, last) = (a.wrapping_add(b), c.wrapping_add(d));
             [
-                last.wrapping_add(b),
-                last.wrapping_add(a),
-                first.wrapping_add(d),
-                first.wrapping_add(c),
+                upper(last.wrapping_add(b)),
+                upper(last.wrapping_add(a)),
+                upper(first.wrapping_add(d)),
+                upper(first.wrapping_add(c)),
             ]
         }
         Cell::Open(tri) => {
@@ -109,10 +114,10 @@ fn facets_of(cell: &Cell) -> [u64; 4] {
             let (a, b, c) = (mixed(a), mixed(b), mixed(c));
             let first = a.wrapping_add(b);
             [
-                b.wrapping_add(c),
-                a.wrapping_add(c),
-                first,
-                first.wrapping_add(c),
+                upper(b.wrapping_add(c)),
+                upper(a.wrapping_add(c)),
+                upper(first),
+                upper(first.wrapping_add(c)),
             ]
         }
     }
@@ -121,7 +126,7 @@ fn facets_of(cell: &Cell) -> [u64; 4] {
 // A facet by its number, and the cell by which it was met, with its side: one that goes or one that comes.
 #[derive(Clone, Copy)]
 struct Met {
-    facet: u64,
+    facet: u32,
     cell: u32,
     side: u8,
     goes: bool,
@@ -129,7 +134,7 @@ struct Met {
 
 // In place of a facet.
 const EMPTY: Met = Met {
-    facet: u64::MAX,
+    facet: u32::MAX,
     cell: 0,
     side: 0,
     goes: false,
@@ -156,7 +161,7 @@ impl Table {
 
     // The cell by which the facet was met before. Else it was met by this one.
     fn meet(&mut self, met: Met) -> Option<Met> {
-        let first = first_entry(met.facet >> 32, self.count);
+        let first = first_entry(met.facet, self.count);
         for turn in 0..TURNS {
             let entry = self.entries.get_mut(first.saturating_add(turn))?;
             if entry.facet == met.facet {
@@ -182,7 +187,7 @@ impl Joined {
     }
 
     // Matches a facet of a cell that comes with the one that was met before.
-    fn join(&mut self, table: &mut Table, facet: u64, cell: u32, side: u8) {
+    fn join(&mut self, table: &mut Table, facet: u32, cell: u32, side: u8) {
         let goes = false;
         if let Some(met) = table.meet(Met {
             facet,
@@ -196,7 +201,7 @@ impl Joined {
     }
 
     // Adds a cell that comes.
-    fn add(&mut self, table: &mut Table, facets: [u64; 4]) -> Result<(), AllocError> {
+    fn add(&mut self, table: &mut Table, facets: [u32; 4]) -> Result<(), AllocError> {
         let cell = u32::try_from(self.sides.len()).unwrap_or(NONE);
         self.sides.push([Beside::Nothing; 4])?;
         let [a, b, c, d] = facets;
@@ -208,7 +213,7 @@ impl Joined {
     }
 
     // Matches a facet of a cell that goes with that of a cell that comes, or gives that of one that goes.
-    fn join_gone(&mut self, table: &mut Table, facet: u64, cell: u32, side: u8) -> Option<Side> {
+    fn join_gone(&mut self, table: &mut Table, facet: u32, cell: u32, side: u8) -> Option<Side> {
         let goes = true;
         let met = table.meet(Met {
             facet,
@@ -227,7 +232,7 @@ impl Joined {
     }
 
     // Adds a cell that goes.
-    fn add_gone(&mut self, table: &mut Table, facets: [u64; 4]) -> Result<(), AllocError> {
+    fn add_gone(&mut self, table: &mut Table, facets: [u32; 4]) -> Result<(), AllocError> {
         let cell = u32::try_from(self.before.len()).unwrap_or(NONE);
         let [a, b, c, d] = facets;
         let before = [

@@ -1,10 +1,11 @@
 //! Lists in order, each element once.
 
-ghost use Rattle.std.specs.Prelude.{◌≡◌, ◌↔◌, ℕ, false, IsTrue};
+ghost use Rattle.std.specs.Prelude.{◌≡◌, ◌↔◌, ◌<◌, ℕ, false, IsTrue};
 ghost use Rattle.point_order.specs.CellOrder.{cell_cmp, AreSameCells};
 ghost use Rattle.point_order.specs.Facets.{points_of};
 ghost use Rattle.point_order.specs.Sets.{IsIn, IsAscending, is_among};
-ghost use Rattle.cell_stars.specs.Swaps.{touches as touches_of, Differ};
+ghost use Rattle.cell_stars.specs.Swaps.{cell_rest, touches as touches_of, Differ};
+ghost use Rattle.cell_stars.specs.Moves.{AreCellsMarked};
 
 use crate::grid::Grid;
 use point_order::{Cell, Point, Quad, Tri, cells_in_order};
@@ -89,16 +90,43 @@ fn has_cell(list: &[Cell], cell: &Cell) -> bool
     false
 }
 
-// Whether no cell is there twice.
+// The rest of a division, by which most cells that differ are told apart.
+fn rest_of(cell: &Cell) -> usize
+    ensures rest { result ≡ cell_rest cell.now }
+    ensures below { cell_rest cell.now < 509 }
+{
+    let sum = match cell {
+        Cell::Full(quad) => {
+            let (a, b, c, d) = quad.corners();
+            a.key() + b.key() + c.key() + d.key()
+        }
+        Cell::Open(tri) => {
+            let (a, b, c) = tri.corners();
+            a.key() + b.key() + c.key()
+        }
+    };
+    (sum % 509) as usize
+}
+
+// Whether the cell is one of these, each of which has a mark at its rest.
+fn has_marked(list: &[Cell], marks: &[bool; 509], cell: &Cell) -> bool
+    requires { AreCellsMarked marks.now list.now }
+    ensures { result ≡ false → IsIn cell.now list.now → ⊥ }
+{
+    marks[rest_of(cell)] && has_cell(list, cell)
+}
+
+// Whether no cell is there twice. From behind, each is looked for among those behind it.
 pub(crate) fn do_differ(list: &[Cell]) -> bool
     ensures { IsTrue result → Differ list.now }
 {
-    let mut rest = list;
-    while let Some((first, others)) = rest.split_first() {
-        if has_cell(others, first) {
+    let mut marks = [false; 509];
+    for k in (0..list.len()).rev() {
+        let cell = &list[k];
+        if has_marked(&list[k + 1..], &marks, cell) {
             return false;
         }
-        rest = others;
+        marks[rest_of(cell)] = true;
     }
     true
 }

@@ -12,8 +12,6 @@ ghost use Rattle.cell_stars.specs.Moves.{AreKeysAfter, AreTouched, HasSameCells,
 
 use crate::cells::Cells;
 use crate::joins::{Joint, join};
-use crate::keys::keys_after;
-use crate::marks::Marks;
 use crate::matched::{Joined, Matched};
 use crate::moves::Moves;
 use crate::plan::{Around, PlacesPlan, Plan, StarsPlan};
@@ -218,7 +216,7 @@ fn spare_after(
 }
 
 // The marks of the numbers of these stars.
-fn marks_of_written(writes: &[(u32, Around)]) -> Marks {
+fn marks_of_written(writes: &[(u32, Around)]) -> [bool; 512] {
     let mut marks = [false; 512];
     for (n, _) in writes {
         marks[(*n % 512) as usize] = true;
@@ -227,7 +225,7 @@ fn marks_of_written(writes: &[(u32, Around)]) -> Marks {
 }
 
 // Whether the star with the number is one of these, which have these marks.
-fn is_written(writes: &[(u32, Around)], marks: &Marks, n: u32) -> bool {
+fn is_written(writes: &[(u32, Around)], marks: &[bool; 512], n: u32) -> bool {
     if !marks[(n % 512) as usize] {
         return false;
     }
@@ -292,7 +290,7 @@ impl Cells {
             n < length (or_else (option_map (λ v. v.items) plan.more) self.now.stars)) }
     {
         let stars = self.writes(alloc, moves, vertices)?;
-        let keys = keys_after(alloc, &self.keys, &stars)?;
+        let keys = self.keys_after(alloc, &stars)?;
         let end = behind_numbers(&stars);
         let more = grown_stars(alloc, &self.stars, &stars, end)?;
         let used_stars = self.used_stars.max(u32::try_from(end).unwrap_or(u32::MAX));

@@ -31,6 +31,7 @@ ghost use Rattle.cell_stars.specs.Moves.{
   AreTouched,
   AreNumbered,
   AreStarsAfter,
+  IsNumberFor,
   IsOwnNumber,
   IsSpare,
   IsRewriting,
@@ -58,7 +59,7 @@ fn is_spare(stars: &[Around], n: u32) -> bool
 }
 
 // Whether the star with the number is the vertex's and has a place.
-fn is_own(stars: &[Around], n: u32, p: Point) -> bool
+pub(crate) fn is_own(stars: &[Around], n: u32, p: Point) -> bool
     ensures { MatchBool result (((star_at stars.now n).0 ≡ p)
         × ((i : ℕ) × IsIn i (star_at stars.now n).1)) ((star_at stars.now n).0 ≡ p → (i : ℕ) →
         IsIn i (star_at stars.now n).1 → ⊥) }
@@ -256,20 +257,22 @@ impl Cells {
         Ok(turns)
     }
 
-    // The places that stay in the star of a vertex.
+    // The places that stay in the star of a vertex, whose number this is.
     fn staying(
         &self,
         alloc: Global,
+        n: u32,
         p: Point,
         freed: &[u32],
         marks: &Marks,
     ) -> Result<SmallVec<u32, 32>, AllocError>
         requires order { IsAscending freed.now }
         requires marks { AreMarked marks.now freed.now }
+        requires number { IsNumberFor self.now p n }
         ensures { IfOk result (λ list. (i : ℕ) → IsIn i list.items
             ↔ (IsStarred self.now.keys self.now.stars p i × (IsIn i freed.now → ⊥))) }
     {
-        let mut list = SmallVec::from_slice(alloc, self.star_of(p))?;
+        let mut list = SmallVec::from_slice(alloc, places_in(&self.stars, n, p))?;
         list.retain(|i| is_unmarked(freed, marks, *i));
         Ok(list)
     }
@@ -278,19 +281,21 @@ impl Cells {
     fn star_staying(
         &self,
         alloc: Global,
+        n: u32,
         p: Point,
         freed: &[u32],
         marks: &Marks,
     ) -> Result<Around, AllocError>
         requires order { IsAscending freed.now }
         requires marks { AreMarked marks.now freed.now }
+        requires number { IsNumberFor self.now p n }
         ensures vertex { IfOk result (λ star. star.0 ≡ p) }
         ensures places { IfOk result (λ star. (i : ℕ) → IsIn i star.1
             ↔ (IsStarred self.now.keys self.now.stars p i × (IsIn i freed.now → ⊥))) }
     {
         Ok(Around {
             vertex: p,
-            places: self.staying(alloc, p, freed, marks)?,
+            places: self.staying(alloc, n, p, freed, marks)?,
         })
     }
 
@@ -301,7 +306,8 @@ impl Cells {
         turns: &[(u32, Point)],
         freed: &[u32],
     ) -> Result<Vec<(u32, Around)>, AllocError>
-        requires { IsAscending freed.now }
+        requires order { IsAscending freed.now }
+        requires numbers { (n p : ℕ) → IsIn (n, p) turns.now → IsNumberFor self.now p n }
         ensures heads { IfOk result (λ writes. map head_of writes.items ≡ turns.now) }
         ensures stars { IfOk result (λ writes. (w : ℕ × (ℕ × List ℕ)) → IsIn w writes.items →
             IsStaying self.now freed.now w) }
@@ -309,7 +315,7 @@ impl Cells {
         let marks = marks_of(freed);
         let mut writes = Vec::with_capacity(alloc, turns.len())?;
         for (n, p) in turns {
-            writes.push((*n, self.star_staying(alloc, *p, freed, &marks)?))?;
+            writes.push((*n, self.star_staying(alloc, *n, *p, freed, &marks)?))?;
         }
         Ok(writes)
     }
@@ -324,6 +330,7 @@ impl Cells {
         requires order { IsAscending moves.now.freed.items }
         requires vertices { IsAscending (map (λ t. t.1) turns.now) }
         requires inside { (n p : ℕ) → IsIn (n, p) turns.now → lies_in self.now.place p ≡ true }
+        requires numbers { (n p : ℕ) → IsIn (n, p) turns.now → IsNumberFor self.now p n }
         ensures { IfOk result (λ writes. AreStarsAfter self.now moves.now.freed.items moves.now.placed.items turns.now
             writes.items) }
     {

@@ -1,9 +1,5 @@
-use Rattle.std.proofs.Common.{length}
-use Rattle.cell_stars.specs.Swaps.{Differ}
+use Rattle.cell_stars.proofs.Marked.{AreApartFrom}
 use Rattle.cell_stars.proofs.order.do_differ.Given as goal
 
-abbrev pub invariant-loop-first : goal.invariant-loop-first
-invariant-loop-first l = Differ l.rest → Differ l.list
-
-abbrev pub decreases-loop-first : goal.decreases-loop-first
-decreases-loop-first l = length l.rest
+abbrev pub invariant-loop-k : goal.invariant-loop-k
+invariant-loop-k l = AreApartFrom l.list l.k l.marks
