@@ -15,4 +15,5 @@ pub mod Planned
 pub mod Turned
 pub mod Rewritten
 pub mod Marked
+pub mod AtOnce
 pub mod Cited

@@ -7,3 +7,4 @@ pub mod Turns
 pub mod Moves
 pub mod Gathering
 pub mod Adding
+pub mod AtOnce

@@ -16,7 +16,9 @@
 #![tactic(auto)]
 
 mod adding;
+mod at_once;
 mod cells;
+mod doors;
 mod grid;
 mod guesses;
 mod joins;

@@ -135,7 +135,7 @@ fn numbers_for(
 }
 
 // A number of 32 bits for the point that depends on all of its bits.
-fn hash_of(p: Point) -> u64 {
+pub(crate) fn hash_of(p: Point) -> u64 {
     p.key().wrapping_mul(0x9E37_79B9_7F4A_7C15) >> 32
 }
 
