@@ -16,3 +16,4 @@ pub mod KeyLaws
 pub mod Cited
 pub mod BucketPoints
 pub mod Held
+pub mod WholeLaws

@@ -13,3 +13,4 @@ pub mod Ready
 pub mod Missing
 pub mod Touches
 pub mod Between
+pub mod Wholes

@@ -86,6 +86,23 @@ impl Bucket {
         }
     }
 
+    // A bucket of these points, which are to ascend, these cells and these entries.
+    pub(crate) fn of_parts(points: Vec<Point>, cells: Cells, entries: Vec<Entry>) -> Bucket
+        requires { IsAscending points.items }
+        ensures { content_of result ≡ record {
+          points = points.items;
+          cells = cells_of cells.slots;
+          entries = entries.items;
+          place = cells.place;
+        } }
+    {
+        Bucket {
+            points,
+            cells,
+            entries,
+        }
+    }
+
     /// The points, ascending.
     pub fn points(&self) -> &[Point]
         ensures points { result.now ≡ (content_of self.now).points }

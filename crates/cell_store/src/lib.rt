@@ -31,6 +31,7 @@ mod note;
 mod room;
 mod spot;
 mod star;
+mod whole;
 
 pub use bucket::Bucket;
 pub use cell_stars::{BadGrid, BucketCells, Grid, Star, StarCells, Steps};
