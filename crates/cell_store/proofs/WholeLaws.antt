@@ -46,7 +46,10 @@ use Rattle.point_order.specs.Facets.{points_of}
 use Rattle.point_order.specs.Sets.{IsIn, IsAscending}
 use Rattle.edit_history.specs.declared.history.Entry.{Entry}
 use Rattle.edit_history.specs.Edits.{point_of}
-use Rattle.edit_history.specs.Histories.{replay}
+use Rattle.point_order.specs.Solid.{is_solid}
+use Rattle.edit_history.specs.Histories.{IsLegal, replay}
+use Rattle.edit_history.proofs.Cited.{leaves_set}
+use Rattle.del_laws.specs.Keys.{AreKeys}
 use Rattle.del_laws.proofs.Cited.{complex_is_sorted}
 use Rattle.cell_store.specs.Buckets.{BucketContent, InHand, at_place, bucket_at, empty_hold}
 use Rattle.cell_store.specs.Grids.{bucket_of}
@@ -364,6 +367,16 @@ pub part_cells : (g b : ℕ) (h : List Entry) (cells : List Cell) (parts : Parts
     AreParts g b h cells parts → AreAt cells v.items (cells_share g b h)
 part_cells g b h cells parts v m e s =
     ap (map (slice_get cells)) (sym (at_vec parts.cells.items b v (let k = s.cells_count in let l = length_vec parts.cells.items in omega (arith, m, k, l)) e)) ∙ s.cells_are b (omega arith) m
+
+-- a legal history is sound, where what it leaves is a solid list of keys
+pub sound_by : (h : List Entry) (points : List ℕ) → IsLegal h → points ≡ replay h → is_solid points ≡ true → AreKeys points → IsSound h
+sound_by h points legal e solid keys = record {
+  legal = legal;
+  set = record {
+    set = record { ascending = leaves_set h; keys = subst AreKeys e keys };
+    solid = subst (λ (s : List ℕ). is_solid s ≡ true) e solid;
+  };
+}
 
 -- the lists of a share are in order
 pub share_ascends : (g b : ℕ) (h : List Entry) → IsSound h → IsAscending (points_share g b h)

@@ -28,7 +28,9 @@ ghost use Rattle.point_order.specs.Complex.{complex};
 ghost use Rattle.point_order.specs.Facets.{points_of};
 ghost use Rattle.point_order.specs.Sets.{IsIn, IsAscending};
 ghost use Rattle.edit_history.specs.declared.history.Entry.{Entry as EntryOf};
-ghost use Rattle.edit_history.specs.Histories.{replay};
+ghost use Rattle.point_order.specs.Solid.{is_solid};
+ghost use Rattle.edit_history.specs.Histories.{IsLegal, replay};
+ghost use Rattle.del_laws.specs.Keys.{AreKeys};
 ghost use Rattle.cell_store.specs.Buckets.{content_of};
 ghost use Rattle.cell_store.specs.Grids.{bucket_of as number_of};
 ghost use Rattle.cell_store.specs.Shares.{IsShare, IsSound};
@@ -241,6 +243,15 @@ impl Parts {
     }
 }
 
+// Reads each key, so that it is known to be one.
+fn read_keys(points: &[Point])
+    ensures { AreKeys points.now }
+{
+    for point in points {
+        let _ = point.key();
+    }
+}
+
 impl Mesh {
     /// The mesh of a history and of what it leaves: its points, ascending, and the cells of their complex, in order.
     /// The history is to be legal, and the points solid. No cell is looked for: for n cells and entries it takes about
@@ -255,14 +266,16 @@ impl Mesh {
         points: &[Point],
         cells: &[Cell],
     ) -> Result<Mesh, AllocError>
-        requires sound { IsSound entries.now }
+        requires legal { IsLegal entries.now }
         requires points { points.now ≡ replay entries.now }
-        requires cells { cells.now ≡ complex (replay entries.now) }
+        requires solid { is_solid points.now ≡ true }
+        requires cells { cells.now ≡ complex points.now }
         ensures { IfOk result (λ mesh. mesh ≡ record { grid = grid; history = entries.now }) }
     {
         if cells.len() >= u32::MAX as usize {
             return Err(AllocError);
         }
+        read_keys(points);
         let mut parts = Parts::of(alloc, grid, entries, points, cells)?;
         let mut hold = Hold::empty(alloc, grid)?;
         for b in 0..grid.count() {

@@ -1,19 +1,31 @@
 use Rattle.std.proofs.Common.{◌∙◌, ◌*◌, ◌<◌, ◌≤◌, ℕ, sym, ap, subst, inr, Some, arith, length, ◌≡◌, true}
+use Rattle.point_order.specs.Complex.{complex}
 use Rattle.cell_store.specs.Buckets.{content_of}
 use Rattle.cell_store.specs.Meshes.{MeshView}
 use Rattle.cell_store.specs.Grids.{is_grid_size}
 use Rattle.cell_store.proofs.MeshLaws.{mesh_is}
-use Rattle.cell_store.proofs.WholeLaws.{first_all, first_next, first_none}
+use Rattle.cell_store.proofs.WholeLaws.{first_all, first_next, first_none, sound_by}
 use Rattle.cell_store.proofs.mesh.Mesh.of_history.Goals as goal
 
+pub of-requires-clause-cells : goal.of-requires-clause-cells
+of-requires-clause-cells c = c.requires.cells ∙ ap complex c.requires.points
+
 pub loop-b-init : goal.loop-b-init
-loop-b-init c = (c.in_ok-parts.ensures, first_none c.args.grid c.args.entries.now c.in_ok-hold.hold c.in_ok-hold.ensures c.requires.sound)
+loop-b-init c = (
+  c.in_ok-parts.ensures,
+  first_none c.args.grid c.args.entries.now c.in_ok-hold.hold c.in_ok-hold.ensures
+      (sound_by c.args.entries.now c.args.points.now c.requires.legal c.requires.points c.requires.solid c.read_keys.ensures),
+)
 
 pub bucket-requires-clause-below : goal.bucket-requires-clause-below
 bucket-requires-clause-below c = subst (λ (n : ℕ). c.loop-b.b < n) c.count-b-end.ensures.value c.loop-b-test.true
 
 pub bucket-requires-clause-parts : goal.bucket-requires-clause-parts
-bucket-requires-clause-parts c = (c.args.entries.now, c.requires.sound, c.loop-b.invariant.0)
+bucket-requires-clause-parts c = (
+  c.args.entries.now,
+  sound_by c.args.entries.now c.args.points.now c.requires.legal c.requires.points c.requires.solid c.read_keys.ensures,
+  c.loop-b.invariant.0,
+)
 
 pub put-requires-clause-below : goal.put-requires-clause-below
 put-requires-clause-below c =
