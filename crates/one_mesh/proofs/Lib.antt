@@ -1,2 +1,4 @@
 pub mod Edited
 pub mod Gathering
+pub mod CloudLaws
+pub mod Cited

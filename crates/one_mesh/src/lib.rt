@@ -4,15 +4,18 @@
 //!
 //! ```
 //! let mut mesh = begin(alloc, Grid::new(4)?, [(0, a), (1, b), (2, c), (3, d)])?;  // four independent points with tags
+//! let cloud = begin_cloud(alloc, Grid::new(4)?, &points, find_four(&points)?)?;   // all of them at once, by their places
 //! let receipt = apply(alloc, &mut mesh, 4, Edit::Add(p))?;  // its number and its reply; less than 2^32 entries before
 //! let cells = complex(alloc, &mesh)?;                       // sorted
 //! ```
 #![tactic(auto)]
 
+mod clouds;
 mod edits;
 mod lists;
 mod opening;
 
+pub use clouds::begin_cloud;
 pub use edit_history::{NotSolid, Receipt, find_four};
 pub use edits::{apply, begin};
 pub use lists::{complex, history, points};
