@@ -8,8 +8,8 @@ ghost use Rattle.mesh_handle.specs.Handles.{HoldsPoints};
 
 use crate::handle::{MeshHandle, free};
 use cell_store::{Grid, Mesh};
-use insertion::mesh_of_points;
-use mesh_rows::{Place, Stop, are_solid, set_of};
+use mesh_rows::{Place, Stop, set_of};
+use one_mesh::{begin_cloud, find_four};
 use std::alloc::Global;
 
 // The grid of a size that a grid may have.
@@ -39,10 +39,13 @@ fn mesh_at(alloc: Global, given: &[Place]) -> Result<Mesh, Stop>
     ensures refused { IfErr result (λ stop. IsStop given.now stop) }
 {
     let points = set_of(alloc, given)?;
-    if !are_solid(&points) {
+    let Ok(four) = find_four(&points) else {
         return Err(Stop::Flat);
+    };
+    if points.len() > u32::MAX as usize {
+        return Err(Stop::Memory);
     }
-    let mesh = mesh_of_points(alloc, grid_for(points.len()), &points)?;
+    let mesh = begin_cloud(alloc, grid_for(points.len()), &points, four)?;
     Ok(mesh)
 }
 
