@@ -6,6 +6,7 @@ use Rattle.std.specs.Prelude.{
   ℤ,
   pos,
   negsuc,
+  unsigned_abs,
   ◌≤ℤ◌,
   ◌<ℤ◌,
   ◌<◌,
@@ -263,7 +264,7 @@ abbrev pub rank : ℕ → ℕ → ℕ
 rank q p = size (distance q p) * 2 ^ 42 + p
 
 -- no distance is negative
-not_negative : (q p : ℕ) → pos 0 ≤ℤ distance q p
+pub not_negative : (q p : ℕ) → pos 0 ≤ℤ distance q p
 unfolding distance square_of_step
 not_negative q p = omega (
   arith,
@@ -272,6 +273,11 @@ not_negative q p = omega (
   square_nonneg (y_from q p),
   square_nonneg (z_from q p),
 )
+
+-- a number that is not negative is its size
+pub size_is : (z : ℤ) → pos 0 ≤ℤ z → pos (unsigned_abs z) ≡ z
+size_is (pos n) h = refl
+size_is (negsuc n) h = absurd (let g : ⊥ = omega (arith, ints, h) in g)
 
 -- in numbers
 falls : (da db : ℤ) (a b : ℕ) → pos 0 ≤ℤ da → pos 0 ≤ℤ db → a < 2 ^ 42 → IsLower da db a b →

@@ -13,8 +13,12 @@
 //! ```
 #![tactic(auto)]
 
+mod answers;
 pub mod laws;
 mod search;
+mod texts;
 mod walk;
 
+pub use answers::{Near, nearest_to_each};
+pub use texts::put_near;
 pub use walk::{NearStart, NearTurn, NearWalk, nearest};

@@ -18,23 +18,24 @@ ghost use Rattle.near_vertex.specs.Turns.{HasNoPoint, IsLeastOfLowest, LeastIs};
 use cell_store::Hold;
 use point_order::{Cell, Point, Step};
 
-// How many points of a bucket are looked at for one that is near.
-const LOOKS: usize = 128;
+// How many points of a bucket are looked at for one that is near, on each side of its place in the order of keys.
+const LOOKS: usize = 256;
 
 // The square of the distance of a point from q.
-fn square_from(q: Point, a: Point) -> i64
+pub(crate) fn square_from(q: Point, a: Point) -> i64
     ensures value { result ≡ distance q a }
     ensures bound { IsWithin greatest_square result }
 {
     Step::between(q, a).square()
 }
 
-// Whether a comes before b, as seen from q: it is nearer, or as near with the lesser key.
-fn comes_before(q: Point, a: Point, b: Point) -> bool
-    ensures { result ≡ is_first q a b }
+// Whether a comes before b, as seen from a place from which the squares of their distances are these: it is nearer, or
+// as near with the lesser key.
+fn comes_before(near: i64, a: Point, far: i64, b: Point) -> bool
+    requires near_bound { IsWithin greatest_square near }
+    requires far_bound { IsWithin greatest_square far }
+    ensures { (q : ℕ) → near ≡ distance q a → far ≡ distance q b → result ≡ is_first q a b }
 {
-    let near = square_from(q, a);
-    let far = square_from(q, b);
     near < far || (!(far < near) && a < b)
 }
 
@@ -43,9 +44,12 @@ fn first_of(q: Point, p: Point, cell: &Cell) -> Point
     ensures { IsFirstOf q (p ∷ points_of cell.now) result }
 {
     let mut first = p;
+    let mut least = square_from(q, p);
     for x in cell.points() {
-        if comes_before(q, *x, first) {
+        let square = square_from(q, *x);
+        if comes_before(square, *x, least, first) {
             first = *x;
+            least = square;
         }
     }
     first
@@ -104,32 +108,79 @@ fn least_in(hold: &Hold, b: u32) -> Option<Point>
     hold.bucket(b).points().first().copied()
 }
 
-// A point of the list that lies near, if it has any.
+// The place of the list at which the looks for a near point begin: that of q in the order of keys.
+fn place_of(points: &[Point], q: Point) -> usize {
+    match points.binary_search(&q) {
+        Ok(place) => place,
+        Err(place) => place,
+    }
+}
+
+// Whether the point lies farther from q along the first axis alone.
+fn is_far(q: Point, p: Point, square: i64) -> bool {
+    let gap = p.x() - q.x();
+    gap.saturating_mul(gap) > square
+}
+
+// The nearest of a point of the list and some of those from a place on, or of those below it. Points that ascend go by
+// their first coordinate first, so no more are looked at where one lies too far along that axis alone.
+fn nearer(points: &[Point], q: Point, near: Point, place: usize, up: bool) -> Point
+    requires { IsIn near points.now }
+    ensures { IsIn result points.now }
+{
+    let mut near = near;
+    let mut least = square_from(q, near);
+    for look in 0..LOOKS {
+        let at = if up {
+            place.wrapping_add(look)
+        } else {
+            place.wrapping_sub(look + 1)
+        };
+        let Some(p) = points.get(at) else {
+            return near;
+        };
+        if is_far(q, *p, least) {
+            return near;
+        }
+        let square = square_from(q, *p);
+        if square < least {
+            least = square;
+            near = *p;
+        }
+    }
+    near
+}
+
+// A point of the list that lies near; none where it has none. Which ones are looked at only makes the walk short.
 fn near_in(points: &[Point], q: Point) -> Option<Point>
     ensures { IfSome result (λ p. IsIn p points.now) }
 {
-    let (first, _) = points.split_first()?;
-    let mut best = *first;
-    let stride = points.len() / LOOKS + 1;
-    let mut i = stride;
-    while i < points.len() {
-        if comes_before(q, points[i], best) {
-            best = points[i];
-        }
-        i += stride;
-    }
-    Some(best)
+    let first = *points.first()?;
+    let place = place_of(points, q);
+    let above = nearer(points, q, first, place, true);
+    Some(nearer(points, q, above, place, false))
 }
 
-// A point of the set, to begin with: one that lies near in the bucket of the place, or the least of the lowest bucket.
+// A point of the bucket that lies near, if it is in hand and has one.
+fn near_in_bucket(hold: &Hold, b: u32, q: Point) -> Option<Point>
+    ensures { (s : List ℕ) → Shows hold.now s → IfSome result (λ p. IsIn p s) }
+{
+    if !hold.has(b) {
+        return None;
+    }
+    near_in(hold.bucket(b).points(), q)
+}
+
+// A point of the set, to begin with: one that lies near in the bucket of the place, or in the next one that has any.
 pub(crate) fn some_point(hold: &Hold, q: Point) -> Point
     requires shown { ShowsSome hold.now }
     requires whole { IsWhole hold.now }
     ensures { (s : List ℕ) → Shows hold.now s → IsIn result s }
 {
-    let b = hold.grid().bucket_of(q);
-    if hold.has(b) {
-        if let Some(p) = near_in(hold.bucket(b).points(), q) {
+    let count = hold.grid().count();
+    let first = hold.grid().bucket_of(q);
+    for steps in 0..count {
+        if let Some(p) = near_in_bucket(hold, (first + steps) % count, q) {
             return p;
         }
     }

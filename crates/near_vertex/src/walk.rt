@@ -88,8 +88,8 @@ impl NearWalk {
 
 /// The nearest point to a place, among those as near the one with the least key. Every bucket is to be in hand.
 ///
-/// It begins at a point that lies near, in the bucket of the place, if this has any; that only makes the walk short.
-/// It takes no memory.
+/// It begins at a point that lies near, in the bucket of the place or the next one that has any; that only makes the
+/// walk short. It takes no memory.
 pub fn nearest(hold: &Hold, q: Point) -> Point
     requires shown { ShowsSome hold.now }
     requires whole { IsWhole hold.now }

@@ -69,21 +69,18 @@ beyond {x} {y} {d} {e} q f g t u = go (lt_z d e) (lt_z e d) (sym (both f g) ∙ 
     go false false e f = cc
 
 pub returns-then-near-far : goal.returns-then-near-far
-returns-then-near-far c =
-    nearer (not (lt_z (distance c.args.q c.args.b) (distance c.args.q c.args.a)) && nat_lt c.args.a c.args.b)
-    (again c.square_from-near.ensures.bound c.square_from-near.ensures.value)
-    (again c.square_from-far.ensures.bound c.square_from-far.ensures.value) c.if-near-far.true
+returns-then-near-far c q e f =
+    nearer (not (lt_z (distance q c.args.b) (distance q c.args.a)) && nat_lt c.args.a c.args.b)
+    (again c.requires.near_bound e) (again c.requires.far_bound f) c.if-near-far.true
 
 pub returns-then-not-far-near : goal.returns-then-not-far-near
-returns-then-not-far-near c =
+returns-then-not-far-near c q e f =
     c.lt.ensures ∙ lt_is c.args.a c.args.b
-    ∙ farther (nat_lt c.args.a c.args.b) (again c.square_from-near.ensures.bound c.square_from-near.ensures.value)
-    (again c.square_from-far.ensures.bound c.square_from-far.ensures.value) c.if-near-far.false
-    c.if-not-far-near.true
+    ∙ farther (nat_lt c.args.a c.args.b) (again c.requires.near_bound e) (again c.requires.far_bound f)
+    c.if-near-far.false c.if-not-far-near.true
 
 pub returns-else-not-far-near : goal.returns-else-not-far-near
-returns-else-not-far-near c =
+returns-else-not-far-near c q e f =
     ap not c.if-not-far-near.false
-    ∙ beyond (nat_lt c.args.a c.args.b) (again c.square_from-near.ensures.bound c.square_from-near.ensures.value)
-    (again c.square_from-far.ensures.bound c.square_from-far.ensures.value) c.if-near-far.false
-    c.if-not-far-near.false
+    ∙ beyond (nat_lt c.args.a c.args.b) (again c.requires.near_bound e) (again c.requires.far_bound f)
+    c.if-near-far.false c.if-not-far-near.false

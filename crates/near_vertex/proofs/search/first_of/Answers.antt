@@ -1,23 +1,46 @@
-use Rattle.std.proofs.Common.{ℕ, ◌∷◌, ◌+◌, ◌∙◌, sym, subst, take, List}
+use Rattle.std.proofs.Common.{◌≡◌, ℕ, ℤ, ◌∷◌, ◌+◌, ◌∙◌, ap, sym, subst, take, List, w64, to_z, of_z, lit<}
+use Rattle.whole_ring.specs.Bounds.{IsWithin}
+use Rattle.whole_ring.proofs.Cited.{read, within_fits}
+use Rattle.point_order.specs.Orientation.{distance}
+use Rattle.point_order.specs.Sizes.{greatest_square}
 use Rattle.near_vertex.specs.Points.{IsFirstOf}
 use Rattle.near_vertex.proofs.Order.{one_first, one_later}
 use Rattle.near_vertex.proofs.search.first_of.Goals.{then-comes_before, else-comes_before}
 use Rattle.near_vertex.proofs.search.first_of.Goals as goal
+
+-- a square of that size is read again as itself
+again : {x : ℤ} → IsWithin greatest_square x → to_z w64 (of_z w64 x) ≡ x
+again h = read (within_fits w64 h (lit< tt))
 
 pub loop-x-preserved : goal.loop-x-preserved
 loop-x-preserved c =
     let q = c.args.q in
     let i = c.loop-x.x-index in
     let l = c.points-x-items.result.now in
+    let square = c.square_from-square.ensures in
+    let test = c.comes_before.ensures q (again square.bound ∙ square.value) c.loop-x.invariant.1 in
     let k = subst (λ (m : List ℕ). IsFirstOf q (c.args.p ∷ take i m) c.loop-x.first)
-    (sym c.points-x-items.ensures.points) c.loop-x.invariant in
-    subst (λ (m : List ℕ). IsFirstOf q (c.args.p ∷ take (i + 1) m) c.if-comes_before.first)
-    c.points-x-items.ensures.points
-    (elim c.if-comes_before.branch [
-      | then-comes_before w ↦ subst (IsFirstOf q (c.args.p ∷ take (i + 1) l)) (sym w.first-is)
-          (one_first q c.args.p l i c.x-item.result c.loop-x.first c.loop-x-test.true c.x-item.is k
-          (sym c.comes_before.ensures ∙ w.if-comes_before.true))
-      | else-comes_before w ↦ subst (IsFirstOf q (c.args.p ∷ take (i + 1) l)) (sym w.first-is)
-          (one_later q c.args.p l i c.x-item.result c.loop-x.first c.loop-x-test.true c.x-item.is k
-          (sym c.comes_before.ensures ∙ w.if-comes_before.false))
-    ])
+    (sym c.points-x-items.ensures.points) c.loop-x.invariant.0 in
+    let joined : IsFirstOf q (c.args.p ∷ take (i + 1) l) c.if-comes_before.first
+    × (to_z w64 c.if-comes_before.least-bits ≡ distance q c.if-comes_before.first)
+    × IsWithin greatest_square (to_z w64 c.if-comes_before.least-bits) = elim c.if-comes_before.branch [
+      | then-comes_before w ↦ (
+        subst (IsFirstOf q (c.args.p ∷ take (i + 1) l)) (sym w.first-is)
+            (one_first q c.args.p l i c.x-item.result c.loop-x.first c.loop-x-test.true c.x-item.is k
+            (sym test ∙ w.if-comes_before.true)),
+        w.least-is ∙ again square.bound ∙ square.value ∙ ap (distance q) (sym w.first-is),
+        subst (IsWithin greatest_square) (sym (w.least-is ∙ again square.bound)) square.bound,
+      )
+      | else-comes_before w ↦ (
+        subst (IsFirstOf q (c.args.p ∷ take (i + 1) l)) (sym w.first-is)
+            (one_later q c.args.p l i c.x-item.result c.loop-x.first c.loop-x-test.true c.x-item.is k
+            (sym test ∙ w.if-comes_before.false)),
+        w.least-is ∙ c.loop-x.invariant.1 ∙ ap (distance q) (sym w.first-is),
+        subst (IsWithin greatest_square) (sym w.least-is) c.loop-x.invariant.2,
+      )
+    ] in (
+      subst (λ (m : List ℕ). IsFirstOf q (c.args.p ∷ take (i + 1) m) c.if-comes_before.first)
+          c.points-x-items.ensures.points joined.0,
+      joined.1,
+      joined.2,
+    )

@@ -1,14 +1,9 @@
-use Rattle.std.proofs.Common.{refl, subst, List, ℕ}
-use Rattle.point_order.specs.Sets.{IsIn}
-use Rattle.cell_store.specs.Buckets.{content_of}
-use Rattle.near_vertex.proofs.Starts.{from_bucket, some_point_held, start_is_walk}
+use Rattle.std.proofs.Common.{refl}
+use Rattle.near_vertex.proofs.Starts.{some_point_held, start_is_walk}
 use Rattle.near_vertex.proofs.search.some_point.Goals as goal
 
 pub returns-in-Some : goal.returns-in-Some
-returns-in-Some c s st =
-    from_bucket c.args.hold.now s c.bucket_of-b.result c.in-Some.p (content_of c.bucket.result.now) st
-    c.bucket.ensures.bucket
-    (subst (λ (l : List ℕ). IsIn c.in-Some.p l) c.points.ensures.points c.in-Some.ensures)
+returns-in-Some c s st = c.in-Some.ensures s st
 
 pub unreachable-requires : goal.unreachable-requires
 unreachable-requires c =

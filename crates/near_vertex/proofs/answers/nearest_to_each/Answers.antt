@@ -1,0 +1,16 @@
+use Rattle.std.proofs.Common.{◌++◌, ◌∷◌, [], sym, subst, List, ℕ, take}
+use Rattle.list_laws.proofs.Cited.{take_next, zip_push}
+use Rattle.near_vertex.specs.declared.answers.Near.{Near}
+use Rattle.near_vertex.specs.Answers.{AreNear, IsNear}
+use Rattle.near_vertex.proofs.answers.nearest_to_each.Goals as goal
+
+pub loop-q-preserved : goal.loop-q-preserved
+loop-q-preserved c s st =
+    let queries = c.args.queries.now in
+    let q = c.q-item.result in
+    let more = zip_push (IsNear s) (take c.loop-q.q-index queries) c.loop-q.nears.items q c.answer_to.result
+    (c.loop-q.invariant s st) (c.answer_to.ensures s st) in
+    subst (λ (l : List ℕ). AreNear s l c.push.new.self.items)
+    (sym (take_next queries c.loop-q.q-index q c.loop-q-test.true c.q-item.is))
+    (subst (λ (l : List Near). AreNear s (take c.loop-q.q-index queries ++ q ∷ []) l)
+    (sym c.in_ok-push.ensures.items) more)
