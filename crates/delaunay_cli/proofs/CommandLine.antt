@@ -55,6 +55,7 @@ use Rattle.delaunay_cli.specs.Words.{
   AreCheck,
   AreMesh,
   AreMeshOrder,
+  AreNear,
   AreShape,
   AreParts,
   AreShapeOrder,
@@ -71,6 +72,7 @@ use Rattle.delaunay_cli.specs.Words.{
   asked_most,
   asks_check,
   asks_drawn,
+  asks_near,
   asks_order,
   asks_parts,
   asks_shape,
@@ -97,7 +99,7 @@ use Rattle.delaunay_cli.specs.declared.task.Asked.{Asked}
 use Rattle.delaunay_cli.specs.declared.task.Drawn.{Drawn}
 use Rattle.delaunay_cli.specs.declared.task.Making.{Making}
 use Rattle.delaunay_cli.specs.declared.task.Task.{Task}
-use Rattle.delaunay_cli.specs.declared.task.Task.TheVariants.{Report, Step, Part, Check, Draw}
+use Rattle.delaunay_cli.specs.declared.task.Task.TheVariants.{Report, Step, Part, Query, Check, Draw}
 use Rattle.delaunay_cli.specs.declared.task.Wanted.{Wanted}
 
 program_is_simple_and_free : is_simple_and_free program ≡ true
@@ -109,9 +111,9 @@ unfolding clap_on_literals
 program_is_simple = refl
 
 -- what words are found to be: with no fault, `shape` or not, with `--order` or not, one worker, a grid of 4, neither
--- `gen` nor `check`, and `steps` or not, and `parts` or not
-abbrev AreFound : List Text → Bool → Bool → Bool → Bool → Type 0
-AreFound words shape order steps parts =
+-- `gen` nor `check`, and `steps` or not, `parts` or not, and `near` or not
+abbrev AreFound : List Text → Bool → Bool → Bool → Bool → Bool → Type 0
+AreFound words shape order steps parts near =
     (fault_of program words ≡ []) × (is_command (codes "shape") (subcommand_of program words) ≡ shape) ×
     (has_flag (codes "order") (subcommand_of program words) ≡ order)
     × (number_of (codes "workers") 1 most_workers (subcommand_of program words) ≡ 1) ×
@@ -119,31 +121,36 @@ AreFound words shape order steps parts =
     × (is_command (codes "gen") (subcommand_of program words) ≡ false)
     × (is_command (codes "check") (subcommand_of program words) ≡ false) ×
     (is_command (codes "steps") (subcommand_of program words) ≡ steps) ×
-    (is_command (codes "parts") (subcommand_of program words) ≡ parts)
+    (is_command (codes "parts") (subcommand_of program words) ≡ parts) ×
+    (is_command (codes "near") (subcommand_of program words) ≡ near)
 
-mesh_found : (name : Text) → AreFound (name ∷ codes "mesh" ∷ []) false false false false
+mesh_found : (name : Text) → AreFound (name ∷ codes "mesh" ∷ []) false false false false false
 unfolding clap_on_literals
-mesh_found name = (refl, refl, refl, refl, refl, refl, refl, refl, refl)
+mesh_found name = (refl, refl, refl, refl, refl, refl, refl, refl, refl, refl)
 
-mesh_order_found : (name : Text) → AreFound (name ∷ codes "mesh" ∷ codes "--order" ∷ []) false true false false
+mesh_order_found : (name : Text) → AreFound (name ∷ codes "mesh" ∷ codes "--order" ∷ []) false true false false false
 unfolding clap_on_literals
-mesh_order_found name = (refl, refl, refl, refl, refl, refl, refl, refl, refl)
+mesh_order_found name = (refl, refl, refl, refl, refl, refl, refl, refl, refl, refl)
 
-shape_found : (name : Text) → AreFound (name ∷ codes "shape" ∷ []) true false false false
+shape_found : (name : Text) → AreFound (name ∷ codes "shape" ∷ []) true false false false false
 unfolding clap_on_literals
-shape_found name = (refl, refl, refl, refl, refl, refl, refl, refl, refl)
+shape_found name = (refl, refl, refl, refl, refl, refl, refl, refl, refl, refl)
 
-shape_order_found : (name : Text) → AreFound (name ∷ codes "shape" ∷ codes "--order" ∷ []) true true false false
+shape_order_found : (name : Text) → AreFound (name ∷ codes "shape" ∷ codes "--order" ∷ []) true true false false false
 unfolding clap_on_literals
-shape_order_found name = (refl, refl, refl, refl, refl, refl, refl, refl, refl)
+shape_order_found name = (refl, refl, refl, refl, refl, refl, refl, refl, refl, refl)
 
-steps_found : (name : Text) → AreFound (name ∷ codes "steps" ∷ []) false false true false
+steps_found : (name : Text) → AreFound (name ∷ codes "steps" ∷ []) false false true false false
 unfolding clap_on_literals
-steps_found name = (refl, refl, refl, refl, refl, refl, refl, refl, refl)
+steps_found name = (refl, refl, refl, refl, refl, refl, refl, refl, refl, refl)
 
-parts_found : (name : Text) → AreFound (name ∷ codes "parts" ∷ []) false false false true
+parts_found : (name : Text) → AreFound (name ∷ codes "parts" ∷ []) false false false true false
 unfolding clap_on_literals
-parts_found name = (refl, refl, refl, refl, refl, refl, refl, refl, refl)
+parts_found name = (refl, refl, refl, refl, refl, refl, refl, refl, refl, refl)
+
+near_found : (name : Text) → AreFound (name ∷ codes "near" ∷ []) false false false false true
+unfolding clap_on_literals
+near_found name = (refl, refl, refl, refl, refl, refl, refl, refl, refl, refl)
 
 -- the defaults of the options of `parts`
 abbrev HasDefaults : List Text → Type 0
@@ -157,38 +164,42 @@ unfolding clap_on_literals
 parts_defaults name = (refl, refl, refl)
 
 -- so they are taken, ask for these and for the defaults, and read a file
-abbrev AreAsked : List (String Global) → Bool → Bool → Bool → Bool → Type 0
-AreAsked words shape order steps parts =
+abbrev AreAsked : List (String Global) → Bool → Bool → Bool → Bool → Bool → Type 0
+AreAsked words shape order steps parts near =
     (AreTaken words × (asks_shape words ≡ shape) × (asks_order words ≡ order)) ×
     ((worker_count words ≡ 1) × (grid_size words ≡ 4)) × ReadsFile words × (asks_steps words ≡ steps)
-    × (asks_parts words ≡ parts)
+    × (asks_parts words ≡ parts) × (asks_near words ≡ near)
 
-asked : (words : List (String Global)) (texts : List Text) (shape order steps parts : Bool) → texts_of words ≡ texts →
-    AreFound texts shape order steps parts → AreAsked words shape order steps parts
-unfolding AreTaken asks_order asks_shape asks_drawn asks_check asks_steps asks_parts worker_count grid_size
-asked words texts shape order steps parts e found =
-    let f = subst (λ (w : List Text). AreFound w shape order steps parts) (sym e) found in
-    (((f.0, ap is_grid_size f.4), f.1, f.2), (f.3, f.4), (f.5, f.6), f.7, f.8)
+asked : (words : List (String Global)) (texts : List Text) (shape order steps parts near : Bool) →
+    texts_of words ≡ texts → AreFound texts shape order steps parts near → AreAsked words shape order steps parts near
+unfolding AreTaken asks_order asks_shape asks_drawn asks_check asks_steps asks_parts asks_near worker_count grid_size
+asked words texts shape order steps parts near e found =
+    let f = subst (λ (w : List Text). AreFound w shape order steps parts near) (sym e) found in
+    (((f.0, ap is_grid_size f.4), f.1, f.2), (f.3, f.4), (f.5, f.6), f.7, f.8, f.9)
 
-pub mesh_words : (words : List (String Global)) → AreMesh words → AreAsked words false false false false
-mesh_words words m = asked words (m.0 ∷ codes "mesh" ∷ []) false false false false m.1 (mesh_found m.0)
+pub mesh_words : (words : List (String Global)) → AreMesh words → AreAsked words false false false false false
+mesh_words words m = asked words (m.0 ∷ codes "mesh" ∷ []) false false false false false m.1 (mesh_found m.0)
 
-pub mesh_order_words : (words : List (String Global)) → AreMeshOrder words → AreAsked words false true false false
-mesh_order_words words m = asked words (m.0 ∷ codes "mesh" ∷ codes "--order" ∷ []) false true false false m.1
+pub mesh_order_words : (words : List (String Global)) → AreMeshOrder words → AreAsked words false true false false false
+mesh_order_words words m = asked words (m.0 ∷ codes "mesh" ∷ codes "--order" ∷ []) false true false false false m.1
     (mesh_order_found m.0)
 
-pub shape_words : (words : List (String Global)) → AreShape words → AreAsked words true false false false
-shape_words words m = asked words (m.0 ∷ codes "shape" ∷ []) true false false false m.1 (shape_found m.0)
+pub shape_words : (words : List (String Global)) → AreShape words → AreAsked words true false false false false
+shape_words words m = asked words (m.0 ∷ codes "shape" ∷ []) true false false false false m.1 (shape_found m.0)
 
-pub shape_order_words : (words : List (String Global)) → AreShapeOrder words → AreAsked words true true false false
-shape_order_words words m = asked words (m.0 ∷ codes "shape" ∷ codes "--order" ∷ []) true true false false m.1
+pub shape_order_words : (words : List (String Global)) → AreShapeOrder words →
+    AreAsked words true true false false false
+shape_order_words words m = asked words (m.0 ∷ codes "shape" ∷ codes "--order" ∷ []) true true false false false m.1
     (shape_order_found m.0)
 
-pub steps_words : (words : List (String Global)) → AreSteps words → AreAsked words false false true false
-steps_words words m = asked words (m.0 ∷ codes "steps" ∷ []) false false true false m.1 (steps_found m.0)
+pub steps_words : (words : List (String Global)) → AreSteps words → AreAsked words false false true false false
+steps_words words m = asked words (m.0 ∷ codes "steps" ∷ []) false false true false false m.1 (steps_found m.0)
 
-pub parts_words : (words : List (String Global)) → AreParts words → AreAsked words false false false true
-parts_words words m = asked words (m.0 ∷ codes "parts" ∷ []) false false false true m.1 (parts_found m.0)
+pub parts_words : (words : List (String Global)) → AreParts words → AreAsked words false false false true false
+parts_words words m = asked words (m.0 ∷ codes "parts" ∷ []) false false false true false m.1 (parts_found m.0)
+
+pub near_words : (words : List (String Global)) → AreNear words → AreAsked words false false false false true
+near_words words m = asked words (m.0 ∷ codes "near" ∷ []) false false false false true m.1 (near_found m.0)
 
 -- what `parts` alone asks for
 pub parts_asked : (words : List (String Global)) → AreParts words →
@@ -218,11 +229,11 @@ check_words words m =
 pub default_words : (words : List (String Global)) → AreMesh words ⊎ AreMeshOrder words ⊎ AreShape words ⊎
     AreShapeOrder words
     → ((worker_count words ≡ 1) × (grid_size words ≡ 4)) × ReadsFile words × (asks_steps words ≡ false)
-    × (asks_parts words ≡ false)
-default_words words (inl m) = let a = mesh_words words m in (a.1, a.2, a.3, a.4)
-default_words words (inr (inl m)) = let a = mesh_order_words words m in (a.1, a.2, a.3, a.4)
-default_words words (inr (inr (inl m))) = let a = shape_words words m in (a.1, a.2, a.3, a.4)
-default_words words (inr (inr (inr m))) = let a = shape_order_words words m in (a.1, a.2, a.3, a.4)
+    × (asks_parts words ≡ false) × (asks_near words ≡ false)
+default_words words (inl m) = let a = mesh_words words m in (a.1, a.2, a.3, a.4, a.5)
+default_words words (inr (inl m)) = let a = mesh_order_words words m in (a.1, a.2, a.3, a.4, a.5)
+default_words words (inr (inr (inl m))) = let a = shape_words words m in (a.1, a.2, a.3, a.4, a.5)
+default_words words (inr (inr (inr m))) = let a = shape_order_words words m in (a.1, a.2, a.3, a.4, a.5)
 
 -- what a parse met is what the words name
 pub met_is : (a : App) (words : List (String Global)) (met : Option (Text × List Row)) → a ≡ program →
@@ -334,10 +345,10 @@ number_not_read text least most small none = by (is_unsigned_in least most text)
 -- ---- the task and the words
 
 pub reads_file : (words : List (String Global)) (making : Making) (asked : Asked) → IsTask words (Report making asked) →
-    ReadsFile words × (asks_steps words ≡ false) × (asks_parts words ≡ false) × (asked.shape ≡ asks_shape words) ×
-    (asked.order ≡ asks_order words) × (making.workers ≡ worker_count words)
-unfolding asks_drawn asks_check asks_steps asks_parts asks_shape asks_order worker_count
-reads_file words making asked k = (k.1, k.2, k.3, k.4, k.5, k.0.workers)
+    ReadsFile words × (asks_steps words ≡ false) × (asks_parts words ≡ false) × (asks_near words ≡ false) ×
+    (asked.shape ≡ asks_shape words) × (asked.order ≡ asks_order words) × (making.workers ≡ worker_count words)
+unfolding asks_drawn asks_check asks_steps asks_parts asks_near asks_shape asks_order worker_count
+reads_file words making asked k = (k.1, k.2, k.3, k.4, k.5, k.6, k.0.workers)
 
 pub steps_file : (words : List (String Global)) (making : Making) → IsTask words (Step making) → ReadsFile words ×
     (asks_steps words ≡ true) × (making.workers ≡ worker_count words)
@@ -350,6 +361,12 @@ pub parts_file : (words : List (String Global)) (making : Making) (wanted : Want
     (wanted.most ≡ asked_most words) × (wanted.off ≡ asked_index words) × (making.workers ≡ worker_count words)
 unfolding asks_drawn asks_check asks_steps asks_parts asked_alpha asked_most asked_index worker_count
 parts_file words making wanted k = (k.1, k.2, k.3, k.4, k.5, k.6, k.0.workers)
+
+pub near_file : (words : List (String Global)) (making : Making) → IsTask words (Query making) →
+    ReadsFile words × (asks_steps words ≡ false) × (asks_parts words ≡ false) × (asks_near words ≡ true) ×
+    (making.workers ≡ worker_count words)
+unfolding asks_drawn asks_check asks_steps asks_parts asks_near worker_count
+near_file words making k = (k.1, k.2, k.3, k.4, k.0.workers)
 
 pub check_mesh : (words : List (String Global)) → IsTask words Check → ReadsSource words × (asks_check words ≡ true)
 unfolding asks_drawn asks_check

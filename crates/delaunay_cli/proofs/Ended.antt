@@ -53,13 +53,14 @@ use Rattle.delaunay_cli.specs.declared.task.Asked.{Asked}
 use Rattle.delaunay_cli.specs.declared.task.Drawn.{Drawn}
 use Rattle.delaunay_cli.specs.declared.task.Making.{Making}
 use Rattle.delaunay_cli.specs.declared.task.Wanted.{Wanted}
-use Rattle.delaunay_cli.specs.declared.task.Task.TheVariants.{Report, Step, Part, Check, Draw}
+use Rattle.delaunay_cli.specs.declared.task.Task.TheVariants.{Report, Step, Part, Query, Check, Draw}
 use Rattle.delaunay_cli.specs.Checked.{IsChecked, IsUnchecked, TellsVerdict}
 use Rattle.delaunay_cli.specs.Commands.{Makes, MakesNone, Promise}
 use Rattle.delaunay_cli.specs.Ends.{Ends, IsMade, IsPut, IsUnmade}
 use Rattle.delaunay_cli.specs.Page.{IsSound, text_of_page}
 use Rattle.delaunay_cli.specs.Files.{FileEnds, HasNoMesh, IsOfFile, IsVerdict}
 use Rattle.delaunay_cli.specs.Parted.{IsParted, IsPartedFile, PartEnds, TellsParts}
+use Rattle.delaunay_cli.specs.Queried.{IsQueried, IsQueriedFile}
 use Rattle.delaunay_cli.specs.Reported.{IsReported}
 use Rattle.delaunay_cli.specs.Stepped.{IsStepped, IsSteppedFile}
 use Rattle.delaunay_cli.specs.Run.{Reads, ReadsTo, input_limit, limit_of, mesh_limit}
@@ -72,11 +73,13 @@ use Rattle.delaunay_cli.specs.Words.{
   Draws,
   Kind,
   Parts,
+  Queries,
   ReadsFile,
   ReadsMesh,
   ReadsSource,
   Reports,
   Steps,
+  WritesNear,
   WritesParts,
   WritesReport,
   WritesSteps,
@@ -85,6 +88,7 @@ use Rattle.delaunay_cli.specs.Words.{
   asked_most,
   asks_check,
   asks_drawn,
+  asks_near,
   asks_order,
   asks_parts,
   asks_shape,
@@ -97,8 +101,9 @@ use Rattle.delaunay_cli.specs.Tasks.{IsTask}
 use Rattle.delaunay_cli.specs.Report.{text_of}
 use Rattle.delaunay_cli.proofs.ChecksEnded.{check_early, check_made, check_unmade, status_unchecked}
 use Rattle.delaunay_cli.proofs.DrawnFiles.{drawn_asked}
+use Rattle.delaunay_cli.proofs.Judging.{reads_front}
 use Rattle.delaunay_cli.proofs.TextStatuses.{early_only, has_text, no_other, stopped_only, whole_only}
-use Rattle.delaunay_cli.proofs.CommandLine.{check_mesh, draws_file, parts_file, reads_file, steps_file}
+use Rattle.delaunay_cli.proofs.CommandLine.{check_mesh, draws_file, near_file, parts_file, reads_file, steps_file}
 
 -- of bytes of which a text is made, none of the statuses 5, 6 and 7 comes
 verdict_made : (status workers : ℕ) (h : List Entry) (P : Content → Type 0) (bytes : List ℕ) → HasText status →
@@ -306,6 +311,8 @@ promise_made Steps words left late h text m status s = file_made (worker_count w
     (λ file. IsStepped (replay h) text) left status m.1 (plain_end status late text m.0 s)
 promise_made Parts words left late h text m status s = part_made (worker_count words) (asked_alpha words)
     (asked_most words) (asked_index words) left late h text m.0 m.1 status s
+promise_made Queries words left late h text m status s = file_made (worker_count words) h
+    (λ file. IsQueried (replay h) file.queries text) left status m.1 (plain_end status late text m.0 s)
 promise_made Checks words left late h text m status s = check_made left late h text m.0 m.1 m.2 status s
 promise_made Draws words left late h text m status s = record {
   statuses =
@@ -321,6 +328,8 @@ promise_unmade Steps words left failed stop u = file_unmade (IsSteppedFile (work
     u
 promise_unmade Parts words left failed stop u = part_unmade (worker_count words) (asked_alpha words)
     (asked_most words) (asked_index words) left failed stop u
+promise_unmade Queries words left failed stop u = file_unmade (IsQueriedFile (worker_count words) [] []) left failed
+    stop u
 promise_unmade Checks words left failed stop u = check_unmade left failed stop u
 promise_unmade Draws words left failed stop u = absurd u
 
@@ -331,6 +340,7 @@ promise_early Reports words left status s = file_early (IsReported (worker_count
 promise_early Steps words left status s = file_early (IsSteppedFile (worker_count words) [] []) left status s
 promise_early Parts words left status s = part_early (worker_count words) (asked_alpha words) (asked_most words)
     (asked_index words) left status s
+promise_early Queries words left status s = file_early (IsQueriedFile (worker_count words) [] []) left status s
 promise_early Checks words left status s = check_early left status s
 promise_early Draws words left status s = record {
   statuses = inl (elim s
@@ -346,6 +356,7 @@ status_unmade : (kind : Kind) (left : Option (List ℕ)) (failed : Type 0) (stop
 status_unmade Reports left failed stop u = status_unmeshed left failed stop u
 status_unmade Steps left failed stop u = status_unmeshed left failed stop u
 status_unmade Parts left failed stop u = status_unmeshed left failed stop u
+status_unmade Queries left failed stop u = status_unmeshed left failed stop u
 status_unmade Checks left failed stop u = status_unchecked left failed stop u
 status_unmade Draws left failed stop u = absurd u
 
@@ -355,28 +366,13 @@ fault_told : (kind : Kind) (left : Option (List ℕ)) (failed : Type 0) (line : 
 fault_told Reports left failed line u = u.0
 fault_told Steps left failed line u = u.0
 fault_told Parts left failed line u = u.0
+fault_told Queries left failed line u = u.0
 fault_told Checks left failed line u = u.0
 fault_told Draws left failed line u = absurd u
 
 -- ---- the end
 
--- where all is read, what comes behind it changes nothing of that
-reads_front : (limit : ℕ) (old new : Option (List ℕ)) (status : ℕ) → ReadsTo limit old new 0 →
-    ReadsTo limit old new status
-reads_front limit old new status r =
-    record {
-      taken = r.taken;
-      consumed = r.consumed;
-      within = r.within;
-      whole = λ late. r.whole (λ e. elim e [
-        | inl a ↦ omega (arith, a)
-        | inr t ↦ elim t
-            [ inl a ↦ omega (arith, a) | inr a ↦ omega (arith, a) ]
-      ]);
-      past = λ e. absurd (elim (r.past e) [ inl a ↦ omega (arith, a) | inr a ↦ omega (arith, a) ]);
-    }
-
--- and so where memory is wanting then
+-- where memory is wanting once all is read, nothing changes of that
 reads_stopped : (limit : ℕ) (old new : Option (List ℕ)) → ReadsTo limit old new 0 → ReadsTo limit old new 1
 reads_stopped limit old new r = record {
   taken = r.taken;
@@ -553,47 +549,60 @@ module _ (words : List (String Global)) (left_old left_new : Option (List ℕ)) 
 -- ---- what a command makes is what the words ask for
 
 -- the kind of words that draw, and of words that read
-abbrev kind_by : Bool → Bool → Bool → Bool → Kind
-kind_by drawn check steps parts =
-    cond drawn Draws (cond check Checks (cond steps Steps (cond parts Parts Reports)))
+abbrev kind_by : Bool → Bool → Bool → Bool → Bool → Kind
+kind_by drawn check steps parts near =
+    cond drawn Draws (cond check Checks (cond steps Steps (cond parts Parts (cond near Queries Reports))))
 
 pub draws : (words : List (String Global)) → DrawsFile words → kind_of words ≡ Draws
-draws words d = ap (λ (b : Bool). kind_by b (asks_check words) (asks_steps words) (asks_parts words)) d
+draws words d =
+    ap (λ (b : Bool). kind_by b (asks_check words) (asks_steps words) (asks_parts words) (asks_near words)) d
 
 pub checks_kind : (words : List (String Global)) → ReadsSource words → asks_check words ≡ true → ReadsMesh words
 checks_kind words r t =
-    ap (λ (b : Bool). kind_by b (asks_check words) (asks_steps words) (asks_parts words)) r
-    ∙ ap (λ (b : Bool). kind_by false b (asks_steps words) (asks_parts words)) t
+    ap (λ (b : Bool). kind_by b (asks_check words) (asks_steps words) (asks_parts words) (asks_near words)) r
+    ∙ ap (λ (b : Bool). kind_by false b (asks_steps words) (asks_parts words) (asks_near words)) t
 
 file_kind : (words : List (String Global)) → ReadsFile words →
-    kind_of words ≡ kind_by false false (asks_steps words) (asks_parts words)
+    kind_of words ≡ kind_by false false (asks_steps words) (asks_parts words) (asks_near words)
 file_kind words r =
-    ap (λ (b : Bool). kind_by b (asks_check words) (asks_steps words) (asks_parts words)) r.0
-    ∙ ap (λ (b : Bool). kind_by false b (asks_steps words) (asks_parts words)) r.1
+    ap (λ (b : Bool). kind_by b (asks_check words) (asks_steps words) (asks_parts words) (asks_near words)) r.0
+    ∙ ap (λ (b : Bool). kind_by false b (asks_steps words) (asks_parts words) (asks_near words)) r.1
 
 pub steps_kind : (words : List (String Global)) → ReadsFile words → asks_steps words ≡ true → kind_of words ≡ Steps
-steps_kind words r t = file_kind words r ∙ ap (λ (b : Bool). kind_by false false b (asks_parts words)) t
+steps_kind words r t =
+    file_kind words r ∙ ap (λ (b : Bool). kind_by false false b (asks_parts words) (asks_near words)) t
+
+pub parts_kind : (words : List (String Global)) → ReadsFile words → asks_steps words ≡ false →
+    asks_parts words ≡ true → kind_of words ≡ Parts
+parts_kind words r t p =
+    file_kind words r ∙ ap (λ (d : Bool). kind_by false false d (asks_parts words) (asks_near words)) t
+    ∙ ap (λ (d : Bool). kind_by false false false d (asks_near words)) p
 
 pub read_kind : (words : List (String Global)) (b : Bool) → ReadsFile words → asks_steps words ≡ false →
-    asks_parts words ≡ b → kind_of words ≡ cond b Parts Reports
-read_kind words b r t p =
-    file_kind words r ∙ ap (λ (d : Bool). kind_by false false d (asks_parts words)) t
-    ∙ ap (λ (d : Bool). kind_by false false false d) p
+    asks_parts words ≡ false → asks_near words ≡ b → kind_of words ≡ cond b Queries Reports
+read_kind words b r t p n =
+    file_kind words r ∙ ap (λ (d : Bool). kind_by false false d (asks_parts words) (asks_near words)) t
+    ∙ ap (λ (d : Bool). kind_by false false false d (asks_near words)) p
+    ∙ ap (λ (d : Bool). kind_by false false false false d) n
 
-pub kind_read : (words : List (String Global)) → ReadsFile words →
-    WritesReport words ⊎ WritesSteps words ⊎ WritesParts words
+-- a file is read for a report, for the least alphas, for the parts, or for the answers to its queries
+abbrev pub WritesOfFile : List (String Global) → Type 0
+WritesOfFile words = WritesReport words ⊎ WritesSteps words ⊎ WritesParts words ⊎ WritesNear words
+
+pub kind_read : (words : List (String Global)) → ReadsFile words → WritesOfFile words
 kind_read words r =
     elim (cases_Bool (asks_steps words)) [
       | inl t ↦ inr (inl (steps_kind words r t))
       | inr t ↦ elim (cases_Bool (asks_parts words)) [
-        | inl p ↦ inr (inr (read_kind words true r t p))
-        | inr p ↦ inl (read_kind words false r t p)
+        | inl p ↦ inr (inr (inl (parts_kind words r t p)))
+        | inr p ↦ elim (cases_Bool (asks_near words)) [
+          | inl n ↦ inr (inr (inr (read_kind words true r t p n)))
+          | inr n ↦ inl (read_kind words false r t p n)
+        ]
       ]
     ]
 
--- a file is read for a report, for the least alphas, and for the parts
-pub reading : (words : List (String Global)) → WritesReport words ⊎ WritesSteps words ⊎ WritesParts words →
-    ReadsFile words
+pub reading : (words : List (String Global)) → WritesOfFile words → ReadsFile words
 reading words k =
     elim (cases_Bool (asks_drawn words)) [
       | inl d ↦ absurd (drawn (draws words d) k)
@@ -603,15 +612,17 @@ reading words k =
       ]
     ]
   where
-    drawn : kind_of words ≡ Draws → WritesReport words ⊎ WritesSteps words ⊎ WritesParts words → ⊥
+    drawn : kind_of words ≡ Draws → WritesOfFile words → ⊥
     drawn e (inl w) = let z : Draws ≡ Reports = sym e ∙ w in cc
     drawn e (inr (inl w)) = let z : Draws ≡ Steps = sym e ∙ w in cc
-    drawn e (inr (inr w)) = let z : Draws ≡ Parts = sym e ∙ w in cc
+    drawn e (inr (inr (inl w))) = let z : Draws ≡ Parts = sym e ∙ w in cc
+    drawn e (inr (inr (inr w))) = let z : Draws ≡ Queries = sym e ∙ w in cc
 
-    checks : kind_of words ≡ Checks → WritesReport words ⊎ WritesSteps words ⊎ WritesParts words → ⊥
+    checks : kind_of words ≡ Checks → WritesOfFile words → ⊥
     checks e (inl w) = let z : Checks ≡ Reports = sym e ∙ w in cc
     checks e (inr (inl w)) = let z : Checks ≡ Steps = sym e ∙ w in cc
-    checks e (inr (inr w)) = let z : Checks ≡ Parts = sym e ∙ w in cc
+    checks e (inr (inr (inl w))) = let z : Checks ≡ Parts = sym e ∙ w in cc
+    checks e (inr (inr (inr w))) = let z : Checks ≡ Queries = sym e ∙ w in cc
 
 -- and for a verdict the source is
 pub mesh_reading : (words : List (String Global)) → ReadsMesh words → ReadsSource words
@@ -626,7 +637,8 @@ pub file_limit : (words : List (String Global)) → ReadsFile words → limit_of
 file_limit words r = elim (kind_read words r) [
   | inl k ↦ ap limit_of k
   | inr (inl k) ↦ ap limit_of k
-  | inr (inr k) ↦ ap limit_of k
+  | inr (inr (inl k)) ↦ ap limit_of k
+  | inr (inr (inr k)) ↦ ap limit_of k
 ]
 
 -- how much was read is as it may be
@@ -654,11 +666,11 @@ module _ (words : List (String Global)) (left : Option (List ℕ)) (failed : Typ
       let text = text_of_page made.page in (
         taken,
         subst (λ (kind : Kind). Makes kind words left (status_of_end made.after) h text)
-            (sym (read_kind words false k.0 k.1 k.2)) (
+            (sym (read_kind words false k.0 k.1 k.2 k.3)) (
               ap status_of_end n,
-              subst (λ (n : ℕ). IfSome left (IsReported n (asks_shape words) (asks_order words) h text)) k.5
-                  (subst (λ (b : Bool). IfSome left (IsReported making.workers (asks_shape words) b h text)) k.4
-                  (subst (λ (b : Bool). IfSome left (IsReported making.workers b asked.order h text)) k.3 r)),
+              subst (λ (n : ℕ). IfSome left (IsReported n (asks_shape words) (asks_order words) h text)) k.6
+                  (subst (λ (b : Bool). IfSome left (IsReported making.workers (asks_shape words) b h text)) k.5
+                  (subst (λ (b : Bool). IfSome left (IsReported making.workers b asked.order h text)) k.4 r)),
             ),
       )
 
@@ -677,7 +689,7 @@ module _ (words : List (String Global)) (left : Option (List ℕ)) (failed : Typ
   pub reported_unmade : {A : Type 0} (asked : Asked) → IsTask words (Report making asked) → (m : Result A Stop) →
       IfErr m (HasNoMesh left failed) → IfErr m (IsUnmade words left failed)
   reported_unmade asked t m u = let k = reads_file words making asked t in unmade_as Reports
-      (read_kind words false k.0 k.1 k.2) refl m u
+      (read_kind words false k.0 k.1 k.2 k.3) refl m u
 
   -- `steps`
   pub stepped_made : IsTask words (Step making) → (m : Result Made Stop)
@@ -716,7 +728,7 @@ module _ (words : List (String Global)) (left : Option (List ℕ)) (failed : Typ
       let told : ℕ → ℕ → ℕ → Option ℕ → Type 0 =
       λ workers alpha most index. IfSome left (IsPartedFile workers alpha most index late h text) in (
         taken,
-        subst (λ (kind : Kind). Makes kind words left late h text) (sym (read_kind words true k.0 k.1 k.2)) (
+        subst (λ (kind : Kind). Makes kind words left late h text) (sym (parts_kind words k.0 k.1 k.2)) (
           n,
           subst (λ (w : ℕ). told w (asked_alpha words) (asked_most words) (asked_index words)) k.6
               (subst (λ (a : ℕ). told making.workers a (asked_most words) (asked_index words)) k.3
@@ -728,7 +740,30 @@ module _ (words : List (String Global)) (left : Option (List ℕ)) (failed : Typ
   pub parted_unmade : {A : Type 0} (wanted : Wanted) → IsTask words (Part making wanted) → (m : Result A Stop) →
       IfErr m (HasNoMesh left failed) → IfErr m (IsUnmade words left failed)
   parted_unmade wanted t m u = let k = parts_file words making wanted t in unmade_as Parts
-      (read_kind words true k.0 k.1 k.2) refl m u
+      (parts_kind words k.0 k.1 k.2) refl m u
+
+  -- `near`
+  pub queried_made : IsTask words (Query making) → (m : Result Made Stop)
+      → IfOk m (λ made. IfSome left (IsQueriedFile making.workers made.kept.items (text_of_page made.page))) →
+      IfOk m (λ made. made.after ≡ None) → IfOk m (λ made. IsMade words left (status_of_end made.after)
+      made.kept.items (text_of_page made.page))
+  queried_made t (Err stop) r n = tt
+  queried_made t (Ok made) r n =
+      let k = near_file words making t in
+      let h = made.kept.items in
+      let text = text_of_page made.page in (
+        taken,
+        subst (λ (kind : Kind). Makes kind words left (status_of_end made.after) h text)
+            (sym (read_kind words true k.0 k.1 k.2 k.3)) (
+              ap status_of_end n,
+              subst (λ (n : ℕ). IfSome left (IsQueriedFile n h text)) k.4 r,
+            ),
+      )
+
+  pub queried_unmade : {A : Type 0} → IsTask words (Query making) → (m : Result A Stop) →
+      IfErr m (HasNoMesh left failed) → IfErr m (IsUnmade words left failed)
+  queried_unmade t m u = let k = near_file words making t in unmade_as Queries (read_kind words true k.0 k.1 k.2 k.3)
+      refl m u
 
   -- `gen`
   pub drawn_made : (drawn : Drawn) → IsTask words (Draw making drawn) → (m : Result Made Stop)

@@ -31,7 +31,7 @@ use Rattle.edit_files.specs.Faults.{IsFault}
 use Rattle.delaunay_cli.specs.declared.stop.Stop.{Stop}
 use Rattle.delaunay_cli.specs.declared.stop.Stop.TheVariants.{Memory, BadLine, Flat, TooLong}
 use Rattle.delaunay_cli.specs.Files.{HasNoMesh, IsFlatFile}
-use Rattle.delaunay_cli.specs.Run.{Reads, input_limit}
+use Rattle.delaunay_cli.specs.Run.{Reads, ReadsTo, input_limit}
 use Rattle.std.proofs.lemmas.List.Elements.{All-cons}
 use Rattle.std.proofs.lemmas.List.{length-append}
 use Rattle.std.specs.Io.KnownBytes.{IsAtEnd}
@@ -128,3 +128,19 @@ reads_all old status t e n = record {
   whole = λ k. inl e;
   past = λ k. absurd (n (ap length t.kept ∙ length-append old t.taken ∙ ap (λ (m : ℕ). length old + m) k));
 }
+
+-- where all is read, what comes behind it changes nothing of that
+pub reads_front : (limit : ℕ) (old new : Option (List ℕ)) (status : ℕ) → ReadsTo limit old new 0 →
+    ReadsTo limit old new status
+reads_front limit old new status r =
+    record {
+      taken = r.taken;
+      consumed = r.consumed;
+      within = r.within;
+      whole = λ late. r.whole (λ e. elim e [
+        | inl a ↦ omega (arith, a)
+        | inr t ↦ elim t
+            [ inl a ↦ omega (arith, a) | inr a ↦ omega (arith, a) ]
+      ]);
+      past = λ e. absurd (elim (r.past e) [ inl a ↦ omega (arith, a) | inr a ↦ omega (arith, a) ]);
+    }

@@ -2,6 +2,7 @@ pub mod Lines
 pub mod Clouds
 pub mod CommandLine
 pub mod Judging
+pub mod FilesRead
 pub mod TextStatuses
 pub mod ChecksEnded
 pub mod Ended

@@ -63,6 +63,7 @@ use Rattle.delaunay_cli.specs.Words.{
   asked_most,
   asks_check,
   asks_drawn,
+  asks_near,
   asks_parts,
   asks_shape,
   asks_steps,
@@ -326,9 +327,9 @@ meshing_texts name command workers grid = name ∷ command ∷ (codes "--workers
     []
 
 -- what the words are found to be: with no fault, a command that reads a file, its workers and its grid, `shape` or not,
--- `steps` or not, and `parts` or not
-abbrev AreFoundMeshing : List Text → Text → Text → Bool → Bool → Bool → Type 0
-AreFoundMeshing words w g shape steps parts =
+-- `steps` or not, `parts` or not, and `near` or not
+abbrev AreFoundMeshing : List Text → Text → Text → Bool → Bool → Bool → Bool → Type 0
+AreFoundMeshing words w g shape steps parts near =
     (is_signed_in (pos 1) (pos most_workers) w ≡ true → is_signed_in (pos 1) (pos most_grid) g ≡ true →
     fault_of program words ≡ [])
     × (is_command (codes "gen") (subcommand_of program words) ≡ false)
@@ -338,8 +339,9 @@ AreFoundMeshing words w g shape steps parts =
     × (is_command (codes "shape") (subcommand_of program words) ≡ shape)
     × (is_command (codes "steps") (subcommand_of program words) ≡ steps)
     × (is_command (codes "parts") (subcommand_of program words) ≡ parts)
+    × (is_command (codes "near") (subcommand_of program words) ≡ near)
 
-mesh_found : (name w g : Text) → AreFoundMeshing (meshing_texts name (codes "mesh") w g) w g false false false
+mesh_found : (name w g : Text) → AreFoundMeshing (meshing_texts name (codes "mesh") w g) w g false false false false
 unfolding clap_on_literals word_faults both_faults meshing_texts
 mesh_found name w g = (
   λ e k. ap₂ (λ (x y : Bool). both_faults (word_faults 1 most_workers x)
@@ -351,9 +353,10 @@ mesh_found name w g = (
   refl,
   refl,
   refl,
+  refl,
 )
 
-shape_found : (name w g : Text) → AreFoundMeshing (meshing_texts name (codes "shape") w g) w g true false false
+shape_found : (name w g : Text) → AreFoundMeshing (meshing_texts name (codes "shape") w g) w g true false false false
 unfolding clap_on_literals word_faults both_faults meshing_texts
 shape_found name w g = (
   λ e k. ap₂ (λ (x y : Bool). both_faults (word_faults 1 most_workers x)
@@ -365,9 +368,10 @@ shape_found name w g = (
   refl,
   refl,
   refl,
+  refl,
 )
 
-steps_found : (name w g : Text) → AreFoundMeshing (meshing_texts name (codes "steps") w g) w g false true false
+steps_found : (name w g : Text) → AreFoundMeshing (meshing_texts name (codes "steps") w g) w g false true false false
 unfolding clap_on_literals word_faults both_faults meshing_texts
 steps_found name w g = (
   λ e k. ap₂ (λ (x y : Bool). both_faults (word_faults 1 most_workers x)
@@ -379,9 +383,10 @@ steps_found name w g = (
   refl,
   refl,
   refl,
+  refl,
 )
 
-parts_found : (name w g : Text) → AreFoundMeshing (meshing_texts name (codes "parts") w g) w g false false true
+parts_found : (name w g : Text) → AreFoundMeshing (meshing_texts name (codes "parts") w g) w g false false true false
 unfolding clap_on_literals word_faults both_faults meshing_texts
 parts_found name w g = (
   λ e k. ap₂ (λ (x y : Bool). both_faults (word_faults 1 most_workers x)
@@ -393,21 +398,38 @@ parts_found name w g = (
   refl,
   refl,
   refl,
+  refl,
+)
+
+near_found : (name w g : Text) → AreFoundMeshing (meshing_texts name (codes "near") w g) w g false false false true
+unfolding clap_on_literals word_faults both_faults meshing_texts
+near_found name w g = (
+  λ e k. ap₂ (λ (x y : Bool). both_faults (word_faults 1 most_workers x)
+      (word_faults 1 most_grid y)) e k,
+  refl,
+  refl,
+  refl,
+  refl,
+  refl,
+  refl,
+  refl,
+  refl,
 )
 
 -- so they are taken, and ask for these workers and this grid
-abbrev AreAskedMeshing : List (String Global) → ℕ → ℕ → Bool → Bool → Bool → Type 0
-AreAskedMeshing words workers grid shape steps parts =
+abbrev AreAskedMeshing : List (String Global) → ℕ → ℕ → Bool → Bool → Bool → Bool → Type 0
+AreAskedMeshing words workers grid shape steps parts near =
     AreTaken words × (worker_count words ≡ workers) × (grid_size words ≡ grid) × (asks_shape words ≡ shape) ×
-    ReadsFile words × (asks_steps words ≡ steps) × (asks_parts words ≡ parts)
+    ReadsFile words × (asks_steps words ≡ steps) × (asks_parts words ≡ parts) ×
+    (asks_near words ≡ near)
 
-meshing_asked : (words : List (String Global)) (texts : List Text) (workers grid : ℕ) (shape steps parts : Bool) →
+meshing_asked : (words : List (String Global)) (texts : List Text) (workers grid : ℕ) (shape steps parts near : Bool) →
     0 < workers → workers ≤ most_workers → is_grid_size grid ≡ true → texts_of words ≡ texts
-    → AreFoundMeshing texts (decimal workers) (decimal grid) shape steps parts →
-    AreAskedMeshing words workers grid shape steps parts
-unfolding AreTaken asks_drawn asks_check worker_count grid_size asks_shape asks_steps asks_parts
-meshing_asked words texts workers grid shape steps parts some few size e found =
-    let f = subst (λ (w : List Text). AreFoundMeshing w (decimal workers) (decimal grid) shape steps parts) (sym e)
+    → AreFoundMeshing texts (decimal workers) (decimal grid) shape steps parts near →
+    AreAskedMeshing words workers grid shape steps parts near
+unfolding AreTaken asks_drawn asks_check worker_count grid_size asks_shape asks_steps asks_parts asks_near
+meshing_asked words texts workers grid shape steps parts near some few size e found =
+    let f = subst (λ (w : List Text). AreFoundMeshing w (decimal workers) (decimal grid) shape steps parts near) (sym e)
     found in
     let sized = f.4 ∙ decimal_named 1 most_grid grid (grid_above grid size) (grid_below grid size) (omega arith) in (
       (
@@ -421,31 +443,39 @@ meshing_asked words texts workers grid shape steps parts some few size e found =
       (f.1, f.2),
       f.6,
       f.7,
+      f.8,
     )
 
--- the words `mesh`, `shape`, `steps` or `parts`, `--workers=N` and `--grid=M` ask for N workers and a grid of size M
+-- the words `mesh`, `shape`, `steps`, `parts` or `near`, `--workers=N` and `--grid=M` ask for N workers and a grid of
+-- size M
 module _ (words : List (String Global)) (workers grid : ℕ) (some : 0 < workers) (few : workers ≤ most_workers)
     (size : is_grid_size grid ≡ true) where
   pub mesh_workers_words : AreMeshing (codes "mesh") workers grid words →
-      AreAskedMeshing words workers grid false false false
+      AreAskedMeshing words workers grid false false false false
   unfolding meshing_texts
   mesh_workers_words m = meshing_asked words (meshing_texts m.0 (codes "mesh") (decimal workers) (decimal grid))
-      workers grid false false false some few size m.1 (mesh_found m.0 (decimal workers) (decimal grid))
+      workers grid false false false false some few size m.1 (mesh_found m.0 (decimal workers) (decimal grid))
 
   pub shape_workers_words : AreMeshing (codes "shape") workers grid words →
-      AreAskedMeshing words workers grid true false false
+      AreAskedMeshing words workers grid true false false false
   unfolding meshing_texts
   shape_workers_words m = meshing_asked words (meshing_texts m.0 (codes "shape") (decimal workers) (decimal grid))
-      workers grid true false false some few size m.1 (shape_found m.0 (decimal workers) (decimal grid))
+      workers grid true false false false some few size m.1 (shape_found m.0 (decimal workers) (decimal grid))
 
   pub steps_workers_words : AreMeshing (codes "steps") workers grid words →
-      AreAskedMeshing words workers grid false true false
+      AreAskedMeshing words workers grid false true false false
   unfolding meshing_texts
   steps_workers_words m = meshing_asked words (meshing_texts m.0 (codes "steps") (decimal workers) (decimal grid))
-      workers grid false true false some few size m.1 (steps_found m.0 (decimal workers) (decimal grid))
+      workers grid false true false false some few size m.1 (steps_found m.0 (decimal workers) (decimal grid))
 
   pub parts_workers_words : AreMeshing (codes "parts") workers grid words →
-      AreAskedMeshing words workers grid false false true
+      AreAskedMeshing words workers grid false false true false
   unfolding meshing_texts
   parts_workers_words m = meshing_asked words (meshing_texts m.0 (codes "parts") (decimal workers) (decimal grid))
-      workers grid false false true some few size m.1 (parts_found m.0 (decimal workers) (decimal grid))
+      workers grid false false true false some few size m.1 (parts_found m.0 (decimal workers) (decimal grid))
+
+  pub near_workers_words : AreMeshing (codes "near") workers grid words →
+      AreAskedMeshing words workers grid false false false true
+  unfolding meshing_texts
+  near_workers_words m = meshing_asked words (meshing_texts m.0 (codes "near") (decimal workers) (decimal grid))
+      workers grid false false false true some few size m.1 (near_found m.0 (decimal workers) (decimal grid))

@@ -38,6 +38,9 @@ use Rattle.edit_files.specs.Grammar.{IsFile}
 use Rattle.delaunay_cli.specs.Taken.{file_limits}
 use Rattle.edit_files.proofs.Cited.{no_fault_of, one_file_of}
 use Rattle.mesh_files.specs.Text.{report_text}
+use Rattle.near_vertex.specs.declared.answers.Near.{Near}
+use Rattle.near_vertex.specs.Answers.{AreNear}
+use Rattle.near_vertex.specs.Text.{near_text}
 use Rattle.plain_laws.specs.Plain.{IsAnchored}
 use Rattle.solid_parts.specs.Parts.{AreParts}
 use Rattle.solid_parts.proofs.Cited.{same_count}
@@ -59,6 +62,7 @@ use Rattle.delaunay_cli.specs.Parted.{
   PartEnds,
   TellsAt,
 }
+use Rattle.delaunay_cli.specs.Queried.{IsQueried, QueryEnds}
 use Rattle.delaunay_cli.specs.Reported.{IsReported, ReportEnds}
 use Rattle.delaunay_cli.specs.Stepped.{IsStepped, StepEnds}
 use Rattle.delaunay_cli.specs.Run.{IsKept, IsSolidFile, Writes, WritesFront, input_limit}
@@ -70,10 +74,12 @@ use Rattle.delaunay_cli.specs.Words.{
   DrawsFile,
   Kind,
   Parts,
+  Queries,
   ReadsFile,
   ReadsMesh,
   Reports,
   Steps,
+  WritesNear,
   WritesParts,
   WritesReport,
   WritesSteps,
@@ -110,6 +116,7 @@ up_to_10 Reports words left status h text p = few Reports status p.statuses
 up_to_10 Steps words left status h text p = few Steps status p.statuses
 up_to_10 Parts words left status h text p =
     let l = p.statuses in (omega (arith, l), λ k. refl, λ e. absurd (omega (arith, l, e)))
+up_to_10 Queries words left status h text p = few Queries status p.statuses
 up_to_10 Checks words left status h text p = elim p.statuses [
   | inl l ↦ few Checks status (omega (arith, l))
   | inr (inl e) ↦ few Checks status (omega (arith, e))
@@ -223,7 +230,7 @@ module _ {words : List (String Global)} {left left_after : Option (List ℕ)} {r
   pub no_text : status ≢ 0 → status ≢ 4 → status ≤ 7 → HasText status → ⊥
   no_text a b l = stopped_only status l a b
 
-  -- what is promised of a report, of the least alphas, of parts, and of a drawn file
+  -- what is promised of a report, of the least alphas, of parts, of queries, of a mesh, and of a drawn file
   pub of_report : WritesReport words → ReportEnds (worker_count words) (asks_shape words) (asks_order words) left status
       kept e.text
   of_report w = subst (λ (kind : Kind). Promise kind words left status kept e.text) w e.promise
@@ -234,6 +241,9 @@ module _ {words : List (String Global)} {left left_after : Option (List ℕ)} {r
   pub of_parts : WritesParts words → PartEnds (worker_count words) (asked_alpha words) (asked_most words)
       (asked_index words) left status kept e.text
   of_parts w = subst (λ (kind : Kind). Promise kind words left status kept e.text) w e.promise
+
+  pub of_near : WritesNear words → QueryEnds (worker_count words) left status kept e.text
+  of_near w = subst (λ (kind : Kind). Promise kind words left status kept e.text) w e.promise
 
   pub of_check : ReadsMesh words → CheckEnds left status kept e.text
   of_check w = subst (λ (kind : Kind). Promise kind words left status kept e.text) w e.promise
@@ -246,7 +256,8 @@ module _ {words : List (String Global)} {left left_after : Option (List ℕ)} {r
   verdict w late = elim (kind_read words w) [
     | inl k ↦ (of_report k).verdict late
     | inr (inl k) ↦ (of_steps k).verdict late
-    | inr (inr k) ↦ (of_parts k).verdict late
+    | inr (inr (inl k)) ↦ (of_parts k).verdict late
+    | inr (inr (inr k)) ↦ (of_near k).verdict late
   ]
 
   pub of_bytes : (P : List ℕ → Type 0) → ((bytes : List ℕ) → IsVerdict status bytes → P bytes) → ReadsFile words →
@@ -271,14 +282,25 @@ module _ {words : List (String Global)} {left left_after : Option (List ℕ)} {r
         | inl k ↦ of_one P (λ file. e.text ≡ text_of (asks_shape words) (asks_order words) file kept)
             (λ file k t. f file k) ((of_report k).made s)
         | inr (inl k) ↦ of_one P (λ file. IsStepped (replay kept) e.text) (λ file k t. f file k) ((of_steps k).made s)
-        | inr (inr k) ↦ elim s [
+        | inr (inr (inl k)) ↦ elim s [
           | inl whole ↦ of_one P (λ file. told status) (λ file k t. f file k) ((of_parts k).made whole)
           | inr four ↦ of_one P (λ file. told 0) (λ file k t. f file k) ((of_parts k).cut four)
         ]
+        | inr (inr (inr k)) ↦ of_one P (λ file. IsQueried (replay kept) file.queries e.text) (λ file k t. f file k)
+            ((of_near k).made s)
       ]
     where
       told : ℕ → Type 0
       told n = IsParted (replay kept) (asked_alpha words) (asked_most words) (asked_index words) n e.text
+
+  -- the answers to the queries of the file, whose text has become part of the output
+  abbrev IsAnsweredIn : (List ℕ → Type 0) → Content → Type 0
+  IsAnsweredIn written file =
+      (nears : List Near) × AreNear (replay kept) file.queries nears × written (near_text (replay kept) nears)
+
+  answers_of : (written : List ℕ → Type 0) (file : Content) → IsQueried (replay kept) file.queries e.text →
+      written e.text → IsAnsweredIn written file
+  answers_of written file q w = (q.nears, q.are_near, subst written q.text_is w)
 
   -- and what is written of it
   pub of_file : (P : Content → Type 0) → ((file : Content) → IsKept file (worker_count words) kept →
@@ -333,11 +355,19 @@ module _ {words : List (String Global)} {left left_after : Option (List ℕ)} {r
           ]
 
   -- and of a command other than `parts` with 0 or 1
-  pub completes_plainly : AreTaken words → WritesReport words ⊎ WritesSteps words →
+  pub completes_plainly : AreTaken words → WritesReport words ⊎ WritesSteps words ⊎ WritesNear words →
       IfSome left (λ bytes. IsSolidFile bytes → (read_failed → ⊥) → (write_failed → ⊥) → (status ≡ 0) ⊎ (status ≡ 1))
   completes_plainly w k =
-      let few : status ≤ 7 = elim k [ inl r ↦ (of_report r).statuses | inr r ↦ (of_steps r).statuses ] in
-      let reads : ReadsFile words = reading words (elim k [ inl r ↦ inl r | inr r ↦ inr (inl r) ]) in
+      let few : status ≤ 7 = elim k [
+        | inl r ↦ (of_report r).statuses
+        | inr (inl r) ↦ (of_steps r).statuses
+        | inr (inr r) ↦ (of_near r).statuses
+      ] in
+      let reads : ReadsFile words = reading words (elim k [
+        | inl r ↦ inl r
+        | inr (inl r) ↦ inr (inl r)
+        | inr (inr r) ↦ inr (inr (inr r))
+      ]) in
       if_some (λ bytes. IsSolidFile bytes → (read_failed → ⊥) → (write_failed → ⊥) → IsWhole status ⊎ (status ≡ 1))
       (λ bytes. IsSolidFile bytes → (read_failed → ⊥) → (write_failed → ⊥) → (status ≡ 0) ⊎ (status ≡ 1)) left
       (λ bytes f solid nr nw. elim (f solid nr nw) [
@@ -406,6 +436,17 @@ module _ {words : List (String Global)} {left left_after : Option (List ℕ)} {r
       (λ bytes. (text : List ℕ) × IsParted (replay kept) (asked_alpha words) (asked_most words) (asked_index words) 0
       text × AppendsFront held holds text) left
       (λ bytes m. (e.text, m.text_is, e.front z)) ((of_parts w).cut z)
+
+  -- what is written of the queries of the file that the bytes are
+  pub near_written : WritesNear words → status ≡ 0 → IfSome left
+      (λ bytes. (file : Content) → IsFile file_limits bytes file → IsAnsweredIn (Appends held holds) file)
+  near_written w z = of_one (IsAnsweredIn (Appends held holds)) (λ file. IsQueried (replay kept) file.queries e.text)
+      (λ file k q. answers_of (Appends held holds) file q (e.whole (inl z))) ((of_near w).made (inl (inl z)))
+
+  pub near_front : WritesNear words → status ≡ 4 → IfSome left
+      (λ bytes. (file : Content) → IsFile file_limits bytes file → IsAnsweredIn (AppendsFront held holds) file)
+  near_front w z = of_one (IsAnsweredIn (AppendsFront held holds)) (λ file. IsQueried (replay kept) file.queries e.text)
+      (λ file k q. answers_of (AppendsFront held holds) file q (e.front z)) ((of_near w).made (inr z))
 
   -- above 7 it is 8, 9 or 10
   above : 7 < status → status ≢ 10 → (status ≡ 8) ⊎ (status ≡ 9)

@@ -7,6 +7,7 @@ use Rattle.delaunay_cli.specs.Checked.{CheckEnds, IsChecked, IsUnchecked, TellsV
 use Rattle.delaunay_cli.specs.Drawn.{DrawEnds, IsDrawn, drawn_file}
 use Rattle.delaunay_cli.specs.Files.{HasNoMesh}
 use Rattle.delaunay_cli.specs.Parted.{IsPartedFile, PartEnds, TellsParts}
+use Rattle.delaunay_cli.specs.Queried.{IsQueriedFile, QueryEnds}
 use Rattle.delaunay_cli.specs.Reported.{IsReported, ReportEnds}
 use Rattle.delaunay_cli.specs.Stepped.{IsSteppedFile, StepEnds}
 use Rattle.delaunay_cli.specs.Words.{
@@ -14,6 +15,7 @@ use Rattle.delaunay_cli.specs.Words.{
   Draws,
   Kind,
   Parts,
+  Queries,
   Reports,
   Steps,
   asked_alpha,
@@ -34,6 +36,7 @@ Makes Steps words left late h text = (late ≡ 0) × IfSome left (IsSteppedFile 
 Makes Parts words left late h text =
     TellsParts late text × IfSome left (IsPartedFile (worker_count words) (asked_alpha words) (asked_most words)
     (asked_index words) late h text)
+Makes Queries words left late h text = (late ≡ 0) × IfSome left (IsQueriedFile (worker_count words) h text)
 Makes Checks words left late h text =
     TellsVerdict late × (h ≡ []) × IfSome left (IsChecked late text)
 Makes Draws words left late h text =
@@ -44,6 +47,7 @@ abbrev pub MakesNone : Kind → Option (List ℕ) → Type 0 → Stop → Type 0
 MakesNone Reports left failed stop = HasNoMesh left failed stop
 MakesNone Steps left failed stop = HasNoMesh left failed stop
 MakesNone Parts left failed stop = HasNoMesh left failed stop
+MakesNone Queries left failed stop = HasNoMesh left failed stop
 MakesNone Checks left failed stop = IsUnchecked left failed stop
 MakesNone Draws left failed stop = ⊥
 
@@ -54,6 +58,7 @@ Promise Reports words left status h text =
 Promise Steps words left status h text = StepEnds (worker_count words) left status h text
 Promise Parts words left status h text =
     PartEnds (worker_count words) (asked_alpha words) (asked_most words) (asked_index words) left status h text
+Promise Queries words left status h text = QueryEnds (worker_count words) left status h text
 Promise Checks words left status h text = CheckEnds left status h text
 Promise Draws words left status h text =
     DrawEnds (asks_text words) (worker_count words) (drawn_file words) status h text

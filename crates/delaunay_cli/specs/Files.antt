@@ -1,5 +1,5 @@
 -- A file that is read: what is made of it, why no mesh is, and what a run that reads one promises of its end.
-use Rattle.std.specs.Prelude.{◌≡◌, ◌≢◌, ◌≤◌, ◌<◌, ◌↔◌, ℕ, List, length, true, false, Option, IfSome, ⊤}
+use Rattle.std.specs.Prelude.{◌≡◌, ◌≢◌, ◌+◌, ◌≤◌, ◌<◌, ◌↔◌, ℕ, List, length, true, false, Option, IfSome, ⊤}
 use Rattle.point_order.specs.Solid.{is_solid}
 use Rattle.edit_history.specs.declared.history.Entry.{Entry}
 use Rattle.edit_files.specs.Content.{Content}
@@ -7,8 +7,20 @@ use Rattle.edit_files.specs.Grammar.{IsFile}
 use Rattle.delaunay_cli.specs.Taken.{file_limits}
 use Rattle.delaunay_cli.specs.declared.stop.Stop.{Stop}
 use Rattle.delaunay_cli.specs.declared.stop.Stop.TheVariants.{Memory, ReadFault, BadLine, Flat, TooLong}
+use Rattle.delaunay_cli.specs.Report.{AreRadii}
 use Rattle.delaunay_cli.specs.Run.{HasFault, IsKept, input_limit}
 use Rattle.delaunay_cli.specs.Statuses.{HasText, IsEarly, IsFaultLine}
+
+-- the bytes, within the limit, are the file
+abbrev pub IsFileWithin : Content → List ℕ → Type 0
+IsFileWithin file bytes = (length bytes ≤ input_limit) × IsFile file_limits bytes file
+
+-- A file that was read: it has no more lines than are taken, its radii are in the range of its version, and it is what
+-- the source had left.
+pub record IsFileOf (left : Option (List ℕ)) (file : Content) : Type 0 where
+  pub lines : length file.points + length file.edits ≤ file_limits.lines
+  pub radii : AreRadii file.version file.radii
+  pub told : IfSome left (IsFileWithin file)
 
 -- The bytes, within the limit, are a solid file, which the history keeps for a number of workers, and of this file
 -- `P` holds.

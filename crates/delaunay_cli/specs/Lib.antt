@@ -10,6 +10,7 @@ pub mod Files
 pub mod Reported
 pub mod Stepped
 pub mod Parted
+pub mod Queried
 pub mod Checked
 pub mod Commands
 pub mod Ends

@@ -13,7 +13,7 @@ use Rattle.edit_files.specs.Faults.{IsFault}
 use Rattle.edit_files.specs.declared.fault.Fault.{Fault}
 use Rattle.delaunay_cli.specs.Report.{text_of}
 use Rattle.delaunay_cli.specs.Statuses.{IsEarly}
-use Rattle.delaunay_cli.specs.Words.{Checks, Draws, Kind, Parts, Reports, Steps}
+use Rattle.delaunay_cli.specs.Words.{Checks, Draws, Kind, Parts, Queries, Reports, Steps}
 
 -- how many bytes an input may have: 16,777,216
 abbrev pub input_limit : ℕ
@@ -28,6 +28,7 @@ abbrev pub limit_of : Kind → ℕ
 limit_of Reports = input_limit
 limit_of Steps = input_limit
 limit_of Parts = input_limit
+limit_of Queries = input_limit
 limit_of Checks = mesh_limit
 limit_of Draws = input_limit
 

@@ -23,7 +23,7 @@ use Rattle.byte_ends.specs.Ends.{AppendsFront, Rose}
 use Rattle.delaunay_cli.specs.Taken.{file_limits}
 use Rattle.edit_files.specs.Faults.{IsFault}
 use Rattle.mesh_reader.specs.Faults.{IsMeshFault}
-use Rattle.delaunay_cli.specs.Words.{Checks, Draws, Kind, Parts, Reports, Steps}
+use Rattle.delaunay_cli.specs.Words.{Checks, Draws, Kind, Parts, Queries, Reports, Steps}
 
 -- the run ended before the input was read to its end or its limit: for want of memory, for its words, or by a fault
 -- of the source
@@ -78,6 +78,7 @@ abbrev pub IsFaultFor : Kind → List ℕ → Fault → Type 0
 IsFaultFor Reports bytes fault = IsFault file_limits bytes fault
 IsFaultFor Steps bytes fault = IsFault file_limits bytes fault
 IsFaultFor Parts bytes fault = IsFault file_limits bytes fault
+IsFaultFor Queries bytes fault = IsFault file_limits bytes fault
 IsFaultFor Checks bytes fault = IsMeshFault bytes fault
 IsFaultFor Draws bytes fault = ⊥
 

@@ -4,7 +4,7 @@ use Rattle.std.specs.declared.alloc.Global.{Global}
 use Rattle.clap.specs.Words.{Row, Text, subcommand_of}
 use Rattle.delaunay_cli.specs.declared.task.Making.{Making}
 use Rattle.delaunay_cli.specs.declared.task.Task.{Task}
-use Rattle.delaunay_cli.specs.declared.task.Task.TheVariants.{Report, Step, Part, Check, Draw}
+use Rattle.delaunay_cli.specs.declared.task.Task.TheVariants.{Report, Step, Part, Query, Check, Draw}
 use Rattle.delaunay_cli.specs.Words.{
   given_of,
   has_flag,
@@ -33,13 +33,16 @@ ReadsFileOf met = (is_command (codes "gen") met ≡ false) × (is_command (codes
 abbrev pub IsTaskOf : Option (Text × List Row) → Task → Type 0
 IsTaskOf met (Report making asked) =
     IsMakingOf met making × ReadsFileOf met × (is_command (codes "steps") met ≡ false)
-    × (is_command (codes "parts") met ≡ false) × (asked.shape ≡ is_command (codes "shape") met)
-    × (asked.order ≡ has_flag (codes "order") met)
+    × (is_command (codes "parts") met ≡ false) × (is_command (codes "near") met ≡ false)
+    × (asked.shape ≡ is_command (codes "shape") met) × (asked.order ≡ has_flag (codes "order") met)
 IsTaskOf met (Step making) = IsMakingOf met making × ReadsFileOf met × (is_command (codes "steps") met ≡ true)
 IsTaskOf met (Part making wanted) =
     IsMakingOf met making × ReadsFileOf met × (is_command (codes "steps") met ≡ false)
     × (is_command (codes "parts") met ≡ true) × (wanted.alpha ≡ number_of (codes "alpha") 0 most_alpha met)
     × (wanted.most ≡ number_of (codes "most") 0 most_index met) × (wanted.off ≡ given_of (codes "off") most_index met)
+IsTaskOf met (Query making) =
+    IsMakingOf met making × ReadsFileOf met × (is_command (codes "steps") met ≡ false)
+    × (is_command (codes "parts") met ≡ false) × (is_command (codes "near") met ≡ true)
 IsTaskOf met Check = (is_command (codes "gen") met ≡ false) × (is_command (codes "check") met ≡ true)
 IsTaskOf met (Draw making drawn) =
     IsMakingOf met making × (is_command (codes "gen") met ≡ true)

@@ -137,10 +137,11 @@ abbrev pub parts_command : App
 parts_command =
     with_rule (with_rule (with_rule (meshing_command (codes "parts")) alpha_option) most_option) index_option
 
--- the program: it takes the word of a command, and has the six; `check` takes no option
+-- the program: it takes the word of a command, and has the seven; `check` takes no option
 abbrev pub program : App
 program =
     with_subcommand
+    (with_subcommand
     (with_subcommand
     (with_subcommand
     (with_subcommand
@@ -151,6 +152,7 @@ program =
     gen_command.top)
     (meshing_command (codes "steps")).top)
     parts_command.top)
+    (meshing_command (codes "near")).top)
     (new_app (codes "check")).top
 
 -- the words of a command line as texts
@@ -184,6 +186,10 @@ AreSteps words = AreNameAnd (codes "steps" ∷ []) words
 -- the words are the program's name and `parts`
 abbrev pub AreParts : List (String Global) → Type 0
 AreParts words = AreNameAnd (codes "parts" ∷ []) words
+
+-- the words are the program's name and `near`
+abbrev pub AreNear : List (String Global) → Type 0
+AreNear words = AreNameAnd (codes "near" ∷ []) words
 
 -- the words are the program's name and `check`
 abbrev pub AreCheck : List (String Global) → Type 0
@@ -238,6 +244,10 @@ asks_steps words = is_command (codes "steps") (subcommand_of program (texts_of w
 -- the words ask for the solid parts
 unfoldable pub asks_parts : List (String Global) → Bool
 asks_parts words = is_command (codes "parts") (subcommand_of program (texts_of words))
+
+-- the words ask for the nearest points to queries
+unfoldable pub asks_near : List (String Global) → Bool
+asks_near words = is_command (codes "near") (subcommand_of program (texts_of words))
 
 -- the words ask for a verdict on a mesh
 unfoldable pub asks_check : List (String Global) → Bool
@@ -302,11 +312,13 @@ unfoldable pub AreTaken : List (String Global) → Type 0
 AreTaken words = (fault_of program (texts_of words) ≡ []) × (is_grid_size (grid_size words) ≡ true)
 
 -- what a command does: it writes the report of a file that it reads (`mesh` and `shape`), its least alphas (`steps`),
--- or its solid parts (`parts`), it judges a mesh that it reads (`check`), or it draws a file (`gen`)
+-- its solid parts (`parts`) or the answers to its queries (`near`), it judges a mesh that it reads (`check`), or it
+-- draws a file (`gen`)
 pub data Kind : Type 0 where
   Reports : Kind
   Steps : Kind
   Parts : Kind
+  Queries : Kind
   Checks : Kind
   Draws : Kind
 
@@ -315,7 +327,8 @@ abbrev pub kind_of : List (String Global) → Kind
 kind_of words =
     if asks_drawn words then Draws
     else (if asks_check words then Checks
-    else (if asks_steps words then Steps else (if asks_parts words then Parts else Reports)))
+    else (if asks_steps words then Steps
+    else (if asks_parts words then Parts else (if asks_near words then Queries else Reports))))
 
 -- the report of a file is written
 abbrev pub WritesReport : List (String Global) → Type 0
@@ -328,6 +341,10 @@ WritesSteps words = kind_of words ≡ Steps
 -- the solid parts of a file are written, or the boundary of one
 abbrev pub WritesParts : List (String Global) → Type 0
 WritesParts words = kind_of words ≡ Parts
+
+-- the answers to the queries of a file are written
+abbrev pub WritesNear : List (String Global) → Type 0
+WritesNear words = kind_of words ≡ Queries
 
 -- the source is read
 abbrev pub ReadsSource : List (String Global) → Type 0

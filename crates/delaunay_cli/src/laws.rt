@@ -30,6 +30,9 @@ ghost use Rattle.edit_history.specs.OneThread.{Keeps as FileKeeps};
 ghost use Rattle.edit_files.specs.Content.{Content};
 ghost use Rattle.edit_files.specs.Grammar.{IsFile};
 ghost use Rattle.mesh_reader.specs.Grammar.{IsMeshText, MeshParts};
+ghost use Rattle.near_vertex.specs.declared.answers.Near.{Near};
+ghost use Rattle.near_vertex.specs.Answers.{AreNear as AreAnswers};
+ghost use Rattle.near_vertex.specs.Text.{near_text};
 ghost use Rattle.mesh_check.specs.declared.flaw.Verdict.{Verdict};
 ghost use Rattle.mesh_check.specs.Flaws.{IsVerdict, listed};
 ghost use Rattle.mesh_check.specs.Text.{verdict_text};
@@ -48,6 +51,7 @@ ghost use Rattle.delaunay_cli.specs.Words.{
   AreMesh,
   AreMeshOrder,
   AreMeshing,
+  AreNear,
   AreParts,
   ArePartsAt,
   AreShape,
@@ -58,6 +62,7 @@ ghost use Rattle.delaunay_cli.specs.Words.{
   ReadsFile,
   ReadsMesh,
   ReadsSource,
+  WritesNear,
   WritesParts,
   WritesReport,
   WritesSteps,
@@ -79,11 +84,12 @@ ghost use Rattle.delaunay_cli.specs.Words.{
 };
 
 /// The words `mesh` and `shape` alone are taken, and ask for no order block; with `--order` they ask for it. Both write
-/// the report of a file, by one worker over a grid of 4, as `steps` writes its least alphas and `parts` its parts at
-/// alpha 0. So are `mesh`, `shape`, `steps` and `parts` with `--workers=N` and `--grid=M`, for every count of workers
-/// and every size of a grid, and `parts` with `--alpha=A`, `--most=K` and `--off=I` for every A, K and I of their
-/// ranges. The word `check` alone is taken, and asks for the verdict on a mesh. The words `gen`, `--count=N` and
-/// `--start=M` are taken for every count and start, and with `--text` ask for the file's text.
+/// the report of a file, by one worker over a grid of 4, as `steps` writes its least alphas, `parts` its parts at alpha
+/// 0 and `near` the answers to its queries. So are `mesh`, `shape`, `steps`, `parts` and `near` with `--workers=N` and
+/// `--grid=M`, for every count of workers and every size of a grid, and `parts` with `--alpha=A`, `--most=K` and
+/// `--off=I` for every A, K and I of their ranges. The word `check` alone is taken, and asks for the verdict on a mesh.
+/// The words `gen`, `--count=N` and `--start=M` are taken for every count and start, and with `--text` ask for the
+/// file's text.
 pub fn words_are_taken()
     ensures mesh { (words : List (String Global)) → AreMesh words → AreTaken words × (asks_shape words ≡ false)
         × (asks_order words ≡ false) }
@@ -103,6 +109,8 @@ pub fn words_are_taken()
     ensures parts { (words : List (String Global)) → AreParts words → AreTaken words × WritesParts words
         × (worker_count words ≡ 1) × (grid_size words ≡ 4) × (asked_alpha words ≡ 0) × (asked_most words ≡ 0)
         × (asked_index words ≡ None) }
+    ensures near { (words : List (String Global)) → AreNear words → AreTaken words × WritesNear words
+        × (worker_count words ≡ 1) × (grid_size words ≡ 4) }
     ensures check { (words : List (String Global)) → AreCheck words → AreTaken words × ReadsMesh words }
     ensures parts_at { (words : List (String Global)) (alpha most index : ℕ) → alpha ≤ most_alpha
         → most ≤ most_index → index ≤ most_index → ArePartsAt alpha most index words
@@ -122,14 +130,17 @@ pub fn words_are_taken()
     ensures parts_workers { (words : List (String Global)) (workers grid : ℕ) → 0 < workers → workers ≤ most_workers
         → is_grid_size grid ≡ true → AreMeshing (codes "parts") workers grid words → AreTaken words
         × (worker_count words ≡ workers) × (grid_size words ≡ grid) × WritesParts words }
+    ensures near_workers { (words : List (String Global)) (workers grid : ℕ) → 0 < workers → workers ≤ most_workers
+        → is_grid_size grid ≡ true → AreMeshing (codes "near") workers grid words → AreTaken words
+        × (worker_count words ≡ workers) × (grid_size words ≡ grid) × WritesNear words }
     ensures generator { (words : List (String Global)) (count start : ℕ) → count ≤ most_count → start ≤ most_start
         → AreGen count start words → AreTaken words × DrawsFile words × (drawn_count words ≡ count)
         × (drawn_start words ≡ start) × (asks_text words ≡ false) }
     ensures generator_text { (words : List (String Global)) (count start : ℕ) → count ≤ most_count
         → start ≤ most_start → AreGenText count start words → AreTaken words × DrawsFile words
         × (drawn_count words ≡ count) × (drawn_start words ≡ start) × (asks_text words ≡ true) }
-    ensures read { (words : List (String Global)) → WritesReport words ⊎ WritesSteps words ⊎ WritesParts words
-        → ReadsFile words }
+    ensures read { (words : List (String Global))
+        → WritesReport words ⊎ WritesSteps words ⊎ WritesParts words ⊎ WritesNear words → ReadsFile words }
     ensures read_mesh { (words : List (String Global)) → ReadsMesh words → ReadsSource words }
 {}
 
@@ -176,6 +187,24 @@ pub fn run_that_parts()
     ensures complete { (r : ARun) → AreTaken r.words → WritesParts r.words
         → IfSome r.left (λ bytes. IsSolidFile bytes → (Rose r.read_faults r.read_faults_after → ⊥)
         → (Rose r.write_faults r.write_faults_after → ⊥) → IsWhole r.status ⊎ (r.status ≡ 1)) }
+{}
+
+/// A run that is to answer queries. Of the points that its history leaves the nearest to each query of the file is
+/// told, in the order of the queries, with the square of its distance: on 0 the whole text is written, and on 4 a front
+/// of it. Of a solid file within the limit it ends with 0 unless memory is wanting or the source or the output fails.
+pub fn run_that_answers()
+    ensures statuses { (r : ARun) → WritesNear r.words → r.status ≤ 7 }
+    ensures written { (r : ARun) → WritesNear r.words → r.status ≡ 0
+        → IfSome r.left (λ bytes. (file : Content) → IsFile file_limits bytes file
+        → (nears : List Near) × AreAnswers (replay r.kept) file.queries nears
+        × Appends r.held r.holds (near_text (replay r.kept) nears)) }
+    ensures front { (r : ARun) → WritesNear r.words → r.status ≡ 4
+        → IfSome r.left (λ bytes. (file : Content) → IsFile file_limits bytes file
+        → (nears : List Near) × AreAnswers (replay r.kept) file.queries nears
+        × AppendsFront r.held r.holds (near_text (replay r.kept) nears)) }
+    ensures complete { (r : ARun) → AreTaken r.words → WritesNear r.words
+        → IfSome r.left (λ bytes. IsSolidFile bytes → (Rose r.read_faults r.read_faults_after → ⊥)
+        → (Rose r.write_faults r.write_faults_after → ⊥) → (r.status ≡ 0) ⊎ (r.status ≡ 1)) }
 {}
 
 /// A run that is to judge a mesh. Of the bytes that it reads 7 comes exactly where they are more than they may be, and

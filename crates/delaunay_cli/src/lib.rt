@@ -1,6 +1,6 @@
 //! The program's top call: from the bytes of an edit file to the text of its mesh, of its shapes, of the least alphas
-//! of its faces or of its solid parts; from the text of a mesh to the verdict on it; and from two numbers to the text
-//! of a drawn file or the summary of its mesh.
+//! of its faces, of its solid parts or of the nearest points to its queries; from the text of a mesh to the verdict on
+//! it; and from two numbers to the text of a drawn file or the summary of its mesh.
 //!
 //! ```
 //! let run = run(&rt, alloc, &words, &mut input, &mut output, &mut error, &OpenGate);
@@ -11,6 +11,7 @@
 mod checked;
 mod cloud;
 mod drawn;
+mod file_of_source;
 pub mod laws;
 mod made;
 mod mesh;
@@ -19,6 +20,7 @@ mod mesh_of_source;
 mod outcome;
 mod parted;
 mod parts;
+mod queried;
 mod replies;
 mod reported;
 mod shapes;

@@ -59,6 +59,8 @@ pub enum Task {
     Step(Making),
     /// The solid parts of a file that is read.
     Part(Making, Wanted),
+    /// The nearest points to the queries of a file that is read.
+    Query(Making),
     /// The verdict on a mesh that is read.
     Check,
     /// A file that is drawn.

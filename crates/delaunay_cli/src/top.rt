@@ -18,6 +18,7 @@ ghost use Rattle.delaunay_cli.specs.Words.{
   AreTaken,
   DrawsFile,
   ReadsFile,
+  WritesNear,
   WritesReport,
   WritesSteps,
   asks_order,
@@ -37,10 +38,11 @@ use std::thread::Threads;
 /// Does what the words ask for, and tells in one line on `err` what went wrong.
 ///
 /// `rt` is the runtime, and `words` are those of the command line: the program's name, and what `clap` takes for the
-/// six commands. `mesh` and `shape`, each with `--order`, read an edit file from `src` and write the report of its
+/// seven commands. `mesh` and `shape`, each with `--order`, read an edit file from `src` and write the report of its
 /// mesh to `out`; with `shape` the report has a block for each radius of the file, in its order. `steps` reads one too,
 /// and writes the least alpha, in sixteenths of a squared distance, of each face of its mesh. `parts`, with `--alpha`,
-/// `--most` and `--off`, reads one and writes its solid parts, or the boundary of one. `gen`, with `--count`, `--start`
+/// `--most` and `--off`, reads one and writes its solid parts, or the boundary of one. `near` reads one, and writes of
+/// each of its queries the nearest point of its mesh. `gen`, with `--count`, `--start`
 /// and `--text`, reads nothing: it draws an edit file, and writes the summary of its mesh or the file's text. Each of
 /// these takes `--workers`, 1 to 64, and `--grid`, 1, 2, 4, 8 or 16: so many workers make the edits side by side, over
 /// buckets of this grid. `gate` is told of the moments of their edits. `check` makes no edit and takes no option: it
@@ -95,7 +97,7 @@ pub fn run<R: Threads + Sync, S: Source, O: Sink, E: Sink, G: Gate + Sync>(
 
     // The whole text of a solid file within the limit is written, unless memory is wanting or the source or the output
     // fails.
-    ensures complete { AreTaken words.now → WritesReport words.now ⊎ WritesSteps words.now
+    ensures complete { AreTaken words.now → WritesReport words.now ⊎ WritesSteps words.now ⊎ WritesNear words.now
         → IfSome (S.left src.old) (λ bytes. IsSolidFile bytes
         → (Rose (S.faults src.old) (S.faults src.new) → ⊥) → (Rose (O.faults out.old) (O.faults out.new) → ⊥)
         → (result.status ≡ 0) ⊎ (result.status ≡ 1)) }

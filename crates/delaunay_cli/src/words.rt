@@ -184,6 +184,7 @@ fn program<'a>(alloc: Global) -> Result<Command<'a>, AllocError>
     let program = with_command(program, gen_command(alloc));
     let program = with_command(program, meshing(alloc, "steps"));
     let program = with_command(program, parts_command(alloc));
+    let program = with_command(program, meshing(alloc, "near"));
     with_command(program, Ok(Command::new(alloc, "check")))
 }
 
@@ -294,6 +295,8 @@ fn task_of(matches: &ArgMatches, making: Making) -> Task
                 Task::Step(making)
             } else if name == "parts" {
                 Task::Part(making, wanted_in(command))
+            } else if name == "near" {
+                Task::Query(making)
             } else {
                 let asked = Asked {
                     shape: name == "shape",

@@ -16,6 +16,7 @@ use crate::drawn::draw;
 use crate::made::{Made, put_page};
 use crate::outcome::Run;
 use crate::parted::part;
+use crate::queried::query;
 use crate::reported::report;
 use crate::stepped::step;
 use crate::stop::Stop;
@@ -59,6 +60,7 @@ fn make<R: Threads + Sync, S: Source, G: Gate + Sync>(
         Task::Report(making, asked) => report(rt, alloc, making, asked, src, gate),
         Task::Step(making) => step(rt, alloc, making, src, gate),
         Task::Part(making, wanted) => part(rt, alloc, making, wanted, src, gate),
+        Task::Query(making) => query(rt, alloc, making, src, gate),
         Task::Check => check_source(alloc, src),
         Task::Draw(making, drawn) => draw(rt, alloc, making, drawn, gate),
     }

@@ -1,4 +1,4 @@
-use Rattle.std.proofs.Common.{inr}
+use Rattle.std.proofs.Common.{inl, inr}
 use Rattle.delaunay_cli.proofs.Ended.{reading}
 use Rattle.delaunay_cli.proofs.Promised.{completes, no_alpha, no_index, no_part, parts_front, parts_written}
 use Rattle.delaunay_cli.proofs.laws.run_that_parts.Goals as goal
@@ -19,4 +19,4 @@ pub returns-clause-front : goal.returns-clause-front
 returns-clause-front c = λ r. parts_front r.ends
 
 pub returns-clause-complete : goal.returns-clause-complete
-returns-clause-complete c = λ r t w. completes r.ends t (reading r.words (inr (inr w)))
+returns-clause-complete c = λ r t w. completes r.ends t (reading r.words (inr (inr (inl w))))

@@ -1,54 +1,30 @@
-use Rattle.std.proofs.Common.{◌≡◌, ◌∙◌, ap, ℕ, ◌+◌, length, arith, Ok}
-use Rattle.std.specs.Prelude.{Result, Vec}
-use Rattle.std.specs.Vec.{vec_len}
-use Rattle.std.specs.declared.alloc.Global.{Global}
-use Rattle.byte_ends.specs.declared.loops.Reached.{Reached}
 use Rattle.byte_ends.specs.Ends.{Rose}
+use Rattle.edit_files.specs.Content.{content}
 use Rattle.delaunay_cli.specs.Run.{input_limit}
-use Rattle.delaunay_cli.proofs.Judging.{past_limit, reads_all, reads_past, unmeshed_told}
+use Rattle.delaunay_cli.specs.Stops.{status_of_made}
+use Rattle.delaunay_cli.proofs.FilesRead.{few_lines, no_mesh, report_told}
+use Rattle.delaunay_cli.proofs.Judging.{reads_front}
 use Rattle.delaunay_cli.proofs.mesh_of_source.mesh_of_source.Goals as goal
 
--- how far a list has grown, by its length and by its items
-grown : (old new : Vec ℕ Global) → length new.items ≡ length old.items + (input_limit + 1) →
-    vec_len new ≡ vec_len old + (input_limit + 1)
-grown old new l = omega (arith, l, old.ok.0, new.ok.0)
+pub history_and_parts-requires-clause-lines : goal.history_and_parts-requires-clause-lines
+history_and_parts-requires-clause-lines g c κs within =
+    few_lines (g.S.Source.left c.args.src.now) (content c.in_ok-file.file) c.in_ok-file.ensures.file
 
-has_grown : (old new : Vec ℕ Global) → vec_len new ≡ vec_len old + (input_limit + 1) →
-    length new.items ≡ length old.items + (input_limit + 1)
-has_grown old new l = omega (arith, l, old.ok.0, new.ok.0)
+pub history_and_parts-requires-clause-radii : goal.history_and_parts-requires-clause-radii
+history_and_parts-requires-clause-radii g c κs within = c.in_ok-file.ensures.file.radii
 
-not_limit : {E : Type 0} (r : Result Reached E) → r ≡ Ok Reached.End → r ≡ Ok Reached.Limit → ⊥
-not_limit r e l = cc
+pub returns-clause-made : goal.returns-clause-made
+returns-clause-made g c =
+    report_told (g.S.Source.left c.args.src.now) (content c.in_ok-file.file) c.in_ok-file.ensures.file
+    c.args.making.workers c.args.asked.shape c.args.asked.order c.history_and_parts.result
+    c.history_and_parts.ensures.made
 
-pub returns-in-End-clause-stop : goal.returns-in-End-clause-stop
-returns-in-End-clause-stop g c =
-    let read = c.in_ok-read_to_limit in
-    unmeshed_told (g.S.Source.left c.args.src.now) (Rose (g.S.Source.faults c.args.src.now)
-    (g.S.Source.faults c.read_to_limit.new.source)) c.new-bytes.result.items c.read_to_limit.new.bytes.items
-    c.deref.result.now
-    c.new-bytes.ensures.items c.deref.ensures.value (c.read_to_limit.ensures.whole (read.was ∙ ap Ok c.in-End.is))
-    c.judge.result c.judge.ensures.stop
+pub returns-clause-stop : goal.returns-clause-stop
+returns-clause-stop g c =
+    no_mesh (g.S.Source.left c.args.src.now) (content c.in_ok-file.file) c.in_ok-file.ensures.file
+    (Rose (g.S.Source.faults c.args.src.now) (g.S.Source.faults c.file_of_source.new.src)) c.history_and_parts.result
+    c.history_and_parts.ensures.stop
 
-pub returns-in-End-clause-reads : goal.returns-in-End-clause-reads
-returns-in-End-clause-reads g c =
-    let read = c.in_ok-read_to_limit in
-    let ended = read.was ∙ ap Ok c.in-End.is in
-    reads_all c.new-bytes.result.items _ c.read_to_limit.ensures.taken (c.read_to_limit.ensures.end ended)
-    (λ l. not_limit c.read_to_limit.result ended (c.read_to_limit.ensures.limit.1
-    (grown c.new-bytes.result c.read_to_limit.new.bytes l)))
-
-pub returns : goal.returns
-returns g c =
-    let read = c.in_ok-read_to_limit in
-    let l = has_grown c.new-bytes.result c.read_to_limit.new.bytes
-    (c.read_to_limit.ensures.limit.0 (read.was ∙ ap Ok c.in-Limit.is)) in
-    let t = c.read_to_limit.ensures.taken in
-    record {
-      made = tt;
-      legal = tt;
-      ready = tt;
-      stop = past_limit _ _ _ _ t l;
-      reads = reads_past t l;
-      to_its_end = λ o. cc;
-      later = c.read_to_limit.ensures.later;
-    }
+pub returns-clause-reads : goal.returns-clause-reads
+returns-clause-reads g c =
+    reads_front input_limit _ _ (status_of_made c.history_and_parts.result) c.in_ok-file.ensures.reads

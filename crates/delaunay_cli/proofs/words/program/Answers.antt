@@ -13,6 +13,7 @@ returns c =
     let drawn = c.with_command-program-3.ensures _ _ shaped c.gen_command.ensures in
     let stepped = c.with_command-program-4.ensures _ _ drawn c.meshing.ensures in
     let parted = c.with_command-program-5.ensures _ _ stepped c.parts_command.ensures in
+    let near = c.with_command-program-6.ensures _ _ parted c.meshing-2.ensures in
     let check : (app_of c.new-2.result ≡ new_app (codes "check"))
     × ((out-Command c.new-2.result).has_globals ≡ false) = (c.new-2.ensures.app, c.new-2.ensures.local) in
-    c.with_command.ensures _ _ parted check
+    c.with_command.ensures _ _ near check

@@ -4,7 +4,7 @@ use Rattle.byte_ends.specs.Ends.{Rose}
 use Rattle.delaunay_cli.specs.declared.task.Task.{Task}
 use Rattle.delaunay_cli.specs.Tasks.{IsTask}
 use Rattle.delaunay_cli.specs.Words.{asks_drawn}
-use Rattle.delaunay_cli.proofs.CommandLine.{check_mesh, draws_file, parts_file, reads_file, steps_file}
+use Rattle.delaunay_cli.proofs.CommandLine.{check_mesh, draws_file, near_file, parts_file, reads_file, steps_file}
 use Rattle.delaunay_cli.proofs.Ended.{
   checked_made,
   checked_unmade,
@@ -13,6 +13,8 @@ use Rattle.delaunay_cli.proofs.Ended.{
   mesh_within,
   parted_made,
   parted_unmade,
+  queried_made,
+  queried_unmade,
   reported_made,
   reads_within,
   reported_unmade,
@@ -107,6 +109,35 @@ returns-in-Part-clause-source g c =
     let words = c.args.words.now in
     λ d. absurd (both_ways (asks_drawn words) (parts_file words c.in-Part.making c.in-Part.wanted
     (subst (λ (t : Task). IsTask words t) c.in-Part.is c.in_ok-making.ensures.task)).0.0 d)
+
+pub returns-in-Query-clause-made : goal.returns-in-Query-clause-made
+returns-in-Query-clause-made g c =
+    let read = c.in_ok-making.ensures in
+    let words = c.args.words.now in
+    queried_made words (g.S.Source.left c.args.src.now) (Rose (g.S.Source.faults c.args.src.now)
+    (g.S.Source.faults c.query.new.src)) c.in-Query.making read.taken
+    (subst (λ (t : Task). IsTask words t) c.in-Query.is read.task) c.query.result c.query.ensures.made
+    c.query.ensures.plain_end
+
+pub returns-in-Query-clause-stop : goal.returns-in-Query-clause-stop
+returns-in-Query-clause-stop g c =
+    let read = c.in_ok-making.ensures in
+    let words = c.args.words.now in
+    queried_unmade words (g.S.Source.left c.args.src.now) (Rose (g.S.Source.faults c.args.src.now)
+    (g.S.Source.faults c.query.new.src)) c.in-Query.making read.taken
+    (subst (λ (t : Task). IsTask words t) c.in-Query.is read.task) c.query.result c.query.ensures.stop
+
+pub returns-in-Query-clause-reads : goal.returns-in-Query-clause-reads
+returns-in-Query-clause-reads g c =
+    let words = c.args.words.now in
+    λ s. reads_within words _ _ _ (near_file words c.in-Query.making
+    (subst (λ (t : Task). IsTask words t) c.in-Query.is c.in_ok-making.ensures.task)).0 c.query.ensures.reads
+
+pub returns-in-Query-clause-source : goal.returns-in-Query-clause-source
+returns-in-Query-clause-source g c =
+    let words = c.args.words.now in
+    λ d. absurd (both_ways (asks_drawn words) (near_file words c.in-Query.making
+    (subst (λ (t : Task). IsTask words t) c.in-Query.is c.in_ok-making.ensures.task)).0.0 d)
 
 pub returns-in-Check-clause-made : goal.returns-in-Check-clause-made
 returns-in-Check-clause-made g c =

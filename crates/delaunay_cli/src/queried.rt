@@ -1,0 +1,92 @@
+//! The command `near`: from the bytes of a source to the nearest points to their queries.
+
+ghost use Rattle.std.specs.Prelude.{◌≡◌, ◌<◌, ◌≤◌, ◌+◌, ◌^◌, None, length, IfSome, IfOk, IfErr, IsOk};
+ghost use Rattle.std.specs.Io.KnownBytes.{IsAtEnd};
+ghost use Rattle.byte_ends.specs.Ends.{Rose};
+ghost use Rattle.edit_history.specs.Histories.{replay};
+ghost use Rattle.edit_files.specs.Content.{content};
+ghost use Rattle.delaunay_cli.specs.Files.{HasNoMesh};
+ghost use Rattle.delaunay_cli.specs.Page.{IsSound, text_of_page};
+ghost use Rattle.delaunay_cli.specs.Queried.{IsAnswered, IsQueried, IsQueriedFile};
+ghost use Rattle.delaunay_cli.specs.Reported.{IsUnmeshed};
+ghost use Rattle.delaunay_cli.specs.Run.{Reads};
+ghost use Rattle.delaunay_cli.specs.Stops.{status_of_made};
+
+use crate::file_of_source::file_of_source;
+use crate::made::{Made, Page};
+use crate::mesh_of_lines::mesh_of_lines;
+use crate::stop::Stop;
+use crate::task::Making;
+use byte_ends::{Failed, Source};
+use cell_store::Mesh;
+use edit_files::File;
+use edit_history::Entry;
+use grid_claims::Gate;
+use near_vertex::{nearest_to_each, put_near};
+use one_mesh::{find_four, history, points};
+use point_order::Point;
+use std::alloc::{AllocError, Global};
+use std::thread::Threads;
+use text_sheets::WholeText;
+
+// The text of the nearest points of a mesh to queries.
+fn near_text(alloc: Global, mesh: &Mesh, queries: &[Point]) -> Result<Vec<u8>, AllocError>
+    ensures { IfOk result (λ text. IsQueried (replay mesh.now.history) queries.now text.items) }
+{
+    let points = points(alloc, mesh)?;
+    let nears = nearest_to_each(alloc, mesh.hold(), queries)?;
+    let mut text = WholeText::new(alloc);
+    match put_near(&mut text, &points, &nears) {
+        Ok(()) => Ok(text.into_bytes()),
+        Err(Failed) => Err(AllocError),
+    }
+}
+
+// The history of the mesh of a file's lines, and the text of its queries.
+fn answered<R: Threads + Sync, G: Gate + Sync>(
+    rt: &R,
+    alloc: Global,
+    file: &File,
+    making: Making,
+    gate: &G,
+) -> Result<(Vec<Entry>, Vec<u8>), Stop>
+    requires { length file.now.points.items + length file.now.edits.items + 4 < 2 ^ 32 }
+    ensures made { IfOk result (λ made. IsAnswered making.workers (content file.now) made.0.items made.1.items) }
+    ensures stop { IfErr result (IsUnmeshed (content file.now)) }
+{
+    let Ok(four) = find_four(&file.points) else {
+        return Err(Stop::Flat);
+    };
+    let mesh = mesh_of_lines(rt, alloc, file, four, making, gate)?;
+    let kept = history(alloc, &mesh)?;
+    let text = near_text(alloc, &mesh, &file.queries)?;
+    Ok((kept, text))
+}
+
+/// Reads a file from the source, and makes the text of the nearest points of its mesh to its queries.
+///
+/// # Errors
+///
+/// `ReadFault`, `TooLong`, `BadLine`, `Flat` and `Memory`.
+pub fn query<R: Threads + Sync, S: Source, G: Gate + Sync>(
+    rt: &R,
+    alloc: Global,
+    making: Making,
+    src: &mut S,
+    gate: &G,
+) -> Result<Made, Stop>
+    ensures made { IfOk result (λ made.
+        IfSome (S.left src.old) (IsQueriedFile making.workers made.kept.items (text_of_page made.page))) }
+    ensures plain_end { IfOk result (λ made. made.after ≡ None) }
+    ensures sound { IfOk result IsSound }
+    ensures stop { IfErr result (HasNoMesh (S.left src.old) (Rose (S.faults src.old) (S.faults src.new))) }
+    ensures reads { Reads (S.left src.old) (S.left src.new) (status_of_made result) }
+    ensures to_its_end { IsOk result → IsAtEnd (S.left src.new) }
+    ensures later { S.faults src.old ≤ S.faults src.new }
+{
+    let file = file_of_source(alloc, src)?;
+    let (kept, text) = answered(rt, alloc, &file, making, gate)?;
+    let page = Page::Text(text);
+    let after = None;
+    Ok(Made { kept, page, after })
+}
