@@ -5,17 +5,19 @@ is written from the definitions and formats (docs/DEFINITIONS.md, docs/FORMATS.m
 the sets of points: it tries all quadruples and triples. Each file is run with one worker and with more. Where no
 edit takes one of the opening four, the bytes without the order block must be the same for 2, 4, 8 and 64 workers
 over all grids. Else the order that the program tells must be one that keeps the file, and the rest must be what the
-plain program makes of the lines in that order. So are the least alphas that `steps` writes, and what `parts` tells at
-an alpha, for a most of parts, and of a part's boundary. A file on which the two differ is printed. The last line is
-'N passed, M failed'.
+plain program makes of the lines in that order. So are the least alphas that `steps` writes, what `parts` tells at
+an alpha, for a most of parts, and of a part's boundary, and the nearest points that `near` tells of the queries of a
+file of version 4. A file on which the two differ is printed. The last line is 'N passed, M failed'.
 
 With --radii every file has many radii, 0, the greatest and equal ones among them; with --takes its points are those
 of a lattice, a sphere, a prism or a plane with few points beside it, and most edits take one. Then each is run with
 one worker and with one choice of more: what is compared most is the shapes, or what a take leaves. With --points a
 file has points alone, some of them twice. With --moves it is of a version with moves, and most edits move a point;
-its radii count sixteenths from version 3 on.
+its radii count sixteenths from version 3 on, and in version 4 it has queries. With --near its points are those of a
+lattice, a sphere, a prism or a plane, and its queries points, centres of two to eight of them, and places about: then
+`near` alone is run.
 
-usage: tools/try random [--radii | --takes | --points | --moves] [FILES] [SEED]   (200 1)
+usage: tools/try random [--radii | --takes | --points | --moves | --near] [FILES] [SEED]   (200 1)
 """
 import os
 import random
@@ -300,6 +302,20 @@ def parts_agree(file, points, crew):
     return True
 
 
+def square(p, q):
+    return dot(minus(p, q), minus(p, q))
+
+
+def near(points, queries):
+    """The text of the nearest points to some places: of those as near the least, and the square of the distance."""
+    index = {p: i for i, p in enumerate(points)}
+    text = ['mesh3-near 1', f'queries {len(queries)}']
+    for q in queries:
+        p = min(points, key=lambda p: (square(p, q), p))
+        text.append(f'{index[p]} {square(p, q)}')
+    return '\n'.join([*text, 'end', ''])
+
+
 def drawn_file():
     side = random.choice([2, 3, 4, 6, 16384])
     low = random.choice([0, 4094, 8190, 16380]) if side < 10 else 0
@@ -385,13 +401,42 @@ def file_of_points():
     return points, [], random.choice([[], [random.randrange(60)]])
 
 
+def some_queries(places, count):
+    """So many places to ask about: some of these, middles of some, which are as near to several, and any others beside them."""
+    queries = []
+    for _ in range(count):
+        few = random.choices(places, k=random.choice([1, 2, 2, 4, 8]))
+        middle = tuple(sum(xs) // len(few) for xs in zip(*few))
+        aside = tuple(min(16383, max(0, x + random.choice([-1, 0, 0, 1]))) for x in middle)
+        queries.append(random.choice([middle, middle, aside, tuple(random.choice([0, 9, 8192, 16383]) for _ in range(3))]))
+    return queries
+
+
+def file_of_queries():
+    """A file of version 4 whose points have many ties, and places to ask about that are as near to several of them."""
+    points, edits, radii = random.choice([file_of_takes, file_of_points])()
+    whole = points + [p for _, p in edits]
+    return points, edits, radii, 4, some_queries(whole, random.choice([0, 1, 5, 20, 60]))
+
+
+def near_agrees(file):
+    """Whether `near` tells what the plain program does, by one worker, and by more where no edit takes one of the opening four."""
+    points, edits, _, _, queries = file
+    crew = ('--workers', random.choice(['2', '8', '64']), '--grid', random.choice(['1', '2', '4', '8', '16']))
+    if not is_solid(points):
+        return run(file, command='near') == run(file, *crew, command='near') == (6, '')
+    left = replies_of([(True, p) for p in points] + edits, order_of_one(points, edits))[1]
+    wanted = (0, near(left, queries))
+    return run(file, command='near') == wanted and (not is_anchored(points, edits) or run(file, *crew, command='near') == wanted)
+
+
 def edit_line(edit):
     sign = '=' if edit[0] is None else '+' if edit[0] else '-'
     return ' '.join((sign, *('%d %d %d' % p for p in edit[1:])))
 
 
 def file_of_moves():
-    """A file of version 2 or 3 whose edits move points by small steps, to places that are taken and from places that are empty too,
+    """A file of version 2, 3 or 4 whose edits move points by small steps, to places that are taken and from places that are empty too,
     among adds and takes of the same few places; its points have many ties."""
     kind = random.choice([lattice_points, sphere_points, prism_points, nearly_flat_points, None])
     side = random.choice([2, 3, 5, 16384])
@@ -409,9 +454,9 @@ def file_of_moves():
     if random.random() < 0.5 and is_solid(points):
         four = [points[i] for i in opening_four(points)]
         edits = [edit for edit in edits if edit[0] or edit[1] not in four]
-    version = random.choice([2, 3])
+    version = random.choice([2, 3, 4])
     radii = [random.randrange(40 * (16 if version > 2 else 1)) for _ in range(random.randrange(3))]
-    return points, edits, radii, version
+    return points, edits, radii, version, some_queries(known, random.randrange(9) if version > 3 else 0)
 
 
 def text_of(points, edits, radii, version=1, queries=()):
@@ -437,7 +482,7 @@ def order_told(text):
 
 def agrees(file, few):
     """Whether the program agrees with the plain one on a file: by one worker, and by many over grids of all sizes, or a few of these."""
-    points, edits, radii, version, *_ = (*file, 1)[:max(len(file), 4)]
+    points, edits, radii, version, queries = file if len(file) > 3 else (*file, 1, [])
     crews = [('--workers', workers, '--grid', grid) for workers in ('2', '4', '8', '64') for grid in ('1', '2', '4', '8', '16')]
     crews = random.sample(crews, few or len(crews))
     if not is_solid(points):
@@ -448,6 +493,8 @@ def agrees(file, few):
     left = replies_of([(True, p) for p in points] + edits, one)[1]
     least = steps(left)
     if run(file, command='steps') != (0, least) or not parts_agree(file, left, ()):
+        return False
+    if version > 3 and run(file, command='near') != (0, near(left, queries)):
         return False
     if is_anchored(points, edits):
         if not parts_agree(file, left, crews[0]):
@@ -465,7 +512,8 @@ def agrees(file, few):
 
 
 def main():
-    kinds = {'--radii': lambda: with_many_radii(*drawn_file()), '--takes': file_of_takes, '--points': file_of_points, '--moves': file_of_moves}
+    kinds = {'--radii': lambda: with_many_radii(*drawn_file()), '--takes': file_of_takes, '--points': file_of_points,
+             '--moves': file_of_moves, '--near': file_of_queries}
     kind = kinds.get(sys.argv[1] if len(sys.argv) > 1 else '')
     words = sys.argv[2:] if kind else sys.argv[1:]
     count, seed = (int(word) for word in (words + ['200', '1'][len(words):])[:2])
@@ -473,7 +521,7 @@ def main():
     failed = 0
     for _ in range(count):
         file = kind() if kind else drawn_file()
-        if not agrees(file, 1 if kind else 0):
+        if not (near_agrees(file) if kind is file_of_queries else agrees(file, 1 if kind else 0)):
             failed += 1
             print(text_of(*file), end='')
     print(f'{count - failed} passed, {failed} failed')

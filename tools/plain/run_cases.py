@@ -12,8 +12,6 @@ from plain import file_cases as files
 from plain import random_cases as plain
 
 PAGE, LIMIT = 4096, 16_777_216
-# The newest version of edit files that the program takes.
-NEWEST = 3
 LINES = {0: '', 2: 'usage', 3: 'read fault', 4: 'write fault', 6: 'no four independent points', 7: 'input too long'}
 FOUR = [(0, 0, 0), (2, 0, 0), (0, 2, 0), (0, 0, 2)]
 TETRAHEDRON = plain.text_of(FOUR, [], [])
@@ -64,7 +62,7 @@ def edit_of(sign, numbers):
 
 def outcome(words, text, source, output, kept, written=None):
     """The status, what is told and written, and what is kept. A text that is given is that of a reader, and no file is read."""
-    reads = words.split()[:1] in (['mesh'], ['shape'])
+    reads = words.split()[:1] in (['mesh'], ['shape'], ['near'])
     if written is None and not reads:
         return 2, '', ''
     if written is None:
@@ -72,14 +70,19 @@ def outcome(words, text, source, output, kept, written=None):
             return 3, '', ''
         if len(text) > LIMIT:
             return 7, '', ''
-        file = files.read(text, NEWEST)
+        file = files.read(text)
         if not isinstance(file, files.File):
             return 5, f'line {file[0]}: {file[1]}', ''
         points, edits = file.points, [edit_of(*edit) for edit in file.edits]
         if not plain.is_solid(points):
             return 6, '', ''
         radii = file.radii if words.startswith('shape') else []
-        written = plain.report(points, edits, radii, plain.order_of_one(points, edits), '--order' in words, file.row.number)
+        order = plain.order_of_one(points, edits)
+        if words.startswith('near'):
+            left = plain.replies_of([(True, p) for p in points] + edits, order)[1]
+            written = plain.near(left, file.queries)
+        else:
+            written = plain.report(points, edits, radii, order, '--order' in words, file.row.number)
     taken, failed = output.takes(written)
     return (4 if failed else 0), '', taken + '\0' + kept
 
@@ -138,10 +141,19 @@ def all_cases():
              (True, (0, 0, 0))]
     yield 'moves out of a corner, with each of their replies', case(
         'mesh --order', plain.text_of(FOUR, moves, [], 2), kept=OF_FOUR + ' 4:0 5:0 6:0 7:0 8:0')
-    yield 'radii in sixteenths', case(
-        'shape', plain.text_of([(0, 0, 0), (1, 0, 0), (0, 1, 0), (0, 0, 1)], [], [3, 4, 8, 11, 12], 3), kept=OF_FOUR)
+    yield 'radii in sixteenths, and queries that are not used', case(
+        'shape', plain.text_of([(0, 0, 0), (1, 0, 0), (0, 1, 0), (0, 0, 1)], [], [3, 4, 8, 11, 12], 4, [(1, 1, 1)]), kept=OF_FOUR)
+    asked = plain.text_of(FOUR, [], [], 4, [(0, 0, 0), (1, 1, 1), (3, 3, 3), (2, 2, 0)])
+    yield 'queries, one of them as near to each point', case('near', asked, kept=OF_FOUR)
+    name = 'every write of their answers fails'
+    for k in range(1, 7):
+        yield name if k < 6 else 'the sixth write never comes', case('near', asked, output=End(10, k), kept=OF_FOUR)
+    yield 'queries, a move and two workers', case(
+        'near --workers 2 --grid 16', plain.text_of(FOUR, [(None, (2, 0, 0), (9, 9, 9))], [], 4, [(9, 9, 8), (5, 5, 5)]), kept=OF_FOUR + ' 4:0')
+    yield 'no queries', case('near', TETRAHEDRON, kept=OF_FOUR)
+    yield 'queries in a version that has none', case('near', asked.replace('mesh3 4', 'mesh3 3'))
     yield 'a version that is none', case('mesh', 'mesh3 5\npoints\n')
-    yield 'a version that no command is for', case('mesh', 'mesh3 4\npoints\n')
+    yield 'a version that is none', case('near', 'mesh3 5\npoints\n')
     yield 'points in a plane', case('mesh', plain.text_of([(0, 0, 0), (2, 0, 0), (0, 2, 0), (2, 2, 0), (1, 1, 0)], [], []))
     corners = 'mesh3 1\npoints\n0 0 0\n16383 0 0\n0 16383 0\n0 0 16383\nedits\n'
     drawn = corners + '+ 8419 2879 5056\nradii\n16384\n262144\n4194304\nend\n'

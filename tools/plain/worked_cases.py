@@ -246,6 +246,13 @@ def walk_cases():
                 (f'{far}; all; 100,8192,0', 'at, to no new point'))
 
 
+def near_cases():
+    apart = 'near 2; 0,0,0 0,0,9000 0,9000,0 9000,0,0'
+    yield from ((f'{apart}; 0; 9000,0,0', 'at, moved, needs 4'), (f'{apart}; 0 4; 9000,0,0', 'at, moved, here 9000,0,0'),
+                (f'{apart}; all; 4500,4500,4500', 'at, here 0,0,0'), (f'{apart}; 2; 0,9000,4500', 'at, here 0,9000,0'),
+                (f'{apart}; 3; 9000,0,0', 'needs 4'), (f'{apart}; ; 0,0,9000', 'needs 1'))
+
+
 HEAD, EMPTY = 'mesh3 1|points|', 'mesh3 1|points|edits|radii|'
 BAD_TEXTS = [
     ('', '', 0, '', '1: Truncated'), ('mesh3 5|', '', 0, '', '1: Section'), ('mesh3 1|edits|', '', 0, '', '2: Section'),
@@ -384,6 +391,7 @@ def all_cases():
     for b in range(1, 8):
         yield 'a refill without a bucket', refill_case(2, AROUND, f'but {b}', (100, 100, 100))
     yield from (('walks', case) for case in walk_cases())
+    yield from (('walks to the nearest point', case) for case in near_cases())
     for front, middle, times, end, fault in BAD_TEXTS:
         yield 'texts that are no file', (f'file {times}; {front}; {middle}; {end}', f'line {fault}')
     for front, middle, times, end, told in FILES:

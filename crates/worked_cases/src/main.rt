@@ -46,6 +46,7 @@
 //!   cells by a search that is counted, and what lies across the facets of the first of them.
 //! - `refill SIZE; POINTS; HELD; POINT`: the cells that go when the point is taken, and those that come.
 //! - `walk SIZE; POINTS; HELD; TARGET`: where a walk to the target starts, and what each of its steps comes to.
+//! - `near SIZE; POINTS; HELD; PLACE`: the same of a walk to the point that is nearest to the place.
 #![tactic(auto)]
 
 mod buckets;
@@ -58,6 +59,7 @@ mod files;
 mod gabriel;
 mod handles;
 mod meshes;
+mod nears;
 mod predicates;
 mod reading;
 mod refills;
@@ -107,6 +109,7 @@ fn put_case<R: Threads + Sync>(
         "bucket" => buckets::put(alloc, answer, lists),
         "refill" => refills::put(alloc, answer, lists),
         "walk" => walks::put(alloc, answer, lists),
+        "near" => nears::put(alloc, answer, lists),
         _ => None,
     }
 }

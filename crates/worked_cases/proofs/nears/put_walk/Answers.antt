@@ -1,0 +1,7 @@
+use Rattle.near_vertex.proofs.Starts.{start_is_walk}
+use Rattle.worked_cases.proofs.nears.put_walk.Goals as goal
+
+pub put_steps-requires : goal.put_steps-requires
+put_steps-requires c =
+    let r = c.requires in
+    (r.0, r.1, start_is_walk c.args.hold.now r.0 c.args.q c.in-At.walk r.1 c.in-At.ensures)
