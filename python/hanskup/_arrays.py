@@ -28,7 +28,7 @@ class Arrays:
 
     def _forget(self) -> None:
         for name in ('_rows', 'cells', 'hull', 'across', 'rounding', '_both', '_turned', 'simplices', 'neighbors',
-                     'convex_hull', 'coplanar', '_faces'):
+                     'vertex_neighbor_vertices', 'convex_hull', 'coplanar', '_faces'):
             self.__dict__.pop(name, None)
 
     # ---- what the grid has
@@ -99,6 +99,16 @@ class Arrays:
         across = self.across.copy()
         across[self._turned] = across[self._turned][:, [1, 0, 2, 3]]
         return across
+
+    @cached_property
+    def vertex_neighbor_vertices(self) -> tuple[np.ndarray, np.ndarray]:
+        """(n + 1,) and (k,): the points that share a simplex with point i are indices[indptr[i]:indptr[i + 1]], ascending.
+
+        A point that fell together with an earlier one, or that went, has none.
+        """
+        pairs = np.sort(self.simplices, axis=1)[:, [[0, 1], [0, 2], [0, 3], [1, 2], [1, 3], [2, 3]]].reshape(-1, 2)
+        edges = np.unique(np.concatenate([pairs, pairs[:, ::-1]]), axis=0)
+        return np.searchsorted(edges[:, 0], np.arange(len(self.points) + 1)), edges[:, 1]
 
     @cached_property
     def convex_hull(self) -> np.ndarray:

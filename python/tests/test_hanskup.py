@@ -152,6 +152,10 @@ class Others(unittest.TestCase):
             told = dict(zip(other.simplices[places[i]].tolist(), other.neighbors[places[i]].tolist()))
             for corner, j in zip(row.tolist(), across.tolist()):
                 self.assertEqual(told[corner], places[j] if j >= 0 else -1)
+        starts, around = mesh.vertex_neighbor_vertices
+        others, theirs = other.vertex_neighbor_vertices
+        for i in range(len(points)):
+            self.assertEqual(around[starts[i]:starts[i + 1]].tolist(), sorted(theirs[others[i]:others[i + 1]].tolist()))
 
     @unittest.skipUnless(has('gudhi'), 'gudhi is not installed')
     def test_gudhi(self):

@@ -9,7 +9,8 @@
 //! | a mesh of points | `opening_points`, `begin`, then `apply` of `Edit::Add` for each other point |
 //! | to add, take or move a point | `apply`, which answers the reply and the number of the entry |
 //! | the cells; the points; what was done | `complex`; `points`; `history` |
-//! | where a place lies; the nearest point | `locate`; `nearest(mesh.hold(), q)` |
+//! | where a place lies; the nearest point | `locate`; `nearest(mesh.hold(), q)`, of many places `nearest_to_each` |
+//! | the cells at a point, and by them the points around it | `mesh.hold().cells_at(p)`, a vertex |
 //! | edges and triangles with their cells | `faces` of the cells; by one thread `few_faces` |
 //! | an alpha complex, with kinds of faces | `alpha`; for several alphas `alphas`, then `Alphas::shape` |
 //! | the least alpha of every face | `thresholds`, and `put_steps` for its text |
@@ -50,7 +51,7 @@ pub use mesh_files::{
     summary_text,
 };
 pub use mesh_handle::{Location, locate};
-pub use near_vertex::{NearStart, NearTurn, NearWalk, nearest};
+pub use near_vertex::{Near, NearStart, NearTurn, NearWalk, nearest, nearest_to_each, put_near};
 pub use one_mesh::{Receipt, apply, begin, complex, history, opening_points, points};
 pub use point_order::{Cell, Facet, OutOfRange, Pair, Point, Quad, Tri};
 pub use solid_parts::{Part, PartSize, boundary, least_alpha, parts, put_parts, sizes};
