@@ -1,10 +1,9 @@
 -- Lists that the parts of a pass do, and a pass that is split, worked with and joined.
-use Rattle.std.specs.Prelude.{◌≡◌, ℕ, zero, suc, slice_index_or, ◌+◌, ◌-◌, ◌<◌, ◌≤◌, Bool, true, false, not, cond, Result, Ok, Err, IfOk, List, [], ◌∷◌, ◌++◌, map, length, All, IsPermutation}
-use Rattle.std.specs.List.{filter}
+use Rattle.std.specs.Prelude.{◌≡◌, ℕ, zero, suc, slice_index_or, ◌+◌, ◌-◌, ◌<◌, ◌≤◌, Result, Ok, Err, IfOk, List, [], ◌∷◌, ◌++◌, map, length, All, IsPermutation}
 use Rattle.std.proofs.Common.{refl, sym, ◌∙◌, ap, ap₂, subst, inl, inr, arith, get_or, length-append}
 use Rattle.std.proofs.lemmas.List.{append-nil, map-append, length-map}
 use Rattle.std.proofs.lemmas.List.Sorted.{IsPermutation-sym, IsPermutation-trans}
-use Rattle.list_laws.proofs.Cited.{EachLater, all_of_each, both_later, each_of_all, from_append, in_left, in_permutation, later_pairs, later_unmap, mapped_true, pairs_later, related}
+use Rattle.list_laws.proofs.Cited.{EachLater, all_of_each, both_later, each_of_all, from_append, in_left, in_permutation, later_across, later_left, later_pairs, later_right, later_unmap, mapped_true, pairs_later, related}
 use Rattle.point_order.specs.Sets.{IsIn}
 use Rattle.edit_history.specs.declared.history.Entry.{Entry}
 use Rattle.edit_history.specs.OneThread.{line_of}
@@ -15,12 +14,11 @@ use Rattle.grid_claims.specs.Lists.{entries_by}
 use Rattle.grid_claims.specs.Tries.{opening_pass, IsSplit, joined}
 use Rattle.plain_laws.specs.Running.{Pair, AreApart}
 use Rattle.edit_workers.specs.Dealing.{AreAscending, count_of, pairs_in}
-use Rattle.edit_workers.specs.Working.{Marked, left_over, done, IsWorked}
 use Rattle.edit_workers.specs.declared.lists.List as lists
 use Rattle.edit_workers.specs.declared.lists.Left.{Left}
 use Rattle.edit_workers.specs.Running.{CanRun, AscendAtPoint, ArePartly, AreWorked, AreRunBut, IsOfWorker}
 use Rattle.edit_workers.specs.Arranging.{IsArranged, IsInPlace}
-use Rattle.edit_workers.proofs.Marks.{marks_part, done_tags, left_tags, done_first, point_later}
+use Rattle.edit_workers.specs.Rounds.{IsWorkedInRounds}
 use Rattle.edit_workers.proofs.Partly.{count_both, all_low, all_high, apart_low, apart_high, partly_both}
 
 -- ---- a list of lists by places
@@ -36,16 +34,6 @@ behind_at (x ∷ l) m i = let e : length (x ∷ l) + i ≡ suc (length l + i) = 
 
 -- ---- one list
 
--- where nothing is left over all is done
-none_left : (l : List Marked) → left_over l ≡ [] → done l ≡ map (λ x. x.1) l
-none_left [] e = refl
-none_left (x ∷ l) e = by x.0 (none_left l) e
-  where
-    by : (b : Bool) → (left_over l ≡ [] → done l ≡ map (λ x. x.1) l) → map (λ (x : Marked). x.1) (cond b (x ∷ filter (λ x. x.0) l) (filter (λ x. x.0) l)) ≡ []
-        → map (λ (x : Marked). x.1) (cond (not b) (x ∷ filter (λ x. not x.0) l) (filter (λ x. not x.0) l)) ≡ x.1 ∷ map (λ (x : Marked). x.1) l
-    by true h e = absurd (omega (arith, ap length e))
-    by false h e = ap (λ (t : List Pair). x.1 ∷ t) (h e)
-
 first_list : List (List Pair) → List Pair
 first_list [] = []
 first_list (l ∷ ls) = l
@@ -54,33 +42,38 @@ only_list : (l m : List Pair) → l ∷ [] ≡ m ∷ [] → l ≡ m
 unfolding first_list
 only_list l m e = ap first_list e
 
-module _ (list arranged left : List Pair) (old new : Standing) (is : IsArranged list arranged) (own : old.parts ≡ old.table.parts → arranged ≡ list) (fresh : old.made ≡ []) (one : old.parts ≡ 1) (w : IsWorked arranged left old new) where
-  abbrev marked : List Marked
-  marked = w.marked
-
+module _ (list arranged left : List Pair) (old new : Standing) (is : IsArranged list arranged)
+    (own : old.parts ≡ old.table.parts → arranged ≡ list) (fresh : old.made ≡ []) (one : old.parts ≡ 1)
+    (w : IsWorkedInRounds arranged left old new) where
   abbrev es : List Entry
   es = w.entries
 
   made_is : new.made ≡ es
   made_is = ap (λ (s : Standing). s.made) w.pass.new_is ∙ ap (λ (l : List Entry). l ++ es) fresh
 
-  ascending : EachLater AscendAtPoint (map (λ x. x.1) marked)
-  ascending = subst (EachLater AscendAtPoint) (sym w.parted) (pairs_later AscendAtPoint arranged is.order)
+  all_pairs : map line_of es ++ left ≡ w.made ++ left
+  all_pairs = ap (λ (l : List Pair). l ++ left) w.entries_are.pairs_are
 
   lines : IsPermutation (list ++ []) (map line_of es ++ left)
   lines =
       IsPermutation-trans (list ++ []) arranged (map line_of es ++ left)
       (subst (λ (l : List Pair). IsPermutation l arranged) (sym (append-nil list)) is.same)
-      (subst (λ (l : List Pair). IsPermutation l (map line_of es ++ left)) w.parted
-      (subst (IsPermutation (map (λ (x : Marked). x.1) marked)) (ap₂ (λ (a b : List Pair). a ++ b) (sym w.made.pairs_are) (sym w.left_is)) (marks_part marked)))
+      (subst (IsPermutation arranged) (sym all_pairs) w.same)
+
+  -- those made and then those left over
+  ascending : EachLater AscendAtPoint (map line_of es ++ left)
+  ascending =
+      subst (EachLater AscendAtPoint) (sym all_pairs)
+      (pairs_later AscendAtPoint (w.made ++ left) (w.order is.order))
 
   abbrev Climbs : Entry → Entry → Type 0
   Climbs d e = d.number < e.number × AscendAtPoint (line_of d) (line_of e)
 
   climbs : EachLater Climbs es
   climbs =
-      both_later (λ (d e : Entry). d.number < e.number) (λ (d e : Entry). AscendAtPoint (line_of d) (line_of e)) es (pairs_later (λ (d e : Entry). d.number < e.number) es w.made.ascending)
-      (later_unmap line_of AscendAtPoint es (subst (EachLater AscendAtPoint) (sym w.made.pairs_are) (done_tags marked ascending)))
+      both_later (λ (d e : Entry). d.number < e.number) (λ (d e : Entry). AscendAtPoint (line_of d) (line_of e)) es
+      (pairs_later (λ (d e : Entry). d.number < e.number) es w.entries_are.ascending)
+      (later_unmap line_of AscendAtPoint es (later_left AscendAtPoint (map line_of es) left ascending))
 
   order : (d e : Entry) → IsIn d es → IsIn e es → d.number < e.number → AscendAtPoint (line_of d) (line_of e)
   order d e i j n same =
@@ -90,38 +83,43 @@ module _ (list arranged left : List Pair) (old new : Standing) (is : IsArranged 
         | inr (inr r) ↦ let m = r.0 in absurd (omega (arith, m, n))
       ]
 
-  behind : (d : Entry) (p : Pair) → IsIn d es → IsIn p left → AscendAtPoint (line_of d) p
-  behind d p i j same =
-      done_first marked ascending (point_later marked ascending w.later)
-      (line_of d) p (subst (IsIn (line_of d)) w.made.pairs_are (mapped_true line_of d es i)) (subst (IsIn p) w.left_is j) same
-
   partly : ArePartly (list ∷ []) left es
   partly = record {
     lines = lines;
     order = order;
-    behind = behind;
-    later = later_pairs AscendAtPoint left (subst (EachLater AscendAtPoint) (sym w.left_is) (left_tags marked ascending));
+    behind = λ d p i j. later_across AscendAtPoint (map line_of es) left ascending (line_of d) p
+        (mapped_true line_of d es i) j;
+    later = later_pairs AscendAtPoint left (later_right AscendAtPoint (map line_of es) left ascending);
   }
 
   owned : (e : Entry) → IsIn e es → IsOfWorker old.first (list ∷ []) e
   owned e i =
-      let b = each_of_all (λ (e : Entry). e.by ≡ old.first) es w.made.by_pass e i in
+      let b = each_of_all (λ (e : Entry). e.by ≡ old.first) es w.entries_are.by_pass e i in
       let none : e.by - old.first ≡ 0 = omega (arith, b) in
       subst (λ (n : ℕ). IsIn (line_of e) (slice_index_or (list ∷ []) n [])) (sym none)
       (subst (IsIn (line_of e)) (append-nil list)
-      (in_permutation (map line_of es ++ left) (list ++ []) (line_of e) (IsPermutation-sym (list ++ []) (map line_of es ++ left) lines) (in_left (line_of e) (map line_of es) left (mapped_true line_of e es i))))
+      (in_permutation (map line_of es ++ left) (list ++ []) (line_of e)
+      (IsPermutation-sym (list ++ []) (map line_of es ++ left) lines)
+      (in_left (line_of e) (map line_of es) left (mapped_true line_of e es i))))
 
   pub worked_one : AreWorked (list ∷ []) left old new
   worked_one = record {
-    still = (ap (λ (s : Standing). s.table) w.pass.new_is, ap (λ (s : Standing). s.first) w.pass.new_is, ap (λ (s : Standing). s.parts) w.pass.new_is);
+    still = (
+      ap (λ (s : Standing). s.table) w.pass.new_is,
+      ap (λ (s : Standing). s.first) w.pass.new_is,
+      ap (λ (s : Standing). s.parts) w.pass.new_is,
+    );
     partly = subst (ArePartly (list ∷ []) left) (sym made_is) partly;
     workers =
         subst (All (λ (e : Entry). (old.first ≤ e.by) × (e.by < old.first + old.parts))) (sym made_is)
-        (all_of_each (λ (e : Entry). (old.first ≤ e.by) × (e.by < old.first + old.parts)) es (λ e i. let b = each_of_all (λ (e : Entry). e.by ≡ old.first) es w.made.by_pass e i in (omega (arith, b), omega (arith, b, one))));
+        (all_of_each (λ (e : Entry). (old.first ≤ e.by) × (e.by < old.first + old.parts)) es
+        (λ e i.
+        let b = each_of_all (λ (e : Entry). e.by ≡ old.first) es w.entries_are.by_pass e i in
+        (omega (arith, b), omega (arith, b, one))));
     owned = subst (λ (l : List Entry). (e : Entry) → IsIn e l → IsOfWorker old.first (list ∷ []) e) (sym made_is) owned;
     alone = λ l e zero all.
-        let none : left ≡ [] = w.alone zero all in
-        (none, ap (map line_of) made_is ∙ w.made.pairs_are ∙ none_left marked (sym w.left_is ∙ none) ∙ w.parted ∙ own all ∙ only_list list l e);
+        let a = w.alone (zero, all) in
+        (a.0, ap (map line_of) made_is ∙ w.entries_are.pairs_are ∙ a.1 ∙ own all ∙ only_list list l e);
   }
 
 -- a slice of one list
@@ -130,7 +128,7 @@ one_of [] x l e = absurd (omega (arith, l))
 one_of {X} (y ∷ []) x l e = ap (λ (z : X). z ∷ []) (sym e)
 one_of (y ∷ z ∷ xs) x l e = absurd (omega (arith, l))
 
-pub slice_worked : (ls : List lists.List) (x : lists.List) (arranged left : List Pair) (table : Opened) (count : ℕ) (old new : Standing) → length ls ≡ 1 → x ≡ get_or ls 0 x → CanRun table (pairs_in ls) old → count ≡ table.parts → IsInPlace count x.pairs.items arranged → IsWorked arranged left old new → AreWorked (pairs_in ls) left old new
+pub slice_worked : (ls : List lists.List) (x : lists.List) (arranged left : List Pair) (table : Opened) (count : ℕ) (old new : Standing) → length ls ≡ 1 → x ≡ get_or ls 0 x → CanRun table (pairs_in ls) old → count ≡ table.parts → IsInPlace count x.pairs.items arranged → IsWorkedInRounds arranged left old new → AreWorked (pairs_in ls) left old new
 slice_worked ls x arranged left table count old new l e can parts is w =
     let f : pairs_in ls ≡ x.pairs.items ∷ [] = ap pairs_in (one_of ls x l e) in
     let g : CanRun table (x.pairs.items ∷ []) old = subst (λ (t : List (List Pair)). CanRun table t old) f can in

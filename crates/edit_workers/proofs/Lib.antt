@@ -4,10 +4,10 @@ pub mod Cuts
 pub mod Deals
 pub mod FirstOnes
 pub mod Halves
-pub mod Marks
 pub mod Partly
 pub mod Segments
 pub mod Sharing
 pub mod Stretches
 pub mod Worked
+pub mod Waits
 pub mod Cited

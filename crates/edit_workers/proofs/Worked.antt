@@ -192,6 +192,14 @@ worked_nothing p = record {
   alone = λ f q. refl;
 }
 
+pub no_entries : (p : Standing) → AreEntriesOf p [] []
+unfolding worked_nothing
+no_entries p = (worked_nothing p).made
+
+pub nothing_made : (p : Standing) → HasMade p p [] []
+unfolding worked_nothing
+nothing_made p = (worked_nothing p).pass
+
 -- steps without an entry
 pub made_as_before : (old now new : Standing) (entries : List Entry) (steps : List Act) (n : ℕ) → HasMade old now entries steps → (m : HasMissed n now new) → HasMade old new entries (steps ++ m.steps)
 made_as_before old now new entries steps n h m =
@@ -272,7 +280,7 @@ entries_more old now new pairs entries steps most tag edit a h m =
 nothing_shares : (edit : Edit) (l : List Pair) → l ≡ [] → shares_with edit l ≡ true → ⊥
 nothing_shares edit l e s = false≢true (sym (ap (shares_with edit) e) ∙ s)
 
-still_all : (old now : Standing) (entries : List Entry) (steps : List Act) → HasMade old now entries steps → OwnsAll old → OwnsAll now
+pub still_all : (old now : Standing) (entries : List Entry) (steps : List Act) → HasMade old now entries steps → OwnsAll old → OwnsAll now
 still_all old now entries steps h o =
     let a = h.new_is in
     (ap (λ (p : Standing). p.first) a ∙ o.0, ap (λ (p : Standing). p.parts) a ∙ o.1 ∙ ap (λ (p : Standing). p.table.parts) (sym a))

@@ -12,6 +12,7 @@ mod arranging;
 mod cutting;
 mod dealing;
 mod lists;
+mod rounds;
 mod running;
 mod working;
 

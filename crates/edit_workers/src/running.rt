@@ -16,7 +16,7 @@ ghost use Rattle.edit_workers.specs.Running.{
 
 use crate::arranging::in_place;
 use crate::lists::{Left, List, Lists};
-use crate::working::work;
+use crate::rounds::work_in_rounds;
 use cell_store::Mesh;
 use edit_history::Edit;
 use grid_claims::{Gate, MeshTable, Pass};
@@ -51,7 +51,7 @@ fn work_alone<G: Gate>(
     ensures { IfOk result (λ r. AreWorked (pairs_in lists.now) r.1.pairs.items pass r.0) }
 {
     let list = in_place(alloc, &lists[0], pass.first(), count)?;
-    let left = work(alloc, table, &mut pass, &list, gate)?;
+    let left = work_in_rounds(alloc, table, &mut pass, &list, gate)?;
     Ok((pass, left))
 }
 
@@ -192,12 +192,13 @@ fn run_segment<G: Gate + Sync, R: Threads + Sync>(
     ensures run { IfOk result (λ m. IsSegmentRun (pairs_in lists.now) mesh.history m.history) }
     ensures grid { IfOk result (λ m. m.grid ≡ mesh.grid) }
 {
-    if pair_count(lists) != 1 {
-        return run_beside(rt, alloc, mesh, lists, gate);
+    let is_one = pair_count(lists) == 1;
+    if is_one {
+        let mut mesh = mesh;
+        apply_lists(alloc, &mut mesh, lists)?;
+        return Ok(mesh);
     }
-    let mut mesh = mesh;
-    apply_lists(alloc, &mut mesh, lists)?;
-    Ok(mesh)
+    Ok(run_beside(rt, alloc, mesh, lists, gate)?)
 }
 
 /// Makes the edits of all segments on the mesh, one segment after another. Each list of a segment is done by a worker

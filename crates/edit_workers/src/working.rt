@@ -29,13 +29,13 @@ const LONGEST_PAUSE: u32 = 4096;
 
 // What came of one try of an edit, or of all.
 #[derive(Clone, Copy)]
-enum Tried {
+pub(crate) enum Tried {
     Made,
     LeftOver,
 }
 
 // Tries an edit once. Nothing else is asked of the answer than whether it was made.
-fn try_once<G: Gate>(
+pub(crate) fn try_once<G: Gate>(
     alloc: Global,
     table: &MeshTable,
     pass: &mut Pass,
@@ -57,7 +57,7 @@ fn try_once<G: Gate>(
 }
 
 // Lets so many turns go by.
-fn pause(turns: u32) {
+pub(crate) fn pause(turns: u32) {
     for _turn in 0..turns {
         spin_loop();
     }
