@@ -38,7 +38,7 @@ first_list : List (List Pair) → List Pair
 first_list [] = []
 first_list (l ∷ ls) = l
 
-only_list : (l m : List Pair) → l ∷ [] ≡ m ∷ [] → l ≡ m
+pub only_list : (l m : List Pair) → l ∷ [] ≡ m ∷ [] → l ≡ m
 unfolding first_list
 only_list l m e = ap first_list e
 

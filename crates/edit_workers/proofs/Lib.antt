@@ -8,6 +8,7 @@ pub mod Partly
 pub mod Segments
 pub mod Sharing
 pub mod Stretches
+pub mod Unworked
 pub mod Worked
 pub mod Waits
 pub mod Cited

@@ -1,35 +1,15 @@
 -- Segments that are done one after another.
-use Rattle.std.specs.Prelude.{
-  ◌≡◌,
-  ℕ,
-  zero,
-  suc,
-  ◌+◌,
-  ◌<◌,
-  ◌≤◌,
-  true,
-  List,
-  [],
-  ◌∷◌,
-  ◌++◌,
-  map,
-  length,
-  take,
-  All,
-  AllPairs,
-  IsPermutation,
-}
+use Rattle.std.specs.Prelude.{◌≡◌, ℕ, zero, suc, ◌+◌, ◌<◌, ◌≤◌, List, [], ◌∷◌, ◌++◌, map, length, take, All}
 use Rattle.std.specs.List.{flat_map}
 use Rattle.std.proofs.Common.{refl, sym, ◌∙◌, ap, subst, inl, inr, arith, get_or, length-append}
 use Rattle.std.proofs.Math.Seq.{take-suc}
 use Rattle.std.proofs.lemmas.Grind.{flat_map-append}
 use Rattle.std.proofs.lemmas.List.{append-nil, append_assoc, length-map, map-append, take_all}
 use Rattle.std.proofs.lemmas.List.Elements.{All-append}
-use Rattle.std.proofs.lemmas.List.Sorted.{IsPermutation-refl, length_permutation}
+use Rattle.std.proofs.lemmas.List.Sorted.{length_permutation}
 use Rattle.list_laws.proofs.Cited.{all_of_each, at_in, each_of_all, from_append, mapped_true}
 use Rattle.point_order.specs.Sets.{IsIn}
 use Rattle.edit_history.specs.declared.history.Entry.{Entry}
-use Rattle.edit_history.specs.Edits.{share_point}
 use Rattle.edit_history.specs.OneThread.{line_of}
 use Rattle.cell_store.specs.Meshes.{MeshView}
 use Rattle.one_mesh.specs.Applied.{edited, next_entry}
@@ -240,33 +220,3 @@ room_for ls n x h k most b e a room =
     let l = ap length a.history in
     let c = ap length a.pairs_are in
     omega (arith, w, l, c, room, length-append h a.more, length-map a.more line_of)
-
--- one pair alone that is made is a run of its segment
-pub run_of_one : (lists : List (List Pair)) (h k : List Entry) → 0 < length lists → count_of lists ≡ 1 →
-    AreApplied (all_of lists) h k → IsSegmentRun lists h k
-run_of_one lists h k some one a = record {
-  more = a.more;
-  history = a.history;
-  run = record {
-    lines = subst (IsPermutation (all_of lists)) (sym a.pairs_are) (IsPermutation-refl (all_of lists));
-    order = alone (λ (d e : Entry). share_point d.edit e.edit ≡ true → d.tag < e.tag);
-    workers = all_of_each (λ (e : Entry). e.by < length lists) a.more
-        (λ e i. let b = each_of_all (λ (e : Entry). e.by ≡ 0) a.more a.by_none e i in omega (arith, b, some));
-    alone = λ l e. a.pairs_are ∙ ap all_of e ∙ append-nil l;
-  };
-  ends = record {
-    made = [];
-    late = a.more;
-    both = refl;
-    owned = λ e i. absurd i;
-    by_none = a.by_none;
-    tags = alone (λ (d e : Entry). d.tag ≤ e.tag);
-  };
-}
-  where
-    many : length a.more ≡ 1
-    many = sym (length-map a.more line_of) ∙ ap length a.pairs_are ∙ one
-
-    -- a relation between each and each later one
-    alone : (R : Entry → Entry → Type 0) → AllPairs R a.more
-    alone R i j d l m = absurd (omega (arith, l, m, many))

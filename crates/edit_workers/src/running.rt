@@ -24,6 +24,10 @@ use one_mesh::apply;
 use std::alloc::{AllocError, Global};
 use std::thread::{Threads, join};
 
+// A segment that is one of several and has fewer pairs than so many is made without workers: to start them and to open
+// a table takes longer.
+const FEW: u64 = 8;
+
 // How many pairs the lists have.
 fn pair_count(lists: &[List]) -> u64
     requires { count_of (pairs_in lists.now) ≤ 2 ^ 32 }
@@ -179,12 +183,52 @@ fn run_beside<G: Gate + Sync, R: Threads + Sync>(
     Ok(mesh)
 }
 
-// Does the lists of a segment on the mesh. One pair alone needs no table.
+// The pairs of all lists.
+fn all_pairs(alloc: Global, lists: &[List]) -> Result<Left, AllocError>
+    ensures { IfOk result (λ all. all.pairs.items ≡ all_of (pairs_in lists.now)) }
+{
+    let mut pairs = Vec::new(alloc);
+    for list in lists {
+        let mut more = Vec::from_slice(alloc, &list.pairs)?;
+        pairs.append(&mut more)?;
+    }
+    Ok(Left { pairs })
+}
+
+// Does the lists on the mesh without workers, by their tags.
+fn run_alone(alloc: Global, mesh: &mut Mesh, lists: &[List]) -> Result<(), AllocError>
+    requires lists { CanBeDone (pairs_in lists.now) }
+    requires room { length mesh.old.history + count_of (pairs_in lists.now) ≤ 2 ^ 32 }
+    ensures run { OnOk result (IsSegmentRun (pairs_in lists.now) mesh.old.history mesh.new.history) }
+    ensures grid { OnOk result (mesh.new.grid ≡ mesh.old.grid) }
+{
+    let _ = mesh.count();
+    if lists.len() == 1 {
+        apply_lists(alloc, mesh, lists)?;
+        return Ok(());
+    }
+    let mut all = all_pairs(alloc, lists)?;
+    sort_by_tag(&mut all);
+    apply_all(alloc, mesh, &all.pairs)?;
+    Ok(())
+}
+
+// Whether a segment, and whether it is one of several, needs no workers: one of few pairs, and one of several that has
+// one list.
+fn needs_none(lists: &[List], is_of_several: bool) -> bool
+    requires { count_of (pairs_in lists.now) ≤ 2 ^ 32 }
+{
+    let few = if is_of_several { FEW } else { 2 };
+    pair_count(lists) < few || is_of_several && lists.len() == 1
+}
+
+// Does the lists of a segment on the mesh.
 fn run_segment<G: Gate + Sync, R: Threads + Sync>(
     rt: &R,
     alloc: Global,
     mesh: Mesh,
     lists: &[List],
+    is_of_several: bool,
     gate: &G,
 ) -> Result<Mesh, AllocError>
     requires lists { CanBeDone (pairs_in lists.now) }
@@ -192,10 +236,9 @@ fn run_segment<G: Gate + Sync, R: Threads + Sync>(
     ensures run { IfOk result (λ m. IsSegmentRun (pairs_in lists.now) mesh.history m.history) }
     ensures grid { IfOk result (λ m. m.grid ≡ mesh.grid) }
 {
-    let is_one = pair_count(lists) == 1;
-    if is_one {
+    if needs_none(lists, is_of_several) {
         let mut mesh = mesh;
-        apply_lists(alloc, &mut mesh, lists)?;
+        run_alone(alloc, &mut mesh, lists)?;
         return Ok(mesh);
     }
     Ok(run_beside(rt, alloc, mesh, lists, gate)?)
@@ -227,9 +270,10 @@ pub fn run_edits<G: Gate + Sync, R: Threads + Sync>(
     ensures run { IfOk result (λ m. AreRun (segments_of lists.now) mesh.history m.history) }
     ensures grid { IfOk result (λ m. m.grid ≡ mesh.grid) }
 {
+    let is_of_several = lists.segments.len() > 1;
     let mut made = mesh;
     for segment in &lists.segments {
-        made = run_segment(rt, alloc, made, &segment.each, gate)?;
+        made = run_segment(rt, alloc, made, &segment.each, is_of_several, gate)?;
     }
     Ok(made)
 }
