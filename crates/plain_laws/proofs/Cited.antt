@@ -11,3 +11,4 @@ pub use Rattle.plain_laws.proofs.Segments.{
   share_flips,
 }
 pub use Rattle.plain_laws.proofs.Runs.{all_parts, dealt_all, run_alone, run_keeps}
+pub use Rattle.plain_laws.proofs.Behind.{run_behind_alone, run_behind_keeps}

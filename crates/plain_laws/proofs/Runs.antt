@@ -109,13 +109,13 @@ use Rattle.plain_laws.proofs.Segments.{segments_keep}
 
 -- ---- entries of lines
 
-entry_by : (n : ℕ) (s : List ℕ) (lines : List Pair) (e : Entry) → IsIn e (entries_from n s lines) → e.by ≡ 0
+pub entry_by : (n : ℕ) (s : List ℕ) (lines : List Pair) (e : Entry) → IsIn e (entries_from n s lines) → e.by ≡ 0
 entry_by n s [] e i = absurd i
 entry_by n s (line ∷ lines) e (inl q) = sym (ap (λ (e : Entry). e.by) q)
 entry_by n s (line ∷ lines) e (inr i) = entry_by (n + 1) (after s line.1) lines e i
 
 -- legal entries by 0 are those that one thread makes of their lines
-legal_is : (n : ℕ) (s : List ℕ) (h : List Entry) → IsLegalFrom n s h → ((e : Entry) → IsIn e h → e.by ≡ 0) → h ≡ entries_from n s (map line_of h)
+pub legal_is : (n : ℕ) (s : List ℕ) (h : List Entry) → IsLegalFrom n s h → ((e : Entry) → IsIn e h → e.by ≡ 0) → h ≡ entries_from n s (map line_of h)
 legal_is n s [] l b = refl
 legal_is n s (e ∷ h) l b =
     let number = l.0 in
@@ -124,7 +124,7 @@ legal_is n s (e ∷ h) l b =
     let first : e ≡ record { number = n; by = 0; tag = e.tag; edit = e.edit; reply = reply_to s e.edit } = λ i. record { number = number i; by = by_is i; tag = e.tag; edit = e.edit; reply = reply i } in
     ap (λ (x : Entry). x ∷ h) first ∙ ap (λ (t : List Entry). record { number = n; by = 0; tag = e.tag; edit = e.edit; reply = reply_to s e.edit } ∷ t) (legal_is (n + 1) (after s e.edit) h l.2 (λ d i. b d (inr i)))
 
-tags_of : (h : List Entry) → map (λ (e : Entry). e.tag) h ≡ map (λ (l : Pair). l.0) (map line_of h)
+pub tags_of : (h : List Entry) → map (λ (e : Entry). e.tag) h ≡ map (λ (l : Pair). l.0) (map line_of h)
 tags_of [] = refl
 tags_of (e ∷ h) = ap (λ (t : List ℕ). e.tag ∷ t) (tags_of h)
 
@@ -216,13 +216,13 @@ dealt_all n lines some =
 
 -- ---- a file
 
-abbrev InOrder : Pair → Pair → Type 0
+abbrev pub InOrder : Pair → Pair → Type 0
 InOrder x y = share_point x.1 y.1 ≡ true → x.0 < y.0
 
 -- ---- runs of segments
 
 -- what the runs of some segments have: their lines, by workers below n, those that share a point by their tags
-record AreKept (lines : List Pair) (n : ℕ) (h : List Entry) : Type 0 where
+pub record AreKept (lines : List Pair) (n : ℕ) (h : List Entry) : Type 0 where
   pub lines_are : IsPermutation lines (map line_of h)
   pub order : EachLater (λ (d e : Entry). InOrder (line_of d) (line_of e)) h
   pub workers : (e : Entry) → IsIn e h → e.by < n
@@ -239,7 +239,7 @@ one_kept n lines h some r = record {
 }
 
 -- of all of them, where the places of the lines rise
-all_kept : (n : ℕ) (parts : List (List Pair)) (h : List Entry) → 0 < n → EachLater IsLower (flat_map (λ l. l) parts) →
+pub all_kept : (n : ℕ) (parts : List (List Pair)) (h : List Entry) → 0 < n → EachLater IsLower (flat_map (λ l. l) parts) →
     AreRuns (map (dealt_out n) parts) h → AreKept (flat_map (λ l. l) parts) n h
 all_kept n [] h some low r =
     subst (AreKept [] n) (sym r)
@@ -263,7 +263,7 @@ all_kept n (part ∷ parts) h some low r =
     })
 
 -- with one worker the entries are those of the lines in their order
-alone_lines : (parts : List (List Pair)) (h : List Entry) → AreRuns (map (dealt_out 1) parts) h →
+pub alone_lines : (parts : List (List Pair)) (h : List Entry) → AreRuns (map (dealt_out 1) parts) h →
     map line_of h ≡ flat_map (λ l. l) parts
 alone_lines [] h r = ap (map line_of) r
 alone_lines (part ∷ parts) h r =
@@ -273,16 +273,16 @@ alone_lines (part ∷ parts) h r =
     ∙ (λ i. (r.3.alone (dealt_to 1 part 0) refl ∙ e) i ++ alone_lines parts r.1 r.4 i)
 
 module _ (points : List ℕ) (edits : List Edit) (four : Four) (found : opening_four points ≡ Some four) where
-  abbrev all : List Pair
+  abbrev pub all : List Pair
   all = tagged_lines points edits
 
-  abbrev opens : Pair → Bool
+  abbrev pub opens : Pair → Bool
   opens line = is_among line.0 (places four)
 
-  abbrev opening_lines : List Pair
+  abbrev pub opening_lines : List Pair
   opening_lines = filter opens all
 
-  abbrev others : List Pair
+  abbrev pub others : List Pair
   others = filter (λ line. not (opens line)) all
 
   abbrev opening : List Entry
@@ -301,7 +301,7 @@ module _ (points : List ℕ) (edits : List Edit) (four : Four) (found : opening_
       below p (inr (inr (inr (inl e)))) = omega (arith, independent.within, e)
       below p (inr (inr (inr (inr j)))) = absurd j
 
-  opening_is : opening_lines ≡ map (line_at 0 (lines_of points edits) (Add 0)) (places four)
+  pub opening_is : opening_lines ≡ map (line_at 0 (lines_of points edits) (Add 0)) (places four)
   opening_is = picked (places four) 0 (lines_of points edits) (Add 0) (independent.ascending.0, (independent.ascending.1, (independent.ascending.2, (tt, tt)))) in_range
 
   -- the history of one thread has the same lines

@@ -23,7 +23,7 @@ use Rattle.std.specs.Prelude.{
   AllPairs,
   IsPermutation,
 }
-use Rattle.std.specs.List.{filter, flat_map, list_any, range_with_len}
+use Rattle.std.specs.List.{enumerate_from, filter, flat_map, list_any, range_with_len}
 use Rattle.point_order.specs.Sets.{IsIn, is_among}
 use Rattle.edit_history.specs.declared.history.Edit.{Edit}
 use Rattle.edit_history.specs.declared.history.Entry.{Entry}
@@ -135,3 +135,27 @@ RunAlone =
     opening_four points ≡ Some four → AreRuns (dealt 1 (places four) (tagged_lines points edits)) run →
     IsLegal (opening_entries (places four) (tagged_lines points edits) ++ run) →
     opening_entries (places four) (tagged_lines points edits) ++ run ≡ one_thread points edits
+
+-- ---- edit lines behind points that are there
+
+-- the edit lines of a file, each with its place for a tag
+abbrev pub edit_lines : List ℕ → List Edit → List Pair
+edit_lines points edits = enumerate_from (length points) edits
+
+-- the lists of each segment of some lines
+abbrev pub dealt_lines : ℕ → List Pair → List (List (List Pair))
+dealt_lines n lines = map (dealt_out n) (segments lines)
+
+-- the history of one thread of a file's points and runs of its dealt edit lines keep the file, for any number of workers
+abbrev pub RunBehindKeeps : Type 0
+RunBehindKeeps =
+    (points : List ℕ) (edits : List Edit) (workers : ℕ) (four : Four) (run : List Entry) →
+    opening_four points ≡ Some four → 0 < workers → AreRuns (dealt_lines workers (edit_lines points edits)) run →
+    Keeps points edits workers (one_thread points [] ++ run)
+
+-- with one worker they are the history of one thread, where they are legal
+abbrev pub RunBehindAlone : Type 0
+RunBehindAlone =
+    (points : List ℕ) (edits : List Edit) (four : Four) (run : List Entry) →
+    opening_four points ≡ Some four → AreRuns (dealt_lines 1 (edit_lines points edits)) run →
+    IsLegal (one_thread points [] ++ run) → one_thread points [] ++ run ≡ one_thread points edits

@@ -5,7 +5,15 @@
 #![tactic(auto)]
 
 ghost use Rattle.plain_laws.specs.Plain.{AnchoredIsPlain, SomeFileIsAnchored, ThereByLast};
-ghost use Rattle.plain_laws.specs.Running.{OneSegment, RunAlone, RunKeeps, SegmentsApart, SegmentsKeepLines};
+ghost use Rattle.plain_laws.specs.Running.{
+  OneSegment,
+  RunAlone,
+  RunBehindAlone,
+  RunBehindKeeps,
+  RunKeeps,
+  SegmentsApart,
+  SegmentsKeepLines,
+};
 
 /// Where no edit takes one of the opening four, or moves it, every legal history that keeps the file has the same
 /// replies, line by line, and leaves the same points: those that the lines tell by themselves. Without moves these are
@@ -30,4 +38,11 @@ pub fn lines_are_cut()
 pub fn run_keeps_file()
     ensures keeps { RunKeeps }
     ensures alone { RunAlone }
+{}
+
+/// The history of one thread of a file's points, and what workers make of the edit lines dealt to them, segment after
+/// segment, keep the file; with one worker they are the history of one thread.
+pub fn run_behind_points()
+    ensures keeps { RunBehindKeeps }
+    ensures alone { RunBehindAlone }
 {}
