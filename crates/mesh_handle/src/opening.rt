@@ -8,6 +8,7 @@ ghost use Rattle.mesh_handle.specs.Handles.{HoldsPoints};
 
 use crate::handle::{MeshHandle, free};
 use cell_store::{Grid, Mesh};
+use edit_history::laws::one_thread_is_legal;
 use mesh_rows::{Place, Stop, set_of};
 use one_mesh::{begin_cloud, find_four};
 use std::alloc::Global;
@@ -38,6 +39,7 @@ fn mesh_at(alloc: Global, given: &[Place]) -> Result<Mesh, Stop>
     ensures points { IfOk result (λ mesh. IsSetOf given.now (replay mesh.history)) }
     ensures refused { IfErr result (λ stop. IsStop given.now stop) }
 {
+    one_thread_is_legal();
     let points = set_of(alloc, given)?;
     let Ok(four) = find_four(&points) else {
         return Err(Stop::Flat);
