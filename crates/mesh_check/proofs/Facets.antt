@@ -1,5 +1,5 @@
 -- The least facet that is not one of exactly two cells, by the sides of the cells in order.
-use Rattle.std.specs.Prelude.{◌≡◌, ◌<◌, refl, List, [], ◌∷◌, ◌++◌, None, ◌⊎◌, length}
+use Rattle.std.specs.Prelude.{◌≡◌, ◌<◌, refl, true, List, [], ◌∷◌, ◌++◌, None, ◌⊎◌, length}
 use Rattle.std.specs.Ordering.{ordering_then, ordering_reverse}
 use Rattle.std.specs.List.Sorted.{IsStrictlySortedBy}
 use Rattle.std.specs.declared.cmp.Ordering.{Ordering}
@@ -16,8 +16,20 @@ use Rattle.point_order.specs.Facets.{facets_of}
 use Rattle.point_order.specs.Sets.{IsIn}
 use Rattle.point_order.proofs.Cited.{cell_self}
 use Rattle.mesh_check.specs.declared.gaps.Side.{Side}
-use Rattle.mesh_check.specs.Flaws.{facet_cmp, IsFacet, IsInTwo, IsLeastOpen}
-use Rattle.mesh_check.specs.Sides.{side_cmp, AreSides, OpenIs, IsPair, IsUnpaired, alone, apart, third}
+use Rattle.mesh_check.specs.declared.gaps.Part.{Part}
+use Rattle.mesh_check.specs.Flaws.{facet_cmp, IsFacet, IsInTwo}
+use Rattle.mesh_check.specs.Sides.{
+  side_cmp,
+  AreSidesIn,
+  IsLeastOpenIn,
+  OpenIn,
+  IsPair,
+  IsUnpaired,
+  alone,
+  apart,
+  third,
+  is_in,
+}
 
 -- ---- the order of facets
 
@@ -96,27 +108,30 @@ pub record AreMet (l : List Cell) (met rest : List Side) : Type 0 where
 abbrev side : Facet → Cell → Side
 side f c = record { facet = f; cell = c }
 
-module _ (l : List Cell) (met rest : List Side) (are : AreSides l (met ++ rest)) (m : AreMet l met rest) where
+module _ (part : Part) (l : List Cell) (met rest : List Side) (are : AreSidesIn part l (met ++ rest))
+    (m : AreMet l met rest) where
   -- a cell with a facet that is left stands among what is left
   left_side : (x : Side) (c : Cell) → IsIn x rest → IsIn c l → IsIn x.facet (facets_of c) → IsIn (side x.facet c) rest
-  left_side x c i j h = elim (from_append (side x.facet c) met rest ((are (side x.facet c)).1 (j, h))) [
-    | inl k ↦ absurd (not_self x.facet (m.lower (side x.facet c) x k i))
-    | inr k ↦ k
-  ]
+  left_side x c i j h = elim (from_append (side x.facet c) met rest
+      ((are (side x.facet c)).1 (j, h, ((are x).0 (in_right x met rest i)).2))) [
+        | inl k ↦ absurd (not_self x.facet (m.lower (side x.facet c) x k i))
+        | inr k ↦ k
+      ]
 
   -- a side that is left is one of the cells
-  of_cells : (x : Side) → IsIn x rest → IsIn x.cell l × IsIn x.facet (facets_of x.cell)
+  of_cells : (x : Side) → IsIn x rest → IsIn x.cell l × IsIn x.facet (facets_of x.cell) × (is_in part x.facet ≡ true)
   of_cells x i = (are x).0 (in_right x met rest i)
 
 -- ---- a pair
 
-module _ (l : List Cell) (met after : List Side) (x y : Side) (are : AreSides l (met ++ x ∷ y ∷ after)) (m : AreMet l met (x ∷ y ∷ after)) (sorted : IsStrictlySortedBy side_cmp (x ∷ y ∷ after)) (same : y.facet ≡ x.facet) (off : (z : Side) → IsIn z after → facet_cmp x.facet z.facet ≡ Less) where
+module _ (part : Part) (l : List Cell) (met after : List Side) (x y : Side)
+    (are : AreSidesIn part l (met ++ x ∷ y ∷ after)) (m : AreMet l met (x ∷ y ∷ after)) (sorted : IsStrictlySortedBy side_cmp (x ∷ y ∷ after)) (same : y.facet ≡ x.facet) (off : (z : Side) → IsIn z after → facet_cmp x.facet z.facet ≡ Less) where
   -- its facet is one of two cells
   pub pair_two : IsInTwo l x.facet
   unfolding IsStrictlySortedBy
   pair_two =
-      let a = of_cells l met (x ∷ y ∷ after) are m x (inl refl) in
-      let b = of_cells l met (x ∷ y ∷ after) are m y (inr (inl refl)) in
+      let a = of_cells part l met (x ∷ y ∷ after) are m x (inl refl) in
+      let b = of_cells part l met (x ∷ y ∷ after) are m y (inr (inl refl)) in
       record {
         first = x.cell;
         second = y.cell;
@@ -125,7 +140,7 @@ module _ (l : List Cell) (met after : List Side) (x y : Side) (are : AreSides l 
         second_listed = b.0;
         first_has = a.1;
         second_has = subst (λ f. IsIn f (facets_of y.cell)) same b.1;
-        only = λ c j h. elim (left_side l met (x ∷ y ∷ after) are m x c (inl refl) j h) [
+        only = λ c j h. elim (left_side part l met (x ∷ y ∷ after) are m x c (inl refl) j h) [
           | inl e ↦ inl (sym (ap (λ (s : Side). s.cell) e))
           | inr r ↦ elim r [
             | inl e ↦ inr (sym (ap (λ (s : Side). s.cell) e))
@@ -189,8 +204,8 @@ joined [] x y l = refl
 joined (z ∷ m) x y l = ap (λ v. z ∷ v) (joined m x y l)
 
 -- a pair is met
-pub one_pair : (l : List Cell) (sides rest others after : List Side) (x : Side) → rest ≡ x ∷ others → AreSides l sides → IsStrictlySortedBy side_cmp rest → HasMet l sides rest → IsPair x.facet others after → HasMet l sides after
-one_pair l sides rest others after x e are sorted h p = record { met = h.met ++ x ∷ p.second ∷ []; is = h.is ∙ ap (λ v. h.met ++ v) left ∙ joined h.met x p.second after; are = record { two = two; lower = lower } }
+pub one_pair : (part : Part) (l : List Cell) (sides rest others after : List Side) (x : Side) → rest ≡ x ∷ others → AreSidesIn part l sides → IsStrictlySortedBy side_cmp rest → HasMet l sides rest → IsPair x.facet others after → HasMet l sides after
+one_pair part l sides rest others after x e are sorted h p = record { met = h.met ++ x ∷ p.second ∷ []; is = h.is ∙ ap (λ v. h.met ++ v) left ∙ joined h.met x p.second after; are = record { two = two; lower = lower } }
   where
     -- what is left before
     left : rest ≡ x ∷ p.second ∷ after
@@ -201,8 +216,8 @@ one_pair l sides rest others after x e are sorted h p = record { met = h.met ++ 
     s = subst (λ (v : List Side). IsStrictlySortedBy side_cmp v) left sorted
 
     -- the sides
-    a : AreSides l (h.met ++ x ∷ p.second ∷ after)
-    a = subst (λ (v : List Side). AreSides l v) (h.is ∙ ap (λ v. h.met ++ v) left) are
+    a : AreSidesIn part l (h.met ++ x ∷ p.second ∷ after)
+    a = subst (λ (v : List Side). AreSidesIn part l v) (h.is ∙ ap (λ v. h.met ++ v) left) are
 
     -- those met
     m : AreMet l h.met (x ∷ p.second ∷ after)
@@ -214,7 +229,7 @@ one_pair l sides rest others after x e are sorted h p = record { met = h.met ++ 
 
     -- the facet is one of two cells
     pair : IsInTwo l x.facet
-    pair = pair_two l h.met after x p.second a m s p.same off
+    pair = pair_two part l h.met after x p.second a m s p.same off
 
     -- those met and the two
     two : (z : Side) → IsIn z (h.met ++ x ∷ p.second ∷ []) → IsInTwo l z.facet
@@ -239,24 +254,26 @@ one_pair l sides rest others after x e are sorted h p = record { met = h.met ++ 
 -- ---- the end of the search
 
 -- all are met
-pub all_met : (l : List Cell) (sides rest : List Side) → rest ≡ [] → AreSides l sides → HasMet l sides rest → OpenIs l None
-all_met l sides rest e are h f i = elim (from_append (side f i.cell) h.met [] (subst (λ (v : List Side). IsIn (side f i.cell) v) (h.is ∙ ap (λ v. h.met ++ v) e) ((are (side f i.cell)).1 (i.listed, i.has)))) [
+pub all_met : (part : Part) (l : List Cell) (sides rest : List Side) → rest ≡ [] → AreSidesIn part l sides →
+    HasMet l sides rest → OpenIn part l None
+all_met part l sides rest e are h f i w = elim (from_append (side f i.cell) h.met [] (subst (λ (v : List Side). IsIn (side f i.cell) v) (h.is ∙ ap (λ v. h.met ++ v) e) ((are (side f i.cell)).1 (i.listed, i.has, w)))) [
   | inl j ↦ h.are.two (side f i.cell) j
   | inr none ↦ absurd none
 ]
 
 -- a facet without a pair is the least that is open
-module _ (l : List Cell) (met others : List Side) (x : Side) (are : AreSides l (met ++ x ∷ others)) (m : AreMet l met (x ∷ others)) (sorted : IsStrictlySortedBy side_cmp (x ∷ others)) where
+module _ (part : Part) (l : List Cell) (met others : List Side) (x : Side) (are : AreSidesIn part l (met ++ x ∷ others)) (m : AreMet l met (x ∷ others)) (sorted : IsStrictlySortedBy side_cmp (x ∷ others)) where
   -- it is a facet
   x_facet : IsFacet l x.facet
-  x_facet = let a = of_cells l met (x ∷ others) are m x (inl refl) in record { cell = x.cell; listed = a.0; has = a.1 }
+  x_facet = let a = of_cells part l met (x ∷ others) are m x (inl refl) in record { cell = x.cell; listed = a.0; has = a.1 }
 
   -- each that is before it is one of two cells
-  before_two : (g : Facet) → IsFacet l g → facet_cmp g x.facet ≡ Less → IsInTwo l g
-  before_two g i h = elim (from_append (side g i.cell) met (x ∷ others) ((are (side g i.cell)).1 (i.listed, i.has))) [
-    | inl j ↦ m.two (side g i.cell) j
-    | inr j ↦ absurd (later x others g sorted (side g i.cell) j refl h)
-  ]
+  before_two : (g : Facet) → IsFacet l g → is_in part g ≡ true → facet_cmp g x.facet ≡ Less → IsInTwo l g
+  before_two g i w h = elim (from_append (side g i.cell) met (x ∷ others) ((are (side g i.cell)).1
+      (i.listed, i.has, w))) [
+        | inl j ↦ m.two (side g i.cell) j
+        | inr j ↦ absurd (later x others g sorted (side g i.cell) j refl h)
+      ]
 
   -- where only the first has the facet it is one of one cell
   only_one : ((z : Side) → IsIn z others → ¬ (z.facet ≡ x.facet)) → IsInTwo l x.facet → ⊥
@@ -264,7 +281,7 @@ module _ (l : List Cell) (met others : List Side) (x : Side) (are : AreSides l (
     where
       -- each cell with it is that of the first
       cell_is : (c : Cell) → IsIn c l → IsIn x.facet (facets_of c) → c ≡ x.cell
-      cell_is c i h = elim (left_side l met (x ∷ others) are m x c (inl refl) i h) [
+      cell_is c i h = elim (left_side part l met (x ∷ others) are m x c (inl refl) i h) [
         | inl e ↦ sym (ap (λ (s : Side). s.cell) e)
         | inr j ↦ absurd (n (side x.facet c) j refl)
       ]
@@ -277,7 +294,7 @@ module _ (l : List Cell) (met others : List Side) (x : Side) (are : AreSides l (
       let xy = cells_differ x y s.0.0 (sym fy) in
       let xz = cells_differ x z s.0.1.0 (sym fz) in
       let yz = cells_differ y z s.1.0.0 (fy ∙ sym fz) in
-      let o = λ (w : Side) (i : IsIn w (x ∷ others)) (f : w.facet ≡ x.facet). (let a = of_cells l met (x ∷ others) are m w i in t.only w.cell a.0 (subst (λ v. IsIn v (facets_of w.cell)) f a.1)) in
+      let o = λ (w : Side) (i : IsIn w (x ∷ others)) (f : w.facet ≡ x.facet). (let a = of_cells part l met (x ∷ others) are m w i in t.only w.cell a.0 (subst (λ v. IsIn v (facets_of w.cell)) f a.1)) in
       let iy : IsIn y (x ∷ others) = inr (subst (λ (v : List Side). IsIn y v) (sym e) (inl refl)) in
       let iz : IsIn z (x ∷ others) = inr (subst (λ (v : List Side). IsIn z v) (sym e) (inr (inl refl))) in
       three x.cell y.cell z.cell t.first t.second xy xz yz (o x (inl refl) refl) (o y iy fy) (o z iz fz)
@@ -300,16 +317,21 @@ all_later f x y r s e n z i q = not_self f (subst (λ v. facet_cmp f v ≡ Less)
     head_is g = cc
 
 -- the least open facet
-pub least_open : (l : List Cell) (sides rest others : List Side) (x : Side) → rest ≡ x ∷ others → AreSides l sides → IsStrictlySortedBy side_cmp rest → HasMet l sides rest → IsUnpaired x.facet others → IsLeastOpen l x.facet
-least_open l sides rest others x e are sorted h u = record { is = x_facet l h.met others x a m s; open_facet = none u; least = before_two l h.met others x a m s }
+pub least_open : (part : Part) (l : List Cell) (sides rest others : List Side) (x : Side) → rest ≡ x ∷ others → AreSidesIn part l sides → IsStrictlySortedBy side_cmp rest → HasMet l sides rest → IsUnpaired x.facet others → IsLeastOpenIn part l x.facet
+least_open part l sides rest others x e are sorted h u = record {
+  is = x_facet part l h.met others x a m s;
+  within = (of_cells part l h.met (x ∷ others) a m x (inl refl)).2;
+  open_facet = none u;
+  least = before_two part l h.met others x a m s;
+}
   where
     -- in order
     s : IsStrictlySortedBy side_cmp (x ∷ others)
     s = subst (λ (v : List Side). IsStrictlySortedBy side_cmp v) e sorted
 
     -- the sides
-    a : AreSides l (h.met ++ x ∷ others)
-    a = subst (λ (v : List Side). AreSides l v) (h.is ∙ ap (λ v. h.met ++ v) e) are
+    a : AreSidesIn part l (h.met ++ x ∷ others)
+    a = subst (λ (v : List Side). AreSidesIn part l v) (h.is ∙ ap (λ v. h.met ++ v) e) are
 
     -- those met
     m : AreMet l h.met (x ∷ others)
@@ -317,9 +339,9 @@ least_open l sides rest others x e are sorted h u = record { is = x_facet l h.me
 
     -- it is not one of two
     none : IsUnpaired x.facet others → IsInTwo l x.facet → ⊥
-    none (alone q) = only_one l h.met others x a m s (λ z i. absurd (subst (λ (v : List Side). IsIn z v) q i))
-    none (apart y r q n) = only_one l h.met others x a m s (λ z i. all_later x.facet x y r (subst (λ (v : List Side). IsStrictlySortedBy side_cmp (x ∷ v)) q s) refl n z (subst (λ (v : List Side). IsIn z v) q i))
-    none (third y z r q fy fz) = three_have l h.met others x a m s y z r q fy fz
+    none (alone q) = only_one part l h.met others x a m s (λ z i. absurd (subst (λ (v : List Side). IsIn z v) q i))
+    none (apart y r q n) = only_one part l h.met others x a m s (λ z i. all_later x.facet x y r (subst (λ (v : List Side). IsStrictlySortedBy side_cmp (x ∷ v)) q s) refl n z (subst (λ (v : List Side). IsIn z v) q i))
+    none (third y z r q fy fz) = three_have part l h.met others x a m s y z r q fy fz
 
 -- ---- what is left
 

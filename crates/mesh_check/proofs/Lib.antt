@@ -4,9 +4,9 @@ pub mod Facets
 pub mod Flaws
 pub mod Listed
 pub mod Lists
-pub mod Matches
 pub mod Sides
 pub mod Sorting
+pub mod Parts
 pub mod Turned
 pub mod Triples
 pub mod Verdicts

@@ -1,12 +1,30 @@
 -- The order of sides, and the sides of cells in order.
-use Rattle.std.specs.Prelude.{◌≡◌, ◌<◌, ◌+◌, ℕ, refl, List, [], ◌∷◌, ◌++◌, map, ◌↔◌, length, take, slice_index_or}
+use Rattle.std.specs.Prelude.{
+  ◌≡◌,
+  ◌<◌,
+  ◌+◌,
+  ℕ,
+  Bool,
+  true,
+  false,
+  refl,
+  List,
+  [],
+  ◌∷◌,
+  ◌++◌,
+  map,
+  ◌↔◌,
+  length,
+  take,
+  slice_index_or,
+}
 use Rattle.std.specs.Cmp.{IsTotalOrder}
 use Rattle.std.specs.List.{flat_map}
 use Rattle.std.specs.Ordering.{ordering_then, ordering_reverse}
 use Rattle.std.specs.declared.cmp.Ordering.{Ordering}
 use Rattle.std.specs.declared.cmp.Ordering.TheVariants.{Less, Equal, Greater}
-use Rattle.std.proofs.Common.{append_assoc, ap, sym, subst, ◌∙◌}
-use Rattle.list_laws.proofs.Cited.{flat_from, in_flat, mapped_from, mapped_true, take_next}
+use Rattle.std.proofs.Common.{append_assoc, append-nil, ap, arith, cond, get_or, inl, inr, sym, subst, ◌∙◌}
+use Rattle.list_laws.proofs.Cited.{flat_from, in_flat, take_next}
 use Rattle.point_order.specs.declared.cell.Cell.{Cell}
 use Rattle.point_order.specs.declared.cell.Facet.{Facet}
 use Rattle.point_order.specs.CellOrder.{cell_cmp}
@@ -15,7 +33,8 @@ use Rattle.point_order.specs.Sets.{IsIn}
 use Rattle.point_order.proofs.Cited.{cell_before, cell_reverse, cell_same, cell_self}
 use Rattle.mesh_check.specs.declared.gaps.Side.{Side}
 use Rattle.mesh_check.specs.Flaws.{facet_cmp}
-use Rattle.mesh_check.specs.Sides.{side_cmp, sides_of, AreSides}
+use Rattle.mesh_check.specs.declared.gaps.Part.{Part}
+use Rattle.mesh_check.specs.Sides.{side_cmp, side_of, sides_in, AreSidesIn, is_in}
 use Rattle.mesh_check.proofs.Facets.{facet_before, facet_reverse, facet_same, facet_self}
 
 -- ---- the order
@@ -72,25 +91,66 @@ side_order = record { antisymm = side_reverse; trans = side_before; congr = λ x
 
 -- ---- the sides of cells
 
--- one of the sides of a cell
-one_side : (c : Cell) (x : Side) → IsIn x (sides_of c) → (x.cell ≡ c) × IsIn x.facet (facets_of c)
-one_side c x i = let r = mapped_from (λ f. record { facet = f; cell = c }) x (facets_of c) i in (sym (ap (λ (s : Side). s.cell) r.2), subst (λ f. IsIn f (facets_of c)) (ap (λ (s : Side). s.facet) r.2) r.1)
+-- the side of a facet, where this is one of the part
+of_side : (part : Part) (f : Facet) (c : Cell) (x : Side) → IsIn x (side_of part f c) →
+    (x ≡ side f c) × (is_in part f ≡ true)
+of_side part f c x i = by (is_in part f) refl i
+  where
+    -- by the test
+    by : (b : Bool) → is_in part f ≡ b → IsIn x (cond b (side f c ∷ []) []) → (x ≡ side f c) × (is_in part f ≡ true)
+    by true e (inl q) = (sym q, e)
+    by true e (inr none) = absurd none
+    by false e i = absurd i
 
--- the sides of all cells
-pub are_sides : (l : List Cell) → AreSides l (flat_map sides_of l)
-are_sides l x = (
+-- it is there
+side_there : (part : Part) (f : Facet) (c : Cell) → is_in part f ≡ true → IsIn (side f c) (side_of part f c)
+side_there part f c e = subst (λ (b : Bool). IsIn (side f c) (cond b (side f c ∷ []) [])) (sym e) (inl refl)
+
+-- the sides of all cells, those of the part
+pub are_sides : (part : Part) (l : List Cell) → AreSidesIn part l (flat_map (sides_in part) l)
+are_sides part l x = (
   λ i. (
-      let r = flat_from sides_of l x i in
-      let o = one_side r.0 x r.2 in
-      (subst (λ c. IsIn c l) (sym o.0) r.1, subst (λ c. IsIn x.facet (facets_of c)) (sym o.0) o.1)),
-  λ i. in_flat sides_of l x.cell x i.0 (mapped_true (λ f. record { facet = f; cell = x.cell }) x.facet (facets_of x.cell) i.1),
+      let r = flat_from (sides_in part) l x i in
+      let f = flat_from (λ (f : Facet). side_of part f r.0) (facets_of r.0) x r.2 in
+      let o = of_side part f.0 r.0 x f.2 in
+      let c = ap (λ (s : Side). s.cell) o.0 in
+      let g = ap (λ (s : Side). s.facet) o.0 in (
+        subst (λ c. IsIn c l) (sym c) r.1,
+        subst (λ (c : Cell). IsIn x.facet (facets_of c)) (sym c)
+            (subst (λ (f : Facet). IsIn f (facets_of r.0)) (sym g) f.1),
+        ap (is_in part) g ∙ o.1,
+      )),
+  λ i. in_flat (sides_in part) l x.cell x i.0
+      (in_flat (λ (f : Facet). side_of part f x.cell) (facets_of x.cell) x.facet x i.1
+      (side_there part x.facet x.cell i.2)),
 )
 
 -- what has the same members as the sides
-pub same_sides : (l : List Cell) (sides sorted : List Side) → sides ≡ flat_map sides_of l → ((x : Side) → IsIn x sides ↔ IsIn x sorted) → AreSides l sorted
-same_sides l sides sorted e f x =
-    let r = subst (λ (v : List Side). AreSides l v) (sym e) (are_sides l) in
+pub same_sides : (part : Part) (l : List Cell) (sides sorted : List Side) → sides ≡ flat_map (sides_in part) l →
+    ((x : Side) → IsIn x sides ↔ IsIn x sorted) → AreSidesIn part l sorted
+same_sides part l sides sorted e f x =
+    let r = subst (λ (v : List Side). AreSidesIn part l v) (sym e) (are_sides part l) in
     (λ i. (r x).0 ((f x).1 i), λ i. (f x).0 ((r x).1 i))
+
+-- ---- the four sides of a cell
+
+-- five lists
+in_a_row : (o a b c d : List Side) → o ++ a ++ b ++ c ++ d ≡ o ++ (a ++ (b ++ (c ++ (d ++ []))))
+in_a_row o a b c d =
+    append_assoc (o ++ a ++ b) c d ∙ append_assoc (o ++ a) b (c ++ d) ∙ append_assoc o a (b ++ (c ++ d))
+    ∙ ap (λ (v : List Side). o ++ (a ++ (b ++ (c ++ v)))) (sym (append-nil d))
+
+-- what is put for each of four facets
+pub four_sides : (f : Facet → List Side) (facets : List Facet) (a b c d : Facet) (old : List Side) →
+    length facets ≡ 4 →
+    old ++ f (get_or facets 0 a) ++ f (get_or facets 1 b) ++ f (get_or facets 2 c) ++ f (get_or facets 3 d)
+    ≡ old ++ flat_map f facets
+four_sides f [] a b c d old n = absurd (omega (arith, n))
+four_sides f (o ∷ []) a b c d old n = absurd (omega (arith, n))
+four_sides f (o ∷ p ∷ []) a b c d old n = absurd (omega (arith, n))
+four_sides f (o ∷ p ∷ q ∷ []) a b c d old n = absurd (omega (arith, n))
+four_sides f (o ∷ p ∷ q ∷ r ∷ []) a b c d old n = in_a_row old (f o) (f p) (f q) (f r)
+four_sides f (o ∷ p ∷ q ∷ r ∷ s ∷ facets) a b c d old n = absurd (omega (arith, n))
 
 -- ---- one more cell
 
@@ -110,7 +170,7 @@ map_end f [] x = refl
 map_end f (y ∷ l) x = ap (λ v. f y ∷ v) (map_end f l x)
 
 -- the sides of some cells, and of the first of a list, with those of the next
-pub one_more : (front : List Cell) (k : List ℕ → Cell) (l : List (List ℕ)) (i : ℕ) (q : List ℕ) (sides new : List Side) → i < length l → q ≡ slice_index_or l i q → sides ≡ flat_map sides_of (front ++ map k (take i l)) → new ≡ sides ++ sides_of (k q) → new ≡ flat_map sides_of (front ++ map k (take (i + 1) l))
-one_more front k l i q sides new h e a b =
-    b ∙ ap (λ v. v ++ sides_of (k q)) a ∙ sym (flat_end sides_of (front ++ map k (take i l)) (k q))
-    ∙ ap (flat_map sides_of) (append_assoc front (map k (take i l)) (k q ∷ []) ∙ ap (λ v. front ++ v) (sym (map_end k (take i l) q) ∙ ap (map k) (sym (take_next l i q h e))))
+pub one_more : (part : Part) (front : List Cell) (k : List ℕ → Cell) (l : List (List ℕ)) (i : ℕ) (q : List ℕ) (sides new : List Side) → i < length l → q ≡ slice_index_or l i q → sides ≡ flat_map (sides_in part) (front ++ map k (take i l)) → new ≡ sides ++ sides_in part (k q) → new ≡ flat_map (sides_in part) (front ++ map k (take (i + 1) l))
+one_more part front k l i q sides new h e a b =
+    b ∙ ap (λ v. v ++ sides_in part (k q)) a ∙ sym (flat_end (sides_in part) (front ++ map k (take i l)) (k q))
+    ∙ ap (flat_map (sides_in part)) (append_assoc front (map k (take i l)) (k q ∷ []) ∙ ap (λ v. front ++ v) (sym (map_end k (take i l) q) ∙ ap (map k) (sym (take_next l i q h e))))

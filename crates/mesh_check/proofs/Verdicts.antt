@@ -232,11 +232,6 @@ made_sound s made a k (inl w) c i =
     none_flawed s (complex s) (none_first s a k w.0) c (subst (λ (m : List Cell). IsIn c m) w.1 i)
 made_sound s made a k (inr e) c i = absurd (subst (λ (m : List Cell). IsIn c m) e i)
 
--- lists that are those that were made, and not empty, are the complex
-pub listed_made : (s : List ℕ) (l made : List Cell) → ¬ (l ≡ []) → l ≡ made → AreMade s made → IsComplex s l
-listed_made s l made n e (inl w) = (w.0, e ∙ w.1)
-listed_made s l made n e (inr z) = absurd (n (e ∙ z))
-
 -- a list that is not empty has a member
 first_member : {X : Type 0} (l : List X) → ¬ (l ≡ []) → (c : X) × IsIn c l
 first_member [] n = absurd (n refl)

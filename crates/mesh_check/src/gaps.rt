@@ -7,12 +7,26 @@ ghost use Rattle.point_order.specs.Facets.{facets_of};
 ghost use Rattle.point_order.specs.Sets.{IsIn};
 ghost use Rattle.point_order.specs.declared.cell.Cell.{Cell};
 ghost use Rattle.point_order.specs.declared.cell.Cell.TheVariants.{Full, Open};
+ghost use Rattle.mesh_check.specs.declared.gaps.Part.{Part as PartOf};
 ghost use Rattle.mesh_check.specs.declared.gaps.Side.{Side as SideParts};
 ghost use Rattle.mesh_check.specs.Flaws.{listed};
-ghost use Rattle.mesh_check.specs.Sides.{AreSides, IsPair, IsUnpaired, OpenIs, side_cmp, sides_of};
+ghost use Rattle.mesh_check.specs.Sides.{
+  AreSidesIn,
+  IsPair,
+  IsUnpaired,
+  OpenIn,
+  OpenIs,
+  is_in as is_in_part,
+  side_cmp,
+  side_of,
+  sides_in,
+};
 
 use point_order::{Cell, Facet, Quad, Tri};
 use std::alloc::{AllocError, Global};
+
+// How many cells have their facets looked at together, so that these take little memory.
+const TOGETHER: usize = 32_768;
 
 // A facet of a cell, with the cell.
 #[derive(Clone, Copy, PartialEq, Eq, PartialOrd, Ord)]
@@ -21,31 +35,73 @@ pub(crate) struct Side {
     cell: Cell,
 }
 
-// Puts the four sides of a cell behind the sides.
-fn push_sides(sides: &mut Vec<Side>, cell: Cell) -> Result<(), AllocError>
-    ensures { OnOk result (sides.new.items ≡ sides.old.items ++ sides_of cell) }
+// A part of all facets. The parts of triples go by their least points.
+#[derive(Clone, Copy)]
+pub(crate) enum Part {
+    // The triples whose least point is not below the first key, and below the second.
+    Between(u64, u64),
+    // The triples whose least point is not below the key.
+    From(u64),
+    // The pairs.
+    Pairs,
+}
+
+// Whether a facet is one of the part.
+fn is_in(part: Part, facet: &Facet) -> bool
+    ensures { result ≡ is_in_part part facet.now }
 {
-    let [first, second, third, last] = cell.facets();
-    sides.push(Side { facet: first, cell })?;
-    sides.push(Side {
-        facet: second,
-        cell,
-    })?;
-    sides.push(Side { facet: third, cell })?;
-    sides.push(Side { facet: last, cell })?;
+    match facet {
+        Facet::Three(tri) => {
+            let (least, _, _) = tri.corners();
+            match part {
+                Part::Between(low, high) => low <= least.key() && least.key() < high,
+                Part::From(low) => low <= least.key(),
+                Part::Pairs => false,
+            }
+        }
+        Facet::Two(_) => match part {
+            Part::Pairs => true,
+            _ => false,
+        },
+    }
+}
+
+// Puts a side of a cell behind the sides, where its facet is one of the part.
+fn push_side(sides: &mut Vec<Side>, part: Part, facet: Facet, cell: Cell) -> Result<(), AllocError>
+    ensures { OnOk result (sides.new.items ≡ sides.old.items ++ side_of part facet cell) }
+{
+    if is_in(part, &facet) {
+        sides.push(Side { facet, cell })?;
+    }
     Ok(())
 }
 
-// The sides of all cells.
-fn all_sides(alloc: Global, cells: &[Quad], hull: &[Tri]) -> Result<Vec<Side>, AllocError>
-    ensures { IfOk result (λ sides. sides.items ≡ flat_map sides_of (listed cells.now hull.now)) }
+// Puts the sides of a cell behind the sides, those of the part.
+fn push_sides(sides: &mut Vec<Side>, part: Part, cell: Cell) -> Result<(), AllocError>
+    ensures { OnOk result (sides.new.items ≡ sides.old.items ++ sides_in part cell) }
+{
+    let [first, second, third, last] = cell.facets();
+    push_side(sides, part, first, cell)?;
+    push_side(sides, part, second, cell)?;
+    push_side(sides, part, third, cell)?;
+    push_side(sides, part, last, cell)
+}
+
+// The sides of all cells, those of the part.
+fn all_sides(
+    alloc: Global,
+    part: Part,
+    cells: &[Quad],
+    hull: &[Tri],
+) -> Result<Vec<Side>, AllocError>
+    ensures { IfOk result (λ sides. sides.items ≡ flat_map (sides_in part) (listed cells.now hull.now)) }
 {
     let mut sides = Vec::new(alloc);
     for quad in cells {
-        push_sides(&mut sides, Cell::Full(*quad))?;
+        push_sides(&mut sides, part, Cell::Full(*quad))?;
     }
     for tri in hull {
-        push_sides(&mut sides, Cell::Open(*tri))?;
+        push_sides(&mut sides, part, Cell::Open(*tri))?;
     }
     Ok(sides)
 }
@@ -60,7 +116,29 @@ fn in_order(mut sides: Vec<Side>) -> Vec<Side>
     sides
 }
 
-/// The least facet that is not one of exactly two cells, if there is one.
+// The least facet of the part that is not one of exactly two cells, if there is one.
+fn open_in(
+    alloc: Global,
+    part: Part,
+    cells: &[Quad],
+    hull: &[Tri],
+) -> Result<Option<Facet>, AllocError>
+    ensures { IfOk result (OpenIn part (listed cells.now hull.now)) }
+{
+    let sides = in_order(all_sides(alloc, part, cells, hull)?);
+    Ok(first_open(&sides))
+}
+
+// The key of the least point of the cell at a place, and else another.
+fn key_at(cells: &[Quad], place: usize, other: u64) -> u64 {
+    match cells.get(place) {
+        Some(quad) => quad.corners().0.key(),
+        None => other,
+    }
+}
+
+/// The least facet that is not one of exactly two cells, if there is one. The triples come first, those of some cells at
+/// a time.
 pub(crate) fn open_facet(
     alloc: Global,
     cells: &[Quad],
@@ -68,8 +146,18 @@ pub(crate) fn open_facet(
 ) -> Result<Option<Facet>, AllocError>
     ensures { IfOk result (OpenIs (listed cells.now hull.now)) }
 {
-    let sides = in_order(all_sides(alloc, cells, hull)?);
-    Ok(first_open(&sides))
+    let mut low = 0;
+    for part in 0..cells.len() / TOGETHER {
+        let high = key_at(cells, (part + 1).saturating_mul(TOGETHER), low);
+        if let Some(facet) = open_in(alloc, Part::Between(low, high), cells, hull)? {
+            return Ok(Some(facet));
+        }
+        low = low.max(high);
+    }
+    if let Some(facet) = open_in(alloc, Part::From(low), cells, hull)? {
+        return Ok(Some(facet));
+    }
+    open_in(alloc, Part::Pairs, cells, hull)
 }
 
 // Whether two facets are one.
@@ -95,10 +183,10 @@ fn behind_pair<'a>(facet: &Facet, others: &'a [Side]) -> Option<&'a [Side]>
     Some(after)
 }
 
-// The least facet that is not one of exactly two cells, by their sides in order.
+// The least facet of a part that is not one of exactly two cells, by their sides in order.
 fn first_open(sides: &[Side]) -> Option<Facet>
     requires { IsStrictlySortedBy side_cmp sides.now }
-    ensures { (l : List Cell) → AreSides l sides.now → OpenIs l result }
+    ensures { (part : PartOf) (l : List Cell) → AreSidesIn part l sides.now → OpenIn part l result }
 {
     let mut rest = sides;
     while let Some((first, others)) = rest.split_first() {

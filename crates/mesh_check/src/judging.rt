@@ -11,7 +11,7 @@ ghost use Rattle.mesh_check.specs.Laws.{IsComplex};
 use crate::cells::first_flaw;
 use crate::flaw::{Flaw, Verdict};
 use crate::gaps::open_facet;
-use crate::matching::{are_listed, complex_made};
+use crate::matching::{are_complex, complex_made};
 use point_order::{Point, Quad, Tri};
 use std::alloc::{AllocError, Global};
 
@@ -25,8 +25,9 @@ fn are_empty(cells: &[Quad], hull: &[Tri]) -> bool
 /// Judges whether cells and triples are the complex of the points: the first flaw, if there is one, cell by cell and
 /// then by their facets.
 ///
-/// The complex is made of the points at once, where they are solid. Where the lists equal it, there is no flaw; else
-/// each cell that is none of it is tried against each point, up to the first that has a flaw.
+/// The complex is made of the points at once, where they are solid. Where the lists equal it, there is no flaw; else it
+/// is made once more as a list, and each cell that is none of it is tried against each point, up to the first that has a flaw. The facets are looked at
+/// part by part, so that those of all cells never stand in memory at once.
 ///
 /// The points are to ascend, and the cells and triples to stand in order, each once, with points of these.
 ///
@@ -49,13 +50,15 @@ pub fn check(
     if are_empty(cells, hull) {
         return Ok(Verdict::Bad(Flaw::Empty));
     }
-    let made = complex_made(alloc, points)?;
-    if are_listed(&made, cells, hull) {
+    let whole = are_complex(alloc, points, cells, hull)?;
+    if whole {
         return Ok(Verdict::Good);
     }
+    let made = complex_made(alloc, points)?;
     if let Some(flaw) = first_flaw(points, &made, cells, hull) {
         return Ok(Verdict::Bad(flaw));
     }
+    drop(made);
     match open_facet(alloc, cells, hull)? {
         Some(facet) => Ok(Verdict::Bad(Flaw::OpenFacet(facet))),
         None => Ok(Verdict::Good),

@@ -1,13 +1,14 @@
 //! Lists beside the complex that is made of the points.
 
-ghost use Rattle.std.specs.Prelude.{◌≡◌, ◌++◌, true, map, IfOk, IfSome};
+ghost use Rattle.std.specs.Prelude.{◌≡◌, true, IfOk};
+ghost use Rattle.std.specs.List.Sorted.{IsStrictlySortedBy};
+ghost use Rattle.point_order.specs.CellOrder.{cell_cmp};
 ghost use Rattle.point_order.specs.Sets.{IsAscending, IsIn};
 ghost use Rattle.point_order.specs.Solid.{is_solid as is_solid_of};
-ghost use Rattle.point_order.specs.declared.cell.Cell.TheVariants.{Full, Open};
 ghost use Rattle.mesh_check.specs.Flaws.{listed};
-ghost use Rattle.mesh_check.specs.Laws.{AreMade};
+ghost use Rattle.mesh_check.specs.Laws.{AreMade, IsComplex};
 
-use cloud_cells::complex_of_points;
+use cloud_cells::{are_complex_of_points, complex_of_points};
 use edit_history::find_four;
 use point_order::{Cell, Point, Quad, Tri};
 use std::alloc::{AllocError, Global};
@@ -23,54 +24,29 @@ fn is_same(one: &Cell, other: &Cell) -> bool
     }
 }
 
-// What is behind the Full cells, where the list begins with them.
-fn behind_full<'a>(made: &'a [Cell], cells: &[Quad]) -> Option<&'a [Cell]>
-    ensures { IfSome result (λ rest. made.now ≡ map Full cells.now ++ rest.now) }
-{
-    let mut rest = made;
-    for quad in cells {
-        let (first, others) = rest.split_first()?;
-        if !is_same(first, &Cell::Full(*quad)) {
-            return None;
-        }
-        rest = others;
-    }
-    Some(rest)
-}
-
-// What is behind the Open cells, where the list begins with them.
-fn behind_open<'a>(made: &'a [Cell], hull: &[Tri]) -> Option<&'a [Cell]>
-    ensures { IfSome result (λ rest. made.now ≡ map Open hull.now ++ rest.now) }
-{
-    let mut rest = made;
-    for tri in hull {
-        let (first, others) = rest.split_first()?;
-        if !is_same(first, &Cell::Open(*tri)) {
-            return None;
-        }
-        rest = others;
-    }
-    Some(rest)
-}
-
-// Whether the list is that of the cells and triples.
-pub(crate) fn are_listed(made: &[Cell], cells: &[Quad], hull: &[Tri]) -> bool
-    ensures { result ≡ true → listed cells.now hull.now ≡ made.now }
-{
-    let Some(rest) = behind_full(made, cells) else {
-        return false;
-    };
-    match behind_open(rest, hull) {
-        Some(others) => others.is_empty(),
-        None => false,
-    }
-}
-
 // Whether four of the points are independent.
 fn is_solid(points: &[Point]) -> bool
     ensures { result ≡ is_solid_of points.now }
 {
     find_four(points).is_ok()
+}
+
+// Whether the lists, which stand in order, are the complex of the points, and these are solid. It is far faster than a
+// search for a flaw, and that the complex is made right is proved: the lists take no part in it.
+pub(crate) fn are_complex(
+    alloc: Global,
+    points: &[Point],
+    cells: &[Quad],
+    hull: &[Tri],
+) -> Result<bool, AllocError>
+    requires points { IsAscending points.now }
+    requires order { IsStrictlySortedBy cell_cmp (listed cells.now hull.now) }
+    ensures { IfOk result (λ r. r ≡ true → IsComplex points.now (listed cells.now hull.now)) }
+{
+    if !is_solid(points) {
+        return Ok(false);
+    }
+    are_complex_of_points(alloc, points, cells, hull)
 }
 
 // Whether the cell is one of those that were made.
@@ -83,8 +59,7 @@ pub(crate) fn is_made(made: &[Cell], cell: &Cell) -> bool
     }
 }
 
-// The complex that is made of the points where they are solid, and else no cell. It is far faster than a search for a
-// flaw, and that it is made right is proved: the lists take no part in it.
+// The complex that is made of the points where they are solid, and else no cell.
 pub(crate) fn complex_made(alloc: Global, points: &[Point]) -> Result<Vec<Cell>, AllocError>
     requires { IsAscending points.now }
     ensures { IfOk result (λ made. AreMade points.now made.items) }

@@ -1,12 +1,23 @@
-use Rattle.std.proofs.Common.{subst, sym, List}
-use Rattle.mesh_check.specs.declared.gaps.Side.{Side}
+use Rattle.std.proofs.Common.{inl, inr, subst}
+use Rattle.mesh_check.specs.declared.gaps.Part.TheVariants.{Between, From}
 use Rattle.mesh_check.specs.Flaws.{listed}
-use Rattle.mesh_check.specs.Sides.{AreSides}
-use Rattle.mesh_check.proofs.Sorting.{same_sides}
+use Rattle.mesh_check.specs.Sides.{OpenIn}
+use Rattle.mesh_check.proofs.Parts.{least_between, least_from, none_below, of_pairs, two_all, two_more}
 use Rattle.mesh_check.proofs.gaps.open_facet.Goals as goal
+
+pub loop-part-init : goal.loop-part-init
+loop-part-init c = none_below (listed c.args.cells.now c.args.hull.now)
+
+pub returns-in-Some : goal.returns-in-Some
+returns-in-Some c =
+    let l = listed c.args.cells.now c.args.hull.now in
+    let low = c.loop-part.low in
+    let high = c.key_at-high.result in
+    least_between l low high c.in-Some.facet c.loop-part.invariant
+    (subst (OpenIn (Between low high) l) c.in-Some.is c.in_ok-facet.ensures)
 
 pub returns : goal.returns
 returns c =
     let l = listed c.args.cells.now c.args.hull.now in
-    c.first_open.ensures l
-    (subst (λ (v : List Side). AreSides l v) (sym c.deref.ensures.value) (same_sides l c.in_ok-all_sides.field-0.items c.in_order-sides.result.items c.in_ok-all_sides.ensures c.in_order-sides.ensures.same))
+    of_pairs l c.open_in-3.result (two_all l c.loop-part.low c.loop-part.invariant
+    (subst (OpenIn (From c.loop-part.low) l) c.in_default-2.is c.in_ok-facet-2.ensures)) c.open_in-3.ensures

@@ -1,0 +1,76 @@
+//! Whether the cells in slots are those of two lists.
+
+ghost use Rattle.std.specs.Prelude.{◌≡◌, ◌++◌, true, map, IfSome};
+ghost use Rattle.point_order.specs.Sets.{IsIn};
+ghost use Rattle.point_order.specs.declared.cell.Cell.TheVariants.{Full, Open};
+ghost use Rattle.cloud_cells.specs.Nets.{AreAllIn};
+
+use crate::facets::are_same;
+use crate::slots::Slot;
+use point_order::{Cell, Quad, Tri};
+use std::cmp::Ordering;
+
+// The cell at a place of the cells and the triples behind them.
+fn listed_at(cells: &[Quad], hull: &[Tri], place: usize) -> Option<Cell>
+    ensures { IfSome result (λ c. IsIn c (map Full cells.now ++ map Open hull.now)) }
+{
+    if place < cells.len() {
+        return Some(Cell::Full(cells[place]));
+    }
+    match hull.get(place - cells.len()) {
+        Some(tri) => Some(Cell::Open(*tri)),
+        None => None,
+    }
+}
+
+// Whether the cell at a place is before another.
+fn is_before(cells: &[Quad], hull: &[Tri], place: usize, cell: &Cell) -> bool {
+    match listed_at(cells, hull, place) {
+        Some(other) => match other.compare(cell) {
+            Ordering::Less => true,
+            _ => false,
+        },
+        None => false,
+    }
+}
+
+// Where the cell would stand among those in order. It is looked at before it is believed.
+fn place_of(cells: &[Quad], hull: &[Tri], cell: &Cell) -> usize {
+    let mut low = 0;
+    let mut high = cells.len().saturating_add(hull.len());
+    while low < high {
+        let middle = low + (high - low) / 2;
+        if is_before(cells, hull, middle, cell) {
+            low = middle + 1;
+        } else {
+            high = middle;
+        }
+    }
+    low
+}
+
+// Whether the cell is found among those of the lists.
+fn is_listed(cells: &[Quad], hull: &[Tri], cell: &Cell) -> bool
+    ensures { result ≡ true → IsIn cell.now (map Full cells.now ++ map Open hull.now) }
+{
+    match listed_at(cells, hull, place_of(cells, hull, cell)) {
+        Some(other) => are_same(&other, cell),
+        None => false,
+    }
+}
+
+// Whether the cells in slots are found among those of the lists, and are as many.
+pub(crate) fn are_all(slots: &[Slot], cells: &[Quad], hull: &[Tri]) -> bool
+    ensures { result ≡ true → AreAllIn slots.now cells.now hull.now }
+{
+    let mut count = 0;
+    for slot in slots {
+        if let Some(cell) = slot.cell() {
+            if !is_listed(cells, hull, &cell) {
+                return false;
+            }
+            count += 1;
+        }
+    }
+    cells.len() <= count && count - cells.len() == hull.len()
+}
