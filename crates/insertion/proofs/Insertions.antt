@@ -10,7 +10,7 @@ use Rattle.edit_history.specs.declared.history.Reply.TheVariants.{Inserted, Dupl
 use Rattle.edit_history.specs.Edits.{point_of, reply_to, changed, after}
 use Rattle.edit_history.specs.Histories.{replay}
 use Rattle.cell_store.specs.Changes.{IsChange}
-use Rattle.insertion.specs.Growing.{IsInsertion, InsertionFollows}
+use Rattle.insertion.specs.Entries.{IsInsertion, InsertionFollows}
 
 -- it is inserted
 reply_new : (h : List Entry) (e : Entry) → IsInsertion h e → reply_to (replay h) (Add (point_of e.edit)) ≡ Inserted

@@ -1,7 +1,7 @@
 pub mod FourCells
 pub mod OpeningLaws
 pub mod Insertions
-pub mod MeshGrowth
+pub mod FoundFours
 pub mod Searches
 pub mod Arrivals
 pub mod Cited

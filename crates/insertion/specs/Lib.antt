@@ -1,4 +1,4 @@
 pub mod Opening
-pub mod Growing
+pub mod Entries
 pub mod Searches
 pub mod Arrivals

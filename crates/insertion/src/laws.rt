@@ -1,7 +1,7 @@
 //! What an insertion comes to, and the complex of four points. Each function
 //! here does nothing, and its contract is a law.
 
-ghost use Rattle.insertion.specs.Growing.{InsertionFollows};
+ghost use Rattle.insertion.specs.Entries.{InsertionFollows};
 ghost use Rattle.insertion.specs.Opening.{FourHaveFive};
 
 /// The entry of an insertion follows the history, with exactly the cells that its point takes away and those

@@ -1,39 +1,27 @@
 //! The meshes with which scenes begin.
 
-ghost use Rattle.std.specs.Prelude.{◌≡◌, ◌<◌, ◌≤◌, IfOk, IfSome, length, slice_index};
+ghost use Rattle.std.specs.Prelude.{◌≤◌, IfOk, IfSome, length};
 
 use cell_store::{Grid, Mesh};
 use edit_history::{Edit, find_four};
-use one_mesh::{apply, begin};
+use one_mesh::{apply, begin, opening_points};
 use point_order::Point;
 use std::alloc::{AllocError, Global};
 
 // The most entries with which a scene begins.
 const MOST: u64 = 1024;
 
-// The point at a place, with the place for a tag.
-fn line_at(points: &[Point], i: usize) -> (u32, Point)
-    requires { i < length points.now }
-    ensures { result.1 ≡ slice_index points.now i }
-{
-    (u32::try_from(i).unwrap_or(u32::MAX), points[i])
-}
-
-// The mesh of the first four independent points, if there are four.
+// The mesh of the first four independent points, if there are four, of so many points at most.
 pub(crate) fn mesh_of_four(
     alloc: Global,
     grid: Grid,
     points: &[Point],
 ) -> Result<Option<Mesh>, AllocError> {
-    match find_four(points) {
-        Ok(four) => {
-            let a = line_at(points, four[0]);
-            let b = line_at(points, four[1]);
-            let c = line_at(points, four[2]);
-            let d = line_at(points, four[3]);
-            let mesh = begin(alloc, grid, [a, b, c, d])?;
-            Ok(Some(mesh))
-        }
+    if points.len() as u64 > MOST {
+        return Ok(None);
+    }
+    match opening_points(points) {
+        Ok(four) => Ok(Some(begin(alloc, grid, four)?)),
         Err(_) => Ok(None),
     }
 }

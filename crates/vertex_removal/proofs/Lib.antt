@@ -4,7 +4,6 @@ pub mod Points
 pub mod Star
 pub mod Around
 pub mod Linked
-pub mod Taken
 pub mod Holes
 pub mod RefillTurns
 pub mod Apexes

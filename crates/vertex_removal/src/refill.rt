@@ -13,7 +13,7 @@ use crate::near::{near_set, star_of};
 use crate::wrap::cells_wrapped;
 use cavity::Fresh;
 use cell_store::Hold;
-use insertion::change_of_points;
+use cloud_cells::cells_taken;
 use point_order::{Cell, Point};
 use std::alloc::{AllocError, Global};
 use std::marker::Model;
@@ -46,8 +46,8 @@ pub enum RefillTurn {
     Need(u32),
 }
 
-// The cells that v takes away from the complex of the points near it, by wrapping
-// the hole or from the mesh of these points.
+// The cells that v takes away from the complex of the points near it, by wrapping the hole or by digging in that
+// complex.
 fn cells_coming(
     alloc: Global,
     points: &[Point],
@@ -59,10 +59,7 @@ fn cells_coming(
 {
     match cells_wrapped(alloc, points, v, star)? {
         Some(cells) => Ok(cells),
-        None => {
-            let change = change_of_points(alloc, points, v)?;
-            Ok(change.gone)
-        }
+        None => Ok(cells_taken(alloc, points, v)?),
     }
 }
 

@@ -1,13 +1,13 @@
 //! Meshes of points, and what edits make of them.
 
-ghost use Rattle.std.specs.Prelude.{◌≡◌, ◌<◌, ℕ, List, length, slice_index};
+ghost use Rattle.std.specs.Prelude.{ℕ, List};
 ghost use Rattle.cell_store.specs.Shares.{Shows};
 
 use crate::reading::{at, list_at};
 use crate::telling::{Answer, put_cells, put_point};
 use cell_store::{Grid, Hold, Mesh};
 use edit_history::{Edit, Entry, PointSet, Reply, find_four};
-use one_mesh::{apply, begin, complex, history, points};
+use one_mesh::{apply, begin, complex, history, opening_points, points};
 use point_order::Point;
 use std::alloc::Global;
 
@@ -16,30 +16,13 @@ fn tag_of(place: usize) -> u32 {
     u32::try_from(place).unwrap_or(u32::MAX)
 }
 
-// The point at a place, with the place for a tag.
-fn line_at(points: &[Point], i: usize) -> (u32, Point)
-    requires { i < length points.now }
-    ensures { result.1 ≡ slice_index points.now i }
-{
-    (tag_of(i), points[i])
-}
-
-// The mesh of the first four independent points, and their places, if there are four.
-fn mesh_of_four(
-    alloc: Global,
-    answer: &mut Answer,
-    grid: Grid,
-    points: &[Point],
-) -> Option<(Mesh, [usize; 4])> {
-    match find_four(points) {
-        Ok(four) => {
-            let a = line_at(points, four[0]);
-            let b = line_at(points, four[1]);
-            let c = line_at(points, four[2]);
-            let d = line_at(points, four[3]);
-            let mesh = answer.got(begin(alloc, grid, [a, b, c, d]))?;
-            Some((mesh, four))
-        }
+// The mesh of the first four independent points, if there are four.
+fn mesh_of_four(alloc: Global, answer: &mut Answer, grid: Grid, points: &[Point]) -> Option<Mesh> {
+    if points.len() > 4_294_967_296 {
+        return None;
+    }
+    match opening_points(points) {
+        Ok(four) => answer.got(begin(alloc, grid, four)),
         Err(_) => {
             answer.put("no four independent points");
             None
@@ -76,7 +59,10 @@ pub(crate) fn mesh_of(alloc: Global, answer: &mut Answer, lists: &str) -> Option
     let grid = grid_of(answer, lists)?;
     let points: Vec<Point> = answer.all(list_at(lists, 1));
     let edits: Vec<Edit> = answer.all(list_at(lists, 2));
-    let (mut mesh, four) = mesh_of_four(alloc, answer, grid, &points)?;
+    let mut mesh = mesh_of_four(alloc, answer, grid, &points)?;
+    let Ok(four) = find_four(&points) else {
+        return None;
+    };
     for (place, p) in points.iter().enumerate() {
         if !four.contains(&place) {
             edit(alloc, answer, &mut mesh, place, Edit::Add(*p));

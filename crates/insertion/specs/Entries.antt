@@ -1,4 +1,4 @@
--- Meshes that grow point by point.
+-- The entry of a new point.
 use Rattle.std.specs.Prelude.{◌≡◌, ℕ, List, length}
 use Rattle.point_order.specs.declared.cell.Cell.{Cell}
 use Rattle.point_order.specs.Sets.{IsIn}
@@ -22,13 +22,3 @@ abbrev pub InsertionFollows : Type 0
 InsertionFollows =
     (h : List Entry) (e : Entry) (gone fresh : List Cell) → IsInsertion h e →
     IsFilled (replay h) (point_of e.edit) gone fresh → Follows h e gone fresh
-
--- the points of the tagged lines are all in the list
-abbrev pub AreAmong : List (ℕ × ℕ) → List ℕ → Type 0
-AreAmong lines s = (line : ℕ × ℕ) → IsIn line lines → IsIn line.1 s
-
--- The history has so many entries, and leaves some of the points, those of the front among them.
-pub record HasGrown (points front : List ℕ) (number : ℕ) (history : List Entry) : Type 0 where
-  pub count : number ≡ length history
-  pub inside : (p : ℕ) → IsIn p (replay history) → IsIn p points
-  pub front_in : (p : ℕ) → IsIn p front → IsIn p (replay history)
