@@ -83,6 +83,13 @@ Knows goes stays q New = ¬ (IsIn q goes)
 Knows goes stays q Goes = IsIn q goes
 Knows goes stays q Stays = (¬ (IsIn q goes)) × IsIn q stays
 
+-- another cell that goes than this one is on the facet
+pub record IsBeside (goes : List Cell) (cell : Cell) (facet : Facet) : Type 0 where
+  pub other : Cell
+  pub found : IsIn other goes
+  pub has : IsIn facet (facets_of other)
+  pub differs : ¬ (other ≡ cell)
+
 -- each of the cells that stay lies behind a facet of the rim
 abbrev pub AreBehind : List Cell → List Facet → Type 0
 AreBehind stays rim = (q : Cell) → IsIn q stays → (f : Facet) × IsIn f rim × IsIn f (facets_of q)

@@ -100,6 +100,7 @@ impl Dig {
                 alloc,
                 self.point,
                 hold,
+                self.explored,
                 &cell,
                 &mut self.judged,
                 &mut self.rim,

@@ -16,12 +16,13 @@ use cell_store::{Hold, Spot};
 use point_order::{Facet, Point};
 use std::alloc::{AllocError, Global};
 
-// Crosses a facet of a found cell. The cell behind it goes, and is found, or it stays, and the facet is one of the rim.
-// A cell that was judged is not judged again.
+// Crosses a facet of a found cell, which has this number. The cell behind it goes, and is found, or it stays, and the facet is one of the rim.
+// A cell that was judged is not judged again, and that beside which this one was found is not looked for.
 fn cross(
     alloc: Global,
     point: Point,
     hold: &Hold,
+    number: usize,
     cell: &Spot,
     facet: &Facet,
     judged: &mut Judged,
@@ -36,6 +37,9 @@ fn cross(
     ensures crossed { OnOk result ((s : List ℕ) → Shows hold.now s →
         Crosses s point cell.now facet.now judged.old.goes rim.old.items judged.new.goes rim.new.items) }
 {
+    if judged.is_back(number, cell.cell(), facet) {
+        return Ok(());
+    }
     let other = hold.spot_across(cell, facet);
     match judged.seen(other.cell()) {
         Seen::Goes => Ok(()),
@@ -46,6 +50,7 @@ fn cross(
         Seen::New => {
             if is_spot_in_conflict(hold, &other, point) {
                 judged.push_gone(alloc, other)?;
+                judged.note_beside(number);
             } else {
                 rim.push(*facet)?;
                 judged.keep(alloc, other)?;
@@ -60,6 +65,7 @@ pub(crate) fn explore(
     alloc: Global,
     point: Point,
     hold: &Hold,
+    number: usize,
     cell: &Spot,
     judged: &mut Judged,
     rim: &mut Vec<Facet>,
@@ -74,7 +80,7 @@ pub(crate) fn explore(
 {
     let facets = cell.cell().facets();
     for facet in &facets {
-        cross(alloc, point, hold, cell, facet, judged, rim)?;
+        cross(alloc, point, hold, number, cell, facet, judged, rim)?;
     }
     Ok(())
 }

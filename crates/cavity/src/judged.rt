@@ -1,12 +1,13 @@
 //! The cells that a dig judged.
 
-ghost use Rattle.std.specs.Prelude.{◌≡◌, ◌<◌, ◌^◌, [], ◌∷◌, ◌++◌, length, IfOk, OnOk, OnErr, MatchOption};
+ghost use Rattle.std.specs.Prelude.{◌≡◌, ◌<◌, ◌^◌, [], ◌∷◌, ◌++◌, length, IfOk, OnOk, OnErr, IsTrue, MatchOption};
 ghost use Rattle.cavity.specs.Lists.{IsPast, IsAtPlace};
-ghost use Rattle.cavity.specs.Tables.{Knows};
+ghost use Rattle.cavity.specs.Tables.{IsBeside, Knows};
 
 use crate::cell_table::{Mark, Seen, home_of, look, put, table_of};
-use cell_store::{Hold, Spot};
-use point_order::Cell;
+use cell_stars::are_same;
+use cell_store::{Hold, Spot, is_on};
+use point_order::{Cell, Facet};
 use std::alloc::{AllocError, Global};
 use std::marker::Model;
 
@@ -25,6 +26,8 @@ pub(crate) struct Judged {
     stays: Vec<Spot>,
     marks: Vec<Mark>,
     mask: usize,
+    // Beside which of those that go each was found, none for the first.
+    beside: Vec<usize>,
 }
 
 impl Model for Judged {
@@ -62,6 +65,7 @@ impl Judged {
             stays,
             marks,
             mask: MASK,
+            beside: Vec::with_capacity(alloc, USUAL)?,
         })
     }
 
@@ -113,6 +117,33 @@ impl Judged {
         match self.stays.push(cell) {
             Ok(()) => Ok(()),
             Err(_) => unreachable!(),
+        }
+    }
+
+    // Notes that the cell that goes and was found last lies beside the one with this number.
+    pub(crate) fn note_beside(&mut self, number: usize)
+        ensures { self.new ≡ self.old }
+    {
+        let _ = self.beside.push(number);
+    }
+
+    // Whether the cell with the number was found beside one that is on the facet.
+    pub(crate) fn is_back(&self, number: usize, cell: &Cell, facet: &Facet) -> bool
+        ensures { IsTrue result → IsBeside self.now.goes cell.now facet.now }
+    {
+        match self.beside.get(number.wrapping_sub(1)) {
+            Some(before) => self.is_beside(*before, cell, facet),
+            None => false,
+        }
+    }
+
+    // Whether another cell than this one has the number and is on the facet.
+    fn is_beside(&self, number: usize, cell: &Cell, facet: &Facet) -> bool
+        ensures { IsTrue result → IsBeside self.now.goes cell.now facet.now }
+    {
+        match self.goes.get(number) {
+            Some(other) => is_on(other.cell(), facet) && !are_same(other.cell(), cell),
+            None => false,
         }
     }
 

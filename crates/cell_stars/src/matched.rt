@@ -300,7 +300,7 @@ fn vertices_of(alloc: Global, gone: &[Cell], fresh: &[Cell]) -> Result<Vec<Point
     ensures vertices { IfOk result (λ list. AreVertices gone.now fresh.now list.items) }
 {
     let mut list = Vec::with_capacity(alloc, FEW)?;
-    let mut seen = [0usize; 512];
+    let mut seen = [0; 512];
     add_vertices(&mut list, &mut seen, gone)?;
     add_vertices(&mut list, &mut seen, fresh)?;
     Ok(points_in_order(list))

@@ -38,6 +38,9 @@ use std::alloc::{AllocError, Global};
 // Up to so many numbers are looked through in turn, and stars with so many places are short.
 const FEW: usize = 32;
 
+// As many cells as mostly come in one bucket: a list of them is one of the small ones of an allocator.
+const HERE: usize = 24;
+
 // What goes and comes in an exchange: the places that are freed, ascending, and the cells that are put at places.
 #[derive(Drop)]
 pub(crate) struct Moves {
@@ -448,7 +451,7 @@ impl Cells {
     {
         let p = if found { None } else { self.new_vertex(fresh) };
         let mut clear = self.clear_point(alloc, &p)?;
-        let mut coming = Vec::with_capacity(alloc, fresh.len())?;
+        let mut coming = Vec::with_capacity(alloc, fresh.len().min(HERE))?;
         for c in fresh {
             let comes = self.comes(c, freed, &p, &mut clear, found)?;
             if comes {

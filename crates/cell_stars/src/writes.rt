@@ -140,7 +140,7 @@ pub(crate) fn hash_of(p: Point) -> u64 {
 }
 
 // For each rest of a division, where in a list of points the last one with this rest is likely to be.
-pub(crate) type Seen = [usize; 512];
+pub(crate) type Seen = [u16; 512];
 
 // The rest of the point.
 pub(crate) fn rest_of(p: Point) -> usize
@@ -153,7 +153,7 @@ pub(crate) fn rest_of(p: Point) -> usize
 fn is_seen(list: &[Point], seen: &Seen, p: Point) -> bool
     ensures { IsTrue result → IsIn p list.now }
 {
-    let at = seen[rest_of(p)];
+    let at = usize::from(seen[rest_of(p)]);
     if at >= list.len() {
         return false;
     }
@@ -165,7 +165,7 @@ fn add_point(list: &mut Vec<Point>, seen: &mut Seen, p: Point) -> Result<(), All
     ensures { OnOk result ((q : ℕ) → IsIn q list.new.items ↔ (IsIn q list.old.items ⊎ (p ≡ q))) }
 {
     if !is_seen(list, seen, p) {
-        seen[rest_of(p)] = list.len();
+        seen[rest_of(p)] = u16::try_from(list.len()).unwrap_or(u16::MAX);
         list.push(p)?;
     }
     Ok(())

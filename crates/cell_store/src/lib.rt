@@ -38,4 +38,4 @@ pub use cell_stars::{BadGrid, BucketCells, Grid, Star, StarCells, Steps};
 pub use hold::Hold;
 pub use mesh::Mesh;
 pub use spot::{Spot, SpotAcross};
-pub use star::Across;
+pub use star::{Across, is_on};

@@ -59,8 +59,8 @@ fn is_triple(tri: &Tri, other: &Tri) -> bool
     a == x && b == y && c == z
 }
 
-// Whether the cell is on the facet.
-pub(crate) fn is_on(cell: &Cell, facet: &Facet) -> bool
+/// Whether the cell is on the facet.
+pub fn is_on(cell: &Cell, facet: &Facet) -> bool
     ensures { IsTrue result ↔ IsIn facet.now (facets_of cell.now) }
 {
     match (cell, facet) {
