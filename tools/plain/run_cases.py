@@ -9,12 +9,15 @@ usage: tools/make runs
 prints each run with its answer below it
 """
 from plain import file_cases as files
+from plain import mesh_cases as meshes
 from plain import random_cases as plain
 
 PAGE, LIMIT = 4096, 16_777_216
-LINES = {0: '', 2: 'usage', 3: 'read fault', 4: 'write fault', 6: 'no four independent points', 7: 'input too long'}
+LINES = {0: '', 2: 'usage', 3: 'read fault', 4: 'write fault', 6: 'no four independent points', 7: 'input too long',
+         10: 'bad mesh'}
 FOUR = [(0, 0, 0), (2, 0, 0), (0, 2, 0), (0, 0, 2)]
 TETRAHEDRON = plain.text_of(FOUR, [], [])
+REPORT = plain.report(FOUR, [], [], range(4), False)
 
 
 # ---- runs
@@ -60,8 +63,24 @@ def edit_of(sign, numbers):
     return (None, numbers[:3], numbers[3:]) if sign == '=' else (sign == '+', numbers)
 
 
+def outcome_of_check(text, source, output):
+    """The same of a report that is judged; nothing is kept."""
+    if source.fails_to_give(len(text)):
+        return 3, '', ''
+    try:
+        _, *lists = meshes.read(bar(text))
+    except meshes.Fault as fault:
+        return 5, 'line {}: {}'.format(*fault.args), ''
+    flaw = meshes.verdict(*lists)
+    named = ['bad', flaw[0], *(i for part in flaw[1:] for i in part)] if flaw else ['good']
+    taken, failed = output.takes(f'mesh3-check 1\n{" ".join(map(str, named))}\n')
+    return (4 if failed else 10 if flaw else 0), '', taken + '\0'
+
+
 def outcome(words, text, source, output, kept, written=None):
     """The status, what is told and written, and what is kept. A text that is given is that of a reader, and no file is read."""
+    if words == 'check':
+        return outcome_of_check(text, source, output)
     reads = words.split()[:1] in (['mesh'], ['shape'], ['near'])
     if written is None and not reads:
         return 2, '', ''
@@ -152,6 +171,16 @@ def all_cases():
         'near --workers 2 --grid 16', plain.text_of(FOUR, [(None, (2, 0, 0), (9, 9, 9))], [], 4, [(9, 9, 8), (5, 5, 5)]), kept=OF_FOUR + ' 4:0')
     yield 'no queries', case('near', TETRAHEDRON, kept=OF_FOUR)
     yield 'queries in a version that has none', case('near', asked.replace('mesh3 4', 'mesh3 3'))
+    for count in range(len(REPORT) + 1):
+        yield 'every cut of a report, judged', case('check', REPORT[:count])
+    bad = REPORT.replace('cells 1\n0 1 2 3\n', 'cells 0\n')
+    yield 'a report without its cell', case('check', bad)
+    name = 'every read of it fails'
+    for k in range(1, 17):
+        yield name if k < 16 else 'the sixteenth read never comes', case('check', bad, source=End(10, k))
+    name = 'every write of its verdict fails'
+    for k in range(1, 6):
+        yield name if k < 5 else 'the fifth write never comes', case('check', bad, output=End(10, k))
     yield 'a version that is none', case('mesh', 'mesh3 5\npoints\n')
     yield 'a version that is none', case('near', 'mesh3 5\npoints\n')
     yield 'points in a plane', case('mesh', plain.text_of([(0, 0, 0), (2, 0, 0), (0, 2, 0), (2, 2, 0), (1, 1, 0)], [], []))
