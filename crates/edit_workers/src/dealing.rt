@@ -3,7 +3,7 @@
 ghost use Rattle.std.specs.Prelude.{◌≡◌, ◌+◌, ◌^◌, ◌<◌, ◌≤◌, ◌++◌, map, length, slice_get, Some, IfOk};
 ghost use Rattle.edit_history.specs.declared.history.Edit.TheVariants.{Add};
 ghost use Rattle.edit_history.specs.OneThread.{tagged_lines};
-ghost use Rattle.plain_laws.specs.Running.{dealt};
+ghost use Rattle.plain_laws.specs.Running.{dealt, dealt_lines, edit_lines};
 ghost use Rattle.edit_workers.specs.Dealing.{segments_of, AreOpening};
 
 use crate::cutting::Cutter;
@@ -50,4 +50,26 @@ pub fn deal(alloc: Global, file: &File, four: [usize; 4], workers: u32) -> Resul
         }
     }
     cutter.finish()
+}
+
+/// The edit lines of a file, dealt as `deal` deals lines: what is left to do on a mesh in which the points of the file
+/// are there.
+///
+/// There are to be 1 to 64 workers, and at most 2^32 lines.
+///
+/// # Errors
+/// Want of memory.
+pub fn deal_edits(alloc: Global, file: &File, workers: u32) -> Result<Lists, AllocError>
+    requires workers { (0 < workers) × (workers ≤ 64) }
+    requires lines { length file.now.points.items + length file.now.edits.items ≤ 2 ^ 32 }
+    ensures dealt { IfOk result (λ lists.
+        segments_of lists ≡ dealt_lines workers (edit_lines file.now.points.items file.now.edits.items)) }
+{
+    let mut cutter = Cutter::new(alloc, workers)?;
+    for place in 0..file.edits.len() {
+        let tag = (file.points.len() + place) as u32;
+        cutter.put(alloc, workers, tag, file.edits[place])?;
+    }
+    let lists = cutter.finish()?;
+    Ok(lists)
 }

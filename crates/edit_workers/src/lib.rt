@@ -16,7 +16,7 @@ mod rounds;
 mod running;
 mod working;
 
-pub use dealing::deal;
+pub use dealing::{deal, deal_edits};
 pub use lists::{Left, List, Lists, Segment};
 pub use running::run_edits;
 pub use working::{share_a_point, work};
