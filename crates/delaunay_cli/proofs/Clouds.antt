@@ -12,13 +12,10 @@ use Rattle.edit_history.specs.Histories.{replay}
 use Rattle.edit_history.specs.Laws.{KeepsLaw, ReplayLaw}
 use Rattle.edit_history.specs.Opening.{Four, opening_four}
 use Rattle.edit_history.specs.OneThread.{Keeps, one_thread, places}
+use Rattle.one_mesh.proofs.Cited.{found}
+pub use Rattle.one_mesh.proofs.Cited.{leaves_points, set_is}
 use Rattle.edit_files.specs.Content.{Content}
 use Rattle.delaunay_cli.specs.Run.{AreDealt, IsKept}
-
--- what follows of an opening four, where there is one
-found : {P : Type 0} (o : Option Four) (four : List ℕ) → option_map places o ≡ Some four → IfSome o (λ _. P) → P
-found None four e k = absurd (cc e)
-found (Some f) four e k = k
 
 -- entries by 0 are entries by one of some workers
 any_workers : (points : List ℕ) (edits : List Edit) (workers : ℕ) (h : List Entry) → 0 < workers →
@@ -48,12 +45,3 @@ kept_by_any file four h law e none is workers some =
           let b = each_of_all (λ (e : Entry). e.by < 1) (one_thread file.points file.edits) one.workers e i in
           inl (omega (arith, b))));
     }
-
--- and it leaves the set of the points
-pub leaves_points : (points four : List ℕ) (h : List Entry) → ReplayLaw →
-    option_map places (opening_four points) ≡ Some four → h ≡ one_thread points [] → replay h ≡ ascending points
-leaves_points points four h law e is = ap replay is ∙ found (opening_four points) four e (law points)
-
--- the ascending list of the points of a list
-pub set_is : (list points : List ℕ) → IsAscending points → AreSamePoints list points → points ≡ ascending list
-set_is list points a same = ascending_is points list a (λ p i. (same p).1 i) (λ p i. (same p).0 i)

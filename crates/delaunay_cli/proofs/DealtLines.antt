@@ -29,7 +29,7 @@ use Rattle.std.proofs.Common.{
   inr,
   length-append,
 }
-use Rattle.std.specs.Prelude.{not, All, slice_index_or, ◌⊎◌}
+use Rattle.std.specs.Prelude.{not, All, Option, IfSome, slice_index_or, ◌⊎◌}
 use Rattle.std.specs.List.{enumerate_from, filter, flat_map, range_with_len}
 use Rattle.std.proofs.lemmas.Bool.{eqb-true}
 use Rattle.std.proofs.lemmas.List.{length-map}
@@ -54,23 +54,26 @@ use Rattle.edit_history.specs.declared.history.Edit.TheVariants.{Add}
 use Rattle.edit_history.specs.declared.history.Entry.{Entry}
 use Rattle.edit_history.specs.Edits.{point_of, after}
 use Rattle.edit_history.specs.Histories.{IsLegal, entries_from}
-use Rattle.edit_history.specs.OneThread.{Keeps, line_of, one_thread, places, tagged_lines}
+use Rattle.edit_history.specs.Opening.{Four, opening_four}
+use Rattle.edit_history.specs.OneThread.{Keeps, line_of, lines_of_one_thread, one_thread, tagged_lines}
+use Rattle.edit_history.proofs.Cited.{keeps_law}
 use Rattle.plain_laws.specs.Running.{
   Pair,
   AreRuns,
   IsRun,
   dealt,
+  dealt_lines,
   dealt_out,
   dealt_to,
-  opening_entries,
+  edit_lines,
   other_lines,
   segments,
 }
 use Rattle.plain_laws.proofs.Cited.{
   alone_in_any_order,
   dealt_all,
-  run_alone,
-  run_keeps,
+  run_behind_alone,
+  run_behind_keeps,
   segments_apart,
   segments_keep,
 }
@@ -106,15 +109,21 @@ count_dealt n (part ∷ parts) some =
       length-append (all_of (dealt_out n part)) (flat_map all_of (map (dealt_out n) parts)),
     )
 
-module _ (workers : ℕ) (four points : List ℕ) (edits : List Edit) (some : 0 < workers) where
-  abbrev lines : List Pair
-  lines = other_lines four (tagged_lines points edits)
+few_pass : {X : Type 0} (t : X → Bool) (xs : List X) → length (filter t xs) ≤ length xs
+few_pass t [] = omega arith
+few_pass {X} t (x ∷ xs) = by (t x) (few_pass t xs)
+  where
+    by : (b : Bool) → length (filter t xs) ≤ length xs →
+        length (cond b (x ∷ filter t xs) (filter t xs)) ≤ suc (length xs)
+    by true l = omega (arith, l)
+    by false l = omega (arith, l)
 
-  lower : EachLater (λ (a b : Pair). a.0 < b.0) lines
-  lower =
-      later_filter (λ (a b : Pair). a.0 < b.0) (λ line. not (is_among line.0 four)) (tagged_lines points edits)
-      (numbered_lower 0 (map Add points ++ edits))
+numbered_length : {X : Type 0} (n : ℕ) (xs : List X) → length (enumerate_from n xs) ≡ length xs
+numbered_length n [] = refl
+numbered_length n (x ∷ xs) = ap suc (numbered_length (n + 1) xs)
 
+-- lines whose tags rise
+module _ (workers : ℕ) (lines : List Pair) (lower : EachLater (λ (a b : Pair). a.0 < b.0) lines) (some : 0 < workers) where
   -- the lists of a segment
   segment_done : workers ≤ 64 → (segment : List Pair) → IsIn segment (segments lines) →
       CanBeDone (dealt_out workers segment)
@@ -136,33 +145,57 @@ module _ (workers : ℕ) (four points : List ℕ) (edits : List Edit) (some : 0 
           (later_within (λ (a b : Pair). a.0 < b.0) (segments lines) segment i
           (subst (EachLater (λ (a b : Pair). a.0 < b.0)) (sym (segments_keep lines)) lower)))
 
-  pub dealt_done : workers ≤ 64 → All CanBeDone (dealt workers four (tagged_lines points edits))
-  dealt_done few =
-      all_of_each CanBeDone (dealt workers four (tagged_lines points edits)) (λ l i.
+  pub lines_done : workers ≤ 64 → All CanBeDone (dealt_lines workers lines)
+  lines_done few =
+      all_of_each CanBeDone (dealt_lines workers lines) (λ l i.
       let k = mapped_from (dealt_out workers) l (segments lines) i in
       subst CanBeDone k.2 (segment_done few k.0 k.1))
 
-  few_pass : {X : Type 0} (t : X → Bool) (xs : List X) → length (filter t xs) ≤ length xs
-  few_pass t [] = omega arith
-  few_pass {X} t (x ∷ xs) = by (t x) (few_pass t xs)
-    where
-      by : (b : Bool) → length (filter t xs) ≤ length xs →
-          length (cond b (x ∷ filter t xs) (filter t xs)) ≤ suc (length xs)
-      by true l = omega (arith, l)
-      by false l = omega (arith, l)
+  -- all together they are as many pairs as lines
+  pub lines_many : count_all (dealt_lines workers lines) ≡ length lines
+  lines_many = count_dealt workers (segments lines) some ∙ ap length (segments_keep lines)
 
-  numbered_length : {X : Type 0} (n : ℕ) (xs : List X) → length (enumerate_from n xs) ≡ length xs
-  numbered_length n [] = refl
-  numbered_length n (x ∷ xs) = ap suc (numbered_length (n + 1) xs)
+-- all lines of a file but the opening four
+module _ (workers : ℕ) (four points : List ℕ) (edits : List Edit) (some : 0 < workers) where
+  abbrev others : List Pair
+  others = other_lines four (tagged_lines points edits)
+
+  lower : EachLater (λ (a b : Pair). a.0 < b.0) others
+  lower =
+      later_filter (λ (a b : Pair). a.0 < b.0) (λ line. not (is_among line.0 four)) (tagged_lines points edits)
+      (numbered_lower 0 (map Add points ++ edits))
+
+  pub dealt_done : workers ≤ 64 → All CanBeDone (dealt workers four (tagged_lines points edits))
+  dealt_done few = lines_done workers others lower some few
 
   -- all together they have at most as many pairs as the file has lines
   pub dealt_few : count_all (dealt workers four (tagged_lines points edits)) ≤ length points + length edits
   dealt_few =
-      let e = count_dealt workers (segments lines) some in
-      let k = ap length (segments_keep lines) in
+      let e = lines_many workers others lower some in
       let f = few_pass (λ (line : Pair). not (is_among line.0 four)) (tagged_lines points edits) in
       let n = numbered_length 0 (map Add points ++ edits) in
-      omega (arith, e, k, f, n, length-append (map Add points) edits, length-map points Add)
+      omega (arith, e, f, n, length-append (map Add points) edits, length-map points Add)
+
+-- the edit lines of a file
+module _ (workers : ℕ) (points : List ℕ) (edits : List Edit) (some : 0 < workers) where
+  pub edits_done : workers ≤ 64 → All CanBeDone (dealt_lines workers (edit_lines points edits))
+  edits_done few = lines_done workers (edit_lines points edits) (numbered_lower (length points) edits) some few
+
+  pub edits_many : count_all (dealt_lines workers (edit_lines points edits)) ≡ length edits
+  edits_many =
+      lines_many workers (edit_lines points edits) (numbered_lower (length points) edits) some
+      ∙ numbered_length (length points) edits
+
+-- the history of one thread of points has an entry for each
+pub points_many : (points : List ℕ) (four : List ℕ) → AreOpening points four →
+    length (one_thread points []) ≡ length points
+points_many points four found =
+    let kept : Keeps points [] 1 (one_thread points []) =
+    subst (λ (o : Option Four). IfSome o (λ _. Keeps points [] 1 (one_thread points []))) found.1 (keeps_law points []) in
+    let p = length_permutation (tagged_lines points []) (map line_of (one_thread points [])) kept.lines in
+    let n = numbered_length 0 (map Add points ++ []) in
+    let m = length-map (one_thread points []) line_of in
+    omega (arith, p, n, m, length-append (map Add points) [], length-map points Add)
 
 -- ---- what runs of them leave
 
@@ -200,41 +233,37 @@ named n parts lists made i run ends e j =
     ]
 
 module _ (points : List ℕ) (edits : List Edit) (workers : ℕ) (four : List ℕ) (found : AreOpening points four)
-    (some : 0 < workers) (ls : List (List (List Pair))) (deals : ls ≡ dealt workers four (tagged_lines points edits))
-    (h k : List Entry) (opens : h ≡ opening_entries four (tagged_lines points edits)) (run : AreRun ls h k) where
-  are_runs : AreRuns (dealt workers (places found.0) (tagged_lines points edits)) run.more
-  are_runs =
-      subst (λ (f : List ℕ). AreRuns (dealt workers f (tagged_lines points edits)) run.more) found.2
-      (subst (λ (l : List (List (List Pair))). AreRuns l run.more) deals (done_runs ls run.more run.done))
+    (some : 0 < workers) (ls : List (List (List Pair))) (deals : ls ≡ dealt_lines workers (edit_lines points edits))
+    (h k : List Entry) (opens : h ≡ one_thread points []) (run : AreRun ls h k) where
+  are_runs : AreRuns (dealt_lines workers (edit_lines points edits)) run.more
+  are_runs = subst (λ (l : List (List (List Pair))). AreRuns l run.more) deals (done_runs ls run.more run.done)
 
-  history_is : k ≡ opening_entries (places found.0) (tagged_lines points edits) ++ run.more
-  history_is =
-      run.history ∙ ap (λ (l : List Entry). l ++ run.more) opens
-      ∙ ap (λ (f : List ℕ). opening_entries f (tagged_lines points edits) ++ run.more) found.2
+  history_is : k ≡ one_thread points [] ++ run.more
+  history_is = run.history ∙ ap (λ (l : List Entry). l ++ run.more) opens
 
   -- they keep the file
   pub run_kept : Keeps points edits workers k
   run_kept =
       subst (Keeps points edits workers) (sym history_is)
-      (run_keeps points edits workers found.0 run.more found.1 some are_runs)
+      (run_behind_keeps points edits workers found.0 run.more found.1 some are_runs)
 
   -- of one worker they are the history of one thread, where they are legal
   pub run_of_one : workers ≡ 1 → IsLegal k → k ≡ one_thread points edits
   run_of_one e legal =
-      let one : AreRuns (dealt 1 (places found.0) (tagged_lines points edits)) run.more =
-      subst (λ (n : ℕ). AreRuns (dealt n (places found.0) (tagged_lines points edits)) run.more) e are_runs in
-      history_is ∙ run_alone points edits found.0 run.more found.1 one (subst IsLegal history_is legal)
+      let one : AreRuns (dealt_lines 1 (edit_lines points edits)) run.more =
+      subst (λ (n : ℕ). AreRuns (dealt_lines n (edit_lines points edits)) run.more) e are_runs in
+      history_is ∙ run_behind_alone points edits found.0 run.more found.1 one (subst IsLegal history_is legal)
 
   -- each entry is by 0 or by the worker that its point names
   pub run_dealt : AreDealt workers k
   run_dealt =
-      let parts = segments (other_lines four (tagged_lines points edits)) in
+      let parts = segments (edit_lines points edits) in
       let P : Entry → Type 0 = λ e. (e.by ≡ 0) ⊎ (e.by ≡ point_of e.edit % workers) in
       let later = done_each ls run.more P run.done (λ lists made i.
       named workers parts lists made (subst (λ (l : List (List (List Pair))). IsIn lists l) deals i)) in
       subst (AreDealt workers) (sym run.history) (all_of_each P (h ++ run.more)
       (λ e i. elim (from_append e h run.more i) [
-        | inl j ↦ inl (by_none 0 [] (filter (λ line. is_among line.0 four) (tagged_lines points edits)) e
+        | inl j ↦ inl (by_none 0 [] (lines_of_one_thread (opening_four points) (tagged_lines points [])) e
             (subst (IsIn e) opens j))
         | inr j ↦ each_of_all P run.more later e j
       ]))

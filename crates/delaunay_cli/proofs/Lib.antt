@@ -7,7 +7,6 @@ pub mod TextStatuses
 pub mod ChecksEnded
 pub mod Ended
 pub mod Promised
-pub mod OpeningLines
 pub mod ShapesOfSet
 pub mod DrawnFiles
 pub mod PlainTexts

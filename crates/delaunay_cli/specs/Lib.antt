@@ -1,5 +1,4 @@
 pub mod Report
-pub mod Made
 pub mod Statuses
 pub mod Words
 pub mod Built
