@@ -100,11 +100,11 @@ def made_of(points, edits):
     return order, replies, sorted(left)
 
 
-def mesh_case(grid, points, edits):
+def mesh_case(grid, points, edits, word='mesh'):
     order, replies, left = made_of(points, edits)
     history = ''.join(f' {i}{replies[i]}' for i in order)
     cells = ' '.join(places(left, c) for c in cells_of(left))
-    yield f'mesh {grid}; {words(points)}; {" ".join(map(edit_word, edits))}'
+    yield f'{word} {grid}; {words(points)}; {" ".join(map(edit_word, edits))}'
     yield f'{history} by sets {"".join(replies[i] for i in order)}; points {words(left)}; cells {cells}'
 
 
@@ -361,6 +361,9 @@ def all_cases():
     for points, edits in drawn_meshes():
         for grid in (1, 4, 16):
             yield 'drawn edits', mesh_case(grid, points, edits)
+    for points, edits in drawn_meshes():
+        for grid in (1, 4, 16):
+            yield 'points put in at once, two of them twice', mesh_case(grid, points[:2] + points + points[2:4], edits, 'begun')
     for name, points, edits in MESHES[:6]:
         if plain.is_solid(points):
             yield 'a handle, ' + name, handle_case(points, edits, [*points[:2], (1, 1, 1), (16383, 0, 7)])

@@ -6,7 +6,8 @@
 //! | I want | call |
 //! |---|---|
 //! | a point; the side of a plane, of a sphere | `Point::new`; `orient`, `outside` |
-//! | a mesh of points | `opening_points`, `begin`, then `apply` of `Edit::Add` for each other point |
+//! | a mesh of points | `find_four`, then `begin_cloud`, which puts them in at once |
+//! | a mesh of four points | `opening_points`, `begin`, then `apply` of `Edit::Add` for each other point |
 //! | to add, take or move a point | `apply`, which answers the reply and the number of the entry |
 //! | the cells; the points; what was done | `complex`; `points`; `history` |
 //! | where a place lies; the nearest point | `locate`; `nearest(mesh.hold(), q)`, of many places `nearest_to_each` |
@@ -24,9 +25,9 @@
 //! An alpha is a squared radius in sixteenths of the square of the unit of the grid.
 //!
 //! ```
-//! let four = opening_points(&points)?;                              // NotSolid: all points lie in one plane
-//! let mut mesh = begin(alloc, Grid::new(4)?, four)?;
-//! let receipt = apply(alloc, &mut mesh, 4, Edit::Add(p))?;          // Inserted or Duplicate, and its number
+//! let four = find_four(&points)?;                                   // NotSolid: all points lie in one plane
+//! let mut mesh = begin_cloud(alloc, Grid::new(4)?, &points, four)?;
+//! let receipt = apply(alloc, &mut mesh, 9, Edit::Add(p))?;          // Inserted or Duplicate, and its number
 //! let cells = complex(alloc, &mesh)?;                               // sorted; triangles of the hull are Open cells
 //! let faces = faces(&rt, alloc, &cells)?;
 //! let shape = alpha(&rt, alloc, &faces, 16 * 270)?;                 // of the squared radius 270
@@ -52,7 +53,9 @@ pub use mesh_files::{
 };
 pub use mesh_handle::{Location, locate};
 pub use near_vertex::{Near, NearStart, NearTurn, NearWalk, nearest, nearest_to_each, put_near};
-pub use one_mesh::{Receipt, apply, begin, complex, history, opening_points, points};
+pub use one_mesh::{
+    Receipt, apply, begin, begin_cloud, complex, find_four, history, opening_points, points,
+};
 pub use point_order::{Cell, Facet, OutOfRange, Pair, Point, Quad, Tri};
 pub use solid_parts::{Part, PartSize, boundary, least_alpha, parts, put_parts, sizes};
 pub use sphere_ties::{conflict, outside};

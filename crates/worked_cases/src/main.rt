@@ -41,6 +41,7 @@
 //! - `enter SIZE; EDITS`: an empty bucket at each point of the edits; after each entry how many points and entries its
 //!   bucket has. Every edit is entered as done, but for moves.
 //! - `mesh SIZE; POINTS; EDITS`: the history by tags, what a set of points replies, the points left, and the cells.
+//! - `begun SIZE; POINTS; EDITS`: the same, of a mesh whose points are put in at once.
 //! - `faces SIZE; POINTS`: each face of the complex with the cells that contain it, by the places of the sorted points.
 //! - `bucket SIZE; POINTS; B`: the bucket in a hold of its own; its counts, the cells at each of its points, the same
 //!   cells by a search that is counted, and what lies across the facets of the first of them.
@@ -105,6 +106,7 @@ fn put_case<R: Threads + Sync>(
         "grid" => buckets::numbers(answer, lists),
         "enter" => entering::put(alloc, answer, lists),
         "mesh" => meshes::put(alloc, answer, lists),
+        "begun" => meshes::put_begun(alloc, answer, lists),
         "faces" => faces::put(rt, alloc, answer, lists),
         "bucket" => buckets::put(alloc, answer, lists),
         "refill" => refills::put(alloc, answer, lists),

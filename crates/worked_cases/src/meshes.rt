@@ -7,7 +7,7 @@ use crate::reading::{at, list_at};
 use crate::telling::{Answer, put_cells, put_point};
 use cell_store::{Grid, Hold, Mesh};
 use edit_history::{Edit, Entry, PointSet, Reply, find_four};
-use one_mesh::{apply, begin, complex, history, opening_points, points};
+use one_mesh::{apply, begin, begin_cloud, complex, history, opening_points, points};
 use point_order::Point;
 use std::alloc::Global;
 
@@ -68,15 +68,31 @@ pub(crate) fn mesh_of(alloc: Global, answer: &mut Answer, lists: &str) -> Option
             edit(alloc, answer, &mut mesh, place, Edit::Add(*p));
         }
     }
+    edit_all(alloc, answer, &mut mesh, points.len(), &edits);
+    Some(mesh)
+}
+
+// Makes edits, whose tags go on from the first one.
+fn edit_all(alloc: Global, answer: &mut Answer, mesh: &mut Mesh, first: usize, edits: &[Edit]) {
     for (place, line) in edits.iter().enumerate() {
-        edit(
-            alloc,
-            answer,
-            &mut mesh,
-            points.len().saturating_add(place),
-            *line,
-        );
+        edit(alloc, answer, mesh, first.saturating_add(place), *line);
     }
+}
+
+// The same mesh, its points put in at once.
+fn begun_of(alloc: Global, answer: &mut Answer, lists: &str) -> Option<Mesh> {
+    let grid = grid_of(answer, lists)?;
+    let points: Vec<Point> = answer.all(list_at(lists, 1));
+    let edits: Vec<Edit> = answer.all(list_at(lists, 2));
+    let Ok(four) = find_four(&points) else {
+        answer.put("no four independent points");
+        return None;
+    };
+    if points.len() > 4_294_967_296 {
+        return None;
+    }
+    let mut mesh = answer.got(begin_cloud(alloc, grid, &points, four))?;
+    edit_all(alloc, answer, &mut mesh, points.len(), &edits);
     Some(mesh)
 }
 
@@ -126,6 +142,12 @@ fn put_mesh(alloc: Global, answer: &mut Answer, mesh: &Mesh) -> Option<()> {
 /// Answers a case of a mesh.
 pub(crate) fn put(alloc: Global, answer: &mut Answer, lists: &str) -> Option<()> {
     let mesh = mesh_of(alloc, answer, lists)?;
+    put_mesh(alloc, answer, &mesh)
+}
+
+/// Answers a case of a mesh whose points are put in at once.
+pub(crate) fn put_begun(alloc: Global, answer: &mut Answer, lists: &str) -> Option<()> {
+    let mesh = begun_of(alloc, answer, lists)?;
     put_mesh(alloc, answer, &mesh)
 }
 
