@@ -18,19 +18,23 @@ use Rattle.edit_history.specs.Laws.{IsFirstPlace, AreIndependent, KeepsLaw}
 use Rattle.edit_history.proofs.LinesAtPlaces.{line_at, picked}
 use Rattle.edit_history.proofs.OpeningSolid.{four_law}
 
+-- the tag of a line
 abbrev tag_of : ℕ × Edit → ℕ
 tag_of line = line.0
 
 -- ---- entries and their lines
 
+-- the entries that one thread makes of lines have these lines, in their order
 pub entry_lines : (n : ℕ) (s : List ℕ) (lines : List (ℕ × Edit)) → map line_of (entries_from n s lines) ≡ lines
 entry_lines n s [] = refl
 entry_lines n s (line ∷ lines) = ap (λ (t : List (ℕ × Edit)). line ∷ t) (entry_lines (n + 1) (after s line.1) lines)
 
+-- and their tags
 entry_tags : (n : ℕ) (s : List ℕ) (lines : List (ℕ × Edit)) → map (λ (e : Entry). e.tag) (entries_from n s lines) ≡ map tag_of lines
 entry_tags n s [] = refl
 entry_tags n s (line ∷ lines) = ap (λ (t : List ℕ). line.0 ∷ t) (entry_tags (n + 1) (after s line.1) lines)
 
+-- each of them is by 0
 entry_by : (n : ℕ) (s : List ℕ) (lines : List (ℕ × Edit)) (e : Entry) → IsIn e (entries_from n s lines) → e.by < 1
 entry_by n s [] e i = absurd i
 entry_by n s (line ∷ lines) e (inl q) = let f = ap (λ (e : Entry). e.by) q in omega arith
@@ -42,6 +46,7 @@ entry_by n s (line ∷ lines) e (inr i) = entry_by (n + 1) (after s line.1) line
 abbrev pub InOrder : ℕ × Edit → ℕ × Edit → Type 0
 InOrder x y = share_point x.1 y.1 ≡ true → x.0 < y.0
 
+-- entries of lines that are in order are so: of two that share a point the earlier has the lower tag
 later_entries : (n : ℕ) (s : List ℕ) (lines : List (ℕ × Edit)) → EachLater InOrder lines → EachLater (λ (d e : Entry). share_point d.edit e.edit ≡ true → d.tag < e.tag) (entries_from n s lines)
 later_entries n s [] h = tt
 later_entries n s (line ∷ lines) h = (first (n + 1) (after s line.1) lines h.0, later_entries (n + 1) (after s line.1) lines h.1)
@@ -56,6 +61,7 @@ later_entries n s (line ∷ lines) h = (first (n + 1) (after s line.1) lines h.0
 
 -- ---- numbered lines
 
+-- lines that are numbered in their order are in order
 numbered_later : (n : ℕ) (xs : List Edit) → EachLater InOrder (enumerate_from n xs)
 numbered_later n [] = tt
 numbered_later n (x ∷ xs) = (λ y i q. omega (arith, numbered_from (n + 1) xs y i), numbered_later (n + 1) xs)
@@ -83,9 +89,11 @@ share_adds p q e = by (q == p) refl e
 -- ---- the file
 
 module _ (points : List ℕ) (edits : List Edit) (four : Four) (w : AreIndependent points four) where
+  -- the numbered lines of the file
   abbrev all : List (ℕ × Edit)
   all = tagged_lines points edits
 
+  -- the line is one of the opening four
   abbrev opens : ℕ × Edit → Bool
   opens line = is_opening four line.0
 
@@ -97,12 +105,15 @@ module _ (points : List ℕ) (edits : List Edit) (four : Four) (w : AreIndepende
   first_place p (inr (inr (inr (inl e)))) = (subst (IsFirstPlace points) e w.first_places.3, omega (arith, w.within, e))
   first_place p (inr (inr (inr (inr i)))) = absurd i
 
+  -- the places of the four ascend
   places_ascending : IsAscending (places four)
   places_ascending = (w.ascending.0, (w.ascending.1, (w.ascending.2, (tt, tt))))
 
+  -- each of them is a place of a line
   in_range : (p : ℕ) → IsIn p (places four) → (0 ≤ p) × (p < 0 + length (map Add points ++ edits))
   in_range p i = let f = first_place p i in (omega arith, omega (arith, f.1, length-append (map Add points) edits, length-map points Add))
 
+  -- the lines of the four, in the order of the file, have the places of the four for their tags
   opening_tags : map tag_of (filter opens all) ≡ places four
   opening_tags = ap (map tag_of) (picked (places four) 0 (map Add points ++ edits) (Add 0) places_ascending in_range) ∙ tags (places four)
     where
@@ -136,9 +147,11 @@ module _ (points : List ℕ) (edits : List Edit) (four : Four) (w : AreIndepende
       sides : (m n : ℕ) → x.0 ≡ m → y.0 ≡ n → x.0 < y.0
       sides m n e f = elim (cases_order x.0 y.0) [ inl g ↦ absurd (same g) | inr o ↦ elim o [ inl l ↦ l | inr g ↦ absurd (earlier g) ] ]
 
+  -- the history of one thread, where these are the opening four
   abbrev history : List Entry
   history = entries_from 0 [] (filter opens all ++ filter (λ line. not (opens line)) all)
 
+  -- its first four entries have the places of the four for their tags
   first_four : map (λ (e : Entry). e.tag) (take 4 history) ≡ places four
   first_four =
       let tags = entry_tags 0 [] (filter opens all ++ filter (λ line. not (opens line)) all) in
@@ -149,6 +162,7 @@ module _ (points : List ℕ) (edits : List Edit) (four : Four) (w : AreIndepende
       ∙ ap (map tag_of) (take-append-le 4 (filter opens all) (filter (λ line. not (opens line)) all) (omega arith) ∙ take_all 4 (filter opens all) (omega arith))
       ∙ opening_tags
 
+  -- it keeps the file, for one worker
   pub keeps : opening_four points ≡ Some four → Keeps points edits 1 history
   keeps found =
       record {
@@ -158,6 +172,7 @@ module _ (points : List ℕ) (edits : List Edit) (four : Four) (w : AreIndepende
         workers = λ k d h. entry_by 0 [] (filter opens all ++ filter (λ line. not (opens line)) all) (get_or history k d) (at_in history k d h);
       }
 
+-- where the points have an opening four, the history of one thread keeps the file
 pub keeps_law : KeepsLaw
 keeps_law points edits = by (opening_four points) refl (four_law points)
   where

@@ -9,14 +9,17 @@ use Rattle.edit_history.specs.declared.history.Edit.{Edit}
 
 -- ---- lists and tests
 
+-- where no element passes the test, none is left
 none_pass : {X : Type 0} (t : X → Bool) (xs : List X) → ((y : X) → IsIn y xs → t y ≡ false) → filter t xs ≡ []
 none_pass t [] f = refl
 none_pass t (x ∷ xs) f = rw (f x (inl refl)) (none_pass t xs (λ y i. f y (inr i)))
 
+-- two functions that agree on the elements give the same list
 pub same_map : {X : Type 0} (f g : ℕ → X) (ps : List ℕ) → ((p : ℕ) → IsIn p ps → f p ≡ g p) → map f ps ≡ map g ps
 same_map f g [] h = refl
 same_map {X} f g (p ∷ ps) h = ap (λ (x : X). x ∷ map f ps) (h p (inl refl)) ∙ ap (λ (t : List X). g p ∷ t) (same_map f g ps (λ q i. h q (inr i)))
 
+-- a place before all of some places is none of them
 not_among : (p n : ℕ) (ps : List ℕ) → ((q : ℕ) → IsIn q (p ∷ ps) → n < q) → is_among n (p ∷ ps) ≡ false
 not_among p n ps f = by (is_among n (p ∷ ps)) refl
   where
@@ -24,6 +27,7 @@ not_among p n ps f = by (is_among n (p ∷ ps)) refl
     by true e = absurd (let l = f n (among_from n (p ∷ ps) e) in omega (arith, l))
     by false e = refl
 
+-- a place after the first one is among them exactly where it is among the others
 among_later : (p n : ℕ) (ps : List ℕ) → p < n → is_among n (p ∷ ps) ≡ is_among n ps
 among_later p n ps h = let e : (p == n) ≡ false = grind (arith, nat_tests) in rw e refl
 
@@ -33,6 +37,7 @@ among_later p n ps h = let e : (p == n) ≡ false = grind (arith, nat_tests) in 
 abbrev pub line_at : ℕ → List Edit → Edit → ℕ → ℕ × Edit
 line_at n xs d p = (p, slice_index_or xs (p - n) d)
 
+-- the numbered lines whose places are among some ascending ones in range are the lines at these places, in order
 pub picked : (ps : List ℕ) (n : ℕ) (xs : List Edit) (d : Edit) → IsAscending ps → ((p : ℕ) → IsIn p ps → (n ≤ p) × (p < n + length xs)) → filter (λ line. is_among line.0 ps) (enumerate_from n xs) ≡ map (line_at n xs d) ps
 picked [] n xs d a f = none_pass (λ line. is_among line.0 []) (enumerate_from n xs) (λ y i. refl)
 picked (p ∷ ps) n [] d a f = let b = f p (inl refl) in absurd (omega (arith, b.0, b.1))

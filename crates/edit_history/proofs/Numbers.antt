@@ -29,6 +29,7 @@ in_order s n h p =
 
 -- ---- sorted entries
 
+-- entries numbered 0, 1, 2 and so on, sorted by number, each have their place for a number
 pub merged_order : (entries merged : List Entry) → AreNumbered entries → IsPermutation entries merged → IsNonDecreasingBy (λ e. e.number) merged → numbers merged ≡ places_of merged
 merged_order entries merged a p h =
     let l : length merged ≡ length entries = length_permutation entries merged p in

@@ -27,6 +27,7 @@ AreOnLine absent s a b n = (m : ℕ) → m < n → is_kept absent (slice_index s
 abbrev pub AreInPlane : Option ℕ → List ℕ → ℕ → ℕ → ℕ → ℕ → Type 0
 AreInPlane absent s a b c n = (m : ℕ) → m < n → is_kept absent (slice_index s m) ≡ true → is_flat a b c (slice_index s m) ≡ true
 
+-- what the test tells apart is not one
 pub is_other : (a b : ℕ) → (b == a) ≡ false → a ≢ b
 is_other a b e f = grind (arith, nat_tests)
 
@@ -43,6 +44,7 @@ module _ (absent : Option ℕ) (s : List ℕ) where
       none m h e = let g = f m (omega arith) h in cc
 
   module _ (i : ℕ) (first : IsFirst (is_kept absent) 0 s i) where
+    -- the first point that is kept
     abbrev a : ℕ
     a = slice_index s i
 
@@ -57,6 +59,7 @@ module _ (absent : Option ℕ) (s : List ℕ) where
           ]
         ]
 
+    -- where all that are kept are one point they are not solid
     pub one_flat : AreOne absent s a (length s) → is_solid (kept absent s) ≡ false
     one_flat f = flat_from (kept absent s) (λ p q r t ip iq ir it. flat (one p ip) (one q iq) (one r ir) (one t it))
       where
@@ -67,9 +70,11 @@ module _ (absent : Option ℕ) (s : List ℕ) where
         flat ep eq er et = rw (← ep, ← eq, ← er, ← et) (zero_true (orientation a a a a) (last_first a a a))
 
     module _ (j : ℕ) (second : IsFirst (λ q. is_kept absent q && not (q == slice_index s i)) (i + 1) s j) where
+      -- the first kept point that differs from a
       abbrev b : ℕ
       b = slice_index s j
 
+      -- it does differ
       apart : a ≢ b
       apart = is_other a b (and_not_from (is_kept absent b) (b == a) second.passes).1
 
@@ -84,6 +89,7 @@ module _ (absent : Option ℕ) (s : List ℕ) where
             ]
           ]
 
+      -- where all that are kept are on the line of a and b they are not solid
       pub line_flat : IsKey a → IsKey b → AreOnLine absent s a b (length s) → is_solid (kept absent s) ≡ false
       line_flat ka kb f = flat_from (kept absent s) (λ p q r t ip iq ir it. flat_in_line a b p q r t ka kb apart (on p ip) (on q iq) (on r ir))
         where
@@ -91,9 +97,11 @@ module _ (absent : Option ℕ) (s : List ℕ) where
           on q k = let t = filter_in (is_kept absent) s q k in sym (ap (is_collinear a b) t.2) ∙ f t.0 t.1 (ap (is_kept absent) t.2 ∙ t.3)
 
       module _ (k : ℕ) (third : IsFirst (λ q. is_kept absent q && not (is_collinear (slice_index s i) (slice_index s j) q)) (j + 1) s k) where
+        -- the first kept point off the line of a and b
         abbrev c : ℕ
         c = slice_index s k
 
+        -- it is not on that line
         bent : is_collinear a b c ≡ false
         bent = (and_not_from (is_kept absent c) (is_collinear a b c) third.passes).1
 
@@ -108,6 +116,7 @@ module _ (absent : Option ℕ) (s : List ℕ) where
               ]
             ]
 
+        -- where all that are kept are in the plane of a, b and c they are not solid
         pub plane_flat : AreInPlane absent s a b c (length s) → is_solid (kept absent s) ≡ false
         plane_flat f = flat_from (kept absent s) (λ p q r t ip iq ir it. flat_in_plane a b c p q r t bent (on p ip) (on q iq) (on r ir) (on t it))
           where

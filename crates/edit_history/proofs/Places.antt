@@ -13,6 +13,7 @@ pub record IsFirst (test : ℕ → Bool) (n : ℕ) (s : List ℕ) (i : ℕ) : Ty
   pub passes : test (slice_index s i) ≡ true
   pub before : (m : ℕ) → n ≤ m → m < i → test (slice_index s m) ≡ false
 
+-- no place from n on passes
 abbrev pub IsNowhere : (ℕ → Bool) → ℕ → List ℕ → Type 0
 IsNowhere test n s = (m : ℕ) → n ≤ m → m < length s → test (slice_index s m) ≡ false
 
@@ -24,6 +25,7 @@ pub record IsFound (test : ℕ → Bool) (n : ℕ) (s : List ℕ) (i : ℕ) : Ty
   pub passes : test (slice_index s k) ≡ true
   pub before : (m : ℕ) → m < k → test (slice_index s m) ≡ false
 
+-- a search finds the first element that passes, or none does
 pub position_is : (test : ℕ → Bool) (n : ℕ) (s : List ℕ) → MatchOption (position_from test n s) (IsNowhere test 0 s) (IsFound test n s)
 position_is test n [] = λ m l h. absurd (omega arith)
 position_is test n (x ∷ s) = by (test x) refl (position_from test (n + 1) s) (position_is test (n + 1) s)

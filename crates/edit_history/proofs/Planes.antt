@@ -18,12 +18,15 @@ abbrev onto : List ℕ → List ℤ
 onto [] = []
 onto (p ∷ ps) = pos (x_of p) ∷ pos (y_of p) ∷ pos (z_of p) ∷ onto ps
 
+-- the step from point i to point j along x
 abbrev dx : ℕ → ℕ → Expr
 dx i j = var (3 * j) ⊖ var (3 * i)
 
+-- along y
 abbrev dy : ℕ → ℕ → Expr
 dy i j = var (3 * j + 1) ⊖ var (3 * i + 1)
 
+-- along z
 abbrev dz : ℕ → ℕ → Expr
 dz i j = var (3 * j + 2) ⊖ var (3 * i + 2)
 
@@ -31,9 +34,11 @@ dz i j = var (3 * j + 2) ⊖ var (3 * i + 2)
 abbrev minor_w : (ℕ → ℕ → Expr) → (ℕ → ℕ → Expr) → ℕ → ℕ → ℕ → Expr
 minor_w u v a b c = u a b ⊗ v a c ⊖ v a b ⊗ u a c
 
+-- the orientation of four points
 abbrev orient_w : ℕ → ℕ → ℕ → ℕ → Expr
 orient_w a b c d = dx a b ⊗ minor_w dy dz a c d ⊕ dy a b ⊗ minor_w dz dx a c d ⊕ dz a b ⊗ minor_w dx dy a c d
 
+-- the word of 0
 abbrev nil : Expr
 nil = lit (pos 0)
 
@@ -49,9 +54,11 @@ flat_line a b c d hx hy hz =
 
 -- ---- four points in the plane of a, b and c: a part of the normal times their orientation is 0
 
+-- what the orientations with the three points of the plane are taken times, seen along one axis
 abbrev rim : (ℕ → ℕ → Expr) → (ℕ → ℕ → Expr) → Expr
 rim u v = minor_w u v 3 5 6 ⊕ minor_w u v 3 6 4 ⊕ minor_w u v 3 4 5
 
+-- the part of the normal along x times the orientation of four points of the plane is 0
 pub plane_x : (a b c p q r t : ℕ) → orientation a b c p ≡ pos 0 → orientation a b c q ≡ pos 0 → orientation a b c r ≡ pos 0 → orientation a b c t ≡ pos 0
     → normal_x a b c *ℤ orientation p q r t ≡ pos 0
 unfolding orientation triple minor normal_x x_from y_from z_from
@@ -60,6 +67,7 @@ plane_x a b c p q r t hp hq hr ht =
     (given (minus (rim dy dz)) (orient_w 0 1 2 3) nil (given (minor_w dy dz 3 5 6) (orient_w 0 1 2 4) nil (given (minor_w dy dz 3 6 4) (orient_w 0 1 2 5) nil (given (minor_w dy dz 3 4 5) (orient_w 0 1 2 6) nil nothing))))
     (onto (a ∷ b ∷ c ∷ p ∷ q ∷ r ∷ t ∷ [])) (hp, (hq, (hr, (ht, tt)))) tt
 
+-- so is the part along y
 pub plane_y : (a b c p q r t : ℕ) → orientation a b c p ≡ pos 0 → orientation a b c q ≡ pos 0 → orientation a b c r ≡ pos 0 → orientation a b c t ≡ pos 0
     → normal_y a b c *ℤ orientation p q r t ≡ pos 0
 unfolding orientation triple minor normal_y x_from y_from z_from
@@ -68,6 +76,7 @@ plane_y a b c p q r t hp hq hr ht =
     (given (minus (rim dz dx)) (orient_w 0 1 2 3) nil (given (minor_w dz dx 3 5 6) (orient_w 0 1 2 4) nil (given (minor_w dz dx 3 6 4) (orient_w 0 1 2 5) nil (given (minor_w dz dx 3 4 5) (orient_w 0 1 2 6) nil nothing))))
     (onto (a ∷ b ∷ c ∷ p ∷ q ∷ r ∷ t ∷ [])) (hp, (hq, (hr, (ht, tt)))) tt
 
+-- and the part along z
 pub plane_z : (a b c p q r t : ℕ) → orientation a b c p ≡ pos 0 → orientation a b c q ≡ pos 0 → orientation a b c r ≡ pos 0 → orientation a b c t ≡ pos 0
     → normal_z a b c *ℤ orientation p q r t ≡ pos 0
 unfolding orientation triple minor normal_z x_from y_from z_from
@@ -97,18 +106,21 @@ pub record IsOnLine (a b p : ℕ) : Type 0 where
   pub y : normal_y a b p ≡ pos 0
   pub z : normal_z a b p ≡ pos 0
 
+-- the part of the step along x, squared, times the orientation of three points of the line and any other is 0
 pub line_x : (a b p q r t : ℕ) → IsOnLine a b p → IsOnLine a b q → IsOnLine a b r → x_from a b *ℤ (x_from a b *ℤ orientation p q r t) ≡ pos 0
 unfolding orientation triple minor normal_x normal_y normal_z x_from y_from z_from
 line_x a b p q r t hp hq hr =
     ring_from (dx 0 1 ⊗ (dx 0 1 ⊗ orient_w 2 3 4 5)) nil (line_given dx (minor_w dz dx 0 1) (minor_w dx dy 0 1))
     (onto (a ∷ b ∷ p ∷ q ∷ r ∷ t ∷ [])) (hq.y, (hq.z, (hr.y, (hr.z, (hp.y, (hp.z, tt)))))) tt
 
+-- so is the part along y
 pub line_y : (a b p q r t : ℕ) → IsOnLine a b p → IsOnLine a b q → IsOnLine a b r → y_from a b *ℤ (y_from a b *ℤ orientation p q r t) ≡ pos 0
 unfolding orientation triple minor normal_x normal_y normal_z x_from y_from z_from
 line_y a b p q r t hp hq hr =
     ring_from (dy 0 1 ⊗ (dy 0 1 ⊗ orient_w 2 3 4 5)) nil (line_given dy (minor_w dx dy 0 1) (minor_w dy dz 0 1))
     (onto (a ∷ b ∷ p ∷ q ∷ r ∷ t ∷ [])) (hq.z, (hq.x, (hr.z, (hr.x, (hp.z, (hp.x, tt)))))) tt
 
+-- and the part along z
 pub line_z : (a b p q r t : ℕ) → IsOnLine a b p → IsOnLine a b q → IsOnLine a b r → z_from a b *ℤ (z_from a b *ℤ orientation p q r t) ≡ pos 0
 unfolding orientation triple minor normal_x normal_y normal_z x_from y_from z_from
 line_z a b p q r t hp hq hr =
@@ -117,6 +129,7 @@ line_z a b p q r t hp hq hr =
 
 -- ---- what the tests say
 
+-- a point that the test of collinear points passes is on the line of a and b
 pub on_line : (a b p : ℕ) → is_collinear a b p ≡ true → IsOnLine a b p
 on_line a b p e = parts (is_zero (normal_x a b p)) (is_zero (normal_y a b p)) (is_zero (normal_z a b p)) refl refl refl e
   where
@@ -191,6 +204,7 @@ unfolding minor normal_x normal_y normal_z x_from y_from z_from
 collinear_first a b =
     rw (zero_true (normal_x a b a) (ring (minor_w dy dz 0 1 0) nil (onto (a ∷ b ∷ [])) tt), zero_true (normal_y a b a) (ring (minor_w dz dx 0 1 0) nil (onto (a ∷ b ∷ [])) tt), zero_true (normal_z a b a) (ring (minor_w dx dy 0 1 0) nil (onto (a ∷ b ∷ [])) tt)) refl
 
+-- b too
 pub collinear_second : (a b : ℕ) → is_collinear a b b ≡ true
 unfolding minor normal_x normal_y normal_z x_from y_from z_from
 collinear_second a b =
@@ -204,21 +218,26 @@ pub record IsStep (a b : ℕ) (x y z : ℤ) : Type 0 where
   pub y_is : y ≡ y_from a b
   pub z_is : z ≡ z_from a b
 
+-- four points are in one plane exactly where the determinant of the steps from a to the others is 0
 pub flat_steps : (a b c d : ℕ) (r ux uy uz vx vy vz wx wy wz : ℤ) → IsStep a b ux uy uz → IsStep a c vx vy vz → IsStep a d wx wy wz → r ≡ triple ux uy uz vx vy vz wx wy wz → is_zero r ≡ is_flat a b c d
 unfolding orientation
 flat_steps a b c d r ux uy uz vx vy vz wx wy wz u v w e =
     let f : r ≡ triple (x_from a b) (y_from a b) (z_from a b) (x_from a c) (y_from a c) (z_from a c) (x_from a d) (y_from a d) (z_from a d) = e ∙ rw (u.x_is, u.y_is, u.z_is, v.x_is, v.y_is, v.z_is, w.x_is, w.y_is, w.z_is) refl in
     ap is_zero f
 
+-- of three numbers, times 1, 0 and 0, the first is left
 along_x : (m n o : ℤ) → pos 1 *ℤ m +ℤ pos 0 *ℤ n +ℤ pos 0 *ℤ o ≡ m
 along_x m n o = ring (lit (pos 1) ⊗ var 0 ⊕ lit (pos 0) ⊗ var 1 ⊕ lit (pos 0) ⊗ var 2) (var 0) (m ∷ n ∷ o ∷ []) tt
 
+-- times 0, 1 and 0 the second
 along_y : (m n o : ℤ) → pos 0 *ℤ m +ℤ pos 1 *ℤ n +ℤ pos 0 *ℤ o ≡ n
 along_y m n o = ring (lit (pos 0) ⊗ var 0 ⊕ lit (pos 1) ⊗ var 1 ⊕ lit (pos 0) ⊗ var 2) (var 1) (m ∷ n ∷ o ∷ []) tt
 
+-- times 0, 0 and 1 the third
 along_z : (m n o : ℤ) → pos 0 *ℤ m +ℤ pos 0 *ℤ n +ℤ pos 1 *ℤ o ≡ o
 along_z m n o = ring (lit (pos 0) ⊗ var 0 ⊕ lit (pos 0) ⊗ var 1 ⊕ lit (pos 1) ⊗ var 2) (var 2) (m ∷ n ∷ o ∷ []) tt
 
+-- three points are on one line exactly where the determinants of the two steps with the axes are 0
 pub normal_steps : (a b c : ℕ) (x y z ux uy uz vx vy vz : ℤ) → IsStep a b ux uy uz → IsStep a c vx vy vz
     → x ≡ triple (pos 1) (pos 0) (pos 0) ux uy uz vx vy vz → y ≡ triple (pos 0) (pos 1) (pos 0) ux uy uz vx vy vz → z ≡ triple (pos 0) (pos 0) (pos 1) ux uy uz vx vy vz
     → (is_zero x && is_zero y && is_zero z) ≡ is_collinear a b c
@@ -231,6 +250,7 @@ normal_steps a b c x y z ux uy uz vx vy vz u v ex ey ez =
 
 -- ---- a determinant as a word of 64 bits
 
+-- a number of such a size is what its word says
 pub read_back : (z : ℤ) → IsWithin 26383447523322 z → to_z w64 (of_z w64 z) ≡ z
 read_back z h = to_z-of_z w64 z (within_fits w64 h (lit< tt))
 

@@ -18,6 +18,7 @@ pub flat_from : (s : List ℕ) → ((a b c d : ℕ) → IsIn a s → IsIn b s �
 flat_from s f =
     any_none _ s (λ a ia. any_none _ s (λ b ib. any_none _ s (λ c ic. any_none _ s (λ d id. rw (f a b c d ia ib ic id) refl))))
 
+-- a list has four independent points
 pub record HasFour (s : List ℕ) : Type 0 where
   pub a : ℕ
   pub b : ℕ

@@ -59,6 +59,7 @@ use Rattle.plain_laws.specs.Running.{AreRuns, Pair, RunBehindAlone, RunBehindKee
 use Rattle.plain_laws.proofs.Runs.{AreKept, InOrder, alone_lines, all_kept, entry_by, legal_is, opening_is, tags_of}
 use Rattle.plain_laws.proofs.Segments.{segments_keep}
 
+-- two lists that are numbered as one: the second goes on where the first ends
 numbered_append : {X : Type 0} (n : ℕ) (xs ys : List X) → enumerate_from n (xs ++ ys) ≡ enumerate_from n xs ++ enumerate_from (n + length xs) ys
 numbered_append {X} n [] ys = ap (λ (k : ℕ). enumerate_from k ys) (let e : n ≡ n + 0 = omega arith in e)
 numbered_append {X} n (x ∷ xs) ys =
@@ -66,15 +67,19 @@ numbered_append {X} n (x ∷ xs) ys =
     ∙ ap (λ (k : ℕ). enumerate_from (n + 1) xs ++ enumerate_from k ys) (let e : n + 1 + length xs ≡ n + length (x ∷ xs) = omega arith in e))
 
 module _ (points : List ℕ) (edits : List Edit) (four : Four) (found : opening_four points ≡ Some four) where
+  -- the history of one thread of the points
   abbrev front : List Entry
   front = one_thread points []
 
+  -- the lines of the points
   abbrev point_lines : List Pair
   point_lines = tagged_lines points []
 
+  -- the lines of the edits, numbered behind those
   abbrev behind : List Pair
   behind = edit_lines points edits
 
+  -- the line is one of the opening four
   opens : Pair → Bool
   opens line = is_among line.0 (places four)
 
@@ -87,6 +92,7 @@ module _ (points : List ℕ) (edits : List Edit) (four : Four) (found : opening_
       at : 0 + length (map Add points) ≡ length points
       at = (let e = length-map points Add in omega (arith, e))
 
+  -- the front keeps the file that has the points alone, for one worker
   kept_front : Keeps points [] 1 front
   kept_front = by (opening_four points) found (keeps_law points [])
     where
@@ -97,6 +103,7 @@ module _ (points : List ℕ) (edits : List Edit) (four : Four) (found : opening_
   front_is : front ≡ entries_from 0 [] (opening_first four point_lines)
   front_is = ap (λ (o : Option Four). entries_from 0 [] (lines_of_one_thread o point_lines)) found
 
+  -- so these are the lines of its entries
   front_lines : map line_of front ≡ opening_first four point_lines
   front_lines = ap (map line_of) front_is ∙ entry_lines 0 [] (opening_first four point_lines)
 
@@ -108,42 +115,50 @@ module _ (points : List ℕ) (edits : List Edit) (four : Four) (found : opening_
       let e = ap length (append-nil (map Add points)) ∙ length-map points Add in
       omega (arith, b, e)
 
+  -- its entries are by 0
   by_none : (d : Entry) → IsIn d front → d.by ≡ 0
   by_none d i = entry_by 0 [] (opening_first four point_lines) d (subst (IsIn d) front_is i)
 
   module _ (workers : ℕ) (some : 0 < workers) (run : List Entry) (is_run : AreRuns (dealt_lines workers behind) run) where
+    -- a run of the edit lines has all of them, by the workers, those that share a point by their tags
     kept : AreKept behind workers run
     kept =
         subst (λ (l : List Pair). AreKept l workers run) (segments_keep behind)
         (all_kept workers (segments behind) run some
         (subst (EachLater IsLower) (sym (segments_keep behind)) (numbered_lower (length points) edits)) is_run)
 
+    -- its tags are not those of points
     above : (e : Entry) → IsIn e run → length points ≤ e.tag
     above e i =
         numbered_from (length points) edits (line_of e)
         (in_permutation (map line_of run) behind (line_of e) (IsPermutation-sym behind (map line_of run) kept.lines_are) (mapped_true line_of e run i))
 
+    -- front and run together have each line of the file once
     lines : IsPermutation (tagged_lines points edits) (map line_of (front ++ run))
     lines =
         subst (λ (l : List Pair). IsPermutation l (map line_of (front ++ run))) (sym lines_are)
         (subst (IsPermutation (point_lines ++ behind)) (sym (map-append line_of front run))
         (IsPermutation-append point_lines (map line_of front) behind (map line_of run) kept_front.lines kept.lines_are))
 
+    -- of two of their entries that share a point the earlier has the lower tag
     order : EachLater (λ (d e : Entry). InOrder (line_of d) (line_of e)) (front ++ run)
     order =
         later_append (λ (d e : Entry). InOrder (line_of d) (line_of e)) front run
         (pairs_later (λ (d e : Entry). InOrder (line_of d) (line_of e)) front kept_front.order) kept.order
         (λ d e i j s. (let a = below d i in let b = above e j in omega (arith, a, b)))
 
+    -- the first four have the tags of the opening four
     first_four : map (λ (e : Entry). e.tag) (take 4 (front ++ run)) ≡ places four
     first_four =
         sym (take-map (λ (e : Entry). e.tag) 4 (front ++ run))
         ∙ ap (take 4) (tags_of (front ++ run) ∙ ap (map (λ (l : Pair). l.0)) (map-append line_of front run ∙ ap (λ (l : List Pair). l ++ map line_of run) front_lines))
         ∙ ap (λ (l : List Pair). take 4 (map (λ (x : Pair). x.0) ((l ++ filter (λ line. not (is_among line.0 (places four))) point_lines) ++ map line_of run))) (opening_is points [] four found)
 
+    -- each entry is by one of the workers
     by_workers : (e : Entry) → IsIn e (front ++ run) → e.by < workers
     by_workers e i = elim (from_append e front run i) [ inl j ↦ (let b = by_none e j in omega (arith, b, some)) | inr j ↦ kept.workers e j ]
 
+    -- so front and run keep the file
     pub keeps : Keeps points edits workers (front ++ run)
     keeps = record {
       opening = subst (λ (o : Option Four). IfSome o (λ four. map (λ e. e.tag) (take 4 (front ++ run)) ≡ places four)) (sym found) first_four;
@@ -156,6 +171,7 @@ module _ (points : List ℕ) (edits : List Edit) (four : Four) (found : opening_
   independent : AreIndependent points four
   independent = subst (λ (o : Option Four). IfSome o (AreIndependent points)) found (four_law points)
 
+  -- their places are those of points
   low : (p : ℕ) → IsIn p (places four) → p < length points
   low p (inl e) = omega (arith, independent.ascending.0, independent.ascending.1, independent.ascending.2, independent.within, e)
   low p (inr (inl e)) = omega (arith, independent.ascending.1, independent.ascending.2, independent.within, e)
@@ -163,6 +179,7 @@ module _ (points : List ℕ) (edits : List Edit) (four : Four) (found : opening_
   low p (inr (inr (inr (inl e)))) = omega (arith, independent.within, e)
   low p (inr (inr (inr (inr j)))) = absurd j
 
+  -- no edit line is one of the four
   closed : (line : Pair) → IsIn line behind → is_among line.0 (places four) ≡ false
   closed line i = by (is_among line.0 (places four)) refl
     where
@@ -170,11 +187,13 @@ module _ (points : List ℕ) (edits : List Edit) (four : Four) (found : opening_
       by true e = (let l = low line.0 (among_from line.0 (places four) e) in let a = numbered_from (length points) edits line i in absurd (omega (arith, l, a)))
       by false e = refl
 
+  -- so none is left of the edit lines where only the four are looked for
   none_open : filter (λ (line : Pair). is_among line.0 (places four)) behind ≡ []
   none_open =
       same_filter (λ (line : Pair). is_among line.0 (places four)) (λ line. false) behind closed
       ∙ none_pass (λ (line : Pair). false) behind (λ line. refl)
 
+  -- and all of them where the others are
   all_closed : filter (λ (line : Pair). not (is_among line.0 (places four))) behind ≡ behind
   all_closed =
       same_filter (λ (line : Pair). not (is_among line.0 (places four))) (λ line. true) behind (λ line i. ap not (closed line i))
@@ -197,6 +216,7 @@ module _ (points : List ℕ) (edits : List Edit) (four : Four) (found : opening_
           sym (filter-append (λ (line : Pair). not (is_among line.0 (places four))) point_lines behind
           ∙ ap (λ (l : List Pair). filter (λ (line : Pair). not (is_among line.0 (places four))) point_lines ++ l) all_closed)
 
+  -- with one worker they are the history of one thread, where they are legal
   pub alone : (run : List Entry) → AreRuns (dealt_lines 1 behind) run → IsLegal (front ++ run) → front ++ run ≡ one_thread points edits
   alone run is_run legal =
       legal_is 0 [] (front ++ run) legal (λ e i. (let b = by_workers 1 (omega arith) run is_run e i in omega (arith, b)))
@@ -206,8 +226,10 @@ module _ (points : List ℕ) (edits : List Edit) (four : Four) (found : opening_
       run_lines : map line_of run ≡ behind
       run_lines = alone_lines (segments behind) run is_run ∙ segments_keep behind
 
+-- the history of one thread of the points and then runs of the dealt edit lines keep the file
 pub run_behind_keeps : RunBehindKeeps
 run_behind_keeps points edits workers four run found some is_run = keeps points edits four found workers some run is_run
 
+-- with one worker they are the history of one thread, where they are legal
 pub run_behind_alone : RunBehindAlone
 run_behind_alone points edits four run found is_run legal = alone points edits four found run is_run legal

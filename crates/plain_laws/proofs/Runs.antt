@@ -109,6 +109,7 @@ use Rattle.plain_laws.proofs.Segments.{segments_keep}
 
 -- ---- entries of lines
 
+-- the entries that one thread makes are by 0
 pub entry_by : (n : ℕ) (s : List ℕ) (lines : List Pair) (e : Entry) → IsIn e (entries_from n s lines) → e.by ≡ 0
 entry_by n s [] e i = absurd i
 entry_by n s (line ∷ lines) e (inl q) = sym (ap (λ (e : Entry). e.by) q)
@@ -124,6 +125,7 @@ legal_is n s (e ∷ h) l b =
     let first : e ≡ record { number = n; by = 0; tag = e.tag; edit = e.edit; reply = reply_to s e.edit } = λ i. record { number = number i; by = by_is i; tag = e.tag; edit = e.edit; reply = reply i } in
     ap (λ (x : Entry). x ∷ h) first ∙ ap (λ (t : List Entry). record { number = n; by = 0; tag = e.tag; edit = e.edit; reply = reply_to s e.edit } ∷ t) (legal_is (n + 1) (after s e.edit) h l.2 (λ d i. b d (inr i)))
 
+-- the tags of entries are those of their lines
 pub tags_of : (h : List Entry) → map (λ (e : Entry). e.tag) h ≡ map (λ (l : Pair). l.0) (map line_of h)
 tags_of [] = refl
 tags_of (e ∷ h) = ap (λ (t : List ℕ). e.tag ∷ t) (tags_of h)
@@ -150,12 +152,15 @@ whole false m = refl
 
 -- elements that pass a test, by a number that each has
 module _ {X : Type 0} (t : X → Bool) (k : X → ℕ) (l : List X) where
+  -- the elements that pass and have the number i
   abbrev part : ℕ → List X
   part i = filter (λ x. t x && (k x == i)) l
 
+  -- those that pass and have a number of i or more
   abbrev from : ℕ → List X
   from i = filter (λ x. t x && not (nat_lt (k x) i)) l
 
+  -- what has a number of i or more has i, or more than i
   from_next : (i : ℕ) → IsPermutation (from i) (part i ++ from (i + 1))
   from_next i =
       parted (λ x. t x && (k x == i)) (λ x. t x && not (nat_lt (k x) (i + 1))) (λ x. t x && not (nat_lt (k x) i))
@@ -175,6 +180,7 @@ module _ {X : Type 0} (t : X → Bool) (k : X → ℕ) (l : List X) where
       apart true m = both m
       apart false m = refl
 
+  -- from i on, in the n parts with the numbers from i and in what is left from i + n
   pub from_parts : (i n : ℕ) → IsPermutation (from i) (flat_map (λ x. x) (map part (range_with_len i n)) ++ from (i + n))
   from_parts i zero = let e : i ≡ i + 0 = omega arith in subst (λ (m : ℕ). IsPermutation (from i) (from m)) e (IsPermutation-refl (from i))
   from_parts i (suc n) =
@@ -216,6 +222,7 @@ dealt_all n lines some =
 
 -- ---- a file
 
+-- of two lines that share a point the first has the lower place
 abbrev pub InOrder : Pair → Pair → Type 0
 InOrder x y = share_point x.1 y.1 ≡ true → x.0 < y.0
 
@@ -273,24 +280,31 @@ alone_lines (part ∷ parts) h r =
     ∙ (λ i. (r.3.alone (dealt_to 1 part 0) refl ∙ e) i ++ alone_lines parts r.1 r.4 i)
 
 module _ (points : List ℕ) (edits : List Edit) (four : Four) (found : opening_four points ≡ Some four) where
+  -- the numbered lines of the file
   abbrev pub all : List Pair
   all = tagged_lines points edits
 
+  -- the line is one of the opening four
   abbrev pub opens : Pair → Bool
   opens line = is_among line.0 (places four)
 
+  -- the lines of the four
   abbrev pub opening_lines : List Pair
   opening_lines = filter opens all
 
+  -- all other lines
   abbrev pub others : List Pair
   others = filter (λ line. not (opens line)) all
 
+  -- the entries that one thread makes of the four
   abbrev opening : List Entry
   opening = opening_entries (places four) all
 
+  -- the four are independent, each at its first place
   independent : AreIndependent points four
   independent = subst (λ (o : Option Four). IfSome o (AreIndependent points)) found (four_law points)
 
+  -- their places are those of lines
   in_range : (p : ℕ) → IsIn p (places four) → (0 ≤ p) × (p < 0 + length (lines_of points edits))
   in_range p i = (omega arith, omega (arith, below p i, length-append (map Add points) edits, length-map points Add))
     where
@@ -301,6 +315,7 @@ module _ (points : List ℕ) (edits : List Edit) (four : Four) (found : opening_
       below p (inr (inr (inr (inl e)))) = omega (arith, independent.within, e)
       below p (inr (inr (inr (inr j)))) = absurd j
 
+  -- the lines of the four are those at their places, in order
   pub opening_is : opening_lines ≡ map (line_at 0 (lines_of points edits) (Add 0)) (places four)
   opening_is = picked (places four) 0 (lines_of points edits) (Add 0) (independent.ascending.0, (independent.ascending.1, (independent.ascending.2, (tt, tt)))) in_range
 
@@ -319,14 +334,17 @@ module _ (points : List ℕ) (edits : List Edit) (four : Four) (found : opening_
 
   module _ (workers : ℕ) (some : 0 < workers) (run : List Entry)
       (is_run : AreRuns (dealt workers (places four) all) run) where
+    -- a run of the others has each of them once, by the workers, those that share a point by their tags
     kept : AreKept others workers run
     kept =
         subst (λ (l : List Pair). AreKept l workers run) (segments_keep others)
         (all_kept workers (segments others) run some rises is_run)
 
+    -- the lines of the opening and the run are those of the four, and then those of the run
     lines_are : map line_of (opening ++ run) ≡ opening_lines ++ map line_of run
     lines_are = map-append line_of opening run ∙ ap (λ (l : List Pair). l ++ map line_of run) (entry_lines 0 [] opening_lines)
 
+    -- together they are each line of the file once
     lines : IsPermutation all (map line_of (opening ++ run))
     lines =
         subst (IsPermutation all) (sym lines_are)
@@ -334,12 +352,14 @@ module _ (points : List ℕ) (edits : List Edit) (four : Four) (found : opening_
         (IsPermutation-filter_both opens (λ line. not (opens line)) (λ x. refl) all)
         (IsPermutation-append_right opening_lines others (map line_of run) kept.lines_are))
 
+    -- the first four entries have the places of the four for their tags
     first_four : map (λ (e : Entry). e.tag) (take 4 (opening ++ run)) ≡ places four
     first_four =
         sym (take-map (λ (e : Entry). e.tag) 4 (opening ++ run))
         ∙ ap (take 4) (tags_of (opening ++ run) ∙ ap (map (λ (l : Pair). l.0)) lines_are)
         ∙ ap (λ (l : List Pair). take 4 (map (λ (l : Pair). l.0) (l ++ map line_of run))) opening_is
 
+    -- of two entries that share a point the earlier has the lower tag
     order : EachLater (λ (d e : Entry). InOrder (line_of d) (line_of e)) (opening ++ run)
     order =
         later_append (λ (d e : Entry). InOrder (line_of d) (line_of e)) opening run
@@ -350,6 +370,7 @@ module _ (points : List ℕ) (edits : List Edit) (four : Four) (found : opening_
         (in_permutation (map line_of run) others (line_of y)
         (IsPermutation-sym others (map line_of run) kept.lines_are) (mapped_true line_of y run j)))
 
+    -- each entry is by one of the workers
     pub made_by : (e : Entry) → IsIn e (opening ++ run) → e.by < workers
     made_by e i =
         elim (from_append e opening run i) [
@@ -357,6 +378,7 @@ module _ (points : List ℕ) (edits : List Edit) (four : Four) (found : opening_
           | inr j ↦ kept.workers e j
         ]
 
+    -- so opening and run keep the file
     pub keeps : Keeps points edits workers (opening ++ run)
     keeps =
         record {
@@ -368,6 +390,7 @@ module _ (points : List ℕ) (edits : List Edit) (four : Four) (found : opening_
 
   -- ---- one worker
 
+  -- where they are legal they are the history of one thread
   pub alone : (run : List Entry) → AreRuns (dealt 1 (places four) all) run → IsLegal (opening ++ run) →
       opening ++ run ≡ one_thread points edits
   alone run is_run legal =
@@ -380,6 +403,7 @@ module _ (points : List ℕ) (edits : List Edit) (four : Four) (found : opening_
 
 -- ---- there is an anchored file
 
+-- the points of a tetrahedron are the opening four of their list
 four_found : opening_four (0 ∷ 2 * 268435456 ∷ 2 * 16384 ∷ 2 ∷ []) ≡ Some (record { first = 0; second = 1; third = 2; fourth = 3 })
 unfolding orientation triple minor normal_x normal_y normal_z x_from y_from z_from x_of y_of z_of
 four_found = refl
@@ -413,12 +437,15 @@ an_anchored_file = record { four = record { first = 0; second = 1; third = 2; fo
     spared i j (inr (inl e)) = apart (slice_index (0 ∷ 2 * 268435456 ∷ 2 * 16384 ∷ 2 ∷ []) i) (at_place i j) (ap point_of e)
     spared i j (inr (inr k)) = k
 
+-- so there is an anchored file
 pub some_file_is_anchored : SomeFileIsAnchored
 some_file_is_anchored =
     (0 ∷ 2 * 268435456 ∷ 2 * 16384 ∷ 2 ∷ [], Add (268435456 + 16384 + 1) ∷ Take (268435456 + 16384 + 1) ∷ [], an_anchored_file)
 
+-- the opening four and runs of the dealt lines keep the file
 pub run_keeps : RunKeeps
 run_keeps points edits workers four run found some is_run = keeps points edits four found workers some run is_run
 
+-- with one worker they are the history of one thread, where they are legal
 pub run_alone : RunAlone
 run_alone points edits four run found is_run legal = alone points edits four found run is_run legal

@@ -19,6 +19,7 @@ returns-in_err-j c =
     let found = no_second absent s i first (second_found absent s i c.point_at-a.result None a c.in_err-j.ensures.place) in
     record { four = c.from_residual-in_err-j.ensures ∙ sym (ap (option_map places) found.four); solid = ap is_some c.from_residual-in_err-j.ensures ∙ found.solid }
 
+-- no kept point is off the line of the first two: none is answered, and the kept points are not solid
 pub returns-in_err-k : goal.returns-in_err-k
 returns-in_err-k c =
     let absent = c.args.absent in
@@ -35,6 +36,7 @@ returns-in_err-k c =
     let found = no_third absent s i first m second key_a key_b (third_found absent s i j c.point_at-a.result c.point_at-b.result None a b c.in_err-k.ensures.place) in
     record { four = c.from_residual-in_err-k.ensures ∙ sym (ap (option_map places) found.four); solid = ap is_some c.from_residual-in_err-k.ensures ∙ found.solid }
 
+-- none is off the plane of the three: none is answered, and the kept points are not solid
 pub returns-in_err-l : goal.returns-in_err-l
 returns-in_err-l c =
     let absent = c.args.absent in
@@ -55,6 +57,7 @@ returns-in_err-l c =
     let found = at_fourth absent s i first m second key_a key_b n third None (fourth_found absent s i j k c.point_at-a.result c.point_at-b.result c.point_at-c.result None a b d c.in_err-l.ensures.place) in
     record { four = c.from_residual-in_err-l.ensures ∙ sym (ap (option_map places) found.four); solid = ap is_some c.from_residual-in_err-l.ensures ∙ found.solid }
 
+-- all four are found, and the kept points are solid
 pub returns : goal.returns
 returns c =
     let absent = c.args.absent in
