@@ -1,5 +1,24 @@
 -- The history of one thread is legal, and what it leaves.
-use Rattle.std.specs.Prelude.{◌≡◌, ℕ, ◌+◌, Bool, true, false, cond, not, List, [], ◌∷◌, ◌++◌, ◌⊎◌, map, Option, None, Some, IfSome}
+use Rattle.std.specs.Prelude.{
+  ◌≡◌,
+  ℕ,
+  ◌+◌,
+  Bool,
+  true,
+  false,
+  cond,
+  not,
+  List,
+  [],
+  ◌∷◌,
+  ◌++◌,
+  ◌⊎◌,
+  map,
+  Option,
+  None,
+  Some,
+  IfSome,
+}
 use Rattle.std.specs.List.{enumerate_from, filter}
 use Rattle.std.proofs.Common.{refl, sym, ◌∙◌, ap, subst, inl, inr, append-nil}
 use Rattle.list_laws.proofs.Cited.{among_from, filtered_true, from_append, in_filtered, in_left, in_right}
@@ -9,7 +28,15 @@ use Rattle.edit_history.specs.declared.history.Edit.{Edit}
 use Rattle.edit_history.specs.declared.history.Edit.TheVariants.{Add, Take, Move}
 use Rattle.edit_history.specs.declared.history.Entry.{Entry}
 use Rattle.edit_history.specs.declared.history.Reply.{Reply}
-use Rattle.edit_history.specs.declared.history.Reply.TheVariants.{Inserted, Duplicate, Removed, Missing, Flat, Moved, Occupied}
+use Rattle.edit_history.specs.declared.history.Reply.TheVariants.{
+  Inserted,
+  Duplicate,
+  Removed,
+  Missing,
+  Flat,
+  Moved,
+  Occupied,
+}
 use Rattle.edit_history.specs.Edits.{point_of, reply_to, arrived, changed, after}
 use Rattle.edit_history.specs.Histories.{replay_from, replay, entries_from, IsLegalFrom}
 use Rattle.edit_history.specs.Opening.{Four, opening_four}
@@ -60,7 +87,9 @@ ascending_arrived s (Move a b) Occupied h = h
 
 -- after an edit of an ascending list it is ascending
 pub ascending_after : (s : List ℕ) (edit : Edit) → IsAscending s → IsAscending (after s edit)
-ascending_after s edit h = ascending_changed (arrived s edit (reply_to s edit)) (point_of edit) (reply_to s edit) (ascending_arrived s edit (reply_to s edit) h)
+ascending_after s edit h =
+    ascending_changed (arrived s edit (reply_to s edit)) (point_of edit) (reply_to s edit)
+    (ascending_arrived s edit (reply_to s edit) h)
 
 -- and after a history
 leaves_from : (s : List ℕ) (h : List Entry) → IsAscending s → IsAscending (replay_from s h)
@@ -103,25 +132,34 @@ added_new s p = by (is_among p s) refl
     by false e = in_with_new p s
 
 -- what lines that add leave: what was there, and their points
-in_set : (s : List ℕ) (lines : List (ℕ × Edit)) (q : ℕ) → AreAdds lines → IsIn q (set_after s lines) → IsIn q s ⊎ ((line : ℕ × Edit) × IsIn line lines × (point_of line.1 ≡ q))
+in_set : (s : List ℕ) (lines : List (ℕ × Edit)) (q : ℕ) → AreAdds lines → IsIn q (set_after s lines) →
+    IsIn q s ⊎ ((line : ℕ × Edit) × IsIn line lines × (point_of line.1 ≡ q))
 in_set s [] q a i = inl i
 in_set s (line ∷ lines) q a i =
     elim (in_set (after s line.1) lines q a.1 i) [
-      | inl j ↦ elim (in_added s (point_of line.1) q (subst (λ (e : Edit). IsIn q (after s e)) a.0 j)) [ inl k ↦ inl k | inr e ↦ inr (line, inl refl, e) ]
+      | inl j ↦ elim (in_added s (point_of line.1) q (subst (λ (e : Edit). IsIn q (after s e)) a.0 j)) [
+        | inl k ↦ inl k
+        | inr e ↦ inr (line, inl refl, e)
+      ]
       | inr k ↦ inr (k.0, inr k.1, k.2)
     ]
 
 -- lines that add leave every point that was there
 set_old : (s : List ℕ) (lines : List (ℕ × Edit)) (q : ℕ) → AreAdds lines → IsIn q s → IsIn q (set_after s lines)
 set_old s [] q a i = i
-set_old s (line ∷ lines) q a i = set_old (after s line.1) lines q a.1 (subst (λ (e : Edit). IsIn q (after s e)) (sym a.0) (added_old s (point_of line.1) q i))
+set_old s (line ∷ lines) q a i =
+    set_old (after s line.1) lines q a.1 (subst (λ (e : Edit). IsIn q (after s e)) (sym a.0)
+    (added_old s (point_of line.1) q i))
 
 -- and the point of each of them is there after them
-set_new : (s : List ℕ) (lines : List (ℕ × Edit)) (line : ℕ × Edit) → AreAdds lines → IsIn line lines → IsIn (point_of line.1) (set_after s lines)
+set_new : (s : List ℕ) (lines : List (ℕ × Edit)) (line : ℕ × Edit) → AreAdds lines → IsIn line lines →
+    IsIn (point_of line.1) (set_after s lines)
 set_new s [] line a i = absurd i
 set_new s (x ∷ lines) line a (inl e) =
-    let j : IsIn (point_of x.1) (after s x.1) = subst (λ (f : Edit). IsIn (point_of x.1) (after s f)) (sym a.0) (added_new s (point_of x.1)) in
-    subst (λ (l : ℕ × Edit). IsIn (point_of l.1) (set_after (after s x.1) lines)) e (set_old (after s x.1) lines (point_of x.1) a.1 j)
+    let j : IsIn (point_of x.1) (after s x.1) =
+    subst (λ (f : Edit). IsIn (point_of x.1) (after s f)) (sym a.0) (added_new s (point_of x.1)) in
+    subst (λ (l : ℕ × Edit). IsIn (point_of l.1) (set_after (after s x.1) lines)) e
+    (set_old (after s x.1) lines (point_of x.1) a.1 j)
 set_new s (x ∷ lines) line a (inr i) = set_new (after s x.1) lines line a.1 i
 
 -- lines leave an ascending list of an ascending one
@@ -151,45 +189,63 @@ adds_points n [] = tt
 adds_points n (p ∷ points) = (refl, adds_points (n + 1) points)
 
 -- the point of such a line is one of the points
-line_point : (n : ℕ) (points : List ℕ) (line : ℕ × Edit) → IsIn line (enumerate_from n (map Add points)) → IsIn (point_of line.1) points
+line_point : (n : ℕ) (points : List ℕ) (line : ℕ × Edit) → IsIn line (enumerate_from n (map Add points)) →
+    IsIn (point_of line.1) points
 line_point n [] line i = absurd i
 line_point n (p ∷ points) line (inl e) = inl (ap (λ (l : ℕ × Edit). point_of l.1) e)
 line_point n (p ∷ points) line (inr i) = inr (line_point (n + 1) points line i)
 
 -- and each of the points has a line
-point_line : (n : ℕ) (points : List ℕ) (q : ℕ) → IsIn q points → (line : ℕ × Edit) × IsIn line (enumerate_from n (map Add points)) × (point_of line.1 ≡ q)
+point_line : (n : ℕ) (points : List ℕ) (q : ℕ) → IsIn q points → (line : ℕ × Edit)
+    × IsIn line (enumerate_from n (map Add points)) × (point_of line.1 ≡ q)
 point_line n [] q i = absurd i
 point_line n (p ∷ points) q (inl e) = ((n, Add p), inl refl, e)
 point_line n (p ∷ points) q (inr i) = let r = point_line (n + 1) points q i in (r.0, inr r.1, r.2)
 
 -- each line is in the one part or the other
-into_parts : (t : ℕ × Edit → Bool) (xs : List (ℕ × Edit)) (y : ℕ × Edit) → IsIn y xs → IsIn y (filter t xs ++ filter (λ x. not (t x)) xs)
+into_parts : (t : ℕ × Edit → Bool) (xs : List (ℕ × Edit)) (y : ℕ × Edit) → IsIn y xs →
+    IsIn y (filter t xs ++ filter (λ x. not (t x)) xs)
 into_parts t xs y i = by (t y) refl
   where
     by : (b : Bool) → t y ≡ b → IsIn y (filter t xs ++ filter (λ x. not (t x)) xs)
     by true e = in_left y (filter t xs) (filter (λ x. not (t x)) xs) (filtered_true t xs y i e)
-    by false e = in_right y (filter t xs) (filter (λ x. not (t x)) xs) (filtered_true (λ x. not (t x)) xs y i (ap not e))
+    by false e =
+        in_right y (filter t xs) (filter (λ x. not (t x)) xs) (filtered_true (λ x. not (t x)) xs y i (ap not e))
 
 -- and what is in a part is a line
-from_parts : (t : ℕ × Edit → Bool) (xs : List (ℕ × Edit)) (y : ℕ × Edit) → IsIn y (filter t xs ++ filter (λ x. not (t x)) xs) → IsIn y xs
-from_parts t xs y i = elim (from_append y (filter t xs) (filter (λ x. not (t x)) xs) i) [ inl j ↦ in_filtered t xs y j | inr j ↦ in_filtered (λ x. not (t x)) xs y j ]
+from_parts : (t : ℕ × Edit → Bool) (xs : List (ℕ × Edit)) (y : ℕ × Edit) →
+    IsIn y (filter t xs ++ filter (λ x. not (t x)) xs) → IsIn y xs
+from_parts t xs y i = elim (from_append y (filter t xs) (filter (λ x. not (t x)) xs) i) [
+  | inl j ↦ in_filtered t xs y j
+  | inr j ↦ in_filtered (λ x. not (t x)) xs y j
+]
 
 -- ---- what one thread leaves of point lines
 
 -- the lines of points, those that pass a test first and then the others, leave the set of the points
-parts_leave : (t : ℕ × Edit → Bool) (points : List ℕ) → set_after [] (filter t (enumerate_from 0 (map Add points)) ++ filter (λ x. not (t x)) (enumerate_from 0 (map Add points))) ≡ ascending points
+parts_leave : (t : ℕ × Edit → Bool) (points : List ℕ) → set_after []
+    (filter t (enumerate_from 0 (map Add points)) ++ filter (λ x. not (t x)) (enumerate_from 0 (map Add points)))
+    ≡ ascending points
 parts_leave t points =
     let xs = enumerate_from 0 (map Add points) in
     let lines : List (ℕ × Edit) = filter t xs ++ filter (λ x. not (t x)) xs in
-    let adds : AreAdds lines = adds_append (filter t xs) (filter (λ x. not (t x)) xs) (adds_filter t xs (adds_points 0 points)) (adds_filter (λ x. not (t x)) xs (adds_points 0 points)) in
+    let adds : AreAdds lines = adds_append (filter t xs) (filter (λ x. not (t x)) xs)
+    (adds_filter t xs (adds_points 0 points)) (adds_filter (λ x. not (t x)) xs (adds_points 0 points)) in
     ascending_is (set_after [] lines) points (set_ascending [] lines tt)
-    (λ p i. elim (in_set [] lines p adds i) [ inl j ↦ absurd j | inr k ↦ subst (λ (q : ℕ). IsIn q points) k.2 (line_point 0 points k.0 (from_parts t xs k.0 k.1)) ])
-    (λ p i. let r = point_line 0 points p i in subst (λ (q : ℕ). IsIn q (set_after [] lines)) r.2 (set_new [] lines r.0 adds (into_parts t xs r.0 r.1)))
+    (λ p i. elim (in_set [] lines p adds i) [
+      | inl j ↦ absurd j
+      | inr k ↦ subst (λ (q : ℕ). IsIn q points) k.2 (line_point 0 points k.0 (from_parts t xs k.0 k.1))
+    ])
+    (λ p i. let r = point_line 0 points p i in subst (λ (q : ℕ). IsIn q (set_after [] lines)) r.2
+    (set_new [] lines r.0 adds (into_parts t xs r.0 r.1)))
 
 -- where the points have an opening four, one thread leaves of their lines alone just their set
 pub replay_law : ReplayLaw
 replay_law points = by (opening_four points)
   where
-    by : (o : Option Four) → IfSome o (λ _. replay (entries_from 0 [] (lines_of_one_thread o (tagged_lines points []))) ≡ ascending points)
+    by : (o : Option Four) → IfSome o (λ _. replay (entries_from 0 [] (lines_of_one_thread o (tagged_lines points [])))
+        ≡ ascending points)
     by None = tt
-    by (Some four) = replay_is 0 [] (opening_first four (tagged_lines points [])) ∙ rw append-nil (parts_leave (λ line. is_opening four line.0) points)
+    by (Some four) =
+        replay_is 0 [] (opening_first four (tagged_lines points []))
+        ∙ rw append-nil (parts_leave (λ line. is_opening four line.0) points)

@@ -18,7 +18,8 @@ length_entries n s [] = refl
 length_entries n s (x ∷ lines) = ap suc (length_entries (n + 1) (after s x.1) lines)
 
 -- the entries of lines leave what the lines leave
-pub replay_is : (n : ℕ) (s : List ℕ) (lines : List (ℕ × Edit)) → replay_from s (entries_from n s lines) ≡ set_after s lines
+pub replay_is : (n : ℕ) (s : List ℕ) (lines : List (ℕ × Edit)) → replay_from s (entries_from n s lines)
+    ≡ set_after s lines
 replay_is n s [] = refl
 replay_is n s (x ∷ lines) = replay_is (n + 1) (after s x.1) lines
 

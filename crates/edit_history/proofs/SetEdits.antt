@@ -1,5 +1,31 @@
 -- Edits of an ascending list, by place.
-use Rattle.std.specs.Prelude.{◌≡◌, ℕ, zero, suc, ◌<◌, ◌≤◌, Bool, true, false, cond, not, ◌==◌, List, [], ◌∷◌, ◌⊎◌, length, slice_index, Result, Ok, Err, MatchResult, IfOk, IfErr, is_ok}
+use Rattle.std.specs.Prelude.{
+  ◌≡◌,
+  ℕ,
+  zero,
+  suc,
+  ◌<◌,
+  ◌≤◌,
+  Bool,
+  true,
+  false,
+  cond,
+  not,
+  ◌==◌,
+  List,
+  [],
+  ◌∷◌,
+  ◌⊎◌,
+  length,
+  slice_index,
+  Result,
+  Ok,
+  Err,
+  MatchResult,
+  IfOk,
+  IfErr,
+  is_ok,
+}
 use Rattle.std.specs.List.{insert, remove}
 use Rattle.std.proofs.Common.{refl, sym, ◌∙◌, ap, subst, inl, inr, arith}
 use Rattle.std.proofs.lemmas.Bool.Decides.{nat_tests}
@@ -57,11 +83,17 @@ insert_is [] p zero g = refl
 insert_is [] p (suc i) g = absurd (omega (arith, g.within))
 insert_is (x ∷ s) p zero g =
     let a : p < x = g.above 0 (omega arith) (omega arith) in
-    elim (with_cases p x s) [ inl e ↦ sym e.1 | inr o ↦ elim o [ inl e ↦ absurd (omega (arith, e.0)) | inr e ↦ absurd (omega (arith, e.0)) ] ]
+    elim (with_cases p x s) [
+      | inl e ↦ sym e.1
+      | inr o ↦ elim o [ inl e ↦ absurd (omega (arith, e.0)) | inr e ↦ absurd (omega (arith, e.0)) ]
+    ]
 insert_is (x ∷ s) p (suc i) g =
     let b : x < p = g.below 0 (omega arith) in
     let r = insert_is s p i (rest_gap x s p i g) in
-    elim (with_cases p x s) [ inl e ↦ absurd (omega (arith, e.0)) | inr o ↦ elim o [ inl e ↦ absurd (omega (arith, e.0)) | inr e ↦ ap (λ (t : List ℕ). x ∷ t) r ∙ sym e.1 ] ]
+    elim (with_cases p x s) [
+      | inl e ↦ absurd (omega (arith, e.0))
+      | inr o ↦ elim o [ inl e ↦ absurd (omega (arith, e.0)) | inr e ↦ ap (λ (t : List ℕ). x ∷ t) r ∙ sym e.1 ]
+    ]
 
 -- ---- taking a point out
 
@@ -74,7 +106,8 @@ without_none p (x ∷ s) f =
     rw e (ap (λ (t : List ℕ). x ∷ t) (without_none p s (λ q i. f q (inr i))))
 
 -- an ascending list without the element at the place of a point is the set without the point
-pub remove_is : (s : List ℕ) (p i : ℕ) → IsAscending s → i < length s → slice_index s i ≡ p → remove s i ≡ without_point p s
+pub remove_is : (s : List ℕ) (p i : ℕ) → IsAscending s → i < length s → slice_index s i ≡ p →
+    remove s i ≡ without_point p s
 remove_is [] p i h l e = absurd (omega arith)
 remove_is (x ∷ s) p zero h l e =
     let f : (x == p) ≡ true = grind (arith, nat_tests) in
@@ -90,7 +123,8 @@ in_without : (p : ℕ) (s : List ℕ) (q : ℕ) → IsIn q (without_point p s) �
 in_without p [] q i = i
 in_without p (x ∷ s) q i = by (x == p) i (in_without p s q)
   where
-    by : (b : Bool) → IsIn q (cond (not b) (x ∷ without_point p s) (without_point p s)) → (IsIn q (without_point p s) → IsIn q s) → (x ≡ q) ⊎ IsIn q s
+    by : (b : Bool) → IsIn q (cond (not b) (x ∷ without_point p s) (without_point p s)) →
+        (IsIn q (without_point p s) → IsIn q s) → (x ≡ q) ⊎ IsIn q s
     by true i r = inr (r i)
     by false (inl e) r = inl e
     by false (inr j) r = inr (r j)
@@ -100,33 +134,49 @@ pub ascending_without : (p : ℕ) (s : List ℕ) → IsAscending s → IsAscendi
 ascending_without p [] h = tt
 ascending_without p (x ∷ s) h = by (x == p) (ascending_without p s h.1)
   where
-    by : (b : Bool) → IsAscending (without_point p s) → IsAscending (cond (not b) (x ∷ without_point p s) (without_point p s))
+    by : (b : Bool) → IsAscending (without_point p s) → IsAscending
+        (cond (not b) (x ∷ without_point p s) (without_point p s))
     by true a = a
     by false a = (first_below x (without_point p s) (λ q i. below_each x s h.0 h.1 q (in_without p s q i)), a)
 
 -- ---- what a search found
 
 -- a search answers Ok exactly where the point is there
-pub search_there : (s : List ℕ) (p : ℕ) (r : Result ℕ ℕ) → MatchResult r (λ i. (i < length s) × (slice_index s i ≡ p)) (λ i. (i ≤ length s) × ((k : ℕ) → k < i → slice_index s k < p) × ((k : ℕ) → i ≤ k → k < length s → p < slice_index s k)) → is_ok r ≡ is_among p s
+pub search_there : (s : List ℕ) (p : ℕ) (r : Result ℕ ℕ) → MatchResult r (λ i. (i < length s) × (slice_index s i ≡ p))
+    (λ i. (i ≤ length s) × ((k : ℕ) → k < i → slice_index s k < p)
+    × ((k : ℕ) → i ≤ k → k < length s → p < slice_index s k)) → is_ok r ≡ is_among p s
 search_there s p (Ok i) h = sym (among_at s p i h.0 h.1)
 search_there s p (Err i) h = sym (among_gap s p i (record { within = h.0; below = h.1; above = h.2 }))
 
 -- and then with a place that can be taken out, which leaves the set without the point
-pub search_found : (s : List ℕ) (p : ℕ) (r : Result ℕ ℕ) → IsAscending s → MatchResult r (λ i. (i < length s) × (slice_index s i ≡ p)) (λ i. (i ≤ length s) × ((k : ℕ) → k < i → slice_index s k < p) × ((k : ℕ) → i ≤ k → k < length s → p < slice_index s k)) → IfOk r (λ i. (i < length s) × (remove s i ≡ without_point p s))
+pub search_found : (s : List ℕ) (p : ℕ) (r : Result ℕ ℕ) → IsAscending s →
+    MatchResult r (λ i. (i < length s) × (slice_index s i ≡ p))
+    (λ i. (i ≤ length s) × ((k : ℕ) → k < i → slice_index s k < p)
+    × ((k : ℕ) → i ≤ k → k < length s → p < slice_index s k)) →
+    IfOk r (λ i. (i < length s) × (remove s i ≡ without_point p s))
 search_found s p (Ok i) a h = (h.0, remove_is s p i a h.0 h.1)
 search_found s p (Err i) a h = tt
 
 -- an Err has a place at which the point can be put in, which gives the set with it
-pub search_absent : (s : List ℕ) (p : ℕ) (r : Result ℕ ℕ) → MatchResult r (λ i. (i < length s) × (slice_index s i ≡ p)) (λ i. (i ≤ length s) × ((k : ℕ) → k < i → slice_index s k < p) × ((k : ℕ) → i ≤ k → k < length s → p < slice_index s k)) → IfErr r (λ i. (i ≤ length s) × (insert s i p ≡ with_point p s))
+pub search_absent : (s : List ℕ) (p : ℕ) (r : Result ℕ ℕ) → MatchResult r (λ i. (i < length s) × (slice_index s i ≡ p))
+    (λ i. (i ≤ length s) × ((k : ℕ) → k < i → slice_index s k < p)
+    × ((k : ℕ) → i ≤ k → k < length s → p < slice_index s k)) →
+    IfErr r (λ i. (i ≤ length s) × (insert s i p ≡ with_point p s))
 search_absent s p (Ok i) h = tt
 search_absent s p (Err i) h = (h.0, insert_is s p i (record { within = h.0; below = h.1; above = h.2 }))
 
 -- ---- an edited list is ascending; t is the slice that was searched
 
 -- where a point was taken out at its place
-pub ascending_removed : (s t : List ℕ) (p i : ℕ) → t ≡ s → remove t i ≡ without_point p t → IsAscending s → IsAscending (remove s i)
-ascending_removed s t p i e f a = subst (λ (u : List ℕ). IsAscending (remove u i)) e (subst IsAscending (sym f) (ascending_without p t (subst IsAscending (sym e) a)))
+pub ascending_removed : (s t : List ℕ) (p i : ℕ) → t ≡ s → remove t i ≡ without_point p t → IsAscending s →
+    IsAscending (remove s i)
+ascending_removed s t p i e f a =
+    subst (λ (u : List ℕ). IsAscending (remove u i)) e (subst IsAscending (sym f)
+    (ascending_without p t (subst IsAscending (sym e) a)))
 
 -- where it was put in
-pub ascending_inserted : (s t : List ℕ) (p i : ℕ) → t ≡ s → insert t i p ≡ with_point p t → IsAscending s → IsAscending (insert s i p)
-ascending_inserted s t p i e f a = subst (λ (u : List ℕ). IsAscending (insert u i p)) e (subst IsAscending (sym f) (ascending_with p t (subst IsAscending (sym e) a)))
+pub ascending_inserted : (s t : List ℕ) (p i : ℕ) → t ≡ s → insert t i p ≡ with_point p t → IsAscending s →
+    IsAscending (insert s i p)
+ascending_inserted s t p i e f a =
+    subst (λ (u : List ℕ). IsAscending (insert u i p)) e (subst IsAscending (sym f)
+    (ascending_with p t (subst IsAscending (sym e) a)))

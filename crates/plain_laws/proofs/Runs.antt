@@ -116,14 +116,22 @@ entry_by n s (line ∷ lines) e (inl q) = sym (ap (λ (e : Entry). e.by) q)
 entry_by n s (line ∷ lines) e (inr i) = entry_by (n + 1) (after s line.1) lines e i
 
 -- legal entries by 0 are those that one thread makes of their lines
-pub legal_is : (n : ℕ) (s : List ℕ) (h : List Entry) → IsLegalFrom n s h → ((e : Entry) → IsIn e h → e.by ≡ 0) → h ≡ entries_from n s (map line_of h)
+pub legal_is : (n : ℕ) (s : List ℕ) (h : List Entry) → IsLegalFrom n s h → ((e : Entry) → IsIn e h → e.by ≡ 0) →
+    h ≡ entries_from n s (map line_of h)
 legal_is n s [] l b = refl
 legal_is n s (e ∷ h) l b =
     let number = l.0 in
     let reply = l.1 in
     let by_is = b e (inl refl) in
-    let first : e ≡ record { number = n; by = 0; tag = e.tag; edit = e.edit; reply = reply_to s e.edit } = λ i. record { number = number i; by = by_is i; tag = e.tag; edit = e.edit; reply = reply i } in
-    ap (λ (x : Entry). x ∷ h) first ∙ ap (λ (t : List Entry). record { number = n; by = 0; tag = e.tag; edit = e.edit; reply = reply_to s e.edit } ∷ t) (legal_is (n + 1) (after s e.edit) h l.2 (λ d i. b d (inr i)))
+    let first : e ≡ record { number = n; by = 0; tag = e.tag; edit = e.edit; reply = reply_to s e.edit } =
+    λ i. record { number = number i; by = by_is i; tag = e.tag; edit = e.edit; reply = reply i } in
+    ap (λ (x : Entry). x ∷ h) first ∙ ap (λ (t : List Entry). record {
+      number = n;
+      by = 0;
+      tag = e.tag;
+      edit = e.edit;
+      reply = reply_to s e.edit;
+    } ∷ t) (legal_is (n + 1) (after s e.edit) h l.2 (λ d i. b d (inr i)))
 
 -- the tags of entries are those of their lines
 pub tags_of : (h : List Entry) → map (λ (e : Entry). e.tag) h ≡ map (λ (l : Pair). l.0) (map line_of h)
@@ -133,16 +141,21 @@ tags_of (e ∷ h) = ap (λ (t : List ℕ). e.tag ∷ t) (tags_of h)
 -- ---- parts of a list by tests
 
 -- what passes one of two tests that exclude each other
-parted : {X : Type 0} (p q r : X → Bool) → ((x : X) → r x ≡ (p x || q x)) → ((x : X) → (p x && q x) ≡ false) → (l : List X) → IsPermutation (filter r l) (filter p l ++ filter q l)
+parted : {X : Type 0} (p q r : X → Bool) → ((x : X) → r x ≡ (p x || q x)) → ((x : X) → (p x && q x) ≡ false) →
+    (l : List X) → IsPermutation (filter r l) (filter p l ++ filter q l)
 parted p q r f g [] = IsPermutation-refl []
 parted {X} p q r f g (x ∷ l) = by (p x) (q x) (r x) (f x) (g x) (parted p q r f g l)
   where
-    by : (a b c : Bool) → c ≡ (a || b) → (a && b) ≡ false → IsPermutation (filter r l) (filter p l ++ filter q l) → IsPermutation (cond c (x ∷ filter r l) (filter r l)) (cond a (x ∷ filter p l) (filter p l) ++ cond b (x ∷ filter q l) (filter q l))
+    by : (a b c : Bool) → c ≡ (a || b) → (a && b) ≡ false → IsPermutation (filter r l) (filter p l ++ filter q l) →
+        IsPermutation (cond c (x ∷ filter r l) (filter r l)) (cond a (x ∷ filter p l) (filter p l)
+        ++ cond b (x ∷ filter q l) (filter q l))
     by true true c e d h = cc
     by true false c e d h = rw e (IsPermutation-cons x (filter r l) (filter p l ++ filter q l) h)
     by false true c e d h =
-        rw e (IsPermutation-trans (x ∷ filter r l) (x ∷ (filter p l ++ filter q l)) (filter p l ++ x ∷ filter q l) (IsPermutation-cons x (filter r l) (filter p l ++ filter q l) h)
-        (IsPermutation-sym (filter p l ++ x ∷ filter q l) (x ∷ (filter p l ++ filter q l)) (IsPermutation-middle (filter p l) x (filter q l))))
+        rw e (IsPermutation-trans (x ∷ filter r l) (x ∷ (filter p l ++ filter q l)) (filter p l ++ x ∷ filter q l)
+        (IsPermutation-cons x (filter r l) (filter p l ++ filter q l) h)
+        (IsPermutation-sym (filter p l ++ x ∷ filter q l) (x ∷ (filter p l ++ filter q l))
+        (IsPermutation-middle (filter p l) x (filter q l))))
     by false false c e d h = rw e h
 
 -- the one worker of one has all that pass
@@ -181,22 +194,31 @@ module _ {X : Type 0} (t : X → Bool) (k : X → ℕ) (l : List X) where
       apart false m = refl
 
   -- from i on, in the n parts with the numbers from i and in what is left from i + n
-  pub from_parts : (i n : ℕ) → IsPermutation (from i) (flat_map (λ x. x) (map part (range_with_len i n)) ++ from (i + n))
-  from_parts i zero = let e : i ≡ i + 0 = omega arith in subst (λ (m : ℕ). IsPermutation (from i) (from m)) e (IsPermutation-refl (from i))
+  pub from_parts : (i n : ℕ) → IsPermutation (from i) (flat_map (λ x. x) (map part (range_with_len i n))
+      ++ from (i + n))
+  from_parts i zero =
+      let e : i ≡ i + 0 =
+      omega arith in subst (λ (m : ℕ). IsPermutation (from i) (from m)) e (IsPermutation-refl (from i))
   from_parts i (suc n) =
       let e : i + 1 + n ≡ i + suc n = omega arith in
-      let rest = subst (λ (m : ℕ). IsPermutation (from (i + 1)) (flat_map (λ x. x) (map part (range_with_len (i + 1) n)) ++ from m)) e (from_parts (i + 1) n) in
-      let step = IsPermutation-append_right (part i) (from (i + 1)) (flat_map (λ x. x) (map part (range_with_len (i + 1) n)) ++ from (i + suc n)) rest in
-      subst (IsPermutation (from i)) (sym (append_assoc (part i) (flat_map (λ x. x) (map part (range_with_len (i + 1) n))) (from (i + suc n))))
-      (IsPermutation-trans (from i) (part i ++ from (i + 1)) (part i ++ (flat_map (λ x. x) (map part (range_with_len (i + 1) n)) ++ from (i + suc n))) (from_next i) step)
+      let rest = subst (λ (m : ℕ). IsPermutation (from (i + 1))
+      (flat_map (λ x. x) (map part (range_with_len (i + 1) n)) ++ from m)) e (from_parts (i + 1) n) in
+      let step = IsPermutation-append_right (part i) (from (i + 1))
+      (flat_map (λ x. x) (map part (range_with_len (i + 1) n)) ++ from (i + suc n)) rest in
+      subst (IsPermutation (from i)) (sym (append_assoc (part i)
+      (flat_map (λ x. x) (map part (range_with_len (i + 1) n))) (from (i + suc n))))
+      (IsPermutation-trans (from i) (part i ++ from (i + 1)) (part i
+      ++ (flat_map (λ x. x) (map part (range_with_len (i + 1) n)) ++ from (i + suc n))) (from_next i) step)
 
   -- where all numbers are below n
-  pub all_parts : (n : ℕ) → ((x : X) → k x < n) → IsPermutation (filter t l) (flat_map (λ x. x) (map part (range_with_len 0 n)))
+  pub all_parts : (n : ℕ) → ((x : X) → k x < n) → IsPermutation (filter t l)
+      (flat_map (λ x. x) (map part (range_with_len 0 n)))
   all_parts n f =
       let e : from 0 ≡ filter t l = same_filter (λ x. t x && not (nat_lt (k x) 0)) t l (λ x m. first (t x) (k x)) in
       let g : from (0 + n) ≡ [] = none_pass (λ x. t x && not (nat_lt (k x) (0 + n))) l (λ x. last (t x) (k x) (f x)) in
       subst (λ (m : List X). IsPermutation m (flat_map (λ x. x) (map part (range_with_len 0 n)))) e
-      (subst (IsPermutation (from 0)) (ap (λ (m : List X). flat_map (λ x. x) (map part (range_with_len 0 n)) ++ m) g ∙ append-nil (flat_map (λ x. x) (map part (range_with_len 0 n)))) (from_parts 0 n))
+      (subst (IsPermutation (from 0)) (ap (λ (m : List X). flat_map (λ x. x) (map part (range_with_len 0 n)) ++ m) g
+      ∙ append-nil (flat_map (λ x. x) (map part (range_with_len 0 n)))) (from_parts 0 n))
     where
       none : (m : ℕ) → not (nat_lt m 0) ≡ true
       none m = grind (arith, nat_tests)
@@ -246,7 +268,8 @@ one_kept n lines h some r = record {
 }
 
 -- of all of them, where the places of the lines rise
-pub all_kept : (n : ℕ) (parts : List (List Pair)) (h : List Entry) → 0 < n → EachLater IsLower (flat_map (λ l. l) parts) →
+pub all_kept : (n : ℕ) (parts : List (List Pair)) (h : List Entry) → 0 < n →
+    EachLater IsLower (flat_map (λ l. l) parts) →
     AreRuns (map (dealt_out n) parts) h → AreKept (flat_map (λ l. l) parts) n h
 all_kept n [] h some low r =
     subst (AreKept [] n) (sym r)
@@ -309,7 +332,15 @@ module _ (points : List ℕ) (edits : List Edit) (four : Four) (found : opening_
   in_range p i = (omega arith, omega (arith, below p i, length-append (map Add points) edits, length-map points Add))
     where
       below : (p : ℕ) → IsIn p (places four) → p < length points
-      below p (inl e) = omega (arith, independent.ascending.0, independent.ascending.1, independent.ascending.2, independent.within, e)
+      below p (inl e) =
+          omega (
+            arith,
+            independent.ascending.0,
+            independent.ascending.1,
+            independent.ascending.2,
+            independent.within,
+            e,
+          )
       below p (inr (inl e)) = omega (arith, independent.ascending.1, independent.ascending.2, independent.within, e)
       below p (inr (inr (inl e))) = omega (arith, independent.ascending.2, independent.within, e)
       below p (inr (inr (inr (inl e)))) = omega (arith, independent.within, e)
@@ -317,14 +348,22 @@ module _ (points : List ℕ) (edits : List Edit) (four : Four) (found : opening_
 
   -- the lines of the four are those at their places, in order
   pub opening_is : opening_lines ≡ map (line_at 0 (lines_of points edits) (Add 0)) (places four)
-  opening_is = picked (places four) 0 (lines_of points edits) (Add 0) (independent.ascending.0, (independent.ascending.1, (independent.ascending.2, (tt, tt)))) in_range
+  opening_is =
+      picked (places four) 0 (lines_of points edits) (Add 0) (
+        independent.ascending.0,
+        (independent.ascending.1, (independent.ascending.2, (tt, tt))),
+      ) in_range
 
   -- the history of one thread has the same lines
   one_order : EachLater InOrder (opening_lines ++ others)
   one_order =
-      let kept : Keeps points edits 1 (entries_from 0 [] (opening_lines ++ others)) = subst (λ (o : Option Four). IfSome o (λ _. Keeps points edits 1 (entries_from 0 [] (lines_of_one_thread o all)))) found (keeps_law points edits) in
+      let kept : Keeps points edits 1 (entries_from 0 [] (opening_lines ++ others)) =
+      subst (λ (o : Option Four). IfSome o (λ _. Keeps points edits 1
+      (entries_from 0 [] (lines_of_one_thread o all)))) found (keeps_law points edits) in
       subst (EachLater InOrder) (entry_lines 0 [] (opening_lines ++ others))
-      (later_map line_of InOrder (entries_from 0 [] (opening_lines ++ others)) (pairs_later (λ (d e : Entry). InOrder (line_of d) (line_of e)) (entries_from 0 [] (opening_lines ++ others)) kept.order))
+      (later_map line_of InOrder (entries_from 0 [] (opening_lines ++ others))
+      (pairs_later (λ (d e : Entry). InOrder (line_of d) (line_of e)) (entries_from 0 [] (opening_lines ++ others))
+      kept.order))
 
   -- the places of the others rise, and they are the lines of the segments
   rises : EachLater IsLower (flat_map (λ l. l) (segments others))
@@ -342,7 +381,8 @@ module _ (points : List ℕ) (edits : List Edit) (four : Four) (found : opening_
 
     -- the lines of the opening and the run are those of the four, and then those of the run
     lines_are : map line_of (opening ++ run) ≡ opening_lines ++ map line_of run
-    lines_are = map-append line_of opening run ∙ ap (λ (l : List Pair). l ++ map line_of run) (entry_lines 0 [] opening_lines)
+    lines_are =
+        map-append line_of opening run ∙ ap (λ (l : List Pair). l ++ map line_of run) (entry_lines 0 [] opening_lines)
 
     -- together they are each line of the file once
     lines : IsPermutation all (map line_of (opening ++ run))
@@ -363,7 +403,8 @@ module _ (points : List ℕ) (edits : List Edit) (four : Four) (found : opening_
     order : EachLater (λ (d e : Entry). InOrder (line_of d) (line_of e)) (opening ++ run)
     order =
         later_append (λ (d e : Entry). InOrder (line_of d) (line_of e)) opening run
-        (later_unmap line_of InOrder opening (subst (EachLater InOrder) (sym (entry_lines 0 [] opening_lines)) (later_left InOrder opening_lines others one_order)))
+        (later_unmap line_of InOrder opening (subst (EachLater InOrder) (sym (entry_lines 0 [] opening_lines))
+        (later_left InOrder opening_lines others one_order)))
         kept.order
         (λ x y i j. later_across InOrder opening_lines others one_order (line_of x) (line_of y)
         (subst (IsIn (line_of x)) (entry_lines 0 [] opening_lines) (mapped_true line_of x opening i))
@@ -382,9 +423,11 @@ module _ (points : List ℕ) (edits : List Edit) (four : Four) (found : opening_
     pub keeps : Keeps points edits workers (opening ++ run)
     keeps =
         record {
-          opening = subst (λ (o : Option Four). IfSome o (λ f. map (λ (e : Entry). e.tag) (take 4 (opening ++ run)) ≡ places f)) (sym found) first_four;
+          opening = subst (λ (o : Option Four). IfSome o (λ f. map (λ (e : Entry). e.tag) (take 4 (opening ++ run))
+              ≡ places f)) (sym found) first_four;
           lines = lines;
-          order = later_pairs (λ (d e : Entry). share_point d.edit e.edit ≡ true → d.tag < e.tag) (opening ++ run) order;
+          order =
+              later_pairs (λ (d e : Entry). share_point d.edit e.edit ≡ true → d.tag < e.tag) (opening ++ run) order;
           workers = all_of_each (λ (e : Entry). e.by < workers) (opening ++ run) made_by;
         }
 
@@ -404,20 +447,29 @@ module _ (points : List ℕ) (edits : List Edit) (four : Four) (found : opening_
 -- ---- there is an anchored file
 
 -- the points of a tetrahedron are the opening four of their list
-four_found : opening_four (0 ∷ 2 * 268435456 ∷ 2 * 16384 ∷ 2 ∷ []) ≡ Some (record { first = 0; second = 1; third = 2; fourth = 3 })
+four_found : opening_four (0 ∷ 2 * 268435456 ∷ 2 * 16384 ∷ 2 ∷ [])
+    ≡ Some (record { first = 0; second = 1; third = 2; fourth = 3 })
 unfolding orientation triple minor normal_x normal_y normal_z x_from y_from z_from x_of y_of z_of
 four_found = refl
 
 -- a file that is anchored: the points of a tetrahedron, and an add and a take of another point
-an_anchored_file : IsAnchored (0 ∷ 2 * 268435456 ∷ 2 * 16384 ∷ 2 ∷ []) (Add (268435456 + 16384 + 1) ∷ Take (268435456 + 16384 + 1) ∷ [])
-an_anchored_file = record { four = record { first = 0; second = 1; third = 2; fourth = 3 }; opening = four_found; untaken = spared; unmoved = stays }
+an_anchored_file : IsAnchored (0 ∷ 2 * 268435456 ∷ 2 * 16384 ∷ 2 ∷ [])
+    (Add (268435456 + 16384 + 1) ∷ Take (268435456 + 16384 + 1) ∷ [])
+an_anchored_file = record {
+  four = record { first = 0; second = 1; third = 2; fourth = 3 };
+  opening = four_found;
+  untaken = spared;
+  unmoved = stays;
+}
   where
     is_take : Edit → Bool
     is_take (Add p) = false
     is_take (Take p) = true
     is_take (Move a b) = false
 
-    stays : (i b : ℕ) → IsIn i (0 ∷ 1 ∷ 2 ∷ 3 ∷ []) → ¬ (IsIn (Move (slice_index (0 ∷ 2 * 268435456 ∷ 2 * 16384 ∷ 2 ∷ []) i) b) (Add (268435456 + 16384 + 1) ∷ Take (268435456 + 16384 + 1) ∷ []))
+    stays : (i b : ℕ) → IsIn i (0 ∷ 1 ∷ 2 ∷ 3 ∷ []) → ¬ (IsIn (Move
+        (slice_index (0 ∷ 2 * 268435456 ∷ 2 * 16384 ∷ 2 ∷ []) i) b)
+        (Add (268435456 + 16384 + 1) ∷ Take (268435456 + 16384 + 1) ∷ []))
     stays i b j (inl e) = let f = ap is_move e in cc
     stays i b j (inr (inl e)) = let f = ap is_move e in cc
     stays i b j (inr (inr k)) = k
@@ -429,18 +481,25 @@ an_anchored_file = record { four = record { first = 0; second = 1; third = 2; fo
     apart k (inr (inr (inr (inl e)))) f = omega (arith, e, f)
     apart k (inr (inr (inr (inr j)))) f = j
 
-    at_place : (i : ℕ) → IsIn i (0 ∷ 1 ∷ 2 ∷ 3 ∷ []) → IsIn (slice_index (0 ∷ 2 * 268435456 ∷ 2 * 16384 ∷ 2 ∷ []) i) (0 ∷ 2 * 268435456 ∷ 2 * 16384 ∷ 2 ∷ [])
+    at_place : (i : ℕ) → IsIn i (0 ∷ 1 ∷ 2 ∷ 3 ∷ []) → IsIn (slice_index (0 ∷ 2 * 268435456 ∷ 2 * 16384 ∷ 2 ∷ []) i)
+        (0 ∷ 2 * 268435456 ∷ 2 * 16384 ∷ 2 ∷ [])
     at_place i j = mapped_true (slice_index (0 ∷ 2 * 268435456 ∷ 2 * 16384 ∷ 2 ∷ [])) i (0 ∷ 1 ∷ 2 ∷ 3 ∷ []) j
 
-    spared : (i : ℕ) → IsIn i (0 ∷ 1 ∷ 2 ∷ 3 ∷ []) → ¬ (IsIn (Take (slice_index (0 ∷ 2 * 268435456 ∷ 2 * 16384 ∷ 2 ∷ []) i)) (Add (268435456 + 16384 + 1) ∷ Take (268435456 + 16384 + 1) ∷ []))
+    spared : (i : ℕ) → IsIn i (0 ∷ 1 ∷ 2 ∷ 3 ∷ []) → ¬ (IsIn (Take
+        (slice_index (0 ∷ 2 * 268435456 ∷ 2 * 16384 ∷ 2 ∷ []) i))
+        (Add (268435456 + 16384 + 1) ∷ Take (268435456 + 16384 + 1) ∷ []))
     spared i j (inl e) = let f = ap is_take e in cc
-    spared i j (inr (inl e)) = apart (slice_index (0 ∷ 2 * 268435456 ∷ 2 * 16384 ∷ 2 ∷ []) i) (at_place i j) (ap point_of e)
+    spared i j (inr (inl e)) =
+        apart (slice_index (0 ∷ 2 * 268435456 ∷ 2 * 16384 ∷ 2 ∷ []) i) (at_place i j) (ap point_of e)
     spared i j (inr (inr k)) = k
 
 -- so there is an anchored file
 pub some_file_is_anchored : SomeFileIsAnchored
-some_file_is_anchored =
-    (0 ∷ 2 * 268435456 ∷ 2 * 16384 ∷ 2 ∷ [], Add (268435456 + 16384 + 1) ∷ Take (268435456 + 16384 + 1) ∷ [], an_anchored_file)
+some_file_is_anchored = (
+  0 ∷ 2 * 268435456 ∷ 2 * 16384 ∷ 2 ∷ [],
+  Add (268435456 + 16384 + 1) ∷ Take (268435456 + 16384 + 1) ∷ [],
+  an_anchored_file,
+)
 
 -- the opening four and runs of the dealt lines keep the file
 pub run_keeps : RunKeeps
