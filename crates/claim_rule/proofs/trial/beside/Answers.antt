@@ -18,7 +18,8 @@ returns c s sh =
     in
     let gone : c.in_ok-list.list.items ≡ without_cells (complex (after s (Add c.args.b))) c.args.all.now =
     c.in_ok-list.ensures ∙ ap (λ (l : List Cell). without_cells l c.args.all.now) (c.deref.ensures.value ∙ with_goal) in
-    let at_a : c.in_ok-at_a.at_a.items ≡ filter (λ d. is_among c.args.a (points_of d)) (complex (after s (Add c.args.b))) =
+    let at_a : c.in_ok-at_a.at_a.items ≡ filter (λ d. is_among c.args.a (points_of d))
+    (complex (after s (Add c.args.b))) =
     c.in_ok-at_a.ensures
     ∙ ap (λ (l : List Cell). filter (λ d. is_among c.args.a (points_of d)) l) (c.deref-2.ensures.value ∙ with_goal) in
     c.in_ok-append.ensures.items ∙ (λ i. gone i ++ at_a i)
