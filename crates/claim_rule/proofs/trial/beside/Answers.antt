@@ -9,6 +9,7 @@ use Rattle.edit_history.specs.Edits.{after}
 use Rattle.cell_store.specs.Swaps.{without_cells}
 use Rattle.claim_rule.proofs.trial.beside.Goals as goal
 
+-- the cells beside a move are those that the new place takes away and those at the point once it is there
 pub returns : goal.returns
 returns c s sh =
     let set = c.in_ok-set.ensures s sh in

@@ -48,6 +48,7 @@ loop-place-preserved c =
     subst (λ (l : List Pair). AreCut c.args.workers l c.put.new.self) (sym next)
     (c.in_ok-put.ensures (take n lines) c.loop-place.invariant)
 
+-- at the end of the lines what was cut and dealt is `dealt_lines`
 pub returns : goal.returns
 returns c =
     let lines = edit_lines c.args.file.now.points.items c.args.file.now.edits.items in

@@ -25,6 +25,7 @@ returns-then-is_empty-clause-rounds g c =
     (subst (λ (l : List Waiting). AreMadeOrWait l c.in_ok-kept.kept.items now c.round.new.pass) c.deref.ensures.value
     c.in_ok-kept.ensures.round)
 
+-- after one round more each pair is made or waits
 pub loop-round-preserved : goal.loop-round-preserved
 loop-round-preserved g c =
     let now = c.loop-round.pass in

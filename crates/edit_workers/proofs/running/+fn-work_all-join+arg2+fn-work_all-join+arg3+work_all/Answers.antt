@@ -7,6 +7,7 @@ use Rattle.edit_workers.specs.Running.{AreWorked}
 use Rattle.edit_workers.proofs.Halves.{slice_low, slice_high, slice_both, slice_tables, of_answer}
 use Rattle.edit_workers.proofs.running.+fn-work_all-join+arg2+fn-work_all-join+arg3+work_all.Goals as goal
 
+-- each half of the pass can run its half of the lists
 pub join-a-requires-after_bounds : goal.join-a-requires-after_bounds
 join-a-requires-after_bounds g t c κs =
     let cut = c.split_at.ensures in
@@ -24,6 +25,7 @@ join-a-requires-after_bounds g t c κs =
     c.requires.run c.in_ok-other.ensures.split in
     λ ls. (search rules, search rules)
 
+-- what both halves did and left over is the work of the whole pass
 pub returns : goal.returns
 returns g t c =
     let cut = c.split_at.ensures in
@@ -45,6 +47,7 @@ returns g t c =
     of_answer (λ p l. AreWorked (pairs_in c.args.lists.now) l c.args.pass p) c.together.result _ _ both
     c.together.ensures.pass c.together.ensures.left
 
+-- the halves are passes of the table, and the second's parts come next
 pub together-requires : goal.together-requires
 together-requires g t c =
     let cut = c.split_at.ensures in

@@ -17,6 +17,7 @@ exchange-requires c =
       ),
     )
 
+-- the bucket that was claimed is carried behind those that were
 pub returns-clause-carries : goal.returns-clause-carries
 returns-clause-carries c =
     let t = (c.claim_at-found.ensures.claimed c.args.b refl).0 c.if-found-ne0.false in

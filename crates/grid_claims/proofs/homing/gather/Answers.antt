@@ -4,6 +4,7 @@ use Rattle.std.specs.Mem.Slots.{slots_items, slots_filled, slots_len, slots_coun
 use Rattle.grid_claims.proofs.Homecoming.{fits, not_empty, gathers_on, gathered}
 use Rattle.grid_claims.proofs.homing.gather.Goals as goal
 
+-- the bucket that comes next stands at its place
 pub put-requires-clause-place : goal.put-requires-clause-place
 put-requires-clause-place c =
     let s = c.args.closed.now.slots in
@@ -33,6 +34,7 @@ unreachable-requires c =
     (slots_filled c.loop-b.closed.slots) c.args.hold.now c.loop-b.hold c.loop-b.b c.loop-b.invariant l
     c.requires.home c.in-None.ensures.value
 
+-- one bucket more is gathered
 pub loop-b-preserved : goal.loop-b-preserved
 loop-b-preserved c =
     let s = c.args.closed.now.slots in

@@ -3,6 +3,7 @@ use Rattle.grid_claims.specs.Faces.{buckets_of}
 use Rattle.grid_claims.proofs.Showing.{hands_looked}
 use Rattle.grid_claims.proofs.snapshot.look_and_let_go.Goals as goal
 
+-- after the look the hands are as they were
 pub let_go-requires : goal.let_go-requires
 let_go-requires c =
     let e = c.show_at-found.ensures in

@@ -40,6 +40,7 @@ use Rattle.claim_rule.proofs.board.Board.claim.Goals.{
   then-not-is_live-via-else-not-is_live+then-b-len,
 }
 
+-- the word is another pass's: the answer is `Taken` with it, and nothing changes
 pub returns-then-word-ne0-clause-next : goal.returns-then-word-ne0-clause-next
 returns-then-word-ne0-clause-next c h good =
     let i = c.self.inside in
@@ -59,6 +60,7 @@ returns-then-word-ne0-clause-next c h good =
     c.args.n c.args.b live.0 h good' live.1 below zero other) in
     (next.0, c.if-word-ne0.true, word ∙ next.2, refl)
 
+-- a claim that is done leaves a good board
 pub invariant_of-self : goal.invariant_of-self
 invariant_of-self c =
     let i = c.self.inside in
@@ -77,6 +79,7 @@ invariant_of-self c =
 pub returns-clause-good : goal.returns-clause-good
 returns-clause-good c = invariant_of-self c
 
+-- the word is 0: the claim is done
 pub returns-clause-next : goal.returns-clause-next
 returns-clause-next c h good =
     let i = c.self.inside in

@@ -142,6 +142,7 @@ invariant_of-self-2 c =
 pub returns-clause-good : goal.returns-clause-good
 returns-clause-good c = invariant_of-self-2 c
 
+-- else the commit is done
 pub returns-clause-next : goal.returns-clause-next
 returns-clause-next c h good =
     let i = c.self.inside in

@@ -62,6 +62,7 @@ returns-then-from-clause-next c h good =
       refl,
     )
 
+-- both passes' parts are parts of the board, so their sum is small
 pub overflow_add-seat : goal.overflow_add-seat
 overflow_add-seat c =
     let i = c.self.inside in
@@ -77,6 +78,7 @@ overflow_add-seat c =
     i.seats.items c.self.invariant.0 c.args.m o c.self.invariant.1 live' in
     omega (arith, r.1, q.1)
 
+-- and so is the sum of their allowances
 pub overflow_add-seat-2 : goal.overflow_add-seat-2
 overflow_add-seat-2 c =
     let i = c.self.inside in
@@ -92,6 +94,7 @@ overflow_add-seat-2 c =
     i.seats.items c.self.invariant.0 c.args.m o c.self.invariant.1 live' in
     omega (arith, r.2, q.2)
 
+-- a join that is done leaves a good board
 pub invariant_of-self : goal.invariant_of-self
 invariant_of-self c =
     let i = c.self.inside in

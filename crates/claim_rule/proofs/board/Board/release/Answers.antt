@@ -54,6 +54,7 @@ invariant_of-self c =
 pub returns-clause-good : goal.returns-clause-good
 returns-clause-good c = invariant_of-self c
 
+-- else the release is done
 pub returns-clause-next : goal.returns-clause-next
 returns-clause-next c h good =
     let i = c.self.inside in

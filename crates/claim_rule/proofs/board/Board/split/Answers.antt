@@ -80,6 +80,7 @@ index_mut-requires-2 c =
     let a = r.0 in
     omega (arith, a, l, c.if-parts-seat.false, c.if-parts-eq0.false, i.seats.ok.0)
 
+-- a split that is done leaves a good board
 pub invariant_of-self : goal.invariant_of-self
 invariant_of-self c =
     let i = c.self.inside in
@@ -99,6 +100,7 @@ invariant_of-self c =
 pub returns-clause-good : goal.returns-clause-good
 returns-clause-good c = invariant_of-self c
 
+-- else the split is done
 pub returns-clause-next : goal.returns-clause-next
 returns-clause-next c h good =
     let i = c.self.inside in

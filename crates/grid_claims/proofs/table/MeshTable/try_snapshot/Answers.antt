@@ -15,6 +15,7 @@ copy_all-requires-clause-hands c =
     (ap (λ (t : Opened). t.id) e) c.self.invariant.0
     (c.grid.ensures.places ∙ ap (λ (x : ℕ). x * x * x) grid)
 
+-- every bucket claimed, one look, all given back: the snapshot is shown
 pub returns-in-Ok-clause-shown : goal.returns-in-Ok-clause-shown
 returns-in-Ok-clause-shown c =
     let r = c.pass.invariant.0 in
@@ -32,6 +33,7 @@ returns-in-Ok-clause-shown c =
     hands c.in-Ok.ensures.hands l.ensures.hands r.order (sym (ap (λ (t : Opened). t.grid * t.grid * t.grid) e))
     c.in-Ok.ensures.all c.in-Ok.ensures.lists l.ensures.looked)
 
+-- where a claim failed, or memory was wanting, it is not
 pub returns-in-Err-clause-refused : goal.returns-in-Err-clause-refused
 returns-in-Err-clause-refused c =
     let r = c.pass.invariant.0 in
