@@ -17,6 +17,7 @@ retained R test f says (x ∷ xs) ys h =
     let rest = retained R test f says xs h.4 (subst (λ g. RetainsInTurn R g xs h.4) said.1 h.5) in
     h.6 ∙ (λ i. cond (said.0 i) (said.2 i ∷ rest i) (rest i))
 
+-- what is left of a star's places without the freed ones is what stays of them
 pub stays_are : (b : Placed) (freed items list : List ℕ) (p : ℕ) → list ≡ filter (λ x. not
     (is_among x freed)) items → ((i : ℕ) → (IsIn i items → IsStarred b.keys b.stars p i) ×
     (IsStarred b.keys b.stars p i → IsIn i items)) →

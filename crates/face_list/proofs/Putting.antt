@@ -1,4 +1,5 @@
--- Laws of the loops that put numbers under keys, over plain variables: what holds as `put_numbers` passes items, and as `with_numbers` passes keys.
+-- Laws of the loops that put numbers under keys, over plain variables: what holds as `put_numbers` passes items, and as
+-- `with_numbers` passes keys.
 use Rattle.std.proofs.Common.{◌≡◌, sym, ap, subst, ◌∙◌, ℕ, ◌+◌, ◌<◌, ◌≤◌, inl, inr, List, [], ◌∷◌, ◌++◌, map, take, drop, length, get_or, arith, refl}
 use Rattle.std.specs.List.Sorted.{IsStrictlySortedBy}
 use Rattle.std.specs.Cmp.{IsTotalOrder}
@@ -14,7 +15,8 @@ use Rattle.face_list.proofs.Stretches.{one_more, stops_more}
 
 -- ---- items that are passed for one key
 
--- the numbers so far and those of the items that are left are those of the key, and what was passed over is of no later key
+-- the numbers so far and those of the items that are left are those of the key, and what was passed over is of no later
+-- key
 pub record IsPut {K : Type 0} (cmp : K → K → Ordering) (old now : List ℕ) (items rest : List (K × ℕ)) (key : K) : Type 0 where
   pub numbers : now ++ numbers_of cmp rest key ≡ old ++ numbers_of cmp items key
   pub order : IsStrictlySortedBy (item_cmp cmp) rest
@@ -80,6 +82,7 @@ listed_more cmp items rest next keys n ends numbers ends' numbers' key count sor
       numbers = λ k m. elim (from_append k numbers more (subst (IsIn k) put m)) [ inl i ↦ was.numbers k i | inr i ↦ number_of_item cmp items key k i ];
     }
 
+-- of the first no elements there is none
 take_none : {K : Type 0} (l : List K) → take 0 l ≡ []
 take_none [] = refl
 take_none (x ∷ l) = refl
@@ -107,6 +110,7 @@ pub listed_all :
     IsListed cmp items rest keys n ended put → stretches put 0 ended ≡ map (numbers_of cmp items) all
 listed_all cmp items rest keys all n ended put is h was = was.lists ∙ ap (map (numbers_of cmp items)) (take_all n keys h ∙ is)
 
+-- once all keys have passed there is a stop for each
 pub ended_all :
     {K : Type 0} (keys all : List K) (n : ℕ) (ended : List ℕ) → keys ≡ all → length keys ≤ n → n ≤ length keys → length ended ≡ n → length ended ≡ length all
 ended_all keys all n ended is h k e = (let l : n ≡ length keys = omega arith in e ∙ l ∙ ap length is)

@@ -11,6 +11,7 @@ overflow_add-count c =
 pub loop-slot-init : goal.loop-slot-init
 loop-slot-init c = (none_found (map Full c.args.cells.now ++ map Open c.args.hull.now), omega arith)
 
+-- one slot more was looked at
 pub loop-slot-preserved : goal.loop-slot-preserved
 loop-slot-preserved c =
     let l = map Full c.args.cells.now ++ map Open c.args.hull.now in

@@ -4,6 +4,7 @@ use Rattle.face_list.proofs.Failing.{no_value}
 use Rattle.face_list.proofs.Putting.{ended_all, listed_all, listed_more, listed_none}
 use Rattle.face_list.proofs.gather.with_numbers.Goals as goal
 
+-- the next key gets its numbers, and its stop behind them
 pub loop-key-preserved : goal.loop-key-preserved
 loop-key-preserved g c =
     let read = c.in_ok-rest.ensures in

@@ -27,6 +27,7 @@ add_all-requires-clause-keys c =
     (all_keyed c.args.grid c.args.number c.args.cells.now l keys c.in_ok-vertices.ensures.vertices
     (subst (λ (v : List ℕ). AreNumberedTo (length v) v keys) c.deref.ensures.value c.in_ok-keys.ensures) x i)
 
+-- the stars are those of the cells
 pub invariant_of-made : goal.invariant_of-made
 invariant_of-made c =
     let g = c.args.grid in
