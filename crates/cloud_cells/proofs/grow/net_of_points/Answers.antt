@@ -1,5 +1,5 @@
 use Rattle.std.specs.List.Sorted.{IsPermutation}
-use Rattle.std.proofs.Common.{ℕ, sym, ◌∷◌, [], subst, List}
+use Rattle.std.proofs.Common.{ℕ, sym, ◌∷◌, [], subst}
 use Rattle.list_laws.proofs.Cited.{not_both}
 use Rattle.point_order.specs.Sets.{IsIn, with_point}
 use Rattle.hole_laws.specs.Edits.{IsNew}

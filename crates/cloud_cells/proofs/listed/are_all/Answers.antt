@@ -1,4 +1,4 @@
-use Rattle.std.proofs.Common.{◌≡◌, ◌++◌, ◌+◌, ◌-◌, ◌≤◌, ◌∙◌, arith, eqb-true, length, map, sym, subst, take, ℕ}
+use Rattle.std.proofs.Common.{◌++◌, ◌+◌, ◌-◌, ◌≤◌, ◌∙◌, arith, eqb-true, length, map, sym, subst, take, ℕ}
 use Rattle.point_order.specs.declared.cell.Cell.TheVariants.{Full, Open}
 use Rattle.cloud_cells.proofs.Found.{AreFound, all_found, cell_slot, free_slot, none_found}
 use Rattle.cloud_cells.proofs.listed.are_all.Goals.{in-Some+else-not-is_listed, in_default}
