@@ -19,6 +19,7 @@ ghost use Rattle.std.specs.Prelude.{◌≡◌, IfOk};
 ghost use Rattle.face_list.specs.Faces.{points_in, parts_in, points_with_cells, with_cells};
 
 mod alone;
+mod around;
 mod counts;
 pub mod face;
 mod gather;
@@ -58,10 +59,13 @@ pub fn faces<'a, R: Threads + Sync>(
     ensures cells { IfOk result (λ f. f.cells ≡ cells.now) }
 {
     number_of(cells.len())?;
+    let points = lists::point_table(rt, alloc, cells)?;
+    let pairs = lists::pair_table(rt, alloc, cells, &points)?;
+    let triples = lists::triple_table(rt, alloc, cells, &points)?;
     Ok(Faces {
         cells,
-        points: lists::point_table(rt, alloc, cells)?,
-        pairs: lists::pair_table(rt, alloc, cells)?,
-        triples: lists::triple_table(rt, alloc, cells)?,
+        points,
+        pairs,
+        triples,
     })
 }

@@ -1,10 +1,13 @@
 //! The tables of faces of each kind.
 
 ghost use Rattle.std.specs.Prelude.{◌≡◌, ◌<◌, ◌^◌, length, IfOk, OnOk};
+ghost use Rattle.std.specs.List.Sorted.{IsStrictlySortedBy};
+ghost use Rattle.std.specs.Ordering.{nat_cmp};
 ghost use Rattle.face_list.specs.Faces.{points_in, parts_in, points_with_cells, with_cells};
 ghost use Rattle.face_list.specs.Gather.{AreAscending};
 ghost use Rattle.face_list.specs.Tables.{IsTable, table_seen};
 
+use crate::around::table_around;
 use crate::gather::gather;
 use crate::parts::{pair_items, point_items, triple_items};
 use crate::table::Table;
@@ -22,6 +25,7 @@ pub fn point_table<R: Threads + Sync>(
     ensures faces { IfOk result (λ t. table_seen cells.now t ≡ points_with_cells (points_in cells.now) cells.now) }
     ensures table { IfOk result (λ t. IsTable (length cells.now) t) }
     ensures ascending { OnOk result (AreAscending cells.now) }
+    ensures order { IfOk result (λ t. IsStrictlySortedBy nat_cmp t.keys.items) }
 {
     let items = point_items(alloc, cells)?;
     gather(rt, alloc, cells, items)
@@ -32,14 +36,22 @@ pub fn pair_table<R: Threads + Sync>(
     rt: &R,
     alloc: Global,
     cells: &[Cell],
+    points: &Table<Point>,
 ) -> Result<Table<Pair>, AllocError>
     requires few { length cells.now < 2 ^ 32 }
     requires ascending { AreAscending cells.now }
+    requires points { IsTable (length cells.now) points.now }
+    requires order { IsStrictlySortedBy nat_cmp points.now.keys.items }
     ensures faces { IfOk result (λ t. table_seen cells.now t ≡ with_cells (parts_in 2 cells.now) cells.now) }
     ensures table { IfOk result (λ t. IsTable (length cells.now) t) }
 {
-    let items = pair_items(alloc, cells)?;
-    gather(rt, alloc, cells, items)
+    match table_around(alloc, cells, points)? {
+        Some(table) => Ok(table),
+        None => {
+            let items = pair_items(alloc, cells)?;
+            gather(rt, alloc, cells, items)
+        }
+    }
 }
 
 /// The triples inside Full cells, with the cells that have all three points.
@@ -47,12 +59,20 @@ pub fn triple_table<R: Threads + Sync>(
     rt: &R,
     alloc: Global,
     cells: &[Cell],
+    points: &Table<Point>,
 ) -> Result<Table<Tri>, AllocError>
     requires few { length cells.now < 2 ^ 32 }
     requires ascending { AreAscending cells.now }
+    requires points { IsTable (length cells.now) points.now }
+    requires order { IsStrictlySortedBy nat_cmp points.now.keys.items }
     ensures faces { IfOk result (λ t. table_seen cells.now t ≡ with_cells (parts_in 3 cells.now) cells.now) }
     ensures table { IfOk result (λ t. IsTable (length cells.now) t) }
 {
-    let items = triple_items(alloc, cells)?;
-    gather(rt, alloc, cells, items)
+    match table_around(alloc, cells, points)? {
+        Some(table) => Ok(table),
+        None => {
+            let items = triple_items(alloc, cells)?;
+            gather(rt, alloc, cells, items)
+        }
+    }
 }
