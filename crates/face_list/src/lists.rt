@@ -13,7 +13,7 @@ use crate::parts::{pair_items, point_items, triple_items};
 use crate::table::Table;
 use point_order::{Cell, Pair, Point, Tri};
 use std::alloc::{AllocError, Global};
-use std::thread::Threads;
+use std::thread::{Threads, join};
 
 /// The points of Full cells, with the cells that have them. The points of each cell ascend.
 pub fn point_table<R: Threads + Sync>(
@@ -31,8 +31,8 @@ pub fn point_table<R: Threads + Sync>(
     gather(rt, alloc, cells, items)
 }
 
-/// The pairs inside Full cells, with the cells that have both points.
-pub fn pair_table<R: Threads + Sync>(
+// The pairs inside Full cells, with the cells that have both points.
+fn pair_table<R: Threads + Sync>(
     rt: &R,
     alloc: Global,
     cells: &[Cell],
@@ -54,8 +54,8 @@ pub fn pair_table<R: Threads + Sync>(
     }
 }
 
-/// The triples inside Full cells, with the cells that have all three points.
-pub fn triple_table<R: Threads + Sync>(
+// The triples inside Full cells, with the cells that have all three points.
+fn triple_table<R: Threads + Sync>(
     rt: &R,
     alloc: Global,
     cells: &[Cell],
@@ -75,4 +75,44 @@ pub fn triple_table<R: Threads + Sync>(
             gather(rt, alloc, cells, items)
         }
     }
+}
+
+/// Both tables, each by a thread of its own where one can be made.
+pub fn pair_and_triple_tables<R: Threads + Sync>(
+    rt: &R,
+    alloc: Global,
+    cells: &[Cell],
+    points: &Table<Point>,
+) -> Result<(Table<Pair>, Table<Tri>), AllocError>
+    requires few { length cells.now < 2 ^ 32 }
+    requires ascending { AreAscending cells.now }
+    requires points { IsTable (length cells.now) points.now }
+    requires order { IsStrictlySortedBy nat_cmp points.now.keys.items }
+    ensures pairs { IfOk result (λ both. table_seen cells.now both.0 ≡ with_cells (parts_in 2 cells.now) cells.now) }
+    ensures triples { IfOk result (λ both. table_seen cells.now both.1 ≡ with_cells (parts_in 3 cells.now) cells.now) }
+    ensures pair_table { IfOk result (λ both. IsTable (length cells.now) both.0) }
+    ensures triple_table { IfOk result (λ both. IsTable (length cells.now) both.1) }
+{
+    let (pairs, triples) = join(
+        rt,
+        || -> Result<Table<Pair>, AllocError>
+            requires few { length cells.now < 2 ^ 32 }
+            requires ascending { AreAscending cells.now }
+            requires points { IsTable (length cells.now) points.now }
+            requires order { IsStrictlySortedBy nat_cmp points.now.keys.items }
+            ensures faces { IfOk result (λ t. table_seen cells.entry.now t
+                ≡ with_cells (parts_in 2 cells.entry.now) cells.entry.now) }
+            ensures table { IfOk result (λ t. IsTable (length cells.entry.now) t) }
+        { pair_table(rt, alloc, cells, points) },
+        || -> Result<Table<Tri>, AllocError>
+            requires few { length cells.now < 2 ^ 32 }
+            requires ascending { AreAscending cells.now }
+            requires points { IsTable (length cells.now) points.now }
+            requires order { IsStrictlySortedBy nat_cmp points.now.keys.items }
+            ensures faces { IfOk result (λ t. table_seen cells.entry.now t
+                ≡ with_cells (parts_in 3 cells.entry.now) cells.entry.now) }
+            ensures table { IfOk result (λ t. IsTable (length cells.entry.now) t) }
+        { triple_table(rt, alloc, cells, points) },
+    );
+    Ok((pairs?, triples?))
 }

@@ -18,9 +18,3 @@ returns-in_err-pairs g c =
     let r = c.from_residual-in_err-pairs.result in
     let f = c.from_residual-in_err-pairs.ensures.0 in
     record { points = no_value _ r f; pairs = no_value _ r f; triples = no_value _ r f; cells = no_value _ r f }
-
-pub returns-in_err-triples : goal.returns-in_err-triples
-returns-in_err-triples g c =
-    let r = c.from_residual-in_err-triples.result in
-    let f = c.from_residual-in_err-triples.ensures.0 in
-    record { points = no_value _ r f; pairs = no_value _ r f; triples = no_value _ r f; cells = no_value _ r f }
