@@ -40,6 +40,7 @@ ghost use Rattle.cell_stars.specs.Moves.{
 use crate::cells::{Cells, places_in};
 use crate::marks::{Marks, is_unmarked, marks_of};
 use crate::moves::{Moves, behind_last, pairs};
+use crate::numbers::number_behind;
 use crate::order::{has_vertex, numbers_in_order};
 use crate::plan::Around;
 use crate::steps::place_of;
@@ -86,10 +87,7 @@ fn add_spare(
         if is_spare(stars, next) {
             list.push(next)?;
         }
-        match next.checked_add(1) {
-            Some(after) => next = after,
-            None => return Err(AllocError),
-        }
+        next = number_behind(next)?;
     }
     Ok(())
 }
