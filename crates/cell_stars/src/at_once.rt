@@ -27,7 +27,6 @@ use crate::plan::Around;
 use crate::slots::{Around4, Slot};
 use crate::steps::place_of;
 use point_order::{Cell, Point, points_in_order};
-use smallvec::SmallVec;
 use std::alloc::{AllocError, Global};
 
 // A place with a cell, and with the links of the cell with the number.
@@ -101,7 +100,7 @@ fn bare_stars(alloc: Global, vertices: &[Point]) -> Result<Vec<Around>, AllocErr
     for p in vertices {
         stars.push(Around {
             vertex: *p,
-            places: SmallVec::new(alloc),
+            places: Vec::new(alloc),
         })?;
     }
     Ok(stars)

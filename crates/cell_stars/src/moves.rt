@@ -49,6 +49,8 @@ pub(crate) struct Moves {
     pub(crate) placed: Vec<(u32, Cell)>,
     // Where each of the gone cells is likely to stand.
     pub(crate) gone: Vec<u32>,
+    // What was loaded early, added up.
+    pub(crate) loaded: u32,
     // Whether the cells are put as they are listed; else in order, where they are many.
     pub(crate) listed: bool,
 }
@@ -288,7 +290,7 @@ impl Cells {
         let mut freed = Vec::with_capacity(alloc, gone.len())?;
         for c in gone {
             let place = self.place_by(c, joined, guesses);
-            guesses.add(place)?;
+            guesses.add(&self.slots, place)?;
             if let Some(i) = place {
                 freed.push(i)?;
             }
@@ -489,6 +491,7 @@ impl Cells {
             freed,
             placed,
             gone: guesses.places,
+            loaded: guesses.loaded,
             listed: matched.is_single(),
         })
     }
