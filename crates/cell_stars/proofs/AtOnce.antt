@@ -1,11 +1,10 @@
 -- Cells that are put in all at once.
-use Rattle.std.specs.Prelude.{◌≡◌, ℕ, zero, suc, ◌+◌, ◌<◌, ◌≤◌, ◌==◌, true, List, [], ◌∷◌, ◌++◌, ◌⊎◌, length, map, Option, None, Some, slice_index, slice_index_or, slice_set}
-use Rattle.std.specs.List.{list_any}
+use Rattle.std.specs.Prelude.{◌≡◌, ℕ, zero, suc, ◌+◌, ◌<◌, ◌≤◌, true, List, [], ◌∷◌, ◌++◌, ◌⊎◌, length, map, Option, Some, slice_index, slice_index_or, slice_set}
 use Rattle.std.specs.List.Sorted.{IsStrictlySortedBy}
 use Rattle.std.proofs.Common.{refl, sym, ◌∙◌, ap, subst, inl, inr, arith, take}
 use Rattle.std.proofs.lemmas.List.{get_or-set_same, get_or-set_other, map-append, take_all}
 use Rattle.del_laws.proofs.Cited.{same_members}
-use Rattle.list_laws.proofs.Cited.{Gathered, any_from, at_place, each_none, gather_all, gather_push, gather_skip, gather_step, in_pushed, in_snoc, index_in, len_set, mapped_true, pushed_new, pushed_old, snoc_new, snoc_old, same_from, same_true, take_next}
+use Rattle.list_laws.proofs.Cited.{Gathered, each_none, gather_push, gather_skip, gather_step, in_pushed, in_snoc, index_in, len_set, pushed_new, pushed_old, snoc_new, snoc_old, same_from, same_true, take_next}
 use Rattle.point_order.specs.declared.cell.Cell.{Cell}
 use Rattle.point_order.specs.CellOrder.{cell_cmp}
 use Rattle.point_order.specs.Facets.{points_of}
@@ -13,10 +12,9 @@ use Rattle.point_order.specs.Sets.{IsIn, IsAscending}
 use Rattle.cell_stars.specs.AtOnce.{AreKeyed, AreNumberedTo, FromCellHere, GainsPlaces, HaveKeys, StandsAtHere, StandsHere}
 use Rattle.cell_stars.specs.Gathering.{Gathers}
 use Rattle.cell_stars.specs.Grids.{bucket_of}
-use Rattle.cell_stars.specs.Places.{Placed, AreStars, IsNamed, IsStarred, at, cells_of, lies_in, live, star_at}
+use Rattle.cell_stars.specs.Places.{AreStars, IsStarred, at, cells_of, lies_in, star_at}
 use Rattle.cell_stars.specs.Swaps.{Differ, touches}
-use Rattle.cell_stars.proofs.KeyLaws.{BelongsAt, at_key, no_key, one_key, same_or_not, vertices}
-use Rattle.cell_stars.proofs.Least.{at_live, live_at}
+use Rattle.cell_stars.proofs.KeyLaws.{at_key, one_key, same_or_not, vertices}
 use Rattle.cell_stars.proofs.Moved.{in_placed, placed_in, placed_sorted}
 use Rattle.cell_stars.proofs.Orders.{sorted_differ}
 

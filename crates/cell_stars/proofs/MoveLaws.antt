@@ -1,5 +1,5 @@
 -- What goes and comes in an exchange.
-use Rattle.std.specs.Prelude.{◌≡◌, ℕ, zero, suc, ◌+◌, ◌<◌, ◌≤◌, Bool, true, false, List, [], ◌∷◌, ◌++◌, ◌⊎◌, length, slice_index_or, Option, None, Some, MatchOption, MatchBool, not, ◌==◌}
+use Rattle.std.specs.Prelude.{◌≡◌, ℕ, zero, suc, ◌+◌, ◌<◌, ◌≤◌, Bool, true, false, List, [], ◌∷◌, ◌++◌, ◌⊎◌, length, slice_index_or, Option, None, Some, MatchOption, MatchBool, not, ◌==◌, IfOk, Result, Ok, Err}
 use Rattle.std.specs.List.{zip}
 use Rattle.std.proofs.Common.{add-one, refl, sym, ◌∙◌, ap, subst, inl, inr, arith, take, length-append}
 use Rattle.list_laws.proofs.Cited.{among_from, among_true, any_from, ascend_more, at_place, below_each, each_more, each_none, each_taken, in_pushed, in_right, last_one, more_one, not_both, pushed_new, pushed_old}
@@ -259,7 +259,11 @@ before_last l m x n e a f i k = (let t = go m (subst IsAscending e a) i (subst (
     go (y ∷ m) a i (inl e) = (let t = below_each y (m ++ x ∷ []) a.0 a.1 x (in_right x m (x ∷ []) (inl refl)) in omega (arith, t, e))
     go (y ∷ m) a i (inr k) = go m a.1 i k
 
--- some open places in order, all below the one that is looked at next, no more than are wanted
+-- the number behind the last one, where there is such
+pub before_behind : {E : Type 0} (l m : List ℕ) (x : ℕ) (r : Result ℕ E) → l ≡ m ++ x ∷ [] → IsAscending l → IfOk r (λ n. n ≡ x + 1) → IfOk r (λ n. (i : ℕ) → IsIn i l → i < n)
+before_behind l m x (Ok n) e a f = before_last l m x n e a f
+before_behind l m x (Err w) e a f = tt
+
 pub record OpenSoFar (P : ℕ → Type 0) (old list : List ℕ) (count next : ℕ) : Type 0 where
   pub order : IsAscending list
   pub before : (i : ℕ) → IsIn i list → i < next

@@ -1,9 +1,6 @@
 use Rattle.std.proofs.Common.{ℕ, List, [], Some, subst, ap, sym, ◌∙◌, length, drop, map, ◌≡◌, take, ◌++◌}
 use Rattle.list_laws.proofs.Cited.{front_is}
-use Rattle.point_order.specs.declared.cell.Cell.{Cell}
-use Rattle.point_order.specs.Sets.{IsAscending}
 use Rattle.cell_stars.specs.AtOnce.{AreKeyed, AreNumberedTo, FromCellHere, GainsPlaces, HaveKeys, StandsAtHere}
-use Rattle.cell_stars.specs.Gathering.{Gathers}
 use Rattle.cell_stars.specs.Places.{AreStars, Placed}
 use Rattle.cell_stars.proofs.AtOnce.{all_keyed, are_stars, bare_keyed, cells_are}
 use Rattle.cell_stars.proofs.cells.Cells.of_cells.Goals as goal
