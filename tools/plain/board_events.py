@@ -1,10 +1,10 @@
-"""Makes the boards and events that `tools/make scenes` puts into the input of the program `table_scenes`, and the text that is to be
-printed, from the definitions alone.
+"""Makes the boards and events that `tools/make scenes` puts among the scenes, and the text that is to be printed, from the
+definitions alone.
 
-The model below was written from docs/DEFINITIONS.md and not from the code: a board, what each event makes of it, and when it is good.
-It tries all quadruples and triples of points for a complex. After every event it looks whether the board is good, and after each pair of
-commits by two passes whether they commute. The first three boards are worked by hand; the others are drawn, with few points, many of
-them at the borders of buckets.
+The model below was written from docs/DEFINITIONS.md and not from the code: a board, what each event makes of it, and
+when it is good. A complex is that of the plain program of `tools/try random`. After every event it looks whether the
+board is good, and after each pair of commits by two passes whether they commute. The first three boards are worked by
+hand; the others are drawn, with few points, many of them at the borders of buckets.
 
 usage: tools/make boards [BOARDS] [SEED]   (24 1)
 prints each line with its answer below it, and what was played
@@ -12,77 +12,9 @@ prints each line with its answer below it, and what was played
 import copy
 import random
 import sys
-from itertools import combinations
 
-
-# ---- points and complexes
-
-def key(p):
-    return p[0] * 2**28 + p[1] * 2**14 + p[2]
-
-
-def minus(a, b):
-    return tuple(x - y for x, y in zip(a, b))
-
-
-def dot(u, v):
-    return sum(x * y for x, y in zip(u, v))
-
-
-def cross(u, v):
-    return (u[1] * v[2] - u[2] * v[1], u[2] * v[0] - u[0] * v[2], u[0] * v[1] - u[1] * v[0])
-
-
-def orientation(a, b, c, d):
-    return dot(minus(b, a), cross(minus(c, a), minus(d, a)))
-
-
-def sign(x):
-    return (x > 0) - (x < 0)
-
-
-def out(a, b, c, d, e):
-    """The sign of the lifted determinant, with heights raised a little, the greater a point the more."""
-    terms = [(e, orientation(a, b, c, d)), (d, -orientation(a, b, c, e)), (c, orientation(a, b, d, e)),
-             (b, -orientation(a, c, d, e)), (a, orientation(b, c, d, e))]
-    plain = sum(dot(p, p) * k for p, k in terms)
-    if plain:
-        return sign(plain)
-    return next((sign(k) for p, k in sorted(terms, key=lambda t: -key(t[0])) if k), 0)
-
-
-def is_solid(points):
-    return any(orientation(*four) for four in combinations(points, 4))
-
-
-def is_full(points, four):
-    turn = sign(orientation(*four))
-    return turn and all(turn * out(*four, e) > 0 for e in points if e not in four)
-
-
-def is_open(points, three):
-    a, b, c = three
-    if cross(minus(b, a), minus(c, a)) == (0, 0, 0):
-        return False
-    for x, y, z in ((a, b, c), (a, c, b)):
-        sides = [(e, orientation(x, y, z, e)) for e in points]
-        mate = next((e for e, side in sides if side > 0), None)
-        if mate is not None and all(side >= 0 for _, side in sides):
-            return all(out(x, y, z, mate, e) > 0 for e, side in sides if side == 0 and e not in three)
-    return False
-
-
-KNOWN = {}
-
-
-def cells_of(points):
-    """The complex of a set in order, as a set of point tuples: four for a Full cell, three for an Open one."""
-    points = tuple(sorted(points, key=key))
-    if points not in KNOWN:
-        KNOWN[points] = ([q for q in combinations(points, 4) if is_full(points, q)]
-                         + [t for t in combinations(points, 3) if is_open(points, t)])
-    return KNOWN[points]
-
+from plain.case_words import FOUR, bucket_of, cells_of
+from plain.random_cases import is_solid
 
 # ---- edits and histories
 
@@ -107,11 +39,11 @@ def reply_to(points, edit):
 def after(points, edit):
     reply = reply_to(points, edit)
     if reply == 'Inserted':
-        return sorted(points + [edit[1]], key=key)
+        return sorted(points + [edit[1]])
     if reply == 'Removed':
         return without(points, edit[1])
     if reply == 'Moved':
-        return sorted(without(points + [edit[2]], edit[1]), key=key)
+        return sorted(without(points + [edit[2]], edit[1]))
     return points
 
 
@@ -127,11 +59,6 @@ def with_entry(history, by, tag, edit):
 
 
 # ---- buckets
-
-def bucket_of(grid, p):
-    x, y, z = (c * grid // 16384 for c in p)
-    return x * grid * grid + y * grid + z
-
 
 def gone_with(points, p):
     """The cells that a new point takes away."""
@@ -263,7 +190,6 @@ def check_commuting(board, history, event, board1, history1, edits):
 
 # ---- the lists
 
-FOUR = [(0, 0, 0), (2, 0, 0), (0, 2, 0), (0, 0, 2)]
 CORNERS = [(0, 0, 0), (16383, 0, 0), (0, 16383, 0), (0, 0, 16383)]
 MIDDLE, NEAR, FAR = (1, 1, 1), (5, 5, 5), (9000, 9000, 9000)
 

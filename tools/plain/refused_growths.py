@@ -3,11 +3,11 @@
 A small library stands before the C library's allocator and refuses the Nth call for memory, for N of 1, 2, .. until a
 run meets no refusal. A run is right where it ends as the undisturbed one, byte for byte, or with status 1, the line
 `delaunay: out of memory` on standard error, and nothing on standard output. Then the same with the scenes of one
-thread's passes of `table_scenes` and with the meshes of `worked_cases` whose points move, which make a refused call of
-the table or edit of the mesh once more: it is right where it ends as the undisturbed one, or with another status than 0
-and a front of its output. The last line is 'N passed, M failed'. Needs a C compiler. By hand, not part of the gate.
+thread's passes and the meshes whose points move of `worked_cases`, which makes a refused call of the table or edit of
+the mesh once more: it is right where it ends as the undisturbed one, or with another status than 0 and a front of its
+output. The last line is 'N passed, M failed'. Needs a C compiler. By hand, not part of the gate.
 
-usage: tools/try memory [PROGRAM [SCENES [CASES]]]
+usage: tools/try memory [PROGRAM [CASES]]
 """
 import os
 import re
@@ -102,9 +102,9 @@ def ends_early(usual, status, out, err):
     return (status, told, err) == (usual[0], whole, usual[2]) or (status != 0 and whole.startswith(told))
 
 
-def lines_of(name, begin, has=b''):
-    """The lines of a program's input that begin so and have these bytes, a run each."""
-    with open(os.path.join(TOP, 'crates', name, 'stdin'), 'rb') as file:
+def lines_of(begin, has=b''):
+    """The lines of the cases that begin so and have these bytes, a run each."""
+    with open(os.path.join(TOP, 'crates/worked_cases/stdin'), 'rb') as file:
         return [line for line in file if line.startswith(begin) and has in line]
 
 
@@ -124,10 +124,8 @@ def walk(program, words, given, shim, is_right=is_right):
 
 
 def main():
-    built = [os.path.join(TOP, 'crates', name, 'out', name) for name in ('delaunay', 'table_scenes', 'worked_cases')]
-    program, table, cases = (os.path.realpath(path) for path in (sys.argv[1:] + built[len(sys.argv) - 1:])[:3])
-    lines = [(table, line) for line in lines_of('table_scenes', b'passes ')]
-    lines += [(cases, line) for line in lines_of('worked_cases', b'mesh 4;', b'=')]
+    built = [os.path.join(TOP, 'crates', name, 'out', name) for name in ('delaunay', 'worked_cases')]
+    program, cases = (os.path.realpath(path) for path in (sys.argv[1:] + built[len(sys.argv) - 1:])[:2])
     met = failed = 0
     with tempfile.TemporaryDirectory() as room:
         source, shim = os.path.join(room, 'shim.c'), os.path.join(room, 'shim.so')
@@ -138,8 +136,8 @@ def main():
             refusals, wrong, _ = walk(program, words, given, shim)
             print(f'{" ".join(words)}: {refusals} refusals met, {wrong} wrong answers')
             met, failed = met + refusals, failed + wrong
-        for one, line in lines:
-            refusals, wrong, whole = walk(one, [], line, shim, ends_early)
+        for line in lines_of(b'passes ') + lines_of(b'mesh 4;', b'='):
+            refusals, wrong, whole = walk(cases, [], line, shim, ends_early)
             name = line.split(b';')[0].decode()
             print(f'{name}: {refusals} refusals met, {whole} with the whole output, {wrong} wrong answers')
             met, failed = met + refusals, failed + wrong

@@ -1,9 +1,10 @@
-"""Makes the runs that `tools/make scenes` puts into the input of the program `table_scenes`, and the text that is to be printed, from the
-definitions and formats alone.
+"""Makes the runs that `tools/make scenes` puts among the scenes, and the text that is to be printed, from the definitions
+and formats alone.
 
-A run's status goes by docs/FORMATS.md, and its fault by the model of `tools/make files`; its text is that of the plain program of
-`tools/try random`, which tries all quadruples and triples. An end gives or takes so many bytes a call, so the numbers of its
-calls, and what it has taken before one of them fails, are counted. The program reads 4,096 bytes at a time.
+A run's status goes by docs/FORMATS.md, and its fault by the model of `tools/make files`; its text is that of the plain
+program of `tools/try random`, which tries all quadruples and triples. An end gives or takes so many bytes a call, so
+the numbers of its calls, and what it has taken before one of them fails, are counted. The program reads 4,096 bytes at
+a time.
 
 usage: tools/make runs
 prints each run with its answer below it
@@ -11,11 +12,11 @@ prints each run with its answer below it
 from plain import file_cases as files
 from plain import mesh_cases as meshes
 from plain import random_cases as plain
+from plain.case_words import FOUR, named
 
 PAGE, LIMIT = 4096, 16_777_216
 LINES = {0: '', 2: 'usage', 3: 'read fault', 4: 'write fault', 6: 'no four independent points', 7: 'input too long',
          10: 'bad mesh'}
-FOUR = [(0, 0, 0), (2, 0, 0), (0, 2, 0), (0, 0, 2)]
 TETRAHEDRON = plain.text_of(FOUR, [], [])
 REPORT = plain.report(FOUR, [], [], range(4), False)
 
@@ -196,12 +197,7 @@ def all_cases():
 
 def all_lines():
     """Each line of the input with its answer; a name is its own."""
-    last = None
-    for name, (line, answer) in all_cases():
-        if name != last:
-            yield f'# {name}', f'# {name}'
-        last = name
-        yield line, answer
+    return named(all_cases())
 
 
 if __name__ == '__main__':

@@ -1,33 +1,24 @@
-"""Makes the input of the program `table_scenes`, and the text that it is to print, from the definitions alone.
+"""Makes the scenes that `tools/make cases` puts into the input of the program `worked_cases`, and the text that is to be
+printed, from the definitions alone.
 
-A model of a table and its passes, written from docs/DEFINITIONS.md and not from the code, says what each scene comes to: which edit meets
-which bucket, the numbers and the replies, what is left over, and the lists that are dealt. Cells and touched buckets are found by the plain
-program of `tools/try random`, by trial of all quadruples and triples. Boards come from `tools/make boards`, runs of the top call from
-`tools/make runs`.
+A model of a table and its passes, written from docs/DEFINITIONS.md and not from the code, says what each scene comes
+to: which edit meets which bucket, the numbers and the replies, what is left over, and the lists that are dealt. Cells
+and touched buckets are found by the plain program of `tools/try random`, by trial of all quadruples and triples. Boards
+come from `tools/make boards`, runs of the top call from `tools/make runs`.
 
 usage: tools/make scenes
-writes crates/table_scenes/stdin and crates/table_scenes/stdout
+prints each line with its answer below it
 """
-import os
 import random
 
 from plain import board_events as boards, random_cases as plain, run_cases as runs
+from plain.case_words import FOUR, bucket_of, cells_of, named, word, words
 
-TOP = os.path.join(os.path.dirname(os.path.realpath(__file__)), '../..')
-FOUR = [(0, 0, 0), (2, 0, 0), (0, 2, 0), (0, 0, 2)]
 FIRST = [(100, 100, 100), (100, 100, 120), (100, 120, 100), (120, 100, 100)]
 EIGHT = [(x, y, z) for x in (100, 120) for y in (100, 120) for z in (100, 120)]
 FAR = [(x, y, z) for x in (16000, 16020) for y in (16000, 16020) for z in (16000, 16020)]
 SIXTEEN = FIRST + [p for p in EIGHT if p not in FIRST] + FAR
 NEAR, BESIDE, AWAY = (110, 110, 110), (105, 105, 105), (16010, 16010, 16010)
-
-
-def word(p):
-    return ','.join(map(str, p))
-
-
-def words(points):
-    return ' '.join(map(word, points))
 
 
 def pair_word(pair):
@@ -38,16 +29,6 @@ def pair_word(pair):
 
 def pair_words(pairs):
     return ' '.join(map(pair_word, pairs))
-
-
-def bucket_of(grid, p):
-    x, y, z = (c // (16384 // grid) for c in p)
-    return (x * grid + y) * grid + z
-
-
-def cells_of(points):
-    points = sorted(points)
-    return [*plain.full_cells(points), *plain.open_cells(points)]
 
 
 def lost(points, adds, p):
@@ -388,22 +369,10 @@ def all_lines():
     """Each line of the input with its answer; a name is its own."""
     yield ('# boards',) * 2
     yield from boards.played()[0]
-    last = None
-    for name, scene in all_scenes():
-        if name != last:
-            yield f'# {name}', f'# {name}'
-        last = name
-        yield scene
+    yield from named(all_scenes())
     yield from runs.all_lines()
 
 
-def main():
-    asked, told = zip(*all_lines())
-    for name, lines in (('stdin', asked), ('stdout', told)):
-        with open(os.path.join(TOP, 'crates/table_scenes', name), 'w', encoding='utf-8') as file:
-            file.write('\n'.join([*lines, '']))
-    print(f'{len(asked)} lines')
-
-
 if __name__ == '__main__':
-    main()
+    for asked, told in all_lines():
+        print(asked, told, sep='\n')

@@ -4,7 +4,7 @@ What a mesh, its faces, a bucket and a refill are to say is found by the plain p
 was written from the definitions and not from the code, and tries all quadruples and triples. Edits are played on
 sets of points, moves among them. The cases of walks were worked by hand, and some of texts. Those of the lowest
 layers are made by `tools/make layers`, those of edit files of all versions by `tools/make files`, and those of meshes
-that are read and checked by `tools/make meshes`.
+that are read and checked by `tools/make meshes`, and scenes of boards, tables and runs by `tools/make scenes`.
 
 usage: tools/make cases
 writes crates/worked_cases/stdin and crates/worked_cases/stdout
@@ -20,9 +20,10 @@ import sys
 from itertools import combinations, islice
 
 from plain import file_cases as files, layer_cases as layers, mesh_cases as meshes, random_cases as plain
+from plain import table_scenes as scenes
+from plain.case_words import FOUR, bucket_of, cells_of, named, word, words
 
 TOP = os.path.join(os.path.dirname(os.path.realpath(__file__)), '../..')
-FOUR = [(0, 0, 0), (2, 0, 0), (0, 2, 0), (0, 0, 2)]
 CUBE = [(x, y, z) for x in (0, 2) for y in (0, 2) for z in (0, 2)]
 INNER = [*FOUR, (1, 1, 1)]
 CORNERS = [*FOUR, (2, 2, 2)]
@@ -30,14 +31,6 @@ TENT = [(0, 0, 0), (2, 0, 0), (0, 2, 0), (2, 2, 0), (1, 1, 2)]
 APART = [(0, 0, 0), (0, 0, 9000), (0, 9000, 0), (9000, 0, 0)]
 AROUND = [*APART, (100, 100, 100)]
 LETTERS = {'Inserted': 'I', 'Duplicate': 'D', 'Removed': 'R', 'Missing': 'M', 'Flat': 'F', 'Moved': 'V', 'Occupied': 'O'}
-
-
-def word(p):
-    return ','.join(map(str, p))
-
-
-def words(points):
-    return ' '.join(map(word, points))
 
 
 def move(a, b):
@@ -53,20 +46,6 @@ def edit_word(edit):
 
 def places(points, cell):
     return '-'.join(str(points.index(p)) for p in cell)
-
-
-def side(grid):
-    return 16384 // grid
-
-
-def bucket_of(grid, p):
-    x, y, z = (c // side(grid) for c in p)
-    return (x * grid + y) * grid + z
-
-
-def cells_of(points):
-    """The cells in their order: the Full ones, and then the Open ones."""
-    return [*plain.full_cells(points), *plain.open_cells(points)]
 
 
 def cell_words(cell):
@@ -406,18 +385,8 @@ def all_cases():
 
 
 def main():
-    asked, told, last = [], [], None
-    for line, answer in (*layers.all_lines(), *meshes.all_lines()):
-        asked.append(line)
-        told.append(answer)
-    for name, case in all_cases():
-        line, answer = case
-        if name != last:
-            asked.append(f'# {name}')
-            told.append(f'# {name}')
-        last = name
-        asked.append(line)
-        told.append(answer)
+    lines = (*layers.all_lines(), *meshes.all_lines(), *named(all_cases()), *scenes.all_lines())
+    asked, told = zip(*lines)
     for name, lines in (('stdin', asked), ('stdout', told)):
         with open(os.path.join(TOP, 'crates/worked_cases', name), 'w', encoding='utf-8') as file:
             file.write('\n'.join([*lines, '']))

@@ -28,13 +28,20 @@ pub fn sum_of_products(ux: i64, uy: i64, uz: i64, vx: i64, vy: i64, vz: i64) -> 
     ux * vx + uy * vy + uz * vz
 }
 
+// `x * y`, for which 128 bits are enough.
+fn product_of(x: i64, y: i64) -> i128
+    ensures { result ≡ x *ℤ y }
+{
+    x as i128 * y as i128
+}
+
 /// `x * x`, below 2^121.
 pub fn square(x: i64) -> i128
     requires { IsWithin greatest_scalar x }
     ensures value { result ≡ x *ℤ x }
     ensures bound { IsWithin greatest_square_of_scalar result }
 {
-    x as i128 * x as i128
+    product_of(x, x)
 }
 
 /// `p + q + r`, below 2^122.
@@ -55,7 +62,7 @@ pub fn product(p: i64, q: i64) -> i128
     ensures value { result ≡ p *ℤ q }
     ensures bound { IsWithin greatest_product_of_sides result }
 {
-    p as i128 * q as i128
+    product_of(p, q)
 }
 
 /// A square of a distance times a scalar product, below 2^90.
@@ -65,7 +72,7 @@ pub fn term(square: i64, scalar: i64) -> i128
     ensures value { result ≡ square *ℤ scalar }
     ensures bound { IsWithin greatest_power_term result }
 {
-    square as i128 * scalar as i128
+    product_of(square, scalar)
 }
 
 /// `p - q - r`, below 2^92.
@@ -117,7 +124,7 @@ pub fn square_of_orientation(orientation: i64) -> i128
     ensures value { result ≡ orientation *ℤ orientation }
     ensures bound { IsWithin greatest_square_of_orientation result }
 {
-    orientation as i128 * orientation as i128
+    product_of(orientation, orientation)
 }
 
 /// `O^2 alpha`, where `O^2` is the square of an orientation, below 2^124.

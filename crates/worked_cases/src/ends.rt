@@ -12,14 +12,25 @@ use std::alloc::Global;
 use std::fs::Files;
 use std::io;
 
-// How many bytes an end has room for, how many it takes at once, and which of its calls fail, where numbers say so.
+// How many bytes an end gives or takes at once, and which of its calls fail, where numbers say so.
+pub(crate) fn steps_of(numbers: &[u64]) -> Option<(usize, &[u64])>
+    ensures { IfSome result (λ end. 0 < end.0) }
+{
+    match numbers {
+        [step, fails @ ..] if *step > 0 => Some((*step as usize, fails)),
+        _ => None,
+    }
+}
+
+// How many bytes an end has room for, and the same.
 pub(crate) fn end_of(numbers: &[u64]) -> Option<(usize, usize, &[u64])>
     ensures { IfSome result (λ end. 0 < end.1) }
 {
-    match numbers {
-        [room, step, fails @ ..] if *step > 0 => Some((*room as usize, *step as usize, fails)),
-        _ => None,
-    }
+    let [room, others @ ..] = numbers else {
+        return None;
+    };
+    let (step, fails) = steps_of(others)?;
+    Some((*room as usize, step, fails))
 }
 
 // Where a reading ended.

@@ -1,9 +1,9 @@
 //! The texts of edit files. In a case a bar stands for a line feed, and a tilde for a carriage return.
 
-use crate::reading::{at, list_at};
+use crate::reading::{at, list_at, number_at};
 use crate::telling::{Answer, put_made};
 use edit_files::{File, ReadRefused, file_text, generate, read_file};
-use std::alloc::Global;
+use std::alloc::{AllocError, Global};
 
 // Puts a part of a case behind others, but for the blank at its front, its bars and tildes turned.
 pub(crate) fn put_part(file: &mut Answer, lists: &str, place: usize) {
@@ -35,15 +35,21 @@ fn put_file(alloc: Global, answer: &mut Answer, file: &File) {
     }
 }
 
+// The text whose front is the part at a place, whose middle the next one, standing there as often as the first list
+// says, and whose end the one behind that.
+pub(crate) fn text_of(alloc: Global, lists: &str, front: usize) -> Result<String, AllocError> {
+    let mut text = Answer::new(alloc);
+    put_part(&mut text, lists, front);
+    for _ in 0..number_at(list_at(lists, 0), 0) {
+        put_part(&mut text, lists, front.saturating_add(1));
+    }
+    put_part(&mut text, lists, front.saturating_add(2));
+    text.whole()
+}
+
 /// Answers a case of a text: its front, and what follows so many times, and its end.
 pub(crate) fn read(alloc: Global, answer: &mut Answer, lists: &str) -> Option<()> {
-    let mut text = Answer::new(alloc);
-    put_part(&mut text, lists, 1);
-    for _ in 0..at(list_at(lists, 0), 0).unwrap_or(0u64) {
-        put_part(&mut text, lists, 2);
-    }
-    put_part(&mut text, lists, 3);
-    let text = answer.got(text.whole())?;
+    let text = answer.got(text_of(alloc, lists, 1))?;
     match read_file(alloc, text.as_bytes()) {
         Ok(file) => put_file(alloc, answer, &file),
         Err(ReadRefused::Bad(fault)) => write!(answer, "line {}: {:?}", fault.line, fault.why),

@@ -1,6 +1,6 @@
 //! Meshes of points, and what edits make of them.
 
-ghost use Rattle.std.specs.Prelude.{ℕ, List};
+ghost use Rattle.std.specs.Prelude.{◌≤◌, ℕ, IfSome, List, length};
 ghost use Rattle.cell_store.specs.Shares.{Shows};
 
 use crate::reading::{at, list_at};
@@ -11,14 +11,22 @@ use one_mesh::{apply, begin, begin_cloud, complex, history, opening_points, poin
 use point_order::Point;
 use std::alloc::Global;
 
+// The most entries with which a case begins.
+const MOST: u64 = 1024;
+
 // The tag of the line at a place.
 fn tag_of(place: usize) -> u32 {
     u32::try_from(place).unwrap_or(u32::MAX)
 }
 
-// The mesh of the first four independent points, if there are four.
-fn mesh_of_four(alloc: Global, answer: &mut Answer, grid: Grid, points: &[Point]) -> Option<Mesh> {
-    if points.len() > 4_294_967_296 {
+// The mesh of the first four independent points, if there are four, of so many points at most.
+pub(crate) fn mesh_of_four(
+    alloc: Global,
+    answer: &mut Answer,
+    grid: Grid,
+    points: &[Point],
+) -> Option<Mesh> {
+    if points.len() as u64 > MOST {
         return None;
     }
     match opening_points(points) {
@@ -32,7 +40,7 @@ fn mesh_of_four(alloc: Global, answer: &mut Answer, grid: Grid, points: &[Point]
 
 // Makes an edit, where the history is not too long for it, and once more where memory was wanting.
 fn edit(alloc: Global, answer: &mut Answer, mesh: &mut Mesh, place: usize, edit: Edit) {
-    if mesh.count() < 4_294_967_296 {
+    if mesh.count() < MOST {
         let again = edit;
         if apply(alloc, mesh, tag_of(place), again).is_err()
             && apply(alloc, mesh, tag_of(place), edit).is_err()
@@ -53,14 +61,17 @@ pub(crate) fn grid_of(answer: &mut Answer, lists: &str) -> Option<Grid> {
     }
 }
 
-// The mesh on that grid of the points of the second list, the first four independent ones first, and of the edits of
-// the third one, which has none where it names buckets; no mesh where no four are.
-pub(crate) fn mesh_of(alloc: Global, answer: &mut Answer, lists: &str) -> Option<Mesh> {
-    let grid = grid_of(answer, lists)?;
-    let points: Vec<Point> = answer.all(list_at(lists, 1));
-    let edits: Vec<Edit> = answer.all(list_at(lists, 2));
-    let mut mesh = mesh_of_four(alloc, answer, grid, &points)?;
-    let Ok(four) = find_four(&points) else {
+// The mesh of points, the first four independent ones first; none where no four are, or there are too many.
+pub(crate) fn mesh_of_points(
+    alloc: Global,
+    answer: &mut Answer,
+    grid: Grid,
+    points: &[Point],
+) -> Option<Mesh>
+    ensures { IfSome result (λ mesh. length mesh.history ≤ 1024) }
+{
+    let mut mesh = mesh_of_four(alloc, answer, grid, points)?;
+    let Ok(four) = find_four(points) else {
         return None;
     };
     for (place, p) in points.iter().enumerate() {
@@ -68,6 +79,19 @@ pub(crate) fn mesh_of(alloc: Global, answer: &mut Answer, lists: &str) -> Option
             edit(alloc, answer, &mut mesh, place, Edit::Add(*p));
         }
     }
+    if mesh.count() > MOST {
+        return None;
+    }
+    Some(mesh)
+}
+
+// The mesh on the grid of the first list of the points of the second one and of the edits of the third one, which has
+// none where it names buckets.
+pub(crate) fn mesh_of(alloc: Global, answer: &mut Answer, lists: &str) -> Option<Mesh> {
+    let grid = grid_of(answer, lists)?;
+    let points: Vec<Point> = answer.all(list_at(lists, 1));
+    let edits: Vec<Edit> = answer.all(list_at(lists, 2));
+    let mut mesh = mesh_of_points(alloc, answer, grid, &points)?;
     edit_all(alloc, answer, &mut mesh, points.len(), &edits);
     Some(mesh)
 }
@@ -88,7 +112,7 @@ fn begun_of(alloc: Global, answer: &mut Answer, lists: &str) -> Option<Mesh> {
         answer.put("no four independent points");
         return None;
     };
-    if points.len() > 4_294_967_296 {
+    if points.len() as u64 > MOST {
         return None;
     }
     let mut mesh = answer.got(begin_cloud(alloc, grid, &points, four))?;

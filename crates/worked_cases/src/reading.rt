@@ -31,19 +31,35 @@ impl Word for Point {
     }
 }
 
-// An edit is a point behind `+` or `-`, or behind `=` a place and, behind `>`, where its point moves.
+// What stands before the sign of an edit, and the edit: behind `+` or `-` its point, or behind `=` a place and, behind
+// `>`, where its point moves.
+fn edit_of(word: &str) -> Option<(&str, Edit)> {
+    let sign = word.chars().find(|c| matches!(c, '+' | '-' | '='))?;
+    let (tag, places) = word.split_once(sign)?;
+    let edit = match sign {
+        '+' => Edit::Add(Point::of(places)?),
+        '-' => Edit::Take(Point::of(places)?),
+        _ => {
+            let (from, to) = places.split_once('>')?;
+            Edit::Move(Point::of(from)?, Point::of(to)?)
+        }
+    };
+    Some((tag, edit))
+}
+
+// An edit, with a tag before it or without.
 impl Word for Edit {
     fn of(word: &str) -> Option<Edit> {
-        if let Some(added) = word.strip_prefix('+') {
-            return Point::of(added).map(Edit::Add);
-        }
-        match word.strip_prefix('=') {
-            Some(places) => {
-                let (from, to) = places.split_once('>')?;
-                Some(Edit::Move(Point::of(from)?, Point::of(to)?))
-            }
-            None => Point::of(word.strip_prefix('-')?).map(Edit::Take),
-        }
+        let (_, edit) = edit_of(word)?;
+        Some(edit)
+    }
+}
+
+// An edit and its tag.
+impl Word for (u32, Edit) {
+    fn of(word: &str) -> Option<(u32, Edit)> {
+        let (tag, edit) = edit_of(word)?;
+        Some((tag.parse::<u32>().ok()?, edit))
     }
 }
 
@@ -100,6 +116,17 @@ pub(crate) fn coordinates_of(words: &str, mark: char) -> Option<(i64, i64, i64)>
 // The list at a place of lists behind semicolons, without the blanks at its ends; an empty one where there are fewer.
 pub(crate) fn list_at(lists: &str, place: usize) -> &str {
     lists.split(';').nth(place).unwrap_or("").trim()
+}
+
+// The number at a place of a list of words; 0 where there is none.
+pub(crate) fn number_at(words: &str, place: usize) -> u32 {
+    at(words, place).unwrap_or(0)
+}
+
+// The two numbers of the list at a place of lists.
+pub(crate) fn numbers_at(lists: &str, place: usize) -> (u32, u32) {
+    let words = list_at(lists, place);
+    (number_at(words, 0), number_at(words, 1))
 }
 
 // What the word at a place of a list tells of.

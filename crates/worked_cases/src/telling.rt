@@ -35,6 +35,14 @@ impl Answer {
         self.write_fmt(word);
     }
 
+    // Puts what was put elsewhere.
+    pub(crate) fn put_answer(&mut self, other: Answer) {
+        match other.whole() {
+            Ok(text) => self.put(text),
+            Err(_) => self.fail(),
+        }
+    }
+
     // Memory was wanting.
     pub(crate) fn fail(&mut self) {
         self.grown = Err(AllocError);

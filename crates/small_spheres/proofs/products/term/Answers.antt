@@ -1,33 +1,11 @@
-use Rattle.whole_ring.proofs.Cited.{
-  fits_128,
-  fits_as,
-  product_fits_128,
-  read,
-  read_as,
-  same_product,
-  wide,
-  within_as,
-  within_mul,
-}
+use Rattle.std.proofs.Common.{◌∙◌}
+use Rattle.whole_ring.proofs.Cited.{product_fits_128, read, read_as, same_product, within_as, within_mul}
 use Rattle.small_spheres.proofs.products.term.Goals as goal
-
-pub overflow_cast-result : goal.overflow_cast-result
-overflow_cast-result c = fits_as (read c.ranges.square) (fits_128 c.ranges.square)
-
-pub overflow_cast-result-2 : goal.overflow_cast-result-2
-overflow_cast-result-2 c = fits_as (read c.ranges.scalar) (fits_128 c.ranges.scalar)
-
-pub overflow_mul-result : goal.overflow_mul-result
-overflow_mul-result c =
-    fits_as
-    (same_product (wide c.ranges.square) (wide c.ranges.scalar))
-    (product_fits_128 c.ranges.square c.ranges.scalar)
 
 pub returns-clause-value : goal.returns-clause-value
 returns-clause-value c =
-    read_as
-    (same_product (wide c.ranges.square) (wide c.ranges.scalar))
-    (product_fits_128 c.ranges.square c.ranges.scalar)
+    let r = c.ranges in
+    read_as (c.product_of.ensures ∙ same_product (read r.square) (read r.scalar)) (product_fits_128 r.square r.scalar)
 
 pub returns-clause-bound : goal.returns-clause-bound
 returns-clause-bound c = within_as (returns-clause-value c) (within_mul c.requires.square c.requires.scalar)

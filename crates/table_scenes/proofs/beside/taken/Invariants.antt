@@ -1,5 +1,0 @@
-use Rattle.grid_claims.specs.Tries.{IsStill}
-use Rattle.table_scenes.proofs.beside.taken.Given as goal
-
-abbrev pub invariant-loop : goal.invariant-loop
-invariant-loop l = IsStill l.initial.pass l.pass
