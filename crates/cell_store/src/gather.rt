@@ -43,8 +43,8 @@ impl Hold {
         Ok(cells_in_order(cells))
     }
 
-    /// The same of a hold that is given away: each bucket is let go when its cells are read, so that mesh and list never
-    /// stand in memory whole beside each other.
+    /// The same of a hold that is given away: each bucket is let go when its cells are read, so that never all buckets
+    /// and the whole list stand in memory beside each other.
     ///
     /// # Errors
     /// Want of memory.
