@@ -86,8 +86,8 @@ IsTriedOrWaits one before kept old new =
 
 -- ---- all pairs
 
--- Each pair of the list was made or waits, once. Where pairs of one point stand by their tags in the list, they do so in
--- those made with those that wait behind them. Each failed claim is one more try of a pair, which has 64 at most; a
+-- Each pair of the list was made or waits, once. Where pairs of one point stand by their tags in the list, they do so
+-- in those made with those that wait behind them. Each failed claim is one more try of a pair, which has 64 at most; a
 -- pass that owns all parts makes the pairs as they stand.
 pub record AreMadeOrWait (list waiting : List Waiting) (old new : Standing) : Type 0 where
   pub made : List Pair

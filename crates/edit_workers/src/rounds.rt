@@ -42,8 +42,8 @@ fn some_shares(waiting: &[Waiting], edit: &Edit) -> bool
     waiting.iter().any(|one| share_a_point(&one.pair.1, edit))
 }
 
-// Tries a pair once. It waits where it was busy; and untried where it was busy 64 times, or where it shares a point with
-// one that waits.
+// Tries a pair once. It waits where it was busy; and untried where it was busy 64 times, or where it shares a point
+// with one that waits.
 fn try_or_wait<G: Gate>(
     alloc: Global,
     table: &MeshTable,

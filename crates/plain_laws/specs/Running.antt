@@ -146,7 +146,8 @@ edit_lines points edits = enumerate_from (length points) edits
 abbrev pub dealt_lines : ℕ → List Pair → List (List (List Pair))
 dealt_lines n lines = map (dealt_out n) (segments lines)
 
--- the history of one thread of a file's points and runs of its dealt edit lines keep the file, for any number of workers
+-- the history of one thread of a file's points and runs of its dealt edit lines keep the file, for any number of
+-- workers
 abbrev pub RunBehindKeeps : Type 0
 RunBehindKeeps =
     (points : List ℕ) (edits : List Edit) (workers : ℕ) (four : Four) (run : List Entry) →
