@@ -16,8 +16,9 @@ use cell_store::{Hold, Spot};
 use point_order::{Facet, Point};
 use std::alloc::{AllocError, Global};
 
-// Crosses a facet of a found cell, which has this number. The cell behind it goes, and is found, or it stays, and the facet is one of the rim.
-// A cell that was judged is not judged again, and that beside which this one was found is not looked for.
+// Crosses a facet of a found cell, which has this number. The cell behind it goes, and is found, or it stays, and the
+// facet is one of the rim. A cell that was judged is not judged again, and that beside which this one was found is not
+// looked for.
 fn cross(
     alloc: Global,
     point: Point,

@@ -94,8 +94,8 @@ fn upper(number: u64) -> u32 {
     (number >> 32) as u32
 }
 
-// Numbers for the facets of the cell, in their order: the upper halves of the sums of those of their points. A facet has
-// the same number in both of its cells, and hardly another has it.
+// Numbers for the facets of the cell, in their order: the upper halves of the sums of those of their points. A facet
+// has the same number in both of its cells, and hardly another has it.
 fn facets_of(cell: &Cell) -> [u32; 4] {
     match cell {
         Cell::Full(quad) => {

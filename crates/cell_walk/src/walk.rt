@@ -112,8 +112,8 @@ impl Walk {
         Start::Need(first_missing(hold, p))
     }
 
-    /// A walk to a new point from a cell at a point of the bucket with the number that lies near. The bucket is to be in
-    /// hand. Where the hold shows some set and the bucket has a point, there is such a walk.
+    /// A walk to a new point from a cell at a point of the bucket with the number that lies near. The bucket is to be
+    /// in hand. Where the hold shows some set and the bucket has a point, there is such a walk.
     ///
     /// Which points are looked at is not promised. It takes no memory.
     pub fn near(hold: &Hold, b: u32, p: Point) -> Option<Walk>

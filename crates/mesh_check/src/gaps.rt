@@ -137,8 +137,8 @@ fn key_at(cells: &[Quad], place: usize, other: u64) -> u64 {
     }
 }
 
-/// The least facet that is not one of exactly two cells, if there is one. The triples come first, those of some cells at
-/// a time.
+/// The least facet that is not one of exactly two cells, if there is one. The triples come first, those of some cells
+/// at a time.
 pub(crate) fn open_facet(
     alloc: Global,
     cells: &[Quad],

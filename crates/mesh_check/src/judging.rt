@@ -26,8 +26,8 @@ fn are_empty(cells: &[Quad], hull: &[Tri]) -> bool
 /// then by their facets.
 ///
 /// The complex is made of the points at once, where they are solid. Where the lists equal it, there is no flaw; else it
-/// is made once more as a list, and each cell that is none of it is tried against each point, up to the first that has a flaw. The facets are looked at
-/// part by part, so that those of all cells never stand in memory at once.
+/// is made once more as a list, and each cell that is none of it is tried against each point, up to the first that has
+/// a flaw. The facets are looked at part by part, so that those of all cells never stand in memory at once.
 ///
 /// The points are to ascend, and the cells and triples to stand in order, each once, with points of these.
 ///

@@ -4,7 +4,7 @@
 //!
 //! ```
 //! let mut mesh = begin(alloc, Grid::new(4)?, [(0, a), (1, b), (2, c), (3, d)])?;  // four independent points with tags
-//! let cloud = begin_cloud(alloc, Grid::new(4)?, &points, find_four(&points)?)?;   // all of them at once, by their places
+//! let cloud = begin_cloud(alloc, Grid::new(4)?, &points, find_four(&points)?)?;   // all at once, by their places
 //! let receipt = apply(alloc, &mut mesh, 4, Edit::Add(p))?;  // its number and its reply; less than 2^32 entries before
 //! let cells = complex(alloc, &mesh)?;                       // sorted
 //! ```
