@@ -26,7 +26,7 @@ use face_list::Faces;
 use std::alloc::{AllocError, Global};
 use std::thread::Threads;
 pub use steps::Thresholds;
-pub use texts::put_steps;
+pub use texts::{put_steps, text_room};
 pub use threshold::Threshold;
 
 // The least alphas at which some faces are admitted.
