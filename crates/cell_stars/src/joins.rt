@@ -197,7 +197,7 @@ pub(crate) fn join(
         moves,
         positions: &positions,
     };
-    let mut rim = Vec::with_capacity(alloc, moves.placed.len())?;
+    let mut rim = Vec::with_capacity(alloc, moves.placed.len().max(moves.freed.len()))?;
     joins.link_all(&mut rim, puts, joined)?;
     Ok(rim)
 }

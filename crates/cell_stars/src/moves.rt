@@ -145,7 +145,8 @@ fn likely_places(
 ) -> Result<Vec<u32>, AllocError>
     ensures { IfOk result (λ list. (i : ℕ) → IsIn i list.items → IsIn i freed.now ⊎ (at slots.now i ≡ None)) }
 {
-    let mut list = Vec::from_slice(alloc, freed)?;
+    let mut list = Vec::with_capacity(alloc, count.max(freed.len()))?;
+    list.extend_from_slice(freed)?;
     for i in free {
         if list.len() >= count {
             break;

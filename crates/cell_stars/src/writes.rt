@@ -52,6 +52,9 @@ use std::alloc::{AllocError, Global};
 // As many places come to a star as a rule: room for them is made at once.
 const MORE: usize = 6;
 
+// As many places as a star mostly has.
+const USUAL: usize = 28;
+
 // Whether no place is in the star with the number.
 fn is_spare(stars: &[Around], n: u32) -> bool
     ensures spare { IsTrue result → IsSpare stars.now n }
@@ -249,7 +252,7 @@ impl Cells {
             ↔ (IsStarred self.now.keys self.now.stars p i × (IsIn i freed.now → ⊥))) }
     {
         let own = places_in(&self.stars, n, p);
-        let mut list = Vec::with_capacity(alloc, own.len().saturating_add(MORE))?;
+        let mut list = Vec::with_capacity(alloc, own.len().saturating_add(MORE).max(USUAL))?;
         list.extend_from_slice(own)?;
         list.retain(|i| is_unmarked(freed, marks, *i));
         Ok(list)

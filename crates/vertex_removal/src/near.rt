@@ -18,13 +18,16 @@ use edit_history::find_four;
 use point_order::{Cell, Point, cells_in_order, points_in_order};
 use std::alloc::{AllocError, Global};
 
+// As many cells as a point mostly has at the most: room for them is made at once.
+const USUAL: usize = 40;
+
 // The cells at a point whose bucket is in hand, in ascending order.
 pub(crate) fn star_of(alloc: Global, hold: &Hold, v: Point) -> Result<Vec<Cell>, AllocError>
     requires { IsSome (bucket_at hold.now.places (bucket_of hold.now.grid v)) }
     ensures { IfOk result (λ star. (s : List ℕ) → Shows hold.now s →
         star.items ≡ filter (λ c. is_among v (points_of c)) (complex s)) }
 {
-    let mut star = Vec::new(alloc);
+    let mut star = Vec::with_capacity(alloc, USUAL)?;
     for cell in hold.cells_around(v) {
         star.push(*cell)?;
     }
@@ -35,7 +38,7 @@ pub(crate) fn star_of(alloc: Global, hold: &Hold, v: Point) -> Result<Vec<Cell>,
 fn all_points(alloc: Global, cells: &[Cell]) -> Result<Vec<Point>, AllocError>
     ensures { IfOk result (λ points. points.items ≡ flat_map points_of cells.now) }
 {
-    let mut points = Vec::new(alloc);
+    let mut points = Vec::with_capacity(alloc, cells.len().saturating_mul(4))?;
     for cell in cells {
         points.extend_from_slice(cell.points())?;
     }

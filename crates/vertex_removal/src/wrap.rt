@@ -69,7 +69,7 @@ fn triple_against(cell: &Cell, v: Point) -> Option<Facet>
 fn sides_of_hole(alloc: Global, star: &[Cell], v: Point) -> Result<Option<Vec<Side>>, AllocError>
     ensures { IfOk result (λ found. IfSome found (λ sides. AreSidesOf star.now v sides.items)) }
 {
-    let mut sides = Vec::with_capacity(alloc, star.len())?;
+    let mut sides = Vec::with_capacity(alloc, star.len().saturating_mul(2))?;
     for cell in star {
         match triple_against(cell, v) {
             Some(facet) => {
