@@ -17,7 +17,7 @@ use crate::made::{Made, Page};
 use crate::mesh_of_source::mesh_of_source;
 use crate::stop::Stop;
 use crate::task::{Asked, Making};
-use alpha_steps::{put_steps, thresholds};
+use alpha_steps::{put_steps, text_room, thresholds};
 use byte_ends::{Failed, Source};
 use face_list::faces;
 use grid_claims::Gate;
@@ -41,7 +41,7 @@ fn steps_text<R: Threads + Sync>(
 {
     let faces = faces(rt, alloc, cells)?;
     let list = thresholds(rt, alloc, &faces)?;
-    let mut text = WholeText::new(alloc);
+    let mut text = WholeText::with_room(alloc, text_room(&list))?;
     match put_steps(&mut text, &list) {
         Ok(()) => Ok(text.into_bytes()),
         Err(Failed) => Err(AllocError),

@@ -2,12 +2,14 @@
 
 ghost use Rattle.std.specs.Prelude.{◌≡◌, ◌<◌, ◌^◌, ◌↔◌, ℕ, length, IfOk, OnOk};
 ghost use Rattle.std.specs.List.Sorted.{IsStrictlySortedBy};
+ghost use Rattle.std.specs.Ordering.{nat_cmp};
 ghost use Rattle.std.proofs.lemmas.Map.Lookups.{CmpEqualImpliesEq};
 ghost use Rattle.point_order.specs.Sets.{IsIn};
 ghost use Rattle.face_list.specs.Faces.{parts_in, points_in, points_with_cells, with_cells};
 ghost use Rattle.face_list.specs.Gather.{AreAscending, AreItems, Gathers, item_cmp};
 ghost use Rattle.face_list.specs.Tables.{IsTable, table_seen};
 
+use crate::around::table_around;
 use crate::counts::number_of;
 use crate::face::Faces;
 use crate::gather::{keys_of_full, sorted, with_numbers};
@@ -40,31 +42,54 @@ fn point_table(alloc: Global, cells: &[Cell]) -> Result<Table<Point>, AllocError
     ensures faces { IfOk result (λ t. table_seen cells.now t ≡ points_with_cells (points_in cells.now) cells.now) }
     ensures table { IfOk result (λ t. IsTable (length cells.now) t) }
     ensures ascending { OnOk result (AreAscending cells.now) }
+    ensures order { IfOk result (λ t. IsStrictlySortedBy nat_cmp t.keys.items) }
 {
     let items = point_items(alloc, cells)?;
     gather(alloc, cells, items)
 }
 
-// The pairs inside Full cells, with the cells that have both points.
-fn pair_table(alloc: Global, cells: &[Cell]) -> Result<Table<Pair>, AllocError>
+/// The pairs inside Full cells, with the cells that have both points.
+pub fn pair_table(
+    alloc: Global,
+    cells: &[Cell],
+    points: &Table<Point>,
+) -> Result<Table<Pair>, AllocError>
     requires few { length cells.now < 2 ^ 32 }
     requires ascending { AreAscending cells.now }
+    requires points { IsTable (length cells.now) points.now }
+    requires order { IsStrictlySortedBy nat_cmp points.now.keys.items }
     ensures faces { IfOk result (λ t. table_seen cells.now t ≡ with_cells (parts_in 2 cells.now) cells.now) }
     ensures table { IfOk result (λ t. IsTable (length cells.now) t) }
 {
-    let items = pair_items(alloc, cells)?;
-    gather(alloc, cells, items)
+    match table_around(alloc, cells, points)? {
+        Some(table) => Ok(table),
+        None => {
+            let items = pair_items(alloc, cells)?;
+            gather(alloc, cells, items)
+        }
+    }
 }
 
-// The triples inside Full cells, with the cells that have all three points.
-fn triple_table(alloc: Global, cells: &[Cell]) -> Result<Table<Tri>, AllocError>
+/// The triples inside Full cells, with the cells that have all three points.
+pub fn triple_table(
+    alloc: Global,
+    cells: &[Cell],
+    points: &Table<Point>,
+) -> Result<Table<Tri>, AllocError>
     requires few { length cells.now < 2 ^ 32 }
     requires ascending { AreAscending cells.now }
+    requires points { IsTable (length cells.now) points.now }
+    requires order { IsStrictlySortedBy nat_cmp points.now.keys.items }
     ensures faces { IfOk result (λ t. table_seen cells.now t ≡ with_cells (parts_in 3 cells.now) cells.now) }
     ensures table { IfOk result (λ t. IsTable (length cells.now) t) }
 {
-    let items = triple_items(alloc, cells)?;
-    gather(alloc, cells, items)
+    match table_around(alloc, cells, points)? {
+        Some(table) => Ok(table),
+        None => {
+            let items = triple_items(alloc, cells)?;
+            gather(alloc, cells, items)
+        }
+    }
 }
 
 /// The faces that `faces` gives of the cells, gathered by the thread that calls: for few cells.
@@ -78,10 +103,13 @@ pub fn few_faces(alloc: Global, cells: &[Cell]) -> Result<Faces<'_>, AllocError>
     ensures cells { IfOk result (λ f. f.cells ≡ cells.now) }
 {
     number_of(cells.len())?;
+    let points = point_table(alloc, cells)?;
+    let pairs = pair_table(alloc, cells, &points)?;
+    let triples = triple_table(alloc, cells, &points)?;
     Ok(Faces {
         cells,
-        points: point_table(alloc, cells)?,
-        pairs: pair_table(alloc, cells)?,
-        triples: triple_table(alloc, cells)?,
+        points,
+        pairs,
+        triples,
     })
 }

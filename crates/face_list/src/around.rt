@@ -266,8 +266,8 @@ fn add_all<K: Part>(
     Ok(())
 }
 
-/// Each key of a Full cell, in order, with the numbers of its cells, in order: gathered by the points of Full cells, and
-/// where each item is of such a point, as it is in a complex.
+/// Each key of a Full cell, in order, with the numbers of its cells, in order: gathered by the points of Full cells,
+/// and where each item is of such a point, as it is in a complex.
 ///
 /// # Errors
 /// Want of memory. Where there are more numbers than 32 bits count, there is none.

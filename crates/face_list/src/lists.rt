@@ -7,9 +7,9 @@ ghost use Rattle.face_list.specs.Faces.{points_in, parts_in, points_with_cells, 
 ghost use Rattle.face_list.specs.Gather.{AreAscending};
 ghost use Rattle.face_list.specs.Tables.{IsTable, table_seen};
 
-use crate::around::table_around;
+use crate::alone::{pair_table, triple_table};
 use crate::gather::gather;
-use crate::parts::{pair_items, point_items, triple_items};
+use crate::parts::point_items;
 use crate::table::Table;
 use point_order::{Cell, Pair, Point, Tri};
 use std::alloc::{AllocError, Global};
@@ -31,53 +31,8 @@ pub fn point_table<R: Threads + Sync>(
     gather(rt, alloc, cells, items)
 }
 
-// The pairs inside Full cells, with the cells that have both points.
-fn pair_table<R: Threads + Sync>(
-    rt: &R,
-    alloc: Global,
-    cells: &[Cell],
-    points: &Table<Point>,
-) -> Result<Table<Pair>, AllocError>
-    requires few { length cells.now < 2 ^ 32 }
-    requires ascending { AreAscending cells.now }
-    requires points { IsTable (length cells.now) points.now }
-    requires order { IsStrictlySortedBy nat_cmp points.now.keys.items }
-    ensures faces { IfOk result (λ t. table_seen cells.now t ≡ with_cells (parts_in 2 cells.now) cells.now) }
-    ensures table { IfOk result (λ t. IsTable (length cells.now) t) }
-{
-    match table_around(alloc, cells, points)? {
-        Some(table) => Ok(table),
-        None => {
-            let items = pair_items(alloc, cells)?;
-            gather(rt, alloc, cells, items)
-        }
-    }
-}
-
-// The triples inside Full cells, with the cells that have all three points.
-fn triple_table<R: Threads + Sync>(
-    rt: &R,
-    alloc: Global,
-    cells: &[Cell],
-    points: &Table<Point>,
-) -> Result<Table<Tri>, AllocError>
-    requires few { length cells.now < 2 ^ 32 }
-    requires ascending { AreAscending cells.now }
-    requires points { IsTable (length cells.now) points.now }
-    requires order { IsStrictlySortedBy nat_cmp points.now.keys.items }
-    ensures faces { IfOk result (λ t. table_seen cells.now t ≡ with_cells (parts_in 3 cells.now) cells.now) }
-    ensures table { IfOk result (λ t. IsTable (length cells.now) t) }
-{
-    match table_around(alloc, cells, points)? {
-        Some(table) => Ok(table),
-        None => {
-            let items = triple_items(alloc, cells)?;
-            gather(rt, alloc, cells, items)
-        }
-    }
-}
-
-/// Both tables, each by a thread of its own where one can be made.
+/// The pairs and the triples inside Full cells, with their cells, each kind by a thread of its own where one can be
+/// made.
 pub fn pair_and_triple_tables<R: Threads + Sync>(
     rt: &R,
     alloc: Global,
@@ -103,7 +58,7 @@ pub fn pair_and_triple_tables<R: Threads + Sync>(
             ensures faces { IfOk result (λ t. table_seen cells.entry.now t
                 ≡ with_cells (parts_in 2 cells.entry.now) cells.entry.now) }
             ensures table { IfOk result (λ t. IsTable (length cells.entry.now) t) }
-        { pair_table(rt, alloc, cells, points) },
+        { pair_table(alloc, cells, points) },
         || -> Result<Table<Tri>, AllocError>
             requires few { length cells.now < 2 ^ 32 }
             requires ascending { AreAscending cells.now }
@@ -112,7 +67,7 @@ pub fn pair_and_triple_tables<R: Threads + Sync>(
             ensures faces { IfOk result (λ t. table_seen cells.entry.now t
                 ≡ with_cells (parts_in 3 cells.entry.now) cells.entry.now) }
             ensures table { IfOk result (λ t. IsTable (length cells.entry.now) t) }
-        { triple_table(rt, alloc, cells, points) },
+        { triple_table(alloc, cells, points) },
     );
     Ok((pairs?, triples?))
 }

@@ -6,7 +6,8 @@ use Rattle.face_list.proofs.around.add.Goals as goal
 
 pub keys_of_full-requires-clause-numbers : goal.keys_of_full-requires-clause-numbers
 keys_of_full-requires-clause-numbers g c i m =
-    items_name g.K.Part.parts_of c.args.cells.now i (c.requires.items i ((c.sorted-items.ensures.same i).0 (subst (IsIn i) c.deref.ensures.value m))).0
+    items_name g.K.Part.parts_of c.args.cells.now i (c.requires.items i
+    ((c.sorted-items.ensures.same i).0 (subst (IsIn i) c.deref.ensures.value m))).0
 
 pub returns : goal.returns
 returns g c =
@@ -33,9 +34,12 @@ returns g c =
     (λ k j h m. g.met.K.Part.begins k j.0 (let e = (told j m).1 in omega (arith, h, e)))
     c.in_ok-keys.ensures.order
     (λ k. rw (← c.deref.ensures.value) (c.in_ok-keys.ensures.keys k))
-    (c.in_ok-extend_from_slice.ensures.items ∙ ap (λ (v : List g.row.K.Denot). c.args.so_far.now.table.keys.items ++ v) c.deref-4.ensures.value)
-    (c.in_ok-put_lists.ensures.ends ∙ ap (λ (v : List g.row.K.Denot). length c.args.so_far.now.table.ends.items + length v) c.deref-2.ensures.value)
+    (c.in_ok-extend_from_slice.ensures.items ∙ ap (λ (v : List g.row.K.Denot). c.args.so_far.now.table.keys.items ++ v)
+    c.deref-4.ensures.value)
+    (c.in_ok-put_lists.ensures.ends ∙ ap
+    (λ (v : List g.row.K.Denot). length c.args.so_far.now.table.ends.items + length v) c.deref-2.ensures.value)
     c.in_ok-put_lists.ensures.stops
     (rw (← c.deref-2.ensures.value, ← c.deref-3.ensures.value) c.in_ok-put_lists.ensures.lists)
     (λ n m. rw (← c.deref-3.ensures.value) (c.in_ok-put_lists.ensures.numbers n m))
-    (let a = c.in_ok-so_far.ensures in let b = c.len.ensures in let d = c.sorted-items.result.ok.0 in omega (arith, a, b, d))
+    (let a = c.in_ok-so_far.ensures in let b = c.len.ensures in let d = c.sorted-items.result.ok.0 in
+    omega (arith, a, b, d))

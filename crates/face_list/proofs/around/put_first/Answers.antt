@@ -11,14 +11,18 @@ pub loop-part-preserved : goal.loop-part-preserved
 loop-part-preserved g c =
     let parts = c.args.parts.now in
     let part = c.part-item.result in
-    let listed : IsIn part parts = subst (λ v. IsIn v parts) (sym c.part-item.is) (at_in parts c.loop-part.part-index part c.loop-part-test.true) in
+    let listed : IsIn part parts = subst (λ v. IsIn v parts) (sym c.part-item.is)
+    (at_in parts c.loop-part.part-index part c.loop-part-test.true) in
     elim c.if-key.branch [
       | then-key+in_ok-push w ↦ (
-          let begins : g.K.First.first_of part ≡ c.args.first = (let t = w.if-key.true in let a = c.first.ensures in let b = c.key.ensures.value in let d = c.key-in-loop-part.ensures.value in omega (arith, t, a, b, d)) in
-          λ i m. elim (from_append i c.loop-part.items.items ((part, c.args.number) ∷ []) (subst (IsIn i) (ap (λ v. v.items) w.items-is ∙ w.in_ok-push.ensures.items) m)) [
+          let begins : g.K.First.first_of part ≡ c.args.first = (let t = w.if-key.true in let a = c.first.ensures in
+          let b = c.key.ensures.value in let d = c.key-in-loop-part.ensures.value in omega (arith, t, a, b, d)) in
+          λ i m. elim (from_append i c.loop-part.items.items ((part, c.args.number) ∷ [])
+          (subst (IsIn i) (ap (λ v. v.items) w.items-is ∙ w.in_ok-push.ensures.items) m)) [
             | inl n ↦ c.loop-part.invariant i n
             | inr n ↦ elim n [
-              | inl e ↦ inr (subst (λ (v : g.row.K.Denot × ℕ). IsIn v.0 parts × (v.1 ≡ c.args.number) × (g.K.First.first_of v.0 ≡ c.args.first)) e (listed, refl, begins))
+              | inl e ↦ inr (subst (λ (v : g.row.K.Denot × ℕ). IsIn v.0 parts × (v.1 ≡ c.args.number) ×
+                  (g.K.First.first_of v.0 ≡ c.args.first)) e (listed, refl, begins))
               | inr none ↦ absurd none
             ]
           ])

@@ -37,10 +37,12 @@ pub loop-key-init : goal.loop-key-init
 loop-key-init g c = listed_none g.K.Ord.cmp c.args.items.now c.args.keys.now _ _ c.requires.order c.requires.stops
 
 pub returns-clause-lists : goal.returns-clause-lists
-returns-clause-lists g c = listed_all g.K.Ord.cmp c.args.items.now _ _ _ _ _ _ _ c.loop-key-test.false c.loop-key.invariant
+returns-clause-lists g c = listed_all g.K.Ord.cmp c.args.items.now _ _ _ _ _ _ _ c.loop-key-test.false
+    c.loop-key.invariant
 
 pub returns-clause-ends : goal.returns-clause-ends
-returns-clause-ends g c = ended_all _ _ _ _ c.loop-key-test.false c.loop-key.auto.key-index-end c.loop-key.invariant.ends
+returns-clause-ends g c = ended_all _ _ _ _ c.loop-key-test.false c.loop-key.auto.key-index-end
+    c.loop-key.invariant.ends
 
 pub returns-clause-stops : goal.returns-clause-stops
 returns-clause-stops g c = c.loop-key.invariant.stops
