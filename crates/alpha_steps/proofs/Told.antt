@@ -103,6 +103,7 @@ cell_step_is (x ∷ cells) (y ∷ ns) (suc i) c n h k = cell_step_is cells ns i 
 
 -- ---- what is listed
 
+-- the faces of faces with thresholds are these
 zip_firsts : {X : Type 0} (xs : List X) (ns : List ℕ) → length ns ≡ length xs → map (λ f. f.0) (steps_of xs ns) ≡ xs
 zip_firsts [] [] e = refl
 zip_firsts [] (n ∷ ns) e = absurd (omega (arith, e))

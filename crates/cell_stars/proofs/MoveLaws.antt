@@ -264,6 +264,7 @@ pub before_behind : {E : Type 0} (l m : List ℕ) (x : ℕ) (r : Result ℕ E) �
 before_behind l m x (Ok n) e a f = before_last l m x n e a f
 before_behind l m x (Err w) e a f = tt
 
+-- some open places in order, all below the one that is looked at next, no more than are wanted
 pub record OpenSoFar (P : ℕ → Type 0) (old list : List ℕ) (count next : ℕ) : Type 0 where
   pub order : IsAscending list
   pub before : (i : ℕ) → IsIn i list → i < next

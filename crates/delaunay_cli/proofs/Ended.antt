@@ -412,6 +412,7 @@ module _ (words : List (String Global)) (left_old left_new : Option (List ℕ)) 
         nothing = λ k. keeps;
       }
 
+  -- so what was not made ends the run as its stop says
   stopped : (stop : Stop) → IsUnmade words left_old read_failed stop →
       HasRead (status_of stop) → Keeps held holds
       → Ends words left_old left_new read_failed held holds write_failed (status_of stop) []
@@ -501,6 +502,7 @@ module _ (words : List (String Global)) (left_old left_new : Option (List ℕ)) 
   abbrev TheLine : ℕ → List ℕ → Type 0
   TheLine status line = IsToldLine (kind_of words) left_old status line
 
+  -- the line of the end is that of its status, of what was made or of why nothing was
   pub told : (m : Result Made Stop) (stop : Option Stop) (status : ℕ) (h : List Entry) → IfOk m IsSound →
       IfErr m (IsUnmade words left_old read_failed) → status ≡ status_of_end stop
       → IfOk m (λ made. IsPut write_failed held holds (text_of_page made.page) made.after made.kept.items stop h) →

@@ -101,6 +101,7 @@ IsUpTo : Kind → ℕ → Type 0
 IsUpTo kind status =
     (status ≤ 10) × ((status ≡ 8) ⊎ (status ≡ 9) → kind ≡ Parts) × (status ≡ 10 → kind ≡ Checks)
 
+-- a status of at most 7 comes of every command
 few : (kind : Kind) (status : ℕ) → status ≤ 7 → IsUpTo kind status
 unfolding IsUpTo
 few kind status l = (
@@ -109,6 +110,7 @@ few kind status l = (
   λ e. absurd (omega (arith, l, e)),
 )
 
+-- what a command promises tells which statuses come
 up_to_10 : (kind : Kind) (words : List (String Global)) (left : Option (List ℕ)) (status : ℕ) (h : List Entry)
     (text : List ℕ) → Promise kind words left status h text → IsUpTo kind status
 unfolding IsUpTo
@@ -152,6 +154,7 @@ asked_none : (s : List ℕ) (alpha most : ℕ) → IsAsked s alpha most None →
 asked_none s alpha zero e = absurd (cc)
 asked_none s alpha (suc k) p = (omega arith, p)
 
+-- and where there is none for it, no alpha is asked for
 none_asked : (s : List ℕ) (alpha most : ℕ) → HasNoAlpha s most → IsAsked s alpha most None
 none_asked s alpha zero p = absurd (let l = p.0 in omega (arith, l))
 none_asked s alpha (suc k) p = p.1
@@ -162,6 +165,7 @@ told_at : (s : List ℕ) (at : ℕ) (index : Option ℕ) (status : ℕ) (text : 
 told_at s at None status text p = inl p.told.0
 told_at s at (Some i) status text p = elim p.told [ inl t ↦ inl t.1 | inr t ↦ inr t.1 ]
 
+-- what is not there has no value
 not_some : (at : ℕ) (o : Option ℕ) → o ≡ None → o ≡ Some at → ⊥
 not_some at o e f = cc
 
@@ -235,19 +239,24 @@ module _ {words : List (String Global)} {left left_after : Option (List ℕ)} {r
       kept e.text
   of_report w = subst (λ (kind : Kind). Promise kind words left status kept e.text) w e.promise
 
+  -- of the least alphas
   pub of_steps : WritesSteps words → StepEnds (worker_count words) left status kept e.text
   of_steps w = subst (λ (kind : Kind). Promise kind words left status kept e.text) w e.promise
 
+  -- of parts
   pub of_parts : WritesParts words → PartEnds (worker_count words) (asked_alpha words) (asked_most words)
       (asked_index words) left status kept e.text
   of_parts w = subst (λ (kind : Kind). Promise kind words left status kept e.text) w e.promise
 
+  -- of queries
   pub of_near : WritesNear words → QueryEnds (worker_count words) left status kept e.text
   of_near w = subst (λ (kind : Kind). Promise kind words left status kept e.text) w e.promise
 
+  -- of a mesh
   pub of_check : ReadsMesh words → CheckEnds left status kept e.text
   of_check w = subst (λ (kind : Kind). Promise kind words left status kept e.text) w e.promise
 
+  -- and of a drawn file
   pub of_drawn : DrawsFile words → DrawEnds (asks_text words) (worker_count words) (drawn_file words) status kept e.text
   of_drawn d = subst (λ (kind : Kind). Promise kind words left status kept e.text) (draws words d) e.promise
 
@@ -260,6 +269,7 @@ module _ {words : List (String Global)} {left left_after : Option (List ℕ)} {r
     | inr (inr (inr k)) ↦ (of_near k).verdict late
   ]
 
+  -- what follows of the verdict follows of the bytes that are read
   pub of_bytes : (P : List ℕ → Type 0) → ((bytes : List ℕ) → IsVerdict status bytes → P bytes) → ReadsFile words →
       (IsEarly status → ⊥) → IfSome left P
   of_bytes P f w late = if_some (IsVerdict status) P left f (verdict w late)
@@ -274,6 +284,7 @@ module _ {words : List (String Global)} {left left_after : Option (List ℕ)} {r
       (λ bytes. (file : Content) → IsFile file_limits bytes file → P file) left (λ bytes m file is. subst P (one_file_of file_limits bytes m.file file m.is_file is)
       (f m.file m.kept m.text_is)) m
 
+  -- what follows of a kept file follows of the file that the bytes are
   pub of_kept : (P : Content → Type 0) → ((file : Content) → IsKept file (worker_count words) kept → P file)
       → ReadsFile words → HasText status → IfSome left
       (λ bytes. (file : Content) → IsFile file_limits bytes file → P file)
@@ -298,6 +309,7 @@ module _ {words : List (String Global)} {left left_after : Option (List ℕ)} {r
   IsAnsweredIn written file =
       (nears : List Near) × AreNear (replay kept) file.queries nears × written (near_text (replay kept) nears)
 
+  -- the text is that of the answers to the queries
   answers_of : (written : List ℕ → Type 0) (file : Content) → IsQueried (replay kept) file.queries e.text →
       written e.text → IsAnsweredIn written file
   answers_of written file q w = (q.nears, q.are_near, subst written q.text_is w)
@@ -319,6 +331,7 @@ module _ {words : List (String Global)} {left left_after : Option (List ℕ)} {r
       t ∙ ap (λ (b : Bool). text_of (asks_shape words) b file kept) o ∙ ap report_text
       (kept_is_plain (asks_shape words) file (worker_count words) kept anchored k.keeps e.legal)
 
+  -- what is written of a drawn file goes by the words alone
   pub plain_of_drawn : DrawsFile words → (status ≡ 0) ⊎ (status ≡ 4) → e.text ≡ plain_drawn words
   plain_of_drawn d s = let m = (of_drawn d).made (has_text status s) in m.1 ∙ drawn_is_plain words (worker_count words)
       kept e.legal m.0
@@ -380,10 +393,12 @@ module _ {words : List (String Global)} {left left_after : Option (List ℕ)} {r
   abbrev Told : ℕ → Type 0
   Told n = IsParted (replay kept) (asked_alpha words) (asked_most words) (asked_index words) n e.text
 
+  -- these bytes are a file of which parts are told so
   abbrev ToldFile : ℕ → List ℕ → Type 0
   ToldFile n bytes =
       IsPartedFile (worker_count words) (asked_alpha words) (asked_most words) (asked_index words) n kept e.text bytes
 
+  -- what follows of parts that are told follows of the bytes that are read
   of_told : (P : Type 0) → (Told status → P) → (status ≡ 4 → Told 0 → P) → WritesParts words → HasText status →
       IfSome left (λ bytes. P)
   of_told P f g w s = elim s [
@@ -391,6 +406,7 @@ module _ {words : List (String Global)} {left left_after : Option (List ℕ)} {r
     | inr four ↦ if_some (ToldFile 0) (λ bytes. P) left (λ bytes m. g four m.text_is) ((of_parts w).cut four)
   ]
 
+  -- 9 comes exactly where there is no alpha for the most of parts
   pub no_alpha : WritesParts words → HasText status →
       IfSome left (λ bytes. status ≡ 9 ↔ HasNoAlpha (replay kept) (asked_most words))
   no_alpha = of_told (status ≡ 9 ↔ HasNoAlpha (replay kept) (asked_most words))
@@ -401,6 +417,7 @@ module _ {words : List (String Global)} {left left_after : Option (List ℕ)} {r
             t).1 h in omega (arith, z)),
       ))
 
+  -- 8 comes exactly where there is no part of the index
   pub no_part : (i : ℕ) → WritesParts words → HasText status → asked_index words ≡ Some i →
       IfSome left (λ bytes. status ≡ 8 ↔ HasNoPart (replay kept) (asked_alpha words) (asked_most words) i)
   no_part i w s o = of_told (status ≡ 8 ↔ HasNoPart (replay kept) (asked_alpha words) (asked_most words) i)
@@ -414,6 +431,7 @@ module _ {words : List (String Global)} {left left_after : Option (List ℕ)} {r
       at : (n : ℕ) → Told n → IsParted (replay kept) (asked_alpha words) (asked_most words) (Some i) n e.text
       at n t = subst (λ (v : Option ℕ). IsParted (replay kept) (asked_alpha words) (asked_most words) v n e.text) o t
 
+  -- and without an index it never comes
   pub no_index : WritesParts words → HasText status → asked_index words ≡ None → IfSome left (λ bytes. status ≢ 8)
   no_index w s o = of_told (status ≢ 8)
       (λ t. never_eight (replay kept) (asked_alpha words) (asked_most words) status e.text
@@ -429,6 +447,7 @@ module _ {words : List (String Global)} {left left_after : Option (List ℕ)} {r
       text × Appends held holds text) left
       (λ bytes m. (e.text, subst Told z m.text_is, e.whole (inl z))) ((of_parts w).made (inl z))
 
+  -- or a front of it
   pub parts_front : WritesParts words → status ≡ 4 →
       IfSome left (λ bytes. (text : List ℕ) × IsParted (replay kept) (asked_alpha words) (asked_most words)
       (asked_index words) 0 text × AppendsFront held holds text)
@@ -443,6 +462,7 @@ module _ {words : List (String Global)} {left left_after : Option (List ℕ)} {r
   near_written w z = of_one (IsAnsweredIn (Appends held holds)) (λ file. IsQueried (replay kept) file.queries e.text)
       (λ file k q. answers_of (Appends held holds) file q (e.whole (inl z))) ((of_near w).made (inl (inl z)))
 
+  -- or a front of it
   pub near_front : WritesNear words → status ≡ 4 → IfSome left
       (λ bytes. (file : Content) → IsFile file_limits bytes file → IsAnsweredIn (AppendsFront held holds) file)
   near_front w z = of_one (IsAnsweredIn (AppendsFront held holds)) (λ file. IsQueried (replay kept) file.queries e.text)
@@ -486,6 +506,7 @@ module _ {words : List (String Global)} {left left_after : Option (List ℕ)} {r
       left (λ bytes m. (m.file, m.is_file, subst (Appends held holds) m.text_is (e.whole (inl s))))
       ((of_report w).made (inl (inl s)))
 
+  -- or a front of it
   pub written_front : WritesReport words → status ≡ 4 → IfSome left
       (λ bytes. WritesFront (asks_shape words) (asks_order words) bytes held holds kept)
   written_front w s =

@@ -111,6 +111,7 @@ item_from {K} parts n k m (c ∷ cells) i = elim (from_append (k, m) (map (λ p.
   | inr j ↦ further (λ c. IsIn k (parts c)) n m c cells (item_from parts (suc n) k m cells j)
 ]
 
+-- and each part of a cell is an item with its number
 pub item_true : {K : Type 0} (parts : Cell → List K) (n : ℕ) (k : K) (m place : ℕ) (cells : List Cell) → place < length cells → n + place ≡ m → IsIn k (parts (cell_at cells place)) → IsIn (k, m) (items_from n parts cells)
 item_true parts n k m place [] h e f = absurd (omega arith)
 item_true {K} parts n k m zero (c ∷ cells) h e f =
