@@ -39,6 +39,7 @@ mod writes;
 pub use cells::Cells;
 pub use grid::{BadGrid, Grid};
 pub use matched::Matched;
+pub use numbers::as_number;
 pub use order::are_same;
 pub use plan::Plan;
 pub use star::{BucketCells, Star, StarCells};

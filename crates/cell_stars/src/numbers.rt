@@ -4,8 +4,11 @@ ghost use Rattle.std.specs.Prelude.{◌≡◌, ◌+◌, ◌<◌, ◌≤◌, ◌^
 
 use std::alloc::AllocError;
 
-// A count as a number of 32 bits. Want of memory, exactly where the count is 2^32 or more.
-pub(crate) fn as_number(count: usize) -> Result<u32, AllocError>
+/// A count as a number of 32 bits.
+///
+/// # Errors
+/// Want of memory, exactly where the count is 2^32 or more.
+pub fn as_number(count: usize) -> Result<u32, AllocError>
     ensures value { IfOk result (λ number. number ≡ count) }
     ensures few { OnOk result (count < 2 ^ 32) }
     ensures many { OnErr result (2 ^ 32 ≤ count) }

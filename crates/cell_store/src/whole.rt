@@ -50,7 +50,7 @@ ghost use Rattle.cell_store.specs.Wholes.{
 use crate::bucket::Bucket;
 use crate::hold::Hold;
 use crate::mesh::Mesh;
-use cell_stars::{Cells, Grid};
+use cell_stars::{Cells, Grid, as_number};
 use edit_history::Entry;
 use point_order::{Cell, Point};
 use std::alloc::{AllocError, Global};
@@ -272,9 +272,7 @@ impl Mesh {
         requires cells { cells.now ≡ complex points.now }
         ensures { IfOk result (λ mesh. mesh ≡ record { grid = grid; history = entries.now }) }
     {
-        if cells.len() >= u32::MAX as usize {
-            return Err(AllocError);
-        }
+        as_number(cells.len())?;
         read_keys(points);
         let mut parts = Parts::of(alloc, grid, entries, points, cells)?;
         let mut hold = Hold::empty(alloc, grid)?;
