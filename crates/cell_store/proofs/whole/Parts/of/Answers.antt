@@ -1,3 +1,4 @@
+use Rattle.std.proofs.Common.{◌∙◌, sym}
 use Rattle.cell_store.proofs.WholeLaws.{parts_are}
 use Rattle.cell_store.proofs.whole.Parts.of.Goals as goal
 
