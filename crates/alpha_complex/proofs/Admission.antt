@@ -93,6 +93,7 @@ data Sized (q p : List ℕ) : Type 0 where
   three : IsIn p (subsets 3 q) → Sized q p
   four : IsIn p (subsets 4 q) → Sized q p
 
+-- a face inside a Full cell is a point, a pair, a triple or the cell
 sized : (q p : List ℕ) → IsIn p (faces_inside q) → Sized q p
 sized q p i = elim (from_append p (subsets 1 q ++ subsets 2 q ++ subsets 3 q) (subsets 4 q) i) [
   | inl j ↦ elim (from_append p (subsets 1 q ++ subsets 2 q) (subsets 3 q) j) [
@@ -208,6 +209,7 @@ record SmallTriple (s : List ℕ) (alpha : ℕ) (t : List ℕ) : Type 0 where
   listed : IsIn t (parts_in 3 (complex s))
   small : is_small s alpha t ≡ true
 
+-- a triple that is listed as small is one, and small
 small_triple_from : (s : List ℕ) (alpha : ℕ) (t : List ℕ) → Linked s alpha → is_listed (small_triples s alpha) t ≡ true → SmallTriple s alpha t
 small_triple_from s alpha t l e = (
     let i = subst (λ (v : List (List ℕ)). IsIn t v) (small_are alpha (parts_in 3 (complex s)) (complex s)) (listed_from (small_triples s alpha) t e) in

@@ -23,9 +23,11 @@ use Rattle.alpha_complex.specs.Leasts.{AreAlphasAt, AreAlphasOf, AreAlphasOfFace
 
 -- ---- two numbers
 
+-- the lesser of two numbers is at most alpha where one of them is
 least_tells : (m n a : ℕ) → nat_le (min m n) a ≡ (nat_le m a || nat_le n a)
 least_tells m n a = grind (arith, nat_tests)
 
+-- the greater is where both are
 most_tells : (m n a : ℕ) → nat_le (max m n) a ≡ (nat_le m a && nat_le n a)
 most_tells m n a = grind (arith, nat_tests)
 
@@ -73,12 +75,15 @@ facets_least t (o ∷ p ∷ q ∷ r ∷ s ∷ facets) a b c d k l m n e x y z w 
 abbrev pub AnyLeft : {N X : Type 0} → (ℕ → X → Bool) → (N → X) → List N → ℕ → ℕ → Type 0
 AnyLeft t f ns i least = (a : ℕ) → a < 2 ^ 34 → (nat_le least a || list_any (t a) (map f (drop i ns))) ≡ list_any (t a) (map f ns)
 
+-- the greatest number so far, and the elements that are left
 abbrev pub AllLeft : {N X : Type 0} → (ℕ → X → Bool) → (N → X) → List N → ℕ → ℕ → Type 0
 AllLeft t f ns i most = (a : ℕ) → a < 2 ^ 34 → (nat_le most a && list_all (t a) (map f (drop i ns))) ≡ list_all (t a) (map f ns)
 
+-- before the first element the number is 2^34
 pub any_start : {N X : Type 0} (t : ℕ → X → Bool) (f : N → X) (ns : List N) → AnyLeft t f ns 0 17179869184
 any_start t f ns a l = ap (λ b. b || list_any (t a) (map f ns)) (beyond a l)
 
+-- the lesser with the number of the next
 pub any_step :
     {N X : Type 0} (t : ℕ → X → Bool) (f : N → X) (ns : List N) (i : ℕ) (d : N) (least m r : ℕ) → i < length ns → IsLeastOf (λ a. t a (f (get_or ns i d))) m →
     r ≡ min least m → AnyLeft t f ns i least → AnyLeft t f ns (i + 1) r
@@ -90,10 +95,12 @@ any_step {N} {X} t f ns i d least m r h e q left a l =
     ∙ ap (λ (v : List N). nat_le least a || list_any (t a) (map f v)) (sym (drop_more ns i d h))
     ∙ left a l
 
+-- at the end it is the least alpha of one of them passing
 pub any_end : {N X : Type 0} (t : ℕ → X → Bool) (f : N → X) (ns : List N) (i least : ℕ) → length ns ≡ i → AnyLeft t f ns i least → IsLeastOf (λ a. list_any (t a) (map f ns)) least
 any_end {N} {X} t f ns i least e left a l =
     sym (left a l) ∙ ap (λ (v : List N). nat_le least a || list_any (t a) (map f v)) (drop_all i ns (omega (arith, e))) ∙ or-false (nat_le least a)
 
+-- the greater with the number of the next
 pub all_step :
     {N X : Type 0} (t : ℕ → X → Bool) (f : N → X) (ns : List N) (i : ℕ) (d : N) (most m r : ℕ) → i < length ns → IsLeastOf (λ a. t a (f (get_or ns i d))) m →
     r ≡ max most m → AllLeft t f ns i most → AllLeft t f ns (i + 1) r
@@ -105,6 +112,7 @@ all_step {N} {X} t f ns i d most m r h e q left a l =
     ∙ ap (λ (v : List N). nat_le most a && list_all (t a) (map f v)) (sym (drop_more ns i d h))
     ∙ left a l
 
+-- at the end it is the least alpha of all passing
 pub all_end : {N X : Type 0} (t : ℕ → X → Bool) (f : N → X) (ns : List N) (i most : ℕ) → length ns ≡ i → AllLeft t f ns i most → IsLeastOf (λ a. list_all (t a) (map f ns)) most
 all_end {N} {X} t f ns i most e left a l =
     sym (left a l) ∙ ap (λ (v : List N). nat_le most a && list_all (t a) (map f v)) (drop_all i ns (omega (arith, e))) ∙ and-true (nat_le most a)

@@ -1,7 +1,10 @@
 //! The least alphas at which the triples around a pair are themselves Gabriel and within alpha.
 
-ghost use Rattle.std.specs.Prelude.{◌≡◌, ◌<◌, All, length};
+ghost use Rattle.std.specs.Prelude.{◌≡◌, ◌<◌, All, IsTrue, length, slice_index_or};
 ghost use Rattle.std.specs.List.{list_any};
+ghost use Rattle.std.specs.Ordering.{nat_cmp};
+ghost use Rattle.std.specs.Cmp.Lexicographic.{slice_cmp};
+ghost use Rattle.std.specs.declared.cmp.Ordering.TheVariants.{Equal};
 ghost use Rattle.face_list.specs.Tables.{cell_at, numbered};
 ghost use Rattle.alpha_complex.specs.Admitted.{contains as contains_all};
 ghost use Rattle.alpha_complex.specs.Judged.{covers, is_listed, is_listed_around, small_among};
@@ -9,7 +12,9 @@ ghost use Rattle.alpha_complex.specs.Leasts.{AreOwn, IsLeastOf};
 
 use crate::least::OwnAlphas;
 use crate::owns::{BEYOND, is_one_of, number_at};
+use crate::places::places_at;
 use point_order::{Facet, Pair, Tri};
+use std::cmp::Ordering;
 
 // Whether the triple has both points of the pair.
 fn contains(tri: &Tri, pair: &Pair) -> bool
@@ -19,8 +24,16 @@ fn contains(tri: &Tri, pair: &Pair) -> bool
     is_one_of(tri.points(), a) && is_one_of(tri.points(), b)
 }
 
-// The least alpha at which a triple that is listed is itself Gabriel and within alpha.
-fn listed_least(own: &OwnAlphas, tri: &Tri) -> u64
+// Whether the triple stands at a place.
+fn is_at(triples: &[Tri], place: usize, tri: &Tri) -> bool
+    ensures inside { IsTrue result → place < length triples.now }
+    ensures tie { IsTrue result → slice_cmp nat_cmp (slice_index_or triples.now place tri.now) tri.now ≡ Equal }
+{
+    place < triples.len() && matches!(triples[place].cmp(tri), Ordering::Equal)
+}
+
+// The least alpha at which a triple that is listed is itself Gabriel and within alpha, by a search.
+fn searched_least(own: &OwnAlphas, tri: &Tri) -> u64
     requires own { AreOwn own.now }
     ensures { IsLeastOf (λ alpha. is_listed (small_among alpha own.now.faces.now.triples) tri.now) result }
 {
@@ -30,8 +43,20 @@ fn listed_least(own: &OwnAlphas, tri: &Tri) -> u64
     }
 }
 
-// That of a facet, where it contains the pair.
-fn facet_least(own: &OwnAlphas, pair: &Pair, facet: &Facet) -> u64
+// The same, by a look at the place where the triple may stand.
+fn listed_least(own: &OwnAlphas, tri: &Tri, place: usize) -> u64
+    requires own { AreOwn own.now }
+    ensures { IsLeastOf (λ alpha. is_listed (small_among alpha own.now.faces.now.triples) tri.now) result }
+{
+    if is_at(own.faces.triples(), place, tri) {
+        number_at(own.triples, place)
+    } else {
+        searched_least(own, tri)
+    }
+}
+
+// That of a facet, where it contains the pair. It may stand at the place.
+fn facet_least(own: &OwnAlphas, pair: &Pair, facet: &Facet, place: u32) -> u64
     requires own { AreOwn own.now }
     ensures { IsLeastOf (λ alpha. is_listed_around (small_among alpha own.now.faces.now.triples) pair.now facet.now)
         result }
@@ -39,7 +64,7 @@ fn facet_least(own: &OwnAlphas, pair: &Pair, facet: &Facet) -> u64
     match facet {
         Facet::Three(tri) => {
             if contains(tri, pair) {
-                listed_least(own, tri)
+                listed_least(own, tri, place as usize)
             } else {
                 BEYOND
             }
@@ -56,10 +81,11 @@ fn cell_cover_least(own: &OwnAlphas, pair: &Pair, number: u32) -> u64
         (cell_at own.now.faces.now.cells number)) result }
 {
     let facets = own.faces.cells()[number as usize].facets();
-    let first = facet_least(own, pair, &facets[0]);
-    let second = facet_least(own, pair, &facets[1]);
-    let third = facet_least(own, pair, &facets[2]);
-    let fourth = facet_least(own, pair, &facets[3]);
+    let [a, b, c, d] = places_at(own.places, number as usize);
+    let first = facet_least(own, pair, &facets[0], a);
+    let second = facet_least(own, pair, &facets[1], b);
+    let third = facet_least(own, pair, &facets[2], c);
+    let fourth = facet_least(own, pair, &facets[3], d);
     first.min(second.min(third.min(fourth)))
 }
 

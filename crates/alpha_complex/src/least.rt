@@ -49,6 +49,8 @@ pub struct OwnAlphas<'a, 'b> {
     pub faces: &'a Faces<'b>,
     pub cells: &'a [u64],
     pub triples: &'a [u64],
+    /// Where the facets of each cell may stand among the triples.
+    pub places: &'a [[u32; 4]],
 }
 
 /// The least alpha of each cell, by several threads.

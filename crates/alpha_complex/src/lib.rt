@@ -35,12 +35,14 @@ pub mod laws;
 mod least;
 pub mod numbers;
 mod owns;
+mod places;
 mod rounds;
 pub mod shape;
 
 use face_list::Faces;
 use least::{OwnAlphas, alphas_of_all, own_of_cells, own_of_triples};
 pub use numbers::{Alphas, FaceAlphas};
+use places::places_of;
 pub use shape::{Kind, Shape};
 use std::alloc::{AllocError, Global};
 use std::thread::Threads;
@@ -66,10 +68,12 @@ pub fn alphas<'a, 'b, R: Threads + Sync>(
 {
     let cells = own_of_cells(rt, alloc, faces.cells())?;
     let own_triples = own_of_triples(rt, alloc, faces)?;
+    let places = places_of(alloc, faces)?;
     let own = OwnAlphas {
         faces,
         cells: &cells,
         triples: &own_triples,
+        places: &places,
     };
     let (points, pairs, triples) = alphas_of_all(rt, alloc, &own)?;
     Ok(Alphas {
@@ -96,10 +100,12 @@ pub fn alphas_alone<'a, 'b>(
 {
     let cells = alone::own_of_cells(alloc, faces.cells())?;
     let own_triples = alone::own_of_triples(alloc, faces)?;
+    let places = places_of(alloc, faces)?;
     let own = OwnAlphas {
         faces,
         cells: &cells,
         triples: &own_triples,
+        places: &places,
     };
     let (points, pairs, triples) = alone::alphas_of_all(alloc, &own)?;
     Ok(Alphas {

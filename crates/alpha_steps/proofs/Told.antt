@@ -62,6 +62,7 @@ use Rattle.alpha_steps.specs.Thresholds.{AreThresholds, IsStep}
 
 -- ---- lists of the same length
 
+-- two lists side by side are as many pairs
 zip_count : {X Y : Type 0} (xs : List X) (ys : List Y) → length ys ≡ length xs → length (zip xs ys) ≡ length ys
 zip_count [] [] e = refl
 zip_count [] (y ∷ ys) e = absurd (omega (arith, e))
@@ -75,6 +76,7 @@ step_count xs alphas e =
     let n = length-map alphas (λ (a : FaceAlphas). threshold_of a.admitted) in
     sym n ∙ sym (zip_count xs (map (λ a. threshold_of a.admitted) alphas) (n ∙ e))
 
+-- there are as many cells with thresholds as numbers
 pub cell_step_count : (cells : List Cell) (ns : List ℕ) → length ns ≡ length cells →
     length ns ≡ length (cell_steps_of cells ns)
 cell_step_count cells ns e = sym (length-map (zip cells ns) (λ (c : Cell × ℕ). step_of_cell c.0 c.1) ∙ zip_count cells
@@ -101,6 +103,7 @@ cell_step_is (x ∷ cells) (y ∷ ns) (suc i) c n h k = cell_step_is cells ns i 
 
 -- ---- what is listed
 
+-- the faces of faces with thresholds are these
 zip_firsts : {X : Type 0} (xs : List X) (alphas : List FaceAlphas) → length alphas ≡ length xs →
     map (λ f. f.0) (steps_of xs alphas) ≡ xs
 zip_firsts [] [] e = refl
@@ -176,6 +179,7 @@ faces_are : (faces : List (List ℕ)) (cells : List Cell) → map (λ f. f.0) (w
 faces_are [] cells = refl
 faces_are (p ∷ faces) cells = ap (λ l. p ∷ l) (faces_are faces cells)
 
+-- and so with points
 points_are : (points : List ℕ) (cells : List Cell) → map (λ f. f.0) (points_with_cells points cells) ≡ points
 points_are [] cells = refl
 points_are (p ∷ points) cells = ap (λ l. p ∷ l) (points_are points cells)
@@ -217,6 +221,7 @@ thresholds_are s faces known h e t =
 
 -- ---- as they are seen
 
+-- there are as many numbers as pairs that are seen
 pub pairs_as_seen : (t : Inside) (v : StepSlots) → AreCounted t → steps_seen t ≡ v →
     length t.known.pairs.items ≡ length v.pairs
 pairs_as_seen t v h e =
@@ -224,6 +229,7 @@ pairs_as_seen t v h e =
     (h.pairs ∙ sym (length-map t.known.faces.now.pairs (λ (f : List ℕ × List Cell). f.0)))
     ∙ ap (λ (w : StepSlots). length w.pairs) e
 
+-- as many as triples
 pub triples_as_seen : (t : Inside) (v : StepSlots) → AreCounted t → steps_seen t ≡ v →
     length t.known.triples.items ≡ length v.triples
 triples_as_seen t v h e =
@@ -231,11 +237,13 @@ triples_as_seen t v h e =
     (h.triples ∙ sym (length-map t.known.faces.now.triples (λ (f : List ℕ × List Cell). f.0)))
     ∙ ap (λ (w : StepSlots). length w.triples) e
 
+-- as many as slots of cells
 pub cells_as_seen : (t : Inside) (v : StepSlots) → AreCounted t → steps_seen t ≡ v →
     length t.known.cells.items ≡ length v.cells
 cells_as_seen t v h e = cell_step_count t.known.faces.now.cells t.known.cells.items h.cells ∙ ap
     (λ (w : StepSlots). length w.cells) e
 
+-- and as many Full cells as slots that hold one
 pub cells_held : (t : Inside) (v : StepSlots) → AreCounted t → steps_seen t ≡ v →
     length (full_cells t.known.faces.now.cells) ≡ length (held v.cells)
 cells_held t v h e = cell_held t.known.faces.now.cells t.known.cells.items h.cells ∙ ap

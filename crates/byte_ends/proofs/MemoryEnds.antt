@@ -59,15 +59,19 @@ empty (x ∷ l) e = absurd (omega arith)
 
 -- a source's bytes are the front that it gave, which stands at the front of the buffer, and the rest
 module _ (left new rest : List ℕ) (count : ℕ) (copied : new ≡ take count left) (fits : count ≤ length left) where
+  -- as many bytes were copied
   len : length new ≡ count
   len = ap length copied ∙ length-take-le count left fits
 
+  -- they stand at the front of the buffer
   front : take count (new ++ rest) ≡ take count left
   front = take-append-le count new rest (omega (arith, len)) ∙ take_all count new (omega (arith, len)) ∙ copied
 
+  -- no more were given than the buffer has
   pub gave_bound : (count ≤ length (new ++ rest)) × (count ≡ length (take count (new ++ rest)))
   gave_bound = (omega (arith, length-append new rest, len), sym (ap length front ∙ length-take-le count left fits))
 
+  -- what was left is the front that was given and what is left now
   pub gave_front : (now : List ℕ) → left ≡ now → now ≡ take count (new ++ rest) ++ take (length left - count) (drop count left)
   gave_front now is =
       sym is ∙ sym (ap (λ l. l ++ take (length left - count) (drop count left)) front
@@ -87,9 +91,11 @@ gave_end left new buffer count step m copied c e s z h =
 pub moved_count : (count step m n left : ℕ) → count ≡ min step m → m ≡ min n left → (step' left' : ℕ) → step ≡ step' → left ≡ left' → count ≡ min step' (min n left')
 moved_count count step m n left c e step' left' s l = omega arith
 
+-- a call moves no more than was asked for and than there is
 pub moved_within : (count step m n left : ℕ) → count ≡ min step m → m ≡ min n left → (count ≤ n) × (count ≤ left)
 moved_within count step m n left c e = (omega arith, omega arith)
 
+-- and some where both are not none
 pub moved_some : (count step m n left : ℕ) → count ≡ min step m → m ≡ min n left → 0 < step → 0 < left → 0 < n → 0 < count
 moved_some count step m n left c e s l h = omega arith
 
@@ -107,6 +113,7 @@ answers : (calls : Calls) (room : ℕ) (bytes : List ℕ) → (NextFails calls �
 answers calls room bytes none left (inl h) = none h
 answers calls room bytes none left (inr h) = absurd (left (omega arith))
 
+-- with no failure due and room left it answers, and else it does not
 pub answered_only : (bytes : List ℕ) (room step : ℕ) (calls : Calls) (now : SinkState) → ◌≡◌ {A = SinkState} (record { bytes = bytes; room = room; step = step; calls = calls }) now
     → (NextFails calls → false ≡ true) → (room - length bytes ≡ 0 → ⊥)
     → (false ≡ true → NextFails now.calls ⊎ (now.room ≤ length now.bytes)) × (NextFails now.calls ⊎ (now.room ≤ length now.bytes) → false ≡ true)
@@ -128,11 +135,14 @@ some_left n h = omega arith
 
 -- the bytes that a sink takes fit into its room, and so into its memory
 module _ (piece : List ℕ) (old len count room : ℕ) (held : old ≤ room) (is : len ≡ old) (h : count ≤ room - len) where
+  -- the bytes with these fit into the room
   pub within_room : (new : ℕ) → new ≡ old + length (take count piece) → new ≤ room
   within_room new e = omega (arith, length-take count piece)
 
+  -- and so into the memory
   pub within_memory : (capacity : ℕ) → room ≤ capacity → old + length (take count piece) ≤ capacity
   within_memory capacity k = omega (arith, length-take count piece)
 
+-- what fits a list fits one that is longer
 pub still_fits : (room old new : ℕ) → room ≤ old → old ≤ new → room ≤ new
 still_fits room old new h k = omega arith

@@ -79,6 +79,7 @@ pub grown_by_front : {new now old : List ℕ} (buffer rest : List ℕ) (count : 
     → new ≡ old ++ take count buffer
 grown_by_front {new} {now} buffer rest count e f h = e ∙ ap (λ l. now ++ l) (take-append-le count buffer rest h) ∙ ap (λ l. l ++ take count buffer) f
 
+-- with a front of a buffer behind it a list is as much longer
 pub longer_by_front : {new now old : ℕ} (buffer rest : List ℕ) (count : ℕ) → new ≡ now + length (take count (buffer ++ rest)) → now ≡ old → count ≤ length buffer
     → new ≡ old + count
 longer_by_front buffer rest count e f h =
@@ -94,15 +95,18 @@ takes_none {a} {b} {old} limit k e = record {
   kept = e ∙ sym (append-nil old);
 }
 
--- What a reading of a part of a buffer gave, the part being no longer than the room: it is within the room, it fits where the part does,
--- and there is a part.
+-- What a reading of a part of a buffer gave, the part being no longer than the room: it is within the room, it fits
+-- where the part does, and there is a part.
 module _ (buffer whole : List ℕ) (count part room : ℕ) (bound : count ≤ length buffer) (read : length buffer ≡ length (take part whole)) where
+  -- what was read is within the room
   pub within_part : (most : ℕ) → part ≡ min room most → count ≤ room
   within_part most p = omega (arith, length-take part whole)
 
+  -- a list with it fits where one with the part does
   pub fits_front : (rest : List ℕ) (len capacity : ℕ) → len + part ≤ capacity → len + length (take count (buffer ++ rest)) ≤ capacity
   fits_front rest len capacity h = omega (arith, length-take part whole, length-take count (buffer ++ rest))
 
+  -- where there is room and a buffer, there is a part
   pub some_part : part ≡ min room (length whole) → 0 < room → 0 < length whole → 0 < length buffer
   some_part p h k = omega (arith, length-take part whole)
 

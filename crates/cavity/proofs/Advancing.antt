@@ -1,4 +1,5 @@
--- A dig goes on: each turn explores found cells whose buckets are in hand, and there are not more of them than cells in hand.
+-- A dig goes on: each turn explores found cells whose buckets are in hand, and there are not more of them than cells in
+-- hand.
 use Rattle.std.specs.Prelude.{◌≡◌, ℕ, ◌+◌, zero, suc, ◌<◌, List, [], ◌∷◌, ◌++◌, ◌==◌, length, take, slice_index_or, Option, Some, IsSome}
 use Rattle.std.specs.List.{flat_map}
 use Rattle.std.specs.Option.{option_map_or}
@@ -74,6 +75,7 @@ module _ (s : List ℕ) (i : IsSolidSet s) (d : Digging) (k : IsDigIn s d) (cell
   one_further : (found' more : List Cell) → found' ≡ d.found ++ more → take (d.explored + 1) found' ≡ take d.explored d.found ++ cell ∷ []
   one_further found' more e = ap (take (d.explored + 1)) e ∙ take-append-le (d.explored + 1) d.found more (omega arith) ∙ take_next d.found d.explored cell h at
 
+  -- the facets of the explored cells are those before and those of this one
   facets_further : (found' more : List Cell) → found' ≡ d.found ++ more → facets_of_first (d.explored + 1) found' ≡ facets_of_first d.explored d.found ++ facets_of cell
   facets_further found' more e =
       ap (flat_map facets_of) (one_further found' more e) ∙ flat_map-append facets_of (take d.explored d.found) (cell ∷ []) ∙ ap (λ l. flat_map facets_of (take d.explored d.found) ++ l) (append-nil (facets_of cell))
@@ -106,7 +108,8 @@ begins s p cell key k = record {
   };
 }
 
--- a dig that went on over a hold: its point is the same, it is a dig still, and the buckets of explored cells are in hand
+-- a dig that went on over a hold: its point is the same, it is a dig still, and the buckets of explored cells are in
+-- hand
 pub record GoesOn (hold : InHand) (old now : Digging) : Type 0 where
   pub point : now.point ≡ old.point
   pub digs : (h : List ℕ) → Shows hold h → IsDigIn h old → IsDigIn h now

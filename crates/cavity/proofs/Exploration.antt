@@ -28,6 +28,7 @@ full_facets_once a b c d ab bc cd =
     (λ e. (let q : a ≡ b = (cc) in absurd (omega arith))) (λ e. (let q : a ≡ b = (cc) in absurd (omega arith))) (λ e. (let q : a ≡ b = (cc) in absurd (omega arith)))
     (λ e. (let q : b ≡ c = (cc) in absurd (omega arith))) (λ e. (let q : b ≡ c = (cc) in absurd (omega arith))) (λ e. (let q : c ≡ d = (cc) in absurd (omega arith)))
 
+-- an Open cell has each of its facets once
 open_facets_once : (a b c : ℕ) → a < b → b < c → AreDistinct (facets_of (Open (a ∷ b ∷ c ∷ [])))
 open_facets_once a b c ab bc =
     four_once (Two (b ∷ c ∷ [])) (Two (a ∷ c ∷ [])) (Two (a ∷ b ∷ [])) (Three (a ∷ b ∷ c ∷ []))

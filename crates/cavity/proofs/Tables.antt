@@ -61,6 +61,7 @@ kept_set : (marks : List Mark) (at k : ℕ) (mark : Mark) → slice_index_or mar
 kept_set marks at k mark free taken =
     get_or-set_other marks at k mark Free (λ e. taken (ap (λ j. slice_index_or marks j Free) e ∙ free))
 
+-- so it does where the mark is put behind the last
 kept_push : (marks : List Mark) (k : ℕ) (mark : Mark) → slice_index_or marks k Free ≢ Free → slice_index_or (marks ++ mark ∷ []) k Free ≡ slice_index_or marks k Free
 kept_push marks k mark taken = get_or_append_left marks (mark ∷ []) Free k (free_past marks k taken)
 
@@ -87,6 +88,7 @@ module _ (marks : List Mark) (home at : ℕ) (mark : Mark) (f : IsFreeFrom marks
   pub set_kept : KeepsReached marks (slice_set marks at mark)
   set_kept = reached_still marks (slice_set marks at mark) (λ k. kept_set marks at k mark f.free)
 
+  -- it is reached from its home
   pub set_reached : at < length marks → IsReached (slice_set marks at mark) home mark
   set_reached h = reached_now marks (slice_set marks at mark) (λ k. kept_set marks at k mark f.free) home at mark f (get_or-set_at marks at at mark Free refl h)
 
@@ -94,6 +96,7 @@ module _ (marks : List Mark) (home at : ℕ) (mark : Mark) (f : IsFreeFrom marks
   pub push_kept : (new : List Mark) → new ≡ marks ++ mark ∷ [] → KeepsReached marks new
   push_kept new e = subst (KeepsReached marks) (sym e) (reached_still marks (marks ++ mark ∷ []) (λ k. kept_push marks k mark))
 
+  -- so it is where it is put behind the last
   pub push_reached : (new : List Mark) → new ≡ marks ++ mark ∷ [] → length marks ≤ at → IsReached new home mark
   push_reached new e h =
       subst (λ (l : List Mark). IsReached l home mark) (sym e)
@@ -109,13 +112,16 @@ home_within home mask n h l = omega arith
 pub has_room : (n room : ℕ) → n + 1 ≤ room → room ≤ n → ⊥
 has_room n room h l = absurd (omega arith)
 
+-- the cells that are known to go, and those that are known to stay
 abbrev pub known : List Cell → List Cell → Known
 known goes stays = record { goes = goes; stays = stays }
 
+-- a cell more goes
 pub goes_pushed : (now : Known) (goes stays room pushed : List Cell) (c : Cell) → known goes stays ≡ now → room ≡ goes → pushed ≡ room ++ c ∷ [] → known pushed stays ≡ known (now.goes ++ c ∷ []) now.stays
 goes_pushed now goes stays room pushed c e r p =
     ap (λ l. known l stays) (p ∙ ap (λ l. l ++ c ∷ []) r) ∙ ap (λ (k : Known). known (k.goes ++ c ∷ []) k.stays) e
 
+-- or a cell more stays
 pub stays_pushed : (now : Known) (goes stays room pushed : List Cell) (c : Cell) → known goes stays ≡ now → room ≡ stays → pushed ≡ room ++ c ∷ [] → known goes pushed ≡ known now.goes (now.stays ++ c ∷ [])
 stays_pushed now goes stays room pushed c e r p =
     ap (λ l. known goes l) (p ∙ ap (λ l. l ++ c ∷ []) r) ∙ ap (λ (k : Known). known k.goes (k.stays ++ c ∷ [])) e

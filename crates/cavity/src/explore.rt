@@ -50,6 +50,7 @@ fn cross(
         }
         Seen::New => {
             if is_spot_in_conflict(hold, &other, point) {
+                judged.load_around(hold, &other);
                 judged.push_gone(alloc, other)?;
                 judged.note_beside(number);
             } else {

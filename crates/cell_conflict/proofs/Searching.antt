@@ -51,6 +51,7 @@ in_items hold b x rest c e p i = in_moved' x.cells rest c p (subst (λ (l : List
     in_moved' : (l m : List Cell) (c : Cell) → IsPermutation l m → IsIn c l → IsIn c m
     in_moved' l m c p i = in_moved m l c (IsPermutation-sym l m p) i
 
+-- a cell of them is one of the bucket
 pub of_items : (hold : InHand) (b : ℕ) (x : BucketContent) (rest : List Cell) (c : Cell) → bucket_at hold.places b ≡ Some x → IsPermutation x.cells rest → IsIn c rest → IsIn c (cells_in hold.places b)
 of_items hold b x rest c e p i = subst (λ (l : List Cell). IsIn c l) (sym (cells_are hold b x e)) (in_moved x.cells rest c p i)
 

@@ -60,9 +60,11 @@ use Rattle.cell_stars.specs.Adding.{
   head_of,
 }
 
+-- the vertices of some stars with their numbers
 abbrev pub vertices_of : List Numbered → List ℕ
 vertices_of ws = map (λ w. w.1.0) ws
 
+-- the vertex of one of them is among these
 vertex_in : (ws : List Numbered) (w : Numbered) → IsIn w ws → IsIn w.1.0 (vertices_of ws)
 vertex_in [] w i = absurd i
 vertex_in (v ∷ ws) w (inl e) = inl (ap (λ (x : Numbered). x.1.0) e)
@@ -78,12 +80,14 @@ same_vertices ws vs e = heads ws ∙ ap (map (λ (h : ℕ × ℕ). h.1)) e ∙ s
 
 -- ---- where a star is
 
+-- what is read at a place is read as one thing
 one_at : (l : List Numbered) (k : ℕ) (x y : Numbered) → k < length l → x ≡ slice_index_or l k x →
     y ≡ slice_index_or l k y → x ≡ y
 one_at [] k x y w e f = absurd (omega arith)
 one_at (z ∷ l) zero x y w e f = e ∙ sym f
 one_at (z ∷ l) (suc k) x y w e f = one_at l k x y (omega arith) e f
 
+-- the star at a place is that of a vertex, or it is not
 pub star_is : (ws : List Numbered) (at p : ℕ) (x : Numbered) (r : Bool) → at < length ws →
     x ≡ slice_index_or ws at x → r ≡ (x.1.0 == p) → MatchBool r (HasStarAt ws at p) (HasStarAt ws at p → ⊥)
 star_is ws at p x true h e f = record { within = h; star = x; is = e; vertex = same_from x.1.0 p (sym f) }
@@ -91,6 +95,7 @@ star_is ws at p x false h e f = λ s. (
     let t = same_true x.1.0 p (ap (λ (y : Numbered). y.1.0) (one_at ws at x s.star h e s.is) ∙ s.vertex) in
     absurd (cc (f, t)))
 
+-- where no place has the star of a vertex, none of the stars is its
 pub none_of : (ws : List Numbered) (n p : ℕ) → length ws ≤ n → ((k : ℕ) → k < n → HasStarAt ws k p → ⊥) →
     (w : Numbered) → IsIn w ws → w.1.0 ≡ p → ⊥
 none_of ws n p h f w m e = (let r = found ws w m in f r.0 (let t = r.1 in omega (arith, t, h))
@@ -127,6 +132,7 @@ in_set (v ∷ ws) (suc at) x before a h g w (inl e) = inr (
 in_set (v ∷ ws) (suc at) x before a h g w (inr m) = elim (in_set ws at x before a.1
     (omega arith) g w m) [ inl e ↦ inl e | inr r ↦ inr (inr r.0, r.1) ]
 
+-- with a star set that has the same number and vertex, all numbers and vertices are as before
 heads_set : (ws : List Numbered) (at : ℕ) (x before : Numbered) → before ≡ slice_index_or ws at before →
     head_of x ≡ head_of before → map head_of (slice_set ws at x) ≡ map head_of ws
 heads_set [] at x before g e = refl
@@ -149,6 +155,7 @@ adds_none R ws n = record {
   };
 }
 
+-- a star that has one place more, where it is the vertex's own
 pub adds_one : (place : Option (ℕ × ℕ)) (p i at : ℕ) (old new : List Numbered) → AreStarsHere place old →
     HasStarAt old at p → IsOneMore at i old new → AddsPlaces (λ q j. (p ≡ q) × (i ≡ j)) old new
 adds_one place p i at old new a h o = rw o.is (record { heads = heads_set old at more o.star o.was refl; each = each })
@@ -190,12 +197,14 @@ pub elsewhere : (place : Option (ℕ × ℕ)) (p : ℕ) (r : Bool) (ws : List Nu
     r ≡ lies_in place p → r ≡ false → (w : Numbered) → IsIn w ws → w.1.0 ≡ p → ⊥
 elsewhere place p r ws a e f w m q = (let u = sym (ap (lies_in place) q) ∙ a.inside w m in absurd (cc (e, f, u)))
 
+-- where the vertex has no star they stay
 pub adds_starless : (p i : ℕ) (ws : List Numbered) → ((w : Numbered) → IsIn w ws → w.1.0 ≡ p → ⊥) → AddsPlaces
     (λ q j. (p ≡ q) × (i ≡ j)) ws ws
 adds_starless p i ws n = adds_none (λ q j. (p ≡ q) × (i ≡ j)) ws (λ w j m t. n w m (sym t.0))
 
 -- ---- one after another
 
+-- stars that gain places are in order and lie in the bucket still
 pub still_here : (R : ℕ → ℕ → Type 0) (place : Option (ℕ × ℕ)) (old new : List Numbered) → AddsPlaces R old new →
     AreStarsHere place old → AreStarsHere place new
 still_here R place old new a h = record {
@@ -203,6 +212,7 @@ still_here R place old new a h = record {
   inside = λ w m. (let t = a.each w m in ap (lies_in place) (sym t.same) ∙ h.inside t.before t.was);
 }
 
+-- what is added in two steps is added in one
 pub adds_then : (R S T : ℕ → ℕ → Type 0) (old mid new : List Numbered) → AddsPlaces R old mid →
     AddsPlaces S mid new → ((p i : ℕ) → (R p i ⊎ S p i → T p i) × (T p i → R p i ⊎ S p i)) → AddsPlaces T old new
 adds_then R S T old mid new a b f = record {
@@ -239,6 +249,7 @@ adds_then R S T old mid new a b f = record {
 pub point_none : (ps : List ℕ) (i : ℕ) (ws : List Numbered) → AddsPlaces (λ q j. IsIn q (take 0 ps) × (i ≡ j)) ws ws
 point_none ps i ws = adds_none (λ q j. IsIn q (take 0 ps) × (i ≡ j)) ws (λ w j m t. each_none (λ q. ⊥) ps w.1.0 t.0)
 
+-- with the star of the next point
 pub point_more : (ps : List ℕ) (n x i : ℕ) (old mid new : List Numbered) → n < length ps →
     x ≡ slice_index_or ps n x → AddsPlaces (λ q j. IsIn q (take n ps) × (i ≡ j)) old mid → AddsPlaces (λ q j.
     (x ≡ q) × (i ≡ j)) mid new → AddsPlaces (λ q j. IsIn q (take (n + 1) ps) × (i ≡ j)) old new
@@ -251,6 +262,7 @@ point_more ps n x i old mid new h e a b = rw add-one (adds_then (λ q j. IsIn q 
       λ t. elim (in_more ps n x x q h e t.0) [ inl m ↦ inl (m, t.1) | inr m ↦ inr (m, t.1) ],
     )))
 
+-- at the end of all its points
 pub points_all : (c : Cell) (ps : List ℕ) (n i : ℕ) (old new : List Numbered) → ps ≡ points_of c → length ps ≤ n →
     AddsPlaces (λ q j. IsIn q (take n ps) × (i ≡ j)) old new → AddsPlaces (λ q j. IsIn q (points_of c) ×
     (i ≡ j)) old new
@@ -265,9 +277,11 @@ points_all c ps n i old new e h a = subst (λ (l : List ℕ). AddsPlaces (λ q j
 abbrev pub Put : List (ℕ × Cell) → ℕ → ℕ → ℕ → Type 0
 Put placed n q j = (c : Cell) × IsIn (j, c) (take n placed) × IsIn q (points_of c)
 
+-- of no cell yet nothing
 pub put_none : (placed : List (ℕ × Cell)) (ws : List Numbered) → AddsPlaces (Put placed 0) ws ws
 put_none placed ws = adds_none (Put placed 0) ws (λ w j m t. each_none (λ x. ⊥) placed (j, t.0) t.1)
 
+-- with the place of the next cell
 pub put_more : (placed : List (ℕ × Cell)) (n : ℕ) (x : ℕ × Cell) (old mid new : List Numbered) → n < length placed →
     x ≡ slice_index_or placed n x → AddsPlaces (Put placed n) old mid → AddsPlaces (λ q j. IsIn q (points_of x.1) ×
     (x.0 ≡ j)) mid new → AddsPlaces (Put placed (n + 1)) old new
@@ -287,6 +301,7 @@ put_more placed n x old mid new h e a b = rw add-one (adds_then (Put placed n) (
       ],
     )))
 
+-- at the end of all cells
 pub put_all : (placed : List (ℕ × Cell)) (n : ℕ) (old new : List Numbered) → length placed ≤ n → AddsPlaces
     (Put placed n) old new → AddsPlaces (λ q j. (c : Cell) × IsIn (j, c) placed × IsIn q (points_of c)) old new
 put_all placed n old new h a = adds_then (Put placed n) (λ q j. ⊥) (λ q j. (c : Cell) × IsIn (j, c) placed × IsIn q
@@ -297,6 +312,7 @@ put_all placed n old new h a = adds_then (Put placed n) (λ q j. ⊥) (λ q j. (
 
 -- ---- the stars without the freed places
 
+-- the numbers and vertices of the first turns, with one star more
 pub heads_more : (turns : List (ℕ × ℕ)) (n : ℕ) (x : ℕ × ℕ) (list new : List Numbered) (w : Numbered) →
     n < length turns → x ≡ slice_index_or turns n x → w.1.0 ≡ x.1 → new ≡ list ++ (x.0, w.1) ∷ [] →
     map head_of list ≡ take n turns → map head_of new ≡ take (n + 1) turns
@@ -304,6 +320,7 @@ heads_more turns n x list new w h e v p i =
     ap (map head_of) p ∙ map-append head_of list ((x.0, w.1) ∷ []) ∙ ap (λ (l : List (ℕ × ℕ)). l ++ (x.0, w.1.0) ∷ []) i
     ∙ ap (λ (q : ℕ). take n turns ++ (x.0, q) ∷ []) v ∙ sym (take_next turns n x h e)
 
+-- with a star more that has what stays of its places, each has just what stays
 pub staying_more : (b : Placed) (freed : List ℕ) (x : ℕ × ℕ) (list new : List Numbered) (s : ℕ × List ℕ) →
     s.0 ≡ x.1 → ((i : ℕ) → (IsIn i s.1 → IsStarred b.keys b.stars x.1 i × (IsIn i freed → ⊥)) ×
     (IsStarred b.keys b.stars x.1 i × (IsIn i freed → ⊥) → IsIn i s.1)) → new ≡ list ++ (x.0, s) ∷ [] →
@@ -324,6 +341,7 @@ turns_more pairs n k x list new h e p i =
     ∙ sym (map-append (λ (t : ℕ × ℕ). t.1) (take n pairs) (x ∷ [])) ∙ ap (map (λ (t : ℕ × ℕ). t.1)) (sym
     (take_next pairs n x h e))
 
+-- the vertices of numbers and vertices side by side are these
 pub second_of_zip : (us ps : List ℕ) → length us ≡ length ps → map (λ t. t.1) (zip us ps) ≡ ps
 second_of_zip [] [] e = refl
 second_of_zip [] (p ∷ ps) e = absurd (omega (arith, e))
@@ -345,6 +363,7 @@ stars_here place turns ws e a f = record {
     vertices [] = refl
     vertices (w ∷ l) = ap (λ (r : List ℕ). w.1.0 ∷ r) (vertices l)
 
+-- stars that have what stays, and to which what comes is added, are those after the exchange
 pub added_after : (b : Placed) (freed : List ℕ) (placed : List (ℕ × Cell)) (turns : List (ℕ × ℕ))
     (old new : List Numbered) → ((n p : ℕ) → IsIn (n, p) turns → lies_in b.place p ≡ true) →
     map head_of old ≡ turns → ((w : Numbered) → IsIn w old → IsStaying b freed w) → AddsPlaces (λ q j.

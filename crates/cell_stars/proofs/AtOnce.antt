@@ -1,11 +1,10 @@
 -- Cells that are put in all at once.
-use Rattle.std.specs.Prelude.{◌≡◌, ℕ, zero, suc, ◌+◌, ◌<◌, ◌≤◌, ◌==◌, true, List, [], ◌∷◌, ◌++◌, ◌⊎◌, length, map, Option, None, Some, slice_index, slice_index_or, slice_set}
-use Rattle.std.specs.List.{list_any}
+use Rattle.std.specs.Prelude.{◌≡◌, ℕ, zero, suc, ◌+◌, ◌<◌, ◌≤◌, true, List, [], ◌∷◌, ◌++◌, ◌⊎◌, length, map, Option, Some, slice_index, slice_index_or, slice_set}
 use Rattle.std.specs.List.Sorted.{IsStrictlySortedBy}
 use Rattle.std.proofs.Common.{refl, sym, ◌∙◌, ap, subst, inl, inr, arith, take}
 use Rattle.std.proofs.lemmas.List.{get_or-set_same, get_or-set_other, map-append, take_all}
 use Rattle.del_laws.proofs.Cited.{same_members}
-use Rattle.list_laws.proofs.Cited.{Gathered, any_from, at_place, each_none, gather_all, gather_push, gather_skip, gather_step, in_pushed, in_snoc, index_in, len_set, mapped_true, pushed_new, pushed_old, snoc_new, snoc_old, same_from, same_true, take_next}
+use Rattle.list_laws.proofs.Cited.{Gathered, each_none, gather_push, gather_skip, gather_step, in_pushed, in_snoc, index_in, len_set, pushed_new, pushed_old, snoc_new, snoc_old, same_from, same_true, take_next}
 use Rattle.point_order.specs.declared.cell.Cell.{Cell}
 use Rattle.point_order.specs.CellOrder.{cell_cmp}
 use Rattle.point_order.specs.Facets.{points_of}
@@ -13,37 +12,42 @@ use Rattle.point_order.specs.Sets.{IsIn, IsAscending}
 use Rattle.cell_stars.specs.AtOnce.{AreKeyed, AreNumberedTo, FromCellHere, GainsPlaces, HaveKeys, StandsAtHere, StandsHere}
 use Rattle.cell_stars.specs.Gathering.{Gathers}
 use Rattle.cell_stars.specs.Grids.{bucket_of}
-use Rattle.cell_stars.specs.Places.{Placed, AreStars, IsNamed, IsStarred, at, cells_of, lies_in, live, star_at}
+use Rattle.cell_stars.specs.Places.{AreStars, IsStarred, at, cells_of, lies_in, star_at}
 use Rattle.cell_stars.specs.Swaps.{Differ, touches}
-use Rattle.cell_stars.proofs.KeyLaws.{BelongsAt, at_key, no_key, one_key, same_or_not, vertices}
-use Rattle.cell_stars.proofs.Least.{at_live, live_at}
+use Rattle.cell_stars.proofs.KeyLaws.{at_key, one_key, same_or_not, vertices}
 use Rattle.cell_stars.proofs.Moved.{in_placed, placed_in, placed_sorted}
 use Rattle.cell_stars.proofs.Orders.{sorted_differ}
 
+-- stars, each a vertex with places
 abbrev Stars : Type 0
 Stars = List (ℕ × List ℕ)
 
 -- ---- lists that are made of others, element by element
 
+-- one element more is mapped
 pub map_more : {X Y : Type 0} (f : X → Y) (l : List X) (n : ℕ) (x : X) (list new : List Y) → n < length l → x ≡ slice_index_or l n x →
     new ≡ list ++ f x ∷ [] → list ≡ map f (take n l) → new ≡ map f (take (n + 1) l)
 map_more f l n x list new h e p s = p ∙ ap (λ v. v ++ f x ∷ []) s ∙ sym (ap (map f) (take_next l n x h e) ∙ map-append f (take n l) (x ∷ []))
 
+-- at the end all are
 pub map_all : {X Y : Type 0} (f : X → Y) (l : List X) (n : ℕ) (list : List Y) → length l ≤ n → list ≡ map f (take n l) → list ≡ map f l
 map_all f l n list h s = s ∙ ap (map f) (take_all n l h)
 
 -- ---- the vertices that lie in the bucket
 
+-- the next point lies in the bucket and is gathered
 pub here_more : (g b : ℕ) (ps : List ℕ) (n : ℕ) (old list new : List ℕ) (x : ℕ) → n < length ps → x ≡ slice_index_or ps n x →
     bucket_of g x ≡ b → new ≡ list ++ x ∷ [] → Gathered (StandsHere g b) ps n old list → Gathered (StandsHere g b) ps (n + 1) old new
 here_more g b ps n old list new x h e t p s =
     gather_push (StandsHere g b) ps n old list new x x x h e (refl, same_true (bucket_of g x) b t) (λ z r. r.0) p s
 
+-- or it does not, and is not
 pub here_not : (g b : ℕ) (ps : List ℕ) (n : ℕ) (old list : List ℕ) (x : ℕ) → n < length ps → x ≡ slice_index_or ps n x →
     (bucket_of g x ≡ b → ⊥) → Gathered (StandsHere g b) ps n old list → Gathered (StandsHere g b) ps (n + 1) old list
 here_not g b ps n old list x h e t s =
     gather_skip (StandsHere g b) ps n old list x x h e (λ z r. t (ap (bucket_of g) r.0 ∙ same_from (bucket_of g z) b r.1)) s
 
+-- the points of the next cell are gathered
 pub cell_here : (g b : ℕ) (cells : List Cell) (n : ℕ) (old list new : List ℕ) (x d : Cell) → n < length cells → x ≡ slice_index_or cells n d →
     Gathers (StandsHere g b) (points_of x) list new → Gathered (FromCellHere g b) cells n old list → Gathered (FromCellHere g b) cells (n + 1) old new
 cell_here g b cells n old list new x d h e k s =
@@ -62,12 +66,14 @@ same_gathered g b cells list new f s = record {
 
 -- ---- numbers for the vertices
 
+-- at first no vertex has a number
 pub number_none : (l : List ℕ) (keys : List (ℕ × ℕ)) → keys ≡ [] → AreNumberedTo 0 l keys
 number_none l keys e = record {
   vertices_are = ap vertices e;
   each = λ k m. absurd (subst (λ ks. IsIn k ks) e m);
 }
 
+-- the next vertex gets its place for a number
 pub number_more : (l : List ℕ) (n x : ℕ) (keys new : List (ℕ × ℕ)) → n < length l → x ≡ slice_index_or l n x → new ≡ keys ++ (x, n) ∷ [] →
     AreNumberedTo n l keys → AreNumberedTo (n + 1) l new
 number_more l n x keys new h e p s = record {
@@ -83,6 +89,7 @@ number_more l n x keys new h e p s = record {
     there (y ∷ l) zero x h e = sym e
     there (y ∷ l) (suc n) x h e = there l n x (omega arith) e
 
+-- at the end all have numbers
 pub number_all : (l : List ℕ) (n : ℕ) (keys : List (ℕ × ℕ)) → length l ≤ n → AreNumberedTo n l keys → AreNumberedTo (length l) l keys
 number_all l n keys h s = record {
   vertices_are = s.vertices_are ∙ take_all n l h ∙ sym (take_all (length l) l (omega arith));
@@ -91,11 +98,13 @@ number_all l n keys h s = record {
 
 -- ---- stars that gain places
 
+-- a star without places is there for each vertex
 bare_at : (l : List ℕ) (n : ℕ) → n < length l → star_at (map (λ p. (p, [])) l) n ≡ (slice_index l n, [])
 bare_at [] n h = absurd (omega arith)
 bare_at (p ∷ l) zero h = refl
 bare_at (p ∷ l) (suc n) h = bare_at l n (omega arith)
 
+-- there are as many of them as vertices
 bare_length : (l : List ℕ) → (let bare : List (ℕ × List ℕ) = map (λ p. (p, [])) l in length bare ≡ length l)
 bare_length [] = refl
 bare_length (p ∷ l) = ap suc (bare_length l)
@@ -117,9 +126,11 @@ bare_none l keys stars p i s e r =
     let q : (star_at stars r.number).1 ≡ [] = ap (λ v. (star_at v r.number).1) e ∙ ap (λ (s : ℕ × List ℕ). s.1) (bare_at l r.number h) in
     subst (λ (v : List ℕ). IsIn i v) q r.listed
 
+-- a star that is set stands there
 set_one : (stars : Stars) (n : ℕ) (s : ℕ × List ℕ) → n < length stars → star_at (slice_set stars n s) n ≡ s
 set_one stars n s h = get_or-set_same stars n s (0, []) h
 
+-- and all others stand as before
 set_other : (stars : Stars) (n m : ℕ) (s : ℕ × List ℕ) → (m ≡ n → ⊥) → star_at (slice_set stars n s) m ≡ star_at stars m
 set_other stars n m s f = get_or-set_other stars n m s (0, []) f
 
@@ -233,10 +244,12 @@ gains_same keys R T old new f h a = record {
 abbrev pub FirstHere : ℕ → ℕ → List ℕ → ℕ → ℕ → ℕ → ℕ → Type 0
 FirstHere g b ps n i q j = (IsIn q (take n ps) × (lies_in (Some (g, b)) q ≡ true)) × (i ≡ j)
 
+-- of the first points of a cell, none yet, nothing is gained
 pub first_none : (g b : ℕ) (keys : List (ℕ × ℕ)) (ps : List ℕ) (i : ℕ) (stars : Stars) → AreKeyed keys stars →
     GainsPlaces keys (FirstHere g b ps 0 i) stars stars
 first_none g b keys ps i stars a = gains_none keys (FirstHere g b ps 0 i) stars a (λ q j r. each_none (λ x. ⊥) ps q r.0.0)
 
+-- the next one lies in the bucket and its star gains the place
 pub first_more : (g b : ℕ) (keys : List (ℕ × ℕ)) (ps : List ℕ) (n i x : ℕ) (old mid new : Stars) → n < length ps → x ≡ slice_index_or ps n x →
     bucket_of g x ≡ b → GainsPlaces keys (FirstHere g b ps n i) old mid → GainsPlaces keys (λ q j. (x ≡ q) × (i ≡ j)) mid new →
     GainsPlaces keys (FirstHere g b ps (n + 1) i) old new
@@ -250,6 +263,7 @@ first_more g b keys ps n i x old mid new h e t u v =
     more : take (n + 1) ps ≡ take n ps ++ x ∷ []
     more = take_next ps n x h e
 
+-- or it does not, and nothing more is gained
 pub first_not : (g b : ℕ) (keys : List (ℕ × ℕ)) (ps : List ℕ) (n i x : ℕ) (old new : Stars) → n < length ps → x ≡ slice_index_or ps n x →
     (bucket_of g x ≡ b → ⊥) → GainsPlaces keys (FirstHere g b ps n i) old new → GainsPlaces keys (FirstHere g b ps (n + 1) i) old new
 first_not g b keys ps n i x old new h e t u =
@@ -264,6 +278,7 @@ first_not g b keys ps n i x old new h e t u =
     more : take (n + 1) ps ≡ take n ps ++ x ∷ []
     more = take_next ps n x h e
 
+-- at the end each vertex of the cell that lies in the bucket has gained it
 pub first_all : (g b : ℕ) (keys : List (ℕ × ℕ)) (c : Cell) (ps : List ℕ) (n i : ℕ) (old new : Stars) → ps ≡ points_of c → length ps ≤ n →
     GainsPlaces keys (FirstHere g b ps n i) old new → GainsPlaces keys (λ q j. FromCellHere g b c q × (i ≡ j)) old new
 first_all g b keys c ps n i old new e h u =
@@ -281,22 +296,27 @@ some_at [] n x d h e = absurd (omega arith)
 some_at (c ∷ cells) zero x d h e = ap (λ y. Some y) (sym e)
 some_at (c ∷ cells) (suc n) x d h e = some_at cells n x d (omega arith) e
 
+-- and what stands at a place is one of the list
 at_some : (cells : List Cell) (n : ℕ) (c : Cell) → at (map (λ c. Some c) cells) n ≡ Some c → (n < length cells) × IsIn c cells
 at_some [] n c e = absurd (cc e)
 at_some (d ∷ cells) zero c e = (omega arith, inl (cc e))
 at_some (d ∷ cells) (suc n) c e = (let r = at_some cells n c e in ((let h = r.0 in omega (arith, h)), inr r.1))
 
+-- each cell of the list stands at some place
 in_at : (cells : List Cell) (c : Cell) → IsIn c cells → (n : ℕ) × (at (map (λ c. Some c) cells) n ≡ Some c)
 in_at [] c m = absurd m
 in_at (d ∷ cells) c (inl e) = (0, ap (λ y. Some y) e)
 in_at (d ∷ cells) c (inr m) = (let r = in_at cells c m in (suc r.0, r.1))
 
+-- an option has one value
 one_some : (x y : Cell) (o : Option Cell) → o ≡ Some x → o ≡ Some y → x ≡ y
 one_some x y o e f = cc (e, f)
 
+-- of no cell yet nothing stands anywhere
 pub all_none : (g b : ℕ) (cells : List Cell) (p i : ℕ) → StandsAtHere g b cells 0 p i → ⊥
 all_none g b cells p i r = (let h = r.0 in absurd (omega (arith, h)))
 
+-- the stars gain the place of the next cell
 pub all_more : (g b : ℕ) (keys : List (ℕ × ℕ)) (cells : List Cell) (n : ℕ) (x d : Cell) (old mid new : Stars) → n < length cells →
     x ≡ slice_index_or cells n d → GainsPlaces keys (StandsAtHere g b cells n) old mid → GainsPlaces keys (λ q j. FromCellHere g b x q × (n ≡ j)) mid new →
     GainsPlaces keys (StandsAtHere g b cells (n + 1)) old new
@@ -313,6 +333,7 @@ all_more g b keys cells n x d old mid new h e u v =
     here : at (map (λ c. Some c) cells) n ≡ Some x
     here = some_at cells n x d h e
 
+-- at the end they have gained those of all cells
 pub all_all : (g b : ℕ) (keys : List (ℕ × ℕ)) (cells : List Cell) (n : ℕ) (old new : Stars) → length cells ≤ n →
     GainsPlaces keys (StandsAtHere g b cells n) old new → GainsPlaces keys (StandsAtHere g b cells (length cells)) old new
 all_all g b keys cells n old new h u =
@@ -321,6 +342,7 @@ all_all g b keys cells n old new h u =
 
 -- ---- the stars are those of the cells
 
+-- in a list of different cells each stands at one place
 differ_at : (cells : List Cell) (i j : ℕ) (c : Cell) → Differ cells → at (map (λ c. Some c) cells) i ≡ Some c → at (map (λ c. Some c) cells) j ≡ Some c → i ≡ j
 differ_at [] i j c d e f = absurd (cc e)
 differ_at (x ∷ cells) zero zero c d e f = refl
@@ -339,6 +361,7 @@ all_keyed g b cells l keys s n c i p r =
     beside (k ∷ keys) p (inl e) = (k.1, inl (ap (λ (v : ℕ). (v, k.1)) e))
     beside (k ∷ keys) p (inr m) = (let r = beside keys p m in (r.0, inr r.1))
 
+-- so the stars are those of the cells
 pub are_stars : (g b : ℕ) (cells : List Cell) (l : List ℕ) (keys : List (ℕ × ℕ)) (bare stars : Stars) → IsStrictlySortedBy cell_cmp cells →
     ((c : Cell) → IsIn c cells → touches g b c ≡ true) → Gathers (FromCellHere g b) cells [] l → AreNumberedTo (length l) l keys →
     bare ≡ map (λ p. (p, [])) l → GainsPlaces keys (StandsAtHere g b cells (length cells)) bare stars →

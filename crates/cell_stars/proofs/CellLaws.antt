@@ -17,6 +17,7 @@ use Rattle.cell_stars.specs.Swaps.{is_cell_among, with_cell, with_cells, without
 
 -- ---- whether a cell is in a list
 
+-- a cell of a list is found there
 pub among_true : (c : Cell) (l : List Cell) → IsIn c l → is_cell_among c l ≡ true
 among_true c [] m = absurd m
 among_true c (d ∷ l) (inl e) = rw (ap (λ x. is_eq (cell_cmp x c)) e ∙ ap is_eq (cell_self c)) refl
@@ -26,6 +27,7 @@ among_true c (d ∷ l) (inr m) = by (is_eq (cell_cmp d c)) (among_true c l m)
     by true h = refl
     by false h = h
 
+-- and one that is found is one of it
 pub among_from : (c : Cell) (l : List Cell) → is_cell_among c l ≡ true → IsIn c l
 among_from c [] e = cc
 among_from c (d ∷ l) e = by (cell_cmp d c) refl e (λ f. among_from c l f)
@@ -45,6 +47,7 @@ in_or_not c l = by (is_cell_among c l) refl
 
 -- ---- one more cell
 
+-- a cell of a list with one more is that one, or was there
 pub in_with : (c x : Cell) (l : List Cell) → IsIn x (with_cell c l) → (c ≡ x) ⊎ IsIn x l
 in_with c x [] m = m
 in_with c x (d ∷ l) m = by (cell_cmp c d) m (λ k. in_with c x l k)
@@ -55,6 +58,7 @@ in_with c x (d ∷ l) m = by (cell_cmp c d) m (λ k. in_with c x l k)
     by Greater (inl e) r = inr (inl e)
     by Greater (inr m) r = elim (r m) [ inl e ↦ inl e | inr k ↦ inr (inr k) ]
 
+-- the one more is there
 with_new : (c : Cell) (l : List Cell) → IsIn c (with_cell c l)
 with_new c [] = inl refl
 with_new c (d ∷ l) = by (cell_cmp c d) refl (with_new c l)
@@ -64,6 +68,7 @@ with_new c (d ∷ l) = by (cell_cmp c d) refl (with_new c l)
     by Equal e r = inl (sym (cell_same c d e))
     by Greater e r = inr r
 
+-- and what was there is there still
 with_old : (c x : Cell) (l : List Cell) → IsIn x l → IsIn x (with_cell c l)
 with_old c x [] m = absurd m
 with_old c x (d ∷ l) m = by (cell_cmp c d) m (λ k. with_old c x l k)
@@ -74,6 +79,7 @@ with_old c x (d ∷ l) m = by (cell_cmp c d) m (λ k. with_old c x l k)
     by Greater (inl e) r = inl e
     by Greater (inr m) r = inr (r m)
 
+-- and the list is in order, each once, as before
 with_sorted : (c : Cell) (l : List Cell) → IsStrictlySortedBy cell_cmp l → IsStrictlySortedBy cell_cmp (with_cell c l)
 unfolding IsStrictlySortedBy
 with_sorted c [] s = (tt, tt)
@@ -96,6 +102,7 @@ with_sorted c (d ∷ l) s = by (cell_cmp c d) refl (with_sorted c l s.1)
 
 -- ---- more cells
 
+-- the same of several cells more: a cell is one of these, or was there
 pub in_withs : (cs l : List Cell) (x : Cell) → IsIn x (with_cells cs l) → IsIn x cs ⊎ IsIn x l
 in_withs [] l x m = inr m
 in_withs (c ∷ cs) l x m = elim (in_withs cs (with_cell c l) x m) [
@@ -103,28 +110,34 @@ in_withs (c ∷ cs) l x m = elim (in_withs cs (with_cell c l) x m) [
   | inr k ↦ elim (in_with c x l k) [ inl e ↦ inl (inl e) | inr i ↦ inr i ]
 ]
 
+-- what was there is there still
 pub withs_old : (cs l : List Cell) (x : Cell) → IsIn x l → IsIn x (with_cells cs l)
 withs_old [] l x m = m
 withs_old (c ∷ cs) l x m = withs_old cs (with_cell c l) x (with_old c x l m)
 
+-- and these are there
 pub withs_new : (cs l : List Cell) (x : Cell) → IsIn x cs → IsIn x (with_cells cs l)
 withs_new [] l x m = absurd m
 withs_new (c ∷ cs) l x (inl e) = withs_old cs (with_cell c l) x (subst (λ (y : Cell). IsIn y (with_cell c l)) e (with_new c l))
 withs_new (c ∷ cs) l x (inr m) = withs_new cs (with_cell c l) x m
 
+-- and the list is in order
 pub withs_sorted : (cs l : List Cell) → IsStrictlySortedBy cell_cmp l → IsStrictlySortedBy cell_cmp (with_cells cs l)
 withs_sorted [] l s = s
 withs_sorted (c ∷ cs) l s = withs_sorted cs (with_cell c l) (with_sorted c l s)
 
 -- ---- exchanges
 
+-- the cell is none of the gone ones
 abbrev pub kept : List Cell → Cell → Bool
 kept gone c = not (is_cell_among c gone)
 
+-- what is true when denied is not true
 not_false : (b : Bool) → not b ≡ true → b ≡ true → ⊥
 not_false true e f = absurd (cc e)
 not_false false e f = absurd (cc f)
 
+-- a cell that is none of the gone ones passes
 pub kept_true : (gone : List Cell) (c : Cell) → (IsIn c gone → ⊥) → kept gone c ≡ true
 kept_true gone c n = by (is_cell_among c gone) refl
   where
@@ -146,16 +159,19 @@ swapped_from g b gone fresh l x m = elim (in_withs (filter (touches g b) fresh) 
   | inr k ↦ (let r = filtered_from (kept (filter (touches g b) gone)) l x k in inr (r.0, λ i t. not_false (is_cell_among x (filter (touches g b) gone)) r.1 (among_true x (filter (touches g b) gone) (filtered_true (touches g b) gone x i t))))
 ]
 
+-- a fresh cell that touches the bucket is there after the exchange
 pub swapped_new : (g b : ℕ) (gone fresh l : List Cell) (x : Cell) → IsIn x fresh → touches g b x ≡ true → IsIn x (swapped g b gone fresh l)
 unfolding swapped
 swapped_new g b gone fresh l x m t = withs_new (filter (touches g b) fresh) (without_cells (filter (touches g b) gone) l) x (filtered_true (touches g b) fresh x m t)
 
+-- so is a cell that was there and is none of the gone ones
 pub swapped_old : (g b : ℕ) (gone fresh l : List Cell) (x : Cell) → IsIn x l → (IsIn x gone → ⊥) → IsIn x (swapped g b gone fresh l)
 unfolding swapped
 swapped_old g b gone fresh l x m n =
     withs_old (filter (touches g b) fresh) (without_cells (filter (touches g b) gone) l) x
     (filtered_true (kept (filter (touches g b) gone)) l x m (kept_true (filter (touches g b) gone) x (λ i. n (filtered_from (touches g b) gone x i).0)))
 
+-- and so is one that was there and is gone only from other buckets
 pub swapped_kept : (g b : ℕ) (gone fresh l : List Cell) (x : Cell) → IsIn x l → (IsIn x gone → touches g b x ≡ true → ⊥) → IsIn x (swapped g b gone fresh l)
 unfolding swapped
 swapped_kept g b gone fresh l x m n =

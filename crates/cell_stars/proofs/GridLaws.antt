@@ -29,6 +29,7 @@ below g x y z h i j k =
     P : ℕ → Type 0
     P g = x / width_of g * g * g + y / width_of g * g + z / width_of g < g * g * g
 
+-- so it is with every number, by its low bits
 pub bucket_below : (g p : ℕ) → is_grid_size g ≡ true → bucket_of g p < g * g * g
 unfolding bucket_of x_of y_of z_of
 bucket_below g p h = below g (p / 268435456 % 16384) (p / 16384 % 16384) (p % 16384) h (omega arith) (omega arith) (omega arith)

@@ -8,6 +8,7 @@ use Rattle.point_order.specs.Sets.{IsIn, IsAscending, IsBelowFirst}
 use Rattle.cell_stars.specs.Places.{IsStarred, star_at}
 use Rattle.cell_stars.specs.Moves.{IsWritten, AreKeysAfter, AreAgreed, IsKeyed, IsKeyAfter}
 
+-- vertices with the numbers of their stars
 abbrev pub Keys : Type 0
 Keys = List (ℕ × ℕ)
 
@@ -15,6 +16,7 @@ Keys = List (ℕ × ℕ)
 abbrev pub vertices : Keys → List ℕ
 vertices ks = map (λ k. k.0) ks
 
+-- the vertex of a key is one of the vertices
 pub vertex_in : (ks : Keys) (k : ℕ × ℕ) → IsIn k ks → IsIn k.0 (vertices ks)
 vertex_in [] k i = absurd i
 vertex_in (x ∷ ks) k (inl e) = inl (ap (λ y. y.0) e)
@@ -44,6 +46,7 @@ at_key (x ∷ ks) (suc i) k h e = (let r = at_key ks i k (omega arith) e in (inr
 abbrev pub BelongsAt : Keys → ℕ → ℕ → Type 0
 BelongsAt ks p i = (i ≤ length ks) × ((k : ℕ) → k < i → slice_index (vertices ks) k < p) × ((k : ℕ) → i ≤ k → k < length ks → p < slice_index (vertices ks) k)
 
+-- a vertex that belongs at a place has no key
 pub no_key : (ks : Keys) (p i : ℕ) → BelongsAt ks p i → (k : ℕ × ℕ) → IsIn k ks → k.0 ≡ p → ⊥
 no_key ks p i b k m e =
     let t = key_at ks k m in
@@ -58,6 +61,7 @@ no_key ks p i b k m e =
 abbrev pub owned_by : ℕ → ℕ × List ℕ → List ℕ
 owned_by p s = if s.0 == p then s.1 else []
 
+-- what is in it is in the star, which is the vertex's own
 pub in_owned : (p x : ℕ) (s : ℕ × List ℕ) → IsIn x (owned_by p s) → (s.0 ≡ p) × IsIn x s.1
 in_owned p x s i = by (s.0 == p) refl i
   where
@@ -65,6 +69,7 @@ in_owned p x s i = by (s.0 == p) refl i
     by true e i = (same_from s.0 p e, i)
     by false e i = absurd i
 
+-- and what is in a star of its own is in it
 pub owned_in : (p x : ℕ) (s : ℕ × List ℕ) → s.0 ≡ p → IsIn x s.1 → IsIn x (owned_by p s)
 owned_in p x s e i = rw (same_true s.0 p e) i
 
@@ -102,6 +107,7 @@ has_any s [] false e f = absurd (yes f)
     yes g = cc g
 has_any s (x ∷ l) false e f = (x, subst (λ (k : List ℕ). IsIn x k) e (inl refl))
 
+-- a star that was found to have none has none
 pub none_there : (s : ℕ × List ℕ) (r : Bool) → IsTrue (not r) → MatchBool r ((i : ℕ) × IsIn i s.1) ((i : ℕ) → IsIn i s.1 → ⊥) → (i : ℕ) → IsIn i s.1 → ⊥
 none_there s true t m = absurd (yes t)
   where
@@ -111,6 +117,7 @@ none_there s false t m = m
 
 -- ---- a key put in or taken out
 
+-- what stands at a place of the vertices is one of them
 in_vertices : (ks : Keys) (i : ℕ) → i < length ks → IsIn (slice_index (vertices ks) i) (vertices ks)
 in_vertices [] i h = absurd (omega arith)
 in_vertices (x ∷ ks) zero h = inl refl
@@ -205,6 +212,7 @@ taken_out old mid ks p i f e h = by (at_vertex ks i h.0) h.1
 
 -- ---- the keys after stars were written
 
+-- two numbers are one or are not
 pub same_or_not : (x y : ℕ) → (x ≡ y) ⊎ (x ≡ y → ⊥)
 same_or_not x y = by (x == y) refl
   where
@@ -244,9 +252,11 @@ pub record KeysSoFar (old : Keys) (writes : Writes) (n : ℕ) (new : Keys) : Typ
   pub kept : (p m : ℕ) → IsIn (p, m) old → ((j : ℕ) (s : List ℕ) → IsIn (j, (p, s)) (take n writes) → ⊥) → IsIn (p, m) new
   pub written : (p m : ℕ) → IsWritten (take n writes) p m → IsIn (p, m) new
 
+-- none of the first no stars was written
 none_yet : (writes : Writes) (x : ℕ × (ℕ × List ℕ)) → IsIn x (take 0 writes) → ⊥
 none_yet writes x m = each_none (λ y. ⊥) writes x m
 
+-- before the first the keys are as they were
 pub keys_begin : (old new : Keys) (writes : Writes) → new ≡ old → IsAscending (vertices old) → KeysSoFar old writes 0 new
 keys_begin old new writes e a = rw e (record {
   order = a;
@@ -255,24 +265,28 @@ keys_begin old new writes e a = rw e (record {
   written = λ p m q. absurd (none_yet writes (m, (p, q.places)) q.listed);
 })
 
+-- one of the first n stars is one of the first n + 1
 widen : (writes : Writes) (n : ℕ) (y : ℕ × (ℕ × List ℕ)) → IsIn y (take n writes) → IsIn y (take (n + 1) writes)
 widen writes n y m = subst (λ k. IsIn y (take k writes)) (one n) (more_one writes n y m)
   where
     one : (n : ℕ) → suc n ≡ n + 1
     one n = omega arith
 
+-- and so is the one behind them
 last_in : (writes : Writes) (n : ℕ) (x d : ℕ × (ℕ × List ℕ)) → n < length writes → x ≡ slice_index_or writes n d → IsIn x (take (n + 1) writes)
 last_in writes n x d h e = subst (λ k. IsIn x (take k writes)) (one n) (last_one writes n x d h e)
   where
     one : (n : ℕ) → suc n ≡ n + 1
     one n = omega arith
 
+-- and each of those is one or the other
 one_or : (writes : Writes) (n : ℕ) (x d y : ℕ × (ℕ × List ℕ)) → n < length writes → x ≡ slice_index_or writes n d → IsIn y (take (n + 1) writes) → IsIn y (take n writes) ⊎ (x ≡ y)
 one_or writes n x d y h e m = in_more writes n x d y h e (subst (λ k. IsIn y (take k writes)) (one n) m)
   where
     one : (n : ℕ) → n + 1 ≡ suc n
     one n = omega arith
 
+-- with the next star written the keys are those after it
 pub keys_step : (old list new : Keys) (writes : Writes) (n : ℕ) (x d : ℕ × (ℕ × List ℕ)) → AreAgreed writes → n < length writes → x ≡ slice_index_or writes n d → IsAscending (vertices new) → ((k : ℕ × ℕ) → (IsIn k new → IsKeyAfter list x.0 x.1 k) × (IsKeyAfter list x.0 x.1 k → IsIn k new)) → KeysSoFar old writes n list → KeysSoFar old writes (n + 1) new
 keys_step old list new writes n x d g h e a f s = record { order = a; from = from; kept = kept; written = written }
   where
@@ -302,6 +316,7 @@ keys_step old list new writes n x d g h e a f s = record { order = a; from = fro
       | inr q ↦ (f (p, m)).1 (inl (ap (λ (y : ℕ × (ℕ × List ℕ)). (y.1.0, y.0)) q, (w.place, subst (λ (y : ℕ × (ℕ × List ℕ)). IsIn w.place y.1.1) (sym q) w.filled)))
     ]
 
+-- at the end they are those after all
 pub keys_end : (old new : Keys) (writes : Writes) (n : ℕ) → length writes ≤ n → KeysSoFar old writes n new → AreKeysAfter old writes new
 keys_end old new writes n h s = subst (λ w. All w) (taken writes n h) (record { order = s.order; from = s.from; kept = s.kept; written = s.written })
   where

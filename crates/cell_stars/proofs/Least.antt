@@ -45,6 +45,7 @@ named_at slots (j ∷ is) i c (inr m) e = by (at slots j) (named_at slots is i c
     by None k = k
     by (Some d) k = inr k
 
+-- and each of those stands at one of the places
 pub at_named : (slots : List (Option Cell)) (is : List ℕ) (c : Cell) → IsIn c (named slots is) → (i : ℕ) × IsIn i is × (at slots i ≡ Some c)
 at_named slots [] c m = absurd m
 at_named slots (j ∷ is) c m = by (at slots j) refl m (λ k. at_named slots is c k)
@@ -56,9 +57,11 @@ at_named slots (j ∷ is) c m = by (at slots j) refl m (λ k. at_named slots is 
 
 -- ---- the least
 
+-- a cell of the star behind the bound is one of the list of these, in order
 one_member : (slots : List (Option Cell)) (star : List ℕ) (bound : Option Cell) (c : Cell) → IsOneOf slots star bound c → IsIn c (filter (is_after bound) (with_cells (named slots star) []))
 one_member slots star bound c o = filtered_true (is_after bound) (with_cells (named slots star) []) c (withs_new (named slots star) [] c (named_at slots star o.place c o.listed o.there)) o.behind
 
+-- and each of that list is
 member_one : (slots : List (Option Cell)) (star : List ℕ) (bound : Option Cell) (c : Cell) → IsIn c (filter (is_after bound) (with_cells (named slots star) [])) → IsOneOf slots star bound c
 member_one slots star bound c m =
     let f = filtered_from (is_after bound) (with_cells (named slots star) []) c m in
@@ -71,10 +74,12 @@ member_one slots star bound c m =
 abbrev pub behind : List (Option Cell) → List ℕ → Option Cell → List Cell
 behind slots star bound = filter (is_after bound) (with_cells (named slots star) [])
 
+-- that list is in order, each once
 behind_sorted : (slots : List (Option Cell)) (star : List ℕ) (bound : Option Cell) → IsStrictlySortedBy cell_cmp (behind slots star bound)
 unfolding IsStrictlySortedBy
 behind_sorted slots star bound = IsStrictlySortedBy-filter cell_cmp (is_after bound) (with_cells (named slots star) []) (withs_sorted (named slots star) [] tt)
 
+-- a list of which nothing is a member is empty
 no_members : (l : List Cell) → ((c : Cell) → IsIn c l → ⊥) → l ≡ []
 no_members [] f = refl
 no_members (c ∷ l) f = absurd (f c (inl refl))
@@ -83,6 +88,7 @@ no_members (c ∷ l) f = absurd (f c (inl refl))
 pub none_left : (slots : List (Option Cell)) (star : List ℕ) (bound : Option Cell) → HaveNone slots star bound → behind slots star bound ≡ []
 none_left slots star bound n = no_members (behind slots star bound) (λ c m. n c (member_one slots star bound c m))
 
+-- what the test does not find less is not less
 not_lt : (o : Ordering) → is_lt o ≡ false → o ≡ Less → ⊥
 not_lt Less e f = absurd (cc e)
 not_lt Equal e f = absurd (cc f)
@@ -120,6 +126,7 @@ least_first slots star bound c l =
 
 -- ---- one more place
 
+-- an option has one value
 one_cell : (c d : Cell) → Some c ≡ Some d → c ≡ d
 one_cell c d e = cc e
 
@@ -127,6 +134,7 @@ one_cell c d e = cc e
 abbrev pub Found : {X : Type 0} → (X → Cell) → List (Option Cell) → List ℕ → Option Cell → Option X → Type 0
 Found f slots star bound o = MatchOption o (HaveNone slots star bound) (λ x. IsLeastOf slots star bound (f x))
 
+-- a cell at one of the first i places is at one of the first i + 1
 widened : (slots : List (Option Cell)) (star : List ℕ) (bound : Option Cell) (i : ℕ) (c : Cell) → IsOneOf slots (take i star) bound c → IsOneOf slots (take (suc i) star) bound c
 widened slots star bound i c o = record { place = o.place; listed = more_one star i o.place o.listed; there = o.there; behind = o.behind }
 
@@ -176,6 +184,7 @@ lesser {X} f slots star bound i x o cell h e a b none_so found = record { one = 
           let s = cell_self cell in let t = subst (λ y. cell_cmp y cell ≡ Less) (sym same) m in absurd (cc (s, t)))
     ]
 
+-- no fewer than all are all
 pub all_taken : (l : List ℕ) (i : ℕ) → (i < length l → ⊥) → take i l ≡ l
 all_taken [] zero h = refl
 all_taken [] (suc i) h = refl
@@ -195,21 +204,26 @@ pub test_false : {X : Type 0} (f : X → Cell) (o : Option X) (cell : Cell) (r :
 test_false f None cell r e m c q l = absurd (cc q)
 test_false f (Some d) cell r e m c q l = (let same : d ≡ c = cc q in not_lt (cell_cmp (f d) cell) (sym m ∙ e) (subst (λ y. cell_cmp (f y) cell ≡ Less) (sym same) l))
 
+-- so where the test found it not to be less
 pub not_less_found : {X : Type 0} (f : X → Cell) (slots : List (Option Cell)) (star : List ℕ) (bound : Option Cell) (i x : ℕ) (o : Option X) (cell : Cell) (r : Bool) → i < length star → x ≡ slice_index_or star i 0 → at slots x ≡ Some cell → r ≡ true → MatchOption o (r ≡ false) (λ c. r ≡ is_lt (cell_cmp (f c) cell)) → Found f slots (take i star) bound o → Found f slots (take (suc i) star) bound o
 not_less_found f slots star bound i x None cell r h e a t m found = absurd (cc (t, m))
 not_less_found f slots star bound i x (Some c) cell r h e a t m found = not_less slots star bound i x (f c) cell h e a (is_less (cell_cmp (f c) cell) (sym m ∙ t)) found
 
+-- with the next place passed over, what was found so far is found of one place more
 pub passed_one : {X : Type 0} (f : X → Cell) (slots : List (Option Cell)) (star : List ℕ) (bound : Option Cell) (i x : ℕ) (o : Option X) → i < length star → x ≡ slice_index_or star i 0 → ((d : Cell) → at slots x ≡ Some d → is_after bound d ≡ true → ⊥) → Found f slots (take i star) bound o → Found f slots (take (i + 1) star) bound o
 passed_one f slots star bound i x o h e n found = rw add-one (passed f slots star bound i x o h e n found)
 
+-- and so where its cell is the least so far
 pub lesser_one : {X : Type 0} (f : X → Cell) (slots : List (Option Cell)) (star : List ℕ) (bound : Option Cell) (i x : ℕ) (o : Option X) (cell : Cell) → i < length star → x ≡ slice_index_or star i 0 → at slots x ≡ Some cell → is_after bound cell ≡ true → ((c : X) → o ≡ Some c → cell_cmp (f c) cell ≡ Less → ⊥) → Found f slots (take i star) bound o → IsLeastOf slots (take (i + 1) star) bound cell
 lesser_one f slots star bound i x o cell h e a b n found = rw add-one (lesser f slots star bound i x o cell h e a b n found)
 
+-- and where it is not
 pub not_less_one : {X : Type 0} (f : X → Cell) (slots : List (Option Cell)) (star : List ℕ) (bound : Option Cell) (i x : ℕ) (o : Option X) (cell : Cell) (r : Bool) → i < length star → x ≡ slice_index_or star i 0 → at slots x ≡ Some cell → r ≡ true → MatchOption o (r ≡ false) (λ c. r ≡ is_lt (cell_cmp (f c) cell)) → Found f slots (take i star) bound o → Found f slots (take (i + 1) star) bound o
 not_less_one f slots star bound i x o cell r h e a t m found = rw add-one (not_less_found f slots star bound i x o cell r h e a t m found)
 
 -- ---- a star is what its vertex filters
 
+-- with no bound all are behind it
 all_true : (l : List Cell) → filter (is_after None) l ≡ l
 all_true [] = refl
 all_true (c ∷ l) = ap (λ (m : List Cell). c ∷ m) (all_true l)
@@ -227,6 +241,7 @@ named_has b p star s h c k =
     let same : r.cell ≡ c = cc (r.there, t.2) in
     filtered_true (λ c. is_among p (points_of c)) (with_cells (live b.slots) []) c (withs_new (live b.slots) [] c (live_at b.slots t.0 c t.2)) (among_true p (points_of c) (subst (λ d. IsIn p (points_of d)) same r.has))
 
+-- and each cell with the vertex stands at a place of its star
 pub has_named : (b : Placed) (p : ℕ) (star : List ℕ) → AreStars b → IsStarOf b p star → lies_in b.place p ≡ true → (c : Cell) → IsIn c (filter (λ c. is_among p (points_of c)) (cells_of b.slots)) → IsIn c (named b.slots star)
 unfolding cells_of
 has_named b p star s h n c m =
@@ -236,6 +251,7 @@ has_named b p star s h n c m =
       | inr k ↦ absurd k
     ]
 
+-- so the cells of a star in order are those of the bucket that have the vertex
 pub star_filters : (b : Placed) (p : ℕ) (star : List ℕ) → AreStars b → IsStarOf b p star → lies_in b.place p ≡ true → behind b.slots star None ≡ filter (λ c. is_among p (points_of c)) (cells_of b.slots)
 unfolding IsStrictlySortedBy cells_of
 star_filters b p star s h n =

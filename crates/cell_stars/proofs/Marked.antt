@@ -29,9 +29,11 @@ use Rattle.point_order.specs.Sets.{IsIn, is_among}
 use Rattle.cell_stars.specs.Swaps.{Differ, cell_rest}
 use Rattle.cell_stars.specs.Moves.{AreCellsMarked, AreMarked}
 
+-- of no number yet none needs a mark
 pub marked_none : (marks list : List ℕ) → length marks ≡ 512 → AreMarked marks (take 0 list)
 marked_none marks list e = record { count = e; each = each_none (λ i. 0 < slice_index_or marks (i % 512) 0) list }
 
+-- with the mark of the next number all so far are marked
 pub marked_more : (marks list : List ℕ) (n x m : ℕ) → n < length list → x ≡ slice_index_or list n 0 → 0 < m →
     AreMarked marks (take n list) → AreMarked (slice_set marks (x % 512) m) (take (n + 1) list)
 marked_more marks list n x v h e pos m = record {
@@ -52,6 +54,7 @@ marked_more marks list n x v h e pos m = record {
       | inr w ↦ subst (λ (i : ℕ). 0 < i) (sym (get_or-set_other marks (x % 512) (y % 512) v 0 w)) k
     ]
 
+-- at the end all are
 pub marked_all : (marks list : List ℕ) (n : ℕ) → length list ≤ n → AreMarked marks (take n list) → AreMarked marks list
 marked_all marks list n h m = record {
   count = m.count;
@@ -72,6 +75,7 @@ pub cell_not_marked : (marks : List Bool) (list : List Cell) (c : Cell) → AreC
     slice_index_or marks (cell_rest c) false ≡ false → IsIn c list → ⊥
 cell_not_marked marks list c m e i = (let k = sym e ∙ m.each c i in absurd (cc k))
 
+-- a cell's mark is one of 509
 rest_below : (c : Cell) → cell_rest c < 509
 rest_below c = omega arith
 
@@ -80,6 +84,7 @@ pub record AreApartFrom (list : List Cell) (k : ℕ) (marks : List Bool) : Type 
   pub marked : AreCellsMarked marks (drop k list)
   pub apart : Differ (drop k list)
 
+-- from the end on no two cells are one
 pub apart_none : (list : List Cell) (k : ℕ) (marks : List Bool) → length list ≤ k → length marks ≡ 509 →
     AreApartFrom list k marks
 apart_none list k marks h e =

@@ -16,14 +16,17 @@ pub placed_in : (slots : List (Option Cell)) (i : ℕ) (c : Cell) → at slots i
 unfolding cells_of
 placed_in slots i c e = withs_new (live slots) [] c (live_at slots i c e)
 
+-- and each of the cells stands at some place
 pub in_placed : (slots : List (Option Cell)) (c : Cell) → IsIn c (cells_of slots) → (i : ℕ) × (at slots i ≡ Some c)
 unfolding cells_of
 in_placed slots c m = elim (in_withs (live slots) [] c m) [ inl k ↦ at_live slots c k | inr k ↦ absurd k ]
 
+-- they are in order, each once
 pub placed_sorted : (slots : List (Option Cell)) → IsStrictlySortedBy cell_cmp (cells_of slots)
 unfolding cells_of IsStrictlySortedBy
 placed_sorted slots = withs_sorted (live slots) [] tt
 
+-- so after an exchange by places the cells are those of the exchange of lists
 pub moved_is_swapped : (w : ℕ × ℕ) (gone fresh : List Cell) (old new : Placed) → old.place ≡ Some w → IsMoved gone fresh old new → cells_of new.slots ≡ swapped w.0 w.1 gone fresh (cells_of old.slots)
 moved_is_swapped w gone fresh old new e m =
     same_members (cells_of new.slots) (swapped w.0 w.1 gone fresh (cells_of old.slots)) (placed_sorted new.slots) (swapped_sorted w.0 w.1 gone fresh (cells_of old.slots) (placed_sorted old.slots)) there back

@@ -31,12 +31,14 @@ stands_new w b e s = record {
     free : (i : ℕ) (c : Cell) → at b.slots i ≡ Some c → ⊥
     free i c q = (let t = ap (λ o. touches_in o c) (sym e) ∙ s.touching i c q in absurd (cc t))
 
+-- so it is where a bucket is new or stands there already
 pub stands_at : (w : ℕ × ℕ) (b : Placed) → (b.place ≡ None) ⊎ (b.place ≡ Some w) → AreStars b → AreStars (record b { place = Some w })
 stands_at w b (inl e) s = stands_new w b e s
 stands_at w b (inr e) s = subst (λ o. AreStars (record b { place = o })) e s
 
 -- ---- the list of the cells
 
+-- where no cell stands at two places, the cells of the places differ
 all_differ : (slots : List (Option Cell)) → ((i j : ℕ) (c : Cell) → at slots i ≡ Some c → at slots j ≡ Some c → i ≡ j) → Differ (live slots)
 all_differ [] o = tt
 all_differ (None ∷ l) o = all_differ l (λ i j c p q. (let e = o (suc i) (suc j) c p q in omega (arith, e)))
@@ -52,6 +54,7 @@ one_more c (d ∷ l) n = by (cell_cmp c d) refl (λ k. one_more c l k)
     by Equal e r = absurd (n (inl (sym (cell_same c d e))))
     by Greater e r = IsPermutation-trans (d ∷ with_cell c l) (d ∷ c ∷ l) (c ∷ d ∷ l) (IsPermutation-cons d (with_cell c l) (c ∷ l) (r (λ m. n (inr m)))) (IsPermutation-middle (d ∷ []) c l)
 
+-- so it is with several cells more
 more : (cs l : List Cell) → Differ cs → ((c : Cell) → IsIn c cs → IsIn c l → ⊥) → IsPermutation (with_cells cs l) (cs ++ l)
 more [] l f n = IsPermutation-refl l
 more (c ∷ cs) l f n =
@@ -61,6 +64,7 @@ more (c ∷ cs) l f n =
     apart : (d : Cell) → IsIn d cs → IsIn d (with_cell c l) → ⊥
     apart d i m = elim (in_with c d l m) [ inl e ↦ f.0 (subst (λ (x : Cell). IsIn x cs) (sym e) i) | inr k ↦ n d (inr i) k ]
 
+-- nothing behind a list leaves it
 without_end : (l : List Cell) → l ++ [] ≡ l
 without_end [] = refl
 without_end (c ∷ l) = ap (λ (m : List Cell). c ∷ m) (without_end l)

@@ -15,18 +15,22 @@ use Rattle.del_laws.proofs.Cited.{same_members}
 
 -- ---- lists with other elements at some places
 
+-- a list with other elements at some places is as long as before
 pub len_all : {X : Type 0} (cs : List (ℕ × X)) (l : List X) → length (set_all cs l) ≡ length l
 len_all [] l = refl
 len_all (c ∷ cs) l = len_all cs (slice_set l c.0 c.1) ∙ len_set l c.0 c.1
 
+-- what is put in two goes is put in one
 set_append : {X : Type 0} (a b : List (ℕ × X)) (l : List X) → set_all (a ++ b) l ≡ set_all b (set_all a l)
 set_append [] b l = refl
 set_append (c ∷ a) b l = set_append a b (slice_set l c.0 c.1)
 
+-- where each number is below n all are
 below_all : {X : Type 0} (n : ℕ) (cs : List (ℕ × X)) → ((i : ℕ) (x : X) → IsIn (i, x) cs → i < n) → AreBelow n cs
 below_all n [] f = tt
 below_all n (c ∷ cs) f = (f c.0 c.1 (inl refl), below_all n cs (λ i x m. f i x (inr m)))
 
+-- and so with two lists of them
 below_append : {X : Type 0} (n : ℕ) (a b : List (ℕ × X)) → AreBelow n a → AreBelow n b → AreBelow n (a ++ b)
 below_append n [] b p q = q
 below_append n (c ∷ a) b p q = (p.0, below_append n a b p.1 q)
@@ -51,24 +55,31 @@ at_within (x ∷ l) (suc i) c e = (let h = at_within l i c e in omega (arith, h)
 
 -- ---- the places
 
+-- a place without a cell
 abbrev emptied : ℕ → ℕ × Option Cell
 emptied i = (i, None)
 
+-- the freed places, each without a cell
 abbrev pub freeing : List ℕ → List (ℕ × Option Cell)
 freeing freed = map (λ i. (i, None)) freed
 
+-- places with the cells that come
 abbrev pub putting : List (ℕ × Cell) → List (ℕ × Option Cell)
 putting placed = map (λ m. (m.0, Some m.1)) placed
 
+-- an option has one value
 one_cell : (c d : Cell) → ◌≡◌ {A = Option Cell} (Some c) (Some d) → c ≡ d
 one_cell c d e = cc e
 
+-- what is freed is one of the places, and has no cell
 freeing_from : (freed : List ℕ) (i : ℕ) (x : Option Cell) → IsIn (i, x) (freeing freed) → IsIn i freed × (x ≡ None)
 freeing_from freed i x m = (let r = mapped_from emptied (i, x) freed m in (subst (λ (k : ℕ). IsIn k freed) (ap (λ y. y.0) r.2) r.1, sym (ap (λ y. y.1) r.2)))
 
+-- what is put is one of the cells, at its place
 putting_from : (placed : List (ℕ × Cell)) (i : ℕ) (x : Option Cell) → IsIn (i, x) (putting placed) → (c : Cell) × IsIn (i, c) placed × (x ≡ Some c)
 putting_from placed i x m = (let r = mapped_from (λ (m : ℕ × Cell). (m.0, Some m.1)) (i, x) placed m in (r.0.1, subst (λ (k : ℕ). IsIn (k, r.0.1) placed) (ap (λ y. y.0) r.2) r.1, sym (ap (λ y. y.1) r.2)))
 
+-- with these put into a list that is long enough, the cells stand as they should after the exchange
 pub are_put : (gone fresh : List Cell) (freed : List ℕ) (placed : List (ℕ × Cell)) (b : Placed) (grown : List (Option Cell)) → AreFor gone fresh freed placed b → HasSameCells b.slots grown → ((i : ℕ) (c : Cell) → IsIn (i, c) placed → i < length grown) →
     AreBelow (length grown) (freeing freed ++ putting placed) × ArePut freed placed b.slots (set_all (freeing freed ++ putting placed) grown)
 are_put gone fresh freed placed b grown f s h = (
@@ -121,6 +132,7 @@ agreed b freed placed writes r n m p s t i j = (
   λ x k. (r.after.places m x (p, t) j).1 ((r.after.places n x (p, s) i).0 k),
 )
 
+-- with the written stars put into a list that is long enough, the stars are those after the exchange
 pub are_rewritten : (gone fresh : List Cell) (freed : List ℕ) (placed : List (ℕ × Cell)) (b : Placed) (writes : List (ℕ × (ℕ × List ℕ))) (keys : List (ℕ × ℕ)) (more : List (ℕ × List ℕ)) → AreStars b → AreFor gone fresh freed placed b → IsRewriting b freed placed writes → AreKeysAfter b.keys writes keys → HasSameStars b.stars more → AreBelow (length more) writes → AreRewritten freed placed b keys (set_all writes more)
 are_rewritten gone fresh freed placed b writes keys more a f r k s h = record { order = k.order; starred = λ p i. (there p i, back p i); filled = filled }
   where
@@ -226,6 +238,7 @@ moved_at gone fresh old new m = by old.place refl
         (λ c k. (let t = in_placed new.slots c k in elim (m.only t.0 c t.1) [ inl f ↦ absurd (none e c f.1) | inr o ↦ placed_in old.slots t.0 c o.0 ]))
         (λ c k. (let t = in_placed old.slots c k in placed_in new.slots t.0 c (m.stays t.0 c t.1 (λ i q. none e c q))))
 
+-- so what stands at some places then, and what some stars are, is a plan for the exchange
 pub is_plan : (gone fresh : List Cell) (b : Placed) (p : PlanView) (freed : List ℕ) (placed : List (ℕ × Cell)) → AreStars b → AreFor gone fresh freed placed b → IsRewriting b freed placed p.stars → AreKeysAfter b.keys p.stars (or_else p.keys b.keys) →
     HasSameCells b.slots (or_else p.grown b.slots) → ((i : ℕ) (c : Cell) → IsIn (i, c) placed → i < length (or_else p.grown b.slots)) → p.slots ≡ freeing freed ++ putting placed →
     HasSameStars b.stars (or_else p.more b.stars) → ((n : ℕ) (s : ℕ × List ℕ) → IsIn (n, s) p.stars → n < length (or_else p.more b.stars)) → IsPlanFor gone fresh b p
@@ -241,9 +254,11 @@ is_plan gone fresh b p freed placed a f r k s h e t g =
 
 -- ---- longer lists
 
+-- a list of stars has the same stars as itself
 pub stars_same : (l : List (ℕ × List ℕ)) → HasSameStars l l
 stars_same l = record { there = λ n i m. refl; back = λ n i m. refl }
 
+-- and with an empty one behind it
 pub stars_more : (old l new : List (ℕ × List ℕ)) (s : ℕ × List ℕ) → s.1 ≡ [] → new ≡ l ++ s ∷ [] → HasSameStars old l → HasSameStars old new
 stars_more old l new s e q h = rw q (record {
   there = λ n i m. there l n i (subst (λ (y : ℕ × List ℕ). IsIn i y.1) (sym (h.there n i m)) m) ∙ h.there n i m;
@@ -263,6 +278,7 @@ stars_more old l new s e q h = rw q (record {
 
 -- ---- lists that are made element by element
 
+-- one element more is made and put last
 made_next : {X Y : Type 0} (f : X → Y) (l : List X) (n : ℕ) (x : X) (front list new : List Y) → take (n + 1) l ≡ take n l ++ x ∷ [] → new ≡ list ++ f x ∷ [] → list ≡ front ++ map f (take n l) → new ≡ front ++ map f (take (n + 1) l)
 made_next f l n x front list new t e i =
     e ∙ ap (λ v. v ++ f x ∷ []) i ∙ append_assoc front (map f (take n l)) (f x ∷ []) ∙ ap (λ v. front ++ v) (sym (map-append f (take n l) (x ∷ [])) ∙ ap (map f) (sym t))
@@ -292,6 +308,7 @@ slots_more old l new s e q h i = ap (λ v. at v i) (q ∙ ap (λ x. l ++ x ∷ [
     there (x ∷ l) zero = refl
     there (x ∷ l) (suc i) = there l i
 
+-- one element more is copied
 pub copied_more : {X : Type 0} (l : List X) (n : ℕ) (x y : X) (list new : List X) → n < length l → x ≡ slice_index_or l n x → new ≡ list ++ y ∷ [] → y ≡ x → list ≡ take n l → new ≡ take (n + 1) l
 copied_more l n x y list new h s e q i = e ∙ ap (λ v. v ++ y ∷ []) i ∙ ap (λ v. take n l ++ v ∷ []) q ∙ sym (take_next l n x h s)
 
@@ -312,5 +329,6 @@ put_none (x ∷ w) l all e m = absurd (omega (arith, e))
 pub allows_same : (p q : PlanView) (b d : Placed) → p ≡ q → b ≡ d → Allows q d → Allows p b
 allows_same p q b d e f a = subst (λ x. Allows x b) (sym e) (subst (λ y. Allows q y) (sym f) a)
 
+-- they make the same of it
 pub done_same : (p q : PlanView) (b d : Placed) → p ≡ q → b ≡ d → done p b ≡ done q d
 done_same p q b d e f = ap (λ x. done x b) e ∙ ap (λ y. done q y) f

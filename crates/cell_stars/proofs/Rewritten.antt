@@ -7,6 +7,7 @@ use Rattle.point_order.specs.Sets.{IsIn}
 use Rattle.cell_stars.specs.Places.{IsNamed, IsStarred, at, lies_in, touches_in}
 use Rattle.cell_stars.specs.Plans.{RewrittenIsMoved}
 
+-- where cells are put and stars rewritten so, the stars are those of the cells and the exchange is made
 pub rewritten_is_moved : RewrittenIsMoved
 rewritten_is_moved gone fresh freed placed old new e s f r w = (
   record { order = w.order; names = names; listed = listed; filled = w.filled; once = once; touching = touching },

@@ -31,21 +31,26 @@ halved before steps n r q h f g =
     product : (w q r n : ℕ) → w * r ≤ n → 2 * q ≤ r → 2 * w * q ≤ n
     product w q r n f g = (let t = mul-le-mul_left w g in rw (mul_assoc 2 w q ∙ mul_left_comm 2 w q) (omega (arith, f, t)))
 
+-- so while something is left the steps are no more than the length of the list can pay
 paid : (before steps n r : ℕ) → before ≤ steps → 2 ^ (steps - before) * r ≤ n → 1 ≤ r → 2 ^ (steps + 1 - before) ≤ 2 * n + 1
 paid before steps n r h f g = rw (doubled before steps h) (once (2 ^ (steps - before)) r n f g)
   where
     once : (w r n : ℕ) → w * r ≤ n → 1 ≤ r → 2 * w ≤ 2 * n + 1
     once w r n f g = (let t = mul-le-mul_left w g in omega (arith, f, t))
 
+-- the part in front of the middle is at most half of what is left
 half_left : (low high : ℕ) → low < high → 2 * ((high - low) / 2) ≤ high - low
 half_left low high h = omega arith
 
+-- so is the part behind it
 half_right : (low high : ℕ) → low < high → 2 * (high - (low + (high - low) / 2 + 1)) ≤ high - low
 half_right low high h = omega arith
 
+-- the middle lies in what is left
 middle_in : (low high : ℕ) → low < high → low + (high - low) / 2 < high
 middle_in low high h = omega arith
 
+-- where the key in the middle is less the search goes on behind it
 pub step_less : (keys : List ℕ) (n p before low high steps after k : ℕ) → IsAscending keys → low < high → k ≡ slice_index_or keys (low + (high - low) / 2) k → k < p → after ≡ steps + 1 → IsSearched keys n p before low high steps → IsSearched keys n p before (low + (high - low) / 2 + 1) high after
 step_less keys n p before low high steps after k a h e l q s = rw q (record {
   size = s.size;
@@ -61,6 +66,7 @@ step_less keys n p before low high steps after k a h e l q s = rw q (record {
     m : low + (high - low) / 2 < high
     m = middle_in low high h
 
+-- where it is greater the search goes on in front of it
 pub step_greater : (keys : List ℕ) (n p before low high steps after k : ℕ) → IsAscending keys → low < high → k ≡ slice_index_or keys (low + (high - low) / 2) k → p < k → after ≡ steps + 1 → IsSearched keys n p before low high steps → IsSearched keys n p before low (low + (high - low) / 2) after
 step_greater keys n p before low high steps after k a h e l q s = rw q (record {
   size = s.size;
@@ -79,6 +85,7 @@ step_greater keys n p before low high steps after k a h e l q s = rw q (record {
     left : (a b : ℕ) → a + b - a ≡ b
     left a b = omega arith
 
+-- two to the steps made is at most twice the length and one
 pub paid_at : (keys : List ℕ) (n p before low high steps after : ℕ) → low < high → after ≡ steps + 1 → IsSearched keys n p before low high steps → 2 ^ (after - before) ≤ 2 * n + 1
 paid_at keys n p before low high steps after h q s = rw q (paid before steps n (high - low) s.rises s.halves (omega (arith, h)))
 
@@ -110,6 +117,7 @@ pub found_at : (keys : List (ℕ × ℕ)) (i : ℕ) (k : ℕ × ℕ) (v p : ℕ)
 found_at keys i k v p h e f g =
     default_free (map (λ x. x.0) keys) i 0 v (omega (arith, h, length-map keys (λ (x : ℕ × ℕ). x.0))) ∙ sym (vertex_at keys i k v e f) ∙ g
 
+-- the middle is a place of the list
 pub inside_at : (keys : List ℕ) (n p before low high steps : ℕ) → low < high → IsSearched keys n p before low high steps → low + (high - low) / 2 < n
 inside_at keys n p before low high steps h s = (let m = middle_in low high h in omega (arith, m, s.inside))
 

@@ -1,22 +1,12 @@
 -- The places that stay in a star.
-use Rattle.std.specs.Prelude.{◌≡◌, ℕ, Bool, true, false, not, cond, List, [], ◌∷◌}
+use Rattle.std.specs.Prelude.{◌≡◌, ℕ, Bool, true, false, not, List}
 use Rattle.std.specs.List.{filter}
-use Rattle.std.specs.List.Retain.{RetainsInTurn}
 use Rattle.std.proofs.Common.{refl, sym, ◌∙◌, ap, subst}
 use Rattle.list_laws.proofs.Cited.{among_from, among_true, filtered_from, filtered_true}
 use Rattle.point_order.specs.Sets.{IsIn, is_among}
 use Rattle.cell_stars.specs.Places.{Placed, IsStarred}
 
--- where no call changes the closure or the element, what passes the test is left
-pub retained : {X F : Type 0} (R : F → X → Bool → F → X → Type 0) (test : X → Bool) (f : F) → ((x : X) (b : Bool)
-    (g : F) (y : X) → R f x b g y → (b ≡ test x) × (g ≡ f) × (y ≡ x)) → (xs ys : List X) → RetainsInTurn R f xs ys →
-    ys ≡ filter test xs
-retained R test f says [] ys h = h
-retained R test f says (x ∷ xs) ys h =
-    let said = says x h.0 h.1 h.2 h.3 in
-    let rest = retained R test f says xs h.4 (subst (λ g. RetainsInTurn R g xs h.4) said.1 h.5) in
-    h.6 ∙ (λ i. cond (said.0 i) (said.2 i ∷ rest i) (rest i))
-
+-- what stays of a star is what is not freed
 pub stays_are : (b : Placed) (freed items list : List ℕ) (p : ℕ) → list ≡ filter (λ x. not
     (is_among x freed)) items → ((i : ℕ) → (IsIn i items → IsStarred b.keys b.stars p i) ×
     (IsStarred b.keys b.stars p i → IsIn i items)) →

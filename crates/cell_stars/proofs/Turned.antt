@@ -39,6 +39,7 @@ set_own [] i y e = refl
 set_own (x ∷ l) zero y e = ap (λ z. z ∷ l) e
 set_own (x ∷ l) (suc i) y e = ap (λ m. x ∷ m) (set_own l i y e)
 
+-- what is read at a place is set there
 set_found : {X : Type 0} (l : List X) (i : ℕ) (x : X) → slice_set l i (slice_index_or l i x) ≡ l
 set_found [] i x = refl
 set_found (y ∷ l) zero x = refl
@@ -115,6 +116,7 @@ back_one {X} cs ds l m i s y h g b f q t = record {
     again : slice_set (slice_set l s.0 s.1) s.0 y ≡ l
     again = set_twice l s.0 s.1 y ∙ set_own l s.0 y q
 
+-- and so of the whole way back
 pub back_next : {X : Type 0} (cs ds : List (ℕ × X)) (l m : List X) (k : ℕ) (s : ℕ × X) (x y w : X) →
     length cs ≡ length ds → length l ≡ length m → 0 < k → k ≤ length ds → AreBelow (length m) ds → IsBack cs ds l m k →
     s ≡ slice_index_or cs (k - 1) s →
@@ -135,6 +137,7 @@ back_next {X} cs ds l m k s x y w e q h j b f t a r =
 
 -- ---- plans and buckets with the same lists
 
+-- plans with the same parts are one
 same_plan : (o o' : Option (List (Option Cell))) (cs cs' : List (ℕ × Option Cell)) (r r' : Option (List (ℕ × List ℕ)))
     (es es' : List (ℕ × (ℕ × List ℕ))) (k k' : Option (List (ℕ × ℕ))) → o ≡ o' → cs ≡ cs' → r ≡ r' → es ≡ es' → k ≡ k' →
     ◌≡◌ {A = PlanView} (record { grown = o; slots = cs; more = r; stars = es; keys = k })
@@ -147,6 +150,7 @@ same_plan o o' cs cs' r r' es es' k k' e f g h d = λ i. record {
   keys = d i;
 }
 
+-- buckets with the same parts are one
 same_placed : (p p' : Option (ℕ × ℕ)) (s s' : List (Option Cell)) (k k' : List (ℕ × ℕ)) (t t' : List (ℕ × List ℕ)) →
     p ≡ p' → s ≡ s' → k ≡ k' → t ≡ t' →
     ◌≡◌ {A = Placed} (record { place = p; slots = s; keys = k; stars = t })
@@ -204,6 +208,7 @@ one_part o r cs ds l m a b e f h =
     let v = one_option o r l m e u.1 in
     (v.0, u.0, v.1)
 
+-- a plan and its bucket are told by the two as they are once it was carried out
 pub turn_is_one : TurnIsOne
 turn_is_one p q r b c d s t =
     let e : left p b ≡ left q c = sym s.plan ∙ t.plan in
@@ -224,6 +229,7 @@ below_stood : {X : Type 0} (n : ℕ) (cs : List (ℕ × X)) (l : List X) → Are
 below_stood n [] l b = tt
 below_stood n (c ∷ cs) l b = (b.0, below_stood n cs (slice_set l c.0 c.1) b.1)
 
+-- and back
 stood_below : {X : Type 0} (n : ℕ) (cs : List (ℕ × X)) (l : List X) → AreBelow n (stood cs l) → AreBelow n cs
 stood_below n [] l b = tt
 stood_below n (c ∷ cs) l b = (b.0, stood_below n cs (slice_set l c.0 c.1) b.1)
@@ -236,6 +242,7 @@ part_below o r cs ds l m p =
     (subst (λ n. AreBelow n (stood cs (or_else o l))) (sym (ap length p.list ∙ len_all cs (or_else o l)))
     (below_stood (length (or_else o l)) cs (or_else o l) p.below))
 
+-- an option exchanged for a value, and back, is as before
 kept_back : {X : Type 0} (o : Option X) (x : X) → (kept (kept o x) (or_else o x) ≡ o) ×
     (or_else (kept o x) (or_else o x) ≡ x)
 kept_back None x = (refl, refl)
@@ -317,6 +324,7 @@ turn_same p p' q q' b b' c c' e f g h t =
     subst (λ (z : PlanView). IsTurn z b' q' c') e (subst (λ (z : Placed). IsTurn p z q' c') f
     (subst (λ (z : PlanView). IsTurn p b z c') g (subst (λ (z : Placed). IsTurn p b q z) h t)))
 
+-- the same of plans that can be turned back
 pub was_same : (q q' : PlanView) (c c' : Placed) → q ≡ q' → c ≡ c' → WasTurned q c → WasTurned q' c'
 was_same q q' c c' e f w = subst (λ (z : PlanView). WasTurned z c') e (subst (λ (z : Placed). WasTurned q z) f w)
 
@@ -326,11 +334,13 @@ turn_stars p q b c t = subst AreStars (sym t.bucket) t.allows.after
 
 -- ---- the way back of an exchange
 
+-- an exchange that found its cells is undone by the other one, also in a bucket that is new
 swapped_back_at : (place : Option (ℕ × ℕ)) (gone fresh l : List Cell) → IsStrictlySortedBy cell_cmp l →
     AreReady place gone fresh l → swapped_at place fresh gone (swapped_at place gone fresh l) ≡ l
 swapped_back_at None gone fresh l s r = refl
 swapped_back_at (Some w) gone fresh l s r = swapped_back w.0 w.1 gone fresh l s r.there r.absent
 
+-- so a plan for an exchange that found its cells, turned, is one for the exchange back
 pub turn_leads_back : TurnLeadsBack
 turn_leads_back gone fresh p q b c plan turn ready = record {
   plan = p;

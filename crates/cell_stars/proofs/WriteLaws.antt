@@ -14,18 +14,22 @@ use Rattle.cell_stars.proofs.KeyLaws.{owned_by, in_owned, owned_in, Keys, vertic
 
 -- ---- vertices that are touched
 
+-- the new list has the old one's points and the cell's
 abbrev pub AddsPoints : Cell → List ℕ → List ℕ → Type 0
 AddsPoints c old new = (p : ℕ) → (IsIn p new → IsIn p old ⊎ IsIn p (points_of c)) × (IsIn p old ⊎ IsIn p (points_of c) → IsIn p new)
 
+-- the next point is gathered
 pub point_in : (ps : List ℕ) (n : ℕ) (old list new : List ℕ) (x : ℕ) → n < length ps → x ≡ slice_index_or ps n x → ((p : ℕ) → (IsIn p new → IsIn p list ⊎ (x ≡ p)) × (IsIn p list ⊎ (x ≡ p) → IsIn p new)) → Gathered FromPoint ps n old list → Gathered FromPoint ps (n + 1) old new
 point_in ps n old list new x h e f s = gather_step FromPoint ps n old list new x x h e (λ p m. (f p).0 m) (λ p m. (f p).1 (inl m)) (λ p t. (f p).1 (inr t)) s
 
+-- at the end all points of the cell are
 pub points_added : (c : Cell) (ps : List ℕ) (n : ℕ) (old new : List ℕ) → ps ≡ points_of c → length ps ≤ n → Gathered FromPoint ps n old new → AddsPoints c old new
 points_added c ps n old new e h g p = (
   λ m. elim (g.each p m) [ inl k ↦ inl k | inr r ↦ inr (subst (λ (l : List ℕ). IsIn p l) e (subst (λ q. IsIn q ps) r.2 r.1)) ],
   λ m. elim m [ inl k ↦ g.kept p k | inr r ↦ gather_all FromPoint ps n old new h g p (subst (λ (l : List ℕ). IsIn p l) (sym e) r) p refl ],
 )
 
+-- and so those of the next cell
 pub cell_step : (cells : List Cell) (n : ℕ) (old list new : List ℕ) (x d : Cell) → n < length cells → x ≡ slice_index_or cells n d → AddsPoints x list new → Gathered FromCell cells n old list → Gathered FromCell cells (n + 1) old new
 cell_step cells n old list new x d h e g s = gather_step FromCell cells n old list new x d h e (λ p m. (g p).0 m) (λ p m. (g p).1 (inl m)) (λ p r. (g p).1 (inr r)) s
 
@@ -49,6 +53,7 @@ are_touched gone fresh b freed placed vertices f v = record {
 
 -- ---- the numbers of stars
 
+-- the places of a star that is the vertex's own are found to be some or none
 pub full_by : (s : ℕ × List ℕ) (p : ℕ) (l : List ℕ) (r : Bool) → l ≡ owned_by p s → r ≡ (length l == 0) → MatchBool (not r) ((s.0 ≡ p) × ((i : ℕ) × IsIn i s.1)) (s.0 ≡ p → (i : ℕ) → IsIn i s.1 → ⊥)
 full_by s p [] true e f = λ q i m. subst (λ (k : List ℕ). IsIn i k) (sym e) (owned_in p i s q m)
 full_by s p (x ∷ l) true e f = (let t = same_from (length (x ∷ l)) 0 (sym f) in absurd (omega (arith, t)))
@@ -58,6 +63,7 @@ full_by s p [] false e f = absurd (yes f)
     yes g = cc g
 full_by s p (x ∷ l) false e f = (let r = in_owned p x s (subst (λ (k : List ℕ). IsIn x k) e (inl refl)) in (r.0, (x, r.1)))
 
+-- a key with a star of its own that has places has the vertex's own number
 pub own_number : (b : Placed) (ks : Keys) (stars : List (ℕ × List ℕ)) (p i : ℕ) (k : ℕ × ℕ) → ks ≡ b.keys → stars ≡ b.stars → (i < length ks) × (slice_index (vertices ks) i ≡ p) → k ≡ slice_index_or ks i k → ((star_at stars k.1).0 ≡ p) × ((j : ℕ) × IsIn j (star_at stars k.1).1) → IsOwnNumber b p k.1
 own_number b ks stars p i k ek es f e o =
     let t = at_key ks i k f.0 e in
@@ -69,6 +75,7 @@ own_number b ks stars p i k ek es f e o =
       filled = subst (λ l. IsIn o.1.0 (star_at l k.1).1) es o.1.1;
     }
 
+-- where the star beside the key has none, the vertex is in no star
 pub no_own : (b : Placed) (ks : Keys) (stars : List (ℕ × List ℕ)) (p i : ℕ) (k : ℕ × ℕ) → ks ≡ b.keys → stars ≡ b.stars → IsAscending (vertices ks) → (i < length ks) × (slice_index (vertices ks) i ≡ p) → k ≡ slice_index_or ks i k → ((star_at stars k.1).0 ≡ p → (j : ℕ) → IsIn j (star_at stars k.1).1 → ⊥) → (j : ℕ) → IsStarred b.keys b.stars p j → ⊥
 no_own b ks stars p i k ek es a f e n j s =
     let t = at_key ks i k f.0 e in
@@ -77,6 +84,7 @@ no_own b ks stars p i k ek es a f e n j s =
     let m : s.number ≡ k.1 = ap (λ y. y.1) q in
     n (ap (λ l. (star_at l k.1).0) es ∙ ap (λ y. (star_at b.stars y).0) (sym m) ∙ s.owned) j (subst (λ l. IsIn j (star_at l k.1).1) (sym es) (subst (λ y. IsIn j (star_at b.stars y).1) m s.listed))
 
+-- nor where it has no key
 pub no_own_at : (b : Placed) (ks : Keys) (p i : ℕ) → ks ≡ b.keys → BelongsAt ks p i → (j : ℕ) → IsStarred b.keys b.stars p j → ⊥
 no_own_at b ks p i e f j s = no_key ks p i f (p, s.number) (subst (λ (l : Keys). IsIn (p, s.number) l) (sym e) s.key) refl
 
@@ -84,9 +92,11 @@ no_own_at b ks p i e f j s = no_key ks p i f (p, s.number) (subst (λ (l : Keys)
 abbrev pub HasNumber : Placed → ℕ × ℕ → ℕ × ℕ → Type 0
 HasNumber b x y = (x.1 ≡ y.1) × (IsOwnNumber b y.1 y.0 ⊎ ((y.0 ≡ x.0) × ((i : ℕ) → IsStarred b.keys b.stars y.1 i → ⊥)))
 
+-- a place of the star with the vertex's own number is in the star of the vertex
 own_starred : (b : Placed) (p n : ℕ) (o : IsOwnNumber b p n) → IsStarred b.keys b.stars p o.place
 own_starred b p n o = record { number = n; key = o.key; owned = o.owned; listed = o.filled }
 
+-- each vertex gets its own number, or a spare one that no other gets
 pub are_numbered : (b : Placed) (stars : List (ℕ × List ℕ)) (us ps : List ℕ) (pairs turns : List (ℕ × ℕ)) (n : ℕ) → stars ≡ b.stars → IsAscending (vertices b.keys) → IsAscending us → IsAscending ps → length us ≡ length ps → ((u : ℕ) → IsIn u us → IsSpare stars u) → pairs ≡ zip us ps → length pairs ≤ n → Made (HasNumber b) pairs n turns → AreNumbered b ps turns
 are_numbered b stars us ps pairs turns n es ak au ap' l sp e h m = record {
   each = λ k p i. (let r = from k p i in (in_zip us ps r.0 p r.1).1);

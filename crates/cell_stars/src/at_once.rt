@@ -22,11 +22,11 @@ ghost use Rattle.cell_stars.specs.Swaps.{touches as touches_of};
 use crate::cells::Cells;
 use crate::doors::links_of;
 use crate::grid::Grid;
+use crate::numbers::as_number;
 use crate::plan::Around;
-use crate::slots::{Around4, NONE, Slot};
+use crate::slots::{Around4, Slot};
 use crate::steps::place_of;
 use point_order::{Cell, Point, points_in_order};
-use smallvec::SmallVec;
 use std::alloc::{AllocError, Global};
 
 // A place with a cell, and with the links of the cell with the number.
@@ -100,7 +100,7 @@ fn bare_stars(alloc: Global, vertices: &[Point]) -> Result<Vec<Around>, AllocErr
     for p in vertices {
         stars.push(Around {
             vertex: *p,
-            places: SmallVec::new(alloc),
+            places: Vec::new(alloc),
         })?;
     }
     Ok(stars)
@@ -192,16 +192,14 @@ impl Cells {
         ensures cells { IfOk result (λ made. cells_of made.slots ≡ cells.now) }
     {
         let vertices = vertices_here(alloc, grid, number, cells)?;
-        let most = NONE as usize;
-        if cells.len() > most || vertices.len() > most {
-            return Err(AllocError);
-        }
+        let used = as_number(cells.len())?;
+        let used_stars = as_number(vertices.len())?;
         let keys = keys_of(alloc, &vertices)?;
         let mut stars = bare_stars(alloc, &vertices)?;
         add_all(&keys, &mut stars, grid, number, cells)?;
         let mut made = Cells::new(alloc).placed(grid, number);
-        made.used = cells.len() as u32;
-        made.used_stars = stars.len() as u32;
+        made.used = used;
+        made.used_stars = used_stars;
         made.slots = slots_of(alloc, cells, &links_of(alloc, cells)?)?;
         made.keys = keys;
         made.stars = stars;

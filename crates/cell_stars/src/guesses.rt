@@ -4,7 +4,7 @@ ghost use Rattle.std.specs.Prelude.{◌≡◌, IfSome, Some};
 ghost use Rattle.cell_stars.specs.Places.{at};
 
 use crate::matched::{Joined, Side};
-use crate::slots::{NONE, Slot, across, stands_at};
+use crate::slots::{NONE, Slot, across, loaded_around, stands_at};
 use point_order::Cell;
 use std::alloc::{AllocError, Global};
 
@@ -14,6 +14,8 @@ use std::alloc::{AllocError, Global};
 #[derive(Drop)]
 pub(crate) struct Guesses {
     pub(crate) places: Vec<u32>,
+    // What was loaded early, added up.
+    pub(crate) loaded: u32,
 }
 
 impl Guesses {
@@ -21,6 +23,7 @@ impl Guesses {
     pub(crate) fn new(alloc: Global, count: usize) -> Result<Guesses, AllocError> {
         Ok(Guesses {
             places: Vec::with_capacity(alloc, count)?,
+            loaded: 0,
         })
     }
 
@@ -46,9 +49,11 @@ impl Guesses {
         }
     }
 
-    /// The next cell was looked for: where it stands, if it was found.
-    pub(crate) fn add(&mut self, place: Option<u32>) -> Result<(), AllocError> {
-        self.places.push(place.unwrap_or(NONE))?;
+    /// The next cell was looked for: where it stands, if it was found. What stands around it is loaded.
+    pub(crate) fn add(&mut self, slots: &[Slot], place: Option<u32>) -> Result<(), AllocError> {
+        let place = place.unwrap_or(NONE);
+        self.loaded = self.loaded.wrapping_add(loaded_around(slots, place));
+        self.places.push(place)?;
         Ok(())
     }
 }

@@ -26,6 +26,7 @@ mod keys;
 mod marks;
 mod matched;
 mod moves;
+mod numbers;
 mod order;
 mod plan;
 mod planner;

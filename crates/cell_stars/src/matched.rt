@@ -127,17 +127,39 @@ fn facets_of(cell: &Cell) -> [u32; 4] {
 #[derive(Clone, Copy)]
 struct Met {
     facet: u32,
-    cell: u32,
-    side: u8,
-    goes: bool,
+    owner: u32,
+}
+
+impl Met {
+    // The facet met by a cell with its side.
+    fn new(facet: u32, cell: u32, side: u8, goes: bool) -> Met {
+        let low = u32::from(side) * 2 + u32::from(goes);
+        Met {
+            facet,
+            owner: cell.wrapping_mul(8).wrapping_add(low),
+        }
+    }
+
+    // The cell by which it was met.
+    fn cell(self) -> u32 {
+        self.owner / 8
+    }
+
+    // The side of the cell.
+    fn side(self) -> u8 {
+        (self.owner / 2 % 4) as u8
+    }
+
+    // Whether the cell goes.
+    fn goes(self) -> bool {
+        self.owner % 2 == 1
+    }
 }
 
 // In place of a facet.
 const EMPTY: Met = Met {
     facet: u32::MAX,
-    cell: 0,
-    side: 0,
-    goes: false,
+    owner: 0,
 };
 
 // As many entries as there are for the facets of one cell.
@@ -188,15 +210,9 @@ impl Joined {
 
     // Matches a facet of a cell that comes with the one that was met before.
     fn join(&mut self, table: &mut Table, facet: u32, cell: u32, side: u8) {
-        let goes = false;
-        if let Some(met) = table.meet(Met {
-            facet,
-            cell,
-            side,
-            goes,
-        }) {
-            self.set(cell, side, Beside::Fresh(met.cell));
-            self.set(met.cell, met.side, Beside::Fresh(cell));
+        if let Some(met) = table.meet(Met::new(facet, cell, side, false)) {
+            self.set(cell, side, Beside::Fresh(met.cell()));
+            self.set(met.cell(), met.side(), Beside::Fresh(cell));
         }
     }
 
@@ -214,20 +230,14 @@ impl Joined {
 
     // Matches a facet of a cell that goes with that of a cell that comes, or gives that of one that goes.
     fn join_gone(&mut self, table: &mut Table, facet: u32, cell: u32, side: u8) -> Option<Side> {
-        let goes = true;
-        let met = table.meet(Met {
-            facet,
-            cell,
-            side,
-            goes,
-        })?;
-        if met.goes {
+        let met = table.meet(Met::new(facet, cell, side, true))?;
+        if met.goes() {
             return Some(Side {
-                cell: met.cell,
-                side: met.side,
+                cell: met.cell(),
+                side: met.side(),
             });
         }
-        self.set(met.cell, met.side, Beside::Behind(Side { cell, side }));
+        self.set(met.cell(), met.side(), Beside::Behind(Side { cell, side }));
         None
     }
 

@@ -30,6 +30,7 @@ ghost use Rattle.cell_stars.specs.Moves.{IsStarFor, AreFreed, AreComing, AreNew,
 use crate::cells::Cells;
 use crate::guesses::Guesses;
 use crate::matched::{Joined, Matched};
+use crate::numbers::number_behind;
 use crate::order::{are_same, cells_once, has_vertex, numbers_in_order, touches};
 use crate::slots::{Slot, cell_at, is_open};
 use point_order::{Cell, Point};
@@ -48,6 +49,8 @@ pub(crate) struct Moves {
     pub(crate) placed: Vec<(u32, Cell)>,
     // Where each of the gone cells is likely to stand.
     pub(crate) gone: Vec<u32>,
+    // What was loaded early, added up.
+    pub(crate) loaded: u32,
     // Whether the cells are put as they are listed; else in order, where they are many.
     pub(crate) listed: bool,
 }
@@ -127,10 +130,7 @@ fn add_open(list: &mut Vec<u32>, slots: &[Slot], count: usize, first: u32) -> Re
         if is_open(slots, next) {
             list.push(next)?;
         }
-        match next.checked_add(1) {
-            Some(after) => next = after,
-            None => return Err(AllocError),
-        }
+        next = number_behind(next)?;
     }
     Ok(())
 }
@@ -163,10 +163,7 @@ pub(crate) fn behind_last(list: &[u32]) -> Result<u32, AllocError>
     ensures { IfOk result (λ n. (i : ℕ) → IsIn i list.now → i < n) }
 {
     match list.split_last() {
-        Some((last, _)) => match last.checked_add(1) {
-            Some(n) => Ok(n),
-            None => Err(AllocError),
-        },
+        Some((last, _)) => number_behind(*last),
         None => Ok(0),
     }
 }
@@ -293,7 +290,7 @@ impl Cells {
         let mut freed = Vec::with_capacity(alloc, gone.len())?;
         for c in gone {
             let place = self.place_by(c, joined, guesses);
-            guesses.add(place)?;
+            guesses.add(&self.slots, place)?;
             if let Some(i) = place {
                 freed.push(i)?;
             }
@@ -494,6 +491,7 @@ impl Cells {
             freed,
             placed,
             gone: guesses.places,
+            loaded: guesses.loaded,
             listed: matched.is_single(),
         })
     }

@@ -8,7 +8,6 @@ ghost use Rattle.cell_stars.specs.Plans.{set_all, or_else, AreBelow};
 use crate::joins::Joint;
 use crate::slots::Slot;
 use point_order::Point;
-use smallvec::SmallVec;
 use std::fmt::{self, Debug, Formatter};
 use std::marker::Model;
 
@@ -18,7 +17,7 @@ use std::marker::Model;
 #[derive(Drop)]
 pub(crate) struct Around {
     pub(crate) vertex: Point,
-    pub(crate) places: SmallVec<u32, 32>,
+    pub(crate) places: Vec<u32>,
 }
 
 impl Model for Around {
@@ -37,6 +36,14 @@ impl Around {
         self.vertex
     }
 
+    // A number that depends on its places.
+    pub(crate) fn loaded(&self) -> u32 {
+        match (self.places.first(), self.places.last()) {
+            (Some(first), Some(last)) => first.wrapping_add(*last),
+            _ => 0,
+        }
+    }
+
     // Whether there is a place.
     pub(crate) fn has_places(&self) -> bool
         ensures { MatchBool result ((i : ℕ) × IsIn i self.now.1) ((i : ℕ) → IsIn i self.now.1 → ⊥) }
@@ -53,6 +60,8 @@ pub(crate) struct PlacesPlan {
     pub(crate) free: Vec<u32>,
     pub(crate) used: u32,
     pub(crate) rim: Vec<Joint>,
+    // What was loaded early, added up.
+    pub(crate) loaded: u32,
 }
 
 /// What some stars are after an exchange.
@@ -63,6 +72,8 @@ pub(crate) struct StarsPlan {
     pub(crate) keys: Option<Vec<(Point, u32)>>,
     pub(crate) spare: Vec<u32>,
     pub(crate) used_stars: u32,
+    // What was loaded early, added up.
+    pub(crate) loaded: u32,
 }
 
 /// What an exchange makes of the cells of a bucket: what stands at some places after it, and what some stars are then.

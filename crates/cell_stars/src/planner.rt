@@ -17,7 +17,6 @@ use crate::moves::Moves;
 use crate::plan::{Around, PlacesPlan, Plan, StarsPlan};
 use crate::slots::Slot;
 use point_order::{Cell, Point};
-use smallvec::SmallVec;
 use std::alloc::{AllocError, Global};
 
 // The first number behind those that stand beside the elements.
@@ -77,7 +76,7 @@ fn copied_star(alloc: Global, around: &Around) -> Result<Around, AllocError>
 {
     Ok(Around {
         vertex: around.vertex,
-        places: SmallVec::from_slice(alloc, &around.places)?,
+        places: Vec::from_slice(alloc, &around.places)?,
     })
 }
 
@@ -109,7 +108,7 @@ fn add_stars(
     while list.len() < count {
         list.push(Around {
             vertex: p,
-            places: SmallVec::new(alloc),
+            places: Vec::new(alloc),
         })?;
     }
     Ok(())
@@ -264,6 +263,7 @@ impl Cells {
             free: open_after(alloc, &self.free, moves)?,
             used: self.used.max(u32::try_from(end).unwrap_or(u32::MAX)),
             rim,
+            loaded: moves.loaded,
         })
     }
 
@@ -289,7 +289,8 @@ impl Cells {
         ensures long { IfOk result (λ plan. (n : ℕ) (s : ℕ × List ℕ) → IsIn (n, s) plan.stars.items →
             n < length (or_else (option_map (λ v. v.items) plan.more) self.now.stars)) }
     {
-        let stars = self.writes(alloc, moves, vertices)?;
+        let mut loaded = 0;
+        let stars = self.writes(alloc, moves, vertices, &mut loaded)?;
         let keys = self.keys_after(alloc, &stars)?;
         let end = behind_numbers(&stars);
         let more = grown_stars(alloc, &self.stars, &stars, end)?;
@@ -301,6 +302,7 @@ impl Cells {
             keys,
             spare,
             used_stars,
+            loaded,
         })
     }
 

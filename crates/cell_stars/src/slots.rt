@@ -66,6 +66,11 @@ impl Slot {
         }
     }
 
+    // A number that depends on it.
+    pub(crate) fn loaded(&self) -> u32 {
+        u32::from(self.cell.is_some()).wrapping_add(self.around[0])
+    }
+
     // Links its cell so.
     pub(crate) fn link(&mut self, around: Around4)
         ensures { self.new ≡ self.old }
@@ -112,6 +117,18 @@ pub(crate) fn is_open(slots: &[Slot], i: u32) -> bool
         Some(slot) => slot.cell().is_none(),
         None => true,
     }
+}
+
+/// A number that depends on what stands across the facets of the cell at the place. It is added up, and read by nobody:
+/// so these places are loaded early, and all at once.
+pub(crate) fn loaded_around(slots: &[Slot], place: u32) -> u32 {
+    let mut sum: u32 = 0;
+    for other in &around(slots, place) {
+        if let Some(slot) = slots.get(*other as usize) {
+            sum = sum.wrapping_add(slot.loaded());
+        }
+    }
+    sum
 }
 
 /// The places across the facets of the cell at the place.

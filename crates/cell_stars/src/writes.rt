@@ -40,12 +40,15 @@ ghost use Rattle.cell_stars.specs.Moves.{
 use crate::cells::{Cells, places_in};
 use crate::marks::{Marks, is_unmarked, marks_of};
 use crate::moves::{Moves, behind_last, pairs};
+use crate::numbers::number_behind;
 use crate::order::{has_vertex, numbers_in_order};
 use crate::plan::Around;
 use crate::steps::place_of;
 use point_order::{Cell, Point};
-use smallvec::SmallVec;
 use std::alloc::{AllocError, Global};
+
+// As many places come to a star as a rule: room for them is made at once.
+const MORE: usize = 6;
 
 // Whether no place is in the star with the number.
 fn is_spare(stars: &[Around], n: u32) -> bool
@@ -86,10 +89,7 @@ fn add_spare(
         if is_spare(stars, next) {
             list.push(next)?;
         }
-        match next.checked_add(1) {
-            Some(after) => next = after,
-            None => return Err(AllocError),
-        }
+        next = number_behind(next)?;
     }
     Ok(())
 }
@@ -265,14 +265,16 @@ impl Cells {
         p: Point,
         freed: &[u32],
         marks: &Marks,
-    ) -> Result<SmallVec<u32, 32>, AllocError>
+    ) -> Result<Vec<u32>, AllocError>
         requires order { IsAscending freed.now }
         requires marks { AreMarked marks.now freed.now }
         requires number { IsNumberFor self.now p n }
         ensures { IfOk result (λ list. (i : ℕ) → IsIn i list.items
             ↔ (IsStarred self.now.keys self.now.stars p i × (IsIn i freed.now → ⊥))) }
     {
-        let mut list = SmallVec::from_slice(alloc, places_in(&self.stars, n, p))?;
+        let own = places_in(&self.stars, n, p);
+        let mut list = Vec::with_capacity(alloc, own.len().saturating_add(MORE))?;
+        list.extend_from_slice(own)?;
         list.retain(|i| is_unmarked(freed, marks, *i));
         Ok(list)
     }
@@ -339,12 +341,24 @@ impl Cells {
         Ok(writes)
     }
 
+    // A number that depends on the stars with these numbers. It is read by nobody: so they are loaded all at once.
+    fn loaded_stars(&self, turns: &[(u32, Point)]) -> u32 {
+        let mut sum: u32 = 0;
+        for (n, _) in turns {
+            if let Some(around) = self.stars.get(*n as usize) {
+                sum = sum.wrapping_add(around.loaded());
+            }
+        }
+        sum
+    }
+
     // The stars that change in an exchange.
     pub(crate) fn writes(
         &self,
         alloc: Global,
         moves: &Moves,
         vertices: &[Point],
+        loaded: &mut u32,
     ) -> Result<Vec<(u32, Around)>, AllocError>
         requires order { IsAscending moves.now.freed.items }
         requires vertices { IsAscending vertices.now }
@@ -355,6 +369,7 @@ impl Cells {
     {
         let vertices = self.vertices_here(alloc, vertices)?;
         let turns = self.turns(alloc, &vertices)?;
+        *loaded = self.loaded_stars(&turns);
         self.stars_after(alloc, &turns, moves)
     }
 }

@@ -84,6 +84,7 @@ replay_any h e l = from 0 [] h l
 
 -- ---- the place to which a point has moved
 
+-- an add brings no second place
 add_brings : (p : ℕ) (r : Reply) → came (Add p) r ≡ None
 add_brings p Moved = refl
 add_brings p Inserted = refl
@@ -93,6 +94,7 @@ add_brings p Missing = refl
 add_brings p Flat = refl
 add_brings p Occupied = refl
 
+-- nor does a take
 take_brings : (p : ℕ) (r : Reply) → came (Take p) r ≡ None
 take_brings p Moved = refl
 take_brings p Inserted = refl
@@ -112,6 +114,7 @@ put_points g b p s c a e = by (lies g b p) refl
     by true q = ap (with_point p) e ∙ filter_with (lies g b) p s a q
     by false q = e ∙ filter_with_else (lies g b) p s a q
 
+-- so it has once the new place of a move is put in, or where none comes
 pub arrived_points : (g b : ℕ) (s : List ℕ) (edit : Edit) (r : Reply) (c : BucketContent) → IsAscending s →
     c.points ≡ filter (lies g b) s → (option_map_or (λ p. put_in g b p c) (came edit r) c).points ≡ filter (lies g b)
     (arrived s edit r)
@@ -148,6 +151,7 @@ put_rest g b p c = by (lies g b p)
     by true = (refl, refl, refl)
     by false = (refl, refl, refl)
 
+-- so it is where the new place of a move is put in
 pub arrived_rest : (g b : ℕ) (e : Entry) (c : BucketContent) → ((arrived_in g b e c).cells ≡ c.cells) ×
     ((arrived_in g b e c).entries ≡ c.entries) × ((arrived_in g b e c).place ≡ c.place)
 arrived_rest g b e c = by (came e.edit e.reply)
@@ -183,6 +187,7 @@ arrived_put e p old new q i = record {
       (bucket_at old.places b)) (sym q);
 }
 
+-- where no place comes the hold is as before
 pub arrived_none : (e : Entry) (old : InHand) → came e.edit e.reply ≡ None → IsArrived e old old
 arrived_none e old q = record {
   grid = refl;
@@ -197,6 +202,7 @@ arrived_none e old q = record {
 
 -- ---- the shares
 
+-- a bucket that is its share of a history is, after all that the next entry makes of it, its share of the longer one
 pub share_after_any : ShareAfterAny
 share_after_any g b h e gone fresh c next sh = by (lies g b (point_of e.edit)) refl
   where
@@ -237,6 +243,7 @@ share_after_any g b h e gone fresh c next sh = by (lies g b (point_of e.edit)) r
       entries = rest.1 ∙ sh.entries ∙ entries_stay g b h e t;
     }
 
+-- and so with all buckets of a hold
 pub any_keeps_hold : AnyKeepsHold
 any_keeps_hold h e gone fresh old swap put new st next sw ar nd = record
     { legal = next.legal; keys = next.keys; solid = next.solid; shares = each }
@@ -257,6 +264,7 @@ any_keeps_hold h e gone fresh old swap put new st next sw ar nd = record
 
 -- ---- what an exchange finds
 
+-- a hold that shows a set finds the cells of a change of its complex, where the gone ones are held
 pub change_finds_cells : ChangeFindsCells
 change_finds_cells hold s t gone fresh sh ch held = record { there = there; absent = absent }
   where

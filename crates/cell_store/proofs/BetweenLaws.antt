@@ -93,6 +93,7 @@ pub entered_solid : (s : List ℕ) (p : ℕ) → IsSolidSet s → IsNew s p → 
 entered_solid s p i n = subst IsSolidSet (ap (λ (r : Reply). changed s p r)
     (inserts s p (false_if (is_among p s) (λ h. n.absent (among_from p s h))))) (stays_solid s (Add p) i n.key)
 
+-- a hold that a point has entered shows the set with the point
 pub entered_shows : EnteredShows
 entered_shows hold new s gone fresh p en e =
     let i = entered_solid s p (solid_set hold s en.shown) en.new in
@@ -179,6 +180,7 @@ back_same g b p gone fresh c e f = by (lies g b p) refl
     by true q = λ i. record c { points = f q i; cells = e i }
     by false q = λ i. record c { cells = e i }
 
+-- there and back a hold is as before
 pub left_is_same : LeftIsSame
 left_is_same hold mid new s gone fresh p en e l = (grid, places_same new.places hold.places count each)
   where
@@ -236,6 +238,7 @@ left_is_same hold mid new s gone fresh p en e l = (grid, places_same new.places 
 
 -- ---- a bucket that is claimed in between
 
+-- a bucket that the point does not touch has the same of the set with it and without it
 pub sight_outside : SightOutside
 sight_outside g b s p c sight i n out = record {
   points = sight.points ∙ filter_with_else (lies g b) p s i.set.ascending
@@ -290,6 +293,7 @@ sight_outside g b s p c sight i n out = record {
 
 -- ---- two changes
 
+-- two changes, one after the other, are one
 pub changes_compose : ChangesCompose
 changes_compose s t u gone fresh gone2 fresh2 a b = record {
   went = went;
@@ -334,6 +338,7 @@ changes_compose s t u gone fresh gone2 fresh2 a b = record {
 
 -- ---- the steps there and back
 
+-- a change from one complex to another, with gone and fresh exchanged, is the change back
 turned_change : (s t gone fresh : List Cell) → IsChange s t gone fresh → IsChange t s fresh gone
 turned_change s t gone fresh c = record { went = c.came; all_gone = c.all_fresh; came = c.went; all_fresh = c.all_gone }
 
@@ -344,6 +349,7 @@ held_entered hold new gone fresh p b e h = subst IsSome (sym (e.put.places b))
     (some_mapped _ (bucket_at e.between.places b) (subst IsSome (sym (e.swapped.places b))
     (some_mapped _ (bucket_at hold.places b) h)))
 
+-- cells that are held are held once the point has entered
 cells_held : (hold new : InHand) (gone fresh l : List Cell) (p : ℕ) → IsEntered gone fresh p hold new → AreHeld hold l →
     AreHeld new l
 cells_held hold new gone fresh l p e h c i q j =
@@ -383,6 +389,7 @@ pub way_found : (hold : InHand) (s : List ℕ) (gone fresh : List Cell) (p : ℕ
 way_found hold s gone fresh p en = change_finds_cells hold s (complex (with_point p s)) gone fresh en.shown en.change
     en.gone_held
 
+-- and so does the exchange back
 pub back_found : (mid low : InHand) (gone fresh : List Cell) (p : ℕ) → WasEntered gone fresh p mid →
     IsDropped p mid low → FindsCells low fresh gone
 back_found mid low gone fresh p w d =

@@ -74,6 +74,7 @@ gathered_all hold s list w sh g = (back, g.each)
 
 -- ---- the cells of one bucket, one after another
 
+-- what passes of a cell and of the others is what passes of all
 filter_next : (P : Cell → Bool) (x : Cell) (l : List Cell) → filter P (x ∷ []) ++ filter P l ≡ filter P (x ∷ l)
 filter_next P x l = by (P x) refl
   where

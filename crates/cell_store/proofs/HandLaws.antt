@@ -13,6 +13,7 @@ use Rattle.cell_store.specs.Meshes.{EmptyStands, EmptyShows, FewerStand, FewerSh
 
 -- ---- fewer buckets
 
+-- fewer buckets of a hold stand for the history for which it stands
 pub fewer_stand : FewerStand
 fewer_stand few many h am st = record {
   legal = st.legal;
@@ -21,6 +22,7 @@ fewer_stand few many h am st = record {
   shares = λ b c e. subst (λ g. IsShare g b h c) (sym am.grid) (st.shares b c (am.buckets b c e));
 }
 
+-- and show the set that it shows
 pub fewer_show : FewerShow
 fewer_show few many s am sh = record {
   ascending = sh.ascending;
@@ -31,11 +33,13 @@ fewer_show few many s am sh = record {
 
 -- ---- no bucket
 
+-- in an empty hold no bucket is in hand
 none_there : (n k : ℕ) (c : BucketContent) → bucket_at (replicate n None) k ≡ Some c → ⊥
 none_there zero k c e = cc e
 none_there (suc n) zero c e = cc e
 none_there (suc n) (suc k) c e = none_there n k c e
 
+-- so it stands for every sound history
 pub empty_stands : EmptyStands
 empty_stands g h sound = record {
   legal = sound.legal;
@@ -44,6 +48,7 @@ empty_stands g h sound = record {
   shares = λ b c e. absurd (none_there (g * g * g) b c e);
 }
 
+-- and shows every solid set of keys
 pub empty_shows : EmptyShows
 empty_shows g s solid = record {
   ascending = solid.set.ascending;
@@ -70,6 +75,7 @@ put_each P hold b c own old k d e = elim (set_from hold.places b k (Some (at_pla
   | inr q ↦ old k d q
 ]
 
+-- with a bucket more that is its share, a hold stands for the history still
 pub put_stands : PutStands
 put_stands hold b c h st sh = record {
   legal = st.legal;
@@ -78,6 +84,7 @@ put_stands hold b c h st sh = record {
   shares = put_each (λ k d. IsShare hold.grid k h d) hold b c (record { points = sh.points; cells = sh.cells; entries = sh.entries }) st.shares;
 }
 
+-- with one that has what the set and its complex have in it, it shows the set still
 pub put_shows : PutShows
 put_shows hold b c s sh sight = record {
   ascending = sh.ascending;
@@ -86,6 +93,7 @@ put_shows hold b c s sh sight = record {
   sights = put_each (λ k d. IsSight hold.grid k s d) hold b c (record { points = sight.points; cells = sight.cells }) sh.sights;
 }
 
+-- the buckets before are among those with one more
 pub put_is_more : PutIsMore
 put_is_more hold b c none = record { grid = refl; buckets = each }
   where
@@ -95,6 +103,7 @@ put_is_more hold b c none = record { grid = refl; buckets = each }
       | inr n ↦ get_or-set_other hold.places b k (Some (at_place hold.grid b c)) None n ∙ e
     ]
 
+-- and those with one less are among those before
 pub take_is_fewer : TakeIsFewer
 take_is_fewer hold b = record { grid = refl; buckets = λ k d e. elim (set_from hold.places b k None d e) [ inl w ↦ absurd (cc w.1) | inr q ↦ q ] }
 

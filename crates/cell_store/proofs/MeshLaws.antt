@@ -40,6 +40,7 @@ use Rattle.cell_store.proofs.ShareLaws.{touched, sound_of, stands_shows}
 
 -- ---- what is in hand
 
+-- in a hold of all buckets the bucket of every point is in hand
 pub point_held : (hold : InHand) (p : ℕ) → HasPlaces hold → AllInHand hold → IsSome (bucket_at hold.places (bucket_of hold.grid p))
 point_held hold p has all = all (bucket_of hold.grid p) (subst (λ n. bucket_of hold.grid p < n) (sym has.places) (bucket_below hold.grid p has.size))
 
@@ -51,9 +52,11 @@ held_by mesh hold p i = point_held hold p i.whole.has i.whole.all
 pub shows_of : (mesh : MeshView) (hold : InHand) → IsHoldOf mesh hold → Shows hold (replay mesh.history)
 shows_of mesh hold i = stands_shows hold mesh.history i.stands
 
+-- and all cells are held
 pub all_are_held : AllAreHeld
 all_are_held hold l has all c k p i = point_held hold p has all
 
+-- cells that are held are held where more buckets are in hand
 pub more_are_held : MoreAreHeld
 more_are_held few many l am held c k p i =
     let s = some_of (bucket_at few.places (bucket_of few.grid p)) (held c k p i) in
@@ -61,6 +64,7 @@ more_are_held few many l am held c k p i =
 
 -- ---- the entries of the first buckets
 
+-- the entries of a bucket, if it is there
 abbrev pub entries_of : Option BucketContent → List Entry
 entries_of o = option_map_or (λ c. c.entries) o []
 
@@ -98,6 +102,7 @@ entries_are hold h b st s =
 pub next_gathered : {Y : Type 0} (f : Option BucketContent → List Y) (l : List (Option BucketContent)) (n : ℕ) → n < length l → flat_map f (take (suc n) l) ≡ flat_map f (take n l) ++ f (bucket_at l n)
 next_gathered f l n k = ap (flat_map f) (take_suc l n None k) ∙ flat_map-append f (take n l) (bucket_at l n ∷ []) ∙ ap (λ m. flat_map f (take n l) ++ m) (append-nil (f (bucket_at l n)))
 
+-- the entries of the first n buckets are those of the history whose bucket has a number below n, in another order
 gathered : (hold : InHand) (h : List Entry) → AllInHand hold → Stands hold h → (n : ℕ) → n ≤ length hold.places → IsPermutation (flat_map entries_of (take n hold.places)) (filter (is_below hold.grid n) h)
 gathered hold h all st zero k = rw (none_pass (is_below hold.grid 0) h (λ e. none (bucket_of hold.grid (point_of e.edit)))) (IsPermutation-refl [])
   where
@@ -110,6 +115,7 @@ gathered hold h all st (suc n) k =
     subst (λ m. IsPermutation m (filter (is_below hold.grid (suc n)) h)) (sym e)
     (IsPermutation-trans (flat_map entries_of (take n hold.places) ++ entries_share hold.grid n h) (filter (is_below hold.grid n) h ++ entries_share hold.grid n h) (filter (is_below hold.grid (suc n)) h) p (one_more hold.grid n h))
 
+-- those of all buckets are the history, in another order
 pub gathers : (hold : InHand) (h : List Entry) → HasPlaces hold → AllInHand hold → Stands hold h → IsPermutation (all_entries hold.places) h
 gathers hold h has all st =
     let p = gathered hold h all st (length hold.places) (omega arith) in
@@ -123,18 +129,22 @@ abbrev IsNumbered : ℕ → List Entry → Type 0
 IsNumbered n [] = Unit {0}
 IsNumbered n (e ∷ l) = (e.number ≡ n) × IsNumbered (n + 1) l
 
+-- the entries of a legal history are numbered from n on
 legal_numbered : (n : ℕ) (s : List ℕ) (h : List Entry) → IsLegalFrom n s h → IsNumbered n h
 legal_numbered n s [] l = tt
 legal_numbered n s (e ∷ h) l = (l.0, legal_numbered (n + 1) (after s e.edit) h l.2)
 
+-- and so are entries whose numbers are n and those after it
 listed_numbered : (n : ℕ) (l : List Entry) → numbers l ≡ range_with_len n (length l) → IsNumbered n l
 listed_numbered n [] e = tt
 listed_numbered n (d ∷ l) e = (cc, listed_numbered (n + 1) l cc)
 
+-- the numbers of entries that are numbered so
 numbers_are : (n : ℕ) (l : List Entry) → IsNumbered n l → numbers l ≡ range_with_len n (length l)
 numbers_are n [] k = refl
 numbers_are n (d ∷ l) k = rw k.0 (ap (λ (m : List ℕ). n ∷ m) (numbers_are (n + 1) l k.1))
 
+-- none of them is below n
 number_from : (n : ℕ) (l : List Entry) (e : Entry) → IsNumbered n l → IsIn e l → n ≤ e.number
 number_from n [] e k i = absurd i
 number_from n (d ∷ l) e k (inl q) = let s = ap (λ (x : Entry). x.number) q in omega (arith, s, k.0)
@@ -158,6 +168,7 @@ same_numbered n (d ∷ l) (e ∷ h) k m f b = rw first (ap (λ (t : List Entry).
 
 -- ---- the laws
 
+-- the entries of all buckets gather the history, and in the order of numbers they are it
 pub mesh_gathers : MeshGathersHistory
 mesh_gathers mesh h m st = record {
   entries = p;
@@ -181,6 +192,7 @@ abbrev Rises : List Entry → Type 0
 Rises [] = Unit {0}
 Rises (e ∷ l) = ((d : Entry) → IsIn d l → e.number ≤ d.number) × Rises l
 
+-- an entry of a list with one put in is that one, or one of the list
 pub from_put : (e d : Entry) (l : List Entry) → IsIn d (with_entry e l) → (e ≡ d) ⊎ IsIn d l
 from_put e d [] (inl q) = inl q
 from_put e d [] (inr i) = absurd i
@@ -195,6 +207,7 @@ from_put e d (x ∷ l) i = by (ltb e.number x.number) i (from_put e d l)
       | inr k ↦ inr (inr k)
     ]
 
+-- put in by its number, an entry leaves the numbers rising
 put_rises : (e : Entry) (l : List Entry) → Rises l → Rises (with_entry e l)
 put_rises e [] r = ((λ d i. absurd i), tt)
 put_rises e (x ∷ l) r = by (ltb e.number x.number) refl (put_rises e l r.1)
@@ -215,6 +228,7 @@ put_rises e (x ∷ l) r = by (ltb e.number x.number) refl (put_rises e l r.1)
       s,
     )
 
+-- the list with it has it and the others, in another order
 put_moves : (e : Entry) (l : List Entry) → IsPermutation (e ∷ l) (with_entry e l)
 put_moves e [] = IsPermutation-refl (e ∷ [])
 put_moves e (x ∷ l) = by (ltb e.number x.number) (put_moves e l)
@@ -223,21 +237,25 @@ put_moves e (x ∷ l) = by (ltb e.number x.number) (put_moves e l)
     by true p = IsPermutation-refl (e ∷ x ∷ l)
     by false p = IsPermutation-trans (e ∷ x ∷ l) (x ∷ e ∷ l) (x ∷ with_entry e l) (IsPermutation-sym (x ∷ e ∷ l) (e ∷ x ∷ l) (IsPermutation-middle (x ∷ []) e l)) (IsPermutation-cons x (e ∷ l) (with_entry e l) p)
 
+-- in the order of numbers the numbers rise
 sorted_rises : (l : List Entry) → Rises (by_number l)
 unfolding by_number
 sorted_rises [] = tt
 sorted_rises (e ∷ l) = put_rises e (by_number l) (sorted_rises l)
 
+-- it is another order of the same entries
 pub sorted_moves : (l : List Entry) → IsPermutation l (by_number l)
 unfolding by_number
 sorted_moves [] = IsPermutation-refl []
 sorted_moves (e ∷ l) = IsPermutation-trans (e ∷ l) (e ∷ by_number l) (with_entry e (by_number l)) (IsPermutation-cons e l (by_number l) (sorted_moves l)) (put_moves e (by_number l))
 
+-- what stands at a place of a list is one of it
 in_at : (l : List Entry) (j : ℕ) (d : Entry) → j < length l → IsIn (slice_index_or l j d) l
 in_at [] j d h = absurd (omega arith)
 in_at (x ∷ l) zero d h = inl refl
 in_at (x ∷ l) (suc j) d h = inr (in_at l j d (omega arith))
 
+-- where no later entry has a lesser number they do not fall
 rises_all : (l : List Entry) → Rises l → IsNonDecreasingBy (λ e. e.number) l
 rises_all [] r i j d a b = absurd (omega arith)
 rises_all (x ∷ l) r zero zero d a b = omega arith
@@ -245,12 +263,14 @@ rises_all (x ∷ l) r zero (suc j) d a b = r.0 (slice_index_or l j d) (in_at l j
 rises_all (x ∷ l) r (suc i) zero d a b = absurd (omega arith)
 rises_all (x ∷ l) r (suc i) (suc j) d a b = rises_all l r.1 i j d (omega arith) (omega arith)
 
+-- a hold of all buckets tells the history for which it stands
 pub history_is : HistoryIs
 history_is hold h w st =
     let g = mesh_gathers hold h w st in
     let l : List Entry = all_entries hold.places in
     g.ordered (by_number l) (sorted_moves l) (merged_order l (by_number l) g.numbered (sorted_moves l) (rises_all (by_number l) (sorted_rises l)))
 
+-- and so the mesh of which it is the hold
 pub mesh_is : MeshIs
 mesh_is mesh hold i = λ k. record { grid = i.grid k; history = history_is hold mesh.history i.whole i.stands k }
 
@@ -260,11 +280,13 @@ own_hold hold h w st = record { grid = refl; whole = w; stands = subst (Stands h
 
 -- ---- the cells of a mesh
 
+-- what one of the lists has the lists have together
 pub in_flat : {X Y : Type 0} (f : X → List Y) (l : List X) (i : ℕ) (d : X) (y : Y) → i < length l → IsIn y (f (slice_index_or l i d)) → IsIn y (flat_map f l)
 in_flat f [] i d y h k = absurd (omega arith)
 in_flat f (x ∷ l) zero d y h k = in_left y (f x) (flat_map f l) k
 in_flat f (x ∷ l) (suc i) d y h k = in_right y (f x) (flat_map f l) (in_flat f l i d y (omega arith) k)
 
+-- and what they have together one of them has
 pub flat_from : {X Y : Type 0} (f : X → List Y) (l : List X) (d : X) (y : Y) → IsIn y (flat_map f l) → (i : ℕ) × IsIn y (f (slice_index_or l i d))
 flat_from f [] d y k = absurd k
 flat_from f (x ∷ l) d y k = elim (from_append y (f x) (flat_map f l) k) [
@@ -272,6 +294,7 @@ flat_from f (x ∷ l) d y k = elim (from_append y (f x) (flat_map f l) k) [
   | inr j ↦ (let r = flat_from f l d y j in (suc r.0, r.1))
 ]
 
+-- the cells of a bucket, if it is there
 abbrev pub cells_of : Option BucketContent → List Cell
 cells_of o = option_map_or (λ c. c.cells) o []
 
@@ -280,6 +303,7 @@ pub has_point : (s : List ℕ) (c : Cell) → IsListed s c → (p : ℕ) × IsIn
 has_point s (Full q) l = (l.a, subst (IsIn l.a) (sym l.is) (inl refl))
 has_point s (Open t) l = (l.a, subst (IsIn l.a) (sym l.is) (inl refl))
 
+-- the cells of all buckets are those of the complex, in any order and any number of times
 cells_are : (mesh : InHand) (s : List ℕ) → IsWhole mesh → Shows mesh s → AreSameCells (all_cells mesh.places) (complex s)
 cells_are mesh s m sh = (forth, back)
   where
@@ -299,6 +323,7 @@ cells_are mesh s m sh = (forth, back)
         in_flat cells_of mesh.places (bucket_of mesh.grid p.0) None c (subst (λ n. bucket_of mesh.grid p.0 < n) (sym m.has.places) (bucket_below mesh.grid p.0 m.has.size))
         (subst (λ o. IsIn c (cells_of o)) (sym x.1) (subst (IsIn c) (sym (sh.sights (bucket_of mesh.grid p.0) x.0 x.1).cells) k))
 
+-- and in the order of cells, each once, they are the complex
 pub mesh_gathers_cells : MeshGathersComplex
 mesh_gathers_cells mesh s m sh = record {
   cells = cells_are mesh s m sh;
@@ -318,6 +343,7 @@ count_next l n count entries k e f =
     step : (c n a b : ℕ) → c ≡ min a (2 ^ 64 - 1) → n ≡ b → min (c + n) (2 ^ 64 - 1) ≡ min (a + b) (2 ^ 64 - 1)
     step c n a b = omega arith
 
+-- once all buckets are counted, the count is that of the history
 pub count_is : (hold : InHand) (n count : ℕ) → length hold.places ≤ n → count ≡ min (length (flat_map entries_of (take n hold.places))) (2 ^ 64 - 1) → count ≡ counted (length (history_in hold.places))
 count_is hold n count k e =
     e ∙ ap (λ m. min (length (flat_map entries_of m)) (2 ^ 64 - 1)) (whole hold.places n k)

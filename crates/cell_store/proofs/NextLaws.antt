@@ -49,6 +49,7 @@ cells_next g b s t gone fresh ch = (forth, back)
       | inr n ↦ swapped_new g b gone fresh (filter (touches g b) s) x (ch.all_fresh x r.0 n) r.1
     ])
 
+-- so it is with the complexes of two histories
 pub cells_after : (g b : ℕ) (h k : List Entry) (gone fresh : List Cell) → IsChange (complex (replay h)) (complex (replay k)) gone fresh → swapped g b gone fresh (cells_share g b h) ≡ cells_share g b k
 cells_after g b h k gone fresh ch =
     let r = cells_next g b (complex (replay h)) (complex (replay k)) gone fresh ch in
@@ -110,6 +111,7 @@ points_after t p Flat s a e = refl
 points_after t p Moved s a e = filter_swap t (λ q. not (q == p)) s a
 points_after t p Occupied s a e = refl
 
+-- and with a point that is not in the bucket its points stay
 pub points_stay : (t : ℕ → Bool) (p : ℕ) (r : Reply) (s : List ℕ) → IsAscending s → t p ≡ false → filter t s ≡ filter t (changed s p r)
 points_stay t p Inserted s a e = filter_with_else t p s a e
 points_stay t p Duplicate s a e = refl
@@ -133,6 +135,7 @@ replay_next h e l still = from 0 [] h l
 pub entries_after : (g b : ℕ) (h : List Entry) (e : Entry) → lies g b (point_of e.edit) ≡ true → entries_share g b h ++ e ∷ [] ≡ entries_share g b (h ++ e ∷ [])
 entries_after g b h e t = sym (filter-append (λ e. lies g b (point_of e.edit)) h (e ∷ []) ∙ ap (λ o. entries_share g b h ++ cond o (e ∷ []) []) t)
 
+-- and with an entry that is not of the bucket its entries stay
 pub entries_stay : (g b : ℕ) (h : List Entry) (e : Entry) → lies g b (point_of e.edit) ≡ false → entries_share g b h ≡ entries_share g b (h ++ e ∷ [])
 entries_stay g b h e t = sym (filter-append (λ e. lies g b (point_of e.edit)) h (e ∷ []) ∙ ap (λ o. entries_share g b h ++ cond o (e ∷ []) []) t ∙ nil (entries_share g b h))
   where
@@ -142,6 +145,7 @@ entries_stay g b h e t = sym (filter-append (λ e. lies g b (point_of e.edit)) h
 
 -- ---- the laws
 
+-- an entry that follows a sound history is next: the history with it is legal, and its set solid
 pub next_entry : NextEntry
 next_entry h e gone fresh sound key f =
     let there : replay (h ++ e ∷ []) ≡ after (replay h) e.edit = replay_more [] h e in
@@ -153,6 +157,7 @@ next_entry h e gone fresh sound key f =
       change = subst (λ (v : List ℕ). IsChange (complex (replay h)) (complex v) gone fresh) (sym there) f.change;
     }
 
+-- a bucket that is its share is, after the exchange and the entry, its share of the longer history
 pub share_after_entry : ShareAfterEntry
 share_after_entry g b h e gone fresh c next still sh = by (lies g b (point_of e.edit)) refl
   where
@@ -174,6 +179,7 @@ share_after_entry g b h e gone fresh c next still sh = by (lies g b (point_of e.
       entries = sh.entries ∙ entries_stay g b h e t;
     }
 
+-- a bucket that neither an entry nor its cells touch has the same share of both histories
 pub share_elsewhere : ShareElsewhere
 share_elsewhere g b h e gone fresh c next still t f1 f2 sh = record {
   points = sh.points ∙ points_stay (lies g b) (point_of e.edit) e.reply (replay h) (leaves_set h) t ∙ ap (filter (lies g b)) (sym (replay_next h e next.legal still));
@@ -189,6 +195,7 @@ mapped_some {X} f (Some x) y e = (x, refl, same (f x) y e)
     same : (a b : X) → Some a ≡ Some b → a ≡ b
     same a b e = cc
 
+-- a hold that stands for a history stands, after the exchange and the entry, for the longer one
 pub entry_keeps_hold : EntryKeepsHold
 entry_keeps_hold h e gone fresh old between new st next still sw nd = record { legal = next.legal; keys = next.keys; solid = next.solid; shares = each }
   where

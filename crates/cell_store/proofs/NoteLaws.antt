@@ -43,10 +43,12 @@ pub found_with : (s : List ℕ) (p : ℕ) (r : Result ℕ ℕ) → IsAscending s
 found_with s p (Ok i) a h = with_there p s a (subst (λ q. IsIn q s) h.1 (index_in s i h.0))
 found_with s p (Err i) a h = tt
 
+-- a point that a search did not find is taken out already
 pub found_without : (s : List ℕ) (p : ℕ) (r : Result ℕ ℕ) → MatchResult r (λ i. (i < length s) × (slice_index s i ≡ p)) (λ i. (i ≤ length s) × ((k : ℕ) → k < i → slice_index s k < p) × ((k : ℕ) → i ≤ k → k < length s → p < slice_index s k)) → OnErr r (without_point p s ≡ s)
 found_without s p (Ok i) h = tt
 found_without s p (Err i) h = without_absent p s (among_gap s p i (record { within = h.0; below = h.1; above = h.2 }))
 
+-- it is not there
 pub found_absent : (s : List ℕ) (p : ℕ) (r : Result ℕ ℕ) → MatchResult r (λ i. (i < length s) × (slice_index s i ≡ p)) (λ i. (i ≤ length s) × ((k : ℕ) → k < i → slice_index s k < p) × ((k : ℕ) → i ≤ k → k < length s → p < slice_index s k)) → OnErr r (is_among p s ≡ false)
 found_absent s p (Ok i) h = tt
 found_absent s p (Err i) h = among_gap s p i (record { within = h.0; below = h.1; above = h.2 })
@@ -78,13 +80,16 @@ ready_noted t g b gone fresh places plans c d h e f r = record { each = λ l i. 
 abbrev with_entry : Entry → BucketContent → BucketContent
 with_entry e c = record c { points = changed c.points (point_of e.edit) e.reply; entries = c.entries ++ e ∷ [] }
 
+-- the bucket of the entry's point has the entry
 noted_here : (g b : ℕ) (e : Entry) (c : BucketContent) → b ≡ bucket_of g (point_of e.edit) → noted_in g b e c ≡ with_entry e c
 noted_here g b e c h = rw (same_true (bucket_of g (point_of e.edit)) b (sym h)) refl
 
+-- another bucket is as before
 noted_elsewhere : (g k : ℕ) (e : Entry) (o : Option BucketContent) → k ≢ bucket_of g (point_of e.edit) → option_map (noted_in g k e) o ≡ o
 noted_elsewhere g k e None h = refl
 noted_elsewhere g k e (Some c) h = rw (ne_eqb (bucket_of g (point_of e.edit)) k (λ q. h (sym q))) refl
 
+-- a hold in which the bucket of the entry's point has the entry, and nothing else is changed, is noted
 pub noted_is : (old new : InHand) (g b : ℕ) (places : List (Option BucketContent)) (e : Entry) (c d : BucketContent) → g ≡ old.grid → places ≡ old.places → new.grid ≡ g → new.places ≡ slice_set places b (Some d) → b ≡ bucket_of g (point_of e.edit) → b < length places → bucket_at places b ≡ Some c → d ≡ with_entry e c → IsNoted e old new
 noted_is old new g b places e c d e1 e2 e3 e4 h l k f = record {
   grid = e3 ∙ e1;
@@ -106,6 +111,7 @@ noted_is old new g b places e c d e1 e2 e3 e4 h l k f = record {
 
 -- ---- places
 
+-- with a bucket put where its place says, all stand at their places still
 pub stand_put : (g b : ℕ) (places : List (Option BucketContent)) (d : BucketContent) → b < length places → d.place ≡ Some (g, b) → StandAtPlaces g places → StandAtPlaces g (slice_set places b (Some d))
 stand_put g b places d h p st k y q = elim (cases_eq k b) [
   | inl w ↦ (
@@ -114,9 +120,11 @@ stand_put g b places d h p st k y q = elim (cases_eq k b) [
   | inr n ↦ st k y (sym (get_or-set_other places b k (Some d) None n) ∙ q)
 ]
 
+-- so they do where one is changed that keeps its place
 pub stand_noted : (g b : ℕ) (places : List (Option BucketContent)) (c d : BucketContent) → b < length places → bucket_at places b ≡ Some c → d.place ≡ c.place → StandAtPlaces g places → StandAtPlaces g (slice_set places b (Some d))
 stand_noted g b places c d h e p st = stand_put g b places d h (p ∙ st b c e) st
 
+-- and where one is taken out
 pub stand_take : (g b : ℕ) (places : List (Option BucketContent)) → b < length places → StandAtPlaces g places → StandAtPlaces g (slice_set places b None)
 stand_take g b places h st k y q = elim (cases_eq k b) [
   | inl w ↦ (let u = sym (get_or-set_same places b None None h) ∙ ap (bucket_at (slice_set places b None)) (sym w) ∙ q in absurd (cc u))
@@ -125,6 +133,7 @@ stand_take g b places h st k y q = elim (cases_eq k b) [
 
 -- ---- a bucket that is put where none was
 
+-- what is ready for an exchange stays so
 pub ready_put : (t : Bool) (g b : ℕ) (gone fresh : List Cell) (places : List (Option Layout)) (plans : List PlanFor) (x : Option Layout) → layout_at places b ≡ None → IsReady t g gone fresh places plans → IsReady t g gone fresh (slice_set places b x) plans
 ready_put t g b gone fresh places plans x e r = record { each = λ l i. by l (r.each l i); apart = r.apart; others = r.others }
   where
@@ -134,26 +143,31 @@ ready_put t g b gone fresh places plans x e r = record { each = λ l i. by l (r.
       | inr w ↦ subst (λ o. IsSomeAnd o (λ y. IsExchange t gone fresh y.cells l.plan)) (sym (get_or-set_other places b l.number x None w)) q
     ]
 
+-- what is known of a bucket in hand stays known
 known_put : (P : Layout → Type 0) (b n : ℕ) (places : List (Option Layout)) (x : Option Layout) → layout_at places b ≡ None → IsSomeAnd (layout_at places n) P → IsSomeAnd (layout_at (slice_set places b x) n) P
 known_put P b n places x e q = elim (cases_eq n b) [
   | inl w ↦ absurd (subst (λ o. IsSomeAnd o P) (ap (layout_at places) w ∙ e) q)
   | inr w ↦ subst (λ o. IsSomeAnd o P) (sym (get_or-set_other places b n x None w)) q
 ]
 
+-- what is ready for an entry stays so
 pub note_put : (g b : ℕ) (places : List (Option Layout)) (p : ℕ) (x : Option Layout) → layout_at places b ≡ None → IsNoteReady g places p → IsNoteReady g (slice_set places b x) p
 note_put g b places p x e q = known_put HasRoom b (bucket_of g p) places x e q
 
+-- and what is ready for a point
 pub point_put : (g b : ℕ) (places : List (Option Layout)) (p : ℕ) (x : Option Layout) → layout_at places b ≡ None → IsPointReady g places p → IsPointReady g (slice_set places b x) p
 point_put g b places p x e q = known_put (HasPlaceFor p) b (bucket_of g p) places x e q
 
 -- ---- a bucket that has more room
 
+-- a bucket with more room shows the same
 same_shown : (c d : Layout) → IsRoomier c d → content_of d ≡ content_of c
 same_shown c d r =
     ap (λ (l : List ℕ). record { points = l; cells = cells_of d.cells.slots; entries = d.entries; place = d.cells.place }) r.points
     ∙ ap (λ (x : Placed). record { points = c.points; cells = cells_of x.slots; entries = d.entries; place = x.place }) r.cells
     ∙ ap (λ (l : List Entry). record { points = c.points; cells = cells_of c.cells.slots; entries = l; place = c.cells.place }) r.entries
 
+-- what is ready is so over the same grid, cells and buckets
 pub ready_same : (t : Bool) (g h : ℕ) (gone fresh eg ef : List Cell) (places qs : List (Option Layout)) (plans : List PlanFor) → g ≡ h → gone ≡ eg → fresh ≡ ef → places ≡ qs → IsReady t g gone fresh places plans → IsReady t h eg ef qs plans
 ready_same t g h gone fresh eg ef places qs plans e1 e2 e3 e4 r =
     subst (λ (n : ℕ). IsReady t n eg ef qs plans) e1 (subst (λ l. IsReady t g l ef qs plans) e2 (subst (λ l. IsReady t g gone l qs plans) e3 (subst (λ l. IsReady t g gone fresh l plans) e4 r)))
@@ -173,12 +187,15 @@ kept_roomier P None n f r q = absurd q
 kept_roomier P (Some c) None f r q = absurd r
 kept_roomier P (Some c) (Some d) f r q = f c d r q
 
+-- a bucket with more room has room for an entry still
 pub more_for_note : (c d : Layout) → IsRoomier c d → HasRoom c → HasRoom d
 more_for_note c d r k = let x = k.points in let y = k.entries in let u = r.for_points in let v = r.for_entries in record { points = omega arith; entries = omega arith }
 
+-- it has room for an entry and the point still
 pub more_for_both : (c d : Layout) → IsRoomier c d → HasMuchRoom c → HasMuchRoom d
 more_for_both c d r k = let x = k.points in let y = k.entries in let u = r.for_points in let v = r.for_entries in record { points = omega arith; entries = omega arith }
 
+-- and for a point to come and go
 pub more_for_point : (p : ℕ) (c d : Layout) → IsRoomier c d → HasPlaceFor p c → HasPlaceFor p d
 more_for_point p c d r k = record {
   absent = λ n. let x = k.absent (ap (is_among p) (sym r.points) ∙ n) in let u = r.for_points in omega arith;
@@ -190,6 +207,7 @@ pub much_for_note : (o : Option Layout) → IsSomeAnd o HasMuchRoom → IsSomeAn
 much_for_note None h = h
 much_for_note (Some c) h = let x = h.points in record { points = omega arith; entries = h.entries }
 
+-- and for the point alone
 pub much_for_point : (p : ℕ) (o : Option Layout) → IsSomeAnd o HasMuchRoom → IsSomeAnd o (HasPlaceFor p)
 much_for_point p None h = h
 much_for_point p (Some c) h = let x = h.points in record { absent = λ n. x; there = λ n. omega arith }
@@ -200,6 +218,7 @@ roomier_one None n r = ap (option_map content_of) r
 roomier_one (Some c) None r = absurd r
 roomier_one (Some c) (Some d) r = ap (λ (x : BucketContent). Some x) (same_shown c d r)
 
+-- so they do all together
 pub all_shown : (old new : List (Option Layout)) → AllRoomier old new → shown new ≡ shown old
 all_shown [] [] r = refl
 all_shown [] (n ∷ new) r = let u = r.count in absurd (omega (arith, u))
@@ -226,6 +245,7 @@ both_rooms g mid new note point r a b = (
 pub all_noted : (g : ℕ) (old new : List (Option Layout)) (note : Option ℕ) → AllRoomier old new → IfSome note (λ p. IsNoteReady g old p) → IfSome note (λ p. IsNoteReady g new p)
 all_noted g old new note r = if_some (λ p. IsNoteReady g old p) (λ p. IsNoteReady g new p) note (λ p k. kept_roomier HasRoom (layout_at old (bucket_of g p)) (layout_at new (bucket_of g p)) more_for_note (r.each (bucket_of g p)) k)
 
+-- and so for a point
 pub all_pointed : (g : ℕ) (old new : List (Option Layout)) (point : Option ℕ) → AllRoomier old new → IfSome point (λ p. IsPointReady g old p) → IfSome point (λ p. IsPointReady g new p)
 all_pointed g old new point r = if_some (λ p. IsPointReady g old p) (λ p. IsPointReady g new p) point (λ p k. kept_roomier (HasPlaceFor p) (layout_at old (bucket_of g p)) (layout_at new (bucket_of g p)) (more_for_point p) (r.each (bucket_of g p)) k)
 
@@ -266,6 +286,7 @@ one_roomier old b x y h e r = record { count = len_set old b y; each = each }
       | inr w ↦ subst (AreRoomier (layout_at old n)) (sym (get_or-set_other old b n y None w)) (same (layout_at old n))
     ]
 
+-- buckets that are as before have as much room
 pub none_roomier : (old : List (Option Layout)) → AllRoomier old old
 none_roomier old = record { count = refl; each = λ b. same (layout_at old b) }
   where
@@ -286,9 +307,11 @@ point_room g b p places x ready e absent w = by x (subst (λ o. IsSomeAnd o (Has
     by None h q = h
     by (Some c) h q = (let x = h.absent (ap (is_among p) (sym q) ∙ absent) in omega arith)
 
+-- a point is in a bucket exactly where what the bucket shows has it
 pub point_is : (b p : ℕ) (t : Bool) (places : List (Option Layout)) (c : Layout) → is_among p (points_in (shown places) b) ≡ t → layout_at places b ≡ Some c → is_among p c.points ≡ t
 point_is b p t places c e w = ap (λ o. is_among p (option_map_or (λ (x : BucketContent). x.points) o [])) (sym (shown_at places b ∙ ap (option_map content_of) w)) ∙ e
 
+-- so one that is shown in the hold is in its bucket
 pub point_there : (b p : ℕ) (places : List (Option Layout)) (x : Option Layout) → is_among p (points_in (shown places) b) ≡ true → layout_at places b ≡ x → IsSomeAnd x (λ c. is_among p c.points ≡ true)
 point_there b p places None e w = (let u : is_among p [] ≡ true = ap (λ o. is_among p (option_map_or (λ (x : BucketContent). x.points) o [])) (sym (shown_at places b ∙ ap (option_map content_of) w)) ∙ e in absurd (cc u))
 point_there b p places (Some c) e w = point_is b p true places c e w
@@ -297,6 +320,7 @@ point_there b p places (Some c) e w = point_is b p true places c e w
 pub content_put : (p : ℕ) (c d : Layout) → d.points ≡ with_point p c.points → d.cells ≡ c.cells → d.entries ≡ c.entries → content_of d ≡ record (content_of c) { points = with_point p c.points }
 content_put p c d e f h = λ i. record { points = e i; cells = cells_of (f i).slots; entries = h i; place = (f i).place }
 
+-- so with the point taken out
 pub content_dropped : (p : ℕ) (c d : Layout) → d.points ≡ without_point p c.points → d.cells ≡ c.cells → d.entries ≡ c.entries → content_of d ≡ record (content_of c) { points = without_point p c.points }
 content_dropped p c d e f h = λ i. record { points = e i; cells = cells_of (f i).slots; entries = h i; place = (f i).place }
 
@@ -311,17 +335,21 @@ put_has_place p c d e h n r = record {
   there = λ k. let x = h.absent n in omega arith;
 }
 
+-- and there is room for an entry still
 pub put_note : (p : ℕ) (c d : Layout) → HasPlaceFor p c → is_among p c.points ≡ false → c.room_points ≤ d.room_points + 1 → d.room_entries ≡ c.room_entries → HasRoom c → HasRoom d
 put_note p c d h n r s k = (let x = h.absent n in let y = k.entries in record { points = omega arith; entries = subst (λ m. 0 < m) (sym s) y })
 
+-- so there is where the point was taken out
 pub dropped_note : (c d : Layout) → c.room_points < d.room_points → d.room_entries ≡ c.room_entries → HasRoom c → HasRoom d
 dropped_note c d r s k = (let x = k.points in let y = k.entries in record { points = omega arith; entries = subst (λ m. 0 < m) (sym s) y })
 
+-- and one that was taken out can come again
 pub dropped_has_place : (p : ℕ) (c d : Layout) → HasPlaceFor p c → is_among p c.points ≡ true → c.room_points < d.room_points → HasPlaceFor p d
 dropped_has_place p c d h n r = (let x = h.there n in record { absent = λ k. omega arith; there = λ k. omega arith })
 
 -- ---- a point that comes or goes
 
+-- where one bucket is changed by a map that leaves all others, every bucket is as the map makes it
 one_in : (F : ℕ → BucketContent → BucketContent) (old new : InHand) (b : ℕ) (places : List (Option BucketContent)) (c d : BucketContent) → new.places ≡ slice_set places b (Some d) → places ≡ old.places → b < length places → bucket_at places b ≡ Some c → d ≡ F b c → ((n : ℕ) (x : BucketContent) → n ≢ b → F n x ≡ x) →
     (n : ℕ) → bucket_at new.places n ≡ option_map (F n) (bucket_at old.places n)
 one_in F old new b places c d e f l k q other n = ap (λ m. bucket_at m n) e ∙ by ∙ ap (λ m. option_map (F n) (bucket_at m n)) f
@@ -340,6 +368,7 @@ one_in F old new b places c d e f l k q other n = ap (λ m. bucket_at m n) e ∙
       | inr w ↦ get_or-set_other places b n (Some d) None w ∙ same (bucket_at places n) w
     ]
 
+-- a hold in which the point's bucket has the point more, and nothing else is changed, is put
 pub put_is : (old new : InHand) (g b p : ℕ) (places : List (Option BucketContent)) (c d : BucketContent) → g ≡ old.grid → places ≡ old.places → new.grid ≡ g → new.places ≡ slice_set places b (Some d) → b ≡ bucket_of g p → b < length places → bucket_at places b ≡ Some c → d ≡ record c { points = with_point p c.points } → IsPut p old new
 put_is old new g b p places c d e1 e2 e3 e4 h l k f = record {
   grid = e3 ∙ e1;
@@ -356,6 +385,7 @@ put_is old new g b p places c d e1 e2 e3 e4 h l k f = record {
     elsewhere : (n : ℕ) (x : BucketContent) → n ≢ b → put_in old.grid n p x ≡ x
     elsewhere n x w = rw (ne_eqb (bucket_of old.grid p) n (λ q. w (sym q ∙ sym number))) refl
 
+-- and one in which it has the point less is dropped
 pub dropped_is : (old new : InHand) (g b p : ℕ) (places : List (Option BucketContent)) (c d : BucketContent) → g ≡ old.grid → places ≡ old.places → new.grid ≡ g → new.places ≡ slice_set places b (Some d) → b ≡ bucket_of g p → b < length places → bucket_at places b ≡ Some c → d ≡ record c { points = without_point p c.points } → IsDropped p old new
 dropped_is old new g b p places c d e1 e2 e3 e4 h l k f = record {
   grid = e3 ∙ e1;
@@ -376,5 +406,6 @@ dropped_is old new g b p places c d e1 e2 e3 e4 h l k f = record {
 pub hold_with : (h : InHand) (g : ℕ) (ps qs xs : List (Option BucketContent)) (r s : Room) → record { grid = g; places = ps; room = r } ≡ h → qs ≡ xs → record { grid = g; places = qs; room = s } ≡ record h { places = xs; room = s }
 hold_with h g ps qs xs r s e q = ap (λ (l : List (Option BucketContent)). record { grid = g; places = l; room = s }) q ∙ ap (λ (k : InHand). record k { places = xs; room = s }) e
 
+-- with the same room the hold has other places alone
 pub hold_keeps : (h : InHand) (g : ℕ) (ps qs xs : List (Option BucketContent)) (r : Room) → record { grid = g; places = ps; room = r } ≡ h → qs ≡ xs → record { grid = g; places = qs; room = r } ≡ record h { places = xs }
 hold_keeps h g ps qs xs r e q = ap (λ (l : List (Option BucketContent)). record { grid = g; places = l; room = r }) q ∙ ap (λ (k : InHand). record k { places = xs }) e

@@ -27,6 +27,7 @@ use Rattle.cell_stars.proofs.Cited.{swapped_none, turn_is_one, turn_leads_back}
 
 -- ---- the numbers of the touched buckets
 
+-- the number of the bucket of a cell's point is among those that are touched
 in_numbers : (g : ℕ) (cells : List Cell) (c : Cell) (p : ℕ) → IsIn c cells → IsIn p (points_of c) → IsIn (bucket_of g p) (numbers_of g cells)
 in_numbers g [] c p i j = absurd i
 in_numbers g (d ∷ cells) c p (inl e) j = in_left (bucket_of g p) (map (bucket_of g) (points_of d)) (numbers_of g cells) (mapped_true (bucket_of g) p (points_of d) (subst (λ (x : Cell). IsIn p (points_of x)) (sym e) j))
@@ -40,6 +41,7 @@ record HasVertex (g b : ℕ) (cells : List Cell) : Type 0 where
   pub vertex : IsIn point (points_of cell)
   pub number : bucket_of g point ≡ b
 
+-- each of these is that of a bucket with a vertex in it
 numbers_from : (g b : ℕ) (cells : List Cell) → IsIn b (numbers_of g cells) → HasVertex g b cells
 numbers_from g b [] i = absurd i
 numbers_from g b (c ∷ cells) i = elim (from_append b (map (bucket_of g) (points_of c)) (numbers_of g cells) i) [
@@ -107,6 +109,7 @@ turn_place : (t : Bool) (p q : PlanView) (b c : Placed) → IsTurned t p b q c �
 turn_place false p q b c s = ap (λ (x : Placed). x.place) s.bucket
 turn_place true p q b c s = sym (ap (λ (x : Placed). x.place) s.bucket)
 
+-- the bucket's cells are exchanged
 turn_cells : (t : Bool) (gone fresh : List Cell) (p q : PlanView) (b c : Placed) → IsExchange t gone fresh b p → IsTurned t p b q c → cells_of c.slots ≡ swapped_at b.place gone fresh (cells_of b.slots)
 turn_cells false gone fresh p q b c e s = ap (λ (x : Placed). cells_of x.slots) s.bucket ∙ e.cells
 turn_cells true gone fresh p q b c e s =
@@ -131,6 +134,7 @@ record HasTurn (t : Bool) (plans after : List PlanFor) (b : ℕ) (old new : List
   pub number : plan.number ≡ b
   pub turned : IsTurnedIn t plan made old new
 
+-- a bucket has a plan that was carried out or turned back, or no plan is for it
 turn_of : (t : Bool) (plans after : List PlanFor) (b : ℕ) (old new : List (Option Layout)) → AreTurned t plans after old new → HasTurn t plans after b old new ⊎ NoneIsFor b plans
 turn_of t [] [] b old new a = inr (λ l i. absurd i)
 turn_of t [] (m ∷ ms) b old new a = absurd a
@@ -143,6 +147,7 @@ turn_of t (l ∷ ls) (m ∷ ms) b old new a = elim (cases_eq l.number b) [
   ]
 ]
 
+-- each plan as it is after is one of those before, carried out or turned back
 turn_from : (t : Bool) (plans after : List PlanFor) (old new : List (Option Layout)) (m : PlanFor) → AreTurned t plans after old new → IsIn m after → (l : PlanFor) × IsIn l plans × IsTurnedIn t l m old new
 turn_from t [] [] old new m a i = absurd i
 turn_from t [] (n ∷ ms) old new m a i = absurd a
@@ -154,12 +159,14 @@ turn_from t (l ∷ ls) (n ∷ ms) old new m a (inr i) = (let r = turn_from t ls 
 none_after : (t : Bool) (plans after : List PlanFor) (b : ℕ) (old new : List (Option Layout)) → AreTurned t plans after old new → NoneIsFor b plans → NoneIsFor b after
 none_after t plans after b old new a n m i e = (let r = turn_from t plans after old new m a i in n r.0 r.1 (sym r.2.number ∙ e))
 
+-- and back: where none after is for a bucket none before was
 none_before : (t : Bool) (plans after : List PlanFor) (b : ℕ) (old new : List (Option Layout)) → AreTurned t plans after old new → NoneIsFor b after → NoneIsFor b plans
 none_before t plans after b old new a n = elim (turn_of t plans after b old new a) [
   | inl h ↦ absurd (n h.made h.among (h.turned.number ∙ h.number))
   | inr f ↦ f
 ]
 
+-- so no two of them are for one bucket, as before
 apart_after : (t : Bool) (plans after : List PlanFor) (old new : List (Option Layout)) → AreTurned t plans after old new → AreApart plans → AreApart after
 apart_after t [] [] old new a p = tt
 apart_after t [] (m ∷ ms) old new a p = absurd a
@@ -173,9 +180,11 @@ pub record AreMadeFirst (t : Bool) (plans after : List PlanFor) (old new : List 
   pub rest : drop k after ≡ drop k plans
   pub others : (b : ℕ) → NoneIsFor b (take k plans) → layout_at new b ≡ layout_at old b
 
+-- before the first none was made
 pub made_none : (t : Bool) (plans : List PlanFor) (places : List (Option Layout)) → AreMadeFirst t plans plans places places 0
 made_none t plans places = record { count = refl; turned = tt; rest = refl; others = λ b n. refl }
 
+-- once as many were made as there are, all were
 pub made_all : (t : Bool) (plans after : List PlanFor) (old new : List (Option Layout)) (k : ℕ) → length after ≡ length plans → length after ≤ k → AreMadeFirst t plans after old new k → AreMade t plans after old new
 made_all t plans after old new k e h m =
     let first = take_all k plans (let q = e in omega arith) in
@@ -186,6 +195,7 @@ made_all t plans after old new k e h m =
       others = λ b n. m.others b (subst (NoneIsFor b) (sym first) n);
     }
 
+-- plans that were made are so in places where their buckets have the same
 turned_moves : (t : Bool) (plans after : List PlanFor) (old new next : List (Option Layout)) → ((l : PlanFor) → IsIn l plans → layout_at next l.number ≡ layout_at new l.number) → AreTurned t plans after old new → AreTurned t plans after old next
 turned_moves t [] [] old new next f a = tt
 turned_moves t [] (m ∷ ms) old new next f a = absurd a
@@ -195,6 +205,7 @@ turned_moves t (l ∷ ls) (m ∷ ms) old new next f a = (
   turned_moves t ls ms old new next (λ k i. f k (inr i)) a.1,
 )
 
+-- with one more that was made they are so
 turned_snoc : (t : Bool) (plans after : List PlanFor) (l m : PlanFor) (old new : List (Option Layout)) → AreTurned t plans after old new → IsTurnedIn t l m old new → AreTurned t (plans ++ l ∷ []) (after ++ m ∷ []) old new
 turned_snoc t [] [] l m old new a r = (r, tt)
 turned_snoc t [] (n ∷ ms) l m old new a r = absurd a
@@ -275,6 +286,7 @@ ready_allowed t g gone fresh places plans r l i = by (layout_at places l.number)
 ready_at : (t : Bool) (g : ℕ) (gone fresh : List Cell) (places : List (Option Layout)) (plans : List PlanFor) (l : PlanFor) (c : Layout) → IsReady t g gone fresh places plans → IsIn l plans → layout_at places l.number ≡ Some c → IsExchange t gone fresh c.cells l.plan
 ready_at t g gone fresh places plans l c r i e = of_some (λ d. IsExchange t gone fresh d.cells l.plan) (layout_at places l.number) c e (r.each l i)
 
+-- a plan that makes the exchange makes it in the bucket at its number
 exchanged_one : (t : Bool) (g b : ℕ) (gone fresh : List Cell) (l m : PlanFor) (old new : List (Option Layout)) (c : Layout) → IsTurnedIn t l m old new → l.number ≡ b → layout_at old b ≡ Some c → c.cells.place ≡ Some (g, b) → IsExchange t gone fresh c.cells l.plan → AreExchanged g b gone fresh (Some c) (layout_at new b)
 exchanged_one t g b gone fresh l m old new c r q e home x =
     let same : r.before ≡ c = one_value r.before c (sym (ap (layout_at old) (sym q) ∙ r.was) ∙ e) in
@@ -285,6 +297,7 @@ exchanged_one t g b gone fresh l m old new c r q e home x =
       cells = turn_cells t gone fresh l.plan m.plan c.cells r.after.cells x turned ∙ ap (λ o. swapped_at o gone fresh (cells_of c.cells.slots)) home;
     })
 
+-- so all plans that were ready make it in every bucket, also where none is for it
 pub exchanged : (t : Bool) (g : ℕ) (gone fresh : List Cell) (old new : List (Option Layout)) (plans after : List PlanFor) → IsReady t g gone fresh old plans → StandAtPlaces g (shown old) → AreMade t plans after old new → (b : ℕ) → AreExchanged g b gone fresh (layout_at old b) (layout_at new b)
 exchanged t g gone fresh old new plans after r st m b = by (layout_at old b) refl
   where
@@ -302,6 +315,7 @@ exchanged t g gone fresh old new plans after r st m b = by (layout_at old b) ref
 shown_exchanged : (g b : ℕ) (gone fresh : List Cell) (c d : Layout) → IsExchanged g b gone fresh c d → content_of d ≡ swapped_in g b gone fresh (content_of c)
 shown_exchanged g b gone fresh c d x = λ i. record { points = (x.rest i).points; cells = x.cells i; entries = (x.rest i).entries; place = x.place i }
 
+-- so every bucket shows the exchange
 pub swapped_places : (g : ℕ) (gone fresh : List Cell) (old new : List (Option Layout)) → ((b : ℕ) → AreExchanged g b gone fresh (layout_at old b) (layout_at new b)) → (b : ℕ) → bucket_at (shown new) b ≡ option_map (swapped_in g b gone fresh) (bucket_at (shown old) b)
 swapped_places g gone fresh old new f b =
     shown_at new b ∙ by (layout_at old b) (layout_at new b) (f b) ∙ ap (option_map (swapped_in g b gone fresh)) (sym (shown_at old b))
@@ -333,6 +347,7 @@ found_in g old gone fresh st there absent b c e =
     (subst (λ l. AreReady (Some (g, b)) gone fresh l) in_it
     (record { there = λ d i q. there b d i q; absent = λ d i q. absent b d i q }))
 
+-- so do the plans' buckets, where the hold finds its cells
 pub hold_finds : (hold : InHand) (g : ℕ) (places : List (Option Layout)) (gone fresh : List Cell) → g ≡ hold.grid →
     shown places ≡ hold.places → StandAtPlaces g (shown places) → FindsCells hold gone fresh →
     AreFound gone fresh places
@@ -359,6 +374,7 @@ ready_back t g gone fresh old new plans after r st m there absent = record {
         to_some (λ (d : Layout). IsExchange (not t) fresh gone d.cells n.plan) (layout_at new n.number) u.after (ap (layout_at new) u.number ∙ u.is)
         (turn_ready t gone fresh h.0.plan n.plan u.before.cells u.after.cells (ready_at t g gone fresh old plans h.0 u.before r h.1 u.was) u.turned (found_in g old gone fresh st there absent h.0.number u.before u.was))
 
+-- a hold in which each bucket has its cells exchanged, and nothing else is changed, is swapped
 pub swap_is : (old new : InHand) (g : ℕ) (places after : List (Option BucketContent)) (gone fresh eg ef : List Cell) → g ≡ old.grid → places ≡ old.places → new.grid ≡ g → new.places ≡ after → length after ≡ length places → eg ≡ gone → ef ≡ fresh → ((b : ℕ) → bucket_at after b ≡ option_map (swapped_in g b eg ef) (bucket_at places b)) → IsSwapped gone fresh old new
 swap_is old new g places after gone fresh eg ef e1 e2 e3 e4 e6 e7 e8 f = record {
   grid = e3 ∙ e1;
@@ -385,11 +401,13 @@ in_hand_below [] b s = absurd (cc s)
 in_hand_below (o ∷ places) zero s = omega arith
 in_hand_below (o ∷ places) (suc b) s = let h = in_hand_below places b s in omega arith
 
+-- so has one that stands in the list
 pub layout_below : (places : List (Option Layout)) (b : ℕ) → IsSome (layout_at places b) → b < length places
 layout_below [] b s = absurd (cc s)
 layout_below (o ∷ places) zero s = omega arith
 layout_below (o ∷ places) (suc b) s = let h = layout_below places b s in omega arith
 
+-- and the bucket of a plan that can be made
 pub allowed_below : (t : Bool) (places : List (Option Layout)) (l : PlanFor) → IsAllowed t places l → l.number < length places
 allowed_below t places l a = layout_below places l.number (and_known (λ c. CanTurn t l.plan c.cells) (layout_at places l.number) a)
 

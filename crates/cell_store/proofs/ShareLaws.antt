@@ -30,9 +30,11 @@ touched g p b c e i = any_true (λ q. bucket_of g q == b) (points_of c) p i (let
 
 -- ---- shares and shown sets
 
+-- a bucket's share of a history, at one place, is one content
 pub share_is_one : ShareIsOne
 share_is_one g b h c s e = λ i. record { points = s.points i; cells = s.cells i; entries = s.entries i; place = e i }
 
+-- a hold that stands for a history shows the set that it leaves
 pub stands_shows : StandsShows
 stands_shows hold h st = record {
   ascending = leaves_set h;

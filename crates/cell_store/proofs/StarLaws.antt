@@ -19,6 +19,7 @@ pub record StillToCome (cell : Cell) (facet : Facet) (all left : List Cell) : Ty
   pub some : (c : Cell) → IsIn c left → IsIn c all
   pub others : (c : Cell) → IsOtherOf all cell facet c → IsIn c left
 
+-- at first all are still to come
 pub all_come : (cell : Cell) (facet : Facet) (all : List Cell) → StillToCome cell facet all all
 all_come cell facet all = record { some = λ c m. m; others = λ c o. o.listed }
 
@@ -32,9 +33,11 @@ passed_cell cell facet all left rest c e n s = record {
   ];
 }
 
+-- where none is left there is no other cell on the facet
 pub none_left : (cell : Cell) (facet : Facet) (all left : List Cell) → left ≡ [] → StillToCome cell facet all left → HaveNoOther all cell facet
 none_left cell facet all left e s d o = subst (IsIn d) e (s.others d o)
 
+-- a cell that has the facet and is not this one is the other
 pub other_found : (cell : Cell) (facet : Facet) (all left rest : List Cell) (c : Cell) → left ≡ c ∷ rest → IsIn facet (facets_of c) → ¬ (c ≡ cell) → StillToCome cell facet all left → IsOtherOf all cell facet c
 other_found cell facet all left rest c e h n s = record { listed = s.some c (subst (IsIn c) (sym e) (inl refl)); has = h; differs = n }
 

@@ -73,6 +73,7 @@ next_ready true g h x after next old new e1 e2 r st m f n =
 module _ (g : ℕ) (x : Exchange) (next : Option Exchange) (places after : List (Option Layout)) (back : Bool)
     (ready : IsReady x.turned g x.gone.items x.fresh.items places x.plans.items)
     (stand : StandAtPlaces g (shown places)) (m : IsMade back x next places after) where
+  -- in each bucket the exchange was made
   each : (b : ℕ) → AreExchanged g b x.gone.items x.fresh.items (layout_at places b) (layout_at after b)
   each = exchanged x.turned g x.gone.items x.fresh.items places after x.plans.items m.after ready stand m.made
 

@@ -49,9 +49,11 @@ left_out s t c m =
     let r = filtered_from (λ c. not (is_cell_among c t)) s c m in
     (r.0, λ i. (let u = cell_among c t i in let v = not_from (is_cell_among c t) r.1 in cc (u, v)))
 
+-- a cell of s that is none of t is left out
 pub all_out : (s t : List Cell) (c : Cell) → IsIn c s → (IsIn c t → ⊥) → IsIn c (without_cells t s)
 all_out s t c m n = filtered_true (λ c. not (is_cell_among c t)) s c m (not_true (is_cell_among c t) (false_if (is_cell_among c t) (λ u. n (cell_from c t u))))
 
+-- the cells of each that are none of the other are the change from s to t
 is_change : (s t : List Cell) → IsChange s t (without_cells t s) (without_cells s t)
 is_change s t = record { went = left_out s t; all_gone = all_out s t; came = left_out t s; all_fresh = all_out t s }
 
@@ -86,6 +88,7 @@ points_outside t s (Move p q) a f = by (reply_to s (Move p q))
     by Flat = refl
     by Occupied = refl
 
+-- one more entry changes the share of no bucket that its edit does not touch
 pub share_outside : ShareOutsideTouch
 share_outside g b h e i key n = λ k. record { points = points k; cells = cells k; entries = sym (entries_stay g b h e here) k; place = Some (g, b) }
   where
@@ -125,6 +128,7 @@ share_outside g b h e i key n = λ k. record { points = points k; cells = cells 
 abbrev IsHeldPoint : InHand → ℕ → Type 0
 IsHeldPoint hold p = IsSome (bucket_at hold.places (bucket_of hold.grid p))
 
+-- a point of a cell of the complex is one of the set
 inside : (s : List ℕ) → IsSet s → (q : Cell) → IsIn q (complex s) → (e : ℕ) → IsIn e (points_of q) → IsIn e s
 inside s i q m e j = listed_inside s q (listed_is_cell s q i.ascending m) e j
 
@@ -148,6 +152,7 @@ module _ (hold : InHand) (s t : List ℕ) (sh : Shows hold s) (th : Shows hold t
       let here = filtered_true (touches hold.grid b) (complex s) q i (touched hold.grid e b q refl has) in
       (filtered_from (touches hold.grid b) (complex t) q (subst (λ (l : List Cell). IsIn q l) (sym (sh.sights b c.0 c.1).cells ∙ (th.sights b c.0 c.1).cells) here)).0
 
+  -- and has a mate that is one for both
   both_mates : (q : Cell) (e : ℕ) → IsIn e (points_of q) → IsHeldPoint hold e → IsIn q (complex s) → HasBothMates s t q
   both_mates (Full l) e has held i = record { mate = 0; here = tt; there = tt }
   both_mates (Open l) e has held i = of (listed_is_cell s (Open l) sh.ascending i)
@@ -179,6 +184,7 @@ module _ (hold : InHand) (s t : List ℕ) (sh : Shows hold s) (th : Shows hold t
       (goes_in_conflict t p (solid_set hold t th) n' q m.mate there m.there).0
       ((goes_in_conflict s p (solid_set hold s sh) n q m.mate goes.before m.here).1 goes)
 
+  -- a point that is joined to one in hand in the one complex is so in the other
   joined_moves : (v e : ℕ) → IsHeldPoint hold v → AreJoined (complex s) v e → AreJoined (complex t) v e
   joined_moves v e held j = record { q = j.q; listed = cell_moves j.q v j.has_p held j.listed; has_p = j.has_p; has_e = j.has_e }
 
@@ -233,6 +239,7 @@ all_go hold s t p sh th n m all q g =
       across = λ q r f i g w j l. among r (goes_moves hold t s th sh p m n r w.e w.has (to_some (bucket_at hold.places (bucket_of hold.grid w.e)) w.is_held) g);
     }
 
+-- where the buckets that an add touches in one set are in hand, it has the same reply in both and reaches the same
 add_from_held : (hold : InHand) (s t : List ℕ) (p : ℕ) → Shows hold s → Shows hold t → IsKey p → HoldTouched hold.grid s (Add p) hold.places →
     (reply_to s (Add p) ≡ reply_to t (Add p)) × ((e : ℕ) → Reaches s (Add p) e ↔ Reaches t (Add p) e)
 add_from_held hold s t p sh th key held = (ap (λ b. cond b Duplicate Inserted) same, λ e. (forth e, back e))
@@ -264,6 +271,7 @@ add_from_held hold s t p sh th key held = (ap (λ b. cond b Duplicate Inserted) 
         let m = new_s n in
         inr (m.absent, record { q = r.q; goes = all_go hold s t p sh th m (new_t m.absent) (all m.absent) r.q r.goes; has = r.has })
 
+-- and so it is with a take
 take_from_held : (hold : InHand) (s t : List ℕ) (v : ℕ) → Shows hold s → Shows hold t → HoldTouched hold.grid s (Take v) hold.places →
     (reply_to s (Take v) ≡ reply_to t (Take v)) × ((e : ℕ) → Reaches s (Take v) e ↔ Reaches t (Take v) e)
 take_from_held hold s t v sh th held = (reply (is_among v s) (is_among v t) same (λ e. rest (among_from v s e)), λ e. (forth e, back e))
@@ -310,6 +318,7 @@ abbrev seen_from : ℕ → List ℕ → ℕ → List (Option BucketContent) → 
 seen_from g u b [] = []
 seen_from g u b (o ∷ places) = option_map (seen_in g u b) o ∷ seen_from g u (b + 1) places
 
+-- at each place it is so
 seen_at : (g : ℕ) (u : List ℕ) (k : ℕ) (l : List (Option BucketContent)) (b : ℕ) → bucket_at (seen_from g u k l) b ≡ option_map (seen_in g u (k + b)) (bucket_at l b)
 seen_at g u k [] b = refl
 seen_at g u k (o ∷ l) zero = let q : k ≡ k + 0 = omega arith in ap (λ (n : ℕ). option_map (seen_in g u n) o) q
@@ -384,6 +393,7 @@ module _ (hold : InHand) (s t : List ℕ) (p : ℕ) (sh : Shows hold s) (th : Sh
 module _ (hold : InHand) (s t : List ℕ) (p : ℕ) (sh : Shows hold s) (th : Shows hold t) (n : IsNew s p) (m : IsNew t p)
     (to : (q : Cell) → GoesFrom s p q → GoesFrom t p q) (fro : (q : Cell) → GoesFrom t p q → GoesFrom s p q)
     (held : (q : Cell) (e : ℕ) → GoesFrom s p q → IsIn e (points_of q) → IsHeldPoint hold e) where
+  -- the same cells
   same_cells : (b : ℕ) → IsSome (bucket_at hold.places b) → filter (touches hold.grid b) (complex (with_point p s)) ≡ filter (touches hold.grid b) (complex (with_point p t))
   same_cells b i =
       same_cell_members (filter (touches hold.grid b) (complex (with_point p s))) (filter (touches hold.grid b) (complex (with_point p t)))
@@ -399,6 +409,7 @@ module _ (hold : InHand) (s t : List ℕ) (p : ℕ) (sh : Shows hold s) (th : Sh
       in_hand : (x : ℕ) → (bucket_of hold.grid x == b) ≡ true → IsHeldPoint hold x
       in_hand x e = subst (λ (k : ℕ). IsSome (bucket_at hold.places k)) (sym (eqb-true (bucket_of hold.grid x) b e)) i
 
+  -- the same points
   same_points : (b : ℕ) → IsSome (bucket_at hold.places b) → filter (λ x. bucket_of hold.grid x == b) (with_point p s) ≡ filter (λ x. bucket_of hold.grid x == b) (with_point p t)
   same_points b i = by (bucket_of hold.grid p == b) refl
     where
@@ -413,6 +424,7 @@ module _ (hold : InHand) (s t : List ℕ) (p : ℕ) (sh : Shows hold s) (th : Sh
   shows_here : Shows (seen hold (with_point p s)) (with_point p s)
   shows_here = seen_shows hold (with_point p s) (with_point p s) (with_solid s p (solid_set hold s sh) n) (λ b i. (refl, refl))
 
+  -- so it shows the other set with p too
   shows_there : Shows (seen hold (with_point p s)) (with_point p t)
   shows_there = seen_shows hold (with_point p s) (with_point p t) (with_solid t p (solid_set hold t th) m) (λ b i. (same_points b i, same_cells b i))
 
@@ -420,18 +432,23 @@ module _ (hold : InHand) (s t : List ℕ) (p : ℕ) (sh : Shows hold s) (th : Sh
 
 module _ (hold : InHand) (s t : List ℕ) (a b : ℕ) (sh : Shows hold s) (th : Shows hold t) (key : IsKey b)
     (held : HoldTouched hold.grid s (Move a b) hold.places) (ia : IsIn a s) (nb : ¬ (IsIn b s)) (ja : IsIn a t) (mb : ¬ (IsIn b t)) where
+  -- the cells that the new place takes away are held
   moved_goes : (q : Cell) (e : ℕ) → GoesFrom s b q → IsIn e (points_of q) → IsHeldPoint hold e
   moved_goes q e g i = held (bucket_of hold.grid e) (record { point = e; reached = inr (inr (ia, nb, inl (record { q = q; goes = g; has = i }))); number = refl })
 
+  -- the new place is new for the one set
   new_here : IsNew s b
   new_here = record { key = key; absent = nb }
 
+  -- and for the other
   new_there : IsNew t b
   new_there = record { key = key; absent = mb }
 
+  -- what it takes away from the one it takes from the other
   goes_to : (q : Cell) → GoesFrom s b q → GoesFrom t b q
   goes_to q g = let e = some_point s (solid_set hold s sh).set q g.before in goes_moves hold s t sh th b new_here new_there q e.0 e.1 (moved_goes q e.0 g e.1) g
 
+  -- and back
   goes_fro : (q : Cell) → GoesFrom t b q → GoesFrom s b q
   goes_fro q g = all_go hold s t b sh th new_here new_there moved_goes q g
 
@@ -445,6 +462,7 @@ module _ (hold : InHand) (s t : List ℕ) (a b : ℕ) (sh : Shows hold s) (th : 
         number = r.number;
       })))
 
+  -- so what the move leaves of both is solid, or of neither
   moved_solid : is_solid (moved_to a b s) ≡ is_solid (moved_to a b t)
   moved_solid = by (is_among a (with_point b s)) (is_among a (with_point b t)) (is_solid (moved_to a b s)) (is_solid (moved_to a b t))
       (among_true a (with_point b s) (in_with_old b a s ia)) (among_true a (with_point b t) (in_with_old b a t ja)) taken.0
@@ -457,14 +475,17 @@ module _ (hold : InHand) (s t : List ℕ) (a b : ℕ) (sh : Shows hold s) (th : 
       by true false z w e f g = absurd cc
       by false y z w e f g = absurd cc
 
+  -- what it reaches in the one it reaches in the other
   moved_reached : (e : ℕ) → IsReached s b e ⊎ AreJoined (complex (with_point b s)) a e → Reaches t (Move a b) e
   moved_reached e (inl r) = inr (inr (ja, mb, inl (record { q = r.q; goes = goes_to r.q r.goes; has = r.has })))
   moved_reached e (inr j) = elim ((taken.1 e).0 (inr (in_with_old b a s ia, j))) [ inl q ↦ inl q | inr k ↦ inr (inr (ja, mb, inr k.1)) ]
 
+  -- and back
   moved_back : (e : ℕ) → IsReached t b e ⊎ AreJoined (complex (with_point b t)) a e → Reaches s (Move a b) e
   moved_back e (inl r) = inr (inr (ia, nb, inl (record { q = r.q; goes = goes_fro r.q r.goes; has = r.has })))
   moved_back e (inr j) = elim ((taken.1 e).1 (inr (in_with_old b a t ja, j))) [ inl q ↦ inl q | inr k ↦ inr (inr (ia, nb, inr k.1)) ]
 
+-- where the buckets that an edit touches in one set are in hand, it has the same reply in both and touches the same
 pub reach_from_held : ReachFromHeld
 reach_from_held hold s t (Add p) sh th key held = add_from_held hold s t p sh th key held
 reach_from_held hold s t (Take v) sh th key held = take_from_held hold s t v sh th held
@@ -506,6 +527,7 @@ reach_from_held hold s t (Move a b) sh th key held =
 more_touched : (g : ℕ) (s t : List ℕ) (edit : Edit) → ((p : ℕ) → Reaches s edit p → Reaches t edit p) → (b : ℕ) → IsTouched g s edit b → IsTouched g t edit b
 more_touched g s t edit f b r = record { point = r.point; reached = f r.point r.reached; number = r.number }
 
+-- two edits commute where the second touches none of the buckets that the first touches
 pub commits_commute : CommitsCommute
 commits_commute g s a b i k l n =
     let d = edits_commute s a b i k l (λ e r q. n (bucket_of g e) (record { point = e; reached = r; number = refl }) (record { point = e; reached = q; number = refl })) in (

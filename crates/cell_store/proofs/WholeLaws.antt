@@ -60,12 +60,14 @@ use Rattle.cell_store.specs.Wholes.{AreAt, AreCellsParted, AreParted, AreParts, 
 use Rattle.cell_store.specs.declared.whole.Parts.{Parts}
 use Rattle.cell_store.proofs.HandLaws.{empty_stands, put_stands}
 
+-- two numbers are one or are not
 same_or_not : (x y : ℕ) → (x ≡ y) ⊎ (x ≡ y → ⊥)
 same_or_not zero zero = inl refl
 same_or_not zero (suc y) = inr (λ e. absurd (omega (arith, e)))
 same_or_not (suc x) zero = inr (λ e. absurd (omega (arith, e)))
 same_or_not (suc x) (suc y) = elim (same_or_not x y) [ inl e ↦ inl (ap suc e) | inr f ↦ inr (λ e. f (omega (arith, e))) ]
 
+-- the test tells two that are not one
 differ_false : (x y : ℕ) → (x ≡ y → ⊥) → (x == y) ≡ false
 differ_false x y f = by (x == y) refl
   where
@@ -79,9 +81,11 @@ own_default [] k d h = absurd (omega arith)
 own_default (x ∷ l) zero d h = refl
 own_default (x ∷ l) (suc k) d h = own_default l k d (omega arith)
 
+-- so it is with what was read there
 pub as_at : {X : Type 0} (l : List X) (b : ℕ) (x y : X) → y ≡ x → x ≡ slice_index_or l b x → y ≡ slice_index_or l b y
 as_at l b x y e f = subst (λ z. z ≡ slice_index_or l b z) (sym e) f
 
+-- the lists that some vectors have
 abbrev pub lists_in : {X : Type 0} → List (Vec X Global) → List (List X)
 lists_in vs = map (λ v. v.items) vs
 
@@ -93,18 +97,22 @@ at_vec [] b v h e = absurd (omega arith)
 at_vec {X} (w ∷ vs) zero v h e = ap (λ (u : Vec X Global). u.items) (sym e)
 at_vec (w ∷ vs) (suc b) v h e = at_vec vs b v (omega arith) e
 
+-- where a vector is set its list stands
 set_vec : {X : Type 0} (vs : List (Vec X Global)) (b : ℕ) (v : Vec X Global) → b < length vs → list_at (lists_in (slice_set vs b v)) b ≡ v.items
 set_vec {X} vs b v h =
     ap (λ l. list_at l b) (map_set (λ (u : Vec X Global). u.items) vs b v)
     ∙ get_or-set_same (lists_in vs) b v.items [] (let k = length-map vs (λ (u : Vec X Global). u.items) in omega (arith, h, k))
 
+-- all others stand as before
 other_vec : {X : Type 0} (vs : List (Vec X Global)) (b k : ℕ) (v : Vec X Global) → (k ≡ b → ⊥) → list_at (lists_in (slice_set vs b v)) k ≡ list_at (lists_in vs) k
 other_vec {X} vs b k v f =
     ap (λ l. list_at l k) (map_set (λ (u : Vec X Global). u.items) vs b v) ∙ get_or-set_other (lists_in vs) b k v.items [] f
 
+-- there are as many lists as before
 count_vec : {X : Type 0} (vs : List (Vec X Global)) (b : ℕ) (v : Vec X Global) → length (lists_in (slice_set vs b v)) ≡ length (lists_in vs)
 count_vec {X} vs b v = length-map (slice_set vs b v) (λ (u : Vec X Global). u.items) ∙ len_set vs b v ∙ sym (length-map vs (λ (u : Vec X Global). u.items))
 
+-- and as many as vectors
 pub length_vec : {X : Type 0} (vs : List (Vec X Global)) → length (lists_in vs) ≡ length vs
 length_vec {X} vs = length-map vs (λ (u : Vec X Global). u.items)
 
@@ -133,6 +141,7 @@ pushed_at vs b v w x h e p = record {
 
 -- ---- lists by buckets
 
+-- no element yet: all lists are empty
 pub parted_none : {X : Type 0} (g : ℕ) (test : ℕ → X → Bool) (xs : List X) (lists : List (List X)) → length lists ≡ g * g * g →
     ((b : ℕ) → list_at lists b ≡ []) → AreParted g test (take 0 xs) lists
 parted_none g test xs lists c f = record { count = c; each = λ b h. f b ∙ none xs b }
@@ -141,18 +150,22 @@ parted_none g test xs lists c f = record { count = c; each = λ b h. f b ∙ non
     none [] b = refl
     none (x ∷ xs) b = refl
 
+-- one element passes or does not
 filter_one : {X : Type 0} (test : X → Bool) (x : X) (t : Bool) → test x ≡ t → filter test (x ∷ []) ≡ if t then x ∷ [] else []
 filter_one test x t e = ap (λ r. if r then x ∷ [] else []) e
 
+-- so what passes of one more is what passed before, and it if it passes
 filter_next : {X : Type 0} (test : X → Bool) (xs : List X) (n : ℕ) (x : X) (t : Bool) → n < length xs → x ≡ slice_index_or xs n x → test x ≡ t →
     filter test (take (n + 1) xs) ≡ filter test (take n xs) ++ (if t then x ∷ [] else [])
 filter_next test xs n x t h e q =
     ap (filter test) (take_next xs n x h e) ∙ filter-append test (take n xs) (x ∷ []) ∙ ap (λ l. filter test (take n xs) ++ l) (filter_one test x t q)
 
+-- nothing behind a list leaves it
 append_none : {X : Type 0} (l : List X) → l ++ [] ≡ l
 append_none [] = refl
 append_none (x ∷ l) = ap (λ r. x ∷ r) (append_none l)
 
+-- an element more stands last in the list of its bucket
 pub parted_more : {X : Type 0} (g : ℕ) (test : ℕ → X → Bool) (home : X → ℕ) (xs : List X) (n b : ℕ) (x : X) (old new : List (List X)) →
     ((k : ℕ) → test k x ≡ (home x == k)) → n < length xs → x ≡ slice_index_or xs n x → b ≡ home x → AreParted g test (take n xs) old → IsPushedAt b x old new →
     AreParted g test (take (n + 1) xs) new
@@ -168,6 +181,7 @@ parted_more g test home xs n b x old new t h e i s p = record {
   ];
 }
 
+-- at the end each list has what passes in its bucket
 pub parted_all : {X : Type 0} (g : ℕ) (test : ℕ → X → Bool) (xs : List X) (n : ℕ) (lists : List (List X)) → length xs ≤ n →
     AreParted g test (take n xs) lists → AreParted g test xs lists
 parted_all g test xs n lists h s = subst (λ l. AreParted g test l lists) (take_all n xs h) s
@@ -178,18 +192,22 @@ parted_all g test xs n lists h s = subst (λ l. AreParted g test l lists) (take_
 abbrev pub first_touch : ℕ → List ℕ → ℕ → ℕ → Bool
 first_touch g ps k b = list_any (lies_at g b) (take k ps)
 
+-- a point of the first k + 1 lies in it where one of the first k does, or the next
 touch_next : (g : ℕ) (ps : List ℕ) (k x b : ℕ) → k < length ps → x ≡ slice_index_or ps k x →
     first_touch g ps (k + 1) b ≡ (first_touch g ps k b || (bucket_of g x == b))
 touch_next g ps k x b h e = list_any_more (lies_at g b) ps k x h ∙ ap (λ y. first_touch g ps k b || (bucket_of g y == b)) (sym e)
 
+-- where the second of two is true one of them is
 or_true : (p q : Bool) → q ≡ true → (p || q) ≡ true
 or_true true q e = refl
 or_true false q e = e
 
+-- where it is false the first tells
 or_false : (p q : Bool) → q ≡ false → (p || q) ≡ p
 or_false true q e = refl
 or_false false q e = e
 
+-- before the first point the place stands in no list more
 pub touch_none : (g : ℕ) (ps : List ℕ) (place : ℕ) (lists : List (List ℕ)) → IsPushedWhere (first_touch g ps 0) place lists lists
 touch_none g ps place lists = record {
   count = refl;
@@ -239,6 +257,7 @@ touch_new g ps k x b0 place old mid new h e i t s p = record {
     clash : (b : Bool) → b ≡ false → b ≡ true → ⊥
     clash b u v = cc (u, v)
 
+-- after all of them it stands in the lists of the buckets that the cell touches
 pub touch_all : (g : ℕ) (c : Cell) (ps : List ℕ) (k place : ℕ) (old new : List (List ℕ)) → ps ≡ points_of c → length ps ≤ k →
     IsPushedWhere (first_touch g ps k) place old new → IsPushedWhere (λ b. touches g b c) place old new
 touch_all g c ps k place old new e h s = record {
@@ -252,6 +271,7 @@ touch_all g c ps k place old new e h s = record {
 
 -- ---- the cells of each bucket
 
+-- no cell yet: all lists are empty
 pub cells_none : (g : ℕ) (cells : List Cell) (lists : List (List ℕ)) → length lists ≡ g * g * g → ((b : ℕ) → list_at lists b ≡ []) →
     AreCellsParted g cells (take 0 cells) lists
 cells_none g cells lists c f = record { count = c; each = λ b h. ap (map (slice_get cells)) (f b) ∙ none cells b }
@@ -260,11 +280,13 @@ cells_none g cells lists c f = record { count = c; each = λ b h. ap (map (slice
     none [] b = refl
     none (x ∷ l) b = refl
 
+-- what is read at a place of the cells is what stands there
 get_at : (cells : List Cell) (n : ℕ) (x d : Cell) → n < length cells → x ≡ slice_index_or cells n d → slice_get cells n ≡ Some x
 get_at [] n x d h e = absurd (omega arith)
 get_at (c ∷ cells) zero x d h e = ap (λ y. Some y) (sym e)
 get_at (c ∷ cells) (suc n) x d h e = get_at cells n x d (omega arith) e
 
+-- the place of a cell more stands last in the lists of the buckets that the cell touches
 pub cells_more : (g : ℕ) (cells : List Cell) (n : ℕ) (x : Cell) (old new : List (List ℕ)) → n < length cells → x ≡ slice_index_or cells n x →
     AreCellsParted g cells (take n cells) old → IsPushedWhere (λ b. touches g b x) n old new → AreCellsParted g cells (take (n + 1) cells) new
 cells_more g cells n x old new h e s p = record {
@@ -285,6 +307,7 @@ cells_more g cells n x old new h e s p = record {
         ap (map (slice_get cells)) (p.others b t) ∙ s.each b m
         ∙ sym (ap (map (λ c. Some c)) (filter_next (touches g b) cells n x false h e t ∙ append_none (filter (touches g b) (take n cells))))
 
+-- at the end each list has the places of the cells that touch its bucket
 pub cells_all : (g : ℕ) (cells : List Cell) (n : ℕ) (lists : List (List ℕ)) → length cells ≤ n → AreCellsParted g cells (take n cells) lists →
     AreCellsParted g cells cells lists
 cells_all g cells n lists h s = subst (λ l. AreCellsParted g cells l lists) (take_all n cells h) s
@@ -294,6 +317,7 @@ pub at_none : (cells : List Cell) (places : List ℕ) (list : List Cell) → lis
 at_none cells [] list e = sym (ap (map (λ c. Some c)) e)
 at_none cells (n ∷ places) list e = sym (ap (map (λ c. Some c)) e)
 
+-- the cell at the next place comes last
 pub at_more : (cells : List Cell) (places : List ℕ) (k n : ℕ) (x d : Cell) (list new : List Cell) → k < length places → n ≡ slice_index_or places k n →
     n < length cells → x ≡ slice_index_or cells n d → new ≡ list ++ x ∷ [] → AreAt cells (take k places) list → AreAt cells (take (k + 1) places) new
 at_more cells places k n x d list new h e i f p s =
@@ -301,6 +325,7 @@ at_more cells places k n x d list new h e i f p s =
     ∙ ap (λ l. l ++ slice_get cells n ∷ []) s ∙ ap (λ o. map (λ c. Some c) list ++ o ∷ []) (get_at cells n x d i f)
     ∙ sym (ap (map (λ c. Some c)) p ∙ map-append (λ c. Some c) list (x ∷ []))
 
+-- at the end there is a cell for each place
 pub at_all : (cells : List Cell) (places : List ℕ) (k : ℕ) (list : List Cell) → length places ≤ k → AreAt cells (take k places) list → AreAt cells places list
 at_all cells places k list h s = subst (λ l. AreAt cells l list) (take_all k places h) s
 
@@ -328,6 +353,7 @@ at_is cells places list some s t = same list some (sym s ∙ t)
 
 -- ---- what is there for the buckets
 
+-- points, entries and cells by buckets are the parts of all buckets
 pub parts_are : (g : ℕ) (h : List Entry) (points : List ℕ) (cells : List Cell) (parts : Parts) → points ≡ replay h → cells ≡ complex (replay h) →
     AreParted g (lies_at g) points (lists_in parts.points.items) → AreParted g (is_noted_at g) h (lists_in parts.entries.items) →
     AreCellsParted g cells cells (lists_in parts.cells.items) → AreParts g 0 h cells parts
@@ -340,6 +366,7 @@ parts_are g h points cells parts e f p q r = record {
   cells_are = λ b n m. r.each b m ∙ ap (λ (l : List Cell). map (λ c. Some c) (filter (touches g b) l)) f;
 }
 
+-- once the parts of a bucket are taken, those of the later ones are there
 pub parts_next : (g b : ℕ) (h : List Entry) (cells : List Cell) (old : Parts) (p : Vec ℕ Global) (q : Vec Entry Global) (r : Vec ℕ Global) (new : Parts) →
     new.points.items ≡ slice_set old.points.items b p → new.entries.items ≡ slice_set old.entries.items b q → new.cells.items ≡ slice_set old.cells.items b r →
     AreParts g b h cells old → AreParts g (b + 1) h cells new
@@ -358,11 +385,13 @@ pub part_points : (g b : ℕ) (h : List Entry) (cells : List Cell) (parts : Part
 part_points g b h cells parts v m e s =
     sym (at_vec parts.points.items b v (let k = s.points_count in let l = length_vec parts.points.items in omega (arith, m, k, l)) e) ∙ s.points_are b (omega arith) m
 
+-- so are its entries
 pub part_entries : (g b : ℕ) (h : List Entry) (cells : List Cell) (parts : Parts) (v : Vec Entry Global) → b < g * g * g → v ≡ slice_index_or parts.entries.items b v →
     AreParts g b h cells parts → v.items ≡ entries_share g b h
 part_entries g b h cells parts v m e s =
     sym (at_vec parts.entries.items b v (let k = s.entries_count in let l = length_vec parts.entries.items in omega (arith, m, k, l)) e) ∙ s.entries_are b (omega arith) m
 
+-- and the places of its cells
 pub part_cells : (g b : ℕ) (h : List Entry) (cells : List Cell) (parts : Parts) (v : Vec ℕ Global) → b < g * g * g → v ≡ slice_index_or parts.cells.items b v →
     AreParts g b h cells parts → AreAt cells v.items (cells_share g b h)
 part_cells g b h cells parts v m e s =
@@ -382,23 +411,28 @@ sound_by h points legal e solid keys = record {
 pub share_ascends : (g b : ℕ) (h : List Entry) → IsSound h → IsAscending (points_share g b h)
 share_ascends g b h s = filtered_ascending (lies_at g b) (replay h) s.set.set.ascending
 
+-- so are its cells
 pub share_sorted : (g b : ℕ) (h : List Entry) → IsSound h → IsStrictlySortedBy cell_cmp (cells_share g b h)
 share_sorted g b h s = IsStrictlySortedBy-filter cell_cmp (touches g b) (complex (replay h)) (complex_is_sorted (replay h) s.set.set.ascending)
 
+-- each of these touches the bucket
 pub share_touches : (g b : ℕ) (h : List Entry) (c : Cell) → IsIn c (cells_share g b h) → touches g b c ≡ true
 share_touches g b h c m = (filtered_from (touches g b) (complex (replay h)) c m).1
 
 -- ---- the buckets in hand
 
+-- of empty places none has a bucket
 none_at : (n k : ℕ) → bucket_at (replicate n None) k ≡ None
 none_at zero k = refl
 none_at (suc n) zero = refl
 none_at (suc n) (suc k) = none_at n k
 
+-- so many empty places are so many
 none_length : (n : ℕ) → (let l : List (Option BucketContent) = replicate n None in length l ≡ n)
 none_length zero = refl
 none_length (suc n) = ap suc (none_length n)
 
+-- at first no bucket is in hand
 pub first_none : (g : ℕ) (h : List Entry) (hold : InHand) → hold ≡ empty_hold g → IsSound h → HasFirst g 0 h hold
 first_none g h hold e s = record {
   grid = ap (λ (v : InHand). v.grid) e;
@@ -408,6 +442,7 @@ first_none g h hold e s = record {
   absent = λ b m. ap (λ (v : InHand). bucket_at v.places b) e ∙ none_at (g * g * g) b;
 }
 
+-- with the share of the next bucket one more is
 pub first_next : (g b : ℕ) (h : List Entry) (c : BucketContent) (old new : InHand) → b < g * g * g → IsShare g b h c →
     new ≡ with_bucket b c old → HasFirst g b h old → HasFirst g (b + 1) h new
 first_next g b h c old new m s e f = record {
@@ -424,5 +459,6 @@ first_next g b h c old new m s e f = record {
     set : Option BucketContent
     set = Some (at_place old.grid b c)
 
+-- at the end all are
 pub first_all : (g n : ℕ) (h : List Entry) (hold : InHand) → g * g * g ≤ n → HasFirst g n h hold → AllInHand hold
 first_all g n h hold m f = λ b i. f.there b (let c = f.count in omega (arith, c, i, m))

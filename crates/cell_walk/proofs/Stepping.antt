@@ -14,6 +14,7 @@ use Rattle.cell_walk.specs.Turns.{IsOnward, HasMoved}
 use Rattle.cell_walk.proofs.Towards.{nearer_towards, some_facet_towards}
 use Rattle.cell_walk.proofs.Counting.{held_across, fewer_across}
 
+-- an option has one value
 same_some : {f g : Facet} → Some f ≡ Some g → f ≡ g
 same_some e = cc e
 

@@ -27,6 +27,7 @@ record IsKept (places : List (Option BucketContent)) (c : Cell) : Type 0 where
   pub held : bucket_at places number ≡ Some content
   pub has : IsIn c content.cells
 
+-- a cell of all buckets in hand is one of some bucket in hand
 kept : (places : List (Option BucketContent)) (c : Cell) → IsIn c (all_cells places) → IsKept places c
 kept places c i = let r = flat_from cells_of places None c i in by r.0 (bucket_at places r.0) refl r.1
   where

@@ -1,5 +1,29 @@
 -- A board that is kept in one hold with words, as it begins.
-use Rattle.std.specs.Prelude.{◌≡◌, ℕ, zero, suc, ◌+◌, ◌-◌, ◌*◌, ◌^◌, ◌<◌, ◌≤◌, ◌==◌, min, false, List, [], ◌∷◌, map, Option, None, Some, length, replicate, slice_index_or}
+use Rattle.std.specs.Prelude.{
+  ◌≡◌,
+  ℕ,
+  zero,
+  suc,
+  ◌+◌,
+  ◌-◌,
+  ◌*◌,
+  ◌^◌,
+  ◌<◌,
+  ◌≤◌,
+  ◌==◌,
+  min,
+  false,
+  List,
+  [],
+  ◌∷◌,
+  map,
+  Option,
+  None,
+  Some,
+  length,
+  replicate,
+  slice_index_or,
+}
 use Rattle.std.specs.Option.{option_map}
 use Rattle.std.proofs.Common.{refl, sym, ◌∙◌, ap, subst, arith, ext_get_or, ne_eqb}
 use Rattle.std.proofs.lemmas.List.{length-replicate}
@@ -18,6 +42,7 @@ use Rattle.claim_rule.proofs.OneHistory.{shares_count, all_shares}
 use Rattle.claim_rule.proofs.Opening.{opening_is_good}
 use Rattle.claim_rule.proofs.Seats.{held_none}
 
+-- a count of a list that is short enough is its length
 pub as_counted : (n l a : ℕ) → n ≡ counted l → l + a ≤ 2 ^ 32 → n ≡ l
 as_counted n l a e h = omega arith
 
@@ -28,29 +53,41 @@ all_home zero (o ∷ places) e = absurd (omega arith)
 all_home (suc n) [] e = absurd (omega arith)
 all_home (suc n) (o ∷ places) e = ap (λ l. o ∷ l) (all_home n places (omega arith))
 
+-- where there are no seats there are no views
 all_none : (f : Seat → View) (n : ℕ) → map (option_map f) (replicate n None) ≡ replicate n None
 all_none f zero = refl
 all_none f (suc n) = ap (λ l. None ∷ l) (all_none f n)
 
-none_held : (n first : ℕ) (places : List (Option BucketContent)) → held_by first (replicate n 0) places ≡ replicate n None
+-- with all words 0 no pass holds anything
+none_held : (n first : ℕ) (places : List (Option BucketContent)) → held_by first (replicate n 0) places
+    ≡ replicate n None
 none_held n first places =
-    held_none (λ w. w == first + 1) (replicate n 0) places (λ b h. ap (λ w. w == first + 1) (zero_at n b) ∙ ne_eqb 0 (first + 1) (λ q. omega (arith, q)))
+    held_none (λ w. w == first + 1) (replicate n 0) places (λ b h. ap (λ w. w == first + 1) (zero_at n b)
+    ∙ ne_eqb 0 (first + 1) (λ q. omega (arith, q)))
     ∙ ap (λ k. replicate k None) (length-replicate n 0)
 
 -- the buckets of a mesh are its shares
-pub mesh_shares : (mesh : MeshView) (hold : InHand) → IsHoldOf mesh hold → StandAtPlaces hold.grid hold.places → hold.places ≡ shares_from mesh.grid mesh.history 0 (mesh.grid * mesh.grid * mesh.grid)
+pub mesh_shares : (mesh : MeshView) (hold : InHand) → IsHoldOf mesh hold → StandAtPlaces hold.grid hold.places →
+    hold.places ≡ shares_from mesh.grid mesh.history 0 (mesh.grid * mesh.grid * mesh.grid)
 mesh_shares mesh hold i placed =
     let g : ℕ = mesh.grid in
     let h : List Entry = mesh.history in
     let count : length hold.places ≡ g * g * g = i.whole.has.places ∙ ap (λ (n : ℕ). n * n * n) i.grid in
     ext_get_or None hold.places (shares_from g h 0 (g * g * g)) (count ∙ sym (shares_count g h 0 (g * g * g))) (λ b l.
     let c = some_of (bucket_at hold.places b) (i.whole.all b l) in
-    c.1 ∙ ap (λ (x : BucketContent). Some x) (share_is_one hold.grid b h c.0 (i.stands.shares b c.0 c.1) (placed b c.0 c.1))
+    c.1 ∙ ap (λ (x : BucketContent). Some x) (share_is_one hold.grid b h c.0 (i.stands.shares b c.0 c.1)
+    (placed b c.0 c.1))
     ∙ ap (λ (n : ℕ). Some (share_at n b h)) i.grid ∙ sym (all_shares g h b (omega (arith, l, count))))
 
-pub begun_is : (mesh : MeshView) (hold : InHand) (parts allowance ticket : ℕ) (words : List ℕ) (seats : List (Option Seat)) → IsHoldOf mesh hold → StandAtPlaces hold.grid hold.places → ticket ≡ length mesh.history →
-    words ≡ replicate (mesh.grid * mesh.grid * mesh.grid) 0 → seats ≡ Some (record { first = 0; parts = parts; left = allowance; seen = ticket; since = ticket }) ∷ replicate (parts - 1) None →
-    kept hold.grid parts (ticket + allowance) mesh.history ticket words hold.places seats ≡ opening_board mesh.grid parts allowance mesh.history
+-- a board that is kept so at the start is the opening board of the mesh's history
+pub begun_is : (mesh : MeshView) (hold : InHand) (parts allowance ticket : ℕ) (words : List ℕ)
+    (seats : List (Option Seat)) → IsHoldOf mesh hold → StandAtPlaces hold.grid hold.places →
+    ticket ≡ length mesh.history →
+    words ≡ replicate (mesh.grid * mesh.grid * mesh.grid) 0 → seats
+    ≡ Some (record { first = 0; parts = parts; left = allowance; seen = ticket; since = ticket })
+    ∷ replicate (parts - 1) None →
+    kept hold.grid parts (ticket + allowance) mesh.history ticket words hold.places seats
+    ≡ opening_board mesh.grid parts allowance mesh.history
 begun_is mesh hold parts allowance ticket words seats i placed t w s =
     let g : ℕ = mesh.grid in
     let h : List Entry = mesh.history in
@@ -60,13 +97,43 @@ begun_is mesh hold parts allowance ticket words seats i placed t w s =
     let homes : List (Option BucketContent) = shares_from g h 0 n in
     let at : hold.places ≡ homes = mesh_shares mesh hold i placed in
     let home : homes_of zeros homes ≡ homes = all_home n homes (shares_count g h 0 n) in
-    let view : view_of zeros homes seat ≡ record { first = 0; parts = parts; left = allowance; seen = length h; since = length h; held = replicate n None } =
+    let view : view_of zeros homes seat ≡ record {
+      first = 0;
+      parts = parts;
+      left = allowance;
+      seen = length h;
+      since = length h;
+      held = replicate n None;
+    } =
     λ k. record { first = 0; parts = parts; left = allowance; seen = t k; since = t k; held = none_held n 0 homes k } in
-    let views : views_of zeros homes (Some seat ∷ replicate (parts - 1) None) ≡ Some (record { first = 0; parts = parts; left = allowance; seen = length h; since = length h; held = replicate n None }) ∷ replicate (parts - 1) None =
+    let views : views_of zeros homes (Some seat ∷ replicate (parts - 1) None)
+    ≡ Some (record {
+      first = 0;
+      parts = parts;
+      left = allowance;
+      seen = length h;
+      since = length h;
+      held = replicate n None;
+    }) ∷ replicate (parts - 1) None =
     λ k. Some (view k) ∷ all_none (view_of zeros homes) (parts - 1) k in
     (λ k. kept (i.grid k) parts (t k + allowance) h (t k) (w k) (at k) (s k))
-    ∙ (λ k. record { grid = g; parts = parts; most = length h + allowance; opening = h; ticket = length h; words = zeros; homes = home k; views = views k })
+    ∙ (λ k. record {
+      grid = g;
+      parts = parts;
+      most = length h + allowance;
+      opening = h;
+      ticket = length h;
+      words = zeros;
+      homes = home k;
+      views = views k;
+    })
 
-pub begun_good : (mesh : MeshView) (hold : InHand) (parts allowance : ℕ) → IsHoldOf mesh hold → 0 < parts → parts ≤ 64 → length mesh.history + allowance ≤ 2 ^ 32 → Good (opening_board mesh.grid parts allowance mesh.history)
-begun_good mesh hold parts allowance i some few fits =
-    (mesh.history, opening_is_good mesh.grid parts allowance mesh.history (subst (λ (n : ℕ). Rattle.cell_store.specs.Grids.is_grid_size n ≡ Rattle.std.specs.Prelude.true) i.grid i.whole.has.size) some few fits i.stands.legal i.stands.keys i.stands.solid)
+-- and that is good, where there are few enough parts and entries
+pub begun_good : (mesh : MeshView) (hold : InHand) (parts allowance : ℕ) → IsHoldOf mesh hold → 0 < parts → parts ≤ 64 →
+    length mesh.history + allowance ≤ 2 ^ 32 → Good (opening_board mesh.grid parts allowance mesh.history)
+begun_good mesh hold parts allowance i some few fits = (
+  mesh.history,
+  opening_is_good mesh.grid parts allowance mesh.history
+      (subst (λ (n : ℕ). Rattle.cell_store.specs.Grids.is_grid_size n ≡ Rattle.std.specs.Prelude.true) i.grid
+      i.whole.has.size) some few fits i.stands.legal i.stands.keys i.stands.solid,
+)

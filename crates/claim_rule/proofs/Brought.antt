@@ -1,5 +1,22 @@
 -- After the exchange of cells and the entry, the hold has what the view said at the ticket step.
-use Rattle.std.specs.Prelude.{◌≡◌, ℕ, ◌+◌, ◌==◌, Bool, true, false, cond, List, [], ◌∷◌, ◌++◌, Option, None, Some, length}
+use Rattle.std.specs.Prelude.{
+  ◌≡◌,
+  ℕ,
+  ◌+◌,
+  ◌==◌,
+  Bool,
+  true,
+  false,
+  cond,
+  List,
+  [],
+  ◌∷◌,
+  ◌++◌,
+  Option,
+  None,
+  Some,
+  length,
+}
 use Rattle.std.specs.Option.{option_map}
 use Rattle.std.proofs.Common.{refl, sym, ◌∙◌, ap, arith, ext_get_or}
 use Rattle.point_order.specs.declared.cell.Cell.{Cell}
@@ -40,11 +57,17 @@ use Rattle.claim_rule.proofs.Commits.{renewed_at, renewed_length}
 place_stays : (g b : ℕ) (e : Entry) (c : BucketContent) → (noted_in g b e c).place ≡ c.place
 place_stays g b e c = by (bucket_of g (point_of e.edit) == b)
   where
-    by : (t : Bool) → (cond t (record c { points = Rattle.edit_history.specs.Edits.changed c.points (point_of e.edit) e.reply; entries = c.entries ++ e ∷ [] }) c).place ≡ c.place
+    by : (t : Bool) → (cond t (record c {
+      points = Rattle.edit_history.specs.Edits.changed c.points (point_of e.edit)
+          e.reply;
+      entries = c.entries ++ e ∷ [];
+    }) c).place ≡ c.place
     by true = refl
     by false = refl
 
-is_share_at : (g b : ℕ) (h : List Entry) (c : BucketContent) → IsShare g b h c → c.place ≡ Some (g, b) → c ≡ share_at g b h
+-- a content that is its bucket's share, and at its place, is just that
+is_share_at : (g b : ℕ) (h : List Entry) (c : BucketContent) → IsShare g b h c → c.place ≡ Some (g, b) →
+    c ≡ share_at g b h
 is_share_at g b h c s p = λ i. record { points = s.points i; cells = s.cells i; entries = s.entries i; place = p i }
 
 -- all that an entry makes of a bucket leaves its place

@@ -1,8 +1,39 @@
 -- A commit of a board that is kept in one hold with words: when its condition holds, and what it makes of the board.
-use Rattle.std.specs.Prelude.{◌≡◌, ◌⊎◌, ℕ, ◌+◌, ◌-◌, ◌^◌, ◌<◌, ◌≤◌, ◌==◌, List, All, Option, None, Some, IsSome, IsSomeAnd, true, false, length, slice_index_or, slice_set}
+use Rattle.std.specs.Prelude.{
+  ◌≡◌,
+  ◌⊎◌,
+  ℕ,
+  ◌+◌,
+  ◌-◌,
+  ◌^◌,
+  ◌<◌,
+  ◌≤◌,
+  ◌==◌,
+  List,
+  All,
+  Option,
+  None,
+  Some,
+  IsSome,
+  IsSomeAnd,
+  true,
+  false,
+  length,
+  slice_index_or,
+  slice_set,
+}
 use Rattle.std.proofs.Common.{Fits, w64, refl, sym, ◌∙◌, ap, subst, inl, inr, arith}
 use Rattle.std.proofs.lemmas.Bool.{eqb-true, eq-eqb}
-use Rattle.list_laws.proofs.Cited.{all_of_each, each_of_all, one_value, same_there, some_and, some_of, to_some, within_some}
+use Rattle.list_laws.proofs.Cited.{
+  all_of_each,
+  each_of_all,
+  one_value,
+  same_there,
+  some_and,
+  some_of,
+  to_some,
+  within_some,
+}
 use Rattle.point_order.specs.declared.cell.Cell.{Cell}
 use Rattle.point_order.specs.Complex.{complex}
 use Rattle.point_order.specs.Facets.{points_of}
@@ -38,14 +69,19 @@ use Rattle.cell_store.proofs.Cited.{stands_shows}
 -- ---- the condition
 
 -- a bucket whose word names the pass is held by it, where all buckets are in the hold
-named_held : (words : List ℕ) (places : List (Option BucketContent)) (n b : ℕ) → IsSome (bucket_at places b) → IsNamed n words b → IsSome (bucket_at (held_by n words places) b)
+named_held : (words : List ℕ) (places : List (Option BucketContent)) (n b : ℕ) → IsSome (bucket_at places b) →
+    IsNamed n words b → IsSome (bucket_at (held_by n words places) b)
 named_held words places n b there named =
     same_there (bucket_at places b) (bucket_at (held_by n words places) b)
-    (sym (whose_at (λ w. w == n + 1) words places b named.0 ∙ ap (λ k. if_so k (bucket_at places b)) (eq-eqb (slice_index_or words b 0) (n + 1) named.1))) there
+    (sym (whose_at (λ w. w == n + 1) words places b named.0 ∙ ap (λ k. if_so k (bucket_at places b))
+    (eq-eqb (slice_index_or words b 0) (n + 1) named.1))) there
 
-held_named : (words : List ℕ) (places : List (Option BucketContent)) (n b : ℕ) → IsSome (bucket_at (held_by n words places) b) → IsNamed n words b
+-- the word of a bucket that a pass holds names it
+held_named : (words : List ℕ) (places : List (Option BucketContent)) (n b : ℕ) →
+    IsSome (bucket_at (held_by n words places) b) → IsNamed n words b
 held_named words places n b s =
-    let below : b < length words = let l = within_some (held_by n words places) b s in let m = whose_length (λ w. w == n + 1) words places in omega (arith, l, m) in (
+    let below : b < length words = let l = within_some (held_by n words places) b s in
+    let m = whose_length (λ w. w == n + 1) words places in omega (arith, l, m) in (
       below,
       eqb-true (slice_index_or words b 0) (n + 1) (so_true (slice_index_or words b 0 == n + 1) (bucket_at places b)
           (same_there (bucket_at (held_by n words places) b) _ (whose_at (λ w. w == n + 1) words places b below) s)),
@@ -55,6 +91,7 @@ held_named words places n b s =
 abbrev ArePointsNamed : ℕ → List ℕ → ℕ → List ℕ → Type 0
 ArePointsNamed n words g points = All (λ p. IsNamed n words (bucket_of g p)) points
 
+-- the words of the buckets of all points of these cells name the pass
 abbrev AreNamed : ℕ → List ℕ → ℕ → List Cell → Type 0
 AreNamed n words g cells = All (λ c. All (λ p. IsNamed n words (bucket_of g p)) (points_of c)) cells
 
@@ -90,16 +127,22 @@ held_touched g n s edit t words places trial touched =
     )
 
 -- what the condition of a commit says of the seat and the words
-pub commit_facts : (g parts most : ℕ) (opening : List Entry) (ticket : ℕ) (words : List ℕ) (places : List (Option BucketContent)) (seats : List (Option Seat)) (h : List Entry) (n : ℕ) (seat : Seat) (edit : Edit) →
-    IsGood (kept g parts most opening ticket words places seats) h → slice_index_or seats n None ≡ Some seat → CanCommit h (kept g parts most opening ticket words places seats) n edit →
+pub commit_facts : (g parts most : ℕ) (opening : List Entry) (ticket : ℕ) (words : List ℕ)
+    (places : List (Option BucketContent)) (seats : List (Option Seat)) (h : List Entry) (n : ℕ) (seat : Seat)
+    (edit : Edit) →
+    IsGood (kept g parts most opening ticket words places seats) h → slice_index_or seats n None ≡ Some seat →
+    CanCommit h (kept g parts most opening ticket words places seats) n edit →
     (0 < seat.left) × HoldTouched g (replay h) edit (held_by n words places)
 commit_facts g parts most opening ticket words places seats h n seat edit good live can =
     let s : BoardState = kept g parts most opening ticket words places seats in
     let v = some_and (view_at s n) _ can in
-    let same : v.0 ≡ view_of words places seat = one_value v.0 (view_of words places seat) (sym v.1 ∙ live_view words places seats n seat live) in
-    let first : seat.first ≡ n = ap (λ (x : Rattle.claim_rule.specs.Boards.View). x.first) (sym same) ∙ good.shape.named n v.0 v.1 in (
+    let same : v.0 ≡ view_of words places seat =
+    one_value v.0 (view_of words places seat) (sym v.1 ∙ live_view words places seats n seat live) in
+    let first : seat.first ≡ n =
+    ap (λ (x : Rattle.claim_rule.specs.Boards.View). x.first) (sym same) ∙ good.shape.named n v.0 v.1 in (
       subst (λ (x : Rattle.claim_rule.specs.Boards.View). 0 < x.left) same v.2.0,
-      subst (λ (j : ℕ). HoldTouched g (replay h) edit (held_by j words places)) first (subst (λ (x : Rattle.claim_rule.specs.Boards.View). HoldTouched g (replay h) edit x.held) same v.2.1),
+      subst (λ (j : ℕ). HoldTouched g (replay h) edit (held_by j words places)) first
+          (subst (λ (x : Rattle.claim_rule.specs.Boards.View). HoldTouched g (replay h) edit x.held) same v.2.1),
     )
 
 -- ---- a commit that does nothing
@@ -135,6 +178,7 @@ same_board old new parts most opening ticket words seats e =
 
 -- ---- the change
 
+-- there are no more entries than the most, and so at most 2^32
 few_entries : (ticket l left most : ℕ) → ticket ≡ l → l + left ≤ most → most ≤ 2 ^ 32 → ticket ≤ 2 ^ 32
 few_entries ticket l left most t room few = omega arith
 
@@ -142,6 +186,7 @@ few_entries ticket l left most t room few = omega arith
 pub next_fits : (ticket : ℕ) → ticket ≤ 2 ^ 32 → Fits w64 (ticket + 1)
 next_fits ticket few = omega arith
 
+-- so it is with the ticket of a good board
 pub few_so_far :
     (g parts most : ℕ) (opening : List Entry) (ticket : ℕ) (words : List ℕ) (places : List (Option BucketContent))
     (seats : List (Option Seat)) (h : List Entry) → IsGood (kept g parts most opening ticket words places seats) h →
@@ -158,7 +203,8 @@ committed_next :
     slice_index_or seats n None ≡ Some seat → HasKeys edit → 0 < seat.left →
     IsMade words (replay h) ticket n tag edit old new →
     Next h (kept old.grid parts most opening ticket words old.places seats) (Commit n tag edit) Done
-    (kept new.grid parts most opening (ticket + 1) words new.places (slice_set seats n (Some (record seat { left = seat.left - 1; seen = ticket + 1 }))))
+    (kept new.grid parts most opening (ticket + 1) words new.places
+    (slice_set seats n (Some (record seat { left = seat.left - 1; seen = ticket + 1 }))))
 committed_next old new parts most opening ticket words seats h n tag edit seat good wide live key some made =
     let g : ℕ = old.grid in
     let s : BoardState = kept g parts most opening ticket words old.places seats in
@@ -169,7 +215,8 @@ committed_next old new parts most opening ticket words seats h n tag edit seat g
     let is = any_brought g h (entry_after h ticket n tag edit) made.gone made.fresh old x.between x.with_goal new refl
     shares next x.swapped x.arrived x.noted in
     let grid : new.grid ≡ g = x.noted.grid ∙ x.arrived.grid ∙ x.swapped.grid in
-    subst (λ (k : ℕ). Next h s (Commit n tag edit) Done (kept k parts most opening (ticket + 1) words new.places (slice_set seats n (Some (record seat { left = seat.left - 1; seen = ticket + 1 }))))) (sym grid)
+    subst (λ (k : ℕ). Next h s (Commit n tag edit) Done (kept k parts most opening (ticket + 1) words new.places
+    (slice_set seats n (Some (record seat { left = seat.left - 1; seen = ticket + 1 }))))) (sym grid)
     (commit_next g parts most opening ticket words old.places seats h n tag edit seat new.places good live key some
     made.touched is)
 
@@ -189,7 +236,8 @@ pub made_next :
     (slice_index_or seats n None ≡ Some seat) × (0 < seat.left) → HasKeys edit →
     ((s : List ℕ) → Shows old s → EditGives words' s ticket n tag edit old true new) →
     Next h (kept old.grid parts most opening ticket words old.places seats) (Commit n tag edit) Done
-    (kept new.grid parts most opening (ticket + 1) words new.places (slice_set seats n (Some (record seat { left = seat.left - 1; seen = ticket + 1 }))))
+    (kept new.grid parts most opening (ticket + 1) words new.places
+    (slice_set seats n (Some (record seat { left = seat.left - 1; seen = ticket + 1 }))))
 made_next old new parts most opening ticket words words' seats h n tag edit seat same good wide live key made =
     let wide' = wide ∙ ap length same in
     let shows = shown_set old parts most opening ticket words seats h good wide' in
@@ -206,17 +254,20 @@ pub unmade_commits :
     CanCommit h (kept old.grid parts most opening ticket words old.places seats) n edit → ⊥
 unmade_commits old new parts most opening ticket words words' seats h n tag edit seat same good wide live made can =
     let shows = shown_set old parts most opening ticket words seats h good (wide ∙ ap length same) in
-    made (replay h) shows (subst (λ (w : List ℕ). HoldTouched old.grid (replay h) edit (held_by n w old.places)) (sym same)
+    made (replay h) shows (subst (λ (w : List ℕ). HoldTouched old.grid (replay h) edit (held_by n w old.places))
+    (sym same)
     (commit_facts old.grid parts most opening ticket words old.places seats h n seat edit good live can).1)
 
 -- ---- as the code has it
 
 -- an exchange looks at the buckets alone
-pub swapped_same : (gone fresh : List Cell) (old old' new : InHand) → old.grid ≡ old'.grid → old.places ≡ old'.places → IsSwapped gone fresh old new → IsSwapped gone fresh old' new
+pub swapped_same : (gone fresh : List Cell) (old old' new : InHand) → old.grid ≡ old'.grid → old.places ≡ old'.places →
+    IsSwapped gone fresh old new → IsSwapped gone fresh old' new
 swapped_same gone fresh old old' new g p s = record {
   grid = s.grid ∙ g;
   count = s.count ∙ ap length p;
-  places = λ k. s.places k ∙ (λ i. Rattle.std.specs.Option.option_map (Rattle.cell_store.specs.Changes.swapped_in (g i) k gone fresh) (bucket_at (p i) k));
+  places = λ k. s.places k ∙ (λ i. Rattle.std.specs.Option.option_map
+      (Rattle.cell_store.specs.Changes.swapped_in (g i) k gone fresh) (bucket_at (p i) k));
 }
 
 -- the same of the names, over lists that are these
@@ -224,7 +275,9 @@ points_named_same : (n : ℕ) (w : List ℕ) (g g' : ℕ) (l : List ℕ) → g �
     ArePointsNamed n w g' l
 points_named_same n w g g' l f x = subst (λ (d : ℕ). ArePointsNamed n w d l) f x
 
-are_named_same : (n : ℕ) (w : List ℕ) (g g' : ℕ) (l l' : List Cell) → g ≡ g' → l ≡ l' → AreNamed n w g l → AreNamed n w g' l'
+-- so it is with the points of cells
+are_named_same : (n : ℕ) (w : List ℕ) (g g' : ℕ) (l l' : List Cell) → g ≡ g' → l ≡ l' → AreNamed n w g l →
+    AreNamed n w g' l'
 are_named_same n w g g' l l' f k x =
     subst (λ (m : List Cell). AreNamed n w g' m) k (subst (λ (d : ℕ). AreNamed n w d l) f x)
 
@@ -262,7 +315,13 @@ made_of words s number n tag edit t g near gone fresh old new trial eg en eo ef 
   fresh = fresh;
   change = subst (λ (l : List Cell). IsChange (complex s) (complex (after s edit)) gone l) (sym ef)
       (subst (λ (l : List Cell). IsChange (complex s) (complex (after s edit)) l t.fresh.items) (sym eo) trial.change);
-  exchanged = subst (λ (r : Reply). IsExchanged gone fresh (record { number = number; by = n; tag = tag; edit = edit; reply = r }) old new) trial.reply ex;
+  exchanged = subst (λ (r : Reply). IsExchanged gone fresh (record {
+    number = number;
+    by = n;
+    tag = tag;
+    edit = edit;
+    reply = r;
+  }) old new) trial.reply ex;
 }
 
 -- and where the words do not name the pass, it does not hold all that is touched

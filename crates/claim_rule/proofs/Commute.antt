@@ -1,5 +1,24 @@
 -- Commits of two passes commute.
-use Rattle.std.specs.Prelude.{◌≡◌, ◌≢◌, ℕ, suc, ◌+◌, ◌-◌, ◌<◌, List, [], ◌∷◌, ◌++◌, map, Option, None, Some, IsSome, ◌==◌, slice_set}
+use Rattle.std.specs.Prelude.{
+  ◌≡◌,
+  ◌≢◌,
+  ℕ,
+  suc,
+  ◌+◌,
+  ◌-◌,
+  ◌<◌,
+  List,
+  [],
+  ◌∷◌,
+  ◌++◌,
+  map,
+  Option,
+  None,
+  Some,
+  IsSome,
+  ◌==◌,
+  slice_set,
+}
 use Rattle.std.specs.List.{filter}
 use Rattle.point_order.specs.Complex.{complex}
 use Rattle.cell_store.specs.Swaps.{touches}
@@ -27,14 +46,19 @@ use Rattle.claim_rule.proofs.Commits.{commit_keeps}
 
 -- ---- lists
 
-figures_alike : (g : ℕ) (h h' : List Entry) (k : ℕ) (l : List (Option BucketContent)) → ((b : ℕ) → IsSome (bucket_at l b) → figure (share_at g (k + b) h) ≡ figure (share_at g (k + b) h')) → figures (renewed_from g h k l) ≡ figures (renewed_from g h' k l)
+-- two histories that give the buckets the same points and cells renew contents to the same
+figures_alike : (g : ℕ) (h h' : List Entry) (k : ℕ) (l : List (Option BucketContent)) →
+    ((b : ℕ) → IsSome (bucket_at l b) → figure (share_at g (k + b) h) ≡ figure (share_at g (k + b) h')) →
+    figures (renewed_from g h k l) ≡ figures (renewed_from g h' k l)
 figures_alike g h h' k [] f = refl
 figures_alike g h h' k (o ∷ l) f =
     let rest = figures_alike g h h' (k + 1) l (λ b t. let q : k + suc b ≡ k + 1 + b = omega arith in
     subst (λ (n : ℕ). figure (share_at g n h) ≡ figure (share_at g n h')) q (f (suc b) t)) in
-    λ i. by o (λ t. let q : k + 0 ≡ k = omega arith in subst (λ (n : ℕ). figure (share_at g n h) ≡ figure (share_at g n h')) q (f 0 t)) i ∷ rest i
+    λ i. by o (λ t. let q : k + 0 ≡ k = omega arith in subst (λ (n : ℕ). figure (share_at g n h)
+    ≡ figure (share_at g n h')) q (f 0 t)) i ∷ rest i
   where
-    by : (o : Option BucketContent) → (IsSome o → figure (share_at g k h) ≡ figure (share_at g k h')) → option_map figure (option_map (λ c. share_at g k h) o) ≡ option_map figure (option_map (λ c. share_at g k h') o)
+    by : (o : Option BucketContent) → (IsSome o → figure (share_at g k h) ≡ figure (share_at g k h')) →
+        option_map figure (option_map (λ c. share_at g k h) o) ≡ option_map figure (option_map (λ c. share_at g k h') o)
     by None f = refl
     by (Some c) f = ap (λ (x : Figure). Some x) (f refl)
 
@@ -49,9 +73,11 @@ renews g ticket l v = record v { left = v.left - 1; seen = ticket + 1; held = re
 -- ---- the two orders
 
 -- the view of a pass after a commit by another
-other_view : (h : List Entry) (s : BoardState) (n m tag : ℕ) (edit : Edit) → m ≢ n → view_at (committed h s n tag edit) m ≡ view_at s m
+other_view : (h : List Entry) (s : BoardState) (n m tag : ℕ) (edit : Edit) → m ≢ n →
+    view_at (committed h s n tag edit) m ≡ view_at s m
 other_view h s n m tag edit d = get_or-set_other s.views n m _ None d
 
+-- two commits of two passes come in the other order too, and leave boards that are alike
 pub commits_commute : CommitsCommute
 commits_commute h s n m tag tag' edit edit' middle last good key key' apart first second =
     let g : ℕ = s.grid in
@@ -86,10 +112,26 @@ commits_commute h s n m tag tag' edit edit' middle last good key key' apart firs
     let f : w.first ≡ m = good.shape.named m w at_w in apart (omega arith) in
     let disjoint : (e : ℕ) → Reaches S edit e → ¬ (Reaches (after S edit) edit' e) = λ e r r'.
     no_both (bucket_of g e) (fv.2.1 (bucket_of g e) record { point = e; reached = r; number = refl })
-    (fw.2.1 (bucket_of g e) record { point = e; reached = subst (λ (x : List ℕ). Reaches x edit' e) (sym r1) r'; number = refl }) in
+    (fw.2.1 (bucket_of g e) record {
+      point = e;
+      reached = subst (λ (x : List ℕ). Reaches x edit' e) (sym r1) r';
+      number = refl;
+    }) in
     let both : DoCommute S edit edit' = edits_commute S edit edit' (set_of s h good) key key' disjoint in
-    let touched' : HoldTouched g S edit' w.held = λ x t. fw.2.1 x record { point = t.point; reached = subst (λ (y : List ℕ). Reaches y edit' t.point) (sym r1) ((both.reach_b t.point).0 t.reached); number = t.number } in
-    let touched : HoldTouched g (replay k1) edit v.held = λ x t. fv.2.1 x record { point = t.point; reached = (both.reach_a t.point).0 (subst (λ (y : List ℕ). Reaches y edit t.point) q1 t.reached); number = t.number } in
+    let touched' : HoldTouched g S edit' w.held = λ x t. fw.2.1 x
+    record {
+      point = t.point;
+      reached = subst (λ (y : List ℕ). Reaches y edit' t.point) (sym r1)
+          ((both.reach_b t.point).0 t.reached);
+      number = t.number;
+    } in
+    let touched : HoldTouched g (replay k1) edit v.held = λ x t. fv.2.1 x
+    record {
+      point = t.point;
+      reached = (both.reach_a t.point).0
+          (subst (λ (y : List ℕ). Reaches y edit t.point) q1 t.reached);
+      number = t.number;
+    } in
     let good1 : IsGood mid h1 = commit_keeps s h n tag edit v good at_v key fv.2.0 fv.2.1 in
     let good2 : IsGood end h2 = commit_keeps mid h1 m tag' edit' w good1 fw.1 key' fw.2.0 fw.2.1 in
     let good1' : IsGood mid' k1 = commit_keeps s h m tag' edit' w good at_w key' fw.2.0 touched' in
@@ -97,26 +139,40 @@ commits_commute h s n m tag tag' edit edit' middle last good key key' apart firs
     let r2 : replay h2 ≡ after (after S edit) edit' = replay_more [] h1 _ ∙ ap (λ (x : List ℕ). after x edit') r1 in
     let q2 : replay k2 ≡ after (after S edit') edit = replay_more [] k1 _ ∙ ap (λ (x : List ℕ). after x edit) q1 in
     let same : replay h2 ≡ replay k2 = r2 ∙ sym both.same ∙ sym q2 in
-    let v_alike : figures (renewed_from g h1 0 v.held) ≡ figures (renewed_from g k2 0 v.held) = figures_alike g h1 k2 0 v.held (λ x t.
+    let v_alike : figures (renewed_from g h1 0 v.held) ≡ figures (renewed_from g k2 0 v.held) =
+    figures_alike g h1 k2 0 v.held (λ x t.
     let z : 0 + x ≡ x = omega arith in
     let there : IsSome (bucket_at v.held (0 + x)) = subst (λ (y : ℕ). IsSome (bucket_at v.held y)) (sym z) t in
-    ap figure (sym (stays_outside mid h1 (0 + x) mid.ticket m tag' edit' good1 key' (λ y. no_both (0 + x) there (fw.2.1 (0 + x) y))))
+    ap figure (sym (stays_outside mid h1 (0 + x) mid.ticket m tag' edit' good1 key'
+    (λ y. no_both (0 + x) there (fw.2.1 (0 + x) y))))
     ∙ same_figure g (0 + x) h2 k2 same) in
-    let w_alike : figures (renewed_from g h2 0 w.held) ≡ figures (renewed_from g k1 0 w.held) = figures_alike g h2 k1 0 w.held (λ x t.
+    let w_alike : figures (renewed_from g h2 0 w.held) ≡ figures (renewed_from g k1 0 w.held) =
+    figures_alike g h2 k1 0 w.held (λ x t.
     let z : 0 + x ≡ x = omega arith in
     let there : IsSome (bucket_at w.held (0 + x)) = subst (λ (y : ℕ). IsSome (bucket_at w.held y)) (sym z) t in
     same_figure g (0 + x) h2 k2 same
-    ∙ ap figure (stays_outside mid' k1 (0 + x) mid'.ticket n tag edit good1' key (λ y. no_both (0 + x) (touched (0 + x) y) there))) in
+    ∙ ap figure (stays_outside mid' k1 (0 + x) mid'.ticket n tag edit good1' key
+    (λ y. no_both (0 + x) (touched (0 + x) y) there))) in
     let V = map (option_map figures_of) s.views in
-    let fig : View → List Entry → Option (ℕ × List (Option Figure)) = λ u l. Some (u.first, figures (renewed_from g l 0 u.held)) in
-    let at_n : (t : BoardState) (l : List Entry) → view_at t n ≡ Some v → option_map figures_of (option_map (renews g t.ticket l) (view_at t n)) ≡ fig v l = λ t l e. ap (λ (o : Option View). option_map figures_of (option_map (renews g t.ticket l) o)) e in
-    let at_m : (t : BoardState) (l : List Entry) → view_at t m ≡ Some w → option_map figures_of (option_map (renews g t.ticket l) (view_at t m)) ≡ fig w l = λ t l e. ap (λ (o : Option View). option_map figures_of (option_map (renews g t.ticket l) o)) e in
+    let fig : View → List Entry → Option (ℕ × List (Option Figure)) =
+    λ u l. Some (u.first, figures (renewed_from g l 0 u.held)) in
+    let at_n : (t : BoardState) (l : List Entry) → view_at t n ≡ Some v →
+    option_map figures_of (option_map (renews g t.ticket l) (view_at t n)) ≡ fig v l =
+    λ t l e. ap (λ (o : Option View). option_map figures_of (option_map (renews g t.ticket l) o)) e in
+    let at_m : (t : BoardState) (l : List Entry) → view_at t m ≡ Some w →
+    option_map figures_of (option_map (renews g t.ticket l) (view_at t m)) ≡ fig w l =
+    λ t l e. ap (λ (o : Option View). option_map figures_of (option_map (renews g t.ticket l) o)) e in
     let left_side : map (option_map figures_of) end.views ≡ slice_set (slice_set V n (fig v h1)) m (fig w h2) =
-    map_set (option_map figures_of) mid.views m (option_map (renews g mid.ticket h2) (view_at mid m)) ∙ (λ i. slice_set (map_set (option_map figures_of) s.views n (option_map (renews g s.ticket h1) (view_at s n)) i) m (at_m mid h2 fw.1 i)) ∙ (λ i. slice_set (slice_set V n (at_n s h1 at_v i)) m (fig w h2)) in
+    map_set (option_map figures_of) mid.views m (option_map (renews g mid.ticket h2) (view_at mid m))
+    ∙ (λ i. slice_set (map_set (option_map figures_of) s.views n (option_map (renews g s.ticket h1) (view_at s n))
+    i) m (at_m mid h2 fw.1 i)) ∙ (λ i. slice_set (slice_set V n (at_n s h1 at_v i)) m (fig w h2)) in
     let right_side : map (option_map figures_of) end'.views ≡ slice_set (slice_set V m (fig w k1)) n (fig v k2) =
-    map_set (option_map figures_of) mid'.views n (option_map (renews g mid'.ticket k2) (view_at mid' n)) ∙ (λ i. slice_set (map_set (option_map figures_of) s.views m (option_map (renews g s.ticket k1) (view_at s m)) i) n (at_n mid' k2 at_v' i)) ∙ (λ i. slice_set (slice_set V m (at_m s k1 at_w i)) n (fig v k2)) in
+    map_set (option_map figures_of) mid'.views n (option_map (renews g mid'.ticket k2) (view_at mid' n))
+    ∙ (λ i. slice_set (map_set (option_map figures_of) s.views m (option_map (renews g s.ticket k1) (view_at s m))
+    i) n (at_n mid' k2 at_v' i)) ∙ (λ i. slice_set (slice_set V m (at_m s k1 at_w i)) n (fig v k2)) in
     let held : map (option_map figures_of) end.views ≡ map (option_map figures_of) end'.views =
-    left_side ∙ (λ i. slice_set (slice_set V n (Some (v.first, v_alike i))) m (Some (w.first, w_alike i))) ∙ set_swapped V n m (fig v k2) (fig w k1) apart ∙ sym right_side in
+    left_side ∙ (λ i. slice_set (slice_set V n (Some (v.first, v_alike i))) m (Some (w.first, w_alike i)))
+    ∙ set_swapped V n m (fig v k2) (fig w k1) apart ∙ sym right_side in
     let is_end : last ≡ end = second.1 ∙ ap (λ (t : BoardState). committed h1 t m tag' edit') first.1 in
     let alike : AreAlike end end' = record { homes = refl; words = refl; held = held } in
     record {

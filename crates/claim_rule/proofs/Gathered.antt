@@ -1,5 +1,23 @@
 -- The points of all buckets, gathered bucket by bucket.
-use Rattle.std.specs.Prelude.{◌≡◌, ◌⊎◌, ◌↔◌, ℕ, zero, suc, ◌+◌, ◌<◌, ◌≤◌, List, [], ◌∷◌, length, take, Option, Some, slice_index_or}
+use Rattle.std.specs.Prelude.{
+  ◌≡◌,
+  ◌⊎◌,
+  ◌↔◌,
+  ℕ,
+  zero,
+  suc,
+  ◌+◌,
+  ◌<◌,
+  ◌≤◌,
+  List,
+  [],
+  ◌∷◌,
+  length,
+  take,
+  Option,
+  Some,
+  slice_index_or,
+}
 use Rattle.std.specs.List.{flat_map}
 use Rattle.std.proofs.Common.{refl, sym, ◌∙◌, subst, inl, inr, arith}
 use Rattle.std.proofs.lemmas.List.{take_all}
@@ -16,17 +34,24 @@ use Rattle.claim_rule.proofs.Trials.{added}
 
 -- ---- one list more
 
-in_taken : (l : List ℕ) (n d p : ℕ) → n < length l → IsIn p (take (suc n) l) ↔ (IsIn p (take n l) ⊎ (slice_index_or l n d ≡ p))
+-- of the first n + 1 elements each is one of the first n, or that at place n
+in_taken : (l : List ℕ) (n d p : ℕ) → n < length l → IsIn p (take (suc n) l)
+    ↔ (IsIn p (take n l) ⊎ (slice_index_or l n d ≡ p))
 in_taken l n d p h = (
   λ m. in_more l n (slice_index_or l n d) d p h refl m,
-  λ k. elim k [ inl m ↦ more_one l n p m | inr e ↦ subst (λ v. IsIn v (take (suc n) l)) e (last_one l n (slice_index_or l n d) d h refl) ],
+  λ k. elim k [
+    | inl m ↦ more_one l n p m
+    | inr e ↦ subst (λ v. IsIn v (take (suc n) l)) e (last_one l n (slice_index_or l n d) d h refl)
+  ],
 )
 
 -- one point more
-pub one_more : (s t u l : List ℕ) (n x : ℕ) → n < length l → x ≡ slice_index_or l n x → HasBoth s (take n l) t → u ≡ after t (Add x) → HasBoth s (take (n + 1) l) u
+pub one_more : (s t u l : List ℕ) (n x : ℕ) → n < length l → x ≡ slice_index_or l n x → HasBoth s (take n l) t →
+    u ≡ after t (Add x) → HasBoth s (take (n + 1) l) u
 one_more s t u l n x h e b is p =
     let q : n + 1 ≡ suc n = omega arith in
-    let more = subst (λ (m : ℕ). IsIn p (take m l) ↔ (IsIn p (take n l) ⊎ (slice_index_or l n x ≡ p))) (sym q) (in_taken l n x p h) in
+    let more = subst (λ (m : ℕ). IsIn p (take m l) ↔ (IsIn p (take n l) ⊎ (slice_index_or l n x ≡ p))) (sym q)
+    (in_taken l n x p h) in
     let new = subst (λ (v : List ℕ). IsIn p v ↔ (IsIn p t ⊎ (x ≡ p))) (sym is) (added x t p) in (
       (λ i. elim (new.0 i) [
         | inl j ↦ elim ((b p).0 j) [
@@ -44,6 +69,7 @@ one_more s t u l n x h e b is p =
       ]),
     )
 
+-- with all points of the list, the set has what it had and those of the list
 pub all_more : (s t l : List ℕ) (n : ℕ) → length l ≤ n → HasBoth s (take n l) t → HasBoth s l t
 all_more s t l n h b = subst (λ (m : List ℕ). HasBoth s m t) (take_all n l h) b
 
@@ -53,11 +79,15 @@ all_more s t l n h b = subst (λ (m : List ℕ). HasBoth s m t) (take_all n l h)
 abbrev pub HasBelow : List (Option BucketContent) → ℕ → List ℕ → Type 0
 HasBelow places b s = (p : ℕ) → IsIn p s ↔ IsIn p (flat_map points_of_bucket (take b places))
 
+-- below bucket 0 there is no point
 pub none_below : (places : List (Option BucketContent)) → HasBelow places 0 []
 none_below [] p = ((λ i. i), (λ i. i))
 none_below (o ∷ places) p = ((λ i. i), (λ i. i))
 
-in_next : (l : List (Option BucketContent)) (n : ℕ) (p : ℕ) → n < length l → IsIn p (flat_map points_of_bucket (take (suc n) l)) ↔ (IsIn p (flat_map points_of_bucket (take n l)) ⊎ IsIn p (points_of_bucket (bucket_at l n)))
+-- a point of the buckets below n + 1 is one of those below n, or of bucket n
+in_next : (l : List (Option BucketContent)) (n : ℕ) (p : ℕ) → n < length l →
+    IsIn p (flat_map points_of_bucket (take (suc n) l)) ↔ (IsIn p (flat_map points_of_bucket (take n l))
+    ⊎ IsIn p (points_of_bucket (bucket_at l n)))
 in_next [] n p h = absurd (omega arith)
 in_next (o ∷ l) zero p h = (
   (λ i. elim (from_append p (points_of_bucket o) [] i) [
@@ -91,10 +121,14 @@ in_next (o ∷ l) (suc n) p h =
     )
 
 -- one bucket more
-pub bucket_more : (places : List (Option BucketContent)) (b : ℕ) (c : BucketContent) (s t : List ℕ) → b < length places → bucket_at places b ≡ Some c → HasBelow places b s → HasBoth s c.points t → HasBelow places (b + 1) t
+pub bucket_more : (places : List (Option BucketContent)) (b : ℕ) (c : BucketContent) (s t : List ℕ) →
+    b < length places → bucket_at places b ≡ Some c → HasBelow places b s → HasBoth s c.points t →
+    HasBelow places (b + 1) t
 bucket_more places b c s t h e below both p =
     let q : b + 1 ≡ suc b = omega arith in
-    let next = subst (λ (o : Option BucketContent). IsIn p (flat_map points_of_bucket (take (suc b) places)) ↔ (IsIn p (flat_map points_of_bucket (take b places)) ⊎ IsIn p (points_of_bucket o))) e (in_next places b p h) in
+    let next = subst (λ (o : Option BucketContent). IsIn p (flat_map points_of_bucket (take (suc b) places))
+    ↔ (IsIn p (flat_map points_of_bucket (take b places)) ⊎ IsIn p (points_of_bucket o))) e
+    (in_next places b p h) in
     subst (λ (m : ℕ). IsIn p t ↔ IsIn p (flat_map points_of_bucket (take m places))) (sym q) (
       (λ i. elim ((both p).0 i) [
         | inl j ↦ next.1 (inl ((below p).0 j))
@@ -107,10 +141,13 @@ bucket_more places b c s t h e below both p =
     )
 
 -- with all buckets the set is the one that is shown
-pub gathered : (hold : InHand) (b : ℕ) (set s : List ℕ) → HasPlaces hold → AllInHand hold → length hold.places ≤ b → HasBelow hold.places b set → IsAscending set → Shows hold s → set ≡ s
+pub gathered : (hold : InHand) (b : ℕ) (set s : List ℕ) → HasPlaces hold → AllInHand hold → length hold.places ≤ b →
+    HasBelow hold.places b set → IsAscending set → Shows hold s → set ≡ s
 gathered hold b set s has all h below order sh =
     let w : IsWhole hold = record { has = has; all = all } in
     let e : take b hold.places ≡ hold.places = take_all b hold.places h in
     same_members set s order sh.ascending
-    (λ p i. (points_are hold s w sh p).0 (subst (λ (l : List (Option BucketContent)). IsIn p (flat_map points_of_bucket l)) e ((below p).0 i)))
-    (λ p i. (below p).1 (subst (λ (l : List (Option BucketContent)). IsIn p (flat_map points_of_bucket l)) (sym e) ((points_are hold s w sh p).1 i)))
+    (λ p i. (points_are hold s w sh p).0 (subst (λ (l : List (Option BucketContent)). IsIn p
+    (flat_map points_of_bucket l)) e ((below p).0 i)))
+    (λ p i. (below p).1 (subst (λ (l : List (Option BucketContent)). IsIn p (flat_map points_of_bucket l)) (sym e)
+    ((points_are hold s w sh p).1 i)))

@@ -1,5 +1,23 @@
 -- The opening board is good.
-use Rattle.std.specs.Prelude.{◌≡◌, ℕ, zero, suc, ◌-◌, ◌*◌, ◌<◌, List, [], ◌∷◌, Option, None, Some, All, length, replicate, slice_index_or}
+use Rattle.std.specs.Prelude.{
+  ◌≡◌,
+  ℕ,
+  zero,
+  suc,
+  ◌-◌,
+  ◌*◌,
+  ◌<◌,
+  List,
+  [],
+  ◌∷◌,
+  Option,
+  None,
+  Some,
+  All,
+  length,
+  replicate,
+  slice_index_or,
+}
 use Rattle.std.specs.List.{filter}
 use Rattle.std.proofs.Common.{refl, sym, ◌∙◌, ap, subst, arith}
 use Rattle.std.proofs.lemmas.List.{append-nil, length-replicate}
@@ -20,20 +38,32 @@ only_front : (v u : View) (n i : ℕ) → slice_index_or (Some v ∷ replicate n
 only_front v u n zero e = (refl, sym (one_value v u e))
 only_front v u n (suc i) e = absurd (cc (sym (none_at n i) ∙ e))
 
+-- of the opening entries no pass has made one
 none_made : (P : Entry → Type 0) (first parts : ℕ) (h : List Entry) → All P (made_by first parts (length h) h)
-none_made P first parts h = subst (λ (l : List Entry). All P (filter (is_by first parts) l)) (sym (dropped_all h)) (λ k d i. absurd (omega arith))
+none_made P first parts h =
+    subst (λ (l : List Entry). All P (filter (is_by first parts) l)) (sym (dropped_all h))
+    (λ k d i. absurd (omega arith))
 
+-- the opening board of a legal history of a solid set is good
 pub opening_is_good : OpeningIsGood
 opening_is_good g parts allowance h size some few most legal keys solid =
     let s : BoardState = opening_board g parts allowance h in
     let homes : List (Option BucketContent) = shares_from g h 0 (g * g * g) in
     let wide : length homes ≡ g * g * g = shares_count g h 0 (g * g * g) in
-    let v : View = record { first = 0; parts = parts; left = allowance; seen = length h; since = length h; held = replicate (g * g * g) None } in
+    let v : View = record {
+      first = 0;
+      parts = parts;
+      left = allowance;
+      seen = length h;
+      since = length h;
+      held = replicate (g * g * g) None;
+    } in
     let zeros : (b : ℕ) → ◌≡◌ {A = ℕ} (slice_index_or s.words b 0) 0 = zero_at (g * g * g) in
     let nowhere : (b : ℕ) → bucket_at v.held b ≡ None = none_at (g * g * g) in
     let count : length s.words ≡ g * g * g = length-replicate (g * g * g) 0 in
     let is_v : (u : View) → IsLive s u → u ≡ v = λ u l. (only_front v u (parts - 1) u.first l).1 in
-    let rest : length (replicate (parts - 1) (nothing {X = View})) ≡ parts - 1 = length-replicate (parts - 1) (nothing {X = View}) in
+    let rest : length (replicate (parts - 1) (nothing {X = View})) ≡ parts - 1 =
+    length-replicate (parts - 1) (nothing {X = View}) in
     record {
       shape = record {
         size = size;
@@ -51,7 +81,10 @@ opening_is_good g parts allowance h size some few most legal keys solid =
       keys = keys;
       solid = solid;
       shares = only_shares g h;
-      home = λ b l. ((λ z. is_there (bucket_at homes b) (share_at g b h) (all_shares g h b (omega (arith, l, count)))), (λ t. zeros b));
+      home = λ b l. (
+        (λ z. is_there (bucket_at homes b) (share_at g b h) (all_shares g h b (omega (arith, l, count)))),
+        (λ t. zeros b),
+      );
       away = λ b l n. absurd (n (zeros b));
       passes = λ u l. subst (IsInOrder s h) (sym (is_v u l)) record {
         some_part = some;
@@ -64,6 +97,7 @@ opening_is_good g parts allowance h size some few most legal keys solid =
         made = none_made (λ e. e.number < length h) 0 parts h;
       };
       owners = λ p i. record { view = v; live = refl; owns = (omega arith, omega arith); only = λ u l o. is_v u l };
-      makers = subst (λ (l : List Entry). All (λ e. e.by < parts) l) (sym (dropped_all h)) (λ k d i. absurd (omega arith));
+      makers =
+          subst (λ (l : List Entry). All (λ e. e.by < parts) l) (sym (dropped_all h)) (λ k d i. absurd (omega arith));
       room = let z = left_none (parts - 1) in omega arith;
     }

@@ -1,5 +1,28 @@
--- A commit of a board that is kept in one hold with words: where all contents become the shares of the new history, those of others stay.
-use Rattle.std.specs.Prelude.{◌≡◌, ◌≢◌, ℕ, Bool, true, false, ◌+◌, ◌-◌, ◌<◌, ◌==◌, List, [], ◌∷◌, ◌++◌, Option, None, Some, IsSome, length, slice_index_or, slice_set}
+-- A commit of a board that is kept in one hold with words: where all contents become the shares of the new history,
+-- those of others stay.
+use Rattle.std.specs.Prelude.{
+  ◌≡◌,
+  ◌≢◌,
+  ℕ,
+  Bool,
+  true,
+  false,
+  ◌+◌,
+  ◌-◌,
+  ◌<◌,
+  ◌==◌,
+  List,
+  [],
+  ◌∷◌,
+  ◌++◌,
+  Option,
+  None,
+  Some,
+  IsSome,
+  length,
+  slice_index_or,
+  slice_set,
+}
 use Rattle.std.specs.Option.{option_map}
 use Rattle.std.proofs.Common.{refl, sym, ◌∙◌, ap, subst, arith, ext_get_or}
 use Rattle.std.proofs.lemmas.Bool.{eqb-true}
@@ -25,52 +48,74 @@ use Rattle.claim_rule.proofs.Steps.{live_at}
 use Rattle.claim_rule.proofs.Kept.{if_so, whose_length, whose_at, seats_changed}
 use Rattle.claim_rule.proofs.Moves.{live_view, first_is}
 
-so_map : (t : Bool) (f : BucketContent → BucketContent) (o : Option BucketContent) → if_so t (option_map f o) ≡ option_map f (if_so t o)
+-- a content that is mapped where the test passes is the same whichever comes first
+so_map : (t : Bool) (f : BucketContent → BucketContent) (o : Option BucketContent) →
+    if_so t (option_map f o) ≡ option_map f (if_so t o)
 so_map true f o = refl
 so_map false f o = refl
 
+-- where there is a content the test has passed
 pub so_true : (t : Bool) (o : Option BucketContent) → IsSome (if_so t o) → t ≡ true
 so_true true o s = refl
 so_true false o s = absurd (cc s)
 
-pub whose_renewed : (t : ℕ → Bool) (g : ℕ) (h : List Entry) (k : ℕ) (words : List ℕ) (places : List (Option BucketContent)) → whose t words (renewed_from g h k places) ≡ renewed_from g h k (whose t words places)
+-- renewing the contents whose words pass, or taking those of the renewed whose words pass, is the same
+pub whose_renewed : (t : ℕ → Bool) (g : ℕ) (h : List Entry) (k : ℕ) (words : List ℕ)
+    (places : List (Option BucketContent)) → whose t words (renewed_from g h k places)
+    ≡ renewed_from g h k (whose t words places)
 whose_renewed t g h k [] places = refl
 whose_renewed t g h k (w ∷ words) [] = ap (λ l. None ∷ l) (whose_renewed t g h (k + 1) words [])
 whose_renewed t g h k (w ∷ words) (o ∷ places) =
     ap (λ x. x ∷ whose t words (renewed_from g h (k + 1) places)) (so_map (t w) (λ c. share_at g k h) o)
     ∙ ap (λ l. option_map (λ c. share_at g k h) (if_so (t w) o) ∷ l) (whose_renewed t g h (k + 1) words places)
 
-same_option : (o : Option BucketContent) (x : BucketContent) → ((c : BucketContent) → o ≡ Some c → x ≡ c) → option_map (λ c. x) o ≡ o
+-- mapped to a value that it has, an option is as before
+same_option : (o : Option BucketContent) (x : BucketContent) → ((c : BucketContent) → o ≡ Some c → x ≡ c) →
+    option_map (λ c. x) o ≡ o
 same_option None x e = refl
 same_option (Some c) x e = ap (λ (y : BucketContent). Some y) (e c refl)
 
-pub stays : (g : ℕ) (h : List Entry) (l : List (Option BucketContent)) → ((b : ℕ) (c : BucketContent) → bucket_at l b ≡ Some c → share_at g b h ≡ c) → renewed_from g h 0 l ≡ l
+-- contents that are shares of the new history are as before once renewed
+pub stays : (g : ℕ) (h : List Entry) (l : List (Option BucketContent)) →
+    ((b : ℕ) (c : BucketContent) → bucket_at l b ≡ Some c → share_at g b h ≡ c) → renewed_from g h 0 l ≡ l
 stays g h l e = ext_get_or None (renewed_from g h 0 l) l (renewed_length g h 0 l) (λ b below.
     let z : 0 + b ≡ b = omega arith in
-    renewed_at g h 0 l b ∙ ap (λ (n : ℕ). option_map (λ c. share_at g n h) (bucket_at l b)) z ∙ same_option (bucket_at l b) (share_at g b h) (e b))
+    renewed_at g h 0 l b ∙ ap (λ (n : ℕ). option_map (λ c. share_at g n h) (bucket_at l b)) z
+    ∙ same_option (bucket_at l b) (share_at g b h) (e b))
 
 -- the contents whose words pass a test that this pass's word does not
-pub others_stay : (t : ℕ → Bool) (g ticket : ℕ) (words : List ℕ) (places : List (Option BucketContent)) (h : List Entry) (n tag : ℕ) (edit : Edit) →
+pub others_stay : (t : ℕ → Bool) (g ticket : ℕ) (words : List ℕ) (places : List (Option BucketContent)) (h : List Entry)
+    (n tag : ℕ) (edit : Edit) →
     AreSharesOf g h (whose t words places) → HoldTouched g (replay h) edit (held_by n words places) →
     ((w : ℕ) → t w ≡ true → w ≢ n + 1) →
-    ((b : ℕ) → (Rattle.cell_store.specs.Touches.IsTouched g (replay h) edit b → ⊥) → share_at g b (h ++ entry_after h ticket n tag edit ∷ []) ≡ share_at g b h) →
+    ((b : ℕ) → (Rattle.cell_store.specs.Touches.IsTouched g (replay h) edit b → ⊥) →
+    share_at g b (h ++ entry_after h ticket n tag edit ∷ []) ≡ share_at g b h) →
     whose t words (renewed_from g (h ++ entry_after h ticket n tag edit ∷ []) 0 places) ≡ whose t words places
 others_stay t g ticket words places h n tag edit shares touched apart local =
     let h' : List Entry = h ++ entry_after h ticket n tag edit ∷ [] in
     whose_renewed t g h' 0 words places ∙ stays g h' (whose t words places) (λ b c e.
-    let below : b < length words = let l = within (whose t words places) b c e in let m = whose_length t words places in omega (arith, l, m) in
+    let below : b < length words =
+    let l = within (whose t words places) b c e in let m = whose_length t words places in omega (arith, l, m) in
     let passes : t (slice_index_or words b 0) ≡ true = so_true (t (slice_index_or words b 0)) (bucket_at places b)
-    (same_there (bucket_at (whose t words places) b) _ (whose_at t words places b below) (is_there (bucket_at (whose t words places) b) c e)) in
+    (same_there (bucket_at (whose t words places) b) _ (whose_at t words places b below)
+    (is_there (bucket_at (whose t words places) b) c e)) in
     local b (λ r. apart (slice_index_or words b 0) passes
     (eqb-true (slice_index_or words b 0) (n + 1) (so_true (slice_index_or words b 0 == n + 1) (bucket_at places b)
-    (same_there (bucket_at (held_by n words places) b) _ (whose_at (λ w. w == n + 1) words places b below) (touched b r)))))
+    (same_there (bucket_at (held_by n words places) b) _ (whose_at (λ w. w == n + 1) words places b below)
+    (touched b r)))))
     ∙ sym (shares b c e))
 
-pub commit_next : (g parts most : ℕ) (opening : List Entry) (ticket : ℕ) (words : List ℕ) (places : List (Option BucketContent)) (seats : List (Option Seat)) (h : List Entry) (n tag : ℕ) (edit : Edit) (seat : Seat) (places' : List (Option BucketContent)) →
-    IsGood (kept g parts most opening ticket words places seats) h → slice_index_or seats n None ≡ Some seat → HasKeys edit → 0 < seat.left →
-    HoldTouched g (replay h) edit (held_by n words places) → places' ≡ renewed_from g (h ++ entry_after h ticket n tag edit ∷ []) 0 places →
+-- a commit of a pass that holds what is touched is done: where all contents become shares of the new history
+pub commit_next : (g parts most : ℕ) (opening : List Entry) (ticket : ℕ) (words : List ℕ)
+    (places : List (Option BucketContent)) (seats : List (Option Seat)) (h : List Entry) (n tag : ℕ) (edit : Edit)
+    (seat : Seat) (places' : List (Option BucketContent)) →
+    IsGood (kept g parts most opening ticket words places seats) h → slice_index_or seats n None ≡ Some seat →
+    HasKeys edit → 0 < seat.left →
+    HoldTouched g (replay h) edit (held_by n words places) → places'
+    ≡ renewed_from g (h ++ entry_after h ticket n tag edit ∷ []) 0 places →
     Next h (kept g parts most opening ticket words places seats) (Commit n tag edit) Done
-    (kept g parts most opening (ticket + 1) words places' (slice_set seats n (Some (record seat { left = seat.left - 1; seen = ticket + 1 }))))
+    (kept g parts most opening (ticket + 1) words places' (slice_set seats n
+    (Some (record seat { left = seat.left - 1; seen = ticket + 1 }))))
 commit_next g parts most opening ticket words places seats h n tag edit seat places' good live key some touched is =
     let s : BoardState = kept g parts most opening ticket words places seats in
     let h' : List Entry = h ++ entry_after h ticket n tag edit ∷ [] in
@@ -78,31 +123,63 @@ commit_next g parts most opening ticket words places seats h n tag edit seat pla
     let f' : Seat → View = view_of words places' in
     let v : View = f seat in
     let at : view_at s n ≡ Some v = live_view words places seats n seat live in
-    let named : (i : ℕ) (x : Seat) → slice_index_or seats i None ≡ Some x → x.first ≡ i = first_is g parts most opening ticket words places seats h good in
-    let local : (b : ℕ) → (Rattle.cell_store.specs.Touches.IsTouched g (replay h) edit b → ⊥) → share_at g b h' ≡ share_at g b h =
+    let named : (i : ℕ) (x : Seat) → slice_index_or seats i None ≡ Some x → x.first ≡ i =
+    first_is g parts most opening ticket words places seats h good in
+    let local : (b : ℕ) → (Rattle.cell_store.specs.Touches.IsTouched g (replay h) edit b → ⊥) →
+    share_at g b h' ≡ share_at g b h =
     λ b no. stays_outside s h b ticket n tag edit good key no in
     let homes_are : homes_of words places' ≡ s.homes = ap (λ l. homes_of words l) is
-    ∙ others_stay (λ w. w == 0) g ticket words places h n tag edit good.shares touched (λ w p q. let z = eqb-true w 0 p in omega (arith, z, q)) local in
+    ∙ others_stay (λ w. w == 0) g ticket words places h n tag edit good.shares touched
+    (λ w p q. let z = eqb-true w 0 p in omega (arith, z, q)) local in
     let own : (x : Seat) → held_by x.first words places' ≡ renewed_from g h' 0 (held_by x.first words places) = λ x.
     ap (λ l. held_by x.first words l) is ∙ whose_renewed (λ w. w == x.first + 1) g h' 0 words places in
     let new : View → View = λ v. record v { held = renewed_from g h' 0 v.held } in
     let seats_are : views_of words places' seats ≡ with_view n new s.views = seats_changed f f' new seats n
-    (λ i x e d. ap (λ l. record { first = x.first; parts = x.parts; left = x.left; seen = x.seen; since = x.since; held = l })
+    (λ i x e d. ap (λ l. record {
+      first = x.first;
+      parts = x.parts;
+      left = x.left;
+      seen = x.seen;
+      since = x.since;
+      held = l;
+    })
     (ap (λ l. held_by x.first words l) is
-    ∙ others_stay (λ w. w == x.first + 1) g ticket words places h n tag edit (good.passes (f x) (live_at s h i (f x) good (live_view words places seats i x e))).shares touched
+    ∙ others_stay (λ w. w == x.first + 1) g ticket words places h n tag edit
+    (good.passes (f x) (live_at s h i (f x) good (live_view words places seats i x e))).shares touched
     (λ w p q. d (let z = eqb-true w (x.first + 1) p in let y = named i x e in omega (arith, z, q, y))) local))
-    (λ x e. ap (λ l. record { first = x.first; parts = x.parts; left = x.left; seen = x.seen; since = x.since; held = l }) (own x)) in
+    (λ x e. ap (λ l. record {
+      first = x.first;
+      parts = x.parts;
+      left = x.left;
+      seen = x.seen;
+      since = x.since;
+      held = l;
+    }) (own x)) in
     let a : Seat = record seat { left = seat.left - 1; seen = ticket + 1 } in
-    let change : View → View = λ v. record v { left = v.left - 1; seen = ticket + 1; held = renewed_from g h' 0 v.held } in
-    let new_view : f' a ≡ change v = ap (λ l. record { first = seat.first; parts = seat.parts; left = seat.left - 1; seen = ticket + 1; since = seat.since; held = l }) (own seat) in
+    let change : View → View =
+    λ v. record v { left = v.left - 1; seen = ticket + 1; held = renewed_from g h' 0 v.held } in
+    let new_view : f' a ≡ change v = ap (λ l. record {
+      first = seat.first;
+      parts = seat.parts;
+      left = seat.left - 1;
+      seen = ticket + 1;
+      since = seat.since;
+      held = l;
+    }) (own seat) in
     let views_are : views_of words places' (slice_set seats n (Some a)) ≡ with_view n change s.views =
     map-set (option_map f') seats n (Some a)
     ∙ ap (λ l. slice_set l n (Some (f' a))) seats_are
     ∙ set_twice s.views n (option_map new (view_at s n)) (Some (f' a))
     ∙ ap (λ x. slice_set s.views n (Some x)) new_view
     ∙ ap (λ (o : Option View). slice_set s.views n (option_map change o)) (sym at) in
-    let holds : HoldTouched g (replay h) edit v.held = subst (λ (j : ℕ). HoldTouched g (replay h) edit (held_by j words places)) (sym (named n seat live)) touched in (
+    let holds : HoldTouched g (replay h) edit v.held =
+    subst (λ (j : ℕ). HoldTouched g (replay h) edit (held_by j words places)) (sym (named n seat live)) touched in (
       to_some (λ v. (0 < v.left) × HoldTouched g (replay h) edit v.held) (view_at s n) v at (some, holds),
-      ap (λ hs. record s { ticket = ticket + 1; homes = hs; views = views_of words places' (slice_set seats n (Some a)) }) homes_are
+      ap (λ hs. record s {
+        ticket = ticket + 1;
+        homes = hs;
+        views =
+            views_of words places' (slice_set seats n (Some a));
+      }) homes_are
           ∙ ap (λ vs. record s { ticket = ticket + 1; views = vs }) views_are,
     )

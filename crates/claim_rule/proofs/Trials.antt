@@ -72,6 +72,7 @@ new_added s p n = ap (λ r. complex (changed s p r)) (inserts s p (false_if (is_
 
 -- the points of the cells beside a move are those that it reaches where it finds its point, and none at its new place
 module _ (s : List ℕ) (a b p : ℕ) where
+  -- a move reaches both its places
   own_either : IsIn p (a ∷ b ∷ []) → Reaches s (Move a b) p
   own_either (inl x) = inl (sym x)
   own_either (inr (inl x)) = inr (inl (sym x))
@@ -180,7 +181,8 @@ near_moved s a b gone near is p = by (is_among a s) (is_among b s) refl refl
         (among_from a s ea) free
 
 -- a reply but these two leaves those beside it
-pub near_unless : (r : Reply) (beside : List Cell) → (r ≡ Missing → ⊥) → (r ≡ Occupied → ⊥) → beside ≡ near_move r beside
+pub near_unless : (r : Reply) (beside : List Cell) → (r ≡ Missing → ⊥) → (r ≡ Occupied → ⊥) →
+    beside ≡ near_move r beside
 near_unless Missing beside n m = absurd (n refl)
 near_unless Occupied beside n m = absurd (m refl)
 near_unless Inserted beside n m = refl
@@ -208,7 +210,9 @@ near_reached s (Add v) gone fresh near order change is p = (there, back)
     there (inl e) = inl (inl (sym e))
     there (inr r) = inr record {
       cell = r.1.q;
-      listed = subst (λ (l : List Cell). IsIn r.1.q l) (sym is) (change.all_gone r.1.q r.1.goes.before (λ i. r.1.goes.after (subst (λ (l : List Cell). IsIn r.1.q l) (new_added s v r.0) i)));
+      listed = subst (λ (l : List Cell). IsIn r.1.q l) (sym is)
+          (change.all_gone r.1.q r.1.goes.before (λ i. r.1.goes.after
+          (subst (λ (l : List Cell). IsIn r.1.q l) (new_added s v r.0) i)));
       has = r.1.has;
     }
 
@@ -217,32 +221,50 @@ near_reached s (Add v) gone fresh near order change is p = (there, back)
     back (inr o) =
         let k = change.went o.cell (subst (λ (l : List Cell). IsIn o.cell l) is o.listed) in
         let n : IsIn v s → ⊥ = λ i. k.1 (subst (λ (l : List Cell). IsIn o.cell l) (sym (absent i)) k.0) in
-        inr (n, record { q = o.cell; goes = record { before = k.0; after = λ i. k.1 (subst (λ (l : List Cell). IsIn o.cell l) (sym (new_added s v n)) i) }; has = o.has })
+        inr (
+          n,
+          record {
+            q = o.cell;
+            goes = record {
+              before = k.0;
+              after = λ i. k.1 (subst (λ (l : List Cell). IsIn o.cell l) (sym (new_added s v n)) i);
+            };
+            has = o.has;
+          },
+        )
 near_reached s (Take v) gone fresh near order change is p = (there, back)
   where
     there : Reaches s (Take v) p → IsIn p (v ∷ []) ⊎ IsOnSome near p
     there (inl e) = inl (inl (sym e))
     there (inr r) = inr record {
       cell = r.1.q;
-      listed = subst (λ (l : List Cell). IsIn r.1.q l) (sym is) (filtered_true (λ c. is_among v (points_of c)) (complex s) r.1.q r.1.listed (among_true v (points_of r.1.q) r.1.has_p));
+      listed = subst (λ (l : List Cell). IsIn r.1.q l) (sym is)
+          (filtered_true (λ c. is_among v (points_of c)) (complex s) r.1.q r.1.listed
+          (among_true v (points_of r.1.q) r.1.has_p));
       has = r.1.has_e;
     }
 
     back : IsIn p (v ∷ []) ⊎ IsOnSome near p → Reaches s (Take v) p
     back (inl i) = inl (one_in v p i)
     back (inr o) =
-        let k = filtered_from (λ c. is_among v (points_of c)) (complex s) o.cell (subst (λ (l : List Cell). IsIn o.cell l) is o.listed) in
+        let k = filtered_from (λ c. is_among v (points_of c)) (complex s) o.cell
+        (subst (λ (l : List Cell). IsIn o.cell l) is o.listed) in
         let h = among_from v (points_of o.cell) k.1 in
-        inr (listed_inside s o.cell (listed_is_cell s o.cell order k.0) v h, record { q = o.cell; listed = k.0; has_p = h; has_e = o.has })
+        inr (
+          listed_inside s o.cell (listed_is_cell s o.cell order k.0) v h,
+          record { q = o.cell; listed = k.0; has_p = h; has_e = o.has },
+        )
 
 -- what was found is the trial of the edit
 pub found_trial :
     (s : List ℕ) (edit : Edit) (t : Trial) (before next : List Cell) → IsAscending s → t.reply ≡ reply_to s edit →
     before ≡ complex s → next ≡ complex (after s edit) → t.gone.items ≡ without_cells next before →
-    t.fresh.items ≡ without_cells before next → t.near.items ≡ near_cells s edit before t.gone.items → IsTrialOf s edit t
+    t.fresh.items ≡ without_cells before next → t.near.items ≡ near_cells s edit before t.gone.items →
+    IsTrialOf s edit t
 found_trial s edit t before next order r b n g f k =
     let change : IsChange (complex s) (complex (after s edit)) t.gone.items t.fresh.items =
-    both_out (complex s) (complex (after s edit)) t.gone.items t.fresh.items (g ∙ (λ i. without_cells (n i) (b i))) (f ∙ (λ i. without_cells (b i) (n i))) in
+    both_out (complex s) (complex (after s edit)) t.gone.items t.fresh.items (g ∙ (λ i. without_cells (n i) (b i)))
+    (f ∙ (λ i. without_cells (b i) (n i))) in
     record {
       reply = r;
       change = change;

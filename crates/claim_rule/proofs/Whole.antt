@@ -1,5 +1,21 @@
 -- All contents of a board that is kept in one hold are shares of its history, whoever holds them.
-use Rattle.std.specs.Prelude.{◌≡◌, ℕ, Bool, true, false, ◌+◌, ◌<◌, ◌==◌, List, Option, None, Some, IsSome, length, slice_index_or}
+use Rattle.std.specs.Prelude.{
+  ◌≡◌,
+  ℕ,
+  Bool,
+  true,
+  false,
+  ◌+◌,
+  ◌<◌,
+  ◌==◌,
+  List,
+  Option,
+  None,
+  Some,
+  IsSome,
+  length,
+  slice_index_or,
+}
 use Rattle.std.specs.Option.{option_map}
 use Rattle.std.proofs.Common.{sym, ◌∙◌, ap, subst, arith}
 use Rattle.std.proofs.lemmas.Bool.{eq-eqb}
@@ -16,18 +32,23 @@ use Rattle.claim_rule.specs.Kept.{view_of, kept}
 use Rattle.claim_rule.proofs.OneHistory.{is_share}
 use Rattle.claim_rule.proofs.Kept.{if_so, whose_at, seen_at}
 
+-- a view that is there is that of a seat
 seat_of : (f : Seat → View) (o : Option Seat) (v : View) → option_map f o ≡ Some v → (x : Seat) × (f x ≡ v)
 seat_of f None v e = absurd (cc e)
 seat_of f (Some x) v e = (x, one_value (f x) v e)
 
-pub all_are_shares : (g parts most : ℕ) (opening : List Entry) (ticket : ℕ) (words : List ℕ) (places : List (Option BucketContent)) (seats : List (Option Seat)) (h : List Entry) →
-    IsGood (kept g parts most opening ticket words places seats) h → length places ≡ length words → AreSharesOf g h places
+-- in a good board all contents of the hold are shares of the history
+pub all_are_shares : (g parts most : ℕ) (opening : List Entry) (ticket : ℕ) (words : List ℕ)
+    (places : List (Option BucketContent)) (seats : List (Option Seat)) (h : List Entry) →
+    IsGood (kept g parts most opening ticket words places seats) h → length places ≡ length words →
+    AreSharesOf g h places
 all_are_shares g parts most opening ticket words places seats h good wide b c e =
     let s : BoardState = kept g parts most opening ticket words places seats in
     let f : Seat → View = view_of words places in
     let below : b < length words = let l = within places b c e in omega (arith, l, wide) in
     dite (ℕ_discrete (slice_index_or words b 0) 0)
-    (λ zero. good.shares b c (whose_at (λ w. w == 0) words places b below ∙ ap (λ k. if_so k (bucket_at places b)) (eq-eqb (slice_index_or words b 0) 0 zero) ∙ e))
+    (λ zero. good.shares b c (whose_at (λ w. w == 0) words places b below
+    ∙ ap (λ k. if_so k (bucket_at places b)) (eq-eqb (slice_index_or words b 0) 0 zero) ∙ e))
     (λ away.
     let u = good.away b below away in
     let ok = good.passes u.view u.live in
@@ -35,29 +56,44 @@ all_are_shares g parts most opening ticket words places seats h good wide b c e 
     let x = seat_of f (slice_index_or seats u.view.first None) u.view (sym (seen_at f seats u.view.first) ∙ u.live) in
     let first : x.0.first ≡ u.view.first = ap (λ (v : View). v.first) x.1 in
     let is : bucket_at (f x.0).held b ≡ Some c = whose_at (λ w. w == x.0.first + 1) words places b below
-    ∙ ap (λ k. if_so k (bucket_at places b)) (eq-eqb (slice_index_or words b 0) (x.0.first + 1) (word ∙ ap (λ k. k + 1) (sym first))) ∙ e in
+    ∙ ap (λ k. if_so k (bucket_at places b)) (eq-eqb (slice_index_or words b 0) (x.0.first + 1)
+    (word ∙ ap (λ k. k + 1) (sym first))) ∙ e in
     ok.shares b c (ap (λ (v : View). bucket_at v.held b) (sym x.1) ∙ is))
 
+-- where there is a content once the test has passed, there is one
 so_some : (t : Bool) (o : Option BucketContent) → IsSome (if_so t o) → IsSome o
 so_some true o s = s
 so_some false o s = absurd (cc s)
 
 -- and all of them are in the hold
-pub all_in_hand : (g parts most : ℕ) (opening : List Entry) (ticket : ℕ) (words : List ℕ) (places : List (Option BucketContent)) (seats : List (Option Seat)) (h : List Entry) →
-    IsGood (kept g parts most opening ticket words places seats) h → (b : ℕ) → b < length words → IsSome (bucket_at places b)
+pub all_in_hand : (g parts most : ℕ) (opening : List Entry) (ticket : ℕ) (words : List ℕ)
+    (places : List (Option BucketContent)) (seats : List (Option Seat)) (h : List Entry) →
+    IsGood (kept g parts most opening ticket words places seats) h → (b : ℕ) → b < length words →
+    IsSome (bucket_at places b)
 all_in_hand g parts most opening ticket words places seats h good b below =
     let f : Seat → View = view_of words places in
     dite (ℕ_discrete (slice_index_or words b 0) 0)
-    (λ zero. so_some (slice_index_or words b 0 == 0) (bucket_at places b) (same_there _ _ (whose_at (λ w. w == 0) words places b below) ((good.home b below).0 zero)))
+    (λ zero. so_some (slice_index_or words b 0 == 0) (bucket_at places b)
+    (same_there _ _ (whose_at (λ w. w == 0) words places b below) ((good.home b below).0 zero)))
     (λ away.
     let u = good.away b below away in
     let x = seat_of f (slice_index_or seats u.view.first None) u.view (sym (seen_at f seats u.view.first) ∙ u.live) in
-    let there : IsSome (bucket_at (f x.0).held b) = subst (λ (v : View). IsSome (bucket_at v.held b)) (sym x.1) u.holds in
-    so_some (slice_index_or words b 0 == x.0.first + 1) (bucket_at places b) (same_there _ _ (whose_at (λ w. w == x.0.first + 1) words places b below) there))
+    let there : IsSome (bucket_at (f x.0).held b) =
+    subst (λ (v : View). IsSome (bucket_at v.held b)) (sym x.1) u.holds in
+    so_some (slice_index_or words b 0 == x.0.first + 1) (bucket_at places b)
+    (same_there _ _ (whose_at (λ w. w == x.0.first + 1) words places b below) there))
 
 -- so the hold stands for the history of the board
-pub hold_stands : (hold : InHand) (parts most : ℕ) (opening : List Entry) (ticket : ℕ) (words : List ℕ) (seats : List (Option Seat)) (h : List Entry) →
-    IsGood (kept hold.grid parts most opening ticket words hold.places seats) h → length hold.places ≡ length words → Stands hold h
+pub hold_stands : (hold : InHand) (parts most : ℕ) (opening : List Entry) (ticket : ℕ) (words : List ℕ)
+    (seats : List (Option Seat)) (h : List Entry) →
+    IsGood (kept hold.grid parts most opening ticket words hold.places seats) h → length hold.places ≡ length words →
+    Stands hold h
 hold_stands hold parts most opening ticket words seats h good wide =
     let shares = all_are_shares hold.grid parts most opening ticket words hold.places seats h good wide in
-    record { legal = good.legal; keys = good.keys; solid = good.solid; shares = λ b c e. is_share hold.grid b h c (shares b c e) }
+    record {
+      legal = good.legal;
+      keys = good.keys;
+      solid = good.solid;
+      shares = λ b c e. is_share hold.grid b h c
+          (shares b c e);
+    }

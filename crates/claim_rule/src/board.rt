@@ -160,7 +160,7 @@ fn names_touched(words: &[u64], grid: Grid, n: u32, edit: &Edit, near: &[Cell]) 
     names_own(words, grid, n, edit) && names_cells(words, grid, n, near)
 }
 
-// The points of an edit are keys of points.
+// The points of an edit are keys of points. Nothing is read: the calls promise it.
 fn know_keys(edit: &Edit)
     ensures { HasKeys edit.now }
 {
@@ -292,6 +292,7 @@ impl Board {
         let seats = first_seats(alloc, seat)?;
         let begun = Snapshot::of(&mesh);
         let hold = mesh.into_hold();
+        // Nothing is read: the call promises that each bucket stands at its place.
         let _ = hold.grid();
         Ok(Board {
             hold,
@@ -439,6 +440,7 @@ impl Board {
         let Some(seat) = spender(&self.seats, n) else {
             return Ok(Played::Short);
         };
+        // Nothing is read: the call promises that the hold has a place for each bucket of the grid.
         let _ = self.hold.grid();
         if !edit_in(
             alloc,

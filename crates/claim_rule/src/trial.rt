@@ -47,6 +47,7 @@ fn all_points(alloc: Global, hold: &Hold) -> Result<PointSet, AllocError>
     for b in 0..hold.grid().count() {
         add_all(&mut set, hold.bucket(b).points())?;
     }
+    // Nothing is read: the call promises that the points ascend, by which the set is the one that is shown.
     let _ = set.points();
     Ok(set)
 }

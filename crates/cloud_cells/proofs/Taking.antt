@@ -77,6 +77,7 @@ pub other_left : (l gone : List Cell) (c : Cell) (f : Facet) (o : Cell) → IsOt
     IsOtherOf (l ++ gone) c f o
 other_left l gone c f o r = record { listed = in_left o l gone r.listed; has = r.has; differs = r.differs }
 
+-- so is one in the other part
 pub other_right : (l gone : List Cell) (c : Cell) (f : Facet) (o : Cell) → IsOtherOf gone c f o →
     IsOtherOf (l ++ gone) c f o
 other_right l gone c f o r = record { listed = in_right o l gone r.listed; has = r.has; differs = r.differs }

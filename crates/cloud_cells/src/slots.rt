@@ -7,33 +7,26 @@ ghost use Rattle.cloud_cells.specs.Nets.{AreWith, HasNoOther, HasNoOtherIn, IsOt
 
 use crate::facets::{are_same, is_on};
 use crate::net::Spot;
+use crate::packed::Packed;
 use point_order::{Cell, Facet};
 use std::alloc::AllocError;
 use std::marker::Model;
-
-// Whether a slot has a cell. That of a free slot was likely the so manieth of those that were taken out.
-#[derive(Clone, Copy)]
-pub(crate) enum State {
-    Kept(Cell),
-    Free(u32),
-}
 
 // A slot, and where the cells across the facets of its cell are likely to stand. They are kept where the cell is taken
 // out. Contracts see it as the cell.
 #[derive(Drop)]
 pub(crate) struct Slot {
-    state: State,
+    packed: Packed,
     links: [u32; 4],
 }
 
 impl Model for Slot {
     ghost use Rattle.std.specs.Prelude.{Option};
     ghost use Rattle.point_order.specs.declared.cell.Cell.{Cell};
-    ghost use Rattle.cloud_cells.specs.States.{cell_in};
 
     ghost Value = { Option Cell };
 
-    ghost view = { λ s. cell_in s.state };
+    ghost view = { λ s. s.packed };
 }
 
 // A number in 32 bits, where it has no more.
@@ -47,7 +40,7 @@ impl Slot {
         ensures { result ≡ Some cell }
     {
         Slot {
-            state: State::Kept(cell),
+            packed: Packed::of(&cell),
             links: [0; 4],
         }
     }
@@ -56,10 +49,7 @@ impl Slot {
     pub(crate) fn cell(&self) -> Option<Cell>
         ensures { result ≡ self.now }
     {
-        match self.state {
-            State::Kept(cell) => Some(cell),
-            State::Free(_) => None,
-        }
+        self.packed.cell()
     }
 
     // Where the cell across facet k is likely to stand.
@@ -78,24 +68,21 @@ impl Slot {
 
     // The how-manieth that was taken out the cell is likely to be.
     pub(crate) fn taken(&self) -> usize {
-        match self.state {
-            State::Kept(_) => 0,
-            State::Free(number) => number as usize,
-        }
+        self.packed.number()
     }
 
     // The cell is taken out, so many after the first.
     fn clear(&mut self, number: usize)
         ensures { self.new ≡ None }
     {
-        self.state = State::Free(short(number));
+        self.packed = Packed::none(u16::try_from(number).unwrap_or(u16::MAX));
     }
 
     // A cell is put in.
     fn fill(&mut self, cell: Cell)
         ensures { self.new ≡ Some cell }
     {
-        self.state = State::Kept(cell);
+        self.packed = Packed::of(&cell);
     }
 }
 

@@ -10,6 +10,7 @@ use Rattle.point_order.specs.Orientation.{orientation, is_flat}
 use Rattle.point_order.specs.Sets.{AreThree, AreFive, is_among}
 use Rattle.point_order.proofs.Cited.{last_first, last_second, last_third, zero_from}
 
+-- what the test finds to be above 0 is so
 pub above_is : (z : ℤ) → lt_z (pos 0) z ≡ true → pos 0 <ℤ z
 above_is z h = grind (arith, ints)
 

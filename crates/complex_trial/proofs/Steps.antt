@@ -12,6 +12,7 @@ use Rattle.point_order.specs.Complex.{complex, is_full, is_open}
 use Rattle.point_order.specs.declared.cell.Cell.TheVariants.{Full, Open}
 use Rattle.complex_trial.specs.Trial.{found_from, full_from, open_from}
 
+-- lists with an element in front, put behind a front, are put behind the front with the element
 map_map : (front : List ℕ) (x : ℕ) (qs : List (List ℕ)) → map (λ q. front ++ q) (map (λ q. x ∷ q) qs) ≡ map (λ q. (front ++ x ∷ []) ++ q) qs
 map_map front x [] = refl
 map_map front x (q ∷ qs) = ap₂_cons (sym (append_assoc front (x ∷ []) q)) (map_map front x qs)
@@ -19,6 +20,7 @@ map_map front x (q ∷ qs) = ap₂_cons (sym (append_assoc front (x ∷ []) q)) 
     ap₂_cons : {a b : List ℕ} {xs ys : List (List ℕ)} → a ≡ b → xs ≡ ys → a ∷ xs ≡ b ∷ ys
     ap₂_cons e f = cc
 
+-- what begins with a front goes on with the next element, or without it
 step_cons : (make : List ℕ → Cell) (test : List ℕ → Bool) (front : List ℕ) (k x : ℕ) (rest : List ℕ) → found_from make test front (suc k) (x ∷ rest) ≡ found_from make test (front ++ x ∷ []) k rest ++ found_from make test front (suc k) rest
 step_cons make test front k x rest =
     let a = map (λ q. x ∷ q) (subsets k rest) in

@@ -99,7 +99,8 @@ line_in_plane a b c y l =
     height_over_plane a b c y
     ∙ no_product (normal a b c).x (normal a b c).y (normal a b c).z (step a y).x (step a y).y (step a y).z l.x l.y l.z
 
--- In the plane of two coordinates: a vector (p, q) to which (r, s) and (t, u) are parallel, so these are parallel, times p and times q.
+-- In the plane of two coordinates: a vector (p, q) to which (r, s) and (t, u) are parallel, so these are parallel,
+-- times p and times q.
 parallel_first : (p q r s t u : ℤ) → p *ℤ s -ℤ q *ℤ r ≡ pos 0 → p *ℤ u -ℤ q *ℤ t ≡ pos 0 → p *ℤ (r *ℤ u -ℤ s *ℤ t) ≡ pos 0
 parallel_first p q r s t u e f =
     ring_from (var 0 ⊗ (var 2 ⊗ var 5 ⊖ var 3 ⊗ var 4)) (lit (pos 0))

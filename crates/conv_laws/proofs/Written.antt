@@ -22,12 +22,15 @@ onto (p ∷ ps) rest = p.x ∷ p.y ∷ p.z ∷ onto ps rest
 abbrev pub minor_w : Expr → Expr → Expr → Expr → Expr
 minor_w p q r s = p ⊗ s ⊖ q ⊗ r
 
+-- the determinant of three vectors
 abbrev pub det_w : Written → Written → Written → Expr
 det_w u v w = u.x ⊗ minor_w v.y v.z w.y w.z ⊕ u.y ⊗ minor_w v.z v.x w.z w.x ⊕ u.z ⊗ minor_w v.x v.y w.x w.y
 
+-- the vector product of two
 abbrev pub cross_w : Written → Written → Written
 cross_w u v = record { x = minor_w u.y u.z v.y v.z; y = minor_w u.z u.x v.z v.x; z = minor_w u.x u.y v.x v.y }
 
+-- the scalar product of two
 abbrev pub dot_w : Written → Written → Expr
 dot_w u v = u.x ⊗ v.x ⊕ u.y ⊗ v.y ⊕ u.z ⊗ v.z
 
@@ -35,15 +38,19 @@ dot_w u v = u.x ⊗ v.x ⊕ u.y ⊗ v.y ⊕ u.z ⊗ v.z
 abbrev pub step_w : Written → Written → Written
 step_w a b = record { x = b.x ⊖ a.x; y = b.y ⊖ a.y; z = b.z ⊖ a.z }
 
+-- the square of a place's distance from the origin
 abbrev pub square_w : Written → Expr
 square_w p = p.x ⊗ p.x ⊕ p.y ⊗ p.y ⊕ p.z ⊗ p.z
 
+-- the square of the distance of two places
 abbrev pub distance_w : Written → Written → Expr
 distance_w a p = square_w (step_w a p)
 
+-- the normal of three places
 abbrev pub normal_w : Written → Written → Written → Written
 normal_w a b c = cross_w (step_w a b) (step_w a c)
 
+-- the orientation of four
 abbrev pub orient_w : Written → Written → Written → Written → Expr
 orient_w a b c d = det_w (step_w a b) (step_w a c) (step_w a d)
 

@@ -1,5 +1,5 @@
--- What a cell shows, each fact stated once: its points, its orientation, what keeps out of it, and its mates; and cells of other lists.
--- This file opens the definition of a cell; no other does.
+-- What a cell shows, each fact stated once: its points, its orientation, what keeps out of it, and its mates; and cells
+-- of other lists. This file opens the definition of a cell; no other does.
 use Rattle.std.specs.Prelude.{ℕ, pos, ◌≡◌, ◌≤ℤ◌, ◌<ℤ◌, List}
 use Rattle.list_laws.proofs.Cited.{against, not_zero, opposite, weak}
 use Rattle.point_order.specs.Orientation.{orientation}
@@ -63,7 +63,8 @@ full_same {h} {s} {t} {a} {b} {c} {d} f g F = record { has_a = f a F.has_a; has_
 
 -- ---- Open cells
 
--- Three points of the set with a mate, no point below their plane, and the tie rule for this mate: it is the same for all.
+-- Three points of the set with a mate, no point below their plane, and the tie rule for this mate: it is the same for
+-- all.
 pub open_by_mate : {h : ℕ → ℕ} {s : List ℕ} {a b c : ℕ} → IsIn a s → IsIn b s → IsIn c s → (m : ℕ) → IsIn m s → pos 0 <ℤ orientation a b c m → ((e : ℕ) → IsIn e s → pos 0 ≤ℤ orientation a b c e) → ((e : ℕ) → IsIn e s → orientation a b c e ≡ pos 0 → pos 0 ≤ℤ lifted h a b c m e) → Open h s a b c
 open_by_mate {h} {s} {a} {b} {c} ma mb mc m mm l f g = record {
   has_a = ma;

@@ -1,4 +1,5 @@
--- Whether the smallest sphere of an edge or a triangle is empty shows in the Full cells that have the edge or the triangle.
+-- Whether the smallest sphere of an edge or a triangle is empty shows in the Full cells that have the edge or the
+-- triangle.
 use Rattle.std.specs.Prelude.{ℕ, ℤ, pos, neg_ℤ, ◌+ℤ◌, ◌*ℤ◌, ◌≡◌, ◌≤ℤ◌, ◌<ℤ◌, true, List, [], ◌∷◌}
 use Rattle.std.proofs.Common.{arith, refl, inl, inr, subst, sym, ◌∙◌, ap}
 use Rattle.std.proofs.lemmas.Int.{ints}

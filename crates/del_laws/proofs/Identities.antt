@@ -1,5 +1,5 @@
--- The identities of `conv_laws` at the places of points: how orientations and lifted determinants change with their order,
--- and the relations among them. No other file of the crate unfolds a coordinate, but for Planes.
+-- The identities of `conv_laws` at the places of points: how orientations and lifted determinants change with their
+-- order, and the relations among them. No other file of the crate unfolds a coordinate, but for Planes.
 use Rattle.std.specs.Prelude.{ℕ, ◌+ℤ◌, ◌-ℤ◌, ◌*ℤ◌, ◌≡◌, neg_ℤ, pos}
 use Rattle.conv_laws.specs.Places.{square, normal, orient, Lifted, lifted as lifted_determinant}
 use Rattle.conv_laws.specs.Spheres.{edge_power, triangle_power}

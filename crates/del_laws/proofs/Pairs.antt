@@ -1,4 +1,5 @@
--- A pair of an Open cell lies in exactly two Open cells: by the handshake lemma, as each of its triples lies in none or two cells.
+-- A pair of an Open cell lies in exactly two Open cells: by the handshake lemma, as each of its triples lies in none or
+-- two cells.
 --
 use Rattle.std.specs.Prelude.{ℕ, ◌≡◌, Bool, true, false, List, [], ◌∷◌, ◌⊎◌}
 use Rattle.std.proofs.Common.{refl, inl, inr, subst, sym, ap}

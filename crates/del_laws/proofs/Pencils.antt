@@ -5,8 +5,8 @@ use Rattle.std.proofs.lemmas.Int.{ints}
 use Rattle.whole_ring.specs.Poly.{Expr, var, lit, ◌⊕◌, ◌⊗◌, minus, ◌⊖◌, nothing, given, end, part}
 use Rattle.whole_ring.proofs.Cited.{nonneg_from}
 
--- The relation of three points x, y, z of one pencil: with u the orientation of a point with a, b, c, and W the lifted determinant
--- of two of them with a, b, c, it is ux Wyz - uy Wxz + uz Wxy = 0.
+-- The relation of three points x, y, z of one pencil: with u the orientation of a point with a, b, c, and W the lifted
+-- determinant of two of them with a, b, c, it is ux Wyz - uy Wxz + uz Wxy = 0.
 abbrev pub relation : Expr
 relation = var 0 ⊗ var 5 ⊖ var 1 ⊗ var 4 ⊕ var 2 ⊗ var 3
 

@@ -1,4 +1,5 @@
--- A cell of a set is a cell of each smaller solid set that has its points; and of each set between it and two sets of which it is a cell.
+-- A cell of a set is a cell of each smaller solid set that has its points; and of each set between it and two sets of
+-- which it is a cell.
 --
 use Rattle.std.specs.Prelude.{ℕ, List, ◌⊎◌}
 use Rattle.std.proofs.Common.{inl, inr}

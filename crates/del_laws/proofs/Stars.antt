@@ -1,4 +1,5 @@
--- The star law: a set of Full cells that have some points, closed across the facets that keep these, holds all Full cells that have them.
+-- The star law: a set of Full cells that have some points, closed across the facets that keep these, holds all Full
+-- cells that have them.
 --
 use Rattle.std.specs.Prelude.{ℕ, ℤ, pos, ◌+ℤ◌, ◌*ℤ◌, neg_ℤ, ◌≡◌, ◌≤ℤ◌, ◌<ℤ◌, List, [], ◌∷◌}
 use Rattle.std.proofs.Common.{arith, refl, inl, inr, subst, sym, ◌∙◌, ap}

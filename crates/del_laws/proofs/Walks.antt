@@ -1,4 +1,5 @@
--- Crossing a facet leads nearer to a point; the closest cell of a set; every point is in a Full cell, where there is one.
+-- Crossing a facet leads nearer to a point; the closest cell of a set; every point is in a Full cell, where there is
+-- one.
 --
 use Rattle.std.specs.Prelude.{ℕ, ℤ, pos, ◌-ℤ◌, ◌*ℤ◌, neg_ℤ, ◌≡◌, ◌≤ℤ◌, ◌<ℤ◌, List, []}
 use Rattle.std.proofs.Common.{arith, inl, inr, subst, ◌∙◌, ap}

@@ -69,6 +69,7 @@ unchecked_five left failed (BadLine line) s = inl (omega arith)
 unchecked_five left failed TooLong s = inr refl
 unchecked_five left failed stop s = absurd s
 
+-- so it is at most 7, none of 0, 2 and 4, and 3 only where the source failed
 pub status_unchecked : (left : Option (List ℕ)) (failed : Type 0) (stop : Stop) → IsUnchecked left failed stop →
     (status_of stop ≤ 7) × (status_of stop ≢ 0) × (status_of stop ≢ 2) × (status_of stop ≢ 4) ×
     (status_of stop ≡ 3 → failed)
@@ -104,12 +105,14 @@ status_unchecked left failed stop s = absurd s
 
 -- what is promised of a verdict where it was told or its text was cut off, where none was, and of an early end
 module _ (left : Option (List ℕ)) where
+  -- of the bytes of the source, too, none of 5 and 7 comes with a verdict
   checked : (status late : ℕ) (text : List ℕ) → HasText status → IfSome left (IsChecked late text) →
       IfSome left (IsMeshVerdict status)
   checked status late text has m =
       if_some (IsChecked late text) (IsMeshVerdict status) left
       (λ bytes. verdict_checked status late text bytes has) m
 
+  -- where the verdict was written whole
   check_whole : (late : ℕ) (h : List Entry) (text : List ℕ) → TellsVerdict late → h ≡ [] →
       IfSome left (IsChecked late text) → CheckEnds left late h text
   check_whole late h text t n m =
@@ -121,6 +124,7 @@ module _ (left : Option (List ℕ)) where
         cut = λ k. absurd (whole_only late 4 (tells_verdict late t) (omega arith) (omega arith) k);
       }
 
+  -- where its text was cut off
   check_cut : (status late : ℕ) (h : List Entry) (text : List ℕ) → h ≡ [] → IfSome left (IsChecked late text) →
       status ≡ 4 → CheckEnds left status h text
   check_cut status late h text n m e =
@@ -133,6 +137,7 @@ module _ (left : Option (List ℕ)) where
             (λ bytes w. (late, w)) m;
       }
 
+  -- so where it was told, however the write ended
   pub check_made : (late : ℕ) (h : List Entry) (text : List ℕ) → TellsVerdict late → h ≡ [] →
       IfSome left (IsChecked late text) → (status : ℕ) → (status ≡ late) ⊎ ((status ≡ 4) × (text ≢ [])) →
       CheckEnds left status h text
@@ -140,6 +145,7 @@ module _ (left : Option (List ℕ)) where
       subst (λ (k : ℕ). CheckEnds left k h text) (sym e) (check_whole late h text t n m)
   check_made late h text t n m status (inr f) = check_cut status late h text n m f.0
 
+  -- where none was
   pub check_unmade : (failed : Type 0) (stop : Stop) → IsUnchecked left failed stop →
       CheckEnds left (status_of stop) [] []
   check_unmade failed stop u =
@@ -152,6 +158,7 @@ module _ (left : Option (List ℕ)) where
         cut = λ k. absurd (n.3 k);
       }
 
+  -- and where the run ended early
   pub check_early : (status : ℕ) → (status ≡ 1) ⊎ (status ≡ 2) → CheckEnds left status [] []
   check_early status s =
       record {

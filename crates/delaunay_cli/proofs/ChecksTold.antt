@@ -88,16 +88,19 @@ module _ {words : List (String Global)} {left left_after : Option (List ℕ)} {r
       (λ bytes m mesh is. f bytes mesh (mesh_order bytes mesh is) (told_of status e.text bytes m mesh is))
       ((of_check e w).made s)
 
+  -- of a whole text status 10 comes exactly where the mesh is not good
   pub bad_mesh : IsWhole status → IfSome left (λ bytes. (mesh : MeshParts) → IsMeshText bytes mesh →
       (status ≡ 10 ↔ (IsGood mesh → ⊥)))
   bad_mesh = of_mesh (λ bytes mesh. status ≡ 10 ↔ (IsGood mesh → ⊥))
       (λ bytes mesh o j. (status_tells mesh status e.text o j).1)
 
+  -- and status 0 exactly where it is
   pub good_mesh : IsWhole status → IfSome left (λ bytes. (mesh : MeshParts) → IsMeshText bytes mesh →
       (status ≡ 0 ↔ IsGood mesh))
   good_mesh = of_mesh (λ bytes mesh. status ≡ 0 ↔ IsGood mesh)
       (λ bytes mesh o j. (status_tells mesh status e.text o j).0)
 
+  -- and what is written is the text of the verdict on the mesh
   pub check_written : IsWhole status → IfSome left (λ bytes. (mesh : MeshParts) → IsMeshText bytes mesh →
       (verdict : Verdict) × IsVerdict mesh.points (listed mesh.cells mesh.hull) verdict ×
       Appends held holds (verdict_text mesh.points verdict))
@@ -106,6 +109,7 @@ module _ {words : List (String Global)} {left left_after : Option (List ℕ)} {r
       Appends held holds (verdict_text mesh.points verdict))
       (λ bytes mesh o j. (j.verdict, j.is_verdict, subst (Appends held holds) j.text_is (e.whole s))) s
 
+  -- on status 4 a front of that text is written
   pub check_front : status ≡ 4 → IfSome left (λ bytes. (mesh : MeshParts) → IsMeshText bytes mesh →
       (verdict : Verdict) × IsVerdict mesh.points (listed mesh.cells mesh.hull) verdict ×
       AppendsFront held holds (verdict_text mesh.points verdict))

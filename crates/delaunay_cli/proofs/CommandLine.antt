@@ -102,10 +102,12 @@ use Rattle.delaunay_cli.specs.declared.task.Task.{Task}
 use Rattle.delaunay_cli.specs.declared.task.Task.TheVariants.{Report, Step, Part, Query, Check, Draw}
 use Rattle.delaunay_cli.specs.declared.task.Wanted.{Wanted}
 
+-- the program's command line is of the kind of which `clap` tells all faults
 program_is_simple_and_free : is_simple_and_free program ≡ true
 unfolding clap_on_literals
 program_is_simple_and_free = refl
 
+-- and of the kind of which it tells what is met
 program_is_simple : is_simple program ≡ true
 unfolding clap_on_literals
 program_is_simple = refl
@@ -124,30 +126,37 @@ AreFound words shape order steps parts near =
     (is_command (codes "parts") (subcommand_of program words) ≡ parts) ×
     (is_command (codes "near") (subcommand_of program words) ≡ near)
 
+-- the word `mesh` alone
 mesh_found : (name : Text) → AreFound (name ∷ codes "mesh" ∷ []) false false false false false
 unfolding clap_on_literals
 mesh_found name = (refl, refl, refl, refl, refl, refl, refl, refl, refl, refl)
 
+-- `mesh --order`
 mesh_order_found : (name : Text) → AreFound (name ∷ codes "mesh" ∷ codes "--order" ∷ []) false true false false false
 unfolding clap_on_literals
 mesh_order_found name = (refl, refl, refl, refl, refl, refl, refl, refl, refl, refl)
 
+-- `shape`
 shape_found : (name : Text) → AreFound (name ∷ codes "shape" ∷ []) true false false false false
 unfolding clap_on_literals
 shape_found name = (refl, refl, refl, refl, refl, refl, refl, refl, refl, refl)
 
+-- `shape --order`
 shape_order_found : (name : Text) → AreFound (name ∷ codes "shape" ∷ codes "--order" ∷ []) true true false false false
 unfolding clap_on_literals
 shape_order_found name = (refl, refl, refl, refl, refl, refl, refl, refl, refl, refl)
 
+-- `steps`
 steps_found : (name : Text) → AreFound (name ∷ codes "steps" ∷ []) false false true false false
 unfolding clap_on_literals
 steps_found name = (refl, refl, refl, refl, refl, refl, refl, refl, refl, refl)
 
+-- `parts`
 parts_found : (name : Text) → AreFound (name ∷ codes "parts" ∷ []) false false false true false
 unfolding clap_on_literals
 parts_found name = (refl, refl, refl, refl, refl, refl, refl, refl, refl, refl)
 
+-- `near`
 near_found : (name : Text) → AreFound (name ∷ codes "near" ∷ []) false false false false true
 unfolding clap_on_literals
 near_found name = (refl, refl, refl, refl, refl, refl, refl, refl, refl, refl)
@@ -159,6 +168,7 @@ HasDefaults words =
     (number_of (codes "most") 0 most_index (subcommand_of program words) ≡ 0)
     × (given_of (codes "off") most_index (subcommand_of program words) ≡ None)
 
+-- the word `parts` alone has them
 parts_defaults : (name : Text) → HasDefaults (name ∷ codes "parts" ∷ [])
 unfolding clap_on_literals
 parts_defaults name = (refl, refl, refl)
@@ -170,6 +180,7 @@ AreAsked words shape order steps parts near =
     ((worker_count words ≡ 1) × (grid_size words ≡ 4)) × ReadsFile words × (asks_steps words ≡ steps)
     × (asks_parts words ≡ parts) × (asks_near words ≡ near)
 
+-- words that are found to be these are taken and ask for these
 asked : (words : List (String Global)) (texts : List Text) (shape order steps parts near : Bool) →
     texts_of words ≡ texts → AreFound texts shape order steps parts near → AreAsked words shape order steps parts near
 unfolding AreTaken asks_order asks_shape asks_drawn asks_check asks_steps asks_parts asks_near worker_count grid_size
@@ -177,27 +188,34 @@ asked words texts shape order steps parts near e found =
     let f = subst (λ (w : List Text). AreFound w shape order steps parts near) (sym e) found in
     (((f.0, ap is_grid_size f.4), f.1, f.2), (f.3, f.4), (f.5, f.6), f.7, f.8, f.9)
 
+-- the word `mesh` asks for the report alone
 pub mesh_words : (words : List (String Global)) → AreMesh words → AreAsked words false false false false false
 mesh_words words m = asked words (m.0 ∷ codes "mesh" ∷ []) false false false false false m.1 (mesh_found m.0)
 
+-- `mesh --order` for the order too
 pub mesh_order_words : (words : List (String Global)) → AreMeshOrder words → AreAsked words false true false false false
 mesh_order_words words m = asked words (m.0 ∷ codes "mesh" ∷ codes "--order" ∷ []) false true false false false m.1
     (mesh_order_found m.0)
 
+-- `shape` for the shapes
 pub shape_words : (words : List (String Global)) → AreShape words → AreAsked words true false false false false
 shape_words words m = asked words (m.0 ∷ codes "shape" ∷ []) true false false false false m.1 (shape_found m.0)
 
+-- `shape --order` for both
 pub shape_order_words : (words : List (String Global)) → AreShapeOrder words →
     AreAsked words true true false false false
 shape_order_words words m = asked words (m.0 ∷ codes "shape" ∷ codes "--order" ∷ []) true true false false false m.1
     (shape_order_found m.0)
 
+-- `steps` for the least alphas
 pub steps_words : (words : List (String Global)) → AreSteps words → AreAsked words false false true false false
 steps_words words m = asked words (m.0 ∷ codes "steps" ∷ []) false false true false false m.1 (steps_found m.0)
 
+-- `parts` for the solid parts
 pub parts_words : (words : List (String Global)) → AreParts words → AreAsked words false false false true false
 parts_words words m = asked words (m.0 ∷ codes "parts" ∷ []) false false false true false m.1 (parts_found m.0)
 
+-- `near` for the answers to queries
 pub near_words : (words : List (String Global)) → AreNear words → AreAsked words false false false false true
 near_words words m = asked words (m.0 ∷ codes "near" ∷ []) false false false false true m.1 (near_found m.0)
 
@@ -226,6 +244,7 @@ check_words words m =
     (is_command (codes "check") (subcommand_of program w) ≡ true)) (sym m.1) (check_found m.0) in
     ((f.0, ap is_grid_size f.1), f.2, f.3)
 
+-- words for a report without options have 1 worker and a grid of size 4, and read a file
 pub default_words : (words : List (String Global)) → AreMesh words ⊎ AreMeshOrder words ⊎ AreShape words ⊎
     AreShapeOrder words
     → ((worker_count words ≡ 1) × (grid_size words ≡ 4)) × ReadsFile words × (asks_steps words ≡ false)
@@ -271,6 +290,7 @@ grid_refused a words met e k g t =
     clash : false ≡ true → ⊥
     clash e = cc
 
+-- of no fault none is among the faults
 none_among : (k : ErrorKind) (kinds : Kinds) → kinds ≡ [] → IsAmong k kinds → ⊥
 none_among k [] e h = h
 none_among k (x ∷ kinds) e h = absurd (cc)
@@ -292,6 +312,7 @@ pub flag_some : (f : Found) (flag t : Text) (r : Bool) → Some t ≡ first_valu
 flag_some f flag t r e q = q ∙ ap (λ (o : Option Text). option_map_or (λ text. bytes_eq text (codes "true")) o false)
     (e ∙ first_value-rows f flag)
 
+-- a flag whose text is not there is not given
 pub flag_none : (f : Found) (flag : Text) → None ≡ first_value f flag → false ≡ flag_in flag (rows_of f)
 flag_none f flag e = ap (λ (o : Option Text). option_map_or (λ text. bytes_eq text (codes "true")) o false)
     (e ∙ first_value-rows f flag)
@@ -302,6 +323,7 @@ pub number_some : (f : Found) (option t : Text) (least most n : ℕ) → Some t 
 number_some f option t least most n e q = q ∙ ap (λ (o : Option Text). option_map_or (number_between least most) o
     least) (e ∙ first_value-rows f option)
 
+-- a number whose text is not there is the least
 pub number_none : (f : Found) (option : Text) (least most : ℕ) → None ≡ first_value f option →
     least ≡ number_in option least most (rows_of f)
 number_none f option least most e = ap (λ (o : Option Text). option_map_or (number_between least most) o least)
@@ -314,6 +336,7 @@ given_some f option t most n e q =
     ap (λ (m : ℕ). Some m) q ∙ ap (λ (o : Option Text). option_map (number_between 0 most) o)
     (e ∙ first_value-rows f option)
 
+-- a number that may be left out and whose text is not there is none
 pub given_none : (f : Found) (option : Text) (most : ℕ) → None ≡ first_value f option →
     None ≡ given_in option most (rows_of f)
 given_none f option most e = ap (λ (o : Option Text). option_map (number_between 0 most) o)
@@ -344,17 +367,20 @@ number_not_read text least most small none = by (is_unsigned_in least most text)
 
 -- ---- the task and the words
 
+-- the task of a report is that of words that read a file, and has their flags and workers
 pub reads_file : (words : List (String Global)) (making : Making) (asked : Asked) → IsTask words (Report making asked) →
     ReadsFile words × (asks_steps words ≡ false) × (asks_parts words ≡ false) × (asks_near words ≡ false) ×
     (asked.shape ≡ asks_shape words) × (asked.order ≡ asks_order words) × (making.workers ≡ worker_count words)
 unfolding asks_drawn asks_check asks_steps asks_parts asks_near asks_shape asks_order worker_count
 reads_file words making asked k = (k.1, k.2, k.3, k.4, k.5, k.6, k.0.workers)
 
+-- so it is with the task of the least alphas
 pub steps_file : (words : List (String Global)) (making : Making) → IsTask words (Step making) → ReadsFile words ×
     (asks_steps words ≡ true) × (making.workers ≡ worker_count words)
 unfolding asks_drawn asks_check asks_steps worker_count
 steps_file words making k = (k.1, k.2, k.0.workers)
 
+-- with that of the parts, and its numbers
 pub parts_file : (words : List (String Global)) (making : Making) (wanted : Wanted) →
     IsTask words (Part making wanted) →
     ReadsFile words × (asks_steps words ≡ false) × (asks_parts words ≡ true) × (wanted.alpha ≡ asked_alpha words) ×
@@ -362,16 +388,19 @@ pub parts_file : (words : List (String Global)) (making : Making) (wanted : Want
 unfolding asks_drawn asks_check asks_steps asks_parts asked_alpha asked_most asked_index worker_count
 parts_file words making wanted k = (k.1, k.2, k.3, k.4, k.5, k.6, k.0.workers)
 
+-- with that of the queries
 pub near_file : (words : List (String Global)) (making : Making) → IsTask words (Query making) →
     ReadsFile words × (asks_steps words ≡ false) × (asks_parts words ≡ false) × (asks_near words ≡ true) ×
     (making.workers ≡ worker_count words)
 unfolding asks_drawn asks_check asks_steps asks_parts asks_near worker_count
 near_file words making k = (k.1, k.2, k.3, k.4, k.0.workers)
 
+-- the task of a verdict is that of words that read the text of a mesh
 pub check_mesh : (words : List (String Global)) → IsTask words Check → ReadsSource words × (asks_check words ≡ true)
 unfolding asks_drawn asks_check
 check_mesh words k = k
 
+-- the task of drawing is that of words that draw, and has their count, start and flag
 pub draws_file : (words : List (String Global)) (making : Making) (drawn : Drawn) → IsTask words (Draw making drawn) →
     DrawsFile words × (drawn.count ≡ drawn_count words) × (drawn.start ≡ drawn_start words) ×
     (drawn.text ≡ asks_text words) × (making.workers ≡ worker_count words)

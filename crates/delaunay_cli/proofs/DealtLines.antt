@@ -91,6 +91,7 @@ later_within R [] l i h = absurd i
 later_within {X} R (m ∷ lists) l (inl e) h = subst (EachLater R) e (later_left R m (flat_map (λ l. l) lists) h)
 later_within {X} R (m ∷ lists) l (inr i) h = later_within R lists l i (later_right R m (flat_map (λ l. l) lists) h)
 
+-- there is a list for each worker
 dealt_count : (n : ℕ) (lines : List Pair) → length (dealt_out n lines) ≡ n
 dealt_count n lines = length-map (range_with_len 0 n) (dealt_to n lines) ∙ length-range_with_len 0 n
 
@@ -109,6 +110,7 @@ count_dealt n (part ∷ parts) some =
       length-append (all_of (dealt_out n part)) (flat_map all_of (map (dealt_out n) parts)),
     )
 
+-- of a list no more elements pass than it has
 few_pass : {X : Type 0} (t : X → Bool) (xs : List X) → length (filter t xs) ≤ length xs
 few_pass t [] = omega arith
 few_pass {X} t (x ∷ xs) = by (t x) (few_pass t xs)
@@ -118,6 +120,7 @@ few_pass {X} t (x ∷ xs) = by (t x) (few_pass t xs)
     by true l = omega (arith, l)
     by false l = omega (arith, l)
 
+-- a list that is numbered has as many elements
 numbered_length : {X : Type 0} (n : ℕ) (xs : List X) → length (enumerate_from n xs) ≡ length xs
 numbered_length n [] = refl
 numbered_length n (x ∷ xs) = ap suc (numbered_length (n + 1) xs)
@@ -145,6 +148,7 @@ module _ (workers : ℕ) (lines : List Pair) (lower : EachLater (λ (a b : Pair)
           (later_within (λ (a b : Pair). a.0 < b.0) (segments lines) segment i
           (subst (EachLater (λ (a b : Pair). a.0 < b.0)) (sym (segments_keep lines)) lower)))
 
+  -- so the lists of all segments can be done
   pub lines_done : workers ≤ 64 → All CanBeDone (dealt_lines workers lines)
   lines_done few =
       all_of_each CanBeDone (dealt_lines workers lines) (λ l i.
@@ -157,14 +161,17 @@ module _ (workers : ℕ) (lines : List Pair) (lower : EachLater (λ (a b : Pair)
 
 -- all lines of a file but the opening four
 module _ (workers : ℕ) (four points : List ℕ) (edits : List Edit) (some : 0 < workers) where
+  -- the lines of a file that are none of the opening four
   abbrev others : List Pair
   others = other_lines four (tagged_lines points edits)
 
+  -- their tags rise
   lower : EachLater (λ (a b : Pair). a.0 < b.0) others
   lower =
       later_filter (λ (a b : Pair). a.0 < b.0) (λ line. not (is_among line.0 four)) (tagged_lines points edits)
       (numbered_lower 0 (map Add points ++ edits))
 
+  -- dealt out, they can be done
   pub dealt_done : workers ≤ 64 → All CanBeDone (dealt workers four (tagged_lines points edits))
   dealt_done few = lines_done workers others lower some few
 
@@ -178,9 +185,11 @@ module _ (workers : ℕ) (four points : List ℕ) (edits : List Edit) (some : 0 
 
 -- the edit lines of a file
 module _ (workers : ℕ) (points : List ℕ) (edits : List Edit) (some : 0 < workers) where
+  -- dealt out, they can be done
   pub edits_done : workers ≤ 64 → All CanBeDone (dealt_lines workers (edit_lines points edits))
   edits_done few = lines_done workers (edit_lines points edits) (numbered_lower (length points) edits) some few
 
+  -- and are as many pairs as edits
   pub edits_many : count_all (dealt_lines workers (edit_lines points edits)) ≡ length edits
   edits_many =
       lines_many workers (edit_lines points edits) (numbered_lower (length points) edits) some
@@ -235,9 +244,11 @@ named n parts lists made i run ends e j =
 module _ (points : List ℕ) (edits : List Edit) (workers : ℕ) (four : List ℕ) (found : AreOpening points four)
     (some : 0 < workers) (ls : List (List (List Pair))) (deals : ls ≡ dealt_lines workers (edit_lines points edits))
     (h k : List Entry) (opens : h ≡ one_thread points []) (run : AreRun ls h k) where
+  -- the entries that the workers made are runs of the dealt lines
   are_runs : AreRuns (dealt_lines workers (edit_lines points edits)) run.more
   are_runs = subst (λ (l : List (List (List Pair))). AreRuns l run.more) deals (done_runs ls run.more run.done)
 
+  -- the history is that of one thread of the points, and then these
   history_is : k ≡ one_thread points [] ++ run.more
   history_is = run.history ∙ ap (λ (l : List Entry). l ++ run.more) opens
 

@@ -44,6 +44,7 @@ use Rattle.delaunay_cli.specs.Drawn.{IsDrawn, IsKeptOfDrawn, drawn_file}
 use Rattle.delaunay_cli.specs.Run.{IsKept}
 use Rattle.delaunay_cli.specs.Words.{DrawsFile, asks_text, drawn_count, drawn_start, worker_count}
 
+-- a drawn file of at most 262,140 edits has fewer than 2^32 lines
 pub drawn_lines : (f : Content) (count start : ℕ) → count ≤ 262140 → f ≡ generated count start →
     length f.points + length f.edits + 4 < 2 ^ 32
 drawn_lines f count start few e =
@@ -52,6 +53,7 @@ drawn_lines f count start few e =
     ∙ length-map-range_with_len (edit_line start) 1 count in
     omega arith
 
+-- its radii are radii of its version
 pub drawn_radii : (f : Content) (count start : ℕ) → f ≡ generated count start → AreRadii f.version f.radii
 drawn_radii f count start e =
     subst (λ (g : Content). AreRadii g.version g.radii) (sym e)
@@ -59,6 +61,7 @@ drawn_radii f count start e =
     (All-cons (λ radius. radius < 2 ^ 30) 262144 (4194304 ∷ []) (lit< tt)
     (All-cons (λ radius. radius < 2 ^ 30) 4194304 [] (lit< tt) (All-nil (λ radius. radius < 2 ^ 30)))))
 
+-- its points are solid
 drawn_solid : (f : Content) (count start : ℕ) → f ≡ generated count start → is_solid f.points ≡ true
 drawn_solid f count start e = ap (λ (g : Content). is_solid g.points) e ∙ generated_solid count start
 

@@ -56,6 +56,7 @@ module _ (left : Option (List ℕ)) (file : Content) (f : IsFileOf left file) wh
         text_is = r.report_is;
       }) f.told
 
+  -- so with the answers to its queries
   pub answers_told : (workers : ℕ) (h : List Entry) (text : List ℕ) → IsAnswered workers file h text →
       IfSome left (IsQueriedFile workers h text)
   answers_told workers h text r =

@@ -93,23 +93,28 @@ use Rattle.delaunay_cli.specs.Words.{
 other : (c k : ℕ) → digit_value c < 10 → (digit_value k < 10 → ⊥) → (c == k) ≡ false
 other c k d n = ne_eqb c k (λ e. n (subst (λ (x : ℕ). digit_value x < 10) e d))
 
+-- a numeral has no plus in front
 no_plus : (ds : List ℕ) → IsNumeral 10 ds → without_leading_plus ds ≡ ds
 no_plus [] h = refl
 no_plus (c ∷ cs) h = ap (λ (b : Bool). drop (cond b 1 0) (c ∷ cs)) (other c 43 h.1.0 (λ l. omega (arith, l)))
 
+-- nor any sign
 no_sign : (ds : List ℕ) → IsNumeral 10 ds → without_leading_sign ds ≡ ds
 no_sign ds h = ap (λ (b : Bool). cond b (drop 1 ds) (without_leading_plus ds)) (no_minus ds h) ∙ no_plus ds h
 
+-- so its value with a sign is its value
 signed : (ds : List ℕ) → IsNumeral 10 ds → signed_digits_value 10 ds ≡ pos (digits_value 10 ds)
 signed ds h =
     ap (λ (b : Bool). cond b (neg_ℤ (pos (digits_value 10 (without_leading_sign ds))))
     (pos (digits_value 10 (without_leading_sign ds)))) (no_minus ds h)
     ∙ ap (λ (l : List ℕ). pos (digits_value 10 l)) (no_sign ds h)
 
+-- of two numbers the lesser is so as a whole number too
 in_order : (a b : ℕ) → a ≤ b → pos a ≤ℤ pos b
 in_order a b l = le_z_yes (subst T (sym (le-leb a b l)) tt)
 
 module _ (least most n : ℕ) (above : least ≤ n) (below : n ≤ most) (small : most < 2 ^ 63) where
+  -- the decimal text of the number is a numeral, and its value is the number
   numeral : IsNumeral 10 (decimal n) × (digits_value 10 (decimal n) ≡ n)
   numeral = decimal_is_IsNumeral n (omega (arith, below, small))
 
@@ -124,6 +129,7 @@ module _ (least most n : ℕ) (above : least ≤ n) (below : n ≤ most) (small 
         subst (λ (x : ℤ). x ≤ℤ pos most) (sym z) (in_order n most below),
       )
 
+  -- so it is behind a plus that is not there
   value : digits_value 10 (without_leading_plus (decimal n)) ≡ n
   value = ap (digits_value 10) (no_plus (decimal n) numeral.0) ∙ numeral.1
 
@@ -153,6 +159,7 @@ word_faults least most taken = or_else (or_else (cond taken [] (refused_kind (Si
 both_faults : Kinds → Kinds → Kinds
 both_faults a b = or_else (or_else (or_else a (or_else b [])) []) []
 
+-- the words `gen`, a count, a start, and what follows
 gen_texts : Text → Text → Text → List Text → List Text
 gen_texts name count start rest = name ∷ codes "gen" ∷ (codes "--count=" ++ count) ∷ (codes "--start=" ++ start) ∷ rest
 
@@ -168,6 +175,7 @@ AreFoundGen words c s text =
     × (number_of (codes "start") 0 most_start (subcommand_of program words) ≡ number_between 0 most_start s)
     × (has_flag (codes "text") (subcommand_of program words) ≡ text)
 
+-- without `--text` they are found to be these
 gen_found : (name c s : Text) → AreFoundGen (gen_texts name c s []) c s false
 unfolding clap_on_literals word_faults both_faults gen_texts
 gen_found name c s = (
@@ -180,6 +188,7 @@ gen_found name c s = (
   refl,
 )
 
+-- and with it
 gen_text_found : (name c s : Text) → AreFoundGen (gen_texts name c s (codes "--text" ∷ [])) c s true
 unfolding clap_on_literals word_faults both_faults gen_texts
 gen_text_found name c s = (
@@ -220,6 +229,7 @@ unfolding gen_texts
 gen_words words count start few small m = gen_asked words (gen_texts m.0 (decimal count) (decimal start) []) count start
     false few small m.1 (gen_found m.0 (decimal count) (decimal start))
 
+-- the same words with `--text`
 pub gen_text_words : (words : List (String Global)) (count start : ℕ) → count ≤ most_count → start ≤ most_start →
     AreGenText count start words →
     AreTaken words × DrawsFile words × (drawn_count words ≡ count) × (drawn_start words ≡ start) ×
@@ -234,9 +244,11 @@ gen_text_words words count start few small m = gen_asked words (gen_texts m.0 (d
 alpha_faults : Bool → Kinds
 alpha_faults taken = or_else (or_else (cond taken [] (refused_kind (Unsigned 0 most_alpha) ∷ [])) []) []
 
+-- those of three words, one after another
 three_faults : Kinds → Kinds → Kinds → Kinds
 three_faults a b c = or_else (or_else (or_else a (or_else b (or_else c []))) []) []
 
+-- the words `parts`, an alpha, a most of parts and an index
 parts_texts : Text → Text → Text → Text → List Text
 parts_texts name alpha most index = name ∷ codes "parts" ∷ (codes "--alpha=" ++ alpha) ∷ (codes "--most=" ++ most) ∷
     (codes "--off=" ++ index) ∷ []
@@ -257,6 +269,7 @@ AreFoundParts words a m i =
     × (number_of (codes "most") 0 most_index (subcommand_of program words) ≡ number_between 0 most_index m)
     × (given_of (codes "off") most_index (subcommand_of program words) ≡ Some (number_between 0 most_index i))
 
+-- they are found to be these
 parts_at_found : (name a m i : Text) → AreFoundParts (parts_texts name a m i) a m i
 unfolding clap_on_literals word_faults alpha_faults three_faults parts_texts
 parts_at_found name a m i = (
@@ -319,9 +332,11 @@ parts_at_words words alpha most index a m i w = parts_asked_at words
 grid_above : (g : ℕ) → is_grid_size g ≡ true → 1 ≤ g
 grid_above g h = grind (arith, nat_tests)
 
+-- and is at most 16
 grid_below : (g : ℕ) → is_grid_size g ≡ true → g ≤ 16
 grid_below g h = grind (arith, nat_tests)
 
+-- a command, a number of workers and a size of a grid
 meshing_texts : Text → Text → Text → Text → List Text
 meshing_texts name command workers grid = name ∷ command ∷ (codes "--workers=" ++ workers) ∷ (codes "--grid=" ++ grid) ∷
     []
@@ -341,6 +356,7 @@ AreFoundMeshing words w g shape steps parts near =
     × (is_command (codes "parts") (subcommand_of program words) ≡ parts)
     × (is_command (codes "near") (subcommand_of program words) ≡ near)
 
+-- with `mesh` they are found to be these
 mesh_found : (name w g : Text) → AreFoundMeshing (meshing_texts name (codes "mesh") w g) w g false false false false
 unfolding clap_on_literals word_faults both_faults meshing_texts
 mesh_found name w g = (
@@ -356,6 +372,7 @@ mesh_found name w g = (
   refl,
 )
 
+-- with `shape`
 shape_found : (name w g : Text) → AreFoundMeshing (meshing_texts name (codes "shape") w g) w g true false false false
 unfolding clap_on_literals word_faults both_faults meshing_texts
 shape_found name w g = (
@@ -371,6 +388,7 @@ shape_found name w g = (
   refl,
 )
 
+-- with `steps`
 steps_found : (name w g : Text) → AreFoundMeshing (meshing_texts name (codes "steps") w g) w g false true false false
 unfolding clap_on_literals word_faults both_faults meshing_texts
 steps_found name w g = (
@@ -386,6 +404,7 @@ steps_found name w g = (
   refl,
 )
 
+-- with `parts`
 parts_found : (name w g : Text) → AreFoundMeshing (meshing_texts name (codes "parts") w g) w g false false true false
 unfolding clap_on_literals word_faults both_faults meshing_texts
 parts_found name w g = (
@@ -401,6 +420,7 @@ parts_found name w g = (
   refl,
 )
 
+-- with `near`
 near_found : (name w g : Text) → AreFoundMeshing (meshing_texts name (codes "near") w g) w g false false false true
 unfolding clap_on_literals word_faults both_faults meshing_texts
 near_found name w g = (
@@ -423,6 +443,7 @@ AreAskedMeshing words workers grid shape steps parts near =
     ReadsFile words × (asks_steps words ≡ steps) × (asks_parts words ≡ parts) ×
     (asks_near words ≡ near)
 
+-- words that are found to be these are taken, and ask for that
 meshing_asked : (words : List (String Global)) (texts : List Text) (workers grid : ℕ) (shape steps parts near : Bool) →
     0 < workers → workers ≤ most_workers → is_grid_size grid ≡ true → texts_of words ≡ texts
     → AreFoundMeshing texts (decimal workers) (decimal grid) shape steps parts near →
@@ -450,30 +471,35 @@ meshing_asked words texts workers grid shape steps parts near some few size e fo
 -- size M
 module _ (words : List (String Global)) (workers grid : ℕ) (some : 0 < workers) (few : workers ≤ most_workers)
     (size : is_grid_size grid ≡ true) where
+  -- `mesh` with workers and a grid
   pub mesh_workers_words : AreMeshing (codes "mesh") workers grid words →
       AreAskedMeshing words workers grid false false false false
   unfolding meshing_texts
   mesh_workers_words m = meshing_asked words (meshing_texts m.0 (codes "mesh") (decimal workers) (decimal grid))
       workers grid false false false false some few size m.1 (mesh_found m.0 (decimal workers) (decimal grid))
 
+  -- `shape`
   pub shape_workers_words : AreMeshing (codes "shape") workers grid words →
       AreAskedMeshing words workers grid true false false false
   unfolding meshing_texts
   shape_workers_words m = meshing_asked words (meshing_texts m.0 (codes "shape") (decimal workers) (decimal grid))
       workers grid true false false false some few size m.1 (shape_found m.0 (decimal workers) (decimal grid))
 
+  -- `steps`
   pub steps_workers_words : AreMeshing (codes "steps") workers grid words →
       AreAskedMeshing words workers grid false true false false
   unfolding meshing_texts
   steps_workers_words m = meshing_asked words (meshing_texts m.0 (codes "steps") (decimal workers) (decimal grid))
       workers grid false true false false some few size m.1 (steps_found m.0 (decimal workers) (decimal grid))
 
+  -- `parts`
   pub parts_workers_words : AreMeshing (codes "parts") workers grid words →
       AreAskedMeshing words workers grid false false true false
   unfolding meshing_texts
   parts_workers_words m = meshing_asked words (meshing_texts m.0 (codes "parts") (decimal workers) (decimal grid))
       workers grid false false true false some few size m.1 (parts_found m.0 (decimal workers) (decimal grid))
 
+  -- `near`
   pub near_workers_words : AreMeshing (codes "near") workers grid words →
       AreAskedMeshing words workers grid false false false true
   unfolding meshing_texts

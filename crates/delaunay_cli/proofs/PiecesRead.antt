@@ -72,6 +72,7 @@ piece_read old mid now taken before piece room most rest h t e l =
       count = let c = h.count in omega (arith, c, l, length-append taken piece);
     }
 
+-- so it is with a reader that takes the piece
 pub reader_read : (old mid now : Option (List ℕ)) (reader next : MeshReader) (before piece given : List ℕ)
     (room most rest : ℕ) → HasRead old mid reader room → TakesInto mid now before piece most → before ≡ [] →
     length piece + rest ≡ room → given ≡ piece
@@ -93,6 +94,7 @@ piece_within mid now before piece most t e =
 pub left_room : (room most piece : ℕ) → most ≤ room → piece ≤ most → piece + (room - piece) ≡ room
 left_room room most piece a b = omega (arith, a, b)
 
+-- and that there is some
 pub some_room : (room most piece : ℕ) → most ≤ room → piece ≤ most → (piece ≡ most → ⊥) → 0 < room - piece
 some_room room most piece a b n = omega (arith, a, b, n)
 
@@ -111,6 +113,7 @@ full old new most e f k =
     let n : length old.items ≡ 0 = ap (λ (l : List ℕ). length l) e in
     let v = f k in omega (arith, v, n, old.ok.0, new.ok.0)
 
+-- else a piece is shorter than what was asked for
 pub not_full : {r : Result Reached ReadError} (old new : Vec ℕ Global) (most : ℕ) → old.items ≡ [] →
     (vec_len new ≡ vec_len old + most → r ≡ Ok Reached.Limit) → (r ≡ Ok Reached.Limit → ⊥) →
     length new.items ≡ most → ⊥
@@ -118,9 +121,11 @@ not_full old new most e f n k =
     let z : length old.items ≡ 0 = ap (λ (l : List ℕ). length l) e in
     n (f (omega (arith, k, z, old.ok.0, new.ok.0)))
 
+-- where the end was reached the limit was not
 pub not_end : {E : Type 0} (r : Result Reached E) → r ≡ Ok Reached.End → r ≡ Ok Reached.Limit → ⊥
 not_end r e l = cc
 
+-- nor where the reading failed
 pub not_err : {E : Type 0} (r : Result Reached E) (why : E) → r ≡ Err why → r ≡ Ok Reached.Limit → ⊥
 not_err r why e l = cc
 
@@ -134,6 +139,7 @@ early_read (Err stop) why e = subst (λ (s : Stop). IsEarly (status_of s)) (sym 
     by SourceFault = inr (inr refl)
     by NoRoom = inl refl
 
+-- and its status is 1
 pub wanting_read : {A : Type 0} (r : Result A Stop) → IsErrAnd r (λ e. e ≡ Memory) → status_of_made r ≡ 1
 wanting_read (Ok v) e = absurd e
 wanting_read (Err stop) e = ap status_of e

@@ -12,11 +12,13 @@ no_other status (inr z) k a b n e = n (sym z ∙ e)
 pub has_text : (status : ℕ) → (status ≡ 0) ⊎ (status ≡ 4) → HasText status
 has_text status s = elim s [ inl z ↦ inl (inl z) | inr z ↦ inr z ]
 
+-- so of the statuses up to 7 only 0 and 4 are
 pub stopped_only : (status : ℕ) → status ≤ 7 → status ≢ 0 → status ≢ 4 → HasText status → ⊥
 stopped_only status l a b (inl (inl z)) = a z
 stopped_only status l a b (inl (inr m)) = omega (arith, l, m)
 stopped_only status l a b (inr z) = b z
 
+-- and 1 and 2 are none
 pub early_only : (status : ℕ) → (status ≡ 1) ⊎ (status ≡ 2) → HasText status → ⊥
 early_only status (inl z) k = no_other status k 1 (omega arith) (omega arith) (λ e. omega (arith, e)) z
 early_only status (inr z) k = no_other status k 2 (omega arith) (omega arith) (λ e. omega (arith, e)) z

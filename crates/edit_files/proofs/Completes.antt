@@ -47,6 +47,7 @@ use Rattle.edit_files.proofs.Decided.{points_decided}
 use Rattle.edit_files.proofs.DecidedEdits.{edits_decided, radii_decided}
 use Rattle.edit_files.proofs.Words.{IsNone, none_word, point_no_word, edit_no_word, radius_no_word}
 
+-- the reader at a place, with what it took so far
 abbrev pub at : Place → Content → State
 at place taken = record { place = place; taken = taken }
 
@@ -54,6 +55,7 @@ at place taken = record { place = place; taken = taken }
 pub record Goes (limits : Limits) (s : State) (lines : List (List ℕ)) (t : State) (rest : List (List ℕ)) : Type 0 where
   pub leads : (n : ℕ) → (m : ℕ) × (judge limits n s lines ≡ judge limits m t rest)
 
+-- of two such ways the second goes on where the first ends
 goes_then : (limits : Limits) (s t u : State) (a b c : List (List ℕ)) → Goes limits s a t b → Goes limits t b u c →
     Goes limits s a u c
 goes_then limits s t u a b c p q = record {
@@ -64,9 +66,11 @@ goes_then limits s t u a b c p q = record {
   ));
 }
 
+-- over no line the state stays
 goes_none : (limits : Limits) (s : State) (lines : List (List ℕ)) → Goes limits s lines s lines
 goes_none limits s lines = record { leads = λ n. (n, refl) }
 
+-- a line whose step leads to another state is such a way
 goes_one : (limits : Limits) (s t : State) (line : List ℕ) (rest : List (List ℕ)) → step limits s line ≡ Ok t →
     Goes limits s (line ∷ rest) t rest
 goes_one limits s t line rest h = record { leads = λ n. (n + 1, judge_on limits n s t (line ∷ rest) line rest refl h) }
@@ -80,9 +84,11 @@ titled_title Two = refl
 titled_title Three = refl
 titled_title Four = refl
 
+-- what was taken, in a file of this version
 abbrev pub of_version : Version → Content → Content
 of_version v t = record t { version = v }
 
+-- the title of a version that is none after the newest leads to the word `points`
 step_title : (limits : Limits) (t : Content) (v : Version) → IsWithinNewest limits v →
     step limits (at places.Title t) (row v).title ≡ Ok (at places.Heading (of_version v t))
 unfolding step
@@ -90,47 +96,58 @@ step_title limits t v le =
     let within : leb (row v).number (row limits.newest).number ≡ true = le-leb _ _ le in
     ap (with_title limits.newest t) (titled_title v) ∙ rw within refl
 
+-- that word leads to the points
 step_points : (limits : Limits) (t : Content) → step limits (at places.Heading t) (codes "points") ≡ Ok
     (at places.Points t)
 unfolding step
 step_points limits t = refl
 
+-- the word `edits` leads from the points to the edits
 step_edits : (limits : Limits) (t : Content) → step limits (at places.Points t) (codes "edits") ≡ Ok (at places.Edits t)
 unfolding step
 step_edits limits t = refl
 
+-- the word `radii` leads from the edits to the radii
 step_radii : (limits : Limits) (t : Content) → step limits (at places.Edits t) (codes "radii") ≡ Ok (at places.Radii t)
 unfolding step
 step_radii limits t = refl
 
+-- in a version with queries the word `queries` leads from the radii to the queries
 step_queries : (limits : Limits) (t : Content) → (row t.version).queries ≡ true →
     step limits (at places.Radii t) (codes "queries") ≡ Ok (at places.Queries t)
 unfolding step
 step_queries limits t has = rw has refl
 
+-- in one without, the word `end` leads from the radii to the end
 step_none : (limits : Limits) (t : Content) → (row t.version).queries ≡ false →
     step limits (at places.Radii t) (codes "end") ≡ Ok (at places.End t)
 unfolding step
 step_none limits t has = rw has refl
 
+-- and from the queries it does so
 step_end : (limits : Limits) (t : Content) → step limits (at places.Queries t) (codes "end") ≡ Ok (at places.End t)
 unfolding step
 step_end limits t = refl
 
 -- ---- lines of the lists
 
+-- what was taken, with more points
 abbrev pub more_points : Content → List ℕ → Content
 more_points t ps = record t { points = t.points ++ ps }
 
+-- with more edits
 abbrev pub more_edits : Content → List Edit → Content
 more_edits t es = record t { edits = t.edits ++ es }
 
+-- with more radii
 abbrev pub more_radii : Content → List ℕ → Content
 more_radii t rs = record t { radii = t.radii ++ rs }
 
+-- with more queries
 abbrev pub more_queries : Content → List ℕ → Content
 more_queries t qs = record t { queries = t.queries ++ qs }
 
+-- a line that says a point is taken as that point, where there is room for a line
 step_point : (limits : Limits) (t : Content) (line : List ℕ) (p : ℕ) → IsPointLine line p →
     length t.points + length t.edits < limits.lines → step limits (at places.Points t) line ≡ Ok (at places.Points
     (more_points t (p ∷ [])))
@@ -142,6 +159,7 @@ step_point limits t line p says lt =
     let read : point line ≡ Ok p = points_decided.complete line p says in
     rw (word, none, room, read) refl
 
+-- one that says an edit is taken as that edit
 step_edit : (limits : Limits) (t : Content) (line : List ℕ) (e : Edit) → IsEditLine t.version line e →
     length t.points + length t.edits < limits.lines → step limits (at places.Edits t) line ≡ Ok (at places.Edits
     (more_edits t (e ∷ [])))
@@ -161,6 +179,7 @@ none_behind v line n = by (row v).queries
     by true = n.queries
     by false = n.end
 
+-- one that says a radius, where there is room for a radius
 step_radius : (limits : Limits) (t : Content) (line : List ℕ) (r : ℕ) → IsRadiusLine t.version line r →
     length t.radii < radius_limit → step limits (at places.Radii t) line ≡ Ok (at places.Radii (more_radii t (r ∷ [])))
 unfolding step
@@ -172,6 +191,7 @@ step_radius limits t line r says lt =
     let read : radius t.version line ≡ Ok r = (radii_decided t.version).complete line r says in
     rw (word, none, room, read) refl
 
+-- and one that says the place of a query, where there is room for a query
 step_query : (limits : Limits) (t : Content) (line : List ℕ) (q : ℕ) → IsPointLine line q →
     length t.queries < query_limit → step limits (at places.Queries t) line ≡ Ok (at places.Queries (more_queries t
     (q ∷ [])))
@@ -183,6 +203,7 @@ step_query limits t line q says lt =
     let read : point line ≡ Ok q = points_decided.complete line q says in
     rw (word, none, room, read) refl
 
+-- lines that say points are taken as these points, where there is room for all of them
 goes_points : (limits : Limits) (t : Content) (lines : List (List ℕ)) (ps : List ℕ) (rest : List (List ℕ)) →
     AllZip IsPointLine lines ps → length t.points + length t.edits + length lines ≤ limits.lines →
     Goes limits (at places.Points t) (lines ++ rest) (at places.Points (more_points t ps)) rest
@@ -202,6 +223,7 @@ goes_points limits t (l ∷ ls) (p ∷ ps) rest z le =
     subst (λ (v : Content). Goes limits (at places.Points t) (l ∷ (ls ++ rest)) (at places.Points v) rest) same
     (goes_then limits _ _ _ _ _ _ one others)
 
+-- lines that say edits as these edits
 goes_edits : (limits : Limits) (t : Content) (lines : List (List ℕ)) (es : List Edit) (rest : List (List ℕ)) →
     AllZip (IsEditLine t.version) lines es → length t.points + length t.edits + length lines ≤ limits.lines →
     Goes limits (at places.Edits t) (lines ++ rest) (at places.Edits (more_edits t es)) rest
@@ -221,6 +243,7 @@ goes_edits limits t (l ∷ ls) (e ∷ es) rest z le =
     subst (λ (v : Content). Goes limits (at places.Edits t) (l ∷ (ls ++ rest)) (at places.Edits v) rest) same
     (goes_then limits _ _ _ _ _ _ one others)
 
+-- lines that say radii as these radii
 goes_radii : (limits : Limits) (t : Content) (lines : List (List ℕ)) (rs : List ℕ) (rest : List (List ℕ)) →
     AllZip (IsRadiusLine t.version) lines rs → length t.radii + length lines ≤ radius_limit →
     Goes limits (at places.Radii t) (lines ++ rest) (at places.Radii (more_radii t rs)) rest
@@ -240,6 +263,7 @@ goes_radii limits t (l ∷ ls) (r ∷ rs) rest z le =
     subst (λ (v : Content). Goes limits (at places.Radii t) (l ∷ (ls ++ rest)) (at places.Radii v) rest) same
     (goes_then limits _ _ _ _ _ _ one others)
 
+-- and lines that say the places of queries as these queries
 goes_queries : (limits : Limits) (t : Content) (lines : List (List ℕ)) (qs : List ℕ) (rest : List (List ℕ)) →
     AllZip IsPointLine lines qs → length t.queries + length lines ≤ query_limit →
     Goes limits (at places.Queries t) (lines ++ rest) (at places.Queries (more_queries t qs)) rest
@@ -279,11 +303,13 @@ goes_behind limits t lines [] false has empty z none le =
 goes_behind limits t lines (q ∷ qs) false has empty z none le =
     absurd (subst (λ (ls : List (List ℕ)). AllZip IsPointLine ls (q ∷ qs)) (none refl) z)
 
+-- the lines of a file, each list with all that follows it
 regrouped : (title : List ℕ) (pls els rls qls : List (List ℕ)) → title ∷ codes "points" ∷ pls ++ codes "edits" ∷ els ++
     codes "radii" ∷ rls ++ qls ++ codes "end" ∷ [] ≡ title ∷ codes "points" ∷
     (pls ++ (codes "edits" ∷ (els ++ (codes "radii" ∷ (rls ++ (qls ++ codes "end" ∷ []))))))
 regrouped title pls els rls qls = simp append_assoc
 
+-- the lines of a file lead from the start to the end, and just the file is taken
 goes_all : (limits : Limits) (lines : List (List ℕ)) (f : Content) → AreFileLines limits lines f →
     Goes limits start lines (at places.End f) []
 goes_all limits lines f are =

@@ -39,6 +39,7 @@ lines_at (b ∷ bs) (suc i) lt is before =
     lines_at bs i h is (λ k lt. before (suc k) (omega arith)) in
     rw (e, rest) refl
 
+-- and the text's other lines are those of the bytes behind it
 pub lines_cut : (bs : List ℕ) (i : ℕ) → i < length bs → get_or bs i 0 ≡ 10 → ((k : ℕ) → k < i → get_or bs k 0 ≢ 10) →
     lines_of bs ≡ take i bs ∷ lines_of (drop (i + 1) bs)
 lines_cut bs i lt is before = rw add-one (lines_at bs i lt is before)
@@ -65,6 +66,7 @@ fields_at (b ∷ bs) (suc i) lt is before =
     fields_at bs i h is (λ k lt. before (suc k) (omega arith)) in
     rw (e, rest) refl
 
+-- and the line's other fields are those of the bytes behind it
 pub fields_cut : (bs : List ℕ) (i : ℕ) → i < length bs → get_or bs i 0 ≡ 32 → ((k : ℕ) → k < i → get_or bs k 0 ≢ 32) →
     slice_split (λ b. eqb b 32) bs ≡ take i bs ∷ slice_split (λ b. eqb b 32) (drop (i + 1) bs)
 fields_cut bs i lt is before = rw add-one (fields_at bs i lt is before)

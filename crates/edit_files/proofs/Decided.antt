@@ -57,20 +57,25 @@ pub record Decides {A : Type 0} (read : List ℕ → Result A Why) (Says : List 
 
 -- ---- fields
 
+-- none of the bytes is this one
 abbrev pub HasNo : ℕ → List ℕ → Type 0
 HasNo c bs = AllByRecursion (λ b. eqb b c ≡ false) bs
 
+-- none of them is a space
 abbrev pub HasNoSpace : List ℕ → Type 0
 HasNoSpace bs = HasNo 32 bs
 
+-- bytes with no space, in front of a space, are the first field, and what is behind it has the others
 pub fields_front : (x rest : List ℕ) → HasNoSpace x → fields_of (x ++ 32 ∷ rest) ≡ x ∷ fields_of rest
 fields_front [] rest h = refl
 fields_front (b ∷ bs) rest h = let e = fields_front bs rest h.1 in let f : eqb b 32 ≡ false = h.0 in rw (f, e) refl
 
+-- bytes with no space are the one field
 pub fields_last : (x : List ℕ) → HasNoSpace x → fields_of x ≡ x ∷ []
 fields_last [] h = refl
 fields_last (b ∷ bs) h = let e = fields_last bs h.1 in let f : eqb b 32 ≡ false = h.0 in rw (f, e) refl
 
+-- no byte below 45, as a space and a line feed are, stands in digits
 digits_without : (low : ℕ) (ds : List ℕ) → low < 45 → AllDigits 10 ds → HasNo low ds
 digits_without low [] lt h = tt
 digits_without low (c ∷ cs) lt h = (
@@ -78,6 +83,7 @@ digits_without low (c ∷ cs) lt h = (
   digits_without low cs lt h.1,
 )
 
+-- nor in digits behind a minus
 signed_without : (low : ℕ) (t : Bool) (b : ℕ) (bs : List ℕ) → low < 45 → (t ≡ true → b ≡ 45) →
     AllDigits 10 (cond t bs (b ∷ bs)) → HasNo low (b ∷ bs)
 signed_without low true b bs lt h all = (
@@ -92,9 +98,11 @@ pub number_without : (low : ℕ) (bs : List ℕ) → low < 45 → IsNumber bs �
 number_without low [] lt h = tt
 number_without low (b ∷ bs) lt h = signed_without low (eqb b 45) b bs lt (eqb-true b 45) h.1
 
+-- no space stands in a number
 pub number_no_space : (bs : List ℕ) → IsNumber bs → HasNoSpace bs
 number_no_space bs h = number_without 32 bs (omega arith) h
 
+-- three numbers with one space between two are the fields of their line
 three_fields : (x y z : List ℕ) → IsNumber x → IsNumber y → IsNumber z → fields_of (spaced x y z) ≡ x ∷ y ∷ z ∷ []
 three_fields x y z a b c =
     let whole : spaced x y z ≡ x ++ (32 ∷ (y ++ 32 ∷ z)) = append_assoc x (32 ∷ y) (32 ∷ z) in
@@ -105,6 +113,7 @@ three_fields x y z a b c =
     ap fields_of whole ∙ first ∙ ap (λ (fs : List (List ℕ)). x ∷ fs) (second
     ∙ ap (λ (fs : List (List ℕ)). y ∷ fs) third)
 
+-- a line with three fields is the three with one space between two
 from_fields : (line x y z : List ℕ) → fields_of line ≡ x ∷ y ∷ z ∷ [] → line ≡ spaced x y z
 from_fields line x y z e =
     let back : line ≡ join_with_byte 32 (x ∷ y ∷ z ∷ []) = sym (join_with_byte-slice_split 32 line)
@@ -122,6 +131,7 @@ four_fields x y z rest a b c =
     ∙ ap (λ (fs : List (List ℕ)). x ∷ fs) (fields_front y (z ++ 32 ∷ rest) (number_no_space y b))
     ∙ ap (λ (fs : List (List ℕ)). x ∷ y ∷ fs) (fields_front z rest (number_no_space z c))
 
+-- a line with four fields or more is the first three, a space, and the others with spaces between
 pub from_four : (line x y z u : List ℕ) (fs : List (List ℕ)) → fields_of line ≡ x ∷ y ∷ z ∷ u ∷ fs →
     line ≡ spaced x y z ++ 32 ∷ join_with_byte 32 (u ∷ fs)
 from_four line x y z u fs e =
@@ -132,6 +142,7 @@ from_four line x y z u fs e =
 
 -- ---- points
 
+-- three numbers are the coordinates of a point, or one of them is out of range
 point_at_cases : (a b c : ℕ) → ((a < 16384) × (b < 16384) × (c < 16384) × (point_at a b c ≡ Ok (a * 268435456 + b *
     16384 + c))) ⊎ (point_at a b c ≡ Err Range)
 point_at_cases a b c =
@@ -149,9 +160,11 @@ point_at_cases a b c =
       ]
     ]
 
+-- a point that is read
 abbrev pub done : ℕ → Result ℕ Why
 done n = Ok n
 
+-- what is read is read as one thing
 pub ok_same : (m n : ℕ) → done m ≡ done n → m ≡ n
 ok_same m n h = cc
 
@@ -173,13 +186,16 @@ record Three (line : List ℕ) : Type 0 where
   z_read : number z ≡ Some c
   point_read : point line ≡ point_at a b c
 
+-- what is read of a line as a point depends on its fields alone
 point_fields : (line : List ℕ) (fs : List (List ℕ)) → fields_of line ≡ fs → point line ≡ point_from_fields fs
 unfolding point
 point_fields line fs e = ap point_from_fields e
 
+-- the fields of a line of a point's form are its three numbers
 form_fields : (line : List ℕ) (f : HasPointForm line) → fields_of line ≡ f.x ∷ f.y ∷ f.z ∷ []
 form_fields line f = ap fields_of f.fields ∙ three_fields f.x f.y f.z f.x_number f.y_number f.z_number
 
+-- of a line of a point's form three numbers are read
 form_three : (line : List ℕ) → HasPointForm line → Three line
 form_three line f = record {
   x = f.x;
@@ -198,6 +214,7 @@ form_three line f = record {
       ∙ ap (λ (o : Option ℕ). point_from (Some (reading f.x)) (Some (reading f.y)) o) (number_read f.z f.z_number);
 }
 
+-- a line of which three numbers are read is of the form
 three_form : (line : List ℕ) → Three line → HasPointForm line
 three_form line t = record {
   x = t.x;
@@ -237,6 +254,7 @@ numbers_view line x y z (Some a) (Some b) (Some c) e p q r = inr (record {
       ∙ ap (λ (o : Option ℕ). point_from (Some a) (Some b) o) r;
 })
 
+-- of a line with these fields no point is read for its form, or three numbers are read
 fields_view : (line : List ℕ) (fs : List (List ℕ)) → fields_of line ≡ fs → (point line ≡ Err Field) ⊎ Three line
 fields_view line [] e = inl (point_fields line [] e)
 fields_view line (x ∷ []) e = inl (point_fields line (x ∷ []) e)
@@ -244,6 +262,7 @@ fields_view line (x ∷ y ∷ []) e = inl (point_fields line (x ∷ y ∷ []) e)
 fields_view line (x ∷ y ∷ z ∷ []) e = numbers_view line x y z (number x) (number y) (number z) e refl refl refl
 fields_view line (x ∷ y ∷ z ∷ w ∷ fs) e = inl (point_fields line (x ∷ y ∷ z ∷ w ∷ fs) e)
 
+-- so it is with every line
 point_view : (line : List ℕ) → (point line ≡ Err Field) ⊎ Three line
 point_view line = fields_view line (fields_of line) refl
 
@@ -253,6 +272,7 @@ packed_coordinates : (a b c : ℕ) → a < 16384 → b < 16384 → c < 16384 →
 unfolding x_of y_of z_of
 packed_coordinates a b c p q r = (omega arith, omega arith, omega arith)
 
+-- where the three numbers are the coordinates of a point, the line says that point
 three_says : (line : List ℕ) (t : Three line) (p : ℕ) → point_at t.a t.b t.c ≡ Ok p → IsPointLine line p
 three_says line t p h =
     elim (point_at_cases t.a t.b t.c) [
@@ -285,6 +305,7 @@ three_says line t p h =
           })
     ]
 
+-- a point that is read of a line is what the line says
 pub point_sound : (line : List ℕ) (p : ℕ) → point line ≡ Ok p → IsPointLine line p
 point_sound line p h =
     elim (point_view line) [
@@ -292,6 +313,7 @@ point_sound line p h =
       | inr t ↦ three_says line t p (sym t.point_read ∙ h)
     ]
 
+-- a point that a line says is read of it
 pub point_complete : (line : List ℕ) (p : ℕ) → IsPointLine line p → point line ≡ Ok p
 point_complete line p s =
     let below = coordinate_below p in
@@ -314,15 +336,19 @@ point_complete line p s =
     (omega (arith, below.2)))
     ∙ point_at_own p s.key
 
+-- coordinates are never wrong in form
 point_at_field : (a b c : ℕ) → point_at a b c ≡ Err Field → ⊥
 point_at_field a b c h = elim (point_at_cases a b c) [ inl k ↦ (let e = k.3 in absurd cc) | inr e ↦ absurd cc ]
 
+-- a line that is refused for its form is not of it
 pub point_field : (line : List ℕ) → point line ≡ Err Field → HasPointForm line → ⊥
 point_field line h f = let t = form_three line f in point_at_field t.a t.b t.c (sym t.point_read ∙ h)
 
+-- one that is refused for its range is of the form
 pub point_range : (line : List ℕ) → point line ≡ Err Range → HasPointForm line
 point_range line h = elim (point_view line) [ inl e ↦ absurd cc | inr t ↦ three_form line t ]
 
+-- a point line is refused for its form or for its range
 pub point_only : (line : List ℕ) (why : Why) → point line ≡ Err why → (why ≡ Field) ⊎ (why ≡ Range)
 point_only line why h =
     elim (point_view line) [
@@ -333,6 +359,7 @@ point_only line why h =
       ]
     ]
 
+-- so reading a point decides what a line says
 pub points_decided : Decides point IsPointLine HasPointForm
 points_decided = record {
   sound = point_sound;

@@ -80,51 +80,63 @@ record Moves (version : Version) (line : List ℕ) : Type 0 where
   may : (row version).moves ≡ true
   reads : edit version line ≡ move_line rest
 
+-- a line whose second byte is no space is no edit line
 edit_bad : (v : Version) (s b : ℕ) (rest : List ℕ) → eqb b 32 ≡ false → edit v (s ∷ b ∷ rest) ≡ Err Field
 unfolding edit
 edit_bad v s b rest h = rw h refl
 
+-- behind a plus and a space an add of the point that is read
 edit_plus : (v : Version) (rest : List ℕ) → edit v (43 ∷ 32 ∷ rest) ≡ edit_from Add (point rest)
 unfolding edit
 edit_plus v rest = refl
 
+-- behind a minus and a space a take of it
 edit_minus : (v : Version) (rest : List ℕ) → edit v (45 ∷ 32 ∷ rest) ≡ edit_from Take (point rest)
 unfolding edit
 edit_minus v rest = refl
 
+-- behind an equals sign and a space, in a version with moves, a move of the two places that are read
 edit_equals : (v : Version) (rest : List ℕ) → (row v).moves ≡ true → edit v (61 ∷ 32 ∷ rest) ≡ move_line rest
 unfolding edit
 edit_equals v rest may = rw may refl
 
+-- in a version without moves a line with an equals sign is no edit line
 edit_unmoved : (v : Version) (s b : ℕ) (rest : List ℕ) → b ≡ 32 → s ≡ 61 → (row v).moves ≡ false →
     edit v (s ∷ b ∷ rest) ≡ Err Field
 unfolding edit
 edit_unmoved v s b rest space sign none = rw (space, sign, none) refl
 
+-- a line with any other sign is none
 edit_unsigned : (v : Version) (s b : ℕ) (rest : List ℕ) → b ≡ 32 → eqb s 43 ≡ false → eqb s 45 ≡ false →
     eqb s 61 ≡ false → edit v (s ∷ b ∷ rest) ≡ Err Field
 unfolding edit
 edit_unsigned v s b rest space plus minus equals = rw (space, plus, minus, equals) refl
 
+-- an empty line is none
 edit_short : (v : Version) → edit v [] ≡ Err Field
 unfolding edit
 edit_short v = refl
 
+-- a line of one byte is none
 edit_one : (v : Version) (s : ℕ) → edit v (s ∷ []) ≡ Err Field
 unfolding edit
 edit_one v s = refl
 
+-- a line whose first two bytes are a sign and a space is the sign, a space and the rest
 signed : (line : List ℕ) (sign s b : ℕ) (rest : List ℕ) → line ≡ s ∷ b ∷ rest → s ≡ sign → b ≡ 32 →
     line ≡ sign ∷ 32 ∷ rest
 signed line sign s b rest e se be = e ∙ ap (λ (n : ℕ). n ∷ b ∷ rest) se ∙ ap (λ (n : ℕ). sign ∷ n ∷ rest) be
 
+-- such a line that is read as an edit of one point begins so
 begins : (v : Version) (line : List ℕ) (sign : ℕ) (kind : ℕ → Edit) (rest : List ℕ) → line ≡ sign ∷ 32 ∷ rest →
     edit v (sign ∷ 32 ∷ rest) ≡ edit_from kind (point rest) → Begins v line sign kind
 begins v line sign kind rest is reads = record { rest = rest; is = is; reads = ap (edit v) is ∙ reads }
 
+-- how a line is read: as no edit line, or as an add, a take or a move
 abbrev Seen : Version → List ℕ → Type 0
 Seen v line = (edit v line ≡ Err Field) ⊎ Begins v line 43 Add ⊎ Begins v line 45 Take ⊎ Moves v line
 
+-- so is a line with an equals sign, whether the version has moves or not
 move_view : (v : Version) (s b : ℕ) (rest : List ℕ) (may : Bool) → (row v).moves ≡ may → b ≡ 32 → s ≡ 61 →
     Seen v (s ∷ b ∷ rest)
 move_view v s b rest true may p q =
@@ -132,6 +144,7 @@ move_view v s b rest true may p q =
     inr (inr (inr (record { rest = rest; is = is; may = may; reads = ap (edit v) is ∙ edit_equals v rest may })))
 move_view v s b rest false may p q = inl (edit_unmoved v s b rest p q may)
 
+-- so is every line
 edit_view : (v : Version) (line : List ℕ) → Seen v line
 edit_view v [] = inl (edit_short v)
 edit_view v (s ∷ []) = inl (edit_one v s)
@@ -152,6 +165,7 @@ edit_view v (s ∷ b ∷ rest) =
       ]
     ]
 
+-- an edit that is read of a line is what the line says
 edit_sound : (v : Version) (line : List ℕ) (e : Edit) → edit v line ≡ Ok e → IsEditLine v line e
 edit_sound v line e h = by (edit_view v line)
   where
@@ -167,11 +181,13 @@ edit_sound v line e h = by (edit_view v line)
         let p = pair_sound m.rest e (sym m.reads ∙ h) in
         subst (λ (d : Edit). IsEditLine v line d) p.3 (m.rest, m.is, m.may, p.2)
 
+-- an edit that a line says is read of it
 edit_complete : (v : Version) (line : List ℕ) (e : Edit) → IsEditLine v line e → edit v line ≡ Ok e
 edit_complete v line (Add p) s = ap (edit v) s.1 ∙ edit_plus v s.0 ∙ ap (edit_from Add) (point_complete s.0 p s.2)
 edit_complete v line (Take p) s = ap (edit v) s.1 ∙ edit_minus v s.0 ∙ ap (edit_from Take) (point_complete s.0 p s.2)
 edit_complete v line (Move a b) s = ap (edit v) s.1 ∙ edit_equals v s.0 s.2 ∙ pair_complete s.0 a b s.3
 
+-- a line that is refused for its form is not of it
 edit_field : (v : Version) (line : List ℕ) → edit v line ≡ Err Field → HasEditForm v line → ⊥
 edit_field v line h f = by f.1
   where
@@ -183,6 +199,7 @@ edit_field v line h f = by f.1
         point_field f.0 (from_err Take (point f.0) Field (sym (ap (edit v) e ∙ edit_minus v f.0) ∙ h)) form
     by (inr m) = pair_field f.0 (sym (ap (edit v) m.0 ∙ edit_equals v f.0 m.1) ∙ h) m.2
 
+-- one that is refused for its range is of the form
 edit_range : (v : Version) (line : List ℕ) → edit v line ≡ Err Range → HasEditForm v line
 edit_range v line h = by (edit_view v line)
   where
@@ -194,6 +211,7 @@ edit_range v line h = by (edit_view v line)
         (b.rest, inl (inr b.is, point_range b.rest (from_err Take (point b.rest) Range (sym b.reads ∙ h))))
     by (inr (inr (inr m))) = (m.rest, inr (m.is, m.may, pair_range m.rest (sym m.reads ∙ h)))
 
+-- an edit line is refused for its form or for its range
 edit_only : (v : Version) (line : List ℕ) (why : Why) → edit v line ≡ Err why → (why ≡ Field) ⊎ (why ≡ Range)
 edit_only v line why h = by (edit_view v line)
   where
@@ -203,6 +221,7 @@ edit_only v line why h = by (edit_view v line)
     by (inr (inr (inl b))) = point_only b.rest why (from_err Take (point b.rest) why (sym b.reads ∙ h))
     by (inr (inr (inr m))) = pair_only m.rest why (sym m.reads ∙ h)
 
+-- so reading an edit decides what a line says
 pub edits_decided : (v : Version) → Decides (edit v) (IsEditLine v) (HasEditForm v)
 edits_decided v = record {
   sound = edit_sound v;
@@ -221,10 +240,12 @@ end_far Two = lit< tt
 end_far Three = lit< tt
 end_far Four = lit< tt
 
+-- the radius of a line is what its number is in the version
 radius_is : (v : Version) (line : List ℕ) (o : Option ℕ) → number line ≡ o → radius v line ≡ radius_from v o
 unfolding radius
 radius_is v line o h = ap (radius_from v) h
 
+-- a number is a radius of the version, or out of its range
 from_cases : (v : Version) (n : ℕ) → ((n < (row v).radius_end) × (radius_from v (Some n) ≡ Ok n))
     ⊎ (((row v).radius_end ≤ n) × (radius_from v (Some n) ≡ Err Range))
 from_cases v n =
@@ -240,6 +261,7 @@ radius_view : (v : Version) (line : List ℕ) (o : Option ℕ) → number line �
 radius_view v line None h = inl (radius_is v line None h, number_none_not line h)
 radius_view v line (Some n) h = inr (n, h, radius_is v line (Some n) h)
 
+-- a radius that is read of a line is what the line says
 radius_sound : (v : Version) (line : List ℕ) (r : ℕ) → radius v line ≡ Ok r → IsRadiusLine v line r
 radius_sound v line r h =
     elim (radius_view v line (number line) refl) [
@@ -253,6 +275,7 @@ radius_sound v line r h =
       ]
     ]
 
+-- a radius that a line says is read of it
 radius_complete : (v : Version) (line : List ℕ) (r : ℕ) → IsRadiusLine v line r → radius v line ≡ Ok r
 radius_complete v line r s =
     let read : number line ≡ Some r = number_of line r s.0 (omega (arith, s.1, end_far v)) in
@@ -261,6 +284,7 @@ radius_complete v line r s =
       | inr e ↦ absurd (omega (arith, s.1, e.0))
     ]
 
+-- a line that is refused for its form is no number
 radius_field : (v : Version) (line : List ℕ) → radius v line ≡ Err Field → IsNumber line → ⊥
 radius_field v line h f =
     elim (radius_view v line (number line) refl) [
@@ -271,6 +295,7 @@ radius_field v line h f =
       ]
     ]
 
+-- one that is refused for its range is a number
 radius_range : (v : Version) (line : List ℕ) → radius v line ≡ Err Range → IsNumber line
 radius_range v line h =
     elim (radius_view v line (number line) refl) [
@@ -278,6 +303,7 @@ radius_range v line h =
       | inr w ↦ number_some line w.0 w.1
     ]
 
+-- a radius line is refused for its form or for its range
 radius_only : (v : Version) (line : List ℕ) (why : Why) → radius v line ≡ Err why → (why ≡ Field) ⊎ (why ≡ Range)
 radius_only v line why h =
     elim (radius_view v line (number line) refl) [
@@ -288,6 +314,7 @@ radius_only v line why h =
       ]
     ]
 
+-- so reading a radius decides what a line says
 pub radii_decided : (v : Version) → Decides (radius v) (IsRadiusLine v) IsNumber
 radii_decided v = record {
   sound = radius_sound v;

@@ -37,9 +37,11 @@ use Rattle.edit_files.proofs.Texts.{first_lines_of}
 abbrev pub to_points : Version → List (List ℕ) → List (List ℕ)
 to_points v pls = (row v).title ∷ codes "points" ∷ pls
 
+-- up to the edits
 abbrev pub to_edits : Version → List (List ℕ) → List (List ℕ) → List (List ℕ)
 to_edits v pls els = to_points v pls ++ codes "edits" ∷ els
 
+-- up to the radii
 abbrev pub to_radii : Version → List (List ℕ) → List (List ℕ) → List (List ℕ) → List (List ℕ)
 to_radii v pls els rls = to_edits v pls els ++ codes "radii" ∷ rls
 
@@ -57,6 +59,7 @@ front_at v places.End pls els rls qls = to_radii v pls els rls ++ query_section 
 abbrev pub words_behind : Version → List (List ℕ)
 words_behind v = query_section v [] ++ codes "end" ∷ []
 
+-- the words that are still to come from a place on
 abbrev pub words_from : Version → Place → List (List ℕ)
 words_from v places.Title = (row v).title ∷ codes "points" ∷ codes "edits" ∷ codes "radii" ∷ words_behind v
 words_from v places.Heading = codes "points" ∷ codes "edits" ∷ codes "radii" ∷ words_behind v
@@ -94,9 +97,11 @@ pub record Leads (limits : Limits) (front : List (List ℕ)) (place : Place) (ta
   pub radius_count : length radii ≤ radius_limit
   pub query_count : length queries ≤ query_limit
 
+-- the first of some lines, taken by itself
 join_two : (front rest : List (List ℕ)) (a : List ℕ) → front ++ (a ∷ rest) ≡ front ++ a ∷ [] ++ rest
 join_two front rest a = sym (append_assoc front (a ∷ []) rest)
 
+-- the first two, each taken by itself
 join_three : (front rest : List (List ℕ)) (a b : List ℕ) → front ++ (a ∷ b ∷ rest) ≡ front ++ a ∷ [] ++ b ∷ [] ++ rest
 join_three front rest a b =
     sym (append_assoc (front ++ a ∷ []) (b ∷ []) rest ∙ append_assoc front (a ∷ []) (b ∷ rest))
@@ -106,6 +111,7 @@ ended_by : (v : Version) (front : List (List ℕ)) → front ++ words_behind v �
     ∷ []
 ended_by v front = sym (append_assoc front (query_section v []) (codes "end" ∷ []))
 
+-- the lines that lead to a place, with the words that are still to come, are those of a file
 whole_is : (v : Version) (place : Place) (pls els rls qls : List (List ℕ)) → AreUnmet v place pls els rls qls
     → front_at v place pls els rls qls ++ words_from v place ≡ front_at v places.End pls els rls qls
 whole_is v places.Title pls els rls qls h = rw (h.0, h.1, h.2, h.3) refl
@@ -168,6 +174,7 @@ first_within Two = omega arith
 first_within Three = omega arith
 first_within Four = omega arith
 
+-- no lines lead to the title, and nothing was taken
 pub at_start : (limits : Limits) → Leads limits [] places.Title nothing
 at_start limits = record {
   version = first_within limits.newest;

@@ -84,12 +84,15 @@ use Rattle.edit_files.specs.Generator.{
 
 -- ---- draws
 
+-- two more than a number
 two : (m : ℕ) → m + 2 ≡ suc (suc m)
 two m = omega arith
 
+-- three more than a number
 three : (m : ℕ) → m + 3 ≡ suc (suc (suc m))
 three m = omega arith
 
+-- the point that is drawn after so many draws is that behind their state
 drawn_behind : (start m : ℕ) → drawn_point start m ≡ point_behind (state_after start m)
 drawn_behind start m =
     ap (λ (k : ℕ). key_of (draw start k) (draw start (m + 2)) (draw start (m + 3))) (add-one m)
@@ -107,6 +110,7 @@ more_lines start n edits new edit lines e k =
     k ∙ ap (λ (es : List Edit). es ++ edit ∷ []) lines ∙ ap (λ (x : Edit). map (edit_line start) (range_with_len 1 n) ++
     x ∷ []) e ∙ sym (map-range_with_len_more (edit_line start) 1 n (n + 1) at)
 
+-- there are as many lines as were asked for
 pub count_lines : (start n : ℕ) (edits : List Edit) → edits ≡ map (edit_line start) (range_with_len 1 n) →
     length edits ≡ n
 count_lines start n edits lines = ap length lines ∙ length-map-range_with_len (edit_line start) 1 n
@@ -179,6 +183,7 @@ line_takes start i q a e = by (eqb (i % 4) 0) refl
     by false m = let k : Take q ≡ Add (drawn_by start i) = e
         ∙ ap (λ (b : Bool). cond b (back_to (drawn_by start (i - 2))) (Add (drawn_by start i))) m in absurd cc
 
+-- so none of some lines takes a corner
 none_takes : (start q : ℕ) → is_among q corners ≡ true → (is : List ℕ) → IsIn (Take q) (map (edit_line start) is) → ⊥
 none_takes start q a [] i = absurd i
 none_takes start q a (k ∷ is) (inl e) = line_takes start k q a (sym e)
@@ -196,16 +201,19 @@ line_still start i = by (eqb (i % 4) 0)
     by true = back (drawn_by start (i - 2)) (is_among (drawn_by start (i - 2)) corners)
     by false = refl
 
+-- no edit of a generated file moves a point
 pub generated_still : (count start : ℕ) → All (λ e. is_move e ≡ false) (generated count start).edits
 generated_still count start = all_of_each (λ e. is_move e ≡ false) (map (edit_line start) (range_with_len 1 count))
     (λ e i. let r = mapped_from (edit_line start) e (range_with_len 1 count) i in sym (ap is_move r.2)
     ∙ line_still start r.0)
 
+-- so none of some lines is a move
 none_moves : (start p q : ℕ) (is : List ℕ) → IsIn (Move p q) (map (edit_line start) is) → ⊥
 none_moves start p q [] i = absurd i
 none_moves start p q (k ∷ is) (inl e) = let f = sym (line_still start k) ∙ ap is_move e in absurd cc
 none_moves start p q (k ∷ is) (inr i) = none_moves start p q is i
 
+-- a generated file is anchored
 pub generated_anchored : (count start : ℕ) → IsAnchored (generated count start).points (generated count start).edits
 generated_anchored count start = record {
   four = record { first = 0; second = 1; third = 2; fourth = 3 };
@@ -221,6 +229,7 @@ generated_anchored count start = record {
     corner i (inr (inr (inr (inl e)))) = ap (λ (k : ℕ). is_among (slice_index corners k) corners) (sym e)
     corner i (inr (inr (inr (inr n)))) = absurd n
 
+-- its points are solid
 pub generated_solid : (count start : ℕ) → is_solid (generated count start).points ≡ true
 unfolding x_of y_of z_of x_from y_from z_from minor triple orientation normal_x normal_y normal_z
 generated_solid count start = refl
@@ -229,6 +238,7 @@ generated_solid count start = refl
 draw_below : (s : ℕ) → draw_of (next_state s) < coordinate_count
 draw_below s = omega arith
 
+-- a drawn point is a key
 drawn_key : (start m : ℕ) → IsKey (drawn_point start m)
 drawn_key start m =
     let s = state_after start m in
@@ -238,6 +248,7 @@ drawn_key start m =
     let k : IsKey (point_behind s) = omega (arith, a, b, d) in
     subst IsKey (sym (drawn_behind start m)) k
 
+-- the point of each line is a key
 line_key : (start i : ℕ) → HasKeys (edit_line start i)
 line_key start i = by (eqb (i % 4) 0)
   where
@@ -250,6 +261,7 @@ line_key start i = by (eqb (i % 4) 0)
         (draws_before (i - 2)))
     by false = drawn_key start (draws_before i)
 
+-- so the lines have what a text of the first version may hold
 lines_keys : (start : ℕ) (is : List ℕ) → AllByRecursion (IsEditOf One) (map (edit_line start) is)
 lines_keys start [] = tt
 lines_keys start (i ∷ is) = (
@@ -258,6 +270,7 @@ lines_keys start (i ∷ is) = (
       start is,
 )
 
+-- with so many edits at most, a generated file is within the limits
 pub generated_within : (count start : ℕ) → count ≤ most_edits → IsWithin (up_to One) (generated count start)
 generated_within count start few = record {
   version = lit≤ tt;

@@ -73,11 +73,13 @@ record Accepts (limits : Limits) (front lines : List (List ℕ)) (s : State) : T
   answer : judge limits (length front + 1) s lines ≡ Ok file
   are : AreFileLines limits (front ++ lines) file
 
+-- or there is a fault of these lines: of one of them, or that more are to come
 record Refuses (limits : Limits) (front lines : List (List ℕ)) (s : State) : Type 0 where
   fault : Fault
   answer : judge limits (length front + 1) s lines ≡ Err fault
   is : IsFaultOfLine limits (front ++ lines) fault ⊎ IsFaultOfEnd limits (front ++ lines) fault
 
+-- the lines end at the end of the file, or too early
 ended_cases : (n : ℕ) (place : Place) (t : Content) → ((place ≡ places.End) × (ended n place t ≡ Ok t)) ⊎ (ended n place
     t ≡ Err (record { line = n; why = Truncated }))
 ended_cases n places.Title t = inr refl
@@ -88,6 +90,7 @@ ended_cases n places.Radii t = inr refl
 ended_cases n places.Queries t = inr refl
 ended_cases n places.End t = inl (refl, refl)
 
+-- where no line is left, what was taken is the file, or the fault is that more lines are to come
 at_end : (limits : Limits) (front : List (List ℕ)) (s : State) → Reached limits front s →
     Accepts limits front [] s ⊎ Refuses limits front [] s
 at_end limits front s r =
@@ -116,6 +119,7 @@ at_end limits front s r =
           })
     ]
 
+-- a line that is taken leads one line further
 further : (limits : Limits) (front : List (List ℕ)) (s t : State) (line : List ℕ) → Reached limits front s →
     step limits s line ≡ Ok t → Reached limits (front ++ line ∷ []) t
 further limits front s t line r h = record {
@@ -127,6 +131,7 @@ further limits front s t line r h = record {
       ∙ ap (λ (m : ℕ). judge limits m t rest) (sym n));
 }
 
+-- a line that is not taken is the fault
 bad_line : (limits : Limits) (front : List (List ℕ)) (s : State) (line : List ℕ) (rest : List (List ℕ)) (why : Why) →
     Reached limits front s → step limits s line ≡ Err why → Refuses limits front (line ∷ rest) s
 bad_line limits front s line rest why r h =
@@ -157,9 +162,11 @@ bad_line limits front s line rest why r h =
       );
     }
 
+-- what judging answers of the lines that are left is the file or the fault
 abbrev Outcome : Limits → List (List ℕ) → List (List ℕ) → State → Type 0
 Outcome limits front lines s = Accepts limits front lines s ⊎ Refuses limits front lines s
 
+-- so it is of a line and those behind it, where it is of those once the line is taken
 decide_line : (limits : Limits) (front : List (List ℕ)) (line : List ℕ) (lines : List (List ℕ)) (s : State) →
     Reached limits front s → (o : Result State Why) → step limits s line ≡ o
     → ((t : State) → Reached limits (front ++ line ∷ []) t → Outcome limits (front ++ line ∷ []) lines t) →
@@ -185,6 +192,7 @@ decide_line limits front line lines s r (Ok t) h next =
       })
     ]
 
+-- so it is wherever the reader is
 decide : (limits : Limits) (front lines : List (List ℕ)) (s : State) → Reached limits front s →
     Outcome limits front lines s
 decide limits front [] s r = at_end limits front s r
@@ -192,26 +200,33 @@ decide limits front (line ∷ lines) s r =
     decide_line limits front line lines s r (step limits s line) refl (λ t q. decide limits (front ++ line ∷ []) lines t
     q)
 
+-- before all lines the reader is at the start
 at_first : (limits : Limits) → Reached limits [] start
 at_first limits = record { leads = at_start limits; on = λ rest. refl }
 
+-- so judging a text gives the file that it is of, or its fault
 decided : (limits : Limits) (bytes : List ℕ) → Outcome limits [] (lines_of bytes) start
 decided limits bytes = decide limits [] (lines_of bytes) start (at_first limits)
 
 -- ---- what is judged
 
+-- a file that was judged
 abbrev took : Content → Result Content Fault
 took f = Ok f
 
+-- it is judged as one file
 took_same : (f g : Content) → took f ≡ took g → f ≡ g
 took_same f g h = cc
 
+-- a fault that was found
 abbrev gave_up : Fault → Result Content Fault
 gave_up fault = Err fault
 
+-- it is found as one fault
 gave_up_same : (a b : Fault) → gave_up a ≡ gave_up b → a ≡ b
 gave_up_same a b h = cc
 
+-- what a text is judged to be, it is the text of
 pub judged_is_file : (limits : Limits) (bytes : List ℕ) (f : Content) → judged limits bytes ≡ Ok f →
     IsFile limits bytes f
 judged_is_file limits bytes f h =
@@ -220,6 +235,7 @@ judged_is_file limits bytes f h =
       | inr b ↦ (let e : judged limits bytes ≡ Err b.fault = b.answer in absurd cc)
     ]
 
+-- and the fault that judging finds is the text's
 pub judged_is_fault : (limits : Limits) (bytes : List ℕ) (fault : Fault) → judged limits bytes ≡ Err fault →
     IsFault limits bytes fault
 judged_is_fault limits bytes fault h =
@@ -234,21 +250,26 @@ pub given_is_file : (limits : Limits) (bytes : List ℕ) (r : Result File ReadRe
 given_is_file limits bytes (Ok f) h = judged_is_file limits bytes (content f) h
 given_is_file limits bytes (Err e) h = tt
 
+-- a refusal has one fault
 bad_same : (a b : Fault) → refusals.Bad a ≡ refusals.Bad b → a ≡ b
 bad_same a b h = cc
 
+-- a refusal that names the fault that judging finds names the text's
 failed_is_fault : (limits : Limits) (bytes : List ℕ) (e : ReadRefused) (fault : Fault) → Fails e (judged limits bytes) →
     e ≡ refusals.Bad fault → IsFault limits bytes fault
 failed_is_fault limits bytes refusals.Memory fault h e = absurd cc
 failed_is_fault limits bytes (refusals.Bad f) fault h e = subst (λ (g : Fault). IsFault limits bytes g)
     (bad_same f fault e) (judged_is_fault limits bytes f h)
 
+-- a refusal as a result
 abbrev refused : ReadRefused → Result File ReadRefused
 refused e = Err e
 
+-- it is one refusal
 refused_same : (d e : ReadRefused) → refused d ≡ refused e → d ≡ e
 refused_same d e h = cc
 
+-- the fault with which a function returned that gives what judging gives is the text's
 pub given_is_fault : (limits : Limits) (bytes : List ℕ) (r : Result File ReadRefused) (fault : Fault) →
     Gives content r (judged limits bytes) → r ≡ Err (refusals.Bad fault) → IsFault limits bytes fault
 given_is_fault limits bytes (Ok f) fault h e = absurd cc
@@ -257,15 +278,18 @@ given_is_fault limits bytes (Err d) fault h e = failed_is_fault limits bytes d f
 
 -- ---- the laws
 
+-- a text is of at most one file
 pub one_file_of : (limits : Limits) (bytes : List ℕ) (f g : Content) → IsFile limits bytes f → IsFile limits bytes g →
     f ≡ g
 one_file_of limits bytes f g p q = took_same f g (sym (judged_file limits 1 (lines_of bytes) f p)
     ∙ judged_file limits 1 (lines_of bytes) g q)
 
+-- the lines of a text of a file are first lines of one
 first_of_file : (limits : Limits) (bytes : List ℕ) (f : Content) → IsFile limits bytes f →
     AreFirstLines limits (lines_of bytes)
 first_of_file limits bytes f is = (bytes, f, is, [], sym (append-nil (lines_of bytes)))
 
+-- a text of a file has no fault
 pub no_fault_of : (limits : Limits) (bytes : List ℕ) (f : Content) (fault : Fault) → IsFile limits bytes f →
     IsFault limits bytes fault → ⊥
 no_fault_of limits bytes f fault p q =
@@ -274,6 +298,7 @@ no_fault_of limits bytes f fault p q =
       | inr e ↦ e.no_file f p
     ]
 
+-- every text is of a file or has a fault
 pub some_answer : (limits : Limits) (bytes : List ℕ) → ((f : Content) × IsFile limits bytes f) ⊎ ((fault : Fault) ×
     IsFault limits bytes fault)
 some_answer limits bytes = elim (decided limits bytes) [ inl a ↦ inl (a.file, a.are) | inr b ↦ inr (b.fault, b.is) ]

@@ -49,12 +49,14 @@ fault_same a b p q =
     let made : ℕ → Why → Fault = λ n w. record { line = n; why = w } in
     ap (λ (n : ℕ). made n a.why) p ∙ ap (λ (w : Why). made b.line w) q
 
+-- behind the same lines the same line is bad for one reason
 same_reason : (limits : Limits) (f g : List (List ℕ)) (x y : List ℕ) (v w : Why) → f ≡ g → x ≡ y →
     IsReason limits f x v → IsReason limits g y w → v ≡ w
 same_reason limits f g x y v w e d p q =
     one_reason limits g y v w (subst (λ (z : List ℕ). IsReason limits g z v) d (subst (λ (fs : List (List ℕ)). IsReason
     limits fs x v) e p)) q
 
+-- a text has at most one fault
 pub one_fault_of : (limits : Limits) (bytes : List ℕ) (a b : Fault) → IsFault limits bytes a → IsFault limits bytes b →
     a ≡ b
 one_fault_of limits bytes a b p q =

@@ -51,21 +51,27 @@ use Rattle.edit_files.proofs.Decided.{
 
 -- ---- two places
 
+-- an edit that is read
 abbrev pub made : Edit → Result Edit Why
 made e = Ok e
 
+-- it is read as one edit
 pub made_same : (d e : Edit) → made d ≡ made e → d ≡ e
 made_same d e h = cc
 
+-- an edit line that is not read, and why
 abbrev pub refused : Why → Result Edit Why
 refused why = Err why
 
+-- it is not read for one reason
 pub refused_same : (v w : Why) → refused v ≡ refused w → v ≡ w
 refused_same v w h = cc
 
+-- the move of a line of two places
 abbrev pub move_line : List ℕ → Result Edit Why
 move_line line = move_of (halves line)
 
+-- where a line is cut in two depends on its fields alone
 pub halves_fields : (line : List ℕ) (fs : List (List ℕ)) → fields_of line ≡ fs → halves line ≡ halves_of fs
 unfolding halves
 halves_fields line fs e = ap halves_of e
@@ -77,6 +83,7 @@ record Cut (line : List ℕ) : Type 0 where
   fields : line ≡ from ++ 32 ∷ to
   reads : move_line line ≡ move_from (point from) (point to)
 
+-- a line with these fields is not cut, or it is the two places that it is cut into
 cut_view : (line : List ℕ) (fs : List (List ℕ)) → fields_of line ≡ fs → (halves line ≡ None) ⊎ Cut line
 cut_view line [] e = inl (halves_fields line [] e)
 cut_view line (x ∷ []) e = inl (halves_fields line (x ∷ []) e)
@@ -107,6 +114,7 @@ halves_pair line f =
     ∙ ap (λ (l : List ℕ). Some (l, join_with_byte 32 (more.0 ∷ more.1))) (sym f.from_form.fields)
     ∙ ap (λ (l : List ℕ). Some (f.from, l)) back
 
+-- of a line of the form of two places a move is read where both are points
 pair_reads : (line : List ℕ) (f : HasPairForm line) → move_line line ≡ move_from (point f.from) (point f.to)
 pair_reads line f = ap move_of (halves_pair line f)
 
@@ -116,10 +124,12 @@ pub from_ok : (kind : ℕ → Edit) (r : Result ℕ Why) (e : Edit) → edit_fro
 from_ok kind (Ok p) e h = (p, refl, made_same (kind p) e h)
 from_ok kind (Err why) e h = absurd cc
 
+-- where no edit of one point is made, no point was read, for the same reason
 pub from_err : (kind : ℕ → Edit) (r : Result ℕ Why) (why : Why) → edit_from kind r ≡ Err why → r ≡ Err why
 from_err kind (Ok p) why h = absurd cc
 from_err kind (Err v) why h = ap (λ (w : Why). Err w) (refused_same v why h)
 
+-- a move was made of two points that were read
 move_ok : (r s : Result ℕ Why) (e : Edit) → move_from r s ≡ Ok e →
     (a : ℕ) × (b : ℕ) × (r ≡ Ok a) × (s ≡ Ok b) × (Move a b ≡ e)
 move_ok (Ok a) s e h = let p = from_ok (Move a) s e h in (a, p.0, refl, p.1, p.2)
@@ -134,6 +144,7 @@ worse_field v (Err Range) h = inl h
 worse_field v (Err TooMany) h = inl h
 worse_field v (Err Truncated) h = inl h
 
+-- so a move is wrong in form where one of its places is
 move_field : (r s : Result ℕ Why) → move_from r s ≡ Err Field → (r ≡ Err Field) ⊎ (s ≡ Err Field)
 move_field (Ok a) s h = inr (from_err (Move a) s Field h)
 move_field (Err v) s h =
@@ -151,12 +162,14 @@ worse_range v (Err Range) h = (h, λ e. absurd cc)
 worse_range v (Err TooMany) h = (h, λ e. absurd cc)
 worse_range v (Err Truncated) h = (h, λ e. absurd cc)
 
+-- and out of range where neither is
 move_range : (r s : Result ℕ Why) → move_from r s ≡ Err Range → (r ≡ Err Field → ⊥) × (s ≡ Err Field → ⊥)
 move_range (Ok a) s h = (λ e. absurd cc, λ e. (let k : s ≡ Err Range = from_err (Move a) s Range h in absurd cc))
 move_range (Err v) s h =
     let w = worse_range v s (refused_same (worse v s) Range h) in
     (λ e. (let k : v ≡ Range = w.0 in absurd cc), w.1)
 
+-- the worse of two reasons is the form or the range
 worse_only : (v : Why) (s : Result ℕ Why) → (v ≡ Field) ⊎ (v ≡ Range) → (worse v s ≡ Field) ⊎ (worse v s ≡ Range)
 worse_only v (Ok b) h = h
 worse_only v (Err Section) h = h
@@ -165,6 +178,7 @@ worse_only v (Err Range) h = h
 worse_only v (Err TooMany) h = h
 worse_only v (Err Truncated) h = h
 
+-- a move is refused for its form or for its range
 move_only : (from to : List ℕ) (r : Result ℕ Why) (why : Why) → point from ≡ r →
     move_from r (point to) ≡ Err why → (why ≡ Field) ⊎ (why ≡ Range)
 move_only from to (Ok a) why e h = point_only to why (from_err (Move a) (point to) why h)
@@ -191,6 +205,7 @@ formed line (Err v) e n =
       | inr f ↦ point_range line (e ∙ ap (λ (w : Why). Err w) f)
     ]
 
+-- a line that says two places is of their form
 pair_form : (line : List ℕ) (a b : ℕ) → IsPairLine line a b → HasPairForm line
 pair_form line a b s = record {
   from = s.from;
@@ -202,6 +217,7 @@ pair_form line a b s = record {
       (λ e. (let k = point_complete s.to b s.to_point in absurd cc));
 }
 
+-- a move that is read of a line is of the two places that the line says
 pub pair_sound : (line : List ℕ) (e : Edit) → move_line line ≡ Ok e →
     (a : ℕ) × (b : ℕ) × IsPairLine line a b × (Move a b ≡ e)
 pair_sound line e h =
@@ -222,6 +238,7 @@ pair_sound line e h =
           )
     ]
 
+-- two places that a line says are read of it as a move
 pub pair_complete : (line : List ℕ) (a b : ℕ) → IsPairLine line a b → move_line line ≡ Ok (Move a b)
 unfolding pair_form
 pair_complete line a b s =
@@ -229,6 +246,7 @@ pair_complete line a b s =
     ∙ ap (λ (r : Result ℕ Why). move_from r (point s.to)) (point_complete s.from a s.from_point)
     ∙ ap (edit_from (Move a)) (point_complete s.to b s.to_point)
 
+-- a line that is refused for its form is not of it
 pub pair_field : (line : List ℕ) → move_line line ≡ Err Field → HasPairForm line → ⊥
 pair_field line h f =
     elim (move_field (point f.from) (point f.to) (sym (pair_reads line f) ∙ h)) [
@@ -236,6 +254,7 @@ pair_field line h f =
       | inr e ↦ point_field f.to e f.to_form
     ]
 
+-- one that is refused for its range is of the form
 pub pair_range : (line : List ℕ) → move_line line ≡ Err Range → HasPairForm line
 pair_range line h =
     elim (cut_view line (fields_of line) refl) [
@@ -251,6 +270,7 @@ pair_range line h =
           }
     ]
 
+-- a line of two places is refused for its form or for its range
 pub pair_only : (line : List ℕ) (why : Why) → move_line line ≡ Err why → (why ≡ Field) ⊎ (why ≡ Range)
 pair_only line why h =
     elim (cut_view line (fields_of line) refl) [
@@ -260,12 +280,15 @@ pair_only line why h =
 
 -- ---- the places of a line, as its fields are found
 
+-- a line with one field is not cut
 pub halves_one : (line x : List ℕ) → fields_of line ≡ x ∷ [] → halves line ≡ None
 halves_one line x a = halves_fields line (x ∷ []) a
 
+-- nor is one with two
 pub halves_two : (line x r y : List ℕ) → fields_of line ≡ x ∷ fields_of r → fields_of r ≡ y ∷ [] → halves line ≡ None
 halves_two line x r y a b = halves_fields line (x ∷ y ∷ []) (a ∙ ap (λ (fs : List (List ℕ)). x ∷ fs) b)
 
+-- nor is one with three
 pub halves_three : (line x r y q z : List ℕ) → fields_of line ≡ x ∷ fields_of r → fields_of r ≡ y ∷ fields_of q →
     fields_of q ≡ z ∷ [] → halves line ≡ None
 halves_three line x r y q z a b c =
@@ -277,6 +300,7 @@ pub record Ends (line to : List ℕ) : Type 0 where
   pub long : length to + 1 ≤ length line
   pub halves_are : halves line ≡ Some (take (length line - length to - 1) line, to)
 
+-- one with more is cut behind the third
 pub halves_at : (line x r y q z to : List ℕ) → fields_of line ≡ x ∷ fields_of r → fields_of r ≡ y ∷ fields_of q →
     fields_of q ≡ z ∷ fields_of to → Ends line to
 halves_at line x r y q z to a b c =

@@ -52,14 +52,17 @@ use Rattle.edit_files.specs.Judging.{
   edit_at,
 }
 
+-- a line with one field is no point line
 pub point_one : (line x : List ℕ) → fields_of line ≡ x ∷ [] → point line ≡ Err Field
 unfolding point
 point_one line x a = ap point_from_fields a
 
+-- nor is one with two
 pub point_two : (line x r y : List ℕ) → fields_of line ≡ x ∷ fields_of r → fields_of r ≡ y ∷ [] → point line ≡ Err Field
 unfolding point
 point_two line x r y a b = ap point_from_fields (a ∙ ap (λ (fs : List (List ℕ)). x ∷ fs) b)
 
+-- a list of fields with a byte more in front has a first one
 some_first : (t : Bool) (b : ℕ) (fs : List (List ℕ)) → (g : List ℕ) × (gs : List (List ℕ)) × (cond t ([] ∷ fs)
     (onto_first b fs) ≡ g ∷ gs)
 some_first true b fs = ([], fs, refl)
@@ -71,10 +74,12 @@ pub some_field : (line : List ℕ) → (f : List ℕ) × (fs : List (List ℕ)) 
 some_field [] = ([], [], refl)
 some_field (b ∷ bs) = some_first (eqb b 32) b (fields_of bs)
 
+-- the fields of a line, where the first three are found one after another
 joined : (line x r y q z : List ℕ) (fs : List (List ℕ)) → fields_of line ≡ x ∷ fields_of r →
     fields_of r ≡ y ∷ fields_of q → fields_of q ≡ z ∷ fs → fields_of line ≡ x ∷ y ∷ z ∷ fs
 joined line x r y q z fs a b c = cc
 
+-- a line with four fields or more is no point line
 pub point_four : (line x r y q z s : List ℕ) → fields_of line ≡ x ∷ fields_of r → fields_of r ≡ y ∷ fields_of q →
     fields_of q ≡ z ∷ fields_of s → point line ≡ Err Field
 unfolding point
@@ -83,6 +88,7 @@ point_four line x r y q z s a b c =
     ap point_from_fields (joined line x r y q z (fields_of s) a b c ∙ ap (λ (fs : List (List ℕ)). x ∷ y ∷ z ∷ fs)
     more.2)
 
+-- the point of a line with three fields is that of their numbers
 pub point_is : (line x r y q z : List ℕ) → fields_of line ≡ x ∷ fields_of r → fields_of r ≡ y ∷ fields_of q →
     fields_of q ≡ z ∷ [] → point line ≡ point_from (number x) (number y) (number z)
 unfolding point
@@ -94,6 +100,7 @@ pub third_more : (o : Option (Bor (List ℕ))) (q z : List ℕ) → MatchOption 
 third_more None q z h t = absurd cc
 third_more (Some s) q z h t = (s.now, h)
 
+-- or nothing follows it
 pub third_last : (o : Option (Bor (List ℕ))) (q z : List ℕ) → MatchOption o (fields_of q ≡ z ∷ []) (λ s. fields_of q ≡ z
     ∷ fields_of s.now) → is_some o ≡ false → fields_of q ≡ z ∷ []
 third_last None q z h t = h
@@ -107,12 +114,14 @@ edit_is v [] len space = absurd (omega arith)
 edit_is v (s ∷ []) len space = absurd (omega arith)
 edit_is v (s ∷ b ∷ rest) len space = let e : eqb b 32 ≡ true = eq-eqb b 32 space in rw e refl
 
+-- a line of fewer than two bytes is no edit line
 pub edit_short : (v : Version) (line : List ℕ) → suc (length line) ≤ 2 → edit v line ≡ Err Field
 unfolding edit
 edit_short v [] len = refl
 edit_short v (s ∷ []) len = refl
 edit_short v (s ∷ b ∷ rest) len = absurd (omega arith)
 
+-- nor is one whose second byte is no space
 pub edit_other : (v : Version) (line : List ℕ) → 2 ≤ length line → get_or line 1 0 ≢ 32 → edit v line ≡ Err Field
 unfolding edit
 edit_other v [] len space = absurd (omega arith)
@@ -124,10 +133,12 @@ pub at_equals : (v : Version) (sign : ℕ) (rest : List ℕ) → sign ≡ 61 →
     edit_at v sign rest ≡ move_of (halves rest)
 at_equals v sign rest e may = rw (e, may) refl
 
+-- in a version without moves an equals sign makes no edit
 pub at_equals_unmoved : (v : Version) (sign : ℕ) (rest : List ℕ) → sign ≡ 61 → (row v).moves ≡ false →
     edit_at v sign rest ≡ Err Field
 at_equals_unmoved v sign rest e may = rw (e, may) refl
 
+-- nor does any sign but plus, minus and the equals sign
 pub at_other : (v : Version) (sign : ℕ) (rest : List ℕ) → sign ≢ 43 → sign ≢ 45 → sign ≢ 61 →
     edit_at v sign rest ≡ Err Field
 at_other v sign rest plus minus equals =
@@ -136,10 +147,12 @@ at_other v sign rest plus minus equals =
     let e : eqb sign 61 ≡ false = ne_eqb _ _ equals in
     rw (p, m, e) refl
 
+-- a coordinate of a number is below 16384
 pub coordinate_below : (p : ℕ) → (x_of p < 16384) × (y_of p < 16384) × (z_of p < 16384)
 unfolding x_of y_of z_of
 coordinate_below p = (omega arith, omega arith, omega arith)
 
+-- a key is made of its coordinates
 pub packed_is : (p : ℕ) → IsKey p → x_of p * 268435456 + y_of p * 16384 + z_of p ≡ p
 unfolding x_of y_of z_of
 packed_is p key = omega arith
@@ -153,5 +166,6 @@ point_at_own p key =
     let d : ltb (z_of p) 16384 ≡ true = lt-ltb _ _ below.2 in
     rw (a, b, d) (ap (λ (k : ℕ). Ok k) (packed_is p key))
 
+-- a key is the point at the coordinates that it has
 pub point_at_is : (p x y z : ℕ) → x_of p ≡ x → y_of p ≡ y → z_of p ≡ z → IsKey p → point_at x y z ≡ Ok p
 point_at_is p x y z a b d key = rw (← a, ← b, ← d) (point_at_own p key)

@@ -104,6 +104,7 @@ record InList (limits : Limits) (v : Version) (front : List (List ℕ)) (line : 
   to : HasForm front line → Form
   from : Form → HasForm front line
 
+-- a line of a list that is no section word is not bad for its words
 not_for_words : (limits : Limits) (v : Version) (front : List (List ℕ)) (line : List ℕ) (full : Bool) (Form : Type 0) →
     InList limits v front line full Form → is_word v line ≡ false → IsForWords front line → ⊥
 not_for_words limits v front line full Form l w h =
@@ -116,6 +117,7 @@ not_for_words limits v front line full Form l w h =
       ]
     ]
 
+-- what is answered of a line that a list did not take is the reason why it is bad
 reason_by : (limits : Limits) (v : Version) (front : List (List ℕ)) (line : List ℕ) (full word : Bool) (Form : Type 0)
     (w : Result State Why) (why : Why)
     → InList limits v front line full Form → (w ≡ Err Field → Form → ⊥) → (w ≡ Err Range → Form) →
@@ -154,21 +156,26 @@ refused : (b : Bool) (x : State) (r : Result State Why) (why : Why) → cond b (
 refused true x r why h = absurd cc
 refused false x r why h = h
 
+-- a point that is not read, and why
 abbrev bad_point : Why → Result ℕ Why
 bad_point why = Err why
 
+-- a point that is not taken was not read, for the same reason
 point_err : (t : Content) (r : Result ℕ Why) (why : Why) → with_point t r ≡ Err why → r ≡ Err why
 point_err t (Ok p) why h = absurd cc
 point_err t (Err v) why h = ap bad_point (err_same v why h)
 
+-- so it is with an edit
 edit_err : (t : Content) (r : Result Edit Why) (why : Why) → with_edit t r ≡ Err why → r ≡ Err why
 edit_err t (Ok e) why h = absurd cc
 edit_err t (Err v) why h = ap (λ (w : Why). Err w) (err_same v why h)
 
+-- with a radius
 radius_err : (t : Content) (r : Result ℕ Why) (why : Why) → with_radius t r ≡ Err why → r ≡ Err why
 radius_err t (Ok q) why h = absurd cc
 radius_err t (Err v) why h = ap bad_point (err_same v why h)
 
+-- and with the place of a query
 query_err : (t : Content) (r : Result ℕ Why) (why : Why) → with_query t r ≡ Err why → r ≡ Err why
 query_err t (Ok q) why h = absurd cc
 query_err t (Err v) why h = ap bad_point (err_same v why h)
@@ -187,14 +194,17 @@ record IsLater (word : List ℕ) : Type 0 where
   heading : bytes_eq (codes "points") word ≡ false
   none : (line : List ℕ) → IsNone line → bytes_eq line word ≡ false
 
+-- a later word stands nowhere up to the points
 has_lead : (v : Version) (word : List ℕ) → IsLater word → (pls : List (List ℕ)) → HaveNoWord pls →
     has word (to_points v pls) ≡ false
 has_lead v word w pls z = or_from _ _ (w.none (row v).title (title_no_word v)) (or_from _ _ w.heading (has_none word
     w.none pls z))
 
+-- a word that stands in neither of two lists stands not in both together
 has_both : (word : List ℕ) (a b : List (List ℕ)) → has word a ≡ false → has word b ≡ false → has word (a ++ b) ≡ false
 has_both word a b p q = list_any-append (λ line. bytes_eq line word) a b ∙ or_from _ _ p q
 
+-- one that stands in the second stands in both together
 has_second : (word : List ℕ) (a b : List (List ℕ)) → has word b ≡ true → has word (a ++ b) ≡ true
 has_second word a b q = list_any-append (λ line. bytes_eq line word) a b ∙ or_right _ _ q
 
@@ -202,12 +212,15 @@ has_second word a b q = list_any-append (λ line. bytes_eq line word) a b ∙ or
 edits_later : IsLater (codes "edits")
 edits_later = record { heading = refl; none = λ l n. n.edits }
 
+-- the word `radii`
 radii_later : IsLater (codes "radii")
 radii_later = record { heading = refl; none = λ l n. n.radii }
 
+-- the word `queries`
 queries_later : IsLater (codes "queries")
 queries_later = record { heading = refl; none = λ l n. n.queries }
 
+-- the word `end`
 ends_later : IsLater (codes "end")
 ends_later = record { heading = refl; none = λ l n. n.end }
 
@@ -216,18 +229,23 @@ has_list : (word here : List ℕ) (lines : List (List ℕ)) → IsLater word →
     has word (here ∷ lines) ≡ false
 has_list word here lines w e z = or_from _ _ e (has_none word w.none lines z)
 
+-- how many of some lines are no section words
 abbrev counted : Version → List (List ℕ) → ℕ
 counted v lines = count_by (λ line. not (is_word v line)) lines
 
+-- the same of one line
 abbrev counts : Version → List ℕ → ℕ
 counts v line = cond (not (is_word v line)) 1 0
 
+-- of the points with their word there are as many as points
 count_points : (v : Version) (pls : List (List ℕ)) → HaveNoWord pls → counted v (codes "points" ∷ pls) ≡ length pls
 count_points v pls z = sum_by-cons (counts v) (codes "points") pls ∙ omega (arith, count_all v pls z)
 
+-- of the edits with theirs as many as edits
 count_edits : (v : Version) (els : List (List ℕ)) → HaveNoWord els → counted v (codes "edits" ∷ els) ≡ length els
 count_edits v els z = sum_by-cons (counts v) (codes "edits") els ∙ omega (arith, count_all v els z)
 
+-- of both together as many as both
 count_both : (v : Version) (pls els : List (List ℕ)) → HaveNoWord pls → HaveNoWord els →
     counted v ((codes "points" ∷ pls) ++ (codes "edits" ∷ els)) ≡ length pls + length els
 count_both v pls els p q = sum_by-append (counts v) (codes "points" ∷ pls) (codes "edits" ∷ els)
@@ -239,15 +257,18 @@ form_points : (front : List (List ℕ)) (line : List ℕ) → has (codes "querie
     HasPointForm line) × (HasPointForm line → HasForm front line)
 form_points front line q r e = (λ h. rw (q, r, e) at h, λ f. rw (q, r, e) f)
 
+-- behind the edits' word the form of an edit line of the version
 form_edits : (v : Version) (front : List (List ℕ)) (line : List ℕ) → version_in front ≡ v →
     has (codes "queries") front ≡ false → has (codes "radii") front ≡ false → has (codes "edits") front ≡ true →
     (HasForm front line → HasEditForm v line) × (HasEditForm v line → HasForm front line)
 form_edits v front line t q r e = (λ h. rw (t, q, r, e) at h, λ f. rw (t, q, r, e) f)
 
+-- behind the radii's a number
 form_radii : (front : List (List ℕ)) (line : List ℕ) → has (codes "queries") front ≡ false →
     has (codes "radii") front ≡ true → (HasForm front line → IsNumber line) × (IsNumber line → HasForm front line)
 form_radii front line q r = (λ h. rw (q, r) at h, λ f. rw (q, r) f)
 
+-- behind the queries' the form of a point line
 form_queries : (front : List (List ℕ)) (line : List ℕ) → has (codes "queries") front ≡ true → (HasForm front line →
     HasPointForm line) × (HasPointForm line → HasForm front line)
 form_queries front line q = (λ h. rw q at h, λ f. rw q f)
@@ -264,6 +285,7 @@ record Known {limits : Limits} {front : List (List ℕ)} {place : Place} {t : Co
   radii : HaveNoWord k.radii
   queries : HaveNoWord k.queries
 
+-- the lines that lead to a place say so
 known : {limits : Limits} {front : List (List ℕ)} {place : Place} {t : Content} (k : Leads limits front place t) →
     Known k
 known {t = t} k = record {
@@ -290,6 +312,7 @@ no_last {t = t} k word w e r =
     has_both word (to_edits t.version k.points k.edits) (codes "radii" ∷ k.radii) (no_later k word w e) (has_list word
     (codes "radii") k.radii w r (known k).radii)
 
+-- the points as such a list, full where there are as many points and edits as the limits say
 in_points : (limits : Limits) (front : List (List ℕ)) (t : Content) (line : List ℕ) →
     Leads limits front places.Points t → InList limits t.version front line (leb limits.lines (length t.points + length
     t.edits)) (HasPointForm line)
@@ -326,6 +349,7 @@ in_points limits front t line k =
       from = form.1;
     }
 
+-- the edits, which share these limits
 in_edits : (limits : Limits) (front : List (List ℕ)) (t : Content) (line : List ℕ) → Leads limits front places.Edits t →
     InList limits t.version front line (leb limits.lines (length t.points + length t.edits)) (HasEditForm t.version
     line)
@@ -360,6 +384,7 @@ in_edits limits front t line k =
       from = form.1;
     }
 
+-- the radii, full at 16
 in_radii : (limits : Limits) (front : List (List ℕ)) (t : Content) (line : List ℕ) → Leads limits front places.Radii t →
     InList limits t.version front line (leb radius_limit (length t.radii)) (IsNumber line)
 in_radii limits front t line k =
@@ -393,6 +418,7 @@ in_radii limits front t line k =
       from = form.1;
     }
 
+-- the queries, full at 65,536
 in_queries : (limits : Limits) (front : List (List ℕ)) (t : Content) (line : List ℕ) →
     Leads limits front places.Queries t → InList limits t.version front line (leb query_limit (length t.queries))
     (HasPointForm line)
@@ -433,12 +459,14 @@ word_err : (b : Bool) (x : State) (why : Why) → cond b (Ok x) (Err Section) �
 word_err true x why h = absurd cc
 word_err false x why h = err_same Section why h
 
+-- a first line that tells no version, or one after the newest, is bad as a section
 title_err : (newest : Version) (t : Content) (o : Option Version) (why : Why) → with_title newest t o ≡ Err why →
     Section ≡ why
 title_err newest t None why h = err_same Section why h
 title_err newest t (Some v) why h = word_err (leb (row v).number (row newest).number) (at places.Heading
     (of_version v t)) why h
 
+-- at each place the reason that is answered is why the line is bad
 reason_at : (limits : Limits) (front : List (List ℕ)) (place : Place) (t : Content) (line : List ℕ) (why : Why) →
     Leads limits front place t → step_at limits place t line ≡ Err why → IsReason limits front line why
 reason_at limits front places.Title t line why k h =

@@ -72,12 +72,15 @@ use Rattle.edit_files.proofs.DecidedEdits.{edits_decided, radii_decided}
 use Rattle.edit_files.proofs.Completes.{at, of_version, more_points, more_edits, more_radii, more_queries}
 use Rattle.edit_files.proofs.Fronts.{Leads, to_points, to_edits, to_radii}
 
+-- what the test takes for one is one line
 same : (line word : List ℕ) → bytes_eq line word ≡ true → line ≡ word
 same line word t = (bytes_eq-Decides line word).0 t
 
+-- a state to which a step led
 abbrev went : State → Result State Why
 went s = Ok s
 
+-- it led to one state
 state_same : (x s : State) → went x ≡ went s → x ≡ s
 state_same x s h = cc
 
@@ -92,32 +95,38 @@ pub record Listed (v : Version) (line : List ℕ) (full : Bool) (w : Result Stat
   pub room : full ≡ false
   pub taken : w ≡ Ok s
 
+-- a line of a list that is no word, with room in the list, was taken
 listed_ok : (v : Version) (word : Bool) (line : List ℕ) (full : Bool) (w : Result State Why) (s : State) →
     is_word v line ≡ word → cond word (Err Section) (cond full (Err TooMany) w) ≡ Ok s → Listed v line full w s
 listed_ok v true line full w s e h = absurd cc
 listed_ok v false line true w s e h = absurd cc
 listed_ok v false line false w s e h = record { word = e; room = refl; taken = h }
 
+-- what was taken in a list is the word that ends it, or a line of it
 list_ok : (v : Version) (b : Bool) (x : State) (line : List ℕ) (full : Bool) (w : Result State Why) (s : State) →
     cond b (Ok x) (listed v line full w) ≡ Ok s → ((b ≡ true) × (x ≡ s)) ⊎ Listed v line full w s
 list_ok v true x line full w s h = inl (refl, state_same x s h)
 list_ok v false x line full w s h = inr (listed_ok v (is_word v line) line full w s refl h)
 
+-- a point that was taken was read, and stands behind the others
 point_ok : (t : Content) (r : Result ℕ Why) (s : State) → with_point t r ≡ Ok s →
     (p : ℕ) × (r ≡ Ok p) × (at places.Points (more_points t (p ∷ [])) ≡ s)
 point_ok t (Ok p) s h = (p, refl, state_same _ s h)
 point_ok t (Err why) s h = absurd cc
 
+-- so it is with an edit
 edit_ok : (t : Content) (r : Result Edit Why) (s : State) → with_edit t r ≡ Ok s →
     (e : Edit) × (r ≡ Ok e) × (at places.Edits (more_edits t (e ∷ [])) ≡ s)
 edit_ok t (Ok e) s h = (e, refl, state_same _ s h)
 edit_ok t (Err why) s h = absurd cc
 
+-- with a radius
 radius_ok : (t : Content) (r : Result ℕ Why) (s : State) → with_radius t r ≡ Ok s →
     (q : ℕ) × (r ≡ Ok q) × (at places.Radii (more_radii t (q ∷ [])) ≡ s)
 radius_ok t (Ok q) s h = (q, refl, state_same _ s h)
 radius_ok t (Err why) s h = absurd cc
 
+-- and with the place of a query
 query_ok : (t : Content) (r : Result ℕ Why) (s : State) → with_query t r ≡ Ok s →
     (q : ℕ) × (r ≡ Ok q) × (at places.Queries (more_queries t (q ∷ [])) ≡ s)
 query_ok t (Ok q) s h = (q, refl, state_same _ s h)
@@ -125,9 +134,11 @@ query_ok t (Err why) s h = absurd cc
 
 -- ---- the first line
 
+-- a version that a line tells
 abbrev told : Version → Option Version
 told v = Some v
 
+-- it tells one version
 told_same : (v w : Version) → told v ≡ told w → v ≡ w
 told_same v w h = cc
 
@@ -149,6 +160,7 @@ title_is line w = by (bytes_eq line (row One).title) (bytes_eq line (row Two).ti
     by false false false true p q r s h = is Four s h
     by false false false false p q r s h = absurd cc
 
+-- a first line that was taken tells a version that is none after the newest
 title_ok : (newest : Version) (t : Content) (o : Option Version) (s : State) → with_title newest t o ≡ Ok s
     → (w : Version) × (o ≡ Some w) × ((row w).number ≤ (row newest).number) × (at places.Heading (of_version w t) ≡ s)
 title_ok newest t None s h = absurd cc
@@ -168,9 +180,11 @@ none_said R S [] [] e z = tt
 none_said R S [] (v ∷ vs) e z = absurd z
 none_said R S (l ∷ ls) vs e z = absurd cc
 
+-- lines lead to a state
 abbrev LeadsTo : Limits → List (List ℕ) → State → Type 0
 LeadsTo limits front s = Leads limits front s.place s.taken
 
+-- the title leads from the start to the word `points`, in its version
 to_heading : (limits : Limits) (front : List (List ℕ)) (t : Content) (w : Version) (line : List ℕ) →
     Leads limits front places.Title t → line ≡ (row w).title → IsWithinNewest limits w →
     Leads limits (front ++ line ∷ []) places.Heading (of_version w t)
@@ -192,6 +206,7 @@ to_heading limits front t w line k e le = record {
   query_count = k.query_count;
 }
 
+-- the word `points` leads to the points
 at_points : (limits : Limits) (front : List (List ℕ)) (t : Content) (line : List ℕ) →
     Leads limits front places.Heading t → line ≡ codes "points" → Leads limits (front ++ line ∷ []) places.Points t
 at_points limits front t line k e = record {
@@ -214,6 +229,7 @@ at_points limits front t line k e = record {
   query_count = k.query_count;
 }
 
+-- the word `edits` to the edits
 at_edits : (limits : Limits) (front : List (List ℕ)) (t : Content) (line : List ℕ) →
     Leads limits front places.Points t → line ≡ codes "edits" → Leads limits (front ++ line ∷ []) places.Edits t
 at_edits limits front t line k e = record {
@@ -236,6 +252,7 @@ at_edits limits front t line k e = record {
   query_count = k.query_count;
 }
 
+-- the word `radii` to the radii
 at_radii : (limits : Limits) (front : List (List ℕ)) (t : Content) (line : List ℕ) → Leads limits front places.Edits t →
     line ≡ codes "radii" → Leads limits (front ++ line ∷ []) places.Radii t
 at_radii limits front t line k e = record {
@@ -258,6 +275,7 @@ at_radii limits front t line k e = record {
   query_count = k.query_count;
 }
 
+-- in a version with queries the word `queries` leads to the queries
 at_queries : (limits : Limits) (front : List (List ℕ)) (t : Content) (line : List ℕ) →
     Leads limits front places.Radii t → (row t.version).queries ≡ true → line ≡ codes "queries" →
     Leads limits (front ++ line ∷ []) places.Queries t
@@ -281,12 +299,15 @@ at_queries limits front t line k has e = record {
   query_count = k.query_count;
 }
 
+-- in a version without them the section of queries is empty
 no_section : (v : Version) (qls : List (List ℕ)) → (row v).queries ≡ false → [] ≡ query_section v qls
 no_section v qls has = rw has refl
 
+-- in one with them it is its word and its lines
 section : (v : Version) (qls : List (List ℕ)) → (row v).queries ≡ true → codes "queries" ∷ qls ≡ query_section v qls
 section v qls has = rw has refl
 
+-- in a version without queries the word `end` leads from the radii to the end
 at_end_plain : (limits : Limits) (front : List (List ℕ)) (t : Content) (line : List ℕ) →
     Leads limits front places.Radii t → (row t.version).queries ≡ false → line ≡ codes "end" →
     Leads limits (front ++ line ∷ []) places.End t
@@ -313,6 +334,7 @@ at_end_plain limits front t line k has e = record {
   query_count = k.query_count;
 }
 
+-- in one with them it does so from the queries
 at_end : (limits : Limits) (front : List (List ℕ)) (t : Content) (line : List ℕ) → Leads limits front places.Queries t →
     line ≡ codes "end" → Leads limits (front ++ line ∷ []) places.End t
 at_end limits front t line k e = record {
@@ -343,6 +365,7 @@ at_behind : (limits : Limits) (front : List (List ℕ)) (t : Content) (line : Li
 at_behind limits front t line true has k e = at_queries limits front t line k has e
 at_behind limits front t line false has k e = at_end_plain limits front t line k has e
 
+-- a point line leads on among the points, with that point more
 more_point : (limits : Limits) (front : List (List ℕ)) (t : Content) (line : List ℕ) (p : ℕ) →
     Leads limits front places.Points t → IsPointLine line p → length t.points + length t.edits < limits.lines →
     Leads limits (front ++ line ∷ []) places.Points (more_points t (p ∷ []))
@@ -369,6 +392,7 @@ more_point limits front t line p k says lt = record {
   query_count = k.query_count;
 }
 
+-- an edit line among the edits
 more_edit : (limits : Limits) (front : List (List ℕ)) (t : Content) (line : List ℕ) (e : Edit) →
     Leads limits front places.Edits t → IsEditLine t.version line e → length t.points + length t.edits < limits.lines →
     Leads limits (front ++ line ∷ []) places.Edits (more_edits t (e ∷ []))
@@ -396,6 +420,7 @@ more_edit limits front t line e k says lt = record {
   query_count = k.query_count;
 }
 
+-- a radius line among the radii
 more_radius : (limits : Limits) (front : List (List ℕ)) (t : Content) (line : List ℕ) (r : ℕ) →
     Leads limits front places.Radii t → IsRadiusLine t.version line r → length t.radii < radius_limit →
     Leads limits (front ++ line ∷ []) places.Radii (more_radii t (r ∷ []))
@@ -423,6 +448,7 @@ more_radius limits front t line r k says lt = record {
   query_count = k.query_count;
 }
 
+-- and a query's line among the queries
 more_query : (limits : Limits) (front : List (List ℕ)) (t : Content) (line : List ℕ) (q : ℕ) →
     Leads limits front places.Queries t → IsPointLine line q → length t.queries < query_limit →
     Leads limits (front ++ line ∷ []) places.Queries (more_queries t (q ∷ []))
@@ -450,6 +476,7 @@ more_query limits front t line q k says lt = record {
   );
 }
 
+-- at each place a line that is taken leads on
 leads_at : (limits : Limits) (front : List (List ℕ)) (place : Place) (t : Content) (line : List ℕ) (s : State) →
     Leads limits front place t → step_at limits place t line ≡ Ok s → LeadsTo limits (front ++ line ∷ []) s
 leads_at limits front places.Title t line s k h =

@@ -8,11 +8,13 @@ use Rattle.edit_files.specs.Content.{Content}
 use Rattle.edit_files.specs.Grammar.{Limits}
 use Rattle.edit_files.specs.Judging.{State, step, judge, go_on, ended, refused_at, Refuses, Fails}
 
+-- a line is judged, and then those behind it
 judge_cons : (limits : Limits) (n : ℕ) (s : State) (line : List ℕ) (rest : List (List ℕ)) →
     judge limits n s (line ∷ rest) ≡ go_on n (step limits s line) (λ t. judge limits (n + 1) t rest)
 unfolding judge
 judge_cons limits n s line rest = refl
 
+-- where no line is left, the end is judged
 judge_nil : (limits : Limits) (n : ℕ) (s : State) → judge limits n s [] ≡ ended n s.place s.taken
 unfolding judge
 judge_nil limits n s = refl

@@ -47,6 +47,7 @@ use Rattle.edit_files.proofs.Numerals.{
 
 -- ---- digits
 
+-- a byte whose value is below 10 is a digit, and the value is how far it is above the byte of 0
 digit_test : (c : ℕ) → digit_value c < 10 → (is_ascii_digit c ≡ true) × (digit_value c ≡ c - 48)
 digit_test c h =
     let within = digit_from_value c h in
@@ -56,6 +57,7 @@ digit_test c h =
     let below : ltb c 58 ≡ true = lt-ltb c 58 (omega (arith, within.1)) in
     (and_from (leb 48 c) (leb c 57) low high, rw (above, below) refl)
 
+-- a byte that is a digit has a value below 10
 digit_from_test : (c : ℕ) → is_ascii_digit c ≡ true → digit_value c < 10
 digit_from_test c h =
     let parts = and_parts (leb 48 c) (leb c 57) h in
@@ -82,6 +84,7 @@ kept_far n ds =
           omega arith
     ]
 
+-- of digits behind others the value is read, or `far` where it is more
 digits_from_all : (n : ℕ) (ds : List ℕ) → n ≤ far → AllDigits 10 ds →
     digits_from n ds ≡ Some (min (digits_value_after 10 n ds) far)
 digits_from_all n [] le all = digits_from_nil n ∙ ap (λ (m : ℕ). Some m) (omega arith)
@@ -94,6 +97,7 @@ digits_from_all n (c ∷ cs) le all =
     digits_from_digit n c cs test.0 ∙ rest ∙ ap (λ (v : ℕ). Some v) (kept_far m cs
     ∙ ap (λ (v : ℕ). min (digits_value_after 10 v cs) far) same)
 
+-- where a value is read of bytes behind others, all of them are digits
 digits_from_some : (n : ℕ) (ds : List ℕ) (v : ℕ) → digits_from n ds ≡ Some v → AllDigits 10 ds
 digits_from_some n [] v h = tt
 digits_from_some n (c ∷ cs) v h =
@@ -106,9 +110,11 @@ digits_from_some n (c ∷ cs) v h =
       | inr isnt ↦ let e : digits_from n (c ∷ cs) ≡ None = digits_from_other n c cs isnt in absurd cc
     ]
 
+-- of a numeral the value is read, or `far` where it is more
 digits_all : (ds : List ℕ) → IsNumeral 10 ds → digits ds ≡ Some (min (digits_value 10 ds) far)
 digits_all ds h = digits_is ds h.0 ∙ digits_from_all 0 ds (omega arith) h.1
 
+-- bytes of which a value is read are a numeral
 digits_some : (ds : List ℕ) (v : ℕ) → digits ds ≡ Some v → IsNumeral 10 ds
 digits_some [] v h = let e : digits [] ≡ None = digits_nil in absurd cc
 digits_some (c ∷ cs) v h = (omega arith, digits_from_some 0 (c ∷ cs) v (sym (digits_is (c ∷ cs) (omega arith)) ∙ h))
@@ -120,6 +126,7 @@ abbrev pub reading : List ℕ → ℕ
 reading bs = cond (starts_with_minus bs && ltb 0 (min (digits_value 10 (after_minus bs)) far)) far
     (min (digits_value 10 (after_minus bs)) far)
 
+-- of a number just that is read
 pub number_read : (bs : List ℕ) → IsNumber bs → number bs ≡ Some (reading bs)
 number_read bs h = number_is bs (min (digits_value 10 (after_minus bs)) far) (digits_all (after_minus bs) h)
 
@@ -128,11 +135,13 @@ some_digits : (o : Option ℕ) (minus : Bool) (n : ℕ) → signed minus o ≡ S
 some_digits None minus n h = absurd cc
 some_digits (Some v) minus n h = (v, refl)
 
+-- bytes of which a number is read are a number
 pub number_some : (bs : List ℕ) (n : ℕ) → number bs ≡ Some n → IsNumber bs
 unfolding number
 number_some bs n h = let d = some_digits (digits (after_minus bs)) (starts_with_minus bs) n h in digits_some
     (after_minus bs) d.0 d.1
 
+-- bytes of which none is read are none
 pub number_none_not : (bs : List ℕ) → number bs ≡ None → IsNumber bs → ⊥
 number_none_not bs h is = let e = number_read bs is in absurd cc
 
@@ -148,6 +157,7 @@ reading_value true v n h lt =
     ]
 reading_value false v n h lt = (omega arith, λ t. absurd cc)
 
+-- and a value below the bound is the reading
 value_reading : (minus : Bool) (v n : ℕ) → v ≡ n → (minus ≡ true → n ≡ 0) → n < far →
     cond (minus && ltb 0 (min v far)) far (min v far) ≡ n
 value_reading true v n e z lt =
@@ -155,11 +165,13 @@ value_reading true v n e z lt =
     rw none (omega arith)
 value_reading false v n e z lt = omega arith
 
+-- the number of bytes, if below the bound, is read of them
 pub number_of : (bs : List ℕ) (n : ℕ) → IsNumberOf bs n → n < far → number bs ≡ Some n
 number_of bs n h lt =
     number_read bs h.number ∙ ap (λ (m : ℕ). Some m) (value_reading (starts_with_minus bs) (digits_value 10
     (after_minus bs)) n h.value h.minus lt)
 
+-- and what is read below the bound is their number
 pub of_number : (bs : List ℕ) (n : ℕ) → number bs ≡ Some n → n < far → IsNumberOf bs n
 of_number bs n h lt =
     let is : IsNumber bs = number_some bs n h in

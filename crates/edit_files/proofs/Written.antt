@@ -54,6 +54,7 @@ pub no_minus : (ds : List ℕ) → IsNumeral 10 ds → starts_with_minus ds ≡ 
 no_minus [] h = absurd (omega (arith, h.0))
 no_minus (c ∷ cs) h = let w = digit_from_value c h.1.0 in ne_eqb c 45 (λ e. absurd (omega (arith, w.0)))
 
+-- what is written of a number below 2^64 is that number
 pub decimal_is : (n : ℕ) → n < 2 ^ 64 → IsNumberOf (decimal n) n
 decimal_is n lt =
     let d = decimal_is_IsNumeral n lt in
@@ -65,6 +66,7 @@ decimal_is n lt =
       minus = λ t. absurd (both_ways _ plain t);
     }
 
+-- what is written of a key says the point
 pub point_line : (p : ℕ) → IsKey p → IsPointLine (point_text p) p
 point_line p key =
     let below = coordinate_below p in
@@ -79,6 +81,7 @@ point_line p key =
       key = key;
     }
 
+-- what is written of an edit that the version may hold says the edit
 edit_line : (v : Version) (e : Edit) → IsEditOf v e → IsEditLine v (edit_text e) e
 edit_line v (Add p) k = (point_text p, refl, point_line p k.0)
 edit_line v (Take p) k = (point_text p, refl, point_line p k.0)
@@ -95,6 +98,7 @@ edit_line v (Move a b) k = (
   },
 )
 
+-- what is written of a radius in range says the radius
 radius_line : (v : Version) (r : ℕ) → r < (row v).radius_end → IsRadiusLine v (decimal r) r
 radius_line v r lt = (decimal_is r (omega (arith, lt, end_far v)), lt)
 
@@ -103,6 +107,7 @@ none_written : (v : Version) (queries : List ℕ) → ((row v).queries ≡ false
     map point_text queries ≡ []
 none_written v queries h none = ap (map point_text) (h none)
 
+-- the text that is written of a file within the limits is of that file
 pub written_is_file : (limits : Limits) (f : Content) → IsWithin limits f → IsFile limits (file_text f) f
 written_is_file limits f w = text_is_file limits (file_lines f) f (record {
   version = w.version;
@@ -122,16 +127,19 @@ written_is_file limits f w = text_is_file limits (file_lines f) f (record {
   query_count = omega (arith, w.query_count, length-map f.queries point_text);
 })
 
+-- an edit that a line says is one that the version may hold
 edit_key : (v : Version) (line : List ℕ) (e : Edit) → IsEditLine v line e → IsEditOf v e
 edit_key v line (Add p) s = (s.2.key, λ moves. absurd cc)
 edit_key v line (Take p) s = (s.2.key, λ moves. absurd cc)
 edit_key v line (Move a b) s = ((s.3.from_point.key, s.3.to_point.key), λ moves. s.2)
 
+-- no lines say no queries
 none_read : (lines : List (List ℕ)) (queries : List ℕ) → AllZip IsPointLine lines queries → lines ≡ [] → queries ≡ []
 none_read [] [] z e = refl
 none_read [] (q ∷ queries) z e = absurd z
 none_read (l ∷ lines) queries z e = absurd cc
 
+-- the file that a text is of is within the limits
 pub file_is_within : (limits : Limits) (bytes : List ℕ) (f : Content) → IsFile limits bytes f → IsWithin limits f
 file_is_within limits bytes f k = record {
   version = k.version;
@@ -154,11 +162,13 @@ file_is_within limits bytes f k = record {
 
 -- ---- the text, list by list
 
+-- the text of two lists of lines is that of the first and then that of the second
 text_of_append : (a b : List (List ℕ)) → text_of (a ++ b) ≡ text_of a ++ text_of b
 text_of_append [] b = refl
 text_of_append (l ∷ a) b = ap (λ (t : List ℕ). l ++ 10 ∷ t) (text_of_append a b)
     ∙ sym (append_assoc l (10 ∷ text_of a) (text_of b))
 
+-- so it is with a word between them
 pushed : (a : List (List ℕ)) (word : List ℕ) (b : List (List ℕ)) → text_of a ++ text_of (word ∷ []) ++ text_of b ≡
     text_of (a ++ word ∷ b)
 pushed a word b =

@@ -32,18 +32,22 @@ use Rattle.edit_history.specs.Opening.{Four}
 use Rattle.edit_history.specs.PassedOver.{is_kept, kept}
 use Rattle.edit_history.proofs.OpeningSolid.{no_second, no_third, at_fourth}
 
+-- a mapped option has a value exactly where it had one
 some_mapped : {X Y : Type 0} (f : X → Y) (o : Option X) → is_some (option_map f o) ≡ is_some o
 some_mapped f None = refl
 some_mapped f (Some x) = refl
 
 -- the given point stands before the list, and is kept
 module _ (b : ℕ) (absent : Option ℕ) (s : List ℕ) (is_b : is_kept absent b ≡ true) where
+  -- the list with the given point in front
   abbrev all : List ℕ
   all = b ∷ s
 
+  -- the first point that is kept is the given one, at place 0
   first : position_from (is_kept absent) 0 all ≡ Some 0
   first = rw is_b refl
 
+  -- the longer list is solid exactly where the given point and the kept points of the list are
   same : is_solid (kept absent all) ≡ is_solid (b ∷ kept absent s)
   same = rw is_b refl
 
@@ -61,6 +65,7 @@ module _ (b : ℕ) (absent : Option ℕ) (s : List ℕ) (is_b : is_kept absent b
     third_at j k q r = λ i. position_from (λ d. is_kept absent d && not (is_collinear b (slice_index all (q i)) d)) 0
         (drop (r i) all)
 
+    -- the search off the line of b and c answers for the longer list what it answers behind place m of the list
     third_found : (o : Option ℕ) → o ≡ position_from (λ d. is_kept absent d && not (is_collinear b c d)) 0
         (take (length s - (m + 1)) (drop (m + 1) s))
         → position_from (λ d. is_kept absent d && not (is_collinear (slice_index all 0) (slice_index all (0 + 1 + m))
@@ -68,6 +73,7 @@ module _ (b : ℕ) (absent : Option ℕ) (s : List ℕ) (is_b : is_kept absent b
     third_found o e = third_at (0 + 1 + m) (0 + 1 + m + 1) (omega arith) (omega arith) ∙ sym
         (e ∙ rw (take_rest s (m + 1), c_is) refl)
 
+    -- the second point, at its place in the longer list, is a key
     key_at : IsKey (slice_index all (0 + 1 + m))
     key_at = let q : suc m ≡ 0 + 1 + m = omega arith in subst (λ (k : ℕ). IsKey (slice_index all k)) q key_c
 
@@ -78,9 +84,11 @@ module _ (b : ℕ) (absent : Option ℕ) (s : List ℕ) (is_b : is_kept absent b
 
     module _ (n d : ℕ) (third : Some n ≡ position_from (λ d. is_kept absent d && not (is_collinear b c d)) 0
         (take (length s - (m + 1)) (drop (m + 1) s))) (d_is : d ≡ slice_index s (m + 1 + n)) where
+      -- the place of the third point in the list
       abbrev l : ℕ
       l = m + 1 + n
 
+      -- where the last search looks, seen from the longer list
       fourth_at : (j k n : ℕ) → j ≡ suc m → k ≡ suc l → n ≡ suc (l + 1) →
           position_from (λ x. is_kept absent x && not (is_flat b (slice_index all j) (slice_index all k) x)) 0
           (drop n all)
@@ -89,6 +97,7 @@ module _ (b : ℕ) (absent : Option ℕ) (s : List ℕ) (is_b : is_kept absent b
       fourth_at j k n q r t = λ i. position_from (λ x. is_kept absent x && not
           (is_flat b (slice_index all (q i)) (slice_index all (r i)) x)) 0 (drop (t i) all)
 
+      -- the search off the plane of b, c and d answers for the longer list what it answers behind place l of the list
       fourth_found : (o : Option ℕ) → o ≡ position_from (λ x. is_kept absent x && not (is_flat b c d x)) 0
           (take (length s - (l + 1)) (drop (l + 1) s))
           → position_from (λ x. is_kept absent x && not (is_flat (slice_index all 0) (slice_index all (0 + 1 + m))

@@ -12,11 +12,14 @@ abbrev pub set_after : List ℕ → List (ℕ × Edit) → List ℕ
 set_after s [] = s
 set_after s (line ∷ lines) = set_after (after s line.1) lines
 
+-- there is one entry for each line
 pub length_entries : (n : ℕ) (s : List ℕ) (lines : List (ℕ × Edit)) → length (entries_from n s lines) ≡ length lines
 length_entries n s [] = refl
 length_entries n s (x ∷ lines) = ap suc (length_entries (n + 1) (after s x.1) lines)
 
-pub replay_is : (n : ℕ) (s : List ℕ) (lines : List (ℕ × Edit)) → replay_from s (entries_from n s lines) ≡ set_after s lines
+-- the entries of lines leave what the lines leave
+pub replay_is : (n : ℕ) (s : List ℕ) (lines : List (ℕ × Edit)) → replay_from s (entries_from n s lines)
+    ≡ set_after s lines
 replay_is n s [] = refl
 replay_is n s (x ∷ lines) = replay_is (n + 1) (after s x.1) lines
 

@@ -30,6 +30,7 @@ in_moved a b p s n (inr i) =
     filtered_true (λ q. not (q == a)) (with_point b s) p (in_with_old b p s (in_filtered (λ q. not (q == a)) s p i))
     (passes (λ q. not (q == a)) s p i)
 
+-- and no other: each is b, or is of the set without a
 from_moved : (a b p : ℕ) (s : List ℕ) → IsIn p (moved_to a b s) → (b ≡ p) ⊎ IsIn p (without_point a s)
 from_moved a b p s i =
     elim (in_with b p s (in_filtered (λ q. not (q == a)) (with_point b s) p i)) [
@@ -73,6 +74,7 @@ pub record HasMoved (a b : ℕ) (s : List ℕ) : Type 0 where
   pub free : is_among b s ≡ false
   pub solid : is_solid (moved_to a b s) ≡ true
 
+-- a move with the reply Moved is of that kind
 pub has_moved : (a b : ℕ) (s : List ℕ) → reply_to s (Move a b) ≡ Moved → HasMoved a b s
 has_moved a b s e = by (is_among a s) (is_among b s) (is_solid (moved_to a b s)) refl refl refl e
   where

@@ -7,7 +7,8 @@ use Rattle.edit_history.specs.Edits.{reply_to, after}
 use Rattle.edit_history.specs.Histories.{replay_from, IsLegalFrom}
 
 -- what it leaves
-pub replay_more : (s : List ℕ) (h : List Entry) (e : Entry) → replay_from s (h ++ e ∷ []) ≡ after (replay_from s h) e.edit
+pub replay_more : (s : List ℕ) (h : List Entry) (e : Entry) → replay_from s (h ++ e ∷ [])
+    ≡ after (replay_from s h) e.edit
 replay_more s [] e = refl
 replay_more s (d ∷ h) e = replay_more (after s d.edit) h e
 
@@ -16,7 +17,8 @@ pub legal_more :
     (n : ℕ) (s : List ℕ) (h : List Entry) (e : Entry) → IsLegalFrom n s h → e.number ≡ n + length h →
     e.reply ≡ reply_to (replay_from s h) e.edit → IsLegalFrom n s (h ++ e ∷ [])
 legal_more n s [] e l number reply = (omega (arith, number), reply, tt)
-legal_more n s (d ∷ h) e l number reply = (l.0, l.1, legal_more (n + 1) (after s d.edit) h e l.2 (omega (arith, number)) reply)
+legal_more n s (d ∷ h) e l number reply =
+    (l.0, l.1, legal_more (n + 1) (after s d.edit) h e l.2 (omega (arith, number)) reply)
 
 -- the number of each entry is below the length
 pub number_below :

@@ -86,6 +86,7 @@ fn three_beside(b: Point, absent: Option<Point>, points: &[Point]) -> Option<usi
     requires { is_kept_of absent b ≡ true }
     ensures { is_some result ≡ is_solid (b ∷ kept absent points.now) }
 {
+    // Nothing is read: the call promises that b is a key.
     let _ = b.key();
     let i = first_distinct(absent, points, b)?;
     let c = point_at(points, i);
@@ -101,6 +102,7 @@ fn point_at(points: &[Point], index: usize) -> Point
     ensures key { IsKey (slice_index points.now index) }
 {
     let p = points[index];
+    // Nothing is read: the call promises that the point is a key.
     let _ = p.key();
     p
 }

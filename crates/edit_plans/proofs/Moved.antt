@@ -71,13 +71,16 @@ stays_after : (s : List ℕ) (a b : ℕ) (r : Reply) → reply_to s (Move a b) �
     changed (arrived s (Move a b) r) a r ≡ s → after s (Move a b) ≡ s
 stays_after s a b r right same = ap (λ (x : Reply). changed (arrived s (Move a b) x) a x) right ∙ same
 
+-- a move of a point that is not there is Missing
 missing_reply : (s : List ℕ) (a b : ℕ) → is_among a s ≡ false → reply_to s (Move a b) ≡ Missing
 missing_reply s a b f = rw f refl
 
+-- one to a place where a point is is Occupied
 occupied_reply : (s : List ℕ) (a b : ℕ) → is_among a s ≡ true → is_among b s ≡ true →
     reply_to s (Move a b) ≡ Occupied
 occupied_reply s a b f g = rw (f, g) refl
 
+-- one that would leave a flat set is Flat
 flat_reply : (s : List ℕ) (a b : ℕ) → is_among a s ≡ true → is_among b s ≡ false →
     is_solid (moved_to a b s) ≡ false → reply_to s (Move a b) ≡ Flat
 flat_reply s a b f g h = rw (f, g, h) refl
@@ -112,6 +115,7 @@ plan_occupied hold s a b plan q key goal home there f g =
 
 -- ---- the new place
 
+-- once the new place's change is known, the look finds it beside the old one
 pub lands_beside : (hold : InHand) (s : List ℕ) (a b : ℕ) (arrival : Arrival) (t : ArrivalTurn) (f : Fresh) →
     Shows hold s → IsPlannerIn hold s (Landing a b arrival) → t ≡ Comes f → ArrivalGives hold s b t →
     LookGives hold s (Move a b) (Beside (record { from = a; to = b; came = f }))
@@ -129,6 +133,7 @@ lands_beside hold s a b arrival t f sh k is gives =
       },
     )
 
+-- a bucket that the new place needs is asked for
 pub lands_asks : (hold : InHand) (s : List ℕ) (a b x : ℕ) (arrival next : Arrival) (t : ArrivalTurn) →
     IsPlannerIn hold s (Landing a b arrival) → t ≡ Wants x next → ArrivalGives hold s b t →
     IsAsked hold s (Move a b) x (Landing a b next)
@@ -138,9 +143,11 @@ lands_asks hold s a b x arrival next t k is gives =
 
 -- ---- what both changes make of the set
 
+-- the new place of a move that has landed is free
 free_of : (s : List ℕ) (l : Landed) → IsLandedFor s l → is_among l.to s ≡ false
 free_of s l k = false_if (is_among l.to s) (λ t. k.new.absent (among_from l.to s t))
 
+-- its plan is both changes together
 made_for : (s : List ℕ) (l : Landed) (left : Fresh) (plan : Plan) → IsLandedFor s l →
     IsRefilled (with_point l.to s) l.from left.gone.items left.fresh.items → AreBoth l.came left plan →
     IsPlanFor s (Move l.from l.to) plan
@@ -154,6 +161,7 @@ made_for s l left plan k r both =
           (both.change (complex s) (complex (with_point l.to s)) (complex (moved_to l.from l.to s)) k.change r.change);
     }
 
+-- where the rest would be flat the move is Flat
 flat_for : (s : List ℕ) (l : Landed) → IsLandedFor s l → is_solid (moved_to l.from l.to s) ≡ false →
     reply_to s (Move l.from l.to) ≡ Flat
 flat_for s l k f = flat_reply s l.from l.to (among_true l.from s k.there) (free_of s l k) f
@@ -163,6 +171,7 @@ abbrev pub IsDoneFor : List ℕ → Landed → PlanTurn → Type 0
 IsDoneFor s l (Done plan) = IsPlanFor s (Move l.from l.to) plan
 IsDoneFor s l (Need b next) = ⊥
 
+-- so the move comes to what the refill says
 pub done_for : (mid : InHand) (s : List ℕ) (l : Landed) (found : RefillTurn) (turn : PlanTurn) → IsLandedFor s l →
     RefillGives mid (with_point l.to s) l.from found → AsksNothing found → IsMovedBy l found turn → IsDoneFor s l turn
 done_for mid s l (Fills f) (Done plan) k g n m = made_for s l f plan k g.1 m
@@ -174,6 +183,7 @@ done_for mid s l (Lacks b) turn k g n m = absurd n
 
 -- ---- the hold with the new place
 
+-- the hold with the new place has the same grid
 entered_grid : (hold mid : InHand) (gone fresh : List Cell) (p : ℕ) → IsEntered gone fresh p hold mid →
     mid.grid ≡ hold.grid
 entered_grid hold mid gone fresh p e = e.put.grid ∙ e.swapped.grid
@@ -189,6 +199,7 @@ held_before hold mid gone fresh p b e h =
     from f None s = absurd (cc s)
     from f (Some c) s = refl
 
+-- cells that are held with it were held before
 cells_before : (hold mid : InHand) (gone fresh l : List Cell) (p : ℕ) → IsEntered gone fresh p hold mid →
     AreHeld mid l → AreHeld hold l
 cells_before hold mid gone fresh l p e h c i q j =
@@ -201,6 +212,7 @@ lacks_then : (hold mid : InHand) (gone fresh : List Cell) (p b : ℕ) → IsEnte
 lacks_then hold mid gone fresh p b e none = none_or (bucket_at mid.places b) (λ h.
     none_there (bucket_at hold.places b) none (held_before hold mid gone fresh p b e h))
 
+-- and one that is not there then was not there before
 lacks_before : (hold mid : InHand) (gone fresh : List Cell) (p b : ℕ) → IsEntered gone fresh p hold mid →
     bucket_at mid.places b ≡ None → bucket_at hold.places b ≡ None
 lacks_before hold mid gone fresh p b e none = none_or (bucket_at hold.places b) (λ h.
@@ -245,6 +257,7 @@ module _ (hold : InHand) (s : List ℕ) (l : Landed) (k : IsLandedIn hold s l) w
     ])
   ]
 
+  -- what the refill says with the new place there is what the move comes to
   pub beside_gives : (found : RefillTurn) (turn : PlanTurn) → Shows hold s → AnswersBeside hold l found →
       IsMovedBy l found turn → PlanGives hold s (Move l.from l.to) turn
   beside_gives (Fills f) (Done plan) sh a m =
@@ -311,6 +324,7 @@ refill_answers hold v w (Ok t) e g b a = record {
 refill_answers hold v w (Err x) e g b a = tt
 
 module _ (hold mid : InHand) (l : Landed) (e : IsEntered l.came.gone.items l.came.fresh.items l.to hold mid) where
+  -- the hold shows the set with the new place
   mid_shows : (s : List ℕ) → Shows hold s → IsLandedIn hold s l → Shows mid (with_point l.to s)
   mid_shows s sh k = entered_shows hold mid s l.came.gone.items l.came.fresh.items l.to (lands_enters hold s l k sh) e
 
@@ -366,6 +380,7 @@ module _ (hold mid : InHand) (l : Landed) (e : IsEntered l.came.gone.items l.cam
 -- ---- the same with other room
 
 module _ (hold roomy : InHand) (r : Room) (l : Landed) (e : roomy ≡ record hold { room = r }) where
+  -- a move that has landed has landed with other room
   landed_roomed : (s : List ℕ) → IsLandedIn hold s l → IsLandedIn roomy s l
   landed_roomed s k = subst (λ (h : InHand). IsLandedIn h s l) (sym e) (record {
     is = k.is;
@@ -383,13 +398,16 @@ module _ (hold roomy : InHand) (r : Room) (l : Landed) (e : roomy ≡ record hol
     });
   })
 
+  -- the hold shows what it showed
   shows_roomed : (s : List ℕ) → Shows hold s → Shows roomy s
   shows_roomed s sh = subst (λ (h : InHand). Shows h s) (sym e)
       (record { ascending = sh.ascending; keys = sh.keys; solid = sh.solid; sights = sh.sights })
 
+  -- the planner that is to leave stands right still
   pub leaving_roomed : ShowsPlanner hold (Leaving l) → ShowsPlanner roomy (Leaving l)
   leaving_roomed k = (k.0, shows_roomed k.0 k.1, landed_roomed k.0 k.2)
 
+  -- and what the refill says there it says of the hold
   pub answers_roomed : (found : RefillTurn) → AnswersBeside roomy l found → AnswersBeside hold l found
   answers_roomed found a =
       let grid : roomy.grid ≡ hold.grid = ap (λ (h : InHand). h.grid) e in
@@ -446,6 +464,7 @@ pub beside_shows : (hold : InHand) (planner : Planner) (look : Look) (l : Landed
     LookAnswers hold planner look → ShowsPlanner hold planner → ShowsPlanner hold (Leaving l)
 beside_shows hold planner look l is f k = (k.0, k.1, (look_in hold planner look (Beside l) is f k.0 k.1 k.2).1)
 
+-- what leaving then answers is what the turn answers
 pub beside_answers : (hold : InHand) (planner : Planner) (look : Look) (l : Landed) (turn : PlanTurn) →
     look ≡ Beside l → LookAnswers hold planner look → PlanAnswers hold (Leaving l) turn → PlanAnswers hold planner turn
 beside_answers hold planner look l turn is f g s sh k =
@@ -464,6 +483,7 @@ module _ (mesh : MeshView) (hold : InHand) (own : IsHoldOf mesh hold) (edit : Ed
       (look_in hold planner look look' is f (replay mesh.history) (shows_of mesh hold own)
       (home_begins hold (replay mesh.history) edit planner begun))
 
+  -- a turn that is done has the plan of the edit in the mesh
   pub mesh_planned : (turn : PlanTurn) (plan : Plan) → planner ≡ Home edit → look ≡ Turn turn → turn ≡ Done plan →
       LookAnswers hold planner look → IsPlanFor (replay mesh.history) edit plan
   mesh_planned turn plan begun is done f =
@@ -478,6 +498,7 @@ module _ (mesh : MeshView) (hold : InHand) (own : IsHoldOf mesh hold) (edit : Ed
       (subst (λ (t : PlanTurn). PlanGives hold (replay mesh.history) edit t) asks
       (mesh_look (Turn turn) begun is f)).lacking
 
+  -- a look that finds a move landed has it so in the mesh
   pub mesh_lands : (l : Landed) → planner ≡ Home edit → look ≡ Beside l → LookAnswers hold planner look →
       (edit ≡ Move l.from l.to) × IsLandedFor (replay mesh.history) l
   mesh_lands l begun is f =

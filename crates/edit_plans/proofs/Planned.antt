@@ -45,6 +45,7 @@ use Rattle.edit_plans.specs.declared.planner.Planner.TheVariants.{
 use Rattle.edit_plans.specs.Leaving.{IsQuiet}
 use Rattle.edit_plans.specs.Plans.{IsPlanFor, IsPlanIn, IsPlannerIn, IsAsked, HoldsHome, PlannerStays}
 
+-- a bucket that is not away is there
 pub there_or : (o : Option BucketContent) → (o ≡ None → ⊥) → IsSome o
 there_or None f = absurd (f refl)
 there_or (Some c) f = refl
@@ -63,6 +64,7 @@ own_touched g s (Take p) = record { point = p; reached = inl refl; number = refl
 
 -- ---- an edit that changes no point
 
+-- where the set stays, nothing of its complex changes
 quiet_change : (s : List ℕ) (edit : Edit) → after s edit ≡ s → IsChange (complex s) (complex (after s edit)) [] []
 quiet_change s edit same = subst (λ (l : List ℕ). IsChange (complex s) (complex l) [] []) (sym same) (record {
   went = λ c i. absurd i;
@@ -71,6 +73,7 @@ quiet_change s edit same = subst (λ (l : List ℕ). IsChange (complex s) (compl
   all_fresh = λ c i n. absurd (n i);
 })
 
+-- so the plan of nothing gone and nothing fresh is that of the edit
 pub quiet_for : (s : List ℕ) (edit : Edit) (plan : Plan) (reply : Reply) → IsQuiet plan reply →
     reply_to s edit ≡ reply → after s edit ≡ s → IsPlanFor s edit plan
 quiet_for s edit plan reply q right same = record {
@@ -79,6 +82,7 @@ quiet_for s edit plan reply q right same = record {
       (λ i. (sym q.1 i, sym q.2 i)) (quiet_change s edit same);
 }
 
+-- and it is ready where the touched buckets are in hand
 pub quiet_plan : (hold : InHand) (s : List ℕ) (edit : Edit) (plan : Plan) (reply : Reply) → IsQuiet plan reply →
     HasKeys edit → reply_to s edit ≡ reply → after s edit ≡ s → HoldTouched hold.grid s edit hold.places →
     IsPlanIn hold s edit plan
@@ -112,10 +116,12 @@ plan_missing hold s p plan q key home lacks =
 
 -- ---- a point that comes
 
+-- the point of an arrival is new to the set
 pub new_in : (hold : InHand) (s : List ℕ) (p : ℕ) (arrival : Arrival) → IsArrivalIn hold s p arrival → IsNew s p
 new_in hold s p (Seeks search) k = k.0
 new_in hold s p (Digs d) k = subst (λ (x : ℕ). IsNew s x) k.0 k.1.new
 
+-- so an add of it is Inserted
 inserted : (s : List ℕ) (p : ℕ) → IsNew s p → reply_to s (Add p) ≡ Inserted
 inserted s p new = inserts s p (false_if (is_among p s) (λ t. new.absent (among_from p s t)))
 
@@ -128,6 +134,7 @@ comes_touched hold s p home none b t = elim t.reached [
       { absent = lacks; cell = r.1.q; goes = r.1.goes; point = t.point; has = r.1.has; number = t.number })
 ]
 
+-- once the arrival's change is known it is the plan of the add
 pub plan_inserted : (hold : InHand) (s : List ℕ) (p : ℕ) (arrival : Arrival) (t : ArrivalTurn) (f : Fresh) →
     Shows hold s → IsPlannerIn hold s (Coming p arrival) → t ≡ Comes f → ArrivalGives hold s p t →
     IsPlanIn hold s (Add p) (record { reply = Inserted; gone = f.gone; fresh = f.fresh })
@@ -189,6 +196,7 @@ needed_touched hold s p b i n = record {
   number = n.number;
 }
 
+-- once the refill's change is known it is the plan of the take
 pub plan_removed : (hold : InHand) (s : List ℕ) (p v : ℕ) (t : RefillTurn) (f : Fresh) → Shows hold s →
     IsPlannerIn hold s (Going p) → v ≡ p → t ≡ turn.Done f → refill.RefillGives hold s v t →
     IsPlanIn hold s (Take p) (record { reply = Removed; gone = f.gone; fresh = f.fresh })
@@ -207,6 +215,7 @@ plan_removed hold s p v t f sh k same is gives =
       touched = goes_touched hold s p k.0 g.0;
     }
 
+-- a refill that is Flat is a plan of nothing, with that reply
 pub plan_flat : (hold : InHand) (s : List ℕ) (p v : ℕ) (t : RefillTurn) (plan : Plan) → Shows hold s →
     IsPlannerIn hold s (Going p) → v ≡ p → IsQuiet plan Flat → t ≡ turn.Flat → refill.RefillGives hold s v t →
     IsPlanIn hold s (Take p) plan
@@ -215,6 +224,7 @@ plan_flat hold s p v t plan sh k same q is gives =
     quiet_plan hold s (Take p) plan Flat q (sh.keys.below p k.1) (flat s p (among_true p s k.1) g.1)
     (ap (changed s p) (flat s p (among_true p s k.1) g.1)) (goes_touched hold s p k.0 g.0)
 
+-- a bucket that the refill needs is asked for
 pub goes_asks : (hold : InHand) (s : List ℕ) (p v b : ℕ) (t : RefillTurn) → IsPlannerIn hold s (Going p) → v ≡ p →
     t ≡ turn.Need b → refill.RefillGives hold s v t → refill.AsksBelow (length hold.places) t →
     IsAsked hold s (Take p) b (Going p)
@@ -233,12 +243,14 @@ goes_asks hold s p v b t k same is gives below =
 
 -- ---- with more buckets in hand
 
+-- the bucket of the point is in hand still
 home_still : (few many : InHand) (p : ℕ) → AreAmong few many → HoldsHome few p → HoldsHome many p
 home_still few many p a h =
     let c = some_of (bucket_at few.places (bucket_of few.grid p)) h in
     subst (λ (g : ℕ). IsSome (bucket_at many.places (bucket_of g p))) a.grid
     (is_there (bucket_at many.places (bucket_of few.grid p)) c.0 (a.buckets (bucket_of few.grid p) c.0 c.1))
 
+-- cells that are held are held still
 cells_still : (few many : InHand) (l : List Cell) → AreAmong few many → AreHeld few l → AreHeld many l
 cells_still few many l a h c i p j = home_still few many p a (h c i p j)
 
@@ -250,6 +262,7 @@ lacks_still few many b a none = none_or (bucket_at few.places b) (λ h.
     let there = a.buckets b c.0 c.1 in
     cc (there, none))
 
+-- and where no bucket was needed none is
 none_still : (few many : InHand) (s : List ℕ) (p : ℕ) → AreAmong few many → dig.NoneIsNeeded few s p →
     dig.NoneIsNeeded many s p
 none_still few many s p a none b n = none b (record {
@@ -261,6 +274,7 @@ none_still few many s p a none b n = none b (record {
   number = n.number ∙ ap (λ (g : ℕ). bucket_of g n.point) (sym a.grid);
 })
 
+-- so a planner that stands right does so with more buckets in hand
 pub planner_stays : PlannerStays
 planner_stays few many s (Home edit) a k = tt
 planner_stays few many s (Coming p arrival) a k = (

@@ -1,5 +1,24 @@
 -- Marks of a segment, and lines that are cut one by one.
-use Rattle.std.specs.Prelude.{◌≡◌, ℕ, ◌<◌, Bool, true, false, ◌&&◌, ◌||◌, ◌==◌, List, [], ◌∷◌, ◌++◌, map, replicate, length, take, ◌+◌}
+use Rattle.std.specs.Prelude.{
+  ◌≡◌,
+  ℕ,
+  ◌<◌,
+  Bool,
+  true,
+  false,
+  ◌&&◌,
+  ◌||◌,
+  ◌==◌,
+  List,
+  [],
+  ◌∷◌,
+  ◌++◌,
+  map,
+  replicate,
+  length,
+  take,
+  ◌+◌,
+}
 use Rattle.std.specs.List.{flat_map, list_any}
 use Rattle.std.proofs.Common.{refl, sym, ◌∙◌, ap, get_or}
 use Rattle.std.proofs.lemmas.Bool.{false≢true}
@@ -44,12 +63,15 @@ any_or {X} f g (x ∷ l) = by (f x) (g x) (list_any f l) (list_any g l) (any_or 
 
 -- the points of an edit that some line has
 module _ (lines : List Pair) (tag : ℕ) (keys : ℕ → Bool) where
+  -- the point is one of the line's
   abbrev line_has : ℕ → Pair → Bool
   line_has p line = is_among p (edit_points line.1)
 
+  -- the point is one of a line that moves
   abbrev moved_has : ℕ → Pair → Bool
   moved_has p line = is_move line.1 && is_among p (edit_points line.1)
 
+  -- the line of this edit clashes with one of the lines
   abbrev clashes : Edit → Bool
   clashes edit = list_any (λ earlier. clash earlier (tag, edit)) lines
 
@@ -108,6 +130,7 @@ move_clash lines tag (Take p) marks found m are f = absurd (false≢true m)
 move_clash lines tag (Move a b) marks found m are f =
     let seen = are.are_marks.seen are.are_seen in f ∙ two_clash lines tag (has marks.seen) a b (seen a) (seen b)
 
+-- of an edit that moves nothing the points of lines that move tell it
 pub still_clash : (lines : List Pair) (tag : ℕ) (edit : Edit) (marks : Marks) (found : Bool) → is_move edit ≡ false →
     AreMarks lines marks → found ≡ list_any (has marks.moved) (edit_points edit) →
     found ≡ list_any (λ earlier. clash earlier (tag, edit)) lines
@@ -142,7 +165,8 @@ marks_see n lines lists old new some dealt are moved seen points = record {
 }
 
 -- the points of the lines of one list more
-pub points_more : {X : Type 0} (f : X → List Pair) (ls : List X) (i : ℕ) (x : X) (p : ℕ) (old new : Bool) → i < length ls →
+pub points_more : {X : Type 0} (f : X → List Pair) (ls : List X) (i : ℕ) (x : X) (p : ℕ) (old new : Bool) →
+    i < length ls →
     x ≡ get_or ls i x → old ≡ list_any (has_place p) (flat_map f (take i ls)) →
     new ≡ (old || list_any (has_place p) (f x)) → new ≡ list_any (has_place p) (flat_map f (take (i + 1) ls))
 points_more f ls i x p old new b e o m =

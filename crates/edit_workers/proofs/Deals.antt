@@ -69,13 +69,16 @@ put_last_is f xs k old new pair l e o n =
 -- ---- one more line
 
 module _ (n : ℕ) (lines : List Pair) (line : Pair) where
+  -- with a line more a worker's list has that line last, if it is the worker's
   more_is : (i : ℕ) →
       dealt_to n (lines ++ line ∷ []) i ≡ dealt_to n lines i ++ cond (point_of line.1 % n == i) (line ∷ []) []
   more_is i = filter-append (λ (l : Pair). point_of l.1 % n == i) lines (line ∷ [])
 
+  -- where it is not, the list is as before
   nothing_more : (b : Bool) → b ≡ false → (l : List Pair) → l ++ cond b (line ∷ []) [] ≡ l
   nothing_more b e l = ap (λ (b : Bool). l ++ cond b (line ∷ []) []) e ∙ append-nil l
 
+  -- where it is, the list has the line last
   one_more : (b : Bool) → b ≡ true → (l : List Pair) → l ++ cond b (line ∷ []) [] ≡ l ++ line ∷ []
   one_more b e l = ap (λ (b : Bool). l ++ cond b (line ∷ []) []) e
 
@@ -112,8 +115,12 @@ dealt_count n lines = length-map (range_with_len 0 n) (dealt_to n lines) ∙ len
 
 -- ---- the lines in front of a place
 
-pub lines_more : (lines : List Edit) (n : ℕ) (d : Edit) → slice_get lines n ≡ Some d → take (n + 1) (enumerate_from 0 lines) ≡ take n (enumerate_from 0 lines) ++ (n, d) ∷ []
-lines_more lines n d e = ap (λ (k : ℕ). take k (enumerate_from 0 lines)) (up n) ∙ next 0 lines n d e ∙ ap (λ (k : ℕ). take n (enumerate_from 0 lines) ++ (k, d) ∷ []) (from_0 n)
+-- the lines in front of the next place are those in front of this, and the line here
+pub lines_more : (lines : List Edit) (n : ℕ) (d : Edit) → slice_get lines n ≡ Some d →
+    take (n + 1) (enumerate_from 0 lines) ≡ take n (enumerate_from 0 lines) ++ (n, d) ∷ []
+lines_more lines n d e =
+    ap (λ (k : ℕ). take k (enumerate_from 0 lines)) (up n) ∙ next 0 lines n d e
+    ∙ ap (λ (k : ℕ). take n (enumerate_from 0 lines) ++ (k, d) ∷ []) (from_0 n)
   where
     up : (n : ℕ) → n + 1 ≡ suc n
     up n = omega arith
@@ -127,13 +134,17 @@ lines_more lines n d e = ap (λ (k : ℕ). take k (enumerate_from 0 lines)) (up 
     none : (m : ℕ) → m ≡ m + 0
     none m = omega arith
 
-    next : (m : ℕ) (lines : List Edit) (n : ℕ) (d : Edit) → slice_get lines n ≡ Some d → take (suc n) (enumerate_from m lines) ≡ take n (enumerate_from m lines) ++ (m + n, d) ∷ []
+    next : (m : ℕ) (lines : List Edit) (n : ℕ) (d : Edit) → slice_get lines n ≡ Some d →
+        take (suc n) (enumerate_from m lines) ≡ take n (enumerate_from m lines) ++ (m + n, d) ∷ []
     next m [] n d e = absurd (cc e)
     next m (x ∷ lines) zero d e = let v = one_value x d e in let k = none m in λ i. (k i, v i) ∷ []
-    next m (x ∷ lines) (suc n) d e = ap (λ (t : List Pair). (m, x) ∷ t) (next (m + 1) lines n d e ∙ ap (λ (k : ℕ). take n (enumerate_from (m + 1) lines) ++ (k, d) ∷ []) (further m n))
+    next m (x ∷ lines) (suc n) d e =
+        ap (λ (t : List Pair). (m, x) ∷ t) (next (m + 1) lines n d e
+        ∙ ap (λ (k : ℕ). take n (enumerate_from (m + 1) lines) ++ (k, d) ∷ []) (further m n))
 
 -- the next line, and whether it is of the four
 module _ (four : List ℕ) (lines : List Edit) (tag : ℕ) (edit : Edit) (there : slice_get lines tag ≡ Some edit) where
+  -- of the lines but the four those in front of the next place have this line last, if it is none of the four
   next_is : other_lines four (take (tag + 1) (enumerate_from 0 lines)) ≡
       other_lines four (take tag (enumerate_from 0 lines)) ++ cond (not (is_among tag four)) ((tag, edit) ∷ []) []
   next_is =

@@ -76,17 +76,25 @@ first_more seen (y ∷ l) x = by (shares_with y.1 seen) (first_more (y ∷ seen)
 
 -- ---- what is left over, and what is done
 
+-- a pair more that is left over is the last of these
 pub left_more : (l : List Marked) (x : Pair) → left_over (l ++ (true, x) ∷ []) ≡ left_over l ++ x ∷ []
 left_more l x =
     ap (map (λ (m : Marked). m.1)) (filter-append (λ (m : Marked). m.0) l ((true, x) ∷ []))
     ∙ map-append (λ (m : Marked). m.1) (filter (λ (m : Marked). m.0) l) ((true, x) ∷ [])
 
+-- and leaves what is done
 pub done_same : (l : List Marked) (x : Pair) → done (l ++ (true, x) ∷ []) ≡ done l
-done_same l x = ap (map (λ (m : Marked). m.1)) (filter-append (λ (m : Marked). not m.0) l ((true, x) ∷ []) ∙ append-nil (filter (λ (m : Marked). not m.0) l))
+done_same l x =
+    ap (map (λ (m : Marked). m.1)) (filter-append (λ (m : Marked). not m.0) l ((true, x) ∷ [])
+    ∙ append-nil (filter (λ (m : Marked). not m.0) l))
 
+-- a pair more that is done leaves what is left over
 pub left_same : (l : List Marked) (x : Pair) → left_over (l ++ (false, x) ∷ []) ≡ left_over l
-left_same l x = ap (map (λ (m : Marked). m.1)) (filter-append (λ (m : Marked). m.0) l ((false, x) ∷ []) ∙ append-nil (filter (λ (m : Marked). m.0) l))
+left_same l x =
+    ap (map (λ (m : Marked). m.1)) (filter-append (λ (m : Marked). m.0) l ((false, x) ∷ [])
+    ∙ append-nil (filter (λ (m : Marked). m.0) l))
 
+-- and is the last that is done
 pub done_more : (l : List Marked) (x : Pair) → done (l ++ (false, x) ∷ []) ≡ done l ++ x ∷ []
 done_more l x =
     ap (map (λ (m : Marked). m.1)) (filter-append (λ (m : Marked). not m.0) l ((false, x) ∷ []))
@@ -96,12 +104,17 @@ done_more l x =
 abbrev pub all_left : List Pair → List Marked
 all_left l = map (λ x. (true, x)) l
 
+-- without their marks they are the pairs
 pub all_parted : (l : List Pair) → map (λ (m : Marked). m.1) (all_left l) ≡ l
 all_parted [] = refl
 all_parted (x ∷ l) = ap (λ (t : List Pair). x ∷ t) (all_parted l)
 
+-- with such pairs behind it a list has done what it had
 pub none_done : (l : List Marked) (r : List Pair) → done (l ++ all_left r) ≡ done l
-none_done l r = ap (map (λ (m : Marked). m.1)) (filter-append (λ (m : Marked). not m.0) l (all_left r) ∙ ap (λ (t : List Marked). filter (λ (m : Marked). not m.0) l ++ t) (empty r) ∙ append-nil (filter (λ (m : Marked). not m.0) l))
+none_done l r =
+    ap (map (λ (m : Marked). m.1)) (filter-append (λ (m : Marked). not m.0) l (all_left r)
+    ∙ ap (λ (t : List Marked). filter (λ (m : Marked). not m.0) l ++ t) (empty r)
+    ∙ append-nil (filter (λ (m : Marked). not m.0) l))
   where
     empty : (r : List Pair) → filter (λ (m : Marked). not m.0) (all_left r) ≡ []
     empty [] = refl
@@ -112,7 +125,8 @@ pub done_few : (l : List Marked) → length (done l) ≤ length l
 done_few [] = omega arith
 done_few (m ∷ l) = by m.0 (done_few l)
   where
-    by : (b : Bool) → length (done l) ≤ length l → length (map (λ (m : Marked). m.1) (if not b then m ∷ filter (λ (m : Marked). not m.0) l else filter (λ (m : Marked). not m.0) l)) ≤ length (m ∷ l)
+    by : (b : Bool) → length (done l) ≤ length l → length (map (λ (m : Marked). m.1)
+        (if not b then m ∷ filter (λ (m : Marked). not m.0) l else filter (λ (m : Marked). not m.0) l)) ≤ length (m ∷ l)
     by true h = omega (arith, h)
     by false h = omega (arith, h)
 

@@ -96,6 +96,7 @@ run_count segments h k r =
     let n = done_count segments r.more r.done in
     omega (arith, e, n, length-append h r.more)
 
+-- the first n + 1 of a list are the first n and the one behind them
 take_next : {X : Type 0} (l : List X) (n : ℕ) (x : X) → n < length l → x ≡ get_or l n x →
     take (n + 1) l ≡ take n l ++ x ∷ []
 take_next {X} l n x b e =
@@ -106,6 +107,7 @@ take_next {X} l n x b e =
 abbrev pub front_of : ℕ → List Segment → List (List (List Pair))
 front_of n segments = map lists_of (take n segments)
 
+-- those in front of the next place are those in front of this, and the one here
 front_next : (segments : List Segment) (n : ℕ) (x : Segment) → n < length segments → x ≡ get_or segments n x →
     front_of (n + 1) segments ≡ front_of n segments ++ lists_of x ∷ []
 front_next segments n x b e =
@@ -159,6 +161,7 @@ of_segment P segments n x b e all =
 
 -- ---- pairs that are made one by one
 
+-- of no pair no entry is made
 pub applied_nothing : (h : List Entry) → AreApplied [] h h
 applied_nothing h = record {
   more = [];
@@ -190,6 +193,7 @@ applied_one pairs n x h old new b e a f =
           (λ d i. elim i [ inl q ↦ sym (ap (λ (e : Entry). e.by) q) | inr j ↦ absurd j ]);
     }))
 
+-- so all of them are made
 pub applied_pairs : (pairs : List Pair) (n : ℕ) (h k : List Entry) → length pairs ≤ n →
     AreApplied (take n pairs) h k → AreApplied pairs h k
 applied_pairs pairs n h k b a = subst (λ (l : List Pair). AreApplied l h k) (take_all n pairs b) a
@@ -207,6 +211,7 @@ applied_next ls n x h k m b e a f =
     subst (λ (l : List Pair). AreApplied l h m) (sym all)
     (applied_both (all_of (pairs_in (take n ls))) x.pairs.items h k m a f)
 
+-- and so the pairs of all lists
 pub applied_all : (ls : List lists.List) (n : ℕ) (h k : List Entry) → length ls ≤ n →
     AreApplied (all_of (pairs_in (take n ls))) h k → AreApplied (all_of (pairs_in ls)) h k
 applied_all ls n h k b a = subst (λ (l : List lists.List). AreApplied (all_of (pairs_in l)) h k) (take_all n ls b) a

@@ -17,9 +17,11 @@ neither false b e = (refl, e)
 neither true b e = absurd (false≢true (sym e))
 
 -- all steps, with one pair more
-pub flat_more : (l : List Stretch) (s : Stretch) → flat_map (λ (s : Stretch). s.1) (l ++ s ∷ []) ≡ flat_map (λ (s : Stretch). s.1) l ++ s.1
+pub flat_more : (l : List Stretch) (s : Stretch) → flat_map (λ (s : Stretch). s.1) (l ++ s ∷ [])
+    ≡ flat_map (λ (s : Stretch). s.1) l ++ s.1
 flat_more [] s = append-nil s.1
-flat_more (x ∷ l) s = ap (λ (t : List Act). x.1 ++ t) (flat_more l s) ∙ sym (append_assoc x.1 (flat_map (λ (s : Stretch). s.1) l) s.1)
+flat_more (x ∷ l) s =
+    ap (λ (t : List Act). x.1 ++ t) (flat_more l s) ∙ sym (append_assoc x.1 (flat_map (λ (s : Stretch). s.1) l) s.1)
 
 -- what has to be shown of the last one: it was tried to the end, if it is left over and shares no point with these, nor
 -- with an earlier one left over

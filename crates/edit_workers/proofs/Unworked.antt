@@ -25,6 +25,7 @@ use Rattle.edit_workers.proofs.Partly.{all_high, apart_across, apart_high, whole
 
 -- ---- one list
 
+-- the tag rises
 abbrev Rises : Entry → Entry → Type 0
 Rises d e = d.tag < e.tag
 
@@ -60,6 +61,7 @@ run_of_list list h k tags a = record {
         (subst (EachLater (λ (p q : Pair). p.0 < q.0)) (sym (append-nil list) ∙ sym a.pairs_are)
         (pairs_later (λ (p q : Pair). p.0 < q.0) list tags))
 
+-- so it is where there is one list
 pub run_of_one_list : (lists : List (List Pair)) (h k : List Entry) → length lists ≡ 1 → CanBeDone lists →
     AreApplied (all_of lists) h k → IsSegmentRun lists h k
 run_of_one_list [] h k one can a = absurd (omega (arith, one))

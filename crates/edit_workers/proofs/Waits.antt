@@ -34,7 +34,24 @@ use Rattle.std.proofs.lemmas.List.Sorted.{
   IsPermutation-trans,
   length_permutation,
 }
-use Rattle.list_laws.proofs.Cited.{EachLater, all_of_each, any_true, each_of_all, from_append, in_left, in_permutation, in_right, later_across, later_append, later_left, later_pairs, later_right, mapped_from, pairs_later, take_next}
+use Rattle.list_laws.proofs.Cited.{
+  EachLater,
+  all_of_each,
+  any_true,
+  each_of_all,
+  from_append,
+  in_left,
+  in_permutation,
+  in_right,
+  later_across,
+  later_append,
+  later_left,
+  later_pairs,
+  later_right,
+  mapped_from,
+  pairs_later,
+  take_next,
+}
 use Rattle.point_order.specs.Sets.{IsIn}
 use Rattle.edit_history.specs.declared.history.Entry.{Entry}
 use Rattle.edit_history.specs.Edits.{point_of, share_point}
@@ -75,6 +92,7 @@ use Rattle.edit_workers.proofs.Worked.{
 
 -- ---- lists of pairs, some of which come first
 
+-- one pair alone stands by its tag
 single : (x : Pair) → EachLater AscendAtPoint (x ∷ [])
 single x = ((λ y i. absurd i), tt)
 
@@ -94,25 +112,30 @@ module _ (list made kept : List Pair) (x : Pair) (same : IsPermutation list (mad
       (IsPermutation-append_right made (kept ++ x ∷ []) (x ∷ kept) (IsPermutation-append_comm kept (x ∷ []))))
 
   module _ (ascend : AllPairs AscendAtPoint (list ++ x ∷ [])) where
+    -- pairs of one point stand by their tags, with the one more
     later : EachLater AscendAtPoint (list ++ x ∷ [])
     later = pairs_later AscendAtPoint (list ++ x ∷ []) ascend
 
+    -- so do those made with those that wait behind them
     was : EachLater AscendAtPoint (made ++ kept)
     was =
         pairs_later AscendAtPoint (made ++ kept)
         (order (later_pairs AscendAtPoint list (later_left AscendAtPoint list (x ∷ []) later)))
 
+    -- each of these has a lower tag than the one more if the points are one
     before : (y z : Pair) → IsIn y (made ++ kept) → IsIn z (x ∷ []) → AscendAtPoint y z
     before y z i j =
         later_across AscendAtPoint list (x ∷ []) later y z
         (in_permutation (made ++ kept) list y (IsPermutation-sym list (made ++ kept) same) i) j
 
+    -- so they do with it behind those that wait
     order_waits : AllPairs AscendAtPoint (made ++ (kept ++ x ∷ []))
     order_waits =
         later_pairs AscendAtPoint (made ++ (kept ++ x ∷ []))
         (subst (EachLater AscendAtPoint) (append_assoc made kept (x ∷ []))
         (later_append AscendAtPoint (made ++ kept) (x ∷ []) was (single x) before))
 
+    -- and with it behind those made, where none that waits is of its point
     order_made : ((z : Pair) → IsIn z kept → point_of x.1 ≡ point_of z.1 → ⊥) →
         AllPairs AscendAtPoint ((made ++ x ∷ []) ++ kept)
     order_made apart =
@@ -139,21 +162,26 @@ apart_waits x kept none z i one =
 
 -- ---- lists of those that wait
 
+-- the pairs of those that wait, with one more
 pairs_more : (l : List Waiting) (one : Waiting) → pairs_of (l ++ one ∷ []) ≡ pairs_of l ++ one.pair ∷ []
 pairs_more l one = map-append (λ (w : Waiting). w.pair) l (one ∷ [])
 
+-- and how often they were tried
 tries_more : (l : List Waiting) (one : Waiting) → tries_of (l ++ one ∷ []) ≡ tries_of l + one.tries
 tries_more [] one = omega arith
 tries_more (x ∷ l) one = omega (arith, tries_more l one)
 
 -- what holds of all with one more
 module _ (P : Waiting → Type 0) (l : List Waiting) (one : Waiting) (all : All P (l ++ one ∷ [])) where
+  -- it holds of all before
   all_first : All P l
   all_first = all_of_each P l (λ x i. each_of_all P (l ++ one ∷ []) all x (in_left x l (one ∷ []) i))
 
+  -- and of the one
   last_one : P one
   last_one = each_of_all P (l ++ one ∷ []) all one (in_right one l (one ∷ []) (inl refl))
 
+-- and where it does, of all with it
 all_more : (P : Waiting → Type 0) (l : List Waiting) (one : Waiting) → All P l → P one → All P (l ++ one ∷ [])
 all_more P l one all p =
     All-append P l (one ∷ []) all
@@ -177,9 +205,11 @@ all_wait l p = record {
 }
 
 module _ (list kept : List Waiting) (one : Waiting) (old now : Standing) (w : AreMadeOrWait list kept old now) where
+  -- the pairs with one more are those made, those that wait, and that one
   same_is : IsPermutation (pairs_of list ++ one.pair ∷ []) (w.made ++ (pairs_of kept ++ one.pair ∷ []))
   same_is = same_waits (pairs_of list) w.made (pairs_of kept) one.pair w.same w.order
 
+  -- so it is where that one waits with another number of tries
   same_all : (last : Waiting) → last.pair ≡ one.pair →
       IsPermutation (pairs_of (list ++ one ∷ [])) (w.made ++ pairs_of (kept ++ last ∷ []))
   same_all last e =
@@ -187,6 +217,7 @@ module _ (list kept : List Waiting) (one : Waiting) (old now : Standing) (w : Ar
       subst (λ (l : List Pair). IsPermutation l (w.made ++ pairs_of (kept ++ last ∷ []))) (sym (pairs_more list one))
       (subst (λ (l : List Pair). IsPermutation (pairs_of list ++ one.pair ∷ []) (w.made ++ l)) (sym a) same_is)
 
+  -- and they stand by their tags where the points are one
   order_all : (last : Waiting) → last.pair ≡ one.pair → AllPairs AscendAtPoint (pairs_of (list ++ one ∷ [])) →
       AllPairs AscendAtPoint (w.made ++ pairs_of (kept ++ last ∷ []))
   order_all last e h =
@@ -220,11 +251,14 @@ module _ (list kept : List Waiting) (one : Waiting) (old now : Standing) (w : Ar
   }
 
   module _ (after : List Waiting) (new : Standing) where
+    -- a pair that waits behind one of its point leaves each pair made or waiting
     waited : Waits one kept after now new → AreMadeOrWait (list ++ one ∷ []) after old new
     waited f =
         subst (λ (l : List Waiting). AreMadeOrWait (list ++ one ∷ []) l old new) (sym f.behind)
-        (subst (λ (p : Standing). AreMadeOrWait (list ++ one ∷ []) (kept ++ one ∷ []) old p) (sym f.as_before) one_waits)
+        (subst (λ (p : Standing). AreMadeOrWait (list ++ one ∷ []) (kept ++ one ∷ []) old p) (sym f.as_before)
+        one_waits)
 
+    -- so does one that was busy, which waits once more
     busy : IsBusy one kept after now new → AreMadeOrWait (list ++ one ∷ []) after old new
     busy f =
         let last : Waiting = record one { tries = one.tries + 1 } in
@@ -247,6 +281,7 @@ module _ (list kept : List Waiting) (one : Waiting) (old now : Standing) (w : Ar
           alone = λ o g. absurd (f.missed.others (omega arith) (still_all old now w.entries w.steps w.pass o));
         })
 
+    -- and one that was made
     is_made : (OwnsAll old → AllFresh list → kept ≡ []) → IsMade one kept after now new →
         AreMadeOrWait (list ++ one ∷ []) after old new
     is_made none f =
@@ -258,7 +293,9 @@ module _ (list kept : List Waiting) (one : Waiting) (old now : Standing) (w : Ar
           steps = w.steps ++ f.made.steps;
           entries_are = entries_more old now new w.made w.entries w.steps 1 x.0 x.1 w.entries_are w.pass f.made;
           pass = made_more old now new w.entries w.steps 1 x.0 x.1 w.pass f.made;
-          same = subst (λ (l : List Pair). IsPermutation l ((w.made ++ x ∷ []) ++ pairs_of kept)) (sym (pairs_more list one))
+          same =
+              subst (λ (l : List Pair). IsPermutation l ((w.made ++ x ∷ []) ++ pairs_of kept))
+              (sym (pairs_more list one))
               (same_made (pairs_of list) w.made (pairs_of kept) x w.same w.order);
           order = λ h. order_made (pairs_of list) w.made (pairs_of kept) x w.same w.order
               (subst (AllPairs AscendAtPoint) (pairs_more list one) h) (apart_waits x kept f.apart);
@@ -291,6 +328,7 @@ module _ (list kept : List Waiting) (one : Waiting) (old now : Standing) (w : Ar
         })
 
   module _ (none : OwnsAll old → AllFresh list → kept ≡ []) (after : List Waiting) (new : Standing) where
+    -- so whatever comes of a pair, those so far are made or wait
     pub tried_one : IsTriedOrWaits one kept after now new → AreMadeOrWait (list ++ one ∷ []) after old new
     tried_one (inl f) = waited after new f
     tried_one (inr (inl f)) = busy after new f
@@ -319,6 +357,7 @@ module _ (list kept : List Waiting) (one : Waiting) (old now : Standing) (w : Ar
 
 module _ (old now new : Standing) (first second : List Entry) (front behind : List Act)
     (h : HasMade old now first front) (k : HasMade now new second behind) where
+  -- what is made in two stretches is made in one
   made_both : HasMade old new (first ++ second) (front ++ behind)
   made_both =
       let a = h.new_is in
@@ -350,6 +389,7 @@ module _ (old now new : Standing) (first second : List Entry) (front behind : Li
             omega (arith, l, m))) k.seen_all;
       }
 
+  -- and so are the entries of the pairs of both
   entries_both : (p q : List Pair) → AreEntriesOf old p first → AreEntriesOf now q second →
       AreEntriesOf old (p ++ q) (first ++ second)
   entries_both p q a b = record {
@@ -376,36 +416,43 @@ module _ (old now new : Standing) (first second : List Entry) (front behind : Li
 -- what waits after a round goes into the next
 module _ (list middle waiting : List Waiting) (old now new : Standing) (a : AreMadeOrWait list middle old now)
     (b : AreMadeOrWait middle waiting now new) where
+  -- the pairs that were made in both
   abbrev all_made : List Pair
   all_made = a.made ++ b.made
 
+  -- those made before and those that waited then are those made in both and those that wait now
   behind_same : IsPermutation (a.made ++ pairs_of middle) (all_made ++ pairs_of waiting)
   behind_same =
       subst (IsPermutation (a.made ++ pairs_of middle)) (sym (append_assoc a.made b.made (pairs_of waiting)))
       (IsPermutation-append_right a.made (pairs_of middle) (b.made ++ pairs_of waiting) b.same)
 
+  -- and they stand by their tags where the points are one
   both_order : AllPairs AscendAtPoint (pairs_of list) → AllPairs AscendAtPoint (all_made ++ pairs_of waiting)
   both_order h =
       let rest = b.made ++ pairs_of waiting in
       let was = pairs_later AscendAtPoint (a.made ++ pairs_of middle) (a.order h) in
       let next = pairs_later AscendAtPoint rest
-      (b.order (later_pairs AscendAtPoint (pairs_of middle) (later_right AscendAtPoint a.made (pairs_of middle) was))) in
+      (b.order (later_pairs AscendAtPoint (pairs_of middle) (later_right AscendAtPoint a.made (pairs_of middle)
+      was))) in
       later_pairs AscendAtPoint (all_made ++ pairs_of waiting)
       (subst (EachLater AscendAtPoint) (sym (append_assoc a.made b.made (pairs_of waiting)))
       (later_append AscendAtPoint a.made rest (later_left AscendAtPoint a.made (pairs_of middle) was) next
       (λ y z i j. later_across AscendAtPoint a.made (pairs_of middle) was y z i
       (in_permutation rest (pairs_of middle) z (IsPermutation-sym (pairs_of middle) rest b.same) j))))
 
+  -- so after both rounds each pair is made or waits
   pub both_rounds : AreMadeOrWait list waiting old new
   both_rounds = record {
     made = all_made;
     entries = a.entries ++ b.entries;
     steps = a.steps ++ b.steps;
     entries_are =
-        entries_both old now new a.entries b.entries a.steps b.steps a.pass b.pass a.made b.made a.entries_are b.entries_are;
+        entries_both old now new a.entries b.entries a.steps b.steps a.pass b.pass a.made b.made a.entries_are
+        b.entries_are;
     pass = made_both old now new a.entries b.entries a.steps b.steps a.pass b.pass;
     same =
-        IsPermutation-trans (pairs_of list) (a.made ++ pairs_of middle) (all_made ++ pairs_of waiting) a.same behind_same;
+        IsPermutation-trans (pairs_of list) (a.made ++ pairs_of middle) (all_made ++ pairs_of waiting) a.same
+        behind_same;
     order = both_order;
     few = λ h. b.few (a.few h);
     tries = (
@@ -442,22 +489,27 @@ still_left list waiting old now n w l m =
       length-map waiting (λ (x : Waiting). x.pair),
     )
 
+-- the pass stays with its table
 pub one_table : (list waiting : List Waiting) (old now : Standing) (t : Opened) → AreMadeOrWait list waiting old now →
     old.table ≡ t → now.table ≡ t
 one_table list waiting old now t w e = ap (λ (p : Standing). p.table) w.pass.new_is ∙ e
 
 -- ---- the loop of a round
 
+-- before the first pair nothing is made and nothing waits
 pub round_first : (kept : List Waiting) (p : Standing) → kept ≡ [] → AreMadeOrWait [] kept p p
 round_first kept p e = subst (λ (l : List Waiting). AreMadeOrWait [] l p p) (sym e) (all_wait [] p)
 
 module _ (list kept : List Waiting) (n : ℕ) (old now : Standing) (w : AreMadeOrWait (take n list) kept old now) where
+  -- while there are pairs, and as many may be made as there are, one may be made
   pub round_left : n < length list → length list ≤ old.left → 0 < now.left
   round_left l m =
-      let s = still_left (take n list) kept old now (length list) w (let t = length-take n list in omega (arith, t, l)) m in
+      let s =
+      still_left (take n list) kept old now (length list) w (let t = length-take n list in omega (arith, t, l)) m in
       let t = length-take n list in
       omega (arith, s, t, l)
 
+  -- with the next pair tried, one more is made or waits
   pub round_next : (after : List Waiting) (x : Waiting) (new : Standing) → n < length list → x ≡ get_or list n x →
       (OwnsAll old → AllFresh (take n list) → kept ≡ []) → IsTriedOrWaits x kept after now new →
       AreMadeOrWait (take (n + 1) list) after old new × (OwnsAll old → AllFresh (take (n + 1) list) → after ≡ [])
@@ -468,6 +520,7 @@ module _ (list kept : List Waiting) (n : ℕ) (old now : Standing) (w : AreMadeO
         λ o f. none_waits (take n list) kept x old now w none after new t o (subst AllFresh (sym more) f),
       )
 
+  -- at the end of the list all are made or wait
   pub round_all : length list ≤ n → AreMadeOrWait list kept old now
   round_all l = subst (λ (l : List Waiting). AreMadeOrWait l kept old now) (take_all n list l) w
 
@@ -479,6 +532,7 @@ pub last_round : (list kept after : List Waiting) (old now : Standing) → AreMa
 last_round list kept after old now w none o f =
     none (still_all old now w.entries w.steps w.pass o) ((w.alone o f).1)
 
+-- as many may still be made as wait
 pub allowed : (list waiting : List Waiting) (old now : Standing) → AreMadeOrWait list waiting old now →
     length list ≤ old.left → length waiting ≤ now.left
 allowed list waiting old now w l =
@@ -486,6 +540,7 @@ allowed list waiting old now w l =
 
 -- ---- pairs that were not tried
 
+-- pairs that were not tried were tried at most 64 times
 pub fresh_few : (l : List Pair) → AllFew (map fresh l)
 fresh_few l =
     all_of_each (λ (x : Waiting). x.tries ≤ 64) (map fresh l) (λ x i.
@@ -493,19 +548,23 @@ fresh_few l =
     let e = ap (λ (x : Waiting). x.tries) y.2 in
     omega (arith, e))
 
+-- they are all fresh
 all_fresh : (l : List Pair) → AllFresh (map fresh l)
 all_fresh l =
     all_of_each (λ (x : Waiting). x.tries ≡ 0) (map fresh l)
     (λ x i. let y = mapped_from fresh x l i in sym (ap (λ (x : Waiting). x.tries) y.2))
 
+-- they are the pairs themselves
 fresh_pairs : (l : List Pair) → pairs_of (map fresh l) ≡ l
 fresh_pairs [] = refl
 fresh_pairs (x ∷ l) = ap (λ (t : List Pair). x ∷ t) (fresh_pairs l)
 
+-- they have no tries
 no_tries : (l : List Pair) → tries_of (map fresh l) ≡ 0
 no_tries [] = refl
 no_tries (x ∷ l) = let e = no_tries l in omega (arith, e)
 
+-- pairs of at most 64 tries have at most 64 times as many as there are pairs
 few_tries : (l : List Waiting) → AllFew l → tries_of l ≤ 64 * length l
 few_tries [] h = omega arith
 few_tries (x ∷ l) h =
@@ -516,12 +575,14 @@ few_tries (x ∷ l) h =
 
 -- ---- the loop over a list
 
+-- before the first pair of the list nothing waits
 pub list_first : (list : List Pair) (kept : List Waiting) (p : Standing) → kept ≡ [] →
     AreMadeOrWait (map fresh (take 0 list)) kept p p
 list_first list kept p e = round_first kept p e
 
 module _ (list : List Pair) (waiting : List Waiting) (n : ℕ) (old now : Standing)
     (w : AreMadeOrWait (map fresh (take n list)) waiting old now) where
+  -- while there are pairs, more may be made than wait
   pub list_left : n < length list → length list ≤ old.left → length waiting < now.left
   list_left l m =
       let c = length-map (take n list) fresh in
@@ -529,9 +590,11 @@ module _ (list : List Pair) (waiting : List Waiting) (n : ℕ) (old now : Standi
       let s = still_left (map fresh (take n list)) waiting old now (length list) w (omega (arith, c, t, l)) m in
       omega (arith, s, c, t, l)
 
+  -- none that waits was tried more than 64 times
   pub list_few : AllFew waiting
   list_few = w.few (fresh_few (take n list))
 
+  -- with the next pair among those that wait, and a round, one more is made or waits
   pub list_next : (after : List Waiting) (x : Pair) (new : Standing) → n < length list → x ≡ get_or list n x →
       AreMadeOrWait (waiting ++ fresh x ∷ []) after now new →
       AreMadeOrWait (map fresh (take (n + 1) list)) after old new
@@ -541,6 +604,7 @@ module _ (list : List Pair) (waiting : List Waiting) (n : ℕ) (old now : Standi
       subst (λ (l : List Waiting). AreMadeOrWait l after old new) (sym more)
       (both_rounds (map fresh (take n list) ++ fresh x ∷ []) (waiting ++ fresh x ∷ []) after old now new came f)
 
+  -- at the end of the list all its pairs are made or wait
   pub list_all : length list ≤ n → AreMadeOrWait (map fresh list) waiting old now
   list_all l = subst (λ (l : List Pair). AreMadeOrWait (map fresh l) waiting old now) (take_all n list l) w
 

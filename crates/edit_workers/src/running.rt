@@ -178,6 +178,7 @@ fn run_beside<G: Gate + Sync, R: Threads + Sync>(
 {
     let (mut mesh, mut left) = side_by_side(rt, alloc, mesh, lists, gate)?;
     sort_by_tag(&mut left);
+    // Nothing is read: the call promises that the history is legal.
     let _ = mesh.count();
     apply_all(alloc, &mut mesh, &left.pairs)?;
     Ok(mesh)
@@ -202,6 +203,7 @@ fn run_alone(alloc: Global, mesh: &mut Mesh, lists: &[List]) -> Result<(), Alloc
     ensures run { OnOk result (IsSegmentRun (pairs_in lists.now) mesh.old.history mesh.new.history) }
     ensures grid { OnOk result (mesh.new.grid ≡ mesh.old.grid) }
 {
+    // Nothing is read: the call promises that the history is legal.
     let _ = mesh.count();
     if lists.len() == 1 {
         apply_lists(alloc, mesh, lists)?;

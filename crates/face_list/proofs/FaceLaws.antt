@@ -53,26 +53,32 @@ into_flat f (Open t ∷ cells) p q l i = elim l [ inl e ↦ cc | inr j ↦ into_
 
 -- ---- the laws
 
+-- the points of Full cells are in order, each once
 pub points_in_order : PointsInOrder
 unfolding IsStrictlySortedBy
 points_in_order cells = sorted_fold nat_cmp nat_cmp_total [] (flat_map (λ q. q) (full_cells cells)) tt
 
+-- a point of a Full cell is listed
 pub point_is_listed : PointIsListed
 point_is_listed cells p h = fold_comes nat_cmp same_number p [] (flat_map (λ q. q) (full_cells cells)) (into_flat (λ q. q) cells p h.q h.listed h.has)
 
+-- and a listed one is of some Full cell
 pub listed_is_point : ListedIsPoint
 listed_is_point cells p i = elim (in_fold nat_cmp p [] (flat_map (λ q. q) (full_cells cells)) i) [
   | inl none ↦ absurd none
   | inr j ↦ (let g = from_flat (λ q. q) cells p j in record { q = g.q; listed = g.listed; has = g.part })
 ]
 
+-- the parts with k points are in order, each once
 pub parts_in_order : PartsInOrder
 unfolding IsStrictlySortedBy
 parts_in_order k cells = sorted_fold (slice_cmp nat_cmp) nat_list_cmp_total [] (flat_map (subsets k) (full_cells cells)) tt
 
+-- a part of a Full cell is listed
 pub part_is_listed : PartIsListed
 part_is_listed k cells p h = fold_comes (slice_cmp nat_cmp) same_list p [] (flat_map (subsets k) (full_cells cells)) (into_flat (subsets k) cells p h.q h.listed h.part)
 
+-- and a listed one is of some Full cell
 pub listed_is_part : ListedIsPart
 listed_is_part k cells p i = elim (in_fold (slice_cmp nat_cmp) p [] (flat_map (subsets k) (full_cells cells)) i) [
   | inl none ↦ absurd none
@@ -99,6 +105,7 @@ inside s q m p i = elim (from_append (Full q) (map Full (filter (is_full s) (sub
     same : (r : List ℕ) → Full r ≡ Full q → r ≡ q
     same r e = cc
 
+-- the points of the complex of a solid set are those of the set
 pub points_of_complex : PointsOfComplex
 points_of_complex s a keys solid =
     same_members (points_in (complex s)) s (ascending_sorted (points_in (complex s)) (points_in_order (complex s))) a

@@ -42,9 +42,11 @@ abbrev which : (Cell → Bool) → ℕ → List Cell → List ℕ
 which t n [] = []
 which t n (c ∷ cells) = cond (t c) (n ∷ which t (suc n) cells) (which t (suc n) cells)
 
+-- a cell that passes has its number among these
 which_true : (t : Cell → Bool) (n : ℕ) (c : Cell) (cells : List Cell) → t c ≡ true → which t n (c ∷ cells) ≡ n ∷ which t (suc n) cells
 which_true t n c cells e = rw e refl
 
+-- one that does not has not
 which_false : (t : Cell → Bool) (n : ℕ) (c : Cell) (cells : List Cell) → t c ≡ false → which t n (c ∷ cells) ≡ which t (suc n) cells
 which_false t n c cells e = rw e refl
 
@@ -70,6 +72,7 @@ placed_in t n m (suc place) (c ∷ cells) h e f = by (placed_in t (suc n) m plac
     by rest true g = subst (IsIn m) (sym (which_true t n c cells g)) (inr rest)
     by rest false g = subst (IsIn m) (sym (which_false t n c cells g)) rest
 
+-- they rise
 which_rise : (t : Cell → Bool) (n : ℕ) (cells : List Cell) → IsStrictlySortedBy nat_cmp (which t n cells)
 unfolding IsStrictlySortedBy
 which_rise t n [] = tt
@@ -96,6 +99,7 @@ which_are t all n (c ∷ cells) f = by (which_are t all (suc n) cells (λ i. ap 
 
 -- ---- the items of cells
 
+-- an item has the number of a cell with that part
 item_from : {K : Type 0} (parts : Cell → List K) (n : ℕ) (k : K) (m : ℕ) (cells : List Cell) → IsIn (k, m) (items_from n parts cells) → Placed (λ c. IsIn k (parts c)) n m cells
 item_from parts n k m [] i = absurd i
 item_from {K} parts n k m (c ∷ cells) i = elim (from_append (k, m) (map (λ p. (p, n)) (parts c)) (items_from (suc n) parts cells) i) [
@@ -107,7 +111,7 @@ item_from {K} parts n k m (c ∷ cells) i = elim (from_append (k, m) (map (λ p.
   | inr j ↦ further (λ c. IsIn k (parts c)) n m c cells (item_from parts (suc n) k m cells j)
 ]
 
-item_true : {K : Type 0} (parts : Cell → List K) (n : ℕ) (k : K) (m place : ℕ) (cells : List Cell) → place < length cells → n + place ≡ m → IsIn k (parts (cell_at cells place)) → IsIn (k, m) (items_from n parts cells)
+pub item_true : {K : Type 0} (parts : Cell → List K) (n : ℕ) (k : K) (m place : ℕ) (cells : List Cell) → place < length cells → n + place ≡ m → IsIn k (parts (cell_at cells place)) → IsIn (k, m) (items_from n parts cells)
 item_true parts n k m place [] h e f = absurd (omega arith)
 item_true {K} parts n k m zero (c ∷ cells) h e f =
     let b : n ≡ m = omega (arith, e) in
@@ -162,13 +166,14 @@ cell_ascends (c ∷ cells) (suc i) a h = cell_ascends cells i a.1 (omega arith)
 
 -- ---- what is gathered
 
--- Where the keys that parts give are the faces, and a test tells of the keys which cells have them, the table shows each face
--- with its cells.
+-- Where the keys that parts give are the faces, and a test tells of the keys which cells have them, the table shows
+-- each face with its cells.
 module _ {K : Type 0} (cmp : K → K → Ordering) (o : IsTotalOrder cmp) (exact : CmpEqualImpliesEq cmp) (parts : Cell → List K) (test : K → Cell → Bool) (cells : List Cell) where
   -- the test is told of a key's cells
   abbrev pub Told : K → Type 0
   Told k = ((i : ℕ) → i < length cells → IsIn k (parts (cell_at cells i)) → test k (cell_at cells i) ≡ true) × ((i : ℕ) → i < length cells → test k (cell_at cells i) ≡ true → IsIn k (parts (cell_at cells i)))
 
+  -- the numbers that are gathered under a key are those of the cells that pass its test
   numbers_are : (t : Table K) (g : Gathers cmp cells (items_from 0 parts cells) t) (k : K) → Told k → numbers_of cmp g.sorted k ≡ which (test k) 0 cells
   numbers_are t g k told = one_order nat_cmp nat_cmp_total (numbers_of cmp g.sorted k) (which (test k) 0 cells) (numbers_rise cmp o exact g.sorted k g.order) (which_rise (test k) 0 cells) there back
     where
@@ -182,15 +187,18 @@ module _ {K : Type 0} (cmp : K → K → Ordering) (o : IsTotalOrder cmp) (exact
           let h = which_from (test k) 0 n cells i in
           number_true cmp o g.sorted k n ((g.same (k, n)).1 (item_true parts 0 k n h.place cells h.inside h.is (told.1 h.place h.inside h.holds))))
 
+  -- so they name these cells
   cells_are : (t : Table K) (g : Gathers cmp cells (items_from 0 parts cells) t) (k : K) → Told k → numbered cells (numbers_of cmp g.sorted k) ≡ filter (test k) cells
   cells_are t g k told = ap (numbered cells) (numbers_are t g k told) ∙ which_are (test k) cells 0 cells (λ i. ap (cell_at cells) (omega arith))
 
+  -- each key has the list of its cells
   lists_are : (t : Table K) (g : Gathers cmp cells (items_from 0 parts cells) t) (ks : List K) → ((k : K) → IsIn k ks → Told k) → paired ks (map (numbered cells) (map (numbers_of cmp g.sorted) ks)) ≡ map (λ k. (k, filter (test k) cells)) ks
   lists_are t g [] f = refl
   lists_are t g (k ∷ ks) f =
       ap (λ (l : List Cell). (k, l) ∷ paired ks (map (numbered cells) (map (numbers_of cmp g.sorted) ks))) (cells_are t g k (f k (inl refl)))
       ∙ ap (λ (l : List (K × List Cell)). (k, filter (test k) cells) ∷ l) (lists_are t g ks (λ j i. f j (inr i)))
 
+  -- so the table shows each face with its cells
   pub seen_is :
       (t : Table K) (faces : List K) → Gathers cmp cells (items_from 0 parts cells) t → IsStrictlySortedBy cmp faces → ((k : K) → IsIn k faces → Told k) →
       ((k : K) → (q : List ℕ) → IsIn (Full q) cells → IsIn k (parts (Full q)) → IsIn k faces) →

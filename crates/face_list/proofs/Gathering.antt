@@ -35,6 +35,7 @@ keys_rise {K} cmp i j e = by (cmp i.0 j.0) refl e
     by Equal f h = inr (f, h)
     by Greater f h = cc
 
+-- of two items in order the first has no later key
 pub not_greater : {K : Type 0} (cmp : K → K → Ordering) (i j : K × ℕ) → item_cmp cmp i j ≡ Less → is_gt (cmp i.0 j.0) ≡ false
 not_greater cmp i j e = elim (keys_rise cmp i j e) [ inl l ↦ ap is_gt l | inr l ↦ ap is_gt l.0 ]
 
@@ -117,6 +118,7 @@ full_more {K} cells items i t = (
     ap (map (λ (j : K × ℕ). j.0)) (filter-append (λ (j : K × ℕ). is_full (cell_at cells j.1)) items (i ∷ []) ∙ ap (λ (l : List (K × ℕ)). filter (λ (j : K × ℕ). is_full (cell_at cells j.1)) items ++ l) e)
     ∙ map-append (λ (j : K × ℕ). j.0) (filter (λ (j : K × ℕ). is_full (cell_at cells j.1)) items) (i ∷ []))
 
+-- an item of an Open cell adds no key
 pub open_more : {K : Type 0} (cells : List Cell) (items : List (K × ℕ)) (i : K × ℕ) → is_full (cell_at cells i.1) ≡ false → full_keys cells (items ++ i ∷ []) ≡ full_keys cells items
 open_more {K} cells items i t = (
     let e : filter (λ (j : K × ℕ). is_full (cell_at cells j.1)) (i ∷ []) ≡ [] = rw t refl in
@@ -139,19 +141,23 @@ full_from {K} cells items k m = (
     both : (j : K × ℕ) → j.0 ≡ k → j ≡ (k, j.1)
     both (a, b) p = cc
 
+-- and a key beside the number of a Full cell is one of them
 pub full_true : {K : Type 0} (cells : List Cell) (items : List (K × ℕ)) (k : K) (n : ℕ) → IsIn (k, n) items → is_full (cell_at cells n) ≡ true → IsIn k (full_keys cells items)
 full_true {K} cells items k n m t = mapped_true (λ (j : K × ℕ). j.0) (k, n) (filter (λ (j : K × ℕ). is_full (cell_at cells j.1)) items) (filtered_true (λ (j : K × ℕ). is_full (cell_at cells j.1)) items (k, n) m t)
 
 -- ---- lists that are taken apart
 
+-- the others of items in order are in order
 pub sorted_rest : {K : Type 0} (cmp : K → K → Ordering) (i : K × ℕ) (items : List (K × ℕ)) → IsStrictlySortedBy (item_cmp cmp) (i ∷ items) → IsStrictlySortedBy (item_cmp cmp) items
 unfolding IsStrictlySortedBy
 sorted_rest cmp i items s = s.1
 
+-- an element put behind a list stands before what follows
 pub end_joined : (l : List ℕ) (n : ℕ) (m : List ℕ) → (l ++ n ∷ []) ++ m ≡ l ++ n ∷ m
 end_joined [] n m = refl
 end_joined (x ∷ l) n m = ap (λ (v : List ℕ). x ∷ v) (end_joined l n m)
 
+-- with nothing behind it a list is as it was
 pub end_none : (l m : List ℕ) → m ≡ [] → l ≡ l ++ m
 end_none [] m e = sym e
 end_none (x ∷ l) m e = ap (λ (v : List ℕ). x ∷ v) (end_none l m e)

@@ -3,6 +3,7 @@ pub mod Sorting
 pub mod Stretches
 pub mod Gathering
 pub mod Putting
+pub mod Growing
 pub mod OnePart
 pub mod FaceLists
 pub mod FaceLaws

@@ -16,6 +16,7 @@ use Rattle.face_list.specs.Gather.{item_cmp}
 pub item_order : {K : Type 0} {cmp : K → K → Ordering} → IsTotalOrder cmp → IsTotalOrder (item_cmp cmp)
 item_order o = then_total (on_total (λ p. p.0) o) (on_total (λ p. p.1) nat_cmp_total)
 
+-- items that tie are one, where keys that tie are
 pub item_exact : {K : Type 0} {cmp : K → K → Ordering} → CmpEqualImpliesEq cmp → CmpEqualImpliesEq (item_cmp cmp)
 item_exact {cmp = cmp} exact = exact_pairs cmp nat_cmp exact exact_unsigned
 

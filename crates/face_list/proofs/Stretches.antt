@@ -37,39 +37,46 @@ one_more numbers more start most (stop ∷ stops) s e =
     ap (λ (l : List ℕ). l ∷ stretches (numbers ++ more) stop (stops ++ most ∷ [])) (same_part numbers more start (stop - start) (omega arith))
     ∙ ap (λ (l : List (List ℕ)). take (stop - start) (drop start numbers) ∷ l) (one_more numbers more stop most stops s.1 e)
 
+-- with the end of the longer list the stops are stops of it
 pub stops_more : (start most end : ℕ) (stops : List ℕ) → AreStops start most stops → most ≤ end → AreStops start end (stops ++ end ∷ [])
 stops_more start most end [] s h = (omega (arith, s), refl)
 stops_more start most end (stop ∷ stops) s h = (s.0, stops_more stop most end stops s.1 h)
 
 -- ---- a stretch by its index
 
+-- a stretch is what stands between its stop and the one before
 pub stretch_at : (numbers stops : List ℕ) (start i e : ℕ) (d : List ℕ) → i < length stops → get_or (stretches numbers start stops) i d ≡ take (get_or stops i e - get_or (start ∷ stops) i e) (drop (get_or (start ∷ stops) i e) numbers)
 stretch_at numbers [] start i e d h = absurd (omega arith)
 stretch_at numbers (stop ∷ stops) start zero e d h = refl
 stretch_at numbers (stop ∷ stops) start (suc i) e d h = stretch_at numbers stops stop i e d (omega arith)
 
+-- stops do not fall, and are within the list
 pub stop_at : (start most : ℕ) (stops : List ℕ) (i e : ℕ) → AreStops start most stops → i < length stops → (get_or (start ∷ stops) i e ≤ get_or stops i e) × (get_or stops i e ≤ most)
 stop_at start most [] i e s h = absurd (omega arith)
 stop_at start most (stop ∷ stops) zero e s h = (s.0, stops_below stop most stops s.1)
 stop_at start most (stop ∷ stops) (suc i) e s h = stop_at stop most stops i e s.1 (omega arith)
 
+-- there is a stretch for each stop
 pub as_many : (numbers stops : List ℕ) (start : ℕ) → length (stretches numbers start stops) ≡ length stops
 as_many numbers [] start = refl
 as_many numbers (stop ∷ stops) start = ap suc (as_many numbers stops stop)
 
 -- ---- keys beside lists
 
+-- the keys of pairs are the keys
 pub paired_keys : {X Y : Type 0} (xs : List X) (ys : List Y) → length ys ≡ length xs → map (λ f. f.0) (paired xs ys) ≡ xs
 paired_keys [] ys h = refl
 paired_keys (x ∷ xs) [] h = absurd (omega (arith, h))
 paired_keys {X} (x ∷ xs) (y ∷ ys) h = ap (λ (l : List X). x ∷ l) (paired_keys xs ys (omega (arith, h)))
 
+-- a pair by its index has both by this index
 pub paired_at : {X Y : Type 0} (xs : List X) (ys : List Y) (i : ℕ) (x : X) (y : Y) → length ys ≡ length xs → i < length xs → get_or (paired xs ys) i (x, y) ≡ (get_or xs i x, get_or ys i y)
 paired_at [] ys i x y h l = absurd (omega arith)
 paired_at (z ∷ xs) [] i x y h l = absurd (omega (arith, h))
 paired_at (z ∷ xs) (w ∷ ys) zero x y h l = refl
 paired_at (z ∷ xs) (w ∷ ys) (suc i) x y h l = paired_at xs ys i x y (omega (arith, h)) (omega arith)
 
+-- there are as many pairs as keys
 pub paired_length : {X Y : Type 0} (xs : List X) (ys : List Y) → length ys ≡ length xs → length (paired xs ys) ≡ length xs
 paired_length [] ys h = refl
 paired_length (x ∷ xs) [] h = absurd (omega (arith, h))
@@ -81,9 +88,11 @@ paired_length (x ∷ xs) (y ∷ ys) h = ap suc (paired_length xs ys (omega (arit
 lists_length : {K : Type 0} (cells : List Cell) (t : Table K) → IsTable (length cells) t → length (map (numbered cells) (stretches t.numbers.items 0 t.ends.items)) ≡ length t.keys.items
 lists_length cells t s = length-map (stretches t.numbers.items 0 t.ends.items) (numbered cells) ∙ as_many t.numbers.items t.ends.items 0 ∙ s.ends
 
+-- its keys are those that are shown
 pub keys_seen : {K : Type 0} (cells : List Cell) (t : Table K) → IsTable (length cells) t → map (λ f. f.0) (table_seen cells t) ≡ t.keys.items
 keys_seen cells t s = paired_keys t.keys.items (map (numbered cells) (stretches t.numbers.items 0 t.ends.items)) (lists_length cells t s)
 
+-- and as many
 pub seen_length : {K : Type 0} (cells : List Cell) (t : Table K) → IsTable (length cells) t → length (table_seen cells t) ≡ length t.keys.items
 seen_length cells t s = paired_length t.keys.items (map (numbered cells) (stretches t.numbers.items 0 t.ends.items)) (lists_length cells t s)
 

@@ -10,21 +10,11 @@ ghost use Rattle.face_list.specs.Tables.{IsTable, table_seen};
 
 use crate::counts::number_of;
 use crate::face::Faces;
-use crate::gather::{each_once, keys_of_full, with_numbers};
+use crate::gather::{keys_of_full, sorted, with_numbers};
 use crate::parts::{pair_items, point_items, triple_items};
 use crate::table::Table;
 use point_order::{Cell, Pair, Point, Tri};
 use std::alloc::{AllocError, Global};
-
-// The items in order, each once.
-fn in_order<K: Ord + Copy>(mut items: Vec<(K, u32)>) -> Vec<(K, u32)>
-    requires { CmpEqualImpliesEq K.cmp }
-    ensures order { IsStrictlySortedBy (item_cmp K.cmp) result.items }
-    ensures same { (i : K × ℕ) → IsIn i result.items ↔ IsIn i items.items }
-{
-    items.sort_unstable();
-    each_once(items)
-}
 
 // Each key of a Full cell, in order, with the numbers of the cells of its items, in order. It is refused as want of
 // memory where there are more numbers than 32 bits count.
@@ -38,7 +28,7 @@ fn gather<K: Ord + Copy>(
     ensures gathers { IfOk result (λ t. Gathers K.cmp cells.now items.items t) }
     ensures table { IfOk result (λ t. IsTable (length cells.now) t) }
 {
-    let items = in_order(items);
+    let items = sorted(items);
     let keys = keys_of_full(alloc, cells, &items)?;
     let table = with_numbers(alloc, keys, &items)?;
     Ok(table)

@@ -1,6 +1,6 @@
 //! Counts as numbers of 32 bits.
 
-ghost use Rattle.std.specs.Prelude.{◌≡◌, ◌<◌, ◌≤◌, ◌^◌, IfOk, OnOk, OnErr};
+ghost use Rattle.std.specs.Prelude.{◌≡◌, ◌<◌, ◌≤◌, ◌+◌, ◌^◌, IfOk, OnOk, OnErr};
 
 use std::alloc::AllocError;
 
@@ -16,5 +16,18 @@ pub fn number_of(count: usize) -> Result<u32, AllocError>
     match u32::try_from(count) {
         Ok(number) => Ok(number),
         Err(_) => Err(AllocError),
+    }
+}
+
+/// The sum of two counts.
+///
+/// # Errors
+/// Want of memory, where it is 2^64 or more.
+pub fn sum_of(a: usize, b: usize) -> Result<usize, AllocError>
+    ensures { IfOk result (λ sum. sum ≡ a + b) }
+{
+    match a.checked_add(b) {
+        Some(sum) => Ok(sum),
+        None => Err(AllocError),
     }
 }

@@ -1,6 +1,6 @@
 //! Cells gathered under keys, by sorting.
 
-ghost use Rattle.std.specs.Prelude.{◌≡◌, ◌<◌, ◌≤◌, ◌^◌, ◌++◌, ◌⊎◌, ◌↔◌, ℕ, [], ◌∷◌, false, length, map, IfOk, OnOk};
+ghost use Rattle.std.specs.Prelude.{◌≡◌, ◌<◌, ◌≤◌, ◌^◌, ◌+◌, ◌++◌, ◌⊎◌, ◌↔◌, ℕ, [], ◌∷◌, false, length, map, IfOk, OnOk};
 ghost use Rattle.std.specs.List.Sorted.{IsSorted, IsStrictlySortedBy};
 ghost use Rattle.std.specs.Ordering.{is_gt, is_lt};
 ghost use Rattle.std.specs.declared.cmp.Ordering.TheVariants.{Less};
@@ -17,8 +17,8 @@ use std::alloc::{AllocError, Global};
 use std::cmp::Ordering;
 use std::thread::Threads;
 
-/// Items in order, each once.
-pub fn each_once<K: Ord + Copy>(mut items: Vec<(K, u32)>) -> Vec<(K, u32)>
+// Items in order, each once.
+fn each_once<K: Ord + Copy>(mut items: Vec<(K, u32)>) -> Vec<(K, u32)>
     requires exact { CmpEqualImpliesEq K.cmp }
     requires order { IsSorted (item_cmp K.cmp) items.items }
     ensures order { IsStrictlySortedBy (item_cmp K.cmp) result.items }
@@ -26,6 +26,16 @@ pub fn each_once<K: Ord + Copy>(mut items: Vec<(K, u32)>) -> Vec<(K, u32)>
 {
     items.dedup();
     items
+}
+
+/// The items in order, each once.
+pub fn sorted<K: Ord + Copy>(mut items: Vec<(K, u32)>) -> Vec<(K, u32)>
+    requires { CmpEqualImpliesEq K.cmp }
+    ensures order { IsStrictlySortedBy (item_cmp K.cmp) result.items }
+    ensures same { (i : K × ℕ) → IsIn i result.items ↔ IsIn i items.items }
+{
+    items.sort_unstable();
+    each_once(items)
 }
 
 // The items in order, each once, sorted by several threads.
@@ -144,6 +154,31 @@ fn put_end(ends: &mut Vec<u32>, count: usize) -> Result<(), AllocError>
     Ok(())
 }
 
+/// Puts the numbers of each key's items behind other numbers, and where they end.
+pub fn put_lists<K: Ord + Copy>(
+    ends: &mut Vec<u32>,
+    numbers: &mut Vec<u32>,
+    keys: &[K],
+    items: &[(K, u32)],
+) -> Result<(), AllocError>
+    requires keys { IsStrictlySortedBy K.cmp keys.now }
+    requires order { IsStrictlySortedBy (item_cmp K.cmp) items.now }
+    requires stops { AreStops 0 (length numbers.old.items) ends.old.items }
+    ensures ends { OnOk result (length ends.new.items ≡ length ends.old.items + length keys.now) }
+    ensures stops { OnOk result (AreStops 0 (length numbers.new.items) ends.new.items) }
+    ensures lists { OnOk result (stretches numbers.new.items 0 ends.new.items
+        ≡ stretches numbers.old.items 0 ends.old.items ++ map (numbers_of K.cmp items.now) keys.now) }
+    ensures numbers { OnOk result ((n : ℕ) → IsIn n numbers.new.items →
+        IsIn n numbers.old.items ⊎ IsIn n (map (λ i. i.1) items.now)) }
+{
+    let mut rest = items;
+    for key in keys {
+        rest = put_numbers(numbers, rest, *key)?;
+        put_end(ends, numbers.len())?;
+    }
+    Ok(())
+}
+
 /// The keys, each with the numbers of its items.
 pub fn with_numbers<K: Ord + Copy>(
     alloc: Global,
@@ -161,11 +196,7 @@ pub fn with_numbers<K: Ord + Copy>(
 {
     let mut ends = Vec::with_capacity(alloc, keys.len())?;
     let mut numbers = Vec::with_capacity(alloc, items.len())?;
-    let mut rest = items;
-    for key in &keys {
-        rest = put_numbers(&mut numbers, rest, *key)?;
-        put_end(&mut ends, numbers.len())?;
-    }
+    put_lists(&mut ends, &mut numbers, &keys, items)?;
     Ok(Table {
         keys,
         ends,

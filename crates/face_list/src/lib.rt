@@ -19,6 +19,7 @@ ghost use Rattle.std.specs.Prelude.{◌≡◌, IfOk};
 ghost use Rattle.face_list.specs.Faces.{points_in, parts_in, points_with_cells, with_cells};
 
 mod alone;
+mod around;
 mod counts;
 pub mod face;
 mod gather;
@@ -42,8 +43,8 @@ use std::thread::Threads;
 /// definitions come to: the lists of faces are strictly sorted and have exactly the parts of Full cells, and
 /// the points of a complex are all points of its set.
 ///
-/// The cells are gathered under their parts by sorting, with no pass over all pairs of cells and faces. Several threads
-/// sort, as many as there are processors; the faces are those that one thread would give.
+/// The cells are gathered under their points by sorting, by as many threads as there are processors, and under their
+/// pairs and triples point by point, each by a thread of its own; the faces are those that one thread would give.
 ///
 /// # Errors
 /// Want of memory. Where 32 bits do not count the cells around all faces, there is none.
@@ -58,10 +59,12 @@ pub fn faces<'a, R: Threads + Sync>(
     ensures cells { IfOk result (λ f. f.cells ≡ cells.now) }
 {
     number_of(cells.len())?;
+    let points = lists::point_table(rt, alloc, cells)?;
+    let (pairs, triples) = lists::pair_and_triple_tables(rt, alloc, cells, &points)?;
     Ok(Faces {
         cells,
-        points: lists::point_table(rt, alloc, cells)?,
-        pairs: lists::pair_table(rt, alloc, cells)?,
-        triples: lists::triple_table(rt, alloc, cells)?,
+        points,
+        pairs,
+        triples,
     })
 }

@@ -1,16 +1,19 @@
 //! The tables of faces of each kind.
 
 ghost use Rattle.std.specs.Prelude.{◌≡◌, ◌<◌, ◌^◌, length, IfOk, OnOk};
+ghost use Rattle.std.specs.List.Sorted.{IsStrictlySortedBy};
+ghost use Rattle.std.specs.Ordering.{nat_cmp};
 ghost use Rattle.face_list.specs.Faces.{points_in, parts_in, points_with_cells, with_cells};
 ghost use Rattle.face_list.specs.Gather.{AreAscending};
 ghost use Rattle.face_list.specs.Tables.{IsTable, table_seen};
 
+use crate::around::table_around;
 use crate::gather::gather;
 use crate::parts::{pair_items, point_items, triple_items};
 use crate::table::Table;
 use point_order::{Cell, Pair, Point, Tri};
 use std::alloc::{AllocError, Global};
-use std::thread::Threads;
+use std::thread::{Threads, join};
 
 /// The points of Full cells, with the cells that have them. The points of each cell ascend.
 pub fn point_table<R: Threads + Sync>(
@@ -22,37 +25,94 @@ pub fn point_table<R: Threads + Sync>(
     ensures faces { IfOk result (λ t. table_seen cells.now t ≡ points_with_cells (points_in cells.now) cells.now) }
     ensures table { IfOk result (λ t. IsTable (length cells.now) t) }
     ensures ascending { OnOk result (AreAscending cells.now) }
+    ensures order { IfOk result (λ t. IsStrictlySortedBy nat_cmp t.keys.items) }
 {
     let items = point_items(alloc, cells)?;
     gather(rt, alloc, cells, items)
 }
 
-/// The pairs inside Full cells, with the cells that have both points.
-pub fn pair_table<R: Threads + Sync>(
+// The pairs inside Full cells, with the cells that have both points.
+fn pair_table<R: Threads + Sync>(
     rt: &R,
     alloc: Global,
     cells: &[Cell],
+    points: &Table<Point>,
 ) -> Result<Table<Pair>, AllocError>
     requires few { length cells.now < 2 ^ 32 }
     requires ascending { AreAscending cells.now }
+    requires points { IsTable (length cells.now) points.now }
+    requires order { IsStrictlySortedBy nat_cmp points.now.keys.items }
     ensures faces { IfOk result (λ t. table_seen cells.now t ≡ with_cells (parts_in 2 cells.now) cells.now) }
     ensures table { IfOk result (λ t. IsTable (length cells.now) t) }
 {
-    let items = pair_items(alloc, cells)?;
-    gather(rt, alloc, cells, items)
+    match table_around(alloc, cells, points)? {
+        Some(table) => Ok(table),
+        None => {
+            let items = pair_items(alloc, cells)?;
+            gather(rt, alloc, cells, items)
+        }
+    }
 }
 
-/// The triples inside Full cells, with the cells that have all three points.
-pub fn triple_table<R: Threads + Sync>(
+// The triples inside Full cells, with the cells that have all three points.
+fn triple_table<R: Threads + Sync>(
     rt: &R,
     alloc: Global,
     cells: &[Cell],
+    points: &Table<Point>,
 ) -> Result<Table<Tri>, AllocError>
     requires few { length cells.now < 2 ^ 32 }
     requires ascending { AreAscending cells.now }
+    requires points { IsTable (length cells.now) points.now }
+    requires order { IsStrictlySortedBy nat_cmp points.now.keys.items }
     ensures faces { IfOk result (λ t. table_seen cells.now t ≡ with_cells (parts_in 3 cells.now) cells.now) }
     ensures table { IfOk result (λ t. IsTable (length cells.now) t) }
 {
-    let items = triple_items(alloc, cells)?;
-    gather(rt, alloc, cells, items)
+    match table_around(alloc, cells, points)? {
+        Some(table) => Ok(table),
+        None => {
+            let items = triple_items(alloc, cells)?;
+            gather(rt, alloc, cells, items)
+        }
+    }
+}
+
+/// Both tables, each by a thread of its own where one can be made.
+pub fn pair_and_triple_tables<R: Threads + Sync>(
+    rt: &R,
+    alloc: Global,
+    cells: &[Cell],
+    points: &Table<Point>,
+) -> Result<(Table<Pair>, Table<Tri>), AllocError>
+    requires few { length cells.now < 2 ^ 32 }
+    requires ascending { AreAscending cells.now }
+    requires points { IsTable (length cells.now) points.now }
+    requires order { IsStrictlySortedBy nat_cmp points.now.keys.items }
+    ensures pairs { IfOk result (λ both. table_seen cells.now both.0 ≡ with_cells (parts_in 2 cells.now) cells.now) }
+    ensures triples { IfOk result (λ both. table_seen cells.now both.1 ≡ with_cells (parts_in 3 cells.now) cells.now) }
+    ensures pair_table { IfOk result (λ both. IsTable (length cells.now) both.0) }
+    ensures triple_table { IfOk result (λ both. IsTable (length cells.now) both.1) }
+{
+    let (pairs, triples) = join(
+        rt,
+        || -> Result<Table<Pair>, AllocError>
+            requires few { length cells.now < 2 ^ 32 }
+            requires ascending { AreAscending cells.now }
+            requires points { IsTable (length cells.now) points.now }
+            requires order { IsStrictlySortedBy nat_cmp points.now.keys.items }
+            ensures faces { IfOk result (λ t. table_seen cells.entry.now t
+                ≡ with_cells (parts_in 2 cells.entry.now) cells.entry.now) }
+            ensures table { IfOk result (λ t. IsTable (length cells.entry.now) t) }
+        { pair_table(rt, alloc, cells, points) },
+        || -> Result<Table<Tri>, AllocError>
+            requires few { length cells.now < 2 ^ 32 }
+            requires ascending { AreAscending cells.now }
+            requires points { IsTable (length cells.now) points.now }
+            requires order { IsStrictlySortedBy nat_cmp points.now.keys.items }
+            ensures faces { IfOk result (λ t. table_seen cells.entry.now t
+                ≡ with_cells (parts_in 3 cells.entry.now) cells.entry.now) }
+            ensures table { IfOk result (λ t. IsTable (length cells.entry.now) t) }
+        { triple_table(rt, alloc, cells, points) },
+    );
+    Ok((pairs?, triples?))
 }

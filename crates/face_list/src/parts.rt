@@ -8,8 +8,8 @@ ghost use Rattle.face_list.specs.Gather.{items_from, AreAscending};
 use point_order::{Cell, Pair, Point, Tri};
 use std::alloc::{AllocError, Global};
 
-// The one triple of an Open cell.
-fn triples_of_tri(tri: Tri) -> [Tri; 1]
+/// The one triple of an Open cell.
+pub fn triples_of_tri(tri: Tri) -> [Tri; 1]
     ensures { result ≡ subsets 3 tri }
 {
     let _ = tri.corners();

@@ -61,9 +61,11 @@ module _ (s : List ℕ) (a b c p : ℕ) (i : IsAscending s) (k : AreKeys s) (d :
   ab : ¬ (a ≡ b)
   ab e = d.0 (inl (sym e))
 
+  -- the first and the last
   ac : ¬ (a ≡ c)
   ac e = d.0 (inr (inl (sym e)))
 
+  -- and the second and the last
   bc : ¬ (b ≡ c)
   bc e = d.1.0 (inl (sym e))
 

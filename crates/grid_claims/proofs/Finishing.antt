@@ -62,10 +62,12 @@ use Rattle.grid_claims.specs.Claiming.{
 use Rattle.grid_claims.proofs.MoreHands.{all_empty, stands_in}
 use Rattle.grid_claims.proofs.Trailed.{in_hand_snoc}
 
+-- a pass that carries no bucket holds none
 pub holds_nothing : (m : Seated) (places : List (Option BucketContent)) → Carries m places [] → (b : ℕ) →
     bucket_at places b ≡ None
 holds_nothing m places k b = none_or (bucket_at places b) (λ s. (k.holds b).0 s)
 
+-- hands that gave back all buckets are hands that hold nothing
 pub hands_empty : (id : TableId) (n : ℕ) (w w' : Hands) → AreHands id n w → w'.place.table_id ≡ w.place.table_id →
     HasGivenBack w w' → Carries w'.place.me w'.hold.places [] → w'.order.items ≡ [] → w'.hold.grid ≡ w.hold.grid →
     length w'.hold.places ≡ length w.hold.places → vec_capacity w'.order ≡ vec_capacity w.order →
@@ -87,10 +89,12 @@ hands_empty id n w w' a table back k none grid wide capacity first =
       room = omega (arith, wide, capacity, room);
     }
 
+-- a content that is there is there when it is mapped
 some_mapped : (f : BucketContent → BucketContent) (o : Option BucketContent) → IsSome o → IsSome (option_map f o)
 some_mapped f None s = absurd (cc s)
 some_mapped f (Some c) s = refl
 
+-- and one that is there once mapped was there
 mapped_some : (f : BucketContent → BucketContent) (o : Option BucketContent) → IsSome (option_map f o) → IsSome o
 mapped_some f None s = absurd (cc s)
 mapped_some f (Some c) s = refl
@@ -198,6 +202,7 @@ hands_committed id n tag number edit w w' plan a plan_is told table order first 
     same_empty g h i (None ∷ l) = ap (λ (x : ℕ). x + 1) (same_empty g h (i + 1) l)
     same_empty g h i (Some c ∷ l) = same_empty g h (i + 1) l
 
+-- after the commit and the releases the edit was made, and all buckets were given back
 pub finished : (id : TableId) (n tag number : ℕ) (edit : Edit) (reply : Reply) (w w' u : Hands) (plan : Plan) →
     AreHands id n w → IsReadyPlan w.place.me.0 w.hold edit plan → reply ≡ plan.reply →
     Committed tag edit reply w.place.me number w'.place.me → w'.order ≡ w.order → HasGivenBack w' u →

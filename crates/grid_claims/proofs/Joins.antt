@@ -1,8 +1,45 @@
 -- A join keeps the rule.
-use Rattle.std.specs.Prelude.{◌≡◌, ◌≢◌, ℕ, zero, suc, ◌+◌, ◌<◌, Bool, true, false, cond, leb, List, [], ◌∷◌, ◌++◌, map, Option, None, Some, length, slice_index_or, slice_set}
+use Rattle.std.specs.Prelude.{
+  ◌≡◌,
+  ◌≢◌,
+  ℕ,
+  zero,
+  suc,
+  ◌+◌,
+  ◌<◌,
+  Bool,
+  true,
+  false,
+  cond,
+  leb,
+  List,
+  [],
+  ◌∷◌,
+  ◌++◌,
+  map,
+  Option,
+  None,
+  Some,
+  length,
+  slice_index_or,
+  slice_set,
+}
 use Rattle.std.specs.List.{range_with_len}
 use Rattle.std.specs.Option.{option_map_or}
-use Rattle.std.proofs.Common.{refl, sym, ◌∙◌, ap, subst, inl, inr, arith, get_or-set_other, get_or-set_same, length-set, ext_get_or}
+use Rattle.std.proofs.Common.{
+  refl,
+  sym,
+  ◌∙◌,
+  ap,
+  subst,
+  inl,
+  inr,
+  arith,
+  get_or-set_other,
+  get_or-set_same,
+  length-set,
+  ext_get_or,
+}
 use Rattle.std.proofs.lemmas.List.{append_assoc}
 use mathlib.Core.Logic.{dite}
 use mathlib.Core.Option.{some, some-injective, some-ne-none}
@@ -26,23 +63,38 @@ use Rattle.cell_store.specs.Meshes.{by_number}
 use Rattle.grid_claims.specs.Lists.{longer}
 use Rattle.grid_claims.specs.Rule.{IsSeatInOrder, IsRule, Rule}
 use Rattle.grid_claims.specs.Plays.{joins, no_pass}
-use Rattle.grid_claims.proofs.Seen.{numbered_from, same_numbered, at_place, places_count, in_firsts}
-use Rattle.grid_claims.proofs.Boarded.{Table, Live, firsts, firsts_append, alone, others_to, others_from, same_firsts, views_set}
-use Rattle.grid_claims.proofs.Handled.{Between}
+use Rattle.grid_claims.proofs.LivePasses.{numbered_from, same_numbered, at_place, places_count, in_firsts}
+use Rattle.grid_claims.proofs.Boarded.{
+  Table,
+  Live,
+  firsts,
+  firsts_append,
+  alone,
+  others_to,
+  others_from,
+  same_firsts,
+  views_set,
+}
+use Rattle.grid_claims.proofs.SplitEvents.{Between}
 use Rattle.grid_claims.proofs.Claims.{IsAlone, below, on_board}
 use Rattle.grid_claims.proofs.Closing.{spent_in_order}
 use Rattle.grid_claims.proofs.Reached.{reached_join}
-use Rattle.grid_claims.proofs.United.{made_united}
+use Rattle.grid_claims.proofs.JoinedEntries.{made_united}
 
 -- ---- a seat without a pass
 
-one_less : (count : ℕ) (views : List View) (id : ℕ) (w : View) (x : ℕ) → get_elem? views id ≡ some w → firsts (passes_of count w) ≡ x ∷ [] → Between (firsts (passes_in count (slice_set views id no_pass))) (firsts (passes_in count views)) x
+-- where a seat with one pass comes to have none, that one's number is gone from between
+one_less : (count : ℕ) (views : List View) (id : ℕ) (w : View) (x : ℕ) → get_elem? views id ≡ some w →
+    firsts (passes_of count w) ≡ x ∷ [] → Between (firsts (passes_in count (slice_set views id no_pass)))
+    (firsts (passes_in count views)) x
 one_less count [] id w x at e = absurd (some-ne-none w (sym at))
 one_less count (y ∷ views) zero w x at e = record {
   front = [];
   back = firsts (passes_in count views);
   was = refl;
-  is = firsts_append (passes_of count y) (passes_in count views) ∙ ap (λ (l : List ℕ). l ++ firsts (passes_in count views)) (ap (λ (u : View). firsts (passes_of count u)) (some-injective y w at) ∙ e);
+  is = firsts_append (passes_of count y) (passes_in count views)
+      ∙ ap (λ (l : List ℕ). l ++ firsts (passes_in count views))
+      (ap (λ (u : View). firsts (passes_of count u)) (some-injective y w at) ∙ e);
 }
 one_less count (y ∷ views) (suc id) w x at e =
     let r = one_less count views id w x at e in
@@ -50,19 +102,25 @@ one_less count (y ∷ views) (suc id) w x at e =
     record {
       front = p ++ r.front;
       back = r.back;
-      was = firsts_append (passes_of count y) (passes_in count (slice_set views id no_pass)) ∙ ap (λ (l : List ℕ). p ++ l) r.was ∙ sym (append_assoc p r.front r.back);
-      is = firsts_append (passes_of count y) (passes_in count views) ∙ ap (λ (l : List ℕ). p ++ l) r.is ∙ sym (append_assoc p r.front (x ∷ r.back));
+      was = firsts_append (passes_of count y) (passes_in count (slice_set views id no_pass))
+          ∙ ap (λ (l : List ℕ). p ++ l) r.was ∙ sym (append_assoc p r.front r.back);
+      is = firsts_append (passes_of count y) (passes_in count views) ∙ ap (λ (l : List ℕ). p ++ l) r.is
+          ∙ sym (append_assoc p r.front (x ∷ r.back));
     }
 
+-- a number that no pass has shows none
 none_shown : (n : ℕ) (l : List Live) → ¬ (IsIn n (firsts l)) → numbered n l ≡ None
 none_shown n l f = by (numbered n l) refl
   where
     by : (o : Option Live) → numbered n l ≡ o → numbered n l ≡ None
     by None e = e
-    by (Some v) e = absurd (let r = numbered_from n l v e in f (subst (λ (k : ℕ). IsIn k (firsts l)) r.1 (in_firsts l v r.0)))
+    by (Some v) e =
+        absurd (let r = numbered_from n l v e in f (subst (λ (k : ℕ). IsIn k (firsts l)) r.1 (in_firsts l v r.0)))
 
 -- one pass is gone
-place_cleared : (p : ℕ) (l m : List Live) (n : ℕ) → AreDistinct (firsts l) → AreDistinct (firsts m) → n < p → ¬ (IsIn n (firsts m)) → ((v : Live) → v.first ≢ n → IsIn v l → IsIn v m) → ((v : Live) → v.first ≢ n → IsIn v m → IsIn v l)
+place_cleared : (p : ℕ) (l m : List Live) (n : ℕ) → AreDistinct (firsts l) → AreDistinct (firsts m) → n < p →
+    ¬ (IsIn n (firsts m)) → ((v : Live) → v.first ≢ n → IsIn v l → IsIn v m) →
+    ((v : Live) → v.first ≢ n → IsIn v m → IsIn v l)
     → map (λ n. numbered n m) (range_with_len 0 p) ≡ slice_set (map (λ n. numbered n l) (range_with_len 0 p)) n None
 place_cleared p l m n d d' b gone f g =
     let old = map (λ n. numbered n l) (range_with_len 0 p) in
@@ -73,19 +131,23 @@ place_cleared p l m n d d' b gone f g =
     dite (ℕ_discrete k n)
     (λ e.
     ap (λ (x : ℕ). slice_index_or new x None) e ∙ at_place p m n b ∙ none_shown n m gone
-    ∙ sym (get_or-set_same old n None None (omega arith)) ∙ ap (λ (x : ℕ). slice_index_or (slice_set old n None) x None) (sym e))
+    ∙ sym (get_or-set_same old n None None (omega arith)) ∙ ap (λ (x : ℕ). slice_index_or (slice_set old n None) x None)
+    (sym e))
     (λ q.
     at_place p m k (omega arith)
     ∙ same_numbered m l k d' d (λ v e j. g v (λ z. q (sym e ∙ z)) j) (λ v e j. f v (λ z. q (sym e ∙ z)) j)
     ∙ sym (at_place p l k (omega arith)) ∙ sym (get_or-set_other old n k None None q)))
 
-set_swapped : (l : List View) (i j : ℕ) (a b : View) → i ≢ j → slice_set (slice_set l i a) j b ≡ slice_set (slice_set l j b) i a
+-- two places of a list can be set in either order
+set_swapped : (l : List View) (i j : ℕ) (a b : View) → i ≢ j → slice_set (slice_set l i a) j b
+    ≡ slice_set (slice_set l j b) i a
 set_swapped [] i j a b n = refl
 set_swapped (x ∷ l) zero zero a b n = absurd (n refl)
 set_swapped (x ∷ l) zero (suc j) a b n = refl
 set_swapped (x ∷ l) (suc i) zero a b n = refl
 set_swapped (x ∷ l) (suc i) (suc j) a b n = ap (λ (m : List View). x ∷ m) (set_swapped l i j a b (λ e. n (ap suc e)))
 
+-- a history that begins with each of two lists begins with the longer
 longer_starts : (h l m : List Entry) → StartsWith h l → StartsWith h m → StartsWith h (longer l m)
 longer_starts h l m a b = by (leb (length l) (length m))
   where
@@ -95,7 +157,10 @@ longer_starts h l m a b = by (leb (length l) (length m))
 
 -- ---- the join
 
-pub joins_keep : (k : Key) (id other : ℕ) (v w : View) → 0 < v.parts → 0 < w.parts → v.child ≡ None → w.child ≡ None → ((b : ℕ) → bucket_at v.held b ≡ None) → ((b : ℕ) → bucket_at w.held b ≡ None) → w.first ≡ v.first + v.parts → Joins (Rule k) id v other w (joins v w) no_pass
+-- a join of two passes that hold nothing, of which the second's parts come next, keeps the rule
+pub joins_keep : (k : Key) (id other : ℕ) (v w : View) → 0 < v.parts → 0 < w.parts → v.child ≡ None → w.child ≡ None →
+    ((b : ℕ) → bucket_at v.held b ≡ None) → ((b : ℕ) → bucket_at w.held b ≡ None) → w.first ≡ v.first + v.parts →
+    Joins (Rule k) id v other w (joins v w) no_pass
 joins_keep k id other v w live live' lone lone' nothing nothing' next s rule at apart there' =
     let h = rule.0 in
     let r = rule.1 in
@@ -115,10 +180,14 @@ joins_keep k id other v w live live' lone lone' nothing nothing' next s rule at 
     let is_w : passes_of count w ≡ plain w ∷ [] = alone count w live' lone' in
     let views1 : List View = slice_set s.views other no_pass in
     let between = one_less count s.views other w w.first there (ap firsts is_w) in
-    let less = distinct_less between.front between.back w.first (subst (λ (l : List ℕ). AreDistinct l) between.is r.apart) in
-    let d1 : AreDistinct (firsts (passes_in count views1)) = subst (λ (l : List ℕ). AreDistinct l) (sym between.was) less.0 in
-    let gone : ¬ (IsIn w.first (firsts (passes_in count views1))) = λ i. less.1 (subst (λ (l : List ℕ). IsIn w.first l) between.was i) in
-    let first_step = place_cleared k.parts (passes_in count s.views) (passes_in count views1) w.first r.apart d1 w_below gone
+    let less =
+    distinct_less between.front between.back w.first (subst (λ (l : List ℕ). AreDistinct l) between.is r.apart) in
+    let d1 : AreDistinct (firsts (passes_in count views1)) =
+    subst (λ (l : List ℕ). AreDistinct l) (sym between.was) less.0 in
+    let gone : ¬ (IsIn w.first (firsts (passes_in count views1))) =
+    λ i. less.1 (subst (λ (l : List ℕ). IsIn w.first l) between.was i) in
+    let first_step =
+    place_cleared k.parts (passes_in count s.views) (passes_in count views1) w.first r.apart d1 w_below gone
     (λ u n i. others_to count s.views other w no_pass u there (λ j. elim (subst (λ (l : List Live). IsIn u l) is_w j) [
       | inl e ↦ n (ap (λ (x : Live). x.first) (sym e))
       | inr e ↦ e
@@ -128,20 +197,27 @@ joins_keep k id other v w live live' lone lone' nothing nothing' next s rule at 
     let at1 : get_elem? views1 id ≡ some v = set_else s.views other id no_pass (λ e. apart (sym e)) ∙ at in
     let second_step = views_set k s1 id v both d1 at1 live (omega arith) lone lone refl v_below in
     let views2 : List View = slice_set views1 id both in
-    let swapped : slice_set (slice_set s.views id both) other no_pass ≡ views2 = set_swapped s.views id other both no_pass (λ e. apart (sym e)) in
+    let swapped : slice_set (slice_set s.views id both) other no_pass ≡ views2 =
+    set_swapped s.views id other both no_pass (λ e. apart (sym e)) in
     let s2 : Table = record { words = s.words; homes = s.homes; views = views2 } in
-    let event : board_of k s2 ≡ join_of old (plain v) (plain w) = (λ i. record old { views = (second_step ∙ (λ j. slice_set (first_step j) v.first (Some (plain both)))) i }) in
-    let is_joined : joined old v.first w.first ≡ join_of old (plain v) (plain w) = (λ i. option_map_or (λ x. option_map_or (λ y. join_of old x y) (shown' i) old) (shown i) old) in
-    let good' : IsGood (board_of k s2) h = subst (λ (t : BoardState). IsGood t h) (is_joined ∙ sym event) (join_keeps old h v.first w.first (plain v) (plain w) good shown shown' nothing nothing' next) in
+    let event : board_of k s2 ≡ join_of old (plain v) (plain w) =
+    (λ i. record old { views = (second_step ∙ (λ j. slice_set (first_step j) v.first (Some (plain both)))) i }) in
+    let is_joined : joined old v.first w.first ≡ join_of old (plain v) (plain w) =
+    (λ i. option_map_or (λ x. option_map_or (λ y. join_of old x y) (shown' i) old) (shown i) old) in
+    let good' : IsGood (board_of k s2) h = subst (λ (t : BoardState). IsGood t h) (is_joined ∙ sym event)
+    (join_keeps old h v.first w.first (plain v) (plain w) good shown shown' nothing nothing' next) in
     let is_v : passes_of count v ≡ plain v ∷ [] = alone count v live lone in
     let is_both : passes_of count both ≡ plain both ∷ [] = alone count both (omega arith) lone in
-    let same : firsts (passes_in count views2) ≡ firsts (passes_in count views1) = same_firsts count views1 id v both at1 (ap firsts is_both ∙ sym (ap firsts is_v)) in
+    let same : firsts (passes_in count views2) ≡ firsts (passes_in count views1) =
+    same_firsts count views1 id v both at1 (ap firsts is_both ∙ sym (ap firsts is_v)) in
     let d2 : AreDistinct (firsts (passes_in count views2)) = subst (λ (l : List ℕ). AreDistinct l) (sym same) d1 in
     let mine : IsSeatInOrder k h both = record {
       table = λ q. ok.table live;
       places = λ q. ok.places live;
       idle = λ e. absurd (omega arith);
-      made = λ q. (λ i. by_number (ok.made live i ++ (ok'.made live' ∙ ap (λ (f : ℕ). made_by f w.parts (length (opening_of k)) h) next) i)) ∙ made_united v.first v.parts w.parts (length (opening_of k)) h good.legal;
+      made = λ q. (λ i. by_number (ok.made live i ++ (ok'.made live'
+          ∙ ap (λ (f : ℕ). made_by f w.parts (length (opening_of k)) h) next) i))
+          ∙ made_united v.first v.parts w.parts (length (opening_of k)) h good.legal;
       known = longer_starts h v.known w.known ok.known ok'.known;
       holds = ok.holds;
       once = ok.once;
@@ -168,6 +244,10 @@ joins_keep k id other v w live live' lone lone' nothing nothing' next s rule at 
           | inr z ↦ r.seats j u z.1
         ]
       ];
-      reached = reached_join k s s2 h id other v both w r.reached r.apart at live refl refl (sym swapped) shown shown' nothing nothing' next (event ∙ sym is_joined);
-    } in
-    (h, subst (λ (l : List View). IsRule k record { words = s.words; homes = s.homes; views = l } h) (sym swapped) result)
+      reached = reached_join k s s2 h id other v both w r.reached r.apart at live refl refl (sym swapped) shown shown'
+          nothing nothing' next (event ∙ sym is_joined);
+    } in (
+      h,
+      subst (λ (l : List View). IsRule k record { words = s.words; homes = s.homes; views = l } h) (sym swapped)
+          result,
+    )

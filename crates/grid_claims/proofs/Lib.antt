@@ -1,6 +1,6 @@
-mod Seen
+mod LivePasses
 mod Boarded
-mod Handled
+mod SplitEvents
 mod Trailed
 mod Reached
 mod Claims
@@ -10,8 +10,8 @@ mod Opening
 mod Looks
 mod Releases
 mod Closing
-mod Asked
-mod United
+mod StepsAllowed
+mod JoinedEntries
 mod Joins
 mod Carrying
 mod MoreHands

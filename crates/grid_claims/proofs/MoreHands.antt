@@ -1,5 +1,26 @@
 -- Hands with one more bucket, and with a claim that failed.
-use Rattle.std.specs.Prelude.{◌≡◌, ◌⊎◌, ℕ, zero, suc, ◌+◌, ◌<◌, ◌≤◌, List, [], ◌∷◌, ◌++◌, map, length, vec_capacity, Option, None, Some, IsSome, slice_set}
+use Rattle.std.specs.Prelude.{
+  ◌≡◌,
+  ◌⊎◌,
+  ℕ,
+  zero,
+  suc,
+  ◌+◌,
+  ◌<◌,
+  ◌≤◌,
+  List,
+  [],
+  ◌∷◌,
+  ◌++◌,
+  map,
+  length,
+  vec_capacity,
+  Option,
+  None,
+  Some,
+  IsSome,
+  slice_set,
+}
 use Rattle.std.proofs.Common.{refl, sym, ◌∙◌, ap, subst, arith, length-set, get_or-set_other}
 use Rattle.std.proofs.lemmas.List.{append_assoc, append-nil, map-append, length-append}
 use mathlib.Core.Logic.{dite}
@@ -18,7 +39,15 @@ use Rattle.grid_claims.specs.declared.view.View.{View}
 use Rattle.grid_claims.specs.Trails.{in_hand}
 use Rattle.grid_claims.specs.Passes.{Carries}
 use Rattle.grid_claims.specs.Plays.{Seated, claims, fails, HandStands}
-use Rattle.grid_claims.specs.Claiming.{empty_places, AreHands, HasClaimed, HasStopped, HasOthersWord, last_step, ShowsOne}
+use Rattle.grid_claims.specs.Claiming.{
+  empty_places,
+  AreHands,
+  HasClaimed,
+  HasStopped,
+  HasOthersWord,
+  last_step,
+  ShowsOne,
+}
 use Rattle.edit_plans.specs.Plans.{HoldsHome}
 use Rattle.grid_claims.specs.Looking.{HasMore}
 use Rattle.grid_claims.specs.declared.table.Refused.{Refused}
@@ -27,22 +56,28 @@ use Rattle.cell_store.specs.Grids.{bucket_of}
 use Rattle.cell_store.specs.Meshes.{AreAmong}
 use Rattle.grid_claims.proofs.Trailed.{in_hand_snoc}
 
-pub fewer_empty : (l : List (Option BucketContent)) (b : ℕ) (c : BucketContent) → bucket_at l b ≡ None → b < length l → empty_places (slice_set l b (Some c)) + 1 ≡ empty_places l
+-- where a bucket comes into an empty place there is one empty place less
+pub fewer_empty : (l : List (Option BucketContent)) (b : ℕ) (c : BucketContent) → bucket_at l b ≡ None → b < length l →
+    empty_places (slice_set l b (Some c)) + 1 ≡ empty_places l
 fewer_empty [] b c e h = absurd (omega arith)
 fewer_empty (None ∷ l) zero c e h = refl
 fewer_empty (Some x ∷ l) zero c e h = absurd (cc e)
 fewer_empty (None ∷ l) (suc b) c e h = let r = fewer_empty l b c e (omega arith) in omega arith
 fewer_empty (Some x ∷ l) (suc b) c e h = fewer_empty l b c e (omega arith)
 
+-- where no bucket is in hand all places are empty
 pub all_empty : (l : List (Option BucketContent)) → ((b : ℕ) → bucket_at l b ≡ None) → empty_places l ≡ length l
 all_empty [] f = refl
 all_empty (None ∷ l) f = let r = all_empty l (λ b. f (suc b)) in omega arith
 all_empty (Some x ∷ l) f = absurd (let e = f zero in cc e)
 
+-- a list with one more is one longer
 length_snoc : (l : List ℕ) (b : ℕ) → length (l ++ b ∷ []) ≡ length l + 1
 length_snoc l b = length-append l (b ∷ [])
 
-pub hands_room : (id : TableId) (n : ℕ) (w : Hands) (b : ℕ) → AreHands id n w → bucket_at w.hold.places b ≡ None → b < length w.hold.places → length w.order.items < vec_capacity w.order
+-- while a bucket is not in hand there is room in the order for one more
+pub hands_room : (id : TableId) (n : ℕ) (w : Hands) (b : ℕ) → AreHands id n w → bucket_at w.hold.places b ≡ None →
+    b < length w.hold.places → length w.order.items < vec_capacity w.order
 hands_room id n w b a lacks below =
     let some = some_empty w.hold.places b lacks below in
     let count = a.count in
@@ -56,14 +91,23 @@ hands_room id n w b a lacks below =
     some_empty (Some x ∷ l) (suc b) e h = some_empty l b e (omega arith)
 
 -- the hold after a claim
-pub put_in : (m m' : Seated) (places places' : List (Option BucketContent)) (order order' : List ℕ) (b : ℕ) (c : BucketContent) → Carries m places order → Carries m' places' order' → m'.0 ≡ claims m.0 b c → places' ≡ slice_set places b (Some c)
-put_in m m' places places' order order' b c k k' view = sym k'.places_are ∙ ap (λ (v : View). v.held) view ∙ ap (λ l. slice_set l b (Some c)) k.places_are
+pub put_in : (m m' : Seated) (places places' : List (Option BucketContent)) (order order' : List ℕ) (b : ℕ)
+    (c : BucketContent) → Carries m places order → Carries m' places' order' → m'.0 ≡ claims m.0 b c →
+    places' ≡ slice_set places b (Some c)
+put_in m m' places places' order order' b c k k' view =
+    sym k'.places_are ∙ ap (λ (v : View). v.held) view ∙ ap (λ l. slice_set l b (Some c)) k.places_are
 
-pub hands_more : (id : TableId) (n : ℕ) (w w' : Hands) (b : ℕ) (c : BucketContent) → AreHands id n w → bucket_at w.hold.places b ≡ None → b < length w.hold.places → w'.place.table_id ≡ w.place.table_id → w'.place.me.0 ≡ claims w.place.me.0 b c → w'.order.items ≡ w.order.items ++ b ∷ []
-    → Carries w'.place.me w'.hold.places w'.order.items → w'.hold.grid ≡ w.hold.grid → vec_capacity w'.order ≡ vec_capacity w.order → w'.first ≡ w.first → AreHands id n w'
+-- hands that claimed a bucket are hands with one more
+pub hands_more : (id : TableId) (n : ℕ) (w w' : Hands) (b : ℕ) (c : BucketContent) → AreHands id n w →
+    bucket_at w.hold.places b ≡ None → b < length w.hold.places → w'.place.table_id ≡ w.place.table_id →
+    w'.place.me.0 ≡ claims w.place.me.0 b c → w'.order.items ≡ w.order.items ++ b ∷ []
+    → Carries w'.place.me w'.hold.places w'.order.items → w'.hold.grid ≡ w.hold.grid →
+    vec_capacity w'.order ≡ vec_capacity w.order → w'.first ≡ w.first → AreHands id n w'
 hands_more id n w w' b c a lacks below seat view order k grid capacity first =
-    let put = put_in w.place.me w'.place.me w.hold.places w'.hold.places w.order.items w'.order.items b c a.carries k view in
-    let one : empty_places w'.hold.places + 1 ≡ empty_places w.hold.places = ap (λ l. empty_places l + 1) put ∙ fewer_empty w.hold.places b c lacks below in
+    let put =
+    put_in w.place.me w'.place.me w.hold.places w'.hold.places w.order.items w'.order.items b c a.carries k view in
+    let one : empty_places w'.hold.places + 1 ≡ empty_places w.hold.places =
+    ap (λ l. empty_places l + 1) put ∙ fewer_empty w.hold.places b c lacks below in
     let wide : length w'.hold.places ≡ length w.hold.places = ap length put ∙ length-set w.hold.places b (Some c) in
     let more : length w'.order.items ≡ length w.order.items + 1 = ap length order ∙ length_snoc w.order.items b in
     let count = a.count in
@@ -81,19 +125,29 @@ hands_more id n w w' b c a lacks below seat view order k grid capacity first =
       room = omega (arith, wide, capacity, room);
     }
 
-pub stands_in : (id : TableId) (n : ℕ) (w : Hands) → AreHands id n w → (h : List Entry) → HandStands w.place.me.0 h → Stands w.hold h
+-- where what the pass holds stands for a history, its hold does
+pub stands_in : (id : TableId) (n : ℕ) (w : Hands) → AreHands id n w → (h : List Entry) → HandStands w.place.me.0 h →
+    Stands w.hold h
 stands_in id n w a h st =
-    let r : Stands (in_hand_of w.hold.grid w.hold.places) h = subst (λ (t : ℕ × List (Option BucketContent)). Stands (in_hand_of t.0 t.1) h) (λ i. (sym a.grid i, a.carries.places_are i)) st in
+    let r : Stands (in_hand_of w.hold.grid w.hold.places) h = subst
+    (λ (t : ℕ × List (Option BucketContent)). Stands (in_hand_of t.0 t.1) h)
+    (λ i. (sym a.grid i, a.carries.places_are i)) st in
     record { legal = r.legal; keys = r.keys; solid = r.solid; shares = r.shares }
 
-pub shows_in : (id : TableId) (n : ℕ) (w : Hands) → AreHands id n w → (h : List Entry) → HandStands w.place.me.0 h → Shows w.hold (replay h)
+-- and it shows the set that the history leaves
+pub shows_in : (id : TableId) (n : ℕ) (w : Hands) → AreHands id n w → (h : List Entry) → HandStands w.place.me.0 h →
+    Shows w.hold (replay h)
 shows_in id n w a h st = stands_shows w.hold h (stands_in id n w a h st)
 
-pub shows_one : (id : TableId) (n : ℕ) (w : Hands) → AreHands id n w → (h : List Entry) × HandStands w.place.me.0 h → ShowsOne w.hold
+-- so it shows some set
+pub shows_one : (id : TableId) (n : ℕ) (w : Hands) → AreHands id n w → (h : List Entry) × HandStands w.place.me.0 h →
+    ShowsOne w.hold
 shows_one id n w a s = (replay s.0, shows_in id n w a s.0 s.1)
 
 -- a claim that failed
-pub hands_missed : (id : TableId) (n : ℕ) (w w' : Hands) (b word : ℕ) → AreHands id n w → w'.place.table_id ≡ w.place.table_id → w'.place.me ≡ (fails w.place.me.0 b word, w.place.me.1) → w'.hold ≡ w.hold → w'.order.items ≡ w.order.items
+pub hands_missed : (id : TableId) (n : ℕ) (w w' : Hands) (b word : ℕ) → AreHands id n w →
+    w'.place.table_id ≡ w.place.table_id → w'.place.me ≡ (fails w.place.me.0 b word, w.place.me.1) → w'.hold ≡ w.hold →
+    w'.order.items ≡ w.order.items
     → vec_capacity w'.order ≡ vec_capacity w.order → w'.first ≡ w.first → AreHands id n w'
 hands_missed id n w w' b word a seat me hold order capacity first =
     let view : w'.place.me.0 ≡ fails w.place.me.0 b word = ap (λ (m : Seated). m.0) me in
@@ -112,32 +166,50 @@ hands_missed id n w w' b word a seat me hold order capacity first =
       no_child = ap (λ (v : View). v.child) view ∙ a.no_child;
       first = first ∙ a.first ∙ sym (ap (λ (v : View). v.first) view);
       grid = ap (λ (x : InHand). x.grid) hold ∙ a.grid ∙ sym (ap (λ (v : View). v.grid) view);
-      carries = subst (λ (t : List (Option BucketContent) × List ℕ). Carries w'.place.me t.0 t.1) (λ i. (sym places i, sym order i)) (record {
-        places_are = ap (λ (v : View). v.held) view ∙ k.places_are;
-        order_is = ap (λ (v : View). in_hand v.trail) view ∙ in_hand_snoc w.place.me.0.trail (Miss b word) ∙ k.order_is;
-        slots = ap (λ (m : Seated). m.1) me ∙ k.slots;
-        holds = k.holds;
-        once = k.once;
-      });
+      carries =
+          subst (λ (t : List (Option BucketContent) × List ℕ). Carries w'.place.me t.0 t.1)
+          (λ i. (sym places i, sym order i)) (record {
+            places_are = ap (λ (v : View). v.held) view ∙ k.places_are;
+            order_is =
+                ap (λ (v : View). in_hand v.trail) view ∙ in_hand_snoc w.place.me.0.trail (Miss b word) ∙ k.order_is;
+            slots = ap (λ (m : Seated). m.1) me ∙ k.slots;
+            holds = k.holds;
+            once = k.once;
+          });
       count = omega (arith, wide, empty, long, count);
       room = omega (arith, wide, capacity, room);
     }
 
 -- ---- one after another
 
-pub claimed_then : (w w' u : Hands) (steps : List Act) → HasClaimed w w' [] → HasClaimed w' u steps → HasClaimed w u steps
+-- claims, and then claims that end with some steps, are claims that end with these
+pub claimed_then : (w w' u : Hands) (steps : List Act) → HasClaimed w w' [] → HasClaimed w' u steps →
+    HasClaimed w u steps
 claimed_then w w' u steps x y =
     let v : View = w.place.me.0 in
-    let joined : (v.trail ++ (map Claim x.more ++ [])) ++ (map Claim y.more ++ steps) ≡ v.trail ++ (map Claim (x.more ++ y.more) ++ steps) =
+    let joined : (v.trail ++ (map Claim x.more ++ [])) ++ (map Claim y.more ++ steps)
+    ≡ v.trail ++ (map Claim (x.more ++ y.more) ++ steps) =
     append_assoc v.trail (map Claim x.more ++ []) (map Claim y.more ++ steps)
-    ∙ ap (λ (l : List Act). v.trail ++ l) (ap (λ (l : List Act). l ++ (map Claim y.more ++ steps)) (append-nil (map Claim x.more)) ∙ sym (append_assoc (map Claim x.more) (map Claim y.more) steps) ∙ ap (λ (l : List Act). l ++ steps) (sym (map-append Claim x.more y.more))) in
+    ∙ ap (λ (l : List Act). v.trail ++ l) (ap (λ (l : List Act). l ++ (map Claim y.more ++ steps))
+    (append-nil (map Claim x.more)) ∙ sym (append_assoc (map Claim x.more) (map Claim y.more) steps)
+    ∙ ap (λ (l : List Act). l ++ steps) (sym (map-append Claim x.more y.more))) in
     record {
       more = x.more ++ y.more;
       order = y.order ∙ ap (λ (l : List ℕ). l ++ y.more) x.order ∙ append_assoc w.order.items x.more y.more;
-      view = y.view ∙ (λ i. record (x.view i) { held = u.hold.places; trail = (x.view i).trail ++ (map Claim y.more ++ steps) }) ∙ (λ i. record v { held = u.hold.places; trail = joined i });
+      view = y.view ∙ (λ i. record (x.view i) {
+        held = u.hold.places;
+        trail =
+            (x.view i).trail ++ (map Claim y.more ++ steps);
+      }) ∙ (λ i. record v {
+        held =
+            u.hold.places;
+        trail = joined i;
+      });
     }
 
-more_among : (w w' : Hands) (b : ℕ) (c : BucketContent) → bucket_at w.hold.places b ≡ None → w'.hold.grid ≡ w.hold.grid → w'.hold.places ≡ slice_set w.hold.places b (Some c) → AreAmong w.hold w'.hold
+-- the buckets before are among those with one more
+more_among : (w w' : Hands) (b : ℕ) (c : BucketContent) → bucket_at w.hold.places b ≡ None →
+    w'.hold.grid ≡ w.hold.grid → w'.hold.places ≡ slice_set w.hold.places b (Some c) → AreAmong w.hold w'.hold
 more_among w w' b c lacks grid put = record {
   grid = sym grid;
   buckets = λ x u e. dite (ℕ_discrete x b)
@@ -145,21 +217,29 @@ more_among w w' b c lacks grid put = record {
       (λ n. ap (λ l. bucket_at l x) put ∙ get_or-set_other w.hold.places b x (Some c) None n ∙ e);
 }
 
-pub has_more : (id : TableId) (n : ℕ) (w w' : Hands) (b : ℕ) (c : BucketContent) → AreHands id n w → AreHands id n w' → bucket_at w.hold.places b ≡ None → w'.place.me.0 ≡ claims w.place.me.0 b c → w'.order.items ≡ w.order.items ++ b ∷ [] → (h : List Entry) × HandStands w'.place.me.0 h → HasMore id n w w'
+-- so after a claim there is more in hand
+pub has_more : (id : TableId) (n : ℕ) (w w' : Hands) (b : ℕ) (c : BucketContent) → AreHands id n w → AreHands id n w' →
+    bucket_at w.hold.places b ≡ None → w'.place.me.0 ≡ claims w.place.me.0 b c →
+    w'.order.items ≡ w.order.items ++ b ∷ [] → (h : List Entry) × HandStands w'.place.me.0 h → HasMore id n w w'
 has_more id n w w' b c a a' lacks view order st =
     let v : View = w.place.me.0 in
-    let put = put_in w.place.me w'.place.me w.hold.places w'.hold.places w.order.items w'.order.items b c a.carries a'.carries view in
+    let put = put_in w.place.me w'.place.me w.hold.places w'.hold.places w.order.items w'.order.items b c a.carries
+    a'.carries view in
     record {
       hands = a';
       claimed = record {
         more = b ∷ [];
         order = order;
-        view = view ∙ (λ i. record v { held = (ap (λ l. slice_set l b (Some c)) a.carries.places_are ∙ sym put) i; trail = v.trail ++ Claim b ∷ [] });
+        view = view ∙ (λ i. record v {
+          held = (ap (λ l. slice_set l b (Some c)) a.carries.places_are ∙ sym put) i;
+          trail = v.trail ++ Claim b ∷ [];
+        });
       };
       among = more_among w w' b c lacks (a'.grid ∙ ap (λ (u : View). u.grid) view ∙ sym a.grid) put;
       one = shows_one id n w' a' st;
     }
 
+-- more than more is more
 pub more_then : (id : TableId) (n : ℕ) (w w' u : Hands) → HasMore id n w w' → HasMore id n w' u → HasMore id n w u
 more_then id n w w' u x y = record {
   hands = y.hands;
@@ -168,6 +248,7 @@ more_then id n w w' u x y = record {
   one = y.one;
 }
 
+-- a set that more buckets show is one that fewer of them show
 pub shown : (w w' : InHand) (s : List ℕ) → AreAmong w w' → Shows w' s → Shows w s
 shown w w' s a sh = fewer_show w w' s a sh
 
@@ -186,6 +267,7 @@ more_none id n w a one = record {
   one = one;
 }
 
+-- with one bucket more in the order, and as many places, fewer places are empty
 fewer_by : (o o' e e' l l' n : ℕ) → o + e ≡ l → o' + e' ≡ l' → l ≡ n → l' ≡ n → o' ≡ o + 1 → e' < e
 fewer_by o o' e e' l l' n x y p q r = omega arith
 
@@ -206,26 +288,34 @@ home_held hold p g b mine same e =
     subst (λ (x : ℕ). IsSome (bucket_at hold.places x)) (sym (e ∙ ap (λ (x : ℕ). bucket_of x p) same)) mine
 
 -- no word of the pass's own
-pub others_still : (w w' : Hands) (steps : List Act) (why : Refused) → HasClaimed w w' steps → HasOthersWord w'.place.me.0 why → HasOthersWord w.place.me.0 why
+pub others_still : (w w' : Hands) (steps : List Act) (why : Refused) → HasClaimed w w' steps →
+    HasOthersWord w'.place.me.0 why → HasOthersWord w.place.me.0 why
 others_still w w' steps Spent c o = o
 others_still w w' steps (Busy bucket word) c o =
     let first : w'.place.me.0.first ≡ w.place.me.0.first = ap (λ (v : View). v.first) c.view in
     let parts : w'.place.me.0.parts ≡ w.place.me.0.parts = ap (λ (v : View). v.parts) c.view in
-    let all : w'.place.me.0.all ≡ w.place.me.0.all = ap (λ (v : View). v.all) c.view in
-    (o.0, subst (λ (t : ℕ × ℕ). (word ≤ t.0) ⊎ (t.0 + t.1 < word)) (λ i. (first i, parts i)) o.1, subst (λ (x : ℕ). word ≤ x) all o.2)
+    let all : w'.place.me.0.all ≡ w.place.me.0.all = ap (λ (v : View). v.all) c.view in (
+      o.0,
+      subst (λ (t : ℕ × ℕ). (word ≤ t.0) ⊎ (t.0 + t.1 < word)) (λ i. (first i, parts i)) o.1,
+      subst (λ (x : ℕ). word ≤ x) all o.2,
+    )
 others_still w w' steps Memory c o = tt
 
-pub stopped_then : (id : TableId) (n : ℕ) (w w' u : Hands) (why : Refused) → HasMore id n w w' → HasStopped w' u why → HasStopped w u why
+-- a try that claims more and then stops has stopped
+pub stopped_then : (id : TableId) (n : ℕ) (w w' u : Hands) (why : Refused) → HasMore id n w w' → HasStopped w' u why →
+    HasStopped w u why
 stopped_then id n w w' u why x y = record {
   claimed = claimed_then w w' u (last_step why) x.claimed y.claimed;
   others = others_still w w' [] why x.claimed y.others;
 }
 
+-- so has one that claims more and then lacks memory
 pub out_of_memory : (id : TableId) (n : ℕ) (w w' : Hands) → HasMore id n w w' → HasStopped w w' Memory
 out_of_memory id n w w' x = record { claimed = x.claimed; others = tt }
 
 -- ---- a hold that is as before but for its room
 
+-- hands whose hold has other room are hands
 pub hands_with_room :
     (id : TableId) (n : ℕ) (w : Hands) (hold : InHand) (r : Room) → AreHands id n w →
     hold ≡ record w.hold { room = r } →
@@ -245,6 +335,7 @@ hands_with_room id n w hold r a e =
       room = a.room;
     })
 
+-- with the same claims
 pub claimed_with_room :
     (old w : Hands) (hold : InHand) (r : Room) → HasClaimed old w [] → hold ≡ record w.hold { room = r } →
     HasClaimed old (record { place = w.place; hold = hold; order = w.order; first = w.first }) []
@@ -260,6 +351,7 @@ pub hands_same :
 hands_same id n w hold a e = subst (λ (h : InHand). AreHands id n
     (record { place = w.place; hold = h; order = w.order; first = w.first })) (sym e) a
 
+-- where no room was made the try has stopped for want of memory
 pub no_room_made :
     (id : TableId) (n : ℕ) (old w : Hands) (hold : InHand) → HasMore id n old w → hold ≡ w.hold →
     HasStopped old (record { place = w.place; hold = hold; order = w.order; first = w.first }) Memory

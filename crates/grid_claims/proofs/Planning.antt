@@ -42,6 +42,7 @@ use Rattle.grid_claims.proofs.MoreHands.{hands_with_room, more_none, more_then, 
 abbrev four : List ℕ
 four = 0 ∷ 1 ∷ 16384 ∷ 268435456 ∷ []
 
+-- the four are keys
 four_below : (p : ℕ) → IsIn p four → IsKey p
 four_below p i = elim i [
   | inl e ↦ omega (arith, e)
@@ -64,6 +65,7 @@ none_shows hold none = (
   },
 )
 
+-- hands without an order hold nothing
 nothing_held : (id : TableId) (n : ℕ) (w : Hands) → AreHands id n w → w.order.items ≡ [] → (b : ℕ) →
     bucket_at w.hold.places b ≡ None
 nothing_held id n w a none b =
@@ -79,6 +81,7 @@ nothing_held id n w a none b =
 abbrev pub hands_with : Hands → InHand → Hands
 hands_with w hold = record { place = w.place; hold = hold; order = w.order; first = w.first }
 
+-- where a turn made room, as much is in hand as before
 pub turned : (id : TableId) (n : ℕ) (w : Hands) (hold : InHand) (r : Room) → AreHands id n w → ShowsOne w.hold →
     hold ≡ record w.hold { room = r } → HasMore id n w (hands_with w hold)
 turned id n w hold r a one e = subst (λ (h : InHand). HasMore id n w (hands_with w h)) (sym e) (record {
@@ -98,6 +101,7 @@ turned id n w hold r a one e = subst (λ (h : InHand). HasMore id n w (hands_wit
 -- ---- the claims
 
 module _ (id : TableId) (n : ℕ) (edit : Edit) (old now : Hands) where
+  -- before the first claim the planner is at the edit's own buckets
   pub planning_none : (planner : Planner) → AreHands id n old → old.order.items ≡ [] → planner ≡ Home edit →
       IsPlanning id n edit old old planner
   planning_none planner a none is =
@@ -112,6 +116,7 @@ module _ (id : TableId) (n : ℕ) (edit : Edit) (old now : Hands) where
             cc (e, m));
       }
 
+  -- what is in hand shows a set for which the planner stands
   pub planning_shows : (planner : Planner) → IsPlanning id n edit old now planner → ShowsPlanner now.hold planner
   planning_shows planner i = (i.more.one.0, i.more.one.1, i.stands i.more.one.0 i.more.one.1)
 
@@ -156,6 +161,7 @@ module _ (id : TableId) (n : ℕ) (edit : Edit) (old now : Hands) where
       (λ i. (sym a.grid i, a.carries.places_are i)) st in
       record { ascending = r.ascending; keys = r.keys; solid = r.solid; sights = r.sights }
 
+  -- where the turn is done its plan is ready: what is to change is known, and is in hand
   pub planned : (planner : Planner) (plan : Plan) (turn : PlanTurn) → IsPlanning id n edit old now planner →
       turn ≡ Done plan → PlanAnswers now.hold planner turn → IsReadyPlan now.place.me.0 now.hold edit plan
   planned planner plan turn i is gives =

@@ -19,8 +19,11 @@ use Rattle.grid_claims.proofs.Trailed.{in_hand_snoc}
 
 -- The hands are as before, and the view still says so.
 pub rests_on : (w w' : Hands) → HasRest w → w'.hold ≡ w.hold → w'.order ≡ w.order → w'.first ≡ w.first
-    → w'.place.me.0.held ≡ w.place.me.0.held → w'.place.me.0.grid ≡ w.place.me.0.grid → w'.place.me.0.first ≡ w.place.me.0.first → in_hand w'.place.me.0.trail ≡ in_hand w.place.me.0.trail → w'.place.me.1 ≡ w.place.me.1
-    → w'.place.me.0.child ≡ None → 0 < w'.place.me.0.parts → w'.place.me.0.first + w'.place.me.0.parts ≤ 64 → w'.place.me.0.left ≤ 2 ^ 32 * w'.place.me.0.parts → HasRest w'
+    → w'.place.me.0.held ≡ w.place.me.0.held → w'.place.me.0.grid ≡ w.place.me.0.grid →
+    w'.place.me.0.first ≡ w.place.me.0.first → in_hand w'.place.me.0.trail ≡ in_hand w.place.me.0.trail →
+    w'.place.me.1 ≡ w.place.me.1
+    → w'.place.me.0.child ≡ None → 0 < w'.place.me.0.parts → w'.place.me.0.first + w'.place.me.0.parts ≤ 64 →
+    w'.place.me.0.left ≤ 2 ^ 32 * w'.place.me.0.parts → HasRest w'
 rests_on w w' r hold order first held grid same trail slots child some inside few = record {
   rest = record {
     nothing = λ b. ap (λ l. bucket_at l b) held ∙ r.rest.nothing b;
@@ -35,19 +38,23 @@ rests_on w w' r hold order first held grid same trail slots child some inside fe
   grid = ap (λ h. h.grid) hold ∙ r.grid ∙ sym grid;
   places = ap (λ h. h.places) hold ∙ r.places ∙ sym held;
   order = ap (λ o. o.items) order ∙ r.order;
-  room = subst (λ h. length h.places ≤ vec_capacity w'.order) (sym hold) (subst (λ o. length w.hold.places ≤ vec_capacity o) (sym order) r.room);
+  room = subst (λ h. length h.places ≤ vec_capacity w'.order) (sym hold)
+      (subst (λ o. length w.hold.places ≤ vec_capacity o) (sym order) r.room);
 }
 
 -- after a look
-pub rests_after_look : (w w' : Hands) (found : ℕ) → HasRest w → w'.hold ≡ w.hold → w'.order ≡ w.order → w'.first ≡ w.first → w'.place.me.0 ≡ looks w.place.me.0 found → w'.place.me.1 ≡ w.place.me.1 → HasRest w'
+pub rests_after_look : (w w' : Hands) (found : ℕ) → HasRest w → w'.hold ≡ w.hold → w'.order ≡ w.order →
+    w'.first ≡ w.first → w'.place.me.0 ≡ looks w.place.me.0 found → w'.place.me.1 ≡ w.place.me.1 → HasRest w'
 rests_after_look w w' found r hold order first view slots =
-    rests_on w w' r hold order first (ap (λ (v : View). v.held) view) (ap (λ (v : View). v.grid) view) (ap (λ (v : View). v.first) view)
+    rests_on w w' r hold order first (ap (λ (v : View). v.held) view) (ap (λ (v : View). v.grid) view)
+    (ap (λ (v : View). v.first) view)
     (ap (λ (v : View). in_hand v.trail) view ∙ in_hand_snoc w.place.me.0.trail (Look found)) slots
     (ap (λ (v : View). v.child) view ∙ r.rest.no_child)
     (subst (λ (v : View). 0 < v.parts) (sym view) r.rest.some_part)
     (subst (λ (v : View). v.first + v.parts ≤ 64) (sym view) r.rest.inside)
     (subst (λ (v : View). v.left ≤ 2 ^ 32 * v.parts) (sym view) r.rest.few)
 
+-- after no steps nothing is in hand
 no_steps : in_hand [] ≡ []
 unfolding in_hand
 no_steps = refl
@@ -56,11 +63,14 @@ no_steps = refl
 pub left_over : (most count h allowance : ℕ) → most ≡ h + allowance → count ≡ h → most - count ≡ allowance
 left_over most count h allowance e is = omega arith
 
+-- an allowance for which there is room is at most 2^32
 pub few_more : (h allowance : ℕ) → h + allowance ≤ 2 ^ 32 → allowance ≤ 2 ^ 32
 few_more h allowance l = omega arith
 
 -- the first pass
-pub rests_first : (k : Key) (w : Hands) (allowance : ℕ) → w.place.me ≡ (opening_view k, []) → w.first ≡ 0 → w.hold.grid ≡ k.grid → w.hold.places ≡ replicate (buckets_of k) None → w.order.items ≡ [] → buckets_of k ≤ vec_capacity w.order
+pub rests_first : (k : Key) (w : Hands) (allowance : ℕ) → w.place.me ≡ (opening_view k, []) → w.first ≡ 0 →
+    w.hold.grid ≡ k.grid → w.hold.places ≡ replicate (buckets_of k) None → w.order.items ≡ [] →
+    buckets_of k ≤ vec_capacity w.order
     → 0 < k.parts → k.parts ≤ 64 → k.most - length (opening_of k) ≡ allowance → allowance ≤ 2 ^ 32 → HasRest w
 rests_first k w allowance me first grid places order room some inside left few =
     let v : View = opening_view k in
@@ -84,14 +94,18 @@ rests_first k w allowance me first grid places order room some inside left few =
     }
 
 -- a pass that was split off
-pub rests_apart : (w o : Hands) (parts left found : ℕ) → HasRest w → 0 < parts → parts < w.place.me.0.parts → left ≤ 2 ^ 32 → o.place.me ≡ (child_of (splits w.place.me.0 parts left found), []) → o.first ≡ w.place.me.0.first + (w.place.me.0.parts - parts)
-    → o.hold.grid ≡ w.hold.grid → o.hold.places ≡ replicate (length w.hold.places) None → o.order.items ≡ [] → length w.hold.places ≤ vec_capacity o.order → HasRest o
+pub rests_apart : (w o : Hands) (parts left found : ℕ) → HasRest w → 0 < parts → parts < w.place.me.0.parts →
+    left ≤ 2 ^ 32 → o.place.me ≡ (child_of (splits w.place.me.0 parts left found), []) →
+    o.first ≡ w.place.me.0.first + (w.place.me.0.parts - parts)
+    → o.hold.grid ≡ w.hold.grid → o.hold.places ≡ replicate (length w.hold.places) None → o.order.items ≡ [] →
+    length w.hold.places ≤ vec_capacity o.order → HasRest o
 rests_apart w o parts left found r some fewer few me first grid places order room =
     let v : View = w.place.me.0 in
     let in_all : v.first + v.parts ≤ 64 = r.rest.inside in
     let inside : v.first + (v.parts - parts) + parts ≤ 64 = omega (arith, fewer, in_all) in
     let enough : left ≤ 2 ^ 32 * parts = omega (arith, some, few) in
-    let wide : length o.hold.places ≡ length w.hold.places = ap length places ∙ length-replicate (length w.hold.places) None in
+    let wide : length o.hold.places ≡ length w.hold.places =
+    ap length places ∙ length-replicate (length w.hold.places) None in
     record {
       rest = record {
         nothing = λ b. ap (λ (m : Seated). bucket_at m.0.held b) me ∙ none_at (length v.held) b;
@@ -110,8 +124,11 @@ rests_apart w o parts left found r some fewer few me first grid places order roo
     }
 
 -- what a split makes of both passes
-pub split_tells : (w w' o : Hands) (parts left found : ℕ) → w'.place.table_id ≡ w.place.table_id → o.place.table_id ≡ w.place.table_id → w'.place.me.0 ≡ without_child (splits w.place.me.0 parts left found) → o.place.me.0 ≡ child_of (splits w.place.me.0 parts left found)
-    → w.place.me.0.seen ≤ found → IsSplit parts left (standing w.place.table_id w.place.me.0) (standing w'.place.table_id w'.place.me.0) (standing o.place.table_id o.place.me.0)
+pub split_tells : (w w' o : Hands) (parts left found : ℕ) → w'.place.table_id ≡ w.place.table_id →
+    o.place.table_id ≡ w.place.table_id → w'.place.me.0 ≡ without_child (splits w.place.me.0 parts left found) →
+    o.place.me.0 ≡ child_of (splits w.place.me.0 parts left found)
+    → w.place.me.0.seen ≤ found → IsSplit parts left (standing w.place.table_id w.place.me.0)
+    (standing w'.place.table_id w'.place.me.0) (standing o.place.table_id o.place.me.0)
 split_tells w w' o parts left found table table' view view' later = record {
   found = found;
   later = later;

@@ -27,16 +27,23 @@ use Rattle.grid_claims.proofs.Looks.{shows_keep}
 use Rattle.grid_claims.proofs.MoreHands.{stands_in, claimed_then}
 use Rattle.grid_claims.proofs.Trailed.{in_hand_snoc}
 
-pub shows_allowed : (k : Key) (slots id : ℕ) (me : Seated) → 0 < me.0.parts → me.0.child ≡ None → Allows (Rule k) slots id me 0 (λ n. n) (Shown me)
-shows_allowed k slots id me live lone s rule deep at small = shows_keep k slots id me s rule.0 rule.1 record { there = at; live = live; lone = lone }
+-- a live pass may look for a snapshot: the step reads the ticket and leaves it
+pub shows_allowed : (k : Key) (slots id : ℕ) (me : Seated) → 0 < me.0.parts → me.0.child ≡ None →
+    Allows (Rule k) slots id me 0 (λ n. n) (Shown me)
+shows_allowed k slots id me live lone s rule deep at small =
+    shows_keep k slots id me s rule.0 rule.1 record { there = at; live = live; lone = lone }
 
 -- ---- the claims
 
 -- what is in hand stands for some history, after a claim
-pub stands_some : (id : TableId) (n : ℕ) (w : Hands) → AreHands id n w → (h : List Entry) × HandStands w.place.me.0 h → StandsForSome w.hold
+pub stands_some : (id : TableId) (n : ℕ) (w : Hands) → AreHands id n w → (h : List Entry) × HandStands w.place.me.0 h →
+    StandsForSome w.hold
 stands_some id n w a s = (s.0, stands_in id n w a s.0 s.1)
 
-pub claiming_goes_on : (id : TableId) (n b : ℕ) (old now next : Hands) → IsClaimingAll id n old now b → HasMore id n now next → next.order.items ≡ now.order.items ++ b ∷ [] → StandsForSome next.hold → IsClaimingAll id n old next (b + 1)
+-- with the next bucket claimed, one more has been
+pub claiming_goes_on : (id : TableId) (n b : ℕ) (old now next : Hands) → IsClaimingAll id n old now b →
+    HasMore id n now next → next.order.items ≡ now.order.items ++ b ∷ [] → StandsForSome next.hold →
+    IsClaimingAll id n old next (b + 1)
 claiming_goes_on id n b old now next i m order stands = record {
   hands = m.hands;
   claimed = claimed_then old now next [] i.claimed m.claimed;
@@ -45,25 +52,33 @@ claiming_goes_on id n b old now next i m order stands = record {
 }
 
 -- the bucket that comes next is not in hand
-pub next_absent : (id : TableId) (n b : ℕ) (old now : Hands) → IsClaimingAll id n old now b → bucket_at now.hold.places b ≡ None
+pub next_absent : (id : TableId) (n b : ℕ) (old now : Hands) → IsClaimingAll id n old now b →
+    bucket_at now.hold.places b ≡ None
 next_absent id n b old now i =
     none_or (bucket_at now.hold.places b)
-    (λ s. let k = counted_below 0 b b (subst (λ (l : List ℕ). IsIn b l) i.order ((i.hands.carries.holds b).0 s)) in omega (arith, k))
+    (λ s. let k = counted_below 0 b b (subst (λ (l : List ℕ). IsIn b l) i.order ((i.hands.carries.holds b).0 s)) in
+    omega (arith, k))
 
-pub claiming_ends : (id : TableId) (n count g : ℕ) (old now : Hands) → IsClaimingAll id n old now count → count ≡ n → is_grid_size g ≡ true → count ≡ g * g * g → HasClaimedAll old now
+-- once all have been, every bucket is in hand, and what is there stands for some history
+pub claiming_ends : (id : TableId) (n count g : ℕ) (old now : Hands) → IsClaimingAll id n old now count → count ≡ n →
+    is_grid_size g ≡ true → count ≡ g * g * g → HasClaimedAll old now
 claiming_ends id n count g old now i all size cube =
     let wide : count ≡ length now.hold.places = all ∙ sym i.hands.places in
     let first = bucket_below g 0 size in
     record {
       claimed = i.claimed;
       order = i.order ∙ ap (range_with_len 0) wide;
-      all = λ b l. (i.hands.carries.holds b).1 (subst (λ (m : List ℕ). IsIn b m) (sym i.order) (is_counted 0 count b (omega arith) (omega (arith, l, wide))));
+      all = λ b l. (i.hands.carries.holds b).1 (subst (λ (m : List ℕ). IsIn b m) (sym i.order)
+          (is_counted 0 count b (omega arith) (omega (arith, l, wide))));
       stands = i.stands (omega (arith, first, cube));
     }
 
 -- ---- the look
 
-pub hands_looked : (id : TableId) (n found : ℕ) (w w' : Hands) → AreHands id n w → w'.place.table_id ≡ w.place.table_id → Shown w.place.me found w'.place.me → w'.hold ≡ w.hold → w'.order ≡ w.order → w'.first ≡ w.first → AreHands id n w'
+-- hands that looked are hands, with all that they held
+pub hands_looked : (id : TableId) (n found : ℕ) (w w' : Hands) → AreHands id n w →
+    w'.place.table_id ≡ w.place.table_id → Shown w.place.me found w'.place.me → w'.hold ≡ w.hold → w'.order ≡ w.order →
+    w'.first ≡ w.first → AreHands id n w'
 hands_looked id n found w w' a seat told hold order first =
     let view = told.view in
     let k = a.carries in
@@ -83,13 +98,16 @@ hands_looked id n found w w' a seat told hold order first =
       no_child = ap (λ (v : View). v.child) view ∙ a.no_child;
       first = first ∙ a.first ∙ sym (ap (λ (v : View). v.first) view);
       grid = ap (λ (x : InHand). x.grid) hold ∙ a.grid ∙ sym (ap (λ (v : View). v.grid) view);
-      carries = subst (λ (t : List (Option BucketContent) × List ℕ). Carries w'.place.me t.0 t.1) (λ i. (sym places i, sym items i)) (record {
-        places_are = ap (λ (v : View). v.held) view ∙ k.places_are;
-        order_is = ap (λ (v : View). in_hand v.trail) view ∙ in_hand_snoc w.place.me.0.trail (Look found) ∙ k.order_is;
-        slots = told.slots ∙ k.slots;
-        holds = k.holds;
-        once = k.once;
-      });
+      carries =
+          subst (λ (t : List (Option BucketContent) × List ℕ). Carries w'.place.me t.0 t.1)
+          (λ i. (sym places i, sym items i)) (record {
+            places_are = ap (λ (v : View). v.held) view ∙ k.places_are;
+            order_is =
+                ap (λ (v : View). in_hand v.trail) view ∙ in_hand_snoc w.place.me.0.trail (Look found) ∙ k.order_is;
+            slots = told.slots ∙ k.slots;
+            holds = k.holds;
+            once = k.once;
+          });
       count = omega (arith, wide, empty, long, count);
       room = omega (arith, wide, capacity, room);
     }

@@ -22,7 +22,10 @@ use Rattle.grid_claims.specs.Claiming.{AreHands, HasStopped, HasGivenBack, relea
 use Rattle.grid_claims.specs.Showing.{HasClaimedAll, AreListsOf, HasLooked}
 use Rattle.grid_claims.proofs.Trying.{back_as_before, claimed_all, still_as}
 
-pub snapshot_shown : (id : TableId) (n found : ℕ) (entries : List Entry) (cells : List Cell) (w mid u : Hands) → AreHands id n w → AreHands id n mid → AreHands id n u → w.order.items ≡ [] → n ≡ w.place.me.0.grid * w.place.me.0.grid * w.place.me.0.grid
+-- every bucket claimed, the lists copied, one look and all given back: the snapshot is shown
+pub snapshot_shown : (id : TableId) (n found : ℕ) (entries : List Entry) (cells : List Cell) (w mid u : Hands) →
+    AreHands id n w → AreHands id n mid → AreHands id n u → w.order.items ≡ [] →
+    n ≡ w.place.me.0.grid * w.place.me.0.grid * w.place.me.0.grid
     → HasClaimedAll w mid → AreListsOf mid.hold entries cells → HasLooked found mid u
     → IsShown entries cells (standing w.place.table_id w.place.me.0) (standing u.place.table_id u.place.me.0)
 snapshot_shown id n found entries cells w mid u a b d none cube all lists f =
@@ -33,19 +36,32 @@ snapshot_shown id n found entries cells w mid u a b d none cube all lists f =
     let every : List ℕ = range_with_len 0 (v.grid * v.grid * v.grid) in
     let order : mid.order.items ≡ every = all.order ∙ ap (range_with_len 0) (b.places ∙ cube) in
     let claims : c.more ≡ every = sym (claimed_all w mid [] none c) ∙ order in
-    let tail : (v.trail ++ (map Claim c.more ++ [])) ++ Look found ∷ releases_of mid.order.items ≡ v.trail ++ (map Claim every ++ Look (length h) ∷ releases_of every) =
+    let tail : (v.trail ++ (map Claim c.more ++ [])) ++ Look found ∷ releases_of mid.order.items
+    ≡ v.trail ++ (map Claim every ++ Look (length h) ∷ releases_of every) =
     append_assoc v.trail (map Claim c.more ++ []) (Look found ∷ releases_of mid.order.items)
     ∙ ap (λ (l : List Act). v.trail ++ (l ++ Look found ∷ releases_of mid.order.items)) (append-nil (map Claim c.more))
     ∙ (λ i. v.trail ++ (map Claim (claims i) ++ Look (sym f.count i) ∷ releases_of (order i))) in
     let table : u.place.table_id ≡ w.place.table_id = d.table ∙ sym a.table in
-    let view : u.place.me.0 ≡ record v { held = u.hold.places; seen = length h; known = h; trail = v.trail ++ (map Claim every ++ Look (length h) ∷ releases_of every) } =
+    let view : u.place.me.0 ≡ record v {
+      held = u.hold.places;
+      seen = length h;
+      known = h;
+      trail = v.trail ++ (map Claim every ++ Look (length h) ∷ releases_of every);
+    } =
     f.view
-    ∙ (λ i. record (c.view i) { held = u.hold.places; seen = found; known = h; trail = (c.view i).trail ++ Look found ∷ releases_of mid.order.items })
+    ∙ (λ i. record (c.view i) {
+      held = u.hold.places;
+      seen = found;
+      known = h;
+      trail = (c.view i).trail ++ Look found
+          ∷ releases_of mid.order.items;
+    })
     ∙ (λ i. record v { held = u.hold.places; seen = sym f.count i; known = h; trail = tail i }) in
     let seen : mid.place.me.0.seen ≡ v.seen = ap (λ (x : View). x.seen) c.view in
     let later = f.later in
     let count = f.count in
-    subst (λ (l : List Entry). IsShown l cells (standing w.place.table_id w.place.me.0) (standing u.place.table_id u.place.me.0)) (sym same.0) (record {
+    subst (λ (l : List Entry). IsShown l cells (standing w.place.table_id w.place.me.0)
+    (standing u.place.table_id u.place.me.0)) (sym same.0) (record {
       legal = f.stands.legal;
       cells_are = same.1;
       knows = subst (λ (l : List Entry). StartsWith h l) (ap (λ (x : View). x.known) c.view) f.knows;
@@ -56,6 +72,7 @@ snapshot_shown id n found entries cells w mid u a b d none cube all lists f =
       new_is = λ i. standing (table i) (view i);
     })
 
+-- where the claims stopped and all was given back, the snapshot is not shown
 pub tried_unshown :
     (id : TableId) (n : ℕ) (w mid u : Hands) (why : Refused) →
     n ≡ w.place.me.0.grid * w.place.me.0.grid * w.place.me.0.grid → AreHands id n w → AreHands id n mid →
@@ -72,12 +89,19 @@ tried_unshown id n w mid u Memory wide a b d none s back =
 
 -- ---- whatever the answer is
 
+-- a snapshot that is not shown leaves the pass with its table and its parts
 still_why : (old new : Standing) (why : Refused) → IsUnshown old why new → IsStill old new
 still_why old new Spent k = absurd k
 still_why old new (Busy bucket word) k = still_as old new (Miss bucket word ∷ []) k.1
 still_why old new Memory k = still_as old new [] k
 
 -- the pass is of the same table, and owns the same parts
-pub still_snapped : (old new : Standing) (r : Result Snapshot Refused) → IfOk r (λ s. IsShown s.history.items s.complex.items old new) → IfErr r (λ why. IsUnshown old why new) → IsStill old new
-still_snapped old new (Ok s) k n = (ap (λ (x : Standing). x.table) k.new_is, ap (λ (x : Standing). x.first) k.new_is, ap (λ (x : Standing). x.parts) k.new_is)
+pub still_snapped : (old new : Standing) (r : Result Snapshot Refused) →
+    IfOk r (λ s. IsShown s.history.items s.complex.items old new) → IfErr r (λ why. IsUnshown old why new) →
+    IsStill old new
+still_snapped old new (Ok s) k n = (
+  ap (λ (x : Standing). x.table) k.new_is,
+  ap (λ (x : Standing). x.first) k.new_is,
+  ap (λ (x : Standing). x.parts) k.new_is,
+)
 still_snapped old new (Err why) k n = still_why old new why n

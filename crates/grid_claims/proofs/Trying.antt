@@ -1,5 +1,25 @@
 -- A whole try, as contracts see it.
-use Rattle.std.specs.Prelude.{◌≡◌, ℕ, ◌+◌, ◌-◌, ◌*◌, ◌<◌, List, [], ◌∷◌, ◌++◌, map, reverse, length, None, Result, Ok, Err, IfOk, IfErr}
+use Rattle.std.specs.Prelude.{
+  ◌≡◌,
+  ℕ,
+  ◌+◌,
+  ◌-◌,
+  ◌*◌,
+  ◌<◌,
+  List,
+  [],
+  ◌∷◌,
+  ◌++◌,
+  map,
+  reverse,
+  length,
+  None,
+  Result,
+  Ok,
+  Err,
+  IfOk,
+  IfErr,
+}
 use Rattle.std.proofs.Common.{refl, sym, ◌∙◌, ap, subst}
 use Rattle.std.proofs.lemmas.List.{append_assoc, append-nil}
 use Rattle.std.proofs.lemmas.List.Sorted.{IsPermutation-reverse}
@@ -28,9 +48,12 @@ use Rattle.grid_claims.specs.Tries.{AreClaimsAround, IsEdited, IsAsBefore, IsRef
 use Rattle.grid_claims.specs.Claiming.{AreHands, HasRest, HasClaimed, HasStopped, HasGivenBack, IsFinished, releases_of}
 use Rattle.grid_claims.proofs.MoreHands.{all_empty}
 
-pub rested_hands : (id : TableId) (n : ℕ) (w : Hands) → HasRest w → w.place.table_id ≡ id → id.words ≡ n + 1 → length w.hold.places ≡ n → AreHands id n w
+-- a pass at rest, whose hold has a place for each bucket of its table, is hands
+pub rested_hands : (id : TableId) (n : ℕ) (w : Hands) → HasRest w → w.place.table_id ≡ id → id.words ≡ n + 1 →
+    length w.hold.places ≡ n → AreHands id n w
 rested_hands id n w r table words places =
-    let nothing : (b : ℕ) → bucket_at w.hold.places b ≡ None = λ b. ap (λ l. bucket_at l b) r.places ∙ r.rest.nothing b in
+    let nothing : (b : ℕ) → bucket_at w.hold.places b ≡ None =
+    λ b. ap (λ l. bucket_at l b) r.places ∙ r.rest.nothing b in
     let empty = all_empty w.hold.places nothing in
     record {
       table = table;
@@ -50,14 +73,20 @@ rested_hands id n w r table words places =
         );
         once = subst (λ (l : List ℕ). AreDistinct l) (sym r.order) tt;
       };
-      count = (let l : length w.order.items ≡ 0 = ap length r.order in omega (Rattle.std.proofs.Common.arith, l, empty));
+      count =
+          (let l : length w.order.items ≡ 0 = ap length r.order in omega (Rattle.std.proofs.Common.arith, l, empty));
       room = r.room;
     }
 
-pub claimed_all : (w mid : Hands) (steps : List Act) → w.order.items ≡ [] → (c : HasClaimed w mid steps) → mid.order.items ≡ c.more
+-- hands that held nothing hold just what they claimed
+pub claimed_all : (w mid : Hands) (steps : List Act) → w.order.items ≡ [] → (c : HasClaimed w mid steps) →
+    mid.order.items ≡ c.more
 claimed_all w mid steps none c = c.order ∙ ap (λ (l : List ℕ). l ++ c.more) none
 
-abbrev around : (id : TableId) (n : ℕ) (w mid : Hands) (done : List Act) (middle : List Act) → AreHands id n mid → w.order.items ≡ [] → (c : HasClaimed w mid done) → AreClaimsAround middle (map Claim c.more ++ middle ++ releases_of c.more)
+-- what was claimed is released, each bucket once, around what came between
+abbrev around : (id : TableId) (n : ℕ) (w mid : Hands) (done : List Act) (middle : List Act) → AreHands id n mid →
+    w.order.items ≡ [] → (c : HasClaimed w mid done) → AreClaimsAround middle
+    (map Claim c.more ++ middle ++ releases_of c.more)
 around id n w mid done middle a none c = record {
   claims = c.more;
   releases = reverse c.more;
@@ -66,36 +95,69 @@ around id n w mid done middle a none c = record {
   steps_are = refl;
 }
 
-pub tried_edited : (id : TableId) (n tag number : ℕ) (edit : Edit) (reply : Reply) (w mid u : Hands) → 0 < w.place.me.0.left → n ≡ w.place.me.0.grid * w.place.me.0.grid * w.place.me.0.grid → AreHands id n w → AreHands id n mid → AreHands id n u → w.order.items ≡ [] → HasClaimed w mid [] → IsFinished tag edit reply number mid u
+-- claims, a commit and the releases: the edit was made
+pub tried_edited : (id : TableId) (n tag number : ℕ) (edit : Edit) (reply : Reply) (w mid u : Hands) →
+    0 < w.place.me.0.left → n ≡ w.place.me.0.grid * w.place.me.0.grid * w.place.me.0.grid → AreHands id n w →
+    AreHands id n mid → AreHands id n u → w.order.items ≡ [] → HasClaimed w mid [] →
+    IsFinished tag edit reply number mid u
     → IsEdited tag edit number reply (standing w.place.table_id w.place.me.0) (standing u.place.table_id u.place.me.0)
 tried_edited id n tag number edit reply w mid u some wide a b d none c f =
     let v : View = w.place.me.0 in
     let same : mid.order.items ≡ c.more = claimed_all w mid [] none c in
-    let tail : (v.trail ++ (map Claim c.more ++ [])) ++ Commit number ∷ releases_of mid.order.items ≡ v.trail ++ (map Claim c.more ++ (Commit number ∷ []) ++ releases_of c.more) =
+    let tail : (v.trail ++ (map Claim c.more ++ [])) ++ Commit number ∷ releases_of mid.order.items
+    ≡ v.trail ++ (map Claim c.more ++ (Commit number ∷ []) ++ releases_of c.more) =
     append_assoc v.trail (map Claim c.more ++ []) (Commit number ∷ releases_of mid.order.items)
-    ∙ ap (λ (l : List Act). v.trail ++ (l ++ Commit number ∷ releases_of mid.order.items)) (append-nil (map Claim c.more))
+    ∙ ap (λ (l : List Act). v.trail ++ (l ++ Commit number ∷ releases_of mid.order.items))
+    (append-nil (map Claim c.more))
     ∙ ap (λ (l : List ℕ). v.trail ++ (map Claim c.more ++ Commit number ∷ releases_of l)) same
-    ∙ ap (λ (l : List Act). v.trail ++ l) (sym (append_assoc (map Claim c.more) (Commit number ∷ []) (releases_of c.more))) in
+    ∙ ap (λ (l : List Act). v.trail ++ l) (sym (append_assoc (map Claim c.more) (Commit number ∷ [])
+    (releases_of c.more))) in
     let table : u.place.table_id ≡ w.place.table_id = d.table ∙ sym a.table in
-    let view : u.place.me.0 ≡ record v { held = u.hold.places; left = v.left - 1; seen = number + 1; made = v.made ++ entry_of number v.first tag edit reply ∷ []; trail = v.trail ++ (map Claim c.more ++ (Commit number ∷ []) ++ releases_of c.more) } =
+    let view : u.place.me.0 ≡ record v {
+      held = u.hold.places;
+      left = v.left - 1;
+      seen = number + 1;
+      made =
+          v.made ++ entry_of number v.first tag edit reply ∷ [];
+      trail =
+          v.trail ++ (map Claim c.more ++ (Commit number ∷ []) ++ releases_of c.more);
+    } =
     f.view
-    ∙ (λ i. record (c.view i) { held = u.hold.places; left = (c.view i).left - 1; seen = number + 1; made = (c.view i).made ++ entry_of number (c.view i).first tag edit reply ∷ []; trail = (c.view i).trail ++ Commit number ∷ releases_of mid.order.items })
-    ∙ (λ i. record v { held = u.hold.places; left = v.left - 1; seen = number + 1; made = v.made ++ entry_of number v.first tag edit reply ∷ []; trail = tail i }) in
+    ∙ (λ i. record (c.view i) {
+      held = u.hold.places;
+      left = (c.view i).left - 1;
+      seen = number + 1;
+      made =
+          (c.view i).made ++ entry_of number (c.view i).first tag edit reply ∷ [];
+      trail =
+          (c.view i).trail ++ Commit number ∷ releases_of mid.order.items;
+    })
+    ∙ (λ i. record v {
+      held = u.hold.places;
+      left = v.left - 1;
+      seen = number + 1;
+      made = v.made ++ entry_of number v.first tag edit reply ∷ [];
+      trail = tail i;
+    }) in
     record {
       some_left = some;
       later = subst (λ (x : ℕ). Prim.Native.Nat.◌≤◌ x number) (ap (λ (x : View). x.seen) c.view) f.later;
       few = f.few;
       steps = map Claim c.more ++ (Commit number ∷ []) ++ releases_of c.more;
       around = around id n w mid [] (Commit number ∷ []) b none c;
-      below = λ k i. (let x = some_of (bucket_at mid.hold.places k) ((b.carries.holds k).1 (subst (λ (l : List ℕ). IsIn k l) (sym same) i)) in subst (λ (m : ℕ). k < m) (b.places ∙ wide) (within mid.hold.places k x.0 x.1));
+      below = λ k i. (let x = some_of (bucket_at mid.hold.places k)
+          ((b.carries.holds k).1 (subst (λ (l : List ℕ). IsIn k l) (sym same) i)) in
+          subst (λ (m : ℕ). k < m) (b.places ∙ wide) (within mid.hold.places k x.0 x.1));
       history = f.history;
       after = record {
         legal = f.legal;
         knows = subst (λ (l : List Entry). StartsWith f.history l) (ap (λ (x : View). x.known) c.view) f.knows;
         count = f.count;
         right = f.right;
-        touched = subst (λ (t : ℕ × List ℕ). (b : ℕ) → IsTouched t.0 (replay f.history) edit b → IsIn b t.1) (λ i. ((c.view i).grid, same i)) f.touched;
-        exact = λ x. subst (λ (t : ℕ × List ℕ). AreTouched t.0 (replay f.history) edit t.1) (λ i. ((c.view i).grid, same i)) (f.exact x);
+        touched = subst (λ (t : ℕ × List ℕ). (b : ℕ) → IsTouched t.0 (replay f.history) edit b → IsIn b t.1)
+            (λ i. ((c.view i).grid, same i)) f.touched;
+        exact = λ x. subst (λ (t : ℕ × List ℕ). AreTouched t.0 (replay f.history) edit t.1)
+            (λ i. ((c.view i).grid, same i)) (f.exact x);
       };
       new_is = λ i. standing (table i) (view i);
     }
@@ -109,11 +171,15 @@ pub back_as_before :
 back_as_before id n w mid u middle wide a b d none c back =
     let v : View = w.place.me.0 in
     let same : mid.order.items ≡ c.more = claimed_all w mid middle none c in
-    let tail : (v.trail ++ (map Claim c.more ++ middle)) ++ releases_of mid.order.items ≡ v.trail ++ (map Claim c.more ++ middle ++ releases_of c.more) =
+    let tail : (v.trail ++ (map Claim c.more ++ middle)) ++ releases_of mid.order.items
+    ≡ v.trail ++ (map Claim c.more ++ middle ++ releases_of c.more) =
     append_assoc v.trail (map Claim c.more ++ middle) (releases_of mid.order.items)
     ∙ ap (λ (l : List ℕ). v.trail ++ (map Claim c.more ++ middle ++ releases_of l)) same in
     let table : u.place.table_id ≡ w.place.table_id = d.table ∙ sym a.table in
-    let view : u.place.me.0 ≡ record v { held = u.hold.places; trail = v.trail ++ (map Claim c.more ++ middle ++ releases_of c.more) } =
+    let view : u.place.me.0 ≡ record v {
+      held = u.hold.places;
+      trail = v.trail ++ (map Claim c.more ++ middle ++ releases_of c.more);
+    } =
     back.view
     ∙ (λ i. record (c.view i) { held = u.hold.places; trail = (c.view i).trail ++ releases_of mid.order.items })
     ∙ (λ i. record v { held = u.hold.places; trail = tail i }) in
@@ -128,6 +194,7 @@ back_as_before id n w mid u middle wide a b d none c back =
       new_is = λ i. standing (table i) (view i);
     }
 
+-- where the claims stopped and all was given back, the try is refused
 pub tried_refused :
     (id : TableId) (n : ℕ) (w mid u : Hands) (why : Refused) → 0 < w.place.me.0.left →
     n ≡ w.place.me.0.grid * w.place.me.0.grid * w.place.me.0.grid → AreHands id n w → AreHands id n mid →
@@ -145,6 +212,7 @@ tried_refused id n w mid u Memory some wide a b d none s back =
 
 -- ---- whatever the answer is
 
+-- a pass that is as before has its table and its parts
 pub still_as : (old new : Standing) (middle : List Act) → IsAsBefore middle old new → IsStill old new
 still_as old new middle k = (
   ap (λ (s : Standing). s.table) k.new_is,
@@ -152,12 +220,19 @@ still_as old new middle k = (
   ap (λ (s : Standing). s.parts) k.new_is,
 )
 
+-- so has one whose try was refused
 still_why : (old new : Standing) (why : Refused) → IsRefused old why new → IsStill old new
-still_why old new Spent k = (ap (λ (s : Standing). s.table) k.1, ap (λ (s : Standing). s.first) k.1, ap (λ (s : Standing). s.parts) k.1)
+still_why old new Spent k =
+    (ap (λ (s : Standing). s.table) k.1, ap (λ (s : Standing). s.first) k.1, ap (λ (s : Standing). s.parts) k.1)
 still_why old new (Busy bucket word) k = still_as old new (Miss bucket word ∷ []) k.2
 still_why old new Memory k = still_as old new [] k.1
 
 -- the pass is of the same table, and owns the same parts
-pub still : (old new : Standing) (tag : ℕ) (edit : Edit) (r : Result Receipt Refused) → IfOk r (λ x. IsEdited tag edit x.number x.reply old new) → IfErr r (λ why. IsRefused old why new) → IsStill old new
-still old new tag edit (Ok x) k n = (ap (λ (s : Standing). s.table) k.new_is, ap (λ (s : Standing). s.first) k.new_is, ap (λ (s : Standing). s.parts) k.new_is)
+pub still : (old new : Standing) (tag : ℕ) (edit : Edit) (r : Result Receipt Refused) →
+    IfOk r (λ x. IsEdited tag edit x.number x.reply old new) → IfErr r (λ why. IsRefused old why new) → IsStill old new
+still old new tag edit (Ok x) k n = (
+  ap (λ (s : Standing). s.table) k.new_is,
+  ap (λ (s : Standing). s.first) k.new_is,
+  ap (λ (s : Standing). s.parts) k.new_is,
+)
 still old new tag edit (Err why) k n = still_why old new why n

@@ -90,6 +90,7 @@ pub(crate) fn board_for(
         mesh: Told::of(&mesh),
     };
     let home = mesh.into_hold();
+    // Nothing is read: the call promises that each bucket stands at its place.
     let _ = home.grid();
     let slots = laid_out(alloc, home)?;
     match Board::new(alloc, &words, slots, &key) {

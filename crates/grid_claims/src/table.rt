@@ -200,6 +200,7 @@ impl MeshTable {
         if pass.left == 0 {
             return Err(Refused::Spent);
         }
+        // Nothing is read: the call promises that the hold has a place for each bucket of the grid.
         let _ = pass.hands.hold.grid();
         gate.pass(pass.hands.first, Moment::Start);
         let (again, board) = (edit, &self.board);
@@ -242,6 +243,7 @@ impl MeshTable {
         ensures shown { IfOk result (λ s. IsShown s.history.items s.complex.items pass.old pass.new) }
         ensures refused { IfErr result (λ why. IsUnshown pass.old why pass.new) }
     {
+        // Nothing is read: the call promises that the hold has a place for each bucket of the grid.
         let _ = pass.hands.hold.grid();
         let board = &self.board;
         match copy_all(board, &mut pass.hands, alloc) {
@@ -270,6 +272,7 @@ impl MeshTable {
         let mut closed = board.close_with(place);
         gather(&mut closed, &mut hold);
         closed.free();
+        // Nothing is read: the call promises that the hold has a place for each bucket of a grid.
         let _ = hold.grid();
         hold.into_mesh()
     }

@@ -1,4 +1,5 @@
--- A point taken from the one corner of a square of sets and added at the other: the fourth corner is solid, and reached alike.
+-- A point taken from the one corner of a square of sets and added at the other: the fourth corner is solid, and reached
+-- alike.
 use Rattle.std.specs.Prelude.{◌≡◌, Bool, true, false, ◌≢◌, ◌↔◌}
 use Rattle.std.proofs.Common.{refl, sym, ap, ◌∙◌, subst, inl, inr, ⊎_elim}
 use Rattle.std.proofs.lemmas.Bool.{false≢true}

@@ -102,7 +102,8 @@ insertion S T p s a = record {
   met = rim S T p s a;
 }
 
--- every point of a cell that v takes away is in a cell with v: else all cells there would go, and some cell there is left
+-- every point of a cell that v takes away is in a cell with v: else all cells there would go, and some cell there is
+-- left
 pub linked : (S T : PointSet) (v : Vertex) → solid S ≡ true → IsAdd S v T → (w x y z : Vertex) → gone (cell S) (cell T) w x y z ≡ true →
     z ≢ far → AreLinked (cell T) v z
 linked S T v s a w x y z g f = elim (search_pair (λ i j. cell T i j z v) (complex_of T).vertices (complex_of T).vertices) [

@@ -36,6 +36,7 @@ abbrev pub after : PointSet → Change → PointSet
 after S (step e) = one.after S e
 after S (move a b) = cond (has S a) (cond (has S b) S (cond (solid (minus (plus S b) a)) (minus (plus S b) a) S)) S
 
+-- the reply to it
 abbrev pub reply : PointSet → Change → Reply
 reply S (step e) = one.reply S e
 reply S (move a b) = cond (has S a) (cond (has S b) Occupied (cond (solid (minus (plus S b) a)) Moved Flat)) Missing
@@ -64,6 +65,7 @@ own_reach S (move a b) q (inr o) = inr (inl o)
 
 -- ---- steps one after another
 
+-- some steps, one after another
 data Plan : Type 0 where
   last : Step → Plan
   then : Step → Plan → Plan
@@ -88,10 +90,12 @@ abbrev Reached : (S : PointSet) (es : Plan) (T : PointSet) → Path S es T → V
 Reached S (last e) T p q = one.Along S e T q
 Reached S (then e es) T p q = one.Along S e p.0 q ⊎ Reached p.0 es T p.2 q
 
+-- where the first set is solid the last is
 path_solid : (S : PointSet) (es : Plan) (T : PointSet) → solid S ≡ true → Path S es T → solid T ≡ true
 path_solid S (last e) T s p = one.makes_solid S e T s p
 path_solid S (then e es) T s p = path_solid p.0 es T (one.makes_solid S e p.0 s p.1) p.2
 
+-- a step reaches its own point
 own_along : (S : PointSet) (e : Step) (T : PointSet) → one.Along S e T (one.point_of e)
 own_along S (add p) T = inl refl
 own_along S (take p) T = inl refl
@@ -112,6 +116,7 @@ record Past (S : PointSet) (e : Step) (S1 : PointSet) (ds : Plan) (S2 : PointSet
   reach_e : (q : Vertex) → one.Along by e S2 q ↔ one.Along S e S1 q
   reach_ds : (q : Vertex) → Reached S ds by path q ↔ Reached S1 ds S2 p q
 
+-- a step that comes behind some steps can come before them, where their reaches are apart
 past : (S : PointSet) (e : Step) (S1 : PointSet) (ds : Plan) (S2 : PointSet) → solid S ≡ true → one.Makes S e S1 →
     (p : Path S1 ds S2) →
     Disjoint (one.Along S e S1) (Reached S1 ds S2 p) → Past S e S1 ds S2 p
@@ -142,6 +147,7 @@ record Swapped (S : PointSet) (es : Plan) (S1 : PointSet) (ds : Plan) (S2 : Poin
   reach_ds : (q : Vertex) → Reached S ds by first q ↔ Reached S1 ds S2 r q
   reach_es : (q : Vertex) → Reached by es S2 second q ↔ Reached S es S1 p q
 
+-- so can some steps that come behind some others
 swap : (S : PointSet) (es : Plan) (S1 : PointSet) (ds : Plan) (S2 : PointSet) → solid S ≡ true → (p : Path S es S1) →
     (r : Path S1 ds S2) →
     Disjoint (Reached S es S1 p) (Reached S1 ds S2 r) → Swapped S es S1 ds S2 p r
@@ -165,27 +171,33 @@ swap S (then e es) S1 ds S2 s p r apart =
 -- ---- a move that is made
 
 module _ (S : PointSet) (a b : Vertex) (T : PointSet) (n : a ≢ b) (p : Path S (steps (move a b)) T) where
+  -- the point was there
   had : has S a ≡ true
   had = sym (p.1.same a n) ∙ p.2.0.present
 
+  -- the set in between is that with the new place
   middle : plus S b ≡ p.0
   middle = corners.adds_same S (plus S b) p.0 b (corners.plus_adds S b (finite p.0 b p.1.present) p.1.absent) p.1
 
+  -- the last is that without the old one
   ends : minus (plus S b) a ≡ T
   ends = ap (λ (U : PointSet). minus U a) middle ∙ corners.takes_same (minus p.0 a) T p.0 a
       (corners.minus_adds p.0 a p.2.0.present) p.2.0
 
+  -- so it is the set after the move
   move_after : after S (move a b) ≡ T
   move_after = cond_true (has S a) (cond (has S b) S (cond (solid (minus (plus S b) a)) (minus (plus S b) a) S)) S had
       ∙ cond_false (has S b) S (cond (solid (minus (plus S b) a)) (minus (plus S b) a) S) p.1.absent
       ∙ cond_true (solid (minus (plus S b) a)) (minus (plus S b) a) S (ap solid ends ∙ p.2.1)
       ∙ ends
 
+  -- and the reply is Moved
   move_reply : reply S (move a b) ≡ Moved
   move_reply = cond_true (has S a) (cond (has S b) Occupied (cond (solid (minus (plus S b) a)) Moved Flat)) Missing had
       ∙ cond_false (has S b) Occupied (cond (solid (minus (plus S b) a)) Moved Flat) p.1.absent
       ∙ cond_true (solid (minus (plus S b) a)) Moved Flat (ap solid ends ∙ p.2.1)
 
+  -- the move reaches what its two steps reach
   move_reach : (q : Vertex) → Reach S (move a b) q ↔ Reached S (steps (move a b)) T p q
   move_reach q = (there, back)
     where
@@ -218,14 +230,17 @@ abbrev done : Change → Reply
 done (step e) = one.made e
 done (move a b) = Moved
 
+-- the set after an edit that is made is the one that its steps make
 real_after : (S : PointSet) (c : Change) (T : PointSet) → IsProper c → Path S (steps c) T → after S c ≡ T
 real_after S (step e) T n p = one.makes_after S e T p
 real_after S (move a b) T n p = move_after S a b T n p
 
+-- its reply is that it was made
 real_reply : (S : PointSet) (c : Change) (T : PointSet) → IsProper c → Path S (steps c) T → reply S c ≡ done c
 real_reply S (step e) T n p = one.makes_reply S e T p
 real_reply S (move a b) T n p = move_reply S a b T n p
 
+-- and it reaches what its steps reach
 real_reach : (S : PointSet) (c : Change) (T : PointSet) → IsProper c → (p : Path S (steps c) T) → (q : Vertex) →
     Reach S c q ↔ Reached S (steps c) T p q
 real_reach S (step e) T n p q = one.makes_reach S e T p q
@@ -262,6 +277,7 @@ record IsFlat (S : PointSet) (c : Change) : Type 0 where
   some : Vertex
   there : has S some ≡ true
 
+-- an edit changes nothing by its own points, or since the rest is flat, or is made by its steps
 data Kind (S : PointSet) (c : Change) : Type 0 where
   idle : IsIdle S c → Kind S c
   flat : IsFlat S c → Kind S c
@@ -275,6 +291,7 @@ idle_step S e i = record {
   reach = λ T g q r. one.idle_reach T e q (g (one.point_of e) refl ∙ i) r;
 }
 
+-- so does a step that would leave a flat set
 flat_step : (S : PointSet) (e : Step) → solid S ≡ true → one.IsFlat S e → IsFlat S (step e)
 flat_step S (add p) s f = absurd f
 flat_step S (take p) s f = record {
@@ -334,12 +351,15 @@ occupied_move S a b f h = record {
 
 module _ (S : PointSet) (a b : Vertex) (s : solid S ≡ true) (kb : is_point b ≡ true) (f : has S a ≡ true)
     (h : has S b ≡ false) where
+  -- the two places differ
   differ : a ≢ b
   differ e = false≢true (sym h ∙ ap (has S) (sym e) ∙ f)
 
+  -- the new place is added
   adds : IsAdd S b (plus S b)
   adds = corners.plus_adds S b kb h
 
+  -- and all others stay
   kept : (q : Vertex) → has S q ≡ true → has (plus S b) q ≡ true
   kept q k = elim (cases_vertex q b) [ inl e ↦ ap (has (plus S b)) e ∙ adds.present | inr n ↦ adds.same q n ∙ k ]
 

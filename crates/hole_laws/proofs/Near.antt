@@ -44,7 +44,8 @@ over_points (Three t) p e m = in_ascending (p ∷ t) e m
 over_points (Two t) p e m = in_ascending (p ∷ t) e m
 
 module _ (c c' : Vertex → Vertex → Vertex → Vertex → Bool) (p : ℕ) (k : Insertion c c' (point p)) (l l' : List Cell) (t : ListsCells l c) (t' : ListsCells l' c') where
-  -- A part of the cells that go, whose points are all held, and closed among the cells with a held point, is all of them.
+  -- A part of the cells that go, whose points are all held, and closed among the cells with a held point, is all of
+  -- them.
   pub held_listed :
       (held : ℕ → Bool) (part : List Cell) → ((q : Cell) → IsIn q part → Goes l l' q) → ((q : Cell) (e : ℕ) → IsIn q part → IsIn e (points_of q) → held e ≡ true) →
       ((q r : Cell) (f : Facet) → IsIn q part → Goes l l' r → HasHeld held r → IsIn f (facets_of q) → IsIn f (facets_of r) → IsIn r part) →

@@ -1,4 +1,5 @@
--- The order of vertices, points by their keys and the infinite one last; what is shown of four vertices in order holds of any four.
+-- The order of vertices, points by their keys and the infinite one last; what is shown of four vertices in order holds
+-- of any four.
 use Rattle.std.specs.Prelude.{◌≡◌, ◌≢◌, ◌<◌, ◌⊎◌}
 use Rattle.std.proofs.Common.{refl, sym, ap, inl, inr}
 use Rattle.std.proofs.lemmas.Bool.{cases_order}

@@ -1,4 +1,5 @@
--- The cells that a removal makes are seen from the points beside the removed one: any solid set between these and the rest will do.
+-- The cells that a removal makes are seen from the points beside the removed one: any solid set between these and the
+-- rest will do.
 use Rattle.std.specs.Prelude.{◌≡◌, Bool, true, false, ◌≢◌, ◌⊎◌}
 use Rattle.std.proofs.Common.{refl, sym, ap, ◌∙◌, inl, inr}
 use Rattle.std.proofs.lemmas.Bool.{false≢true}

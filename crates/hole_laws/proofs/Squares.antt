@@ -1,4 +1,5 @@
--- Two new points of a set, one after the other: where what they reach is apart, each takes away the same cells before and after the other.
+-- Two new points of a set, one after the other: where what they reach is apart, each takes away the same cells before
+-- and after the other.
 use Rattle.std.specs.Prelude.{◌≡◌, Bool, true, false, ◌≢◌, ◌⊎◌}
 use Rattle.std.proofs.Common.{refl, sym, ap, ◌∙◌, subst, inl, inr}
 use Rattle.std.proofs.lemmas.Bool.{false≢true}

@@ -1,4 +1,5 @@
--- Closed parts of a complex and of a star, from those of their Full cells: each Open cell has a Full one across its triple.
+-- Closed parts of a complex and of a star, from those of their Full cells: each Open cell has a Full one across its
+-- triple.
 use Rattle.std.specs.Prelude.{◌≡◌, Bool, true, ◌≢◌, ◌⊎◌}
 use Rattle.std.proofs.Common.{sym, ap, ◌∙◌, inl, inr}
 use Rattle.del_laws.specs.Cells.{Vertex, far}
@@ -13,6 +14,7 @@ module _ (c : Vertex → Vertex → Vertex → Vertex → Bool) (k : IsComplex c
   open_full x y z w h n = let a = last_apart c k x y z far h in
       record { finite1 = λ e. a.2 (sym e); finite2 = λ e. a.1 (sym e); finite3 = λ e. a.0 (sym e); finite4 = n }
 
+  -- so a part that is closed for its Full cells is closed
   pub closed_part : ClosedFull c → ClosedPart c
   closed_part law Q s a1 a2 a3 a4 ha qa closed = λ b1 b2 b3 b4 h. whole b1 b2 b3 b4 h (cases_vertex b1 far) (cases_vertex b2 far) (cases_vertex b3 far) (cases_vertex b4 far)
     where
@@ -49,6 +51,7 @@ module _ (c : Vertex → Vertex → Vertex → Vertex → Bool) (k : IsComplex c
       whole b1 b2 b3 b4 h (inl e) (inr i) (inr j) (inr l) = first_last Q s b1 b2 b3 b4 ∙ ap (Q b2 b3 b4) e ∙ opens b2 b3 b4 (ap (c b2 b3 b4) (sym e) ∙ sym (first_last c sc b1 b2 b3 b4) ∙ h)
       whole b1 b2 b3 b4 h (inr m) (inr i) (inr j) (inr l) = full b1 b2 b3 b4 record { finite1 = m; finite2 = i; finite3 = j; finite4 = l } h
 
+  -- and so is the part at a point
   pub star_closed : (p : Vertex) → p ≢ far → StarFull c p → ClosedStar c p
   star_closed p np law Q s a1 a2 a3 ha qa closed = λ b1 b2 b3 h. whole b1 b2 b3 h (cases_vertex b1 far) (cases_vertex b2 far) (cases_vertex b3 far)
     where

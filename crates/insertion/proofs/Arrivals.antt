@@ -26,6 +26,7 @@ dug hold s p d turn f point is gives gone fills =
       subst (λ (l : List Cell). AreHeld hold l) (sym gone) g.2,
     )
 
+-- an arrival that stands right does so with more buckets in hand
 pub arrival_stays : ArrivalStays
 arrival_stays few many s p (Seeks search) a k = (k.0, search_stays few many s p search a k.1)
 arrival_stays few many s p (Digs dig) a k = k

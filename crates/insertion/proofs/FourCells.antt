@@ -110,5 +110,6 @@ five_listed a b c d l k v q i =
       ]
     ]
 
+-- so the complex of four independent points has just these five cells
 pub four_have_five : FourHaveFive
 four_have_five a b c d l k v q = (is_of_five a b c d l q, five_listed a b c d l k v q)

@@ -22,6 +22,7 @@ reply_new h e i =
 pub left_by : (h : List Entry) (e : Entry) → IsInsertion h e → after (replay h) e.edit ≡ with_point (point_of e.edit) (replay h)
 left_by h e i = ap (after (replay h)) i.edit ∙ ap (changed (replay h) (point_of e.edit)) (reply_new h e i)
 
+-- the entry of a new point follows, with the cells that go and come
 pub insertion_follows : InsertionFollows
 insertion_follows h e gone fresh i f = record {
   number = i.number;

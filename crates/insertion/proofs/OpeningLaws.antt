@@ -28,6 +28,7 @@ use Rattle.insertion.proofs.FourCells.{four_have_five}
 
 -- ---- independent points are distinct
 
+-- four points that are not in one plane are four
 pub four_apart : (a b c d : ℕ) → is_flat a b c d ≡ false → AreFour a b c d
 four_apart a b c d f = (
   (λ e. no (subst (λ x. orientation a x c d ≡ pos 0) e (self_negative _ (swap_first a a c d)))),
@@ -64,12 +65,14 @@ inserts s n line a = by (is_among line.1 s) refl
     by true e = absurd (a (among_from line.1 s e))
     by false e = rw e refl
 
+-- entries that insert points, each new where it comes, are legal
 legal_from : (n : ℕ) (s : List ℕ) (lines : List (ℕ × ℕ)) → AreNew s lines → IsLegalFrom n s (inserted_from n lines)
 legal_from n s [] a = tt
 legal_from n s (line ∷ lines) a =
     let i = inserts s n line a.0 in
     (refl, sym i, subst (λ (t : List ℕ). IsLegalFrom (n + 1) t (inserted_from (n + 1) lines)) (ap (changed s line.1) (sym i)) (legal_from (n + 1) (with_point line.1 s) lines a.1))
 
+-- and leave the set with these points
 replay_is : (n : ℕ) (s : List ℕ) (lines : List (ℕ × ℕ)) → AreNew s lines → replay_from s (inserted_from n lines) ≡ with_all s lines
 replay_is n s [] a = refl
 replay_is n s (line ∷ lines) a =
@@ -229,6 +232,7 @@ has_place [] b c e = absurd (cc e)
 has_place (o ∷ l) zero c e = omega arith
 has_place (o ∷ l) (suc b) c e = (let i = has_place l b c e in omega (arith, i))
 
+-- an option has one value
 some_same : (a b : BucketContent) → Some a ≡ Some b → a ≡ b
 some_same a b e = cc
 
@@ -242,6 +246,7 @@ NotedFour (a ∷ b ∷ c ∷ d ∷ []) bare n0 n1 n2 n3 =
     IsNoted (inserted 0 a) bare n0 × IsNoted (inserted 1 b) n0 n1 × IsNoted (inserted 2 c) n1 n2 × IsNoted (inserted 3 d) n2 n3
 NotedFour _ bare n0 n1 n2 n3 = ⊥
 
+-- once the four are noted and the five cells are in, the hold stands for the opening history
 pub opening_stands :
     (g : ℕ) (four : List (ℕ × ℕ)) (bare n0 n1 n2 n3 mesh : InHand) → AreIndependent four → ((p : ℕ × ℕ) → IsIn p four → IsKey p.1) → IsBare g bare →
     NotedFour four bare n0 n1 n2 n3 → HasCellsOfFour (points_of_lines four) n3 mesh → Stands mesh (opening_history four)
@@ -307,6 +312,7 @@ opening_stands g (a ∷ b ∷ c ∷ d ∷ x ∷ l) bare n0 n1 n2 n3 mesh f k e n
 abbrev pub at : List (ℕ × ℕ) → ℕ → ℕ × ℕ → ℕ × ℕ
 at four i none = slice_index_or four i none
 
+-- so the four at the places of the list are four
 pub apart_by : (four : List (ℕ × ℕ)) (w x y z : ℕ × ℕ) → AreIndependent four → AreFour (at four 0 w).1 (at four 1 x).1 (at four 2 y).1 (at four 3 z).1
 apart_by [] w x y z f = absurd f
 apart_by (a ∷ []) w x y z f = absurd f
@@ -315,6 +321,7 @@ apart_by (a ∷ b ∷ c ∷ []) w x y z f = absurd f
 apart_by (a ∷ b ∷ c ∷ d ∷ []) w x y z f = four_apart a.1 b.1 c.1 d.1 f
 apart_by (a ∷ b ∷ c ∷ d ∷ e ∷ l) w x y z f = absurd f
 
+-- and so with four lines that are read at their places
 pub stands_by :
     (g : ℕ) (four : List (ℕ × ℕ)) (s t u v w x y z : ℕ × ℕ) (bare n0 n1 n2 n3 mesh : InHand) → AreIndependent four →
     IsKey (at four 0 w).1 → IsKey (at four 1 x).1 → IsKey (at four 2 y).1 → IsKey (at four 3 z).1 → IsBare g bare →

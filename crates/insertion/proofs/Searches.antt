@@ -52,6 +52,7 @@ lacks hold b n has e f l is = record {
       none_is (bucket_at hold.places b) (sym e ∙ f);
 }
 
+-- the bucket of the first of some points is one of the grid
 first_below : (g : ℕ) (l : List ℕ) → is_grid_size g ≡ true → bucket_of_first g l < g * g * g
 first_below g [] size = let k = bucket_below g 0 size in omega (arith, k)
 first_below g (x ∷ l) size = bucket_below g x size
@@ -97,6 +98,7 @@ not_all_pass hold s p n b has sh new e l k =
 
 -- ---- with more buckets in hand
 
+-- buckets that were passed have been passed with more in hand
 passed_still : (few many : InHand) (s : List ℕ) (p b : ℕ) → AreAmong few many → IsPassed few s p b → IsPassed many s p b
 passed_still few many s p b a k =
     let c = some_of (bucket_at few.places b) k.0 in
@@ -106,6 +108,7 @@ passed_still few many s p b a k =
           (c.1 ∙ sym there) k.1,
     )
 
+-- a search that stands right does so with more buckets in hand
 pub search_stays : SearchStays
 search_stays few many s p (Near steps) a k = tt
 search_stays few many s p (On w) a k = (k.0, walk_stays few many s w a k.1)

@@ -56,6 +56,7 @@ TwoBelow l low = (t : List ℕ) → IsFacet l (Three t) → front t < low → Is
 abbrev pub TwoAll : List Cell → Type 0
 TwoAll l = (t : List ℕ) → IsFacet l (Three t) → IsInTwo l (Three t)
 
+-- below 0 no triple begins
 pub none_below : (l : List Cell) → TwoBelow l 0
 none_below l t i h = absurd (let g : ⊥ = omega (arith, h) in g)
 
@@ -64,6 +65,7 @@ not_less : (a low : ℕ) → low ≤ a → not (nat_lt a low) ≡ true
 not_less a low h = not_true (nat_lt a low) (false_if (nat_lt a low)
     (λ t. (let l = below_from a low t in let g : ⊥ = omega (arith, h, l) in g)))
 
+-- it is at least that
 at_least : (a low : ℕ) → not (nat_lt a low) ≡ true → low ≤ a
 at_least a low t = elim (cases_lt a low) [
   | inl l ↦ absurd (not_both (nat_lt a low) (below_true a low l) (not_from (nat_lt a low) t))
@@ -96,6 +98,7 @@ two_more l low high b o max m t i h = elim (cases_lt (front t) low) [
   ]
 ]
 
+-- where the last part has none that is open, no facet is
 pub two_all : (l : List Cell) (low : ℕ) → TwoBelow l low → OpenIn (From low) l None → TwoAll l
 two_all l low b o t i = elim (cases_lt (front t) low) [
   | inl k ↦ b t i k
@@ -118,6 +121,7 @@ least_between l low high (Three t) b o = record { is = o.is; open_facet = o.open
           let v = front_order u t e in omega (arith, w, v)))) e
     ]
 
+-- and the least that is open in a part behind such parts is the least of all
 pub least_from : (l : List Cell) (low : ℕ) (f : Facet) → TwoBelow l low → IsLeastOpenIn (From low) l f →
     IsLeastOpen l f
 least_from l low (Two p) b o = absurd (cc)

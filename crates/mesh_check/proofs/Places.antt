@@ -29,6 +29,7 @@ use Rattle.mesh_check.specs.Text.{places}
 abbrev place : List ℕ → ℕ → List ℕ
 place s p = codes " " ++ decimal (index_of s p)
 
+-- with a point more behind, its index comes last
 places_end : (s points : List ℕ) (p : ℕ) → places s (points ++ p ∷ []) ≡ places s points ++ place s p
 places_end s [] p = append-nil (place s p)
 places_end s (q ∷ points) p =

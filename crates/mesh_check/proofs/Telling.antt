@@ -8,6 +8,7 @@ use Rattle.mesh_check.specs.declared.text.Told.{Told}
 use Rattle.mesh_check.specs.Flaws.{IsVerdict}
 use Rattle.mesh_check.specs.Text.{IsTold, is_good, verdict_text}
 
+-- what a verdict tells is told: whether the lists are good, and the text
 pub told_by : (s : List ℕ) (l : List Cell) (v : Verdict) (r : Result Told AllocError) → IsVerdict s l v →
     IfOk r (λ told. told.good ≡ is_good v) → IfOk r (λ told. told.text.items ≡ verdict_text s v) →
     IfOk r (λ told. IsTold s l told.good told.text.items)

@@ -17,10 +17,12 @@ abbrev pub hull_piece : (List ℕ → List ℕ) → Cell → List ℕ
 hull_piece line (Full q) = []
 hull_piece line (Open t) = line t
 
+-- the lines of the Full cells are those of the list, cell by cell
 pub full_items : (line : List ℕ → List ℕ) → IsOfItems (λ cells. concat (map line (full_corners cells))) (full_piece line)
 full_items line (Full q) cells = refl
 full_items line (Open t) cells = refl
 
+-- and so are those of the Open ones
 pub hull_items : (line : List ℕ → List ℕ) → IsOfItems (λ cells. concat (map line (hull_corners cells))) (hull_piece line)
 hull_items line (Full q) cells = refl
 hull_items line (Open t) cells = refl

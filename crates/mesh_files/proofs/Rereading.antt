@@ -107,6 +107,7 @@ TextLeads text a b = AllLead (lines_of text) a b
 
 -- ---- one line
 
+-- a line that is right leads on, and the text behind it from there
 line_leads : (line rest : List ℕ) (a m b : Reached) → HasNo 10 line → Leads a.due a.taken line m → TextLeads rest m b
     → TextLeads (line ++ 10 ∷ rest) a b
 line_leads line rest a m b without leads next = subst (λ (ls : List (List ℕ)). AllLead ls a b) (sym
@@ -135,6 +136,7 @@ in_front_of : (line lines rest : List ℕ) → line ++ 10 ∷ (lines ++ rest) �
 in_front_of line lines rest =
     sym (append_assoc line (10 ∷ []) (lines ++ rest)) ∙ sym (append_assoc (line ++ 10 ∷ []) lines rest)
 
+-- lines that may be taken one after another lead through their list
 lines_lead : {X : Type 0} (p : Part) (shown : X → List ℕ) (add : MeshParts → X → MeshParts) (May : MeshParts → List X
     → Type 0) → Takes p shown add May → (xs : List X) (f : MeshParts) (rest : List ℕ) (b : Reached) → May f xs
     → TextLeads rest (at (behind p) (all_added add f xs)) b → TextLeads (concat (map
@@ -150,21 +152,25 @@ lines_lead {X} p shown add May t (x ∷ xs) f rest b may next =
 
 -- ---- a head
 
+-- what is written of a number has no line feed
 decimal_feed : (n : ℕ) → n < 2 ^ 64 → HasNo 10 (decimal n)
 decimal_feed n lt = number_without 10 (decimal n) (omega arith) (decimal_is n lt).number
 
+-- nor has the word of a list
 word_feed : (p : Part) → HasNo 10 (word_of p)
 word_feed Replies = (refl, (refl, (refl, (refl, (refl, (refl, (refl, (refl, tt))))))))
 word_feed Points = (refl, (refl, (refl, (refl, (refl, (refl, (refl, tt)))))))
 word_feed Cells = (refl, (refl, (refl, (refl, (refl, (refl, tt))))))
 word_feed Hull = (refl, (refl, (refl, (refl, (refl, tt)))))
 
+-- as many lines as there may be are a number of 64 bits
 most_fits : (p : Part) → most_of p < 2 ^ 64
 most_fits Replies = omega arith
 most_fits Points = omega arith
 most_fits Cells = omega arith
 most_fits Hull = omega arith
 
+-- the head of a list with few enough lines leads to them
 head_leads : (p : Part) (n : ℕ) (f : MeshParts) (lines rest : List ℕ) (b : Reached) → n ≤ most_of p → TextLeads
     (lines ++ rest) (at (lines_due p n) f) b
     → TextLeads ((((word_of p ++ decimal n) ++ codes "\n") ++ lines) ++ rest) (at (Head p) f) b
@@ -179,6 +185,7 @@ head_leads p n f lines rest b le next =
 
 -- ---- replies
 
+-- the word that is written of a reply is the one that is read
 word_same : (r : Reply) → reply_word r ≡ read_word r
 word_same Inserted = refl
 word_same Duplicate = refl
@@ -188,6 +195,7 @@ word_same Flat = refl
 word_same Moved = refl
 word_same Occupied = refl
 
+-- it has no line feed
 reply_feed : (r : Reply) → HasNo 10 (reply_word r)
 reply_feed Inserted = (refl, (refl, (refl, (refl, (refl, (refl, (refl, (refl, tt))))))))
 reply_feed Duplicate = (refl, (refl, (refl, (refl, (refl, (refl, (refl, (refl, (refl, tt)))))))))
@@ -197,9 +205,11 @@ reply_feed Flat = (refl, (refl, (refl, (refl, tt))))
 reply_feed Moved = (refl, (refl, (refl, (refl, (refl, tt)))))
 reply_feed Occupied = (refl, (refl, (refl, (refl, (refl, (refl, (refl, (refl, tt))))))))
 
+-- the mesh with a reply more
 abbrev add_reply : MeshParts → Reply → MeshParts
 add_reply f r = record f { replies = f.replies ++ r ∷ [] }
 
+-- lines of replies are taken one after another
 replies_taken : Takes Replies reply_word add_reply (λ f l. ⊤)
 replies_taken = record {
   line = λ f r l may. reply_feed r;
@@ -216,16 +226,20 @@ spaced_three x y z =
     ∙ ap (λ (t : List ℕ). decimal x ++ 32 ∷ t) (append_assoc (decimal y) (codes " ") (decimal z))
     ∙ sym (append_assoc (decimal x) (32 ∷ decimal y) (32 ∷ decimal z))
 
+-- the line of a point
 abbrev shown_point : ℕ → List ℕ
 shown_point p = spaced (x_of p ∷ y_of p ∷ z_of p ∷ [])
 
+-- the mesh with a point more
 abbrev add_point : MeshParts → ℕ → MeshParts
 add_point f p = record f { points = f.points ++ p ∷ [] }
 
+-- the line that is written of a key says the point
 point_read : (p : ℕ) → IsKey p → IsPointLine (shown_point p) p
 point_read p key = subst (λ (l : List ℕ). IsPointLine l p) (sym (spaced_three (x_of p) (y_of p) (z_of p)))
     (point_line p key)
 
+-- a point line has no line feed
 point_feed : (line : List ℕ) (p : ℕ) → IsPointLine line p → HasNo 10 line
 point_feed line p s =
     let x : HasNo 10 s.x = number_without 10 s.x (omega arith) s.x_value.number in
@@ -245,6 +259,7 @@ record MayPoints (f : MeshParts) (l : List ℕ) : Type 0 where
   ascending : IsAscending (f.points ++ l)
   keys : (p : ℕ) → IsIn p l → IsKey p
 
+-- lines of points that are keys and ascend are taken
 points_taken : Takes Points shown_point add_point MayPoints
 points_taken = record {
   line = λ f p l may. point_feed (shown_point p) p (point_read p (may.keys p (inl refl)));
@@ -257,6 +272,7 @@ points_taken = record {
 
 -- ---- indices
 
+-- one and a number is the next
 one_more : (n : ℕ) → 1 + n ≡ suc n
 one_more n = omega arith
 
@@ -283,9 +299,11 @@ index_at (x ∷ s) p a m = elim (cases_lt x p) [
       rw e (omega arith, same)
 ]
 
+-- numbers as they are written
 abbrev shown_numbers : List ℕ → List (List ℕ)
 shown_numbers ns = map decimal ns
 
+-- numbers with a space between two are their texts so joined
 spaced_joined : (ns : List ℕ) → spaced ns ≡ join_with_byte 32 (map decimal ns)
 spaced_joined [] = refl
 spaced_joined (n ∷ []) = refl
@@ -293,6 +311,7 @@ spaced_joined (n ∷ m ∷ ns) =
     append_assoc (decimal n) (codes " ") (spaced (m ∷ ns)) ∙ ap (λ (t : List ℕ). decimal n ++ 32 ∷ t) (spaced_joined
     (m ∷ ns))
 
+-- a line of numbers has no line feed
 numbers_feed : (ns : List ℕ) → ((n : ℕ) → IsIn n ns → n < 2 ^ 64) → HasNo 10 (spaced ns)
 numbers_feed [] h = tt
 numbers_feed (n ∷ []) h = decimal_feed n (h n (inl refl))
@@ -306,17 +325,20 @@ record IsShort (s : List ℕ) : Type 0 where
   ascending : IsAscending s
   count : length s ≤ point_limit
 
+-- what is written of a point's index is its index
 index_read : (s : List ℕ) (p : ℕ) → IsShort s → IsIn p s → IsIndexOf s (decimal (index_of s p)) p
 index_read s p short m =
     let i = index_at s p short.ascending m in
     let low : index_of s p < point_limit = omega (arith, i.0, short.count) in
     (index_of s p, decimal_is (index_of s p) (omega (arith, low)), i.0, low, i.1)
 
+-- so it is with those of some points
 indices_read : (s q : List ℕ) → IsShort s → ((p : ℕ) → IsIn p q → IsIn p s) → AreIndices s (map decimal (map
     (index_of s) q)) q
 indices_read s [] short h = tt
 indices_read s (p ∷ q) short h = (index_read s p short (h p (inl refl)), indices_read s q short (λ r m. h r (inr m)))
 
+-- an index of a short list is a number of 64 bits
 indices_low : (s q : List ℕ) → IsShort s → ((p : ℕ) → IsIn p q → IsIn p s) → (n : ℕ) → IsIn n (map (index_of s) q)
     → n < 2 ^ 64
 indices_low s [] short h n m = absurd m
@@ -325,9 +347,11 @@ indices_low s (p ∷ q) short h n m = elim m [
   | inr k ↦ indices_low s q short (λ r j. h r (inr j)) n k
 ]
 
+-- the line of some points, by their indices
 abbrev shown_cell : List ℕ → List ℕ → List ℕ
 shown_cell s q = spaced (map (index_of s) q)
 
+-- such a line says these points
 cell_read : (n : ℕ) (s q : List ℕ) → IsShort s → ((p : ℕ) → IsIn p q → IsIn p s) → length q ≡ n → IsAscending q
     → IsIndexLine n s (shown_cell s q) q
 cell_read n s q short h e a = record {
@@ -352,6 +376,7 @@ record MayLists (n : ℕ) (s : List ℕ) (points : List ℕ) (before l : List (L
   sorted : IsStrictlySortedBy (slice_cmp nat_cmp) (before ++ l)
   each : (q : List ℕ) → IsIn q l → (length q ≡ n) × IsAscending q × ((p : ℕ) → IsIn p q → IsIn p s)
 
+-- once the first list of points is taken, the others may be
 may_rest : (n : ℕ) (s points : List ℕ) (before l : List (List ℕ)) (q : List ℕ) → MayLists n s points before (q ∷ l)
     → MayLists n s points (before ++ q ∷ []) l
 may_rest n s points before l q may = record {
@@ -361,23 +386,28 @@ may_rest n s points before l q may = record {
   each = λ r m. may.each r (inr m);
 }
 
+-- and its line is right
 may_line : (n : ℕ) (s points : List ℕ) (before l : List (List ℕ)) (q : List ℕ) → IsShort s
     → MayLists n s points before (q ∷ l) → IsIndexLine n points (shown_cell s q) q
 may_line n s points before l q short may =
     let k = may.each q (inl refl) in
     subst (λ (v : List ℕ). IsIndexLine n v (shown_cell s q) q) (sym may.same) (cell_read n s q short k.2 k.0 k.1)
 
+-- and has no line feed
 may_feed : (n : ℕ) (s points : List ℕ) (before l : List (List ℕ)) (q : List ℕ) → IsShort s
     → MayLists n s points before (q ∷ l) → HasNo 10 (shown_cell s q)
 may_feed n s points before l q short may = numbers_feed (map (index_of s) q) (indices_low s q short (may.each q
     (inl refl)).2)
 
+-- the mesh with a cell more
 abbrev add_cell : MeshParts → List ℕ → MeshParts
 add_cell f q = record f { cells = f.cells ++ q ∷ [] }
 
+-- the mesh with a triple more
 abbrev add_triple : MeshParts → List ℕ → MeshParts
 add_triple f q = record f { hull = f.hull ++ q ∷ [] }
 
+-- lines of cells in order are taken
 cells_taken : (s : List ℕ) → IsShort s → Takes Cells (shown_cell s) add_cell (λ f l. MayLists 4 s f.points f.cells l)
 cells_taken s short = record {
   line = λ f q l may. may_feed 4 s f.points f.cells l q short may;
@@ -385,6 +415,7 @@ cells_taken s short = record {
   rest = λ f q l may. may_rest 4 s f.points f.cells l q may;
 }
 
+-- and so are those of triples
 hull_taken : (s : List ℕ) → IsShort s → Takes Hull (shown_cell s) add_triple (λ f l. MayLists 3 s f.points f.hull l)
 hull_taken s short = record {
   line = λ f q l may. may_feed 3 s f.points f.hull l q short may;
@@ -394,21 +425,25 @@ hull_taken s short = record {
 
 -- ---- what is added by all lines of a list
 
+-- the mesh with all replies
 replies_added : (l : List Reply) (f : MeshParts) → all_added add_reply f l ≡ record f { replies = f.replies ++ l }
 replies_added [] f = ap (λ (v : List Reply). record f { replies = v }) (sym (append-nil f.replies))
 replies_added (r ∷ l) f = replies_added l (add_reply f r) ∙ ap (λ (v : List Reply). record f { replies = v })
     (append_assoc f.replies (r ∷ []) l)
 
+-- with all points
 points_added : (l : List ℕ) (f : MeshParts) → all_added add_point f l ≡ record f { points = f.points ++ l }
 points_added [] f = ap (λ (v : List ℕ). record f { points = v }) (sym (append-nil f.points))
 points_added (p ∷ l) f = points_added l (add_point f p) ∙ ap (λ (v : List ℕ). record f { points = v })
     (append_assoc f.points (p ∷ []) l)
 
+-- with all cells
 cells_added : (l : List (List ℕ)) (f : MeshParts) → all_added add_cell f l ≡ record f { cells = f.cells ++ l }
 cells_added [] f = ap (λ (v : List (List ℕ)). record f { cells = v }) (sym (append-nil f.cells))
 cells_added (q ∷ l) f = cells_added l (add_cell f q) ∙ ap (λ (v : List (List ℕ)). record f { cells = v })
     (append_assoc f.cells (q ∷ []) l)
 
+-- with all triples
 hull_added : (l : List (List ℕ)) (f : MeshParts) → all_added add_triple f l ≡ record f { hull = f.hull ++ l }
 hull_added [] f = ap (λ (v : List (List ℕ)). record f { hull = v }) (sym (append-nil f.hull))
 hull_added (q ∷ l) f = hull_added l (add_triple f q) ∙ ap (λ (v : List (List ℕ)). record f { hull = v })
@@ -430,6 +465,7 @@ replies_lead l f rest b le next =
     (lines_lead Replies reply_word add_reply (λ g m. ⊤) replies_taken l f rest b tt (subst (λ
     (g : MeshParts). TextLeads rest (at (Head Points) g) b) (sym (replies_added l f)) next)))
 
+-- the points
 points_lead : (l : List ℕ) (f : MeshParts) (rest : List ℕ) (b : Reached) → length l ≤ point_limit → MayPoints f l
     → TextLeads rest (at (Head Cells) (record f { points = f.points ++ l })) b
     → TextLeads (block (codes "points") (map (λ p. shown_point p ++ codes "\n") l) ++ rest) (at (Head Points) f) b
@@ -443,6 +479,7 @@ points_lead l f rest b le may next =
     (lines_lead Points shown_point add_point MayPoints points_taken l f rest b may (subst (λ
     (g : MeshParts). TextLeads rest (at (Head Cells) g) b) (sym (points_added l f)) next)))
 
+-- the cells
 cells_lead : (s : List ℕ) → IsShort s → (l : List (List ℕ)) (f : MeshParts) (rest : List ℕ) (b : Reached)
     → length l ≤ most_of Cells → MayLists 4 s f.points f.cells l → TextLeads rest (at (Head Hull)
     (record f { cells = f.cells ++ l })) b
@@ -458,6 +495,7 @@ cells_lead s short l f rest b le may next =
     (cells_taken s short) l f rest b may (subst (λ (g : MeshParts). TextLeads rest (at (Head Hull) g) b) (sym
     (cells_added l f)) next)))
 
+-- the triples
 hull_lead : (s : List ℕ) → IsShort s → (l : List (List ℕ)) (f : MeshParts) (rest : List ℕ) (b : Reached)
     → length l ≤ most_of Hull → MayLists 3 s f.points f.hull l → TextLeads rest (at Last
     (record f { hull = f.hull ++ l })) b
@@ -478,6 +516,7 @@ may_lists : (n : ℕ) (s : List ℕ) (l : List (List ℕ)) → AreInOrder s l �
     → MayLists n s s [] l
 may_lists n s l o h = record { same = refl; sorted = o.sorted; each = λ q m. (h q m, o.ascending q m, o.inside q m) }
 
+-- the word `end` leads to where nothing is due
 end_leads : (f : MeshParts) → TextLeads (codes "end\n") (at Last f) (at_end f)
 end_leads f = (at_end f, (refl, refl), refl)
 
@@ -490,6 +529,7 @@ blocks_apart t a b c d e =
     (a ++ b) c (d ++ e)) ∙ sym (append_assoc ((a ++ b) ++ c) d e))
     ∙ sym (append_assoc (t ++ codes "\n") (((a ++ b) ++ c) ++ d) e)
 
+-- the title has no line feed
 title_feed : HasNo 10 (codes "mesh3-out 1")
 title_feed = (refl, (refl, (refl, (refl, (refl, (refl, (refl, (refl, (refl, (refl, (refl, tt)))))))))))
 
@@ -503,6 +543,7 @@ plain_text r s o =
     ∙ ap (λ (v : Option (List ℕ)). codes "mesh3-out 1\n" ++ mesh_blocks r ++ [] ++ order_block v) o
     ∙ append-nil (codes "mesh3-out 1\n" ++ mesh_blocks r ++ []) ∙ append-nil (codes "mesh3-out 1\n" ++ mesh_blocks r))
 
+-- the text of a report of a mesh alone leads from the title to the end, with the mesh
 blocks_lead : (r : ReportParts) → IsOfMesh r → TextLeads (codes "mesh3-out 1\n" ++ mesh_blocks r ++ codes "end\n")
     at_title (at_end (mesh_of r))
 unfolding mesh_blocks

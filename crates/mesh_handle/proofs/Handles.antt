@@ -32,9 +32,11 @@ abbrev pub held_val : Ptr → Val
 held_val p = vstruct (vcons (ptr_val p) vnil)
 
 module _ {M : Type 1} {𝓤 : Ura M} (𝓛 : Logic 𝓤) where
+  -- a pointer is a value of its kind
   abbrev pub ptr_good : (p : Ptr) → Good (layout RawPtr) (ptr_val p)
   ptr_good p = ((rawptr_Lawful 𝓛).typed p _ refl).0
 
+  -- and so is the struct of it
   pub held_good : (p : Ptr) → Good (layout handle.the_row) (held_val p)
   held_good p = (and_tt (has_ty (layout RawPtr) (ptr_val p)) (ptr_good p).0, ((ptr_good p).1, tt))
 

@@ -57,6 +57,7 @@ use Rattle.mesh_reader.proofs.Fields.{
 
 -- ---- the order of the points
 
+-- numbers that the test passes ascend
 pub ascends_says : (q : List ℕ) → ascends q ≡ true → IsAscending q
 ascends_says [] h = tt
 ascends_says (x ∷ []) h = (tt, tt)
@@ -66,6 +67,7 @@ ascends_says (x ∷ y ∷ l) h = let p = and_parts (ltb x y) (ascends (y ∷ l))
       (y ∷ l) p.1,
 )
 
+-- and those that ascend pass it
 pub says_ascends : (q : List ℕ) → IsAscending q → ascends q ≡ true
 says_ascends [] h = refl
 says_ascends (x ∷ []) h = refl
@@ -161,6 +163,7 @@ index_form n s line q h = record {
   is = h.is;
 }
 
+-- points that are taken as a line's were there, and ascend
 order_some : (o : Option (List ℕ)) (q : List ℕ) → in_order o ≡ Ok q → (o ≡ Some q) × (ascends q ≡ true)
 order_some None q h = absurd cc
 order_some (Some r) q h = order_kept r q (ascends r) refl h
@@ -177,6 +180,7 @@ from_some : (s : List ℕ) (o : Option (List ℕ)) (q : List ℕ) → corners_fr
 from_some s None q h = absurd cc
 from_some s (Some ns) q h = let k = order_some (points_at s ns) q h in (ns, refl, k.0, k.1)
 
+-- points that are read of a line are what it says
 corners_sound : (n : ℕ) (s line q : List ℕ) → corners n s line ≡ Ok q → IsIndexLine n s line q
 unfolding corners
 corners_sound n s line q h =
@@ -190,9 +194,11 @@ corners_sound n s line q h =
       ascending = ascends_says q k.3;
     }
 
+-- points that ascend are taken
 order_is : (q : List ℕ) → ascends q ≡ true → in_order (Some q) ≡ Ok q
 order_is q h = rw h refl
 
+-- points that a line says are read of it
 corners_complete : (n : ℕ) (s line q : List ℕ) → IsIndexLine (suc n) s line q → corners (suc n) s line ≡ Ok q
 unfolding corners
 corners_complete n s line q h =
@@ -217,6 +223,7 @@ order_refused (Some q) why h = by_test (ascends q) h
     by_test true h = absurd cc
     by_test false h = cc
 
+-- the form is not the range
 field_not_range : Field ≡ Range → ⊥
 field_not_range h = cc
 
@@ -230,11 +237,13 @@ from_err s None why h = inl (refl, refused why h)
     refused why h = cc
 from_err s (Some ns) why h = inr (ns, refl, order_refused (points_at s ns) why h)
 
+-- a line of indices is refused for its numbers, or for its range where it has them
 corners_err : (n : ℕ) (s line : List ℕ) (why : Why) → corners n s line ≡ Err why → ((numbers n (fields_of line)
     ≡ None) × (why ≡ Field)) ⊎ ((ns : List ℕ) × (numbers n (fields_of line) ≡ Some ns) × (why ≡ Range))
 unfolding corners
 corners_err n s line why h = from_err s (numbers n (fields_of line)) why h
 
+-- a line that is refused for its form has not so many numbers
 corners_field : (n : ℕ) (s line : List ℕ) → corners (suc n) s line ≡ Err Field → HasNumbers (suc n) line → ⊥
 corners_field n s line h form =
     let read = form_read n line form in
@@ -243,12 +252,14 @@ corners_field n s line h form =
       | inr k ↦ field_not_range k.2
     ]
 
+-- one that is refused for its range has
 corners_range : (n : ℕ) (s line : List ℕ) → corners n s line ≡ Err Range → HasNumbers n line
 corners_range n s line h = elim (corners_err n s line Range h) [
   | inl k ↦ absurd (field_not_range (sym k.1))
   | inr k ↦ read_form n line k.0 k.1
 ]
 
+-- a line of indices is refused for its form or for its range
 corners_only : (n : ℕ) (s line : List ℕ) (why : Why) → corners n s line ≡ Err why → (why ≡ Field) ⊎ (why ≡ Range)
 corners_only n s line why h = elim (corners_err n s line why h) [
   | inl k ↦ inl k.1
@@ -289,6 +300,7 @@ unfolding points_at
 with_point s i p rest q h k = ap (λ (o : Option ℕ). in_front o (points_at s rest)) h ∙ ap (λ (o : Option
     (List ℕ)). in_front (Some p) o) k
 
+-- of no index no point is wanting
 pub no_points : (s : List ℕ) → points_at s [] ≡ Some []
 unfolding points_at
 no_points s = refl

@@ -70,6 +70,7 @@ pub strip_front : (word rest : List ℕ) → stripped word (word ++ rest) ≡ So
 strip_front [] rest = refl
 strip_front (w ∷ word) rest = let e : eqb w w ≡ true = eq-eqb w w refl in rw e (strip_front word rest)
 
+-- and where something is left behind a word, the line begins with the word
 pub strip_back : (word line rest : List ℕ) → stripped word line ≡ Some rest → line ≡ word ++ rest
 strip_back [] line rest h = same_value line rest h
 strip_back (w ∷ word) [] rest h = absurd (not_none rest h)
@@ -113,6 +114,7 @@ in_some : (o : Option (List ℕ)) (n : ℕ) → number_in o ≡ Some n → (digi
 in_some None n h = absurd (not_none n h)
 in_some (Some digits) n h = (digits, refl, h)
 
+-- a line of which a number is read is the word of the list and that number
 announced_some : (p : Part) (line : List ℕ) (n : ℕ) → announced p line ≡ Some n → (digits : List ℕ) × (line
     ≡ word_of p ++ digits) × (number digits ≡ Some n)
 unfolding announced
@@ -127,18 +129,22 @@ most_below Points = omega arith
 most_below Cells = omega arith
 most_below Hull = omega arith
 
+-- a number that is read and is not too great makes a head
 head_read : (p : Part) (n : ℕ) (line : List ℕ) → announced p line ≡ Some n → n ≤ most_of p → IsHead p n line
 head_read p n line h le =
     let k = announced_some p line n h in
     record { digits = k.0; fields = k.1; value = of_number k.0 n k.2 (omega (arith, le, most_below p)); most = le }
 
+-- and of a head its number is read
 read_head : (p : Part) (n : ℕ) (line : List ℕ) → IsHead p n line → announced p line ≡ Some n
 read_head p n line h = announced_is p line h.digits h.fields ∙ number_of h.digits n h.value (omega
     (arith, h.most, most_below p))
 
+-- of a line of a head's form a number is read
 form_some : (p : Part) (line : List ℕ) → HasHeadForm p line → (n : ℕ) × (announced p line ≡ Some n)
 form_some p line h = (reading h.digits, announced_is p line h.digits h.fields ∙ number_read h.digits h.number)
 
+-- and a line of which one is read is of the form
 some_form : (p : Part) (line : List ℕ) (n : ℕ) → announced p line ≡ Some n → HasHeadForm p line
 some_form p line n h = let k = announced_some p line n h in record {
   digits = k.0;
@@ -160,13 +166,16 @@ headed_ok p f (Some n) b h = by_test (leb n (most_of p)) refl h
     by_test true e k = (n, refl, leb-true n (most_of p) e, sym (ok_one (record { due = lines_due p n; taken = f }) b k))
     by_test false e k = absurd (ok_err b TooMany (sym k))
 
+-- a head that announces few enough lines leads to them
 headed_is : (p : Part) (f : MeshParts) (n : ℕ) → n ≤ most_of p → headed p f (Some n) ≡ Ok
     (record { due = lines_due p n; taken = f })
 headed_is p f n le = let e : leb n (most_of p) ≡ true = le-leb n (most_of p) le in rw e refl
 
+-- one that announces too many is refused for that
 headed_many : (p : Part) (f : MeshParts) (n : ℕ) → most_of p < n → headed p f (Some n) ≡ Err TooMany
 headed_many p f n lt = let e : leb n (most_of p) ≡ false = lt-leb n (most_of p) lt in rw e refl
 
+-- a head is refused as a section where it is none, or for too many lines
 headed_err : (p : Part) (f : MeshParts) (o : Option ℕ) (why : Why) → headed p f o ≡ Err why → ((o ≡ None) × (why
     ≡ Section)) ⊎ ((n : ℕ) × (o ≡ Some n) × (most_of p < n) × (why ≡ TooMany))
 headed_err p f None why h = inl (refl, sym (err_one {A = Reached} Section why h))
@@ -177,6 +186,7 @@ headed_err p f (Some n) why h = elim (cases_lt (most_of p) n) [
 
 -- ---- a word that is due
 
+-- a word that was due was that word, and led on
 word_ok : (line word : List ℕ) (next b : Reached) → cond (bytes_eq line word) (Ok next) (Err Section) ≡ Ok b → (line
     ≡ word) × (b ≡ next)
 word_ok line word next b h = by_test (bytes_eq line word) refl h
@@ -186,10 +196,12 @@ word_ok line word next b h = by_test (bytes_eq line word) refl h
     by_test true e k = ((bytes_eq-Decides line word).0 e, sym (ok_one next b k))
     by_test false e k = absurd (ok_err b Section (sym k))
 
+-- that word leads on
 word_is : (line word : List ℕ) (next : Reached) → line ≡ word → ◌≡◌ {A = Result Reached Why} (cond
     (bytes_eq line word) (Ok next) (Err Section)) (Ok next)
 word_is line word next h = let e : bytes_eq line word ≡ true = (bytes_eq-Decides line word).1 h in rw e refl
 
+-- what was refused was another line, and is wrong as a section
 word_err : (line word : List ℕ) (next : Reached) (why : Why) → cond (bytes_eq line word) (Ok next) (Err Section)
     ≡ Err why → (line ≢ word) × (why ≡ Section)
 word_err line word next why h = by_test (bytes_eq line word) refl h
@@ -204,6 +216,7 @@ word_err line word next why h = by_test (bytes_eq line word) refl h
           (err_one {A = Reached} Section why k),
     )
 
+-- another line is refused so
 word_not : (line word : List ℕ) (next : Reached) → line ≢ word → ◌≡◌ {A = Result Reached Why} (cond
     (bytes_eq line word) (Ok next) (Err Section)) (Err Section)
 word_not line word next h = by_test (bytes_eq line word) refl
@@ -216,17 +229,20 @@ word_not line word next h = by_test (bytes_eq line word) refl
 
 -- ---- a line of a list
 
+-- a line of a list that led on was taken
 moved_ok : (due : Due) (r : Result MeshParts Why) (b : Reached) → moved due r ≡ Ok b → (g : MeshParts) × (r ≡ Ok g) ×
     (b ≡ record { due = due; taken = g })
 moved_ok due (Err why) b h = absurd (ok_err b why (sym h))
 moved_ok due (Ok g) b h = (g, refl, sym (ok_one (record { due = due; taken = g }) b h))
 
+-- and one that was refused was not, for the same reason
 moved_err : (due : Due) (r : Result MeshParts Why) (why : Why) → moved due r ≡ Err why → r ≡ Err why
 moved_err due (Err w) why h = ap (λ v. Err v) (err_one {A = Reached} w why h)
 moved_err due (Ok g) why h = absurd (ok_err (record { due = due; taken = g }) why h)
 
 -- ---- a line, where this is due
 
+-- where the reading goes on, the line leads there
 at_sound : (due : Due) (f : MeshParts) (line : List ℕ) (b : Reached) → step_at due f line ≡ Ok b → Leads due f line b
 at_sound Title f line b h = word_ok line (codes "mesh3-out 1") (record { due = Head Replies; taken = f }) b h
 at_sound (Head p) f line b h =
@@ -238,6 +254,7 @@ at_sound (Body p n) f line b h =
 at_sound Last f line b h = word_ok line (codes "end") (record { due = Nothing; taken = f }) b h
 at_sound Nothing f line b h = absurd (ok_err b Section (sym h))
 
+-- where a line leads on, the reading goes there
 at_complete : (due : Due) (f : MeshParts) (line : List ℕ) (b : Reached) → Leads due f line b → step_at due f line ≡ Ok b
 at_complete Title f line b h = word_is line (codes "mesh3-out 1") (record { due = Head Replies; taken = f }) h.0 ∙ ap
     (λ (r : Reached). Ok r) (sym h.1)
@@ -254,6 +271,7 @@ no_reason : (due : Due) (f : MeshParts) (line : List ℕ) (b : Reached) (why : W
     → Leads due f line b → ⊥
 no_reason due f line b why h leads = ok_err b why (sym (at_complete due f line b leads) ∙ h)
 
+-- why a head was refused is why it is wrong
 head_reason : (p : Part) (f : MeshParts) (line : List ℕ) (why : Why) → headed p f (announced p line) ≡ Err why
     → IsReason (Head p) f line why
 head_reason p f line why h = elim (headed_err p f (announced p line) why h) [
@@ -266,6 +284,7 @@ head_reason p f line why h = elim (headed_err p f (announced p line) why h) [
   )
 ]
 
+-- and so with a line of a list
 body_reason : (p : Part) (n : ℕ) (f : MeshParts) (line : List ℕ) (why : Why) → taken p f line ≡ Err why → IsReason
     (Body p n) f line why
 body_reason p n f line why h = elim ((taken_decided p f).only line why h) [
@@ -354,18 +373,22 @@ reason_at due f line Truncated h = absurd h
 
 -- ---- a step
 
+-- a step leads where it goes
 pub step_sound : (a : Reached) (line : List ℕ) (b : Reached) → step a line ≡ Ok b → Leads a.due a.taken line b
 unfolding step
 step_sound a line b h = at_sound a.due a.taken line b h
 
+-- and goes where the line leads
 pub step_complete : (a : Reached) (line : List ℕ) (b : Reached) → Leads a.due a.taken line b → step a line ≡ Ok b
 unfolding step
 step_complete a line b h = at_complete a.due a.taken line b h
 
+-- the reason of a refusal is why the line is wrong
 pub step_reason : (a : Reached) (line : List ℕ) (why : Why) → step a line ≡ Err why → IsReason a.due a.taken line why
 unfolding step
 step_reason a line why h = at_reason a.due a.taken line why h
 
+-- and where a line is wrong it is refused for that reason
 pub reason_step : (a : Reached) (line : List ℕ) (why : Why) → IsReason a.due a.taken line why → step a line ≡ Err why
 unfolding step
 reason_step a line why h = reason_at a.due a.taken line why h

@@ -161,6 +161,7 @@ read_form n line ns h =
 
 -- ---- the fields of a line, one after another
 
+-- in front of what is not there nothing is
 front_none : (o : Option ℕ) → in_front o None ≡ None
 front_none None = refl
 front_none (Some n) = refl

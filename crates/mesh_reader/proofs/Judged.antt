@@ -40,6 +40,7 @@ use Rattle.mesh_reader.proofs.Turns.{judge_bad, judge_end, judge_on}
 
 -- ---- the end
 
+-- a text that ends well has nothing more due
 ended_ok : (n : ℕ) (due : Due) (f g : MeshParts) → ended n due f ≡ Ok g → (due ≡ Nothing) × (f ≡ g)
 ended_ok n Nothing f g h = (refl, ok_one f g h)
 ended_ok n Title f g h = absurd (ok_err g _ (sym h))
@@ -47,21 +48,27 @@ ended_ok n (Head p) f g h = absurd (ok_err g _ (sym h))
 ended_ok n (Body p m) f g h = absurd (ok_err g _ (sym h))
 ended_ok n Last f g h = absurd (ok_err g _ (sym h))
 
+-- where the title is due something is
 not_title : Title ≢ Nothing
 not_title h = cc
 
+-- where the last word is due something is
 not_last : Last ≢ Nothing
 not_last h = cc
 
+-- where a head is due something is
 not_head : (p : _) → Head p ≢ Nothing
 not_head p h = cc
 
+-- where a line of a list is due something is
 not_body : (p : _) (m : ℕ) → Body p m ≢ Nothing
 not_body p m h = cc
 
+-- the fault that line n is missing
 abbrev cut_at : ℕ → Fault
 cut_at n = record { line = n; why = Truncated }
 
+-- a text that ends in a fault has more due, and a line is missing
 ended_err : (n : ℕ) (due : Due) (f : MeshParts) (fault : Fault) → ended n due f ≡ Err fault → (due ≢ Nothing) × (fault
     ≡ cut_at n)
 ended_err n Nothing f fault h = absurd (ok_err f fault h)
@@ -70,6 +77,7 @@ ended_err n (Head p) f fault h = (not_head p, sym (err_one {A = MeshParts} (cut_
 ended_err n (Body p m) f fault h = (not_body p m, sym (err_one {A = MeshParts} (cut_at n) fault h))
 ended_err n Last f fault h = (not_last, sym (err_one {A = MeshParts} (cut_at n) fault h))
 
+-- and where more is due it ends so
 ended_cut : (n : ℕ) (due : Due) (f : MeshParts) → due ≢ Nothing → ended n due f ≡ Err (cut_at n)
 ended_cut n Nothing f h = absurd (h refl)
 ended_cut n Title f h = refl
@@ -79,11 +87,13 @@ ended_cut n Last f h = refl
 
 -- ---- what a turn came to
 
+-- a mesh came of a step that was made, and of the lines behind it
 on_ok : (n : ℕ) (r : Result Reached Why) (rest : Reached → Result MeshParts Fault) (f : MeshParts) → go_on n r rest
     ≡ Ok f → (b : Reached) × (r ≡ Ok b) × (rest b ≡ Ok f)
 on_ok n (Err why) rest f h = absurd (ok_err f _ (sym h))
 on_ok n (Ok b) rest f h = (b, refl, h)
 
+-- a fault came of the step, or of the lines behind it
 on_err : (n : ℕ) (r : Result Reached Why) (rest : Reached → Result MeshParts Fault) (fault : Fault) → go_on n r rest
     ≡ Err fault → ((why : Why) × (r ≡ Err why) × (fault ≡ record { line = n; why = why })) ⊎ ((b : Reached) × (r
     ≡ Ok b) × (rest b ≡ Err fault))
@@ -97,6 +107,7 @@ on_err n (Ok b) rest fault h = inr (b, refl, h)
 
 -- ---- the mesh
 
+-- lines of which a mesh comes lead from one to the next up to the end
 leads_all : (n : ℕ) (a : Reached) (lines : List (List ℕ)) (f : MeshParts) → judge n a lines ≡ Ok f → AllLead lines a
     (at_end f)
 unfolding judge
@@ -118,18 +129,22 @@ all_judged (line ∷ front) rest n a b h =
     ∙ all_judged front rest (n + 1) h.0 b h.2
     ∙ ap (λ (k : ℕ). judge k b rest) (omega arith)
 
+-- nothing behind lines leaves them
 nothing_behind : (lines : List (List ℕ)) → lines ++ [] ≡ lines
 nothing_behind [] = refl
 nothing_behind (l ∷ lines) = ap (λ (v : List (List ℕ)). l ∷ v) (nothing_behind lines)
 
+-- lines that lead somewhere are judged as an end there
 judged_all : (lines : List (List ℕ)) (n : ℕ) (a b : Reached) → AllLead lines a b → judge n a lines ≡ ended
     (n + length lines) b.due b.taken
 judged_all lines n a b h =
     ap (judge n a) (sym (nothing_behind lines)) ∙ all_judged lines [] n a b h ∙ judge_end (n + length lines) b [] refl
 
+-- the text of a mesh is judged to be it
 pub mesh_judged : (bytes : List ℕ) (f : MeshParts) → IsMeshText bytes f → judge 1 at_title (lines_of bytes) ≡ Ok f
 mesh_judged bytes f h = judged_all (lines_of bytes) 1 at_title (at_end f) h
 
+-- and what a text is judged to be, it is the text of
 pub judged_mesh : (bytes : List ℕ) (f : MeshParts) → judge 1 at_title (lines_of bytes) ≡ Ok f → IsMeshText bytes f
 judged_mesh bytes f h = leads_all 1 at_title (lines_of bytes) f h
 
@@ -159,6 +174,7 @@ one_more n a b line lines fault h k = record {
   ];
 }
 
+-- a fault is that of the first wrong line, or of the end
 faulty : (n : ℕ) (a : Reached) (lines : List (List ℕ)) (fault : Fault) → judge n a lines ≡ Err fault
     → Faulty n a lines fault
 unfolding judge
@@ -188,6 +204,7 @@ faulty n a (line ∷ lines) fault h = elim (on_err n (step a line) (λ b. judge 
   | inr k ↦ one_more n a k.0 line lines fault k.1 (faulty (n + 1) k.0 lines fault k.2)
 ]
 
+-- so of the whole text
 faulty_is : (lines : List (List ℕ)) (fault : Fault) → Faulty 1 at_title lines fault
     → IsWrongLine lines fault ⊎ IsCutOff lines fault
 faulty_is lines fault k = elim k.rest [
@@ -211,6 +228,7 @@ faulty_is lines fault k = elim k.rest [
   })
 ]
 
+-- the fault that judging finds is the text's
 pub judged_fault : (bytes : List ℕ) (fault : Fault) → judge 1 at_title (lines_of bytes) ≡ Err fault
     → IsMeshFault bytes fault
 judged_fault bytes fault h = faulty_is (lines_of bytes) fault (faulty 1 at_title (lines_of bytes) fault h)
@@ -220,6 +238,7 @@ fault_is : (fault : Fault) (n : ℕ) (why : Why) → fault.line ≡ n → fault.
     ≡ record { line = n; why = why }
 fault_is fault n why a b = ap₂ (λ (x : ℕ) (y : Why). record { line = x; why = y }) a b
 
+-- a wrong line is found as the fault
 wrong_judged : (lines : List (List ℕ)) (fault : Fault) → IsWrongLine lines fault → judge 1 at_title lines ≡ Err fault
 wrong_judged lines fault w =
     ap (judge 1 at_title) w.place ∙ all_judged w.front (w.line ∷ w.rest) 1 at_title w.at w.right_so_far
@@ -227,12 +246,14 @@ wrong_judged lines fault w =
     (reason_step w.at w.line fault.why w.reason)
     ∙ ap (λ (v : Fault). Err v) (sym (fault_is fault (1 + length w.front) fault.why (omega (arith, w.number)) refl))
 
+-- and so is a text that is cut off
 cut_judged : (lines : List (List ℕ)) (fault : Fault) → IsCutOff lines fault → judge 1 at_title lines ≡ Err fault
 cut_judged lines fault w =
     judged_all lines 1 at_title w.at w.right ∙ ended_cut (1 + length lines) w.at.due w.at.taken w.more
     ∙ ap (λ (v : Fault). Err v) (sym (fault_is fault (1 + length lines) Truncated (omega
     (arith, w.number)) w.truncated))
 
+-- so the fault of a text is found
 pub fault_judged : (bytes : List ℕ) (fault : Fault) → IsMeshFault bytes fault → judge 1 at_title (lines_of bytes)
     ≡ Err fault
 fault_judged bytes fault h = elim h [
@@ -242,11 +263,13 @@ fault_judged bytes fault h = elim h [
 
 -- ---- what a call gave
 
+-- what a call gives that gives what judging does is the mesh of the text
 pub given_mesh : (bytes : List ℕ) (r : Result MeshFile ReadRefused) → Gives parts r (judge 1 at_title
     (lines_of bytes)) → IfOk r (λ m. IsMeshText bytes (parts m))
 given_mesh bytes (Ok m) h = judged_mesh bytes (parts m) h
 given_mesh bytes (Err e) h = tt
 
+-- and the fault that it gives is the text's
 pub given_fault : (bytes : List ℕ) (r : Result MeshFile ReadRefused) (fault : Fault) → Gives parts r (judge 1 at_title
     (lines_of bytes)) → r ≡ Err (refusals.Bad fault) → IsMeshFault bytes fault
 given_fault bytes r fault h e =
@@ -255,16 +278,20 @@ given_fault bytes r fault h e =
 
 -- ---- laws
 
+-- a text is of at most one mesh
 pub one_mesh_of : (bytes : List ℕ) (f g : MeshParts) → IsMeshText bytes f → IsMeshText bytes g → f ≡ g
 one_mesh_of bytes f g h k = ok_one {E = Fault} f g (sym (mesh_judged bytes f h) ∙ mesh_judged bytes g k)
 
+-- a text of a mesh has no fault
 pub no_fault_of_mesh : (bytes : List ℕ) (f : MeshParts) (fault : Fault) → IsMeshText bytes f → IsMeshFault bytes fault
     → ⊥
 no_fault_of_mesh bytes f fault h k = ok_err f fault (sym (mesh_judged bytes f h) ∙ fault_judged bytes fault k)
 
+-- a text has at most one fault
 pub one_fault_of : (bytes : List ℕ) (a b : Fault) → IsMeshFault bytes a → IsMeshFault bytes b → a ≡ b
 one_fault_of bytes a b h k = err_one {A = MeshParts} a b (sym (fault_judged bytes a h) ∙ fault_judged bytes b k)
 
+-- every text is of a mesh or has a fault
 pub mesh_or_fault_of : (bytes : List ℕ) → ((f : MeshParts) × IsMeshText bytes f) ⊎ ((fault : Fault)
     × IsMeshFault bytes fault)
 mesh_or_fault_of bytes = by_result (judge 1 at_title (lines_of bytes)) refl

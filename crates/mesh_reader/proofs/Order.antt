@@ -94,6 +94,7 @@ points_more s p l o = record {
       (o.inside q m r k);
 }
 
+-- what is taken of a line stays in order
 taken_order : (p : Part) (f : MeshParts) (line : List ℕ) (g : MeshParts) → IsTaken p f line g → IsInOrder f
     → IsInOrder g
 taken_order Replies f line g h o = subst (λ (m : MeshParts). IsInOrder m) (sym h.2)
@@ -117,6 +118,7 @@ taken_order Hull f line g h o = subst (λ (m : MeshParts). IsInOrder m) (sym h.3
   hull = one_list_more 3 f.points line h.0 f.hull o.hull h.1 h.2;
 })
 
+-- so it does where a line leads on
 leads_order : (due : Due) (f : MeshParts) (line : List ℕ) (b : Reached) → Leads due f line b → IsInOrder f
     → IsInOrder b.taken
 leads_order Title f line b h o = subst (λ (r : Reached). IsInOrder r.taken) (sym h.1) o
@@ -126,14 +128,17 @@ leads_order (Body p n) f line b h o = subst (λ (r : Reached). IsInOrder r.taken
 leads_order Last f line b h o = subst (λ (r : Reached). IsInOrder r.taken) (sym h.1) o
 leads_order Nothing f line b h o = absurd h
 
+-- and where lines do
 all_order : (lines : List (List ℕ)) (a b : Reached) → AllLead lines a b → IsInOrder a.taken → IsInOrder b.taken
 all_order [] a b h o = subst (λ (r : Reached). IsInOrder r.taken) h o
 all_order (line ∷ lines) a b h o = all_order lines h.0 b h.2 (leads_order a.due a.taken line h.0 h.1 o)
 
+-- no list is in order
 none_listed : AreInOrder [] []
 unfolding IsStrictlySortedBy
 none_listed = record { sorted = tt; ascending = λ q m. absurd m; inside = λ q m p k. absurd m }
 
+-- and nothing taken is
 none_order : IsInOrder no_parts
 none_order = record { ascending = tt; keys = λ p m. absurd m; cells = none_listed; hull = none_listed }
 

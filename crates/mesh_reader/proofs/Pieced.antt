@@ -63,16 +63,19 @@ use Rattle.mesh_reader.proofs.Turns.{judge_bad}
 
 -- ---- how many lines may follow
 
+-- behind a list no more lines may follow than behind its head
 behind_left : (p : Part) → most_left (behind p) ≤ most_behind p
 behind_left Replies = omega arith
 behind_left Points = omega arith
 behind_left Cells = omega arith
 behind_left Hull = omega arith
 
+-- with no more lines announced than may be, there are no more to follow
 due_left : (p : Part) (n m : ℕ) → n ≤ m → most_left (lines_due p n) + 1 ≤ 1 + m + most_behind p
 due_left p zero m l = let b = behind_left p in omega (arith, b)
 due_left p (suc n) m l = omega (arith, l)
 
+-- a right line leaves one line fewer to follow, or fewer still
 lead_left : (due : Due) (f : MeshParts) (line : List ℕ) (next : Reached) → Leads due f line next
     → most_left next.due + 1 ≤ most_left due
 lead_left Title f line next h =

@@ -68,15 +68,19 @@ use Rattle.mesh_reader.specs.Grammar.{
 use Rattle.mesh_reader.specs.Judging.{corners, is_after, is_less, reply_among, reply_of, taken, with_one}
 use Rattle.mesh_reader.proofs.Corners.{corners_decided, index_form}
 
+-- an answer is not a refusal
 pub ok_err : {A E : Type 0} (a : A) (e : E) → ◌≡◌ {A = Result A E} (Ok a) (Err e) → ⊥
 ok_err a e h = cc
 
+-- an answer has one value
 pub ok_one : {A E : Type 0} (a b : A) → ◌≡◌ {A = Result A E} (Ok a) (Ok b) → a ≡ b
 ok_one a b h = cc
 
+-- and a refusal one reason
 pub err_one : {A E : Type 0} (a b : E) → ◌≡◌ {A = Result A E} (Err a) (Err b) → a ≡ b
 err_one a b h = cc
 
+-- the form is not the range
 field_not_range : Field ≡ Range → ⊥
 field_not_range h = cc
 
@@ -89,20 +93,24 @@ after_says before Before f [] q h = tt
 after_says before Before f (r ∷ []) q h = f r q h
 after_says before Before f (r ∷ o ∷ l) q h = after_says before Before f (o ∷ l) q h
 
+-- and where it is so the test passes
 pub says_after : {X : Type 0} (before : X → X → Bool) (Before : X → X → Type 0) → ((a b : X) → Before a b → before a b
     ≡ true) → (l : List X) (q : X) → IsAfter Before l q → is_after before l q ≡ true
 says_after before Before f [] q h = refl
 says_after before Before f (r ∷ []) q h = f r q h
 says_after before Before f (r ∷ o ∷ l) q h = says_after before Before f (o ∷ l) q h
 
+-- the test of an order says it
 less_from : (o : Ordering) → is_lt o ≡ true → o ≡ Less
 less_from Less h = refl
 less_from Equal h = absurd cc
 less_from Greater h = absurd cc
 
+-- a list that is found less is less
 less_says : (a b : List ℕ) → is_less a b ≡ true → IsLess a b
 less_says a b h = less_from (slice_cmp nat_cmp a b) h
 
+-- and one that is less is found so
 says_less : (a b : List ℕ) → IsLess a b → is_less a b ≡ true
 says_less a b h = ap is_lt h
 
@@ -112,6 +120,7 @@ says_less a b h = ap is_lt h
 abbrev pub IsReplyLine : List ℕ → Reply → Type 0
 IsReplyLine line r = line ≡ reply_word r
 
+-- a reply that was found is the one whose word the line is
 among_sound : (rs : List Reply) (line : List ℕ) (r : Reply) → reply_among rs line ≡ Ok r → IsReplyLine line r
 among_sound [] line r h = absurd cc
 among_sound (x ∷ rs) line r h = by_test (bytes_eq line (reply_word x)) refl (among_sound rs line r) h
@@ -122,6 +131,7 @@ among_sound (x ∷ rs) line r h = by_test (bytes_eq line (reply_word x)) refl (a
     by_test true e next k = (bytes_eq-Decides line (reply_word x)).0 e ∙ ap reply_word (ok_one x r k)
     by_test false e next k = next k
 
+-- a line that is no word of a reply is wrong in form
 among_only : (rs : List Reply) (line : List ℕ) (why : Why) → reply_among rs line ≡ Err why → why ≡ Field
 among_only [] line why h = err_one {A = Reply} why Field (sym h)
 among_only (x ∷ rs) line why h = by_test (bytes_eq line (reply_word x)) (among_only rs line why) h
@@ -143,17 +153,21 @@ word_read Flat = refl
 word_read Moved = refl
 word_read Occupied = refl
 
+-- a reply that is read of a line is the one whose word it is
 reply_sound : (line : List ℕ) (r : Reply) → reply_of line ≡ Ok r → IsReplyLine line r
 unfolding reply_of
 reply_sound line r h = among_sound (Inserted ∷ Duplicate ∷ Removed ∷ Missing ∷ Flat ∷ Moved ∷ Occupied ∷ []) line r h
 
+-- the word of a reply is read as it
 reply_complete : (line : List ℕ) (r : Reply) → IsReplyLine line r → reply_of line ≡ Ok r
 reply_complete line r h = ap reply_of h ∙ word_read r
 
+-- a reply line is refused for its form
 reply_only : (line : List ℕ) (why : Why) → reply_of line ≡ Err why → why ≡ Field
 unfolding reply_of
 reply_only line why h = among_only (Inserted ∷ Duplicate ∷ Removed ∷ Missing ∷ Flat ∷ Moved ∷ Occupied ∷ []) line why h
 
+-- so reading a reply decides what a line says
 replies_decided : Decides reply_of IsReplyLine (HasFormOf Replies)
 replies_decided = record {
   sound = reply_sound;
@@ -198,6 +212,7 @@ added_err {A} may add (Ok a) why h = inr (a, refl, by_test (may a) h)
     by_test true k = absurd (ok_err (add a) why k)
     by_test false k = sym (err_one Range why k)
 
+-- where reading decides what a line says, adding decides what is taken
 adds : {A : Type 0} (read : List ℕ → Result A Why) (may : A → Bool) (add : A → MeshParts) (Says : List ℕ → A → Type 0)
     (Form : List ℕ → Type 0) → Decides read Says Form → ((line : List ℕ) (a : A) → Says line a → Form line)
     → Adds read may add Says Form
@@ -232,21 +247,25 @@ point_form line p s = record {
   z_number = s.z_value.number;
 }
 
+-- so it is with replies
 reply_adds : (f : MeshParts) → Adds reply_of (λ r. true) (λ r. record f { replies = f.replies ++ r ∷ [] }) IsReplyLine
     (HasFormOf Replies)
 reply_adds f = adds reply_of (λ r. true) (λ r. record f { replies = f.replies ++ r ∷ [] }) IsReplyLine
     (HasFormOf Replies) replies_decided (λ line r h. (r, h))
 
+-- with points, which are to come behind those before
 point_adds : (f : MeshParts) → Adds point (is_after nat_lt f.points) (λ p. record f { points = f.points ++ p ∷ [] })
     IsPointLine HasPointForm
 point_adds f = adds point (is_after nat_lt f.points) (λ p. record f { points = f.points ++ p ∷ [] }) IsPointLine
     HasPointForm points_decided point_form
 
+-- with cells
 cell_adds : (f : MeshParts) → Adds (corners 4 f.points) (is_after is_less f.cells)
     (λ q. record f { cells = f.cells ++ q ∷ [] }) (IsIndexLine 4 f.points) (HasNumbers 4)
 cell_adds f = adds (corners 4 f.points) (is_after is_less f.cells) (λ q. record f { cells = f.cells ++ q ∷ [] })
     (IsIndexLine 4 f.points) (HasNumbers 4) (corners_decided 3 f.points) (λ line q h. index_form 4 f.points line q h)
 
+-- and with triples
 triple_adds : (f : MeshParts) → Adds (corners 3 f.points) (is_after is_less f.hull)
     (λ q. record f { hull = f.hull ++ q ∷ [] }) (IsIndexLine 3 f.points) (HasNumbers 3)
 triple_adds f = adds (corners 3 f.points) (is_after is_less f.hull) (λ q. record f { hull = f.hull ++ q ∷ [] })
@@ -254,6 +273,7 @@ triple_adds f = adds (corners 3 f.points) (is_after is_less f.hull) (λ q. recor
 
 -- ---- all lists
 
+-- what is taken of a line is what it says
 taken_sound : (p : Part) (f : MeshParts) (line : List ℕ) (g : MeshParts) → taken p f line ≡ Ok g → IsTaken p f line g
 taken_sound Replies f line g h = let k = (reply_adds f).sound line g h in (k.0, k.1, k.3)
 taken_sound Points f line g h = let k = (point_adds f).sound line g h in (
@@ -273,6 +293,7 @@ taken_sound Cells f line g h = let k = (cell_adds f).sound line g h in (
 taken_sound Hull f line g h = let k = (triple_adds f).sound line g h in
     (k.0, k.1, after_says is_less IsLess less_says f.hull k.0 k.2, k.3)
 
+-- and what it says is taken
 taken_complete : (p : Part) (f : MeshParts) (line : List ℕ) (g : MeshParts) → IsTaken p f line g → taken p f line ≡ Ok g
 taken_complete Replies f line g h = (reply_adds f).complete line h.0 h.1 refl ∙ ap (λ (m : MeshParts). Ok m) (sym h.2)
 taken_complete Points f line g h = (point_adds f).complete line h.0 h.1 (says_after nat_lt (λ r q. r < q)
@@ -282,18 +303,21 @@ taken_complete Cells f line g h = (cell_adds f).complete line h.0 h.1 (says_afte
 taken_complete Hull f line g h = (triple_adds f).complete line h.0 h.1 (says_after is_less IsLess says_less f.hull h.0
     h.2) ∙ ap (λ (m : MeshParts). Ok m) (sym h.3)
 
+-- a line that is refused for its form is not of it
 taken_field : (p : Part) (f : MeshParts) (line : List ℕ) → taken p f line ≡ Err Field → HasFormOf p line → ⊥
 taken_field Replies f line h = (reply_adds f).field line h
 taken_field Points f line h = (point_adds f).field line h
 taken_field Cells f line h = (cell_adds f).field line h
 taken_field Hull f line h = (triple_adds f).field line h
 
+-- one that is refused for its range is of the form
 taken_range : (p : Part) (f : MeshParts) (line : List ℕ) → taken p f line ≡ Err Range → HasFormOf p line
 taken_range Replies f line h = (reply_adds f).range line h
 taken_range Points f line h = (point_adds f).range line h
 taken_range Cells f line h = (cell_adds f).range line h
 taken_range Hull f line h = (triple_adds f).range line h
 
+-- a line of a list is refused for its form or for its range
 taken_only : (p : Part) (f : MeshParts) (line : List ℕ) (why : Why) → taken p f line ≡ Err why → (why ≡ Field) ⊎ (why
     ≡ Range)
 taken_only Replies f line why h = (reply_adds f).only line why h
@@ -320,15 +344,18 @@ taken_form Hull f line g h = index_form 3 f.points line h.0 h.1
 
 -- ---- the last of a list, as it is found
 
+-- the last of a list with one behind it is that one
 pub after_last : {X : Type 0} (before : X → X → Bool) (front : List X) (r q : X) → is_after before (front ++ r ∷ []) q
     ≡ before r q
 after_last before [] r q = refl
 after_last before (x ∷ []) r q = refl
 after_last before (x ∷ y ∷ front) r q = after_last before (y ∷ front) r q
 
+-- a list that compares as less is found less
 pub less_is : (a b : List ℕ) → slice_cmp nat_cmp a b ≡ Less → is_less a b ≡ true
 less_is a b h = ap is_lt h
 
+-- and one that does not is not
 pub less_not : (a b : List ℕ) → (slice_cmp nat_cmp a b ≡ Less → ⊥) → is_less a b ≡ false
 less_not a b h = by_order (slice_cmp nat_cmp a b) h
   where

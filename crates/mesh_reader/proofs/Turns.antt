@@ -7,11 +7,13 @@ use Rattle.mesh_reader.specs.declared.reader.LineRefused.TheVariants as line_ref
 use Rattle.mesh_reader.specs.Grammar.{MeshParts, Reached}
 use Rattle.mesh_reader.specs.Judging.{Fails, Refuses, ended, go_on, judge, refused_at, step}
 
+-- a line is judged, and then those behind it
 judge_cons : (n : ℕ) (a : Reached) (line : List ℕ) (rest : List (List ℕ)) → judge n a (line ∷ rest) ≡ go_on n
     (step a line) (λ b. judge (n + 1) b rest)
 unfolding judge
 judge_cons n a line rest = refl
 
+-- where no line is left, the end is judged
 judge_nil : (n : ℕ) (a : Reached) → judge n a [] ≡ ended n a.due a.taken
 unfolding judge
 judge_nil n a = refl

@@ -1,6 +1,22 @@
 //! The points at given places, and the cells of their complex.
 
-ghost use Rattle.std.specs.Prelude.{◌≡◌, ◌<◌, ◌^◌, ◌∷◌, ◌++◌, [], map, length, IfOk, IfErr, IsTrue, OnOk};
+ghost use Rattle.std.specs.Prelude.{
+  ◌≡◌,
+  ◌⊎◌,
+  ◌<◌,
+  ◌≤◌,
+  ◌^◌,
+  ◌∷◌,
+  ◌++◌,
+  [],
+  map,
+  length,
+  false,
+  IfOk,
+  IfErr,
+  IsTrue,
+  OnOk,
+};
 ghost use Rattle.point_order.specs.Coordinates.{IsKey};
 ghost use Rattle.point_order.specs.Solid.{is_solid};
 ghost use Rattle.del_laws.specs.Keys.{AreKeys};
@@ -74,6 +90,7 @@ pub fn set_of(alloc: Global, given: &[Place]) -> Result<Vec<Point>, Stop>
 pub fn are_few(points: &[Point], cells: &[Cell]) -> bool
     ensures points { IsTrue result → length points.now < 2 ^ 32 }
     ensures cells { IsTrue result → length cells.now < 2 ^ 32 }
+    ensures many { result ≡ false → (2 ^ 32 ≤ length points.now) ⊎ (2 ^ 32 ≤ length cells.now) }
 {
     points.len() < 1 << 32 && cells.len() < 1 << 32
 }

@@ -41,9 +41,9 @@ pub fn begin_cloud(
 {
     one_thread_is_legal();
     solidity_is_of_the_set();
-    let entries = history_of_points(alloc, points, four)?;
     let set = set_of(alloc, points)?;
     let cells = complex_of_points(alloc, &set)?;
+    let entries = history_of_points(alloc, points, four)?;
     let mesh = Mesh::of_history(alloc, grid, &entries, &set, &cells)?;
     Ok(mesh)
 }

@@ -74,6 +74,7 @@ cut_lines present (line ∷ lines) = by (list_any (λ earlier. clash earlier lin
     by true r = ap (λ (l : List Pair). present ++ l) (r (line ∷ []))
     by false r = r (present ++ line ∷ []) ∙ append_assoc present (line ∷ []) lines
 
+-- so the segments of lines have all lines, in their order
 pub segments_keep : SegmentsKeepLines
 segments_keep lines = cut_lines [] lines
 
@@ -107,6 +108,7 @@ first_stays l lines present line =
     ap (λ (t : List (List Pair)). with_line (l ∷ t) line) s.2
     ∙ sym (ap (λ (t : List (List Pair)). l ∷ with_line t line) s.2)
 
+-- a cut of lines with one more is the cut of the lines, with that line
 cut_more : (present lines : List Pair) (line : Pair) →
     cut present (lines ++ line ∷ []) ≡ with_line (cut present lines) line
 cut_more present [] line = refl
@@ -158,6 +160,7 @@ still_calm x y m n = by (share_point x.1 y.1) (is_move x.1) (is_move y.1) m n
     by true true b m n = absurd (false≢true (sym m))
     by true false true m n = absurd (false≢true (sym n))
 
+-- where neither the present lines nor the others move a point, all are one segment
 cut_still : (present lines : List Pair) → ((x : Pair) → IsIn x present → is_move x.1 ≡ false) →
     ((x : Pair) → IsIn x lines → is_move x.1 ≡ false) → cut present lines ≡ (present ++ lines) ∷ []
 cut_still present [] f g = ap (λ (l : List Pair). l ∷ []) (none present)
@@ -185,6 +188,7 @@ cut_still present (line ∷ lines) f g =
     by true e r = absurd (false≢true (sym e))
     by false e r = r ∙ ap (λ (l : List Pair). l ∷ []) (append_assoc present (line ∷ []) lines)
 
+-- lines that move no point are one segment
 pub one_segment : OneSegment
 one_segment lines still =
     cut_still [] lines (λ x i. absurd i) (each_of_all (λ (x : Pair). is_move x.1 ≡ false) lines still)
@@ -236,9 +240,11 @@ shares_back d e h =
     any_true (λ q. is_among q (edit_points d)) (edit_points e) p.0 (among_from p.0 (edit_points e) p.2)
     (among_true p.0 (edit_points d) p.1)
 
+-- whether two edits share a point does not depend on which is first
 pub share_flips : (d e : Edit) → share_point d e ≡ share_point e d
 share_flips d e = same_test (share_point d e) (share_point e d) (shares_back d e) (shares_back e d)
 
+-- nor does whether two lines clash
 pub clash_flips : (x y : Pair) → clash x y ≡ clash y x
 clash_flips x y = by (share_point x.1 y.1) (share_point y.1 x.1) (is_move x.1) (is_move y.1) (share_flips x.1 y.1)
   where
@@ -303,6 +309,7 @@ workers_apart segment n i j h l a b k m = false_if (share_point a.1 b.1) (λ e. 
     same_worker : share_point a.1 b.1 ≡ true → point_of a.1 % n ≡ point_of b.1 % n
     same_worker e = ap (λ p. p % n) (one_point a b e calm)
 
+-- numbers in their order rise
 range_later : (k n : ℕ) → EachLater (λ (i j : ℕ). i < j) (range_with_len k n)
 range_later k n = ascending_later (range_with_len k n) (range_ascending k n)
   where
@@ -310,6 +317,7 @@ range_later k n = ascending_later (range_with_len k n) (range_ascending k n)
     ascending_later [] h = tt
     ascending_later (x ∷ l) h = (λ y i. below_each x l h.0 h.1 y i, ascending_later l h.1)
 
+-- in a segment a line that moves is alone with its points, and no point stands in two workers' lists
 pub segments_apart : SegmentsApart
 segments_apart lines segment n i =
     let h = cut_calm [] lines tt segment i in (

@@ -29,6 +29,7 @@ use Rattle.edit_history.specs.Edits.{point_of, is_move}
 use Rattle.std.proofs.Common.{inl, inr}
 use Rattle.plain_laws.specs.Plain.{ThereByLast, is_add, there_after, there_from}
 
+-- the line is of the point
 abbrev is_of : ℕ → Edit → Bool
 is_of p line = point_of line == p
 
@@ -36,16 +37,19 @@ is_of p line = point_of line == p
 abbrev by_last : Bool → List Edit → ℕ → Bool
 by_last there lines p = option_map_or is_add (last_or None (filter (is_of p) lines)) there
 
+-- where there is a line, what was there before does not tell
 last_some : (x : Edit) (xs : List Edit) (b c : Bool) → option_map_or is_add (last_or (Some x) xs) b ≡ option_map_or
     is_add (last_or (Some x) xs) c
 last_some x [] b c = refl
 last_some x (y ∷ xs) b c = last_some y xs b c
 
+-- the last line of one and some is that of the some, or where there is none the one
 last_none : (x : Edit) (xs : List Edit) (b : Bool) → option_map_or is_add (last_or (Some x) xs) b ≡ option_map_or is_add
     (last_or None xs) (is_add x)
 last_none x [] b = refl
 last_none x (y ∷ xs) b = last_some y xs b (is_add x)
 
+-- a line of the point tells what is there before the lines behind it
 last_step : (b : Bool) (line : Edit) (lines : List Edit) (p : ℕ) →
     by_last b (line ∷ lines) p ≡ by_last (cond (is_of p line) (is_add line) b) lines p
 last_step b line lines p = by (is_of p line)
@@ -55,12 +59,14 @@ last_step b line lines p = by (is_of p line)
     by true = last_none line (filter (is_of p) lines) b
     by false = refl
 
+-- after a line that moves nothing: what the line does to its own point, and else as before
 one_step : (there : ℕ → Bool) (line : Edit) (p : ℕ) → is_move line ≡ false →
     there_after there line p ≡ cond (is_of p line) (is_add line) (there p)
 one_step there (Add q) p e = refl
 one_step there (Take q) p e = refl
 one_step there (Move a b) p e = absurd cc
 
+-- after lines that move nothing the last line of a point tells whether it is there
 all_steps : (there : ℕ → Bool) (lines : List Edit) (p : ℕ) → ((line : Edit) → IsIn line lines → is_move line ≡ false) →
     there_from there lines p ≡ by_last (there p) lines p
 all_steps there [] p f = refl
@@ -69,5 +75,6 @@ all_steps there (line ∷ lines) p f =
     ∙ ap (λ (b : Bool). by_last b lines p) (one_step there line p (f line (inl refl)))
     ∙ sym (last_step (there p) line lines p)
 
+-- of lines that move nothing a point is there exactly where some line is of it and the last such adds
 pub there_by_last : ThereByLast
 there_by_last lines p still = all_steps (λ q. false) lines p (each_of_all (λ line. is_move line ≡ false) lines still)

@@ -135,6 +135,7 @@ point_within [] n d l = absurd (omega (arith, l))
 point_within (x ∷ points) zero d l = refl
 point_within (x ∷ points) (suc n) d l = point_within points n d (omega (arith, l))
 
+-- the lines in front of the next place are those in front of this, and the point here
 lines_next : (m : ℕ) (points : List ℕ) (n : ℕ) → n < length points
     → take (suc n) (enumerate_from m (map Add points ++ [])) ≡ take n (enumerate_from m (map Add points ++ [])) ++
     (m + n, Add (slice_index points n)) ∷ []
@@ -146,6 +147,7 @@ lines_next m (x ∷ points) (suc n) l =
     (λ (k : ℕ). take n (enumerate_from (m + 1) (map Add points ++ [])) ++ (k, Add (slice_index points n)) ∷ []) k)
 
 module _ (test : ℕ × Edit → Bool) (points : List ℕ) where
+  -- in front of the first place no line passes
   pub none_yet : (lines : List (ℕ × Edit)) → lines ≡ lines ++ filter test (take 0 (tagged_lines points []))
   none_yet lines = sym (append-nil lines) ∙ ap (λ (t : List (ℕ × Edit)). lines ++ filter test t)
       (front (tagged_lines points []))
@@ -154,6 +156,7 @@ module _ (test : ℕ × Edit → Bool) (points : List ℕ) where
       front [] = refl
       front (x ∷ l) = refl
 
+  -- what passes in front of the next place is what passes in front of this, and the line here if it does
   next_is : (n : ℕ) → n < length points → filter test (take (n + 1) (tagged_lines points [])) ≡ filter test
       (take n (tagged_lines points [])) ++ filter test ((n, Add (slice_index points n)) ∷ [])
   next_is n l =
@@ -163,6 +166,7 @@ module _ (test : ℕ × Edit → Bool) (points : List ℕ) where
       ∙ ap (λ (k : ℕ). filter test (take n (tagged_lines points []) ++ (k, Add (slice_index points n)) ∷ [])) from_0
       ∙ filter-append test (take n (tagged_lines points [])) ((n, Add (slice_index points n)) ∷ [])
 
+  -- the line here passes and comes last
   pub next_picked : (lines : List (ℕ × Edit)) (n : ℕ) → n < length points → test (n, Add (slice_index points n)) ≡ true
       → (lines ++ filter test (take n (tagged_lines points []))) ++ (n, Add (slice_index points n)) ∷ [] ≡ lines ++
       filter test (take (n + 1) (tagged_lines points []))
@@ -172,6 +176,7 @@ module _ (test : ℕ × Edit → Bool) (points : List ℕ) where
       ∙ ap (λ (t : List (ℕ × Edit)). lines ++ t) (ap (λ (b : Bool). filter test (take n (tagged_lines points [])) ++
       cond b (line ∷ []) []) (sym e) ∙ sym (next_is n l))
 
+  -- or it does not
   pub next_passed : (lines : List (ℕ × Edit)) (n : ℕ) → n < length points → test (n, Add (slice_index points n)) ≡ false
       → lines ++ filter test (take n (tagged_lines points [])) ≡ lines ++ filter test
       (take (n + 1) (tagged_lines points []))
@@ -182,6 +187,7 @@ module _ (test : ℕ × Edit → Bool) (points : List ℕ) where
       ∙ ap (λ (b : Bool). filter test (take n (tagged_lines points [])) ++ cond b (line ∷ []) []) (sym e) ∙ sym
       (next_is n l))
 
+  -- at the end all that pass are there
   pub all_picked : (lines : List (ℕ × Edit)) (n : ℕ) → length points ≤ n →
       lines ++ filter test (take n (tagged_lines points [])) ≡ lines ++ filter test (tagged_lines points [])
   all_picked lines n l =

@@ -8,6 +8,7 @@ use Rattle.point_order.specs.Texts.{point_text, points_to}
 abbrev pub behind_comma : ℕ → List ℕ
 behind_comma p = codes ", " ++ point_text p
 
+-- points, each behind a comma, one after another
 abbrev pub others_text : List ℕ → List ℕ
 others_text l = flat_map behind_comma l
 

@@ -1,5 +1,5 @@
--- The perturbation in the lifted determinant: a part below one unit of the in-sphere polynomial, so that it shows only where
--- that polynomial is 0, and there by the greatest point whose coefficient is not 0.
+-- The perturbation in the lifted determinant: a part below one unit of the in-sphere polynomial, so that it shows only
+-- where that polynomial is 0, and there by the greatest point whose coefficient is not 0.
 use Rattle.std.proofs.Common.{◌≡◌, ℕ, ◌*◌, ◌^◌, ◌<◌, ◌≤◌, ◌⊎◌, arith, sym, subst, ap, ◌∙◌, ℤ, pos, ◌+ℤ◌, ◌*ℤ◌, inl, inr}
 use Rattle.std.proofs.lemmas.Int.{ints}
 use Rattle.std.proofs.Math.Nat.{one-le-pow}

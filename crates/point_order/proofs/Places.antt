@@ -15,7 +15,8 @@ pub record HasFour (l : List ℕ) (a b c d : ℕ) : Type 0 where
   pub second : b < c
   pub third : c < d
 
--- so do those at the places of an ascending list of that length; the numbers given are what stands where there is no place
+-- so do those at the places of an ascending list of that length; the numbers given are what stands where there is no
+-- place
 pub three_of : (l : List ℕ) → length l ≡ 3 → IsAscending l → (i j k : ℕ)
     → HasThree l (slice_index_or l 0 i) (slice_index_or l 1 j) (slice_index_or l 2 k)
 three_of [] e h i j k = absurd (omega arith)
@@ -24,6 +25,7 @@ three_of (a ∷ b ∷ []) e h i j k = absurd (omega arith)
 three_of (a ∷ b ∷ c ∷ []) e h i j k = record { is = refl; first = h.0; second = h.1.0 }
 three_of (a ∷ b ∷ c ∷ d ∷ l) e h i j k = absurd (omega arith)
 
+-- an ascending list of four has the four at its places
 pub four_of : (l : List ℕ) → length l ≡ 4 → IsAscending l → (i j k m : ℕ)
     → HasFour l (slice_index_or l 0 i) (slice_index_or l 1 j) (slice_index_or l 2 k) (slice_index_or l 3 m)
 four_of [] e h i j k m = absurd (omega arith)

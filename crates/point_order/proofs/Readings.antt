@@ -24,11 +24,13 @@ pub x_read : (a b : ℕ) {u v : ℤ} → u ≡ pos (x_of b) → v ≡ pos (x_of 
 unfolding x_from
 x_read a b e f = same_difference (coordinate_read e (x_of_below b)) (coordinate_read f (x_of_below a))
 
+-- the same along y
 pub y_read : (a b : ℕ) {u v : ℤ} → u ≡ pos (y_of b) → v ≡ pos (y_of a)
     → to_z w64 (of_z w64 u) -ℤ to_z w64 (of_z w64 v) ≡ y_from a b
 unfolding y_from
 y_read a b e f = same_difference (coordinate_read e (y_of_below b)) (coordinate_read f (y_of_below a))
 
+-- and along z
 pub z_read : (a b : ℕ) {u v : ℤ} → u ≡ pos (z_of b) → v ≡ pos (z_of a)
     → to_z w64 (of_z w64 u) -ℤ to_z w64 (of_z w64 v) ≡ z_from a b
 unfolding z_from
@@ -52,16 +54,19 @@ pub minor_read : {p q r s m : ℤ} → IsWithin greatest_difference p → IsWith
 minor_read h i j k e bound =
     read (within_fits w64 bound (lit< tt)) ∙ e ∙ same_minor (step_read h) (step_read i) (step_read j) (step_read k)
 
--- A number that is given as a coordinate, by the two tests of it: as a number without a sign it is the same, and is one.
+-- A number that is given as a coordinate, by the two tests of it: as a number without a sign it is the same, and is
+-- one.
 pub record IsGiven (v : ℤ) (n : ℕ) : Type 0 where
   pub same : pos n ≡ v
   pub below : n < 16384
 
+-- where both tests pass it is a coordinate as it was given
 pub given : {v : ℤ} → FitsSigned w64 v → lt_z (cast_signed w64 (cast_unsigned w64 v)) (pos 0) ≡ false
     → lt_z (pos 16383) (cast_signed w64 (cast_unsigned w64 v)) ≡ false
     → IsGiven v (unsigned_abs (cast_signed w64 (cast_unsigned w64 v)))
 given h e f = record { same = omega (arith, ints); below = omega (arith, ints) }
 
+-- and so it is a coordinate
 pub given_coordinate : {v : ℤ} {n : ℕ} → IsGiven v n → IsCoordinate v
 given_coordinate h = (omega (arith, ints, h.same), omega (arith, ints, h.same, h.below))
 
@@ -69,6 +74,7 @@ given_coordinate h = (omega (arith, ints, h.same), omega (arith, ints, h.same, h
 pub too_small : {v : ℤ} → FitsSigned w64 v → lt_z (cast_signed w64 (cast_unsigned w64 v)) (pos 0) ≡ true → IsNoCoordinate v
 too_small h e = inl (omega (arith, ints))
 
+-- where it is above 16383 it is none
 pub too_great : {v : ℤ} → FitsSigned w64 v → lt_z (pos 16383) (cast_signed w64 (cast_unsigned w64 v)) ≡ true → IsNoCoordinate v
 too_great h e = inr (omega (arith, ints))
 

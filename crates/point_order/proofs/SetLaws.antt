@@ -7,6 +7,7 @@ use Rattle.point_order.specs.Sets.{IsIn, IsAscending, with_point, ascending}
 
 -- ---- with a point
 
+-- a point put into a list with q in front stands before q, is q, or goes into the rest
 pub with_cases : (p q : ℕ) (s : List ℕ) → ((p < q) × (with_point p (q ∷ s) ≡ p ∷ q ∷ s)) ⊎ ((p ≡ q) × (with_point p (q ∷ s) ≡ q ∷ s)) ⊎ ((q < p) × (with_point p (q ∷ s) ≡ q ∷ with_point p s))
 with_cases p q s = by_tests (nat_lt p q) (p == q) refl refl
   where
@@ -15,6 +16,7 @@ with_cases p q s = by_tests (nat_lt p q) (p == q) refl refl
     by_tests false true e f = inr (inl (grind (arith, nat_tests), rw (e, f) refl))
     by_tests false false e f = inr (inr (grind (arith, nat_tests), rw (e, f) refl))
 
+-- a point of the list with p is p, or was there
 pub in_with : (p q : ℕ) (s : List ℕ) → IsIn q (with_point p s) → (p ≡ q) ⊎ IsIn q s
 in_with p q [] i = i
 in_with p q (x ∷ s) i =
@@ -29,6 +31,7 @@ in_with p q (x ∷ s) i =
       ]
     ]
 
+-- p is there
 pub in_with_new : (p : ℕ) (s : List ℕ) → IsIn p (with_point p s)
 in_with_new p [] = inl refl
 in_with_new p (x ∷ s) =
@@ -40,6 +43,7 @@ in_with_new p (x ∷ s) =
       ]
     ]
 
+-- and what was there is there still
 pub in_with_old : (p q : ℕ) (s : List ℕ) → IsIn q s → IsIn q (with_point p s)
 in_with_old p q [] i = absurd i
 in_with_old p q (x ∷ s) i =
@@ -51,6 +55,7 @@ in_with_old p q (x ∷ s) i =
       ]
     ]
 
+-- an ascending list with a point ascends
 pub ascending_with : (p : ℕ) (s : List ℕ) → IsAscending s → IsAscending (with_point p s)
 ascending_with p [] h = (tt, tt)
 ascending_with p (x ∷ s) h =
@@ -64,14 +69,17 @@ ascending_with p (x ∷ s) h =
 
 -- ---- put in order
 
+-- a list put in order ascends
 pub ascending_ascending : (ps : List ℕ) → IsAscending (ascending ps)
 ascending_ascending [] = tt
 ascending_ascending (p ∷ ps) = ascending_with p (ascending ps) (ascending_ascending ps)
 
+-- what is in it was in the list
 pub in_ascending : (ps : List ℕ) (p : ℕ) → IsIn p (ascending ps) → IsIn p ps
 in_ascending [] p i = i
 in_ascending (q ∷ ps) p i = elim (in_with q p (ascending ps) i) [ inl e ↦ inl e | inr j ↦ inr (in_ascending ps p j) ]
 
+-- and what was in the list is in it
 pub in_ascending_from : (ps : List ℕ) (p : ℕ) → IsIn p ps → IsIn p (ascending ps)
 in_ascending_from [] p i = i
 in_ascending_from (q ∷ ps) p i =
@@ -82,5 +90,6 @@ pub ascending_is : (xs ps : List ℕ) → IsAscending xs → ((p : ℕ) → IsIn
 ascending_is xs ps h f g =
     same_members xs (ascending ps) h (ascending_ascending ps) (λ p i. in_ascending_from ps p (f p i)) (λ p i. g p (in_ascending ps p i))
 
+-- so an ascending list put in order is itself
 pub ascending_self : (s : List ℕ) → IsAscending s → ascending s ≡ s
 ascending_self s h = sym (ascending_is s s h (λ p i. i) (λ p i. i))

@@ -33,5 +33,6 @@ sixteen : (d : ℤ) (r : ℕ) → d *ℤ pos (16 * r) ≡ pos 4 *ℤ (pos 4 *ℤ
 sixteen d r =
     ring (var 0 ⊗ (var 1 ⊗ var 1 ⊗ var 2)) (var 1 ⊗ (var 1 ⊗ var 0 ⊗ var 2)) (d ∷ pos 4 ∷ pos r ∷ []) tt
 
+-- within sixteen times a whole number is a squared radius of at most the number
 pub within_whole : (p d : ℤ) (r : ℕ) → le_z (pos 4 *ℤ p) (d *ℤ pos (16 * r)) ≡ le_z p (pos 4 *ℤ d *ℤ pos r)
 within_whole p d r = ap (λ z. le_z (pos 4 *ℤ p) z) (sixteen d r) ∙ four_times p (pos 4 *ℤ d *ℤ pos r)

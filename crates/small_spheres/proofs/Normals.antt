@@ -28,7 +28,8 @@ turned d m p q nx ny nz ux uy uz vx vy vz tx ty tz =
     ⊖ var 3 ⊗ dot_w (var 4) (var 5) (var 6) (minor_w (var 14) (var 15) (var 11) (var 12)) (minor_w (var 15) (var 13) (var 12) (var 10)) (minor_w (var 13) (var 14) (var 10) (var 11)))
     (d ∷ m ∷ p ∷ q ∷ nx ∷ ny ∷ nz ∷ ux ∷ uy ∷ uz ∷ vx ∷ vy ∷ vz ∷ tx ∷ ty ∷ tz ∷ []) tt
 
--- the power of e to the sphere of the triangle, times |n|^2: each term is a square times a scalar product of two normals
+-- the power of e to the sphere of the triangle, times |n|^2: each term is a square times a scalar product of two
+-- normals
 pub by_normals : (a b c e : ℕ) → triangle_power a b c e ≡ distance a e *ℤ square_of_normal a b c -ℤ distance a c *ℤ dot (normal_x a b c) (normal_y a b c) (normal_z a b c) (normal_x a b e) (normal_y a b e) (normal_z a b e) -ℤ distance a b *ℤ dot (normal_x a b c) (normal_y a b c) (normal_z a b c) (normal_x a e c) (normal_y a e c) (normal_z a e c)
 unfolding triangle_power centre_x centre_y centre_z normal_x normal_y normal_z
 by_normals a b c e =

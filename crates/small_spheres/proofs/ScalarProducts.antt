@@ -30,11 +30,13 @@ pub centre_x_from : (a b c d : ℕ) {p q r k l m : ℤ} → p ≡ distance a b �
 unfolding cell_centre_x
 centre_x_from a b c d = same_dot
 
+-- along y
 pub centre_y_from : (a b c d : ℕ) {p q r k l m : ℤ} → p ≡ distance a b → q ≡ distance a c → r ≡ distance a d
     → k ≡ normal_y a c d → l ≡ normal_y a d b → m ≡ normal_y a b c → dot p q r k l m ≡ cell_centre_y a b c d
 unfolding cell_centre_y
 centre_y_from a b c d = same_dot
 
+-- and along z
 pub centre_z_from : (a b c d : ℕ) {p q r k l m : ℤ} → p ≡ distance a b → q ≡ distance a c → r ≡ distance a d
     → k ≡ normal_z a c d → l ≡ normal_z a d b → m ≡ normal_z a b c → dot p q r k l m ≡ cell_centre_z a b c d
 unfolding cell_centre_z

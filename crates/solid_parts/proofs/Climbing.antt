@@ -56,13 +56,16 @@ use Rattle.solid_parts.proofs.Merging.{label_moved, merges}
 
 -- ---- own labels
 
+-- the number is its own label
 is_own : List ℕ → ℕ → Bool
 is_own labels i = label_at labels i == i
 
+-- a number that is its own label passes the test
 own_true : (labels : List ℕ) (i : ℕ) → label_at labels i ≡ i → is_own labels i ≡ true
 unfolding is_own
 own_true labels i e = grind (arith, nat_tests)
 
+-- and one that passes is
 own_from : (labels : List ℕ) (i : ℕ) → is_own labels i ≡ true → label_at labels i ≡ i
 unfolding is_own
 own_from labels i e = grind (arith, nat_tests)
@@ -89,6 +92,7 @@ own_but old new extra e f =
     from_none : (m i : ℕ) → i < 0 + m → i < m
     from_none m i l = omega (arith, l)
 
+-- a label other than the one that goes over stays
 unmoved : (from to i : ℕ) → i ≢ from → moved from to i ≡ i
 unmoved from to i n = by (i == from) refl
   where
@@ -96,6 +100,7 @@ unmoved from to i n = by (i == from) refl
     by true e = absurd (n (grind (arith, nat_tests)))
     by false e = refl
 
+-- where a label goes over into itself all stay
 onto_itself : (from to i : ℕ) → from ≡ to → moved from to i ≡ i
 onto_itself from to i f = by (i == from) refl
   where
@@ -128,6 +133,7 @@ own_left i j labels new (inr e) =
     subst (λ (v : List ℕ). own_count labels ≤ 1 + own_count v) (sym e)
     (left_after labels (label_at labels j) (label_at labels i))
 
+-- where the two had one label none is lost
 own_same : (i j : ℕ) (labels new : List ℕ) → AreMerged i j labels new → AreTogether labels i j →
     own_count labels ≤ own_count new
 own_same i j labels new (inl e) t =
@@ -143,6 +149,7 @@ own_same i j labels new (inr e) t =
 abbrev pub added : Bool → ℕ
 added apart = if apart then 1 else 0
 
+-- with the merges counted, the labels that are left are as many as the numbers, or more
 count_after : (apart : Bool) (i j : ℕ) (labels new : List ℕ) (count : ℕ) → length new ≡ length labels →
     AreMerged i j labels new
     → (apart ≡ false → AreTogether labels i j) → length labels ≤ own_count labels + count →
@@ -154,10 +161,12 @@ module _ (links : List Link) (climb : Climb) (labels leads : List ℕ) (apart : 
     (below : AreBelow (length labels) links) (m : IsMerged (link_at links climb.next).one
     (link_at links climb.next).other labels apart leads)
     (c : IsClimbed links climb labels) where
+  -- the two cells of a link are numbers with labels
   inside : (t : ℕ) → t < length links → ((link_at links t).one < length labels) ×
       ((link_at links t).other < length labels)
   inside t l = below t (record { alpha = 0; one = 0; other = 0 }) l
 
+  -- with the next link taken, the labels are those of the links so far
   pub climb_more : (now : Climb) → now.next ≡ climb.next + 1 → now.merges ≡ climb.merges + added apart →
       IsClimbed links now m.new
   climb_more now e f =
@@ -187,6 +196,7 @@ pub record ClimbSoFar (old leads : List ℕ) (links : List Link) (climb now : Cl
   pub down : LeadDown leads
   pub climbs : (labels : List ℕ) → LeadTo old labels → IsClimbed links climb labels → ClimbsTo links now leads
 
+-- before the first link nothing is taken
 pub none_climbed : (leads : List ℕ) (links : List Link) (climb : Climb) → IsWithin links climb → LeadDown leads
     → ClimbSoFar leads leads links climb climb
 none_climbed leads links climb w d = record {
@@ -196,6 +206,7 @@ none_climbed leads links climb w d = record {
   climbs = λ labels t c. record { labels = labels; leads_to = t; climbed = c };
 }
 
+-- the next link is taken, and counted where its two were apart
 pub one_taken : (old leads new : List ℕ) (links : List Link) (climb now more : Climb) (apart : Bool) →
     now.next < length links
     → AreBelow (length old) links → more.next ≡ now.next + 1 → more.merges ≡ now.merges + added apart
@@ -228,6 +239,7 @@ all_past links climb alpha r l t h k =
     let up = r climb.next t (record { alpha = 0; one = 0; other = 0 }) h k in
     omega (arith, l, up)
 
+-- where no link is left, all are past
 pub none_left : (links : List Link) (climb : Climb) (alpha : ℕ) → length links ≤ climb.next → IsPast links climb alpha
 none_left links climb alpha l t h k = absurd (omega (arith, l, h, k))
 
@@ -248,6 +260,7 @@ passing p (x ∷ xs) (suc i) h t f =
     (λ k d l m. f (suc k) d (omega (arith, l)) (omega (arith, m))) in
     rw e (ap suc r)
 
+-- where the numbers up to a place are at most alpha and the others are not, so many are
 pub counted_to : (numbers : List ℕ) (alpha i : ℕ) → i ≤ length numbers
     → IsPartitionPoint (λ y. nat_le y alpha ≡ true) (λ y. nat_le y alpha ≡ false) numbers i → i ≡ count_to numbers alpha
 counted_to numbers alpha i h p =
@@ -259,6 +272,7 @@ sorted_count xs ys p alpha = sum_by-IsPermutation (λ n. cond (nat_le n alpha) 1
 
 -- ---- before the first link
 
+-- before the first link each number is its own label
 pub first_climb : (links : List Link) (n : ℕ) → ClimbsTo links (record { next = 0; merges = 0 }) (range_with_len 0 n)
 first_climb links n = record {
   labels = range_with_len 0 n;

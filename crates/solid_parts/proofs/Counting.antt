@@ -84,6 +84,7 @@ use Rattle.solid_parts.proofs.Solid.{
 
 -- ---- marks by the least alphas
 
+-- the number of each cell is its least alpha
 least_is : (cells : List Cell) (leasts : List ℕ) → AreLeastOf is_small_cell cells leasts → (i : ℕ) → i < length cells
     → IsLeastOf (λ alpha. is_small_cell alpha (cell_at cells i)) (label_at leasts i)
 least_is [] leasts z i l = absurd (omega (arith, l))
@@ -91,6 +92,7 @@ least_is (c ∷ cells) [] z i l = absurd z
 least_is (c ∷ cells) (n ∷ leasts) z zero l = z.0
 least_is (c ∷ cells) (n ∷ leasts) z (suc i) l = least_is cells leasts z.1 i (omega (arith, l))
 
+-- there are as many of these as cells
 pub least_count : (cells : List Cell) (leasts : List ℕ) → AreLeastOf is_small_cell cells leasts →
     length leasts ≡ length cells
 least_count [] [] z = refl
@@ -98,6 +100,7 @@ least_count [] (n ∷ leasts) z = absurd z
 least_count (c ∷ cells) [] z = absurd z
 least_count (c ∷ cells) (n ∷ leasts) z = ap suc (least_count cells leasts z.1)
 
+-- what the test finds to be at most is so
 le_from : (m n : ℕ) → nat_le m n ≡ true → m ≤ n
 le_from m n e = grind (arith, nat_tests)
 
@@ -118,6 +121,7 @@ least_marked cells leasts alpha i z small l e = mark_is alpha cells i l ∙ leas
 
 -- ---- the links that were taken
 
+-- the greater of two is at most alpha where both are
 greatest_below : (m n alpha : ℕ) → m ≤ alpha → n ≤ alpha → max m n ≤ alpha
 greatest_below m n alpha h k = omega (arith, h, k)
 
@@ -141,6 +145,7 @@ module _ (faces : FaceLists) (leasts : List ℕ) (alpha : ℕ) (links : List Lin
       never : {n : ℕ} → alpha < n → n ≤ alpha → ⊥
       never o p = omega (arith, o, p)
 
+  -- so the cells of each triple that are admitted have one label
   all_alike : (t : ℕ) → t < length faces.triples
       → AreAlike faces (map (is_small_cell alpha) faces.cells) labels (get_or faces.triples t ([], []))
   all_alike t l =
@@ -181,6 +186,7 @@ chosen P (y ∷ xs) f =
       ],
     )
 
+-- two lists that grow by the same test stay equally long
 same_step : (s t : Bool) (x y : ℕ) (xs ys : List ℕ) → s ≡ t → length xs ≡ length ys
     → length (cond s (x ∷ xs) xs) ≡ length (cond t (y ∷ ys) ys)
 same_step true true x y xs ys e f = ap suc f
@@ -213,10 +219,12 @@ record IsLabelOf (cells : List Cell) (marks : List Bool) (labels : List ℕ) (pa
 
 module _ (s : List ℕ) (faces : FaceLists) (labels : List ℕ) (alpha : ℕ) (g : Given s faces alpha labels)
     (parts : List (List (List ℕ))) (a : AreParts (admitted s faces alpha labels g) parts) where
+  -- the first cell of a part is an admitted one
   first_in : (part : List (List ℕ)) → IsIn part parts → IsIn (first_of part) (admitted s faces alpha labels g)
   first_in part i = (a.all (first_of part)).0 (in_flat (λ v. v) parts part (first_of part) i
       (has_first part (a.filled part i)))
 
+  -- and its label is that of the part
   label_of_part : (part : List (List ℕ)) → IsIn part parts
       → (n : ℕ) × IsLabelOf faces.cells (map (is_small_cell alpha) faces.cells) labels part n
   label_of_part part i =
@@ -238,6 +246,7 @@ module _ (s : List ℕ) (faces : FaceLists) (labels : List ℕ) (alpha : ℕ) (g
       joined.joins in
       subst (λ x. IsIn x ns) (sym n.2.is_label ∙ sym same ∙ e) n.1
 
+-- where the points are covered and there are at most k parts, the cells are at most k and the merges
 pub at_least : (s : List ℕ) (faces : FaceLists) (leasts : List ℕ) (links : List Link) (climb : Climb) (labels : List ℕ)
     (alpha k : ℕ)
     → AreFacesOf s faces → AreLeastOf is_small_cell faces.cells leasts →
@@ -303,6 +312,7 @@ pub record IsClimbing (count : ℕ) (links : List Link) (climb : Climb) (leads :
   pub within : IsWithin links climb
   pub climbs : ClimbsTo links climb leads
 
+-- before the first link each cell leads to itself
 pub starts_climbing : (n : ℕ) (links : List Link) (leads : List ℕ) → leads ≡ range_with_len 0 n
     → IsClimbing n links (record { next = 0; merges = 0 }) leads
 starts_climbing n links leads e = subst (IsClimbing n links (record { next = 0; merges = 0 })) (sym e) (record {

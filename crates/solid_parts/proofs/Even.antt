@@ -68,6 +68,7 @@ use Rattle.solid_parts.proofs.Solid.{distinct_in_order, full_ascends}
 
 -- ---- sums of parities
 
+-- the four terms of two sums of parities, the middle ones exchanged
 shuffle : (a b c d : Bool) → xor (xor a b) (xor c d) ≡ xor (xor a c) (xor b d)
 shuffle true true true d = refl
 shuffle true true false true = refl
@@ -79,6 +80,7 @@ shuffle false true true d = refl
 shuffle false true false d = refl
 shuffle false false c d = refl
 
+-- whether the sum of two tests is odd is the sum of whether each is
 odd_sum : {X : Type 0} (p q : X → Bool) (xs : List X) → odd (λ x. xor (p x) (q x)) xs ≡ xor (odd p xs) (odd q xs)
 odd_sum p q [] = refl
 odd_sum p q (x ∷ xs) = ap (λ b. xor (xor (p x) (q x)) b) (odd_sum p q xs) ∙ shuffle (p x) (q x) (odd p xs) (odd q xs)
@@ -96,6 +98,7 @@ odd_swap m (x ∷ xs) ys = ap (xor (odd (m x) ys)) (odd_swap m xs ys) ∙ sym (o
 
 -- ---- turned triangles
 
+-- two terms of a disjunction can be exchanged
 or_swap : (a b c : Bool) → (a || (b || (c || false))) ≡ (a || (c || (b || false)))
 or_swap true b c = refl
 or_swap false true true = refl
@@ -116,6 +119,7 @@ turned_has (a ∷ b ∷ c ∷ []) d x e = by (lt_z (orientation a b c d) (pos 0)
     by false f = rw f (or_swap (a == x) (c == x) (b == x))
 turned_has (a ∷ b ∷ c ∷ f ∷ t) d x e = absurd (omega (arith, e))
 
+-- so a turned triple has two points exactly where the triple does
 both_turned : (t : List ℕ) (d x y : ℕ) → length t ≡ 3 → has_both x y (turned t d) ≡ has_both x y t
 both_turned t d x y e = ap₂ (λ a b. a && b) (turned_has t d x e) (turned_has t d y e)
 
@@ -124,6 +128,7 @@ abbrev passes : (List ℕ → Bool) → Option (List ℕ) → Bool
 passes p None = false
 passes p (Some f) = p f
 
+-- of what is given, oddly many pass where oddly many give what passes
 odd_given : {X : Type 0} (p : List ℕ → Bool) (g : X → Option (List ℕ)) (xs : List X) →
     odd p (filter_map g xs) ≡ odd (λ x. passes p (g x)) xs
 odd_given p g [] = refl
@@ -134,15 +139,18 @@ odd_given {X} p g (x ∷ xs) = by (g x) refl (odd_given p g xs)
     by None e h = rw e h
     by (Some f) e h = rw e (ap (xor (p f)) h)
 
+-- and so of what is mapped
 odd_mapped : {X Y : Type 0} (p : Y → Bool) (f : X → Y) (xs : List X) → odd p (map f xs) ≡ odd (λ x. p (f x)) xs
 odd_mapped p f [] = refl
 odd_mapped p f (x ∷ xs) = ap (xor (p (f x))) (odd_mapped p f xs)
 
 -- ---- one element less
 
+-- the points without one of them
 without : ℕ → List ℕ → List ℕ
 without x q = filter (λ i. not (i == x)) q
 
+-- without a point that is not there they are the same
 unlike_kept : (q : List ℕ) (x : ℕ) → ¬ (IsIn x q) → without x q ≡ q
 unfolding without
 unlike_kept [] x n = refl
@@ -152,6 +160,7 @@ unlike_kept (a ∷ q) x n = by (a == x) refl (unlike_kept q x (λ i. n (inr i)))
     by true e h = absurd (n (inl (same_from a x e)))
     by false e h = rw e (ap (λ (v : List ℕ). a ∷ v) h)
 
+-- without one that is there they are one less
 one_less : (q : List ℕ) (x : ℕ) → AreDistinct q → IsIn x q → suc (length (without x q)) ≡ length q
 unfolding without
 one_less [] x d i = absurd i
@@ -163,6 +172,7 @@ one_less (a ∷ q) x d i = by (a == x) refl (one_less q x d.1)
         (λ j. d.0 (subst (λ n. IsIn n q) (sym (same_from a x e)) j))))
     by false e h = rw e (ap suc (h (elim i [ inl f ↦ absurd (differ_from a x e f) | inr j ↦ j ])))
 
+-- what is left is a point, and another one
 kept_from : (q : List ℕ) (x z : ℕ) → IsIn z (without x q) → IsIn z q × (z ≢ x)
 unfolding without
 kept_from q x z i = let f = filtered_from (λ i. not (i == x)) q z i in (f.0, λ e. no (z == x) f.1 (same_true z x e))
@@ -174,6 +184,7 @@ kept_from q x z i = let f = filtered_from (λ i. not (i == x)) q z i in (f.0, λ
     same_true : (z x : ℕ) → z ≡ x → (z == x) ≡ true
     same_true z x e = grind (arith, nat_tests)
 
+-- and each other point is left
 kept_true : (q : List ℕ) (x z : ℕ) → IsIn z q → z ≢ x → IsIn z (without x q)
 unfolding without
 kept_true q x z i n = filtered_true (λ i. not (i == x)) q z i (by (z == x) refl)
@@ -182,6 +193,7 @@ kept_true q x z i n = filtered_true (λ i. not (i == x)) q z i (by (z == x) refl
     by true e = absurd (n (same_from z x e))
     by false e = rw e refl
 
+-- what is left ascends
 ascends_without : (q : List ℕ) (x : ℕ) → IsAscending q → IsAscending (without x q)
 unfolding without
 ascends_without q x a = filtered_ascending (λ i. not (i == x)) q a
@@ -199,6 +211,7 @@ record OtherTwo (q : List ℕ) (x y : ℕ) : Type 0 where
   pub apart : z ≢ w
   pub only : (i : ℕ) → IsIn i q → i ≢ x → i ≢ y → (i ≡ z) ⊎ (i ≡ w)
 
+-- four points have two besides any two of them
 other_two : (q : List ℕ) (x y : ℕ) → IsAscending q → length q ≡ 4 → IsIn x q → IsIn y q → x ≢ y → OtherTwo q x y
 other_two q x y a e i j n =
     let r = without x q in
@@ -239,6 +252,7 @@ other_two q x y a e i j n =
 
 -- ---- parts of ascending lists
 
+-- a list has no part that is longer
 no_longer : (k : ℕ) (t p : List ℕ) → length t < k → IsIn p (subsets k t) → ⊥
 no_longer zero t p l m = absurd (omega (arith, l))
 no_longer (suc k) [] p l m = m
@@ -247,6 +261,7 @@ no_longer (suc k) (x ∷ t) p l m = elim (from_append p (map (λ r. x ∷ r) (su
   | inr i ↦ no_longer (suc k) t p (omega (arith, l)) i
 ]
 
+-- and of its own length only itself
 whole_only : (t p : List ℕ) → IsIn p (subsets (length t) t) → t ≡ p
 whole_only [] p m = elim m [ inl e ↦ e | inr none ↦ absurd none ]
 whole_only (x ∷ t) p m = elim (from_append p (map (λ r. x ∷ r) (subsets (length t) t)) (subsets (suc (length t)) t) m) [
@@ -267,22 +282,27 @@ too_many t q a b e f g = no_longer (length q) t q (omega (arith, e, f)) (part_tr
 
 -- ---- the triples of one cell
 
+-- the second list has all points of the first
 pub has_all : List ℕ → List ℕ → Bool
 has_all t q = list_all (λ p. is_among p q) t
 
+-- where the test passes it does
 has_all_from : (t q : List ℕ) → has_all t q ≡ true → (i : ℕ) → IsIn i t → IsIn i q
 unfolding has_all
 has_all_from t q e i m = among_from i q (all_from (λ p. is_among p q) t e i m)
 
+-- and where it does the test passes
 has_all_true : (t q : List ℕ) → ((i : ℕ) → IsIn i t → IsIn i q) → has_all t q ≡ true
 unfolding has_all
 has_all_true t q f = all_true (λ p. is_among p q) t (λ p i. among_true p q (f p i))
 
+-- where two tests together pass, each does
 and_parts : (a b : Bool) → (a && b) ≡ true → (a ≡ true) × (b ≡ true)
 and_parts true true e = (refl, refl)
 and_parts true false e = cc
 and_parts false b e = cc
 
+-- and where each does, both do
 and_true : (a b : Bool) → a ≡ true → b ≡ true → (a && b) ≡ true
 and_true true true e f = refl
 and_true true false e f = cc
@@ -389,6 +409,7 @@ even_in_cell ts q x y a e g n = elim (true_or_false (is_among x q)) [
 
 -- ---- the cells of one triple
 
+-- a Full cell of a complex has four points
 full_four : (s q : List ℕ) → IsIn (Full q) (complex s) → length q ≡ 4
 unfolding complex
 full_four s q i = elim (from_append (Full q) (map Full (filter (is_full s) (subsets 4 s))) _ i) [
@@ -405,6 +426,7 @@ full_four s q i = elim (from_append (Full q) (map Full (filter (is_full s) (subs
     not_open : (t : List ℕ) → Open t ≡ Full q → ⊥
     not_open t e = cc
 
+-- a triple of its points is a facet of it
 three_facet : (q t : List ℕ) → length q ≡ 4 → IsIn t (subsets 3 q) → IsIn (Three t) (facets_of (Full q))
 three_facet [] t e i = absurd (omega (arith, e))
 three_facet (a ∷ []) t e i = absurd (omega (arith, e))
@@ -433,6 +455,7 @@ with_full t (q ∷ cells) = by (has_all t q) refl (with_full t cells)
     by true e h = rw e (ap (λ (v : List Cell). Full q ∷ v) h)
     by false e h = rw e h
 
+-- how many pass is how many are left of the list
 odd_filter : {X : Type 0} (r : X → Bool) (xs : List X) → odd r xs ≡ odd (λ x. true) (filter r xs)
 odd_filter r [] = refl
 odd_filter {X} r (x ∷ xs) = by (r x) refl (odd_filter r xs)
@@ -442,10 +465,12 @@ odd_filter {X} r (x ∷ xs) = by (r x) refl (odd_filter r xs)
     by true e h = rw e (ap (xor true) h)
     by false e h = rw e h
 
+-- a test that all share can be taken out
 odd_and : {X : Type 0} (b : Bool) (r : X → Bool) (xs : List X) → odd (λ x. b && r x) xs ≡ (b && odd r xs)
 odd_and true r xs = refl
 odd_and false r xs = none_even (λ x. false) xs (λ x i. refl)
 
+-- of a list that has none twice, what passes has none twice
 distinct_kept : {X : Type 0} (r : X → Bool) (xs : List X) → AreDistinct xs → AreDistinct (filter r xs)
 distinct_kept r [] d = tt
 distinct_kept {X} r (x ∷ xs) d = by (r x) refl (distinct_kept r xs d.1)
@@ -454,10 +479,12 @@ distinct_kept {X} r (x ∷ xs) d = by (r x) refl (distinct_kept r xs d.1)
     by true e h = rw e ((λ i. d.0 (filtered_from r xs x i).0), h)
     by false e h = rw e h
 
+-- nothing passes together with a test that fails
 and_false : (b : Bool) → (b && false) ≡ false
 and_false true = refl
 and_false false = refl
 
+-- what passes passes together with one that passes
 and_one : (b : Bool) → (b && true) ≡ b
 and_one true = refl
 and_one false = refl
@@ -479,6 +506,7 @@ no_third s t q r u a k i j l f g h m n o =
     same : (q r : List ℕ) → Full q ≡ Full r → q ≡ r
     same q r e = cc
 
+-- so every pair of points lies in an even number of the boundary's triples
 pub edges_are_even : EdgesAreEven
 edges_are_even s cells x y a k d f n =
     odd_given p outer_of (with_cells ts all)

@@ -84,6 +84,7 @@ use Rattle.solid_parts.proofs.Solid.{small_full}
 
 -- ---- the parts are determined
 
+-- what compares as equal does not compare as less
 clash : Equal ≡ Less → ⊥
 clash e = cc
 
@@ -95,9 +96,11 @@ first_least [] r s i = absurd i
 first_least (q ∷ part) r s (inl e) = inl e
 first_least (q ∷ part) r s (inr i) = inr (each_by (λ y. slice_cmp nat_cmp q y ≡ Less) part s.0 r i)
 
+-- of two lists not each is before the other
 not_both_before : (q r : List ℕ) → slice_cmp nat_cmp q r ≡ Less → slice_cmp nat_cmp r q ≡ Less → ⊥
 not_both_before q r e f = clash (sym (cell_self (Full q)) ∙ cell_before (Full q) (Full r) (Full q) e f)
 
+-- a part that has cells has its first
 pub has_first : (part : List (List ℕ)) → 0 < length part → IsIn (first_of part) part
 has_first [] h = absurd (omega (arith, h))
 has_first (q ∷ part) h = inl refl
@@ -124,9 +127,11 @@ first_again cells ps qs a b x i =
     ] in
     subst (λ (v : List ℕ). IsIn v (map first_of qs)) same (mapped_true first_of q.0 qs q.1)
 
+-- what is in a list of Full cells is Full
 full_only : (xs : List (List ℕ)) (c : Cell) → IsIn c (map Full xs) → (q : List ℕ) × IsIn q xs × (Full q ≡ c)
 full_only xs c i = mapped_from Full c xs i
 
+-- lists with the same Full cells are equally long
 unmapped : (xs ys : List (List ℕ)) → map Full xs ≡ map Full ys → length xs ≡ length ys
 unmapped xs ys e = sym (length-map xs Full) ∙ ap length e ∙ length-map ys Full
 
@@ -146,15 +151,19 @@ same_count cells ps qs a b =
 
 -- ---- the test
 
+-- what is at most a number is found so
 le_true : (m n : ℕ) → m ≤ n → nat_le m n ≡ true
 le_true m n l = grind (arith, nat_tests)
 
+-- and what is found so is
 le_from : (m n : ℕ) → nat_le m n ≡ true → m ≤ n
 le_from m n e = grind (arith, nat_tests)
 
+-- what is greater is not found so
 le_false : (m n : ℕ) → n < m → nat_le m n ≡ false
 le_false m n l = grind (arith, nat_tests)
 
+-- where every point is covered, few parts are few enough exactly where the test says so
 pub compact_test :
     (s : List ℕ) (k alpha start n : ℕ) (parts : List (List (List ℕ))) → alpha < 2 ^ 34 → start ≤ alpha →
     IsStart s alpha start → AreParts (shape_of s alpha).cells parts → n ≡ length parts →
@@ -198,6 +207,7 @@ module _ (s : List ℕ) (faces : FaceLists) (alpha : ℕ) (h : AreFacesOf s face
         among_from p f.0 (all_from (λ q. is_among q f.0) (p ∷ []) there p (inl refl)),
       )
 
+  -- and a point that is in such a cell is found to be
   covered_true : (p : ℕ) → IsCovered s alpha p → list_any (is_small_cell alpha) (cells_with (p ∷ []) (complex s)) ≡ true
   covered_true p c =
       let f = filtered_from (is_within alpha) (full_cells faces.cells) c.0
@@ -231,6 +241,7 @@ module _ (s : List ℕ) (faces : FaceLists) (alpha : ℕ) (h : AreFacesOf s face
     ]),
   )
 
+-- the greatest number of a point is where all come to be covered
 pub start_is :
     (s : List ℕ) (faces : FaceLists) (points : List FaceAlphas) (start alpha : ℕ) → AreFacesOf s faces →
     AreAlphas is_admitted_point faces.points points →
@@ -288,6 +299,7 @@ number_for s (c ∷ cells) (n ∷ ns) z q (inl e) = (
 )
 number_for s (c ∷ cells) (n ∷ ns) z q (inr i) = let r = number_for s cells ns z.1 q i in (r.0, inr r.1, r.2)
 
+-- a solid set has a point
 not_empty : (s : List ℕ) → is_solid s ≡ true → (p : ℕ) × IsIn p s
 not_empty [] e = cc
 not_empty (p ∷ s) e = (p, inl refl)
@@ -361,6 +373,7 @@ stands_before xs i a up h m l =
 abbrev pub NoneBefore : List ℕ → ℕ → List ℕ → ℕ → Type 0
 NoneBefore s k levels i = (n : ℕ) → IsIn n (take i levels) → (n < 2 ^ 34) × IsCompact s k n → ⊥
 
+-- the first number at which it holds is the least alpha
 pub found :
     (s : List ℕ) (ns levels : List ℕ) (k i level : ℕ) → is_solid s ≡ true →
     AllZip (λ c n. IsLeastOf (λ alpha. is_admitted_cell s alpha c) n) (complex s) ns → AreLevels ns levels →
@@ -386,6 +399,7 @@ found s ns levels k i level solid z v h e none c = (
     first : (a b : ℕ) → a ≤ b → b < level → a < get_or levels i 0
     first a b l m = subst (λ n. a < n) e (omega (arith, l, m))
 
+-- where it holds at none of them, it holds at no alpha
 pub not_found :
     (s : List ℕ) (ns levels : List ℕ) (k i : ℕ) → is_solid s ≡ true →
     AllZip (λ c n. IsLeastOf (λ alpha. is_admitted_cell s alpha c) n) (complex s) ns → AreLevels ns levels →
@@ -400,9 +414,11 @@ not_found s ns levels k i solid z v h none b l d =
 
 -- ---- as the loop tells it
 
+-- a test that failed does not pass
 not_false : (b : Bool) → b ≡ false → IsTrue b → ⊥
 not_false b e t = cc
 
+-- what stands at a place stands there whatever it is looked up with
 own_value : (xs : List ℕ) (j : ℕ) → j < length xs → get_or xs j 0 ≡ get_or xs j (get_or xs j 0)
 own_value [] j h = absurd (omega (arith, h))
 own_value (x ∷ xs) zero h = refl

@@ -64,6 +64,7 @@ pub record SoFar (cells : List Cell) (marks : List Bool) (labels : List ℕ) (k 
 
 -- ---- numbers of cells
 
+-- Full cells that are one have the same points
 same_full : (q r : List ℕ) → Full q ≡ Full r → q ≡ r
 same_full q r e = cc
 
@@ -81,6 +82,7 @@ not_itself cells marks q i j s a b l h = clash (sym (cell_self (Full q)) ∙ bef
     clash : Equal ≡ Less → ⊥
     clash e = cc
 
+-- so it has one number in the list
 pub one_number : (cells : List Cell) (marks : List Bool) (q : List ℕ) (i j : ℕ) → IsStrictlySortedBy cell_cmp cells →
     IsNumberOf cells marks q i → IsNumberOf cells marks q j → i < length cells → j < length cells → i ≡ j
 one_number cells marks q i j s a b h k = elim (cases_lt i j) [
@@ -93,6 +95,7 @@ one_number cells marks q i j s a b h k = elim (cases_lt i j) [
 
 -- ---- lists with a place set
 
+-- at a place of a list with one set stands what was set, or what was there
 set_cases : {X : Type 0} (xs : List X) (p x : ℕ) (v d : X) → p < length xs →
     ((x ≡ p) × (get_or (slice_set xs p v) x d ≡ v)) ⊎ (get_or (slice_set xs p v) x d ≡ get_or xs x d)
 set_cases [] p x v d h = absurd (omega (arith, h))
@@ -107,6 +110,7 @@ first_stays : (part : List (List ℕ)) (q : List ℕ) → 0 < length part → fi
 first_stays [] q h = absurd (omega (arith, h))
 first_stays (r ∷ part) q h = refl
 
+-- so the first cells of all parts stay
 firsts_stay : (parts : List (List (List ℕ))) (p : ℕ) (q : List ℕ) → p < length parts → 0 < length (part_at parts p) →
     map first_of (slice_set parts p (part_at parts p ++ q ∷ [])) ≡ map first_of parts
 firsts_stay [] p q h l = absurd (omega (arith, h))
@@ -119,6 +123,7 @@ has_first : (part : List (List ℕ)) → 0 < length part → IsIn (first_of part
 has_first [] h = absurd (omega (arith, h))
 has_first (q ∷ part) h = inl refl
 
+-- a part with a cell behind it has cells
 more_than_none : (part : List (List ℕ)) (q : List ℕ) → 0 < length (part ++ q ∷ [])
 more_than_none [] q = omega arith
 more_than_none (r ∷ part) q = omega arith
@@ -131,10 +136,12 @@ place_of (y ∷ xs) x d (inr i) = let r = place_of xs x d i in (suc r.0, omega (
 
 -- ---- no cell yet
 
+-- where nothing stands at any place, nothing stands at this
 none_there : {X : Type 0} (n l : ℕ) (places : List (Option X)) → ((i : ℕ) → get_or places i None ≡ None) →
     get_or places l None ≡ None
 none_there n l places f = f l
 
+-- before the first cell there is no part
 pub starts_empty : (cells : List Cell) (marks : List Bool) (labels : List ℕ) (places : List (Option ℕ)) →
     length places ≡ length cells → ((l : ℕ) → place_at places l ≡ None) → SoFar cells marks labels 0 places []
 starts_empty cells marks labels places n none = record {
@@ -153,9 +160,11 @@ starts_empty cells marks labels places n none = record {
 
 -- ---- a cell that is not marked, or Open
 
+-- a number below the next is below this, or it
 below_or_at : (i k : ℕ) → i < k + 1 → (i < k) ⊎ (i ≡ k)
 below_or_at i k l = elim (cases_lt i k) [ inl h ↦ inl h | inr h ↦ inr (omega (arith, l, h)) ]
 
+-- a cell that is not marked, or Open, changes nothing
 pub passed : (cells : List Cell) (marks : List Bool) (labels : List ℕ) (k : ℕ) (places : List (Option ℕ))
     (parts : List (List (List ℕ))) → ((q : List ℕ) → IsNumberOf cells marks q k → ⊥) →
     SoFar cells marks labels k places parts → SoFar cells marks labels (k + 1) places parts
@@ -176,6 +185,7 @@ passed cells marks labels k places parts none d = record {
 
 -- ---- a cell behind those of its label
 
+-- a marked cell whose label has a part comes last in it
 put_behind :
     (cells : List Cell) (marks : List Bool) (labels : List ℕ) (k : ℕ) (places : List (Option ℕ))
     (parts : List (List (List ℕ))) (q : List ℕ) (p : ℕ) → IsStrictlySortedBy cell_cmp cells → k < length cells →
@@ -253,6 +263,7 @@ put_behind cells marks labels k places parts q p s inside x e d = record {
 
 -- ---- a cell that is the first of its label
 
+-- and one whose label has none begins a part, which comes last
 put_alone :
     (cells : List Cell) (marks : List Bool) (labels : List ℕ) (k : ℕ) (places : List (Option ℕ))
     (parts : List (List (List ℕ))) (q : List ℕ) → IsStrictlySortedBy cell_cmp cells → k < length cells →
@@ -401,6 +412,7 @@ put_next cells marks labels k places new_places parts new q s inside x room d (i
 
 -- ---- all cells
 
+-- once all cells were looked at they are gathered by their labels
 pub gathered : (cells : List Cell) (marks : List Bool) (labels : List ℕ) (places : List (Option ℕ))
     (parts : List (List (List ℕ))) → IsStrictlySortedBy cell_cmp cells →
     SoFar cells marks labels (length cells) places parts → IsGathered cells marks labels (length cells) parts
@@ -451,16 +463,19 @@ told_some (Full r) true q e = (refl, ap Full (same_some r q e))
 told_some (Full r) false q e = cc
 told_some (Open t) m q e = cc
 
+-- a cell that is told is a marked Full one, with its number
 pub number_told : (cells : List Cell) (marks : List Bool) (k : ℕ) (q : List ℕ) →
     marked_cell (cell_at cells k) (get_or marks k false) ≡ Some q → IsNumberOf cells marks q k
 number_told cells marks k q e = let t = told_some (cell_at cells k) (get_or marks k false) q e in record
     { marked = t.0; cell = t.1 }
 
+-- where none is told the cell is not marked, or Open
 told_none : (c : Cell) (m : Bool) (q : List ℕ) → marked_cell c m ≡ None → m ≡ true → c ≡ Full q → ⊥
 told_none (Full r) true q e f g = cc
 told_none (Full r) false q e f g = cc
 told_none (Open t) m q e f g = cc
 
+-- so no Full cell has this number
 pub no_number_told : (cells : List Cell) (marks : List Bool) (k : ℕ) →
     marked_cell (cell_at cells k) (get_or marks k false) ≡ None → (q : List ℕ) → IsNumberOf cells marks q k → ⊥
 no_number_told cells marks k e q n = told_none (cell_at cells k) (get_or marks k false) q e n.marked n.cell

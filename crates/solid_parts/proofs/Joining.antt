@@ -57,6 +57,7 @@ pub record JoinSoFar (marks : List Bool) (numbers old leads : List ℕ) (first :
   pub is_first : IsFirst marks numbers first
   pub labels : (labels : List ℕ) → LeadTo old labels → IsDoneTo marks numbers labels leads first
 
+-- before the first number nothing is joined
 pub none_joined : (marks : List Bool) (old : List ℕ) → LeadDown old → JoinSoFar marks [] old old None
 none_joined marks old d = record {
   count = refl;
@@ -76,6 +77,7 @@ first_over marks numbers x (Some u) none some = (in_front numbers x u some.0, so
 
 module _ (marks : List Bool) (numbers old leads : List ℕ) (i : ℕ) (below : All (λ n. n < length old) numbers)
     (h : i < length numbers) where
+  -- the next number
   abbrev x : ℕ
   x = get_or numbers i 0
 

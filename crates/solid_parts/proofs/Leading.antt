@@ -44,6 +44,7 @@ equal_or_not i j = elim (cases_lt i j) [
 
 -- ---- a way made shorter
 
+-- two steps lead down, or nowhere
 twice_down : (leads : List ℕ) (i : ℕ) → LeadDown leads → i < length leads → twice leads i ≤ i
 twice_down leads i d h =
     let one = d i h in
@@ -61,6 +62,7 @@ set_down leads place to d h t i l =
       | inr n ↦ subst (λ m. m ≤ i) (sym (get_or-set_other leads place i to 0 n)) (d i within)
     ]
 
+-- a way made shorter by a step leads down still
 pub shorter_down : (leads : List ℕ) (place : ℕ) → LeadDown leads → place < length leads
     → LeadDown (slice_set leads place (twice leads place))
 shorter_down leads place d h = set_down leads place (twice leads place) d h (twice_down leads place d h)
@@ -134,11 +136,13 @@ step old leads now number at next c d h k same e f =
       ends = λ labels t g. (k labels t).ends at h (stays leads at d h (sym e ∙ g));
     })
 
+-- the first two steps from a number are on its way
 pub first_step : (old now : List ℕ) (number next : ℕ) → LeadDown old → number < length old → next ≡ twice old number
     → now ≡ slice_set old number (twice old number) → IsOnWay old now number number next
 first_step old now number next d h e f = step old old now number number next refl d h (λ labels t. t) (λ labels t. refl)
     e f
 
+-- and so are the next two
 pub next_step : (old leads now : List ℕ) (number at next further : ℕ) → IsOnWay old leads number at next
     → further ≡ twice leads next → now ≡ slice_set leads next (twice leads next) → IsOnWay old now number next further
 next_step old leads now number at next further w e f =
@@ -146,6 +150,7 @@ next_step old leads now number at next further w e f =
     let h = w.within in
     step old leads now number next further w.count w.down (omega (arith, l, h)) w.kept w.next_same e f
 
+-- where a step leads nowhere it is the label
 pub found_label : (old leads : List ℕ) (number at next : ℕ) → IsOnWay old leads number at next → next ≡ at
     → (labels : List ℕ) → LeadTo old labels → at ≡ label_at labels number
 found_label old leads number at next w e labels t =
@@ -240,6 +245,7 @@ pub record AreFlatTo (old leads : List ℕ) (k : ℕ) : Type 0 where
   pub flat : (labels : List ℕ) → LeadTo old labels → (i : ℕ) → i < k → i < length leads
       → label_at leads i ≡ label_at labels i
 
+-- before the first place none has its label
 pub none_flat : (old : List ℕ) → LeadDown old → AreFlatTo old old 0
 none_flat old d = record {
   count = refl;
@@ -248,6 +254,7 @@ none_flat old d = record {
   flat = λ labels t i l. absurd (omega (arith, l));
 }
 
+-- the next place gets its label
 pub flat_next : (old leads now : List ℕ) (k : ℕ) → k < length leads → AreFlatTo old leads k
     → now ≡ slice_set leads k (twice leads k) → AreFlatTo old now (k + 1)
 flat_next old leads now k h a e = subst (λ (v : List ℕ). AreFlatTo old v (k + 1)) (sym e) (record {
@@ -286,6 +293,7 @@ same_numbers (x ∷ xs) (y ∷ ys) e f =
     ap₂ (λ (z : ℕ) (zs : List ℕ). z ∷ zs) (f 0 (omega arith))
     (same_numbers xs ys (omega (arith, e)) (λ i l. f (suc i) (omega (arith, l))))
 
+-- at the end the numbers are the labels
 pub all_flat : (old leads : List ℕ) (k : ℕ) → length leads ≤ k → AreFlatTo old leads k → (labels : List ℕ)
     → LeadTo old labels → leads ≡ labels
 all_flat old leads k h a labels t =
@@ -293,18 +301,22 @@ all_flat old leads k h a labels t =
 
 -- ---- each by itself
 
+-- the label of a number is itself
 own : (n i : ℕ) → i < n → label_at (range_with_len 0 n) i ≡ i
 own n i l = get_or-range_with_len 0 n i 0 l ∙ none_more i
   where
     none_more : (m : ℕ) → 0 + m ≡ m
     none_more m = omega arith
 
+-- a place of so many numbers is below their count
 below_count : (n i : ℕ) → i < length (range_with_len 0 n) → i < n
 below_count n i l = subst (λ c. i < c) (length-range_with_len 0 n) l
 
+-- so each leads down
 pub each_down : (n : ℕ) → LeadDown (range_with_len 0 n)
 each_down n i l = let e = own n i (below_count n i l) in omega (arith, e)
 
+-- and to itself
 pub each_itself : (n : ℕ) → LeadTo (range_with_len 0 n) (range_with_len 0 n)
 each_itself n = record {
   count = refl;

@@ -49,10 +49,12 @@ pub record LinkedSoFar (leasts ones others : List ℕ) (old now : List Link) : T
   pub has : HasLinks leasts ones others now
   pub below : AreBelow (length leasts) now
 
+-- before the first other cell no link is put
 pub no_others : (leasts : List ℕ) (one : ℕ) (old : List Link) → AreBelow (length leasts) old
     → LinkedSoFar leasts (one ∷ []) [] old old
 no_others leasts one old b = record { keeps = λ l i. i; has = λ u v i j. absurd j; below = b }
 
+-- nor before the first cell
 pub no_ones : (leasts others : List ℕ) (old : List Link) → AreBelow (length leasts) old
     → LinkedSoFar leasts [] others old old
 no_ones leasts others old b = record { keeps = λ l i. i; has = λ u v i. absurd i; below = b }
@@ -138,6 +140,7 @@ one_more leasts ones i old now new h s keeps has below =
       below = below;
     })
 
+-- once all cells were linked, there is a link for each two
 pub ones_done : (leasts ones : List ℕ) (i : ℕ) (old now : List Link) → length ones ≤ i
     → LinkedSoFar leasts (take i ones) ones old now → LinkedSoFar leasts ones ones old now
 ones_done leasts ones i old now h s = subst (λ (v : List ℕ). LinkedSoFar leasts v ones old now) (take_all i ones h) s
@@ -149,6 +152,7 @@ pub record TriplesSoFar (faces : FaceLists) (leasts : List ℕ) (k : ℕ) (links
   pub linked : AreLinked faces leasts k links
   pub below : AreBelow (length leasts) links
 
+-- before the first triple there is no link
 pub no_triples : (faces : FaceLists) (leasts : List ℕ) (links : List Link) → links ≡ [] →
     TriplesSoFar faces leasts 0 links
 no_triples faces leasts links e = record {
@@ -157,6 +161,7 @@ no_triples faces leasts links e = record {
       (all_of_each (λ (l : Link). (l.one < length leasts) × (l.other < length leasts)) [] (λ l i. absurd i));
 }
 
+-- a triple whose cells are linked is so with more links
 still_linked : (faces : FaceLists) (leasts : List ℕ) (old new : List Link) (triple : List ℕ × List Cell) → Keeps old new
     → IsLinked faces leasts old triple → IsLinked faces leasts new triple
 still_linked faces leasts old new triple keeps l = record {
@@ -166,6 +171,7 @@ still_linked faces leasts old new triple keeps l = record {
   has = λ u v i j m. keeps (link_of leasts u v) (l.has u v i j m);
 }
 
+-- with the links of the next triple, one triple more is linked
 pub triple_more : (faces : FaceLists) (leasts : List ℕ) (k : ℕ) (numbers : List ℕ) (old new : List Link)
     → numbered faces.cells numbers ≡ (get_or faces.triples k ([], [])).1 → All (λ n. n < length faces.cells) numbers
     → TriplesSoFar faces leasts k old → Keeps old new → HasLinks leasts numbers numbers new →

@@ -46,6 +46,7 @@ label_moved from to (x ∷ labels) (suc i) l = label_moved from to labels i (ome
 pub moved_is : (from to : ℕ) → moved from to from ≡ to
 moved_is from to = let e : (from == from) ≡ true = grind (arith, nat_tests) in rw e refl
 
+-- the other stays
 pub moved_to : (from to : ℕ) → moved from to to ≡ to
 moved_to from to = by (to == from) refl
   where
@@ -87,6 +88,7 @@ pub record Merges (u v : ℕ) (old new : List ℕ) : Type 0 where
   pub among : u < length old → v < length old → (i : ℕ) → i < length old → (j : ℕ) × (j < length old) ×
       (label_at new i ≡ label_at old j)
 
+-- a merge of the first label into the second merges the groups
 one_way : (u v : ℕ) (old : List ℕ) → Merges u v old (merged (label_at old u) (label_at old v) old)
 one_way u v old =
     let from = label_at old u in
@@ -104,10 +106,12 @@ one_way u v old =
       ];
     }
 
+-- one of two, told the other way
 swapped : {A B : Type 0} → A ⊎ B → B ⊎ A
 swapped (inl a) = inr a
 swapped (inr b) = inl b
 
+-- a merge does not depend on which is named first
 other_way : (u v : ℕ) (old new : List ℕ) → Merges v u old new → Merges u v old new
 other_way u v old new m = record {
   count = m.count;
@@ -117,6 +121,7 @@ other_way u v old new m = record {
   among = λ h k. m.among k h;
 }
 
+-- so either way the groups are merged
 pub merges : (u v : ℕ) (old new : List ℕ) → AreMerged u v old new → Merges u v old new
 merges u v old new (inl e) = subst (λ (w : List ℕ). Merges u v old w) (sym e) (one_way u v old)
 merges u v old new (inr e) = subst (λ (w : List ℕ). Merges u v old w) (sym e) (other_way u v old _ (one_way v u old))
@@ -154,15 +159,18 @@ in_front_or_last [] x y (inr i) = absurd i
 in_front_or_last (z ∷ xs) x y (inl e) = inl (inl e)
 in_front_or_last (z ∷ xs) x y (inr i) = elim (in_front_or_last xs x y i) [ inl j ↦ inl (inr j) | inr e ↦ inr e ]
 
+-- a member of the list is one of the longer
 pub in_front : {X : Type 0} (xs : List X) (x y : X) → IsIn y xs → IsIn y (xs ++ x ∷ [])
 in_front [] x y i = absurd i
 in_front (z ∷ xs) x y (inl e) = inl e
 in_front (z ∷ xs) x y (inr i) = inr (in_front xs x y i)
 
+-- and so is the one behind
 pub in_last : {X : Type 0} (xs : List X) (x : X) → IsIn x (xs ++ x ∷ [])
 in_last [] x = inl refl
 in_last (z ∷ xs) x = inr (in_last xs x)
 
+-- what a marked number of the list reaches, one of the longer does
 reaches_more : (old : List ℕ) (marks : List Bool) (numbers : List ℕ) (x i : ℕ) → Reaches old marks numbers i →
     Reaches old marks (numbers ++ x ∷ []) i
 reaches_more old marks numbers x i r = (r.0, in_front numbers x r.0 r.1, r.2, r.3)

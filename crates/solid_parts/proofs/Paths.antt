@@ -71,6 +71,7 @@ own_label n i l = get_or-range_with_len 0 n i 0 l ∙ none_more i
     none_more : (m : ℕ) → 0 + m ≡ m
     none_more m = omega arith
 
+-- before the first triple the labels are those of the cells alone
 pub labels_start : (faces : FaceLists) (marks : List Bool) (labels : List ℕ) →
     labels ≡ range_with_len 0 (length faces.cells) → AreLabels faces marks 0 labels
 labels_start faces marks labels e = subst (AreLabels faces marks 0) (sym e) (record {
@@ -105,6 +106,7 @@ alike_after faces marks numbers old new triple n j a = record {
     within : (u : ℕ) → IsIn u a.numbers → u < length old
     within u i = subst (λ c. u < c) (sym n) (each_of_all (λ c. c < length faces.cells) a.numbers a.below u i)
 
+-- with the next triple's cells joined they are right for one triple more
 pub labels_next :
     (faces : FaceLists) (marks : List Bool) (k : ℕ) (numbers old new : List ℕ) → k < length faces.triples →
     numbered faces.cells numbers ≡ (get_or faces.triples k ([], [])).1 →
@@ -165,6 +167,7 @@ pub record LeadToLabels (faces : FaceLists) (marks : List Bool) (k : ℕ) (leads
   pub leads_to : LeadTo leads labels
   pub are_labels : AreLabels faces marks k labels
 
+-- before the first triple each cell leads to itself
 pub leads_start : (faces : FaceLists) (marks : List Bool) (leads : List ℕ) →
     leads ≡ range_with_len 0 (length faces.cells)
     → LeadToLabels faces marks 0 leads
@@ -181,6 +184,7 @@ pub leads_count : (faces : FaceLists) (marks : List Bool) (k : ℕ) (leads : Lis
     → length leads ≡ length faces.cells
 leads_count faces marks k leads l = sym l.leads_to.count ∙ l.are_labels.count
 
+-- with the next triple's cells joined they lead to labels that are right for one more
 pub leads_next :
     (faces : FaceLists) (marks : List Bool) (k : ℕ) (numbers old new : List ℕ) → k < length faces.triples
     → numbered faces.cells numbers ≡ (get_or faces.triples k ([], [])).1 → All (λ n. n < length faces.cells) numbers

@@ -93,6 +93,7 @@ distinct_in_order (q ∷ part) s = (
     clash : Equal ≡ Less → ⊥
     clash e = cc
 
+-- two lists that have none twice and none in common have none twice together
 distinct_append : {X : Type 0} (l m : List X) → AreDistinct l → AreDistinct m → ((x : X) → IsIn x l → IsIn x m → ⊥) →
     AreDistinct (l ++ m)
 distinct_append [] m a b f = b
@@ -125,6 +126,7 @@ distinct_flat (part ∷ parts) d f =
 
 -- ---- marks
 
+-- the marks of the cells that are Full and within alpha
 marks_of : (alpha : ℕ) (cells : List Cell) → List Bool
 marks_of alpha cells = map (is_small_cell alpha) cells
 
@@ -135,6 +137,7 @@ marked_below alpha [] i e = cc
 marked_below alpha (c ∷ cells) zero e = omega arith
 marked_below alpha (c ∷ cells) (suc i) e = let l = marked_below alpha cells i e in omega (arith, l)
 
+-- the mark of a cell is whether it is so
 pub mark_is : (alpha : ℕ) (cells : List Cell) (i : ℕ) → i < length cells →
     get_or (map (is_small_cell alpha) cells) i false ≡ is_small_cell alpha (cell_at cells i)
 mark_is alpha cells i l = get_or-map (is_small_cell alpha) cells i (Full []) false l
@@ -171,12 +174,15 @@ pub record Given (s : List ℕ) (faces : FaceLists) (alpha : ℕ) (labels : List
       → AreAlike faces (map (is_small_cell alpha) faces.cells) labels (get_or faces.triples t ([], []))
 
 module _ (s : List ℕ) (faces : FaceLists) (alpha : ℕ) (labels : List ℕ) (g : Given s faces alpha labels) where
+  -- the marks of the cells
   abbrev pub marks : List Bool
   marks = map (is_small_cell alpha) faces.cells
 
+  -- the Full cells within alpha
   abbrev pub admitted : List (List ℕ)
   admitted = filter (is_within alpha) (full_cells faces.cells)
 
+  -- the cells are in order
   sorted : IsStrictlySortedBy cell_cmp faces.cells
   sorted = subst (IsStrictlySortedBy cell_cmp) (sym g.faces_of.cells) (complex_is_sorted s g.faces_of.ascending)
 
@@ -197,9 +203,11 @@ module _ (s : List ℕ) (faces : FaceLists) (alpha : ℕ) (labels : List ℕ) (g
       let p = place_of faces.cells (Full q) (Full []) (listed_is_full_cell faces.cells q f.0) in
       (p.0, p.1, record { marked = mark_is alpha faces.cells p.0 p.1 ∙ ap (is_small_cell alpha) p.2 ∙ f.1; cell = p.2 })
 
+  -- the number of a cell is below their count
   number_below : (q : List ℕ) (i : ℕ) → IsNumberOf faces.cells marks q i → i < length faces.cells
   number_below q i n = marked_below alpha faces.cells i n.marked
 
+  -- its points ascend
   ascends : (q : List ℕ) (i : ℕ) → IsNumberOf faces.cells marks q i → IsAscending q
   ascends q i n =
       full_ascends s q g.faces_of.ascending
@@ -253,6 +261,7 @@ module _ (s : List ℕ) (faces : FaceLists) (alpha : ℕ) (labels : List ℕ) (g
       let f = small_full alpha (cell_at faces.cells m) (sym (mark_is alpha faces.cells m l) ∙ e) in
       (f.0, record { marked = e; cell = f.1 })
 
+  -- cells with one number are one
   same_cell : (q r : List ℕ) (i j : ℕ) → IsNumberOf faces.cells marks q i → IsNumberOf faces.cells marks r j → i ≡ j →
       q ≡ r
   same_cell q r i j n k e = same (sym n.cell ∙ ap (cell_at faces.cells) e ∙ k.cell)
@@ -321,6 +330,7 @@ module _ (s : List ℕ) (faces : FaceLists) (alpha : ℕ) (labels : List ℕ) (g
 
   -- ---- the parts
 
+  -- so what is gathered by right labels is the parts of the admitted cells
   are_parts : (parts : List (List (List ℕ))) → AreLabels faces marks (length faces.triples) labels
       → IsGathered faces.cells marks labels (length faces.cells) parts → AreParts admitted parts
   are_parts parts labelled d = record {

@@ -8,7 +8,8 @@ use Rattle.whole_ring.specs.Signs.{HasSignOf, below, at_zero, above}
 use Rattle.whole_ring.proofs.Cited.{sign}
 use Rattle.point_order.specs.Orientation.{is_zero}
 
--- s has the sign of r and is not 0, nor is o: s and o are both positive or neither is, exactly where o and r have one sign
+-- s has the sign of r and is not 0, nor is o: s and o are both positive or neither is, exactly where o and r have one
+-- sign
 pub verdict : (s o r : ℤ) → s ≢ pos 0 → is_zero o ≡ false → HasSignOf s r → beq (lt_z (pos 0) s) (lt_z (pos 0) o) ≡ ((lt_z (pos 0) o && lt_z (pos 0) r) || (lt_z o (pos 0) && lt_z r (pos 0)))
 verdict s o r n f h =
     elim (sign s) [

@@ -100,6 +100,7 @@ pub caused : {T U E : Type 0} {a b : ℕ} {e : E} (r : Result T E) → HasCause 
 caused (Ok v) h = record { later = h.later; failed = tt }
 caused (Err e) h = record { later = h.later; failed = h.failed }
 
+-- a count that rose in a later call rose in both together
 pub rose_after : (a b c : ℕ) → a ≤ b → Rose b c → Rose a c
 rose_after a b c l h = omega arith
 
@@ -118,9 +119,11 @@ pub cause_from : {T E : Type 0} {a b c : ℕ} (r : Result T E) → a ≤ b → H
 cause_from (Ok v) l h = record { later = omega (arith, l, h.later); failed = tt }
 cause_from (Err e) l h = caused_after (Err e) l h
 
+-- a number is at most itself
 pub at_once : (a : ℕ) → a ≤ a
 at_once a = omega arith
 
+-- what is at most a number is at most a greater one
 pub up_to : (a b c : ℕ) → a ≤ b → b ≤ c → a ≤ c
 up_to a b c l m = omega (arith, l, m)
 

@@ -57,9 +57,11 @@ by_failed : {P : Type 0} (b : Bool) → (b ≡ true → P) → (b ≡ false → 
 by_failed true t f = t refl
 by_failed false t f = f refl
 
+-- a test does not both pass and fail
 never : {P : Type 0} {b : Bool} → b ≡ true → b ≡ false → P
 never y n = cc
 
+-- a count that rose has risen when more calls have come
 rose_then : (a b c : ℕ) → Rose a b → b ≤ c → Rose a c
 rose_then a b c r l = omega arith
 

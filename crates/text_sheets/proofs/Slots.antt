@@ -13,6 +13,7 @@ use Rattle.text_sheets.proofs.Sheets.{IsOfItems, PutsBut, ends, goes_on, starts}
 abbrev pub held_text : {X : Type 0} → (X → List ℕ) → List (Option X) → List ℕ
 held_text line slots = concat (map line (held slots))
 
+-- the lines of what slots hold are those of the slots, one by one
 held_items : {X : Type 0} (line : X → List ℕ) → IsOfItems (held_text line) (held_line line)
 held_items line None slots = refl
 held_items line (Some x) slots = refl

@@ -17,6 +17,7 @@ module _ (s : List ℕ) (v : ℕ) where
   pub none_crossed : (cell : Cell) (old : List Cell) → AreAdded s v (IsOneOf cell []) old old
   none_crossed cell old = record { kept = λ c m. m; listed = λ c m. inl m; across = λ here f c r o n. absurd r.1 }
 
+  -- a list with nothing added is itself
   pub none_met : (old : List Cell) → AreAdded s v (IsOfOne []) old old
   none_met old = record { kept = λ c m. m; listed = λ c m. inl m; across = λ here f c r o n. absurd r.0 }
 

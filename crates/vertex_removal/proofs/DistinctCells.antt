@@ -24,6 +24,7 @@ apart_once e r (x ∷ xs) d = (apart xs d.0, apart_once e r xs d.1)
     apart (y ∷ ys) a (inl q) = not_both (e x y) (subst (λ z. e x z ≡ true) (sym q) (r x)) a.0
     apart (y ∷ ys) a (inr m) = apart ys a.1 m
 
+-- being the same by their order is an equivalence of cells
 same : IsEquivalence (eq_by_cmp cell_cmp)
 same = eq_by_cmp_equiv cell_order
 

@@ -18,6 +18,7 @@ module _ (s : List ℕ) (v : ℕ) (i : IsSet s) (m : IsIn v s) (star : List Cell
   of_set : (e : ℕ) → IsIn e t → IsIn e s
   of_set e j = let r = ((p.points_are e).0 j).0 in listed_inside s r.cell (listed_is_cell s r.cell i.ascending (listed r.cell r.among)) e r.has
 
+  -- they are a set of keys in order
   near_is : IsSet t
   near_is = record { ascending = p.order; keys = record { below = λ e j. i.keys.below e (of_set e j) } }
 

@@ -12,6 +12,7 @@ use Rattle.edit_history.proofs.Cited.{after_moved, does_move, reply_there}
 use Rattle.cell_store.specs.Changes.{IsChange}
 use Rattle.vertex_removal.specs.Refills.{MoveFollows, RemovalFollows}
 
+-- the entry of a taken point follows, with the cells that go and come
 pub removal_follows : RemovalFollows
 removal_follows h e gone fresh i f =
     let s = replay h in
@@ -24,6 +25,7 @@ removal_follows h e gone fresh i f =
       change = subst (λ (x : List ℕ). IsChange (complex s) (complex x) gone fresh) (sym left) f.change;
     }
 
+-- and so does that of a point that moves
 pub move_follows : MoveFollows
 move_follows h e a b gone fresh i solid ch =
     let s = replay h in

@@ -182,8 +182,8 @@ outer_is_rim s v t c f i m l n h a =
 abbrev IsSettled : List ℕ → ℕ → List Cell → Facet → Type 0
 IsSettled t v found f = (q : Cell) → GoesFrom t v q → IsIn f (facets_of q) → IsIn q found
 
--- Some cells that v takes away are found, each once. Each facet of one of them is settled, or a side of it is open; and each open side
--- is that of a facet of the hole, or of a cell that was found.
+-- Some cells that v takes away are found, each once. Each facet of one of them is settled, or a side of it is open; and
+-- each open side is that of a facet of the hole, or of a cell that was found.
 pub record IsWrapped (t : List ℕ) (v : ℕ) (found : List Cell) (sides : List Side) : Type 0 where
   pub goes : (c : Cell) → IsIn c found → GoesFrom t v c
   pub settled : (c : Cell) (f : Facet) → IsIn c found → IsIn f (facets_of c) → IsSettled t v found f ⊎ IsOpen f sides
@@ -241,6 +241,7 @@ module _ (t : List ℕ) (v : ℕ) (k : CanWrap t v) (found : List Cell) (sides :
     before : (q : Cell) → IsIn q found → IsIn q more
     before q m = in_left q found (c ∷ []) m
 
+    -- this cell is one of them
     here : IsIn c more
     here = in_right c found (c ∷ []) (inl refl)
 

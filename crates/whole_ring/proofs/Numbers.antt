@@ -38,9 +38,11 @@ read_as {w} {x} {y} e h = ap (λ z. to_z w (of_z w z)) e ∙ to_z-of_z w y h
 pub same_sum : {a b x y : ℤ} → a ≡ x → b ≡ y → a +ℤ b ≡ x +ℤ y
 same_sum {a} {b} {x} {y} e f = ap (λ z. z +ℤ b) e ∙ ap (λ z. x +ℤ z) f
 
+-- differences of equal numbers are equal
 pub same_difference : {a b x y : ℤ} → a ≡ x → b ≡ y → a -ℤ b ≡ x -ℤ y
 same_difference {a} {b} {x} {y} e f = ap (λ z. z -ℤ b) e ∙ ap (λ z. x -ℤ z) f
 
+-- and so are products
 pub same_product : {a b x y : ℤ} → a ≡ x → b ≡ y → a *ℤ b ≡ x *ℤ y
 same_product {a} {b} {x} {y} e f = ap (λ z. z *ℤ b) e ∙ ap (λ z. x *ℤ z) f
 
@@ -48,6 +50,7 @@ same_product {a} {b} {x} {y} e f = ap (λ z. z *ℤ b) e ∙ ap (λ z. x *ℤ z)
 pub fits_as : {w : Width} {x y : ℤ} → x ≡ y → FitsSigned w y → FitsSigned w x
 fits_as {w} e h = subst (FitsSigned w) (sym e) h
 
+-- a number that is equal to one of a size has it
 pub within_as : {n : ℕ} {x y : ℤ} → x ≡ y → IsWithin n y → IsWithin n x
 within_as {n} e h = subst (IsWithin n) (sym e) h
 
@@ -59,6 +62,7 @@ within_read w h k = within_as (read (within_fits w h k)) h
 pub within_below : {n k : ℕ} → k < n → IsWithin n (pos k)
 within_below h = record { size = omega (arith, h) }
 
+-- a natural number is of its own size
 pub within_self : (n : ℕ) → IsWithin n (pos n)
 within_self n = record { size = omega arith }
 
@@ -70,6 +74,7 @@ within_64 {x} h = record { size = omega (arith, ints, h) }
 pub fits_128 : {x : ℤ} → FitsSigned w64 x → FitsSigned w128 x
 fits_128 h = within_fits w128 (within_64 h) (lit< tt)
 
+-- and their product does
 pub product_fits_128 : {x y : ℤ} → FitsSigned w64 x → FitsSigned w64 y → FitsSigned w128 (x *ℤ y)
 product_fits_128 h k = within_fits w128 (within_mul (within_64 h) (within_64 k)) (lit< tt)
 

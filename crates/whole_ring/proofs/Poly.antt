@@ -1,4 +1,5 @@
--- The polynomial that an expression computes to has the value of the expression: one lemma for each operation on polynomials.
+-- The polynomial that an expression computes to has the value of the expression: one lemma for each operation on
+-- polynomials.
 use Rattle.std.specs.Prelude.{ℤ, pos, negsuc, ◌+ℤ◌, ◌*ℤ◌, neg_ℤ, ◌≡◌, ℕ, zero, suc, List, Bool, true, false, T, eqb, ltb}
 use Rattle.std.proofs.Common.{arith, refl, ap, sym, ◌∙◌, ap₂, eqb→eq}
 use Rattle.std.proofs.lemmas.Int.{ints}

@@ -1,9 +1,8 @@
--- Equations and signs by computing. In each call the last argument is `tt`, a test that computes to true exactly where the claim
--- follows; the list gives the variables of the expressions their values.
---     ring a b xs tt                a and b have the same value at xs
---     ring_from a b g xs h tt       the same, from given equations, each times a factor
---     nonneg_from m e s g xs .. tt  m times e is the sum of products s, none negative, and m is positive: so e is not negative
---     pos_from m e s g xs .. tt     the same with a positive last product: so e is positive
+-- Equations and signs by computing. In each call the last argument is `tt`, a test that computes to true exactly where
+-- the claim follows; the list gives the variables of the expressions their values.     ring a b xs tt                a
+-- and b have the same value at xs     ring_from a b g xs h tt       the same, from given equations, each times a factor
+-- nonneg_from m e s g xs .. tt  m times e is the sum of products s, none negative, and m is positive: so e is not
+-- negative     pos_from m e s g xs .. tt     the same with a positive last product: so e is positive
 use Rattle.std.specs.Prelude.{ℤ, pos, ◌+ℤ◌, neg_ℤ, ◌≡◌, ◌≤ℤ◌, ◌<ℤ◌, List, T}
 use Rattle.std.proofs.Common.{arith, sym, ◌∙◌, subst}
 use Rattle.std.proofs.lemmas.Int.{ints}
@@ -42,7 +41,8 @@ pub nonneg_from : (m e : Expr) (s : Parts) (g : Given) (xs : List ℤ) → pos 0
 nonneg_from m e s g xs hm hs hg t =
     nonneg_of_mul_nonneg (value m xs) (value e xs) hm (subst (λ n. pos 0 ≤ℤ n) (sym (ring_from (m ⊗ e) (total s) g xs hg t)) (total_nonneg s xs hs))
 
--- a number is positive, where a positive multiple of it is a sum of products, the last positive and the others not negative
+-- a number is positive, where a positive multiple of it is a sum of products, the last positive and the others not
+-- negative
 pub pos_from : (m e : Expr) (s : Parts) (g : Given) (xs : List ℤ) → pos 0 <ℤ value m xs → Positive s xs → Hold g xs → T (is_nothing (sum_of (m ⊗ e ⊖ total s ⊖ combined g))) → pos 0 <ℤ value e xs
 pos_from m e s g xs hm hs hg t =
     pos_of_mul_pos (value m xs) (value e xs) hm (subst (λ n. pos 0 <ℤ n) (sym (ring_from (m ⊗ e) (total s) g xs hg t)) (total_pos s xs hs))

@@ -1,4 +1,5 @@
--- The laws of products of whole numbers that std lacks. It has `*ℤ_comm`, `+ℤ_assoc`, `+ℤ_comm`, `+ℤ_invr` and `neg_ℤ-+ℤ`, in Rattle.std.proofs.Math.IntN.
+-- The laws of products of whole numbers that std lacks. It has `*ℤ_comm`, `+ℤ_assoc`, `+ℤ_comm`, `+ℤ_invr` and
+-- `neg_ℤ-+ℤ`, in Rattle.std.proofs.Math.IntN.
 use Rattle.std.specs.Prelude.{ℤ, ◌+ℤ◌, ◌*ℤ◌, neg_ℤ, ◌≡◌, ◌*◌}
 use Rattle.std.proofs.Common.{arith, ap}
 use Rattle.std.proofs.lemmas.Int.{ints}

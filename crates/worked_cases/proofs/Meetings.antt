@@ -30,6 +30,7 @@ only : {X : Type 0} (P : X → Type 0) (x : X) → P x → (y : X) → IsIn y (x
 only P x p y (inl e) = subst P e p
 only P x p y (inr i) = absurd i
 
+-- two edits that share no point, a list each, can be done
 pub two_done : (one two : Pair) → share_point one.1 two.1 ≡ false → CanBeDone ((one ∷ []) ∷ (two ∷ []) ∷ [])
 two_done one two apart = record {
   some = omega arith;

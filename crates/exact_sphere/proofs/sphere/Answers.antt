@@ -47,6 +47,7 @@ alternating-requires-clause-r s = within_read w128 s.term-3.ensures.bound (lit< 
 pub alternating-requires-clause-s : goal.alternating-requires-clause-s
 alternating-requires-clause-s s = within_read w128 s.term-4.ensures.bound (lit< tt)
 
+-- what is computed from steps is the in-sphere polynomial
 pub returns-clause-value : goal.returns-clause-value
 returns-clause-value s =
     let a = s.args.a in

@@ -7,20 +7,14 @@ returns-in_err-number_of g c =
     let f = c.from_residual.ensures.0 in
     record { points = no_value _ r f; pairs = no_value _ r f; triples = no_value _ r f; cells = no_value _ r f }
 
-pub returns-in_err-point_table : goal.returns-in_err-point_table
-returns-in_err-point_table g c =
-    let r = c.from_residual-in_err-point_table.result in
-    let f = c.from_residual-in_err-point_table.ensures.0 in
+pub returns-in_err-points : goal.returns-in_err-points
+returns-in_err-points g c =
+    let r = c.from_residual-in_err-points.result in
+    let f = c.from_residual-in_err-points.ensures.0 in
     record { points = no_value _ r f; pairs = no_value _ r f; triples = no_value _ r f; cells = no_value _ r f }
 
-pub returns-in_err-pair_table : goal.returns-in_err-pair_table
-returns-in_err-pair_table g c =
-    let r = c.from_residual-in_err-pair_table.result in
-    let f = c.from_residual-in_err-pair_table.ensures.0 in
-    record { points = no_value _ r f; pairs = no_value _ r f; triples = no_value _ r f; cells = no_value _ r f }
-
-pub returns-in_err-triple_table : goal.returns-in_err-triple_table
-returns-in_err-triple_table g c =
-    let r = c.from_residual-in_err-triple_table.result in
-    let f = c.from_residual-in_err-triple_table.ensures.0 in
+pub returns-in_err-pairs : goal.returns-in_err-pairs
+returns-in_err-pairs g c =
+    let r = c.from_residual-in_err-pairs.result in
+    let f = c.from_residual-in_err-pairs.ensures.0 in
     record { points = no_value _ r f; pairs = no_value _ r f; triples = no_value _ r f; cells = no_value _ r f }

@@ -20,6 +20,7 @@ least_factor-requires s =
     let squares = read (within_fits w128 square.ensures.bound (lit< tt)) ∙ square.ensures.value in
     subst (λ x. pos 0 ≤ℤ x) (sym squares) (square_nonneg (to_z w64 (of_z w64 s.triple.result)))
 
+-- the number is the least alpha that the cell is within
 pub returns : goal.returns
 returns s alpha below =
     let a = s.args.a in

@@ -18,6 +18,7 @@ pub is_compact-requires-clause-start : goal.is_compact-requires-clause-start
 is_compact-requires-clause-start c s h l = c.requires.start s h (get_or c.deref-level-items.result.now
     c.loop-level.level-index 0) l
 
+-- there are at least as many parts as were counted
 pub is_compact-requires-clause-apart : goal.is_compact-requires-clause-apart
 is_compact-requires-clause-apart c s h small compact =
     let climb = c.climb_to-climb in
@@ -36,6 +37,7 @@ is_compact-requires-clause-apart c s h small compact =
     (c.in_ok-numbers.ensures.same (get_or c.deref-level-items.result.now c.loop-level.level-index 0)) c.count_to.ensures
     c.saturating_sub-apart.ensures
 
+-- at one number more it does not hold
 pub loop-level-preserved : goal.loop-level-preserved
 loop-level-preserved c =
     let climb = c.climb_to-climb in

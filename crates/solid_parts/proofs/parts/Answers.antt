@@ -15,6 +15,7 @@ gather-requires-clause-order c =
     let h = c.requires.faces in
     subst (IsStrictlySortedBy cell_cmp) (sym (c.cells-2.ensures ∙ h.1.cells)) (complex_is_sorted h.0 h.1.ascending)
 
+-- what is gathered is the parts of the alpha complex
 pub returns : goal.returns
 returns c =
     let faces = c.args.faces.now in

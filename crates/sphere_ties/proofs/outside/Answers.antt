@@ -10,6 +10,7 @@ use Rattle.point_order.proofs.Cited.{out_sign, sign_of_tie}
 use Rattle.sphere_ties.proofs.Verdict.{verdict}
 use Rattle.sphere_ties.proofs.outside.Goals as goal
 
+-- off the plain sphere its sign decides
 pub returns-then-plain-ne0 : goal.returns-then-plain-ne0
 returns-then-plain-ne0 c =
     let a = c.args.a in
@@ -28,6 +29,7 @@ returns-then-plain-ne0 c =
     subst (λ (v : ℤ). HasSignOf v (out a b p d e)) (sym is) (out_sign a b p d e c.key.ensures.bound c.key-2.ensures.bound c.key-3.ensures.bound c.key-4.ensures.bound c.key-5.ensures.bound) in
     simp (to_z-of_z, side) (verdict s (orientation a b p d) (out a b p d e) ns c.requires.independent k)
 
+-- on it the greatest point decides whose coefficient is not 0
 pub returns-else-plain-ne0 : goal.returns-else-plain-ne0
 returns-else-plain-ne0 c =
     let a = c.args.a in

@@ -9,6 +9,7 @@ use Rattle.alpha_complex.specs.Leasts.{IsLeastOf}
 use Rattle.alpha_complex.proofs.Leasts.{either_least}
 use Rattle.alpha_complex.proofs.least.alphas_of_pair.Goals as goal
 
+-- the three numbers of the pair, from the triples and cells around it
 pub returns : goal.returns
 returns c =
     let own = c.args.own.now in

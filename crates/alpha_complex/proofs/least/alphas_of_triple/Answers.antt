@@ -16,6 +16,7 @@ number_at-requires c =
     let h = c.requires.index in
     omega (arith, h, z)
 
+-- the three numbers of the triple, from the cells around it and its own
 pub returns : goal.returns
 returns c =
     let own = c.args.own.now in

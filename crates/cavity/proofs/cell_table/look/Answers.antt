@@ -15,6 +15,7 @@ returns-in-Free c =
 pub returns-then-is_at : goal.returns-then-is_at
 returns-then-is_at c = in_at c.args.goes.now c.in-Gone.i c.args.cell.now (c.is_at.ensures.0 c.if-is_at.true)
 
+-- one place more was passed, which does not have the cell
 pub loop-at-preserved : goal.loop-at-preserved
 loop-at-preserved c = elim c.match-marks-at.branch [
   | in-Gone+else-is_at w ↦ record {

@@ -63,7 +63,7 @@ returns-in_ok-push-in-Stays-clause-crossed c h st crossed t u =
 pub returns-in_ok-push_gone-in-New-clause-crossed : goal.returns-in_ok-push_gone-in-New-clause-crossed
 returns-in_ok-push_gone-in-New-clause-crossed c h st crossed t u =
     let o = c.spot_across-other.ensures h st (t.so_far.goes c.args.cell.now t.among).before in
-    rw (c.note_beside.ensures, c.in_ok-push_gone-in-New.ensures.pushed)
+    rw (c.note_beside.ensures, c.in_ok-push_gone-in-New.ensures.pushed, c.load_around.ensures)
     (crossed_goes h c.args.point (solid_set c.args.hold.now h st) crossed c.args.cell.now c.spot_across-other.result c.args.facet.now c.args.judged.now.goes c.args.rim.now.items t c.requires.facet o (subst (λ (q : Cell). ¬ (IsIn q c.args.judged.now.goes)) c.cell-2.ensures c.in-New.ensures) (c.if-is_spot_in_conflict.ensures h st t.new o.listed))
 
 pub returns-in_ok-keep-in-New-clause-behind : goal.returns-in_ok-keep-in-New-clause-behind

@@ -33,6 +33,7 @@ returns-then-is_in_conflict-clause-goes c h st new =
     let i = c.loop-cell.invariant.0 c.in-Some.cell.now (subst (λ (l : List Cell). IsIn c.in-Some.cell.now l) (sym c.in-Some.ensures.steps) (inl refl)) in
     c.if-is_in_conflict.ensures h st new (in_complex c.args.hold.now h c.args.b c.in-Some.cell.now st c.requires.held i).0
 
+-- one cell more stays, or it is the first that goes
 pub loop-cell-preserved : goal.loop-cell-preserved
 loop-cell-preserved c = (
   (λ x i. c.loop-cell.invariant.0 x (subst (λ (l : List Cell). IsIn x l) (sym c.in-Some.ensures.steps) (inr i))),

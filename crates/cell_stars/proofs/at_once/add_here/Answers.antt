@@ -10,6 +10,7 @@ use Rattle.cell_stars.proofs.at_once.add_here.Goals as goal
 pub loop-p-init : goal.loop-p-init
 loop-p-init c = gather_none (StandsHere c.args.grid c.args.number) c.points-p-items.result.now c.args.list.now.items
 
+-- the next point lies in the bucket and comes last, or is there already, or does not lie there
 pub loop-p-preserved : goal.loop-p-preserved
 loop-p-preserved c =
     let R = StandsHere c.args.grid c.args.number in

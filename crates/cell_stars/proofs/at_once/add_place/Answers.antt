@@ -14,6 +14,7 @@ pub unreachable-requires : goal.unreachable-requires
 unreachable-requires c =
     no_key c.args.keys.now c.args.p c.in-Err.field-0 c.in-Err.ensures (c.args.p, c.requires.key.0) c.requires.key.1 refl
 
+-- the star of the vertex has the place more
 pub returns : goal.returns
 returns c =
     let keys = c.args.keys.now in

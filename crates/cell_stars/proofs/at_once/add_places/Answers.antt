@@ -19,6 +19,7 @@ add_place-requires-clause-key c =
       same_true (bucket_of c.args.grid x) c.args.number (sym c.bucket_of.ensures.number ∙ c.if-bucket_of-number.true),
     )
 
+-- the next point lies in the bucket and its star gains the place, or it does not
 pub loop-p-preserved : goal.loop-p-preserved
 loop-p-preserved c =
     let g = c.args.grid in

@@ -1,4 +1,4 @@
-use Rattle.std.proofs.Common.{◌≡◌, ◌∙◌, ap, subst, sym, Option, Some, ◌++◌, ◌∷◌, []}
+use Rattle.std.proofs.Common.{◌∙◌, ap, Option, Some, ◌++◌, ◌∷◌, []}
 use Rattle.point_order.specs.declared.cell.Cell.{Cell}
 use Rattle.cell_stars.proofs.AtOnce.{map_all, map_more}
 use Rattle.cell_stars.proofs.at_once.slots_of.Goals as goal

@@ -3,6 +3,7 @@ use Rattle.cell_stars.proofs.Least.{Found, passed_one, lesser_one, all_taken, fr
 use Rattle.cell_stars.proofs.star.least_behind.Goals as goal
 use Rattle.cell_stars.proofs.star.least_behind.Goals.{in-Some+then-is_behind+then-not-is_before, in-Some+else-is_behind, else-is_behind-via-then-is_behind+else-not-is_before, else-is_behind-via-else-is_behind, in_default}
 
+-- the cell at the next place is the least so far, or it is passed over
 pub loop-i-preserved : goal.loop-i-preserved
 loop-i-preserved c =
     let slots = c.args.slots.now in

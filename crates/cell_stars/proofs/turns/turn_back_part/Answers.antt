@@ -11,6 +11,7 @@ turn_back_all-requires g c =
     let r = c.requires in
     rw (c.deref_mut.ensures.value, c.deref_mut-2.ensures.value) (part_below r.longer _ r.before _ r.was _ r.part)
 
+-- a part that is turned back is as before, and so is the list
 pub returns : goal.returns
 returns g c =
     let b = c.turn_back_all in

@@ -2,6 +2,7 @@ use Rattle.std.proofs.Common.{Bool, Some, refl, sym, ap, subst}
 use Rattle.cell_store.specs.Ready.{NextIs}
 use Rattle.cell_store.proofs.room.made.Goals as goal
 
+-- where the exchange can be made back, the one back is next
 pub returns-then-back : goal.returns-then-back
 returns-then-back c =
     let e = c.make.ensures in

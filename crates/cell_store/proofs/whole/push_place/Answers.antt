@@ -9,6 +9,7 @@ use Rattle.cell_store.proofs.whole.push_place.Goals as goal
 pub loop-k-init : goal.loop-k-init
 loop-k-init c = touch_none c.args.grid c.points-points.result.now c.args.place (lists_in c.args.lists.now.items)
 
+-- one point more: the place stands in its bucket's list already, or comes last there
 pub loop-k-preserved : goal.loop-k-preserved
 loop-k-preserved c =
     let g = c.args.grid in

@@ -41,7 +41,8 @@ pub returns-clause-exchanged : goal.returns-clause-exchanged
 returns-clause-exchanged c = record {
   between = c.swap_cells.new.self;
   swapped = swapped_same c.args.gone.now c.args.fresh.now c.reserve.new.self c.args.hold.now c.swap_cells.new.self
-      (ap (λ (x : InHand). x.grid) c.in_ok-reserve.ensures.ok) (ap (λ (x : InHand). x.places) c.in_ok-reserve.ensures.ok)
+      (ap (λ (x : InHand). x.grid) c.in_ok-reserve.ensures.ok) (ap (λ (x : InHand). x.places)
+      c.in_ok-reserve.ensures.ok)
       c.swap_cells.ensures.swapped;
   with_goal = c.put_goal.new.self;
   arrived = c.put_goal.ensures.arrived;

@@ -28,7 +28,8 @@ returns-in-Take c =
 
 pub returns-in-Move : goal.returns-in-Move
 returns-in-Move c =
-    let beside : List ℕ → List Cell = λ s. cells_beside c.in-Move.a c.args.all.now (complex (after s (Add c.in-Move.b))) in
+    let beside : List ℕ → List Cell =
+    λ s. cells_beside c.in-Move.a c.args.all.now (complex (after s (Add c.in-Move.b))) in
     ok_then (λ list. (s : List ℕ) → Shows c.args.hold.now s → list.items ≡ near_move c.args.reply (beside s))
     (λ list. (s : List ℕ) → Shows c.args.hold.now s → c.args.reply ≡ reply_to s c.args.edit →
     list.items ≡ near_cells s c.args.edit c.args.all.now c.args.gone.now) c.cells_near_move.result

@@ -1,5 +1,5 @@
 use Rattle.std.specs.List.Sorted.{IsPermutation}
-use Rattle.std.proofs.Common.{ℕ, sym, ◌∷◌, [], subst, List}
+use Rattle.std.proofs.Common.{ℕ, sym, ◌∷◌, [], subst}
 use Rattle.list_laws.proofs.Cited.{not_both}
 use Rattle.point_order.specs.Sets.{IsIn, with_point}
 use Rattle.hole_laws.specs.Edits.{IsNew}
@@ -22,6 +22,7 @@ insert-requires c =
     (distinct_moved c.args.points.now turns same c.requires.ascending) none in
     (g.set, g.cells_of, rw c.point-p.ensures.value new)
 
+-- one point more is in the net
 pub loop-turn-preserved : goal.loop-turn-preserved
 loop-turn-preserved c =
     let g = c.loop-turn.invariant in

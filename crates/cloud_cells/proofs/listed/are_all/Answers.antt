@@ -1,4 +1,4 @@
-use Rattle.std.proofs.Common.{◌≡◌, ◌++◌, ◌+◌, ◌-◌, ◌≤◌, ◌∙◌, arith, eqb-true, length, map, sym, subst, take, ℕ}
+use Rattle.std.proofs.Common.{◌++◌, ◌+◌, ◌-◌, ◌≤◌, ◌∙◌, arith, eqb-true, length, map, sym, subst, take, ℕ}
 use Rattle.point_order.specs.declared.cell.Cell.TheVariants.{Full, Open}
 use Rattle.cloud_cells.proofs.Found.{AreFound, all_found, cell_slot, free_slot, none_found}
 use Rattle.cloud_cells.proofs.listed.are_all.Goals.{in-Some+else-not-is_listed, in_default}
@@ -11,6 +11,7 @@ overflow_add-count c =
 pub loop-slot-init : goal.loop-slot-init
 loop-slot-init c = (none_found (map Full c.args.cells.now ++ map Open c.args.hull.now), omega arith)
 
+-- one slot more was looked at
 pub loop-slot-preserved : goal.loop-slot-preserved
 loop-slot-preserved c =
     let l = map Full c.args.cells.now ++ map Open c.args.hull.now in

@@ -1,4 +1,4 @@
-use Rattle.std.proofs.Common.{◌∷◌, map}
+use Rattle.std.proofs.Common.{map}
 use Rattle.list_laws.proofs.Cited.{at_place, in_left, in_right, mapped_true}
 use Rattle.point_order.specs.declared.cell.Cell.TheVariants.{Full, Open}
 use Rattle.cloud_cells.proofs.listed.listed_at.Goals as goal

@@ -49,6 +49,7 @@ returns-in_err-reader-clause-reads g c =
     (read_on _ _ _ _ c.loop-room.room c.min-most.result _ _ c.loop-room.invariant.read asked empty read.taken)
     (inl (inl wanting)) (inr wanting)
 
+-- at the end of the source the reader has taken all that it told
 pub returns-in-End-clause-taken : goal.returns-in-End-clause-taken
 returns-in-End-clause-taken g c =
     let read = c.read_to_limit.ensures in

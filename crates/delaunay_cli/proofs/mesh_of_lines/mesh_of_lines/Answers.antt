@@ -27,6 +27,7 @@ run_edits-requires-clause-room g c =
 pub returns-clause-legal : goal.returns-clause-legal
 returns-clause-legal g c = c.hold.ensures.stands.legal
 
+-- the history that workers or one thread made keeps the file
 pub returns-clause-kept : goal.returns-clause-kept
 returns-clause-kept g c =
     let points = c.args.file.now.points.items in

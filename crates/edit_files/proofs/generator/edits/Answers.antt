@@ -10,6 +10,7 @@ index-requires c = omega (
       c.loop-before.invariant.lines,
 )
 
+-- one more line, which goes back or draws: the lines so far are the first ones, with the state behind their draws
 pub loop-before-preserved : goal.loop-before-preserved
 loop-before-preserved c =
     let n = c.loop-before.before in

@@ -35,6 +35,7 @@ returns-in_err-x-clause-value c =
     rw c.from_residual-in_err-x.ensures (all ∙ ap (λ (x : Option ℕ). point_from x (number c.first_field-2.result.0.now)
     (number c.first_field-3.result.0.now)) (sym c.in_err-x.ensures.value))
 
+-- the second field is no number: the line is not of its form
 pub returns-in_err-y-clause-value : goal.returns-in_err-y-clause-value
 returns-in_err-y-clause-value c =
     let first = rw c.in_ok-behind_x.was at c.first_field.ensures in
@@ -49,6 +50,7 @@ returns-in_err-y-clause-value c =
     ∙ ap (λ (y : Option ℕ). point_from (Some c.in_ok-x.x) y (number c.first_field-3.result.0.now))
     (sym c.in_err-y.ensures.value))
 
+-- the third field is no number: the line is not of its form
 pub returns-in_err-z-clause-value : goal.returns-in_err-z-clause-value
 returns-in_err-z-clause-value c =
     let first = rw c.in_ok-behind_x.was at c.first_field.ensures in
@@ -64,6 +66,7 @@ returns-in_err-z-clause-value c =
     (sym c.in_ok-y.ensures.value)
     ∙ ap (λ (z : Option ℕ). point_from (Some c.in_ok-x.x) (Some c.in_ok-y.y) z) (sym c.in_err-z.ensures.value))
 
+-- all three are numbers: what is returned is the point that they make
 pub returns-clause-value : goal.returns-clause-value
 returns-clause-value c =
     let first = rw c.in_ok-behind_x.was at c.first_field.ensures in

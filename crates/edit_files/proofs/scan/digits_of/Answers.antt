@@ -46,6 +46,7 @@ returns-then-not-is_ascii_digit-clause-value c =
     (drop (i + 1) s) other in
     sym here ∙ c.loop-b.invariant.rest ∙ sym (digits_is s some)
 
+-- one digit more: the value with it, and the digits behind it, are read as before
 pub loop-b-preserved : goal.loop-b-preserved
 loop-b-preserved c =
     let s : List ℕ = c.args.text.now in

@@ -26,6 +26,7 @@ returns-then-value-gt0-clause-value c =
     let above : ltb 0 n ≡ true = lt-ltb 0 n (omega arith) in
     sym (number_is bs n (sym read) ∙ rw (minus, above) refl)
 
+-- with no minus, or with a minus before 0, the number is the value of the digits
 pub returns-else-is_negative-clause-value : goal.returns-else-is_negative-clause-value
 returns-else-is_negative-clause-value c =
     let bs : List ℕ = c.args.text.now in

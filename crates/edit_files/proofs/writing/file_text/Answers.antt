@@ -10,6 +10,7 @@ use Rattle.edit_files.proofs.Written.{ended_put, queries_put, title_put, to_radi
 use Rattle.edit_files.proofs.writing.file_text.Goals as goal
 use Rattle.edit_files.proofs.writing.file_text.Goals.{then-row+in_ok-extend_from_slice-4+in_ok-put_points-2, else-row}
 
+-- what was put, part by part, is the text of the file
 pub returns : goal.returns
 returns c =
     let f : Content = content c.args.file.now in

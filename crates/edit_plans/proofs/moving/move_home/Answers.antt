@@ -25,6 +25,7 @@ returns-then-holds_point c s sh u =
     (sym (c.holds_point.ensures.in_set s sh) ∙ c.if-not-holds_point.false)
     (sym (c.holds_point-2.ensures.in_set s sh) ∙ c.if-holds_point.true)
 
+-- the new place is free, and its bucket in hand
 pub land_on-requires : goal.land_on-requires
 land_on-requires c =
     let s = c.requires.shown.0 in
@@ -44,6 +45,7 @@ land_on-requires c =
       ),
     )
 
+-- a look from the start of a move: its point is missing, its new place taken, or the new place has landed
 pub returns : goal.returns
 returns c =
     ok_then _ _ c.land_on.result (λ look k s sh u. k s sh (

@@ -9,6 +9,7 @@ returns-then-holds_point c s sh k =
     plan_duplicate c.args.hold.now s c.args.p c.no_change.result c.no_change.ensures c.key.ensures.bound c.requires.home
     (sym (c.holds_point.ensures.in_set s sh) ∙ c.if-holds_point.true)
 
+-- the point is new, and its bucket in hand
 pub come_on-requires : goal.come_on-requires
 come_on-requires c =
     let s = c.requires.shown.0 in

@@ -10,5 +10,7 @@ pub returns : goal.returns
 returns c =
     let sorted = c.sort_unstable_by_key.new.self.items in
     by_keys c.beginning-begin.result c.args.list.now.pairs.items sorted c.requires.tags
-    (subst (λ (l : List Pair). IsPermutation l sorted) (c.in_ok-pairs.ensures.items ∙ c.deref.ensures.value) c.sort_unstable_by_key.ensures.permutation)
-    (IsNonDecreasingBy-from_sort_by_key (key_of c.beginning-begin.result) sorted c.sort_unstable_by_key.ensures.sorted (λ a r q k. search rules))
+    (subst (λ (l : List Pair). IsPermutation l sorted) (c.in_ok-pairs.ensures.items ∙ c.deref.ensures.value)
+    c.sort_unstable_by_key.ensures.permutation)
+    (IsNonDecreasingBy-from_sort_by_key (key_of c.beginning-begin.result) sorted c.sort_unstable_by_key.ensures.sorted
+    (λ a r q k. search rules))

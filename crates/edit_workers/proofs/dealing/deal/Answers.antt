@@ -37,6 +37,7 @@ put-requires c =
     ∙ ap length cut.present_is ∙ dealt_count c.args.workers cut.present in
     record { some = c.requires.workers.0; lists = count }
 
+-- one place more: the line there is one of the four, or it is cut and dealt behind the others
 pub loop-place-preserved : goal.loop-place-preserved
 loop-place-preserved c =
     let points = c.args.file.now.points.items in
@@ -61,6 +62,7 @@ loop-place-preserved c =
           (sym c.contains.ensures.value ∙ w.if-not-contains.false))) c.loop-place.invariant)
     ]
 
+-- at the end of the lines what was cut and dealt is `dealt`
 pub returns : goal.returns
 returns c =
     let points = c.args.file.now.points.items in

@@ -30,6 +30,7 @@ put-requires c =
     ∙ ap length cut.present_is ∙ dealt_count c.args.workers cut.present in
     record { some = c.requires.workers.0; lists = count }
 
+-- it is cut and dealt behind the others
 pub loop-place-preserved : goal.loop-place-preserved
 loop-place-preserved c =
     let points = c.args.file.now.points.items in
@@ -37,14 +38,17 @@ loop-place-preserved c =
     let lines = edit_lines points edits in
     let n = c.loop-place.place in
     let x = c.index.result.now in
-    let below : n < length edits = (let a = c.loop-place-test.true in let b = c.len-place-end.ensures in omega (arith, a, b)) in
+    let below : n < length edits =
+    (let a = c.loop-place-test.true in let b = c.len-place-end.ensures in omega (arith, a, b)) in
     let within : n < length lines = (let a = length-enumerate_from (length points) edits in omega (arith, a, below)) in
     let tag : length points + n ≡ c.len.result + n = (let a = c.len.ensures in omega (arith, a)) in
-    let next = take_next lines n (length points + n, x) within (numbered_at (length points) edits n x below c.index.ensures)
+    let next =
+    take_next lines n (length points + n, x) within (numbered_at (length points) edits n x below c.index.ensures)
     ∙ ap (λ (m : ℕ). take n lines ++ (m, x) ∷ []) tag in
     subst (λ (l : List Pair). AreCut c.args.workers l c.put.new.self) (sym next)
     (c.in_ok-put.ensures (take n lines) c.loop-place.invariant)
 
+-- at the end of the lines what was cut and dealt is `dealt_lines`
 pub returns : goal.returns
 returns c =
     let lines = edit_lines c.args.file.now.points.items c.args.file.now.edits.items in
@@ -56,5 +60,6 @@ returns c =
     omega (arith, a, b, d)
     ) in
     let are =
-    subst (λ (l : List Pair). AreCut c.args.workers l cutter) (take_all c.loop-place.place lines past) c.loop-place.invariant in
+    subst (λ (l : List Pair). AreCut c.args.workers l cutter) (take_all c.loop-place.place lines past)
+    c.loop-place.invariant in
     record { dealt = cut_all c.args.workers lines cutter (segments_of c.in_ok-lists.lists) are c.in_ok-lists.ensures }

@@ -25,6 +25,7 @@ returns-then-is_empty-clause-rounds g c =
     (subst (λ (l : List Waiting). AreMadeOrWait l c.in_ok-kept.kept.items now c.round.new.pass) c.deref.ensures.value
     c.in_ok-kept.ensures.round)
 
+-- after one round more each pair is made or waits
 pub loop-round-preserved : goal.loop-round-preserved
 loop-round-preserved g c =
     let now = c.loop-round.pass in
@@ -33,7 +34,8 @@ loop-round-preserved g c =
           c.round.new.pass c.loop-round.invariant.made
           (subst (λ (l : List Waiting). AreMadeOrWait l c.in_ok-kept.kept.items now c.round.new.pass)
           c.deref.ensures.value c.in_ok-kept.ensures.round);
-      none = λ l o f. last_round c.args.waiting.items c.loop-round.kept.items c.in_ok-kept.kept.items c.args.pass.now now
+      none =
+          λ l o f. last_round c.args.waiting.items c.loop-round.kept.items c.in_ok-kept.kept.items c.args.pass.now now
           c.loop-round.invariant.made
           (subst (λ (l : List Waiting). OwnsAll now → AllFresh l → c.in_ok-kept.kept.items ≡ []) c.deref.ensures.value
           c.in_ok-kept.ensures.alone) o f;

@@ -23,7 +23,8 @@ come-requires-clause-few g c =
 pub loop-place-preserved : goal.loop-place-preserved
 loop-place-preserved g c =
     let inside = c.loop-place-test.true in
-    list_next c.args.list.now.pairs.items c.loop-place.waiting.items c.loop-place.place c.args.pass.now c.loop-place.pass
+    list_next c.args.list.now.pairs.items c.loop-place.waiting.items c.loop-place.place c.args.pass.now
+    c.loop-place.pass
     c.loop-place.invariant c.come.new.waiting.items c.index.result.now c.come.new.pass (omega (arith, inside))
     c.index.ensures c.in_ok-come.ensures
 

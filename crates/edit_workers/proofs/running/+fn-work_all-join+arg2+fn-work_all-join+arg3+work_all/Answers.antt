@@ -7,6 +7,7 @@ use Rattle.edit_workers.specs.Running.{AreWorked}
 use Rattle.edit_workers.proofs.Halves.{slice_low, slice_high, slice_both, slice_tables, of_answer}
 use Rattle.edit_workers.proofs.running.+fn-work_all-join+arg2+fn-work_all-join+arg3+work_all.Goals as goal
 
+-- each half of the pass can run its half of the lists
 pub join-a-requires-after_bounds : goal.join-a-requires-after_bounds
 join-a-requires-after_bounds g t c κs =
     let cut = c.split_at.ensures in
@@ -14,11 +15,17 @@ join-a-requires-after_bounds g t c κs =
     let more = c.if-lists-eq1.false in
     let count = length-map c.args.lists.now (λ (l : lists.List). l.pairs.items) in
     let some-low : 0 < length c.split_at.result.0.now = omega (arith, cut.front_len, some, more, count) in
-    let some-high : 0 < length c.split_at.result.1.now = omega (arith, cut.front_len, cut.back_len, some, more, count) in
-    let low = slice_low c.args.lists.now c.split_at.result.0.now c.split_at.result.1.now _ _ c.args.table.now c.args.pass c.split.new.pass c.in_ok-other.other cut.by_index.0 refl c.pair_count.ensures some-low some-high c.requires.run c.in_ok-other.ensures.split in
-    let high = slice_high c.args.lists.now c.split_at.result.0.now c.split_at.result.1.now _ _ c.args.table.now c.args.pass c.split.new.pass c.in_ok-other.other cut.by_index.0 refl c.pair_count.ensures some-low some-high c.requires.run c.in_ok-other.ensures.split in
+    let some-high : 0 < length c.split_at.result.1.now =
+    omega (arith, cut.front_len, cut.back_len, some, more, count) in
+    let low = slice_low c.args.lists.now c.split_at.result.0.now c.split_at.result.1.now _ _ c.args.table.now
+    c.args.pass c.split.new.pass c.in_ok-other.other cut.by_index.0 refl c.pair_count.ensures some-low some-high
+    c.requires.run c.in_ok-other.ensures.split in
+    let high = slice_high c.args.lists.now c.split_at.result.0.now c.split_at.result.1.now _ _ c.args.table.now
+    c.args.pass c.split.new.pass c.in_ok-other.other cut.by_index.0 refl c.pair_count.ensures some-low some-high
+    c.requires.run c.in_ok-other.ensures.split in
     λ ls. (search rules, search rules)
 
+-- what both halves did and left over is the work of the whole pass
 pub returns : goal.returns
 returns g t c =
     let cut = c.split_at.ensures in
@@ -26,13 +33,21 @@ returns g t c =
     let more = c.if-lists-eq1.false in
     let count = length-map c.args.lists.now (λ (l : lists.List). l.pairs.items) in
     let some-low : 0 < length c.split_at.result.0.now = omega (arith, cut.front_len, some, more, count) in
-    let some-high : 0 < length c.split_at.result.1.now = omega (arith, cut.front_len, cut.back_len, some, more, count) in
-    let first = IfOk-at_ok (λ r. AreWorked (pairs_in c.split_at.result.0.now) r.1.pairs.items c.split.new.pass r.0) c.in_ok-a.was c.join-a.ensures.first in
-    let second = IfOk-at_ok (λ r. AreWorked (pairs_in c.split_at.result.1.now) r.1.pairs.items c.in_ok-other.other r.0) c.in_ok-b.was c.join-a.ensures.second in
-    let both = slice_both c.args.lists.now c.split_at.result.0.now c.split_at.result.1.now _ _ c.args.table.now c.args.pass c.split.new.pass c.in_ok-other.other cut.by_index.0 refl c.pair_count.ensures some-low some-high c.requires.run c.in_ok-other.ensures.split
-    c.in_ok-a.field-0.1.pairs.items c.in_ok-b.field-0.1.pairs.items c.in_ok-a.field-0.0 c.in_ok-b.field-0.0 first second in
-    of_answer (λ p l. AreWorked (pairs_in c.args.lists.now) l c.args.pass p) c.together.result _ _ both c.together.ensures.pass c.together.ensures.left
+    let some-high : 0 < length c.split_at.result.1.now =
+    omega (arith, cut.front_len, cut.back_len, some, more, count) in
+    let first = IfOk-at_ok (λ r. AreWorked (pairs_in c.split_at.result.0.now) r.1.pairs.items c.split.new.pass r.0)
+    c.in_ok-a.was c.join-a.ensures.first in
+    let second = IfOk-at_ok (λ r. AreWorked (pairs_in c.split_at.result.1.now) r.1.pairs.items c.in_ok-other.other r.0)
+    c.in_ok-b.was c.join-a.ensures.second in
+    let both = slice_both c.args.lists.now c.split_at.result.0.now c.split_at.result.1.now _ _ c.args.table.now
+    c.args.pass c.split.new.pass c.in_ok-other.other cut.by_index.0 refl c.pair_count.ensures some-low some-high
+    c.requires.run c.in_ok-other.ensures.split
+    c.in_ok-a.field-0.1.pairs.items c.in_ok-b.field-0.1.pairs.items c.in_ok-a.field-0.0 c.in_ok-b.field-0.0 first
+    second in
+    of_answer (λ p l. AreWorked (pairs_in c.args.lists.now) l c.args.pass p) c.together.result _ _ both
+    c.together.ensures.pass c.together.ensures.left
 
+-- the halves are passes of the table, and the second's parts come next
 pub together-requires : goal.together-requires
 together-requires g t c =
     let cut = c.split_at.ensures in
@@ -40,9 +55,15 @@ together-requires g t c =
     let more = c.if-lists-eq1.false in
     let count = length-map c.args.lists.now (λ (l : lists.List). l.pairs.items) in
     let some-low : 0 < length c.split_at.result.0.now = omega (arith, cut.front_len, some, more, count) in
-    let some-high : 0 < length c.split_at.result.1.now = omega (arith, cut.front_len, cut.back_len, some, more, count) in
-    let first = IfOk-at_ok (λ r. AreWorked (pairs_in c.split_at.result.0.now) r.1.pairs.items c.split.new.pass r.0) c.in_ok-a.was c.join-a.ensures.first in
-    let second = IfOk-at_ok (λ r. AreWorked (pairs_in c.split_at.result.1.now) r.1.pairs.items c.in_ok-other.other r.0) c.in_ok-b.was c.join-a.ensures.second in
-    let tables = slice_tables c.args.lists.now c.split_at.result.0.now c.split_at.result.1.now _ _ c.args.table.now c.args.pass c.split.new.pass c.in_ok-other.other cut.by_index.0 refl c.pair_count.ensures some-low some-high c.requires.run c.in_ok-other.ensures.split
-    c.in_ok-a.field-0.1.pairs.items c.in_ok-b.field-0.1.pairs.items c.in_ok-a.field-0.0 c.in_ok-b.field-0.0 first second in
+    let some-high : 0 < length c.split_at.result.1.now =
+    omega (arith, cut.front_len, cut.back_len, some, more, count) in
+    let first = IfOk-at_ok (λ r. AreWorked (pairs_in c.split_at.result.0.now) r.1.pairs.items c.split.new.pass r.0)
+    c.in_ok-a.was c.join-a.ensures.first in
+    let second = IfOk-at_ok (λ r. AreWorked (pairs_in c.split_at.result.1.now) r.1.pairs.items c.in_ok-other.other r.0)
+    c.in_ok-b.was c.join-a.ensures.second in
+    let tables = slice_tables c.args.lists.now c.split_at.result.0.now c.split_at.result.1.now _ _ c.args.table.now
+    c.args.pass c.split.new.pass c.in_ok-other.other cut.by_index.0 refl c.pair_count.ensures some-low some-high
+    c.requires.run c.in_ok-other.ensures.split
+    c.in_ok-a.field-0.1.pairs.items c.in_ok-b.field-0.1.pairs.items c.in_ok-a.field-0.0 c.in_ok-b.field-0.0 first
+    second in
     record { low = tables.0; high = tables.1; next = tables.2 }

@@ -31,6 +31,7 @@ run_segment-requires-clause-room g c κs within =
     c.loop-segment.invariant.run c.requires.room in
     omega (arith, room, ap (λ (l : List lists.List). count_of (pairs_in l)) c.deref.ensures.value)
 
+-- one segment more is done, and as many entries more are there as it has pairs
 pub loop-segment-preserved : goal.loop-segment-preserved
 loop-segment-preserved g c =
     let segments = c.args.lists.now.segments.items in

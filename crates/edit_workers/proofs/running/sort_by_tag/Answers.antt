@@ -9,5 +9,6 @@ returns c = record {
   same = c.sort_unstable_by_key.ensures.permutation;
   order =
       tags_in_order c.sort_unstable_by_key.new.self.items
-      (IsNonDecreasingBy-from_sort_by_key (λ (p : Pair). p.0) c.sort_unstable_by_key.new.self.items c.sort_unstable_by_key.ensures.sorted (λ a r q k. search rules));
+      (IsNonDecreasingBy-from_sort_by_key (λ (p : Pair). p.0) c.sort_unstable_by_key.new.self.items
+      c.sort_unstable_by_key.ensures.sorted (λ a r q k. search rules));
 }

@@ -29,6 +29,7 @@ put_key-requires-clause-not_before g c k i =
     let f = full_from c.args.cells.now (take n items) k ((c.loop-key.invariant.keys k).0 i) in
     not_greater cmp (k, f.0) item (subst (λ v. item_cmp cmp (k, f.0) v ≡ Less) (sym c.loop-key-item.is) (before_next (item_cmp cmp) items n item (k, f.0) c.requires.order c.loop-key-test.true f.1))
 
+-- the next item is of a Full cell and its key is put, unless it is the last one's, or it is of an Open cell
 pub loop-key-preserved : goal.loop-key-preserved
 loop-key-preserved g c =
     let cells = c.args.cells.now in

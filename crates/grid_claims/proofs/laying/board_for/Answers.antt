@@ -11,6 +11,7 @@ use Rattle.grid_claims.specs.Rule.{IsRule, opening_view}
 use Rattle.grid_claims.proofs.Opening.{starts}
 use Rattle.grid_claims.proofs.laying.board_for.Goals as goal
 
+-- words, slots and the first pass of a table for the mesh meet the rule
 pub new-requires : goal.new-requires
 new-requires c =
     let mesh = c.args.mesh in

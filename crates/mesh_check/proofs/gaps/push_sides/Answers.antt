@@ -12,6 +12,7 @@ on_ok : {T E P Q : Type 0} (r : Result T E) → (P → Q) → OnOk r P → OnOk 
 on_ok (Ok v) f p = f p
 on_ok (Err e) f p = tt
 
+-- the facets of the cell, each with the cell, are put behind the others
 pub returns : goal.returns
 returns c =
     let side : Facet → List Side = λ f. side_of c.args.part f c.args.cell in

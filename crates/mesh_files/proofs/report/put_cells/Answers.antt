@@ -18,6 +18,7 @@ loop-cell-init g c =
     sym (length-map (full_corners c.args.cells.now) (indices_line c.args.indices.now)) in
     starts (codes "cells") lines c.full_count.result n c.put_title.ensures
 
+-- the next cell is Full and its line is put, or it is Open
 pub loop-cell-preserved : goal.loop-cell-preserved
 loop-cell-preserved g c =
     elim c.match-cell.branch [

@@ -18,6 +18,7 @@ loop-cell-init g c =
     sym (length-map (hull_corners c.args.cells.now) (indices_line c.args.indices.now)) in
     starts (codes "hull") lines c.hull_count.result n c.put_title.ensures
 
+-- the next cell is Open and its line is put, or it is Full
 pub loop-cell-preserved : goal.loop-cell-preserved
 loop-cell-preserved g c =
     elim c.match-cell.branch [

@@ -64,6 +64,7 @@ returns-then-reads-6 c =
     let g : bytes_eq c.args.line.now (codes "Moved") ≡ true = sym c.reads-else-reads-5.ensures ∙ c.if-reads-6.true in
     rw (a, b, d, e, f, g) refl
 
+-- the line is the last of the words, and its reply is returned
 pub returns-then-reads-7 : goal.returns-then-reads-7
 unfolding reply_of
 returns-then-reads-7 c =
@@ -79,6 +80,7 @@ returns-then-reads-7 c =
     let h : bytes_eq c.args.line.now (codes "Occupied") ≡ true = sym c.reads-else-reads-6.ensures ∙ c.if-reads-7.true in
     rw (a, b, d, e, f, g, h) refl
 
+-- it is none of the words, and is wrong in form
 pub returns-else-reads-7 : goal.returns-else-reads-7
 unfolding reply_of
 returns-else-reads-7 c =

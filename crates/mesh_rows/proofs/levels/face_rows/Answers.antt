@@ -17,6 +17,7 @@ alphas_alone-requires c = (
       c.in_ok-faces.ensures.points c.in_ok-faces.ensures.pairs c.in_ok-faces.ensures.triples,
 )
 
+-- each face has its row and the numbers that tell of it
 pub returns-clause-rows : goal.returns-clause-rows
 returns-clause-rows c =
     let s = c.args.set.now in

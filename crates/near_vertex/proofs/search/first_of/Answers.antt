@@ -12,6 +12,7 @@ use Rattle.near_vertex.proofs.search.first_of.Goals as goal
 again : {x : ℤ} → IsWithin greatest_square x → to_z w64 (of_z w64 x) ≡ x
 again h = read (within_fits w64 h (lit< tt))
 
+-- the point comes before all so far, or one of them before it
 pub loop-x-preserved : goal.loop-x-preserved
 loop-x-preserved c =
     let q = c.args.q in

@@ -49,6 +49,7 @@ pub overflow_mul-result-3 : goal.overflow_mul-result-3
 overflow_mul-result-3 c =
     fits_as (same_product (read c.ranges.w) (read c.ranges.z)) (product c.requires.w_bound c.requires.z_bound)
 
+-- the sum of three products fits
 pub overflow_add-result-2 : goal.overflow_add-result-2
 overflow_add-result-2 c =
     let first =
@@ -66,6 +67,7 @@ overflow_add-result-2 c =
     (triad c.requires.u_bound c.requires.v_bound c.requires.w_bound
     c.requires.x_bound c.requires.y_bound c.requires.z_bound)
 
+-- it is the scalar product
 pub returns-clause-value : goal.returns-clause-value
 returns-clause-value c =
     let first =

@@ -50,6 +50,7 @@ pub overflow_mul-result-3 : goal.overflow_mul-result-3
 overflow_mul-result-3 c =
     fits_as (same_product (read c.ranges.z) (read c.ranges.z)) (product c.requires.z_bound c.requires.z_bound)
 
+-- the sum of three squares fits
 pub overflow_add-result-2 : goal.overflow_add-result-2
 overflow_add-result-2 c =
     let first =
@@ -67,6 +68,7 @@ overflow_add-result-2 c =
     (triad c.requires.x_bound c.requires.y_bound c.requires.z_bound
     c.requires.x_bound c.requires.y_bound c.requires.z_bound)
 
+-- it is the square of the step
 pub returns-clause-value : goal.returns-clause-value
 unfolding square_of_step
 returns-clause-value c =

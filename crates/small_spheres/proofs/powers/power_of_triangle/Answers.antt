@@ -35,6 +35,7 @@ difference-requires-clause-q s = within_read w128 s.term-2.ensures.bound (lit< t
 pub difference-requires-clause-r : goal.difference-requires-clause-r
 difference-requires-clause-r s = within_read w128 s.term-3.ensures.bound (lit< tt)
 
+-- the power of the point by the triangle's sphere
 pub returns : goal.returns
 returns s =
     let a = s.args.a in

@@ -80,6 +80,7 @@ sum-requires-clause-q s = within_read w128 s.square-2.ensures.bound (lit< tt)
 pub sum-requires-clause-r : goal.sum-requires-clause-r
 sum-requires-clause-r s = within_read w128 s.square-3.ensures.bound (lit< tt)
 
+-- the square of the step to the centre, as it is multiplied out
 pub returns-clause-value : goal.returns-clause-value
 unfolding square_of_centre square_of_step
 returns-clause-value s =

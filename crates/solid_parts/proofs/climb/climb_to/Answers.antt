@@ -10,6 +10,7 @@ loop-now-init c = none_climbed c.args.leads.now c.args.links.now c.args.climb c.
 none_added : (n : ℕ) → n ≡ n + 0
 none_added n = omega arith
 
+-- the next link is taken, since its alpha is at most the number
 pub loop-now-preserved : goal.loop-now-preserved
 loop-now-preserved c =
     let start = c.args.leads.now in

@@ -26,6 +26,7 @@ put_cell-requires-clause-place c p e =
     subst (λ n. p < n) (length-map c.loop-index.parts.items (λ (v : Part). v.cells.items))
     (c.loop-index.invariant.within (get_or c.args.labels.now c.loop-index.index 0) p e)
 
+-- one cell more was looked at
 pub loop-index-preserved : goal.loop-index-preserved
 loop-index-preserved c =
     let cells = c.args.cells.now in

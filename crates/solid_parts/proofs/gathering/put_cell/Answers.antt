@@ -7,6 +7,7 @@ use Rattle.solid_parts.specs.Seen.{parts_seen}
 use Rattle.solid_parts.specs.Gathered.{place_at}
 use Rattle.solid_parts.proofs.gathering.put_cell.Goals as goal
 
+-- the cell comes last in the part of its label
 pub returns-in_ok-push-in-Some : goal.returns-in_ok-push-in-Some
 returns-in_ok-push-in-Some c =
     let parts = c.args.parts.now.items in

@@ -32,6 +32,7 @@ merge-apart-requires-clause-j c =
 pub merge-apart-requires-clause-down : goal.merge-apart-requires-clause-down
 merge-apart-requires-clause-down c = c.loop-number.invariant.down
 
+-- one number more: it is not marked, it is the first that is, or it is merged with that
 pub loop-number-preserved : goal.loop-number-preserved
 loop-number-preserved c =
     let marks = c.args.marks.now in

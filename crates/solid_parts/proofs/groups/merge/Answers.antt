@@ -9,6 +9,7 @@ use Rattle.solid_parts.proofs.groups.merge.Goals as goal
 equal : (a b : ℕ) → not (a == b) ≡ false → a ≡ b
 equal a b e = grind (arith, nat_tests)
 
+-- the greater label goes over into the lesser, or they are one
 pub returns-clause-merged : goal.returns-clause-merged
 returns-clause-merged c labels t =
     let a = c.find-a in

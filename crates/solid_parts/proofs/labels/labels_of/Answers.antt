@@ -11,6 +11,7 @@ loop-index-init c =
     leads_start c.args.faces.now c.args.marks.now _ (c.in_ok-leads.ensures ∙ ap
     (λ (v : List Cell). range_with_len 0 (length v)) c.cells.ensures)
 
+-- the cells of one triple more are joined
 pub loop-index-preserved : goal.loop-index-preserved
 loop-index-preserved c =
     let faces = c.args.faces.now in

@@ -6,6 +6,7 @@ use Rattle.solid_parts.proofs.links.put_links_of.Goals as goal
 pub loop-other-init : goal.loop-other-init
 loop-other-init c = no_others c.args.leasts.now c.args.one c.args.links.now.items c.requires.below
 
+-- the link to one more cell is put, or passed over
 pub loop-other-preserved : goal.loop-other-preserved
 loop-other-preserved c =
     let leasts = c.args.leasts.now in

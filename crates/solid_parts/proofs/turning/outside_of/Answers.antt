@@ -12,6 +12,7 @@ pub outer-requires : goal.outer-requires
 outer-requires c = subst (λ n. c.loop-index.index < n) (ap length c.triples-index-end.ensures ∙ length-map
     c.args.faces.now.triples (λ (f : List ℕ × List Cell). f.0)) c.loop-index-test.true
 
+-- one triple more: it is turned and put last, or it is not on the boundary
 pub loop-index-preserved : goal.loop-index-preserved
 loop-index-preserved c =
     let triples = c.args.faces.now.triples in

@@ -10,6 +10,7 @@ leader-requires-clause-best c =
     let t = c.args.points.now in
     lead_apart t (take c.loop-p.p-index t) c.args.a c.args.b c.args.c c.loop-p.best c.p-item.result c.loop-p.invariant (apart_place t c.loop-p.p-index c.p-item.result (distinct_ascending t c.requires) c.loop-p-test.true c.p-item.is)
 
+-- with one point more the apex of those so far is known, or none lies above
 pub loop-p-preserved : goal.loop-p-preserved
 loop-p-preserved c =
     let t = c.args.points.now in

@@ -18,6 +18,7 @@ returns-clause-stands c =
     subst (λ (x : InHand). Stands x h) (sym (c.put.ensures ∙ ap (with_bucket c.args.b content) c.in_ok-pass.ensures))
     (put_stands (empty_hold g) c.args.b content h (empty_stands g h (sound_of c.into_hold-home.result h st)) share)
 
+-- the bucket in hand is its share of the history of the mesh
 pub returns-clause-bucket : goal.returns-clause-bucket
 returns-clause-bucket c =
     let h = c.args.mesh.history in

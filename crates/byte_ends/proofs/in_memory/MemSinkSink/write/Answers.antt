@@ -38,6 +38,7 @@ returns-clause-cause c = answered _ _ _ (ap (λ (s : SinkState). s.calls) c.self
 same_length : (c : In-Ok) → c.len.result ≡ length c.self.inside.bytes.items
 same_length c = c.len.ensures ∙ c.self.inside.bytes.ok.0
 
+-- the count is how many bytes of the piece are held now
 pub returns-clause-count : goal.returns-clause-count
 returns-clause-count c =
     moved_count

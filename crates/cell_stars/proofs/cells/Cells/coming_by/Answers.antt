@@ -23,6 +23,7 @@ pub comes-requires-clause-found : goal.comes-requires-clause-found
 comes-requires-clause-found c t = c.requires.found t c.c-item.result
     (at_place c.args.fresh.now c.loop-c.c-index c.c-item.result c.c-item.result c.loop-c-test.true c.c-item.is)
 
+-- the next cell comes, or stands there already or touches another bucket
 pub loop-c-preserved : goal.loop-c-preserved
 loop-c-preserved c =
     let b = c.args.self.now in

@@ -1,9 +1,6 @@
 use Rattle.std.proofs.Common.{ℕ, List, [], Some, subst, ap, sym, ◌∙◌, length, drop, map, ◌≡◌, take, ◌++◌}
 use Rattle.list_laws.proofs.Cited.{front_is}
-use Rattle.point_order.specs.declared.cell.Cell.{Cell}
-use Rattle.point_order.specs.Sets.{IsAscending}
 use Rattle.cell_stars.specs.AtOnce.{AreKeyed, AreNumberedTo, FromCellHere, GainsPlaces, HaveKeys, StandsAtHere}
-use Rattle.cell_stars.specs.Gathering.{Gathers}
 use Rattle.cell_stars.specs.Places.{AreStars, Placed}
 use Rattle.cell_stars.proofs.AtOnce.{all_keyed, are_stars, bare_keyed, cells_are}
 use Rattle.cell_stars.proofs.cells.Cells.of_cells.Goals as goal
@@ -27,6 +24,7 @@ add_all-requires-clause-keys c =
     (all_keyed c.args.grid c.args.number c.args.cells.now l keys c.in_ok-vertices.ensures.vertices
     (subst (λ (v : List ℕ). AreNumberedTo (length v) v keys) c.deref.ensures.value c.in_ok-keys.ensures) x i)
 
+-- the stars are those of the cells
 pub invariant_of-made : goal.invariant_of-made
 invariant_of-made c =
     let g = c.args.grid in

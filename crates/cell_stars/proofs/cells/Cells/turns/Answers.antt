@@ -15,6 +15,7 @@ loop-n-init c = record {
   vertices = ap (map (λ (t : ℕ × ℕ). t.1)) c.in_ok-turns.ensures.items;
 }
 
+-- the next vertex has its own number, or gets the next spare one
 pub loop-n-preserved : goal.loop-n-preserved
 loop-n-preserved c =
     let x = c.loop-n-item.result in

@@ -31,6 +31,7 @@ index_mut-requires c =
     (sym c.bucket_of-b.ensures.number) c.bucket_of-b.ensures.below) in
     subst (λ n. b < n) (shown_len i.places.items ∙ sym i.places.ok.0) n
 
+-- the point is in its bucket, which is in hand
 pub drop_point_in-requires : goal.drop_point_in-requires
 drop_point_in-requires c =
     let i = c.self.inside in
@@ -50,6 +51,7 @@ drop_point_in-requires c =
     point_there b p places c.index_mut.result.now (ap (λ m. is_among p (points_in (shown places) m)) number ∙ known)
     at_b
 
+-- what was ready stays so, with the point taken out
 pub invariant_of-self : goal.invariant_of-self
 invariant_of-self c =
     let i = c.self.inside in
@@ -95,6 +97,7 @@ invariant_of-self c =
           (shown_is places b r.before was) (ap (λ k. k.place) r.cells) c.self.invariant.4),
     )
 
+-- the hold is dropped: its bucket has the point less
 pub returns-clause-dropped : goal.returns-clause-dropped
 returns-clause-dropped c =
     let i = c.self.inside in

@@ -14,6 +14,7 @@ pub swap_cells-requires-clause-found : goal.swap_cells-requires-clause-found
 swap_cells-requires-clause-found c b = back_found c.args.self.now c.drop_point.new.self c.args.gone.now c.args.fresh.now
     c.args.p c.requires.entered c.drop_point.ensures.dropped
 
+-- the point was dropped and the exchange made back, and there is room for both again
 pub returns : goal.returns
 returns c = record {
   left = record {

@@ -45,6 +45,7 @@ make_rooms-requires-clause-point c =
     (λ p k. held_there hold c.grid-grid.result p c.deref_mut.result.now c.grid-grid.ensures.grid
     (ap shown c.deref_mut.ensures.value ∙ ap (λ h. h.places) c.self.view_is) k) c.requires.point
 
+-- where memory is wanting for room, what was ready stays so
 pub invariant_of-self : goal.invariant_of-self
 invariant_of-self c =
     let i = c.self.inside in
@@ -68,6 +69,7 @@ invariant_of-self c =
       subst (StandAtPlaces i.grid) (sym (all_shown places after m)) c.self.invariant.4,
     )
 
+-- the hold is then as before
 pub returns-in_err-make_rooms-clause-err : goal.returns-in_err-make_rooms-clause-err
 returns-in_err-make_rooms-clause-err c =
     let i = c.self.inside in
@@ -88,6 +90,7 @@ returns-in_err-make_rooms-clause-err c =
       };
     }) (ap shown e ∙ all_shown places after m) ∙ c.self.view_is)
 
+-- with the plans that were made the exchange is ready too
 pub invariant_of-self-2 : goal.invariant_of-self-2
 invariant_of-self-2 c =
     let i = c.self.inside in
@@ -112,6 +115,7 @@ invariant_of-self-2 c =
       subst (StandAtPlaces i.grid) (sym (all_shown places after m)) c.self.invariant.4,
     )
 
+-- the hold is as before but for its room
 pub returns-clause-ok : goal.returns-clause-ok
 returns-clause-ok c =
     let i = c.self.inside in

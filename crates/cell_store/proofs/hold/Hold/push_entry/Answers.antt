@@ -28,6 +28,7 @@ note_in-requires c =
     let ready = some_holds (λ p. IsNoteReady i.grid places p) i.note p (sym (ap (λ h. h.room.push) c.self.view_is ∙ c.requires)) c.self.invariant.2 in
     subst (λ o. IsSomeAnd o HasRoom) (ap (layout_at places) (sym number) ∙ within_list places b c.index_mut.result.now None h c.index_mut.ensures.value) ready
 
+-- what was ready stays so, with the entry noted
 pub invariant_of-self : goal.invariant_of-self
 invariant_of-self c =
     let i = c.self.inside in

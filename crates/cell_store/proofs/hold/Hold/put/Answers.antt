@@ -10,6 +10,7 @@ use Rattle.cell_store.proofs.hold.Hold.put.Goals as goal
 pub placed-requires : goal.placed-requires
 placed-requires c = subst (λ g. FitsPlace g c.args.b (content_of c.args.bucket)) (sym (ap (λ h. h.grid) c.self.view_is)) c.requires.place
 
+-- what was ready stays so, with a bucket more
 pub invariant_of-self : goal.invariant_of-self
 invariant_of-self c =
     let i = c.self.inside in

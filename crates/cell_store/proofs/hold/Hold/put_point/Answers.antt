@@ -31,6 +31,7 @@ index_mut-requires c =
     (sym c.bucket_of-b.ensures.number) c.bucket_of-b.ensures.below) in
     subst (λ n. b < n) (shown_len i.places.items ∙ sym i.places.ok.0) n
 
+-- the bucket of the point is in hand and has room for it, and not the point
 pub put_point_in-requires : goal.put_point_in-requires
 put_point_in-requires c =
     let i = c.self.inside in
@@ -50,6 +51,7 @@ put_point_in-requires c =
     point_room i.grid b p places c.index_mut.result.now (some_holds (λ p. IsPointReady i.grid places p) i.point p
     (sym back) c.self.invariant.3) number (ap (λ m. is_among p (points_in (shown places) m)) number ∙ known) at_b
 
+-- what was ready stays so, with the point put in
 pub invariant_of-self : goal.invariant_of-self
 invariant_of-self c =
     let i = c.self.inside in
@@ -95,6 +97,7 @@ invariant_of-self c =
           (shown_is places b r.before was) (ap (λ k. k.place) r.cells) c.self.invariant.4),
     )
 
+-- the hold is put: its bucket has the point more
 pub returns-clause-put : goal.returns-clause-put
 returns-clause-put c =
     let i = c.self.inside in

@@ -22,6 +22,7 @@ made-requires-clause-apart c =
     let i = c.self.inside in
     (some_holds (λ e. IsReady e.turned i.grid e.gone.items e.fresh.items i.places.items e.plans.items) i.exchange x c.in-Some.ensures.value c.self.invariant.1).apart
 
+-- once the exchange is made what else was ready stays so, and the one back is ready where it can be made
 pub invariant_of-self : goal.invariant_of-self
 invariant_of-self c =
     let x = c.in-Some.exchange in
@@ -38,6 +39,7 @@ invariant_of-self c =
     subst (λ ps. (length ps ≡ i.grid * i.grid * i.grid) × IfSome c.made.result (λ y. IsReady y.turned i.grid y.gone.items y.fresh.items ps y.plans.items) × IfSome i.note (λ n. IsNoteReady i.grid ps n) × IfSome i.point (λ n. IsPointReady i.grid ps n) × StandAtPlaces i.grid (shown ps)) (sym e)
     (swap_keeps i.grid x c.made.result places after i.back ready c.self.invariant.4 m i.point i.note h (ap (λ k. k.grid) (sym c.self.view_is)) (ap (λ k. k.places) (sym c.self.view_is)) found c.self.invariant.0 c.self.invariant.2 c.self.invariant.3)
 
+-- the same on the other way through the call
 pub invariant_of-self-in-Some-2 : goal.invariant_of-self-in-Some-2
 invariant_of-self-in-Some-2 c =
     let x = c.in-Some.exchange in
@@ -54,6 +56,7 @@ invariant_of-self-in-Some-2 c =
     subst (λ ps. (length ps ≡ i.grid * i.grid * i.grid) × IfSome c.made.result (λ y. IsReady y.turned i.grid y.gone.items y.fresh.items ps y.plans.items) × IfSome i.note (λ n. IsNoteReady i.grid ps n) × IfSome i.point (λ n. IsPointReady i.grid ps n) × StandAtPlaces i.grid (shown ps)) (sym e)
     (swap_keeps i.grid x c.made.result places after i.back ready c.self.invariant.4 m i.point i.note h (ap (λ k. k.grid) (sym c.self.view_is)) (ap (λ k. k.places) (sym c.self.view_is)) found c.self.invariant.0 c.self.invariant.2 c.self.invariant.3)
 
+-- the hold is swapped
 pub returns-in-Some : goal.returns-in-Some
 returns-in-Some c = elim c.match-self-made.branch [
   | in-Some-1 w ↦ (

@@ -54,6 +54,7 @@ into_mesh-requires-clause-all c =
 pub into_mesh-requires-clause-stands : goal.into_mesh-requires-clause-stands
 into_mesh-requires-clause-stands c = (c.args.entries.now, c.loop-b.invariant.1.stands)
 
+-- the mesh has the history, with the share of each bucket
 pub returns : goal.returns
 returns c =
     let hold = c.loop-b.hold in

@@ -102,6 +102,7 @@ returns-clause-same g c =
     c.args.fresh.now c.args.p c.self.inside.count c.self.invariant grid places en c.enter.ensures.entered
     c.leave.ensures.left).0 ∙ c.self.view_is
 
+-- the function was lent buckets that show the set with the point, and what it found is returned
 pub returns-clause-found : goal.returns-clause-found
 returns-clause-found g c =
     let hold = c.self.inside.hold in

@@ -54,6 +54,7 @@ returns-clause-parts c h q =
     parts_next c.args.grid c.args.b h c.args.cells.now c.args.self.now c.replace-points.new.dest c.replace-entries.new.dest
     c.replace-places.new.dest _ refl refl refl q
 
+-- a bucket made of its parts is its share
 pub returns-clause-share : goal.returns-clause-share
 returns-clause-share c h q =
     let g = c.args.grid in

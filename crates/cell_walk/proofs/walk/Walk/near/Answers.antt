@@ -27,6 +27,7 @@ known : (o : Option BucketContent) → is_some o ≡ true → (x : BucketContent
 known (Some x) e = (x, refl)
 known None e = absurd (cc e)
 
+-- a cell at a point of the bucket begins a walk in every set that is shown
 pub returns-clause-walks : goal.returns-clause-walks
 returns-clause-walks c s shown new =
     let hold = c.args.hold.now in

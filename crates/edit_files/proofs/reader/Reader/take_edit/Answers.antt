@@ -7,6 +7,7 @@ use Rattle.edit_files.specs.Judging.{listed, with_edit, edit}
 use Rattle.edit_files.specs.declared.version.Version.{Version}
 use Rattle.edit_files.proofs.reader.Reader.take_edit.Goals as goal
 
+-- an edit line that is taken leads on among the edits
 pub returns : goal.returns
 returns c = λ newest.
     (let line : List ℕ = c.args.line.now in

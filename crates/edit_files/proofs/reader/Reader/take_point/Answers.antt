@@ -7,6 +7,7 @@ use Rattle.edit_files.specs.Judging.{listed, with_point, point}
 use Rattle.edit_files.specs.declared.version.Version.{Version}
 use Rattle.edit_files.proofs.reader.Reader.take_point.Goals as goal
 
+-- a point line that is taken leads on among the points
 pub returns : goal.returns
 returns c = λ newest.
     (let line : List ℕ = c.args.line.now in

@@ -13,4 +13,5 @@ returns-in-Ok-clause-reply c =
 pub invariant_of-self-in-Err : goal.invariant_of-self-in-Err
 invariant_of-self-in-Err c =
     rw c.in_ok-insert-in-Err.ensures.items
-    (ascending_inserted c.self.inside.points.items c.deref.result.now c.args.p c.in-Err.i c.deref.ensures.value c.in-Err.ensures.absent.1 c.self.invariant)
+    (ascending_inserted c.self.inside.points.items c.deref.result.now c.args.p c.in-Err.i c.deref.ensures.value
+    c.in-Err.ensures.absent.1 c.self.invariant)

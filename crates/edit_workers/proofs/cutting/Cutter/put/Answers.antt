@@ -7,6 +7,7 @@ use Rattle.edit_workers.proofs.Cuts.{cut_begins, cut_goes_on}
 use Rattle.edit_workers.proofs.cutting.Cutter.put.Goals as goal
 use Rattle.edit_workers.proofs.cutting.Cutter.put.Goals.{then-clashes+in_ok-begin, else-clashes}
 
+-- a line that clashes begins a new segment, and any other goes on with the present one
 pub returns : goal.returns
 returns c = λ lines cut.
     let old = c.args.self.now in
@@ -14,7 +15,8 @@ returns c = λ lines cut.
     let marks = c.clash.new.self in
     let was : Cutter = record { finished = old.finished; present = old.present; marks = marks } in
     let new : Cutter = record { finished = now.finished; present = c.put.new.segment; marks = c.note.new.self } in
-    let found = c.in_ok-clashes.ensures c.args.workers cut.present c.args.tag c.requires.some cut.present_is cut.marks in
+    let found =
+    c.in_ok-clashes.ensures c.args.workers cut.present c.args.tag c.requires.some cut.present_is cut.marks in
     let clash = sym found.0 in
     elim c.if-clashes.branch [
       | then-clashes+in_ok-begin w ↦

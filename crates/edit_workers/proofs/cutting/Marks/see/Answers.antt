@@ -9,6 +9,7 @@ use Rattle.edit_workers.proofs.cutting.Marks.see.Goals as goal
 pub returns-in_ok-self : goal.returns-in_ok-self
 returns-in_ok-self c = λ n lines some dealt are.
     marks_see n lines (lists_of c.args.segment.now) c.args.self.now
-    (record { moved = c.args.self.now.moved; seen = c.in_ok-self.field-0; are_seen = true }) some dealt are (λ p. refl) refl
+    (record { moved = c.args.self.now.moved; seen = c.in_ok-self.field-0; are_seen = true }) some dealt are
+    (λ p. refl) refl
     (λ p. c.in_ok-self.ensures p
     ∙ ap (λ (l : List lists.List). list_any (has_place p) (all_of (pairs_in l))) c.deref.ensures.value)

@@ -34,6 +34,7 @@ invariant_of-table c =
     let e = c.in_ok-board.ensures in
     (e.words, e.slots, c.in_ok-hold.ensures ∙ ap empty_hold (c.grid-grid.ensures.grid ∙ sym e.grid))
 
+-- the first pass of the table is at rest
 pub invariant_of-pass : goal.invariant_of-pass
 invariant_of-pass c =
     let h : List Entry = c.args.mesh.history in

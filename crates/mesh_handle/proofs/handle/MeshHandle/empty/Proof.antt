@@ -23,6 +23,7 @@ use Rattle.mesh_handle.specs.contracts.handle.MeshHandle.empty.Key.{name as #sel
 use Rattle.mesh_handle.proofs.handle.MeshHandle.empty.Statement.{statement}
 use Rattle.mesh_handle.proofs.handle.MeshHandle.empty.Code as code
 
+-- an empty handle owns nothing and is null
 pub empty_spec : {M : Type 1} → statement M
 empty_spec 𝓤 𝓛 𝓜 𝓡 wired =
     let H = 𝓛.H in let 𝓣 = tables 𝓤 H 𝓜 𝓡 𝓡.env in let En = ended in let c = clauses 𝓛 𝓜.mem 𝓡.returns in

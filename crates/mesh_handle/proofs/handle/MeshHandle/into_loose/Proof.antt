@@ -56,6 +56,7 @@ use Rattle.mesh_handle.specs.contracts.handle.MeshHandle.into_loose.Key.{name as
 use Rattle.mesh_handle.proofs.handle.MeshHandle.into_loose.Statement.{statement}
 use Rattle.mesh_handle.proofs.handle.MeshHandle.into_loose.Code as code
 
+-- of a handle that is not null the box comes out, and else none
 pub into_loose_spec : {M : Type 1} → statement M
 into_loose_spec 𝓤 𝓛 𝓜 𝓡 wired =
     let H = 𝓛.H in let 𝓣 = tables 𝓤 H 𝓜 𝓡 𝓡.env in let Z : RattleType = heap.the_row in

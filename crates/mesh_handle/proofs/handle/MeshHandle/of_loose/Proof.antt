@@ -32,6 +32,7 @@ use Rattle.mesh_handle.specs.contracts.handle.MeshHandle.of_loose.Key.{name as #
 use Rattle.mesh_handle.proofs.handle.MeshHandle.of_loose.Statement.{statement}
 use Rattle.mesh_handle.proofs.handle.MeshHandle.of_loose.Code as code
 
+-- a handle of a box keeps what the box had
 pub of_loose_spec : {M : Type 1} → statement M
 of_loose_spec 𝓤 𝓛 𝓜 𝓡 wired =
     let H = 𝓛.H in let 𝓣 = tables 𝓤 H 𝓜 𝓡 𝓡.env in let Z : RattleType = heap.the_row in

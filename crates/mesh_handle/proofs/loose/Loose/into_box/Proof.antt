@@ -65,6 +65,7 @@ use Rattle.mesh_handle.specs.contracts.loose.Loose.into_box.Key.{name as #self}
 use Rattle.mesh_handle.proofs.loose.Loose.into_box.Statement.{statement}
 use Rattle.mesh_handle.proofs.loose.Loose.into_box.Code as code
 
+-- the box has what its parts owned
 pub into_box_spec : {M : Type 1} → statement M
 into_box_spec 𝓤 𝓛 𝓜 𝓡 wired T A L LA g d dx dd allocator glue glued =
     let H = 𝓛.H in let 𝓣 = tables 𝓤 H 𝓜 𝓡 𝓡.env in let R : RattleType = param 0 T in let Z : RattleType = param 1 A in

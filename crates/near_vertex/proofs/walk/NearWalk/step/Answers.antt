@@ -8,6 +8,7 @@ use Rattle.near_vertex.specs.Turns.{bucket_under, IsNearWalkIn, HasStepped}
 use Rattle.near_vertex.proofs.Around.{beside_in, here_nearest, moved_before}
 use Rattle.near_vertex.proofs.walk.NearWalk.step.Goals as goal
 
+-- no point around comes before the walk's: it is the nearest of the set
 pub returns-then-eq : goal.returns-then-eq
 returns-then-eq c s st w =
     let hold = c.args.hold.now in
@@ -24,6 +25,7 @@ returns-then-eq c s st w =
     subst (λ (v : Nearing). (v ≡ v) × (x ≡ v.point) × IsSome (bucket_under hold v) × IsFirstOf v.place s x)
     c.self.view_is (refl, e, held, near)
 
+-- one does, and the walk moves to it
 pub returns : goal.returns
 returns c s st w =
     let hold = c.args.hold.now in

@@ -9,6 +9,7 @@ use Rattle.point_history.proofs.MoreLines.{all_picked, next_passed, next_picked,
 use Rattle.point_history.proofs.entries.Log.add_picked.Goals as goal
 use Rattle.point_history.proofs.entries.Log.add_picked.Goals.{then-is_picked+in_ok-add, else-is_picked}
 
+-- one line more: it passes and its entry is put last, or it does not
 pub loop-place-preserved : goal.loop-place-preserved
 loop-place-preserved c = λ lines was.
     let points = c.args.points.now in

@@ -36,6 +36,7 @@ returns-then-y-lt0-clause-refused c =
       ],
     ))
 
+-- the first number that is out of range is refused
 pub returns-then-z-lt0-clause-refused : goal.returns-then-z-lt0-clause-refused
 returns-then-z-lt0-clause-refused c =
     let x = given_coordinate (given c.ranges.x c.if-x-lt0.false c.if-x-gt16383.false) in

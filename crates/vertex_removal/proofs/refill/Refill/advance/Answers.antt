@@ -46,6 +46,7 @@ cells_coming-requires c =
       star_is = star_list r.0 v c.deref-in-Some-2-2.result.now (c.deref-in-Some-2-2.ensures.value ∙ c.in_ok-gone.ensures r.0 r.1);
     }
 
+-- the turn asks for a needed bucket, or knows what comes, or that the rest is flat
 pub returns-clause-turn : goal.returns-clause-turn
 returns-clause-turn c =
     let held = at_none c.missing_bucket.result (AreHeld c.args.hold.now c.deref.result.now) (λ b. IsCellMissing c.args.hold.now c.deref.result.now b) c.in_default.not-Some c.missing_bucket.ensures in

@@ -1,5 +1,5 @@
 use Rattle.list_laws.proofs.Cited.{arranged_same}
-use Rattle.face_list.proofs.alone.in_order.Goals as goal
+use Rattle.face_list.proofs.gather.sorted.Goals as goal
 
 pub each_once-requires-clause-order : goal.each_once-requires-clause-order
 each_once-requires-clause-order g c = c.sort_unstable.ensures.sorted

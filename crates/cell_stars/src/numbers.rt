@@ -1,0 +1,28 @@
+//! Numbers of 32 bits, in which places and stars are counted.
+
+ghost use Rattle.std.specs.Prelude.{◌≡◌, ◌+◌, ◌<◌, ◌≤◌, ◌^◌, IfOk, OnOk, OnErr};
+
+use std::alloc::AllocError;
+
+// A count as a number of 32 bits. Want of memory, exactly where the count is 2^32 or more.
+pub(crate) fn as_number(count: usize) -> Result<u32, AllocError>
+    ensures value { IfOk result (λ number. number ≡ count) }
+    ensures few { OnOk result (count < 2 ^ 32) }
+    ensures many { OnErr result (2 ^ 32 ≤ count) }
+{
+    match u32::try_from(count) {
+        Ok(number) => Ok(number),
+        Err(_) => Err(AllocError),
+    }
+}
+
+// The number behind one. Want of memory, exactly where the one is the last of 32 bits.
+pub(crate) fn number_behind(n: u32) -> Result<u32, AllocError>
+    ensures next { IfOk result (λ next. next ≡ n + 1) }
+    ensures last { OnErr result (n + 1 ≡ 2 ^ 32) }
+{
+    match n.checked_add(1) {
+        Some(next) => Ok(next),
+        None => Err(AllocError),
+    }
+}

@@ -1,0 +1,41 @@
+use Rattle.std.proofs.Common.{ℕ, ◌<◌, ◌≤◌, ◌+◌, ◌++◌, ap, subst, ◌∙◌, length, List, arith}
+use Rattle.point_order.specs.Sets.{IsIn}
+use Rattle.face_list.proofs.FaceLists.{items_name}
+use Rattle.face_list.proofs.Growing.{gathered_more}
+use Rattle.face_list.proofs.around.add.Goals as goal
+
+pub keys_of_full-requires-clause-numbers : goal.keys_of_full-requires-clause-numbers
+keys_of_full-requires-clause-numbers g c i m =
+    items_name g.K.Part.parts_of c.args.cells.now i (c.requires.items i ((c.sorted-items.ensures.same i).0 (subst (IsIn i) c.deref.ensures.value m))).0
+
+pub returns : goal.returns
+returns g c =
+    let first = c.args.first in
+    let first_of = g.K.First.first_of in
+    let items = c.sorted-items.result.items in
+    let told = λ (i : g.row.K.Denot × ℕ) (m : IsIn i items). c.requires.items i ((c.sorted-items.ensures.same i).0 m) in
+    gathered_more
+    g.K.Ord.cmp
+    g.met.K.Ord.total
+    c.args.cells.now
+    _
+    (λ k. first_of k < first)
+    (λ k. first_of k ≤ first)
+    c.args.so_far.now
+    _
+    items
+    c.in_ok-keys.keys.items
+    c.requires.so_far
+    c.sorted-items.ensures.order
+    (λ i m. (told i m).0)
+    (λ i m. (let e = (told i m).1 in omega (arith, e)))
+    (λ k h. omega (arith, h))
+    (λ k j h m. g.met.K.Part.begins k j.0 (let e = (told j m).1 in omega (arith, h, e)))
+    c.in_ok-keys.ensures.order
+    (λ k. rw (← c.deref.ensures.value) (c.in_ok-keys.ensures.keys k))
+    (c.in_ok-extend_from_slice.ensures.items ∙ ap (λ (v : List g.row.K.Denot). c.args.so_far.now.table.keys.items ++ v) c.deref-4.ensures.value)
+    (c.in_ok-put_lists.ensures.ends ∙ ap (λ (v : List g.row.K.Denot). length c.args.so_far.now.table.ends.items + length v) c.deref-2.ensures.value)
+    c.in_ok-put_lists.ensures.stops
+    (rw (← c.deref-2.ensures.value, ← c.deref-3.ensures.value) c.in_ok-put_lists.ensures.lists)
+    (λ n m. rw (← c.deref-3.ensures.value) (c.in_ok-put_lists.ensures.numbers n m))
+    (let a = c.in_ok-so_far.ensures in let b = c.len.ensures in let d = c.sorted-items.result.ok.0 in omega (arith, a, b, d))

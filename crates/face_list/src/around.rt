@@ -1,0 +1,294 @@
+//! Tables gathered point by point: the parts that begin with a point are parts of the cells around it.
+
+ghost use Rattle.std.specs.Prelude.{
+  ◌≡◌,
+  ◌<◌,
+  ◌≤◌,
+  ◌^◌,
+  ℕ,
+  List,
+  length,
+  ⊤,
+  IfOk,
+  IfSome,
+  OnOk,
+};
+ghost use Rattle.std.specs.List.Sorted.{IsStrictlySortedBy};
+ghost use Rattle.std.specs.Ordering.{nat_cmp};
+ghost use Rattle.std.specs.declared.cmp.Ordering.TheVariants.{Less};
+ghost use Rattle.std.proofs.lemmas.Map.Lookups.{CmpEqualImpliesEq};
+ghost use Rattle.point_order.specs.declared.cell.Cell.{Cell};
+ghost use Rattle.point_order.specs.Facets.{points_of};
+ghost use Rattle.point_order.specs.Sets.{IsIn};
+ghost use Rattle.point_order.specs.Subsets.{subsets};
+ghost use Rattle.face_list.specs.Around.{AreGathered, ArePut, first_point};
+ghost use Rattle.face_list.specs.Gather.{Gathers, items_from};
+ghost use Rattle.face_list.specs.Order.{before_by_first};
+ghost use Rattle.face_list.specs.Tables.{IsTable, cell_at};
+
+use crate::counts::sum_of;
+use crate::gather::{keys_of_full, put_lists, sorted};
+use crate::parts::triples_of_tri;
+use crate::table::Table;
+use point_order::{Cell, Pair, Point, Tri};
+use std::alloc::{AllocError, Global};
+
+/// What has a first point.
+pub trait First: Copy {
+    /// Its key.
+    ghost first_of: { Self → ℕ };
+
+    /// The first point.
+    fn first(&self) -> Point
+        ensures { result ≡ first_of self.now };
+}
+
+impl First for Pair {
+    ghost first_of = { first_point };
+
+    fn first(&self) -> Point {
+        let (first, _) = self.corners();
+        first
+    }
+}
+
+impl First for Tri {
+    ghost first_of = { first_point };
+
+    fn first(&self) -> Point {
+        let (first, _, _) = self.corners();
+        first
+    }
+}
+
+/// A kind of parts of cells, whose order begins with their first points.
+pub trait Part: Ord + First {
+    /// The parts of a cell.
+    ghost parts_of: { Cell → List Self };
+
+    /// How many parts a cell has.
+    fn count(cell: &Cell) -> usize
+        ensures { result ≡ length (parts_of cell.now) };
+
+    /// Puts the number of a cell under those of its parts that begin with a point.
+    fn put_from(
+        items: &mut Vec<(Self, u32)>,
+        cell: &Cell,
+        number: u32,
+        first: Point,
+    ) -> Result<(), AllocError>
+        ensures { OnOk result (ArePut (parts_of cell.now) Self.first_of number first items.old.items items.new.items) };
+
+    /// About how many different parts some points have, whose cells have so many in all.
+    fn room(total: usize, points: usize) -> usize;
+
+    /// One with a lesser first point comes before another.
+    ghost begins: { (a b : Self) → Self.first_of a < Self.first_of b → Self.cmp a b ≡ Less };
+}
+
+impl Part for Pair {
+    ghost parts_of = { λ c. subsets 2 (points_of c) };
+
+    fn count(cell: &Cell) -> usize {
+        match cell {
+            Cell::Full(quad) => quad.pairs().len(),
+            Cell::Open(tri) => tri.pairs().len(),
+        }
+    }
+
+    fn put_from(
+        items: &mut Vec<(Self, u32)>,
+        cell: &Cell,
+        number: u32,
+        first: Point,
+    ) -> Result<(), AllocError> {
+        match cell {
+            Cell::Full(quad) => put_first(items, &quad.pairs(), number, first),
+            Cell::Open(tri) => put_first(items, &tri.pairs(), number, first),
+        }
+    }
+
+    // By Euler's formula one for each cell and point, but for the hull.
+    fn room(total: usize, points: usize) -> usize {
+        (total / 6).saturating_add(points)
+    }
+
+    ghost begins = { before_by_first };
+}
+
+impl Part for Tri {
+    ghost parts_of = { λ c. subsets 3 (points_of c) };
+
+    fn count(cell: &Cell) -> usize {
+        match cell {
+            Cell::Full(quad) => quad.triples().len(),
+            Cell::Open(tri) => triples_of_tri(*tri).len(),
+        }
+    }
+
+    fn put_from(
+        items: &mut Vec<(Self, u32)>,
+        cell: &Cell,
+        number: u32,
+        first: Point,
+    ) -> Result<(), AllocError> {
+        match cell {
+            Cell::Full(quad) => put_first(items, &quad.triples(), number, first),
+            Cell::Open(tri) => put_first(items, &triples_of_tri(*tri), number, first),
+        }
+    }
+
+    // Each is in two cells.
+    fn room(total: usize, _points: usize) -> usize {
+        total / 2
+    }
+
+    ghost begins = { before_by_first };
+}
+
+// Puts the number of a cell under those of some parts that begin with a point.
+fn put_first<K: First>(
+    items: &mut Vec<(K, u32)>,
+    parts: &[K],
+    number: u32,
+    first: Point,
+) -> Result<(), AllocError>
+    ensures { OnOk result (ArePut parts.now K.first_of number first items.old.items items.new.items) }
+{
+    for part in parts {
+        if part.first().key() == first.key() {
+            items.push((*part, number))?;
+        }
+    }
+    Ok(())
+}
+
+// How many parts cells have, each counted in each of its cells.
+fn part_count<K: Part>(cells: &[Cell]) -> Result<usize, AllocError>
+    ensures { IfOk result (λ n. n ≡ length (items_from 0 K.parts_of cells.now)) }
+{
+    let mut count: usize = 0;
+    for cell in cells {
+        count = sum_of(count, K::count(cell))?;
+    }
+    Ok(count)
+}
+
+/// What is gathered so far: a table, and how many items there were.
+#[derive(Drop)]
+pub struct Gathering<K> {
+    pub table: Table<K>,
+    pub count: usize,
+}
+
+// The items of the parts that begin with a point, of the cells of some numbers.
+fn items_around<K: Part>(
+    alloc: Global,
+    cells: &[Cell],
+    around: &[u32],
+    first: Point,
+) -> Result<Vec<(K, u32)>, AllocError>
+    ensures { IfOk result (λ v. (i : K × ℕ) → IsIn i v.items →
+        IsIn i (items_from 0 K.parts_of cells.now) × (K.first_of i.0 ≡ first)) }
+{
+    let mut items = Vec::with_capacity(alloc, around.len().saturating_mul(2))?;
+    for number in around {
+        if (*number as usize) < cells.len() {
+            K::put_from(&mut items, &cells[*number as usize], *number, first)?;
+        }
+    }
+    Ok(items)
+}
+
+// Adds the items of a point, which comes behind the first points of all others.
+fn add<K: Part>(
+    alloc: Global,
+    cells: &[Cell],
+    so_far: &mut Gathering<K>,
+    items: Vec<(K, u32)>,
+    first: Point,
+) -> Result<(), AllocError>
+    requires exact { CmpEqualImpliesEq K.cmp }
+    requires so_far { AreGathered K.cmp cells.now (items_from 0 K.parts_of cells.now) (λ k. K.first_of k < first)
+        so_far.old }
+    requires items { (i : K × ℕ) → IsIn i items.items →
+        IsIn i (items_from 0 K.parts_of cells.now) × (K.first_of i.0 ≡ first) }
+    ensures { OnOk result (AreGathered K.cmp cells.now (items_from 0 K.parts_of cells.now)
+        (λ k. K.first_of k ≤ first)
+        so_far.new) }
+{
+    let items = sorted(items);
+    let keys = keys_of_full(alloc, cells, &items)?;
+    put_lists(
+        &mut so_far.table.ends,
+        &mut so_far.table.numbers,
+        &keys,
+        &items,
+    )?;
+    so_far.table.keys.extend_from_slice(&keys)?;
+    so_far.count = sum_of(so_far.count, items.len())?;
+    Ok(())
+}
+
+// Nothing yet, with room for so many keys and numbers.
+fn nothing<K: Part>(alloc: Global, room: usize, total: usize) -> Result<Gathering<K>, AllocError>
+    ensures { IfOk result (λ g. (cells : List Cell) (all : List (K × ℕ)) →
+        AreGathered K.cmp cells all (λ k. ⊥) g) }
+{
+    Ok(Gathering {
+        table: Table {
+            keys: Vec::with_capacity(alloc, room)?,
+            ends: Vec::with_capacity(alloc, room)?,
+            numbers: Vec::with_capacity(alloc, total)?,
+        },
+        count: 0,
+    })
+}
+
+// Adds the items of all points.
+fn add_all<K: Part>(
+    alloc: Global,
+    cells: &[Cell],
+    so_far: &mut Gathering<K>,
+    points: &Table<Point>,
+) -> Result<(), AllocError>
+    requires exact { CmpEqualImpliesEq K.cmp }
+    requires so_far { AreGathered K.cmp cells.now (items_from 0 K.parts_of cells.now) (λ k. ⊥) so_far.old }
+    requires points { IsTable (length cells.now) points.now }
+    requires order { IsStrictlySortedBy nat_cmp points.now.keys.items }
+    ensures { OnOk result (AreGathered K.cmp cells.now (items_from 0 K.parts_of cells.now) (λ k. ⊤) so_far.new) }
+{
+    for index in 0..points.keys.len() {
+        let (first, around) = points.face(index);
+        let items = items_around(alloc, cells, around, first)?;
+        add(alloc, cells, so_far, items, first)?;
+    }
+    Ok(())
+}
+
+/// Each key of a Full cell, in order, with the numbers of its cells, in order: gathered by the points of Full cells, and
+/// where each item is of such a point, as it is in a complex.
+///
+/// # Errors
+/// Want of memory. Where there are more numbers than 32 bits count, there is none.
+pub fn table_around<K: Part>(
+    alloc: Global,
+    cells: &[Cell],
+    points: &Table<Point>,
+) -> Result<Option<Table<K>>, AllocError>
+    requires exact { CmpEqualImpliesEq K.cmp }
+    requires points { IsTable (length cells.now) points.now }
+    requires order { IsStrictlySortedBy nat_cmp points.now.keys.items }
+    ensures gathers { IfOk result (λ o. IfSome o (λ t. Gathers K.cmp cells.now (items_from 0 K.parts_of cells.now) t)) }
+    ensures table { IfOk result (λ o. IfSome o (λ t. IsTable (length cells.now) t)) }
+{
+    let total = part_count::<K>(cells)?;
+    let room = K::room(total, points.keys.len());
+    let mut so_far = nothing(alloc, room, total)?;
+    add_all(alloc, cells, &mut so_far, points)?;
+    if so_far.count == total {
+        Ok(Some(so_far.table))
+    } else {
+        Ok(None)
+    }
+}
