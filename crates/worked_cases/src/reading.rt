@@ -31,34 +31,38 @@ impl Word for Point {
     }
 }
 
-// What stands before the sign of an edit, and the edit: behind `+` or `-` its point, or behind `=` a place and, behind
-// `>`, where its point moves.
-fn edit_of(word: &str) -> Option<(&str, Edit)> {
+// The sign of an edit, what stands before it, its tag or nothing, and what stands behind it.
+fn parts_of(word: &str) -> Option<(&str, char, &str)> {
     let sign = word.chars().find(|c| matches!(c, '+' | '-' | '='))?;
     let (tag, places) = word.split_once(sign)?;
-    let edit = match sign {
-        '+' => Edit::Add(Point::of(places)?),
-        '-' => Edit::Take(Point::of(places)?),
+    Some((tag, sign, places))
+}
+
+// What stands behind the sign of an edit: a point, or behind `=` a place and, behind `>`, where its point moves.
+fn edit_behind(sign: char, places: &str) -> Option<Edit> {
+    match sign {
+        '+' => Point::of(places).map(Edit::Add),
+        '-' => Point::of(places).map(Edit::Take),
         _ => {
             let (from, to) = places.split_once('>')?;
-            Edit::Move(Point::of(from)?, Point::of(to)?)
+            Some(Edit::Move(Point::of(from)?, Point::of(to)?))
         }
-    };
-    Some((tag, edit))
+    }
 }
 
 // An edit, with a tag before it or without.
 impl Word for Edit {
     fn of(word: &str) -> Option<Edit> {
-        let (_, edit) = edit_of(word)?;
-        Some(edit)
+        let (_, sign, places) = parts_of(word)?;
+        edit_behind(sign, places)
     }
 }
 
 // An edit and its tag.
 impl Word for (u32, Edit) {
     fn of(word: &str) -> Option<(u32, Edit)> {
-        let (tag, edit) = edit_of(word)?;
+        let (tag, sign, places) = parts_of(word)?;
+        let edit = edit_behind(sign, places)?;
         Some((tag.parse::<u32>().ok()?, edit))
     }
 }
