@@ -70,11 +70,11 @@ zip_count (x ∷ xs) [] e = absurd (omega (arith, e))
 zip_count (x ∷ xs) (y ∷ ys) e = ap suc (zip_count xs ys (omega (arith, e)))
 
 -- as many faces with thresholds as numbers
-pub step_count : {X : Type 0} (xs : List X) (alphas : List FaceAlphas) → length alphas ≡ length xs →
-    length alphas ≡ length (steps_of xs alphas)
-step_count xs alphas e =
-    let n = length-map alphas (λ (a : FaceAlphas). threshold_of a.admitted) in
-    sym n ∙ sym (zip_count xs (map (λ a. threshold_of a.admitted) alphas) (n ∙ e))
+pub step_count : {X : Type 0} (xs : List X) (ns : List ℕ) → length ns ≡ length xs →
+    length ns ≡ length (steps_of xs ns)
+step_count xs ns e =
+    let n = length-map ns threshold_of in
+    sym n ∙ sym (zip_count xs (map threshold_of ns) (n ∙ e))
 
 -- there are as many cells with thresholds as numbers
 pub cell_step_count : (cells : List Cell) (ns : List ℕ) → length ns ≡ length cells →
@@ -84,13 +84,13 @@ cell_step_count cells ns e = sym (length-map (zip cells ns) (λ (c : Cell × ℕ
 
 -- the face of an index with its threshold
 pub step_is :
-    {X : Type 0} (xs : List X) (alphas : List FaceAlphas) (i : ℕ) (x : X) (d : FaceAlphas) (t : Threshold)
-    (r : X × Threshold) → i < length xs → i < length alphas →
-    x ≡ get_or xs i x → t ≡ threshold_of (get_or alphas i d).admitted → (x, t) ≡ get_or (steps_of xs alphas) i r
-step_is [] alphas i x d t r h k e f = absurd (omega (arith, h))
+    {X : Type 0} (xs : List X) (ns : List ℕ) (i : ℕ) (x : X) (d : ℕ) (t : Threshold)
+    (r : X × Threshold) → i < length xs → i < length ns →
+    x ≡ get_or xs i x → t ≡ threshold_of (get_or ns i d) → (x, t) ≡ get_or (steps_of xs ns) i r
+step_is [] ns i x d t r h k e f = absurd (omega (arith, h))
 step_is (y ∷ xs) [] i x d t r h k e f = absurd (omega (arith, k))
-step_is (y ∷ xs) (b ∷ alphas) zero x d t r h k e f = ap₂ (λ v w. (v, w)) e f
-step_is (y ∷ xs) (b ∷ alphas) (suc i) x d t r h k e f = step_is xs alphas i x d t r (omega (arith, h))
+step_is (y ∷ xs) (b ∷ ns) zero x d t r h k e f = ap₂ (λ v w. (v, w)) e f
+step_is (y ∷ xs) (b ∷ ns) (suc i) x d t r h k e f = step_is xs ns i x d t r (omega (arith, h))
     (omega (arith, k)) e f
 
 -- and the cell of an index
@@ -103,13 +103,11 @@ cell_step_is (x ∷ cells) (y ∷ ns) (suc i) c n h k = cell_step_is cells ns i 
 
 -- ---- what is listed
 
--- the faces of faces with thresholds are these
-zip_firsts : {X : Type 0} (xs : List X) (alphas : List FaceAlphas) → length alphas ≡ length xs →
-    map (λ f. f.0) (steps_of xs alphas) ≡ xs
+zip_firsts : {X : Type 0} (xs : List X) (ns : List ℕ) → length ns ≡ length xs → map (λ f. f.0) (steps_of xs ns) ≡ xs
 zip_firsts [] [] e = refl
-zip_firsts [] (a ∷ alphas) e = absurd (omega (arith, e))
+zip_firsts [] (n ∷ ns) e = absurd (omega (arith, e))
 zip_firsts (x ∷ xs) [] e = absurd (omega (arith, e))
-zip_firsts {X} (x ∷ xs) (a ∷ alphas) e = ap (λ (v : List X). x ∷ v) (zip_firsts xs alphas (omega (arith, e)))
+zip_firsts {X} (x ∷ xs) (n ∷ ns) e = ap (λ (v : List X). x ∷ v) (zip_firsts xs ns (omega (arith, e)))
 
 -- the cells are the Full ones
 pub cell_firsts : (cells : List Cell) (ns : List ℕ) → length ns ≡ length cells →
@@ -153,9 +151,13 @@ step_from s face n h = elim (cases_lt n (2 ^ 34)) [
     above : (alpha : ℕ) → alpha < n → nat_le n alpha ≡ false
     above alpha k = grind (arith, nat_tests)
 
+-- the number at which a face is admitted
+abbrev pub admitted_at : FaceAlphas → ℕ
+admitted_at a = a.admitted
+
 -- of faces
 steps_told : (s : List ℕ) (faces : List (List ℕ)) (alphas : List FaceAlphas) → AllZip (TellsFace s) faces alphas →
-    (f : List ℕ × Threshold) → IsIn f (steps_of faces alphas) → IsStep s f.0 f.1
+    (f : List ℕ × Threshold) → IsIn f (steps_of faces (map admitted_at alphas)) → IsStep s f.0 f.1
 steps_told s [] alphas z f i = absurd i
 steps_told s (p ∷ faces) [] z f i = absurd i
 steps_told s (p ∷ faces) (a ∷ alphas) z f (inl e) = subst (λ (v : List ℕ × Threshold). IsStep s v.0 v.1) e
@@ -185,35 +187,43 @@ points_are [] cells = refl
 points_are (p ∷ points) cells = ap (λ l. p ∷ l) (points_are points cells)
 
 -- the thresholds of the complex of a set
-pub thresholds_are : (s : List ℕ) (faces : FaceLists) (known : Alphas) → AreFacesOf s faces → known.faces.now ≡ faces →
-    TellsFaces s known → AreThresholds s (steps_seen (record { known = known }))
-thresholds_are s faces known h e t =
-    let pairs : map (λ f. f.0) known.faces.now.pairs ≡ parts 2 = ap (λ (v : FaceLists). map (λ f. f.0) v.pairs) e ∙ ap
+pub thresholds_are :
+    (s : List ℕ) (faces : FaceLists) (known : Alphas) (t : Inside) → AreFacesOf s faces → t.faces.now ≡ faces →
+    TellsFaces s known → t.pairs.items ≡ map admitted_at known.pairs.items →
+    t.triples.items ≡ map admitted_at known.triples.items → t.cells.items ≡ known.cells.items →
+    AreThresholds s (steps_seen t)
+thresholds_are s faces known t h e told pe te ce =
+    let pairs : map (λ f. f.0) t.faces.now.pairs ≡ parts 2 = ap (λ (v : FaceLists). map (λ f. f.0) v.pairs) e ∙ ap
     (λ (v : List (List ℕ × List Cell)). map (λ f. f.0) v) h.pairs ∙ faces_are (parts 2) (complex s) in
-    let triples : map (λ f. f.0) known.faces.now.triples ≡ parts 3 =
+    let triples : map (λ f. f.0) t.faces.now.triples ≡ parts 3 =
     ap (λ (v : FaceLists). map (λ f. f.0) v.triples) e ∙ ap (λ (v : List (List ℕ × List Cell)). map (λ f. f.0) v)
     h.triples ∙ faces_are (parts 3) (complex s) in
-    let cells : known.faces.now.cells ≡ complex s = ap (λ (v : FaceLists). v.cells) e ∙ h.cells in
-    let pair_count = length_zip (TellsFace s) (parts 2) known.pairs.items t.pairs in
-    let triple_count = length_zip (TellsFace s) (parts 3) known.triples.items t.triples in
-    let cell_count = length_zip (λ c n. IsLeastOf (λ alpha. is_admitted_cell s alpha c) n) (complex s) known.cells.items
-    t.cells in
+    let cells : t.faces.now.cells ≡ complex s = ap (λ (v : FaceLists). v.cells) e ∙ h.cells in
+    let pair_count = ap length pe ∙ length-map known.pairs.items admitted_at ∙ sym
+    (length_zip (TellsFace s) (parts 2) known.pairs.items told.pairs) in
+    let triple_count = ap length te ∙ length-map known.triples.items admitted_at ∙ sym
+    (length_zip (TellsFace s) (parts 3) known.triples.items told.triples) in
+    let cell_count = ap length ce ∙ sym
+    (length_zip (λ c n. IsLeastOf (λ alpha. is_admitted_cell s alpha c) n) (complex s) known.cells.items told.cells) in
     record {
       points = ap (λ (v : FaceLists). map (λ f. f.0) v.points) e ∙ ap (λ (v : List (ℕ × List Cell)). map (λ f. f.0) v)
           h.points ∙ points_are (points_in (complex s)) (complex s)
           ∙ points_of_complex s h.ascending h.keys h.solid;
-      pairs = ap (λ (v : List (List ℕ)). map (λ f. f.0) (steps_of v known.pairs.items)) pairs ∙ zip_firsts (parts 2)
-          known.pairs.items (sym pair_count);
-      triples = ap (λ (v : List (List ℕ)). map (λ f. f.0) (steps_of v known.triples.items)) triples ∙ zip_firsts
-          (parts 3) known.triples.items (sym triple_count);
-      cells = ap (λ (v : List Cell). map (λ f. f.0) (held (cell_steps_of v known.cells.items))) cells ∙ cell_firsts
-          (complex s) known.cells.items (sym cell_count);
-      of_pairs = λ f i. steps_told s (parts 2) known.pairs.items t.pairs f
-          (subst (λ (v : List (List ℕ)). IsIn f (steps_of v known.pairs.items)) pairs i);
-      of_triples = λ f i. steps_told s (parts 3) known.triples.items t.triples f
-          (subst (λ (v : List (List ℕ)). IsIn f (steps_of v known.triples.items)) triples i);
-      of_cells = λ f i. cell_steps_told s (complex s) known.cells.items t.cells f
-          (subst (λ (v : List Cell). IsIn f (held (cell_steps_of v known.cells.items))) cells i);
+      pairs = ap (λ (v : List (List ℕ)). map (λ f. f.0) (steps_of v t.pairs.items)) pairs ∙ zip_firsts (parts 2)
+          t.pairs.items pair_count;
+      triples = ap (λ (v : List (List ℕ)). map (λ f. f.0) (steps_of v t.triples.items)) triples ∙ zip_firsts
+          (parts 3) t.triples.items triple_count;
+      cells = ap (λ (v : List Cell). map (λ f. f.0) (held (cell_steps_of v t.cells.items))) cells ∙ cell_firsts
+          (complex s) t.cells.items cell_count;
+      of_pairs = λ f i. steps_told s (parts 2) known.pairs.items told.pairs f
+          (subst (λ (v : List ℕ). IsIn f (steps_of (parts 2) v)) pe
+          (subst (λ (v : List (List ℕ)). IsIn f (steps_of v t.pairs.items)) pairs i));
+      of_triples = λ f i. steps_told s (parts 3) known.triples.items told.triples f
+          (subst (λ (v : List ℕ). IsIn f (steps_of (parts 3) v)) te
+          (subst (λ (v : List (List ℕ)). IsIn f (steps_of v t.triples.items)) triples i));
+      of_cells = λ f i. cell_steps_told s (complex s) known.cells.items told.cells f
+          (subst (λ (v : List ℕ). IsIn f (held (cell_steps_of (complex s) v))) ce
+          (subst (λ (v : List Cell). IsIn f (held (cell_steps_of v t.cells.items))) cells i));
     }
   where
     parts : ℕ → List (List ℕ)
@@ -223,28 +233,28 @@ thresholds_are s faces known h e t =
 
 -- there are as many numbers as pairs that are seen
 pub pairs_as_seen : (t : Inside) (v : StepSlots) → AreCounted t → steps_seen t ≡ v →
-    length t.known.pairs.items ≡ length v.pairs
+    length t.pairs.items ≡ length v.pairs
 pairs_as_seen t v h e =
-    step_count (map (λ f. f.0) t.known.faces.now.pairs) t.known.pairs.items
-    (h.pairs ∙ sym (length-map t.known.faces.now.pairs (λ (f : List ℕ × List Cell). f.0)))
+    step_count (map (λ f. f.0) t.faces.now.pairs) t.pairs.items
+    (h.pairs ∙ sym (length-map t.faces.now.pairs (λ (f : List ℕ × List Cell). f.0)))
     ∙ ap (λ (w : StepSlots). length w.pairs) e
 
 -- as many as triples
 pub triples_as_seen : (t : Inside) (v : StepSlots) → AreCounted t → steps_seen t ≡ v →
-    length t.known.triples.items ≡ length v.triples
+    length t.triples.items ≡ length v.triples
 triples_as_seen t v h e =
-    step_count (map (λ f. f.0) t.known.faces.now.triples) t.known.triples.items
-    (h.triples ∙ sym (length-map t.known.faces.now.triples (λ (f : List ℕ × List Cell). f.0)))
+    step_count (map (λ f. f.0) t.faces.now.triples) t.triples.items
+    (h.triples ∙ sym (length-map t.faces.now.triples (λ (f : List ℕ × List Cell). f.0)))
     ∙ ap (λ (w : StepSlots). length w.triples) e
 
 -- as many as slots of cells
 pub cells_as_seen : (t : Inside) (v : StepSlots) → AreCounted t → steps_seen t ≡ v →
-    length t.known.cells.items ≡ length v.cells
-cells_as_seen t v h e = cell_step_count t.known.faces.now.cells t.known.cells.items h.cells ∙ ap
+    length t.cells.items ≡ length v.cells
+cells_as_seen t v h e = cell_step_count t.faces.now.cells t.cells.items h.cells ∙ ap
     (λ (w : StepSlots). length w.cells) e
 
 -- and as many Full cells as slots that hold one
 pub cells_held : (t : Inside) (v : StepSlots) → AreCounted t → steps_seen t ≡ v →
-    length (full_cells t.known.faces.now.cells) ≡ length (held v.cells)
-cells_held t v h e = cell_held t.known.faces.now.cells t.known.cells.items h.cells ∙ ap
+    length (full_cells t.faces.now.cells) ≡ length (held v.cells)
+cells_held t v h e = cell_held t.faces.now.cells t.cells.items h.cells ∙ ap
     (λ (w : StepSlots). length (held w.cells)) e

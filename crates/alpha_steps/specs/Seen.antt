@@ -2,7 +2,6 @@
 use Rattle.std.specs.Prelude.{◌≡◌, ℕ, ◌^◌, List, map, length, zip, nat_lt, Option, None, Some, if◌then◌else◌}
 use Rattle.point_order.specs.declared.cell.Cell.{Cell}
 use Rattle.point_order.specs.declared.cell.Cell.TheVariants.{Full, Open}
-use Rattle.alpha_complex.specs.declared.numbers.FaceAlphas.{FaceAlphas}
 use Rattle.alpha_steps.specs.declared.threshold.Threshold.{Threshold}
 use Rattle.alpha_steps.specs.declared.threshold.Threshold.TheVariants.{At, Never}
 use Rattle.alpha_steps.specs.declared.steps.Thresholds.TheInside.{Inside}
@@ -19,9 +18,9 @@ pub record StepSlots : Type 0 where
 abbrev pub threshold_of : ℕ → Threshold
 threshold_of n = if nat_lt n (2 ^ 34) then At n else Never
 
--- faces, each with the threshold that its numbers tell
-abbrev pub steps_of : {X : Type 0} → List X → List FaceAlphas → List (X × Threshold)
-steps_of faces alphas = zip faces (map (λ a. threshold_of a.admitted) alphas)
+-- faces, each with the threshold that its number tells
+abbrev pub steps_of : {X : Type 0} → List X → List ℕ → List (X × Threshold)
+steps_of faces numbers = zip faces (map threshold_of numbers)
 
 -- a cell with that of its number, where it is Full
 abbrev pub step_of_cell : Cell → ℕ → Option (List ℕ × Threshold)
@@ -35,14 +34,14 @@ cell_steps_of cells numbers = map (λ c. step_of_cell c.0 c.1) (zip cells number
 abbrev pub steps_seen : Inside → StepSlots
 steps_seen t =
     record {
-      points = map (λ f. f.0) t.known.faces.now.points;
-      pairs = steps_of (map (λ f. f.0) t.known.faces.now.pairs) t.known.pairs.items;
-      triples = steps_of (map (λ f. f.0) t.known.faces.now.triples) t.known.triples.items;
-      cells = cell_steps_of t.known.faces.now.cells t.known.cells.items;
+      points = map (λ f. f.0) t.faces.now.points;
+      pairs = steps_of (map (λ f. f.0) t.faces.now.pairs) t.pairs.items;
+      triples = steps_of (map (λ f. f.0) t.faces.now.triples) t.triples.items;
+      cells = cell_steps_of t.faces.now.cells t.cells.items;
     }
 
 -- As many numbers as faces.
 pub record AreCounted (t : Inside) : Type 0 where
-  pub pairs : length t.known.pairs.items ≡ length t.known.faces.now.pairs
-  pub triples : length t.known.triples.items ≡ length t.known.faces.now.triples
-  pub cells : length t.known.cells.items ≡ length t.known.faces.now.cells
+  pub pairs : length t.pairs.items ≡ length t.faces.now.pairs
+  pub triples : length t.triples.items ≡ length t.faces.now.triples
+  pub cells : length t.cells.items ≡ length t.faces.now.cells

@@ -6,7 +6,7 @@ ghost use Rattle.text_sheets.specs.Lines.{held};
 ghost use Rattle.alpha_steps.specs.Seen.{cell_steps_of, step_of_cell, steps_of};
 
 use crate::threshold::{Threshold, threshold_of};
-use alpha_complex::{Alphas, FaceAlphas};
+use face_list::Faces;
 use point_order::{Cell, Pair, Point, Quad, Tri};
 use std::marker::Model;
 
@@ -14,7 +14,11 @@ use std::marker::Model;
 /// the faces.
 #[derive(Drop)]
 pub struct Thresholds<'a, 'b> {
-    pub(crate) known: Alphas<'a, 'b>,
+    pub(crate) faces: &'a Faces<'b>,
+    // The least alpha of each, 2^34 or more where there is none.
+    pub(crate) pairs: Vec<u64>,
+    pub(crate) triples: Vec<u64>,
+    pub(crate) cells: Vec<u64>,
 }
 
 impl<'a, 'b> Model for Thresholds<'a, 'b> {
@@ -29,14 +33,13 @@ impl<'a, 'b> Model for Thresholds<'a, 'b> {
     ghost invariant = { AreCounted };
 }
 
-// A face of an index with the threshold of its numbers.
-fn step_at<F: Copy>(faces: &[F], alphas: &[FaceAlphas], index: usize) -> (F, Threshold)
+// A face of an index with the threshold of its number.
+fn step_at<F: Copy>(faces: &[F], leasts: &[u64], index: usize) -> (F, Threshold)
     requires faces { index < length faces.now }
-    requires alphas { index < length alphas.now }
-    ensures { result ≡ slice_index_or (steps_of faces.now alphas.now) index result }
+    requires leasts { index < length leasts.now }
+    ensures { result ≡ slice_index_or (steps_of faces.now leasts.now) index result }
 {
-    let numbers = alphas[index];
-    (faces[index], threshold_of(numbers.admitted))
+    (faces[index], threshold_of(leasts[index]))
 }
 
 // A cell with the threshold of its number, where it is Full.
@@ -76,14 +79,14 @@ impl<'a, 'b> Thresholds<'a, 'b> {
     pub fn points(&self) -> &[Point]
         ensures { result.now ≡ self.now.points }
     {
-        self.known.faces.points()
+        self.faces.points()
     }
 
     /// How many pairs there are.
     pub fn pair_count(&self) -> usize
         ensures { result ≡ length self.now.pairs }
     {
-        self.known.pairs.len()
+        self.pairs.len()
     }
 
     /// The pair of an index, in lexicographic order, with its threshold.
@@ -91,14 +94,14 @@ impl<'a, 'b> Thresholds<'a, 'b> {
         requires { index < length self.now.pairs }
         ensures { result ≡ slice_index_or self.now.pairs index result }
     {
-        step_at(self.known.faces.pairs(), &self.known.pairs, index)
+        step_at(self.faces.pairs(), &self.pairs, index)
     }
 
     /// How many triples there are.
     pub fn triple_count(&self) -> usize
         ensures { result ≡ length self.now.triples }
     {
-        self.known.triples.len()
+        self.triples.len()
     }
 
     /// The triple of an index, in lexicographic order, with its threshold.
@@ -106,14 +109,14 @@ impl<'a, 'b> Thresholds<'a, 'b> {
         requires { index < length self.now.triples }
         ensures { result ≡ slice_index_or self.now.triples index result }
     {
-        step_at(self.known.faces.triples(), &self.known.triples, index)
+        step_at(self.faces.triples(), &self.triples, index)
     }
 
     /// How many cells the complex has, Open ones too, in their order.
     pub fn cell_slots(&self) -> usize
         ensures { result ≡ length self.now.cells }
     {
-        self.known.cells.len()
+        self.cells.len()
     }
 
     /// The cell of an index with its threshold, where it is Full.
@@ -121,13 +124,13 @@ impl<'a, 'b> Thresholds<'a, 'b> {
         requires { index < length self.now.cells }
         ensures { result ≡ slice_index_or self.now.cells index None }
     {
-        cell_step_at(self.known.faces.cells(), &self.known.cells, index)
+        cell_step_at(self.faces.cells(), &self.cells, index)
     }
 
     /// How many Full cells there are.
     pub fn cell_count(&self) -> usize
         ensures { result ≡ length (held self.now.cells) }
     {
-        full_count(self.known.faces.cells())
+        full_count(self.faces.cells())
     }
 }

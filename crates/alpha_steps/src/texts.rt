@@ -117,6 +117,24 @@ fn put_all<O: Sink>(sheet: &mut Sheet<O>, list: &Thresholds)
     sheet.put(b"end\n");
 }
 
+// How many bytes a line has at most that names so many points of a list.
+fn line_room(points: usize, corners: usize) -> usize {
+    let digits = points.max(1).ilog10() as usize + 2;
+    digits.saturating_mul(corners).saturating_add(12)
+}
+
+/// How many bytes the text has at most: what is to hold it whole takes room for so many at once, in place of growing.
+pub fn text_room(list: &Thresholds) -> usize {
+    let points = list.points().len();
+    let pairs = list.pair_count().saturating_mul(line_room(points, 2));
+    let triples = list.triple_count().saturating_mul(line_room(points, 3));
+    let cells = list.cell_count().saturating_mul(line_room(points, 4));
+    pairs
+        .saturating_add(triples)
+        .saturating_add(cells)
+        .saturating_add(128)
+}
+
 /// Writes the text of the thresholds. It takes no memory.
 ///
 /// # Errors

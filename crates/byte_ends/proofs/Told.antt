@@ -34,7 +34,8 @@ use Rattle.std.proofs.lemmas.List.{take_rest, take-append-le, length-take-le}
 use Rattle.byte_ends.specs.Ends.{AppendsFront, TakesInto}
 
 -- a piece arrived whole, and then a front of what comes after it
-pub AppendsFront_after : (a b c : Option (List ℕ)) (piece text : List ℕ) → Appends a b piece → AppendsFront b c text → AppendsFront a c (piece ++ text)
+pub AppendsFront_after : (a b c : Option (List ℕ)) (piece text : List ℕ) → Appends a b piece → AppendsFront b c text →
+    AppendsFront a c (piece ++ text)
 AppendsFront_after a b c piece text whole f = record {
   front = piece ++ f.front;
   rest = f.rest;
@@ -43,13 +44,16 @@ AppendsFront_after a b c piece text whole f = record {
 }
 
 -- a text was written up to its rest, and then a part of the rest: what is left is the range behind that part
-pub written_more : (a b c : Option (List ℕ)) (text rest : List ℕ) (count : ℕ) → ((front : List ℕ) × (text ≡ front ++ rest) × Appends a b front)
-    → Appends b c (take count rest) → (front : List ℕ) × (text ≡ front ++ take (length rest - count) (drop count rest)) × Appends a c front
+pub written_more : (a b c : Option (List ℕ)) (text rest : List ℕ) (count : ℕ) →
+    ((front : List ℕ) × (text ≡ front ++ rest) × Appends a b front)
+    → Appends b c (take count rest) → (front : List ℕ) × (text ≡ front ++ take (length rest - count) (drop count rest))
+    × Appends a c front
 written_more a b c text rest count before part =
     let split : rest ≡ take count rest ++ take (length rest - count) (drop count rest) =
     sym (ap (λ l. take count rest ++ l) (take_rest rest count) ∙ take-append-drop count rest) in
     let whole : text ≡ (before.0 ++ take count rest) ++ take (length rest - count) (drop count rest) =
-    before.1 ∙ ap (λ l. before.0 ++ l) split ∙ sym (append_assoc before.0 (take count rest) (take (length rest - count) (drop count rest))) in
+    before.1 ∙ ap (λ l. before.0 ++ l) split ∙ sym (append_assoc before.0 (take count rest)
+    (take (length rest - count) (drop count rest))) in
     (before.0 ++ take count rest, whole, Appends-trans a b c before.0 (take count rest) before.2 part)
 
 -- bytes were taken, and then more
@@ -75,19 +79,24 @@ pub TakesInto_all : {a b : Option (List ℕ)} {old new : List ℕ} {m : ℕ} →
 TakesInto_all {a} {b} {old} {new} h e = Consumes-all a b h.taken old new h.consumed e h.kept
 
 -- a list grew by a front of what a reading left in a buffer, no longer than the part that the reading wrote
-pub grown_by_front : {new now old : List ℕ} (buffer rest : List ℕ) (count : ℕ) → new ≡ now ++ take count (buffer ++ rest) → now ≡ old → count ≤ length buffer
+pub grown_by_front : {new now old : List ℕ} (buffer rest : List ℕ) (count : ℕ) →
+    new ≡ now ++ take count (buffer ++ rest) → now ≡ old → count ≤ length buffer
     → new ≡ old ++ take count buffer
-grown_by_front {new} {now} buffer rest count e f h = e ∙ ap (λ l. now ++ l) (take-append-le count buffer rest h) ∙ ap (λ l. l ++ take count buffer) f
+grown_by_front {new} {now} buffer rest count e f h =
+    e ∙ ap (λ l. now ++ l) (take-append-le count buffer rest h) ∙ ap (λ l. l ++ take count buffer) f
 
 -- with a front of a buffer behind it a list is as much longer
-pub longer_by_front : {new now old : ℕ} (buffer rest : List ℕ) (count : ℕ) → new ≡ now + length (take count (buffer ++ rest)) → now ≡ old → count ≤ length buffer
+pub longer_by_front : {new now old : ℕ} (buffer rest : List ℕ) (count : ℕ) →
+    new ≡ now + length (take count (buffer ++ rest)) → now ≡ old → count ≤ length buffer
     → new ≡ old + count
 longer_by_front buffer rest count e f h =
-    let l : length (take count (buffer ++ rest)) ≡ count = length-take-le count (buffer ++ rest) (omega (arith, length-append buffer rest)) in
+    let l : length (take count (buffer ++ rest)) ≡ count =
+    length-take-le count (buffer ++ rest) (omega (arith, length-append buffer rest)) in
     omega (arith, e, f, l)
 
 -- nothing was taken
-pub takes_none : {a b : Option (List ℕ)} {old new : List ℕ} (limit : ℕ) → Keeps a b → new ≡ old → TakesInto a b old new limit
+pub takes_none : {a b : Option (List ℕ)} {old new : List ℕ} (limit : ℕ) → Keeps a b → new ≡ old →
+    TakesInto a b old new limit
 takes_none {a} {b} {old} limit k e = record {
   taken = [];
   consumed = Consumes-kept a a b [] (Consumes-nil a) k;
@@ -97,13 +106,15 @@ takes_none {a} {b} {old} limit k e = record {
 
 -- What a reading of a part of a buffer gave, the part being no longer than the room: it is within the room, it fits
 -- where the part does, and there is a part.
-module _ (buffer whole : List ℕ) (count part room : ℕ) (bound : count ≤ length buffer) (read : length buffer ≡ length (take part whole)) where
+module _ (buffer whole : List ℕ) (count part room : ℕ) (bound : count ≤ length buffer)
+    (read : length buffer ≡ length (take part whole)) where
   -- what was read is within the room
   pub within_part : (most : ℕ) → part ≡ min room most → count ≤ room
   within_part most p = omega (arith, length-take part whole)
 
   -- a list with it fits where one with the part does
-  pub fits_front : (rest : List ℕ) (len capacity : ℕ) → len + part ≤ capacity → len + length (take count (buffer ++ rest)) ≤ capacity
+  pub fits_front : (rest : List ℕ) (len capacity : ℕ) → len + part ≤ capacity →
+      len + length (take count (buffer ++ rest)) ≤ capacity
   fits_front rest len capacity h = omega (arith, length-take part whole, length-take count (buffer ++ rest))
 
   -- where there is room and a buffer, there is a part
@@ -124,7 +135,8 @@ no_value (Ok x) f e = absurd (cc)
 no_value (Err y) f e = absurd (cc)
 
 -- an error is no other error
-pub no_other : {T E : Type 0} {P : Type 0} {x y : E} (r : Result T E) → IsErrAnd r (λ e. e ≡ x) → (x ≡ y → ⊥) → r ≡ Err y → P
+pub no_other : {T E : Type 0} {P : Type 0} {x y : E} (r : Result T E) → IsErrAnd r (λ e. e ≡ x) → (x ≡ y → ⊥) →
+    r ≡ Err y → P
 no_other (Ok v) f differ e = absurd f
 no_other (Err z) f differ e = absurd (differ (cc))
 

@@ -1,5 +1,23 @@
 -- The search for a first cell that a new point takes away, bucket by bucket.
-use Rattle.std.specs.Prelude.{◌≡◌, refl, ℕ, ◌+◌, ◌*◌, ◌%◌, ◌<◌, ◌≤◌, true, List, [], ◌∷◌, None, Some, IsSome, ◌==◌, length}
+use Rattle.std.specs.Prelude.{
+  ◌≡◌,
+  refl,
+  ℕ,
+  ◌+◌,
+  ◌*◌,
+  ◌%◌,
+  ◌<◌,
+  ◌≤◌,
+  true,
+  List,
+  [],
+  ◌∷◌,
+  None,
+  Some,
+  IsSome,
+  ◌==◌,
+  length,
+}
 use Rattle.std.proofs.Common.{inl, ap, sym, subst, ◌∙◌, arith}
 use Rattle.point_order.specs.declared.cell.Cell.{Cell}
 use Rattle.point_order.specs.declared.cell.Cell.TheVariants.{Full, Open}
@@ -23,18 +41,22 @@ use Rattle.list_laws.proofs.Cited.{any_from, filtered_from, filtered_true, in_mo
 use Rattle.cell_conflict.specs.Searching.{NoneGoes}
 
 -- the cells of a bucket in hand
-cells_are : (hold : InHand) (b : ℕ) (x : BucketContent) → bucket_at hold.places b ≡ Some x → cells_in hold.places b ≡ x.cells
+cells_are : (hold : InHand) (b : ℕ) (x : BucketContent) → bucket_at hold.places b ≡ Some x →
+    cells_in hold.places b ≡ x.cells
 cells_are hold b x e = rw e refl
 
 -- a cell of a bucket in hand is one of the complex
-pub in_complex : (hold : InHand) (h : List ℕ) (b : ℕ) (c : Cell) → Shows hold h → IsSome (bucket_at hold.places b) → IsIn c (cells_in hold.places b) → IsIn c (complex h) × (touches hold.grid b c ≡ true)
+pub in_complex : (hold : InHand) (h : List ℕ) (b : ℕ) (c : Cell) → Shows hold h → IsSome (bucket_at hold.places b) →
+    IsIn c (cells_in hold.places b) → IsIn c (complex h) × (touches hold.grid b c ≡ true)
 in_complex hold h b c st o i =
     let x = some_of (bucket_at hold.places b) o in
     let share = (st.sights b x.0 x.1).cells in
-    filtered_from (touches hold.grid b) (complex h) c (subst (λ (l : List Cell). IsIn c l) (cells_are hold b x.0 x.1 ∙ share) i)
+    filtered_from (touches hold.grid b) (complex h) c (subst (λ (l : List Cell). IsIn c l)
+    (cells_are hold b x.0 x.1 ∙ share) i)
 
 -- and the bucket of one of its points is in hand
-pub not_none : (hold : InHand) (h : List ℕ) (b : ℕ) (c : Cell) → Shows hold h → IsSome (bucket_at hold.places b) → IsIn c (cells_in hold.places b) → NoneInHand hold (points_of c) → ⊥
+pub not_none : (hold : InHand) (h : List ℕ) (b : ℕ) (c : Cell) → Shows hold h → IsSome (bucket_at hold.places b) →
+    IsIn c (cells_in hold.places b) → NoneInHand hold (points_of c) → ⊥
 not_none hold h b c st o i none =
     let x = some_of (bucket_at hold.places b) o in
     let r = any_from (λ p. bucket_of hold.grid p == b) (points_of c) (in_complex hold h b c st o i).1 in
@@ -45,15 +67,19 @@ not_none hold h b c st o i none =
     clash e = cc e
 
 -- the cells of a bucket, in another order
-pub in_items : (hold : InHand) (b : ℕ) (x : BucketContent) (rest : List Cell) (c : Cell) → bucket_at hold.places b ≡ Some x → IsPermutation x.cells rest → IsIn c (cells_in hold.places b) → IsIn c rest
-in_items hold b x rest c e p i = in_moved' x.cells rest c p (subst (λ (l : List Cell). IsIn c l) (cells_are hold b x e) i)
+pub in_items : (hold : InHand) (b : ℕ) (x : BucketContent) (rest : List Cell) (c : Cell) →
+    bucket_at hold.places b ≡ Some x → IsPermutation x.cells rest → IsIn c (cells_in hold.places b) → IsIn c rest
+in_items hold b x rest c e p i =
+    in_moved' x.cells rest c p (subst (λ (l : List Cell). IsIn c l) (cells_are hold b x e) i)
   where
     in_moved' : (l m : List Cell) (c : Cell) → IsPermutation l m → IsIn c l → IsIn c m
     in_moved' l m c p i = in_moved m l c (IsPermutation-sym l m p) i
 
 -- a cell of them is one of the bucket
-pub of_items : (hold : InHand) (b : ℕ) (x : BucketContent) (rest : List Cell) (c : Cell) → bucket_at hold.places b ≡ Some x → IsPermutation x.cells rest → IsIn c rest → IsIn c (cells_in hold.places b)
-of_items hold b x rest c e p i = subst (λ (l : List Cell). IsIn c l) (sym (cells_are hold b x e)) (in_moved x.cells rest c p i)
+pub of_items : (hold : InHand) (b : ℕ) (x : BucketContent) (rest : List Cell) (c : Cell) →
+    bucket_at hold.places b ≡ Some x → IsPermutation x.cells rest → IsIn c rest → IsIn c (cells_in hold.places b)
+of_items hold b x rest c e p i =
+    subst (λ (l : List Cell). IsIn c l) (sym (cells_are hold b x e)) (in_moved x.cells rest c p i)
 
 -- an empty list has no member
 pub none_in : (l : List Cell) (c : Cell) → length l ≡ 0 → IsIn c l → ⊥
@@ -64,8 +90,10 @@ none_in (x ∷ l) c e i = cc e
 
 -- a cell of a complex has a point
 pub some_point : (s : List ℕ) → IsAscending s → (c : Cell) → IsIn c (complex s) → (p : ℕ) × IsIn p (points_of c)
-some_point s a (Full q) i = let l = listed_is_cell s (Full q) a i in (l.a, subst (λ (v : List ℕ). IsIn l.a v) (sym l.is) (inl refl))
-some_point s a (Open q) i = let l = listed_is_cell s (Open q) a i in (l.a, subst (λ (v : List ℕ). IsIn l.a v) (sym l.is) (inl refl))
+some_point s a (Full q) i =
+    let l = listed_is_cell s (Full q) a i in (l.a, subst (λ (v : List ℕ). IsIn l.a v) (sym l.is) (inl refl))
+some_point s a (Open q) i =
+    let l = listed_is_cell s (Open q) a i in (l.a, subst (λ (v : List ℕ). IsIn l.a v) (sym l.is) (inl refl))
 
 -- some cell goes, and it is in the bucket of one of its points
 pub some_goes :
@@ -83,16 +111,21 @@ some_goes hold h p has all st new =
         b,
         subst (λ n. b < n) (sym has.places) (bucket_below hold.grid e.0 has.size),
         subst (λ (l : List Cell). IsIn rim.gone l) (sym (cells_are hold b x.0 x.1 ∙ (st.sights b x.0 x.1).cells))
-            (filtered_true (touches hold.grid b) (complex h) rim.gone rim.goes.before (touched hold.grid e.0 b rim.gone refl e.1)),
+            (filtered_true (touches hold.grid b) (complex h) rim.gone rim.goes.before
+            (touched hold.grid e.0 b rim.gone refl e.1)),
       ),
     )
 
 -- so the round finds the cell
 pub unmet :
-    (hold : InHand) (h : List ℕ) (p g first count step : ℕ) → HasPlaces hold → AllInHand hold → Shows hold h → IsNew h p → g ≡ hold.grid → first ≡ bucket_of g p → bucket_of g p < g * g * g →
-    count ≡ g * g * g → count ≤ step → ((i : ℕ) → i < step → NoneGoes h p (cells_in hold.places ((first + i) % count))) → ⊥
+    (hold : InHand) (h : List ℕ) (p g first count step : ℕ) → HasPlaces hold → AllInHand hold → Shows hold h →
+    IsNew h p → g ≡ hold.grid → first ≡ bucket_of g p → bucket_of g p < g * g * g →
+    count ≡ g * g * g → count ≤ step → ((i : ℕ) → i < step → NoneGoes h p
+    (cells_in hold.places ((first + i) % count))) → ⊥
 unmet hold h p g first count step has all st new eg ef below ec k none =
     let c = some_goes hold h p has all st new in
     let places : count ≡ length hold.places = ec ∙ ap (λ v. v * v * v) eg ∙ sym has.places in
-    let r = round first c.2.0 count (subst (λ n. first < n) (sym ec) (subst (λ b. b < g * g * g) (sym ef) below)) (subst (λ n. c.2.0 < n) (sym places) c.2.1) in
-    none r.0 (let l = r.1 in omega (arith, l, k)) c.0 (subst (λ b. IsIn c.0 (cells_in hold.places b)) (sym r.2) c.2.2) c.1
+    let r = round first c.2.0 count (subst (λ n. first < n) (sym ec) (subst (λ b. b < g * g * g) (sym ef) below))
+    (subst (λ n. c.2.0 < n) (sym places) c.2.1) in
+    none r.0 (let l = r.1 in omega (arith, l, k)) c.0 (subst (λ b. IsIn c.0 (cells_in hold.places b)) (sym r.2) c.2.2)
+    c.1

@@ -15,7 +15,9 @@ use Rattle.cell_store.specs.Buckets.{InHand}
 use Rattle.cell_store.specs.Shares.{NoneInHand, points_on}
 
 -- a facet of a cell is on two cells: a third is one of them
-pub one_of_two : (s : List ℕ) → IsSet s → (f : Facet) (c other q : Cell) → IsIn c (complex s) → IsIn f (facets_of c) → IsIn other (complex s) → IsIn f (facets_of other) → ¬ (other ≡ c) → IsIn q (complex s) → IsIn f (facets_of q) → (c ≡ q) ⊎ (other ≡ q)
+pub one_of_two : (s : List ℕ) → IsSet s → (f : Facet) (c other q : Cell) → IsIn c (complex s) → IsIn f (facets_of c) →
+    IsIn other (complex s) → IsIn f (facets_of other) → ¬ (other ≡ c) → IsIn q (complex s) → IsIn f (facets_of q) →
+    (c ≡ q) ⊎ (other ≡ q)
 one_of_two s i f c other q m n k l differs a b =
     let o = listed_facets s c f i.ascending i.keys m n in
     pick (o.only other k l) (o.only q a b)
@@ -26,17 +28,20 @@ one_of_two s i f c other q m n k l differs a b =
     pick (inr e) (inr r) = inr (e ∙ sym r)
 
 -- a point of a facet of a listed cell is one of the cell's
-pub on_cell : (s : List ℕ) → IsSet s → (q : Cell) → IsIn q (complex s) → (f : Facet) → IsIn f (facets_of q) → (e : ℕ) → IsIn e (points_on f) → IsIn e (points_of q)
+pub on_cell : (s : List ℕ) → IsSet s → (q : Cell) → IsIn q (complex s) → (f : Facet) → IsIn f (facets_of q) → (e : ℕ) →
+    IsIn e (points_on f) → IsIn e (points_of q)
 on_cell s i q m (Three t) n e k = facet_inside q ((lists_of s i).ordered q m) (Three t) n e k
 on_cell s i q m (Two t) n e k = facet_inside q ((lists_of s i).ordered q m) (Two t) n e k
 
 -- and there is one
-pub some_on : (s : List ℕ) → IsSet s → (q : Cell) → IsIn q (complex s) → (f : Facet) → IsIn f (facets_of q) → (e : ℕ) × IsIn e (points_on f)
+pub some_on : (s : List ℕ) → IsSet s → (q : Cell) → IsIn q (complex s) → (f : Facet) → IsIn f (facets_of q) →
+    (e : ℕ) × IsIn e (points_on f)
 some_on s i q m (Three t) n = let r = facet_point q ((lists_of s i).ordered q m) (Three t) n in (r.0, r.1)
 some_on s i q m (Two t) n = let r = facet_point q ((lists_of s i).ordered q m) (Two t) n in (r.0, r.1)
 
 -- where a facet is not without a bucket in hand, no cell on it is
-pub held_on : (hold : InHand) (s : List ℕ) → IsSet s → (q : Cell) → IsIn q (complex s) → (f : Facet) → IsIn f (facets_of q) → ¬ (NoneInHand hold (points_on f)) → ¬ (NoneInHand hold (points_of q))
+pub held_on : (hold : InHand) (s : List ℕ) → IsSet s → (q : Cell) → IsIn q (complex s) → (f : Facet) →
+    IsIn f (facets_of q) → ¬ (NoneInHand hold (points_on f)) → ¬ (NoneInHand hold (points_of q))
 held_on hold s i q m f n k none = k (λ e j. none e (on_cell s i q m f n e j))
 
 -- an Open cell has its triple for a facet

@@ -24,7 +24,6 @@ use Rattle.std.specs.Prelude.{
   ◌==◌,
 }
 use Rattle.std.proofs.Common.{refl, sym, ◌∙◌, ap, subst, inl, inr, arith, take, add-one}
-use Rattle.std.specs.List.{zip}
 use Rattle.std.proofs.lemmas.List.{map-append}
 use Rattle.list_laws.proofs.Cited.{
   at_place,
@@ -330,23 +329,6 @@ staying_more b freed x list new s v f p i w m = elim (in_pushed list new (x.0, s
   | inr e ↦ subst (IsStaying b freed) e (subst (λ (q : ℕ). (i : ℕ) → (IsIn i s.1 → IsStarred b.keys b.stars q i ×
       (IsIn i freed → ⊥)) × (IsStarred b.keys b.stars q i × (IsIn i freed → ⊥) → IsIn i s.1)) (sym v) f)
 ]
-
--- the vertices of turns that are made one after another
-pub turns_more : (pairs : List (ℕ × ℕ)) (n k : ℕ) (x : ℕ × ℕ) (list new : List (ℕ × ℕ)) → n < length pairs →
-    x ≡ slice_index_or pairs n x → new ≡ list ++ (k, x.1) ∷ [] → map (λ t. t.1) list ≡ map (λ t. t.1)
-    (take n pairs) → map (λ t. t.1) new ≡ map (λ t. t.1) (take (n + 1) pairs)
-turns_more pairs n k x list new h e p i =
-    ap (map (λ (t : ℕ × ℕ). t.1)) p ∙ map-append (λ (t : ℕ × ℕ). t.1) list ((k, x.1) ∷ []) ∙ ap (λ
-    (l : List ℕ). l ++ x.1 ∷ []) i
-    ∙ sym (map-append (λ (t : ℕ × ℕ). t.1) (take n pairs) (x ∷ [])) ∙ ap (map (λ (t : ℕ × ℕ). t.1)) (sym
-    (take_next pairs n x h e))
-
--- the vertices of numbers and vertices side by side are these
-pub second_of_zip : (us ps : List ℕ) → length us ≡ length ps → map (λ t. t.1) (zip us ps) ≡ ps
-second_of_zip [] [] e = refl
-second_of_zip [] (p ∷ ps) e = absurd (omega (arith, e))
-second_of_zip (u ∷ us) [] e = absurd (omega (arith, e))
-second_of_zip (u ∷ us) (p ∷ ps) e = ap (λ (l : List ℕ). p ∷ l) (second_of_zip us ps (omega (arith, e)))
 
 -- ---- the stars after an exchange
 

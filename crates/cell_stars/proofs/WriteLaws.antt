@@ -1,14 +1,15 @@
 -- The stars after an exchange.
-use Rattle.std.specs.Prelude.{◌≡◌, ℕ, ◌+◌, ◌<◌, ◌≤◌, Bool, true, false, not, List, [], ◌∷◌, ◌⊎◌, length, slice_index, slice_index_or, MatchBool, ◌==◌}
-use Rattle.std.specs.List.{filter, zip}
-use Rattle.std.proofs.Common.{refl, sym, ◌∙◌, ap, subst, inl, inr, arith}
-use Rattle.list_laws.proofs.Cited.{Gathered, Made, filtered_from, filtered_true, gather_all, gather_step, in_zip, made_all, same_from, zip_apart, zip_has, zip_single}
+use Rattle.std.specs.Prelude.{◌≡◌, ℕ, ◌+◌, ◌<◌, ◌≤◌, Bool, true, false, not, List, [], ◌∷◌, ◌++◌, ◌⊎◌, length, map, slice_index, slice_index_or, MatchBool, ◌==◌}
+use Rattle.std.specs.List.{filter}
+use Rattle.std.proofs.Common.{refl, sym, ◌∙◌, ap, subst, inl, inr, arith, take}
+use Rattle.std.proofs.lemmas.List.{map-append, take_all}
+use Rattle.list_laws.proofs.Cited.{Gathered, below_each, filtered_from, filtered_true, gather_all, gather_step, in_pushed, mapped_from, mapped_true, same_from, take_next}
 use Rattle.point_order.specs.declared.cell.Cell.{Cell}
 use Rattle.point_order.specs.Facets.{points_of}
 use Rattle.point_order.specs.Sets.{IsIn, IsAscending}
 use Rattle.cell_stars.specs.Places.{Placed, IsStarred, lies_in, star_at}
 use Rattle.cell_stars.specs.Plans.{AreFor, AreVertices}
-use Rattle.cell_stars.specs.Moves.{AreTouched, AreNumbered, IsNumberFor, IsOwnNumber, IsSpare}
+use Rattle.cell_stars.specs.Moves.{AreTouched, AreNumbered, IsNumberFor, IsOwnNumber, IsSpare, IsTurnAdded}
 use Rattle.cell_stars.specs.Gathering.{FromCell, FromPoint, Gathers}
 use Rattle.cell_stars.proofs.KeyLaws.{owned_by, in_owned, owned_in, Keys, vertices, BelongsAt, one_key, at_key, no_key}
 
@@ -88,59 +89,101 @@ no_own b ks stars p i k ek es a f e n j s =
 pub no_own_at : (b : Placed) (ks : Keys) (p i : ℕ) → ks ≡ b.keys → BelongsAt ks p i → (j : ℕ) → IsStarred b.keys b.stars p j → ⊥
 no_own_at b ks p i e f j s = no_key ks p i f (p, s.number) (subst (λ (l : Keys). IsIn (p, s.number) l) (sym e) s.key) refl
 
--- the number that a vertex gets
-abbrev pub HasNumber : Placed → ℕ × ℕ → ℕ × ℕ → Type 0
-HasNumber b x y = (x.1 ≡ y.1) × (IsOwnNumber b y.1 y.0 ⊎ ((y.0 ≡ x.0) × ((i : ℕ) → IsStarred b.keys b.stars y.1 i → ⊥)))
+-- ---- the numbers that they have after an exchange
 
--- a place of the star with the vertex's own number is in the star of the vertex
-own_starred : (b : Placed) (p n : ℕ) (o : IsOwnNumber b p n) → IsStarred b.keys b.stars p o.place
-own_starred b p n o = record { number = n; key = o.key; owned = o.owned; listed = o.filled }
+-- each vertex has one
+one_turn : (ts : List (ℕ × ℕ)) (n m p : ℕ) → IsAscending (map (λ t. t.1) ts) → IsIn (n, p) ts → IsIn (m, p) ts → n ≡ m
+one_turn [] n m p a i j = absurd i
+one_turn (t ∷ ts) n m p a (inl e) (inl f) = ap (λ (x : ℕ × ℕ). x.0) (sym e ∙ f)
+one_turn (t ∷ ts) n m p a (inl e) (inr j) =
+    let h = below_each t.1 (map (λ x. x.1) ts) a.0 a.1 p (mapped_true (λ x. x.1) (m, p) ts j) in
+    let f = ap (λ (x : ℕ × ℕ). x.1) e in absurd (omega (arith, h, f))
+one_turn (t ∷ ts) n m p a (inr i) (inl f) =
+    let h = below_each t.1 (map (λ x. x.1) ts) a.0 a.1 p (mapped_true (λ x. x.1) (n, p) ts i) in
+    let e = ap (λ (x : ℕ × ℕ). x.1) f in absurd (omega (arith, h, e))
+one_turn (t ∷ ts) n m p a (inr i) (inr j) = one_turn ts n m p a.1 i j
 
--- each vertex gets its own number, or a spare one that no other gets
-pub are_numbered : (b : Placed) (stars : List (ℕ × List ℕ)) (us ps : List ℕ) (pairs turns : List (ℕ × ℕ)) (n : ℕ) → stars ≡ b.stars → IsAscending (vertices b.keys) → IsAscending us → IsAscending ps → length us ≡ length ps → ((u : ℕ) → IsIn u us → IsSpare stars u) → pairs ≡ zip us ps → length pairs ≤ n → Made (HasNumber b) pairs n turns → AreNumbered b ps turns
-are_numbered b stars us ps pairs turns n es ak au ap' l sp e h m = record {
-  each = λ k p i. (let r = from k p i in (in_zip us ps r.0 p r.1).1);
-  all = λ p i. (
-      let z = zip_has us ps p (omega (arith, l)) i in
-      let r = made_all (HasNumber b) pairs n turns h m (z.0, p) (subst (λ (w : List (ℕ × ℕ)). IsIn (z.0, p) w) (sym e) z.1) in
-      (r.0.0, subst (λ (q : ℕ). IsIn (r.0.0, q) turns) (sym r.2.0) r.1));
-  apart = λ k p q i j. (let r = from k p i in let s = from k q j in together k p q r s);
-  single = λ k j p i o. (let r = from k p i in let s = from j p o in alone k j p r s);
-  vacant = λ k p q x i f g. (let r = from k p i in own_of k p q x r f g);
-  held = λ k p i. (let r = from k p i in held k p r);
+-- the number is the vertex's own; or it is spare and before the least, and the vertex has no star
+abbrev pub IsHeld : Placed → ℕ → ℕ × ℕ → Type 0
+IsHeld b least t =
+    IsOwnNumber b t.1 t.0
+    ⊎ ((t.0 < least) × IsSpare b.stars t.0 × ((i : ℕ) → IsStarred b.keys b.stars t.1 i → ⊥))
+
+-- the numbers of the vertices so far
+pub record NumberedSoFar (b : Placed) (ps : List ℕ) (least : ℕ) (turns : List (ℕ × ℕ)) : Type 0 where
+  pub vertices : map (λ t. t.1) turns ≡ ps
+  pub each : (n p : ℕ) → IsIn (n, p) turns → IsHeld b least (n, p)
+  pub apart : (n p q : ℕ) → IsIn (n, p) turns → IsIn (n, q) turns → p ≡ q
+
+-- of none
+pub numbered_none : (b : Placed) (ps : List ℕ) (turns : List (ℕ × ℕ)) → turns ≡ [] → NumberedSoFar b (take 0 ps) 0 turns
+numbered_none b ps turns e = record {
+  vertices = ap (map (λ (t : ℕ × ℕ). t.1)) e;
+  each = λ n p i. absurd (subst (λ (l : List (ℕ × ℕ)). IsIn (n, p) l) e i);
+  apart = λ n p q i j. absurd (subst (λ (l : List (ℕ × ℕ)). IsIn (n, p) l) e i);
+}
+
+-- with one more
+pub numbered_more : (b : Placed) (ps : List ℕ) (k p least more : ℕ) (turns new : List (ℕ × ℕ)) → k < length ps →
+    p ≡ slice_index_or ps k p → IsTurnAdded b p least more turns new → NumberedSoFar b (take k ps) least turns →
+    NumberedSoFar b (take (k + 1) ps) more new
+numbered_more b ps k p least more turns new h e a s = record {
+  vertices =
+      ap (map (λ (t : ℕ × ℕ). t.1)) a.added ∙ map-append (λ (t : ℕ × ℕ). t.1) turns ((a.number, p) ∷ [])
+      ∙ ap (λ (l : List ℕ). l ++ p ∷ []) s.vertices ∙ sym (take_next ps k p h e);
+  each = λ n q i. elim (in_pushed turns new (a.number, p) (n, q) a.added i) [
+    | inl j ↦ elim (s.each n q j) [
+      | inl o ↦ inl o
+      | inr r ↦ inr ((let l = r.0 in let g = a.rises in omega (arith, l, g)), r.1, r.2)
+    ]
+    | inr f ↦ subst (IsHeld b more) f held
+  ];
+  apart = λ n q r i j. elim (in_pushed turns new (a.number, p) (n, q) a.added i) [
+    | inl k ↦ elim (in_pushed turns new (a.number, p) (n, r) a.added j) [
+      | inl l ↦ s.apart n q r k l
+      | inr f ↦ beside n q k (ap (λ (t : ℕ × ℕ). t.0) f) ∙ ap (λ (t : ℕ × ℕ). t.1) f
+    ]
+    | inr f ↦ elim (in_pushed turns new (a.number, p) (n, r) a.added j) [
+      | inl l ↦ sym (beside n r l (ap (λ (t : ℕ × ℕ). t.0) f) ∙ ap (λ (t : ℕ × ℕ). t.1) f)
+      | inr g ↦ sym (ap (λ (t : ℕ × ℕ). t.1) f) ∙ ap (λ (t : ℕ × ℕ). t.1) g
+    ]
+  ];
 }
   where
-    From : ℕ → ℕ → Type 0
-    From k p = (u : ℕ) × IsIn (u, p) (zip us ps) × (IsOwnNumber b p k ⊎ ((k ≡ u) × ((i : ℕ) → IsStarred b.keys b.stars p i → ⊥)))
+    held : IsHeld b more (a.number, p)
+    held = elim a.held [ inl o ↦ inl o | inr r ↦ inr (r.1, r.2, r.3) ]
 
-    from : (k p : ℕ) → IsIn (k, p) turns → From k p
-    from k p i = (let r = m.each (k, p) i in (r.0.0, subst (λ (w : List (ℕ × ℕ)). IsIn (r.0.0, p) w) e (subst (λ (q : ℕ). IsIn (r.0.0, q) pairs) r.2.0 r.1), r.2.1))
+    beside : (n q : ℕ) → IsIn (n, q) turns → a.number ≡ n → q ≡ p
+    beside n q i f = elim (s.each n q i) [
+      | inl o ↦ elim a.held [
+        | inl w ↦ sym o.owned ∙ ap (λ y. (star_at b.stars y).0) (sym f) ∙ w.owned
+        | inr r ↦ absurd (r.2 o.place (subst (λ y. IsIn o.place (star_at b.stars y).1) (sym f) o.filled))
+      ]
+      | inr r ↦ elim a.held [
+        | inl w ↦ absurd (r.1 w.place (subst (λ y. IsIn w.place (star_at b.stars y).1) f w.filled))
+        | inr u ↦ (let l = r.0 in let g = u.0 in absurd (omega (arith, l, g, f)))
+      ]
+    ]
 
-    empty : (u : ℕ) → IsIn u us → (x : ℕ) → IsIn x (star_at b.stars u).1 → ⊥
-    empty u i x j = sp u i x (subst (λ (l : List (ℕ × List ℕ)). IsIn x (star_at l u).1) (sym es) j)
-
-    held : (k p : ℕ) → From k p → IsNumberFor b p k
-    held k p (u, i, inl o) = inl o
-    held k p (u, i, inr o) = inr (
-      λ x j. empty u (in_zip us ps u p i).0 x (subst (λ y. IsIn x (star_at b.stars y).1) o.0 j),
-      o.1,
-    )
-
-    together : (k p q : ℕ) → From k p → From k q → p ≡ q
-    together k p q (u, i, inl o) (v, j, inl s) = sym o.owned ∙ s.owned
-    together k p q (u, i, inl o) (v, j, inr s) = absurd (empty v (in_zip us ps v q j).0 o.place (subst (λ y. IsIn o.place (star_at b.stars y).1) s.0 o.filled))
-    together k p q (u, i, inr o) (v, j, inl s) = absurd (empty u (in_zip us ps u p i).0 s.place (subst (λ y. IsIn s.place (star_at b.stars y).1) o.0 s.filled))
-    together k p q (u, i, inr o) (v, j, inr s) = zip_apart us ps u p q au i (subst (λ (y : ℕ). IsIn (y, q) (zip us ps)) (sym s.0 ∙ o.0) j)
-
-    alone : (k j p : ℕ) → From k p → From j p → k ≡ j
-    alone k j p (u, i, inl o) (v, i', inl s) = ap (λ y. y.1) (one_key b.keys (p, k) (p, j) ak o.key s.key refl)
-    alone k j p (u, i, inl o) (v, i', inr s) = absurd (s.1 o.place (own_starred b p k o))
-    alone k j p (u, i, inr o) (v, i', inl s) = absurd (o.1 s.place (own_starred b p j s))
-    alone k j p (u, i, inr o) (v, i', inr s) = o.0 ∙ zip_single us ps u v p ap' i i' ∙ sym s.0
-
-    own_of : (k p q x : ℕ) → From k p → (star_at b.stars k).0 ≡ q → IsIn x (star_at b.stars k).1 → q ≡ p
-    own_of k p q x (u, i, inl o) f g = sym f ∙ o.owned
-    own_of k p q x (u, i, inr o) f g = absurd (empty u (in_zip us ps u p i).0 x (subst (λ y. IsIn x (star_at b.stars y).1) o.0 g))
+-- of all
+pub numbered_all : (b : Placed) (ps : List ℕ) (n least : ℕ) (turns : List (ℕ × ℕ)) → IsAscending ps → length ps ≤ n →
+    NumberedSoFar b (take n ps) least turns → AreNumbered b ps turns × (map (λ t. t.1) turns ≡ ps)
+numbered_all b ps n least turns a h s = (
+  record {
+    each = λ k p i. subst (λ (l : List ℕ). IsIn p l) same (mapped_true (λ t. t.1) (k, p) turns i);
+    all = λ p i. (
+        let r = mapped_from (λ t. t.1) p turns (subst (λ (l : List ℕ). IsIn p l) (sym same) i) in
+        (r.0.0, subst (λ (q : ℕ). IsIn (r.0.0, q) turns) r.2 r.1));
+    apart = s.apart;
+    single = λ k j p i o. one_turn turns k j p (subst IsAscending (sym same) a) i o;
+    vacant = λ k p q x i f g. elim (s.each k p i) [ inl o ↦ sym f ∙ o.owned | inr r ↦ absurd (r.1 x g) ];
+    held = λ k p i. elim (s.each k p i) [ inl o ↦ inl o | inr r ↦ inr (r.1, r.2) ];
+  },
+  same,
+)
+  where
+    same : map (λ t. t.1) turns ≡ ps
+    same = s.vertices ∙ take_all n ps h
 
 -- the star with the number of a vertex has the places of that
 pub held_places : (b : Placed) (p n : ℕ) (items : List ℕ) → IsAscending (vertices b.keys) →

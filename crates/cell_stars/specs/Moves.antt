@@ -1,5 +1,5 @@
 -- What goes and comes in an exchange, and where.
-use Rattle.std.specs.Prelude.{◌≡◌, ◌⊎◌, ◌%◌, ◌<◌, ℕ, Bool, true, false, List, length, Option, Some, map, slice_index_or}
+use Rattle.std.specs.Prelude.{◌≡◌, ◌⊎◌, ◌%◌, ◌<◌, ◌≤◌, ℕ, Bool, true, false, List, [], ◌∷◌, ◌++◌, length, Option, Some, map, slice_index_or}
 use Rattle.point_order.specs.declared.cell.Cell.{Cell}
 use Rattle.point_order.specs.Facets.{points_of}
 use Rattle.point_order.specs.Sets.{IsIn, IsAscending}
@@ -79,6 +79,15 @@ IsSpare stars n = (i : ℕ) → IsIn i (star_at stars n).1 → ⊥
 -- it is the vertex's own, or spare where the vertex has no star
 abbrev pub IsNumberFor : Placed → ℕ → ℕ → Type 0
 IsNumberFor b p n = IsOwnNumber b p n ⊎ (IsSpare b.stars n × ((i : ℕ) → IsStarred b.keys b.stars p i → ⊥))
+
+-- One more vertex has a number: its own; or, where it has no star, a spare one that is not before the least, and is
+-- before the least then.
+pub record IsTurnAdded (b : Placed) (p least more : ℕ) (old new : List (ℕ × ℕ)) : Type 0 where
+  pub number : ℕ
+  pub added : new ≡ old ++ (number, p) ∷ []
+  pub rises : least ≤ more
+  pub held : IsOwnNumber b p number ⊎ ((least ≤ number) × (number < more) × IsSpare b.stars number
+      × ((i : ℕ) → IsStarred b.keys b.stars p i → ⊥))
 
 -- The numbers of the stars of these vertices after an exchange: one for each, which had its star or none.
 pub record AreNumbered (b : Placed) (vertices : List ℕ) (turns : List (ℕ × ℕ)) : Type 0 where

@@ -158,7 +158,7 @@ fn likely_places(
 }
 
 // The number behind the last of these.
-pub(crate) fn behind_last(list: &[u32]) -> Result<u32, AllocError>
+fn behind_last(list: &[u32]) -> Result<u32, AllocError>
     requires { IsAscending list.now }
     ensures { IfOk result (λ n. (i : ℕ) → IsIn i list.now → i < n) }
 {
@@ -189,7 +189,7 @@ pub(crate) fn places_for(
 }
 
 // Each number beside the element at its place in the other list.
-pub(crate) fn pairs<T: Copy>(
+fn pairs<T: Copy>(
     alloc: Global,
     numbers: &[u32],
     elements: &[T],

@@ -11,6 +11,7 @@ ghost use Rattle.std.specs.Prelude.{
   true,
   Some,
   IfOk,
+  IfSome,
   OnOk,
   length,
   List,
@@ -34,14 +35,15 @@ ghost use Rattle.cell_stars.specs.Moves.{
   IsNumberFor,
   IsOwnNumber,
   IsSpare,
+  IsTurnAdded,
   IsRewriting,
 };
 
 use crate::cells::{Cells, places_in};
 use crate::marks::{Marks, is_unmarked, marks_of};
-use crate::moves::{Moves, behind_last, pairs};
+use crate::moves::Moves;
 use crate::numbers::number_behind;
-use crate::order::{has_vertex, numbers_in_order};
+use crate::order::has_vertex;
 use crate::plan::Around;
 use crate::steps::place_of;
 use point_order::{Cell, Point};
@@ -70,68 +72,27 @@ pub(crate) fn is_own(stars: &[Around], n: u32, p: Point) -> bool
     !places_in(stars, n, p).is_empty()
 }
 
-// Adds spare numbers from one on, until there are so many. All that are there are to be before it.
-fn add_spare(
-    list: &mut Vec<u32>,
-    stars: &[Around],
-    count: usize,
-    first: u32,
-) -> Result<(), AllocError>
-    requires order { IsAscending list.old.items }
-    requires before { (i : ℕ) → IsIn i list.old.items → i < first }
-    requires few { length list.old.items ≤ count }
-    ensures order { OnOk result (IsAscending list.new.items) }
-    ensures count { OnOk result (length list.new.items ≡ count) }
-    ensures spare { OnOk result ((n : ℕ) → IsIn n list.new.items → IsIn n list.old.items ⊎ IsSpare stars.now n) }
+// The first of the numbers that is spare and not before the least.
+fn likely_spare(stars: &[Around], spare: &[u32], least: u32) -> Option<u32>
+    ensures { IfSome result (λ n. (least ≤ n) × IsSpare stars.now n) }
 {
-    let mut next = first;
-    while list.len() < count {
-        if is_spare(stars, next) {
-            list.push(next)?;
-        }
-        next = number_behind(next)?;
-    }
-    Ok(())
-}
-
-// Numbers that are likely to be spare, as far as so many are wanted.
-fn likely_numbers(
-    alloc: Global,
-    stars: &[Around],
-    spare: &[u32],
-    count: usize,
-) -> Result<Vec<u32>, AllocError>
-    ensures { IfOk result (λ list. (n : ℕ) → IsIn n list.items → IsSpare stars.now n) }
-{
-    let mut list = Vec::with_capacity(alloc, count)?;
     for n in spare {
-        if list.len() >= count {
-            break;
-        }
-        if is_spare(stars, *n) {
-            list.push(*n)?;
+        if *n >= least && is_spare(stars, *n) {
+            return Some(*n);
         }
     }
-    Ok(list)
+    None
 }
 
-// So many spare numbers, ascending. New ones begin at the first number or behind it.
-fn numbers_for(
-    alloc: Global,
-    stars: &[Around],
-    spare: &[u32],
-    count: usize,
-    first: u32,
-) -> Result<Vec<u32>, AllocError>
-    ensures order { IfOk result (λ list. IsAscending list.items) }
-    ensures count { IfOk result (λ list. length list.items ≡ count) }
-    ensures spare { IfOk result (λ list. (n : ℕ) → IsIn n list.items → IsSpare stars.now n) }
+// The first spare number from this one on.
+fn spare_behind(stars: &[Around], first: u32) -> Result<u32, AllocError>
+    ensures { IfOk result (λ n. (first ≤ n) × IsSpare stars.now n) }
 {
-    let mut list = numbers_in_order(likely_numbers(alloc, stars, spare, count)?);
-    list.truncate(count);
-    let last = behind_last(&list)?;
-    add_spare(&mut list, stars, count, last.max(first))?;
-    Ok(list)
+    let mut n = first;
+    while !is_spare(stars, n) {
+        n = number_behind(n)?;
+    }
+    Ok(n)
 }
 
 // A number of 32 bits for the point that depends on all of its bits.
@@ -225,15 +186,36 @@ impl Cells {
         }
     }
 
-    // The number that the vertex's star has after an exchange: its own, or else the one that is for it.
-    fn number_for(&self, p: Point, spare: u32) -> u32
-        ensures { IsOwnNumber self.now p result ⊎ ((result ≡ spare)
-            × ((i : ℕ) → IsStarred self.now.keys self.now.stars p i → ⊥)) }
+    // A spare number that is not before the least.
+    fn spare_from(&self, least: u32) -> Result<u32, AllocError>
+        ensures { IfOk result (λ n. (least ≤ n) × IsSpare self.now.stars n) }
+    {
+        if let Some(n) = likely_spare(&self.stars, &self.spare, least) {
+            return Ok(n);
+        }
+        let n = spare_behind(&self.stars, self.used_stars.max(least))?;
+        Ok(n)
+    }
+
+    // Adds the number that the vertex's star has after an exchange: its own, or else a spare one. That is not before the
+    // least, which is behind it then.
+    fn add_turn(
+        &self,
+        turns: &mut Vec<(u32, Point)>,
+        least: &mut u32,
+        p: Point,
+    ) -> Result<(), AllocError>
+        ensures { OnOk result (IsTurnAdded self.now p least.old least.new turns.old.items turns.new.items) }
     {
         match self.number_of(p) {
-            Some(n) => n,
-            None => spare,
+            Some(n) => turns.push((n, p))?,
+            None => {
+                let n = self.spare_from(*least)?;
+                *least = number_behind(n)?;
+                turns.push((n, p))?;
+            }
         }
+        Ok(())
     }
 
     // The numbers that the stars of the vertices have after an exchange.
@@ -242,17 +224,11 @@ impl Cells {
         ensures numbered { IfOk result (λ turns. AreNumbered self.now vertices.now turns.items) }
         ensures vertices { IfOk result (λ turns. map (λ t. t.1) turns.items ≡ vertices.now) }
     {
-        let numbers = numbers_for(
-            alloc,
-            &self.stars,
-            &self.spare,
-            vertices.len(),
-            self.used_stars,
-        )?;
-        let pairs = pairs(alloc, &numbers, vertices)?;
-        let mut turns = Vec::with_capacity(alloc, pairs.len())?;
-        for (n, p) in &pairs {
-            turns.push((self.number_for(*p, *n), *p))?;
+        let _ = &self.stars;
+        let mut turns = Vec::with_capacity(alloc, vertices.len())?;
+        let mut least = 0;
+        for p in vertices {
+            self.add_turn(&mut turns, &mut least, *p)?;
         }
         Ok(turns)
     }

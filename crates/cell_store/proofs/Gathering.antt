@@ -1,11 +1,11 @@
 -- Lists that are gathered bucket by bucket.
-use Rattle.std.specs.Prelude.{◌≡◌, ℕ, ◌+◌, ◌<◌, ◌≤◌, ◌==◌, Bool, true, false, List, [], ◌∷◌, ◌++◌, length, take, Option, Some, None, IsSome}
+use Rattle.std.specs.Prelude.{◌≡◌, ◌≢◌, ℕ, ◌+◌, ◌<◌, ◌≤◌, Bool, true, false, List, [], ◌∷◌, ◌++◌, length, take, Option, Some, None, IsSome, slice_set}
 use Rattle.std.specs.List.{filter, flat_map}
 use Rattle.std.specs.List.Sorted.{IsPermutation}
 use Rattle.std.proofs.Common.{ap, sym, subst, refl, ◌∙◌, add-one, append_assoc, inl, inr, arith}
-use Rattle.std.proofs.lemmas.List.{append-nil, take_all}
+use Rattle.std.proofs.lemmas.List.{append-nil, get_or-set_other, take_all}
 use Rattle.std.proofs.lemmas.List.Sorted.{IsPermutation-refl, IsPermutation-sym}
-use Rattle.list_laws.proofs.Cited.{filtered_from, filtered_true, from_append, in_left, in_moved, in_right, one_below, same_true, some_of}
+use Rattle.list_laws.proofs.Cited.{filtered_from, filtered_true, from_append, in_left, in_moved, in_right, len_set, one_below, same_true, some_of}
 use Rattle.point_order.specs.declared.cell.Cell.{Cell}
 use Rattle.point_order.specs.declared.cell.Cell.TheVariants.{Full, Open}
 use Rattle.point_order.specs.Complex.{complex}
@@ -20,8 +20,8 @@ use Rattle.cell_store.specs.Swaps.{touches}
 use Rattle.cell_store.specs.Buckets.{BucketContent, InHand, bucket_at}
 use Rattle.cell_store.specs.Shares.{Shows}
 use Rattle.cell_store.specs.Stars.{bucket_of_first}
-use Rattle.cell_store.specs.Meshes.{IsWhole, all_cells}
-use Rattle.cell_store.specs.Gathered.{AreGathered, HasHome, home_of, is_home}
+use Rattle.cell_store.specs.Meshes.{AllInHand, IsWhole, all_cells}
+use Rattle.cell_store.specs.Gathered.{AreGathered, HasHome, IsLeftFrom, home_of, is_home}
 use Rattle.cell_store.proofs.MeshLaws.{cells_of, in_flat, mesh_gathers_cells, next_gathered, point_held}
 use Rattle.cell_store.proofs.ShareLaws.{touched}
 
@@ -48,6 +48,27 @@ gathered_next hold n x old new h e (come, p, m) s = record {
 
     known : (c : Cell) (y : BucketContent) → home_of hold.grid c ≡ n → bucket_at hold.places (home_of hold.grid c) ≡ Some y → IsIn c y.cells → IsIn c x.cells
     known c y k f i = subst (λ (z : BucketContent). IsIn c z.cells) (same_content y x (sym f ∙ ap (bucket_at hold.places) k ∙ e)) i
+
+-- nothing is let go at first
+pub left_none : (hold : InHand) → IsLeftFrom 0 hold hold
+left_none hold = record { grid = refl; count = refl; buckets = λ b h. refl }
+
+-- then one bucket more
+pub left_next : (whole left new : InHand) (n : ℕ) → new.grid ≡ left.grid → new.places ≡ slice_set left.places n None →
+    IsLeftFrom n whole left → IsLeftFrom (n + 1) whole new
+left_next whole left new n g e i = record {
+  grid = g ∙ i.grid;
+  count = ap length e ∙ len_set left.places n None ∙ i.count;
+  buckets = λ b h.
+      let apart : b ≢ n = λ q. omega (arith, h, q) in
+      ap (λ (l : List (Option BucketContent)). bucket_at l b) e ∙ get_or-set_other left.places n b None None apart
+      ∙ i.buckets b (omega (arith, h));
+}
+
+-- the next one is in hand yet, where all were
+pub left_held : (whole left : InHand) (n : ℕ) → AllInHand whole → n < length whole.places → IsLeftFrom n whole left →
+    IsSome (bucket_at left.places n)
+left_held whole left n all h i = subst IsSome (sym (i.buckets n (omega arith))) (all n h)
 
 -- so many buckets or more are all
 pub gathered_past : (hold : InHand) (n : ℕ) (list : List Cell) → length hold.places ≤ n → AreGathered hold n list → AreGathered hold (length hold.places) list

@@ -1,36 +1,5 @@
 -- What buckets get of a history at once.
-use Rattle.std.specs.Prelude.{
-  ◌≡◌,
-  ◌≢◌,
-  ℕ,
-  zero,
-  suc,
-  ◌+◌,
-  ◌*◌,
-  ◌<◌,
-  ◌≤◌,
-  ◌==◌,
-  ◌||◌,
-  Bool,
-  true,
-  false,
-  List,
-  [],
-  ◌∷◌,
-  ◌++◌,
-  ◌⊎◌,
-  Option,
-  None,
-  Some,
-  IsSome,
-  length,
-  map,
-  replicate,
-  slice_get,
-  slice_index_or,
-  slice_set,
-  if◌then◌else◌,
-}
+use Rattle.std.specs.Prelude.{◌≡◌, ℕ, zero, suc, ◌+◌, ◌*◌, ◌<◌, ◌≤◌, ◌==◌, ◌||◌, Bool, true, false, List, [], ◌∷◌, ◌++◌, ◌⊎◌, Option, None, Some, IsSome, length, map, replicate, slice_get, slice_index_or, slice_set, if◌then◌else◌}
 use Rattle.std.specs.List.{filter, list_any}
 use Rattle.std.specs.List.Sorted.{IsStrictlySortedBy}
 use Rattle.std.proofs.Common.{Vec, Global, refl, sym, ◌∙◌, ap, subst, inl, inr, arith, take}
@@ -38,14 +7,13 @@ use Rattle.std.proofs.lemmas.List.{get_or-set_same, get_or-set_other, length-app
 use Rattle.std.proofs.lemmas.List.Elements.{filter-append}
 use Rattle.std.proofs.lemmas.List.Folds.{list_any_more}
 use Rattle.std.proofs.lemmas.List.Kept.{IsStrictlySortedBy-filter}
-use Rattle.list_laws.proofs.Cited.{len_set, map_set, mapped_from, mapped_true, filtered_ascending, filtered_from, in_pushed, is_there, same_from, same_true, take_next, within_list}
+use Rattle.list_laws.proofs.Cited.{len_set, map_set, filtered_ascending, filtered_from, in_pushed, is_there, same_from, same_true, take_next}
 use Rattle.point_order.specs.declared.cell.Cell.{Cell}
 use Rattle.point_order.specs.CellOrder.{cell_cmp}
 use Rattle.point_order.specs.Complex.{complex}
 use Rattle.point_order.specs.Facets.{points_of}
 use Rattle.point_order.specs.Sets.{IsIn, IsAscending}
 use Rattle.edit_history.specs.declared.history.Entry.{Entry}
-use Rattle.edit_history.specs.Edits.{point_of}
 use Rattle.point_order.specs.Solid.{is_solid}
 use Rattle.edit_history.specs.Histories.{IsLegal, replay}
 use Rattle.edit_history.proofs.Cited.{leaves_set}
@@ -53,7 +21,7 @@ use Rattle.del_laws.specs.Keys.{AreKeys}
 use Rattle.del_laws.proofs.Cited.{complex_is_sorted}
 use Rattle.cell_store.specs.Buckets.{BucketContent, InHand, at_place, bucket_at, empty_hold}
 use Rattle.cell_store.specs.Grids.{bucket_of}
-use Rattle.cell_store.specs.Meshes.{AllInHand, HasPlaces, IsHoldOf, IsWhole, StandsForSome, with_bucket}
+use Rattle.cell_store.specs.Meshes.{AllInHand, with_bucket}
 use Rattle.cell_store.specs.Shares.{IsShare, IsSound, Stands, cells_share, entries_share, points_share}
 use Rattle.cell_store.specs.Swaps.{touches}
 use Rattle.cell_store.specs.Wholes.{AreAt, AreCellsParted, AreParted, AreParts, HasFirst, IsPushedAt, IsPushedWhere, is_noted_at, lies_at, list_at}

@@ -1,5 +1,5 @@
 -- Cells that are gathered bucket by bucket, each from the bucket of its first point.
-use Rattle.std.specs.Prelude.{◌≡◌, ℕ, ◌<◌, ◌==◌, Bool, List, Some, IsPermutation}
+use Rattle.std.specs.Prelude.{◌≡◌, ℕ, ◌<◌, ◌≤◌, ◌==◌, Bool, List, Some, IsPermutation, length}
 use Rattle.std.specs.List.{filter}
 use Rattle.point_order.specs.declared.cell.Cell.{Cell}
 use Rattle.point_order.specs.Facets.{points_of}
@@ -27,3 +27,9 @@ pub record AreGathered (hold : InHand) (n : ℕ) (list : List Cell) : Type 0 whe
   pub each : (c : Cell) → IsIn c list → IsIn c (all_cells hold.places)
   pub all : (c : Cell) (x : BucketContent) → home_of hold.grid c < n →
       bucket_at hold.places (home_of hold.grid c) ≡ Some x → IsIn c x.cells → IsIn c list
+
+-- Of a hold that is let go bucket by bucket those from number n on are still in hand.
+pub record IsLeftFrom (n : ℕ) (whole left : InHand) : Type 0 where
+  pub grid : left.grid ≡ whole.grid
+  pub count : length left.places ≡ length whole.places
+  pub buckets : (b : ℕ) → n ≤ b → bucket_at left.places b ≡ bucket_at whole.places b

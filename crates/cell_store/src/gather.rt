@@ -43,6 +43,19 @@ impl Hold {
         Ok(cells_in_order(cells))
     }
 
+    /// The same of a hold that is given away: each bucket is let go when its cells are read, so that never all buckets
+    /// and the whole list stand in memory beside each other.
+    ///
+    /// # Errors
+    /// Want of memory.
+    pub fn into_complex(self, alloc: Global) -> Result<Vec<Cell>, AllocError>
+        requires { AllInHand self }
+        ensures { IfOk result (λ cells. (s : List ℕ) → Shows self s → cells.items ≡ complex_of s) }
+    {
+        let cells = self.into_cells(alloc)?;
+        Ok(cells_in_order(cells))
+    }
+
     // The entries of all buckets.
     fn all_entries(&self, alloc: Global) -> Result<Vec<Entry>, AllocError>
         requires { AllInHand self.now }
@@ -82,6 +95,22 @@ impl Hold {
         let mut list = Vec::with_capacity(alloc, self.count_cells())?;
         for b in 0..grid.count() {
             push_cells(&mut list, grid, b, self.bucket(b))?;
+        }
+        Ok(list)
+    }
+
+    // The same, where each bucket is let go when it is read.
+    fn into_cells(self, alloc: Global) -> Result<Vec<Cell>, AllocError>
+        requires { AllInHand self }
+        ensures list { IfOk result (λ list. AreGathered self (length self.places) list.items) }
+        ensures whole { OnOk result (IsWhole self) }
+    {
+        let grid = self.grid();
+        let mut list = Vec::with_capacity(alloc, self.count_cells())?;
+        let mut hold = self;
+        for b in 0..grid.count() {
+            push_cells(&mut list, grid, b, hold.bucket(b))?;
+            let _ = hold.take(b);
         }
         Ok(list)
     }

@@ -30,14 +30,26 @@ found_passes p (y ∷ s) x e = by_test (p y) refl (found_passes p s x)
         passed h = rw h refl
 
 -- the three, a point above their plane and a point in it that is none of them are five
-pub five_above : (a b c m e : ℕ) → AreThree a b c → pos 0 <ℤ orientation a b c m → e ≢ a → e ≢ b → e ≢ c → is_flat a b c e ≡ true → AreFive a b c m e
+pub five_above : (a b c m e : ℕ) → AreThree a b c → pos 0 <ℤ orientation a b c m → e ≢ a → e ≢ b → e ≢ c →
+    is_flat a b c e ≡ true → AreFive a b c m e
 five_above a b c m e n h ea eb ec f =
     let apart : (v : ℕ) → orientation a b c v ≡ pos 0 → v ≢ m =
-    λ v z q. not_zero (orientation a b c m) h (ap (orientation a b c) (sym q) ∙ z) in
-    (n.0, n.1, apart a (last_first a b c), (λ q. ea (sym q)), n.2, apart b (last_second a b c), (λ q. eb (sym q)), apart c (last_third a b c), (λ q. ec (sym q)), (λ q. apart e (zero_from (orientation a b c e) f) (sym q)))
+    λ v z q. not_zero (orientation a b c m) h (ap (orientation a b c) (sym q) ∙ z) in (
+      n.0,
+      n.1,
+      apart a (last_first a b c),
+      (λ q. ea (sym q)),
+      n.2,
+      apart b (last_second a b c),
+      (λ q. eb (sym q)),
+      apart c (last_third a b c),
+      (λ q. ec (sym q)),
+      (λ q. apart e (zero_from (orientation a b c e) f) (sym q)),
+    )
 
 -- the same where e is tested for being one of the three
-pub five_off : (a b c m e : ℕ) → AreThree a b c → pos 0 <ℤ orientation a b c m → is_among e (a ∷ b ∷ c ∷ []) ≡ false → is_flat a b c e ≡ true → AreFive a b c m e
+pub five_off : (a b c m e : ℕ) → AreThree a b c → pos 0 <ℤ orientation a b c m → is_among e (a ∷ b ∷ c ∷ []) ≡ false →
+    is_flat a b c e ≡ true → AreFive a b c m e
 five_off a b c m e n h f g =
     let na : e ≢ a = grind (arith, nat_tests) in
     let nb : e ≢ b = grind (arith, nat_tests) in

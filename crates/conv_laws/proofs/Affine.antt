@@ -4,7 +4,18 @@ use Rattle.std.proofs.Common.{sym}
 use Rattle.whole_ring.specs.Poly.{Expr, var, lit, ◌⊕◌, ◌⊗◌, minus, ◌⊖◌, nothing, given}
 use Rattle.whole_ring.proofs.Cited.{ring, ring_from}
 use Rattle.conv_laws.specs.Places.{Place, orient, lifted, minor, triple}
-use Rattle.conv_laws.specs.Affine.{weighted, WeightsAddUp, WeightsLocate, WeightsOfHeights, OrientCarried, LiftedCarried, ThreeTerms, Pencil, PencilInPlane, Crossing}
+use Rattle.conv_laws.specs.Affine.{
+  weighted,
+  WeightsAddUp,
+  WeightsLocate,
+  WeightsOfHeights,
+  OrientCarried,
+  LiftedCarried,
+  ThreeTerms,
+  Pencil,
+  PencilInPlane,
+  Crossing,
+}
 use Rattle.conv_laws.proofs.Written.{Written, place, onto, all_of, o, weighted_w, raised}
 use Rattle.conv_laws.proofs.Alternation.{orient_swap23, lifted_swap23}
 
@@ -46,7 +57,8 @@ weights_locate a b c d e = (weights_locate_x a b c d e, weights_locate_y a b c d
 pub weights_of_heights : WeightsOfHeights
 unfolding orient lifted triple minor
 weights_of_heights a b c d e =
-    ring (o 0 1 2 3 ⊗ var 19) (raised 15 0 1 2 3 4 ⊕ weighted_w (var 15) (var 16) (var 17) (var 18)) (all_of (a ∷ b ∷ c ∷ d ∷ e ∷ [])) tt
+    ring (o 0 1 2 3 ⊗ var 19) (raised 15 0 1 2 3 4 ⊕ weighted_w (var 15) (var 16) (var 17) (var 18))
+    (all_of (a ∷ b ∷ c ∷ d ∷ e ∷ [])) tt
 
 -- ---- what it carries
 
@@ -54,7 +66,8 @@ weights_of_heights a b c d e =
 pub orient_carried : OrientCarried
 unfolding orient triple minor
 orient_carried a b c d e k l m =
-    ring (o 0 1 2 3 ⊗ o 5 6 7 4) (weighted_w (o 5 6 7 0) (o 5 6 7 1) (o 5 6 7 2) (o 5 6 7 3)) (onto (a ∷ b ∷ c ∷ d ∷ e ∷ k ∷ l ∷ m ∷ []) []) tt
+    ring (o 0 1 2 3 ⊗ o 5 6 7 4) (weighted_w (o 5 6 7 0) (o 5 6 7 1) (o 5 6 7 2) (o 5 6 7 3))
+    (onto (a ∷ b ∷ c ∷ d ∷ e ∷ k ∷ l ∷ m ∷ []) []) tt
 
 -- For the next law the orientations and the heights are the variables. First come those of a, b, c, d and e:
 -- 0 of the four, 1 to 4 the weights, 5 of a b d e, 6 of b c d e. Then 7 of k l m n, and for each three of these
@@ -95,13 +108,25 @@ lifted_carried a' b' c' d' e' k' l' m' n' =
     (given (minus (var 34)) (p ⊗ var 18) (spread 19 20 21 22)
     (given (var 33) (p ⊗ var 23) (spread 24 25 26 27)
     (given (minus (var 7 ⊗ var 31)) wc (minus (var 5)) (given (minus (var 7 ⊗ var 29)) wa (minus (var 6)) nothing))))))
-    (orient a b c d ∷ orient b d c e ∷ orient a c d e ∷ orient a d b e ∷ orient a b c e ∷ orient a b d e ∷ orient b c d e ∷ orient k l m n
+    (orient a b c d ∷ orient b d c e ∷ orient a c d e ∷ orient a d b e ∷ orient a b c e ∷ orient a b d e
+    ∷ orient b c d e ∷ orient k l m n
     ∷ orient k l m e ∷ orient k l m a ∷ orient k l m b ∷ orient k l m c ∷ orient k l m d
     ∷ orient k l n e ∷ orient k l n a ∷ orient k l n b ∷ orient k l n c ∷ orient k l n d
     ∷ orient k m n e ∷ orient k m n a ∷ orient k m n b ∷ orient k m n c ∷ orient k m n d
     ∷ orient l m n e ∷ orient l m n a ∷ orient l m n b ∷ orient l m n c ∷ orient l m n d
-    ∷ e'.height ∷ a'.height ∷ b'.height ∷ c'.height ∷ d'.height ∷ k'.height ∷ l'.height ∷ m'.height ∷ n'.height ∷ [])
-    (orient_carried a b c d e k l m, (orient_carried a b c d e k l n, (orient_carried a b c d e k m n, (orient_carried a b c d e l m n, (orient_swap23 a b d e, (orient_swap23 b c d e, tt)))))) tt
+    ∷ e'.height ∷ a'.height ∷ b'.height ∷ c'.height ∷ d'.height ∷ k'.height ∷ l'.height ∷ m'.height ∷ n'.height ∷ []) (
+      orient_carried a b c d e k l m,
+      (
+        orient_carried a b c d e k l n,
+        (
+          orient_carried a b c d e k m n,
+          (
+            orient_carried a b c d e l m n,
+            (orient_swap23 a b d e, (orient_swap23 b c d e, tt)),
+          ),
+        ),
+      ),
+    ) tt
 
 -- ---- relations of six places
 
@@ -109,19 +134,22 @@ lifted_carried a' b' c' d' e' k' l' m' n' =
 pub three_terms : ThreeTerms
 unfolding orient triple minor
 three_terms a b c d x y =
-    ring (o 0 1 2 3 ⊗ o 0 1 4 5 ⊖ o 0 1 2 4 ⊗ o 0 1 3 5 ⊕ o 0 1 2 5 ⊗ o 0 1 3 4) (lit (pos 0)) (onto (a ∷ b ∷ c ∷ d ∷ x ∷ y ∷ []) []) tt
+    ring (o 0 1 2 3 ⊗ o 0 1 4 5 ⊖ o 0 1 2 4 ⊗ o 0 1 3 5 ⊕ o 0 1 2 5 ⊗ o 0 1 3 4) (lit (pos 0))
+    (onto (a ∷ b ∷ c ∷ d ∷ x ∷ y ∷ []) []) tt
 
 -- the relation of the pencil of spheres through three places
 pub pencil : Pencil
 unfolding orient lifted triple minor
 pencil a b c x y z =
-    ring (o 0 1 2 3 ⊗ raised 18 0 1 2 4 5 ⊖ o 0 1 2 4 ⊗ raised 18 0 1 2 3 5 ⊕ o 0 1 2 5 ⊗ raised 18 0 1 2 3 4) (lit (pos 0)) (all_of (a ∷ b ∷ c ∷ x ∷ y ∷ z ∷ [])) tt
+    ring (o 0 1 2 3 ⊗ raised 18 0 1 2 4 5 ⊖ o 0 1 2 4 ⊗ raised 18 0 1 2 3 5 ⊕ o 0 1 2 5 ⊗ raised 18 0 1 2 3 4)
+    (lit (pos 0)) (all_of (a ∷ b ∷ c ∷ x ∷ y ∷ z ∷ [])) tt
 
 -- in the plane of the three all spheres of the pencil agree
 pub pencil_in_plane : PencilInPlane
 pencil_in_plane a b c f g e flat =
     ring_from (var 0 ⊗ var 3) (var 1 ⊗ var 4)
-    (given (lit (pos 1)) (var 0 ⊗ var 3 ⊖ var 1 ⊗ var 4 ⊕ var 2 ⊗ var 5) (lit (pos 0)) (given (minus (var 5)) (var 2) (lit (pos 0)) nothing))
+    (given (lit (pos 1)) (var 0 ⊗ var 3 ⊖ var 1 ⊗ var 4 ⊕ var 2 ⊗ var 5) (lit (pos 0))
+    (given (minus (var 5)) (var 2) (lit (pos 0)) nothing))
     (orient a.foot b.foot c.foot f.foot ∷ orient a.foot b.foot c.foot g.foot ∷ orient a.foot b.foot c.foot e.foot
     ∷ lifted a b c g e ∷ lifted a b c f e ∷ lifted a b c f g ∷ [])
     (pencil a b c f g e, (flat, tt)) tt
@@ -133,5 +161,6 @@ crossing a b c d f e =
     (given (lit (pos 1)) (lit (pos 0)) (var 0 ⊗ var 5 ⊖ var 1 ⊗ var 4 ⊕ var 2 ⊗ var 3)
     (given (var 0) (var 7) (minus (var 5)) (given (minus (var 4)) (var 6) (minus (var 1)) nothing)))
     (orient a.foot b.foot c.foot d.foot ∷ orient a.foot b.foot c.foot f.foot ∷ orient a.foot b.foot c.foot e.foot
-    ∷ lifted a b c d f ∷ lifted a b c d e ∷ lifted a b c f e ∷ orient a.foot c.foot b.foot f.foot ∷ lifted a c b f e ∷ [])
+    ∷ lifted a b c d f ∷ lifted a b c d e ∷ lifted a b c f e ∷ orient a.foot c.foot b.foot f.foot ∷ lifted a c b f e
+    ∷ [])
     (sym (pencil a b c d f e), (lifted_swap23 a b c f e, (orient_swap23 a.foot b.foot c.foot f.foot, tt))) tt

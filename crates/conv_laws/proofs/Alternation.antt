@@ -3,7 +3,14 @@ use Rattle.std.specs.Prelude.{ℤ, pos, neg_ℤ, ◌≡◌, List, [], ◌∷◌}
 use Rattle.whole_ring.specs.Poly.{lit, minus}
 use Rattle.whole_ring.proofs.Cited.{ring}
 use Rattle.conv_laws.specs.Places.{Place, orient, Lifted, lifted, minor, triple}
-use Rattle.conv_laws.specs.Alternation.{OrientSwaps, OrientEvenOrders, OrientRepeats, LiftedSwaps, LiftedOrders, LiftedRepeats}
+use Rattle.conv_laws.specs.Alternation.{
+  OrientSwaps,
+  OrientEvenOrders,
+  OrientRepeats,
+  LiftedSwaps,
+  LiftedOrders,
+  LiftedRepeats,
+}
 use Rattle.conv_laws.proofs.Written.{onto, all_of, o, raised}
 
 -- the coordinates of four places
@@ -201,22 +208,41 @@ orient_swaps a b c d = (orient_swap12 a b c d, orient_swap23 a b c d, orient_swa
 
 -- even orders keep it
 pub orient_even_orders : OrientEvenOrders
-orient_even_orders a b c d =
-    (orient_bcad a b c d, orient_cabd a b c d, orient_acdb a b c d, orient_adbc a b c d, orient_bdca a b c d, orient_badc a b c d)
+orient_even_orders a b c d = (
+  orient_bcad a b c d,
+  orient_cabd a b c d,
+  orient_acdb a b c d,
+  orient_adbc a b c d,
+  orient_bdca a b c d,
+  orient_badc a b c d,
+)
 
 -- 0 where two are one
 pub orient_repeats : OrientRepeats
-orient_repeats a b c =
-    (orient_same12 a b c, orient_same13 a b c, orient_same14 a b c, orient_same23 a b c, orient_same24 a b c, orient_same34 a b c)
+orient_repeats a b c = (
+  orient_same12 a b c,
+  orient_same13 a b c,
+  orient_same14 a b c,
+  orient_same23 a b c,
+  orient_same24 a b c,
+  orient_same34 a b c,
+)
 
 -- exchanges of neighbours turn the sign
 pub lifted_swaps : LiftedSwaps
-lifted_swaps a b c d e = (lifted_swap12 a b c d e, lifted_swap23 a b c d e, lifted_swap34 a b c d e, lifted_swap45 a b c d e)
+lifted_swaps a b c d e =
+    (lifted_swap12 a b c d e, lifted_swap23 a b c d e, lifted_swap34 a b c d e, lifted_swap45 a b c d e)
 
 -- even orders keep it, and the exchange of third and fifth turns it
 pub lifted_orders : LiftedOrders
-lifted_orders a b c d e =
-    (lifted_bcad a b c d e, lifted_cabd a b c d e, lifted_acdb a b c d e, lifted_adbc a b c d e, lifted_bdca a b c d e, lifted_swap35 a b c d e)
+lifted_orders a b c d e = (
+  lifted_bcad a b c d e,
+  lifted_cabd a b c d e,
+  lifted_acdb a b c d e,
+  lifted_adbc a b c d e,
+  lifted_bdca a b c d e,
+  lifted_swap35 a b c d e,
+)
 
 -- 0 where two are one
 pub lifted_repeats : LiftedRepeats

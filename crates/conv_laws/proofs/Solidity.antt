@@ -5,7 +5,16 @@ use Rattle.whole_ring.specs.Poly.{Expr, var, lit, ◌⊕◌, ◌⊗◌, minus, �
 use Rattle.whole_ring.proofs.Cited.{ring, ring_from}
 use Rattle.list_laws.proofs.Cited.{first_factor, not_other, other_factor}
 use Rattle.conv_laws.specs.Places.{Vector, cross, IsZero, Place, step, normal, orient, minor, triple}
-use Rattle.conv_laws.specs.Solidity.{HeightOverPlane, CramersRule, NormalByHeights, OnePlane, OnlyOnLine, LineInPlane, ParallelVectors, OneLine}
+use Rattle.conv_laws.specs.Solidity.{
+  HeightOverPlane,
+  CramersRule,
+  NormalByHeights,
+  OnePlane,
+  OnlyOnLine,
+  LineInPlane,
+  ParallelVectors,
+  OneLine,
+}
 use Rattle.conv_laws.proofs.Written.{Written, place, onto, det_w, cross_w, dot_w, step_w, normal_w, o}
 
 -- ---- normals
@@ -14,7 +23,8 @@ use Rattle.conv_laws.proofs.Written.{Written, place, onto, det_w, cross_w, dot_w
 pub height_over_plane : HeightOverPlane
 unfolding orient triple minor
 height_over_plane a b c y =
-    ring (o 0 1 2 3) (dot_w (normal_w (place 0) (place 1) (place 2)) (step_w (place 0) (place 3))) (onto (a ∷ b ∷ c ∷ y ∷ []) []) tt
+    ring (o 0 1 2 3) (dot_w (normal_w (place 0) (place 1) (place 2)) (step_w (place 0) (place 3)))
+    (onto (a ∷ b ∷ c ∷ y ∷ []) []) tt
 
 -- the coordinates of vectors, one after the other
 abbrev along : List Vector → List ℤ
@@ -36,8 +46,11 @@ rows = det_w (place 1) (place 2) (place 3)
 pub cramers_rule : CramersRule
 unfolding minor triple
 cramers_rule n u v w =
-    let xs = along (n ∷ u ∷ v ∷ w ∷ []) in
-    (ring (rows ⊗ var 0) (told (λ t. t.x)) xs tt, ring (rows ⊗ var 1) (told (λ t. t.y)) xs tt, ring (rows ⊗ var 2) (told (λ t. t.z)) xs tt)
+    let xs = along (n ∷ u ∷ v ∷ w ∷ []) in (
+      ring (rows ⊗ var 0) (told (λ t. t.x)) xs tt,
+      ring (rows ⊗ var 1) (told (λ t. t.y)) xs tt,
+      ring (rows ⊗ var 2) (told (λ t. t.z)) xs tt,
+    )
 
 -- one coordinate of the normal of places 0, 1, 2, as places 3 to 6 see it
 abbrev normal_of : (Written → Expr) → Expr
@@ -63,21 +76,28 @@ normal_by_heights a b c k l m n =
 -- ---- one plane
 
 -- what is told by heights is 0 where the heights are
-no_heights : (p q r hk hl hm hn : ℤ) → hk ≡ pos 0 → hl ≡ pos 0 → hm ≡ pos 0 → hn ≡ pos 0 → (hl -ℤ hk) *ℤ p +ℤ (hm -ℤ hk) *ℤ q +ℤ (hn -ℤ hk) *ℤ r ≡ pos 0
+no_heights : (p q r hk hl hm hn : ℤ) → hk ≡ pos 0 → hl ≡ pos 0 → hm ≡ pos 0 → hn ≡ pos 0 →
+    (hl -ℤ hk) *ℤ p +ℤ (hm -ℤ hk) *ℤ q +ℤ (hn -ℤ hk) *ℤ r ≡ pos 0
 no_heights p q r hk hl hm hn ek el em en =
     ring_from ((var 4 ⊖ var 3) ⊗ var 0 ⊕ (var 5 ⊖ var 3) ⊗ var 1 ⊕ (var 6 ⊖ var 3) ⊗ var 2) (lit (pos 0))
-    (given (minus (var 0 ⊕ var 1 ⊕ var 2)) (var 3) (lit (pos 0)) (given (var 0) (var 4) (lit (pos 0)) (given (var 1) (var 5) (lit (pos 0)) (given (var 2) (var 6) (lit (pos 0)) nothing))))
+    (given (minus (var 0 ⊕ var 1 ⊕ var 2)) (var 3) (lit (pos 0))
+    (given (var 0) (var 4) (lit (pos 0)) (given (var 1) (var 5) (lit (pos 0))
+    (given (var 2) (var 6) (lit (pos 0)) nothing))))
     (p ∷ q ∷ r ∷ hk ∷ hl ∷ hm ∷ hn ∷ []) (ek, (el, (em, (en, tt)))) tt
 
 -- four independent places in the plane of three: these are on one line
 pub only_on_line : OnlyOnLine
 only_on_line a b c k l m n t ek el em en =
     let h = normal_by_heights a b c k l m n in
-    let none = λ (p q r : ℤ). no_heights p q r (orient a b c k) (orient a b c l) (orient a b c m) (orient a b c n) ek el em en in
+    let none = λ (p q r : ℤ). no_heights p q r (orient a b c k) (orient a b c l) (orient a b c m) (orient a b c n) ek el
+    em en in
     record {
-      x = other_factor (orient k l m n) (normal a b c).x t (h.0 ∙ none (normal k m n).x (normal k n l).x (normal k l m).x);
-      y = other_factor (orient k l m n) (normal a b c).y t (h.1 ∙ none (normal k m n).y (normal k n l).y (normal k l m).y);
-      z = other_factor (orient k l m n) (normal a b c).z t (h.2 ∙ none (normal k m n).z (normal k n l).z (normal k l m).z);
+      x = other_factor (orient k l m n) (normal a b c).x t (h.0
+          ∙ none (normal k m n).x (normal k n l).x (normal k l m).x);
+      y = other_factor (orient k l m n) (normal a b c).y t (h.1
+          ∙ none (normal k m n).y (normal k n l).y (normal k l m).y);
+      z = other_factor (orient k l m n) (normal a b c).z t (h.2
+          ∙ none (normal k m n).z (normal k n l).z (normal k l m).z);
     }
 
 -- the other way round
@@ -90,7 +110,8 @@ one_plane a b c k l m n t ek el em en = not_other (orient k l m n) (λ f. t (onl
 no_product : (p q r u v w : ℤ) → p ≡ pos 0 → q ≡ pos 0 → r ≡ pos 0 → p *ℤ u +ℤ q *ℤ v +ℤ r *ℤ w ≡ pos 0
 no_product p q r u v w e f g =
     ring_from (var 0 ⊗ var 3 ⊕ var 1 ⊗ var 4 ⊕ var 2 ⊗ var 5) (lit (pos 0))
-    (given (var 3) (var 0) (lit (pos 0)) (given (var 4) (var 1) (lit (pos 0)) (given (var 5) (var 2) (lit (pos 0)) nothing)))
+    (given (var 3) (var 0) (lit (pos 0)) (given (var 4) (var 1) (lit (pos 0))
+    (given (var 5) (var 2) (lit (pos 0)) nothing)))
     (p ∷ q ∷ r ∷ u ∷ v ∷ w ∷ []) (e, (f, (g, tt))) tt
 
 -- three places on one line have no height over their plane
@@ -101,44 +122,57 @@ line_in_plane a b c y l =
 
 -- In the plane of two coordinates: a vector (p, q) to which (r, s) and (t, u) are parallel, so these are parallel,
 -- times p and times q.
-parallel_first : (p q r s t u : ℤ) → p *ℤ s -ℤ q *ℤ r ≡ pos 0 → p *ℤ u -ℤ q *ℤ t ≡ pos 0 → p *ℤ (r *ℤ u -ℤ s *ℤ t) ≡ pos 0
+parallel_first : (p q r s t u : ℤ) → p *ℤ s -ℤ q *ℤ r ≡ pos 0 → p *ℤ u -ℤ q *ℤ t ≡ pos 0 →
+    p *ℤ (r *ℤ u -ℤ s *ℤ t) ≡ pos 0
 parallel_first p q r s t u e f =
     ring_from (var 0 ⊗ (var 2 ⊗ var 5 ⊖ var 3 ⊗ var 4)) (lit (pos 0))
-    (given (var 2) (var 0 ⊗ var 5 ⊖ var 1 ⊗ var 4) (lit (pos 0)) (given (minus (var 4)) (var 0 ⊗ var 3 ⊖ var 1 ⊗ var 2) (lit (pos 0)) nothing))
+    (given (var 2) (var 0 ⊗ var 5 ⊖ var 1 ⊗ var 4) (lit (pos 0))
+    (given (minus (var 4)) (var 0 ⊗ var 3 ⊖ var 1 ⊗ var 2) (lit (pos 0)) nothing))
     (p ∷ q ∷ r ∷ s ∷ t ∷ u ∷ []) (f, (e, tt)) tt
 
 -- and times q
-parallel_second : (p q r s t u : ℤ) → p *ℤ s -ℤ q *ℤ r ≡ pos 0 → p *ℤ u -ℤ q *ℤ t ≡ pos 0 → q *ℤ (r *ℤ u -ℤ s *ℤ t) ≡ pos 0
+parallel_second : (p q r s t u : ℤ) → p *ℤ s -ℤ q *ℤ r ≡ pos 0 → p *ℤ u -ℤ q *ℤ t ≡ pos 0 →
+    q *ℤ (r *ℤ u -ℤ s *ℤ t) ≡ pos 0
 parallel_second p q r s t u e f =
     ring_from (var 1 ⊗ (var 2 ⊗ var 5 ⊖ var 3 ⊗ var 4)) (lit (pos 0))
-    (given (var 3) (var 0 ⊗ var 5 ⊖ var 1 ⊗ var 4) (lit (pos 0)) (given (minus (var 5)) (var 0 ⊗ var 3 ⊖ var 1 ⊗ var 2) (lit (pos 0)) nothing))
+    (given (var 3) (var 0 ⊗ var 5 ⊖ var 1 ⊗ var 4) (lit (pos 0))
+    (given (minus (var 5)) (var 0 ⊗ var 3 ⊖ var 1 ⊗ var 2) (lit (pos 0)) nothing))
     (p ∷ q ∷ r ∷ s ∷ t ∷ u ∷ []) (f, (e, tt)) tt
 
 -- the same times the third coordinate of the vector (o, p, q), where (x, r, s) and (y, t, u) are parallel to it
-parallel_third : (o p q x r s y t u : ℤ) → p *ℤ u -ℤ q *ℤ t ≡ pos 0 → q *ℤ x -ℤ o *ℤ s ≡ pos 0 → o *ℤ r -ℤ p *ℤ x ≡ pos 0 → o *ℤ (r *ℤ u -ℤ s *ℤ t) ≡ pos 0
+parallel_third : (o p q x r s y t u : ℤ) → p *ℤ u -ℤ q *ℤ t ≡ pos 0 → q *ℤ x -ℤ o *ℤ s ≡ pos 0 →
+    o *ℤ r -ℤ p *ℤ x ≡ pos 0 → o *ℤ (r *ℤ u -ℤ s *ℤ t) ≡ pos 0
 parallel_third o p q x r s y t u e f g =
     ring_from (var 0 ⊗ (var 4 ⊗ var 8 ⊖ var 5 ⊗ var 7)) (lit (pos 0))
     (given (var 3) (var 1 ⊗ var 8 ⊖ var 2 ⊗ var 7) (lit (pos 0))
-    (given (var 7) (var 2 ⊗ var 3 ⊖ var 0 ⊗ var 5) (lit (pos 0)) (given (var 8) (var 0 ⊗ var 4 ⊖ var 1 ⊗ var 3) (lit (pos 0)) nothing)))
+    (given (var 7) (var 2 ⊗ var 3 ⊖ var 0 ⊗ var 5) (lit (pos 0))
+    (given (var 8) (var 0 ⊗ var 4 ⊖ var 1 ⊗ var 3) (lit (pos 0)) nothing)))
     (o ∷ p ∷ q ∷ x ∷ r ∷ s ∷ y ∷ t ∷ u ∷ []) (e, (f, (g, tt))) tt
 
 -- one coordinate of the vector product of two vectors that are parallel to (o, p, q), which is not 0
-parallel_coordinate : (o p q x r s y t u : ℤ) → (o ≡ pos 0 → p ≡ pos 0 → q ≡ pos 0 → ⊥) → p *ℤ s -ℤ q *ℤ r ≡ pos 0 → q *ℤ x -ℤ o *ℤ s ≡ pos 0 → o *ℤ r -ℤ p *ℤ x ≡ pos 0 → p *ℤ u -ℤ q *ℤ t ≡ pos 0 → r *ℤ u -ℤ s *ℤ t ≡ pos 0
+parallel_coordinate : (o p q x r s y t u : ℤ) → (o ≡ pos 0 → p ≡ pos 0 → q ≡ pos 0 → ⊥) → p *ℤ s -ℤ q *ℤ r ≡ pos 0 →
+    q *ℤ x -ℤ o *ℤ s ≡ pos 0 → o *ℤ r -ℤ p *ℤ x ≡ pos 0 → p *ℤ u -ℤ q *ℤ t ≡ pos 0 → r *ℤ u -ℤ s *ℤ t ≡ pos 0
 parallel_coordinate o p q x r s y t u n e f g h =
-    not_other (r *ℤ u -ℤ s *ℤ t) (λ k. n (first_factor o (r *ℤ u -ℤ s *ℤ t) k (parallel_third o p q x r s y t u h f g)) (first_factor p (r *ℤ u -ℤ s *ℤ t) k (parallel_first p q r s t u e h)) (first_factor q (r *ℤ u -ℤ s *ℤ t) k (parallel_second p q r s t u e h)))
+    not_other (r *ℤ u -ℤ s *ℤ t) (λ k. n (first_factor o (r *ℤ u -ℤ s *ℤ t) k (parallel_third o p q x r s y t u h f g))
+    (first_factor p (r *ℤ u -ℤ s *ℤ t) k (parallel_first p q r s t u e h))
+    (first_factor q (r *ℤ u -ℤ s *ℤ t) k (parallel_second p q r s t u e h)))
 
 -- each coordinate of the vector product of two vectors that are parallel to a third is 0
 pub parallel_vectors : ParallelVectors
 unfolding minor triple
 parallel_vectors u v w n e f =
     record {
-      x = parallel_coordinate u.x u.y u.z v.x v.y v.z w.x w.y w.z (λ a b c. n (record { x = a; y = b; z = c })) e.x e.y e.z f.x;
-      y = parallel_coordinate u.y u.z u.x v.y v.z v.x w.y w.z w.x (λ a b c. n (record { x = c; y = a; z = b })) e.y e.z e.x f.y;
-      z = parallel_coordinate u.z u.x u.y v.z v.x v.y w.z w.x w.y (λ a b c. n (record { x = b; y = c; z = a })) e.z e.x e.y f.z;
+      x = parallel_coordinate u.x u.y u.z v.x v.y v.z w.x w.y w.z (λ a b c. n (record { x = a; y = b; z = c })) e.x e.y
+          e.z f.x;
+      y = parallel_coordinate u.y u.z u.x v.y v.z v.x w.y w.z w.x (λ a b c. n (record { x = c; y = a; z = b })) e.y e.z
+          e.x f.y;
+      z = parallel_coordinate u.z u.x u.y v.z v.x v.y w.z w.x w.y (λ a b c. n (record { x = b; y = c; z = a })) e.z e.x
+          e.y f.z;
     }
 
 -- steps from one place of a line to two others, in the plane of two coordinates
-between : (p q a b k l m n : ℤ) → p *ℤ (l -ℤ b) -ℤ q *ℤ (k -ℤ a) ≡ pos 0 → p *ℤ (n -ℤ b) -ℤ q *ℤ (m -ℤ a) ≡ pos 0 → p *ℤ (n -ℤ l) -ℤ q *ℤ (m -ℤ k) ≡ pos 0
+between : (p q a b k l m n : ℤ) → p *ℤ (l -ℤ b) -ℤ q *ℤ (k -ℤ a) ≡ pos 0 → p *ℤ (n -ℤ b) -ℤ q *ℤ (m -ℤ a) ≡ pos 0 →
+    p *ℤ (n -ℤ l) -ℤ q *ℤ (m -ℤ k) ≡ pos 0
 between p q a b k l m n e f =
     ring_from (var 0 ⊗ (var 7 ⊖ var 5) ⊖ var 1 ⊗ (var 6 ⊖ var 4)) (lit (pos 0))
     (given (lit (negsuc 0)) (var 0 ⊗ (var 5 ⊖ var 3) ⊖ var 1 ⊗ (var 4 ⊖ var 2)) (lit (pos 0))

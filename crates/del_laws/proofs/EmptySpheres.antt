@@ -16,7 +16,14 @@ use Rattle.del_laws.specs.Cells.{point, Full, Held, OneOf}
 use Rattle.del_laws.specs.Keys.{AreKeys}
 use Rattle.del_laws.specs.Vertices.{is_full_cell}
 use Rattle.del_laws.specs.EmptySpheres.{place, IsOffEdge, IsOffTriangle, CellsAreEmpty, EdgeByCells, TriangleByCells}
-use Rattle.del_laws.proofs.Identities.{orientation_same12, orientation_same13, orientation_same23, lifted_swap23, edge_power_of, triangle_power_of}
+use Rattle.del_laws.proofs.Identities.{
+  orientation_same12,
+  orientation_same13,
+  orientation_same23,
+  lifted_swap23,
+  edge_power_of,
+  triangle_power_of,
+}
 use Rattle.del_laws.proofs.CellFacts.{full_a, full_b, full_c, full_d, full_turned, full_empty, open_bounds}
 use Rattle.del_laws.proofs.Orders.{full_right}
 use Rattle.del_laws.proofs.Across.{across_full}
@@ -33,9 +40,11 @@ not_less : (s r : ℤ) → HasSignOf s r → pos 0 ≤ℤ r → pos 0 ≤ℤ s
 not_less s r h l = not_below s (λ m. clash r (h.negative m) l)
 
 -- no point of the set is strictly inside the plain sphere of a Full cell
-plain : {s : List ℕ} {a b c d : ℕ} → AreKeys s → Full height s a b c d → (e : ℕ) → IsIn e s → pos 0 ≤ℤ sphere_polynomial a b c d e
+plain : {s : List ℕ} {a b c d : ℕ} → AreKeys s → Full height s a b c d → (e : ℕ) → IsIn e s →
+    pos 0 ≤ℤ sphere_polynomial a b c d e
 plain {s} {a} {b} {c} {d} k F e m =
-    not_less (sphere_polynomial a b c d e) (out a b c d e) (out_sign a b c d e (k.below a (full_a F)) (k.below b (full_b F)) (k.below c (full_c F)) (k.below d (full_d F)) (k.below e m))
+    not_less (sphere_polynomial a b c d e) (out a b c d e) (out_sign a b c d e (k.below a (full_a F))
+    (k.below b (full_b F)) (k.below c (full_c F)) (k.below d (full_d F)) (k.below e m))
     (subst (λ z. pos 0 ≤ℤ z) (sym (out_is a b c d e)) (full_empty F e m))
 
 -- the in-sphere polynomial turns its sign
@@ -54,9 +63,12 @@ both_turned o p q r e f l =
 -- the law CellsAreEmpty
 pub cells_are_empty : CellsAreEmpty
 cells_are_empty s a b c d e k t m = elim (cell_from s (point a) (point b) (point c) (point d) t) [
-  | inl F ↦ mul_nonneg (orientation a b c d) (sphere_polynomial a b c d e) (weak (orientation a b c d) (full_turned F)) (plain k F e m)
-  | inr F ↦ both_turned (orientation a b c d) (orientation a c b d) (sphere_polynomial a b c d e) (sphere_polynomial a c b d e) (swap_middle a b c d) (swapped a b c d e)
-      (mul_nonneg (orientation a c b d) (sphere_polynomial a c b d e) (weak (orientation a c b d) (full_turned F)) (plain k F e m))
+  | inl F ↦ mul_nonneg (orientation a b c d) (sphere_polynomial a b c d e) (weak (orientation a b c d) (full_turned F))
+      (plain k F e m)
+  | inr F ↦ both_turned (orientation a b c d) (orientation a c b d) (sphere_polynomial a b c d e)
+      (sphere_polynomial a c b d e) (swap_middle a b c d) (swapped a b c d e)
+      (mul_nonneg (orientation a c b d) (sphere_polynomial a c b d e) (weak (orientation a c b d) (full_turned F))
+      (plain k F e m))
 ]
 
 -- ---- edges
@@ -72,7 +84,8 @@ abbrev With : List ℕ → ℕ → ℕ → ℕ → ℕ → ℕ → ℕ → Type 
 With s a b = AtPoint (AtPoint (λ i j k l. Full height s i j k l) a) b
 
 -- a number by two others of weights that are not negative
-carried : (q f w1 w2 c0 c1 c2 : ℤ) → q *ℤ c0 ≡ f +ℤ (w1 *ℤ c1 +ℤ w2 *ℤ c2) → pos 0 <ℤ q → pos 0 ≤ℤ f → pos 0 ≤ℤ w1 → pos 0 ≤ℤ w2 → pos 0 ≤ℤ c1 → pos 0 ≤ℤ c2 → pos 0 ≤ℤ c0
+carried : (q f w1 w2 c0 c1 c2 : ℤ) → q *ℤ c0 ≡ f +ℤ (w1 *ℤ c1 +ℤ w2 *ℤ c2) → pos 0 <ℤ q → pos 0 ≤ℤ f → pos 0 ≤ℤ w1 →
+    pos 0 ≤ℤ w2 → pos 0 ≤ℤ c1 → pos 0 ≤ℤ c2 → pos 0 ≤ℤ c0
 carried q f w1 w2 c0 c1 c2 e hq hf k1 k2 l1 l2 =
     not_below c0 (λ l. omega (arith, ints, mul_pos_neg q c0 hq l, mul_nonneg w1 c1 k1 l1, mul_nonneg w2 c2 k2 l2))
 
@@ -91,7 +104,10 @@ module _ (s : List ℕ) (k : AreKeys s) (a b : ℕ) (differ : ¬ (b ≡ a)) wher
     | inl f ↦ absurd (differ (sym f))
     | inr r ↦ elim r [
       | inl f ↦ at f t
-      | inr u ↦ elim u [ inl f ↦ at f (closest_right with_set t) | inr w ↦ elim w [ inl f ↦ at f (closest_right with_set (closest_right with_set t)) | inr none ↦ absurd none ] ]
+      | inr u ↦ elim u [
+        | inl f ↦ at f (closest_right with_set t)
+        | inr w ↦ elim w [ inl f ↦ at f (closest_right with_set (closest_right with_set t)) | inr none ↦ absurd none ]
+      ]
     ]
   ]
     where
@@ -107,31 +123,46 @@ module _ (s : List ℕ) (k : AreKeys s) (a b : ℕ) (differ : ¬ (b ≡ a)) wher
       | inl f ↦ at f (closest_left with_set t)
       | inr u ↦ elim u [
         | inl f ↦ at f (closest_left with_set (closest_left with_set t))
-        | inr v ↦ elim v [ inl f ↦ at f (closest_left with_set (closest_left with_set (closest_right with_set t))) | inr none ↦ absurd none ]
+        | inr v ↦ elim v [
+          | inl f ↦ at f (closest_left with_set (closest_left with_set (closest_right with_set t)))
+          | inr none ↦ absurd none
+        ]
       ]
     ]
   ]
     where
       -- a is there
       at : {u x y z : ℕ} → u ≡ a → Closest height (With s a b) e u x y z → Arranged (With s a b) e a b
-      at {u} {x} {y} {z} f t = let k : Closest height (With s a b) e a x y z = subst (λ v. Closest height (With s a b) e v x y z) f t in second e x y z k k.at.1
+      at {u} {x} {y} {z} f t =
+          let k : Closest height (With s a b) e a x y z =
+          subst (λ v. Closest height (With s a b) e v x y z) f t in second e x y z k k.at.1
 
   -- the third point of a cell is neither a nor b
   apart_c : {c d : ℕ} → Full height s a b c d → ¬ (IsIn c (b ∷ a ∷ []))
   apart_c {c} {d} F m = elim m [
-    | inl f ↦ not_zero (orientation a b c d) (full_turned F) (ap (λ x. orientation a b x d) (sym f) ∙ orientation_same23 a b d)
-    | inr r ↦ elim r [ inl f ↦ not_zero (orientation a b c d) (full_turned F) (ap (λ x. orientation a b x d) (sym f) ∙ orientation_same13 a b d) | inr none ↦ none ]
+    | inl f ↦ not_zero (orientation a b c d) (full_turned F) (ap (λ x. orientation a b x d) (sym f)
+        ∙ orientation_same23 a b d)
+    | inr r ↦ elim r [
+      | inl f ↦ not_zero (orientation a b c d) (full_turned F) (ap (λ x. orientation a b x d) (sym f)
+          ∙ orientation_same13 a b d)
+      | inr none ↦ none
+    ]
   ]
 
   -- nor is the fourth
   apart_d : {c d : ℕ} → Full height s a b c d → ¬ (IsIn d (b ∷ a ∷ []))
   apart_d {c} {d} F m = elim m [
     | inl f ↦ not_zero (orientation a b c d) (full_turned F) (ap (λ x. orientation a b c x) (sym f) ∙ last_second a b c)
-    | inr r ↦ elim r [ inl f ↦ not_zero (orientation a b c d) (full_turned F) (ap (λ x. orientation a b c x) (sym f) ∙ last_first a b c) | inr none ↦ none ]
+    | inr r ↦ elim r [
+      | inl f ↦ not_zero (orientation a b c d) (full_turned F) (ap (λ x. orientation a b c x) (sym f)
+          ∙ last_first a b c)
+      | inr none ↦ none
+    ]
   ]
 
   -- where the points of the cells with the edge are not inside, no point of the set is
-  all_off_edge : (c d : ℕ) → Full height s a b c d → ((x y : ℕ) → is_full_cell s a b x y ≡ true → IsOffEdge a b x) → (e : ℕ) → IsIn e s → IsOffEdge a b e
+  all_off_edge : (c d : ℕ) → Full height s a b c d → ((x y : ℕ) → is_full_cell s a b x y ≡ true → IsOffEdge a b x) →
+      (e : ℕ) → IsIn e s → IsOffEdge a b e
   all_off_edge c d F o e m =
       let t = closest with_set e a b c d ((F, inl refl), inr (inl refl)) in
       by_closest (first e t.0.a t.0.b t.0.c t.0.d t.1 t.1.at.0.1)
@@ -140,9 +171,12 @@ module _ (s : List ℕ) (k : AreKeys s) (a b : ℕ) (differ : ¬ (b ≡ a)) wher
       by_closest : Arranged (With s a b) e a b → IsOffEdge a b e
       by_closest g =
           let G = g.near.at.0.0 in
-          carried (orientation a b g.c g.d) (sphere_polynomial a b g.c g.d e) (orientation a g.d b e) (orientation a b g.c e) (edge_power (place a) (place b) (place e)) (edge_power (place a) (place b) (place g.c)) (edge_power (place a) (place b) (place g.d))
+          carried (orientation a b g.c g.d) (sphere_polynomial a b g.c g.d e) (orientation a g.d b e)
+          (orientation a b g.c e) (edge_power (place a) (place b) (place e))
+          (edge_power (place a) (place b) (place g.c)) (edge_power (place a) (place b) (place g.d))
           (edge_power_of a b g.c g.d e) (full_turned G) (plain k G e m)
-          (weight (no_ties s k) with_set with_closed (closest_right with_set (closest_right with_set g.near)) m (apart_c G))
+          (weight (no_ties s k) with_set with_closed (closest_right with_set (closest_right with_set g.near)) m
+          (apart_c G))
           (weight (no_ties s k) with_set with_closed g.near m (apart_d G))
           (o g.c g.d (cell_true s k (point a) (point b) (point g.c) (point g.d) (inl G)))
           (o g.d g.c (cell_true s k (point a) (point b) (point g.d) (point g.c) (inr (full_right (full_right G)))))
@@ -157,7 +191,8 @@ fourth_in H = elim H [ inl F ↦ full_d F | inr F ↦ full_d F ]
 
 -- the two ends of an edge of a Full cell differ
 ends_differ : {s : List ℕ} {a b c d : ℕ} → Full height s a b c d → ¬ (b ≡ a)
-ends_differ {s} {a} {b} {c} {d} F e = not_zero (orientation a b c d) (full_turned F) (ap (λ x. orientation a x c d) e ∙ orientation_same12 a c d)
+ends_differ {s} {a} {b} {c} {d} F e =
+    not_zero (orientation a b c d) (full_turned F) (ap (λ x. orientation a x c d) e ∙ orientation_same12 a c d)
 
 -- the law EdgeByCells
 pub edge_by_cells : EdgeByCells
@@ -167,7 +202,8 @@ edge_by_cells s a b c d k t = (
 )
   where
     -- in an order of positive orientation
-    by_order : Held height s (point a) (point b) (point c) (point d) → ((x y : ℕ) → is_full_cell s a b x y ≡ true → IsOffEdge a b x) → (e : ℕ) → IsIn e s → IsOffEdge a b e
+    by_order : Held height s (point a) (point b) (point c) (point d) →
+        ((x y : ℕ) → is_full_cell s a b x y ≡ true → IsOffEdge a b x) → (e : ℕ) → IsIn e s → IsOffEdge a b e
     by_order H o e m = elim H [
       | inl F ↦ all_off_edge s k a b (ends_differ F) c d F o e m
       | inr F ↦ (let G : Full height s a b d c = full_right F in all_off_edge s k a b (ends_differ G) d c G o e m)
@@ -180,26 +216,36 @@ square_weak : (u : Vector) → pos 0 ≤ℤ square u
 square_weak u = omega (arith, ints, square_nonneg u.x, square_nonneg u.y, square_nonneg u.z)
 
 -- a number by one other of a weight that is not negative
-carried_one : (q f n w c0 c1 : ℤ) → q *ℤ c0 ≡ f *ℤ n +ℤ w *ℤ c1 → pos 0 <ℤ q → pos 0 ≤ℤ f → pos 0 ≤ℤ n → pos 0 ≤ℤ w → pos 0 ≤ℤ c1 → pos 0 ≤ℤ c0
+carried_one : (q f n w c0 c1 : ℤ) → q *ℤ c0 ≡ f *ℤ n +ℤ w *ℤ c1 → pos 0 <ℤ q → pos 0 ≤ℤ f → pos 0 ≤ℤ n → pos 0 ≤ℤ w →
+    pos 0 ≤ℤ c1 → pos 0 ≤ℤ c0
 carried_one q f n w c0 c1 e hq hf hn hw l =
     not_below c0 (λ m. omega (arith, ints, mul_pos_neg q c0 hq m, mul_nonneg f n hf hn, mul_nonneg w c1 hw l))
 
 -- the same with all three signs turned
-carried_turned : (q f n w c0 c1 : ℤ) → q *ℤ c0 ≡ f *ℤ n +ℤ w *ℤ c1 → pos 0 <ℤ neg_ℤ q → pos 0 ≤ℤ neg_ℤ f → pos 0 ≤ℤ n → pos 0 ≤ℤ neg_ℤ w → pos 0 ≤ℤ c1 → pos 0 ≤ℤ c0
+carried_turned : (q f n w c0 c1 : ℤ) → q *ℤ c0 ≡ f *ℤ n +ℤ w *ℤ c1 → pos 0 <ℤ neg_ℤ q → pos 0 ≤ℤ neg_ℤ f → pos 0 ≤ℤ n →
+    pos 0 ≤ℤ neg_ℤ w → pos 0 ≤ℤ c1 → pos 0 ≤ℤ c0
 carried_turned q f n w c0 c1 e hq hf hn hw l =
-    carried_one (neg_ℤ q) (neg_ℤ f) n (neg_ℤ w) c0 c1 (let i = neg_mul q c0 in let j = neg_mul f n in let o = neg_mul w c1 in omega (arith, ints, i, j, o, e)) hq hf hn hw l
+    carried_one (neg_ℤ q) (neg_ℤ f) n (neg_ℤ w) c0 c1 (let i = neg_mul q c0 in let j = neg_mul f n in
+    let o = neg_mul w c1 in omega (arith, ints, i, j, o, e)) hq hf hn hw l
 
 module _ (s : List ℕ) (k : AreKeys s) (a b c : ℕ) where
   -- a point on the side of a Full cell of the triangle, where the opposite point is not inside
-  before : (d : ℕ) → Full height s a b c d → IsOffTriangle a b c d → (e : ℕ) → IsIn e s → pos 0 ≤ℤ orientation a b c e → IsOffTriangle a b c e
+  before : (d : ℕ) → Full height s a b c d → IsOffTriangle a b c d → (e : ℕ) → IsIn e s → pos 0 ≤ℤ orientation a b c e →
+      IsOffTriangle a b c e
   before d F o e m l =
-      carried_one (orientation a b c d) (sphere_polynomial a b c d e) (square (normal (place a) (place b) (place c))) (orientation a b c e) (triangle_power (place a) (place b) (place c) (place e)) (triangle_power (place a) (place b) (place c) (place d))
-      (triangle_power_of a b c d e) (full_turned F) (plain k F e m) (square_weak (normal (place a) (place b) (place c))) l o
+      carried_one (orientation a b c d) (sphere_polynomial a b c d e) (square (normal (place a) (place b) (place c)))
+      (orientation a b c e) (triangle_power (place a) (place b) (place c) (place e))
+      (triangle_power (place a) (place b) (place c) (place d))
+      (triangle_power_of a b c d e) (full_turned F) (plain k F e m) (square_weak (normal (place a) (place b) (place c)))
+      l o
 
   -- the same on the other side
-  behind : (d : ℕ) → Full height s a c b d → IsOffTriangle a b c d → (e : ℕ) → IsIn e s → pos 0 ≤ℤ orientation a c b e → IsOffTriangle a b c e
+  behind : (d : ℕ) → Full height s a c b d → IsOffTriangle a b c d → (e : ℕ) → IsIn e s → pos 0 ≤ℤ orientation a c b e →
+      IsOffTriangle a b c e
   behind d F o e m l =
-      carried_turned (orientation a b c d) (sphere_polynomial a b c d e) (square (normal (place a) (place b) (place c))) (orientation a b c e) (triangle_power (place a) (place b) (place c) (place e)) (triangle_power (place a) (place b) (place c) (place d))
+      carried_turned (orientation a b c d) (sphere_polynomial a b c d e) (square (normal (place a) (place b) (place c)))
+      (orientation a b c e) (triangle_power (place a) (place b) (place c) (place e))
+      (triangle_power (place a) (place b) (place c) (place d))
       (triangle_power_of a b c d e)
       (subst (λ z. pos 0 <ℤ z) (swap_middle a b c d) (full_turned F))
       (subst (λ z. pos 0 ≤ℤ z) (swapped a b c d e) (plain k F e m))
@@ -211,21 +257,25 @@ turned_weak : (y z : ℤ) → z ≡ neg_ℤ y → y <ℤ pos 0 → pos 0 ≤ℤ 
 turned_weak y z e l = omega (arith, ints)
 
 -- where the opposite points of a triangle are not inside, no point of the set is: from a Full cell on the one side
-all_off_triangle : (s : List ℕ) (k : AreKeys s) (a b c d : ℕ) → Full height s a b c d → ((x : ℕ) → is_full_cell s a b c x ≡ true → IsOffTriangle a b c x) → (e : ℕ) → IsIn e s → IsOffTriangle a b c e
+all_off_triangle : (s : List ℕ) (k : AreKeys s) (a b c d : ℕ) → Full height s a b c d →
+    ((x : ℕ) → is_full_cell s a b c x ≡ true → IsOffTriangle a b c x) → (e : ℕ) → IsIn e s → IsOffTriangle a b c e
 all_off_triangle s k a b c d F o e m = elim (below_or_not (orientation a b c e)) [
   | inr l ↦ before s k a b c d F (o d (cell_true s k (point a) (point b) (point c) (point d) (inl F))) e m l
   | inl l ↦ elim (across_full F) [
-    | inl r ↦ behind s k a b c r.0 r.1 (o r.0 (cell_true s k (point a) (point b) (point c) (point r.0) (inr r.1))) e m (turned_weak (orientation a b c e) (orientation a c b e) (swap_middle a b c e) l)
+    | inl r ↦ behind s k a b c r.0 r.1 (o r.0 (cell_true s k (point a) (point b) (point c) (point r.0) (inr r.1))) e m
+        (turned_weak (orientation a b c e) (orientation a c b e) (swap_middle a b c e) l)
     | inr G ↦ absurd (clash (orientation a b c e) l (open_bounds G e m))
   ]
 ]
 
 -- from one on the other side
-all_off_behind : (s : List ℕ) (k : AreKeys s) (a b c d : ℕ) → Full height s a c b d → ((x : ℕ) → is_full_cell s a b c x ≡ true → IsOffTriangle a b c x) → (e : ℕ) → IsIn e s → IsOffTriangle a b c e
+all_off_behind : (s : List ℕ) (k : AreKeys s) (a b c d : ℕ) → Full height s a c b d →
+    ((x : ℕ) → is_full_cell s a b c x ≡ true → IsOffTriangle a b c x) → (e : ℕ) → IsIn e s → IsOffTriangle a b c e
 all_off_behind s k a b c d F o e m = elim (below_or_not (orientation a c b e)) [
   | inr l ↦ behind s k a b c d F (o d (cell_true s k (point a) (point b) (point c) (point d) (inr F))) e m l
   | inl l ↦ elim (across_full F) [
-    | inl r ↦ before s k a b c r.0 r.1 (o r.0 (cell_true s k (point a) (point b) (point c) (point r.0) (inl r.1))) e m (turned_weak (orientation a c b e) (orientation a b c e) (swap_middle a c b e) l)
+    | inl r ↦ before s k a b c r.0 r.1 (o r.0 (cell_true s k (point a) (point b) (point c) (point r.0) (inl r.1))) e m
+        (turned_weak (orientation a c b e) (orientation a b c e) (swap_middle a c b e) l)
     | inr G ↦ absurd (clash (orientation a c b e) l (open_bounds G e m))
   ]
 ]
@@ -233,6 +283,9 @@ all_off_behind s k a b c d F o e m = elim (below_or_not (orientation a c b e)) [
 -- the law TriangleByCells
 pub triangle_by_cells : TriangleByCells
 triangle_by_cells s a b c d k t = (
-  λ o e m. elim (cell_from s (point a) (point b) (point c) (point d) t) [ inl F ↦ all_off_triangle s k a b c d F o e m | inr F ↦ all_off_behind s k a b c d F o e m ],
+  λ o e m. elim (cell_from s (point a) (point b) (point c) (point d) t) [
+    | inl F ↦ all_off_triangle s k a b c d F o e m
+    | inr F ↦ all_off_behind s k a b c d F o e m
+  ],
   λ o x u. o x (fourth_in (cell_from s (point a) (point b) (point c) (point x) u)),
 )

@@ -7,18 +7,22 @@ use Rattle.del_laws.proofs.Sides.{Facing, facing_triple}
 use Rattle.del_laws.proofs.Pairs.{facing_pair}
 
 -- the facet in another order
-moved : (h : ℕ → ℕ) (s : List ℕ) (t u v t' u' v' x : Vertex) → ((z : Vertex) → Held h s t u v z → Held h s t' u' v' z) → ((z : Vertex) → Held h s t' u' v' z → Held h s t u v z) → Facing h s t u v x → Facing h s t' u' v' x
-moved h s t u v t' u' v' x f g k = record { other = k.other; differs = k.differs; cell = f k.other k.cell; only = λ z m. k.only z (g z m) }
+moved : (h : ℕ → ℕ) (s : List ℕ) (t u v t' u' v' x : Vertex) → ((z : Vertex) → Held h s t u v z → Held h s t' u' v' z) →
+    ((z : Vertex) → Held h s t' u' v' z → Held h s t u v z) → Facing h s t u v x → Facing h s t' u' v' x
+moved h s t u v t' u' v' x f g k =
+    record { other = k.other; differs = k.differs; cell = f k.other k.cell; only = λ z m. k.only z (g z m) }
 
 -- the vertex across a facet of a cell
 pub facing : (h : ℕ → ℕ) (s : List ℕ) → NoTies h s → (t u v x : Vertex) → Held h s t u v x → Facing h s t u v x
 facing h s n (point a) (point b) (point c) x k = facing_triple n a b c x k
 facing h s n (point a) (point b) far x k = facing_pair h s n a b x k
 facing h s n (point a) far (point c) x k =
-    moved h s (point a) (point c) far (point a) far (point c) x (swap23 h s (point a) (point c) far) (swap23 h s (point a) far (point c)) (facing_pair h s n a c x (swap23 h s (point a) far (point c) x k))
+    moved h s (point a) (point c) far (point a) far (point c) x (swap23 h s (point a) (point c) far)
+    (swap23 h s (point a) far (point c)) (facing_pair h s n a c x (swap23 h s (point a) far (point c) x k))
 facing h s n far (point b) (point c) x k =
     moved h s (point b) (point c) far far (point b) (point c) x
-    (λ z m. swap12 h s (point b) far (point c) z (swap23 h s (point b) (point c) far z m)) (λ z m. swap23 h s (point b) far (point c) z (swap12 h s far (point b) (point c) z m))
+    (λ z m. swap12 h s (point b) far (point c) z (swap23 h s (point b) (point c) far z m))
+    (λ z m. swap23 h s (point b) far (point c) z (swap12 h s far (point b) (point c) z m))
     (facing_pair h s n b c x (swap23 h s (point b) far (point c) x (swap12 h s far (point b) (point c) x k)))
 facing h s n (point a) far far x k = absurd k
 facing h s n far (point b) far x k = absurd k

@@ -103,44 +103,58 @@ lifted_at_d h a b c d = laws.lifted_same45 (raised h d) (raised h a) (raised h b
 -- ---- relations
 
 -- the three-term relation of four points around a pair
-pub three_terms_of : (a b c d x y : ℕ) → orientation a b c d *ℤ orientation a b x y -ℤ orientation a b c x *ℤ orientation a b d y +ℤ orientation a b c y *ℤ orientation a b d x ≡ pos 0
+pub three_terms_of : (a b c d x y : ℕ) → orientation a b c d *ℤ orientation a b x y -ℤ orientation a b c x
+    *ℤ orientation a b d y +ℤ orientation a b c y *ℤ orientation a b d x ≡ pos 0
 unfolding orientation orient triple minor x_from y_from z_from
 three_terms_of a b c d x y = laws.three_terms (place a) (place b) (place c) (place d) (place x) (place y)
 
 -- the pencil of spheres through three points
-pub pencil_of : (h : ℕ → ℕ) (a b c x y z : ℕ) → orientation a b c x *ℤ lifted h a b c y z -ℤ orientation a b c y *ℤ lifted h a b c x z +ℤ orientation a b c z *ℤ lifted h a b c x y ≡ pos 0
+pub pencil_of : (h : ℕ → ℕ) (a b c x y z : ℕ) → orientation a b c x *ℤ lifted h a b c y z -ℤ orientation a b c y
+    *ℤ lifted h a b c x z +ℤ orientation a b c z *ℤ lifted h a b c x y ≡ pos 0
 unfolding lifted lifted_determinant orientation orient triple minor x_from y_from z_from
 pencil_of h a b c x y z = laws.pencil (raised h a) (raised h b) (raised h c) (raised h x) (raised h y) (raised h z)
 
 -- the weights of e add up
-pub weights_of : (a b c d e : ℕ) → orientation b d c e +ℤ orientation a c d e +ℤ orientation a d b e +ℤ orientation a b c e ≡ orientation a b c d
+pub weights_of : (a b c d e : ℕ) → orientation b d c e +ℤ orientation a c d e +ℤ orientation a d b e
+    +ℤ orientation a b c e ≡ orientation a b c d
 unfolding orientation orient triple minor x_from y_from z_from
 weights_of a b c d e = laws.weights_add_up (place a) (place b) (place c) (place d) (place e)
 
 -- an orientation with e by those with the vertices
-pub orientation_carried : (a b c d e k l m : ℕ) → orientation a b c d *ℤ orientation k l m e ≡ orientation b d c e *ℤ orientation k l m a +ℤ orientation a c d e *ℤ orientation k l m b +ℤ orientation a d b e *ℤ orientation k l m c +ℤ orientation a b c e *ℤ orientation k l m d
+pub orientation_carried : (a b c d e k l m : ℕ) → orientation a b c d *ℤ orientation k l m e
+    ≡ orientation b d c e *ℤ orientation k l m a +ℤ orientation a c d e *ℤ orientation k l m b +ℤ orientation a d b e
+    *ℤ orientation k l m c +ℤ orientation a b c e *ℤ orientation k l m d
 unfolding orientation orient triple minor x_from y_from z_from
-orientation_carried a b c d e k l m = laws.orient_carried (place a) (place b) (place c) (place d) (place e) (place k) (place l) (place m)
+orientation_carried a b c d e k l m =
+    laws.orient_carried (place a) (place b) (place c) (place d) (place e) (place k) (place l) (place m)
 
 -- a lifted determinant with e by those with the vertices
-pub lifted_carried_of : (h : ℕ → ℕ) (a b c d e k l m n : ℕ) → orientation a b c d *ℤ lifted h k l m n e ≡ orientation k l m n *ℤ lifted h a b c d e +ℤ (orientation b d c e *ℤ lifted h k l m n a +ℤ orientation a c d e *ℤ lifted h k l m n b +ℤ orientation a d b e *ℤ lifted h k l m n c +ℤ orientation a b c e *ℤ lifted h k l m n d)
+pub lifted_carried_of : (h : ℕ → ℕ) (a b c d e k l m n : ℕ) → orientation a b c d *ℤ lifted h k l m n e
+    ≡ orientation k l m n *ℤ lifted h a b c d e +ℤ (orientation b d c e *ℤ lifted h k l m n a +ℤ orientation a c d e
+    *ℤ lifted h k l m n b +ℤ orientation a d b e *ℤ lifted h k l m n c +ℤ orientation a b c e *ℤ lifted h k l m n d)
 unfolding lifted lifted_determinant orientation orient triple minor x_from y_from z_from
 lifted_carried_of h a b c d e k l m n =
-    laws.lifted_carried (raised h a) (raised h b) (raised h c) (raised h d) (raised h e) (raised h k) (raised h l) (raised h m) (raised h n)
+    laws.lifted_carried (raised h a) (raised h b) (raised h c) (raised h d) (raised h e) (raised h k) (raised h l)
+    (raised h m) (raised h n)
 
 -- from a cell to the one across a facet
-pub crossing_of : (h : ℕ → ℕ) (a b c d f e : ℕ) → lifted h a c b f e *ℤ orientation a b c d -ℤ lifted h a b c d e *ℤ orientation a c b f ≡ orientation a b c e *ℤ lifted h a b c d f
+pub crossing_of : (h : ℕ → ℕ) (a b c d f e : ℕ) → lifted h a c b f e *ℤ orientation a b c d -ℤ lifted h a b c d e
+    *ℤ orientation a c b f ≡ orientation a b c e *ℤ lifted h a b c d f
 unfolding lifted lifted_determinant orientation orient triple minor x_from y_from z_from
 crossing_of h a b c d f e = laws.crossing (raised h a) (raised h b) (raised h c) (raised h d) (raised h f) (raised h e)
 
 -- ---- smallest spheres
 
 -- the power of e to the smallest sphere of the edge a, b by those of the other two vertices
-pub edge_power_of : (a b c d e : ℕ) → orientation a b c d *ℤ edge_power (place a) (place b) (place e) ≡ sphere_polynomial a b c d e +ℤ (orientation a d b e *ℤ edge_power (place a) (place b) (place c) +ℤ orientation a b c e *ℤ edge_power (place a) (place b) (place d))
+pub edge_power_of : (a b c d e : ℕ) → orientation a b c d *ℤ edge_power (place a) (place b) (place e)
+    ≡ sphere_polynomial a b c d e +ℤ (orientation a d b e *ℤ edge_power (place a) (place b) (place c)
+    +ℤ orientation a b c e *ℤ edge_power (place a) (place b) (place d))
 unfolding sphere_polynomial square_of lifted lifted_determinant orientation orient triple minor x_from y_from z_from
 edge_power_of a b c d e = laws.edge_power_carried (place a) (place b) (place c) (place d) (place e)
 
 -- the power to the smallest sphere of the triangle a, b, c by that of the fourth vertex
-pub triangle_power_of : (a b c d e : ℕ) → orientation a b c d *ℤ triangle_power (place a) (place b) (place c) (place e) ≡ sphere_polynomial a b c d e *ℤ square (normal (place a) (place b) (place c)) +ℤ orientation a b c e *ℤ triangle_power (place a) (place b) (place c) (place d)
+pub triangle_power_of : (a b c d e : ℕ) → orientation a b c d *ℤ triangle_power (place a) (place b) (place c) (place e)
+    ≡ sphere_polynomial a b c d e *ℤ square (normal (place a) (place b) (place c)) +ℤ orientation a b c e
+    *ℤ triangle_power (place a) (place b) (place c) (place d)
 unfolding sphere_polynomial square_of lifted lifted_determinant orientation orient triple minor x_from y_from z_from
 triangle_power_of a b c d e = laws.triangle_power_carried (place a) (place b) (place c) (place d) (place e)

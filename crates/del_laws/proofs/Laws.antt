@@ -5,8 +5,34 @@ use Rattle.list_laws.proofs.Cited.{not_both}
 use Rattle.point_order.specs.Orientation.{is_collinear}
 use Rattle.point_order.specs.Heights.{lifted}
 use Rattle.del_laws.specs.Cells.{point, far, Cell, IsOutside}
-use Rattle.del_laws.specs.Laws.{SwapFirst, SwapMiddle, SwapLast, AcrossFull, AcrossOpen, OneFullOnASide, OneOpenOnASide, SmallerSet, BetweenSets, NoFlatTriple, AnyMate, FullStays, OpenStays, KeysHaveNoTies, KeysAreConvex, TestOfCells}
-use Rattle.del_laws.specs.Walks.{CloserAcross, FartherAcross, AwayFromAPoint, SolidHasCells, EveryPoint, SomeFacetBehind, CrossingTowards, FewerAreNearer}
+use Rattle.del_laws.specs.Laws.{
+  SwapFirst,
+  SwapMiddle,
+  SwapLast,
+  AcrossFull,
+  AcrossOpen,
+  OneFullOnASide,
+  OneOpenOnASide,
+  SmallerSet,
+  BetweenSets,
+  NoFlatTriple,
+  AnyMate,
+  FullStays,
+  OpenStays,
+  KeysHaveNoTies,
+  KeysAreConvex,
+  TestOfCells,
+}
+use Rattle.del_laws.specs.Walks.{
+  CloserAcross,
+  FartherAcross,
+  AwayFromAPoint,
+  SolidHasCells,
+  EveryPoint,
+  SomeFacetBehind,
+  CrossingTowards,
+  FewerAreNearer,
+}
 use Rattle.del_laws.proofs.CellFacts.{full_against, open_under}
 use Rattle.del_laws.proofs.Orders.{cell_12, cell_23, cell_34}
 use Rattle.del_laws.proofs.Across.{across_full, across_open}
@@ -51,7 +77,8 @@ one_open_on_a_side h s a b x y n F G = one_open n F G
 
 -- the law SmallerSet
 pub smaller_set : SmallerSet
-smaller_set h t s u i w x y z c mw mx my mz = record { held = smaller h t s u i w x y z c.held (record { first = mw; second = mx; third = my; fourth = mz }) }
+smaller_set h t s u i w x y z c mw mx my mz =
+    record { held = smaller h t s u i w x y z c.held (record { first = mw; second = mx; third = my; fourth = mz }) }
 
 -- the law BetweenSets
 pub between_sets : BetweenSets

@@ -1,8 +1,46 @@
 -- Which cells the sorted list of a complex has.
-use Rattle.std.specs.Prelude.{◌≡◌, refl, ℕ, zero, suc, ◌<◌, Bool, true, false, not, ◌&&◌, ◌||◌, List, [], ◌∷◌, ◌⊎◌, map, length}
+use Rattle.std.specs.Prelude.{
+  ◌≡◌,
+  refl,
+  ℕ,
+  zero,
+  suc,
+  ◌<◌,
+  Bool,
+  true,
+  false,
+  not,
+  ◌&&◌,
+  ◌||◌,
+  List,
+  [],
+  ◌∷◌,
+  ◌⊎◌,
+  map,
+  length,
+}
 use Rattle.std.specs.List.{filter, list_all}
 use Rattle.std.proofs.Common.{arith, inl, inr, sym, subst}
-use Rattle.list_laws.proofs.Cited.{all_from, all_true, among_from, among_true, below_each, both_true, filtered_from, filtered_true, first_below, first_true, from_append, in_left, in_right, less_chain, mapped_from, mapped_true, not_from, second_true}
+use Rattle.list_laws.proofs.Cited.{
+  all_from,
+  all_true,
+  among_from,
+  among_true,
+  below_each,
+  both_true,
+  filtered_from,
+  filtered_true,
+  first_below,
+  first_true,
+  from_append,
+  in_left,
+  in_right,
+  less_chain,
+  mapped_from,
+  mapped_true,
+  not_from,
+  second_true,
+}
 use Rattle.point_order.specs.declared.cell.Cell.{Cell}
 use Rattle.point_order.specs.declared.cell.Cell.TheVariants.{Full, Open}
 use Rattle.point_order.specs.Orientation.{is_flat}
@@ -18,7 +56,10 @@ use Rattle.del_laws.specs.Listed.{IsListedFull, IsListedOpen, IsListed, Definiti
 
 -- a part has members of the list
 pub part_inside : (k : ℕ) (s q : List ℕ) → IsIn q (subsets k s) → (p : ℕ) → IsIn p q → IsIn p s
-part_inside zero s q m p i = elim m [ inl e ↦ absurd (subst (λ (l : List ℕ). IsIn p l) (sym e) i) | inr none ↦ absurd none ]
+part_inside zero s q m p i = elim m [
+  | inl e ↦ absurd (subst (λ (l : List ℕ). IsIn p l) (sym e) i)
+  | inr none ↦ absurd none
+]
 part_inside (suc k) [] q m p i = absurd m
 part_inside (suc k) (x ∷ s) q m p i = elim (from_append q (map (λ r. x ∷ r) (subsets k s)) (subsets (suc k) s) m) [
   | inl l ↦ (
@@ -38,7 +79,10 @@ part_ascending (suc k) [] q a m = absurd m
 part_ascending (suc k) (x ∷ s) q a m = elim (from_append q (map (λ r. x ∷ r) (subsets k s)) (subsets (suc k) s) m) [
   | inl l ↦ (
       let r = mapped_from (λ r. x ∷ r) q (subsets k s) l in
-      subst IsAscending r.2 (first_below x r.0 (λ y i. below_each x s a.0 a.1 y (part_inside k s r.0 r.1 y i)), part_ascending k s r.0 a.1 r.1))
+      subst IsAscending r.2 (
+        first_below x r.0 (λ y i. below_each x s a.0 a.1 y (part_inside k s r.0 r.1 y i)),
+        part_ascending k s r.0 a.1 r.1,
+      ))
   | inr l ↦ part_ascending (suc k) s q a.1 l
 ]
 
@@ -47,14 +91,20 @@ not_less : (n : ℕ) → n < n → ⊥
 not_less n e = omega arith
 
 -- an ascending list of members is a part
-pub part_true : (s q : List ℕ) → IsAscending s → IsAscending q → ((p : ℕ) → IsIn p q → IsIn p s) → IsIn q (subsets (length q) s)
+pub part_true : (s q : List ℕ) → IsAscending s → IsAscending q → ((p : ℕ) → IsIn p q → IsIn p s) →
+    IsIn q (subsets (length q) s)
 part_true s [] a b f = inl refl
 part_true [] (x ∷ q) a b f = absurd (f x (inl refl))
 part_true (y ∷ s) (x ∷ q) a b f = elim (f x (inl refl)) [
   | inl e ↦ in_left (x ∷ q) (map (λ r. y ∷ r) (subsets (length q) s)) (subsets (suc (length q)) s)
-      (subst (λ v. IsIn (v ∷ q) (map (λ r. y ∷ r) (subsets (length q) s))) e (mapped_true (λ r. y ∷ r) q (subsets (length q) s) (part_true s q a.1 b.1 (λ p i. later p (less_at e (below_each x q b.0 b.1 p i)) (f p (inr i))))))
+      (subst (λ v. IsIn (v ∷ q) (map (λ r. y ∷ r) (subsets (length q) s))) e
+      (mapped_true (λ r. y ∷ r) q (subsets (length q) s) (part_true s q a.1 b.1
+      (λ p i. later p (less_at e (below_each x q b.0 b.1 p i)) (f p (inr i))))))
   | inr r ↦ in_right (x ∷ q) (map (λ r. y ∷ r) (subsets (length q) s)) (subsets (suc (length q)) s)
-      (part_true s (x ∷ q) a.1 b (λ p i. later p (elim i [ inl e ↦ subst (λ v. y < v) e (below_each y s a.0 a.1 x r) | inr j ↦ less_chain y x p (below_each y s a.0 a.1 x r) (below_each x q b.0 b.1 p j) ]) (f p i)))
+      (part_true s (x ∷ q) a.1 b (λ p i. later p (elim i [
+        | inl e ↦ subst (λ v. y < v) e (below_each y s a.0 a.1 x r)
+        | inr j ↦ less_chain y x p (below_each y s a.0 a.1 x r) (below_each x q b.0 b.1 p j)
+      ]) (f p i)))
 ]
   where
     -- above the first, so later
@@ -82,7 +132,8 @@ of_four s (a ∷ b ∷ c ∷ d ∷ []) l f t = record {
   first = l.0;
   second = l.1.0;
   third = l.1.1.0;
-  test = both_true (are_among (a ∷ b ∷ c ∷ d ∷ []) s) (is_full s (a ∷ b ∷ c ∷ d ∷ [])) (all_true (λ p. is_among p s) (a ∷ b ∷ c ∷ d ∷ []) (λ e m. among_true e s (f e m))) t;
+  test = both_true (are_among (a ∷ b ∷ c ∷ d ∷ []) s) (is_full s (a ∷ b ∷ c ∷ d ∷ []))
+      (all_true (λ p. is_among p s) (a ∷ b ∷ c ∷ d ∷ []) (λ e m. among_true e s (f e m))) t;
 }
 of_four s (a ∷ b ∷ c ∷ d ∷ e ∷ q) l f t = cc
 
@@ -98,7 +149,8 @@ of_three s (a ∷ b ∷ c ∷ []) l f t = record {
   is = refl;
   first = l.0;
   second = l.1.0;
-  test = both_true (are_among (a ∷ b ∷ c ∷ []) s) (is_open s (a ∷ b ∷ c ∷ [])) (all_true (λ p. is_among p s) (a ∷ b ∷ c ∷ []) (λ e m. among_true e s (f e m))) t;
+  test = both_true (are_among (a ∷ b ∷ c ∷ []) s) (is_open s (a ∷ b ∷ c ∷ []))
+      (all_true (λ p. is_among p s) (a ∷ b ∷ c ∷ []) (λ e m. among_true e s (f e m))) t;
 }
 of_three s (a ∷ b ∷ c ∷ d ∷ t) l f e = cc
 
@@ -122,44 +174,55 @@ not_both_kinds q r e = cc
 -- what is listed
 pub listed_is_cell : ListedIsCell
 unfolding complex
-listed_is_cell s (Full q) a m = elim (from_append (Full q) (map Full (filter (is_full s) (subsets 4 s))) (map Open (filter (is_open s) (subsets 3 s))) m) [
-  | inl l ↦ (
-      let r = mapped_from Full (Full q) (filter (is_full s) (subsets 4 s)) l in
-      let i = filtered_from (is_full s) (subsets 4 s) r.0 r.1 in
-      subst (λ (v : List ℕ). IsListedFull s v) (same_full r.0 q r.2) (of_four s r.0 (part_ascending 4 s r.0 a i.0) (part_inside 4 s r.0 i.0) i.1))
-  | inr l ↦ (
-      let r = mapped_from Open (Full q) (filter (is_open s) (subsets 3 s)) l in
-      absurd (not_both_kinds q r.0 (sym r.2)))
-]
-listed_is_cell s (Open q) a m = elim (from_append (Open q) (map Full (filter (is_full s) (subsets 4 s))) (map Open (filter (is_open s) (subsets 3 s))) m) [
-  | inl l ↦ (
-      let r = mapped_from Full (Open q) (filter (is_full s) (subsets 4 s)) l in
-      absurd (not_both_kinds r.0 q r.2))
-  | inr l ↦ (
-      let r = mapped_from Open (Open q) (filter (is_open s) (subsets 3 s)) l in
-      let i = filtered_from (is_open s) (subsets 3 s) r.0 r.1 in
-      subst (λ (v : List ℕ). IsListedOpen s v) (same_open r.0 q r.2) (of_three s r.0 (part_ascending 3 s r.0 a i.0) (part_inside 3 s r.0 i.0) i.1))
-]
+listed_is_cell s (Full q) a m =
+    elim (from_append (Full q) (map Full (filter (is_full s) (subsets 4 s)))
+    (map Open (filter (is_open s) (subsets 3 s))) m) [
+      | inl l ↦ (
+          let r = mapped_from Full (Full q) (filter (is_full s) (subsets 4 s)) l in
+          let i = filtered_from (is_full s) (subsets 4 s) r.0 r.1 in
+          subst (λ (v : List ℕ). IsListedFull s v) (same_full r.0 q r.2)
+          (of_four s r.0 (part_ascending 4 s r.0 a i.0) (part_inside 4 s r.0 i.0) i.1))
+      | inr l ↦ (
+          let r = mapped_from Open (Full q) (filter (is_open s) (subsets 3 s)) l in
+          absurd (not_both_kinds q r.0 (sym r.2)))
+    ]
+listed_is_cell s (Open q) a m =
+    elim (from_append (Open q) (map Full (filter (is_full s) (subsets 4 s)))
+    (map Open (filter (is_open s) (subsets 3 s))) m) [
+      | inl l ↦ (
+          let r = mapped_from Full (Open q) (filter (is_full s) (subsets 4 s)) l in
+          absurd (not_both_kinds r.0 q r.2))
+      | inr l ↦ (
+          let r = mapped_from Open (Open q) (filter (is_open s) (subsets 3 s)) l in
+          let i = filtered_from (is_open s) (subsets 3 s) r.0 r.1 in
+          subst (λ (v : List ℕ). IsListedOpen s v) (same_open r.0 q r.2)
+          (of_three s r.0 (part_ascending 3 s r.0 a i.0) (part_inside 3 s r.0 i.0) i.1))
+    ]
 
 -- the points of a cell that passes are in the set
 points_in : (s q : List ℕ) (b : Bool) → (are_among q s && b) ≡ true → (p : ℕ) → IsIn p q → IsIn p s
 points_in s q b t p m = among_from p s (all_from (λ p. is_among p s) q (first_true (are_among q s) b t) p m)
 
 -- four points that pass are listed
-four_listed : (s : List ℕ) (a b c d : ℕ) → IsAscending s → a < b → b < c → c < d → is_full_cell s a b c d ≡ true → IsIn (Full (a ∷ b ∷ c ∷ d ∷ [])) (complex s)
+four_listed : (s : List ℕ) (a b c d : ℕ) → IsAscending s → a < b → b < c → c < d → is_full_cell s a b c d ≡ true →
+    IsIn (Full (a ∷ b ∷ c ∷ d ∷ [])) (complex s)
 unfolding complex
 four_listed s a b c d l f g h t =
-    in_left (Full (a ∷ b ∷ c ∷ d ∷ [])) (map Full (filter (is_full s) (subsets 4 s))) (map Open (filter (is_open s) (subsets 3 s)))
+    in_left (Full (a ∷ b ∷ c ∷ d ∷ [])) (map Full (filter (is_full s) (subsets 4 s)))
+    (map Open (filter (is_open s) (subsets 3 s)))
     (mapped_true Full (a ∷ b ∷ c ∷ d ∷ []) (filter (is_full s) (subsets 4 s))
     (filtered_true (is_full s) (subsets 4 s) (a ∷ b ∷ c ∷ d ∷ [])
-    (part_true s (a ∷ b ∷ c ∷ d ∷ []) l (f, (g, (h, (tt, tt)))) (points_in s (a ∷ b ∷ c ∷ d ∷ []) (is_full s (a ∷ b ∷ c ∷ d ∷ [])) t))
+    (part_true s (a ∷ b ∷ c ∷ d ∷ []) l (f, (g, (h, (tt, tt))))
+    (points_in s (a ∷ b ∷ c ∷ d ∷ []) (is_full s (a ∷ b ∷ c ∷ d ∷ [])) t))
     (second_true (are_among (a ∷ b ∷ c ∷ d ∷ []) s) (is_full s (a ∷ b ∷ c ∷ d ∷ [])) t)))
 
 -- three points that pass are listed
-three_listed : (s : List ℕ) (a b c : ℕ) → IsAscending s → a < b → b < c → is_open_cell s a b c ≡ true → IsIn (Open (a ∷ b ∷ c ∷ [])) (complex s)
+three_listed : (s : List ℕ) (a b c : ℕ) → IsAscending s → a < b → b < c → is_open_cell s a b c ≡ true →
+    IsIn (Open (a ∷ b ∷ c ∷ [])) (complex s)
 unfolding complex
 three_listed s a b c l f g t =
-    in_right (Open (a ∷ b ∷ c ∷ [])) (map Full (filter (is_full s) (subsets 4 s))) (map Open (filter (is_open s) (subsets 3 s)))
+    in_right (Open (a ∷ b ∷ c ∷ [])) (map Full (filter (is_full s) (subsets 4 s)))
+    (map Open (filter (is_open s) (subsets 3 s)))
     (mapped_true Open (a ∷ b ∷ c ∷ []) (filter (is_open s) (subsets 3 s))
     (filtered_true (is_open s) (subsets 3 s) (a ∷ b ∷ c ∷ [])
     (part_true s (a ∷ b ∷ c ∷ []) l (f, (g, (tt, tt))) (points_in s (a ∷ b ∷ c ∷ []) (is_open s (a ∷ b ∷ c ∷ [])) t))
@@ -167,21 +230,29 @@ three_listed s a b c l f g t =
 
 -- each cell is listed
 pub cell_is_listed : CellIsListed
-cell_is_listed s (Full q) a l = subst (λ (v : List ℕ). IsIn (Full v) (complex s)) (sym l.is) (four_listed s l.a l.b l.c l.d a l.first l.second l.third l.test)
-cell_is_listed s (Open q) a l = subst (λ (v : List ℕ). IsIn (Open v) (complex s)) (sym l.is) (three_listed s l.a l.b l.c a l.first l.second l.test)
+cell_is_listed s (Full q) a l =
+    subst (λ (v : List ℕ). IsIn (Full v) (complex s)) (sym l.is)
+    (four_listed s l.a l.b l.c l.d a l.first l.second l.third l.test)
+cell_is_listed s (Open q) a l =
+    subst (λ (v : List ℕ). IsIn (Open v) (complex s)) (sym l.is) (three_listed s l.a l.b l.c a l.first l.second l.test)
 
 -- ---- what a listed cell shows
 
 -- its points are in the set
 pub listed_inside : (s : List ℕ) (c : Cell) → IsListed s c → (p : ℕ) → IsIn p (points_of c) → IsIn p s
-listed_inside s (Full q) l p m = points_in s (l.a ∷ l.b ∷ l.c ∷ l.d ∷ []) (is_full s (l.a ∷ l.b ∷ l.c ∷ l.d ∷ [])) l.test p (subst (λ (v : List ℕ). IsIn p v) l.is m)
-listed_inside s (Open q) l p m = points_in s (l.a ∷ l.b ∷ l.c ∷ []) (is_open s (l.a ∷ l.b ∷ l.c ∷ [])) l.test p (subst (λ (v : List ℕ). IsIn p v) l.is m)
+listed_inside s (Full q) l p m =
+    points_in s (l.a ∷ l.b ∷ l.c ∷ l.d ∷ []) (is_full s (l.a ∷ l.b ∷ l.c ∷ l.d ∷ [])) l.test p
+    (subst (λ (v : List ℕ). IsIn p v) l.is m)
+listed_inside s (Open q) l p m =
+    points_in s (l.a ∷ l.b ∷ l.c ∷ []) (is_open s (l.a ∷ l.b ∷ l.c ∷ [])) l.test p
+    (subst (λ (v : List ℕ). IsIn p v) l.is m)
 
 -- the points of a Full cell are independent
 pub full_not_flat : (s : List ℕ) (a b c d : ℕ) → is_full_cell s a b c d ≡ true → is_flat a b c d ≡ false
 full_not_flat s a b c d t =
     let each = list_all (λ e. is_among e (a ∷ b ∷ c ∷ d ∷ []) || is_outside a b c d e) s in
-    not_from (is_flat a b c d) (first_true (not (is_flat a b c d)) each (second_true (are_among (a ∷ b ∷ c ∷ d ∷ []) s) (is_full s (a ∷ b ∷ c ∷ d ∷ [])) t))
+    not_from (is_flat a b c d) (first_true (not (is_flat a b c d)) each
+    (second_true (are_among (a ∷ b ∷ c ∷ d ∷ []) s) (is_full s (a ∷ b ∷ c ∷ d ∷ [])) t))
 
 -- whether four points in a list are a Full cell
 abbrev four_pass : List ℕ → List ℕ → Bool

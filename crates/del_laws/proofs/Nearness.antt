@@ -42,13 +42,15 @@ before_chain (ratio n d) first t a b = cc
 before_chain (ratio n d) (ratio m e) first a b = cc
 before_chain (ratio n d) (ratio m e) (ratio i j) a b =
     less_true (n *ℤ pos (suc j)) (i *ℤ pos (suc d))
-    (ratio_chain_less n (pos (suc d)) m (pos (suc e)) i (pos (suc j)) (above_zero d) (above_zero e) (above_zero j) (less_from (n *ℤ pos (suc e)) (m *ℤ pos (suc d)) a) (less_from (m *ℤ pos (suc j)) (i *ℤ pos (suc e)) b))
+    (ratio_chain_less n (pos (suc d)) m (pos (suc e)) i (pos (suc j)) (above_zero d) (above_zero e) (above_zero j)
+    (less_from (n *ℤ pos (suc e)) (m *ℤ pos (suc d)) a) (less_from (m *ℤ pos (suc j)) (i *ℤ pos (suc e)) b))
 before_chain (ratio n d) (ratio m e) last a b = refl
 before_chain (ratio n d) last t a b = cc
 before_chain last r t a b = cc
 
 -- of the cells of a list, fewer are nearer than the nearer of two
-pub fewer_nearer : {X : Type 0} (rank : X → Rank) (x y : X) → is_before (rank y) (rank x) ≡ true → (xs : List X) → IsIn y xs → count_by (λ z. is_before (rank z) (rank y)) xs < count_by (λ z. is_before (rank z) (rank x)) xs
+pub fewer_nearer : {X : Type 0} (rank : X → Rank) (x y : X) → is_before (rank y) (rank x) ≡ true → (xs : List X) →
+    IsIn y xs → count_by (λ z. is_before (rank z) (rank y)) xs < count_by (λ z. is_before (rank z) (rank x)) xs
 fewer_nearer rank x y l xs m =
     count_less (λ z. is_before (rank z) (rank y)) (λ z. is_before (rank z) (rank x)) xs
     (λ z i q. before_chain (rank z) (rank y) (rank x) q l)
@@ -57,11 +59,13 @@ fewer_nearer rank x y l xs m =
 -- ---- a step
 
 -- crossing such a facet
-pub cross : {h : ℕ → ℕ} {s : List ℕ} {a b c d : ℕ} → NoTies h s → Full h s a b c d → (p : ℕ) → orientation a b c p <ℤ pos 0 → Crossed h s a b c d p
+pub cross : {h : ℕ → ℕ} {s : List ℕ} {a b c d : ℕ} → NoTies h s → Full h s a b c d → (p : ℕ) →
+    orientation a b c p <ℤ pos 0 → Crossed h s a b c d p
 cross n F p l = elim (across_full F) [ inl r ↦ full r.0 r.1 (nearer n F r.1 p l) | inr o ↦ in_conflict o l ]
 
 -- a Full cell not in conflict with p has p behind one of its facets
-pub some_behind : {h : ℕ → ℕ} {s : List ℕ} {a b c d : ℕ} (p : ℕ) → IsConvex h (p ∷ s) → Full h s a b c d → pos 0 ≤ℤ lifted h a b c d p → ¬ (OneOf p a b c d) → IsBehind h s p
+pub some_behind : {h : ℕ → ℕ} {s : List ℕ} {a b c d : ℕ} (p : ℕ) → IsConvex h (p ∷ s) → Full h s a b c d →
+    pos 0 ≤ℤ lifted h a b c d p → ¬ (OneOf p a b c d) → IsBehind h s p
 some_behind {h} {s} {a} {b} {c} {d} p v F k o = elim (below_or_not (orientation b d c p)) [
   | inl l ↦ record { a = b; b = d; c = c; d = a; full = full_right (full_right (full_left F)); low = l }
   | inr ka ↦ elim (below_or_not (orientation a c d p)) [
@@ -70,7 +74,8 @@ some_behind {h} {s} {a} {b} {c} {d} p v F k o = elim (below_or_not (orientation 
       | inl l ↦ record { a = a; b = d; c = b; d = c; full = full_right (full_right F); low = l }
       | inr kc ↦ elim (below_or_not (orientation a b c p)) [
         | inl l ↦ record { a = a; b = b; c = c; d = d; full = F; low = l }
-        | inr kd ↦ absurd (o (v.one_of a b c d p (inr (full_a F)) (inr (full_b F)) (inr (full_c F)) (inr (full_d F)) (inl refl) (full_turned F) ka kb kc kd k))
+        | inr kd ↦ absurd (o (v.one_of a b c d p (inr (full_a F)) (inr (full_b F)) (inr (full_c F)) (inr (full_d F))
+            (inl refl) (full_turned F) ka kb kc kd k))
       ]
     ]
   ]

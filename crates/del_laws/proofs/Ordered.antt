@@ -7,7 +7,17 @@ use Rattle.std.specs.Cmp.Lexicographic.{slice_cmp}
 use Rattle.std.specs.declared.cmp.Ordering.TheVariants.{Less}
 use Rattle.std.proofs.Common.{inl, inr, sym, subst, ◌∙◌}
 use Rattle.std.proofs.lemmas.List.Kept.{IsStrictlySortedBy-filter}
-use Rattle.list_laws.proofs.Cited.{below_each, each_by, from_append, less_first, list_against, mapped_from, same_first, sorted_append, sorted_map}
+use Rattle.list_laws.proofs.Cited.{
+  below_each,
+  each_by,
+  from_append,
+  less_first,
+  list_against,
+  mapped_from,
+  same_first,
+  sorted_append,
+  sorted_map,
+}
 use Rattle.point_order.specs.declared.cell.Cell.{Cell}
 use Rattle.point_order.specs.declared.cell.Cell.TheVariants.{Full, Open}
 use Rattle.point_order.specs.Sets.{IsIn, IsAscending}
@@ -38,7 +48,8 @@ sorted_subsets zero s a = (tt, tt)
 sorted_subsets (suc k) [] a = tt
 sorted_subsets (suc k) (x ∷ s) a =
     sorted_append (slice_cmp nat_cmp) (map (λ q. x ∷ q) (subsets k s)) (subsets (suc k) s)
-    (sorted_map (slice_cmp nat_cmp) (slice_cmp nat_cmp) (λ q. x ∷ q) (subsets k s) (sorted_subsets k s a.1) (λ q r e. same_first x q r e))
+    (sorted_map (slice_cmp nat_cmp) (slice_cmp nat_cmp) (λ q. x ∷ q) (subsets k s) (sorted_subsets k s a.1)
+    (λ q r e. same_first x q r e))
     (sorted_subsets (suc k) s a.1) before
   where
     -- with the first element before without it
@@ -47,15 +58,19 @@ sorted_subsets (suc k) (x ∷ s) a =
     by_shape q (y ∷ r) m = less_first x y q r (below_each x s a.0 a.1 y (part_inside (suc k) s (y ∷ r) m y (inl refl)))
 
     -- the same for any two
-    before : (p r : List ℕ) → IsIn p (map (λ q. x ∷ q) (subsets k s)) → IsIn r (subsets (suc k) s) → slice_cmp nat_cmp p r ≡ Less
-    before p r m n = (let q = mapped_from (λ q. x ∷ q) p (subsets k s) m in subst (λ (v : List ℕ). slice_cmp nat_cmp v r ≡ Less) q.2 (by_shape q.0 r n))
+    before : (p r : List ℕ) → IsIn p (map (λ q. x ∷ q) (subsets k s)) → IsIn r (subsets (suc k) s) →
+        slice_cmp nat_cmp p r ≡ Less
+    before p r m n =
+        (let q = mapped_from (λ q. x ∷ q) p (subsets k s) m in subst (λ (v : List ℕ). slice_cmp nat_cmp v r ≡ Less) q.2
+        (by_shape q.0 r n))
 
 -- ---- the complex
 
 -- Full cells before Open ones
 full_before : (c d : Cell) (l m : List (List ℕ)) → IsIn c (map Full l) → IsIn d (map Open m) → cell_cmp c d ≡ Less
 full_before (Full q) (Open r) l m i j = refl
-full_before (Full q) (Full r) l m i j = (let k = mapped_from Open (Full r) m j in absurd (not_both_kinds r k.0 (sym k.2)))
+full_before (Full q) (Full r) l m i j =
+    (let k = mapped_from Open (Full r) m j in absurd (not_both_kinds r k.0 (sym k.2)))
 full_before (Open q) d l m i j = (let k = mapped_from Full (Open q) l i in absurd (not_both_kinds k.0 q k.2))
 
 -- the list of a complex is in order
@@ -63,8 +78,10 @@ pub complex_is_sorted : ComplexIsSorted
 unfolding complex
 complex_is_sorted s a =
     sorted_append cell_cmp (map Full (filter (is_full s) (subsets 4 s))) (map Open (filter (is_open s) (subsets 3 s)))
-    (sorted_map (slice_cmp nat_cmp) cell_cmp Full (filter (is_full s) (subsets 4 s)) (IsStrictlySortedBy-filter (slice_cmp nat_cmp) (is_full s) (subsets 4 s) (sorted_subsets 4 s a)) (λ q r e. e))
-    (sorted_map (slice_cmp nat_cmp) cell_cmp Open (filter (is_open s) (subsets 3 s)) (IsStrictlySortedBy-filter (slice_cmp nat_cmp) (is_open s) (subsets 3 s) (sorted_subsets 3 s a)) (λ q r e. e))
+    (sorted_map (slice_cmp nat_cmp) cell_cmp Full (filter (is_full s) (subsets 4 s))
+    (IsStrictlySortedBy-filter (slice_cmp nat_cmp) (is_full s) (subsets 4 s) (sorted_subsets 4 s a)) (λ q r e. e))
+    (sorted_map (slice_cmp nat_cmp) cell_cmp Open (filter (is_open s) (subsets 3 s))
+    (IsStrictlySortedBy-filter (slice_cmp nat_cmp) (is_open s) (subsets 3 s) (sorted_subsets 3 s a)) (λ q r e. e))
     (λ c d i j. full_before c d (filter (is_full s) (subsets 4 s)) (filter (is_open s) (subsets 3 s)) i j)
 
 -- ---- the same members
@@ -87,10 +104,17 @@ same_members (c ∷ l) (d ∷ m) a b f g =
       | inl i ↦ sym i
       | inr i ↦ elim (g d (inl refl)) [
         | inl j ↦ j
-        | inr j ↦ absurd (against c d (each_by (λ y. cell_cmp c y ≡ Less) l a.0 d j) (each_by (λ y. cell_cmp d y ≡ Less) m b.0 c i))
+        | inr j ↦ absurd (against c d (each_by (λ y. cell_cmp c y ≡ Less) l a.0 d j)
+            (each_by (λ y. cell_cmp d y ≡ Less) m b.0 c i))
       ]
     ] in
-    let t : l ≡ m = same_members l m a.1 b.1 (λ x i. elim (f x (inr i)) [ inl j ↦ absurd (itself (each_by (λ y. cell_cmp c y ≡ Less) l a.0 x i) (e ∙ j)) | inr j ↦ j ]) (λ x i. elim (g x (inr i)) [ inl j ↦ absurd (itself (each_by (λ y. cell_cmp d y ≡ Less) m b.0 x i) (sym e ∙ j)) | inr j ↦ j ]) in
+    let t : l ≡ m = same_members l m a.1 b.1 (λ x i. elim (f x (inr i)) [
+      | inl j ↦ absurd (itself (each_by (λ y. cell_cmp c y ≡ Less) l a.0 x i) (e ∙ j))
+      | inr j ↦ j
+    ]) (λ x i. elim (g x (inr i)) [
+      | inl j ↦ absurd (itself (each_by (λ y. cell_cmp d y ≡ Less) m b.0 x i) (sym e ∙ j))
+      | inr j ↦ j
+    ]) in
     cc
   where
     -- no cell is before itself

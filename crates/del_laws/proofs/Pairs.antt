@@ -5,7 +5,20 @@ use Rattle.std.specs.Prelude.{ℕ, ◌≡◌, Bool, true, false, List, [], ◌�
 use Rattle.std.proofs.Common.{refl, inl, inr, subst, sym, ap}
 use Rattle.list_laws.specs.Lists.{AreDistinct}
 use Rattle.list_laws.specs.Laws.{odd, IsGraph}
-use Rattle.list_laws.proofs.Cited.{HasSome, another, even_degrees, holds_true, is_in, look, none_even, true_if, true_if_no, true_if_same, true_if_yes, two_even}
+use Rattle.list_laws.proofs.Cited.{
+  HasSome,
+  another,
+  even_degrees,
+  holds_true,
+  is_in,
+  look,
+  none_even,
+  true_if,
+  true_if_no,
+  true_if_same,
+  true_if_yes,
+  two_even,
+}
 use Rattle.point_order.specs.Sets.{IsIn}
 use Rattle.point_order.proofs.Cited.{last_second, last_third}
 use Rattle.del_laws.specs.Cells.{Open, Vertex, point, far, Held, NoTies}
@@ -114,13 +127,15 @@ in_nodes s (point k) m = inr (in_vertices k (once s) (in_once k s (m k refl)))
 -- ---- the graph of the vertices that make a cell with a pair
 
 -- a point of a cell is in the set
-pub last_in : (h : ℕ → ℕ) (s : List ℕ) (a b : ℕ) (y : Vertex) (k : ℕ) → Held h s (point a) (point b) y (point k) → IsIn k s
+pub last_in : (h : ℕ → ℕ) (s : List ℕ) (a b : ℕ) (y : Vertex) (k : ℕ) → Held h s (point a) (point b) y (point k) →
+    IsIn k s
 last_in h s a b (point c) k m = elim m [ inl F ↦ full_d F | inr F ↦ full_d F ]
 last_in h s a b far k m = elim m [ inl F ↦ open_b F | inr F ↦ open_c F ]
 
 -- a vertex of a cell is a node
 held_in_nodes : (h : ℕ → ℕ) (s : List ℕ) (a b : ℕ) (y z : Vertex) → Held h s (point a) (point b) y z → IsIn z (nodes s)
-held_in_nodes h s a b y z m = in_nodes s z (λ k e. last_in h s a b y k (subst (λ v. Held h s (point a) (point b) y v) e m))
+held_in_nodes h s a b y z m =
+    in_nodes s z (λ k e. last_in h s a b y k (subst (λ v. Held h s (point a) (point b) y v) e m))
 
 -- y and z make a cell with the pair
 abbrev pub linked : (ℕ → ℕ) → List ℕ → ℕ → ℕ → Vertex → Vertex → Bool
@@ -128,14 +143,18 @@ linked h s a b y z = true_if (is_held h s (point a) (point b) y z)
 
 -- no cell has a vertex twice
 pub not_twice : (h : ℕ → ℕ) (s : List ℕ) (a b : ℕ) (y : Vertex) → Held h s (point a) (point b) y y → ⊥
-not_twice h s a b (point c) m = elim m [ inl F ↦ full_apart F (last_third a b c) | inr F ↦ full_apart F (last_second a c b) ]
+not_twice h s a b (point c) m = elim m [
+  | inl F ↦ full_apart F (last_third a b c)
+  | inr F ↦ full_apart F (last_second a c b)
+]
 not_twice h s a b far m = m
 
 -- it is a graph
 pub graph : (h : ℕ → ℕ) (s : List ℕ) (a b : ℕ) → IsGraph (linked h s a b)
 graph h s a b = record {
   loose = λ y. true_if_no (is_held h s (point a) (point b) y y) (not_twice h s a b y);
-  both = λ y z. true_if_same (is_held h s (point a) (point b) y z) (is_held h s (point a) (point b) z y) (swap34 h s (point a) (point b) y z) (swap34 h s (point a) (point b) z y);
+  both = λ y z. true_if_same (is_held h s (point a) (point b) y z) (is_held h s (point a) (point b) z y)
+      (swap34 h s (point a) (point b) y z) (swap34 h s (point a) (point b) z y);
 }
 
 -- a point has no neighbour or two
@@ -146,9 +165,11 @@ point_even h s n a b c = elim (look (linked h s a b (point c)) (nodes s)) [
 ]
   where
     -- two, where there is one
-    two : (x : HasSome (linked h s a b (point c)) (nodes s)) → Facing h s (point a) (point b) (point c) x.at → odd (linked h s a b (point c)) (nodes s) ≡ false
+    two : (x : HasSome (linked h s a b (point c)) (nodes s)) → Facing h s (point a) (point b) (point c) x.at →
+        odd (linked h s a b (point c)) (nodes s) ≡ false
     two x t =
-        two_even (linked h s a b (point c)) x.at t.other (nodes s) (distinct_nodes s) x.found (held_in_nodes h s a b (point c) t.other t.cell) (λ e. t.differs (sym e)) x.holds
+        two_even (linked h s a b (point c)) x.at t.other (nodes s) (distinct_nodes s) x.found
+        (held_in_nodes h s a b (point c) t.other t.cell) (λ e. t.differs (sym e)) x.holds
         (true_if_yes (is_held h s (point a) (point b) (point c) t.other) t.cell)
         (λ z i q. t.only z (holds_true (is_held h s (point a) (point b) (point c) z) q))
 
@@ -165,13 +186,17 @@ far_even h s n a b = decided (odd (linked h s a b far) (nodes s)) refl
     decided : (v : Bool) → odd (linked h s a b far) (nodes s) ≡ v → odd (linked h s a b far) (nodes s) ≡ false
     decided false e = e
     decided true e = (
-        let x = another (λ y. odd (linked h s a b y) (nodes s)) far (nodes s) (distinct_nodes s) (in_nodes s far (λ k f. absurd (far_point k f))) e (even_degrees (linked h s a b) (graph h s a b) (nodes s)) in
+        let x = another (λ y. odd (linked h s a b y) (nodes s)) far (nodes s) (distinct_nodes s)
+        (in_nodes s far (λ k f. absurd (far_point k f))) e (even_degrees (linked h s a b) (graph h s a b)
+        (nodes s)) in
         absurd (no_other x.at x.differs x.holds))
 
 -- a pair of an Open cell lies in exactly two Open cells
-pub facing_pair : (h : ℕ → ℕ) (s : List ℕ) → NoTies h s → (a b : ℕ) (x : Vertex) → Held h s (point a) (point b) far x → Facing h s (point a) (point b) far x
+pub facing_pair : (h : ℕ → ℕ) (s : List ℕ) → NoTies h s → (a b : ℕ) (x : Vertex) → Held h s (point a) (point b) far x →
+    Facing h s (point a) (point b) far x
 facing_pair h s n a b x k =
-    let y = another (linked h s a b far) x (nodes s) (distinct_nodes s) (held_in_nodes h s a b far x k) (true_if_yes (is_held h s (point a) (point b) far x) k) (far_even h s n a b) in
+    let y = another (linked h s a b far) x (nodes s) (distinct_nodes s) (held_in_nodes h s a b far x k)
+    (true_if_yes (is_held h s (point a) (point b) far x) k) (far_even h s n a b) in
     let l : Held h s (point a) (point b) far y.at = holds_true (is_held h s (point a) (point b) far y.at) y.holds in
     record { other = y.at; differs = y.differs; cell = l; only = λ z m. third x y.at z y.differs k l m }
   where
@@ -184,7 +209,8 @@ facing_pair h s n a b x k =
     minus x y F G = ap point (one_open n (open_left (open_left F)) (open_left (open_left G)))
 
     -- so no third
-    third : (x y z : Vertex) → ¬ (y ≡ x) → Held h s (point a) (point b) far x → Held h s (point a) (point b) far y → Held h s (point a) (point b) far z → (z ≡ x) ⊎ (z ≡ y)
+    third : (x y z : Vertex) → ¬ (y ≡ x) → Held h s (point a) (point b) far x → Held h s (point a) (point b) far y →
+        Held h s (point a) (point b) far z → (z ≡ x) ⊎ (z ≡ y)
     third far y z d k l m = absurd k
     third (point x) far z d k l m = absurd l
     third (point x) (point y) far d k l m = absurd m

@@ -1,11 +1,53 @@
 -- Sets of points: when two are one, the points of a set with and without a point, and solid sets.
-use Rattle.std.specs.Prelude.{◌≡◌, refl, ℕ, ◌<◌, ◌^◌, Bool, true, false, not, ◌&&◌, ◌||◌, ◌==◌, nat_lt, List, [], ◌∷◌, map}
+use Rattle.std.specs.Prelude.{
+  ◌≡◌,
+  refl,
+  ℕ,
+  ◌<◌,
+  ◌^◌,
+  Bool,
+  true,
+  false,
+  not,
+  ◌&&◌,
+  ◌||◌,
+  ◌==◌,
+  nat_lt,
+  List,
+  [],
+  ◌∷◌,
+  map,
+}
 use Rattle.std.specs.List.{list_any}
 use Rattle.std.proofs.Common.{arith, inl, inr, ap, sym, subst, ◌∙◌}
 use Rattle.std.proofs.lemmas.Bool.Decides.{nat_tests}
 use Rattle.std.proofs.Math.Bool.{Bool-set}
 use Rattle.list_laws.specs.Lists.{AreDistinct}
-use Rattle.list_laws.proofs.Cited.{among_from, among_true, any_from, any_true, below_each, below_from, below_true, both_true, filtered_ascending, filtered_from, filtered_true, first_true, left_true, not_both, not_from, not_true, one_true, right_true, same_from, same_members, same_test, same_true, second_true}
+use Rattle.list_laws.proofs.Cited.{
+  among_from,
+  among_true,
+  any_from,
+  any_true,
+  below_each,
+  below_from,
+  below_true,
+  both_true,
+  filtered_ascending,
+  filtered_from,
+  filtered_true,
+  first_true,
+  left_true,
+  not_both,
+  not_from,
+  not_true,
+  one_true,
+  right_true,
+  same_from,
+  same_members,
+  same_test,
+  same_true,
+  second_true,
+}
 use Rattle.point_order.specs.Coordinates.{IsKey}
 use Rattle.point_order.specs.Orientation.{orientation, is_flat}
 use Rattle.point_order.specs.Sets.{IsIn, IsAscending, IsBelowFirst, is_among, with_point, without_point}
@@ -13,7 +55,18 @@ use Rattle.point_order.specs.Solid.{is_solid}
 use Rattle.point_order.proofs.Cited.{ascending_with, in_with, in_with_new, in_with_old, not_zero_from, zero_false}
 use Rattle.del_laws.specs.Cells.{Vertex, point, far, IsSolid, IsSubset}
 use Rattle.del_laws.specs.Keys.{AreKeys}
-use Rattle.del_laws.specs.PointSets.{is_below_first, is_point_set, PointSet, same_vertex, is_point, has, set_or, plus, minus, vertices}
+use Rattle.del_laws.specs.PointSets.{
+  is_below_first,
+  is_point_set,
+  PointSet,
+  same_vertex,
+  is_point,
+  has,
+  set_or,
+  plus,
+  minus,
+  vertices,
+}
 use Rattle.del_laws.specs.Base.{Within}
 use Rattle.del_laws.proofs.Pairs.{same_point, far_point}
 
@@ -22,7 +75,11 @@ use Rattle.del_laws.proofs.Pairs.{same_point, far_point}
 -- the list is ascending
 pub ascending_from : (l : List ℕ) → is_point_set l ≡ true → IsAscending l
 ascending_from [] e = tt
-ascending_from (x ∷ xs) e = (first_of xs (second_true (nat_lt x (2 ^ 42)) (is_below_first x xs) (first_true (nat_lt x (2 ^ 42) && is_below_first x xs) (is_point_set xs) e)), ascending_from xs (second_true (nat_lt x (2 ^ 42) && is_below_first x xs) (is_point_set xs) e))
+ascending_from (x ∷ xs) e = (
+  first_of xs (second_true (nat_lt x (2 ^ 42)) (is_below_first x xs)
+      (first_true (nat_lt x (2 ^ 42) && is_below_first x xs) (is_point_set xs) e)),
+  ascending_from xs (second_true (nat_lt x (2 ^ 42) && is_below_first x xs) (is_point_set xs) e),
+)
   where
     -- below the first
     first_of : (l : List ℕ) → is_below_first x l ≡ true → IsBelowFirst x l
@@ -33,7 +90,8 @@ ascending_from (x ∷ xs) e = (first_of xs (second_true (nat_lt x (2 ^ 42)) (is_
 pub key_from : (l : List ℕ) → is_point_set l ≡ true → (p : ℕ) → IsIn p l → IsKey p
 key_from [] e p m = absurd m
 key_from (x ∷ xs) e p m = elim m [
-  | inl q ↦ subst IsKey q (below_from x (2 ^ 42) (first_true (nat_lt x (2 ^ 42)) (is_below_first x xs) (first_true (nat_lt x (2 ^ 42) && is_below_first x xs) (is_point_set xs) e)))
+  | inl q ↦ subst IsKey q (below_from x (2 ^ 42) (first_true (nat_lt x (2 ^ 42)) (is_below_first x xs)
+      (first_true (nat_lt x (2 ^ 42) && is_below_first x xs) (is_point_set xs) e)))
   | inr r ↦ key_from xs (second_true (nat_lt x (2 ^ 42) && is_below_first x xs) (is_point_set xs) e) p r
 ]
 
@@ -59,7 +117,8 @@ pub keys_of : (s : PointSet) → AreKeys s.points
 keys_of s = record { below = key_from s.points s.valid }
 
 -- a list that is a set gives it
-set_or_is : (l : List ℕ) (b : Bool) (e : is_point_set l ≡ b) (s : PointSet) → is_point_set l ≡ true → (set_or l b e s).points ≡ l
+set_or_is : (l : List ℕ) (b : Bool) (e : is_point_set l ≡ b) (s : PointSet) → is_point_set l ≡ true →
+    (set_or l b e s).points ≡ l
 set_or_is l true e s t = refl
 set_or_is l false e s t = absurd (not_both (is_point_set l) t e)
 
@@ -86,13 +145,20 @@ along l m e f q =
 -- sets with the same points are one
 pub extensional : (s t : PointSet) → ((q : Vertex) → has s q ≡ has t q) → s ≡ t
 unfolding made
-extensional s t f = along s.points t.points s.valid t.valid (same_members s.points t.points (ascending_of s) (ascending_of t) (λ p m. has_from t p (sym (f (point p)) ∙ has_true s p m)) (λ p m. has_from s p (f (point p) ∙ has_true t p m)))
+extensional s t f =
+    along s.points t.points s.valid t.valid (same_members s.points t.points (ascending_of s) (ascending_of t)
+    (λ p m. has_from t p (sym (f (point p)) ∙ has_true s p m)) (λ p m. has_from s p (f (point p) ∙ has_true t p m)))
 
 -- ---- with a point and without one
 
 -- the list with a key is a set
 with_valid : (s : PointSet) (a : ℕ) → IsKey a → is_point_set (with_point a s.points) ≡ true
-with_valid s a k = set_true (with_point a s.points) (ascending_with a s.points (ascending_of s)) (λ p m. elim (in_with a p s.points m) [ inl e ↦ subst IsKey e k | inr r ↦ key_from s.points s.valid p r ])
+with_valid s a k =
+    set_true (with_point a s.points) (ascending_with a s.points (ascending_of s))
+    (λ p m. elim (in_with a p s.points m) [
+      | inl e ↦ subst IsKey e k
+      | inr r ↦ key_from s.points s.valid p r
+    ])
 
 -- the points of the set with a point
 pub plus_points : (s : PointSet) (a : ℕ) → IsKey a → (plus s (point a)).points ≡ with_point a s.points
@@ -101,12 +167,15 @@ plus_points s a k = set_or_is (with_point a s.points) (is_point_set (with_point 
 
 -- the list without a point is a set
 without_valid : (s : PointSet) (a : ℕ) → is_point_set (without_point a s.points) ≡ true
-without_valid s a = set_true (without_point a s.points) (filtered_ascending (λ q. not (q == a)) s.points (ascending_of s)) (λ p m. key_from s.points s.valid p (filtered_from (λ q. not (q == a)) s.points p m).0)
+without_valid s a =
+    set_true (without_point a s.points) (filtered_ascending (λ q. not (q == a)) s.points (ascending_of s))
+    (λ p m. key_from s.points s.valid p (filtered_from (λ q. not (q == a)) s.points p m).0)
 
 -- the points of the set without a point
 pub minus_points : (s : PointSet) (a : ℕ) → (minus s (point a)).points ≡ without_point a s.points
 unfolding minus
-minus_points s a = set_or_is (without_point a s.points) (is_point_set (without_point a s.points)) refl s (without_valid s a)
+minus_points s a =
+    set_or_is (without_point a s.points) (is_point_set (without_point a s.points)) refl s (without_valid s a)
 
 -- which points the set with a point has
 pub has_plus : (s : PointSet) (p q : Vertex) → is_point p ≡ true → has (plus s p) q ≡ (same_vertex p q || has s q)
@@ -142,7 +211,9 @@ has_minus s (point a) (point b) =
     (λ t. (
     let k = filtered_from (λ q. not (q == a)) s.points b (among_from b (without_point a s.points) t) in
     both_true (not (a == b)) (is_among b s.points) (turned b a k.1) (among_true b s.points k.0)))
-    (λ t. among_true b (without_point a s.points) (filtered_true (λ q. not (q == a)) s.points b (among_from b s.points (second_true (not (a == b)) (is_among b s.points) t)) (turned a b (first_true (not (a == b)) (is_among b s.points) t))))
+    (λ t. among_true b (without_point a s.points) (filtered_true (λ q. not (q == a)) s.points b
+    (among_from b s.points (second_true (not (a == b)) (is_among b s.points) t))
+    (turned a b (first_true (not (a == b)) (is_among b s.points) t))))
   where
     -- two numbers that differ
     turned : (m n : ℕ) → not (m == n) ≡ true → not (n == m) ≡ true
@@ -169,7 +240,14 @@ solid_from s e =
     let rc = any_from (λ c. list_any (λ d. not (is_flat a b c d)) s) s rb.2 in
     let c = rc.0 in
     let rd = any_from (λ d. not (is_flat a b c d)) s rc.2 in
-    record { f = record { a = a; b = b; c = c; d = rd.0 }; has_a = ra.1; has_b = rb.1; has_c = rc.1; has_d = rd.1; apart = not_zero_from (orientation a b c rd.0) (not_from (is_flat a b c rd.0) rd.2) }
+    record {
+      f = record { a = a; b = b; c = c; d = rd.0 };
+      has_a = ra.1;
+      has_b = rb.1;
+      has_c = rc.1;
+      has_d = rd.1;
+      apart = not_zero_from (orientation a b c rd.0) (not_from (is_flat a b c rd.0) rd.2);
+    }
 
 -- and where there are four it passes
 pub solid_true : (s : List ℕ) → IsSolid s → is_solid s ≡ true
@@ -181,13 +259,21 @@ solid_true s i =
     any_true (λ a. list_any (λ b. list_any (λ c. list_any (λ d. not (is_flat a b c d)) s) s) s) s a i.has_a
     (any_true (λ b. list_any (λ c. list_any (λ d. not (is_flat a b c d)) s) s) s b i.has_b
     (any_true (λ c. list_any (λ d. not (is_flat a b c d)) s) s c i.has_c
-    (any_true (λ d. not (is_flat a b c d)) s d i.has_d (not_true (is_flat a b c d) (zero_false (orientation a b c d) i.apart)))))
+    (any_true (λ d. not (is_flat a b c d)) s d i.has_d (not_true (is_flat a b c d)
+    (zero_false (orientation a b c d) i.apart)))))
 
 -- a list with the points of a solid one is solid
 pub solid_more : (s t : List ℕ) → ((e : ℕ) → IsIn e s → IsIn e t) → is_solid s ≡ true → is_solid t ≡ true
 solid_more s t f e =
     let i = solid_from s e in
-    solid_true t (record { f = i.f; has_a = f i.f.a i.has_a; has_b = f i.f.b i.has_b; has_c = f i.f.c i.has_c; has_d = f i.f.d i.has_d; apart = i.apart })
+    solid_true t (record {
+      f = i.f;
+      has_a = f i.f.a i.has_a;
+      has_b = f i.f.b i.has_b;
+      has_c = f i.f.c i.has_c;
+      has_d = f i.f.d i.has_d;
+      apart = i.apart;
+    })
 
 -- ---- vertices
 

@@ -42,8 +42,14 @@ in_cells c (x ∷ l) = either (cells_discrete x c) (in_cells c l)
 
 -- a set with a cell is solid
 solid_listed : (s : List ℕ) (c : Cell) → IsListed s c → is_solid s ≡ true
-solid_listed s (Full q) l = elim (cell_from s (point l.a) (point l.b) (point l.c) (point l.d) l.test) [ inl F ↦ solid_true s (full_solid F) | inr F ↦ solid_true s (full_solid F) ]
-solid_listed s (Open q) l = elim (cell_from s (point l.a) (point l.b) (point l.c) far l.test) [ inl F ↦ solid_true s (full_solid (across_open F).1) | inr F ↦ solid_true s (full_solid (across_open F).1) ]
+solid_listed s (Full q) l = elim (cell_from s (point l.a) (point l.b) (point l.c) (point l.d) l.test) [
+  | inl F ↦ solid_true s (full_solid F)
+  | inr F ↦ solid_true s (full_solid F)
+]
+solid_listed s (Open q) l = elim (cell_from s (point l.a) (point l.b) (point l.c) far l.test) [
+  | inl F ↦ solid_true s (full_solid (across_open F).1)
+  | inr F ↦ solid_true s (full_solid (across_open F).1)
+]
 
 -- ---- the law
 
@@ -52,7 +58,8 @@ abbrev is_listed : List Cell → Cell → Bool
 is_listed l c = true_if (in_cells c l)
 
 -- the members are closed across triples
-members_closed : (s : List ℕ) (l : List Cell) → IsAscending s → AreKeys s → IsClosedList s l → IsClosedListed s [] (is_listed l)
+members_closed : (s : List ℕ) (l : List Cell) → IsAscending s → AreKeys s → IsClosedList s l →
+    IsClosedListed s [] (is_listed l)
 members_closed s l a k r c d t i mc md fc fd h =
     let n = listed_facets s c (Three t) a k mc fc in
     let mcl = holds_true (in_cells c l) h in
@@ -70,7 +77,8 @@ pub closed_list_is_complex : ClosedListIsComplex
 closed_list_is_complex s l a k r = (
   same_members l (complex s) r.sorted (complex_is_sorted s a)
       (λ c m. cell_is_listed s c a (r.empty c m))
-      (λ c m. holds_true (in_cells c l) (listed_part s (is_listed l) a k (members_closed s l a k r) r.some (cell_is_listed s r.some a (r.empty r.some r.has_some)) (true_if_yes (in_cells r.some l) r.has_some) c m)),
+      (λ c m. holds_true (in_cells c l) (listed_part s (is_listed l) a k (members_closed s l a k r) r.some
+      (cell_is_listed s r.some a (r.empty r.some r.has_some)) (true_if_yes (in_cells r.some l) r.has_some) c m)),
   solid_listed s r.some (r.empty r.some r.has_some),
 )
 
@@ -82,7 +90,9 @@ complex_is_closed_list s a k i =
     record {
       sorted = complex_is_sorted s a;
       some = cell_of (point f.a) (point f.b) (point f.c) (point f.d);
-      has_some = test_is_listed s a k (point f.a) (point f.b) (point f.c) (point f.d) (cell_true s k (point f.a) (point f.b) (point f.c) (point f.d) (inl F.full));
+      has_some = test_is_listed s a k (point f.a) (point f.b) (point f.c) (point f.d)
+          (cell_true s k (point f.a) (point f.b) (point f.c) (point f.d) (inl F.full));
       empty = λ c m. listed_is_cell s c a m;
-      closed = λ c f' m i'. (let n = listed_facets s c f' a k m i' in record { second = n.other; differs = n.differs; listed = n.listed; has = n.has });
+      closed = λ c f' m i'. (let n = listed_facets s c f' a k m i' in
+          record { second = n.other; differs = n.differs; listed = n.listed; has = n.has });
     }

@@ -19,15 +19,24 @@ pub record IsSetOf (h : ℕ → ℕ) (s : List ℕ) (q : ℕ → ℕ → ℕ →
 -- no cell of q is closer to e: has a lower ratio of lifted determinant and orientation
 pub record Closest (h : ℕ → ℕ) (q : ℕ → ℕ → ℕ → ℕ → Type 0) (e a b c d : ℕ) : Type 0 where
   pub at : q a b c d
-  pub least : (k l m n : ℕ) → q k l m n → (lifted h a b c d e *ℤ orientation k l m n) ≤ℤ (lifted h k l m n e *ℤ orientation a b c d)
+  pub least : (k l m n : ℕ) → q k l m n → (lifted h a b c d e *ℤ orientation k l m n)
+      ≤ℤ (lifted h k l m n e *ℤ orientation a b c d)
 
 -- the same with the first three points turned
-pub closest_left : {h : ℕ → ℕ} {s : List ℕ} {q : ℕ → ℕ → ℕ → ℕ → Type 0} {e a b c d : ℕ} → IsSetOf h s q → Closest h q e a b c d → Closest h q e b c a d
-closest_left {h} {s} {q} {e} {a} {b} {c} {d} g f = record { at = g.left a b c d f.at; least = λ k l m n t. rw (lifted_bcad h a b c d e, orientation_bcad a b c d) (f.least k l m n t) }
+pub closest_left : {h : ℕ → ℕ} {s : List ℕ} {q : ℕ → ℕ → ℕ → ℕ → Type 0} {e a b c d : ℕ} → IsSetOf h s q →
+    Closest h q e a b c d → Closest h q e b c a d
+closest_left {h} {s} {q} {e} {a} {b} {c} {d} g f = record {
+  at = g.left a b c d f.at;
+  least = λ k l m n t. rw (lifted_bcad h a b c d e, orientation_bcad a b c d) (f.least k l m n t);
+}
 
 -- with the last three turned
-pub closest_right : {h : ℕ → ℕ} {s : List ℕ} {q : ℕ → ℕ → ℕ → ℕ → Type 0} {e a b c d : ℕ} → IsSetOf h s q → Closest h q e a b c d → Closest h q e a c d b
-closest_right {h} {s} {q} {e} {a} {b} {c} {d} g f = record { at = g.right a b c d f.at; least = λ k l m n t. rw (lifted_acdb h a b c d e, orientation_acdb a b c d) (f.least k l m n t) }
+pub closest_right : {h : ℕ → ℕ} {s : List ℕ} {q : ℕ → ℕ → ℕ → ℕ → Type 0} {e a b c d : ℕ} → IsSetOf h s q →
+    Closest h q e a b c d → Closest h q e a c d b
+closest_right {h} {s} {q} {e} {a} {b} {c} {d} g f = record {
+  at = g.right a b c d f.at;
+  least = λ k l m n t. rw (lifted_acdb h a b c d e, orientation_acdb a b c d) (f.least k l m n t);
+}
 
 -- f of each member, in front of a list
 map_onto : {X Y : Type 0} → (X → Y) → List X → List Y → List Y
@@ -52,7 +61,8 @@ pairs f [] ys = []
 pairs f (x ∷ xs) ys = map_onto (f x) ys (pairs f xs ys)
 
 -- f of two members is there
-in_pairs : {X Y Z : Type 0} (f : X → Y → Z) (xs : List X) (ys : List Y) (x : X) (y : Y) → IsIn x xs → IsIn y ys → IsIn (f x y) (pairs f xs ys)
+in_pairs : {X Y Z : Type 0} (f : X → Y → Z) (xs : List X) (ys : List Y) (x : X) (y : Y) → IsIn x xs → IsIn y ys →
+    IsIn (f x y) (pairs f xs ys)
 unfolding pairs
 in_pairs f [] ys x y m n = absurd m
 in_pairs f (z ∷ xs) ys x y m n = elim m [
@@ -78,9 +88,12 @@ quads : List ℕ → List Four
 quads s = pairs four_of (pairs two s s) (pairs two s s)
 
 -- four points of a list are there
-in_quads : (s : List ℕ) (a b c d : ℕ) → IsIn a s → IsIn b s → IsIn c s → IsIn d s → IsIn (record { a = a; b = b; c = c; d = d }) (quads s)
+in_quads : (s : List ℕ) (a b c d : ℕ) → IsIn a s → IsIn b s → IsIn c s → IsIn d s →
+    IsIn (record { a = a; b = b; c = c; d = d }) (quads s)
 unfolding quads two
-in_quads s a b c d ma mb mc md = in_pairs four_of (pairs two s s) (pairs two s s) (two a b) (two c d) (in_pairs two s s a b ma mb) (in_pairs two s s c d mc md)
+in_quads s a b c d ma mb mc md =
+    in_pairs four_of (pairs two s s) (pairs two s s) (two a b) (two c d) (in_pairs two s s a b ma mb)
+    (in_pairs two s s c d mc md)
 
 -- a number where a statement holds, else 0
 abbrev size_if : {A : Type 0} → Dec A → ℤ → ℤ
@@ -101,12 +114,15 @@ size_if_pos (no n) z k = absurd k.lt
 pub record Chosen (q : ℕ → ℕ → ℕ → ℕ → Type 0) (num : ℕ → ℕ → ℕ → ℕ → ℤ) : Type 0 where
   pub f : Four
   pub at : q f.a f.b f.c f.d
-  pub least : (k l m n : ℕ) → q k l m n → (num f.a f.b f.c f.d *ℤ orientation k l m n) ≤ℤ (num k l m n *ℤ orientation f.a f.b f.c f.d)
+  pub least : (k l m n : ℕ) → q k l m n → (num f.a f.b f.c f.d *ℤ orientation k l m n)
+      ≤ℤ (num k l m n *ℤ orientation f.a f.b f.c f.d)
 
 -- there is one
-pub choose : {h : ℕ → ℕ} {s : List ℕ} {q : ℕ → ℕ → ℕ → ℕ → Type 0} → IsSetOf h s q → (num : ℕ → ℕ → ℕ → ℕ → ℤ) (a b c d : ℕ) → q a b c d → Chosen q num
+pub choose : {h : ℕ → ℕ} {s : List ℕ} {q : ℕ → ℕ → ℕ → ℕ → Type 0} → IsSetOf h s q →
+    (num : ℕ → ℕ → ℕ → ℕ → ℤ) (a b c d : ℕ) → q a b c d → Chosen q num
 choose {h} {s} {q} g num a b c d t = elim (find_least number size (quads s)) [
-  | inl n ↦ absurd (clash_above (size (record { a = a; b = b; c = c; d = d })) (large a b c d t) (n (record { a = a; b = b; c = c; d = d }) (there a b c d t)))
+  | inl n ↦ absurd (clash_above (size (record { a = a; b = b; c = c; d = d })) (large a b c d t)
+      (n (record { a = a; b = b; c = c; d = d }) (there a b c d t)))
   | inr l ↦ (
       let at = size_if_pos (g.decide l.0.a l.0.b l.0.c l.0.d) (orientation l.0.a l.0.b l.0.c l.0.d) l.1.positive in
       record {
@@ -114,7 +130,11 @@ choose {h} {s} {q} g num a b c d t = elim (find_least number size (quads s)) [
         at = at;
         least = λ k l' m n u. (
             let v = l.1.least (record { a = k; b = l'; c = m; d = n }) (there k l' m n u) (large k l' m n u) in
-            rw (size_if_yes (g.decide k l' m n) (orientation k l' m n) u, size_if_yes (g.decide l.0.a l.0.b l.0.c l.0.d) (orientation l.0.a l.0.b l.0.c l.0.d) at) at v);
+            rw (
+              size_if_yes (g.decide k l' m n) (orientation k l' m n) u,
+              size_if_yes (g.decide l.0.a l.0.b l.0.c l.0.d)
+                  (orientation l.0.a l.0.b l.0.c l.0.d) at,
+            ) at v);
       })
 ]
   where
@@ -135,5 +155,7 @@ choose {h} {s} {q} g num a b c d t = elim (find_least number size (quads s)) [
     large a b c d t = rw (size_if_yes (g.decide a b c d) (orientation a b c d) t) (full_turned (g.full a b c d t))
 
 -- the closest cell of a set that is not empty
-pub closest : {h : ℕ → ℕ} {s : List ℕ} {q : ℕ → ℕ → ℕ → ℕ → Type 0} → IsSetOf h s q → (e a b c d : ℕ) → q a b c d → (f : Four) × Closest h q e f.a f.b f.c f.d
-closest {h} g e a b c d t = let v = choose g (λ k l m n. lifted h k l m n e) a b c d t in (v.f, record { at = v.at; least = v.least })
+pub closest : {h : ℕ → ℕ} {s : List ℕ} {q : ℕ → ℕ → ℕ → ℕ → Type 0} → IsSetOf h s q → (e a b c d : ℕ) → q a b c d →
+    (f : Four) × Closest h q e f.a f.b f.c f.d
+closest {h} g e a b c d t =
+    let v = choose g (λ k l m n. lifted h k l m n e) a b c d t in (v.f, record { at = v.at; least = v.least })

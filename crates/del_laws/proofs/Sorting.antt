@@ -61,8 +61,11 @@ apart24 s k w x y z e q = apart34 s w y x z (turn23 s k w x y z e) q
 -- ---- nor does the cell
 
 -- lists with the same members have one order
-pub same_order : (l m : List ℕ) → ((p : ℕ) → IsIn p l → IsIn p m) → ((p : ℕ) → IsIn p m → IsIn p l) → ascending l ≡ ascending m
-same_order l m f g = ascending_is (ascending l) m (ascending_ascending l) (λ p i. f p (in_ascending l p i)) (λ p i. in_ascending_from l p (g p i))
+pub same_order : (l m : List ℕ) → ((p : ℕ) → IsIn p l → IsIn p m) → ((p : ℕ) → IsIn p m → IsIn p l) →
+    ascending l ≡ ascending m
+same_order l m f g =
+    ascending_is (ascending l) m (ascending_ascending l) (λ p i. f p (in_ascending l p i))
+    (λ p i. in_ascending_from l p (g p i))
 
 -- the first two exchanged
 first_two : (a b : ℕ) (l : List ℕ) (p : ℕ) → IsIn p (a ∷ b ∷ l) → IsIn p (b ∷ a ∷ l)
@@ -203,7 +206,8 @@ module _ (s : List ℕ) (k : AreKeys s) (E : ℕ → ℕ → ℕ → ℕ → Typ
 
   -- in order
   sorted4 : (w x y z : ℕ) → w < x → x < y → y < z → Of w x y z → IsSorted4 s E
-  sorted4 w x y z l m n t = record { a = w; b = x; c = y; d = z; first = l; second = m; third = n; test = t.0; holds = t.1 }
+  sorted4 w x y z l m n t =
+      record { a = w; b = x; c = y; d = z; first = l; second = m; third = n; test = t.0; holds = t.1 }
 
   -- the first put among three in order
   put3 : (w x y z : ℕ) → x < y → y < z → Of w x y z → IsSorted4 s E
@@ -236,9 +240,13 @@ module _ (s : List ℕ) (k : AreKeys s) (E : ℕ → ℕ → ℕ → ℕ → Typ
 
   -- any four
   pub sort4 : (w x y z : ℕ) → Of w x y z → IsSorted4 s E
-  sort4 w x y z t = elim (compared y z (λ e. apart34 s (point w) (point x) (point y) (point z) t.0 (ap point e))) [ less i ↦ put2 w x y z i t | more i ↦ put2 w x z y i (of34 w x y z t) ]
+  sort4 w x y z t = elim (compared y z (λ e. apart34 s (point w) (point x) (point y) (point z) t.0 (ap point e))) [
+    | less i ↦ put2 w x y z i t
+    | more i ↦ put2 w x z y i (of34 w x y z t)
+  ]
 
-module _ (s : List ℕ) (k : AreKeys s) (E : ℕ → ℕ → ℕ → Type 0) (e12 : (x y z : ℕ) → E x y z → E y x z) (e23 : (x y z : ℕ) → E x y z → E x z y) where
+module _ (s : List ℕ) (k : AreKeys s) (E : ℕ → ℕ → ℕ → Type 0) (e12 : (x y z : ℕ) → E x y z → E y x z)
+    (e23 : (x y z : ℕ) → E x y z → E x z y) where
   -- three points that pass, and of which E holds
   abbrev Of3 : ℕ → ℕ → ℕ → Type 0
   Of3 x y z = (is_cell s (point x) (point y) (point z) far ≡ true) × E x y z
@@ -261,12 +269,18 @@ module _ (s : List ℕ) (k : AreKeys s) (E : ℕ → ℕ → ℕ → Type 0) (e1
     | less i ↦ sorted3 x y z i m t
     | more i ↦ (
         let t2 = three12 x y z t in
-        elim (compared x z (λ e. apart23 s k (point y) (point x) (point z) far t2.0 (ap point e))) [ less j ↦ sorted3 y x z i j t2 | more j ↦ sorted3 y z x m j (three23 y x z t2) ])
+        elim (compared x z (λ e. apart23 s k (point y) (point x) (point z) far t2.0 (ap point e))) [
+          | less j ↦ sorted3 y x z i j t2
+          | more j ↦ sorted3 y z x m j (three23 y x z t2)
+        ])
   ]
 
   -- any three
   pub sort3 : (x y z : ℕ) → Of3 x y z → IsSorted3 s E
-  sort3 x y z t = elim (compared y z (λ e. apart23 s k (point x) (point y) (point z) far t.0 (ap point e))) [ less i ↦ put_first x y z i t | more i ↦ put_first x z y i (three23 x y z t) ]
+  sort3 x y z t = elim (compared y z (λ e. apart23 s k (point x) (point y) (point z) far t.0 (ap point e))) [
+    | less i ↦ put_first x y z i t
+    | more i ↦ put_first x z y i (three23 x y z t)
+  ]
 
 -- ---- the listed cell
 
@@ -281,37 +295,67 @@ IsOpenOf c x y z = c ≡ cell_of (point x) (point y) (point z) far
 -- in order it is listed
 listed4 : (s : List ℕ) (a : IsAscending s) (c : Cell) → IsSorted4 s (IsFullOf c) → IsIn c (complex s)
 listed4 s a c r =
-    subst (λ v. IsIn v (complex s)) (sym (r.holds ∙ ap Full (ascending_self (r.a ∷ r.b ∷ r.c ∷ r.d ∷ []) (r.first, (r.second, (r.third, (tt, tt)))))))
-    (cell_is_listed s (Full (r.a ∷ r.b ∷ r.c ∷ r.d ∷ [])) a (record { a = r.a; b = r.b; c = r.c; d = r.d; is = refl; first = r.first; second = r.second; third = r.third; test = r.test }))
+    subst (λ v. IsIn v (complex s)) (sym (r.holds ∙ ap Full (ascending_self (r.a ∷ r.b ∷ r.c ∷ r.d ∷ [])
+    (r.first, (r.second, (r.third, (tt, tt)))))))
+    (cell_is_listed s (Full (r.a ∷ r.b ∷ r.c ∷ r.d ∷ [])) a (record {
+      a = r.a;
+      b = r.b;
+      c = r.c;
+      d = r.d;
+      is = refl;
+      first = r.first;
+      second = r.second;
+      third = r.third;
+      test = r.test;
+    }))
 
 -- and of three
 listed3 : (s : List ℕ) (a : IsAscending s) (c : Cell) → IsSorted3 s (IsOpenOf c) → IsIn c (complex s)
 listed3 s a c r =
-    subst (λ v. IsIn v (complex s)) (sym (r.holds ∙ ap Open (ascending_self (r.a ∷ r.b ∷ r.c ∷ []) (r.first, (r.second, (tt, tt))))))
-    (cell_is_listed s (Open (r.a ∷ r.b ∷ r.c ∷ [])) a (record { a = r.a; b = r.b; c = r.c; is = refl; first = r.first; second = r.second; test = r.test }))
+    subst (λ v. IsIn v (complex s)) (sym (r.holds ∙ ap Open (ascending_self (r.a ∷ r.b ∷ r.c ∷ [])
+    (r.first, (r.second, (tt, tt))))))
+    (cell_is_listed s (Open (r.a ∷ r.b ∷ r.c ∷ [])) a (record {
+      a = r.a;
+      b = r.b;
+      c = r.c;
+      is = refl;
+      first = r.first;
+      second = r.second;
+      test = r.test;
+    }))
 
 -- four points
-any4 : (s : List ℕ) (a : IsAscending s) (k : AreKeys s) (c : Cell) (w x y z : ℕ) → is_cell s (point w) (point x) (point y) (point z) ≡ true → IsFullOf c w x y z → IsIn c (complex s)
+any4 : (s : List ℕ) (a : IsAscending s) (k : AreKeys s) (c : Cell) (w x y z : ℕ) →
+    is_cell s (point w) (point x) (point y) (point z) ≡ true → IsFullOf c w x y z → IsIn c (complex s)
 any4 s a k c w x y z t e =
     listed4 s a c (sort4 s k (IsFullOf c)
-    (λ w x y z u i. i ∙ cell_of_swap12 (point w) (point x) (point y) (point z)) (λ w x y z u i. i ∙ cell_of_swap23 (point w) (point x) (point y) (point z)) (λ w x y z u i. i ∙ cell_of_swap34 (point w) (point x) (point y) (point z))
+    (λ w x y z u i. i ∙ cell_of_swap12 (point w) (point x) (point y) (point z))
+    (λ w x y z u i. i ∙ cell_of_swap23 (point w) (point x) (point y) (point z))
+    (λ w x y z u i. i ∙ cell_of_swap34 (point w) (point x) (point y) (point z))
     w x y z (t, e))
 
 -- three points
-any3 : (s : List ℕ) (a : IsAscending s) (k : AreKeys s) (c : Cell) (x y z : ℕ) → is_cell s (point x) (point y) (point z) far ≡ true → IsOpenOf c x y z → IsIn c (complex s)
+any3 : (s : List ℕ) (a : IsAscending s) (k : AreKeys s) (c : Cell) (x y z : ℕ) →
+    is_cell s (point x) (point y) (point z) far ≡ true → IsOpenOf c x y z → IsIn c (complex s)
 any3 s a k c x y z t e =
-    listed3 s a c (sort3 s k (IsOpenOf c) (λ x y z i. i ∙ cell_of_swap12 (point x) (point y) (point z) far) (λ x y z i. i ∙ cell_of_swap23 (point x) (point y) (point z) far) x y z (t, e))
+    listed3 s a c (sort3 s k (IsOpenOf c) (λ x y z i. i ∙ cell_of_swap12 (point x) (point y) (point z) far)
+    (λ x y z i. i ∙ cell_of_swap23 (point x) (point y) (point z) far) x y z (t, e))
 
 -- the cell of four vertices that pass is listed
 pub test_is_listed : TestIsListed
-test_is_listed s a k (point x) (point y) (point z) (point o) t = any4 s a k (cell_of (point x) (point y) (point z) (point o)) x y z o t refl
-test_is_listed s a k (point x) (point y) (point z) far t = any3 s a k (cell_of (point x) (point y) (point z) far) x y z t refl
-test_is_listed s a k (point x) (point y) far (point o) t = any3 s a k (cell_of (point x) (point y) far (point o)) x y o t refl
+test_is_listed s a k (point x) (point y) (point z) (point o) t =
+    any4 s a k (cell_of (point x) (point y) (point z) (point o)) x y z o t refl
+test_is_listed s a k (point x) (point y) (point z) far t =
+    any3 s a k (cell_of (point x) (point y) (point z) far) x y z t refl
+test_is_listed s a k (point x) (point y) far (point o) t =
+    any3 s a k (cell_of (point x) (point y) far (point o)) x y o t refl
 test_is_listed s a k (point x) (point y) far far t = cc
-test_is_listed s a k (point x) far (point z) (point o) t = any3 s a k (cell_of (point x) far (point z) (point o)) x z o t refl
+test_is_listed s a k (point x) far (point z) (point o) t =
+    any3 s a k (cell_of (point x) far (point z) (point o)) x z o t refl
 test_is_listed s a k (point x) far (point z) far t = cc
 test_is_listed s a k (point x) far far o t = cc
-test_is_listed s a k far (point y) (point z) (point o) t = any3 s a k (cell_of far (point y) (point z) (point o)) y z o t refl
+test_is_listed s a k far (point y) (point z) (point o) t =
+    any3 s a k (cell_of far (point y) (point z) (point o)) y z o t refl
 test_is_listed s a k far (point y) (point z) far t = cc
 test_is_listed s a k far (point y) far o t = cc
 test_is_listed s a k far far z o t = cc

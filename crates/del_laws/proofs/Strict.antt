@@ -20,11 +20,13 @@ pub record StrictOpen (h : ℕ → ℕ) (s : List ℕ) (a b c : ℕ) : Type 0 wh
   pub has_mate : IsIn mate s
   pub above : pos 0 <ℤ orientation a b c mate
   pub bounds : (e : ℕ) → IsIn e s → pos 0 ≤ℤ orientation a b c e
-  pub ties : (f e : ℕ) → IsIn f s → IsIn e s → ¬ (IsIn e (a ∷ b ∷ c ∷ [])) → pos 0 <ℤ orientation a b c f → orientation a b c e ≡ pos 0 → pos 0 <ℤ lifted h a b c f e
+  pub ties : (f e : ℕ) → IsIn f s → IsIn e s → ¬ (IsIn e (a ∷ b ∷ c ∷ [])) → pos 0 <ℤ orientation a b c f →
+      orientation a b c e ≡ pos 0 → pos 0 <ℤ lifted h a b c f e
 
 -- the three points of an Open cell lie on its circle
 pub flat_three : (h : ℕ → ℕ) (a b c f e : ℕ) → IsIn e (a ∷ b ∷ c ∷ []) → lifted h a b c f e ≡ pos 0
-flat_three h a b c f e m = of_three (λ x. lifted h a b c f x ≡ pos 0) m (lifted_at_a h a b c f) (lifted_at_b h a b c f) (lifted_at_c h a b c f)
+flat_three h a b c f e m =
+    of_three (λ x. lifted h a b c f x ≡ pos 0) m (lifted_at_a h a b c f) (lifted_at_b h a b c f) (lifted_at_c h a b c f)
 
 -- the weak form gives the strict one
 pub strict_open : {h : ℕ → ℕ} {s : List ℕ} {a b c : ℕ} → NoTies h s → Open h s a b c → StrictOpen h s a b c
@@ -38,5 +40,7 @@ strict_open {h} {s} {a} {b} {c} n F = (let o = open_mate F in record {
   bounds = open_bounds F;
   ties = λ f e m k other l z. positive (lifted h a b c f e) (open_ties F f e m k l z) (λ q. (
       let one = n.one_of a b c f e (open_a F) (open_b F) (open_c F) m k (not_zero (orientation a b c f) l) q in
-      of_four (λ x. orientation a b c x ≡ pos 0 → ¬ (IsIn x (a ∷ b ∷ c ∷ [])) → ⊥) one (λ y v. v (inl refl)) (λ y v. v (inr (inl refl))) (λ y v. v (inr (inr (inl refl)))) (λ y v. not_zero (orientation a b c f) l y) z other));
+      of_four (λ x. orientation a b c x ≡ pos 0 → ¬ (IsIn x (a ∷ b ∷ c ∷ [])) → ⊥) one (λ y v. v (inl refl))
+      (λ y v. v (inr (inl refl))) (λ y v. v (inr (inr (inl refl)))) (λ y v. not_zero (orientation a b c f) l y) z
+      other));
 })

@@ -69,9 +69,9 @@ pub fn made_of_points(
 {
     one_thread_is_legal();
     solidity_is_of_the_set();
-    let kept = history_of_points(alloc, &file.points, four)?;
     let points = set_of(alloc, &file.points)?;
     let cells = complex_of_points(alloc, &points)?;
+    let kept = history_of_points(alloc, &file.points, four)?;
     let parts = parts_of(alloc, asked, file, points, cells, &kept)?;
     Ok((kept, parts))
 }

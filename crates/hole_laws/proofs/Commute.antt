@@ -115,7 +115,9 @@ own_reach S (take p) q e = inl e
 -- a flat edit leaves the set
 pub flat_after : (S : PointSet) (e : Step) → IsFlat S e → after S e ≡ S
 flat_after S (add p) h = absurd h
-flat_after S (take p) h = cond_true (has S p) (cond (solid (minus S p)) (minus S p) S) S h.0 ∙ cond_false (solid (minus S p)) (minus S p) S h.1
+flat_after S (take p) h =
+    cond_true (has S p) (cond (solid (minus S p)) (minus S p) S) S h.0
+    ∙ cond_false (solid (minus S p)) (minus S p) S h.1
 
 -- a flat removal reaches everything
 pub flat_reach : (S : PointSet) (e : Step) → solid S ≡ true → IsFlat S e → (q : Vertex) → has S q ≡ true → Reach S e q
@@ -200,7 +202,9 @@ kind S (add p) n = go (has S p) refl
   where
     go : (b : Bool) → has S p ≡ b → Kind S (add p)
     go true e = idle e
-    go false e = real (subst (λ (U : PointSet). IsAdd S p U) (sym (cond_false (has S p) S (plus S p) e)) (corners.plus_adds S p n e))
+    go false e =
+        real (subst (λ (U : PointSet). IsAdd S p U) (sym (cond_false (has S p) S (plus S p) e))
+        (corners.plus_adds S p n e))
 kind S (take p) n = go (has S p) (solid (minus S p)) refl refl
   where
     go : (b c : Bool) → has S p ≡ b → solid (minus S p) ≡ c → Kind S (take p)
@@ -211,7 +215,8 @@ kind S (take p) n = go (has S p) (solid (minus S p)) refl refl
         real (subst (λ (U : PointSet). IsAdd U p S) (sym m) (corners.minus_adds S p e), ap solid m ∙ f)
 
 -- an edit changes no other point
-pub others : (S : PointSet) (e : Step) (q : Vertex) → is_point (point_of e) ≡ true → q ≢ point_of e → has (after S e) q ≡ has S q
+pub others : (S : PointSet) (e : Step) (q : Vertex) → is_point (point_of e) ≡ true → q ≢ point_of e →
+    has (after S e) q ≡ has S q
 others S e q n m = go e (kind S e n) m
   where
     go : (e : Step) → Kind S e → q ≢ point_of e → has (after S e) q ≡ has S q
@@ -221,7 +226,8 @@ others S e q n m = go e (kind S e n) m
     go (take p) (real h) m = sym (h.0.same q m)
 
 -- what is not idle reaches a point of the set
-pub touches : (S : PointSet) (e : Step) → solid S ≡ true → is_point (point_of e) ≡ true → (Idle S e → ⊥) → (q : Vertex) × (has S q ≡ true) × Reach S e q
+pub touches : (S : PointSet) (e : Step) → solid S ≡ true → is_point (point_of e) ≡ true → (Idle S e → ⊥) →
+    (q : Vertex) × (has S q ≡ true) × Reach S e q
 unfolding is_add
 touches S (take p) s n i = (p, yes_has (has S p) i, inl refl)
   where
@@ -231,12 +237,14 @@ touches S (take p) s n i = (p, yes_has (has S p) i, inl refl)
 touches S (add p) s n i =
     ⊎_elim (λ k. (
       m.t3,
-      base.point S m.t1 m.t2 m.rim.lost m.t3 (sym ((test_symmetric S).last m.t1 m.t2 m.t3 m.rim.lost) ∙ m.rim.lost_before) k,
+      base.point S m.t1 m.t2 m.rim.lost m.t3 (sym ((test_symmetric S).last m.t1 m.t2 m.t3 m.rim.lost)
+          ∙ m.rim.lost_before) k,
       inr (f, sq.at_third S (plus S p) m.t1 m.t2 m.t3 m.rim.lost g k),
     ))
     (λ k. (
       m.t2,
-      base.point S m.t1 m.t3 m.rim.lost m.t2 (sym (second_last (cell S) (test_symmetric S) m.t1 m.t2 m.t3 m.rim.lost) ∙ m.rim.lost_before) k,
+      base.point S m.t1 m.t3 m.rim.lost m.t2 (sym (second_last (cell S) (test_symmetric S) m.t1 m.t2 m.t3 m.rim.lost)
+          ∙ m.rim.lost_before) k,
       inr (f, sq.at_second S (plus S p) m.t1 m.t2 m.t3 m.rim.lost g k),
     ))
     (sq.facet_point S m.t1 m.t2 m.t3 m.rim.lost m.rim.lost_before)
@@ -248,14 +256,18 @@ touches S (add p) s n i =
     m = from.rim S (plus S p) p s (corners.plus_adds S p n f)
 
     g : gone (cell S) (cell (plus S p)) m.t1 m.t2 m.t3 m.rim.lost ≡ true
-    g = and_not (cell S m.t1 m.t2 m.t3 m.rim.lost) (cell (plus S p) m.t1 m.t2 m.t3 m.rim.lost) m.rim.lost_before m.rim.lost_after
+    g =
+        and_not (cell S m.t1 m.t2 m.t3 m.rim.lost) (cell (plus S p) m.t1 m.t2 m.t3 m.rim.lost) m.rim.lost_before
+        m.rim.lost_after
 
 -- a real edit reaches a point of the set that it makes
-pub stays : (S : PointSet) (e : Step) (T : PointSet) → solid S ≡ true → Makes S e T → (q : Vertex) × (has T q ≡ true) × Reach S e q
+pub stays : (S : PointSet) (e : Step) (T : PointSet) → solid S ≡ true → Makes S e T → (q : Vertex) × (has T q ≡ true)
+    × Reach S e q
 stays S (add p) T s m = (p, m.present, inl refl)
 stays S (take p) T s m = (
   k.t3,
-  sym (m.0.same k.t3 n) ∙ base.point S k.t1 k.t2 p k.t3 (sym ((test_symmetric S).last k.t1 k.t2 k.t3 p) ∙ k.cell) k.finite3,
+  sym (m.0.same k.t3 n) ∙ base.point S k.t1 k.t2 p k.t3 (sym ((test_symmetric S).last k.t1 k.t2 k.t3 p) ∙ k.cell)
+      k.finite3,
   inr (m.0.present, k.finite3, record { t1 = k.t1; t2 = k.t2; cell = k.cell }),
 )
   where
@@ -274,18 +286,24 @@ pub record Turned (S : PointSet) (e d : Step) (S1 S2 : PointSet) : Type 0 where
   pub reach_e : (q : Vertex) → Along by e S2 q ↔ Along S e S1 q
 
 -- so they commute
-from_turned : (S : PointSet) (e d : Step) (S1 S2 : PointSet) → Makes S e S1 → Makes S1 d S2 → after S e ≡ S1 → Turned S e d S1 S2 → Commutes S e d
+from_turned : (S : PointSet) (e d : Step) (S1 S2 : PointSet) → Makes S e S1 → Makes S1 d S2 → after S e ≡ S1 →
+    Turned S e d S1 S2 → Commutes S e d
 from_turned S e d S1 S2 m n q t = record {
-  same = ap (λ (U : PointSet). after U e) p ∙ makes_after t.by e S2 t.second ∙ sym (ap (λ (U : PointSet). after U d) q ∙ makes_after S1 d S2 n);
+  same = ap (λ (U : PointSet). after U e) p ∙ makes_after t.by e S2 t.second
+      ∙ sym (ap (λ (U : PointSet). after U d) q ∙ makes_after S1 d S2 n);
   reply_d = makes_reply S d t.by t.first ∙ sym (ap (λ (U : PointSet). reply U d) q ∙ makes_reply S1 d S2 n);
   reply_e = ap (λ (U : PointSet). reply U e) p ∙ makes_reply t.by e S2 t.second ∙ sym (makes_reply S e S1 m);
   reach_d = λ x. (
-    λ h. subst (λ (U : PointSet). Reach U d x) (sym q) ((makes_reach S1 d S2 n x).1 ((t.reach_d x).0 ((makes_reach S d t.by t.first x).0 h))),
-    λ h. (makes_reach S d t.by t.first x).1 ((t.reach_d x).1 ((makes_reach S1 d S2 n x).0 (subst (λ (U : PointSet). Reach U d x) q h))),
+    λ h. subst (λ (U : PointSet). Reach U d x) (sym q) ((makes_reach S1 d S2 n x).1
+        ((t.reach_d x).0 ((makes_reach S d t.by t.first x).0 h))),
+    λ h. (makes_reach S d t.by t.first x).1 ((t.reach_d x).1 ((makes_reach S1 d S2 n x).0
+        (subst (λ (U : PointSet). Reach U d x) q h))),
   );
   reach_e = λ x. (
-    λ h. (makes_reach S e S1 m x).1 ((t.reach_e x).0 ((makes_reach t.by e S2 t.second x).0 (subst (λ (U : PointSet). Reach U e x) p h))),
-    λ h. subst (λ (U : PointSet). Reach U e x) (sym p) ((makes_reach t.by e S2 t.second x).1 ((t.reach_e x).1 ((makes_reach S e S1 m x).0 h))),
+    λ h. (makes_reach S e S1 m x).1 ((t.reach_e x).0 ((makes_reach t.by e S2 t.second x).0
+        (subst (λ (U : PointSet). Reach U e x) p h))),
+    λ h. subst (λ (U : PointSet). Reach U e x) (sym p) ((makes_reach t.by e S2 t.second x).1
+        ((t.reach_e x).1 ((makes_reach S e S1 m x).0 h))),
   );
 }
   where
@@ -301,10 +319,17 @@ flip : {A B : Type 0} → A ↔ B → B ↔ A
 flip f = (f.1, f.0)
 
 -- the other order of the two, for each way around the square
-pub turn : (S : PointSet) (e d : Step) (S1 S2 : PointSet) → solid S ≡ true → point_of e ≢ point_of d → Makes S e S1 → Makes S1 d S2 →
+pub turn : (S : PointSet) (e d : Step) (S1 S2 : PointSet) → solid S ≡ true → point_of e ≢ point_of d → Makes S e S1 →
+    Makes S1 d S2 →
     Disjoint (Along S e S1) (Along S1 d S2) → Turned S e d S1 S2
 turn R (add x) (add y) A T s n ra at d =
-    record { by = B; first = rb; second = bt; reach_d = λ q. rho_both R B A T y q (a.by_y q); reach_e = λ q. rho_both B T R A x q (flip (a.by_x q)) }
+    record {
+      by = B;
+      first = rb;
+      second = bt;
+      reach_d = λ q. rho_both R B A T y q (a.by_y q);
+      reach_e = λ q. rho_both B T R A x q (flip (a.by_x q));
+    }
   where
     B : PointSet
     B = plus R y
@@ -318,7 +343,13 @@ turn R (add x) (add y) A T s n ra at d =
     a : corners.Agree R A B T
     a = corners.agree_up R A B T x y record { ra = ra; rb = rb; at = at; bt = bt } s d
 turn A (take x) (add y) R B s n m rb d =
-    record { by = T; first = at; second = (bt, from.solid_add R B y m.1 rb); reach_d = λ q. rho_both A T R B y q (flip (a.by_y q)); reach_e = λ q. rho_both B T R A x q (flip (a.by_x q)) }
+    record {
+      by = T;
+      first = at;
+      second = (bt, from.solid_add R B y m.1 rb);
+      reach_d = λ q. rho_both A T R B y q (flip (a.by_y q));
+      reach_e = λ q. rho_both B T R A x q (flip (a.by_x q));
+    }
   where
     T : PointSet
     T = plus A y
@@ -332,7 +363,13 @@ turn A (take x) (add y) R B s n m rb d =
     a : corners.Agree R A B T
     a = corners.agree_low R A B T x y record { ra = m.0; rb = rb; at = at; bt = bt } m.1 d
 turn T (take x) (take y) B R s n m k d =
-    record { by = A; first = (at, from.solid_add R A x k.1 ra); second = (ra, k.1); reach_d = λ q. rho_both A T R B y q (flip (a.by_y q)); reach_e = λ q. rho_both R A B T x q (a.by_x q) }
+    record {
+      by = A;
+      first = (at, from.solid_add R A x k.1 ra);
+      second = (ra, k.1);
+      reach_d = λ q. rho_both A T R B y q (flip (a.by_y q));
+      reach_e = λ q. rho_both R A B T x q (a.by_x q);
+    }
   where
     A : PointSet
     A = minus T y
@@ -347,7 +384,13 @@ turn T (take x) (take y) B R s n m k d =
     a = corners.agree_turned R A B T
         (corners.agree_up R B A T y x record { ra = k.0; rb = ra; at = m.0; bt = at } k.1 (λ q f g. d q g f))
 turn B (add x) (take y) T A s n bt m d =
-    record { by = R; first = (rb, a.smaller); second = ra; reach_d = λ q. rho_both R B A T y q (a.by_y q); reach_e = λ q. rho_both R A B T x q (a.by_x q) }
+    record {
+      by = R;
+      first = (rb, a.smaller);
+      second = ra;
+      reach_d = λ q. rho_both R B A T y q (a.by_y q);
+      reach_e = λ q. rho_both R A B T x q (a.by_x q);
+    }
   where
     R : PointSet
     R = minus B y
@@ -362,13 +405,17 @@ turn B (add x) (take y) T A s n bt m d =
     a = corners.agree_across R A B T x y record { ra = ra; rb = rb; at = m.0; bt = bt } m.1 s d
 
 -- where e is idle
-idle_first : (S : PointSet) (e d : Step) → is_point (point_of d) ≡ true → point_of e ≢ point_of d → Idle S e → Commutes S e d
+idle_first : (S : PointSet) (e d : Step) → is_point (point_of d) ≡ true → point_of e ≢ point_of d → Idle S e →
+    Commutes S e d
 idle_first S e d nd n i = record {
   same = idle_after (after S d) e j ∙ ap (λ (U : PointSet). after U d) (sym p);
   reply_d = ap (λ (U : PointSet). reply U d) (sym p);
   reply_e = idle_reply (after S d) e j ∙ sym (idle_reply S e i);
   reach_d = λ x. (subst (λ (U : PointSet). Reach U d x) (sym p), subst (λ (U : PointSet). Reach U d x) p);
-  reach_e = λ x. (λ h. own_reach S e x (idle_reach (after S d) e x j h), λ h. own_reach (after S d) e x (idle_reach S e x i h));
+  reach_e = λ x. (
+    λ h. own_reach S e x (idle_reach (after S d) e x j h),
+    λ h. own_reach (after S d) e x (idle_reach S e x i h),
+  );
 }
   where
     p : after S e ≡ S
@@ -378,12 +425,16 @@ idle_first S e d nd n i = record {
     j = others S d (point_of e) nd n ∙ i
 
 -- where d is idle
-idle_second : (S : PointSet) (e d : Step) → is_point (point_of e) ≡ true → point_of e ≢ point_of d → Idle (after S e) d → Commutes S e d
+idle_second : (S : PointSet) (e d : Step) → is_point (point_of e) ≡ true → point_of e ≢ point_of d →
+    Idle (after S e) d → Commutes S e d
 idle_second S e d ne n i = record {
   same = ap (λ (U : PointSet). after U e) p ∙ sym (idle_after (after S e) d i);
   reply_d = idle_reply S d j ∙ sym (idle_reply (after S e) d i);
   reply_e = ap (λ (U : PointSet). reply U e) p;
-  reach_d = λ x. (λ h. own_reach (after S e) d x (idle_reach S d x j h), λ h. own_reach S d x (idle_reach (after S e) d x i h));
+  reach_d = λ x. (
+    λ h. own_reach (after S e) d x (idle_reach S d x j h),
+    λ h. own_reach S d x (idle_reach (after S e) d x i h),
+  );
   reach_e = λ x. (subst (λ (U : PointSet). Reach U e x) p, subst (λ (U : PointSet). Reach U e x) (sym p));
 }
   where
@@ -394,7 +445,8 @@ idle_second S e d ne n i = record {
     p = idle_after S d j
 
 -- edits whose reaches are apart commute
-pub commute : (S : PointSet) (e d : Step) → solid S ≡ true → is_point (point_of e) ≡ true → is_point (point_of d) ≡ true →
+pub commute : (S : PointSet) (e d : Step) → solid S ≡ true → is_point (point_of e) ≡ true →
+    is_point (point_of d) ≡ true →
     Disjoint (Reach S e) (Reach (after S e) d) → Commutes S e d
 commute S e d s ne nd apart = go (kind S e ne) (kind (after S e) d nd)
   where
@@ -424,7 +476,8 @@ commute S e d s ne nd apart = go (kind S e ne) (kind (after S e) d nd)
         absurd (apart t.0 t.2 (flat_reach (after S e) d (makes_solid S e (after S e) s m) f t.0 t.1))
     go (real m) (real k) = from_turned S e d (after S e) (after (after S e) d) m k refl
         (turn S e d (after S e) (after (after S e) d) s n m k
-        λ q a b. apart q ((makes_reach S e (after S e) m q).1 a) ((makes_reach (after S e) d (after (after S e) d) k q).1 b))
+        λ q a b. apart q ((makes_reach S e (after S e) m q).1 a)
+        ((makes_reach (after S e) d (after (after S e) d) k q).1 b))
 
 -- a solid set stays solid
 pub solid_after : (S : PointSet) (e : Step) → solid S ≡ true → is_point (point_of e) ≡ true → solid (after S e) ≡ true
@@ -436,12 +489,14 @@ solid_after S e s n = go (kind S e n)
     go (real m) = makes_solid S e (after S e) s m
 
 -- a point of a cell that the edit changes is in its reach
-pub locality : (S : PointSet) (e : Step) (w x y z : Vertex) → solid S ≡ true → is_point (point_of e) ≡ true → cell S w x y z ≢ cell (after S e) w x y z → z ≢ far → Reach S e z
+pub locality : (S : PointSet) (e : Step) (w x y z : Vertex) → solid S ≡ true → is_point (point_of e) ≡ true →
+    cell S w x y z ≢ cell (after S e) w x y z → z ≢ far → Reach S e z
 locality S e w x y z s n differs f = go e (kind S e n) differs
   where
     go : (e : Step) → Kind S e → cell S w x y z ≢ cell (after S e) w x y z → Reach S e z
     go e (idle i) d = absurd (d (ap (λ (T : PointSet). cell T w x y z) (sym (idle_after S e i))))
     go e (flat i) d = absurd (d (ap (λ (T : PointSet). cell T w x y z) (sym (flat_after S e i))))
-    go (add p) (real m) d = (makes_reach S (add p) (after S (add p)) m z).1 (local_changed S (after S (add p)) p s m w x y z d f)
+    go (add p) (real m) d =
+        (makes_reach S (add p) (after S (add p)) m z).1 (local_changed S (after S (add p)) p s m w x y z d f)
     go (take p) (real m) d = (makes_reach S (take p) (after S (take p)) m z).1
         (local_changed (after S (take p)) S p m.1 m.0 w x y z (λ q. d (sym q)) f)

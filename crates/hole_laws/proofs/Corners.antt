@@ -34,11 +34,14 @@ point_finite far h e = false≢true h
 -- ---- sides
 
 -- what a side reaches, where both take away the same cells
-at_along : (S T U V : PointSet) → ((v1 v2 v3 v4 : Vertex) → gone (cell S) (cell T) v1 v2 v3 v4 ≡ gone (cell U) (cell V) v1 v2 v3 v4) → (q : Vertex) → At S T q → At U V q
-at_along S T U V h q a = record { t1 = a.t1; t2 = a.t2; t3 = a.t3; cell = sym (h a.t1 a.t2 a.t3 q) ∙ a.cell; finite = a.finite }
+at_along : (S T U V : PointSet) → ((v1 v2 v3 v4 : Vertex) → gone (cell S) (cell T) v1 v2 v3 v4
+    ≡ gone (cell U) (cell V) v1 v2 v3 v4) → (q : Vertex) → At S T q → At U V q
+at_along S T U V h q a =
+    record { t1 = a.t1; t2 = a.t2; t3 = a.t3; cell = sym (h a.t1 a.t2 a.t3 q) ∙ a.cell; finite = a.finite }
 
 -- in both directions
-at_both : (S T U V : PointSet) → ((v1 v2 v3 v4 : Vertex) → gone (cell S) (cell T) v1 v2 v3 v4 ≡ gone (cell U) (cell V) v1 v2 v3 v4) → (q : Vertex) → At S T q ↔ At U V q
+at_both : (S T U V : PointSet) → ((v1 v2 v3 v4 : Vertex) → gone (cell S) (cell T) v1 v2 v3 v4
+    ≡ gone (cell U) (cell V) v1 v2 v3 v4) → (q : Vertex) → At S T q ↔ At U V q
 at_both S T U V h q = (at_along S T U V h q, at_along U V S T (λ v1 v2 v3 v4. sym (h v1 v2 v3 v4)) q)
 
 -- the first corner is solid, and opposite sides reach the same
@@ -53,7 +56,8 @@ rho_along S T U V x q f (inl e) = inl e
 rho_along S T U V x q f (inr a) = inr (f a)
 
 -- both sides from R
-pub agree_low : (R A B T : PointSet) (x y : Vertex) → Square R A B T x y → solid R ≡ true → Disjoint (Rho R A x) (Rho R B y) → Agree R A B T
+pub agree_low : (R A B T : PointSet) (x y : Vertex) → Square R A B T x y → solid R ≡ true →
+    Disjoint (Rho R A x) (Rho R B y) → Agree R A B T
 agree_low R A B T x y q s d = record {
   smaller = s;
   by_x = at_both R A B T (λ v1 v2 v3 v4. sym (sq.same_far R B A T y x
@@ -62,7 +66,8 @@ agree_low R A B T x y q s d = record {
 }
 
 -- from R by way of A
-pub agree_up : (R A B T : PointSet) (x y : Vertex) → Square R A B T x y → solid R ≡ true → Disjoint (Rho R A x) (Rho A T y) → Agree R A B T
+pub agree_up : (R A B T : PointSet) (x y : Vertex) → Square R A B T x y → solid R ≡ true →
+    Disjoint (Rho R A x) (Rho A T y) → Agree R A B T
 agree_up R A B T x y q s d = agree_low R A B T x y q s λ e a b.
     d e a (rho_along R B A T y e (at_along R B A T (sq.same_near R A B T x y q s d) e) b)
 
@@ -71,7 +76,8 @@ pub agree_turned : (R A B T : PointSet) → Agree R B A T → Agree R A B T
 agree_turned R A B T a = record { smaller = a.smaller; by_x = a.by_y; by_y = a.by_x }
 
 -- from B by way of T
-pub agree_across : (R A B T : PointSet) (x y : Vertex) → Square R A B T x y → solid A ≡ true → solid B ≡ true → Disjoint (Rho B T x) (Rho A T y) → Agree R A B T
+pub agree_across : (R A B T : PointSet) (x y : Vertex) → Square R A B T x y → solid A ≡ true → solid B ≡ true →
+    Disjoint (Rho B T x) (Rho A T y) → Agree R A B T
 agree_across R A B T x y q sa sb d = agree_turned R A B T (agree_up R B A T y x (sq.turned R A B T x y q)
     (corner_solid R A B T x y q sa sb d)
     λ e a b. d e b (rho_along R B A T y e (opposite R A B T x y q sa sb d e).0 a))

@@ -31,9 +31,23 @@ module _ (R A B T : PointSet) (x y : Vertex) (q : Square R A B T x y)
   -- the cells at y are the same without x
   star_down : (t1 t2 t3 : Vertex) → cell T t1 t2 t3 y ≡ true → cell B t1 t2 t3 y ≡ true
   star_down t1 t2 t3 h = from.old B T x sb q.bt t1 t2 t3 y h
-      (λ e. x_beside (linked_at A T y sa q.at x q.bt.finite record { t1 = t2; t2 = t3; cell = ap (λ w. cell T t2 t3 w y) (sym e) ∙ sym ((test_symmetric T).middle t2 t1 t3 y) ∙ sym ((test_symmetric T).first t1 t2 t3 y) ∙ h }))
-      (λ e. x_beside (linked_at A T y sa q.at x q.bt.finite record { t1 = t1; t2 = t3; cell = ap (λ w. cell T t1 t3 w y) (sym e) ∙ sym ((test_symmetric T).middle t1 t2 t3 y) ∙ h }))
-      (λ e. x_beside (linked_at A T y sa q.at x q.bt.finite record { t1 = t1; t2 = t2; cell = ap (λ w. cell T t1 t2 w y) (sym e) ∙ h }))
+      (λ e. x_beside (linked_at A T y sa q.at x q.bt.finite record {
+        t1 = t2;
+        t2 = t3;
+        cell =
+            ap (λ w. cell T t2 t3 w y) (sym e) ∙ sym ((test_symmetric T).middle t2 t1 t3 y)
+            ∙ sym ((test_symmetric T).first t1 t2 t3 y) ∙ h;
+      }))
+      (λ e. x_beside (linked_at A T y sa q.at x q.bt.finite record {
+        t1 = t1;
+        t2 = t3;
+        cell = ap (λ w. cell T t1 t3 w y) (sym e) ∙ sym ((test_symmetric T).middle t1 t2 t3 y) ∙ h;
+      }))
+      (λ e. x_beside (linked_at A T y sa q.at x q.bt.finite record {
+        t1 = t1;
+        t2 = t2;
+        cell = ap (λ w. cell T t1 t2 w y) (sym e) ∙ h;
+      }))
       differ_points
 
   -- and with it
@@ -42,7 +56,15 @@ module _ (R A B T : PointSet) (x y : Vertex) (q : Square R A B T x y)
     where
       go : (b : Bool) → cell T t1 t2 t3 y ≡ b → cell T t1 t2 t3 y ≡ true
       go true e = e
-      go false e = absurd (y_beside record { t1 = t1; t2 = t2; t3 = t3; cell = and_not (cell B t1 t2 t3 y) (cell T t1 t2 t3 y) h e; finite = q.rb.finite })
+      go false e =
+          absurd (y_beside record {
+            t1 = t1;
+            t2 = t2;
+            t3 = t3;
+            cell = and_not (cell B t1 t2 t3 y) (cell T t1 t2 t3 y) h
+                e;
+            finite = q.rb.finite;
+          })
 
   -- so is what is beside y
   linked_up : (e : Vertex) → AreLinked (cell B) y e → AreLinked (cell T) y e
@@ -56,7 +78,8 @@ module _ (R A B T : PointSet) (x y : Vertex) (q : Square R A B T x y)
   far_point : (e : Vertex) → At B T e → solid R ≡ false → ⊥
   far_point e h f =
       d e (inr h) (inr (linked_at A T y sa q.at e h.finite (linked_up e (removal.flat_rest R B y q.rb sb f e
-      (sym (q.rb.same e (λ p. y_beside (subst (At B T) p h))) ∙ base.point B h.t1 h.t2 h.t3 e (and_not_from (cell B h.t1 h.t2 h.t3 e) (cell T h.t1 h.t2 h.t3 e) h.cell).0 h.finite)))))
+      (sym (q.rb.same e (λ p. y_beside (subst (At B T) p h))) ∙ base.point B h.t1 h.t2 h.t3 e
+      (and_not_from (cell B h.t1 h.t2 h.t3 e) (cell T h.t1 h.t2 h.t3 e) h.cell).0 h.finite)))))
 
   -- so the fourth corner is solid
   pub corner_solid : solid R ≡ true
@@ -66,7 +89,8 @@ module _ (R A B T : PointSet) (x y : Vertex) (q : Square R A B T x y)
       go true e = e
       go false e =
           let m = from.rim B T x sb q.bt in
-          let g = and_not (cell B m.t1 m.t2 m.t3 m.rim.lost) (cell T m.t1 m.t2 m.t3 m.rim.lost) m.rim.lost_before m.rim.lost_after in
+          let g = and_not (cell B m.t1 m.t2 m.t3 m.rim.lost) (cell T m.t1 m.t2 m.t3 m.rim.lost) m.rim.lost_before
+          m.rim.lost_after in
           absurd (⊎_elim (λ n. far_point m.t3 (at_third B T m.t1 m.t2 m.t3 m.rim.lost g n) e)
           (λ n. far_point m.t2 (at_second B T m.t1 m.t2 m.t3 m.rim.lost g n) e)
           (facet_point B m.t1 m.t2 m.t3 m.rim.lost m.rim.lost_before))

@@ -18,8 +18,10 @@ use Rattle.hole_laws.proofs.Laws.{cells_after, fresh_have_point, old_lack_point}
 
 -- a list in order with the cells of another
 pub made :
-    (l l' gone fresh m : List Cell) → ((q : Cell) → IsIn q l → IsIn q l' ⊎ (IsIn q l' → ⊥)) → ((q : Cell) → IsIn q l' → IsIn q l ⊎ (IsIn q l → ⊥)) →
-    IsStrictlySortedBy cell_cmp l' → ((q : Cell) → IsIn q gone ↔ Goes l l' q) → ((q : Cell) → IsIn q fresh ↔ (IsIn q l' × ¬ (IsIn q l))) →
+    (l l' gone fresh m : List Cell) → ((q : Cell) → IsIn q l → IsIn q l' ⊎ (IsIn q l' → ⊥)) →
+    ((q : Cell) → IsIn q l' → IsIn q l ⊎ (IsIn q l → ⊥)) →
+    IsStrictlySortedBy cell_cmp l' → ((q : Cell) → IsIn q gone ↔ Goes l l' q) →
+    ((q : Cell) → IsIn q fresh ↔ (IsIn q l' × ¬ (IsIn q l))) →
     IsExchanged l gone fresh m → m ≡ l'
 made l l' gone fresh m d e s g f x = same_members m l' x.sorted s
     (λ q h. elim ((x.members q).0 h) [
@@ -29,18 +31,24 @@ made l l' gone fresh m d e s g f x = same_members m l' x.sorted s
     (λ q h. (x.members q).1 (elim (e q h) [ inl o ↦ inl (o, λ k. ((g q).0 k).after h) | inr n ↦ inr ((f q).1 (h, n)) ]))
 
 -- whether a cell of one complex is one of another is decided
-pub decided : (s t : List ℕ) (i : IsSet s) (j : IsSet t) (q : Cell) → IsIn q (complex s) → IsIn q (complex t) ⊎ (IsIn q (complex t) → ⊥)
-decided s t i j q m = decide_listed (cell (set_of t j)) (complex_of (set_of t j)) (complex t) (lists_of t j) q ((lists_of s i).ordered q m)
+pub decided : (s t : List ℕ) (i : IsSet s) (j : IsSet t) (q : Cell) → IsIn q (complex s) → IsIn q (complex t)
+    ⊎ (IsIn q (complex t) → ⊥)
+decided s t i j q m =
+    decide_listed (cell (set_of t j)) (complex_of (set_of t j)) (complex t) (lists_of t j) q
+    ((lists_of s i).ordered q m)
 
 -- of an insertion
 pub made_by_insertion : MadeByInsertion
 made_by_insertion s p i n gone fresh m g f x =
     let j = more_set s p i.set n.key in
-    made (complex s) (complex (with_point p s)) gone fresh m (decided s (with_point p s) i.set j) (decided (with_point p s) s j i.set) (complex_is_sorted (with_point p s) j.ascending) g
+    made (complex s) (complex (with_point p s)) gone fresh m (decided s (with_point p s) i.set j)
+    (decided (with_point p s) s j i.set) (complex_is_sorted (with_point p s) j.ascending) g
     (λ q. (
       λ h. (let r = (f q).0 h in ((cells_after s p i n q).1 (inr r), λ o. fresh_new s p i n q r o)),
       λ h. (f q).1 (elim ((cells_after s p i n q).0 h.0) [ inl k ↦ absurd (h.1 k.before) | inr r ↦ r ]),
     )) x
   where
-    fresh_new : (s : List ℕ) (p : ℕ) (i : IsSolidSet s) (n : IsNew s p) (q : Cell) → IsFresh s p q → ¬ (IsIn q (complex s))
-    fresh_new s p i n q r o = old_lack_point s p i n q o ((fresh_have_point s p i n q ((cells_after s p i n q).1 (inr r))).0 r)
+    fresh_new : (s : List ℕ) (p : ℕ) (i : IsSolidSet s) (n : IsNew s p) (q : Cell) → IsFresh s p q →
+        ¬ (IsIn q (complex s))
+    fresh_new s p i n q r o =
+        old_lack_point s p i n q o ((fresh_have_point s p i n q ((cells_after s p i n q).1 (inr r))).0 r)

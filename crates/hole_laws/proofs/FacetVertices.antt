@@ -69,15 +69,18 @@ three_points a b c ab bc = record {
 
 -- the last to the place of the first
 last_first : {w x y z : Vertex} → AreFourVertices w x y z → AreFourVertices x y z w
-last_first d = record { wx = d.xy; wy = d.xz; wz = λ e. d.wx (sym e); xy = d.yz; xz = λ e. d.wy (sym e); yz = λ e. d.wz (sym e) }
+last_first d =
+    record { wx = d.xy; wy = d.xz; wz = λ e. d.wx (sym e); xy = d.yz; xz = λ e. d.wy (sym e); yz = λ e. d.wz (sym e) }
 
 -- the second last
 last_second : {w x y z : Vertex} → AreFourVertices w x y z → AreFourVertices w y z x
 last_second d = record { wx = d.wy; wy = d.wz; wz = d.wx; xy = d.yz; xz = λ e. d.xy (sym e); yz = λ e. d.xz (sym e) }
 
 -- a facet of a Full cell, the points of which are those of the facet and one more
-full_against : (l t : List ℕ) (x : ℕ) → IsIn (Three t) (facets_of (Full l)) → IsAscending t → (i j k : ℕ) → AreFourVertices (point i) (point j) (point k) (point x) →
-    IsIn i l → IsIn j l → IsIn k l → IsIn x l → ((e : ℕ) → IsIn e l → (x ≡ e) ⊎ IsIn e t) → ((e : ℕ) → IsIn e t → IsIn e l) → ¬ (IsIn x t) → IsAgainst (Full l) (point x) (Three t)
+full_against : (l t : List ℕ) (x : ℕ) → IsIn (Three t) (facets_of (Full l)) → IsAscending t → (i j k : ℕ) →
+    AreFourVertices (point i) (point j) (point k) (point x) →
+    IsIn i l → IsIn j l → IsIn k l → IsIn x l → ((e : ℕ) → IsIn e l → (x ≡ e) ⊎ IsIn e t) →
+    ((e : ℕ) → IsIn e t → IsIn e l) → ¬ (IsIn x t) → IsAgainst (Full l) (point x) (Three t)
 full_against l t x m a i j k d mi mj mk mx split back n = record {
   listed = m;
   ordered = a;
@@ -85,7 +88,8 @@ full_against l t x m a i j k d mi mj mk mx split back n = record {
   t2 = point j;
   t3 = point k;
   four = d;
-  vertices = four_true (is_among i l) (is_among j l) (is_among k l) (is_among x l) (among_true i l mi) (among_true j l mj) (among_true k l mk) (among_true x l mx);
+  vertices = four_true (is_among i l) (is_among j l) (is_among k l) (is_among x l) (among_true i l mi)
+      (among_true j l mj) (among_true k l mk) (among_true x l mx);
   into = into;
   apart = n;
   rest = rest;
@@ -100,8 +104,10 @@ full_against l t x m a i j k d mi mj mk mx split back n = record {
     rest far h o = absurd (false≢true h)
 
 -- a pair facet of an Open cell
-pair_against : (l t : List ℕ) (x : ℕ) → IsIn (Two t) (facets_of (Open l)) → IsAscending t → (i j : ℕ) → AreFourVertices (point i) (point j) far (point x) →
-    IsIn i l → IsIn j l → IsIn x l → ((e : ℕ) → IsIn e l → (x ≡ e) ⊎ IsIn e t) → ((e : ℕ) → IsIn e t → IsIn e l) → ¬ (IsIn x t) → IsAgainst (Open l) (point x) (Two t)
+pair_against : (l t : List ℕ) (x : ℕ) → IsIn (Two t) (facets_of (Open l)) → IsAscending t → (i j : ℕ) →
+    AreFourVertices (point i) (point j) far (point x) →
+    IsIn i l → IsIn j l → IsIn x l → ((e : ℕ) → IsIn e l → (x ≡ e) ⊎ IsIn e t) → ((e : ℕ) → IsIn e t → IsIn e l) →
+    ¬ (IsIn x t) → IsAgainst (Open l) (point x) (Two t)
 pair_against l t x m a i j d mi mj mx split back n = record {
   listed = m;
   ordered = a;
@@ -109,7 +115,8 @@ pair_against l t x m a i j d mi mj mx split back n = record {
   t2 = point j;
   t3 = far;
   four = d;
-  vertices = four_true (is_among i l) (is_among j l) true (is_among x l) (among_true i l mi) (among_true j l mj) refl (among_true x l mx);
+  vertices = four_true (is_among i l) (is_among j l) true (is_among x l) (among_true i l mi) (among_true j l mj) refl
+      (among_true x l mx);
   into = into;
   apart = n;
   rest = rest;
@@ -130,30 +137,56 @@ module _ (a b c d : ℕ) (ab : a < b) (bc : b < c) (cd : c < d) where
 
   -- against the first point
   full_first : IsAgainst (Full four) (point a) (Three (b ∷ c ∷ d ∷ []))
-  full_first = full_against four (b ∷ c ∷ d ∷ []) a (inl refl) (bc, (cd, (tt, tt))) b c d (last_first (four_points a b c d ab bc cd))
+  full_first =
+      full_against four (b ∷ c ∷ d ∷ []) a (inl refl) (bc, (cd, (tt, tt))) b c d
+      (last_first (four_points a b c d ab bc cd))
       (inr (inl refl)) (inr (inr (inl refl))) (inr (inr (inr (inl refl)))) (inl refl)
       (λ e m. m) (λ e m. inr m) (λ m. omega arith)
 
   -- against the second
   full_second : IsAgainst (Full four) (point b) (Three (a ∷ c ∷ d ∷ []))
-  full_second = full_against four (a ∷ c ∷ d ∷ []) b (inr (inl refl)) (omega arith, (cd, (tt, tt))) a c d (last_second (four_points a b c d ab bc cd))
+  full_second =
+      full_against four (a ∷ c ∷ d ∷ []) b (inr (inl refl)) (omega arith, (cd, (tt, tt))) a c d
+      (last_second (four_points a b c d ab bc cd))
       (inl refl) (inr (inr (inl refl))) (inr (inr (inr (inl refl)))) (inr (inl refl))
       (λ e m. elim m [ inl q ↦ inr (inl q) | inr r ↦ elim r [ inl q ↦ inl q | inr u ↦ inr (inr u) ] ])
       (λ e m. elim m [ inl q ↦ inl q | inr r ↦ inr (inr r) ]) (λ m. omega arith)
 
   -- against the third
   full_third : IsAgainst (Full four) (point c) (Three (a ∷ b ∷ d ∷ []))
-  full_third = full_against four (a ∷ b ∷ d ∷ []) c (inr (inr (inl refl))) (ab, (omega arith, (tt, tt))) a b d (swap34 (four_points a b c d ab bc cd))
+  full_third =
+      full_against four (a ∷ b ∷ d ∷ []) c (inr (inr (inl refl))) (ab, (omega arith, (tt, tt))) a b d
+      (swap34 (four_points a b c d ab bc cd))
       (inl refl) (inr (inl refl)) (inr (inr (inr (inl refl)))) (inr (inr (inl refl)))
-      (λ e m. elim m [ inl q ↦ inr (inl q) | inr r ↦ elim r [ inl q ↦ inr (inr (inl q)) | inr u ↦ elim u [ inl q ↦ inl q | inr v ↦ inr (inr (inr v)) ] ] ])
-      (λ e m. elim m [ inl q ↦ inl q | inr r ↦ elim r [ inl q ↦ inr (inl q) | inr u ↦ inr (inr (inr u)) ] ]) (λ m. omega arith)
+      (λ e m. elim m [
+        | inl q ↦ inr (inl q)
+        | inr r ↦ elim r [ inl q ↦ inr (inr (inl q)) | inr u ↦ elim u [ inl q ↦ inl q | inr v ↦ inr (inr (inr v)) ] ]
+      ])
+      (λ e m. elim m [
+        | inl q ↦ inl q
+        | inr r ↦ elim r [ inl q ↦ inr (inl q) | inr u ↦ inr (inr (inr u)) ]
+      ]) (λ m. omega arith)
 
   -- against the fourth
   full_fourth : IsAgainst (Full four) (point d) (Three (a ∷ b ∷ c ∷ []))
-  full_fourth = full_against four (a ∷ b ∷ c ∷ []) d (inr (inr (inr (inl refl)))) (ab, (bc, (tt, tt))) a b c (four_points a b c d ab bc cd)
+  full_fourth =
+      full_against four (a ∷ b ∷ c ∷ []) d (inr (inr (inr (inl refl)))) (ab, (bc, (tt, tt))) a b c
+      (four_points a b c d ab bc cd)
       (inl refl) (inr (inl refl)) (inr (inr (inl refl))) (inr (inr (inr (inl refl))))
-      (λ e m. elim m [ inl q ↦ inr (inl q) | inr r ↦ elim r [ inl q ↦ inr (inr (inl q)) | inr u ↦ elim u [ inl q ↦ inr (inr (inr (inl q))) | inr v ↦ elim v [ inl q ↦ inl q | inr none ↦ absurd none ] ] ] ])
-      (λ e m. elim m [ inl q ↦ inl q | inr r ↦ elim r [ inl q ↦ inr (inl q) | inr u ↦ elim u [ inl q ↦ inr (inr (inl q)) | inr none ↦ absurd none ] ] ]) (λ m. omega arith)
+      (λ e m. elim m [
+        | inl q ↦ inr (inl q)
+        | inr r ↦ elim r [
+          | inl q ↦ inr (inr (inl q))
+          | inr u ↦ elim u [
+            | inl q ↦ inr (inr (inr (inl q)))
+            | inr v ↦ elim v [ inl q ↦ inl q | inr none ↦ absurd none ]
+          ]
+        ]
+      ])
+      (λ e m. elim m [
+        | inl q ↦ inl q
+        | inr r ↦ elim r [ inl q ↦ inr (inl q) | inr u ↦ elim u [ inl q ↦ inr (inr (inl q)) | inr none ↦ absurd none ] ]
+      ]) (λ m. omega arith)
 
 module _ (a b c : ℕ) (ab : a < b) (bc : b < c) where
   -- the points of the cell
@@ -168,17 +201,26 @@ module _ (a b c : ℕ) (ab : a < b) (bc : b < c) where
 
   -- against the second
   open_second : IsAgainst (Open three) (point b) (Two (a ∷ c ∷ []))
-  open_second = pair_against three (a ∷ c ∷ []) b (inr (inl refl)) (omega arith, (tt, tt)) a c (last_second (three_points a b c ab bc))
+  open_second =
+      pair_against three (a ∷ c ∷ []) b (inr (inl refl)) (omega arith, (tt, tt)) a c
+      (last_second (three_points a b c ab bc))
       (inl refl) (inr (inr (inl refl))) (inr (inl refl))
       (λ e m. elim m [ inl q ↦ inr (inl q) | inr r ↦ elim r [ inl q ↦ inl q | inr u ↦ inr (inr u) ] ])
       (λ e m. elim m [ inl q ↦ inl q | inr r ↦ inr (inr r) ]) (λ m. omega arith)
 
   -- against the third
   open_third : IsAgainst (Open three) (point c) (Two (a ∷ b ∷ []))
-  open_third = pair_against three (a ∷ b ∷ []) c (inr (inr (inl refl))) (ab, (tt, tt)) a b (swap34 (three_points a b c ab bc))
+  open_third =
+      pair_against three (a ∷ b ∷ []) c (inr (inr (inl refl))) (ab, (tt, tt)) a b (swap34 (three_points a b c ab bc))
       (inl refl) (inr (inl refl)) (inr (inr (inl refl)))
-      (λ e m. elim m [ inl q ↦ inr (inl q) | inr r ↦ elim r [ inl q ↦ inr (inr (inl q)) | inr u ↦ elim u [ inl q ↦ inl q | inr none ↦ absurd none ] ] ])
-      (λ e m. elim m [ inl q ↦ inl q | inr r ↦ elim r [ inl q ↦ inr (inl q) | inr none ↦ absurd none ] ]) (λ m. omega arith)
+      (λ e m. elim m [
+        | inl q ↦ inr (inl q)
+        | inr r ↦ elim r [ inl q ↦ inr (inr (inl q)) | inr u ↦ elim u [ inl q ↦ inl q | inr none ↦ absurd none ] ]
+      ])
+      (λ e m. elim m [
+        | inl q ↦ inl q
+        | inr r ↦ elim r [ inl q ↦ inr (inl q) | inr none ↦ absurd none ]
+      ]) (λ m. omega arith)
 
   -- against the infinite vertex
   open_far : IsAgainst (Open three) far (Three three)
@@ -189,7 +231,8 @@ module _ (a b c : ℕ) (ab : a < b) (bc : b < c) where
     t2 = point b;
     t3 = point c;
     four = three_points a b c ab bc;
-    vertices = four_true (is_among a three) (is_among b three) (is_among c three) true (among_true a three (inl refl)) (among_true b three (inr (inl refl))) (among_true c three (inr (inr (inl refl)))) refl;
+    vertices = four_true (is_among a three) (is_among b three) (is_among c three) true (among_true a three (inl refl))
+        (among_true b three (inr (inl refl))) (among_true c three (inr (inr (inl refl)))) refl;
     into = into;
     apart = λ m. m;
     rest = rest;
@@ -222,13 +265,29 @@ moved q x z f e k = subst (λ v. IsAgainst q v f) e k
 -- against each vertex of a cell there is a facet
 pub facet_against : (q : Cell) → IsOrdered q → (z : Vertex) → has_vertex q z ≡ true → HasAgainst q z
 facet_against (Full (a ∷ b ∷ c ∷ d ∷ [])) o (point e) h = elim (among_from e (a ∷ b ∷ c ∷ d ∷ []) h) [
-  | inl p ↦ record { f = Three (b ∷ c ∷ d ∷ []); against = moved (Full (a ∷ b ∷ c ∷ d ∷ [])) (point a) (point e) (Three (b ∷ c ∷ d ∷ [])) (ap point p) (full_first a b c d o.0 o.1 o.2) }
+  | inl p ↦ record {
+    f = Three (b ∷ c ∷ d ∷ []);
+    against = moved (Full (a ∷ b ∷ c ∷ d ∷ [])) (point a) (point e)
+        (Three (b ∷ c ∷ d ∷ [])) (ap point p) (full_first a b c d o.0 o.1 o.2);
+  }
   | inr r ↦ elim r [
-    | inl p ↦ record { f = Three (a ∷ c ∷ d ∷ []); against = moved (Full (a ∷ b ∷ c ∷ d ∷ [])) (point b) (point e) (Three (a ∷ c ∷ d ∷ [])) (ap point p) (full_second a b c d o.0 o.1 o.2) }
+    | inl p ↦ record {
+      f = Three (a ∷ c ∷ d ∷ []);
+      against = moved (Full (a ∷ b ∷ c ∷ d ∷ [])) (point b) (point e)
+          (Three (a ∷ c ∷ d ∷ [])) (ap point p) (full_second a b c d o.0 o.1 o.2);
+    }
     | inr u ↦ elim u [
-      | inl p ↦ record { f = Three (a ∷ b ∷ d ∷ []); against = moved (Full (a ∷ b ∷ c ∷ d ∷ [])) (point c) (point e) (Three (a ∷ b ∷ d ∷ [])) (ap point p) (full_third a b c d o.0 o.1 o.2) }
+      | inl p ↦ record {
+        f = Three (a ∷ b ∷ d ∷ []);
+        against = moved (Full (a ∷ b ∷ c ∷ d ∷ [])) (point c) (point e)
+            (Three (a ∷ b ∷ d ∷ [])) (ap point p) (full_third a b c d o.0 o.1 o.2);
+      }
       | inr t ↦ elim t [
-        | inl p ↦ record { f = Three (a ∷ b ∷ c ∷ []); against = moved (Full (a ∷ b ∷ c ∷ d ∷ [])) (point d) (point e) (Three (a ∷ b ∷ c ∷ [])) (ap point p) (full_fourth a b c d o.0 o.1 o.2) }
+        | inl p ↦ record {
+          f = Three (a ∷ b ∷ c ∷ []);
+          against = moved (Full (a ∷ b ∷ c ∷ d ∷ [])) (point d) (point e)
+              (Three (a ∷ b ∷ c ∷ [])) (ap point p) (full_fourth a b c d o.0 o.1 o.2);
+        }
         | inr none ↦ absurd none
       ]
     ]
@@ -236,11 +295,23 @@ facet_against (Full (a ∷ b ∷ c ∷ d ∷ [])) o (point e) h = elim (among_fr
 ]
 facet_against (Full (a ∷ b ∷ c ∷ d ∷ [])) o far h = absurd (false≢true h)
 facet_against (Open (a ∷ b ∷ c ∷ [])) o (point e) h = elim (among_from e (a ∷ b ∷ c ∷ []) h) [
-  | inl p ↦ record { f = Two (b ∷ c ∷ []); against = moved (Open (a ∷ b ∷ c ∷ [])) (point a) (point e) (Two (b ∷ c ∷ [])) (ap point p) (open_first a b c o.0 o.1) }
+  | inl p ↦ record {
+    f = Two (b ∷ c ∷ []);
+    against = moved (Open (a ∷ b ∷ c ∷ [])) (point a) (point e)
+        (Two (b ∷ c ∷ [])) (ap point p) (open_first a b c o.0 o.1);
+  }
   | inr r ↦ elim r [
-    | inl p ↦ record { f = Two (a ∷ c ∷ []); against = moved (Open (a ∷ b ∷ c ∷ [])) (point b) (point e) (Two (a ∷ c ∷ [])) (ap point p) (open_second a b c o.0 o.1) }
+    | inl p ↦ record {
+      f = Two (a ∷ c ∷ []);
+      against = moved (Open (a ∷ b ∷ c ∷ [])) (point b) (point e)
+          (Two (a ∷ c ∷ [])) (ap point p) (open_second a b c o.0 o.1);
+    }
     | inr u ↦ elim u [
-      | inl p ↦ record { f = Two (a ∷ b ∷ []); against = moved (Open (a ∷ b ∷ c ∷ [])) (point c) (point e) (Two (a ∷ b ∷ [])) (ap point p) (open_third a b c o.0 o.1) }
+      | inl p ↦ record {
+        f = Two (a ∷ b ∷ []);
+        against = moved (Open (a ∷ b ∷ c ∷ [])) (point c) (point e)
+            (Two (a ∷ b ∷ [])) (ap point p) (open_third a b c o.0 o.1);
+      }
       | inr none ↦ absurd none
     ]
   ]
@@ -256,7 +327,10 @@ against_of (Full (a ∷ b ∷ c ∷ d ∷ [])) o f m = elim m [
     | inl p ↦ named (Three (a ∷ c ∷ d ∷ [])) p (record { z = point b; against = full_second a b c d o.0 o.1 o.2 })
     | inr u ↦ elim u [
       | inl p ↦ named (Three (a ∷ b ∷ d ∷ [])) p (record { z = point c; against = full_third a b c d o.0 o.1 o.2 })
-      | inr t ↦ elim t [ inl p ↦ named (Three (a ∷ b ∷ c ∷ [])) p (record { z = point d; against = full_fourth a b c d o.0 o.1 o.2 }) | inr none ↦ absurd none ]
+      | inr t ↦ elim t [
+        | inl p ↦ named (Three (a ∷ b ∷ c ∷ [])) p (record { z = point d; against = full_fourth a b c d o.0 o.1 o.2 })
+        | inr none ↦ absurd none
+      ]
     ]
   ]
 ]
@@ -269,7 +343,10 @@ against_of (Open (a ∷ b ∷ c ∷ [])) o f m = elim m [
     | inl p ↦ named (Two (a ∷ c ∷ [])) p (record { z = point b; against = open_second a b c o.0 o.1 })
     | inr u ↦ elim u [
       | inl p ↦ named (Two (a ∷ b ∷ [])) p (record { z = point c; against = open_third a b c o.0 o.1 })
-      | inr t ↦ elim t [ inl p ↦ named (Three (a ∷ b ∷ c ∷ [])) p (record { z = far; against = open_far a b c o.0 o.1 }) | inr none ↦ absurd none ]
+      | inr t ↦ elim t [
+        | inl p ↦ named (Three (a ∷ b ∷ c ∷ [])) p (record { z = far; against = open_far a b c o.0 o.1 })
+        | inr none ↦ absurd none
+      ]
     ]
   ]
 ]
@@ -279,33 +356,46 @@ against_of (Open (a ∷ b ∷ c ∷ [])) o f m = elim m [
 against_of q o f m = absurd o
 
 -- facets with their points in order and the same vertices are one
-pub same_facet : (f g : Facet) → IsOrderedFacet f → IsOrderedFacet g → ((v : Vertex) → IsFacetVertex f v → IsFacetVertex g v) → ((v : Vertex) → IsFacetVertex g v → IsFacetVertex f v) → f ≡ g
+pub same_facet : (f g : Facet) → IsOrderedFacet f → IsOrderedFacet g →
+    ((v : Vertex) → IsFacetVertex f v → IsFacetVertex g v) → ((v : Vertex) → IsFacetVertex g v → IsFacetVertex f v) →
+    f ≡ g
 same_facet (Three t) (Three u) o p k m = ap Three (same_members t u o p (λ e. k (point e)) (λ e. m (point e)))
 same_facet (Two t) (Two u) o p k m = ap Two (same_members t u o p (λ e. k (point e)) (λ e. m (point e)))
 same_facet (Three t) (Two u) o p k m = absurd (m far tt)
 same_facet (Two t) (Three u) o p k m = absurd (k far tt)
 
 -- a vertex of the facet against x is one of the three other vertices
-pub facet_into : (q : Cell) → IsOrdered q → (t1 t2 t3 x : Vertex) → AreFourVertices t1 t2 t3 x → has_vertices q t1 t2 t3 x ≡ true → (f : Facet) → IsAgainst q x f → (v : Vertex) → IsFacetVertex f v → IsIn v (t1 ∷ t2 ∷ t3 ∷ [])
+pub facet_into : (q : Cell) → IsOrdered q → (t1 t2 t3 x : Vertex) → AreFourVertices t1 t2 t3 x →
+    has_vertices q t1 t2 t3 x ≡ true → (f : Facet) → IsAgainst q x f → (v : Vertex) → IsFacetVertex f v →
+    IsIn v (t1 ∷ t2 ∷ t3 ∷ [])
 facet_into q o t1 t2 t3 x d h f k v m = elim (all_vertices q o t1 t2 t3 x d h v (k.into v m)) [
   | inl e ↦ inl e
   | inr r ↦ elim r [
     | inl e ↦ inr (inl e)
-    | inr u ↦ elim u [ inl e ↦ inr (inr (inl e)) | inr w ↦ elim w [ inl e ↦ absurd (k.apart (subst (IsFacetVertex f) (sym e) m)) | inr none ↦ absurd none ] ]
+    | inr u ↦ elim u [
+      | inl e ↦ inr (inr (inl e))
+      | inr w ↦ elim w [ inl e ↦ absurd (k.apart (subst (IsFacetVertex f) (sym e) m)) | inr none ↦ absurd none ]
+    ]
   ]
 ]
 
 -- and each of the three is
-pub facet_from : (q : Cell) → (t1 t2 t3 x : Vertex) → AreFourVertices t1 t2 t3 x → has_vertices q t1 t2 t3 x ≡ true → (f : Facet) → IsAgainst q x f → (v : Vertex) → IsIn v (t1 ∷ t2 ∷ t3 ∷ []) → IsFacetVertex f v
+pub facet_from : (q : Cell) → (t1 t2 t3 x : Vertex) → AreFourVertices t1 t2 t3 x → has_vertices q t1 t2 t3 x ≡ true →
+    (f : Facet) → IsAgainst q x f → (v : Vertex) → IsIn v (t1 ∷ t2 ∷ t3 ∷ []) → IsFacetVertex f v
 facet_from q t1 t2 t3 x d h f k v m =
     let a = four_is (has_vertex q t1) (has_vertex q t2) (has_vertex q t3) (has_vertex q x) h in
     elim m [
       | inl e ↦ subst (IsFacetVertex f) e (k.rest t1 a.0 d.wz)
-      | inr r ↦ elim r [ inl e ↦ subst (IsFacetVertex f) e (k.rest t2 a.1 d.xz) | inr u ↦ elim u [ inl e ↦ subst (IsFacetVertex f) e (k.rest t3 a.2 d.yz) | inr none ↦ absurd none ] ]
+      | inr r ↦ elim r [
+        | inl e ↦ subst (IsFacetVertex f) e (k.rest t2 a.1 d.xz)
+        | inr u ↦ elim u [ inl e ↦ subst (IsFacetVertex f) e (k.rest t3 a.2 d.yz) | inr none ↦ absurd none ]
+      ]
     ]
 
 -- two cells with three vertices in common have the facet of these in common
-pub shared_facet : (q r : Cell) → IsOrdered q → IsOrdered r → (t1 t2 t3 x y : Vertex) → AreFourVertices t1 t2 t3 x → AreFourVertices t1 t2 t3 y → has_vertices q t1 t2 t3 x ≡ true → has_vertices r t1 t2 t3 y ≡ true → (f g : Facet) → IsAgainst q x f → IsAgainst r y g → f ≡ g
+pub shared_facet : (q r : Cell) → IsOrdered q → IsOrdered r → (t1 t2 t3 x y : Vertex) → AreFourVertices t1 t2 t3 x →
+    AreFourVertices t1 t2 t3 y → has_vertices q t1 t2 t3 x ≡ true → has_vertices r t1 t2 t3 y ≡ true → (f g : Facet) →
+    IsAgainst q x f → IsAgainst r y g → f ≡ g
 shared_facet q r o p t1 t2 t3 x y d e h k f g a b =
     same_facet f g a.ordered b.ordered
     (λ v m. facet_from r t1 t2 t3 y e k g b v (facet_into q o t1 t2 t3 x d h f a v m))
@@ -314,7 +404,8 @@ shared_facet q r o p t1 t2 t3 x y d e h k f g a b =
 -- ---- the cell of a facet and a point
 
 -- an ascending list with p is p put in its place among the others
-in_place : (l t : List ℕ) (p : ℕ) → IsAscending l → IsIn p l → ((e : ℕ) → IsIn e t → IsIn e l) → ((e : ℕ) → IsIn e l → ¬ (e ≡ p) → IsIn e t) → l ≡ ascending (p ∷ t)
+in_place : (l t : List ℕ) (p : ℕ) → IsAscending l → IsIn p l → ((e : ℕ) → IsIn e t → IsIn e l) →
+    ((e : ℕ) → IsIn e l → ¬ (e ≡ p) → IsIn e t) → l ≡ ascending (p ∷ t)
 in_place l t p o m k n = ascending_is l (p ∷ t) o
     (λ e i. elim (cases_eq e p) [ inl q ↦ inl (sym q) | inr o ↦ inr (n e i o) ])
     (λ e i. elim i [ inl q ↦ subst (λ v. IsIn v l) q m | inr r ↦ k e r ])
@@ -330,10 +421,13 @@ open_ascending (a ∷ b ∷ c ∷ []) o = (o.0, (o.1, (tt, tt)))
 open_ascending l o = absurd o
 
 -- a cell with the point p is the cell of p and the facet against it
-pub over_facet : (q : Cell) → IsOrdered q → (p : ℕ) → has_vertex q (point p) ≡ true → (f : Facet) → IsAgainst q (point p) f → q ≡ cell_over f p
+pub over_facet : (q : Cell) → IsOrdered q → (p : ℕ) → has_vertex q (point p) ≡ true → (f : Facet) →
+    IsAgainst q (point p) f → q ≡ cell_over f p
 over_facet (Full l) o p h (Three t) k =
-    ap Full (in_place l t p (full_ascending l o) (among_from p l h) (λ e m. among_from e l (k.into (point e) m)) (λ e m n. k.rest (point e) (among_true e l m) (λ q. n (same_point e p q))))
+    ap Full (in_place l t p (full_ascending l o) (among_from p l h) (λ e m. among_from e l (k.into (point e) m))
+    (λ e m n. k.rest (point e) (among_true e l m) (λ q. n (same_point e p q))))
 over_facet (Open l) o p h (Two t) k =
-    ap Open (in_place l t p (open_ascending l o) (among_from p l h) (λ e m. among_from e l (k.into (point e) m)) (λ e m n. k.rest (point e) (among_true e l m) (λ q. n (same_point e p q))))
+    ap Open (in_place l t p (open_ascending l o) (among_from p l h) (λ e m. among_from e l (k.into (point e) m))
+    (λ e m n. k.rest (point e) (among_true e l m) (λ q. n (same_point e p q))))
 over_facet (Full l) o p h (Two t) k = absurd (false≢true (k.into far tt))
 over_facet (Open l) o p h (Three t) k = absurd (k.rest far refl (λ e. point_finite p (sym e)))

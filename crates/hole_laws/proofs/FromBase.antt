@@ -22,7 +22,8 @@ pub larger : (S T : PointSet) (p : Vertex) → IsAdd S p T → Within PointSet h
 larger S T p a q h = a.same q (λ e. false≢true (sym a.absent ∙ ap (has S) (sym e) ∙ h)) ∙ h
 
 -- the last vertex of a cell of T that is not p
-keeps : (S T : PointSet) (p : Vertex) → IsAdd S p T → (w x y z : Vertex) → cell T w x y z ≡ true → z ≢ p → IsVertexOf PointSet has S z
+keeps : (S T : PointSet) (p : Vertex) → IsAdd S p T → (w x y z : Vertex) → cell T w x y z ≡ true → z ≢ p →
+    IsVertexOf PointSet has S z
 keeps S T p a w x y z h n = go (cases_vertex z far)
   where
     go : (z ≡ far) ⊎ (z ≡ far → ⊥) → IsVertexOf PointSet has S z
@@ -45,7 +46,8 @@ solid_add S T p s a = base.solid_more S T s (larger S T p a)
 -- a cell of R with p and of R with q is one of R with both
 pub meet : (R A B T : PointSet) (p q : Vertex) → solid R ≡ true → IsAdd R p A → IsAdd R q B → IsAdd A q T →
     (w x y z : Vertex) → cell A w x y z ≡ true → cell B w x y z ≡ true → cell T w x y z ≡ true
-meet R A B T p q s ra rb at = base.union R A B T s (larger R A p ra) (larger R B q rb) (larger A T q at) λ v h. go v h (cases_vertex v q)
+meet R A B T p q s ra rb at =
+    base.union R A B T s (larger R A p ra) (larger R B q rb) (larger A T q at) λ v h. go v h (cases_vertex v q)
   where
     go : (v : Vertex) → has T v ≡ true → (v ≡ q) ⊎ (v ≡ q → ⊥) → (has A v ≡ true) ⊎ (has B v ≡ true)
     go v h (inl e) = inr (ap (has B) e ∙ rb.present)
@@ -81,7 +83,8 @@ rim S T p s a = record {
     f = (complex_of T).laws.across k.t1 k.t2 k.t3 p k.cell
 
     kept_before : cell S k.t1 k.t2 k.t3 f.beyond ≡ true
-    kept_before = old S T p s a k.t1 k.t2 k.t3 f.beyond f.cell (λ e. n.2 (sym e)) (λ e. n.1 (sym e)) (λ e. n.0 (sym e)) f.other
+    kept_before =
+        old S T p s a k.t1 k.t2 k.t3 f.beyond f.cell (λ e. n.2 (sym e)) (λ e. n.1 (sym e)) (λ e. n.0 (sym e)) f.other
 
     b : Across (cell S) k.t1 k.t2 k.t3 f.beyond
     b = (complex_of S).laws.across k.t1 k.t2 k.t3 f.beyond kept_before
@@ -104,14 +107,16 @@ insertion S T p s a = record {
 
 -- every point of a cell that v takes away is in a cell with v: else all cells there would go, and some cell there is
 -- left
-pub linked : (S T : PointSet) (v : Vertex) → solid S ≡ true → IsAdd S v T → (w x y z : Vertex) → gone (cell S) (cell T) w x y z ≡ true →
+pub linked : (S T : PointSet) (v : Vertex) → solid S ≡ true → IsAdd S v T → (w x y z : Vertex) →
+    gone (cell S) (cell T) w x y z ≡ true →
     z ≢ far → AreLinked (cell T) v z
-linked S T v s a w x y z g f = elim (search_pair (λ i j. cell T i j z v) (complex_of T).vertices (complex_of T).vertices) [
-  | inl r ↦ record { t1 = r.a; t2 = r.b; cell = r.holds }
-  | inr h ↦ absurd (none (λ i j. false_if _ λ e. false≢true (sym (h i j
-      ((complex_of T).laws.listed j z v i (sym (first_last (cell T) (test_symmetric T) i j z v) ∙ e))
-      ((complex_of T).laws.listed i z v j (sym (second_last (cell T) (test_symmetric T) i j z v) ∙ e))) ∙ e)))
-]
+linked S T v s a w x y z g f =
+    elim (search_pair (λ i j. cell T i j z v) (complex_of T).vertices (complex_of T).vertices) [
+      | inl r ↦ record { t1 = r.a; t2 = r.b; cell = r.holds }
+      | inr h ↦ absurd (none (λ i j. false_if _ λ e. false≢true (sym (h i j
+          ((complex_of T).laws.listed j z v i (sym (first_last (cell T) (test_symmetric T) i j z v) ∙ e))
+          ((complex_of T).laws.listed i z v j (sym (second_last (cell T) (test_symmetric T) i j z v) ∙ e))) ∙ e)))
+    ]
   where
     st : solid T ≡ true
     st = solid_add S T v s a
@@ -131,32 +136,44 @@ linked S T v s a w x y z g f = elim (search_pair (λ i j. cell T i j z v) (compl
         sg : Symmetric (gone (cell S) (cell T))
         sg = without_symmetric (cell S) (cell T) (test_symmetric S) (test_symmetric T)
 
-        step : (t1 t2 p q : Vertex) → cell S t1 t2 p z ≡ true → gone (cell S) (cell T) t1 t2 p z ≡ true → cell S t1 t2 q z ≡ true →
+        step : (t1 t2 p q : Vertex) → cell S t1 t2 p z ≡ true → gone (cell S) (cell T) t1 t2 p z ≡ true →
+            cell S t1 t2 q z ≡ true →
             gone (cell S) (cell T) t1 t2 q z ≡ true
         step t1 t2 p q hp gp hq = go (cell T t1 t2 q z) refl
           where
             go : (b : Bool) → cell T t1 t2 q z ≡ b → gone (cell S) (cell T) t1 t2 q z ≡ true
             go false e = and_not (cell S t1 t2 q z) (cell T t1 t2 q z) hq e
-            go true e = absurd (false≢true (sym (h t1 t2) ∙ rim_makes_new (cell S) (cell T) v (insertion S T v s a) t1 t2 z
+            go true e =
+                absurd (false≢true (sym (h t1 t2) ∙ rim_makes_new (cell S) (cell T) v (insertion S T v s a) t1 t2 z
                 record {
                   kept = q;
                   lost = p;
                   kept_before = (test_symmetric S).last t1 t2 z q ∙ hq;
                   kept_after = (test_symmetric T).last t1 t2 z q ∙ e;
                   lost_before = (test_symmetric S).last t1 t2 z p ∙ hp;
-                  lost_after = (test_symmetric T).last t1 t2 z p ∙ (and_not_from (cell S t1 t2 p z) (cell T t1 t2 p z) gp).1;
+                  lost_after =
+                      (test_symmetric T).last t1 t2 z p ∙ (and_not_from (cell S t1 t2 p z) (cell T t1 t2 p z) gp).1;
                 }))
 
         all : (b1 b2 b3 : Vertex) → cell S b1 b2 b3 z ≡ true → gone (cell S) (cell T) b1 b2 b3 z ≡ true
-        all = stars.star_closed (cell S) (complex_of S) z f (base.star_full S z hz) (λ b1 b2 b3. gone (cell S) (cell T) b1 b2 b3 z)
+        all =
+            stars.star_closed (cell S) (complex_of S) z f (base.star_full S z hz)
+            (λ b1 b2 b3. gone (cell S) (cell T) b1 b2 b3 z)
             record { first = λ i j o. sg.first i j o z; last = λ i j o. sg.middle i j o z } w x y c g step
 
         zv : z ≢ v
         zv e = false≢true (sym (absent S T v a w x y) ∙ ap (cell S w x y) (sym e) ∙ c)
 
         at_corner : (k.t1 ≡ v) ⊎ (k.t1 ≡ v → ⊥) → (k.t2 ≡ v) ⊎ (k.t2 ≡ v → ⊥) → (k.t3 ≡ v) ⊎ (k.t3 ≡ v → ⊥) → ⊥
-        at_corner (inl e) q r = false≢true (sym (h k.t2 k.t3) ∙ ap (cell T k.t2 k.t3 z) (sym e) ∙ sym (first_last (cell T) (test_symmetric T) k.t1 k.t2 k.t3 z) ∙ k.cell)
-        at_corner (inr i) (inl e) r = false≢true (sym (h k.t1 k.t3) ∙ ap (cell T k.t1 k.t3 z) (sym e) ∙ sym (second_last (cell T) (test_symmetric T) k.t1 k.t2 k.t3 z) ∙ k.cell)
-        at_corner (inr i) (inr j) (inl e) = false≢true (sym (h k.t1 k.t2) ∙ ap (cell T k.t1 k.t2 z) (sym e) ∙ sym ((test_symmetric T).last k.t1 k.t2 k.t3 z) ∙ k.cell)
-        at_corner (inr i) (inr j) (inr o) = false≢true (sym (and_not_from (cell S k.t1 k.t2 k.t3 z) (cell T k.t1 k.t2 k.t3 z)
+        at_corner (inl e) q r =
+            false≢true (sym (h k.t2 k.t3) ∙ ap (cell T k.t2 k.t3 z) (sym e)
+            ∙ sym (first_last (cell T) (test_symmetric T) k.t1 k.t2 k.t3 z) ∙ k.cell)
+        at_corner (inr i) (inl e) r =
+            false≢true (sym (h k.t1 k.t3) ∙ ap (cell T k.t1 k.t3 z) (sym e)
+            ∙ sym (second_last (cell T) (test_symmetric T) k.t1 k.t2 k.t3 z) ∙ k.cell)
+        at_corner (inr i) (inr j) (inl e) =
+            false≢true (sym (h k.t1 k.t2) ∙ ap (cell T k.t1 k.t2 z) (sym e)
+            ∙ sym ((test_symmetric T).last k.t1 k.t2 k.t3 z) ∙ k.cell)
+        at_corner (inr i) (inr j) (inr o) =
+            false≢true (sym (and_not_from (cell S k.t1 k.t2 k.t3 z) (cell T k.t1 k.t2 k.t3 z)
             (all k.t1 k.t2 k.t3 (old S T v s a k.t1 k.t2 k.t3 z k.cell i j o zv))).1 ∙ k.cell)

@@ -11,7 +11,18 @@ use Rattle.point_order.specs.Conflicts.{is_in_conflict, CanJudge}
 use Rattle.point_order.specs.declared.cell.Cell.{Cell}
 use Rattle.point_order.specs.declared.cell.Cell.TheVariants.{Full, Open}
 use Rattle.del_laws.specs.Vertices.{is_full_cell, is_open_cell}
-use Rattle.del_laws.proofs.Cited.{cell_is_listed, full_is_kept, full_not_flat, listed_full, listed_inside, listed_is_cell, listed_mate, listed_open, of_four, open_is_kept}
+use Rattle.del_laws.proofs.Cited.{
+  cell_is_listed,
+  full_is_kept,
+  full_not_flat,
+  listed_full,
+  listed_inside,
+  listed_is_cell,
+  listed_mate,
+  listed_open,
+  of_four,
+  open_is_kept,
+}
 use Rattle.hole_laws.specs.Edits.{IsSet, IsNew, IsMate}
 use Rattle.hole_laws.specs.Laws.{StaysWithoutConflict, GoesInConflict, SomeMate, MatesJudge}
 use Rattle.hole_laws.proofs.OfSets.{more_set}
@@ -22,32 +33,58 @@ module _ (s : List ℕ) (p : ℕ) (i : IsSet s) (n : IsNew s p) where
   more = more_set s p i n.key
 
   -- of a Full cell
-  full_listed : (a b c d m : ℕ) → a < b → b < c → c < d → is_full_cell s a b c d ≡ true → (is_in_conflict (Full (a ∷ b ∷ c ∷ d ∷ [])) m p ≡ false) ↔ IsIn (Full (a ∷ b ∷ c ∷ d ∷ [])) (complex (with_point p s))
+  full_listed : (a b c d m : ℕ) → a < b → b < c → c < d → is_full_cell s a b c d ≡ true →
+      (is_in_conflict (Full (a ∷ b ∷ c ∷ d ∷ [])) m p ≡ false) ↔ IsIn (Full (a ∷ b ∷ c ∷ d ∷ []))
+      (complex (with_point p s))
   full_listed a b c d m ab bc cd t =
       let q = Full (a ∷ b ∷ c ∷ d ∷ []) in
       let k = full_is_kept s a b c d m p i.keys n.key n.absent t in (
-        λ h. cell_is_listed (with_point p s) q more.ascending (record { a = a; b = b; c = c; d = d; is = refl; first = ab; second = bc; third = cd; test = k ∙ not_true (is_in_conflict q m p) h }),
-        λ h. not_from (is_in_conflict q m p) (sym k ∙ listed_full (with_point p s) a b c d (listed_is_cell (with_point p s) q more.ascending h)),
+        λ h. cell_is_listed (with_point p s) q more.ascending (record {
+          a = a;
+          b = b;
+          c = c;
+          d = d;
+          is = refl;
+          first = ab;
+          second = bc;
+          third = cd;
+          test = k ∙ not_true (is_in_conflict q m p) h;
+        }),
+        λ h. not_from (is_in_conflict q m p) (sym k ∙ listed_full (with_point p s) a b c d
+            (listed_is_cell (with_point p s) q more.ascending h)),
       )
 
   -- of an Open cell
-  open_listed : (a b c m : ℕ) → a < b → b < c → is_open_cell s a b c ≡ true → IsIn m s → is_flat a b c m ≡ false → (is_in_conflict (Open (a ∷ b ∷ c ∷ [])) m p ≡ false) ↔ IsIn (Open (a ∷ b ∷ c ∷ [])) (complex (with_point p s))
+  open_listed : (a b c m : ℕ) → a < b → b < c → is_open_cell s a b c ≡ true → IsIn m s → is_flat a b c m ≡ false →
+      (is_in_conflict (Open (a ∷ b ∷ c ∷ [])) m p ≡ false) ↔ IsIn (Open (a ∷ b ∷ c ∷ [])) (complex (with_point p s))
   open_listed a b c m ab bc t mm f =
       let q = Open (a ∷ b ∷ c ∷ []) in
       let k = open_is_kept s a b c m p i.keys n.key n.absent t mm f in (
-        λ h. cell_is_listed (with_point p s) q more.ascending (record { a = a; b = b; c = c; is = refl; first = ab; second = bc; test = k ∙ not_true (is_in_conflict q m p) h }),
-        λ h. not_from (is_in_conflict q m p) (sym k ∙ listed_open (with_point p s) a b c (listed_is_cell (with_point p s) q more.ascending h)),
+        λ h. cell_is_listed (with_point p s) q more.ascending (record {
+          a = a;
+          b = b;
+          c = c;
+          is = refl;
+          first = ab;
+          second = bc;
+          test = k ∙ not_true (is_in_conflict q m p) h;
+        }),
+        λ h. not_from (is_in_conflict q m p) (sym k ∙ listed_open (with_point p s) a b c
+            (listed_is_cell (with_point p s) q more.ascending h)),
       )
 
   -- of any listed cell
-  decides : (q : Cell) (m : ℕ) → IsIn q (complex s) → IsMate s q m → (is_in_conflict q m p ≡ false) ↔ IsIn q (complex (with_point p s))
+  decides : (q : Cell) (m : ℕ) → IsIn q (complex s) → IsMate s q m → (is_in_conflict q m p ≡ false)
+      ↔ IsIn q (complex (with_point p s))
   decides (Full l) m h k =
       let r = listed_is_cell s (Full l) i.ascending h in
-      subst (λ (v : List ℕ). (is_in_conflict (Full v) m p ≡ false) ↔ IsIn (Full v) (complex (with_point p s))) (sym r.is) (full_listed r.a r.b r.c r.d m r.first r.second r.third r.test)
+      subst (λ (v : List ℕ). (is_in_conflict (Full v) m p ≡ false) ↔ IsIn (Full v) (complex (with_point p s)))
+      (sym r.is) (full_listed r.a r.b r.c r.d m r.first r.second r.third r.test)
   decides (Open l) m h k =
       let r = listed_is_cell s (Open l) i.ascending h in
       let k' : IsMate s (Open (r.a ∷ r.b ∷ r.c ∷ [])) m = subst (λ (v : List ℕ). IsMate s (Open v) m) r.is k in
-      subst (λ (v : List ℕ). (is_in_conflict (Open v) m p ≡ false) ↔ IsIn (Open v) (complex (with_point p s))) (sym r.is) (open_listed r.a r.b r.c m r.first r.second r.test k'.0 k'.1)
+      subst (λ (v : List ℕ). (is_in_conflict (Open v) m p ≡ false) ↔ IsIn (Open v) (complex (with_point p s)))
+      (sym r.is) (open_listed r.a r.b r.c m r.first r.second r.test k'.0 k'.1)
 
 -- ---- the laws
 
@@ -81,15 +118,22 @@ not_among s l p n f = false_if (is_among p l) (λ h. n.absent (f p (among_from p
 pub mates_judge : MatesJudge
 mates_judge s p i n (Full l) m h k =
     let r = listed_is_cell s (Full l) i.ascending h in
-    let points = λ (e : ℕ) (j : IsIn e (r.a ∷ r.b ∷ r.c ∷ r.d ∷ [])). listed_inside s (Full l) r e (subst (λ (v : List ℕ). IsIn e v) (sym r.is) j) in
-    subst (λ (v : List ℕ). CanJudge (Full v) m p) (sym r.is) (full_not_flat s r.a r.b r.c r.d r.test, not_among s (r.a ∷ r.b ∷ r.c ∷ r.d ∷ []) p n points)
+    let points = λ (e : ℕ) (j : IsIn e (r.a ∷ r.b ∷ r.c ∷ r.d ∷ [])). listed_inside s (Full l) r e
+    (subst (λ (v : List ℕ). IsIn e v) (sym r.is) j) in
+    subst (λ (v : List ℕ). CanJudge (Full v) m p) (sym r.is) (
+      full_not_flat s r.a r.b r.c r.d r.test,
+      not_among s (r.a ∷ r.b ∷ r.c ∷ r.d ∷ []) p n points,
+    )
 mates_judge s p i n (Open l) m h k =
     let r = listed_is_cell s (Open l) i.ascending h in
     let k' : IsMate s (Open (r.a ∷ r.b ∷ r.c ∷ [])) m = subst (λ (v : List ℕ). IsMate s (Open v) m) r.is k in
-    let inside = λ (e : ℕ) (j : IsIn e (r.a ∷ r.b ∷ r.c ∷ [])). listed_inside s (Open l) r e (subst (λ (v : List ℕ). IsIn e v) (sym r.is) j) in
+    let inside = λ (e : ℕ) (j : IsIn e (r.a ∷ r.b ∷ r.c ∷ [])). listed_inside s (Open l) r e
+    (subst (λ (v : List ℕ). IsIn e v) (sym r.is) j) in
     let points = λ (e : ℕ) (j : IsIn e (r.a ∷ r.b ∷ r.c ∷ m ∷ [])). with_fourth s r.a r.b r.c m inside k'.0 e j in
     subst (λ (v : List ℕ). CanJudge (Open v) m p) (sym r.is) (k'.1, not_among s (r.a ∷ r.b ∷ r.c ∷ m ∷ []) p n points)
   where
     -- three points and the mate
-    with_fourth : (s : List ℕ) (a b c m : ℕ) → ((e : ℕ) → IsIn e (a ∷ b ∷ c ∷ []) → IsIn e s) → IsIn m s → (e : ℕ) → IsIn e (a ∷ b ∷ c ∷ m ∷ []) → IsIn e s
-    with_fourth s a b c m f mm e j = of_four (λ v. IsIn v s) j (f a (inl refl)) (f b (inr (inl refl))) (f c (inr (inr (inl refl)))) mm
+    with_fourth : (s : List ℕ) (a b c m : ℕ) → ((e : ℕ) → IsIn e (a ∷ b ∷ c ∷ []) → IsIn e s) → IsIn m s → (e : ℕ) →
+        IsIn e (a ∷ b ∷ c ∷ m ∷ []) → IsIn e s
+    with_fourth s a b c m f mm e j =
+        of_four (λ v. IsIn v s) j (f a (inl refl)) (f b (inr (inl refl))) (f c (inr (inr (inl refl)))) mm

@@ -12,7 +12,19 @@ use Rattle.hole_laws.proofs.Tests.{Insertion}
 use Rattle.hole_laws.specs.Lists.{AreJoined}
 use Rattle.hole_laws.proofs.Vertex.{ListsCells}
 use Rattle.hole_laws.specs.Edits.{IsSolidSet, IsNew, GoesFrom, StaysFrom, IsRimOf, IsFresh}
-use Rattle.hole_laws.specs.Laws.{SomeRim, CellsAfter, FreshHavePoint, OldLackPoint, IsClosedPart, RegionConnected, IsHeldPart, FoundFromHeld, IsReached, FreshAreNear, JoinedAreReached}
+use Rattle.hole_laws.specs.Laws.{
+  SomeRim,
+  CellsAfter,
+  FreshHavePoint,
+  OldLackPoint,
+  IsClosedPart,
+  RegionConnected,
+  IsHeldPart,
+  FoundFromHeld,
+  IsReached,
+  FreshAreNear,
+  JoinedAreReached,
+}
 use Rattle.hole_laws.proofs.Listed.{decide_listed, region_listed}
 use Rattle.hole_laws.proofs.NewCells.{point_vertex, new_over_rim, over_rim_new, without_new, rim_listed, over_has_point}
 use Rattle.hole_laws.proofs.Near.{held_listed, new_near, at_gone, joined_going, joined_of}
@@ -49,11 +61,14 @@ module _ (s : List ℕ) (p : ℕ) (i : IsSolidSet s) (n : IsNew s p) where
 
   -- a cell over a rim facet is a cell of s with p
   fresh_listed : (q : Cell) → IsFresh s p q → IsIn q (complex (with_point p s))
-  fresh_listed q r = subst (λ v. IsIn v (complex (with_point p s))) (sym r.is) (over_rim_new before after p insert (complex s) (complex (with_point p s)) old new r.f r.rim)
+  fresh_listed q r =
+      subst (λ v. IsIn v (complex (with_point p s))) (sym r.is)
+      (over_rim_new before after p insert (complex s) (complex (with_point p s)) old new r.f r.rim)
 
   -- a cell of s has not p
   lacks : (q : Cell) → IsIn q (complex s) → ¬ (IsIn p (points_of q))
-  lacks q m h = without_new before after p insert (complex s) (complex (with_point p s)) old new q m (point_vertex q p h)
+  lacks q m h =
+      without_new before after p insert (complex s) (complex (with_point p s)) old new q m (point_vertex q p h)
 
   -- a cell over a facet has p
   fresh_has : (q : Cell) → IsFresh s p q → IsIn p (points_of q)
@@ -61,19 +76,27 @@ module _ (s : List ℕ) (p : ℕ) (i : IsSolidSet s) (n : IsNew s p) where
 
   -- and a cell of s with p that has p is new
   has_fresh : (q : Cell) → IsIn q (complex (with_point p s)) → IsIn p (points_of q) → IsFresh s p q
-  has_fresh q m h = new_over_rim before after p insert (complex s) (complex (with_point p s)) old new q m (λ o. lacks q o h)
+  has_fresh q m h =
+      new_over_rim before after p insert (complex s) (complex (with_point p s)) old new q m (λ o. lacks q o h)
 
   -- a rim facet
   rim : (f : Facet) × IsRimOf s p f
-  rim = rim_listed before after p insert (complex s) (complex (with_point p s)) old new insert.met.t1 insert.met.t2 insert.met.t3 insert.met.rim
+  rim =
+      rim_listed before after p insert (complex s) (complex (with_point p s)) old new insert.met.t1 insert.met.t2
+      insert.met.t3 insert.met.rim
 
   -- a closed part is all
-  connected : (part : List Cell) → IsClosedPart s p part → (a : Cell) → IsIn a part → (b : Cell) → GoesFrom s p b → IsIn b part
-  connected part k a m b g = region_listed before after p insert (complex s) (complex (with_point p s)) old new part k.goes k.across a m b g
+  connected : (part : List Cell) → IsClosedPart s p part → (a : Cell) → IsIn a part → (b : Cell) → GoesFrom s p b →
+      IsIn b part
+  connected part k a m b g =
+      region_listed before after p insert (complex s) (complex (with_point p s)) old new part k.goes k.across a m b g
 
   -- a held part is all
-  found : (held : ℕ → Bool) (part : List Cell) → IsHeldPart s p held part → (a : Cell) → IsIn a part → (b : Cell) → GoesFrom s p b → IsIn b part
-  found held part k a m b g = held_listed before after p insert (complex s) (complex (with_point p s)) old new held part k.goes k.all_held k.across a m b g
+  found : (held : ℕ → Bool) (part : List Cell) → IsHeldPart s p held part → (a : Cell) → IsIn a part → (b : Cell) →
+      GoesFrom s p b → IsIn b part
+  found held part k a m b g =
+      held_listed before after p insert (complex s) (complex (with_point p s)) old new held part k.goes k.all_held
+      k.across a m b g
 
   -- a new cell is near
   near : (q : Cell) → IsFresh s p q → (e : ℕ) → IsIn e (points_of q) → (e ≡ p) ⊎ IsReached s p e
@@ -87,7 +110,8 @@ module _ (s : List ℕ) (p : ℕ) (i : IsSolidSet s) (n : IsNew s p) where
   reached : (e : ℕ) → IsReached s p e → AreJoined (complex (with_point p s)) p e
   reached e r =
       joined_of after (complex (with_point p s)) new p e
-      (at_linked (set_of s i.set) (set_of (with_point p s) (more_set s p i.set n.key)) (point p) (solid_of s i.set i.solid) (adds s p i.set n) (point e)
+      (at_linked (set_of s i.set) (set_of (with_point p s) (more_set s p i.set n.key)) (point p)
+      (solid_of s i.set i.solid) (adds s p i.set n) (point e)
       (at_gone before after p insert (complex s) (complex (with_point p s)) old new e r))
 
 -- ---- the laws

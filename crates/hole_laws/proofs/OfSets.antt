@@ -25,24 +25,31 @@ use Rattle.hole_laws.proofs.FromBase.{complex_of, insertion}
 -- ---- the list of a complex
 
 -- four vertices in order that are a cell are listed
-in_order : (s : PointSet) (w x y z : Vertex) → IsBefore w x → IsBefore x y → IsBefore y z → cell s w x y z ≡ true → HasListed (complex s.points) w x y z
+in_order : (s : PointSet) (w x y z : Vertex) → IsBefore w x → IsBefore x y → IsBefore y z → cell s w x y z ≡ true →
+    HasListed (complex s.points) w x y z
 unfolding cell
 in_order s (point a) (point b) (point c) (point d) ab bc cd e = record {
   q = Full (a ∷ b ∷ c ∷ d ∷ []);
-  listed = cell_is_listed s.points (Full (a ∷ b ∷ c ∷ d ∷ [])) (ascending_of s) (record { a = a; b = b; c = c; d = d; is = refl; first = ab; second = bc; third = cd; test = e });
-  vertices = four_true _ _ _ _ (among_true a (a ∷ b ∷ c ∷ d ∷ []) (inl refl)) (among_true b (a ∷ b ∷ c ∷ d ∷ []) (inr (inl refl))) (among_true c (a ∷ b ∷ c ∷ d ∷ []) (inr (inr (inl refl)))) (among_true d (a ∷ b ∷ c ∷ d ∷ []) (inr (inr (inr (inl refl)))));
+  listed = cell_is_listed s.points (Full (a ∷ b ∷ c ∷ d ∷ [])) (ascending_of s)
+      (record { a = a; b = b; c = c; d = d; is = refl; first = ab; second = bc; third = cd; test = e });
+  vertices = four_true _ _ _ _ (among_true a (a ∷ b ∷ c ∷ d ∷ []) (inl refl))
+      (among_true b (a ∷ b ∷ c ∷ d ∷ []) (inr (inl refl))) (among_true c (a ∷ b ∷ c ∷ d ∷ []) (inr (inr (inl refl))))
+      (among_true d (a ∷ b ∷ c ∷ d ∷ []) (inr (inr (inr (inl refl)))));
 }
 in_order s (point a) (point b) (point c) far ab bc cd e = record {
   q = Open (a ∷ b ∷ c ∷ []);
-  listed = cell_is_listed s.points (Open (a ∷ b ∷ c ∷ [])) (ascending_of s) (record { a = a; b = b; c = c; is = refl; first = ab; second = bc; test = e });
-  vertices = four_true _ _ _ _ (among_true a (a ∷ b ∷ c ∷ []) (inl refl)) (among_true b (a ∷ b ∷ c ∷ []) (inr (inl refl))) (among_true c (a ∷ b ∷ c ∷ []) (inr (inr (inl refl)))) refl;
+  listed = cell_is_listed s.points (Open (a ∷ b ∷ c ∷ [])) (ascending_of s)
+      (record { a = a; b = b; c = c; is = refl; first = ab; second = bc; test = e });
+  vertices = four_true _ _ _ _ (among_true a (a ∷ b ∷ c ∷ []) (inl refl))
+      (among_true b (a ∷ b ∷ c ∷ []) (inr (inl refl))) (among_true c (a ∷ b ∷ c ∷ []) (inr (inr (inl refl)))) refl;
 }
 in_order s (point a) (point b) far z ab bc cd e = absurd cd
 in_order s (point a) far y z ab bc cd e = absurd bc
 in_order s far x y z ab bc cd e = absurd ab
 
 -- listed under another order
-turned : {l : List Cell} {w x y z w' x' y' z' : Vertex} → ((q : Cell) → has_vertices q w x y z ≡ has_vertices q w' x' y' z') → HasListed l w x y z → HasListed l w' x' y' z'
+turned : {l : List Cell} {w x y z w' x' y' z' : Vertex} → ((q : Cell) →
+    has_vertices q w x y z ≡ has_vertices q w' x' y' z') → HasListed l w x y z → HasListed l w' x' y' z'
 turned f r = record { q = r.q; listed = r.listed; vertices = sym (f r.q) ∙ r.vertices }
 
 -- the list of a complex has its cells
@@ -50,9 +57,12 @@ pub lists_cells : (s : PointSet) → ListsCells (complex s.points) (cell s)
 unfolding cell
 lists_cells s = record {
   found = λ w x y z e. in_any_order (λ w x y z. cell s w x y z ≡ true → HasListed (complex s.points) w x y z) (record {
-    swap12 = λ w x y z f m. turned (λ q. (vertices_symmetric q).first w x y z) (f ((base.complex s).symmetric.first w x y z ∙ m));
-    swap23 = λ w x y z f m. turned (λ q. (vertices_symmetric q).middle w x y z) (f ((base.complex s).symmetric.middle w x y z ∙ m));
-    swap34 = λ w x y z f m. turned (λ q. (vertices_symmetric q).last w x y z) (f ((base.complex s).symmetric.last w x y z ∙ m));
+    swap12 = λ w x y z f m. turned (λ q. (vertices_symmetric q).first w x y z)
+        (f ((base.complex s).symmetric.first w x y z ∙ m));
+    swap23 = λ w x y z f m. turned (λ q. (vertices_symmetric q).middle w x y z)
+        (f ((base.complex s).symmetric.middle w x y z ∙ m));
+    swap34 = λ w x y z f m. turned (λ q. (vertices_symmetric q).last w x y z)
+        (f ((base.complex s).symmetric.last w x y z ∙ m));
   }) (in_order s) w x y z (four_of (cell s) (complex_of s) w x y z e) e;
   ordered = λ q m. ordered q (listed_is_cell s.points q (ascending_of s) m);
   cell = λ q m. passes q (listed_is_cell s.points q (ascending_of s) m);
@@ -63,8 +73,10 @@ lists_cells s = record {
     ordered (Open q) r = subst (λ (v : List ℕ). IsOrdered (Open v)) (sym r.is) (r.first, r.second)
 
     passes : (q : Cell) → IsListed s.points q → at_cell (λ w x y z. is_cell s.points w x y z) q ≡ true
-    passes (Full q) r = subst (λ (v : List ℕ). at_cell (λ w x y z. is_cell s.points w x y z) (Full v) ≡ true) (sym r.is) r.test
-    passes (Open q) r = subst (λ (v : List ℕ). at_cell (λ w x y z. is_cell s.points w x y z) (Open v) ≡ true) (sym r.is) r.test
+    passes (Full q) r =
+        subst (λ (v : List ℕ). at_cell (λ w x y z. is_cell s.points w x y z) (Full v) ≡ true) (sym r.is) r.test
+    passes (Open q) r =
+        subst (λ (v : List ℕ). at_cell (λ w x y z. is_cell s.points w x y z) (Open v) ≡ true) (sym r.is) r.test
 
 -- ---- sets as lists
 
@@ -99,7 +111,8 @@ of_solid s i e = e
 
 -- the list of its complex has its cells
 pub lists_of : (s : List ℕ) (i : IsSet s) → ListsCells (complex s) (cell (set_of s i))
-lists_of s i = subst (λ (v : List ℕ). ListsCells (complex v) (cell (set_of s i))) (set_of_points s i) (lists_cells (set_of s i))
+lists_of s i =
+    subst (λ (v : List ℕ). ListsCells (complex v) (cell (set_of s i))) (set_of_points s i) (lists_cells (set_of s i))
 
 -- with a key a set is a set
 pub more_set : (s : List ℕ) (p : ℕ) → IsSet s → IsKey p → IsSet (with_point p s)
@@ -109,7 +122,8 @@ more_set s p i k = record {
 }
 
 -- a set with a new point
-pub adds : (s : List ℕ) (p : ℕ) (i : IsSet s) (n : IsNew s p) → IsAdd (set_of s i) (point p) (set_of (with_point p s) (more_set s p i n.key))
+pub adds : (s : List ℕ) (p : ℕ) (i : IsSet s) (n : IsNew s p) →
+    IsAdd (set_of s i) (point p) (set_of (with_point p s) (more_set s p i n.key))
 adds s p i n = record {
   finite = λ e. (cc);
   absent = false_if (has (set_of s i) (point p)) (λ h. n.absent (of_has s i p h));
@@ -128,5 +142,8 @@ adds s p i n = record {
     same far d = refl
 
 -- an insertion into a solid set
-pub inserts : (s : List ℕ) (p : ℕ) (i : IsSolidSet s) (n : IsNew s p) → Insertion (cell (set_of s i.set)) (cell (set_of (with_point p s) (more_set s p i.set n.key))) (point p)
-inserts s p i n = insertion (set_of s i.set) (set_of (with_point p s) (more_set s p i.set n.key)) (point p) (solid_of s i.set i.solid) (adds s p i.set n)
+pub inserts : (s : List ℕ) (p : ℕ) (i : IsSolidSet s) (n : IsNew s p) →
+    Insertion (cell (set_of s i.set)) (cell (set_of (with_point p s) (more_set s p i.set n.key))) (point p)
+inserts s p i n =
+    insertion (set_of s i.set) (set_of (with_point p s) (more_set s p i.set n.key)) (point p) (solid_of s i.set i.solid)
+    (adds s p i.set n)

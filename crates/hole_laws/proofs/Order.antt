@@ -13,7 +13,10 @@ IsBefore far y = ⊥
 
 -- one of two vertices comes first, or they are one
 pub ranked : (x y : Vertex) → IsBefore x y ⊎ (x ≡ y) ⊎ IsBefore y x
-ranked (point a) (point b) = elim (cases_order a b) [ inl e ↦ inr (inl (ap point e)) | inr r ↦ elim r [ inl l ↦ inl l | inr l ↦ inr (inr l) ] ]
+ranked (point a) (point b) = elim (cases_order a b) [
+  | inl e ↦ inr (inl (ap point e))
+  | inr r ↦ elim r [ inl l ↦ inl l | inr l ↦ inr (inr l) ]
+]
 ranked (point a) far = inl tt
 ranked far (point b) = inr (inr tt)
 ranked far far = inr (inl refl)
@@ -68,7 +71,10 @@ module _ (r : Vertex → Vertex → Vertex → Vertex → Type 0) (e : IsEven r)
       | inl q ↦ absurd (d.xy q)
       | inr yx ↦ e.swap23 w y x z (elim (ranked w y) [
         | inl wy ↦ fourth w y x z (swap23 d) wy yx
-        | inr l ↦ elim l [ inl q ↦ absurd (d.wy q) | inr yw ↦ e.swap12 y w x z (fourth y w x z (swap12 (swap23 d)) yw wx) ]
+        | inr l ↦ elim l [
+          | inl q ↦ absurd (d.wy q)
+          | inr yw ↦ e.swap12 y w x z (fourth y w x z (swap12 (swap23 d)) yw wx)
+        ]
       ])
     ]
   ]

@@ -18,7 +18,8 @@ use Rattle.hole_laws.proofs.FromBase.{complex_of}
 use Rattle.hole_laws.proofs.FromBase as from
 
 -- S is R with v; T is a solid part of R with all points beside v; U is T with v
-module _ (R S T U : PointSet) (v : Vertex) (a : IsAdd R v S) (b : IsAdd T v U) (st : solid T ≡ true) (within : Within PointSet has T R)
+module _ (R S T U : PointSet) (v : Vertex) (a : IsAdd R v S) (b : IsAdd T v U) (st : solid T ≡ true)
+    (within : Within PointSet has T R)
     (beside : (q : Vertex) → q ≢ far → AreLinked (cell S) v q → has T q ≡ true) where
   -- all four sets are solid
   sr : solid R ≡ true
@@ -68,21 +69,29 @@ module _ (R S T U : PointSet) (v : Vertex) (a : IsAdd R v S) (b : IsAdd T v U) (
   -- a cell at v in the set is one in the small set with v
   star_down : (t1 t2 t3 : Vertex) → cell S t1 t2 t3 v ≡ true → cell U t1 t2 t3 v ≡ true
   star_down t1 t2 t3 h = base.smaller S U su u_in_s t1 t2 t3 v h
-      (vertex_u t1 (vertex_t t1 record { t1 = t2; t2 = t3; cell = sym ((test_symmetric S).middle t2 t1 t3 v) ∙ sym ((test_symmetric S).first t1 t2 t3 v) ∙ h }))
+      (vertex_u t1 (vertex_t t1 record {
+        t1 = t2;
+        t2 = t3;
+        cell = sym ((test_symmetric S).middle t2 t1 t3 v)
+            ∙ sym ((test_symmetric S).first t1 t2 t3 v) ∙ h;
+      }))
       (vertex_u t2 (vertex_t t2 record { t1 = t1; t2 = t3; cell = sym ((test_symmetric S).middle t1 t2 t3 v) ∙ h }))
       (vertex_u t3 (vertex_t t3 record { t1 = t1; t2 = t2; cell = h }))
       (inr b.present)
 
   -- and there are no others there
   star_up : (t1 t2 t3 : Vertex) → cell U t1 t2 t3 v ≡ true → cell S t1 t2 t3 v ≡ true
-  star_up = stars.star_closed (cell U) (complex_of U) v b.finite (base.star_full U v b.present) (λ t1 t2 t3. cell S t1 t2 t3 v)
+  star_up =
+      stars.star_closed (cell U) (complex_of U) v b.finite (base.star_full U v b.present)
+      (λ t1 t2 t3. cell S t1 t2 t3 v)
       record { first = λ x y z. (test_symmetric S).first x y z v; last = λ x y z. (test_symmetric S).middle x y z v }
       k.t1 k.t2 k.t3 (star_down k.t1 k.t2 k.t3 k.cell) k.cell step
     where
       k : Corner (cell S) v
       k = base.corner S v ss a.present
 
-      step : (t1 t2 x y : Vertex) → cell U t1 t2 x v ≡ true → cell S t1 t2 x v ≡ true → cell U t1 t2 y v ≡ true → cell S t1 t2 y v ≡ true
+      step : (t1 t2 x y : Vertex) → cell U t1 t2 x v ≡ true → cell S t1 t2 x v ≡ true → cell U t1 t2 y v ≡ true →
+          cell S t1 t2 y v ≡ true
       step t1 t2 x y ux hx uy = go (cases_vertex y x)
         where
           w : Across (cell S) t1 t2 v x
@@ -94,7 +103,8 @@ module _ (R S T U : PointSet) (v : Vertex) (a : IsAdd R v S) (b : IsAdd T v U) (
           go : (y ≡ x) ⊎ (y ≡ x → ⊥) → cell S t1 t2 y v ≡ true
           go (inl e) = ap (λ q. cell S t1 t2 q v) e ∙ hx
           go (inr n) = ap (λ q. cell S t1 t2 q v) (across_one (cell U) (complex_of U) t1 t2 v y w.beyond x
-              ((test_symmetric U).last t1 t2 v y ∙ uy) ((test_symmetric U).last t1 t2 v w.beyond ∙ star_down t1 t2 w.beyond hw) ((test_symmetric U).last t1 t2 v x ∙ ux) n w.other) ∙ hw
+              ((test_symmetric U).last t1 t2 v y ∙ uy) ((test_symmetric U).last t1 t2 v w.beyond
+              ∙ star_down t1 t2 w.beyond hw) ((test_symmetric U).last t1 t2 v x ∙ ux) n w.other) ∙ hw
 
   -- the vertices of a cell that goes are beside v
   vertex_gone : (w x y z : Vertex) → gone (cell R) (cell S) w x y z ≡ true → IsVertexOf PointSet has T z
@@ -130,7 +140,8 @@ module _ (R S T U : PointSet) (v : Vertex) (a : IsAdd R v S) (b : IsAdd T v U) (
           go (inr n) = inr (sym (a.same q n) ∙ k)
 
   -- and these are closed among those that it takes there
-  gone_closed : (t1 t2 t3 x y : Vertex) → gone (cell R) (cell S) t1 t2 t3 x ≡ true → gone (cell T) (cell U) t1 t2 t3 y ≡ true →
+  gone_closed : (t1 t2 t3 x y : Vertex) → gone (cell R) (cell S) t1 t2 t3 x ≡ true → gone (cell T) (cell U) t1 t2 t3 y
+      ≡ true →
       gone (cell R) (cell S) t1 t2 t3 y ≡ true
   gone_closed t1 t2 t3 x y hx hy = go (cases_vertex y x) (cell S t1 t2 t3 w.beyond) refl
     where
@@ -151,10 +162,19 @@ module _ (R S T U : PointSet) (v : Vertex) (a : IsAdd R v S) (b : IsAdd T v U) (
       go (inr n) false q =
           let gw = and_not (cell R t1 t2 t3 w.beyond) (cell S t1 t2 t3 w.beyond) w.cell q in
           ap (gone (cell R) (cell S) t1 t2 t3) (across_one (cell T) (complex_of T) t1 t2 t3 y w.beyond x
-          uy.0 (and_not_from (cell T t1 t2 t3 w.beyond) (cell U t1 t2 t3 w.beyond) (gone_down t1 t2 t3 w.beyond gw)).0 ux.0 n w.other) ∙ gw
+          uy.0 (and_not_from (cell T t1 t2 t3 w.beyond) (cell U t1 t2 t3 w.beyond) (gone_down t1 t2 t3 w.beyond gw)).0
+          ux.0 n w.other) ∙ gw
       go (inr n) true q =
           let new = rim_makes_new (cell R) (cell S) v ins t1 t2 t3
-          record { kept = w.beyond; lost = x; kept_before = w.cell; kept_after = q; lost_before = gx.0; lost_after = gx.1 } in
+          record {
+            kept = w.beyond;
+            lost = x;
+            kept_before = w.cell;
+            kept_after = q;
+            lost_before = gx.0;
+            lost_after =
+                gx.1;
+          } in
           let r = new_has_rim (cell T) (cell U) v ins' t1 t2 t3 (star_down t1 t2 t3 new) in
           let e = across_one (cell T) (complex_of T) t1 t2 t3 y r.kept x uy.0 r.kept_before ux.0 n
           (λ f. false≢true (sym ux.1 ∙ ap (cell U t1 t2 t3) (sym f) ∙ r.kept_after)) in
@@ -166,13 +186,16 @@ module _ (R S T U : PointSet) (v : Vertex) (a : IsAdd R v S) (b : IsAdd T v U) (
       let m = ins.met in
       same_test (gone (cell T) (cell U) w x y z) (gone (cell R) (cell S) w x y z)
       (region (cell T) (cell U) v ins' (gone (cell R) (cell S)) sg gone_down gone_closed
-      m.t1 m.t2 m.t3 m.rim.lost (and_not (cell R m.t1 m.t2 m.t3 m.rim.lost) (cell S m.t1 m.t2 m.t3 m.rim.lost) m.rim.lost_before m.rim.lost_after) w x y z)
+      m.t1 m.t2 m.t3 m.rim.lost (and_not (cell R m.t1 m.t2 m.t3 m.rim.lost) (cell S m.t1 m.t2 m.t3 m.rim.lost)
+      m.rim.lost_before m.rim.lost_after) w x y z)
       (gone_down w x y z)
 
 -- a solid rest shows in the points beside v and across from it
 pub solid_near : (R S T : PointSet) (v : Vertex) → IsAdd R v S → solid R ≡ true →
-    ((q : Vertex) → q ≢ far → AreLinked (cell S) v q → has T q ≡ true) → ((q : Vertex) → IsOpposite (cell S) v q → has T q ≡ true) → solid T ≡ true
-solid_near R S T v a rest near across = start (cases_vertex m.t1 far) (cases_vertex m.t2 far) (cases_vertex m.t3 far) (cases_vertex m.rim.lost far)
+    ((q : Vertex) → q ≢ far → AreLinked (cell S) v q → has T q ≡ true) →
+    ((q : Vertex) → IsOpposite (cell S) v q → has T q ≡ true) → solid T ≡ true
+solid_near R S T v a rest near across =
+    start (cases_vertex m.t1 far) (cases_vertex m.t2 far) (cases_vertex m.t3 far) (cases_vertex m.rim.lost far)
   where
     ins : Insertion (cell R) (cell S) v
     ins = from.insertion R S v rest a
@@ -187,12 +210,14 @@ solid_near R S T v a rest near across = start (cases_vertex m.t1 far) (cases_ver
     sg = without_symmetric (cell R) (cell S) (test_symmetric R) (test_symmetric S)
 
     mg : gone (cell R) (cell S) m.t1 m.t2 m.t3 m.rim.lost ≡ true
-    mg = and_not (cell R m.t1 m.t2 m.t3 m.rim.lost) (cell S m.t1 m.t2 m.t3 m.rim.lost) m.rim.lost_before m.rim.lost_after
+    mg =
+        and_not (cell R m.t1 m.t2 m.t3 m.rim.lost) (cell S m.t1 m.t2 m.t3 m.rim.lost) m.rim.lost_before m.rim.lost_after
 
     in_t : (w x y z : Vertex) → gone (cell R) (cell S) w x y z ≡ true → z ≢ far → has T z ≡ true
     in_t w x y z h n = near z n (from.linked R S v rest a w x y z h n)
 
-    full : (w x y z : Vertex) → gone (cell R) (cell S) w x y z ≡ true → w ≢ far → x ≢ far → y ≢ far → z ≢ far → solid T ≡ true
+    full : (w x y z : Vertex) → gone (cell R) (cell S) w x y z ≡ true → w ≢ far → x ≢ far → y ≢ far → z ≢ far →
+        solid T ≡ true
     full w x y z h i j k l = base.full_solid R T w x y z (and_not_from (cell R w x y z) (cell S w x y z) h).0
         (in_t x y z w (sym (first_last (gone (cell R) (cell S)) sg w x y z) ∙ h) i)
         (in_t w y z x (sym (second_last (gone (cell R) (cell S)) sg w x y z) ∙ h) j)
@@ -212,7 +237,9 @@ solid_near R S T v a rest near across = start (cases_vertex m.t1 far) (cases_ver
         d = (complex_of R).laws.across x y z far g.0
 
         go : (r : Bool) → cell S x y z d.beyond ≡ r → solid T ≡ true
-        go false e = full x y z d.beyond (and_not (cell R x y z d.beyond) (cell S x y z d.beyond) d.cell e) (λ f. n.2 (sym f)) (λ f. n.1 (sym f)) (λ f. n.0 (sym f)) d.other
+        go false e =
+            full x y z d.beyond (and_not (cell R x y z d.beyond) (cell S x y z d.beyond) d.cell e) (λ f. n.2 (sym f))
+            (λ f. n.1 (sym f)) (λ f. n.0 (sym f)) d.other
         go true e = base.full_solid R T x y z d.beyond d.cell
             (in_t y z far x (sym (first_last (gone (cell R) (cell S)) sg x y z far) ∙ h) (λ f. n.2 (sym f)))
             (in_t x z far y (sym (second_last (gone (cell R) (cell S)) sg x y z far) ∙ h) (λ f. n.1 (sym f)))
@@ -222,21 +249,36 @@ solid_near R S T v a rest near across = start (cases_vertex m.t1 far) (cases_ver
               t2 = y;
               t3 = z;
               here = rim_makes_new (cell R) (cell S) v ins x y z
-                  record { kept = d.beyond; lost = far; kept_before = d.cell; kept_after = e; lost_before = g.0; lost_after = g.1 };
+                  record {
+                    kept = d.beyond;
+                    lost = far;
+                    kept_before = d.cell;
+                    kept_after = e;
+                    lost_before = g.0;
+                    lost_after = g.1;
+                  };
               there = e;
               other = λ f. false≢true (sym (ins.absent x y z) ∙ ap (cell R x y z) (sym f) ∙ d.cell);
               finite = d.other;
             })
 
-    start : (m.t1 ≡ far) ⊎ (m.t1 ≡ far → ⊥) → (m.t2 ≡ far) ⊎ (m.t2 ≡ far → ⊥) → (m.t3 ≡ far) ⊎ (m.t3 ≡ far → ⊥) → (m.rim.lost ≡ far) ⊎ (m.rim.lost ≡ far → ⊥) → solid T ≡ true
+    start : (m.t1 ≡ far) ⊎ (m.t1 ≡ far → ⊥) → (m.t2 ≡ far) ⊎ (m.t2 ≡ far → ⊥) → (m.t3 ≡ far) ⊎ (m.t3 ≡ far → ⊥) →
+        (m.rim.lost ≡ far) ⊎ (m.rim.lost ≡ far → ⊥) → solid T ≡ true
     start p q r (inl e) = open_one m.t1 m.t2 m.t3 (ap (gone (cell R) (cell S) m.t1 m.t2 m.t3) (sym e) ∙ mg)
-    start p q (inl e) (inr l) = open_one m.t1 m.t2 m.rim.lost (ap (gone (cell R) (cell S) m.t1 m.t2 m.rim.lost) (sym e) ∙ sym (sg.last m.t1 m.t2 m.t3 m.rim.lost) ∙ mg)
-    start p (inl e) (inr k) (inr l) = open_one m.t1 m.t3 m.rim.lost (ap (gone (cell R) (cell S) m.t1 m.t3 m.rim.lost) (sym e) ∙ sym (second_last (gone (cell R) (cell S)) sg m.t1 m.t2 m.t3 m.rim.lost) ∙ mg)
-    start (inl e) (inr j) (inr k) (inr l) = open_one m.t2 m.t3 m.rim.lost (ap (gone (cell R) (cell S) m.t2 m.t3 m.rim.lost) (sym e) ∙ sym (first_last (gone (cell R) (cell S)) sg m.t1 m.t2 m.t3 m.rim.lost) ∙ mg)
+    start p q (inl e) (inr l) =
+        open_one m.t1 m.t2 m.rim.lost (ap (gone (cell R) (cell S) m.t1 m.t2 m.rim.lost) (sym e)
+        ∙ sym (sg.last m.t1 m.t2 m.t3 m.rim.lost) ∙ mg)
+    start p (inl e) (inr k) (inr l) =
+        open_one m.t1 m.t3 m.rim.lost (ap (gone (cell R) (cell S) m.t1 m.t3 m.rim.lost) (sym e)
+        ∙ sym (second_last (gone (cell R) (cell S)) sg m.t1 m.t2 m.t3 m.rim.lost) ∙ mg)
+    start (inl e) (inr j) (inr k) (inr l) =
+        open_one m.t2 m.t3 m.rim.lost (ap (gone (cell R) (cell S) m.t2 m.t3 m.rim.lost) (sym e)
+        ∙ sym (first_last (gone (cell R) (cell S)) sg m.t1 m.t2 m.t3 m.rim.lost) ∙ mg)
     start (inr i) (inr j) (inr k) (inr l) = full m.t1 m.t2 m.t3 m.rim.lost mg i j k l
 
 -- where the rest is flat, v is beside each of its points
-pub flat_rest : (R S : PointSet) (v : Vertex) → IsAdd R v S → solid S ≡ true → solid R ≡ false → (e : Vertex) → has R e ≡ true → AreLinked (cell S) v e
+pub flat_rest : (R S : PointSet) (v : Vertex) → IsAdd R v S → solid S ≡ true → solid R ≡ false → (e : Vertex) →
+    has R e ≡ true → AreLinked (cell S) v e
 flat_rest R S v a s f e h = go (cases_vertex k.t1 v) (cases_vertex k.t2 v) (cases_vertex k.t3 v)
   where
     e_other : e ≢ v
@@ -248,13 +290,32 @@ flat_rest R S v a s f e h = go (cases_vertex k.t1 v) (cases_vertex k.t2 v) (case
     in_r : (q : Vertex) → q ≢ v → has S q ≡ true → has R q ≡ true
     in_r q n p = sym (a.same q n) ∙ p
 
-    go : (k.t1 ≡ v) ⊎ (k.t1 ≡ v → ⊥) → (k.t2 ≡ v) ⊎ (k.t2 ≡ v → ⊥) → (k.t3 ≡ v) ⊎ (k.t3 ≡ v → ⊥) → AreLinked (cell S) v e
-    go (inl p) b d = record { t1 = k.t2; t2 = k.t3; cell = ap (cell S k.t2 k.t3 e) (sym p) ∙ sym (first_last (cell S) (test_symmetric S) k.t1 k.t2 k.t3 e) ∙ k.cell }
-    go (inr l) (inl p) d = record { t1 = k.t1; t2 = k.t3; cell = ap (cell S k.t1 k.t3 e) (sym p) ∙ sym (second_last (cell S) (test_symmetric S) k.t1 k.t2 k.t3 e) ∙ k.cell }
-    go (inr l) (inr m) (inl p) = record { t1 = k.t1; t2 = k.t2; cell = ap (cell S k.t1 k.t2 e) (sym p) ∙ sym ((test_symmetric S).last k.t1 k.t2 k.t3 e) ∙ k.cell }
+    go : (k.t1 ≡ v) ⊎ (k.t1 ≡ v → ⊥) → (k.t2 ≡ v) ⊎ (k.t2 ≡ v → ⊥) → (k.t3 ≡ v) ⊎ (k.t3 ≡ v → ⊥) →
+        AreLinked (cell S) v e
+    go (inl p) b d = record {
+      t1 = k.t2;
+      t2 = k.t3;
+      cell = ap (cell S k.t2 k.t3 e) (sym p)
+          ∙ sym (first_last (cell S) (test_symmetric S) k.t1 k.t2 k.t3 e) ∙ k.cell;
+    }
+    go (inr l) (inl p) d = record {
+      t1 = k.t1;
+      t2 = k.t3;
+      cell = ap (cell S k.t1 k.t3 e) (sym p)
+          ∙ sym (second_last (cell S) (test_symmetric S) k.t1 k.t2 k.t3 e) ∙ k.cell;
+    }
+    go (inr l) (inr m) (inl p) = record {
+      t1 = k.t1;
+      t2 = k.t2;
+      cell = ap (cell S k.t1 k.t2 e) (sym p)
+          ∙ sym ((test_symmetric S).last k.t1 k.t2 k.t3 e) ∙ k.cell;
+    }
     go (inr l) (inr m) (inr n) =
         absurd (false≢true (sym f ∙ base.full_solid S R k.t1 k.t2 k.t3 e k.cell
-        (in_r k.t1 l (base.point S k.t2 k.t3 e k.t1 (sym (first_last (cell S) (test_symmetric S) k.t1 k.t2 k.t3 e) ∙ k.cell) k.finite1))
-        (in_r k.t2 m (base.point S k.t1 k.t3 e k.t2 (sym (second_last (cell S) (test_symmetric S) k.t1 k.t2 k.t3 e) ∙ k.cell) k.finite2))
-        (in_r k.t3 n (base.point S k.t1 k.t2 e k.t3 (sym ((test_symmetric S).last k.t1 k.t2 k.t3 e) ∙ k.cell) k.finite3))
+        (in_r k.t1 l (base.point S k.t2 k.t3 e k.t1 (sym (first_last (cell S) (test_symmetric S) k.t1 k.t2 k.t3 e)
+        ∙ k.cell) k.finite1))
+        (in_r k.t2 m (base.point S k.t1 k.t3 e k.t2 (sym (second_last (cell S) (test_symmetric S) k.t1 k.t2 k.t3 e)
+        ∙ k.cell) k.finite2))
+        (in_r k.t3 n (base.point S k.t1 k.t2 e k.t3 (sym ((test_symmetric S).last k.t1 k.t2 k.t3 e) ∙ k.cell)
+        k.finite3))
         h))

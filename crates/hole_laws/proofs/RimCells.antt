@@ -20,27 +20,36 @@ use Rattle.hole_laws.proofs.OfSets.{lists_of}
 use Rattle.hole_laws.proofs.Laws.{old_lack_point}
 
 -- lists that are one when p is put in, and do not have p, are one
-same_rest : (t u : List ℕ) (p : ℕ) → IsAscending t → IsAscending u → ¬ (IsIn p t) → ¬ (IsIn p u) → ascending (p ∷ t) ≡ ascending (p ∷ u) → t ≡ u
+same_rest : (t u : List ℕ) (p : ℕ) → IsAscending t → IsAscending u → ¬ (IsIn p t) → ¬ (IsIn p u) →
+    ascending (p ∷ t) ≡ ascending (p ∷ u) → t ≡ u
 same_rest t u p a b n k e = same_members t u a b (into t u n e) (into u t k (sym e))
   where
     into : (t u : List ℕ) → ¬ (IsIn p t) → ascending (p ∷ t) ≡ ascending (p ∷ u) → (q : ℕ) → IsIn q t → IsIn q u
-    into t u n e q m = elim (in_ascending (p ∷ u) q (subst (λ (v : List ℕ). IsIn q v) e (in_ascending_from (p ∷ t) q (inr m)))) [
-      | inl x ↦ absurd (n (subst (λ (v : ℕ). IsIn v t) (sym x) m))
-      | inr r ↦ r
-    ]
+    into t u n e q m =
+        elim (in_ascending (p ∷ u) q (subst (λ (v : List ℕ). IsIn q v) e (in_ascending_from (p ∷ t) q (inr m)))) [
+          | inl x ↦ absurd (n (subst (λ (v : ℕ). IsIn v t) (sym x) m))
+          | inr r ↦ r
+        ]
 
 -- so is a facet told by its cell with p
-same_under : (f g : Facet) (p : ℕ) → IsOrderedFacet f → IsOrderedFacet g → ¬ (IsFacetVertex f (point p)) → ¬ (IsFacetVertex g (point p)) → cell_over f p ≡ cell_over g p → f ≡ g
-same_under (Three t) (Three u) p a b n k e = ap Three (same_rest t u p a b n k (same_full (ascending (p ∷ t)) (ascending (p ∷ u)) e))
-same_under (Two t) (Two u) p a b n k e = ap Two (same_rest t u p a b n k (same_open (ascending (p ∷ t)) (ascending (p ∷ u)) e))
+same_under : (f g : Facet) (p : ℕ) → IsOrderedFacet f → IsOrderedFacet g → ¬ (IsFacetVertex f (point p)) →
+    ¬ (IsFacetVertex g (point p)) → cell_over f p ≡ cell_over g p → f ≡ g
+same_under (Three t) (Three u) p a b n k e =
+    ap Three (same_rest t u p a b n k (same_full (ascending (p ∷ t)) (ascending (p ∷ u)) e))
+same_under (Two t) (Two u) p a b n k e =
+    ap Two (same_rest t u p a b n k (same_open (ascending (p ∷ t)) (ascending (p ∷ u)) e))
 same_under (Three t) (Two u) p a b n k e = absurd (not_both_kinds (ascending (p ∷ t)) (ascending (p ∷ u)) e)
 same_under (Two t) (Three u) p a b n k e = absurd (not_both_kinds (ascending (p ∷ u)) (ascending (p ∷ t)) (sym e))
 
 -- a rim facet is in order and has not the new point
-rim_plain : (s : List ℕ) (p : ℕ) (i : IsSolidSet s) (n : IsNew s p) (f : Facet) → IsRimOf s p f → IsOrderedFacet f × ¬ (IsFacetVertex f (point p))
+rim_plain : (s : List ℕ) (p : ℕ) (i : IsSolidSet s) (n : IsNew s p) (f : Facet) → IsRimOf s p f → IsOrderedFacet f
+    × ¬ (IsFacetVertex f (point p))
 rim_plain s p i n f r =
-    let o : IsOrdered r.gone = (lists_of s i.set).ordered r.gone r.goes.before in
-    ((against_of r.gone o f r.of_gone).against.ordered, λ m. old_lack_point s p i n r.gone r.goes.before (facet_inside r.gone o f r.of_gone p m))
+    let o : IsOrdered r.gone = (lists_of s i.set).ordered r.gone r.goes.before in (
+      (against_of r.gone o f r.of_gone).against.ordered,
+      λ m. old_lack_point s p i n r.gone r.goes.before
+          (facet_inside r.gone o f r.of_gone p m),
+    )
 
 -- ---- the laws
 
@@ -55,7 +64,9 @@ one_fresh_each s p i n f g r t e =
 pub one_gone_each : OneGoneEach
 one_gone_each s p i n f r a b ga gb ma mb =
     let o = listed_facets s r.kept f i.set.ascending i.set.keys r.stays.before r.of_kept in
-    pick (o.only a ga.before ma) (o.only b gb.before mb) (λ x. ga.after (subst (λ (v : Cell). IsIn v (complex (with_point p s))) (sym x) r.stays.after)) (λ x. gb.after (subst (λ (v : Cell). IsIn v (complex (with_point p s))) (sym x) r.stays.after))
+    pick (o.only a ga.before ma) (o.only b gb.before mb) (λ x. ga.after
+    (subst (λ (v : Cell). IsIn v (complex (with_point p s))) (sym x) r.stays.after))
+    (λ x. gb.after (subst (λ (v : Cell). IsIn v (complex (with_point p s))) (sym x) r.stays.after))
   where
     pick : {c : Cell} → (a ≡ r.kept) ⊎ (a ≡ c) → (b ≡ r.kept) ⊎ (b ≡ c) → ¬ (a ≡ r.kept) → ¬ (b ≡ r.kept) → a ≡ b
     pick (inl x) y n m = absurd (n x)

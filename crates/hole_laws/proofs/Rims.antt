@@ -10,7 +10,8 @@ use Rattle.hole_laws.proofs.Vertices.{cases_vertex}
 -- ---- tests with two answers
 
 -- what passes one symmetric test and not another
-pub without_symmetric : (f g : Vertex → Vertex → Vertex → Vertex → Bool) → Symmetric f → Symmetric g → Symmetric (λ w x y z. f w x y z && not (g w x y z))
+pub without_symmetric : (f g : Vertex → Vertex → Vertex → Vertex → Bool) → Symmetric f → Symmetric g →
+    Symmetric (λ w x y z. f w x y z && not (g w x y z))
 without_symmetric f g s t = record {
   first = λ w x y z. ap₂ (λ a b. a && not b) (s.first w x y z) (t.first w x y z);
   middle = λ w x y z. ap₂ (λ a b. a && not b) (s.middle w x y z) (t.middle w x y z);
@@ -20,18 +21,22 @@ without_symmetric f g s t = record {
 -- ---- facets
 
 -- the vertices of a cell differ
-pub last_apart : (c : Vertex → Vertex → Vertex → Vertex → Bool) → IsComplex c → (w x y z : Vertex) → c w x y z ≡ true → (z ≢ y) × (z ≢ x) × (z ≢ w)
+pub last_apart : (c : Vertex → Vertex → Vertex → Vertex → Bool) → IsComplex c → (w x y z : Vertex) → c w x y z ≡ true →
+    (z ≢ y) × (z ≢ x) × (z ≢ w)
 last_apart c k w x y z h = (
   λ e. false≢true (sym (k.laws.apart w x y) ∙ ap (c w x y) (sym e) ∙ h),
   λ e. false≢true (sym (k.laws.apart w y x) ∙ ap (c w y x) (sym e) ∙ k.laws.symmetric.middle w y x z ∙ h),
-  λ e. false≢true (sym (k.laws.apart x y w) ∙ ap (c x y w) (sym e) ∙ k.laws.symmetric.middle x y w z ∙ k.laws.symmetric.first x w y z ∙ h),
+  λ e. false≢true (sym (k.laws.apart x y w) ∙ ap (c x y w) (sym e) ∙ k.laws.symmetric.middle x y w z
+      ∙ k.laws.symmetric.first x w y z ∙ h),
 )
 
 -- no cell of the smaller set has p
-pub absent_all : (c c' : Vertex → Vertex → Vertex → Vertex → Bool) (p : Vertex) → Insertion c c' p → (w x y z : Vertex) → c w x y z ≡ true →
+pub absent_all : (c c' : Vertex → Vertex → Vertex → Vertex → Bool) (p : Vertex) → Insertion c c' p →
+    (w x y z : Vertex) → c w x y z ≡ true →
     (w ≢ p) × (x ≢ p) × (y ≢ p) × (z ≢ p)
 absent_all c c' p k w x y z h = (
-  λ e. false≢true (sym (k.absent x y z) ∙ ap (c x y z) (sym e) ∙ s.last x y z w ∙ s.middle x y w z ∙ s.first x w y z ∙ h),
+  λ e. false≢true (sym (k.absent x y z) ∙ ap (c x y z) (sym e) ∙ s.last x y z w ∙ s.middle x y w z ∙ s.first x w y z
+      ∙ h),
   λ e. false≢true (sym (k.absent w y z) ∙ ap (c w y z) (sym e) ∙ s.last w y z x ∙ s.middle w y x z ∙ h),
   λ e. false≢true (sym (k.absent w x z) ∙ ap (c w x z) (sym e) ∙ s.last w x z y ∙ h),
   λ e. false≢true (sym (k.absent w x y) ∙ ap (c w x y) (sym e) ∙ h),
@@ -51,7 +56,8 @@ across_one c k t1 t2 t3 x y z hx hy hz nx ny =
     pick x y z f a b m n = grind arith
 
 -- under a new cell there is a rim facet
-pub new_has_rim : (c c' : Vertex → Vertex → Vertex → Vertex → Bool) (p : Vertex) → Insertion c c' p → (t1 t2 t3 : Vertex) →
+pub new_has_rim : (c c' : Vertex → Vertex → Vertex → Vertex → Bool) (p : Vertex) → Insertion c c' p →
+    (t1 t2 t3 : Vertex) →
     c' t1 t2 t3 p ≡ true → IsRim c c' t1 t2 t3
 new_has_rim c c' p k t1 t2 t3 h =
     record {
@@ -77,10 +83,14 @@ new_has_rim c c' p k t1 t2 t3 h =
 
     lost : (r : Bool) → c' t1 t2 t3 b.beyond ≡ r → r ≡ false
     lost false e = refl
-    lost true e = elim (a.only b.beyond e) [ inl q ↦ absurd ((absent_all c c' p k t1 t2 t3 b.beyond b.cell).3 q) | inr q ↦ absurd (b.other q) ]
+    lost true e = elim (a.only b.beyond e) [
+      | inl q ↦ absurd ((absent_all c c' p k t1 t2 t3 b.beyond b.cell).3 q)
+      | inr q ↦ absurd (b.other q)
+    ]
 
 -- and over a rim facet there is a new cell
-pub rim_makes_new : (c c' : Vertex → Vertex → Vertex → Vertex → Bool) (p : Vertex) → Insertion c c' p → (t1 t2 t3 : Vertex) →
+pub rim_makes_new : (c c' : Vertex → Vertex → Vertex → Vertex → Bool) (p : Vertex) → Insertion c c' p →
+    (t1 t2 t3 : Vertex) →
     IsRim c c' t1 t2 t3 → c' t1 t2 t3 p ≡ true
 rim_makes_new c c' p k t1 t2 t3 r = done (cases_vertex w.beyond p)
   where
@@ -96,5 +106,6 @@ rim_makes_new c c' p k t1 t2 t3 r = done (cases_vertex w.beyond p)
     done : (w.beyond ≡ p) ⊎ (w.beyond ≡ p → ⊥) → c' t1 t2 t3 p ≡ true
     done (inl e) = ap (c' t1 t2 t3) (sym e) ∙ w.cell
     done (inr m) =
-        let e = across_one c k.before t1 t2 t3 r.lost w.beyond r.kept r.lost_before (k.old t1 t2 t3 w.beyond w.cell n.0 n.1 n.2 m) r.kept_before differs w.other in
+        let e = across_one c k.before t1 t2 t3 r.lost w.beyond r.kept r.lost_before
+        (k.old t1 t2 t3 w.beyond w.cell n.0 n.1 n.2 m) r.kept_before differs w.other in
         absurd (false≢true (sym r.lost_after ∙ ap (c' t1 t2 t3) e ∙ w.cell))

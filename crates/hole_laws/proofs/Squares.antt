@@ -24,16 +24,19 @@ pub goes_symmetric : (S T : PointSet) → Symmetric (goes S T)
 goes_symmetric S T = without_symmetric (cell S) (cell T) (test_symmetric S) (test_symmetric T)
 
 -- a cell that goes is one of the one set and none of the other
-pub goes_is : (S T : PointSet) (w x y z : Vertex) → goes S T w x y z ≡ true → (cell S w x y z ≡ true) × (cell T w x y z ≡ false)
+pub goes_is : (S T : PointSet) (w x y z : Vertex) → goes S T w x y z ≡ true → (cell S w x y z ≡ true)
+    × (cell T w x y z ≡ false)
 goes_is S T w x y z h = and_not_from (cell S w x y z) (cell T w x y z) h
 
 -- and back
-pub to_goes : (S T : PointSet) (w x y z : Vertex) → cell S w x y z ≡ true → (cell T w x y z ≡ true → ⊥) → goes S T w x y z ≡ true
+pub to_goes : (S T : PointSet) (w x y z : Vertex) → cell S w x y z ≡ true → (cell T w x y z ≡ true → ⊥) →
+    goes S T w x y z ≡ true
 to_goes S T w x y z h n = and_not (cell S w x y z) (cell T w x y z) h (false_if _ n)
 
 -- a facet has a point
 pub facet_point : (S : PointSet) (t1 t2 t3 x : Vertex) → cell S t1 t2 t3 x ≡ true → (t3 ≢ far) ⊎ (t2 ≢ far)
-facet_point S t1 t2 t3 x h = pick t2 t3 far (last_apart (cell S) (complex_of S) x t1 t2 t3 rot).0 (cases_vertex t3 far) (cases_vertex t2 far)
+facet_point S t1 t2 t3 x h =
+    pick t2 t3 far (last_apart (cell S) (complex_of S) x t1 t2 t3 rot).0 (cases_vertex t3 far) (cases_vertex t2 far)
   where
     rot : cell S x t1 t2 t3 ≡ true
     rot = first_last (cell S) (test_symmetric S) x t1 t2 t3 ∙ h
@@ -57,15 +60,28 @@ Disjoint P Q = (q : Vertex) → P q → Q q → ⊥
 
 -- the points of a cell that goes: the third
 pub at_third : (S T : PointSet) (t1 t2 t3 z : Vertex) → goes S T t1 t2 t3 z ≡ true → t3 ≢ far → At S T t3
-at_third S T t1 t2 t3 z h n = record { t1 = t1; t2 = t2; t3 = z; cell = sym ((goes_symmetric S T).last t1 t2 t3 z) ∙ h; finite = n }
+at_third S T t1 t2 t3 z h n =
+    record { t1 = t1; t2 = t2; t3 = z; cell = sym ((goes_symmetric S T).last t1 t2 t3 z) ∙ h; finite = n }
 
 -- the second
 pub at_second : (S T : PointSet) (t1 t2 t3 z : Vertex) → goes S T t1 t2 t3 z ≡ true → t2 ≢ far → At S T t2
-at_second S T t1 t2 t3 z h n = record { t1 = t1; t2 = t3; t3 = z; cell = sym (second_last (goes S T) (goes_symmetric S T) t1 t2 t3 z) ∙ h; finite = n }
+at_second S T t1 t2 t3 z h n = record {
+  t1 = t1;
+  t2 = t3;
+  t3 = z;
+  cell = sym (second_last (goes S T) (goes_symmetric S T) t1 t2 t3 z) ∙ h;
+  finite = n;
+}
 
 -- the first
 pub at_first : (S T : PointSet) (t1 t2 t3 z : Vertex) → goes S T t1 t2 t3 z ≡ true → t1 ≢ far → At S T t1
-at_first S T t1 t2 t3 z h n = record { t1 = t2; t2 = t3; t3 = z; cell = sym (first_last (goes S T) (goes_symmetric S T) t1 t2 t3 z) ∙ h; finite = n }
+at_first S T t1 t2 t3 z h n = record {
+  t1 = t2;
+  t2 = t3;
+  t3 = z;
+  cell = sym (first_last (goes S T) (goes_symmetric S T) t1 t2 t3 z) ∙ h;
+  finite = n;
+}
 
 -- cells that go share no facet where the points are apart
 pub share : (S T U V : PointSet) (p q : Vertex) → Disjoint (Rho S T p) (Rho U V q) → (t1 t2 t3 x y : Vertex) →
@@ -77,7 +93,8 @@ share S T U V p q d t1 t2 t3 x y hx hy = go (facet_point S t1 t2 t3 x (goes_is S
     go (inr n) = d t2 (inr (at_second S T t1 t2 t3 x hx n)) (inr (at_second U V t1 t2 t3 y hy n))
 
 -- a point that is at no cell that goes is a vertex of none
-pub no_vertex : (S T : PointSet) (p : Vertex) → p ≢ far → (At S T p → ⊥) → (w x y z : Vertex) → goes S T w x y z ≡ true → (w ≢ p) × (x ≢ p) × (y ≢ p) × (z ≢ p)
+pub no_vertex : (S T : PointSet) (p : Vertex) → p ≢ far → (At S T p → ⊥) → (w x y z : Vertex) →
+    goes S T w x y z ≡ true → (w ≢ p) × (x ≢ p) × (y ≢ p) × (z ≢ p)
 no_vertex S T p n h w x y z g = (
   λ e. h (subst (At S T) e (at_first S T w x y z g (λ f. n (sym e ∙ f)))),
   λ e. h (subst (At S T) e (at_second S T w x y z g (λ f. n (sym e ∙ f)))),
@@ -86,7 +103,8 @@ no_vertex S T p n h w x y z g = (
 )
 
 -- nor of any cell of a set that does not have it
-pub absent : (S T : PointSet) (p : Vertex) → solid S ≡ true → IsAdd S p T → (w x y z : Vertex) → cell S w x y z ≡ true → (w ≢ p) × (x ≢ p) × (y ≢ p) × (z ≢ p)
+pub absent : (S T : PointSet) (p : Vertex) → solid S ≡ true → IsAdd S p T → (w x y z : Vertex) → cell S w x y z ≡ true →
+    (w ≢ p) × (x ≢ p) × (y ≢ p) × (z ≢ p)
 absent S T p s a = absent_all (cell S) (cell T) p (from.insertion S T p s a)
 
 -- four sets: R, then with x, with y, with both
@@ -110,7 +128,8 @@ module _ (R A B T : PointSet) (x y : Vertex) (q : Square R A B T x y) (s : solid
   solid_b = from.solid_add R B y s q.rb
 
   -- y takes away as much from A as from R, where it is far from x at R
-  far_into : Disjoint (Rho R A x) (Rho R B y) → (v1 v2 v3 v4 : Vertex) → goes R B v1 v2 v3 v4 ≡ true → goes A T v1 v2 v3 v4 ≡ true
+  far_into : Disjoint (Rho R A x) (Rho R B y) → (v1 v2 v3 v4 : Vertex) → goes R B v1 v2 v3 v4 ≡ true →
+      goes A T v1 v2 v3 v4 ≡ true
   far_into d v1 v2 v3 v4 h = to_goes A T v1 v2 v3 v4 (there (cell A v1 v2 v3 v4) refl) λ t.
       let n = absent R A x s q.ra v1 v2 v3 v4 g.0 in
       false≢true (sym g.1 ∙ from.old B T x solid_b q.bt v1 v2 v3 v4 t n.0 n.1 n.2 n.3)
@@ -120,10 +139,12 @@ module _ (R A B T : PointSet) (x y : Vertex) (q : Square R A B T x y) (s : solid
 
       there : (b : Bool) → cell A v1 v2 v3 v4 ≡ b → cell A v1 v2 v3 v4 ≡ true
       there true e = e
-      there false e = absurd (share R A R B x y d v1 v2 v3 v4 v4 (and_not (cell R v1 v2 v3 v4) (cell A v1 v2 v3 v4) g.0 e) h)
+      there false e =
+          absurd (share R A R B x y d v1 v2 v3 v4 v4 (and_not (cell R v1 v2 v3 v4) (cell A v1 v2 v3 v4) g.0 e) h)
 
   -- and no more: across a facet of such a cell from A lies such a cell
-  far_closed : Disjoint (Rho R A x) (Rho R B y) → (t1 t2 t3 z w : Vertex) → goes R B t1 t2 t3 z ≡ true → goes A T t1 t2 t3 w ≡ true → goes R B t1 t2 t3 w ≡ true
+  far_closed : Disjoint (Rho R A x) (Rho R B y) → (t1 t2 t3 z w : Vertex) → goes R B t1 t2 t3 z ≡ true →
+      goes A T t1 t2 t3 w ≡ true → goes R B t1 t2 t3 w ≡ true
   far_closed d t1 t2 t3 z w hz hw = go (cases_vertex w x)
     where
       k : (cell A t1 t2 t3 w ≡ true) × (cell T t1 t2 t3 w ≡ false)
@@ -134,8 +155,10 @@ module _ (R A B T : PointSet) (x y : Vertex) (q : Square R A B T x y) (s : solid
 
       go : (w ≡ x) ⊎ (w ≡ x → ⊥) → goes R B t1 t2 t3 w ≡ true
       go (inl e) =
-          let r = new_has_rim (cell R) (cell A) x (from.insertion R A x s q.ra) t1 t2 t3 (ap (cell A t1 t2 t3) (sym e) ∙ k.0) in
-          absurd (share R A R B x y d t1 t2 t3 r.lost z (and_not (cell R t1 t2 t3 r.lost) (cell A t1 t2 t3 r.lost) r.lost_before r.lost_after) hz)
+          let r = new_has_rim (cell R) (cell A) x (from.insertion R A x s q.ra) t1 t2 t3
+          (ap (cell A t1 t2 t3) (sym e) ∙ k.0) in
+          absurd (share R A R B x y d t1 t2 t3 r.lost z (and_not (cell R t1 t2 t3 r.lost) (cell A t1 t2 t3 r.lost)
+          r.lost_before r.lost_after) hz)
       go (inr m) = to_goes R B t1 t2 t3 w (from.old R A x s q.ra t1 t2 t3 w k.0 n.0 n.1 n.2 m)
           λ h. false≢true (sym k.1 ∙ from.meet R A B T x y s q.ra q.rb q.at t1 t2 t3 w k.0 h)
 
@@ -145,11 +168,14 @@ module _ (R A B T : PointSet) (x y : Vertex) (q : Square R A B T x y) (s : solid
       let m = from.rim R B y s q.rb in
       same_test (goes A T v1 v2 v3 v4) (goes R B v1 v2 v3 v4)
       (λ h. region (cell A) (cell T) y (from.insertion A T y solid_a q.at)
-      (goes R B) (goes_symmetric R B) (far_into d) (far_closed d) m.t1 m.t2 m.t3 m.rim.lost (and_not (cell R m.t1 m.t2 m.t3 m.rim.lost) (cell B m.t1 m.t2 m.t3 m.rim.lost) m.rim.lost_before m.rim.lost_after) v1 v2 v3 v4 h)
+      (goes R B) (goes_symmetric R B) (far_into d) (far_closed d) m.t1 m.t2 m.t3 m.rim.lost
+      (and_not (cell R m.t1 m.t2 m.t3 m.rim.lost) (cell B m.t1 m.t2 m.t3 m.rim.lost) m.rim.lost_before m.rim.lost_after)
+      v1 v2 v3 v4 h)
       (far_into d v1 v2 v3 v4)
 
   -- the same, where it is far from x at A
-  near_into : Disjoint (Rho R A x) (Rho A T y) → (v1 v2 v3 v4 : Vertex) → goes A T v1 v2 v3 v4 ≡ true → goes R B v1 v2 v3 v4 ≡ true
+  near_into : Disjoint (Rho R A x) (Rho A T y) → (v1 v2 v3 v4 : Vertex) → goes A T v1 v2 v3 v4 ≡ true →
+      goes R B v1 v2 v3 v4 ≡ true
   near_into d v1 v2 v3 v4 h = to_goes R B v1 v2 v3 v4 (from.old R A x s q.ra v1 v2 v3 v4 g.0 n.0 n.1 n.2 n.3)
       λ b. false≢true (sym g.1 ∙ from.meet R A B T x y s q.ra q.rb q.at v1 v2 v3 v4 g.0 b)
     where
@@ -160,7 +186,8 @@ module _ (R A B T : PointSet) (x y : Vertex) (q : Square R A B T x y) (s : solid
       n = no_vertex A T x q.ra.finite (λ a. d x (inl refl) (inr a)) v1 v2 v3 v4 h
 
   -- and no less
-  near_closed : Disjoint (Rho R A x) (Rho A T y) → (t1 t2 t3 z w : Vertex) → goes A T t1 t2 t3 z ≡ true → goes R B t1 t2 t3 w ≡ true → goes A T t1 t2 t3 w ≡ true
+  near_closed : Disjoint (Rho R A x) (Rho A T y) → (t1 t2 t3 z w : Vertex) → goes A T t1 t2 t3 z ≡ true →
+      goes R B t1 t2 t3 w ≡ true → goes A T t1 t2 t3 w ≡ true
   near_closed d t1 t2 t3 z w hz hw = go (cell A t1 t2 t3 w) refl
     where
       k : (cell R t1 t2 t3 w ≡ true) × (cell B t1 t2 t3 w ≡ false)
@@ -170,14 +197,18 @@ module _ (R A B T : PointSet) (x y : Vertex) (q : Square R A B T x y) (s : solid
       n = absent R A x s q.ra t1 t2 t3 w k.0
 
       go : (b : Bool) → cell A t1 t2 t3 w ≡ b → goes A T t1 t2 t3 w ≡ true
-      go true e = to_goes A T t1 t2 t3 w e λ t. false≢true (sym k.1 ∙ from.old B T x solid_b q.bt t1 t2 t3 w t n.0 n.1 n.2 n.3)
+      go true e =
+          to_goes A T t1 t2 t3 w e λ t. false≢true (sym k.1 ∙ from.old B T x solid_b q.bt t1 t2 t3 w t n.0 n.1 n.2 n.3)
       go false e = absurd (share R A A T x y d t1 t2 t3 w z (and_not (cell R t1 t2 t3 w) (cell A t1 t2 t3 w) k.0 e) hz)
 
   -- so it takes away the same cells
-  pub same_near : Disjoint (Rho R A x) (Rho A T y) → (v1 v2 v3 v4 : Vertex) → goes R B v1 v2 v3 v4 ≡ goes A T v1 v2 v3 v4
+  pub same_near : Disjoint (Rho R A x) (Rho A T y) → (v1 v2 v3 v4 : Vertex) →
+      goes R B v1 v2 v3 v4 ≡ goes A T v1 v2 v3 v4
   same_near d v1 v2 v3 v4 =
       let m = from.rim A T y solid_a q.at in
       same_test (goes R B v1 v2 v3 v4) (goes A T v1 v2 v3 v4)
       (λ h. region (cell R) (cell B) y (from.insertion R B y s q.rb)
-      (goes A T) (goes_symmetric A T) (near_into d) (near_closed d) m.t1 m.t2 m.t3 m.rim.lost (and_not (cell A m.t1 m.t2 m.t3 m.rim.lost) (cell T m.t1 m.t2 m.t3 m.rim.lost) m.rim.lost_before m.rim.lost_after) v1 v2 v3 v4 h)
+      (goes A T) (goes_symmetric A T) (near_into d) (near_closed d) m.t1 m.t2 m.t3 m.rim.lost
+      (and_not (cell A m.t1 m.t2 m.t3 m.rim.lost) (cell T m.t1 m.t2 m.t3 m.rim.lost) m.rim.lost_before m.rim.lost_after)
+      v1 v2 v3 v4 h)
       (near_into d v1 v2 v3 v4)

@@ -15,7 +15,8 @@ abbrev pub ClosedPart : (Vertex → Vertex → Vertex → Vertex → Bool) → T
 ClosedPart c =
     (part : Vertex → Vertex → Vertex → Vertex → Bool) → Symmetric part →
     (a1 a2 a3 a4 : Vertex) → c a1 a2 a3 a4 ≡ true → part a1 a2 a3 a4 ≡ true →
-    ((t1 t2 t3 x y : Vertex) → c t1 t2 t3 x ≡ true → part t1 t2 t3 x ≡ true → c t1 t2 t3 y ≡ true → part t1 t2 t3 y ≡ true) →
+    ((t1 t2 t3 x y : Vertex) → c t1 t2 t3 x ≡ true → part t1 t2 t3 x ≡ true → c t1 t2 t3 y ≡ true →
+    part t1 t2 t3 y ≡ true) →
     (b1 b2 b3 b4 : Vertex) → c b1 b2 b3 b4 ≡ true → part b1 b2 b3 b4 ≡ true
 
 -- the same of the cells at p, each named by its facet without p, and closed across the facets with p
@@ -54,7 +55,8 @@ pub record IsAdd (s : PointSet) (p : Vertex) (more : PointSet) : Type 0 where
 -- ---- two complexes, of a set and of the set with one more point
 
 -- the cells of c that are none of c': those that the new point takes away
-abbrev pub gone : (Vertex → Vertex → Vertex → Vertex → Bool) → (Vertex → Vertex → Vertex → Vertex → Bool) → Vertex → Vertex → Vertex → Vertex → Bool
+abbrev pub gone : (Vertex → Vertex → Vertex → Vertex → Bool) → (Vertex → Vertex → Vertex → Vertex → Bool) → Vertex →
+    Vertex → Vertex → Vertex → Bool
 gone c c' w x y z = c w x y z && not (c' w x y z)
 
 -- the point q is a vertex of a cell that goes

@@ -10,9 +10,11 @@ pub cases_vertex : (a b : Vertex) → (a ≡ b) ⊎ (a ≡ b → ⊥)
 cases_vertex a b = elim (vertex_discrete a b) [ yes e ↦ inl e | no n ↦ inr n ]
 
 -- the first vertex comes last
-pub first_last : (c : Vertex → Vertex → Vertex → Vertex → Bool) → Symmetric c → (w x y z : Vertex) → c w x y z ≡ c x y z w
+pub first_last : (c : Vertex → Vertex → Vertex → Vertex → Bool) → Symmetric c → (w x y z : Vertex) →
+    c w x y z ≡ c x y z w
 first_last c s w x y z = s.first w x y z ∙ s.middle x w y z ∙ s.last x y w z
 
 -- the second vertex comes last
-pub second_last : (c : Vertex → Vertex → Vertex → Vertex → Bool) → Symmetric c → (w x y z : Vertex) → c w x y z ≡ c w y z x
+pub second_last : (c : Vertex → Vertex → Vertex → Vertex → Bool) → Symmetric c → (w x y z : Vertex) →
+    c w x y z ≡ c w y z x
 second_last c s w x y z = s.middle w x y z ∙ s.last w y x z

@@ -19,7 +19,8 @@ reply_new h e i =
     ap (λ b. cond b Duplicate Inserted) (false_if (is_among p (replay h)) (λ t. i.absent (among_from p (replay h) t)))
 
 -- and is there after it
-pub left_by : (h : List Entry) (e : Entry) → IsInsertion h e → after (replay h) e.edit ≡ with_point (point_of e.edit) (replay h)
+pub left_by : (h : List Entry) (e : Entry) → IsInsertion h e → after (replay h) e.edit ≡ with_point (point_of e.edit)
+    (replay h)
 left_by h e i = ap (after (replay h)) i.edit ∙ ap (changed (replay h) (point_of e.edit)) (reply_new h e i)
 
 -- the entry of a new point follows, with the cells that go and come

@@ -19,17 +19,37 @@ one_less : (a b : Bool) → a ≡ false → b ≡ true → cond a 1 0 < cond b 1
 one_less a b e f = rw (e, f) (omega arith)
 
 -- a stricter test counts at most as many
-pub count_most : {X : Type 0} (p q : X → Bool) (xs : List X) → ((x : X) → IsIn x xs → p x ≡ true → q x ≡ true) → count_by p xs ≤ count_by q xs
+pub count_most : {X : Type 0} (p q : X → Bool) (xs : List X) → ((x : X) → IsIn x xs → p x ≡ true → q x ≡ true) →
+    count_by p xs ≤ count_by q xs
 count_most p q [] f = omega arith
 count_most p q (x ∷ xs) f =
-    omega (arith, count_cons p x xs, count_cons q x xs, one_most (p x) (q x) (f x (inl refl)), count_most p q xs (λ y m. f y (inr m)))
+    omega (
+      arith,
+      count_cons p x xs,
+      count_cons q x xs,
+      one_most (p x) (q x) (f x (inl refl)),
+      count_most p q xs (λ y m. f y (inr m)),
+    )
 
 -- and fewer, where a member passes the second test alone
-pub count_less : {X : Type 0} (p q : X → Bool) (xs : List X) → ((x : X) → IsIn x xs → p x ≡ true → q x ≡ true) → (y : X) → IsIn y xs → p y ≡ false → q y ≡ true → count_by p xs < count_by q xs
+pub count_less : {X : Type 0} (p q : X → Bool) (xs : List X) → ((x : X) → IsIn x xs → p x ≡ true → q x ≡ true) →
+    (y : X) → IsIn y xs → p y ≡ false → q y ≡ true → count_by p xs < count_by q xs
 count_less p q [] f y m a b = absurd m
 count_less p q (x ∷ xs) f y m a b = elim m [
-  | inl e ↦ omega (arith, count_cons p x xs, count_cons q x xs, one_less (p x) (q x) (ap p e ∙ a) (ap q e ∙ b), count_most p q xs (λ z k. f z (inr k)))
-  | inr r ↦ omega (arith, count_cons p x xs, count_cons q x xs, one_most (p x) (q x) (f x (inl refl)), count_less p q xs (λ z k. f z (inr k)) y r a b)
+  | inl e ↦ omega (
+    arith,
+    count_cons p x xs,
+    count_cons q x xs,
+    one_less (p x) (q x) (ap p e ∙ a) (ap q e ∙ b),
+    count_most p q xs (λ z k. f z (inr k)),
+  )
+  | inr r ↦ omega (
+    arith,
+    count_cons p x xs,
+    count_cons q x xs,
+    one_most (p x) (q x) (f x (inl refl)),
+    count_less p q xs (λ z k. f z (inr k)) y r a b,
+  )
 ]
 
 -- the laws of specs/Lists

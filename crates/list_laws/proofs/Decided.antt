@@ -44,7 +44,10 @@ is_in e (x ∷ xs) = either (ℕ_discrete x e) (is_in e xs)
 pub all_in : {X : Type 0} (P : X → Type 0) → ((e : X) → Dec (P e)) → (s : List X) → Dec ((e : X) → IsIn e s → P e)
 all_in P d [] = yes (λ e m. absurd m)
 all_in P d (x ∷ xs) =
-    moved (λ t. λ e m. elim m [ inl q ↦ subst P q t.0 | inr r ↦ t.1 e r ]) (λ f. (f x (inl refl), λ e m. f e (inr m))) (both (d x) (all_in P d xs))
+    moved (λ t. λ e m. elim m [
+      | inl q ↦ subst P q t.0
+      | inr r ↦ t.1 e r
+    ]) (λ f. (f x (inl refl), λ e m. f e (inr m))) (both (d x) (all_in P d xs))
 
 -- whether it holds of some member
 pub some_in : {X : Type 0} (P : X → Type 0) → ((e : X) → Dec (P e)) → (s : List X) → Dec ((e : X) × IsIn e s × P e)
@@ -56,15 +59,27 @@ some_in P d (x ∷ xs) =
 
 -- whether a number is positive
 pub is_positive : (z : ℤ) → Dec (pos 0 <ℤ z)
-is_positive z = elim (sign z) [ below p ↦ no (λ q. omega (arith, ints, p, q)) | at_zero p ↦ no (λ q. omega (arith, ints, p, q)) | above p ↦ yes p ]
+is_positive z = elim (sign z) [
+  | below p ↦ no (λ q. omega (arith, ints, p, q))
+  | at_zero p ↦ no (λ q. omega (arith, ints, p, q))
+  | above p ↦ yes p
+]
 
 -- whether it is not negative
 pub is_not_below : (z : ℤ) → Dec (pos 0 ≤ℤ z)
-is_not_below z = elim (sign z) [ below p ↦ no (λ q. omega (arith, ints, p, q)) | at_zero p ↦ yes (omega (arith, ints, p)) | above p ↦ yes (omega (arith, ints, p)) ]
+is_not_below z = elim (sign z) [
+  | below p ↦ no (λ q. omega (arith, ints, p, q))
+  | at_zero p ↦ yes (omega (arith, ints, p))
+  | above p ↦ yes (omega (arith, ints, p))
+]
 
 -- whether it is 0
 pub is_at_zero : (z : ℤ) → Dec (z ≡ pos 0)
-is_at_zero z = elim (sign z) [ below p ↦ no (λ q. omega (arith, ints, p, q)) | at_zero p ↦ yes p | above p ↦ no (λ q. omega (arith, ints, p, q)) ]
+is_at_zero z = elim (sign z) [
+  | below p ↦ no (λ q. omega (arith, ints, p, q))
+  | at_zero p ↦ yes p
+  | above p ↦ no (λ q. omega (arith, ints, p, q))
+]
 
 -- a decision as a test
 abbrev pub true_if : {A : Type 0} → Dec A → Bool
@@ -103,7 +118,8 @@ pub lists_discrete : (q r : List ℕ) → Dec (q ≡ r)
 lists_discrete [] [] = yes refl
 lists_discrete [] (y ∷ r) = no (λ e. (cc))
 lists_discrete (x ∷ q) [] = no (λ e. (cc))
-lists_discrete (x ∷ q) (y ∷ r) = moved (λ t. joined t.0 t.1) (λ e. (parted_first e, parted_rest e)) (both (ℕ_discrete x y) (lists_discrete q r))
+lists_discrete (x ∷ q) (y ∷ r) =
+    moved (λ t. joined t.0 t.1) (λ e. (parted_first e, parted_rest e)) (both (ℕ_discrete x y) (lists_discrete q r))
   where
     -- equal parts
     joined : x ≡ y → q ≡ r → x ∷ q ≡ y ∷ r

@@ -1,6 +1,29 @@
 -- Lists in which no element stands twice.
 use Rattle.std.specs.List.{AllByRecursion, IsDistinct, filter}
-use Rattle.std.specs.Prelude.{Bool, List, [], cond, false, length, map, nat_eq, not, slice_index_or, suc, take, true, zero, ℕ, ◌++◌, ◌+◌, ◌<◌, ◌==◌, ◌∷◌, ◌≡◌, ◌≤◌}
+use Rattle.std.specs.Prelude.{
+  Bool,
+  List,
+  [],
+  cond,
+  false,
+  length,
+  map,
+  nat_eq,
+  not,
+  slice_index_or,
+  suc,
+  take,
+  true,
+  zero,
+  ℕ,
+  ◌++◌,
+  ◌+◌,
+  ◌<◌,
+  ◌==◌,
+  ◌∷◌,
+  ◌≡◌,
+  ◌≤◌,
+}
 use Rattle.std.proofs.Common.{ap, arith, eq-eqb, inl, inr, ne_eqb, refl, subst, sym, ◌∙◌}
 use Rattle.std.proofs.lemmas.Bool.Decides.{nat_tests}
 use Rattle.list_laws.specs.Lists.{AreDistinct, IsAscending, IsIn}
@@ -10,7 +33,8 @@ use Rattle.list_laws.proofs.Members.{from_append, in_left, in_right, mapped_from
 use Rattle.list_laws.proofs.Places.{at_place, in_take}
 
 -- where each stands once, the one at a place is none of those before
-pub apart_place : {X : Type 0} (l : List X) (i : ℕ) (x : X) → AreDistinct l → i < length l → x ≡ slice_index_or l i x → ¬ (IsIn x (take i l))
+pub apart_place : {X : Type 0} (l : List X) (i : ℕ) (x : X) → AreDistinct l → i < length l → x ≡ slice_index_or l i x →
+    ¬ (IsIn x (take i l))
 apart_place [] i x d h e m = absurd (omega arith)
 apart_place (y ∷ l) zero x d h e m = m
 apart_place (y ∷ l) (suc i) x d h e m = elim m [
@@ -28,12 +52,16 @@ distinct_take (suc n) (x ∷ l) d = (λ m. d.0 (in_take n l x m), distinct_take 
 pub distinct_push : {X : Type 0} (l : List X) (x : X) → AreDistinct l → ¬ (IsIn x l) → AreDistinct (l ++ x ∷ [])
 distinct_push [] x d n = (λ m. m, tt)
 distinct_push (y ∷ l) x d n = (
-  λ m. elim (from_append y l (x ∷ []) m) [ inl k ↦ d.0 k | inr k ↦ elim k [ inl e ↦ n (inl (sym e)) | inr none ↦ none ] ],
+  λ m. elim (from_append y l (x ∷ []) m) [
+    | inl k ↦ d.0 k
+    | inr k ↦ elim k [ inl e ↦ n (inl (sym e)) | inr none ↦ none ]
+  ],
   distinct_push l x d.1 (λ m. n (inr m)),
 )
 
 -- images by a function that tells members apart
-pub distinct_map : {X Y : Type 0} (f : X → Y) (l : List X) → ((a b : X) → IsIn a l → IsIn b l → f a ≡ f b → a ≡ b) → AreDistinct l → AreDistinct (map f l)
+pub distinct_map : {X Y : Type 0} (f : X → Y) (l : List X) → ((a b : X) → IsIn a l → IsIn b l → f a ≡ f b → a ≡ b) →
+    AreDistinct l → AreDistinct (map f l)
 distinct_map f [] i d = tt
 distinct_map f (x ∷ l) i d = (
   λ m. (let r = mapped_from f (f x) l m in d.0 (subst (λ v. IsIn v l) (i r.0 x (inr r.1) (inl refl) r.2) r.1)),
@@ -65,13 +93,15 @@ pub at_most : {X : Type 0} (l m : List X) → AreDistinct l → ((x : X) → IsI
 at_most [] m d f = omega arith
 at_most (x ∷ l) m d f =
     let i = f x (inl refl) in
-    let rest = at_most l (without_one x m i) d.1 (λ z k. still_there x z m i (f z (inr k)) (λ e. d.0 (subst (λ v. IsIn v l) (sym e) k))) in
+    let rest = at_most l (without_one x m i) d.1 (λ z k. still_there x z m i (f z (inr k))
+    (λ e. d.0 (subst (λ v. IsIn v l) (sym e) k))) in
     omega (arith, rest, length_without x m i)
 
 -- an ascending list has each member once
 pub distinct_ascending : (l : List ℕ) → IsAscending l → AreDistinct l
 distinct_ascending [] a = tt
-distinct_ascending (x ∷ l) a = (λ m. (let h = below_each x l a.0 a.1 x m in absurd (omega arith)), distinct_ascending l a.1)
+distinct_ascending (x ∷ l) a =
+    (λ m. (let h = below_each x l a.0 a.1 x m in absurd (omega arith)), distinct_ascending l a.1)
 
 -- where each stands once, the last is none of the others
 pub last_apart : (l : List ℕ) (b : ℕ) → AreDistinct (l ++ b ∷ []) → AreDistinct l × ¬ (IsIn b l)
@@ -89,7 +119,8 @@ last_apart (x ∷ l) b d =
 pub without_last : (l : List ℕ) (b : ℕ) → ¬ (IsIn b l) → filter (λ x. not (x == b)) (l ++ b ∷ []) ≡ l
 without_last [] b n = (λ i. cond (not (eq-eqb b b refl i)) (b ∷ []) [])
 without_last (x ∷ l) b n =
-    (λ i. cond (not (ne_eqb x b (λ e. n (inl e)) i)) (x ∷ filter (λ x. not (x == b)) (l ++ b ∷ [])) (filter (λ x. not (x == b)) (l ++ b ∷ [])))
+    (λ i. cond (not (ne_eqb x b (λ e. n (inl e)) i)) (x ∷ filter (λ x. not (x == b)) (l ++ b ∷ []))
+    (filter (λ x. not (x == b)) (l ++ b ∷ [])))
     ∙ ap (λ (m : List ℕ). x ∷ m) (without_last l b (λ i. n (inr i)))
 
 -- no member stands in both parts
@@ -164,7 +195,8 @@ distinct_by_test [] h = tt
 distinct_by_test (x ∷ s) h = (all_above x s (λ y i. below_each x s h.0 h.1 y i), distinct_by_test s h.1)
 
 -- four that are apart
-pub four_once : {X : Type 0} (w x y z : X) → ¬ (x ≡ w) → ¬ (y ≡ w) → ¬ (z ≡ w) → ¬ (y ≡ x) → ¬ (z ≡ x) → ¬ (z ≡ y) → AreDistinct (w ∷ x ∷ y ∷ z ∷ [])
+pub four_once : {X : Type 0} (w x y z : X) → ¬ (x ≡ w) → ¬ (y ≡ w) → ¬ (z ≡ w) → ¬ (y ≡ x) → ¬ (z ≡ x) → ¬ (z ≡ y) →
+    AreDistinct (w ∷ x ∷ y ∷ z ∷ [])
 four_once w x y z xw yw zw yx zx zy = (
   λ m. elim m [ inl e ↦ xw e | inr k ↦ elim k [ inl e ↦ yw e | inr l ↦ elim l [ inl e ↦ zw e | inr none ↦ none ] ] ],
   (

@@ -71,11 +71,13 @@ searched {X} p (x ∷ s) = by_test (p x) refl (searched p s)
     ]
 
 -- the first member is kept, or not
-pub filter_is : {X : Type 0} (p : X → Bool) (x : X) (s : List X) → ((p x ≡ true) × (filter p (x ∷ s) ≡ x ∷ filter p s)) ⊎ ((p x ≡ false) × (filter p (x ∷ s) ≡ filter p s))
+pub filter_is : {X : Type 0} (p : X → Bool) (x : X) (s : List X) → ((p x ≡ true) × (filter p (x ∷ s) ≡ x ∷ filter p s))
+    ⊎ ((p x ≡ false) × (filter p (x ∷ s) ≡ filter p s))
 filter_is {X} p x s = by_test (p x) refl
   where
     -- either way
-    by_test : (b : Bool) → p x ≡ b → ((p x ≡ true) × (filter p (x ∷ s) ≡ x ∷ filter p s)) ⊎ ((p x ≡ false) × (filter p (x ∷ s) ≡ filter p s))
+    by_test : (b : Bool) → p x ≡ b → ((p x ≡ true) × (filter p (x ∷ s) ≡ x ∷ filter p s))
+        ⊎ ((p x ≡ false) × (filter p (x ∷ s) ≡ filter p s))
     by_test true f = inl (f, rw f refl)
     by_test false f = inr (f, rw f refl)
 
@@ -98,17 +100,27 @@ filtered_from {X} p (x ∷ s) e m = elim (filter_is p x s) [
 pub filtered_true : {X : Type 0} (p : X → Bool) (s : List X) (e : X) → IsIn e s → p e ≡ true → IsIn e (filter p s)
 filtered_true p [] e m t = absurd m
 filtered_true {X} p (x ∷ s) e m t = elim (filter_is p x s) [
-  | inl f ↦ subst (λ (v : List X). IsIn e v) (sym f.1) (elim m [ inl q ↦ inl q | inr r ↦ inr (filtered_true p s e r t) ])
-  | inr f ↦ subst (λ (v : List X). IsIn e v) (sym f.1) (elim m [ inl q ↦ absurd (not_both (p x) (subst (λ v. p v ≡ true) (sym q) t) f.0) | inr r ↦ filtered_true p s e r t ])
+  | inl f ↦ subst (λ (v : List X). IsIn e v) (sym f.1) (elim m [
+    | inl q ↦ inl q
+    | inr r ↦ inr (filtered_true p s e r t)
+  ])
+  | inr f ↦ subst (λ (v : List X). IsIn e v) (sym f.1) (elim m [
+    | inl q ↦ absurd (not_both (p x) (subst (λ v. p v ≡ true) (sym q) t) f.0)
+    | inr r ↦ filtered_true p s e r t
+  ])
 ]
 
 -- two tests in turn are one that needs both
-pub filter_and : {X : Type 0} (p q r : X → Bool) (l : List X) → ((x : X) → (q x && p x) ≡ r x) → filter p (filter q l) ≡ filter r l
+pub filter_and : {X : Type 0} (p q r : X → Bool) (l : List X) → ((x : X) → (q x && p x) ≡ r x) →
+    filter p (filter q l) ≡ filter r l
 filter_and p q r [] f = refl
 filter_and {X} p q r (x ∷ l) f = by (q x) (r x) (f x) (filter_and p q r l f)
   where
-    by : (a c : Bool) → (a && p x) ≡ c → filter p (filter q l) ≡ filter r l → filter p (cond a (x ∷ filter q l) (filter q l)) ≡ cond c (x ∷ filter r l) (filter r l)
-    by true c e r' = ap (λ b. cond b (x ∷ filter p (filter q l)) (filter p (filter q l))) e ∙ ap (λ (m : List X). cond c (x ∷ m) m) r'
+    by : (a c : Bool) → (a && p x) ≡ c → filter p (filter q l) ≡ filter r l →
+        filter p (cond a (x ∷ filter q l) (filter q l)) ≡ cond c (x ∷ filter r l) (filter r l)
+    by true c e r' =
+        ap (λ b. cond b (x ∷ filter p (filter q l)) (filter p (filter q l))) e
+        ∙ ap (λ (m : List X). cond c (x ∷ m) m) r'
     by false c e r' = r' ∙ ap (λ b. cond b (x ∷ filter r l) (filter r l)) e
 
 -- a test that each passes keeps the list
@@ -122,12 +134,14 @@ none_pass p [] f = refl
 none_pass p (x ∷ l) f = rw (f x) (none_pass p l f)
 
 -- tests that agree on the members of a list filter it alike
-pub same_filter : {X : Type 0} (p q : X → Bool) (l : List X) → ((x : X) → IsIn x l → p x ≡ q x) → filter p l ≡ filter q l
+pub same_filter : {X : Type 0} (p q : X → Bool) (l : List X) → ((x : X) → IsIn x l → p x ≡ q x) →
+    filter p l ≡ filter q l
 same_filter p q [] f = refl
 same_filter p q (x ∷ l) f = rw (f x (inl refl), same_filter p q l (λ y m. f y (inr m))) refl
 
 -- a test after a weaker one is the test alone
-pub filter_twice : {X : Type 0} (p q : X → Bool) (l : List X) → ((x : X) → p x ≡ true → q x ≡ true) → filter p (filter q l) ≡ filter p l
+pub filter_twice : {X : Type 0} (p q : X → Bool) (l : List X) → ((x : X) → p x ≡ true → q x ≡ true) →
+    filter p (filter q l) ≡ filter p l
 filter_twice p q [] f = refl
 filter_twice p q (x ∷ l) f = elim (filter_is q x l) [
   | inl k ↦ ap (filter p) k.1 ∙ ap (λ m. cond (p x) (x ∷ m) m) (filter_twice p q l f)
@@ -151,11 +165,13 @@ pub passes : {X : Type 0} (t : X → Bool) (xs : List X) (y : X) → IsIn y (fil
 passes t xs y m = (filtered_from t xs y m).1
 
 -- a test of the images keeps the images of those that pass it through the function
-pub filter_map : {X Y : Type 0} (f : X → Y) (t : Y → Bool) (xs : List X) → filter t (map f xs) ≡ map f (filter (λ x. t (f x)) xs)
+pub filter_map : {X Y : Type 0} (f : X → Y) (t : Y → Bool) (xs : List X) →
+    filter t (map f xs) ≡ map f (filter (λ x. t (f x)) xs)
 filter_map f t [] = refl
 filter_map {X} {Y} f t (x ∷ xs) = rw (filter_map f t xs) (by (t (f x)))
   where
-    by : (b : Bool) → cond b (f x ∷ map f (filter (λ x. t (f x)) xs)) (map f (filter (λ x. t (f x)) xs)) ≡ map f (cond b (x ∷ filter (λ x. t (f x)) xs) (filter (λ x. t (f x)) xs))
+    by : (b : Bool) → cond b (f x ∷ map f (filter (λ x. t (f x)) xs)) (map f (filter (λ x. t (f x)) xs))
+        ≡ map f (cond b (x ∷ filter (λ x. t (f x)) xs) (filter (λ x. t (f x)) xs))
     by true = refl
     by false = refl
 
@@ -166,7 +182,8 @@ pub record HasPair {X : Type 0} (f : X → X → Bool) : Type 0 where
   pub holds : f a b ≡ true
 
 -- a member of u and one of v that pass, or none do
-pub search_pair : {X : Type 0} (f : X → X → Bool) (u v : List X) → HasPair f ⊎ ((a b : X) → IsIn a u → IsIn b v → f a b ≡ false)
+pub search_pair : {X : Type 0} (f : X → X → Bool) (u v : List X) →
+    HasPair f ⊎ ((a b : X) → IsIn a u → IsIn b v → f a b ≡ false)
 search_pair f [] v = inr (λ a b m. absurd m)
 search_pair f (x ∷ u) v = elim (look (f x) v) [
   | inr s ↦ inl (record { a = x; b = s.at; holds = s.holds })

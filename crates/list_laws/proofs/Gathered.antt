@@ -13,11 +13,14 @@ pub record Gathered {X Y : Type 0} (R : X → Y → Type 0) (xs : List X) (n : �
 
 -- at the start nothing is gathered
 pub gather_none : {X Y : Type 0} (R : X → Y → Type 0) (xs : List X) (old : List Y) → Gathered R xs 0 old old
-gather_none R xs old = record { each = λ y m. inl m; kept = λ y m. m; all = each_none (λ x. (y : _) → R x y → IsIn y old) xs }
+gather_none R xs old =
+    record { each = λ y m. inl m; kept = λ y m. m; all = each_none (λ x. (y : _) → R x y → IsIn y old) xs }
 
 -- the next element, and a list with what it gives
-pub gather_step : {X Y : Type 0} (R : X → Y → Type 0) (xs : List X) (n : ℕ) (old list new : List Y) (x d : X) → n < length xs → x ≡ slice_index_or xs n d →
-    ((y : Y) → IsIn y new → IsIn y list ⊎ R x y) → ((y : Y) → IsIn y list → IsIn y new) → ((y : Y) → R x y → IsIn y new) → Gathered R xs n old list → Gathered R xs (n + 1) old new
+pub gather_step : {X Y : Type 0} (R : X → Y → Type 0) (xs : List X) (n : ℕ) (old list new : List Y) (x d : X) →
+    n < length xs → x ≡ slice_index_or xs n d →
+    ((y : Y) → IsIn y new → IsIn y list ⊎ R x y) → ((y : Y) → IsIn y list → IsIn y new) →
+    ((y : Y) → R x y → IsIn y new) → Gathered R xs n old list → Gathered R xs (n + 1) old new
 gather_step {X} {Y} R xs n old list new x d h e f g k s = record {
   each = λ y m. elim (f y m) [ inl i ↦ s.each y i | inr r ↦ inr (x, at_place xs n x d h e, r) ];
   kept = λ y m. g y (s.kept y m);
@@ -25,17 +28,25 @@ gather_step {X} {Y} R xs n old list new x d h e f g k s = record {
 }
 
 -- the next element, which gives one, and that one is pushed
-pub gather_push : {X Y : Type 0} (R : X → Y → Type 0) (xs : List X) (n : ℕ) (old list new : List Y) (x d : X) (y : Y) → n < length xs → x ≡ slice_index_or xs n d →
+pub gather_push : {X Y : Type 0} (R : X → Y → Type 0) (xs : List X) (n : ℕ) (old list new : List Y) (x d : X) (y : Y) →
+    n < length xs → x ≡ slice_index_or xs n d →
     R x y → ((z : Y) → R x z → y ≡ z) → new ≡ list ++ y ∷ [] → Gathered R xs n old list → Gathered R xs (n + 1) old new
 gather_push R xs n old list new x d y h e r f p s =
-    gather_step R xs n old list new x d h e (λ z m. elim (in_pushed list new y z p m) [ inl k ↦ inl k | inr q ↦ inr (subst (R x) q r) ]) (λ z m. pushed_old list new y z p m) (λ z t. subst (λ v. IsIn v new) (f z t) (pushed_new list new y p)) s
+    gather_step R xs n old list new x d h e (λ z m. elim (in_pushed list new y z p m) [
+      | inl k ↦ inl k
+      | inr q ↦ inr (subst (R x) q r)
+    ]) (λ z m. pushed_old list new y z p m) (λ z t. subst (λ v. IsIn v new) (f z t) (pushed_new list new y p)) s
 
 -- the next element, which gives none
-pub gather_skip : {X Y : Type 0} (R : X → Y → Type 0) (xs : List X) (n : ℕ) (old list : List Y) (x d : X) → n < length xs → x ≡ slice_index_or xs n d → ((z : Y) → R x z → ⊥) → Gathered R xs n old list → Gathered R xs (n + 1) old list
-gather_skip R xs n old list x d h e f s = gather_step R xs n old list list x d h e (λ z m. inl m) (λ z m. m) (λ z t. absurd (f z t)) s
+pub gather_skip : {X Y : Type 0} (R : X → Y → Type 0) (xs : List X) (n : ℕ) (old list : List Y) (x d : X) →
+    n < length xs → x ≡ slice_index_or xs n d → ((z : Y) → R x z → ⊥) → Gathered R xs n old list →
+    Gathered R xs (n + 1) old list
+gather_skip R xs n old list x d h e f s =
+    gather_step R xs n old list list x d h e (λ z m. inl m) (λ z m. m) (λ z t. absurd (f z t)) s
 
 -- at the end all that the elements give is there
-pub gather_all : {X Y : Type 0} (R : X → Y → Type 0) (xs : List X) (n : ℕ) (old list : List Y) → length xs ≤ n → Gathered R xs n old list → (x : X) → IsIn x xs → (y : Y) → R x y → IsIn y list
+pub gather_all : {X Y : Type 0} (R : X → Y → Type 0) (xs : List X) (n : ℕ) (old list : List Y) → length xs ≤ n →
+    Gathered R xs n old list → (x : X) → IsIn x xs → (y : Y) → R x y → IsIn y list
 gather_all {X} {Y} R xs n old list h s = each_taken (λ x. (y : Y) → R x y → IsIn y list) xs n h s.all
 
 -- What was made of the first n elements, one of each.
@@ -45,15 +56,22 @@ pub record Made {X Y : Type 0} (R : X → Y → Type 0) (xs : List X) (n : ℕ) 
 
 -- at the start nothing is made
 pub made_none : {X Y : Type 0} (R : X → Y → Type 0) (xs : List X) (list : List Y) → list ≡ [] → Made R xs 0 list
-made_none {X} {Y} R xs list e = record { each = λ y m. absurd (subst (IsIn y) e m); some = each_none (λ x. (y : Y) × IsIn y list × R x y) xs }
+made_none {X} {Y} R xs list e =
+    record { each = λ y m. absurd (subst (IsIn y) e m); some = each_none (λ x. (y : Y) × IsIn y list × R x y) xs }
 
 -- one is made of the next element
-pub made_more : {X Y : Type 0} (R : X → Y → Type 0) (xs : List X) (n : ℕ) (list new : List Y) (x d : X) (y : Y) → n < length xs → x ≡ slice_index_or xs n d → R x y → new ≡ list ++ y ∷ [] → Made R xs n list → Made R xs (n + 1) new
+pub made_more : {X Y : Type 0} (R : X → Y → Type 0) (xs : List X) (n : ℕ) (list new : List Y) (x d : X) (y : Y) →
+    n < length xs → x ≡ slice_index_or xs n d → R x y → new ≡ list ++ y ∷ [] → Made R xs n list → Made R xs (n + 1) new
 made_more {X} {Y} R xs n list new x d y h e r p s = record {
-  each = λ z m. elim (in_pushed list new y z p m) [ inl k ↦ s.each z k | inr q ↦ (x, at_place xs n x d h e, subst (R x) q r) ];
-  some = each_more (λ x. (y : Y) × IsIn y new × R x y) xs n x d h e (λ z m. (let t = s.some z m in (t.0, pushed_old list new y t.0 p t.1, t.2))) (y, pushed_new list new y p, r);
+  each = λ z m. elim (in_pushed list new y z p m) [
+    | inl k ↦ s.each z k
+    | inr q ↦ (x, at_place xs n x d h e, subst (R x) q r)
+  ];
+  some = each_more (λ x. (y : Y) × IsIn y new × R x y) xs n x d h e
+      (λ z m. (let t = s.some z m in (t.0, pushed_old list new y t.0 p t.1, t.2))) (y, pushed_new list new y p, r);
 }
 
 -- at the end one is made of each
-pub made_all : {X Y : Type 0} (R : X → Y → Type 0) (xs : List X) (n : ℕ) (list : List Y) → length xs ≤ n → Made R xs n list → (x : X) → IsIn x xs → (y : Y) × IsIn y list × R x y
+pub made_all : {X Y : Type 0} (R : X → Y → Type 0) (xs : List X) (n : ℕ) (list : List Y) → length xs ≤ n →
+    Made R xs n list → (x : X) → IsIn x xs → (y : Y) × IsIn y list × R x y
 made_all {X} {Y} R xs n list h s = each_taken (λ x. (y : Y) × IsIn y list × R x y) xs n h s.some

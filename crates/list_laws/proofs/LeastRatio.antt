@@ -11,10 +11,15 @@ use Rattle.list_laws.proofs.Zero.{clash_above}
 
 -- of two numbers one is at most the other
 pub compare : (a b : ℤ) → (a ≤ℤ b) ⊎ (b ≤ℤ a)
-compare a b = elim (sign (a +ℤ neg_ℤ b)) [ below p ↦ inl (omega (arith, ints, p)) | at_zero p ↦ inl (omega (arith, ints, p)) | above p ↦ inr (omega (arith, ints, p)) ]
+compare a b = elim (sign (a +ℤ neg_ℤ b)) [
+  | below p ↦ inl (omega (arith, ints, p))
+  | at_zero p ↦ inl (omega (arith, ints, p))
+  | above p ↦ inr (omega (arith, ints, p))
+]
 
 -- n1 / d1 ≤ n2 / d2 ≤ n3 / d3
-pub ratio_chain : (n1 d1 n2 d2 n3 d3 : ℤ) → pos 0 <ℤ d1 → pos 0 <ℤ d2 → pos 0 <ℤ d3 → (n1 *ℤ d2) ≤ℤ (n2 *ℤ d1) → (n2 *ℤ d3) ≤ℤ (n3 *ℤ d2) → (n1 *ℤ d3) ≤ℤ (n3 *ℤ d1)
+pub ratio_chain : (n1 d1 n2 d2 n3 d3 : ℤ) → pos 0 <ℤ d1 → pos 0 <ℤ d2 → pos 0 <ℤ d3 → (n1 *ℤ d2) ≤ℤ (n2 *ℤ d1) →
+    (n2 *ℤ d3) ≤ℤ (n3 *ℤ d2) → (n1 *ℤ d3) ≤ℤ (n3 *ℤ d1)
 ratio_chain n1 d1 n2 d2 n3 d3 p1 p2 p3 h k =
     let a : pos 0 ≤ℤ (n2 *ℤ d1 +ℤ neg_ℤ (n1 *ℤ d2)) = omega (arith, ints) in
     let b : pos 0 ≤ℤ (n3 *ℤ d2 +ℤ neg_ℤ (n2 *ℤ d3)) = omega (arith, ints) in
@@ -28,7 +33,8 @@ ratio_chain n1 d1 n2 d2 n3 d3 p1 p2 p3 h k =
     omega (arith, ints)
 
 -- n1 / d1 < n2 / d2 < n3 / d3
-pub ratio_chain_less : (n1 d1 n2 d2 n3 d3 : ℤ) → pos 0 <ℤ d1 → pos 0 <ℤ d2 → pos 0 <ℤ d3 → (n1 *ℤ d2) <ℤ (n2 *ℤ d1) → (n2 *ℤ d3) <ℤ (n3 *ℤ d2) → (n1 *ℤ d3) <ℤ (n3 *ℤ d1)
+pub ratio_chain_less : (n1 d1 n2 d2 n3 d3 : ℤ) → pos 0 <ℤ d1 → pos 0 <ℤ d2 → pos 0 <ℤ d3 → (n1 *ℤ d2) <ℤ (n2 *ℤ d1) →
+    (n2 *ℤ d3) <ℤ (n3 *ℤ d2) → (n1 *ℤ d3) <ℤ (n3 *ℤ d1)
 ratio_chain_less n1 d1 n2 d2 n3 d3 p1 p2 p3 h k =
     let a : pos 0 ≤ℤ (n2 *ℤ d1 +ℤ neg_ℤ (n1 *ℤ d2)) = omega (arith, ints) in
     let b : pos 0 <ℤ (n3 *ℤ d2 +ℤ neg_ℤ (n2 *ℤ d3)) = omega (arith, ints) in
@@ -54,10 +60,41 @@ with_head {X} num den x xs f = elim (sign (den x)) [
   | below q ↦ without (omega (arith, ints, q))
   | at_zero q ↦ without (omega (arith, ints, q))
   | above q ↦ elim f [
-    | inl n ↦ inr (x, record { found = inl refl; positive = q; least = λ y m p. elim m [ inl e ↦ itself y e | inr r ↦ absurd (clash_above (den y) p (n y r)) ] })
+    | inl n ↦ inr (
+      x,
+      record {
+        found = inl refl;
+        positive = q;
+        least = λ y m p. elim m [
+          | inl e ↦ itself y e
+          | inr r ↦ absurd (clash_above (den y) p (n y r))
+        ];
+      },
+    )
     | inr l ↦ elim (compare (num l.0 *ℤ den x) (num x *ℤ den l.0)) [
-      | inl k ↦ inr (l.0, record { found = inr l.1.found; positive = l.1.positive; least = λ y m p. elim m [ inl e ↦ at_head l.0 k y e | inr r ↦ l.1.least y r p ] })
-      | inr k ↦ inr (x, record { found = inl refl; positive = q; least = λ y m p. elim m [ inl e ↦ itself y e | inr r ↦ ratio_chain (num x) (den x) (num l.0) (den l.0) (num y) (den y) q l.1.positive p k (l.1.least y r p) ] })
+      | inl k ↦ inr (
+        l.0,
+        record {
+          found = inr l.1.found;
+          positive = l.1.positive;
+          least = λ y m p. elim m [
+            | inl e ↦ at_head l.0 k y e
+            | inr r ↦ l.1.least y r p
+          ];
+        },
+      )
+      | inr k ↦ inr (
+        x,
+        record {
+          found = inl refl;
+          positive = q;
+          least = λ y m p. elim m [
+            | inl e ↦ itself y e
+            | inr r ↦ ratio_chain (num x) (den x) (num l.0) (den l.0) (num y) (den y) q l.1.positive p k
+                (l.1.least y r p)
+          ];
+        },
+      )
     ]
   ]
 ]
@@ -65,7 +102,17 @@ with_head {X} num den x xs f = elim (sign (den x)) [
     without : den x ≤ℤ pos 0 → Found num den (x ∷ xs)
     without z = elim f [
       | inl n ↦ inl (λ y m. elim m [ inl e ↦ subst (λ v. den v ≤ℤ pos 0) e z | inr r ↦ n y r ])
-      | inr l ↦ inr (l.0, record { found = inr l.1.found; positive = l.1.positive; least = λ y m p. elim m [ inl e ↦ absurd (clash_above (den y) p (subst (λ v. den v ≤ℤ pos 0) e z)) | inr r ↦ l.1.least y r p ] })
+      | inr l ↦ inr (
+        l.0,
+        record {
+          found = inr l.1.found;
+          positive = l.1.positive;
+          least = λ y m p. elim m [
+            | inl e ↦ absurd (clash_above (den y) p (subst (λ v. den v ≤ℤ pos 0) e z))
+            | inr r ↦ l.1.least y r p
+          ];
+        },
+      )
     ]
 
     itself : (y : X) → x ≡ y → (num x *ℤ den y) ≤ℤ (num y *ℤ den x)

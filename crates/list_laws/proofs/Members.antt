@@ -20,7 +20,10 @@ in_right e (x ∷ l) m i = inr (in_right e l m i)
 -- a member of both together
 pub from_append : {X : Type 0} (e : X) (l m : List X) → IsIn e (l ++ m) → IsIn e l ⊎ IsIn e m
 from_append e [] m i = inr i
-from_append e (x ∷ l) m i = elim i [ inl q ↦ inl (inl q) | inr r ↦ elim (from_append e l m r) [ inl k ↦ inl (inr k) | inr k ↦ inr k ] ]
+from_append e (x ∷ l) m i = elim i [
+  | inl q ↦ inl (inl q)
+  | inr r ↦ elim (from_append e l m r) [ inl k ↦ inl (inr k) | inr k ↦ inr k ]
+]
 
 -- f of a member
 pub mapped_true : {X Y : Type 0} (f : X → Y) (e : X) (l : List X) → IsIn e l → IsIn (f e) (map f l)
@@ -30,16 +33,21 @@ mapped_true f e (x ∷ l) i = elim i [ inl q ↦ inl (ap f q) | inr r ↦ inr (m
 -- and back
 pub mapped_from : {X Y : Type 0} (f : X → Y) (e : Y) (l : List X) → IsIn e (map f l) → (x : X) × IsIn x l × (f x ≡ e)
 mapped_from f e [] i = absurd i
-mapped_from f e (x ∷ l) i = elim i [ inl q ↦ (x, inl refl, q) | inr r ↦ (let k = mapped_from f e l r in (k.0, inr k.1, k.2)) ]
+mapped_from f e (x ∷ l) i = elim i [
+  | inl q ↦ (x, inl refl, q)
+  | inr r ↦ (let k = mapped_from f e l r in (k.0, inr k.1, k.2))
+]
 
 -- a member of what f gives for a member
-pub in_flat : {X Y : Type 0} (f : X → List Y) (l : List X) (x : X) (y : Y) → IsIn x l → IsIn y (f x) → IsIn y (flat_map f l)
+pub in_flat : {X Y : Type 0} (f : X → List Y) (l : List X) (x : X) (y : Y) → IsIn x l → IsIn y (f x) →
+    IsIn y (flat_map f l)
 in_flat f [] x y m i = absurd m
 in_flat f (z ∷ l) x y (inl e) i = in_left y (f z) (flat_map f l) (subst (λ v. IsIn y (f v)) (sym e) i)
 in_flat f (z ∷ l) x y (inr m) i = in_right y (f z) (flat_map f l) (in_flat f l x y m i)
 
 -- and back
-pub flat_from : {X Y : Type 0} (f : X → List Y) (l : List X) (y : Y) → IsIn y (flat_map f l) → (x : X) × IsIn x l × IsIn y (f x)
+pub flat_from : {X Y : Type 0} (f : X → List Y) (l : List X) (y : Y) → IsIn y (flat_map f l) → (x : X) × IsIn x l
+    × IsIn y (f x)
 flat_from f [] y i = absurd i
 flat_from f (z ∷ l) y i = elim (from_append y (f z) (flat_map f l) i) [
   | inl k ↦ (z, inl refl, k)
@@ -48,7 +56,10 @@ flat_from f (z ∷ l) y i = elim (from_append y (f z) (flat_map f l) i) [
 
 -- a member of a list with one more
 pub in_pushed : {X : Type 0} (l m : List X) (x y : X) → m ≡ l ++ x ∷ [] → IsIn y m → IsIn y l ⊎ (x ≡ y)
-in_pushed l m x y e k = elim (from_append y l (x ∷ []) (subst (IsIn y) e k)) [ inl i ↦ inl i | inr i ↦ elim i [ inl q ↦ inr q | inr n ↦ absurd n ] ]
+in_pushed l m x y e k = elim (from_append y l (x ∷ []) (subst (IsIn y) e k)) [
+  | inl i ↦ inl i
+  | inr i ↦ elim i [ inl q ↦ inr q | inr n ↦ absurd n ]
+]
 
 -- what was there is there
 pub pushed_old : {X : Type 0} (l m : List X) (x y : X) → m ≡ l ++ x ∷ [] → IsIn y l → IsIn y m
@@ -88,10 +99,12 @@ contains_in (y ∷ l) x (inr i) = let r = contains_in l x i in (suc r.0, (let h 
 
 -- a member of a list is one of each arrangement of it
 pub in_permutation : {X : Type 0} (xs ys : List X) (x : X) → IsPermutation xs ys → IsIn x xs → IsIn x ys
-in_permutation {X} xs ys x p i = let c = Contains-permutation xs ys x p (contains_in xs x i) in subst (λ (z : X). IsIn z ys) c.2 (at_in ys c.0 x c.1)
+in_permutation {X} xs ys x p i =
+    let c = Contains-permutation xs ys x p (contains_in xs x i) in subst (λ (z : X). IsIn z ys) c.2 (at_in ys c.0 x c.1)
 
 -- where a member stands
-pub split_at : {X : Type 0} (xs : List X) (x : X) → IsIn x xs → (before : List X) × (behind : List X) × (xs ≡ before ++ x ∷ behind)
+pub split_at : {X : Type 0} (xs : List X) (x : X) → IsIn x xs → (before : List X) × (behind : List X)
+    × (xs ≡ before ++ x ∷ behind)
 split_at [] x i = absurd i
 split_at {X} (y ∷ xs) x (inl e) = ([], xs, ap (λ (z : X). z ∷ xs) e)
 split_at {X} (y ∷ xs) x (inr i) = let r = split_at xs x i in (y ∷ r.0, r.1, ap (λ (l : List X). y ∷ l) r.2)
@@ -106,7 +119,8 @@ all_of_each P xs h k d l = h (get_or xs k d) (at_in xs k d l)
 
 -- and a member of an arrangement is one of the list
 pub in_moved : {X : Type 0} (xs ys : List X) (x : X) → IsPermutation xs ys → IsIn x ys → IsIn x xs
-in_moved xs ys x p i = each_of_all (λ y. IsIn y xs) ys (All-permutation (λ y. IsIn y xs) xs ys p (λ k d h. at_in xs k d h)) x i
+in_moved xs ys x p i =
+    each_of_all (λ y. IsIn y xs) ys (All-permutation (λ y. IsIn y xs) xs ys p (λ k d h. at_in xs k d h)) x i
 
 -- what holds of each member, as std says it
 pub all_by : {X : Type 0} (P : X → Type 0) (l : List X) → ((y : X) → IsIn y l → P y) → AllByRecursion P l
@@ -136,7 +150,10 @@ not_among s p f i = let t = among_true p s i in cc (t, f)
 -- what holds of three points holds of one of them
 pub of_three : (P : ℕ → Type 0) {e a b c : ℕ} → IsIn e (a ∷ b ∷ c ∷ []) → P a → P b → P c → P e
 of_three P m pa pb pc =
-    elim m [ inl q ↦ subst P q pa | inr r ↦ elim r [ inl q ↦ subst P q pb | inr u ↦ elim u [ inl q ↦ subst P q pc | inr none ↦ absurd none ] ] ]
+    elim m [
+      | inl q ↦ subst P q pa
+      | inr r ↦ elim r [ inl q ↦ subst P q pb | inr u ↦ elim u [ inl q ↦ subst P q pc | inr none ↦ absurd none ] ]
+    ]
 
 -- an empty list has no members
 pub none_in : {X : Type 0} (l : List X) (x : X) → length l ≡ 0 → IsIn x l → ⊥

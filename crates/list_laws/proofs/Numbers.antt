@@ -2,7 +2,26 @@
 use Rattle.std.specs.Cmp.{nat_cmp_is}
 use Rattle.std.specs.Cmp.Lexicographic.{slice_cmp}
 use Rattle.std.specs.Ordering.{is_eq, is_lt, nat_cmp}
-use Rattle.std.specs.Prelude.{List, false, nat_lt, refl, suc, true, zero, ℕ, ◌%◌, ◌*◌, ◌+◌, ◌-◌, ◌<◌, ◌==◌, ◌≡◌, ◌≢◌, ◌≤◌, ◌⊎◌}
+use Rattle.std.specs.Prelude.{
+  List,
+  false,
+  nat_lt,
+  refl,
+  suc,
+  true,
+  zero,
+  ℕ,
+  ◌%◌,
+  ◌*◌,
+  ◌+◌,
+  ◌-◌,
+  ◌<◌,
+  ◌==◌,
+  ◌≡◌,
+  ◌≢◌,
+  ◌≤◌,
+  ◌⊎◌,
+}
 use Rattle.std.specs.declared.cmp.Ordering.{Ordering}
 use Rattle.std.specs.declared.cmp.Ordering.TheVariants.{Equal, Greater, Less}
 use Rattle.std.proofs.Common.{Bool, ap, arith, inl, inr, sym, ◌∙◌}
@@ -81,11 +100,13 @@ is_less Equal e = cc
 is_less Greater e = cc
 
 -- how two numbers stand
-pub ordered : (x y : ℕ) → ((x < y) × (nat_cmp x y ≡ Less)) ⊎ ((x ≡ y) × (nat_cmp x y ≡ Equal)) ⊎ ((y < x) × (nat_cmp x y ≡ Greater))
+pub ordered : (x y : ℕ) → ((x < y) × (nat_cmp x y ≡ Less)) ⊎ ((x ≡ y) × (nat_cmp x y ≡ Equal))
+    ⊎ ((y < x) × (nat_cmp x y ≡ Greater))
 ordered x y = by_tests (nat_lt x y) (x == y) refl refl
   where
     -- by the two tests
-    by_tests : (t u : Bool) → nat_lt x y ≡ t → (x == y) ≡ u → ((x < y) × (nat_cmp x y ≡ Less)) ⊎ ((x ≡ y) × (nat_cmp x y ≡ Equal)) ⊎ ((y < x) × (nat_cmp x y ≡ Greater))
+    by_tests : (t u : Bool) → nat_lt x y ≡ t → (x == y) ≡ u → ((x < y) × (nat_cmp x y ≡ Less))
+        ⊎ ((x ≡ y) × (nat_cmp x y ≡ Equal)) ⊎ ((y < x) × (nat_cmp x y ≡ Greater))
     by_tests true u e f = inl (grind (arith, nat_tests), rw e refl)
     by_tests false true e f = inr (inl (grind (arith, nat_tests), rw (e, f) refl))
     by_tests false false e f = inr (inr (grind (arith, nat_tests), rw (e, f) refl))

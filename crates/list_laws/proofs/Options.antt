@@ -1,6 +1,34 @@
 -- Options and results: what is in them.
 use Rattle.std.specs.Option.{option_map}
-use Rattle.std.specs.Prelude.{Err, IfSome, IsSome, IsSomeAnd, List, MatchOption, None, Ok, OnErr, Option, Result, Some, [], false, is_some, length, replicate, slice_index_or, suc, true, unwrap_or, zero, ℕ, ◌<◌, ◌∷◌, ◌≡◌, ◌≤◌}
+use Rattle.std.specs.Prelude.{
+  Err,
+  IfSome,
+  IsSome,
+  IsSomeAnd,
+  List,
+  MatchOption,
+  None,
+  Ok,
+  OnErr,
+  Option,
+  Result,
+  Some,
+  [],
+  false,
+  is_some,
+  length,
+  replicate,
+  slice_index_or,
+  suc,
+  true,
+  unwrap_or,
+  zero,
+  ℕ,
+  ◌<◌,
+  ◌∷◌,
+  ◌≡◌,
+  ◌≤◌,
+}
 use Rattle.std.proofs.Common.{ap, arith, refl, subst, sym}
 
 -- an option of which something is said is there
@@ -77,7 +105,8 @@ none_is None e = refl
 none_is (Some x) e = absurd (cc e)
 
 -- what is said of an option that is not Some
-pub at_none : {X : Type 0} (o : Option X) (P : Type 0) (Q : X → Type 0) → ((x : X) → ¬ (o ≡ Some x)) → MatchOption o P Q → P
+pub at_none : {X : Type 0} (o : Option X) (P : Type 0) (Q : X → Type 0) → ((x : X) → ¬ (o ≡ Some x)) →
+    MatchOption o P Q → P
 at_none None P Q n m = m
 at_none (Some x) P Q n m = absurd (n x refl)
 
@@ -103,9 +132,12 @@ pub to_some : {X : Type 0} (P : X → Type 0) (o : Option X) (x : X) → o ≡ S
 to_some P o x e h = subst (λ o. IsSomeAnd o P) (sym e) h
 
 -- equal pairs have equal parts
-pub same_pair : {X Y : Type 0} (a c : X) (b d : Y) → ◌≡◌ {A = Option (X × Y)} (Some (a, b)) (Some (c, d)) → (a ≡ c) × (b ≡ d)
-same_pair {X} {Y} a c b d e =
-    (ap (λ (o : Option (X × Y)). unwrap_or (option_map (λ p. p.0) o) a) e, ap (λ (o : Option (X × Y)). unwrap_or (option_map (λ p. p.1) o) b) e)
+pub same_pair : {X Y : Type 0} (a c : X) (b d : Y) → ◌≡◌ {A = Option (X × Y)} (Some (a, b)) (Some (c, d)) →
+    (a ≡ c) × (b ≡ d)
+same_pair {X} {Y} a c b d e = (
+  ap (λ (o : Option (X × Y)). unwrap_or (option_map (λ p. p.0) o) a) e,
+  ap (λ (o : Option (X × Y)). unwrap_or (option_map (λ p. p.1) o) b) e,
+)
 
 -- an option of whose value something is known is there
 pub and_known : {X : Type 0} (P : X → Type 0) (o : Option X) → IsSomeAnd o P → IsSome o

@@ -2,7 +2,17 @@
 use Rattle.std.specs.Prelude.{◌≡◌, Bool, true, false, List, [], ◌∷◌, ◌⊎◌}
 use Rattle.std.proofs.Common.{refl, ap, ap₂, sym, ◌∙◌, inl, inr, subst}
 use Rattle.list_laws.specs.Lists.{IsIn, AreDistinct}
-use Rattle.list_laws.specs.Laws.{xor, odd, IsGraph, HasAnother, Handshake, AnotherOfEven, NoneIsEven, OneIsOdd, TwoAreEven}
+use Rattle.list_laws.specs.Laws.{
+  xor,
+  odd,
+  IsGraph,
+  HasAnother,
+  Handshake,
+  AnotherOfEven,
+  NoneIsEven,
+  OneIsOdd,
+  TwoAreEven,
+}
 use Rattle.list_laws.proofs.Booleans.{true_or_false}
 
 -- ---- exclusive or
@@ -54,7 +64,8 @@ odd_same p q e (x ∷ xs) = ap₂ xor (e x) (odd_same p q e xs)
 pub even_degrees : {X : Type 0} (m : X → X → Bool) → IsGraph m → (xs : List X) → odd (λ x. odd (m x) xs) xs ≡ false
 even_degrees m g [] = refl
 even_degrees m g (z ∷ xs) =
-    ap₂ (λ a b. xor (xor a (odd (m z) xs)) b) (g.loose z) (odd_xor (λ x. m x z) (λ x. odd (m x) xs) xs ∙ ap₂ xor (odd_same (λ x. m x z) (m z) (λ x. g.both x z) xs) (even_degrees m g xs))
+    ap₂ (λ a b. xor (xor a (odd (m z) xs)) b) (g.loose z) (odd_xor (λ x. m x z) (λ x. odd (m x) xs) xs
+    ∙ ap₂ xor (odd_same (λ x. m x z) (m z) (λ x. g.both x z) xs) (even_degrees m g xs))
     ∙ cancel (odd (m z) xs) false
 
 -- the laws of specs/Lists
@@ -90,7 +101,8 @@ pub odd_some : {X : Type 0} (p : X → Bool) (xs : List X) → odd p xs ≡ true
 odd_some p xs o = elim (look p xs) [ inl n ↦ absurd (true≢false (sym o ∙ none_even p xs n)) | inr s ↦ s ]
 
 -- an even number, and one of them: so another
-pub another : {X : Type 0} (p : X → Bool) (x : X) (xs : List X) → AreDistinct xs → IsIn x xs → p x ≡ true → odd p xs ≡ false → HasAnother p x xs
+pub another : {X : Type 0} (p : X → Bool) (x : X) (xs : List X) → AreDistinct xs → IsIn x xs → p x ≡ true →
+    odd p xs ≡ false → HasAnother p x xs
 another p x [] d m t o = absurd m
 another {X} p x (z ∷ xs) d m t o = elim m [
   | inl e ↦ at_head e (odd_some p xs (flip (p z) (odd p xs) (ap p e ∙ t) o))
@@ -101,16 +113,26 @@ another {X} p x (z ∷ xs) d m t o = elim m [
 ]
   where
     at_head : z ≡ x → HasSome p xs → HasAnother p x (z ∷ xs)
-    at_head e s = record { at = s.at; found = inr s.found; differs = λ f. d.0 (subst (λ y. IsIn y xs) (f ∙ sym e) s.found); holds = s.holds }
+    at_head e s = record {
+      at = s.at;
+      found = inr s.found;
+      differs =
+          λ f. d.0 (subst (λ y. IsIn y xs) (f ∙ sym e) s.found);
+      holds = s.holds;
+    }
 
     further : HasAnother p x xs → HasAnother p x (z ∷ xs)
     further a = record { at = a.at; found = inr a.found; differs = a.differs; holds = a.holds }
 
 -- exactly one
-pub one_odd : {X : Type 0} (p : X → Bool) (x : X) (xs : List X) → AreDistinct xs → IsIn x xs → p x ≡ true → ((y : X) → IsIn y xs → p y ≡ true → y ≡ x) → odd p xs ≡ true
+pub one_odd : {X : Type 0} (p : X → Bool) (x : X) (xs : List X) → AreDistinct xs → IsIn x xs → p x ≡ true →
+    ((y : X) → IsIn y xs → p y ≡ true → y ≡ x) → odd p xs ≡ true
 one_odd p x [] d m t u = absurd m
 one_odd {X} p x (z ∷ xs) d m t u = elim m [
-  | inl e ↦ ap₂ xor (ap p e ∙ t) (none_even p xs (λ y r. elim (true_or_false (p y)) [ inl q ↦ absurd (d.0 (subst (λ v. IsIn v xs) (u y (inr r) q ∙ sym e) r)) | inr q ↦ q ]))
+  | inl e ↦ ap₂ xor (ap p e ∙ t) (none_even p xs (λ y r. elim (true_or_false (p y)) [
+    | inl q ↦ absurd (d.0 (subst (λ v. IsIn v xs) (u y (inr r) q ∙ sym e) r))
+    | inr q ↦ q
+  ]))
   | inr r ↦ elim (true_or_false (p z)) [
     | inl q ↦ absurd (d.0 (subst (λ v. IsIn v xs) (sym (u z (inl refl) q)) r))
     | inr q ↦ ap₂ xor q (one_odd p x xs d.1 r t (λ y n. u y (inr n)))
@@ -118,17 +140,27 @@ one_odd {X} p x (z ∷ xs) d m t u = elim m [
 ]
 
 -- exactly two
-pub two_even : {X : Type 0} (p : X → Bool) (x y : X) (xs : List X) → AreDistinct xs → IsIn x xs → IsIn y xs → ¬ (x ≡ y) → p x ≡ true → p y ≡ true → ((z : X) → IsIn z xs → p z ≡ true → (z ≡ x) ⊎ (z ≡ y)) → odd p xs ≡ false
+pub two_even : {X : Type 0} (p : X → Bool) (x y : X) (xs : List X) → AreDistinct xs → IsIn x xs → IsIn y xs →
+    ¬ (x ≡ y) → p x ≡ true → p y ≡ true → ((z : X) → IsIn z xs → p z ≡ true → (z ≡ x) ⊎ (z ≡ y)) → odd p xs ≡ false
 two_even p x y [] d m n k t v u = refl
 two_even {X} p x y (z ∷ xs) d m n k t v u = elim m [
   | inl e ↦ elim n [
     | inl f ↦ absurd (k (sym e ∙ f))
-    | inr r ↦ ap₂ xor (ap p e ∙ t) (one_odd p y xs d.1 r v (λ w i q. elim (u w (inr i) q) [ inl g ↦ gone w (g ∙ sym e) i | inr g ↦ g ]))
+    | inr r ↦ ap₂ xor (ap p e ∙ t) (one_odd p y xs d.1 r v (λ w i q. elim (u w (inr i) q) [
+      | inl g ↦ gone w (g ∙ sym e) i
+      | inr g ↦ g
+    ]))
   ]
   | inr r ↦ elim n [
-    | inl f ↦ ap₂ xor (ap p f ∙ v) (one_odd p x xs d.1 r t (λ w i q. elim (u w (inr i) q) [ inl g ↦ g | inr g ↦ gone w (g ∙ sym f) i ]))
+    | inl f ↦ ap₂ xor (ap p f ∙ v) (one_odd p x xs d.1 r t (λ w i q. elim (u w (inr i) q) [
+      | inl g ↦ g
+      | inr g ↦ gone w (g ∙ sym f) i
+    ]))
     | inr l ↦ elim (true_or_false (p z)) [
-      | inl q ↦ elim (u z (inl refl) q) [ inl g ↦ absurd (d.0 (subst (λ w. IsIn w xs) (sym g) r)) | inr g ↦ absurd (d.0 (subst (λ w. IsIn w xs) (sym g) l)) ]
+      | inl q ↦ elim (u z (inl refl) q) [
+        | inl g ↦ absurd (d.0 (subst (λ w. IsIn w xs) (sym g) r))
+        | inr g ↦ absurd (d.0 (subst (λ w. IsIn w xs) (sym g) l))
+      ]
       | inr q ↦ ap₂ xor q (two_even p x y xs d.1 r l k t v (λ w i. u w (inr i)))
     ]
   ]

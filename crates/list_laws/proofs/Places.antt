@@ -1,5 +1,28 @@
 -- Elements by their places: the first ones of a list, one more, and a list with one place written.
-use Rattle.std.specs.Prelude.{List, None, Option, Some, [], length, map, slice_index, slice_index_or, slice_set, suc, take, zero, ℕ, ◌++◌, ◌+◌, ◌<◌, ◌∷◌, ◌≡◌, ◌≢◌, ◌≤◌, ◌⊎◌}
+use Rattle.std.specs.Prelude.{
+  List,
+  None,
+  Option,
+  Some,
+  [],
+  length,
+  map,
+  slice_index,
+  slice_index_or,
+  slice_set,
+  suc,
+  take,
+  zero,
+  ℕ,
+  ◌++◌,
+  ◌+◌,
+  ◌<◌,
+  ◌∷◌,
+  ◌≡◌,
+  ◌≢◌,
+  ◌≤◌,
+  ◌⊎◌,
+}
 use Rattle.std.proofs.Common.{ap, arith, inl, inr, refl, subst, sym, ◌∙◌}
 use Rattle.std.proofs.Math.Seq.{take-append_seam}
 use Rattle.std.proofs.lemmas.List.{take_more}
@@ -13,16 +36,24 @@ at_place (y ∷ l) zero x d h e = inl (sym e)
 at_place (y ∷ l) (suc i) x d h e = inr (at_place l i x d (omega arith) e)
 
 -- a member of the first elements and one more is a member of the first, or that one
-pub in_more : {X : Type 0} (l : List X) (i : ℕ) (x d y : X) → i < length l → x ≡ slice_index_or l i d → IsIn y (take (suc i) l) → IsIn y (take i l) ⊎ (x ≡ y)
+pub in_more : {X : Type 0} (l : List X) (i : ℕ) (x d y : X) → i < length l → x ≡ slice_index_or l i d →
+    IsIn y (take (suc i) l) → IsIn y (take i l) ⊎ (x ≡ y)
 in_more [] i x d y h e k = absurd (omega arith)
 in_more (z ∷ l) zero x d y h e (inl k) = inr (e ∙ k)
 in_more (z ∷ l) zero x d y h e (inr k) = absurd k
 in_more (z ∷ l) (suc i) x d y h e (inl k) = inl (inl k)
-in_more (z ∷ l) (suc i) x d y h e (inr k) = elim (in_more l i x d y (omega arith) e k) [ inl m ↦ inl (inr m) | inr m ↦ inr m ]
+in_more (z ∷ l) (suc i) x d y h e (inr k) = elim (in_more l i x d y (omega arith) e k) [
+  | inl m ↦ inl (inr m)
+  | inr m ↦ inr m
+]
 
 -- what holds of each of the first elements, and of one more
-pub each_more : {X : Type 0} (P : X → Type 0) (l : List X) (i : ℕ) (x d : X) → i < length l → x ≡ slice_index_or l i d → ((y : X) → IsIn y (take i l) → P y) → P x → (y : X) → IsIn y (take (i + 1) l) → P y
-each_more P l i x d h e f p y m = elim (in_more l i x d y h e (subst (λ n. IsIn y (take n l)) (one i) m)) [ inl k ↦ f y k | inr q ↦ subst P q p ]
+pub each_more : {X : Type 0} (P : X → Type 0) (l : List X) (i : ℕ) (x d : X) → i < length l → x ≡ slice_index_or l i d →
+    ((y : X) → IsIn y (take i l) → P y) → P x → (y : X) → IsIn y (take (i + 1) l) → P y
+each_more P l i x d h e f p y m = elim (in_more l i x d y h e (subst (λ n. IsIn y (take n l)) (one i) m)) [
+  | inl k ↦ f y k
+  | inr q ↦ subst P q p
+]
   where
     one : (i : ℕ) → i + 1 ≡ suc i
     one i = omega arith
@@ -35,7 +66,8 @@ all_taken_in (x ∷ l) (suc i) y h (inl e) = inl e
 all_taken_in (x ∷ l) (suc i) y h (inr m) = inr (all_taken_in l i y (omega arith) m)
 
 -- and of all
-pub each_taken : {X : Type 0} (P : X → Type 0) (l : List X) (i : ℕ) → length l ≤ i → ((y : X) → IsIn y (take i l) → P y) → (y : X) → IsIn y l → P y
+pub each_taken : {X : Type 0} (P : X → Type 0) (l : List X) (i : ℕ) → length l ≤ i →
+    ((y : X) → IsIn y (take i l) → P y) → (y : X) → IsIn y l → P y
 each_taken P l i h f y m = f y (all_taken_in l i y h m)
 
 -- none of no elements
@@ -44,11 +76,13 @@ each_none P [] y m = absurd m
 each_none P (x ∷ l) y m = absurd m
 
 -- the first ones and the next
-pub take_next : {X : Type 0} (l : List X) (i : ℕ) (x : X) → i < length l → x ≡ slice_index_or l i x → take (i + 1) l ≡ take i l ++ x ∷ []
+pub take_next : {X : Type 0} (l : List X) (i : ℕ) (x : X) → i < length l → x ≡ slice_index_or l i x →
+    take (i + 1) l ≡ take i l ++ x ∷ []
 take_next l i x h e = take_more l i x h ∙ ap (λ v. take i l ++ v ∷ []) (sym e)
 
 -- a member of the first ones and the next is one of the first, or that one
-pub in_take_more : {X : Type 0} (l : List X) (i : ℕ) (x y : X) → i < length l → x ≡ slice_index_or l i x → IsIn y (take (i + 1) l) → IsIn y (take i l) ⊎ (x ≡ y)
+pub in_take_more : {X : Type 0} (l : List X) (i : ℕ) (x y : X) → i < length l → x ≡ slice_index_or l i x →
+    IsIn y (take (i + 1) l) → IsIn y (take i l) ⊎ (x ≡ y)
 in_take_more l i x y h e m = elim (from_append y (take i l) (x ∷ []) (subst (λ v. IsIn y v) (take_next l i x h e) m)) [
   | inl k ↦ inl k
   | inr k ↦ elim k [ inl q ↦ inr q | inr none ↦ absurd none ]
@@ -61,13 +95,15 @@ in_take (suc n) [] x m = m
 in_take (suc n) (y ∷ l) x m = elim m [ inl e ↦ inl e | inr k ↦ inr (in_take n l x k) ]
 
 -- the first elements and one more
-pub take_suc : {X : Type 0} (l : List X) (n : ℕ) (d : X) → n < length l → take (suc n) l ≡ take n l ++ slice_index_or l n d ∷ []
+pub take_suc : {X : Type 0} (l : List X) (n : ℕ) (d : X) → n < length l →
+    take (suc n) l ≡ take n l ++ slice_index_or l n d ∷ []
 take_suc [] n d h = absurd (omega arith)
 take_suc (x ∷ l) zero d h = refl
 take_suc {X} (x ∷ l) (suc n) d h = ap (λ (m : List X). x ∷ m) (take_suc l n d (omega arith))
 
 -- an element within a list does not depend on what stands for those past its end
-pub within_list : {X : Type 0} (l : List X) (i : ℕ) (d u : X) → i < length l → d ≡ slice_index_or l i d → slice_index_or l i u ≡ d
+pub within_list : {X : Type 0} (l : List X) (i : ℕ) (d u : X) → i < length l → d ≡ slice_index_or l i d →
+    slice_index_or l i u ≡ d
 within_list [] i d u h e = absurd (omega arith)
 within_list (y ∷ l) zero d u h e = sym e
 within_list (y ∷ l) (suc i) d u h e = within_list l i d u (omega arith) e
@@ -99,11 +135,13 @@ pub len_twice : {X : Type 0} (l : List X) (i : ℕ) (x y : X) → length (slice_
 len_twice l i x y = len_set (slice_set l i x) i y ∙ len_set l i x
 
 -- where the length has a name
-pub len_twice_is : {X : Type 0} (l : List X) (i n : ℕ) (x y : X) → length l ≡ n → length (slice_set (slice_set l i x) i y) ≡ n
+pub len_twice_is : {X : Type 0} (l : List X) (i n : ℕ) (x y : X) → length l ≡ n →
+    length (slice_set (slice_set l i x) i y) ≡ n
 len_twice_is l i n x y e = len_twice l i x y ∙ e
 
 -- what is there is set
-pub set_there : {X : Type 0} (l : List (Option X)) (b : ℕ) (x : X) → slice_index_or l b None ≡ Some x → slice_set l b (Some x) ≡ l
+pub set_there : {X : Type 0} (l : List (Option X)) (b : ℕ) (x : X) → slice_index_or l b None ≡ Some x →
+    slice_set l b (Some x) ≡ l
 set_there [] b x e = refl
 set_there {X} (o ∷ l) zero x e = ap (λ (y : Option X). y ∷ l) (sym e)
 set_there {X} (o ∷ l) (suc b) x e = ap (λ (m : List (Option X)). o ∷ m) (set_there l b x e)
@@ -117,13 +155,15 @@ more_one (z ∷ l) (suc i) y (inl e) = inl e
 more_one (z ∷ l) (suc i) y (inr k) = inr (more_one l i y k)
 
 -- the next element is one of the first elements and one more
-pub last_one : {X : Type 0} (l : List X) (i : ℕ) (x d : X) → i < length l → x ≡ slice_index_or l i d → IsIn x (take (suc i) l)
+pub last_one : {X : Type 0} (l : List X) (i : ℕ) (x d : X) → i < length l → x ≡ slice_index_or l i d →
+    IsIn x (take (suc i) l)
 last_one [] i x d h e = absurd (omega arith)
 last_one (z ∷ l) zero x d h e = inl (sym e)
 last_one (z ∷ l) (suc i) x d h e = inr (last_one l i x d (omega arith) e)
 
 -- two places can be set in either order
-pub set_swapped : {X : Type 0} (l : List X) (i j : ℕ) (a b : X) → i ≢ j → slice_set (slice_set l i a) j b ≡ slice_set (slice_set l j b) i a
+pub set_swapped : {X : Type 0} (l : List X) (i j : ℕ) (a b : X) → i ≢ j → slice_set (slice_set l i a) j b
+    ≡ slice_set (slice_set l j b) i a
 set_swapped [] i j a b n = refl
 set_swapped (x ∷ l) zero zero a b n = absurd (n refl)
 set_swapped (x ∷ l) zero (suc j) a b n = refl
@@ -131,7 +171,8 @@ set_swapped (x ∷ l) (suc i) zero a b n = refl
 set_swapped (x ∷ l) (suc i) (suc j) a b n = ap (λ (m : List _). x ∷ m) (set_swapped l i j a b (λ e. n (ap suc e)))
 
 -- the images of a list with a place set
-pub map_set : {X Y : Type 0} (f : X → Y) (l : List X) (i : ℕ) (a : X) → map f (slice_set l i a) ≡ slice_set (map f l) i (f a)
+pub map_set : {X Y : Type 0} (f : X → Y) (l : List X) (i : ℕ) (a : X) →
+    map f (slice_set l i a) ≡ slice_set (map f l) i (f a)
 map_set f [] i a = refl
 map_set f (x ∷ l) zero a = refl
 map_set f (x ∷ l) (suc i) a = ap (λ (m : List _). f x ∷ m) (map_set f l i a)

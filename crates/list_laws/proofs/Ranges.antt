@@ -21,7 +21,11 @@ pub rising : (s : List ℕ) → IsNonDecreasing s → IsDistinct nat_eq s → Is
 unfolding IsDistinct
 rising [] h d = tt
 rising (x ∷ []) h d = (tt, tt)
-rising (x ∷ y ∷ s) h d = (above (h 0 1 0 (omega arith) (omega arith)) d.0.0, rising (y ∷ s) (λ i j e l m. h (suc i) (suc j) e (omega arith) (omega arith)) d.1)
+rising (x ∷ y ∷ s) h d = (
+  above (h 0 1 0 (omega arith) (omega arith)) d.0.0,
+  rising (y ∷ s)
+      (λ i j e l m. h (suc i) (suc j) e (omega arith) (omega arith)) d.1,
+)
   where
     above : x ≤ y → nat_eq x y ≡ false → x < y
     above l e = grind (arith, nat_tests)
@@ -42,12 +46,16 @@ counted_below a (suc n) x (inl e) = omega (arith, e)
 counted_below a (suc n) x (inr i) = let k = counted_below (a + 1) n x i in omega (arith, k)
 
 -- f and g differ at no number from a on
-pub map_above : {X : Type 0} (f g : ℕ → X) (a n : ℕ) → ((i : ℕ) → a ≤ i → g i ≡ f i) → map g (range_with_len a n) ≡ map f (range_with_len a n)
+pub map_above : {X : Type 0} (f g : ℕ → X) (a n : ℕ) → ((i : ℕ) → a ≤ i → g i ≡ f i) → map g (range_with_len a n)
+    ≡ map f (range_with_len a n)
 map_above f g a zero h = refl
-map_above f g a (suc n) h = let first = h a (omega arith) in let rest = map_above f g (a + 1) n (λ i l. h i (omega (arith, l))) in λ j. first j ∷ rest j
+map_above f g a (suc n) h =
+    let first =
+    h a (omega arith) in let rest = map_above f g (a + 1) n (λ i l. h i (omega (arith, l))) in λ j. first j ∷ rest j
 
 -- they differ at one number
-pub map_but_one : {X : Type 0} (f g : ℕ → X) (a n k : ℕ) (v : X) → k < n → g (a + k) ≡ v → ((i : ℕ) → i ≢ a + k → g i ≡ f i) →
+pub map_but_one : {X : Type 0} (f g : ℕ → X) (a n k : ℕ) (v : X) → k < n → g (a + k) ≡ v →
+    ((i : ℕ) → i ≢ a + k → g i ≡ f i) →
     map g (range_with_len a n) ≡ set (map f (range_with_len a n)) k v
 map_but_one f g a zero k v l e h = absurd (omega (arith, l))
 map_but_one f g a (suc n) zero v l e h =
@@ -58,5 +66,6 @@ map_but_one f g a (suc n) zero v l e h =
 map_but_one f g a (suc n) (suc k) v l e h =
     let there : a + 1 + k ≡ a + suc k = omega arith in
     let first = h a (λ q. omega (arith, q)) in
-    let rest = map_but_one f g (a + 1) n k v (omega (arith, l)) (ap g there ∙ e) (λ i m. h i (λ q. m (q ∙ sym there))) in
+    let rest =
+    map_but_one f g (a + 1) n k v (omega (arith, l)) (ap g there ∙ e) (λ i m. h i (λ q. m (q ∙ sym there))) in
     λ j. first j ∷ rest j

@@ -74,15 +74,27 @@ settled a h n = elim (sign a) [ below p ↦ omega (arith, ints, p) | at_zero e �
 
 -- a number that cannot be negative is not
 pub not_below : (a : ℤ) → (a <ℤ pos 0 → ⊥) → pos 0 ≤ℤ a
-not_below a n = elim (sign a) [ below p ↦ absurd (n p) | at_zero p ↦ omega (arith, ints, p) | above p ↦ omega (arith, ints, p) ]
+not_below a n = elim (sign a) [
+  | below p ↦ absurd (n p)
+  | at_zero p ↦ omega (arith, ints, p)
+  | above p ↦ omega (arith, ints, p)
+]
 
 -- a number is negative or not
 pub below_or_not : (a : ℤ) → (a <ℤ pos 0) ⊎ (pos 0 ≤ℤ a)
-below_or_not a = elim (sign a) [ below p ↦ inl p | at_zero p ↦ inr (omega (arith, ints, p)) | above p ↦ inr (omega (arith, ints, p)) ]
+below_or_not a = elim (sign a) [
+  | below p ↦ inl p
+  | at_zero p ↦ inr (omega (arith, ints, p))
+  | above p ↦ inr (omega (arith, ints, p))
+]
 
 -- a number is positive or not
 pub above_or_not : (a : ℤ) → (pos 0 <ℤ a) ⊎ (a ≤ℤ pos 0)
-above_or_not a = elim (sign a) [ below p ↦ inr (omega (arith, ints, p)) | at_zero p ↦ inr (omega (arith, ints, p)) | above p ↦ inl p ]
+above_or_not a = elim (sign a) [
+  | below p ↦ inr (omega (arith, ints, p))
+  | at_zero p ↦ inr (omega (arith, ints, p))
+  | above p ↦ inl p
+]
 
 -- of two numbers one is not at most the other and greater
 pub not_back : (p q : ℤ) → p ≤ℤ q → q <ℤ p → ⊥
@@ -91,26 +103,42 @@ not_back p q h k = omega (arith, ints)
 -- a number that is not negative is positive where a multiple of it is
 pub positive_factor : (a b : ℤ) → pos 0 <ℤ (a *ℤ b) → pos 0 ≤ℤ b → pos 0 <ℤ b
 positive_factor a b h k =
-    elim (sign b) [ below p ↦ absurd (omega (arith, ints, p)) | above p ↦ p | at_zero z ↦ absurd (stuck (ap (λ x. a *ℤ x) z ∙ *ℤ-zero a)) ]
+    elim (sign b) [
+      | below p ↦ absurd (omega (arith, ints, p))
+      | above p ↦ p
+      | at_zero z ↦ absurd (stuck (ap (λ x. a *ℤ x) z ∙ *ℤ-zero a))
+    ]
   where
     -- then its product is 0
     stuck : a *ℤ b ≡ pos 0 → ⊥
     stuck e = omega (arith, ints)
 
 -- one of four numbers with a positive sum is positive
-pub one_above : (w x y z : ℤ) → pos 0 <ℤ (w +ℤ x +ℤ y +ℤ z) → (pos 0 <ℤ w) ⊎ ((pos 0 <ℤ x) ⊎ ((pos 0 <ℤ y) ⊎ (pos 0 <ℤ z)))
+pub one_above : (w x y z : ℤ) → pos 0 <ℤ (w +ℤ x +ℤ y +ℤ z) →
+    (pos 0 <ℤ w) ⊎ ((pos 0 <ℤ x) ⊎ ((pos 0 <ℤ y) ⊎ (pos 0 <ℤ z)))
 one_above w x y z h = elim (above_or_not w) [
   | inl p ↦ inl p
   | inr i ↦ elim (above_or_not x) [
     | inl p ↦ inr (inl p)
-    | inr j ↦ elim (above_or_not y) [ inl p ↦ inr (inr (inl p)) | inr k ↦ inr (inr (inr (omega (arith, ints, i, j, k)))) ]
+    | inr j ↦ elim (above_or_not y) [
+      | inl p ↦ inr (inr (inl p))
+      | inr k ↦ inr (inr (inr (omega (arith, ints, i, j, k))))
+    ]
   ]
 ]
 
 -- a sum of four products, each with a factor 0, is 0
-pub zero_terms : (w x y z p q r t : ℤ) → p ≡ pos 0 → q ≡ pos 0 → r ≡ pos 0 → t ≡ pos 0 → w *ℤ p +ℤ x *ℤ q +ℤ y *ℤ r +ℤ z *ℤ t ≡ pos 0
+pub zero_terms : (w x y z p q r t : ℤ) → p ≡ pos 0 → q ≡ pos 0 → r ≡ pos 0 → t ≡ pos 0 →
+    w *ℤ p +ℤ x *ℤ q +ℤ y *ℤ r +ℤ z *ℤ t ≡ pos 0
 zero_terms w x y z p q r t a b c d =
-    omega (arith, ints, ap (λ v. w *ℤ v) a ∙ *ℤ-zero w, ap (λ v. x *ℤ v) b ∙ *ℤ-zero x, ap (λ v. y *ℤ v) c ∙ *ℤ-zero y, ap (λ v. z *ℤ v) d ∙ *ℤ-zero z)
+    omega (
+      arith,
+      ints,
+      ap (λ v. w *ℤ v) a ∙ *ℤ-zero w,
+      ap (λ v. x *ℤ v) b ∙ *ℤ-zero x,
+      ap (λ v. y *ℤ v) c ∙ *ℤ-zero y,
+      ap (λ v. z *ℤ v) d ∙ *ℤ-zero z,
+    )
 
 -- the test of an order says the order
 pub less_from : (a b : ℤ) → lt_z a b ≡ true → a <ℤ b

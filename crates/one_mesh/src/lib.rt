@@ -18,5 +18,5 @@ mod opening;
 pub use clouds::begin_cloud;
 pub use edit_history::{NotSolid, Receipt, find_four};
 pub use edits::{apply, begin};
-pub use lists::{complex, history, points};
+pub use lists::{complex, history, into_complex, points};
 pub use opening::opening_points;

@@ -38,6 +38,16 @@ pub fn complex(alloc: Global, mesh: &Mesh) -> Result<Vec<Cell>, AllocError>
     mesh.hold().complex(alloc)
 }
 
+/// The same complex, of a mesh that is given away: each bucket is let go when its cells are read.
+///
+/// # Errors
+/// Want of memory.
+pub fn into_complex(alloc: Global, mesh: Mesh) -> Result<Vec<Cell>, AllocError>
+    ensures { IfOk result (λ cells. cells.items ≡ complex_of (replay mesh.history)) }
+{
+    mesh.into_hold().into_complex(alloc)
+}
+
 // The points of all buckets.
 fn all_points_of(alloc: Global, hold: &Hold) -> Result<Vec<Point>, AllocError>
     requires { AllInHand hold.now }

@@ -58,4 +58,5 @@ cell_after c d e = cell_reverse d c ∙ ap ordering_reverse e
 
 -- it is an order
 pub cell_order : IsTotalOrder cell_cmp
-cell_order = record { antisymm = cell_reverse; trans = cell_before; congr = λ c d e h. ap (λ x. cell_cmp x e) (cell_same c d h) }
+cell_order =
+    record { antisymm = cell_reverse; trans = cell_before; congr = λ c d e h. ap (λ x. cell_cmp x e) (cell_same c d h) }

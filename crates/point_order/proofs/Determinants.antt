@@ -40,7 +40,10 @@ unfolding orientation triple minor x_from y_from z_from
 last_third a b c = ring (orientation_w 0 1 2 2) (lit (pos 0)) (coordinates (a ∷ b ∷ c ∷ [])) tt
 
 -- the in-sphere polynomial is the same with distances from the first point in place of squares
-pub sphere_from_first : (a b c d e : ℕ) → sphere_polynomial a b c d e ≡ orientation a b c d *ℤ distance a e -ℤ orientation a b c e *ℤ distance a d +ℤ orientation a b d e *ℤ distance a c -ℤ orientation a c d e *ℤ distance a b
+pub sphere_from_first : (a b c d e : ℕ) → sphere_polynomial a b c d e ≡ orientation a b c d *ℤ distance a e -ℤ
+    orientation a b c e *ℤ distance a d +ℤ orientation a b d e *ℤ distance a c -ℤ orientation a c d e *ℤ distance a b
 unfolding sphere_polynomial lifted square_of distance square_of_step orientation triple minor x_from y_from z_from
 sphere_from_first a b c d e =
-    ring sphere_w (orientation_w 0 1 2 3 ⊗ distance_w 0 4 ⊖ orientation_w 0 1 2 4 ⊗ distance_w 0 3 ⊕ orientation_w 0 1 3 4 ⊗ distance_w 0 2 ⊖ orientation_w 0 2 3 4 ⊗ distance_w 0 1) (coordinates (a ∷ b ∷ c ∷ d ∷ e ∷ [])) tt
+    ring sphere_w (orientation_w 0 1 2 3 ⊗ distance_w 0 4 ⊖ orientation_w 0 1 2 4 ⊗ distance_w 0 3
+    ⊕ orientation_w 0 1 3 4 ⊗ distance_w 0 2 ⊖ orientation_w 0 2 3 4 ⊗ distance_w 0 1)
+    (coordinates (a ∷ b ∷ c ∷ d ∷ e ∷ [])) tt

@@ -5,7 +5,17 @@ use Rattle.std.proofs.Math.Nat.{pow-suc, pow-le-pow_right}
 use Rattle.whole_ring.specs.Signs.{HasSignOf, below, at_zero, above}
 use Rattle.whole_ring.proofs.Cited.{sgn_same, sign}
 use Rattle.point_order.specs.Heights.{base, top, base_is, top_is, height, sphere_polynomial, out}
-use Rattle.point_order.specs.Laws.{coefficient, PlainSign, TieSign, TieDecided, NeverZero, PlainNotBelow, PlainNotAbove, HeightParts, PartRises}
+use Rattle.point_order.specs.Laws.{
+  coefficient,
+  PlainSign,
+  TieSign,
+  TieDecided,
+  NeverZero,
+  PlainNotBelow,
+  PlainNotAbove,
+  HeightParts,
+  PartRises,
+}
 use Rattle.point_order.proofs.Perturbation.{out_sign, base_pos, power_pos}
 use Rattle.point_order.proofs.SignRule.{sign_of_tie, decided}
 
@@ -39,19 +49,28 @@ never_zero_law a b c d e k n f =
     let h : HasSignOf s (out a b c d e) = out_sign a b c d e k.0 k.1 k.2 k.3 k.4 in
     elim (sign s) [
       | below m ↦ kept s (out a b c d e) h (λ z. absurd (omega (arith, ints, m, z)))
-      | at_zero t ↦ let g = decided a b c d e n f in kept (coefficient a b c d e g.0) (out a b c d e) (sign_of_tie a b c d e g.0 n t g.1) g.1.0
+      | at_zero t ↦ let g = decided a b c d e n f in kept (coefficient a b c d e g.0) (out a b c d e)
+          (sign_of_tie a b c d e g.0 n t g.1) g.1.0
       | above m ↦ kept s (out a b c d e) h (λ z. absurd (omega (arith, ints, m, z)))
     ]
 
 -- a number is not negative where one that has its sign is positive
 half_above : (s r : ℤ) → HasSignOf s r → pos 0 <ℤ r → pos 0 ≤ℤ s
 half_above s r h p =
-    elim (sign s) [ below m ↦ let k = h.negative m in absurd (omega (arith, ints)) | at_zero z ↦ omega (arith, ints, z) | above m ↦ omega (arith, ints, m) ]
+    elim (sign s) [
+      | below m ↦ let k = h.negative m in absurd (omega (arith, ints))
+      | at_zero z ↦ omega (arith, ints, z)
+      | above m ↦ omega (arith, ints, m)
+    ]
 
 -- and not positive where that is negative
 half_below : (s r : ℤ) → HasSignOf s r → r <ℤ pos 0 → s ≤ℤ pos 0
 half_below s r h p =
-    elim (sign s) [ below m ↦ omega (arith, ints, m) | at_zero z ↦ omega (arith, ints, z) | above m ↦ let k = h.positive m in absurd (omega (arith, ints)) ]
+    elim (sign s) [
+      | below m ↦ omega (arith, ints, m)
+      | at_zero z ↦ omega (arith, ints, z)
+      | above m ↦ let k = h.positive m in absurd (omega (arith, ints))
+    ]
 
 -- so the in-sphere polynomial is not negative where the determinant is positive
 pub plain_not_below : PlainNotBelow

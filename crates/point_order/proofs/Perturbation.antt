@@ -44,10 +44,13 @@ added a b c d e =
 pub out_parts : (a b c d e : ℕ) → out a b c d e ≡ sphere_polynomial a b c d e *ℤ pos (base ^ top) +ℤ added a b c d e
 unfolding out sphere_polynomial lifted height added
 out_parts a b c d e =
-    split_heights (base ^ top) (orientation a b c d) (orientation a b c e) (orientation a b d e) (orientation a c d e) (orientation b c d e) (square_of e) (square_of d) (square_of c) (square_of b) (square_of a) (base ^ e) (base ^ d) (base ^ c) (base ^ b) (base ^ a)
+    split_heights (base ^ top) (orientation a b c d) (orientation a b c e) (orientation a b d e) (orientation a c d e)
+    (orientation b c d e) (square_of e) (square_of d) (square_of c) (square_of b) (square_of a) (base ^ e)
+    (base ^ d) (base ^ c) (base ^ b) (base ^ a)
 
 -- what is added is less than the great number
-added_small : (a b c d e : ℕ) → a < 2 ^ 42 → b < 2 ^ 42 → c < 2 ^ 42 → d < 2 ^ 42 → e < 2 ^ 42 → unsigned_abs (added a b c d e) < base ^ top
+added_small : (a b c d e : ℕ) → a < 2 ^ 42 → b < 2 ^ 42 → c < 2 ^ 42 → d < 2 ^ 42 → e < 2 ^ 42 →
+    unsigned_abs (added a b c d e) < base ^ top
 unfolding added
 added_small a b c d e ha hb hc hd he =
     five_low
@@ -65,10 +68,12 @@ added_small a b c d e ha hb hc hd he =
     (low_term base _ a top base_pos (tenfold b c d e) (omega (arith, top_is)))
 
 -- so where the in-sphere polynomial is not 0, the determinant has its sign
-pub out_sign : (a b c d e : ℕ) → a < 2 ^ 42 → b < 2 ^ 42 → c < 2 ^ 42 → d < 2 ^ 42 → e < 2 ^ 42 → HasSignOf (sphere_polynomial a b c d e) (out a b c d e)
+pub out_sign : (a b c d e : ℕ) → a < 2 ^ 42 → b < 2 ^ 42 → c < 2 ^ 42 → d < 2 ^ 42 → e < 2 ^ 42 →
+    HasSignOf (sphere_polynomial a b c d e) (out a b c d e)
 out_sign a b c d e ha hb hc hd he =
     let s = sphere_polynomial a b c d e in
-    subst (HasSignOf s) (sym (out_parts a b c d e)) (lead_sign s (base ^ top) (added a b c d e) (added_small a b c d e ha hb hc hd he))
+    subst (HasSignOf s) (sym (out_parts a b c d e)) (lead_sign s (base ^ top) (added a b c d e)
+    (added_small a b c d e ha hb hc hd he))
 
 -- ---- ties
 
@@ -77,7 +82,8 @@ pub record Yields (c : ℤ) (k g : ℕ) : Type 0 where
   pub either : (c ≡ pos 0) ⊎ (k < g)
 
 -- a term that yields to g is at most a tenth of the power of g
-yields_low : (c : ℤ) (k g : ℕ) → unsigned_abs c * 10 ≤ base → Yields c k g → unsigned_abs (c *ℤ pos (base ^ k)) * 10 ≤ base ^ g
+yields_low : (c : ℤ) (k g : ℕ) → unsigned_abs c * 10 ≤ base → Yields c k g →
+    unsigned_abs (c *ℤ pos (base ^ k)) * 10 ≤ base ^ g
 yields_low c k g h y =
     elim y.either [ inl e ↦ no_term base c k g e | inr l ↦ low_term base c k g base_pos h l ]
 
@@ -86,9 +92,14 @@ yields_neg : (c : ℤ) (k g : ℕ) → Yields c k g → Yields (neg_ℤ c) k g
 yields_neg c k g y = record { either = elim y.either [ inl e ↦ inl (ap neg_ℤ e) | inr l ↦ inr l ] }
 
 -- a term to which four others yield gives their sum its sign
-lead : (c p q r s : ℤ) (g i j k l : ℕ) → unsigned_abs p * 10 ≤ base → unsigned_abs q * 10 ≤ base → unsigned_abs r * 10 ≤ base → unsigned_abs s * 10 ≤ base → Yields p i g → Yields q j g → Yields r k g → Yields s l g → HasSignOf c (c *ℤ pos (base ^ g) +ℤ (p *ℤ pos (base ^ i) +ℤ q *ℤ pos (base ^ j) +ℤ r *ℤ pos (base ^ k) +ℤ s *ℤ pos (base ^ l)))
+lead : (c p q r s : ℤ) (g i j k l : ℕ) → unsigned_abs p * 10 ≤ base → unsigned_abs q * 10 ≤ base →
+    unsigned_abs r * 10 ≤ base → unsigned_abs s * 10 ≤ base → Yields p i g → Yields q j g → Yields r k g →
+    Yields s l g → HasSignOf c (c *ℤ pos (base ^ g) +ℤ (p *ℤ pos (base ^ i) +ℤ q *ℤ pos (base ^ j)
+    +ℤ r *ℤ pos (base ^ k) +ℤ s *ℤ pos (base ^ l)))
 lead c p q r s g i j k l hp hq hr hs yp yq yr ys =
-    lead_sign c (base ^ g) _ (four_low (p *ℤ pos (base ^ i)) (q *ℤ pos (base ^ j)) (r *ℤ pos (base ^ k)) (s *ℤ pos (base ^ l)) (base ^ g) (power_pos g) (yields_low p i g hp yp) (yields_low q j g hq yq) (yields_low r k g hr yr) (yields_low s l g hs ys))
+    lead_sign c (base ^ g) _ (four_low (p *ℤ pos (base ^ i)) (q *ℤ pos (base ^ j)) (r *ℤ pos (base ^ k))
+    (s *ℤ pos (base ^ l)) (base ^ g) (power_pos g) (yields_low p i g hp yp) (yields_low q j g hq yq)
+    (yields_low r k g hr yr) (yields_low s l g hs ys))
 
 -- the first of five terms, before the others
 first : (t u v w x : ℤ) → t +ℤ u +ℤ v +ℤ w +ℤ x ≡ t +ℤ (u +ℤ v +ℤ w +ℤ x)
@@ -116,46 +127,76 @@ tie a b c d e z =
     out_parts a b c d e ∙ ap (λ (v : ℤ). v *ℤ pos (base ^ top) +ℤ added a b c d e) z ∙ omega (arith, ints)
 
 -- at a tie the other four yield to the point e
-pub tie_e : (a b c d e : ℕ) → sphere_polynomial a b c d e ≡ pos 0 → Yields (orientation a b c e) d e → Yields (orientation a b d e) c e → Yields (orientation a c d e) b e → Yields (orientation b c d e) a e → HasSignOf (orientation a b c d) (out a b c d e)
+pub tie_e : (a b c d e : ℕ) → sphere_polynomial a b c d e ≡ pos 0 → Yields (orientation a b c e) d e →
+    Yields (orientation a b d e) c e → Yields (orientation a c d e) b e → Yields (orientation b c d e) a e →
+    HasSignOf (orientation a b c d) (out a b c d e)
 unfolding added
 tie_e a b c d e z yd yc yb ya =
     subst
     (HasSignOf (orientation a b c d))
-    (sym (tie a b c d e z ∙ first (orientation a b c d *ℤ pos (base ^ e)) (neg_ℤ (orientation a b c e) *ℤ pos (base ^ d)) (orientation a b d e *ℤ pos (base ^ c)) (neg_ℤ (orientation a c d e) *ℤ pos (base ^ b)) (orientation b c d e *ℤ pos (base ^ a))))
-    (lead (orientation a b c d) (neg_ℤ (orientation a b c e)) (orientation a b d e) (neg_ℤ (orientation a c d e)) (orientation b c d e) e d c b a (tenfold_neg a b c e) (tenfold a b d e) (tenfold_neg a c d e) (tenfold b c d e) (yields_neg _ _ _ yd) yc (yields_neg _ _ _ yb) ya)
+    (sym (tie a b c d e z ∙ first (orientation a b c d *ℤ pos (base ^ e))
+    (neg_ℤ (orientation a b c e) *ℤ pos (base ^ d)) (orientation a b d e *ℤ pos (base ^ c))
+    (neg_ℤ (orientation a c d e) *ℤ pos (base ^ b)) (orientation b c d e *ℤ pos (base ^ a))))
+    (lead (orientation a b c d) (neg_ℤ (orientation a b c e)) (orientation a b d e) (neg_ℤ (orientation a c d e))
+    (orientation b c d e) e d c b a (tenfold_neg a b c e) (tenfold a b d e) (tenfold_neg a c d e) (tenfold b c d e)
+    (yields_neg _ _ _ yd) yc (yields_neg _ _ _ yb) ya)
 
 -- they yield to d
-pub tie_d : (a b c d e : ℕ) → sphere_polynomial a b c d e ≡ pos 0 → Yields (orientation a b c d) e d → Yields (orientation a b d e) c d → Yields (orientation a c d e) b d → Yields (orientation b c d e) a d → HasSignOf (neg_ℤ (orientation a b c e)) (out a b c d e)
+pub tie_d : (a b c d e : ℕ) → sphere_polynomial a b c d e ≡ pos 0 → Yields (orientation a b c d) e d →
+    Yields (orientation a b d e) c d → Yields (orientation a c d e) b d → Yields (orientation b c d e) a d →
+    HasSignOf (neg_ℤ (orientation a b c e)) (out a b c d e)
 unfolding added
 tie_d a b c d e z ye yc yb ya =
     subst
     (HasSignOf (neg_ℤ (orientation a b c e)))
-    (sym (tie a b c d e z ∙ second (orientation a b c d *ℤ pos (base ^ e)) (neg_ℤ (orientation a b c e) *ℤ pos (base ^ d)) (orientation a b d e *ℤ pos (base ^ c)) (neg_ℤ (orientation a c d e) *ℤ pos (base ^ b)) (orientation b c d e *ℤ pos (base ^ a))))
-    (lead (neg_ℤ (orientation a b c e)) (orientation a b c d) (orientation a b d e) (neg_ℤ (orientation a c d e)) (orientation b c d e) d e c b a (tenfold a b c d) (tenfold a b d e) (tenfold_neg a c d e) (tenfold b c d e) ye yc (yields_neg _ _ _ yb) ya)
+    (sym (tie a b c d e z ∙ second (orientation a b c d *ℤ pos (base ^ e))
+    (neg_ℤ (orientation a b c e) *ℤ pos (base ^ d)) (orientation a b d e *ℤ pos (base ^ c))
+    (neg_ℤ (orientation a c d e) *ℤ pos (base ^ b)) (orientation b c d e *ℤ pos (base ^ a))))
+    (lead (neg_ℤ (orientation a b c e)) (orientation a b c d) (orientation a b d e) (neg_ℤ (orientation a c d e))
+    (orientation b c d e) d e c b a (tenfold a b c d) (tenfold a b d e) (tenfold_neg a c d e) (tenfold b c d e) ye yc
+    (yields_neg _ _ _ yb) ya)
 
 -- they yield to c
-pub tie_c : (a b c d e : ℕ) → sphere_polynomial a b c d e ≡ pos 0 → Yields (orientation a b c d) e c → Yields (orientation a b c e) d c → Yields (orientation a c d e) b c → Yields (orientation b c d e) a c → HasSignOf (orientation a b d e) (out a b c d e)
+pub tie_c : (a b c d e : ℕ) → sphere_polynomial a b c d e ≡ pos 0 → Yields (orientation a b c d) e c →
+    Yields (orientation a b c e) d c → Yields (orientation a c d e) b c → Yields (orientation b c d e) a c →
+    HasSignOf (orientation a b d e) (out a b c d e)
 unfolding added
 tie_c a b c d e z ye yd yb ya =
     subst
     (HasSignOf (orientation a b d e))
-    (sym (tie a b c d e z ∙ third (orientation a b c d *ℤ pos (base ^ e)) (neg_ℤ (orientation a b c e) *ℤ pos (base ^ d)) (orientation a b d e *ℤ pos (base ^ c)) (neg_ℤ (orientation a c d e) *ℤ pos (base ^ b)) (orientation b c d e *ℤ pos (base ^ a))))
-    (lead (orientation a b d e) (orientation a b c d) (neg_ℤ (orientation a b c e)) (neg_ℤ (orientation a c d e)) (orientation b c d e) c e d b a (tenfold a b c d) (tenfold_neg a b c e) (tenfold_neg a c d e) (tenfold b c d e) ye (yields_neg _ _ _ yd) (yields_neg _ _ _ yb) ya)
+    (sym (tie a b c d e z ∙ third (orientation a b c d *ℤ pos (base ^ e))
+    (neg_ℤ (orientation a b c e) *ℤ pos (base ^ d)) (orientation a b d e *ℤ pos (base ^ c))
+    (neg_ℤ (orientation a c d e) *ℤ pos (base ^ b)) (orientation b c d e *ℤ pos (base ^ a))))
+    (lead (orientation a b d e) (orientation a b c d) (neg_ℤ (orientation a b c e)) (neg_ℤ (orientation a c d e))
+    (orientation b c d e) c e d b a (tenfold a b c d) (tenfold_neg a b c e) (tenfold_neg a c d e) (tenfold b c d e) ye
+    (yields_neg _ _ _ yd) (yields_neg _ _ _ yb) ya)
 
 -- they yield to b
-pub tie_b : (a b c d e : ℕ) → sphere_polynomial a b c d e ≡ pos 0 → Yields (orientation a b c d) e b → Yields (orientation a b c e) d b → Yields (orientation a b d e) c b → Yields (orientation b c d e) a b → HasSignOf (neg_ℤ (orientation a c d e)) (out a b c d e)
+pub tie_b : (a b c d e : ℕ) → sphere_polynomial a b c d e ≡ pos 0 → Yields (orientation a b c d) e b →
+    Yields (orientation a b c e) d b → Yields (orientation a b d e) c b → Yields (orientation b c d e) a b →
+    HasSignOf (neg_ℤ (orientation a c d e)) (out a b c d e)
 unfolding added
 tie_b a b c d e z ye yd yc ya =
     subst
     (HasSignOf (neg_ℤ (orientation a c d e)))
-    (sym (tie a b c d e z ∙ fourth (orientation a b c d *ℤ pos (base ^ e)) (neg_ℤ (orientation a b c e) *ℤ pos (base ^ d)) (orientation a b d e *ℤ pos (base ^ c)) (neg_ℤ (orientation a c d e) *ℤ pos (base ^ b)) (orientation b c d e *ℤ pos (base ^ a))))
-    (lead (neg_ℤ (orientation a c d e)) (orientation a b c d) (neg_ℤ (orientation a b c e)) (orientation a b d e) (orientation b c d e) b e d c a (tenfold a b c d) (tenfold_neg a b c e) (tenfold a b d e) (tenfold b c d e) ye (yields_neg _ _ _ yd) yc ya)
+    (sym (tie a b c d e z ∙ fourth (orientation a b c d *ℤ pos (base ^ e))
+    (neg_ℤ (orientation a b c e) *ℤ pos (base ^ d)) (orientation a b d e *ℤ pos (base ^ c))
+    (neg_ℤ (orientation a c d e) *ℤ pos (base ^ b)) (orientation b c d e *ℤ pos (base ^ a))))
+    (lead (neg_ℤ (orientation a c d e)) (orientation a b c d) (neg_ℤ (orientation a b c e)) (orientation a b d e)
+    (orientation b c d e) b e d c a (tenfold a b c d) (tenfold_neg a b c e) (tenfold a b d e) (tenfold b c d e) ye
+    (yields_neg _ _ _ yd) yc ya)
 
 -- they yield to a
-pub tie_a : (a b c d e : ℕ) → sphere_polynomial a b c d e ≡ pos 0 → Yields (orientation a b c d) e a → Yields (orientation a b c e) d a → Yields (orientation a b d e) c a → Yields (orientation a c d e) b a → HasSignOf (orientation b c d e) (out a b c d e)
+pub tie_a : (a b c d e : ℕ) → sphere_polynomial a b c d e ≡ pos 0 → Yields (orientation a b c d) e a →
+    Yields (orientation a b c e) d a → Yields (orientation a b d e) c a → Yields (orientation a c d e) b a →
+    HasSignOf (orientation b c d e) (out a b c d e)
 unfolding added
 tie_a a b c d e z ye yd yc yb =
     subst
     (HasSignOf (orientation b c d e))
-    (sym (tie a b c d e z ∙ fifth (orientation a b c d *ℤ pos (base ^ e)) (neg_ℤ (orientation a b c e) *ℤ pos (base ^ d)) (orientation a b d e *ℤ pos (base ^ c)) (neg_ℤ (orientation a c d e) *ℤ pos (base ^ b)) (orientation b c d e *ℤ pos (base ^ a))))
-    (lead (orientation b c d e) (orientation a b c d) (neg_ℤ (orientation a b c e)) (orientation a b d e) (neg_ℤ (orientation a c d e)) a e d c b (tenfold a b c d) (tenfold_neg a b c e) (tenfold a b d e) (tenfold_neg a c d e) ye (yields_neg _ _ _ yd) yc (yields_neg _ _ _ yb))
+    (sym (tie a b c d e z ∙ fifth (orientation a b c d *ℤ pos (base ^ e))
+    (neg_ℤ (orientation a b c e) *ℤ pos (base ^ d)) (orientation a b d e *ℤ pos (base ^ c))
+    (neg_ℤ (orientation a c d e) *ℤ pos (base ^ b)) (orientation b c d e *ℤ pos (base ^ a))))
+    (lead (orientation b c d e) (orientation a b c d) (neg_ℤ (orientation a b c e)) (orientation a b d e)
+    (neg_ℤ (orientation a c d e)) a e d c b (tenfold a b c d) (tenfold_neg a b c e) (tenfold a b d e)
+    (tenfold_neg a c d e) ye (yields_neg _ _ _ yd) yc (yields_neg _ _ _ yb))

@@ -1,5 +1,25 @@
 -- What the code reads of coordinates, of steps and of minors: the numbers themselves.
-use Rattle.std.proofs.Common.{◌≡◌, ◌∙◌, ◌<◌, ◌+◌, ◌*◌, ◌^◌, ℕ, ℤ, pos, ◌-ℤ◌, true, false, inl, inr, arith, lit<, w64, to_z, of_z}
+use Rattle.std.proofs.Common.{
+  ◌≡◌,
+  ◌∙◌,
+  ◌<◌,
+  ◌+◌,
+  ◌*◌,
+  ◌^◌,
+  ℕ,
+  ℤ,
+  pos,
+  ◌-ℤ◌,
+  true,
+  false,
+  inl,
+  inr,
+  arith,
+  lit<,
+  w64,
+  to_z,
+  of_z,
+}
 use Rattle.std.specs.Prelude.{unsigned_abs}
 use Rattle.std.specs.Int.{cast_signed, cast_unsigned}
 use Rattle.std.specs.Int.Signed.{lt_z}
@@ -71,11 +91,13 @@ pub given_coordinate : {v : ℤ} {n : ℕ} → IsGiven v n → IsCoordinate v
 given_coordinate h = (omega (arith, ints, h.same), omega (arith, ints, h.same, h.below))
 
 -- or it is none
-pub too_small : {v : ℤ} → FitsSigned w64 v → lt_z (cast_signed w64 (cast_unsigned w64 v)) (pos 0) ≡ true → IsNoCoordinate v
+pub too_small : {v : ℤ} → FitsSigned w64 v → lt_z (cast_signed w64 (cast_unsigned w64 v)) (pos 0) ≡ true →
+    IsNoCoordinate v
 too_small h e = inl (omega (arith, ints))
 
 -- where it is above 16383 it is none
-pub too_great : {v : ℤ} → FitsSigned w64 v → lt_z (pos 16383) (cast_signed w64 (cast_unsigned w64 v)) ≡ true → IsNoCoordinate v
+pub too_great : {v : ℤ} → FitsSigned w64 v → lt_z (pos 16383) (cast_signed w64 (cast_unsigned w64 v)) ≡ true →
+    IsNoCoordinate v
 too_great h e = inr (omega (arith, ints))
 
 -- three coordinates make a key

@@ -8,10 +8,12 @@ use Rattle.point_order.specs.Sets.{IsIn, IsAscending, with_point, ascending}
 -- ---- with a point
 
 -- a point put into a list with q in front stands before q, is q, or goes into the rest
-pub with_cases : (p q : ℕ) (s : List ℕ) → ((p < q) × (with_point p (q ∷ s) ≡ p ∷ q ∷ s)) ⊎ ((p ≡ q) × (with_point p (q ∷ s) ≡ q ∷ s)) ⊎ ((q < p) × (with_point p (q ∷ s) ≡ q ∷ with_point p s))
+pub with_cases : (p q : ℕ) (s : List ℕ) → ((p < q) × (with_point p (q ∷ s) ≡ p ∷ q ∷ s))
+    ⊎ ((p ≡ q) × (with_point p (q ∷ s) ≡ q ∷ s)) ⊎ ((q < p) × (with_point p (q ∷ s) ≡ q ∷ with_point p s))
 with_cases p q s = by_tests (nat_lt p q) (p == q) refl refl
   where
-    by_tests : (t u : Bool) → nat_lt p q ≡ t → (p == q) ≡ u → ((p < q) × (with_point p (q ∷ s) ≡ p ∷ q ∷ s)) ⊎ ((p ≡ q) × (with_point p (q ∷ s) ≡ q ∷ s)) ⊎ ((q < p) × (with_point p (q ∷ s) ≡ q ∷ with_point p s))
+    by_tests : (t u : Bool) → nat_lt p q ≡ t → (p == q) ≡ u → ((p < q) × (with_point p (q ∷ s) ≡ p ∷ q ∷ s))
+        ⊎ ((p ≡ q) × (with_point p (q ∷ s) ≡ q ∷ s)) ⊎ ((q < p) × (with_point p (q ∷ s) ≡ q ∷ with_point p s))
     by_tests true u e f = inl (grind (arith, nat_tests), rw e refl)
     by_tests false true e f = inr (inl (grind (arith, nat_tests), rw (e, f) refl))
     by_tests false false e f = inr (inr (grind (arith, nat_tests), rw (e, f) refl))
@@ -51,7 +53,10 @@ in_with_old p q (x ∷ s) i =
       | inl a ↦ subst (λ (v : List ℕ). IsIn q v) (sym a.1) (inr i)
       | inr b ↦ elim b [
         | inl a ↦ subst (λ (v : List ℕ). IsIn q v) (sym a.1) i
-        | inr a ↦ subst (λ (v : List ℕ). IsIn q v) (sym a.1) (elim i [ inl e ↦ inl e | inr j ↦ inr (in_with_old p q s j) ])
+        | inr a ↦ subst (λ (v : List ℕ). IsIn q v) (sym a.1) (elim i [
+          | inl e ↦ inl e
+          | inr j ↦ inr (in_with_old p q s j)
+        ])
       ]
     ]
 
@@ -63,7 +68,13 @@ ascending_with p (x ∷ s) h =
       | inl a ↦ subst IsAscending (sym a.1) (a.0, h)
       | inr b ↦ elim b [
         | inl a ↦ subst IsAscending (sym a.1) h
-        | inr a ↦ subst IsAscending (sym a.1) (first_below x (with_point p s) (λ y i. elim (in_with p y s i) [ inl e ↦ omega (arith, a.0, e) | inr j ↦ below_each x s h.0 h.1 y j ]), ascending_with p s h.1)
+        | inr a ↦ subst IsAscending (sym a.1) (
+          first_below x (with_point p s) (λ y i. elim (in_with p y s i) [
+            | inl e ↦ omega (arith, a.0, e)
+            | inr j ↦ below_each x s h.0 h.1 y j
+          ]),
+          ascending_with p s h.1,
+        )
       ]
     ]
 
@@ -83,12 +94,17 @@ in_ascending (q ∷ ps) p i = elim (in_with q p (ascending ps) i) [ inl e ↦ in
 pub in_ascending_from : (ps : List ℕ) (p : ℕ) → IsIn p ps → IsIn p (ascending ps)
 in_ascending_from [] p i = i
 in_ascending_from (q ∷ ps) p i =
-    elim i [ inl e ↦ subst (λ (v : ℕ). IsIn v (with_point q (ascending ps))) e (in_with_new q (ascending ps)) | inr j ↦ in_with_old q p (ascending ps) (in_ascending_from ps p j) ]
+    elim i [
+      | inl e ↦ subst (λ (v : ℕ). IsIn v (with_point q (ascending ps))) e (in_with_new q (ascending ps))
+      | inr j ↦ in_with_old q p (ascending ps) (in_ascending_from ps p j)
+    ]
 
 -- what has the members of a list and is ascending is that list in order
-pub ascending_is : (xs ps : List ℕ) → IsAscending xs → ((p : ℕ) → IsIn p xs → IsIn p ps) → ((p : ℕ) → IsIn p ps → IsIn p xs) → xs ≡ ascending ps
+pub ascending_is : (xs ps : List ℕ) → IsAscending xs → ((p : ℕ) → IsIn p xs → IsIn p ps) →
+    ((p : ℕ) → IsIn p ps → IsIn p xs) → xs ≡ ascending ps
 ascending_is xs ps h f g =
-    same_members xs (ascending ps) h (ascending_ascending ps) (λ p i. in_ascending_from ps p (f p i)) (λ p i. g p (in_ascending ps p i))
+    same_members xs (ascending ps) h (ascending_ascending ps) (λ p i. in_ascending_from ps p (f p i))
+    (λ p i. g p (in_ascending ps p i))
 
 -- so an ascending list put in order is itself
 pub ascending_self : (s : List ℕ) → IsAscending s → ascending s ≡ s

@@ -1,5 +1,25 @@
 -- The sign of the lifted determinant at the perturbed heights, by the coefficient that decides a tie.
-use Rattle.std.proofs.Common.{◌≡◌, ◌≢◌, ◌<◌, ◌≤◌, ◌+◌, ◌⊎◌, inl, inr, ℕ, zero, suc, ℤ, pos, subst, sym, ap, ◌∙◌, arith, false}
+use Rattle.std.proofs.Common.{
+  ◌≡◌,
+  ◌≢◌,
+  ◌<◌,
+  ◌≤◌,
+  ◌+◌,
+  ◌⊎◌,
+  inl,
+  inr,
+  ℕ,
+  zero,
+  suc,
+  ℤ,
+  pos,
+  subst,
+  sym,
+  ap,
+  ◌∙◌,
+  arith,
+  false,
+}
 use Rattle.std.proofs.lemmas.Int.{ints}
 use Rattle.std.proofs.lemmas.Bool.Decides.{nat_tests}
 use Rattle.std.proofs.Math.IntN.{neg_ℤ}
@@ -56,38 +76,64 @@ yields a b c d e p q z h is n =
 -- the same where the coefficient is a negated number
 yields_neg : (a b c d e p q : ℕ) (z : ℤ) → IsPast a b c d e p → coefficient a b c d e q ≡ neg_ℤ z → q ≢ p → Yields z q p
 yields_neg a b c d e p q z h is n =
-    record { either = elim (let y = yields a b c d e p q (neg_ℤ z) h is n in y.either) [ inl e ↦ inl (zero z e) | inr l ↦ inr l ] }
+    record {
+      either = elim (let y = yields a b c d e p q (neg_ℤ z) h is n in y.either) [
+        | inl e ↦ inl (zero z e)
+        | inr l ↦ inr l
+      ];
+    }
   where
     zero : (z : ℤ) → neg_ℤ z ≡ pos 0 → z ≡ pos 0
     zero z e = omega (arith, ints)
 
 -- at a tie where e is past every other with a coefficient, it gives the sign
-decides_e : (a b c d e : ℕ) → AreFive a b c d e → sphere_polynomial a b c d e ≡ pos 0 → IsPast a b c d e e → HasSignOf (orientation a b c d) (out a b c d e)
+decides_e : (a b c d e : ℕ) → AreFive a b c d e → sphere_polynomial a b c d e ≡ pos 0 → IsPast a b c d e e →
+    HasSignOf (orientation a b c d) (out a b c d e)
 decides_e a b c d e n t h =
-    tie_e a b c d e t (yields_neg a b c d e e d (orientation a b c e) h (coefficient_d a b c d e n) n.9) (yields a b c d e e c (orientation a b d e) h (coefficient_c a b c d e n) n.8) (yields_neg a b c d e e b (orientation a c d e) h (coefficient_b a b c d e n) n.6) (yields a b c d e e a (orientation b c d e) h (coefficient_a a b c d e n) n.3)
+    tie_e a b c d e t (yields_neg a b c d e e d (orientation a b c e) h (coefficient_d a b c d e n) n.9)
+    (yields a b c d e e c (orientation a b d e) h (coefficient_c a b c d e n) n.8)
+    (yields_neg a b c d e e b (orientation a c d e) h (coefficient_b a b c d e n) n.6)
+    (yields a b c d e e a (orientation b c d e) h (coefficient_a a b c d e n) n.3)
 
 -- where d is
-decides_d : (a b c d e : ℕ) → AreFive a b c d e → sphere_polynomial a b c d e ≡ pos 0 → IsPast a b c d e d → HasSignOf (neg_ℤ (orientation a b c e)) (out a b c d e)
+decides_d : (a b c d e : ℕ) → AreFive a b c d e → sphere_polynomial a b c d e ≡ pos 0 → IsPast a b c d e d →
+    HasSignOf (neg_ℤ (orientation a b c e)) (out a b c d e)
 decides_d a b c d e n t h =
-    tie_d a b c d e t (yields a b c d e d e (orientation a b c d) h (coefficient_e a b c d e n) (λ w. n.9 (sym w))) (yields a b c d e d c (orientation a b d e) h (coefficient_c a b c d e n) n.7) (yields_neg a b c d e d b (orientation a c d e) h (coefficient_b a b c d e n) n.5) (yields a b c d e d a (orientation b c d e) h (coefficient_a a b c d e n) n.2)
+    tie_d a b c d e t (yields a b c d e d e (orientation a b c d) h (coefficient_e a b c d e n) (λ w. n.9 (sym w)))
+    (yields a b c d e d c (orientation a b d e) h (coefficient_c a b c d e n) n.7)
+    (yields_neg a b c d e d b (orientation a c d e) h (coefficient_b a b c d e n) n.5)
+    (yields a b c d e d a (orientation b c d e) h (coefficient_a a b c d e n) n.2)
 
 -- where c is
-decides_c : (a b c d e : ℕ) → AreFive a b c d e → sphere_polynomial a b c d e ≡ pos 0 → IsPast a b c d e c → HasSignOf (orientation a b d e) (out a b c d e)
+decides_c : (a b c d e : ℕ) → AreFive a b c d e → sphere_polynomial a b c d e ≡ pos 0 → IsPast a b c d e c →
+    HasSignOf (orientation a b d e) (out a b c d e)
 decides_c a b c d e n t h =
-    tie_c a b c d e t (yields a b c d e c e (orientation a b c d) h (coefficient_e a b c d e n) (λ w. n.8 (sym w))) (yields_neg a b c d e c d (orientation a b c e) h (coefficient_d a b c d e n) (λ w. n.7 (sym w))) (yields_neg a b c d e c b (orientation a c d e) h (coefficient_b a b c d e n) n.4) (yields a b c d e c a (orientation b c d e) h (coefficient_a a b c d e n) n.1)
+    tie_c a b c d e t (yields a b c d e c e (orientation a b c d) h (coefficient_e a b c d e n) (λ w. n.8 (sym w)))
+    (yields_neg a b c d e c d (orientation a b c e) h (coefficient_d a b c d e n) (λ w. n.7 (sym w)))
+    (yields_neg a b c d e c b (orientation a c d e) h (coefficient_b a b c d e n) n.4)
+    (yields a b c d e c a (orientation b c d e) h (coefficient_a a b c d e n) n.1)
 
 -- where b is
-decides_b : (a b c d e : ℕ) → AreFive a b c d e → sphere_polynomial a b c d e ≡ pos 0 → IsPast a b c d e b → HasSignOf (neg_ℤ (orientation a c d e)) (out a b c d e)
+decides_b : (a b c d e : ℕ) → AreFive a b c d e → sphere_polynomial a b c d e ≡ pos 0 → IsPast a b c d e b →
+    HasSignOf (neg_ℤ (orientation a c d e)) (out a b c d e)
 decides_b a b c d e n t h =
-    tie_b a b c d e t (yields a b c d e b e (orientation a b c d) h (coefficient_e a b c d e n) (λ w. n.6 (sym w))) (yields_neg a b c d e b d (orientation a b c e) h (coefficient_d a b c d e n) (λ w. n.5 (sym w))) (yields a b c d e b c (orientation a b d e) h (coefficient_c a b c d e n) (λ w. n.4 (sym w))) (yields a b c d e b a (orientation b c d e) h (coefficient_a a b c d e n) n.0)
+    tie_b a b c d e t (yields a b c d e b e (orientation a b c d) h (coefficient_e a b c d e n) (λ w. n.6 (sym w)))
+    (yields_neg a b c d e b d (orientation a b c e) h (coefficient_d a b c d e n) (λ w. n.5 (sym w)))
+    (yields a b c d e b c (orientation a b d e) h (coefficient_c a b c d e n) (λ w. n.4 (sym w)))
+    (yields a b c d e b a (orientation b c d e) h (coefficient_a a b c d e n) n.0)
 
 -- where a is
-decides_a : (a b c d e : ℕ) → AreFive a b c d e → sphere_polynomial a b c d e ≡ pos 0 → IsPast a b c d e a → HasSignOf (orientation b c d e) (out a b c d e)
+decides_a : (a b c d e : ℕ) → AreFive a b c d e → sphere_polynomial a b c d e ≡ pos 0 → IsPast a b c d e a →
+    HasSignOf (orientation b c d e) (out a b c d e)
 decides_a a b c d e n t h =
-    tie_a a b c d e t (yields a b c d e a e (orientation a b c d) h (coefficient_e a b c d e n) (λ w. n.3 (sym w))) (yields_neg a b c d e a d (orientation a b c e) h (coefficient_d a b c d e n) (λ w. n.2 (sym w))) (yields a b c d e a c (orientation a b d e) h (coefficient_c a b c d e n) (λ w. n.1 (sym w))) (yields_neg a b c d e a b (orientation a c d e) h (coefficient_b a b c d e n) (λ w. n.0 (sym w)))
+    tie_a a b c d e t (yields a b c d e a e (orientation a b c d) h (coefficient_e a b c d e n) (λ w. n.3 (sym w)))
+    (yields_neg a b c d e a d (orientation a b c e) h (coefficient_d a b c d e n) (λ w. n.2 (sym w)))
+    (yields a b c d e a c (orientation a b d e) h (coefficient_c a b c d e n) (λ w. n.1 (sym w)))
+    (yields_neg a b c d e a b (orientation a c d e) h (coefficient_b a b c d e n) (λ w. n.0 (sym w)))
 
 -- what holds for the coefficient of a point that is q
-at : (a b c d e p q : ℕ) (z : ℤ) → p ≡ q → coefficient a b c d e q ≡ z → IsPast a b c d e p → (IsPast a b c d e q → HasSignOf z (out a b c d e)) → HasSignOf (coefficient a b c d e p) (out a b c d e)
+at : (a b c d e p q : ℕ) (z : ℤ) → p ≡ q → coefficient a b c d e q ≡ z → IsPast a b c d e p →
+    (IsPast a b c d e q → HasSignOf z (out a b c d e)) → HasSignOf (coefficient a b c d e p) (out a b c d e)
 at a b c d e p q z is k h f =
     let P : ℕ → Type 0 = λ v. IsPast a b c d e v in
     let S : ℤ → Type 0 = λ v. HasSignOf v (out a b c d e) in
@@ -95,16 +141,19 @@ at a b c d e p q z is k h f =
     subst S (sym i) (f (subst P is h))
 
 -- at a tie the coefficient of the greatest point whose coefficient is not 0 has the sign
-pub sign_of_tie : (a b c d e p : ℕ) → AreFive a b c d e → sphere_polynomial a b c d e ≡ pos 0 → IsDeciding a b c d e p → HasSignOf (coefficient a b c d e p) (out a b c d e)
+pub sign_of_tie : (a b c d e p : ℕ) → AreFive a b c d e → sphere_polynomial a b c d e ≡ pos 0 → IsDeciding a b c d e p →
+    HasSignOf (coefficient a b c d e p) (out a b c d e)
 sign_of_tie a b c d e p n t h =
     elim (one_of_five a b c d e p h.0) [
       | inl x ↦ at a b c d e p a (orientation b c d e) x (coefficient_a a b c d e n) h.1 (decides_a a b c d e n t)
       | inr r ↦ elim r [
-        | inl x ↦ at a b c d e p b (neg_ℤ (orientation a c d e)) x (coefficient_b a b c d e n) h.1 (decides_b a b c d e n t)
+        | inl x ↦ at a b c d e p b (neg_ℤ (orientation a c d e)) x (coefficient_b a b c d e n) h.1
+            (decides_b a b c d e n t)
         | inr r2 ↦ elim r2 [
           | inl x ↦ at a b c d e p c (orientation a b d e) x (coefficient_c a b c d e n) h.1 (decides_c a b c d e n t)
           | inr r3 ↦ elim r3 [
-            | inl x ↦ at a b c d e p d (neg_ℤ (orientation a b c e)) x (coefficient_d a b c d e n) h.1 (decides_d a b c d e n t)
+            | inl x ↦ at a b c d e p d (neg_ℤ (orientation a b c e)) x (coefficient_d a b c d e n) h.1
+                (decides_d a b c d e n t)
             | inr x ↦ at a b c d e p e (orientation a b c d) x (coefficient_e a b c d e n) h.1 (decides_e a b c d e n t)
           ]
         ]
@@ -120,10 +169,12 @@ not_zero z h = grind (arith, ints)
 -- a number past the sum of the five is none of them
 none_past : (a b c d e q : ℕ) → a + b + c + d + e < q → coefficient a b c d e q ≡ pos 0
 none_past a b c d e q l =
-    coefficient_none a b c d e q (λ x. absurd (omega arith)) (λ x. absurd (omega arith)) (λ x. absurd (omega arith)) (λ x. absurd (omega arith)) (λ x. absurd (omega arith))
+    coefficient_none a b c d e q (λ x. absurd (omega arith)) (λ x. absurd (omega arith)) (λ x. absurd (omega arith))
+    (λ x. absurd (omega arith)) (λ x. absurd (omega arith))
 
 -- from n down to the greatest that has a coefficient
-find : (a b c d e n : ℕ) → coefficient a b c d e e ≢ pos 0 → ((q : ℕ) → n ≤ q → coefficient a b c d e q ≡ pos 0) → (p : ℕ) × IsDeciding a b c d e p
+find : (a b c d e n : ℕ) → coefficient a b c d e e ≢ pos 0 → ((q : ℕ) → n ≤ q → coefficient a b c d e q ≡ pos 0) →
+    (p : ℕ) × IsDeciding a b c d e p
 find a b c d e zero k h = absurd (k (h e (omega arith)))
 find a b c d e (suc n) k h =
     elim (sign (coefficient a b c d e n)) [
@@ -135,10 +186,12 @@ find a b c d e (suc n) k h =
     or_past : (n q : ℕ) → n ≤ q → (q ≡ n) ⊎ (suc n ≤ q)
     or_past n q l = grind arith
 
-    step : (a b c d e n q : ℕ) → coefficient a b c d e n ≡ pos 0 → ((q : ℕ) → suc n ≤ q → coefficient a b c d e q ≡ pos 0) → n ≤ q → coefficient a b c d e q ≡ pos 0
+    step : (a b c d e n q : ℕ) → coefficient a b c d e n ≡ pos 0 →
+        ((q : ℕ) → suc n ≤ q → coefficient a b c d e q ≡ pos 0) → n ≤ q → coefficient a b c d e q ≡ pos 0
     step a b c d e n q z h l = elim (or_past n q l) [ inl i ↦ ap (λ v. coefficient a b c d e v) i ∙ z | inr m ↦ h q m ]
 
 -- of five points of which the first four are independent, one decides
 pub decided : (a b c d e : ℕ) → AreFive a b c d e → is_flat a b c d ≡ false → (p : ℕ) × IsDeciding a b c d e p
 decided a b c d e n f =
-    find a b c d e (suc (a + b + c + d + e)) (λ z. not_zero (orientation a b c d) f (sym (coefficient_e a b c d e n) ∙ z)) (λ q l. none_past a b c d e q (omega arith))
+    find a b c d e (suc (a + b + c + d + e)) (λ z. not_zero (orientation a b c d) f
+    (sym (coefficient_e a b c d e n) ∙ z)) (λ q l. none_past a b c d e q (omega arith))

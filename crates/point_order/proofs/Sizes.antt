@@ -27,18 +27,23 @@ unfolding z_from
 z_from_within a b = apart (z_of a) (z_of b) (z_of_below a) (z_of_below b)
 
 -- a minor of small numbers is at most 2 times 16383^2
-pub minor_within : {p q r s : ℤ} → IsWithin 16383 p → IsWithin 16383 q → IsWithin 16383 r → IsWithin 16383 s → IsWithin 536805378 (minor p q r s)
+pub minor_within : {p q r s : ℤ} → IsWithin 16383 p → IsWithin 16383 q → IsWithin 16383 r → IsWithin 16383 s →
+    IsWithin 536805378 (minor p q r s)
 unfolding minor
 minor_within h i j k = within_sub (within_mul h k) (within_mul i j)
 
 -- a determinant of them is at most 6 times 16383^3
-pub triple_within : {a b c d e f g h i : ℤ} → IsWithin 16383 a → IsWithin 16383 b → IsWithin 16383 c → IsWithin 16383 d → IsWithin 16383 e → IsWithin 16383 f → IsWithin 16383 g → IsWithin 16383 h → IsWithin 16383 i → IsWithin 26383447523322 (triple a b c d e f g h i)
+pub triple_within : {a b c d e f g h i : ℤ} → IsWithin 16383 a → IsWithin 16383 b → IsWithin 16383 c →
+    IsWithin 16383 d → IsWithin 16383 e → IsWithin 16383 f → IsWithin 16383 g → IsWithin 16383 h → IsWithin 16383 i →
+    IsWithin 26383447523322 (triple a b c d e f g h i)
 unfolding triple
 triple_within a b c d e f g h i =
-    within_add (within_add (within_mul a (minor_within e f h i)) (within_mul b (minor_within f d i g))) (within_mul c (minor_within d e g h))
+    within_add (within_add (within_mul a (minor_within e f h i)) (within_mul b (minor_within f d i g)))
+    (within_mul c (minor_within d e g h))
 
 -- and so is an orientation
 pub orientation_within : (a b c d : ℕ) → IsWithin 26383447523322 (orientation a b c d)
 unfolding orientation
 orientation_within a b c d =
-    triple_within (x_from_within a b) (y_from_within a b) (z_from_within a b) (x_from_within a c) (y_from_within a c) (z_from_within a c) (x_from_within a d) (y_from_within a d) (z_from_within a d)
+    triple_within (x_from_within a b) (y_from_within a b) (z_from_within a b) (x_from_within a c) (y_from_within a c)
+    (z_from_within a c) (x_from_within a d) (y_from_within a d) (z_from_within a d)

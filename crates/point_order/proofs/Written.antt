@@ -25,7 +25,8 @@ triple_w ux uy uz vx vy vz wx wy wz =
 -- the orientation of four points
 abbrev pub orientation_w : ℕ → ℕ → ℕ → ℕ → Expr
 orientation_w a b c d =
-    triple_w (step_w 0 a b) (step_w 1 a b) (step_w 2 a b) (step_w 0 a c) (step_w 1 a c) (step_w 2 a c) (step_w 0 a d) (step_w 1 a d) (step_w 2 a d)
+    triple_w (step_w 0 a b) (step_w 1 a b) (step_w 2 a b) (step_w 0 a c) (step_w 1 a c) (step_w 2 a c) (step_w 0 a d)
+    (step_w 1 a d) (step_w 2 a d)
 
 -- the square of a point's distance from the origin
 abbrev pub square_w : ℕ → Expr
@@ -40,4 +41,5 @@ distance_w a p =
 -- the in-sphere polynomial of the points 0 to 4
 abbrev pub sphere_w : Expr
 sphere_w =
-    orientation_w 0 1 2 3 ⊗ square_w 4 ⊖ orientation_w 0 1 2 4 ⊗ square_w 3 ⊕ orientation_w 0 1 3 4 ⊗ square_w 2 ⊖ orientation_w 0 2 3 4 ⊗ square_w 1 ⊕ orientation_w 1 2 3 4 ⊗ square_w 0
+    orientation_w 0 1 2 3 ⊗ square_w 4 ⊖ orientation_w 0 1 2 4 ⊗ square_w 3 ⊕ orientation_w 0 1 3 4 ⊗ square_w 2
+    ⊖ orientation_w 0 2 3 4 ⊗ square_w 1 ⊕ orientation_w 1 2 3 4 ⊗ square_w 0

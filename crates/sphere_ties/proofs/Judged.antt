@@ -11,7 +11,8 @@ off_plane a b c m k f z e =
     not_zero (orientation a b c m) f (ap (λ v. orientation a b c v) (sym e) ∙ z)
 
 -- an Open cell, its mate off the plane and a point that is none of the four
-pub five_judged : (a b c m p : ℕ) → a < b → b < c → is_flat a b c m ≡ false → is_among p (a ∷ b ∷ c ∷ m ∷ []) ≡ false → AreFive a b c m p
+pub five_judged : (a b c m p : ℕ) → a < b → b < c → is_flat a b c m ≡ false → is_among p (a ∷ b ∷ c ∷ m ∷ []) ≡ false →
+    AreFive a b c m p
 five_judged a b c m p h k f n =
     let am : a ≢ m = off_plane a b c m a f (last_first a b c) in
     let bm : b ≢ m = off_plane a b c m b f (last_second a b c) in

@@ -9,9 +9,11 @@ use Rattle.point_order.specs.Laws.{coefficient}
 use Rattle.point_order.proofs.Cited.{coefficient_e, not_zero, one_of_five}
 
 -- the last point keeps its coefficient, so it is below the limit
-pub last_below : (a b c d e limit : ℕ) → AreFive a b c d e → is_flat a b c d ≡ false → ((q : ℕ) → limit ≤ q → coefficient a b c d e q ≡ pos 0) → e < limit
+pub last_below : (a b c d e limit : ℕ) → AreFive a b c d e → is_flat a b c d ≡ false →
+    ((q : ℕ) → limit ≤ q → coefficient a b c d e q ≡ pos 0) → e < limit
 last_below a b c d e limit n f h =
-    let o : limit ≤ e → ⊥ = λ k. not_zero (orientation a b c d) f (sym (coefficient_e a b c d e n) ∙ h e k) in grind (arith, o)
+    let o : limit ≤ e → ⊥ =
+    λ k. not_zero (orientation a b c d) f (sym (coefficient_e a b c d e n) ∙ h e k) in grind (arith, o)
 
 -- a point with a coefficient is one of the list
 in_list : (a b c d e q : ℕ) → coefficient a b c d e q ≢ pos 0 → IsIn q (a ∷ b ∷ c ∷ d ∷ e ∷ [])
@@ -28,7 +30,8 @@ in_list a b c d e q n =
     ]
 
 -- those greater than the point that is looked at have the coefficient 0
-pub passed_above : (a b c d e at limit : ℕ) → ((q : ℕ) → IsIn q (a ∷ b ∷ c ∷ d ∷ e ∷ []) → q < limit → q ≤ at) → ((q : ℕ) → limit ≤ q → coefficient a b c d e q ≡ pos 0) → (q : ℕ) → at < q → coefficient a b c d e q ≡ pos 0
+pub passed_above : (a b c d e at limit : ℕ) → ((q : ℕ) → IsIn q (a ∷ b ∷ c ∷ d ∷ e ∷ []) → q < limit → q ≤ at) →
+    ((q : ℕ) → limit ≤ q → coefficient a b c d e q ≡ pos 0) → (q : ℕ) → at < q → coefficient a b c d e q ≡ pos 0
 passed_above a b c d e at limit most h q l =
     elim (sign (coefficient a b c d e q)) [
       | below p ↦ absurd (clash (λ z. not_below z p))
@@ -49,7 +52,9 @@ passed_above a b c d e at limit most h q l =
         grind (arith, k, j)
 
 -- and where it has the coefficient 0 too, so have those from it on
-pub passed_from : (a b c d e at limit : ℕ) → ((q : ℕ) → IsIn q (a ∷ b ∷ c ∷ d ∷ e ∷ []) → q < limit → q ≤ at) → ((q : ℕ) → limit ≤ q → coefficient a b c d e q ≡ pos 0) → coefficient a b c d e at ≡ pos 0 → (q : ℕ) → at ≤ q → coefficient a b c d e q ≡ pos 0
+pub passed_from : (a b c d e at limit : ℕ) → ((q : ℕ) → IsIn q (a ∷ b ∷ c ∷ d ∷ e ∷ []) → q < limit → q ≤ at) →
+    ((q : ℕ) → limit ≤ q → coefficient a b c d e q ≡ pos 0) → coefficient a b c d e at ≡ pos 0 → (q : ℕ) → at ≤ q →
+    coefficient a b c d e q ≡ pos 0
 passed_from a b c d e at limit most h z q l =
     elim (cases q at l) [
       | inl i ↦ ap (λ v. coefficient a b c d e v) i ∙ z

@@ -6,7 +6,7 @@ ghost use Rattle.std.specs.Io.KnownBytes.{WriteAppends};
 ghost use Rattle.byte_ends.specs.Ends.{HasCause};
 
 use byte_ends::{Failed, Sink};
-use std::alloc::Global;
+use std::alloc::{AllocError, Global};
 use std::marker::Model;
 
 /// A sink in memory that grows with what is written. It fails where there is no memory for a piece.
@@ -33,6 +33,17 @@ impl WholeText {
             bytes: Vec::new(alloc),
             faults: 0,
         }
+    }
+
+    /// The same, with room for so many bytes.
+    ///
+    /// # Errors
+    /// Want of memory.
+    pub fn with_room(alloc: Global, room: usize) -> Result<Self, AllocError>
+        ensures { IfOk result (λ text. text ≡ record { bytes = []; faults = 0 }) }
+    {
+        let bytes = Vec::with_capacity(alloc, room)?;
+        Ok(WholeText { bytes, faults: 0 })
     }
 
     /// The bytes that it holds.

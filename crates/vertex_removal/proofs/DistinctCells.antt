@@ -14,7 +14,8 @@ use Rattle.point_order.specs.CellOrder.{cell_cmp}
 use Rattle.point_order.specs.Sets.{IsIn}
 
 -- a list whose members a test tells apart has each once
-apart_once : (e : Cell → Cell → Bool) → ((x : Cell) → e x x ≡ true) → (xs : List Cell) → IsDistinct e xs → AreDistinct xs
+apart_once : (e : Cell → Cell → Bool) → ((x : Cell) → e x x ≡ true) → (xs : List Cell) → IsDistinct e xs →
+    AreDistinct xs
 unfolding IsDistinct
 apart_once e r [] d = tt
 apart_once e r (x ∷ xs) d = (apart xs d.0, apart_once e r xs d.1)

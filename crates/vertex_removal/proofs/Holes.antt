@@ -11,7 +11,14 @@ use Rattle.point_order.specs.Sets.{IsIn, is_among, without_point}
 use Rattle.point_order.specs.Solid.{is_solid}
 use Rattle.del_laws.proofs.Cited.{solid_more}
 use Rattle.hole_laws.specs.Edits.{IsSet, IsLinkSet}
-use Rattle.hole_laws.proofs.Cited.{cells_of_rest, coming_are_near, old_lack_point, refilled_from_link, rest_new, rest_set}
+use Rattle.hole_laws.proofs.Cited.{
+  cells_of_rest,
+  coming_are_near,
+  old_lack_point,
+  refilled_from_link,
+  rest_new,
+  rest_set,
+}
 use Rattle.cell_store.specs.Grids.{bucket_of}
 use Rattle.cell_store.specs.Buckets.{InHand, bucket_at}
 use Rattle.cell_store.specs.Ready.{AreHeld}
@@ -21,7 +28,8 @@ use Rattle.vertex_removal.specs.Refills.{IsRefilled}
 use Rattle.vertex_removal.proofs.Star.{star_list, star_once}
 
 -- a point whose bucket is in hand is in each set that the hold shows, or in none
-pub still_there : (hold : InHand) (h k : List ℕ) (v : ℕ) → Shows hold h → Shows hold k → IsSome (bucket_at hold.places (bucket_of hold.grid v)) → IsIn v h → IsIn v k
+pub still_there : (hold : InHand) (h k : List ℕ) (v : ℕ) → Shows hold h → Shows hold k →
+    IsSome (bucket_at hold.places (bucket_of hold.grid v)) → IsIn v h → IsIn v k
 still_there hold h k v st sk o m =
     let b = bucket_of hold.grid v in
     let x = some_of (bucket_at hold.places b) o in
@@ -36,14 +44,19 @@ module _ (s : List ℕ) (v : ℕ) (i : IsSet s) (m : IsIn v s) (t : List ℕ) (l
 
   -- no cell of the rest has v
   lacks : (q : Cell) → IsIn q (complex (without_point v s)) → ¬ (IsIn v (points_of q))
-  lacks q o = old_lack_point (without_point v s) v (record { set = rest_set v s i; solid = rest_solid }) (rest_new v s i m) q o
+  lacks q o =
+      old_lack_point (without_point v s) v (record { set = rest_set v s i; solid = rest_solid }) (rest_new v s i m) q o
 
   -- a cell of the set that is none of the rest has it
   has : (q : Cell) → IsIn q (complex s) → (IsIn q (complex (without_point v s)) → ⊥) → IsIn v (points_of q)
-  has q k n = elim (is_in v (points_of q)) [ yes y ↦ y | no x ↦ absurd (n ((cells_of_rest s v i m rest_solid q).1 (inl (k, x)))) ]
+  has q k n = elim (is_in v (points_of q)) [
+    | yes y ↦ y
+    | no x ↦ absurd (n ((cells_of_rest s v i m rest_solid q).1 (inl (k, x))))
+  ]
 
   -- the cells at v, and those that v takes away from the complex of the points near
-  pub hole_filled : (star fresh : List Cell) → star ≡ filter (λ c. is_among v (points_of c)) (complex s) → AreTaken t v fresh → IsRefilled s v star fresh
+  pub hole_filled : (star fresh : List Cell) → star ≡ filter (λ c. is_among v (points_of c)) (complex s) →
+      AreTaken t v fresh → IsRefilled s v star fresh
   hole_filled star fresh e f =
       let k = star_list s v star e in
       record {
@@ -60,7 +73,8 @@ module _ (s : List ℕ) (v : ℕ) (i : IsSet s) (m : IsIn v s) (t : List ℕ) (l
       }
 
 -- the buckets of the fresh cells are in hand with those of the cells at v
-pub fresh_held : (hold : InHand) (s : List ℕ) (v : ℕ) (gone fresh : List Cell) → IsSet s → IsIn v s → IsRefilled s v gone fresh → AreHeld hold gone → AreHeld hold fresh
+pub fresh_held : (hold : InHand) (s : List ℕ) (v : ℕ) (gone fresh : List Cell) → IsSet s → IsIn v s →
+    IsRefilled s v gone fresh → AreHeld hold gone → AreHeld hold fresh
 fresh_held hold s v gone fresh i m f held c j e k =
     let r = f.change.came c j in
     let q = coming_are_near s v i m f.solid c (record { before = r.0; after = r.1 }) e k in

@@ -18,18 +18,31 @@ use Rattle.vertex_removal.proofs.Holes.{hole_filled, fresh_held}
 use Rattle.vertex_removal.proofs.Star.{star_list}
 
 -- a bucket that is missing for the cells at v is needed
-pub star_needs : (hold : InHand) (s : List ℕ) (v : ℕ) (star : List Cell) (b : ℕ) → IsStar s v star → IsCellMissing hold star b → IsNeeded hold s v b
+pub star_needs : (hold : InHand) (s : List ℕ) (v : ℕ) (star : List Cell) (b : ℕ) → IsStar s v star →
+    IsCellMissing hold star b → IsNeeded hold s v b
 star_needs hold s v star b k m =
     let r = (k m.cell).0 m.among in
-    record { absent = m.missing.absent; cell = m.cell; listed = r.0; has_v = r.1; point = m.missing.point; has = m.missing.among; number = m.missing.number }
+    record {
+      absent = m.missing.absent;
+      cell = m.cell;
+      listed = r.0;
+      has_v = r.1;
+      point = m.missing.point;
+      has = m.missing.among;
+      number = m.missing.number;
+    }
 
 -- and where none is missing, none is
-pub none_needed : (hold : InHand) (s : List ℕ) (v : ℕ) (star : List Cell) → IsStar s v star → AreHeld hold star → NoneIsNeeded hold s v
+pub none_needed : (hold : InHand) (s : List ℕ) (v : ℕ) (star : List Cell) → IsStar s v star → AreHeld hold star →
+    NoneIsNeeded hold s v
 none_needed hold s v star k held b n =
-    none_there (bucket_at hold.places b) n.absent (subst (λ (x : ℕ). IsSome (bucket_at hold.places x)) (sym n.number) (held n.cell ((k n.cell).1 (n.listed, n.has_v)) n.point n.has))
+    none_there (bucket_at hold.places b) n.absent (subst (λ (x : ℕ). IsSome (bucket_at hold.places x)) (sym n.number)
+    (held n.cell ((k n.cell).1 (n.listed, n.has_v)) n.point n.has))
 
 -- when the hole is filled
-pub refill_done : (hold : InHand) (s : List ℕ) (v : ℕ) (t : List ℕ) (star fresh : List Cell) → IsSet s → IsIn v s → IsLinkSet s v t → star ≡ filter (λ c. is_among v (points_of c)) (complex s) → AreHeld hold star → AreTaken t v fresh → NoneIsNeeded hold s v × IsRefilled s v star fresh × AreHeld hold star × AreHeld hold fresh
+pub refill_done : (hold : InHand) (s : List ℕ) (v : ℕ) (t : List ℕ) (star fresh : List Cell) → IsSet s → IsIn v s →
+    IsLinkSet s v t → star ≡ filter (λ c. is_among v (points_of c)) (complex s) → AreHeld hold star →
+    AreTaken t v fresh → NoneIsNeeded hold s v × IsRefilled s v star fresh × AreHeld hold star × AreHeld hold fresh
 refill_done hold s v t star fresh i m l e held f =
     let r = hole_filled s v i m t l star fresh e f in
     (none_needed hold s v star (star_list s v star e) held, r, held, fresh_held hold s v star fresh i m r held)

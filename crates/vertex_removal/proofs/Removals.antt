@@ -29,7 +29,12 @@ removal_follows h e gone fresh i f =
 pub move_follows : MoveFollows
 move_follows h e a b gone fresh i solid ch =
     let s = replay h in
-    let moved : reply_to s (Move a b) ≡ Moved = does_move a b s (record { there = among_true a s i.there; free = false_if (is_among b s) (λ t. i.free (among_from b s t)); solid = solid }) in
+    let moved : reply_to s (Move a b) ≡ Moved = does_move a b s
+    (record {
+      there = among_true a s i.there;
+      free = false_if (is_among b s) (λ t. i.free (among_from b s t));
+      solid = solid;
+    }) in
     let left : after s e.edit ≡ moved_to a b s = ap (after s) i.edit ∙ after_moved a b s moved in
     record {
       number = i.number;

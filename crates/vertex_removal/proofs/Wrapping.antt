@@ -6,7 +6,20 @@ use Rattle.std.proofs.Common.{refl, sym, ◌∙◌, ap, subst, inl, inr, arith}
 use Rattle.std.proofs.lemmas.Bool.{cases_eq}
 use Rattle.std.proofs.lemmas.List.Sorted.{IsPermutation-sym}
 use Rattle.list_laws.specs.Lists.{AreDistinct}
-use Rattle.list_laws.proofs.Cited.{all_from, all_true, among_true, both_true, distinct_push, first_true, from_append, in_left, in_moved, in_right, none_in, second_true}
+use Rattle.list_laws.proofs.Cited.{
+  all_from,
+  all_true,
+  among_true,
+  both_true,
+  distinct_push,
+  first_true,
+  from_append,
+  in_left,
+  in_moved,
+  in_right,
+  none_in,
+  second_true,
+}
 use Rattle.point_order.specs.declared.cell.Cell.{Cell}
 use Rattle.point_order.specs.declared.cell.Cell.TheVariants.{Full, Open}
 use Rattle.point_order.specs.declared.cell.Facet.{Facet}
@@ -21,13 +34,52 @@ use Rattle.point_order.specs.Spheres.{is_outside}
 use Rattle.point_order.proofs.Cited.{in_with, in_with_new, in_with_old}
 use Rattle.del_laws.specs.Cells.{Vertex, point, On}
 use Rattle.del_laws.specs.Vertices.{are_among, is_full_cell}
-use Rattle.del_laws.proofs.Cited.{IsOver, cell_from, cell_is_listed, fits, listed_facets, listed_is_cell, over_facet, test_is_listed, vertex_discrete}
+use Rattle.del_laws.proofs.Cited.{
+  IsOver,
+  cell_from,
+  cell_is_listed,
+  fits,
+  listed_facets,
+  listed_is_cell,
+  over_facet,
+  test_is_listed,
+  vertex_discrete,
+}
 use Rattle.hole_laws.specs.Edits.{IsSet, IsNew, IsLinkSet, GoesFrom, StaysFrom, IsRimOf}
 use Rattle.hole_laws.specs.Lists.{cell_over}
-use Rattle.hole_laws.proofs.Cited.{IsAgainst, IsFacetVertex, against_of, cells_after, fresh_have_point, goes_in_conflict, lists_of, mates_judge, more_set, old_lack_point, one_gone_each, over_facet as over_point, point_vertex, region_connected, within_new, without_from}
+use Rattle.hole_laws.proofs.Cited.{
+  IsAgainst,
+  IsFacetVertex,
+  against_of,
+  cells_after,
+  fresh_have_point,
+  goes_in_conflict,
+  lists_of,
+  mates_judge,
+  more_set,
+  old_lack_point,
+  one_gone_each,
+  over_facet as over_point,
+  point_vertex,
+  region_connected,
+  within_new,
+  without_from,
+}
 use Rattle.cell_conflict.proofs.Cited.{one_of_two}
 use Rattle.vertex_removal.specs.Near.{AreTaken}
-use Rattle.vertex_removal.specs.Wraps.{IsApex, CanWrap, IsHole, IsOuter, IsFacetIn, AreSidesOf, IsOpen, AreMet, AreInOrder, LeaderIsApex, OuterIsRim}
+use Rattle.vertex_removal.specs.Wraps.{
+  IsApex,
+  CanWrap,
+  IsHole,
+  IsOuter,
+  IsFacetIn,
+  AreSidesOf,
+  IsOpen,
+  AreMet,
+  AreInOrder,
+  LeaderIsApex,
+  OuterIsRim,
+}
 use Rattle.vertex_removal.specs.declared.wrap.Side.{Side}
 use Rattle.vertex_removal.proofs.Apexes.{cell_above, cell_point}
 
@@ -35,26 +87,37 @@ use Rattle.vertex_removal.proofs.Apexes.{cell_above, cell_point}
 
 module _ (t : List ℕ) (i : IsSet t) where
   -- the one that leads makes a cell
-  apex_is : (f : Facet) (a b c d : ℕ) → AreInOrder f a b c → IsFacetIn (complex t) f → IsApex t t a b c d → is_full_cell t a b c d ≡ true
+  apex_is : (f : Facet) (a b c d : ℕ) → AreInOrder f a b c → IsFacetIn (complex t) f → IsApex t t a b c d →
+      is_full_cell t a b c d ≡ true
   apex_is f a b c d o m l =
       let r = cell_above t i.keys a b c over.last sides d l.inside l.above in
-      subst (λ (x : ℕ). is_full_cell t a b c x ≡ true) (l.only r.0 (cell_point t a b c r.0 r.2 r.0 (inr (inr (inr (inl refl))))) r.1 r.2) r.2
+      subst (λ (x : ℕ). is_full_cell t a b c x ≡ true) (l.only r.0
+      (cell_point t a b c r.0 r.2 r.0 (inr (inr (inr (inl refl))))) r.1 r.2) r.2
     where
       over : IsOver t m.cell f
       over = over_facet t i.keys m.cell f (listed_is_cell t m.cell i.ascending m.listed) m.has
 
       plain : On height t a o.low o.high over.last ⊎ On height t a o.high o.low over.last
-      plain = cell_from t (point a) (point o.low) (point o.high) over.last (subst (λ (g : Facet). fits t g over.last ≡ true) o.is over.test)
+      plain =
+          cell_from t (point a) (point o.low) (point o.high) over.last
+          (subst (λ (g : Facet). fits t g over.last ≡ true) o.is over.test)
 
       sides : On height t a b c over.last ⊎ On height t a c b over.last
       sides = elim o.one_of [
-        | inl e ↦ subst (λ (x : ℕ). On height t a x c over.last ⊎ On height t a c x over.last) (sym e.0) (subst (λ (x : ℕ). On height t a o.low x over.last ⊎ On height t a x o.low over.last) (sym e.1) plain)
-        | inr e ↦ subst (λ (x : ℕ). On height t a x c over.last ⊎ On height t a c x over.last) (sym e.0) (subst (λ (x : ℕ). On height t a o.high x over.last ⊎ On height t a x o.high over.last) (sym e.1) (elim plain [ inl p ↦ inr p | inr p ↦ inl p ]))
+        | inl e ↦ subst (λ (x : ℕ). On height t a x c over.last ⊎ On height t a c x over.last) (sym e.0)
+            (subst (λ (x : ℕ). On height t a o.low x over.last ⊎ On height t a x o.low over.last) (sym e.1) plain)
+        | inr e ↦ subst (λ (x : ℕ). On height t a x c over.last ⊎ On height t a c x over.last) (sym e.0)
+            (subst (λ (x : ℕ). On height t a o.high x over.last ⊎ On height t a x o.high over.last) (sym e.1)
+            (elim plain [
+              | inl p ↦ inr p
+              | inr p ↦ inl p
+            ]))
       ]
 
 -- so it is listed
 pub leader_is_apex : LeaderIsApex
-leader_is_apex t f a b c d i o m l = test_is_listed t i.ascending i.keys (point a) (point b) (point c) (point d) (apex_is t i f a b c d o m l)
+leader_is_apex t f a b c d i o m l =
+    test_is_listed t i.ascending i.keys (point a) (point b) (point c) (point d) (apex_is t i f a b c d o m l)
 
 module _ (t : List ℕ) (v : ℕ) (k : CanWrap t v) where
   -- whether v takes it away can be judged
@@ -75,28 +138,36 @@ module _ (s : List ℕ) (v : ℕ) (i : IsSet s) (m : IsIn v s) (t : List ℕ) (l
 
   -- with v they are of the set
   near_inside : (e : ℕ) → IsIn e (with_point v t) → IsIn e s
-  near_inside e h = elim (in_with v e t h) [ inl q ↦ subst (λ (x : ℕ). IsIn x s) q m | inr r ↦ (without_from v s e (l.inside e r)).0 ]
+  near_inside e h = elim (in_with v e t h) [
+    | inl q ↦ subst (λ (x : ℕ). IsIn x s) q m
+    | inr r ↦ (without_from v s e (l.inside e r)).0
+  ]
 
   -- the points of a cell at v are among them
-  near_point : (c : Cell) → IsIn c (complex s) → IsIn v (points_of c) → (e : ℕ) → IsIn e (points_of c) → IsIn e (with_point v t)
+  near_point : (c : Cell) → IsIn c (complex s) → IsIn v (points_of c) → (e : ℕ) → IsIn e (points_of c) →
+      IsIn e (with_point v t)
   near_point c n h e j = elim (cases_eq e v) [
     | inl q ↦ subst (λ (x : ℕ). IsIn x (with_point v t)) (sym q) (in_with_new v t)
     | inr d ↦ in_with_old v e t (l.link e d (record { q = c; listed = n; has_p = h; has_e = j }))
   ]
 
   -- a Full cell
-  near_full : (a b c d : ℕ) → is_full_cell s a b c d ≡ true → ((e : ℕ) → IsIn e (a ∷ b ∷ c ∷ d ∷ []) → IsIn e (with_point v t)) → is_full_cell (with_point v t) a b c d ≡ true
+  near_full : (a b c d : ℕ) → is_full_cell s a b c d ≡ true →
+      ((e : ℕ) → IsIn e (a ∷ b ∷ c ∷ d ∷ []) → IsIn e (with_point v t)) → is_full_cell (with_point v t) a b c d ≡ true
   near_full a b c d h p =
       let q = a ∷ b ∷ c ∷ d ∷ [] in
       let each = λ (e : ℕ). is_among e (a ∷ b ∷ c ∷ d ∷ []) || is_outside a b c d e in
       let full = second_true (are_among q s) (is_full s q) h in
       both_true (are_among q (with_point v t)) (is_full (with_point v t) q)
       (all_true (λ x. is_among x (with_point v t)) q (λ e j. among_true e (with_point v t) (p e j)))
-      (both_true (not (is_flat a b c d)) (list_all each (with_point v t)) (first_true (not (is_flat a b c d)) (list_all each s) full)
-      (all_true each (with_point v t) (λ e j. all_from each s (second_true (not (is_flat a b c d)) (list_all each s) full) e (near_inside e j))))
+      (both_true (not (is_flat a b c d)) (list_all each (with_point v t))
+      (first_true (not (is_flat a b c d)) (list_all each s) full)
+      (all_true each (with_point v t) (λ e j. all_from each s (second_true (not (is_flat a b c d)) (list_all each s)
+      full) e (near_inside e j))))
 
   -- a cell at v with a triple against it
-  near_cell : (c : Cell) (f : Facet) → IsIn c (complex s) → IsIn v (points_of c) → IsOuter c v f → IsIn c (complex (with_point v t))
+  near_cell : (c : Cell) (f : Facet) → IsIn c (complex s) → IsIn v (points_of c) → IsOuter c v f →
+      IsIn c (complex (with_point v t))
   near_cell (Full q) f n h a =
       let r = listed_is_cell s (Full q) i.ascending n in
       let u = more_set t v l.solid.set near_new.key in
@@ -109,11 +180,13 @@ module _ (s : List ℕ) (v : ℕ) (i : IsSet s) (m : IsIn v s) (t : List ℕ) (l
         first = r.first;
         second = r.second;
         third = r.third;
-        test = near_full r.a r.b r.c r.d r.test (λ e j. near_point (Full q) n h e (subst (λ (x : List ℕ). IsIn e x) (sym r.is) j));
+        test = near_full r.a r.b r.c r.d r.test (λ e j. near_point (Full q) n h e
+            (subst (λ (x : List ℕ). IsIn e x) (sym r.is) j));
       })
   near_cell (Open q) f n h a =
       let r = listed_is_cell s (Open q) i.ascending n in
-      absurd (no_triple r.a r.b r.c (subst (λ (x : List ℕ). IsIn v x) r.is h) (subst (λ (x : List ℕ). IsIn f (facets_of (Open x))) r.is a.of_cell))
+      absurd (no_triple r.a r.b r.c (subst (λ (x : List ℕ). IsIn v x) r.is h)
+      (subst (λ (x : List ℕ). IsIn f (facets_of (Open x))) r.is a.of_cell))
     where
       no_triple : (x y z : ℕ) → IsIn v (x ∷ y ∷ z ∷ []) → IsIn f (facets_of (Open (x ∷ y ∷ z ∷ []))) → ⊥
       no_triple x y z h j = elim j [
@@ -140,28 +213,36 @@ module _ (t : List ℕ) (v : ℕ) (k : CanWrap t v) where
 
   module _ (f : Facet) (triple : List ℕ) (is : f ≡ Three triple) (apart : ¬ (IsIn v triple)) where
     -- a cell with v on a triple against it is that of v and the triple
-    over_triple : (c : Cell) → IsIn c (complex (with_point v t)) → IsIn v (points_of c) → IsIn f (facets_of c) → c ≡ cell_over f v
+    over_triple : (c : Cell) → IsIn c (complex (with_point v t)) → IsIn v (points_of c) → IsIn f (facets_of c) →
+        c ≡ cell_over f v
     over_triple c m h j =
         let o = (lists_of (with_point v t) with_set).ordered c m in
         let a = against_of c o f j in
         over_point c o v (point_vertex c v h) f (elim (vertex_discrete (point v) a.z) [
           | yes e ↦ subst (λ (z : Vertex). IsAgainst c z f) (sym e) a.against
-          | no n ↦ absurd (apart (subst (λ (g : Facet). IsFacetVertex g (point v)) is (a.against.rest (point v) (point_vertex c v h) n)))
+          | no n ↦ absurd (apart (subst (λ (g : Facet). IsFacetVertex g (point v)) is
+              (a.against.rest (point v) (point_vertex c v h) n)))
         ])
 
     -- and the triple is a facet of the hole
-    rim_of_star : (c : Cell) → IsIn c (complex (with_point v t)) → IsIn v (points_of c) → IsIn f (facets_of c) → IsRimOf t v f
+    rim_of_star : (c : Cell) → IsIn c (complex (with_point v t)) → IsIn v (points_of c) → IsIn f (facets_of c) →
+        IsRimOf t v f
     rim_of_star c m h j =
         let o = listed_facets (with_point v t) c f with_set.ascending with_set.keys m j in
-        let lacks : ¬ (IsIn v (points_of o.other)) = λ p. o.differs (over_triple o.other o.listed p o.has ∙ sym (over_triple c m h j)) in
-        let stays : StaysFrom t v o.other = elim ((cells_after t v k.solid k.new o.other).0 o.listed) [ inl x ↦ x | inr x ↦ absurd (lacks ((fresh_have_point t v k.solid k.new o.other o.listed).0 x)) ] in
+        let lacks : ¬ (IsIn v (points_of o.other)) =
+        λ p. o.differs (over_triple o.other o.listed p o.has ∙ sym (over_triple c m h j)) in
+        let stays : StaysFrom t v o.other = elim ((cells_after t v k.solid k.new o.other).0 o.listed) [
+          | inl x ↦ x
+          | inr x ↦ absurd (lacks ((fresh_have_point t v k.solid k.new o.other o.listed).0 x))
+        ] in
         let g = listed_facets t o.other f k.solid.set.ascending k.solid.set.keys stays.before o.has in
         record {
           gone = g.other;
           goes = record {
             before = g.listed;
             after = λ p. elim (o.only g.other p g.has) [
-              | inl e ↦ old_lack_point t v k.solid k.new g.other g.listed (subst (λ (x : Cell). IsIn v (points_of x)) (sym e) h)
+              | inl e ↦ old_lack_point t v k.solid k.new g.other g.listed
+                  (subst (λ (x : Cell). IsIn v (points_of x)) (sym e) h)
               | inr e ↦ g.differs e
             ];
           };
@@ -174,7 +255,8 @@ module _ (t : List ℕ) (v : ℕ) (k : CanWrap t v) where
 -- the triples against v of the cells at it bound the hole
 pub outer_is_rim : OuterIsRim
 outer_is_rim s v t c f i m l n h a =
-    rim_of_star t v (record { solid = l.solid; new = within_new v s t i m l.inside }) f a.triple a.is a.apart c (near_cell s v i m t l c f n h a) h a.of_cell
+    rim_of_star t v (record { solid = l.solid; new = within_new v s t i m l.inside }) f a.triple a.is a.apart c
+    (near_cell s v i m t l c f n h a) h a.of_cell
 
 -- ---- the wrap
 
@@ -195,7 +277,8 @@ pub hole_wraps : (t : List ℕ) (v : ℕ) (star : List Cell) → IsHole t v star
 hole_wraps t v star h = record { solid = h.link.solid; new = within_new v h.set t h.is_set h.has_v h.link.inside }
 
 -- at first the facets of the hole are open
-pub wrap_begun : (t : List ℕ) (v : ℕ) (star : List Cell) (sides : List Side) → IsHole t v star → AreSidesOf star v sides → IsWrapped t v [] sides
+pub wrap_begun : (t : List ℕ) (v : ℕ) (star : List Cell) (sides : List Side) → IsHole t v star →
+    AreSidesOf star v sides → IsWrapped t v [] sides
 wrap_begun t v star sides h k = record {
   goes = λ c m. absurd m;
   settled = λ c f m n. absurd m;
@@ -211,94 +294,105 @@ some_member : {X : Type 0} (l : List X) → 0 < length l → (x : X) × IsIn x l
 some_member [] h = absurd (omega arith)
 some_member (x ∷ l) h = (x, inl refl)
 
-module _ (t : List ℕ) (v : ℕ) (k : CanWrap t v) (found : List Cell) (sides : List Side) (w : IsWrapped t v found sides) where
-  -- an open side is that of a facet of the complex
-  pub open_facet : (s : Side) → IsIn s sides → IsFacetIn (complex t) s.facet
-  open_facet s m = elim (w.opened s m) [
-    | inl r ↦ record { cell = r.gone; listed = r.goes.before; has = r.of_gone }
-    | inr r ↦ record { cell = r.cell; listed = (w.goes r.cell r.listed).before; has = r.has }
-  ]
-
-  -- when no side is open, all cells that v takes away are found
-  pub wrap_done : 0 < length found → length sides ≡ 0 → AreTaken t v found
-  wrap_done h e = (let a = some_member found h in record {
-    goes = λ c. (
-      w.goes c,
-      λ g. region_connected t v k.solid k.new found (record {
-        goes = w.goes;
-        across = λ q r f n j i l. elim (w.settled q f n i) [ inl s ↦ s r j l | inr o ↦ absurd (none_in sides o.side e o.among) ];
-      }) a.0 a.1 c g,
-    );
-    once = w.once;
-  })
-
-  module _ (c : Cell) (goes : GoesFrom t v c) (new : ¬ (IsIn c found)) (next : List Side) (met : AreMet (facets_of c) sides next) where
-    -- the cells with one more
-    abbrev more : List Cell
-    more = found ++ c ∷ []
-
-    -- those found before, and it
-    before : (q : Cell) → IsIn q found → IsIn q more
-    before q m = in_left q found (c ∷ []) m
-
-    -- this cell is one of them
-    here : IsIn c more
-    here = in_right c found (c ∷ []) (inl refl)
-
-    -- they go
-    all_go : (q : Cell) → IsIn q more → GoesFrom t v q
-    all_go q m = elim (from_append q found (c ∷ []) m) [
-      | inl n ↦ w.goes q n
-      | inr n ↦ elim n [ inl e ↦ subst (λ (x : Cell). GoesFrom t v x) e goes | inr none ↦ absurd none ]
+module _ (t : List ℕ) (v : ℕ) (k : CanWrap t v) (found : List Cell) (sides : List Side) (w : IsWrapped t v found sides)
+  where
+    -- an open side is that of a facet of the complex
+    pub open_facet : (s : Side) → IsIn s sides → IsFacetIn (complex t) s.facet
+    open_facet s m = elim (w.opened s m) [
+      | inl r ↦ record { cell = r.gone; listed = r.goes.before; has = r.of_gone }
+      | inr r ↦ record { cell = r.cell; listed = (w.goes r.cell r.listed).before; has = r.has }
     ]
 
-    -- a facet of it and of one found before is settled
-    by_two : (q : Cell) (f : Facet) → IsIn q found → IsIn f (facets_of q) → IsIn f (facets_of c) → IsSettled t v more f
-    by_two q f m i j r g n =
-        elim (one_of_two t k.solid.set f c q r goes.before j (w.goes q m).before i (λ e. new (subst (λ (x : Cell). IsIn x found) e m)) g.before n) [
-          | inl e ↦ subst (λ (x : Cell). IsIn x more) e here
-          | inr e ↦ subst (λ (x : Cell). IsIn x more) e (before q m)
+    -- when no side is open, all cells that v takes away are found
+    pub wrap_done : 0 < length found → length sides ≡ 0 → AreTaken t v found
+    wrap_done h e = (let a = some_member found h in record {
+      goes = λ c. (
+        w.goes c,
+        λ g. region_connected t v k.solid k.new found (record {
+          goes = w.goes;
+          across = λ q r f n j i l. elim (w.settled q f n i) [
+            | inl s ↦ s r j l
+            | inr o ↦ absurd (none_in sides o.side e o.among)
+          ];
+        }) a.0 a.1 c g,
+      );
+      once = w.once;
+    })
+
+    module _ (c : Cell) (goes : GoesFrom t v c) (new : ¬ (IsIn c found)) (next : List Side)
+        (met : AreMet (facets_of c) sides next) where
+      -- the cells with one more
+      abbrev more : List Cell
+      more = found ++ c ∷ []
+
+      -- those found before, and it
+      before : (q : Cell) → IsIn q found → IsIn q more
+      before q m = in_left q found (c ∷ []) m
+
+      -- this cell is one of them
+      here : IsIn c more
+      here = in_right c found (c ∷ []) (inl refl)
+
+      -- they go
+      all_go : (q : Cell) → IsIn q more → GoesFrom t v q
+      all_go q m = elim (from_append q found (c ∷ []) m) [
+        | inl n ↦ w.goes q n
+        | inr n ↦ elim n [ inl e ↦ subst (λ (x : Cell). GoesFrom t v x) e goes | inr none ↦ absurd none ]
+      ]
+
+      -- a facet of it and of one found before is settled
+      by_two : (q : Cell) (f : Facet) → IsIn q found → IsIn f (facets_of q) → IsIn f (facets_of c) →
+          IsSettled t v more f
+      by_two q f m i j r g n =
+          elim (one_of_two t k.solid.set f c q r goes.before j (w.goes q m).before i
+          (λ e. new (subst (λ (x : Cell). IsIn x found) e m)) g.before n) [
+            | inl e ↦ subst (λ (x : Cell). IsIn x more) e here
+            | inr e ↦ subst (λ (x : Cell). IsIn x more) e (before q m)
+          ]
+
+      -- so is a facet of the hole
+      by_rim : (f : Facet) → IsRimOf t v f → IsIn f (facets_of c) → IsSettled t v more f
+      by_rim f r j q g n = subst (λ (x : Cell). IsIn x more) (one_gone_each t v k.solid k.new f r c q goes g j n) here
+
+      -- one that was open
+      by_open : (f : Facet) → IsOpen f sides → IsIn f (facets_of c) → IsSettled t v more f
+      by_open f o j = elim (w.opened o.side o.among) [
+        | inl r ↦ by_rim f (subst (λ (x : Facet). IsRimOf t v x) o.is r) j
+        | inr r ↦ by_two r.cell f r.listed (subst (λ (x : Facet). IsIn x (facets_of r.cell)) o.is r.has) j
+      ]
+
+      -- each facet of a cell is settled or open
+      settled : (q : Cell) (f : Facet) → IsIn q more → IsIn f (facets_of q) → IsSettled t v more f ⊎ IsOpen f next
+      settled q f m i = elim (from_append q found (c ∷ []) m) [
+        | inl n ↦ elim (w.settled q f n i) [
+          | inl s ↦ inl (λ r g j. before r (s r g j))
+          | inr o ↦ elim (met.went o.side o.among) [
+            | inl p ↦ inr (record { side = o.side; among = p; is = o.is })
+            | inr p ↦ inl (by_two q f n i (subst (λ (x : Facet). IsIn x (facets_of c)) o.is p))
+          ]
         ]
-
-    -- so is a facet of the hole
-    by_rim : (f : Facet) → IsRimOf t v f → IsIn f (facets_of c) → IsSettled t v more f
-    by_rim f r j q g n = subst (λ (x : Cell). IsIn x more) (one_gone_each t v k.solid k.new f r c q goes g j n) here
-
-    -- one that was open
-    by_open : (f : Facet) → IsOpen f sides → IsIn f (facets_of c) → IsSettled t v more f
-    by_open f o j = elim (w.opened o.side o.among) [
-      | inl r ↦ by_rim f (subst (λ (x : Facet). IsRimOf t v x) o.is r) j
-      | inr r ↦ by_two r.cell f r.listed (subst (λ (x : Facet). IsIn x (facets_of r.cell)) o.is r.has) j
-    ]
-
-    -- each facet of a cell is settled or open
-    settled : (q : Cell) (f : Facet) → IsIn q more → IsIn f (facets_of q) → IsSettled t v more f ⊎ IsOpen f next
-    settled q f m i = elim (from_append q found (c ∷ []) m) [
-      | inl n ↦ elim (w.settled q f n i) [
-        | inl s ↦ inl (λ r g j. before r (s r g j))
-        | inr o ↦ elim (met.went o.side o.among) [
-          | inl p ↦ inr (record { side = o.side; among = p; is = o.is })
-          | inr p ↦ inl (by_two q f n i (subst (λ (x : Facet). IsIn x (facets_of c)) o.is p))
+        | inr n ↦ elim n [
+          | inl e ↦ (
+              let j = subst (λ (x : Cell). IsIn f (facets_of x)) (sym e) i in
+              elim (met.each f j) [ inl o ↦ inl (by_open f o j) | inr o ↦ inr o ])
+          | inr none ↦ absurd none
         ]
       ]
-      | inr n ↦ elim n [
-        | inl e ↦ (
-            let j = subst (λ (x : Cell). IsIn f (facets_of x)) (sym e) i in
-            elim (met.each f j) [ inl o ↦ inl (by_open f o j) | inr o ↦ inr o ])
-        | inr none ↦ absurd none
+
+      -- and each open side is that of a facet of the hole or of a cell
+      still_open : (s : Side) → IsIn s next → IsRimOf t v s.facet ⊎ IsFacetIn more s.facet
+      still_open s m = elim (met.came s m) [
+        | inl n ↦ elim (w.opened s n) [
+          | inl r ↦ inl r
+          | inr r ↦ inr (record { cell = r.cell; listed = before r.cell r.listed; has = r.has })
+        ]
+        | inr n ↦ inr (record { cell = c; listed = here; has = n })
       ]
-    ]
 
-    -- and each open side is that of a facet of the hole or of a cell
-    still_open : (s : Side) → IsIn s next → IsRimOf t v s.facet ⊎ IsFacetIn more s.facet
-    still_open s m = elim (met.came s m) [
-      | inl n ↦ elim (w.opened s n) [ inl r ↦ inl r | inr r ↦ inr (record { cell = r.cell; listed = before r.cell r.listed; has = r.has }) ]
-      | inr n ↦ inr (record { cell = c; listed = here; has = n })
-    ]
-
-    -- one more cell is found
-    pub wrap_more : IsWrapped t v more next
-    wrap_more = record { goes = all_go; settled = settled; opened = still_open; once = distinct_push found c w.once new }
+      -- one more cell is found
+      pub wrap_more : IsWrapped t v more next
+      wrap_more =
+          record { goes = all_go; settled = settled; opened = still_open; once = distinct_push found c w.once new }
 
 -- ---- facets that are met
 
@@ -307,7 +401,8 @@ pub none_met : (sides : List Side) → AreMet [] sides sides
 none_met sides = record { each = λ f m. absurd m; came = λ s m. inl m; went = λ s m. inl m }
 
 -- one more is met, which is none of those before
-pub one_met : (facets : List Facet) (f : Facet) (old now new : List Side) → ¬ (IsIn f facets) → AreMet facets old now → AreMet (f ∷ []) now new → AreMet (facets ++ f ∷ []) old new
+pub one_met : (facets : List Facet) (f : Facet) (old now new : List Side) → ¬ (IsIn f facets) → AreMet facets old now →
+    AreMet (f ∷ []) now new → AreMet (facets ++ f ∷ []) old new
 one_met facets f old now new apart a b = record {
   each = λ g m. elim (from_append g facets (f ∷ []) m) [
     | inl n ↦ elim (a.each g n) [
@@ -345,7 +440,10 @@ one_met facets f old now new apart a b = record {
 -- a facet is met for the first time
 pub met_first : (old : List Side) (side : Side) → AreMet (side.facet ∷ []) old (old ++ side ∷ [])
 met_first old side = record {
-  each = λ f m. elim m [ inl e ↦ inr (record { side = side; among = in_right side old (side ∷ []) (inl refl); is = e }) | inr none ↦ absurd none ];
+  each = λ f m. elim m [
+    | inl e ↦ inr (record { side = side; among = in_right side old (side ∷ []) (inl refl); is = e })
+    | inr none ↦ absurd none
+  ];
   came = λ s m. elim (from_append s old (side ∷ []) m) [
     | inl n ↦ inl n
     | inr n ↦ elim n [ inl e ↦ inr (inl (ap (λ (x : Side). x.facet) e)) | inr none ↦ absurd none ]
@@ -354,9 +452,16 @@ met_first old side = record {
 }
 
 -- or from its other side
-pub met_again : (old new : List Side) (f : Facet) (other : Side) → other.facet ≡ f → IsPermutation old (other ∷ new) → AreMet (f ∷ []) old new
+pub met_again : (old new : List Side) (f : Facet) (other : Side) → other.facet ≡ f → IsPermutation old (other ∷ new) →
+    AreMet (f ∷ []) old new
 met_again old new f other e p = record {
-  each = λ g m. elim m [ inl q ↦ inl (record { side = other; among = in_moved old (other ∷ new) other p (inl refl); is = e ∙ q }) | inr none ↦ absurd none ];
+  each = λ g m. elim m [
+    | inl q ↦ inl (record { side = other; among = in_moved old (other ∷ new) other p (inl refl); is = e ∙ q })
+    | inr none ↦ absurd none
+  ];
   came = λ s m. inl (in_moved old (other ∷ new) s p (inr m));
-  went = λ s m. elim (in_moved (other ∷ new) old s (IsPermutation-sym old (other ∷ new) p) m) [ inl q ↦ inr (inl (sym e ∙ ap (λ (x : Side). x.facet) q)) | inr n ↦ inl n ];
+  went = λ s m. elim (in_moved (other ∷ new) old s (IsPermutation-sym old (other ∷ new) p) m) [
+    | inl q ↦ inr (inl (sym e ∙ ap (λ (x : Side). x.facet) q))
+    | inr n ↦ inl n
+  ];
 }

@@ -1,11 +1,59 @@
 -- The polynomial that an expression computes to has the value of the expression: one lemma for each operation on
 -- polynomials.
-use Rattle.std.specs.Prelude.{ℤ, pos, negsuc, ◌+ℤ◌, ◌*ℤ◌, neg_ℤ, ◌≡◌, ℕ, zero, suc, List, Bool, true, false, T, eqb, ltb}
+use Rattle.std.specs.Prelude.{
+  ℤ,
+  pos,
+  negsuc,
+  ◌+ℤ◌,
+  ◌*ℤ◌,
+  neg_ℤ,
+  ◌≡◌,
+  ℕ,
+  zero,
+  suc,
+  List,
+  Bool,
+  true,
+  false,
+  T,
+  eqb,
+  ltb,
+}
 use Rattle.std.proofs.Common.{arith, refl, ap, sym, ◌∙◌, ap₂, eqb→eq}
 use Rattle.std.proofs.lemmas.Int.{ints}
 use Rattle.std.proofs.Math.IntN.{*ℤ-zero, zero-*ℤ, +ℤ_idl, *ℤ_comm, +ℤ_assoc, +ℤ_invr}
 use Rattle.whole_ring.proofs.Whole.{mul_add, add_mul, mul_assoc, mul_neg}
-use Rattle.whole_ring.specs.Poly.{Expr, var, lit, ◌⊕◌, ◌⊗◌, minus, at, value, Sum, num, node, sum_value, pick, made, add_num, add_node, add_sum, neg_sum, times_num, scale, times_var, mul_sum, sum_of, is_nothing, Given, nothing, given, combined, Hold}
+use Rattle.whole_ring.specs.Poly.{
+  Expr,
+  var,
+  lit,
+  ◌⊕◌,
+  ◌⊗◌,
+  minus,
+  at,
+  value,
+  Sum,
+  num,
+  node,
+  sum_value,
+  pick,
+  made,
+  add_num,
+  add_node,
+  add_sum,
+  neg_sum,
+  times_num,
+  scale,
+  times_var,
+  mul_sum,
+  sum_of,
+  is_nothing,
+  Given,
+  nothing,
+  given,
+  combined,
+  Hold,
+}
 
 -- ---- small laws, one for each step below
 
@@ -38,12 +86,14 @@ var_head h = omega (arith, ints)
 -- ---- the operations
 
 -- what is picked has the value z, if each of the two has
-pick_is : (b : Bool) (f g : Unit {0} → Sum) (xs : List ℤ) (z : ℤ) → (T b → sum_value (f tt) xs ≡ z) → (sum_value (g tt) xs ≡ z) → sum_value (pick b f g) xs ≡ z
+pick_is : (b : Bool) (f g : Unit {0} → Sum) (xs : List ℤ) (z : ℤ) → (T b → sum_value (f tt) xs ≡ z) →
+    (sum_value (g tt) xs ≡ z) → sum_value (pick b f g) xs ≡ z
 pick_is true f g xs z h k = h tt
 pick_is false f g xs z h k = k
 
 -- `made` means what `node` means, q being 0 or not
-pub made_is : (i : ℕ) (p q : Sum) (xs : List ℤ) → sum_value (made i p q) xs ≡ sum_value p xs +ℤ at xs i *ℤ sum_value q xs
+pub made_is : (i : ℕ) (p q : Sum) (xs : List ℤ) → sum_value (made i p q) xs ≡ sum_value p xs
+    +ℤ at xs i *ℤ sum_value q xs
 made_is i p (num (pos zero)) xs = sym (no_rest (sum_value p xs) (at xs i))
 made_is i p (num (pos (suc n))) xs = refl
 made_is i p (num (negsuc n)) xs = refl
@@ -53,7 +103,8 @@ made_is i p (node j r s) xs = refl
 add_num_is : (c : ℤ) (p : Sum) (xs : List ℤ) → sum_value (add_num c p) xs ≡ c +ℤ sum_value p xs
 add_num_is c (num d) xs = refl
 add_num_is c (node i p q) xs =
-    ap (λ n. n +ℤ at xs i *ℤ sum_value q xs) (add_num_is c p xs) ∙ +ℤ_assoc c (sum_value p xs) (at xs i *ℤ sum_value q xs)
+    ap (λ n. n +ℤ at xs i *ℤ sum_value q xs) (add_num_is c p xs)
+    ∙ +ℤ_assoc c (sum_value p xs) (at xs i *ℤ sum_value q xs)
 
 -- what is added to the first part of a node is added to the node
 aside : (p r x y : ℤ) → (p +ℤ r) +ℤ x ≡ (p +ℤ x) +ℤ r
@@ -64,40 +115,49 @@ last : (p r x : ℤ) → (p +ℤ r) +ℤ x ≡ p +ℤ (r +ℤ x)
 last p r x = omega (arith, ints)
 
 -- a polynomial is added to a node, where f and g add to its two parts
-add_node_is : (i : ℕ) (p q : Sum) (f g : Sum → Sum) (xs : List ℤ) → ((t : Sum) → sum_value (f t) xs ≡ sum_value p xs +ℤ sum_value t xs) → ((t : Sum) → sum_value (g t) xs ≡ sum_value q xs +ℤ sum_value t xs) → (t : Sum) → sum_value (add_node i p q f g t) xs ≡ (sum_value p xs +ℤ at xs i *ℤ sum_value q xs) +ℤ sum_value t xs
+add_node_is : (i : ℕ) (p q : Sum) (f g : Sum → Sum) (xs : List ℤ) →
+    ((t : Sum) → sum_value (f t) xs ≡ sum_value p xs +ℤ sum_value t xs) →
+    ((t : Sum) → sum_value (g t) xs ≡ sum_value q xs +ℤ sum_value t xs) → (t : Sum) →
+    sum_value (add_node i p q f g t) xs ≡ (sum_value p xs +ℤ at xs i *ℤ sum_value q xs) +ℤ sum_value t xs
 add_node_is i p q f g xs hf hg (num c) =
-    ap (λ n. n +ℤ at xs i *ℤ sum_value q xs) (add_num_is c p xs) ∙ swap_last (sum_value p xs) (at xs i) (sum_value q xs) c
+    ap (λ n. n +ℤ at xs i *ℤ sum_value q xs) (add_num_is c p xs)
+    ∙ swap_last (sum_value p xs) (at xs i) (sum_value q xs) c
 add_node_is i p q f g xs hf hg (node j r s) =
     let P = sum_value p xs in
     let Q = sum_value q xs in
     let R = sum_value r xs in
     let S = sum_value s xs in
-    pick_is (eqb i j) (λ u. made i (f r) (g s)) (λ u. pick (ltb i j) (λ v. node i (f (node j r s)) q) (λ v. node j (add_node i p q f g r) s)) xs ((P +ℤ at xs i *ℤ Q) +ℤ (R +ℤ at xs j *ℤ S))
+    pick_is (eqb i j) (λ u. made i (f r) (g s)) (λ u. pick (ltb i j) (λ v. node i (f (node j r s)) q)
+    (λ v. node j (add_node i p q f g r) s)) xs ((P +ℤ at xs i *ℤ Q) +ℤ (R +ℤ at xs j *ℤ S))
     (λ t.
     made_is i (f r) (g s) xs
     ∙ ap₂ (λ m n. m +ℤ at xs i *ℤ n) (hf r) (hg s)
     ∙ sums P R (at xs i) Q S
     ∙ ap (λ n. (P +ℤ at xs i *ℤ Q) +ℤ (R +ℤ at xs n *ℤ S)) (eqb→eq i j t))
-    (pick_is (ltb i j) (λ v. node i (f (node j r s)) q) (λ v. node j (add_node i p q f g r) s) xs ((P +ℤ at xs i *ℤ Q) +ℤ (R +ℤ at xs j *ℤ S))
+    (pick_is (ltb i j) (λ v. node i (f (node j r s)) q) (λ v. node j (add_node i p q f g r) s) xs
+    ((P +ℤ at xs i *ℤ Q) +ℤ (R +ℤ at xs j *ℤ S))
     (λ t. ap (λ n. n +ℤ at xs i *ℤ Q) (hf (node j r s)) ∙ aside P (R +ℤ at xs j *ℤ S) (at xs i *ℤ Q) P)
     (ap (λ n. n +ℤ at xs j *ℤ S) (add_node_is i p q f g xs hf hg r) ∙ last (P +ℤ at xs i *ℤ Q) R (at xs j *ℤ S)))
 
 -- polynomials are added
 pub add_sum_is : (p t : Sum) (xs : List ℤ) → sum_value (add_sum p t) xs ≡ sum_value p xs +ℤ sum_value t xs
 add_sum_is (num c) t xs = add_num_is c t xs
-add_sum_is (node i p q) t xs = add_node_is i p q (add_sum p) (add_sum q) xs (λ r. add_sum_is p r xs) (λ r. add_sum_is q r xs) t
+add_sum_is (node i p q) t xs =
+    add_node_is i p q (add_sum p) (add_sum q) xs (λ r. add_sum_is p r xs) (λ r. add_sum_is q r xs) t
 
 -- a polynomial is negated
 pub neg_sum_is : (p : Sum) (xs : List ℤ) → sum_value (neg_sum p) xs ≡ neg_ℤ (sum_value p xs)
 neg_sum_is (num c) xs = refl
 neg_sum_is (node i p q) xs =
-    ap₂ (λ m n. m +ℤ at xs i *ℤ n) (neg_sum_is p xs) (neg_sum_is q xs) ∙ negated (sum_value p xs) (at xs i) (sum_value q xs)
+    ap₂ (λ m n. m +ℤ at xs i *ℤ n) (neg_sum_is p xs) (neg_sum_is q xs)
+    ∙ negated (sum_value p xs) (at xs i) (sum_value q xs)
 
 -- a polynomial is multiplied by a number
 times_num_is : (c : ℤ) (p : Sum) (xs : List ℤ) → sum_value (times_num c p) xs ≡ c *ℤ sum_value p xs
 times_num_is c (num d) xs = refl
 times_num_is c (node i p q) xs =
-    ap₂ (λ m n. m +ℤ at xs i *ℤ n) (times_num_is c p xs) (times_num_is c q xs) ∙ outside c (sum_value p xs) (at xs i) (sum_value q xs)
+    ap₂ (λ m n. m +ℤ at xs i *ℤ n) (times_num_is c p xs) (times_num_is c q xs)
+    ∙ outside c (sum_value p xs) (at xs i) (sum_value q xs)
 
 -- the same, where the number may be 0
 scale_is : (c : ℤ) (p : Sum) (xs : List ℤ) → sum_value (scale c p) xs ≡ c *ℤ sum_value p xs
@@ -109,8 +169,10 @@ scale_is (negsuc n) p xs = times_num_is (negsuc n) p xs
 pub times_var_is : (i : ℕ) (p : Sum) (xs : List ℤ) → sum_value (times_var i p) xs ≡ at xs i *ℤ sum_value p xs
 times_var_is i (num c) xs = made_is i (num (pos 0)) (num c) xs ∙ +ℤ_idl (at xs i *ℤ c)
 times_var_is i (node j r s) xs =
-    pick_is (ltb j i) (λ u. node j (times_var i r) (times_var i s)) (λ u. node i (num (pos 0)) (node j r s)) xs (at xs i *ℤ (sum_value r xs +ℤ at xs j *ℤ sum_value s xs))
-    (λ t. ap₂ (λ m n. m +ℤ at xs j *ℤ n) (times_var_is i r xs) (times_var_is i s xs) ∙ outside (at xs i) (sum_value r xs) (at xs j) (sum_value s xs))
+    pick_is (ltb j i) (λ u. node j (times_var i r) (times_var i s)) (λ u. node i (num (pos 0)) (node j r s)) xs
+    (at xs i *ℤ (sum_value r xs +ℤ at xs j *ℤ sum_value s xs))
+    (λ t. ap₂ (λ m n. m +ℤ at xs j *ℤ n) (times_var_is i r xs) (times_var_is i s xs)
+    ∙ outside (at xs i) (sum_value r xs) (at xs j) (sum_value s xs))
     (+ℤ_idl (at xs i *ℤ (sum_value r xs +ℤ at xs j *ℤ sum_value s xs)))
 
 -- a node times a number
@@ -122,7 +184,8 @@ pub mul_sum_is : (p t : Sum) (xs : List ℤ) → sum_value (mul_sum p t) xs ≡ 
 mul_sum_is (num c) t xs = scale_is c t xs
 mul_sum_is (node i p q) t xs =
     add_sum_is (mul_sum p t) (times_var i (mul_sum q t)) xs
-    ∙ ap₂ (λ m n. m +ℤ n) (mul_sum_is p t xs) (times_var_is i (mul_sum q t) xs ∙ ap (λ n. at xs i *ℤ n) (mul_sum_is q t xs))
+    ∙ ap₂ (λ m n. m +ℤ n) (mul_sum_is p t xs) (times_var_is i (mul_sum q t) xs
+    ∙ ap (λ n. at xs i *ℤ n) (mul_sum_is q t xs))
     ∙ put_together (sum_value p xs) (at xs i) (sum_value q xs) (sum_value t xs)
 
 -- the polynomial of an expression has its value
@@ -144,7 +207,8 @@ is_nothing_is (node i p q) xs t = absurd t
 pub combined_is : (g : Given) (xs : List ℤ) → Hold g xs → value (combined g) xs ≡ pos 0
 combined_is nothing xs h = refl
 combined_is (given k l r g) xs h =
-    ap₂ (λ m n. value k xs *ℤ (m +ℤ neg_ℤ (value r xs)) +ℤ n) h.0 (combined_is g xs h.1) ∙ spent (value k xs) (value r xs)
+    ap₂ (λ m n. value k xs *ℤ (m +ℤ neg_ℤ (value r xs)) +ℤ n) h.0 (combined_is g xs h.1)
+    ∙ spent (value k xs) (value r xs)
   where
     spent : (k r : ℤ) → k *ℤ (r +ℤ neg_ℤ r) +ℤ pos 0 ≡ pos 0
     spent k r = ap (λ n. k *ℤ n +ℤ pos 0) (+ℤ_invr r) ∙ ap (λ n. n +ℤ pos 0) (*ℤ-zero k)

@@ -25,19 +25,26 @@ mul_pos (negsuc m) b h k = absurd h.lt
 
 -- positive times negative is negative
 pub mul_pos_neg : (a b : ℤ) → pos 0 <ℤ a → b <ℤ pos 0 → (a *ℤ b) <ℤ pos 0
-mul_pos_neg a b h k = let n : pos 0 <ℤ neg_ℤ b = omega (arith, ints) in omega (arith, ints, mul_pos a (neg_ℤ b) h n, mul_neg a b)
+mul_pos_neg a b h k =
+    let n : pos 0 <ℤ neg_ℤ b = omega (arith, ints) in omega (arith, ints, mul_pos a (neg_ℤ b) h n, mul_neg a b)
 
 -- negative times positive is negative
 pub mul_neg_pos : (a b : ℤ) → a <ℤ pos 0 → pos 0 <ℤ b → (a *ℤ b) <ℤ pos 0
-mul_neg_pos a b h k = let n : pos 0 <ℤ neg_ℤ a = omega (arith, ints) in omega (arith, ints, mul_pos (neg_ℤ a) b n k, neg_mul a b)
+mul_neg_pos a b h k =
+    let n : pos 0 <ℤ neg_ℤ a = omega (arith, ints) in omega (arith, ints, mul_pos (neg_ℤ a) b n k, neg_mul a b)
 
 -- negative times negative is positive
 pub mul_neg_neg : (a b : ℤ) → a <ℤ pos 0 → b <ℤ pos 0 → pos 0 <ℤ (a *ℤ b)
-mul_neg_neg a b h k = let n : pos 0 <ℤ neg_ℤ a = omega (arith, ints) in omega (arith, ints, mul_pos_neg (neg_ℤ a) b n k, neg_mul a b)
+mul_neg_neg a b h k =
+    let n : pos 0 <ℤ neg_ℤ a = omega (arith, ints) in omega (arith, ints, mul_pos_neg (neg_ℤ a) b n k, neg_mul a b)
 
 -- a square is not negative
 pub square_nonneg : (a : ℤ) → pos 0 ≤ℤ (a *ℤ a)
-square_nonneg a = elim (sign a) [ below h ↦ omega (arith, ints, mul_neg_neg a a h h) | at_zero h ↦ zero_case a h | above h ↦ omega (arith, ints, mul_pos a a h h) ]
+square_nonneg a = elim (sign a) [
+  | below h ↦ omega (arith, ints, mul_neg_neg a a h h)
+  | at_zero h ↦ zero_case a h
+  | above h ↦ omega (arith, ints, mul_pos a a h h)
+]
   where
     zero_case : (a : ℤ) → a ≡ pos 0 → pos 0 ≤ℤ (a *ℤ a)
     zero_case a h = rw h (omega (arith, ints))
@@ -52,22 +59,40 @@ mul_nonneg (negsuc m) b h k = absurd h.le
 
 -- 0 < a and 0 < a * b give 0 < b
 pub pos_of_mul_pos : (a b : ℤ) → pos 0 <ℤ a → pos 0 <ℤ (a *ℤ b) → pos 0 <ℤ b
-pos_of_mul_pos a b h k = elim (sign b) [ below n ↦ absurd (omega (arith, ints, mul_pos_neg a b h n)) | at_zero z ↦ absurd (at a b z k) | above p ↦ p ]
+pos_of_mul_pos a b h k = elim (sign b) [
+  | below n ↦ absurd (omega (arith, ints, mul_pos_neg a b h n))
+  | at_zero z ↦ absurd (at a b z k)
+  | above p ↦ p
+]
   where
     at : (a b : ℤ) → b ≡ pos 0 → pos 0 <ℤ (a *ℤ b) → ⊥
-    at a b z k = let P : ℤ → Type 0 = λ n. pos 0 <ℤ (a *ℤ n) in let q : pos 0 <ℤ (a *ℤ pos 0) = subst P z k in omega (arith, ints)
+    at a b z k =
+        let P : ℤ → Type 0 =
+        λ n. pos 0 <ℤ (a *ℤ n) in let q : pos 0 <ℤ (a *ℤ pos 0) = subst P z k in omega (arith, ints)
 
 -- 0 < a and 0 ≤ a * b give 0 ≤ b
 pub nonneg_of_mul_nonneg : (a b : ℤ) → pos 0 <ℤ a → pos 0 ≤ℤ (a *ℤ b) → pos 0 ≤ℤ b
-nonneg_of_mul_nonneg a b h k = elim (sign b) [ below n ↦ absurd (omega (arith, ints, mul_pos_neg a b h n)) | at_zero z ↦ omega (arith, ints, z) | above p ↦ omega (arith, ints, p) ]
+nonneg_of_mul_nonneg a b h k = elim (sign b) [
+  | below n ↦ absurd (omega (arith, ints, mul_pos_neg a b h n))
+  | at_zero z ↦ omega (arith, ints, z)
+  | above p ↦ omega (arith, ints, p)
+]
 
 -- a product is 0 only where a factor is
 pub zero_factor : (a b : ℤ) → a *ℤ b ≡ pos 0 → (a ≡ pos 0) ⊎ (b ≡ pos 0)
 zero_factor a b e =
     elim (sign a) [
-      | below p ↦ elim (sign b) [ below q ↦ absurd (omega (arith, ints, mul_neg_neg a b p q)) | at_zero z ↦ inr z | above q ↦ absurd (omega (arith, ints, mul_neg_pos a b p q)) ]
+      | below p ↦ elim (sign b) [
+        | below q ↦ absurd (omega (arith, ints, mul_neg_neg a b p q))
+        | at_zero z ↦ inr z
+        | above q ↦ absurd (omega (arith, ints, mul_neg_pos a b p q))
+      ]
       | at_zero z ↦ inl z
-      | above p ↦ elim (sign b) [ below q ↦ absurd (omega (arith, ints, mul_pos_neg a b p q)) | at_zero z ↦ inr z | above q ↦ absurd (omega (arith, ints, mul_pos a b p q)) ]
+      | above p ↦ elim (sign b) [
+        | below q ↦ absurd (omega (arith, ints, mul_pos_neg a b p q))
+        | at_zero z ↦ inr z
+        | above q ↦ absurd (omega (arith, ints, mul_pos a b p q))
+      ]
     ]
 
 -- ---- the sign as a number
@@ -104,7 +129,8 @@ sgn_mul a b =
     left_zero a b z = ap (λ n. sgn (n *ℤ b)) z ∙ ap sgn (zero-*ℤ b) ∙ sym (ap (λ n. sgn n *ℤ sgn b) z ∙ zero-*ℤ (sgn b))
 
     right_zero : (a b : ℤ) → b ≡ pos 0 → sgn (a *ℤ b) ≡ sgn a *ℤ sgn b
-    right_zero a b z = ap (λ n. sgn (a *ℤ n)) z ∙ ap sgn (*ℤ-zero a) ∙ sym (ap (λ n. sgn a *ℤ sgn n) z ∙ *ℤ-zero (sgn a))
+    right_zero a b z =
+        ap (λ n. sgn (a *ℤ n)) z ∙ ap sgn (*ℤ-zero a) ∙ sym (ap (λ n. sgn a *ℤ sgn n) z ∙ *ℤ-zero (sgn a))
 
 -- ---- numbers of one sign
 

@@ -18,16 +18,41 @@ pub mul_assoc : (a b c : ℤ) → (a *ℤ b) *ℤ c ≡ a *ℤ (b *ℤ c)
 mul_assoc a b c =
     let p = product_is a b in
     let q = product_is b c in
-    omega (arith, ints, ap (λ n. n * up c) p.0, ap (λ n. n * up c) p.1, ap (λ n. n * down c) p.0, ap (λ n. n * down c) p.1, ap (λ n. up a * n) q.0, ap (λ n. up a * n) q.1, ap (λ n. down a * n) q.0, ap (λ n. down a * n) q.1)
+    omega (
+      arith,
+      ints,
+      ap (λ n. n * up c) p.0,
+      ap (λ n. n * up c) p.1,
+      ap (λ n. n * down c) p.0,
+      ap (λ n. n * down c) p.1,
+      ap (λ n. up a * n) q.0,
+      ap (λ n. up a * n) q.1,
+      ap (λ n. down a * n) q.0,
+      ap (λ n. down a * n) q.1,
+    )
 
 -- a negated right factor negates the product
 pub mul_neg : (a b : ℤ) → a *ℤ neg_ℤ b ≡ neg_ℤ (a *ℤ b)
 mul_neg a b =
     let n = neg_is b in
-    omega (arith, ints, ap (λ n. up a * n) n.0, ap (λ n. up a * n) n.1, ap (λ n. down a * n) n.0, ap (λ n. down a * n) n.1)
+    omega (
+      arith,
+      ints,
+      ap (λ n. up a * n) n.0,
+      ap (λ n. up a * n) n.1,
+      ap (λ n. down a * n) n.0,
+      ap (λ n. down a * n) n.1,
+    )
 
 -- a negated left factor negates the product
 pub neg_mul : (a b : ℤ) → neg_ℤ a *ℤ b ≡ neg_ℤ (a *ℤ b)
 neg_mul a b =
     let n = neg_is a in
-    omega (arith, ints, ap (λ n. n * up b) n.0, ap (λ n. n * up b) n.1, ap (λ n. n * down b) n.0, ap (λ n. n * down b) n.1)
+    omega (
+      arith,
+      ints,
+      ap (λ n. n * up b) n.0,
+      ap (λ n. n * up b) n.1,
+      ap (λ n. n * down b) n.0,
+      ap (λ n. n * down b) n.1,
+    )

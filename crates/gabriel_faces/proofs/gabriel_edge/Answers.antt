@@ -6,4 +6,5 @@ pub returns-clause-over_link : goal.returns-clause-over_link
 returns-clause-over_link c = c.is_edge_empty.ensures
 
 pub returns-clause-over_set : goal.returns-clause-over_set
-returns-clause-over_set c s i k F L = c.is_edge_empty.ensures ∙ judged_by_link s (c.args.a ∷ c.args.b ∷ []) c.args.link.now i k F L
+returns-clause-over_set c s i k F L =
+    c.is_edge_empty.ensures ∙ judged_by_link s (c.args.a ∷ c.args.b ∷ []) c.args.link.now i k F L

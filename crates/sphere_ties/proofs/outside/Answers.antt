@@ -26,7 +26,8 @@ returns-then-plain-ne0 c =
     let fq : FitsSigned w64 (orientation a b p d) = subst (FitsSigned w64) side fo in
     let ns : s ≢ pos 0 = λ z. c.if-plain-ne0.true (ap (cast_unsigned w128) z) in
     let k : HasSignOf s (out a b p d e) =
-    subst (λ (v : ℤ). HasSignOf v (out a b p d e)) (sym is) (out_sign a b p d e c.key.ensures.bound c.key-2.ensures.bound c.key-3.ensures.bound c.key-4.ensures.bound c.key-5.ensures.bound) in
+    subst (λ (v : ℤ). HasSignOf v (out a b p d e)) (sym is) (out_sign a b p d e c.key.ensures.bound
+    c.key-2.ensures.bound c.key-3.ensures.bound c.key-4.ensures.bound c.key-5.ensures.bound) in
     simp (to_z-of_z, side) (verdict s (orientation a b p d) (out a b p d e) ns c.requires.independent k)
 
 -- on it the greatest point decides whose coefficient is not 0
@@ -50,5 +51,6 @@ returns-else-plain-ne0 c =
     sym c.sphere-plain.ensures.value ∙ sym (to_z-of_z w128 s fs) ∙ ap (to_z w128) c.if-plain-ne0.false in
     let nz : z ≢ pos 0 = λ w. c.first_coefficient.ensures.1.0 (sym is ∙ w) in
     let k : HasSignOf z (out a b p d e) =
-    subst (λ (v : ℤ). HasSignOf v (out a b p d e)) (sym is) (sign_of_tie a b p d e g c.requires.distinct tied c.first_coefficient.ensures.1) in
+    subst (λ (v : ℤ). HasSignOf v (out a b p d e)) (sym is) (sign_of_tie a b p d e g c.requires.distinct tied
+    c.first_coefficient.ensures.1) in
     simp (to_z-of_z, side) (verdict z (orientation a b p d) (out a b p d e) nz c.requires.independent k)

@@ -10,4 +10,5 @@ use Rattle.cell_conflict.proofs.among.conflict_among.Given as goal
 abbrev pub invariant-loop-cell : goal.invariant-loop-cell
 invariant-loop-cell l =
     ((c : Cell) → IsIn c (cells_to_come l.cell-iterator) → IsIn c (cells_in l.fn.hold.places l.fn.b)) ×
-    ((c : Cell) → IsIn c (cells_in l.fn.hold.places l.fn.b) → IsIn c (cells_to_come l.cell-iterator) ⊎ ((s : List ℕ) → Shows l.fn.hold s → IsNew s l.fn.p → GoesFrom s l.fn.p c → ⊥))
+    ((c : Cell) → IsIn c (cells_in l.fn.hold.places l.fn.b) → IsIn c (cells_to_come l.cell-iterator)
+    ⊎ ((s : List ℕ) → Shows l.fn.hold s → IsNew s l.fn.p → GoesFrom s l.fn.p c → ⊥))

@@ -1,7 +1,5 @@
-use Rattle.std.proofs.Common.{◌∙◌, ◌+◌, ap, sym, subst, not, false, true, ◌≡◌, Bool, refl, IsTrue, List, ℕ, take}
-use Rattle.std.specs.List.{list_any}
-use Rattle.cell_store.specs.Grids.{bucket_of}
-use Rattle.cell_store.specs.Wholes.{IsPushedWhere, lies_at}
+use Rattle.std.proofs.Common.{◌∙◌, ◌+◌, ap, sym, subst}
+use Rattle.cell_store.specs.Wholes.{IsPushedWhere}
 use Rattle.cell_store.proofs.WholeLaws.{first_touch, lists_in, touch_again, touch_all, touch_new, touch_none}
 use Rattle.cell_store.proofs.whole.push_place.Goals.{then-not-has_here+in_ok-push_at, else-not-has_here}
 use Rattle.cell_store.proofs.whole.push_place.Goals as goal

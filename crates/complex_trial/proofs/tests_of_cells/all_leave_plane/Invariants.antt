@@ -10,5 +10,7 @@ use Rattle.complex_trial.proofs.tests_of_cells.all_leave_plane.Given as goal
 
 abbrev pub invariant-loop-e : goal.invariant-loop-e
 invariant-loop-e l =
-    list_all (λ e. is_among e (l.a ∷ l.b ∷ l.c ∷ []) || not (is_flat l.a l.b l.c e) || lt_z (pos 0) (out l.a l.b l.c l.mate e)) (drop l.e-index l.points)
-    ≡ list_all (λ e. is_among e (l.a ∷ l.b ∷ l.c ∷ []) || not (is_flat l.a l.b l.c e) || lt_z (pos 0) (out l.a l.b l.c l.mate e)) l.points
+    list_all (λ e. is_among e (l.a ∷ l.b ∷ l.c ∷ []) || not (is_flat l.a l.b l.c e)
+    || lt_z (pos 0) (out l.a l.b l.c l.mate e)) (drop l.e-index l.points)
+    ≡ list_all (λ e. is_among e (l.a ∷ l.b ∷ l.c ∷ []) || not (is_flat l.a l.b l.c e)
+    || lt_z (pos 0) (out l.a l.b l.c l.mate e)) l.points

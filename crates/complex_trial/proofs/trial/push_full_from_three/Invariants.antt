@@ -5,5 +5,7 @@ use Rattle.complex_trial.proofs.trial.push_full_from_three.Given as goal
 
 abbrev pub invariant-loop-l : goal.invariant-loop-l
 invariant-loop-l l =
-    l.cells.items ++ full_from l.points (get_or l.points l.i 0 ∷ get_or l.points l.j 0 ∷ get_or l.points l.k 0 ∷ []) 1 (drop l.l l.points)
-    ≡ l.fn.cells.items ++ full_from l.points (get_or l.points l.i 0 ∷ get_or l.points l.j 0 ∷ get_or l.points l.k 0 ∷ []) 1 (drop (l.k + 1) l.points)
+    l.cells.items ++ full_from l.points (get_or l.points l.i 0 ∷ get_or l.points l.j 0 ∷ get_or l.points l.k 0 ∷ []) 1
+    (drop l.l l.points)
+    ≡ l.fn.cells.items ++ full_from l.points (get_or l.points l.i 0 ∷ get_or l.points l.j 0 ∷ get_or l.points l.k 0
+    ∷ []) 1 (drop (l.k + 1) l.points)

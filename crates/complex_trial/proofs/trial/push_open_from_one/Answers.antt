@@ -6,5 +6,6 @@ use Rattle.complex_trial.proofs.trial.push_open_from_one.Goals as goal
 
 pub loop-j-preserved : goal.loop-j-preserved
 loop-j-preserved c =
-    one_turn Open (is_open c.args.points.now) (get_or c.args.points.now c.args.i 0 ∷ []) 1 c.args.points.now c.loop-j.j c.loop-j.cells.items c.push_open_from_two.new.cells.items _ c.loop-j-test.true
+    one_turn Open (is_open c.args.points.now) (get_or c.args.points.now c.args.i 0 ∷ []) 1 c.args.points.now c.loop-j.j
+    c.loop-j.cells.items c.push_open_from_two.new.cells.items _ c.loop-j-test.true
     c.in_ok-push_open_from_two.ensures c.loop-j.invariant

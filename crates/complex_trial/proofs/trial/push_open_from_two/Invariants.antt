@@ -6,4 +6,5 @@ use Rattle.complex_trial.proofs.trial.push_open_from_two.Given as goal
 abbrev pub invariant-loop-k : goal.invariant-loop-k
 invariant-loop-k l =
     l.cells.items ++ open_from l.points (get_or l.points l.i 0 ∷ get_or l.points l.j 0 ∷ []) 1 (drop l.k l.points)
-    ≡ l.fn.cells.items ++ open_from l.points (get_or l.points l.i 0 ∷ get_or l.points l.j 0 ∷ []) 1 (drop (l.j + 1) l.points)
+    ≡ l.fn.cells.items ++ open_from l.points (get_or l.points l.i 0 ∷ get_or l.points l.j 0 ∷ []) 1
+    (drop (l.j + 1) l.points)

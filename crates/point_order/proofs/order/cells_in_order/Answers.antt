@@ -20,11 +20,14 @@ eq_is (Open q) (Open r) = sym (is_eq-slice_cmp q r)
 pub returns-clause-order : goal.returns-clause-order
 returns-clause-order c =
     let l = c.sort_unstable.new.self.items in
-    deduped_sorted cell_cmp cell_order by_equality.ghosts.eq eq_is l c.dedup.new.self.items (λ k d a b. ap is_lt (cmp_is (slice_index_or l (k + 1) d) (slice_index_or l k d)) ∙ c.sort_unstable.ensures.sorted k d a b) (dedup_is by_equality.ghosts.eq _ _ c.dedup.ensures.filtered)
+    deduped_sorted cell_cmp cell_order by_equality.ghosts.eq eq_is l c.dedup.new.self.items
+    (λ k d a b. ap is_lt (cmp_is (slice_index_or l (k + 1) d) (slice_index_or l k d))
+    ∙ c.sort_unstable.ensures.sorted k d a b) (dedup_is by_equality.ghosts.eq _ _ c.dedup.ensures.filtered)
 
 pub returns-clause-cells : goal.returns-clause-cells
 returns-clause-cells c =
     let s = c.sort_unstable.new.self.items in
     let same = arranged_same c.args.cells.items s c.sort_unstable.ensures.permutation in
-    let from = deduped_same cell_cmp cell_order cell_same by_equality.ghosts.eq eq_is s c.dedup.new.self.items (dedup_is by_equality.ghosts.eq _ _ c.dedup.ensures.filtered) in
+    let from = deduped_same cell_cmp cell_order cell_same by_equality.ghosts.eq eq_is s c.dedup.new.self.items
+    (dedup_is by_equality.ghosts.eq _ _ c.dedup.ensures.filtered) in
     (λ x i. (from x).1 ((same x).1 i), λ x i. (same x).0 ((from x).0 i))

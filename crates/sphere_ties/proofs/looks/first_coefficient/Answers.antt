@@ -8,14 +8,23 @@ use Rattle.sphere_ties.proofs.looks.first_coefficient.Goals as goal
 
 pub highest-at-requires : goal.highest-at-requires
 highest-at-requires c =
-    last_below c.args.a c.args.b c.args.c c.args.d c.args.e c.looks.limit c.requires.distinct c.requires.independent c.looks.invariant
+    last_below c.args.a c.args.b c.args.c c.args.d c.args.e c.looks.limit c.requires.distinct c.requires.independent
+    c.looks.invariant
 
 pub returns-then-found-ne0 : goal.returns-then-found-ne0
 returns-then-found-ne0 c =
     let z = c.coefficient_of-found.result in
     let f : FitsSigned w64 z = record { sfits = c.coefficient_of-found.type_inv } in
-    let e : z ≡ coefficient c.args.a c.args.b c.args.c c.args.d c.args.e c.highest-at.result = c.coefficient_of-found.ensures in
-    (c.highest-at.result, (λ n. c.if-found-ne0.true (ap (cast_unsigned w64) (e ∙ n)), passed_above c.args.a c.args.b c.args.c c.args.d c.args.e c.highest-at.result c.looks.limit c.highest-at.ensures.most c.looks.invariant), to_z-of_z w64 z f ∙ e)
+    let e : z ≡ coefficient c.args.a c.args.b c.args.c c.args.d c.args.e c.highest-at.result =
+    c.coefficient_of-found.ensures in (
+      c.highest-at.result,
+      (
+        λ n. c.if-found-ne0.true (ap (cast_unsigned w64) (e ∙ n)),
+        passed_above c.args.a c.args.b c.args.c c.args.d c.args.e c.highest-at.result c.looks.limit
+            c.highest-at.ensures.most c.looks.invariant,
+      ),
+      to_z-of_z w64 z f ∙ e,
+    )
 
 pub looks-preserved : goal.looks-preserved
 looks-preserved c =
@@ -23,4 +32,6 @@ looks-preserved c =
     let f : FitsSigned w64 z = record { sfits = c.coefficient_of-found.type_inv } in
     let none : z ≡ pos 0 = sym (to_z-of_z w64 z f) ∙ ap (to_z w64) c.if-found-ne0.false in
     let limit : c.key-limit.result ≡ c.highest-at.result = c.key-limit.ensures.value in
-    λ q l. passed_from c.args.a c.args.b c.args.c c.args.d c.args.e c.highest-at.result c.looks.limit c.highest-at.ensures.most c.looks.invariant (sym c.coefficient_of-found.ensures ∙ none) q (subst (λ (v : ℕ). v ≤ q) limit l)
+    λ q l. passed_from c.args.a c.args.b c.args.c c.args.d c.args.e c.highest-at.result c.looks.limit
+    c.highest-at.ensures.most c.looks.invariant (sym c.coefficient_of-found.ensures ∙ none) q
+    (subst (λ (v : ℕ). v ≤ q) limit l)

@@ -7,8 +7,12 @@ use Rattle.vertex_removal.proofs.near.all_points.Goals as goal
 
 pub loop-cell-preserved : goal.loop-cell-preserved
 loop-cell-preserved c =
-    points_more c.args.cells.now c.loop-cell.cell-index c.cell-item.result c.points.result.now c.loop-cell.points.items c.extend_from_slice.new.self.items
-    c.loop-cell-test.true c.cell-item.is c.points.ensures.points c.loop-cell.invariant c.in_ok-extend_from_slice.ensures.items
+    points_more c.args.cells.now c.loop-cell.cell-index c.cell-item.result c.points.result.now c.loop-cell.points.items
+    c.extend_from_slice.new.self.items
+    c.loop-cell-test.true c.cell-item.is c.points.ensures.points c.loop-cell.invariant
+    c.in_ok-extend_from_slice.ensures.items
 
 pub returns : goal.returns
-returns c = c.loop-cell.invariant ∙ ap (flat_map points_of) (take_all c.loop-cell.cell-index c.args.cells.now c.loop-cell-test.false)
+returns c =
+    c.loop-cell.invariant ∙ ap (flat_map points_of) (take_all c.loop-cell.cell-index c.args.cells.now
+    c.loop-cell-test.false)

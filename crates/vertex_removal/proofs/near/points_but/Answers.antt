@@ -5,5 +5,7 @@ use Rattle.vertex_removal.proofs.near.points_but.Goals as goal
 
 pub returns : goal.returns
 returns c =
-    points_are c.args.cells.now c.args.v c.in_ok-points.points.items c.retain.new.self.items c.points_in_order.result.items c.in_ok-points.ensures
-    (filter_same _ (λ p. not (p == c.args.v)) _ (λ x b f' k. search rules) _ _ c.retain.ensures.filtered) c.points_in_order.ensures.points c.points_in_order.ensures.order
+    points_are c.args.cells.now c.args.v c.in_ok-points.points.items c.retain.new.self.items
+    c.points_in_order.result.items c.in_ok-points.ensures
+    (filter_same _ (λ p. not (p == c.args.v)) _ (λ x b f' k. search rules) _ _ c.retain.ensures.filtered)
+    c.points_in_order.ensures.points c.points_in_order.ensures.order

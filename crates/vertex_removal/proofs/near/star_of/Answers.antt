@@ -8,6 +8,15 @@ use Rattle.vertex_removal.proofs.near.star_of.Goals as goal
 
 pub returns : goal.returns
 returns c h st =
-    let all : c.loop-cell.star.items ≡ cells_around c.cells_around-cell-items.result = grind (arith, common_steps, c.loop-cell.invariant, c.in-None.ensures.steps, c.into_iter-cell-iterator.ensures) in
-    star_sorted h c.args.v (cells_around c.cells_around-cell-items.result) c.cells_in_order.result.items st.ascending (c.cells_around-cell-items.ensures.in_complex h st)
-    c.cells_in_order.ensures.order (subst (λ (l : List Cell). AreSameCells l c.cells_in_order.result.items) all c.cells_in_order.ensures.cells)
+    let all : c.loop-cell.star.items ≡ cells_around c.cells_around-cell-items.result =
+    grind (
+      arith,
+      common_steps,
+      c.loop-cell.invariant,
+      c.in-None.ensures.steps,
+      c.into_iter-cell-iterator.ensures,
+    ) in
+    star_sorted h c.args.v (cells_around c.cells_around-cell-items.result) c.cells_in_order.result.items st.ascending
+    (c.cells_around-cell-items.ensures.in_complex h st)
+    c.cells_in_order.ensures.order (subst (λ (l : List Cell). AreSameCells l c.cells_in_order.result.items) all
+    c.cells_in_order.ensures.cells)

@@ -18,8 +18,10 @@ conflict-requires c =
     let b = c.in_ok-a.b in
     let c' = c.in_ok-a.c in
     let d = c.in_ok-d.d in
-    let m = leader_is_apex t c.args.side.now.facet a b c' d c.requires.wraps.solid.set c.in_ok-a.ensures c.requires.facet c.in_ok-d.ensures in
-    subst (λ (q : Cell). CanJudge q v v) (sym c.full-cell.ensures) (apex_judged t v c.requires.wraps (ascending (a ∷ b ∷ c' ∷ d ∷ [])) m)
+    let m = leader_is_apex t c.args.side.now.facet a b c' d c.requires.wraps.solid.set c.in_ok-a.ensures
+    c.requires.facet c.in_ok-d.ensures in
+    subst (λ (q : Cell). CanJudge q v v) (sym c.full-cell.ensures)
+    (apex_judged t v c.requires.wraps (ascending (a ∷ b ∷ c' ∷ d ∷ [])) m)
 
 pub returns-then-conflict : goal.returns-then-conflict
 returns-then-conflict c =
@@ -29,6 +31,9 @@ returns-then-conflict c =
     let b = c.in_ok-a.b in
     let c' = c.in_ok-a.c in
     let d = c.in_ok-d.d in
-    let m = leader_is_apex t c.args.side.now.facet a b c' d c.requires.wraps.solid.set c.in_ok-a.ensures c.requires.facet c.in_ok-d.ensures in
+    let m = leader_is_apex t c.args.side.now.facet a b c' d c.requires.wraps.solid.set c.in_ok-a.ensures
+    c.requires.facet c.in_ok-d.ensures in
     let h = sym c.conflict.ensures ∙ c.if-conflict.true in
-    subst (λ (q : Cell). GoesFrom t v q) (sym c.full-cell.ensures) (apex_goes t v c.requires.wraps (ascending (a ∷ b ∷ c' ∷ d ∷ [])) m (subst (λ (q : Cell). is_in_conflict q v v ≡ true) c.full-cell.ensures h))
+    subst (λ (q : Cell). GoesFrom t v q) (sym c.full-cell.ensures)
+    (apex_goes t v c.requires.wraps (ascending (a ∷ b ∷ c' ∷ d ∷ [])) m
+    (subst (λ (q : Cell). is_in_conflict q v v ≡ true) c.full-cell.ensures h))

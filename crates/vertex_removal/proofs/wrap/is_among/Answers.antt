@@ -6,19 +6,24 @@ use Rattle.point_order.specs.Sets.{IsIn}
 use Rattle.vertex_removal.proofs.wrap.is_among.Goals as goal
 
 pub loop-other-preserved : goal.loop-other-preserved
-loop-other-preserved c = λ m. elim (in_take_more c.args.cells.now c.loop-other.other-index c.other-item.result c.args.cell.now c.loop-other-test.true c.other-item.is m) [
-  | inl k ↦ c.loop-other.invariant k
-  | inr e ↦ not_both c.are_same.result (c.are_same.ensures.1 e) c.if-are_same.false
-]
+loop-other-preserved c =
+    λ m. elim (in_take_more c.args.cells.now c.loop-other.other-index c.other-item.result c.args.cell.now
+    c.loop-other-test.true c.other-item.is m) [
+      | inl k ↦ c.loop-other.invariant k
+      | inr e ↦ not_both c.are_same.result (c.are_same.ensures.1 e) c.if-are_same.false
+    ]
 
 pub returns-then-are_same : goal.returns-then-are_same
 returns-then-are_same c = (
-  λ h. subst (λ (x : Cell). IsIn x c.args.cells.now) (c.are_same.ensures.0 c.if-are_same.true) (at_place c.args.cells.now c.loop-other.other-index c.other-item.result c.other-item.result c.loop-other-test.true c.other-item.is),
+  λ h. subst (λ (x : Cell). IsIn x c.args.cells.now) (c.are_same.ensures.0 c.if-are_same.true)
+      (at_place c.args.cells.now c.loop-other.other-index c.other-item.result c.other-item.result c.loop-other-test.true
+      c.other-item.is),
   λ m. refl,
 )
 
 pub returns : goal.returns
 returns c = (
   λ h. absurd (not_both false h refl),
-  λ m. absurd (c.loop-other.invariant (subst (λ (l : List Cell). IsIn c.args.cell.now l) (sym (take_all c.loop-other.other-index c.args.cells.now (omega (arith, c.loop-other-test.false)))) m)),
+  λ m. absurd (c.loop-other.invariant (subst (λ (l : List Cell). IsIn c.args.cell.now l)
+      (sym (take_all c.loop-other.other-index c.args.cells.now (omega (arith, c.loop-other-test.false)))) m)),
 )

@@ -8,9 +8,11 @@ use Rattle.vertex_removal.proofs.wrap.meet.Goals as goal
 pub returns-in-Some : goal.returns-in-Some
 returns-in-Some c =
     let old = c.args.sides.now.items in
-    let k = subst (λ (l : List Side). IsPlaceOf l c.args.side.facet c.in-Some.i) c.deref.ensures.value c.in-Some.ensures in
+    let k =
+    subst (λ (l : List Side). IsPlaceOf l c.args.side.facet c.in-Some.i) c.deref.ensures.value c.in-Some.ensures in
     let r = c.swap_remove.result in
-    met_again old c.swap_remove.new.self.items c.args.side.facet r (ap (λ (s : Side). s.facet) c.swap_remove.ensures.value ∙ k.at r)
+    met_again old c.swap_remove.new.self.items c.args.side.facet r
+    (ap (λ (s : Side). s.facet) c.swap_remove.ensures.value ∙ k.at r)
     (rw c.swap_remove.ensures.items (IsPermutation-swap_remove old c.in-Some.i r k.below c.swap_remove.ensures.value))
 
 pub returns-in_ok-push-in-None : goal.returns-in_ok-push-in-None

@@ -6,5 +6,6 @@ use Rattle.vertex_removal.proofs.wrap.place_of.Goals as goal
 pub returns-then-is_side_of : goal.returns-then-is_side_of
 returns-then-is_side_of c = record {
   below = c.loop-i-test.true;
-  at = λ d. sym (ap (λ (s : Side). s.facet) (get_or_read c.args.sides.now _ _ c.loop-i-test.true c.index-sides-i.is d)) ∙ c.is_side_of.ensures c.if-is_side_of.true;
+  at = λ d. sym (ap (λ (s : Side). s.facet) (get_or_read c.args.sides.now _ _ c.loop-i-test.true c.index-sides-i.is d))
+      ∙ c.is_side_of.ensures c.if-is_side_of.true;
 }

@@ -7,10 +7,16 @@ use Rattle.vertex_removal.proofs.wrap.sides_of_hole.Goals as goal
 
 pub loop-cell-preserved : goal.loop-cell-preserved
 loop-cell-preserved c = λ s m.
-    elim (from_append s c.loop-cell.sides.items (record { facet = c.in-Some.facet; up = c.is_above-up.result } ∷ []) (subst (λ (l : List Side). IsIn s l) c.in_ok-push-in-Some.ensures.items m)) [
+    elim (from_append s c.loop-cell.sides.items (record { facet = c.in-Some.facet; up = c.is_above-up.result } ∷ [])
+    (subst (λ (l : List Side). IsIn s l) c.in_ok-push-in-Some.ensures.items m)) [
       | inl n ↦ c.loop-cell.invariant s n
       | inr n ↦ elim n [
-        | inl e ↦ (c.cell-item.result, at_place c.args.star.now c.loop-cell.cell-index c.cell-item.result c.cell-item.result c.loop-cell-test.true c.cell-item.is, subst (λ (x : Side). IsOuter c.cell-item.result c.args.v x.facet) e c.in-Some.ensures)
+        | inl e ↦ (
+          c.cell-item.result,
+          at_place c.args.star.now c.loop-cell.cell-index c.cell-item.result
+              c.cell-item.result c.loop-cell-test.true c.cell-item.is,
+          subst (λ (x : Side). IsOuter c.cell-item.result c.args.v x.facet) e c.in-Some.ensures,
+        )
         | inr none ↦ absurd none
       ]
     ]

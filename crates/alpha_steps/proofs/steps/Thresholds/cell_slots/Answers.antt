@@ -3,5 +3,5 @@ use Rattle.alpha_steps.proofs.Told.{cells_as_seen}
 use Rattle.alpha_steps.proofs.steps.Thresholds.cell_slots.Goals as goal
 
 pub returns : goal.returns
-returns c = c.len.ensures ∙ c.self.inside.known.cells.ok.0 ∙ cells_as_seen c.self.inside c.args.self.now
+returns c = c.len.ensures ∙ c.self.inside.cells.ok.0 ∙ cells_as_seen c.self.inside c.args.self.now
     c.self.invariant c.self.view_is

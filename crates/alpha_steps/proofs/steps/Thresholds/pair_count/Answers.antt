@@ -3,5 +3,5 @@ use Rattle.alpha_steps.proofs.Told.{pairs_as_seen}
 use Rattle.alpha_steps.proofs.steps.Thresholds.pair_count.Goals as goal
 
 pub returns : goal.returns
-returns c = c.len.ensures ∙ c.self.inside.known.pairs.ok.0 ∙ pairs_as_seen c.self.inside c.args.self.now
+returns c = c.len.ensures ∙ c.self.inside.pairs.ok.0 ∙ pairs_as_seen c.self.inside c.args.self.now
     c.self.invariant c.self.view_is

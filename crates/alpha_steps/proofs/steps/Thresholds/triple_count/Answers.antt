@@ -3,5 +3,5 @@ use Rattle.alpha_steps.proofs.Told.{triples_as_seen}
 use Rattle.alpha_steps.proofs.steps.Thresholds.triple_count.Goals as goal
 
 pub returns : goal.returns
-returns c = c.len.ensures ∙ c.self.inside.known.triples.ok.0 ∙ triples_as_seen c.self.inside c.args.self.now
+returns c = c.len.ensures ∙ c.self.inside.triples.ok.0 ∙ triples_as_seen c.self.inside c.args.self.now
     c.self.invariant c.self.view_is

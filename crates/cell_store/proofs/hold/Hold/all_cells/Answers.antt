@@ -1,4 +1,4 @@
-use Rattle.std.proofs.Common.{subst, sym, ap, ◌∙◌, ℕ, ◌<◌, ◌≤◌, ◌*◌, arith}
+use Rattle.std.proofs.Common.{subst, sym, ap, ◌∙◌, ℕ, ◌<◌, ◌≤◌, ◌*◌}
 use Rattle.cell_store.specs.Buckets.{content_of}
 use Rattle.cell_store.specs.Gathered.{HasHome}
 use Rattle.cell_store.proofs.Gathering.{gathered_none, gathered_next, gathered_past}

@@ -3,10 +3,9 @@ use Rattle.std.specs.List.Sorted.{IsStrictlySortedBy}
 use Rattle.point_order.specs.CellOrder.{cell_cmp}
 use Rattle.point_order.specs.declared.cell.Cell.{Cell}
 use Rattle.point_order.specs.Sets.{IsIn, IsAscending}
-use Rattle.edit_history.specs.declared.history.Entry.{Entry}
 use Rattle.cell_store.specs.Buckets.{BucketContent}
 use Rattle.cell_store.specs.Shares.{cells_share}
-use Rattle.cell_store.specs.Wholes.{AreAt, AreParts}
+use Rattle.cell_store.specs.Wholes.{AreAt}
 use Rattle.cell_store.proofs.WholeLaws.{as_at, at_is, at_within, part_cells, part_entries, part_points, parts_next, share_ascends, share_sorted, share_touches}
 use Rattle.cell_store.proofs.whole.Parts.bucket.Goals as goal
 

@@ -5,5 +5,6 @@ use Rattle.point_order.proofs.cell.Quad.triples.Goals as goal
 
 pub returns : goal.returns
 returns c =
-    let four = four_of c.self.inside.points c.self.told c.self.invariant c.index-self-0.result c.index-self-1.result c.index-self-2.result c.index-self-3.result in
+    let four = four_of c.self.inside.points c.self.told c.self.invariant c.index-self-0.result c.index-self-1.result
+    c.index-self-2.result c.index-self-3.result in
     sym (ap (subsets 3) (sym c.self.view_is ∙ four.is))

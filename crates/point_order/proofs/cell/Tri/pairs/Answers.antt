@@ -5,5 +5,6 @@ use Rattle.point_order.proofs.cell.Tri.pairs.Goals as goal
 
 pub returns : goal.returns
 returns c =
-    let three = three_of c.self.inside.points c.self.told c.self.invariant c.index-self-0.result c.index-self-1.result c.index-self-2.result in
+    let three = three_of c.self.inside.points c.self.told c.self.invariant c.index-self-0.result c.index-self-1.result
+    c.index-self-2.result in
     sym (ap (subsets 2) (sym c.self.view_is ∙ three.is))
