@@ -1,6 +1,8 @@
 // The peer of bench/cloud: CGAL's Delaunay triangulation of the points of an edit file, handed in at once, so that they
 // are put in an order along a curve. It prints how many points, cells and hull triangles there are; with the word
 // `text`, what `delaunay mesh` writes from the line of the points on. Ties it settles in its own way.
+#include "mesh_text.h"
+
 #include <CGAL/Delaunay_triangulation_3.h>
 #include <CGAL/Exact_predicates_inexact_constructions_kernel.h>
 #include <CGAL/Triangulation_vertex_base_with_info_3.h>
@@ -30,30 +32,13 @@ void text(std::vector<Place> places) {
     std::sort(places.begin(), places.end());
     places.erase(std::unique(places.begin(), places.end()), places.end());
     std::vector<std::pair<Kernel::Point_3, int>> points;
-    for (const auto &p : places) points.emplace_back(Kernel::Point_3(p[0], p[1], p[2]), static_cast<int>(points.size()));
+    for (const auto &p : places)
+        points.emplace_back(Kernel::Point_3(p[0], p[1], p[2]), static_cast<int>(points.size()));
     CGAL::Delaunay_triangulation_3<Kernel, Structure> mesh;
     mesh.insert(points.begin(), points.end());
     std::printf("points %zu\n", places.size());
     for (const auto &p : places) std::printf("%d %d %d\n", p[0], p[1], p[2]);
-    std::vector<std::array<int, 4>> cells;
-    std::vector<std::array<int, 3>> hull;
-    for (const auto cell : mesh.all_cell_handles()) {
-        std::array<int, 4> ids;
-        int count = 0;
-        for (int i = 0; i < 4; i++)
-            if (!mesh.is_infinite(cell->vertex(i))) ids[count++] = cell->vertex(i)->info();
-        std::sort(ids.begin(), ids.begin() + count);
-        if (count == 4)
-            cells.push_back(ids);
-        else
-            hull.push_back({ids[0], ids[1], ids[2]});
-    }
-    std::sort(cells.begin(), cells.end());
-    std::sort(hull.begin(), hull.end());
-    std::printf("cells %zu\n", cells.size());
-    for (const auto &c : cells) std::printf("%d %d %d %d\n", c[0], c[1], c[2], c[3]);
-    std::printf("hull %zu\n", hull.size());
-    for (const auto &h : hull) std::printf("%d %d %d\n", h[0], h[1], h[2]);
+    print_cells(mesh, [](const auto vertex) { return vertex->info(); });
     std::puts("end");
 }
 

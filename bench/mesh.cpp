@@ -1,10 +1,11 @@
-// The peer of bench/mesh: CGAL's Delaunay triangulation of what an edit file leaves, in the same text from the line of the points
-// on: the points of the file by one insertion of a range, which sorts them in space, and then edit by edit. It settles ties in its
-// own way, so the texts are equal for points of which no five are on one sphere.
+// The peer of bench/mesh: CGAL's Delaunay triangulation of what an edit file leaves, in the same text from the line of
+// the points on: the points of the file by one insertion of a range, which sorts them in space, and then edit by edit.
+// It settles ties in its own way, so the texts are equal for points of which no five are on one sphere.
+#include "mesh_text.h"
+
 #include <CGAL/Delaunay_triangulation_3.h>
 #include <CGAL/Exact_predicates_inexact_constructions_kernel.h>
 
-#include <algorithm>
 #include <array>
 #include <cstdio>
 #include <cstring>
@@ -55,23 +56,6 @@ int main() {
         index.emplace(vertex, static_cast<int>(index.size()));
         std::printf("%d %d %d\n", p[0], p[1], p[2]);
     }
-    std::vector<std::array<int, 4>> cells;
-    std::vector<std::array<int, 3>> hull;
-    for (const auto cell : mesh.all_cell_handles()) {
-        std::vector<int> ids;
-        for (int i = 0; i < 4; i++)
-            if (!mesh.is_infinite(cell->vertex(i))) ids.push_back(index.at(cell->vertex(i)));
-        std::sort(ids.begin(), ids.end());
-        if (ids.size() == 4)
-            cells.push_back({ids[0], ids[1], ids[2], ids[3]});
-        else
-            hull.push_back({ids[0], ids[1], ids[2]});
-    }
-    std::sort(cells.begin(), cells.end());
-    std::sort(hull.begin(), hull.end());
-    std::printf("cells %zu\n", cells.size());
-    for (const auto &c : cells) std::printf("%d %d %d %d\n", c[0], c[1], c[2], c[3]);
-    std::printf("hull %zu\n", hull.size());
-    for (const auto &h : hull) std::printf("%d %d %d\n", h[0], h[1], h[2]);
+    print_cells(mesh, [&](const auto vertex) { return index.at(vertex); });
     std::puts("end");
 }

@@ -1,9 +1,12 @@
-// The peer of bench/shape: CGAL's alpha complexes of the points that an edit file leaves, one for each radius of the file, in the
-// same text from the line of the points on. The triangulation is made once, of the final points (CGAL sorts them along a curve), and
-// copied for each radius, since Fixed_alpha_shape_3 takes its triangulation over. It settles ties in its own way, so the texts are
-// equal for points of which no five are on one sphere. Alpha is a squared radius there too, and what CGAL calls exterior is not listed.
-// The two kinds of words differ in one more thing: CGAL calls a face of a shape singular where no cell that contains it is in the
-// shape, and so does this program; regular and interior are the same too, since an infinite cell is never in the shape.
+// The peer of bench/shape: CGAL's alpha complexes of the points that an edit file leaves, one for each radius of the
+// file, in the same text from the line of the points on. The triangulation is made once, of the final points (CGAL sorts
+// them along a curve), and copied for each radius, since Fixed_alpha_shape_3 takes its triangulation over. It settles
+// ties in its own way, so the texts are equal for points of which no five are on one sphere. Alpha is a squared radius
+// there too, and what CGAL calls exterior is not listed. The two kinds of words differ in one more thing: CGAL calls a
+// face of a shape singular where no cell that contains it is in the shape, and so does this program; regular and
+// interior are the same too, since an infinite cell is never in the shape.
+#include "mesh_text.h"
+
 #include <CGAL/Delaunay_triangulation_3.h>
 #include <CGAL/Exact_predicates_inexact_constructions_kernel.h>
 #include <CGAL/Fixed_alpha_shape_3.h>
@@ -91,24 +94,7 @@ void print_shape(const Triangulation &mesh, long radius) {
 void print_mesh(const Triangulation &mesh, const std::set<Place> &places) {
     std::printf("points %zu\n", places.size());
     for (const auto &p : places) std::printf("%d %d %d\n", p[0], p[1], p[2]);
-    std::vector<std::array<int, 4>> cells;
-    std::vector<std::array<int, 3>> hull;
-    for (const auto cell : mesh.all_cell_handles()) {
-        std::vector<int> ids;
-        for (int i = 0; i < 4; i++)
-            if (!mesh.is_infinite(cell->vertex(i))) ids.push_back(cell->vertex(i)->info());
-        std::sort(ids.begin(), ids.end());
-        if (ids.size() == 4)
-            cells.push_back({ids[0], ids[1], ids[2], ids[3]});
-        else
-            hull.push_back({ids[0], ids[1], ids[2]});
-    }
-    std::sort(cells.begin(), cells.end());
-    std::sort(hull.begin(), hull.end());
-    std::printf("cells %zu\n", cells.size());
-    for (const auto &c : cells) std::printf("%d %d %d %d\n", c[0], c[1], c[2], c[3]);
-    std::printf("hull %zu\n", hull.size());
-    for (const auto &h : hull) std::printf("%d %d %d\n", h[0], h[1], h[2]);
+    print_cells(mesh, [](const auto vertex) { return vertex->info(); });
 }
 
 // With a word, the shapes are left out: what the mesh alone takes.
@@ -132,7 +118,8 @@ int main(int count, char **) {
         }
     }
     std::vector<std::pair<Kernel::Point_3, int>> points;
-    for (const auto &p : places) points.emplace_back(Kernel::Point_3(p[0], p[1], p[2]), static_cast<int>(points.size()));
+    for (const auto &p : places)
+        points.emplace_back(Kernel::Point_3(p[0], p[1], p[2]), static_cast<int>(points.size()));
     const Triangulation mesh(points.begin(), points.end());
     print_mesh(mesh, places);
     if (count == 1)

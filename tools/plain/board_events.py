@@ -1,5 +1,5 @@
-"""Makes the boards and events that `tools/make scenes` puts among the scenes, and the text that is to be printed, from the
-definitions alone.
+"""Makes the boards and events that `tools/make scenes` puts among the scenes, and the text that is to be printed, from
+the definitions alone.
 
 The model below was written from docs/DEFINITIONS.md and not from the code: a board, what each event makes of it, and
 when it is good. A complex is that of the plain program of `tools/try random`. After every event it looks whether the

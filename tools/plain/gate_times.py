@@ -2,12 +2,13 @@
 
     tools/measure gate [COMMAND ..]       runs the command at the top of the repository (without one: rt ci), and then prints the table
 
-A seed is the second proof of a crate over which its edits are tried, and what shows at the end that the seed is still one. Some kits
-make no seed by itself: there a crate's first edit is tried from nothing, and its whole check is counted as the seed. Nothing is asked
-of the command: the checker's processes that it began are looked at four times a second, and what each has used is added to its crate.
-So a process that ends between two looks is counted up to the first of them. The table ends with the sums and the lines of code, specs
-and proofs; behind it come the dearest edits, the time on the clock, and what all processes of the command used, those of rt itself, of
-the linker and of the programs that are run included. All is printed of a run that is interrupted too.
+A seed is the second proof of a crate over which its edits are tried, and what shows at the end that the seed is still
+one. Some kits make no seed by itself: there a crate's first edit is tried from nothing, and its whole check is counted
+as the seed. Nothing is asked of the command: the checker's processes that it began are looked at four times a second,
+and what each has used is added to its crate. So a process that ends between two looks is counted up to the first of
+them. The table ends with the sums and the lines of code, specs and proofs; behind it come the dearest edits, the time
+on the clock, and what all processes of the command used, those of rt itself, of the linker and of the programs that are
+run included. All is printed of a run that is interrupted too.
 """
 import collections
 import os
@@ -30,7 +31,8 @@ def read(path):
 
 
 def checker_of(pid):
-    """The crate that a process checks, for what, and the edit that it tries as the kit numbers it; nothing where it is no checker."""
+    """The crate that a process checks, for what, and the edit that it tries as the kit numbers it; nothing where it
+    is no checker."""
     words = read(f"/proc/{pid}/cmdline").split(b"\0")
     if not words or os.path.basename(words[0]) != b"rattle" or b"--crate-name" not in words:
         return None
@@ -46,8 +48,8 @@ def checker_of(pid):
 
 
 def with_edits_named(seen):
-    """What was seen, each try with its edit's file: by the kit's number, or by when it was begun, since a crate's edits are tried in the
-    order of their names, the first from nothing, and then the crate as it stands."""
+    """What was seen, each try with its edit's file: by the kit's number, or by when it was begun, since a crate's
+    edits are tried in the order of their names, the first from nothing, and then the crate as it stands."""
     tries = collections.Counter()
     for (pid, began), ((crate, kind, number), seconds) in sorted(seen.items(), key=lambda it: int(it[0][1])):
         if kind == "edits":

@@ -1,6 +1,7 @@
 """Gives the built program inputs that are long and hard, and looks at its status, its line, its time and its memory.
 
-Each is to be answered with its status and line, within ten seconds of processor time and 200 MB. The last line is 'N passed, M failed'.
+Each is to be answered with its status and line, within ten seconds of processor time and 200 MB. The last line is 'N
+passed, M failed'.
 
 usage: tools/try long [PROGRAM]
 """

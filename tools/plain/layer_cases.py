@@ -1,9 +1,9 @@
-"""Makes the cases of the lowest layers, which `tools/make cases` puts into the input of the program `worked_cases`, and the text that
-is to be printed, from the definitions alone.
+"""Makes the cases of the lowest layers, which `tools/make cases` puts into the input of the program `worked_cases`, and
+the text that is to be printed, from the definitions alone.
 
-Keys are counted, orientations and spheres are determinants of whole numbers, squared radii are fractions, complexes and what
-is Gabriel in them are those of the plain program of `tools/try random`, and ends are played call by call. Most cases have besides
-what was worked by hand, or by another program, when they were written: the two must agree.
+Keys are counted, orientations and spheres are determinants of whole numbers, squared radii are fractions, complexes and
+what is Gabriel in them are those of the plain program of `tools/try random`, and ends are played call by call. Most
+cases have besides what was worked by hand, or by another program, when they were written: the two must agree.
 
 usage: tools/make layers
 prints each case with its answer below it

@@ -1,11 +1,13 @@
-"""Tells which functions of a crate are dear to prove: checks the crate from nothing with one job, and prints the seconds of each.
+"""Tells which functions of a crate are dear to prove: checks the crate from nothing with one job, and prints the
+seconds of each.
 
     tools/measure proof CRATE [COUNT]     the COUNT dearest functions and files of proofs (30), and the sums by kind of module
 
-The crates below are to be proved already (`rt lib` in the crate's folder). The checker writes each module when it has proved it, so the
-time of one is that since the one before it was written: on a busy machine all are too great, and only the proportions count. The
-kilobytes of its steps, which stand beside, are the same on any machine. `Proof` is the proof of a function, `Lts` its steps, `Tie` what
-the borrow checker leaves, `Answers` and `Invariants` what is written by hand. The first module bears what the check takes before it.
+The crates below are to be proved already (`rt lib` in the crate's folder). The checker writes each module when it has
+proved it, so the time of one is that since the one before it was written: on a busy machine all are too great, and only
+the proportions count. The kilobytes of its steps, which stand beside, are the same on any machine. `Proof` is the proof
+of a function, `Lts` its steps, `Tie` what the borrow checker leaves, `Answers` and `Invariants` what is written by
+hand. The first module bears what the check takes before it.
 """
 import collections
 import os

@@ -103,7 +103,8 @@ def smallest_sphere(face):
 
 
 def least_of(points, face):
-    """The squared radius of the smallest sphere of a face that has no point inside it, or nothing where one is; a cell is not asked."""
+    """The squared radius of the smallest sphere of a face that has no point inside it, or nothing where one is; a
+    cell is not asked."""
     if len(face) == 1:
         return 0
     square, centre = smallest_sphere(face)
@@ -112,8 +113,8 @@ def least_of(points, face):
 
 
 def faces_of(points, full, hull):
-    """All faces, each with its least squared radius, and those of one to three points with the cells around them, None for each at the
-    infinite vertex. These do not go by a radius."""
+    """All faces, each with its least squared radius, and those of one to three points with the cells around them,
+    None for each at the infinite vertex. These do not go by a radius."""
     levels = [[(p,) for p in points]] + [sorted({s for q in full for s in combinations(q, k)}) for k in (2, 3)]
     least = {t: least_of(points, t) for level in levels + [full] for t in level}
     around = {t: [q if len(q) == 4 else None for q in full + hull if set(t) <= set(q)] for level in levels for t in level}
@@ -166,7 +167,8 @@ def moved(points, a, b):
 
 
 def replies_of(lines, order):
-    """The replies by line, and the points that are left. A line is whether it adds, and its point; a move has none, and its two places."""
+    """The replies by line, and the points that are left. A line is whether it adds, and its point; a move has none,
+    and its two places."""
     points, replies = set(), {}
     for place in order:
         adds, p, *to = lines[place]
@@ -192,8 +194,8 @@ def order_of_one(points, edits):
 
 
 def keeps(points, edits, order):
-    """Whether the places of the lines in this order begin with the opening four, and have each line once, those that share a point in
-    the order of the file."""
+    """Whether the places of the lines in this order begin with the opening four, and have each line once, those that
+    share a point in the order of the file."""
     lines = [(p,) for p in points] + [edit[1:] for edit in edits]
     last = {}
     for place in order:
@@ -205,8 +207,8 @@ def keeps(points, edits, order):
 
 
 def report(points, edits, radii, order, tells_order=True, version=1):
-    """The report of a file whose lines are made in this order, with shapes, and with the order block or without. A radius counts
-    squares from version 1 on, and sixteenths of them from version 3 on."""
+    """The report of a file whose lines are made in this order, with shapes, and with the order block or without. A
+    radius counts squares from version 1 on, and sixteenths of them from version 3 on."""
     lines = [(True, p) for p in points] + edits
     replies, left = replies_of(lines, order)
     index = {p: i for i, p in enumerate(left)}
@@ -242,8 +244,8 @@ def ceiling(fraction):
 
 
 def parts_at(full, alpha):
-    """The solid parts of the Full cells at an alpha in sixteenths, each ascending: admitted cells that chains join, each sharing a
-    triple with the next."""
+    """The solid parts of the Full cells at an alpha in sixteenths, each ascending: admitted cells that chains join,
+    each sharing a triple with the next."""
     parts = []
     for q in full:
         if 16 * smallest_sphere(q)[0] <= alpha:
@@ -253,7 +255,8 @@ def parts_at(full, alpha):
 
 
 def bounding(part):
-    """The triples that one cell of a part has, each turned so that its orientation with the cell's fourth point is negative."""
+    """The triples that one cell of a part has, each turned so that its orientation with the cell's fourth point is
+    negative."""
     for a, b, c in sorted({t for q in part for t in combinations(q, 3)}):
         having = [q for q in part if {a, b, c} <= set(q)]
         if len(having) == 1:
@@ -262,7 +265,8 @@ def bounding(part):
 
 
 def least_alpha(points, full, most):
-    """The least alpha at which every point is in an admitted cell and there are at most so many parts: one at which a cell comes."""
+    """The least alpha at which every point is in an admitted cell and there are at most so many parts: one at which
+    a cell comes."""
     for alpha in sorted({ceiling(16 * smallest_sphere(q)[0]) for q in full}):
         parts = parts_at(full, alpha)
         if alpha < 1 << 34 and {p for part in parts for q in part for p in q} == set(points) and len(parts) <= most:
@@ -289,7 +293,8 @@ def parts_told(points, full, alpha, most, place):
 
 
 def parts_agree(file, points, crew):
-    """Whether `parts` tells what the plain program does, at alphas near those of cells and for few parts, and of a part or of none."""
+    """Whether `parts` tells what the plain program does, at alphas near those of cells and for few parts, and of a
+    part or of none."""
     full = sorted(full_cells(points))
     near = [ceiling(16 * smallest_sphere(q)[0]) for q in full]
     for _ in range(3):
@@ -336,7 +341,8 @@ def drawn_file():
 
 
 def with_many_radii(points, edits, radii):
-    """The file with up to 16 radii, as many as a file may have: those of small faces of its points, and those at the ends of the range."""
+    """The file with up to 16 radii, as many as a file may have: those of small faces of its points, and those at the
+    ends of the range."""
     near = [dot(minus(a, b), minus(a, b)) // random.choice([2, 3]) + random.randrange(2) for a, b in zip(points, points[1:])]
     radii = radii + near + [random.randrange(2 * max(near) + 2) for _ in range(3)]
     radii = [min(radius, 1073741823) for radius in radii] + [0, 1073741823]
@@ -402,7 +408,8 @@ def file_of_points():
 
 
 def some_queries(places, count):
-    """So many places to ask about: some of these, middles of some, which are as near to several, and any others beside them."""
+    """So many places to ask about: some of these, middles of some, which are as near to several, and any others
+    beside them."""
     queries = []
     for _ in range(count):
         few = random.choices(places, k=random.choice([1, 2, 2, 4, 8]))
@@ -420,7 +427,8 @@ def file_of_queries():
 
 
 def near_agrees(file):
-    """Whether `near` tells what the plain program does, by one worker, and by more where no edit takes one of the opening four."""
+    """Whether `near` tells what the plain program does, by one worker, and by more where no edit takes one of the
+    opening four."""
     points, edits, _, _, queries = file
     crew = ('--workers', random.choice(['2', '8', '64']), '--grid', random.choice(['1', '2', '4', '8', '16']))
     if not is_solid(points):
@@ -436,8 +444,8 @@ def edit_line(edit):
 
 
 def file_of_moves():
-    """A file of version 2, 3 or 4 whose edits move points by small steps, to places that are taken and from places that are empty too,
-    among adds and takes of the same few places; its points have many ties."""
+    """A file of version 2, 3 or 4 whose edits move points by small steps, to places that are taken and from places
+    that are empty too, among adds and takes of the same few places; its points have many ties."""
     kind = random.choice([lattice_points, sphere_points, prism_points, nearly_flat_points, None])
     side = random.choice([2, 3, 5, 16384])
     whole = kind() if kind else list({tuple(random.randrange(side) for _ in range(3)) for _ in range(16)})
@@ -481,7 +489,8 @@ def order_told(text):
 
 
 def agrees(file, few):
-    """Whether the program agrees with the plain one on a file: by one worker, and by many over grids of all sizes, or a few of these."""
+    """Whether the program agrees with the plain one on a file: by one worker, and by many over grids of all sizes,
+    or a few of these."""
     points, edits, radii, version, queries = file if len(file) > 3 else (*file, 1, [])
     crews = [('--workers', workers, '--grid', grid) for workers in ('2', '4', '8', '64') for grid in ('1', '2', '4', '8', '16')]
     crews = random.sample(crews, few or len(crews))

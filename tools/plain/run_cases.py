@@ -1,5 +1,5 @@
-"""Makes the runs that `tools/make scenes` puts among the scenes, and the text that is to be printed, from the definitions
-and formats alone.
+"""Makes the runs that `tools/make scenes` puts among the scenes, and the text that is to be printed, from the
+definitions and formats alone.
 
 A run's status goes by docs/FORMATS.md, and its fault by the model of `tools/make files`; its text is that of the plain
 program of `tools/try random`, which tries all quadruples and triples. An end gives or takes so many bytes a call, so
@@ -79,7 +79,8 @@ def outcome_of_check(text, source, output):
 
 
 def outcome(words, text, source, output, kept, written=None):
-    """The status, what is told and written, and what is kept. A text that is given is that of a reader, and no file is read."""
+    """The status, what is told and written, and what is kept. A text that is given is that of a reader, and no file
+    is read."""
     if words == 'check':
         return outcome_of_check(text, source, output)
     reads = words.split()[:1] in (['mesh'], ['shape'], ['near'])
@@ -108,8 +109,8 @@ def outcome(words, text, source, output, kept, written=None):
 
 
 def case(words, text, source=ENOUGH, output=ENOUGH, error=ENOUGH, kept='', written=None, times=None, moments=None):
-    """A case whose input is written out, or stands there in three parts: the front, the middle so many times, and the end. With moments its
-    gate is watched: what it is told of worker 0 and of the other one."""
+    """A case whose input is written out, or stands there in three parts: the front, the middle so many times, and
+    the end. With moments its gate is watched: what it is told of worker 0 and of the other one."""
     front, middle, end = text if times else (text, '', '')
     status, fault, rest = outcome(words, front + middle * (times or 0) + end, source, output, kept, written)
     taken, _, kept = rest.partition('\0')

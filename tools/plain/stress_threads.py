@@ -1,10 +1,11 @@
-"""Has eight threads edit one mesh where its buckets meet, and judges what they leave by the plain program of `tools/try random`.
+"""Has eight threads edit one mesh where its buckets meet, and judges what they leave by the plain program of `tools/try
+random`.
 
-Each file has a thousand edits of a score of points in small boxes at corners of buckets, so that nearly every edit touches buckets of
-others and many claims fail. The order that the program tells must keep the file; the replies, the points that are left and the cells
-must be those of the lines in that order, by trial of all quadruples and triples. For each file it is told how many lines stand in
-another place than by one worker. With --moves most lines move one of a few points to one of many places there. The last line is
-'N passed, M failed'. By hand, not part of the gate.
+Each file has a thousand edits of a score of points in small boxes at corners of buckets, so that nearly every edit
+touches buckets of others and many claims fail. The order that the program tells must keep the file; the replies, the
+points that are left and the cells must be those of the lines in that order, by trial of all quadruples and triples. For
+each file it is told how many lines stand in another place than by one worker. With --moves most lines move one of a few
+points to one of many places there. The last line is 'N passed, M failed'. By hand, not part of the gate.
 
 usage: tools/try threads [--moves] [FILES] [SEED] [WORKERS]   (20 1 8)
 """
@@ -25,8 +26,8 @@ def drawn_file(grid):
 
 
 def file_of_moves(grid):
-    """The same with few points and many places around the corner, to which most lines move a point, so that a segment has several
-    lines whose points are neighbours."""
+    """The same with few points and many places around the corner, to which most lines move a point, so that a
+    segment has several lines whose points are neighbours."""
     four, _, _ = drawn_file(grid)
     corner = 16384 // grid
     place = lambda: tuple(corner + random.randrange(-5, 5) for _ in range(3))

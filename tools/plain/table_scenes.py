@@ -1,5 +1,5 @@
-"""Makes the scenes that `tools/make cases` puts into the input of the program `worked_cases`, and the text that is to be
-printed, from the definitions alone.
+"""Makes the scenes that `tools/make cases` puts into the input of the program `worked_cases`, and the text that is to
+be printed, from the definitions alone.
 
 A model of a table and its passes, written from docs/DEFINITIONS.md and not from the code, says what each scene comes
 to: which edit meets which bucket, the numbers and the replies, what is left over, and the lists that are dealt. Cells
@@ -194,7 +194,8 @@ def meet_scene(grid, points, one, two):
 
 
 def segments_of(pairs):
-    """Pairs cut into segments: one that shares a point with an earlier one of the present segment begins a new one where either moves."""
+    """Pairs cut into segments: one that shares a point with an earlier one of the present segment begins a new one
+    where either moves."""
     segments = [[]]
     for pair in pairs:
         if any(set(pair[2:]) & set(other[2:]) and None in (pair[1], other[1]) for other in segments[-1]):
@@ -209,7 +210,8 @@ def lines_of(points, edits):
 
 
 def deal_scene(workers, points, edits):
-    """The lines but the opening four, cut into segments, each line to the worker that the key of its point modulo their number names."""
+    """The lines but the opening four, cut into segments, each line to the worker that the key of its point modulo
+    their number names."""
     four, lines = lines_of(points, edits)
     text = ''
     for segment in segments_of([line for line in lines if line[0] not in four]):
@@ -222,7 +224,8 @@ def deal_scene(workers, points, edits):
 
 
 def make_scene(grid, points, workers, edits):
-    """The replies and the set of one thread, which all workers have where the file is anchored or each segment has one order."""
+    """The replies and the set of one thread, which all workers have where the file is anchored or each segment has
+    one order."""
     four, lines = lines_of(points, edits)
     table = Table(grid, [])
     replies = {}
@@ -233,7 +236,8 @@ def make_scene(grid, points, workers, edits):
 
 
 def drawn_moves(seed, corners, side, count):
-    """Points and edits of an anchored file: corners that stay, and adds, takes and moves among a few places of a small box between them."""
+    """Points and edits of an anchored file: corners that stay, and adds, takes and moves among a few places of a
+    small box between them."""
     draw = random.Random(seed)
     places = draw.sample([(x, y, z) for x in range(1, side) for y in range(1, side) for z in range(1, side)], 9)
     edits = []

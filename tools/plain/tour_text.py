@@ -1,4 +1,5 @@
-"""Makes the text that the program `tour` is to print, from the definitions alone, by the plain program of `tools/try random`.
+"""Makes the text that the program `tour` is to print, from the definitions alone, by the plain program of `tools/try
+random`.
 
 usage: tools/make tour
 writes crates/tour/stdout
@@ -22,7 +23,8 @@ def cells_of(points):
 
 
 def triples_of(points, radius):
-    """The lines of the admitted triangles, the number of admitted tetrahedra, and the length of the block, from the block of a shape."""
+    """The lines of the admitted triangles, the number of admitted tetrahedra, and the length of the block, from the
+    block of a shape."""
     points = sorted(points)
     index = {p: i for i, p in enumerate(points)}
     full, hull = list(plain.full_cells(points)), list(plain.open_cells(points))

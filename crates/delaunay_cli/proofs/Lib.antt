@@ -5,7 +5,9 @@ pub mod Judging
 pub mod FilesRead
 pub mod TextStatuses
 pub mod ChecksEnded
+pub mod CommandPromises
 pub mod Ended
+pub mod MadeAsAsked
 pub mod Promised
 pub mod ShapesOfSet
 pub mod DrawnFiles

@@ -92,7 +92,7 @@ use Rattle.delaunay_cli.specs.Words.{
   kind_of,
   worker_count,
 }
-use Rattle.delaunay_cli.proofs.Ended.{draws, kind_read, reading}
+use Rattle.delaunay_cli.proofs.MadeAsAsked.{draws, kind_read, reading}
 use Rattle.delaunay_cli.proofs.TextStatuses.{has_text, stopped_only}
 use Rattle.delaunay_cli.proofs.PlainTexts.{drawn_is_plain, kept_is_plain}
 

@@ -15,7 +15,7 @@ use Rattle.one_mesh.specs.Applied.{edited}
 use Rattle.mesh_rows.specs.declared.rows.Place.{Place}
 use Rattle.mesh_rows.specs.declared.rows.CellRow.{CellRow}
 use Rattle.mesh_rows.specs.declared.rows.TriangleRow.{TriangleRow}
-use Rattle.mesh_rows.specs.Rows.{place_of}
+use Rattle.mesh_rows.specs.Rows.{point_place}
 use Rattle.mesh_rows.specs.Meshes.{AreMeshRows, HasOutside, IsSetOf}
 use Rattle.mesh_handle.specs.declared.looks.Located.{Located}
 use Rattle.mesh_handle.specs.declared.place.Location.{Location}
@@ -26,7 +26,7 @@ use Rattle.mesh_handle.specs.declared.refusal.Refusal.TheVariants.{Memory, Outsi
 -- the point at a place
 pub record IsPointAt (place : Place) (p : ℕ) : Type 0 where
   pub key : IsKey p
-  pub there : place_of p ≡ place
+  pub there : point_place p ≡ place
 
 -- it holds a mesh that has exactly the points at the given places
 abbrev pub HoldsPoints : List Place → Option MeshView → Type 0
@@ -69,10 +69,10 @@ IsMiss held places Outside = HasOutside places
 IsMiss held places Empty = held ≡ None
 
 -- any of the three
-abbrev pub IsCause : Option MeshView → List Place → Refusal → Type 0
-IsCause held places Memory = Unit {0}
-IsCause held places Outside = HasOutside places
-IsCause held places Empty = held ≡ None
+abbrev pub IsRefusalCause : Option MeshView → List Place → Refusal → Type 0
+IsRefusalCause held places Memory = Unit {0}
+IsRefusalCause held places Outside = HasOutside places
+IsRefusalCause held places Empty = held ≡ None
 
 -- ---- looks
 
@@ -89,12 +89,12 @@ IsWhere s p (Inside cell) = (¬ (IsIn p s)) × GoesFrom s p cell
 -- how that is told
 abbrev pub row_of : ℕ → Location → Located
 row_of p Vertex =
-    record { kind = 0; a = place_of p; b = place_of p; c = place_of p; d = place_of p }
+    record { kind = 0; a = point_place p; b = point_place p; c = point_place p; d = point_place p }
 row_of p (Inside (Full (a ∷ b ∷ c ∷ d ∷ []))) =
-    record { kind = 1; a = place_of a; b = place_of b; c = place_of c; d = place_of d }
+    record { kind = 1; a = point_place a; b = point_place b; c = point_place c; d = point_place d }
 row_of p (Inside (Open (a ∷ b ∷ c ∷ []))) =
-    record { kind = 2; a = place_of a; b = place_of b; c = place_of c; d = place_of p }
-row_of p _ = record { kind = 3; a = place_of p; b = place_of p; c = place_of p; d = place_of p }
+    record { kind = 2; a = point_place a; b = point_place b; c = point_place c; d = point_place p }
+row_of p _ = record { kind = 3; a = point_place p; b = point_place p; c = point_place p; d = point_place p }
 
 -- it is told where a point lies
 abbrev pub IsToldOf : List ℕ → ℕ → Located → Type 0
@@ -109,4 +109,4 @@ LiesAt (Some mesh) place located = (p : ℕ) × IsPointAt place p × IsToldOf (r
 abbrev pub NearestIs : Option MeshView → Place → Place → Type 0
 NearestIs None place near = ⊥
 NearestIs (Some mesh) place near =
-    (p : ℕ) × (n : ℕ) × IsPointAt place p × IsNearest (replay mesh.history) p n × (near ≡ place_of n)
+    (p : ℕ) × (n : ℕ) × IsPointAt place p × IsNearest (replay mesh.history) p n × (near ≡ point_place n)

@@ -4,9 +4,9 @@ ghost use Rattle.std.specs.Prelude.{◌≡◌, ◌∷◌, [], IfErr, IfOk, OnErr
 ghost use Rattle.edit_history.specs.declared.history.Edit.TheVariants.{Add, Take, Move};
 ghost use Rattle.edit_history.specs.Edits.{reply_to};
 ghost use Rattle.edit_history.specs.Histories.{replay};
-ghost use Rattle.mesh_rows.specs.Rows.{IsOutside};
+ghost use Rattle.mesh_rows.specs.Rows.{LiesOutside};
 ghost use Rattle.one_mesh.specs.Applied.{edited};
-ghost use Rattle.mesh_handle.specs.Handles.{IsCause, WasAdded, WasEdited, WasMoved, WasTaken, IsLack, IsPointAt};
+ghost use Rattle.mesh_handle.specs.Handles.{IsRefusalCause, WasAdded, WasEdited, WasMoved, WasTaken, IsLack, IsPointAt};
 ghost use Rattle.mesh_handle.specs.declared.refusal.Refusal.TheVariants.{Memory, Empty, Outside};
 
 use crate::handle::MeshHandle;
@@ -21,7 +21,7 @@ use std::alloc::Global;
 // The point at a place.
 pub(crate) fn point_of(place: &Place) -> Result<Point, Refusal>
     ensures point { IfOk result (λ p. IsPointAt place.now p) }
-    ensures refused { IfErr result (λ r. (r ≡ Outside) × IsOutside place.now) }
+    ensures refused { IfErr result (λ r. (r ≡ Outside) × LiesOutside place.now) }
 {
     match point_at(place) {
         Ok(p) => Ok(p),
@@ -68,7 +68,7 @@ fn edit(alloc: Global, handle: &mut MeshHandle, edit: Edit) -> Result<Reply, Ref
 pub fn add(alloc: Global, handle: &mut MeshHandle, place: &Place) -> Result<Reply, Refusal>
     ensures done { IfOk result (λ reply. WasAdded handle.old.mesh place.now handle.new.mesh reply) }
     ensures refused { OnErr result (handle.new.mesh ≡ handle.old.mesh) }
-    ensures cause { IfErr result (λ r. IsCause handle.old.mesh (place.now ∷ []) r) }
+    ensures cause { IfErr result (λ r. IsRefusalCause handle.old.mesh (place.now ∷ []) r) }
 {
     let p = point_of(place)?;
     edit(alloc, handle, Edit::Add(p))
@@ -81,7 +81,7 @@ pub fn add(alloc: Global, handle: &mut MeshHandle, place: &Place) -> Result<Repl
 pub fn take(alloc: Global, handle: &mut MeshHandle, place: &Place) -> Result<Reply, Refusal>
     ensures done { IfOk result (λ reply. WasTaken handle.old.mesh place.now handle.new.mesh reply) }
     ensures refused { OnErr result (handle.new.mesh ≡ handle.old.mesh) }
-    ensures cause { IfErr result (λ r. IsCause handle.old.mesh (place.now ∷ []) r) }
+    ensures cause { IfErr result (λ r. IsRefusalCause handle.old.mesh (place.now ∷ []) r) }
 {
     let p = point_of(place)?;
     edit(alloc, handle, Edit::Take(p))
@@ -99,7 +99,7 @@ pub fn shift(
 ) -> Result<Reply, Refusal>
     ensures done { IfOk result (λ reply. WasMoved handle.old.mesh from.now to.now handle.new.mesh reply) }
     ensures refused { OnErr result (handle.new.mesh ≡ handle.old.mesh) }
-    ensures cause { IfErr result (λ r. IsCause handle.old.mesh (from.now ∷ to.now ∷ []) r) }
+    ensures cause { IfErr result (λ r. IsRefusalCause handle.old.mesh (from.now ∷ to.now ∷ []) r) }
 {
     let a = point_of(from)?;
     let b = point_of(to)?;

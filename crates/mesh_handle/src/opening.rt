@@ -3,7 +3,7 @@
 ghost use Rattle.std.specs.Prelude.{◌≡◌, true, IfErr, IfOk, None, OnErr, OnOk};
 ghost use Rattle.cell_store.specs.Grids.{is_grid_size};
 ghost use Rattle.edit_history.specs.Histories.{replay};
-ghost use Rattle.mesh_rows.specs.Meshes.{IsCause as IsStop, IsSetOf};
+ghost use Rattle.mesh_rows.specs.Meshes.{IsStopCause, IsSetOf};
 ghost use Rattle.mesh_handle.specs.Handles.{HoldsPoints};
 
 use crate::handle::{MeshHandle, free};
@@ -37,7 +37,7 @@ fn grid_for(count: usize) -> Grid {
 // The mesh of the points at some places.
 fn mesh_at(alloc: Global, given: &[Place]) -> Result<Mesh, Stop>
     ensures points { IfOk result (λ mesh. IsSetOf given.now (replay mesh.history)) }
-    ensures refused { IfErr result (λ stop. IsStop given.now stop) }
+    ensures refused { IfErr result (λ stop. IsStopCause given.now stop) }
 {
     one_thread_is_legal();
     let points = set_of(alloc, given)?;
@@ -58,7 +58,7 @@ fn mesh_at(alloc: Global, given: &[Place]) -> Result<Mesh, Stop>
 pub fn open(alloc: Global, handle: &mut MeshHandle, given: &[Place]) -> Result<(), Stop>
     ensures done { OnOk result (HoldsPoints given.now handle.new.mesh) }
     ensures refused { OnErr result (handle.new.mesh ≡ handle.old.mesh) }
-    ensures cause { IfErr result (λ stop. IsStop given.now stop) }
+    ensures cause { IfErr result (λ stop. IsStopCause given.now stop) }
 {
     let mesh = mesh_at(alloc, given)?;
     match Box::new(alloc, mesh) {

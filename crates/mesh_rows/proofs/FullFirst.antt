@@ -32,7 +32,7 @@ use Rattle.face_list.specs.Faces.{full_cells}
 use Rattle.face_list.specs.Tables.{cell_at}
 use Rattle.mesh_rows.specs.Rows.{open_cells}
 use Rattle.mesh_rows.specs.Across.{full_at}
-use Rattle.mesh_rows.specs.Linked.{AreCells}
+use Rattle.mesh_rows.specs.Linked.{AreOfComplex}
 
 -- Full cells, and then Open ones
 abbrev pub kinds : List (List ℕ) → List (List ℕ) → List Cell
@@ -99,7 +99,7 @@ pub record HasKinds (cells : List Cell) : Type 0 where
   pub opens_are : open_cells cells ≡ opens
 
 -- so has a complex
-pub kinds_of : (cells : List Cell) → AreCells cells → HasKinds cells
+pub kinds_of : (cells : List Cell) → AreOfComplex cells → HasKinds cells
 kinds_of cells k =
     let s = k.0 in
     let a = filter (is_full s) (subsets 4 s) in
@@ -113,7 +113,7 @@ kinds_of cells k =
     }))
 
 -- of a complex: a Full cell has its number among the Full ones
-pub full_number : (cells : List Cell) → AreCells cells → (m : ℕ) (q : List ℕ) → m < length cells →
+pub full_number : (cells : List Cell) → AreOfComplex cells → (m : ℕ) (q : List ℕ) → m < length cells →
     cell_at cells m ≡ Full q → (m < length (full_cells cells)) × (full_at cells m ≡ q)
 full_number cells k m q h e =
     let r = kinds_of cells k in
@@ -122,7 +122,7 @@ full_number cells k m q h e =
     subst (λ (l : List (List ℕ)). (m < length l) × (slice_index_or l m [] ≡ q)) (sym r.fulls_are) p
 
 -- of a complex: an Open cell is one of the Open ones
-pub open_listed : (cells : List Cell) → AreCells cells → (m : ℕ) (t : List ℕ) → m < length cells →
+pub open_listed : (cells : List Cell) → AreOfComplex cells → (m : ℕ) (t : List ℕ) → m < length cells →
     cell_at cells m ≡ Open t → IsIn t (open_cells cells)
 open_listed cells k m t h e =
     let r = kinds_of cells k in
@@ -130,7 +130,7 @@ open_listed cells k m t h e =
     (subst (λ (l : List Cell). m < length l) r.is h) (subst (λ (l : List Cell). cell_at l m ≡ Open t) r.is e))
 
 -- of a complex: the Full cell of a number
-pub full_at_number : (cells : List Cell) → AreCells cells → (n : ℕ) → n < length (full_cells cells) →
+pub full_at_number : (cells : List Cell) → AreOfComplex cells → (n : ℕ) → n < length (full_cells cells) →
     cell_at cells n ≡ Full (full_at cells n)
 full_at_number cells k n h =
     let r = kinds_of cells k in

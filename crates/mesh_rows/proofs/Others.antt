@@ -12,13 +12,13 @@ use Rattle.del_laws.proofs.Cited.{listed_facets}
 use Rattle.face_list.specs.Tables.{cell_at}
 use Rattle.mesh_rows.specs.declared.rows.CellRow.{CellRow}
 use Rattle.mesh_rows.specs.Rows.{open_cells}
-use Rattle.mesh_rows.specs.Across.{AreAcross, IsAcross}
-use Rattle.mesh_rows.specs.Linked.{AreCells, AreSides, HasOther, IsOther, told}
+use Rattle.mesh_rows.specs.Across.{AreAcross, IsToldAcross}
+use Rattle.mesh_rows.specs.Linked.{AreOfComplex, AreSides, HasAnotherCell, IsOther, told}
 use Rattle.mesh_rows.proofs.FullFirst.{full_number, open_listed}
 
 -- each facet of a cell of a complex has another cell
-pub some_other : (cells : List Cell) → AreCells cells → (n : ℕ) → n < length cells → (f : Facet) →
-    IsIn f (facets_of (cell_at cells n)) → HasOther cells n f
+pub some_other : (cells : List Cell) → AreOfComplex cells → (n : ℕ) → n < length cells → (f : Facet) →
+    IsIn f (facets_of (cell_at cells n)) → HasAnotherCell cells n f
 some_other cells k n h f i =
     let o = listed_facets k.0 (cell_at cells n) f k.1.ascending k.1.keys
     (subst (λ (l : List Cell). IsIn (cell_at cells n) l) k.2 (at_in cells n (Full []) h)) i in
@@ -40,11 +40,12 @@ open_on (a ∷ b ∷ c ∷ []) t (inr (inr (inr (inr e)))) = absurd e
 open_on (a ∷ b ∷ c ∷ d ∷ r) t i = absurd i
 
 -- what is told of the other cell is told of the facet
-pub told_across : (cells : List Cell) → AreCells cells → (n : ℕ) (t : List ℕ) (m : ℕ) → IsOther cells n (Three t) m →
-    IsAcross cells n t (told (cell_at cells m) m)
+pub told_across : (cells : List Cell) → AreOfComplex cells → (n : ℕ) (t : List ℕ) (m : ℕ) →
+    IsOther cells n (Three t) m →
+    IsToldAcross cells n t (told (cell_at cells m) m)
 told_across cells k n t m o = by (cell_at cells m) refl
   where
-    by : (c : Cell) → cell_at cells m ≡ c → IsAcross cells n t (told c m)
+    by : (c : Cell) → cell_at cells m ≡ c → IsToldAcross cells n t (told c m)
     by (Full q) e =
         let r = full_number cells k m q o.0 e in
         inl (record {
@@ -75,22 +76,22 @@ module _ (cells : List Cell) (n : ℕ) where
   sides_listed (a ∷ b ∷ c ∷ d ∷ e ∷ r) t u v w s = absurd s
 
   -- and there another cell has it
-  pub others_at : AreCells cells → n < length cells → (q t : List ℕ) → cell_at cells n ≡ Full q →
-      IsIn (Three t) (full_facets q) → HasOther cells n (Three t)
+  pub others_at : AreOfComplex cells → n < length cells → (q t : List ℕ) → cell_at cells n ≡ Full q →
+      IsIn (Three t) (full_facets q) → HasAnotherCell cells n (Three t)
   others_at k h q t e i =
       some_other cells k n h (Three t) (subst (λ (c : Cell). IsIn (Three t) (facets_of c)) (sym e) i)
 
   -- what is told of its sides is told of the cell
-  pub sides_told : (q t u v w : List ℕ) (r : CellRow) → AreSides q t u v w → IsAcross cells n t r.a →
-      IsAcross cells n u r.b → IsAcross cells n v r.c → IsAcross cells n w r.d → AreAcross cells n q r
+  pub sides_told : (q t u v w : List ℕ) (r : CellRow) → AreSides q t u v w → IsToldAcross cells n t r.a →
+      IsToldAcross cells n u r.b → IsToldAcross cells n v r.c → IsToldAcross cells n w r.d → AreAcross cells n q r
   sides_told [] t u v w r s x y z o = absurd s
   sides_told (a ∷ []) t u v w r s x y z o = absurd s
   sides_told (a ∷ b ∷ []) t u v w r s x y z o = absurd s
   sides_told (a ∷ b ∷ c ∷ []) t u v w r s x y z o = absurd s
   sides_told (a ∷ b ∷ c ∷ d ∷ []) t u v w r s x y z o = (
-    subst (λ (l : List ℕ). IsAcross cells n l r.a) s.0 x,
-    subst (λ (l : List ℕ). IsAcross cells n l r.b) s.1 y,
-    subst (λ (l : List ℕ). IsAcross cells n l r.c) s.2 z,
-    subst (λ (l : List ℕ). IsAcross cells n l r.d) s.3 o,
+    subst (λ (l : List ℕ). IsToldAcross cells n l r.a) s.0 x,
+    subst (λ (l : List ℕ). IsToldAcross cells n l r.b) s.1 y,
+    subst (λ (l : List ℕ). IsToldAcross cells n l r.c) s.2 z,
+    subst (λ (l : List ℕ). IsToldAcross cells n l r.d) s.3 o,
   )
   sides_told (a ∷ b ∷ c ∷ d ∷ e ∷ f) t u v w r s x y z o = absurd s

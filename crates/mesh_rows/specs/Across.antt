@@ -13,21 +13,21 @@ abbrev pub full_at : List Cell → ℕ → List ℕ
 full_at cells n = slice_index_or (full_cells cells) n []
 
 -- the Full cell of the number m is another than that of n, and has the triple for a facet
-pub record IsBeside (cells : List Cell) (n : ℕ) (t : List ℕ) (m : ℕ) : Type 0 where
+pub record IsFullNeighbour (cells : List Cell) (n : ℕ) (t : List ℕ) (m : ℕ) : Type 0 where
   pub listed : m < length (full_cells cells)
   pub differs : m ≢ n
   pub has : IsIn (Three t) (full_facets (full_at cells m))
 
 -- What is told of a facet of the Full cell of the number n: the number of the other Full cell that has it, or 2^32 - 1
 -- where it is a triangle of the hull.
-abbrev pub IsAcross : List Cell → ℕ → List ℕ → ℕ → Type 0
-IsAcross cells n t told = IsBeside cells n t told ⊎ ((told ≡ 4294967295) × IsIn t (open_cells cells))
+abbrev pub IsToldAcross : List Cell → ℕ → List ℕ → ℕ → Type 0
+IsToldAcross cells n t told = IsFullNeighbour cells n t told ⊎ ((told ≡ 4294967295) × IsIn t (open_cells cells))
 
 -- of its four facets, of which the first lacks its first point
 abbrev pub AreAcross : List Cell → ℕ → List ℕ → CellRow → Type 0
 AreAcross cells n (a ∷ b ∷ c ∷ d ∷ []) row =
-    IsAcross cells n (b ∷ c ∷ d ∷ []) row.a × IsAcross cells n (a ∷ c ∷ d ∷ []) row.b
-    × IsAcross cells n (a ∷ b ∷ d ∷ []) row.c × IsAcross cells n (a ∷ b ∷ c ∷ []) row.d
+    IsToldAcross cells n (b ∷ c ∷ d ∷ []) row.a × IsToldAcross cells n (a ∷ c ∷ d ∷ []) row.b
+    × IsToldAcross cells n (a ∷ b ∷ d ∷ []) row.c × IsToldAcross cells n (a ∷ b ∷ c ∷ []) row.d
 AreAcross cells n _ row = ⊥
 
 -- a row for each Full cell

@@ -14,8 +14,8 @@ abbrev pub IsOther : List Cell → ℕ → Facet → ℕ → Type 0
 IsOther cells n f m = (m < length cells) × (m ≢ n) × IsIn f (facets_of (cell_at cells m))
 
 -- some cell is
-abbrev pub HasOther : List Cell → ℕ → Facet → Type 0
-HasOther cells n f = (m : ℕ) × IsOther cells n f m
+abbrev pub HasAnotherCell : List Cell → ℕ → Facet → Type 0
+HasAnotherCell cells n f = (m : ℕ) × IsOther cells n f m
 
 -- what is told of a cell: its number where it is Full, and 2^32 - 1 where it is Open
 abbrev pub told : Cell → ℕ → ℕ
@@ -23,8 +23,8 @@ told (Full q) m = m
 told (Open t) m = 4294967295
 
 -- the cells are those of the complex of some set
-abbrev pub AreCells : List Cell → Type 0
-AreCells cells = (s : List ℕ) × IsSet s × (cells ≡ complex s)
+abbrev pub AreOfComplex : List Cell → Type 0
+AreOfComplex cells = (s : List ℕ) × IsSet s × (cells ≡ complex s)
 
 -- the triples of four points, of which the first lacks the first point
 abbrev pub AreSides : List ℕ → List ℕ → List ℕ → List ℕ → List ℕ → Type 0

@@ -19,27 +19,27 @@ use Rattle.mesh_rows.specs.declared.rows.MeshSizes.{MeshSizes}
 use Rattle.mesh_rows.specs.declared.rows.FaceSizes.{FaceSizes}
 use Rattle.mesh_rows.specs.declared.stop.Stop.{Stop}
 use Rattle.mesh_rows.specs.declared.stop.Stop.TheVariants.{Memory, Outside, Flat}
-use Rattle.mesh_rows.specs.Rows.{place_of, IsOutside, edge_row, triangle_row, cell_row, open_cells}
+use Rattle.mesh_rows.specs.Rows.{point_place, LiesOutside, edge_row, triangle_row, cell_row, open_cells}
 use Rattle.mesh_rows.specs.Across.{AreNeighbours}
 
 -- The set has exactly the points at the given places, each once, ascending.
 pub record IsSetOf (given : List Place) (s : List ℕ) : Type 0 where
   pub set : IsSet s
-  pub places : (p : Place) → IsIn p given ↔ IsIn p (map place_of s)
+  pub places : (p : Place) → IsIn p given ↔ IsIn p (map point_place s)
 
 -- some given place is that of no point
 abbrev pub HasOutside : List Place → Type 0
-HasOutside given = (p : Place) × IsIn p given × IsOutside p
+HasOutside given = (p : Place) × IsIn p given × LiesOutside p
 
 -- no four of the given points are independent
 abbrev pub AreFlat : List Place → Type 0
 AreFlat given = (s : List ℕ) × IsSetOf given s × (is_solid s ≡ false)
 
 -- why nothing is made; memory may be wanting at any time
-abbrev pub IsCause : List Place → Stop → Type 0
-IsCause given Memory = Unit {0}
-IsCause given Outside = HasOutside given
-IsCause given Flat = AreFlat given
+abbrev pub IsStopCause : List Place → Stop → Type 0
+IsStopCause given Memory = Unit {0}
+IsStopCause given Outside = HasOutside given
+IsStopCause given Flat = AreFlat given
 
 -- A solid set, and the cells of its complex, few enough for their numbers.
 pub record IsCloud (s : List ℕ) (cells : List Cell) : Type 0 where
@@ -52,7 +52,7 @@ pub record IsCloud (s : List ℕ) (cells : List Cell) : Type 0 where
 -- The rows of a set and of its complex.
 pub record AreMeshRows (s : List ℕ) (points : List Place) (cells neighbours : List CellRow)
     (hull : List TriangleRow) : Type 0 where
-  pub points_are : points ≡ map place_of s
+  pub points_are : points ≡ map point_place s
   pub cells_are : cells ≡ map (cell_row s) (full_cells (complex s))
   pub neighbours_are : AreNeighbours (complex s) neighbours
   pub hull_is : hull ≡ map (triangle_row s) (open_cells (complex s))

@@ -7,8 +7,8 @@ ghost use Rattle.point_order.specs.declared.cell.Cell.TheVariants.{Full, Open};
 ghost use Rattle.point_order.specs.declared.cell.Facet.TheVariants.{Three};
 ghost use Rattle.face_list.specs.Faces.{full_cells};
 ghost use Rattle.face_list.specs.Tables.{cell_at};
-ghost use Rattle.mesh_rows.specs.Across.{AreAcross, AreNeighbours, IsAcross, full_at};
-ghost use Rattle.mesh_rows.specs.Linked.{AreCells, AreSides, HasOther, IsOther, told};
+ghost use Rattle.mesh_rows.specs.Across.{AreAcross, AreNeighbours, IsToldAcross, full_at};
+ghost use Rattle.mesh_rows.specs.Linked.{AreOfComplex, AreSides, HasAnotherCell, IsOther, told};
 
 use crate::hints::{Hints, hints_of};
 use crate::rows::CellRow;
@@ -60,7 +60,7 @@ fn is_other(cells: &[Cell], n: usize, tri: &Tri, m: usize) -> bool
 
 // The number of the other cell that has the facet. It is likely to be the hint.
 fn other(cells: &[Cell], n: usize, tri: &Tri, hint: usize) -> usize
-    requires { HasOther cells.now n (Three tri.now) }
+    requires { HasAnotherCell cells.now n (Three tri.now) }
     ensures { IsOther cells.now n (Three tri.now) result }
 {
     if is_other(cells, n, tri, hint) {
@@ -89,9 +89,9 @@ fn told_of(cells: &[Cell], m: usize) -> u32
 // What is told of the cell across a facet.
 fn across(cells: &[Cell], n: usize, tri: &Tri, hint: usize) -> u32
     requires few { length cells.now < 2 ^ 32 }
-    requires cells { AreCells cells.now }
-    requires other { HasOther cells.now n (Three tri.now) }
-    ensures { IsAcross cells.now n tri.now result }
+    requires cells { AreOfComplex cells.now }
+    requires other { HasAnotherCell cells.now n (Three tri.now) }
+    ensures { IsToldAcross cells.now n tri.now result }
 {
     told_of(cells, other(cells, n, tri, hint))
 }
@@ -108,7 +108,7 @@ fn sides(quad: &Quad) -> (Tri, Tri, Tri, Tri)
 // What is told of the four cells across the facets of a Full cell.
 fn row(cells: &[Cell], n: usize, quad: &Quad, hints: &Hints) -> CellRow
     requires few { length cells.now < 2 ^ 32 }
-    requires cells { AreCells cells.now }
+    requires cells { AreOfComplex cells.now }
     requires listed { n < length cells.now }
     requires cell { cell_at cells.now n ≡ Full quad.now }
     ensures { AreAcross cells.now n quad.now result }
@@ -125,7 +125,7 @@ fn row(cells: &[Cell], n: usize, quad: &Quad, hints: &Hints) -> CellRow
 // That of the Full cell of a number.
 fn row_at(cells: &[Cell], n: usize, hints: &Hints) -> CellRow
     requires few { length cells.now < 2 ^ 32 }
-    requires cells { AreCells cells.now }
+    requires cells { AreOfComplex cells.now }
     requires listed { n < length cells.now }
     requires cell { cell_at cells.now n ≡ Full (full_at cells.now n) }
     ensures { AreAcross cells.now n (full_at cells.now n) result }
@@ -142,7 +142,7 @@ fn row_at(cells: &[Cell], n: usize, hints: &Hints) -> CellRow
 /// Want of memory.
 pub fn neighbours(alloc: Global, cells: &[Cell], count: usize) -> Result<Vec<CellRow>, AllocError>
     requires few { length cells.now < 2 ^ 32 }
-    requires cells { AreCells cells.now }
+    requires cells { AreOfComplex cells.now }
     requires count { count ≡ length (full_cells cells.now) }
     ensures { IfOk result (λ rows. AreNeighbours cells.now rows.items) }
 {

@@ -20,8 +20,8 @@ ghost use Rattle.std.specs.Prelude.{
 ghost use Rattle.point_order.specs.Coordinates.{IsKey};
 ghost use Rattle.point_order.specs.Solid.{is_solid};
 ghost use Rattle.del_laws.specs.Keys.{AreKeys};
-ghost use Rattle.mesh_rows.specs.Rows.{place_of, IsOutside};
-ghost use Rattle.mesh_rows.specs.Meshes.{IsCause, IsCloud, IsSetOf};
+ghost use Rattle.mesh_rows.specs.Rows.{point_place, LiesOutside};
+ghost use Rattle.mesh_rows.specs.Meshes.{IsStopCause, IsCloud, IsSetOf};
 ghost use Rattle.mesh_rows.specs.declared.stop.Stop.TheVariants.{Outside};
 
 use crate::rows::Place;
@@ -43,9 +43,9 @@ pub struct Cloud {
 /// # Errors
 /// `Stop::Outside` where a coordinate is not 0 to 16383.
 pub fn point_at(place: &Place) -> Result<Point, Stop>
-    ensures place { IfOk result (λ p. place_of p ≡ place.now) }
+    ensures place { IfOk result (λ p. point_place p ≡ place.now) }
     ensures key { IfOk result (λ p. IsKey p) }
-    ensures refused { IfErr result (λ stop. (stop ≡ Outside) × IsOutside place.now) }
+    ensures refused { IfErr result (λ stop. (stop ≡ Outside) × LiesOutside place.now) }
 {
     match Point::new(place.x, place.y, place.z) {
         Ok(p) => Ok(p),
@@ -63,9 +63,9 @@ fn put_point(points: &mut Vec<Point>, p: Point) -> Result<(), AllocError>
 
 // The points at the places, in the order of those.
 fn points_of(alloc: Global, given: &[Place]) -> Result<Vec<Point>, Stop>
-    ensures points { IfOk result (λ points. map place_of points.items ≡ given.now) }
+    ensures points { IfOk result (λ points. map point_place points.items ≡ given.now) }
     ensures keys { IfOk result (λ points. AreKeys points.items) }
-    ensures refused { IfErr result (λ stop. IsCause given.now stop) }
+    ensures refused { IfErr result (λ stop. IsStopCause given.now stop) }
 {
     let mut points = Vec::with_capacity(alloc, given.len())?;
     for place in given {
@@ -80,7 +80,7 @@ fn points_of(alloc: Global, given: &[Place]) -> Result<Vec<Point>, Stop>
 /// `Stop::Memory`, or `Stop::Outside` where some place is that of no point.
 pub fn set_of(alloc: Global, given: &[Place]) -> Result<Vec<Point>, Stop>
     ensures set { IfOk result (λ points. IsSetOf given.now points.items) }
-    ensures refused { IfErr result (λ stop. IsCause given.now stop) }
+    ensures refused { IfErr result (λ stop. IsStopCause given.now stop) }
 {
     let points = points_of(alloc, given)?;
     Ok(points_in_order(points))
@@ -109,7 +109,7 @@ pub fn are_solid(points: &[Point]) -> bool
 pub fn cloud_of(alloc: Global, given: &[Place]) -> Result<Cloud, Stop>
     ensures set { IfOk result (λ cloud. IsSetOf given.now cloud.points.items) }
     ensures cloud { IfOk result (λ cloud. IsCloud cloud.points.items cloud.cells.items) }
-    ensures refused { IfErr result (λ stop. IsCause given.now stop) }
+    ensures refused { IfErr result (λ stop. IsStopCause given.now stop) }
 {
     let points = set_of(alloc, given)?;
     if !are_solid(&points) {

@@ -20,13 +20,13 @@ const NOBODY: Door = Door {
 
 /// The number of the cell that is likely to lie across each facet of each cell.
 #[derive(Drop)]
-pub struct Hints {
+pub(crate) struct Hints {
     across: Vec<[u32; 4]>,
 }
 
 impl Hints {
     /// The hint for a facet of a cell.
-    pub fn at(&self, cell: usize, facet: usize) -> usize {
+    pub(crate) fn at(&self, cell: usize, facet: usize) -> usize {
         if cell < self.across.len() && facet < 4 {
             self.across[cell][facet] as usize
         } else {
@@ -124,7 +124,7 @@ fn meet_all(hints: &mut Hints, waiting: &mut [Door], cells: &[Cell], number: usi
 ///
 /// # Errors
 /// Want of memory.
-pub fn hints_of(alloc: Global, cells: &[Cell]) -> Result<Hints, AllocError> {
+pub(crate) fn hints_of(alloc: Global, cells: &[Cell]) -> Result<Hints, AllocError> {
     let across = vec![in alloc; [0; 4]; cells.len()]?;
     let mut hints = Hints { across };
     let mut waiting = vec![in alloc; NOBODY; length_for(cells.len().saturating_mul(4))]?;

@@ -2,7 +2,7 @@
 
 ghost use Rattle.std.specs.Prelude.{◌≡◌, ◌≤◌, ◌∷◌, [], length, IfErr, IfOk};
 ghost use Rattle.face_list.specs.Faces.{full_cells};
-ghost use Rattle.mesh_rows.specs.Meshes.{AreFaceRows, AreFiltered, IsCause, IsCloud};
+ghost use Rattle.mesh_rows.specs.Meshes.{AreFaceRows, AreFiltered, IsStopCause, IsCloud};
 
 use crate::cloud::cloud_of;
 use crate::numbers::{edges, triangles};
@@ -78,7 +78,7 @@ pub fn levels_of(alloc: Global, given: &[Place]) -> Result<Levels, Stop>
         l.triangles.items l.triangle_alphas.items l.cell_alphas.items) }
     ensures edge_count { IfOk result (λ l. length l.edge_alphas.items ≡ length l.edges.items) }
     ensures triangle_count { IfOk result (λ l. length l.triangle_alphas.items ≡ length l.triangles.items) }
-    ensures refused { IfErr result (λ stop. IsCause given.now stop) }
+    ensures refused { IfErr result (λ stop. IsStopCause given.now stop) }
 {
     let cloud = cloud_of(alloc, given)?;
     let levels = face_rows(alloc, &cloud.points, &cloud.cells)?;

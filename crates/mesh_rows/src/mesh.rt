@@ -1,7 +1,7 @@
 //! The points, cells, neighbours and hull of a complex.
 
 ghost use Rattle.std.specs.Prelude.{◌≡◌, length, IfOk, IfErr};
-ghost use Rattle.mesh_rows.specs.Meshes.{AreMeshRows, IsCause, IsCloud, IsMesh};
+ghost use Rattle.mesh_rows.specs.Meshes.{AreMeshRows, IsStopCause, IsCloud, IsMesh};
 
 use crate::across::neighbours;
 use crate::cloud::cloud_of;
@@ -48,7 +48,7 @@ pub fn rows_of(alloc: Global, set: &[Point], all: &[Cell]) -> Result<Made, Alloc
 pub fn mesh_of(alloc: Global, given: &[Place]) -> Result<Made, Stop>
     ensures mesh { IfOk result (λ m. IsMesh given.now m.points.items m.cells.items m.neighbours.items m.hull.items) }
     ensures count { IfOk result (λ m. length m.neighbours.items ≡ length m.cells.items) }
-    ensures refused { IfErr result (λ stop. IsCause given.now stop) }
+    ensures refused { IfErr result (λ stop. IsStopCause given.now stop) }
 {
     let cloud = cloud_of(alloc, given)?;
     let made = rows_of(alloc, &cloud.points, &cloud.cells)?;

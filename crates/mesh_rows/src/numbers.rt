@@ -3,7 +3,7 @@
 ghost use Rattle.std.specs.Prelude.{◌≡◌, ◌<◌, ◌^◌, ◌++◌, ◌∷◌, [], length, map, IfOk, OnOk};
 ghost use Rattle.face_list.specs.Faces.{full_cells};
 ghost use Rattle.point_order.specs.Sets.{IsAscending};
-ghost use Rattle.mesh_rows.specs.Rows.{cell_row, edge_row, number_of, open_cells, place_of, triangle_row};
+ghost use Rattle.mesh_rows.specs.Rows.{cell_row, edge_row, rank_of, open_cells, point_place, triangle_row};
 
 use crate::rows::{CellRow, EdgeRow, Place, TriangleRow};
 use point_order::{Cell, Pair, Point, Quad, Tri};
@@ -11,7 +11,7 @@ use std::alloc::{AllocError, Global};
 
 /// Where a point is.
 pub fn place_at(p: Point) -> Place
-    ensures { result ≡ place_of p }
+    ensures { result ≡ point_place p }
 {
     Place {
         x: p.x(),
@@ -22,7 +22,7 @@ pub fn place_at(p: Point) -> Place
 
 /// Where points are.
 pub fn places(alloc: Global, points: &[Point]) -> Result<Vec<Place>, AllocError>
-    ensures { IfOk result (λ rows. rows.items ≡ map place_of points.now) }
+    ensures { IfOk result (λ rows. rows.items ≡ map point_place points.now) }
 {
     points.iter().map(|p| place_at(*p)).collect(alloc)
 }
@@ -31,7 +31,7 @@ pub fn places(alloc: Global, points: &[Point]) -> Result<Vec<Place>, AllocError>
 fn number(points: &[Point], point: Point) -> u32
     requires few { length points.now < 2 ^ 32 }
     requires ascending { IsAscending points.now }
-    ensures { result ≡ number_of points.now point }
+    ensures { result ≡ rank_of points.now point }
 {
     let key = point.key();
     points.partition_point(|q| q.key() < key) as u32

@@ -13,7 +13,7 @@ use Rattle.del_laws.proofs.Cited.{listed_every_point, listed_inside, listed_is_c
 use Rattle.del_laws.proofs.NearestPoints.{nearest_by_cells}
 use Rattle.cell_store.specs.Buckets.{InHand}
 use Rattle.cell_store.specs.Shares.{Shows}
-use Rattle.near_vertex.specs.Points.{IsFirstOf, IsNearest, IsBeside, IsFirstAround}
+use Rattle.near_vertex.specs.Points.{IsFirstOf, IsNearest, ShareACell, IsFirstAround}
 use Rattle.near_vertex.proofs.Order.{before_self, not_before_chain, one_before}
 
 -- ---- the search
@@ -67,7 +67,7 @@ pub first_of_all : (s : List ℕ) (q p : ℕ) (l rest : List Cell) (x : ℕ) (ho
     ((d : Cell) → ¬ (IsIn d rest)) → IsFirstSo q p l rest x → IsFirstAround s q p x
 first_of_all s q p l rest x hold st m all none k = record {
   beside = elim k.from [
-    | inl e ↦ subst (λ v. IsBeside s p v) (sym e) itself
+    | inl e ↦ subst (λ v. ShareACell s p v) (sym e) itself
     | inr r ↦ (let i = at r.0 r.1 in record { cell = r.0; listed = i.0; has = i.1; other = r.2 })
   ];
   first = λ y b. elim (k.first b.cell ((all b.cell).1 (filtered_true (λ c. is_among p (points_of c)) (complex s) b.cell
@@ -83,14 +83,14 @@ first_of_all s q p l rest x hold st m all none k = record {
         (f.0, among_from p (points_of c) f.1)
 
     -- p is in some cell
-    itself : IsBeside s p p
+    itself : ShareACell s p p
     itself = let h = listed_every_point s p st.ascending st.keys st.solid m in record
         { cell = Full h.q; listed = h.listed; has = h.has; other = h.has }
 
 -- ---- the nearest
 
 -- a point that shares a cell is one of the set
-pub beside_in : (s : List ℕ) (p x : ℕ) (hold : InHand) → Shows hold s → IsBeside s p x → IsIn x s
+pub beside_in : (s : List ℕ) (p x : ℕ) (hold : InHand) → Shows hold s → ShareACell s p x → IsIn x s
 beside_in s p x hold st b = listed_inside s b.cell (listed_is_cell s b.cell st.ascending b.listed) x b.other
 
 -- where no point that shares a cell with p comes before it, none of the set does

@@ -55,7 +55,7 @@ use Rattle.point_order.specs.Orientation.{distance, square_of_step, x_from, y_fr
 use Rattle.point_order.specs.Sets.{IsIn}
 use Rattle.del_laws.specs.Nearest.{comes_before}
 use Rattle.near_vertex.specs.Points.{IsFirstOf}
-use Rattle.near_vertex.specs.Laws.{ComesNearer, NoPointTwice}
+use Rattle.near_vertex.specs.Laws.{Approaches, NoPointTwice}
 
 -- ---- in numbers
 
@@ -235,7 +235,7 @@ one_later q p l i x best h e k f = record {
 -- ---- no point twice
 
 -- what comes later on a walk comes before
-later_before : (q p x : ℕ) (l : List ℕ) → ComesNearer q (p ∷ l) → IsIn x l → comes_before q x p ≡ true
+later_before : (q p x : ℕ) (l : List ℕ) → Approaches q (p ∷ l) → IsIn x l → comes_before q x p ≡ true
 later_before q p x [] c m = absurd m
 later_before q p x (y ∷ l) c m = elim m [
   | inl e ↦ subst (λ v. comes_before q v p ≡ true) e c.0

@@ -34,7 +34,7 @@ use Rattle.cell_stars.proofs.Cited.{bucket_below}
 use Rattle.cell_store.proofs.Cited.{has_point, point_held, points_of_bucket, solid_set}
 use Rattle.del_laws.proofs.Cited.{listed_inside, listed_is_cell}
 use Rattle.near_vertex.specs.Turns.{HasNoPoint, front_of}
-use Rattle.near_vertex.specs.Laws.{StartIsWalk}
+use Rattle.near_vertex.specs.Laws.{NearStartIsWalk}
 
 -- ---- the first point
 
@@ -121,8 +121,8 @@ in_set hold s b p st m = go (bucket_at hold.places b) refl m
     go (Some x) e i = (filtered_from (λ p. bucket_of hold.grid p == b) s p
         (subst (λ (l : List ℕ). IsIn p l) (st.sights b x e).points i)).0
 
--- the law StartIsWalk
-pub start_is_walk : StartIsWalk
+-- the law NearStartIsWalk
+pub start_is_walk : NearStartIsWalk
 start_is_walk hold s q w st g = in_set hold s g.1.bucket w.point st
     (front_in (points_in hold.places g.1.bucket) w.point g.1.least)
 

@@ -21,7 +21,7 @@ abbrev pub IsNearest : List ℕ → ℕ → ℕ → Type 0
 IsNearest s q p = IsFirstOf q s p
 
 -- a cell of the complex of s has both points
-pub record IsBeside (s : List ℕ) (p x : ℕ) : Type 0 where
+pub record ShareACell (s : List ℕ) (p x : ℕ) : Type 0 where
   pub cell : Cell
   pub listed : IsIn cell (complex s)
   pub has : IsIn p (points_of cell)
@@ -29,5 +29,5 @@ pub record IsBeside (s : List ℕ) (p x : ℕ) : Type 0 where
 
 -- x shares a cell with p, as p itself does, and as seen from q none that does comes before x
 pub record IsFirstAround (s : List ℕ) (q p x : ℕ) : Type 0 where
-  pub beside : IsBeside s p x
-  pub first : (y : ℕ) → IsBeside s p y → comes_before q y x ≡ false
+  pub beside : ShareACell s p x
+  pub first : (y : ℕ) → ShareACell s p y → comes_before q y x ≡ false

@@ -34,36 +34,37 @@ pub record IsLeastOfLowest (hold : InHand) (p : ℕ) : Type 0 where
   pub lower : (b : ℕ) → b < bucket → points_in hold.places b ≡ []
 
 -- A walk to q from that point; or, where no bucket in hand has a point, the first bucket that is not in hand.
-abbrev pub StartGives : InHand → ℕ → NearStart → Type 0
-StartGives hold q (At w) = (w.place ≡ q) × IsLeastOfLowest hold w.point
-StartGives hold q (Lacks b) = HasNoPoint hold × IsFirstMissing hold q b
+abbrev pub NearStartGives : InHand → ℕ → NearStart → Type 0
+NearStartGives hold q (At w) = (w.place ≡ q) × IsLeastOfLowest hold w.point
+NearStartGives hold q (Lacks b) = HasNoPoint hold × IsFirstMissing hold q b
 
 -- ---- a step
 
 -- a walk stands at a point of the set
-abbrev pub IsWalkIn : List ℕ → Nearing → Type 0
-IsWalkIn s w = IsIn w.point s
+abbrev pub IsNearWalkIn : List ℕ → Nearing → Type 0
+IsNearWalkIn s w = IsIn w.point s
 
 -- the hold shows a set in which the walk is one
-abbrev pub ShowsWalk : InHand → Nearing → Type 0
-ShowsWalk hold w = (s : List ℕ) × Shows hold s × IsWalkIn s w
+abbrev pub ShowsNearWalk : InHand → Nearing → Type 0
+ShowsNearWalk hold w = (s : List ℕ) × Shows hold s × IsNearWalkIn s w
 
 -- the bucket of the point where the walk stands, if it is in hand
 abbrev pub bucket_under : InHand → Nearing → Option BucketContent
 bucket_under hold w = bucket_at hold.places (bucket_of hold.grid w.point)
 
 -- the walk went to the first of the points that share a cell with its point, which comes before it
-pub record HasMoved (hold : InHand) (s : List ℕ) (old new : Nearing) : Type 0 where
+pub record HasStepped (hold : InHand) (s : List ℕ) (old new : Nearing) : Type 0 where
   pub held : IsSome (bucket_under hold old)
   pub place : new.place ≡ old.place
   pub first : IsFirstAround s old.place old.point new.point
   pub before : comes_before old.place new.point old.point ≡ true
-  pub walk : IsWalkIn s new
+  pub walk : IsNearWalkIn s new
 
 -- Here where no point that shares a cell with the walk's comes before it, and so no point of the set does; else
 -- Moved, or the bucket of the walk's point, which is not in hand.
-abbrev pub TurnGives : InHand → List ℕ → Nearing → Nearing → NearTurn → Type 0
-TurnGives hold s old new (Here p) =
+abbrev pub NearTurnGives : InHand → List ℕ → Nearing → Nearing → NearTurn → Type 0
+NearTurnGives hold s old new (Here p) =
     (new ≡ old) × (p ≡ old.point) × IsSome (bucket_under hold old) × IsNearest s old.place p
-TurnGives hold s old new Moved = HasMoved hold s old new
-TurnGives hold s old new (Need b) = (new ≡ old) × (b ≡ bucket_of hold.grid old.point) × (bucket_under hold old ≡ None)
+NearTurnGives hold s old new Moved = HasStepped hold s old new
+NearTurnGives hold s old new (Need b) =
+    (new ≡ old) × (b ≡ bucket_of hold.grid old.point) × (bucket_under hold old ≡ None)

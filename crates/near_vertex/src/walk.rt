@@ -4,7 +4,7 @@ ghost use Rattle.std.specs.Prelude.{◌≡◌, ℕ, List};
 ghost use Rattle.cell_store.specs.Meshes.{IsWhole};
 ghost use Rattle.cell_store.specs.Shares.{Shows, ShowsSome};
 ghost use Rattle.near_vertex.specs.Points.{IsNearest};
-ghost use Rattle.near_vertex.specs.Turns.{ShowsWalk, IsWalkIn, StartGives, TurnGives};
+ghost use Rattle.near_vertex.specs.Turns.{ShowsNearWalk, IsNearWalkIn, NearStartGives, NearTurnGives};
 
 use crate::search::{first_around, first_missing, lowest_point, some_point};
 use cell_store::Hold;
@@ -55,7 +55,7 @@ impl NearWalk {
     /// The hold is to show some set. It takes no memory.
     pub fn start(hold: &Hold, q: Point) -> NearStart
         requires { ShowsSome hold.now }
-        ensures { StartGives hold.now q result }
+        ensures { NearStartGives hold.now q result }
     {
         match lowest_point(hold) {
             Some(p) => NearStart::At(NearWalk { place: q, point: p }),
@@ -69,9 +69,9 @@ impl NearWalk {
     /// The hold is to show some set of which the walk's point is one; the answer is right for each such set. It takes
     /// no memory.
     pub fn step(&mut self, hold: &Hold) -> NearTurn
-        requires { ShowsWalk hold.now self.old }
-        ensures { (s : List ℕ) → Shows hold.now s → IsWalkIn s self.old →
-            TurnGives hold.now s self.old self.new result }
+        requires { ShowsNearWalk hold.now self.old }
+        ensures { (s : List ℕ) → Shows hold.now s → IsNearWalkIn s self.old →
+            NearTurnGives hold.now s self.old self.new result }
     {
         let b = hold.grid().bucket_of(self.point);
         if !hold.has(b) {

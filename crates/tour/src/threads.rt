@@ -177,7 +177,7 @@ fn show_whole(rt: &impl Print, whole: &Whole, count: u64) -> anyhow::Result<()> 
 
 /// Adds two cubes to the mesh by two threads side by side, and looks at the whole by a snapshot. Whatever comes of
 /// that, the table is closed.
-pub fn edit_side_by_side<R: Threads + Sync + Print>(
+pub(crate) fn edit_side_by_side<R: Threads + Sync + Print>(
     rt: &R,
     alloc: Global,
     mesh: Mesh,

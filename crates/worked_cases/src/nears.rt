@@ -1,7 +1,7 @@
 //! Walks to the nearest point over the buckets in hand.
 
 ghost use Rattle.cell_store.specs.Shares.{ShowsSome};
-ghost use Rattle.near_vertex.specs.Turns.{ShowsWalk};
+ghost use Rattle.near_vertex.specs.Turns.{ShowsNearWalk};
 
 use crate::meshes::{keep_only, mesh_of};
 use crate::reading::{at, list_at};
@@ -13,7 +13,7 @@ use std::alloc::Global;
 
 // What the steps of a walk come to, at most a thousand.
 fn put_steps(answer: &mut Answer, hold: &Hold, mut walk: NearWalk)
-    requires { ShowsWalk hold.now walk }
+    requires { ShowsNearWalk hold.now walk }
 {
     for _ in 0..1000 {
         match walk.step(hold) {

@@ -1,5 +1,5 @@
 use Rattle.std.proofs.Common.{inl, inr}
-use Rattle.delaunay_cli.proofs.Ended.{reading}
+use Rattle.delaunay_cli.proofs.MadeAsAsked.{reading}
 use Rattle.delaunay_cli.proofs.Promised.{completes, no_alpha, no_index, no_part, parts_front, parts_written}
 use Rattle.delaunay_cli.proofs.laws.run_that_parts.Goals as goal
 

@@ -11,7 +11,7 @@ use Rattle.delaunay_cli.proofs.CommandLine.{
   parts_asked,
   parts_words,
 }
-use Rattle.delaunay_cli.proofs.Ended.{checks_kind, mesh_reading, parts_kind, read_kind, reading, steps_kind}
+use Rattle.delaunay_cli.proofs.MadeAsAsked.{checks_kind, mesh_reading, parts_kind, read_kind, reading, steps_kind}
 use Rattle.delaunay_cli.proofs.NumberWords.{
   gen_words,
   gen_text_words,

@@ -5,7 +5,7 @@ use Rattle.delaunay_cli.specs.declared.task.Task.{Task}
 use Rattle.delaunay_cli.specs.Tasks.{IsTask}
 use Rattle.delaunay_cli.specs.Words.{asks_drawn}
 use Rattle.delaunay_cli.proofs.CommandLine.{check_mesh, draws_file, near_file, parts_file, reads_file, steps_file}
-use Rattle.delaunay_cli.proofs.Ended.{
+use Rattle.delaunay_cli.proofs.MadeAsAsked.{
   checked_made,
   checked_unmade,
   checks_kind,

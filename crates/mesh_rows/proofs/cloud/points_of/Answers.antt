@@ -1,6 +1,6 @@
 use Rattle.std.proofs.Common.{sym, subst}
 use Rattle.mesh_rows.specs.declared.stop.Stop.{Stop}
-use Rattle.mesh_rows.specs.Meshes.{IsCause}
+use Rattle.mesh_rows.specs.Meshes.{IsStopCause}
 use Rattle.mesh_rows.proofs.Clouds.{passed_on, points_more, refused_at}
 use Rattle.mesh_rows.proofs.cloud.points_of.Goals as goal
 
@@ -9,7 +9,7 @@ returns-in_err-point_at-clause-refused c =
     let given = c.args.given.now in
     let k = c.in_err-point_at.ensures.refused in
     passed_on given _ c.from_residual-in_err-point_at.result c.from_residual-in_err-point_at.ensures.1
-    (subst (λ (x : Stop). IsCause given x) (sym k.0)
+    (subst (λ (x : Stop). IsStopCause given x) (sym k.0)
     (refused_at given c.loop-place.place-index _ c.loop-place-test.true k.1))
 
 pub loop-place-preserved : goal.loop-place-preserved

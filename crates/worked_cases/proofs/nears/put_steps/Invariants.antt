@@ -1,5 +1,5 @@
-use Rattle.near_vertex.specs.Turns.{ShowsWalk}
+use Rattle.near_vertex.specs.Turns.{ShowsNearWalk}
 use Rattle.worked_cases.proofs.nears.put_steps.Given as goal
 
 abbrev pub invariant-loop : goal.invariant-loop
-invariant-loop l = ShowsWalk l.hold l.walk
+invariant-loop l = ShowsNearWalk l.hold l.walk

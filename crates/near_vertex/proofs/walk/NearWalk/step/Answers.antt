@@ -4,7 +4,7 @@ use Rattle.list_laws.proofs.Cited.{not_both, same_from, same_true}
 use Rattle.cell_store.specs.Buckets.{bucket_at}
 use Rattle.cell_store.specs.Grids.{bucket_of}
 use Rattle.near_vertex.specs.Points.{Nearing, IsFirstAround, IsFirstOf}
-use Rattle.near_vertex.specs.Turns.{bucket_under, IsWalkIn, HasMoved}
+use Rattle.near_vertex.specs.Turns.{bucket_under, IsNearWalkIn, HasStepped}
 use Rattle.near_vertex.proofs.Around.{beside_in, here_nearest, moved_before}
 use Rattle.near_vertex.proofs.walk.NearWalk.step.Goals as goal
 
@@ -15,7 +15,7 @@ returns-then-eq c s st w =
     let q = c.self.inside.place in
     let p = c.self.inside.point in
     let x = c.first_around-first.result in
-    let k = subst (λ (v : Nearing). IsWalkIn s v) (sym c.self.view_is) w in
+    let k = subst (λ (v : Nearing). IsNearWalkIn s v) (sym c.self.view_is) w in
     let e : x ≡ p = same_from x p (sym c.eq.ensures ∙ c.if-eq.true) in
     let number : c.bucket_of-b.result ≡ bucket_of hold.grid p = c.bucket_of-b.ensures.number ∙ ap (λ g. bucket_of g p)
     c.grid.ensures.grid in
@@ -32,13 +32,13 @@ returns c s st w =
     let q = c.self.inside.place in
     let p = c.self.inside.point in
     let x = c.first_around-first.result in
-    let k = subst (λ (v : Nearing). IsWalkIn s v) (sym c.self.view_is) w in
+    let k = subst (λ (v : Nearing). IsNearWalkIn s v) (sym c.self.view_is) w in
     let n : ¬ (x ≡ p) = λ e. not_both (nat_eq x p) (same_true x p e) (sym c.eq.ensures ∙ c.if-eq.false) in
     let number : c.bucket_of-b.result ≡ bucket_of hold.grid p = c.bucket_of-b.ensures.number ∙ ap (λ g. bucket_of g p)
     c.grid.ensures.grid in
     let held = subst (λ n. IsSome (bucket_at hold.places n)) number (sym c.has.ensures ∙ c.if-not-has.false) in
     let f = c.first_around-first.ensures s st k in
-    subst (λ (v : Nearing). HasMoved hold s v (record { place = q; point = x })) c.self.view_is (record {
+    subst (λ (v : Nearing). HasStepped hold s v (record { place = q; point = x })) c.self.view_is (record {
       held = held;
       place = refl;
       first = f;
