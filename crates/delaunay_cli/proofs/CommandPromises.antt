@@ -152,6 +152,7 @@ file_made workers h P left status m s =
       made = λ k. m;
     }
 
+-- where none was made of it, the verdict is told and nothing is kept
 file_unmade : (P : List ℕ → Type 0) (left : Option (List ℕ)) (failed : Type 0) (stop : Stop) →
     HasNoMesh left failed stop → FileEnds P left (status_of stop)
 file_unmade P left failed stop u =
@@ -163,6 +164,7 @@ file_unmade P left failed stop u =
           λ k. absurd (stopped_only (status_of stop) n.0 n.1 n.3 k);
     }
 
+-- and so where the run ended early
 file_early : (P : List ℕ → Type 0) (left : Option (List ℕ)) (status : ℕ) → (status ≡ 1) ⊎ (status ≡ 2) →
     FileEnds P left status
 file_early P left status s =
@@ -180,12 +182,14 @@ tells_whole late text (inr (inr e, n)) = (inr (omega (arith, e)), omega (arith, 
 
 -- what is promised of parts where they were told or a text of them was cut off, where no mesh was, and of an early end
 module _ (workers alpha most : ℕ) (index : Option ℕ) (left : Option (List ℕ)) where
+  -- of bytes of which parts are told none of 5, 6 and 7 comes
   part_verdict : (status late : ℕ) (h : List Entry) (text : List ℕ) → HasText status →
       IfSome left (IsPartedFile workers alpha most index late h text) → IfSome left (IsVerdict status)
   part_verdict status late h text has m =
       if_some (IsPartedFile workers alpha most index late h text) (IsVerdict status) left
       (λ bytes. verdict_made status workers h (λ file. IsParted (replay h) alpha most index late text) bytes has) m
 
+  -- where they were told whole
   part_whole : (late : ℕ) (h : List Entry) (text : List ℕ) → TellsParts late text →
       IfSome left (IsPartedFile workers alpha most index late h text) →
       PartEnds workers alpha most index left late h text
@@ -199,6 +203,7 @@ module _ (workers alpha most : ℕ) (index : Option ℕ) (left : Option (List �
         nothing = λ l. elim t [ inl z ↦ absurd (omega (arith, l, z)) | inr k ↦ k.1 ];
       }
 
+  -- where a text of them was cut off
   part_cut : (status : ℕ) (h : List Entry) (text : List ℕ) →
       IfSome left (IsPartedFile workers alpha most index 0 h text) → status ≡ 4 →
       PartEnds workers alpha most index left status h text
@@ -211,6 +216,7 @@ module _ (workers alpha most : ℕ) (index : Option ℕ) (left : Option (List �
         nothing = λ l. absurd (omega (arith, l, e));
       }
 
+  -- so where they were told, however the write ended
   part_made : (late : ℕ) (h : List Entry) (text : List ℕ) → TellsParts late text →
       IfSome left (IsPartedFile workers alpha most index late h text) → (status : ℕ) →
       (status ≡ late) ⊎ ((status ≡ 4) × (text ≢ [])) → PartEnds workers alpha most index left status h text
@@ -221,6 +227,7 @@ module _ (workers alpha most : ℕ) (index : Option ℕ) (left : Option (List �
       (subst (λ (n : ℕ). IfSome left (IsPartedFile workers alpha most index n h text)) z m) f.0
   part_made late h text (inr t) m status (inr f) = absurd (f.1 t.1)
 
+  -- where no mesh was
   part_unmade : (failed : Type 0) (stop : Stop) → HasNoMesh left failed stop →
       PartEnds workers alpha most index left (status_of stop) [] []
   part_unmade failed stop u =
@@ -233,6 +240,7 @@ module _ (workers alpha most : ℕ) (index : Option ℕ) (left : Option (List �
         nothing = λ l. refl;
       }
 
+  -- and where the run ended early
   part_early : (status : ℕ) → (status ≡ 1) ⊎ (status ≡ 2) → PartEnds workers alpha most index left status [] []
   part_early status s =
       record {

@@ -62,31 +62,37 @@ abbrev kind_by : Bool → Bool → Bool → Bool → Bool → Kind
 kind_by drawn check steps parts near =
     cond drawn Draws (cond check Checks (cond steps Steps (cond parts Parts (cond near Queries Reports))))
 
+-- words that draw a file are of the kind that draws
 pub draws : (words : List (String Global)) → DrawsFile words → kind_of words ≡ Draws
 draws words d =
     ap (λ (b : Bool). kind_by b (asks_check words) (asks_steps words) (asks_parts words) (asks_near words)) d
 
+-- words of `check` read the text of a mesh
 pub checks_kind : (words : List (String Global)) → ReadsSource words → asks_check words ≡ true → ReadsMesh words
 checks_kind words r t =
     ap (λ (b : Bool). kind_by b (asks_check words) (asks_steps words) (asks_parts words) (asks_near words)) r
     ∙ ap (λ (b : Bool). kind_by false b (asks_steps words) (asks_parts words) (asks_near words)) t
 
+-- words that read a file are of the kind that their command tells
 file_kind : (words : List (String Global)) → ReadsFile words →
     kind_of words ≡ kind_by false false (asks_steps words) (asks_parts words) (asks_near words)
 file_kind words r =
     ap (λ (b : Bool). kind_by b (asks_check words) (asks_steps words) (asks_parts words) (asks_near words)) r.0
     ∙ ap (λ (b : Bool). kind_by false b (asks_steps words) (asks_parts words) (asks_near words)) r.1
 
+-- those of `steps`
 pub steps_kind : (words : List (String Global)) → ReadsFile words → asks_steps words ≡ true → kind_of words ≡ Steps
 steps_kind words r t =
     file_kind words r ∙ ap (λ (b : Bool). kind_by false false b (asks_parts words) (asks_near words)) t
 
+-- those of `parts`
 pub parts_kind : (words : List (String Global)) → ReadsFile words → asks_steps words ≡ false →
     asks_parts words ≡ true → kind_of words ≡ Parts
 parts_kind words r t p =
     file_kind words r ∙ ap (λ (d : Bool). kind_by false false d (asks_parts words) (asks_near words)) t
     ∙ ap (λ (d : Bool). kind_by false false false d (asks_near words)) p
 
+-- those of `near`, and of `mesh` and `shape`
 pub read_kind : (words : List (String Global)) (b : Bool) → ReadsFile words → asks_steps words ≡ false →
     asks_parts words ≡ false → asks_near words ≡ b → kind_of words ≡ cond b Queries Reports
 read_kind words b r t p n =
@@ -98,6 +104,7 @@ read_kind words b r t p n =
 abbrev pub WritesOfFile : List (String Global) → Type 0
 WritesOfFile words = WritesReport words ⊎ WritesSteps words ⊎ WritesParts words ⊎ WritesNear words
 
+-- so it is with all words that read a file
 pub kind_read : (words : List (String Global)) → ReadsFile words → WritesOfFile words
 kind_read words r =
     elim (cases_Bool (asks_steps words)) [
@@ -111,6 +118,7 @@ kind_read words r =
       ]
     ]
 
+-- and such words read one
 pub reading : (words : List (String Global)) → WritesOfFile words → ReadsFile words
 reading words k =
     elim (cases_Bool (asks_drawn words)) [
@@ -156,6 +164,7 @@ pub reads_within : (words : List (String Global)) (old new : Option (List ℕ)) 
 reads_within words old new status r k =
     subst (λ (limit : ℕ). ReadsTo limit old new status) (sym (file_limit words r)) k
 
+-- so with the text of a mesh
 pub mesh_within : (words : List (String Global)) (old new : Option (List ℕ)) (status : ℕ) → ReadsMesh words →
     ReadsTo mesh_limit old new status → ReadsTo (limit_of (kind_of words)) old new status
 mesh_within words old new status r k =
@@ -195,6 +204,7 @@ module _ (words : List (String Global)) (left : Option (List ℕ)) (failed : Typ
         (subst (λ (P : Stop → Type 0). P stop) (sym same) u),
   )
 
+  -- and why nothing was made
   pub reported_unmade : {A : Type 0} (asked : Asked) → IsTask words (Report making asked) → (m : Result A Stop) →
       IfErr m (HasNoMesh left failed) → IfErr m (IsUnmade words left failed)
   reported_unmade asked t m u = let k = reads_file words making asked t in unmade_as Reports
@@ -218,6 +228,7 @@ module _ (words : List (String Global)) (left : Option (List ℕ)) (failed : Typ
             ),
       )
 
+  -- and why nothing was made
   pub stepped_unmade : {A : Type 0} → IsTask words (Step making) → (m : Result A Stop) →
       IfErr m (HasNoMesh left failed) → IfErr m (IsUnmade words left failed)
   stepped_unmade t m u = let k = steps_file words making t in unmade_as Steps (steps_kind words k.0 k.1) refl m u
@@ -246,6 +257,7 @@ module _ (words : List (String Global)) (left : Option (List ℕ)) (failed : Typ
         ),
       )
 
+  -- and why nothing was made
   pub parted_unmade : {A : Type 0} (wanted : Wanted) → IsTask words (Part making wanted) → (m : Result A Stop) →
       IfErr m (HasNoMesh left failed) → IfErr m (IsUnmade words left failed)
   parted_unmade wanted t m u = let k = parts_file words making wanted t in unmade_as Parts
@@ -269,6 +281,7 @@ module _ (words : List (String Global)) (left : Option (List ℕ)) (failed : Typ
             ),
       )
 
+  -- and why nothing was made
   pub queried_unmade : {A : Type 0} → IsTask words (Query making) → (m : Result A Stop) →
       IfErr m (HasNoMesh left failed) → IfErr m (IsUnmade words left failed)
   queried_unmade t m u = let k = near_file words making t in unmade_as Queries (read_kind words true k.0 k.1 k.2 k.3)
@@ -293,9 +306,11 @@ module _ (words : List (String Global)) (left : Option (List ℕ)) (failed : Typ
 -- `check`
 module _ (words : List (String Global)) (left : Option (List ℕ)) (failed : Type 0) (taken : AreTaken words)
     (t : IsTask words Check) where
+  -- the words read the text of a mesh
   pub reads_mesh : ReadsMesh words
   reads_mesh = let k = check_mesh words t in checks_kind words k.0 k.1
 
+  -- a verdict that was told is what they ask for
   pub checked_made : (m : Result Made Stop)
       → IfOk m (λ made. IfSome left (IsChecked (status_of_end made.after) (text_of_page made.page))) →
       IfOk m (λ made. TellsVerdict (status_of_end made.after)) → IfOk m (λ made. made.kept.items ≡ []) →
@@ -307,6 +322,7 @@ module _ (words : List (String Global)) (left : Option (List ℕ)) (failed : Typ
         (sym reads_mesh) (v, n, r),
   )
 
+  -- and why none was told
   pub checked_unmade : {A : Type 0} (m : Result A Stop) → IfErr m (IsUnchecked left failed) →
       IfErr m (IsUnmade words left failed)
   checked_unmade (Ok made) u = tt
