@@ -111,6 +111,7 @@ same_map f g [] h = refl
 same_map {X} {Y} f g (x ∷ l) h = ap (λ (y : Y). y ∷ map f l) (h x (inl refl))
     ∙ ap (λ (v : List Y). g x ∷ v) (same_map f g l (λ y m. h y (inr m)))
 
+-- a list with nothing behind it is that list
 without_end : {X : Type 0} (l : List X) → l ++ [] ≡ l
 without_end [] = refl
 without_end {X} (x ∷ l) = ap (λ (m : List X). x ∷ m) (without_end l)
@@ -304,6 +305,7 @@ gathered_all cmp o exact cells all W g a e = record {
   lists = a.lists;
 }
 
+-- what was gathered is a table
 pub gathered_table :
     {K : Type 0} (cmp : K → K → Ordering) (cells : List Cell) (all : List (K × ℕ)) (W : K → Type 0) (g : Gathering K) →
     AreItems (length cells) all → AreGathered cmp cells all W g → IsTable (length cells) g.table
