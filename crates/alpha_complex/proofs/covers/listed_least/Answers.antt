@@ -10,9 +10,9 @@ pub number_at-requires : goal.number_at-requires
 number_at-requires c =
     let own = c.args.own.now in
     let f = found_at own.faces.now.triples c.triples.result.now c.args.tri.now c.args.place c.triples.ensures
-        (c.is_at.ensures.inside c.if-is_at.true) (c.is_at.ensures.tie c.if-is_at.true) in
+    (c.is_at.ensures.inside c.if-is_at.true) (c.is_at.ensures.tie c.if-is_at.true) in
     let z = length_zip (λ x n. IsLeastOf (λ a. is_small_by a x) n) own.faces.now.triples own.triples.now
-        c.requires.own.triples in
+    c.requires.own.triples in
     let h = f.0 in
     omega (arith, h, z)
 
@@ -21,9 +21,9 @@ returns-then-is_at c a l =
     let own = c.args.own.now in
     let i = c.args.place in
     let f = found_at own.faces.now.triples c.triples.result.now c.args.tri.now i c.triples.ensures
-        (c.is_at.ensures.inside c.if-is_at.true) (c.is_at.ensures.tie c.if-is_at.true) in
+    (c.is_at.ensures.inside c.if-is_at.true) (c.is_at.ensures.tie c.if-is_at.true) in
     let z = zip_at (λ x n. IsLeastOf (λ a. is_small_by a x) n) own.faces.now.triples own.triples.now i ([], []) 0
-        c.requires.own.triples f.0 in
+    c.requires.own.triples f.0 in
     listed_found a own.faces.now.triples c.args.tri.now i ([], []) c.requires.own.order f.0 f.1
     ∙ z a l
     ∙ ap (λ n. nat_le n a) (sym c.number_at.ensures)
