@@ -7,15 +7,16 @@ ghost use Rattle.cloud_cells.specs.Nets.{AreAllIn};
 
 use crate::facets::are_same;
 use crate::slots::Slot;
-use point_order::{Cell, Quad, Tri};
+use cell_lists::QuadList;
+use point_order::{Cell, Tri};
 use std::cmp::Ordering;
 
 // The cell at a place of the cells and the triples behind them.
-fn listed_at(cells: &[Quad], hull: &[Tri], place: usize) -> Option<Cell>
+fn listed_at(cells: &QuadList, hull: &[Tri], place: usize) -> Option<Cell>
     ensures { IfSome result (λ c. IsIn c (map Full cells.now ++ map Open hull.now)) }
 {
     if place < cells.len() {
-        return Some(Cell::Full(cells[place]));
+        return Some(Cell::Full(cells.at(place)));
     }
     match hull.get(place - cells.len()) {
         Some(tri) => Some(Cell::Open(*tri)),
@@ -24,7 +25,7 @@ fn listed_at(cells: &[Quad], hull: &[Tri], place: usize) -> Option<Cell>
 }
 
 // Whether the cell at a place is before another.
-fn is_before(cells: &[Quad], hull: &[Tri], place: usize, cell: &Cell) -> bool {
+fn is_before(cells: &QuadList, hull: &[Tri], place: usize, cell: &Cell) -> bool {
     match listed_at(cells, hull, place) {
         Some(other) => match other.compare(cell) {
             Ordering::Less => true,
@@ -35,7 +36,7 @@ fn is_before(cells: &[Quad], hull: &[Tri], place: usize, cell: &Cell) -> bool {
 }
 
 // Where the cell would stand among those in order. It is looked at before it is believed.
-fn place_of(cells: &[Quad], hull: &[Tri], cell: &Cell) -> usize {
+pub(crate) fn place_of(cells: &QuadList, hull: &[Tri], cell: &Cell) -> usize {
     let mut low = 0;
     let mut high = cells.len().saturating_add(hull.len());
     while low < high {
@@ -50,7 +51,7 @@ fn place_of(cells: &[Quad], hull: &[Tri], cell: &Cell) -> usize {
 }
 
 // Whether the cell is found among those of the lists.
-fn is_listed(cells: &[Quad], hull: &[Tri], cell: &Cell) -> bool
+fn is_listed(cells: &QuadList, hull: &[Tri], cell: &Cell) -> bool
     ensures { result ≡ true → IsIn cell.now (map Full cells.now ++ map Open hull.now) }
 {
     match listed_at(cells, hull, place_of(cells, hull, cell)) {
@@ -60,7 +61,7 @@ fn is_listed(cells: &[Quad], hull: &[Tri], cell: &Cell) -> bool
 }
 
 // Whether the cells in slots are found among those of the lists, and are as many.
-pub(crate) fn are_all(slots: &[Slot], cells: &[Quad], hull: &[Tri]) -> bool
+pub(crate) fn are_all(slots: &[Slot], cells: &QuadList, hull: &[Tri]) -> bool
     ensures { result ≡ true → AreAllIn slots.now cells.now hull.now }
 {
     let mut count = 0;

@@ -1,5 +1,5 @@
 -- Quadruples and triples, each in order, as one list of cells.
-use Rattle.std.specs.Prelude.{◌≡◌, refl, ℕ, List, map, ◌++◌}
+use Rattle.std.specs.Prelude.{◌≡◌, refl, ℕ, List, map}
 use Rattle.std.specs.List.Sorted.{IsStrictlySortedBy}
 use Rattle.std.specs.Cmp.Lexicographic.{slice_cmp}
 use Rattle.std.specs.Ordering.{nat_cmp}

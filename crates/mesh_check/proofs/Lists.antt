@@ -16,6 +16,12 @@ front (y ∷ l) (suc i) x h e = front l i x (omega (arith, h)) e ∙ ap (λ n. x
     one : (i : ℕ) → suc (i + 1) ≡ suc i + 1
     one i = omega arith
 
+-- within a list what stands for elements past its end does not count
+pub own : {X : Type 0} (l : List X) (i : ℕ) (x d : X) → i < length l → x ≡ slice_index_or l i d → x ≡ slice_index_or l i x
+own [] i x d h e = absurd (let g : ⊥ = omega (arith, h) in g)
+own (y ∷ l) zero x d h e = e
+own (y ∷ l) (suc i) x d h e = own l i x d (omega (arith, h)) e
+
 -- a cell with a flaw
 pub with_flaw : (s : List ℕ) (l : List Cell) (c : Cell) (flaw : Flaw) → flaw_of s c ≡ Some flaw → first_flaw s (c ∷ l) ≡ Some flaw
 unfolding first_flaw

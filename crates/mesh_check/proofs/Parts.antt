@@ -1,33 +1,10 @@
 -- The facets part by part: what is found in the parts so far is found of all.
-use Rattle.std.specs.Prelude.{
-  ◌≡◌,
-  ◌<◌,
-  ◌≤◌,
-  ◌⊎◌,
-  refl,
-  ℕ,
-  Bool,
-  true,
-  false,
-  not,
-  ◌&&◌,
-  nat_lt,
-  List,
-  [],
-  ◌∷◌,
-  Option,
-  None,
-  Some,
-  IfOk,
-  Result,
-  Ok,
-  Err,
-}
+use Rattle.std.specs.Prelude.{◌≡◌, ◌<◌, ◌≤◌, ◌⊎◌, refl, ℕ, true, not, nat_lt, List, [], ◌∷◌, Option, None, Some, IfOk, Result, Ok, Err}
 use Rattle.std.specs.Ordering.{ordering_then, nat_cmp}
 use Rattle.std.specs.Cmp.Lexicographic.{slice_cmp}
 use Rattle.std.specs.declared.cmp.Ordering.{Ordering}
-use Rattle.std.specs.declared.cmp.Ordering.TheVariants.{Less, Equal, Greater}
-use Rattle.std.proofs.Common.{arith, inl, inr, ap, sym, subst, ◌∙◌}
+use Rattle.std.specs.declared.cmp.Ordering.TheVariants.{Less, Greater}
+use Rattle.std.proofs.Common.{arith, inl, inr, subst}
 use Rattle.std.proofs.lemmas.Bool.{cases_lt}
 use Rattle.list_laws.proofs.Cited.{
   below_from,
@@ -43,10 +20,9 @@ use Rattle.list_laws.proofs.Cited.{
 use Rattle.point_order.specs.declared.cell.Cell.{Cell}
 use Rattle.point_order.specs.declared.cell.Facet.{Facet}
 use Rattle.point_order.specs.declared.cell.Facet.TheVariants.{Three, Two}
-use Rattle.mesh_check.specs.declared.gaps.Part.{Part}
 use Rattle.mesh_check.specs.declared.gaps.Part.TheVariants.{Between, From, Pairs}
 use Rattle.mesh_check.specs.Flaws.{facet_cmp, IsFacet, IsInTwo, IsLeastOpen}
-use Rattle.mesh_check.specs.Sides.{OpenIn, OpenIs, IsLeastOpenIn, front, is_in}
+use Rattle.mesh_check.specs.Sides.{OpenIn, OpenIs, IsLeastOpenIn, front}
 
 -- the triples whose first point is below a key are of two cells each
 abbrev pub TwoBelow : List Cell → ℕ → Type 0

@@ -1,5 +1,5 @@
 -- What a verdict on lists says of them.
-use Rattle.std.specs.Prelude.{◌≡◌, refl, ℕ, Bool, true, false, not, ◌||◌, List, [], ◌∷◌, Option, None, Some, Result, Ok, ◌==◌, length}
+use Rattle.std.specs.Prelude.{◌≡◌, refl, ℕ, Bool, true, false, not, ◌||◌, List, [], ◌∷◌, Option, None, Some, Result, Ok, ◌==◌, length, slice_index_or}
 use Rattle.std.specs.declared.alloc.AllocError.{AllocError}
 use Rattle.std.specs.List.{list_all}
 use Rattle.std.proofs.Common.{inl, inr, ap, sym, subst, ◌∙◌}
@@ -24,7 +24,7 @@ use Rattle.mesh_check.specs.declared.flaw.Flaw.TheVariants.{Empty, FlatCell, Sid
 use Rattle.mesh_check.specs.declared.flaw.Verdict.{Verdict}
 use Rattle.mesh_check.specs.declared.flaw.Verdict.TheVariants.{Good, Bad}
 use Rattle.mesh_check.specs.Flaws.{is_flat_cell, are_apart, is_inside, IsFacet, IsInTwo, first_flaw, IsFlaw, IsVerdict, AreCells, listed}
-use Rattle.mesh_check.specs.Laws.{AreMade, AreSound, IsComplex, GoodIsComplex, FlawIsTrue, FlawShows}
+use Rattle.mesh_check.specs.Laws.{AreOfComplex, AreSound, IsComplex, GoodIsComplex, FlawIsTrue, FlawShows}
 use Rattle.mesh_check.proofs.Flaws.{IsSound, first_of_cell, first_true, none_flawed, sound}
 use Rattle.mesh_check.proofs.Triples.{open_is_sound, sound_is_open}
 use Rattle.mesh_check.proofs.Turned.{flat_front, flat_second, flat_third}
@@ -226,11 +226,11 @@ module _ (s : List ℕ) (l : List Cell) (g : AreCells s l) (none : first_flaw s 
     closed = λ d f i h. each_second d f i h;
   }
 
--- cells that were made have no flaw
-pub made_sound : (s : List ℕ) (made : List Cell) → IsAscending s → AreKeys s → AreMade s made → AreSound s made
-made_sound s made a k (inl w) c i =
-    none_flawed s (complex s) (none_first s a k w.0) c (subst (λ (m : List Cell). IsIn c m) w.1 i)
-made_sound s made a k (inr e) c i = absurd (subst (λ (m : List Cell). IsIn c m) e i)
+-- marked cells of the complex have no flaw
+pub known_sound : (s : List ℕ) (kind : List ℕ → Cell) (l : List (List ℕ)) (marks : List Bool) → IsAscending s →
+    AreKeys s → AreOfComplex s kind l marks → AreSound s kind l marks
+known_sound s kind l marks a k of i e =
+    none_flawed s (complex s) (none_first s a k (of i e).0) (kind (slice_index_or l i [])) (of i e).1
 
 -- a list that is not empty has a member
 first_member : {X : Type 0} (l : List X) → ¬ (l ≡ []) → (c : X) × IsIn c l

@@ -1,25 +1,37 @@
 -- What a verdict on lists says of them. The set is an ascending list of keys; it need not be known to be solid.
-use Rattle.std.specs.Prelude.{◌≡◌, ◌⊎◌, ℕ, true, List, [], None, ◌↔◌}
+use Rattle.std.specs.Prelude.{◌≡◌, ℕ, Bool, true, false, List, [], None, ◌↔◌, slice_index_or}
 use Rattle.point_order.specs.declared.cell.Cell.{Cell}
+use Rattle.point_order.specs.declared.cell.Cell.TheVariants.{Full, Open}
 use Rattle.point_order.specs.Sets.{IsAscending, IsIn}
 use Rattle.point_order.specs.Complex.{complex}
 use Rattle.point_order.specs.Solid.{is_solid}
 use Rattle.del_laws.specs.Keys.{AreKeys}
 use Rattle.mesh_check.specs.declared.flaw.Flaw.{Flaw}
 use Rattle.mesh_check.specs.declared.flaw.Verdict.TheVariants.{Good, Bad}
-use Rattle.mesh_check.specs.Flaws.{AreCells, IsFlaw, IsVerdict, flaw_of}
+use Rattle.cloud_cells.specs.declared.known.Compared.{Compared}
+use Rattle.cloud_cells.specs.declared.known.Compared.TheVariants.{Same, Other}
+use Rattle.mesh_check.specs.Flaws.{AreCells, IsFlaw, IsVerdict, flaw_of, listed}
 
 -- the set is solid, and the cells are its complex
 abbrev pub IsComplex : List ℕ → List Cell → Type 0
 IsComplex s l = (is_solid s ≡ true) × (l ≡ complex s)
 
--- cells that are the complex of a solid set, or there are none
-abbrev pub AreMade : List ℕ → List Cell → Type 0
-AreMade s made = IsComplex s made ⊎ (made ≡ [])
+-- the marked cells of a list are of the complex of s, which is solid where there is one
+abbrev pub AreOfComplex : List ℕ → (List ℕ → Cell) → List (List ℕ) → List Bool → Type 0
+AreOfComplex s kind l marks =
+    (i : ℕ) → slice_index_or marks i false ≡ true →
+    (is_solid s ≡ true) × IsIn (kind (slice_index_or l i [])) (complex s)
 
--- none of the cells has a flaw
-abbrev pub AreSound : List ℕ → List Cell → Type 0
-AreSound s made = (c : Cell) → IsIn c made → flaw_of s c ≡ None
+-- the lists are the complex, or their marked cells are of it
+abbrev pub IsBeside : List ℕ → List (List ℕ) → List (List ℕ) → Compared → Type 0
+IsBeside s cells hull Same = IsComplex s (listed cells hull)
+IsBeside s cells hull (Other known) =
+    AreOfComplex s Full cells known.cells.items × AreOfComplex s Open hull known.hull.items
+
+-- no marked cell of a list has a flaw
+abbrev pub AreSound : List ℕ → (List ℕ → Cell) → List (List ℕ) → List Bool → Type 0
+AreSound s kind l marks =
+    (i : ℕ) → slice_index_or marks i false ≡ true → flaw_of s (kind (slice_index_or l i [])) ≡ None
 
 -- without a flaw they are the complex, and the complex has none
 abbrev pub GoodIsComplex : Type 0

@@ -1,6 +1,6 @@
 //! The first flaw of a cell.
 
-ghost use Rattle.std.specs.Prelude.{◌≡◌, ◌&&◌, ◌||◌, not, false, [], ◌∷◌, ◌++◌, map, Some};
+ghost use Rattle.std.specs.Prelude.{◌≡◌, ◌&&◌, ◌||◌, not, true, false, [], ◌∷◌, ◌++◌, map, None, Some};
 ghost use Rattle.std.specs.List.{find};
 ghost use Rattle.point_order.specs.Conflicts.{are_opposite};
 ghost use Rattle.point_order.specs.Orientation.{is_flat};
@@ -11,7 +11,9 @@ ghost use Rattle.mesh_check.specs.Flaws.{first_flaw as flaw_in, flaw_of, is_insi
 ghost use Rattle.mesh_check.specs.Laws.{AreSound};
 
 use crate::flaw::Flaw;
-use crate::matching::is_made;
+use crate::matching::is_marked;
+use cell_lists::QuadList;
+use cloud_cells::Known;
 use exact_orient::{collinear, orient};
 use point_order::{Cell, Point, Quad, Tri};
 use sphere_ties::outside;
@@ -152,23 +154,23 @@ fn flaw_of_open(points: &[Point], tri: Tri) -> Option<Flaw>
     }
 }
 
-// The same, where a cell that was made is known to have none.
-fn flaw_of_triple(points: &[Point], made: &[Cell], tri: Tri) -> Option<Flaw>
-    requires { AreSound points.now made.now }
+// The same, where a cell that is known to be one of the complex has none.
+fn flaw_of_triple(points: &[Point], known: bool, tri: Tri) -> Option<Flaw>
+    requires { known ≡ true → flaw_of points.now (Open tri) ≡ None }
     ensures { result ≡ flaw_of points.now (Open tri) }
 {
-    if is_made(made, &Cell::Open(tri)) {
+    if known {
         None
     } else {
         flaw_of_open(points, tri)
     }
 }
 
-fn flaw_of_quad(points: &[Point], made: &[Cell], quad: Quad) -> Option<Flaw>
-    requires { AreSound points.now made.now }
+fn flaw_of_quad(points: &[Point], known: bool, quad: Quad) -> Option<Flaw>
+    requires { known ≡ true → flaw_of points.now (Full quad) ≡ None }
     ensures { result ≡ flaw_of points.now (Full quad) }
 {
-    if is_made(made, &Cell::Full(quad)) {
+    if known {
         None
     } else {
         flaw_of_full(points, quad)
@@ -176,32 +178,33 @@ fn flaw_of_quad(points: &[Point], made: &[Cell], quad: Quad) -> Option<Flaw>
 }
 
 // The first flaw of the triples.
-fn flaw_of_triples(points: &[Point], made: &[Cell], hull: &[Tri]) -> Option<Flaw>
-    requires { AreSound points.now made.now }
+fn flaw_of_triples(points: &[Point], known: &[bool], hull: &[Tri]) -> Option<Flaw>
+    requires { AreSound points.now Open hull.now known.now }
     ensures { result ≡ flaw_in points.now (map Open hull.now) }
 {
-    for tri in hull {
-        if let Some(flaw) = flaw_of_triple(points, made, *tri) {
+    for place in 0..hull.len() {
+        if let Some(flaw) = flaw_of_triple(points, is_marked(known, place), hull[place]) {
             return Some(flaw);
         }
     }
     None
 }
 
-// The first flaw of the cells, those of four points first. Cells that were made are passed over: they have none.
+// The first flaw of the cells, those of four points first. Cells of the complex are passed over: they have none.
 pub(crate) fn first_flaw(
     points: &[Point],
-    made: &[Cell],
-    cells: &[Quad],
+    known: &Known,
+    cells: &QuadList,
     hull: &[Tri],
 ) -> Option<Flaw>
-    requires { AreSound points.now made.now }
+    requires cells { AreSound points.now Full cells.now known.now.cells.items }
+    requires hull { AreSound points.now Open hull.now known.now.hull.items }
     ensures { result ≡ flaw_in points.now (listed cells.now hull.now) }
 {
-    for quad in cells {
-        if let Some(flaw) = flaw_of_quad(points, made, *quad) {
+    for place in 0..cells.len() {
+        if let Some(flaw) = flaw_of_quad(points, is_marked(&known.cells, place), cells.at(place)) {
             return Some(flaw);
         }
     }
-    flaw_of_triples(points, made, hull)
+    flaw_of_triples(points, &known.hull, hull)
 }

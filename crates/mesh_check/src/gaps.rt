@@ -22,7 +22,8 @@ ghost use Rattle.mesh_check.specs.Sides.{
   sides_in,
 };
 
-use point_order::{Cell, Facet, Quad, Tri};
+use cell_lists::QuadList;
+use point_order::{Cell, Facet, Tri};
 use std::alloc::{AllocError, Global};
 
 // How many cells have their facets looked at together, so that these take little memory.
@@ -91,14 +92,14 @@ fn push_sides(sides: &mut Vec<Side>, part: Part, cell: Cell) -> Result<(), Alloc
 fn all_sides(
     alloc: Global,
     part: Part,
-    cells: &[Quad],
+    cells: &QuadList,
     hull: &[Tri],
 ) -> Result<Vec<Side>, AllocError>
     ensures { IfOk result (λ sides. sides.items ≡ flat_map (sides_in part) (listed cells.now hull.now)) }
 {
     let mut sides = Vec::new(alloc);
-    for quad in cells {
-        push_sides(&mut sides, part, Cell::Full(*quad))?;
+    for place in 0..cells.len() {
+        push_sides(&mut sides, part, Cell::Full(cells.at(place)))?;
     }
     for tri in hull {
         push_sides(&mut sides, part, Cell::Open(*tri))?;
@@ -120,7 +121,7 @@ fn in_order(mut sides: Vec<Side>) -> Vec<Side>
 fn open_in(
     alloc: Global,
     part: Part,
-    cells: &[Quad],
+    cells: &QuadList,
     hull: &[Tri],
 ) -> Result<Option<Facet>, AllocError>
     ensures { IfOk result (OpenIn part (listed cells.now hull.now)) }
@@ -130,10 +131,11 @@ fn open_in(
 }
 
 // The key of the least point of the cell at a place, and else another.
-fn key_at(cells: &[Quad], place: usize, other: u64) -> u64 {
-    match cells.get(place) {
-        Some(quad) => quad.corners().0.key(),
-        None => other,
+fn key_at(cells: &QuadList, place: usize, other: u64) -> u64 {
+    if place < cells.len() {
+        cells.at(place).corners().0.key()
+    } else {
+        other
     }
 }
 
@@ -141,7 +143,7 @@ fn key_at(cells: &[Quad], place: usize, other: u64) -> u64 {
 /// at a time.
 pub(crate) fn open_facet(
     alloc: Global,
-    cells: &[Quad],
+    cells: &QuadList,
     hull: &[Tri],
 ) -> Result<Option<Facet>, AllocError>
     ensures { IfOk result (OpenIs (listed cells.now hull.now)) }

@@ -11,12 +11,14 @@ ghost use Rattle.mesh_check.specs.Laws.{IsComplex};
 use crate::cells::first_flaw;
 use crate::flaw::{Flaw, Verdict};
 use crate::gaps::open_facet;
-use crate::matching::{are_complex, complex_made};
-use point_order::{Point, Quad, Tri};
+use crate::matching::beside_complex;
+use cell_lists::QuadList;
+use cloud_cells::Compared;
+use point_order::{Point, Tri};
 use std::alloc::{AllocError, Global};
 
 // Whether both lists are empty.
-fn are_empty(cells: &[Quad], hull: &[Tri]) -> bool
+fn are_empty(cells: &QuadList, hull: &[Tri]) -> bool
     ensures { MatchBool result (listed cells.now hull.now ≡ []) (listed cells.now hull.now ≡ [] → ⊥) }
 {
     cells.is_empty() && hull.is_empty()
@@ -25,9 +27,8 @@ fn are_empty(cells: &[Quad], hull: &[Tri]) -> bool
 /// Judges whether cells and triples are the complex of the points: the first flaw, if there is one, cell by cell and
 /// then by their facets.
 ///
-/// The complex is made of the points at once, where they are solid. Where the lists equal it, there is no flaw; else it
-/// is made once more as a list, and each cell that is none of it is tried against each point, up to the first that has
-/// a flaw. The facets are looked at part by part, so that those of all cells never stand in memory at once.
+/// The complex is made of the points at once, where they are solid. Where the lists equal it, there is no flaw; else
+/// each cell that is not known to be one of it is tried against each point, up to the first that has a flaw. The facets are looked at part by part, so that those of all cells never stand in memory at once.
 ///
 /// The points are to ascend, and the cells and triples to stand in order, each once, with points of these.
 ///
@@ -36,7 +37,7 @@ fn are_empty(cells: &[Quad], hull: &[Tri]) -> bool
 pub fn check(
     alloc: Global,
     points: &[Point],
-    cells: &[Quad],
+    cells: &QuadList,
     hull: &[Tri],
 ) -> Result<Verdict, AllocError>
     requires points { IsAscending points.now }
@@ -50,15 +51,14 @@ pub fn check(
     if are_empty(cells, hull) {
         return Ok(Verdict::Bad(Flaw::Empty));
     }
-    let whole = are_complex(alloc, points, cells, hull)?;
-    if whole {
-        return Ok(Verdict::Good);
-    }
-    let made = complex_made(alloc, points)?;
-    if let Some(flaw) = first_flaw(points, &made, cells, hull) {
+    let known = match beside_complex(alloc, points, cells, hull)? {
+        Compared::Same => return Ok(Verdict::Good),
+        Compared::Other(known) => known,
+    };
+    if let Some(flaw) = first_flaw(points, &known, cells, hull) {
         return Ok(Verdict::Bad(flaw));
     }
-    drop(made);
+    drop(known);
     match open_facet(alloc, cells, hull)? {
         Some(facet) => Ok(Verdict::Bad(Flaw::OpenFacet(facet))),
         None => Ok(Verdict::Good),

@@ -1,28 +1,18 @@
 //! Lists beside the complex that is made of the points.
 
-ghost use Rattle.std.specs.Prelude.{◌≡◌, true, IfOk};
+ghost use Rattle.std.specs.Prelude.{◌≡◌, IfOk, false, slice_index_or};
 ghost use Rattle.std.specs.List.Sorted.{IsStrictlySortedBy};
 ghost use Rattle.point_order.specs.CellOrder.{cell_cmp};
-ghost use Rattle.point_order.specs.Sets.{IsAscending, IsIn};
+ghost use Rattle.point_order.specs.Sets.{IsAscending};
 ghost use Rattle.point_order.specs.Solid.{is_solid as is_solid_of};
 ghost use Rattle.mesh_check.specs.Flaws.{listed};
-ghost use Rattle.mesh_check.specs.Laws.{AreMade, IsComplex};
+ghost use Rattle.mesh_check.specs.Laws.{IsBeside};
 
-use cloud_cells::{are_complex_of_points, complex_of_points};
+use cell_lists::QuadList;
+use cloud_cells::{Compared, Known, compare_with_complex};
 use edit_history::find_four;
-use point_order::{Cell, Point, Quad, Tri};
+use point_order::{Point, Tri};
 use std::alloc::{AllocError, Global};
-use std::cmp::Ordering;
-
-// Whether two cells are one.
-fn is_same(one: &Cell, other: &Cell) -> bool
-    ensures { result ≡ true → one.now ≡ other.now }
-{
-    match one.compare(other) {
-        Ordering::Equal => true,
-        _ => false,
-    }
-}
 
 // Whether four of the points are independent.
 fn is_solid(points: &[Point]) -> bool
@@ -31,42 +21,30 @@ fn is_solid(points: &[Point]) -> bool
     find_four(points).is_ok()
 }
 
-// Whether the lists, which stand in order, are the complex of the points, and these are solid. It is far faster than a
+// The lists, which stand in order, beside the complex of the points, where these are solid. It is far faster than a
 // search for a flaw, and that the complex is made right is proved: the lists take no part in it.
-pub(crate) fn are_complex(
+pub(crate) fn beside_complex(
     alloc: Global,
     points: &[Point],
-    cells: &[Quad],
+    cells: &QuadList,
     hull: &[Tri],
-) -> Result<bool, AllocError>
+) -> Result<Compared, AllocError>
     requires points { IsAscending points.now }
     requires order { IsStrictlySortedBy cell_cmp (listed cells.now hull.now) }
-    ensures { IfOk result (λ r. r ≡ true → IsComplex points.now (listed cells.now hull.now)) }
-{
-    if !is_solid(points) {
-        return Ok(false);
-    }
-    are_complex_of_points(alloc, points, cells, hull)
-}
-
-// Whether the cell is one of those that were made.
-pub(crate) fn is_made(made: &[Cell], cell: &Cell) -> bool
-    ensures { result ≡ true → IsIn cell.now made.now }
-{
-    match made.binary_search(cell) {
-        Ok(at) => is_same(&made[at], cell),
-        Err(_) => false,
-    }
-}
-
-// The complex that is made of the points where they are solid, and else no cell.
-pub(crate) fn complex_made(alloc: Global, points: &[Point]) -> Result<Vec<Cell>, AllocError>
-    requires { IsAscending points.now }
-    ensures { IfOk result (λ made. AreMade points.now made.items) }
+    ensures { IfOk result (IsBeside points.now cells.now hull.now) }
 {
     if is_solid(points) {
-        complex_of_points(alloc, points)
-    } else {
-        Ok(Vec::new(alloc))
+        return compare_with_complex(alloc, points, cells, hull);
     }
+    Ok(Compared::Other(Known {
+        cells: Vec::new(alloc),
+        hull: Vec::new(alloc),
+    }))
+}
+
+// Whether the cell at a place is marked.
+pub(crate) fn is_marked(marks: &[bool], place: usize) -> bool
+    ensures { result ≡ slice_index_or marks.now place false }
+{
+    place < marks.len() && marks[place]
 }

@@ -15,8 +15,9 @@ ghost use Rattle.mesh_check.specs.Text.{
 
 use crate::flaw::{Flaw, Verdict};
 use crate::judging::check;
+use cell_lists::QuadList;
 use itoa::Buffer;
-use point_order::{Point, Quad, Tri};
+use point_order::{Point, Tri};
 use std::alloc::{AllocError, Global};
 use text_sheets::Indices;
 
@@ -126,7 +127,7 @@ fn told_of(alloc: Global, points: &[Point], verdict: &Verdict) -> Result<Told, A
 pub fn tell(
     alloc: Global,
     points: &[Point],
-    cells: &[Quad],
+    cells: &QuadList,
     hull: &[Tri],
 ) -> Result<Told, AllocError>
     requires points { IsAscending points.now }

@@ -1,22 +1,6 @@
 -- The text of a mesh: which lines are due, one after another, and what mesh a text is of. It is the text of a report
 -- without shapes and without an order block.
-use Rattle.std.specs.Prelude.{
-  ◌≡◌,
-  ℕ,
-  zero,
-  suc,
-  ◌+◌,
-  ◌<◌,
-  ◌≤◌,
-  List,
-  [],
-  ◌∷◌,
-  ◌++◌,
-  ⊤,
-  length,
-  codes,
-  slice_index_or,
-}
+use Rattle.std.specs.Prelude.{◌≡◌, ℕ, zero, suc, ◌<◌, ◌≤◌, List, [], ◌∷◌, ◌++◌, ⊤, length, codes, slice_index_or}
 use Rattle.std.specs.List.{join_with_byte}
 use Rattle.std.specs.Cmp.Lexicographic.{slice_cmp}
 use Rattle.std.specs.Ordering.{nat_cmp}
@@ -57,7 +41,7 @@ no_parts = record { replies = []; points = []; cells = []; hull = [] }
 -- a mesh without where its lists lie in memory
 abbrev pub parts : MeshFile → MeshParts
 parts f =
-    record { replies = f.replies.items; points = f.points.items; cells = f.cells.items; hull = f.hull.items }
+    record { replies = f.replies.items; points = f.points.items; cells = f.cells; hull = f.hull.items }
 
 -- ---- the lines
 

@@ -52,17 +52,7 @@ use Rattle.mesh_reader.specs.declared.place.Due.TheVariants.{Title, Head, Body, 
 use Rattle.mesh_reader.specs.declared.reader.LineRefused.{LineRefused}
 use Rattle.mesh_reader.specs.declared.reader.LineRefused.TheVariants as line_refusals
 use Rattle.mesh_reader.specs.declared.reader.Reader.{Reader}
-use Rattle.mesh_reader.specs.Grammar.{
-  MeshParts,
-  Reached,
-  at_title,
-  lines_due,
-  most_of,
-  parts,
-  point_limit,
-  reply_word,
-  word_of,
-}
+use Rattle.mesh_reader.specs.Grammar.{MeshParts, Reached, lines_due, most_of, parts, point_limit, reply_word, word_of}
 
 -- ---- lines
 

@@ -1,5 +1,5 @@
 -- A text that is read piece by piece, as far as its pieces came.
-use Rattle.std.specs.Prelude.{◌≡◌, ℕ, ◌==◌, false, List, [], ◌∷◌, ◌++◌, Result, Ok, Err}
+use Rattle.std.specs.Prelude.{◌≡◌, ℕ, ◌==◌, false, List, ◌++◌, Result, Err}
 use Rattle.std.specs.List.{AllByRecursion}
 use Rattle.edit_files.specs.declared.fault.Fault.{Fault}
 use Rattle.edit_files.specs.Lines.{lines_of}

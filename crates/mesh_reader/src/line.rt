@@ -35,9 +35,40 @@ ghost use Rattle.mesh_reader.specs.Judging.{
 };
 
 use crate::place::{POINT_LIMIT, Part, word_of};
+use cell_lists::Places;
 use edit_files::{Why, first_field, number_of};
 use edit_history::Reply;
 use point_order::{Cell, Point, Quad, Tri};
+use std::marker::Model;
+
+// A cell, and where its points stand. Contracts see it as the cell.
+#[derive(Drop)]
+pub(crate) struct Placed {
+    quad: Quad,
+    places: Places,
+}
+
+impl Model for Placed {
+    ghost use Rattle.std.specs.Prelude.{List, ℕ};
+
+    ghost Value = { List ℕ };
+
+    ghost view = { λ p. p.quad };
+}
+
+impl Placed {
+    // The cell.
+    pub(crate) fn quad(&self) -> Quad
+        ensures { result ≡ self.now }
+    {
+        self.quad
+    }
+
+    // Where its points are likely to stand.
+    pub(crate) fn places(&self) -> Places {
+        self.places
+    }
+}
 
 // Is the line this word?
 pub(crate) fn reads(line: &[u8], word: &[u8]) -> bool
@@ -197,14 +228,22 @@ pub(crate) fn tri_of(points: &[Point], line: &[u8]) -> Result<Tri, Why>
 }
 
 // The cell of a line.
-pub(crate) fn quad_of(points: &[Point], line: &[u8]) -> Result<Quad, Why>
+pub(crate) fn quad_of(points: &[Point], line: &[u8]) -> Result<Placed, Why>
     ensures { result ≡ corners 4 points.now line.now }
 {
     let Some((i, j, k, l)) = four_of(line) else {
         return Err(Why::Field);
     };
     match quad_at(points, i, j, k, l) {
-        Some(quad) => Ok(quad),
+        Some(quad) => Ok(Placed {
+            quad,
+            places: Places {
+                a: i,
+                b: j,
+                c: k,
+                d: l,
+            },
+        }),
         None => Err(Why::Range),
     }
 }

@@ -24,9 +24,10 @@ ghost use Rattle.mesh_reader.specs.Judging.{
 use crate::line::{announced, quad_of, reads, reply_of, tri_of};
 use crate::mesh_file::MeshFile;
 use crate::place::{Due, Part, limit_of, lines_due};
+use cell_lists::QuadList;
 use edit_files::{Fault, ReadRefused, Why, point_of};
 use point_order::{Cell, Point, Quad, Tri};
-use std::alloc::{AllocFailed, Global};
+use std::alloc::{AllocError, AllocFailed, Global};
 use std::cmp::Ordering;
 
 // Why a line was not taken.
@@ -68,6 +69,16 @@ impl<T: Drop> From<AllocFailed<T>> for LineRefused {
     }
 }
 
+impl From<AllocError> for LineRefused {
+    ghost use Rattle.mesh_reader.specs.declared.reader.LineRefused.TheVariants as line_refusals;
+
+    ghost from_gives = { λ _ e. e ≡ line_refusals.Memory };
+
+    fn from(_e: AllocError) -> LineRefused {
+        LineRefused::Memory
+    }
+}
+
 // A reader: what is due, and what it took so far.
 #[derive(Drop)]
 pub(crate) struct Reader {
@@ -86,11 +97,11 @@ fn is_after_points(points: &[Point], p: Point) -> bool
 }
 
 // Whether the last of the cells is before this one.
-fn is_after_cells(cells: &[Quad], quad: Quad) -> bool
+fn is_after_cells(cells: &QuadList, quad: Quad) -> bool
     ensures { result ≡ is_after is_less cells.now quad }
 {
-    match cells.split_last() {
-        Some((last, _)) => match Cell::Full(*last).compare(&Cell::Full(quad)) {
+    match cells.last() {
+        Some(last) => match Cell::Full(last).compare(&Cell::Full(quad)) {
             Ordering::Less => true,
             _ => false,
         },
@@ -128,6 +139,7 @@ impl MeshFile {
         if !is_after_points(&self.points, point) {
             return Err(LineRefused::Bad(Why::Range));
         }
+        self.cells.know(point)?;
         self.points.push(point)?;
         Ok(())
     }
@@ -136,11 +148,11 @@ impl MeshFile {
     fn take_cell(&mut self, line: &[u8]) -> Result<(), LineRefused>
         ensures { Steps result (parts self.new) (taken lists.Cells (parts self.old) line.now) }
     {
-        let quad = quad_of(&self.points, line)?;
-        if !is_after_cells(&self.cells, quad) {
+        let placed = quad_of(&self.points, line)?;
+        if !is_after_cells(&self.cells, placed.quad()) {
             return Err(LineRefused::Bad(Why::Range));
         }
-        self.cells.push(quad)?;
+        self.cells.push(placed.quad(), placed.places())?;
         Ok(())
     }
 
@@ -176,7 +188,7 @@ impl Reader {
         let file = MeshFile {
             replies: Vec::new(alloc),
             points: Vec::new(alloc),
-            cells: Vec::new(alloc),
+            cells: QuadList::new(alloc),
             hull: Vec::new(alloc),
         };
         Reader {

@@ -6,6 +6,7 @@ ghost use Rattle.mesh_reader.specs.Order.{IsInOrder};
 
 use crate::files::put_part;
 use crate::telling::{Answer, put_places, put_point};
+use cell_lists::QuadList;
 use edit_files::ReadRefused;
 use mesh_check::{Flaw, Verdict, check};
 use mesh_reader::{MeshFile, MeshReader, read_mesh};
@@ -67,8 +68,8 @@ fn put_mesh(alloc: Global, answer: &mut Answer, mesh: &MeshFile)
         put_point(answer, *p);
     }
     answer.put("; cells");
-    for quad in &mesh.cells {
-        put_places(answer, &mesh.points, quad.points());
+    for place in 0..mesh.cells.len() {
+        put_places(answer, &mesh.points, mesh.cells.at(place).points());
     }
     answer.put("; hull");
     for tri in &mesh.hull {
@@ -90,13 +91,18 @@ fn read_in_two(alloc: Global, bytes: &[u8]) -> Result<MeshFile, ReadRefused> {
     }
 }
 
+// Whether two lists have the same cells.
+fn are_one(one: &QuadList, other: &QuadList) -> bool {
+    one.len() == other.len() && (0..one.len()).all(|place| one.at(place) == other.at(place))
+}
+
 // Whether two readings came to the same.
 fn are_same(one: &Result<MeshFile, ReadRefused>, other: &Result<MeshFile, ReadRefused>) -> bool {
     match (one, other) {
         (Ok(one), Ok(other)) => {
             one.replies == other.replies
                 && one.points == other.points
-                && one.cells == other.cells
+                && are_one(&one.cells, &other.cells)
                 && one.hull == other.hull
         }
         (Err(one), Err(other)) => one == other,

@@ -33,12 +33,13 @@ loop-slot-preserved c =
       )
     ]
 
-pub returns-then-cells-count : goal.returns-then-cells-count
-returns-then-cells-count c t =
+pub returns-then-len-count : goal.returns-then-len-count
+returns-then-len-count c t =
     let f = all_found (map Full c.args.cells.now ++ map Open c.args.hull.now) c.args.slots.now c.loop-slot.slot-index
     c.loop-slot.count c.loop-slot-test.false c.loop-slot.invariant.0 in
-    let e = eqb-true (c.loop-slot.count - length c.args.cells.now) (length c.args.hull.now) t in
+    let e = eqb-true (c.loop-slot.count - c.len-then-len-count.result) (length c.args.hull.now) t in
     record {
       among = f.among;
-      count = (let k = f.count in let b = c.if-cells-count.true in omega (arith, k, b, e));
+      count = (let k = f.count in let b = c.if-len-count.true in let m = c.len.ensures in
+          let n = c.len-then-len-count.ensures in omega (arith, k, b, e, m, n));
     }

@@ -1,14 +1,19 @@
-use Rattle.std.proofs.Common.{map}
+use Rattle.std.proofs.Common.{◌<◌, [], arith, length, map}
 use Rattle.list_laws.proofs.Cited.{at_place, in_left, in_right, mapped_true}
 use Rattle.point_order.specs.declared.cell.Cell.TheVariants.{Full, Open}
 use Rattle.cloud_cells.proofs.listed.listed_at.Goals as goal
 
-pub returns-then-place-cells : goal.returns-then-place-cells
-returns-then-place-cells c =
+pub returns-then-place-len : goal.returns-then-place-len
+returns-then-place-len c =
     let cells = c.args.cells.now in
-    let quad = c.index-cells-place.result in
+    let quad = c.at.result in
+    let within : c.args.place < length cells = (let n = c.len.ensures in let h = c.if-place-len.true in omega (
+      arith,
+      n,
+      h,
+    )) in
     in_left (Full quad) (map Full cells) (map Open c.args.hull.now) (mapped_true Full quad cells
-    (at_place cells c.args.place quad quad c.if-place-cells.true c.index-cells-place.is))
+    (at_place cells c.args.place quad [] within c.at.ensures))
 
 pub returns-in-Some : goal.returns-in-Some
 returns-in-Some c =

@@ -3,5 +3,5 @@ use Rattle.std.proofs.Common.{◌≡◌, drop}
 use Rattle.mesh_check.specs.Flaws.{first_flaw, listed}
 use Rattle.mesh_check.proofs.cells.first_flaw.Given as goal
 
-abbrev pub invariant-loop-quad : goal.invariant-loop-quad
-invariant-loop-quad l = first_flaw l.points (listed (drop l.quad-index l.cells) l.hull) ≡ first_flaw l.points (listed l.cells l.hull)
+abbrev pub invariant-loop-place : goal.invariant-loop-place
+invariant-loop-place l = first_flaw l.points (listed (drop l.place l.cells) l.hull) ≡ first_flaw l.points (listed l.cells l.hull)

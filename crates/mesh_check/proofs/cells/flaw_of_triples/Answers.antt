@@ -8,17 +8,17 @@ pub returns-in-Some : goal.returns-in-Some
 returns-in-Some c =
     let s = c.args.points.now in
     let l = c.args.hull.now in
-    let i = c.loop-tri.tri-index in
-    sym (with_flaw s (map Open (drop (i + 1) l)) (Open c.tri-item.result) c.in-Some.flaw (sym c.flaw_of_triple.ensures ∙ c.in-Some.is))
-    ∙ sym (triples_front s l i c.tri-item.result c.loop-tri-test.true c.tri-item.is) ∙ c.loop-tri.invariant
+    let i = c.loop-place.place in
+    sym (with_flaw s (map Open (drop (i + 1) l)) (Open c.index-hull-place.result) c.in-Some.flaw (sym c.flaw_of_triple.ensures ∙ c.in-Some.is))
+    ∙ sym (triples_front s l i c.index-hull-place.result c.loop-place-test.true c.index-hull-place.is) ∙ c.loop-place.invariant
 
-pub loop-tri-preserved : goal.loop-tri-preserved
-loop-tri-preserved c =
+pub loop-place-preserved : goal.loop-place-preserved
+loop-place-preserved c =
     let s = c.args.points.now in
     let l = c.args.hull.now in
-    let i = c.loop-tri.tri-index in
-    sym (without_flaw s (map Open (drop (i + 1) l)) (Open c.tri-item.result) (sym c.flaw_of_triple.ensures ∙ c.in_default.is))
-    ∙ sym (triples_front s l i c.tri-item.result c.loop-tri-test.true c.tri-item.is) ∙ c.loop-tri.invariant
+    let i = c.loop-place.place in
+    sym (without_flaw s (map Open (drop (i + 1) l)) (Open c.index-hull-place.result) (sym c.flaw_of_triple.ensures ∙ c.in_default.is))
+    ∙ sym (triples_front s l i c.index-hull-place.result c.loop-place-test.true c.index-hull-place.is) ∙ c.loop-place.invariant
 
 pub returns : goal.returns
-returns c = sym (none_left c.args.points.now c.args.hull.now c.loop-tri.tri-index c.loop-tri-test.false) ∙ c.loop-tri.invariant
+returns c = sym (none_left c.args.points.now c.args.hull.now c.loop-place.place c.loop-place-test.false) ∙ c.loop-place.invariant

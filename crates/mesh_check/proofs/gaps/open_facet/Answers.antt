@@ -1,8 +1,8 @@
-use Rattle.std.proofs.Common.{inl, inr, subst}
+use Rattle.std.proofs.Common.{subst}
 use Rattle.mesh_check.specs.declared.gaps.Part.TheVariants.{Between, From}
 use Rattle.mesh_check.specs.Flaws.{listed}
 use Rattle.mesh_check.specs.Sides.{OpenIn}
-use Rattle.mesh_check.proofs.Parts.{least_between, least_from, none_below, of_pairs, two_all, two_more}
+use Rattle.mesh_check.proofs.Parts.{least_between, none_below, of_pairs, two_all}
 use Rattle.mesh_check.proofs.gaps.open_facet.Goals as goal
 
 pub loop-part-init : goal.loop-part-init

@@ -2,26 +2,34 @@ use Rattle.std.proofs.Common.{◌∙◌, refl, sym, subst}
 use Rattle.std.specs.Prelude.{Option}
 use Rattle.point_order.specs.declared.cell.Facet.{Facet}
 use Rattle.mesh_check.specs.declared.flaw.Flaw.TheVariants.{Empty, OpenFacet}
+use Rattle.point_order.specs.declared.cell.Cell.TheVariants.{Full, Open}
+use Rattle.cloud_cells.specs.declared.known.Compared.{Compared}
 use Rattle.mesh_check.specs.Flaws.{listed}
+use Rattle.mesh_check.specs.Laws.{IsBeside}
 use Rattle.mesh_check.specs.Sides.{OpenIs}
-use Rattle.mesh_check.proofs.Verdicts.{bad_says, by_cell, good_is_complex, made_sound}
+use Rattle.mesh_check.proofs.Verdicts.{bad_says, by_cell, good_is_complex, known_sound}
 use Rattle.mesh_check.proofs.judging.check.Goals as goal
 
 pub returns-then-are_empty-clause-bad : goal.returns-then-are_empty-clause-bad
 returns-then-are_empty-clause-bad c flaw e = bad_says c.args.points.now (listed c.args.cells.now c.args.hull.now) Empty flaw c.requires.points c.requires.keys c.if-are_empty.ensures e
 
-pub returns-then-whole-clause-good : goal.returns-then-whole-clause-good
-returns-then-whole-clause-good c e = c.in_ok-whole.ensures c.if-whole.true
+pub returns-in-Same-clause-good : goal.returns-in-Same-clause-good
+returns-in-Same-clause-good c e =
+    subst (λ (r : Compared). IsBeside c.args.points.now c.args.cells.now c.args.hull.now r) c.in-Same.is c.in_ok-beside_complex.ensures
 
-pub returns-then-whole-clause-verdict : goal.returns-then-whole-clause-verdict
-returns-then-whole-clause-verdict c =
+pub returns-in-Same-clause-verdict : goal.returns-in-Same-clause-verdict
+returns-in-Same-clause-verdict c =
     (good_is_complex c.args.points.now (listed c.args.cells.now c.args.hull.now) c.requires.points c.requires.keys c.requires.cells).1
-    (returns-then-whole-clause-good c refl)
+    (returns-in-Same-clause-good c refl)
 
 pub first_flaw-requires : goal.first_flaw-requires
 first_flaw-requires c =
-    made_sound c.args.points.now c.deref.result.now c.requires.points c.requires.keys
-    (rw c.deref.ensures.value c.in_ok-made.ensures)
+    let of = subst (λ (r : Compared). IsBeside c.args.points.now c.args.cells.now c.args.hull.now r) c.in-Other.is
+    c.in_ok-beside_complex.ensures in
+    record {
+      cells = known_sound c.args.points.now Full c.args.cells.now _ c.requires.points c.requires.keys of.0;
+      hull = known_sound c.args.points.now Open c.args.hull.now _ c.requires.points c.requires.keys of.1;
+    }
 
 pub returns-in-Some-clause-verdict : goal.returns-in-Some-clause-verdict
 returns-in-Some-clause-verdict c = by_cell c.args.points.now (listed c.args.cells.now c.args.hull.now) c.in-Some.flaw (sym c.first_flaw.ensures ∙ c.in-Some.is)

@@ -1,4 +1,4 @@
-use Rattle.std.proofs.Common.{ℕ, eqb, eq-eqb, ◌≡◌}
+use Rattle.std.proofs.Common.{eqb, eq-eqb}
 use Rattle.std.proofs.lemmas.Bool.{eqb-true}
 use Rattle.std.proofs.lemmas.Slice.Eq.{strip_prefix_is}
 use Rattle.mesh_reader.proofs.Decided.{strip_cases}

@@ -1,4 +1,4 @@
-use Rattle.std.proofs.Common.{sym, ◌∙◌, ap, ℕ, Option, List, Some, []}
+use Rattle.std.proofs.Common.{sym, ◌∙◌, ap, ℕ, Option, Some, []}
 use Rattle.edit_files.specs.Judging.{number}
 use Rattle.edit_files.proofs.Cited.{third_last, third_more}
 use Rattle.mesh_reader.specs.Judging.{in_front}

@@ -6,12 +6,12 @@ use Rattle.mesh_reader.proofs.reader.is_after_cells.Goals as goal
 
 pub returns-in-Less : goal.returns-in-Less
 returns-in-Less c =
-    sym (ap (λ (l : List (List ℕ)). is_after is_less l c.args.quad) c.in-Some.ensures.cases.0
-    ∙ after_last is_less c.in-Some.field-0-1.now c.in-Some.last.now c.args.quad
-    ∙ less_is c.in-Some.last.now c.args.quad (sym c.compare.ensures ∙ c.in-Less.is))
+    sym (ap (λ (l : List (List ℕ)). is_after is_less l c.args.quad) c.in-Some.ensures.1
+    ∙ after_last is_less c.in-Some.ensures.0 c.in-Some.last c.args.quad
+    ∙ less_is c.in-Some.last c.args.quad (sym c.compare.ensures ∙ c.in-Less.is))
 
 pub returns-in_default : goal.returns-in_default
 returns-in_default c =
-    sym (ap (λ (l : List (List ℕ)). is_after is_less l c.args.quad) c.in-Some.ensures.cases.0
-    ∙ after_last is_less c.in-Some.field-0-1.now c.in-Some.last.now c.args.quad
-    ∙ less_not c.in-Some.last.now c.args.quad (λ e. c.in_default.not-Less (c.compare.ensures ∙ e)))
+    sym (ap (λ (l : List (List ℕ)). is_after is_less l c.args.quad) c.in-Some.ensures.1
+    ∙ after_last is_less c.in-Some.ensures.0 c.in-Some.last c.args.quad
+    ∙ less_not c.in-Some.last c.args.quad (λ e. c.in_default.not-Less (c.compare.ensures ∙ e)))

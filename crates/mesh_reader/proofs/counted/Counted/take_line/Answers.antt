@@ -1,4 +1,4 @@
-use Rattle.std.proofs.Common.{◌≡◌, ◌∷◌, arith, refl, sym, ◌∙◌}
+use Rattle.std.proofs.Common.{◌∷◌, arith, refl, sym, ◌∙◌}
 use Rattle.mesh_reader.specs.Judging.{reached}
 use Rattle.mesh_reader.proofs.Pieced.{bad_one, fewer_left, wrong_line}
 use Rattle.mesh_reader.proofs.Turns.{judge_on}

@@ -1,0 +1,18 @@
+-- Which cells of two lists are known to be those of a complex.
+use Rattle.std.specs.Prelude.{◌≡◌, ℕ, Bool, true, false, List, [], ◌++◌, map, slice_index_or}
+use Rattle.point_order.specs.declared.cell.Cell.{Cell}
+use Rattle.point_order.specs.declared.cell.Cell.TheVariants.{Full, Open}
+use Rattle.point_order.specs.Complex.{complex}
+use Rattle.point_order.specs.Sets.{IsIn}
+use Rattle.cloud_cells.specs.declared.known.Compared.{Compared}
+use Rattle.cloud_cells.specs.declared.known.Compared.TheVariants.{Same, Other}
+
+-- each cell of the list that is marked is one of these
+abbrev pub AreKnown : List Cell → (List ℕ → Cell) → List (List ℕ) → List Bool → Type 0
+AreKnown made kind l marks = (i : ℕ) → slice_index_or marks i false ≡ true → IsIn (kind (slice_index_or l i [])) made
+
+-- the lists are the complex of s, or each cell that is marked is one of it
+abbrev pub IsCompared : List ℕ → List (List ℕ) → List (List ℕ) → Compared → Type 0
+IsCompared s cells hull Same = map Full cells ++ map Open hull ≡ complex s
+IsCompared s cells hull (Other known) =
+    AreKnown (complex s) Full cells known.cells.items × AreKnown (complex s) Open hull known.hull.items
