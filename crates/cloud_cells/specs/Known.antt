@@ -3,9 +3,17 @@ use Rattle.std.specs.Prelude.{◌≡◌, ℕ, Bool, true, false, List, [], ◌++
 use Rattle.point_order.specs.declared.cell.Cell.{Cell}
 use Rattle.point_order.specs.declared.cell.Cell.TheVariants.{Full, Open}
 use Rattle.point_order.specs.Complex.{complex}
-use Rattle.point_order.specs.Sets.{IsIn}
+use Rattle.point_order.specs.Sets.{IsAscending, IsIn}
+use Rattle.point_order.specs.Solid.{is_solid}
+use Rattle.cloud_cells.specs.Clouds.{AreCellsOf}
 use Rattle.cloud_cells.specs.declared.known.Compared.{Compared}
 use Rattle.cloud_cells.specs.declared.known.Compared.TheVariants.{Same, Other}
+
+-- the cells are those of the complex of s, which is ascending and solid
+pub record IsMade (s : List ℕ) (made : List Cell) : Type 0 where
+  pub ascending : IsAscending s
+  pub solid : is_solid s ≡ true
+  pub cells : AreCellsOf s made
 
 -- each cell of the list that is marked is one of these
 abbrev pub AreKnown : List Cell → (List ℕ → Cell) → List (List ℕ) → List Bool → Type 0

@@ -1,4 +1,4 @@
-//! Which cells of two lists are known to be in slots.
+//! Which cells of two lists are known to be among packed ones.
 
 ghost use Rattle.std.specs.Prelude.{IfOk, List};
 ghost use Rattle.point_order.specs.Sets.{IsIn};
@@ -9,7 +9,7 @@ ghost use Rattle.cloud_cells.specs.Nets.{live};
 
 use crate::facets::are_same;
 use crate::listed::place_of;
-use crate::slots::Slot;
+use crate::packed::Packed;
 use cell_lists::QuadList;
 use point_order::{Cell, Tri};
 use std::alloc::{AllocError, Global};
@@ -50,10 +50,10 @@ fn note_triple(marks: &mut Vec<bool>, hull: &[Tri], place: usize, cell: &Cell)
     }
 }
 
-// Which cells of the lists, which stand in order, are found in slots.
+// Which cells of the lists, which stand in order, are found among packed ones.
 pub(crate) fn known_in(
     alloc: Global,
-    slots: &[Slot],
+    slots: &[Packed],
     cells: &QuadList,
     hull: &[Tri],
 ) -> Result<Known, AllocError>

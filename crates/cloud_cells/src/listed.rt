@@ -1,4 +1,4 @@
-//! Whether the cells in slots are those of two lists.
+//! Whether packed cells are those of two lists.
 
 ghost use Rattle.std.specs.Prelude.{◌≡◌, ◌++◌, true, map, IfSome};
 ghost use Rattle.point_order.specs.Sets.{IsIn};
@@ -6,7 +6,7 @@ ghost use Rattle.point_order.specs.declared.cell.Cell.TheVariants.{Full, Open};
 ghost use Rattle.cloud_cells.specs.Nets.{AreAllIn};
 
 use crate::facets::are_same;
-use crate::slots::Slot;
+use crate::packed::Packed;
 use cell_lists::QuadList;
 use point_order::{Cell, Tri};
 use std::cmp::Ordering;
@@ -60,8 +60,8 @@ fn is_listed(cells: &QuadList, hull: &[Tri], cell: &Cell) -> bool
     }
 }
 
-// Whether the cells in slots are found among those of the lists, and are as many.
-pub(crate) fn are_all(slots: &[Slot], cells: &QuadList, hull: &[Tri]) -> bool
+// Whether packed cells are found among those of the lists, and are as many.
+pub(crate) fn are_all(slots: &[Packed], cells: &QuadList, hull: &[Tri]) -> bool
     ensures { result ≡ true → AreAllIn slots.now cells.now hull.now }
 {
     let mut count = 0;

@@ -1,15 +1,15 @@
 //! What stands in a slot, and what stood there before it was taken out.
 
-ghost use Rattle.std.specs.Prelude.{◌≡◌, ◌↔◌, ◌<◌, ◌∷◌, [], ◌++◌, Some, None, length, IsTrue, MatchOption, OnOk};
+ghost use Rattle.std.specs.Prelude.{◌≡◌, ◌↔◌, ◌<◌, ◌∷◌, [], ◌++◌, Some, None, length, IfOk, IsTrue, MatchOption, OnOk};
 ghost use Rattle.point_order.specs.Sets.{IsIn};
 ghost use Rattle.cloud_cells.specs.Clouds.{HasOther, IsOtherOf};
-ghost use Rattle.cloud_cells.specs.Nets.{AreWith, HasNoOther, HasNoOtherIn, IsOtherOn, IsWithout, live, slot_at};
+ghost use Rattle.cloud_cells.specs.Nets.{AreMoved, AreWith, HasNoOther, HasNoOtherIn, IsOtherOn, IsWithout, live, slot_at};
 
 use crate::facets::{are_same, is_on};
 use crate::net::Spot;
 use crate::packed::Packed;
 use point_order::{Cell, Facet};
-use std::alloc::AllocError;
+use std::alloc::{AllocError, Global};
 use std::marker::Model;
 
 // A slot, and where the cells across the facets of its cell are likely to stand. They are kept where the cell is taken
@@ -76,6 +76,13 @@ impl Slot {
         ensures { self.new ≡ None }
     {
         self.packed = Packed::none(u16::try_from(number).unwrap_or(u16::MAX));
+    }
+
+    // What stands in it, without the rest.
+    pub(crate) fn packed(self) -> Packed
+        ensures { result ≡ self }
+    {
+        self.packed
     }
 
     // A cell is put in.
@@ -217,4 +224,31 @@ pub(crate) fn push_slot(cells: &mut Vec<Cell>, slot: &Slot) -> Result<(), AllocE
         }
         None => Ok(()),
     }
+}
+
+// How many cells are packed before the room of their slots is given back.
+const TOGETHER: usize = 16_384;
+
+// Puts what stands in a slot behind others, and gives the room of some slots back.
+fn move_slot(slots: &mut Vec<Slot>, packed: &mut Vec<Packed>, slot: Slot) -> Result<(), AllocError>
+    ensures slots { slots.new.items ≡ slots.old.items }
+    ensures packed { OnOk result (packed.new.items ≡ packed.old.items ++ slot ∷ []) }
+{
+    packed.push(slot.packed())?;
+    if slots.len() % TOGETHER == 0 {
+        slots.shrink_to_fit();
+    }
+    Ok(())
+}
+
+// What stands in slots, without what is likely of it. The last go first, and their room is given back before all are
+// packed, so that both lists never stand in memory whole.
+pub(crate) fn packed_of(alloc: Global, mut slots: Vec<Slot>) -> Result<Vec<Packed>, AllocError>
+    ensures { IfOk result (λ packed. AreMoved (live slots.items) (live packed.items)) }
+{
+    let mut packed = Vec::with_capacity(alloc, slots.len())?;
+    while let Some(slot) = slots.pop() {
+        move_slot(&mut slots, &mut packed, slot)?;
+    }
+    Ok(packed)
 }

@@ -1,10 +1,11 @@
 //! The command `check`: from the bytes of a source to the verdict on the mesh that they are of.
 
-ghost use Rattle.std.specs.Prelude.{◌≡◌, ◌≤◌, [], IfSome, IfOk, IfErr, IsOk, if◌then◌else◌};
+ghost use Rattle.std.specs.Prelude.{◌≡◌, ◌≤◌, ◌++◌, [], List, ℕ, IfSome, IfOk, IfErr, IsOk, if◌then◌else◌};
 ghost use Rattle.std.specs.Io.KnownBytes.{IsAtEnd};
 ghost use Rattle.byte_ends.specs.Ends.{Rose};
 ghost use Rattle.mesh_reader.specs.Grammar.{parts};
 ghost use Rattle.mesh_reader.specs.Order.{IsInOrder};
+ghost use Rattle.mesh_reader.specs.Pieces.{HasTaken};
 ghost use Rattle.delaunay_cli.specs.Checked.{HasTakenAll, IsChecked, IsJudged, IsMeshOf, IsUnchecked, TellsVerdict};
 ghost use Rattle.delaunay_cli.specs.Page.{IsSound, text_of_page};
 ghost use Rattle.delaunay_cli.specs.Run.{ReadsTo, mesh_limit};
@@ -15,9 +16,10 @@ use crate::stop::Stop;
 use crate::telling::fault_line;
 use byte_ends::{Reached, Source, read_to_limit};
 use edit_files::ReadRefused;
-use mesh_check::tell;
+use mesh_check::{Made as Complex, made_of, tell};
 use mesh_reader::{MeshFile, MeshReader};
 use std::alloc::{AllocError, Global};
+use std::marker::Model;
 
 // One more byte than the text of a mesh may have.
 const TOO_MANY: usize = 1_073_741_825;
@@ -25,22 +27,96 @@ const TOO_MANY: usize = 1_073_741_825;
 // How many bytes are read at once.
 const PIECE: usize = 65_536;
 
+// The complex of the points that a text names.
+#[derive(Drop)]
+enum Early {
+    // The points are not read.
+    Due,
+    // It was made, where it can be.
+    Made(Option<Complex>),
+}
+
+// A reader, and the complex of the points that it has read: the net in which it is made is gone before the cells come.
+// Contracts see it as the reader.
+#[derive(Drop)]
+struct Watched {
+    reader: MeshReader,
+    early: Early,
+}
+
+impl Model for Watched {
+    ghost use Rattle.mesh_reader.specs.declared.pieces.MeshReader.{MeshReader};
+
+    ghost Value = { MeshReader };
+
+    ghost view = { λ w. w.reader };
+}
+
+// A mesh, and the complex that was made of its points. Contracts see it as the mesh.
+#[derive(Drop)]
+struct Read {
+    mesh: MeshFile,
+    made: Option<Complex>,
+}
+
+impl Model for Read {
+    ghost use Rattle.mesh_reader.specs.declared.mesh_file.MeshFile.{MeshFile};
+
+    ghost Value = { MeshFile };
+
+    ghost view = { λ r. r.mesh };
+}
+
+// The complex, once the points are read.
+fn early_of(alloc: Global, early: Early, reader: &MeshReader) -> Result<Early, AllocError> {
+    match early {
+        Early::Due => match reader.points() {
+            Some(points) => Ok(Early::Made(made_of(alloc, points)?)),
+            None => Ok(Early::Due),
+        },
+        Early::Made(made) => Ok(Early::Made(made)),
+    }
+}
+
+impl Watched {
+    // A reader that has taken nothing.
+    fn new(alloc: Global) -> Watched
+        ensures { HasTaken result [] }
+    {
+        Watched {
+            reader: MeshReader::new(alloc),
+            early: Early::Due,
+        }
+    }
+
+    // Takes the piece that follows.
+    fn take(self, alloc: Global, piece: &[u8]) -> Result<Watched, AllocError>
+        ensures { IfOk result (λ reader. (bytes : List ℕ) → HasTaken self bytes
+            → HasTaken reader (bytes ++ piece.now)) }
+    {
+        let Watched { reader, early } = self;
+        let reader = reader.take(piece)?;
+        let early = early_of(alloc, early, &reader)?;
+        Ok(Watched { reader, early })
+    }
+}
+
 // Reads the text of a mesh to its end, piece by piece.
-fn read_pieces<S: Source>(alloc: Global, src: &mut S) -> Result<MeshReader, Stop>
+fn read_pieces<S: Source>(alloc: Global, src: &mut S) -> Result<Watched, Stop>
     ensures taken { IfOk result (HasTakenAll (S.left src.old)) }
     ensures stop { IfErr result (IsUnchecked (S.left src.old) (Rose (S.faults src.old) (S.faults src.new))) }
     ensures reads { ReadsTo mesh_limit (S.left src.old) (S.left src.new) (status_of_made result) }
     ensures to_its_end { IsOk result → IsAtEnd (S.left src.new) }
     ensures later { S.faults src.old ≤ S.faults src.new }
 {
-    let mut reader = MeshReader::new(alloc);
+    let mut reader = Watched::new(alloc);
     let mut piece = Vec::new(alloc);
     let mut room = TOO_MANY;
     while room > 0 {
         let most = room.min(PIECE);
         piece.clear();
         let reached = read_to_limit(src, most, &mut piece)?;
-        reader = reader.take(&piece)?;
+        reader = reader.take(alloc, &piece)?;
         match reached {
             Reached::End => return Ok(reader),
             Reached::Limit => room -= most,
@@ -49,17 +125,28 @@ fn read_pieces<S: Source>(alloc: Global, src: &mut S) -> Result<MeshReader, Stop
     Err(Stop::TooLong)
 }
 
+// The complex, where it was made.
+fn complex_in(early: Early) -> Option<Complex> {
+    match early {
+        Early::Due => None,
+        Early::Made(made) => made,
+    }
+}
+
 // Reads a mesh from the source.
-fn mesh_of_text<S: Source>(alloc: Global, src: &mut S) -> Result<MeshFile, Stop>
+fn mesh_of_text<S: Source>(alloc: Global, src: &mut S) -> Result<Read, Stop>
     ensures mesh { IfOk result (λ mesh. IsMeshOf (S.left src.old) (parts mesh)) }
     ensures stop { IfErr result (IsUnchecked (S.left src.old) (Rose (S.faults src.old) (S.faults src.new))) }
     ensures reads { ReadsTo mesh_limit (S.left src.old) (S.left src.new) (status_of_made result) }
     ensures to_its_end { IsOk result → IsAtEnd (S.left src.new) }
     ensures later { S.faults src.old ≤ S.faults src.new }
 {
-    let reader = read_pieces(alloc, src)?;
+    let Watched { reader, early } = read_pieces(alloc, src)?;
     match reader.finish() {
-        Ok(mesh) => Ok(mesh),
+        Ok(mesh) => Ok(Read {
+            mesh,
+            made: complex_in(early),
+        }),
         Err(ReadRefused::Memory) => Err(Stop::Memory),
         Err(ReadRefused::Bad(fault)) => Err(Stop::BadLine(fault_line(alloc, fault)?)),
     }
@@ -74,14 +161,15 @@ fn end_of(good: bool) -> Option<Stop>
 }
 
 // The verdict on a mesh, as it is told.
-fn judge(alloc: Global, mesh: &MeshFile) -> Result<Made, AllocError>
-    requires { IsInOrder (parts mesh.now) }
-    ensures judged { IfOk result (λ made. IsJudged (parts mesh.now) (status_of_end made.after)
+fn judge(alloc: Global, read: Read) -> Result<Made, AllocError>
+    requires { IsInOrder (parts read) }
+    ensures judged { IfOk result (λ made. IsJudged (parts read) (status_of_end made.after)
         (text_of_page made.page)) }
     ensures no_history { IfOk result (λ made. made.kept.items ≡ []) }
     ensures sound { IfOk result IsSound }
 {
-    let found = tell(alloc, &mesh.points, &mesh.cells, &mesh.hull)?;
+    let Read { mesh, made } = read;
+    let found = tell(alloc, made, &mesh.points, &mesh.cells, &mesh.hull)?;
     let after = end_of(found.good);
     Ok(Made {
         kept: Vec::new(alloc),
@@ -107,6 +195,6 @@ pub fn check_source<S: Source>(alloc: Global, src: &mut S) -> Result<Made, Stop>
     ensures to_its_end { IsOk result → IsAtEnd (S.left src.new) }
     ensures later { S.faults src.old ≤ S.faults src.new }
 {
-    let mesh = mesh_of_text(alloc, src)?;
-    Ok(judge(alloc, &mesh)?)
+    let read = mesh_of_text(alloc, src)?;
+    Ok(judge(alloc, read)?)
 }

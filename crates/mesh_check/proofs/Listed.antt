@@ -1,11 +1,12 @@
 -- Quadruples and triples, each in order, as one list of cells.
-use Rattle.std.specs.Prelude.{◌≡◌, refl, ℕ, List, map}
+use Rattle.std.specs.Prelude.{◌≡◌, ◌+◌, ◌-◌, ◌<◌, ◌≤◌, ◌⊎◌, [], ◌∷◌, length, slice_index_or, refl, ℕ, zero, suc, List, map}
+use Rattle.std.specs.List.{AllAdjacentBelow}
 use Rattle.std.specs.List.Sorted.{IsStrictlySortedBy}
 use Rattle.std.specs.Cmp.Lexicographic.{slice_cmp}
 use Rattle.std.specs.Ordering.{nat_cmp}
 use Rattle.std.specs.declared.cmp.Ordering.TheVariants.{Less}
-use Rattle.std.proofs.Common.{inl, inr, subst}
-use Rattle.list_laws.proofs.Cited.{from_append, mapped_from, sorted_append, sorted_map}
+use Rattle.std.proofs.Common.{ap, arith, inl, inr, subst, ◌∙◌}
+use Rattle.list_laws.proofs.Cited.{from_append, mapped_from, sorted_append, sorted_map, within_list}
 use Rattle.point_order.specs.declared.cell.Cell.{Cell}
 use Rattle.point_order.specs.declared.cell.Cell.TheVariants.{Full, Open}
 use Rattle.point_order.specs.CellOrder.{cell_cmp}
@@ -43,3 +44,39 @@ cells_listed s cells hull cs hs ca ha ci hi = record {
   ascending = of_each (λ c. IsAscending (points_of c)) cells hull ca ha;
   inside = of_each (λ c. (p : ℕ) → IsIn p (points_of c) → IsIn p s) cells hull ci hi;
 }
+
+-- a list each element of which is below the next ascends
+pub ascends : (l : List ℕ) → AllAdjacentBelow (λ x y. x < y) l (length l) → IsAscending l
+ascends [] all = tt
+ascends (x ∷ []) all = (tt, tt)
+ascends (x ∷ y ∷ l) all = (all 0 0 (omega arith), ascends (y ∷ l) (λ k d h. next k d (all (suc k) d (omega (arith, h)))))
+  where
+    -- a place more in front
+    next : (k d : ℕ) → slice_index_or (y ∷ l) k d < slice_index_or (x ∷ y ∷ l) (suc k + 1) d →
+        slice_index_or (y ∷ l) k d < slice_index_or (y ∷ l) (k + 1) d
+    next k d h =
+        let one : suc k + 1 ≡ suc (k + 1) = omega arith in
+        subst (λ (n : ℕ). slice_index_or (y ∷ l) k d < slice_index_or (x ∷ y ∷ l) n d) one h
+
+-- one place more was looked at
+pub next_below : (l : List ℕ) (i x y : ℕ) → AllAdjacentBelow (λ x y. x < y) l i → 1 ≤ i → i < length l →
+    x ≡ slice_index_or l (i - 1) x → y ≡ slice_index_or l i y → x < y → AllAdjacentBelow (λ x y. x < y) l (i + 1)
+next_below l i x y all one h a b less k d low = elim (le_or (k + 1) i low) [
+  | inl j ↦ all k d j
+  | inr e ↦
+      let at : k ≡ i - 1 = omega (arith, e) in
+      let first : slice_index_or l k d ≡ x = ap (λ (n : ℕ). slice_index_or l n d) at
+      ∙ within_list l (i - 1) x d (omega (arith, h)) a in
+      let second : slice_index_or l (k + 1) d ≡ y = ap (λ (n : ℕ). slice_index_or l n d) e ∙ within_list l i y d h b in
+      rw (first, second) less
+]
+  where
+    -- below, or the same
+    le_or : (m n : ℕ) → m < n + 1 → (m < n) ⊎ (m ≡ n)
+    le_or zero zero h = inr refl
+    le_or zero (suc n) h = inl (omega arith)
+    le_or (suc m) zero h = absurd (let g : ⊥ = omega (arith, h) in g)
+    le_or (suc m) (suc n) h = elim (le_or m n (omega (arith, h))) [
+      | inl k ↦ inl (omega (arith, k))
+      | inr e ↦ inr (ap suc e)
+    ]

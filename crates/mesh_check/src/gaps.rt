@@ -88,6 +88,14 @@ fn push_sides(sides: &mut Vec<Side>, part: Part, cell: Cell) -> Result<(), Alloc
     push_side(sides, part, last, cell)
 }
 
+// How many sides a part is likely to have, so that their list seldom grows.
+fn room_for(cells: usize) -> usize {
+    cells
+        .min(TOGETHER)
+        .saturating_mul(4)
+        .saturating_add(TOGETHER / 4)
+}
+
 // The sides of all cells, those of the part.
 fn all_sides(
     alloc: Global,
@@ -97,7 +105,7 @@ fn all_sides(
 ) -> Result<Vec<Side>, AllocError>
     ensures { IfOk result (λ sides. sides.items ≡ flat_map (sides_in part) (listed cells.now hull.now)) }
 {
-    let mut sides = Vec::new(alloc);
+    let mut sides = Vec::with_capacity(alloc, room_for(cells.len().saturating_add(hull.len())))?;
     for place in 0..cells.len() {
         push_sides(&mut sides, part, Cell::Full(cells.at(place)))?;
     }

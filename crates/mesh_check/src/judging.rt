@@ -13,7 +13,7 @@ use crate::flaw::{Flaw, Verdict};
 use crate::gaps::open_facet;
 use crate::matching::beside_complex;
 use cell_lists::QuadList;
-use cloud_cells::Compared;
+use cloud_cells::{Compared, Made};
 use point_order::{Point, Tri};
 use std::alloc::{AllocError, Global};
 
@@ -22,6 +22,39 @@ fn are_empty(cells: &QuadList, hull: &[Tri]) -> bool
     ensures { MatchBool result (listed cells.now hull.now ≡ []) (listed cells.now hull.now ≡ [] → ⊥) }
 {
     cells.is_empty() && hull.is_empty()
+}
+
+// The same, where the complex may have been made before.
+pub(crate) fn check_beside(
+    alloc: Global,
+    made: Option<Made>,
+    points: &[Point],
+    cells: &QuadList,
+    hull: &[Tri],
+) -> Result<Verdict, AllocError>
+    requires points { IsAscending points.now }
+    requires keys { AreKeys points.now }
+    requires cells { AreCells points.now (listed cells.now hull.now) }
+    ensures verdict { IfOk result (IsVerdict points.now (listed cells.now hull.now)) }
+    ensures good { result ≡ Ok IsGood → IsComplex points.now (listed cells.now hull.now) }
+    ensures bad { (flaw : FlawParts) → result ≡ Ok (IsBad flaw) → IsFlaw points.now (listed cells.now hull.now) flaw
+        × (IsComplex points.now (listed cells.now hull.now) → ⊥) }
+{
+    if are_empty(cells, hull) {
+        return Ok(Verdict::Bad(Flaw::Empty));
+    }
+    let known = match beside_complex(alloc, made, points, cells, hull)? {
+        Compared::Same => return Ok(Verdict::Good),
+        Compared::Other(known) => known,
+    };
+    if let Some(flaw) = first_flaw(points, &known, cells, hull) {
+        return Ok(Verdict::Bad(flaw));
+    }
+    drop(known);
+    match open_facet(alloc, cells, hull)? {
+        Some(facet) => Ok(Verdict::Bad(Flaw::OpenFacet(facet))),
+        None => Ok(Verdict::Good),
+    }
 }
 
 /// Judges whether cells and triples are the complex of the points: the first flaw, if there is one, cell by cell and
@@ -48,19 +81,5 @@ pub fn check(
     ensures bad { (flaw : FlawParts) → result ≡ Ok (IsBad flaw) → IsFlaw points.now (listed cells.now hull.now) flaw
         × (IsComplex points.now (listed cells.now hull.now) → ⊥) }
 {
-    if are_empty(cells, hull) {
-        return Ok(Verdict::Bad(Flaw::Empty));
-    }
-    let known = match beside_complex(alloc, points, cells, hull)? {
-        Compared::Same => return Ok(Verdict::Good),
-        Compared::Other(known) => known,
-    };
-    if let Some(flaw) = first_flaw(points, &known, cells, hull) {
-        return Ok(Verdict::Bad(flaw));
-    }
-    drop(known);
-    match open_facet(alloc, cells, hull)? {
-        Some(facet) => Ok(Verdict::Bad(Flaw::OpenFacet(facet))),
-        None => Ok(Verdict::Good),
-    }
+    check_beside(alloc, None, points, cells, hull)
 }

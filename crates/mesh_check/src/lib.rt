@@ -21,6 +21,8 @@ pub mod laws;
 mod matching;
 mod text;
 
+pub use cloud_cells::Made;
 pub use flaw::{Flaw, Verdict};
 pub use judging::check;
+pub use matching::made_of;
 pub use text::{Told, tell, verdict_text};

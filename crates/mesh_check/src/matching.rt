@@ -1,6 +1,6 @@
 //! Lists beside the complex that is made of the points.
 
-ghost use Rattle.std.specs.Prelude.{◌≡◌, IfOk, false, slice_index_or};
+ghost use Rattle.std.specs.Prelude.{◌≡◌, IfOk, false, true, slice_index_or};
 ghost use Rattle.std.specs.List.Sorted.{IsStrictlySortedBy};
 ghost use Rattle.point_order.specs.CellOrder.{cell_cmp};
 ghost use Rattle.point_order.specs.Sets.{IsAscending};
@@ -9,7 +9,7 @@ ghost use Rattle.mesh_check.specs.Flaws.{listed};
 ghost use Rattle.mesh_check.specs.Laws.{IsBeside};
 
 use cell_lists::QuadList;
-use cloud_cells::{Compared, Known, compare_with_complex};
+use cloud_cells::{Compared, Known, Made};
 use edit_history::find_four;
 use point_order::{Point, Tri};
 use std::alloc::{AllocError, Global};
@@ -21,10 +21,36 @@ fn is_solid(points: &[Point]) -> bool
     find_four(points).is_ok()
 }
 
-// The lists, which stand in order, beside the complex of the points, where these are solid. It is far faster than a
-// search for a flaw, and that the complex is made right is proved: the lists take no part in it.
+// Whether points ascend.
+fn is_ascending(points: &[Point]) -> bool
+    ensures { result ≡ true → IsAscending points.now }
+{
+    for place in 1..points.len() {
+        if points[place].key() <= points[place - 1].key() {
+            return false;
+        }
+    }
+    true
+}
+
+/// The complex of points, where they ascend and four of them are independent: what `tell` can be given, made before the
+/// lists are there.
+///
+/// # Errors
+/// Want of memory.
+pub fn made_of(alloc: Global, points: &[Point]) -> Result<Option<Made>, AllocError> {
+    if is_ascending(points) && is_solid(points) {
+        return Ok(Some(Made::of_points(alloc, points)?));
+    }
+    Ok(None)
+}
+
+// The lists, which stand in order, beside the complex of the points, where these are solid. It may have been made
+// before. It is far faster than a search for a flaw, and that the complex is made right is proved: the lists take no
+// part in it.
 pub(crate) fn beside_complex(
     alloc: Global,
+    made: Option<Made>,
     points: &[Point],
     cells: &QuadList,
     hull: &[Tri],
@@ -33,8 +59,13 @@ pub(crate) fn beside_complex(
     requires order { IsStrictlySortedBy cell_cmp (listed cells.now hull.now) }
     ensures { IfOk result (IsBeside points.now cells.now hull.now) }
 {
+    if let Some(made) = made {
+        if made.is_of(points) {
+            return made.compared(alloc, cells, hull);
+        }
+    }
     if is_solid(points) {
-        return compare_with_complex(alloc, points, cells, hull);
+        return Made::of_points(alloc, points)?.compared(alloc, cells, hull);
     }
     Ok(Compared::Other(Known {
         cells: Vec::new(alloc),

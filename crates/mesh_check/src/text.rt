@@ -14,8 +14,9 @@ ghost use Rattle.mesh_check.specs.Text.{
 };
 
 use crate::flaw::{Flaw, Verdict};
-use crate::judging::check;
+use crate::judging::check_beside;
 use cell_lists::QuadList;
+use cloud_cells::Made;
 use itoa::Buffer;
 use point_order::{Point, Tri};
 use std::alloc::{AllocError, Global};
@@ -120,12 +121,14 @@ fn told_of(alloc: Global, points: &[Point], verdict: &Verdict) -> Result<Told, A
     Ok(Told { good, text })
 }
 
-/// Judges lists of cells, as `check` does, and tells of the verdict.
+/// Judges lists of cells, as `check` does, and tells of the verdict. The complex may have been made of the points before,
+/// and is then not made again.
 ///
 /// # Errors
 /// Want of memory.
 pub fn tell(
     alloc: Global,
+    made: Option<Made>,
     points: &[Point],
     cells: &QuadList,
     hull: &[Tri],
@@ -135,7 +138,7 @@ pub fn tell(
     requires cells { AreCells points.now (listed cells.now hull.now) }
     ensures { IfOk result (λ told. IsTold points.now (listed cells.now hull.now) told.good told.text.items) }
 {
-    match check(alloc, points, cells, hull) {
+    match check_beside(alloc, made, points, cells, hull) {
         Ok(verdict) => told_of(alloc, points, &verdict),
         Err(refused) => Err(refused),
     }

@@ -13,6 +13,7 @@ ghost use Rattle.mesh_reader.specs.Pieces.{HasNoFeed, HasTaken, LeavesOf, comes_
 use crate::counted::Counted;
 use crate::mesh_file::MeshFile;
 use edit_files::{Fault, ReadRefused};
+use point_order::Point;
 use std::alloc::{AllocError, Global};
 
 // The bytes up to the first line feed, and those behind it, where there is one.
@@ -107,6 +108,14 @@ impl MeshReader {
         MeshReader {
             state: State::Right(Counted::new(alloc)),
             begun: Vec::new(alloc),
+        }
+    }
+
+    /// The points, once they are read and cells are due. What is made of them is to be looked at with the mesh.
+    pub fn points(&self) -> Option<&[Point]> {
+        match &self.state {
+            State::Right(counted) => counted.reader.points(),
+            State::Wrong(_) => None,
         }
     }
 

@@ -197,6 +197,15 @@ impl Reader {
         }
     }
 
+    // The points, where no more are due.
+    pub(crate) fn points(&self) -> Option<&[Point]> {
+        match self.due {
+            Due::Head(Part::Cells) | Due::Head(Part::Hull) => Some(&self.file.points),
+            Due::Body(Part::Cells, _) | Due::Body(Part::Hull, _) => Some(&self.file.points),
+            _ => None,
+        }
+    }
+
     // Takes the line that follows.
     pub(crate) fn take_line(&mut self, line: &[u8]) -> Result<(), LineRefused>
         ensures { Steps result (reached self.new) (step (reached self.old) line.now) }

@@ -8,7 +8,7 @@ use Rattle.mesh_check.specs.Flaws.{listed}
 use Rattle.mesh_check.specs.Laws.{IsBeside}
 use Rattle.mesh_check.specs.Sides.{OpenIs}
 use Rattle.mesh_check.proofs.Verdicts.{bad_says, by_cell, good_is_complex, known_sound}
-use Rattle.mesh_check.proofs.judging.check.Goals as goal
+use Rattle.mesh_check.proofs.judging.check_beside.Goals as goal
 
 pub returns-then-are_empty-clause-bad : goal.returns-then-are_empty-clause-bad
 returns-then-are_empty-clause-bad c flaw e = bad_says c.args.points.now (listed c.args.cells.now c.args.hull.now) Empty flaw c.requires.points c.requires.keys c.if-are_empty.ensures e

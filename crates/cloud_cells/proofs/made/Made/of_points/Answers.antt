@@ -1,0 +1,12 @@
+use Rattle.cloud_cells.specs.Nets.{live}
+use Rattle.cloud_cells.proofs.Marks.{moved_cells}
+use Rattle.cloud_cells.proofs.made.Made.of_points.Goals as goal
+
+pub invariant_of-result : goal.invariant_of-result
+invariant_of-result c =
+    rw c.in_ok-from_slice.ensures.items (record {
+      ascending = c.requires.ascending;
+      solid = c.requires.solid;
+      cells = moved_cells c.args.points.now (live c.in_ok-net_of_points.field-0) (live c.in_ok-packed.packed.items)
+          c.in_ok-packed.ensures c.in_ok-net_of_points.ensures;
+    })

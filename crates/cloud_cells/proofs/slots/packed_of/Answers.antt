@@ -1,0 +1,16 @@
+use Rattle.std.proofs.Common.{subst, List, Option, ◌++◌}
+use Rattle.point_order.specs.declared.cell.Cell.{Cell}
+use Rattle.cloud_cells.specs.Nets.{AreMoved, live}
+use Rattle.cloud_cells.proofs.Marks.{move_one, none_moved}
+use Rattle.cloud_cells.proofs.slots.packed_of.Goals as goal
+
+pub loop-slot-init : goal.loop-slot-init
+loop-slot-init c = rw c.in_ok-packed.ensures.items (none_moved c.args.slots.items)
+
+pub loop-slot-preserved : goal.loop-slot-preserved
+loop-slot-preserved c =
+    let packed = c.loop-slot.packed.items in
+    rw (c.in_ok-move_slot.ensures.slots, c.in_ok-move_slot.ensures.packed)
+    (move_one (live c.args.slots.items) c.pop.new.self.items packed c.in-Some.slot
+    (subst (λ (v : List (Option Cell)). AreMoved (live c.args.slots.items) (live v ++ live packed))
+    c.in-Some.ensures.items c.loop-slot.invariant))

@@ -1,0 +1,17 @@
+use Rattle.std.proofs.Common.{◌<◌, arith}
+use Rattle.mesh_check.proofs.Listed.{ascends, next_below}
+use Rattle.mesh_check.proofs.matching.is_ascending.Goals as goal
+
+pub loop-place-preserved : goal.loop-place-preserved
+loop-place-preserved c =
+    let x = c.index-points-place-in-loop-place.result in
+    let y = c.index-points-place.result in
+    let less : x < y = (let h = c.if-key.false in let m = c.key-in-loop-place.ensures.value in
+    let n = c.key.ensures.value in omega (arith, h, m, n)) in
+    next_below c.args.points.now c.loop-place.place x y c.loop-place.invariant c.loop-place.auto.place
+    c.loop-place-test.true c.index-points-place-in-loop-place.is c.index-points-place.is less
+
+pub returns : goal.returns
+returns c e =
+    ascends c.args.points.now
+    (λ k d h. c.loop-place.invariant k d (let l = c.loop-place-test.false in omega (arith, h, l)))
