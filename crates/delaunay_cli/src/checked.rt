@@ -1,9 +1,12 @@
 //! The command `check`: from the bytes of a source to the verdict on the mesh that they are of.
 
-ghost use Rattle.std.specs.Prelude.{◌≡◌, ◌≤◌, ◌++◌, [], List, ℕ, IfSome, IfOk, IfErr, IsOk, if◌then◌else◌};
+ghost use Rattle.std.specs.Prelude.{◌≡◌, ◌≤◌, ◌++◌, [], List, ℕ, IfSome, IfOk, IfErr, Err, IsOk, if◌then◌else◌};
 ghost use Rattle.std.specs.Io.KnownBytes.{IsAtEnd};
 ghost use Rattle.byte_ends.specs.Ends.{Rose};
-ghost use Rattle.mesh_reader.specs.Grammar.{parts};
+ghost use Rattle.edit_files.specs.declared.fault.Fault.{Fault as FaultParts};
+ghost use Rattle.edit_files.specs.declared.fault.ReadRefused.TheVariants.{Bad};
+ghost use Rattle.mesh_reader.specs.Faults.{IsMeshFault};
+ghost use Rattle.mesh_reader.specs.Grammar.{IsMeshText, parts};
 ghost use Rattle.mesh_reader.specs.Order.{IsInOrder};
 ghost use Rattle.mesh_reader.specs.Pieces.{HasTaken};
 ghost use Rattle.delaunay_cli.specs.Checked.{HasTakenAll, IsChecked, IsJudged, IsMeshOf, IsUnchecked, TellsVerdict};
@@ -78,6 +81,14 @@ fn early_of(alloc: Global, early: Early, reader: &MeshReader) -> Result<Early, A
     }
 }
 
+// The complex, where it was made.
+fn complex_in(early: Early) -> Option<Complex> {
+    match early {
+        Early::Due => None,
+        Early::Made(made) => made,
+    }
+}
+
 impl Watched {
     // A reader that has taken nothing.
     fn new(alloc: Global) -> Watched
@@ -98,6 +109,19 @@ impl Watched {
         let reader = reader.take(piece)?;
         let early = early_of(alloc, early, &reader)?;
         Ok(Watched { reader, early })
+    }
+
+    // The mesh that the bytes are of, as a reader tells it.
+    fn finish(self) -> Result<Read, ReadRefused>
+        ensures accepted { (bytes : List ℕ) → HasTaken self bytes → IfOk result (λ read. IsMeshText bytes (parts read)) }
+        ensures order { (bytes : List ℕ) → HasTaken self bytes → IfOk result (λ read. IsInOrder (parts read)) }
+        ensures fault { (bytes : List ℕ) (fault : FaultParts) → HasTaken self bytes → result ≡ Err (Bad fault)
+            → IsMeshFault bytes fault }
+    {
+        let Watched { reader, early } = self;
+        let mesh = reader.finish()?;
+        let made = complex_in(early);
+        Ok(Read { mesh, made })
     }
 }
 
@@ -125,14 +149,6 @@ fn read_pieces<S: Source>(alloc: Global, src: &mut S) -> Result<Watched, Stop>
     Err(Stop::TooLong)
 }
 
-// The complex, where it was made.
-fn complex_in(early: Early) -> Option<Complex> {
-    match early {
-        Early::Due => None,
-        Early::Made(made) => made,
-    }
-}
-
 // Reads a mesh from the source.
 fn mesh_of_text<S: Source>(alloc: Global, src: &mut S) -> Result<Read, Stop>
     ensures mesh { IfOk result (λ mesh. IsMeshOf (S.left src.old) (parts mesh)) }
@@ -141,12 +157,9 @@ fn mesh_of_text<S: Source>(alloc: Global, src: &mut S) -> Result<Read, Stop>
     ensures to_its_end { IsOk result → IsAtEnd (S.left src.new) }
     ensures later { S.faults src.old ≤ S.faults src.new }
 {
-    let Watched { reader, early } = read_pieces(alloc, src)?;
+    let reader = read_pieces(alloc, src)?;
     match reader.finish() {
-        Ok(mesh) => Ok(Read {
-            mesh,
-            made: complex_in(early),
-        }),
+        Ok(mesh) => Ok(mesh),
         Err(ReadRefused::Memory) => Err(Stop::Memory),
         Err(ReadRefused::Bad(fault)) => Err(Stop::BadLine(fault_line(alloc, fault)?)),
     }
@@ -161,7 +174,24 @@ fn end_of(good: bool) -> Option<Stop>
 }
 
 // The verdict on a mesh, as it is told.
-fn judge(alloc: Global, read: Read) -> Result<Made, AllocError>
+fn judge(alloc: Global, complex: Option<Complex>, mesh: &MeshFile) -> Result<Made, AllocError>
+    requires { IsInOrder (parts mesh.now) }
+    ensures judged { IfOk result (λ made. IsJudged (parts mesh.now) (status_of_end made.after)
+        (text_of_page made.page)) }
+    ensures no_history { IfOk result (λ made. made.kept.items ≡ []) }
+    ensures sound { IfOk result IsSound }
+{
+    let found = tell(alloc, complex, &mesh.points, &mesh.cells, &mesh.hull)?;
+    let after = end_of(found.good);
+    Ok(Made {
+        kept: Vec::new(alloc),
+        page: Page::Text(found.text),
+        after,
+    })
+}
+
+// The same of one that was read with the complex of its points.
+fn judge_read(alloc: Global, read: Read) -> Result<Made, AllocError>
     requires { IsInOrder (parts read) }
     ensures judged { IfOk result (λ made. IsJudged (parts read) (status_of_end made.after)
         (text_of_page made.page)) }
@@ -169,13 +199,7 @@ fn judge(alloc: Global, read: Read) -> Result<Made, AllocError>
     ensures sound { IfOk result IsSound }
 {
     let Read { mesh, made } = read;
-    let found = tell(alloc, made, &mesh.points, &mesh.cells, &mesh.hull)?;
-    let after = end_of(found.good);
-    Ok(Made {
-        kept: Vec::new(alloc),
-        page: Page::Text(found.text),
-        after,
-    })
+    judge(alloc, made, &mesh)
 }
 
 /// Reads the text of a mesh from the source, and judges whether it is the complex of its points. Where it is not, the
@@ -195,6 +219,6 @@ pub fn check_source<S: Source>(alloc: Global, src: &mut S) -> Result<Made, Stop>
     ensures to_its_end { IsOk result → IsAtEnd (S.left src.new) }
     ensures later { S.faults src.old ≤ S.faults src.new }
 {
-    let read = mesh_of_text(alloc, src)?;
-    Ok(judge(alloc, read)?)
+    let mesh = mesh_of_text(alloc, src)?;
+    Ok(judge_read(alloc, mesh)?)
 }

@@ -17,7 +17,7 @@
 //! | the least alpha of every face | `thresholds`, and `put_steps` for its text |
 //! | solid parts, their boundaries, the least alpha for so many | `parts`, `boundary`, `least_alpha` |
 //! | the cells of a cloud, without a mesh | `complex_of_points` |
-//! | to judge cells from elsewhere | `read_mesh` of a report, in pieces `MeshReader`; `check`, `verdict_text` |
+//! | to judge cells from elsewhere | `read_mesh` of a report, in pieces `MeshReader`; `check` of a `QuadList`, `verdict_text` |
 //! | several threads on one mesh | `table::MeshTable`: `open`, `split`, `try_edit`, `try_snapshot`, `close` |
 //! | texts | `mesh_text`, `shape_text`, `off_text`, and `put_report` to a sink |
 //! | edit files, of all versions or up to one | `read_file`, `read_file_up_to`, `file_text` |
@@ -39,6 +39,7 @@ pub mod table;
 pub use alpha_complex::{Alphas, Kind, Shape, alpha, alphas};
 pub use alpha_steps::{Threshold, Thresholds, put_steps, thresholds};
 pub use byte_ends::{Failed, MemSink, MemSource, Sink, Source, StdSink, StdSource};
+pub use cell_lists::{Places, QuadList};
 pub use cell_store::{BadGrid, Grid, Hold, Mesh};
 pub use cloud_cells::complex_of_points;
 pub use edit_files::{File, ReadRefused, Version, file_text, read_file, read_file_up_to};

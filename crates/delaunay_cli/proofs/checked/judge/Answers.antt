@@ -1,3 +1,4 @@
+use Rattle.std.proofs.Common.{refl}
 use Rattle.mesh_reader.specs.Grammar.{parts}
 use Rattle.delaunay_cli.proofs.MeshJudged.{cells_of, told_of_mesh}
 use Rattle.delaunay_cli.proofs.checked.judge.Goals as goal
@@ -10,14 +11,13 @@ tell-requires-clause-keys c = rw c.deref.ensures.value (record { below = c.requi
 
 pub tell-requires-clause-cells : goal.tell-requires-clause-cells
 tell-requires-clause-cells c =
-    rw (c.deref.ensures.value, c.deref-2.ensures.value, c.deref-3.ensures.value)
+    rw (c.deref.ensures.value, c.deref-2.ensures.value)
     (cells_of (parts c.args.mesh.now) c.requires)
 
 pub returns-clause-judged : goal.returns-clause-judged
 returns-clause-judged c =
-    told_of_mesh (parts c.args.mesh.now) c.deref.result.now c.deref-2.result.now c.deref-3.result.now
-    c.in_ok-found.found.good _ c.in_ok-found.found.text.items c.deref.ensures.value c.deref-2.ensures.value
-    c.deref-3.ensures.value
+    told_of_mesh (parts c.args.mesh.now) c.deref.result.now c.args.mesh.now.cells c.deref-2.result.now
+    c.in_ok-found.found.good _ c.in_ok-found.found.text.items c.deref.ensures.value refl c.deref-2.ensures.value
     c.in_ok-found.ensures c.end_of-after.ensures.status
 
 pub returns-clause-sound : goal.returns-clause-sound
