@@ -228,7 +228,7 @@ fn meet_facets(sides: &mut Vec<Side>, cell: &Cell) -> Result<(), AllocError>
 }
 
 // Whether the cell is one of those.
-fn is_among(cells: &[Cell], cell: &Cell) -> bool
+pub(crate) fn is_among(cells: &[Cell], cell: &Cell) -> bool
     ensures { IsTrue result ↔ IsIn cell.now cells.now }
 {
     for other in cells {
