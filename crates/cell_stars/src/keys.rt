@@ -13,25 +13,6 @@ use crate::writes::is_own;
 use point_order::Point;
 use std::alloc::{AllocError, Global};
 
-// Whether the number stands beside the vertex.
-fn has_key(keys: &[(Point, u32)], p: Point, n: u32) -> bool
-    requires { IsAscending (map (λ k. k.0) keys.now) }
-    ensures { IsTrue result → IsIn (p, n) keys.now }
-{
-    match place_of(keys, p) {
-        Ok(i) => keys[i].1 == n,
-        Err(_) => false,
-    }
-}
-
-// Whether the star has a place and its number stands beside its vertex.
-fn is_keyed(keys: &[(Point, u32)], n: u32, around: &Around) -> bool
-    requires { IsAscending (map (λ k. k.0) keys.now) }
-    ensures { IsTrue result → IsKeyed keys.now n around.now }
-{
-    around.has_places() && has_key(keys, around.vertex(), n)
-}
-
 // Takes the vertex out.
 fn drop_key(keys: &mut Vec<(Point, u32)>, p: Point)
     requires { IsAscending (map (λ k. k.0) keys.old.items) }
@@ -67,9 +48,6 @@ fn write_key(keys: &mut Vec<(Point, u32)>, n: u32, around: &Around) -> Result<()
     ensures order { OnOk result (IsAscending (map (λ k. k.0) keys.new.items)) }
     ensures keys { OnOk result ((k : ℕ × ℕ) → IsIn k keys.new.items ↔ IsKeyAfter keys.old.items n around.now k) }
 {
-    if is_keyed(keys, n, around) {
-        return Ok(());
-    }
     if !around.has_places() {
         drop_key(keys, around.vertex());
         return Ok(());
