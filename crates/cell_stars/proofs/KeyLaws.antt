@@ -353,10 +353,17 @@ keys_stay old writes a f = record { order = a; from = from; kept = λ p m i none
       | inr n ↦ inr (i, n)
     ]
 
--- a key that was found with its number
-pub key_there : (ks : Keys) (p n i : ℕ) (k : ℕ × ℕ) → (i < length ks) × (slice_index (vertices ks) i ≡ p) → k ≡ slice_index_or ks i k → ((slice_index_or ks i k).1 == n) ≡ true → IsIn (p, n) ks
-key_there ks p n i k h e t =
-    let r = at_key ks i k h.0 e in
-    let a : k.0 ≡ p = sym r.1 ∙ h.1 in
-    let b : k.1 ≡ n = ap (λ y. y.1) e ∙ same_from (slice_index_or ks i k).1 n t in
-    subst (λ (x : ℕ × ℕ). IsIn x ks) (ap (λ (v : ℕ). (v, k.1)) a ∙ ap (λ (v : ℕ). (p, v)) b) r.0
+-- where the next star's key was there at first, it is there yet
+pub keyed_yet : (old list : Keys) (writes : Writes) (n : ℕ) (x d : ℕ × (ℕ × List ℕ)) → AreAgreed writes → n < length writes → x ≡ slice_index_or writes n d → KeysSoFar old writes n list → IsKeyed old x.0 x.1 → IsKeyed list x.0 x.1
+keyed_yet old list writes n x d g h e s k = record { key = key; place = k.place; filled = k.filled }
+  where
+    here : IsIn x writes
+    here = at_place writes n x d h e
+
+    key : IsIn (x.1.0, x.0) list
+    key = elim (written_or_not (take n writes) x.1.0) [
+      | inl w ↦ (
+          let r = g x.0 w.0 x.1.0 x.1.1 w.1 here (in_take n writes (w.0, (x.1.0, w.1)) w.2) in
+          subst (λ (m : ℕ). IsIn (x.1.0, m) list) (sym r.0) (s.written x.1.0 w.0 (record { places = w.1; listed = w.2; place = k.place; filled = r.1 k.place k.filled })))
+      | inr none ↦ s.kept x.1.0 x.0 k.key none
+    ]

@@ -162,5 +162,5 @@ pub record AreCellsMarked (marks : List Bool) (list : List Cell) : Type 0 where
 
 -- each number of the list has a mark other than 0
 pub record AreMarked (marks list : List ℕ) : Type 0 where
-  pub count : length marks ≡ 512
-  pub each : (i : ℕ) → IsIn i list → 0 < slice_index_or marks (i % 512) 0
+  pub count : length marks ≡ 2048
+  pub each : (i : ℕ) → IsIn i list → 0 < slice_index_or marks (i % 2048) 0
