@@ -31,10 +31,12 @@ ghost use Rattle.cell_stars.specs.Plans.{done, Allows, IsPlanFor};
 ghost use Rattle.cell_stars.specs.Stars.{cells_left, cells_around, cells_to_come};
 
 use crate::grid::Grid;
+use crate::guesses::{links_at, loaded_around};
+use crate::links::{NONE, side_of};
 use crate::moves::place_among;
 use crate::plan::{Around, Plan};
 use crate::planner::{copied_slots, copied_stars};
-use crate::slots::{NONE, Slot, across, cell_at, loaded_around, side_of};
+use crate::slots::{Slot, cell_at};
 use crate::star::{BucketCells, Star, StarCells};
 use crate::steps::{Steps, place_counted, place_of};
 use point_order::{Cell, Facet, Point};
@@ -209,13 +211,13 @@ impl Cells {
 
     /// The place at which the other cell on a facet is likely to stand, where the given cell stands at the given place.
     pub fn place_across(&self, place: u32, cell: &Cell, facet: &Facet) -> u32 {
-        across(&self.slots, place, side_of(cell, facet))
+        links_at(&self.slots, place).across(side_of(cell, facet))
     }
 
     /// A number that depends on what stands across the facets of the cell at the place: whoever adds it up has these
     /// places loaded before they are looked at.
     pub fn loaded_around(&self, place: u32) -> u32 {
-        loaded_around(&self.slots, place)
+        loaded_around(&self.slots, links_at(&self.slots, place))
     }
 
     /// The cell at a place, if there is one.

@@ -23,6 +23,7 @@ mod grid;
 mod guesses;
 mod joins;
 mod keys;
+mod links;
 mod marks;
 mod matched;
 mod moves;

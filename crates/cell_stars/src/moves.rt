@@ -48,9 +48,7 @@ pub(crate) struct Moves {
     pub(crate) freed: Vec<u32>,
     pub(crate) placed: Vec<(u32, Cell)>,
     // Where each of the gone cells is likely to stand.
-    pub(crate) gone: Vec<u32>,
-    // What was loaded early, added up.
-    pub(crate) loaded: u32,
+    pub(crate) gone: Guesses,
     // Whether the cells are put as they are listed; else in order, where they are many.
     pub(crate) listed: bool,
 }
@@ -491,8 +489,7 @@ impl Cells {
         Ok(Moves {
             freed,
             placed,
-            gone: guesses.places,
-            loaded: guesses.loaded,
+            gone: guesses,
             listed: matched.is_single(),
         })
     }

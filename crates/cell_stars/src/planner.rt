@@ -263,7 +263,7 @@ impl Cells {
             free: open_after(alloc, &self.free, moves)?,
             used: self.used.max(u32::try_from(end).unwrap_or(u32::MAX)),
             rim,
-            loaded: moves.loaded,
+            loaded: moves.gone.loaded,
         })
     }
 
