@@ -48,7 +48,8 @@ marked_more marks list n x v h e pos m = record {
     here : 0 < slice_index_or (slice_set marks (x % 2048) v) (x % 2048) 0
     here = subst (λ (k : ℕ). 0 < k) (sym is) pos
 
-    kept : (y : ℕ) → 0 < slice_index_or marks (y % 2048) 0 → 0 < slice_index_or (slice_set marks (x % 2048) v) (y % 2048) 0
+    kept : (y : ℕ) → 0 < slice_index_or marks (y % 2048) 0 →
+        0 < slice_index_or (slice_set marks (x % 2048) v) (y % 2048) 0
     kept y k = elim (cases_eq (y % 2048) (x % 2048)) [
       | inl w ↦ subst (λ (i : ℕ). 0 < slice_index_or (slice_set marks (x % 2048) v) i 0) (sym w) here
       | inr w ↦ subst (λ (i : ℕ). 0 < i) (sym (get_or-set_other marks (x % 2048) (y % 2048) v 0 w)) k

@@ -6,8 +6,8 @@ ghost use Rattle.point_order.specs.Sets.{IsIn, IsAscending};
 ghost use Rattle.cell_stars.specs.Plans.{or_else};
 ghost use Rattle.cell_stars.specs.Moves.{AreKeysAfter, AreAgreed, IsKeyed, IsKeyAfter, IsNumberFor};
 
+use crate::around::Around;
 use crate::cells::Cells;
-use crate::plan::Around;
 use crate::steps::place_of;
 use crate::writes::is_own;
 use point_order::Point;

@@ -4,7 +4,7 @@ ghost use Rattle.std.specs.Prelude.{◌≡◌, ◌<◌, not, IsTrue};
 ghost use Rattle.point_order.specs.Sets.{IsIn, IsAscending, is_among};
 ghost use Rattle.cell_stars.specs.Moves.{AreMarked};
 
-use crate::moves::is_listed;
+use crate::numbers::is_listed;
 
 // The marks of numbers, each at the rest of a division by 2048: where in the list the last number with that rest is
 // likely to stand, counted from 1, and 0 where there is none.

@@ -7,7 +7,7 @@ ghost use Rattle.cell_stars.specs.Plans.{AreVertices, IsOnceFor};
 
 use crate::links::NONE;
 use crate::order::do_differ;
-use crate::writes::add_vertices;
+use crate::vertices::add_vertices;
 use point_order::{Cell, Point, points_in_order};
 use std::alloc::{AllocError, Global};
 use std::fmt::{self, Debug, Formatter};

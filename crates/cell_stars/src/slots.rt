@@ -1,11 +1,14 @@
 //! Places with their cells, and beside each cell its links.
 
-ghost use Rattle.std.specs.Prelude.{◌≡◌, None, Some, MatchOption, IfSome, IsTrue, true, length, ◌≤◌};
+ghost use Rattle.std.specs.Prelude.{◌≡◌, None, Some, MatchOption, IsTrue, true, length, ◌≤◌, ◌<◌, ℕ, IfOk};
 ghost use Rattle.cell_stars.specs.Places.{at};
+ghost use Rattle.point_order.specs.declared.cell.Cell.{Cell};
+ghost use Rattle.point_order.specs.Sets.{IsIn};
 
 use crate::links::Links;
 use crate::order::are_same;
 use point_order::Cell;
+use std::alloc::{AllocError, Global};
 use std::marker::Model;
 
 /// A place: its cell with the links of that, or none.
@@ -112,4 +115,34 @@ pub(crate) fn is_open(slots: &[Slot], i: u32) -> bool
         Some(slot) => slot.cell().is_none(),
         None => true,
     }
+}
+
+// The place of the cell among these, if it stands at one of them.
+pub(crate) fn place_among(slots: &[Slot], star: &[u32], cell: &Cell) -> Option<u32>
+    ensures { MatchOption result ((i : ℕ) → IsIn i star.now → at slots.now i ≡ Some cell.now → ⊥) (λ i. at slots.now i
+        ≡ Some cell.now) }
+{
+    for i in star {
+        if let Some(other) = cell_at(slots, *i) {
+            if are_same(other, cell) {
+                return Some(*i);
+            }
+        }
+    }
+    None
+}
+
+// A copy of the places, with room for so many.
+pub(crate) fn copied_slots(
+    alloc: Global,
+    slots: &[Slot],
+    count: usize,
+) -> Result<Vec<Slot>, AllocError>
+    ensures { IfOk result (λ list. list.items ≡ slots.now) }
+{
+    let mut list = Vec::with_capacity(alloc, count)?;
+    for slot in slots {
+        list.push(slot.copied())?;
+    }
+    Ok(list)
 }
